@@ -1,0 +1,89 @@
+-- Laws of a run of bytes replaced.
+-- Assumes nothing.
+use mathlib.Core.Path.{_≡_, refl, sym, ap, _∙_}
+use mathlib.Core.List.{List, [], _∷_, _++_, append-assoc, append-nil}
+use mathlib.Core.Logic.{_⊎_, inl, inr}
+use mathlib.Core.Bool.{Bool, true, false, cond}
+use Prim.Native.Nat.{ℕ, _+_, _-_, _≤_, _<_}
+use native.Mathlib.Omega.{arith}
+use native.Mathlib.Nat.{add-zero, add-assoc}
+use native.Mathlib.Decide.{decLt}
+use lib.ListN.{length, take, drop, getD, length-append, length-take, length-drop, take-append-drop, List·getD-append}
+use lib.Seq.{getD-take, getD-drop, getD-append-add, length-take-le, take-at, drop-append-add, drop-drop, ext-getD}
+use Rattle.octets.specs.Splice.{splice}
+
+-- nothing replaced
+pub splice-none : (s : List ℕ) (o : ℕ) → splice s o [] ≡ s
+unfolding splice
+splice-none s o = rw (add-zero o, append-nil) (take-append-drop o s)
+
+module _ (s : List ℕ) (o : ℕ) (ds : List ℕ) (h : o + length ds ≤ length s) where
+  pub length-splice : length (splice s o ds) ≡ length s
+  unfolding splice
+  length-splice = simp (length-append, length-take, length-drop) (omega arith)
+
+  -- inside the run
+  pub splice-in : (i : ℕ) → i < length ds → getD (splice s o ds) (o + i) 0 ≡ getD ds i 0
+  unfolding splice
+  splice-in i k =
+      let e : length (take o s) ≡ o = length-take-le o s (omega arith) in
+      List·getD-append (take o s ++ ds) (drop (o + length ds) s) 0 (o + i) (simp (length-append, e) (omega arith))
+      ∙ ap (λ (n : ℕ). getD (take o s ++ ds) (n + i) 0) (sym e)
+      ∙ getD-append-add (take o s) ds i 0
+
+  -- outside it
+  pub splice-below : (i : ℕ) → i < o → getD (splice s o ds) i 0 ≡ getD s i 0
+  unfolding splice
+  splice-below i k =
+      let e : length (take o s) ≡ o = length-take-le o s (omega arith) in
+      List·getD-append (take o s ++ ds) (drop (o + length ds) s) 0 i (simp (length-append, e) (omega arith))
+      ∙ List·getD-append (take o s) ds 0 i (simp e k)
+      ∙ getD-take o s i 0 k
+
+  pub splice-above : (i : ℕ) → o + length ds ≤ i → getD (splice s o ds) i 0 ≡ getD s i 0
+  unfolding splice
+  splice-above i k =
+      let e : length (take o s) ≡ o = length-take-le o s (omega arith) in
+      let f : length (take o s ++ ds) ≡ o + length ds = simp (length-append, e) in
+      let g : i ≡ length (take o s ++ ds) + (i - (o + length ds)) = omega (arith, f) in
+      ap (λ (n : ℕ). getD (take o s ++ ds ++ drop (o + length ds) s) n 0) g
+      ∙ getD-append-add (take o s ++ ds) (drop (o + length ds) s) (i - (o + length ds)) 0
+      ∙ getD-drop (o + length ds) s (i - (o + length ds)) 0
+      ∙ ap (λ (n : ℕ). getD s n 0) (omega arith)
+
+  pub splice-outside : (i : ℕ) → (i < o) ⊎ (o + length ds ≤ i) → getD (splice s o ds) i 0 ≡ getD s i 0
+  splice-outside i (inl k) = splice-below i k
+  splice-outside i (inr k) = splice-above i k
+
+  -- what stands at p: the run's byte, or the old one, as a test says
+  pub splice-at : (p : ℕ) (t : Bool) → (t ≡ true → (o ≤ p) × (p < o + length ds)) → (t ≡ false → (p < o) ⊎ (o + length ds ≤ p))
+      → getD (splice s o ds) p 0 ≡ cond t (getD ds (p - o) 0) (getD s p 0)
+  splice-at p true f g =
+      let k = f refl in
+      let e : p ≡ o + (p - o) = omega arith in
+      ap (λ (n : ℕ). getD (splice s o ds) n 0) e ∙ splice-in (p - o) (omega arith)
+  splice-at p false f g = splice-outside p (g refl)
+
+  -- the run read back
+  pub splice-read : take (length ds) (drop o (splice s o ds)) ≡ ds
+  splice-read =
+      ext-getD 0 (take (length ds) (drop o (splice s o ds))) ds
+      (simp (length-take, length-drop, length-splice) (omega arith))
+      (λ i k.
+      let l : i < length ds = omega (arith, simp (length-take, length-drop, length-splice) at k) in
+      getD-take (length ds) (drop o (splice s o ds)) i 0 l ∙ getD-drop o (splice s o ds) i 0 ∙ splice-in i l)
+
+-- a second run right after the first is one longer run
+pub splice-more : (s : List ℕ) (o : ℕ) (xs ys : List ℕ) → o ≤ length s → splice (splice s o xs) (o + length xs) ys ≡ splice s o (xs ++ ys)
+unfolding splice
+splice-more s o xs ys h =
+    let e : length (take o s) ≡ o = length-take-le o s h in
+    let f : length (take o s ++ xs) ≡ o + length xs = simp (length-append, e) in
+    ap (λ (l : List ℕ). l ++ ys ++ drop (o + length xs + length ys) (take o s ++ xs ++ drop (o + length xs) s)) (take-at (take o s ++ xs) (drop (o + length xs) s) (o + length xs) f)
+    ∙ ap (λ (l : List ℕ). take o s ++ xs ++ ys ++ l) (ap (λ (n : ℕ). drop (n + length ys) (take o s ++ xs ++ drop (o + length xs) s)) (sym f) ∙ drop-append-add (take o s ++ xs) (drop (o + length xs) s) (length ys) ∙ drop-drop (length ys) (o + length xs) s)
+    ∙ simp (append-assoc, length-append, add-assoc)
+
+-- a run from the first byte on
+pub splice-front : (s ds : List ℕ) → splice s 0 ds ≡ ds ++ drop (length ds) s
+unfolding splice
+splice-front s ds = rw (native.Mathlib.Nat.zero-add (length ds))

@@ -1,0 +1,45 @@
+-- Loops that store a run, as their needs ask.
+-- Assumes nothing.
+use Prim.Native.Nat.{ℕ, zero, suc, _+_, _-_, _/_, _%_, _≤_, _<_}
+use mathlib.Core.Path.{_≡_, refl, ap, sym, _∙_}
+use mathlib.Core.List.{List, [], _∷_, _++_}
+use native.Mathlib.Nat.{add-zero}
+use native.Mathlib.Omega.{arith}
+use lib.ListN.{length, set}
+use lib.Seq.{sets, sets-eq, set-comm}
+use Rattle.octets.specs.Bytes.{bytesOf}
+use Rattle.octets.specs.Splice.{splice}
+use Rattle.octets.proofs.Numbers.{length-bytes}
+
+sets-append : (o : List ℕ) (at : ℕ) (a b : List ℕ) → sets o at (a ++ b) ≡ sets (sets o at a) (at + length a) b
+sets-append o at [] b = rw (add-zero at)
+sets-append o at (x ∷ a) b =
+    sets-append (set o at x) (suc at) a b ∙ ap (λ (k : ℕ). sets (sets (set o at x) (suc at) a) k b) (omega arith)
+
+sets-late : (o : List ℕ) (at : ℕ) (a : List ℕ) (k x : ℕ) → at + length a ≤ k → set (sets o at a) k x ≡ sets (set o k x) at a
+sets-late o at [] k x h = refl
+sets-late o at (y ∷ a) k x h =
+    sets-late (set o at y) (suc at) a k x (omega arith)
+    ∙ ap (λ (l : List ℕ). sets l (suc at) a) (set-comm o at k y x (omega arith))
+
+-- one byte more, from the last: the rest is the number's other bytes
+pub put-again :
+    (o r : List ℕ) (at i y : ℕ) →
+    0 < i → sets o at (bytesOf i y) ≡ r → sets (set o (at + (i - 1)) (y % 256)) at (bytesOf (i - 1) (y / 256)) ≡ r
+unfolding bytesOf
+put-again o r at i y h inv =
+    let e : i ≡ suc (i - 1) = omega arith in
+    let l : length (bytesOf (i - 1) (y / 256)) ≡ i - 1 = length-bytes (i - 1) (y / 256) in
+    sym
+    (ap (λ (k : ℕ). sets o at (bytesOf k y)) e
+    ∙ sets-append o at (bytesOf (i - 1) (y / 256)) (y % 256 ∷ [])
+    ∙ ap (λ (k : ℕ). set (sets o at (bytesOf (i - 1) (y / 256))) (at + k) (y % 256)) l
+    ∙ sets-late o at (bytesOf (i - 1) (y / 256)) (at + (i - 1)) (y % 256) (omega arith))
+    ∙ inv
+
+pub put-end :
+    (o o₀ : List ℕ) (at i y w x : ℕ) → i ≤ 0 → at + w ≤ length o₀ → sets o at (bytesOf i y) ≡ sets o₀ at (bytesOf w x) → o ≡ splice o₀ at (bytesOf w x)
+unfolding bytesOf splice
+put-end o o₀ at i y w x h fits inv =
+    let e : i ≡ 0 = omega arith in
+    rw e at inv ∙ sets-eq (bytesOf w x) o₀ at (omega (arith, length-bytes w x))

@@ -1,0 +1,22 @@
+-- `octets::byte` meets its contract: within the slice the byte, past its end 0.
+-- Assumes nothing.
+use borrow.Author.Needs.{needs}
+use mathlib.Core.Path.{sym, _∙_}
+use native.Mathlib.Omega.{arith}
+use lib.ListN.{List·getD-eq-default}
+use Rattle.octets.proofs.Numbers.{num-one}
+use Rattle.octets.proofs.byte.Statement.{statement}
+use Rattle.octets.proofs.byte.Tie as tie
+
+pub byte-spec : {M : Type 1} → statement M
+byte-spec =
+    tie.close
+    (tie.spec
+    (λ c. search needs)
+    (λ c. omega (arith, c .shared-slice-known .given (c .before .before .args .at)))
+    (λ c. record { value = sym (num-one _ _); below = c .shared-slice-known .given (c .before .before .args .at) .fits })
+    (λ c.
+    record {
+      value = sym (num-one _ _ ∙ List·getD-eq-default (c .before .args .s .now) 0 (c .if1 .left));
+      below = omega arith;
+    }))

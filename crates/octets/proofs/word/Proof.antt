@@ -1,0 +1,27 @@
+-- `octets::word` meets its contract.
+-- Assumes nothing.
+use Prim.Native.Nat.{_+_}
+use borrow.Author.Needs.{needs}
+use native.Mathlib.Omega.{arith}
+use Rattle.octets.proofs.Numbers.{num-pair}
+use Rattle.octets.proofs.word.Statement.{statement}
+use Rattle.octets.proofs.word.Tie as tie
+
+pub word-spec : {M : Type 1} → statement M
+word-spec =
+    tie.close
+    (tie.spec
+    (λ c. search needs)
+    (λ c. omega (arith, c .shared-slice-known .given (c .before .args .at)))
+    (λ c. omega (arith, c .shared-slice-known .given (c .before .args .at)))
+    (λ c. search needs)
+    (λ c. search needs)
+    (λ c. omega (arith, c .before .shared-slice-known .given (c .before .before .args .at + 1)))
+    (λ c.
+    let g = c .before .shared-slice-known .given in
+    let at = c .before .before .args .at in
+    omega (arith, g at, g (at + 1)))
+    (λ c.
+    let g = c .before .shared-slice-known .given in
+    let at = c .before .before .args .at in
+    num-pair _ _ (g at .fits) (g (at + 1) .fits)))
