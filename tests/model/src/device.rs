@@ -1,0 +1,419 @@
+//! The device: sessions, the button, and requests against a sheet.
+
+use crate::faults::{Fault, Faults};
+use crate::pdu::{self, Pdu};
+use crate::sheet::{self, ADDRESS, FLAGS, KEYS, MASK, PROGRAMMING, SERIAL, VERIFY};
+
+#[derive(Clone, Copy, Debug, PartialEq, Eq)]
+pub struct Session {
+    pub open: bool,
+    pub level: u8,
+}
+
+impl Session {
+    pub const FRESH: Session = Session { open: false, level: 3 };
+}
+
+/// The outcome and how many bytes of the answer buffer were filled.
+#[derive(Clone, Copy, Debug, PartialEq, Eq)]
+pub struct Reply {
+    pub outcome: u8,
+    pub count: u8,
+}
+
+pub fn connect(session: &mut Session) -> u8 {
+    connect_with(Fault::None, session)
+}
+
+pub fn connect_with(fault: Fault, session: &mut Session) -> u8 {
+    let level = if fault == Fault::ConnectKeepsLevel { session.level } else { 3 };
+    *session = Session { open: true, level };
+    1
+}
+
+pub fn disconnect(session: &mut Session) -> u8 {
+    *session = Session::FRESH;
+    1
+}
+
+pub fn button(sheet: &mut [u8], on: bool) -> u8 {
+    if sheet::check(sheet) != 0 {
+        return 4;
+    }
+    if on {
+        sheet[FLAGS] |= PROGRAMMING;
+    } else {
+        sheet[FLAGS] &= !PROGRAMMING;
+    }
+    1
+}
+
+pub fn request(
+    session: &mut Session,
+    mode: u8,
+    group: u16,
+    apdu: &[u8],
+    sheet: &mut [u8],
+    answer: &mut [u8],
+) -> Reply {
+    step(Faults::<false>(Fault::None), session, mode, group, apdu, sheet, answer)
+}
+
+pub fn request_with(
+    fault: Fault,
+    session: &mut Session,
+    mode: u8,
+    group: u16,
+    apdu: &[u8],
+    sheet: &mut [u8],
+    answer: &mut [u8],
+) -> Reply {
+    step(Faults::<true>(fault), session, mode, group, apdu, sheet, answer)
+}
+
+/// The modes a code is served in, bit m for mode m; no bit if unknown.
+fn modes(code: u16) -> u8 {
+    match code {
+        0x000 | 0x040..=0x0BF => 0b0001,
+        0x0C0 | 0x100 | 0x3DC | 0x3DE => 0b0010,
+        0x300..=0x33F | 0x3D5 | 0x3D7 | 0x3D8 => 0b1100,
+        0x200..=0x20F | 0x280..=0x28F | 0x380 | 0x3D0 | 0x3D1 | 0x3D3 => 0b1000,
+        _ => 0,
+    }
+}
+
+fn silent(outcome: u8) -> Reply {
+    Reply { outcome, count: 0 }
+}
+
+fn reply(outcome: u8, pdu: Pdu, data: &[u8], answer: &mut [u8]) -> Reply {
+    let count = pdu::write(&pdu, data, answer).expect("the device's answers can be written");
+    Reply { outcome, count: count as u8 }
+}
+
+fn permits<const ON: bool>(faults: Faults<ON>, level: u8, needed: u8) -> bool {
+    if faults.is(Fault::LevelsReversed) {
+        level >= needed
+    } else {
+        level <= needed
+    }
+}
+
+/// A memory range found inside one region.
+struct Place {
+    at: usize,
+    read: u8,
+    write: u8,
+}
+
+fn place<const ON: bool>(faults: Faults<ON>, sheet: &[u8], n: u8, address: u16) -> Option<Place> {
+    if !(1..=12).contains(&n) {
+        return None;
+    }
+    let (first, end) = (address as u32, address as u32 + n as u32);
+    let region = if faults.is(Fault::RunsIntoNeighbour) {
+        let bodies = sheet::regions(sheet).map(|r| r.body as u32 + r.length).last()?;
+        sheet::regions(sheet).find(|r| {
+            r.address <= first
+                && first < r.address + r.length
+                && r.body as u32 + (end - r.address) <= bodies
+        })?
+    } else {
+        sheet::regions(sheet).find(|r| r.address <= first && end <= r.address + r.length)?
+    };
+    let at = region.body + (first - region.address) as usize;
+    Some(Place { at, read: region.read, write: region.write })
+}
+
+/// Ends a memory write: with verify on it is answered, else it is not.
+/// `stored` is where the new bytes lie, `None` if the write was denied.
+fn memory_reply(
+    sheet: &[u8],
+    stored: Option<usize>,
+    n: u8,
+    address: u16,
+    answer: &mut [u8],
+) -> Reply {
+    let verify = sheet[FLAGS] & VERIFY != 0;
+    match stored {
+        Some(at) if verify => {
+            reply(0, Pdu::MemoryResponse { n, address }, &sheet[at..at + n as usize], answer)
+        }
+        Some(_) => silent(1),
+        None if verify => reply(11, Pdu::MemoryResponse { n: 0, address }, &[], answer),
+        None => silent(12),
+    }
+}
+
+/// Where in the sheet elements s to s+n-1 lie, if the property has them all.
+fn elements<const ON: bool>(
+    faults: Faults<ON>,
+    p: &sheet::Property,
+    n: u8,
+    s: u16,
+) -> Option<std::ops::Range<usize>> {
+    if s == 0 || n == 0 {
+        return None;
+    }
+    let before = if faults.is(Fault::CountsFromZero) { s as usize } else { s as usize - 1 };
+    if before + n as usize > p.maximum as usize {
+        return None;
+    }
+    let from = p.body + before * p.size;
+    Some(from..from + n as usize * p.size)
+}
+
+fn step<const ON: bool>(
+    faults: Faults<ON>,
+    session: &mut Session,
+    mode: u8,
+    group: u16,
+    apdu: &[u8],
+    sheet: &mut [u8],
+    answer: &mut [u8],
+) -> Reply {
+    if answer.len() < 16 {
+        return silent(3);
+    }
+    if sheet::check(sheet) != 0 {
+        return silent(4);
+    }
+    if !(2..=16).contains(&apdu.len()) {
+        return silent(5);
+    }
+    if mode > 3 {
+        return silent(6);
+    }
+    if mode == 3 && !session.open {
+        return silent(7);
+    }
+    let modes = modes(pdu::code(apdu));
+    if modes == 0 {
+        return silent(8);
+    }
+    if modes >> mode & 1 == 0 {
+        return silent(9);
+    }
+    let (pdu, data) = match pdu::read(apdu) {
+        Ok((pdu, range)) => (pdu, &apdu[range]),
+        Err(outcome) => return silent(outcome),
+    };
+    let level = if mode == 3 { session.level.min(3) } else { 3 };
+    let store_first = faults.is(Fault::StoreFirst);
+
+    match pdu {
+        Pdu::GroupRead => {
+            let Some(g) = sheet::groups(sheet).find(|g| g.address == group && g.flags & 1 != 0)
+            else {
+                return silent(2);
+            };
+            if g.code == 0 {
+                reply(0, Pdu::GroupResponse { v: sheet[g.body] }, &[], answer)
+            } else {
+                let body = &sheet[g.body..g.body + g.length()];
+                reply(0, Pdu::GroupResponse { v: 0 }, body, answer)
+            }
+        }
+        Pdu::GroupResponse { v } | Pdu::GroupWrite { v } => {
+            let flag = if matches!(pdu, Pdu::GroupWrite { .. }) { 2 } else { 4 };
+            let Some(g) = sheet::groups(sheet).find(|g| g.address == group && g.flags & flag != 0)
+            else {
+                return silent(2);
+            };
+            if data.len() != g.code as usize {
+                return silent(10);
+            }
+            if g.code == 0 {
+                sheet[g.body] = v;
+            } else {
+                sheet[g.body..g.body + g.length()].copy_from_slice(data);
+            }
+            silent(1)
+        }
+
+        Pdu::AddressWrite { address } => {
+            if sheet[FLAGS] & PROGRAMMING == 0 {
+                return silent(2);
+            }
+            sheet[ADDRESS..ADDRESS + 2].copy_from_slice(&address.to_be_bytes());
+            silent(1)
+        }
+        Pdu::AddressRead => {
+            if sheet[FLAGS] & PROGRAMMING == 0 {
+                return silent(2);
+            }
+            reply(0, Pdu::AddressResponse, &[], answer)
+        }
+        Pdu::SerialRead { serial } => {
+            if sheet[SERIAL..SERIAL + 6] != serial {
+                return silent(2);
+            }
+            reply(0, Pdu::SerialResponse { serial, domain: 0 }, &[], answer)
+        }
+        Pdu::SerialWrite { serial, address } => {
+            if sheet[SERIAL..SERIAL + 6] != serial {
+                return silent(2);
+            }
+            sheet[ADDRESS..ADDRESS + 2].copy_from_slice(&address.to_be_bytes());
+            silent(1)
+        }
+
+        Pdu::DescriptorRead { t: 0 } => {
+            reply(0, Pdu::DescriptorResponse { t: 0 }, &sheet[MASK..MASK + 2], answer)
+        }
+        Pdu::DescriptorRead { .. } => silent(2),
+
+        Pdu::PropertyRead { object, id, n, s } => {
+            let found = sheet::properties(sheet)
+                .find(|p| (p.object, p.id) == (object, id) && permits(faults, level, p.read()));
+            let part = found.and_then(|p| {
+                if s == 0 && n == 1 {
+                    Some(p.entry + 6..p.entry + 8)
+                } else {
+                    elements(faults, &p, n, s).filter(|part| part.len() <= 10)
+                }
+            });
+            match part {
+                Some(part) => {
+                    reply(0, Pdu::PropertyResponse { object, id, n, s }, &sheet[part], answer)
+                }
+                None => reply(11, Pdu::PropertyResponse { object, id, n: 0, s }, &[], answer),
+            }
+        }
+        Pdu::PropertyWrite { object, id, n, s } => {
+            // The entry and the part of its body to fill.
+            let found = sheet::properties(sheet).find(|p| (p.object, p.id) == (object, id));
+            let plan = found.and_then(|p| {
+                if s == 0 {
+                    (n == 1 && data == [0, 0]).then_some((p, None))
+                } else {
+                    let part = elements(faults, &p, n, s)?;
+                    (part.len() == data.len()).then_some((p, Some(part)))
+                }
+            });
+            let allowed = plan
+                .as_ref()
+                .is_some_and(|(p, ..)| p.writable() && permits(faults, level, p.write()));
+            if let Some((p, part)) = plan {
+                if (allowed || store_first) && !faults.is(Fault::AnswersOnly) {
+                    let count = if faults.is(Fault::InventsCount) {
+                        p.maximum
+                    } else if s == 0 {
+                        0
+                    } else {
+                        p.count.max(s + n as u16 - 1)
+                    };
+                    sheet[p.entry + 6..p.entry + 8].copy_from_slice(&count.to_be_bytes());
+                    if let Some(part) = part {
+                        sheet[part].copy_from_slice(data);
+                    }
+                }
+            }
+            if allowed {
+                reply(0, Pdu::PropertyResponse { object, id, n, s }, data, answer)
+            } else {
+                reply(11, Pdu::PropertyResponse { object, id, n: 0, s }, &[], answer)
+            }
+        }
+        Pdu::DescriptionRead { object, id, index } => {
+            let found = sheet::properties(sheet)
+                .filter(|p| p.object == object)
+                .zip(0u8..)
+                .find(|&(p, i)| if id != 0 { p.id == id } else { i == index });
+            let (outcome, pdu) = match found {
+                Some((p, i)) => (
+                    0,
+                    Pdu::DescriptionResponse {
+                        object,
+                        id: p.id,
+                        index: i,
+                        kind: p.kind,
+                        maximum: p.maximum,
+                        access: p.levels,
+                    },
+                ),
+                None => (
+                    11,
+                    Pdu::DescriptionResponse { object, id, index, kind: 0, maximum: 0, access: 0 },
+                ),
+            };
+            reply(outcome, pdu, &[], answer)
+        }
+
+        Pdu::MemoryRead { n, address } => {
+            let found = place(faults, sheet, n, address);
+            match found.filter(|p| permits(faults, level, p.read)) {
+                Some(Place { at, .. }) => {
+                    let bytes = &sheet[at..at + n as usize];
+                    reply(0, Pdu::MemoryResponse { n, address }, bytes, answer)
+                }
+                None => reply(11, Pdu::MemoryResponse { n: 0, address }, &[], answer),
+            }
+        }
+        Pdu::MemoryWrite { n, address } => {
+            let mut stored = None;
+            if let Some(Place { at, write, .. }) = place(faults, sheet, n, address) {
+                let allowed = permits(faults, level, write);
+                if allowed || store_first {
+                    sheet[at..at + n as usize].copy_from_slice(data);
+                }
+                stored = allowed.then_some(at);
+            }
+            memory_reply(sheet, stored, n, address, answer)
+        }
+        Pdu::MemoryBitWrite { n, address } => {
+            let (and, xor) = data.split_at(n as usize);
+            let mut stored = None;
+            if let Some(Place { at, read, write }) = place(faults, sheet, n, address) {
+                let may_read =
+                    faults.is(Fault::BitWriteWithoutRead) || permits(faults, level, read);
+                let allowed = may_read && permits(faults, level, write);
+                if allowed || store_first {
+                    for (old, (a, x)) in sheet[at..].iter_mut().zip(and.iter().zip(xor)) {
+                        *old = (*old & a) ^ x;
+                    }
+                }
+                stored = allowed.then_some(at);
+            }
+            memory_reply(sheet, stored, n, address, answer)
+        }
+
+        Pdu::AuthorizeRequest { key } => {
+            let keys = sheet[KEYS..KEYS + 12].chunks_exact(4);
+            let level = match keys.zip(0u8..).find(|&(k, _)| k == key) {
+                Some((_, level)) => level,
+                None if faults.is(Fault::WrongKeyKeepsLevel) => level,
+                None => 3,
+            };
+            session.level = level;
+            reply(0, Pdu::AuthorizeResponse { level }, &[], answer)
+        }
+        Pdu::KeyWrite { level: named, key } => {
+            let slip = faults.is(Fault::LevelOneSetsKeyZero) && level == 1 && named == 0;
+            let allowed = named <= 2 && (permits(faults, level, named) || slip);
+            if allowed || store_first && named <= 2 {
+                let at = KEYS + 4 * named as usize;
+                sheet[at..at + 4].copy_from_slice(&key);
+            }
+            if allowed {
+                reply(0, Pdu::KeyResponse { level: named }, &[], answer)
+            } else {
+                reply(11, Pdu::KeyResponse { level: 0xFF }, &[], answer)
+            }
+        }
+        Pdu::Restart => {
+            *session = Session::FRESH;
+            sheet[FLAGS] &= !PROGRAMMING;
+            silent(1)
+        }
+
+        Pdu::AddressResponse
+        | Pdu::SerialResponse { .. }
+        | Pdu::DescriptorResponse { .. }
+        | Pdu::PropertyResponse { .. }
+        | Pdu::DescriptionResponse { .. }
+        | Pdu::MemoryResponse { .. }
+        | Pdu::AuthorizeResponse { .. }
+        | Pdu::KeyResponse { .. } => unreachable!("no answer has a mode"),
+    }
+}

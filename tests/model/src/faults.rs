@@ -1,0 +1,53 @@
+//! Slips that can be switched on, to see whether a comparison notices them.
+
+#[derive(Clone, Copy, Debug, PartialEq, Eq)]
+pub enum Fault {
+    None,
+    /// A write takes place before the rights are looked at.
+    StoreFirst,
+    /// Level comparison turned round.
+    LevelsReversed,
+    /// An unknown key leaves the level as it was.
+    WrongKeyKeepsLevel,
+    /// A new connection inherits the old level.
+    ConnectKeepsLevel,
+    /// A memory range may leave its region as long as bodies follow it.
+    RunsIntoNeighbour,
+    /// The first element is taken to be number 0.
+    CountsFromZero,
+    /// A session of level 1 may replace key 0.
+    LevelOneSetsKeyZero,
+    /// A property write is answered as usual, but the sheet stays as it was.
+    AnswersOnly,
+    /// Whatever a property write holds, the stored count becomes the maximum.
+    InventsCount,
+    /// A bit write asks for the write right alone.
+    BitWriteWithoutRead,
+}
+
+impl Fault {
+    pub const ALL: [Fault; 10] = [
+        Fault::StoreFirst,
+        Fault::LevelsReversed,
+        Fault::WrongKeyKeepsLevel,
+        Fault::ConnectKeepsLevel,
+        Fault::RunsIntoNeighbour,
+        Fault::CountsFromZero,
+        Fault::LevelOneSetsKeyZero,
+        Fault::AnswersOnly,
+        Fault::InventsCount,
+        Fault::BitWriteWithoutRead,
+    ];
+}
+
+/// The fault in force. With `ON` false every question folds to `false`, so
+/// the plain entry points carry none of this.
+#[derive(Clone, Copy)]
+pub(crate) struct Faults<const ON: bool>(pub Fault);
+
+impl<const ON: bool> Faults<ON> {
+    #[inline(always)]
+    pub fn is(self, fault: Fault) -> bool {
+        ON && self.0 == fault
+    }
+}

@@ -1,0 +1,10 @@
+//! A plain model of the device side of the application layer, written from
+//! the rules alone and meant to be compared with the product event by event.
+//! It favours short, obvious code; nothing here is shared with the product.
+
+pub mod device;
+pub mod faults;
+pub mod gen;
+pub mod matrix;
+pub mod pdu;
+pub mod sheet;

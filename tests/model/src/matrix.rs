@@ -1,0 +1,112 @@
+//! Which outcomes a request can end in, by service and mode.
+//!
+//! An APDU belongs to a row by its length first: one that is not 2 to 16
+//! bytes long is "malformed length". Any other belongs to a service by its
+//! ten-bit code alone, whatever its length, mode or fields; a code the device
+//! does not serve, a tool's answer included, is "unknown code".
+//!
+//! A cell holds the outcomes that some sheet, session, group address and
+//! answer buffer can bring about. Short buffers (3) and bad sheets (4) come
+//! first and so stand in every cell. A bad length (5) hides the mode; a mode
+//! above 3 (6) hides the session and the service; a closed session (7) is
+//! seen in mode 3 alone. 13 never comes from a request.
+
+/// Bit k stands for outcome k.
+pub type Outcomes = u16;
+
+/// A row's name and its cells for modes 0, 1, 2, 3 and any above.
+pub type Row = (&'static str, [Outcomes; 5]);
+
+pub const UNKNOWN: usize = 17;
+pub const MALFORMED: usize = 18;
+
+const fn set(outcomes: &[u8]) -> Outcomes {
+    let mut bits = 0;
+    let mut i = 0;
+    while i < outcomes.len() {
+        bits |= 1 << outcomes[i];
+        i += 1;
+    }
+    bits
+}
+
+// Cells that say nothing of the service.
+const BADLEN: Outcomes = set(&[3, 4, 5]);
+const NOMODE: Outcomes = set(&[3, 4, 6]);
+const UNKN: Outcomes = set(&[3, 4, 8]);
+const UNKN_3: Outcomes = set(&[3, 4, 7, 8]);
+const WRONG: Outcomes = set(&[3, 4, 9]);
+const WRONG_3: Outcomes = set(&[3, 4, 7, 9]);
+
+// Cells of modes 0 to 2 that serve.
+const TELLS: Outcomes = set(&[3, 4, 10, 2, 0]); // answers, or is not for us
+const TAKES: Outcomes = set(&[3, 4, 10, 2, 1]); // stores, or is not for us
+const JUDGED: Outcomes = set(&[3, 4, 10, 11, 0]); // answers either way
+
+// Cells of mode 3 that serve.
+const TELLS_3: Outcomes = set(&[3, 4, 7, 10, 2, 0]);
+const JUDGED_3: Outcomes = set(&[3, 4, 7, 10, 11, 0]);
+const VERIFIED_3: Outcomes = set(&[3, 4, 7, 10, 11, 12, 0, 1]); // verify decides on answering
+const ALWAYS_3: Outcomes = set(&[3, 4, 7, 10, 0]); // Authorize cannot be denied
+const SILENT_3: Outcomes = set(&[3, 4, 7, 10, 1]); // Restart neither, and has no answer
+
+#[rustfmt::skip]
+pub const ROWS: [Row; 19] = [
+    //                      mode 0   1       2       3           above
+    ("group_read",         [TELLS,  WRONG,  WRONG,  WRONG_3,    NOMODE]),
+    ("group_response",     [TAKES,  WRONG,  WRONG,  WRONG_3,    NOMODE]),
+    ("group_write",        [TAKES,  WRONG,  WRONG,  WRONG_3,    NOMODE]),
+    ("address_write",      [WRONG,  TAKES,  WRONG,  WRONG_3,    NOMODE]),
+    ("address_read",       [WRONG,  TELLS,  WRONG,  WRONG_3,    NOMODE]),
+    ("serial_read",        [WRONG,  TELLS,  WRONG,  WRONG_3,    NOMODE]),
+    ("serial_write",       [WRONG,  TAKES,  WRONG,  WRONG_3,    NOMODE]),
+    ("descriptor_read",    [WRONG,  WRONG,  TELLS,  TELLS_3,    NOMODE]),
+    ("property_read",      [WRONG,  WRONG,  JUDGED, JUDGED_3,   NOMODE]),
+    ("property_write",     [WRONG,  WRONG,  JUDGED, JUDGED_3,   NOMODE]),
+    ("description_read",   [WRONG,  WRONG,  JUDGED, JUDGED_3,   NOMODE]),
+    ("memory_read",        [WRONG,  WRONG,  WRONG,  JUDGED_3,   NOMODE]),
+    ("memory_write",       [WRONG,  WRONG,  WRONG,  VERIFIED_3, NOMODE]),
+    ("memory_bit_write",   [WRONG,  WRONG,  WRONG,  VERIFIED_3, NOMODE]),
+    ("authorize_request",  [WRONG,  WRONG,  WRONG,  ALWAYS_3,   NOMODE]),
+    ("key_write",          [WRONG,  WRONG,  WRONG,  JUDGED_3,   NOMODE]),
+    ("restart",            [WRONG,  WRONG,  WRONG,  SILENT_3,   NOMODE]),
+    ("unknown code",       [UNKN,   UNKN,   UNKN,   UNKN_3,     NOMODE]),
+    ("malformed length",   [BADLEN, BADLEN, BADLEN, BADLEN,     BADLEN]),
+];
+
+/// The row an APDU belongs to.
+pub fn row(apdu: &[u8]) -> usize {
+    if apdu.len() < 2 || apdu.len() > 16 {
+        return MALFORMED;
+    }
+    match (apdu[0] & 3, apdu[1]) {
+        (0, 0x00) => 0,
+        (0, 0x40..=0x7F) => 1,
+        (0, 0x80..=0xBF) => 2,
+        (0, 0xC0) => 3,
+        (1, 0x00) => 4,
+        (3, 0xDC) => 5,
+        (3, 0xDE) => 6,
+        (3, 0x00..=0x3F) => 7,
+        (3, 0xD5) => 8,
+        (3, 0xD7) => 9,
+        (3, 0xD8) => 10,
+        (2, 0x00..=0x0F) => 11,
+        (2, 0x80..=0x8F) => 12,
+        (3, 0xD0) => 13,
+        (3, 0xD1) => 14,
+        (3, 0xD3) => 15,
+        (3, 0x80) => 16,
+        _ => UNKNOWN,
+    }
+}
+
+/// The cell of a row that a mode belongs to.
+pub fn column(mode: u8) -> usize {
+    mode.min(4) as usize
+}
+
+/// The outcomes that can follow from this APDU's service in this mode.
+pub fn can(apdu: &[u8], mode: u8) -> Outcomes {
+    ROWS[row(apdu)].1[column(mode)]
+}

@@ -1,0 +1,255 @@
+//! The device sheet: its check, views of its entries, and the lookups.
+
+pub const FLAGS: usize = 14;
+pub const PROGRAMMING: u8 = 1;
+pub const VERIFY: u8 = 2;
+pub const SERIAL: usize = 6;
+pub const MASK: usize = 12;
+pub const ADDRESS: usize = 16;
+pub const KEYS: usize = 18;
+pub const HEAD: usize = 32;
+pub const LONGEST: usize = 16_384;
+
+/// The sample sheet of the rules.
+#[rustfmt::skip]
+pub const SAMPLE: [u8; 69] = [
+    0x01, 0x01, 0x01, 0x01,
+    0x00, 0x45,
+    0x00, 0xC5, 0x01, 0x02, 0x03, 0x04,
+    0x07, 0xB0,
+    0x02, 0x00,
+    0x11, 0x05,
+    0x11, 0x11, 0x11, 0x11, 0x22, 0x22, 0x22, 0x22, 0xFF, 0xFF, 0xFF, 0xFF,
+    0x00, 0x00,
+    0x01, 0x00, 0x00, 0x04, 0x00, 0x3C, 0x32, 0x00,
+    0x01, 0x33, 0x84, 0x02, 0x00, 0x02, 0x00, 0x01, 0x00, 0x40, 0x31, 0x00,
+    0x08, 0x01, 0x01, 0x03, 0x00, 0x44, 0x00, 0x00,
+    0xA0, 0xA1, 0xA2, 0xA3,
+    0x03, 0xE8, 0x00, 0x00,
+    0x00,
+];
+
+fn word(high: u8, low: u8) -> u16 {
+    u16::from_be_bytes([high, low])
+}
+
+/// True if one of the two level nibbles is above 3.
+fn level_too_high(levels: u8) -> bool {
+    levels & 0xCC != 0
+}
+
+struct Tables<'a> {
+    regions: &'a [[u8; 8]],
+    properties: &'a [[u8; 12]],
+    groups: &'a [[u8; 8]],
+}
+
+/// Splits the contents; the caller knows that they fit into the sheet.
+fn tables(sheet: &[u8]) -> Tables<'_> {
+    let (r, p, g) = (sheet[1] as usize, sheet[2] as usize, sheet[3] as usize);
+    let (regions, rest) = sheet[HEAD..HEAD + 8 * r + 12 * p + 8 * g].split_at(8 * r);
+    let (properties, groups) = rest.split_at(12 * p);
+    Tables {
+        regions: regions.as_chunks().0,
+        properties: properties.as_chunks().0,
+        groups: groups.as_chunks().0,
+    }
+}
+
+/// 0 if the sheet is accepted, else the number of the first rule broken.
+///
+/// One pass over the entries. A misplaced body (rule 9) only counts once all
+/// entries have passed 6 to 8, so it is remembered in `chained` until the end.
+pub fn check(sheet: &[u8]) -> u8 {
+    let len = sheet.len();
+    if !(HEAD..=LONGEST).contains(&len) {
+        return 1;
+    }
+    if sheet[0] != 1 {
+        return 2;
+    }
+    let (r, p, g) = (sheet[1] as usize, sheet[2] as usize, sheet[3] as usize);
+    if r > 16 || p > 64 || g > 64 {
+        return 3;
+    }
+    let contents = HEAD + 8 * r + 12 * p + 8 * g;
+    if word(sheet[4], sheet[5]) as usize != len || contents > len {
+        return 4;
+    }
+    if sheet[15] | sheet[30] | sheet[31] | (sheet[FLAGS] & !(PROGRAMMING | VERIFY)) != 0 {
+        return 5;
+    }
+
+    let tables = tables(sheet);
+    let mut next = contents;
+    let mut chained = true;
+
+    let mut free = 0; // first address after the previous region
+    for e in tables.regions {
+        let address = word(e[0], e[1]) as u32;
+        let length = word(e[2], e[3]) as u32;
+        let end = address + length;
+        if length == 0 || end > 65_536 || address < free || level_too_high(e[6]) || e[7] != 0 {
+            return 6;
+        }
+        free = end;
+        chained &= word(e[4], e[5]) as usize == next;
+        next += length as usize;
+    }
+
+    let mut last = 0; // starting at 0 also refuses id 0 of object 0
+    for e in tables.properties {
+        let name = word(e[0], e[1]);
+        let size = e[3];
+        let maximum = word(e[4], e[5]);
+        let count = word(e[6], e[7]);
+        if e[1] == 0
+            || name <= last
+            || e[2] & 0x40 != 0
+            || !(1..=10).contains(&size)
+            || !(1..=4095).contains(&maximum)
+            || count > maximum
+            || level_too_high(e[10])
+            || e[11] != 0
+        {
+            return 7;
+        }
+        last = name;
+        chained &= word(e[8], e[9]) as usize == next;
+        next += size as usize * maximum as usize;
+    }
+
+    let mut last = 0; // starting at 0 also refuses address 0
+    for e in tables.groups {
+        let address = word(e[0], e[1]);
+        if address <= last || e[2] > 14 || e[3] > 7 || e[6] | e[7] != 0 {
+            return 8;
+        }
+        last = address;
+        chained &= word(e[4], e[5]) as usize == next;
+        if e[2] == 0 {
+            chained &= sheet.get(next).is_some_and(|&v| v < 64);
+            next += 1;
+        } else {
+            next += e[2] as usize;
+        }
+    }
+
+    if chained && next == len {
+        0
+    } else {
+        9
+    }
+}
+
+/// A region entry; `body` is where its bytes start in the sheet.
+#[derive(Clone, Copy, Debug)]
+pub struct Region {
+    pub address: u32,
+    pub length: u32,
+    pub body: usize,
+    pub read: u8,
+    pub write: u8,
+}
+
+/// A property entry; `entry` is where the entry itself stands in the sheet.
+#[derive(Clone, Copy, Debug)]
+pub struct Property {
+    pub entry: usize,
+    pub object: u8,
+    pub id: u8,
+    pub kind: u8,
+    pub size: usize,
+    pub maximum: u16,
+    pub count: u16,
+    pub body: usize,
+    pub levels: u8,
+}
+
+impl Property {
+    pub fn writable(&self) -> bool {
+        self.kind & 0x80 != 0
+    }
+    pub fn read(&self) -> u8 {
+        self.levels >> 4
+    }
+    pub fn write(&self) -> u8 {
+        self.levels & 15
+    }
+}
+
+/// A group entry; `code` 0 is a six-bit value kept in one byte.
+#[derive(Clone, Copy, Debug)]
+pub struct Group {
+    pub address: u16,
+    pub code: u8,
+    pub flags: u8,
+    pub body: usize,
+}
+
+impl Group {
+    pub fn length(&self) -> usize {
+        self.code.max(1) as usize
+    }
+}
+
+// The three walks below expect an accepted sheet.
+
+pub fn regions(sheet: &[u8]) -> impl Iterator<Item = Region> + '_ {
+    tables(sheet).regions.iter().map(|e| Region {
+        address: word(e[0], e[1]) as u32,
+        length: word(e[2], e[3]) as u32,
+        body: word(e[4], e[5]) as usize,
+        read: e[6] >> 4,
+        write: e[6] & 15,
+    })
+}
+
+pub fn properties(sheet: &[u8]) -> impl Iterator<Item = Property> + '_ {
+    let first = HEAD + 8 * sheet[1] as usize;
+    tables(sheet).properties.iter().enumerate().map(move |(i, e)| Property {
+        entry: first + 12 * i,
+        object: e[0],
+        id: e[1],
+        kind: e[2],
+        size: e[3] as usize,
+        maximum: word(e[4], e[5]),
+        count: word(e[6], e[7]),
+        body: word(e[8], e[9]) as usize,
+        levels: e[10],
+    })
+}
+
+pub fn groups(sheet: &[u8]) -> impl Iterator<Item = Group> + '_ {
+    tables(sheet).groups.iter().map(|e| Group {
+        address: word(e[0], e[1]),
+        code: e[2],
+        flags: e[3],
+        body: word(e[4], e[5]) as usize,
+    })
+}
+
+// Lookups: offset and length of a body, (0, 0) if there is none.
+
+pub fn property(sheet: &[u8], object: u8, id: u8) -> (usize, usize) {
+    if check(sheet) != 0 {
+        return (0, 0);
+    }
+    let found = properties(sheet).find(|p| (p.object, p.id) == (object, id));
+    found.map_or((0, 0), |p| (p.body, p.size * p.maximum as usize))
+}
+
+pub fn region(sheet: &[u8], k: usize) -> (usize, usize) {
+    if check(sheet) != 0 {
+        return (0, 0);
+    }
+    regions(sheet).nth(k).map_or((0, 0), |r| (r.body, r.length as usize))
+}
+
+pub fn group(sheet: &[u8], address: u16) -> (usize, usize) {
+    if check(sheet) != 0 {
+        return (0, 0);
+    }
+    let found = groups(sheet).find(|g| g.address == address);
+    found.map_or((0, 0), |g| (g.body, g.length()))
+}

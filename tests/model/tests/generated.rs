@@ -1,0 +1,218 @@
+//! What the generators reach, and what must hold of everything generated.
+
+use std::collections::BTreeSet;
+
+use model::device::{button, connect_with, disconnect, request_with, Reply, Session};
+use model::faults::Fault;
+use model::gen::{self, Event, Rng};
+use model::matrix::{self, ROWS};
+use model::pdu;
+use model::sheet;
+
+#[test]
+fn sheets_are_accepted_and_of_many_sizes() {
+    let mut rng = Rng::new(1);
+    let mut lengths = BTreeSet::new();
+    let mut seen = [[false; 65]; 3];
+    let (mut touching, mut code_0, mut verify) = (0, 0, [0; 2]);
+    for _ in 0..4000 {
+        let s = gen::sheet(&mut rng);
+        assert_eq!(sheet::check(&s), 0);
+        lengths.insert(s.len());
+        for k in 0..3 {
+            seen[k][s[1 + k] as usize] = true;
+        }
+        let regions: Vec<_> = sheet::regions(&s).collect();
+        touching +=
+            regions.windows(2).filter(|w| w[0].address + w[0].length == w[1].address).count();
+        code_0 += sheet::groups(&s).filter(|g| g.code == 0).count();
+        verify[(s[14] >> 1) as usize] += 1;
+    }
+    assert!(lengths.len() > 1500, "{}", lengths.len());
+    assert!(lengths.contains(&32) && lengths.contains(&16_384));
+    assert!(seen[0][..17].iter().all(|&b| b) && seen[1..].iter().flatten().all(|&b| b));
+    assert!(touching > 1000 && code_0 > 1000 && verify[0] > 500 && verify[1] > 500);
+}
+
+#[test]
+fn damaged_sheets_break_every_rule() {
+    let mut rng = Rng::new(2);
+    let mut seen = [0; 10];
+    for _ in 0..20_000 {
+        let s = gen::any_sheet(&mut rng);
+        seen[sheet::check(&s) as usize] += 1;
+    }
+    assert!(seen.iter().all(|&n| n > 100), "{seen:?}");
+}
+
+/// A device as the events find and leave it.
+#[derive(Clone, PartialEq, Debug)]
+struct State {
+    sheet: Vec<u8>,
+    session: Session,
+    buffer: Vec<u8>,
+    reply: Reply,
+}
+
+impl State {
+    fn new(rng: &mut Rng) -> State {
+        let mut sheet = gen::sheet(rng);
+        if rng.chance(8) {
+            gen::damage(rng, &mut sheet);
+        }
+        let reply = Reply { outcome: 1, count: 0 };
+        State { sheet, session: gen::session(rng), buffer: Vec::new(), reply }
+    }
+
+    fn step(&mut self, fault: Fault, event: &Event) {
+        let done = |outcome| Reply { outcome, count: 0 };
+        self.reply = match event {
+            Event::Connect => done(connect_with(fault, &mut self.session)),
+            Event::Disconnect => done(disconnect(&mut self.session)),
+            Event::Button(on) => done(button(&mut self.sheet, *on)),
+            Event::Found(session) => {
+                self.session = *session;
+                done(1)
+            }
+            Event::Request(ask) => {
+                self.buffer.clone_from(&ask.buffer);
+                request_with(
+                    fault,
+                    &mut self.session,
+                    ask.mode,
+                    ask.group,
+                    &ask.apdu,
+                    &mut self.sheet,
+                    &mut self.buffer,
+                )
+            }
+        };
+    }
+}
+
+#[test]
+fn every_outcome_that_can_occur_does_and_no_other() {
+    let mut rng = Rng::new(3);
+    let mut seen = [[0u16; 5]; 19];
+    for _ in 0..8000 {
+        let mut state = State::new(&mut rng);
+        for _ in 0..100 {
+            let event = gen::event(&mut rng, &state.sheet);
+            let before = state.clone();
+            state.step(Fault::None, &event);
+            let Event::Request(ask) = &event else {
+                continue;
+            };
+            let Reply { outcome, count } = state.reply;
+            let (row, column) = (matrix::row(&ask.apdu), matrix::column(ask.mode));
+            assert!(matrix::can(&ask.apdu, ask.mode) >> outcome & 1 == 1, "{event:?} {outcome}");
+            seen[row][column] |= 1 << outcome;
+
+            let count = count as usize;
+            assert!(count <= 16 && state.buffer[count..] == ask.buffer[count..], "{event:?}");
+            assert_eq!(count > 0, matches!(outcome, 0 | 11), "{event:?}");
+            if !matches!(outcome, 0 | 1) {
+                assert_eq!(state.sheet, before.sheet, "{event:?}");
+                assert_eq!(state.session, before.session, "{event:?}");
+            }
+            if outcome != 4 && outcome != 3 {
+                assert_eq!(sheet::check(&state.sheet), 0, "{event:?}");
+            }
+            if count > 0 {
+                assert!(pdu::read(&state.buffer[..count]).is_ok(), "{event:?}");
+            }
+        }
+    }
+    for ((name, cells), seen) in ROWS.iter().zip(&seen) {
+        for (column, (can, did)) in cells.iter().zip(seen).enumerate() {
+            assert_eq!(can, did, "{name}, column {column}: {can:#b} {did:#b}");
+        }
+    }
+}
+
+#[test]
+fn every_fault_shows() {
+    for (k, fault) in Fault::ALL.into_iter().enumerate() {
+        let mut rng = Rng::new(100 + k as u64);
+        let mut found = 0;
+        for _ in 0..1500 {
+            let mut right = State::new(&mut rng);
+            let mut wrong = right.clone();
+            for _ in 0..40 {
+                let event = gen::event(&mut rng, &right.sheet);
+                right.step(Fault::None, &event);
+                wrong.step(fault, &event);
+                if right != wrong {
+                    found += 1;
+                    break;
+                }
+            }
+        }
+        println!("{fault:?}: {found} of 1500 runs");
+        assert!(found >= 20, "{fault:?} {found}");
+    }
+}
+
+#[test]
+fn rows_agree_with_the_reader() {
+    for code in 0..1024u16 {
+        let apdu = code.to_be_bytes();
+        if matrix::row(&apdu) != matrix::UNKNOWN {
+            assert_ne!(pdu::read(&apdu), Err(8), "{code:03X}");
+        }
+    }
+    let known = (0..1024u16).filter(|c| pdu::read(&c.to_be_bytes()) != Err(8)).count();
+    let served = (0..1024u16).filter(|c| matrix::row(&c.to_be_bytes()) != matrix::UNKNOWN).count();
+    assert_eq!(served, 1 + 64 + 64 + 1 + 1 + 1 + 1 + 64 + 3 + 16 + 16 + 3 + 1);
+    assert_eq!(known - served, 1 + 1 + 64 + 1 + 1 + 16 + 1 + 1);
+}
+
+#[test]
+fn written_pdus_read_back() {
+    let mut rng = Rng::new(4);
+    let mut written = 0;
+    for _ in 0..50_000 {
+        let (pdu, data) = gen::pdu(&mut rng);
+        let room = if rng.chance(5) { rng.below(16) } else { rng.within(16, 20) };
+        let before = rng.bytes(room);
+        let mut out = before.clone();
+        match pdu::write(&pdu, &data, &mut out) {
+            Ok(count) => {
+                written += 1;
+                assert_eq!(out[count..], before[count..]);
+                let (back, range) = pdu::read(&out[..count]).unwrap();
+                assert_eq!((back, &out[range]), (pdu, &data[..]));
+            }
+            Err(number) => {
+                assert_eq!(number, if room < 16 { 3 } else { 13 });
+                assert_eq!(out, before);
+            }
+        }
+    }
+    assert!((20_000..48_000).contains(&written), "{written}");
+}
+
+#[test]
+fn read_pdus_write_back() {
+    let mut rng = Rng::new(5);
+    let mut read = 0;
+    for _ in 0..20_000 {
+        let sheet = gen::sheet(&mut rng);
+        let apdu = gen::ask(&mut rng, &sheet).apdu;
+        let Ok((pdu, range)) = pdu::read(&apdu) else {
+            continue;
+        };
+        let mut out = [0; 16];
+        let count = pdu::write(&pdu, &apdu[range], &mut out).unwrap();
+        let mut expected = apdu.clone();
+        expected[0] &= 3;
+        match pdu::code(&apdu) {
+            0x3D1 => expected[2] = 0,
+            0x3DD | 0x3DE => expected[10..].fill(0),
+            _ => {}
+        }
+        assert_eq!(out[..count], expected);
+        read += 1;
+    }
+    assert!(read > 10_000);
+}

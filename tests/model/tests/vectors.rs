@@ -1,0 +1,467 @@
+//! Fixed cases: the marked ones, further ones, and the PDU layouts.
+
+use model::device::{button, connect, disconnect, request, Reply, Session};
+use model::pdu::{self, Pdu};
+use model::sheet::{self, SAMPLE};
+
+fn hex(text: &str) -> Vec<u8> {
+    let digits: Vec<u8> = text.chars().filter_map(|c| c.to_digit(16)).map(|d| d as u8).collect();
+    assert!(digits.len().is_multiple_of(2), "{text}");
+    digits.chunks(2).map(|d| d[0] << 4 | d[1]).collect()
+}
+
+/// Everything there is after one request to the sample sheet.
+struct After {
+    reply: Reply,
+    answer: Vec<u8>,
+    sheet: Vec<u8>,
+    session: Session,
+}
+
+/// `at`: "L1" is mode 3 at level 1, "M2" mode 2 (group 0801h), "closed" mode
+/// 3 without connection, "B1" mode 1 after the button, "V1" as L1 without
+/// verify, "G0" mode 0 with a group that is not there, "X4" mode 4.
+fn run(at: &str, apdu: &str) -> After {
+    let mut sheet = SAMPLE.to_vec();
+    let number = at.as_bytes()[at.len() - 1].wrapping_sub(b'0');
+    let mut session = Session { open: true, level: 3 };
+    let (mut mode, mut group) = (number, 0x0801);
+    match &at[..1] {
+        "M" | "X" => session.open = false,
+        "B" => assert_eq!(button(&mut sheet, true), 1),
+        "G" => group = 0x0802,
+        "L" => (mode, session.level) = (3, number),
+        "V" => {
+            sheet[14] &= !2;
+            (mode, session.level) = (3, number);
+        }
+        "c" => {
+            mode = 3;
+            session.open = false;
+        }
+        _ => panic!("{at}"),
+    }
+    let mut buffer = [0x5A; 20];
+    let reply = request(&mut session, mode, group, &hex(apdu), &mut sheet, &mut buffer);
+    let (answer, rest) = buffer.split_at(reply.count as usize);
+    assert!(rest.iter().all(|&b| b == 0x5A), "{at} {apdu}: wrote past the answer");
+    After { reply, answer: answer.to_vec(), sheet, session }
+}
+
+fn expect(cases: &[(&str, &str, &str, u8)]) {
+    for &(at, apdu, answer, outcome) in cases {
+        let after = run(at, apdu);
+        assert_eq!(after.reply.outcome, outcome, "{at} {apdu}");
+        assert_eq!(after.answer, hex(answer), "{at} {apdu}");
+        if outcome > 1 {
+            let mut before = SAMPLE.to_vec();
+            match &at[..1] {
+                "B" => before[14] |= 1,
+                "V" => before[14] &= !2,
+                _ => {}
+            }
+            assert_eq!(after.sheet, before, "{at} {apdu}: sheet changed");
+        }
+    }
+}
+
+#[test]
+fn marked_cases() {
+    expect(&[
+        ("M2", "03D501331001", "03D60133100103E8", 0),
+        ("L3", "03D501331000", "03D6013310000001", 0),
+        ("M2", "03D7013310010384", "03D601330001", 11),
+        ("L1", "03D7013310010384", "03D6013310010384", 0),
+        ("L3", "03D10022222222", "03D201", 0),
+        ("L1", "03D10033333333", "03D203", 0),
+        ("L3", "03D100FFFFFFFF", "03D202", 0),
+        ("L3", "02040100", "02440100A0A1A2A3", 0),
+        ("L3", "02020103", "02400103", 11),
+        ("L1", "0281010055", "0241010055", 0),
+        ("L1", "03D00101000FF0", "02410100F0", 0),
+        ("L1", "03D30033333333", "03D4FF", 11),
+        ("L3", "03D8013300", "03D901330084000231", 0),
+        ("M2", "02040100", "", 9),
+    ]);
+    assert_eq!(run("L3", "03D10022222222").session.level, 1);
+    assert_eq!(run("L1", "03D10033333333").session.level, 3);
+    assert_eq!(run("L3", "03D100FFFFFFFF").session.level, 2);
+}
+
+#[test]
+fn further_cases() {
+    expect(&[
+        ("M0", "0000", "004000", 0),
+        ("M0", "008055", "", 1),
+        ("M0", "0081", "", 10),
+        ("M0", "008155", "", 10),
+        ("M0", "004055", "", 2),
+        ("G0", "0081", "", 2),
+        ("M0", "0001", "", 8),
+        ("M1", "0100", "", 2),
+        ("B1", "0100", "0140", 0),
+        ("B1", "00C01234", "", 1),
+        ("M1", "03DC00C501020304", "03DD00C50102030400000000", 0),
+        ("M1", "03DC00C501020305", "", 2),
+        ("M1", "03DE00C5010203041207DEADBEEF", "", 1),
+        ("M2", "0300", "034007B0", 0),
+        ("M2", "0302", "", 2),
+        ("M2", "03D501332001", "03D60133200103E80000", 0),
+        ("M2", "03D501331002", "03D6013310020000", 0),
+        ("M2", "03D501331003", "03D601330003", 11),
+        ("M2", "03D501330001", "03D601330001", 11),
+        ("M2", "03D501332000", "03D601330000", 11),
+        ("M2", "03D502331001", "03D602330001", 11),
+        ("L1", "03D701332001AABBCCDD", "03D601332001AABBCCDD", 0),
+        ("L1", "03D7013310020102", "03D6013310020102", 0),
+        ("L1", "03D7013310000000", "03D6013310000000", 0),
+        ("L1", "03D7013310000001", "03D601330000", 11),
+        ("L1", "03D70133100000", "03D601330000", 11),
+        ("L1", "03D7013320010102", "03D601330001", 11),
+        ("L2", "03D7013310010384", "03D601330001", 11),
+        ("M2", "03D8010000", "03D901330084000231", 0),
+        ("M2", "03D8013305", "03D901330084000231", 0),
+        ("M2", "03D8010001", "03D901000100000000", 11),
+        ("M2", "03D8023300", "03D902330000000000", 11),
+        ("L3", "02000100", "02400100", 11),
+        ("L3", "020D0100", "02400100", 11),
+        ("L3", "02100100", "", 8),
+        ("L3", "020400FF", "024000FF", 11),
+        ("L3", "0204FFFF", "0240FFFF", 11),
+        ("L2", "028201021122", "024201021122", 0),
+        ("L2", "028201031122", "02400103", 11),
+        ("L3", "0281010055", "02400100", 11),
+        ("L2", "02800100", "02400100", 11),
+        ("L2", "02810100", "", 10),
+        ("L2", "03D0020100FFFF0102", "02420100A1A3", 0),
+        ("L2", "03D0000100", "02400100", 11),
+        ("L2", "03D0060100 0102030405060708090A0B", "", 10),
+        ("L2", "03D0", "", 10),
+        ("L3", "03D00101000FF0", "02400100", 11),
+        ("V1", "0281010055", "", 1),
+        ("V3", "0281010055", "", 12),
+        ("V2", "02800100", "", 12),
+        ("L3", "03D15522222222", "03D201", 0),
+        ("L2", "03D10011111111", "03D200", 0),
+        ("L1", "03D301AABBCCDD", "03D401", 0),
+        ("L1", "03D302FFFFFFFF", "03D402", 0),
+        ("L0", "03D303AABBCCDD", "03D4FF", 11),
+        ("L2", "03D301AABBCCDD", "03D4FF", 11),
+        ("L3", "0380", "", 1),
+        ("M2", "0380", "", 9),
+        ("L3", "0381", "", 8),
+        ("closed", "0381", "", 7),
+        ("X4", "0381", "", 6),
+        ("X4", "03", "", 5),
+        ("L3", "FE040100", "02440100A0A1A2A3", 0),
+        ("M0", "0204", "", 9),
+    ]);
+}
+
+#[test]
+fn what_is_stored() {
+    // A case, where the sheet changes, and the new bytes; nothing else moves.
+    let cases = [
+        ("M0", "008055", 68, "55"),
+        ("B1", "00C01234", 16, "1234"),
+        ("M1", "03DE00C5010203041207DEADBEEF", 16, "1207"),
+        ("L1", "03D7013310010384", 64, "0384"),
+        ("L1", "0281010055", 60, "55"),
+        ("L1", "03D00101000FF0", 60, "F0"),
+        ("L2", "028201021122", 62, "1122"),
+        ("L2", "03D0020100FFFF0102", 60, "A1A3"),
+        ("V1", "0281010055", 60, "55"),
+        ("L1", "03D301AABBCCDD", 22, "AABBCCDD"),
+        ("L2", "03D10011111111", 0, ""),
+        ("L1", "03D302FFFFFFFF", 26, "FFFFFFFF"),
+        ("L1", "03D7013310000000", 46, "0000"),
+    ];
+    for (at, apdu, from, bytes) in cases {
+        let mut sheet = SAMPLE.to_vec();
+        let bytes = hex(bytes);
+        sheet[from..from + bytes.len()].copy_from_slice(&bytes);
+        match &at[..1] {
+            "B" => sheet[14] |= 1,
+            "V" => sheet[14] &= !2,
+            _ => {}
+        }
+        assert_eq!(run(at, apdu).sheet, sheet, "{at} {apdu}");
+    }
+    // These move the count as well.
+    let two = run("L1", "03D701332001AABBCCDD").sheet;
+    assert_eq!((&two[46..48], &two[64..68]), (&[0, 2][..], &hex("AABBCCDD")[..]));
+    let second = run("L1", "03D7013310020102").sheet;
+    assert_eq!((&second[46..48], &second[64..68]), (&[0, 2][..], &hex("03E80102")[..]));
+}
+
+#[test]
+fn bit_table() {
+    for (and, xor, new) in
+        [("00", "00", "00"), ("00", "FF", "FF"), ("FF", "00", "A0"), ("FF", "FF", "5F")]
+    {
+        let after = run("L2", &format!("03D0010100{and}{xor}"));
+        assert_eq!(after.answer, hex(&format!("02410100{new}")));
+    }
+}
+
+#[test]
+fn sessions_and_button() {
+    let mut session = Session { open: true, level: 0 };
+    assert_eq!(connect(&mut session), 1);
+    assert_eq!(session, Session { open: true, level: 3 });
+    assert_eq!(disconnect(&mut session), 1);
+    assert_eq!(session, Session::FRESH);
+
+    assert_eq!(run("L0", "0380").session, Session::FRESH);
+    assert_eq!(run("L0", "03D302AABBCCDD").session, Session { open: true, level: 0 });
+
+    let mut sheet = SAMPLE;
+    assert_eq!((button(&mut sheet, true), sheet[14]), (1, 3));
+    let mut buffer = [0; 16];
+    session = Session { open: true, level: 200 };
+    let apdu = hex("03D302AABBCCDD");
+    let reply = request(&mut session, 3, 0, &apdu, &mut sheet, &mut buffer);
+    assert_eq!((reply, session.level), (Reply { outcome: 11, count: 3 }, 200));
+    let reply = request(&mut session, 3, 0, &[3, 0x80], &mut sheet, &mut buffer);
+    assert_eq!((reply, sheet[14]), (Reply { outcome: 1, count: 0 }, 2));
+    assert_eq!((button(&mut sheet, false), sheet), (1, SAMPLE));
+    sheet[0] = 2;
+    assert_eq!((button(&mut sheet, true), sheet[14]), (4, 2));
+}
+
+#[test]
+fn order_of_refusals() {
+    let mut session = Session::FRESH;
+    let mut bad = SAMPLE;
+    bad[0] = 2;
+    let mut good = SAMPLE;
+    let mut ask = |sheet: &mut [u8], room, mode, apdu: &[u8]| {
+        let mut buffer = vec![9; room];
+        let reply = request(&mut session, mode, 0, apdu, sheet, &mut buffer);
+        assert!(buffer.iter().all(|&b| b == 9) && reply.count == 0);
+        reply.outcome
+    };
+    assert_eq!(ask(&mut bad, 15, 4, &[]), 3);
+    assert_eq!(ask(&mut bad, 16, 4, &[]), 4);
+    assert_eq!(ask(&mut good, 16, 4, &[]), 5);
+    assert_eq!(ask(&mut good, 16, 4, &[0; 17]), 5);
+    assert_eq!(ask(&mut good, 16, 4, &[1, 0x40]), 6);
+    assert_eq!(ask(&mut good, 16, 3, &[1, 0x40]), 7);
+    assert_eq!(ask(&mut good, 16, 2, &[1, 0x40, 0]), 8);
+    assert_eq!(ask(&mut good, 16, 2, &[1, 0, 0]), 9);
+    assert_eq!(ask(&mut good, 16, 1, &[1, 0, 0]), 10);
+    assert_eq!(ask(&mut good, 16, 1, &[1, 0]), 2);
+}
+
+/// Reads, compares, and writes back; `back` is what writing gives.
+fn reads(apdu: &str, pdu: Pdu, data: &str, back: &str) {
+    let bytes = hex(apdu);
+    let (found, range) = pdu::read(&bytes).unwrap_or_else(|n| panic!("{apdu}: {n}"));
+    assert_eq!((found, &bytes[range]), (pdu, &hex(data)[..]), "{apdu}");
+    let mut out = [0x5A; 18];
+    let count = pdu::write(&pdu, &hex(data), &mut out).unwrap();
+    assert_eq!(out[..count], hex(back), "{apdu}");
+    assert!(out[count..].iter().all(|&b| b == 0x5A));
+}
+
+#[test]
+fn layouts() {
+    let serial = [0, 0xC5, 1, 2, 3, 4];
+    let key = [0x22; 4];
+    let (object, id, index) = (1, 0x33, 0);
+    let address = 0x0100;
+    let same = |apdu: &str, pdu: Pdu, data: &str| reads(apdu, pdu, data, apdu);
+    same("0000", Pdu::GroupRead, "");
+    same("004055", Pdu::GroupResponse { v: 0 }, "55");
+    same("0041", Pdu::GroupResponse { v: 1 }, "");
+    same("0040", Pdu::GroupResponse { v: 0 }, "");
+    same("008055", Pdu::GroupWrite { v: 0 }, "55");
+    same("0081", Pdu::GroupWrite { v: 1 }, "");
+    same("00BF", Pdu::GroupWrite { v: 63 }, "");
+    same("0080", Pdu::GroupWrite { v: 0 }, "");
+    same("00C01105", Pdu::AddressWrite { address: 0x1105 }, "");
+    same("0100", Pdu::AddressRead, "");
+    same("0140", Pdu::AddressResponse, "");
+    same("03DC00C501020304", Pdu::SerialRead { serial }, "");
+    same("03DD00C5010203040000 0000", Pdu::SerialResponse { serial, domain: 0 }, "");
+    reads(
+        "03DD00C5010203041234 5678",
+        Pdu::SerialResponse { serial, domain: 0x1234 },
+        "",
+        "03DD00C5010203041234 0000",
+    );
+    same("03DE00C501020304110500000000", Pdu::SerialWrite { serial, address: 0x1105 }, "");
+    reads(
+        "03DE00C5010203041105DEADBEEF",
+        Pdu::SerialWrite { serial, address: 0x1105 },
+        "",
+        "03DE00C501020304110500000000",
+    );
+    same("0300", Pdu::DescriptorRead { t: 0 }, "");
+    same("0340", Pdu::DescriptorResponse { t: 0 }, "");
+    same("034007B0", Pdu::DescriptorResponse { t: 0 }, "07B0");
+    same("037F", Pdu::DescriptorResponse { t: 63 }, "");
+    same("03D501331001", Pdu::PropertyRead { object, id, n: 1, s: 1 }, "");
+    same("03D60133100103E8", Pdu::PropertyResponse { object, id, n: 1, s: 1 }, "03E8");
+    same("03D601330001", Pdu::PropertyResponse { object, id, n: 0, s: 1 }, "");
+    same("03D7013310010384", Pdu::PropertyWrite { object, id, n: 1, s: 1 }, "0384");
+    same("03D8013300", Pdu::DescriptionRead { object, id, index }, "");
+    same(
+        "03D901330084000231",
+        Pdu::DescriptionResponse { object, id, index, kind: 0x84, maximum: 2, access: 0x31 },
+        "",
+    );
+    same(
+        "03D9013300FF0FFFFF",
+        Pdu::DescriptionResponse { object, id, index, kind: 255, maximum: 4095, access: 255 },
+        "",
+    );
+    same("02040100", Pdu::MemoryRead { n: 4, address }, "");
+    same("020F0100", Pdu::MemoryRead { n: 15, address }, "");
+    same("02440100A0A1A2A3", Pdu::MemoryResponse { n: 4, address }, "A0A1A2A3");
+    same("02400100", Pdu::MemoryResponse { n: 0, address }, "");
+    same("0281010055", Pdu::MemoryWrite { n: 1, address }, "55");
+    same("03D00101000FF0", Pdu::MemoryBitWrite { n: 1, address }, "0FF0");
+    same("03D10022222222", Pdu::AuthorizeRequest { key }, "");
+    reads("03D15522222222", Pdu::AuthorizeRequest { key }, "", "03D10022222222");
+    same("03D201", Pdu::AuthorizeResponse { level: 1 }, "");
+    same("03D301AABBCCDD", Pdu::KeyWrite { level: 1, key: [0xAA, 0xBB, 0xCC, 0xDD] }, "");
+    same("03D401", Pdu::KeyResponse { level: 1 }, "");
+    same("03D4FF", Pdu::KeyResponse { level: 255 }, "");
+    same("0380", Pdu::Restart, "");
+    reads("FF80", Pdu::Restart, "", "0380");
+    same(
+        "004000112233445566778899AABBCCDD",
+        Pdu::GroupResponse { v: 0 },
+        "00112233445566778899AABBCCDD",
+    );
+}
+
+#[test]
+fn reading_refused() {
+    let five = ["", "03", "0000000000000000000000000000000000"];
+    #[rustfmt::skip]
+    let ten = [
+        "000000", "008155", "004155", "00C0", "00C00102FF", "010000", "014000", "03DC", "03DD",
+        "03DE", "03DE00C5010203041105", "030000", "03D5", "03D6", "03D60133 10", "03D7",
+        "03D701331001", "03D8", "03D9", "03D9013300841000 31", "03D90133008400", "0200", "0240",
+        "0280", "020401", "0281010011 22", "0244010011", "024D0100 000000000000000000000000",
+        "028D0100 000000000000000000000000", "03D0", "03D001",
+        "03D0060100 0102030405060708090A0B", "03D0 FF 0100", "03D1", "03D2", "03D20102", "03D3",
+        "03D4", "038001",
+    ];
+    for (list, number) in [(&five[..], 5), (&ten[..], 10)] {
+        for apdu in list {
+            assert_eq!(pdu::read(&hex(apdu)), Err(number), "{apdu}");
+        }
+    }
+    #[rustfmt::skip]
+    let unknown = [
+        "03DF", "0180", "01C0", "02C4", "02C5", "02C6", "03E0", "03E1", "03E2", "03E3", "0001",
+        "003F", "00C1", "0101", "0141", "02100100", "0250", "0290", "03810100", "03A1000000",
+        "02C0040200", "02C1040200B0B1B2B3", "02C1000200", "02C20202011122", "02C0140200", "02C0",
+        "02C1", "02C2",
+    ];
+    for apdu in unknown {
+        assert_eq!(pdu::read(&hex(apdu)), Err(8), "{apdu}");
+    }
+    for low in 0xC0..=0xCF {
+        assert_eq!(pdu::read(&[3, low]), Err(8));
+    }
+}
+
+#[test]
+fn writing_refused() {
+    let cases = [
+        (Pdu::GroupRead, 1),
+        (Pdu::GroupWrite { v: 64 }, 0),
+        (Pdu::GroupWrite { v: 1 }, 1),
+        (Pdu::GroupResponse { v: 0 }, 15),
+        (Pdu::DescriptorRead { t: 64 }, 0),
+        (Pdu::DescriptorResponse { t: 64 }, 0),
+        (Pdu::DescriptorResponse { t: 0 }, 15),
+        (Pdu::PropertyRead { object: 0, id: 0, n: 16, s: 0 }, 0),
+        (Pdu::PropertyRead { object: 0, id: 0, n: 0, s: 4096 }, 0),
+        (Pdu::PropertyWrite { object: 0, id: 0, n: 1, s: 1 }, 0),
+        (Pdu::PropertyWrite { object: 0, id: 0, n: 1, s: 1 }, 11),
+        (Pdu::PropertyResponse { object: 0, id: 0, n: 1, s: 1 }, 11),
+        (Pdu::MemoryRead { n: 16, address: 0 }, 0),
+        (Pdu::MemoryWrite { n: 2, address: 0 }, 1),
+        (Pdu::MemoryWrite { n: 13, address: 0 }, 13),
+        (Pdu::MemoryResponse { n: 13, address: 0 }, 13),
+        (Pdu::MemoryBitWrite { n: 6, address: 0 }, 12),
+        (Pdu::MemoryBitWrite { n: 1, address: 0 }, 1),
+        (
+            Pdu::DescriptionResponse {
+                object: 0,
+                id: 0,
+                index: 0,
+                kind: 0,
+                maximum: 4096,
+                access: 0,
+            },
+            0,
+        ),
+    ];
+    for (pdu, length) in cases {
+        let mut out = [0x5A; 16];
+        assert_eq!(pdu::write(&pdu, &vec![0; length], &mut out), Err(13), "{pdu:?} {length}");
+        assert_eq!(pdu::write(&pdu, &vec![0; length], &mut out[..15]), Err(3));
+        assert_eq!(out, [0x5A; 16]);
+    }
+    assert_eq!(pdu::write(&Pdu::Restart, &[], &mut [0; 15]), Err(3));
+}
+
+#[test]
+fn rules_of_the_sheet() {
+    assert_eq!(sheet::check(&SAMPLE), 0);
+    assert_eq!(sheet::check(&[]), 1);
+    assert_eq!(sheet::check(&SAMPLE[..31]), 1);
+    assert_eq!(sheet::check(&SAMPLE[..68]), 4);
+    assert_eq!(sheet::check(&vec![1; 16_385]), 1);
+    // position, new byte, rule
+    #[rustfmt::skip]
+    let cases = [
+        (0, 0, 2), (1, 17, 3), (2, 65, 3), (3, 65, 3), (1, 6, 4), (5, 0x44, 4), (14, 4, 5),
+        (15, 1, 5), (30, 1, 5), (31, 1, 5), (35, 0, 6), (34, 0xFF, 6), (38, 0x42, 6),
+        (38, 0x34, 6), (39, 1, 6), (41, 0, 7), (42, 0xC4, 7), (43, 0, 7), (43, 11, 7),
+        (45, 0, 7), (44, 16, 7), (47, 3, 7), (50, 0x41, 7), (50, 0x34, 7), (51, 1, 7),
+        (54, 15, 8), (55, 8, 8), (58, 1, 8), (59, 1, 8), (35, 5, 9), (37, 0x3D, 9), (43, 3, 9),
+        (49, 0x41, 9), (54, 2, 9), (57, 0x45, 9), (54, 0, 0), (38, 0x33, 0), (14, 3, 0),
+        (47, 2, 0), (55, 7, 0),
+    ];
+    for (at, byte, rule) in cases {
+        let mut sheet = SAMPLE;
+        sheet[at] = byte;
+        assert_eq!(sheet::check(&sheet), rule, "byte {at} = {byte}");
+    }
+    // A six-bit value of 64; a misplaced body yields to a bad entry further on.
+    let mut sheet = SAMPLE;
+    (sheet[54], sheet[68]) = (0, 64);
+    assert_eq!(sheet::check(&sheet), 9);
+    let mut sheet = SAMPLE;
+    (sheet[37], sheet[55]) = (0, 8);
+    assert_eq!(sheet::check(&sheet), 8);
+    // The bare head, and a full address space behind one region.
+    let mut bare = [0; 32];
+    (bare[0], bare[5]) = (1, 32);
+    assert_eq!(sheet::check(&bare), 0);
+    let mut sheet = SAMPLE;
+    (sheet[32], sheet[33]) = (0xFF, 0xFC);
+    assert_eq!(sheet::check(&sheet), 0);
+    sheet[33] = 0xFD;
+    assert_eq!(sheet::check(&sheet), 6);
+}
+
+#[test]
+fn lookups() {
+    assert_eq!(sheet::region(&SAMPLE, 0), (60, 4));
+    assert_eq!(sheet::property(&SAMPLE, 1, 0x33), (64, 4));
+    assert_eq!(sheet::group(&SAMPLE, 0x0801), (68, 1));
+    assert_eq!(sheet::region(&SAMPLE, 1), (0, 0));
+    assert_eq!(sheet::property(&SAMPLE, 1, 0), (0, 0));
+    assert_eq!(sheet::group(&SAMPLE, 0), (0, 0));
+    let bad = &SAMPLE[..68];
+    assert_eq!((sheet::region(bad, 0), sheet::property(bad, 1, 0x33)), ((0, 0), (0, 0)));
+    assert_eq!(sheet::group(bad, 0x0801), (0, 0));
+}
