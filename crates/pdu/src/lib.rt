@@ -1,4 +1,6 @@
 // The PDU layer: reads and writes the PDUs of the service table.
+mod bits;
+mod take;
 
 // The services, then the answers, in the table's order.
 pub enum Service {
