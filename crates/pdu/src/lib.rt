@@ -1,5 +1,6 @@
 // The PDU layer: reads and writes the PDUs of the service table.
 mod bits;
+mod rules;
 mod take;
 
 // The services, then the answers, in the table's order.
