@@ -2,8 +2,10 @@
 ghost use mathlib.Core.Path.{_≡_};
 ghost use Rattle.pdu.specs.Table.{serviceAt};
 ghost use Rattle.pdu.specs.Rules.{codeOf};
+ghost use Rattle.pdu.specs.Read.{readPdu};
 
 mod bits;
+mod parse;
 mod rules;
 mod take;
 
@@ -190,5 +192,22 @@ pub fn service_of(code: u16) -> Found
                 _ => Found::Unknown,
             },
         },
+    }
+}
+
+// The PDU in the bytes, or the number of the refusal.
+pub fn read(apdu: &[u8]) -> Parsed
+    ensures { λ r. ⌜ r ≡ readPdu (now (apdu .entry)) ⌝ }
+{
+    if apdu.len() < 2 {
+        return Parsed::Refused(5);
+    }
+    if 16 < apdu.len() {
+        return Parsed::Refused(5);
+    }
+    let found = service_of(code(apdu));
+    match found {
+        Found::Listed(k) => parse::judged(k, apdu),
+        Found::Unknown => Parsed::Refused(8),
     }
 }
