@@ -1,3 +1,4 @@
 pub mod Arms
 pub mod Find
 pub mod Reading
+pub mod Stores

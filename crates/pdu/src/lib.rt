@@ -5,6 +5,7 @@ ghost use Rattle.pdu.specs.Rules.{codeOf};
 ghost use Rattle.pdu.specs.Read.{readPdu};
 
 mod bits;
+mod head;
 mod parse;
 mod rules;
 mod take;
