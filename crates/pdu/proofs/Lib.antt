@@ -2,3 +2,4 @@ pub mod Arms
 pub mod Find
 pub mod Reading
 pub mod Stores
+pub mod Writing

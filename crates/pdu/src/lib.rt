@@ -2,7 +2,8 @@
 ghost use mathlib.Core.Path.{_≡_};
 ghost use Rattle.pdu.specs.Table.{serviceAt};
 ghost use Rattle.pdu.specs.Rules.{codeOf};
-ghost use Rattle.pdu.specs.Read.{readPdu};
+ghost use Rattle.pdu.specs.Read.{readPdu, dataOf};
+ghost use Rattle.pdu.specs.Write.{Wrote};
 
 mod bits;
 mod head;
@@ -210,5 +211,37 @@ pub fn read(apdu: &[u8]) -> Parsed
     match found {
         Found::Listed(k) => parse::judged(k, apdu),
         Found::Unknown => Parsed::Refused(8),
+    }
+}
+
+// The data of a PDU that was read from the bytes.
+pub fn data_of(pdu: Pdu, apdu: &[u8]) -> &[u8]
+    ensures { λ r. ⌜ now r ≡ dataOf pdu (now (apdu .entry)) ⌝ }
+{
+    let at = head::data_at(pdu);
+    if at <= apdu.len() {
+        &apdu[at..]
+    } else {
+        &apdu[apdu.len()..]
+    }
+}
+
+// The PDU's bytes at the front of out: their count, or the number of the refusal, and then out is as it was.
+pub fn write(pdu: Pdu, data: &[u8], out: &mut [u8]) -> Written
+    ensures { λ r. ⌜ Wrote pdu (now («data» .entry)) (now (out .entry)) r (now (out .exit)) ⌝ }
+{
+    if out.len() < 16 {
+        return Written::Refused(3);
+    }
+    let at = head::data_at(pdu);
+    if 16 < at + data.len() {
+        return Written::Refused(13);
+    }
+    if rules::allowed(pdu, at + data.len()) {
+        head::put_head(pdu, out);
+        octets::splice(out, at, data);
+        Written::Bytes(at + data.len())
+    } else {
+        Written::Refused(13)
     }
 }
