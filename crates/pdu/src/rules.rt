@@ -1,6 +1,6 @@
 // Whether a PDU may stand in so many bytes: the rules of the table, by kind of row.
 ghost use mathlib.Core.Path.{_≡_};
-ghost use Prim.Native.Nat.{_+_, _*_, _≤_};
+ghost use Prim.Native.Nat.{_+_, _≤_};
 ghost use Rattle.pdu.specs.Tests.{isBelow, isAtMost, isEqual, both, either};
 ghost use Rattle.pdu.specs.Write.{fitsIn};
 use crate::Pdu;
