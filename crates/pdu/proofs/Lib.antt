@@ -1,0 +1,10 @@
+pub mod Truths
+pub mod Allowed
+pub mod Formed
+pub mod Sound
+pub mod Stands
+pub mod Codes
+pub mod Items
+pub mod Outcomes
+pub mod Only
+pub mod Back
