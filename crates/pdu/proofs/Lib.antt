@@ -8,3 +8,5 @@ pub mod Items
 pub mod Outcomes
 pub mod Only
 pub mod Back
+pub mod Kept
+pub mod Again
