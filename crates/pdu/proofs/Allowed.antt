@@ -1,14 +1,14 @@
 -- The test of a row says what the row allows.
 -- Assumes nothing.
 use Prim.Native.Nat.{ℕ, _+_, _*_, _≤_, _<_}
-use mathlib.Core.Path.{_≡_, refl}
-use mathlib.Core.Logic.{_↔_, _⊎_, inl, inr, ⊎-elim}
-use mathlib.Core.Bool.{Bool, true, false}
+use mathlib.Core.Path.{_≡_}
+use mathlib.Core.Logic.{_↔_, inl, inr, ⊎-elim}
+use mathlib.Core.Bool.{Bool, true}
 use mathlib.Core.List.{List, [], _∷_}
-use Rattle.pdu.specs.Tests.{isBelow, isAtMost, isEqual, both, either}
+use Rattle.pdu.specs.Tests.{isBelow, isAtMost, isEqual, both}
 use Rattle.pdu.specs.Item.{Item, low, num, cap, duo, skip, Tail, none, by, twice, between, group, Row, Value, the}
 use Rattle.pdu.specs.Rules.{under, suits, fits, headOf}
-use Rattle.pdu.specs.Allows.{Within, AllWithin, Length, Allows, AllWide}
+use Rattle.pdu.specs.Allows.{AllWithin, Length, Allows, AllWide}
 use Rattle.pdu.proofs.Truths.{both-is, either-is, below-is, at-most-is, equal-is}
 
 below-and : (y m : ℕ) (t : Bool) (A B : Type 0) → (t ≡ true) ↔ (A × B) → (both (isBelow y m) t ≡ true) ↔ (((y < m) × A) × B)

@@ -1,22 +1,18 @@
 -- Reading back what was written gives the same PDU and the same data: over the table, for any row.
 -- Assumes nothing.
-use Prim.Native.Nat.{ℕ, _+_, _≤_, _<_}
-use mathlib.Core.Path.{_≡_, refl, sym, ap, subst, _∙_}
-use mathlib.Core.Bool.{Bool, true, false}
+use Prim.Native.Nat.{ℕ, _+_}
+use mathlib.Core.Path.{_≡_, sym, ap, _∙_}
 use mathlib.Core.List.{List, _++_}
 use native.Mathlib.Omega.{arith}
-use lib.Dec.{ltb}
 use lib.ListN.{length, take, drop, length-append}
 use lib.Seq.{take-at, drop-at}
-use borrow.Author.Tests.{ltb-false}
-use Rattle.octets.specs.Splice.{splice}
 use Rattle.octets.proofs.Splices.{splice-front}
-use Rattle.pdu.specs.Item.{Row, Value, pick}
+use Rattle.pdu.specs.Item.{Row, Value}
 use Rattle.pdu.specs.Table.{rowOf}
 use Rattle.pdu.specs.Pdus.{serviceOf, valuesOf}
-use Rattle.pdu.specs.Rules.{headBytes, valuesAt}
+use Rattle.pdu.specs.Rules.{headBytes}
 use Rattle.pdu.specs.Read.{readPdu, dataAt, dataOf}
-use Rattle.pdu.specs.Write.{encoded, writable, writeOf, bufferOf, Wrote}
+use Rattle.pdu.specs.Write.{encoded, bufferOf, Wrote}
 use Rattle.pdu.specs.Allows.{Allows, Typed, Carries}
 use Rattle.pdu.proofs.Formed.{formed-says}
 use Rattle.pdu.proofs.Sound.{sound, shown}
@@ -26,7 +22,7 @@ use Rattle.pdu.proofs.Only.{writes-bytes}
 use Rattle.pdu.specs.declared.Pdu.{Pdu}
 use Rattle.pdu.specs.declared.Parsed.the-variants.{Is}
 use Rattle.pdu.specs.declared.Written.{Written}
-use Rattle.pdu.specs.declared.Written.the-variants.{Bytes, Refused}
+use Rattle.pdu.specs.declared.Written.the-variants.{Bytes}
 
 -- the bytes of a PDU are as many as its place of data and its data say
 pub length-encoded : (p : Pdu) (d : List ℕ) → length (encoded p d) ≡ dataAt p + length d

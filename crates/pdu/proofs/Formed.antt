@@ -2,7 +2,6 @@
 -- Assumes nothing.
 use Prim.Native.Nat.{ℕ, _+_, _-_, _%_, _^_, _≤_, _<_}
 use mathlib.Core.Path.{_≡_, refl, sym, ap, _∙_}
-use mathlib.Core.Logic.{_⊎_, inl, inr, ⊎-elim}
 use mathlib.Core.Bool.{Bool, true, false, _&&_}
 use mathlib.Core.List.{List, [], _∷_}
 use native.Mathlib.Nat.{zero-add, mod-eq-of-lt, mod-add-mod, mod-mod-of-dvd, dvd-of-mod-eq-zero}
@@ -10,8 +9,8 @@ use native.Mathlib.Omega.{arith}
 use lib.Dec.{leb, eqb}
 use borrow.Author.Tests.{leb-true, eqb-true}
 use Rattle.pdu.specs.Item.{Item, low, num, cap, duo, skip, Tail, none, by, twice, between, group, Row, Value, the}
-use Rattle.pdu.specs.Rules.{headOf, codeBy, codeFor}
-use Rattle.pdu.specs.Allows.{Within, AllWithin, Length}
+use Rattle.pdu.specs.Rules.{headOf, codeBy}
+use Rattle.pdu.specs.Allows.{AllWithin, Length}
 use Rattle.pdu.proofs.Truths.{never, and-is}
 
 -- items none of which stands in the code

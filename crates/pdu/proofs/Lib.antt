@@ -10,3 +10,4 @@ pub mod Only
 pub mod Back
 pub mod Kept
 pub mod Again
+pub mod Vectors

@@ -2,14 +2,14 @@
 -- Assumes nothing.
 use Prim.Native.Nat.{ℕ, _+_, _≤_, _<_}
 use mathlib.Core.Path.{_≡_, refl, sym, ap, _∙_}
-use mathlib.Core.Logic.{_↔_, _⊎_, inl, inr, ⊎-elim}
+use mathlib.Core.Logic.{_↔_, ⊎-elim}
 use mathlib.Core.Bool.{Bool, true, false}
 use mathlib.Core.List.{List}
 use native.Mathlib.Omega.{arith}
 use lib.Dec.{ltb}
 use lib.ListN.{length}
 use borrow.Author.Tests.{ltb-true, ltb-false, lt-ltb, le-ltb}
-use Rattle.pdu.specs.Tests.{isAtMost, both}
+use Rattle.pdu.specs.Tests.{isAtMost}
 use Rattle.pdu.specs.Item.{pick}
 use Rattle.pdu.specs.Table.{rowOf}
 use Rattle.pdu.specs.Pdus.{serviceOf, valuesOf}
@@ -17,7 +17,7 @@ use Rattle.pdu.specs.Read.{dataAt}
 use Rattle.pdu.specs.Write.{fitsIn, writable, writeOf, writeOutcome}
 use Rattle.pdu.specs.Allows.{Allows, Typed}
 use Rattle.pdu.proofs.Truths.{never, decided, both-is, at-most-is}
-use Rattle.pdu.proofs.Allowed.{fits-is, wide}
+use Rattle.pdu.proofs.Allowed.{fits-is}
 use Rattle.pdu.specs.declared.Pdu.{Pdu}
 use Rattle.pdu.specs.declared.Written.{Written}
 use Rattle.pdu.specs.declared.Written.the-variants.{Bytes, Refused}

@@ -6,7 +6,6 @@ use mathlib.Core.Logic.{_↔_, _⊎_, inl, inr}
 use mathlib.Core.Bool.{Bool, true, false, _&&_}
 use borrow.Author.Tests.{ltb-true, leb-true, eqb-true, lt-ltb, le-leb, eq-eqb}
 use Rattle.pdu.specs.Tests.{isBelow, isAtMost, isEqual, both, either}
-use Rattle.pdu.specs.Item.{pick}
 
 -- false is not true
 pub never {ℓ} : {A : Type ℓ} → false ≡ true → A
