@@ -3,3 +3,16 @@ pub mod Find
 pub mod Reading
 pub mod Stores
 pub mod Writing
+pub mod Truths
+pub mod Allowed
+pub mod Formed
+pub mod Sound
+pub mod Stands
+pub mod Codes
+pub mod Items
+pub mod Outcomes
+pub mod Only
+pub mod Back
+pub mod Kept
+pub mod Again
+pub mod Vectors
