@@ -1,0 +1,5 @@
+pub mod Carry
+pub mod Step
+pub mod Events
+pub mod Asked
+pub mod Right

@@ -1,0 +1,9 @@
+// The device: a request judged, carried out and answered.
+use judge::Session;
+
+// What a request gave: the outcome, the count of bytes answered, the session afterwards.
+pub struct Done {
+    pub outcome: u8,
+    pub count: usize,
+    pub session: Session,
+}

@@ -1,0 +1,7 @@
+pub mod Tests
+pub mod Item
+pub mod Table
+pub mod Pdus
+pub mod Rules
+pub mod Read
+pub mod Write
