@@ -1,0 +1,27 @@
+// The device sheet: its rules, its entries and their bodies.
+
+// A run of sheet bytes that an address range is, with the levels that it stands under.
+pub enum Run {
+    At { offset: usize, levels: u8 },
+    Nowhere,
+}
+
+// The fields of a property's entry, and where the entry stands.
+pub struct PropertyEntry {
+    pub object: u8,
+    pub id: u8,
+    pub kind: u8,
+    pub element: usize,
+    pub maximum: usize,
+    pub count: usize,
+    pub offset: usize,
+    pub levels: u8,
+    pub place: usize,
+}
+
+// The fields of a group object's entry.
+pub struct GroupEntry {
+    pub code: usize,
+    pub flags: u8,
+    pub offset: usize,
+}
