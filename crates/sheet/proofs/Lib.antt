@@ -1,3 +1,5 @@
 pub mod First
 pub mod ByKind
 pub mod Demands
+pub mod Good
+pub mod Lie
