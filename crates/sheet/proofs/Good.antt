@@ -25,15 +25,15 @@ pub record Good (ed : ℕ) (s : List ℕ) : Type 0 where
 
 -- pass k judges the entries of kind k, pass k + 3 their bodies
 module _ (s : List ℕ) (i : ℕ) where
-  step-entry : (k : ℕ) → k < kinds → stepRule s k i ≡ breach (entryDemands s k i)
+  pub step-entry : (k : ℕ) → k < kinds → stepRule s k i ≡ breach (entryDemands s k i)
   unfolding stepRule
   step-entry = eachKind (λ (k : ℕ). stepRule s k i ≡ breach (entryDemands s k i)) refl refl refl
 
-  step-body : (k : ℕ) → stepRule s (suc (suc (suc k))) i ≡ breach (bodyDemands s k i)
+  pub step-body : (k : ℕ) → stepRule s (suc (suc (suc k))) i ≡ breach (bodyDemands s k i)
   unfolding stepRule
   step-body k = rw (le-ltb (suc (suc (suc k))) 3 (omega arith))
 
-  entry-named : (k : ℕ) → k < kinds → T (named (entryDemands s k i))
+  pub entry-named : (k : ℕ) → k < kinds → T (named (entryDemands s k i))
   unfolding entryDemands
   entry-named = eachKind (λ (k : ℕ). T (named (entryDemands s k i))) tt tt tt
 

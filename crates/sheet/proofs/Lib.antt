@@ -3,3 +3,7 @@ pub mod ByKind
 pub mod Demands
 pub mod Good
 pub mod Lie
+pub mod Says
+pub mod Untils
+pub mod Ties
+pub mod Plains
