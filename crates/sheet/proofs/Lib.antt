@@ -10,3 +10,6 @@ pub mod Ties
 pub mod Plains
 pub mod Standing
 pub mod Positions
+pub mod Seeks
+pub mod Keys
+pub mod Ranks
