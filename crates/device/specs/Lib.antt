@@ -3,3 +3,4 @@ pub mod Step
 pub mod Events
 pub mod Asked
 pub mod Right
+pub mod Safe

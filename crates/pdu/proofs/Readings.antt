@@ -7,7 +7,7 @@ use mathlib.Core.List.{List}
 use native.Mathlib.Omega.{arith}
 use lib.Dec.{ltb}
 use lib.ListN.{length}
-use borrow.Author.Tests.{ltb-false}
+use borrow.Author.Tests.{ltb-false, le-ltb}
 use Rattle.pdu.specs.Item.{Value, pick}
 use Rattle.pdu.specs.Table.{rowOf, serviceAt}
 use Rattle.pdu.specs.Pdus.{serviceOf, valuesOf}
@@ -69,3 +69,14 @@ module _ (b : List ℕ) where
         go false h true k e = let z : _≡_ {A = ℕ} 0 1 = cc in absurd (omega arith)
         go false h false k e =
             by-code (ltb-false (length b) 2 h) (ltb-false 16 (length b) k) (serviceAt (codeOf b)) refl e
+
+  -- what a row does not let stand is refused by 10, and by no other number
+  pub refused-row :
+      (k : Service) (n : ℕ) → 2 ≤ length b → length b ≤ 16 → serviceAt (codeOf b) ≡ Listed k → readPdu b ≡ Refused n → n ≡ 10
+  unfolding readPdu
+  refused-row k n l m e q =
+      go (fits (rowOf k) (valuesAt (rowOf k .items) 2 b) (length b)) (simp (le-ltb (length b) 2 l, le-ltb 16 (length b) m, e) at q)
+    where
+      go : (t : Bool) → pick t (Is (builtOf k b)) (Refused 10) ≡ Refused n → n ≡ 10
+      go true q = cc
+      go false q = cc

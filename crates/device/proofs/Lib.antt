@@ -1,0 +1,5 @@
+pub mod Writing
+pub mod Given
+pub mod Stores
+pub mod Taking
+pub mod Judged
