@@ -4,7 +4,7 @@ use Prim.Native.Nat.{ℕ, zero, suc, _+_, _≤_}
 use mathlib.Core.Path.{_≡_, refl, sym, ap, _∙_}
 use mathlib.Core.List.{List, [], _∷_, _++_}
 use native.Mathlib.Omega.{arith}
-use lib.ListN.{length, take, drop, replicate, length-append}
+use lib.ListN.{length, replicate, length-append, length-replicate}
 use Rattle.octets.specs.Bytes.{bytesOf}
 use Rattle.octets.specs.Splice.{splice}
 use Rattle.octets.proofs.Numbers.{length-bytes}
@@ -21,7 +21,7 @@ length-build (suc n) f = length-append (build n f) (f n ∷ []) ∙ omega (arith
 
 length-copies : (n b : ℕ) → length (replicate n b) ≡ n
 length-copies zero b = refl
-length-copies (suc n) b = ap suc (length-copies n b)
+length-copies (suc n) b = ap suc (length-replicate n b)
 
 -- A STORE LEAVES THE LENGTH
 pub length-store : (s d : List ℕ) (k : Store) → StoreSafe s d k → length (storeOf s d k) ≡ length s
@@ -29,4 +29,4 @@ length-store s d store.Nothing h = refl
 length-store s d (store.Number at w x) h = length-splice s at (bytesOf w x) (omega (arith, length-bytes w x))
 length-store s d (store.Data at) h = length-splice s at d h
 length-store s d (store.Bits at n) h = length-splice s at (build n (bitAt s at n d)) (omega (arith, length-build n (bitAt s at n d)))
-length-store s d (store.Fill at n b) h = length-splice s at (replicate n b) (omega (arith, length-copies n b))
+length-store s d (store.Fill at n b) h = length-splice s at (replicate n b) (omega (arith, length-replicate n b))
