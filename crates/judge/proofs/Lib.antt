@@ -1,0 +1,4 @@
+pub mod Laws
+pub mod Arms
+pub mod Values
+pub mod Grouped
