@@ -24,7 +24,7 @@ module _ (o o₁ o₂ : List ℕ) (k w x : ℕ) where
       o₁ ≡ splice o 0 (bytesOf 2 k ++ []) → o₂ ≡ splice o₁ 2 (bytesOf w x) → o₂ ≡ splice o 0 (bytesOf 2 k ++ (bytesOf w x ++ []))
   after-none e f =
       longer o o₁ o₂ (bytesOf 2 k ++ []) (bytesOf w x) 2 (simp (length-append, length-bytes)) e f
-      ∙ ap (splice o 0) (simp (append-assoc, append-nil))
+      ∙ ap (splice o 0) (simp append-nil)
 
   pub after-one :
       (v y : ℕ) →

@@ -5,7 +5,7 @@ ghost use Rattle.pdu.specs.Rules.{codeOf};
 ghost use Rattle.pdu.specs.Read.{readPdu, readOutcome, dataOf};
 ghost use Rattle.pdu.specs.Write.{Wrote};
 
-mod bits;
+mod fields;
 mod head;
 mod parse;
 mod rules;

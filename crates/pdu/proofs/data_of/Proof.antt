@@ -10,5 +10,5 @@ data-of-spec =
     tie.close
     (tie.spec
     (λ c κs. search needs)
-    (λ c. search needs) (λ c. search needs) (λ c. search needs) (λ c. search needs) (λ c. search needs) (λ c. search needs) (λ c. search (rest-from, rest-past))
-    (λ c. search (rest-from, rest-past)))
+    (λ c. search needs) (λ c. search needs) (λ c. search needs) (λ c. search needs) (λ c. search needs) (λ c. search needs) (λ c. search rest-from)
+    (λ c. search rest-past))

@@ -9,11 +9,11 @@ pub read-spec : {M : Type 1} → statement M
 read-spec =
     tie.close
     (tie.spec
-    (λ c. search (too-short, too-long, by-code, no-code))
-    (λ c. search (too-short, too-long, by-code, no-code))
+    (λ c. search too-short)
+    (λ c. search too-long)
     (λ c κs. search needs)
     (λ c κs. search needs)
     (λ c. search needs) (λ c κs. search needs)
     (λ c. search needs)
-    (λ c. search (too-short, too-long, by-code, no-code))
-    (λ c. search (too-short, too-long, by-code, no-code)))
+    (λ c. search by-code)
+    (λ c. search no-code))

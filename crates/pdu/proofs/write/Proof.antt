@@ -9,11 +9,11 @@ pub write-spec : {M : Type 1} → statement M
 write-spec =
     tie.close
     (tie.spec
-    (λ c. search (wrote-3, wrote-long, wrote-13, wrote-all))
+    (λ c. search wrote-3)
     (λ c κs. search needs)
-    (λ c. search needs) (λ c. search (wrote-3, wrote-long, wrote-13, wrote-all))
+    (λ c. search needs) (λ c. search wrote-long)
     (λ c. search needs) (λ c κs. search needs)
     (λ c κs. search needs)
     (λ c κs. search needs)
-    (λ c. search needs) (λ c. search needs) (λ c. search (wrote-3, wrote-long, wrote-13, wrote-all))
-    (λ c. search (wrote-3, wrote-long, wrote-13, wrote-all)))
+    (λ c. search needs) (λ c. search needs) (λ c. search wrote-all)
+    (λ c. search wrote-13))

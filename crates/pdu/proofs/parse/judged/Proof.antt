@@ -11,5 +11,5 @@ judged-spec =
     (tie.spec
     (λ c κs. search needs)
     (λ c κs. search needs)
-    (λ c. search (parsed, unfit))
-    (λ c. search (parsed, unfit)))
+    (λ c. search parsed)
+    (λ c. search unfit))
