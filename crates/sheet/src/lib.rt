@@ -1,4 +1,11 @@
 // The device sheet: its rules, its entries and their bodies.
+mod frame;
+mod judge;
+mod layout;
+mod table;
+mod walk;
+
+pub use walk::check;
 
 // A run of sheet bytes that an address range is, with the levels that it stands under.
 pub enum Run {
