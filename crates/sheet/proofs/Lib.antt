@@ -4,3 +4,15 @@ pub mod Demands
 pub mod Entries
 pub mod Bodies
 pub mod Rules
+pub mod Good
+pub mod Rising
+pub mod Lie
+pub mod Says
+pub mod Untils
+pub mod Ties
+pub mod Plains
+pub mod Standing
+pub mod Positions
+pub mod Seeks
+pub mod Keys
+pub mod Ranks
