@@ -16,3 +16,4 @@ pub mod Positions
 pub mod Seeks
 pub mod Keys
 pub mod Ranks
+pub mod Seek

@@ -30,6 +30,9 @@ pub mod head {
     pub const ZERO31: usize = 31;
 }
 
+// The first word of an entry of any kind.
+pub const KEY: usize = 0;
+
 pub mod region {
     pub const SIZE: usize = 8;
 
