@@ -1,4 +1,14 @@
 // Judging a request: what is decided about it, as a value made of numbers. Nothing is stored here.
+mod decisions;
+mod groups;
+mod levels;
+mod memory;
+mod modes;
+mod properties;
+
+ghost use mathlib.Core.Path.{_≡_};
+ghost use Rattle.judge.specs.Judge.{isShut};
+use levels::CONNECTED;
 use pdu::Pdu;
 
 // A connection: open or closed, and the level as found.
@@ -56,4 +66,14 @@ pub struct Decision {
     pub second: Store,
     pub turn: Turn,
     pub answer: Answer,
+}
+
+// Connected mode with no connection.
+fn is_shut(q: Session, mode: u8) -> bool
+    ensures { λ r. ⌜ r ≡ isShut q mode ⌝ }
+{
+    if mode != CONNECTED {
+        return false;
+    }
+    !q.opened
 }

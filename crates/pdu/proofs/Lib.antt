@@ -13,3 +13,7 @@ pub mod Kept
 pub mod Again
 pub mod Vectors
 pub mod Readings
+pub mod Find
+pub mod Reading
+pub mod Stores
+pub mod Writing

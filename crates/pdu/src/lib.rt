@@ -1,5 +1,13 @@
 // The PDU layer: reads and writes the PDUs of the service table.
-mod bits;
+ghost use mathlib.Core.Path.{_≡_};
+ghost use Rattle.pdu.specs.Table.{serviceAt};
+ghost use Rattle.pdu.specs.Rules.{codeOf};
+ghost use Rattle.pdu.specs.Read.{readPdu, readOutcome, dataOf};
+ghost use Rattle.pdu.specs.Write.{Wrote};
+
+mod fields;
+mod head;
+mod parse;
 mod rules;
 mod take;
 
@@ -142,4 +150,108 @@ pub enum Parsed {
 pub enum Written {
     Bytes(usize),
     Refused(u8),
+}
+
+// The service code of an APDU; missing bytes count as 0.
+pub fn code(apdu: &[u8]) -> u16
+    ensures { λ r. ⌜ r ≡ codeOf (now (apdu .entry)) ⌝ }
+{
+    (octets::number(apdu, 0, 2) % 1024) as u16
+}
+
+// What a code names, whatever the APDU's length.
+pub fn service_of(code: u16) -> Found
+    ensures { λ r. ⌜ r ≡ serviceAt code ⌝ }
+{
+    match code {
+        0x000 => Found::Listed(Service::GroupValueRead),
+        0x0C0 => Found::Listed(Service::IndividualAddressWrite),
+        0x100 => Found::Listed(Service::IndividualAddressRead),
+        0x3DC => Found::Listed(Service::SerialNumberRead),
+        0x3DE => Found::Listed(Service::SerialNumberWrite),
+        0x3D5 => Found::Listed(Service::PropertyValueRead),
+        0x3D7 => Found::Listed(Service::PropertyValueWrite),
+        0x3D8 => Found::Listed(Service::PropertyDescriptionRead),
+        0x3D0 => Found::Listed(Service::MemoryBitWrite),
+        0x3D1 => Found::Listed(Service::AuthorizeRequest),
+        0x3D3 => Found::Listed(Service::KeyWrite),
+        0x380 => Found::Listed(Service::Restart),
+        0x140 => Found::Listed(Service::IndividualAddressResponse),
+        0x3DD => Found::Listed(Service::SerialNumberResponse),
+        0x3D6 => Found::Listed(Service::PropertyValueResponse),
+        0x3D9 => Found::Listed(Service::PropertyDescriptionResponse),
+        0x3D2 => Found::Listed(Service::AuthorizeResponse),
+        0x3D4 => Found::Listed(Service::KeyResponse),
+        _ => match code / 64 {
+            1 => Found::Listed(Service::GroupValueResponse),
+            2 => Found::Listed(Service::GroupValueWrite),
+            12 => Found::Listed(Service::DeviceDescriptorRead),
+            13 => Found::Listed(Service::DeviceDescriptorResponse),
+            _ => match code / 16 {
+                32 => Found::Listed(Service::MemoryRead),
+                36 => Found::Listed(Service::MemoryResponse),
+                40 => Found::Listed(Service::MemoryWrite),
+                _ => Found::Unknown,
+            },
+        },
+    }
+}
+
+// The PDU in the bytes, or the number of the refusal.
+pub fn read(apdu: &[u8]) -> Parsed
+    ensures { λ r. ⌜ r ≡ readPdu (now (apdu .entry)) ⌝ }
+{
+    if apdu.len() < 2 {
+        return Parsed::Refused(5);
+    }
+    if 16 < apdu.len() {
+        return Parsed::Refused(5);
+    }
+    let found = service_of(code(apdu));
+    match found {
+        Found::Listed(k) => parse::judged(k, apdu),
+        Found::Unknown => Parsed::Refused(8),
+    }
+}
+
+// The outcome of a reading by its number.
+pub fn outcome(parsed: Parsed) -> u8
+    ensures { λ r. ⌜ r ≡ readOutcome parsed ⌝ }
+{
+    match parsed {
+        Parsed::Is(_) => 0,
+        Parsed::Refused(n) => n,
+    }
+}
+
+// The data of a PDU that was read from the bytes.
+pub fn data_of(pdu: Pdu, apdu: &[u8]) -> &[u8]
+    ensures { λ r. ⌜ now r ≡ dataOf pdu (now (apdu .entry)) ⌝ }
+{
+    let at = head::data_at(pdu);
+    if at <= apdu.len() {
+        &apdu[at..]
+    } else {
+        &apdu[apdu.len()..]
+    }
+}
+
+// The PDU's bytes at the front of out: their count, or the number of the refusal, and then out is as it was.
+pub fn write(pdu: Pdu, data: &[u8], out: &mut [u8]) -> Written
+    ensures { λ r. ⌜ Wrote pdu (now («data» .entry)) (now (out .entry)) r (now (out .exit)) ⌝ }
+{
+    if out.len() < 16 {
+        return Written::Refused(3);
+    }
+    let at = head::data_at(pdu);
+    if 16 < at + data.len() {
+        return Written::Refused(13);
+    }
+    if rules::allowed(pdu, at + data.len()) {
+        head::put_head(pdu, out);
+        octets::splice(out, at, data);
+        Written::Bytes(at + data.len())
+    } else {
+        Written::Refused(13)
+    }
 }

@@ -1,12 +1,19 @@
-// The fields of each PDU, taken from the bytes; missing bytes count as 0.
+// Each PDU with its fields taken from the bytes.
 ghost use mathlib.Core.Path.{_≡_};
 ghost use Rattle.pdu.specs.Read.{builtOf};
 use crate::Pdu;
 use crate::Service;
-use crate::bits::four;
-use crate::bits::low;
-use crate::bits::twelve;
+use crate::fields::byte;
+use crate::fields::four;
+use crate::fields::low;
+use crate::fields::twelve;
+use crate::fields::word;
 use octets::number;
+
+// Where a property's PDUs have its object and its identifier.
+const OBJECT: usize = 2;
+
+const ID: usize = 3;
 
 pub(crate) fn group_value_read(s: &[u8]) -> Pdu
     ensures { λ r. ⌜ r ≡ builtOf Service.GroupValueRead (now (s .entry)) ⌝ }
@@ -17,24 +24,20 @@ pub(crate) fn group_value_read(s: &[u8]) -> Pdu
 pub(crate) fn group_value_response(s: &[u8]) -> Pdu
     ensures { λ r. ⌜ r ≡ builtOf Service.GroupValueResponse (now (s .entry)) ⌝ }
 {
-    Pdu::GroupValueResponse {
-        v: low(s, 64) as u8,
-    }
+    Pdu::GroupValueResponse { v: low(s, 64) }
 }
 
 pub(crate) fn group_value_write(s: &[u8]) -> Pdu
     ensures { λ r. ⌜ r ≡ builtOf Service.GroupValueWrite (now (s .entry)) ⌝ }
 {
-    Pdu::GroupValueWrite {
-        v: low(s, 64) as u8,
-    }
+    Pdu::GroupValueWrite { v: low(s, 64) }
 }
 
 pub(crate) fn individual_address_write(s: &[u8]) -> Pdu
     ensures { λ r. ⌜ r ≡ builtOf Service.IndividualAddressWrite (now (s .entry)) ⌝ }
 {
     Pdu::IndividualAddressWrite {
-        address: number(s, 2, 2) as u16,
+        address: word(s, 2),
     }
 }
 
@@ -57,26 +60,24 @@ pub(crate) fn serial_number_write(s: &[u8]) -> Pdu
 {
     Pdu::SerialNumberWrite {
         serial: number(s, 2, 6),
-        address: number(s, 8, 2) as u16,
+        address: word(s, 8),
     }
 }
 
 pub(crate) fn device_descriptor_read(s: &[u8]) -> Pdu
     ensures { λ r. ⌜ r ≡ builtOf Service.DeviceDescriptorRead (now (s .entry)) ⌝ }
 {
-    Pdu::DeviceDescriptorRead {
-        t: low(s, 64) as u8,
-    }
+    Pdu::DeviceDescriptorRead { t: low(s, 64) }
 }
 
 pub(crate) fn property_value_read(s: &[u8]) -> Pdu
     ensures { λ r. ⌜ r ≡ builtOf Service.PropertyValueRead (now (s .entry)) ⌝ }
 {
     Pdu::PropertyValueRead {
-        object: number(s, 2, 1) as u8,
-        id: number(s, 3, 1) as u8,
-        n: four(s, 4) as u8,
-        s: twelve(s, 4) as u16,
+        object: byte(s, OBJECT),
+        id: byte(s, ID),
+        n: four(s, 4),
+        s: twelve(s, 4),
     }
 }
 
@@ -84,10 +85,10 @@ pub(crate) fn property_value_write(s: &[u8]) -> Pdu
     ensures { λ r. ⌜ r ≡ builtOf Service.PropertyValueWrite (now (s .entry)) ⌝ }
 {
     Pdu::PropertyValueWrite {
-        object: number(s, 2, 1) as u8,
-        id: number(s, 3, 1) as u8,
-        n: four(s, 4) as u8,
-        s: twelve(s, 4) as u16,
+        object: byte(s, OBJECT),
+        id: byte(s, ID),
+        n: four(s, 4),
+        s: twelve(s, 4),
     }
 }
 
@@ -95,9 +96,9 @@ pub(crate) fn property_description_read(s: &[u8]) -> Pdu
     ensures { λ r. ⌜ r ≡ builtOf Service.PropertyDescriptionRead (now (s .entry)) ⌝ }
 {
     Pdu::PropertyDescriptionRead {
-        object: number(s, 2, 1) as u8,
-        id: number(s, 3, 1) as u8,
-        index: number(s, 4, 1) as u8,
+        object: byte(s, OBJECT),
+        id: byte(s, ID),
+        index: byte(s, 4),
     }
 }
 
@@ -105,8 +106,8 @@ pub(crate) fn memory_read(s: &[u8]) -> Pdu
     ensures { λ r. ⌜ r ≡ builtOf Service.MemoryRead (now (s .entry)) ⌝ }
 {
     Pdu::MemoryRead {
-        n: low(s, 16) as u8,
-        address: number(s, 2, 2) as u16,
+        n: low(s, 16),
+        address: word(s, 2),
     }
 }
 
@@ -114,8 +115,8 @@ pub(crate) fn memory_write(s: &[u8]) -> Pdu
     ensures { λ r. ⌜ r ≡ builtOf Service.MemoryWrite (now (s .entry)) ⌝ }
 {
     Pdu::MemoryWrite {
-        n: low(s, 16) as u8,
-        address: number(s, 2, 2) as u16,
+        n: low(s, 16),
+        address: word(s, 2),
     }
 }
 
@@ -123,8 +124,8 @@ pub(crate) fn memory_bit_write(s: &[u8]) -> Pdu
     ensures { λ r. ⌜ r ≡ builtOf Service.MemoryBitWrite (now (s .entry)) ⌝ }
 {
     Pdu::MemoryBitWrite {
-        n: number(s, 2, 1) as u8,
-        address: number(s, 3, 2) as u16,
+        n: byte(s, 2),
+        address: word(s, 3),
     }
 }
 
@@ -140,7 +141,7 @@ pub(crate) fn key_write(s: &[u8]) -> Pdu
     ensures { λ r. ⌜ r ≡ builtOf Service.KeyWrite (now (s .entry)) ⌝ }
 {
     Pdu::KeyWrite {
-        level: number(s, 2, 1) as u8,
+        level: byte(s, 2),
         key: number(s, 3, 4) as u32,
     }
 }
@@ -162,26 +163,24 @@ pub(crate) fn serial_number_response(s: &[u8]) -> Pdu
 {
     Pdu::SerialNumberResponse {
         serial: number(s, 2, 6),
-        domain: number(s, 8, 2) as u16,
+        domain: word(s, 8),
     }
 }
 
 pub(crate) fn device_descriptor_response(s: &[u8]) -> Pdu
     ensures { λ r. ⌜ r ≡ builtOf Service.DeviceDescriptorResponse (now (s .entry)) ⌝ }
 {
-    Pdu::DeviceDescriptorResponse {
-        t: low(s, 64) as u8,
-    }
+    Pdu::DeviceDescriptorResponse { t: low(s, 64) }
 }
 
 pub(crate) fn property_value_response(s: &[u8]) -> Pdu
     ensures { λ r. ⌜ r ≡ builtOf Service.PropertyValueResponse (now (s .entry)) ⌝ }
 {
     Pdu::PropertyValueResponse {
-        object: number(s, 2, 1) as u8,
-        id: number(s, 3, 1) as u8,
-        n: four(s, 4) as u8,
-        s: twelve(s, 4) as u16,
+        object: byte(s, OBJECT),
+        id: byte(s, ID),
+        n: four(s, 4),
+        s: twelve(s, 4),
     }
 }
 
@@ -189,12 +188,12 @@ pub(crate) fn property_description_response(s: &[u8]) -> Pdu
     ensures { λ r. ⌜ r ≡ builtOf Service.PropertyDescriptionResponse (now (s .entry)) ⌝ }
 {
     Pdu::PropertyDescriptionResponse {
-        object: number(s, 2, 1) as u8,
-        id: number(s, 3, 1) as u8,
-        index: number(s, 4, 1) as u8,
-        kind: number(s, 5, 1) as u8,
-        maximum: number(s, 6, 2) as u16,
-        access: number(s, 8, 1) as u8,
+        object: byte(s, OBJECT),
+        id: byte(s, ID),
+        index: byte(s, 4),
+        kind: byte(s, 5),
+        maximum: word(s, 6),
+        access: byte(s, 8),
     }
 }
 
@@ -202,23 +201,19 @@ pub(crate) fn memory_response(s: &[u8]) -> Pdu
     ensures { λ r. ⌜ r ≡ builtOf Service.MemoryResponse (now (s .entry)) ⌝ }
 {
     Pdu::MemoryResponse {
-        n: low(s, 16) as u8,
-        address: number(s, 2, 2) as u16,
+        n: low(s, 16),
+        address: word(s, 2),
     }
 }
 
 pub(crate) fn authorize_response(s: &[u8]) -> Pdu
     ensures { λ r. ⌜ r ≡ builtOf Service.AuthorizeResponse (now (s .entry)) ⌝ }
 {
-    Pdu::AuthorizeResponse {
-        level: number(s, 2, 1) as u8,
-    }
+    Pdu::AuthorizeResponse { level: byte(s, 2) }
 }
 
 pub(crate) fn key_response(s: &[u8]) -> Pdu
     ensures { λ r. ⌜ r ≡ builtOf Service.KeyResponse (now (s .entry)) ⌝ }
 {
-    Pdu::KeyResponse {
-        level: number(s, 2, 1) as u8,
-    }
+    Pdu::KeyResponse { level: byte(s, 2) }
 }

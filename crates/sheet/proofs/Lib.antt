@@ -1,6 +1,9 @@
 pub mod First
 pub mod ByKind
 pub mod Demands
+pub mod Entries
+pub mod Bodies
+pub mod Rules
 pub mod Good
 pub mod Rising
 pub mod Lie
@@ -14,3 +17,4 @@ pub mod Seeks
 pub mod Keys
 pub mod Ranks
 pub mod Runs
+pub mod Seek

@@ -1,10 +1,12 @@
 -- Finding entries, and the part of a sheet that a value lookup hands back.
 -- Assumes nothing.
 use Prim.Native.Nat.{ℕ, zero, suc, _+_, _*_, _-_}
+use mathlib.Core.Path.{_≡_}
 use mathlib.Core.List.{List, []}
 use mathlib.Core.Bool.{Bool, true, false, _&&_}
 use lib.ListN.{take, drop}
 use lib.Dec.{ltb, leb, eqb}
+use denote.Ref.{RefT}
 use Rattle.sheet.specs.Demand.{pick}
 use Rattle.sheet.specs.Kind.{regions, properties, groups}
 use Rattle.sheet.specs.Layout.{_of_}
@@ -36,7 +38,20 @@ bodyOf s k i = when (ltb i (count s k)) (take (lengthOf k (entry s k i)) (drop (
 unfoldable pub lookup : List ℕ → ℕ → ℕ → List ℕ
 lookup s k i = when (eqb (ruleOf s) 0) (bodyOf s k i)
 
--- WHAT THE LOOKUPS HAND BACK
+-- where in the sheet that part starts; an empty one at 0
+unfoldable pub bodyFrom : List ℕ → ℕ → ℕ → ℕ
+bodyFrom s k i = pick (ltb i (count s k)) (offsetOf k (entry s k i)) 0
+
+unfoldable pub lookupFrom : List ℕ → ℕ → ℕ → ℕ
+lookupFrom s k i = pick (eqb (ruleOf s) 0) (bodyFrom s k i) 0
+
+-- r refers to the very bytes of s from a place on, no copy: these bytes, in the block of memory that s lies in, so far behind its start
+pub record PartOf (s r : RefT (List ℕ)) (bytes : List ℕ) (from : ℕ) : Type 0 where
+  pub is : r .now ≡ bytes
+  pub block : r .ptr .0 ≡ s .ptr .0
+  pub place : r .ptr .1 ≡ s .ptr .1 + from
+
+-- WHAT THE LOOKUPS HAND BACK, and from where
 abbrev pub regionOf : List ℕ → ℕ → List ℕ
 regionOf s k = lookup s regions k
 
@@ -45,6 +60,15 @@ propertyOf s object id = lookup s properties (indexOf s properties (object * 256
 
 abbrev pub groupOf : List ℕ → ℕ → List ℕ
 groupOf s address = lookup s groups (indexOf s groups address)
+
+abbrev pub regionFrom : List ℕ → ℕ → ℕ
+regionFrom s k = lookupFrom s regions k
+
+abbrev pub propertyFrom : List ℕ → ℕ → ℕ → ℕ
+propertyFrom s object id = lookupFrom s properties (indexOf s properties (object * 256 + id))
+
+abbrev pub groupFrom : List ℕ → ℕ → ℕ
+groupFrom s address = lookupFrom s groups (indexOf s groups address)
 
 -- the object of property i, and how many of the first i properties have an object
 unfoldable pub objectAt : List ℕ → ℕ → ℕ

@@ -1,4 +1,16 @@
 // The device sheet: its rules, its entries and their bodies.
+mod frame;
+mod judge;
+mod layout;
+mod lookup;
+mod table;
+mod walk;
+
+pub use lookup::find;
+pub use lookup::group;
+pub use lookup::property;
+pub use lookup::region;
+pub use walk::check;
 
 // A run of sheet bytes that an address range is, with the levels that it stands under.
 pub enum Run {

@@ -1,0 +1,20 @@
+-- `pdu::fields::low` meets its contract.
+-- Assumes nothing.
+use Prim.Native.Nat.{ℕ, _%_}
+use mathlib.Core.Path.{ap}
+use native.Mathlib.Nat.{mod-lt}
+use native.Mathlib.Omega.{arith}
+use borrow.Author.Needs.{needs}
+use Rattle.pdu.specs.Rules.{lowAt}
+use Rattle.pdu.proofs.fields.low.Statement.{statement}
+use Rattle.pdu.proofs.fields.low.Tie as tie
+
+pub low-spec : {M : Type 1} → statement M
+unfolding lowAt
+low-spec =
+    tie.close
+    (tie.spec
+    (λ c κs. search needs)
+    (λ c. search needs)
+    (λ c. omega (arith, mod-lt (c .number .result) (c .before .before .pre .0)))
+    (λ c. ap (λ (x : ℕ). x % c .before .before .args .m) (c .number .ensures .value)))

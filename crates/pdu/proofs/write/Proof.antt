@@ -1,0 +1,19 @@
+-- `pdu::write` meets its contract.
+-- Assumes nothing.
+use borrow.Author.Needs.{needs}
+use Rattle.pdu.proofs.Writing.{wrote-3, wrote-long, wrote-13, wrote-all}
+use Rattle.pdu.proofs.write.Statement.{statement}
+use Rattle.pdu.proofs.write.Tie as tie
+
+pub write-spec : {M : Type 1} → statement M
+write-spec =
+    tie.close
+    (tie.spec
+    (λ c. search wrote-3)
+    (λ c κs. search needs)
+    (λ c. search needs) (λ c. search wrote-long)
+    (λ c. search needs) (λ c κs. search needs)
+    (λ c κs. search needs)
+    (λ c κs. search needs)
+    (λ c. search needs) (λ c. search needs) (λ c. search wrote-all)
+    (λ c. search wrote-13))
