@@ -6,3 +6,5 @@ pub mod Judged
 pub mod Accepted
 pub mod SafeEach
 pub mod Safe
+pub mod Bits
+pub mod Runs

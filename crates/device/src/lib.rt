@@ -1,6 +1,8 @@
 // The device: a request judged, carried out and answered.
 use judge::Session;
 
+mod store;
+
 // What a request gave: the outcome, the count of bytes answered, the session afterwards.
 pub struct Done {
     pub outcome: u8,

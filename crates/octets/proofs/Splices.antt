@@ -4,12 +4,13 @@ use mathlib.Core.Path.{_≡_, refl, sym, ap, _∙_}
 use mathlib.Core.List.{List, [], _∷_, _++_, append-assoc, append-nil}
 use mathlib.Core.Logic.{_⊎_, inl, inr}
 use mathlib.Core.Bool.{Bool, true, false, cond}
-use Prim.Native.Nat.{ℕ, _+_, _-_, _≤_, _<_}
+use Prim.Native.Nat.{ℕ, suc, _+_, _-_, _≤_, _<_}
 use native.Mathlib.Omega.{arith}
 use native.Mathlib.Nat.{add-zero, add-assoc}
 use native.Mathlib.Decide.{decLt}
-use lib.ListN.{length, take, drop, getD, length-append, length-take, length-drop, take-append-drop, List·getD-append}
-use lib.Seq.{getD-take, getD-drop, getD-append-add, length-take-le, take-at, drop-append-add, drop-drop, ext-getD}
+use native.Mathlib.Numerals.{add-one}
+use lib.ListN.{length, take, drop, getD, set, length-append, length-take, length-drop, take-append-drop, List·getD-append}
+use lib.Seq.{set-split, append-snoc, getD-take, getD-drop, getD-append-add, length-take-le, take-at, drop-append-add, drop-drop, ext-getD}
 use Rattle.octets.specs.Splice.{splice}
 
 -- nothing replaced
@@ -87,3 +88,8 @@ splice-more s o xs ys h =
 pub splice-front : (s ds : List ℕ) → splice s 0 ds ≡ ds ++ drop (length ds) s
 unfolding splice
 splice-front s ds = rw (native.Mathlib.Nat.zero-add (length ds))
+
+-- one byte stored
+pub splice-one : (s : List ℕ) (i x : ℕ) → i < length s → set s i x ≡ splice s i (x ∷ [])
+unfolding splice
+splice-one s i x h = rw (add-one i) (set-split s i x h ∙ sym (append-snoc (take i s) x (drop (suc i) s)))
