@@ -8,3 +8,4 @@ pub mod SafeEach
 pub mod Safe
 pub mod Bits
 pub mod Runs
+pub mod Sent

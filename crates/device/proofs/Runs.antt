@@ -12,3 +12,11 @@ via-safe s d r q h e = subst (λ (x : Store). StoreSafe s d x) e h
 
 pub via-store : (s d s′ : List ℕ) (r q : Store) → r ≡ q → s′ ≡ storeOf s d q → s′ ≡ storeOf s d r
 via-store s d s′ r q e h = subst (λ (x : Store). s′ ≡ storeOf s d x) (sym e) h
+
+-- the second of two stores
+pub second-safe : (s s₁ d : List ℕ) (a b : Store) → s₁ ≡ storeOf s d a → StoreSafe (storeOf s d a) d b → StoreSafe s₁ d b
+second-safe s s₁ d a b e h = subst (λ (x : List ℕ). StoreSafe x d b) (sym e) h
+
+pub both-stored :
+    (s s₁ s₂ d : List ℕ) (a b : Store) → s₁ ≡ storeOf s d a → s₂ ≡ storeOf s₁ d b → s₂ ≡ storeOf (storeOf s d a) d b
+both-stored s s₁ s₂ d a b e f = subst (λ (x : List ℕ). s₂ ≡ storeOf x d b) e f

@@ -1,9 +1,10 @@
 -- Carrying a decision out: what it stores, what becomes of the session, what it answers.
 -- Assumes nothing.
 use Prim.Native.Nat.{ℕ, zero, suc, _+_}
+use mathlib.Core.Path.{_≡_}
 use mathlib.Core.List.{List, [], _∷_, _++_}
 use mathlib.Core.Bool.{false}
-use lib.ListN.{getD, take, drop, replicate}
+use lib.ListN.{length, getD, take, drop, replicate}
 use lib.Bits.{bitAnd, bitXor}
 use Rattle.octets.specs.Bytes.{bytesOf}
 use Rattle.octets.specs.Splice.{splice}
@@ -54,3 +55,8 @@ answerOf s d (answer.Plain p) = encoded p []
 answerOf s d (answer.Number p w x) = encoded p (bytesOf w x)
 answerOf s d (answer.Sheet p at n) = encoded p (take n (drop at s))
 answerOf s d (answer.Echo p) = encoded p d
+
+-- r bytes of an answer stand in front of the buffer, whose rest is as found
+pub record Answered (bytes : List ℕ) (r : ℕ) (out out′ : List ℕ) : Type 0 where
+  pub count : r ≡ length bytes
+  pub holds : out′ ≡ splice out 0 bytes

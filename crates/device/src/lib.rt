@@ -1,6 +1,7 @@
 // The device: a request judged, carried out and answered.
 use judge::Session;
 
+mod answer;
 mod store;
 
 // What a request gave: the outcome, the count of bytes answered, the session afterwards.

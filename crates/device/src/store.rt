@@ -41,3 +41,14 @@ pub fn store(s: &mut [u8], run: Store, d: &[u8])
         }
     }
 }
+
+// At most two runs.
+pub fn carry_out(s: &mut [u8], k: Decision, d: &[u8])
+    requires { ⌜ (StoreSafe (now s) (now d) (k .first)) × (StoreSafe (storeOf (now s) (now d) (k .first)) (now d) (k .second)) ⌝ }
+    ensures { λ _. ⌜ now (s .exit) ≡ storeOf (storeOf (now (s .entry)) (now (d .entry)) (k .first)) (now (d .entry)) (k .second) ⌝ }
+{
+    let first = k.first;
+    let second = k.second;
+    store(s, first, d);
+    store(s, second, d);
+}
