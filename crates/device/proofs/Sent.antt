@@ -1,9 +1,10 @@
 -- What writing an answer gives, where its row allows it.
 -- Assumes nothing.
-use Prim.Native.Nat.{ℕ, _+_, _≤_}
+use Prim.Native.Nat.{ℕ, _+_, _-_, _≤_}
 use mathlib.Core.Path.{_≡_, refl, ap, sym, subst, _∙_}
 use mathlib.Core.Bool.{true}
 use mathlib.Core.List.{List, [], _++_}
+use native.Mathlib.Nat.{add-sub-cancel-left}
 use native.Mathlib.Omega.{arith}
 use lib.ListN.{length, take, drop}
 use lib.Seq.{take-at}
@@ -73,3 +74,15 @@ pub number-sent :
     b′ ≡ splice b 0 (bytesOf w x) → Answered (encoded p (take w b′)) r o e → Answered (encoded p (bytesOf w x)) r o e
 number-sent p w x r b b′ o e f h =
     subst (λ (d : List ℕ). Answered (encoded p d) r o e) (number-front w x b b′ f) h
+
+-- bytes of the sheet, as a part from `at` to `at + n` has them
+pub sheet-allowed :
+    (p : Pdu) (s : List ℕ) (at n : ℕ) → writable p (take n (drop at s)) ≡ true → writable p (take (at + n - at) (drop at s)) ≡ true
+sheet-allowed p s at n h = rw (add-sub-cancel-left at n) h
+
+pub via-sheet :
+    (s d : List ℕ) (a : Answer) (p : Pdu) (at n r : ℕ) (o e : List ℕ) →
+    a ≡ answer.Sheet p at n → Answered (encoded p (take (at + n - at) (drop at s))) r o e → Answered (answerOf s d a) r o e
+via-sheet s d a p at n r o e f h =
+    via-answer s d a (answer.Sheet p at n) r o e f
+    (subst (λ (k : ℕ). Answered (encoded p (take k (drop at s))) r o e) (add-sub-cancel-left at n) h)
