@@ -39,13 +39,13 @@ open-then false b e h = never h
 
 module _ (x : Asked) where
   -- the code names a service exactly if it is one of the service's
-  names-found : (k : Service) → Names x k → serviceAt (codeOf (x .apdu)) ≡ Listed k
+  pub names-found : (k : Service) → Names x k → serviceAt (codeOf (x .apdu)) ≡ Listed k
   names-found k n = found k (codeOf (x .apdu)) (has-is (rowOf k) _ .1 (n .from, n .to))
 
-  found-names : (k : Service) → serviceAt (codeOf (x .apdu)) ≡ Listed k → Names x k
+  pub found-names : (k : Service) → serviceAt (codeOf (x .apdu)) ≡ Listed k → Names x k
   found-names k e = let h = has-is (rowOf k) _ .0 (named k _ e) in record { from = h .0; to = h .1 }
 
-  names-once : (j k : Service) → Names x j → Names x k → j ≡ k
+  pub names-once : (j k : Service) → Names x j → Names x k → j ≡ k
   names-once j k a b = let e = names-found j a in let f = names-found k b in cc
 
   module _ (P : Decision → Type 0)

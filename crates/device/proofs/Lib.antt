@@ -6,3 +6,12 @@ pub mod Judged
 pub mod Accepted
 pub mod SafeEach
 pub mod Safe
+pub mod Levels
+pub mod Stepped
+pub mod RightGroups
+pub mod RightAddresses
+pub mod RightKeys
+pub mod Properly
+pub mod RightProperties
+pub mod RightDescriptions
+pub mod RightMemory

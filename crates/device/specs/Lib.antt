@@ -4,3 +4,4 @@ pub mod Events
 pub mod Asked
 pub mod Right
 pub mod Safe
+pub mod Octets
