@@ -15,3 +15,4 @@ pub mod Properly
 pub mod RightProperties
 pub mod RightDescriptions
 pub mod RightMemory
+pub mod Rightly

@@ -129,10 +129,11 @@ module _ (x : Asked) (object id : ℕ) where
 
     pub only-property-clear :
         (i : ℕ) → Writable x object id i → s ≡ 0 → n ≡ 1 → d ≡ 0 ∷ 0 ∷ [] →
-        saysAfter x (splice (x .sheet) (place (x .sheet) properties i + 6) (0 ∷ 0 ∷ [])) (PropertyValueResponse object id n s) d ≡ step x
+        saysAfter x (splice (x .sheet) (place (x .sheet) properties i + 6) (0 ∷ 0 ∷ [])) (PropertyValueResponse object id n s) (0 ∷ 0 ∷ []) ≡ step x
     unfolding stepBy numAt
     only-property-clear i p z o e =
-        step-read x _ r _
+        ap (saysAfter x (splice (x .sheet) (place (x .sheet) properties i + 6) (0 ∷ 0 ∷ [])) (PropertyValueResponse object id n s)) (sym e)
+        ∙ step-read x _ r _
         (property-write-clear ok′ object id i (keyed x object id i (p .found)) _ n s d (freed i p) z o (ap length e) (ap (λ (l : List ℕ). numAt l 0 2) e))
 
     pub only-property-write :
