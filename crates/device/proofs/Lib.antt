@@ -16,3 +16,5 @@ pub mod RightProperties
 pub mod RightDescriptions
 pub mod RightMemory
 pub mod Rightly
+pub mod Shapes
+pub mod Demand1
