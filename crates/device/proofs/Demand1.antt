@@ -26,7 +26,7 @@ use Rattle.device.specs.Step.{Step, stepBy, stepOf}
 use Rattle.device.specs.Events.{State, Event, button, eventOf, pressed, buttonOutcome, buttonSheet}
 use Rattle.device.specs.Asked.{Asked}
 use Rattle.device.specs.Safe.{AnswerSafe}
-use Rattle.device.specs.Negative.{Denial}
+use Rattle.device.specs.Replies.{Denial}
 use Rattle.device.proofs.Safe.{safe}
 use Rattle.device.proofs.Shapes.{Shape, refuse, deny, reply, done, shape}
 

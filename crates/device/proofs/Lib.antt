@@ -18,3 +18,5 @@ pub mod RightMemory
 pub mod Rightly
 pub mod Shapes
 pub mod Demand1
+pub mod Typing
+pub mod Answers

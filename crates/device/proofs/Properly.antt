@@ -26,16 +26,16 @@ keyed x object id i p =
     let e : List ℕ = entry (x .sheet) properties i in
     record { there = p .there; key = omega (arith, key-is e, p .sameObject, p .sameId) }
 
--- an id of the sheet is a byte
-pub id-small : (s : List ℕ) (i : ℕ) → Octets s → property.id of entry s properties i < 256
-id-small s i h =
-    omega (arith, num-one (entry s properties i) 1, entry-at s properties i 1 (omega arith), h (place s properties i + 1))
+-- a byte of a property's entry is one
+pub entry-byte : (s : List ℕ) (i j : ℕ) → j < 12 → Octets s → numAt (entry s properties i) j 1 < 256
+entry-byte s i j l h =
+    omega (arith, num-one (entry s properties i) j, entry-at s properties i j l, h (place s properties i + j))
 
 -- where ids are bytes, the first word says both
 pub unkeyed : (x : Asked) (object id i : ℕ) → Octets (x .sheet) → id < 256 → Keyed (x .sheet) object id i → Property x object id i
 unkeyed x object id i h l k =
     let e : List ℕ = entry (x .sheet) properties i in
-    let p = key-parts e object id (id-small (x .sheet) i h) l (k .key) in
+    let p = key-parts e object id (entry-byte (x .sheet) i 1 (omega arith) h) l (k .key) in
     record { there = k .there; sameObject = p .0; sameId = p .1 }
 
 -- an id of a request is a byte

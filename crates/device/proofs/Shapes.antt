@@ -29,7 +29,7 @@ use Rattle.judge.proofs.PropertyCases.{property-read-cases, property-write-case
 use Rattle.judge.proofs.MemoryCases.{memory-read-cases, memory-write-cases, bit-write-cases}
 use Rattle.judge.proofs.KeyCases.{key-write-cases}
 use Rattle.device.specs.Asked.{Asked, Refusal, noRoom, badSheet, badLength, badMode, noSession}
-use Rattle.device.specs.Negative.{Negative, ofRead, ofWrite, ofDescription, ofMemoryRead, ofMemoryWrite, ofBitWrite, ofKeyWrite}
+use Rattle.device.specs.Replies.{Negative, ofRead, ofWrite, ofDescription, ofMemoryRead, ofMemoryWrite, ofBitWrite, ofKeyWrite}
 use Rattle.device.proofs.Judged.{judged}
 
 -- about a request a

@@ -5,4 +5,4 @@ pub mod Asked
 pub mod Right
 pub mod Safe
 pub mod Octets
-pub mod Negative
+pub mod Replies

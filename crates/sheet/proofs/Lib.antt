@@ -14,3 +14,4 @@ pub mod Seeks
 pub mod Keys
 pub mod Ranks
 pub mod Runs
+pub mod RankBound

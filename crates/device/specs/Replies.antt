@@ -1,14 +1,23 @@
--- The negative answer that each service has, if it has one.
+-- What the bytes of an answer are: a PDU, and where a request is denied the negative answer of its service.
 -- Assumes nothing.
 use Prim.Native.Nat.{ℕ}
 use mathlib.Core.Path.{_≡_}
 use mathlib.Core.List.{List, []}
-use Rattle.pdu.specs.Read.{readPdu}
+use Rattle.pdu.specs.Read.{readPdu, dataOf}
 use Rattle.pdu.specs.Write.{encoded}
 use Rattle.pdu.specs.declared.Parsed.the-variants.{Is}
 use Rattle.pdu.specs.declared.Pdu.{Pdu}
 use Rattle.pdu.specs.declared.Pdu.the-variants.{PropertyValueRead, PropertyValueWrite, PropertyDescriptionRead, MemoryRead, MemoryWrite, MemoryBitWrite, KeyWrite, PropertyValueResponse, PropertyDescriptionResponse, MemoryResponse, KeyResponse}
 
+-- b is the bytes of a PDU with its data, and reads as that
+pub record IsPdu (b : List ℕ) : Type 0 where
+  pub pdu : Pdu
+  pub bytes : List ℕ
+  pub written : b ≡ encoded pdu bytes
+  pub reads : readPdu b ≡ Is pdu
+  pub gives : dataOf pdu b ≡ bytes
+
+-- the negative answer of a service, if it has one
 pub data Negative : Pdu → Pdu → Type 0 where
   ofRead : (object id n s : ℕ) → Negative (PropertyValueRead object id n s) (PropertyValueResponse object id 0 s)
   ofWrite : (object id n s : ℕ) → Negative (PropertyValueWrite object id n s) (PropertyValueResponse object id 0 s)
