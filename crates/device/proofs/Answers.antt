@@ -7,13 +7,12 @@ use mathlib.Core.Bool.{true}
 use mathlib.Core.List.{List, []}
 use lib.ListN.{take, drop}
 use Rattle.octets.specs.Bytes.{bytesOf}
-use Rattle.pdu.specs.Read.{readPdu, dataOf}
+use Rattle.pdu.specs.Read.{readPdu}
 use Rattle.pdu.specs.Write.{encoded, writable}
 use Rattle.pdu.specs.Allows.{Typed}
 use Rattle.pdu.proofs.Only.{writable-is}
 use Rattle.pdu.proofs.Back.{read-back}
 use Rattle.pdu.specs.declared.Pdu.{Pdu}
-use Rattle.pdu.specs.declared.Parsed.the-variants.{Is}
 use Rattle.judge.specs.declared.Answer.{Answer}
 use Rattle.judge.specs.declared.Answer.the-variants as answer
 use Rattle.judge.specs.declared.Decision.{Decision}

@@ -1,7 +1,7 @@
 -- DEMAND 1: the outcomes, and what each of them leaves as it was.
 -- Assumes nothing.
 use Prim.Native.Nat.{ℕ, _+_, _≤_}
-use mathlib.Core.Path.{_≡_, refl, sym, ap, _∙_}
+use mathlib.Core.Path.{_≡_, refl}
 use mathlib.Core.Logic.{_⊎_, inl, inr}
 use mathlib.Core.Bool.{Bool, true, false, cond}
 use mathlib.Core.List.{List, []}
@@ -14,7 +14,6 @@ use Rattle.pdu.specs.Write.{encoded, writable}
 use Rattle.pdu.proofs.Truths.{both-is, at-most-is}
 use Rattle.pdu.proofs.Back.{length-encoded}
 use Rattle.pdu.specs.declared.Pdu.{Pdu}
-use Rattle.pdu.specs.declared.Parsed.the-variants.{Is}
 use Rattle.judge.specs.declared.Session.{Session}
 use Rattle.judge.specs.declared.Decision.{Decision}
 use Rattle.judge.specs.declared.Answer.{Answer}
@@ -23,8 +22,7 @@ use Rattle.judge.specs.Judge.{isAccepted, judgeOf}
 use Rattle.judge.proofs.Walks.{by-test}
 use Rattle.device.specs.Carry.{dataIn, storeOf, answerOf}
 use Rattle.device.specs.Step.{Step, stepBy, stepOf}
-use Rattle.device.specs.Events.{State, Event, button, eventOf, pressed, buttonOutcome, buttonSheet}
-use Rattle.device.specs.Asked.{Asked}
+use Rattle.device.specs.Events.{State, button, eventOf, pressed, buttonOutcome, buttonSheet}
 use Rattle.device.specs.Safe.{AnswerSafe}
 use Rattle.device.specs.Replies.{Denial}
 use Rattle.device.proofs.Safe.{safe}

@@ -1,7 +1,7 @@
 -- The level that a request acts at.
 -- Assumes nothing.
 use Prim.Native.Nat.{ℕ, _≤_}
-use mathlib.Core.Path.{_≡_, subst, sym}
+use mathlib.Core.Path.{_≡_}
 use borrow.Author.Tests.{eq-eqb, ne-eqb, lt-ltb, le-ltb}
 use Rattle.judge.specs.Session.{levelOf, levelIn}
 use Rattle.judge.proofs.Walks.{by-eq, by-lt}

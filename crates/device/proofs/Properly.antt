@@ -1,15 +1,13 @@
 -- A property by its object and id, and by its first word.
 -- Assumes nothing.
 use Prim.Native.Nat.{ℕ, _+_, _*_, _<_}
-use mathlib.Core.Path.{_≡_, refl, ap}
+use mathlib.Core.Path.{_≡_, ap}
 use mathlib.Core.List.{List, [], _∷_}
 use native.Mathlib.Omega.{arith}
 use lib.ListN.{length}
 use Rattle.octets.specs.Bytes.{numAt}
 use Rattle.octets.proofs.Numbers.{num-one, num-two, num-below}
 use Rattle.sheet.specs.Kind.{properties}
-use Rattle.sheet.specs.Layout.{_of_}
-use Rattle.sheet.specs.Property as property
 use Rattle.sheet.specs.Entries.{place, entry}
 use Rattle.sheet.proofs.Keys.{key-is, key-parts}
 use Rattle.sheet.proofs.Standing.{entry-at}

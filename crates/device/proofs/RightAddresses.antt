@@ -1,8 +1,8 @@
 -- The individual address, the serial number and the descriptor: what is due is what is done.
 -- Assumes nothing.
 use Prim.Native.Nat.{ℕ, _≤_}
-use mathlib.Core.Path.{_≡_, refl, sym, _∙_}
-use mathlib.Core.List.{List, []}
+use mathlib.Core.Path.{_≡_, refl}
+use mathlib.Core.List.{[]}
 use native.Mathlib.Omega.{arith}
 use borrow.Author.Tests.{eq-eqb, ne-eqb}
 use Rattle.octets.specs.Bytes.{bytesOf}
@@ -15,7 +15,7 @@ use Rattle.judge.specs.declared.Answer.the-variants as answer
 use Rattle.judge.specs.Decisions as decisions
 use Rattle.judge.specs.Addresses.{newAddress, addressWriteOf, addressReadOf, serialReadOf, serialWriteOf, descriptorOf}
 use Rattle.judge.proofs.Walks.{by-eq}
-use Rattle.device.specs.Step.{Step, stepBy}
+use Rattle.device.specs.Step.{stepBy}
 use Rattle.device.specs.Asked.{Asked, quiet, says, stores, Reads, given}
 use Rattle.device.specs.Right.{Programming, Right, addressWrite, noAddressWrite, addressRead, noAddressRead, serialRead, noSerialRead, serialWrite, noSerialWrite, descriptor, noDescriptor}
 use Rattle.device.proofs.Stepped.{step, step-read}

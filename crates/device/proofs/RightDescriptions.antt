@@ -2,12 +2,12 @@
 -- Assumes nothing.
 use Prim.Native.Nat.{ℕ, _<_}
 use mathlib.Core.Path.{_≡_, refl, sym, ap, _∙_}
-use mathlib.Core.List.{List, []}
+use mathlib.Core.List.{[]}
 use native.Mathlib.Omega.{arith}
 use Rattle.sheet.specs.Kind.{properties}
 use Rattle.sheet.specs.Layout.{_of_}
 use Rattle.sheet.specs.Property as property
-use Rattle.sheet.specs.Entries.{entry}
+use Rattle.sheet.specs.Entries.{count, entry}
 use Rattle.sheet.specs.Lookup.{rank}
 use Rattle.sheet.proofs.Good.{Good, good}
 use Rattle.pdu.proofs.Readings.{reading}
@@ -35,7 +35,7 @@ module _ (x : Asked) (object id index : ℕ) (r : Reads x (PropertyDescriptionRe
       (property.kind of entry (x .sheet) properties i) (property.maximum of entry (x .sheet) properties i)
       (property.levels of entry (x .sheet) properties i)) []
 
-  ranked : (i : ℕ) → i < Rattle.sheet.specs.Entries.count (x .sheet) properties → property.object of entry (x .sheet) properties i ≡ object → rank (x .sheet) object i ≡ index → Ranked (x .sheet) object index i
+  ranked : (i : ℕ) → i < count (x .sheet) properties → property.object of entry (x .sheet) properties i ≡ object → rank (x .sheet) object i ≡ index → Ranked (x .sheet) object index i
   ranked i h o e = record { there = h; named = o; rank = e }
 
   same-object : (i : ℕ) → Described x object id index i → property.object of entry (x .sheet) properties i ≡ object

@@ -1,7 +1,7 @@
 -- Group values: what is due is what is done.
 -- Assumes nothing.
-use Prim.Native.Nat.{ℕ, _≤_, _<_}
-use mathlib.Core.Path.{_≡_, refl, sym, ap, _∙_}
+use Prim.Native.Nat.{ℕ, _≤_}
+use mathlib.Core.Path.{_≡_, refl, ap, _∙_}
 use mathlib.Core.List.{List, [], _∷_}
 use lib.ListN.{length}
 use native.Mathlib.Omega.{arith}
@@ -10,17 +10,17 @@ use Rattle.octets.specs.Splice.{splice}
 use Rattle.sheet.specs.Kind.{groups}
 use Rattle.sheet.specs.Layout.{_of_}
 use Rattle.sheet.specs.Group as group
-use Rattle.sheet.specs.Entries.{count, entry}
+use Rattle.sheet.specs.Entries.{entry}
 use Rattle.sheet.proofs.Good.{Good, good}
 use Rattle.pdu.specs.declared.Pdu.{Pdu}
-use Rattle.pdu.specs.declared.Pdu.the-variants.{GroupValueRead, GroupValueResponse, GroupValueWrite}
+use Rattle.pdu.specs.declared.Pdu.the-variants.{GroupValueRead, GroupValueResponse}
 use Rattle.judge.specs.declared.Decision.{Decision}
 use Rattle.judge.specs.Decisions as decisions
 use Rattle.judge.specs.Session.{levelIn}
 use Rattle.judge.specs.Groups.{groupReadOf, groupPutOf}
 use Rattle.judge.specs.Judge.{decideOf}
 use Rattle.judge.proofs.GroupCases.{Lets, group-read-cases, group-put-cases, group-read-six, group-read-bytes, group-put-six, group-put-bytes, group-put-unfit, group-read-for-us, group-put-for-us}
-use Rattle.device.specs.Step.{Step, stepBy}
+use Rattle.device.specs.Step.{stepBy}
 use Rattle.device.specs.Asked.{Asked, quiet, says, stores, Reads, given}
 use Rattle.device.specs.Right.{part, Group, Brings, Flag, Right, groupRead0, groupRead, noGroupRead, groupPut0, groupPut, groupLength, noGroupPut}
 use Rattle.device.proofs.Stepped.{step, step-read}

@@ -1,7 +1,7 @@
 -- Keys and restart: what is due is what is done.
 -- Assumes nothing.
-use Prim.Native.Nat.{ℕ, _-_, _≤_}
-use mathlib.Core.Path.{_≡_, refl, sym, ap, subst, _∙_}
+use Prim.Native.Nat.{ℕ, _-_}
+use mathlib.Core.Path.{_≡_, refl, sym, ap, _∙_}
 use mathlib.Core.Bool.{false}
 use mathlib.Core.List.{List, []}
 use native.Mathlib.Omega.{arith}
@@ -16,7 +16,7 @@ use Rattle.judge.specs.declared.Decision.{Decision}
 use Rattle.judge.specs.Decisions as decisions
 use Rattle.judge.specs.Session.{levelIn}
 use Rattle.judge.specs.Keys.{grantOf, authorizeOf, keyWriteOf, restartOf}
-use Rattle.judge.proofs.KeyCases.{grant-cases, key-write-cases, key-writes}
+use Rattle.judge.proofs.KeyCases.{keyed, grant-cases, key-write-cases, key-writes}
 use Rattle.device.specs.Step.{Step, stepBy}
 use Rattle.device.specs.Asked.{Asked, says, saysAfter, Reads, given}
 use Rattle.device.specs.Right.{Grants, key0, key1, key2, other, KeyWritable, Right, authorize, keyWrite, noKeyWrite, restart}
@@ -60,7 +60,7 @@ module _ (x : Asked) where
     right-authorize = authorize key (grantOf (x .sheet) key) r (grants (x .sheet) key)
 
   module _ (named key : ℕ) (r : Reads x (KeyWrite named key)) where
-    writes : KeyWritable x named → keyWriteOf (levelIn (x .session) (x .mode)) named key ≡ Rattle.judge.proofs.KeyCases.keyed (levelIn (x .session) (x .mode)) named key
+    writes : KeyWritable x named → keyWriteOf (levelIn (x .session) (x .mode)) named key ≡ keyed (levelIn (x .session) (x .mode)) named key
     writes w = key-writes (levelIn (x .session) (x .mode)) named key (w .known) (acts-at x named (w .acts) (w .right))
 
     pub only-key-write :

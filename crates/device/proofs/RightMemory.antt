@@ -1,33 +1,30 @@
 -- Memory: what is due is what is done.
 -- Assumes nothing.
-use Prim.Native.Nat.{ℕ, _+_, _≤_}
-use mathlib.Core.Path.{_≡_, refl, sym, ap, ap₂, _∙_}
+use Prim.Native.Nat.{ℕ}
+use mathlib.Core.Path.{_≡_, refl, sym, ap, _∙_}
 use mathlib.Core.List.{List, []}
-use lib.ListN.{length, take, drop}
+use lib.ListN.{take, drop}
 use native.Mathlib.Omega.{arith}
 use Rattle.octets.specs.Splice.{splice}
 use Rattle.sheet.specs.Kind.{regions}
-use Rattle.sheet.specs.Layout.{_of_}
-use Rattle.sheet.specs.Region as region
-use Rattle.sheet.specs.Head as head
 use Rattle.sheet.specs.Entries.{entry}
 use Rattle.sheet.proofs.Good.{Good, good}
 use Rattle.sheet.proofs.Runs.{Covered}
-use Rattle.pdu.specs.Write.{encoded}
 use Rattle.pdu.proofs.Readings.{reading}
 use Rattle.pdu.specs.declared.Pdu.the-variants.{MemoryRead, MemoryWrite, MemoryBitWrite, MemoryResponse}
 use Rattle.judge.specs.declared.Decision.{Decision}
+use Rattle.judge.specs.declared.Answer.the-variants as answer
 use Rattle.judge.specs.Decisions as decisions
 use Rattle.judge.specs.Session.{levelIn}
 use Rattle.judge.specs.Memory.{memoryReadOf, memoryWriteOf, bitWriteOf}
 use Rattle.judge.proofs.MemoryCases as cases
 use Rattle.judge.proofs.MemoryCases.{Permits, memory-read-cases, memory-write-cases, bit-write-cases, memory-reads, memory-writes, memory-stores, bits-writes, bits-stores}
 use Rattle.device.specs.Carry.{build, bitAt}
-use Rattle.device.specs.Step.{Step, stepBy}
+use Rattle.device.specs.Step.{stepBy}
 use Rattle.device.specs.Asked.{Asked, quiet, says, saysAfter, stores, Reads, given}
 use Rattle.device.specs.Right.{part, InRegion, memoryAt, MemoryReadable, MemoryWritable, BitsWritable, Verify, Right, memoryRead, noMemoryRead, memoryWriteVerified, memoryWrite, noMemoryWriteVerified, noMemoryWrite, bitWriteVerified, bitWrite, noBitWriteVerified, noBitWrite}
 use Rattle.device.proofs.Accepted.{memory-within}
-use Rattle.device.proofs.Given.{memory-data, bits-data}
+use Rattle.device.proofs.Given.{memory-data}
 use Rattle.device.proofs.Levels.{acts, acts-at}
 use Rattle.device.proofs.Stores.{length-build, stored-back}
 use Rattle.device.proofs.Stepped.{step, step-read}
@@ -55,7 +52,7 @@ module _ (x : Asked) (n address : ℕ) where
     readable i p =
         record { some = p .some; most = p .most; range = ranged i (p .covered); level = level; acts = acts x; right = p .right }
 
-    reads : (i : ℕ) → MemoryReadable x n address i → memoryReadOf (x .sheet) regions level n address ≡ decisions.answered (Rattle.judge.specs.declared.Answer.the-variants.Sheet (MemoryResponse n address) (memoryAt (entry (x .sheet) regions i) address) n)
+    reads : (i : ℕ) → MemoryReadable x n address i → memoryReadOf (x .sheet) regions level n address ≡ decisions.answered (answer.Sheet (MemoryResponse n address) (memoryAt (entry (x .sheet) regions i) address) n)
     reads i p = memory-reads (good 1 (x .sheet) (r .ready .sheet)) level n address i (permits-read i p)
 
     pub only-memory-read :

@@ -1,6 +1,6 @@
 -- Property values: what is due is what is done.
 -- Assumes nothing.
-use Prim.Native.Nat.{ℕ, _+_, _*_, _-_, _/_, _%_, _≤_, _<_, max}
+use Prim.Native.Nat.{ℕ, _+_, _*_, _-_, _/_, _≤_, max}
 use mathlib.Core.Path.{_≡_, refl, sym, ap, _∙_}
 use mathlib.Core.List.{List, [], _∷_}
 use lib.ListN.{length}
@@ -19,7 +19,7 @@ use Rattle.judge.specs.Session.{levelIn}
 use Rattle.judge.specs.Properties.{noValue, propertyReadOf, propertyWriteOf}
 use Rattle.judge.proofs.PropertyCases.{Keyed, Among, Free, property-read-cases, property-write-cases, property-read-count, property-read-elements, property-write-clear, property-write-elements}
 use Rattle.device.specs.Octets.{Octets}
-use Rattle.device.specs.Step.{Step, stepBy}
+use Rattle.device.specs.Step.{stepBy}
 use Rattle.device.specs.Asked.{Asked, says, saysAfter, Reads, given}
 use Rattle.device.specs.Right.{part, Elements, elementAt, Readable, ReadAllowed, Writable, WriteAllowed, Right, propertyCount, propertyRead, noPropertyRead, propertyClear, propertyWrite, noPropertyWrite}
 use Rattle.device.proofs.Levels.{acts, acts-at}

@@ -1,8 +1,6 @@
 -- DEMAND 2: the step that is done is the step that is due, and no other is due.
 -- Assumes nothing.
-use Prim.Native.Nat.{ℕ}
-use mathlib.Core.Path.{_≡_, refl, sym, ap, subst, _∙_}
-use mathlib.Core.List.{List}
+use mathlib.Core.Path.{_≡_, refl, sym, subst}
 use Rattle.pdu.specs.Read.{readPdu}
 use Rattle.pdu.specs.declared.Pdu.{Pdu}
 use Rattle.pdu.specs.declared.Pdu.the-variants.{GroupValueRead, GroupValueResponse, GroupValueWrite, IndividualAddressWrite, IndividualAddressRead, SerialNumberRead, SerialNumberWrite, DeviceDescriptorRead, PropertyValueRead, PropertyValueWrite, PropertyDescriptionRead, MemoryRead, MemoryWrite, MemoryBitWrite, AuthorizeRequest, KeyWrite, Restart, IndividualAddressResponse, SerialNumberResponse, DeviceDescriptorResponse, PropertyValueResponse, PropertyDescriptionResponse, MemoryResponse, AuthorizeResponse, KeyResponse}
@@ -13,7 +11,7 @@ use Rattle.judge.specs.Judge.{decideOf}
 use Rattle.device.specs.Carry.{dataIn}
 use Rattle.device.specs.Octets.{Octets}
 use Rattle.device.specs.Step.{Step, stepBy, stepOf}
-use Rattle.device.specs.Asked.{Asked, says, saysAfter, stores, Reads, given}
+use Rattle.device.specs.Asked.{Asked, Reads, given}
 use Rattle.device.specs.Right as due
 use Rattle.device.specs.Right.{Brings, Right}
 use Rattle.device.proofs.Judged.{judged}

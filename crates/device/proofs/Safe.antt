@@ -1,7 +1,7 @@
 -- Every decision can be carried out.
 -- Assumes nothing.
 use Prim.Native.Nat.{ℕ}
-use mathlib.Core.Path.{_≡_, refl, sym, ap, subst}
+use mathlib.Core.Path.{sym, subst}
 use mathlib.Core.List.{List}
 use Rattle.sheet.proofs.Good.{good}
 use Rattle.pdu.specs.Read.{readPdu}

@@ -1,20 +1,19 @@
 -- What each service decides can be carried out.
 -- Assumes nothing.
 use Prim.Native.Nat.{ℕ, _+_, _*_, _-_, _≤_, _<_}
-use mathlib.Core.Path.{_≡_, refl, sym, ap, _∙_}
+use mathlib.Core.Path.{_≡_, refl}
 use mathlib.Core.Bool.{true}
 use mathlib.Core.List.{List, []}
 use lib.ListN.{length, take, drop, length-take, length-drop}
 use native.Mathlib.Omega.{arith}
 use Rattle.octets.specs.Bytes.{bytesOf}
 use Rattle.octets.proofs.Numbers.{length-bytes}
-use Rattle.sheet.specs.Kind.{regions, properties, groups}
+use Rattle.sheet.specs.Kind.{regions, properties}
 use Rattle.sheet.specs.Layout.{_of_}
 use Rattle.sheet.specs.Property as property
 use Rattle.sheet.specs.Head as head
-use Rattle.sheet.specs.Entries.{count, place, entry}
+use Rattle.sheet.specs.Entries.{count, entry}
 use Rattle.sheet.proofs.Good.{Good}
-use Rattle.sheet.proofs.Runs.{Covered}
 use Rattle.pdu.specs.Read.{dataOf}
 use Rattle.pdu.specs.Write.{writable}
 use Rattle.pdu.proofs.Readings.{Reading}
@@ -24,7 +23,6 @@ use Rattle.judge.specs.declared.Store.{Store}
 use Rattle.judge.specs.declared.Store.the-variants as store
 use Rattle.judge.specs.declared.Answer.{Answer}
 use Rattle.judge.specs.declared.Answer.the-variants as answer
-use Rattle.judge.specs.declared.Decision.{Decision}
 use Rattle.judge.specs.Decisions.{refused, denied, answered, written, stored}
 use Rattle.judge.specs.Groups.{groupReadOf, groupPutOf}
 use Rattle.judge.specs.Addresses.{addressWriteOf, addressReadOf, serialReadOf, serialWriteOf, descriptorOf}

@@ -1,8 +1,8 @@
 -- The step of a request, from what is known before its service decides.
 -- Assumes nothing.
-use Prim.Native.Nat.{ℕ, _≤_, _<_}
-use mathlib.Core.Path.{_≡_, refl, sym, ap, ap₂, subst, _∙_}
-use mathlib.Core.Logic.{_⊎_, inl, inr}
+use Prim.Native.Nat.{ℕ}
+use mathlib.Core.Path.{_≡_, refl, sym, ap, ap₂, _∙_}
+use mathlib.Core.Logic.{inl, inr}
 use mathlib.Core.Bool.{Bool, true, false, not, _&&_}
 use mathlib.Core.List.{List}
 use lib.ListN.{length}
@@ -20,7 +20,7 @@ use Rattle.pdu.specs.declared.Found.{Found}
 use Rattle.pdu.specs.declared.Found.the-variants.{Listed, Unknown}
 use Rattle.pdu.specs.declared.Pdu.{Pdu}
 use Rattle.pdu.specs.declared.Parsed.{Parsed}
-use Rattle.pdu.specs.declared.Parsed.the-variants.{Is, Refused}
+use Rattle.pdu.specs.declared.Parsed.the-variants.{Refused}
 use Rattle.judge.specs.declared.Decision.{Decision}
 use Rattle.judge.specs.Decisions as decisions
 use Rattle.judge.specs.Session.{levelIn}

@@ -2,9 +2,7 @@
 -- Assumes nothing.
 use Prim.Native.Nat.{ℕ, _/_, _%_, _<_, _≤_}
 use mathlib.Core.Path.{_≡_, refl, sym, ap, _∙_}
-use mathlib.Core.Bool.{Bool, cond}
 use mathlib.Core.List.{List}
-use lib.Dec.{ltb, eqb}
 use native.Mathlib.Omega.{arith}
 use borrow.Author.Tests.{lt-ltb, eq-eqb, ne-eqb}
 use Rattle.octets.specs.Bytes.{numAt}
@@ -20,7 +18,7 @@ use Rattle.judge.specs.declared.Store.the-variants as store
 use Rattle.judge.specs.declared.Answer.the-variants as answer
 use Rattle.judge.specs.declared.Decision.{Decision}
 use Rattle.judge.specs.Decisions.{refused, answered, stored}
-use Rattle.judge.specs.Groups.{read, valueOf, putValue, flagsAt, hasFlag, groupReadOf, groupPutOf}
+use Rattle.judge.specs.Groups.{valueOf, putValue, flagsAt, groupReadOf, groupPutOf}
 use Rattle.judge.proofs.Walks.{by-lt, by-eq}
 
 -- group object i has the address, and the flag w

@@ -1,22 +1,21 @@
 -- What is decided about memory, case by case.
 -- Assumes nothing.
-use Prim.Native.Nat.{ℕ, _+_, _-_, _/_, _%_, _<_, _≤_}
-use mathlib.Core.Path.{_≡_, refl, sym, ap, subst, _∙_}
-use mathlib.Core.Bool.{Bool, true, false, cond, _&&_}
+use Prim.Native.Nat.{ℕ, _+_, _-_, _/_, _%_, _≤_}
+use mathlib.Core.Path.{_≡_, refl, ap, subst, _∙_}
+use mathlib.Core.Bool.{Bool, true, _&&_}
 use mathlib.Core.List.{List}
-use lib.Dec.{leb, eqb}
-use native.Mathlib.Omega.{arith}
+use lib.Dec.{leb}
 use borrow.Author.Tests.{le-leb, leb-true, eq-eqb, ne-eqb}
 use Rattle.sheet.specs.Kind.{regions}
 use Rattle.sheet.specs.Layout.{_of_}
 use Rattle.sheet.specs.Head as head
 use Rattle.sheet.specs.Region as region
-use Rattle.sheet.specs.Entries.{count, entry}
+use Rattle.sheet.specs.Entries.{entry}
 use Rattle.sheet.specs.Lookup.{rangeOf}
 use Rattle.sheet.specs.declared.Run.{Run}
 use Rattle.sheet.specs.declared.Run.the-variants.{At, Nowhere}
 use Rattle.sheet.proofs.Good.{Good}
-use Rattle.sheet.proofs.Runs.{Covered, Ranged, ranged, range-hit}
+use Rattle.sheet.proofs.Runs.{Covered, ranged, range-hit}
 use Rattle.pdu.proofs.Truths.{and-is, never}
 use Rattle.pdu.specs.declared.Pdu.the-variants.{MemoryResponse}
 use Rattle.judge.specs.declared.Store.{Store}
