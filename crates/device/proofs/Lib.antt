@@ -14,6 +14,7 @@ pub mod RightKeys
 pub mod Properly
 pub mod RightProperties
 pub mod RightDescriptions
+pub mod Changes
 pub mod RightMemory
 pub mod Rightly
 pub mod Shapes

@@ -20,7 +20,8 @@ use Rattle.device.proofs.RightGroups.{right-group-read, right-group-put
 use Rattle.device.proofs.RightAddresses.{right-address-write, right-address-read, right-serial-read, right-serial-write, right-descriptor, only-address-write, only-no-address-write, only-address-read, only-no-address-read, only-serial-read, only-no-serial-read, only-serial-write, only-no-serial-write, only-descriptor, only-no-descriptor}
 use Rattle.device.proofs.RightProperties.{right-property-read, right-property-write, only-property-count, only-property-read, only-no-property-read, only-property-clear, only-property-write, only-no-property-write}
 use Rattle.device.proofs.RightDescriptions.{right-description, only-description, only-no-description}
-use Rattle.device.proofs.RightMemory.{right-memory-read, right-memory-write, right-bit-write, only-memory-read, only-no-memory-read, only-memory-write-verified, only-memory-write, only-no-memory-write-verified, only-no-memory-write, only-bit-write-verified, only-bit-write, only-no-bit-write-verified, only-no-bit-write}
+use Rattle.device.proofs.Changes.{only-verified, only-stored, only-denied, only-refused}
+use Rattle.device.proofs.RightMemory.{writing, bit-writing, right-memory-read, right-memory-write, right-bit-write, only-memory-read, only-no-memory-read}
 use Rattle.device.proofs.RightKeys.{right-authorize, right-key-write, right-restart, only-authorize, only-key-write, only-no-key-write, only-restart}
 
 module _ (x : Asked) (hs : Octets (x .sheet)) (ha : Octets (x .apdu)) where
@@ -99,14 +100,14 @@ module _ (x : Asked) (hs : Octets (x .sheet)) (ha : Octets (x .apdu)) where
   right-only r (due.noDescription object id index h f) = only-no-description x object id index h hs ha f
   right-only r (due.memoryRead n address i h p) = only-memory-read x n address h i p
   right-only r (due.noMemoryRead n address h f) = only-no-memory-read x n address h f
-  right-only r (due.memoryWriteVerified n address i d h p e v) = rw e (only-memory-write-verified x n address h i p v)
-  right-only r (due.memoryWrite n address i d h p e v) = rw e (only-memory-write x n address h i p v)
-  right-only r (due.noMemoryWriteVerified n address h f v) = only-no-memory-write-verified x n address h f v
-  right-only r (due.noMemoryWrite n address h f v) = only-no-memory-write x n address h f v
-  right-only r (due.bitWriteVerified n address i d h p e v) = rw e (only-bit-write-verified x n address h i p v)
-  right-only r (due.bitWrite n address i d h p e v) = rw e (only-bit-write x n address h i p v)
-  right-only r (due.noBitWriteVerified n address h f v) = only-no-bit-write-verified x n address h f v
-  right-only r (due.noBitWrite n address h f v) = only-no-bit-write x n address h f v
+  right-only r (due.memoryWriteVerified n address i d h p e v) = rw e (only-verified x _ n address _ (writing x n address h) h i p v)
+  right-only r (due.memoryWrite n address i d h p e v) = rw e (only-stored x _ n address _ (writing x n address h) h i p v)
+  right-only r (due.noMemoryWriteVerified n address h f v) = only-denied x _ n address _ (writing x n address h) h f v
+  right-only r (due.noMemoryWrite n address h f v) = only-refused x _ n address _ (writing x n address h) h f v
+  right-only r (due.bitWriteVerified n address i d h p e v) = rw e (only-verified x _ n address _ (bit-writing x n address) h i p v)
+  right-only r (due.bitWrite n address i d h p e v) = rw e (only-stored x _ n address _ (bit-writing x n address) h i p v)
+  right-only r (due.noBitWriteVerified n address h f v) = only-denied x _ n address _ (bit-writing x n address) h f v
+  right-only r (due.noBitWrite n address h f v) = only-refused x _ n address _ (bit-writing x n address) h f v
   right-only r (due.authorize key level h g) = only-authorize x key h level g
   right-only r (due.keyWrite named key h w) = only-key-write x named key h w
   right-only r (due.noKeyWrite named key h f) = only-no-key-write x named key h f

@@ -20,12 +20,13 @@ use Rattle.judge.specs.declared.Answer.the-variants as answer
 use Rattle.judge.specs.declared.Decision.{Decision}
 use Rattle.judge.specs.Decisions.{decision, refused, denied}
 use Rattle.judge.specs.Addresses.{addressWriteOf, addressReadOf, serialReadOf, serialWriteOf, descriptorOf}
+use Rattle.judge.specs.Memory.{memoryWriteOf, bitWriteOf}
 use Rattle.judge.specs.Keys.{authorizeOf, restartOf}
 use Rattle.judge.specs.Judge.{decideOf, judgeOf}
 use Rattle.judge.proofs.Walks.{by-eq}
 use Rattle.judge.proofs.GroupCases.{group-read-cases, group-put-cases}
 use Rattle.judge.proofs.PropertyCases.{property-read-cases, property-write-cases, description-cases}
-use Rattle.judge.proofs.MemoryCases.{memory-read-cases, memory-write-cases, bit-write-cases}
+use Rattle.judge.proofs.MemoryCases.{says-write, says-change, memory-read-cases, change-cases}
 use Rattle.judge.proofs.KeyCases.{key-write-cases}
 use Rattle.device.specs.Asked.{Asked, Refusal, noRoom, badSheet, badLength, badMode, noSession}
 use Rattle.device.specs.Replies.{Negative, ofRead, ofWrite, ofDescription, ofMemoryRead, ofMemoryWrite, ofBitWrite, ofKeyWrite}
@@ -52,7 +53,7 @@ unanswered a = refuse 12 (omega arith) (omega arith) (λ e. omega arith)
 
 module _ (a s : List ℕ) (level group : ℕ) (d : List ℕ) where
   shaped : (p : Pdu) → readPdu a ≡ Is p → Shape a (decideOf s level group d p)
-  unfolding addressWriteOf addressReadOf serialReadOf serialWriteOf descriptorOf authorizeOf restartOf
+  unfolding addressWriteOf addressReadOf serialReadOf serialWriteOf descriptorOf memoryWriteOf bitWriteOf authorizeOf restartOf
   shaped GroupValueRead e =
       group-read-cases s group (Shape a) (λ i t z. reply _ _ _ _) (λ i t z. reply _ _ _ _) (not-ours a)
   shaped (GroupValueResponse v) e =
@@ -77,10 +78,10 @@ module _ (a s : List ℕ) (level group : ℕ) (d : List ℕ) where
   shaped (MemoryRead n address) e =
       memory-read-cases s regions level n address (Shape a) (λ i p. reply _ _ _ _) (deny _ _ e (ofMemoryRead n address))
   shaped (MemoryWrite n address) e =
-      memory-write-cases s regions level n address (Shape a) (λ i p v. reply _ _ _ _) (λ i p v. done _ _)
+      change-cases says-write 12 store.Data s regions level n address (Shape a) (λ i p v. reply _ _ _ _) (λ i p v. done _ _)
       (λ v. deny _ _ e (ofMemoryWrite n address)) (λ v. unanswered a)
   shaped (MemoryBitWrite n address) e =
-      bit-write-cases s regions level n address (Shape a) (λ i p v. reply _ _ _ _) (λ i p v. done _ _)
+      change-cases says-change 5 (λ o. store.Bits o n) s regions level n address (Shape a) (λ i p v. reply _ _ _ _) (λ i p v. done _ _)
       (λ v. deny _ _ e (ofBitWrite n address)) (λ v. unanswered a)
   shaped (AuthorizeRequest key) e = reply _ _ _ _
   shaped (KeyWrite named key) e =

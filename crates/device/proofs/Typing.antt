@@ -25,12 +25,14 @@ use Rattle.judge.specs.declared.Answer.{Answer}
 use Rattle.judge.specs.declared.Answer.the-variants as answer
 use Rattle.judge.specs.declared.Decision.{Decision}
 use Rattle.judge.specs.Addresses.{addressWriteOf, addressReadOf, serialReadOf, serialWriteOf, descriptorOf}
+use Rattle.judge.specs.declared.Store.the-variants as store
+use Rattle.judge.specs.Memory.{memoryWriteOf, bitWriteOf}
 use Rattle.judge.specs.Keys.{grantOf, authorizeOf, restartOf}
 use Rattle.judge.specs.Judge.{decideOf, judgeOf}
 use Rattle.judge.proofs.Walks.{by-eq}
 use Rattle.judge.proofs.GroupCases.{group-read-cases, group-put-cases}
 use Rattle.judge.proofs.PropertyCases.{describes, property-read-cases, property-write-cases, description-cases}
-use Rattle.judge.proofs.MemoryCases.{memory-read-cases, memory-write-cases, bit-write-cases}
+use Rattle.judge.proofs.MemoryCases.{says-write, says-change, memory-read-cases, change-cases}
 use Rattle.judge.proofs.KeyCases.{grant-cases, key-write-cases}
 use Rattle.device.specs.Octets.{Octets}
 use Rattle.device.specs.Asked.{Asked}
@@ -64,7 +66,7 @@ module _ {s : List ℕ} (ok : Good 1 s) (h : Octets s) where
 
 module _ {s : List ℕ} (ok : Good 1 s) (h : Octets s) (level group : ℕ) (d : List ℕ) where
   fitted : (p : Pdu) → Typed p → Fits (decideOf s level group d p)
-  unfolding addressWriteOf addressReadOf serialReadOf serialWriteOf descriptorOf authorizeOf restartOf
+  unfolding addressWriteOf addressReadOf serialReadOf serialWriteOf descriptorOf memoryWriteOf bitWriteOf authorizeOf restartOf
   fitted GroupValueRead t = group-read-cases s group Fits (λ i l z. (tt, tt)) (λ i l z. (tt, tt)) tt
   fitted (GroupValueResponse v) t =
       group-put-cases s group Fits 4 v (length d) (λ i l z e. tt) (λ i l z e. tt) (λ i l e. tt) tt
@@ -85,9 +87,9 @@ module _ {s : List ℕ} (ok : Good 1 s) (h : Octets s) (level group : ℕ) (d : 
       (t .0, (t .1 .0, (t .1 .1 .0, (omega arith, (tt, (omega arith, tt))))))
   fitted (MemoryRead n address) t = memory-read-cases s regions level n address Fits (λ i p. t) t
   fitted (MemoryWrite n address) t =
-      memory-write-cases s regions level n address Fits (λ i p v. t) (λ i p v. tt) (λ v. t) (λ v. tt)
+      change-cases says-write 12 store.Data s regions level n address Fits (λ i p v. t) (λ i p v. tt) (λ v. t) (λ v. tt)
   fitted (MemoryBitWrite n address) t =
-      bit-write-cases s regions level n address Fits (λ i p v. (tt, t .1)) (λ i p v. tt) (λ v. (tt, t .1)) (λ v. tt)
+      change-cases says-change 5 (λ o. store.Bits o n) s regions level n address Fits (λ i p v. (tt, t .1)) (λ i p v. tt) (λ v. (tt, t .1)) (λ v. tt)
   fitted (AuthorizeRequest key) t = (omega (arith, granted s key), tt)
   fitted (KeyWrite named key) t = key-write-cases level named key Fits (λ l r. (t .0, tt)) (omega arith, tt)
   fitted Restart t = tt
