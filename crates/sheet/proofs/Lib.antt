@@ -14,3 +14,6 @@ pub mod Seeks
 pub mod Keys
 pub mod Ranks
 pub mod Runs
+pub mod Sames
+pub mod Frames
+pub mod Finds
