@@ -17,3 +17,5 @@ pub mod Runs
 pub mod Sames
 pub mod Frames
 pub mod Finds
+pub mod Mild
+pub mod Stores

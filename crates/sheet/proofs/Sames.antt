@@ -17,25 +17,36 @@ use Rattle.sheet.specs.Entries.{count, size, base, place, contents, entr
 use Rattle.sheet.specs.Frame.{Agree, Fixed}
 use Rattle.sheet.proofs.ByKind.{eachKind}
 
+-- by the first six bytes of the head alone
+module _ (s s′ : List ℕ) (front : (p : ℕ) → p < head.serial .at → getD s′ p 0 ≡ getD s p 0) where
+  field-front : (f : Field) → f .at + f .width ≤ head.serial .at → f of s′ ≡ f of s
+  field-front f h = num-same s′ s (f .at) (f .at) (f .width) (λ i l. front (f .at + i) (omega arith))
+
+  count-front : (k : ℕ) → count s′ k ≡ count s k
+  count-front zero = field-front head.regions (omega arith)
+  count-front (suc zero) = field-front head.properties (omega arith)
+  count-front (suc (suc k)) = field-front head.groups (omega arith)
+
+  base-front : (k : ℕ) → base s′ k ≡ base s k
+  base-front zero = refl
+  base-front (suc k) = rw (base-front k, count-front k)
+
+  -- an entry stands at the same place
+  pub place-front : (k i : ℕ) → place s′ k i ≡ place s k i
+  place-front k i = rw (base-front k)
+
 module _ {s s′ : List ℕ} (a : Agree s s′) where
-  -- a field of the head before the serial
   pub front-same : (f : Field) → f .at + f .width ≤ head.serial .at → f of s′ ≡ f of s
-  front-same f h = num-same s′ s (f .at) (f .at) (f .width) (λ i l. a .front (f .at + i) (omega arith))
+  front-same = field-front s s′ (a .front)
 
   pub count-same : (k : ℕ) → count s′ k ≡ count s k
-  count-same zero = front-same head.regions (omega arith)
-  count-same (suc zero) = front-same head.properties (omega arith)
-  count-same (suc (suc k)) = front-same head.groups (omega arith)
-
-  pub base-same : (k : ℕ) → base s′ k ≡ base s k
-  base-same zero = refl
-  base-same (suc k) = rw (base-same k, count-same k)
+  count-same = count-front s s′ (a .front)
 
   pub place-same : (k i : ℕ) → place s′ k i ≡ place s k i
-  place-same k i = rw (base-same k)
+  place-same = place-front s s′ (a .front)
 
   pub contents-same : contents s′ ≡ contents s
-  contents-same = base-same kinds
+  contents-same = base-front s s′ (a .front) kinds
 
   -- a field of an entry that is no part of a property's count
   pub field-same :
