@@ -1,11 +1,10 @@
 -- Two sheets that agree on what the rules read are both accepted or both not.
 -- Assumes nothing.
-use Prim.Native.Nat.{ℕ, zero, suc, _+_, _<_, _≤_}
-use mathlib.Core.Path.{_≡_, refl, sym, _∙_, ap}
+use Prim.Native.Nat.{ℕ, zero, _<_, _≤_}
+use mathlib.Core.Path.{_≡_, sym, _∙_}
 use mathlib.Core.List.{List}
 use lib.ListN.{length}
 use native.Mathlib.Omega.{arith}
-use Rattle.octets.specs.Bytes.{numAt}
 use Rattle.sheet.specs.Demand.{Met}
 use Rattle.sheet.specs.Kind.{kinds, regions, properties, groups}
 use Rattle.sheet.specs.Layout.{_of_}
@@ -13,12 +12,12 @@ use Rattle.sheet.specs.Head as head
 use Rattle.sheet.specs.Region as region
 use Rattle.sheet.specs.Property as property
 use Rattle.sheet.specs.Group as group
-use Rattle.sheet.specs.Entries.{count, entry, bodyAt, sixBits}
+use Rattle.sheet.specs.Entries.{count, entry, sixBits}
 use Rattle.sheet.specs.Rules.{entryDemands, bodyDemands, ruleIn}
 use Rattle.sheet.specs.Frame.{Agree}
 use Rattle.sheet.proofs.ByKind.{eachKind}
 use Rattle.sheet.proofs.Good.{Good, good, accepted}
-use Rattle.sheet.proofs.Sames.{front-same, count-same, contents-same, region-same, property-same, group-same, floor-same, offset-same, at-same, start-same, reached-same}
+use Rattle.sheet.proofs.Sames.{front-same, count-same, region-same, property-same, group-same, floor-same, offset-same, at-same, start-same, reached-same}
 use Rattle.sheet.proofs.Ties.{six-to, six-from}
 
 module _ {s s′ : List ℕ} (a : Agree s s′) where
@@ -43,6 +42,27 @@ module _ {s s′ : List ℕ} (a : Agree s s′) where
             let l = below-same groups i h in
             let d : group.code of entry s groups i ≡ 0 = sym (group-same a i group.code l (omega arith)) ∙ c in
             rw (at-same a groups i (omega arith) l) (a .six i l d .1, a .six i l d .0);
+      }
+
+  -- AGREEMENT GOES ON
+  pub agree-trans : {s″ : List ℕ} → Agree s′ s″ → Agree s s″
+  agree-trans b =
+      record {
+        long = b .long ∙ a .long;
+        front = λ p h. b .front p h ∙ a .front p h;
+        zero15 = b .zero15 ∙ a .zero15;
+        zero30 = b .zero30 ∙ a .zero30;
+        zero31 = b .zero31 ∙ a .zero31;
+        flags = (λ h. b .flags .0 (a .flags .0 h), λ h. a .flags .1 (b .flags .1 h));
+        fixed = λ k i j hk hi hj f. b .fixed k i j hk (rw (count-same a k) hi) hj f ∙ a .fixed k i j hk hi hj f;
+        counts = λ i h.
+            let l = b .counts i (rw (count-same a properties) h) in
+            let m = rw (property-same a i property.maximum h (omega arith) (omega arith)) at l in
+            (λ n. m .0 (a .counts i h .0 n), λ n. a .counts i h .1 (m .1 n));
+        six = λ i h c.
+            let l = b .six i (rw (count-same a groups) h) (group-same a i group.code h (omega arith) ∙ c) in
+            let m = rw (at-same a groups i (omega arith) h) at l in
+            (λ n. m .0 (a .six i h c .0 n), λ n. a .six i h c .1 (m .1 n));
       }
 
   module _ {ed : ℕ} (g : Good ed s) where
@@ -89,7 +109,7 @@ module _ {s s′ : List ℕ} (a : Agree s s′) where
           last = (start-same a kinds (omega arith) ∙ g .last .0 ∙ sym (a .long), tt);
         }
 
--- BOTH ARE ACCEPTED OR NEITHER IS
+-- OF TWO THAT AGREE BOTH ARE ACCEPTED OR NEITHER IS
 pub both-or-neither :
     (ed : ℕ) {s s′ : List ℕ} → Agree s s′ → (ruleIn ed s ≡ 0 → ruleIn ed s′ ≡ 0) × (ruleIn ed s′ ≡ 0 → ruleIn ed s ≡ 0)
 both-or-neither ed {s} {s′} a = (λ e. accepted (kept a (good ed s e)), λ e. accepted (kept (agree-sym a) (good ed s′ e)))

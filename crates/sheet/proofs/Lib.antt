@@ -18,4 +18,5 @@ pub mod Sames
 pub mod Frames
 pub mod Finds
 pub mod Mild
+pub mod Counts
 pub mod Stores
