@@ -17,6 +17,7 @@ use Rattle.device.specs.Safe.{Safe}
 use Rattle.device.proofs.Judged.{judged}
 use Rattle.device.proofs.SafeEach.{safe-refused, safe-decided}
 
+-- WHATEVER IS DECIDED CAN BE CARRIED OUT
 pub safe :
     (room : ℕ) (s : List ℕ) (q : Session) (mode group : ℕ) (a : List ℕ) →
     Safe s (dataIn (readPdu a) a) (judgeOf room s q mode group a)
