@@ -1,16 +1,15 @@
 -- What the row of a request that reads says of its fields and its data.
 -- Assumes nothing.
 use Prim.Native.Nat.{ℕ, _+_, _*_, _≤_, _<_}
-use mathlib.Core.Path.{_≡_, refl}
+use mathlib.Core.Path.{_≡_}
 use mathlib.Core.List.{List}
 use native.Mathlib.Omega.{arith}
 use lib.ListN.{length, length-drop}
-use Rattle.pdu.specs.Tests.{isBelow, isAtMost, isEqual, both}
-use Rattle.pdu.specs.Read.{readPdu, dataOf}
-use Rattle.pdu.proofs.Truths.{both-is, below-is, at-most-is, equal-is}
-use Rattle.pdu.proofs.Readings.{Reading, reading}
-use Rattle.pdu.specs.declared.Pdu.the-variants.{SerialNumberRead, PropertyValueRead, PropertyValueWrite, MemoryRead, MemoryWrite, MemoryBitWrite}
-use Rattle.pdu.specs.declared.Parsed.the-variants.{Is}
+use Rattle.pdu.specs.Tests.{isBelow}
+use Rattle.pdu.specs.Read.{dataOf}
+use Rattle.pdu.proofs.Truths.{both-is, below-is, equal-is}
+use Rattle.pdu.proofs.Readings.{Reading}
+use Rattle.pdu.specs.declared.Pdu.the-variants.{SerialNumberRead, PropertyValueRead, PropertyValueWrite, MemoryWrite, MemoryBitWrite}
 
 module _ (a : List ℕ) where
   pub serial-small : (serial : ℕ) → Reading a (SerialNumberRead serial) → serial < 281474976710656

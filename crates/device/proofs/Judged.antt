@@ -1,16 +1,14 @@
 -- What is decided about a request, case by case: refused before its service, or as its service decides.
 -- Assumes nothing.
-use Prim.Native.Nat.{ℕ, _≤_, _<_}
+use Prim.Native.Nat.{ℕ}
 use mathlib.Core.Path.{_≡_, refl, sym, subst, _∙_}
-use mathlib.Core.Logic.{_↔_, _⊎_, inl, inr}
-use mathlib.Core.Bool.{Bool, true, false, cond, not, _&&_}
-use mathlib.Core.List.{List}
+use mathlib.Core.Logic.{inl, inr}
+use mathlib.Core.Bool.{Bool, true, false, not, _&&_}
 use lib.ListN.{length}
 use lib.Dec.{eqb}
-use native.Mathlib.Omega.{arith}
 use borrow.Author.Tests.{eq-eqb, eqb-true, eqb-false, not-true, not-false}
 use Rattle.sheet.specs.Rules.{ruleOf}
-use Rattle.pdu.specs.Table.{rowOf, has, serviceAt}
+use Rattle.pdu.specs.Table.{rowOf, serviceAt}
 use Rattle.pdu.specs.Pdus.{serviceOf}
 use Rattle.pdu.specs.Rules.{codeOf}
 use Rattle.pdu.specs.Read.{readPdu}
@@ -39,13 +37,13 @@ open-then false b e h = never h
 
 module _ (x : Asked) where
   -- the code names a service exactly if it is one of the service's
-  names-found : (k : Service) → Names x k → serviceAt (codeOf (x .apdu)) ≡ Listed k
+  pub names-found : (k : Service) → Names x k → serviceAt (codeOf (x .apdu)) ≡ Listed k
   names-found k n = found k (codeOf (x .apdu)) (has-is (rowOf k) _ .1 (n .from, n .to))
 
-  found-names : (k : Service) → serviceAt (codeOf (x .apdu)) ≡ Listed k → Names x k
+  pub found-names : (k : Service) → serviceAt (codeOf (x .apdu)) ≡ Listed k → Names x k
   found-names k e = let h = has-is (rowOf k) _ .0 (named k _ e) in record { from = h .0; to = h .1 }
 
-  names-once : (j k : Service) → Names x j → Names x k → j ≡ k
+  pub names-once : (j k : Service) → Names x j → Names x k → j ≡ k
   names-once j k a b = let e = names-found j a in let f = names-found k b in cc
 
   module _ (P : Decision → Type 0)

@@ -1,7 +1,7 @@
 -- Every decision can be carried out.
 -- Assumes nothing.
 use Prim.Native.Nat.{ℕ}
-use mathlib.Core.Path.{_≡_, refl, sym, ap, subst}
+use mathlib.Core.Path.{sym, subst}
 use mathlib.Core.List.{List}
 use Rattle.sheet.proofs.Good.{good}
 use Rattle.pdu.specs.Read.{readPdu}
@@ -17,6 +17,7 @@ use Rattle.device.specs.Safe.{Safe}
 use Rattle.device.proofs.Judged.{judged}
 use Rattle.device.proofs.SafeEach.{safe-refused, safe-decided}
 
+-- WHATEVER IS DECIDED CAN BE CARRIED OUT
 pub safe :
     (room : ℕ) (s : List ℕ) (q : Session) (mode group : ℕ) (a : List ℕ) →
     Safe s (dataIn (readPdu a) a) (judgeOf room s q mode group a)

@@ -1,20 +1,19 @@
 -- What each service decides can be carried out.
 -- Assumes nothing.
 use Prim.Native.Nat.{ℕ, _+_, _*_, _-_, _≤_, _<_}
-use mathlib.Core.Path.{_≡_, refl, sym, ap, _∙_}
-use mathlib.Core.Bool.{true}
+use mathlib.Core.Path.{_≡_, refl}
+use mathlib.Core.Bool.{Bool, true}
 use mathlib.Core.List.{List, []}
 use lib.ListN.{length, take, drop, length-take, length-drop}
 use native.Mathlib.Omega.{arith}
 use Rattle.octets.specs.Bytes.{bytesOf}
 use Rattle.octets.proofs.Numbers.{length-bytes}
-use Rattle.sheet.specs.Kind.{regions, properties, groups}
+use Rattle.sheet.specs.Kind.{regions, properties}
 use Rattle.sheet.specs.Layout.{_of_}
 use Rattle.sheet.specs.Property as property
 use Rattle.sheet.specs.Head as head
-use Rattle.sheet.specs.Entries.{count, place, entry}
+use Rattle.sheet.specs.Entries.{count, entry}
 use Rattle.sheet.proofs.Good.{Good}
-use Rattle.sheet.proofs.Runs.{Covered}
 use Rattle.pdu.specs.Read.{dataOf}
 use Rattle.pdu.specs.Write.{writable}
 use Rattle.pdu.proofs.Readings.{Reading}
@@ -24,7 +23,6 @@ use Rattle.judge.specs.declared.Store.{Store}
 use Rattle.judge.specs.declared.Store.the-variants as store
 use Rattle.judge.specs.declared.Answer.{Answer}
 use Rattle.judge.specs.declared.Answer.the-variants as answer
-use Rattle.judge.specs.declared.Decision.{Decision}
 use Rattle.judge.specs.Decisions.{refused, denied, answered, written, stored}
 use Rattle.judge.specs.Groups.{groupReadOf, groupPutOf}
 use Rattle.judge.specs.Addresses.{addressWriteOf, addressReadOf, serialReadOf, serialWriteOf, descriptorOf}
@@ -35,7 +33,7 @@ use Rattle.judge.specs.Judge.{decideOf}
 use Rattle.judge.proofs.Walks.{by-eq}
 use Rattle.judge.proofs.GroupCases.{group-read-cases, group-put-cases}
 use Rattle.judge.proofs.PropertyCases.{property-read-cases, property-write-cases, description-cases}
-use Rattle.judge.proofs.MemoryCases.{spot, memory-read-cases, memory-write-cases, bit-write-cases}
+use Rattle.judge.proofs.MemoryCases.{Says, says-write, says-change, spot, memory-read-cases, changed, change-cases}
 use Rattle.judge.proofs.KeyCases.{key-write-cases}
 use Rattle.device.specs.Carry.{storeOf}
 use Rattle.device.specs.Safe.{StoreSafe, AnswerSafe, Safe}
@@ -166,23 +164,26 @@ module _ {s : List ℕ} (ok : Good 1 s) (d : List ℕ) where
         (λ i p. safe-answered s d _ (memory-answer s d n a _ (p .most) (memory-within ok a n i (p .covered))))
         no-memory
 
-    memory-write : length d ≡ n → Safe s d (memoryWriteOf s regions level n a)
-    memory-write e =
-        memory-write-cases s regions level n a (Safe s d)
-        (λ i p v. let w = memory-within ok a n i (p .covered) in safe-verified s d _ n a _ (omega arith) (p .most) w)
-        (λ i p v. safe-stored s d _ (omega (arith, memory-within ok a n i (p .covered))))
+    -- a write whose stores lie where the range does
+    change :
+        {test : ℕ → ℕ → Bool} {R : ℕ → ℕ → Type 0} (y : Says test R) (m : ℕ) (new : ℕ → Store) → m ≤ 12 →
+        ((o : ℕ) → o + n ≤ length s → StoreSafe s d (new o)) → Safe s d (changed y m new s regions level n a)
+    change y m new l f =
+        change-cases y m new s regions level n a (Safe s d)
+        (λ i p v.
+        let w = memory-within ok a n i (p .covered) in
+        safe-verified s d (new (spot s regions a i)) n a _ (f _ w) (omega (arith, p .most)) w)
+        (λ i p v. safe-stored s d (new (spot s regions a i)) (f _ (memory-within ok a n i (p .covered))))
         (λ v. no-memory)
         (λ v. safe-refused s d 12)
 
+    memory-write : length d ≡ n → Safe s d (memoryWriteOf s regions level n a)
+    unfolding memoryWriteOf
+    memory-write e = change says-write 12 store.Data (omega arith) (λ o w. omega arith)
+
     bit-write : length d ≡ n + n → Safe s d (bitWriteOf s regions level n a)
-    bit-write e =
-        bit-write-cases s regions level n a (Safe s d)
-        (λ i p v.
-        let w = memory-within ok a n i (p .covered) in
-        safe-verified s d (store.Bits (spot s regions a i) n) n a _ (w, e) (omega (arith, p .most)) w)
-        (λ i p v. safe-stored s d (store.Bits (spot s regions a i) n) (memory-within ok a n i (p .covered), e))
-        (λ v. no-memory)
-        (λ v. safe-refused s d 12)
+    unfolding bitWriteOf
+    bit-write e = change says-change 5 (λ o. store.Bits o n) (omega arith) (λ o w. (w, e))
 
   authorize : (key : ℕ) → Safe s d (authorizeOf s key)
   unfolding authorizeOf

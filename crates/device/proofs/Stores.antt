@@ -2,9 +2,9 @@
 -- Assumes nothing.
 use Prim.Native.Nat.{ℕ, zero, suc, _+_, _≤_}
 use mathlib.Core.Path.{_≡_, refl, sym, ap, _∙_}
-use mathlib.Core.List.{List, [], _∷_, _++_}
+use mathlib.Core.List.{List, [], _∷_}
 use native.Mathlib.Omega.{arith}
-use lib.ListN.{length, replicate, length-append, length-replicate}
+use lib.ListN.{length, take, drop, replicate, length-append, length-replicate}
 use Rattle.octets.specs.Bytes.{bytesOf}
 use Rattle.octets.specs.Splice.{splice}
 use Rattle.octets.proofs.Numbers.{length-bytes}
@@ -30,3 +30,8 @@ length-store s d (store.Number at w x) h = length-splice s at (bytesOf w x) (ome
 length-store s d (store.Data at) h = length-splice s at d h
 length-store s d (store.Bits at n) h = length-splice s at (build n (bitAt s at n d)) (omega (arith, length-build n (bitAt s at n d)))
 length-store s d (store.Fill at n b) h = length-splice s at (replicate n b) (omega (arith, length-replicate n b))
+
+-- WHAT WAS STORED STANDS THERE
+pub stored-back : (s d : List ℕ) (o n : ℕ) → length d ≡ n → o + n ≤ length s → take n (drop o (splice s o d)) ≡ d
+stored-back s d o n e h =
+    ap (λ (m : ℕ). take m (drop o (splice s o d))) (sym e) ∙ splice-read s o d (omega arith)

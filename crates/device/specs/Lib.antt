@@ -4,3 +4,5 @@ pub mod Events
 pub mod Asked
 pub mod Right
 pub mod Safe
+pub mod Octets
+pub mod Replies

@@ -1,10 +1,8 @@
 -- What is decided about a group value, case by case.
 -- Assumes nothing.
 use Prim.Native.Nat.{ℕ, _/_, _%_, _<_, _≤_}
-use mathlib.Core.Path.{_≡_, sym, _∙_}
-use mathlib.Core.Bool.{Bool, cond}
+use mathlib.Core.Path.{_≡_, refl, sym, ap, _∙_}
 use mathlib.Core.List.{List}
-use lib.Dec.{ltb, eqb}
 use native.Mathlib.Omega.{arith}
 use borrow.Author.Tests.{lt-ltb, eq-eqb, ne-eqb}
 use Rattle.octets.specs.Bytes.{numAt}
@@ -20,7 +18,7 @@ use Rattle.judge.specs.declared.Store.the-variants as store
 use Rattle.judge.specs.declared.Answer.the-variants as answer
 use Rattle.judge.specs.declared.Decision.{Decision}
 use Rattle.judge.specs.Decisions.{refused, answered, stored}
-use Rattle.judge.specs.Groups.{read, valueOf, putValue, flagsAt, hasFlag, groupReadOf, groupPutOf}
+use Rattle.judge.specs.Groups.{valueOf, putValue, flagsAt, groupReadOf, groupPutOf}
 use Rattle.judge.proofs.Walks.{by-lt, by-eq}
 
 -- group object i has the address, and the flag w
@@ -119,3 +117,21 @@ module _ {s : List ℕ} (ok : Good 1 s) (address i : ℕ) where
     pub group-put-unfit : (d ≡ group.code of entry s groups i → ⊥) → groupPutOf w s address v d ≡ refused 10
     unfolding putValue
     group-put-unfit e = puts w v d t ∙ simp (ne-eqb d (group.code of entry s groups i) e)
+
+  -- so it isn't for nobody
+  pub group-read-for-us : Lets s 1 address i → groupReadOf s address ≡ refused 2 → ⊥
+  unfolding valueOf
+  group-read-for-us t e =
+      let z : valueOf s (group.code of entry s groups i) (group.offset of entry s groups i) .outcome ≡ 2 = ap (λ (k : Decision). k .outcome) (sym (reads t) ∙ e) in
+      let o : valueOf s (group.code of entry s groups i) (group.offset of entry s groups i) .outcome ≡ 0 =
+      by-eq (λ (k : Decision). k .outcome ≡ 0) (group.code of entry s groups i) 0 _ _ (λ z. refl) (λ z. refl) in
+      omega arith
+
+  pub group-put-for-us : (w v d : ℕ) → Lets s w address i → groupPutOf w s address v d ≡ refused 2 → ⊥
+  unfolding putValue
+  group-put-for-us w v d t e =
+      let z : putValue (group.code of entry s groups i) (group.offset of entry s groups i) v d .outcome ≡ 2 = ap (λ (k : Decision). k .outcome) (sym (puts w v d t) ∙ e) in
+      let P : Decision → Type 0 = λ k. k .outcome ≡ 2 → ⊥ in
+      by-eq P d (group.code of entry s groups i) _ _
+      (λ c. by-eq P (group.code of entry s groups i) 0 _ _ (λ c z. omega arith) (λ c z. omega arith))
+      (λ c z. omega arith) z

@@ -1,22 +1,21 @@
 -- What is decided about memory, case by case.
 -- Assumes nothing.
-use Prim.Native.Nat.{ℕ, _+_, _-_, _/_, _%_, _<_, _≤_}
-use mathlib.Core.Path.{_≡_, refl, sym, ap, subst, _∙_}
-use mathlib.Core.Bool.{Bool, true, false, cond, _&&_}
+use Prim.Native.Nat.{ℕ, _+_, _-_, _/_, _%_, _≤_}
+use mathlib.Core.Path.{_≡_, refl, ap, subst, _∙_}
+use mathlib.Core.Bool.{Bool, true, _&&_}
 use mathlib.Core.List.{List}
-use lib.Dec.{leb, eqb}
-use native.Mathlib.Omega.{arith}
+use lib.Dec.{leb}
 use borrow.Author.Tests.{le-leb, leb-true, eq-eqb, ne-eqb}
 use Rattle.sheet.specs.Kind.{regions}
 use Rattle.sheet.specs.Layout.{_of_}
 use Rattle.sheet.specs.Head as head
 use Rattle.sheet.specs.Region as region
-use Rattle.sheet.specs.Entries.{count, entry}
+use Rattle.sheet.specs.Entries.{entry}
 use Rattle.sheet.specs.Lookup.{rangeOf}
 use Rattle.sheet.specs.declared.Run.{Run}
 use Rattle.sheet.specs.declared.Run.the-variants.{At, Nowhere}
 use Rattle.sheet.proofs.Good.{Good}
-use Rattle.sheet.proofs.Runs.{Covered, Ranged, ranged, range-hit}
+use Rattle.sheet.proofs.Runs.{Covered, ranged, range-hit}
 use Rattle.pdu.proofs.Truths.{and-is, never}
 use Rattle.pdu.specs.declared.Pdu.the-variants.{MemoryResponse}
 use Rattle.judge.specs.declared.Store.{Store}
@@ -117,67 +116,52 @@ module _ (s : List ℕ) (k level n a : ℕ) (P : Decision → Type 0) where
       rw (r .here) (f (r .index) (r .permits)))
       (λ e. h)
 
-  -- a change that is allowed or not, verified or not
-  change-cases :
-      (allowed : Bool) (new : Store) (o : ℕ) →
-      (allowed ≡ true → head.verify s ≡ 1 → P (written new store.Nothing (answer.Sheet (MemoryResponse n a) o n))) →
-      (allowed ≡ true → (head.verify s ≡ 1 → ⊥) → P (stored new)) →
+-- A WRITE, of bytes or of bits: as a test of levels, the most bytes that it may name, and what it stores at a place
+module _ {test : ℕ → ℕ → Bool} {R : ℕ → ℕ → Type 0} (y : Says test R) (m : ℕ) (new : ℕ → Store) (s : List ℕ) (k level n a : ℕ) where
+  abbrev pub changed : Decision
+  changed =
+      changeOf (permitted test m level n (rangeOf s k a n)) (verifies s) (new (runAt (rangeOf s k a n))) (runAt (rangeOf s k a n)) n a
+
+  abbrev pub verified : ℕ → Decision
+  verified i = written (new (spot s k a i)) store.Nothing (answer.Sheet (MemoryResponse n a) (spot s k a i) n)
+
+  pub change-cases :
+      (P : Decision → Type 0) →
+      ((i : ℕ) → Permits R m s k level n a i → head.verify s ≡ 1 → P (verified i)) →
+      ((i : ℕ) → Permits R m s k level n a i → (head.verify s ≡ 1 → ⊥) → P (stored (new (spot s k a i)))) →
       (head.verify s ≡ 1 → P (denied (MemoryResponse 0 a))) →
-      ((head.verify s ≡ 1 → ⊥) → P (refused 12)) → P (changeOf allowed (verifies s) new o n a)
+      ((head.verify s ≡ 1 → ⊥) → P (refused 12)) → P changed
   unfolding changeOf
-  change-cases allowed new o f g h u =
-      by-test P allowed _ _ (λ e. by-eq P (head.verify s) 1 _ _ (f e) (g e)) (λ e. by-eq P (head.verify s) 1 _ _ h u)
-
-  pub memory-write-cases :
-      ((i : ℕ) → Permits Writes 12 s k level n a i → head.verify s ≡ 1 →
-      P (written (store.Data (spot s k a i)) store.Nothing (answer.Sheet (MemoryResponse n a) (spot s k a i) n))) →
-      ((i : ℕ) → Permits Writes 12 s k level n a i → (head.verify s ≡ 1 → ⊥) → P (stored (store.Data (spot s k a i)))) →
-      (head.verify s ≡ 1 → P (denied (MemoryResponse 0 a))) →
-      ((head.verify s ≡ 1 → ⊥) → P (refused 12)) → P (memoryWriteOf s k level n a)
-  unfolding memoryWriteOf
-  memory-write-cases f g h u =
-      change-cases (permitted mayWrite 12 level n (rangeOf s k a n)) (store.Data (runAt (rangeOf s k a n))) (runAt (rangeOf s k a n))
-      (λ e v. let r = permitted-in says-write 12 s level n a k e in rw (r .here) (f (r .index) (r .permits) v))
-      (λ e v. let r = permitted-in says-write 12 s level n a k e in rw (r .here) (g (r .index) (r .permits) v))
-      h u
-
-  pub bit-write-cases :
-      ((i : ℕ) → Permits Changes 5 s k level n a i → head.verify s ≡ 1 →
-      P (written (store.Bits (spot s k a i) n) store.Nothing (answer.Sheet (MemoryResponse n a) (spot s k a i) n))) →
-      ((i : ℕ) → Permits Changes 5 s k level n a i → (head.verify s ≡ 1 → ⊥) → P (stored (store.Bits (spot s k a i) n))) →
-      (head.verify s ≡ 1 → P (denied (MemoryResponse 0 a))) →
-      ((head.verify s ≡ 1 → ⊥) → P (refused 12)) → P (bitWriteOf s k level n a)
-  unfolding bitWriteOf
-  bit-write-cases f g h u =
-      change-cases (permitted mayChange 5 level n (rangeOf s k a n)) (store.Bits (runAt (rangeOf s k a n)) n) (runAt (rangeOf s k a n))
-      (λ e v. let r = permitted-in says-change 5 s level n a k e in rw (r .here) (f (r .index) (r .permits) v))
-      (λ e v. let r = permitted-in says-change 5 s level n a k e in rw (r .here) (g (r .index) (r .permits) v))
-      h u
+  change-cases P f g h u =
+      by-test P (permitted test m level n (rangeOf s k a n)) _ _
+      (λ e.
+      let r = permitted-in y m s level n a k e in
+      by-eq P (head.verify s) 1 _ _ (λ v. rw (r .here) (f (r .index) (r .permits) v)) (λ v. rw (r .here) (g (r .index) (r .permits) v)))
+      (λ e. by-eq P (head.verify s) 1 _ _ h u)
 
 -- AND BACK: the region that the range lies in decides
-module _ {s : List ℕ} (ok : Good 1 s) (level n a i : ℕ) where
-  pub memory-reads : Permits Reads 12 s regions level n a i → memoryReadOf s regions level n a ≡ answered (answer.Sheet (MemoryResponse n a) (spot s regions a i) n)
-  unfolding memoryReadOf
-  memory-reads p = simp (permitted-is says-read 12 s level n a ok i p, run-is says-read 12 s level n a ok i p)
+pub memory-reads :
+    {s : List ℕ} (ok : Good 1 s) (level n a i : ℕ) → Permits Reads 12 s regions level n a i →
+    memoryReadOf s regions level n a ≡ answered (answer.Sheet (MemoryResponse n a) (spot s regions a i) n)
+unfolding memoryReadOf
+memory-reads {s} ok level n a i p =
+    simp (permitted-is says-read 12 s level n a ok i p, run-is says-read 12 s level n a ok i p)
 
-  module _ (p : Permits Writes 12 s regions level n a i) where
-    pub memory-writes :
-        head.verify s ≡ 1 →
-        memoryWriteOf s regions level n a ≡ written (store.Data (spot s regions a i)) store.Nothing (answer.Sheet (MemoryResponse n a) (spot s regions a i) n)
-    unfolding memoryWriteOf changeOf
-    memory-writes v = simp (permitted-is says-write 12 s level n a ok i p, run-is says-write 12 s level n a ok i p, eq-eqb (head.verify s) 1 v)
+module _ {test : ℕ → ℕ → Bool} {R : ℕ → ℕ → Type 0} (y : Says test R) (m : ℕ) (new : ℕ → Store) {s : List ℕ} (ok : Good 1 s) (level n a i : ℕ)
+    (p : Permits R m s regions level n a i) where
+  pub change-writes : head.verify s ≡ 1 → changed y m new s regions level n a ≡ verified y m new s regions level n a i
+  unfolding changeOf
+  change-writes v = simp (permitted-is y m s level n a ok i p, run-is y m s level n a ok i p, eq-eqb (head.verify s) 1 v)
 
-    pub memory-stores : (head.verify s ≡ 1 → ⊥) → memoryWriteOf s regions level n a ≡ stored (store.Data (spot s regions a i))
-    unfolding memoryWriteOf changeOf
-    memory-stores v = simp (permitted-is says-write 12 s level n a ok i p, run-is says-write 12 s level n a ok i p, ne-eqb (head.verify s) 1 v)
+  pub change-stores : (head.verify s ≡ 1 → ⊥) → changed y m new s regions level n a ≡ stored (new (spot s regions a i))
+  unfolding changeOf
+  change-stores v = simp (permitted-is y m s level n a ok i p, run-is y m s level n a ok i p, ne-eqb (head.verify s) 1 v)
 
-  module _ (p : Permits Changes 5 s regions level n a i) where
-    pub bits-writes :
-        head.verify s ≡ 1 →
-        bitWriteOf s regions level n a ≡ written (store.Bits (spot s regions a i) n) store.Nothing (answer.Sheet (MemoryResponse n a) (spot s regions a i) n)
-    unfolding bitWriteOf changeOf
-    bits-writes v = simp (permitted-is says-change 5 s level n a ok i p, run-is says-change 5 s level n a ok i p, eq-eqb (head.verify s) 1 v)
+-- the two writes
+pub memory-write-is : (s : List ℕ) (k level n a : ℕ) → memoryWriteOf s k level n a ≡ changed says-write 12 store.Data s k level n a
+unfolding memoryWriteOf
+memory-write-is s k level n a = refl
 
-    pub bits-stores : (head.verify s ≡ 1 → ⊥) → bitWriteOf s regions level n a ≡ stored (store.Bits (spot s regions a i) n)
-    unfolding bitWriteOf changeOf
-    bits-stores v = simp (permitted-is says-change 5 s level n a ok i p, run-is says-change 5 s level n a ok i p, ne-eqb (head.verify s) 1 v)
+pub bit-write-is : (s : List ℕ) (k level n a : ℕ) → bitWriteOf s k level n a ≡ changed says-change 5 (λ o. store.Bits o n) s k level n a
+unfolding bitWriteOf
+bit-write-is s k level n a = refl

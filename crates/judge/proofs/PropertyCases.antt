@@ -1,19 +1,19 @@
 -- What is decided about a property, case by case.
 -- Assumes nothing.
 use Prim.Native.Nat.{ℕ, _+_, _*_, _-_, _/_, _%_, _<_, _≤_, max}
-use mathlib.Core.Path.{_≡_, refl, sym, _∙_}
-use mathlib.Core.Bool.{Bool, true, cond, _&&_}
+use mathlib.Core.Path.{_≡_, _∙_}
+use mathlib.Core.Bool.{true, cond, _&&_}
 use mathlib.Core.List.{List}
 use lib.Dec.{ltb, leb, eqb}
 use lib.ListN.{length}
 use native.Mathlib.Omega.{arith}
-use borrow.Author.Tests.{lt-ltb, le-leb, eq-eqb, ne-eqb, leb-true, eqb-true, lt-leb}
+use borrow.Author.Tests.{lt-ltb, le-leb, eq-eqb, ne-eqb, leb-true, eqb-true}
 use Rattle.octets.specs.Bytes.{numAt}
 use Rattle.sheet.specs.Kind.{properties}
 use Rattle.sheet.specs.Layout.{_of_}
 use Rattle.sheet.specs.Property as property
 use Rattle.sheet.specs.Entries.{count, place, entry, keyOf}
-use Rattle.sheet.specs.Lookup.{indexOf, nthOf, rank, objectAt}
+use Rattle.sheet.specs.Lookup.{nthOf, rank, objectAt}
 use Rattle.sheet.proofs.Good.{Good}
 use Rattle.sheet.proofs.Keys.{index-hit, index-key}
 use Rattle.sheet.proofs.Ranks.{nth-hit, nth-is}
@@ -23,7 +23,7 @@ use Rattle.judge.specs.declared.Store.the-variants as store
 use Rattle.judge.specs.declared.Answer.the-variants as answer
 use Rattle.judge.specs.declared.Decision.{Decision}
 use Rattle.judge.specs.Decisions.{denied, answered, written}
-use Rattle.judge.specs.Properties.{elements, counted, elementAt, noValue, propertyAt, readIn, propertyReadOf, writable, writeIn, propertyWriteOf, describedAt, descriptionOf}
+use Rattle.judge.specs.Properties.{elements, counted, elementAt, noValue, propertyAt, readIn, propertyReadOf, writeIn, propertyWriteOf, describedAt, descriptionOf}
 use Rattle.judge.proofs.Walks.{by-lt, by-le, by-eq, by-both, by-test}
 
 -- property i has the object and the id

@@ -1,6 +1,6 @@
 -- What is known of an APDU that reads, whatever its bytes: its service, its fields, and that its row lets them stand.
 -- Assumes nothing.
-use Prim.Native.Nat.{ℕ, _≤_, _<_}
+use Prim.Native.Nat.{ℕ, _≤_}
 use mathlib.Core.Path.{_≡_, refl, sym, ap, subst, _∙_}
 use mathlib.Core.Bool.{Bool, true, false}
 use mathlib.Core.List.{List}
@@ -19,7 +19,6 @@ use Rattle.pdu.specs.declared.Service.{Service}
 use Rattle.pdu.specs.declared.Found.{Found}
 use Rattle.pdu.specs.declared.Found.the-variants.{Listed, Unknown}
 use Rattle.pdu.specs.declared.Pdu.{Pdu}
-use Rattle.pdu.specs.declared.Parsed.{Parsed}
 use Rattle.pdu.specs.declared.Parsed.the-variants.{Is, Refused}
 
 pub record Reading (b : List ℕ) (p : Pdu) : Type 0 where

@@ -18,3 +18,10 @@ pub mod Keys
 pub mod Ranks
 pub mod Runs
 pub mod Seek
+pub mod RankBound
+pub mod Sames
+pub mod Frames
+pub mod Finds
+pub mod Mild
+pub mod Counts
+pub mod Stores
