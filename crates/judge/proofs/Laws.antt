@@ -1,7 +1,9 @@
 -- Definitions that go by tests, from the facts that the code has where it returns.
 -- Assumes nothing.
+use Prim.Native.Nat.{ℕ}
 use mathlib.Core.Path.{_≡_, refl, sym, _∙_}
 use mathlib.Core.Bool.{Bool, true, false, cond, _&&_}
+use lib.Dec.{leb, eqb}
 use borrow.Author.Tests.{lt-ltb, le-ltb, le-leb, lt-leb, eq-eqb, ne-eqb}
 
 pub yes : {A : Type 0} (t : Bool) (x y r : A) → t ≡ true → r ≡ x → r ≡ cond t x y
@@ -38,6 +40,17 @@ pub first-true : (a b : Bool) → (a && b) ≡ true → a ≡ true
 first-true true b e = refl
 first-true false b e = e
 
+pub second-true : (a b : Bool) → (a && b) ≡ true → b ≡ true
+second-true true b e = e
+second-true false b e = cc
+
+-- a test of a number that a call has given
+pub same-eqb : (x y z : ℕ) → x ≡ y → eqb x z ≡ eqb y z
+same-eqb x y z e = simp e
+
+pub same-leb : (x y z : ℕ) → x ≡ y → leb x z ≡ leb y z
+same-leb x y z e = simp e
+
 pub ruleset tests = (lt-ltb, le-ltb, le-leb, lt-leb, eq-eqb, ne-eqb)
 
-pub ruleset branches = (yes, no, lt-ltb, le-ltb, le-leb, lt-leb, eq-eqb, ne-eqb, made-yes, made-no, both, not-first, not-second, and-second, and-no)
+pub ruleset branches = (yes, no, lt-ltb, le-ltb, le-leb, lt-leb, eq-eqb, ne-eqb, made-yes, made-no, both, not-first, not-second, and-second, and-no, same-eqb, same-leb)

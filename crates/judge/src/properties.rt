@@ -1,6 +1,6 @@
 // Property values and descriptions.
 ghost use mathlib.Core.Path.{_≡_};
-ghost use Prim.Native.Nat.{ℕ, _+_, _-_, _*_, _≤_, _<_};
+ghost use Prim.Native.Nat.{ℕ, _+_, _-_, _*_, _/_, _%_, _≤_, _<_, max};
 ghost use mathlib.Core.List.{List};
 ghost use mathlib.Core.Bool.{_&&_};
 ghost use lib.Dec.{leb, eqb};
@@ -16,6 +16,7 @@ use crate::Store;
 use crate::decisions::answered;
 use crate::decisions::denied;
 use crate::decisions::written;
+use octets::word;
 use pdu::Pdu;
 use sheet::PropertyEntry;
 
@@ -117,4 +118,89 @@ fn read_in(e: PropertyEntry, level: u8, object: u8, id: u8, n: u8, s: u16) -> De
         });
     }
     no_value(object, id, s)
+}
+
+// The property may be written at this level.
+fn is_writable(kind: u8, levels: u8, level: u8) -> bool
+    ensures { λ r. ⌜ r ≡ (eqb (kind / 128) 1 && leb level (levels % 16)) ⌝ }
+{
+    if kind / 128 != 1 {
+        return false;
+    }
+    level <= levels % 16
+}
+
+// The count is asked for, and the data is a count of 0.
+fn is_cleared(n: u8, s: u16, d: &[u8]) -> bool
+    ensures { λ r. ⌜ r ≡ (countedOf n s && eqb (length (now (d .entry))) 2 && eqb (numAt (now (d .entry)) 0 2) 0) ⌝ }
+{
+    if d.len() != 2 {
+        return false;
+    }
+    if counted(n, s) {
+        return word(d, 0) == 0;
+    }
+    false
+}
+
+// The elements are there, and the data has as many bytes as they.
+fn is_stored(n: u8, s: u16, maximum: usize, size: usize, given: usize) -> bool
+    ensures { λ r. ⌜ r ≡ (elementsOf n s maximum && eqb given size) ⌝ }
+{
+    if elements(n, s, maximum) {
+        return given == size;
+    }
+    false
+}
+
+// The count becomes the larger of itself and the last element written.
+fn new_count(count: usize, n: u8, s: u16) -> usize
+    requires { ⌜ 1 ≤ n ⌝ }
+    ensures { λ r. ⌜ r ≡ max count (s + n - 1) ⌝ }
+{
+    let end = last(n, s);
+    if end < count {
+        return count;
+    }
+    end
+}
+
+// A write of data at this level to the property with that entry.
+fn write_in(e: PropertyEntry, level: u8, object: u8, id: u8, n: u8, s: u16, d: &[u8]) -> Decision
+    requires { ⌜ (e .element < 256) × (e .offset < 65536) × (e .place < 65536) ⌝ }
+    ensures { λ r. ⌜ ((t : List ℕ) (i : ℕ) → IsProperty t i e → r ≡ writeIn (entry t properties i) (place t properties i) level object id n s (now (d .entry))) ⌝ }
+{
+    let element = e.element;
+    if !is_writable(e.kind, e.levels, level) {
+        return no_value(object, id, s);
+    }
+    let answer = Pdu::PropertyValueResponse { object, id, n, s };
+    let at = count_at(e.place);
+    if is_cleared(n, s, d) {
+        return written(
+            Store::Fill { at, n: 2, b: 0 },
+            Store::Nothing,
+            Answer::Echo(answer),
+        );
+    }
+    let size = times(n as usize, element);
+    if is_stored(n, s, e.maximum, size, d.len()) {
+        let x = new_count(e.count, n, s) as u64;
+        let elements = Store::Data {
+            at: element_at(e.offset, element, s),
+        };
+        return written(
+            elements,
+            Store::Number { at, width: 2, x },
+            Answer::Echo(answer),
+        );
+    }
+    no_value(object, id, s)
+}
+
+fn count_at(place: usize) -> usize
+    requires { ⌜ place < 65536 ⌝ }
+    ensures { λ r. ⌜ r ≡ place + 6 ⌝ }
+{
+    place + 6
 }

@@ -13,4 +13,4 @@ elements-spec =
     (λ c. search (branches, arith))
     (λ c. search (branches, arith))
     (λ c κs. search needs)
-    (λ c. search (branches, arith, c .last .ensures)))
+    (λ c. search (branches, arith)))

@@ -1,7 +1,7 @@
 -- `judge::properties::read_in` meets its contract.
 -- Assumes nothing.
 use borrow.Author.Needs.{needs}
-use Rattle.judge.proofs.Values.{read-low, read-count, read-elements, read-none, from-one}
+use Rattle.judge.proofs.Values.{read-low, read-count, read-elements, read-none, start-one}
 use Rattle.judge.proofs.properties.read_in.Statement.{statement}
 use Rattle.judge.proofs.properties.read_in.Tie as tie
 
@@ -16,7 +16,7 @@ read-in-spec =
     (λ c. search (read-low, read-count, read-elements, read-none))
     (λ c κs. search needs)
     (λ c κs. search needs)
-    (λ c κs. search (from-one, needs))
+    (λ c κs. search (start-one, needs))
     (λ c κs. search needs)
     (λ c. search (read-low, read-count, read-elements, read-none))
     (λ c κs. search needs)
