@@ -1,4 +1,8 @@
 pub mod Arms
+pub mod Find
+pub mod Reading
+pub mod Stores
+pub mod Writing
 pub mod Truths
 pub mod Allowed
 pub mod Formed
@@ -13,7 +17,3 @@ pub mod Kept
 pub mod Again
 pub mod Vectors
 pub mod Readings
-pub mod Find
-pub mod Reading
-pub mod Stores
-pub mod Writing

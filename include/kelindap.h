@@ -1,0 +1,95 @@
+/*
+ * The device side of the KNX application layer, for one device.
+ * Link with libhost.a (x86-64 Linux; it calls nothing but memcpy and memset, if those).
+ *
+ * The host's duties, which no proof covers:
+ *  - the buffers of one call do not overlap, and stay lent until the call returns;
+ *  - nothing else writes the sheet between calls: the promises about a history hold only then;
+ *  - a bool is 0 or 1, and a pointer has as many readable (for answer and sheet, writable) bytes as its length says;
+ *  - a length of 0 is allowed everywhere, and its pointer is then never followed: NULL with 0 is an empty run;
+ *  - a session is the host's to keep, one for each connection, changed by these calls alone;
+ *  - calls on one sheet come one after the other, never from two threads at once.
+ */
+#ifndef KELINDAP_H
+#define KELINDAP_H
+
+#include <stdbool.h>
+#include <stddef.h>
+#include <stdint.h>
+
+#ifdef __cplusplus
+extern "C" {
+#endif
+
+/* The outcomes, by number. */
+enum kelindap_outcome {
+    KELINDAP_ANSWERED = 0,       /* carried out, an answer is in the buffer */
+    KELINDAP_DONE = 1,           /* carried out, no answer is due */
+    KELINDAP_NOT_FOR_US = 2,     /* another device is meant */
+    KELINDAP_NO_ROOM = 3,        /* the answer buffer has under 16 bytes */
+    KELINDAP_BAD_SHEET = 4,      /* the sheet is not accepted */
+    KELINDAP_BAD_LENGTH = 5,     /* the APDU has not 2 to 16 bytes */
+    KELINDAP_BAD_MODE = 6,       /* the mode is not 0 to 3 */
+    KELINDAP_NOT_CONNECTED = 7,  /* connected mode on a closed session */
+    KELINDAP_UNKNOWN = 8,        /* unknown service */
+    KELINDAP_WRONG_MODE = 9,     /* the service is not in this mode */
+    KELINDAP_UNFIT = 10,         /* length or value against the service table */
+    KELINDAP_DENIED = 11,        /* denied, the negative answer is in the buffer */
+    KELINDAP_DENIED_SILENT = 12, /* denied, no answer is due */
+    KELINDAP_UNWRITABLE = 13     /* PDU writing only: see kelindap_pdu.h */
+};
+
+/* The modes of a request. */
+enum kelindap_mode {
+    KELINDAP_MULTICAST = 0,
+    KELINDAP_BROADCAST = 1,
+    KELINDAP_CONNECTIONLESS = 2,
+    KELINDAP_CONNECTED = 3
+};
+
+/* A connection: open or closed, and its level, 0 with most rights; a level above 3 is read as 3. */
+typedef struct kelindap_session {
+    bool open;
+    uint8_t level;
+} kelindap_session;
+
+/* What a request gave: its outcome, and how many bytes of the answer buffer were filled. */
+typedef struct kelindap_reply {
+    uint8_t outcome;
+    uint8_t count;
+} kelindap_reply;
+
+/* A part of a sheet; 0 and 0 if there is none. */
+typedef struct kelindap_part {
+    size_t offset;
+    size_t length;
+} kelindap_part;
+
+/* A closed session at level 3. */
+kelindap_session kelindap_fresh(void);
+
+/* Open at level 3, also if already open; closed at level 3. Both give 1. */
+uint8_t kelindap_connect(kelindap_session *session);
+uint8_t kelindap_disconnect(kelindap_session *session);
+
+/* The programming button: 4 and nothing changed if the sheet is not accepted, else 1. */
+uint8_t kelindap_button(uint8_t *sheet, size_t sheet_length, bool on);
+
+/* A request. The group address counts in mode 0 only. The first `count` bytes of the answer buffer are filled, the rest stays. */
+kelindap_reply kelindap_request(kelindap_session *session, uint8_t mode, uint16_t group,
+                                const uint8_t *apdu, size_t apdu_length,
+                                uint8_t *sheet, size_t sheet_length,
+                                uint8_t *answer, size_t answer_length);
+
+/* 0 if the sheet is accepted, else the number of the first rule it breaks, 1 to 9. */
+uint8_t kelindap_check(const uint8_t *sheet, size_t sheet_length);
+
+/* Where a value stands in the sheet: by object and id, by region number from 0, by group address. */
+kelindap_part kelindap_property(const uint8_t *sheet, size_t sheet_length, uint8_t object, uint8_t id);
+kelindap_part kelindap_region(const uint8_t *sheet, size_t sheet_length, size_t k);
+kelindap_part kelindap_group(const uint8_t *sheet, size_t sheet_length, uint16_t address);
+
+#ifdef __cplusplus
+}
+#endif
+#endif
