@@ -1,18 +1,19 @@
 -- The walk: what a step is judged against, and where the walk leaves, with which rule.
 -- Assumes nothing.
 use Prim.Native.Nat.{ℕ, zero, suc, _+_, _-_, _≤_, _<_}
-use mathlib.Core.Path.{_≡_, refl, sym, _∙_, ap, ap₂}
+use mathlib.Core.Path.{_≡_, refl, sym, _∙_, ap}
 use mathlib.Core.List.{List}
 use borrow.Author.Tests.{lt-ltb, le-ltb}
 use native.Mathlib.Numerals.{add-one}
 use native.Mathlib.Omega.{arith}
 use Rattle.sheet.specs.Demand.{breach, Tells}
 use Rattle.sheet.specs.First.{first, orElse}
-use Rattle.sheet.specs.Kind.{byKind, kinds, OfKind}
-use Rattle.sheet.specs.Entries.{count, contents, entry, floor, floorAfter, offsetOf, lengthOf, bodyEnd, startOf, reached, sixBits}
-use Rattle.sheet.specs.Rules.{regionDemands, propertyDemands, groupDemands, bodyRows, entryDemands, bodyDemands, endDemands, frameDemands, zeroDemands, kindAt, passes, stepRule, passRule, walkRule, ruleIn, ruleOf}
-use Rattle.sheet.specs.Walk.{Framed, Entry, Counted, Step, KindOf, Carried, before}
-use Rattle.sheet.proofs.ByKind.{kinded}
+use Rattle.sheet.specs.Kind.{byKind, kinds}
+use Rattle.sheet.specs.Entries.{count, contents, entry, floor, bodyEnd, startOf, reached}
+use Rattle.sheet.specs.Rules.{regionDemands, propertyDemands, groupDemands, entryDemands, bodyDemands, endDemands, frameDemands, zeroDemands, kindAt, passes, stepRule, passRule, walkRule, ruleIn, ruleOf}
+use Rattle.sheet.specs.Walk.{Framed, Entry, Counted, Step, Stepped, OfEntry, OfBody, KindOf, Carried, before}
+use Rattle.sheet.specs.declared.judge.Judged.{Judged}
+use Rattle.sheet.proofs.ByKind.{eachKind, kinded}
 use Rattle.sheet.proofs.Demands.{told, met}
 use Rattle.sheet.proofs.First.{orElse-some, first-none, first-more, first-stop}
 
@@ -24,6 +25,17 @@ body-kind zero h = absurd (omega arith)
 body-kind (suc zero) h = absurd (omega arith)
 body-kind (suc (suc zero)) h = absurd (omega arith)
 body-kind (suc (suc (suc p))) h = omega arith
+
+entry-told :
+    (k : ℕ) → k < kinds → (f : ℕ) (e : List ℕ) (r : Judged) → OfEntry k f e r
+    → r .rule ≡ breach (byKind k (regionDemands f e) (propertyDemands f e) (groupDemands f e))
+entry-told k h f e r =
+    eachKind (λ (j : ℕ). OfEntry j f e r → r .rule ≡ breach (byKind j (regionDemands f e) (propertyDemands f e) (groupDemands f e)))
+    (λ o. told _ _ (o .region refl))
+    (λ o. told _ _ (o .property refl))
+    (λ o. told _ _ (o .group refl))
+    k
+    h
 
 module _ (s : List ℕ) (p : ℕ) where
   -- what the first step is judged against
@@ -42,30 +54,31 @@ module _ (s : List ℕ) (p : ℕ) where
   pub begin-next : (z : ℕ) → 3 ≤ p → (p ≡ 3 → ⊥) → Carried s p z → z ≡ before s p 0
   begin-next z h n c = c .ends (omega arith) ∙ begin-body h
 
-  module _ (i k : ℕ) (ek : k ≡ kindAt p) (e : List ℕ) (ee : e ≡ entry s k i) where
-    -- what the next step is judged against
-    pub next-entry : (r : ℕ) → p < 3 → OfKind r k (floorAfter 0 e) (floorAfter 1 e) (floorAfter 2 e) → r ≡ before s p (i + 1)
-    unfolding before floor
-    next-entry r h o = rw (add-one i, lt-ltb p 3 h, ← ek, ← ee) (kinded o)
-
-    pub next-body :
-        (a z : ℕ) → 3 ≤ p → a ≡ offsetOf k e → OfKind z k (lengthOf 0 e) (lengthOf 1 e) (lengthOf 2 e) → a + z ≡ before s p (i + 1)
-    unfolding before reached bodyEnd
-    next-body a z h q o = rw (add-one i, le-ltb p 3 h, ← ek, ← ee) (ap₂ _+_ q (kinded o))
-
+  module _ (i k : ℕ) (ek : k ≡ kindAt p) (e : List ℕ) (ee : e ≡ entry s k i) (z : ℕ) (ez : z ≡ before s p i) (r : Judged) where
     -- what a step says
-    pub step-entry :
-        (r z : ℕ) → p < 3 → z ≡ before s p i → r ≡ breach (byKind k (regionDemands z e) (propertyDemands z e) (groupDemands z e)) → r ≡ stepRule s p i
-    unfolding before stepRule entryDemands
-    step-entry r z h q w =
-        let f : z ≡ floor s (kindAt p) i = rw (lt-ltb p 3 h) at q in
-        rw (lt-ltb p 3 h, ← f, ← ek, ← ee) w
+    pub step-entry : p < 3 → k < kinds → OfEntry k z e r → Stepped s p i r
+    step-entry h hk o = record { rule = rule; next = next }
+      where
+        f : z ≡ floor s k i
+        f = unfold before in rw (lt-ltb p 3 h, ← ek) at ez
 
-    pub step-body : (r z : ℕ) → 3 ≤ p → z ≡ before s p i → r ≡ breach (bodyRows (offsetOf k e) z (sixBits s k e)) → r ≡ stepRule s p i
-    unfolding before stepRule bodyDemands
-    step-body r z h q w =
-        let f : z ≡ reached s (kindAt p) i = rw (le-ltb p 3 h) at q in
-        rw (le-ltb p 3 h, ← f, ← ek, ← ee) w
+        rule : r .rule ≡ stepRule s p i
+        rule = unfold stepRule entryDemands in rw (lt-ltb p 3 h, ← ek, ← f, ← ee) (entry-told k hk z e r o)
+
+        next : r .next ≡ before s p (i + 1)
+        next = unfold before floor in rw (add-one i, lt-ltb p 3 h, ← ek, ← ee) (kinded (o .next))
+
+    pub step-body : 3 ≤ p → OfBody s k z e r → Stepped s p i r
+    step-body h o = record { rule = rule; next = next }
+      where
+        f : z ≡ reached s k i
+        f = unfold before in rw (le-ltb p 3 h, ← ek) at ez
+
+        rule : r .rule ≡ stepRule s p i
+        rule = unfold stepRule bodyDemands in rw (le-ltb p 3 h, ← ek, ← f, ← ee) (told _ _ (o .rule))
+
+        next : r .next ≡ before s p (i + 1)
+        next = unfold before reached bodyEnd in rw (add-one i, le-ltb p 3 h, ← ek, ← ee) (o .next)
 
 pub step-there : {s : List ℕ} {p i k : ℕ} → Step s p i → KindOf p k → Entry s k i
 step-there h q = record { framed = h .framed; kind = q .kind; below = rw (q .is) (h .below) }
@@ -111,13 +124,13 @@ module _ (s : List ℕ) where
       pub pass-step : Framed 1 s → p < passes → i < n → Step s p i
       pass-step f hp hi = record { framed = f; pass = hp; below = omega (arith, h .whole) }
 
-      pub pass-goes : (r z′ : ℕ) → i < n → r ≡ stepRule s p i → r ≡ 0 → z′ ≡ before s p (i + 1) → Passed s p n z′ (i + 1)
-      pass-goes r z′ hi e q w =
+      pub pass-goes : (r : Judged) → i < n → Stepped s p i r → r .rule ≡ 0 → Passed s p n (r .next) (i + 1)
+      pass-goes r hi e q =
           record {
             within = omega arith;
             whole = h .whole;
-            clean = first-more _ _ (h .clean) (sym e ∙ q);
-            against = w;
+            clean = first-more _ _ (h .clean) (sym (e .rule) ∙ q);
+            against = e .next;
           }
 
       pub walk-goes : (z₀ : ℕ) → Walked s p z₀ → p < passes → n ≤ i → Walked s (p + 1) z
@@ -133,14 +146,19 @@ module _ (s : List ℕ) where
 
 -- where the walk leaves
 module _ (s : List ℕ) (r : ℕ) where
-  pub left-at :
-      (p n z i z₀ : ℕ) → Walked s p z₀ → Passed s p n z i → p < passes → i < n → r ≡ stepRule s p i → (r ≡ 0 → ⊥) → r ≡ walkRule s
+  pub left-at : (p n z i z₀ : ℕ) (j : Judged) → Walked s p z₀ → Passed s p n z i → p < passes → i < n → Stepped s p i j → r ≡ j .rule
+      → (r ≡ 0 → ⊥) → r ≡ walkRule s
   unfolding walkRule
-  left-at p n z i z₀ w v hp hi e h =
-      let step : r ≡ passRule s p =
-      unfold passRule in rw (← v .whole) (e ∙ first-stop (stepRule s p) n i hi (v .clean) (λ q. h (e ∙ q))) in
-      let pass : r ≡ first (passRule s) passes = step ∙ first-stop (passRule s) passes p hp (w .clean) (λ q. h (step ∙ q)) in
-      rw (← pass) (sym (orElse-some r _ h))
+  left-at p n z i z₀ j w v hp hi t f h = rw (← pass) (sym (orElse-some r _ h))
+    where
+      e : r ≡ stepRule s p i
+      e = f ∙ t .rule
+
+      step : r ≡ passRule s p
+      step = unfold passRule in rw (← v .whole) (e ∙ first-stop (stepRule s p) n i hi (v .clean) (λ q. h (e ∙ q)))
+
+      pass : r ≡ first (passRule s) passes
+      pass = step ∙ first-stop (passRule s) passes p hp (w .clean) (λ q. h (step ∙ q))
 
   pub at-end : (p z : ℕ) → Walked s p z → passes ≤ p → Tells r (endDemands s) → r ≡ walkRule s
   unfolding walkRule

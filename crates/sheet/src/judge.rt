@@ -2,11 +2,11 @@
 ghost use mathlib.Core.Path.{_≡_};
 ghost use Prim.Native.Nat.{_≤_, _<_};
 ghost use lib.ListN.{length};
-ghost use Rattle.sheet.specs.Demand.{breach, Tells};
-ghost use Rattle.sheet.specs.Kind.{byKind, kinds};
-ghost use Rattle.sheet.specs.Entries.{offsetOf, sixBits};
+ghost use Rattle.sheet.specs.Demand.{Tells};
+ghost use Rattle.sheet.specs.Kind.{kinds};
+ghost use Rattle.sheet.specs.Entries.{sixBits};
 ghost use Rattle.sheet.specs.Rules.{regionDemands, propertyDemands, groupDemands, bodyRows};
-ghost use Rattle.sheet.specs.Walk.{Sized};
+ghost use Rattle.sheet.specs.Walk.{Sized, OfEntry, OfBody};
 ghost use Rattle.sheet.specs.Region as region;
 ghost use Rattle.sheet.specs.Property as property;
 ghost use Rattle.sheet.specs.Group as group;
@@ -14,13 +14,20 @@ use crate::layout::group;
 use crate::layout::kind;
 use crate::layout::property;
 use crate::layout::region;
+use crate::table::length;
 use crate::table::offset;
 use octets::byte;
 use octets::word;
 
+// The rule that a step of the walk breaks, or 0, and what the step after it is judged against.
+pub struct Judged {
+    pub rule: u8,
+    pub next: usize,
+}
+
 // S6, of a region whose address is to be at least `floor`.
 pub fn region_rule(floor: usize, e: &[u8]) -> u8
-    requires { ⌜ length (now e) ≡ region.size ⌝ }
+    requires { ⌜ region.size ≤ length (now e) ⌝ }
     ensures { λ r. ⌜ Tells r (regionDemands floor (now (e .entry))) ⌝ }
 {
     let address = word(e, region::ADDRESS);
@@ -93,7 +100,7 @@ pub fn property_rule(floor: usize, e: &[u8]) -> u8
 
 // S8, of a group object whose address is to be at least `floor`.
 pub fn group_rule(floor: usize, e: &[u8]) -> u8
-    requires { ⌜ length (now e) ≡ group.size ⌝ }
+    requires { ⌜ group.size ≤ length (now e) ⌝ }
     ensures { λ r. ⌜ Tells r (groupDemands floor (now (e .entry))) ⌝ }
 {
     let address = word(e, group::ADDRESS);
@@ -113,18 +120,6 @@ pub fn group_rule(floor: usize, e: &[u8]) -> u8
         return 8;
     }
     0
-}
-
-// S6, S7 or S8, of an entry of a kind.
-pub fn entry_rule(k: usize, floor: usize, e: &[u8]) -> u8
-    requires { ⌜ Sized k (now e) × (k < kinds) ⌝ }
-    ensures { λ r. ⌜ r ≡ breach (byKind k (regionDemands floor (now (e .entry))) (propertyDemands floor (now (e .entry))) (groupDemands floor (now (e .entry)))) ⌝ }
-{
-    match k {
-        kind::REGIONS => region_rule(floor, e),
-        kind::PROPERTIES => property_rule(floor, e),
-        _ => group_rule(floor, e),
-    }
 }
 
 // The byte of a code-0 group object; 0 for any other entry.
@@ -154,10 +149,47 @@ fn body_rows(from: usize, z: usize, six: usize) -> u8
     0
 }
 
-// S9, of the body of an entry e of a kind where the one before ended at z.
-pub fn body_rule(s: &[u8], k: usize, z: usize, e: &[u8]) -> u8
+// S9, of the body of an entry e of a kind where the one before ended at z, and where the body ends.
+fn body_of(s: &[u8], k: usize, z: usize, e: &[u8]) -> Judged
     requires { ⌜ Sized k (now e) ⌝ }
-    ensures { λ r. ⌜ r ≡ breach (bodyRows (offsetOf k (now (e .entry))) z (sixBits (now (s .entry)) k (now (e .entry)))) ⌝ }
+    ensures { λ r. ⌜ OfBody (now (s .entry)) k z (now (e .entry)) r ⌝ }
 {
-    body_rows(offset(k, e), z, six_bits(s, k, e))
+    let from = offset(k, e);
+    Judged {
+        rule: body_rows(from, z, six_bits(s, k, e)),
+        next: from + length(k, e),
+    }
+}
+
+// S6, S7 or S8, of an entry e of a kind, and the least first word that the entry after it may have.
+pub fn entry_step(k: usize, floor: usize, e: &[u8]) -> Judged
+    requires { ⌜ Sized k (now e) × (k < kinds) ⌝ }
+    ensures { λ r. ⌜ OfEntry k floor (now (e .entry)) r ⌝ }
+{
+    match k {
+        kind::REGIONS => Judged {
+            rule: region_rule(floor, e),
+            next: word(e, region::ADDRESS) + word(e, region::LENGTH),
+        },
+        kind::PROPERTIES => Judged {
+            rule: property_rule(floor, e),
+            next: word(e, property::KEY) + 1,
+        },
+        _ => Judged {
+            rule: group_rule(floor, e),
+            next: word(e, group::ADDRESS) + 1,
+        },
+    }
+}
+
+// The same of a body. An arm for each kind, so that each is compiled by itself.
+pub fn body_step(s: &[u8], k: usize, z: usize, e: &[u8]) -> Judged
+    requires { ⌜ Sized k (now e) × (k < kinds) ⌝ }
+    ensures { λ r. ⌜ OfBody (now (s .entry)) k z (now (e .entry)) r ⌝ }
+{
+    match k {
+        kind::REGIONS => body_of(s, kind::REGIONS, z, e),
+        kind::PROPERTIES => body_of(s, kind::PROPERTIES, z, e),
+        _ => body_of(s, kind::GROUPS, z, e),
+    }
 }

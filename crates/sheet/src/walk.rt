@@ -1,23 +1,21 @@
 // S6 to S9: the walk over the entries, then over the bodies, that stops at the first rule broken.
 ghost use mathlib.Core.Path.{_≡_};
-ghost use Prim.Native.Nat.{_+_, _<_};
+ghost use Prim.Native.Nat.{_<_};
 ghost use Rattle.sheet.specs.Demand.{Tells};
 ghost use Rattle.sheet.specs.Kind.{kinds};
 ghost use Rattle.sheet.specs.Entries.{startOf};
-ghost use Rattle.sheet.specs.Rules.{endDemands, passes, kindAt, stepRule, walkRule, ruleOf};
-ghost use Rattle.sheet.specs.Walk.{Framed, Step, KindOf, Carried, before};
+ghost use Rattle.sheet.specs.Rules.{endDemands, passes, walkRule, ruleOf};
+ghost use Rattle.sheet.specs.Walk.{Framed, Step, Stepped, KindOf, Carried, before};
 use crate::frame::frame_rule;
 use crate::frame::zero_rule;
-use crate::judge::body_rule;
-use crate::judge::entry_rule;
+use crate::judge::Judged;
+use crate::judge::body_step;
+use crate::judge::entry_step;
 use crate::layout::kind;
 use crate::layout::pass;
 use crate::table::contents;
 use crate::table::entry;
-use crate::table::floor_after;
-use crate::table::length;
 use crate::table::many;
-use crate::table::offset;
 
 // The kind that a pass is over.
 fn kind_at(p: usize) -> usize
@@ -46,31 +44,17 @@ fn begin(s: &[u8], p: usize, z: usize) -> usize
     z
 }
 
-// What the step after step i of a pass is judged against.
-fn next(s: &[u8], p: usize, i: usize) -> usize
-    requires { ⌜ Step (now s) p i ⌝ }
-    ensures { λ r. ⌜ r ≡ before (now (s .entry)) p (i + 1) ⌝ }
-{
-    let k = kind_at(p);
-    let e = entry(s, k, i);
-    if p < pass::REGION_BODIES {
-        floor_after(k, e)
-    } else {
-        offset(k, e) + length(k, e)
-    }
-}
-
-// Step i of a pass, judged against z: the rule that it breaks, or 0.
-fn step(s: &[u8], p: usize, i: usize, z: usize) -> u8
+// Step i of a pass, judged against z.
+fn step(s: &[u8], p: usize, i: usize, z: usize) -> Judged
     requires { ⌜ Step (now s) p i × (z ≡ before (now s) p i) ⌝ }
-    ensures { λ r. ⌜ r ≡ stepRule (now (s .entry)) p i ⌝ }
+    ensures { λ r. ⌜ Stepped (now (s .entry)) p i r ⌝ }
 {
     let k = kind_at(p);
     let e = entry(s, k, i);
     if p < pass::REGION_BODIES {
-        entry_rule(k, z, e)
+        entry_step(k, z, e)
     } else {
-        body_rule(s, k, z, e)
+        body_step(s, k, z, e)
     }
 }
 
@@ -97,11 +81,12 @@ fn walk(s: &[u8]) -> u8
         let mut i = 0;
         z = begin(s, p, z);
         while i < n {
-            let rule = step(s, p, i, z);
+            let judged = step(s, p, i, z);
+            let rule = judged.rule;
             if rule != 0 {
                 break 'walk rule;
             }
-            z = next(s, p, i);
+            z = judged.next;
             i += 1;
         }
         p += 1;
