@@ -12,17 +12,14 @@ use Rattle.sheet.specs.Layout.{_of_}
 use Rattle.sheet.specs.Group as group
 use Rattle.sheet.specs.Entries.{offsetOf, lengthOf, sixBits}
 use Rattle.sheet.specs.Rules.{bodyRows}
-use Rattle.sheet.specs.Walk.{OfBody}
+use Rattle.sheet.specs.Walk.{Says}
 use Rattle.sheet.specs.declared.judge.Judged.{Judged}
 use Rattle.sheet.proofs.ByKind.{kinded}
 
 module _ (s : List ℕ) (k : ℕ) (e : List ℕ) where
   pub of-body : (a z x n : ℕ) (r : Judged) → a ≡ offsetOf k e → x ≡ sixBits s k e → OfKind n k (lengthOf 0 e) (lengthOf 1 e) (lengthOf 2 e)
-      → Tells (r .rule) (bodyRows a z x) → r .next ≡ a + n → OfBody s k z e r
+      → Tells (r .rule) (bodyRows a z x) → r .next ≡ a + n → Says (bodyRows (offsetOf k e) z (sixBits s k e)) (offsetOf k e + lengthOf k e) r
   of-body a z x n r ea ex en t q = record { rule = rw (← ea, ← ex) t; next = q ∙ ap₂ _+_ ea (kinded en) }
-
-  pub of-kind : (j z : ℕ) (r : Judged) → k ≡ j → OfBody s j z e r → OfBody s k z e r
-  of-kind j z r q o = rw q o
 
   pub six-other : k < 2 → 0 ≡ sixBits s k e
   unfolding sixBits

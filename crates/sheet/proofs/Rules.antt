@@ -9,11 +9,11 @@ use native.Mathlib.Omega.{arith}
 use Rattle.sheet.specs.Demand.{breach, Tells}
 use Rattle.sheet.specs.First.{first, orElse}
 use Rattle.sheet.specs.Kind.{byKind, kinds}
-use Rattle.sheet.specs.Entries.{count, contents, entry, floor, bodyEnd, startOf, reached}
-use Rattle.sheet.specs.Rules.{regionDemands, propertyDemands, groupDemands, entryDemands, bodyDemands, endDemands, frameDemands, zeroDemands, kindAt, passes, stepRule, passRule, walkRule, ruleIn, ruleOf}
-use Rattle.sheet.specs.Walk.{Framed, Entry, Counted, Step, Stepped, OfEntry, OfBody, KindOf, Carried, before}
+use Rattle.sheet.specs.Entries.{count, contents, entry, floor, floorAfter, offsetOf, lengthOf, sixBits, bodyEnd, startOf, reached}
+use Rattle.sheet.specs.Rules.{regionDemands, propertyDemands, groupDemands, bodyRows, entryDemands, bodyDemands, endDemands, frameDemands, zeroDemands, kindAt, passes, stepRule, passRule, walkRule, ruleIn, ruleOf}
+use Rattle.sheet.specs.Walk.{Framed, Entry, Counted, Step, Stepped, Says, KindOf, Carried, before}
 use Rattle.sheet.specs.declared.judge.Judged.{Judged}
-use Rattle.sheet.proofs.ByKind.{eachKind, kinded}
+use Rattle.sheet.proofs.ByKind.{kinded}
 use Rattle.sheet.proofs.Demands.{told, met}
 use Rattle.sheet.proofs.First.{orElse-some, first-none, first-more, first-stop}
 
@@ -26,16 +26,25 @@ body-kind (suc zero) h = absurd (omega arith)
 body-kind (suc (suc zero)) h = absurd (omega arith)
 body-kind (suc (suc (suc p))) h = omega arith
 
-entry-told :
-    (k : ℕ) → k < kinds → (f : ℕ) (e : List ℕ) (r : Judged) → OfEntry k f e r
-    → r .rule ≡ breach (byKind k (regionDemands f e) (propertyDemands f e) (groupDemands f e))
-entry-told k h f e r =
-    eachKind (λ (j : ℕ). OfEntry j f e r → r .rule ≡ breach (byKind j (regionDemands f e) (propertyDemands f e) (groupDemands f e)))
-    (λ o. told _ _ (o .region refl))
-    (λ o. told _ _ (o .property refl))
-    (λ o. told _ _ (o .group refl))
-    k
-    h
+-- an entry of a kind, where the kind is known
+module _ (s : List ℕ) (k i j : ℕ) (q : k ≡ j) where
+  pub entry-there : Entry s k i → Entry s j i
+  entry-there h = rw q at h
+
+  module _ (e : List ℕ) (ee : e ≡ entry s j i) (z : ℕ) (r : Judged) where
+    pub says-entry : z ≡ floor s k i → Says (byKind j (regionDemands z e) (propertyDemands z e) (groupDemands z e)) (floorAfter j e) r
+        → Says (entryDemands s k i) (floor s k (i + 1)) r
+    unfolding entryDemands
+    says-entry f o =
+        let n : floorAfter j e ≡ floor s k (i + 1) = unfold floor in rw (add-one i, q, ee) in
+        record { rule = rw (← f, q, ← ee) (o .rule); next = o .next ∙ n }
+
+    pub says-body : z ≡ reached s k i → Says (bodyRows (offsetOf j e) z (sixBits s j e)) (offsetOf j e + lengthOf j e) r
+        → Says (bodyDemands s k i) (reached s k (i + 1)) r
+    unfolding bodyDemands
+    says-body f o =
+        let n : offsetOf j e + lengthOf j e ≡ reached s k (i + 1) = unfold reached bodyEnd in rw (add-one i, q, ee) in
+        record { rule = rw (← f, q, ← ee) (o .rule); next = o .next ∙ n }
 
 module _ (s : List ℕ) (p : ℕ) where
   -- what the first step is judged against
@@ -54,31 +63,25 @@ module _ (s : List ℕ) (p : ℕ) where
   pub begin-next : (z : ℕ) → 3 ≤ p → (p ≡ 3 → ⊥) → Carried s p z → z ≡ before s p 0
   begin-next z h n c = c .ends (omega arith) ∙ begin-body h
 
-  module _ (i k : ℕ) (ek : k ≡ kindAt p) (e : List ℕ) (ee : e ≡ entry s k i) (z : ℕ) (ez : z ≡ before s p i) (r : Judged) where
-    -- what a step says
-    pub step-entry : p < 3 → k < kinds → OfEntry k z e r → Stepped s p i r
-    step-entry h hk o = record { rule = rule; next = next }
-      where
-        f : z ≡ floor s k i
-        f = unfold before in rw (lt-ltb p 3 h, ← ek) at ez
+  module _ (i k : ℕ) (ek : k ≡ kindAt p) where
+    -- what a step is judged against, and what it says
+    pub step-floor : (z : ℕ) → p < 3 → z ≡ before s p i → z ≡ floor s k i
+    unfolding before
+    step-floor z h e = rw (lt-ltb p 3 h, ← ek) at e
 
-        rule : r .rule ≡ stepRule s p i
-        rule = unfold stepRule entryDemands in rw (lt-ltb p 3 h, ← ek, ← f, ← ee) (entry-told k hk z e r o)
+    pub step-reached : (z : ℕ) → 3 ≤ p → z ≡ before s p i → z ≡ reached s k i
+    unfolding before
+    step-reached z h e = rw (le-ltb p 3 h, ← ek) at e
 
-        next : r .next ≡ before s p (i + 1)
-        next = unfold before floor in rw (add-one i, lt-ltb p 3 h, ← ek, ← ee) (kinded (o .next))
+    pub step-entry : (r : Judged) → p < 3 → Says (entryDemands s k i) (floor s k (i + 1)) r → Stepped s p i r
+    unfolding before stepRule
+    step-entry r h o =
+        record { rule = rw (lt-ltb p 3 h, ← ek) (told _ _ (o .rule)); next = rw (lt-ltb p 3 h, ← ek) (o .next) }
 
-    pub step-body : 3 ≤ p → OfBody s k z e r → Stepped s p i r
-    step-body h o = record { rule = rule; next = next }
-      where
-        f : z ≡ reached s k i
-        f = unfold before in rw (le-ltb p 3 h, ← ek) at ez
-
-        rule : r .rule ≡ stepRule s p i
-        rule = unfold stepRule bodyDemands in rw (le-ltb p 3 h, ← ek, ← f, ← ee) (told _ _ (o .rule))
-
-        next : r .next ≡ before s p (i + 1)
-        next = unfold before reached bodyEnd in rw (add-one i, le-ltb p 3 h, ← ek, ← ee) (o .next)
+    pub step-body : (r : Judged) → 3 ≤ p → Says (bodyDemands s k i) (reached s k (i + 1)) r → Stepped s p i r
+    unfolding before stepRule
+    step-body r h o =
+        record { rule = rw (le-ltb p 3 h, ← ek) (told _ _ (o .rule)); next = rw (le-ltb p 3 h, ← ek) (o .next) }
 
 pub step-there : {s : List ℕ} {p i k : ℕ} → Step s p i → KindOf p k → Entry s k i
 step-there h q = record { framed = h .framed; kind = q .kind; below = rw (q .is) (h .below) }

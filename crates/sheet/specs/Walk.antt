@@ -5,10 +5,10 @@ use mathlib.Core.Path.{_≡_}
 use mathlib.Core.List.{List}
 use lib.ListN.{length}
 use lib.Dec.{ltb}
-use Rattle.sheet.specs.Demand.{Met, Tells, pick}
+use Rattle.sheet.specs.Demand.{Demand, Met, Tells, pick}
 use Rattle.sheet.specs.Kind.{kinds, OfKind}
-use Rattle.sheet.specs.Entries.{count, size, place, entry, floor, floorAfter, reached, startOf, sixBits, offsetOf, lengthOf}
-use Rattle.sheet.specs.Rules.{frameDemands, regionDemands, propertyDemands, groupDemands, bodyRows, stepRule, kindAt, regionBodies, passes}
+use Rattle.sheet.specs.Entries.{count, size, place, entry, floor, reached, startOf, offsetOf, lengthOf}
+use Rattle.sheet.specs.Rules.{frameDemands, stepRule, kindAt, regionBodies, passes}
 use Rattle.sheet.specs.declared.judge.Judged.{Judged}
 use Rattle.sheet.specs.Region as region
 use Rattle.sheet.specs.Property as property
@@ -66,19 +66,12 @@ pub record KindOf (p r : ℕ) : Type 0 where
 pub record Carried (s : List ℕ) (p z : ℕ) : Type 0 where
   pub ends : regionBodies < p → z ≡ startOf s (kindAt p)
 
+-- r is the first rule that breaks of some rows, and n
+pub record Says (ds : List Demand) (n : ℕ) (r : Judged) : Type 0 where
+  pub rule : Tells (r .rule) ds
+  pub next : r .next ≡ n
+
 -- what step i of pass p says, and what the next is judged against
 pub record Stepped (s : List ℕ) (p i : ℕ) (r : Judged) : Type 0 where
   pub rule : r .rule ≡ stepRule s p i
   pub next : r .next ≡ before s p (i + 1)
-
--- the same of an entry e of kind k whose first word is to be at least f
-pub record OfEntry (k f : ℕ) (e : List ℕ) (r : Judged) : Type 0 where
-  pub region : k ≡ 0 → Tells (r .rule) (regionDemands f e)
-  pub property : k ≡ 1 → Tells (r .rule) (propertyDemands f e)
-  pub group : k ≡ 2 → Tells (r .rule) (groupDemands f e)
-  pub next : OfKind (r .next) k (floorAfter 0 e) (floorAfter 1 e) (floorAfter 2 e)
-
--- and of its body, where the one before ended at z
-pub record OfBody (s : List ℕ) (k z : ℕ) (e : List ℕ) (r : Judged) : Type 0 where
-  pub rule : Tells (r .rule) (bodyRows (offsetOf k e) z (sixBits s k e))
-  pub next : r .next ≡ offsetOf k e + lengthOf k e

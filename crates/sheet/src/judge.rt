@@ -1,12 +1,12 @@
 // S6 to S8 of one entry, and S9 of one body.
 ghost use mathlib.Core.Path.{_≡_};
-ghost use Prim.Native.Nat.{_≤_, _<_};
+ghost use Prim.Native.Nat.{_+_, _≤_};
 ghost use lib.ListN.{length};
 ghost use Rattle.sheet.specs.Demand.{Tells};
-ghost use Rattle.sheet.specs.Kind.{kinds};
-ghost use Rattle.sheet.specs.Entries.{sixBits};
+ghost use Rattle.sheet.specs.Kind.{regions, properties, groups};
+ghost use Rattle.sheet.specs.Entries.{floorAfter, offsetOf, lengthOf, sixBits};
 ghost use Rattle.sheet.specs.Rules.{regionDemands, propertyDemands, groupDemands, bodyRows};
-ghost use Rattle.sheet.specs.Walk.{Sized, OfEntry, OfBody};
+ghost use Rattle.sheet.specs.Walk.{Sized, Says};
 ghost use Rattle.sheet.specs.Region as region;
 ghost use Rattle.sheet.specs.Property as property;
 ghost use Rattle.sheet.specs.Group as group;
@@ -26,7 +26,7 @@ pub struct Judged {
 }
 
 // S6, of a region whose address is to be at least `floor`.
-pub fn region_rule(floor: usize, e: &[u8]) -> u8
+fn region_rule(floor: usize, e: &[u8]) -> u8
     requires { ⌜ region.size ≤ length (now e) ⌝ }
     ensures { λ r. ⌜ Tells r (regionDemands floor (now (e .entry))) ⌝ }
 {
@@ -54,9 +54,20 @@ pub fn region_rule(floor: usize, e: &[u8]) -> u8
     0
 }
 
+// The same, and the least address that the next may have.
+pub fn region_step(floor: usize, e: &[u8]) -> Judged
+    requires { ⌜ region.size ≤ length (now e) ⌝ }
+    ensures { λ r. ⌜ Says (regionDemands floor (now (e .entry))) (floorAfter regions (now (e .entry))) r ⌝ }
+{
+    Judged {
+        rule: region_rule(floor, e),
+        next: word(e, region::ADDRESS) + word(e, region::LENGTH),
+    }
+}
+
 // S7, of a property whose object and id, as one number, are to be at least `floor`.
-pub fn property_rule(floor: usize, e: &[u8]) -> u8
-    requires { ⌜ length (now e) ≡ property.size ⌝ }
+fn property_rule(floor: usize, e: &[u8]) -> u8
+    requires { ⌜ property.size ≤ length (now e) ⌝ }
     ensures { λ r. ⌜ Tells r (propertyDemands floor (now (e .entry))) ⌝ }
 {
     if byte(e, property::ID) < 1 {
@@ -98,8 +109,18 @@ pub fn property_rule(floor: usize, e: &[u8]) -> u8
     0
 }
 
+pub fn property_step(floor: usize, e: &[u8]) -> Judged
+    requires { ⌜ property.size ≤ length (now e) ⌝ }
+    ensures { λ r. ⌜ Says (propertyDemands floor (now (e .entry))) (floorAfter properties (now (e .entry))) r ⌝ }
+{
+    Judged {
+        rule: property_rule(floor, e),
+        next: word(e, property::KEY) + 1,
+    }
+}
+
 // S8, of a group object whose address is to be at least `floor`.
-pub fn group_rule(floor: usize, e: &[u8]) -> u8
+fn group_rule(floor: usize, e: &[u8]) -> u8
     requires { ⌜ group.size ≤ length (now e) ⌝ }
     ensures { λ r. ⌜ Tells r (groupDemands floor (now (e .entry))) ⌝ }
 {
@@ -120,6 +141,16 @@ pub fn group_rule(floor: usize, e: &[u8]) -> u8
         return 8;
     }
     0
+}
+
+pub fn group_step(floor: usize, e: &[u8]) -> Judged
+    requires { ⌜ group.size ≤ length (now e) ⌝ }
+    ensures { λ r. ⌜ Says (groupDemands floor (now (e .entry))) (floorAfter groups (now (e .entry))) r ⌝ }
+{
+    Judged {
+        rule: group_rule(floor, e),
+        next: word(e, group::ADDRESS) + 1,
+    }
 }
 
 // The byte of a code-0 group object; 0 for any other entry.
@@ -150,46 +181,13 @@ fn body_rows(from: usize, z: usize, six: usize) -> u8
 }
 
 // S9, of the body of an entry e of a kind where the one before ended at z, and where the body ends.
-fn body_of(s: &[u8], k: usize, z: usize, e: &[u8]) -> Judged
+pub fn body_of(s: &[u8], k: usize, z: usize, e: &[u8]) -> Judged
     requires { ⌜ Sized k (now e) ⌝ }
-    ensures { λ r. ⌜ OfBody (now (s .entry)) k z (now (e .entry)) r ⌝ }
+    ensures { λ r. ⌜ Says (bodyRows (offsetOf k (now (e .entry))) z (sixBits (now (s .entry)) k (now (e .entry)))) (offsetOf k (now (e .entry)) + lengthOf k (now (e .entry))) r ⌝ }
 {
     let from = offset(k, e);
     Judged {
         rule: body_rows(from, z, six_bits(s, k, e)),
         next: from + length(k, e),
-    }
-}
-
-// S6, S7 or S8, of an entry e of a kind, and the least first word that the entry after it may have.
-pub fn entry_step(k: usize, floor: usize, e: &[u8]) -> Judged
-    requires { ⌜ Sized k (now e) × (k < kinds) ⌝ }
-    ensures { λ r. ⌜ OfEntry k floor (now (e .entry)) r ⌝ }
-{
-    match k {
-        kind::REGIONS => Judged {
-            rule: region_rule(floor, e),
-            next: word(e, region::ADDRESS) + word(e, region::LENGTH),
-        },
-        kind::PROPERTIES => Judged {
-            rule: property_rule(floor, e),
-            next: word(e, property::KEY) + 1,
-        },
-        _ => Judged {
-            rule: group_rule(floor, e),
-            next: word(e, group::ADDRESS) + 1,
-        },
-    }
-}
-
-// The same of a body. An arm for each kind, so that each is compiled by itself.
-pub fn body_step(s: &[u8], k: usize, z: usize, e: &[u8]) -> Judged
-    requires { ⌜ Sized k (now e) × (k < kinds) ⌝ }
-    ensures { λ r. ⌜ OfBody (now (s .entry)) k z (now (e .entry)) r ⌝ }
-{
-    match k {
-        kind::REGIONS => body_of(s, kind::REGIONS, z, e),
-        kind::PROPERTIES => body_of(s, kind::PROPERTIES, z, e),
-        _ => body_of(s, kind::GROUPS, z, e),
     }
 }

@@ -1,16 +1,18 @@
 // S6 to S9: the walk over the entries, then over the bodies, that stops at the first rule broken.
 ghost use mathlib.Core.Path.{_≡_};
-ghost use Prim.Native.Nat.{_<_};
+ghost use Prim.Native.Nat.{_+_, _<_};
 ghost use Rattle.sheet.specs.Demand.{Tells};
 ghost use Rattle.sheet.specs.Kind.{kinds};
-ghost use Rattle.sheet.specs.Entries.{startOf};
-ghost use Rattle.sheet.specs.Rules.{endDemands, passes, walkRule, ruleOf};
-ghost use Rattle.sheet.specs.Walk.{Framed, Step, Stepped, KindOf, Carried, before};
+ghost use Rattle.sheet.specs.Entries.{floor as floorOf, reached, startOf};
+ghost use Rattle.sheet.specs.Rules.{entryDemands, bodyDemands, endDemands, passes, walkRule, ruleOf};
+ghost use Rattle.sheet.specs.Walk.{Framed, Entry, Step, Stepped, Says, KindOf, Carried, before};
 use crate::frame::frame_rule;
 use crate::frame::zero_rule;
 use crate::judge::Judged;
-use crate::judge::body_step;
-use crate::judge::entry_step;
+use crate::judge::body_of;
+use crate::judge::group_step;
+use crate::judge::property_step;
+use crate::judge::region_step;
 use crate::layout::kind;
 use crate::layout::pass;
 use crate::table::contents;
@@ -44,17 +46,40 @@ fn begin(s: &[u8], p: usize, z: usize) -> usize
     z
 }
 
+// S6, S7 or S8 of entry i of a kind, and the floor of the next. An arm for each kind, so that each is compiled by itself.
+fn entry_step(s: &[u8], k: usize, i: usize, floor: usize) -> Judged
+    requires { ⌜ Entry (now s) k i × (floor ≡ floorOf (now s) k i) ⌝ }
+    ensures { λ r. ⌜ Says (entryDemands (now (s .entry)) k i) (floorOf (now (s .entry)) k (i + 1)) r ⌝ }
+{
+    match k {
+        kind::REGIONS => region_step(floor, entry(s, kind::REGIONS, i)),
+        kind::PROPERTIES => property_step(floor, entry(s, kind::PROPERTIES, i)),
+        _ => group_step(floor, entry(s, kind::GROUPS, i)),
+    }
+}
+
+// S9 of its body, and where the body ends.
+fn body_step(s: &[u8], k: usize, i: usize, z: usize) -> Judged
+    requires { ⌜ Entry (now s) k i × (z ≡ reached (now s) k i) ⌝ }
+    ensures { λ r. ⌜ Says (bodyDemands (now (s .entry)) k i) (reached (now (s .entry)) k (i + 1)) r ⌝ }
+{
+    match k {
+        kind::REGIONS => body_of(s, kind::REGIONS, z, entry(s, kind::REGIONS, i)),
+        kind::PROPERTIES => body_of(s, kind::PROPERTIES, z, entry(s, kind::PROPERTIES, i)),
+        _ => body_of(s, kind::GROUPS, z, entry(s, kind::GROUPS, i)),
+    }
+}
+
 // Step i of a pass, judged against z.
 fn step(s: &[u8], p: usize, i: usize, z: usize) -> Judged
     requires { ⌜ Step (now s) p i × (z ≡ before (now s) p i) ⌝ }
     ensures { λ r. ⌜ Stepped (now (s .entry)) p i r ⌝ }
 {
     let k = kind_at(p);
-    let e = entry(s, k, i);
     if p < pass::REGION_BODIES {
-        entry_step(k, z, e)
+        entry_step(s, k, i, z)
     } else {
-        body_step(s, k, z, e)
+        body_step(s, k, i, z)
     }
 }
 
