@@ -17,3 +17,5 @@ pub mod Seeks
 pub mod Keys
 pub mod Ranks
 pub mod Seek
+pub mod Fields
+pub mod Counting
