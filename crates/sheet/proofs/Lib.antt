@@ -18,4 +18,11 @@ pub mod Keys
 pub mod Ranks
 pub mod Seek
 pub mod Fields
-pub mod Counting
+pub mod Loops
+pub mod Runs
+pub mod Sames
+pub mod Frames
+pub mod Finds
+pub mod Mild
+pub mod Counts
+pub mod Stores

@@ -1,7 +1,7 @@
 -- `sheet::memory::covers` meets its contract.
 -- Assumes nothing.
 use borrow.Author.Needs.{needs}
-use Rattle.sheet.proofs.Counting.{covers-below, covers-rest}
+use Rattle.sheet.proofs.Loops.{covers-below, covers-rest}
 use Rattle.sheet.proofs.memory.covers.Statement.{statement}
 use Rattle.sheet.proofs.memory.covers.Tie as tie
 

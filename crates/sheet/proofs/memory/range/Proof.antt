@@ -3,7 +3,7 @@
 use Prim.Native.Nat.{_-_}
 use borrow.Author.Needs.{needs}
 use Rattle.sheet.proofs.Seek.{Missed, ok-framed, ok-entry, none-yet}
-use Rattle.sheet.proofs.Counting.{isRange, covers-from, range-found, range-missed, range-ended}
+use Rattle.sheet.proofs.Loops.{isRange, covers-from, range-found, range-missed, range-ended}
 use Rattle.sheet.proofs.memory.range.Statement.{statement}
 use Rattle.sheet.proofs.memory.range.Tie as tie
 

@@ -1,7 +1,7 @@
 -- `sheet::memory::run_in` meets its contract.
 -- Assumes nothing.
 use borrow.Author.Needs.{needs}
-use Rattle.sheet.proofs.Counting.{run-is}
+use Rattle.sheet.proofs.Loops.{run-is}
 use Rattle.sheet.proofs.memory.run_in.Statement.{statement}
 use Rattle.sheet.proofs.memory.run_in.Tie as tie
 

@@ -3,7 +3,7 @@
 use Prim.Native.Nat.{_-_}
 use borrow.Author.Needs.{needs}
 use Rattle.sheet.proofs.Seek.{Missed, ok-framed, ok-entry, none-yet}
-use Rattle.sheet.proofs.Counting.{Ranked, rank-none, rank-more, isNth, nth-found, nth-missed, nth-ended}
+use Rattle.sheet.proofs.Loops.{Ranked, rank-none, rank-more, isNth, nth-found, nth-missed, nth-ended}
 use Rattle.sheet.proofs.records.nth.Statement.{statement}
 use Rattle.sheet.proofs.records.nth.Tie as tie
 

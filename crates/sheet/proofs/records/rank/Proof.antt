@@ -6,7 +6,7 @@ use borrow.Author.Needs.{needs}
 use native.Mathlib.Omega.{arith}
 use Rattle.sheet.specs.Lookup.{rank}
 use Rattle.sheet.proofs.Fields.{property-there}
-use Rattle.sheet.proofs.Counting.{Ranked, rank-none, rank-more}
+use Rattle.sheet.proofs.Loops.{Ranked, rank-none, rank-more}
 use Rattle.sheet.proofs.records.rank.Statement.{statement}
 use Rattle.sheet.proofs.records.rank.Tie as tie
 
