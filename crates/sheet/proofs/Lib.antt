@@ -16,8 +16,10 @@ pub mod Positions
 pub mod Seeks
 pub mod Keys
 pub mod Ranks
-pub mod Runs
 pub mod Seek
+pub mod Fields
+pub mod Loops
+pub mod Runs
 pub mod RankBound
 pub mod Sames
 pub mod Frames
