@@ -24,3 +24,4 @@ pub mod Shapes
 pub mod Demand1
 pub mod Typing
 pub mod Answers
+pub mod Pressing

@@ -2,7 +2,13 @@
 use judge::Session;
 
 mod answer;
+mod session;
 mod store;
+
+pub use session::button;
+pub use session::connect;
+pub use session::disconnect;
+pub use session::fresh;
 
 // What a request gave: the outcome, the count of bytes answered, the session afterwards.
 pub struct Done {
