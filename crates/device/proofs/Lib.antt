@@ -25,3 +25,4 @@ pub mod Demand1
 pub mod Typing
 pub mod Answers
 pub mod Pressing
+pub mod Room

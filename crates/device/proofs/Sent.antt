@@ -22,7 +22,7 @@ use Rattle.pdu.specs.declared.Written.the-variants.{Bytes, Refused}
 use Rattle.judge.specs.declared.Answer.{Answer}
 use Rattle.judge.specs.declared.Answer.the-variants as answer
 use Rattle.device.specs.Carry.{Answered, answerOf}
-use Rattle.device.specs.Safe.{AnswerSafe}
+use Rattle.device.specs.Safe.{AnswerSafe, Roomy}
 
 writes : (p : Pdu) (d o : List ℕ) → 16 ≤ length o → writable p d ≡ true → writeOf p d o ≡ Bytes (dataAt p + length d)
 unfolding writeOf
@@ -54,6 +54,9 @@ number-front w x b b′ e = rw (e, splice-front) (take-at (bytesOf w x) (drop (l
 -- in an arm the answer is known
 pub via-answer-safe : (s d : List ℕ) (r q : Answer) → AnswerSafe s d r → r ≡ q → AnswerSafe s d q
 via-answer-safe s d r q h e = subst (λ (x : Answer). AnswerSafe s d x) e h
+
+pub via-room : (n : ℕ) (r q : Answer) → Roomy n r → r ≡ q → Roomy n q
+via-room n r q h e = subst (λ (x : Answer). Roomy n x) e h
 
 pub via-answer :
     (s d : List ℕ) (a q : Answer) (r : ℕ) (o e : List ℕ) → a ≡ q → Answered (answerOf s d q) r o e → Answered (answerOf s d a) r o e

@@ -30,6 +30,14 @@ AnswerSafe s d (answer.Number p w x) = (w ≤ 6) × (writable p (bytesOf w x) �
 AnswerSafe s d (answer.Sheet p at n) = (at + n ≤ length s) × (n ≤ 14) × (writable p (take n (drop at s)) ≡ true)
 AnswerSafe s d (answer.Echo p) = writable p d ≡ true
 
+-- a buffer of so many bytes has room for the answer
+abbrev pub Roomy : ℕ → Answer → Type 0
+Roomy n answer.Silence = Unit {0}
+Roomy n (answer.Plain p) = 16 ≤ n
+Roomy n (answer.Number p w x) = 16 ≤ n
+Roomy n (answer.Sheet p at m) = 16 ≤ n
+Roomy n (answer.Echo p) = 16 ≤ n
+
 -- A DECISION THAT CAN BE CARRIED OUT
 pub record Safe (s d : List ℕ) (k : Decision) : Type 0 where
   pub first : StoreSafe s d (k .first)

@@ -9,7 +9,7 @@ ghost use lib.ListN.{length};
 ghost use Rattle.octets.specs.Bytes.{bytesOf};
 ghost use Rattle.pdu.specs.Write.{writable, encoded};
 ghost use Rattle.device.specs.Carry.{answerOf, Answered};
-ghost use Rattle.device.specs.Safe.{AnswerSafe};
+ghost use Rattle.device.specs.Safe.{AnswerSafe, Roomy};
 
 // A PDU with data that its row allows.
 fn send(out: &mut [u8], p: Pdu, d: &[u8]) -> usize
@@ -35,7 +35,7 @@ fn send_number(out: &mut [u8], p: Pdu, width: usize, x: u64) -> usize
 
 // The answer in front of the buffer, s being the sheet after the stores.
 pub fn answer(out: &mut [u8], a: Answer, s: &[u8], d: &[u8]) -> usize
-    requires { ⌜ (16 ≤ length (now out)) × AnswerSafe (now s) (now d) a ⌝ }
+    requires { ⌜ Roomy (length (now out)) a × AnswerSafe (now s) (now d) a ⌝ }
     ensures { λ r. ⌜ Answered (answerOf (now (s .entry)) (now (d .entry)) a) r (now (out .entry)) (now (out .exit)) ⌝ }
 {
     match a {
