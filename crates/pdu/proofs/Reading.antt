@@ -8,7 +8,7 @@ use lib.ListN.{length}
 use borrow.Author.Tests.{lt-ltb, le-ltb}
 use Rattle.pdu.specs.Table.{rowOf, serviceAt}
 use Rattle.pdu.specs.Rules.{codeOf, valuesAt, fits}
-use Rattle.pdu.specs.Read.{builtOf, readAs, readFound, readPdu}
+use Rattle.pdu.specs.Read.{builtOf, readAs, readPdu}
 use Rattle.pdu.specs.Write.{fitsIn}
 use Rattle.pdu.specs.declared.Service.{Service}
 use Rattle.pdu.specs.declared.Service.the-variants as svc
@@ -18,6 +18,7 @@ use Rattle.pdu.specs.declared.Pdu.{Pdu}
 use Rattle.pdu.specs.declared.Parsed.{Parsed}
 use Rattle.pdu.specs.declared.Parsed.the-variants.{Is, Refused}
 
+-- in an arm the service is known: what holds of it there holds
 pub via-built : (k j : Service) (s : List ℕ) (p : Pdu) → k ≡ j → p ≡ builtOf j s → p ≡ builtOf k s
 via-built k j s p e h = subst (λ (x : Service). p ≡ builtOf x s) (sym e) h
 

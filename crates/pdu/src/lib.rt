@@ -244,13 +244,14 @@ pub fn write(pdu: Pdu, data: &[u8], out: &mut [u8]) -> Written
         return Written::Refused(3);
     }
     let at = head::data_at(pdu);
-    if 16 < at + data.len() {
+    let n = at + data.len();
+    if 16 < n {
         return Written::Refused(13);
     }
-    if rules::allowed(pdu, at + data.len()) {
+    if rules::allowed(pdu, n) {
         head::put_head(pdu, out);
         octets::splice(out, at, data);
-        Written::Bytes(at + data.len())
+        Written::Bytes(n)
     } else {
         Written::Refused(13)
     }

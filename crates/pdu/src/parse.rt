@@ -12,11 +12,11 @@ fn built(k: Service, s: &[u8]) -> Pdu
     ensures { λ r. ⌜ r ≡ builtOf k (now (s .entry)) ⌝ }
 {
     match k {
-        Service::GroupValueRead => take::group_value_read(s),
+        Service::GroupValueRead => Pdu::GroupValueRead,
         Service::GroupValueResponse => take::group_value_response(s),
         Service::GroupValueWrite => take::group_value_write(s),
         Service::IndividualAddressWrite => take::individual_address_write(s),
-        Service::IndividualAddressRead => take::individual_address_read(s),
+        Service::IndividualAddressRead => Pdu::IndividualAddressRead,
         Service::SerialNumberRead => take::serial_number_read(s),
         Service::SerialNumberWrite => take::serial_number_write(s),
         Service::DeviceDescriptorRead => take::device_descriptor_read(s),
@@ -28,8 +28,8 @@ fn built(k: Service, s: &[u8]) -> Pdu
         Service::MemoryBitWrite => take::memory_bit_write(s),
         Service::AuthorizeRequest => take::authorize_request(s),
         Service::KeyWrite => take::key_write(s),
-        Service::Restart => take::restart(s),
-        Service::IndividualAddressResponse => take::individual_address_response(s),
+        Service::Restart => Pdu::Restart,
+        Service::IndividualAddressResponse => Pdu::IndividualAddressResponse,
         Service::SerialNumberResponse => take::serial_number_response(s),
         Service::DeviceDescriptorResponse => take::device_descriptor_response(s),
         Service::PropertyValueResponse => take::property_value_response(s),

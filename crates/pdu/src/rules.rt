@@ -1,9 +1,12 @@
 // Whether a PDU may stand in so many bytes: the rules of the table, by kind of row.
 ghost use mathlib.Core.Path.{_≡_};
-ghost use Prim.Native.Nat.{_+_, _*_, _≤_};
+ghost use Prim.Native.Nat.{_+_, _≤_};
 ghost use Rattle.pdu.specs.Tests.{isBelow, isAtMost, isEqual, both, either};
 ghost use Rattle.pdu.specs.Write.{fitsIn};
 use crate::Pdu;
+
+// A serial number has six bytes.
+const SERIALS: u64 = 0x1_0000_0000_0000;
 
 // A field below m, and h bytes.
 fn capped(x: u64, m: u64, n: usize, h: usize) -> bool
@@ -91,8 +94,8 @@ pub(crate) fn allowed(pdu: Pdu, n: usize) -> bool
         Pdu::GroupValueWrite { v } => group(v, n),
         Pdu::IndividualAddressWrite { .. } => n == 4,
         Pdu::IndividualAddressRead => n == 2,
-        Pdu::SerialNumberRead { serial } => capped(serial, 281474976710656, n, 8),
-        Pdu::SerialNumberWrite { serial, .. } => capped(serial, 281474976710656, n, 14),
+        Pdu::SerialNumberRead { serial } => capped(serial, SERIALS, n, 8),
+        Pdu::SerialNumberWrite { serial, .. } => capped(serial, SERIALS, n, 14),
         Pdu::DeviceDescriptorRead { t } => capped(t as u64, 64, n, 2),
         Pdu::PropertyValueRead { n: count, s, .. } => paired(count, s, n, 6),
         Pdu::PropertyValueWrite { n: count, s, .. } => paired_ranged(count, s, n, 7, 16),
@@ -104,7 +107,7 @@ pub(crate) fn allowed(pdu: Pdu, n: usize) -> bool
         Pdu::KeyWrite { .. } => n == 7,
         Pdu::Restart => n == 2,
         Pdu::IndividualAddressResponse => n == 2,
-        Pdu::SerialNumberResponse { serial, .. } => capped(serial, 281474976710656, n, 12),
+        Pdu::SerialNumberResponse { serial, .. } => capped(serial, SERIALS, n, 12),
         Pdu::DeviceDescriptorResponse { t } => ranged(t, 64, n, 2, 16),
         Pdu::PropertyValueResponse { n: count, s, .. } => paired_ranged(count, s, n, 6, 16),
         Pdu::PropertyDescriptionResponse { maximum, .. } => capped(maximum as u64, 4096, n, 9),

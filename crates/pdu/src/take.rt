@@ -1,4 +1,4 @@
-// Each PDU with its fields taken from the bytes.
+// Each PDU that has fields, with those that are in the bytes.
 ghost use mathlib.Core.Path.{_≡_};
 ghost use Rattle.pdu.specs.Read.{builtOf};
 use crate::Pdu;
@@ -14,12 +14,6 @@ use octets::number;
 const OBJECT: usize = 2;
 
 const ID: usize = 3;
-
-pub(crate) fn group_value_read(s: &[u8]) -> Pdu
-    ensures { λ r. ⌜ r ≡ builtOf Service.GroupValueRead (now (s .entry)) ⌝ }
-{
-    Pdu::GroupValueRead
-}
 
 pub(crate) fn group_value_response(s: &[u8]) -> Pdu
     ensures { λ r. ⌜ r ≡ builtOf Service.GroupValueResponse (now (s .entry)) ⌝ }
@@ -39,12 +33,6 @@ pub(crate) fn individual_address_write(s: &[u8]) -> Pdu
     Pdu::IndividualAddressWrite {
         address: word(s, 2),
     }
-}
-
-pub(crate) fn individual_address_read(s: &[u8]) -> Pdu
-    ensures { λ r. ⌜ r ≡ builtOf Service.IndividualAddressRead (now (s .entry)) ⌝ }
-{
-    Pdu::IndividualAddressRead
 }
 
 pub(crate) fn serial_number_read(s: &[u8]) -> Pdu
@@ -144,18 +132,6 @@ pub(crate) fn key_write(s: &[u8]) -> Pdu
         level: byte(s, 2),
         key: number(s, 3, 4) as u32,
     }
-}
-
-pub(crate) fn restart(s: &[u8]) -> Pdu
-    ensures { λ r. ⌜ r ≡ builtOf Service.Restart (now (s .entry)) ⌝ }
-{
-    Pdu::Restart
-}
-
-pub(crate) fn individual_address_response(s: &[u8]) -> Pdu
-    ensures { λ r. ⌜ r ≡ builtOf Service.IndividualAddressResponse (now (s .entry)) ⌝ }
-{
-    Pdu::IndividualAddressResponse
 }
 
 pub(crate) fn serial_number_response(s: &[u8]) -> Pdu
