@@ -1,16 +1,26 @@
--- The byte of a code-0 group object.
+-- What is judged of a body.
 -- Assumes nothing.
-use Prim.Native.Nat.{ℕ, zero, suc, _≤_, _<_}
-use mathlib.Core.Path.{_≡_, refl, ap, _∙_}
+use Prim.Native.Nat.{ℕ, zero, suc, _+_, _≤_, _<_}
+use mathlib.Core.Path.{_≡_, refl, ap₂, _∙_}
 use mathlib.Core.List.{List}
 use borrow.Author.Tests.{le-leb, lt-leb}
 use native.Mathlib.Omega.{arith}
 use Rattle.octets.specs.Bytes.{numAt}
+use Rattle.sheet.specs.Demand.{Tells}
+use Rattle.sheet.specs.Kind.{OfKind}
 use Rattle.sheet.specs.Layout.{_of_}
 use Rattle.sheet.specs.Group as group
-use Rattle.sheet.specs.Entries.{sixBits}
+use Rattle.sheet.specs.Entries.{offsetOf, lengthOf, sixBits}
+use Rattle.sheet.specs.Rules.{bodyRows}
+use Rattle.sheet.specs.Walk.{Says}
+use Rattle.sheet.specs.declared.judge.Judged.{Judged}
+use Rattle.sheet.proofs.ByKind.{kinded}
 
 module _ (s : List ℕ) (k : ℕ) (e : List ℕ) where
+  pub of-body : (a z x n : ℕ) (r : Judged) → a ≡ offsetOf k e → x ≡ sixBits s k e → OfKind n k (lengthOf 0 e) (lengthOf 1 e) (lengthOf 2 e)
+      → Tells (r .rule) (bodyRows a z x) → r .next ≡ a + n → Says (bodyRows (offsetOf k e) z (sixBits s k e)) (offsetOf k e + lengthOf k e) r
+  of-body a z x n r ea ex en t q = record { rule = rw (← ea, ← ex) t; next = q ∙ ap₂ _+_ ea (kinded en) }
+
   pub six-other : k < 2 → 0 ≡ sixBits s k e
   unfolding sixBits
   six-other = go k

@@ -1,7 +1,7 @@
 -- Entries by their first word: it rises strictly, so a lookup finds the one entry that has it.
 -- Assumes nothing.
-use Prim.Native.Nat.{ℕ, zero, suc, _+_, _*_, _<_, _≤_}
-use mathlib.Core.Path.{_≡_, refl, sym, _∙_, ap}
+use Prim.Native.Nat.{ℕ, suc, _+_, _*_, _<_, _≤_}
+use mathlib.Core.Path.{_≡_, sym, _∙_}
 use mathlib.Core.List.{List}
 use native.Mathlib.Decide.{decLt}
 use native.Mathlib.Nat.{le-trans}
@@ -11,7 +11,7 @@ use Rattle.octets.proofs.Numbers.{num-one, num-two}
 use Rattle.sheet.specs.Kind.{kinds}
 use Rattle.sheet.specs.Layout.{_of_}
 use Rattle.sheet.specs.Property as property
-use Rattle.sheet.specs.Entries.{count, entry, keyOf, floor, floorAfter}
+use Rattle.sheet.specs.Entries.{count, keyOf, floor}
 use Rattle.sheet.specs.Rules.{entryDemands}
 use Rattle.sheet.specs.Lookup.{indexOf}
 use Rattle.sheet.proofs.ByKind.{eachKind}
@@ -41,11 +41,15 @@ module _ {ed : ℕ} {s : List ℕ} (g : Good ed s) where
     key-up : (i : ℕ) → suc i < count s k → keyOf s k i < keyOf s k (suc i)
     key-up i h = le-trans (under-next i k hk (omega arith)) (over-floor (suc i) k hk h)
 
+    -- an entry's first word is not below what any earlier entry leaves
+    pub past-floor : (i j : ℕ) → i < j → j < count s k → floor s k (suc i) ≤ keyOf s k j
+    past-floor i j h l =
+        le-trans (over-floor (suc i) k hk (omega arith))
+        (rising (keyOf s k) j (λ m b. omega (arith, key-up m (omega arith))) (suc i) j h (omega arith))
+
     -- THE FIRST WORDS RISE STRICTLY
     pub key-rising : (i j : ℕ) → i < j → j < count s k → keyOf s k i < keyOf s k j
-    key-rising i j h l =
-        le-trans (key-up i (omega arith))
-        (rising (keyOf s k) j (λ m b. omega (arith, key-up m (omega arith))) (suc i) j h (omega arith))
+    key-rising i j h l = le-trans (under-next i k hk (omega arith)) (past-floor i j h l)
 
     -- two entries of a kind have two first words
     pub key-once : (i j : ℕ) → i < count s k → j < count s k → keyOf s k i ≡ keyOf s k j → i ≡ j

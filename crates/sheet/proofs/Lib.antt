@@ -17,3 +17,12 @@ pub mod Seeks
 pub mod Keys
 pub mod Ranks
 pub mod Seek
+pub mod Fields
+pub mod Loops
+pub mod Runs
+pub mod Sames
+pub mod Frames
+pub mod Finds
+pub mod Mild
+pub mod Counts
+pub mod Stores

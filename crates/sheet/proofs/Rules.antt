@@ -1,17 +1,18 @@
 -- The walk: what a step is judged against, and where the walk leaves, with which rule.
 -- Assumes nothing.
 use Prim.Native.Nat.{ℕ, zero, suc, _+_, _-_, _≤_, _<_}
-use mathlib.Core.Path.{_≡_, refl, sym, _∙_, ap, ap₂}
+use mathlib.Core.Path.{_≡_, refl, sym, _∙_, ap}
 use mathlib.Core.List.{List}
 use borrow.Author.Tests.{lt-ltb, le-ltb}
 use native.Mathlib.Numerals.{add-one}
 use native.Mathlib.Omega.{arith}
 use Rattle.sheet.specs.Demand.{breach, Tells}
 use Rattle.sheet.specs.First.{first, orElse}
-use Rattle.sheet.specs.Kind.{byKind, kinds, OfKind}
-use Rattle.sheet.specs.Entries.{count, contents, entry, floor, floorAfter, offsetOf, lengthOf, bodyEnd, startOf, reached, sixBits}
+use Rattle.sheet.specs.Kind.{byKind, kinds}
+use Rattle.sheet.specs.Entries.{count, contents, entry, floor, floorAfter, offsetOf, lengthOf, sixBits, bodyEnd, startOf, reached}
 use Rattle.sheet.specs.Rules.{regionDemands, propertyDemands, groupDemands, bodyRows, entryDemands, bodyDemands, endDemands, frameDemands, zeroDemands, kindAt, passes, stepRule, passRule, walkRule, ruleIn, ruleOf}
-use Rattle.sheet.specs.Walk.{Framed, Entry, Counted, Step, KindOf, Carried, before}
+use Rattle.sheet.specs.Walk.{Framed, Entry, Counted, Step, Stepped, Says, KindOf, Carried, before}
+use Rattle.sheet.specs.declared.judge.Judged.{Judged}
 use Rattle.sheet.proofs.ByKind.{kinded}
 use Rattle.sheet.proofs.Demands.{told, met}
 use Rattle.sheet.proofs.First.{orElse-some, first-none, first-more, first-stop}
@@ -24,6 +25,26 @@ body-kind zero h = absurd (omega arith)
 body-kind (suc zero) h = absurd (omega arith)
 body-kind (suc (suc zero)) h = absurd (omega arith)
 body-kind (suc (suc (suc p))) h = omega arith
+
+-- an entry of a kind, where the kind is known
+module _ (s : List ℕ) (k i j : ℕ) (q : k ≡ j) where
+  pub entry-there : Entry s k i → Entry s j i
+  entry-there h = rw q at h
+
+  module _ (e : List ℕ) (ee : e ≡ entry s j i) (z : ℕ) (r : Judged) where
+    pub says-entry : z ≡ floor s k i → Says (byKind j (regionDemands z e) (propertyDemands z e) (groupDemands z e)) (floorAfter j e) r
+        → Says (entryDemands s k i) (floor s k (i + 1)) r
+    unfolding entryDemands
+    says-entry f o =
+        let n : floorAfter j e ≡ floor s k (i + 1) = unfold floor in rw (add-one i, q, ee) in
+        record { rule = rw (← f, q, ← ee) (o .rule); next = o .next ∙ n }
+
+    pub says-body : z ≡ reached s k i → Says (bodyRows (offsetOf j e) z (sixBits s j e)) (offsetOf j e + lengthOf j e) r
+        → Says (bodyDemands s k i) (reached s k (i + 1)) r
+    unfolding bodyDemands
+    says-body f o =
+        let n : offsetOf j e + lengthOf j e ≡ reached s k (i + 1) = unfold reached bodyEnd in rw (add-one i, q, ee) in
+        record { rule = rw (← f, q, ← ee) (o .rule); next = o .next ∙ n }
 
 module _ (s : List ℕ) (p : ℕ) where
   -- what the first step is judged against
@@ -42,30 +63,25 @@ module _ (s : List ℕ) (p : ℕ) where
   pub begin-next : (z : ℕ) → 3 ≤ p → (p ≡ 3 → ⊥) → Carried s p z → z ≡ before s p 0
   begin-next z h n c = c .ends (omega arith) ∙ begin-body h
 
-  module _ (i k : ℕ) (ek : k ≡ kindAt p) (e : List ℕ) (ee : e ≡ entry s k i) where
-    -- what the next step is judged against
-    pub next-entry : (r : ℕ) → p < 3 → OfKind r k (floorAfter 0 e) (floorAfter 1 e) (floorAfter 2 e) → r ≡ before s p (i + 1)
-    unfolding before floor
-    next-entry r h o = rw (add-one i, lt-ltb p 3 h, ← ek, ← ee) (kinded o)
+  module _ (i k : ℕ) (ek : k ≡ kindAt p) where
+    -- what a step is judged against, and what it says
+    pub step-floor : (z : ℕ) → p < 3 → z ≡ before s p i → z ≡ floor s k i
+    unfolding before
+    step-floor z h e = rw (lt-ltb p 3 h, ← ek) at e
 
-    pub next-body :
-        (a z : ℕ) → 3 ≤ p → a ≡ offsetOf k e → OfKind z k (lengthOf 0 e) (lengthOf 1 e) (lengthOf 2 e) → a + z ≡ before s p (i + 1)
-    unfolding before reached bodyEnd
-    next-body a z h q o = rw (add-one i, le-ltb p 3 h, ← ek, ← ee) (ap₂ _+_ q (kinded o))
+    pub step-reached : (z : ℕ) → 3 ≤ p → z ≡ before s p i → z ≡ reached s k i
+    unfolding before
+    step-reached z h e = rw (le-ltb p 3 h, ← ek) at e
 
-    -- what a step says
-    pub step-entry :
-        (r z : ℕ) → p < 3 → z ≡ before s p i → r ≡ breach (byKind k (regionDemands z e) (propertyDemands z e) (groupDemands z e)) → r ≡ stepRule s p i
-    unfolding before stepRule entryDemands
-    step-entry r z h q w =
-        let f : z ≡ floor s (kindAt p) i = rw (lt-ltb p 3 h) at q in
-        rw (lt-ltb p 3 h, ← f, ← ek, ← ee) w
+    pub step-entry : (r : Judged) → p < 3 → Says (entryDemands s k i) (floor s k (i + 1)) r → Stepped s p i r
+    unfolding before stepRule
+    step-entry r h o =
+        record { rule = rw (lt-ltb p 3 h, ← ek) (told _ _ (o .rule)); next = rw (lt-ltb p 3 h, ← ek) (o .next) }
 
-    pub step-body : (r z : ℕ) → 3 ≤ p → z ≡ before s p i → r ≡ breach (bodyRows (offsetOf k e) z (sixBits s k e)) → r ≡ stepRule s p i
-    unfolding before stepRule bodyDemands
-    step-body r z h q w =
-        let f : z ≡ reached s (kindAt p) i = rw (le-ltb p 3 h) at q in
-        rw (le-ltb p 3 h, ← f, ← ek, ← ee) w
+    pub step-body : (r : Judged) → 3 ≤ p → Says (bodyDemands s k i) (reached s k (i + 1)) r → Stepped s p i r
+    unfolding before stepRule
+    step-body r h o =
+        record { rule = rw (le-ltb p 3 h, ← ek) (told _ _ (o .rule)); next = rw (le-ltb p 3 h, ← ek) (o .next) }
 
 pub step-there : {s : List ℕ} {p i k : ℕ} → Step s p i → KindOf p k → Entry s k i
 step-there h q = record { framed = h .framed; kind = q .kind; below = rw (q .is) (h .below) }
@@ -111,13 +127,13 @@ module _ (s : List ℕ) where
       pub pass-step : Framed 1 s → p < passes → i < n → Step s p i
       pass-step f hp hi = record { framed = f; pass = hp; below = omega (arith, h .whole) }
 
-      pub pass-goes : (r z′ : ℕ) → i < n → r ≡ stepRule s p i → r ≡ 0 → z′ ≡ before s p (i + 1) → Passed s p n z′ (i + 1)
-      pass-goes r z′ hi e q w =
+      pub pass-goes : (r : Judged) → i < n → Stepped s p i r → r .rule ≡ 0 → Passed s p n (r .next) (i + 1)
+      pass-goes r hi e q =
           record {
             within = omega arith;
             whole = h .whole;
-            clean = first-more _ _ (h .clean) (sym e ∙ q);
-            against = w;
+            clean = first-more _ _ (h .clean) (sym (e .rule) ∙ q);
+            against = e .next;
           }
 
       pub walk-goes : (z₀ : ℕ) → Walked s p z₀ → p < passes → n ≤ i → Walked s (p + 1) z
@@ -133,14 +149,19 @@ module _ (s : List ℕ) where
 
 -- where the walk leaves
 module _ (s : List ℕ) (r : ℕ) where
-  pub left-at :
-      (p n z i z₀ : ℕ) → Walked s p z₀ → Passed s p n z i → p < passes → i < n → r ≡ stepRule s p i → (r ≡ 0 → ⊥) → r ≡ walkRule s
+  pub left-at : (p n z i z₀ : ℕ) (j : Judged) → Walked s p z₀ → Passed s p n z i → p < passes → i < n → Stepped s p i j → r ≡ j .rule
+      → (r ≡ 0 → ⊥) → r ≡ walkRule s
   unfolding walkRule
-  left-at p n z i z₀ w v hp hi e h =
-      let step : r ≡ passRule s p =
-      unfold passRule in rw (← v .whole) (e ∙ first-stop (stepRule s p) n i hi (v .clean) (λ q. h (e ∙ q))) in
-      let pass : r ≡ first (passRule s) passes = step ∙ first-stop (passRule s) passes p hp (w .clean) (λ q. h (step ∙ q)) in
-      rw (← pass) (sym (orElse-some r _ h))
+  left-at p n z i z₀ j w v hp hi t f h = rw (← pass) (sym (orElse-some r _ h))
+    where
+      e : r ≡ stepRule s p i
+      e = f ∙ t .rule
+
+      step : r ≡ passRule s p
+      step = unfold passRule in rw (← v .whole) (e ∙ first-stop (stepRule s p) n i hi (v .clean) (λ q. h (e ∙ q)))
+
+      pass : r ≡ first (passRule s) passes
+      pass = step ∙ first-stop (passRule s) passes p hp (w .clean) (λ q. h (step ∙ q))
 
   pub at-end : (p z : ℕ) → Walked s p z → passes ≤ p → Tells r (endDemands s) → r ≡ walkRule s
   unfolding walkRule

@@ -1,6 +1,6 @@
 -- What a position of an accepted sheet is, where an address of a memory stands, and what calls of this crate promise of entries.
 -- Assumes nothing.
-use Prim.Native.Nat.{ℕ, _+_, _*_, _-_, _/_, _%_, _≤_, _<_}
+use Prim.Native.Nat.{ℕ, _+_, _*_, _-_, _/_, _%_, _≤_, _<_, max}
 use mathlib.Core.Path.{_≡_}
 use mathlib.Core.List.{List}
 use lib.ListN.{length}
@@ -46,3 +46,19 @@ pub record IsGroup (s : List ℕ) (i : ℕ) (r : GroupEntry) : Type 0 where
   pub code : r .code ≡ group.code of entry s groups i
   pub flags : r .flags ≡ group.flags of entry s groups i
   pub offset : r .offset ≡ group.offset of entry s groups i
+
+-- the same of an accepted sheet: within the limits, and its body and entry within the sheet
+pub record PropertyIn (s : List ℕ) (i : ℕ) (r : PropertyEntry) : Type 0 where
+  pub is : IsProperty s i r
+  pub filled : 1 ≤ r .element
+  pub short : r .element ≤ 10
+  pub some : 1 ≤ r .maximum
+  pub most : r .maximum ≤ 4095
+  pub counted : r .count ≤ r .maximum
+  pub body : r .offset + r .element * r .maximum ≤ length s
+  pub room : r .place + property.size ≤ length s
+
+pub record GroupIn (s : List ℕ) (i : ℕ) (r : GroupEntry) : Type 0 where
+  pub is : IsGroup s i r
+  pub short : r .code ≤ 14
+  pub body : r .offset + max 1 (r .code) ≤ length s

@@ -5,10 +5,11 @@ use mathlib.Core.Path.{_≡_}
 use mathlib.Core.List.{List}
 use lib.ListN.{length}
 use lib.Dec.{ltb}
-use Rattle.sheet.specs.Demand.{Met, pick}
+use Rattle.sheet.specs.Demand.{Demand, Met, Tells, pick}
 use Rattle.sheet.specs.Kind.{kinds, OfKind}
 use Rattle.sheet.specs.Entries.{count, size, place, entry, floor, reached, startOf, offsetOf, lengthOf}
-use Rattle.sheet.specs.Rules.{frameDemands, kindAt, regionBodies, passes}
+use Rattle.sheet.specs.Rules.{frameDemands, stepRule, kindAt, regionBodies, passes}
+use Rattle.sheet.specs.declared.judge.Judged.{Judged}
 use Rattle.sheet.specs.Region as region
 use Rattle.sheet.specs.Property as property
 
@@ -64,3 +65,13 @@ pub record KindOf (p r : ℕ) : Type 0 where
 -- z is where the bodies before pass p ended, if there was a pass over bodies
 pub record Carried (s : List ℕ) (p z : ℕ) : Type 0 where
   pub ends : regionBodies < p → z ≡ startOf s (kindAt p)
+
+-- r is the first rule that breaks of some rows, and n
+pub record Says (ds : List Demand) (n : ℕ) (r : Judged) : Type 0 where
+  pub rule : Tells (r .rule) ds
+  pub next : r .next ≡ n
+
+-- what step i of pass p says, and what the next is judged against
+pub record Stepped (s : List ℕ) (p i : ℕ) (r : Judged) : Type 0 where
+  pub rule : r .rule ≡ stepRule s p i
+  pub next : r .next ≡ before s p (i + 1)

@@ -1,12 +1,12 @@
 // S6 to S8 of one entry, and S9 of one body.
 ghost use mathlib.Core.Path.{_≡_};
-ghost use Prim.Native.Nat.{_≤_, _<_};
+ghost use Prim.Native.Nat.{_+_, _≤_};
 ghost use lib.ListN.{length};
-ghost use Rattle.sheet.specs.Demand.{breach, Tells};
-ghost use Rattle.sheet.specs.Kind.{byKind, kinds};
-ghost use Rattle.sheet.specs.Entries.{offsetOf, sixBits};
+ghost use Rattle.sheet.specs.Demand.{Tells};
+ghost use Rattle.sheet.specs.Kind.{regions, properties, groups};
+ghost use Rattle.sheet.specs.Entries.{floorAfter, offsetOf, lengthOf, sixBits};
 ghost use Rattle.sheet.specs.Rules.{regionDemands, propertyDemands, groupDemands, bodyRows};
-ghost use Rattle.sheet.specs.Walk.{Sized};
+ghost use Rattle.sheet.specs.Walk.{Sized, Says};
 ghost use Rattle.sheet.specs.Region as region;
 ghost use Rattle.sheet.specs.Property as property;
 ghost use Rattle.sheet.specs.Group as group;
@@ -14,13 +14,20 @@ use crate::layout::group;
 use crate::layout::kind;
 use crate::layout::property;
 use crate::layout::region;
+use crate::table::length;
 use crate::table::offset;
 use octets::byte;
 use octets::word;
 
+// The rule that a step of the walk breaks, or 0, and what the step after it is judged against.
+pub struct Judged {
+    pub rule: u8,
+    pub next: usize,
+}
+
 // S6, of a region whose address is to be at least `floor`.
-pub fn region_rule(floor: usize, e: &[u8]) -> u8
-    requires { ⌜ length (now e) ≡ region.size ⌝ }
+fn region_rule(floor: usize, e: &[u8]) -> u8
+    requires { ⌜ region.size ≤ length (now e) ⌝ }
     ensures { λ r. ⌜ Tells r (regionDemands floor (now (e .entry))) ⌝ }
 {
     let address = word(e, region::ADDRESS);
@@ -47,9 +54,20 @@ pub fn region_rule(floor: usize, e: &[u8]) -> u8
     0
 }
 
+// The same, and the least address that the next may have.
+pub fn region_step(floor: usize, e: &[u8]) -> Judged
+    requires { ⌜ region.size ≤ length (now e) ⌝ }
+    ensures { λ r. ⌜ Says (regionDemands floor (now (e .entry))) (floorAfter regions (now (e .entry))) r ⌝ }
+{
+    Judged {
+        rule: region_rule(floor, e),
+        next: word(e, region::ADDRESS) + word(e, region::LENGTH),
+    }
+}
+
 // S7, of a property whose object and id, as one number, are to be at least `floor`.
-pub fn property_rule(floor: usize, e: &[u8]) -> u8
-    requires { ⌜ length (now e) ≡ property.size ⌝ }
+fn property_rule(floor: usize, e: &[u8]) -> u8
+    requires { ⌜ property.size ≤ length (now e) ⌝ }
     ensures { λ r. ⌜ Tells r (propertyDemands floor (now (e .entry))) ⌝ }
 {
     if byte(e, property::ID) < 1 {
@@ -91,9 +109,19 @@ pub fn property_rule(floor: usize, e: &[u8]) -> u8
     0
 }
 
+pub fn property_step(floor: usize, e: &[u8]) -> Judged
+    requires { ⌜ property.size ≤ length (now e) ⌝ }
+    ensures { λ r. ⌜ Says (propertyDemands floor (now (e .entry))) (floorAfter properties (now (e .entry))) r ⌝ }
+{
+    Judged {
+        rule: property_rule(floor, e),
+        next: word(e, property::KEY) + 1,
+    }
+}
+
 // S8, of a group object whose address is to be at least `floor`.
-pub fn group_rule(floor: usize, e: &[u8]) -> u8
-    requires { ⌜ length (now e) ≡ group.size ⌝ }
+fn group_rule(floor: usize, e: &[u8]) -> u8
+    requires { ⌜ group.size ≤ length (now e) ⌝ }
     ensures { λ r. ⌜ Tells r (groupDemands floor (now (e .entry))) ⌝ }
 {
     let address = word(e, group::ADDRESS);
@@ -115,15 +143,13 @@ pub fn group_rule(floor: usize, e: &[u8]) -> u8
     0
 }
 
-// S6, S7 or S8, of an entry of a kind.
-pub fn entry_rule(k: usize, floor: usize, e: &[u8]) -> u8
-    requires { ⌜ Sized k (now e) × (k < kinds) ⌝ }
-    ensures { λ r. ⌜ r ≡ breach (byKind k (regionDemands floor (now (e .entry))) (propertyDemands floor (now (e .entry))) (groupDemands floor (now (e .entry)))) ⌝ }
+pub fn group_step(floor: usize, e: &[u8]) -> Judged
+    requires { ⌜ group.size ≤ length (now e) ⌝ }
+    ensures { λ r. ⌜ Says (groupDemands floor (now (e .entry))) (floorAfter groups (now (e .entry))) r ⌝ }
 {
-    match k {
-        kind::REGIONS => region_rule(floor, e),
-        kind::PROPERTIES => property_rule(floor, e),
-        _ => group_rule(floor, e),
+    Judged {
+        rule: group_rule(floor, e),
+        next: word(e, group::ADDRESS) + 1,
     }
 }
 
@@ -154,10 +180,14 @@ fn body_rows(from: usize, z: usize, six: usize) -> u8
     0
 }
 
-// S9, of the body of an entry e of a kind where the one before ended at z.
-pub fn body_rule(s: &[u8], k: usize, z: usize, e: &[u8]) -> u8
+// S9, of the body of an entry e of a kind where the one before ended at z, and where the body ends.
+pub fn body_of(s: &[u8], k: usize, z: usize, e: &[u8]) -> Judged
     requires { ⌜ Sized k (now e) ⌝ }
-    ensures { λ r. ⌜ r ≡ breach (bodyRows (offsetOf k (now (e .entry))) z (sixBits (now (s .entry)) k (now (e .entry)))) ⌝ }
+    ensures { λ r. ⌜ Says (bodyRows (offsetOf k (now (e .entry))) z (sixBits (now (s .entry)) k (now (e .entry)))) (offsetOf k (now (e .entry)) + lengthOf k (now (e .entry))) r ⌝ }
 {
-    body_rows(offset(k, e), z, six_bits(s, k, e))
+    let from = offset(k, e);
+    Judged {
+        rule: body_rows(from, z, six_bits(s, k, e)),
+        next: from + length(k, e),
+    }
 }

@@ -1,15 +1,33 @@
 // The device sheet: its rules, its entries and their bodies.
 mod frame;
+mod head;
 mod judge;
 mod layout;
 mod lookup;
+mod memory;
+mod records;
 mod table;
 mod walk;
 
+pub use head::address_at;
+pub use head::flags;
+pub use head::flags_at;
+pub use head::individual;
+pub use head::key;
+pub use head::key_at;
+pub use head::mask;
+pub use head::serial;
 pub use lookup::find;
 pub use lookup::group;
 pub use lookup::property;
 pub use lookup::region;
+pub use memory::range;
+pub use records::count;
+pub use records::count_at;
+pub use records::group_entry;
+pub use records::nth;
+pub use records::property_entry;
+pub use records::rank;
 pub use walk::check;
 
 // A run of sheet bytes that an address range is, with the levels that it stands under.

@@ -5,7 +5,7 @@ ghost use lib.ListN.{length};
 ghost use Rattle.sheet.specs.Kind.{OfKind};
 ghost use Rattle.sheet.specs.Layout.{_of_};
 ghost use Rattle.sheet.specs.Property as property;
-ghost use Rattle.sheet.specs.Entries.{size as sizeOf, place as placeOf, contents as contentsOf, floorAfter};
+ghost use Rattle.sheet.specs.Entries.{size as sizeOf, place as placeOf, contents as contentsOf};
 ghost use Rattle.sheet.specs.Walk.{Framed, Entry, Counted, Shown, Starts, Long, Sized};
 use crate::layout::group;
 use crate::layout::head;
@@ -71,18 +71,6 @@ pub fn entry(s: &[u8], k: usize, i: usize) -> &[u8]
     let a = place(s, k, i);
     let z = a + size(k);
     &s[a..z]
-}
-
-// The least first word that the entry after e may have.
-pub fn floor_after(k: usize, e: &[u8]) -> usize
-    requires { ⌜ 8 ≤ length (now e) ⌝ }
-    ensures { λ r. ⌜ OfKind r k (floorAfter 0 (now (e .entry))) (floorAfter 1 (now (e .entry))) (floorAfter 2 (now (e .entry))) ⌝ }
-{
-    match k {
-        kind::REGIONS => word(e, region::ADDRESS) + word(e, region::LENGTH),
-        kind::PROPERTIES => word(e, property::KEY) + 1,
-        _ => word(e, group::ADDRESS) + 1,
-    }
 }
 
 // Where the body of an entry starts.

@@ -3,21 +3,21 @@ ghost use mathlib.Core.Path.{_≡_};
 ghost use Prim.Native.Nat.{_+_, _<_};
 ghost use Rattle.sheet.specs.Demand.{Tells};
 ghost use Rattle.sheet.specs.Kind.{kinds};
-ghost use Rattle.sheet.specs.Entries.{startOf};
-ghost use Rattle.sheet.specs.Rules.{endDemands, passes, kindAt, stepRule, walkRule, ruleOf};
-ghost use Rattle.sheet.specs.Walk.{Framed, Step, KindOf, Carried, before};
+ghost use Rattle.sheet.specs.Entries.{floor as floorOf, reached, startOf};
+ghost use Rattle.sheet.specs.Rules.{entryDemands, bodyDemands, endDemands, passes, walkRule, ruleOf};
+ghost use Rattle.sheet.specs.Walk.{Framed, Entry, Step, Stepped, Says, KindOf, Carried, before};
 use crate::frame::frame_rule;
 use crate::frame::zero_rule;
-use crate::judge::body_rule;
-use crate::judge::entry_rule;
+use crate::judge::Judged;
+use crate::judge::body_of;
+use crate::judge::group_step;
+use crate::judge::property_step;
+use crate::judge::region_step;
 use crate::layout::kind;
 use crate::layout::pass;
 use crate::table::contents;
 use crate::table::entry;
-use crate::table::floor_after;
-use crate::table::length;
 use crate::table::many;
-use crate::table::offset;
 
 // The kind that a pass is over.
 fn kind_at(p: usize) -> usize
@@ -46,31 +46,40 @@ fn begin(s: &[u8], p: usize, z: usize) -> usize
     z
 }
 
-// What the step after step i of a pass is judged against.
-fn next(s: &[u8], p: usize, i: usize) -> usize
-    requires { ⌜ Step (now s) p i ⌝ }
-    ensures { λ r. ⌜ r ≡ before (now (s .entry)) p (i + 1) ⌝ }
+// S6, S7 or S8 of entry i of a kind, and the floor of the next. An arm for each kind, so that each is compiled by itself.
+fn entry_step(s: &[u8], k: usize, i: usize, floor: usize) -> Judged
+    requires { ⌜ Entry (now s) k i × (floor ≡ floorOf (now s) k i) ⌝ }
+    ensures { λ r. ⌜ Says (entryDemands (now (s .entry)) k i) (floorOf (now (s .entry)) k (i + 1)) r ⌝ }
 {
-    let k = kind_at(p);
-    let e = entry(s, k, i);
-    if p < pass::REGION_BODIES {
-        floor_after(k, e)
-    } else {
-        offset(k, e) + length(k, e)
+    match k {
+        kind::REGIONS => region_step(floor, entry(s, kind::REGIONS, i)),
+        kind::PROPERTIES => property_step(floor, entry(s, kind::PROPERTIES, i)),
+        _ => group_step(floor, entry(s, kind::GROUPS, i)),
     }
 }
 
-// Step i of a pass, judged against z: the rule that it breaks, or 0.
-fn step(s: &[u8], p: usize, i: usize, z: usize) -> u8
+// S9 of its body, and where the body ends.
+fn body_step(s: &[u8], k: usize, i: usize, z: usize) -> Judged
+    requires { ⌜ Entry (now s) k i × (z ≡ reached (now s) k i) ⌝ }
+    ensures { λ r. ⌜ Says (bodyDemands (now (s .entry)) k i) (reached (now (s .entry)) k (i + 1)) r ⌝ }
+{
+    match k {
+        kind::REGIONS => body_of(s, kind::REGIONS, z, entry(s, kind::REGIONS, i)),
+        kind::PROPERTIES => body_of(s, kind::PROPERTIES, z, entry(s, kind::PROPERTIES, i)),
+        _ => body_of(s, kind::GROUPS, z, entry(s, kind::GROUPS, i)),
+    }
+}
+
+// Step i of a pass, judged against z.
+fn step(s: &[u8], p: usize, i: usize, z: usize) -> Judged
     requires { ⌜ Step (now s) p i × (z ≡ before (now s) p i) ⌝ }
-    ensures { λ r. ⌜ r ≡ stepRule (now (s .entry)) p i ⌝ }
+    ensures { λ r. ⌜ Stepped (now (s .entry)) p i r ⌝ }
 {
     let k = kind_at(p);
-    let e = entry(s, k, i);
     if p < pass::REGION_BODIES {
-        entry_rule(k, z, e)
+        entry_step(s, k, i, z)
     } else {
-        body_rule(s, k, z, e)
+        body_step(s, k, i, z)
     }
 }
 
@@ -97,11 +106,12 @@ fn walk(s: &[u8]) -> u8
         let mut i = 0;
         z = begin(s, p, z);
         while i < n {
-            let rule = step(s, p, i, z);
+            let judged = step(s, p, i, z);
+            let rule = judged.rule;
             if rule != 0 {
                 break 'walk rule;
             }
-            z = next(s, p, i);
+            z = judged.next;
             i += 1;
         }
         p += 1;

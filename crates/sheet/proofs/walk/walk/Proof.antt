@@ -34,7 +34,6 @@ walk-spec =
     (λ c κs. search needs)
     (λ c. search pass-begins)
     (λ c κs. search (pass-step, needs))
-    (λ c κs. search pass-step)
     (λ c. search needs)
     (λ c. search needs)
     (λ c. search pass-goes)
