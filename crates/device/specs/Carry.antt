@@ -8,10 +8,7 @@ use lib.ListN.{length, getD, take, drop, replicate}
 use lib.Bits.{bitAnd, bitXor}
 use Rattle.octets.specs.Bytes.{bytesOf}
 use Rattle.octets.specs.Splice.{splice}
-use Rattle.pdu.specs.Read.{dataOf}
 use Rattle.pdu.specs.Write.{encoded}
-use Rattle.pdu.specs.declared.Parsed.{Parsed}
-use Rattle.pdu.specs.declared.Parsed.the-variants.{Is, Refused}
 use Rattle.judge.specs.Session.{weakest}
 use Rattle.judge.specs.declared.Session.{Session}
 use Rattle.judge.specs.declared.Store.{Store}
@@ -20,11 +17,6 @@ use Rattle.judge.specs.declared.Turn.{Turn}
 use Rattle.judge.specs.declared.Turn.the-variants.{Stays, Level, Closes}
 use Rattle.judge.specs.declared.Answer.{Answer}
 use Rattle.judge.specs.declared.Answer.the-variants as answer
-
--- the data of a request that reads, and none of any other
-abbrev pub dataIn : Parsed → List ℕ → List ℕ
-dataIn (Is p) a = dataOf p a
-dataIn (Refused n) a = []
 
 -- f 0, f 1, .., f (n - 1)
 unfoldable pub build : ℕ → (ℕ → ℕ) → List ℕ

@@ -6,10 +6,10 @@ use mathlib.Core.List.{List, []}
 use lib.ListN.{length}
 use Rattle.octets.specs.Splice.{splice}
 use Rattle.pdu.specs.Read.{readPdu}
-use Rattle.judge.specs.Judge.{judgeOf}
+use Rattle.judge.specs.Judge.{dataIn, judgeOf}
 use Rattle.judge.specs.declared.Session.{Session}
 use Rattle.judge.specs.declared.Decision.{Decision}
-use Rattle.device.specs.Carry.{dataIn, storeOf, turnOf, answerOf}
+use Rattle.device.specs.Carry.{storeOf, turnOf, answerOf}
 use Rattle.device.specs.declared.Done.{Done}
 
 -- the outcome, the bytes answered, and session and sheet afterwards

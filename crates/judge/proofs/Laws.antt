@@ -51,6 +51,15 @@ same-eqb x y z e = simp e
 pub same-leb : (x y z : ℕ) → x ≡ y → leb x z ≡ leb y z
 same-leb x y z e = simp e
 
+-- whether a number is one that a call has given
+pub given-eqb : (x y z : ℕ) → y ≡ z → x ≡ y → eqb x z ≡ true
+given-eqb x y z e h = eq-eqb x z (h ∙ e)
+
+pub other-eqb : (x y z : ℕ) → y ≡ z → (x ≡ y → ⊥) → eqb x z ≡ false
+other-eqb x y z e h = ne-eqb x z (λ k. h (k ∙ sym e))
+
 pub ruleset tests = (lt-ltb, le-ltb, le-leb, lt-leb, eq-eqb, ne-eqb)
 
 pub ruleset branches = (yes, no, lt-ltb, le-ltb, le-leb, lt-leb, eq-eqb, ne-eqb, made-yes, made-no, both, not-first, not-second, and-second, and-no, same-eqb, same-leb)
+
+pub ruleset given = (yes, no, given-eqb, other-eqb)

@@ -6,19 +6,20 @@ use mathlib.Core.List.{List}
 use mathlib.Core.Bool.{Bool, true, false, _&&_, not}
 use lib.Dec.{leb, eqb}
 use lib.ListN.{length}
-use borrow.Author.Tests.{le-leb, lt-leb, leb-true, not-true, not-false}
+use borrow.Author.Tests.{lt-ltb, le-ltb, le-leb, lt-leb, leb-true, not-true, not-false}
 use Rattle.octets.specs.Bytes.{numAt}
 use Rattle.sheet.specs.Kind.{properties}
-use Rattle.sheet.specs.Entries.{entry, place}
+use Rattle.sheet.specs.Entries.{count, place, entry}
+use Rattle.sheet.specs.Lookup.{rank}
 use Rattle.sheet.specs.Places.{IsProperty}
 use Rattle.sheet.specs.declared.PropertyEntry.{PropertyEntry}
-use Rattle.pdu.specs.declared.Pdu.the-variants.{PropertyValueResponse}
+use Rattle.pdu.specs.declared.Pdu.the-variants.{PropertyValueResponse, PropertyDescriptionResponse}
 use Rattle.judge.specs.declared.Store.the-variants as store
 use Rattle.judge.specs.declared.Answer.the-variants as answer
 use Rattle.judge.specs.declared.Decision.{Decision}
-use Rattle.judge.specs.Decisions.{answered, written}
+use Rattle.judge.specs.Decisions.{denied, answered, written}
 use Rattle.judge.proofs.Laws.{first-true, second-true}
-use Rattle.judge.specs.Properties.{elements, counted, elementAt, most, noValue, readIn, writeIn}
+use Rattle.judge.specs.Properties.{elements, counted, elementAt, most, noValue, propertyAt, readIn, propertyReadOf, writeIn, propertyWriteOf, describedAt, descriptionOf}
 
 module _ (e : PropertyEntry) (t : List ℕ) (i : ℕ) (p : IsProperty t i e) (level object id n s : ℕ) (r : Decision) where
   pub read-low : e .levels / 16 < level → r ≡ noValue object id s → r ≡ readIn (entry t properties i) level object id n s
@@ -87,3 +88,46 @@ module _
           unfolding writeIn
           write-none h g =
               simp (← (p .kind), ← (p .levels), ← (p .maximum), ← (p .element), ← w-is, not-false w l, ← c-is, m, ← z-is, ← b-is, h) g
+
+-- the property is looked for
+module _
+    (t : List ℕ) (level object id n s : ℕ) (d : List ℕ) (i m : ℕ) (r : Decision) (i-is : i ≡ propertyAt t object id) (m-is : m ≡ count t properties)
+  where
+    pub read-missing : m ≤ i → r ≡ noValue object id s → r ≡ propertyReadOf t level object id n s
+    unfolding propertyReadOf
+    read-missing h g = simp (← i-is, ← m-is, le-ltb _ _ h) g
+
+    pub write-missing : m ≤ i → r ≡ noValue object id s → r ≡ propertyWriteOf t level object id n s d
+    unfolding propertyWriteOf
+    write-missing h g = simp (← i-is, ← m-is, le-ltb _ _ h) g
+
+    module _ (h : i < m) (e : PropertyEntry) (e-is : IsProperty t i e) where
+      pub read-there :
+          ((t : List ℕ) (i : ℕ) → IsProperty t i e → r ≡ readIn (entry t properties i) level object id n s) →
+          r ≡ propertyReadOf t level object id n s
+      unfolding propertyReadOf
+      read-there g = simp (← i-is, ← m-is, lt-ltb _ _ h) (g t i e-is)
+
+      pub write-there :
+          ((t : List ℕ) (i : ℕ) → IsProperty t i e → r ≡ writeIn (entry t properties i) (place t properties i) level object id n s d) →
+          r ≡ propertyWriteOf t level object id n s d
+      unfolding propertyWriteOf
+      write-there g = simp (← i-is, ← m-is, lt-ltb _ _ h) (g t i e-is)
+
+module _
+    (t : List ℕ) (object id index i m : ℕ) (r : Decision) (i-is : i ≡ describedAt t object id index) (m-is : m ≡ count t properties)
+  where
+    pub describe-missing :
+        m ≤ i → r ≡ denied (PropertyDescriptionResponse object id index 0 0 0) → r ≡ descriptionOf t object id index
+    unfolding descriptionOf
+    describe-missing h g = simp (← i-is, ← m-is, le-ltb _ _ h) g
+
+    pub describe-there :
+        i < m → (e : PropertyEntry) (x : ℕ) → IsProperty t i e → x ≡ rank t (e .object) i →
+        r ≡ answered (answer.Plain (PropertyDescriptionResponse (e .object) (e .id) x (e .kind) (e .maximum) (e .levels))) →
+        r ≡ descriptionOf t object id index
+    unfolding descriptionOf
+    describe-there h e x p x-is g =
+        simp
+        (← i-is, ← m-is, lt-ltb _ _ h, ← (p .object), ← (p .id), ← (p .kind), ← (p .maximum), ← (p .levels), ← x-is)
+        g

@@ -1,7 +1,7 @@
 -- WHAT IS DECIDED ABOUT A REQUEST, in the order of the outcomes.
 -- Assumes nothing.
 use Prim.Native.Nat.{ℕ}
-use mathlib.Core.List.{List}
+use mathlib.Core.List.{List, []}
 use mathlib.Core.Bool.{Bool, cond, _&&_, not}
 use lib.ListN.{length}
 use lib.Dec.{ltb, leb, eqb}
@@ -28,6 +28,11 @@ use Rattle.judge.specs.Addresses.{addressWriteOf, addressReadOf, serialR
 use Rattle.judge.specs.Properties.{propertyReadOf, propertyWriteOf, descriptionOf}
 use Rattle.judge.specs.Memory.{memoryReadOf, memoryWriteOf, bitWriteOf}
 use Rattle.judge.specs.Keys.{authorizeOf, keyWriteOf, restartOf}
+
+-- the data of a request that reads, and none of any other
+abbrev pub dataIn : Parsed → List ℕ → List ℕ
+dataIn (parsed.Is p) a = dataOf p a
+dataIn (parsed.Refused n) a = []
 
 -- the sheet is one that the device works with
 unfoldable pub isAccepted : List ℕ → Bool

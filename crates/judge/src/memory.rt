@@ -2,7 +2,10 @@
 ghost use mathlib.Core.Path.{_≡_};
 ghost use mathlib.Core.Bool.{_&&_};
 ghost use lib.Dec.{leb};
-ghost use Rattle.judge.specs.Memory.{mayRead, mayWrite, mayChange, mostBytes, mostBits, permitted, runAt, changeOf};
+ghost use Prim.Native.Nat.{_<_};
+ghost use Rattle.sheet.specs.Kind.{kinds};
+ghost use Rattle.sheet.specs.Rules.{ruleOf};
+ghost use Rattle.judge.specs.Memory.{mayRead, mayWrite, mayChange, mostBytes, mostBits, permitted, runAt, changeOf, verifies as verifiesOf, memoryReadOf, memoryWriteOf, bitWriteOf};
 use crate::Answer;
 use crate::Decision;
 use crate::Store;
@@ -104,4 +107,59 @@ fn change(allowed: bool, verify: bool, new: Store, at: usize, n: u8, address: u1
         return denied(Pdu::MemoryResponse { n: 0, address });
     }
     refused(12)
+}
+
+// Memory writes are answered.
+fn verifies(s: &[u8]) -> bool
+    requires { ⌜ ruleOf (now s) ≡ 0 ⌝ }
+    ensures { λ r. ⌜ r ≡ verifiesOf (now (s .entry)) ⌝ }
+{
+    sheet::flags(s) / 2 % 2 == 1
+}
+
+pub fn memory_read(s: &[u8], k: usize, level: u8, n: u8, address: u16) -> Decision
+    requires { ⌜ (ruleOf (now s) ≡ 0) × (k < kinds) ⌝ }
+    ensures { λ r. ⌜ r ≡ memoryReadOf (now (s .entry)) k level n address ⌝ }
+{
+    let run = sheet::range(s, k, address as usize, n as usize);
+    if can_read(level, n, run) {
+        return answered(Answer::Sheet {
+            pdu: Pdu::MemoryResponse { n, address },
+            at: run_at(run),
+            n: n as usize,
+        });
+    }
+    denied(Pdu::MemoryResponse { n: 0, address })
+}
+
+pub fn memory_write(s: &[u8], k: usize, level: u8, n: u8, address: u16) -> Decision
+    requires { ⌜ (ruleOf (now s) ≡ 0) × (k < kinds) ⌝ }
+    ensures { λ r. ⌜ r ≡ memoryWriteOf (now (s .entry)) k level n address ⌝ }
+{
+    let run = sheet::range(s, k, address as usize, n as usize);
+    let at = run_at(run);
+    change(
+        can_write(level, n, run),
+        verifies(s),
+        Store::Data { at },
+        at,
+        n,
+        address,
+    )
+}
+
+pub fn bit_write(s: &[u8], k: usize, level: u8, n: u8, address: u16) -> Decision
+    requires { ⌜ (ruleOf (now s) ≡ 0) × (k < kinds) ⌝ }
+    ensures { λ r. ⌜ r ≡ bitWriteOf (now (s .entry)) k level n address ⌝ }
+{
+    let run = sheet::range(s, k, address as usize, n as usize);
+    let at = run_at(run);
+    change(
+        can_change(level, n, run),
+        verifies(s),
+        Store::Bits { at, n: n as usize },
+        at,
+        n,
+        address,
+    )
 }

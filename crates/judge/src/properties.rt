@@ -9,13 +9,15 @@ ghost use Rattle.octets.specs.Bytes.{numAt};
 ghost use Rattle.sheet.specs.Kind.{properties};
 ghost use Rattle.sheet.specs.Entries.{entry, place};
 ghost use Rattle.sheet.specs.Places.{IsProperty};
-ghost use Rattle.judge.specs.Properties.{elements as elementsOf, counted as countedOf, elementAt, noValue, most, readIn, writeIn};
+ghost use Rattle.sheet.specs.Rules.{ruleOf};
+ghost use Rattle.judge.specs.Properties.{elements as elementsOf, counted as countedOf, elementAt, noValue, most, readIn, writeIn, propertyAt, propertyReadOf, propertyWriteOf, describedAt, descriptionOf};
 use crate::Answer;
 use crate::Decision;
 use crate::Store;
 use crate::decisions::answered;
 use crate::decisions::denied;
 use crate::decisions::written;
+use crate::kinds::PROPERTIES;
 use octets::word;
 use pdu::Pdu;
 use sheet::PropertyEntry;
@@ -56,15 +58,15 @@ fn counted(n: u8, s: u16) -> bool
 
 // A product of a byte's size with a smaller number.
 fn times(a: usize, b: usize) -> usize
-    requires { ⌜ (a < 65536) × (b < 256) ⌝ }
-    ensures { λ r. ⌜ (r ≡ a * b) × (r < 16777216) ⌝ }
+    requires { ⌜ (a < 65536) × (b ≤ 10) ⌝ }
+    ensures { λ r. ⌜ (r ≡ a * b) × (r ≤ 655350) ⌝ }
 {
     a * b
 }
 
 // Where element s of the body from a place on stands, each element having so many bytes.
 fn element_at(offset: usize, element: usize, s: u16) -> usize
-    requires { ⌜ (1 ≤ s) × (offset < 65536) × (element < 256) ⌝ }
+    requires { ⌜ (1 ≤ s) × (offset ≤ 16384) × (element ≤ 10) ⌝ }
     ensures { λ r. ⌜ r ≡ elementAt offset element s ⌝ }
 {
     offset + times(s as usize - 1, element)
@@ -94,7 +96,7 @@ fn is_readable(n: u8, s: u16, maximum: usize, size: usize) -> bool
 
 // A read at this level of the property with that entry.
 fn read_in(e: PropertyEntry, level: u8, object: u8, id: u8, n: u8, s: u16) -> Decision
-    requires { ⌜ (e .element < 256) × (e .offset < 65536) ⌝ }
+    requires { ⌜ (e .element ≤ 10) × (e .offset ≤ 16384) ⌝ }
     ensures { λ r. ⌜ ((t : List ℕ) (i : ℕ) → IsProperty t i e → r ≡ readIn (entry t properties i) level object id n s) ⌝ }
 {
     let element = e.element;
@@ -167,7 +169,7 @@ fn new_count(count: usize, n: u8, s: u16) -> usize
 
 // A write of data at this level to the property with that entry.
 fn write_in(e: PropertyEntry, level: u8, object: u8, id: u8, n: u8, s: u16, d: &[u8]) -> Decision
-    requires { ⌜ (e .element < 256) × (e .offset < 65536) × (e .place < 65536) ⌝ }
+    requires { ⌜ (e .element ≤ 10) × (e .offset ≤ 16384) × (e .place ≤ 16384) ⌝ }
     ensures { λ r. ⌜ ((t : List ℕ) (i : ℕ) → IsProperty t i e → r ≡ writeIn (entry t properties i) (place t properties i) level object id n s (now (d .entry))) ⌝ }
 {
     let element = e.element;
@@ -175,7 +177,7 @@ fn write_in(e: PropertyEntry, level: u8, object: u8, id: u8, n: u8, s: u16, d: &
         return no_value(object, id, s);
     }
     let answer = Pdu::PropertyValueResponse { object, id, n, s };
-    let at = count_at(e.place);
+    let at = sheet::count_at(e.place);
     if is_cleared(n, s, d) {
         return written(
             Store::Fill { at, n: 2, b: 0 },
@@ -198,9 +200,77 @@ fn write_in(e: PropertyEntry, level: u8, object: u8, id: u8, n: u8, s: u16, d: &
     no_value(object, id, s)
 }
 
-fn count_at(place: usize) -> usize
-    requires { ⌜ place < 65536 ⌝ }
-    ensures { λ r. ⌜ r ≡ place + 6 ⌝ }
+// The number of the property with that object and id, the count of properties where there is none.
+fn property_at(sheet: &[u8], object: u8, id: u8) -> usize
+    requires { ⌜ ruleOf (now sheet) ≡ 0 ⌝ }
+    ensures { λ r. ⌜ r ≡ propertyAt (now (sheet .entry)) object id ⌝ }
 {
-    place + 6
+    sheet::find(sheet, PROPERTIES, object as usize * 256 + id as usize)
+}
+
+pub fn property_read(sheet: &[u8], level: u8, object: u8, id: u8, n: u8, s: u16) -> Decision
+    requires { ⌜ ruleOf (now sheet) ≡ 0 ⌝ }
+    ensures { λ r. ⌜ r ≡ propertyReadOf (now (sheet .entry)) level object id n s ⌝ }
+{
+    let i = property_at(sheet, object, id);
+    if sheet::count(sheet, PROPERTIES) <= i {
+        return no_value(object, id, s);
+    }
+    read_in(sheet::property_entry(sheet, i), level, object, id, n, s)
+}
+
+pub fn property_write(
+    sheet: &[u8],
+    level: u8,
+    object: u8,
+    id: u8,
+    n: u8,
+    s: u16,
+    d: &[u8],
+) -> Decision
+    requires { ⌜ ruleOf (now sheet) ≡ 0 ⌝ }
+    ensures { λ r. ⌜ r ≡ propertyWriteOf (now (sheet .entry)) level object id n s (now (d .entry)) ⌝ }
+{
+    let i = property_at(sheet, object, id);
+    if sheet::count(sheet, PROPERTIES) <= i {
+        return no_value(object, id, s);
+    }
+    write_in(sheet::property_entry(sheet, i), level, object, id, n, s, d)
+}
+
+// An id other than 0 decides; id 0 means the index within the object.
+fn described_at(sheet: &[u8], object: u8, id: u8, index: u8) -> usize
+    requires { ⌜ ruleOf (now sheet) ≡ 0 ⌝ }
+    ensures { λ r. ⌜ r ≡ describedAt (now (sheet .entry)) object id index ⌝ }
+{
+    if id == 0 {
+        return sheet::nth(sheet, object, index);
+    }
+    property_at(sheet, object, id)
+}
+
+pub fn description(sheet: &[u8], object: u8, id: u8, index: u8) -> Decision
+    requires { ⌜ ruleOf (now sheet) ≡ 0 ⌝ }
+    ensures { λ r. ⌜ r ≡ descriptionOf (now (sheet .entry)) object id index ⌝ }
+{
+    let i = described_at(sheet, object, id, index);
+    if sheet::count(sheet, PROPERTIES) <= i {
+        return denied(Pdu::PropertyDescriptionResponse {
+            object,
+            id,
+            index,
+            kind: 0,
+            maximum: 0,
+            access: 0,
+        });
+    }
+    let e = sheet::property_entry(sheet, i);
+    answered(Answer::Plain(Pdu::PropertyDescriptionResponse {
+        object: e.object,
+        id: e.id,
+        index: sheet::rank(sheet, e.object, i) as u8,
+        kind: e.kind,
+        maximum: e.maximum as u16,
+        access: e.levels,
+    }))
 }

@@ -7,7 +7,7 @@ use native.Mathlib.Omega.{arith}
 use Rattle.judge.proofs.properties.times.Statement.{statement}
 use Rattle.judge.proofs.properties.times.Tie as tie
 
-small : (a b : ℕ) → a ≤ 65535 → b ≤ 255 → a * b ≤ 16711425
+small : (a b : ℕ) → a ≤ 65535 → b ≤ 10 → a * b ≤ 655350
 small a b h k = mul-le-mul h k
 
 pub times-spec : {M : Type 1} → statement M
