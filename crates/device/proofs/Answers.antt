@@ -16,8 +16,8 @@ use Rattle.pdu.specs.declared.Pdu.{Pdu}
 use Rattle.judge.specs.declared.Answer.{Answer}
 use Rattle.judge.specs.declared.Answer.the-variants as answer
 use Rattle.judge.specs.declared.Decision.{Decision}
-use Rattle.judge.specs.Judge.{judgeOf}
-use Rattle.device.specs.Carry.{dataIn, storeOf, answerOf}
+use Rattle.judge.specs.Judge.{judgeOf, dataIn}
+use Rattle.device.specs.Carry.{storeOf, answerOf}
 use Rattle.device.specs.Octets.{Octets}
 use Rattle.device.specs.Replies.{IsPdu}
 use Rattle.device.specs.Safe.{AnswerSafe}

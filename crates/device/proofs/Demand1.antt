@@ -18,9 +18,9 @@ use Rattle.judge.specs.declared.Session.{Session}
 use Rattle.judge.specs.declared.Decision.{Decision}
 use Rattle.judge.specs.declared.Answer.{Answer}
 use Rattle.judge.specs.declared.Answer.the-variants as answer
-use Rattle.judge.specs.Judge.{isAccepted, judgeOf}
+use Rattle.judge.specs.Judge.{isAccepted, judgeOf, dataIn}
 use Rattle.judge.proofs.Walks.{by-test}
-use Rattle.device.specs.Carry.{dataIn, storeOf, answerOf}
+use Rattle.device.specs.Carry.{storeOf, answerOf}
 use Rattle.device.specs.Step.{Step, stepBy, stepOf}
 use Rattle.device.specs.Events.{State, button, eventOf, pressed, buttonOutcome, buttonSheet}
 use Rattle.device.specs.Safe.{AnswerSafe}

@@ -26,3 +26,4 @@ pub mod Typing
 pub mod Answers
 pub mod Pressing
 pub mod Room
+pub mod Requests

@@ -7,8 +7,7 @@ use Rattle.pdu.specs.declared.Pdu.the-variants.{GroupValueRead, GroupValueRespo
 use Rattle.pdu.specs.declared.Parsed.{Parsed}
 use Rattle.judge.specs.declared.Decision.{Decision}
 use Rattle.judge.specs.Session.{levelIn}
-use Rattle.judge.specs.Judge.{decideOf}
-use Rattle.device.specs.Carry.{dataIn}
+use Rattle.judge.specs.Judge.{decideOf, dataIn}
 use Rattle.device.specs.Octets.{Octets}
 use Rattle.device.specs.Step.{Step, stepBy, stepOf}
 use Rattle.device.specs.Asked.{Asked, Reads, given}

@@ -10,8 +10,7 @@ use Rattle.pdu.specs.declared.Parsed.{Parsed}
 use Rattle.judge.specs.declared.Session.{Session}
 use Rattle.judge.specs.declared.Decision.{Decision}
 use Rattle.judge.specs.Session.{levelIn}
-use Rattle.judge.specs.Judge.{judgeOf, decideOf}
-use Rattle.device.specs.Carry.{dataIn}
+use Rattle.judge.specs.Judge.{judgeOf, decideOf, dataIn}
 use Rattle.device.specs.Asked.{Asked, given}
 use Rattle.device.specs.Safe.{Safe}
 use Rattle.device.proofs.Judged.{judged}
