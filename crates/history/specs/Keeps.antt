@@ -58,10 +58,10 @@ pub record Kept (step : State → Event → Step) (f : First) (h : List Event) :
   pub accepted : ruleOf (stateAfter step f h .sheet) ≡ 0
   pub same : length (stateAfter step f h .sheet) ≡ length (f .sheet)
   -- session and level are what the history says
-  pub opened : stateAfter step f h .session .opened ≡ opened f h
-  pub level : stateAfter step f h .session .level ≡ level f h
+  pub session : stateAfter step f h .session .opened ≡ opened f h
+  pub rights : stateAfter step f h .session .level ≡ level f h
   -- every location holds what the last permitted write gave, or its first content
-  pub content : (x : Location) (p : ℕ) → Place (f .sheet) x p → getD (stateAfter step f h .sheet) p 0 ≡ content f h x
+  pub holds : (x : Location) (p : ℕ) → Place (f .sheet) x p → getD (stateAfter step f h .sheet) p 0 ≡ content f h x
   -- a write is carried out exactly if it is permitted
   pub onlyPermitted :
       (mode g : ℕ) (a out : List ℕ) → CarriedOut a (step (stateAfter step f h) (request mode g a out)) → permitted f h (request mode g a out) ≡ true
