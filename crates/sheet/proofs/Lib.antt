@@ -1,3 +1,16 @@
 pub mod First
 pub mod ByKind
 pub mod Demands
+pub mod Good
+pub mod Rising
+pub mod Lie
+pub mod Says
+pub mod Untils
+pub mod Ties
+pub mod Plains
+pub mod Standing
+pub mod Positions
+pub mod Seeks
+pub mod Keys
+pub mod Ranks
+pub mod Runs
