@@ -6,7 +6,7 @@ use mathlib.Core.List.{List, [], _∷_, _++_, append-assoc}
 use native.Mathlib.Nat.{add-zero, pow-suc, pow-le-pow-right, div-add-mod'}
 use native.Mathlib.Numerals.{add-one}
 use native.Mathlib.Omega.{arith}
-use lib.ListN.{getD, length, length-append, List·getD-append}
+use lib.ListN.{getD, length, length-append, List·getD-append, replicate, replicate-append-replicate}
 use lib.Seq.{getD-append-add}
 use Rattle.octets.specs.Bytes.{numAt, bytesOf, IsNum}
 
@@ -108,3 +108,13 @@ bytes-back s at (suc w) h j k = go (native.Mathlib.Decide.decLt j w) (λ l. byte
         ∙ getD-append-add (bytesOf w ((hi * 256 + b) / 256)) ((hi * 256 + b) % 256 ∷ []) 0 0
         ∙ r
         ∙ ap (λ (x : ℕ). getD s (at + x) 0) (sym f)
+
+-- the bytes of a number of two, and of zero
+pub bytes-two : (x : ℕ) → bytesOf 2 x ≡ x / 256 % 256 ∷ x % 256 ∷ []
+unfolding bytesOf
+bytes-two x = refl
+
+pub bytes-zero : (w : ℕ) → bytesOf w 0 ≡ replicate w 0
+unfolding bytesOf
+bytes-zero zero = refl
+bytes-zero (suc w) = ap (λ (l : List ℕ). l ++ (0 ∷ [])) (bytes-zero w) ∙ replicate-append-replicate w 1 0 ∙ ap (λ (k : ℕ). replicate k 0) (add-one w)

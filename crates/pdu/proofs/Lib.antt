@@ -1,1 +1,14 @@
 pub mod Arms
+pub mod Truths
+pub mod Allowed
+pub mod Formed
+pub mod Sound
+pub mod Stands
+pub mod Codes
+pub mod Items
+pub mod Outcomes
+pub mod Only
+pub mod Back
+pub mod Kept
+pub mod Again
+pub mod Vectors

@@ -5,3 +5,5 @@ pub mod Pdus
 pub mod Rules
 pub mod Read
 pub mod Write
+pub mod Allows
+pub mod Cleared

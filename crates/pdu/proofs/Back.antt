@@ -1,0 +1,70 @@
+-- Reading back what was written gives the same PDU and the same data: over the table, for any row.
+-- Assumes nothing.
+use Prim.Native.Nat.{ℕ, _+_}
+use mathlib.Core.Path.{_≡_, sym, ap, _∙_}
+use mathlib.Core.List.{List, _++_}
+use native.Mathlib.Omega.{arith}
+use lib.ListN.{length, take, drop, length-append}
+use lib.Seq.{take-at, drop-at}
+use Rattle.octets.proofs.Splices.{splice-front}
+use Rattle.pdu.specs.Item.{Row, Value}
+use Rattle.pdu.specs.Table.{rowOf}
+use Rattle.pdu.specs.Pdus.{serviceOf, valuesOf}
+use Rattle.pdu.specs.Rules.{headBytes}
+use Rattle.pdu.specs.Read.{readPdu, dataAt, dataOf}
+use Rattle.pdu.specs.Write.{encoded, bufferOf, Wrote}
+use Rattle.pdu.specs.Allows.{Allows, Typed, Carries}
+use Rattle.pdu.proofs.Formed.{formed-says}
+use Rattle.pdu.proofs.Sound.{sound, shown}
+use Rattle.pdu.proofs.Items.{length-head, two-or-more, RowBack, row-back}
+use Rattle.pdu.proofs.Outcomes.{carried}
+use Rattle.pdu.proofs.Only.{writes-bytes}
+use Rattle.pdu.specs.declared.Pdu.{Pdu}
+use Rattle.pdu.specs.declared.Parsed.the-variants.{Is}
+use Rattle.pdu.specs.declared.Written.{Written}
+use Rattle.pdu.specs.declared.Written.the-variants.{Bytes}
+
+-- the bytes of a PDU are as many as its place of data and its data say
+pub length-encoded : (p : Pdu) (d : List ℕ) → length (encoded p d) ≡ dataAt p + length d
+unfolding encoded
+length-encoded p d =
+    let r : Row = rowOf (serviceOf p) in
+    length-append (headBytes r (valuesOf p)) d ∙ ap (λ (n : ℕ). n + length d) (length-head r (valuesOf p))
+
+-- and they carry it
+encoded-carries : (p : Pdu) (d : List ℕ) → Allows (rowOf (serviceOf p)) (valuesOf p) (dataAt p + length d) → Carries (encoded p d) p
+unfolding encoded
+encoded-carries p d a =
+    let r : Row = rowOf (serviceOf p) in
+    let x : List Value = valuesOf p in
+    let l : length (encoded p d) ≡ dataAt p + length d = length-encoded p d in
+    let b : RowBack r x (headBytes r x ++ d) = row-back r x d (formed-says r (sound (serviceOf p) .form)) (a .fields) in
+    record {
+      least = omega (arith, two-or-more r x);
+      code = b .code;
+      fields = sym (b .values ∙ shown p);
+      allowed = rw l a;
+    }
+
+-- READ-BACK: what the table allows is read back from its bytes, the data too
+pub read-back :
+    (p : Pdu) (d : List ℕ) → Allows (rowOf (serviceOf p)) (valuesOf p) (dataAt p + length d) → (readPdu (encoded p d) ≡ Is p) × (dataOf p (encoded p d) ≡ d)
+unfolding encoded dataOf
+read-back p d a =
+    let r : Row = rowOf (serviceOf p) in
+    (carried (encoded p d) p (encoded-carries p d a), drop-at (headBytes r (valuesOf p)) d (dataAt p) (length-head r (valuesOf p)))
+
+-- AND FROM THE BUFFER: of what a write leaves there the first n bytes read as the PDU with its data, and the rest is as found
+pub buffer-back :
+    (p : Pdu) (d o e : List ℕ) (r : Written) (n : ℕ) → Wrote p d o r e → Typed p → r ≡ Bytes n →
+    (readPdu (take n e) ≡ Is p) × (dataOf p (take n e) ≡ d) × (drop n e ≡ drop n o)
+buffer-back p d o e r n w t b =
+    let h = writes-bytes p d o n t .0 (sym (w .result) ∙ b) in
+    let k : length (encoded p d) ≡ n = length-encoded p d ∙ sym (h .2) in
+    let f : e ≡ encoded p d ++ drop (length (encoded p d)) o = w .buffer ∙ ap (bufferOf p d o) b ∙ splice-front o (encoded p d) in
+    let front : take n e ≡ encoded p d = ap (take n) f ∙ take-at (encoded p d) (drop (length (encoded p d)) o) n k in
+    let back = read-back p d (h .1) in (
+      ap readPdu front ∙ back .0,
+      ap (dataOf p) front ∙ back .1,
+      ap (drop n) f ∙ drop-at (encoded p d) (drop (length (encoded p d)) o) n k ∙ ap (λ (j : ℕ). drop j o) k,
+    )

@@ -1,0 +1,149 @@
+-- When reading gives each of its outcomes.
+-- Assumes nothing.
+use Prim.Native.Nat.{ℕ, _≤_, _<_}
+use mathlib.Core.Path.{_≡_, refl, sym, ap, subst, subst₂, _∙_}
+use mathlib.Core.Logic.{_↔_, _⊎_, inl, inr, ⊎-elim}
+use mathlib.Core.Bool.{Bool, true, false}
+use mathlib.Core.List.{List}
+use native.Mathlib.Omega.{arith}
+use lib.Dec.{ltb}
+use lib.ListN.{length, getD}
+use borrow.Author.Tests.{ltb-true, ltb-false, lt-ltb, le-ltb}
+use Rattle.pdu.specs.Item.{Value, pick}
+use Rattle.pdu.specs.Table.{rowOf, has, serviceAt}
+use Rattle.pdu.specs.Pdus.{serviceOf, valuesOf, pduOf}
+use Rattle.pdu.specs.Rules.{codeOf, valuesAt, fits}
+use Rattle.pdu.specs.Read.{builtOf, readFound, readPdu, readOutcome}
+use Rattle.pdu.specs.Allows.{Allows, Carries}
+use Rattle.pdu.proofs.Truths.{never, decided}
+use Rattle.pdu.proofs.Allowed.{fits-is, wide}
+use Rattle.pdu.proofs.Sound.{sound, again}
+use Rattle.pdu.proofs.Stands.{stands, stands-wide}
+use Rattle.pdu.proofs.Codes.{found, named, unknown}
+use Rattle.pdu.specs.declared.Service.{Service}
+use Rattle.pdu.specs.declared.Found.{Found}
+use Rattle.pdu.specs.declared.Found.the-variants.{Listed, Unknown}
+use Rattle.pdu.specs.declared.Pdu.{Pdu}
+use Rattle.pdu.specs.declared.Parsed.{Parsed}
+use Rattle.pdu.specs.declared.Parsed.the-variants.{Is, Refused}
+
+-- an APDU is 2 to 16 bytes long
+record Sized (b : List ℕ) : Type 0 where
+  least : 2 ≤ length b
+  most : length b ≤ 16
+
+-- the row of a service lets stand what is in the bytes: the test, and what it says
+abbrev fitsAt : Service → List ℕ → Bool
+fitsAt k b = fits (rowOf k) (valuesAt (rowOf k .items) 2 b) (length b)
+
+fits-at-is : (b : List ℕ) (k : Service) → ((i : ℕ) → getD b i 0 < 256) → length b ≤ 16 → (fitsAt k b ≡ true) ↔ Allows (rowOf k) (valuesAt (rowOf k .items) 2 b) (length b)
+fits-at-is b k small m =
+    let is = rowOf k .items in
+    let x = valuesAt is 2 b in
+    fits-is (rowOf k) x (length b) (stands-wide is x 2 b small (stands is x 2 b (sound k .distinct b))) m
+
+-- the four cases, and what reading then gives
+data Due (b : List ℕ) : Type 0 where
+  size : (length b < 2) ⊎ (16 < length b) → Due b
+  none : Sized b → ((k : Service) → has (rowOf k) (codeOf b) ≡ false) → Due b
+  one : Sized b → (k : Service) (t : Bool) → has (rowOf k) (codeOf b) ≡ true → fitsAt k b ≡ t → Due b
+
+due : (b : List ℕ) → Due b
+due b =
+    ⊎-elim (λ h. size (inl (ltb-true (length b) 2 h)))
+    (λ h. ⊎-elim (λ g. size (inr (ltb-true 16 (length b) g))) (λ g. by-code (record { least = ltb-false (length b) 2 h; most = ltb-false 16 (length b) g }) (serviceAt (codeOf b)) refl) (decided (ltb 16 (length b))))
+    (decided (ltb (length b) 2))
+  where
+    by-code : Sized b → (f : Found) → serviceAt (codeOf b) ≡ f → Due b
+    by-code s Unknown e = none s (unknown (codeOf b) .0 e)
+    by-code s (Listed k) e = one s k (fitsAt k b) (named k (codeOf b) e) refl
+
+abbrev given : {b : List ℕ} → Due b → Parsed
+given (size h) = Refused 5
+given (none s h) = Refused 8
+given {b} (one s k t h f) = pick t (Is (builtOf k b)) (Refused 10)
+
+sized : (b : List ℕ) (f : Found) → Sized b → serviceAt (codeOf b) ≡ f → readPdu b ≡ readFound f b
+unfolding readPdu
+sized b f s e = simp (le-ltb (length b) 2 (s .least), le-ltb 16 (length b) (s .most)) (ap (λ (g : Found). readFound g b) e)
+
+gives : (b : List ℕ) (d : Due b) → readPdu b ≡ given d
+unfolding readPdu
+gives b (size (inl h)) = simp (lt-ltb (length b) 2 h)
+gives b (size (inr h)) = simp (le-ltb (length b) 2 (omega arith), lt-ltb 16 (length b) h)
+gives b (none s h) = sized b Unknown s (unknown (codeOf b) .1 h)
+gives b (one s k t h f) = sized b (Listed k) s (found k (codeOf b) h) ∙ ap (λ (u : Bool). pick u (Is (builtOf k b)) (Refused 10)) f
+
+-- an outcome says which case it was
+told : (b : List ℕ) (z : Parsed) → readPdu b ≡ z → readOutcome (given (due b)) ≡ readOutcome z
+told b z e = ap readOutcome (sym (gives b (due b)) ∙ e)
+
+-- 5: EXACTLY IF THE LENGTH IS NOT 2 TO 16
+pub reads-5 : (b : List ℕ) → (readPdu b ≡ Refused 5) ↔ ((length b < 2) ⊎ (16 < length b))
+reads-5 b = (λ e. from (due b) (told b (Refused 5) e), λ h. gives b (size h))
+  where
+    from : (d : Due b) → readOutcome (given d) ≡ 5 → (length b < 2) ⊎ (16 < length b)
+    from (size h) e = h
+    from (none s h) e = absurd (omega arith)
+    from (one s k true h f) e = absurd (omega arith)
+    from (one s k false h f) e = absurd (omega arith)
+
+-- 8: EXACTLY IF THE LENGTH IS AND NO ROW HAS THE CODE
+pub reads-8 : (b : List ℕ) → (readPdu b ≡ Refused 8) ↔ ((2 ≤ length b) × (length b ≤ 16) × ((k : Service) → has (rowOf k) (codeOf b) ≡ false))
+reads-8 b = (λ e. from (due b) (told b (Refused 8) e), λ h. gives b (none (record { least = h .0; most = h .1 }) (h .2)))
+  where
+    from : (d : Due b) → readOutcome (given d) ≡ 8 → (2 ≤ length b) × (length b ≤ 16) × ((k : Service) → has (rowOf k) (codeOf b) ≡ false)
+    from (size h) e = absurd (omega arith)
+    from (none s h) e = (s .least, s .most, h)
+    from (one s k true h f) e = absurd (omega arith)
+    from (one s k false h f) e = absurd (omega arith)
+
+-- 10: EXACTLY IF THE LENGTH IS, A ROW HAS THE CODE, AND IT DOES NOT ALLOW THE FIELDS IN SO MANY BYTES
+pub reads-10 :
+    (b : List ℕ) → ((i : ℕ) → getD b i 0 < 256) →
+    (readPdu b ≡ Refused 10) ↔ ((2 ≤ length b) × (length b ≤ 16) × ((k : Service) × (has (rowOf k) (codeOf b) ≡ true) × (Allows (rowOf k) (valuesAt (rowOf k .items) 2 b) (length b) → ⊥)))
+reads-10 b small = (
+  λ e. from (due b) (told b (Refused 10) e),
+  λ h. gives b (one (record { least = h .0; most = h .1 }) (h .2 .0) false (h .2 .1) (⊎-elim (λ f. absurd (h .2 .2 (fits-at-is b (h .2 .0) small (h .1) .0 f))) (λ f. f) (decided (fitsAt (h .2 .0) b)))),
+)
+  where
+    from : (d : Due b) → readOutcome (given d) ≡ 10 → (2 ≤ length b) × (length b ≤ 16) × ((k : Service) × (has (rowOf k) (codeOf b) ≡ true) × (Allows (rowOf k) (valuesAt (rowOf k .items) 2 b) (length b) → ⊥))
+    from (size h) e = absurd (omega arith)
+    from (none s h) e = absurd (omega arith)
+    from (one s k true h f) e = absurd (omega arith)
+    from (one s k false h f) e = (s .least, s .most, (k, h, λ a. never (sym f ∙ fits-at-is b k small (s .most) .1 a)))
+
+-- the bytes of a PDU read as it
+pub carried : (b : List ℕ) (p : Pdu) → Carries b p → readPdu b ≡ Is p
+carried b p c =
+    let k : Service = serviceOf p in
+    let a : Allows (rowOf k) (valuesAt (rowOf k .items) 2 b) (length b) = rw (c .fields) at (c .allowed) in
+    let f : fitsAt k b ≡ true = fits-is (rowOf k) (valuesAt (rowOf k .items) 2 b) (length b) (wide (rowOf k .items) (valuesAt (rowOf k .items) 2 b) (a .fields)) (a .most) .1 a in
+    let e : readPdu b ≡ Is (builtOf k b) = gives b (one (record { least = c .least; most = a .most }) k true (c .code) f) in
+    let g : builtOf k b ≡ p = ap (pduOf k) (sym (c .fields)) ∙ again p in
+    e ∙ ap Is g
+
+-- A PDU: EXACTLY IF THE BYTES CARRY IT
+pub reads-pdu : (b : List ℕ) (p : Pdu) → ((i : ℕ) → getD b i 0 < 256) → (readPdu b ≡ Is p) ↔ Carries b p
+reads-pdu b p small = (λ e. from (due b) (told b (Is p) e) e, carried b p)
+  where
+    built : (k : Service) → 2 ≤ length b → has (rowOf k) (codeOf b) ≡ true → Allows (rowOf k) (valuesAt (rowOf k .items) 2 b) (length b) → Carries b (builtOf k b)
+    built k l h a =
+        let x : List Value = valuesAt (rowOf k .items) 2 b in
+        let j : k ≡ serviceOf (builtOf k b) = sym (sound k .serves x) in
+        let y : x ≡ valuesOf (builtOf k b) = sym (sound k .values x ∙ sound k .distinct b) in
+        record {
+          least = l;
+          code = subst (λ (i : Service). has (rowOf i) (codeOf b) ≡ true) j h;
+          fields = subst (λ (i : Service). valuesOf (builtOf k b) ≡ valuesAt (rowOf i .items) 2 b) j (sym y);
+          allowed = subst₂ (λ (i : Service) (v : List Value). Allows (rowOf i) v (length b)) j y a;
+        }
+
+    from : (d : Due b) → readOutcome (given d) ≡ 0 → readPdu b ≡ Is p → Carries b p
+    from (size h) n e = absurd (omega arith)
+    from (none s h) n e = absurd (omega arith)
+    from (one s k true h f) n e =
+        let g : Is (builtOf k b) ≡ Is p = sym (gives b (one s k true h f)) ∙ e in
+        let q : builtOf k b ≡ p = cc in
+        subst (Carries b) q (built k (s .least) h (fits-at-is b k small (s .most) .0 f))
+    from (one s k false h f) n e = absurd (omega arith)
