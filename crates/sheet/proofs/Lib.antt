@@ -14,3 +14,8 @@ pub mod Seeks
 pub mod Keys
 pub mod Ranks
 pub mod Runs
+pub mod Sames
+pub mod Frames
+pub mod Finds
+pub mod Mild
+pub mod Stores

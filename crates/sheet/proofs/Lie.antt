@@ -12,6 +12,16 @@ use Rattle.sheet.specs.Rules.{bodyDemands}
 use Rattle.sheet.proofs.Good.{Good}
 use Rattle.sheet.proofs.Rising.{Step, between, rising, once}
 
+-- the n positions from o on lie in body i of kind k
+pub record Inside (s : List ℕ) (k i o n : ℕ) : Type 0 where
+  pub kind : k < kinds
+  pub below : i < count s k
+  pub from : bodyAt s k i ≤ o
+  pub to : o + n ≤ bodyEnd s k i
+
+pub inside-at : {s : List ℕ} {k i o n : ℕ} → Inside s k i o n → (p : ℕ) → o ≤ p → p < o + n → InBody s k i p
+inside-at h p l m = record { kind = h .kind; below = h .below; from = omega (arith, h .from); to = omega (arith, h .to) }
+
 -- a body ends at its start and its length
 pub end-is : (s : List ℕ) (k i : ℕ) → bodyEnd s k i ≡ bodyAt s k i + lengthOf k (entry s k i)
 unfolding bodyEnd bodyAt
@@ -74,6 +84,9 @@ module _ {ed : ℕ} {s : List ℕ} (g : Good ed s) where
     -- a body ends before a later one of its kind starts
     pub apart : (j : ℕ) → i < j → j < count s k → bodyEnd s k i ≤ bodyAt s k j
     apart j h l = omega (arith, reached-next s k i, starts k j hk l, reached-rising k (suc i) j hk h (omega arith))
+
+  pub inside-within : {k i o n : ℕ} → Inside s k i o n → o + n ≤ length s
+  inside-within {k} {i} h = omega (arith, h .to, within k i (h .kind) (h .below))
 
   -- the kind, and then the entry, in whose body a position lies
   kind-step : (k i p : ℕ) → InBody s k i p → Step (startOf s) kinds p

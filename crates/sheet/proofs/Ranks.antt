@@ -24,14 +24,14 @@ use Rattle.sheet.proofs.Standing.{entry-at}
 use Rattle.sheet.proofs.Seeks.{seek-bound, seek-passes, seek-hit, seek-none}
 
 module _ (s : List ℕ) (object : ℕ) where
-  -- one more property
-  pub rank-same : (i : ℕ) → objectAt s i ≡ object → rank s object (suc i) ≡ rank s object i + 1
+  -- one more property, of the object or of another
+  pub rank-more : (i : ℕ) → objectAt s i ≡ object → rank s object (suc i) ≡ rank s object i + 1
   unfolding rank
-  rank-same i e = rw (eq-eqb (objectAt s i) object e)
+  rank-more i e = rw (eq-eqb (objectAt s i) object e)
 
-  pub rank-other : (i : ℕ) → (objectAt s i ≡ object → ⊥) → rank s object (suc i) ≡ rank s object i
+  pub rank-skip : (i : ℕ) → (objectAt s i ≡ object → ⊥) → rank s object (suc i) ≡ rank s object i
   unfolding rank
-  rank-other i e = rw (ne-eqb (objectAt s i) object e) (omega arith)
+  rank-skip i e = rw (ne-eqb (objectAt s i) object e) (omega arith)
 
   rank-up : (n i : ℕ) → i < n → rank s object i ≤ rank s object (suc i)
   unfolding rank
@@ -39,7 +39,7 @@ module _ (s : List ℕ) (object : ℕ) where
 
   -- along one object the index rises strictly
   pub rank-rising : (i j : ℕ) → objectAt s i ≡ object → i < j → rank s object i < rank s object j
-  rank-rising i j e h = omega (arith, rank-same i e, rising (rank s object) j (rank-up j) (suc i) j h (omega arith))
+  rank-rising i j e h = omega (arith, rank-more i e, rising (rank s object) j (rank-up j) (suc i) j h (omega arith))
 
   -- so two properties of one object have two indices
   pub rank-once :
@@ -91,13 +91,13 @@ module _ (s : List ℕ) (object : ℕ) where
   rank-none : (a : ℕ) → ((j : ℕ) → j < a → objectAt s j ≡ object → ⊥) → rank s object a ≡ 0
   unfolding rank
   rank-none zero f = refl
-  rank-none (suc a) f = rank-other a (f a (omega arith)) ∙ rank-none a (λ j h. f j (omega arith))
+  rank-none (suc a) f = rank-skip a (f a (omega arith)) ∙ rank-none a (λ j h. f j (omega arith))
 
   rank-along : (a n : ℕ) → ((j : ℕ) → a ≤ j → j < a + n → objectAt s j ≡ object) → rank s object (a + n) ≡ rank s object a + n
   rank-along a zero f = simp add-zero
   rank-along a (suc n) f =
       ap (rank s object) (add-suc a n)
-      ∙ rank-same (a + n) (f (a + n) (omega arith) (omega arith))
+      ∙ rank-more (a + n) (f (a + n) (omega arith) (omega arith))
       ∙ omega (arith, rank-along a n (λ j h l. f j h (omega arith)))
 
 module _ {ed : ℕ} {s : List ℕ} (g : Good ed s) (bytes : (i : ℕ) → getD s i 0 < 256) where

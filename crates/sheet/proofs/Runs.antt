@@ -21,7 +21,7 @@ use Rattle.sheet.specs.declared.Run.{Run}
 use Rattle.sheet.specs.declared.Run.the-variants.{At, Nowhere}
 use Rattle.sheet.proofs.Good.{Good}
 use Rattle.sheet.proofs.Keys.{past-floor}
-use Rattle.sheet.proofs.Lie.{within, disjoint}
+use Rattle.sheet.proofs.Lie.{Inside, inside-within, disjoint}
 use Rattle.sheet.proofs.Seeks.{seek-bound, seek-passes, seek-hit, seek-none}
 
 -- the n addresses from a on lie in region i of memory k
@@ -86,12 +86,6 @@ module _ (s : List ℕ) (k a n : ℕ) where
       (λ i h q. let c = covering (entry s k i) a n q in f i (record { below = h; from = c .0; to = c .1 })) in
       rw (e, le-ltb (count s k) (count s k) (omega arith))
 
--- position o and the n - 1 after it lie in body i of kind k
-pub record Inside (s : List ℕ) (k i o n : ℕ) : Type 0 where
-  pub below : i < count s k
-  pub from : bodyAt s k i ≤ o
-  pub to : o + n ≤ bodyEnd s k i
-
 module _ {ed : ℕ} {s : List ℕ} (g : Good ed s) where
   -- a region ends before a later one begins
   pub regions-apart :
@@ -127,11 +121,11 @@ module _ {ed : ℕ} {s : List ℕ} (g : Good ed s) where
     run-inside =
         let r = ranged s regions a n e in
         let c = r .covered in
-        record { below = c .below; from = omega (arith, r .here); to = omega (arith, c, r .here) }
+        record { kind = omega arith; below = c .below; from = omega (arith, r .here); to = omega (arith, c, r .here) }
 
     -- and so within the sheet
     pub run-within : o + n ≤ length s
-    run-within = omega (arith, run-inside .to, within g regions _ (omega arith) (run-inside .below))
+    run-within = inside-within g run-inside
 
   -- an address that stands somewhere stands in a body
   pub stands-in : {y p l : ℕ} (h : Stands s regions y p l) → InBody s regions (h .index) p

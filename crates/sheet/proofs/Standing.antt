@@ -6,7 +6,10 @@ use mathlib.Core.List.{List}
 use lib.ListN.{length, getD}
 use lib.Seq.{getD-take, getD-drop}
 use native.Mathlib.Omega.{arith}
+use Rattle.octets.specs.Bytes.{numAt}
+use Rattle.octets.proofs.Numbers.{num-same}
 use Rattle.sheet.specs.Kind.{kinds}
+use Rattle.sheet.specs.Layout.{Field, _of_}
 use Rattle.sheet.specs.Head as head
 use Rattle.sheet.specs.Entries.{count, size, base, place, contents, entry}
 use Rattle.sheet.proofs.Rising.{Step, between, rising, once}
@@ -15,6 +18,13 @@ use Rattle.sheet.proofs.Rising.{Step, between, rising, once}
 pub entry-at : (s : List ℕ) (k i j : ℕ) → j < size k → getD (entry s k i) j 0 ≡ getD s (place s k i + j) 0
 unfolding entry
 entry-at s k i j h = getD-take (size k) _ j 0 h ∙ getD-drop (place s k i) s j 0
+
+-- a field of an entry
+pub field-at :
+    (s : List ℕ) (k i : ℕ) (f : Field) → f .at + f .width ≤ size k → f of entry s k i ≡ numAt s (place s k i + f .at) (f .width)
+field-at s k i f h =
+    num-same (entry s k i) s (f .at) (place s k i + f .at) (f .width)
+    (λ j l. entry-at s k i (f .at + j) (omega arith) ∙ ap (λ (p : ℕ). getD s p 0) (omega arith))
 
 -- position p is byte j of entry i of kind k
 pub record InEntry (s : List ℕ) (k i j p : ℕ) : Type 0 where
