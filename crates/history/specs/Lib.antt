@@ -1,4 +1,5 @@
 pub mod Location
+pub mod Sort
 pub mod Wish
 pub mod Permit
 pub mod History

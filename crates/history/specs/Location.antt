@@ -27,10 +27,10 @@ pub record IsProperty (s : List ℕ) (object id i : ℕ) : Type 0 where
 pub data Place (s : List ℕ) : Location → ℕ → Type 0 where
   ofMemory : {y p levels : ℕ} → Stands s regions y p levels → Place s (memory y) p
   ofBody :
-      {object id i j : ℕ} → IsProperty s object id i →
+      {object id j p : ℕ} (i : ℕ) → IsProperty s object id i →
       j < property.element of entry s properties i * property.maximum of entry s properties i →
-      Place s (body object id j) (bodyAt s properties i + j)
+      p ≡ bodyAt s properties i + j → Place s (body object id j) p
   ofCounter :
-      {object id i j : ℕ} → IsProperty s object id i → j < property.count .width →
-      Place s (counter object id j) (place s properties i + property.count .at + j)
-  ofKey : {l j : ℕ} → l < 3 → j < (head.key l) .width → Place s (key l j) ((head.key l) .at + j)
+      {object id j p : ℕ} (i : ℕ) → IsProperty s object id i → j < property.count .width →
+      p ≡ place s properties i + property.count .at + j → Place s (counter object id j) p
+  ofKey : {l j p : ℕ} → l < 3 → j < (head.key l) .width → p ≡ (head.key l) .at + j → Place s (key l j) p
