@@ -5,3 +5,4 @@ pub mod Permit
 pub mod History
 pub mod Others
 pub mod Keeps
+pub mod Rightful
