@@ -6,3 +6,5 @@ pub mod Levels
 pub mod Permits
 pub mod Carried
 pub mod Permitted
+pub mod Stored
+pub mod Framed
