@@ -6,5 +6,7 @@ pub mod Levels
 pub mod Permits
 pub mod Carried
 pub mod Permitted
+pub mod Octet
 pub mod Stored
 pub mod Framed
+pub mod Means

@@ -12,7 +12,6 @@ use Rattle.octets.specs.Splice.{splice}
 use Rattle.octets.proofs.Splices.{splice-in, splice-outside, splice-at}
 use Rattle.sheet.proofs.Good.{Good}
 use Rattle.history.specs.Location.{Location, Place}
-use Rattle.history.specs.Keeps.{Octets}
 use Rattle.history.proofs.Bools.{must-fail}
 use Rattle.history.proofs.Places.{location-once}
 
@@ -32,17 +31,6 @@ away o n p f = go (decLt p o) (decLt p (o + n))
     go (yes h) d = inl h
     go (no h) (yes l) = absurd (f (omega arith) l)
     go (no h) (no l) = inr (omega arith)
-
--- bytes stay bytes
-pub octets-splice : (s : List ℕ) (o : ℕ) (ds : List ℕ) → o + length ds ≤ length s → Octets s → Octets ds → Octets (splice s o ds)
-octets-splice s o ds room a b p = go (decLt p o) (decLt p (o + length ds))
-  where
-    go : Dec (p < o) → Dec (p < o + length ds) → getD (splice s o ds) p 0 < 256
-    go (yes h) d = rw (splice-outside s o ds room p (inl h)) (a p)
-    go (no h) (no l) = rw (splice-outside s o ds room p (inr (omega arith))) (a p)
-    go (no h) (yes l) =
-        let e : p ≡ o + (p - o) = omega arith in
-        rw (ap (λ (i : ℕ). getD (splice s o ds) i 0) e ∙ splice-in s o ds room (p - o) (omega arith)) (b (p - o))
 
 -- places of the sheet f; the bytes of the sheet s
 module _
