@@ -10,3 +10,6 @@ pub mod Octet
 pub mod Stored
 pub mod Framed
 pub mod Means
+pub mod MemoryRun
+pub mod KeyRun
+pub mod PropertyRun
