@@ -13,3 +13,6 @@ pub mod Means
 pub mod MemoryRun
 pub mod KeyRun
 pub mod PropertyRun
+pub mod Invariant
+pub mod Requests
+pub mod Unheard
