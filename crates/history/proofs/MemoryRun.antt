@@ -15,6 +15,7 @@ use Rattle.sheet.specs.Entries.{entry}
 use Rattle.sheet.specs.Places.{Stands}
 use Rattle.sheet.proofs.Good.{Good}
 use Rattle.sheet.proofs.Runs.{Covered, stands-once}
+use Rattle.device.specs.Right.{memoryAt}
 use Rattle.pdu.proofs.Truths.{never, and-is}
 use Rattle.history.specs.Location.{Location, memory, body, counter, key, Place, ofMemory}
 use Rattle.history.specs.Wish.{writeMemory, writeBits}
@@ -57,12 +58,10 @@ module _ (s : List ℕ) (n y : ℕ) where
       only (key l j) e = never e
 
 module _ {s : List ℕ} (g : Good 1 s) {i y n : ℕ} (c : Covered s regions i y n) where
-  -- where the range stands
-  pub rangeAt : ℕ
-  rangeAt = region.offset of entry s regions i + (y - region.address of entry s regions i)
+  abbrev here : ℕ
+  here = memoryAt (entry s regions i) y
 
-  stands-at : (z : ℕ) → y ≤ z → z < y + n → Stands s regions z (rangeAt + (z - y)) (region.levels of entry s regions i)
-  unfolding rangeAt
+  stands-at : (z : ℕ) → y ≤ z → z < y + n → Stands s regions z (here + (z - y)) (region.levels of entry s regions i)
   stands-at z a b =
       record {
         index = i;
@@ -73,15 +72,15 @@ module _ {s : List ℕ} (g : Good 1 s) {i y n : ℕ} (c : Covered s regions i y 
         under = refl;
       }
 
-  pub memory-place : (j : ℕ) → j < n → Place s (memory (y + j)) (rangeAt + j)
+  pub memory-place : (j : ℕ) → j < n → Place s (memory (y + j)) (here + j)
   memory-place j h =
-      let e : rangeAt + j ≡ rangeAt + (y + j - y) = omega arith in
+      let e : here + j ≡ here + (y + j - y) = omega arith in
       rw e (ofMemory (stands-at (y + j) (omega arith) (omega arith)))
 
   -- A RUN OF MEMORY
   pub memory-run :
       (named : Location → Bool) (given : Location → ℕ) (ds : List ℕ) → NamesRange named y n → length ds ≡ n →
-      ((j : ℕ) → j < n → given (memory (y + j)) ≡ getD ds j 0) → Run s named given rangeAt ds
+      ((j : ℕ) → j < n → given (memory (y + j)) ≡ getD ds j 0) → Run s named given here ds
   memory-run named given ds range size gives =
       record {
         at = λ j. memory (y + j);
@@ -91,5 +90,5 @@ module _ {s : List ℕ} (g : Good 1 s) {i y n : ℕ} (c : Covered s regions i y 
         only = λ x p h e. let q = range .only x e in within p (q .0) (rw (q .1) at h) (q .2) (q .3);
       }
     where
-      within : (p z : ℕ) → Place s (memory z) p → y ≤ z → z < y + n → (rangeAt ≤ p) × (p < rangeAt + length ds)
+      within : (p z : ℕ) → Place s (memory z) p → y ≤ z → z < y + n → (here ≤ p) × (p < here + length ds)
       within p z (ofMemory h) a b = let k = stands-once g h (stands-at z a b) .0 in omega arith
