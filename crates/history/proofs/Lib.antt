@@ -19,3 +19,4 @@ pub mod Unheard
 pub mod Bit
 pub mod Writes
 pub mod MemorySteps
+pub mod KeySteps

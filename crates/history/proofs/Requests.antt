@@ -4,13 +4,17 @@ use Prim.Native.Nat.{ℕ, _≤_}
 use mathlib.Core.Path.{_≡_, refl, sym, ap, _∙_}
 use mathlib.Core.Bool.{Bool, true, false, cond, _&&_}
 use mathlib.Core.List.{List, [], _∷_}
+use Rattle.sheet.specs.Kind.{groups}
+use Rattle.sheet.specs.Layout.{_of_}
+use Rattle.sheet.specs.Head as head
+use Rattle.sheet.specs.Entries.{entry}
 use Rattle.pdu.proofs.Truths.{never}
 use Rattle.device.specs.Step.{Step}
 use Rattle.device.specs.Events.{Event, State, request}
 use Rattle.history.specs.Location.{Location}
 use Rattle.history.specs.Wish.{Wish, writeMemory, writeBits, writeProperty, writeKey, offerKey, restart, address, addressFor, group, nothing, asks, brings}
 use Rattle.history.specs.Permit.{heard, levelFor, allowed, names, gives}
-use Rattle.history.specs.History.{First, isRestart, offered, opened, level, content, permitted}
+use Rattle.history.specs.History.{First, isRestart, keyIn, offered, opened, level, content, permitted}
 use Rattle.history.specs.Others.{programming, individual, groupByte, newAddress, newValue}
 use Rattle.history.specs.Keeps.{Writing, CarriedOut}
 use Rattle.history.proofs.Invariant.{Inv, means-as}
@@ -37,12 +41,12 @@ module _ (f : First) (h : List Event) (mode g : ℕ) (a out : List ℕ) where
     pub levels : level f (E ∷ h) ≡ level f h
     pub addresses : individual f (E ∷ h) ≡ individual f h
     pub programs : programming f (E ∷ h) ≡ programming f h
-    pub groups : (i j : ℕ) → groupByte f (E ∷ h) i j ≡ groupByte f h i j
+    pub values : (i j : ℕ) → groupByte f (E ∷ h) i j ≡ groupByte f h i j
 
   -- by an unheard request
   pub unheard-same : Ok ≡ false → Same
   unfolding opened level content individual programming groupByte
-  unheard-same e = record { opens = rw e; levels = rw e; addresses = rw e; programs = rw e; groups = λ i j. rw e }
+  unheard-same e = record { opens = rw e; levels = rw e; addresses = rw e; programs = rw e; values = λ i j. rw e }
 
   -- by what it asks
   module _ (w : Wish) (e : asks a ≡ w) where
@@ -62,11 +66,34 @@ module _ (f : First) (h : List Event) (mode g : ℕ) (a out : List ℕ) where
     unfolding individual
     addresses-same r = rw (e, r _ _ (individual f h)) (cond-same (heard (opened f h) mode a out w) (individual f h))
 
-    pub groups-same :
+    pub values-same :
         ((n : List ℕ) (k : ℕ) (d : List ℕ) (j v : ℕ) → newValue n k d j v w ≡ v) → (i j : ℕ) → groupByte f (E ∷ h) i j ≡ groupByte f h i j
     unfolding groupByte
-    groups-same r i j =
+    values-same r i j =
         rw (e, r _ _ _ _ (groupByte f h i j)) (cond-same (heard (opened f h) mode a out w) (groupByte f h i j))
+
+  -- and what it says of a request that is heard
+  module _ (w : Wish) (e : asks a ≡ w) (ok : Ok ≡ true) where
+    pub opens-new : opened f (E ∷ h) ≡ cond (isRestart w) false (opened f h)
+    unfolding opened
+    opens-new = rw (ok, e)
+
+    pub levels-new : level f (E ∷ h) ≡ offered (keyIn (content f h)) (level f h) w
+    unfolding level
+    levels-new = rw (ok, e)
+
+    pub programs-new : programming f (E ∷ h) ≡ cond (isRestart w) 0 (programming f h)
+    unfolding programming
+    programs-new = rw (ok, e)
+
+    pub addresses-new : individual f (E ∷ h) ≡ newAddress (programming f h) (head.serial of f .sheet) (individual f h) w
+    unfolding individual
+    addresses-new = rw (ok, e)
+
+    pub values-new :
+        (i j : ℕ) → groupByte f (E ∷ h) i j ≡ newValue (entry (f .sheet) groups i) g (brings a) j (groupByte f h i j) w
+    unfolding groupByte
+    values-new i j = rw (ok, e)
 
   -- by a write
   pub writing-same : (w : Wish) → asks a ≡ w → Writing w → Same
@@ -76,7 +103,7 @@ module _ (f : First) (h : List Event) (mode g : ℕ) (a out : List ℕ) where
         levels = levels-same w e (quiet w t .1);
         addresses = addresses-same w e (quiet w t .2);
         programs = programs-same w e (quiet w t .0);
-        groups = groups-same w e (quiet w t .3);
+        values = values-same w e (quiet w t .3);
       }
     where
       quiet : (w : Wish) → Writing w → (isRestart w ≡ false) × ((k : ℕ → ℕ) (l : ℕ) → offered k l w ≡ l) × ((m s v : ℕ) → newAddress m s v w ≡ v) × ((n : List ℕ) (k : ℕ) (d : List ℕ) (j v : ℕ) → newValue n k d j v w ≡ v)
@@ -135,7 +162,7 @@ module _ (f : First) (h : List Event) (mode g : ℕ) (a out : List ℕ) where
                 rights = inv .rights ∙ sym (same .levels);
                 means =
                     means-as (inv .means) (λ y. sym (contents-same e y)) (sym (same .addresses)) (sym (same .programs))
-                    (λ i j. sym (same .groups i j));
+                    (λ i j. sym (same .values i j));
               };
           only = λ c. absurd (none (c .writing) (c .outcome));
           all = λ p. never (sym e ∙ p);
@@ -157,7 +184,7 @@ module _ (f : First) (h : List Event) (mode g : ℕ) (a out : List ℕ) where
                 means =
                     means-as m
                     (λ y. ap (λ (v : Wish). cond (names (f .sheet) v y) (gives (f .sheet) (content f h) (brings a) v y) (content f h y)) (sym e) ∙ sym (contents-new p y))
-                    (sym (same .addresses)) (sym (same .programs)) (λ i j. sym (same .groups i j));
+                    (sym (same .addresses)) (sym (same .programs)) (λ i j. sym (same .values i j));
               };
           only = λ c. p;
           all = λ q. record { writing = rw e t; outcome = low };
