@@ -38,6 +38,14 @@ pub and-fails : (a b : Bool) → a ≡ false → (a && b) ≡ false
 and-fails true b e = never (sym e)
 and-fails false b e = refl
 
+pub and-false : (t : Bool) → (t && false) ≡ false
+and-false true = refl
+and-false false = refl
+
+pub cond-same : (t : Bool) (y : ℕ) → cond t y y ≡ y
+cond-same true y = refl
+cond-same false y = refl
+
 -- each of several tests that hold together, and all of them
 pub all-at : (bs : List Bool) → all bs ≡ true → (i : ℕ) → getD bs i true ≡ true
 all-at [] e i = refl

@@ -15,7 +15,7 @@ use Rattle.sheet.specs.Layout.{_of_}
 use Rattle.sheet.specs.Head as head
 use Rattle.sheet.specs.Region as region
 use Rattle.sheet.specs.Property as property
-use Rattle.sheet.specs.Entries.{entry, bodyAt, InBody}
+use Rattle.sheet.specs.Entries.{count, entry, bodyAt, InBody}
 use Rattle.sheet.specs.Rules.{ruleOf}
 use Rattle.sheet.proofs.Good.{Good, good, accepted}
 use Rattle.sheet.proofs.Frames.{kept}
@@ -39,7 +39,7 @@ pub record Inv (f : First) (h : List Event) (x : State) : Type 0 where
 pub means-as :
     {f : List ℕ} {c c′ : Location → ℕ} {adr adr′ prog prog′ : ℕ} {grp grp′ : ℕ → ℕ → ℕ} {s : List ℕ} → Means f c adr prog grp s →
     ((x : Location) → c x ≡ c′ x) → adr ≡ adr′ → prog ≡ prog′ →
-    ((i j : ℕ) → grp i j ≡ grp′ i j) → Means f c′ adr′ prog′ grp′ s
+    ((i j : ℕ) → i < count f groups → grp i j ≡ grp′ i j) → Means f c′ adr′ prog′ grp′ s
 means-as m p q r t =
     record {
       agree = m .agree;
@@ -49,7 +49,7 @@ means-as m p q r t =
       address = m .address ∙ q;
       programming = m .programming ∙ r;
       verify = m .verify;
-      group = λ i j h. m .group i j h ∙ t i j;
+      group = λ i j h. m .group i j h ∙ t i j (h .below);
     }
 
 -- the first content is what stands in the first sheet
@@ -110,7 +110,7 @@ module _ {f : First} {h : List Event} {x : State} (inv : Inv f h x) where
           rights = inv .rights;
           means =
               rw (eq-eqb (ruleOf (x .sheet)) 0 now-accepted)
-              (means-as (store-flags fine (inv .means) new low verify) (λ y. refl) refl (odd on) (λ i j. refl));
+              (means-as (store-flags fine (inv .means) new low verify) (λ y. refl) refl (odd on) (λ i j l. refl));
         }
       where
         v : ℕ

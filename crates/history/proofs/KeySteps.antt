@@ -100,7 +100,7 @@ module _ (f : First) (b : Begins f) (h : List Event) (x : State) (inv : Inv f h 
               means =
                   means-as (inv .means) (λ y. sym (contents-same f h mode g a out none y))
                   (sym (addresses-same f h mode g a out w e (λ m s v. refl))) (sym (programs-same f h mode g a out w e refl))
-                  (λ i j. sym (values-same f h mode g a out w e (λ n k d j v. refl) i j));
+                  (λ i j m. sym (values-same f h mode g a out w e (λ n k d j v. refl) i j));
             };
         only = λ c. absurd (rw e at (c .writing));
         all = λ p. never (sym none ∙ p);

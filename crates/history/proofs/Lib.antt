@@ -20,3 +20,4 @@ pub mod Bit
 pub mod Writes
 pub mod MemorySteps
 pub mod KeySteps
+pub mod PropertySteps

@@ -149,7 +149,7 @@ module _ {f : List ℕ} (g : Good 1 f) {c : Location → ℕ} {adr prog : ℕ} {
     inside p a b = record { kind = omega arith; below = below; from = a; to = omega arith }
 
     pub store-group :
-        (new : ℕ → ℕ → ℕ) → ((j : ℕ) → j < length ds → new i j ≡ getD ds j 0) → ((k j : ℕ) → (k ≡ i → ⊥) → new k j ≡ grp k j) →
+        (new : ℕ → ℕ → ℕ) → ((j : ℕ) → j < length ds → new i j ≡ getD ds j 0) → ((k j : ℕ) → k < count f groups → (k ≡ i → ⊥) → new k j ≡ grp k j) →
         Fit s groups i ds → Octets ds → Means f c adr prog new (splice s (bodyAt f groups i) ds)
     store-group new here there fit b =
         record {
@@ -195,4 +195,4 @@ module _ {f : List ℕ} (g : Good 1 f) {c : Location → ℕ} {adr prog : ℕ} {
             ∙ sym (here j l)
             ∙ ap (λ (n : ℕ). new n j) (sym e)
         at k j h (no e) =
-            off _ (λ q. e (disjoint g groups k groups i _ h q .1)) ∙ m .group k j h ∙ sym (there k j e)
+            off _ (λ q. e (disjoint g groups k groups i _ h q .1)) ∙ m .group k j h ∙ sym (there k j (h .below) e)

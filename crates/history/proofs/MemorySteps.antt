@@ -16,7 +16,6 @@ use Rattle.sheet.proofs.Lie.{Inside, inside-within}
 use Rattle.sheet.proofs.Sames.{region-same}
 use Rattle.sheet.proofs.Stores.{body-store}
 use Rattle.sheet.proofs.Runs.{Covered}
-use Rattle.pdu.specs.Read.{dataOf}
 use Rattle.pdu.specs.declared.Pdu.the-variants.{MemoryWrite, MemoryBitWrite}
 use Rattle.device.specs.Events.{Event, State}
 use Rattle.device.specs.Carry.{build, bitAt}
@@ -35,7 +34,7 @@ use Rattle.history.proofs.Framed.{covered-same, below-same}
 use Rattle.history.proofs.Invariant.{Inv, fine, now}
 use Rattle.history.proofs.Means.{Means, store-run}
 use Rattle.history.proofs.MemoryRun.{NamesRange, memory-range, bits-range, memory-place, memory-run}
-use Rattle.history.proofs.Octet.{octets-drop, octets-bits}
+use Rattle.history.proofs.Octet.{octets-data, octets-bits}
 use Rattle.history.proofs.Permits.{memory-is, bits-is}
 use Rattle.history.proofs.Requests.{Done}
 use Rattle.history.proofs.Stored.{Run}
@@ -86,7 +85,7 @@ module _ (f : First) (b : Begins f) (h : List Event) (x : State) (inv : Inv f h 
       (k : ℕ) (answer : List ℕ) → k ≤ 1 →
       Done f h mode g a out
       (record { outcome = k; answer = answer; session = x .session; sheet = splice (x .sheet) (memoryAt (entry (x .sheet) regions i) y) d })
-  unfolding gives dataOf
+  unfolding gives
   memory-written n y i d r w e k answer low =
       carried-out f b h x inv mode g a out (MemoryWrite n y) r tt
       (memory-is R (now inv b) n y (given R (MemoryWrite n y)) .1 (i, w))
@@ -94,7 +93,7 @@ module _ (f : First) (b : Begins f) (h : List Event) (x : State) (inv : Inv f h 
       (range-stored n y i (w .range) (names (f .sheet) (writeMemory n y)) (gives (f .sheet) (content f h) (given R (MemoryWrite n y)) (writeMemory n y)) d
       (memory-range (f .sheet) n y)
       (ap length e ∙ memory-data a octets (r .reads))
-      (rw e (octets-drop 4 a octets))
+      (rw e (octets-data (MemoryWrite n y) a octets))
       (λ j l.
       let z : y + j - y ≡ j = omega arith in
       ap₂ (λ (c : List ℕ) (m : ℕ). getD c m 0) (sym e) z))
@@ -115,7 +114,7 @@ module _ (f : First) (b : Begins f) (h : List Event) (x : State) (inv : Inv f h 
       (k : ℕ) (answer : List ℕ) → k ≤ 1 →
       Done f h mode g a out
       (record { outcome = k; answer = answer; session = x .session; sheet = splice (x .sheet) (memoryAt (entry (x .sheet) regions i) y) d })
-  unfolding gives bitAt dataOf
+  unfolding gives bitAt
   bits-written n y i d r w e k answer low =
       carried-out f b h x inv mode g a out (MemoryBitWrite n y) r tt
       (bits-is R (now inv b) n y (given R (MemoryBitWrite n y)) .1 (i, w))
@@ -123,7 +122,7 @@ module _ (f : First) (b : Begins f) (h : List Event) (x : State) (inv : Inv f h 
       (range-stored n y i (w .range) (names (f .sheet) (writeBits n y)) (gives (f .sheet) (content f h) bytes (writeBits n y)) d
       (bits-range (f .sheet) n y)
       (ap length e ∙ length-build n (bitAt (x .sheet) o n bytes))
-      (rw e (octets-bits (x .sheet) o n bytes (inv .means .octets) (octets-drop 5 a octets)))
+      (rw e (octets-bits (x .sheet) o n bytes (inv .means .octets) (octets-data (MemoryBitWrite n y) a octets)))
       (λ j l.
       let z : y + j - y ≡ j = omega arith in
       rw (e, build-at n (bitAt (x .sheet) o n bytes) j l, z, held n y i (w .range) j l)))

@@ -4,7 +4,7 @@ use Prim.Native.Nat.{ℕ, zero, suc, _+_, _-_, _/_, _%_, _<_, _≤_}
 use mathlib.Core.Path.{_≡_, refl, sym, ap, _∙_}
 use mathlib.Core.Logic.{inl, inr}
 use mathlib.Core.List.{List, [], _∷_, _++_}
-use lib.ListN.{length, drop, getD}
+use lib.ListN.{length, getD}
 use lib.Seq.{getD-drop}
 use lib.Bits.{bitAnd, bitXor, and-lt, xor-lt}
 use native.Mathlib.Decide.{decLt}
@@ -12,6 +12,8 @@ use native.Mathlib.Omega.{arith}
 use Rattle.octets.specs.Bytes.{bytesOf}
 use Rattle.octets.specs.Splice.{splice}
 use Rattle.octets.proofs.Splices.{splice-in, splice-outside}
+use Rattle.pdu.specs.Read.{dataAt, dataOf}
+use Rattle.pdu.specs.declared.Pdu.{Pdu}
 use Rattle.device.specs.Carry.{build, bitAt}
 use Rattle.history.specs.Keeps.{Octets}
 
@@ -33,8 +35,9 @@ octets-bytes zero x = octets-none
 octets-bytes (suc w) x =
     octets-append (bytesOf w (x / 256)) (x % 256 ∷ []) (octets-bytes w (x / 256)) (octets-one (x % 256) (omega arith))
 
-pub octets-drop : (n : ℕ) (a : List ℕ) → Octets a → Octets (drop n a)
-octets-drop n a h i = rw (getD-drop n a i 0) (h (n + i))
+pub octets-data : (p : Pdu) (a : List ℕ) → Octets a → Octets (dataOf p a)
+unfolding dataOf
+octets-data p a h i = rw (getD-drop (dataAt p) a i 0) (h (dataAt p + i))
 
 octets-build : (n : ℕ) (f : ℕ → ℕ) → ((i : ℕ) → f i < 256) → Octets (build n f)
 unfolding build

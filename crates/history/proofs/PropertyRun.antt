@@ -37,11 +37,11 @@ onCounters t (counter o i j) = t (counter o i j)
 onCounters t (key l j) = false
 
 -- t elements before, n elements, of z bytes each, at most m in all
-elements-fit : (t n z m : ℕ) → t + n ≤ m → t * z + n * z ≤ z * m
+pub elements-fit : (t n z m : ℕ) → t + n ≤ m → t * z + n * z ≤ z * m
 elements-fit t n z m h = omega (arith, mul-le-mul-right z h)
 
 module _ {s : List ℕ} (g : Good 1 s) {object id i : ℕ} (is : IsProperty s object id i) where
-  entry-for : entryFor s object id ≡ entry s properties i
+  pub entry-for : entryFor s object id ≡ entry s properties i
   unfolding entryFor
   entry-for = ap (entry s properties) (property-hit g is)
 

@@ -1,13 +1,13 @@
 -- What the history says of one more request, by what it asks.
 -- Assumes nothing.
-use Prim.Native.Nat.{ℕ, _≤_}
+use Prim.Native.Nat.{ℕ, _<_, _≤_}
 use mathlib.Core.Path.{_≡_, refl, sym, ap, _∙_}
 use mathlib.Core.Bool.{Bool, true, false, cond, _&&_}
 use mathlib.Core.List.{List, [], _∷_}
 use Rattle.sheet.specs.Kind.{groups}
 use Rattle.sheet.specs.Layout.{_of_}
 use Rattle.sheet.specs.Head as head
-use Rattle.sheet.specs.Entries.{entry}
+use Rattle.sheet.specs.Entries.{count, entry}
 use Rattle.pdu.proofs.Truths.{never}
 use Rattle.device.specs.Step.{Step}
 use Rattle.device.specs.Events.{Event, State, request}
@@ -17,16 +17,9 @@ use Rattle.history.specs.Permit.{heard, levelFor, allowed, names, gives}
 use Rattle.history.specs.History.{First, isRestart, keyIn, offered, opened, level, content, permitted}
 use Rattle.history.specs.Others.{programming, individual, groupByte, newAddress, newValue}
 use Rattle.history.specs.Keeps.{Writing, CarriedOut}
+use Rattle.history.proofs.Bools.{and-false, cond-same}
 use Rattle.history.proofs.Invariant.{Inv, means-as}
 use Rattle.history.proofs.Means.{Means}
-
-and-false : (t : Bool) → (t && false) ≡ false
-and-false true = refl
-and-false false = refl
-
-cond-same : (t : Bool) (y : ℕ) → cond t y y ≡ y
-cond-same true y = refl
-cond-same false y = refl
 
 module _ (f : First) (h : List Event) (mode g : ℕ) (a out : List ℕ) where
   abbrev pub E : Event
@@ -41,12 +34,12 @@ module _ (f : First) (h : List Event) (mode g : ℕ) (a out : List ℕ) where
     pub levels : level f (E ∷ h) ≡ level f h
     pub addresses : individual f (E ∷ h) ≡ individual f h
     pub programs : programming f (E ∷ h) ≡ programming f h
-    pub values : (i j : ℕ) → groupByte f (E ∷ h) i j ≡ groupByte f h i j
+    pub values : (i j : ℕ) → i < count (f .sheet) groups → groupByte f (E ∷ h) i j ≡ groupByte f h i j
 
   -- by an unheard request
   pub unheard-same : Ok ≡ false → Same
   unfolding opened level content individual programming groupByte
-  unheard-same e = record { opens = rw e; levels = rw e; addresses = rw e; programs = rw e; values = λ i j. rw e }
+  unheard-same e = record { opens = rw e; levels = rw e; addresses = rw e; programs = rw e; values = λ i j l. rw e }
 
   -- by what it asks
   module _ (w : Wish) (e : asks a ≡ w) where
@@ -103,7 +96,7 @@ module _ (f : First) (h : List Event) (mode g : ℕ) (a out : List ℕ) where
         levels = levels-same w e (quiet w t .1);
         addresses = addresses-same w e (quiet w t .2);
         programs = programs-same w e (quiet w t .0);
-        values = values-same w e (quiet w t .3);
+        values = λ i j l. values-same w e (quiet w t .3) i j;
       }
     where
       quiet : (w : Wish) → Writing w → (isRestart w ≡ false) × ((k : ℕ → ℕ) (l : ℕ) → offered k l w ≡ l) × ((m s v : ℕ) → newAddress m s v w ≡ v) × ((n : List ℕ) (k : ℕ) (d : List ℕ) (j v : ℕ) → newValue n k d j v w ≡ v)
@@ -162,7 +155,7 @@ module _ (f : First) (h : List Event) (mode g : ℕ) (a out : List ℕ) where
                 rights = inv .rights ∙ sym (same .levels);
                 means =
                     means-as (inv .means) (λ y. sym (contents-same e y)) (sym (same .addresses)) (sym (same .programs))
-                    (λ i j. sym (same .values i j));
+                    (λ i j l. sym (same .values i j l));
               };
           only = λ c. absurd (none (c .writing) (c .outcome));
           all = λ p. never (sym e ∙ p);
@@ -184,7 +177,7 @@ module _ (f : First) (h : List Event) (mode g : ℕ) (a out : List ℕ) where
                 means =
                     means-as m
                     (λ y. ap (λ (v : Wish). cond (names (f .sheet) v y) (gives (f .sheet) (content f h) (brings a) v y) (content f h y)) (sym e) ∙ sym (contents-new p y))
-                    (sym (same .addresses)) (sym (same .programs)) (λ i j. sym (same .values i j));
+                    (sym (same .addresses)) (sym (same .programs)) (λ i j l. sym (same .values i j l));
               };
           only = λ c. p;
           all = λ q. record { writing = rw e t; outcome = low };
