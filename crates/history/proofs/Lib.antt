@@ -21,3 +21,4 @@ pub mod Writes
 pub mod MemorySteps
 pub mod KeySteps
 pub mod PropertySteps
+pub mod OtherSteps
