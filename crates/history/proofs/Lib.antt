@@ -22,3 +22,4 @@ pub mod MemorySteps
 pub mod KeySteps
 pub mod PropertySteps
 pub mod OtherSteps
+pub mod GroupSteps
