@@ -127,6 +127,12 @@ module _ (f : First) (b : Begins f) (h : List Event) (x : State) (inv : Inv f h 
     group-once i j m n =
         key-once (now inv b) groups (omega arith) i j (m .there) (n .there) (m .address ∙ sym (n .address))
 
+    pub unfit :
+        (i : ℕ) → Group R i → (length D ≡ group.code of entry (x .sheet) groups i → ⊥) → (j : ℕ) → Group R j →
+        Flag (entry (x .sheet) groups j) k → length D ≡ group.code of entry (x .sheet) groups j → ⊥
+    unfit i m o j n u l =
+        o (l ∙ ap (λ (d : ℕ). group.code of entry (x .sheet) groups d) (group-once j i n m))
+
     -- NOT STORED, where no test passes
     pub value-left :
         ((i : ℕ) → Group R i → Flag (entry (x .sheet) groups i) k → length D ≡ group.code of entry (x .sheet) groups i → ⊥) →

@@ -23,3 +23,5 @@ pub mod KeySteps
 pub mod PropertySteps
 pub mod OtherSteps
 pub mod GroupSteps
+pub mod Steps
+pub mod Keep

@@ -52,6 +52,10 @@ pub record Still (s : List ℕ) (p : ℕ) : Type 0 where
   pub address : (p < head.address .at) ⊎ (head.address .at + head.address .width ≤ p)
   pub flags : p ≡ head.flags .at → ⊥
 
+-- every byte is below 256
+abbrev pub Octets : List ℕ → Type 0
+Octets s = (i : ℕ) → getD s i 0 < 256
+
 -- what holds after a history
 pub record Kept (step : State → Event → Step) (f : First) (h : List Event) : Type 0 where
   -- the sheet stays accepted
@@ -64,12 +68,12 @@ pub record Kept (step : State → Event → Step) (f : First) (h : List Event) :
   pub holds : (x : Location) (p : ℕ) → Place (f .sheet) x p → getD (stateAfter step f h .sheet) p 0 ≡ content f h x
   -- a write is carried out exactly if it is permitted
   pub onlyPermitted :
-      (mode g : ℕ) (a out : List ℕ) → CarriedOut a (step (stateAfter step f h) (request mode g a out)) → permitted f h (request mode g a out) ≡ true
+      (mode g : ℕ) (a out : List ℕ) → Octets a → CarriedOut a (step (stateAfter step f h) (request mode g a out)) → permitted f h (request mode g a out) ≡ true
   pub allPermitted :
-      (mode g : ℕ) (a out : List ℕ) → permitted f h (request mode g a out) ≡ true → CarriedOut a (step (stateAfter step f h) (request mode g a out))
+      (mode g : ℕ) (a out : List ℕ) → Octets a → permitted f h (request mode g a out) ≡ true → CarriedOut a (step (stateAfter step f h) (request mode g a out))
   -- and takes effect at once
   pub atOnce :
-      (mode g : ℕ) (a out : List ℕ) → permitted f h (request mode g a out) ≡ true →
+      (mode g : ℕ) (a out : List ℕ) → Octets a → permitted f h (request mode g a out) ≡ true →
       (x : Location) (p : ℕ) → Place (f .sheet) x p → names (f .sheet) (asks a) x ≡ true →
       getD (step (stateAfter step f h) (request mode g a out) .sheet) p 0 ≡ gives (f .sheet) (content f h) (brings a) (asks a) x
   -- the bytes that are no locations
@@ -79,10 +83,6 @@ pub record Kept (step : State → Event → Step) (f : First) (h : List Event) :
   pub group :
       (i j : ℕ) → InBody (f .sheet) groups i (bodyAt (f .sheet) groups i + j) →
       getD (stateAfter step f h .sheet) (bodyAt (f .sheet) groups i + j) 0 ≡ groupByte f h i j
-
--- every byte of every list is below 256
-abbrev pub Octets : List ℕ → Type 0
-Octets s = (i : ℕ) → getD s i 0 < 256
 
 pub record Begins (f : First) : Type 0 where
   pub octets : Octets (f .sheet)
