@@ -12,3 +12,4 @@ pub mod Back
 pub mod Kept
 pub mod Again
 pub mod Vectors
+pub mod Readings

@@ -2,7 +2,7 @@
 -- Assumes nothing.
 use Prim.Native.Nat.{ℕ, _+_, _≤_, _<_}
 use mathlib.Core.Path.{_≡_, refl, sym, ap, _∙_}
-use mathlib.Core.Logic.{_↔_, ⊎-elim}
+use mathlib.Core.Logic.{_↔_, _⊎_, inl, inr, ⊎-elim}
 use mathlib.Core.Bool.{Bool, true, false}
 use mathlib.Core.List.{List}
 use native.Mathlib.Omega.{arith}
@@ -32,7 +32,7 @@ writable-is p d w =
       λ a. b .1 (at-most-is n 16 .1 (a .most), fits-is (rowOf (serviceOf p)) (valuesOf p) n w (a .most) .1 a),
     )
 
--- the three cases, and what writing then gives
+-- the cases, and what writing then gives
 data Due (p : Pdu) (d o : List ℕ) : Type 0 where
   short : length o < 16 → Due p d o
   long : 16 ≤ length o → (t : Bool) → writable p d ≡ t → Due p d o
@@ -51,6 +51,15 @@ gives p d o (long h t e) = simp (le-ltb (length o) 16 h) (ap (λ (u : Bool). pic
 
 told : (p : Pdu) (d o : List ℕ) (z : Written) → writeOf p d o ≡ z → writeOutcome (given (due p d o)) ≡ writeOutcome z
 told p d o z e = ap writeOutcome (sym (gives p d o (due p d o)) ∙ e)
+
+-- NOTHING ELSE IS GIVEN
+pub writes-one : (p : Pdu) (d o : List ℕ) → (writeOf p d o ≡ Bytes (dataAt p + length d)) ⊎ (writeOf p d o ≡ Refused 3) ⊎ (writeOf p d o ≡ Refused 13)
+writes-one p d o = from (due p d o)
+  where
+    from : Due p d o → (writeOf p d o ≡ Bytes (dataAt p + length d)) ⊎ (writeOf p d o ≡ Refused 3) ⊎ (writeOf p d o ≡ Refused 13)
+    from (short h) = inr (inl (gives p d o (short h)))
+    from (long h true f) = inl (gives p d o (long h true f))
+    from (long h false f) = inr (inr (gives p d o (long h false f)))
 
 -- 3: EXACTLY IF THE BUFFER HAS LESS THAN 16 BYTES
 pub writes-3 : (p : Pdu) (d o : List ℕ) → (writeOf p d o ≡ Refused 3) ↔ (length o < 16)

@@ -42,7 +42,7 @@ fits-at-is b k small m =
     let x = valuesAt is 2 b in
     fits-is (rowOf k) x (length b) (stands-wide is x 2 b small (stands is x 2 b (sound k .distinct b))) m
 
--- the four cases, and what reading then gives
+-- the cases, and what reading then gives
 data Due (b : List ℕ) : Type 0 where
   size : (length b < 2) ⊎ (16 < length b) → Due b
   none : Sized b → ((k : Service) → has (rowOf k) (codeOf b) ≡ false) → Due b
@@ -78,6 +78,16 @@ gives b (one s k t h f) = sized b (Listed k) s (found k (codeOf b) h) ∙ ap (λ
 told : (b : List ℕ) (z : Parsed) → readPdu b ≡ z → readOutcome (given (due b)) ≡ readOutcome z
 told b z e = ap readOutcome (sym (gives b (due b)) ∙ e)
 
+-- NOTHING ELSE IS GIVEN
+pub reads-one : (b : List ℕ) → ((p : Pdu) × (readPdu b ≡ Is p)) ⊎ (readPdu b ≡ Refused 5) ⊎ (readPdu b ≡ Refused 8) ⊎ (readPdu b ≡ Refused 10)
+reads-one b = from (due b)
+  where
+    from : Due b → ((p : Pdu) × (readPdu b ≡ Is p)) ⊎ (readPdu b ≡ Refused 5) ⊎ (readPdu b ≡ Refused 8) ⊎ (readPdu b ≡ Refused 10)
+    from (size h) = inr (inl (gives b (size h)))
+    from (none s h) = inr (inr (inl (gives b (none s h))))
+    from (one s k true h f) = inl (builtOf k b, gives b (one s k true h f))
+    from (one s k false h f) = inr (inr (inr (gives b (one s k false h f))))
+
 -- 5: EXACTLY IF THE LENGTH IS NOT 2 TO 16
 pub reads-5 : (b : List ℕ) → (readPdu b ≡ Refused 5) ↔ ((length b < 2) ⊎ (16 < length b))
 reads-5 b = (λ e. from (due b) (told b (Refused 5) e), λ h. gives b (size h))
@@ -88,7 +98,7 @@ reads-5 b = (λ e. from (due b) (told b (Refused 5) e), λ h. gives b (size h))
     from (one s k true h f) e = absurd (omega arith)
     from (one s k false h f) e = absurd (omega arith)
 
--- 8: EXACTLY IF THE LENGTH IS AND NO ROW HAS THE CODE
+-- 8: EXACTLY IF IT IS, AND NO ROW HAS THE CODE
 pub reads-8 : (b : List ℕ) → (readPdu b ≡ Refused 8) ↔ ((2 ≤ length b) × (length b ≤ 16) × ((k : Service) → has (rowOf k) (codeOf b) ≡ false))
 reads-8 b = (λ e. from (due b) (told b (Refused 8) e), λ h. gives b (none (record { least = h .0; most = h .1 }) (h .2)))
   where
@@ -98,7 +108,7 @@ reads-8 b = (λ e. from (due b) (told b (Refused 8) e), λ h. gives b (none (rec
     from (one s k true h f) e = absurd (omega arith)
     from (one s k false h f) e = absurd (omega arith)
 
--- 10: EXACTLY IF THE LENGTH IS, A ROW HAS THE CODE, AND IT DOES NOT ALLOW THE FIELDS IN SO MANY BYTES
+-- 10: EXACTLY IF IT IS, A ROW HAS THE CODE, AND THAT ROW DOES NOT ALLOW THE FIELDS IN SO MANY BYTES
 pub reads-10 :
     (b : List ℕ) → ((i : ℕ) → getD b i 0 < 256) →
     (readPdu b ≡ Refused 10) ↔ ((2 ≤ length b) × (length b ≤ 16) × ((k : Service) × (has (rowOf k) (codeOf b) ≡ true) × (Allows (rowOf k) (valuesAt (rowOf k .items) 2 b) (length b) → ⊥)))

@@ -1,4 +1,4 @@
--- Worked examples: the figures of the standards, filled with the values of the sample sheet.
+-- Worked examples: the figures of the standards (004: 8 to 46; 003: 6, 12, 13, 35, 36, 41, 64 to 68), filled with the values of the sample sheet.
 -- Assumes nothing.
 use Prim.Native.Nat.{ℕ}
 use mathlib.Core.Path.{_≡_, refl}

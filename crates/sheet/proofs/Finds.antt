@@ -1,23 +1,21 @@
 -- In two sheets that agree on what the rules read, lookups find the same.
 -- Assumes nothing.
-use Prim.Native.Nat.{ℕ, zero, suc, _+_, _-_, _<_, _≤_}
-use mathlib.Core.Path.{_≡_, refl, sym, _∙_, ap, ap₂}
+use Prim.Native.Nat.{ℕ, zero, suc, _<_, _≤_}
+use mathlib.Core.Path.{_≡_, refl, _∙_, ap}
 use mathlib.Core.List.{List}
-use mathlib.Core.Bool.{Bool, _&&_}
+use mathlib.Core.Bool.{_&&_}
 use lib.Dec.{eqb, ltb}
 use native.Mathlib.Decide.{decLt}
 use native.Mathlib.Omega.{arith}
-use borrow.Author.Tests.{lt-ltb, le-ltb}
+use borrow.Author.Tests.{le-ltb}
 use Rattle.sheet.specs.Demand.{pick}
 use Rattle.sheet.specs.Kind.{kinds, regions, properties}
-use Rattle.sheet.specs.Layout.{_of_}
 use Rattle.sheet.specs.Region as region
 use Rattle.sheet.specs.Property as property
 use Rattle.sheet.specs.Entries.{count, entry, keyOf}
 use Rattle.sheet.specs.Lookup.{seek, indexOf, objectAt, rank, nthOf, covers, runIn, rangeOf}
 use Rattle.sheet.specs.Frame.{Agree}
-use Rattle.sheet.specs.declared.Run.{Run}
-use Rattle.sheet.specs.declared.Run.the-variants.{At, Nowhere}
+use Rattle.sheet.specs.declared.Run.the-variants.{Nowhere}
 use Rattle.sheet.proofs.Sames.{count-same, key-same, region-same, property-same}
 use Rattle.sheet.proofs.Seeks.{seek-same}
 
@@ -34,6 +32,7 @@ module _ {s s′ : List ℕ} (a : Agree s s′) where
   unfolding objectAt
   object-same i h = property-same a i property.object h (omega arith) (omega arith)
 
+  -- the same index of a property
   pub rank-same : (object i : ℕ) → i ≤ count s properties → rank s′ object i ≡ rank s object i
   unfolding rank
   rank-same object zero h = refl

@@ -1,13 +1,13 @@
 -- A sheet is accepted exactly if all its demands are met.
 -- Assumes nothing.
-use Prim.Native.Nat.{ℕ, zero, suc, _<_, _≤_}
+use Prim.Native.Nat.{ℕ, zero, suc, _<_}
 use mathlib.Core.Path.{_≡_, refl, sym, _∙_}
 use mathlib.Core.List.{List}
 use lib.Dec.{T}
 use native.Mathlib.Omega.{arith}
 use borrow.Author.Tests.{le-ltb}
 use Rattle.sheet.specs.Demand.{breach, Met}
-use Rattle.sheet.specs.First.{first, orElse}
+use Rattle.sheet.specs.First.{first}
 use Rattle.sheet.specs.Kind.{kinds}
 use Rattle.sheet.specs.Entries.{count}
 use Rattle.sheet.specs.Rules.{frameDemands, zeroDemands, entryDemands, bodyDemands, endDemands, stepRule, passRule, passes, kindAt, walkRule, ruleIn}
@@ -23,9 +23,9 @@ pub record Good (ed : ℕ) (s : List ℕ) : Type 0 where
   pub bodies : (k i : ℕ) → k < kinds → i < count s k → Met (bodyDemands s k i)
   pub last : Met (endDemands s)
 
--- pass k judges the entries of kind k, pass k + 3 their bodies
+-- pass k judges the entries of kind k, pass k + 3 their bodies; every row of theirs names a rule
 module _ (s : List ℕ) (i : ℕ) where
-  pub step-entry : (k : ℕ) → k < kinds → stepRule s k i ≡ breach (entryDemands s k i)
+  step-entry : (k : ℕ) → k < kinds → stepRule s k i ≡ breach (entryDemands s k i)
   unfolding stepRule
   step-entry = eachKind (λ (k : ℕ). stepRule s k i ≡ breach (entryDemands s k i)) refl refl refl
 
@@ -33,7 +33,7 @@ module _ (s : List ℕ) (i : ℕ) where
   unfolding stepRule
   step-body k = rw (le-ltb (suc (suc (suc k))) 3 (omega arith))
 
-  pub entry-named : (k : ℕ) → k < kinds → T (named (entryDemands s k i))
+  entry-named : (k : ℕ) → k < kinds → T (named (entryDemands s k i))
   unfolding entryDemands
   entry-named = eachKind (λ (k : ℕ). T (named (entryDemands s k i))) tt tt tt
 

@@ -1,7 +1,7 @@
 -- Entries by their first word: it rises strictly, so a lookup finds the one entry that has it.
 -- Assumes nothing.
-use Prim.Native.Nat.{ℕ, zero, suc, _+_, _*_, _<_, _≤_}
-use mathlib.Core.Path.{_≡_, refl, sym, _∙_, ap}
+use Prim.Native.Nat.{ℕ, suc, _+_, _*_, _<_, _≤_}
+use mathlib.Core.Path.{_≡_, sym, _∙_}
 use mathlib.Core.List.{List}
 use native.Mathlib.Decide.{decLt}
 use native.Mathlib.Nat.{le-trans}
@@ -11,7 +11,7 @@ use Rattle.octets.proofs.Numbers.{num-one, num-two}
 use Rattle.sheet.specs.Kind.{kinds}
 use Rattle.sheet.specs.Layout.{_of_}
 use Rattle.sheet.specs.Property as property
-use Rattle.sheet.specs.Entries.{count, entry, keyOf, floor, floorAfter}
+use Rattle.sheet.specs.Entries.{count, keyOf, floor}
 use Rattle.sheet.specs.Rules.{entryDemands}
 use Rattle.sheet.specs.Lookup.{indexOf}
 use Rattle.sheet.proofs.ByKind.{eachKind}

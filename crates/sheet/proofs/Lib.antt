@@ -14,8 +14,10 @@ pub mod Seeks
 pub mod Keys
 pub mod Ranks
 pub mod Runs
+pub mod RankBound
 pub mod Sames
 pub mod Frames
 pub mod Finds
 pub mod Mild
+pub mod Counts
 pub mod Stores

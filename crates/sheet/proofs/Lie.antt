@@ -1,13 +1,12 @@
 -- Where the bodies of an accepted sheet lie: one after the other, from the contents to the end.
 -- Assumes nothing.
-use Prim.Native.Nat.{ℕ, zero, suc, _+_, _<_, _≤_}
-use mathlib.Core.Path.{_≡_, refl, sym, _∙_, ap, subst⁻¹}
+use Prim.Native.Nat.{ℕ, suc, _+_, _<_, _≤_}
+use mathlib.Core.Path.{_≡_, refl, subst⁻¹}
 use mathlib.Core.List.{List}
 use lib.ListN.{length}
-use native.Mathlib.Nat.{le-trans}
 use native.Mathlib.Omega.{arith}
 use Rattle.sheet.specs.Kind.{kinds}
-use Rattle.sheet.specs.Entries.{count, contents, entry, offsetOf, lengthOf, bodyAt, bodyEnd, startOf, reached, InBody}
+use Rattle.sheet.specs.Entries.{count, contents, entry, lengthOf, bodyAt, bodyEnd, startOf, reached, InBody}
 use Rattle.sheet.specs.Rules.{bodyDemands}
 use Rattle.sheet.proofs.Good.{Good}
 use Rattle.sheet.proofs.Rising.{Step, between, rising, once}
@@ -19,6 +18,7 @@ pub record Inside (s : List ℕ) (k i o n : ℕ) : Type 0 where
   pub from : bodyAt s k i ≤ o
   pub to : o + n ≤ bodyEnd s k i
 
+-- each of them lies in that body
 pub inside-at : {s : List ℕ} {k i o n : ℕ} → Inside s k i o n → (p : ℕ) → o ≤ p → p < o + n → InBody s k i p
 inside-at h p l m = record { kind = h .kind; below = h .below; from = omega (arith, h .from); to = omega (arith, h .to) }
 
@@ -27,7 +27,7 @@ pub end-is : (s : List ℕ) (k i : ℕ) → bodyEnd s k i ≡ bodyAt s k i + len
 unfolding bodyEnd bodyAt
 end-is s k i = refl
 
--- the bodies of a kind begin at the first, and go on from one to the next
+-- the bodies of a kind begin at the first, go on from one to the next, and end where those of the next kind begin
 module _ (s : List ℕ) (k : ℕ) where
   pub reached-first : reached s k 0 ≡ startOf s k
   unfolding reached
@@ -41,6 +41,7 @@ module _ (s : List ℕ) (k : ℕ) where
   unfolding reached startOf
   reached-last = refl
 
+-- the bodies begin where the contents end
 pub start-first : (s : List ℕ) → startOf s 0 ≡ contents s
 unfolding startOf
 start-first s = refl
@@ -51,12 +52,14 @@ module _ {ed : ℕ} {s : List ℕ} (g : Good ed s) where
   unfolding bodyDemands bodyAt
   starts k i hk hi = g .bodies k i hk hi .0
 
+  -- the ends of the bodies of a kind rise
   pub reached-up : (k : ℕ) → k < kinds → (i : ℕ) → i < count s k → reached s k i ≤ reached s k (suc i)
   reached-up k hk i hi = omega (arith, starts k i hk hi, end-is s k i, reached-next s k i)
 
   reached-rising : (k i j : ℕ) → k < kinds → i ≤ j → j ≤ count s k → reached s k i ≤ reached s k j
   reached-rising k i j hk = rising (reached s k) (count s k) (reached-up k hk) i j
 
+  -- and so do the starts of the kinds
   pub start-up : (k : ℕ) → k < kinds → startOf s k ≤ startOf s (suc k)
   start-up k hk =
       omega
@@ -66,6 +69,7 @@ module _ {ed : ℕ} {s : List ℕ} (g : Good ed s) where
   start-rising = rising (startOf s) kinds start-up
 
   module _ (k i : ℕ) (hk : k < kinds) (hi : i < count s k) where
+    -- a body lies among those of its kind
     pub from-start : startOf s k ≤ bodyAt s k i
     from-start =
         omega (arith, reached-first s k, starts k i hk hi, reached-rising k 0 i hk (omega arith) (omega arith))
@@ -85,6 +89,7 @@ module _ {ed : ℕ} {s : List ℕ} (g : Good ed s) where
     pub apart : (j : ℕ) → i < j → j < count s k → bodyEnd s k i ≤ bodyAt s k j
     apart j h l = omega (arith, reached-next s k i, starts k j hk l, reached-rising k (suc i) j hk h (omega arith))
 
+  -- a run inside a body lies within the sheet
   pub inside-within : {k i o n : ℕ} → Inside s k i o n → o + n ≤ length s
   inside-within {k} {i} h = omega (arith, h .to, within k i (h .kind) (h .below))
 

@@ -1,18 +1,17 @@
 -- The rows judge a sheet as the nine propositions do.
 -- Assumes nothing.
-use Prim.Native.Nat.{ℕ, zero, suc, _<_}
-use mathlib.Core.Path.{_≡_, refl, _∙_}
+use Prim.Native.Nat.{ℕ, suc, _<_}
+use mathlib.Core.Path.{_≡_}
 use mathlib.Core.List.{List, [], _∷_}
 use lib.ListN.{take, drop}
 use native.Mathlib.Omega.{arith}
 use Rattle.sheet.specs.Demand.{Demand, breach, Met}
 use Rattle.sheet.specs.First.{first, orElse}
-use Rattle.sheet.specs.Kind.{kinds, regions, properties, groups}
 use Rattle.sheet.specs.Entries.{count}
 use Rattle.sheet.specs.Rules.{frameDemands, zeroDemands, entryDemands, bodyDemands, endDemands, stepRule, passRule, walkRule, ruleIn}
 use Rattle.sheet.specs.Plain.{S1, S2, S3, S4, S5, S6, S7, S8, S9, Judged, breaks1, breaks2, breaks3, breaks4, breaks5, breaks6, breaks7, breaks8, breaks9, none}
 use Rattle.sheet.proofs.First.{orElse-some, orElse-assoc, orElse-zero}
-use Rattle.sheet.proofs.Good.{step-entry, step-body, entry-named}
+use Rattle.sheet.proofs.Good.{step-body}
 use Rattle.sheet.proofs.Says.{Says, holds, fails, says-yes, says-no, says-map, says-and, says-all, says-rows, breach-append}
 use Rattle.sheet.proofs.Ties.{Bodies, to6, from6, to7, from7, to8, from8, to9, from9}
 

@@ -1,17 +1,17 @@
 -- Every position of an accepted sheet is a byte of the head, of one entry or of one body.
 -- Assumes nothing.
-use Prim.Native.Nat.{ℕ, _+_, _<_, _≤_}
+use Prim.Native.Nat.{ℕ, _<_}
 use mathlib.Core.Path.{_≡_, refl}
 use mathlib.Core.List.{List}
 use lib.ListN.{length}
 use native.Mathlib.Decide.{decLt}
 use native.Mathlib.Omega.{arith}
 use Rattle.sheet.specs.Head as head
-use Rattle.sheet.specs.Entries.{contents, place, InBody}
+use Rattle.sheet.specs.Entries.{contents}
 use Rattle.sheet.specs.Places.{Position, inHead, inEntry, inBody}
 use Rattle.sheet.proofs.Good.{Good}
 use Rattle.sheet.proofs.Lie.{after-contents, disjoint, some-body}
-use Rattle.sheet.proofs.Standing.{InEntry, after-head, place-in, one-entry, some-entry}
+use Rattle.sheet.proofs.Standing.{after-head, place-in, one-entry, some-entry}
 
 -- what a position is, in numbers
 pub data Place : Type 0 where
@@ -19,6 +19,7 @@ pub data Place : Type 0 where
   ofEntry : ℕ → ℕ → ℕ → Place
   ofBody : ℕ → ℕ → Place
 
+-- and what one is
 abbrev pub placeOf : {s : List ℕ} {p : ℕ} → Position s p → Place
 placeOf (inHead h) = ofHead
 placeOf (inEntry k i j hk hi hj e) = ofEntry k i j

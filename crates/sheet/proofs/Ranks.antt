@@ -11,7 +11,6 @@ use native.Mathlib.Nat.{le-refl, add-zero, add-suc}
 use native.Mathlib.Omega.{arith}
 use borrow.Author.Tests.{eq-eqb, ne-eqb, eqb-true}
 use Rattle.octets.proofs.Numbers.{num-one}
-use Rattle.sheet.specs.Demand.{pick}
 use Rattle.sheet.specs.Kind.{properties}
 use Rattle.sheet.specs.Layout.{_of_}
 use Rattle.sheet.specs.Property as property
@@ -24,7 +23,7 @@ use Rattle.sheet.proofs.Standing.{entry-at}
 use Rattle.sheet.proofs.Seeks.{seek-bound, seek-passes, seek-hit, seek-none}
 
 module _ (s : List ℕ) (object : ℕ) where
-  -- one more property, of the object or of another
+  -- one more property, of the object, and of another
   pub rank-more : (i : ℕ) → objectAt s i ≡ object → rank s object (suc i) ≡ rank s object i + 1
   unfolding rank
   rank-more i e = rw (eq-eqb (objectAt s i) object e)

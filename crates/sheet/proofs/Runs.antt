@@ -1,13 +1,12 @@
 -- The run of bytes that an address range is: all of it stands in one region's body.
 -- Assumes nothing.
-use Prim.Native.Nat.{ℕ, zero, suc, _+_, _-_, _<_, _≤_}
-use mathlib.Core.Path.{_≡_, refl, sym, _∙_, ap, subst⁻¹}
+use Prim.Native.Nat.{ℕ, _+_, _-_, _<_, _≤_}
+use mathlib.Core.Path.{_≡_, refl, sym, _∙_, ap}
 use mathlib.Core.List.{List}
-use mathlib.Core.Bool.{Bool, true, false, _&&_, and-eq-true-iff}
+use mathlib.Core.Bool.{Bool, true, false, and-eq-true-iff}
 use lib.Dec.{leb, ltb}
 use lib.ListN.{length}
 use native.Mathlib.Decide.{decLt}
-use native.Mathlib.Nat.{le-trans}
 use native.Mathlib.Omega.{arith}
 use borrow.Author.Tests.{le-leb, leb-true, lt-ltb, le-ltb, ltb-true}
 use Rattle.sheet.specs.Demand.{pick}
@@ -17,12 +16,11 @@ use Rattle.sheet.specs.Region as region
 use Rattle.sheet.specs.Entries.{count, entry, keyOf, floor, bodyAt, bodyEnd, InBody}
 use Rattle.sheet.specs.Lookup.{seek, covers, runIn, rangeOf}
 use Rattle.sheet.specs.Places.{Stands}
-use Rattle.sheet.specs.declared.Run.{Run}
 use Rattle.sheet.specs.declared.Run.the-variants.{At, Nowhere}
 use Rattle.sheet.proofs.Good.{Good}
 use Rattle.sheet.proofs.Keys.{past-floor}
 use Rattle.sheet.proofs.Lie.{Inside, inside-within, disjoint}
-use Rattle.sheet.proofs.Seeks.{seek-bound, seek-passes, seek-hit, seek-none}
+use Rattle.sheet.proofs.Seeks.{seek-passes, seek-hit, seek-none}
 
 -- the n addresses from a on lie in region i of memory k
 pub record Covered (s : List ℕ) (k i a n : ℕ) : Type 0 where
@@ -30,13 +28,14 @@ pub record Covered (s : List ℕ) (k i a n : ℕ) : Type 0 where
   pub from : region.address of entry s k i ≤ a
   pub to : a + n ≤ region.address of entry s k i + region.length of entry s k i
 
--- the test says so
+-- the test says so of an entry
 pub covering : (e : List ℕ) (a n : ℕ) → covers e a n ≡ true → (region.address of e ≤ a) × (a + n ≤ region.address of e + region.length of e)
 unfolding covers
 covering e a n q =
     let p = and-eq-true-iff (leb (region.address of e) a) (leb (a + n) (region.address of e + region.length of e)) .0 q in
     (leb-true _ _ (p .0), leb-true _ _ (p .1))
 
+-- and passes for such a region
 pub covered : {s : List ℕ} {k i a n : ℕ} → Covered s k i a n → covers (entry s k i) a n ≡ true
 unfolding covers
 covered {s} {k} {i} {a} {n} c =
@@ -53,6 +52,7 @@ module _ (s : List ℕ) (k a n : ℕ) where
   sought : ℕ
   sought = seek (λ j. covers (entry s k j) a n) 0 (count s k)
 
+  -- the region that a run is of
   pub ranged : {o l : ℕ} → rangeOf s k a n ≡ At o l → Ranged s k a n o l
   unfolding rangeOf sought
   ranged {o} {l} e = go (ltb sought (count s k)) refl e

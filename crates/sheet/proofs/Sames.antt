@@ -1,11 +1,10 @@
 -- Two sheets that agree on what the rules read have the same entries at the same places, but for the counts.
 -- Assumes nothing.
-use Prim.Native.Nat.{ℕ, zero, suc, _+_, _*_, _<_, _≤_}
-use mathlib.Core.Path.{_≡_, refl, sym, _∙_, ap, ap₂}
+use Prim.Native.Nat.{ℕ, zero, suc, _+_, _<_, _≤_}
+use mathlib.Core.Path.{_≡_, refl, ap₂}
 use mathlib.Core.List.{List}
 use lib.ListN.{length, getD}
 use native.Mathlib.Omega.{arith}
-use Rattle.octets.specs.Bytes.{numAt}
 use Rattle.octets.proofs.Numbers.{num-same}
 use Rattle.sheet.specs.Kind.{kinds, regions, properties, groups}
 use Rattle.sheet.specs.Layout.{Field, _of_}
@@ -36,15 +35,19 @@ module _ (s s′ : List ℕ) (front : (p : ℕ) → p < head.serial .at → getD
   place-front k i = rw (base-front k)
 
 module _ {s s′ : List ℕ} (a : Agree s s′) where
+  -- a field of the head before the serial
   pub front-same : (f : Field) → f .at + f .width ≤ head.serial .at → f of s′ ≡ f of s
   front-same = field-front s s′ (a .front)
 
+  -- the number of entries of a kind
   pub count-same : (k : ℕ) → count s′ k ≡ count s k
   count-same = count-front s s′ (a .front)
 
+  -- where an entry stands
   pub place-same : (k i : ℕ) → place s′ k i ≡ place s k i
   place-same = place-front s s′ (a .front)
 
+  -- where the contents end
   pub contents-same : contents s′ ≡ contents s
   contents-same = base-front s s′ (a .front) kinds
 
@@ -56,18 +59,20 @@ module _ {s s′ : List ℕ} (a : Agree s s′) where
       num-same (entry s′ k i) (entry s k i) (f .at) (f .at) (f .width)
       (λ j l. a .fixed k i (f .at + j) hk hi (omega arith) (fx j l))
 
+  -- any field of a region, and of a group object
   pub region-same : (i : ℕ) (f : Field) → i < count s regions → f .at + f .width ≤ region.size → f of entry s′ regions i ≡ f of entry s regions i
   region-same i f h l = field-same regions i f (omega arith) h l (λ j m. omega arith)
 
   pub group-same : (i : ℕ) (f : Field) → i < count s groups → f .at + f .width ≤ group.size → f of entry s′ groups i ≡ f of entry s groups i
   group-same i f h l = field-same groups i f (omega arith) h l (λ j m. omega arith)
 
+  -- a field of a property but the count
   pub property-same :
       (i : ℕ) (f : Field) → i < count s properties → f .at + f .width ≤ property.size → ((j : ℕ) → j < f .width → Fixed properties (f .at + j))
       → f of entry s′ properties i ≡ f of entry s properties i
   property-same i f h l fx = field-same properties i f (omega arith) h l fx
 
-  -- what goes by the kind
+  -- the first word of an entry
   pub key-same : (i k : ℕ) → k < kinds → i < count s k → keyOf s′ k i ≡ keyOf s k i
   unfolding keyOf
   key-same i =
@@ -76,6 +81,7 @@ module _ {s s′ : List ℕ} (a : Agree s s′) where
       (λ h. property-same i property.key h (omega arith) (omega arith))
       (λ h. group-same i group.address h (omega arith))
 
+  -- what it leaves to the next
   pub after-same : (i k : ℕ) → k < kinds → i < count s k → floorAfter k (entry s′ k i) ≡ floorAfter k (entry s k i)
   after-same i =
       eachKind (λ (k : ℕ). i < count s k → floorAfter k (entry s′ k i) ≡ floorAfter k (entry s k i))
@@ -83,11 +89,13 @@ module _ {s s′ : List ℕ} (a : Agree s s′) where
       (λ h. rw (property-same i property.key h (omega arith) (omega arith)))
       (λ h. rw (group-same i group.address h (omega arith)))
 
+  -- what the entry before leaves to it
   pub floor-same : (k i : ℕ) → k < kinds → i < count s k → floor s′ k i ≡ floor s k i
   unfolding floor
   floor-same k zero hk hi = refl
   floor-same k (suc i) hk hi = after-same i k hk (omega arith)
 
+  -- where its body starts, and how long it is
   pub offset-same : (i k : ℕ) → k < kinds → i < count s k → offsetOf k (entry s′ k i) ≡ offsetOf k (entry s k i)
   offset-same i =
       eachKind (λ (k : ℕ). i < count s k → offsetOf k (entry s′ k i) ≡ offsetOf k (entry s k i))
@@ -102,7 +110,7 @@ module _ {s s′ : List ℕ} (a : Agree s s′) where
       (λ h. rw (property-same i property.element h (omega arith) (omega arith), property-same i property.maximum h (omega arith) (omega arith)))
       (λ h. rw (group-same i group.code h (omega arith)))
 
-  -- the bodies start and end at the same positions
+  -- where a body starts, and where it ends
   pub at-same : (k i : ℕ) → k < kinds → i < count s k → bodyAt s′ k i ≡ bodyAt s k i
   unfolding bodyAt
   at-same k i hk hi = offset-same i k hk hi
@@ -115,6 +123,7 @@ module _ {s s′ : List ℕ} (a : Agree s s′) where
   from-same k z zero hk hi = refl
   from-same k z (suc i) hk hi = end-same k i hk hi
 
+  -- where the bodies of a kind begin, and where the one before body i ended
   pub start-same : (k : ℕ) → k ≤ kinds → startOf s′ k ≡ startOf s k
   unfolding startOf
   start-same zero h = contents-same

@@ -8,20 +8,23 @@ use lib.Dec.{T, eqb, leb}
 use native.Mathlib.Decide.{decLt}
 use native.Mathlib.Omega.{arith}
 use borrow.Author.Tests.{eqb-true, leb-true}
-use Rattle.sheet.specs.Demand.{Demand, Order, test, Holds, Fails, breach, pick, Met}
+use Rattle.sheet.specs.Demand.{Demand, test, Holds, breach, pick, Met}
 use Rattle.sheet.specs.First.{first, orElse}
 use Rattle.sheet.proofs.Demands.{passed, failed, contrary, both, named}
 use Rattle.sheet.proofs.First.{orElse-some}
 
+-- r is 0 and P holds, or r is n and P does not
 pub data Says (n : ℕ) (P : Type 0) (r : ℕ) : Type 0 where
   holds : P → r ≡ 0 → Says n P r
   fails : (P → ⊥) → r ≡ n → Says n P r
 
 module _ {n r : ℕ} {P : Type 0} where
+  -- where P holds, it is 0
   pub says-yes : Says n P r → P → r ≡ 0
   says-yes (holds p e) h = e
   says-yes (fails p e) h = absurd (p h)
 
+  -- where P does not hold, it is n
   pub says-no : Says n P r → (P → ⊥) → r ≡ n
   says-no (holds p e) h = absurd (h p)
   says-no (fails p e) h = e
@@ -31,13 +34,14 @@ module _ {n r : ℕ} {P : Type 0} where
   says-map f g (holds p e) = holds (f p) e
   says-map f g (fails p e) = fails (λ q. p (g q)) e
 
--- the first of numbers, all of one rule
 module _ (n : ℕ) (pos : 0 < n) where
+  -- two propositions, one after the other
   pub says-and : {P Q : Type 0} {r t : ℕ} → Says n P r → Says n Q t → Says n (P × Q) (orElse r t)
   says-and (holds p e) (holds q f) = holds (p, q) (rw e f)
   says-and (holds p e) (fails q f) = fails (λ h. q (h .1)) (rw e f)
   says-and {r = r} {t = t} (fails p e) q = fails (λ h. p (h .0)) (orElse-some r t (λ z. omega arith) ∙ e)
 
+  -- a proposition of each of m numbers
   pub says-all :
       (P : ℕ → Type 0) (f : ℕ → ℕ) (m : ℕ) → ((i : ℕ) → i < m → Says n (P i) (f i)) → Says n ((i : ℕ) → i < m → P i) (first f m)
   unfolding first
@@ -57,6 +61,7 @@ module _ (n : ℕ) (pos : 0 < n) where
   ruled [] = true
   ruled (d ∷ ds) = both (eqb (d .rule) n) (ruled ds)
 
+  -- that all its rows hold
   pub says-rows : (ds : List Demand) → T (ruled ds) → Says n (Met ds) (breach ds)
   unfolding breach
   says-rows [] t = holds tt refl

@@ -17,7 +17,7 @@ use Rattle.sheet.specs.Plain.{S6, S7, S8, S9}
 use Rattle.sheet.proofs.ByKind.{eachKind}
 use Rattle.sheet.proofs.Untils.{until, until-only}
 
--- the demands of all entries, and of all bodies, of a kind
+-- the demands of all entries of a kind, and of all their bodies
 abbrev pub Entries : List ℕ → ℕ → Type 0
 Entries s k = (i : ℕ) → i < count s k → Met (entryDemands s k i)
 
@@ -25,6 +25,7 @@ abbrev pub Bodies : List ℕ → ℕ → Type 0
 Bodies s k = (i : ℕ) → i < count s k → Met (bodyDemands s k i)
 
 module _ (s : List ℕ) where
+  -- S6
   pub to6 : Entries s regions → S6 s
   unfolding entryDemands floor
   to6 m = record { each = λ i h. omega (arith, m i h); after = λ i h. omega (arith, m (suc i) h) }
@@ -34,6 +35,7 @@ module _ (s : List ℕ) where
   from6 m zero h = omega (arith, m .each 0 h)
   from6 m (suc i) h = omega (arith, m .each (suc i) h, m .after i h)
 
+  -- S7
   pub to7 : Entries s properties → S7 s
   unfolding entryDemands floor
   to7 m = record { each = λ i h. omega (arith, m i h); rising = λ i h. omega (arith, m (suc i) h) }
@@ -43,6 +45,7 @@ module _ (s : List ℕ) where
   from7 m zero h = omega (arith, m .each 0 h)
   from7 m (suc i) h = omega (arith, m .each (suc i) h, m .rising i h)
 
+  -- S8
   pub to8 : Entries s groups → S8 s
   unfolding entryDemands floor
   to8 m = record { each = λ i h. omega (arith, m i h); rising = λ i h. omega (arith, m (suc i) h) }
@@ -68,6 +71,7 @@ module _ (s : List ℕ) where
       go (yes l) = rw (lt-leb 1 (group.code of entry s groups i) l) (omega (arith, h (omega arith)))
       go (no l) = rw (le-leb 1 (group.code of entry s groups i) (omega arith)) (omega arith)
 
+  -- S9
   pub to9 : ((Bodies s 0 × Bodies s 1) × Bodies s 2) × Met (endDemands s) → S9 s
   unfolding bodyDemands reached bodyAt
   to9 m =

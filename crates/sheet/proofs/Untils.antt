@@ -1,4 +1,4 @@
--- Where the bodies of a kind begin is where those of the kinds before end.
+-- Where the bodies of the kinds before end.
 -- Assumes nothing.
 use Prim.Native.Nat.{ℕ, zero, suc}
 use mathlib.Core.Path.{_≡_, refl}
@@ -7,6 +7,7 @@ use Rattle.sheet.specs.Entries.{count, startOf, endFrom}
 use Rattle.sheet.specs.Plain.{Until, start, empty, filled}
 
 module _ (s : List ℕ) where
+  -- the bodies before those of a kind end where its bodies begin
   pub until : (k : ℕ) → Until s k (startOf s k)
   unfolding startOf
   until zero = start

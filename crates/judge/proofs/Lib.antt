@@ -1,0 +1,5 @@
+pub mod Walks
+pub mod GroupCases
+pub mod PropertyCases
+pub mod MemoryCases
+pub mod KeyCases
