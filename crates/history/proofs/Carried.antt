@@ -15,7 +15,7 @@ use Rattle.pdu.proofs.Outcomes.{reads-pdu}
 use Rattle.pdu.specs.declared.Parsed.the-variants.{Is}
 use Rattle.pdu.specs.declared.Pdu.{Pdu}
 use Rattle.pdu.specs.declared.Pdu.the-variants.{GroupValueResponse, GroupValueWrite, IndividualAddressWrite, SerialNumberWrite, PropertyValueWrite, MemoryWrite, MemoryBitWrite}
-use Rattle.history.specs.Keeps.{Octets}
+use Rattle.device.specs.Octets.{Octets}
 
 module _ (a : List ℕ) (small : Octets a) where
   carries : {p : Pdu} → readPdu a ≡ Is p → Carries a p

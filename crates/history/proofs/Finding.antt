@@ -22,7 +22,7 @@ use Rattle.sheet.proofs.Keys.{index-hit, index-key, key-is, key-parts}
 use Rattle.sheet.proofs.Runs.{Covered, covering, covered, region-once}
 use Rattle.history.specs.Location.{IsProperty}
 use Rattle.history.specs.Permit.{regionFor, mayRead, mayWrite, indexFor}
-use Rattle.history.specs.Keeps.{Octets}
+use Rattle.device.specs.Octets.{Octets}
 
 -- the region that the search gives has the whole range
 pub region-covers : (s : List ℕ) (y n : ℕ) → regionFor s y n < count s regions → Covered s regions (regionFor s y n) y n

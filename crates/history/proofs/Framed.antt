@@ -25,7 +25,7 @@ use Rattle.history.specs.Wish.{Wish, writeMemory, writeBits, writeProper
 use Rattle.history.specs.Permit.{every, regionFor, mayRead, mayWrite, indexFor, entryFor, clears, fills, allowed}
 use Rattle.history.proofs.Bools.{every-same}
 
--- a sheet agrees with itself, and with what agrees with one that agrees with it
+-- a sheet agrees with itself
 pub agree-refl : (s : List ℕ) → Agree s s
 agree-refl s =
     record {
@@ -39,29 +39,6 @@ agree-refl s =
       counts = λ i h. (λ l. l, λ l. l);
       six = λ i h c. (λ l. l, λ l. l);
     }
-
-pub agree-then : {f s t : List ℕ} → Agree f s → Agree s t → Agree f t
-agree-then {f} {s} {t} a b =
-    record {
-      long = b .long ∙ a .long;
-      front = λ p h. b .front p h ∙ a .front p h;
-      zero15 = b .zero15 ∙ a .zero15;
-      zero30 = b .zero30 ∙ a .zero30;
-      zero31 = b .zero31 ∙ a .zero31;
-      flags = (λ h. b .flags .0 (a .flags .0 h), λ h. a .flags .1 (b .flags .1 h));
-      fixed = λ k i j hk hi hj x. b .fixed k i j hk (there k i hi) hj x ∙ a .fixed k i j hk hi hj x;
-      counts = λ i h.
-          let m : property.maximum of entry s properties i ≡ property.maximum of entry f properties i = property-same a i property.maximum h (omega arith) (omega arith) in
-          let c = rw m at (b .counts i (there properties i h)) in
-          (λ l. c .0 (a .counts i h .0 l), λ l. a .counts i h .1 (c .1 l));
-      six = λ i h z.
-          let w : group.code of entry s groups i ≡ 0 = group-same a i group.code h (omega arith) ∙ z in
-          let c = rw (at-same a groups i (omega arith) h) at (b .six i (there groups i h) w) in
-          (λ l. c .0 (a .six i h z .0 l), λ l. a .six i h z .1 (c .1 l));
-    }
-  where
-    there : (k i : ℕ) → i < count f k → i < count s k
-    there k i h = omega (arith, count-same a k)
 
 module _ {f s : List ℕ} (a : Agree f s) where
   -- an entry of the one is an entry of the other

@@ -21,6 +21,7 @@ use Rattle.sheet.proofs.Sames.{count-same, group-same}
 use Rattle.sheet.proofs.Stores.{Fit}
 use Rattle.pdu.specs.declared.Pdu.{Pdu}
 use Rattle.pdu.proofs.Truths.{never}
+use Rattle.device.specs.Octets.{Octets}
 use Rattle.device.specs.Events.{Event, State}
 use Rattle.device.specs.Asked.{Asked, Reads, given}
 use Rattle.device.specs.Right.{Group, Brings, write, response, Flag}
@@ -29,7 +30,7 @@ use Rattle.history.specs.Wish as wish
 use Rattle.history.specs.Permit.{all, allowed}
 use Rattle.history.specs.History.{First, permitted}
 use Rattle.history.specs.Others.{programming, individual, groupByte, newValue}
-use Rattle.history.specs.Keeps.{Begins, Octets, Writing}
+use Rattle.history.specs.Keeps.{Begins, Writing}
 use Rattle.history.specs.Rightful.{asked}
 use Rattle.history.proofs.Bools.{all-at, must-fail}
 use Rattle.history.proofs.Carried.{write-value, response-value}

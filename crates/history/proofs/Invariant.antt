@@ -96,7 +96,7 @@ module _ {f : First} {h : List Event} {x : State} (inv : Inv f h x) where
     fine = good 1 (f .sheet) (b .accepted)
 
     pub now : Good 1 (x .sheet)
-    now = kept (inv .means .agree) fine
+    now = kept fine (inv .means .agree)
 
     pub now-accepted : ruleOf (x .sheet) ≡ 0
     now-accepted = accepted now

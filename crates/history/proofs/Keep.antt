@@ -7,15 +7,17 @@ use mathlib.Core.List.{List, [], _∷_}
 use native.Mathlib.Omega.{arith}
 use Rattle.sheet.specs.Layout.{_of_}
 use Rattle.sheet.specs.Head as head
+use Rattle.device.specs.Octets.{Octets}
 use Rattle.device.specs.Step.{Step}
 use Rattle.device.specs.Events.{Event, State, connect, disconnect, button, request, eventOf}
+use Rattle.device.proofs.Rightly.{right}
 use Rattle.history.specs.Location.{Location, Place}
 use Rattle.history.specs.Wish.{asks, brings}
 use Rattle.history.specs.Permit.{names, gives}
 use Rattle.history.specs.History.{First, content, permitted}
 use Rattle.history.specs.Others.{programming}
-use Rattle.history.specs.Keeps.{stateAfter, Kept, Octets, Begins, Heard, none, some, Keeps}
-use Rattle.history.specs.Rightful.{Rightful}
+use Rattle.history.specs.Keeps.{stateAfter, Kept, Begins, Heard, none, some, Keeps}
+use Rattle.history.specs.Rightful.{asked, Rightful}
 use Rattle.history.proofs.Invariant.{Inv, begin, connected, disconnected, button-pressed, now, now-accepted}
 use Rattle.history.proofs.Requests.{Done, contents-new}
 use Rattle.history.proofs.Steps.{due}
@@ -67,3 +69,18 @@ module _ (step : State → Event → Step) (rightful : Rightful step) (f : First
 -- DEMAND 3
 pub keeps-any : (step : State → Event → Step) → Rightful step → Keeps step
 keeps-any step rightful f h b k = kept-after step rightful f b h (holds-after step rightful f b h k)
+
+-- our device is one
+pub ours : Rightful eventOf
+unfolding eventOf
+ours =
+    record {
+      connects = λ x. refl;
+      disconnects = λ x. refl;
+      presses = λ x on. refl;
+      answers = λ x mode g a out s o. right (asked x mode g a out) s o;
+    }
+
+-- AND SO OUR DEVICE KEEPS WHAT IT WAS GIVEN
+pub keeps : Keeps eventOf
+keeps = keeps-any eventOf ours

@@ -16,6 +16,7 @@ use Rattle.sheet.specs.Head as head
 use Rattle.sheet.proofs.Stores.{key-store}
 use Rattle.pdu.specs.Write.{encoded}
 use Rattle.pdu.specs.declared.Pdu.the-variants.{AuthorizeRequest, KeyWrite}
+use Rattle.device.specs.Octets.{Octets}
 use Rattle.device.specs.Events.{Event, State, request}
 use Rattle.device.specs.Asked.{Asked, Reads, given}
 use Rattle.device.specs.Right.{KeyWritable, Grants, key0, key1, key2, other}
@@ -23,7 +24,7 @@ use Rattle.history.specs.Location.{Location, key}
 use Rattle.history.specs.Wish.{Wish, offerKey, writeKey, asks, brings}
 use Rattle.history.specs.Permit.{allowed, names, gives}
 use Rattle.history.specs.History.{First, keyIn, offered, level, content, permitted}
-use Rattle.history.specs.Keeps.{Begins, Octets}
+use Rattle.history.specs.Keeps.{Begins}
 use Rattle.history.specs.Rightful.{asked}
 use Rattle.history.proofs.Hearing.{asks-is}
 use Rattle.history.proofs.Invariant.{Inv, fine, now, means-as}

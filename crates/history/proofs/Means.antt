@@ -18,13 +18,13 @@ use Rattle.sheet.specs.Head as head
 use Rattle.sheet.specs.Entries.{count, bodyAt, bodyEnd, InBody}
 use Rattle.sheet.specs.Frame.{Agree}
 use Rattle.sheet.proofs.Good.{Good}
-use Rattle.sheet.proofs.Frames.{kept}
+use Rattle.sheet.proofs.Frames.{agree-trans, kept}
 use Rattle.sheet.proofs.Stores.{Fit, body-store, address-store, flags-store}
 use Rattle.sheet.proofs.Lie.{Inside, within, disjoint}
 use Rattle.sheet.proofs.Sames.{count-same, at-same, end-same}
 use Rattle.history.specs.Location.{Location, Place}
-use Rattle.history.specs.Keeps.{Still, Octets}
-use Rattle.history.proofs.Framed.{agree-then}
+use Rattle.device.specs.Octets.{Octets}
+use Rattle.history.specs.Keeps.{Still}
 use Rattle.history.proofs.Places.{no-group, place-after, past-contents}
 use Rattle.history.proofs.Octet.{octets-bytes, octets-splice}
 use Rattle.history.proofs.Stored.{Run, away, stored, spared}
@@ -48,7 +48,7 @@ one-byte v h = ap (λ (n : ℕ). n ∷ []) (let e : v ≡ v % 256 = omega arith 
 
 module _ {f : List ℕ} (g : Good 1 f) {c : Location → ℕ} {adr prog : ℕ} {grp : ℕ → ℕ → ℕ} {s : List ℕ} (m : Means f c adr prog grp s) where
   fine : Good 1 s
-  fine = kept (m .agree) g
+  fine = kept g (m .agree)
 
   pub long : 32 ≤ length s
   long = omega (arith, fine .framed)
@@ -59,7 +59,7 @@ module _ {f : List ℕ} (g : Good 1 f) {c : Location → ℕ} {adr prog : ℕ} {
       Agree s (splice s o ds) → Octets ds → Means f (λ x. cond (named x) (given x) (c x)) adr prog grp (splice s o ds)
   store-run named given o ds room run a b =
       record {
-        agree = agree-then (m .agree) a;
+        agree = agree-trans (m .agree) a;
         octets = octets-splice s o ds room (m .octets) b;
         holds = λ x p h.
             stored g s named given o ds room run x p h ∙ ap (λ (n : ℕ). cond (named x) (given x) n) (m .holds x p h);
@@ -82,7 +82,7 @@ module _ {f : List ℕ} (g : Good 1 f) {c : Location → ℕ} {adr prog : ℕ} {
       (v : ℕ) → v ≤ 3 → v / 2 % 2 ≡ head.verify f → Means f c adr (v % 2) grp (splice s (head.flags .at) (bytesOf 1 v))
   store-flags v low e =
       record {
-        agree = agree-then (m .agree) (subst (λ (ds : List ℕ). Agree s (splice s 14 ds)) (one-byte v low) (flags-store fine v low));
+        agree = agree-trans (m .agree) (subst (λ (ds : List ℕ). Agree s (splice s 14 ds)) (one-byte v low) (flags-store fine v low));
         octets = octets-splice s 14 ds room (m .octets) (octets-bytes 1 v);
         holds = λ x p h. late p (omega (arith, place-after g h)) ∙ m .holds x p h;
         still = λ p h. off p (h .flags) ∙ m .still p h;
@@ -114,7 +114,7 @@ module _ {f : List ℕ} (g : Good 1 f) {c : Location → ℕ} {adr prog : ℕ} {
   pub store-address : (v : ℕ) → v < 65536 → Means f c v prog grp (splice s (head.address .at) (bytesOf 2 v))
   store-address v low =
       record {
-        agree = agree-then (m .agree) (address-store fine ds size);
+        agree = agree-trans (m .agree) (address-store fine ds size);
         octets = octets-splice s 16 ds room (m .octets) (octets-bytes 2 v);
         holds = λ x p h. late p (place-after g h) ∙ m .holds x p h;
         still = λ p h. off p (h .address) ∙ m .still p h;
@@ -153,7 +153,7 @@ module _ {f : List ℕ} (g : Good 1 f) {c : Location → ℕ} {adr prog : ℕ} {
         Fit s groups i ds → Octets ds → Means f c adr prog new (splice s (bodyAt f groups i) ds)
     store-group new here there fit b =
         record {
-          agree = agree-then (m .agree) (body-store fine groups i o ds lies fit);
+          agree = agree-trans (m .agree) (body-store fine groups i o ds lies fit);
           octets = octets-splice s o ds room (m .octets) b;
           holds = λ x p h. off p (λ k. no-group g h k) ∙ m .holds x p h;
           still = λ p h. off p (h .group i) ∙ m .still p h;

@@ -17,6 +17,7 @@ use Rattle.sheet.proofs.Sames.{region-same}
 use Rattle.sheet.proofs.Stores.{body-store}
 use Rattle.sheet.proofs.Runs.{Covered}
 use Rattle.pdu.specs.declared.Pdu.the-variants.{MemoryWrite, MemoryBitWrite}
+use Rattle.device.specs.Octets.{Octets}
 use Rattle.device.specs.Events.{Event, State}
 use Rattle.device.specs.Carry.{build, bitAt}
 use Rattle.device.specs.Asked.{Asked, Reads, given}
@@ -26,7 +27,7 @@ use Rattle.history.specs.Wish.{writeMemory, writeBits}
 use Rattle.history.specs.Permit.{names, gives}
 use Rattle.history.specs.History.{First, content}
 use Rattle.history.specs.Others.{programming, individual, groupByte}
-use Rattle.history.specs.Keeps.{Begins, Octets}
+use Rattle.history.specs.Keeps.{Begins}
 use Rattle.history.specs.Rightful.{asked}
 use Rattle.history.proofs.Bit.{length-build, build-at}
 use Rattle.history.proofs.Carried.{memory-data}

@@ -14,8 +14,8 @@ use Rattle.octets.specs.Splice.{splice}
 use Rattle.octets.proofs.Splices.{splice-in, splice-outside}
 use Rattle.pdu.specs.Read.{dataAt, dataOf}
 use Rattle.pdu.specs.declared.Pdu.{Pdu}
+use Rattle.device.specs.Octets.{Octets}
 use Rattle.device.specs.Carry.{build, bitAt}
-use Rattle.history.specs.Keeps.{Octets}
 
 pub octets-none : Octets []
 octets-none i = omega arith

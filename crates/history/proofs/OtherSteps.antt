@@ -16,6 +16,7 @@ use Rattle.sheet.specs.Head as head
 use Rattle.pdu.specs.declared.Pdu.{Pdu}
 use Rattle.pdu.specs.declared.Pdu.the-variants.{IndividualAddressWrite, SerialNumberWrite, Restart}
 use Rattle.pdu.proofs.Truths.{never}
+use Rattle.device.specs.Octets.{Octets}
 use Rattle.device.specs.Events.{Event, State, request}
 use Rattle.device.specs.Asked.{Asked, Reads}
 use Rattle.device.specs.Right.{Programming}
@@ -23,7 +24,7 @@ use Rattle.history.specs.Wish.{Wish, nothing, address, addressFor, resta
 use Rattle.history.specs.Permit.{allowed}
 use Rattle.history.specs.History.{First, isRestart, offered, opened, level, content, permitted}
 use Rattle.history.specs.Others.{programming, individual, groupByte, newAddress, newValue}
-use Rattle.history.specs.Keeps.{Begins, Octets, Still, Writing}
+use Rattle.history.specs.Keeps.{Begins, Still, Writing}
 use Rattle.history.specs.Rightful.{asked}
 use Rattle.history.proofs.Carried.{address-field, serial-address}
 use Rattle.history.proofs.Hearing.{asks-is}

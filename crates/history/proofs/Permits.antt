@@ -19,13 +19,13 @@ use Rattle.sheet.specs.Entries.{count, entry}
 use Rattle.sheet.proofs.Good.{Good}
 use Rattle.sheet.proofs.Runs.{Covered}
 use Rattle.pdu.proofs.Truths.{and-is}
+use Rattle.device.specs.Octets.{Octets}
 use Rattle.device.specs.Asked.{Asked, Acts}
 use Rattle.device.specs.Right as right
 use Rattle.device.specs.Right.{MemoryWritable, BitsWritable, InRegion, Writable, Elements, WriteAllowed, KeyWritable}
 use Rattle.history.specs.Location.{IsProperty}
 use Rattle.history.specs.Wish.{writeMemory, writeBits, writeProperty, writeKey}
 use Rattle.history.specs.Permit.{all, every, levelFor, regionFor, mayRead, mayWrite, indexFor, entryFor, clears, fills, allowed}
-use Rattle.history.specs.Keeps.{Octets}
 use Rattle.history.proofs.Bools.{all-at, every-at, every-all, or-left, or-right, or-cases}
 use Rattle.history.proofs.Finding.{region-covers, covered-byte, region-hit, may-read, may-write, property-hit, property-found}
 use Rattle.history.proofs.Levels.{acts-once, acts-so}

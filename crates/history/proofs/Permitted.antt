@@ -11,13 +11,13 @@ use Rattle.sheet.proofs.Good.{Good, good}
 use Rattle.pdu.specs.declared.Pdu.{Pdu}
 use Rattle.pdu.specs.declared.Pdu.the-variants.{GroupValueRead, GroupValueResponse, GroupValueWrite, IndividualAddressWrite, IndividualAddressRead, SerialNumberRead, SerialNumberWrite, DeviceDescriptorRead, PropertyValueRead, PropertyValueWrite, PropertyDescriptionRead, MemoryRead, MemoryWrite, MemoryBitWrite, AuthorizeRequest, KeyWrite, Restart, IndividualAddressResponse, SerialNumberResponse, DeviceDescriptorResponse, PropertyValueResponse, PropertyDescriptionResponse, MemoryResponse, AuthorizeResponse, KeyResponse}
 use Rattle.pdu.proofs.Truths.{never, and-is}
+use Rattle.device.specs.Octets.{Octets}
 use Rattle.device.specs.Events.{State, request}
 use Rattle.device.specs.Asked.{Asked, Reads, given}
 use Rattle.device.specs.Right.{MemoryWritable, BitsWritable, WriteAllowed, KeyWritable}
 use Rattle.history.specs.Wish.{Wish, nothing, wishOf, asks, brings}
 use Rattle.history.specs.Permit.{levelFor, heard, allowed}
 use Rattle.history.specs.History.{permits}
-use Rattle.history.specs.Keeps.{Octets}
 use Rattle.history.specs.Rightful.{asked}
 use Rattle.history.proofs.Carried.{property-id}
 use Rattle.history.proofs.Hearing.{asks-is, brings-is, heard-reads, reads-heard}

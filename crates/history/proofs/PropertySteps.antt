@@ -22,9 +22,11 @@ use Rattle.sheet.proofs.Frames.{kept}
 use Rattle.sheet.proofs.Lie.{Inside, inside-within}
 use Rattle.sheet.proofs.Sames.{count-same, place-same, property-same, at-same}
 use Rattle.sheet.proofs.Standing.{field-at, place-in}
-use Rattle.sheet.proofs.Stores.{body-store, count-store}
+use Rattle.sheet.proofs.Counts.{count-store}
+use Rattle.sheet.proofs.Stores.{body-store}
 use Rattle.pdu.specs.declared.Pdu.{Pdu}
 use Rattle.pdu.specs.declared.Pdu.the-variants.{PropertyValueWrite}
+use Rattle.device.specs.Octets.{Octets}
 use Rattle.device.specs.Events.{Event, State}
 use Rattle.device.specs.Asked.{Asked, Reads, given}
 use Rattle.device.specs.Right as right
@@ -34,7 +36,7 @@ use Rattle.history.specs.Wish.{Wish, writeProperty}
 use Rattle.history.specs.Permit.{entryFor, countIn, names, gives}
 use Rattle.history.specs.History.{First, content}
 use Rattle.history.specs.Others.{programming, individual, groupByte}
-use Rattle.history.specs.Keeps.{Begins, Octets}
+use Rattle.history.specs.Keeps.{Begins}
 use Rattle.history.specs.Rightful.{asked}
 use Rattle.history.proofs.Bools.{and-false}
 use Rattle.history.proofs.Carried.{property-id}
@@ -107,7 +109,7 @@ module _ (f : First) (b : Begins f) (h : List Event) (x : State) (inv : Inv f h 
         Holds (λ y. cond (onCounters (names (f .sheet) (writeProperty object id n z)) y) (Given object id n z y) (k y))
         (splice s (place (x .sheet) properties i + property.count .at) (bytesOf 2 c))
     count-stored n z c k s m low same =
-        let now-good = kept (m .agree) (fine inv b) in
+        let now-good = kept (fine inv b) (m .agree) in
         let there : i < count s properties = omega (arith, is .there, count-same (m .agree) properties) in
         let l : c ≤ property.maximum of entry s properties i =
         rw (property-same (m .agree) i property.maximum (is .there) (omega arith) (omega arith)) low in

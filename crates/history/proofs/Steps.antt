@@ -9,6 +9,7 @@ use native.Mathlib.Omega.{arith}
 use Rattle.sheet.specs.Rules.{ruleOf}
 use Rattle.pdu.specs.declared.Pdu.{Pdu}
 use Rattle.pdu.specs.declared.Pdu.the-variants.{GroupValueRead, IndividualAddressRead, SerialNumberRead, DeviceDescriptorRead, PropertyValueRead, PropertyDescriptionRead, MemoryRead}
+use Rattle.device.specs.Octets.{Octets}
 use Rattle.device.specs.Step.{Step}
 use Rattle.device.specs.Events.{Event, State}
 use Rattle.device.specs.Asked.{Asked, Reads}
@@ -17,7 +18,7 @@ use Rattle.device.specs.Right.{Right}
 use Rattle.history.specs.Wish.{asks}
 use Rattle.history.specs.Permit.{heard}
 use Rattle.history.specs.History.{First, opened}
-use Rattle.history.specs.Keeps.{Begins, Octets, Writing}
+use Rattle.history.specs.Keeps.{Begins, Writing}
 use Rattle.history.specs.Rightful.{asked}
 use Rattle.history.proofs.Hearing.{Idle, asks-is}
 use Rattle.history.proofs.Invariant.{Inv, now-accepted}

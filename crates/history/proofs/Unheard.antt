@@ -16,11 +16,11 @@ use Rattle.pdu.specs.declared.Pdu.{Pdu}
 use Rattle.pdu.specs.declared.Parsed.the-variants.{Refused}
 use Rattle.pdu.proofs.Truths.{never}
 use Rattle.pdu.proofs.Codes.{has-is, apart}
+use Rattle.device.specs.Octets.{Octets}
 use Rattle.device.specs.Events.{State}
 use Rattle.device.specs.Asked.{Asked, Takes, Names, Served, Refusal, noRoom, badSheet, badLength, badMode, noSession, Ready, Reads}
 use Rattle.history.specs.Wish.{nothing, asks}
 use Rattle.history.specs.Permit.{heard}
-use Rattle.history.specs.Keeps.{Octets}
 use Rattle.history.specs.Rightful.{asked}
 use Rattle.history.proofs.Bools.{must-fail}
 use Rattle.history.proofs.Carried.{code-has}

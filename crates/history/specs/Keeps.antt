@@ -12,6 +12,7 @@ use Rattle.sheet.specs.Head as head
 use Rattle.sheet.specs.Rules.{ruleOf}
 use Rattle.sheet.specs.Entries.{InBody, bodyAt}
 use Rattle.judge.specs.declared.Session.{Session}
+use Rattle.device.specs.Octets.{Octets}
 use Rattle.device.specs.Step.{Step}
 use Rattle.device.specs.Events.{Event, State, request}
 use Rattle.history.specs.Location.{Location, Place}
@@ -51,10 +52,6 @@ pub record Still (s : List ℕ) (p : ℕ) : Type 0 where
   pub group : (i : ℕ) → InBody s groups i p → ⊥
   pub address : (p < head.address .at) ⊎ (head.address .at + head.address .width ≤ p)
   pub flags : p ≡ head.flags .at → ⊥
-
--- every byte is below 256
-abbrev pub Octets : List ℕ → Type 0
-Octets s = (i : ℕ) → getD s i 0 < 256
 
 -- what holds after a history
 pub record Kept (step : State → Event → Step) (f : First) (h : List Event) : Type 0 where

@@ -5,11 +5,11 @@ use mathlib.Core.Path.{_≡_}
 use mathlib.Core.Bool.{Bool}
 use mathlib.Core.List.{List}
 use lib.ListN.{length}
+use Rattle.device.specs.Octets.{Octets}
 use Rattle.device.specs.Step.{Step}
 use Rattle.device.specs.Events.{Event, State, connect, disconnect, button, request, eventOf}
 use Rattle.device.specs.Asked.{Asked}
 use Rattle.device.specs.Right.{Right}
-use Rattle.history.specs.Keeps.{Octets}
 
 -- a request as it meets a state
 abbrev pub asked : State → ℕ → ℕ → List ℕ → List ℕ → Asked
