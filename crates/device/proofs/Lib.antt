@@ -21,3 +21,4 @@ pub mod Shapes
 pub mod Demand1
 pub mod Typing
 pub mod Answers
+pub mod Cases
