@@ -16,7 +16,7 @@ use Rattle.history.specs.Wish.{asks, brings}
 use Rattle.history.specs.Permit.{names, gives}
 use Rattle.history.specs.History.{First, content, permitted}
 use Rattle.history.specs.Others.{programming}
-use Rattle.history.specs.Keeps.{stateAfter, Kept, Begins, Heard, none, some, Keeps}
+use Rattle.history.specs.Keeps.{stateAfter, Kept, Begins, BringsOctets, Heard, Keeps}
 use Rattle.history.specs.Rightful.{asked, Rightful}
 use Rattle.history.proofs.Invariant.{Inv, begin, connected, disconnected, button-pressed, now, now-accepted}
 use Rattle.history.proofs.Requests.{Done, contents-new}
@@ -33,18 +33,18 @@ module _ (step : State → Event → Step) (rightful : Rightful step) (f : First
         due f b h X inv mode g a out octets (rightful .answers X mode g a out (inv .means .octets) octets)
 
     after :
-        (e : Event) → ((mode g : ℕ) (a out : List ℕ) → e ≡ request mode g a out → Octets a) → Inv f (e ∷ h) (stateAfter step f (e ∷ h))
+        (e : Event) → BringsOctets e → Inv f (e ∷ h) (stateAfter step f (e ∷ h))
     unfolding stateAfter eventOf
     after connect o = rw (rightful .connects X) (connected inv)
     after disconnect o = rw (rightful .disconnects X) (disconnected inv)
     after (button on) o = rw (rightful .presses X on) (button-pressed inv b on)
-    after (request mode g a out) o = requested mode g a out (o mode g a out refl) .next
+    after (request mode g a out) o = requested mode g a out o .next
 
   -- THE INVARIANT AFTER EVERY HISTORY
   holds-after : (h : List Event) → Heard h → Inv f h (stateAfter step f h)
   unfolding stateAfter
-  holds-after [] none = begin f b
-  holds-after (e ∷ h) (some o k) = after h (holds-after h k) e o
+  holds-after [] k = begin f b
+  holds-after (e ∷ h) k = after h (holds-after h (k .1)) e (k .0)
 
   kept-after : (h : List Event) → Inv f h (stateAfter step f h) → Kept step f h
   kept-after h inv =

@@ -25,3 +25,4 @@ pub mod OtherSteps
 pub mod GroupSteps
 pub mod Steps
 pub mod Keep
+pub mod Refuted

@@ -14,7 +14,7 @@ use Rattle.sheet.specs.Entries.{InBody, bodyAt}
 use Rattle.judge.specs.declared.Session.{Session}
 use Rattle.device.specs.Octets.{Octets}
 use Rattle.device.specs.Step.{Step}
-use Rattle.device.specs.Events.{Event, State, request}
+use Rattle.device.specs.Events.{Event, State, connect, disconnect, button, request}
 use Rattle.history.specs.Location.{Location, Place}
 use Rattle.history.specs.Wish.{Wish, writeMemory, writeBits, writeProperty, writeKey, offerKey, restart, address, addressFor, group, nothing, asks, brings}
 use Rattle.history.specs.Permit.{names, gives}
@@ -87,9 +87,15 @@ pub record Begins (f : First) : Type 0 where
   pub closed : f .session .opened ≡ false
 
 -- the requests of a history bring bytes
-pub data Heard : List Event → Type 0 where
-  none : Heard []
-  some : {e : Event} {h : List Event} → ((mode g : ℕ) (a out : List ℕ) → e ≡ request mode g a out → Octets a) → Heard h → Heard (e ∷ h)
+abbrev pub BringsOctets : Event → Type 0
+BringsOctets connect = Unit {0}
+BringsOctets disconnect = Unit {0}
+BringsOctets (button on) = Unit {0}
+BringsOctets (request mode g a out) = Octets a
+
+abbrev pub Heard : List Event → Type 0
+Heard [] = Unit {0}
+Heard (e ∷ h) = BringsOctets e × Heard h
 
 -- DEMAND 3: from an accepted sheet and a closed session, after every history
 abbrev pub Keeps : (State → Event → Step) → Type 0

@@ -6,3 +6,4 @@ pub mod History
 pub mod Others
 pub mod Keeps
 pub mod Rightful
+pub mod Wrong
