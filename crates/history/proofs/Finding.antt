@@ -1,11 +1,9 @@
 -- The region of an address range, and the property of an object and id: the searches find the one that there is.
 -- Assumes nothing.
-use Prim.Native.Nat.{ℕ, _+_, _*_, _/_, _%_, _<_, _≤_}
-use mathlib.Core.Path.{_≡_, refl, sym, ap, _∙_}
-use mathlib.Core.Bool.{Bool, true, false, _&&_}
+use Prim.Native.Nat.{ℕ, _+_, _*_, _/_, _%_, _<_}
+use mathlib.Core.Path.{_≡_}
 use mathlib.Core.List.{List}
-use lib.Dec.{ltb, leb}
-use lib.ListN.{getD}
+use lib.Dec.{leb}
 use native.Mathlib.Omega.{arith}
 use borrow.Author.Tests.{lt-ltb}
 use Rattle.octets.proofs.Numbers.{num-one}
@@ -14,7 +12,7 @@ use Rattle.sheet.specs.Layout.{_of_}
 use Rattle.sheet.specs.Region as region
 use Rattle.sheet.specs.Property as property
 use Rattle.sheet.specs.Entries.{count, place, entry, keyOf}
-use Rattle.sheet.specs.Lookup.{seek, covers, indexOf}
+use Rattle.sheet.specs.Lookup.{covers}
 use Rattle.sheet.proofs.Good.{Good}
 use Rattle.sheet.proofs.Standing.{entry-at}
 use Rattle.sheet.proofs.Seeks.{seek-hit, seek-passes}

@@ -1,28 +1,27 @@
 -- What stays the same while the sheet changes: entries, their places, and so what is found and what is allowed.
 -- Assumes nothing.
-use Prim.Native.Nat.{ℕ, _+_, _*_, _/_, _%_, _<_, _≤_}
-use mathlib.Core.Path.{_≡_, refl, sym, ap, subst, _∙_}
-use mathlib.Core.Bool.{Bool, true, false, _&&_, _||_}
-use mathlib.Core.List.{List, [], _∷_}
+use Prim.Native.Nat.{ℕ, _+_, _*_, _/_, _%_, _<_}
+use mathlib.Core.Path.{_≡_, refl, sym, ap, _∙_}
+use mathlib.Core.Bool.{Bool, true, _&&_, _||_}
+use mathlib.Core.List.{List}
 use lib.Dec.{ltb, leb, eqb}
 use native.Mathlib.Decide.{decLt}
 use native.Mathlib.Omega.{arith}
 use borrow.Author.Tests.{le-ltb}
-use Rattle.sheet.specs.Kind.{kinds, regions, properties, groups}
+use Rattle.sheet.specs.Kind.{regions, properties}
 use Rattle.sheet.specs.Layout.{_of_}
 use Rattle.sheet.specs.Region as region
 use Rattle.sheet.specs.Property as property
-use Rattle.sheet.specs.Group as group
-use Rattle.sheet.specs.Entries.{count, entry, bodyAt}
+use Rattle.sheet.specs.Entries.{count, entry}
 use Rattle.sheet.specs.Lookup.{seek, covers}
 use Rattle.sheet.specs.Frame.{Agree}
-use Rattle.sheet.proofs.Sames.{count-same, region-same, property-same, group-same, at-same}
+use Rattle.sheet.proofs.Sames.{count-same, region-same, property-same}
 use Rattle.sheet.proofs.Seeks.{seek-same}
 use Rattle.sheet.proofs.Finds.{index-same}
 use Rattle.sheet.proofs.Runs.{Covered}
 use Rattle.history.specs.Location.{IsProperty}
 use Rattle.history.specs.Wish.{Wish, writeMemory, writeBits, writeProperty, writeKey, offerKey, restart, address, addressFor, group as groupWish, nothing}
-use Rattle.history.specs.Permit.{every, regionFor, mayRead, mayWrite, indexFor, entryFor, clears, fills, allowed}
+use Rattle.history.specs.Permit.{regionFor, mayRead, mayWrite, indexFor, entryFor, clears, fills, allowed}
 use Rattle.history.proofs.Bools.{every-same}
 
 -- a sheet agrees with itself

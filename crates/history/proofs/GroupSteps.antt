@@ -1,7 +1,7 @@
 -- Group values that arrive: stored, or not.
 -- Assumes nothing.
-use Prim.Native.Nat.{ℕ, zero, suc, _+_, _/_, _%_, _<_, _≤_, max}
-use mathlib.Core.Path.{_≡_, refl, sym, ap, ap₂, subst, _∙_}
+use Prim.Native.Nat.{ℕ, zero, suc, _/_, _%_, _<_, _≤_, max}
+use mathlib.Core.Path.{_≡_, refl, sym, ap, subst, _∙_}
 use mathlib.Core.Logic.{_↔_}
 use mathlib.Core.Bool.{Bool, true, false, cond}
 use mathlib.Core.List.{List, [], _∷_}
@@ -25,11 +25,11 @@ use Rattle.device.specs.Octets.{Octets}
 use Rattle.device.specs.Events.{Event, State}
 use Rattle.device.specs.Asked.{Asked, Reads, given}
 use Rattle.device.specs.Right.{Group, Brings, write, response, Flag}
-use Rattle.history.specs.Wish.{Wish, nothing, wishOf, asks, brings}
+use Rattle.history.specs.Wish.{Wish, wishOf, asks}
 use Rattle.history.specs.Wish as wish
 use Rattle.history.specs.Permit.{all, allowed}
 use Rattle.history.specs.History.{First, permitted}
-use Rattle.history.specs.Others.{programming, individual, groupByte, newValue}
+use Rattle.history.specs.Others.{groupByte, newValue}
 use Rattle.history.specs.Keeps.{Begins, Writing}
 use Rattle.history.specs.Rightful.{asked}
 use Rattle.history.proofs.Bools.{all-at, must-fail}
@@ -37,9 +37,9 @@ use Rattle.history.proofs.Carried.{write-value, response-value}
 use Rattle.history.proofs.Framed.{below-same}
 use Rattle.history.proofs.Hearing.{asks-is, brings-is}
 use Rattle.history.proofs.Invariant.{Inv, fine, now, means-as}
-use Rattle.history.proofs.Means.{Means, store-group}
+use Rattle.history.proofs.Means.{store-group}
 use Rattle.history.proofs.Octet.{octets-bytes, octets-data}
-use Rattle.history.proofs.Requests.{E, Ok, Same, Done, opens-same, levels-same, programs-same, addresses-same, values-new, contents-same, forbidden, left}
+use Rattle.history.proofs.Requests.{E, Ok, Done, opens-same, levels-same, programs-same, addresses-same, values-new, contents-same, forbidden, left}
 use Rattle.history.proofs.Writes.{heard-now}
 
 -- what a PDU brings is what it asks for

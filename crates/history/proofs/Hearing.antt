@@ -1,14 +1,13 @@
 -- A request is heard exactly if it is ready, reads, and its mode takes it.
 -- Assumes nothing.
-use Prim.Native.Nat.{ℕ, _≤_}
-use mathlib.Core.Path.{_≡_, refl, sym, ap, _∙_}
+use Prim.Native.Nat.{ℕ}
+use mathlib.Core.Path.{_≡_, refl, _∙_}
 use mathlib.Core.Logic.{_⊎_, inl, inr, _↔_}
 use mathlib.Core.Bool.{Bool, true, false, _||_, not}
 use mathlib.Core.List.{List, [], _∷_}
 use lib.Dec.{eqb, leb}
 use lib.ListN.{length}
-use native.Mathlib.Omega.{arith}
-use borrow.Author.Tests.{leb-true, le-leb, eqb-true, eq-eqb, ne-eqb}
+use borrow.Author.Tests.{leb-true, le-leb, eqb-true, eq-eqb}
 use Rattle.sheet.specs.Rules.{ruleOf}
 use Rattle.pdu.specs.Read.{readPdu, dataOf}
 use Rattle.pdu.specs.Pdus.{serviceOf}
@@ -19,9 +18,9 @@ use Rattle.pdu.specs.declared.Pdu.the-variants.{GroupValueRead, GroupValueRespo
 use Rattle.pdu.proofs.Truths.{never, decided}
 use Rattle.judge.specs.Session.{connected}
 use Rattle.device.specs.Events.{State}
-use Rattle.device.specs.Asked.{Asked, Takes, Ready, Reads, given}
+use Rattle.device.specs.Asked.{Takes, Ready, Reads}
 use Rattle.history.specs.Wish.{Wish, wishOf, nothing, asks, brings, taken}
-use Rattle.history.specs.Permit.{all, heard}
+use Rattle.history.specs.Permit.{heard}
 use Rattle.history.specs.Rightful.{asked}
 use Rattle.history.proofs.Bools.{all-at, or-left, or-right, or-cases}
 

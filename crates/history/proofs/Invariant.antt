@@ -1,28 +1,23 @@
 -- What holds of the device after every history, at the beginning and over the events that are no requests.
 -- Assumes nothing.
-use Prim.Native.Nat.{ℕ, _+_, _*_, _-_, _/_, _%_, _<_, _≤_}
-use mathlib.Core.Path.{_≡_, refl, sym, ap, subst, _∙_}
-use mathlib.Core.Bool.{Bool, true, false, cond}
+use Prim.Native.Nat.{ℕ, _+_, _-_, _/_, _%_, _<_, _≤_}
+use mathlib.Core.Path.{_≡_, refl, _∙_}
+use mathlib.Core.Bool.{Bool, true, false}
 use mathlib.Core.List.{List, [], _∷_}
-use lib.Dec.{eqb}
-use lib.ListN.{length, getD}
+use lib.ListN.{getD}
 use native.Mathlib.Omega.{arith}
 use borrow.Author.Tests.{eq-eqb}
-use Rattle.octets.specs.Bytes.{bytesOf}
-use Rattle.octets.specs.Splice.{splice}
-use Rattle.sheet.specs.Kind.{regions, properties, groups}
+use Rattle.sheet.specs.Kind.{groups}
 use Rattle.sheet.specs.Layout.{_of_}
 use Rattle.sheet.specs.Head as head
-use Rattle.sheet.specs.Region as region
-use Rattle.sheet.specs.Property as property
-use Rattle.sheet.specs.Entries.{count, entry, bodyAt, InBody}
+use Rattle.sheet.specs.Entries.{count, bodyAt}
 use Rattle.sheet.specs.Rules.{ruleOf}
 use Rattle.sheet.proofs.Good.{Good, good, accepted}
 use Rattle.sheet.proofs.Frames.{kept}
 use Rattle.judge.specs.Judge.{isAccepted}
-use Rattle.device.specs.Events.{Event, State, connect, disconnect, button, request, connectOf, disconnectOf, bit, pressed, buttonSheet}
+use Rattle.device.specs.Events.{Event, State, connect, disconnect, button, connectOf, disconnectOf, bit, pressed, buttonSheet}
 use Rattle.history.specs.Location.{Location, memory, body, counter, key, Place, ofMemory, ofBody, ofCounter, ofKey}
-use Rattle.history.specs.Permit.{regionFor, indexFor, entryFor}
+use Rattle.history.specs.Permit.{entryFor}
 use Rattle.history.specs.History.{First, firstOf, opened, level, content}
 use Rattle.history.specs.Others.{programming, individual, groupByte}
 use Rattle.history.specs.Keeps.{Begins}

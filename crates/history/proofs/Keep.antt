@@ -1,20 +1,17 @@
 -- DEMAND 3, for any device whose requests are answered as they are due.
 -- Assumes nothing.
-use Prim.Native.Nat.{ℕ, _+_, _*_, _/_, _%_, _≤_}
-use mathlib.Core.Path.{_≡_, refl, sym, ap, _∙_}
-use mathlib.Core.Bool.{Bool, true, false, cond}
+use Prim.Native.Nat.{ℕ}
+use mathlib.Core.Path.{refl, ap, _∙_}
+use mathlib.Core.Bool.{Bool, cond}
 use mathlib.Core.List.{List, [], _∷_}
 use native.Mathlib.Omega.{arith}
-use Rattle.sheet.specs.Layout.{_of_}
-use Rattle.sheet.specs.Head as head
 use Rattle.device.specs.Octets.{Octets}
 use Rattle.device.specs.Step.{Step}
 use Rattle.device.specs.Events.{Event, State, connect, disconnect, button, request, eventOf}
 use Rattle.device.proofs.Rightly.{right}
-use Rattle.history.specs.Location.{Location, Place}
 use Rattle.history.specs.Wish.{asks, brings}
-use Rattle.history.specs.Permit.{names, gives}
-use Rattle.history.specs.History.{First, content, permitted}
+use Rattle.history.specs.Permit.{gives}
+use Rattle.history.specs.History.{First, content}
 use Rattle.history.specs.Others.{programming}
 use Rattle.history.specs.Keeps.{stateAfter, Kept, Begins, BringsOctets, Heard, Keeps}
 use Rattle.history.specs.Rightful.{asked, Rightful}

@@ -1,10 +1,9 @@
 -- Key writes, carried out and denied; a key offered.
 -- Assumes nothing.
 use Prim.Native.Nat.{ℕ, _+_, _*_, _<_, _≤_}
-use mathlib.Core.Path.{_≡_, refl, sym, ap, ap₂, subst, _∙_}
-use mathlib.Core.Bool.{Bool, true, false, cond}
+use mathlib.Core.Path.{_≡_, refl, sym, _∙_}
+use mathlib.Core.Bool.{false}
 use mathlib.Core.List.{List, _∷_}
-use lib.Dec.{eqb}
 use lib.ListN.{length, getD}
 use native.Mathlib.Omega.{arith}
 use borrow.Author.Tests.{eq-eqb, ne-eqb}
@@ -14,22 +13,20 @@ use Rattle.octets.proofs.Numbers.{length-bytes}
 use Rattle.sheet.specs.Layout.{_of_}
 use Rattle.sheet.specs.Head as head
 use Rattle.sheet.proofs.Stores.{key-store}
-use Rattle.pdu.specs.Write.{encoded}
 use Rattle.pdu.specs.declared.Pdu.the-variants.{AuthorizeRequest, KeyWrite}
-use Rattle.device.specs.Octets.{Octets}
 use Rattle.device.specs.Events.{Event, State, request}
 use Rattle.device.specs.Asked.{Asked, Reads, given}
 use Rattle.device.specs.Right.{KeyWritable, Grants, key0, key1, key2, other}
-use Rattle.history.specs.Location.{Location, key}
-use Rattle.history.specs.Wish.{Wish, offerKey, writeKey, asks, brings}
-use Rattle.history.specs.Permit.{allowed, names, gives}
+use Rattle.history.specs.Location.{key}
+use Rattle.history.specs.Wish.{Wish, offerKey, asks}
+use Rattle.history.specs.Permit.{allowed}
 use Rattle.history.specs.History.{First, keyIn, offered, level, content, permitted}
 use Rattle.history.specs.Keeps.{Begins}
 use Rattle.history.specs.Rightful.{asked}
 use Rattle.history.proofs.Hearing.{asks-is}
 use Rattle.history.proofs.Invariant.{Inv, fine, now, means-as}
 use Rattle.history.proofs.KeyRun.{key-place, key-run}
-use Rattle.history.proofs.Means.{Means, long, store-run}
+use Rattle.history.proofs.Means.{long, store-run}
 use Rattle.history.proofs.Octet.{octets-bytes}
 use Rattle.history.proofs.Permits.{key-is}
 use Rattle.history.proofs.Requests.{Done, opens-same, levels-new, programs-same, addresses-same, values-same, contents-same, forbidden}

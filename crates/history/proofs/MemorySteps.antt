@@ -1,15 +1,13 @@
 -- Memory writes and bit writes, carried out and denied.
 -- Assumes nothing.
 use Prim.Native.Nat.{ℕ, _+_, _-_, _<_, _≤_}
-use mathlib.Core.Path.{_≡_, refl, sym, ap, ap₂, subst, _∙_}
-use mathlib.Core.Bool.{Bool, true, false, cond}
+use mathlib.Core.Path.{_≡_, sym, ap, ap₂, _∙_}
+use mathlib.Core.Bool.{Bool, cond}
 use mathlib.Core.List.{List}
 use lib.ListN.{length, getD}
-use lib.Bits.{bitAnd, bitXor}
 use native.Mathlib.Omega.{arith}
 use Rattle.octets.specs.Splice.{splice}
 use Rattle.sheet.specs.Kind.{regions}
-use Rattle.sheet.specs.Layout.{_of_}
 use Rattle.sheet.specs.Region as region
 use Rattle.sheet.specs.Entries.{entry, bodyAt, bodyEnd}
 use Rattle.sheet.proofs.Lie.{Inside, inside-within}
@@ -38,8 +36,7 @@ use Rattle.history.proofs.MemoryRun.{NamesRange, memory-range, bits-ran
 use Rattle.history.proofs.Octet.{octets-data, octets-bits}
 use Rattle.history.proofs.Permits.{memory-is, bits-is}
 use Rattle.history.proofs.Requests.{Done}
-use Rattle.history.proofs.Stored.{Run}
-use Rattle.history.proofs.Writes.{X, L, carried-out, denied}
+use Rattle.history.proofs.Writes.{carried-out, denied}
 
 module _ (f : First) (b : Begins f) (h : List Event) (x : State) (inv : Inv f h x) (mode g : ℕ) (a out : List ℕ) (octets : Octets a) where
   abbrev R : Asked

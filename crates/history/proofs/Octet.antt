@@ -1,12 +1,12 @@
 -- Bytes stay below 256: in numbers, in data, in what bit writes give, and in a sheet after a store.
 -- Assumes nothing.
 use Prim.Native.Nat.{ℕ, zero, suc, _+_, _-_, _/_, _%_, _<_, _≤_}
-use mathlib.Core.Path.{_≡_, refl, sym, ap, _∙_}
+use mathlib.Core.Path.{_≡_, ap, _∙_}
 use mathlib.Core.Logic.{inl, inr}
 use mathlib.Core.List.{List, [], _∷_, _++_}
 use lib.ListN.{length, getD}
 use lib.Seq.{getD-drop}
-use lib.Bits.{bitAnd, bitXor, and-lt, xor-lt}
+use lib.Bits.{and-lt, xor-lt}
 use native.Mathlib.Decide.{decLt}
 use native.Mathlib.Omega.{arith}
 use Rattle.octets.specs.Bytes.{bytesOf}

@@ -1,11 +1,10 @@
 -- The individual address, and a restart.
 -- Assumes nothing.
-use Prim.Native.Nat.{ℕ, _+_, _-_, _/_, _%_, _<_, _≤_}
-use mathlib.Core.Path.{_≡_, refl, sym, ap, _∙_}
-use mathlib.Core.Logic.{inl, inr}
-use mathlib.Core.Bool.{Bool, true, false, cond}
+use Prim.Native.Nat.{ℕ, _+_, _-_, _/_, _%_, _<_}
+use mathlib.Core.Path.{_≡_, refl, sym, _∙_}
+use mathlib.Core.Logic.{inl}
+use mathlib.Core.Bool.{true, false}
 use mathlib.Core.List.{List, _∷_}
-use lib.Dec.{eqb}
 use native.Mathlib.Omega.{arith}
 use borrow.Author.Tests.{eq-eqb, ne-eqb}
 use Rattle.octets.specs.Bytes.{bytesOf}
@@ -17,19 +16,19 @@ use Rattle.pdu.specs.declared.Pdu.{Pdu}
 use Rattle.pdu.specs.declared.Pdu.the-variants.{IndividualAddressWrite, SerialNumberWrite, Restart}
 use Rattle.pdu.proofs.Truths.{never}
 use Rattle.device.specs.Octets.{Octets}
-use Rattle.device.specs.Events.{Event, State, request}
+use Rattle.device.specs.Events.{Event, State}
 use Rattle.device.specs.Asked.{Asked, Reads}
 use Rattle.device.specs.Right.{Programming}
 use Rattle.history.specs.Wish.{Wish, nothing, address, addressFor, restart, wishOf, asks}
 use Rattle.history.specs.Permit.{allowed}
-use Rattle.history.specs.History.{First, isRestart, offered, opened, level, content, permitted}
-use Rattle.history.specs.Others.{programming, individual, groupByte, newAddress, newValue}
+use Rattle.history.specs.History.{First, isRestart, offered, opened, level, permitted}
+use Rattle.history.specs.Others.{programming, individual, newAddress, newValue}
 use Rattle.history.specs.Keeps.{Begins, Still, Writing}
 use Rattle.history.specs.Rightful.{asked}
 use Rattle.history.proofs.Carried.{address-field, serial-address}
 use Rattle.history.proofs.Hearing.{asks-is}
 use Rattle.history.proofs.Invariant.{Inv, fine, now, means-as}
-use Rattle.history.proofs.Means.{Means, store-flags, store-address}
+use Rattle.history.proofs.Means.{store-flags, store-address}
 use Rattle.history.proofs.Places.{no-head, past-contents}
 use Rattle.history.proofs.Requests.{E, Ok, Done, opens-same, opens-new, levels-same, levels-new, programs-same, programs-new, addresses-same, addresses-new, values-same, contents-same, forbidden, left}
 use Rattle.history.proofs.Writes.{heard-now}

@@ -1,9 +1,9 @@
 -- A write is permitted exactly if the plain propositions of its service hold.
 -- Assumes nothing.
 use Prim.Native.Nat.{ℕ, _+_, _*_, _-_, _/_, _%_, _<_, _≤_}
-use mathlib.Core.Path.{_≡_, refl, sym, ap, subst, _∙_}
+use mathlib.Core.Path.{_≡_, sym, _∙_}
 use mathlib.Core.Logic.{_↔_, _⊎_, inl, inr}
-use mathlib.Core.Bool.{Bool, true, false, _&&_, _||_}
+use mathlib.Core.Bool.{Bool, true, _&&_, _||_}
 use mathlib.Core.List.{List, [], _∷_}
 use lib.Dec.{ltb, leb, eqb}
 use lib.ListN.{length}
@@ -20,7 +20,7 @@ use Rattle.sheet.proofs.Good.{Good}
 use Rattle.sheet.proofs.Runs.{Covered}
 use Rattle.pdu.proofs.Truths.{and-is}
 use Rattle.device.specs.Octets.{Octets}
-use Rattle.device.specs.Asked.{Asked, Acts}
+use Rattle.device.specs.Asked.{Asked}
 use Rattle.device.specs.Right as right
 use Rattle.device.specs.Right.{MemoryWritable, BitsWritable, InRegion, Writable, Elements, WriteAllowed, KeyWritable}
 use Rattle.history.specs.Location.{IsProperty}

@@ -1,9 +1,9 @@
 -- PERMITTED, as a test of the history, and as the propositions of the services.
 -- Assumes nothing.
 use Prim.Native.Nat.{ℕ}
-use mathlib.Core.Path.{_≡_, refl, sym, ap, _∙_}
+use mathlib.Core.Path.{_≡_}
 use mathlib.Core.Logic.{_↔_}
-use mathlib.Core.Bool.{Bool, true, false, _&&_}
+use mathlib.Core.Bool.{Bool, true, _&&_}
 use mathlib.Core.List.{List}
 use native.Mathlib.Omega.{arith}
 use Rattle.sheet.specs.Rules.{ruleOf}
@@ -15,7 +15,7 @@ use Rattle.device.specs.Octets.{Octets}
 use Rattle.device.specs.Events.{State, request}
 use Rattle.device.specs.Asked.{Asked, Reads, given}
 use Rattle.device.specs.Right.{MemoryWritable, BitsWritable, WriteAllowed, KeyWritable}
-use Rattle.history.specs.Wish.{Wish, nothing, wishOf, asks, brings}
+use Rattle.history.specs.Wish.{nothing, wishOf, asks, brings}
 use Rattle.history.specs.Permit.{levelFor, heard, allowed}
 use Rattle.history.specs.History.{permits}
 use Rattle.history.specs.Rightful.{asked}

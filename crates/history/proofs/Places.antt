@@ -7,12 +7,11 @@ use mathlib.Core.List.{List}
 use lib.ListN.{length}
 use native.Mathlib.Decide.{decLt, decLe}
 use native.Mathlib.Omega.{arith}
-use Rattle.sheet.specs.Kind.{kinds, regions, properties, groups}
+use Rattle.sheet.specs.Kind.{regions, properties, groups}
 use Rattle.sheet.specs.Layout.{_of_}
-use Rattle.sheet.specs.Head as head
 use Rattle.sheet.specs.Region as region
 use Rattle.sheet.specs.Property as property
-use Rattle.sheet.specs.Entries.{count, size, place, contents, entry, keyOf, bodyAt, bodyEnd, InBody}
+use Rattle.sheet.specs.Entries.{count, place, contents, entry, keyOf, bodyAt, bodyEnd, InBody}
 use Rattle.sheet.specs.Places.{Position, inHead, inEntry, inBody, Stands}
 use Rattle.sheet.specs.Frame.{Fixed}
 use Rattle.sheet.specs.Rules.{ruleOf}
@@ -22,8 +21,8 @@ use Rattle.sheet.proofs.Standing.{InEntry, after-head, place-in, one-entry}
 use Rattle.sheet.proofs.Positions.{position}
 use Rattle.sheet.proofs.Keys.{key-once, key-is}
 use Rattle.sheet.proofs.Runs.{stands-in, stands-once, stands-back}
-use Rattle.history.specs.Location.{Location, memory, body, counter, key, IsProperty, Place, ofMemory, ofBody, ofCounter, ofKey}
-use Rattle.history.specs.Sort.{Sort, isLocation, isGroup, isField, Being, location, groupBody, field, beingOf}
+use Rattle.history.specs.Location.{Location, memory, key, IsProperty, Place, ofMemory, ofBody, ofCounter, ofKey}
+use Rattle.history.specs.Sort.{Sort, isLocation, isGroup, isField, location, groupBody, beingOf}
 
 -- byte j of a property's body lies in it, and byte j of its count in its entry
 pub body-in :

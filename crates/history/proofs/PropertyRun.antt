@@ -1,8 +1,8 @@
 -- The elements of a property, and its count, are runs of locations.
 -- Assumes nothing.
 use Prim.Native.Nat.{ℕ, _+_, _*_, _-_, _<_, _≤_}
-use mathlib.Core.Path.{_≡_, refl, sym, ap, _∙_}
-use mathlib.Core.Bool.{Bool, true, false, _&&_, cond}
+use mathlib.Core.Path.{_≡_, refl, ap}
+use mathlib.Core.Bool.{Bool, true, false, _&&_}
 use mathlib.Core.List.{List, [], _∷_}
 use lib.Dec.{eqb, ltb, leb}
 use lib.ListN.{length, getD}
@@ -17,7 +17,7 @@ use Rattle.sheet.proofs.Good.{Good}
 use Rattle.pdu.proofs.Truths.{never, and-is}
 use Rattle.history.specs.Location.{Location, memory, body, counter, key, IsProperty, Place, ofBody, ofCounter}
 use Rattle.history.specs.Wish.{writeProperty}
-use Rattle.history.specs.Permit.{all, indexFor, entryFor, start, names}
+use Rattle.history.specs.Permit.{all, entryFor, start, names}
 use Rattle.history.proofs.Bools.{all-at}
 use Rattle.history.proofs.Finding.{property-hit}
 use Rattle.history.proofs.Places.{property-once}

@@ -1,8 +1,8 @@
 -- Property writes, carried out and denied.
 -- Assumes nothing.
 use Prim.Native.Nat.{ℕ, zero, suc, _+_, _*_, _-_, _<_, _≤_, max}
-use mathlib.Core.Path.{_≡_, refl, sym, ap, ap₂, subst, _∙_}
-use mathlib.Core.Bool.{Bool, true, false, cond, _&&_}
+use mathlib.Core.Path.{_≡_, refl, ap, _∙_}
+use mathlib.Core.Bool.{cond}
 use mathlib.Core.List.{List, [], _∷_}
 use lib.Dec.{eqb}
 use lib.ListN.{length, getD}
@@ -17,10 +17,9 @@ use Rattle.sheet.specs.Property as property
 use Rattle.sheet.specs.Entries.{count, place, entry, bodyAt, bodyEnd}
 use Rattle.sheet.specs.Frame.{Agree}
 use Rattle.sheet.specs.Rules.{entryDemands}
-use Rattle.sheet.proofs.Good.{Good}
 use Rattle.sheet.proofs.Frames.{kept}
 use Rattle.sheet.proofs.Lie.{Inside, inside-within}
-use Rattle.sheet.proofs.Sames.{count-same, place-same, property-same, at-same}
+use Rattle.sheet.proofs.Sames.{count-same, place-same, property-same}
 use Rattle.sheet.proofs.Standing.{field-at, place-in}
 use Rattle.sheet.proofs.Counts.{count-store}
 use Rattle.sheet.proofs.Stores.{body-store}
@@ -32,15 +31,15 @@ use Rattle.device.specs.Asked.{Asked, Reads, given}
 use Rattle.device.specs.Right as right
 use Rattle.device.specs.Right.{Elements, elementAt, Writable, WriteAllowed}
 use Rattle.history.specs.Location.{Location, memory, body, counter, key, IsProperty}
-use Rattle.history.specs.Wish.{Wish, writeProperty}
-use Rattle.history.specs.Permit.{entryFor, countIn, names, gives}
+use Rattle.history.specs.Wish.{writeProperty}
+use Rattle.history.specs.Permit.{countIn, names, gives}
 use Rattle.history.specs.History.{First, content}
 use Rattle.history.specs.Others.{programming, individual, groupByte}
 use Rattle.history.specs.Keeps.{Begins}
 use Rattle.history.specs.Rightful.{asked}
 use Rattle.history.proofs.Bools.{and-false}
 use Rattle.history.proofs.Carried.{property-id}
-use Rattle.history.proofs.Framed.{is-same, below-same}
+use Rattle.history.proofs.Framed.{is-same}
 use Rattle.history.proofs.Invariant.{Inv, fine, now, means-as}
 use Rattle.history.proofs.Means.{Means, store-run}
 use Rattle.history.proofs.Octet.{octets-bytes, octets-data}

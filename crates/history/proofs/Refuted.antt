@@ -1,11 +1,10 @@
 -- What demand 3 rules out: each of the five wrong devices, on a short run, by computation.
 -- Assumes nothing.
-use Prim.Native.Nat.{ℕ, zero, suc, _+_, _-_, _<_, _≤_}
-use mathlib.Core.Path.{_≡_, refl, sym, ap, subst, _∙_}
-use mathlib.Core.Bool.{Bool, true, false, _&&_}
+use Prim.Native.Nat.{ℕ, zero, suc, _+_, _<_}
+use mathlib.Core.Path.{_≡_, refl}
+use mathlib.Core.Bool.{Bool, true, _&&_}
 use mathlib.Core.List.{List, [], _∷_}
 use lib.Dec.{ltb}
-use lib.ListN.{getD}
 use native.Mathlib.Omega.{arith}
 use borrow.Author.Tests.{ltb-true}
 use Rattle.octets.specs.Bytes.{numAt, bytesOf}
@@ -13,7 +12,7 @@ use Rattle.octets.specs.Splice.{splice}
 use Rattle.sheet.specs.Demand.{breach}
 use Rattle.sheet.specs.First.{first}
 use Rattle.sheet.specs.Entries.{entry, keyOf, floor, bodyAt, bodyEnd, startOf, reached, sixBits}
-use Rattle.sheet.specs.Rules.{entryDemands, bodyDemands, stepRule, passRule, walkRule, ruleIn, ruleOf}
+use Rattle.sheet.specs.Rules.{entryDemands, bodyDemands, stepRule, passRule, walkRule, ruleIn}
 use Rattle.sheet.specs.Lookup.{seek, indexOf, covers, rangeOf}
 use Rattle.pdu.specs.Tests.{isBelow, isAtMost, isEqual, both, either}
 use Rattle.pdu.specs.Table.{find}
@@ -29,7 +28,7 @@ use Rattle.judge.specs.Keys.{grantOf, authorizeOf}
 use Rattle.judge.specs.Judge.{isAccepted, reachedOf, isShut, judgeOf}
 use Rattle.device.specs.Octets.{Octets}
 use Rattle.device.specs.Step.{stepBy, stepOf}
-use Rattle.device.specs.Events.{Event, connect, request, eventOf}
+use Rattle.device.specs.Events.{request, eventOf}
 use Rattle.device.specs.Marked.{sample}
 use Rattle.history.specs.Location.{memory, counter, Place, ofMemory, ofCounter}
 use Rattle.history.specs.Wish.{asks, brings}
@@ -51,7 +50,7 @@ octets-by (x ∷ s) e (suc i) = octets-by s (and-is (ltb x 256) (below s) .0 e .
 -- the sample is accepted
 begins : Begins fresh
 unfolding sample ruleIn walkRule passRule stepRule bodyDemands entryDemands entry keyOf floor bodyAt bodyEnd startOf reached sixBits first breach numAt
-begins = record { octets = octets-by sample refl; accepted = refl; closed = refl }
+begins = record { octets = octets-by sample refl; accepted = refl }
 
 -- the runs bring bytes
 heard-authorized : Heard authorized

@@ -9,10 +9,9 @@ use lib.ListN.{length, getD}
 use native.Mathlib.Decide.{decLt}
 use native.Mathlib.Omega.{arith}
 use Rattle.octets.specs.Splice.{splice}
-use Rattle.octets.proofs.Splices.{splice-in, splice-outside, splice-at}
+use Rattle.octets.proofs.Splices.{splice-in, splice-outside}
 use Rattle.sheet.proofs.Good.{Good}
 use Rattle.history.specs.Location.{Location, Place}
-use Rattle.history.proofs.Bools.{must-fail}
 use Rattle.history.proofs.Places.{location-once}
 
 -- the run ds from o on, in a sheet with the places of s: byte i is that of the location `at i`, and no other location is named

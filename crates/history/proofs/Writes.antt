@@ -1,18 +1,16 @@
 -- A write that is heard, carried out or denied.
 -- Assumes nothing.
 use Prim.Native.Nat.{ℕ, _<_, _≤_}
-use mathlib.Core.Path.{_≡_, refl, sym, ap, subst, _∙_}
-use mathlib.Core.Bool.{Bool, true, false, cond}
+use mathlib.Core.Path.{_≡_, sym, ap, subst, _∙_}
+use mathlib.Core.Bool.{Bool, true, cond}
 use mathlib.Core.List.{List}
 use native.Mathlib.Omega.{arith}
 use Rattle.pdu.specs.declared.Pdu.{Pdu}
-use Rattle.device.specs.Step.{Step}
 use Rattle.device.specs.Events.{Event, State}
 use Rattle.device.specs.Asked.{Asked, Reads, given}
-use Rattle.history.specs.Location.{Location}
 use Rattle.history.specs.Wish.{Wish, nothing, wishOf, asks, brings}
 use Rattle.history.specs.Permit.{levelFor, heard, allowed, names, gives}
-use Rattle.history.specs.History.{First, level, opened, content}
+use Rattle.history.specs.History.{First, level, content}
 use Rattle.history.specs.Others.{programming, individual, groupByte}
 use Rattle.history.specs.Keeps.{Begins, Writing}
 use Rattle.history.specs.Rightful.{asked}
@@ -21,7 +19,7 @@ use Rattle.history.proofs.Framed.{allowed-same}
 use Rattle.history.proofs.Hearing.{asks-is, brings-is, reads-heard}
 use Rattle.history.proofs.Invariant.{Inv, now-accepted}
 use Rattle.history.proofs.Means.{Means}
-use Rattle.history.proofs.Requests.{E, Ok, Done, left, wrote, writing-same, forbidden, permitted-so}
+use Rattle.history.proofs.Requests.{Ok, Done, left, wrote, writing-same, forbidden, permitted-so}
 
 module _ (f : First) (b : Begins f) (h : List Event) (x : State) (inv : Inv f h x) (mode g : ℕ) (a out : List ℕ) where
   abbrev pub X : Asked

@@ -1,9 +1,9 @@
 -- DEMAND 3 as a predicate over any step function.
 -- Assumes nothing.
-use Prim.Native.Nat.{ℕ, _+_, _*_, _/_, _%_, _<_, _≤_}
+use Prim.Native.Nat.{ℕ, _+_, _*_, _<_, _≤_}
 use mathlib.Core.Path.{_≡_}
 use mathlib.Core.List.{List, [], _∷_}
-use mathlib.Core.Bool.{Bool, true, false}
+use mathlib.Core.Bool.{true}
 use mathlib.Core.Logic.{_⊎_}
 use lib.ListN.{length, getD}
 use Rattle.sheet.specs.Kind.{groups}
@@ -11,7 +11,6 @@ use Rattle.sheet.specs.Layout.{_of_}
 use Rattle.sheet.specs.Head as head
 use Rattle.sheet.specs.Rules.{ruleOf}
 use Rattle.sheet.specs.Entries.{InBody, bodyAt}
-use Rattle.judge.specs.declared.Session.{Session}
 use Rattle.device.specs.Octets.{Octets}
 use Rattle.device.specs.Step.{Step}
 use Rattle.device.specs.Events.{Event, State, connect, disconnect, button, request}
@@ -84,7 +83,6 @@ pub record Kept (step : State → Event → Step) (f : First) (h : List Event) :
 pub record Begins (f : First) : Type 0 where
   pub octets : Octets (f .sheet)
   pub accepted : ruleOf (f .sheet) ≡ 0
-  pub closed : f .session .opened ≡ false
 
 -- the requests of a history bring bytes
 abbrev pub BringsOctets : Event → Type 0
@@ -97,6 +95,6 @@ abbrev pub Heard : List Event → Type 0
 Heard [] = Unit {0}
 Heard (e ∷ h) = BringsOctets e × Heard h
 
--- DEMAND 3: from an accepted sheet and a closed session, after every history
+-- DEMAND 3: from an accepted sheet and any session, after every history
 abbrev pub Keeps : (State → Event → Step) → Type 0
 Keeps step = (f : First) (h : List Event) → Begins f → Heard h → Kept step f h
