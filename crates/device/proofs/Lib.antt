@@ -27,3 +27,4 @@ pub mod Answers
 pub mod Pressing
 pub mod Room
 pub mod Requests
+pub mod Cases

@@ -6,3 +6,4 @@ pub mod Right
 pub mod Safe
 pub mod Octets
 pub mod Replies
+pub mod Marked
