@@ -4,13 +4,16 @@ use mathlib.Core.Path.{_≡_, refl, sym, ap, _∙_}
 use mathlib.Core.List.{List, [], _∷_, _++_, append-assoc, append-nil}
 use mathlib.Core.Logic.{_⊎_, inl, inr}
 use mathlib.Core.Bool.{Bool, true, false, cond}
-use Prim.Native.Nat.{ℕ, _+_, _-_, _≤_, _<_}
+use Prim.Native.Nat.{ℕ, suc, _+_, _-_, _^_, _≤_, _<_}
 use native.Mathlib.Omega.{arith}
 use native.Mathlib.Nat.{add-zero, add-assoc}
 use native.Mathlib.Decide.{decLt}
-use lib.ListN.{length, take, drop, getD, length-append, length-take, length-drop, take-append-drop, List·getD-append}
-use lib.Seq.{getD-take, getD-drop, getD-append-add, length-take-le, take-at, drop-append-add, drop-drop, ext-getD}
+use native.Mathlib.Numerals.{add-one}
+use lib.ListN.{length, take, drop, getD, set, length-append, length-take, length-drop, take-append-drop, List·getD-append}
+use lib.Seq.{set-split, append-snoc, getD-take, getD-drop, getD-append-add, length-take-le, take-at, drop-append-add, drop-drop, ext-getD}
+use Rattle.octets.specs.Bytes.{numAt, bytesOf}
 use Rattle.octets.specs.Splice.{splice}
+use Rattle.octets.proofs.Numbers.{num-same, num-back}
 
 -- nothing replaced
 pub splice-none : (s : List ℕ) (o : ℕ) → splice s o [] ≡ s
@@ -87,3 +90,27 @@ splice-more s o xs ys h =
 pub splice-front : (s ds : List ℕ) → splice s 0 ds ≡ ds ++ drop (length ds) s
 unfolding splice
 splice-front s ds = rw (native.Mathlib.Nat.zero-add (length ds))
+
+-- one byte stored
+pub splice-one : (s : List ℕ) (i x : ℕ) → i < length s → set s i x ≡ splice s i (x ∷ [])
+unfolding splice
+splice-one s i x h = rw (add-one i) (set-split s i x h ∙ sym (append-snoc (take i s) x (drop (suc i) s)))
+
+-- a number spliced in is read back
+pub splice-num :
+    (s : List ℕ) (o w x : ℕ) → o + w ≤ length s → x < 256 ^ w → numAt (splice s o (bytesOf w x)) o w ≡ x
+unfolding splice
+splice-num s o w x h l =
+    let e : length (take o s) ≡ o = length-take-le o s (omega arith) in
+    ap (λ (t : List ℕ). numAt t o w) (append-assoc (take o s) (bytesOf w x) (drop (o + length (bytesOf w x)) s))
+    ∙ ap (λ (n : ℕ). numAt (take o s ++ (bytesOf w x ++ drop (o + length (bytesOf w x)) s)) n w) (sym e)
+    ∙ num-back w x (take o s) (drop (o + length (bytesOf w x)) s) l
+
+-- a number that no byte of the run is part of stays
+pub splice-num-outside :
+    (s : List ℕ) (o : ℕ) (ds : List ℕ) → o + length ds ≤ length s → (p w : ℕ) → (p + w ≤ o) ⊎ (o + length ds ≤ p) →
+    numAt (splice s o ds) p w ≡ numAt s p w
+splice-num-outside s o ds h p w (inl k) =
+    num-same (splice s o ds) s p p w (λ i l. splice-below s o ds h (p + i) (omega arith))
+splice-num-outside s o ds h p w (inr k) =
+    num-same (splice s o ds) s p p w (λ i l. splice-above s o ds h (p + i) (omega arith))

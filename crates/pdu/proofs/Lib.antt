@@ -16,3 +16,4 @@ pub mod Back
 pub mod Kept
 pub mod Again
 pub mod Vectors
+pub mod Readings

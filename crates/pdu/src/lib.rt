@@ -2,7 +2,7 @@
 ghost use mathlib.Core.Path.{_≡_};
 ghost use Rattle.pdu.specs.Table.{serviceAt};
 ghost use Rattle.pdu.specs.Rules.{codeOf};
-ghost use Rattle.pdu.specs.Read.{readPdu, dataOf};
+ghost use Rattle.pdu.specs.Read.{readPdu, readOutcome, dataOf};
 ghost use Rattle.pdu.specs.Write.{Wrote};
 
 mod fields;
@@ -211,6 +211,16 @@ pub fn read(apdu: &[u8]) -> Parsed
     match found {
         Found::Listed(k) => parse::judged(k, apdu),
         Found::Unknown => Parsed::Refused(8),
+    }
+}
+
+// The outcome of a reading by its number.
+pub fn outcome(parsed: Parsed) -> u8
+    ensures { λ r. ⌜ r ≡ readOutcome parsed ⌝ }
+{
+    match parsed {
+        Parsed::Is(_) => 0,
+        Parsed::Refused(n) => n,
     }
 }
 

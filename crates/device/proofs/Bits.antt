@@ -1,0 +1,38 @@
+-- A bit write byte by byte.
+-- Assumes nothing.
+use Prim.Native.Nat.{ℕ, zero, suc, _+_, _≤_, _<_}
+use mathlib.Core.Path.{_≡_, refl, ap, ap₂, sym, _∙_}
+use mathlib.Core.List.{List, [], _∷_, _++_}
+use native.Mathlib.Numerals.{add-one}
+use native.Mathlib.Omega.{arith}
+use lib.Bits.{bitAnd, bitXor}
+use lib.ListN.{length, getD, set, length-append}
+use Rattle.octets.specs.Splice.{splice}
+use Rattle.octets.proofs.Splices.{length-splice, splice-none, splice-above, splice-more, splice-one}
+use Rattle.device.specs.Carry.{build, bitAt}
+
+pub length-build : (n : ℕ) (f : ℕ → ℕ) → length (build n f) ≡ n
+unfolding build
+length-build zero f = refl
+length-build (suc n) f = length-append (build n f) (f n ∷ []) ∙ omega (arith, length-build n f)
+
+module _ (s₀ : List ℕ) (at n : ℕ) (d : List ℕ) (fits : at + n ≤ length s₀) where
+  pub bits-none : s₀ ≡ splice s₀ at (build 0 (bitAt s₀ at n d))
+  unfolding build
+  bits-none = sym (splice-none s₀ at)
+
+  pub bits-more :
+      (s : List ℕ) (i : ℕ) → s ≡ splice s₀ at (build i (bitAt s₀ at n d)) → i < n →
+      set s (at + i) (bitXor (bitAnd (getD s (at + i) 0) (getD d i 0)) (getD d (n + i) 0)) ≡ splice s₀ at (build (i + 1) (bitAt s₀ at n d))
+  unfolding build bitAt
+  bits-more s i e h =
+      let f : ℕ → ℕ = bitAt s₀ at n d in
+      let l : length (build i f) ≡ i = length-build i f in
+      let long : length s ≡ length s₀ = ap length e ∙ length-splice s₀ at (build i f) (omega arith) in
+      let old : getD s (at + i) 0 ≡ getD s₀ (at + i) 0 =
+      ap (λ (x : List ℕ). getD x (at + i) 0) e ∙ splice-above s₀ at (build i f) (omega arith) (at + i) (omega arith) in
+      splice-one s (at + i) (bitXor (bitAnd (getD s (at + i) 0) (getD d i 0)) (getD d (n + i) 0)) (omega arith)
+      ∙ ap (λ (x : ℕ). splice s (at + i) (bitXor (bitAnd x (getD d i 0)) (getD d (n + i) 0) ∷ [])) old
+      ∙ ap₂ (λ (x : List ℕ) (k : ℕ). splice x (at + k) (f i ∷ [])) e (sym l)
+      ∙ splice-more s₀ at (build i f) (f i ∷ []) (omega arith)
+      ∙ ap (λ (k : ℕ). splice s₀ at (build k f)) (sym (add-one i))

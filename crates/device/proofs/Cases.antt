@@ -1,0 +1,34 @@
+-- The fourteen marked cases, by computation.
+-- Assumes nothing.
+use mathlib.Core.Path.{_≡_, refl}
+use mathlib.Core.List.{map}
+use Rattle.octets.specs.Bytes.{numAt, bytesOf}
+use Rattle.octets.specs.Splice.{splice}
+use Rattle.sheet.specs.Demand.{breach}
+use Rattle.sheet.specs.First.{first}
+use Rattle.sheet.specs.Entries.{entry, keyOf, floor, bodyAt, bodyEnd, startOf, reached, sixBits}
+use Rattle.sheet.specs.Rules.{entryDemands, bodyDemands, stepRule, passRule, walkRule, ruleIn}
+use Rattle.sheet.specs.Lookup.{seek, indexOf, objectAt, rank, nthOf, covers, rangeOf}
+use Rattle.pdu.specs.Tests.{isBelow, isAtMost, isEqual, both, either}
+use Rattle.pdu.specs.Table.{find}
+use Rattle.pdu.specs.Rules.{lowAt, fourAt, twelveAt, headBytes}
+use Rattle.pdu.specs.Read.{readPdu, dataOf}
+use Rattle.pdu.specs.Write.{encoded}
+use Rattle.judge.specs.Session.{levelOf, levelIn}
+use Rattle.judge.specs.Modes.{rulesOf}
+use Rattle.judge.specs.Properties.{readIn, propertyReadOf, writeIn, propertyWriteOf, describedAt, descriptionOf}
+use Rattle.judge.specs.Memory.{memoryReadOf, changeOf, memoryWriteOf, bitWriteOf}
+use Rattle.judge.specs.Keys.{grantOf, authorizeOf, keyWriteOf}
+use Rattle.judge.specs.Judge.{isAccepted, reachedOf, isShut, judgeOf}
+use Rattle.device.specs.Carry.{build, bitAt}
+use Rattle.device.specs.Step.{stepBy, stepOf}
+use Rattle.device.specs.Marked.{sample, cases, found, wanted}
+
+-- THE FOURTEEN MARKED CASES HOLD
+pub marked : map found cases ≡ map wanted cases
+unfolding sample cases found wanted stepOf stepBy build bitAt judgeOf isAccepted isShut reachedOf rulesOf levelIn levelOf
+    readIn propertyReadOf writeIn propertyWriteOf describedAt descriptionOf memoryReadOf changeOf memoryWriteOf bitWriteOf
+    grantOf authorizeOf keyWriteOf readPdu find dataOf encoded headBytes lowAt fourAt twelveAt isBelow isAtMost isEqual both either
+    seek indexOf objectAt rank nthOf covers rangeOf ruleIn walkRule passRule stepRule bodyDemands entryDemands
+    entry keyOf floor bodyAt bodyEnd startOf reached sixBits first breach splice numAt bytesOf
+marked = refl

@@ -1,0 +1,113 @@
+-- DEMAND 2: the step that is done is the step that is due, and no other is due.
+-- Assumes nothing.
+use mathlib.Core.Path.{_≡_, refl, sym, subst}
+use Rattle.pdu.specs.Read.{readPdu}
+use Rattle.pdu.specs.declared.Pdu.{Pdu}
+use Rattle.pdu.specs.declared.Pdu.the-variants.{GroupValueRead, GroupValueResponse, GroupValueWrite, IndividualAddressWrite, IndividualAddressRead, SerialNumberRead, SerialNumberWrite, DeviceDescriptorRead, PropertyValueRead, PropertyValueWrite, PropertyDescriptionRead, MemoryRead, MemoryWrite, MemoryBitWrite, AuthorizeRequest, KeyWrite, Restart, IndividualAddressResponse, SerialNumberResponse, DeviceDescriptorResponse, PropertyValueResponse, PropertyDescriptionResponse, MemoryResponse, AuthorizeResponse, KeyResponse}
+use Rattle.pdu.specs.declared.Parsed.{Parsed}
+use Rattle.judge.specs.declared.Decision.{Decision}
+use Rattle.judge.specs.Session.{levelIn}
+use Rattle.judge.specs.Judge.{decideOf, dataIn}
+use Rattle.device.specs.Octets.{Octets}
+use Rattle.device.specs.Step.{Step, stepBy, stepOf}
+use Rattle.device.specs.Asked.{Asked, Reads, given}
+use Rattle.device.specs.Right as due
+use Rattle.device.specs.Right.{Brings, Right}
+use Rattle.device.proofs.Judged.{judged}
+use Rattle.device.proofs.Stepped.{step-refused, step-unknown, step-other, step-unfit}
+use Rattle.device.proofs.RightGroups.{right-group-read, right-group-put, only-group-read0, only-group-read, only-no-group-read, only-group-put0, only-group-put, only-group-length, only-no-group-put}
+use Rattle.device.proofs.RightAddresses.{right-address-write, right-address-read, right-serial-read, right-serial-write, right-descriptor, only-address-write, only-no-address-write, only-address-read, only-no-address-read, only-serial-read, only-no-serial-read, only-serial-write, only-no-serial-write, only-descriptor, only-no-descriptor}
+use Rattle.device.proofs.RightProperties.{right-property-read, right-property-write, only-property-count, only-property-read, only-no-property-read, only-property-clear, only-property-write, only-no-property-write}
+use Rattle.device.proofs.RightDescriptions.{right-description, only-description, only-no-description}
+use Rattle.device.proofs.Changes.{only-verified, only-stored, only-denied, only-refused}
+use Rattle.device.proofs.RightMemory.{writing, bit-writing, right-memory-read, right-memory-write, right-bit-write, only-memory-read, only-no-memory-read}
+use Rattle.device.proofs.RightKeys.{right-authorize, right-key-write, right-restart, only-authorize, only-key-write, only-no-key-write, only-restart}
+
+module _ (x : Asked) (hs : Octets (x .sheet)) (ha : Octets (x .apdu)) where
+  -- of a request that reads
+  right-read :
+      (p : Pdu) → Reads x p →
+      Right x (stepBy (x .sheet) (x .session) (given x p) (decideOf (x .sheet) (levelIn (x .session) (x .mode)) (x .group) (given x p) p))
+  right-read GroupValueRead r = right-group-read x r
+  right-read (GroupValueResponse v) r = right-group-put x (GroupValueResponse v) v 4 r (Brings.response v)
+  right-read (GroupValueWrite v) r = right-group-put x (GroupValueWrite v) v 2 r (Brings.write v)
+  right-read (IndividualAddressWrite address) r = right-address-write x address r
+  right-read IndividualAddressRead r = right-address-read x r
+  right-read (SerialNumberRead serial) r = right-serial-read x serial r
+  right-read (SerialNumberWrite serial address) r = right-serial-write x serial address r
+  right-read (DeviceDescriptorRead t) r = right-descriptor x t r
+  right-read (PropertyValueRead object id n s) r = right-property-read x object id n s r hs ha
+  right-read (PropertyValueWrite object id n s) r = right-property-write x object id n s r hs ha
+  right-read (PropertyDescriptionRead object id index) r = right-description x object id index r hs ha
+  right-read (MemoryRead n address) r = right-memory-read x n address r
+  right-read (MemoryWrite n address) r = right-memory-write x n address r
+  right-read (MemoryBitWrite n address) r = right-bit-write x n address r
+  right-read (AuthorizeRequest key) r = right-authorize x key r
+  right-read (KeyWrite named key) r = right-key-write x named key r
+  right-read Restart r = right-restart x r
+  right-read IndividualAddressResponse r = absurd (r .takes)
+  right-read (SerialNumberResponse serial domain) r = absurd (r .takes)
+  right-read (DeviceDescriptorResponse t) r = absurd (r .takes)
+  right-read (PropertyValueResponse object id n s) r = absurd (r .takes)
+  right-read (PropertyDescriptionResponse object id index kind maximum access) r = absurd (r .takes)
+  right-read (MemoryResponse n address) r = absurd (r .takes)
+  right-read (AuthorizeResponse level) r = absurd (r .takes)
+  right-read (KeyResponse level) r = absurd (r .takes)
+
+  -- WHAT IS DONE IS DUE
+  pub right : Right x (stepOf (x .room) (x .sheet) (x .session) (x .mode) (x .group) (x .apdu))
+  unfolding stepOf stepBy
+  right =
+      judged x (λ (k : Decision). Right x (stepBy (x .sheet) (x .session) (dataIn (readPdu (x .apdu)) (x .apdu)) k))
+      (λ k r n v t. due.otherMode k r n v t) (λ r f. due.unknown r f) (λ k r n t e. due.unfit k r n t e)
+      (λ p r.
+      subst
+      (λ (z : Parsed). Right x (stepBy (x .sheet) (x .session) (dataIn z (x .apdu)) (decideOf (x .sheet) (levelIn (x .session) (x .mode)) (x .group) (given x p) p)))
+      (sym (r .reads)) (right-read p r))
+      (λ n r. due.refused r)
+
+  -- AND NOTHING ELSE IS
+  pub right-only : (r : Step) → Right x r → r ≡ stepOf (x .room) (x .sheet) (x .session) (x .mode) (x .group) (x .apdu)
+  right-only r (due.refused h) = step-refused x h
+  right-only r (due.unknown h f) = step-unknown x h f
+  right-only r (due.otherMode k h n v t) = step-other x k h n v t
+  right-only r (due.unfit k h n t e) = step-unfit x k h n t e
+  right-only r (due.groupRead0 i h g f z) = only-group-read0 x h i g f z
+  right-only r (due.groupRead i h g f z) = only-group-read x h i g f z
+  right-only r (due.noGroupRead h f) = only-no-group-read x h f
+  right-only r (due.groupPut0 p v w i h b g f z d) = only-group-put0 x p v w h b i g f z d
+  right-only r (due.groupPut p v w i h b g f z d) = only-group-put x p v w h b i g f z d
+  right-only r (due.groupLength p v w i h b g f d) = only-group-length x p v w h b i g f d
+  right-only r (due.noGroupPut p v w h b f) = only-no-group-put x p v w h b f
+  right-only r (due.addressWrite address h m) = only-address-write x address h m
+  right-only r (due.noAddressWrite address h m) = only-no-address-write x address h m
+  right-only r (due.addressRead h m) = only-address-read x h m
+  right-only r (due.noAddressRead h m) = only-no-address-read x h m
+  right-only r (due.serialRead serial h e) = only-serial-read x serial h e
+  right-only r (due.noSerialRead serial h e) = only-no-serial-read x serial h e
+  right-only r (due.serialWrite serial address h e) = only-serial-write x serial address h e
+  right-only r (due.noSerialWrite serial address h e) = only-no-serial-write x serial address h e
+  right-only r (due.descriptor h) = only-descriptor x h
+  right-only r (due.noDescriptor t h l) = only-no-descriptor x t h l
+  right-only r (due.propertyCount object id i h p) = only-property-count x object id 1 0 h i p refl refl
+  right-only r (due.propertyRead object id n s i h p m l) = only-property-read x object id n s h i p m l
+  right-only r (due.noPropertyRead object id n s h f) = only-no-property-read x object id n s h hs ha f
+  right-only r (due.propertyClear object id i h w e) = only-property-clear x object id 1 0 h i w refl refl e
+  right-only r (due.propertyWrite object id n s i d h w e m l) = rw e (only-property-write x object id n s h i w m (rw e at l))
+  right-only r (due.noPropertyWrite object id n s h f) = only-no-property-write x object id n s h hs ha f
+  right-only r (due.description object id index i h e) = only-description x object id index h i e
+  right-only r (due.noDescription object id index h f) = only-no-description x object id index h hs ha f
+  right-only r (due.memoryRead n address i h p) = only-memory-read x n address h i p
+  right-only r (due.noMemoryRead n address h f) = only-no-memory-read x n address h f
+  right-only r (due.memoryWriteVerified n address i d h p e v) = rw e (only-verified x _ n address _ (writing x n address h) h i p v)
+  right-only r (due.memoryWrite n address i d h p e v) = rw e (only-stored x _ n address _ (writing x n address h) h i p v)
+  right-only r (due.noMemoryWriteVerified n address h f v) = only-denied x _ n address _ (writing x n address h) h f v
+  right-only r (due.noMemoryWrite n address h f v) = only-refused x _ n address _ (writing x n address h) h f v
+  right-only r (due.bitWriteVerified n address i d h p e v) = rw e (only-verified x _ n address _ (bit-writing x n address) h i p v)
+  right-only r (due.bitWrite n address i d h p e v) = rw e (only-stored x _ n address _ (bit-writing x n address) h i p v)
+  right-only r (due.noBitWriteVerified n address h f v) = only-denied x _ n address _ (bit-writing x n address) h f v
+  right-only r (due.noBitWrite n address h f v) = only-refused x _ n address _ (bit-writing x n address) h f v
+  right-only r (due.authorize key level h g) = only-authorize x key h level g
+  right-only r (due.keyWrite named key h w) = only-key-write x named key h w
+  right-only r (due.noKeyWrite named key h f) = only-no-key-write x named key h f
+  right-only r (due.restart h) = only-restart x h

@@ -1,0 +1,91 @@
+-- What writing an answer gives, where its row allows it.
+-- Assumes nothing.
+use Prim.Native.Nat.{ℕ, _+_, _-_, _≤_}
+use mathlib.Core.Path.{_≡_, refl, ap, sym, subst, _∙_}
+use mathlib.Core.Bool.{true}
+use mathlib.Core.List.{List, [], _++_}
+use native.Mathlib.Nat.{add-sub-cancel-left}
+use native.Mathlib.Omega.{arith}
+use lib.ListN.{length, take, drop}
+use lib.Seq.{take-at}
+use borrow.Author.Tests.{le-ltb}
+use Rattle.octets.specs.Bytes.{bytesOf}
+use Rattle.octets.specs.Splice.{splice}
+use Rattle.octets.proofs.Numbers.{length-bytes}
+use Rattle.octets.proofs.Splices.{splice-front, splice-none}
+use Rattle.pdu.specs.Read.{dataAt}
+use Rattle.pdu.specs.Write.{encoded, writable, writeOf, bufferOf, Wrote}
+use Rattle.pdu.proofs.Back.{length-encoded}
+use Rattle.pdu.specs.declared.Pdu.{Pdu}
+use Rattle.pdu.specs.declared.Written.{Written}
+use Rattle.pdu.specs.declared.Written.the-variants.{Bytes, Refused}
+use Rattle.judge.specs.declared.Answer.{Answer}
+use Rattle.judge.specs.declared.Answer.the-variants as answer
+use Rattle.device.specs.Carry.{Answered, answerOf}
+use Rattle.device.specs.Safe.{AnswerSafe, Roomy}
+
+writes : (p : Pdu) (d o : List ℕ) → 16 ≤ length o → writable p d ≡ true → writeOf p d o ≡ Bytes (dataAt p + length d)
+unfolding writeOf
+writes p d o h w = rw (le-ltb (length o) 16 h, w)
+
+pub sent :
+    (p : Pdu) (d o e : List ℕ) (r : Written) (n : ℕ) →
+    16 ≤ length o → writable p d ≡ true → Wrote p d o r e → r ≡ Bytes n → Answered (encoded p d) n o e
+sent p d o e r n h w q f =
+    let g : Bytes n ≡ Bytes (dataAt p + length d) = sym f ∙ q .result ∙ writes p d o h w in
+    let k : n ≡ dataAt p + length d = cc in
+    record {
+      count = k ∙ sym (length-encoded p d);
+      holds = q .buffer ∙ ap (bufferOf p d o) f;
+    }
+
+pub not-refused :
+    (p : Pdu) (d o e : List ℕ) (r : Written) (n : ℕ) →
+    16 ≤ length o → writable p d ≡ true → Wrote p d o r e → r ≡ Refused n → Answered (encoded p d) 0 o e
+not-refused p d o e r n h w q f =
+    let g : Refused n ≡ Bytes (dataAt p + length d) = sym f ∙ q .result ∙ writes p d o h w in
+    let z : _≡_ {A = ℕ} 0 1 = cc in
+    absurd (omega arith)
+
+-- a number's bytes at the front of a small buffer
+pub number-front : (w x : ℕ) (b b′ : List ℕ) → b′ ≡ splice b 0 (bytesOf w x) → take w b′ ≡ bytesOf w x
+number-front w x b b′ e = rw (e, splice-front) (take-at (bytesOf w x) (drop (length (bytesOf w x)) b) w (length-bytes w x))
+
+-- in an arm the answer is known
+pub via-answer-safe : (s d : List ℕ) (r q : Answer) → AnswerSafe s d r → r ≡ q → AnswerSafe s d q
+via-answer-safe s d r q h e = subst (λ (x : Answer). AnswerSafe s d x) e h
+
+pub via-room : (n : ℕ) (r q : Answer) → Roomy n r → r ≡ q → Roomy n q
+via-room n r q h e = subst (λ (x : Answer). Roomy n x) e h
+
+pub via-answer :
+    (s d : List ℕ) (a q : Answer) (r : ℕ) (o e : List ℕ) → a ≡ q → Answered (answerOf s d q) r o e → Answered (answerOf s d a) r o e
+via-answer s d a q r o e f h = subst (λ (x : Answer). Answered (answerOf s d x) r o e) (sym f) h
+
+pub silence : (s d : List ℕ) (a : Answer) (o : List ℕ) → a ≡ answer.Silence → Answered (answerOf s d a) 0 o o
+silence s d a o f = via-answer s d a answer.Silence 0 o o f (record { count = refl; holds = sym (splice-none o 0) })
+
+pub number-room : (w x : ℕ) (b b′ : List ℕ) → b′ ≡ splice b 0 (bytesOf w x) → w ≡ length (take w b′)
+number-room w x b b′ e = sym (ap length (number-front w x b b′ e) ∙ length-bytes w x)
+
+pub number-allowed :
+    (p : Pdu) (w x : ℕ) (b b′ : List ℕ) → b′ ≡ splice b 0 (bytesOf w x) → writable p (bytesOf w x) ≡ true → writable p (take w b′) ≡ true
+number-allowed p w x b b′ e h = ap (writable p) (number-front w x b b′ e) ∙ h
+
+pub number-sent :
+    (p : Pdu) (w x r : ℕ) (b b′ o e : List ℕ) →
+    b′ ≡ splice b 0 (bytesOf w x) → Answered (encoded p (take w b′)) r o e → Answered (encoded p (bytesOf w x)) r o e
+number-sent p w x r b b′ o e f h =
+    subst (λ (d : List ℕ). Answered (encoded p d) r o e) (number-front w x b b′ f) h
+
+-- bytes of the sheet, as a part from `at` to `at + n` has them
+pub sheet-allowed :
+    (p : Pdu) (s : List ℕ) (at n : ℕ) → writable p (take n (drop at s)) ≡ true → writable p (take (at + n - at) (drop at s)) ≡ true
+sheet-allowed p s at n h = rw (add-sub-cancel-left at n) h
+
+pub via-sheet :
+    (s d : List ℕ) (a : Answer) (p : Pdu) (at n r : ℕ) (o e : List ℕ) →
+    a ≡ answer.Sheet p at n → Answered (encoded p (take (at + n - at) (drop at s))) r o e → Answered (answerOf s d a) r o e
+via-sheet s d a p at n r o e f h =
+    via-answer s d a (answer.Sheet p at n) r o e f
+    (subst (λ (k : ℕ). Answered (encoded p (take k (drop at s))) r o e) (add-sub-cancel-left at n) h)

@@ -1,0 +1,37 @@
+-- What a store leaves: the length, and the run that was stored.
+-- Assumes nothing.
+use Prim.Native.Nat.{ℕ, zero, suc, _+_, _≤_}
+use mathlib.Core.Path.{_≡_, refl, sym, ap, _∙_}
+use mathlib.Core.List.{List, [], _∷_}
+use native.Mathlib.Omega.{arith}
+use lib.ListN.{length, take, drop, replicate, length-append, length-replicate}
+use Rattle.octets.specs.Bytes.{bytesOf}
+use Rattle.octets.specs.Splice.{splice}
+use Rattle.octets.proofs.Numbers.{length-bytes}
+use Rattle.octets.proofs.Splices.{length-splice, splice-read}
+use Rattle.judge.specs.declared.Store.{Store}
+use Rattle.judge.specs.declared.Store.the-variants as store
+use Rattle.device.specs.Carry.{build, bitAt, storeOf}
+use Rattle.device.specs.Safe.{StoreSafe}
+
+pub length-build : (n : ℕ) (f : ℕ → ℕ) → length (build n f) ≡ n
+unfolding build
+length-build zero f = refl
+length-build (suc n) f = length-append (build n f) (f n ∷ []) ∙ omega (arith, length-build n f)
+
+length-copies : (n b : ℕ) → length (replicate n b) ≡ n
+length-copies zero b = refl
+length-copies (suc n) b = ap suc (length-replicate n b)
+
+-- A STORE LEAVES THE LENGTH
+pub length-store : (s d : List ℕ) (k : Store) → StoreSafe s d k → length (storeOf s d k) ≡ length s
+length-store s d store.Nothing h = refl
+length-store s d (store.Number at w x) h = length-splice s at (bytesOf w x) (omega (arith, length-bytes w x))
+length-store s d (store.Data at) h = length-splice s at d h
+length-store s d (store.Bits at n) h = length-splice s at (build n (bitAt s at n d)) (omega (arith, length-build n (bitAt s at n d)))
+length-store s d (store.Fill at n b) h = length-splice s at (replicate n b) (omega (arith, length-replicate n b))
+
+-- WHAT WAS STORED STANDS THERE
+pub stored-back : (s d : List ℕ) (o n : ℕ) → length d ≡ n → o + n ≤ length s → take n (drop o (splice s o d)) ≡ d
+stored-back s d o n e h =
+    ap (λ (m : ℕ). take m (drop o (splice s o d))) (sym e) ∙ splice-read s o d (omega arith)

@@ -1,0 +1,17 @@
+-- `device::data_in` meets its contract.
+-- Assumes nothing.
+use borrow.Author.Needs.{needs}
+use Rattle.device.proofs.Requests.{data-read}
+use Rattle.device.proofs.data_in.Statement.{statement}
+use Rattle.device.proofs.data_in.Tie as tie
+
+pub data-in-spec : {M : Type 1} → statement M
+data-in-spec =
+    tie.close
+    (tie.spec
+    (λ c. search needs)
+    (λ c. search needs)
+    (λ c. search needs)
+    (λ c. search needs)
+    (λ c κs. search needs)
+    (λ c. search data-read))

@@ -1,0 +1,17 @@
+-- `device::session::turned` meets its contract: each arm knows the turn.
+-- Assumes nothing.
+use borrow.Author.Needs.{needs}
+use Rattle.device.proofs.Pressing.{via-turn}
+use Rattle.device.proofs.session.turned.Statement.{statement}
+use Rattle.device.proofs.session.turned.Tie as tie
+
+pub turned-spec : {M : Type 1} → statement M
+turned-spec =
+    tie.close
+    (tie.spec
+    (λ c. search needs)
+    (λ c. search needs)
+    (λ c. search needs)
+    (λ c. search needs)
+    (λ c. search via-turn)
+    (λ c. search via-turn))

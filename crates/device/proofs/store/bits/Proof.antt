@@ -1,0 +1,50 @@
+-- `device::store::bits` meets its contract: after i turns the first i bytes are changed.
+-- Assumes nothing.
+use Prim.Native.Nat.{_+_, _≤_, _-_}
+use mathlib.Core.Path.{_≡_, refl, ap, _∙_}
+use borrow.Author.Needs.{needs}
+use native.Mathlib.Omega.{arith}
+use lib.ListN.{length, length-set}
+use Rattle.octets.specs.Splice.{splice}
+use Rattle.device.specs.Carry.{build, bitAt}
+use Rattle.device.proofs.Bits.{bits-none, bits-more}
+use Rattle.device.proofs.store.bits.Statement.{statement}
+use Rattle.device.proofs.store.bits.Tie as tie
+
+abbrev Inv-loop : tie.InvT-loop
+Inv-loop s₀ at n d i₀ s i =
+    (i ≤ n) × (s ≡ splice s₀ at (build i (bitAt s₀ at n d))) × (length s ≡ length s₀)
+
+abbrev μ-loop : tie.MeasureT-loop
+μ-loop s₀ at n d i₀ s i = n - i
+
+loop-again : tie.Need-loop-again Inv-loop μ-loop
+loop-again c =
+    let l = c .before .before .before .before .loop in
+    (omega arith, bits-more _ _ _ _ (omega arith) (l .s) (l .i) (l .inv .1) (omega arith), simp length-set (l .inv .2))
+
+returns : tie.Need-returns Inv-loop μ-loop
+returns c =
+    let l = c .before .loop in
+    let e : l .i ≡ c .before .before .args .n = omega arith in
+    rw e at (l .inv .1)
+
+pub bits-spec : {M : Type 1} → statement M
+bits-spec =
+    tie.close
+    (tie.spec
+    Inv-loop
+    μ-loop
+    (λ c. (omega arith, bits-none _ _ _ _ (omega arith), refl))
+    (λ c. omega arith)
+    (λ c. omega arith)
+    (λ c. omega arith)
+    (λ c. omega arith)
+    (λ c. omega arith)
+    (λ c. omega arith)
+    (λ c. omega arith)
+    (λ c. omega arith)
+    (λ c. omega arith)
+    loop-again
+    (λ c. search needs)
+    returns)

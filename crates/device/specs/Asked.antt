@@ -1,0 +1,117 @@
+-- A request as it arrives and what it meets, and what is known of it before its service decides: plain propositions, in the order of the outcomes.
+-- Assumes nothing.
+use Prim.Native.Nat.{ℕ, _+_, _≤_, _<_}
+use mathlib.Core.Path.{_≡_}
+use mathlib.Core.Bool.{true, false}
+use mathlib.Core.Logic.{_⊎_}
+use mathlib.Core.List.{List, []}
+use lib.ListN.{length}
+use Rattle.sheet.specs.Rules.{ruleOf}
+use Rattle.pdu.specs.Item.{Row}
+use Rattle.pdu.specs.Table.{rowOf}
+use Rattle.pdu.specs.Pdus.{serviceOf}
+use Rattle.pdu.specs.Rules.{codeOf}
+use Rattle.pdu.specs.Read.{readPdu, dataOf}
+use Rattle.pdu.specs.Write.{encoded}
+use Rattle.pdu.specs.declared.Service.{Service}
+use Rattle.pdu.specs.declared.Service.the-variants.{GroupValueRead, GroupValueResponse, GroupValueWrite, IndividualAddressWrite, IndividualAddressRead, SerialNumberRead, SerialNumberWrite, DeviceDescriptorRead, PropertyValueRead, PropertyValueWrite, PropertyDescriptionRead, MemoryRead, MemoryWrite, MemoryBitWrite, AuthorizeRequest, KeyWrite, Restart, IndividualAddressResponse, SerialNumberResponse, DeviceDescriptorResponse, PropertyValueResponse, PropertyDescriptionResponse, MemoryResponse, AuthorizeResponse, KeyResponse}
+use Rattle.pdu.specs.declared.Pdu.{Pdu}
+use Rattle.pdu.specs.declared.Parsed.the-variants.{Is, Refused}
+use Rattle.judge.specs.Session.{multicast, broadcast, connectionless, connected}
+use Rattle.judge.specs.declared.Session.{Session}
+use Rattle.device.specs.Step.{Step}
+
+-- room is the length of the answer buffer
+pub record Asked : Type 0 where
+  pub room : ℕ
+  pub sheet : List ℕ
+  pub session : Session
+  pub mode : ℕ
+  pub group : ℕ
+  pub apdu : List ℕ
+
+-- what a step leaves as it was: all but the outcome, or all but the outcome and an answer
+abbrev pub quiet : Asked → ℕ → Step
+quiet x n = record { outcome = n; answer = []; session = x .session; sheet = x .sheet }
+
+abbrev pub says : Asked → ℕ → Pdu → List ℕ → Step
+says x n p d = record { outcome = n; answer = encoded p d; session = x .session; sheet = x .sheet }
+
+-- a store, answered or not
+abbrev pub saysAfter : Asked → List ℕ → Pdu → List ℕ → Step
+saysAfter x s p d = record { outcome = 0; answer = encoded p d; session = x .session; sheet = s }
+
+abbrev pub stores : Asked → List ℕ → Step
+stores x s = record { outcome = 1; answer = []; session = x .session; sheet = s }
+
+-- WHICH MODE TAKES WHICH SERVICE
+abbrev pub Takes : Service → ℕ → Type 0
+Takes GroupValueRead m = m ≡ multicast
+Takes GroupValueResponse m = m ≡ multicast
+Takes GroupValueWrite m = m ≡ multicast
+Takes IndividualAddressWrite m = m ≡ broadcast
+Takes IndividualAddressRead m = m ≡ broadcast
+Takes SerialNumberRead m = m ≡ broadcast
+Takes SerialNumberWrite m = m ≡ broadcast
+Takes DeviceDescriptorRead m = (m ≡ connectionless) ⊎ (m ≡ connected)
+Takes PropertyValueRead m = (m ≡ connectionless) ⊎ (m ≡ connected)
+Takes PropertyValueWrite m = (m ≡ connectionless) ⊎ (m ≡ connected)
+Takes PropertyDescriptionRead m = (m ≡ connectionless) ⊎ (m ≡ connected)
+Takes MemoryRead m = m ≡ connected
+Takes MemoryWrite m = m ≡ connected
+Takes MemoryBitWrite m = m ≡ connected
+Takes AuthorizeRequest m = m ≡ connected
+Takes KeyWrite m = m ≡ connected
+Takes Restart m = m ≡ connected
+Takes IndividualAddressResponse m = ⊥
+Takes SerialNumberResponse m = ⊥
+Takes DeviceDescriptorResponse m = ⊥
+Takes PropertyValueResponse m = ⊥
+Takes PropertyDescriptionResponse m = ⊥
+Takes MemoryResponse m = ⊥
+Takes AuthorizeResponse m = ⊥
+Takes KeyResponse m = ⊥
+
+-- the code of the request is one of the service's
+pub record Names (x : Asked) (k : Service) : Type 0 where
+  pub from : rowOf k .base ≤ codeOf (x .apdu)
+  pub to : codeOf (x .apdu) < rowOf k .base + rowOf k .span
+
+-- a service that some mode takes
+pub record Served (k : Service) : Type 0 where
+  pub mode : ℕ
+  pub takes : Takes k mode
+
+-- THE REFUSALS BEFORE THE SERVICE, in order; each is due only where none before it is
+pub data Refusal (x : Asked) : ℕ → Type 0 where
+  noRoom : x .room < 16 → Refusal x 3
+  badSheet : 16 ≤ x .room → (ruleOf (x .sheet) ≡ 0 → ⊥) → Refusal x 4
+  badLength : 16 ≤ x .room → ruleOf (x .sheet) ≡ 0 → (length (x .apdu) < 2) ⊎ (16 < length (x .apdu)) → Refusal x 5
+  badMode : 16 ≤ x .room → ruleOf (x .sheet) ≡ 0 → 2 ≤ length (x .apdu) → length (x .apdu) ≤ 16 → 3 < x .mode → Refusal x 6
+  noSession :
+      16 ≤ x .room → ruleOf (x .sheet) ≡ 0 → 2 ≤ length (x .apdu) → length (x .apdu) ≤ 16 → x .mode ≡ connected → x .session .opened ≡ false → Refusal x 7
+
+-- none of these is due
+pub record Ready (x : Asked) : Type 0 where
+  pub buffer : 16 ≤ x .room
+  pub sheet : ruleOf (x .sheet) ≡ 0
+  pub least : 2 ≤ length (x .apdu)
+  pub most : length (x .apdu) ≤ 16
+  pub mode : x .mode ≤ 3
+  pub session : x .mode ≡ connected → x .session .opened ≡ true
+
+-- the request reads as p, in a mode that takes p's service
+pub record Reads (x : Asked) (p : Pdu) : Type 0 where
+  pub ready : Ready x
+  pub takes : Takes (serviceOf p) (x .mode)
+  pub reads : readPdu (x .apdu) ≡ Is p
+
+-- its data
+abbrev pub given : Asked → Pdu → List ℕ
+given x p = dataOf p (x .apdu)
+
+-- the level that it acts at
+pub data Acts (x : Asked) : ℕ → Type 0 where
+  bySession : x .mode ≡ connected → x .session .level ≤ 3 → Acts x (x .session .level)
+  byLimit : x .mode ≡ connected → 3 < x .session .level → Acts x 3
+  unconnected : (x .mode ≡ connected → ⊥) → Acts x 3

@@ -1,0 +1,54 @@
+// Carrying out: what a decision stores, and nothing is judged.
+use judge::Decision;
+use judge::Store;
+ghost use mathlib.Core.Path.{_≡_};
+ghost use Prim.Native.Nat.{_+_, _≤_};
+ghost use lib.ListN.{length};
+ghost use Rattle.octets.specs.Splice.{splice};
+ghost use Rattle.device.specs.Carry.{build, bitAt, storeOf};
+ghost use Rattle.device.specs.Safe.{StoreSafe};
+
+// n bytes from a place on changed by n AND bytes and then n XOR bytes.
+pub fn bits(s: &mut [u8], at: usize, n: usize, d: &[u8])
+    requires { ⌜ (at + n ≤ length (now s)) × (length (now d) ≡ n + n) ⌝ }
+    ensures { λ _. ⌜ now (s .exit) ≡ splice (now (s .entry)) at (build n (bitAt (now (s .entry)) at n (now (d .entry)))) ⌝ }
+{
+    let mut i = 0;
+    while i < n {
+        s[at + i] = (s[at + i] & d[i]) ^ d[n + i];
+        i += 1;
+    }
+}
+
+// One run of bytes.
+pub fn store(s: &mut [u8], run: Store, d: &[u8])
+    requires { ⌜ StoreSafe (now s) (now d) run ⌝ }
+    ensures { λ _. ⌜ now (s .exit) ≡ storeOf (now (s .entry)) (now (d .entry)) run ⌝ }
+{
+    match run {
+        Store::Nothing => {}
+        Store::Number { at, width, x } => {
+            octets::put(s, at, width, x);
+        }
+        Store::Data { at } => {
+            octets::splice(s, at, d);
+        }
+        Store::Bits { at, n } => {
+            bits(s, at, n, d);
+        }
+        Store::Fill { at, n, b } => {
+            octets::fill(s, at, n, b);
+        }
+    }
+}
+
+// At most two runs.
+pub fn carry_out(s: &mut [u8], k: Decision, d: &[u8])
+    requires { ⌜ (StoreSafe (now s) (now d) (k .first)) × (StoreSafe (storeOf (now s) (now d) (k .first)) (now d) (k .second)) ⌝ }
+    ensures { λ _. ⌜ now (s .exit) ≡ storeOf (storeOf (now (s .entry)) (now (d .entry)) (k .first)) (now (d .entry)) (k .second) ⌝ }
+{
+    let first = k.first;
+    let second = k.second;
+    store(s, first, d);
+    store(s, second, d);
+}

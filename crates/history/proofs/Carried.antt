@@ -1,0 +1,48 @@
+-- What is known of the fields and the data of a request that reads, its bytes being below 256.
+-- Assumes nothing.
+use Prim.Native.Nat.{ℕ, _+_, _<_}
+use mathlib.Core.Path.{_≡_}
+use mathlib.Core.Bool.{true}
+use mathlib.Core.List.{List}
+use lib.ListN.{length, length-drop}
+use native.Mathlib.Omega.{arith}
+use Rattle.pdu.specs.Table.{rowOf, has}
+use Rattle.pdu.specs.Pdus.{serviceOf}
+use Rattle.pdu.specs.Rules.{codeOf}
+use Rattle.pdu.specs.Read.{readPdu, dataOf}
+use Rattle.pdu.specs.Allows.{Carries}
+use Rattle.pdu.proofs.Outcomes.{reads-pdu}
+use Rattle.pdu.specs.declared.Parsed.the-variants.{Is}
+use Rattle.pdu.specs.declared.Pdu.{Pdu}
+use Rattle.pdu.specs.declared.Pdu.the-variants.{GroupValueResponse, GroupValueWrite, IndividualAddressWrite, SerialNumberWrite, PropertyValueWrite, MemoryWrite}
+use Rattle.device.specs.Octets.{Octets}
+
+module _ (a : List ℕ) (small : Octets a) where
+  carries : {p : Pdu} → readPdu a ≡ Is p → Carries a p
+  carries {p} e = reads-pdu a p small .0 e
+
+  -- the code is one of the service's
+  pub code-has : {p : Pdu} → readPdu a ≡ Is p → has (rowOf (serviceOf p)) (codeOf a) ≡ true
+  code-has e = carries e .code
+
+  pub property-id : {object id n s : ℕ} → readPdu a ≡ Is (PropertyValueWrite object id n s) → id < 256
+  property-id e = carries e .allowed .fields .1 .0
+
+  pub write-value : {v : ℕ} → readPdu a ≡ Is (GroupValueWrite v) → v < 64
+  write-value e = carries e .allowed .fields .0
+
+  pub response-value : {v : ℕ} → readPdu a ≡ Is (GroupValueResponse v) → v < 64
+  response-value e = carries e .allowed .fields .0
+
+  pub address-field : {v : ℕ} → readPdu a ≡ Is (IndividualAddressWrite v) → v < 65536
+  address-field e = carries e .allowed .fields .0
+
+  pub serial-address : {n v : ℕ} → readPdu a ≡ Is (SerialNumberWrite n v) → v < 65536
+  serial-address e = carries e .allowed .fields .1 .0
+
+  -- a memory write brings as many bytes as it says
+  pub memory-data : {n y : ℕ} → readPdu a ≡ Is (MemoryWrite n y) → length (dataOf (MemoryWrite n y) a) ≡ n
+  unfolding dataOf
+  memory-data {n} {y} e =
+      let l : length a ≡ 4 + n = carries e .allowed .suited in
+      rw (length-drop 4 a) (omega arith)

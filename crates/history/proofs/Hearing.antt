@@ -1,0 +1,153 @@
+-- A request is heard exactly if it is ready, reads, and its mode takes it.
+-- Assumes nothing.
+use Prim.Native.Nat.{ℕ}
+use mathlib.Core.Path.{_≡_, refl, _∙_}
+use mathlib.Core.Logic.{_⊎_, inl, inr, _↔_}
+use mathlib.Core.Bool.{Bool, true, false, _||_, not}
+use mathlib.Core.List.{List, [], _∷_}
+use lib.Dec.{eqb, leb}
+use lib.ListN.{length}
+use borrow.Author.Tests.{leb-true, le-leb, eqb-true, eq-eqb}
+use Rattle.sheet.specs.Rules.{ruleOf}
+use Rattle.pdu.specs.Read.{readPdu, dataOf}
+use Rattle.pdu.specs.Pdus.{serviceOf}
+use Rattle.pdu.specs.declared.Parsed.{Parsed}
+use Rattle.pdu.specs.declared.Parsed.the-variants.{Is, Refused}
+use Rattle.pdu.specs.declared.Pdu.{Pdu}
+use Rattle.pdu.specs.declared.Pdu.the-variants.{GroupValueRead, GroupValueResponse, GroupValueWrite, IndividualAddressWrite, IndividualAddressRead, SerialNumberRead, SerialNumberWrite, DeviceDescriptorRead, PropertyValueRead, PropertyValueWrite, PropertyDescriptionRead, MemoryRead, MemoryWrite, MemoryBitWrite, AuthorizeRequest, KeyWrite, Restart, IndividualAddressResponse, SerialNumberResponse, DeviceDescriptorResponse, PropertyValueResponse, PropertyDescriptionResponse, MemoryResponse, AuthorizeResponse, KeyResponse}
+use Rattle.pdu.proofs.Truths.{never, decided}
+use Rattle.judge.specs.Session.{connected}
+use Rattle.device.specs.Events.{State}
+use Rattle.device.specs.Asked.{Takes, Ready, Reads}
+use Rattle.history.specs.Wish.{Wish, wishOf, nothing, asks, brings, taken}
+use Rattle.history.specs.Permit.{heard}
+use Rattle.history.specs.Rightful.{asked}
+use Rattle.history.proofs.Bools.{all-at, or-left, or-right, or-cases}
+
+-- what reads as p asks what p asks
+module _ (a : List ℕ) (p : Pdu) (e : readPdu a ≡ Is p) where
+  pub asks-is : asks a ≡ wishOf p
+  unfolding asks
+  asks-is = rw e
+
+  pub brings-is : brings a ≡ dataOf p a
+  unfolding brings
+  brings-is = rw e
+
+pub refused-asks : (a : List ℕ) (n : ℕ) → readPdu a ≡ Refused n → asks a ≡ nothing
+unfolding asks
+refused-asks a n e = rw e
+
+-- two modes
+either-mode : (m k l : ℕ) → ((eqb m k || eqb m l) ≡ true) ↔ ((m ≡ k) ⊎ (m ≡ l))
+either-mode m k l = (λ e. back (or-cases (eqb m k) (eqb m l) e), λ h. on h)
+  where
+    back : (eqb m k ≡ true) ⊎ (eqb m l ≡ true) → (m ≡ k) ⊎ (m ≡ l)
+    back (inl h) = inl (eqb-true m k h)
+    back (inr h) = inr (eqb-true m l h)
+
+    on : (m ≡ k) ⊎ (m ≡ l) → (eqb m k || eqb m l) ≡ true
+    on (inl h) = or-left (eqb m k) (eqb m l) (eq-eqb m k h)
+    on (inr h) = or-right (eqb m k) (eqb m l) (eq-eqb m l h)
+
+one-mode : (m k : ℕ) → (eqb m k ≡ true) ↔ (m ≡ k)
+one-mode m k = (eqb-true m k, eq-eqb m k)
+
+-- what a PDU asks for, if a history is concerned with it, is taken as its service is
+abbrev pub Idle : Pdu → Type 0
+Idle p = wishOf p ≡ nothing
+
+taken-is : (p : Pdu) (m : ℕ) → Idle p ⊎ ((taken (wishOf p) m ≡ true) ↔ Takes (serviceOf p) m)
+taken-is GroupValueRead m = inl refl
+taken-is (GroupValueResponse v) m = inr (one-mode m 0)
+taken-is (GroupValueWrite v) m = inr (one-mode m 0)
+taken-is (IndividualAddressWrite v) m = inr (one-mode m 1)
+taken-is IndividualAddressRead m = inl refl
+taken-is (SerialNumberRead n) m = inl refl
+taken-is (SerialNumberWrite n v) m = inr (one-mode m 1)
+taken-is (DeviceDescriptorRead t) m = inl refl
+taken-is (PropertyValueRead o i n s) m = inl refl
+taken-is (PropertyValueWrite o i n s) m = inr (either-mode m 2 3)
+taken-is (PropertyDescriptionRead o i n) m = inl refl
+taken-is (MemoryRead n y) m = inl refl
+taken-is (MemoryWrite n y) m = inr (one-mode m 3)
+taken-is (MemoryBitWrite n y) m = inr (one-mode m 3)
+taken-is (AuthorizeRequest n) m = inr (one-mode m 3)
+taken-is (KeyWrite l n) m = inr (one-mode m 3)
+taken-is Restart m = inr (one-mode m 3)
+taken-is IndividualAddressResponse m = inl refl
+taken-is (SerialNumberResponse n d) m = inl refl
+taken-is (DeviceDescriptorResponse t) m = inl refl
+taken-is (PropertyValueResponse o i n s) m = inl refl
+taken-is (PropertyDescriptionResponse o i n k x l) m = inl refl
+taken-is (MemoryResponse n y) m = inl refl
+taken-is (AuthorizeResponse l) m = inl refl
+taken-is (KeyResponse l) m = inl refl
+
+module _ (x : State) (mode g : ℕ) (a out : List ℕ) (accepted : ruleOf (x .sheet) ≡ 0) where
+  abbrev Tests : Wish → List Bool
+  Tests w =
+      leb 16 (length out) ∷
+      leb 2 (length a) ∷
+      leb (length a) 16 ∷ leb mode 3 ∷ (not (eqb mode 3) || x .session .opened) ∷ taken w mode ∷ []
+
+  -- connected only while open
+  while-open : (m : ℕ) (live : Bool) → (not (eqb m 3) || live) ≡ true → m ≡ connected → live ≡ true
+  while-open m live e h = rw (eq-eqb m 3 h) at e
+
+  open-test : (m : ℕ) (live : Bool) → (m ≡ connected → live ≡ true) → (not (eqb m 3) || live) ≡ true
+  open-test m live f = go (decided (eqb m 3))
+    where
+      go : (eqb m 3 ≡ true) ⊎ (eqb m 3 ≡ false) → (not (eqb m 3) || live) ≡ true
+      go (inl e) = rw e (f (eqb-true m 3 e))
+      go (inr e) = rw e
+
+  -- the checks before the rights, but for the mode
+  pub ready-is :
+      (w : Wish) → (heard (x .session .opened) mode a out w ≡ true) ↔ (Ready (asked x mode g a out) × (taken w mode ≡ true))
+  unfolding heard
+  ready-is w = (
+    λ e. (
+      record {
+        buffer = leb-true _ _ (all-at (Tests w) e 0);
+        sheet = accepted;
+        least = leb-true _ _ (all-at (Tests w) e 1);
+        most = leb-true _ _ (all-at (Tests w) e 2);
+        mode = leb-true _ _ (all-at (Tests w) e 3);
+        session = while-open mode (x .session .opened) (all-at (Tests w) e 4);
+      },
+      all-at (Tests w) e 5,
+    ),
+    λ h.
+        simp
+        (le-leb _ _ (h .0 .buffer), le-leb _ _ (h .0 .least), le-leb _ _ (h .0 .most), le-leb _ _ (h .0 .mode), open-test mode (x .session .opened) (h .0 .session), h .1),
+  )
+
+  -- A REQUEST THAT READS IS HEARD EXACTLY IF IT IS READY AND ITS MODE TAKES IT
+  pub heard-is :
+      (p : Pdu) → readPdu a ≡ Is p → (Idle p → ⊥) →
+      (heard (x .session .opened) mode a out (asks a) ≡ true) ↔ (Ready (asked x mode g a out) × Takes (serviceOf p) mode)
+  heard-is p e concerned = go (taken-is p mode)
+    where
+      go : Idle p ⊎ ((taken (wishOf p) mode ≡ true) ↔ Takes (serviceOf p) mode)
+          → (heard (x .session .opened) mode a out (asks a) ≡ true) ↔ (Ready (asked x mode g a out) × Takes (serviceOf p) mode)
+      go (inl i) = absurd (concerned i)
+      go (inr t) =
+          rw (asks-is a p e)
+          (λ h. let r = ready-is (wishOf p) .0 h in (r .0, t .0 (r .1)), λ h. ready-is (wishOf p) .1 (h .0, t .1 (h .1)))
+
+  -- what is heard reads as a PDU that a history is concerned with
+  pub heard-reads : heard (x .session .opened) mode a out (asks a) ≡ true → (p : Pdu) × Reads (asked x mode g a out) p
+  heard-reads h = go (readPdu a) refl
+    where
+      of-none : asks a ≡ nothing → ⊥
+      of-none e = never (rw e at (ready-is (asks a) .0 h .1))
+
+      go : (q : Parsed) → readPdu a ≡ q → (p : Pdu) × Reads (asked x mode g a out) p
+      go (Is p) e =
+          let r = heard-is p e (λ i. of-none (asks-is a p e ∙ i)) .0 h in
+          (p, record { ready = r .0; takes = r .1; reads = e })
+      go (Refused n) e = absurd (of-none (refused-asks a n e))
+
+  pub reads-heard : (p : Pdu) → Reads (asked x mode g a out) p → (Idle p → ⊥) → heard (x .session .opened) mode a out (asks a) ≡ true
+  reads-heard p r c = heard-is p (r .reads) c .1 (r .ready, r .takes)

@@ -1,0 +1,119 @@
+-- Key writes, carried out and denied; a key offered.
+-- Assumes nothing.
+use Prim.Native.Nat.{ℕ, _+_, _*_, _<_, _≤_}
+use mathlib.Core.Path.{_≡_, refl, sym, _∙_}
+use mathlib.Core.Bool.{false}
+use mathlib.Core.List.{List, _∷_}
+use lib.ListN.{length, getD}
+use native.Mathlib.Omega.{arith}
+use borrow.Author.Tests.{eq-eqb, ne-eqb}
+use Rattle.octets.specs.Bytes.{numAt, bytesOf}
+use Rattle.octets.specs.Splice.{splice}
+use Rattle.octets.proofs.Numbers.{length-bytes}
+use Rattle.sheet.specs.Layout.{_of_}
+use Rattle.sheet.specs.Head as head
+use Rattle.sheet.proofs.Stores.{key-store}
+use Rattle.pdu.specs.declared.Pdu.the-variants.{AuthorizeRequest, KeyWrite}
+use Rattle.device.specs.Events.{Event, State, request}
+use Rattle.device.specs.Asked.{Asked, Reads, given}
+use Rattle.device.specs.Right.{KeyWritable, Grants, key0, key1, key2, other}
+use Rattle.history.specs.Location.{key}
+use Rattle.history.specs.Wish.{Wish, offerKey, asks}
+use Rattle.history.specs.Permit.{allowed}
+use Rattle.history.specs.History.{First, keyIn, offered, level, content, permitted}
+use Rattle.history.specs.Keeps.{Begins}
+use Rattle.history.specs.Rightful.{asked}
+use Rattle.history.proofs.Hearing.{asks-is}
+use Rattle.history.proofs.Invariant.{Inv, fine, now, means-as}
+use Rattle.history.proofs.KeyRun.{key-place, key-run}
+use Rattle.history.proofs.Means.{long, store-run}
+use Rattle.history.proofs.Octet.{octets-bytes}
+use Rattle.history.proofs.Permits.{key-is}
+use Rattle.history.proofs.Requests.{Done, opens-same, levels-new, programs-same, addresses-same, values-same, contents-same, forbidden}
+use Rattle.history.proofs.Writes.{heard-now, carried-out, denied}
+use Rattle.pdu.proofs.Truths.{never}
+
+-- the level that a number gets is the one that the keys grant
+granted : (s : List ℕ) (keys : ℕ → ℕ) (number before : ℕ) → keys 0 ≡ head.key 0 of s → keys 1 ≡ head.key 1 of s → keys 2 ≡ head.key 2 of s →
+    {l : ℕ} → Grants s number l → l ≡ offered keys before (offerKey number)
+granted s keys number before a b c (key0 p) = rw (a, eq-eqb number (head.key 0 of s) (sym p))
+granted s keys number before a b c (key1 p q) =
+    rw (a, b, ne-eqb number (head.key 0 of s) (λ e. p (sym e)), eq-eqb number (head.key 1 of s) (sym q))
+granted s keys number before a b c (key2 p q r) =
+    rw (a, b, c, ne-eqb number (head.key 0 of s) (λ e. p (sym e)), ne-eqb number (head.key 1 of s) (λ e. q (sym e)), eq-eqb number (head.key 2 of s) (sym r))
+granted s keys number before a b c (other p q r) =
+    rw (a, b, c, ne-eqb number (head.key 0 of s) (λ e. p (sym e)), ne-eqb number (head.key 1 of s) (λ e. q (sym e)), ne-eqb number (head.key 2 of s) (λ e. r (sym e)))
+
+module _ (f : First) (b : Begins f) (h : List Event) (x : State) (inv : Inv f h x) (mode g : ℕ) (a out : List ℕ) where
+  abbrev R : Asked
+  R = asked x mode g a out
+
+  -- A KEY WRITE, carried out
+  pub key-written :
+      (named number : ℕ) → Reads R (KeyWrite named number) → KeyWritable R named → (k : ℕ) (answer : List ℕ) → k ≤ 1 →
+      Done f h mode g a out
+      (record { outcome = k; answer = answer; session = x .session; sheet = splice (x .sheet) ((head.key named) .at) (bytesOf 4 number) })
+  key-written named number r w k answer low =
+      carried-out f b h x inv mode g a out (KeyWrite named number) r tt
+      (key-is R (now inv b) named number (given R (KeyWrite named number)) .1 w)
+      k answer _ low
+      (store-run (fine inv b) (inv .means) _ _ ((head.key named) .at) (bytesOf 4 number)
+      (omega (arith, size, w .known, long (fine inv b) (inv .means)))
+      (key-run (f .sheet) (content f h) (given R (KeyWrite named number)) named number (omega (arith, w .known)))
+      (key-store (now inv b) named (bytesOf 4 number) (omega (arith, w .known)) size)
+      (octets-bytes 4 number))
+    where
+      size : length (bytesOf 4 number) ≡ 4
+      size = length-bytes 4 number
+
+  -- and denied
+  pub key-denied :
+      (named number : ℕ) → Reads R (KeyWrite named number) → (KeyWritable R named → ⊥) → (k : ℕ) (answer : List ℕ) → 1 < k →
+      Done f h mode g a out (record { outcome = k; answer = answer; session = x .session; sheet = x .sheet })
+  key-denied named number r none k answer high =
+      denied f b h x inv mode g a out (KeyWrite named number) r tt
+      (λ e. none (key-is R (now inv b) named number (given R (KeyWrite named number)) .0 e))
+      k answer high
+
+  -- what a key is by the history
+  key-now : (l : ℕ) → l < 3 → keyIn (content f h) l ≡ head.key l of x .sheet
+  unfolding keyIn numAt
+  key-now l low =
+      let at : (j : ℕ) → j < 4 → getD (x .sheet) (18 + 4 * l + j) 0 ≡ content f h (key l j) =
+      λ j k. inv .means .holds (key l j) _ (key-place (f .sheet) l j low k) in
+      omega (arith, at 0 (omega arith), at 1 (omega arith), at 2 (omega arith), at 3 (omega arith))
+
+  -- A KEY OFFERED
+  pub authorized :
+      (number l : ℕ) → Reads R (AuthorizeRequest number) → Grants (x .sheet) number l → (k : ℕ) (answer : List ℕ) →
+      Done f h mode g a out
+      (record { outcome = k; answer = answer; session = record { opened = x .session .opened; level = l }; sheet = x .sheet })
+  unfolding allowed
+  authorized number l r q k answer =
+      record {
+        next =
+            record {
+              session = inv .session ∙ sym (opens-same f h mode g a out w e refl);
+              rights = granted (x .sheet) (keyIn (content f h)) number (level f h) (key-now 0 (omega arith)) (key-now 1 (omega arith)) (key-now 2 (omega arith)) q ∙ sym new;
+              means =
+                  means-as (inv .means) (λ y. sym (contents-same f h mode g a out none y))
+                  (sym (addresses-same f h mode g a out w e (λ m s v. refl))) (sym (programs-same f h mode g a out w e refl))
+                  (λ i j m. sym (values-same f h mode g a out w e (λ n k d j v. refl) i j));
+            };
+        only = λ c. absurd (rw e at (c .writing));
+        all = λ p. never (sym none ∙ p);
+      }
+    where
+      w : Wish
+      w = offerKey number
+
+      e : asks a ≡ w
+      e = asks-is a (AuthorizeRequest number) (r .reads)
+
+      none : permitted f h (request mode g a out) ≡ false
+      none = forbidden f h mode g a out w e refl
+
+      new : level f (request mode g a out ∷ h) ≡ offered (keyIn (content f h)) (level f h) w
+      new =
+          levels-new f h mode g a out w e
+          (heard-now f b h x inv mode g a out (AuthorizeRequest number) r (λ q. let z : _≡_ {A = ℕ} 0 1 = cc in omega arith))

@@ -1,0 +1,198 @@
+-- What a sheet means, its places being those of the first sheet f: what the locations, the address, the flags and the group objects hold. And what each kind of store makes of it.
+-- Assumes nothing.
+use Prim.Native.Nat.{ℕ, _+_, _/_, _%_, _<_, _≤_}
+use mathlib.Core.Path.{_≡_, sym, ap, subst, _∙_}
+use mathlib.Core.Logic.{_⊎_, inl, inr}
+use mathlib.Core.Bool.{Bool, cond}
+use mathlib.Core.List.{List, [], _∷_}
+use lib.ListN.{length, getD}
+use native.Mathlib.Decide.{ℕ-discrete}
+use native.Mathlib.Omega.{arith}
+use Rattle.octets.specs.Bytes.{numAt, bytesOf}
+use Rattle.octets.specs.Splice.{splice}
+use Rattle.octets.proofs.Numbers.{num-same, length-bytes}
+use Rattle.octets.proofs.Splices.{splice-in, splice-outside, splice-num, splice-num-outside}
+use Rattle.sheet.specs.Kind.{groups}
+use Rattle.sheet.specs.Layout.{_of_}
+use Rattle.sheet.specs.Head as head
+use Rattle.sheet.specs.Entries.{count, bodyAt, bodyEnd, InBody}
+use Rattle.sheet.specs.Frame.{Agree}
+use Rattle.sheet.proofs.Good.{Good}
+use Rattle.sheet.proofs.Frames.{agree-trans, kept}
+use Rattle.sheet.proofs.Stores.{Fit, body-store, address-store, flags-store}
+use Rattle.sheet.proofs.Lie.{Inside, within, disjoint}
+use Rattle.sheet.proofs.Sames.{count-same, at-same, end-same}
+use Rattle.history.specs.Location.{Location, Place}
+use Rattle.device.specs.Octets.{Octets}
+use Rattle.history.specs.Keeps.{Still}
+use Rattle.history.proofs.Places.{no-group, place-after, past-contents}
+use Rattle.history.proofs.Octet.{octets-bytes, octets-splice}
+use Rattle.history.proofs.Stored.{Run, away, stored, spared}
+
+-- the locations hold c, the address is adr, programming mode is prog, byte j of group object i is grp i j, and all else is as at first
+pub record Means (f : List ℕ) (c : Location → ℕ) (adr prog : ℕ) (grp : ℕ → ℕ → ℕ) (s : List ℕ) : Type 0 where
+  pub agree : Agree f s
+  pub octets : Octets s
+  pub holds : (x : Location) (p : ℕ) → Place f x p → getD s p 0 ≡ c x
+  pub still : (p : ℕ) → Still f p → getD s p 0 ≡ getD f p 0
+  pub address : head.address of s ≡ adr
+  pub programming : head.programming s ≡ prog
+  pub verify : head.verify s ≡ head.verify f
+  pub group :
+      (i j : ℕ) → InBody f groups i (bodyAt f groups i + j) → getD s (bodyAt f groups i + j) 0 ≡ grp i j
+
+-- one byte
+one-byte : (v : ℕ) → v ≤ 3 → v ∷ [] ≡ bytesOf 1 v
+unfolding bytesOf
+one-byte v h = ap (λ (n : ℕ). n ∷ []) (let e : v ≡ v % 256 = omega arith in e)
+
+module _ {f : List ℕ} (g : Good 1 f) {c : Location → ℕ} {adr prog : ℕ} {grp : ℕ → ℕ → ℕ} {s : List ℕ} (m : Means f c adr prog grp s) where
+  fine : Good 1 s
+  fine = kept g (m .agree)
+
+  pub long : 32 ≤ length s
+  long = omega (arith, fine .framed)
+
+  -- A RUN OF LOCATIONS
+  pub store-run :
+      (named : Location → Bool) (given : Location → ℕ) (o : ℕ) (ds : List ℕ) → o + length ds ≤ length s → Run f named given o ds →
+      Agree s (splice s o ds) → Octets ds → Means f (λ x. cond (named x) (given x) (c x)) adr prog grp (splice s o ds)
+  store-run named given o ds room run a b =
+      record {
+        agree = agree-trans (m .agree) a;
+        octets = octets-splice s o ds room (m .octets) b;
+        holds = λ x p h.
+            stored g s named given o ds room run x p h ∙ ap (λ (n : ℕ). cond (named x) (given x) n) (m .holds x p h);
+        still = λ p h. spare p (h .location) ∙ m .still p h;
+        address = early 16 2 (omega arith) ∙ m .address;
+        programming = ap (λ (n : ℕ). n % 2) (early 14 1 (omega arith)) ∙ m .programming;
+        verify = ap (λ (n : ℕ). n / 2 % 2) (early 14 1 (omega arith)) ∙ m .verify;
+        group = λ i j h. spare _ (λ x q. no-group g q h) ∙ m .group i j h;
+      }
+    where
+      spare : (p : ℕ) → ((x : Location) → Place f x p → ⊥) → getD (splice s o ds) p 0 ≡ getD s p 0
+      spare = spared g s named given o ds room run
+
+      early : (p w : ℕ) → p + w ≤ 18 → numAt (splice s o ds) p w ≡ numAt s p w
+      early p w h =
+          num-same (splice s o ds) s p p w (λ i l. spare (p + i) (λ x q. omega (arith, place-after g q)))
+
+  -- NEW FLAGS, verify as it was
+  pub store-flags :
+      (v : ℕ) → v ≤ 3 → v / 2 % 2 ≡ head.verify f → Means f c adr (v % 2) grp (splice s (head.flags .at) (bytesOf 1 v))
+  store-flags v low e =
+      record {
+        agree = agree-trans (m .agree) (subst (λ (ds : List ℕ). Agree s (splice s 14 ds)) (one-byte v low) (flags-store fine v low));
+        octets = octets-splice s 14 ds room (m .octets) (octets-bytes 1 v);
+        holds = λ x p h. late p (omega (arith, place-after g h)) ∙ m .holds x p h;
+        still = λ p h. off p (h .flags) ∙ m .still p h;
+        address = splice-num-outside s 14 ds room 16 2 (inr (omega (arith, size))) ∙ m .address;
+        programming = ap (λ (n : ℕ). n % 2) flags;
+        verify = ap (λ (n : ℕ). n / 2 % 2) flags ∙ e;
+        group = λ i j h. late _ (omega (arith, past-contents g h)) ∙ m .group i j h;
+      }
+    where
+      ds : List ℕ
+      ds = bytesOf 1 v
+
+      size : length ds ≡ 1
+      size = length-bytes 1 v
+
+      room : 14 + length ds ≤ length s
+      room = omega (arith, size, long)
+
+      flags : head.flags of splice s 14 ds ≡ v
+      flags = splice-num s 14 1 v (omega (arith, long)) (omega arith)
+
+      off : (p : ℕ) → (p ≡ 14 → ⊥) → getD (splice s 14 ds) p 0 ≡ getD s p 0
+      off p h = splice-outside s 14 ds room p (away 14 (length ds) p (λ a b. h (omega (arith, size))))
+
+      late : (p : ℕ) → 15 ≤ p → getD (splice s 14 ds) p 0 ≡ getD s p 0
+      late p h = off p (omega arith)
+
+  -- A NEW ADDRESS
+  pub store-address : (v : ℕ) → v < 65536 → Means f c v prog grp (splice s (head.address .at) (bytesOf 2 v))
+  store-address v low =
+      record {
+        agree = agree-trans (m .agree) (address-store fine ds size);
+        octets = octets-splice s 16 ds room (m .octets) (octets-bytes 2 v);
+        holds = λ x p h. late p (place-after g h) ∙ m .holds x p h;
+        still = λ p h. off p (h .address) ∙ m .still p h;
+        address = splice-num s 16 2 v (omega (arith, long)) low;
+        programming = ap (λ (n : ℕ). n % 2) early ∙ m .programming;
+        verify = ap (λ (n : ℕ). n / 2 % 2) early ∙ m .verify;
+        group = λ i j h. late _ (omega (arith, past-contents g h)) ∙ m .group i j h;
+      }
+    where
+      ds : List ℕ
+      ds = bytesOf 2 v
+
+      size : length ds ≡ 2
+      size = length-bytes 2 v
+
+      room : 16 + length ds ≤ length s
+      room = omega (arith, size, long)
+
+      early : head.flags of splice s 16 ds ≡ head.flags of s
+      early = splice-num-outside s 16 ds room 14 1 (inl (omega arith))
+
+      off : (p : ℕ) → (p < 16) ⊎ (16 + 2 ≤ p) → getD (splice s 16 ds) p 0 ≡ getD s p 0
+      off p (inl h) = splice-outside s 16 ds room p (inl h)
+      off p (inr h) = splice-outside s 16 ds room p (inr (omega (arith, size)))
+
+      late : (p : ℕ) → 18 ≤ p → getD (splice s 16 ds) p 0 ≡ getD s p 0
+      late p h = off p (inr (omega arith))
+
+  -- A GROUP VALUE
+  module _ (i : ℕ) (below : i < count f groups) (ds : List ℕ) (size : bodyAt f groups i + length ds ≡ bodyEnd f groups i) where
+    inside : (p : ℕ) → bodyAt f groups i ≤ p → p < bodyAt f groups i + length ds → InBody f groups i p
+    inside p a b = record { kind = omega arith; below = below; from = a; to = omega arith }
+
+    pub store-group :
+        (new : ℕ → ℕ → ℕ) → ((j : ℕ) → j < length ds → new i j ≡ getD ds j 0) → ((k j : ℕ) → k < count f groups → (k ≡ i → ⊥) → new k j ≡ grp k j) →
+        Fit s groups i ds → Octets ds → Means f c adr prog new (splice s (bodyAt f groups i) ds)
+    store-group new here there fit b =
+        record {
+          agree = agree-trans (m .agree) (body-store fine groups i o ds lies fit);
+          octets = octets-splice s o ds room (m .octets) b;
+          holds = λ x p h. off p (λ k. no-group g h k) ∙ m .holds x p h;
+          still = λ p h. off p (h .group i) ∙ m .still p h;
+          address = early 16 2 (omega arith) ∙ m .address;
+          programming = ap (λ (n : ℕ). n % 2) (early 14 1 (omega arith)) ∙ m .programming;
+          verify = ap (λ (n : ℕ). n / 2 % 2) (early 14 1 (omega arith)) ∙ m .verify;
+          group = λ k j h. at k j h (ℕ-discrete k i);
+        }
+      where
+        o : ℕ
+        o = bodyAt f groups i
+
+        room : o + length ds ≤ length s
+        room = omega (arith, size, within g groups i (omega arith) below, m .agree .long)
+
+        lies : Inside s groups i o (length ds)
+        lies =
+            record {
+              kind = omega arith;
+              below = omega (arith, count-same (m .agree) groups);
+              from = omega (arith, at-same (m .agree) groups i (omega arith) below);
+              to = omega (arith, size, end-same (m .agree) groups i (omega arith) below);
+            }
+
+        off : (p : ℕ) → (InBody f groups i p → ⊥) → getD (splice s o ds) p 0 ≡ getD s p 0
+        off p h = splice-outside s o ds room p (away o (length ds) p (λ a b. h (inside p a b)))
+
+        early : (p w : ℕ) → p + w ≤ 18 → numAt (splice s o ds) p w ≡ numAt s p w
+        early p w h =
+            num-same (splice s o ds) s p p w (λ k l. off (p + k) (λ q. omega (arith, past-contents g q)))
+
+        at : (k j : ℕ) → InBody f groups k (bodyAt f groups k + j) → Dec (k ≡ i) → getD (splice s o ds) (bodyAt f groups k + j) 0 ≡ new k j
+        at k j h (yes e) =
+            let z : bodyAt f groups k ≡ o = ap (bodyAt f groups) e in
+            let w : bodyEnd f groups k ≡ bodyEnd f groups i = ap (bodyEnd f groups) e in
+            let l : j < length ds = omega (arith, h .to, size) in
+            ap (λ (n : ℕ). getD (splice s o ds) (n + j) 0) z
+            ∙ splice-in s o ds room j l
+            ∙ sym (here j l)
+            ∙ ap (λ (n : ℕ). new n j) (sym e)
+        at k j h (no e) =
+            off _ (λ q. e (disjoint g groups k groups i _ h q .1)) ∙ m .group k j h ∙ sym (there k j (h .below) e)

@@ -1,0 +1,61 @@
+-- Bytes stay below 256: in numbers, in data, in what bit writes give, and in a sheet after a store.
+-- Assumes nothing.
+use Prim.Native.Nat.{ℕ, zero, suc, _+_, _-_, _/_, _%_, _<_, _≤_}
+use mathlib.Core.Path.{_≡_, ap, _∙_}
+use mathlib.Core.Logic.{inl, inr}
+use mathlib.Core.List.{List, [], _∷_, _++_}
+use lib.ListN.{length, getD}
+use lib.Seq.{getD-drop}
+use lib.Bits.{and-lt, xor-lt}
+use native.Mathlib.Decide.{decLt}
+use native.Mathlib.Omega.{arith}
+use Rattle.octets.specs.Bytes.{bytesOf}
+use Rattle.octets.specs.Splice.{splice}
+use Rattle.octets.proofs.Splices.{splice-in, splice-outside}
+use Rattle.pdu.specs.Read.{dataAt, dataOf}
+use Rattle.pdu.specs.declared.Pdu.{Pdu}
+use Rattle.device.specs.Octets.{Octets}
+use Rattle.device.specs.Carry.{build, bitAt}
+
+pub octets-none : Octets []
+octets-none i = omega arith
+
+pub octets-one : (x : ℕ) → x < 256 → Octets (x ∷ [])
+octets-one x h zero = h
+octets-one x h (suc i) = omega arith
+
+octets-append : (a b : List ℕ) → Octets a → Octets b → Octets (a ++ b)
+octets-append [] b p q i = q i
+octets-append (x ∷ a) b p q zero = p 0
+octets-append (x ∷ a) b p q (suc i) = octets-append a b (λ j. p (suc j)) q i
+
+pub octets-bytes : (w x : ℕ) → Octets (bytesOf w x)
+unfolding bytesOf
+octets-bytes zero x = octets-none
+octets-bytes (suc w) x =
+    octets-append (bytesOf w (x / 256)) (x % 256 ∷ []) (octets-bytes w (x / 256)) (octets-one (x % 256) (omega arith))
+
+pub octets-data : (p : Pdu) (a : List ℕ) → Octets a → Octets (dataOf p a)
+unfolding dataOf
+octets-data p a h i = rw (getD-drop (dataAt p) a i 0) (h (dataAt p + i))
+
+octets-build : (n : ℕ) (f : ℕ → ℕ) → ((i : ℕ) → f i < 256) → Octets (build n f)
+unfolding build
+octets-build zero f h = octets-none
+octets-build (suc n) f h = octets-append (build n f) (f n ∷ []) (octets-build n f h) (octets-one (f n) (h n))
+
+pub octets-bits : (s : List ℕ) (at n : ℕ) (d : List ℕ) → Octets s → Octets d → Octets (build n (bitAt s at n d))
+unfolding bitAt
+octets-bits s at n d p q =
+    octets-build n (bitAt s at n d)
+    (λ i. xor-lt 8 _ _ (and-lt 8 _ _ (p (at + i)) (q i)) (q (n + i)))
+
+pub octets-splice : (s : List ℕ) (o : ℕ) (ds : List ℕ) → o + length ds ≤ length s → Octets s → Octets ds → Octets (splice s o ds)
+octets-splice s o ds room a b p = go (decLt p o) (decLt p (o + length ds))
+  where
+    go : Dec (p < o) → Dec (p < o + length ds) → getD (splice s o ds) p 0 < 256
+    go (yes h) d = rw (splice-outside s o ds room p (inl h)) (a p)
+    go (no h) (no l) = rw (splice-outside s o ds room p (inr (omega arith))) (a p)
+    go (no h) (yes l) =
+        let e : p ≡ o + (p - o) = omega arith in
+        rw (ap (λ (i : ℕ). getD (splice s o ds) i 0) e ∙ splice-in s o ds room (p - o) (omega arith)) (b (p - o))

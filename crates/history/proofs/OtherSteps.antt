@@ -1,0 +1,210 @@
+-- The individual address, and a restart.
+-- Assumes nothing.
+use Prim.Native.Nat.{ℕ, _+_, _-_, _/_, _%_, _<_}
+use mathlib.Core.Path.{_≡_, refl, sym, _∙_}
+use mathlib.Core.Logic.{inl}
+use mathlib.Core.Bool.{true, false}
+use mathlib.Core.List.{List, _∷_}
+use native.Mathlib.Omega.{arith}
+use borrow.Author.Tests.{eq-eqb, ne-eqb}
+use Rattle.octets.specs.Bytes.{bytesOf}
+use Rattle.octets.specs.Splice.{splice}
+use Rattle.octets.proofs.Numbers.{num-same}
+use Rattle.sheet.specs.Layout.{_of_}
+use Rattle.sheet.specs.Head as head
+use Rattle.pdu.specs.declared.Pdu.{Pdu}
+use Rattle.pdu.specs.declared.Pdu.the-variants.{IndividualAddressWrite, SerialNumberWrite, Restart}
+use Rattle.pdu.proofs.Truths.{never}
+use Rattle.device.specs.Octets.{Octets}
+use Rattle.device.specs.Events.{Event, State}
+use Rattle.device.specs.Asked.{Asked, Reads}
+use Rattle.device.specs.Right.{Programming}
+use Rattle.history.specs.Wish.{Wish, nothing, address, addressFor, restart, wishOf, asks}
+use Rattle.history.specs.Permit.{allowed}
+use Rattle.history.specs.History.{First, isRestart, offered, opened, level, permitted}
+use Rattle.history.specs.Others.{programming, individual, newAddress, newValue}
+use Rattle.history.specs.Keeps.{Begins, Still, Writing}
+use Rattle.history.specs.Rightful.{asked}
+use Rattle.history.proofs.Carried.{address-field, serial-address}
+use Rattle.history.proofs.Hearing.{asks-is}
+use Rattle.history.proofs.Invariant.{Inv, fine, now, means-as}
+use Rattle.history.proofs.Means.{store-flags, store-address}
+use Rattle.history.proofs.Places.{no-head, past-contents}
+use Rattle.history.proofs.Requests.{E, Ok, Done, opens-same, opens-new, levels-same, levels-new, programs-same, programs-new, addresses-same, addresses-new, values-same, contents-same, forbidden, left}
+use Rattle.history.proofs.Writes.{heard-now}
+
+-- a request that may change the address, and nothing else
+record Addressing (w : Wish) : Type 0 where
+  restarts : isRestart w ≡ false
+  offers : (k : ℕ → ℕ) (l : ℕ) → offered k l w ≡ l
+  values : (n : List ℕ) (k : ℕ) (d : List ℕ) (j v : ℕ) → newValue n k d j v w ≡ v
+  forbids : (s : List ℕ) (l : ℕ) (d : List ℕ) → allowed s l d w ≡ false
+  no-write : Writing w → ⊥
+  concerned : w ≡ nothing → ⊥
+
+by-mode : (v : ℕ) → Addressing (address v)
+unfolding allowed
+by-mode v =
+    record {
+      restarts = refl;
+      offers = λ k l. refl;
+      values = λ n k d j v. refl;
+      forbids = λ s l d. refl;
+      no-write = λ z. z;
+      concerned = λ e. let z : _≡_ {A = ℕ} 0 1 = cc in omega arith;
+    }
+
+by-serial : (n v : ℕ) → Addressing (addressFor n v)
+unfolding allowed
+by-serial n v =
+    record {
+      restarts = refl;
+      offers = λ k l. refl;
+      values = λ n k d j v. refl;
+      forbids = λ s l d. refl;
+      no-write = λ z. z;
+      concerned = λ e. let z : _≡_ {A = ℕ} 0 1 = cc in omega arith;
+    }
+
+module _ (f : First) (b : Begins f) (h : List Event) (x : State) (inv : Inv f h x) (mode g : ℕ) (a out : List ℕ) where
+  abbrev R : Asked
+  R = asked x mode g a out
+
+  -- the serial number never changes
+  serial-same : head.serial of x .sheet ≡ head.serial of f .sheet
+  serial-same = num-same (x .sheet) (f .sheet) 6 6 6 (λ i l. inv .means .still (6 + i) (still (6 + i) (omega arith)))
+    where
+      still : (p : ℕ) → p < 12 → Still (f .sheet) p
+      still p l =
+          record {
+            inside = omega (arith, fine inv b .framed);
+            location = λ y. no-head (fine inv b) (omega arith) (inl (omega arith));
+            group = λ i q. omega (arith, past-contents (fine inv b) q);
+            address = inl (omega arith);
+            flags = omega arith;
+          }
+
+  module _ (p : Pdu) (w : Wish) (c : wishOf p ≡ w) (q : Addressing w) (r : Reads R p) where
+    abbrev New : ℕ
+    New = newAddress (programming f h) (head.serial of f .sheet) (individual f h) w
+
+    e : asks a ≡ w
+    e = asks-is a p (r .reads) ∙ c
+
+    new-is : individual f (E f h mode g a out ∷ h) ≡ New
+    new-is =
+        addresses-new f h mode g a out w e (heard-now f b h x inv mode g a out p r (λ z. q .concerned (sym c ∙ z)))
+
+    none : permitted f h (E f h mode g a out) ≡ false
+    none = forbidden f h mode g a out w e (q .forbids _ _ _)
+
+    address-new :
+        (k : ℕ) (answer : List ℕ) (new : ℕ) → new < 65536 → New ≡ new →
+        Done f h mode g a out
+        (record { outcome = k; answer = answer; session = x .session; sheet = splice (x .sheet) (head.address .at) (bytesOf 2 new) })
+    address-new k answer new low is =
+        record {
+          next =
+              record {
+                session = inv .session ∙ sym (opens-same f h mode g a out w e (q .restarts));
+                rights = inv .rights ∙ sym (levels-same f h mode g a out w e (q .offers));
+                means =
+                    means-as (store-address (fine inv b) (inv .means) new low) (λ y. sym (contents-same f h mode g a out none y))
+                    (sym (new-is ∙ is)) (sym (programs-same f h mode g a out w e (q .restarts)))
+                    (λ i j l. sym (values-same f h mode g a out w e (q .values) i j));
+              };
+          only = λ z. absurd (q .no-write (rw e at (z .writing)));
+          all = λ z. never (sym none ∙ z);
+        }
+
+    address-left :
+        (k : ℕ) (answer : List ℕ) → New ≡ individual f h →
+        Done f h mode g a out (record { outcome = k; answer = answer; session = x .session; sheet = x .sheet })
+    address-left k answer is =
+        left f h mode g a out x inv
+        (record {
+          opens = opens-same f h mode g a out w e (q .restarts);
+          levels = levels-same f h mode g a out w e (q .offers);
+          addresses = new-is ∙ is;
+          programs = programs-same f h mode g a out w e (q .restarts);
+          values = λ i j l. values-same f h mode g a out w e (q .values) i j;
+        })
+        none k answer (λ z l. q .no-write (rw e at z))
+
+  -- THE ADDRESS IN PROGRAMMING MODE
+  programming-is : head.programming (x .sheet) ≡ programming f h
+  programming-is = inv .means .programming
+
+  pub address-written :
+      (v : ℕ) → Octets a → Reads R (IndividualAddressWrite v) → Programming R → (k : ℕ) (answer : List ℕ) →
+      Done f h mode g a out
+      (record { outcome = k; answer = answer; session = x .session; sheet = splice (x .sheet) (head.address .at) (bytesOf 2 v) })
+  address-written v octets r on k answer =
+      address-new (IndividualAddressWrite v) (address v) refl (by-mode v) r k answer v (address-field a octets (r .reads))
+      (rw (eq-eqb (programming f h) 1 (sym programming-is ∙ on)))
+
+  pub address-unwritten :
+      (v : ℕ) → Reads R (IndividualAddressWrite v) → (Programming R → ⊥) → (k : ℕ) (answer : List ℕ) →
+      Done f h mode g a out (record { outcome = k; answer = answer; session = x .session; sheet = x .sheet })
+  address-unwritten v r off k answer =
+      address-left (IndividualAddressWrite v) (address v) refl (by-mode v) r k answer
+      (rw (ne-eqb (programming f h) 1 (λ z. off (programming-is ∙ z))))
+
+  -- AND BY THE SERIAL NUMBER
+  pub serial-written :
+      (n v : ℕ) → Octets a → Reads R (SerialNumberWrite n v) → n ≡ head.serial of x .sheet → (k : ℕ) (answer : List ℕ) →
+      Done f h mode g a out
+      (record { outcome = k; answer = answer; session = x .session; sheet = splice (x .sheet) (head.address .at) (bytesOf 2 v) })
+  serial-written n v octets r on k answer =
+      address-new (SerialNumberWrite n v) (addressFor n v) refl (by-serial n v) r k answer v (serial-address a octets (r .reads))
+      (rw (eq-eqb n (head.serial of f .sheet) (on ∙ serial-same)))
+
+  pub serial-unwritten :
+      (n v : ℕ) → Reads R (SerialNumberWrite n v) → (n ≡ head.serial of x .sheet → ⊥) → (k : ℕ) (answer : List ℕ) →
+      Done f h mode g a out (record { outcome = k; answer = answer; session = x .session; sheet = x .sheet })
+  serial-unwritten n v r off k answer =
+      address-left (SerialNumberWrite n v) (addressFor n v) refl (by-serial n v) r k answer
+      (rw (ne-eqb n (head.serial of f .sheet) (λ z. off (z ∙ sym serial-same))))
+
+  -- A RESTART
+  pub restarted :
+      Reads R Restart → (k : ℕ) (answer : List ℕ) →
+      Done f h mode g a out
+      (record {
+        outcome = k;
+        answer = answer;
+        session = record { opened = false; level = 3 };
+        sheet = splice (x .sheet) (head.flags .at) (bytesOf 1 (head.flags of x .sheet - head.programming (x .sheet)));
+      })
+  unfolding allowed
+  restarted r k answer =
+      record {
+        next =
+            record {
+              session = sym (opens-new f h mode g a out restart asked-so ok);
+              rights = sym (levels-new f h mode g a out restart asked-so ok);
+              means =
+                  means-as (store-flags (fine inv b) (inv .means) v (omega (arith, now inv b .zeros .0)) verify)
+                  (λ y. sym (contents-same f h mode g a out never-write y))
+                  (sym (addresses-same f h mode g a out restart asked-so (λ m s v. refl)))
+                  (let z : v % 2 ≡ 0 = omega arith in z ∙ sym (programs-new f h mode g a out restart asked-so ok))
+                  (λ i j l. sym (values-same f h mode g a out restart asked-so (λ n k d j v. refl) i j));
+            };
+        only = λ z. absurd (rw asked-so at (z .writing));
+        all = λ z. never (sym never-write ∙ z);
+      }
+    where
+      v : ℕ
+      v = head.flags of x .sheet - head.programming (x .sheet)
+
+      asked-so : asks a ≡ restart
+      asked-so = asks-is a Restart (r .reads)
+
+      ok : Ok f h mode g a out ≡ true
+      ok = heard-now f b h x inv mode g a out Restart r (λ q. let z : _≡_ {A = ℕ} 0 1 = cc in omega arith)
+
+      never-write : permitted f h (E f h mode g a out) ≡ false
+      never-write = forbidden f h mode g a out restart asked-so refl
+
+      verify : v / 2 % 2 ≡ head.verify (f .sheet)
+      verify = let z : v / 2 % 2 ≡ head.verify (x .sheet) = omega arith in z ∙ inv .means .verify

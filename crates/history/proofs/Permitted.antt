@@ -1,0 +1,108 @@
+-- PERMITTED, as a test of the history, and as the propositions of the services.
+-- Assumes nothing.
+use Prim.Native.Nat.{ℕ}
+use mathlib.Core.Path.{_≡_}
+use mathlib.Core.Logic.{_↔_}
+use mathlib.Core.Bool.{Bool, true, _&&_}
+use mathlib.Core.List.{List}
+use native.Mathlib.Omega.{arith}
+use Rattle.sheet.specs.Rules.{ruleOf}
+use Rattle.sheet.proofs.Good.{Good, good}
+use Rattle.pdu.specs.declared.Pdu.{Pdu}
+use Rattle.pdu.specs.declared.Pdu.the-variants.{GroupValueRead, GroupValueResponse, GroupValueWrite, IndividualAddressWrite, IndividualAddressRead, SerialNumberRead, SerialNumberWrite, DeviceDescriptorRead, PropertyValueRead, PropertyValueWrite, PropertyDescriptionRead, MemoryRead, MemoryWrite, MemoryBitWrite, AuthorizeRequest, KeyWrite, Restart, IndividualAddressResponse, SerialNumberResponse, DeviceDescriptorResponse, PropertyValueResponse, PropertyDescriptionResponse, MemoryResponse, AuthorizeResponse, KeyResponse}
+use Rattle.pdu.proofs.Truths.{never, and-is}
+use Rattle.device.specs.Octets.{Octets}
+use Rattle.device.specs.Events.{State, request}
+use Rattle.device.specs.Asked.{Asked, Reads, given}
+use Rattle.device.specs.Right.{MemoryWritable, BitsWritable, WriteAllowed, KeyWritable}
+use Rattle.history.specs.Wish.{nothing, wishOf, asks, brings}
+use Rattle.history.specs.Permit.{levelFor, heard, allowed}
+use Rattle.history.specs.History.{permits}
+use Rattle.history.specs.Rightful.{asked}
+use Rattle.history.proofs.Carried.{property-id}
+use Rattle.history.proofs.Hearing.{asks-is, brings-is, heard-reads, reads-heard}
+use Rattle.history.proofs.Permits.{memory-is, bits-is, property-is, key-is}
+
+pub data Permitted (x : Asked) : Type 0 where
+  byMemory : (n y i : ℕ) → Reads x (MemoryWrite n y) → MemoryWritable x n y i → Permitted x
+  byBits : (n y i : ℕ) → Reads x (MemoryBitWrite n y) → BitsWritable x n y i → Permitted x
+  byProperty :
+      (object id n s : ℕ) → Reads x (PropertyValueWrite object id n s) →
+      WriteAllowed x object id n s (given x (PropertyValueWrite object id n s)) → Permitted x
+  byKey : (named number : ℕ) → Reads x (KeyWrite named number) → KeyWritable x named → Permitted x
+
+module _ (x : State) (mode g : ℕ) (a out : List ℕ) (accepted : ruleOf (x .sheet) ≡ 0) (small : Octets (x .sheet)) (octets : Octets a) where
+  abbrev X : Asked
+  X = asked x mode g a out
+
+  abbrev L : ℕ
+  L = levelFor mode (x .session .level)
+
+  fine : Good 1 (x .sheet)
+  fine = good 1 (x .sheet) accepted
+
+  -- allowed, of the PDU that it reads as
+  by-pdu : (p : Pdu) → Reads X p → allowed (x .sheet) L (given X p) (wishOf p) ≡ true → Permitted X
+  unfolding allowed
+  by-pdu GroupValueRead r e = never e
+  by-pdu (GroupValueResponse v) r e = never e
+  by-pdu (GroupValueWrite v) r e = never e
+  by-pdu (IndividualAddressWrite v) r e = never e
+  by-pdu IndividualAddressRead r e = never e
+  by-pdu (SerialNumberRead n) r e = never e
+  by-pdu (SerialNumberWrite n v) r e = never e
+  by-pdu (DeviceDescriptorRead t) r e = never e
+  by-pdu (PropertyValueRead o i n s) r e = never e
+  by-pdu (PropertyValueWrite o i n s) r e =
+      byProperty o i n s r (property-is X fine o i n s _ small (property-id a octets (r .reads)) .0 e)
+  by-pdu (PropertyDescriptionRead o i n) r e = never e
+  by-pdu (MemoryRead n y) r e = never e
+  by-pdu (MemoryWrite n y) r e = let w = memory-is X fine n y (given X (MemoryWrite n y)) .0 e in byMemory n y (w .0) r (w .1)
+  by-pdu (MemoryBitWrite n y) r e = let w = bits-is X fine n y (given X (MemoryBitWrite n y)) .0 e in byBits n y (w .0) r (w .1)
+  by-pdu (AuthorizeRequest n) r e = never e
+  by-pdu (KeyWrite l n) r e = byKey l n r (key-is X fine l n (given X (KeyWrite l n)) .0 e)
+  by-pdu Restart r e = never e
+  by-pdu IndividualAddressResponse r e = never e
+  by-pdu (SerialNumberResponse n d) r e = never e
+  by-pdu (DeviceDescriptorResponse t) r e = never e
+  by-pdu (PropertyValueResponse o i n s) r e = never e
+  by-pdu (PropertyDescriptionResponse o i n k m l) r e = never e
+  by-pdu (MemoryResponse n y) r e = never e
+  by-pdu (AuthorizeResponse l) r e = never e
+  by-pdu (KeyResponse l) r e = never e
+
+  -- A WRITE IS PERMITTED EXACTLY IF THE PROPOSITIONS OF ITS SERVICE HOLD
+  pub permitted-is :
+      (permits (x .sheet) (x .session .opened) (x .session .level) (request mode g a out) ≡ true) ↔ Permitted X
+  permitted-is = (on, back)
+    where
+      H : Bool
+      H = heard (x .session .opened) mode a out (asks a)
+
+      A : Bool
+      A = allowed (x .sheet) L (brings a) (asks a)
+
+      of-pdu : (p : Pdu) → Reads X p → A ≡ true → Permitted X
+      of-pdu p r e = by-pdu p r (rw (asks-is a p (r .reads), brings-is a p (r .reads)) at e)
+
+      on : (H && A) ≡ true → Permitted X
+      on e =
+          let b = and-is H A .0 e in
+          let q = heard-reads x mode g a out accepted (b .0) in
+          of-pdu (q .0) (q .1) (b .1)
+
+      so : (p : Pdu) → Reads X p → (wishOf p ≡ nothing → ⊥) → allowed (x .sheet) L (given X p) (wishOf p) ≡ true → (H && A) ≡ true
+      so p r c e =
+          and-is H A .1
+          (reads-heard x mode g a out accepted p r c, rw (asks-is a p (r .reads), brings-is a p (r .reads)) e)
+
+      back : Permitted X → (H && A) ≡ true
+      back (byMemory n y i r w) =
+          so (MemoryWrite n y) r (λ e. let z : _≡_ {A = ℕ} 0 1 = cc in omega arith) (memory-is X fine n y _ .1 (i, w))
+      back (byBits n y i r w) =
+          so (MemoryBitWrite n y) r (λ e. let z : _≡_ {A = ℕ} 0 1 = cc in omega arith) (bits-is X fine n y _ .1 (i, w))
+      back (byProperty o i n s r w) =
+          so (PropertyValueWrite o i n s) r (λ e. let z : _≡_ {A = ℕ} 0 1 = cc in omega arith)
+          (property-is X fine o i n s _ small (property-id a octets (r .reads)) .1 w)
+      back (byKey l n r w) =
+          so (KeyWrite l n) r (λ e. let z : _≡_ {A = ℕ} 0 1 = cc in omega arith) (key-is X fine l n _ .1 w)

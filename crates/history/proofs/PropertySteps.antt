@@ -1,0 +1,225 @@
+-- Property writes, carried out and denied.
+-- Assumes nothing.
+use Prim.Native.Nat.{ℕ, zero, suc, _+_, _*_, _-_, _<_, _≤_, max}
+use mathlib.Core.Path.{_≡_, refl, ap, _∙_}
+use mathlib.Core.Bool.{cond}
+use mathlib.Core.List.{List, [], _∷_}
+use lib.Dec.{eqb}
+use lib.ListN.{length, getD}
+use native.Mathlib.Omega.{arith}
+use borrow.Author.Tests.{ne-eqb}
+use Rattle.octets.specs.Bytes.{bytesOf}
+use Rattle.octets.specs.Splice.{splice}
+use Rattle.octets.proofs.Numbers.{num-two, length-bytes}
+use Rattle.sheet.specs.Kind.{properties}
+use Rattle.sheet.specs.Layout.{_of_}
+use Rattle.sheet.specs.Property as property
+use Rattle.sheet.specs.Entries.{count, place, entry, bodyAt, bodyEnd}
+use Rattle.sheet.specs.Frame.{Agree}
+use Rattle.sheet.specs.Rules.{entryDemands}
+use Rattle.sheet.proofs.Frames.{kept}
+use Rattle.sheet.proofs.Lie.{Inside, inside-within}
+use Rattle.sheet.proofs.Sames.{count-same, place-same, property-same}
+use Rattle.sheet.proofs.Standing.{field-at, place-in}
+use Rattle.sheet.proofs.Counts.{count-store}
+use Rattle.sheet.proofs.Stores.{body-store}
+use Rattle.pdu.specs.declared.Pdu.{Pdu}
+use Rattle.pdu.specs.declared.Pdu.the-variants.{PropertyValueWrite}
+use Rattle.device.specs.Octets.{Octets}
+use Rattle.device.specs.Events.{Event, State}
+use Rattle.device.specs.Asked.{Asked, Reads, given}
+use Rattle.device.specs.Right as right
+use Rattle.device.specs.Right.{Elements, elementAt, Writable, WriteAllowed}
+use Rattle.history.specs.Location.{Location, memory, body, counter, key, IsProperty}
+use Rattle.history.specs.Wish.{writeProperty}
+use Rattle.history.specs.Permit.{countIn, names, gives}
+use Rattle.history.specs.History.{First, content}
+use Rattle.history.specs.Others.{programming, individual, groupByte}
+use Rattle.history.specs.Keeps.{Begins}
+use Rattle.history.specs.Rightful.{asked}
+use Rattle.history.proofs.Bools.{and-false}
+use Rattle.history.proofs.Carried.{property-id}
+use Rattle.history.proofs.Framed.{is-same}
+use Rattle.history.proofs.Invariant.{Inv, fine, now, means-as}
+use Rattle.history.proofs.Means.{Means, store-run}
+use Rattle.history.proofs.Octet.{octets-bytes, octets-data}
+use Rattle.history.proofs.Permits.{property-is}
+use Rattle.history.proofs.PropertyRun.{onBodies, onCounters, counter-place, counter-run, body-run, elements-fit, entry-for}
+use Rattle.history.proofs.Requests.{Done}
+use Rattle.history.proofs.Writes.{carried-out, denied}
+
+two-zero-bytes : bytesOf 2 0 ≡ 0 ∷ 0 ∷ []
+unfolding bytesOf
+two-zero-bytes = refl
+
+two-zeros : (j : ℕ) → _≡_ {A = ℕ} 0 (getD (0 ∷ 0 ∷ []) j 0)
+two-zeros zero = refl
+two-zeros (suc zero) = refl
+two-zeros (suc (suc j)) = refl
+
+module _ (f : First) (b : Begins f) (h : List Event) (x : State) (inv : Inv f h x) (mode g : ℕ) (a out : List ℕ) (octets : Octets a) where
+  abbrev R : Asked
+  R = asked x mode g a out
+
+  -- what is written to a property, as the history has it
+  abbrev P : ℕ → ℕ → ℕ → ℕ → Pdu
+  P object id n z = PropertyValueWrite object id n z
+
+  abbrev Given : ℕ → ℕ → ℕ → ℕ → Location → ℕ
+  Given object id n z = gives (f .sheet) (content f h) (given R (P object id n z)) (writeProperty object id n z)
+
+  abbrev Holds : (Location → ℕ) → List ℕ → Type 0
+  Holds c s = Means (f .sheet) c (individual f h) (programming f h) (groupByte f h) s
+
+  -- denied
+  pub property-denied :
+      (object id n z : ℕ) → Reads R (P object id n z) → (WriteAllowed R object id n z (given R (P object id n z)) → ⊥) →
+      (k : ℕ) (answer : List ℕ) → 1 < k →
+      Done f h mode g a out (record { outcome = k; answer = answer; session = x .session; sheet = x .sheet })
+  property-denied object id n z r none k answer high =
+      denied f b h x inv mode g a out (P object id n z) r tt
+      (λ e.
+      none
+      (property-is R (now inv b) object id n z (given R (P object id n z)) (inv .means .octets) (property-id a octets (r .reads)) .0 e))
+      k answer high
+
+  module _ (object id i : ℕ) (w : Writable R object id i) where
+    is : IsProperty (f .sheet) object id i
+    is =
+        is-same (inv .means .agree)
+        (record { there = w .found .there; sameObject = w .found .sameObject; sameId = w .found .sameId })
+
+    -- the count by the history is the count of the sheet
+    count-now : countIn (content f h) object id ≡ property.count of entry (x .sheet) properties i
+    unfolding countIn
+    count-now =
+        let q = place-same (inv .means .agree) properties i in
+        let at : (j p : ℕ) → j < 2 → p ≡ place (x .sheet) properties i + 6 + j → getD (x .sheet) p 0 ≡ content f h (counter object id j) =
+        λ j p k e.
+        ap (λ (o : ℕ). getD (x .sheet) o 0) (let z : p ≡ place (f .sheet) properties i + 6 + j = omega arith in z)
+        ∙ inv .means .holds (counter object id j) _ (counter-place (fine inv b) is j k) in
+        omega
+        (arith, field-at (x .sheet) properties i property.count (omega arith), num-two (x .sheet) (place (x .sheet) properties i + 6), at 0 (place (x .sheet) properties i + 6) (omega arith) (omega arith), at 1 (place (x .sheet) properties i + 6 + 1) (omega arith) (omega arith))
+
+    -- A NEW COUNT in a sheet that has the places of the first
+    count-stored :
+        (n z c : ℕ) (k : Location → ℕ) (s : List ℕ) → Holds k s → c ≤ property.maximum of entry (f .sheet) properties i →
+        ((j : ℕ) → j < 2 → Given object id n z (counter object id j) ≡ getD (bytesOf 2 c) j 0) →
+        Holds (λ y. cond (onCounters (names (f .sheet) (writeProperty object id n z)) y) (Given object id n z y) (k y))
+        (splice s (place (x .sheet) properties i + property.count .at) (bytesOf 2 c))
+    count-stored n z c k s m low same =
+        let now-good = kept (fine inv b) (m .agree) in
+        let there : i < count s properties = omega (arith, is .there, count-same (m .agree) properties) in
+        let l : c ≤ property.maximum of entry s properties i =
+        rw (property-same (m .agree) i property.maximum (is .there) (omega arith) (omega arith)) low in
+        let agrees : Agree s (splice s (place (f .sheet) properties i + 6) (bytesOf 2 c)) =
+        rw (place-same (m .agree) properties i) at (count-store now-good i c there l) in
+        rw (place-same (inv .means .agree) properties i)
+        (store-run (fine inv b) m _ _ (place (f .sheet) properties i + 6) (bytesOf 2 c)
+        (omega (arith, length-bytes 2 c, place-in (f .sheet) properties i (omega arith) (is .there), fine inv b .framed, m .agree .long))
+        (counter-run (fine inv b) is n z (Given object id n z) (bytesOf 2 c) (length-bytes 2 c) same)
+        agrees
+        (octets-bytes 2 c))
+
+    -- CLEARED
+    pub property-cleared :
+        Reads R (P object id 1 0) → given R (P object id 1 0) ≡ 0 ∷ 0 ∷ [] → (k : ℕ) (answer : List ℕ) → k ≤ 1 →
+        Done f h mode g a out
+        (record { outcome = k; answer = answer; session = x .session; sheet = splice (x .sheet) (place (x .sheet) properties i + property.count .at) (0 ∷ 0 ∷ []) })
+    unfolding gives names
+    property-cleared r e k answer low =
+        carried-out f b h x inv mode g a out (P object id 1 0) r tt
+        (property-is R (now inv b) object id 1 0 (given R (P object id 1 0)) (inv .means .octets) (property-id a octets (r .reads)) .1 (right.ofCount i w refl refl e))
+        k answer _ low
+        (means-as
+        (rw two-zero-bytes at (count-stored 1 0 0 (content f h) (x .sheet) (inv .means) (omega arith) zeros))
+        named refl refl (λ i j m. refl))
+      where
+        zeros : (j : ℕ) → j < 2 → 0 ≡ getD (bytesOf 2 0) j 0
+        zeros j l = rw two-zero-bytes (two-zeros j)
+
+        named : (y : Location) →
+            cond (onCounters (names (f .sheet) (writeProperty object id 1 0)) y) (Given object id 1 0 y) (content f h y)
+            ≡ cond (names (f .sheet) (writeProperty object id 1 0) y) (Given object id 1 0 y) (content f h y)
+        named (memory y) = refl
+        named (body o d j) = rw (and-false (eqb d id), and-false (eqb o object))
+        named (counter o d j) = refl
+        named (key l j) = refl
+
+    -- WRITTEN
+    module _ (n z : ℕ) (d : List ℕ) (r : Reads R (P object id n z)) (e : d ≡ given R (P object id n z))
+        (el : Elements (entry (x .sheet) properties i) n z) (size : length d ≡ n * property.element of entry (x .sheet) properties i) where
+      abbrev S : List ℕ
+      S = entry (x .sheet) properties i
+
+      element-same : property.element of S ≡ property.element of entry (f .sheet) properties i
+      element-same = property-same (inv .means .agree) i property.element (is .there) (omega arith) (omega arith)
+
+      maximum-same : property.maximum of S ≡ property.maximum of entry (f .sheet) properties i
+      maximum-same = property-same (inv .means .agree) i property.maximum (is .there) (omega arith) (omega arith)
+
+      at-first : elementAt S z ≡ bodyAt (f .sheet) properties i + (z - 1) * property.element of entry (f .sheet) properties i
+      unfolding bodyAt
+      at-first =
+          rw (property-same (inv .means .agree) i property.offset (is .there) (omega arith) (omega arith), element-same)
+
+      inside : Inside (x .sheet) properties i (elementAt S z) (length d)
+      unfolding bodyAt bodyEnd
+      inside =
+          record {
+            kind = omega arith;
+            below = w .found .there;
+            from = omega arith;
+            to = omega (arith, size, elements-fit (z - 1) n (property.element of S) (property.maximum of S) (omega (arith, el .start, el .end)));
+          }
+
+      gives-each :
+          (j : ℕ) → j < n * property.element of entry (f .sheet) properties i →
+          Given object id n z (body object id ((z - 1) * property.element of entry (f .sheet) properties i + j)) ≡ getD d j 0
+      unfolding gives
+      gives-each j l =
+          let q : (z - 1) * property.element of entry (f .sheet) properties i + j - (z - 1) * property.element of entry (f .sheet) properties i ≡ j = omega arith in
+          rw (entry-for (fine inv b) is, q, e)
+
+      first-stored :
+          Holds (λ y. cond (onBodies (names (f .sheet) (writeProperty object id n z)) y) (Given object id n z y) (content f h y))
+          (splice (x .sheet) (elementAt S z) d)
+      first-stored =
+          store-run (fine inv b) (inv .means) (onBodies (names (f .sheet) (writeProperty object id n z))) (Given object id n z) (elementAt S z) d
+          (inside-within (now inv b) inside)
+          (rw at-first (body-run (fine inv b) is n z (Given object id n z) d (rw element-same at size) (el .start) (rw maximum-same at (el .end)) gives-each))
+          (body-store (now inv b) properties i (elementAt S z) d inside (λ q. absurd (omega arith)))
+          (rw e (octets-data (P object id n z) a octets))
+
+      pub property-written :
+          (k : ℕ) (answer : List ℕ) → k ≤ 1 →
+          Done f h mode g a out
+          (record {
+            outcome = k;
+            answer = answer;
+            session = x .session;
+            sheet =
+                splice (splice (x .sheet) (elementAt S z) d) (place (x .sheet) properties i + property.count .at)
+                (bytesOf 2 (max (property.count of S) (z + n - 1)));
+          })
+      unfolding gives names entryDemands
+      property-written k answer low =
+          carried-out f b h x inv mode g a out (P object id n z) r tt
+          (property-is R (now inv b) object id n z (given R (P object id n z)) (inv .means .octets) (property-id a octets (r .reads)) .1 (right.ofElements i w el (rw e at size)))
+          k answer _ low
+          (means-as (count-stored n z _ _ _ first-stored most counts) named refl refl (λ i j m. refl))
+        where
+          most : max (property.count of S) (z + n - 1) ≤ property.maximum of entry (f .sheet) properties i
+          most = omega (arith, now inv b .entries properties i (omega arith) (w .found .there), el .end, maximum-same)
+
+          counts : (j : ℕ) → j < 2 → Given object id n z (counter object id j) ≡ getD (bytesOf 2 (max (property.count of S) (z + n - 1))) j 0
+          counts j l = rw (ne-eqb z 0 (omega (arith, el .start)), count-now)
+
+          named : (y : Location) →
+              cond (onCounters (names (f .sheet) (writeProperty object id n z)) y) (Given object id n z y)
+              (cond (onBodies (names (f .sheet) (writeProperty object id n z)) y) (Given object id n z y) (content f h y))
+              ≡ cond (names (f .sheet) (writeProperty object id n z) y) (Given object id n z y) (content f h y)
+          named (memory y) = refl
+          named (body o d j) = refl
+          named (counter o d j) = refl
+          named (key l j) = refl

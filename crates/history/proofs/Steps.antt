@@ -1,0 +1,99 @@
+-- Every step that is due does what the history says.
+-- Assumes nothing.
+use Prim.Native.Nat.{ℕ, _≤_}
+use mathlib.Core.Path.{_≡_, refl, sym, ap, subst, _∙_}
+use mathlib.Core.Bool.{Bool, false}
+use mathlib.Core.List.{List, []}
+use lib.ListN.{length}
+use native.Mathlib.Omega.{arith}
+use Rattle.sheet.specs.Rules.{ruleOf}
+use Rattle.pdu.specs.declared.Pdu.{Pdu}
+use Rattle.pdu.specs.declared.Pdu.the-variants.{GroupValueRead, IndividualAddressRead, SerialNumberRead, DeviceDescriptorRead, PropertyValueRead, PropertyDescriptionRead, MemoryRead}
+use Rattle.device.specs.Octets.{Octets}
+use Rattle.device.specs.Step.{Step}
+use Rattle.device.specs.Events.{Event, State}
+use Rattle.device.specs.Asked.{Asked, Reads}
+use Rattle.device.specs.Right as right
+use Rattle.device.specs.Right.{Right}
+use Rattle.history.specs.Wish.{asks}
+use Rattle.history.specs.Permit.{heard}
+use Rattle.history.specs.History.{First, opened}
+use Rattle.history.specs.Keeps.{Begins, Writing}
+use Rattle.history.specs.Rightful.{asked}
+use Rattle.history.proofs.Hearing.{Idle, asks-is}
+use Rattle.history.proofs.Invariant.{Inv, now-accepted}
+use Rattle.history.proofs.Requests.{Ok, Done, unheard-same, unheard-forbidden, left}
+use Rattle.history.proofs.Unheard.{refusal-high, refusal-unheard, nothing-unheard, unread-unheard, unknown-unheard, mode-unheard}
+use Rattle.history.proofs.MemorySteps.{memory-written, memory-denied, bits-written, bits-denied}
+use Rattle.history.proofs.KeySteps.{key-written, key-denied, authorized}
+use Rattle.history.proofs.PropertySteps.{property-denied, property-cleared, property-written}
+use Rattle.history.proofs.OtherSteps.{address-written, address-unwritten, serial-written, serial-unwritten, restarted}
+use Rattle.history.proofs.GroupSteps.{value-left, unfit, bits-stored, bytes-stored}
+
+module _ (f : First) (b : Begins f) (h : List Event) (x : State) (inv : Inv f h x) (mode g : ℕ) (a out : List ℕ) (octets : Octets a) where
+  abbrev R : Asked
+  R = asked x mode g a out
+
+  accepted : ruleOf (x .sheet) ≡ 0
+  accepted = now-accepted inv b
+
+  -- what is not heard
+  unheard :
+      heard (x .session .opened) mode a out (asks a) ≡ false → (n : ℕ) (d : List ℕ) → (Writing (asks a) → n ≤ 1 → ⊥) →
+      Done f h mode g a out (record { outcome = n; answer = d; session = x .session; sheet = x .sheet })
+  unheard e n d none =
+      let o : Ok f h mode g a out ≡ false = ap (λ (t : Bool). heard t mode a out (asks a)) (sym (inv .session)) ∙ e in
+      left f h mode g a out x inv (unheard-same f h mode g a out o) (unheard-forbidden f h mode g a out o) n d none
+
+  idle : (p : Pdu) → Idle p → Reads R p → (n : ℕ) (d : List ℕ) → Done f h mode g a out (record { outcome = n; answer = d; session = x .session; sheet = x .sheet })
+  idle p i r n d =
+      let e = asks-is a p (r .reads) ∙ i in
+      unheard (nothing-unheard x mode g a out accepted e) n d (λ z l. subst Writing e z)
+
+  -- EVERY STEP THAT IS DUE
+  pub due : {r : Step} → Right R r → Done f h mode g a out r
+  due (right.refused {n} q) =
+      unheard (refusal-unheard x mode g a out accepted q) n [] (λ z l. let k = refusal-high q in omega arith)
+  due (right.unknown r q) = unheard (unknown-unheard x mode g a out accepted octets q) 8 [] (λ z l. omega arith)
+  due (right.otherMode k r n s q) = unheard (mode-unheard x mode g a out accepted octets k n q) 9 [] (λ z l. omega arith)
+  due (right.unfit k r n t q) = unheard (unread-unheard x mode g a out accepted 10 q) 10 [] (λ z l. omega arith)
+  due (right.groupRead0 i r m n o) = idle GroupValueRead refl r 0 _
+  due (right.groupRead i r m n o) = idle GroupValueRead refl r 0 _
+  due (right.noGroupRead r q) = idle GroupValueRead refl r 2 []
+  due (right.groupPut0 p v k i r q m n o d) = bits-stored f b h x inv mode g a out octets p v k r q i m n (ap length d ∙ sym o) o 1 []
+  due (right.groupPut p v k i r q m n o d) = bytes-stored f b h x inv mode g a out octets p v k r q i m n d o 1 []
+  due (right.groupLength p v k i r q m n o) = value-left f b h x inv mode g a out octets p v k r q (unfit f b h x inv mode g a out octets p v k r q i m o) 10 []
+  due (right.noGroupPut p v k r q o) = value-left f b h x inv mode g a out octets p v k r q (λ i m n l. o i m n) 2 []
+  due (right.addressWrite v r o) = address-written f b h x inv mode g a out v octets r o 1 []
+  due (right.noAddressWrite v r o) = address-unwritten f b h x inv mode g a out v r o 2 []
+  due (right.addressRead r o) = idle IndividualAddressRead refl r 0 _
+  due (right.noAddressRead r o) = idle IndividualAddressRead refl r 2 []
+  due (right.serialRead n r o) = idle (SerialNumberRead n) refl r 0 _
+  due (right.noSerialRead n r o) = idle (SerialNumberRead n) refl r 2 []
+  due (right.serialWrite n v r o) = serial-written f b h x inv mode g a out n v octets r o 1 []
+  due (right.noSerialWrite n v r o) = serial-unwritten f b h x inv mode g a out n v r o 2 []
+  due (right.descriptor r) = idle (DeviceDescriptorRead 0) refl r 0 _
+  due (right.noDescriptor t r o) = idle (DeviceDescriptorRead t) refl r 2 []
+  due (right.propertyCount o d i r q) = idle (PropertyValueRead o d 1 0) refl r 0 _
+  due (right.propertyRead o d n z i r q e l) = idle (PropertyValueRead o d n z) refl r 0 _
+  due (right.noPropertyRead o d n z r q) = idle (PropertyValueRead o d n z) refl r 11 _
+  due (right.propertyClear o d i r w e) = property-cleared f b h x inv mode g a out octets o d i w r e 0 _ (omega arith)
+  due (right.propertyWrite o d n z i ds r w e el size) =
+      property-written f b h x inv mode g a out octets o d i w n z ds r e el size 0 _ (omega arith)
+  due (right.noPropertyWrite o d n z r q) = property-denied f b h x inv mode g a out octets o d n z r q 11 _ (omega arith)
+  due (right.description o d n i r q) = idle (PropertyDescriptionRead o d n) refl r 0 _
+  due (right.noDescription o d n r q) = idle (PropertyDescriptionRead o d n) refl r 11 _
+  due (right.memoryRead n y i r q) = idle (MemoryRead n y) refl r 0 _
+  due (right.noMemoryRead n y r q) = idle (MemoryRead n y) refl r 11 _
+  due (right.memoryWriteVerified n y i d r w e v) = memory-written f b h x inv mode g a out octets n y i d r w e 0 _ (omega arith)
+  due (right.memoryWrite n y i d r w e v) = memory-written f b h x inv mode g a out octets n y i d r w e 1 [] (omega arith)
+  due (right.noMemoryWriteVerified n y r q v) = memory-denied f b h x inv mode g a out octets n y r q 11 _ (omega arith)
+  due (right.noMemoryWrite n y r q v) = memory-denied f b h x inv mode g a out octets n y r q 12 [] (omega arith)
+  due (right.bitWriteVerified n y i d r w e v) = bits-written f b h x inv mode g a out octets n y i d r w e 0 _ (omega arith)
+  due (right.bitWrite n y i d r w e v) = bits-written f b h x inv mode g a out octets n y i d r w e 1 [] (omega arith)
+  due (right.noBitWriteVerified n y r q v) = bits-denied f b h x inv mode g a out octets n y r q 11 _ (omega arith)
+  due (right.noBitWrite n y r q v) = bits-denied f b h x inv mode g a out octets n y r q 12 [] (omega arith)
+  due (right.authorize n l r q) = authorized f b h x inv mode g a out n l r q 0 _
+  due (right.keyWrite l n r w) = key-written f b h x inv mode g a out l n r w 0 _ (omega arith)
+  due (right.noKeyWrite l n r q) = key-denied f b h x inv mode g a out l n r q 11 _ (omega arith)
+  due (right.restart r) = restarted f b h x inv mode g a out r 1 []

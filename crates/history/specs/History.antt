@@ -1,0 +1,116 @@
+-- WHAT A HISTORY SAYS, by the first sheet, the first session and the events alone. The newest event stands first.
+-- Assumes nothing.
+use Prim.Native.Nat.{ℕ, _+_, _*_, _-_}
+use mathlib.Core.List.{List, [], _∷_}
+use mathlib.Core.Bool.{Bool, true, false, cond, _&&_}
+use lib.ListN.{getD}
+use lib.Dec.{eqb}
+use Rattle.sheet.specs.Kind.{regions, properties}
+use Rattle.sheet.specs.Layout.{_of_}
+use Rattle.sheet.specs.Head as head
+use Rattle.sheet.specs.Region as region
+use Rattle.sheet.specs.Property as property
+use Rattle.sheet.specs.Entries.{entry, place}
+use Rattle.judge.specs.declared.Session.{Session}
+use Rattle.device.specs.Events.{Event, connect, disconnect, button, request}
+use Rattle.history.specs.Location.{Location, memory, body, counter, key}
+use Rattle.history.specs.Wish.{Wish, writeMemory, writeBits, writeProperty, writeKey, offerKey, restart, address, addressFor, group, nothing, asks, brings}
+use Rattle.history.specs.Permit.{heard, levelFor, regionFor, indexFor, entryFor, allowed, names, gives}
+
+pub record First : Type 0 where
+  pub sheet : List ℕ
+  pub session : Session
+
+-- the first content of a location
+unfoldable pub firstOf : List ℕ → Location → ℕ
+firstOf s (memory y) =
+    let e = entry s regions (regionFor s y 1) in getD s (region.offset of e + (y - region.address of e)) 0
+firstOf s (body o i j) = getD s (property.offset of entryFor s o i + j) 0
+firstOf s (counter o i j) = getD s (place s properties (indexFor s o i) + property.count .at + j) 0
+firstOf s (key l j) = getD s ((head.key l) .at + j) 0
+
+-- a restart, and a key offered
+abbrev pub isRestart : Wish → Bool
+isRestart (writeMemory n a) = false
+isRestart (writeBits n a) = false
+isRestart (writeProperty object id n s) = false
+isRestart (writeKey level number) = false
+isRestart (offerKey number) = false
+isRestart restart = true
+isRestart (address new) = false
+isRestart (addressFor serial new) = false
+isRestart (group flag v) = false
+isRestart nothing = false
+
+-- the level after an offer, given the number of each level's key and the level before
+abbrev pub offered : (ℕ → ℕ) → ℕ → Wish → ℕ
+offered keys before (writeMemory n a) = before
+offered keys before (writeBits n a) = before
+offered keys before (writeProperty object id n s) = before
+offered keys before (writeKey level number) = before
+offered keys before (offerKey number) =
+    cond (eqb number (keys 0)) 0 (cond (eqb number (keys 1)) 1 (cond (eqb number (keys 2)) 2 3))
+offered keys before restart = 3
+offered keys before (address new) = before
+offered keys before (addressFor serial new) = before
+offered keys before (group flag v) = before
+offered keys before nothing = before
+
+-- the number of a level's key by the contents of its four bytes
+unfoldable pub keyIn : (Location → ℕ) → ℕ → ℕ
+keyIn now l = ((now (key l 0) * 256 + now (key l 1)) * 256 + now (key l 2)) * 256 + now (key l 3)
+
+-- the event concerns our connection: there is one so far
+abbrev pub concerns : Event → Bool
+concerns e = true
+
+-- what one event makes of an open or closed session
+abbrev pub openedBy : Bool → Event → Bool
+openedBy live connect = true
+openedBy live disconnect = false
+openedBy live (button on) = live
+openedBy live (request mode g a out) = cond (heard live mode a out (asks a) && isRestart (asks a)) false live
+
+-- what one event makes of a level, `now` being the contents before it
+abbrev pub levelBy : Bool → (Location → ℕ) → ℕ → Event → ℕ
+levelBy live now before connect = 3
+levelBy live now before disconnect = 3
+levelBy live now before (button on) = before
+levelBy live now before (request mode g a out) =
+    cond (heard live mode a out (asks a)) (offered (keyIn now) before (asks a)) before
+
+-- A PERMITTED WRITE: heard while the session is so, and allowed at the level
+abbrev pub permits : List ℕ → Bool → ℕ → Event → Bool
+permits s live level connect = false
+permits s live level disconnect = false
+permits s live level (button on) = false
+permits s live level (request mode g a out) =
+    heard live mode a out (asks a) && allowed s (levelFor mode level) (brings a) (asks a)
+
+-- what a permitted write gives to a location, and what any other event leaves there
+abbrev pub contentBy : List ℕ → Bool → (Location → ℕ) → Event → Location → ℕ
+contentBy s allowed now connect x = now x
+contentBy s allowed now disconnect x = now x
+contentBy s allowed now (button on) x = now x
+contentBy s allowed now (request mode g a out) x =
+    cond (allowed && names s (asks a) x) (gives s now (brings a) (asks a) x) (now x)
+
+-- WHETHER THE SESSION IS OPEN
+unfoldable pub opened : First → List Event → Bool
+opened f [] = f .session .opened
+opened f (e ∷ h) = cond (concerns e) (openedBy (opened f h) e) (opened f h)
+
+-- THE LEVEL, and WHAT A LOCATION HOLDS: what the last permitted write gave, or its first content
+unfoldable mutual
+  pub level : First → List Event → ℕ
+  level f [] = f .session .level
+  level f (e ∷ h) = cond (concerns e) (levelBy (opened f h) (λ x. content f h x) (level f h) e) (level f h)
+
+  pub content : First → List Event → Location → ℕ
+  content f [] x = firstOf (f .sheet) x
+  content f (e ∷ h) x =
+      contentBy (f .sheet) (permits (f .sheet) (opened f h) (level f h) e) (λ y. content f h y) e x
+
+-- A WRITE THAT IS PERMITTED AFTER A HISTORY
+unfoldable pub permitted : First → List Event → Event → Bool
+permitted f h e = permits (f .sheet) (opened f h) (level f h) e

@@ -1,0 +1,82 @@
+-- What a request asks for, as far as a history is concerned with it, and which modes take it.
+-- Assumes nothing.
+use Prim.Native.Nat.{ℕ}
+use mathlib.Core.List.{List, []}
+use mathlib.Core.Bool.{Bool, false, _||_}
+use lib.Dec.{eqb}
+use Rattle.pdu.specs.Read.{readPdu, dataOf}
+use Rattle.pdu.specs.declared.Parsed.{Parsed}
+use Rattle.pdu.specs.declared.Parsed.the-variants.{Is, Refused}
+use Rattle.pdu.specs.declared.Pdu.{Pdu}
+use Rattle.pdu.specs.declared.Pdu.the-variants.{GroupValueRead, GroupValueResponse, GroupValueWrite, IndividualAddressWrite, IndividualAddressRead, SerialNumberRead, SerialNumberWrite, DeviceDescriptorRead, PropertyValueRead, PropertyValueWrite, PropertyDescriptionRead, MemoryRead, MemoryWrite, MemoryBitWrite, AuthorizeRequest, KeyWrite, Restart, IndividualAddressResponse, SerialNumberResponse, DeviceDescriptorResponse, PropertyValueResponse, PropertyDescriptionResponse, MemoryResponse, AuthorizeResponse, KeyResponse}
+
+pub data Wish : Type 0 where
+  -- writes to locations
+  writeMemory : (n address : ℕ) → Wish
+  writeBits : (n address : ℕ) → Wish
+  writeProperty : (object id n s : ℕ) → Wish
+  writeKey : (level number : ℕ) → Wish
+  -- what changes the session
+  offerKey : (number : ℕ) → Wish
+  restart : Wish
+  -- what changes other bytes: the address in programming mode, and by serial; a group value for objects that have a flag
+  address : (new : ℕ) → Wish
+  addressFor : (serial new : ℕ) → Wish
+  group : (flag v : ℕ) → Wish
+  -- anything else
+  nothing : Wish
+
+abbrev pub wishOf : Pdu → Wish
+wishOf GroupValueRead = nothing
+wishOf (GroupValueResponse v) = group 4 v
+wishOf (GroupValueWrite v) = group 2 v
+wishOf (IndividualAddressWrite new) = address new
+wishOf IndividualAddressRead = nothing
+wishOf (SerialNumberRead serial) = nothing
+wishOf (SerialNumberWrite serial new) = addressFor serial new
+wishOf (DeviceDescriptorRead t) = nothing
+wishOf (PropertyValueRead object id n s) = nothing
+wishOf (PropertyValueWrite object id n s) = writeProperty object id n s
+wishOf (PropertyDescriptionRead object id index) = nothing
+wishOf (MemoryRead n a) = nothing
+wishOf (MemoryWrite n a) = writeMemory n a
+wishOf (MemoryBitWrite n a) = writeBits n a
+wishOf (AuthorizeRequest number) = offerKey number
+wishOf (KeyWrite level number) = writeKey level number
+wishOf Restart = restart
+wishOf IndividualAddressResponse = nothing
+wishOf (SerialNumberResponse serial domain) = nothing
+wishOf (DeviceDescriptorResponse t) = nothing
+wishOf (PropertyValueResponse object id n s) = nothing
+wishOf (PropertyDescriptionResponse object id index kind maximum access) = nothing
+wishOf (MemoryResponse n a) = nothing
+wishOf (AuthorizeResponse level) = nothing
+wishOf (KeyResponse level) = nothing
+
+-- what an APDU asks for, and its data: what doesn't read asks for nothing
+abbrev pub wishIn : Parsed → Wish
+wishIn (Is p) = wishOf p
+wishIn (Refused n) = nothing
+
+abbrev pub dataFrom : Parsed → List ℕ → List ℕ
+dataFrom (Is p) a = dataOf p a
+dataFrom (Refused n) a = []
+
+unfoldable pub asks : List ℕ → Wish
+asks a = wishIn (readPdu a)
+
+unfoldable pub brings : List ℕ → List ℕ
+brings a = dataFrom (readPdu a) a
+
+-- WHICH MODE TAKES IT: 0 multicast, 1 broadcast, 2 connectionless, 3 connected
+abbrev pub taken : Wish → ℕ → Bool
+taken (writeMemory n a) mode = eqb mode 3
+taken (writeBits n a) mode = eqb mode 3
+taken (writeProperty object id n s) mode = eqb mode 2 || eqb mode 3
+taken (writeKey level number) mode = eqb mode 3
+taken (offerKey number) mode = eqb mode 3
+taken restart mode = eqb mode 3
+taken (address new) mode = eqb mode 1
+taken (addressFor serial new) mode = eqb mode 1
+taken (group flag v) mode = eqb mode 0
+taken nothing mode = false

@@ -1,0 +1,34 @@
+-- The fields of a property's entry in an accepted sheet are small.
+-- Assumes nothing.
+use Prim.Native.Nat.{ℕ, zero, suc, _+_, _≤_, _<_}
+use mathlib.Core.Path.{_≡_}
+use mathlib.Core.List.{List}
+use mathlib.Core.Bool.{Bool, true, false}
+use lib.ListN.{length}
+use lib.Dec.{eqb}
+use native.Mathlib.Omega.{arith}
+use Rattle.sheet.specs.Demand.{pick}
+use Rattle.sheet.specs.Rules.{ruleOf}
+use Rattle.sheet.specs.Lookup.{objectAt, rank}
+use Rattle.sheet.specs.Places.{PropertyIn}
+use Rattle.sheet.specs.declared.PropertyEntry.{PropertyEntry}
+use Rattle.sheet.proofs.Good.{good}
+
+module _ (s : List ℕ) (ok : ruleOf s ≡ 0) (i : ℕ) (e : PropertyEntry) (p : PropertyIn s i e) where
+  pub small-offset : e .offset ≤ 16384
+  small-offset = omega (arith, p .body, good 1 s ok .framed)
+
+  pub small-place : e .place ≤ 16384
+  small-place = omega (arith, p .room, good 1 s ok .framed)
+
+one : (b : Bool) → pick b 1 0 ≤ 1
+one true = omega arith
+one false = omega arith
+
+rank-below : (s : List ℕ) (object i : ℕ) → rank s object i ≤ i
+unfolding rank
+rank-below s object zero = omega arith
+rank-below s object (suc i) = omega (arith, rank-below s object i, one (eqb (objectAt s i) object))
+
+pub small-rank : (s : List ℕ) (object i n r : ℕ) → r ≡ rank s object i → i < n → n ≤ 64 → r < 256
+small-rank s object i n r e h k = omega (arith, rank-below s object i)

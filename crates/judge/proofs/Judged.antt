@@ -1,0 +1,110 @@
+-- The judgement, from what its parts ensure.
+-- Assumes nothing.
+use Prim.Native.Nat.{ℕ, _≤_, _<_}
+use mathlib.Core.Path.{_≡_, sym, ap, subst, _∙_}
+use mathlib.Core.List.{List}
+use mathlib.Core.Bool.{Bool, true, false, not}
+use lib.ListN.{length}
+use borrow.Author.Tests.{lt-ltb, le-ltb, eqb-true, not-true, not-false}
+use Rattle.sheet.specs.Rules.{ruleOf}
+use Rattle.pdu.specs.Rules.{codeOf}
+use Rattle.pdu.specs.Table.{serviceAt}
+use Rattle.pdu.specs.Read.{readPdu, readOutcome, dataOf}
+use Rattle.pdu.specs.declared.Service.{Service}
+use Rattle.pdu.specs.declared.Found.{Found}
+use Rattle.pdu.specs.declared.Found.the-variants.{Listed, Unknown}
+use Rattle.pdu.specs.declared.Parsed.{Parsed}
+use Rattle.pdu.specs.declared.Parsed.the-variants.{Is, Refused}
+use Rattle.pdu.specs.declared.Pdu.{Pdu}
+use Rattle.judge.specs.declared.Session.{Session}
+use Rattle.judge.specs.declared.Reach.{Reach}
+use Rattle.judge.specs.declared.Decision.{Decision}
+use Rattle.judge.specs.Decisions.{refused}
+use Rattle.judge.specs.Session.{levelIn}
+use Rattle.judge.specs.Modes.{rulesOf, reachOf, reaches, takes}
+use Rattle.judge.specs.Judge.{dataIn, isAccepted, decideOf, readOf, reachedOf, foundOf, isShut, judgeOf}
+
+pub via-decide :
+    (s : List ℕ) (level group : ℕ) (d : List ℕ) (p j : Pdu) (r : Decision) →
+    p ≡ j → r ≡ decideOf s level group d j → r ≡ decideOf s level group d p
+via-decide s level group d p j r e h = h ∙ ap (decideOf s level group d) (sym e)
+
+pub accepted : (s : List ℕ) (b : Bool) → b ≡ isAccepted s → not b ≡ false → ruleOf s ≡ 0
+unfolding isAccepted
+accepted s b e h = eqb-true (ruleOf s) 0 (sym e ∙ not-false b h)
+
+module _ (s : List ℕ) (q : Session) (mode group : ℕ) (a : List ℕ) (r : Decision) where
+  -- by the reach of the service
+  module _ (k : Reach) (b : Bool) (b-is : b ≡ reaches k) where
+    pub unreached : not b ≡ true → r ≡ refused 8 → r ≡ reachedOf s q mode group a k
+    unfolding reachedOf
+    unreached h g = simp (← b-is, h) g
+
+    module _ (h : not b ≡ false) (t : Bool) (t-is : t ≡ takes k mode) where
+      pub untaken : not t ≡ true → r ≡ refused 9 → r ≡ reachedOf s q mode group a k
+      unfolding reachedOf
+      untaken m g = simp (← b-is, h, ← t-is, m) g
+
+      module _ (m : not t ≡ false) (x : Parsed) (x-is : x ≡ readPdu a) where
+        pub unread : (n o : ℕ) → x ≡ Refused n → o ≡ readOutcome x → r ≡ refused o → r ≡ reachedOf s q mode group a k
+        unfolding reachedOf
+        unread n o e o-is g = simp (← b-is, h, ← t-is, m, ← x-is, e) (g ∙ ap refused (o-is ∙ ap readOutcome e))
+
+        pub decided :
+            (p : Pdu) (d : List ℕ) (l : ℕ) → x ≡ Is p → d ≡ dataIn x a → l ≡ levelIn q mode → r ≡ decideOf s l group d p →
+            r ≡ reachedOf s q mode group a k
+        unfolding reachedOf
+        decided p d l e d-is l-is g =
+            let w : d ≡ dataOf p a = d-is ∙ ap (λ (y : Parsed). dataIn y a) e in
+            simp (← b-is, h, ← t-is, m, ← x-is, e, ← l-is, ← w) g
+
+  -- by what the code names
+  module _ (f : Found) where
+    pub unknown : f ≡ Unknown → r ≡ refused 8 → r ≡ foundOf s q mode group a f
+    unknown e g = simp e g
+
+    pub listed :
+        (k : Service) (ed : ℕ) (c : Reach) (x : Parsed) (d : List ℕ) → f ≡ Listed k → ed ≡ rulesOf s → c ≡ reachOf ed k →
+        x ≡ readPdu a → d ≡ dataIn x a → ((a : List ℕ) → x ≡ readPdu a → d ≡ dataIn x a → r ≡ reachedOf s q mode group a c) →
+        r ≡ foundOf s q mode group a f
+    listed k ed c x d e ed-is c-is x-is d-is g = simp (e, ← ed-is, ← c-is) (g a x-is d-is)
+
+  -- in the order of the outcomes
+  module _ (room : ℕ) where
+    pub no-room : room < 16 → r ≡ refused 3 → r ≡ judgeOf room s q mode group a
+    unfolding judgeOf
+    no-room h g = simp (lt-ltb _ _ h) g
+
+    module _ (roomy : 16 ≤ room) (b : Bool) (b-is : b ≡ isAccepted s) where
+      pub not-accepted : not b ≡ true → r ≡ refused 4 → r ≡ judgeOf room s q mode group a
+      unfolding judgeOf
+      not-accepted h g = simp (le-ltb _ _ roomy, ← b-is, h) g
+
+      module _ (good : not b ≡ false) where
+        pub too-short : length a < 2 → r ≡ refused 5 → r ≡ judgeOf room s q mode group a
+        unfolding judgeOf
+        too-short h g = simp (le-ltb _ _ roomy, ← b-is, good, lt-ltb _ _ h) g
+
+        module _ (two : 2 ≤ length a) where
+          pub too-long : 16 < length a → r ≡ refused 5 → r ≡ judgeOf room s q mode group a
+          unfolding judgeOf
+          too-long h g = simp (le-ltb _ _ roomy, ← b-is, good, le-ltb _ _ two, lt-ltb _ _ h) g
+
+          module _ (most : length a ≤ 16) where
+            pub no-mode : 3 < mode → r ≡ refused 6 → r ≡ judgeOf room s q mode group a
+            unfolding judgeOf
+            no-mode h g = simp (le-ltb _ _ roomy, ← b-is, good, le-ltb _ _ two, le-ltb _ _ most, lt-ltb _ _ h) g
+
+            module _ (known : mode ≤ 3) (c : Bool) (c-is : c ≡ isShut q mode) where
+              pub shut : c ≡ true → r ≡ refused 7 → r ≡ judgeOf room s q mode group a
+              unfolding judgeOf
+              shut h g =
+                  simp (le-ltb _ _ roomy, ← b-is, good, le-ltb _ _ two, le-ltb _ _ most, le-ltb _ _ known, ← c-is, h) g
+
+              pub judged :
+                  c ≡ false → (n : ℕ) (f : Found) (x : Parsed) (d : List ℕ) → n ≡ codeOf a → f ≡ serviceAt n → x ≡ readPdu a → d ≡ dataIn x a →
+                  ((a : List ℕ) → x ≡ readPdu a → d ≡ dataIn x a → r ≡ foundOf s q mode group a f) → r ≡ judgeOf room s q mode group a
+              unfolding judgeOf
+              judged h n f x d n-is f-is x-is d-is g =
+                  simp (le-ltb _ _ roomy, ← b-is, good, le-ltb _ _ two, le-ltb _ _ most, le-ltb _ _ known, ← c-is, h, ← n-is, ← f-is)
+                  (g a x-is d-is)

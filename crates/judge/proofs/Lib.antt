@@ -1,0 +1,13 @@
+pub mod Walks
+pub mod GroupCases
+pub mod PropertyCases
+pub mod MemoryCases
+pub mod KeyCases
+pub mod Laws
+pub mod Arms
+pub mod Values
+pub mod Grouped
+pub mod Fields
+pub mod Memories
+pub mod Heads
+pub mod Judged

@@ -1,0 +1,19 @@
+-- `judge::addresses::address_read` meets its contract.
+-- Assumes nothing.
+use borrow.Author.Needs.{needs}
+use native.Mathlib.Omega.{arith}
+use Rattle.judge.proofs.Laws.{branches}
+use Rattle.judge.specs.Addresses.{addressReadOf}
+use Rattle.judge.proofs.addresses.address_read.Statement.{statement}
+use Rattle.judge.proofs.addresses.address_read.Tie as tie
+
+pub address-read-spec : {M : Type 1} → statement M
+unfolding addressReadOf
+address-read-spec =
+    tie.close
+    (tie.spec
+    (λ c κs. search needs)
+    (λ c κs. search needs)
+    (λ c. search (branches, arith))
+    (λ c κs. search needs)
+    (λ c. search (branches, arith)))

@@ -1,0 +1,19 @@
+-- `judge::addresses::address_write` meets its contract.
+-- Assumes nothing.
+use borrow.Author.Needs.{needs}
+use native.Mathlib.Omega.{arith}
+use Rattle.judge.proofs.Laws.{branches}
+use Rattle.judge.specs.Addresses.{addressWriteOf}
+use Rattle.judge.proofs.addresses.address_write.Statement.{statement}
+use Rattle.judge.proofs.addresses.address_write.Tie as tie
+
+pub address-write-spec : {M : Type 1} → statement M
+unfolding addressWriteOf
+address-write-spec =
+    tie.close
+    (tie.spec
+    (λ c κs. search needs)
+    (λ c κs. search needs)
+    (λ c. search (branches, arith))
+    (λ c κs. search needs)
+    (λ c. search (branches, arith)))

@@ -1,0 +1,21 @@
+-- `judge::addresses::descriptor` meets its contract.
+-- Assumes nothing.
+use borrow.Author.Needs.{needs}
+use native.Mathlib.Omega.{arith}
+use Rattle.judge.proofs.Heads.{mask-answered}
+use Rattle.judge.proofs.Laws.{branches}
+use Rattle.judge.specs.Addresses.{descriptorOf}
+use Rattle.judge.proofs.addresses.descriptor.Statement.{statement}
+use Rattle.judge.proofs.addresses.descriptor.Tie as tie
+
+pub descriptor-spec : {M : Type 1} → statement M
+unfolding descriptorOf
+descriptor-spec =
+    tie.close
+    (tie.spec
+    (λ c κs. search needs)
+    (λ c. search (branches, arith))
+    (λ c κs. search needs)
+    (λ c. search needs)
+    (λ c κs. search needs)
+    (λ c. search mask-answered))

@@ -1,0 +1,19 @@
+-- `judge::found` meets its contract.
+-- Assumes nothing.
+use borrow.Author.Needs.{needs}
+use Rattle.judge.proofs.Judged.{unknown, listed}
+use Rattle.judge.proofs.found.Statement.{statement}
+use Rattle.judge.proofs.found.Tie as tie
+
+pub found-spec : {M : Type 1} → statement M
+found-spec =
+    tie.close
+    (tie.spec
+    (λ c. search needs)
+    (λ c κs. search needs)
+    (λ c κs. search needs)
+    (λ c κs. search needs)
+    (λ c. search needs)
+    (λ c κs. search needs)
+    (λ c. search (unknown, listed))
+    (λ c. search (unknown, listed)))

@@ -1,0 +1,21 @@
+-- `judge::groups::group_read` meets its contract.
+-- Assumes nothing.
+use borrow.Author.Needs.{needs}
+use Rattle.judge.proofs.Grouped.{read-missing, read-shut, read-open}
+use Rattle.judge.proofs.groups.group_read.Statement.{statement}
+use Rattle.judge.proofs.groups.group_read.Tie as tie
+
+pub group-read-spec : {M : Type 1} → statement M
+group-read-spec =
+    tie.close
+    (tie.spec
+    (λ c κs. search needs)
+    (λ c κs. search needs)
+    (λ c κs. search needs)
+    (λ c. search (read-missing, read-shut, read-open))
+    (λ c κs. search needs)
+    (λ c κs. search needs)
+    (λ c κs. search needs)
+    (λ c. search (read-missing, read-shut, read-open))
+    (λ c κs. search needs)
+    (λ c. search (read-missing, read-shut, read-open)))

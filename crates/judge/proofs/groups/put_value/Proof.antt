@@ -1,0 +1,20 @@
+-- `judge::groups::put_value` meets its contract.
+-- Assumes nothing.
+use borrow.Author.Needs.{needs}
+use native.Mathlib.Omega.{arith}
+use Rattle.judge.specs.Groups.{putValue}
+use Rattle.judge.proofs.Laws.{tests}
+use Rattle.judge.proofs.groups.put_value.Statement.{statement}
+use Rattle.judge.proofs.groups.put_value.Tie as tie
+
+pub put-value-spec : {M : Type 1} → statement M
+unfolding putValue
+put-value-spec =
+    tie.close
+    (tie.spec
+    (λ c κs. search needs)
+    (λ c. search (tests, arith))
+    (λ c κs. search needs)
+    (λ c. search (tests, arith))
+    (λ c κs. search needs)
+    (λ c. search (tests, arith)))

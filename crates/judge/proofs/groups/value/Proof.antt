@@ -1,0 +1,21 @@
+-- `judge::groups::value` meets its contract.
+-- Assumes nothing.
+use borrow.Author.Needs.{needs}
+use native.Mathlib.Omega.{arith}
+use Rattle.judge.specs.Groups.{valueOf}
+use Rattle.judge.proofs.Laws.{branches}
+use Rattle.judge.proofs.Grouped.{six-bits}
+use Rattle.judge.proofs.groups.value.Statement.{statement}
+use Rattle.judge.proofs.groups.value.Tie as tie
+
+pub value-spec : {M : Type 1} → statement M
+unfolding valueOf
+value-spec =
+    tie.close
+    (tie.spec
+    (λ c κs. search needs)
+    (λ c. search needs)
+    (λ c κs. search needs)
+    (λ c. search (branches, six-bits, arith))
+    (λ c κs. search needs)
+    (λ c. search (branches, arith)))

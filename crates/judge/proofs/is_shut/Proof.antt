@@ -1,0 +1,15 @@
+-- `judge::is_shut` meets its contract.
+-- Assumes nothing.
+use native.Mathlib.Omega.{arith}
+use Rattle.judge.specs.Judge.{isShut}
+use Rattle.judge.proofs.Laws.{tests}
+use Rattle.judge.proofs.is_shut.Statement.{statement}
+use Rattle.judge.proofs.is_shut.Tie as tie
+
+pub is-shut-spec : {M : Type 1} → statement M
+unfolding isShut
+is-shut-spec =
+    tie.close
+    (tie.spec
+    (λ c. search (tests, arith))
+    (λ c. search (tests, arith)))

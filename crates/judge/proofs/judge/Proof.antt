@@ -1,0 +1,29 @@
+-- `judge::judge` meets its contract.
+-- Assumes nothing.
+use borrow.Author.Needs.{needs}
+use Rattle.judge.proofs.Judged.{accepted, no-room, not-accepted, too-short, too-long, no-mode, shut, judged}
+use Rattle.judge.proofs.judge.Statement.{statement}
+use Rattle.judge.proofs.judge.Tie as tie
+
+pub judge-spec : {M : Type 1} → statement M
+judge-spec =
+    tie.close
+    (tie.spec
+    (λ c κs. search needs)
+    (λ c. search (no-room, not-accepted, too-short, too-long, no-mode, shut, judged))
+    (λ c κs. search needs)
+    (λ c κs. search needs)
+    (λ c. search (no-room, not-accepted, too-short, too-long, no-mode, shut, judged))
+    (λ c κs. search needs)
+    (λ c. search (no-room, not-accepted, too-short, too-long, no-mode, shut, judged))
+    (λ c κs. search needs)
+    (λ c. search (no-room, not-accepted, too-short, too-long, no-mode, shut, judged))
+    (λ c κs. search needs)
+    (λ c. search (no-room, not-accepted, too-short, too-long, no-mode, shut, judged))
+    (λ c κs. search needs)
+    (λ c κs. search needs)
+    (λ c. search (no-room, not-accepted, too-short, too-long, no-mode, shut, judged))
+    (λ c κs. search needs)
+    (λ c κs. search needs)
+    (λ c κs. accepted _ _ (c .before .before .before .before .before .before .before .before .is-accepted .ensures) (c .before .before .before .before .before .before .before .if2 .left))
+    (λ c. search (no-room, not-accepted, too-short, too-long, no-mode, shut, judged)))

@@ -1,0 +1,18 @@
+-- `judge::memory::can_change` meets its contract.
+-- Assumes nothing.
+use borrow.Author.Needs.{needs}
+use native.Mathlib.Omega.{arith}
+use Rattle.judge.proofs.Arms.{permitted-at, via-permitted}
+use Rattle.judge.proofs.memory.can_change.Statement.{statement}
+use Rattle.judge.proofs.memory.can_change.Tie as tie
+
+pub can-change-spec : {M : Type 1} → statement M
+can-change-spec =
+    tie.close
+    (tie.spec
+    (λ c. search needs)
+    (λ c κs. search needs)
+    (λ c κs. search needs)
+    (λ c. search needs)
+    (λ c. search (permitted-at, via-permitted))
+    (λ c. search (permitted-at, via-permitted)))

@@ -1,0 +1,23 @@
+-- `judge::modes::takes` meets its contract.
+-- Assumes nothing.
+use borrow.Author.Needs.{needs}
+use native.Mathlib.Omega.{arith}
+use Rattle.judge.proofs.Arms.{via-takes}
+use Rattle.judge.proofs.modes.takes.Statement.{statement}
+use Rattle.judge.proofs.modes.takes.Tie as tie
+
+pub takes-spec : {M : Type 1} → statement M
+takes-spec =
+    tie.close
+    (tie.spec
+    (λ c. search needs)
+    (λ c. search needs)
+    (λ c. search needs)
+    (λ c κs. search needs)
+    (λ c. search needs)
+    (λ c. search needs)
+    (λ c. search via-takes)
+    (λ c. search via-takes)
+    (λ c. search via-takes)
+    (λ c. search via-takes)
+    (λ c. search via-takes))

@@ -1,0 +1,13 @@
+-- `judge::properties::counted` meets its contract.
+-- Assumes nothing.
+use native.Mathlib.Omega.{arith}
+use Rattle.judge.proofs.Laws.{tests}
+use Rattle.judge.proofs.properties.counted.Statement.{statement}
+use Rattle.judge.proofs.properties.counted.Tie as tie
+
+pub counted-spec : {M : Type 1} → statement M
+counted-spec =
+    tie.close
+    (tie.spec
+    (λ c. search (tests, arith))
+    (λ c. search (tests, arith)))

@@ -1,0 +1,18 @@
+-- `judge::properties::described_at` meets its contract.
+-- Assumes nothing.
+use borrow.Author.Needs.{needs}
+use native.Mathlib.Omega.{arith}
+use Rattle.judge.proofs.Laws.{branches}
+use Rattle.judge.specs.Properties.{describedAt}
+use Rattle.judge.proofs.properties.described_at.Statement.{statement}
+use Rattle.judge.proofs.properties.described_at.Tie as tie
+
+pub described-at-spec : {M : Type 1} → statement M
+unfolding describedAt
+described-at-spec =
+    tie.close
+    (tie.spec
+    (λ c κs. search needs)
+    (λ c. search (branches, arith))
+    (λ c κs. search needs)
+    (λ c. search (branches, arith)))

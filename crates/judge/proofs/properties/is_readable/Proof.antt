@@ -1,0 +1,15 @@
+-- `judge::properties::is_readable` meets its contract.
+-- Assumes nothing.
+use borrow.Author.Needs.{needs}
+use native.Mathlib.Omega.{arith}
+use Rattle.judge.proofs.Laws.{branches}
+use Rattle.judge.proofs.properties.is_readable.Statement.{statement}
+use Rattle.judge.proofs.properties.is_readable.Tie as tie
+
+pub is-readable-spec : {M : Type 1} → statement M
+is-readable-spec =
+    tie.close
+    (tie.spec
+    (λ c κs. search needs)
+    (λ c. search (branches, arith))
+    (λ c. search (branches, arith)))

@@ -1,0 +1,19 @@
+-- `judge::properties::property_read` meets its contract.
+-- Assumes nothing.
+use borrow.Author.Needs.{needs}
+use Rattle.judge.proofs.Values.{read-missing, read-there}
+use Rattle.judge.proofs.Fields.{small-offset}
+use Rattle.judge.proofs.properties.property_read.Statement.{statement}
+use Rattle.judge.proofs.properties.property_read.Tie as tie
+
+pub property-read-spec : {M : Type 1} → statement M
+property-read-spec =
+    tie.close
+    (tie.spec
+    (λ c κs. search needs)
+    (λ c κs. search needs)
+    (λ c κs. search needs)
+    (λ c. search (read-missing, read-there))
+    (λ c κs. search needs)
+    (λ c κs. search (small-offset, needs))
+    (λ c. search (read-missing, read-there)))

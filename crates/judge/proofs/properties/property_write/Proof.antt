@@ -1,0 +1,19 @@
+-- `judge::properties::property_write` meets its contract.
+-- Assumes nothing.
+use borrow.Author.Needs.{needs}
+use Rattle.judge.proofs.Values.{write-missing, write-there}
+use Rattle.judge.proofs.Fields.{small-offset, small-place}
+use Rattle.judge.proofs.properties.property_write.Statement.{statement}
+use Rattle.judge.proofs.properties.property_write.Tie as tie
+
+pub property-write-spec : {M : Type 1} → statement M
+property-write-spec =
+    tie.close
+    (tie.spec
+    (λ c κs. search needs)
+    (λ c κs. search needs)
+    (λ c κs. search needs)
+    (λ c. search (write-missing, write-there))
+    (λ c κs. search needs)
+    (λ c κs. search (small-offset, small-place, needs))
+    (λ c. search (write-missing, write-there)))

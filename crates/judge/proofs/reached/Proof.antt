@@ -1,0 +1,25 @@
+-- `judge::reached` meets its contract.
+-- Assumes nothing.
+use borrow.Author.Needs.{needs}
+use Rattle.judge.proofs.Judged.{unreached, untaken, unread, decided}
+use Rattle.judge.proofs.reached.Statement.{statement}
+use Rattle.judge.proofs.reached.Tie as tie
+
+pub reached-spec : {M : Type 1} → statement M
+reached-spec =
+    tie.close
+    (tie.spec
+    (λ c κs. search needs)
+    (λ c κs. search needs)
+    (λ c. search (unreached, untaken, unread, decided))
+    (λ c κs. search needs)
+    (λ c κs. search needs)
+    (λ c. search (unreached, untaken, unread, decided))
+    (λ c. search needs)
+    (λ c. search needs)
+    (λ c κs. search needs)
+    (λ c κs. search needs)
+    (λ c. search (unreached, untaken, unread, decided))
+    (λ c κs. search needs)
+    (λ c κs. search needs)
+    (λ c. search (unreached, untaken, unread, decided)))

@@ -1,0 +1,9 @@
+pub mod Session
+pub mod Modes
+pub mod Decisions
+pub mod Groups
+pub mod Addresses
+pub mod Properties
+pub mod Memory
+pub mod Keys
+pub mod Judge

@@ -1,0 +1,166 @@
+// Judging a request: what is decided about it, as a value made of numbers. Nothing is stored here.
+mod addresses;
+mod decisions;
+mod groups;
+mod keys;
+mod kinds;
+mod levels;
+mod memory;
+mod modes;
+mod properties;
+mod services;
+
+ghost use mathlib.Core.Path.{_≡_};
+ghost use Prim.Native.Nat.{ℕ};
+ghost use mathlib.Core.List.{List};
+ghost use Rattle.sheet.specs.Rules.{ruleOf};
+ghost use Rattle.pdu.specs.Read.{readPdu};
+ghost use Rattle.judge.specs.Judge.{dataIn, isShut, isAccepted, reachedOf, foundOf, judgeOf};
+use decisions::refused;
+use levels::CONNECTED;
+use levels::level_in;
+use modes::reach;
+use modes::reaches;
+use modes::rules;
+use modes::takes;
+use pdu::Found;
+use pdu::Parsed;
+use pdu::Pdu;
+use services::decide;
+
+// A connection: open or closed, and the level as found.
+pub struct Session {
+    pub opened: bool,
+    pub level: u8,
+}
+
+// Who can reach a service.
+pub enum Reach {
+    Multicast,
+    Broadcast,
+    PointToPoint,
+    Connected,
+    Never,
+}
+
+// One run of bytes to be stored in the sheet.
+pub enum Store {
+    Nothing,
+    // the width low bytes of x
+    Number { at: usize, width: usize, x: u64 },
+    // the request's data
+    Data { at: usize },
+    // n bytes computed from those there by the request's AND and XOR bytes
+    Bits { at: usize, n: usize },
+    // n bytes b
+    Fill { at: usize, n: usize, b: u8 },
+}
+
+// What becomes of the session.
+pub enum Turn {
+    Stays,
+    Level(u8),
+    Closes,
+}
+
+// The answer: a PDU and where its data comes from.
+pub enum Answer {
+    Silence,
+    // no data
+    Plain(Pdu),
+    // the width low bytes of x
+    Number { pdu: Pdu, width: usize, x: u64 },
+    // n bytes of the sheet, as they stand after the stores
+    Sheet { pdu: Pdu, at: usize, n: usize },
+    // the request's data
+    Echo(Pdu),
+}
+
+// What is decided about a request.
+pub struct Decision {
+    pub outcome: u8,
+    pub first: Store,
+    pub second: Store,
+    pub turn: Turn,
+    pub answer: Answer,
+}
+
+// Connected mode with no connection.
+fn is_shut(q: Session, mode: u8) -> bool
+    ensures { λ r. ⌜ r ≡ isShut q mode ⌝ }
+{
+    if mode != CONNECTED {
+        return false;
+    }
+    !q.opened
+}
+
+// The sheet is one that the device works with.
+fn is_accepted(s: &[u8]) -> bool
+    ensures { λ r. ⌜ r ≡ isAccepted (now (s .entry)) ⌝ }
+{
+    sheet::check(s) == 0
+}
+
+// 8, then 9, then the reading: what a request of a service with that reach and with data d gets.
+fn reached(s: &[u8], q: Session, mode: u8, group: u16, got: Parsed, d: &[u8], r: Reach) -> Decision
+    requires { ⌜ ruleOf (now s) ≡ 0 ⌝ }
+    ensures { λ k. ⌜ ((a : List ℕ) → got ≡ readPdu a → now (d .entry) ≡ dataIn got a → k ≡ reachedOf (now (s .entry)) q mode group a r) ⌝ }
+{
+    if !reaches(r) {
+        return refused(8);
+    }
+    if !takes(r, mode) {
+        return refused(9);
+    }
+    let Parsed::Is(p) = got else {
+        return refused(pdu::outcome(got));
+    };
+    decide(s, level_in(q, mode), group, d, p)
+}
+
+// The same by what the code names.
+fn found(s: &[u8], q: Session, mode: u8, group: u16, got: Parsed, d: &[u8], f: Found) -> Decision
+    requires { ⌜ ruleOf (now s) ≡ 0 ⌝ }
+    ensures { λ k. ⌜ ((a : List ℕ) → got ≡ readPdu a → now (d .entry) ≡ dataIn got a → k ≡ foundOf (now (s .entry)) q mode group a f) ⌝ }
+{
+    match f {
+        Found::Listed(k) => reached(s, q, mode, group, got, d, reach(rules(s), k)),
+        Found::Unknown => refused(8),
+    }
+}
+
+// What is decided about a request that was read, with its data: room is the length of the answer buffer.
+pub fn judge(
+    room: usize,
+    s: &[u8],
+    q: Session,
+    mode: u8,
+    group: u16,
+    apdu: &[u8],
+    got: Parsed,
+    d: &[u8],
+) -> Decision
+    requires { ⌜ (got ≡ readPdu (now apdu)) × (now d ≡ dataIn got (now apdu)) ⌝ }
+    ensures { λ r. ⌜ r ≡ judgeOf room (now (s .entry)) q mode group (now (apdu .entry)) ⌝ }
+{
+    if room < 16 {
+        return refused(3);
+    }
+    if !is_accepted(s) {
+        return refused(4);
+    }
+    if apdu.len() < 2 {
+        return refused(5);
+    }
+    if 16 < apdu.len() {
+        return refused(5);
+    }
+    if CONNECTED < mode {
+        return refused(6);
+    }
+    if is_shut(q, mode) {
+        return refused(7);
+    }
+    found(s, q, mode, group, got, d, pdu::service_of(pdu::code(apdu)))
+}

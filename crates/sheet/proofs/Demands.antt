@@ -1,0 +1,64 @@
+-- A table of demands, its first broken row, and that all rows hold.
+-- Assumes nothing.
+use Prim.Native.Nat.{ℕ, _≤_, _<_}
+use mathlib.Core.List.{List, [], _∷_}
+use mathlib.Core.Bool.{Bool, true, false}
+use mathlib.Core.Path.{_≡_, refl, sym, _∙_}
+use lib.Dec.{leb, eqb, T}
+use native.Mathlib.Omega.{arith}
+use borrow.Author.Tests.{le-leb, leb-true, leb-false, eq-eqb, eqb-true, eqb-false}
+use Rattle.sheet.specs.Demand.{Demand, Order, _≼_, _≐_, test, Holds, Fails, breach, pick, Met, Tells}
+
+-- a test tells whether the order holds
+pub passed : (o : Order) → test o ≡ true → Holds o
+passed (a ≼ b) e = leb-true a b e
+passed (a ≐ b) e = eqb-true a b e
+
+pub failed : (o : Order) → test o ≡ false → Fails o
+failed (a ≼ b) e = leb-false a b e
+failed (a ≐ b) e = eqb-false a b e
+
+pub passes : (o : Order) → Holds o → test o ≡ true
+passes (a ≼ b) h = le-leb a b h
+passes (a ≐ b) h = eq-eqb a b h
+
+pub contrary : (o : Order) → Holds o → Fails o → ⊥
+contrary (a ≼ b) h f = omega arith
+contrary (a ≐ b) h f = f h
+
+pub told : (r : ℕ) (ds : List Demand) → Tells r ds → r ≡ breach ds
+unfolding breach
+told r [] t = t
+told r (d ∷ ds) t =
+    split (test (d .order)) refl (λ e. told r ds (t .1 (passed (d .order) e))) (λ e. t .0 (failed (d .order) e))
+  where
+    split : (b : Bool) → test (d .order) ≡ b → (test (d .order) ≡ true → r ≡ breach ds) → (test (d .order) ≡ false → r ≡ d .rule)
+        → r ≡ pick b (breach ds) (d .rule)
+    split true e f g = f e
+    split false e f g = g e
+
+-- every row names a rule, which is not 0
+abbrev pub both : Bool → Bool → Bool
+both true b = b
+both false b = false
+
+abbrev pub named : List Demand → Bool
+named [] = true
+named (d ∷ ds) = both (leb 1 (d .rule)) (named ds)
+
+pub met : (ds : List Demand) → T (named ds) → breach ds ≡ 0 → Met ds
+unfolding breach
+met [] n e = tt
+met (d ∷ ds) n e = split (test (d .order)) refl (leb 1 (d .rule)) refl n e (met ds)
+  where
+    split : (b : Bool) → test (d .order) ≡ b → (a : Bool) → leb 1 (d .rule) ≡ a → T (both a (named ds))
+        → pick b (breach ds) (d .rule) ≡ 0 → (T (named ds) → breach ds ≡ 0 → Met ds) → Holds (d .order) × Met ds
+    split true p true q n e f = (passed (d .order) p, f n e)
+    split true p false q n e f = absurd n
+    split false p true q n e f = let h : 1 ≤ d .rule = leb-true _ _ q in absurd (omega arith)
+    split false p false q n e f = absurd n
+
+pub unbroken : (ds : List Demand) → Met ds → breach ds ≡ 0
+unfolding breach
+unbroken [] h = refl
+unbroken (d ∷ ds) h = rw (passes (d .order) (h .0)) (unbroken ds (h .1))

@@ -1,0 +1,61 @@
+-- Where entries stand.
+-- Assumes nothing.
+use Prim.Native.Nat.{ℕ, zero, suc, _+_, _-_, _≤_, _<_}
+use mathlib.Core.Path.{_≡_, refl, ap}
+use mathlib.Core.List.{List}
+use lib.ListN.{length, take, drop, length-take, length-drop}
+use native.Mathlib.Nat.{add-sub-cancel-left}
+use native.Mathlib.Omega.{arith}
+use Rattle.sheet.specs.Kind.{OfKind}
+use Rattle.sheet.specs.Entries.{count, size, place, contents, entry, offsetOf}
+use Rattle.sheet.specs.Walk.{Entry, Counted, Starts, Shown}
+use Rattle.sheet.proofs.ByKind.{eachKind, kinded, at-kind}
+
+pub counted : {s : List ℕ} {k r : ℕ} → OfKind r k (count s 0) (count s 1) (count s 2) → r ≤ 64 → Counted s k r
+counted o h = record { is = kinded o; few = h }
+
+pub starts : {k r : ℕ} {e : List ℕ} → OfKind r k (offsetOf 0 e) (offsetOf 1 e) (offsetOf 2 e) → r < 65536 → Starts k e r
+starts o h = record { is = kinded o; below = h }
+
+module _ {s : List ℕ} {k i : ℕ} (h : Entry s k i) where
+  pub place-in : place s k i + size k ≤ contents s
+  place-in =
+      eachKind (λ (j : ℕ). i < count s j → place s j i + size j ≤ contents s)
+      (λ b. omega arith)
+      (λ b. omega arith)
+      (λ b. omega arith)
+      k
+      (h .kind)
+      (h .below)
+
+  pub few : i < 64
+  few =
+      eachKind (λ (j : ℕ). i < count s j → i < 64)
+      (λ b. omega arith)
+      (λ b. omega arith)
+      (λ b. omega arith)
+      k
+      (h .kind)
+      (h .below)
+
+  eight : 8 ≤ size k
+  eight = eachKind (λ (j : ℕ). 8 ≤ size j) (omega arith) (omega arith) (omega arith) k (h .kind)
+
+  pub length-entry : length (entry s k i) ≡ size k
+  unfolding entry
+  length-entry = simp (length-take, length-drop) (omega (arith, place-in))
+
+  pub shown : Shown s k i (entry s k i)
+  shown = record { is = refl; sized = record { eight = omega (arith, eight, length-entry); long = length-entry } }
+
+  -- the part that code cuts out
+  module _ {a z : ℕ} (ea : OfKind a k (place s 0 i) (place s 1 i) (place s 2 i)) (ez : OfKind z k (size 0) (size 1) (size 2)) where
+    pub at-place : a ≡ place s k i
+    at-place = at-kind (λ j. place s j i) (h .kind) ea
+
+    pub part-end : a + z ≤ length s
+    part-end = omega (arith, place-in, at-place, kinded ez)
+
+    pub part : Shown s k i (take (a + z - a) (drop a s))
+    unfolding entry
+    part = rw (add-sub-cancel-left, at-place, kinded ez) shown

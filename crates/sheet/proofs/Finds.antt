@@ -1,0 +1,75 @@
+-- In two sheets that agree on what the rules read, lookups find the same.
+-- Assumes nothing.
+use Prim.Native.Nat.{ℕ, zero, suc, _<_, _≤_}
+use mathlib.Core.Path.{_≡_, refl, _∙_, ap}
+use mathlib.Core.List.{List}
+use mathlib.Core.Bool.{_&&_}
+use lib.Dec.{eqb, ltb}
+use native.Mathlib.Decide.{decLt}
+use native.Mathlib.Omega.{arith}
+use borrow.Author.Tests.{le-ltb}
+use Rattle.sheet.specs.Demand.{pick}
+use Rattle.sheet.specs.Kind.{kinds, regions, properties}
+use Rattle.sheet.specs.Region as region
+use Rattle.sheet.specs.Property as property
+use Rattle.sheet.specs.Entries.{count, entry, keyOf}
+use Rattle.sheet.specs.Lookup.{seek, indexOf, objectAt, rank, nthOf, covers, runIn, rangeOf}
+use Rattle.sheet.specs.Frame.{Agree}
+use Rattle.sheet.specs.declared.Run.the-variants.{Nowhere}
+use Rattle.sheet.proofs.Sames.{count-same, key-same, region-same, property-same}
+use Rattle.sheet.proofs.Seeks.{seek-same}
+
+module _ {s s′ : List ℕ} (a : Agree s s′) where
+  -- the same entry by its first word
+  pub index-same : (k x : ℕ) → k < kinds → indexOf s′ k x ≡ indexOf s k x
+  unfolding indexOf
+  index-same k x hk =
+      ap (seek (λ i. eqb (keyOf s′ k i) x) 0) (count-same a k)
+      ∙ seek-same (λ i. eqb (keyOf s′ k i) x) (λ i. eqb (keyOf s k i) x) 0 (count s k)
+      (λ i h l. ap (λ (y : ℕ). eqb y x) (key-same a i k hk (omega arith)))
+
+  object-same : (i : ℕ) → i < count s properties → objectAt s′ i ≡ objectAt s i
+  unfolding objectAt
+  object-same i h = property-same a i property.object h (omega arith) (omega arith)
+
+  -- the same index of a property
+  pub rank-same : (object i : ℕ) → i ≤ count s properties → rank s′ object i ≡ rank s object i
+  unfolding rank
+  rank-same object zero h = refl
+  rank-same object (suc i) h = rw (rank-same object i (omega arith), object-same i h)
+
+  -- the same property by its index
+  pub nth-same : (object index : ℕ) → nthOf s′ object index ≡ nthOf s object index
+  unfolding nthOf
+  nth-same object index =
+      ap (seek (λ i. eqb (objectAt s′ i) object && eqb (rank s′ object i) index) 0) (count-same a properties)
+      ∙ seek-same (λ i. eqb (objectAt s′ i) object && eqb (rank s′ object i) index) (λ i. eqb (objectAt s i) object && eqb (rank s object i) index) 0 (count s properties)
+      (λ i h l. rw (object-same i (omega arith), rank-same object i (omega arith)))
+
+  module _ (f n : ℕ) where
+    covers-same : (i : ℕ) → i < count s regions → covers (entry s′ regions i) f n ≡ covers (entry s regions i) f n
+    unfolding covers
+    covers-same i h = rw (region-same a i region.address h (omega arith), region-same a i region.length h (omega arith))
+
+    run-same : (i : ℕ) → i < count s regions → runIn (entry s′ regions i) f ≡ runIn (entry s regions i) f
+    run-same i h =
+        rw (region-same a i region.offset h (omega arith), region-same a i region.address h (omega arith), region-same a i region.levels h (omega arith))
+
+    found : List ℕ → ℕ
+    found t = seek (λ j. covers (entry t regions j) f n) 0 (count t regions)
+
+    found-same : found s′ ≡ found s
+    unfolding found
+    found-same =
+        ap (seek (λ j. covers (entry s′ regions j) f n) 0) (count-same a regions)
+        ∙ seek-same (λ j. covers (entry s′ regions j) f n) (λ j. covers (entry s regions j) f n) 0 (count s regions)
+        (λ i h l. covers-same i (omega arith))
+
+    -- the same run of an address range
+    pub range-same : rangeOf s′ regions f n ≡ rangeOf s regions f n
+    unfolding rangeOf found
+    range-same = rw (found-same, count-same a regions) (go (found s) (decLt (found s) (count s regions)))
+      where
+        go : (i : ℕ) → Dec (i < count s regions) → pick (ltb i (count s regions)) (runIn (entry s′ regions i) f) Nowhere ≡ pick (ltb i (count s regions)) (runIn (entry s regions i) f) Nowhere
+        go i (yes h) = rw (run-same i h)
+        go i (no h) = rw (le-ltb i (count s regions) (omega arith))

@@ -1,0 +1,115 @@
+-- Two sheets that agree on what the rules read are both accepted or both not.
+-- Assumes nothing.
+use Prim.Native.Nat.{ℕ, zero, _<_, _≤_}
+use mathlib.Core.Path.{_≡_, sym, _∙_}
+use mathlib.Core.List.{List}
+use lib.ListN.{length}
+use native.Mathlib.Omega.{arith}
+use Rattle.sheet.specs.Demand.{Met}
+use Rattle.sheet.specs.Kind.{kinds, regions, properties, groups}
+use Rattle.sheet.specs.Layout.{_of_}
+use Rattle.sheet.specs.Head as head
+use Rattle.sheet.specs.Region as region
+use Rattle.sheet.specs.Property as property
+use Rattle.sheet.specs.Group as group
+use Rattle.sheet.specs.Entries.{count, entry, sixBits}
+use Rattle.sheet.specs.Rules.{entryDemands, bodyDemands, ruleIn}
+use Rattle.sheet.specs.Frame.{Agree}
+use Rattle.sheet.proofs.ByKind.{eachKind}
+use Rattle.sheet.proofs.Good.{Good, good, accepted}
+use Rattle.sheet.proofs.Sames.{front-same, count-same, region-same, property-same, group-same, floor-same, offset-same, at-same, start-same, reached-same}
+use Rattle.sheet.proofs.Ties.{six-to, six-from}
+
+module _ {s s′ : List ℕ} (a : Agree s s′) where
+  below-same : (k i : ℕ) → i < count s′ k → i < count s k
+  below-same k i h = omega (arith, count-same a k)
+
+  -- AGREEMENT IS MUTUAL
+  pub agree-sym : Agree s′ s
+  agree-sym =
+      record {
+        long = sym (a .long);
+        front = λ p h. sym (a .front p h);
+        zero15 = sym (a .zero15);
+        zero30 = sym (a .zero30);
+        zero31 = sym (a .zero31);
+        flags = (a .flags .1, a .flags .0);
+        fixed = λ k i j hk hi hj f. sym (a .fixed k i j hk (below-same k i hi) hj f);
+        counts = λ i h.
+            let l = below-same properties i h in
+            rw (property-same a i property.maximum l (omega arith) (omega arith)) (a .counts i l .1, a .counts i l .0);
+        six = λ i h c.
+            let l = below-same groups i h in
+            let d : group.code of entry s groups i ≡ 0 = sym (group-same a i group.code l (omega arith)) ∙ c in
+            rw (at-same a groups i (omega arith) l) (a .six i l d .1, a .six i l d .0);
+      }
+
+  -- AGREEMENT GOES ON
+  pub agree-trans : {s″ : List ℕ} → Agree s′ s″ → Agree s s″
+  agree-trans b =
+      record {
+        long = b .long ∙ a .long;
+        front = λ p h. b .front p h ∙ a .front p h;
+        zero15 = b .zero15 ∙ a .zero15;
+        zero30 = b .zero30 ∙ a .zero30;
+        zero31 = b .zero31 ∙ a .zero31;
+        flags = (λ h. b .flags .0 (a .flags .0 h), λ h. a .flags .1 (b .flags .1 h));
+        fixed = λ k i j hk hi hj f. b .fixed k i j hk (rw (count-same a k) hi) hj f ∙ a .fixed k i j hk hi hj f;
+        counts = λ i h.
+            let l = b .counts i (rw (count-same a properties) h) in
+            let m = rw (property-same a i property.maximum h (omega arith) (omega arith)) at l in
+            (λ n. m .0 (a .counts i h .0 n), λ n. a .counts i h .1 (m .1 n));
+        six = λ i h c.
+            let l = b .six i (rw (count-same a groups) h) (group-same a i group.code h (omega arith) ∙ c) in
+            let m = rw (at-same a groups i (omega arith) h) at l in
+            (λ n. m .0 (a .six i h c .0 n), λ n. a .six i h c .1 (m .1 n));
+      }
+
+module _ {ed : ℕ} {s s′ : List ℕ} (g : Good ed s) (a : Agree s s′) where
+  entries : (i k : ℕ) → k < kinds → i < count s k → Met (entryDemands s′ k i)
+  unfolding entryDemands
+  entries i =
+      eachKind (λ (k : ℕ). i < count s k → Met (entryDemands s′ k i))
+      (λ h.
+      rw (floor-same a regions i (omega arith) h, region-same a i region.address h (omega arith), region-same a i region.length h (omega arith), region-same a i region.levels h (omega arith), region-same a i region.zero h (omega arith))
+      (g .entries regions i (omega arith) h))
+      (λ h.
+      let m = g .entries properties i (omega arith) h in
+      let c : property.count of entry s properties i ≤ property.maximum of entry s properties i = omega (arith, m) in
+      rw (floor-same a properties i (omega arith) h, property-same a i property.id h (omega arith) (omega arith), property-same a i property.key h (omega arith) (omega arith), property-same a i property.kind h (omega arith) (omega arith), property-same a i property.element h (omega arith) (omega arith), property-same a i property.maximum h (omega arith) (omega arith), property-same a i property.levels h (omega arith) (omega arith), property-same a i property.zero h (omega arith) (omega arith))
+      (omega (arith, m, a .counts i h .0 c)))
+      (λ h.
+      rw (floor-same a groups i (omega arith) h, group-same a i group.address h (omega arith), group-same a i group.code h (omega arith), group-same a i group.flags h (omega arith), group-same a i group.zeros h (omega arith))
+      (g .entries groups i (omega arith) h))
+
+  six : (i k : ℕ) → k < kinds → i < count s k → sixBits s′ k (entry s′ k i) ≤ 63
+  six i =
+      eachKind (λ (k : ℕ). i < count s k → sixBits s′ k (entry s′ k i) ≤ 63)
+      (λ h. unfold sixBits in omega arith)
+      (λ h. unfold sixBits in omega arith)
+      (λ h. six-from s′ i (λ c.
+      let d : group.code of entry s groups i ≡ 0 = sym (group-same a i group.code h (omega arith)) ∙ c in
+      rw (at-same a groups i (omega arith) h) (a .six i h d .0 (six-to s i (unfold bodyDemands in g .bodies groups i (omega arith) h .1 .0) d))))
+
+  bodies : (k i : ℕ) → k < kinds → i < count s k → Met (bodyDemands s′ k i)
+  unfolding bodyDemands
+  bodies k i hk hi =
+      (offset-same a i k hk hi ∙ g .bodies k i hk hi .0 ∙ sym (reached-same a k i hk hi), (six i k hk hi, tt))
+
+  -- WHAT AGREES WITH AN ACCEPTED SHEET IS ACCEPTED
+  pub kept : Good ed s′
+  kept =
+      record {
+        framed =
+            omega
+            (arith, a .long, g .framed, front-same a head.edition (omega arith), front-same a head.stated (omega arith), count-same a 0, count-same a 1, count-same a 2);
+        zeros = omega (arith, a .zero15, a .zero30, a .zero31, a .flags .0 (g .zeros .0), g .zeros);
+        entries = λ k i hk h. entries i k hk (below-same a k i h);
+        bodies = λ k i hk h. bodies k i hk (below-same a k i h);
+        last = (start-same a kinds (omega arith) ∙ g .last .0 ∙ sym (a .long), tt);
+      }
+
+-- OF TWO THAT AGREE BOTH ARE ACCEPTED OR NEITHER IS
+pub both-or-neither :
+    (ed : ℕ) {s s′ : List ℕ} → Agree s s′ → (ruleIn ed s ≡ 0 → ruleIn ed s′ ≡ 0) × (ruleIn ed s′ ≡ 0 → ruleIn ed s ≡ 0)
+both-or-neither ed {s} {s′} a = (λ e. accepted (kept (good ed s e) a), λ e. accepted (kept (good ed s′ e) (agree-sym a)))

@@ -1,0 +1,116 @@
+-- A search from the front as a loop makes it, and the body that it leads to.
+-- Assumes nothing.
+use Prim.Native.Nat.{ℕ, zero, suc, _+_, _-_, _<_, _≤_}
+use mathlib.Core.Path.{_≡_, refl, sym, _∙_, ap}
+use mathlib.Core.List.{List, []}
+use mathlib.Core.Bool.{Bool, true, false, true≢false}
+use lib.Dec.{eqb}
+use lib.ListN.{length, take, drop}
+use borrow.Author.Tests.{eq-eqb, ne-eqb, lt-ltb, le-ltb}
+use denote.Ref.{RefT}
+use native.Mathlib.Decide.{decLt}
+use native.Mathlib.Nat.{add-sub-cancel-left}
+use native.Mathlib.Omega.{arith}
+use Rattle.octets.specs.Bytes.{numAt}
+use Rattle.sheet.specs.Kind.{kinds, OfKind}
+use Rattle.sheet.specs.Entries.{count, entry, keyOf, offsetOf, lengthOf, bodyAt, bodyEnd}
+use Rattle.sheet.specs.Rules.{ruleOf}
+use Rattle.sheet.specs.Lookup.{PartOf, seek, indexOf, bodyOf, bodyFrom, lookup, lookupFrom}
+use Rattle.sheet.specs.Walk.{Framed, Entry, Counted}
+use Rattle.sheet.proofs.ByKind.{kinded}
+use Rattle.sheet.proofs.Good.{good}
+use Rattle.sheet.proofs.Lie.{within}
+use Rattle.sheet.proofs.Seeks.{seek-first, seek-none}
+
+pub ok-framed : (s : List ℕ) → ruleOf s ≡ 0 → Framed 1 s
+ok-framed s e = record { rows = good 1 s e .framed }
+
+pub ok-entry : (s : List ℕ) (k i n : ℕ) → ruleOf s ≡ 0 → k < kinds → Counted s k n → i < n → Entry s k i
+ok-entry s k i n e hk c h = record { framed = ok-framed s e; kind = hk; below = omega (arith, c .is) }
+
+-- THE INVARIANT of a search: none of the first i of n has passed the test
+pub record Missed (t : ℕ → Bool) (n i : ℕ) : Type 0 where
+  pub within : i ≤ n
+  pub none : (j : ℕ) → j < i → t j ≡ false
+
+module _ (t : ℕ → Bool) (n : ℕ) where
+  pub none-yet : Missed t n 0
+  none-yet = record { within = omega arith; none = λ j h. absurd (omega arith) }
+
+  module _ (i : ℕ) (m : Missed t n i) where
+    pub missed : i < n → t i ≡ false → Missed t n (i + 1)
+    missed h e = record { within = omega arith; none = λ j l. go j l (decLt j i) }
+      where
+        go : (j : ℕ) → j < i + 1 → Dec (j < i) → t j ≡ false
+        go j l (yes k) = m .none j k
+        go j l (no k) = let q : j ≡ i = omega arith in rw q e
+
+    pub hit : i < n → t i ≡ true → i ≡ seek t 0 n
+    hit h e = sym (seek-first t n i h e (m .none))
+
+    pub ended : n ≤ i → i ≡ seek t 0 n
+    ended h =
+        let q : i ≡ n = omega (arith, m .within) in
+        q ∙ sym (seek-none t n (λ j l e. true≢false (sym e ∙ m .none j (omega arith))))
+
+-- the search by the first word
+abbrev pub isKey : List ℕ → ℕ → ℕ → ℕ → Bool
+isKey s k x i = eqb (keyOf s k i) x
+
+module _ (s : List ℕ) (k x n i : ℕ) (c : Counted s k n) (m : Missed (isKey s k x) n i) where
+  pub key-found : (r : ℕ) → i < n → r ≡ keyOf s k i → r ≡ x → i ≡ indexOf s k x
+  unfolding indexOf
+  key-found r h e q = rw (← c .is) (hit (isKey s k x) n i m h (eq-eqb _ _ (sym e ∙ q)))
+
+  pub key-missed : (r : ℕ) → i < n → r ≡ keyOf s k i → (r ≡ x → ⊥) → Missed (isKey s k x) n (i + 1)
+  key-missed r h e q = missed (isKey s k x) n i m h (ne-eqb _ _ (λ w. q (e ∙ w)))
+
+  pub key-ended : n ≤ i → i ≡ indexOf s k x
+  unfolding indexOf
+  key-ended h = rw (← c .is) (ended (isKey s k x) n i m h)
+
+pub key-of : (s : List ℕ) (k i : ℕ) (e : List ℕ) (r : ℕ) → e ≡ entry s k i → r ≡ numAt e 0 2 → r ≡ keyOf s k i
+unfolding keyOf
+key-of s k i e r q p = p ∙ ap (λ (l : List ℕ). numAt l 0 2) q ∙ go k
+  where
+    go : (k : ℕ) → numAt (entry s k i) 0 2 ≡ keyOf s k i
+    go zero = refl
+    go (suc zero) = refl
+    go (suc (suc k)) = refl
+
+-- the part that a call cuts out of the sheet behind s, from a to z
+module _ (s p : RefT (List ℕ)) (block : p .ptr .0 ≡ s .ptr .0) where
+  cut : (a : ℕ) (bytes : List ℕ) (from : ℕ) → p .ptr .1 ≡ a + s .ptr .1 → p .now ≡ bytes → a ≡ from → PartOf s p bytes from
+  cut a bytes from e q w = record { is = q; block = block; place = omega arith }
+
+  module _ (k i n : ℕ) (c : Counted (s .now) k n) where
+    pub no-body : n ≤ i → p .now ≡ [] → p .ptr .1 ≡ 0 + s .ptr .1 → PartOf s p (bodyOf (s .now) k i) (bodyFrom (s .now) k i)
+    unfolding bodyOf bodyFrom
+    no-body h q w =
+        let l : count (s .now) k ≤ i = omega (arith, c .is) in
+        rw (le-ltb i (count (s .now) k) l) (cut 0 [] 0 w q refl)
+
+    pub the-body : (e : List ℕ) (a z : ℕ) → i < n → e ≡ entry (s .now) k i → a ≡ offsetOf k e → OfKind z k (lengthOf 0 e) (lengthOf 1 e) (lengthOf 2 e)
+        → p .now ≡ take (a + z - a) (drop a (s .now)) → p .ptr .1 ≡ a + s .ptr .1 → PartOf s p (bodyOf (s .now) k i) (bodyFrom (s .now) k i)
+    unfolding bodyOf bodyFrom
+    the-body e a z h ee ea ez q w =
+        let l : i < count (s .now) k = omega (arith, c .is) in
+        rw (lt-ltb i (count (s .now) k) l, ← ee)
+        (cut a _ _ w (q ∙ rw (add-sub-cancel-left, ea, kinded ez)) ea)
+
+  -- what a lookup hands back of a sheet that is not accepted, and of one that is
+  module _ (k i r : ℕ) (e : r ≡ ruleOf (s .now)) where
+    pub refused : (r ≡ 0 → ⊥) → p .now ≡ [] → p .ptr .1 ≡ 0 + s .ptr .1 → PartOf s p (lookup (s .now) k i) (lookupFrom (s .now) k i)
+    unfolding lookup lookupFrom
+    refused h q w = rw (ne-eqb (ruleOf (s .now)) 0 (λ z. h (e ∙ z))) (cut 0 [] 0 w q refl)
+
+    pub allowed : r ≡ 0 → PartOf s p (bodyOf (s .now) k i) (bodyFrom (s .now) k i) → PartOf s p (lookup (s .now) k i) (lookupFrom (s .now) k i)
+    unfolding lookup lookupFrom
+    allowed h b = rw (eq-eqb (ruleOf (s .now)) 0 (sym e ∙ h)) b
+
+-- the body of an entry lies within the sheet
+pub body-end :
+    (s : List ℕ) (k i n : ℕ) (e : List ℕ) (a z : ℕ) → ruleOf s ≡ 0 → k < kinds → Counted s k n → i < n → e ≡ entry s k i → a ≡ offsetOf k e
+    → OfKind z k (lengthOf 0 e) (lengthOf 1 e) (lengthOf 2 e) → a + z ≤ length s
+unfolding bodyEnd
+body-end s k i n e a z ok hk c h ee ea ez = rw (ea, kinded ez, ee) (within (good 1 s ok) k i hk (omega (arith, c .is)))

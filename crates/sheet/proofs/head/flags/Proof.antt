@@ -1,0 +1,9 @@
+-- `sheet::head::flags` meets its contract.
+-- Assumes nothing.
+use borrow.Author.Needs.{needs}
+use Rattle.sheet.proofs.Fields.{flags-low}
+use Rattle.sheet.proofs.head.flags.Statement.{statement}
+use Rattle.sheet.proofs.head.flags.Tie as tie
+
+pub flags-spec : {M : Type 1} → statement M
+flags-spec = tie.close (tie.spec (λ c κs. search needs) (λ c. search needs) (λ c. search (flags-low, needs)))

@@ -1,0 +1,24 @@
+-- `sheet::lookup::body` meets its contract.
+-- Assumes nothing.
+use borrow.Author.Needs.{needs}
+use Rattle.sheet.proofs.Seek.{ok-framed, ok-entry, no-body, body-end, the-body}
+use Rattle.sheet.proofs.lookup.body.Statement.{statement}
+use Rattle.sheet.proofs.lookup.body.Tie as tie
+
+pub body-spec : {M : Type 1} → statement M
+body-spec =
+    tie.close
+    (tie.spec
+    (λ c κs. search ok-framed)
+    (λ c. search needs)
+    (λ c. search needs)
+    (λ c. search needs)
+    (λ c. search no-body)
+    (λ c κs. search ok-entry)
+    (λ c κs. search needs)
+    (λ c κs. search needs)
+    (λ c. search needs)
+    (λ c. search needs)
+    (λ c. search needs)
+    (λ c. search body-end)
+    (λ c. search the-body))

@@ -1,0 +1,9 @@
+-- `sheet::lookup::first_word` meets its contract.
+-- Assumes nothing.
+use borrow.Author.Needs.{needs}
+use Rattle.sheet.proofs.Seek.{key-of}
+use Rattle.sheet.proofs.lookup.first_word.Statement.{statement}
+use Rattle.sheet.proofs.lookup.first_word.Tie as tie
+
+pub first-word-spec : {M : Type 1} → statement M
+first-word-spec = tie.close (tie.spec (λ c κs. search needs) (λ c κs. search needs) (λ c. search key-of))

@@ -1,0 +1,18 @@
+-- `sheet::lookup::value` meets its contract.
+-- Assumes nothing.
+use borrow.Author.Needs.{needs}
+use Rattle.sheet.proofs.Seek.{refused, allowed}
+use Rattle.sheet.proofs.lookup.value.Statement.{statement}
+use Rattle.sheet.proofs.lookup.value.Tie as tie
+
+pub value-spec : {M : Type 1} → statement M
+value-spec =
+    tie.close
+    (tie.spec
+    (λ c κs. search needs)
+    (λ c. search needs)
+    (λ c. search needs)
+    (λ c. search needs)
+    (λ c. search refused)
+    (λ c κs. search needs)
+    (λ c. search allowed))

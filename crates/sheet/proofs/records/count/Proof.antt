@@ -1,0 +1,9 @@
+-- `sheet::records::count` meets its contract.
+-- Assumes nothing.
+use borrow.Author.Needs.{needs}
+use Rattle.sheet.proofs.Seek.{ok-framed}
+use Rattle.sheet.proofs.records.count.Statement.{statement}
+use Rattle.sheet.proofs.records.count.Tie as tie
+
+pub count-spec : {M : Type 1} → statement M
+count-spec = tie.close (tie.spec (λ c κs. search ok-framed) (λ c. search needs))

@@ -1,0 +1,9 @@
+-- `sheet::records::object_at` meets its contract.
+-- Assumes nothing.
+use borrow.Author.Needs.{needs}
+use Rattle.sheet.proofs.Loops.{object-of}
+use Rattle.sheet.proofs.records.object_at.Statement.{statement}
+use Rattle.sheet.proofs.records.object_at.Tie as tie
+
+pub object-at-spec : {M : Type 1} → statement M
+object-at-spec = tie.close (tie.spec (λ c κs. search needs) (λ c κs. search needs) (λ c. search object-of))

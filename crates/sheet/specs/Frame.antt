@@ -1,0 +1,39 @@
+-- WHAT THE RULES READ: two sheets that agree on it are both accepted or both not.
+-- Assumes nothing.
+use Prim.Native.Nat.{ℕ, _+_, _≤_, _<_}
+use mathlib.Core.Path.{_≡_}
+use mathlib.Core.List.{List}
+use lib.ListN.{length, getD}
+use Rattle.octets.specs.Bytes.{numAt}
+use Rattle.sheet.specs.Kind.{kinds, properties, groups}
+use Rattle.sheet.specs.Layout.{_of_}
+use Rattle.sheet.specs.Head as head
+use Rattle.sheet.specs.Property as property
+use Rattle.sheet.specs.Group as group
+use Rattle.sheet.specs.Entries.{count, size, entry, bodyAt}
+
+-- byte j of an entry of kind k is no part of a property's count
+abbrev pub Fixed : ℕ → ℕ → Type 0
+Fixed k j = k ≡ properties → property.count .at ≤ j → j < property.count .at + property.count .width → ⊥
+
+pub record Agree (s s′ : List ℕ) : Type 0 where
+  pub long : length s′ ≡ length s
+  -- edition, numbers of entries, stated length
+  pub front : (p : ℕ) → p < head.serial .at → getD s′ p 0 ≡ getD s p 0
+  -- the zero bytes, and the flags' zero bits
+  pub zero15 : head.zero15 of s′ ≡ head.zero15 of s
+  pub zero30 : head.zero30 of s′ ≡ head.zero30 of s
+  pub zero31 : head.zero31 of s′ ≡ head.zero31 of s
+  pub flags : (head.flags of s ≤ 3 → head.flags of s′ ≤ 3) × (head.flags of s′ ≤ 3 → head.flags of s ≤ 3)
+  -- the entries but for the counts
+  pub fixed :
+      (k i j : ℕ) → k < kinds → i < count s k → j < size k → Fixed k j → getD (entry s′ k i) j 0 ≡ getD (entry s k i) j 0
+  -- whether a count is at most the maximum, and a code-0 byte below 64
+  pub counts :
+      (i : ℕ) → i < count s properties →
+      (property.count of entry s properties i ≤ property.maximum of entry s properties i → property.count of entry s′ properties i ≤ property.maximum of entry s properties i)
+      × (property.count of entry s′ properties i ≤ property.maximum of entry s properties i → property.count of entry s properties i ≤ property.maximum of entry s properties i)
+  pub six :
+      (i : ℕ) → i < count s groups → group.code of entry s groups i ≡ 0 →
+      (numAt s (bodyAt s groups i) 1 < 64 → numAt s′ (bodyAt s groups i) 1 < 64)
+      × (numAt s′ (bodyAt s groups i) 1 < 64 → numAt s (bodyAt s groups i) 1 < 64)

@@ -1,0 +1,55 @@
+-- The head of a sheet.
+-- Assumes nothing.
+use Prim.Native.Nat.{ℕ, _+_, _*_, _/_, _%_}
+use mathlib.Core.List.{List}
+use Rattle.sheet.specs.Layout.{Field, field, _of_}
+
+abbrev pub size : ℕ
+size = 32
+
+abbrev pub edition : Field
+edition = field 0 1
+
+abbrev pub regions : Field
+regions = field 1 1
+
+abbrev pub properties : Field
+properties = field 2 1
+
+abbrev pub groups : Field
+groups = field 3 1
+
+abbrev pub stated : Field
+stated = field 4 2
+
+abbrev pub serial : Field
+serial = field 6 6
+
+abbrev pub mask : Field
+mask = field 12 2
+
+abbrev pub flags : Field
+flags = field 14 1
+
+abbrev pub zero15 : Field
+zero15 = field 15 1
+
+abbrev pub address : Field
+address = field 16 2
+
+-- the key of level l, 0 to 2
+abbrev pub key : ℕ → Field
+key l = field (18 + 4 * l) 4
+
+abbrev pub zero30 : Field
+zero30 = field 30 1
+
+abbrev pub zero31 : Field
+zero31 = field 31 1
+
+-- the flags: bit 0 programming mode, bit 1 verify
+abbrev pub programming : List ℕ → ℕ
+programming s = flags of s % 2
+
+abbrev pub verify : List ℕ → ℕ
+verify s = flags of s / 2 % 2

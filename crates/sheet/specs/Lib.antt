@@ -1,0 +1,15 @@
+pub mod Demand
+pub mod First
+pub mod Kind
+pub mod Layout
+pub mod Head
+pub mod Region
+pub mod Property
+pub mod Group
+pub mod Entries
+pub mod Rules
+pub mod Walk
+pub mod Plain
+pub mod Lookup
+pub mod Places
+pub mod Frame

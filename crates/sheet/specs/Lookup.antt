@@ -1,0 +1,95 @@
+-- Finding entries, and the part of a sheet that a value lookup hands back.
+-- Assumes nothing.
+use Prim.Native.Nat.{ℕ, zero, suc, _+_, _*_, _-_}
+use mathlib.Core.Path.{_≡_}
+use mathlib.Core.List.{List, []}
+use mathlib.Core.Bool.{Bool, true, false, _&&_}
+use lib.ListN.{take, drop}
+use lib.Dec.{ltb, leb, eqb}
+use denote.Ref.{RefT}
+use Rattle.sheet.specs.Demand.{pick}
+use Rattle.sheet.specs.Kind.{regions, properties, groups}
+use Rattle.sheet.specs.Layout.{_of_}
+use Rattle.sheet.specs.Region as region
+use Rattle.sheet.specs.Property as property
+use Rattle.sheet.specs.Rules.{ruleOf}
+use Rattle.sheet.specs.Entries.{count, entry, keyOf, offsetOf, lengthOf}
+use Rattle.sheet.specs.declared.Run.{Run}
+use Rattle.sheet.specs.declared.Run.the-variants.{At, Nowhere}
+
+-- the first of i, i + 1, .., i + d - 1 that passes a test, and i + d where none does
+unfoldable pub seek : (ℕ → Bool) → ℕ → ℕ → ℕ
+seek t i zero = i
+seek t i (suc d) = pick (t i) i (seek t (suc i) d)
+
+-- the entry of kind k whose first word is x, and the count where there is none
+unfoldable pub indexOf : List ℕ → ℕ → ℕ → ℕ
+indexOf s k x = seek (λ i. eqb (keyOf s k i) x) 0 (count s k)
+
+abbrev pub when : Bool → List ℕ → List ℕ
+when true l = l
+when false l = []
+
+-- the body of entry i of kind k, and nothing where that is no entry
+unfoldable pub bodyOf : List ℕ → ℕ → ℕ → List ℕ
+bodyOf s k i = when (ltb i (count s k)) (take (lengthOf k (entry s k i)) (drop (offsetOf k (entry s k i)) s))
+
+-- the same of an accepted sheet, and nothing of any other
+unfoldable pub lookup : List ℕ → ℕ → ℕ → List ℕ
+lookup s k i = when (eqb (ruleOf s) 0) (bodyOf s k i)
+
+-- where in the sheet that part starts; an empty one at 0
+unfoldable pub bodyFrom : List ℕ → ℕ → ℕ → ℕ
+bodyFrom s k i = pick (ltb i (count s k)) (offsetOf k (entry s k i)) 0
+
+unfoldable pub lookupFrom : List ℕ → ℕ → ℕ → ℕ
+lookupFrom s k i = pick (eqb (ruleOf s) 0) (bodyFrom s k i) 0
+
+-- r refers to the very bytes of s from a place on, no copy: these bytes, in the block of memory that s lies in, so far behind its start
+pub record PartOf (s r : RefT (List ℕ)) (bytes : List ℕ) (from : ℕ) : Type 0 where
+  pub is : r .now ≡ bytes
+  pub block : r .ptr .0 ≡ s .ptr .0
+  pub place : r .ptr .1 ≡ s .ptr .1 + from
+
+-- WHAT THE LOOKUPS HAND BACK, and from where
+abbrev pub regionOf : List ℕ → ℕ → List ℕ
+regionOf s k = lookup s regions k
+
+abbrev pub propertyOf : List ℕ → ℕ → ℕ → List ℕ
+propertyOf s object id = lookup s properties (indexOf s properties (object * 256 + id))
+
+abbrev pub groupOf : List ℕ → ℕ → List ℕ
+groupOf s address = lookup s groups (indexOf s groups address)
+
+abbrev pub regionFrom : List ℕ → ℕ → ℕ
+regionFrom s k = lookupFrom s regions k
+
+abbrev pub propertyFrom : List ℕ → ℕ → ℕ → ℕ
+propertyFrom s object id = lookupFrom s properties (indexOf s properties (object * 256 + id))
+
+abbrev pub groupFrom : List ℕ → ℕ → ℕ
+groupFrom s address = lookupFrom s groups (indexOf s groups address)
+
+-- the object of property i, and how many of the first i properties have an object
+unfoldable pub objectAt : List ℕ → ℕ → ℕ
+objectAt s i = property.object of entry s properties i
+
+unfoldable pub rank : List ℕ → ℕ → ℕ → ℕ
+rank s object zero = 0
+rank s object (suc i) = rank s object i + pick (eqb (objectAt s i) object) 1 0
+
+-- the property of an object by its index, counted from 0 within the object, and the count where there is none
+unfoldable pub nthOf : List ℕ → ℕ → ℕ → ℕ
+nthOf s object index = seek (λ i. eqb (objectAt s i) object && eqb (rank s object i) index) 0 (count s properties)
+
+-- the n addresses from a on lie in the region of entry e
+unfoldable pub covers : List ℕ → ℕ → ℕ → Bool
+covers e a n = leb (region.address of e) a && leb (a + n) (region.address of e + region.length of e)
+
+-- the run of sheet bytes that an address range of a memory is, with its levels
+abbrev pub runIn : List ℕ → ℕ → Run
+runIn e a = At (region.offset of e + (a - region.address of e)) (region.levels of e)
+
+unfoldable pub rangeOf : List ℕ → ℕ → ℕ → ℕ → Run
+rangeOf s k a n =
+    let i = seek (λ j. covers (entry s k j) a n) 0 (count s k) in pick (ltb i (count s k)) (runIn (entry s k i) a) Nowhere

@@ -1,0 +1,64 @@
+-- What a position of an accepted sheet is, where an address of a memory stands, and what calls of this crate promise of entries.
+-- Assumes nothing.
+use Prim.Native.Nat.{ℕ, _+_, _*_, _-_, _/_, _%_, _≤_, _<_, max}
+use mathlib.Core.Path.{_≡_}
+use mathlib.Core.List.{List}
+use lib.ListN.{length}
+use Rattle.sheet.specs.Kind.{kinds, properties, groups}
+use Rattle.sheet.specs.Layout.{_of_}
+use Rattle.sheet.specs.Head as head
+use Rattle.sheet.specs.Region as region
+use Rattle.sheet.specs.Property as property
+use Rattle.sheet.specs.Group as group
+use Rattle.sheet.specs.Entries.{count, size, place, entry, InBody}
+use Rattle.sheet.specs.declared.PropertyEntry.{PropertyEntry}
+use Rattle.sheet.specs.declared.GroupEntry.{GroupEntry}
+
+-- a position is a byte of the head, of an entry or of a body
+pub data Position (s : List ℕ) : ℕ → Type 0 where
+  inHead : {p : ℕ} → p < head.size → Position s p
+  inEntry : {p : ℕ} (k i j : ℕ) → k < kinds → i < count s k → j < size k → p ≡ place s k i + j → Position s p
+  inBody : {p : ℕ} (k i : ℕ) → InBody s k i p → Position s p
+
+-- address y of memory k stands at position p, under these levels
+pub record Stands (s : List ℕ) (k y p levels : ℕ) : Type 0 where
+  pub index : ℕ
+  pub below : index < count s k
+  pub from : region.address of entry s k index ≤ y
+  pub to : y < region.address of entry s k index + region.length of entry s k index
+  pub here : p ≡ region.offset of entry s k index + (y - region.address of entry s k index)
+  pub under : levels ≡ region.levels of entry s k index
+
+-- r has the fields of property i
+pub record IsProperty (s : List ℕ) (i : ℕ) (r : PropertyEntry) : Type 0 where
+  pub object : r .object ≡ property.object of entry s properties i
+  pub id : r .id ≡ property.id of entry s properties i
+  pub kind : r .kind ≡ property.kind of entry s properties i
+  pub element : r .element ≡ property.element of entry s properties i
+  pub maximum : r .maximum ≡ property.maximum of entry s properties i
+  pub count : r .count ≡ property.count of entry s properties i
+  pub offset : r .offset ≡ property.offset of entry s properties i
+  pub levels : r .levels ≡ property.levels of entry s properties i
+  pub place : r .place ≡ place s properties i
+
+-- r has the fields of group object i
+pub record IsGroup (s : List ℕ) (i : ℕ) (r : GroupEntry) : Type 0 where
+  pub code : r .code ≡ group.code of entry s groups i
+  pub flags : r .flags ≡ group.flags of entry s groups i
+  pub offset : r .offset ≡ group.offset of entry s groups i
+
+-- the same of an accepted sheet: within the limits, and its body and entry within the sheet
+pub record PropertyIn (s : List ℕ) (i : ℕ) (r : PropertyEntry) : Type 0 where
+  pub is : IsProperty s i r
+  pub filled : 1 ≤ r .element
+  pub short : r .element ≤ 10
+  pub some : 1 ≤ r .maximum
+  pub most : r .maximum ≤ 4095
+  pub counted : r .count ≤ r .maximum
+  pub body : r .offset + r .element * r .maximum ≤ length s
+  pub room : r .place + property.size ≤ length s
+
+pub record GroupIn (s : List ℕ) (i : ℕ) (r : GroupEntry) : Type 0 where
+  pub is : IsGroup s i r
+  pub short : r .code ≤ 14
+  pub body : r .offset + max 1 (r .code) ≤ length s

@@ -1,0 +1,136 @@
+-- THE RULES S1 to S9 as rows, and the first rule broken.
+-- Assumes nothing.
+use Prim.Native.Nat.{ℕ, zero, suc, _+_, _/_, _%_}
+use mathlib.Core.List.{List, [], _∷_}
+use lib.ListN.{length}
+use lib.Dec.{ltb}
+use Rattle.sheet.specs.Demand.{Demand, _≼_, _≐_, _⦂_, breach, pick}
+use Rattle.sheet.specs.First.{first, orElse}
+use Rattle.sheet.specs.Kind.{byKind, kinds, regions, properties, groups}
+use Rattle.sheet.specs.Layout.{_of_}
+use Rattle.sheet.specs.Head as head
+use Rattle.sheet.specs.Region as region
+use Rattle.sheet.specs.Property as property
+use Rattle.sheet.specs.Group as group
+use Rattle.sheet.specs.Entries.{count, contents, entry, floor, offsetOf, startOf, reached, sixBits}
+
+-- S1 to S4, of an edition
+abbrev pub frameDemands : ℕ → List ℕ → List Demand
+frameDemands ed s =
+    (1 ⦂ head.size ≼ length s) ∷
+    (1 ⦂ length s ≼ 16384) ∷
+    (2 ⦂ head.edition of s ≐ ed) ∷
+    (3 ⦂ head.regions of s ≼ 16) ∷
+    (3 ⦂ head.properties of s ≼ 64) ∷
+    (3 ⦂ head.groups of s ≼ 64) ∷
+    (4 ⦂ head.stated of s ≐ length s) ∷
+    (4 ⦂ contents s ≼ length s) ∷
+    []
+
+-- S5
+abbrev pub zeroDemands : List ℕ → List Demand
+zeroDemands s =
+    (5 ⦂ head.flags of s ≼ 3) ∷
+    (5 ⦂ head.zero15 of s ≐ 0) ∷
+    (5 ⦂ head.zero30 of s ≐ 0) ∷
+    (5 ⦂ head.zero31 of s ≐ 0) ∷
+    []
+
+-- S6 to S8, of an entry e whose first word is to be at least f
+abbrev pub regionDemands : ℕ → List ℕ → List Demand
+regionDemands f e =
+    (6 ⦂ 1 ≼ region.length of e) ∷
+    (6 ⦂ region.address of e + region.length of e ≼ 65536) ∷
+    (6 ⦂ f ≼ region.address of e) ∷
+    (6 ⦂ region.levels of e / 16 ≼ 3) ∷
+    (6 ⦂ region.levels of e % 16 ≼ 3) ∷
+    (6 ⦂ region.zero of e ≐ 0) ∷
+    []
+
+abbrev pub propertyDemands : ℕ → List ℕ → List Demand
+propertyDemands f e =
+    (7 ⦂ 1 ≼ property.id of e) ∷
+    (7 ⦂ f ≼ property.key of e) ∷
+    (7 ⦂ property.kind of e / 64 % 2 ≐ 0) ∷
+    (7 ⦂ 1 ≼ property.element of e) ∷
+    (7 ⦂ property.element of e ≼ 10) ∷
+    (7 ⦂ 1 ≼ property.maximum of e) ∷
+    (7 ⦂ property.maximum of e ≼ 4095) ∷
+    (7 ⦂ property.count of e ≼ property.maximum of e) ∷
+    (7 ⦂ property.levels of e / 16 ≼ 3) ∷
+    (7 ⦂ property.levels of e % 16 ≼ 3) ∷
+    (7 ⦂ property.zero of e ≐ 0) ∷
+    []
+
+abbrev pub groupDemands : ℕ → List ℕ → List Demand
+groupDemands f e =
+    (8 ⦂ 1 ≼ group.address of e) ∷
+    (8 ⦂ f ≼ group.address of e) ∷
+    (8 ⦂ group.code of e ≼ 14) ∷
+    (8 ⦂ group.flags of e ≼ 7) ∷
+    (8 ⦂ group.zeros of e ≐ 0) ∷
+    []
+
+unfoldable pub entryDemands : List ℕ → ℕ → ℕ → List Demand
+entryDemands s k i =
+    byKind k (regionDemands (floor s k i) (entry s k i)) (propertyDemands (floor s k i) (entry s k i))
+    (groupDemands (floor s k i) (entry s k i))
+
+-- S9, of a body that starts at `from` where the one before ended at z, six being its byte if it is a code-0 group object's
+abbrev pub bodyRows : ℕ → ℕ → ℕ → List Demand
+bodyRows from z six = (9 ⦂ from ≐ z) ∷ (9 ⦂ six ≼ 63) ∷ []
+
+unfoldable pub bodyDemands : List ℕ → ℕ → ℕ → List Demand
+bodyDemands s k i = bodyRows (offsetOf k (entry s k i)) (reached s k i) (sixBits s k (entry s k i))
+
+-- S9, of the last
+abbrev pub endDemands : List ℕ → List Demand
+endDemands s = (9 ⦂ startOf s kinds ≐ length s) ∷ []
+
+-- The passes of the walk, in this order: the entries of each kind, then the bodies of each kind.
+abbrev pub regionEntries : ℕ
+regionEntries = 0
+
+abbrev pub propertyEntries : ℕ
+propertyEntries = 1
+
+abbrev pub groupEntries : ℕ
+groupEntries = 2
+
+abbrev pub regionBodies : ℕ
+regionBodies = 3
+
+abbrev pub propertyBodies : ℕ
+propertyBodies = 4
+
+abbrev pub groupBodies : ℕ
+groupBodies = 5
+
+abbrev pub passes : ℕ
+passes = 6
+
+-- the kind that a pass is over
+abbrev pub kindAt : ℕ → ℕ
+kindAt zero = regions
+kindAt (suc zero) = properties
+kindAt (suc (suc zero)) = groups
+kindAt (suc (suc (suc p))) = p
+
+unfoldable pub stepRule : List ℕ → ℕ → ℕ → ℕ
+stepRule s p i =
+    pick (ltb p regionBodies) (breach (entryDemands s (kindAt p) i)) (breach (bodyDemands s (kindAt p) i))
+
+unfoldable pub passRule : List ℕ → ℕ → ℕ
+passRule s p = first (stepRule s p) (count s (kindAt p))
+
+-- S6 to S9
+unfoldable pub walkRule : List ℕ → ℕ
+walkRule s = orElse (first (passRule s) passes) (breach (endDemands s))
+
+-- the first rule of an edition that the sheet breaks, and 0 if it breaks none
+unfoldable pub ruleIn : ℕ → List ℕ → ℕ
+ruleIn ed s = orElse (breach (frameDemands ed s)) (orElse (breach (zeroDemands s)) (walkRule s))
+
+-- THE FIRST RULE BROKEN, and 0 for an accepted sheet
+abbrev pub ruleOf : List ℕ → ℕ
+ruleOf s = ruleIn 1 s

@@ -1,0 +1,67 @@
+// S1 to S5: the length, the edition, the numbers of entries, and the bytes that are zero.
+ghost use Rattle.sheet.specs.Demand.{Tells};
+ghost use Rattle.sheet.specs.Rules.{frameDemands, zeroDemands};
+ghost use Rattle.sheet.specs.Walk.{Framed};
+use crate::layout::group;
+use crate::layout::head;
+use crate::layout::property;
+use crate::layout::region;
+use octets::byte;
+use octets::word;
+
+// S1 to S4, of edition 1.
+pub fn frame_rule(s: &[u8]) -> u8
+    ensures { λ r. ⌜ Tells r (frameDemands 1 (now (s .entry))) ⌝ }
+{
+    let n = s.len();
+    if n < head::SIZE {
+        return 1;
+    }
+    if 16384 < n {
+        return 1;
+    }
+    if byte(s, head::EDITION) != 1 {
+        return 2;
+    }
+    let regions = byte(s, head::REGIONS);
+    if 16 < regions {
+        return 3;
+    }
+    let properties = byte(s, head::PROPERTIES);
+    if 64 < properties {
+        return 3;
+    }
+    let groups = byte(s, head::GROUPS);
+    if 64 < groups {
+        return 3;
+    }
+    if word(s, head::STATED) != n {
+        return 4;
+    }
+    if n
+        < head::SIZE + region::SIZE * regions + property::SIZE * properties + group::SIZE * groups
+    {
+        return 4;
+    }
+    0
+}
+
+// S5.
+pub fn zero_rule(s: &[u8]) -> u8
+    requires { ⌜ Framed 1 (now s) ⌝ }
+    ensures { λ r. ⌜ Tells r (zeroDemands (now (s .entry))) ⌝ }
+{
+    if 3 < byte(s, head::FLAGS) {
+        return 5;
+    }
+    if byte(s, head::ZERO15) != 0 {
+        return 5;
+    }
+    if byte(s, head::ZERO30) != 0 {
+        return 5;
+    }
+    if byte(s, head::ZERO31) != 0 {
+        return 5;
+    }
+    0
+}

@@ -1,0 +1,193 @@
+// S6 to S8 of one entry, and S9 of one body.
+ghost use mathlib.Core.Path.{_≡_};
+ghost use Prim.Native.Nat.{_+_, _≤_};
+ghost use lib.ListN.{length};
+ghost use Rattle.sheet.specs.Demand.{Tells};
+ghost use Rattle.sheet.specs.Kind.{regions, properties, groups};
+ghost use Rattle.sheet.specs.Entries.{floorAfter, offsetOf, lengthOf, sixBits};
+ghost use Rattle.sheet.specs.Rules.{regionDemands, propertyDemands, groupDemands, bodyRows};
+ghost use Rattle.sheet.specs.Walk.{Sized, Says};
+ghost use Rattle.sheet.specs.Region as region;
+ghost use Rattle.sheet.specs.Property as property;
+ghost use Rattle.sheet.specs.Group as group;
+use crate::layout::group;
+use crate::layout::kind;
+use crate::layout::property;
+use crate::layout::region;
+use crate::table::length;
+use crate::table::offset;
+use octets::byte;
+use octets::word;
+
+// The rule that a step of the walk breaks, or 0, and what the step after it is judged against.
+pub struct Judged {
+    pub rule: u8,
+    pub next: usize,
+}
+
+// S6, of a region whose address is to be at least `floor`.
+fn region_rule(floor: usize, e: &[u8]) -> u8
+    requires { ⌜ region.size ≤ length (now e) ⌝ }
+    ensures { λ r. ⌜ Tells r (regionDemands floor (now (e .entry))) ⌝ }
+{
+    let address = word(e, region::ADDRESS);
+    let long = word(e, region::LENGTH);
+    if long < 1 {
+        return 6;
+    }
+    if 65536 < address + long {
+        return 6;
+    }
+    if address < floor {
+        return 6;
+    }
+    let levels = byte(e, region::LEVELS);
+    if 3 < levels / 16 {
+        return 6;
+    }
+    if 3 < levels % 16 {
+        return 6;
+    }
+    if byte(e, region::ZERO) != 0 {
+        return 6;
+    }
+    0
+}
+
+// The same, and the least address that the next may have.
+pub fn region_step(floor: usize, e: &[u8]) -> Judged
+    requires { ⌜ region.size ≤ length (now e) ⌝ }
+    ensures { λ r. ⌜ Says (regionDemands floor (now (e .entry))) (floorAfter regions (now (e .entry))) r ⌝ }
+{
+    Judged {
+        rule: region_rule(floor, e),
+        next: word(e, region::ADDRESS) + word(e, region::LENGTH),
+    }
+}
+
+// S7, of a property whose object and id, as one number, are to be at least `floor`.
+fn property_rule(floor: usize, e: &[u8]) -> u8
+    requires { ⌜ property.size ≤ length (now e) ⌝ }
+    ensures { λ r. ⌜ Tells r (propertyDemands floor (now (e .entry))) ⌝ }
+{
+    if byte(e, property::ID) < 1 {
+        return 7;
+    }
+    if word(e, property::KEY) < floor {
+        return 7;
+    }
+    if byte(e, property::KIND) / 64 % 2 != 0 {
+        return 7;
+    }
+    let element = byte(e, property::ELEMENT);
+    if element < 1 {
+        return 7;
+    }
+    if 10 < element {
+        return 7;
+    }
+    let maximum = word(e, property::MAXIMUM);
+    if maximum < 1 {
+        return 7;
+    }
+    if 4095 < maximum {
+        return 7;
+    }
+    if maximum < word(e, property::COUNT) {
+        return 7;
+    }
+    let levels = byte(e, property::LEVELS);
+    if 3 < levels / 16 {
+        return 7;
+    }
+    if 3 < levels % 16 {
+        return 7;
+    }
+    if byte(e, property::ZERO) != 0 {
+        return 7;
+    }
+    0
+}
+
+pub fn property_step(floor: usize, e: &[u8]) -> Judged
+    requires { ⌜ property.size ≤ length (now e) ⌝ }
+    ensures { λ r. ⌜ Says (propertyDemands floor (now (e .entry))) (floorAfter properties (now (e .entry))) r ⌝ }
+{
+    Judged {
+        rule: property_rule(floor, e),
+        next: word(e, property::KEY) + 1,
+    }
+}
+
+// S8, of a group object whose address is to be at least `floor`.
+fn group_rule(floor: usize, e: &[u8]) -> u8
+    requires { ⌜ group.size ≤ length (now e) ⌝ }
+    ensures { λ r. ⌜ Tells r (groupDemands floor (now (e .entry))) ⌝ }
+{
+    let address = word(e, group::ADDRESS);
+    if address < 1 {
+        return 8;
+    }
+    if address < floor {
+        return 8;
+    }
+    if 14 < byte(e, group::CODE) {
+        return 8;
+    }
+    if 7 < byte(e, group::FLAGS) {
+        return 8;
+    }
+    if word(e, group::ZEROS) != 0 {
+        return 8;
+    }
+    0
+}
+
+pub fn group_step(floor: usize, e: &[u8]) -> Judged
+    requires { ⌜ group.size ≤ length (now e) ⌝ }
+    ensures { λ r. ⌜ Says (groupDemands floor (now (e .entry))) (floorAfter groups (now (e .entry))) r ⌝ }
+{
+    Judged {
+        rule: group_rule(floor, e),
+        next: word(e, group::ADDRESS) + 1,
+    }
+}
+
+// The byte of a code-0 group object; 0 for any other entry.
+fn six_bits(s: &[u8], k: usize, e: &[u8]) -> usize
+    requires { ⌜ 8 ≤ length (now e) ⌝ }
+    ensures { λ r. ⌜ r ≡ sixBits (now (s .entry)) k (now (e .entry)) ⌝ }
+{
+    if k < kind::GROUPS {
+        return 0;
+    }
+    if 1 <= byte(e, group::CODE) {
+        return 0;
+    }
+    byte(s, word(e, group::OFFSET))
+}
+
+// S9, of a body that starts at `from` where the one before ended at z.
+fn body_rows(from: usize, z: usize, six: usize) -> u8
+    ensures { λ r. ⌜ Tells r (bodyRows from z six) ⌝ }
+{
+    if from != z {
+        return 9;
+    }
+    if 63 < six {
+        return 9;
+    }
+    0
+}
+
+// S9, of the body of an entry e of a kind where the one before ended at z, and where the body ends.
+pub fn body_of(s: &[u8], k: usize, z: usize, e: &[u8]) -> Judged
+    requires { ⌜ Sized k (now e) ⌝ }
+    ensures { λ r. ⌜ Says (bodyRows (offsetOf k (now (e .entry))) z (sixBits (now (s .entry)) k (now (e .entry)))) (offsetOf k (now (e .entry)) + lengthOf k (now (e .entry))) r ⌝ }
+{
+    let from = offset(k, e);
+    Judged {
+        rule: body_rows(from, z, six_bits(s, k, e)),
+        next: from + length(k, e),
+    }
+}

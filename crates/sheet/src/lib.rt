@@ -1,0 +1,57 @@
+// The device sheet: its rules, its entries and their bodies.
+mod frame;
+mod head;
+mod judge;
+mod layout;
+mod lookup;
+mod memory;
+mod records;
+mod table;
+mod walk;
+
+pub use head::address_at;
+pub use head::flags;
+pub use head::flags_at;
+pub use head::individual;
+pub use head::key;
+pub use head::key_at;
+pub use head::mask;
+pub use head::serial;
+pub use lookup::find;
+pub use lookup::group;
+pub use lookup::property;
+pub use lookup::region;
+pub use memory::range;
+pub use records::count;
+pub use records::count_at;
+pub use records::group_entry;
+pub use records::nth;
+pub use records::property_entry;
+pub use records::rank;
+pub use walk::check;
+
+// A run of sheet bytes that an address range is, with the levels that it stands under.
+pub enum Run {
+    At { offset: usize, levels: u8 },
+    Nowhere,
+}
+
+// The fields of a property's entry, and where the entry stands.
+pub struct PropertyEntry {
+    pub object: u8,
+    pub id: u8,
+    pub kind: u8,
+    pub element: usize,
+    pub maximum: usize,
+    pub count: usize,
+    pub offset: usize,
+    pub levels: u8,
+    pub place: usize,
+}
+
+// The fields of a group object's entry.
+pub struct GroupEntry {
+    pub code: usize,
+    pub flags: u8,
+    pub offset: usize,
+}

@@ -1,0 +1,96 @@
+// Finding entries by their first word, and the part of the sheet that a value lookup hands back.
+ghost use mathlib.Core.Path.{_≡_};
+ghost use Prim.Native.Nat.{_+_, _*_, _<_};
+ghost use Rattle.sheet.specs.Kind.{kinds};
+ghost use Rattle.sheet.specs.Entries.{keyOf};
+ghost use Rattle.sheet.specs.Rules.{ruleOf};
+ghost use Rattle.sheet.specs.Lookup.{PartOf, indexOf, bodyOf, bodyFrom, lookup, lookupFrom, regionOf, regionFrom, propertyOf, propertyFrom, groupOf, groupFrom};
+ghost use Rattle.sheet.specs.Walk.{Entry};
+use crate::layout;
+use crate::layout::kind;
+use crate::table::entry;
+use crate::table::length;
+use crate::table::many;
+use crate::table::offset;
+use crate::walk::check;
+use octets::word;
+
+// The first word of an entry.
+fn first_word(s: &[u8], k: usize, i: usize) -> usize
+    requires { ⌜ Entry (now s) k i ⌝ }
+    ensures { λ r. ⌜ r ≡ keyOf (now (s .entry)) k i ⌝ }
+{
+    word(entry(s, k, i), layout::KEY)
+}
+
+// The number of the entry of a kind whose first word is `key`, and the count where there is none.
+pub fn find(s: &[u8], k: usize, key: usize) -> usize
+    requires { ⌜ (ruleOf (now s) ≡ 0) × (k < kinds) ⌝ }
+    ensures { λ r. ⌜ r ≡ indexOf (now (s .entry)) k key ⌝ }
+{
+    let n = many(s, k);
+    let mut i = 0;
+    while i < n {
+        if first_word(s, k, i) == key {
+            return i;
+        }
+        i += 1;
+    }
+    i
+}
+
+// The body of entry i of a kind, and an empty part where that is no entry.
+fn body(s: &[u8], k: usize, i: usize) -> &[u8]
+    requires { ⌜ (ruleOf (now s) ≡ 0) × (k < kinds) ⌝ }
+    ensures { λ r. ⌜ PartOf (s .entry) r (bodyOf (now (s .entry)) k i) (bodyFrom (now (s .entry)) k i) ⌝ }
+{
+    if many(s, k) <= i {
+        return &s[0..0];
+    }
+    let e = entry(s, k, i);
+    let a = offset(k, e);
+    let z = a + length(k, e);
+    &s[a..z]
+}
+
+// The same of an accepted sheet, and an empty part of any other: by number, and by the first word.
+fn value(s: &[u8], k: usize, i: usize) -> &[u8]
+    requires { ⌜ k < kinds ⌝ }
+    ensures { λ r. ⌜ PartOf (s .entry) r (lookup (now (s .entry)) k i) (lookupFrom (now (s .entry)) k i) ⌝ }
+{
+    if check(s) != 0 {
+        return &s[0..0];
+    }
+    body(s, k, i)
+}
+
+fn keyed(s: &[u8], k: usize, key: usize) -> &[u8]
+    requires { ⌜ k < kinds ⌝ }
+    ensures { λ r. ⌜ PartOf (s .entry) r (lookup (now (s .entry)) k (indexOf (now (s .entry)) k key)) (lookupFrom (now (s .entry)) k (indexOf (now (s .entry)) k key)) ⌝ }
+{
+    if check(s) != 0 {
+        return &s[0..0];
+    }
+    body(s, k, find(s, k, key))
+}
+
+// The body of region k, counted from 0.
+pub fn region(sheet: &[u8], k: usize) -> &[u8]
+    ensures { λ r. ⌜ PartOf (sheet .entry) r (regionOf (now (sheet .entry)) k) (regionFrom (now (sheet .entry)) k) ⌝ }
+{
+    value(sheet, kind::REGIONS, k)
+}
+
+// The body of a property.
+pub fn property(sheet: &[u8], object: u8, id: u8) -> &[u8]
+    ensures { λ r. ⌜ PartOf (sheet .entry) r (propertyOf (now (sheet .entry)) object id) (propertyFrom (now (sheet .entry)) object id) ⌝ }
+{
+    keyed(sheet, kind::PROPERTIES, object as usize * 256 + id as usize)
+}
+
+// The body of a group object.
+pub fn group(sheet: &[u8], address: u16) -> &[u8]
+    ensures { λ r. ⌜ PartOf (sheet .entry) r (groupOf (now (sheet .entry)) address) (groupFrom (now (sheet .entry)) address) ⌝ }
+{
+    keyed(sheet, kind::GROUPS, address as usize)
+}

@@ -1,0 +1,129 @@
+// The entries of an accepted sheet as records, and properties by their index within an object.
+ghost use mathlib.Core.Path.{_≡_};
+ghost use mathlib.Core.Bool.{_&&_};
+ghost use Prim.Native.Nat.{_+_, _≤_, _<_};
+ghost use lib.Dec.{eqb};
+ghost use Rattle.sheet.specs.Demand.{pick};
+ghost use Rattle.sheet.specs.Kind.{kinds, properties, groups};
+ghost use Rattle.sheet.specs.Property as property;
+ghost use Rattle.sheet.specs.Entries.{count as countOf};
+ghost use Rattle.sheet.specs.Rules.{ruleOf};
+ghost use Rattle.sheet.specs.Lookup.{objectAt, rank as rankOf, nthOf};
+ghost use Rattle.sheet.specs.Places.{PropertyIn, GroupIn};
+ghost use Rattle.sheet.specs.Walk.{Entry, Counted};
+use crate::GroupEntry;
+use crate::PropertyEntry;
+use crate::layout::group;
+use crate::layout::kind;
+use crate::layout::property;
+use crate::table::entry;
+use crate::table::many;
+use crate::table::place;
+use octets::byte;
+use octets::word;
+
+// How many entries of a kind there are.
+pub fn count(s: &[u8], k: usize) -> usize
+    requires { ⌜ (ruleOf (now s) ≡ 0) × (k < kinds) ⌝ }
+    ensures { λ r. ⌜ Counted (now (s .entry)) k r ⌝ }
+{
+    many(s, k)
+}
+
+// Property i.
+pub fn property_entry(s: &[u8], i: usize) -> PropertyEntry
+    requires { ⌜ (ruleOf (now s) ≡ 0) × (i < countOf (now s) properties) ⌝ }
+    ensures { λ r. ⌜ PropertyIn (now (s .entry)) i r ⌝ }
+{
+    let e = entry(s, kind::PROPERTIES, i);
+    PropertyEntry {
+        object: byte(e, property::OBJECT) as u8,
+        id: byte(e, property::ID) as u8,
+        kind: byte(e, property::KIND) as u8,
+        element: byte(e, property::ELEMENT),
+        maximum: word(e, property::MAXIMUM),
+        count: word(e, property::COUNT),
+        offset: word(e, property::OFFSET),
+        levels: byte(e, property::LEVELS) as u8,
+        place: place(s, kind::PROPERTIES, i),
+    }
+}
+
+// Group object i.
+pub fn group_entry(s: &[u8], i: usize) -> GroupEntry
+    requires { ⌜ (ruleOf (now s) ≡ 0) × (i < countOf (now s) groups) ⌝ }
+    ensures { λ r. ⌜ GroupIn (now (s .entry)) i r ⌝ }
+{
+    let e = entry(s, kind::GROUPS, i);
+    GroupEntry {
+        code: byte(e, group::CODE),
+        flags: byte(e, group::FLAGS) as u8,
+        offset: word(e, group::OFFSET),
+    }
+}
+
+// Where the count of a property stands whose entry stands at a place.
+pub fn count_at(place: usize) -> usize
+    requires { ⌜ place ≤ 16384 ⌝ }
+    ensures { λ r. ⌜ r ≡ place + property.count .at ⌝ }
+{
+    place + property::COUNT
+}
+
+// The object of property i.
+fn object_at(s: &[u8], i: usize) -> usize
+    requires { ⌜ Entry (now s) properties i ⌝ }
+    ensures { λ r. ⌜ r ≡ objectAt (now (s .entry)) i ⌝ }
+{
+    byte(entry(s, kind::PROPERTIES, i), property::OBJECT)
+}
+
+// 1 where two objects are the same, else 0.
+fn same(a: usize, b: u8) -> usize
+    ensures { λ r. ⌜ (r ≡ pick (eqb a b) 1 0) × (r ≤ 1) ⌝ }
+{
+    if a == b as usize { 1 } else { 0 }
+}
+
+// How many of the first i properties have an object.
+pub fn rank(s: &[u8], object: u8, i: usize) -> usize
+    requires { ⌜ (ruleOf (now s) ≡ 0) × (i ≤ countOf (now s) properties) ⌝ }
+    ensures { λ r. ⌜ r ≡ rankOf (now (s .entry)) object i ⌝ }
+{
+    let mut r = 0;
+    let mut j = 0;
+    while j < i {
+        r += same(object_at(s, j), object);
+        j += 1;
+    }
+    r
+}
+
+// Whether a property of object a, with r before it of the same, is the one asked for.
+fn is_nth(a: usize, object: u8, r: usize, index: u8) -> bool
+    ensures { λ t. ⌜ t ≡ (eqb a object && eqb r index) ⌝ }
+{
+    if a != object as usize {
+        return false;
+    }
+    r == index as usize
+}
+
+// The property of an object by its index, counted from 0 within the object, and the count where there is none.
+pub fn nth(s: &[u8], object: u8, index: u8) -> usize
+    requires { ⌜ ruleOf (now s) ≡ 0 ⌝ }
+    ensures { λ r. ⌜ r ≡ nthOf (now (s .entry)) object index ⌝ }
+{
+    let n = many(s, kind::PROPERTIES);
+    let mut r = 0;
+    let mut i = 0;
+    while i < n {
+        let here = object_at(s, i);
+        if is_nth(here, object, r, index) {
+            return i;
+        }
+        r += same(here, object);
+        i += 1;
+    }
+    i
+}

@@ -1,0 +1,111 @@
+// The entries of a sheet by kind and number, and where their bodies lie.
+ghost use mathlib.Core.Path.{_≡_};
+ghost use Prim.Native.Nat.{_+_, _*_, _≤_, _<_, max};
+ghost use lib.ListN.{length};
+ghost use Rattle.sheet.specs.Kind.{OfKind};
+ghost use Rattle.sheet.specs.Layout.{_of_};
+ghost use Rattle.sheet.specs.Property as property;
+ghost use Rattle.sheet.specs.Entries.{size as sizeOf, place as placeOf, contents as contentsOf};
+ghost use Rattle.sheet.specs.Walk.{Framed, Entry, Counted, Shown, Starts, Long, Sized};
+use crate::layout::group;
+use crate::layout::head;
+use crate::layout::kind;
+use crate::layout::property;
+use crate::layout::region;
+use octets::byte;
+use octets::word;
+
+// How many entries of a kind there are.
+pub fn many(s: &[u8], k: usize) -> usize
+    requires { ⌜ Framed 1 (now s) ⌝ }
+    ensures { λ r. ⌜ Counted (now (s .entry)) k r ⌝ }
+{
+    match k {
+        kind::REGIONS => byte(s, head::REGIONS),
+        kind::PROPERTIES => byte(s, head::PROPERTIES),
+        _ => byte(s, head::GROUPS),
+    }
+}
+
+// How long an entry of a kind is.
+pub fn size(k: usize) -> usize
+    ensures { λ r. ⌜ OfKind r k (sizeOf 0) (sizeOf 1) (sizeOf 2) ⌝ }
+{
+    match k {
+        kind::REGIONS => region::SIZE,
+        kind::PROPERTIES => property::SIZE,
+        _ => group::SIZE,
+    }
+}
+
+// Where entry i of a kind stands.
+pub fn place(s: &[u8], k: usize, i: usize) -> usize
+    requires { ⌜ Framed 1 (now s) × (i ≤ 64) ⌝ }
+    ensures { λ r. ⌜ OfKind r k (placeOf (now (s .entry)) 0 i) (placeOf (now (s .entry)) 1 i) (placeOf (now (s .entry)) 2 i) ⌝ }
+{
+    let properties = head::SIZE + region::SIZE * byte(s, head::REGIONS);
+    let groups = properties + property::SIZE * byte(s, head::PROPERTIES);
+    match k {
+        kind::REGIONS => head::SIZE + region::SIZE * i,
+        kind::PROPERTIES => properties + property::SIZE * i,
+        _ => groups + group::SIZE * i,
+    }
+}
+
+// Where the contents end.
+pub fn contents(s: &[u8]) -> usize
+    requires { ⌜ Framed 1 (now s) ⌝ }
+    ensures { λ r. ⌜ r ≡ contentsOf (now (s .entry)) ⌝ }
+{
+    head::SIZE
+        + region::SIZE * byte(s, head::REGIONS)
+        + property::SIZE * byte(s, head::PROPERTIES)
+        + group::SIZE * byte(s, head::GROUPS)
+}
+
+// Entry i of a kind, as the part of the sheet that it is.
+pub fn entry(s: &[u8], k: usize, i: usize) -> &[u8]
+    requires { ⌜ Entry (now s) k i ⌝ }
+    ensures { λ r. ⌜ Shown (now (s .entry)) k i (now r) ⌝ }
+{
+    let a = place(s, k, i);
+    let z = a + size(k);
+    &s[a..z]
+}
+
+// Where the body of an entry starts.
+pub fn offset(k: usize, e: &[u8]) -> usize
+    requires { ⌜ Sized k (now e) ⌝ }
+    ensures { λ r. ⌜ Starts k (now (e .entry)) r ⌝ }
+{
+    match k {
+        kind::REGIONS => word(e, region::OFFSET),
+        kind::PROPERTIES => word(e, property::OFFSET),
+        _ => word(e, group::OFFSET),
+    }
+}
+
+// How long it is.
+pub fn length(k: usize, e: &[u8]) -> usize
+    requires { ⌜ 8 ≤ length (now e) ⌝ }
+    ensures { λ r. ⌜ Long k (now (e .entry)) r ⌝ }
+{
+    match k {
+        kind::REGIONS => word(e, region::LENGTH),
+        kind::PROPERTIES => elements(e),
+        _ => at_least_one(byte(e, group::CODE)),
+    }
+}
+
+fn elements(e: &[u8]) -> usize
+    requires { ⌜ 8 ≤ length (now e) ⌝ }
+    ensures { λ r. ⌜ (r ≡ property.element of now (e .entry) * property.maximum of now (e .entry)) × (r < 16777216) ⌝ }
+{
+    byte(e, property::ELEMENT) * word(e, property::MAXIMUM)
+}
+
+fn at_least_one(n: usize) -> usize
+    ensures { λ r. ⌜ r ≡ max 1 n ⌝ }
+{
+    if n < 1 { 1 } else { n }
+}
