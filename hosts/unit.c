@@ -1,0 +1,668 @@
+/*
+ * The desk unit: plays one device. Commands come on standard input, one to a line, and each gets one line on
+ * standard output. Bytes are hex digits, - is an empty run, numbers are decimal.
+ *
+ *   sheet HEX                            sets the sheet                 OK, or S1 .. S9
+ *   session OPEN LEVEL                   sets the session as found      session OPEN LEVEL
+ *   connect, disconnect, button on|off                                  OUTCOME OPEN LEVEL 0 - SHEETHEX
+ *   request MODE GROUP APDUHEX BUFHEX    a request to the device        OUTCOME OPEN LEVEL COUNT BUFHEX SHEETHEX
+ *   lookup property OBJECT ID            a value in the sheet           HEX
+ *   lookup region K
+ *   lookup group ADDRESS
+ *   read APDUHEX                         reads a PDU                    OUTCOME, or 0 KIND field=value ..
+ *   write KIND field=value .. BUFHEX     writes a PDU                   OUTCOME COUNT BUFHEX
+ *
+ * An empty line, or one that begins with #, is passed over. Any other line that is no command gets one line that
+ * begins with ERR and says why, and changes nothing. The unit starts with the sample sheet and a fresh session.
+ */
+#include "kelindap.h"
+#include "kelindap_pdu.h"
+
+#include <inttypes.h>
+#include <stdarg.h>
+#include <stdio.h>
+#include <stdlib.h>
+#include <string.h>
+
+typedef struct run {
+    uint8_t *bytes;
+    size_t length;
+} run;
+
+typedef struct device {
+    run sheet;
+    kelindap_session session;
+} device;
+
+static const uint8_t sample_sheet[] = {
+    0x01, 0x01, 0x01, 0x01, 0x00, 0x45, 0x00, 0xC5, 0x01, 0x02, 0x03, 0x04, 0x07, 0xB0, 0x02, 0x00, /* head */
+    0x11, 0x05, 0x11, 0x11, 0x11, 0x11, 0x22, 0x22, 0x22, 0x22, 0xFF, 0xFF, 0xFF, 0xFF, 0x00, 0x00, /* address, keys */
+    0x01, 0x00, 0x00, 0x04, 0x00, 0x3C, 0x32, 0x00,                                                 /* region */
+    0x01, 0x33, 0x84, 0x02, 0x00, 0x02, 0x00, 0x01, 0x00, 0x40, 0x31, 0x00,                         /* property */
+    0x08, 0x01, 0x01, 0x03, 0x00, 0x44, 0x00, 0x00,                                                 /* group object */
+    0xA0, 0xA1, 0xA2, 0xA3, 0x03, 0xE8, 0x00, 0x00, 0x00,                                           /* bodies */
+};
+
+/* ---- what can go wrong ---- */
+
+/* Memory or a stream gave out: the unit can't go on. */
+static _Noreturn void give_up(const char *why)
+{
+    fprintf(stderr, "unit: %s\n", why);
+    exit(EXIT_FAILURE);
+}
+
+/* Answers a line that is no command. Always false, so that whoever finds the fault can return it. */
+static bool err(const char *format, ...)
+{
+    va_list parts;
+    va_start(parts, format);
+    fputs("ERR ", stdout);
+    vprintf(format, parts);
+    putchar('\n');
+    va_end(parts);
+    return false;
+}
+
+/* A word as a message shows it: its first 24 characters, with ? for any that is not printable ASCII. */
+static const char *shown(const char *word)
+{
+    static char text[25];
+    size_t i = 0;
+    for (; i + 1 < sizeof text && word[i] != '\0'; i++)
+        text[i] = ' ' <= word[i] && word[i] <= '~' ? word[i] : '?';
+    text[i] = '\0';
+    return text;
+}
+
+/* ---- lines and words ---- */
+
+typedef struct line {
+    char *text;
+    size_t length;
+    size_t room;
+} line;
+
+static void append(line *l, char c)
+{
+    if (l->length == l->room) {
+        size_t room = l->room == 0 ? 256 : 2 * l->room;
+        char *text = room > l->room ? realloc(l->text, room) : NULL;
+        if (text == NULL)
+            give_up("no memory for the line");
+        l->text = text;
+        l->room = room;
+    }
+    l->text[l->length++] = c;
+}
+
+/* Reads a line of any length, closed with a NUL that its length doesn't count; false at the end of the input. */
+static bool next_line(line *l)
+{
+    int c;
+    l->length = 0;
+    while ((c = getchar()) != EOF && c != '\n')
+        append(l, (char)c);
+    if (ferror(stdin))
+        give_up("the input can't be read");
+    if (c == EOF && l->length == 0)
+        return false;
+    if (l->length > 0 && l->text[l->length - 1] == '\r')
+        l->length--; /* lines may end in CR LF */
+    append(l, '\0');
+    l->length--;
+    return true;
+}
+
+/* No command has more words; one place beyond shows that a line has too many. */
+enum { MOST_WORDS = 16 };
+
+/* Cuts the text into words at blanks and tabs, in place, and gives their number, at most MOST_WORDS + 1. */
+static size_t split(char *text, char *words[MOST_WORDS + 1])
+{
+    static const char blanks[] = " \t";
+    size_t count = 0;
+    text += strspn(text, blanks);
+    while (*text != '\0' && count <= MOST_WORDS) {
+        words[count++] = text;
+        text += strcspn(text, blanks);
+        if (*text != '\0')
+            *text++ = '\0';
+        text += strspn(text, blanks);
+    }
+    return count;
+}
+
+/* ---- numbers and bytes ---- */
+
+/* Reads a number; one that 64 bits can't hold counts as the largest they can. */
+static bool take_number(const char *name, const char *word, uint64_t *value)
+{
+    size_t digits = strspn(word, "0123456789");
+    if (digits == 0 || word[digits] != '\0')
+        return err("%s is not a decimal number: \"%s\"", name, shown(word));
+    *value = 0;
+    for (; *word != '\0'; word++) {
+        uint64_t digit = (uint64_t)(*word - '0');
+        *value = *value > (UINT64_MAX - digit) / 10 ? UINT64_MAX : 10 * *value + digit;
+    }
+    return true;
+}
+
+/* Reads a number that may not be larger than `most`. */
+static bool take_up_to(const char *name, const char *word, uint64_t most, uint64_t *value)
+{
+    if (!take_number(name, word, value))
+        return false;
+    return *value <= most || err("%s is above %" PRIu64 ": \"%s\"", name, most, shown(word));
+}
+
+static uint8_t nibble(char digit)
+{
+    return (uint8_t)(digit <= '9' ? digit - '0' : (digit | 32) - 'a' + 10);
+}
+
+/* Reads bytes. They take the place of the digits, so the run stands in the line itself. */
+static bool take_bytes(const char *name, char *word, run *r)
+{
+    *r = (run){ (uint8_t *)word, 0 };
+    if (strcmp(word, "-") == 0)
+        return true;
+    size_t digits = strspn(word, "0123456789abcdefABCDEF");
+    if (word[digits] != '\0')
+        return err("%s has a character that is no hex digit", name);
+    if (digits == 0)
+        return err("%s has no value: an empty run is -", name);
+    if (digits % 2 != 0)
+        return err("%s has an odd number of hex digits", name);
+    for (; r->length < digits / 2; r->length++)
+        r->bytes[r->length] = (uint8_t)(nibble(word[2 * r->length]) << 4 | nibble(word[2 * r->length + 1]));
+    return true;
+}
+
+static void put_bytes(const uint8_t *bytes, size_t length)
+{
+    static const char digits[] = "0123456789abcdef";
+    if (length == 0)
+        putchar('-');
+    for (size_t i = 0; i < length; i++) {
+        putchar(digits[bytes[i] >> 4]);
+        putchar(digits[bytes[i] & 15]);
+    }
+}
+
+/* ---- the device ---- */
+
+static void set_sheet(device *d, const uint8_t *bytes, size_t length)
+{
+    uint8_t *copy = NULL;
+    if (length > 0) {
+        copy = malloc(length);
+        if (copy == NULL)
+            give_up("no memory for the sheet");
+        memcpy(copy, bytes, length);
+    }
+    free(d->sheet.bytes);
+    d->sheet = (run){ copy, length };
+}
+
+static void put_event(const device *d, kelindap_reply reply, const uint8_t *buffer, size_t length)
+{
+    printf("%d %d %d %d ", reply.outcome, d->session.open, d->session.level, reply.count);
+    put_bytes(buffer, length);
+    putchar(' ');
+    put_bytes(d->sheet.bytes, d->sheet.length);
+    putchar('\n');
+}
+
+static bool do_sheet(device *d, char **words, size_t count)
+{
+    run sheet;
+    (void)count;
+    if (!take_bytes("HEX", words[0], &sheet))
+        return false;
+    set_sheet(d, sheet.bytes, sheet.length);
+    uint8_t rule = kelindap_check(d->sheet.bytes, d->sheet.length);
+    if (rule == 0)
+        puts("OK");
+    else
+        printf("S%d\n", rule);
+    return true;
+}
+
+static bool do_session(device *d, char **words, size_t count)
+{
+    uint64_t open, level;
+    (void)count;
+    if (!take_up_to("OPEN", words[0], 1, &open) || !take_up_to("LEVEL", words[1], 255, &level))
+        return false;
+    d->session = (kelindap_session){ open != 0, (uint8_t)level };
+    printf("session %d %d\n", d->session.open, d->session.level);
+    return true;
+}
+
+static bool do_connect(device *d, char **words, size_t count)
+{
+    (void)words, (void)count;
+    put_event(d, (kelindap_reply){ kelindap_connect(&d->session), 0 }, NULL, 0);
+    return true;
+}
+
+static bool do_disconnect(device *d, char **words, size_t count)
+{
+    (void)words, (void)count;
+    put_event(d, (kelindap_reply){ kelindap_disconnect(&d->session), 0 }, NULL, 0);
+    return true;
+}
+
+static bool do_button(device *d, char **words, size_t count)
+{
+    bool on = strcmp(words[0], "on") == 0;
+    (void)count;
+    if (!on && strcmp(words[0], "off") != 0)
+        return err("the button goes on or off: \"%s\"", shown(words[0]));
+    put_event(d, (kelindap_reply){ kelindap_button(d->sheet.bytes, d->sheet.length, on), 0 }, NULL, 0);
+    return true;
+}
+
+static bool do_request(device *d, char **words, size_t count)
+{
+    uint64_t mode, group;
+    run apdu, answer;
+    (void)count;
+    if (!take_up_to("MODE", words[0], 255, &mode) || !take_up_to("GROUP", words[1], 65535, &group) ||
+        !take_bytes("APDUHEX", words[2], &apdu) || !take_bytes("BUFHEX", words[3], &answer))
+        return false;
+    kelindap_reply reply =
+        kelindap_request(&d->session, (uint8_t)mode, (uint16_t)group, apdu.bytes, apdu.length, d->sheet.bytes,
+                         d->sheet.length, answer.bytes, answer.length);
+    put_event(d, reply, answer.bytes, answer.length);
+    return true;
+}
+
+/* ---- lookups ---- */
+
+static bool find_property(const device *d, char **words, kelindap_part *part)
+{
+    uint64_t object, id;
+    if (!take_up_to("OBJECT", words[0], 255, &object) || !take_up_to("ID", words[1], 255, &id))
+        return false;
+    *part = kelindap_property(d->sheet.bytes, d->sheet.length, (uint8_t)object, (uint8_t)id);
+    return true;
+}
+
+static bool find_region(const device *d, char **words, kelindap_part *part)
+{
+    uint64_t k;
+    if (!take_up_to("K", words[0], UINT64_MAX, &k))
+        return false;
+    *part = kelindap_region(d->sheet.bytes, d->sheet.length, k < SIZE_MAX ? (size_t)k : SIZE_MAX);
+    return true;
+}
+
+static bool find_group(const device *d, char **words, kelindap_part *part)
+{
+    uint64_t address;
+    if (!take_up_to("ADDRESS", words[0], 65535, &address))
+        return false;
+    *part = kelindap_group(d->sheet.bytes, d->sheet.length, (uint16_t)address);
+    return true;
+}
+
+static const char lookups[] = "lookup property OBJECT ID, lookup region K, or lookup group ADDRESS";
+
+static bool find(const device *d, char **words, size_t count, kelindap_part *part)
+{
+    if (strcmp(words[0], "property") == 0 && count == 3)
+        return find_property(d, words + 1, part);
+    if (strcmp(words[0], "region") == 0 && count == 2)
+        return find_region(d, words + 1, part);
+    if (strcmp(words[0], "group") == 0 && count == 2)
+        return find_group(d, words + 1, part);
+    return err("the form is: %s", lookups);
+}
+
+static bool do_lookup(device *d, char **words, size_t count)
+{
+    kelindap_part part;
+    if (!find(d, words, count, &part))
+        return false;
+    put_bytes(part.length == 0 ? NULL : d->sheet.bytes + part.offset, part.length);
+    putchar('\n');
+    return true;
+}
+
+/* ---- PDUs: their kinds and fields ---- */
+
+enum form {
+    DECIMAL, /* a number, in decimal */
+    HEX,     /* a number, as the hex of its bytes */
+    RUN      /* bytes, apart from the flat PDU */
+};
+
+enum field { END, V, T, OBJECT, ID, N, S, INDEX, TYPE, MAXIMUM, ACCESS, LEVEL, ADDRESS, DOMAIN, SERIAL, KEY, DATA, AND, XOR };
+enum { FIELDS = XOR + 1 };
+
+/* A field's name; how many bytes its value has, and where and how wide it is in a flat PDU. */
+static const struct {
+    const char *name;
+    enum form form;
+    size_t bytes, width, offset;
+} fields[FIELDS] = {
+#define FLAT(form, bytes, name) { #name, form, bytes, sizeof(((kelindap_pdu *)NULL)->name), offsetof(kelindap_pdu, name) }
+    [V] = FLAT(DECIMAL, 1, v),
+    [T] = FLAT(DECIMAL, 1, t),
+    [OBJECT] = FLAT(DECIMAL, 1, object),
+    [ID] = FLAT(DECIMAL, 1, id),
+    [N] = FLAT(DECIMAL, 1, n),
+    [S] = FLAT(DECIMAL, 2, s),
+    [INDEX] = FLAT(DECIMAL, 1, index),
+    [TYPE] = FLAT(DECIMAL, 1, type),
+    [MAXIMUM] = FLAT(DECIMAL, 2, maximum),
+    [ACCESS] = FLAT(DECIMAL, 1, access),
+    [LEVEL] = FLAT(DECIMAL, 1, level),
+    [ADDRESS] = FLAT(DECIMAL, 2, address),
+    [DOMAIN] = FLAT(DECIMAL, 2, domain),
+    [SERIAL] = FLAT(HEX, 6, serial),
+    [KEY] = FLAT(HEX, 4, key),
+    [DATA] = { "data", RUN, 0, 0, 0 },
+    [AND] = { "and", RUN, 0, 0, 0 },
+    [XOR] = { "xor", RUN, 0, 0, 0 },
+#undef FLAT
+};
+
+/* The kinds by number, each with its fields in the order in which they are shown. */
+static const struct kind {
+    const char *name;
+    enum field fields[7];
+} kinds[] = {
+    [KELINDAP_GROUP_READ] = { "group_read", { END } },
+    [KELINDAP_GROUP_RESPONSE] = { "group_response", { V, DATA, END } },
+    [KELINDAP_GROUP_WRITE] = { "group_write", { V, DATA, END } },
+    [KELINDAP_ADDRESS_WRITE] = { "address_write", { ADDRESS, END } },
+    [KELINDAP_ADDRESS_READ] = { "address_read", { END } },
+    [KELINDAP_SERIAL_READ] = { "serial_read", { SERIAL, END } },
+    [KELINDAP_SERIAL_WRITE] = { "serial_write", { SERIAL, ADDRESS, END } },
+    [KELINDAP_DESCRIPTOR_READ] = { "descriptor_read", { T, END } },
+    [KELINDAP_PROPERTY_READ] = { "property_read", { OBJECT, ID, N, S, END } },
+    [KELINDAP_PROPERTY_WRITE] = { "property_write", { OBJECT, ID, N, S, DATA, END } },
+    [KELINDAP_DESCRIPTION_READ] = { "description_read", { OBJECT, ID, INDEX, END } },
+    [KELINDAP_MEMORY_READ] = { "memory_read", { N, ADDRESS, END } },
+    [KELINDAP_MEMORY_WRITE] = { "memory_write", { N, ADDRESS, DATA, END } },
+    [KELINDAP_MEMORY_BIT_WRITE] = { "memory_bit_write", { N, ADDRESS, AND, XOR, END } },
+    [KELINDAP_AUTHORIZE_REQUEST] = { "authorize_request", { KEY, END } },
+    [KELINDAP_KEY_WRITE] = { "key_write", { LEVEL, KEY, END } },
+    [KELINDAP_RESTART] = { "restart", { END } },
+    [KELINDAP_ADDRESS_RESPONSE] = { "address_response", { END } },
+    [KELINDAP_SERIAL_RESPONSE] = { "serial_response", { SERIAL, DOMAIN, END } },
+    [KELINDAP_DESCRIPTOR_RESPONSE] = { "descriptor_response", { T, DATA, END } },
+    [KELINDAP_PROPERTY_RESPONSE] = { "property_response", { OBJECT, ID, N, S, DATA, END } },
+    [KELINDAP_DESCRIPTION_RESPONSE] = { "description_response", { OBJECT, ID, INDEX, TYPE, MAXIMUM, ACCESS, END } },
+    [KELINDAP_MEMORY_RESPONSE] = { "memory_response", { N, ADDRESS, DATA, END } },
+    [KELINDAP_AUTHORIZE_RESPONSE] = { "authorize_response", { LEVEL, END } },
+    [KELINDAP_KEY_RESPONSE] = { "key_response", { LEVEL, END } },
+};
+enum { KINDS = sizeof kinds / sizeof kinds[0], NO_KIND = 255 };
+
+/* The number in a field of a flat PDU. */
+static uint64_t get(const kelindap_pdu *pdu, enum field f)
+{
+    const uint8_t *at = (const uint8_t *)pdu + fields[f].offset;
+    uint16_t two;
+    uint32_t four;
+    uint64_t eight;
+    switch (fields[f].width) {
+    case 1:
+        return *at;
+    case 2:
+        return memcpy(&two, at, sizeof two), two;
+    case 4:
+        return memcpy(&four, at, sizeof four), four;
+    default:
+        return memcpy(&eight, at, sizeof eight), eight;
+    }
+}
+
+static void set(kelindap_pdu *pdu, enum field f, uint64_t value)
+{
+    uint8_t *at = (uint8_t *)pdu + fields[f].offset;
+    uint16_t two = (uint16_t)value;
+    uint32_t four = (uint32_t)value;
+    switch (fields[f].width) {
+    case 1:
+        *at = (uint8_t)value;
+        break;
+    case 2:
+        memcpy(at, &two, sizeof two);
+        break;
+    case 4:
+        memcpy(at, &four, sizeof four);
+        break;
+    default:
+        memcpy(at, &value, sizeof value);
+    }
+}
+
+/* ---- PDUs: reading ---- */
+
+/* The bytes of a run field, which stand in the APDU; a bit write's data is its AND bytes, then as many XOR bytes. */
+static run part_of(const kelindap_pdu *pdu, run apdu, enum field f)
+{
+    run data = { apdu.bytes + pdu->data_offset, pdu->data_length };
+    if (f == DATA)
+        return data;
+    size_t half = data.length / 2;
+    return (run){ f == AND ? data.bytes : data.bytes + half, half };
+}
+
+static void put_hex_number(uint64_t value, size_t length)
+{
+    uint8_t bytes[8];
+    for (size_t i = 0; i < length; i++)
+        bytes[i] = (uint8_t)(value >> 8 * (length - 1 - i));
+    put_bytes(bytes, length);
+}
+
+static void put_field(const kelindap_pdu *pdu, run apdu, enum field f)
+{
+    printf(" %s=", fields[f].name);
+    if (fields[f].form == RUN) {
+        run part = part_of(pdu, apdu, f);
+        put_bytes(part.bytes, part.length);
+    } else if (fields[f].form == HEX) {
+        put_hex_number(get(pdu, f), fields[f].bytes);
+    } else {
+        printf("%" PRIu64, get(pdu, f));
+    }
+}
+
+static bool do_read(device *d, char **words, size_t count)
+{
+    run apdu;
+    (void)d, (void)count;
+    if (!take_bytes("APDUHEX", words[0], &apdu))
+        return false;
+    kelindap_pdu pdu = kelindap_read(apdu.bytes, apdu.length);
+    printf("%d", pdu.outcome);
+    if (pdu.outcome == KELINDAP_ANSWERED) {
+        printf(" %s", kinds[pdu.kind].name);
+        for (const enum field *f = kinds[pdu.kind].fields; *f != END; f++)
+            put_field(&pdu, apdu, *f);
+    }
+    putchar('\n');
+    return true;
+}
+
+/* ---- PDUs: writing ---- */
+
+/* A PDU on its way from the words of a line. */
+typedef struct draft {
+    const struct kind *kind;
+    kelindap_pdu pdu;
+    bool given[FIELDS];
+    run runs[FIELDS]; /* of the run fields */
+    bool fits;        /* each field so far fits its place in the flat PDU */
+} draft;
+
+static const struct kind *kind_of(const char *name)
+{
+    for (size_t k = 0; k < KINDS; k++)
+        if (strcmp(kinds[k].name, name) == 0)
+            return &kinds[k];
+    return NULL;
+}
+
+static enum field field_of(const struct kind *kind, const char *name)
+{
+    const enum field *f = kind->fields;
+    while (*f != END && strcmp(fields[*f].name, name) != 0)
+        f++;
+    return *f;
+}
+
+/* A value that doesn't fit its place is no error of the line: the PDU can't be written, which is for the library to say. */
+static bool take_value(draft *w, enum field f, char *value)
+{
+    uint64_t number = 0;
+    if (fields[f].form == RUN)
+        return take_bytes(fields[f].name, value, &w->runs[f]);
+    if (fields[f].form == DECIMAL) {
+        if (!take_number(fields[f].name, value, &number))
+            return false;
+        w->fits = w->fits && number >> 8 * fields[f].bytes == 0;
+    } else {
+        run hex;
+        if (!take_bytes(fields[f].name, value, &hex))
+            return false;
+        w->fits = w->fits && hex.length == fields[f].bytes;
+        for (size_t i = 0; i < hex.length; i++)
+            number = number << 8 | hex.bytes[i];
+    }
+    set(&w->pdu, f, number);
+    return true;
+}
+
+static bool take_field(draft *w, char *word)
+{
+    char *equals = strchr(word, '=');
+    if (equals == NULL)
+        return err("a field is NAME=VALUE: \"%s\"", shown(word));
+    *equals = '\0';
+    enum field f = field_of(w->kind, word);
+    if (f == END)
+        return err("%s has no field of this name: \"%s\"", w->kind->name, shown(word));
+    if (w->given[f])
+        return err("%s is given twice", fields[f].name);
+    w->given[f] = true;
+    return take_value(w, f, equals + 1);
+}
+
+static bool take_fields(draft *w, char **words, size_t count)
+{
+    for (size_t i = 0; i < count; i++)
+        if (!take_field(w, words[i]))
+            return false;
+    for (const enum field *f = w->kind->fields; *f != END; f++)
+        if (!w->given[*f])
+            return err("%s needs the field %s", w->kind->name, fields[*f].name);
+    return true;
+}
+
+/* A bit write has as many AND bytes as XOR bytes, at most as many as its n can say. */
+enum { MOST_BITS = 255 };
+
+/* The data after the fields; `both` has room for the two runs of a bit write. */
+static run data_of(draft *w, uint8_t both[2 * MOST_BITS])
+{
+    run and = w->runs[AND], xor = w->runs[XOR];
+    if (!w->given[AND])
+        return w->runs[DATA];
+    if (and.length != xor.length || and.length > MOST_BITS) {
+        w->fits = false;
+        return (run){ both, 0 };
+    }
+    memcpy(both, and.bytes, and.length);
+    memcpy(both + and.length, xor.bytes, xor.length);
+    return (run){ both, 2 * and.length };
+}
+
+static bool do_write(device *d, char **words, size_t count)
+{
+    draft w = { .kind = kind_of(words[0]), .fits = true };
+    uint8_t both[2 * MOST_BITS];
+    run out;
+    (void)d;
+    if (w.kind == NULL)
+        return err("no kind of PDU has this name: \"%s\"", shown(words[0]));
+    if (strchr(words[count - 1], '=') != NULL)
+        return err("BUFHEX is missing after the fields");
+    if (!take_fields(&w, words + 1, count - 2) || !take_bytes("BUFHEX", words[count - 1], &out))
+        return false;
+    run data = data_of(&w, both);
+    w.pdu.kind = w.fits ? (uint8_t)(w.kind - kinds) : NO_KIND; /* NO_KIND gives 3 or 13, as is due */
+    kelindap_written written = kelindap_write(w.pdu, data.bytes, data.length, out.bytes, out.length);
+    printf("%d %d ", written.outcome, written.count);
+    put_bytes(out.bytes, out.length);
+    putchar('\n');
+    return true;
+}
+
+/* ---- commands ---- */
+
+/* A command's name and form, and how many words follow the name. Its function has these words and their number. */
+static const struct command {
+    const char *name, *form;
+    size_t fewest, most;
+    bool (*obey)(device *d, char **words, size_t count);
+} commands[] = {
+    { "sheet", "sheet HEX", 1, 1, do_sheet },
+    { "session", "session OPEN LEVEL", 2, 2, do_session },
+    { "connect", "connect", 0, 0, do_connect },
+    { "disconnect", "disconnect", 0, 0, do_disconnect },
+    { "button", "button on, or button off", 1, 1, do_button },
+    { "request", "request MODE GROUP APDUHEX BUFHEX", 4, 4, do_request },
+    { "lookup", lookups, 2, 3, do_lookup },
+    { "read", "read APDUHEX", 1, 1, do_read },
+    { "write", "write KIND field=value .. BUFHEX", 2, MOST_WORDS - 1, do_write },
+};
+
+static const struct command *command_of(const char *name)
+{
+    for (size_t i = 0; i < sizeof commands / sizeof commands[0]; i++)
+        if (strcmp(commands[i].name, name) == 0)
+            return &commands[i];
+    return NULL;
+}
+
+static bool obey(device *d, const line *l)
+{
+    char *words[MOST_WORDS + 1];
+    if (l->length == 0 || l->text[0] == '#')
+        return true;
+    if (memchr(l->text, '\0', l->length) != NULL)
+        return err("the line has a NUL byte");
+    size_t count = split(l->text, words);
+    if (count == 0)
+        return err("the line has nothing but blanks");
+    const struct command *command = command_of(words[0]);
+    if (command == NULL)
+        return err("no command has this name: \"%s\"", shown(words[0]));
+    if (count - 1 < command->fewest || command->most < count - 1)
+        return err("the form is: %s", command->form);
+    return command->obey(d, words + 1, count - 1);
+}
+
+int main(void)
+{
+    device d = { .session = kelindap_fresh() };
+    line l = { 0 };
+    set_sheet(&d, sample_sheet, sizeof sample_sheet);
+    while (next_line(&l)) {
+        obey(&d, &l);
+        if (fflush(stdout) != 0)
+            give_up("the output can't be written");
+    }
+    free(l.text);
+    free(d.sheet.bytes);
+    return EXIT_SUCCESS;
+}

@@ -1,0 +1,91 @@
+/* A program without operating system or C library around it: one request to the device, one PDU read and written. */
+#include "kelindap.h"
+#include "kelindap_pdu.h"
+
+/* All that the archives may want from outside. The empty asm keeps the compiler from making calls of these loops. */
+void *memcpy(void *to, const void *from, size_t n)
+{
+    for (size_t i = 0; i < n; i++) {
+        ((uint8_t *)to)[i] = ((const uint8_t *)from)[i];
+        __asm__ volatile("" ::: "memory");
+    }
+    return to;
+}
+
+void *memset(void *to, int value, size_t n)
+{
+    for (size_t i = 0; i < n; i++) {
+        ((uint8_t *)to)[i] = (uint8_t)value;
+        __asm__ volatile("" ::: "memory");
+    }
+    return to;
+}
+
+void *memmove(void *to, const void *from, size_t n)
+{
+    if ((uintptr_t)to <= (uintptr_t)from)
+        return memcpy(to, from, n);
+    for (size_t i = n; i > 0; i--) {
+        ((uint8_t *)to)[i - 1] = ((const uint8_t *)from)[i - 1];
+        __asm__ volatile("" ::: "memory");
+    }
+    return to;
+}
+
+int memcmp(const void *a, const void *b, size_t n)
+{
+    for (size_t i = 0; i < n; i++) {
+        int difference = ((const uint8_t *)a)[i] - ((const uint8_t *)b)[i];
+        if (difference != 0)
+            return difference;
+        __asm__ volatile("" ::: "memory");
+    }
+    return 0;
+}
+
+static uint8_t sheet[69] = {
+    0x01, 0x01, 0x01, 0x01, 0x00, 0x45, 0x00, 0xC5, 0x01, 0x02, 0x03, 0x04, 0x07, 0xB0, 0x02, 0x00, 0x11, 0x05,
+    0x11, 0x11, 0x11, 0x11, 0x22, 0x22, 0x22, 0x22, 0xFF, 0xFF, 0xFF, 0xFF, 0x00, 0x00, 0x01, 0x00, 0x00, 0x04,
+    0x00, 0x3C, 0x32, 0x00, 0x01, 0x33, 0x84, 0x02, 0x00, 0x02, 0x00, 0x01, 0x00, 0x40, 0x31, 0x00, 0x08, 0x01,
+    0x01, 0x03, 0x00, 0x44, 0x00, 0x00, 0xA0, 0xA1, 0xA2, 0xA3, 0x03, 0xE8, 0x00, 0x00, 0x00,
+};
+
+/* The height is set at level 1, as in the marked cases. */
+static int device_works(void)
+{
+    static const uint8_t apdu[8] = { 0x03, 0xD7, 0x01, 0x33, 0x10, 0x01, 0x03, 0x84 };
+    static const uint8_t expected[8] = { 0x03, 0xD6, 0x01, 0x33, 0x10, 0x01, 0x03, 0x84 };
+    static uint8_t answer[16];
+    kelindap_session session = kelindap_fresh();
+    kelindap_connect(&session);
+    session.level = 1;
+    kelindap_reply reply = kelindap_request(&session, KELINDAP_CONNECTED, 0, apdu, sizeof apdu, sheet, sizeof sheet,
+                                            answer, sizeof answer);
+    return reply.outcome == KELINDAP_ANSWERED && reply.count == 8 && memcmp(answer, expected, 8) == 0 &&
+           sheet[64] == 0x03 && sheet[65] == 0x84;
+}
+
+static int tool_works(void)
+{
+    static const uint8_t apdu[4] = { 0x02, 0x04, 0x01, 0x00 };
+    static uint8_t out[16];
+    kelindap_pdu pdu = kelindap_read(apdu, sizeof apdu);
+    kelindap_written written = kelindap_write(pdu, apdu, 0, out, sizeof out);
+    return pdu.outcome == 0 && pdu.kind == KELINDAP_MEMORY_READ && pdu.n == 4 && pdu.address == 0x100 &&
+           written.outcome == 0 && written.count == 4 && memcmp(out, apdu, 4) == 0;
+}
+
+/* The exit status: 0, 1 if the device's library failed, 2 if the tool's did. */
+int run(void);
+int run(void)
+{
+    return !device_works() ? 1 : !tool_works() ? 2 : 0;
+}
+
+#if defined(__x86_64__)
+__asm__(".globl _start\n_start:\n\txorl %ebp, %ebp\n\tcall run\n\tmovl %eax, %edi\n\tmovl $60, %eax\n\tsyscall\n");
+#elif defined(__aarch64__)
+__asm__(".globl _start\n_start:\n\tbl run\n\tmov x8, #93\n\tsvc #0\n");
+#else
+#error "no start for this processor"
+#endif

@@ -1,0 +1,571 @@
+/*
+ * A host in C that trusts the device's library with nothing: the marked cases, all lengths and modes, damaged sheets,
+ * lookups, long runs; each request is held to what is promised of any, and no byte beside its buffers is touched.
+ */
+#define _DEFAULT_SOURCE
+#include "kelindap.h"
+#include "kelindap_pdu.h"
+#include "lent.h"
+
+/* ---- requests ---- */
+
+enum { MOST_SHEET = 16384 };
+
+typedef struct event {
+    kelindap_session session;
+    uint8_t mode;
+    uint16_t group;
+    run apdu, sheet;
+    size_t room;
+} event;
+
+typedef struct effect {
+    kelindap_reply reply;
+    kelindap_session session;
+    uint8_t answer[MOST_ROOM];
+    uint8_t sheet[MOST_SHEET + 1];
+} effect;
+
+static void request_at(enum place place, const event *e, effect *f)
+{
+    lent session = lend(SESSION, place, &e->session, sizeof e->session);
+    lent apdu = lend(APDU, place, e->apdu.bytes, e->apdu.length);
+    lent sheet = lend(SHEET, place, e->sheet.bytes, e->sheet.length);
+    lent answer = lend(ANSWER, place, as_found, e->room);
+    f->reply = kelindap_request((kelindap_session *)session.bytes, e->mode, e->group, apdu.bytes, apdu.length, sheet.bytes,
+                               sheet.length, answer.bytes, answer.length);
+    calls++;
+    take_back(&session, &f->session, "session");
+    take_back_same(&apdu, e->apdu.bytes, "APDU");
+    take_back(&sheet, f->sheet, "sheet");
+    take_back(&answer, f->answer, "answer");
+}
+
+static uint8_t check_at(enum place place, run sheet)
+{
+    lent b = lend(SHEET, place, sheet.bytes, sheet.length);
+    uint8_t rule = kelindap_check(b.bytes, b.length);
+    calls++;
+    take_back_same(&b, sheet.bytes, "sheet");
+    expect(rule <= 9, "check gave %d", rule);
+    return rule;
+}
+
+/* The first of the outcomes 3 to 7 that is due, or 0. */
+static int early_outcome(const event *e, uint8_t rule)
+{
+    if (e->room < 16)
+        return KELINDAP_NO_ROOM;
+    if (rule != 0)
+        return KELINDAP_BAD_SHEET;
+    if (e->apdu.length < 2 || 16 < e->apdu.length)
+        return KELINDAP_BAD_LENGTH;
+    if (e->mode > 3)
+        return KELINDAP_BAD_MODE;
+    return e->mode == KELINDAP_CONNECTED && !e->session.open ? KELINDAP_NOT_CONNECTED : 0;
+}
+
+static bool same_session(kelindap_session a, kelindap_session b)
+{
+    return a.open == b.open && a.level == b.level;
+}
+
+/* What holds of any request: the early outcomes, and that a refusal leaves every byte. */
+static void hold_to_promises(const event *e, const effect *f)
+{
+    int outcome = f->reply.outcome;
+    size_t count = f->reply.count;
+    bool answered = outcome == KELINDAP_ANSWERED || outcome == KELINDAP_DENIED;
+    bool carried_out = outcome == KELINDAP_ANSWERED || outcome == KELINDAP_DONE;
+    int early = early_outcome(e, kelindap_check(e->sheet.bytes, e->sheet.length));
+    expect(outcome <= KELINDAP_DENIED_SILENT, "a request gave %d", outcome);
+    if (early != 0)
+        expect(outcome == early, "a request gave %d, %d was due", outcome, early);
+    else
+        expect(outcome < KELINDAP_NO_ROOM || KELINDAP_NOT_CONNECTED < outcome, "a request gave %d too soon", outcome);
+    expect(answered ? 2 <= count && count <= 16 : count == 0, "outcome %d came with %d bytes", outcome, (int)count);
+    expect(count > e->room || memcmp(f->answer + count, as_found + count, e->room - count) == 0,
+           "outcome %d: the answer buffer changed after byte %d", outcome, (int)count);
+    expect(!answered || kelindap_read(f->answer, count).outcome == 0, "outcome %d: the answer can't be read", outcome);
+    if (carried_out)
+        return;
+    expect(same_session(f->session, e->session), "outcome %d changed the session", outcome);
+    expect(e->sheet.length == 0 || memcmp(f->sheet, e->sheet.bytes, e->sheet.length) == 0,
+           "outcome %d changed the sheet", outcome);
+}
+
+static bool same_effect(const event *e, const effect *a, const effect *b)
+{
+    return a->reply.outcome == b->reply.outcome && a->reply.count == b->reply.count && same_session(a->session, b->session) &&
+           memcmp(a->answer, b->answer, e->room) == 0 && memcmp(a->sheet, b->sheet, e->sheet.length) == 0;
+}
+
+/* A request in one place; what happened stands until the next one there. */
+static const effect *try_at(enum place place, const event *e)
+{
+    static effect effects[PLACES];
+    effect *f = &effects[place];
+    request_at(place, e, f);
+    hold_to_promises(e, f);
+    return f;
+}
+
+/* The same request in every place, where the same must happen. */
+static const effect *try_everywhere(const event *e)
+{
+    const effect *first = try_at(EXACT, e);
+    for (enum place place = GUARDED; place < PLACES; place++)
+        expect(same_effect(e, first, try_at(place, e)), "a request did something else in place %d", place);
+    return first;
+}
+
+/* ---- sheets ---- */
+
+static const uint8_t sample[69] = {
+    0x01, 0x01, 0x01, 0x01, 0x00, 0x45, 0x00, 0xC5, 0x01, 0x02, 0x03, 0x04, 0x07, 0xB0, 0x02, 0x00, 0x11, 0x05,
+    0x11, 0x11, 0x11, 0x11, 0x22, 0x22, 0x22, 0x22, 0xFF, 0xFF, 0xFF, 0xFF, 0x00, 0x00, 0x01, 0x00, 0x00, 0x04,
+    0x00, 0x3C, 0x32, 0x00, 0x01, 0x33, 0x84, 0x02, 0x00, 0x02, 0x00, 0x01, 0x00, 0x40, 0x31, 0x00, 0x08, 0x01,
+    0x01, 0x03, 0x00, 0x44, 0x00, 0x00, 0xA0, 0xA1, 0xA2, 0xA3, 0x03, 0xE8, 0x00, 0x00, 0x00,
+};
+static const run sample_sheet = { sample, sizeof sample };
+
+static void put_word(uint8_t *at, size_t value)
+{
+    at[0] = (uint8_t)(value >> 8);
+    at[1] = (uint8_t)value;
+}
+
+/* A full sheet: 16 regions, 64 properties, 64 group objects, and where the body of each stands. */
+enum { REGIONS = 16, PROPERTIES = 64, GROUPS = 64 };
+static uint8_t full[MOST_SHEET];
+static size_t full_length;
+static kelindap_part region_body[REGIONS], property_body[PROPERTIES], group_body[GROUPS];
+
+static size_t region_address(size_t i) { return 0x100 + 0x200 * i; }
+static size_t property_object(size_t i) { return i / 8; }
+static size_t property_id(size_t i) { return 1 + 3 * (i % 8); }
+static size_t group_address(size_t i) { return 5 + 9 * i; }
+
+/* Gives the next body `length` bytes, writes its offset, and moves on. */
+static kelindap_part body(uint8_t *offset_at, size_t length)
+{
+    kelindap_part part = { full_length, length };
+    put_word(offset_at, full_length);
+    full_length += length;
+    return part;
+}
+
+static void build_full_sheet(void)
+{
+    uint8_t *e = full + 32;
+    full_length = 32 + 8 * REGIONS + 12 * PROPERTIES + 8 * GROUPS;
+    memcpy(full, sample, 32);
+    full[1] = REGIONS;
+    full[2] = PROPERTIES;
+    full[3] = GROUPS;
+    for (size_t i = 0; i < REGIONS; i++, e += 8) {
+        size_t length = i == 3 ? 0x200 : 1 + 5 * i; /* region 3 touches region 4 */
+        put_word(e, region_address(i));
+        put_word(e + 2, length);
+        region_body[i] = body(e + 4, length);
+        e[6] = (uint8_t)(0x33 - (i % 4) - 16 * (i / 4));
+    }
+    for (size_t i = 0; i < PROPERTIES; i++, e += 12) {
+        size_t size = 1 + i % 10, maximum = 1 + i % 13;
+        e[0] = (uint8_t)property_object(i);
+        e[1] = (uint8_t)property_id(i);
+        e[2] = i % 3 == 0 ? 0x04 : 0x84;
+        e[3] = (uint8_t)size;
+        put_word(e + 4, maximum);
+        put_word(e + 6, i % (maximum + 1));
+        property_body[i] = body(e + 8, size * maximum);
+        e[10] = (uint8_t)(16 * (i % 4) + i / 4 % 4);
+    }
+    for (size_t i = 0; i < GROUPS; i++, e += 8) {
+        put_word(e, group_address(i));
+        e[2] = (uint8_t)(i % 15);
+        e[3] = (uint8_t)(i % 8);
+        group_body[i] = body(e + 4, i % 15 == 0 ? 1 : i % 15);
+    }
+    put_word(full + 4, full_length);
+    for (uint8_t *b = e; b < full + full_length; b++)
+        *b = (uint8_t)((b - full) * 11 % 64);
+}
+
+/* The longest sheet: one region. */
+static uint8_t longest[MOST_SHEET];
+
+static void build_longest_sheet(void)
+{
+    static const uint8_t entry[8] = { 0x12, 0x34, 0x3F, 0xD8, 0x00, 0x28, 0x33, 0x00 };
+    memcpy(longest, sample, 32);
+    longest[2] = longest[3] = 0;
+    put_word(longest + 4, MOST_SHEET);
+    memcpy(longest + 32, entry, 8);
+    for (size_t i = 40; i < MOST_SHEET; i++)
+        longest[i] = (uint8_t)(i * 7);
+}
+
+/* ---- lookups ---- */
+
+typedef struct question {
+    enum { BY_PROPERTY, BY_REGION, BY_GROUP } by;
+    size_t a, b;
+} question;
+
+static kelindap_part ask(const lent *sheet, question q)
+{
+    switch (q.by) {
+    case BY_PROPERTY:
+        return kelindap_property(sheet->bytes, sheet->length, (uint8_t)q.a, (uint8_t)q.b);
+    case BY_REGION:
+        return kelindap_region(sheet->bytes, sheet->length, q.a);
+    default:
+        return kelindap_group(sheet->bytes, sheet->length, (uint16_t)q.a);
+    }
+}
+
+/* The part that a lookup gives lies in the caller's sheet, is where it should be, and has the bytes of that place. */
+static void look_up(enum place place, run sheet, question q, kelindap_part due)
+{
+    lent b = lend(SHEET, place, sheet.bytes, sheet.length);
+    kelindap_part part = ask(&b, q);
+    calls++;
+    expect(part.offset == due.offset && part.length == due.length, "lookup %d of %d, %d gave %d bytes at %d", q.by, (int)q.a,
+           (int)q.b, (int)part.length, (int)part.offset);
+    bool inside = part.offset <= sheet.length && part.length <= sheet.length - part.offset;
+    expect(inside, "lookup %d of %d, %d gave a part outside the sheet", q.by, (int)q.a, (int)q.b);
+    if (inside && part.length > 0)
+        expect(memcmp(b.bytes + part.offset, sheet.bytes + due.offset, part.length) == 0,
+               "lookup %d of %d, %d: wrong bytes", q.by, (int)q.a, (int)q.b);
+    take_back_same(&b, sheet.bytes, "sheet");
+}
+
+static void look_up_everywhere(run sheet, question q, kelindap_part due)
+{
+    for (enum place place = EXACT; place < PLACES; place++)
+        look_up(place, sheet, q, due);
+}
+
+static const kelindap_part none = { 0, 0 };
+
+static void test_lookups_in_sample(void)
+{
+    for (size_t object = 0; object < 256; object++)
+        for (size_t id = 0; id < 256; id++)
+            look_up((enum place)(id % PLACES), sample_sheet, (question){ BY_PROPERTY, object, id },
+                    object == 1 && id == 0x33 ? (kelindap_part){ 64, 4 } : none);
+    for (size_t address = 0; address < 65536; address++)
+        look_up((enum place)(address % PLACES), sample_sheet, (question){ BY_GROUP, address, 0 },
+                address == 0x801 ? (kelindap_part){ 68, 1 } : none);
+    look_up_everywhere(sample_sheet, (question){ BY_REGION, 0, 0 }, (kelindap_part){ 60, 4 });
+    for (size_t k = 1; k != 0; k = k < 300 ? k + 1 : k == SIZE_MAX ? 0 : k > SIZE_MAX / 2 ? SIZE_MAX : 2 * k)
+        look_up((enum place)(k % PLACES), sample_sheet, (question){ BY_REGION, k, 0 }, none);
+}
+
+static void test_lookups_in_full_sheet(void)
+{
+    run sheet = { full, full_length };
+    expect(check_at(EXACT, sheet) == 0, "the full sheet breaks rule %d", check_at(EXACT, sheet));
+    for (size_t i = 0; i < REGIONS; i++)
+        look_up_everywhere(sheet, (question){ BY_REGION, i, 0 }, region_body[i]);
+    look_up_everywhere(sheet, (question){ BY_REGION, REGIONS, 0 }, none);
+    for (size_t i = 0; i < PROPERTIES; i++) {
+        look_up_everywhere(sheet, (question){ BY_PROPERTY, property_object(i), property_id(i) }, property_body[i]);
+        look_up_everywhere(sheet, (question){ BY_PROPERTY, property_object(i), property_id(i) + 1 }, none);
+    }
+    for (size_t i = 0; i < GROUPS; i++) {
+        look_up_everywhere(sheet, (question){ BY_GROUP, group_address(i), 0 }, group_body[i]);
+        look_up_everywhere(sheet, (question){ BY_GROUP, group_address(i) + 1, 0 }, none);
+    }
+    look_up_everywhere((run){ longest, MOST_SHEET }, (question){ BY_REGION, 0, 0 }, (kelindap_part){ 40, MOST_SHEET - 40 });
+}
+
+/* ---- the marked cases ---- */
+
+static size_t unhex(const char *digits, uint8_t *bytes)
+{
+    size_t length = 0;
+    unsigned value;
+    for (; sscanf(digits, "%2x", &value) == 1; digits += 2)
+        bytes[length++] = (uint8_t)value;
+    return length;
+}
+
+static const struct marked {
+    uint8_t mode, level;
+    const char *apdu, *answer;
+    uint8_t outcome, level_after;
+    int changed; /* offset of the bytes that change, or -1 */
+    const char *to;
+} marked[] = {
+    { 2, 3, "03D501331001", "03D60133100103E8", 0, 3, -1, "" },
+    { 3, 3, "03D501331000", "03D6013310000001", 0, 3, -1, "" },
+    { 2, 3, "03D7013310010384", "03D601330001", 11, 3, -1, "" },
+    { 3, 1, "03D7013310010384", "03D6013310010384", 0, 1, 64, "0384" },
+    { 3, 3, "03D10022222222", "03D201", 0, 1, -1, "" },
+    { 3, 1, "03D10033333333", "03D203", 0, 3, -1, "" },
+    { 3, 3, "03D100FFFFFFFF", "03D202", 0, 2, -1, "" },
+    { 3, 3, "02040100", "02440100A0A1A2A3", 0, 3, -1, "" },
+    { 3, 3, "02020103", "02400103", 11, 3, -1, "" },
+    { 3, 1, "0281010055", "0241010055", 0, 1, 60, "55" },
+    { 3, 1, "03D00101000FF0", "02410100F0", 0, 1, 60, "F0" },
+    { 3, 1, "03D30033333333", "03D4FF", 11, 1, -1, "" },
+    { 3, 3, "03D8013300", "03D901330084000231", 0, 3, -1, "" },
+    { 2, 3, "02040100", "", 9, 3, -1, "" },
+};
+enum { MARKED = sizeof marked / sizeof marked[0] };
+
+static void test_marked_cases(void)
+{
+    for (size_t i = 0; i < MARKED; i++) {
+        const struct marked *m = &marked[i];
+        uint8_t apdu[16], answer[16], sheet[sizeof sample];
+        memcpy(sheet, sample, sizeof sample);
+        if (m->changed >= 0)
+            unhex(m->to, sheet + m->changed);
+        size_t count = unhex(m->answer, answer);
+        event e = { { m->mode == 3, m->level }, m->mode, 0, { apdu, unhex(m->apdu, apdu) }, sample_sheet, 16 };
+        const effect *f = try_everywhere(&e);
+        expect(f->reply.outcome == m->outcome && f->reply.count == count && memcmp(f->answer, answer, count) == 0,
+               "marked case %d: outcome %d, %d bytes", (int)i + 1, f->reply.outcome, f->reply.count);
+        expect(same_session(f->session, (kelindap_session){ m->mode == 3, m->level_after }), "marked case %d: session",
+               (int)i + 1);
+        expect(memcmp(f->sheet, sheet, sizeof sheet) == 0, "marked case %d: sheet", (int)i + 1);
+    }
+}
+
+/* ---- lengths, modes, damage ---- */
+
+/* A request of each service at its own length, in the mode that serves it, and a few that none serves. */
+static const struct service {
+    uint8_t mode;
+    const char *apdu;
+} services[] = {
+    { 0, "0000" }, { 0, "004055" }, { 0, "008055" }, { 0, "0081" }, { 1, "00C01234" }, { 1, "0100" },
+    { 1, "03DC00C501020304" }, { 1, "03DE00C5010203041207DEADBEEF" }, { 2, "0300" }, { 2, "0305" },
+    { 2, "03D501331001" }, { 3, "03D7013310010384" }, { 3, "03D7013310000000" }, { 2, "03D8013300" }, { 3, "02040100" },
+    { 3, "028401001122334455" }, { 3, "0284010011223344" }, { 3, "03D00201000102A0B0" }, { 3, "03D10022222222" },
+    { 3, "03D300ABCDEF01" }, { 3, "0380" }, { 3, "0381" }, { 2, "0140" }, { 2, "03FF" },
+};
+enum { SERVICES = sizeof services / sizeof services[0] };
+
+static void test_lengths(void)
+{
+    for (size_t i = 0; i < SERVICES; i++) {
+        uint8_t apdu[20] = { 0 };
+        unhex(services[i].apdu, apdu);
+        for (size_t length = 0; length <= 20; length++)
+            for (size_t room = 0; room <= 20; room++)
+                try_everywhere(&(event){ { true, (uint8_t)(i % 4) }, services[i].mode, 0x801, { apdu, length }, sample_sheet, room });
+    }
+}
+
+static void test_modes(void)
+{
+    for (size_t i = 0; i < SERVICES; i++) {
+        uint8_t apdu[16];
+        size_t length = unhex(services[i].apdu, apdu);
+        for (int mode = 0; mode < 256; mode++)
+            for (int open = 0; open < 2; open++)
+                try_everywhere(&(event){ { open != 0, (uint8_t)mode }, (uint8_t)mode, 0x801, { apdu, length }, sample_sheet, 16 });
+    }
+}
+
+/* The button sets or clears bit 0 of byte 14 and nothing else. */
+static void press(enum place place, run sheet, bool on, uint8_t rule)
+{
+    static uint8_t due[MOST_SHEET + 1], now[MOST_SHEET + 1];
+    lent b = lend(SHEET, place, sheet.bytes, sheet.length);
+    uint8_t outcome = kelindap_button(b.bytes, b.length, on);
+    calls++;
+    if (sheet.length > 0)
+        memcpy(due, sheet.bytes, sheet.length);
+    if (rule == 0)
+        due[14] = (uint8_t)((due[14] & ~1) | on);
+    take_back(&b, now, "sheet");
+    expect(outcome == (rule == 0 ? KELINDAP_DONE : KELINDAP_BAD_SHEET), "the button gave %d under rule %d", outcome, rule);
+    expect(memcmp(now, due, sheet.length) == 0, "the button left another sheet");
+}
+
+/* Every call on a sheet that may be bad: they agree on whether it is, and a bad one is left alone. */
+static void try_sheet(enum place place, run sheet)
+{
+    static const uint8_t apdu[6] = { 0x03, 0xD5, 0x01, 0x33, 0x10, 0x01 };
+    uint8_t rule = check_at(place, sheet);
+    press(place, sheet, true, rule);
+    press(place, sheet, false, rule);
+    try_at(place, &(event){ { true, 0 }, 2, 0, { apdu, sizeof apdu }, sheet, 16 });
+    if (rule == 0)
+        return;
+    look_up(place, sheet, (question){ BY_PROPERTY, 1, 0x33 }, none);
+    look_up(place, sheet, (question){ BY_REGION, 0, 0 }, none);
+    look_up(place, sheet, (question){ BY_GROUP, 0x801, 0 }, none);
+}
+
+static void test_damaged_sample(void)
+{
+    static uint8_t sheet[sizeof sample];
+    for (size_t at = 0; at < sizeof sample; at++)
+        for (int value = 0; value < 256; value++) {
+            memcpy(sheet, sample, sizeof sample);
+            sheet[at] = (uint8_t)value;
+            try_sheet((enum place)(value % PLACES), (run){ sheet, sizeof sheet });
+        }
+}
+
+/* Sheets cut short, also with a stated length that agrees, and sheets with bytes to spare. */
+static void test_cut_sheets(void)
+{
+    static uint8_t sheet[sizeof sample + 10];
+    for (size_t length = 0; length <= sizeof sheet; length++)
+        for (enum place place = EXACT; place < PLACES; place++) {
+            memset(sheet, 0, sizeof sheet);
+            memcpy(sheet, sample, sizeof sample);
+            try_sheet(place, (run){ sheet, length });
+            put_word(sheet + 4, length);
+            try_sheet(place, (run){ sheet, length });
+        }
+}
+
+/* Damage to the full sheet, its contents above all. */
+static void test_damaged_full_sheet(void)
+{
+    static uint8_t sheet[MOST_SHEET];
+    for (int i = 0; i < 4000; i++) {
+        size_t contents = 32 + 8 * REGIONS + 12 * PROPERTIES + 8 * GROUPS;
+        memcpy(sheet, full, full_length);
+        sheet[any(i % 4 == 0 ? (uint32_t)full_length : (uint32_t)contents)] = (uint8_t)any(256);
+        try_sheet((enum place)(i % PLACES), (run){ sheet, full_length });
+    }
+    for (size_t length = 0; length <= full_length; length += 1 + any(9)) {
+        memcpy(sheet, full, full_length);
+        put_word(sheet + 4, length);
+        try_sheet((enum place)(length % PLACES), (run){ sheet, length });
+    }
+    for (size_t length = MOST_SHEET - 1; length <= MOST_SHEET; length++)
+        for (enum place place = EXACT; place < PLACES; place++)
+            try_sheet(place, (run){ longest, length });
+}
+
+/* ---- long runs on the full sheet ---- */
+
+/* An APDU that often hits an entry. */
+static size_t any_apdu(uint8_t apdu[20])
+{
+    static const uint8_t codes[][2] = {
+        { 0, 0x00 }, { 0, 0x40 }, { 0, 0x80 }, { 0, 0x85 }, { 0, 0xC0 }, { 1, 0x00 }, { 3, 0xDC }, { 3, 0xDE }, { 3, 0x00 },
+        { 3, 0xD5 }, { 3, 0xD7 }, { 3, 0xD8 }, { 2, 0x00 }, { 2, 0x80 }, { 3, 0xD0 }, { 3, 0xD1 }, { 3, 0xD3 },
+    };
+    static const uint8_t lengths[] = { 2, 3, 3, 2, 4, 2, 8, 14, 2, 6, 8, 5, 4, 4, 5, 7, 7 };
+    size_t k = any(sizeof codes / 2), i = any(PROPERTIES), n = 1 + any(12), length = lengths[k];
+    for (size_t j = 0; j < 20; j++)
+        apdu[j] = (uint8_t)any(256);
+    apdu[0] = (uint8_t)(apdu[0] << 2 | codes[k][0]);
+    apdu[1] = codes[k][1];
+    if (codes[k][0] == 2) { /* memory: n in the code, then the address */
+        apdu[1] = (uint8_t)(apdu[1] + n);
+        put_word(apdu + 2, region_address(i % REGIONS) + any(70));
+        length = codes[k][1] == 0 ? 4 : 4 + n;
+    } else if (codes[k][1] == 0xD0) { /* bits: n, then the address */
+        apdu[2] = (uint8_t)(1 + n % 5);
+        put_word(apdu + 3, region_address(i % REGIONS) + any(70));
+        length = 5 + 2 * (size_t)apdu[2];
+    } else if (codes[k][0] == 3 && 0xD5 <= codes[k][1] && codes[k][1] <= 0xD8) { /* a property */
+        apdu[2] = (uint8_t)property_object(i);
+        apdu[3] = (uint8_t)property_id(i);
+        put_word(apdu + 4, 4096 * (1 + any(3)) + any(15));
+        if (codes[k][1] == 0xD7)
+            length = 6 + (apdu[4] >> 4) * (1 + i % 10);
+    } else if (codes[k][1] == 0xDC || codes[k][1] == 0xDE) {
+        memcpy(apdu + 2, sample + 6, 6);
+    } else if (codes[k][1] == 0xD1 || codes[k][1] == 0xD3) { /* a key */
+        memcpy(apdu + 3, full + 18 + 4 * any(3), 4);
+        apdu[2] = (uint8_t)any(4);
+    } else if (codes[k][0] == 0 && codes[k][1] < 0xC0 && codes[k][1] % 64 == 0 && codes[k][1] != 0) {
+        length = 2 + any(15);
+    }
+    return length > 16 || any(50) == 0 ? any(21) : length;
+}
+
+static void test_long_run(void)
+{
+    static uint8_t sheet[MOST_SHEET], apdu[20];
+    unsigned long seen[14] = { 0 };
+    kelindap_session session = kelindap_fresh();
+    memcpy(sheet, full, full_length);
+    for (int i = 0; i < 30000; i++) {
+        if (any(20) == 0)
+            kelindap_connect(&session);
+        if (any(200) == 0)
+            session.level = (uint8_t)any(5);
+        if (any(100) == 0)
+            kelindap_button(sheet, full_length, any(2) == 0);
+        event e = { session, (uint8_t)any(4), (uint16_t)group_address(any(GROUPS)), { apdu, any_apdu(apdu) },
+                    { sheet, full_length }, 16 + any(5) };
+        const effect *f = try_at((enum place)(i % PLACES), &e);
+        seen[f->reply.outcome % 14]++;
+        session = f->session;
+        memcpy(sheet, f->sheet, full_length);
+        if (i % 100 == 0)
+            expect(kelindap_check(sheet, full_length) == 0, "after %d requests the sheet is not accepted", i);
+    }
+    expect(seen[0] > 2000 && seen[1] > 500 && seen[2] > 500 && seen[10] > 500 && seen[11] > 2000,
+           "the long run doesn't reach far: outcomes 0, 1, 2, 10, 11 came %lu, %lu, %lu, %lu, %lu times", seen[0], seen[1],
+           seen[2], seen[10], seen[11]);
+}
+
+/* ---- sessions, and empty runs ---- */
+
+static void test_sessions(void)
+{
+    expect(same_session(kelindap_fresh(), (kelindap_session){ false, 3 }), "a fresh session is not closed at 3");
+    for (int i = 0; i < 512 * PLACES; i++) {
+        enum place place = (enum place)(i % PLACES);
+        kelindap_session found = { (i / PLACES) % 2 != 0, (uint8_t)(i / PLACES / 2) }, after;
+        lent b = lend(SESSION, place, &found, sizeof found);
+        expect(kelindap_connect((kelindap_session *)b.bytes) == KELINDAP_DONE, "connect gave another number");
+        take_back(&b, &after, "session");
+        expect(same_session(after, (kelindap_session){ true, 3 }), "connect left another session");
+        b = lend(SESSION, place, &found, sizeof found);
+        expect(kelindap_disconnect((kelindap_session *)b.bytes) == KELINDAP_DONE, "disconnect gave another number");
+        take_back(&b, &after, "session");
+        expect(same_session(after, (kelindap_session){ false, 3 }), "disconnect left another session");
+        calls += 2;
+    }
+}
+
+/* NULL with length 0 is an empty run, everywhere. EXACT lends NULL for it. */
+static void test_nothing(void)
+{
+    static const uint8_t apdu[2] = { 0x03, 0x00 };
+    run nothing = { NULL, 0 }, some = { apdu, 2 };
+    for (int i = 0; i < 8; i++) {
+        event e = { { false, 3 }, 2, 0, i & 1 ? some : nothing, i & 2 ? sample_sheet : nothing, i & 4 ? 16 : 0 };
+        int due = !(i & 4) ? 3 : !(i & 2) ? 4 : !(i & 1) ? 5 : 0;
+        expect(try_everywhere(&e)->reply.outcome == due, "empty runs %d gave another outcome than %d", i, due);
+    }
+    try_sheet(EXACT, nothing);
+    expect(kelindap_check(NULL, 0) == 1, "an empty sheet breaks rule 1");
+    expect(kelindap_button(NULL, 0, true) == KELINDAP_BAD_SHEET, "the button on an empty sheet");
+    calls += 2;
+}
+
+int main(void)
+{
+    begin("host");
+    build_full_sheet();
+    build_longest_sheet();
+    test_marked_cases();
+    test_sessions();
+    test_nothing();
+    test_lengths();
+    test_modes();
+    test_lookups_in_sample();
+    test_lookups_in_full_sheet();
+    test_damaged_sample();
+    test_cut_sheets();
+    test_damaged_full_sheet();
+    test_long_run();
+    return tell();
+}

@@ -1,0 +1,106 @@
+/*
+ * The layouts that the archives rest on, held to the headers as a C compiler lays them out; and the numbers of the
+ * outcomes, modes and kinds. Every line is checked by the compiler; the program only says how many there are.
+ */
+#include "kelindap.h"
+#include "kelindap_pdu.h"
+
+#include <stdio.h>
+
+#define HOLDS(fact) _Static_assert(fact, #fact);
+#define SIZE(type, size) HOLDS(sizeof(type) == (size))
+#define FIELD(type, field, size, offset) \
+    HOLDS(sizeof(((type *)0)->field) == (size) && offsetof(type, field) == (offset))
+#define NUMBER(name, number) HOLDS((name) == (number))
+
+#define FACTS \
+    SIZE(bool, 1) \
+    SIZE(size_t, 8) \
+    SIZE(void *, 8) \
+    SIZE(kelindap_session, 2) \
+    FIELD(kelindap_session, open, 1, 0) \
+    FIELD(kelindap_session, level, 1, 1) \
+    SIZE(kelindap_reply, 2) \
+    FIELD(kelindap_reply, outcome, 1, 0) \
+    FIELD(kelindap_reply, count, 1, 1) \
+    SIZE(kelindap_part, 16) \
+    FIELD(kelindap_part, offset, 8, 0) \
+    FIELD(kelindap_part, length, 8, 8) \
+    SIZE(kelindap_written, 2) \
+    FIELD(kelindap_written, outcome, 1, 0) \
+    FIELD(kelindap_written, count, 1, 1) \
+    SIZE(kelindap_pdu, 48) \
+    FIELD(kelindap_pdu, serial, 8, 0) \
+    FIELD(kelindap_pdu, key, 4, 8) \
+    FIELD(kelindap_pdu, address, 2, 12) \
+    FIELD(kelindap_pdu, domain, 2, 14) \
+    FIELD(kelindap_pdu, s, 2, 16) \
+    FIELD(kelindap_pdu, maximum, 2, 18) \
+    FIELD(kelindap_pdu, outcome, 1, 20) \
+    FIELD(kelindap_pdu, kind, 1, 21) \
+    FIELD(kelindap_pdu, v, 1, 22) \
+    FIELD(kelindap_pdu, t, 1, 23) \
+    FIELD(kelindap_pdu, object, 1, 24) \
+    FIELD(kelindap_pdu, id, 1, 25) \
+    FIELD(kelindap_pdu, n, 1, 26) \
+    FIELD(kelindap_pdu, index, 1, 27) \
+    FIELD(kelindap_pdu, type, 1, 28) \
+    FIELD(kelindap_pdu, access, 1, 29) \
+    FIELD(kelindap_pdu, level, 1, 30) \
+    FIELD(kelindap_pdu, data_offset, 8, 32) \
+    FIELD(kelindap_pdu, data_length, 8, 40) \
+    NUMBER(KELINDAP_ANSWERED, 0) \
+    NUMBER(KELINDAP_DONE, 1) \
+    NUMBER(KELINDAP_NOT_FOR_US, 2) \
+    NUMBER(KELINDAP_NO_ROOM, 3) \
+    NUMBER(KELINDAP_BAD_SHEET, 4) \
+    NUMBER(KELINDAP_BAD_LENGTH, 5) \
+    NUMBER(KELINDAP_BAD_MODE, 6) \
+    NUMBER(KELINDAP_NOT_CONNECTED, 7) \
+    NUMBER(KELINDAP_UNKNOWN, 8) \
+    NUMBER(KELINDAP_WRONG_MODE, 9) \
+    NUMBER(KELINDAP_UNFIT, 10) \
+    NUMBER(KELINDAP_DENIED, 11) \
+    NUMBER(KELINDAP_DENIED_SILENT, 12) \
+    NUMBER(KELINDAP_UNWRITABLE, 13) \
+    NUMBER(KELINDAP_MULTICAST, 0) \
+    NUMBER(KELINDAP_BROADCAST, 1) \
+    NUMBER(KELINDAP_CONNECTIONLESS, 2) \
+    NUMBER(KELINDAP_CONNECTED, 3) \
+    NUMBER(KELINDAP_GROUP_READ, 0) \
+    NUMBER(KELINDAP_GROUP_RESPONSE, 1) \
+    NUMBER(KELINDAP_GROUP_WRITE, 2) \
+    NUMBER(KELINDAP_ADDRESS_WRITE, 3) \
+    NUMBER(KELINDAP_ADDRESS_READ, 4) \
+    NUMBER(KELINDAP_SERIAL_READ, 5) \
+    NUMBER(KELINDAP_SERIAL_WRITE, 6) \
+    NUMBER(KELINDAP_DESCRIPTOR_READ, 7) \
+    NUMBER(KELINDAP_PROPERTY_READ, 8) \
+    NUMBER(KELINDAP_PROPERTY_WRITE, 9) \
+    NUMBER(KELINDAP_DESCRIPTION_READ, 10) \
+    NUMBER(KELINDAP_MEMORY_READ, 11) \
+    NUMBER(KELINDAP_MEMORY_WRITE, 12) \
+    NUMBER(KELINDAP_MEMORY_BIT_WRITE, 13) \
+    NUMBER(KELINDAP_AUTHORIZE_REQUEST, 14) \
+    NUMBER(KELINDAP_KEY_WRITE, 15) \
+    NUMBER(KELINDAP_RESTART, 16) \
+    NUMBER(KELINDAP_ADDRESS_RESPONSE, 17) \
+    NUMBER(KELINDAP_SERIAL_RESPONSE, 18) \
+    NUMBER(KELINDAP_DESCRIPTOR_RESPONSE, 19) \
+    NUMBER(KELINDAP_PROPERTY_RESPONSE, 20) \
+    NUMBER(KELINDAP_DESCRIPTION_RESPONSE, 21) \
+    NUMBER(KELINDAP_MEMORY_RESPONSE, 22) \
+    NUMBER(KELINDAP_AUTHORIZE_RESPONSE, 23) \
+    NUMBER(KELINDAP_KEY_RESPONSE, 24)
+
+FACTS
+
+/* the same list again, to count it */
+#undef HOLDS
+#define HOLDS(fact) +((fact) ? 1 : 0)
+
+int main(void)
+{
+    printf("layout: %d facts hold\n", 0 FACTS);
+    return 0;
+}

@@ -1,0 +1,30 @@
+#!/usr/bin/env bash
+# tests/c/symbols.sh HEADER ARCHIVE: the archive defines exactly the functions that its header declares,
+# and needs from outside at most memcpy, memset, memmove and memcmp.
+set -euo pipefail
+export LC_ALL=C
+header=$1 archive=$2
+work=$(mktemp -d)
+trap 'rm -rf "$work"' EXIT
+
+grep -o 'kelindap_[a-z_]*(' "$header" | tr -d '(' | sort > "$work/declared"
+nm -g --defined-only "$archive" > "$work/nm-defined"
+nm -u "$archive" > "$work/nm-wanted"
+awk 'NF == 3 { print $3 }' "$work/nm-defined" | sort > "$work/defined"
+awk 'NF == 2 { print $2 }' "$work/nm-wanted" | sort -u | comm -23 - "$work/defined" > "$work/wanted"
+printf '%s\n' memcmp memcpy memmove memset > "$work/allowed"
+
+bad=0
+complain() { # MESSAGE, names on standard input
+    local name
+    while read -r name; do
+        echo "symbols: $archive $1: $name"
+        bad=1
+    done
+}
+complain "lacks a function of $header" < <(comm -23 "$work/declared" "$work/defined")
+complain "defines what $header does not declare" < <(comm -13 "$work/declared" "$work/defined")
+complain "needs from outside" < <(comm -23 "$work/wanted" "$work/allowed")
+[ -s "$work/declared" ] || { echo "symbols: $header declares nothing"; bad=1; }
+[ "$bad" = 0 ]
+echo "symbols: ${archive##*/} defines the $(wc -l < "$work/declared") functions of ${header##*/}, needs: $(paste -sd ' ' "$work/wanted")"

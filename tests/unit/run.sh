@@ -1,0 +1,68 @@
+#!/usr/bin/env bash
+# tests/unit/run.sh UNIT: plays every script through the desk unit and holds each line it answers to the expected one.
+set -euo pipefail
+unit=$(realpath "$1")
+cd "$(dirname "$0")"
+work=$(mktemp -d)
+trap 'rm -rf "$work"' EXIT
+lines=0 different=0
+
+# NAME EXPECTED GOT: shows the lines that differ, the first ten of a script, and counts
+compare() {
+    awk -v name="$1" -v expected="$2" -v got="$3" '
+        function cut(text) { return length(text) > 200 ? substr(text, 1, 200) ".." : text }
+        BEGIN {
+            for (;;) {
+                a = getline wanted < expected
+                b = getline answer < got
+                if (a <= 0 && b <= 0) break
+                n++
+                if (a > 0 && b > 0 && wanted == answer) continue
+                if (++wrong > 10) continue
+                print name ", answer " n
+                print "  expected " (a > 0 ? cut(wanted) : "no line")
+                print "  got      " (b > 0 ? cut(answer) : "no line")
+            }
+            print n + 0, wrong + 0 > "/dev/stderr"
+        }' 2> "$work/tally"
+    read -r n wrong < "$work/tally"
+    lines=$((lines + n)) different=$((different + wrong))
+}
+
+play() { # NAME SCRIPT EXPECTED
+    local status=0
+    "$unit" < "$2" > "$work/got" || status=$?
+    compare "$1" "$3" "$work/got"
+    [ "$status" = 0 ] || { echo "$1: the unit ended with status $status"; different=$((different + 1)); }
+}
+
+for script in *.in; do play "${script%.in}" "$script" "${script%.in}.out"; done
+
+mkdir "$work/made"
+./made.sh "$work/made"
+for script in "$work"/made/*.in; do
+    name=${script##*/}
+    play "${name%.in}" "$script" "${script%.in}.out"
+done
+
+# the demonstration
+../../scripts/demo.sh "$unit" ../../scripts/demo.txt > "$work/got" || different=$((different + 1))
+compare demo demo.expected "$work/got"
+
+# one line at a time: each answer is there before the next line is sent
+trap '' PIPE
+mkfifo "$work/to" "$work/from"
+"$unit" < "$work/to" > "$work/from" &
+exec 5> "$work/to" 6< "$work/from"
+while read -r command; do
+    echo "$command" >&5 || break
+    case $command in '' | '#'*) continue ;; esac
+    read -r -t 20 answer <&6 || break
+    echo "$answer"
+done < story.in > "$work/got" 2> /dev/null
+exec 5>&-
+wait $! || different=$((different + 1))
+compare "one line at a time" story.out "$work/got"
+
+echo "unit: $lines lines, $different different"
+[ "$different" = 0 ]
