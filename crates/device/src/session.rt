@@ -26,9 +26,10 @@ pub fn fresh() -> Session
 pub fn connect(_session: Session) -> Session
     ensures { λ r. ⌜ r ≡ connectOf ⌝ }
 {
+    let level = WEAKEST;
     Session {
         opened: true,
-        level: WEAKEST,
+        level,
     }
 }
 
