@@ -22,3 +22,7 @@ pub mod Demand1
 pub mod Typing
 pub mod Answers
 pub mod Cases
+pub mod Append
+pub mod Agreeing
+pub mod Keeping
+pub mod Stays
