@@ -26,3 +26,8 @@ pub mod Append
 pub mod Agreeing
 pub mod Keeping
 pub mod Stays
+pub mod Carried
+pub mod Backs
+pub mod FoundProperties
+pub mod FoundMemory
+pub mod Found

@@ -7,3 +7,4 @@ pub mod Safe
 pub mod Octets
 pub mod Replies
 pub mod Marked
+pub mod Next
