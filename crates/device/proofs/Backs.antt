@@ -29,7 +29,7 @@ use Rattle.device.proofs.Stores.{stored-back}
 use Rattle.device.proofs.Agreeing.{elements-keep, count-keeps}
 
 -- a part of two lists that have the same bytes there
-part-same :
+pub part-same :
     (s s′ : List ℕ) (o n : ℕ) → length s′ ≡ length s → ((i : ℕ) → i < n → getD s′ (o + i) 0 ≡ getD s (o + i) 0) →
     take n (drop o s′) ≡ take n (drop o s)
 part-same s s′ o n l f =

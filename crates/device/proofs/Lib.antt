@@ -31,3 +31,5 @@ pub mod Backs
 pub mod FoundProperties
 pub mod FoundMemory
 pub mod Found
+pub mod Unseen
+pub mod NoBody

@@ -8,3 +8,4 @@ pub mod Octets
 pub mod Replies
 pub mod Marked
 pub mod Next
+pub mod Bodies
