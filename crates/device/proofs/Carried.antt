@@ -12,7 +12,8 @@ use Rattle.pdu.specs.declared.Parsed.the-variants.{Is}
 use Rattle.judge.specs.declared.Decision.{Decision}
 use Rattle.device.specs.Step.{stepBy, stepOf}
 use Rattle.device.specs.Asked.{Asked, Refusal, noRoom, badSheet, badLength, badMode, noSession, Reads}
-use Rattle.device.specs.Next.{done, Next}
+use Rattle.device.specs.Demand2.{done}
+use Rattle.device.specs.Next.{Next}
 use Rattle.device.proofs.Judged.{judged}
 use Rattle.device.proofs.Stays.{request-agrees}
 

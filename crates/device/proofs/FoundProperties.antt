@@ -25,7 +25,8 @@ use Rattle.judge.proofs.PropertyCases.{Keyed, Among, property-write-cases}
 use Rattle.device.specs.Step.{Step, stepBy}
 use Rattle.device.specs.Asked.{Asked, Reads, given}
 use Rattle.device.specs.Right.{part, elementAt, Readable}
-use Rattle.device.specs.Next.{done, SameAnswer}
+use Rattle.device.specs.Demand2.{done}
+use Rattle.device.specs.Next.{SameAnswer}
 use Rattle.device.proofs.Given.{write-data}
 use Rattle.device.proofs.Stepped.{step-read}
 use Rattle.device.proofs.Properly.{keyed, two-zeros}

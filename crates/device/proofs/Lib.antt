@@ -33,3 +33,5 @@ pub mod FoundMemory
 pub mod Found
 pub mod Unseen
 pub mod NoBody
+pub mod Invented
+pub mod Refuted

@@ -8,12 +8,8 @@ use Rattle.pdu.specs.Read.{readPdu}
 use Rattle.pdu.specs.declared.Pdu.{Pdu}
 use Rattle.pdu.specs.declared.Parsed.the-variants.{Is}
 use Rattle.judge.specs.Session.{connected}
-use Rattle.device.specs.Step.{Step, stepOf}
 use Rattle.device.specs.Asked.{Asked, Takes}
-
--- the step of a request
-abbrev pub done : Asked → Step
-done x = stepOf (x .room) (x .sheet) (x .session) (x .mode) (x .group) (x .apdu)
+use Rattle.device.specs.Demand2.{done}
 
 -- x reads as p and is carried out with an answer
 pub record Answered (x : Asked) (p : Pdu) : Type 0 where
