@@ -28,3 +28,16 @@ pub mod Pressing
 pub mod Room
 pub mod Requests
 pub mod Cases
+pub mod Append
+pub mod Agreeing
+pub mod Keeping
+pub mod Stays
+pub mod Carried
+pub mod Backs
+pub mod FoundProperties
+pub mod FoundMemory
+pub mod Found
+pub mod Unseen
+pub mod NoBody
+pub mod Invented
+pub mod Refuted

@@ -6,4 +6,8 @@ pub mod Right
 pub mod Safe
 pub mod Octets
 pub mod Replies
+pub mod Demand2
 pub mod Marked
+pub mod Next
+pub mod Bodies
+pub mod Wrong

@@ -5,8 +5,9 @@ use mathlib.Core.List.{List, [], _∷_}
 use mathlib.Core.Bool.{true, false}
 use Rattle.judge.specs.Session.{weakest, connectionless, connected}
 use Rattle.judge.specs.declared.Session.{Session}
-use Rattle.device.specs.Step.{Step, stepOf}
+use Rattle.device.specs.Step.{Step}
 use Rattle.device.specs.Asked.{Asked}
+use Rattle.device.specs.Demand2.{done}
 
 -- THE SAMPLE SHEET, 69 bytes
 unfoldable pub sample : List ℕ
@@ -42,11 +43,18 @@ abbrev pub loose : List ℕ → List ℕ → ℕ → Case
 loose r a n =
     record { session = record { opened = false; level = weakest }; mode = connectionless; group = 0; request = r; answer = a; number = n }
 
+-- the first two: a read of the element, and of the count
+abbrev pub readElement : Case
+readElement = loose (0x03 ∷ 0xD5 ∷ 0x01 ∷ 0x33 ∷ 0x10 ∷ 0x01 ∷ []) (0x03 ∷ 0xD6 ∷ 0x01 ∷ 0x33 ∷ 0x10 ∷ 0x01 ∷ 0x03 ∷ 0xE8 ∷ []) 0
+
+abbrev pub readCount : Case
+readCount = at 3 (0x03 ∷ 0xD5 ∷ 0x01 ∷ 0x33 ∷ 0x10 ∷ 0x00 ∷ []) (0x03 ∷ 0xD6 ∷ 0x01 ∷ 0x33 ∷ 0x10 ∷ 0x00 ∷ 0x00 ∷ 0x01 ∷ []) 0
+
 -- THE FOURTEEN
 unfoldable pub cases : List Case
 cases =
-    loose (0x03 ∷ 0xD5 ∷ 0x01 ∷ 0x33 ∷ 0x10 ∷ 0x01 ∷ []) (0x03 ∷ 0xD6 ∷ 0x01 ∷ 0x33 ∷ 0x10 ∷ 0x01 ∷ 0x03 ∷ 0xE8 ∷ []) 0 ∷
-    at 3 (0x03 ∷ 0xD5 ∷ 0x01 ∷ 0x33 ∷ 0x10 ∷ 0x00 ∷ []) (0x03 ∷ 0xD6 ∷ 0x01 ∷ 0x33 ∷ 0x10 ∷ 0x00 ∷ 0x00 ∷ 0x01 ∷ []) 0 ∷
+    readElement ∷
+    readCount ∷
     loose (0x03 ∷ 0xD7 ∷ 0x01 ∷ 0x33 ∷ 0x10 ∷ 0x01 ∷ 0x03 ∷ 0x84 ∷ []) (0x03 ∷ 0xD6 ∷ 0x01 ∷ 0x33 ∷ 0x00 ∷ 0x01 ∷ []) 11 ∷
     at 1 (0x03 ∷ 0xD7 ∷ 0x01 ∷ 0x33 ∷ 0x10 ∷ 0x01 ∷ 0x03 ∷ 0x84 ∷ []) (0x03 ∷ 0xD6 ∷ 0x01 ∷ 0x33 ∷ 0x10 ∷ 0x01 ∷ 0x03 ∷ 0x84 ∷ []) 0 ∷
     at 3 (0x03 ∷ 0xD1 ∷ 0x00 ∷ 0x22 ∷ 0x22 ∷ 0x22 ∷ 0x22 ∷ []) (0x03 ∷ 0xD2 ∷ 0x01 ∷ []) 0 ∷
@@ -75,8 +83,7 @@ abbrev pub seen : Step → Result
 seen r = record { answer = r .answer; number = r .outcome }
 
 unfoldable pub found : Case → Result
-found c =
-    let x = asked c in seen (stepOf (x .room) (x .sheet) (x .session) (x .mode) (x .group) (x .apdu))
+found c = seen (done (asked c))
 
 unfoldable pub wanted : Case → Result
 wanted c = record { answer = c .answer; number = c .number }

@@ -1,0 +1,11 @@
+-- A run over two lists of events is one run after the other.
+-- Assumes nothing.
+use mathlib.Core.Path.{_≡_, refl}
+use mathlib.Core.List.{List, [], _∷_, _++_}
+use Rattle.device.specs.Events.{Event, State, after, run}
+
+-- ONE RUN AFTER THE OTHER
+pub run-append : (x : State) (es fs : List Event) → run x (es ++ fs) ≡ run (run x es) fs
+unfolding run
+run-append x [] fs = refl
+run-append x (e ∷ es) fs = run-append (after x e) es fs

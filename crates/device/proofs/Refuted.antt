@@ -1,0 +1,76 @@
+-- Demand 2 holds of our device, and not of one that refuses everything, sends one answer, or invents the count.
+-- Assumes nothing.
+use Prim.Native.Nat.{ℕ, zero, suc}
+use mathlib.Core.Path.{_≡_, refl, ap, _∙_}
+use mathlib.Core.List.{List, [], _∷_}
+use mathlib.Core.Bool.{Bool, true, _&&_}
+use lib.Dec.{ltb}
+use lib.ListN.{getD}
+use native.Mathlib.Omega.{arith}
+use borrow.Author.Tests.{ltb-true}
+use Rattle.pdu.proofs.Truths.{and-is}
+use Rattle.device.specs.Octets.{Octets}
+use Rattle.device.specs.Step.{Step}
+use Rattle.device.specs.Asked.{Asked}
+use Rattle.device.specs.Demand2.{Answers, done}
+use Rattle.device.specs.Marked.{sample, Case, Result, readElement, readCount, cases, asked, found, wanted}
+use Rattle.device.specs.Wrong.{refusesAll, fixedAnswer, inventsCount}
+use Rattle.device.proofs.Rightly.{right, right-only}
+use Rattle.device.proofs.Cases.{marked}
+use Rattle.device.proofs.Invented.{invented}
+
+-- OURS
+pub answers-ours : Answers done
+answers-ours x hs ha = right x hs ha
+
+-- a list of bytes, by a test
+bytes : List ℕ → Bool
+bytes [] = true
+bytes (b ∷ l) = ltb b 256 && bytes l
+
+octets : (l : List ℕ) → bytes l ≡ true → Octets l
+unfolding bytes
+octets [] e i = omega arith
+octets (b ∷ l) e zero = ltb-true b 256 (and-is (ltb b 256) (bytes l) .0 e .0)
+octets (b ∷ l) e (suc i) = octets l (and-is (ltb b 256) (bytes l) .0 e .1) i
+
+-- what is due for a read of the element, and of the count
+marked-element : found readElement ≡ wanted readElement
+unfolding cases
+marked-element = let m = marked in cc
+
+marked-count : found readCount ≡ wanted readCount
+unfolding cases
+marked-count = let m = marked in cc
+
+-- what a device that meets the demand answers to them
+module _ (step : Asked → Step) (f : Answers step) where
+  only : (c : Case) → bytes (c .request) ≡ true → step (asked c) ≡ done (asked c)
+  unfolding bytes sample
+  only c e =
+      right-only (asked c) (octets sample refl) (octets (c .request) e) (step (asked c)) (f (asked c) (octets sample refl) (octets (c .request) e))
+
+  element-answered : step (asked readElement) .answer ≡ readElement .answer
+  unfolding bytes found wanted
+  element-answered = ap (λ (r : Step). r .answer) (only readElement refl) ∙ ap (λ (r : Result). r .answer) marked-element
+
+  count-answered : step (asked readCount) .answer ≡ readCount .answer
+  unfolding bytes found wanted
+  count-answered = ap (λ (r : Step). r .answer) (only readCount refl) ∙ ap (λ (r : Result). r .answer) marked-count
+
+-- NOT OF ONE THAT REFUSES EVERYTHING: a read of the element
+pub refuses-refuted : (n : ℕ) → Answers (refusesAll n) → ⊥
+unfolding refusesAll
+refuses-refuted n f = let e : _≡_ {A = ℕ} 0 3 = ap (λ (l : List ℕ). getD l 0 0) (element-answered (refusesAll n) f) in omega arith
+
+-- NOT OF ONE THAT SENDS ONE ANSWER, WHATEVER IT IS: reads of the element and of the count
+pub fixed-refuted : (b : List ℕ) → Answers (fixedAnswer b) → ⊥
+unfolding fixedAnswer
+fixed-refuted b f =
+    let e : getD b 5 0 ≡ 1 = ap (λ (l : List ℕ). getD l 5 0) (element-answered (fixedAnswer b) f) in
+    let g : getD b 5 0 ≡ 0 = ap (λ (l : List ℕ). getD l 5 0) (count-answered (fixedAnswer b) f) in
+    omega arith
+
+-- NOT OF ONE THAT INVENTS THE COUNT: a read of the count
+pub invents-refuted : Answers inventsCount → ⊥
+invents-refuted f = omega (arith, invented, ap (λ (l : List ℕ). getD l 7 0) (count-answered inventsCount f))

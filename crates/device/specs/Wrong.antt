@@ -1,0 +1,44 @@
+-- Devices that are wrong, to hold against demand 2.
+-- Assumes nothing.
+use Prim.Native.Nat.{ℕ}
+use mathlib.Core.List.{List}
+use mathlib.Core.Bool.{cond}
+use lib.Dec.{ltb}
+use Rattle.sheet.specs.Kind.{properties}
+use Rattle.sheet.specs.Layout.{_of_}
+use Rattle.sheet.specs.Property as property
+use Rattle.sheet.specs.Entries.{count, entry}
+use Rattle.pdu.specs.Item.{the, Object, Id}
+use Rattle.pdu.specs.Pdus.{valuesOf}
+use Rattle.pdu.specs.Read.{readPdu}
+use Rattle.judge.specs.declared.Answer.{Answer}
+use Rattle.judge.specs.declared.Answer.the-variants as answer
+use Rattle.judge.specs.Properties.{propertyAt}
+use Rattle.judge.specs.Judge.{judgeOf}
+use Rattle.device.specs.Carry.{dataIn}
+use Rattle.device.specs.Step.{Step, stepBy}
+use Rattle.device.specs.Asked.{Asked, quiet}
+
+-- it refuses everything, by one number
+unfoldable pub refusesAll : ℕ → Asked → Step
+refusesAll n x = quiet x n
+
+-- it sends one answer, whatever is asked
+unfoldable pub fixedAnswer : List ℕ → Asked → Step
+fixedAnswer b x = record { outcome = 0; answer = b; session = x .session; sheet = x .sheet }
+
+-- it does all as ours does, but shows a property's maximum where its count is asked for
+unfoldable pub inflated : List ℕ → Answer → Answer
+inflated s answer.Silence = answer.Silence
+inflated s (answer.Plain p) = answer.Plain p
+inflated s (answer.Number p w c) =
+    let i = propertyAt s (the (valuesOf p) Object) (the (valuesOf p) Id) in
+    answer.Number p w (cond (ltb i (count s properties)) (property.maximum of entry s properties i) c)
+inflated s (answer.Sheet p at n) = answer.Sheet p at n
+inflated s (answer.Echo p) = answer.Echo p
+
+unfoldable pub inventsCount : Asked → Step
+inventsCount x =
+    let k = judgeOf (x .room) (x .sheet) (x .session) (x .mode) (x .group) (x .apdu) in
+    stepBy (x .sheet) (x .session) (dataIn (readPdu (x .apdu)) (x .apdu))
+    record { outcome = k .outcome; first = k .first; second = k .second; turn = k .turn; answer = inflated (x .sheet) (k .answer) }
