@@ -14,9 +14,8 @@ use Rattle.pdu.specs.Read.{readPdu}
 use Rattle.pdu.proofs.Readings.{reading}
 use Rattle.pdu.specs.declared.Parsed.{Parsed}
 use Rattle.judge.specs.Session.{levelIn}
-use Rattle.judge.specs.Judge.{isAccepted, decideOf}
+use Rattle.judge.specs.Judge.{isAccepted, decideOf, dataIn}
 use Rattle.judge.proofs.Walks.{by-test}
-use Rattle.device.specs.Carry.{dataIn}
 use Rattle.device.specs.Step.{stepBy, stepOf}
 use Rattle.device.specs.Asked.{Asked, given}
 use Rattle.device.specs.Events.{State, Event, connect, disconnect, button, request, bit, pressed, buttonSheet, eventOf, after}

@@ -14,8 +14,7 @@ use Rattle.pdu.specs.Read.{readPdu}
 use Rattle.judge.specs.declared.Answer.{Answer}
 use Rattle.judge.specs.declared.Answer.the-variants as answer
 use Rattle.judge.specs.Properties.{propertyAt}
-use Rattle.judge.specs.Judge.{judgeOf}
-use Rattle.device.specs.Carry.{dataIn}
+use Rattle.judge.specs.Judge.{judgeOf, dataIn}
 use Rattle.device.specs.Step.{Step, stepBy}
 use Rattle.device.specs.Asked.{Asked, quiet}
 
