@@ -1,12 +1,13 @@
 -- Where entries stand.
 -- Assumes nothing.
-use Prim.Native.Nat.{ℕ, zero, suc, _+_, _-_, _≤_, _<_}
-use mathlib.Core.Path.{_≡_, refl, ap}
+use Prim.Native.Nat.{ℕ, _+_, _-_, _≤_, _<_}
+use mathlib.Core.Path.{_≡_, refl}
 use mathlib.Core.List.{List}
 use lib.ListN.{length, take, drop, length-take, length-drop}
 use native.Mathlib.Nat.{add-sub-cancel-left}
 use native.Mathlib.Omega.{arith}
 use Rattle.sheet.specs.Kind.{OfKind}
+use Rattle.sheet.specs.Region as region
 use Rattle.sheet.specs.Entries.{count, size, place, contents, entry, offsetOf}
 use Rattle.sheet.specs.Walk.{Entry, Counted, Starts, Shown}
 use Rattle.sheet.proofs.ByKind.{eachKind, kinded, at-kind}
@@ -38,15 +39,15 @@ module _ {s : List ℕ} {k i : ℕ} (h : Entry s k i) where
       (h .kind)
       (h .below)
 
-  eight : 8 ≤ size k
-  eight = eachKind (λ (j : ℕ). 8 ≤ size j) (omega arith) (omega arith) (omega arith) k (h .kind)
+  least : region.size ≤ size k
+  least = eachKind (λ (j : ℕ). region.size ≤ size j) (omega arith) (omega arith) (omega arith) k (h .kind)
 
   pub length-entry : length (entry s k i) ≡ size k
   unfolding entry
   length-entry = simp (length-take, length-drop) (omega (arith, place-in))
 
   pub shown : Shown s k i (entry s k i)
-  shown = record { is = refl; sized = record { eight = omega (arith, eight, length-entry); long = length-entry } }
+  shown = record { is = refl; sized = record { least = omega (arith, least, length-entry); long = length-entry } }
 
   -- the part that code cuts out
   module _ {a z : ℕ} (ea : OfKind a k (place s 0 i) (place s 1 i) (place s 2 i)) (ez : OfKind z k (size 0) (size 1) (size 2)) where

@@ -1,19 +1,18 @@
 -- The fields of the entries of an accepted sheet, and their limits.
 -- Assumes nothing.
-use Prim.Native.Nat.{ℕ, suc, _+_, _*_, _≤_, _<_, max}
-use mathlib.Core.Path.{_≡_, refl, sym, _∙_, ap, ap₂}
+use Prim.Native.Nat.{ℕ, _*_, _≤_, _<_}
+use mathlib.Core.Path.{_≡_, refl, ap₂}
 use mathlib.Core.List.{List}
 use lib.Dec.{lit<}
-use lib.ListN.{length}
 use native.Mathlib.Omega.{arith}
 use Rattle.sheet.specs.Kind.{properties, groups, OfKind}
 use Rattle.sheet.specs.Layout.{_of_}
 use Rattle.sheet.specs.Head as head
 use Rattle.sheet.specs.Property as property
 use Rattle.sheet.specs.Group as group
-use Rattle.sheet.specs.Entries.{count, place, contents, entry, bodyEnd}
+use Rattle.sheet.specs.Entries.{count, place, entry, bodyEnd}
 use Rattle.sheet.specs.Rules.{ruleOf, entryDemands}
-use Rattle.sheet.specs.Places.{IsProperty, PropertyIn, IsGroup, GroupIn}
+use Rattle.sheet.specs.Places.{PropertyIn, GroupIn}
 use Rattle.sheet.specs.Walk.{Entry}
 use Rattle.sheet.specs.declared.PropertyEntry.{PropertyEntry}
 use Rattle.sheet.specs.declared.GroupEntry.{GroupEntry}

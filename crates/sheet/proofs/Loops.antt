@@ -1,11 +1,11 @@
 -- Properties counted within an object, and address ranges found, as loops do it.
 -- Assumes nothing.
-use Prim.Native.Nat.{ℕ, suc, _+_, _-_, _≤_, _<_}
+use Prim.Native.Nat.{ℕ, _+_, _-_, _≤_, _<_}
 use mathlib.Core.Path.{_≡_, refl, sym, _∙_, ap, ap₂}
 use mathlib.Core.List.{List}
 use mathlib.Core.Bool.{Bool, true, false, _&&_, true≢false}
 use lib.Dec.{eqb, leb}
-use borrow.Author.Tests.{eq-eqb, ne-eqb, le-leb, lt-leb, leb-true, lt-ltb, le-ltb}
+use borrow.Author.Tests.{le-leb, lt-leb, lt-ltb, le-ltb}
 use native.Mathlib.Decide.{decLe}
 use native.Mathlib.Numerals.{add-one}
 use native.Mathlib.Omega.{arith}
@@ -19,7 +19,7 @@ use Rattle.sheet.specs.Lookup.{objectAt, rank, nthOf, seek, covers, runI
 use Rattle.sheet.specs.Walk.{Counted}
 use Rattle.sheet.specs.declared.Run.{Run}
 use Rattle.sheet.specs.declared.Run.the-variants.{At, Nowhere}
-use Rattle.sheet.proofs.Seek.{Missed, none-yet, missed, hit, ended}
+use Rattle.sheet.proofs.Seek.{Missed, missed, hit, ended}
 
 pub object-of : (s : List ℕ) (i : ℕ) (e : List ℕ) (r : ℕ) → e ≡ entry s properties i → r ≡ property.object of e → r ≡ objectAt s i
 unfolding objectAt

@@ -1,26 +1,25 @@
 -- The walk: what a step is judged against, and where the walk leaves, with which rule.
 -- Assumes nothing.
 use Prim.Native.Nat.{ℕ, zero, suc, _+_, _-_, _≤_, _<_}
-use mathlib.Core.Path.{_≡_, refl, sym, _∙_, ap}
+use mathlib.Core.Path.{_≡_, sym, _∙_, ap}
 use mathlib.Core.List.{List}
 use borrow.Author.Tests.{lt-ltb, le-ltb}
 use native.Mathlib.Numerals.{add-one}
 use native.Mathlib.Omega.{arith}
-use Rattle.sheet.specs.Demand.{breach, Tells}
-use Rattle.sheet.specs.First.{first, orElse}
+use Rattle.sheet.specs.Demand.{Tells}
+use Rattle.sheet.specs.First.{first}
 use Rattle.sheet.specs.Kind.{byKind, kinds}
 use Rattle.sheet.specs.Entries.{count, contents, entry, floor, floorAfter, offsetOf, lengthOf, sixBits, bodyEnd, startOf, reached}
-use Rattle.sheet.specs.Rules.{regionDemands, propertyDemands, groupDemands, bodyRows, entryDemands, bodyDemands, endDemands, frameDemands, zeroDemands, kindAt, passes, stepRule, passRule, walkRule, ruleIn, ruleOf}
+use Rattle.sheet.specs.Rules.{regionDemands, propertyDemands, groupDemands, bodyRows, entryDemands, bodyDemands, endDemands, frameDemands, zeroDemands, kindAt, regionBodies, passes, stepRule, passRule, walkRule, ruleIn, ruleOf}
 use Rattle.sheet.specs.Walk.{Framed, Entry, Counted, Step, Stepped, Says, KindOf, Carried, before}
 use Rattle.sheet.specs.declared.judge.Judged.{Judged}
-use Rattle.sheet.proofs.ByKind.{kinded}
 use Rattle.sheet.proofs.Demands.{told, met}
 use Rattle.sheet.proofs.First.{orElse-some, first-none, first-more, first-stop}
 
 pub framed : (ed : ℕ) (s : List ℕ) (r : ℕ) → Tells r (frameDemands ed s) → r ≡ 0 → Framed ed s
 framed ed s r t e = record { rows = met (frameDemands ed s) tt (sym (told r _ t) ∙ e) }
 
-pub body-kind : (p : ℕ) → 3 ≤ p → p - 3 ≡ kindAt p
+pub body-kind : (p : ℕ) → regionBodies ≤ p → p - regionBodies ≡ kindAt p
 body-kind zero h = absurd (omega arith)
 body-kind (suc zero) h = absurd (omega arith)
 body-kind (suc (suc zero)) h = absurd (omega arith)
@@ -48,40 +47,40 @@ module _ (s : List ℕ) (k i j : ℕ) (q : k ≡ j) where
 
 module _ (s : List ℕ) (p : ℕ) where
   -- what the first step is judged against
-  pub begin-entry : p < 3 → 0 ≡ before s p 0
+  pub begin-entry : p < regionBodies → 0 ≡ before s p 0
   unfolding before floor
-  begin-entry h = rw (lt-ltb p 3 h)
+  begin-entry h = rw (lt-ltb p regionBodies h)
 
-  begin-body : 3 ≤ p → startOf s (kindAt p) ≡ before s p 0
+  begin-body : regionBodies ≤ p → startOf s (kindAt p) ≡ before s p 0
   unfolding before reached
-  begin-body h = rw (le-ltb p 3 h)
+  begin-body h = rw (le-ltb p regionBodies h)
 
-  pub begin-first : (z : ℕ) → p ≡ 3 → z ≡ contents s → z ≡ before s p 0
+  pub begin-first : (z : ℕ) → p ≡ regionBodies → z ≡ contents s → z ≡ before s p 0
   unfolding startOf
   begin-first z e q = q ∙ ap (λ (x : ℕ). startOf s (kindAt x)) (sym e) ∙ begin-body (omega arith)
 
-  pub begin-next : (z : ℕ) → 3 ≤ p → (p ≡ 3 → ⊥) → Carried s p z → z ≡ before s p 0
+  pub begin-next : (z : ℕ) → regionBodies ≤ p → (p ≡ regionBodies → ⊥) → Carried s p z → z ≡ before s p 0
   begin-next z h n c = c .ends (omega arith) ∙ begin-body h
 
   module _ (i k : ℕ) (ek : k ≡ kindAt p) where
     -- what a step is judged against, and what it says
-    pub step-floor : (z : ℕ) → p < 3 → z ≡ before s p i → z ≡ floor s k i
+    pub step-floor : (z : ℕ) → p < regionBodies → z ≡ before s p i → z ≡ floor s k i
     unfolding before
-    step-floor z h e = rw (lt-ltb p 3 h, ← ek) at e
+    step-floor z h e = rw (lt-ltb p regionBodies h, ← ek) at e
 
-    pub step-reached : (z : ℕ) → 3 ≤ p → z ≡ before s p i → z ≡ reached s k i
+    pub step-reached : (z : ℕ) → regionBodies ≤ p → z ≡ before s p i → z ≡ reached s k i
     unfolding before
-    step-reached z h e = rw (le-ltb p 3 h, ← ek) at e
+    step-reached z h e = rw (le-ltb p regionBodies h, ← ek) at e
 
-    pub step-entry : (r : Judged) → p < 3 → Says (entryDemands s k i) (floor s k (i + 1)) r → Stepped s p i r
+    pub step-entry : (r : Judged) → p < regionBodies → Says (entryDemands s k i) (floor s k (i + 1)) r → Stepped s p i r
     unfolding before stepRule
     step-entry r h o =
-        record { rule = rw (lt-ltb p 3 h, ← ek) (told _ _ (o .rule)); next = rw (lt-ltb p 3 h, ← ek) (o .next) }
+        record { rule = rw (lt-ltb p regionBodies h, ← ek) (told _ _ (o .rule)); next = rw (lt-ltb p regionBodies h, ← ek) (o .next) }
 
-    pub step-body : (r : Judged) → 3 ≤ p → Says (bodyDemands s k i) (reached s k (i + 1)) r → Stepped s p i r
+    pub step-body : (r : Judged) → regionBodies ≤ p → Says (bodyDemands s k i) (reached s k (i + 1)) r → Stepped s p i r
     unfolding before stepRule
     step-body r h o =
-        record { rule = rw (le-ltb p 3 h, ← ek) (told _ _ (o .rule)); next = rw (le-ltb p 3 h, ← ek) (o .next) }
+        record { rule = rw (le-ltb p regionBodies h, ← ek) (told _ _ (o .rule)); next = rw (le-ltb p regionBodies h, ← ek) (o .next) }
 
 pub step-there : {s : List ℕ} {p i k : ℕ} → Step s p i → KindOf p k → Entry s k i
 step-there h q = record { framed = h .framed; kind = q .kind; below = rw (q .is) (h .below) }
@@ -91,11 +90,11 @@ carry : (s : List ℕ) (p i z : ℕ) → i ≡ count s (kindAt p) → z ≡ befo
 unfolding before reached startOf
 carry s p i z n q = record { ends = λ h. q ∙ go p n (omega arith) }
   where
-    go : (p : ℕ) → i ≡ count s (kindAt p) → 3 ≤ p → before s p i ≡ startOf s (kindAt (p + 1))
+    go : (p : ℕ) → i ≡ count s (kindAt p) → regionBodies ≤ p → before s p i ≡ startOf s (kindAt (p + 1))
     go zero n h = absurd (omega arith)
     go (suc zero) n h = absurd (omega arith)
     go (suc (suc zero)) n h = absurd (omega arith)
-    go (suc (suc (suc p))) n h = rw (n, add-one (suc (suc (suc p))), le-ltb (suc (suc (suc p))) 3 h)
+    go (suc (suc (suc p))) n h = rw (n, add-one (suc (suc (suc p))), le-ltb (suc (suc (suc p))) regionBodies h)
 
 -- THE INVARIANTS: no pass before pass p has found a rule broken, and no step before step i of pass p
 pub record Walked (s : List ℕ) (p z : ℕ) : Type 0 where

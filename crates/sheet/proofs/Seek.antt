@@ -13,7 +13,7 @@ use native.Mathlib.Nat.{add-sub-cancel-left}
 use native.Mathlib.Omega.{arith}
 use Rattle.octets.specs.Bytes.{numAt}
 use Rattle.sheet.specs.Kind.{kinds, OfKind}
-use Rattle.sheet.specs.Entries.{count, entry, keyOf, offsetOf, lengthOf, bodyAt, bodyEnd}
+use Rattle.sheet.specs.Entries.{count, entry, keyOf, offsetOf, lengthOf, bodyEnd}
 use Rattle.sheet.specs.Rules.{ruleOf}
 use Rattle.sheet.specs.Lookup.{PartOf, seek, indexOf, bodyOf, bodyFrom, lookup, lookupFrom}
 use Rattle.sheet.specs.Walk.{Framed, Entry, Counted}

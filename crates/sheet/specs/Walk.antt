@@ -7,11 +7,10 @@ use lib.ListN.{length}
 use lib.Dec.{ltb}
 use Rattle.sheet.specs.Demand.{Demand, Met, Tells, pick}
 use Rattle.sheet.specs.Kind.{kinds, OfKind}
-use Rattle.sheet.specs.Entries.{count, size, place, entry, floor, reached, startOf, offsetOf, lengthOf}
+use Rattle.sheet.specs.Entries.{count, size, entry, floor, reached, startOf, offsetOf, lengthOf}
 use Rattle.sheet.specs.Rules.{frameDemands, stepRule, kindAt, regionBodies, passes}
 use Rattle.sheet.specs.declared.judge.Judged.{Judged}
 use Rattle.sheet.specs.Region as region
-use Rattle.sheet.specs.Property as property
 
 -- S1 to S4 of an edition hold
 pub record Framed (ed : ℕ) (s : List ℕ) : Type 0 where
@@ -28,9 +27,9 @@ pub record Counted (s : List ℕ) (k r : ℕ) : Type 0 where
   pub is : r ≡ count s k
   pub few : r ≤ 64
 
--- e is as long as an entry of kind k
+-- e is as long as an entry of kind k; none is shorter than a region's
 pub record Sized (k : ℕ) (e : List ℕ) : Type 0 where
-  pub eight : 8 ≤ length e
+  pub least : region.size ≤ length e
   pub long : length e ≡ size k
 
 -- e is entry i of kind k
@@ -38,11 +37,12 @@ pub record Shown (s : List ℕ) (k i : ℕ) (e : List ℕ) : Type 0 where
   pub is : e ≡ entry s k i
   pub sized : Sized k e
 
--- the body of an entry e of kind k starts at r, and is r long
+-- the body of an entry e of kind k starts at r
 pub record Starts (k : ℕ) (e : List ℕ) (r : ℕ) : Type 0 where
   pub is : r ≡ offsetOf k e
   pub below : r < 65536
 
+-- and is r long
 pub record Long (k : ℕ) (e : List ℕ) (r : ℕ) : Type 0 where
   pub is : OfKind r k (lengthOf 0 e) (lengthOf 1 e) (lengthOf 2 e)
   pub below : r < 16777216
@@ -66,7 +66,7 @@ pub record KindOf (p r : ℕ) : Type 0 where
 pub record Carried (s : List ℕ) (p z : ℕ) : Type 0 where
   pub ends : regionBodies < p → z ≡ startOf s (kindAt p)
 
--- r is the first rule that breaks of some rows, and n
+-- the first rule that some rows break, and n
 pub record Says (ds : List Demand) (n : ℕ) (r : Judged) : Type 0 where
   pub rule : Tells (r .rule) ds
   pub next : r .next ≡ n

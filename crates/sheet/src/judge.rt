@@ -79,11 +79,10 @@ fn property_rule(floor: usize, e: &[u8]) -> u8
     if byte(e, property::KIND) / 64 % 2 != 0 {
         return 7;
     }
-    let element = byte(e, property::ELEMENT);
-    if element < 1 {
+    if byte(e, property::ELEMENT) < 1 {
         return 7;
     }
-    if 10 < element {
+    if 10 < byte(e, property::ELEMENT) {
         return 7;
     }
     let maximum = word(e, property::MAXIMUM);
@@ -96,11 +95,10 @@ fn property_rule(floor: usize, e: &[u8]) -> u8
     if maximum < word(e, property::COUNT) {
         return 7;
     }
-    let levels = byte(e, property::LEVELS);
-    if 3 < levels / 16 {
+    if 3 < byte(e, property::LEVELS) / 16 {
         return 7;
     }
-    if 3 < levels % 16 {
+    if 3 < byte(e, property::LEVELS) % 16 {
         return 7;
     }
     if byte(e, property::ZERO) != 0 {
@@ -109,6 +107,7 @@ fn property_rule(floor: usize, e: &[u8]) -> u8
     0
 }
 
+// The same, and the least object and id that the next may have.
 pub fn property_step(floor: usize, e: &[u8]) -> Judged
     requires { ⌜ property.size ≤ length (now e) ⌝ }
     ensures { λ r. ⌜ Says (propertyDemands floor (now (e .entry))) (floorAfter properties (now (e .entry))) r ⌝ }
@@ -143,6 +142,7 @@ fn group_rule(floor: usize, e: &[u8]) -> u8
     0
 }
 
+// The same, and the least address that the next may have.
 pub fn group_step(floor: usize, e: &[u8]) -> Judged
     requires { ⌜ group.size ≤ length (now e) ⌝ }
     ensures { λ r. ⌜ Says (groupDemands floor (now (e .entry))) (floorAfter groups (now (e .entry))) r ⌝ }
@@ -155,7 +155,7 @@ pub fn group_step(floor: usize, e: &[u8]) -> Judged
 
 // The byte of a code-0 group object; 0 for any other entry.
 fn six_bits(s: &[u8], k: usize, e: &[u8]) -> usize
-    requires { ⌜ 8 ≤ length (now e) ⌝ }
+    requires { ⌜ group.size ≤ length (now e) ⌝ }
     ensures { λ r. ⌜ r ≡ sixBits (now (s .entry)) k (now (e .entry)) ⌝ }
 {
     if k < kind::GROUPS {

@@ -68,7 +68,8 @@ fn keyed(s: &[u8], k: usize, key: usize) -> &[u8]
     requires { ⌜ k < kinds ⌝ }
     ensures { λ r. ⌜ PartOf (s .entry) r (lookup (now (s .entry)) k (indexOf (now (s .entry)) k key)) (lookupFrom (now (s .entry)) k (indexOf (now (s .entry)) k key)) ⌝ }
 {
-    if check(s) != 0 {
+    let rule = check(s);
+    if rule != 0 {
         return &s[0..0];
     }
     body(s, k, find(s, k, key))

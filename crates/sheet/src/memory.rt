@@ -16,7 +16,7 @@ use octets::word;
 
 // Whether the n addresses from a on lie in the region of entry e.
 fn covers(e: &[u8], a: usize, n: usize) -> bool
-    requires { ⌜ (8 ≤ length (now e)) × (a < 65536) × (n < 256) ⌝ }
+    requires { ⌜ (region.size ≤ length (now e)) × (a < 65536) × (n < 256) ⌝ }
     ensures { λ r. ⌜ r ≡ coversOf (now (e .entry)) a n ⌝ }
 {
     let from = word(e, region::ADDRESS);
@@ -28,7 +28,7 @@ fn covers(e: &[u8], a: usize, n: usize) -> bool
 
 // The run that starts at address a.
 fn run_in(e: &[u8], a: usize) -> Run
-    requires { ⌜ (8 ≤ length (now e)) × (region.address of now e ≤ a) × (a < 65536) ⌝ }
+    requires { ⌜ (region.size ≤ length (now e)) × (region.address of now e ≤ a) × (a < 65536) ⌝ }
     ensures { λ r. ⌜ r ≡ runIn (now (e .entry)) a ⌝ }
 {
     Run::At {

@@ -87,7 +87,7 @@ pub fn offset(k: usize, e: &[u8]) -> usize
 
 // How long it is.
 pub fn length(k: usize, e: &[u8]) -> usize
-    requires { ⌜ 8 ≤ length (now e) ⌝ }
+    requires { ⌜ Sized k (now e) ⌝ }
     ensures { λ r. ⌜ Long k (now (e .entry)) r ⌝ }
 {
     match k {
@@ -97,8 +97,9 @@ pub fn length(k: usize, e: &[u8]) -> usize
     }
 }
 
+// The elements of a property.
 fn elements(e: &[u8]) -> usize
-    requires { ⌜ 8 ≤ length (now e) ⌝ }
+    requires { ⌜ property.maximum .at + 1 < length (now e) ⌝ }
     ensures { λ r. ⌜ (r ≡ property.element of now (e .entry) * property.maximum of now (e .entry)) × (r < 16777216) ⌝ }
 {
     byte(e, property::ELEMENT) * word(e, property::MAXIMUM)

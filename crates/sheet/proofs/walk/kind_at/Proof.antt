@@ -1,7 +1,6 @@
 -- `sheet::walk::kind_at` meets its contract.
 -- Assumes nothing.
 use borrow.Author.Needs.{needs}
-use native.Mathlib.Omega.{arith}
 use Rattle.sheet.proofs.Rules.{body-kind}
 use Rattle.sheet.proofs.walk.kind_at.Statement.{statement}
 use Rattle.sheet.proofs.walk.kind_at.Tie as tie
