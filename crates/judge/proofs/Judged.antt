@@ -24,6 +24,9 @@ use Rattle.judge.specs.Session.{levelIn}
 use Rattle.judge.specs.Modes.{rulesOf, reachOf, reaches, takes}
 use Rattle.judge.specs.Judge.{dataIn, isAccepted, decideOf, readOf, reachedOf, foundOf, isShut, judgeOf}
 
+pub via-data : (x : Parsed) (p : Pdu) (a d : List ℕ) → x ≡ Is p → d ≡ dataOf p a → d ≡ dataIn x a
+via-data x p a d e h = h ∙ ap (λ (y : Parsed). dataIn y a) (sym e)
+
 pub via-decide :
     (s : List ℕ) (level group : ℕ) (d : List ℕ) (p j : Pdu) (r : Decision) →
     p ≡ j → r ≡ decideOf s level group d j → r ≡ decideOf s level group d p

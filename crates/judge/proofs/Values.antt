@@ -1,12 +1,12 @@
 -- Reads and writes of a property, from what their parts ensure.
 -- Assumes nothing.
-use Prim.Native.Nat.{ℕ, _+_, _*_, _-_, _/_, _%_, _≤_, _<_, max}
+use Prim.Native.Nat.{ℕ, _+_, _*_, _-_, _/_, _≤_, _<_, max}
 use mathlib.Core.Path.{_≡_, sym, _∙_}
 use mathlib.Core.List.{List}
 use mathlib.Core.Bool.{Bool, true, false, _&&_, not}
 use lib.Dec.{leb, eqb}
 use lib.ListN.{length}
-use borrow.Author.Tests.{lt-ltb, le-ltb, le-leb, lt-leb, leb-true, not-true, not-false}
+use borrow.Author.Tests.{lt-ltb, le-ltb, leb-true, not-true, not-false}
 use Rattle.octets.specs.Bytes.{numAt}
 use Rattle.sheet.specs.Kind.{properties}
 use Rattle.sheet.specs.Entries.{count, place, entry}
@@ -19,31 +19,35 @@ use Rattle.judge.specs.declared.Answer.the-variants as answer
 use Rattle.judge.specs.declared.Decision.{Decision}
 use Rattle.judge.specs.Decisions.{denied, answered, written}
 use Rattle.judge.proofs.Laws.{first-true, second-true}
+use Rattle.judge.specs.Memory.{mayRead, mayWrite}
 use Rattle.judge.specs.Properties.{elements, counted, elementAt, most, noValue, propertyAt, readIn, propertyReadOf, writeIn, propertyWriteOf, describedAt, descriptionOf}
 
-module _ (e : PropertyEntry) (t : List ℕ) (i : ℕ) (p : IsProperty t i e) (level object id n s : ℕ) (r : Decision) where
-  pub read-low : e .levels / 16 < level → r ≡ noValue object id s → r ≡ readIn (entry t properties i) level object id n s
-  unfolding readIn
-  read-low l g = simp (← (p .levels), lt-leb _ _ l) g
-
-  module _ (l : level ≤ e .levels / 16) (c : Bool) (c-is : c ≡ counted n s) where
-    pub read-count :
-        c ≡ true → r ≡ answered (answer.Number (PropertyValueResponse object id n s) 2 (e .count)) →
-        r ≡ readIn (entry t properties i) level object id n s
+module _
+    (e : PropertyEntry) (t : List ℕ) (i : ℕ) (p : IsProperty t i e) (level object id n s : ℕ) (r : Decision) (w : Bool)
+    (w-is : w ≡ mayRead level (e .levels))
+  where
+    pub read-low : not w ≡ true → r ≡ noValue object id s → r ≡ readIn (entry t properties i) level object id n s
     unfolding readIn
-    read-count h g = simp (← (p .levels), ← (p .count), le-leb _ _ l, sym c-is ∙ h) g
+    read-low h g = simp (← (p .levels), ← w-is, not-true w h) g
 
-    module _ (m : c ≡ false) (z : ℕ) (z-is : z ≡ n * e .element) (b : Bool) (b-is : b ≡ (elements n s (e .maximum) && leb z most)) where
-      pub read-elements :
-          (at : ℕ) → b ≡ true → at ≡ elementAt (e .offset) (e .element) s →
-          r ≡ answered (answer.Sheet (PropertyValueResponse object id n s) at z) → r ≡ readIn (entry t properties i) level object id n s
+    module _ (l : not w ≡ false) (c : Bool) (c-is : c ≡ counted n s) where
+      pub read-count :
+          c ≡ true → r ≡ answered (answer.Number (PropertyValueResponse object id n s) 2 (e .count)) →
+          r ≡ readIn (entry t properties i) level object id n s
       unfolding readIn
-      read-elements at h k g =
-          simp (← (p .levels), ← (p .maximum), ← (p .element), ← (p .offset), le-leb _ _ l, sym c-is ∙ m, ← z-is, sym b-is ∙ h, ← k) g
+      read-count h g = simp (← (p .levels), ← (p .count), ← w-is, not-false w l, sym c-is ∙ h) g
 
-      pub read-none : b ≡ false → r ≡ noValue object id s → r ≡ readIn (entry t properties i) level object id n s
-      unfolding readIn
-      read-none h g = simp (← (p .levels), ← (p .maximum), ← (p .element), le-leb _ _ l, sym c-is ∙ m, ← z-is, sym b-is ∙ h) g
+      module _ (m : c ≡ false) (z : ℕ) (z-is : z ≡ n * e .element) (b : Bool) (b-is : b ≡ (elements n s (e .maximum) && leb z most)) where
+        pub read-elements :
+            (at : ℕ) → b ≡ true → at ≡ elementAt (e .offset) (e .element) s →
+            r ≡ answered (answer.Sheet (PropertyValueResponse object id n s) at z) → r ≡ readIn (entry t properties i) level object id n s
+        unfolding readIn
+        read-elements at h k g =
+            simp (← (p .levels), ← (p .maximum), ← (p .element), ← (p .offset), ← w-is, not-false w l, sym c-is ∙ m, ← z-is, sym b-is ∙ h, ← k) g
+
+        pub read-none : b ≡ false → r ≡ noValue object id s → r ≡ readIn (entry t properties i) level object id n s
+        unfolding readIn
+        read-none h g = simp (← (p .levels), ← (p .maximum), ← (p .element), ← w-is, not-false w l, sym c-is ∙ m, ← z-is, sym b-is ∙ h) g
 
 -- what elements says of the numbers
 module _ (n s m : ℕ) (u b : Bool) (e : b ≡ (elements n s m && u)) (h : b ≡ true) where
@@ -58,7 +62,7 @@ module _ (n s m : ℕ) (u b : Bool) (e : b ≡ (elements n s m && u)) (h : b ≡
 
 module _
     (e : PropertyEntry) (t : List ℕ) (i : ℕ) (p : IsProperty t i e) (level object id n s : ℕ) (d : List ℕ) (r : Decision)
-    (w : Bool) (w-is : w ≡ (eqb (e .kind / 128) 1 && leb level (e .levels % 16)))
+    (w : Bool) (w-is : w ≡ (eqb (e .kind / 128) 1 && mayWrite level (e .levels)))
   where
     pub write-low : not w ≡ true → r ≡ noValue object id s → r ≡ writeIn (entry t properties i) (place t properties i) level object id n s d
     unfolding writeIn

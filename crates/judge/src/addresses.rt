@@ -30,6 +30,7 @@ fn new_address(address: u16) -> Decision
     })
 }
 
+// The address set, and the device answering, in programming mode only.
 pub fn address_write(s: &[u8], address: u16) -> Decision
     requires { ⌜ ruleOf (now s) ≡ 0 ⌝ }
     ensures { λ r. ⌜ r ≡ addressWriteOf (now (s .entry)) address ⌝ }
@@ -50,7 +51,7 @@ pub fn address_read(s: &[u8]) -> Decision
     refused(2)
 }
 
-// The domain address that we send is 0.
+// The device answering by serial number: the domain address that we send is 0.
 pub fn serial_read(s: &[u8], asked: u64) -> Decision
     ensures { λ r. ⌜ r ≡ serialReadOf (now (s .entry)) asked ⌝ }
 {
@@ -63,6 +64,7 @@ pub fn serial_read(s: &[u8], asked: u64) -> Decision
     refused(2)
 }
 
+// The address set by serial number.
 pub fn serial_write(s: &[u8], asked: u64, address: u16) -> Decision
     ensures { λ r. ⌜ r ≡ serialWriteOf (now (s .entry)) asked address ⌝ }
 {
@@ -72,6 +74,7 @@ pub fn serial_write(s: &[u8], asked: u64, address: u16) -> Decision
     refused(2)
 }
 
+// The mask version is descriptor 0; there is no other.
 pub fn descriptor(s: &[u8], t: u8) -> Decision
     ensures { λ r. ⌜ r ≡ descriptorOf (now (s .entry)) t ⌝ }
 {

@@ -61,6 +61,7 @@ fn put_value(code: usize, at: usize, v: u8, n: usize) -> Decision
     stored(Store::Data { at })
 }
 
+// The value of a group object with the read flag.
 pub fn group_read(s: &[u8], address: u16) -> Decision
     requires { ⌜ ruleOf (now s) ≡ 0 ⌝ }
     ensures { λ r. ⌜ r ≡ groupReadOf (now (s .entry)) address ⌝ }

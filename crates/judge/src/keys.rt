@@ -27,6 +27,7 @@ fn grant(s: &[u8], offered: u32) -> u8
     WEAKEST
 }
 
+// The level that a key gives becomes the session's: a wrong key gives up rights.
 pub fn authorize(s: &[u8], offered: u32) -> Decision
     ensures { λ r. ⌜ r ≡ authorizeOf (now (s .entry)) offered ⌝ }
 {

@@ -1,6 +1,7 @@
-// The modes, and the level that a request acts at.
+// The modes, the level that a request acts at, and what a level may do.
 ghost use mathlib.Core.Path.{_≡_};
 ghost use Rattle.judge.specs.Session.{levelOf, levelIn};
+ghost use Rattle.judge.specs.Memory.{mayRead, mayWrite, mayChange};
 use crate::Session;
 
 pub const MULTICAST: u8 = 0;
@@ -32,4 +33,27 @@ pub fn level_in(q: Session, mode: u8) -> u8
         return WEAKEST;
     }
     level_of(q)
+}
+
+// The rights that the levels of a region or a property give: reading by the high four bits, writing by the low.
+pub fn may_read(level: u8, levels: u8) -> bool
+    ensures { λ r. ⌜ r ≡ mayRead level levels ⌝ }
+{
+    level <= levels / 16
+}
+
+pub fn may_write(level: u8, levels: u8) -> bool
+    ensures { λ r. ⌜ r ≡ mayWrite level levels ⌝ }
+{
+    level <= levels % 16
+}
+
+// A bit write needs both, since its answer shows old bits.
+pub fn may_change(level: u8, levels: u8) -> bool
+    ensures { λ r. ⌜ r ≡ mayChange level levels ⌝ }
+{
+    if may_read(level, levels) {
+        return may_write(level, levels);
+    }
+    false
 }

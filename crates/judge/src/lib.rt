@@ -85,6 +85,16 @@ pub struct Decision {
     pub answer: Answer,
 }
 
+// The data of a request that reads, and none of any other.
+pub fn data_in(got: Parsed, apdu: &[u8]) -> &[u8]
+    ensures { λ r. ⌜ now r ≡ dataIn got (now (apdu .entry)) ⌝ }
+{
+    let Parsed::Is(p) = got else {
+        return &apdu[0..0];
+    };
+    pdu::data_of(p, apdu)
+}
+
 // Connected mode with no connection.
 fn is_shut(q: Session, mode: u8) -> bool
     ensures { λ r. ⌜ r ≡ isShut q mode ⌝ }

@@ -14,6 +14,9 @@ use crate::decisions::denied;
 use crate::decisions::refused;
 use crate::decisions::stored;
 use crate::decisions::written;
+use crate::levels::may_change;
+use crate::levels::may_read;
+use crate::levels::may_write;
 use pdu::Pdu;
 use sheet::Run;
 
@@ -35,22 +38,12 @@ fn permits(n: u8, m: u8, right: bool) -> bool
     right
 }
 
-// A bit write needs both rights, since its answer shows old bits.
-fn may_change(level: u8, levels: u8) -> bool
-    ensures { λ r. ⌜ r ≡ mayChange level levels ⌝ }
-{
-    if levels / 16 < level {
-        return false;
-    }
-    level <= levels % 16
-}
-
 // A read of n bytes is permitted.
 fn can_read(level: u8, n: u8, run: Run) -> bool
     ensures { λ r. ⌜ r ≡ permitted mayRead mostBytes level n run ⌝ }
 {
     match run {
-        Run::At { offset: _, levels } => permits(n, MOST_BYTES, level <= levels / 16),
+        Run::At { offset: _, levels } => permits(n, MOST_BYTES, may_read(level, levels)),
         Run::Nowhere => false,
     }
 }
@@ -60,7 +53,7 @@ fn can_write(level: u8, n: u8, run: Run) -> bool
     ensures { λ r. ⌜ r ≡ permitted mayWrite mostBytes level n run ⌝ }
 {
     match run {
-        Run::At { offset: _, levels } => permits(n, MOST_BYTES, level <= levels % 16),
+        Run::At { offset: _, levels } => permits(n, MOST_BYTES, may_write(level, levels)),
         Run::Nowhere => false,
     }
 }
@@ -117,6 +110,7 @@ fn verifies(s: &[u8]) -> bool
     sheet::flags(s) / 2 % 2 == 1
 }
 
+// A read of n bytes from an address on.
 pub fn memory_read(s: &[u8], k: usize, level: u8, n: u8, address: u16) -> Decision
     requires { ⌜ (ruleOf (now s) ≡ 0) × (k < kinds) ⌝ }
     ensures { λ r. ⌜ r ≡ memoryReadOf (now (s .entry)) k level n address ⌝ }
@@ -132,6 +126,7 @@ pub fn memory_read(s: &[u8], k: usize, level: u8, n: u8, address: u16) -> Decisi
     denied(Pdu::MemoryResponse { n: 0, address })
 }
 
+// A write of the request's n bytes from an address on.
 pub fn memory_write(s: &[u8], k: usize, level: u8, n: u8, address: u16) -> Decision
     requires { ⌜ (ruleOf (now s) ≡ 0) × (k < kinds) ⌝ }
     ensures { λ r. ⌜ r ≡ memoryWriteOf (now (s .entry)) k level n address ⌝ }
@@ -148,6 +143,7 @@ pub fn memory_write(s: &[u8], k: usize, level: u8, n: u8, address: u16) -> Decis
     )
 }
 
+// A bit write of n bytes from an address on.
 pub fn bit_write(s: &[u8], k: usize, level: u8, n: u8, address: u16) -> Decision
     requires { ⌜ (ruleOf (now s) ≡ 0) × (k < kinds) ⌝ }
     ensures { λ r. ⌜ r ≡ bitWriteOf (now (s .entry)) k level n address ⌝ }

@@ -1,15 +1,17 @@
 // Property values and descriptions.
 ghost use mathlib.Core.Path.{_≡_};
-ghost use Prim.Native.Nat.{ℕ, _+_, _-_, _*_, _/_, _%_, _≤_, _<_, max};
+ghost use Prim.Native.Nat.{ℕ, _+_, _-_, _*_, _/_, _≤_, _<_, max};
 ghost use mathlib.Core.List.{List};
 ghost use mathlib.Core.Bool.{_&&_};
 ghost use lib.Dec.{leb, eqb};
 ghost use lib.ListN.{length};
 ghost use Rattle.octets.specs.Bytes.{numAt};
 ghost use Rattle.sheet.specs.Kind.{properties};
+ghost use Rattle.sheet.specs.Property as property;
 ghost use Rattle.sheet.specs.Entries.{entry, place};
 ghost use Rattle.sheet.specs.Places.{IsProperty};
 ghost use Rattle.sheet.specs.Rules.{ruleOf};
+ghost use Rattle.judge.specs.Memory.{mayWrite};
 ghost use Rattle.judge.specs.Properties.{elements as elementsOf, counted as countedOf, elementAt, noValue, most, readIn, writeIn, propertyAt, propertyReadOf, propertyWriteOf, describedAt, descriptionOf};
 use crate::Answer;
 use crate::Decision;
@@ -18,12 +20,17 @@ use crate::decisions::answered;
 use crate::decisions::denied;
 use crate::decisions::written;
 use crate::kinds::PROPERTIES;
+use crate::levels::may_read;
+use crate::levels::may_write;
 use octets::word;
 use pdu::Pdu;
 use sheet::PropertyEntry;
 
 // How many bytes of data a PDU has at most.
 const MOST: usize = 10;
+
+// The bytes of a count.
+const COUNT: usize = 2;
 
 // The last of n elements from element s on, counted from 1.
 fn last(n: u8, s: u16) -> usize
@@ -56,12 +63,12 @@ fn counted(n: u8, s: u16) -> bool
     n == 1
 }
 
-// A product of a byte's size with a smaller number.
-fn times(a: usize, b: usize) -> usize
-    requires { ⌜ (a < 65536) × (b ≤ 10) ⌝ }
-    ensures { λ r. ⌜ (r ≡ a * b) × (r ≤ 655350) ⌝ }
+// The bytes of so many elements.
+fn times(n: usize, element: usize) -> usize
+    requires { ⌜ (n < 65536) × (element ≤ 10) ⌝ }
+    ensures { λ r. ⌜ (r ≡ n * element) × (r ≤ 655350) ⌝ }
 {
-    a * b
+    n * element
 }
 
 // Where element s of the body from a place on stands, each element having so many bytes.
@@ -100,14 +107,14 @@ fn read_in(e: PropertyEntry, level: u8, object: u8, id: u8, n: u8, s: u16) -> De
     ensures { λ r. ⌜ ((t : List ℕ) (i : ℕ) → IsProperty t i e → r ≡ readIn (entry t properties i) level object id n s) ⌝ }
 {
     let element = e.element;
-    if e.levels / 16 < level {
+    if !may_read(level, e.levels) {
         return no_value(object, id, s);
     }
     let answer = Pdu::PropertyValueResponse { object, id, n, s };
     if counted(n, s) {
         return answered(Answer::Number {
             pdu: answer,
-            width: 2,
+            width: COUNT,
             x: e.count as u64,
         });
     }
@@ -124,19 +131,19 @@ fn read_in(e: PropertyEntry, level: u8, object: u8, id: u8, n: u8, s: u16) -> De
 
 // The property may be written at this level.
 fn is_writable(kind: u8, levels: u8, level: u8) -> bool
-    ensures { λ r. ⌜ r ≡ (eqb (kind / 128) 1 && leb level (levels % 16)) ⌝ }
+    ensures { λ r. ⌜ r ≡ (eqb (kind / 128) 1 && mayWrite level levels) ⌝ }
 {
     if kind / 128 != 1 {
         return false;
     }
-    level <= levels % 16
+    may_write(level, levels)
 }
 
 // The count is asked for, and the data is a count of 0.
 fn is_cleared(n: u8, s: u16, d: &[u8]) -> bool
-    ensures { λ r. ⌜ r ≡ (countedOf n s && eqb (length (now (d .entry))) 2 && eqb (numAt (now (d .entry)) 0 2) 0) ⌝ }
+    ensures { λ r. ⌜ r ≡ (countedOf n s && eqb (length (now (d .entry))) (property.count .width) && eqb (numAt (now (d .entry)) 0 (property.count .width)) 0) ⌝ }
 {
-    if d.len() != 2 {
+    if d.len() != COUNT {
         return false;
     }
     if counted(n, s) {
@@ -180,7 +187,7 @@ fn write_in(e: PropertyEntry, level: u8, object: u8, id: u8, n: u8, s: u16, d: &
     let at = sheet::count_at(e.place);
     if is_cleared(n, s, d) {
         return written(
-            Store::Fill { at, n: 2, b: 0 },
+            Store::Fill { at, n: COUNT, b: 0 },
             Store::Nothing,
             Answer::Echo(answer),
         );
@@ -193,7 +200,11 @@ fn write_in(e: PropertyEntry, level: u8, object: u8, id: u8, n: u8, s: u16, d: &
         };
         return written(
             elements,
-            Store::Number { at, width: 2, x },
+            Store::Number {
+                at,
+                width: COUNT,
+                x,
+            },
             Answer::Echo(answer),
         );
     }
@@ -208,6 +219,7 @@ fn property_at(sheet: &[u8], object: u8, id: u8) -> usize
     sheet::find(sheet, PROPERTIES, object as usize * 256 + id as usize)
 }
 
+// A read of n elements from element s on, or of the count.
 pub fn property_read(sheet: &[u8], level: u8, object: u8, id: u8, n: u8, s: u16) -> Decision
     requires { ⌜ ruleOf (now sheet) ≡ 0 ⌝ }
     ensures { λ r. ⌜ r ≡ propertyReadOf (now (sheet .entry)) level object id n s ⌝ }
@@ -219,6 +231,7 @@ pub fn property_read(sheet: &[u8], level: u8, object: u8, id: u8, n: u8, s: u16)
     read_in(sheet::property_entry(sheet, i), level, object, id, n, s)
 }
 
+// A write of data to n elements from element s on, or of 0 to the count.
 pub fn property_write(
     sheet: &[u8],
     level: u8,
@@ -249,6 +262,7 @@ fn described_at(sheet: &[u8], object: u8, id: u8, index: u8) -> usize
     property_at(sheet, object, id)
 }
 
+// The entry's own fields, or what was asked.
 pub fn description(sheet: &[u8], object: u8, id: u8, index: u8) -> Decision
     requires { ⌜ ruleOf (now sheet) ≡ 0 ⌝ }
     ensures { λ r. ⌜ r ≡ descriptionOf (now (sheet .entry)) object id index ⌝ }

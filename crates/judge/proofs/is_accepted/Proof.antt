@@ -10,5 +10,4 @@ unfolding isAccepted
 is-accepted-spec =
     tie.close
     (tie.spec
-    (λ c κs. search needs)
-    (λ c. simp (c .check .ensures)))
+    (λ c κs. search needs) (λ c. simp (c .check .ensures)))

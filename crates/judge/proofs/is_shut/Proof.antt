@@ -11,5 +11,4 @@ unfolding isShut
 is-shut-spec =
     tie.close
     (tie.spec
-    (λ c. search (tests, arith))
-    (λ c. search (tests, arith)))
+    (λ c. search (tests, arith)) (λ c. search (tests, arith)))

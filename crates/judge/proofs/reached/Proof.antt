@@ -9,17 +9,7 @@ pub reached-spec : {M : Type 1} → statement M
 reached-spec =
     tie.close
     (tie.spec
-    (λ c κs. search needs)
-    (λ c κs. search needs)
-    (λ c. search (unreached, untaken, unread, decided))
-    (λ c κs. search needs)
-    (λ c κs. search needs)
-    (λ c. search (unreached, untaken, unread, decided))
-    (λ c. search needs)
-    (λ c. search needs)
-    (λ c κs. search needs)
-    (λ c κs. search needs)
-    (λ c. search (unreached, untaken, unread, decided))
-    (λ c κs. search needs)
-    (λ c κs. search needs)
-    (λ c. search (unreached, untaken, unread, decided)))
+    (λ c κs. search needs) (λ c κs. search needs) (λ c. search unreached)
+    (λ c κs. search needs) (λ c κs. search needs) (λ c. search untaken)
+    (λ c. search needs) (λ c. search needs) (λ c κs. search needs) (λ c κs. search needs)
+    (λ c. search unread) (λ c κs. search needs) (λ c κs. search needs) (λ c. search decided))

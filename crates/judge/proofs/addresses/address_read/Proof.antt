@@ -12,8 +12,5 @@ unfolding addressReadOf
 address-read-spec =
     tie.close
     (tie.spec
-    (λ c κs. search needs)
-    (λ c κs. search needs)
-    (λ c. search (branches, arith))
-    (λ c κs. search needs)
+    (λ c κs. search needs) (λ c κs. search needs) (λ c. search (branches, arith)) (λ c κs. search needs)
     (λ c. search (branches, arith)))

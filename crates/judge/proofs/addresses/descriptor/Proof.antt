@@ -13,9 +13,5 @@ unfolding descriptorOf
 descriptor-spec =
     tie.close
     (tie.spec
-    (λ c κs. search needs)
-    (λ c. search (branches, arith))
-    (λ c κs. search needs)
-    (λ c. search needs)
-    (λ c κs. search needs)
-    (λ c. search mask-answered))
+    (λ c κs. search needs) (λ c. search (branches, arith)) (λ c κs. search needs) (λ c. search needs)
+    (λ c κs. search needs) (λ c. search mask-answered))

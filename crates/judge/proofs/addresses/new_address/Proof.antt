@@ -8,6 +8,4 @@ pub new-address-spec : {M : Type 1} → statement M
 new-address-spec =
     tie.close
     (tie.spec
-    (λ c κs. search needs)
-    (λ c κs. search needs)
-    (λ c. simp (c .stored .ensures, c .before .address-at .ensures)))
+    (λ c κs. search needs) (λ c κs. search needs) (λ c. simp (c .stored .ensures, c .before .address-at .ensures)))

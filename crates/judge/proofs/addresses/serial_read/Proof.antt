@@ -11,8 +11,4 @@ unfolding serialReadOf
 serial-read-spec =
     tie.close
     (tie.spec
-    (λ c κs. search needs)
-    (λ c κs. search needs)
-    (λ c. search given)
-    (λ c κs. search needs)
-    (λ c. search given))
+    (λ c κs. search needs) (λ c κs. search needs) (λ c. search given) (λ c κs. search needs) (λ c. search given))

@@ -9,13 +9,6 @@ pub group-put-spec : {M : Type 1} → statement M
 group-put-spec =
     tie.close
     (tie.spec
-    (λ c κs. search needs)
-    (λ c κs. search needs)
-    (λ c κs. search needs)
-    (λ c. search (put-missing, put-shut, put-open))
-    (λ c κs. search needs)
-    (λ c κs. search needs)
-    (λ c κs. search needs)
-    (λ c. search (put-missing, put-shut, put-open))
-    (λ c κs. search needs)
-    (λ c. search (put-missing, put-shut, put-open)))
+    (λ c κs. search needs) (λ c κs. search needs) (λ c κs. search needs)
+    (λ c. search put-missing) (λ c κs. search needs) (λ c κs. search needs)
+    (λ c κs. search needs) (λ c. search put-shut) (λ c κs. search needs) (λ c. search put-open))

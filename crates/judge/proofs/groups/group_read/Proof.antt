@@ -9,13 +9,6 @@ pub group-read-spec : {M : Type 1} → statement M
 group-read-spec =
     tie.close
     (tie.spec
-    (λ c κs. search needs)
-    (λ c κs. search needs)
-    (λ c κs. search needs)
-    (λ c. search (read-missing, read-shut, read-open))
-    (λ c κs. search needs)
-    (λ c κs. search needs)
-    (λ c κs. search needs)
-    (λ c. search (read-missing, read-shut, read-open))
-    (λ c κs. search needs)
-    (λ c. search (read-missing, read-shut, read-open)))
+    (λ c κs. search needs) (λ c κs. search needs) (λ c κs. search needs)
+    (λ c. search read-missing) (λ c κs. search needs) (λ c κs. search needs)
+    (λ c κs. search needs) (λ c. search read-shut) (λ c κs. search needs) (λ c. search read-open))

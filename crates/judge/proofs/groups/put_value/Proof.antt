@@ -12,9 +12,5 @@ unfolding putValue
 put-value-spec =
     tie.close
     (tie.spec
-    (λ c κs. search needs)
-    (λ c. search (tests, arith))
-    (λ c κs. search needs)
-    (λ c. search (tests, arith))
-    (λ c κs. search needs)
-    (λ c. search (tests, arith)))
+    (λ c κs. search needs) (λ c. search (tests, arith)) (λ c κs. search needs) (λ c. search (tests, arith))
+    (λ c κs. search needs) (λ c. search (tests, arith)))

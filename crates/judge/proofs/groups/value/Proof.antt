@@ -13,9 +13,5 @@ unfolding valueOf
 value-spec =
     tie.close
     (tie.spec
-    (λ c κs. search needs)
-    (λ c. search needs)
-    (λ c κs. search needs)
-    (λ c. search (branches, six-bits, arith))
-    (λ c κs. search needs)
-    (λ c. search (branches, arith)))
+    (λ c κs. search needs) (λ c. search needs) (λ c κs. search needs) (λ c. search (branches, six-bits, arith))
+    (λ c κs. search needs) (λ c. search (branches, arith)))

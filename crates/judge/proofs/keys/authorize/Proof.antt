@@ -10,5 +10,4 @@ unfolding authorizeOf
 authorize-spec =
     tie.close
     (tie.spec
-    (λ c κs. search needs)
-    (λ c. simp (c .grant .ensures)))
+    (λ c κs. search needs) (λ c. simp (c .grant .ensures)))

@@ -11,10 +11,5 @@ unfolding grantOf
 grant-spec =
     tie.close
     (tie.spec
-    (λ c κs. search needs)
-    (λ c. search given)
-    (λ c κs. search needs)
-    (λ c. search given)
-    (λ c κs. search needs)
-    (λ c. search given)
-    (λ c. search given))
+    (λ c κs. search needs) (λ c. search given) (λ c κs. search needs) (λ c. search given) (λ c κs. search needs)
+    (λ c. search given) (λ c. search given))

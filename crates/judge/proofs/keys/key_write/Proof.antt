@@ -13,10 +13,5 @@ unfolding keyWriteOf
 key-write-spec =
     tie.close
     (tie.spec
-    (λ c κs. search needs)
-    (λ c. search (branches, arith))
-    (λ c κs. search needs)
-    (λ c. search (branches, arith))
-    (λ c κs. search needs)
-    (λ c κs. search needs)
-    (λ c. search key-set))
+    (λ c κs. search needs) (λ c. search (branches, arith)) (λ c κs. search needs) (λ c. search (branches, arith))
+    (λ c κs. search needs) (λ c κs. search needs) (λ c. search key-set))

@@ -10,8 +10,5 @@ unfolding restartOf
 restart-spec =
     tie.close
     (tie.spec
-    (λ c κs. search needs)
-    (λ c κs. search needs)
-    (λ c. search needs)
-    (λ c. search needs)
+    (λ c κs. search needs) (λ c κs. search needs) (λ c. search needs) (λ c. search needs)
     (λ c. simp (c .flags-at .ensures, c .before .flags .ensures .0)))

@@ -12,6 +12,4 @@ unfolding levelIn
 level-in-spec =
     tie.close
     (tie.spec
-    (λ c. search (tests, arith))
-    (λ c κs. search needs)
-    (λ c. search (tests, arith)))
+    (λ c. search (tests, arith)) (λ c κs. search needs) (λ c. search (tests, arith)))

@@ -10,9 +10,5 @@ pub can-change-spec : {M : Type 1} → statement M
 can-change-spec =
     tie.close
     (tie.spec
-    (λ c. search needs)
-    (λ c κs. search needs)
-    (λ c κs. search needs)
-    (λ c. search needs)
-    (λ c. search (permitted-at, via-permitted))
-    (λ c. search (permitted-at, via-permitted)))
+    (λ c. search needs) (λ c κs. search needs) (λ c κs. search needs) (λ c. search needs)
+    (λ c. search permitted-at) (λ c. search via-permitted))

@@ -1,7 +1,6 @@
 -- `judge::memory::can_write` meets its contract.
 -- Assumes nothing.
 use borrow.Author.Needs.{needs}
-use native.Mathlib.Omega.{arith}
 use Rattle.judge.proofs.Arms.{permitted-at, via-permitted}
 use Rattle.judge.proofs.memory.can_write.Statement.{statement}
 use Rattle.judge.proofs.memory.can_write.Tie as tie
@@ -10,8 +9,5 @@ pub can-write-spec : {M : Type 1} → statement M
 can-write-spec =
     tie.close
     (tie.spec
-    (λ c. search needs)
-    (λ c κs. search needs)
-    (λ c. search needs)
-    (λ c. search (permitted-at, via-permitted))
-    (λ c. search (permitted-at, via-permitted)))
+    (λ c. search needs) (λ c κs. search needs) (λ c κs. search needs) (λ c. search needs)
+    (λ c. search permitted-at) (λ c. search via-permitted))

@@ -12,11 +12,5 @@ unfolding changeOf
 change-spec =
     tie.close
     (tie.spec
-    (λ c κs. search needs)
-    (λ c. search (branches, arith))
-    (λ c κs. search needs)
-    (λ c. search (branches, arith))
-    (λ c κs. search needs)
-    (λ c. search (branches, arith))
-    (λ c κs. search needs)
-    (λ c. search (branches, arith)))
+    (λ c κs. search needs) (λ c. search (branches, arith)) (λ c κs. search needs) (λ c. search (branches, arith))
+    (λ c κs. search needs) (λ c. search (branches, arith)) (λ c κs. search needs) (λ c. search (branches, arith)))

@@ -9,6 +9,4 @@ pub permits-spec : {M : Type 1} → statement M
 permits-spec =
     tie.close
     (tie.spec
-    (λ c. search (tests, arith))
-    (λ c. search (tests, arith))
-    (λ c. search (tests, arith)))
+    (λ c. search (tests, arith)) (λ c. search (tests, arith)) (λ c. search (tests, arith)))

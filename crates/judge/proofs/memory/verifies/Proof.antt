@@ -8,5 +8,4 @@ pub verifies-spec : {M : Type 1} → statement M
 verifies-spec =
     tie.close
     (tie.spec
-    (λ c κs. search needs)
-    (λ c. simp (c .flags .ensures .0)))
+    (λ c κs. search needs) (λ c. simp (c .flags .ensures .0)))

@@ -9,5 +9,4 @@ pub point-to-point-spec : {M : Type 1} → statement M
 point-to-point-spec =
     tie.close
     (tie.spec
-    (λ c. search (tests, arith))
-    (λ c. search (tests, arith)))
+    (λ c. search (tests, arith)) (λ c. search (tests, arith)))

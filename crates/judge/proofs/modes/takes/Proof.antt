@@ -10,14 +10,6 @@ pub takes-spec : {M : Type 1} → statement M
 takes-spec =
     tie.close
     (tie.spec
-    (λ c. search needs)
-    (λ c. search needs)
-    (λ c. search needs)
-    (λ c κs. search needs)
-    (λ c. search needs)
-    (λ c. search needs)
-    (λ c. search via-takes)
-    (λ c. search via-takes)
-    (λ c. search via-takes)
-    (λ c. search via-takes)
-    (λ c. search via-takes))
+    (λ c. search needs) (λ c. search needs) (λ c. search needs) (λ c κs. search needs) (λ c. search needs)
+    (λ c. search needs) (λ c. search via-takes) (λ c. search via-takes) (λ c. search via-takes)
+    (λ c. search via-takes) (λ c. search via-takes))

@@ -9,5 +9,4 @@ pub counted-spec : {M : Type 1} → statement M
 counted-spec =
     tie.close
     (tie.spec
-    (λ c. search (tests, arith))
-    (λ c. search (tests, arith)))
+    (λ c. search (tests, arith)) (λ c. search (tests, arith)))

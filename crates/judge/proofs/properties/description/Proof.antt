@@ -10,13 +10,6 @@ pub description-spec : {M : Type 1} → statement M
 description-spec =
     tie.close
     (tie.spec
-    (λ c κs. search needs)
-    (λ c κs. search needs)
-    (λ c κs. search needs)
-    (λ c. search (describe-missing, describe-there))
-    (λ c κs. search needs)
-    (λ c κs. search needs)
-    (λ c. search small-rank)
-    (λ c. search needs)
-    (λ c κs. search needs)
-    (λ c. search (describe-missing, describe-there)))
+    (λ c κs. search needs) (λ c κs. search needs) (λ c κs. search needs)
+    (λ c. search describe-missing) (λ c κs. search needs) (λ c κs. search needs)
+    (λ c. search small-rank) (λ c. search needs) (λ c κs. search needs) (λ c. search describe-there))

@@ -10,7 +10,5 @@ pub elements-spec : {M : Type 1} → statement M
 elements-spec =
     tie.close
     (tie.spec
-    (λ c. search (branches, arith))
-    (λ c. search (branches, arith))
-    (λ c κs. search needs)
+    (λ c. search (branches, arith)) (λ c. search (branches, arith)) (λ c κs. search needs)
     (λ c. search (branches, arith)))

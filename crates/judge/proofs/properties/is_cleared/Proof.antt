@@ -10,8 +10,5 @@ pub is-cleared-spec : {M : Type 1} → statement M
 is-cleared-spec =
     tie.close
     (tie.spec
-    (λ c. search (branches, arith))
-    (λ c κs. search needs)
-    (λ c κs. search needs)
-    (λ c. search (branches, arith))
+    (λ c. search (branches, arith)) (λ c κs. search needs) (λ c κs. search needs) (λ c. search (branches, arith))
     (λ c. search (branches, arith)))

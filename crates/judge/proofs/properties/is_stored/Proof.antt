@@ -10,6 +10,4 @@ pub is-stored-spec : {M : Type 1} → statement M
 is-stored-spec =
     tie.close
     (tie.spec
-    (λ c κs. search needs)
-    (λ c. search (branches, arith))
-    (λ c. search (branches, arith)))
+    (λ c κs. search needs) (λ c. search (branches, arith)) (λ c. search (branches, arith)))

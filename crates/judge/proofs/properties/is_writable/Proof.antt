@@ -1,5 +1,6 @@
 -- `judge::properties::is_writable` meets its contract.
 -- Assumes nothing.
+use borrow.Author.Needs.{needs}
 use native.Mathlib.Omega.{arith}
 use Rattle.judge.proofs.Laws.{branches}
 use Rattle.judge.proofs.properties.is_writable.Statement.{statement}
@@ -9,5 +10,4 @@ pub is-writable-spec : {M : Type 1} → statement M
 is-writable-spec =
     tie.close
     (tie.spec
-    (λ c. search (branches, arith))
-    (λ c. search (branches, arith)))
+    (λ c. search (branches, arith)) (λ c κs. search needs) (λ c. search (branches, arith)))

@@ -10,10 +10,5 @@ pub property-read-spec : {M : Type 1} → statement M
 property-read-spec =
     tie.close
     (tie.spec
-    (λ c κs. search needs)
-    (λ c κs. search needs)
-    (λ c κs. search needs)
-    (λ c. search (read-missing, read-there))
-    (λ c κs. search needs)
-    (λ c κs. search (small-offset, needs))
-    (λ c. search (read-missing, read-there)))
+    (λ c κs. search needs) (λ c κs. search needs) (λ c κs. search needs) (λ c. search read-missing)
+    (λ c κs. search needs) (λ c κs. search (small-offset, needs)) (λ c. search read-there))

@@ -10,10 +10,5 @@ pub property-write-spec : {M : Type 1} → statement M
 property-write-spec =
     tie.close
     (tie.spec
-    (λ c κs. search needs)
-    (λ c κs. search needs)
-    (λ c κs. search needs)
-    (λ c. search (write-missing, write-there))
-    (λ c κs. search needs)
-    (λ c κs. search (small-offset, small-place, needs))
-    (λ c. search (write-missing, write-there)))
+    (λ c κs. search needs) (λ c κs. search needs) (λ c κs. search needs) (λ c. search write-missing)
+    (λ c κs. search needs) (λ c κs. search (small-offset, small-place, needs)) (λ c. search write-there))

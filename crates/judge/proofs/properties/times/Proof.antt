@@ -14,5 +14,5 @@ pub times-spec : {M : Type 1} → statement M
 times-spec =
     tie.close
     (tie.spec
-    (λ c. omega (arith, small (c .args .a) (c .args .b) (omega arith) (omega arith)))
-    (λ c. (refl, omega (arith, small (c .args .a) (c .args .b) (omega arith) (omega arith)))))
+    (λ c. omega (arith, small (c .args .n) (c .args .element) (omega arith) (omega arith)))
+    (λ c. (refl, omega (arith, small (c .args .n) (c .args .element) (omega arith) (omega arith)))))

@@ -9,18 +9,8 @@ pub write-in-spec : {M : Type 1} → statement M
 write-in-spec =
     tie.close
     (tie.spec
-    (λ c κs. search needs)
-    (λ c κs. search needs)
-    (λ c. search (write-low, write-count, write-elements, write-none))
-    (λ c κs. search needs)
-    (λ c κs. search needs)
-    (λ c κs. search needs)
-    (λ c. search (write-low, write-count, write-elements, write-none))
-    (λ c κs. search needs)
-    (λ c κs. search needs)
-    (λ c κs. search many-one)
-    (λ c κs. search (start-one, needs))
-    (λ c κs. search needs)
-    (λ c. search (write-low, write-count, write-elements, write-none))
-    (λ c κs. search needs)
-    (λ c. search (write-low, write-count, write-elements, write-none)))
+    (λ c κs. search needs) (λ c κs. search needs) (λ c. search write-low)
+    (λ c κs. search needs) (λ c κs. search needs) (λ c κs. search needs)
+    (λ c. search write-count) (λ c κs. search needs) (λ c κs. search needs)
+    (λ c κs. search many-one) (λ c κs. search (start-one, needs)) (λ c κs. search needs)
+    (λ c. search write-elements) (λ c κs. search needs) (λ c. search write-none))

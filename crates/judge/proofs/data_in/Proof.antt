@@ -1,0 +1,13 @@
+-- `judge::data_in` meets its contract.
+-- Assumes nothing.
+use borrow.Author.Needs.{needs}
+use Rattle.judge.proofs.Judged.{via-data}
+use Rattle.judge.proofs.data_in.Statement.{statement}
+use Rattle.judge.proofs.data_in.Tie as tie
+
+pub data-in-spec : {M : Type 1} → statement M
+data-in-spec =
+    tie.close
+    (tie.spec
+    (λ c. search needs) (λ c. search needs) (λ c. search needs) (λ c. search needs) (λ c. search needs)
+    (λ c. search needs) (λ c κs. search needs) (λ c. search via-data))

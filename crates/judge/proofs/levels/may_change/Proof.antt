@@ -1,0 +1,13 @@
+-- `judge::levels::may_change` meets its contract.
+-- Assumes nothing.
+use borrow.Author.Needs.{needs}
+use native.Mathlib.Omega.{arith}
+use Rattle.judge.proofs.Laws.{branches}
+use Rattle.judge.proofs.levels.may_change.Statement.{statement}
+use Rattle.judge.proofs.levels.may_change.Tie as tie
+
+pub may-change-spec : {M : Type 1} → statement M
+may-change-spec =
+    tie.close
+    (tie.spec
+    (λ c κs. search needs) (λ c κs. search needs) (λ c. search (branches, arith)) (λ c. search (branches, arith)))
