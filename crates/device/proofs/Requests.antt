@@ -5,10 +5,8 @@ use mathlib.Core.Path.{_≡_, refl, ap, sym, subst, _∙_}
 use mathlib.Core.List.{List}
 use lib.ListN.{length}
 use Rattle.octets.specs.Splice.{splice}
-use Rattle.pdu.specs.Read.{readPdu, dataOf}
-use Rattle.pdu.specs.declared.Pdu.{Pdu}
+use Rattle.pdu.specs.Read.{readPdu}
 use Rattle.pdu.specs.declared.Parsed.{Parsed}
-use Rattle.pdu.specs.declared.Parsed.the-variants.{Is, Refused}
 use Rattle.judge.specs.Judge.{dataIn, judgeOf}
 use Rattle.judge.specs.declared.Session.{Session}
 use Rattle.judge.specs.declared.Decision.{Decision}
@@ -18,9 +16,6 @@ use Rattle.device.specs.Step.{Step, stepBy, stepOf, Did}
 use Rattle.device.specs.declared.Done.{Done}
 use Rattle.device.proofs.Safe.{safe}
 use Rattle.device.proofs.Room.{roomy}
-
-pub data-read : (got : Parsed) (p : Pdu) (a r : List ℕ) → got ≡ Is p → r ≡ dataOf p a → r ≡ dataIn got a
-data-read got p a r e h = subst (λ (x : Parsed). r ≡ dataIn x a) (sym e) h
 
 module _ (room : ℕ) (s : List ℕ) (q : Session) (mode group : ℕ) (a d : List ℕ) (got : Parsed) (k : Decision) (read : got ≡ readPdu a)
     (given : d ≡ dataIn got a) (judged : k ≡ judgeOf room s q mode group a) where

@@ -7,28 +7,15 @@ pub use session::button;
 pub use session::connect;
 pub use session::disconnect;
 pub use session::fresh;
-ghost use mathlib.Core.Path.{_≡_};
 ghost use lib.ListN.{length};
-ghost use Rattle.judge.specs.Judge.{dataIn};
 ghost use Rattle.device.specs.Step.{stepOf, Did};
 use judge::Session;
-use pdu::Parsed;
 
 // What a request gave: the outcome, the count of bytes answered, the session afterwards.
 pub struct Done {
     pub outcome: u8,
     pub count: usize,
     pub session: Session,
-}
-
-// The data of a request that reads, and none of any other.
-fn data_in(got: Parsed, apdu: &[u8]) -> &[u8]
-    ensures { λ r. ⌜ now r ≡ dataIn got (now (apdu .entry)) ⌝ }
-{
-    let Parsed::Is(p) = got else {
-        return &apdu[..0];
-    };
-    pdu::data_of(p, apdu)
 }
 
 // A request: read, judged, carried out, answered. Whatever is refused leaves sheet, session and answer buffer as they were.
@@ -43,7 +30,7 @@ pub fn request(
     ensures { λ r. ⌜ Did (stepOf (length (now (answer .entry))) (now (sheet .entry)) session mode group (now (apdu .entry))) r (now (answer .entry)) (now (sheet .exit)) (now (answer .exit)) ⌝ }
 {
     let got = pdu::read(apdu);
-    let d = data_in(got, apdu);
+    let d = judge::data_in(got, apdu);
     let k = judge::judge(answer.len(), &sheet[..], session, mode, group, apdu, got, d);
     store::carry_out(sheet, k, d);
     let reply = k.answer;
