@@ -1,6 +1,4 @@
 // Bodies laid one after the other behind the contents, as long as the entries say.
-ghost use mathlib.Core.Path.{_≡_};
-ghost use Prim.Native.Nat.{_*_};
 use crate::draft::Draft;
 use crate::draft::GROUPS;
 use crate::draft::PROPERTIES;

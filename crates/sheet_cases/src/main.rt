@@ -32,7 +32,7 @@ struct State {
     tally: Tally,
 }
 
-// The answer to a case, as text, and how long the text is.
+// The answer to what stands before a case's arrow, put into `got` as text; how long it is.
 fn answered(line: &[u8], s: &mut [u8], base: Draft, got: &mut [u8]) -> usize {
     let q = find(line, 0, b'?');
     let d = with_words(s, base, part(line, 0, q));
@@ -42,6 +42,7 @@ fn answered(line: &[u8], s: &mut [u8], base: Draft, got: &mut [u8]) -> usize {
     ask(part(s, 0, d.len), rest(line, after(line, q)), got)
 }
 
+// s has room for a copy of the base.
 fn with_case(line: &[u8], base: &[u8], s: &mut [u8], t: State) -> State {
     let d = t.base;
     let tally = t.tally;

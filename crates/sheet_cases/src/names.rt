@@ -10,7 +10,6 @@ use lines::find;
 use lines::number;
 use lines::part;
 use lines::rest;
-use lines::word;
 
 // So many bytes from a place on; no bytes are no field.
 pub struct Field {
@@ -22,48 +21,54 @@ fn none() -> Field {
     Field { at: 0, width: 0 }
 }
 
-// The field of a name in a row of names, each with its place and its width.
-fn in_row(row: &[u8], name: &[u8]) -> Field {
-    if name.len() == 0 {
-        return none();
+// A field of a row, `NAME,PLACE,WIDTH`.
+fn read_field(text: &[u8]) -> Field {
+    let a = after(text, find(text, 0, b','));
+    let b = find(text, a, b',');
+    Field {
+        at: (number(part(text, a, b)) % 64) as usize,
+        width: (number(rest(text, after(text, b))) % 4) as usize,
     }
-    let mut k = 0;
-    while k < 30 {
-        if same(word(row, k), name) {
-            return Field {
-                at: (number(word(row, k + 1)) % 64) as usize,
-                width: (number(word(row, k + 2)) % 4) as usize,
-            };
+}
+
+// The field of a name in a row.
+fn in_row(row: &[u8], name: &[u8]) -> Field {
+    let mut at = 0;
+    while at < row.len() {
+        let end = find(row, at, b' ');
+        let text = part(row, at, end);
+        if same(part(text, 0, find(text, 0, b',')), name) {
+            return read_field(text);
         }
-        k += 3;
+        at = after(row, end);
     }
     none()
 }
 
 fn head(name: &[u8]) -> Field {
     in_row(
-        b"edition 0 1 regions 1 1 properties 2 1 groups 3 1 stated 4 2 flags 14 1 zero15 15 1 zero30 30 1 zero31 31 1",
+        b"edition,0,1 regions,1,1 properties,2,1 groups,3,1 stated,4,2 flags,14,1 zero15,15,1 zero30,30,1 zero31,31,1",
         name,
     )
 }
 
 fn of_region(name: &[u8]) -> Field {
     in_row(
-        b"address 0 2 length 2 2 offset 4 2 levels 6 1 zero7 7 1",
+        b"address,0,2 length,2,2 offset,4,2 levels,6,1 zero7,7,1",
         name,
     )
 }
 
 fn of_property(name: &[u8]) -> Field {
     in_row(
-        b"object 0 1 id 1 1 type 2 1 size 3 1 maximum 4 2 count 6 2 offset 8 2 levels 10 1 zero11 11 1",
+        b"object,0,1 id,1,1 type,2,1 size,3,1 maximum,4,2 count,6,2 offset,8,2 levels,10,1 zero11,11,1",
         name,
     )
 }
 
 fn of_group(name: &[u8]) -> Field {
     in_row(
-        b"address 0 2 code 2 1 flags 3 1 offset 4 2 zero6 6 1 zero7 7 1",
+        b"address,0,2 code,2,1 flags,3,1 offset,4,2 zero6,6,1 zero7,7,1",
         name,
     )
 }

@@ -18,7 +18,6 @@ use lines::after;
 use lines::find;
 use lines::number;
 use lines::part;
-use lines::put;
 use lines::rest;
 use octets::byte;
 
@@ -119,6 +118,9 @@ pub(crate) fn with_words(s: &mut [u8], d: Draft, words: &[u8]) -> Draft {
     while at < words.len() {
         let end = find(words, at, b' ');
         now = with_word(s, now, part(words, at, end));
+        if !now.fine {
+            return now;
+        }
         at = after(words, end);
     }
     now
