@@ -1,0 +1,52 @@
+// Reads a sheet from standard input, and writes OK or the rule that it breaks.
+ghost use lib.ListN.{length};
+ghost use Rattle.sheet_check.specs.Input.{Within};
+use libc::STDIN_FILENO;
+use libc::STDOUT_FILENO;
+
+// How many bytes came before the input ended or the buffer was full, or that a read failed.
+pub enum Input {
+    Bytes(usize),
+    Failed,
+}
+
+fn read_all(buf: &mut [u8]) -> Input
+    ensures { λ r. ⌜ Within r (length (now (buf .exit))) ⌝ }
+{
+    let mut n = 0;
+    while n < buf.len() {
+        let got = libc::read(STDIN_FILENO, &mut buf[n..]);
+        if got < 0 {
+            return Input::Failed;
+        }
+        let more = io::count(got, &buf[n..]);
+        if more == 0 {
+            return Input::Bytes(n);
+        }
+        n += more;
+    }
+    Input::Bytes(n)
+}
+
+fn line(rule: u8) -> [u8; 3] {
+    if rule == 0 {
+        return *b"OK\n";
+    }
+    [b'S', b'0' + rule % 10, b'\n']
+}
+
+fn say(line: &[u8]) {
+    if !io::write_all(STDOUT_FILENO, line) {
+        os::fail(b"sheet_check: standard output");
+    }
+}
+
+// There is room for one byte more than the longest sheet has, so that one that is too long shows.
+fn main() {
+    let mut buf = [0u8; 16385];
+    let input = read_all(&mut buf);
+    match input {
+        Input::Bytes(n) => say(&line(sheet::check(&buf[..n]))),
+        Input::Failed => os::fail(b"sheet_check: standard input"),
+    }
+}

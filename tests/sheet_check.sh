@@ -1,0 +1,111 @@
+#!/usr/bin/env bash
+# sheet_check.sh PROGRAM: runs the built sheet_check on files and pipes, and compares what it writes with what it should.
+set -uo pipefail
+program=$(realpath -e "${1:?usage: sheet_check.sh PROGRAM}") || exit 1
+room=$(mktemp -d)
+trap 'rm -rf "$room"' EXIT
+right=0
+wrong=0
+
+# Programs are for x86-64; on another processor the toolchain's emulator runs them.
+run() {
+    local tools
+    if [ "$(uname -m)" = x86_64 ]; then
+        "$program"
+    else
+        tools=$(dirname "$(rt doc)")/../on/$(uname -m)/toolchain
+        "$tools/bin/qemu-x86_64" "$tools/lib/ld-linux-x86-64.so.2" --library-path "$tools/lib" "$program"
+    fi
+}
+
+# told WHAT STATUS OUT ERR: standard output has OUT and nothing else; standard error has ERR in its one line, or nothing.
+told() {
+    local said
+    said=$(cat "$room/err")
+    if [ "$2" = 0 ] && printf '%b' "$3" | cmp -s - "$room/out" &&
+        { if [ -n "$4" ]; then [ "$(wc -l < "$room/err")" = 1 ] && [[ $said == *"$4"* ]]; else [ -z "$said" ]; fi; }; then
+        right=$((right + 1))
+    else
+        wrong=$((wrong + 1))
+        printf 'sheet_check: %s: expected "%s" and "%s", got "%s" and "%s", status %s\n' \
+            "$1" "$3" "$4" "$(cat "$room/out")" "$said" "$2"
+    fi
+}
+
+# sheet WHAT FILE RULE: a file, and the same bytes by a pipe.
+sheet() {
+    run < "$2" > "$room/out" 2> "$room/err"
+    told "$1" $? "$3\n" ''
+    run < <(cat "$2") > "$room/out" 2> "$room/err"
+    told "$1, by a pipe" $? "$3\n" ''
+}
+
+# slow WHAT FILE PIECE RULE: by a pipe, so many bytes at a time, with pauses.
+slow() {
+    local size at
+    size=$(wc -c < "$2")
+    run < <(for ((at = 0; at < size; at += $3)); do
+        sleep 0.05
+        tail -c "+$((at + 1))" "$2" | head -c "$3"
+    done) > "$room/out" 2> "$room/err"
+    told "$1, slowly" $? "$4\n" ''
+}
+
+hex() { printf '%b' "$(printf '%s' "$@" | sed 's/../\\x&/g')"; }
+zeros() { head -c "$1" /dev/zero; }
+
+cd "$room" || exit 1
+hex 01010101 0045 00C501020304 07B0 02 00 1105 11111111 22222222 FFFFFFFF 0000 \
+    0100 0004 003C 32 00 01 33 84 02 0002 0001 0040 31 00 0801 01 03 0044 0000 A0A1A2A3 03E80000 00 > sample
+: > empty
+{ hex 01000000 0020 && zeros 26; } > least
+{ hex 01010000 4000 && zeros 26 && hex 0000 3FD8 0028 00 00 && zeros 16344; } > most
+
+sheet 'the sample' sample OK
+sheet 'no bytes' empty S1
+sheet '/dev/null' /dev/null S1
+head -c 1 sample > cut
+sheet 'one byte' cut S1
+head -c 31 least > cut
+sheet '31 bytes' cut S1
+sheet '32 bytes, accepted' least OK
+zeros 32 > cut
+sheet '32 bytes, all zero' cut S2
+{ head -c 31 least && hex 01; } > cut
+sheet '32 bytes, the last not zero' cut S5
+{ cat least && zeros 1; } > cut
+sheet '33 bytes' cut S4
+head -c 68 sample > cut
+sheet 'the sample less a byte' cut S4
+head -c 16383 most > cut
+sheet '16,383 bytes' cut S4
+sheet '16,384 bytes, accepted' most OK
+{ hex 02 && tail -c +2 most; } > cut
+sheet '16,384 bytes, edition 2' cut S2
+{ cat most && zeros 1; } > over
+sheet '16,385 bytes' over S1
+{ cat most && zeros 100000; } > cut
+sheet '116,384 bytes' cut S1
+
+slow 'the sample' sample 10 OK
+slow '32 bytes, accepted' least 31 OK
+slow '16,384 bytes' most 4095 OK
+slow '16,385 bytes' over 8192 S1
+run < <(sleep 0.2) > out 2> err
+told 'no bytes, slowly' $? 'S1\n' ''
+
+# a read that fails is no empty sheet
+run <&- > out 2> err
+told 'standard input closed' $? '' 'standard input: Bad file descriptor'
+run < / > out 2> err
+told 'a directory' $? '' 'standard input: Is a directory'
+run 0> cut > out 2> err
+told 'standard input that is for writing' $? '' 'standard input: Bad file descriptor'
+
+# nor is a write that fails passed over
+: > out
+run < sample > /dev/full 2> err
+told 'standard output full' $? '' 'standard output: No space left on device'
+
+echo "sheet_check: $right as expected, $wrong not"
+[ "$wrong" = 0 ]
