@@ -1,11 +1,12 @@
-# make test: everything that is tested and proved. make run: the device layer at work.
+# make test: everything that is tested and proved. make run: the device at work on the sample sheet.
 SHELL := /bin/bash
 .SHELLFLAGS := -euo pipefail -c
-.PHONY: test run tools model
+.PHONY: test run tools model sheet-check
 
 test: tools
 	rt fmt --check
 	$(MAKE) --no-print-directory -s model
+	$(MAKE) --no-print-directory -s sheet-check
 	rt ci
 
 # a missing tool fails the tests
@@ -13,8 +14,15 @@ tools:
 	for t in rt cargo rustc gcc; do command -v $$t > /dev/null || { echo "$$t is missing" >&2; exit 1; }; done
 
 # the plain Rust model of the rules, against the vectors
-model:
+model: tools
 	cd tests/model && cargo test --offline --release --quiet
 
-run:
-	rt check octets
+# the checking program on files and pipes
+sheet-check: tools
+	rt check sheet_check
+	tests/sheet_check.sh target/bin/sheet_check
+
+# the table of cases, as a person reads it
+run: tools
+	rt check device_cases > /dev/null
+	cat crates/device_cases/stdout

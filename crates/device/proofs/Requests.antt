@@ -10,7 +10,7 @@ use Rattle.pdu.specs.declared.Parsed.{Parsed}
 use Rattle.judge.specs.Judge.{dataIn, judgeOf}
 use Rattle.judge.specs.declared.Session.{Session}
 use Rattle.judge.specs.declared.Decision.{Decision}
-use Rattle.device.specs.Carry.{storeOf, turnOf, answerOf, Answered}
+use Rattle.device.specs.Carry.{storeOf, turnOf, answerOf, Filled}
 use Rattle.device.specs.Safe.{StoreSafe, AnswerSafe, Roomy, Safe}
 use Rattle.device.specs.Step.{Step, stepBy, stepOf, Did}
 use Rattle.device.specs.declared.Done.{Done}
@@ -37,7 +37,7 @@ module _ (room : ℕ) (s : List ℕ) (q : Session) (mode group : ℕ) (a d : Lis
       subst (λ (x : List ℕ). AnswerSafe x d (k .answer)) (sym carried) (is-safe .answer),
     )
 
-    module _ (out out′ : List ℕ) (n : ℕ) (q′ : Session) (sent : Answered (answerOf s′ d (k .answer)) n out out′) (turned : q′ ≡ turnOf q (k .turn)) where
+    module _ (out out′ : List ℕ) (n : ℕ) (q′ : Session) (sent : Filled (answerOf s′ d (k .answer)) n out out′) (turned : q′ ≡ turnOf q (k .turn)) where
       abbrev after : Step
       after = record { outcome = k .outcome; answer = answerOf s′ d (k .answer); session = q′; sheet = s′ }
 

@@ -21,7 +21,7 @@ use Rattle.pdu.specs.declared.Written.{Written}
 use Rattle.pdu.specs.declared.Written.the-variants.{Bytes, Refused}
 use Rattle.judge.specs.declared.Answer.{Answer}
 use Rattle.judge.specs.declared.Answer.the-variants as answer
-use Rattle.device.specs.Carry.{Answered, answerOf}
+use Rattle.device.specs.Carry.{Filled, answerOf}
 use Rattle.device.specs.Safe.{AnswerSafe, Roomy}
 
 writes : (p : Pdu) (d o : List ℕ) → 16 ≤ length o → writable p d ≡ true → writeOf p d o ≡ Bytes (dataAt p + length d)
@@ -30,7 +30,7 @@ writes p d o h w = rw (le-ltb (length o) 16 h, w)
 
 pub sent :
     (p : Pdu) (d o e : List ℕ) (r : Written) (n : ℕ) →
-    16 ≤ length o → writable p d ≡ true → Wrote p d o r e → r ≡ Bytes n → Answered (encoded p d) n o e
+    16 ≤ length o → writable p d ≡ true → Wrote p d o r e → r ≡ Bytes n → Filled (encoded p d) n o e
 sent p d o e r n h w q f =
     let g : Bytes n ≡ Bytes (dataAt p + length d) = sym f ∙ q .result ∙ writes p d o h w in
     let k : n ≡ dataAt p + length d = cc in
@@ -41,7 +41,7 @@ sent p d o e r n h w q f =
 
 pub not-refused :
     (p : Pdu) (d o e : List ℕ) (r : Written) (n : ℕ) →
-    16 ≤ length o → writable p d ≡ true → Wrote p d o r e → r ≡ Refused n → Answered (encoded p d) 0 o e
+    16 ≤ length o → writable p d ≡ true → Wrote p d o r e → r ≡ Refused n → Filled (encoded p d) 0 o e
 not-refused p d o e r n h w q f =
     let g : Refused n ≡ Bytes (dataAt p + length d) = sym f ∙ q .result ∙ writes p d o h w in
     let z : _≡_ {A = ℕ} 0 1 = cc in
@@ -59,10 +59,10 @@ pub via-room : (n : ℕ) (r q : Answer) → Roomy n r → r ≡ q → Roomy n q
 via-room n r q h e = subst (λ (x : Answer). Roomy n x) e h
 
 pub via-answer :
-    (s d : List ℕ) (a q : Answer) (r : ℕ) (o e : List ℕ) → a ≡ q → Answered (answerOf s d q) r o e → Answered (answerOf s d a) r o e
-via-answer s d a q r o e f h = subst (λ (x : Answer). Answered (answerOf s d x) r o e) (sym f) h
+    (s d : List ℕ) (a q : Answer) (r : ℕ) (o e : List ℕ) → a ≡ q → Filled (answerOf s d q) r o e → Filled (answerOf s d a) r o e
+via-answer s d a q r o e f h = subst (λ (x : Answer). Filled (answerOf s d x) r o e) (sym f) h
 
-pub silence : (s d : List ℕ) (a : Answer) (o : List ℕ) → a ≡ answer.Silence → Answered (answerOf s d a) 0 o o
+pub silence : (s d : List ℕ) (a : Answer) (o : List ℕ) → a ≡ answer.Silence → Filled (answerOf s d a) 0 o o
 silence s d a o f = via-answer s d a answer.Silence 0 o o f (record { count = refl; holds = sym (splice-none o 0) })
 
 pub number-room : (w x : ℕ) (b b′ : List ℕ) → b′ ≡ splice b 0 (bytesOf w x) → w ≡ length (take w b′)
@@ -74,9 +74,9 @@ number-allowed p w x b b′ e h = ap (writable p) (number-front w x b b′ e) �
 
 pub number-sent :
     (p : Pdu) (w x r : ℕ) (b b′ o e : List ℕ) →
-    b′ ≡ splice b 0 (bytesOf w x) → Answered (encoded p (take w b′)) r o e → Answered (encoded p (bytesOf w x)) r o e
+    b′ ≡ splice b 0 (bytesOf w x) → Filled (encoded p (take w b′)) r o e → Filled (encoded p (bytesOf w x)) r o e
 number-sent p w x r b b′ o e f h =
-    subst (λ (d : List ℕ). Answered (encoded p d) r o e) (number-front w x b b′ f) h
+    subst (λ (d : List ℕ). Filled (encoded p d) r o e) (number-front w x b b′ f) h
 
 -- bytes of the sheet, as a part from `at` to `at + n` has them
 pub sheet-allowed :
@@ -85,7 +85,7 @@ sheet-allowed p s at n h = rw (add-sub-cancel-left at n) h
 
 pub via-sheet :
     (s d : List ℕ) (a : Answer) (p : Pdu) (at n r : ℕ) (o e : List ℕ) →
-    a ≡ answer.Sheet p at n → Answered (encoded p (take (at + n - at) (drop at s))) r o e → Answered (answerOf s d a) r o e
+    a ≡ answer.Sheet p at n → Filled (encoded p (take (at + n - at) (drop at s))) r o e → Filled (answerOf s d a) r o e
 via-sheet s d a p at n r o e f h =
     via-answer s d a (answer.Sheet p at n) r o e f
-    (subst (λ (k : ℕ). Answered (encoded p (take k (drop at s))) r o e) (add-sub-cancel-left at n) h)
+    (subst (λ (k : ℕ). Filled (encoded p (take k (drop at s))) r o e) (add-sub-cancel-left at n) h)

@@ -49,6 +49,6 @@ answerOf s d (answer.Sheet p at n) = encoded p (take n (drop at s))
 answerOf s d (answer.Echo p) = encoded p d
 
 -- r bytes of an answer stand in front of the buffer, whose rest is as found
-pub record Answered (bytes : List ℕ) (r : ℕ) (out out′ : List ℕ) : Type 0 where
+pub record Filled (bytes : List ℕ) (r : ℕ) (out out′ : List ℕ) : Type 0 where
   pub count : r ≡ length bytes
   pub holds : out′ ≡ splice out 0 bytes

@@ -8,13 +8,13 @@ ghost use Prim.Native.Nat.{_≤_};
 ghost use lib.ListN.{length};
 ghost use Rattle.octets.specs.Bytes.{bytesOf};
 ghost use Rattle.pdu.specs.Write.{writable, encoded};
-ghost use Rattle.device.specs.Carry.{answerOf, Answered};
+ghost use Rattle.device.specs.Carry.{answerOf, Filled};
 ghost use Rattle.device.specs.Safe.{AnswerSafe, Roomy};
 
 // A PDU with data that its row allows.
 fn send(out: &mut [u8], p: Pdu, d: &[u8]) -> usize
     requires { ⌜ (16 ≤ length (now out)) × (writable p (now d) ≡ true) ⌝ }
-    ensures { λ r. ⌜ Answered (encoded p (now (d .entry))) r (now (out .entry)) (now (out .exit)) ⌝ }
+    ensures { λ r. ⌜ Filled (encoded p (now (d .entry))) r (now (out .entry)) (now (out .exit)) ⌝ }
 {
     let w = pdu::write(p, d, out);
     match w {
@@ -26,7 +26,7 @@ fn send(out: &mut [u8], p: Pdu, d: &[u8]) -> usize
 // A PDU whose data is a number.
 fn send_number(out: &mut [u8], p: Pdu, width: usize, x: u64) -> usize
     requires { ⌜ (16 ≤ length (now out)) × (width ≤ 6) × (writable p (bytesOf width x) ≡ true) ⌝ }
-    ensures { λ r. ⌜ Answered (encoded p (bytesOf width x)) r (now (out .entry)) (now (out .exit)) ⌝ }
+    ensures { λ r. ⌜ Filled (encoded p (bytesOf width x)) r (now (out .entry)) (now (out .exit)) ⌝ }
 {
     let mut b = [0u8; 6];
     octets::put(&mut b, 0, width, x);
@@ -36,7 +36,7 @@ fn send_number(out: &mut [u8], p: Pdu, width: usize, x: u64) -> usize
 // The answer in front of the buffer, s being the sheet after the stores.
 pub fn answer(out: &mut [u8], a: Answer, s: &[u8], d: &[u8]) -> usize
     requires { ⌜ Roomy (length (now out)) a × AnswerSafe (now s) (now d) a ⌝ }
-    ensures { λ r. ⌜ Answered (answerOf (now (s .entry)) (now (d .entry)) a) r (now (out .entry)) (now (out .exit)) ⌝ }
+    ensures { λ r. ⌜ Filled (answerOf (now (s .entry)) (now (d .entry)) a) r (now (out .entry)) (now (out .exit)) ⌝ }
 {
     match a {
         Answer::Silence => 0,
