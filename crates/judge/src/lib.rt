@@ -29,6 +29,7 @@ use pdu::Pdu;
 use services::decide;
 
 // A connection: open or closed, and the level as found.
+#[repr(C)]
 pub struct Session {
     pub opened: bool,
     pub level: u8,

@@ -27,3 +27,4 @@ pub mod Finds
 pub mod Mild
 pub mod Counts
 pub mod Stores
+pub mod Parts

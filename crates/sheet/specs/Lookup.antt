@@ -4,7 +4,7 @@ use Prim.Native.Nat.{ℕ, zero, suc, _+_, _*_, _-_}
 use mathlib.Core.Path.{_≡_}
 use mathlib.Core.List.{List, []}
 use mathlib.Core.Bool.{Bool, true, false, _&&_}
-use lib.ListN.{take, drop}
+use lib.ListN.{length, take, drop}
 use lib.Dec.{ltb, leb, eqb}
 use denote.Ref.{RefT}
 use Rattle.sheet.specs.Demand.{pick}
@@ -14,6 +14,7 @@ use Rattle.sheet.specs.Region as region
 use Rattle.sheet.specs.Property as property
 use Rattle.sheet.specs.Rules.{ruleOf}
 use Rattle.sheet.specs.Entries.{count, entry, keyOf, offsetOf, lengthOf}
+use Rattle.sheet.specs.declared.Part.{Part}
 use Rattle.sheet.specs.declared.Run.{Run}
 use Rattle.sheet.specs.declared.Run.the-variants.{At, Nowhere}
 
@@ -50,6 +51,12 @@ pub record PartOf (s r : RefT (List ℕ)) (bytes : List ℕ) (from : ℕ) : Type
   pub is : r .now ≡ bytes
   pub block : r .ptr .0 ≡ s .ptr .0
   pub place : r .ptr .1 ≡ s .ptr .1 + from
+
+-- the same for one who is told numbers: r says from where on these bytes stand in s, and how many they are
+pub record StandsIn (s : List ℕ) (r : Part) (bytes : List ℕ) (from : ℕ) : Type 0 where
+  pub is : take (r .length) (drop (r .offset) s) ≡ bytes
+  pub long : r .length ≡ length bytes
+  pub place : r .offset ≡ from
 
 -- WHAT THE LOOKUPS HAND BACK, and from where
 abbrev pub regionOf : List ℕ → ℕ → List ℕ

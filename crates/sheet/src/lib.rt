@@ -6,6 +6,7 @@ mod layout;
 mod lookup;
 mod memory;
 mod records;
+mod stands;
 mod table;
 mod walk;
 
@@ -28,7 +29,17 @@ pub use records::group_entry;
 pub use records::nth;
 pub use records::property_entry;
 pub use records::rank;
+pub use stands::group_part;
+pub use stands::property_part;
+pub use stands::region_part;
 pub use walk::check;
+
+// Where a value stands in the sheet, in numbers: 0 and 0 if there is none.
+#[repr(C)]
+pub struct Part {
+    pub offset: usize,
+    pub length: usize,
+}
 
 // A run of sheet bytes that an address range is, with the levels that it stands under.
 pub enum Run {

@@ -1,0 +1,134 @@
+// The C interface of the device: the calls of include/kelindap.h, those on a session in place.
+ghost use mathlib.Core.Path.{_≡_};
+ghost use Rattle.octets.specs.Splice.{splice};
+ghost use Rattle.sheet.specs.Rules.{ruleOf};
+ghost use Rattle.sheet.specs.Lookup.{StandsIn, regionOf, regionFrom, propertyOf, propertyFrom, groupOf, groupFrom};
+ghost use Rattle.device.specs.Events.{freshOf, connectOf, disconnectOf, Pressed};
+ghost use Rattle.host.specs.Calls.{stepIn, replyOf, repliedOf};
+use judge::Session;
+use sheet::Part;
+
+// What a request gave: its outcome, and how many bytes of the answer buffer were filled.
+#[repr(C)]
+pub struct Reply {
+    pub outcome: u8,
+    pub count: u8,
+}
+
+// The same with the session afterwards.
+pub struct Replied {
+    pub outcome: u8,
+    pub count: u8,
+    pub session: Session,
+}
+
+// A session that nobody has connected to.
+#[no_mangle]
+pub extern "C" fn kelindap_fresh() -> Session
+    ensures { λ r. ⌜ r ≡ freshOf ⌝ }
+{
+    device::fresh()
+}
+
+// Open at level 3, whatever it was.
+#[no_mangle]
+pub extern "C" fn kelindap_connect(session: &mut Session) -> u8
+    ensures { λ r. ⌜ (r ≡ 1) × (now (session .exit) ≡ connectOf) ⌝ }
+{
+    *session = device::connect(*session);
+    1
+}
+
+// Closed at level 3, whatever it was.
+#[no_mangle]
+pub extern "C" fn kelindap_disconnect(session: &mut Session) -> u8
+    ensures { λ r. ⌜ (r ≡ 1) × (now (session .exit) ≡ disconnectOf) ⌝ }
+{
+    *session = device::disconnect(*session);
+    1
+}
+
+// The programming button.
+#[no_mangle]
+pub extern "C" fn kelindap_button(sheet: &mut [u8], on: bool) -> u8
+    ensures { λ r. ⌜ Pressed (now (sheet .entry)) on r (now (sheet .exit)) ⌝ }
+{
+    device::button(sheet, on)
+}
+
+// A request with the session by value.
+fn request(
+    session: Session,
+    mode: u8,
+    group: u16,
+    apdu: &[u8],
+    sheet: &mut [u8],
+    answer: &mut [u8],
+) -> Replied
+    ensures result { λ r. ⌜ r ≡ repliedOf (stepIn session mode group (now (apdu .entry)) (now (sheet .entry)) (now (answer .entry))) ⌝ }
+    ensures stored { λ r. ⌜ now (sheet .exit) ≡ stepIn session mode group (now (apdu .entry)) (now (sheet .entry)) (now (answer .entry)) .sheet ⌝ }
+    ensures filled { λ r. ⌜ now (answer .exit) ≡ splice (now (answer .entry)) 0 (stepIn session mode group (now (apdu .entry)) (now (sheet .entry)) (now (answer .entry)) .answer) ⌝ }
+{
+    let d = device::request(session, mode, group, apdu, sheet, answer);
+    let next = d.session;
+    Replied {
+        outcome: d.outcome,
+        count: d.count as u8,
+        session: next,
+    }
+}
+
+// A request in place: the session becomes what the step makes of it.
+#[no_mangle]
+pub extern "C" fn kelindap_request(
+    session: &mut Session,
+    mode: u8,
+    group: u16,
+    apdu: &[u8],
+    sheet: &mut [u8],
+    answer: &mut [u8],
+) -> Reply
+    ensures { λ r. ⌜ (r ≡ replyOf (stepIn (now (session .entry)) mode group (now (apdu .entry)) (now (sheet .entry)) (now (answer .entry))))
+        × (now (session .exit) ≡ stepIn (now (session .entry)) mode group (now (apdu .entry)) (now (sheet .entry)) (now (answer .entry)) .session)
+        × (now (sheet .exit) ≡ stepIn (now (session .entry)) mode group (now (apdu .entry)) (now (sheet .entry)) (now (answer .entry)) .sheet)
+        × (now (answer .exit) ≡ splice (now (answer .entry)) 0 (stepIn (now (session .entry)) mode group (now (apdu .entry)) (now (sheet .entry)) (now (answer .entry)) .answer)) ⌝ }
+{
+    let d = request(*session, mode, group, apdu, sheet, answer);
+    *session = d.session;
+    Reply {
+        outcome: d.outcome,
+        count: d.count,
+    }
+}
+
+// The first rule that the sheet breaks, or 0.
+#[no_mangle]
+pub extern "C" fn kelindap_check(sheet: &[u8]) -> u8
+    ensures { λ r. ⌜ r ≡ ruleOf (now (sheet .entry)) ⌝ }
+{
+    sheet::check(sheet)
+}
+
+// Where the body of a property stands.
+#[no_mangle]
+pub extern "C" fn kelindap_property(sheet: &[u8], object: u8, id: u8) -> Part
+    ensures { λ r. ⌜ StandsIn (now (sheet .entry)) r (propertyOf (now (sheet .entry)) object id) (propertyFrom (now (sheet .entry)) object id) ⌝ }
+{
+    sheet::property_part(sheet, object, id)
+}
+
+// Where the body of region k stands, counted from 0.
+#[no_mangle]
+pub extern "C" fn kelindap_region(sheet: &[u8], k: usize) -> Part
+    ensures { λ r. ⌜ StandsIn (now (sheet .entry)) r (regionOf (now (sheet .entry)) k) (regionFrom (now (sheet .entry)) k) ⌝ }
+{
+    sheet::region_part(sheet, k)
+}
+
+// Where the body of a group object stands.
+#[no_mangle]
+pub extern "C" fn kelindap_group(sheet: &[u8], address: u16) -> Part
+    ensures { λ r. ⌜ StandsIn (now (sheet .entry)) r (groupOf (now (sheet .entry)) address) (groupFrom (now (sheet .entry)) address) ⌝ }
+{
+    sheet::group_part(sheet, address)
+}

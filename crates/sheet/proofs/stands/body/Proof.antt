@@ -1,0 +1,18 @@
+-- `sheet::stands::body` meets its contract.
+-- Assumes nothing.
+use borrow.Author.Needs.{needs}
+use Rattle.sheet.proofs.Seek.{ok-framed, ok-entry}
+use Rattle.sheet.proofs.Parts.{no-part, the-part}
+use Rattle.sheet.proofs.stands.body.Statement.{statement}
+use Rattle.sheet.proofs.stands.body.Tie as tie
+
+pub body-spec : {M : Type 1} → statement M
+body-spec =
+    tie.close
+    (tie.spec
+    (λ c κs. search ok-framed)
+    (λ c. search no-part)
+    (λ c κs. search ok-entry)
+    (λ c κs. search needs)
+    (λ c κs. search needs)
+    (λ c. search the-part))

@@ -1,0 +1,15 @@
+-- `sheet::stands::value` meets its contract.
+-- Assumes nothing.
+use borrow.Author.Needs.{needs}
+use Rattle.sheet.proofs.Parts.{no-sheet, in-sheet}
+use Rattle.sheet.proofs.stands.value.Statement.{statement}
+use Rattle.sheet.proofs.stands.value.Tie as tie
+
+pub value-spec : {M : Type 1} → statement M
+value-spec =
+    tie.close
+    (tie.spec
+    (λ c κs. search needs)
+    (λ c. search no-sheet)
+    (λ c κs. search needs)
+    (λ c. search in-sheet))

@@ -1,0 +1,72 @@
+-- A PDU laid flat means that PDU, and its kind is its place in the table.
+-- Assumes nothing.
+use mathlib.Core.Path.{_≡_, refl}
+use mathlib.Core.List.{List}
+use mathlib.Core.Option.{some}
+use Prim.Native.Nat.{ℕ}
+use lib.ListN.{getElem?}
+use Rattle.pdu.specs.Table.{services}
+use Rattle.pdu.specs.declared.Service.{Service}
+use Rattle.pdu.specs.declared.Service.the-variants as svc
+use Rattle.pdu.specs.declared.Pdu.{Pdu}
+use Rattle.pdu.specs.declared.Pdu.the-variants.{GroupValueRead, GroupValueResponse, GroupValueWrite, IndividualAddressWrite, IndividualAddressRead, SerialNumberRead, SerialNumberWrite, DeviceDescriptorRead, PropertyValueRead, PropertyValueWrite, PropertyDescriptionRead, MemoryRead, MemoryWrite, MemoryBitWrite, AuthorizeRequest, KeyWrite, Restart, IndividualAddressResponse, SerialNumberResponse, DeviceDescriptorResponse, PropertyValueResponse, PropertyDescriptionResponse, MemoryResponse, AuthorizeResponse, KeyResponse}
+use Rattle.tool.specs.Flat.{placeIn, kindOf, flatOf, meantBy}
+use Rattle.tool.specs.declared.Meant.the-variants.{Known}
+
+-- THE SERVICE AT THE PLACE OF ITS KIND
+pub kind-is : (k : Service) → getElem? services (kindOf k) ≡ some k
+unfolding kindOf placeIn
+kind-is svc.GroupValueRead = refl
+kind-is svc.GroupValueResponse = refl
+kind-is svc.GroupValueWrite = refl
+kind-is svc.IndividualAddressWrite = refl
+kind-is svc.IndividualAddressRead = refl
+kind-is svc.SerialNumberRead = refl
+kind-is svc.SerialNumberWrite = refl
+kind-is svc.DeviceDescriptorRead = refl
+kind-is svc.PropertyValueRead = refl
+kind-is svc.PropertyValueWrite = refl
+kind-is svc.PropertyDescriptionRead = refl
+kind-is svc.MemoryRead = refl
+kind-is svc.MemoryWrite = refl
+kind-is svc.MemoryBitWrite = refl
+kind-is svc.AuthorizeRequest = refl
+kind-is svc.KeyWrite = refl
+kind-is svc.Restart = refl
+kind-is svc.IndividualAddressResponse = refl
+kind-is svc.SerialNumberResponse = refl
+kind-is svc.DeviceDescriptorResponse = refl
+kind-is svc.PropertyValueResponse = refl
+kind-is svc.PropertyDescriptionResponse = refl
+kind-is svc.MemoryResponse = refl
+kind-is svc.AuthorizeResponse = refl
+kind-is svc.KeyResponse = refl
+
+-- THERE AND BACK
+pub means : (p : Pdu) (l : List ℕ) → meantBy (flatOf p l) ≡ Known p
+unfolding meantBy kindOf placeIn
+means GroupValueRead l = refl
+means (GroupValueResponse a) l = refl
+means (GroupValueWrite a) l = refl
+means (IndividualAddressWrite a) l = refl
+means IndividualAddressRead l = refl
+means (SerialNumberRead a) l = refl
+means (SerialNumberWrite a b) l = refl
+means (DeviceDescriptorRead a) l = refl
+means (PropertyValueRead a b c d) l = refl
+means (PropertyValueWrite a b c d) l = refl
+means (PropertyDescriptionRead a b c) l = refl
+means (MemoryRead a b) l = refl
+means (MemoryWrite a b) l = refl
+means (MemoryBitWrite a b) l = refl
+means (AuthorizeRequest a) l = refl
+means (KeyWrite a b) l = refl
+means Restart l = refl
+means IndividualAddressResponse l = refl
+means (SerialNumberResponse a b) l = refl
+means (DeviceDescriptorResponse a) l = refl
+means (PropertyValueResponse a b c d) l = refl
+means (PropertyDescriptionResponse a b c d e f) l = refl
+means (MemoryResponse a b) l = refl
+means (AuthorizeResponse a) l = refl
+means (KeyResponse a) l = refl
