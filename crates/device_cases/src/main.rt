@@ -1,0 +1,219 @@
+// Plays the cases on standard input against the device. A line that starts with # or is empty is copied.
+//   sheet HEX HEX ..    the sheet that each case from here on starts from, in any number of pieces
+//   at WORDS : EVENT -> OUTCOME ANSWER CHANGES | SOURCE
+//                       a case on that sheet: the words set it up (setup.rt), the event is played (play.rt), and what it
+//                       gives is compared with what is wanted (want.rt): outcome, answer, session, and every byte of the
+//                       sheet and of the answer buffer
+//   then WORDS : ..     the same on the sheet and in the session that the case before left
+// Each case is written after `ok`, or after DIFFERENT with what it gave and what was wanted, and in the end how many there were.
+use check::same;
+use device::Done;
+use libc::STDIN_FILENO;
+use lines::Tally;
+use lines::after;
+use lines::find;
+use lines::part;
+use lines::put_all;
+use lines::rest;
+use lines::say;
+use lines::told;
+use lines::word;
+use play::is_event;
+use play::play;
+use setup::Setup;
+use setup::found;
+use setup::with_words;
+use show::put_state;
+use want::Want;
+use want::is_wanted;
+use want::wanted;
+
+mod hex;
+mod play;
+mod setup;
+mod show;
+mod want;
+
+// How long the sheet is, the session that the last case left, and the cases so far.
+struct State {
+    len: usize,
+    opened: bool,
+    level: u8,
+    tally: Tally,
+}
+
+fn with_tally(t: State, tally: Tally) -> State {
+    State {
+        len: t.len,
+        opened: t.opened,
+        level: t.level,
+        tally: tally,
+    }
+}
+
+fn unclear(line: &[u8], t: State) -> State {
+    let old = t.tally;
+    with_tally(t, told(old, line, b"", b"line not understood"))
+}
+
+// A case that gave something else: what it gave, and what was wanted.
+fn differs(line: &[u8], given: &[u8], wanted: &[u8], tally: Tally) -> Tally {
+    let next = told(tally, line, b"", given);
+    say(b"   and not ", wanted);
+    next
+}
+
+// What was given, compared with what was wanted.
+fn compared(
+    line: &[u8],
+    base: &[u8],
+    s: &[u8],
+    out: &[u8],
+    d: Done,
+    w: &[u8],
+    answer: &[u8],
+    want: Want,
+    tally: Tally,
+) -> Tally {
+    let q = d.session;
+    if is_wanted(want, d.outcome, d.count, q.opened, q.level) {
+        if same(out, answer) {
+            if same(s, w) {
+                return told(tally, line, b"", b"");
+            }
+        }
+    }
+    let mut a = [0u8; 2048];
+    let n = put_state(&mut a, d.outcome, out, q.opened, q.level, base, s);
+    let mut b = [0u8; 2048];
+    let m = put_state(
+        &mut b,
+        want.outcome,
+        answer,
+        want.opened,
+        want.level,
+        base,
+        w,
+    );
+    differs(line, part(&a, 0, n), part(&b, 0, m), tally)
+}
+
+// The event of a case that is set up, played.
+fn played(
+    line: &[u8],
+    colon: usize,
+    base: &[u8],
+    s: &mut [u8],
+    w: &mut [u8],
+    q: Setup,
+    t: State,
+) -> State {
+    let arrow = find(line, colon, b'>');
+    let event = word(rest(line, colon), 1);
+    let mut answer = [0xEEu8; 20];
+    let expected = part(line, after(line, arrow), find(line, arrow, b'|'));
+    let want = wanted(expected, q, w, t.len, &mut answer);
+    if !want.fine {
+        return unclear(line, t);
+    }
+    if !is_event(event) {
+        return unclear(line, t);
+    }
+    let mut out = [0xEEu8; 20];
+    let d = play(q, event, s, t.len, &mut out);
+    let old = t.tally;
+    let tally = compared(line, base, s, &out, d, w, &answer, want, old);
+    let left = d.session;
+    State {
+        len: t.len,
+        opened: left.opened,
+        level: left.level,
+        tally: tally,
+    }
+}
+
+// A case set up.
+fn with_case(line: &[u8], base: &[u8], s: &mut [u8], w: &mut [u8], q: Setup, t: State) -> State {
+    let colon = find(line, 0, b':');
+    let now = with_words(s, t.len, q, part(line, find(line, 0, b' '), colon));
+    if !now.fine {
+        return unclear(line, t);
+    }
+    put_all(w, 0, s);
+    played(line, colon, base, s, w, now, t)
+}
+
+// A sheet to start from.
+fn with_sheet(line: &[u8], base: &mut [u8], t: State) -> State {
+    let n = hex::joined(base, rest(line, 6));
+    if n == 0 {
+        return unclear(line, t);
+    }
+    say(b"", line);
+    let tally = t.tally;
+    State {
+        len: n,
+        opened: t.opened,
+        level: t.level,
+        tally: tally,
+    }
+}
+
+fn with_words_of(line: &[u8], base: &mut [u8], s: &mut [u8], w: &mut [u8], t: State) -> State {
+    let first = word(line, 0);
+    if same(first, b"sheet") {
+        return with_sheet(line, base, t);
+    }
+    if same(first, b"at") {
+        put_all(s, 0, base);
+        return with_case(line, base, s, w, found(true, 3, false), t);
+    }
+    if same(first, b"then") {
+        return with_case(line, base, s, w, found(t.opened, t.level, true), t);
+    }
+    unclear(line, t)
+}
+
+fn with_line(line: &[u8], base: &mut [u8], s: &mut [u8], w: &mut [u8], t: State) -> State {
+    if line.len() == 0 {
+        say(b"", line);
+        return t;
+    }
+    if line[0] == b'#' {
+        say(b"", line);
+        return t;
+    }
+    with_words_of(line, base, s, w, t)
+}
+
+fn with_all(text: &[u8], base: &mut [u8], s: &mut [u8], w: &mut [u8]) -> Tally {
+    let mut t = State {
+        len: 0,
+        opened: false,
+        level: 3,
+        tally: Tally {
+            cases: 0,
+            different: 0,
+        },
+    };
+    let mut at = 0;
+    while at < text.len() {
+        let end = find(text, at, b'\n');
+        t = with_line(part(text, at, end), base, s, w, t);
+        at = after(text, end);
+    }
+    t.tally
+}
+
+fn main() {
+    let mut text = io::large_buffer();
+    let n = io::read_full(STDIN_FILENO, &mut text);
+    let mut base = [0u8; 256];
+    let mut s = [0u8; 256];
+    let mut w = [0u8; 256];
+    let tally = with_all(&text[..n], &mut base, &mut s, &mut w);
+    lines::end(tally);
+    if n == 65536 {
+        say(b"", b"there may be more cases than that");
+    }
+}
