@@ -12,6 +12,6 @@ turned-spec =
     (λ c. search needs)
     (λ c. search needs)
     (λ c. search needs)
-    (λ c. search needs)
+    (λ c. search via-turn)
     (λ c. search via-turn)
     (λ c. search via-turn))
