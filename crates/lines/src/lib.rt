@@ -1,6 +1,5 @@
 // Lines of text in lent slices, for programs of cases. Each function takes any place: a part that is not there is empty, and
 // what does not fit is left out.
-
 mod out;
 mod tally;
 mod value;

@@ -8,7 +8,7 @@ pub struct Tally {
     pub different: u64,
 }
 
-// A case is written with what it should give; where that is not what it gave, so is that.
+// One case more: its line, which says what it should give, and what it gave where that is something else.
 pub fn told(t: Tally, line: &[u8], want: &[u8], got: &[u8]) -> Tally {
     let cases = wrapping_add_u64(t.cases, 1);
     if check::same(want, got) {
