@@ -159,7 +159,8 @@ fn with_sheet(line: &[u8], base: &mut [u8], t: State) -> State {
     }
 }
 
-fn with_words_of(line: &[u8], base: &mut [u8], s: &mut [u8], w: &mut [u8], t: State) -> State {
+// A line by its first word.
+fn by_word(line: &[u8], base: &mut [u8], s: &mut [u8], w: &mut [u8], t: State) -> State {
     let first = word(line, 0);
     if same(first, b"sheet") {
         return with_sheet(line, base, t);
@@ -183,7 +184,7 @@ fn with_line(line: &[u8], base: &mut [u8], s: &mut [u8], w: &mut [u8], t: State)
         say(b"", line);
         return t;
     }
-    with_words_of(line, base, s, w, t)
+    by_word(line, base, s, w, t)
 }
 
 fn with_all(text: &[u8], base: &mut [u8], s: &mut [u8], w: &mut [u8]) -> Tally {
