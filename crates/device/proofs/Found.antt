@@ -7,7 +7,7 @@ use native.Mathlib.Omega.{arith}
 use Rattle.pdu.specs.declared.Pdu.the-variants.{PropertyValueRead, PropertyValueWrite, MemoryRead, MemoryWrite, MemoryBitWrite}
 use Rattle.device.specs.Asked.{Asked, Reads}
 use Rattle.device.specs.Right.{Readable, MemoryReadable}
-use Rattle.device.specs.Next.{Answered, Next, SameAnswer}
+use Rattle.device.specs.Next.{Confirmed, Next, SameAnswer}
 use Rattle.device.proofs.RightMemory.{writing, bit-writing}
 use Rattle.device.proofs.Carried.{carried, ready-next}
 use Rattle.device.proofs.FoundProperties.{property-same-answer}
@@ -20,7 +20,7 @@ either-low (inr e) = omega arith
 module _ (x y : Asked) where
   -- ELEMENTS OF A PROPERTY, OR ITS COUNT
   pub property-found :
-      (object id n s i : ℕ) → Answered x (PropertyValueWrite object id n s) → Next x y (PropertyValueRead object id n s) →
+      (object id n s i : ℕ) → Confirmed x (PropertyValueWrite object id n s) → Next x y (PropertyValueRead object id n s) →
       Readable y object id i → SameAnswer x y
   property-found object id n s i w next may =
       let r : Reads x (PropertyValueWrite object id n s) = carried x _ (w .reads) (omega (arith, w .outcome)) in
@@ -28,14 +28,14 @@ module _ (x y : Asked) where
 
   -- A RANGE OF MEMORY
   pub memory-found :
-      (n address i : ℕ) → Answered x (MemoryWrite n address) → Next x y (MemoryRead n address) → MemoryReadable y n address i → SameAnswer x y
+      (n address i : ℕ) → Confirmed x (MemoryWrite n address) → Next x y (MemoryRead n address) → MemoryReadable y n address i → SameAnswer x y
   memory-found n address i w next may =
       let r : Reads x (MemoryWrite n address) = carried x _ (w .reads) (omega (arith, w .outcome)) in
       memory-same-answer x y _ n address _ (writing x n address r) r (ready-next x y _ _ r next (omega (arith, next .takes))) (next .sheet) i may (w .outcome)
 
   -- OR BITS OF IT
   pub bits-found :
-      (n address i : ℕ) → Answered x (MemoryBitWrite n address) → Next x y (MemoryRead n address) → MemoryReadable y n address i → SameAnswer x y
+      (n address i : ℕ) → Confirmed x (MemoryBitWrite n address) → Next x y (MemoryRead n address) → MemoryReadable y n address i → SameAnswer x y
   bits-found n address i w next may =
       let r : Reads x (MemoryBitWrite n address) = carried x _ (w .reads) (omega (arith, w .outcome)) in
       memory-same-answer x y _ n address _ (bit-writing x n address) r (ready-next x y _ _ r next (omega (arith, next .takes))) (next .sheet) i may (w .outcome)

@@ -11,8 +11,8 @@ use Rattle.judge.specs.Session.{connected}
 use Rattle.device.specs.Asked.{Asked, Takes}
 use Rattle.device.specs.Demand2.{done}
 
--- x reads as p and is carried out with an answer
-pub record Answered (x : Asked) (p : Pdu) : Type 0 where
+-- x reads as p, is carried out and answered
+pub record Confirmed (x : Asked) (p : Pdu) : Type 0 where
   pub reads : readPdu (x .apdu) ≡ Is p
   pub outcome : done x .outcome ≡ 0
 
