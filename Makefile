@@ -1,12 +1,14 @@
 # make test: everything that is tested and proved. make run: the device at work on the sample sheet.
 SHELL := /bin/bash
 .SHELLFLAGS := -euo pipefail -c
-.PHONY: test run tools model sheet-check
+.DEFAULT_GOAL := test
+.PHONY: test tools model sheet-check
 
 test: tools
 	rt fmt --check
 	$(MAKE) --no-print-directory -s model
 	$(MAKE) --no-print-directory -s sheet-check
+	$(MAKE) --no-print-directory -s test-unit test-c
 	rt ci
 
 # a missing tool fails the tests
@@ -22,7 +24,4 @@ sheet-check: tools
 	rt check sheet_check
 	tests/sheet_check.sh target/bin/sheet_check
 
-# the table of cases, as a person reads it
-run: tools
-	rt check device_cases > /dev/null
-	cat crates/device_cases/stdout
+include mk/hosts.mk
