@@ -1,0 +1,27 @@
+-- `pdu_cases::text::put_all` is safe and ends: the place rises to the end.
+-- Assumes nothing.
+use Prim.Native.Nat.{_≤_, _-_}
+use borrow.Author.Needs.{needs}
+use lib.ListN.{length}
+use Rattle.pdu_cases.proofs.text.put_all.Statement.{statement}
+use Rattle.pdu_cases.proofs.text.put_all.Tie as tie
+
+abbrev Inv-loop : tie.InvT-loop
+Inv-loop s to₀ i₀ to i = i ≤ length s
+
+abbrev μ-loop : tie.MeasureT-loop
+μ-loop s to₀ i₀ to i = length s - i
+
+pub put-all-spec : {M : Type 1} → statement M
+put-all-spec =
+    tie.close
+    (tie.spec
+    Inv-loop
+    μ-loop
+    (λ c. search needs)
+    (λ c. search needs)
+    (λ c κs. search needs)
+    (λ c. search needs)
+    (λ c. search needs)
+    (λ c. search needs)
+    (λ c. search needs))

@@ -1,0 +1,28 @@
+-- `pdu_cases::with_all` is safe and ends: the place rises to the end.
+-- Assumes nothing.
+use Prim.Native.Nat.{_≤_, _-_}
+use borrow.Author.Needs.{needs}
+use lib.ListN.{length}
+use Rattle.pdu_cases.proofs.with_all.Statement.{statement}
+use Rattle.pdu_cases.proofs.with_all.Tie as tie
+
+abbrev Inv-loop : tie.InvT-loop
+Inv-loop s t₀ i₀ t i = i ≤ length s
+
+abbrev μ-loop : tie.MeasureT-loop
+μ-loop s t₀ i₀ t i = length s - i
+
+pub with-all-spec : {M : Type 1} → statement M
+with-all-spec =
+    tie.close
+    (tie.spec
+    Inv-loop
+    μ-loop
+    (λ c. search needs)
+    (λ c. search needs)
+    (λ c κs. search needs)
+    (λ c. search needs)
+    (λ c. search needs)
+    (λ c. search needs)
+    (λ c κs. search needs)
+    (λ c. search needs))
