@@ -186,8 +186,10 @@ static void give_hash(void)
 
 static void give_session(void)
 {
-    give_number(session.open, 1);
-    give_number(session.level, 1);
+    /* as it stands in memory: a bool that is neither 0 nor 1 would be seen */
+    uint8_t raw[sizeof session];
+    memcpy(raw, &session, sizeof raw);
+    give(raw, sizeof raw);
 }
 
 static void give_rule(void)

@@ -3,6 +3,7 @@
 //!     compare BRIDGE [EVENTS [SEED]]     plays the events on both sides
 //!     compare BRIDGE --faults [SEED]     the model's faults are each found
 //!
+//! With SHOW in the environment each fault is shown as a difference would be.
 //! BRIDGE is the program of bridge.c. Everything it replies is compared: the
 //! rule of each sheet, outcome, count, session, the whole answer buffer and a
 //! hash of the whole sheet after each event, lookups, PDUs read and written.
@@ -10,6 +11,7 @@
 mod flat;
 mod make;
 mod play;
+mod shrink;
 mod tally;
 
 use std::io::{Read, Write};
@@ -48,7 +50,10 @@ impl Bridge {
             .stdin(Stdio::piped())
             .stdout(Stdio::piped())
             .spawn()
-            .unwrap_or_else(|e| panic!("{program} can't be run: {e}"));
+            .unwrap_or_else(|e| {
+                eprintln!("compare: {program} can't be run: {e}");
+                std::process::exit(2)
+            });
         let mut input = child.stdin.take().unwrap();
         let replies = child.stdout.take().unwrap();
         let (commands, queue) = mpsc::channel::<Vec<u8>>();
@@ -164,47 +169,77 @@ fn run(
     }
 }
 
-/// Plays the batch once more, one event at a time, and prints the first
-/// difference as lines that the desk unit takes.
+/// One event on a bridge: the replies of the model and of the library, which
+/// is too short if the bridge ended, and the model afterwards.
+fn single(bridge: &mut Bridge, before: &World, play: &Play) -> (Vec<u8>, Vec<u8>, World) {
+    let mut world = before.clone();
+    let mut expected = Vec::new();
+    world.play(play, &mut expected);
+    let mut wire = Vec::new();
+    Play::Sheet(before.sheet.clone()).send(&mut wire);
+    Play::Found(before.session).send(&mut wire);
+    play.send(&mut wire);
+    bridge.send(wire);
+    let skip = 9 + 2; // the replies to sheet and session
+    let mut got = bridge.receive(skip + expected.len());
+    got.drain(..skip.min(got.len()));
+    (expected, got, world)
+}
+
+/// Plays the batch once more, each event on its own, and prints the first
+/// difference, with a sheet as small as can be, in lines for the desk unit.
 fn report(program: &str, seed: u64, batch: &Batch, at: usize) {
     let mut bridge = Bridge::start(program);
-    let mut world = batch.start.clone();
-    let reply = |bridge: &mut Bridge, play: &Play, length: usize| {
-        let mut wire = Vec::new();
-        play.send(&mut wire);
-        bridge.send(wire);
-        bridge.receive(length)
-    };
-    reply(&mut bridge, &Play::Sheet(world.sheet.clone()), 9);
-    reply(&mut bridge, &Play::Found(world.session), 2);
-    for (i, play) in batch.plays.iter().enumerate() {
-        let before = world.clone();
-        let mut expected = Vec::new();
-        world.play(play, &mut expected);
-        let got = reply(&mut bridge, play, expected.len());
-        if got == expected && i < at {
-            continue;
+    let mut differs = |before: &World, play: &Play| {
+        let (expected, got, _) = single(&mut bridge, before, play);
+        if got.len() < expected.len() {
+            bridge = Bridge::start(program);
         }
-        println!("# event {} of seed {seed}", batch.first + i + 1);
+        got != expected
+    };
+    let mut before = batch.start.clone();
+    let mut found = None;
+    for (i, play) in batch.plays.iter().enumerate() {
+        if differs(&before, play) {
+            found = Some(i);
+            break;
+        }
+        before.play(play, &mut Vec::new());
+    }
+    let Some(i) = found else {
+        println!("# {}", batch.plays[at].line(&[]));
+        println!(
+            "# is different in its batch alone, not when each event starts from the model's state"
+        );
+        return;
+    };
+    let play = &batch.plays[i];
+    if !matches!(play, Play::Poke(..) | Play::Sheet(_) | Play::Check) {
+        let sheet = std::mem::take(&mut before.sheet);
+        before.sheet = shrink::shrink(sheet, |less| {
+            differs(&World { sheet: less.to_vec(), ..before.clone() }, play)
+        });
+    }
+
+    let mut bridge = Bridge::start(program);
+    let (expected, got, after) = single(&mut bridge, &before, play);
+    println!("# event {} of seed {seed}", batch.first + i + 1);
+    if !matches!(play, Play::Poke(..) | Play::Sheet(_) | Play::Read(_) | Play::Write(..)) {
         println!("sheet {}", hex(&before.sheet));
         println!("session {} {}", before.session.open as u8, before.session.level);
-        println!("{}", play.line(&world.sheet));
-        println!("# model:   {}", play.explain(&expected));
-        if got == expected {
-            println!("# library: the same when played one by one; in a batch it was different");
-        } else if got.len() < expected.len() {
-            println!("# library: ended without a reply");
-        } else {
-            println!("# library: {}", play.explain(&got));
-            bridge.send(b"D".to_vec());
-            let sheet = bridge.receive(world.sheet.len());
-            for (k, (l, m)) in
-                sheet.iter().zip(&world.sheet).enumerate().filter(|(_, (l, m))| l != m).take(8)
-            {
-                println!("# byte {k} of the sheet: model {m:02x}, library {l:02x}");
-            }
-        }
+    }
+    println!("{}", play.line(&after.sheet));
+    println!("# model:   {}", play.explain(&expected));
+    if got.len() < expected.len() {
+        println!("# library: ended without a reply");
         return;
+    }
+    println!("# library: {}", play.explain(&got));
+    bridge.send(b"D".to_vec());
+    let sheet = bridge.receive(after.sheet.len());
+    let pairs = sheet.iter().zip(&after.sheet).enumerate();
+    for (k, (l, m)) in pairs.filter(|(_, (l, m))| l != m).take(12) {
+        println!("# byte {k} of the sheet: model {m:02x}, library {l:02x}");
     }
 }
 
@@ -230,11 +265,15 @@ fn compare(program: &str, events: usize, seed: u64) -> bool {
 
 fn faults(program: &str, seed: u64) -> bool {
     let mut found = 0;
+    let show = std::env::var_os("SHOW").is_some();
     for fault in Fault::ALL {
         match run(program, FAULT_EVENTS, seed, fault, &mut Tally::default()) {
             Some((batch, at)) => {
                 found += 1;
                 println!("compare: fault {fault:?} found at event {}", batch.first + at + 1);
+                if show {
+                    report(program, seed, &batch, at);
+                }
             }
             None => println!("compare: fault {fault:?} not found in {FAULT_EVENTS} events"),
         }

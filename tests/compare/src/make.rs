@@ -100,28 +100,33 @@ impl Maker {
             self.lookup(&sheet);
         }
         for _ in 0..self.rng.below(6) {
-            let event = gen::event(&mut self.rng, &sheet);
-            self.event(event);
+            self.event(&sheet);
         }
         self.queue.push_front(Play::Sheet(sheet));
     }
 
-    fn event(&mut self, event: Event) {
-        self.push(match event {
+    fn event(&mut self, sheet: &[u8]) {
+        let play = match gen::event(&mut self.rng, sheet) {
             Event::Connect => Play::Connect,
             Event::Disconnect => Play::Disconnect,
             Event::Button(on) => Play::Button(on),
             Event::Found(session) => Play::Found(session),
-            Event::Request(ask) => Play::Request(ask),
-        });
+            Event::Request(mut ask) => {
+                // a bad sheet comes before the mode: any service in any mode
+                if self.rng.chance(60) && sheet::check(sheet) != 0 {
+                    ask.mode = self.rng.below(5) as u8;
+                }
+                Play::Request(ask)
+            }
+        };
+        self.push(play);
     }
 
     fn mixed(&mut self, world: &World) {
         if self.rng.chance(5) {
             return self.lookup(&world.sheet);
         }
-        let event = gen::event(&mut self.rng, &world.sheet);
-        self.event(event);
+        self.event(&world.sheet);
     }
 
     fn history(&mut self, world: &World) {
@@ -137,7 +142,7 @@ impl Maker {
             6..=12 => self.lookup(&world.sheet),
             _ => {
                 let mut ask = gen::ask(&mut self.rng, &world.sheet);
-                // a restart closes the session: most of them become authorisations
+                // a restart closes the session: most are drawn again
                 while matrix::row(&ask.apdu) == 16 && self.rng.chance(80) {
                     ask = gen::ask(&mut self.rng, &world.sheet);
                 }
@@ -157,8 +162,10 @@ impl Maker {
             0 => self.lookup(&hurt),
             1 => {}
             _ => {
-                let event = gen::event(&mut self.rng, &hurt);
-                self.event(event);
+                // the sheet's own changes, if it is accepted, are not followed here
+                for _ in 0..self.rng.within(1, 3) {
+                    self.event(&hurt);
+                }
             }
         }
         self.push(Play::Poke(at, world.sheet[at]));

@@ -77,8 +77,10 @@ impl Tally {
     }
 
     pub fn summary(&self) -> String {
+        let rarest =
+            self.rarest().map_or(String::new(), |(n, what)| format!("; rarest: {what}, {n} times"));
         format!(
-            "{} requests, {} other calls, {} sheets ({} accepted), {} lookups, {} PDUs read, {} written",
+            "{} requests, {} other calls, {} sheets ({} accepted), {} lookups, {} PDUs read, {} written{rarest}",
             self.requests.iter().flatten().flatten().sum::<u64>(),
             self.others,
             self.rules.sum(),
@@ -87,6 +89,19 @@ impl Tally {
             self.reads.sum(),
             self.writes.iter().map(Counts::sum).sum::<u64>(),
         )
+    }
+
+    /// The outcome of a request that was seen least of those that can be.
+    fn rarest(&self) -> Option<(u64, String)> {
+        let mut all = Vec::new();
+        for (seen, (name, cells)) in self.requests.iter().zip(&ROWS) {
+            for (column, (seen, can)) in seen.iter().zip(cells).enumerate() {
+                for k in (0..16).filter(|k| can >> k & 1 != 0) {
+                    all.push((seen[k], format!("{name} in mode {column}, outcome {k}")));
+                }
+            }
+        }
+        all.into_iter().min()
     }
 
     /// What was seen and can't be; with `must`, also what was not and can.
