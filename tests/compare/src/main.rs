@@ -133,14 +133,29 @@ impl Batch {
     }
 }
 
-/// Plays `events` and gives the first batch with a difference, and where.
+/// The batch with the first difference and the one after it, and where it is
+/// in the first. A bridge that ends may take with it replies that it kept, so
+/// its last command may be in the second.
+struct Difference {
+    batches: Vec<Batch>,
+    at: usize,
+}
+
+impl Difference {
+    /// Number of the event, from 1.
+    fn number(&self) -> usize {
+        self.batches[0].first + self.at + 1
+    }
+}
+
+/// Plays `events` up to the first difference.
 fn run(
     program: &str,
     events: usize,
     seed: u64,
     fault: Fault,
     tally: &mut Tally,
-) -> Option<(Batch, usize)> {
+) -> Option<Difference> {
     let mut bridge = Bridge::start(program);
     let mut maker = Maker::new(seed);
     let mut world = World::new(fault);
@@ -157,7 +172,8 @@ fn run(
         if let Some(batch) = waiting.take() {
             let replies = bridge.receive(batch.expected.len());
             if let Some(i) = batch.differs(&replies) {
-                return Some((batch, i));
+                let batches = [Some(batch), next].into_iter().flatten().collect();
+                return Some(Difference { batches, at: i });
             }
             for (i, play) in batch.plays.iter().enumerate() {
                 tally.count(play, &replies[batch.range(i)]);
@@ -186,9 +202,10 @@ fn single(bridge: &mut Bridge, before: &World, play: &Play) -> (Vec<u8>, Vec<u8>
     (expected, got, world)
 }
 
-/// Plays the batch once more, each event on its own, and prints the first
+/// Plays the batches once more, each event on its own, and prints the first
 /// difference, with a sheet as small as can be, in lines for the desk unit.
-fn report(program: &str, seed: u64, batch: &Batch, at: usize) {
+/// Gives the number of the event.
+fn report(program: &str, seed: u64, difference: &Difference) -> usize {
     let mut bridge = Bridge::start(program);
     let mut differs = |before: &World, play: &Play| {
         let (expected, got, _) = single(&mut bridge, before, play);
@@ -197,23 +214,21 @@ fn report(program: &str, seed: u64, batch: &Batch, at: usize) {
         }
         got != expected
     };
-    let mut before = batch.start.clone();
-    let mut found = None;
-    for (i, play) in batch.plays.iter().enumerate() {
-        if differs(&before, play) {
-            found = Some(i);
-            break;
+    let first = &difference.batches[0];
+    let mut before = first.start.clone();
+    let mut plays = difference.batches.iter().flat_map(|batch| &batch.plays).enumerate();
+    let found = plays.find(|(_, play)| {
+        let found = differs(&before, play);
+        if !found {
+            before.play(play, &mut Vec::new());
         }
-        before.play(play, &mut Vec::new());
-    }
-    let Some(i) = found else {
-        println!("# {}", batch.plays[at].line(&[]));
-        println!(
-            "# is different in its batch alone, not when each event starts from the model's state"
-        );
-        return;
+        found
+    });
+    let Some((i, play)) = found else {
+        println!("# {}", first.plays[difference.at].line(&[]));
+        println!("# is different in its batch alone, not from the model's state before it");
+        return difference.number();
     };
-    let play = &batch.plays[i];
     if !matches!(play, Play::Poke(..) | Play::Sheet(_) | Play::Check) {
         let sheet = std::mem::take(&mut before.sheet);
         before.sheet = shrink::shrink(sheet, |less| {
@@ -223,7 +238,8 @@ fn report(program: &str, seed: u64, batch: &Batch, at: usize) {
 
     let mut bridge = Bridge::start(program);
     let (expected, got, after) = single(&mut bridge, &before, play);
-    println!("# event {} of seed {seed}", batch.first + i + 1);
+    let number = first.first + i + 1;
+    println!("# event {number} of seed {seed}");
     if !matches!(play, Play::Poke(..) | Play::Sheet(_) | Play::Read(_) | Play::Write(..)) {
         println!("sheet {}", hex(&before.sheet));
         println!("session {} {}", before.session.open as u8, before.session.level);
@@ -232,7 +248,7 @@ fn report(program: &str, seed: u64, batch: &Batch, at: usize) {
     println!("# model:   {}", play.explain(&expected));
     if got.len() < expected.len() {
         println!("# library: ended without a reply");
-        return;
+        return number;
     }
     println!("# library: {}", play.explain(&got));
     bridge.send(b"D".to_vec());
@@ -241,15 +257,16 @@ fn report(program: &str, seed: u64, batch: &Batch, at: usize) {
     for (k, (l, m)) in pairs.filter(|(_, (l, m))| l != m).take(12) {
         println!("# byte {k} of the sheet: model {m:02x}, library {l:02x}");
     }
+    number
 }
 
 fn compare(program: &str, events: usize, seed: u64) -> bool {
     println!("compare: seed {seed}");
     let began = Instant::now();
     let mut tally = Tally::default();
-    if let Some((batch, at)) = run(program, events, seed, Fault::None, &mut tally) {
-        report(program, seed, &batch, at);
-        println!("compare: event {} of {events}, seed {seed}, is different", batch.first + at + 1);
+    if let Some(difference) = run(program, events, seed, Fault::None, &mut tally) {
+        let number = report(program, seed, &difference);
+        println!("compare: event {number} of {events}, seed {seed}, is different");
         return false;
     }
     let seconds = began.elapsed().as_secs_f64();
@@ -268,11 +285,11 @@ fn faults(program: &str, seed: u64) -> bool {
     let show = std::env::var_os("SHOW").is_some();
     for fault in Fault::ALL {
         match run(program, FAULT_EVENTS, seed, fault, &mut Tally::default()) {
-            Some((batch, at)) => {
+            Some(difference) => {
                 found += 1;
-                println!("compare: fault {fault:?} found at event {}", batch.first + at + 1);
+                println!("compare: fault {fault:?} found at event {}", difference.number());
                 if show {
-                    report(program, seed, &batch, at);
+                    report(program, seed, &difference);
                 }
             }
             None => println!("compare: fault {fault:?} not found in {FAULT_EVENTS} events"),
