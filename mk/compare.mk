@@ -1,4 +1,4 @@
-# The libraries against the plain Rust model, event by event; EVENTS and SEED may be given.
+# The libraries against the plain Rust model, event by event; EVENTS and SEED may be given. Comes after hosts.mk.
 .PHONY: compare
 
 EVENTS ?= 2000000
