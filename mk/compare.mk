@@ -1,0 +1,16 @@
+# The libraries against the plain Rust model, event by event; EVENTS and SEED may be given. Comes after hosts.mk.
+.PHONY: compare
+
+EVENTS ?= 2000000
+SEED ?=
+COMPARE := tests/compare/target/release/compare
+
+compare: build/bridge
+	cd tests/compare && cargo build --offline --release --quiet
+	$(COMPARE) build/bridge $(EVENTS) $(SEED)
+	$(COMPARE) build/bridge --faults $(SEED)
+
+build/bridge: tests/compare/bridge.c mk/compare.mk $(LINKED) | need-gcc
+	mkdir -p build
+	gcc $(STRICT) -c $< -o /dev/null
+	$(CC86) -o $@ $(STRICT) $< $(HOST_A) $(TOOL_A)

@@ -1,0 +1,363 @@
+/*
+ * The two libraries behind a pipe, for a driver that can't link them. Commands come on standard input, each is one letter
+ * and its operands, and each gets one reply on standard output. Numbers are little endian, of one byte or as many as the
+ * digit says; a run (APDU, BUFFER, DATA) is sent as a length of two bytes and its bytes, and a buffer comes back bare.
+ *
+ *   s LENGTH4 BYTES                          sets the sheet                   RULE HASH8
+ *   x AT4 BYTE                               changes a byte of the sheet      RULE HASH8
+ *   k                                        checks the sheet                 RULE HASH8
+ *   f                                        a fresh session                  OPEN LEVEL
+ *   v OPEN LEVEL                             sets the session as found        OPEN LEVEL
+ *   c, d, b ON                               connect, disconnect, button      OUTCOME OPEN LEVEL HASH8
+ *   q MODE GROUP2 APDU BUFFER                a request                        OUTCOME COUNT OPEN LEVEL BUFFER HASH8
+ *   p OBJECT ID, r K8, g ADDRESS2            lookups                          OFFSET8 LENGTH8 HASH8
+ *   R APDU                                   reads a PDU                      the flat PDU
+ *   W flat PDU, DATA BUFFER                  writes a PDU                     OUTCOME COUNT BUFFER
+ *   D                                        shows the sheet                  BYTES
+ *
+ * HASH8 is of the whole sheet after the call. Replies are kept until the input runs dry, so a driver may send many
+ * commands and then read as many replies. Sheet and buffers stand between guard bytes, an empty run is lent as NULL.
+ */
+#define _POSIX_C_SOURCE 200809L
+#include "kelindap.h"
+#include "kelindap_pdu.h"
+
+#include <errno.h>
+#include <stdio.h>
+#include <stdlib.h>
+#include <string.h>
+#include <unistd.h>
+
+/* ---- the pipes ---- */
+
+static uint8_t in[1 << 16];
+static size_t in_at, in_end;
+static uint8_t out[1 << 16];
+static size_t out_end;
+
+static void flush(void)
+{
+    size_t at = 0;
+    while (at < out_end) {
+        ssize_t n = write(STDOUT_FILENO, out + at, out_end - at);
+        if (n < 0 && errno == EINTR)
+            continue;
+        if (n <= 0)
+            exit(EXIT_FAILURE);
+        at += (size_t)n;
+    }
+    out_end = 0;
+}
+
+/* The replies so far are given, so that the driver sees which command was the last. */
+static _Noreturn void give_up(const char *why)
+{
+    flush();
+    fprintf(stderr, "bridge: %s\n", why);
+    exit(EXIT_FAILURE);
+}
+
+/* More input, after the replies have gone out; false at its end. */
+static bool fill(void)
+{
+    ssize_t n;
+    flush();
+    do
+        n = read(STDIN_FILENO, in, sizeof in);
+    while (n < 0 && errno == EINTR);
+    in_at = 0;
+    in_end = n > 0 ? (size_t)n : 0;
+    return n > 0;
+}
+
+static void take(uint8_t *to, size_t length)
+{
+    while (length > 0) {
+        if (in_at == in_end && !fill())
+            give_up("the input ends within a command");
+        size_t n = in_end - in_at < length ? in_end - in_at : length;
+        memcpy(to, in + in_at, n);
+        in_at += n;
+        to += n;
+        length -= n;
+    }
+}
+
+static uint64_t number(size_t bytes)
+{
+    uint8_t b[8];
+    uint64_t value = 0;
+    take(b, bytes);
+    for (size_t i = bytes; i-- > 0;)
+        value = value << 8 | b[i];
+    return value;
+}
+
+static uint8_t byte(void)
+{
+    return (uint8_t)number(1);
+}
+
+static void give(const uint8_t *from, size_t length)
+{
+    while (length > 0) {
+        if (out_end == sizeof out)
+            flush();
+        size_t n = sizeof out - out_end < length ? sizeof out - out_end : length;
+        memcpy(out + out_end, from, n);
+        out_end += n;
+        from += n;
+        length -= n;
+    }
+}
+
+static void give_number(uint64_t value, size_t bytes)
+{
+    uint8_t b[8];
+    for (size_t i = 0; i < bytes; i++)
+        b[i] = (uint8_t)(value >> 8 * i);
+    give(b, bytes);
+}
+
+/* ---- what is lent to the libraries ---- */
+
+enum { GUARD = 16, MARK = 0xC7 };
+
+typedef struct lent {
+    uint8_t *bytes;
+    size_t length;
+} lent;
+
+/* A run in the middle of room, with marked bytes on both sides. */
+static lent lend(uint8_t *room, size_t length)
+{
+    memset(room, MARK, GUARD);
+    memset(room + GUARD + length, MARK, GUARD);
+    return (lent){ room + GUARD, length };
+}
+
+/* What a call is given: an empty run is NULL. */
+static uint8_t *given(lent l)
+{
+    return l.length == 0 ? NULL : l.bytes;
+}
+
+static void guarded(lent l)
+{
+    static const uint8_t marks[GUARD] = { MARK, MARK, MARK, MARK, MARK, MARK, MARK, MARK,
+                                          MARK, MARK, MARK, MARK, MARK, MARK, MARK, MARK };
+    if (memcmp(l.bytes - GUARD, marks, GUARD) != 0 || memcmp(l.bytes + l.length, marks, GUARD) != 0)
+        give_up("a byte beside a buffer was written");
+}
+
+/* A run from the input, its length in so many bytes. */
+static lent take_run(uint8_t *room, size_t most, size_t bytes)
+{
+    size_t length = (size_t)number(bytes);
+    if (length > most)
+        give_up("a run is too long");
+    lent l = lend(room, length);
+    take(l.bytes, length);
+    return l;
+}
+
+enum { SHEET = 1 << 17, RUN = 1023 };
+static uint8_t sheet_room[GUARD + SHEET + GUARD], apdu_room[GUARD + RUN + GUARD], answer_room[GUARD + RUN + GUARD];
+static lent sheet;
+static kelindap_session session;
+
+/* FNV-1a by words of eight bytes, and each word's upper half brought down, so that no two changes hide each other. */
+static void give_hash(void)
+{
+    const uint64_t prime = 0x100000001B3;
+    uint64_t h = 0xCBF29CE484222325 ^ sheet.length;
+    size_t i = 0;
+    for (; i + 8 <= sheet.length; i += 8) {
+        uint64_t word;
+        memcpy(&word, sheet.bytes + i, 8);
+        h = (h ^ word) * prime;
+        h ^= h >> 32;
+    }
+    for (; i < sheet.length; i++)
+        h = (h ^ sheet.bytes[i]) * prime;
+    guarded(sheet);
+    give_number(h, 8);
+}
+
+static void give_session(void)
+{
+    /* as it stands in memory: a bool that is neither 0 nor 1 would be seen */
+    uint8_t raw[sizeof session];
+    memcpy(raw, &session, sizeof raw);
+    give(raw, sizeof raw);
+}
+
+static void give_rule(void)
+{
+    give_number(kelindap_check(given(sheet), sheet.length), 1);
+    give_hash();
+}
+
+static void give_outcome(uint8_t outcome)
+{
+    give_number(outcome, 1);
+    give_session();
+    give_hash();
+}
+
+static void give_part(kelindap_part part)
+{
+    give_number(part.offset, 8);
+    give_number(part.length, 8);
+    give_hash();
+}
+
+/* ---- the commands ---- */
+
+static void set_byte(void)
+{
+    size_t at = (size_t)number(4);
+    uint8_t value = byte();
+    if (at >= sheet.length)
+        give_up("no such byte in the sheet");
+    sheet.bytes[at] = value;
+    give_rule();
+}
+
+static void request(void)
+{
+    uint8_t as_sent[RUN];
+    uint8_t mode = byte();
+    uint16_t group = (uint16_t)number(2);
+    lent apdu = take_run(apdu_room, RUN, 2);
+    lent answer = take_run(answer_room, RUN, 2);
+    memcpy(as_sent, apdu.bytes, apdu.length);
+    kelindap_reply reply = kelindap_request(&session, mode, group, given(apdu), apdu.length, given(sheet), sheet.length,
+                                            given(answer), answer.length);
+    guarded(apdu);
+    guarded(answer);
+    if (memcmp(as_sent, apdu.bytes, apdu.length) != 0)
+        give_up("the APDU was written");
+    give_number(reply.outcome, 1);
+    give_number(reply.count, 1);
+    give_session();
+    give(answer.bytes, answer.length);
+    give_hash();
+}
+
+static void read_pdu(void)
+{
+    lent apdu = take_run(apdu_room, RUN, 2);
+    kelindap_pdu p = kelindap_read(given(apdu), apdu.length);
+    guarded(apdu);
+    give_number(p.serial, 8);
+    give_number(p.key, 4);
+    give_number(p.address, 2);
+    give_number(p.domain, 2);
+    give_number(p.s, 2);
+    give_number(p.maximum, 2);
+    const uint8_t small[] = { p.outcome, p.kind, p.v, p.t, p.object, p.id, p.n, p.index, p.type, p.access, p.level };
+    give(small, sizeof small);
+    give_number(p.data_offset, 8);
+    give_number(p.data_length, 8);
+}
+
+static void write_pdu(void)
+{
+    kelindap_pdu p;
+    p.serial = number(8);
+    p.key = (uint32_t)number(4);
+    p.address = (uint16_t)number(2);
+    p.domain = (uint16_t)number(2);
+    p.s = (uint16_t)number(2);
+    p.maximum = (uint16_t)number(2);
+    p.outcome = byte();
+    p.kind = byte();
+    p.v = byte();
+    p.t = byte();
+    p.object = byte();
+    p.id = byte();
+    p.n = byte();
+    p.index = byte();
+    p.type = byte();
+    p.access = byte();
+    p.level = byte();
+    p.data_offset = (size_t)number(8);
+    p.data_length = (size_t)number(8);
+    lent data = take_run(apdu_room, RUN, 2);
+    lent answer = take_run(answer_room, RUN, 2);
+    kelindap_written written = kelindap_write(p, given(data), data.length, given(answer), answer.length);
+    guarded(data);
+    guarded(answer);
+    give_number(written.outcome, 1);
+    give_number(written.count, 1);
+    give(answer.bytes, answer.length);
+}
+
+static void play(uint8_t command)
+{
+    uint8_t object;
+    switch (command) {
+    case 's':
+        sheet = take_run(sheet_room, SHEET, 4);
+        give_rule();
+        break;
+    case 'x':
+        set_byte();
+        break;
+    case 'k':
+        give_rule();
+        break;
+    case 'f':
+        session = kelindap_fresh();
+        give_session();
+        break;
+    case 'v':
+        session.open = byte() != 0;
+        session.level = byte();
+        give_session();
+        break;
+    case 'c':
+        give_outcome(kelindap_connect(&session));
+        break;
+    case 'd':
+        give_outcome(kelindap_disconnect(&session));
+        break;
+    case 'b':
+        give_outcome(kelindap_button(given(sheet), sheet.length, byte() != 0));
+        break;
+    case 'q':
+        request();
+        break;
+    case 'p':
+        object = byte();
+        give_part(kelindap_property(given(sheet), sheet.length, object, byte()));
+        break;
+    case 'r':
+        give_part(kelindap_region(given(sheet), sheet.length, (size_t)number(8)));
+        break;
+    case 'g':
+        give_part(kelindap_group(given(sheet), sheet.length, (uint16_t)number(2)));
+        break;
+    case 'R':
+        read_pdu();
+        break;
+    case 'W':
+        write_pdu();
+        break;
+    case 'D':
+        give(sheet.bytes, sheet.length);
+        break;
+    default:
+        give_up("no such command");
+    }
+}
+
+int main(void)
+{
+    sheet = lend(sheet_room, 0);
+    session = kelindap_fresh();
+    while (in_at < in_end || fill())
+        play(in[in_at++]);
+    return EXIT_SUCCESS;
+}

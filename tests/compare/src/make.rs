@@ -1,0 +1,279 @@
+//! What is played next: scenes of random sheets, runs of events, and PDUs.
+
+use std::collections::VecDeque;
+
+use model::gen::{self, Ask, Event, Rng};
+use model::{matrix, sheet};
+
+use crate::flat::Flat;
+use crate::play::{Play, World};
+
+enum Scene {
+    /// Nothing more than what is queued.
+    Queued,
+    /// Events of all sorts, the session often set from outside.
+    Mixed,
+    /// The session is changed by calls alone, so levels come from keys.
+    History,
+    /// One byte is damaged, a little is played, and the byte is mended.
+    Damaged,
+    /// PDUs read and written.
+    Pdus,
+}
+
+pub struct Maker {
+    rng: Rng,
+    scene: Scene,
+    left: usize,
+    queue: VecDeque<Play>,
+}
+
+impl Maker {
+    pub fn new(seed: u64) -> Maker {
+        Maker { rng: Rng::new(seed), scene: Scene::Queued, left: 0, queue: VecDeque::new() }
+    }
+
+    /// The next command, for the state that the last one left.
+    pub fn next(&mut self, world: &World) -> Play {
+        loop {
+            if let Some(play) = self.queue.pop_front() {
+                return play;
+            }
+            if self.left == 0 {
+                self.open();
+                continue;
+            }
+            self.left -= 1;
+            match self.scene {
+                Scene::Queued => {}
+                Scene::Mixed => self.mixed(world),
+                Scene::History => self.history(world),
+                Scene::Damaged => self.damaged(world),
+                Scene::Pdus => self.pdus(world),
+            }
+        }
+    }
+
+    fn push(&mut self, play: Play) {
+        self.queue.push_back(play);
+    }
+
+    fn open(&mut self) {
+        let rng = &mut self.rng;
+        let long = |rng: &mut Rng| {
+            if rng.chance(4) {
+                5000
+            } else {
+                rng.within(50, 750)
+            }
+        };
+        let (scene, left) = match rng.below(50) {
+            0..=3 => (Scene::Mixed, long(rng)),
+            4..=7 => (Scene::History, long(rng)),
+            8 => (Scene::Damaged, rng.within(100, 400)),
+            9 => (Scene::Pdus, rng.within(300, 900)),
+            _ => (Scene::Queued, 0),
+        };
+        (self.scene, self.left) = (scene, left);
+        match self.scene {
+            Scene::Queued => self.checks(),
+            Scene::Pdus => {}
+            Scene::History => {
+                let sheet = gen::sheet(&mut self.rng);
+                self.push(Play::Sheet(sheet));
+                self.push(Play::Fresh);
+                self.push(Play::Connect);
+            }
+            _ => {
+                let sheet = gen::sheet(&mut self.rng);
+                self.push(Play::Sheet(sheet));
+                let session = gen::session(&mut self.rng);
+                self.push(Play::Found(session));
+            }
+        }
+    }
+
+    /// A sheet of any sort, and a few events that must respect its rule.
+    fn checks(&mut self) {
+        let sheet = gen::any_sheet(&mut self.rng);
+        for _ in 0..self.rng.below(3) {
+            self.lookup(&sheet);
+        }
+        for _ in 0..self.rng.below(6) {
+            self.event(&sheet);
+        }
+        self.queue.push_front(Play::Sheet(sheet));
+    }
+
+    fn event(&mut self, sheet: &[u8]) {
+        let play = match gen::event(&mut self.rng, sheet) {
+            Event::Connect => Play::Connect,
+            Event::Disconnect => Play::Disconnect,
+            Event::Button(on) => Play::Button(on),
+            Event::Found(session) => Play::Found(session),
+            Event::Request(mut ask) => {
+                // a bad sheet comes before the mode: any service in any mode
+                if self.rng.chance(60) && sheet::check(sheet) != 0 {
+                    ask.mode = self.rng.below(5) as u8;
+                }
+                Play::Request(ask)
+            }
+        };
+        self.push(play);
+    }
+
+    fn mixed(&mut self, world: &World) {
+        if self.rng.chance(5) {
+            return self.lookup(&world.sheet);
+        }
+        self.event(&world.sheet);
+    }
+
+    fn history(&mut self, world: &World) {
+        if !world.session.open && self.rng.chance(60) {
+            return self.push(Play::Connect);
+        }
+        match self.rng.below(200) {
+            0 => self.push(Play::Disconnect),
+            1 | 2 => self.push(Play::Connect),
+            3 => self.push(Play::Button(true)),
+            4 => self.push(Play::Button(false)),
+            5 => self.push(Play::Check),
+            6..=12 => self.lookup(&world.sheet),
+            _ => {
+                let mut ask = gen::ask(&mut self.rng, &world.sheet);
+                // a restart closes the session: most are drawn again
+                while matrix::row(&ask.apdu) == 16 && self.rng.chance(80) {
+                    ask = gen::ask(&mut self.rng, &world.sheet);
+                }
+                self.push(Play::Request(ask));
+            }
+        }
+    }
+
+    fn damaged(&mut self, world: &World) {
+        let mut hurt = world.sheet.clone();
+        gen::damage(&mut self.rng, &mut hurt);
+        let Some(at) = (0..hurt.len()).find(|&i| hurt[i] != world.sheet[i]) else {
+            return;
+        };
+        self.push(Play::Poke(at, hurt[at]));
+        match self.rng.below(4) {
+            0 => self.lookup(&hurt),
+            1 => {}
+            _ => {
+                // the sheet's own changes, if it is accepted, are not followed here
+                for _ in 0..self.rng.within(1, 3) {
+                    self.event(&hurt);
+                }
+            }
+        }
+        self.push(Play::Poke(at, world.sheet[at]));
+    }
+
+    fn lookup(&mut self, sheet: &[u8]) {
+        let rng = &mut self.rng;
+        let good = sheet::check(sheet) == 0;
+        let play = match rng.below(3) {
+            0 => {
+                let all: Vec<_> = if good { sheet::properties(sheet).collect() } else { vec![] };
+                if all.is_empty() || rng.chance(10) {
+                    Play::Property(rng.byte(), rng.byte())
+                } else {
+                    let p = rng.pick(&all);
+                    let id = if rng.chance(20) { p.id.wrapping_add(1) } else { p.id };
+                    Play::Property(p.object, id)
+                }
+            }
+            1 => Play::Region(match rng.below(10) {
+                0 => rng.draw(),
+                1 => rng.pick(&[15, 16, 255, 256, 1 << 32, u64::MAX]),
+                _ => rng.below(17) as u64,
+            }),
+            _ => {
+                let all: Vec<_> = if good { sheet::groups(sheet).collect() } else { vec![] };
+                if all.is_empty() || rng.chance(10) {
+                    Play::Group(rng.word())
+                } else {
+                    Play::Group(rng.pick(&all).address.wrapping_add(rng.pick(&[0, 0, 0, 0, 1])))
+                }
+            }
+        };
+        self.push(play);
+    }
+
+    fn pdus(&mut self, world: &World) {
+        let rng = &mut self.rng;
+        match rng.below(4) {
+            0 => {
+                let Ask { apdu, .. } = gen::ask(rng, &world.sheet);
+                self.push(Play::Read(apdu));
+            }
+            1 => {
+                // any code at any length
+                let length = rng.below(19);
+                let mut apdu = rng.bytes(length);
+                if let ([_, code, ..], true) = (&mut apdu[..], rng.chance(60)) {
+                    *code = rng.pick(&[0, 0x40, 0x80, 0xC0, 0xD0, 0xD0, 0xD0]) | rng.byte() & 15;
+                }
+                self.push(Play::Read(apdu));
+            }
+            _ => {
+                let (pdu, data) = gen::pdu(rng);
+                let mut flat = Flat::lay(&pdu, noise(rng));
+                match rng.below(40) {
+                    0 => flat.kind = rng.byte(),
+                    1 => flat.kind = rng.pick(&[25, 26, 255]),
+                    2 => flat.serial |= 1 << rng.within(48, 63),
+                    _ => {}
+                }
+                let room = if rng.chance(7) { rng.below(16) } else { rng.within(16, 20) };
+                let buffer = rng.bytes(room);
+                let mut reply = Vec::new();
+                let play = Play::Write(flat, data, buffer);
+                World::new(world.fault).play(&play, &mut reply);
+                self.push(play);
+                if reply[0] == 0 {
+                    // what was written is read, sometimes after a slip
+                    let mut apdu = reply[2..2 + reply[1] as usize].to_vec();
+                    match self.rng.below(8) {
+                        0 => apdu.push(self.rng.byte()),
+                        1 => drop(apdu.pop()),
+                        2 => {
+                            let at = self.rng.below(apdu.len());
+                            apdu[at] ^= 1 << self.rng.below(8);
+                        }
+                        _ => {}
+                    }
+                    self.push(Play::Read(apdu));
+                }
+            }
+        }
+    }
+}
+
+/// Fields that the kind does not have, and so are not looked at; the serial
+/// number is a true one, in case a kind with one is drawn later.
+fn noise(rng: &mut Rng) -> Flat {
+    Flat {
+        serial: rng.draw() >> 16,
+        key: rng.draw() as u32,
+        address: rng.word(),
+        domain: rng.word(),
+        s: rng.word(),
+        maximum: rng.word(),
+        outcome: rng.byte(),
+        kind: 0,
+        v: rng.byte(),
+        t: rng.byte(),
+        object: rng.byte(),
+        id: rng.byte(),
+        n: rng.byte(),
+        index: rng.byte(),
+        class: rng.byte(),
+        access: rng.byte(),
+        level: rng.byte(),
+        data_offset: rng.draw(),
+        data_length: rng.draw(),
+    }
+}

@@ -1,0 +1,133 @@
+//! What has been seen, held against what can be.
+
+use model::matrix::{self, ROWS};
+
+use crate::flat::KINDS;
+use crate::play::Play;
+
+/// Counts of the library's own replies.
+#[derive(Default)]
+pub struct Tally {
+    /// By service, column of the mode, and outcome.
+    requests: Vec<[[u64; 256]; 5]>,
+    rules: Counts,
+    /// By outcome; a kind that reads well is counted in `kinds`.
+    reads: Counts,
+    kinds: Counts,
+    /// By kind and outcome; unknown kinds come last.
+    writes: Vec<Counts>,
+    /// Without and with a part.
+    lookups: [u64; 2],
+    /// Connect, disconnect, button, and sessions as found or fresh.
+    others: u64,
+}
+
+struct Counts([u64; 256]);
+
+impl Default for Counts {
+    fn default() -> Counts {
+        Counts([0; 256])
+    }
+}
+
+impl Counts {
+    fn sum(&self) -> u64 {
+        self.0.iter().sum()
+    }
+
+    /// Complains about each number that should have been seen and was not,
+    /// if all `must`, and about each that should not and was.
+    fn judge(&self, what: &str, can: &[usize], must: bool, complaints: &mut Vec<String>) {
+        for (k, &seen) in self.0.iter().enumerate() {
+            if seen > 0 && !can.contains(&k) {
+                complaints.push(format!("{what}: {k} can't be, and was {seen} times"));
+            }
+            if seen == 0 && must && can.contains(&k) {
+                complaints.push(format!("{what}: {k} can be, and never was"));
+            }
+        }
+    }
+}
+
+impl Tally {
+    pub fn count(&mut self, play: &Play, reply: &[u8]) {
+        match play {
+            Play::Sheet(_) | Play::Poke(..) | Play::Check => self.rules.0[reply[0] as usize] += 1,
+            Play::Request(ask) => {
+                self.requests.resize(ROWS.len(), [[0; 256]; 5]);
+                let (row, column) = (matrix::row(&ask.apdu), matrix::column(ask.mode));
+                self.requests[row][column][reply[0] as usize] += 1;
+            }
+            Play::Property(..) | Play::Region(_) | Play::Group(_) => {
+                self.lookups[(reply[8..16] != [0; 8]) as usize] += 1;
+            }
+            Play::Read(_) => {
+                self.reads.0[reply[20] as usize] += 1;
+                if reply[20] == 0 {
+                    self.kinds.0[reply[21] as usize] += 1;
+                }
+            }
+            Play::Write(flat, ..) => {
+                self.writes.resize_with(KINDS.len() + 1, Counts::default);
+                let kind = KINDS.len().min(flat.kind as usize);
+                self.writes[kind].0[reply[0] as usize] += 1;
+            }
+            _ => self.others += 1,
+        }
+    }
+
+    pub fn summary(&self) -> String {
+        let rarest =
+            self.rarest().map_or(String::new(), |(n, what)| format!("; rarest: {what}, {n} times"));
+        format!(
+            "{} requests, {} other calls, {} sheets ({} accepted), {} lookups, {} PDUs read, {} written{rarest}",
+            self.requests.iter().flatten().flatten().sum::<u64>(),
+            self.others,
+            self.rules.sum(),
+            self.rules.0[0],
+            self.lookups.iter().sum::<u64>(),
+            self.reads.sum(),
+            self.writes.iter().map(Counts::sum).sum::<u64>(),
+        )
+    }
+
+    /// The outcome of a request that was seen least of those that can be.
+    fn rarest(&self) -> Option<(u64, String)> {
+        let mut all = Vec::new();
+        for (seen, (name, cells)) in self.requests.iter().zip(&ROWS) {
+            for (column, (seen, can)) in seen.iter().zip(cells).enumerate() {
+                for k in (0..16).filter(|k| can >> k & 1 != 0) {
+                    all.push((seen[k], format!("{name} in mode {column}, outcome {k}")));
+                }
+            }
+        }
+        all.into_iter().min()
+    }
+
+    /// What was seen and can't be; with `must`, also what was not and can.
+    pub fn complaints(&self, must: bool) -> Vec<String> {
+        let mut complaints = Vec::new();
+        for (seen, (name, cells)) in self.requests.iter().zip(&ROWS) {
+            for (column, (seen, can)) in seen.iter().zip(cells).enumerate() {
+                let can: Vec<usize> = (0..16).filter(|k| can >> k & 1 != 0).collect();
+                let what = format!("{name} in mode {column}");
+                Counts(*seen).judge(&what, &can, must, &mut complaints);
+            }
+        }
+        let rules: Vec<usize> = (0..=9).collect();
+        let kinds: Vec<usize> = (0..KINDS.len()).collect();
+        self.rules.judge("rule of a sheet", &rules, must, &mut complaints);
+        self.reads.judge("outcome of reading", &[0, 5, 8, 10], must, &mut complaints);
+        self.kinds.judge("kind that was read", &kinds, must, &mut complaints);
+        for (k, seen) in self.writes.iter().enumerate() {
+            let (name, can) = KINDS
+                .get(k)
+                .map_or(("unknown kind", &[3, 13][..]), |(name, _)| (*name, &[0, 3, 13]));
+            seen.judge(&format!("outcome of writing {name}"), can, must, &mut complaints);
+        }
+        if must && self.lookups.contains(&0) {
+            complaints.push("lookups: none, or all, had a part".to_string());
+        }
+        complaints
+    }
+}
