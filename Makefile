@@ -8,7 +8,7 @@ test: tools
 	rt fmt --check
 	$(MAKE) --no-print-directory -s model
 	$(MAKE) --no-print-directory -s sheet-check
-	$(MAKE) --no-print-directory -s test-unit test-c
+	$(MAKE) --no-print-directory -s test-unit test-c compare
 	rt ci
 
 # a missing tool fails the tests
@@ -25,3 +25,4 @@ sheet-check: tools
 	tests/sheet_check.sh target/bin/sheet_check
 
 include mk/hosts.mk
+include mk/compare.mk
