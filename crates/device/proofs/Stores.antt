@@ -23,13 +23,16 @@ length-copies : (n b : ℕ) → length (replicate n b) ≡ n
 length-copies zero b = refl
 length-copies (suc n) b = ap suc (length-replicate n b)
 
+length-fill : (s : List ℕ) (at n b : ℕ) → at + n ≤ length s → length (splice s at (replicate n b)) ≡ length s
+length-fill s at n b h = length-splice s at (replicate n b) (omega (arith, length-replicate n b))
+
 -- A STORE LEAVES THE LENGTH
 pub length-store : (s d : List ℕ) (k : Store) → StoreSafe s d k → length (storeOf s d k) ≡ length s
 length-store s d store.Nothing h = refl
 length-store s d (store.Number at w x) h = length-splice s at (bytesOf w x) (omega (arith, length-bytes w x))
 length-store s d (store.Data at) h = length-splice s at d h
 length-store s d (store.Bits at n) h = length-splice s at (build n (bitAt s at n d)) (omega (arith, length-build n (bitAt s at n d)))
-length-store s d (store.Fill at n b) h = length-splice s at (replicate n b) (omega (arith, length-replicate n b))
+length-store s d (store.Fill at n b) h = length-fill s at n _ h
 
 -- WHAT WAS STORED STANDS THERE
 pub stored-back : (s d : List ℕ) (o n : ℕ) → length d ≡ n → o + n ≤ length s → take n (drop o (splice s o d)) ≡ d
