@@ -1,0 +1,127 @@
+//! The sides: the proved library by its C interface, the plain model behind
+//! functions that can't be inlined either, and nothing at all, which shows what
+//! the loop around a call takes.
+
+use model::device::{Reply, Session};
+
+#[repr(C)]
+struct CSession {
+    open: bool,
+    level: u8,
+}
+
+#[repr(C)]
+struct CReply {
+    outcome: u8,
+    count: u8,
+}
+
+extern "C" {
+    fn kelindap_check(sheet: *const u8, length: usize) -> u8;
+    fn kelindap_request(
+        session: *mut CSession,
+        mode: u8,
+        group: u16,
+        apdu: *const u8,
+        apdu_length: usize,
+        sheet: *mut u8,
+        sheet_length: usize,
+        answer: *mut u8,
+        answer_length: usize,
+    ) -> CReply;
+}
+
+/// What a request is made of, its buffers lent.
+pub struct Lent<'a> {
+    pub session: Session,
+    pub mode: u8,
+    pub group: u16,
+    pub apdu: &'a [u8],
+    pub sheet: &'a mut [u8],
+    pub answer: &'a mut [u8],
+}
+
+#[derive(Clone, Copy)]
+pub enum Side {
+    Proved,
+    Plain,
+    Nothing,
+}
+
+impl Side {
+    pub fn check(self, sheet: &[u8]) -> u8 {
+        match self {
+            Side::Proved => unsafe { kelindap_check(sheet.as_ptr(), sheet.len()) },
+            Side::Plain => plain_check(sheet),
+            Side::Nothing => no_check(sheet),
+        }
+    }
+
+    /// Reply and session.
+    pub fn request(self, l: &mut Lent) -> (Reply, Session) {
+        match self {
+            Side::Proved => {
+                let mut session = CSession { open: l.session.open, level: l.session.level };
+                let reply = unsafe {
+                    kelindap_request(
+                        &mut session,
+                        l.mode,
+                        l.group,
+                        l.apdu.as_ptr(),
+                        l.apdu.len(),
+                        l.sheet.as_mut_ptr(),
+                        l.sheet.len(),
+                        l.answer.as_mut_ptr(),
+                        l.answer.len(),
+                    )
+                };
+                let session = Session { open: session.open, level: session.level };
+                (Reply { outcome: reply.outcome, count: reply.count }, session)
+            }
+            Side::Plain => {
+                let mut session = l.session;
+                let reply = plain_request(&mut session, l.mode, l.group, l.apdu, l.sheet, l.answer);
+                (reply, session)
+            }
+            Side::Nothing => {
+                let mut session = l.session;
+                let reply = no_request(&mut session, l.mode, l.group, l.apdu, l.sheet, l.answer);
+                (reply, session)
+            }
+        }
+    }
+}
+
+#[inline(never)]
+fn plain_check(sheet: &[u8]) -> u8 {
+    model::sheet::check(sheet)
+}
+
+#[inline(never)]
+fn plain_request(
+    session: &mut Session,
+    mode: u8,
+    group: u16,
+    apdu: &[u8],
+    sheet: &mut [u8],
+    answer: &mut [u8],
+) -> Reply {
+    model::device::request(session, mode, group, apdu, sheet, answer)
+}
+
+#[inline(never)]
+fn no_check(sheet: &[u8]) -> u8 {
+    std::hint::black_box(sheet.len() as u8)
+}
+
+#[inline(never)]
+fn no_request(
+    session: &mut Session,
+    mode: u8,
+    _: u16,
+    _: &[u8],
+    _: &mut [u8],
+    _: &mut [u8],
+) -> Reply {
+    Reply { outcome: std::hint::black_box(mode), count: session.level }
+}
