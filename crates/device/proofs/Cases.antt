@@ -7,7 +7,7 @@ use Rattle.octets.specs.Splice.{splice}
 use Rattle.sheet.specs.Demand.{breach}
 use Rattle.sheet.specs.First.{first}
 use Rattle.sheet.specs.Entries.{entry, keyOf, floor, bodyEnd, startOf, reached, sixBits}
-use Rattle.sheet.specs.Rules.{entryDemands, bodyDemands, stepRule, passRule, walkRule, ruleIn}
+use Rattle.sheet.specs.Rules.{entryDemands, bodyDemands, entryRule, bodyRule, entriesRule, bodiesRule, walkRule, ruleIn}
 use Rattle.sheet.specs.Lookup.{seek, indexOf, objectAt, rank, covers, rangeOf}
 use Rattle.pdu.specs.Tests.{isBelow, isAtMost, isEqual, both}
 use Rattle.pdu.specs.Table.{find}
@@ -29,6 +29,6 @@ pub marked : map found cases ≡ map wanted cases
 unfolding sample cases found wanted stepOf stepBy build bitAt judgeOf isAccepted isShut reachedOf rulesOf levelIn levelOf
     readIn propertyReadOf writeIn propertyWriteOf describedAt descriptionOf memoryReadOf changeOf memoryWriteOf bitWriteOf
     grantOf authorizeOf keyWriteOf readPdu find dataOf encoded headBytes lowAt fourAt twelveAt isBelow isAtMost isEqual both
-    seek indexOf objectAt rank covers rangeOf ruleIn walkRule passRule stepRule bodyDemands entryDemands
+    seek indexOf objectAt rank covers rangeOf ruleIn walkRule entriesRule bodiesRule entryRule bodyRule bodyDemands entryDemands
     entry keyOf floor bodyEnd startOf reached sixBits first breach splice numAt bytesOf
 marked = refl

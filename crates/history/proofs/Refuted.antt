@@ -12,7 +12,7 @@ use Rattle.octets.specs.Splice.{splice}
 use Rattle.sheet.specs.Demand.{breach}
 use Rattle.sheet.specs.First.{first}
 use Rattle.sheet.specs.Entries.{entry, keyOf, floor, bodyAt, bodyEnd, startOf, reached, sixBits}
-use Rattle.sheet.specs.Rules.{entryDemands, bodyDemands, stepRule, passRule, walkRule, ruleIn}
+use Rattle.sheet.specs.Rules.{entryDemands, bodyDemands, entryRule, bodyRule, entriesRule, bodiesRule, walkRule, ruleIn}
 use Rattle.sheet.specs.Lookup.{seek, indexOf, covers, rangeOf}
 use Rattle.pdu.specs.Tests.{isBelow, isAtMost, isEqual, both, either}
 use Rattle.pdu.specs.Table.{find}
@@ -49,7 +49,7 @@ octets-by (x ∷ s) e (suc i) = octets-by s (and-is (ltb x 256) (below s) .0 e .
 
 -- the sample is accepted
 begins : Begins fresh
-unfolding sample ruleIn walkRule passRule stepRule bodyDemands entryDemands entry keyOf floor bodyAt bodyEnd startOf reached sixBits first breach numAt
+unfolding sample ruleIn walkRule entriesRule bodiesRule entryRule bodyRule bodyDemands entryDemands entry keyOf floor bodyAt bodyEnd startOf reached sixBits first breach numAt
 begins = record { octets = octets-by sample refl; accepted = refl }
 
 -- the runs bring bytes
@@ -107,7 +107,7 @@ nothing-refuted k =
 pub once-refuted : Keeps storesOnce → ⊥
 unfolding stateAfter eventOf stepOf stepBy judgeOf isAccepted isShut reachedOf rulesOf levelIn levelOf grantOf authorizeOf changeOf memoryWriteOf
     names gives asks brings readPdu find dataOf encoded headBytes lowAt isBelow isAtMost isEqual both either seek covers rangeOf splice
-    ruleIn walkRule passRule stepRule bodyDemands entryDemands entry keyOf floor bodyAt bodyEnd startOf reached sixBits first breach numAt bytesOf sample
+    ruleIn walkRule entriesRule bodiesRule entryRule bodyRule bodyDemands entryDemands entry keyOf floor bodyAt bodyEnd startOf reached sixBits first breach numAt bytesOf sample
 once-refuted k =
     let e : _≡_ {A = ℕ} 161 102 =
     k fresh writtenOnce begins heard-written .atOnce 3 0 secondWrite buffer (octets-by secondWrite refl) second-permitted (memory 257) 61 (memory-at 1 (omega arith)) refl in
@@ -118,7 +118,7 @@ pub count-refuted : Keeps inventsCount → ⊥
 unfolding stateAfter eventOf stepOf stepBy judgeOf isAccepted isShut reachedOf rulesOf levelIn levelOf grantOf authorizeOf writeIn propertyWriteOf
     names gives countIn indexFor entryFor indexOf level opened content firstOf keyIn heard allowed asks brings readPdu find dataOf encoded headBytes lowAt fourAt twelveAt
     isBelow isAtMost isEqual both either seek splice
-    ruleIn walkRule passRule stepRule bodyDemands entryDemands entry keyOf floor bodyAt bodyEnd startOf reached sixBits first breach numAt bytesOf sample
+    ruleIn walkRule entriesRule bodiesRule entryRule bodyRule bodyDemands entryDemands entry keyOf floor bodyAt bodyEnd startOf reached sixBits first breach numAt bytesOf sample
 count-refuted k =
     let e : _≡_ {A = ℕ} 2 1 =
     k fresh authorized begins heard-authorized .atOnce 3 0 elementWrite buffer (octets-by elementWrite refl) element-permitted (counter 1 51 1) 47 counter-at refl in
@@ -128,5 +128,5 @@ count-refuted k =
 pub level-refuted : Keeps keepsLevel → ⊥
 unfolding stateAfter eventOf stepOf stepBy judgeOf isAccepted isShut reachedOf rulesOf levelIn levelOf grantOf authorizeOf
     level opened content firstOf keyIn heard allowed asks readPdu find dataOf encoded headBytes lowAt isBelow isAtMost isEqual both either
-    ruleIn walkRule passRule stepRule bodyDemands entryDemands entry keyOf floor bodyAt bodyEnd startOf reached sixBits first breach numAt bytesOf sample
+    ruleIn walkRule entriesRule bodiesRule entryRule bodyRule bodyDemands entryDemands entry keyOf floor bodyAt bodyEnd startOf reached sixBits first breach numAt bytesOf sample
 level-refuted k = let e : _≡_ {A = ℕ} 0 3 = k fresh givenUp begins heard-given-up .rights in omega arith

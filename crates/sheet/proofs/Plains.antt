@@ -1,6 +1,6 @@
 -- The rows judge a sheet as the nine propositions do.
 -- Assumes nothing.
-use Prim.Native.Nat.{ℕ, suc, _<_}
+use Prim.Native.Nat.{ℕ, _<_}
 use mathlib.Core.Path.{_≡_}
 use mathlib.Core.List.{List, [], _∷_}
 use lib.ListN.{take, drop}
@@ -8,10 +8,9 @@ use native.Mathlib.Omega.{arith}
 use Rattle.sheet.specs.Demand.{Demand, breach, Met}
 use Rattle.sheet.specs.First.{first, orElse}
 use Rattle.sheet.specs.Entries.{count}
-use Rattle.sheet.specs.Rules.{frameDemands, zeroDemands, entryDemands, bodyDemands, endDemands, stepRule, passRule, walkRule, ruleIn}
+use Rattle.sheet.specs.Rules.{frameDemands, zeroDemands, entryDemands, bodyDemands, endDemands, entryRule, bodyRule, entriesRule, bodiesRule, walkRule, ruleIn}
 use Rattle.sheet.specs.Plain.{S1, S2, S3, S4, S5, S6, S7, S8, S9, Judged, breaks1, breaks2, breaks3, breaks4, breaks5, breaks6, breaks7, breaks8, breaks9, none}
 use Rattle.sheet.proofs.First.{orElse-some, orElse-assoc, orElse-zero}
-use Rattle.sheet.proofs.Good.{step-body}
 use Rattle.sheet.proofs.Says.{Says, holds, fails, says-yes, says-no, says-map, says-and, says-all, says-rows, breach-append}
 use Rattle.sheet.proofs.Ties.{Bodies, to6, from6, to7, from7, to8, from8, to9, from9}
 
@@ -49,35 +48,35 @@ module _ (ed : ℕ) (s : List ℕ) where
   says5 : Says 5 (S5 s) (breach (zeroDemands s))
   says5 = says-map (λ m. omega arith) (λ m. omega arith) (says-rows 5 (omega arith) (zeroDemands s) tt)
 
-  says6 : Says 6 (S6 s) (passRule s 0)
-  unfolding passRule stepRule entryDemands
+  says6 : Says 6 (S6 s) (entriesRule s 0)
+  unfolding entriesRule entryRule entryDemands
   says6 =
       says-map (to6 s) (from6 s)
-      (says-all 6 (omega arith) (λ i. Met (entryDemands s 0 i)) (stepRule s 0) (count s 0)
+      (says-all 6 (omega arith) (λ i. Met (entryDemands s 0 i)) (entryRule s 0) (count s 0)
       (λ i h. says-rows 6 (omega arith) (entryDemands s 0 i) tt))
 
-  says7 : Says 7 (S7 s) (passRule s 1)
-  unfolding passRule stepRule entryDemands
+  says7 : Says 7 (S7 s) (entriesRule s 1)
+  unfolding entriesRule entryRule entryDemands
   says7 =
       says-map (to7 s) (from7 s)
-      (says-all 7 (omega arith) (λ i. Met (entryDemands s 1 i)) (stepRule s 1) (count s 1)
+      (says-all 7 (omega arith) (λ i. Met (entryDemands s 1 i)) (entryRule s 1) (count s 1)
       (λ i h. says-rows 7 (omega arith) (entryDemands s 1 i) tt))
 
-  says8 : Says 8 (S8 s) (passRule s 2)
-  unfolding passRule stepRule entryDemands
+  says8 : Says 8 (S8 s) (entriesRule s 2)
+  unfolding entriesRule entryRule entryDemands
   says8 =
       says-map (to8 s) (from8 s)
-      (says-all 8 (omega arith) (λ i. Met (entryDemands s 2 i)) (stepRule s 2) (count s 2)
+      (says-all 8 (omega arith) (λ i. Met (entryDemands s 2 i)) (entryRule s 2) (count s 2)
       (λ i h. says-rows 8 (omega arith) (entryDemands s 2 i) tt))
 
-  says-bodies : (k : ℕ) → Says 9 (Bodies s k) (passRule s (suc (suc (suc k))))
-  unfolding passRule bodyDemands
+  says-bodies : (k : ℕ) → Says 9 (Bodies s k) (bodiesRule s k)
+  unfolding bodiesRule bodyRule bodyDemands
   says-bodies k =
-      says-all 9 (omega arith) (λ i. Met (bodyDemands s k i)) (stepRule s (suc (suc (suc k)))) (count s k)
-      (λ i h. rw (step-body s i k) (says-rows 9 (omega arith) (bodyDemands s k i) tt))
+      says-all 9 (omega arith) (λ i. Met (bodyDemands s k i)) (bodyRule s k) (count s k)
+      (λ i h. says-rows 9 (omega arith) (bodyDemands s k i) tt)
 
   ninth : ℕ
-  ninth = orElse (orElse (orElse (passRule s 3) (passRule s 4)) (passRule s 5)) (breach (endDemands s))
+  ninth = orElse (orElse (orElse (bodiesRule s 0) (bodiesRule s 1)) (bodiesRule s 2)) (breach (endDemands s))
 
   says9 : Says 9 (S9 s) ninth
   unfolding ninth
@@ -88,7 +87,7 @@ module _ (ed : ℕ) (s : List ℕ) where
 
   nine :
       ruleIn ed s ≡
-      firstOf (breach (rows 0 2) ∷ breach (rows 2 1) ∷ breach (rows 3 3) ∷ breach (rows 6 2) ∷ breach (zeroDemands s) ∷ passRule s 0 ∷ passRule s 1 ∷ passRule s 2 ∷ ninth ∷ [])
+      firstOf (breach (rows 0 2) ∷ breach (rows 2 1) ∷ breach (rows 3 3) ∷ breach (rows 6 2) ∷ breach (zeroDemands s) ∷ entriesRule s 0 ∷ entriesRule s 1 ∷ entriesRule s 2 ∷ ninth ∷ [])
   unfolding ruleIn walkRule rows first ninth
   nine =
       rw (breach-append (rows 0 2) (drop 2 (frameDemands ed s)) tt, breach-append (rows 2 1) (drop 3 (frameDemands ed s)) tt, breach-append (rows 3 3) (rows 6 2) tt)
@@ -116,7 +115,7 @@ module _ (ed : ℕ) (s : List ℕ) where
   pub judged-only : {n : ℕ} → Judged ed s n → n ≡ ruleIn ed s
   judged-only {n} j = rw nine (only j)
     where
-      only : {n : ℕ} → Judged ed s n → n ≡ firstOf (breach (rows 0 2) ∷ breach (rows 2 1) ∷ breach (rows 3 3) ∷ breach (rows 6 2) ∷ breach (zeroDemands s) ∷ passRule s 0 ∷ passRule s 1 ∷ passRule s 2 ∷ ninth ∷ [])
+      only : {n : ℕ} → Judged ed s n → n ≡ firstOf (breach (rows 0 2) ∷ breach (rows 2 1) ∷ breach (rows 3 3) ∷ breach (rows 6 2) ∷ breach (zeroDemands s) ∷ entriesRule s 0 ∷ entriesRule s 1 ∷ entriesRule s 2 ∷ ninth ∷ [])
       only (breaks1 n) = rw (says-no says1 n)
       only (breaks2 a n) = rw (says-yes says1 a, says-no says2 n)
       only (breaks3 a b n) = rw (says-yes says1 a, says-yes says2 b, says-no says3 n)

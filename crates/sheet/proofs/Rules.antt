@@ -1,29 +1,22 @@
--- The walk: what a step is judged against, and where the walk leaves, with which rule.
+-- The walk: what its steps leave, and where it leaves, with which rule.
 -- Assumes nothing.
-use Prim.Native.Nat.{ℕ, zero, suc, _+_, _-_, _≤_, _<_}
-use mathlib.Core.Path.{_≡_, sym, _∙_, ap}
+use Prim.Native.Nat.{ℕ, _+_, _≤_, _<_}
+use mathlib.Core.Path.{_≡_, refl, sym, _∙_, ap}
 use mathlib.Core.List.{List}
-use borrow.Author.Tests.{lt-ltb, le-ltb}
 use native.Mathlib.Numerals.{add-one}
 use native.Mathlib.Omega.{arith}
 use Rattle.sheet.specs.Demand.{Tells}
-use Rattle.sheet.specs.First.{first}
+use Rattle.sheet.specs.First.{first, orElse}
 use Rattle.sheet.specs.Kind.{byKind, kinds}
 use Rattle.sheet.specs.Entries.{count, contents, entry, floor, floorAfter, offsetOf, lengthOf, sixBits, bodyEnd, startOf, reached}
-use Rattle.sheet.specs.Rules.{regionDemands, propertyDemands, groupDemands, bodyRows, entryDemands, bodyDemands, endDemands, frameDemands, zeroDemands, kindAt, regionBodies, passes, stepRule, passRule, walkRule, ruleIn, ruleOf}
-use Rattle.sheet.specs.Walk.{Framed, Entry, Counted, Step, Stepped, Says, KindOf, Carried, before}
+use Rattle.sheet.specs.Rules.{regionDemands, propertyDemands, groupDemands, bodyRows, entryDemands, bodyDemands, endDemands, frameDemands, zeroDemands, entryRule, bodyRule, entriesRule, bodiesRule, walkRule, ruleIn, ruleOf}
+use Rattle.sheet.specs.Walk.{Framed, Entry, Counted, Says}
 use Rattle.sheet.specs.declared.judge.Judged.{Judged}
 use Rattle.sheet.proofs.Demands.{told, met}
-use Rattle.sheet.proofs.First.{orElse-some, first-none, first-more, first-stop}
+use Rattle.sheet.proofs.First.{orElse-some, orElse-zero, orElse-assoc, first-none, first-suc, first-more, first-stop}
 
 pub framed : (ed : ℕ) (s : List ℕ) (r : ℕ) → Tells r (frameDemands ed s) → r ≡ 0 → Framed ed s
 framed ed s r t e = record { rows = met (frameDemands ed s) tt (sym (told r _ t) ∙ e) }
-
-pub body-kind : (p : ℕ) → regionBodies ≤ p → p - regionBodies ≡ kindAt p
-body-kind zero h = absurd (omega arith)
-body-kind (suc zero) h = absurd (omega arith)
-body-kind (suc (suc zero)) h = absurd (omega arith)
-body-kind (suc (suc (suc p))) h = omega arith
 
 -- an entry of a kind, where the kind is known
 module _ (s : List ℕ) (k i j : ℕ) (q : k ≡ j) where
@@ -45,129 +38,98 @@ module _ (s : List ℕ) (k i j : ℕ) (q : k ≡ j) where
         let n : offsetOf j e + lengthOf j e ≡ reached s k (i + 1) = unfold reached bodyEnd in rw (add-one i, q, ee) in
         record { rule = rw (← f, q, ← ee) (o .rule); next = o .next ∙ n }
 
-module _ (s : List ℕ) (p : ℕ) where
-  -- what the first step is judged against
-  pub begin-entry : p < regionBodies → 0 ≡ before s p 0
-  unfolding before floor
-  begin-entry h = rw (lt-ltb p regionBodies h)
+-- THE INVARIANTS: no entry of a kind before kind k has broken a rule, nor one of kind k before entry i; `late` is the rule that
+-- their bodies have broken, and z where these end
+pub record Walked (s : List ℕ) (k z late : ℕ) : Type 0 where
+  pub within : k ≤ kinds
+  pub clean : first (entriesRule s) k ≡ 0
+  pub broken : late ≡ first (bodiesRule s) k
+  pub ends : z ≡ startOf s k
 
-  begin-body : regionBodies ≤ p → startOf s (kindAt p) ≡ before s p 0
-  unfolding before reached
-  begin-body h = rw (le-ltb p regionBodies h)
-
-  pub begin-first : (z : ℕ) → p ≡ regionBodies → z ≡ contents s → z ≡ before s p 0
-  unfolding startOf
-  begin-first z e q = q ∙ ap (λ (x : ℕ). startOf s (kindAt x)) (sym e) ∙ begin-body (omega arith)
-
-  pub begin-next : (z : ℕ) → regionBodies ≤ p → (p ≡ regionBodies → ⊥) → Carried s p z → z ≡ before s p 0
-  begin-next z h n c = c .ends (omega arith) ∙ begin-body h
-
-  module _ (i k : ℕ) (ek : k ≡ kindAt p) where
-    -- what a step is judged against, and what it says
-    pub step-floor : (z : ℕ) → p < regionBodies → z ≡ before s p i → z ≡ floor s k i
-    unfolding before
-    step-floor z h e = rw (lt-ltb p regionBodies h, ← ek) at e
-
-    pub step-reached : (z : ℕ) → regionBodies ≤ p → z ≡ before s p i → z ≡ reached s k i
-    unfolding before
-    step-reached z h e = rw (le-ltb p regionBodies h, ← ek) at e
-
-    pub step-entry : (r : Judged) → p < regionBodies → Says (entryDemands s k i) (floor s k (i + 1)) r → Stepped s p i r
-    unfolding before stepRule
-    step-entry r h o =
-        record { rule = rw (lt-ltb p regionBodies h, ← ek) (told _ _ (o .rule)); next = rw (lt-ltb p regionBodies h, ← ek) (o .next) }
-
-    pub step-body : (r : Judged) → regionBodies ≤ p → Says (bodyDemands s k i) (reached s k (i + 1)) r → Stepped s p i r
-    unfolding before stepRule
-    step-body r h o =
-        record { rule = rw (le-ltb p regionBodies h, ← ek) (told _ _ (o .rule)); next = rw (le-ltb p regionBodies h, ← ek) (o .next) }
-
-pub step-there : {s : List ℕ} {p i k : ℕ} → Step s p i → KindOf p k → Entry s k i
-step-there h q = record { framed = h .framed; kind = q .kind; below = rw (q .is) (h .below) }
-
--- what is left for the next pass
-carry : (s : List ℕ) (p i z : ℕ) → i ≡ count s (kindAt p) → z ≡ before s p i → Carried s (p + 1) z
-unfolding before reached startOf
-carry s p i z n q = record { ends = λ h. q ∙ go p n (omega arith) }
-  where
-    go : (p : ℕ) → i ≡ count s (kindAt p) → regionBodies ≤ p → before s p i ≡ startOf s (kindAt (p + 1))
-    go zero n h = absurd (omega arith)
-    go (suc zero) n h = absurd (omega arith)
-    go (suc (suc zero)) n h = absurd (omega arith)
-    go (suc (suc (suc p))) n h = rw (n, add-one (suc (suc (suc p))), le-ltb (suc (suc (suc p))) regionBodies h)
-
--- THE INVARIANTS: no pass before pass p has found a rule broken, and no step before step i of pass p
-pub record Walked (s : List ℕ) (p z : ℕ) : Type 0 where
-  pub within : p ≤ passes
-  pub clean : first (passRule s) p ≡ 0
-  pub carried : Carried s p z
-
-pub record Passed (s : List ℕ) (p n z i : ℕ) : Type 0 where
+pub record Passed (s : List ℕ) (k n f z late i : ℕ) : Type 0 where
   pub within : i ≤ n
-  pub whole : n ≡ count s (kindAt p)
-  pub clean : first (stepRule s p) i ≡ 0
-  pub against : z ≡ before s p i
+  pub whole : n ≡ count s k
+  pub clean : first (entryRule s k) i ≡ 0
+  pub broken : late ≡ orElse (first (bodiesRule s) k) (first (bodyRule s k) i)
+  pub least : f ≡ floor s k i
+  pub ends : z ≡ reached s k i
 
 module _ (s : List ℕ) where
-  pub walk-begins : Walked s 0 0
-  walk-begins = record { within = omega arith; clean = first-none _; carried = record { ends = λ h. absurd (omega arith) } }
+  pub walk-begins : (z : ℕ) → z ≡ contents s → Walked s 0 z 0
+  unfolding startOf
+  walk-begins z e = record { within = omega arith; clean = first-none _; broken = sym (first-none _); ends = e }
 
-  pub walk-ends : (p z : ℕ) → Walked s p z → passes ≤ p → z ≡ startOf s kinds
-  walk-ends p z w h =
-      let q : p ≡ passes = omega (arith, w .within) in
-      w .carried .ends (omega arith) ∙ ap (λ (x : ℕ). startOf s (kindAt x)) q
+  pub walk-ends : (k z late : ℕ) → Walked s k z late → kinds ≤ k → z ≡ startOf s kinds
+  walk-ends k z late w h =
+      let q : k ≡ kinds = omega (arith, w .within) in
+      w .ends ∙ ap (startOf s) q
 
-  module _ (p n z : ℕ) where
-    pub pass-begins : (k : ℕ) → KindOf p k → Counted s k n → z ≡ before s p 0 → Passed s p n z 0
-    pass-begins k q m e =
-        record { within = omega arith; whole = m .is ∙ ap (count s) (q .is); clean = first-none _; against = e }
+  module _ (k n z late : ℕ) where
+    pub pass-begins : Walked s k z late → Counted s k n → Passed s k n 0 z late 0
+    unfolding floor reached
+    pass-begins w m =
+        record {
+          within = omega arith;
+          whole = m .is;
+          clean = first-none _;
+          broken = w .broken ∙ sym (orElse-zero _) ∙ ap (orElse (first (bodiesRule s) k)) (sym (first-none _));
+          least = refl;
+          ends = w .ends;
+        }
 
-    module _ (i : ℕ) (h : Passed s p n z i) where
-      pub pass-step : Framed 1 s → p < passes → i < n → Step s p i
-      pass-step f hp hi = record { framed = f; pass = hp; below = omega (arith, h .whole) }
+    module _ (f i : ℕ) (h : Passed s k n f z late i) where
+      pub pass-entry : Framed 1 s → k < kinds → i < n → Entry s k i
+      pass-entry fr hk hi = record { framed = fr; kind = hk; below = omega (arith, h .whole) }
 
-      pub pass-goes : (r : Judged) → i < n → Stepped s p i r → r .rule ≡ 0 → Passed s p n (r .next) (i + 1)
-      pass-goes r hi e q =
+      pub pass-goes : (e b : Judged) (late′ : ℕ) → i < n → Says (entryDemands s k i) (floor s k (i + 1)) e → e .rule ≡ 0
+          → Says (bodyDemands s k i) (reached s k (i + 1)) b → late′ ≡ orElse late (b .rule)
+          → Passed s k n (e .next) (b .next) late′ (i + 1)
+      unfolding entryRule bodyRule
+      pass-goes e b late′ hi u q v l =
           record {
             within = omega arith;
             whole = h .whole;
-            clean = first-more _ _ (h .clean) (sym (e .rule) ∙ q);
-            against = e .next;
+            clean = first-more _ _ (h .clean) (sym (told _ _ (u .rule)) ∙ q);
+            broken = rw (first-suc (bodyRule s k) i, ← orElse-assoc (first (bodiesRule s) k) (first (bodyRule s k) i) (bodyRule s k i), ← h .broken, ← told _ _ (v .rule)) l;
+            least = u .next;
+            ends = v .next;
           }
 
-      pub walk-goes : (z₀ : ℕ) → Walked s p z₀ → p < passes → n ≤ i → Walked s (p + 1) z
-      unfolding passRule
-      walk-goes z₀ w hp hi =
+      pub walk-goes : (z₀ late₀ : ℕ) → Walked s k z₀ late₀ → k < kinds → n ≤ i → Walked s (k + 1) z late
+      unfolding entriesRule bodiesRule startOf reached
+      walk-goes z₀ late₀ w hk hi =
           let e : i ≡ n = omega (arith, h .within) in
-          let c : i ≡ count s (kindAt p) = e ∙ h .whole in
+          let c : i ≡ count s k = e ∙ h .whole in
           record {
             within = omega arith;
             clean = first-more _ _ (w .clean) (rw (← c) (h .clean));
-            carried = carry s p i z c (h .against);
+            broken = rw (first-suc (bodiesRule s) k, ← c) (h .broken);
+            ends = rw (add-one k, ← c) (h .ends);
           }
 
 -- where the walk leaves
 module _ (s : List ℕ) (r : ℕ) where
-  pub left-at : (p n z i z₀ : ℕ) (j : Judged) → Walked s p z₀ → Passed s p n z i → p < passes → i < n → Stepped s p i j → r ≡ j .rule
-      → (r ≡ 0 → ⊥) → r ≡ walkRule s
+  pub left-at : (k n f z late i z₀ late₀ : ℕ) (e : Judged) → Walked s k z₀ late₀ → Passed s k n f z late i → k < kinds → i < n
+      → Says (entryDemands s k i) (floor s k (i + 1)) e → r ≡ e .rule → (r ≡ 0 → ⊥) → r ≡ walkRule s
   unfolding walkRule
-  left-at p n z i z₀ j w v hp hi t f h = rw (← pass) (sym (orElse-some r _ h))
+  left-at k n f z late i z₀ late₀ e w v hk hi u q h = rw (← all) (sym (orElse-some r _ h))
     where
-      e : r ≡ stepRule s p i
-      e = f ∙ t .rule
+      here : r ≡ entryRule s k i
+      here = unfold entryRule in q ∙ told _ _ (u .rule)
 
-      step : r ≡ passRule s p
-      step = unfold passRule in rw (← v .whole) (e ∙ first-stop (stepRule s p) n i hi (v .clean) (λ q. h (e ∙ q)))
+      kind : r ≡ entriesRule s k
+      kind = unfold entriesRule in rw (← v .whole) (here ∙ first-stop (entryRule s k) n i hi (v .clean) (λ x. h (here ∙ x)))
 
-      pass : r ≡ first (passRule s) passes
-      pass = step ∙ first-stop (passRule s) passes p hp (w .clean) (λ q. h (step ∙ q))
+      all : r ≡ first (entriesRule s) kinds
+      all = kind ∙ first-stop (entriesRule s) kinds k hk (w .clean) (λ x. h (kind ∙ x))
 
-  pub at-end : (p z : ℕ) → Walked s p z → passes ≤ p → Tells r (endDemands s) → r ≡ walkRule s
+  pub at-end : (k z late t : ℕ) → Walked s k z late → kinds ≤ k → Tells t (endDemands s) → r ≡ orElse late t → r ≡ walkRule s
   unfolding walkRule
-  at-end p z w h t =
-      let q : p ≡ passes = omega (arith, w .within) in
-      let c : first (passRule s) passes ≡ 0 = rw q at (w .clean) in
-      rw c (told _ _ t)
+  at-end k z late t w h u e =
+      let q : k ≡ kinds = omega (arith, w .within) in
+      let c : first (entriesRule s) kinds ≡ 0 = rw q at (w .clean) in
+      let b : late ≡ first (bodiesRule s) kinds = rw q at (w .broken) in
+      rw (c, ← b, ← told _ _ u) e
 
   pub in-frame : Tells r (frameDemands 1 s) → (r ≡ 0 → ⊥) → r ≡ ruleOf s
   unfolding ruleIn

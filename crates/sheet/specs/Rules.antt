@@ -1,12 +1,11 @@
 -- THE RULES S1 to S9 as rows, and the first rule broken.
 -- Assumes nothing.
-use Prim.Native.Nat.{ℕ, zero, suc, _+_, _/_, _%_}
+use Prim.Native.Nat.{ℕ, _+_, _/_, _%_}
 use mathlib.Core.List.{List, [], _∷_}
 use lib.ListN.{length}
-use lib.Dec.{ltb}
-use Rattle.sheet.specs.Demand.{Demand, _≼_, _≐_, _⦂_, breach, pick}
+use Rattle.sheet.specs.Demand.{Demand, _≼_, _≐_, _⦂_, breach}
 use Rattle.sheet.specs.First.{first, orElse}
-use Rattle.sheet.specs.Kind.{byKind, kinds, regions, properties, groups}
+use Rattle.sheet.specs.Kind.{byKind, kinds}
 use Rattle.sheet.specs.Layout.{_of_}
 use Rattle.sheet.specs.Head as head
 use Rattle.sheet.specs.Region as region
@@ -87,45 +86,23 @@ bodyDemands s k i = bodyRows (offsetOf k (entry s k i)) (reached s k i) (sixBits
 abbrev pub endDemands : List ℕ → List Demand
 endDemands s = (9 ⦂ startOf s kinds ≐ length s) ∷ []
 
--- The passes of the walk, in this order: the entries of each kind, then the bodies of each kind.
-abbrev pub regionEntries : ℕ
-regionEntries = 0
+-- the rule that entry i of kind k breaks, S6 to S8, and that its body breaks, S9
+unfoldable pub entryRule : List ℕ → ℕ → ℕ → ℕ
+entryRule s k i = breach (entryDemands s k i)
 
-abbrev pub propertyEntries : ℕ
-propertyEntries = 1
+unfoldable pub bodyRule : List ℕ → ℕ → ℕ → ℕ
+bodyRule s k i = breach (bodyDemands s k i)
 
-abbrev pub groupEntries : ℕ
-groupEntries = 2
+-- the first that an entry of kind k breaks, and that one of their bodies breaks
+unfoldable pub entriesRule : List ℕ → ℕ → ℕ
+entriesRule s k = first (entryRule s k) (count s k)
 
-abbrev pub regionBodies : ℕ
-regionBodies = 3
+unfoldable pub bodiesRule : List ℕ → ℕ → ℕ
+bodiesRule s k = first (bodyRule s k) (count s k)
 
-abbrev pub propertyBodies : ℕ
-propertyBodies = 4
-
-abbrev pub groupBodies : ℕ
-groupBodies = 5
-
-abbrev pub passes : ℕ
-passes = 6
-
--- the kind that a pass is over
-abbrev pub kindAt : ℕ → ℕ
-kindAt zero = regions
-kindAt (suc zero) = properties
-kindAt (suc (suc zero)) = groups
-kindAt (suc (suc (suc p))) = p
-
-unfoldable pub stepRule : List ℕ → ℕ → ℕ → ℕ
-stepRule s p i =
-    pick (ltb p regionBodies) (breach (entryDemands s (kindAt p) i)) (breach (bodyDemands s (kindAt p) i))
-
-unfoldable pub passRule : List ℕ → ℕ → ℕ
-passRule s p = first (stepRule s p) (count s (kindAt p))
-
--- S6 to S9
+-- S6 to S9: the entries of all kinds, then the bodies of all kinds, then the end
 unfoldable pub walkRule : List ℕ → ℕ
-walkRule s = orElse (first (passRule s) passes) (breach (endDemands s))
+walkRule s = orElse (first (entriesRule s) kinds) (orElse (first (bodiesRule s) kinds) (breach (endDemands s)))
 
 -- the first rule of an edition that the sheet breaks, and 0 if it breaks none
 unfoldable pub ruleIn : ℕ → List ℕ → ℕ

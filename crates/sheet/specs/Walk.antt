@@ -1,14 +1,13 @@
 -- What calls of this crate promise one another on the walk over a sheet.
 -- Assumes nothing.
-use Prim.Native.Nat.{ℕ, _+_, _≤_, _<_}
+use Prim.Native.Nat.{ℕ, _≤_, _<_}
 use mathlib.Core.Path.{_≡_}
 use mathlib.Core.List.{List}
 use lib.ListN.{length}
-use lib.Dec.{ltb}
-use Rattle.sheet.specs.Demand.{Demand, Met, Tells, pick}
+use Rattle.sheet.specs.Demand.{Demand, Met, Tells}
 use Rattle.sheet.specs.Kind.{kinds, OfKind}
-use Rattle.sheet.specs.Entries.{count, size, entry, floor, reached, startOf, offsetOf, lengthOf}
-use Rattle.sheet.specs.Rules.{frameDemands, stepRule, kindAt, regionBodies, passes}
+use Rattle.sheet.specs.Entries.{count, size, entry, offsetOf, lengthOf}
+use Rattle.sheet.specs.Rules.{frameDemands}
 use Rattle.sheet.specs.declared.judge.Judged.{Judged}
 use Rattle.sheet.specs.Region as region
 
@@ -47,31 +46,7 @@ pub record Long (k : ℕ) (e : List ℕ) (r : ℕ) : Type 0 where
   pub is : OfKind r k (lengthOf 0 e) (lengthOf 1 e) (lengthOf 2 e)
   pub below : r < 16777216
 
--- what step i of pass p is judged against: the least first word, or where the body before ended
-unfoldable pub before : List ℕ → ℕ → ℕ → ℕ
-before s p i = pick (ltb p regionBodies) (floor s (kindAt p) i) (reached s (kindAt p) i)
-
--- step i of pass p is one
-pub record Step (s : List ℕ) (p i : ℕ) : Type 0 where
-  pub framed : Framed 1 s
-  pub pass : p < passes
-  pub below : i < count s (kindAt p)
-
--- r is the kind that pass p is over
-pub record KindOf (p r : ℕ) : Type 0 where
-  pub is : r ≡ kindAt p
-  pub kind : r < kinds
-
--- z is where the bodies before pass p ended, if there was a pass over bodies
-pub record Carried (s : List ℕ) (p z : ℕ) : Type 0 where
-  pub ends : regionBodies < p → z ≡ startOf s (kindAt p)
-
 -- the first rule that some rows break, and n
 pub record Says (ds : List Demand) (n : ℕ) (r : Judged) : Type 0 where
   pub rule : Tells (r .rule) ds
   pub next : r .next ≡ n
-
--- what step i of pass p says, and what the next is judged against
-pub record Stepped (s : List ℕ) (p i : ℕ) (r : Judged) : Type 0 where
-  pub rule : r .rule ≡ stepRule s p i
-  pub next : r .next ≡ before s p (i + 1)

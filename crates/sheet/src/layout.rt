@@ -1,4 +1,4 @@
-// Where the numbers of a sheet stand, by the names of specs/: the head, the three kinds of entries, the kinds and the passes.
+// Where the numbers of a sheet stand, by the names of specs/: the head, the three kinds of entries, and the kinds.
 
 pub mod head {
     pub const SIZE: usize = 32;
@@ -91,17 +91,6 @@ pub mod kind {
     pub const PROPERTIES: usize = 1;
 
     pub const GROUPS: usize = 2;
-}
 
-// The passes of the walk: the entries of each kind, then the bodies of each kind.
-pub mod pass {
-    pub const REGION_ENTRIES: usize = 0;
-
-    pub const PROPERTY_ENTRIES: usize = 1;
-
-    pub const GROUP_ENTRIES: usize = 2;
-
-    pub const REGION_BODIES: usize = 3;
-
-    pub const ALL: usize = 6;
+    pub const ALL: usize = 3;
 }

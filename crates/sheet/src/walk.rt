@@ -1,11 +1,12 @@
-// S6 to S9: the walk over the entries, then over the bodies, that stops at the first rule broken.
+// S6 to S9: the walk over the entries and their bodies, that stops at the first rule broken.
 ghost use mathlib.Core.Path.{_≡_};
-ghost use Prim.Native.Nat.{_+_, _<_};
+ghost use Prim.Native.Nat.{_+_};
 ghost use Rattle.sheet.specs.Demand.{Tells};
 ghost use Rattle.sheet.specs.Kind.{kinds};
 ghost use Rattle.sheet.specs.Entries.{floor as floorOf, reached, startOf};
-ghost use Rattle.sheet.specs.Rules.{entryDemands, bodyDemands, endDemands, passes, walkRule, ruleOf};
-ghost use Rattle.sheet.specs.Walk.{Framed, Entry, Step, Stepped, Says, KindOf, Carried, before};
+ghost use Rattle.sheet.specs.First.{orElse};
+ghost use Rattle.sheet.specs.Rules.{entryDemands, bodyDemands, endDemands, walkRule, ruleOf};
+ghost use Rattle.sheet.specs.Walk.{Framed, Entry, Says};
 use crate::frame::frame_rule;
 use crate::frame::zero_rule;
 use crate::judge::Judged;
@@ -14,37 +15,9 @@ use crate::judge::group_step;
 use crate::judge::property_step;
 use crate::judge::region_step;
 use crate::layout::kind;
-use crate::layout::pass;
 use crate::table::contents;
 use crate::table::entry;
 use crate::table::many;
-
-// The kind that a pass is over.
-fn kind_at(p: usize) -> usize
-    requires { ⌜ p < passes ⌝ }
-    ensures { λ r. ⌜ KindOf p r ⌝ }
-{
-    match p {
-        pass::REGION_ENTRIES => kind::REGIONS,
-        pass::PROPERTY_ENTRIES => kind::PROPERTIES,
-        pass::GROUP_ENTRIES => kind::GROUPS,
-        _ => p - pass::REGION_BODIES,
-    }
-}
-
-// What the first step of a pass is judged against, z being what the pass before has left.
-fn begin(s: &[u8], p: usize, z: usize) -> usize
-    requires { ⌜ Framed 1 (now s) × Carried (now s) p z ⌝ }
-    ensures { λ r. ⌜ r ≡ before (now (s .entry)) p 0 ⌝ }
-{
-    if p < pass::REGION_BODIES {
-        return 0;
-    }
-    if p == pass::REGION_BODIES {
-        return contents(s);
-    }
-    z
-}
 
 // S6, S7 or S8 of entry i of a kind, and the floor of the next. An arm for each kind, so that each is compiled by itself.
 fn entry_step(s: &[u8], k: usize, i: usize, floor: usize) -> Judged
@@ -70,19 +43,6 @@ fn body_step(s: &[u8], k: usize, i: usize, z: usize) -> Judged
     }
 }
 
-// Step i of a pass, judged against z.
-fn step(s: &[u8], p: usize, i: usize, z: usize) -> Judged
-    requires { ⌜ Step (now s) p i × (z ≡ before (now s) p i) ⌝ }
-    ensures { λ r. ⌜ Stepped (now (s .entry)) p i r ⌝ }
-{
-    let k = kind_at(p);
-    if p < pass::REGION_BODIES {
-        entry_step(s, k, i, z)
-    } else {
-        body_step(s, k, i, z)
-    }
-}
-
 // S9, of the last body, which ends at z.
 fn end_rule(s: &[u8], z: usize) -> u8
     requires { ⌜ z ≡ startOf (now s) kinds ⌝ }
@@ -91,30 +51,41 @@ fn end_rule(s: &[u8], z: usize) -> u8
     if z == s.len() { 0 } else { 9 }
 }
 
-// S6 to S9.
+// The first of two rules that is one.
+fn or_else(a: u8, b: u8) -> u8
+    ensures { λ r. ⌜ r ≡ orElse a b ⌝ }
+{
+    if a != 0 { a } else { b }
+}
+
+// S6 to S9, each entry with its body in one go: a body's rule counts once all entries have passed.
 fn walk(s: &[u8]) -> u8
     requires { ⌜ Framed 1 (now s) ⌝ }
     ensures { λ r. ⌜ r ≡ walkRule (now (s .entry)) ⌝ }
 {
-    let mut p = 0;
-    let mut z = 0;
+    let mut k = 0;
+    let mut z = contents(s);
+    let mut late = 0;
     'walk: loop {
-        if pass::ALL <= p {
-            break 'walk end_rule(s, z);
+        if kind::ALL <= k {
+            break 'walk or_else(late, end_rule(s, z));
         }
-        let n = many(s, kind_at(p));
+        let n = many(s, k);
         let mut i = 0;
-        z = begin(s, p, z);
+        let mut floor = 0;
         while i < n {
-            let judged = step(s, p, i, z);
+            let judged = entry_step(s, k, i, floor);
             let rule = judged.rule;
             if rule != 0 {
                 break 'walk rule;
             }
-            z = judged.next;
+            floor = judged.next;
+            let body = body_step(s, k, i, z);
+            late = or_else(late, body.rule);
+            z = body.next;
             i += 1;
         }
-        p += 1;
+        k += 1;
     }
 }
 

@@ -1,23 +1,23 @@
--- `sheet::walk::walk` meets its contract. The invariants: no pass before this one has found a rule broken, and no step before
--- this one in the pass. Assumes nothing.
+-- `sheet::walk::walk` meets its contract. The invariants: no entry before this one has broken a rule, and `late` is the rule
+-- that their bodies have broken. Assumes nothing.
 use Prim.Native.Nat.{_-_}
 use borrow.Author.Needs.{needs}
-use Rattle.sheet.specs.Rules.{passes}
-use Rattle.sheet.proofs.Rules.{Walked, Passed, walk-begins, walk-ends, pass-begins, pass-step, pass-goes, walk-goes, left-at, at-end}
+use Rattle.sheet.specs.Kind.{kinds}
+use Rattle.sheet.proofs.Rules.{Walked, Passed, walk-begins, walk-ends, pass-begins, pass-entry, pass-goes, walk-goes, left-at, at-end}
 use Rattle.sheet.proofs.walk.walk.Statement.{statement}
 use Rattle.sheet.proofs.walk.walk.Tie as tie
 
 abbrev Inv-loop : tie.InvT-loop
-Inv-loop s p z₀ n i₀ z i = Passed s p n z i
+Inv-loop s k z₀ late₀ n i₀ f₀ z late i f = Passed s k n f z late i
 
 abbrev μ-loop : tie.MeasureT-loop
-μ-loop s p z₀ n i₀ z i = n - i
+μ-loop s k z₀ late₀ n i₀ f₀ z late i f = n - i
 
 abbrev Inv-walk : tie.InvT-walk
-Inv-walk s p₀ z₀ p z = Walked s p z
+Inv-walk s k₀ z₀ late₀ k z late = Walked s k z late
 
 abbrev μ-walk : tie.MeasureT-walk
-μ-walk s p₀ z₀ p z = passes - p
+μ-walk s k₀ z₀ late₀ k z late = kinds - k
 
 pub walk-spec : {M : Type 1} → statement M
 walk-spec =
@@ -27,13 +27,15 @@ walk-spec =
     μ-loop
     Inv-walk
     μ-walk
+    (λ c κs. search needs)
     (λ c. search walk-begins)
     (λ c κs. search walk-ends)
     (λ c κs. search needs)
     (λ c κs. search needs)
-    (λ c κs. search needs)
     (λ c. search pass-begins)
-    (λ c κs. search (pass-step, needs))
+    (λ c κs. search (pass-entry, needs))
+    (λ c κs. search (pass-entry, needs))
+    (λ c κs. search needs)
     (λ c. search needs)
     (λ c. search needs)
     (λ c. search pass-goes)
