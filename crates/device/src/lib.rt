@@ -29,9 +29,20 @@ pub fn request(
 ) -> Done
     ensures { λ r. ⌜ Did (stepOf (length (now (answer .entry))) (now (sheet .entry)) session mode group (now (apdu .entry))) r (now (answer .entry)) (now (sheet .exit)) (now (answer .exit)) ⌝ }
 {
-    let got = pdu::read(apdu);
+    let f = pdu::service_of(pdu::code(apdu));
+    let got = pdu::read_found(f, apdu);
     let d = judge::data_in(got, apdu);
-    let k = judge::judge(answer.len(), &sheet[..], session, mode, group, apdu, got, d);
+    let k = judge::judge(
+        answer.len(),
+        &sheet[..],
+        session,
+        mode,
+        group,
+        apdu,
+        f,
+        got,
+        d,
+    );
     store::carry_out(sheet, k, d);
     let reply = k.answer;
     let count = answer::answer(answer, reply, &sheet[..], d);

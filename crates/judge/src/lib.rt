@@ -14,6 +14,8 @@ ghost use mathlib.Core.Path.{_≡_};
 ghost use Prim.Native.Nat.{ℕ};
 ghost use mathlib.Core.List.{List};
 ghost use Rattle.sheet.specs.Rules.{ruleOf};
+ghost use Rattle.pdu.specs.Rules.{codeOf};
+ghost use Rattle.pdu.specs.Table.{serviceAt};
 ghost use Rattle.pdu.specs.Read.{readPdu};
 ghost use Rattle.judge.specs.Judge.{dataIn, isShut, isAccepted, reachedOf, foundOf, judgeOf};
 use decisions::refused;
@@ -141,7 +143,8 @@ fn found(s: &[u8], q: Session, mode: u8, group: u16, got: Parsed, d: &[u8], f: F
     }
 }
 
-// What is decided about a request that was read, with its data: room is the length of the answer buffer.
+// What is decided about a request that was read, with its data, and what its code names: room is the length of the answer
+// buffer.
 pub fn judge(
     room: usize,
     s: &[u8],
@@ -149,10 +152,11 @@ pub fn judge(
     mode: u8,
     group: u16,
     apdu: &[u8],
+    f: Found,
     got: Parsed,
     d: &[u8],
 ) -> Decision
-    requires { ⌜ (got ≡ readPdu (now apdu)) × (now d ≡ dataIn got (now apdu)) ⌝ }
+    requires { ⌜ (f ≡ serviceAt (codeOf (now apdu))) × (got ≡ readPdu (now apdu)) × (now d ≡ dataIn got (now apdu)) ⌝ }
     ensures { λ r. ⌜ r ≡ judgeOf room (now (s .entry)) q mode group (now (apdu .entry)) ⌝ }
 {
     if room < 16 {
@@ -173,5 +177,5 @@ pub fn judge(
     if is_shut(q, mode) {
         return refused(7);
     }
-    found(s, q, mode, group, got, d, pdu::service_of(pdu::code(apdu)))
+    found(s, q, mode, group, got, d, f)
 }

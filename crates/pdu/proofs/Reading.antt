@@ -62,6 +62,10 @@ unfit k s p b e f t =
     let g : fits (rowOf k) (valuesAt (rowOf k .items) 2 s) (length s) ≡ false = sym (built-fits k s (length s)) ∙ sym (rw e at f) ∙ t in
     simp g
 
+-- what the code of the bytes names
+pub named : (s : List ℕ) (c : ℕ) (f : Found) → c ≡ codeOf s → f ≡ serviceAt c → f ≡ serviceAt (codeOf s)
+named s c f e g = rw (← e) g
+
 pub too-short : (s : List ℕ) → length s < 2 → Refused 5 ≡ readPdu s
 unfolding readPdu
 too-short s h = simp (lt-ltb _ _ h)
@@ -70,11 +74,11 @@ pub too-long : (s : List ℕ) → 2 ≤ length s → 16 < length s → Refused 5
 unfolding readPdu
 too-long s l h = simp (le-ltb _ _ l, lt-ltb _ _ h)
 
-module _ (s : List ℕ) (c : ℕ) (f : Found) (l : 2 ≤ length s) (h : length s ≤ 16) (e : c ≡ codeOf s) (g : f ≡ serviceAt c) where
+module _ (s : List ℕ) (f : Found) (l : 2 ≤ length s) (h : length s ≤ 16) (g : f ≡ serviceAt (codeOf s)) where
   pub by-code : (k : Service) (r : Parsed) → f ≡ Listed k → r ≡ readAs k s → r ≡ readPdu s
   unfolding readPdu
-  by-code k r i j = simp (le-ltb _ _ l, le-ltb _ _ h, ← e, ← g, i) j
+  by-code k r i j = simp (le-ltb _ _ l, le-ltb _ _ h, ← g, i) j
 
   pub no-code : f ≡ Unknown → Refused 8 ≡ readPdu s
   unfolding readPdu
-  no-code i = simp (le-ltb _ _ l, le-ltb _ _ h, ← e, ← g, i)
+  no-code i = simp (le-ltb _ _ l, le-ltb _ _ h, ← g, i)

@@ -197,8 +197,9 @@ pub fn service_of(code: u16) -> Found
     }
 }
 
-// The PDU in the bytes, or the number of the refusal.
-pub fn read(apdu: &[u8]) -> Parsed
+// The PDU in bytes whose code names what is found, or the number of the refusal.
+pub fn read_found(found: Found, apdu: &[u8]) -> Parsed
+    requires { ⌜ found ≡ serviceAt (codeOf (now apdu)) ⌝ }
     ensures { λ r. ⌜ r ≡ readPdu (now (apdu .entry)) ⌝ }
 {
     if apdu.len() < 2 {
@@ -207,11 +208,17 @@ pub fn read(apdu: &[u8]) -> Parsed
     if 16 < apdu.len() {
         return Parsed::Refused(5);
     }
-    let found = service_of(code(apdu));
     match found {
         Found::Listed(k) => parse::judged(k, apdu),
         Found::Unknown => Parsed::Refused(8),
     }
+}
+
+// The PDU in the bytes, or the number of the refusal.
+pub fn read(apdu: &[u8]) -> Parsed
+    ensures { λ r. ⌜ r ≡ readPdu (now (apdu .entry)) ⌝ }
+{
+    read_found(service_of(code(apdu)), apdu)
 }
 
 // The outcome of a reading by its number.

@@ -1,21 +1,22 @@
 -- `device::request` meets its contract: what was read is judged, what was judged is carried out, what was carried out is answered.
 -- Assumes nothing.
 use borrow.Author.Needs.{needs}
+use Rattle.pdu.proofs.Reading.{named}
 use Rattle.device.proofs.Requests.{carry-needs, answer-needs, did}
 use Rattle.device.proofs.request.Statement.{statement}
 use Rattle.device.proofs.request.Tie as tie
 
 carry-out-requires : tie.Need-carry-out-requires
 carry-out-requires c κs =
-    carry-needs _ _ _ _ _ _ _ _ _ (c .before .before .before .before .read .ensures) (c .before .before .before .data-in .ensures) (c .before .judge .ensures)
+    carry-needs _ _ _ _ _ _ _ _ _ (c .before .before .before .before .read-found .ensures) (c .before .before .before .data-in .ensures) (c .before .judge .ensures)
 
 answer-requires : tie.Need-answer-requires
 answer-requires c κs =
-    answer-needs _ _ _ _ _ _ _ _ _ (c .before .before .before .before .before .before .before .before .before .read .ensures) (c .before .before .before .before .before .before .before .before .data-in .ensures) (c .before .before .before .before .before .before .judge .ensures) _ (c .before .before .before .before .carry-out .ensures)
+    answer-needs _ _ _ _ _ _ _ _ _ (c .before .before .before .before .before .before .before .before .before .read-found .ensures) (c .before .before .before .before .before .before .before .before .data-in .ensures) (c .before .before .before .before .before .before .judge .ensures) _ (c .before .before .before .before .carry-out .ensures)
 
 returns : tie.Need-returns
 returns c =
-    did _ _ _ _ _ _ _ _ _ (c .before .before .before .before .before .before .before .before .before .before .before .before .before .read .ensures) (c .before .before .before .before .before .before .before .before .before .before .before .before .data-in .ensures) (c .before .before .before .before .before .before .before .before .before .before .judge .ensures) _ (c .before .before .before .before .before .before .before .before .carry-out .ensures) _ _ _ _ (c .before .before .before .answer .ensures) (c .turned .ensures)
+    did _ _ _ _ _ _ _ _ _ (c .before .before .before .before .before .before .before .before .before .before .before .before .before .read-found .ensures) (c .before .before .before .before .before .before .before .before .before .before .before .before .data-in .ensures) (c .before .before .before .before .before .before .before .before .before .before .judge .ensures) _ (c .before .before .before .before .before .before .before .before .carry-out .ensures) _ _ _ _ (c .before .before .before .answer .ensures) (c .turned .ensures)
 
 pub request-spec : {M : Type 1} → statement M
 request-spec =
@@ -23,7 +24,9 @@ request-spec =
     (tie.spec
     (λ c κs. search needs)
     (λ c κs. search needs)
+    (λ c κs. search named)
     (λ c κs. search needs)
+    (λ c κs. search named)
     carry-out-requires
     answer-requires
     (λ c κs. search needs)
