@@ -6,7 +6,7 @@ use std::process::Command;
 
 use crate::cases::Bench;
 use crate::sides::Side;
-use crate::{for_each_case, Ready};
+use crate::Ready;
 
 const TIMES: usize = 1000;
 const SIDES: [Side; 3] = [Side::Proved, Side::Plain, Side::Nothing];
