@@ -12,7 +12,7 @@ use Rattle.pdu.specs.Tests.{isAtMost}
 use Rattle.pdu.specs.Read.{readPdu, dataAt}
 use Rattle.pdu.specs.Write.{encoded, writable}
 use Rattle.pdu.proofs.Truths.{both-is, at-most-is}
-use Rattle.pdu.proofs.Back.{length-encoded}
+use Rattle.pdu.proofs.Writing.{length-encoded}
 use Rattle.pdu.specs.declared.Pdu.{Pdu}
 use Rattle.judge.specs.declared.Session.{Session}
 use Rattle.judge.specs.declared.Decision.{Decision}

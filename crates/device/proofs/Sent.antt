@@ -15,7 +15,7 @@ use Rattle.octets.proofs.Numbers.{length-bytes}
 use Rattle.octets.proofs.Splices.{splice-front, splice-none}
 use Rattle.pdu.specs.Read.{dataAt}
 use Rattle.pdu.specs.Write.{encoded, writable, writeOf, bufferOf, Wrote}
-use Rattle.pdu.proofs.Back.{length-encoded}
+use Rattle.pdu.proofs.Writing.{length-encoded}
 use Rattle.pdu.specs.declared.Pdu.{Pdu}
 use Rattle.pdu.specs.declared.Written.{Written}
 use Rattle.pdu.specs.declared.Written.the-variants.{Bytes, Refused}
@@ -24,28 +24,8 @@ use Rattle.judge.specs.declared.Answer.the-variants as answer
 use Rattle.device.specs.Carry.{Filled, answerOf}
 use Rattle.device.specs.Safe.{AnswerSafe, Roomy}
 
-writes : (p : Pdu) (d o : List ℕ) → 16 ≤ length o → writable p d ≡ true → writeOf p d o ≡ Bytes (dataAt p + length d)
-unfolding writeOf
-writes p d o h w = rw (le-ltb (length o) 16 h, w)
-
-pub sent :
-    (p : Pdu) (d o e : List ℕ) (r : Written) (n : ℕ) →
-    16 ≤ length o → writable p d ≡ true → Wrote p d o r e → r ≡ Bytes n → Filled (encoded p d) n o e
-sent p d o e r n h w q f =
-    let g : Bytes n ≡ Bytes (dataAt p + length d) = sym f ∙ q .result ∙ writes p d o h w in
-    let k : n ≡ dataAt p + length d = cc in
-    record {
-      count = k ∙ sym (length-encoded p d);
-      holds = q .buffer ∙ ap (bufferOf p d o) f;
-    }
-
-pub not-refused :
-    (p : Pdu) (d o e : List ℕ) (r : Written) (n : ℕ) →
-    16 ≤ length o → writable p d ≡ true → Wrote p d o r e → r ≡ Refused n → Filled (encoded p d) 0 o e
-not-refused p d o e r n h w q f =
-    let g : Refused n ≡ Bytes (dataAt p + length d) = sym f ∙ q .result ∙ writes p d o h w in
-    let z : _≡_ {A = ℕ} 0 1 = cc in
-    absurd (omega arith)
+pub sent : (p : Pdu) (d o e : List ℕ) (n : ℕ) → n ≡ dataAt p + length d → e ≡ splice o 0 (encoded p d) → Filled (encoded p d) n o e
+sent p d o e n c h = record { count = c ∙ sym (length-encoded p d); holds = h }
 
 -- a number's bytes at the front of a small buffer
 pub number-front : (w x : ℕ) (b b′ : List ℕ) → b′ ≡ splice b 0 (bytesOf w x) → take w b′ ≡ bytesOf w x

@@ -1,7 +1,6 @@
 // Answering: a PDU of the PDU layer with its data, written by its writer.
 use judge::Answer;
 use pdu::Pdu;
-use pdu::Written;
 ghost use mathlib.Core.Path.{_≡_};
 ghost use mathlib.Core.Bool.{true};
 ghost use Prim.Native.Nat.{_≤_};
@@ -16,11 +15,7 @@ fn send(out: &mut [u8], p: Pdu, d: &[u8]) -> usize
     requires { ⌜ (16 ≤ length (now out)) × (writable p (now d) ≡ true) ⌝ }
     ensures { λ r. ⌜ Filled (encoded p (now (d .entry))) r (now (out .entry)) (now (out .exit)) ⌝ }
 {
-    let w = pdu::write(p, d, out);
-    match w {
-        Written::Bytes(n) => n,
-        Written::Refused(_) => 0,
-    }
+    pdu::encode(p, d, out)
 }
 
 // A PDU whose data is a number.

@@ -4,7 +4,7 @@ use Prim.Native.Nat.{ℕ, _+_}
 use mathlib.Core.Path.{_≡_, sym, ap, _∙_}
 use mathlib.Core.List.{List, _++_}
 use native.Mathlib.Omega.{arith}
-use lib.ListN.{length, take, drop, length-append}
+use lib.ListN.{length, take, drop}
 use lib.Seq.{take-at, drop-at}
 use Rattle.octets.proofs.Splices.{splice-front}
 use Rattle.pdu.specs.Item.{Row, Value}
@@ -18,20 +18,14 @@ use Rattle.pdu.proofs.Formed.{formed-says}
 use Rattle.pdu.proofs.Sound.{sound, shown}
 use Rattle.pdu.proofs.Items.{length-head, two-or-more, RowBack, row-back}
 use Rattle.pdu.proofs.Outcomes.{carried}
+use Rattle.pdu.proofs.Writing.{length-encoded}
 use Rattle.pdu.proofs.Only.{writes-bytes}
 use Rattle.pdu.specs.declared.Pdu.{Pdu}
 use Rattle.pdu.specs.declared.Parsed.the-variants.{Is}
 use Rattle.pdu.specs.declared.Written.{Written}
 use Rattle.pdu.specs.declared.Written.the-variants.{Bytes}
 
--- the bytes of a PDU are as many as its place of data and its data say
-pub length-encoded : (p : Pdu) (d : List ℕ) → length (encoded p d) ≡ dataAt p + length d
-unfolding encoded
-length-encoded p d =
-    let r : Row = rowOf (serviceOf p) in
-    length-append (headBytes r (valuesOf p)) d ∙ ap (λ (n : ℕ). n + length d) (length-head r (valuesOf p))
-
--- and they carry it
+-- the bytes of a PDU carry it
 encoded-carries : (p : Pdu) (d : List ℕ) → Allows (rowOf (serviceOf p)) (valuesOf p) (dataAt p + length d) → Carries (encoded p d) p
 unfolding encoded
 encoded-carries p d a =

@@ -1,45 +1,34 @@
 -- From what the parts of a write ensure to what writing gives, and where the data stands.
 -- Assumes nothing.
-use Prim.Native.Nat.{ℕ, _+_, _-_, _*_, _≤_, _<_}
+use Prim.Native.Nat.{ℕ, _+_, _-_, _≤_, _<_}
 use mathlib.Core.Path.{_≡_, refl, sym, ap, _∙_}
 use mathlib.Core.Bool.{Bool, true, false}
-use mathlib.Core.List.{List, [], _∷_, _++_}
-use native.Mathlib.Nat.{add-zero}
+use mathlib.Core.List.{List}
 use native.Mathlib.Omega.{arith}
 use lib.ListN.{length, take, drop, length-append, length-drop, drop-of-length-le}
 use lib.Seq.{take-all, drop-length}
 use borrow.Author.Tests.{lt-ltb, le-ltb, le-leb, lt-leb}
-use Rattle.octets.specs.Bytes.{bytesOf}
 use Rattle.octets.specs.Splice.{splice}
-use Rattle.octets.proofs.Numbers.{length-bytes}
+use Rattle.octets.proofs.Splices.{length-splice}
 use Rattle.pdu.specs.Tests.{isAtMost, both}
-use Rattle.pdu.specs.Item.{Item, low, num, cap, duo, skip, Row, Value, the}
+use Rattle.pdu.specs.Item.{Row}
 use Rattle.pdu.specs.Table.{rowOf}
 use Rattle.pdu.specs.Pdus.{serviceOf, valuesOf}
-use Rattle.pdu.specs.Rules.{endOf, headOf, codeFor, itemBytes, headBytes}
+use Rattle.pdu.specs.Rules.{headBytes}
 use Rattle.pdu.specs.Read.{dataAt, dataOf}
 use Rattle.pdu.specs.Write.{encoded, fitsIn, writable, writeOf, Wrote}
+use Rattle.pdu.proofs.Items.{length-head}
 use Rattle.pdu.proofs.Stores.{longer}
+use Rattle.pdu.proofs.Truths.{both-is, at-most-is}
 use Rattle.pdu.specs.declared.Pdu.{Pdu}
 use Rattle.pdu.specs.declared.Written.the-variants.{Bytes, Refused}
 
--- the items end as many bytes further as they have
-one-item : (w x : ℕ) (l : List ℕ) (at e : ℕ) → e ≡ at + w + length l → e ≡ at + length (bytesOf w x ++ l)
-one-item w x l at e h = omega (arith, length-append (bytesOf w x) l, length-bytes w x)
-
-pub end-items : (is : List Item) (x : List Value) (at : ℕ) → endOf at is ≡ at + length (itemBytes is x)
-end-items [] x at = sym (add-zero at)
-end-items (low f m ∷ is) x at = end-items is x at
-end-items (num f w ∷ is) x at = one-item w (the x f) (itemBytes is x) at (endOf (at + w) is) (end-items is x (at + w))
-end-items (cap f w m ∷ is) x at = one-item w (the x f) (itemBytes is x) at (endOf (at + w) is) (end-items is x (at + w))
-end-items (duo f g ∷ is) x at =
-    one-item 2 (the x f * 4096 + the x g) (itemBytes is x) at (endOf (at + 2) is) (end-items is x (at + 2))
-end-items (skip w ∷ is) x at = one-item w 0 (itemBytes is x) at (endOf (at + w) is) (end-items is x (at + w))
-
-pub length-head : (r : Row) (x : List Value) → length (headBytes r x) ≡ headOf r
-unfolding headBytes
-length-head r x =
-    omega (arith, length-append (bytesOf 2 (codeFor r x)) (itemBytes (r .items) x), length-bytes 2 (codeFor r x), end-items (r .items) x 2)
+-- the bytes of a PDU are as many as its place of data and its data say
+pub length-encoded : (p : Pdu) (d : List ℕ) → length (encoded p d) ≡ dataAt p + length d
+unfolding encoded
+length-encoded p d =
+    let r : Row = rowOf (serviceOf p) in
+    length-append (headBytes r (valuesOf p)) d ∙ ap (λ (n : ℕ). n + length d) (length-head r (valuesOf p))
 
 pub wrote-3 : (p : Pdu) (d o : List ℕ) → length o < 16 → Wrote p d o (Refused 3) o
 unfolding writeOf
@@ -65,24 +54,36 @@ module _ (p : Pdu) (d o : List ℕ) (a : ℕ) (h : 16 ≤ length o) (e : a ≡ d
       let g : fitsIn p (dataAt p + length d) ≡ false = sym (rw e at f) ∙ t in
       refused p d o h (ap (both (isAtMost (dataAt p + length d) 16)) g ∙ both-false (isAtMost (dataAt p + length d) 16))
 
-  -- head and data stored are the PDU's bytes
   pub wrote-all :
-      (o₁ o₂ : List ℕ) (b : Bool) →
+      (o₂ : List ℕ) (b : Bool) (n : ℕ) →
       a + length d ≤ 16 →
       b ≡ fitsIn p (a + length d) →
       b ≡ true →
-      o₁ ≡ splice o 0 (headBytes (rowOf (serviceOf p)) (valuesOf p)) →
-      o₂ ≡ splice o₁ a d →
-      Wrote p d o (Bytes (a + length d)) o₂
-  unfolding writeOf writable both isAtMost encoded
-  wrote-all o₁ o₂ b l f t g k =
+      n ≡ dataAt p + length d →
+      o₂ ≡ splice o 0 (encoded p d) →
+      Wrote p d o (Bytes n) o₂
+  unfolding writeOf writable both isAtMost
+  wrote-all o₂ b n l f t g k =
       let l′ : dataAt p + length d ≤ 16 = rw e at l in
       let f′ : fitsIn p (dataAt p + length d) ≡ true = sym (rw e at f) ∙ t in
+      record { result = simp (le-ltb _ _ h, le-leb _ _ l′, f′) (ap Bytes g); buffer = k }
+
+  -- head and data stored are the PDU's bytes
+  pub put-all : (o₁ o₂ : List ℕ) → o₁ ≡ splice o 0 (headBytes (rowOf (serviceOf p)) (valuesOf p)) → o₂ ≡ splice o₁ a d
+      → o₂ ≡ splice o 0 (encoded p d)
+  unfolding encoded
+  put-all o₁ o₂ g k =
       let n : length (headBytes (rowOf (serviceOf p)) (valuesOf p)) ≡ a = length-head (rowOf (serviceOf p)) (valuesOf p) ∙ sym e in
-      record {
-        result = simp (le-ltb _ _ h, le-leb _ _ l′, f′) (ap (λ (x : ℕ). Bytes (x + length d)) e);
-        buffer = longer o o₁ o₂ (headBytes (rowOf (serviceOf p)) (valuesOf p)) d a n g k;
-      }
+      longer o o₁ o₂ (headBytes (rowOf (serviceOf p)) (valuesOf p)) d a n g k
+
+-- the buffer keeps its length
+pub same-room : (p : Pdu) (d o e : List ℕ) → 16 ≤ length o → dataAt p + length d ≤ 16 → e ≡ splice o 0 (encoded p d) → length e ≡ length o
+same-room p d o e h l q = ap length q ∙ length-splice o 0 (encoded p d) (omega (arith, length-encoded p d))
+
+-- what may be written has room
+pub has-room : (p : Pdu) (d : List ℕ) → writable p d ≡ true → dataAt p + length d ≤ 16
+unfolding writable
+has-room p d w = let n : ℕ = dataAt p + length d in at-most-is n 16 .0 (both-is (isAtMost n 16) (fitsIn p n) .0 w .0)
 
 -- the part of a slice from the data's place on
 module _ (p : Pdu) (s : List ℕ) (a : ℕ) (e : a ≡ dataAt p) where

@@ -1,9 +1,12 @@
 // The PDU layer: reads and writes the PDUs of the service table.
 ghost use mathlib.Core.Path.{_≡_};
+ghost use Prim.Native.Nat.{_+_, _≤_};
+ghost use lib.ListN.{length};
+ghost use Rattle.octets.specs.Splice.{splice};
 ghost use Rattle.pdu.specs.Table.{serviceAt};
 ghost use Rattle.pdu.specs.Rules.{codeOf};
-ghost use Rattle.pdu.specs.Read.{readPdu, readOutcome, dataOf};
-ghost use Rattle.pdu.specs.Write.{Wrote};
+ghost use Rattle.pdu.specs.Read.{readPdu, readOutcome, dataAt, dataOf};
+ghost use Rattle.pdu.specs.Write.{encoded, Wrote};
 
 mod fields;
 mod head;
@@ -243,6 +246,17 @@ pub fn data_of(pdu: Pdu, apdu: &[u8]) -> &[u8]
     }
 }
 
+// The bytes of a PDU that has room, at the front of out: their count.
+pub fn encode(pdu: Pdu, data: &[u8], out: &mut [u8]) -> usize
+    requires { ⌜ (16 ≤ length (now out)) × (dataAt pdu + length (now «data») ≤ 16) ⌝ }
+    ensures { λ r. ⌜ (r ≡ dataAt pdu + length (now («data» .entry))) × (now (out .exit) ≡ splice (now (out .entry)) 0 (encoded pdu (now («data» .entry)))) ⌝ }
+{
+    let at = head::data_at(pdu);
+    head::put_head(pdu, out);
+    octets::splice(out, at, data);
+    at + data.len()
+}
+
 // The PDU's bytes at the front of out: their count, or the number of the refusal, and then out is as it was.
 pub fn write(pdu: Pdu, data: &[u8], out: &mut [u8]) -> Written
     ensures { λ r. ⌜ Wrote pdu (now («data» .entry)) (now (out .entry)) r (now (out .exit)) ⌝ }
@@ -256,9 +270,7 @@ pub fn write(pdu: Pdu, data: &[u8], out: &mut [u8]) -> Written
         return Written::Refused(13);
     }
     if rules::allowed(pdu, n) {
-        head::put_head(pdu, out);
-        octets::splice(out, at, data);
-        Written::Bytes(n)
+        Written::Bytes(encode(pdu, data, out))
     } else {
         Written::Refused(13)
     }

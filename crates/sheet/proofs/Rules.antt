@@ -3,9 +3,11 @@
 use Prim.Native.Nat.{ℕ, _+_, _≤_, _<_}
 use mathlib.Core.Path.{_≡_, refl, sym, _∙_, ap}
 use mathlib.Core.List.{List}
+use mathlib.Core.Bool.{Bool, true, false}
+use lib.Dec.{eqb, leb}
 use native.Mathlib.Numerals.{add-one}
 use native.Mathlib.Omega.{arith}
-use Rattle.sheet.specs.Demand.{Tells}
+use Rattle.sheet.specs.Demand.{Tells, breach, pick}
 use Rattle.sheet.specs.First.{first, orElse}
 use Rattle.sheet.specs.Kind.{byKind, kinds}
 use Rattle.sheet.specs.Entries.{count, contents, entry, floor, floorAfter, offsetOf, lengthOf, sixBits, bodyEnd, startOf, reached}
@@ -38,12 +40,37 @@ module _ (s : List ℕ) (k i j : ℕ) (q : k ≡ j) where
         let n : offsetOf j e + lengthOf j e ≡ reached s k (i + 1) = unfold reached bodyEnd in rw (add-one i, q, ee) in
         record { rule = rw (← f, q, ← ee) (o .rule); next = o .next ∙ n }
 
+-- a body breaks S9 or nothing, so it does not matter which of two that break it was the first
+pub data Ninth : ℕ → Type 0 where
+  unbroken : Ninth 0
+  ninth : Ninth 9
+
+either-first : {a b : ℕ} → Ninth a → Ninth b → orElse b a ≡ orElse a b
+either-first unbroken unbroken = refl
+either-first unbroken ninth = refl
+either-first ninth unbroken = refl
+either-first ninth ninth = refl
+
+first-ninth : {a b : ℕ} → Ninth a → Ninth b → Ninth (orElse a b)
+first-ninth unbroken b = b
+first-ninth ninth b = ninth
+
+body-ninth : (from z six : ℕ) → Ninth (breach (bodyRows from z six))
+unfolding breach
+body-ninth from z six = go (eqb from z) (leb six 63)
+  where
+    go : (t u : Bool) → Ninth (pick t (pick u 0 9) 9)
+    go true true = unbroken
+    go true false = ninth
+    go false u = ninth
+
 -- THE INVARIANTS: no entry of a kind before kind k has broken a rule, nor one of kind k before entry i; `late` is the rule that
 -- their bodies have broken, and z where these end
 pub record Walked (s : List ℕ) (k z late : ℕ) : Type 0 where
   pub within : k ≤ kinds
   pub clean : first (entriesRule s) k ≡ 0
   pub broken : late ≡ first (bodiesRule s) k
+  pub rule : Ninth late
   pub ends : z ≡ startOf s k
 
 pub record Passed (s : List ℕ) (k n f z late i : ℕ) : Type 0 where
@@ -51,13 +78,14 @@ pub record Passed (s : List ℕ) (k n f z late i : ℕ) : Type 0 where
   pub whole : n ≡ count s k
   pub clean : first (entryRule s k) i ≡ 0
   pub broken : late ≡ orElse (first (bodiesRule s) k) (first (bodyRule s k) i)
+  pub rule : Ninth late
   pub least : f ≡ floor s k i
   pub ends : z ≡ reached s k i
 
 module _ (s : List ℕ) where
   pub walk-begins : (z : ℕ) → z ≡ contents s → Walked s 0 z 0
   unfolding startOf
-  walk-begins z e = record { within = omega arith; clean = first-none _; broken = sym (first-none _); ends = e }
+  walk-begins z e = record { within = omega arith; clean = first-none _; broken = sym (first-none _); rule = unbroken; ends = e }
 
   pub walk-ends : (k z late : ℕ) → Walked s k z late → kinds ≤ k → z ≡ startOf s kinds
   walk-ends k z late w h =
@@ -73,6 +101,7 @@ module _ (s : List ℕ) where
           whole = m .is;
           clean = first-none _;
           broken = w .broken ∙ sym (orElse-zero _) ∙ ap (orElse (first (bodiesRule s) k)) (sym (first-none _));
+          rule = w .rule;
           least = refl;
           ends = w .ends;
         }
@@ -82,15 +111,18 @@ module _ (s : List ℕ) where
       pass-entry fr hk hi = record { framed = fr; kind = hk; below = omega (arith, h .whole) }
 
       pub pass-goes : (e b : Judged) (late′ : ℕ) → i < n → Says (entryDemands s k i) (floor s k (i + 1)) e → e .rule ≡ 0
-          → Says (bodyDemands s k i) (reached s k (i + 1)) b → late′ ≡ orElse late (b .rule)
+          → Says (bodyDemands s k i) (reached s k (i + 1)) b → late′ ≡ orElse (b .rule) late
           → Passed s k n (e .next) (b .next) late′ (i + 1)
-      unfolding entryRule bodyRule
+      unfolding entryRule bodyRule bodyDemands
       pass-goes e b late′ hi u q v l =
+          let nine : Ninth (b .rule) = rw (told (b .rule) (bodyDemands s k i) (v .rule)) (body-ninth (offsetOf k (entry s k i)) (reached s k i) (sixBits s k (entry s k i))) in
+          let l′ : late′ ≡ orElse late (b .rule) = l ∙ either-first (h .rule) nine in
           record {
             within = omega arith;
             whole = h .whole;
             clean = first-more _ _ (h .clean) (sym (told _ _ (u .rule)) ∙ q);
-            broken = rw (first-suc (bodyRule s k) i, ← orElse-assoc (first (bodiesRule s) k) (first (bodyRule s k) i) (bodyRule s k i), ← h .broken, ← told _ _ (v .rule)) l;
+            broken = rw (first-suc (bodyRule s k) i, ← orElse-assoc (first (bodiesRule s) k) (first (bodyRule s k) i) (bodyRule s k i), ← h .broken, ← told _ _ (v .rule)) l′;
+            rule = rw l′ (first-ninth (h .rule) nine);
             least = u .next;
             ends = v .next;
           }
@@ -104,6 +136,7 @@ module _ (s : List ℕ) where
             within = omega arith;
             clean = first-more _ _ (w .clean) (rw (← c) (h .clean));
             broken = rw (first-suc (bodiesRule s) k, ← c) (h .broken);
+            rule = h .rule;
             ends = rw (add-one k, ← c) (h .ends);
           }
 

@@ -81,7 +81,7 @@ fn walk(s: &[u8]) -> u8
             }
             floor = judged.next;
             let body = body_step(s, k, i, z);
-            late = or_else(late, body.rule);
+            late = or_else(body.rule, late);
             z = body.next;
             i += 1;
         }

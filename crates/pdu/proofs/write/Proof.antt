@@ -1,7 +1,7 @@
 -- `pdu::write` meets its contract: each return by its law.
 -- Assumes nothing.
 use borrow.Author.Needs.{needs}
-use Rattle.pdu.proofs.Writing.{wrote-3, wrote-long, wrote-13, wrote-all}
+use Rattle.pdu.proofs.Writing.{wrote-3, wrote-long, wrote-13, wrote-all, same-room}
 use Rattle.pdu.proofs.write.Statement.{statement}
 use Rattle.pdu.proofs.write.Tie as tie
 
@@ -27,7 +27,6 @@ write-spec =
     returns-2
     (λ c κs. search needs)
     (λ c κs. search needs)
-    (λ c κs. search needs)
-    (λ c. search needs)
+    (λ c. search (needs, same-room))
     returns-3
     returns-4)

@@ -1,7 +1,8 @@
 -- `device::answer::send` meets its contract.
 -- Assumes nothing.
 use borrow.Author.Needs.{needs}
-use Rattle.device.proofs.Sent.{sent, not-refused}
+use Rattle.pdu.proofs.Writing.{has-room, same-room}
+use Rattle.device.proofs.Sent.{sent}
 use Rattle.device.proofs.answer.send.Statement.{statement}
 use Rattle.device.proofs.answer.send.Tie as tie
 
@@ -9,10 +10,6 @@ pub send-spec : {M : Type 1} → statement M
 send-spec =
     tie.close
     (tie.spec
-    (λ c κs. search needs)
-    (λ c. search needs)
-    (λ c. search needs)
-    (λ c. search needs)
-    (λ c. search sent)
-    (λ c. search needs)
-    (λ c. search not-refused))
+    (λ c κs. search (needs, has-room))
+    (λ c. search (needs, has-room, same-room))
+    (λ c. search sent))
