@@ -1,4 +1,4 @@
-# make test: everything that is tested and proved. make run: the device at work on the sample sheet.
+# make test: everything that is tested and proved. make run: the device at work on the sample sheet. make bench: its speed.
 SHELL := /bin/bash
 .SHELLFLAGS := -euo pipefail -c
 .DEFAULT_GOAL := test
@@ -26,3 +26,4 @@ sheet-check: tools
 
 include mk/hosts.mk
 include mk/compare.mk
+include mk/bench.mk

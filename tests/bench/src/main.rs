@@ -115,6 +115,10 @@ fn main() {
 /// One row: sheet and case, then what was measured of each side, and the ratio.
 fn print(benches: &[Bench], times: &[[f64; 2]], counts: Option<&[[f64; 2]]>) {
     println!(
+        "Both sides compiled for {}; the loop around a call is taken off.",
+        std::env::consts::ARCH
+    );
+    println!(
         "{:6} {:24} {:>8} {:>8} {:>6}   {:>8} {:>8} {:>6}",
         "sheet", "request", "ns", "plain", "ratio", "instr.", "plain", "ratio"
     );
