@@ -16,6 +16,7 @@ use Rattle.sheet.specs.Layout.{_of_}
 use Rattle.sheet.specs.Region as region
 use Rattle.sheet.specs.Property as property
 use Rattle.sheet.specs.Entries.{count, entry}
+use Rattle.sheet.specs.Places.{PropertyWith}
 use Rattle.sheet.proofs.Good.{Good}
 use Rattle.sheet.proofs.Runs.{Covered}
 use Rattle.pdu.proofs.Truths.{and-is}
@@ -23,7 +24,6 @@ use Rattle.device.specs.Octets.{Octets}
 use Rattle.device.specs.Asked.{Asked}
 use Rattle.device.specs.Right as right
 use Rattle.device.specs.Right.{MemoryWritable, BitsWritable, InRegion, Writable, Elements, WriteAllowed, KeyWritable}
-use Rattle.history.specs.Location.{IsProperty}
 use Rattle.history.specs.Wish.{writeMemory, writeBits, writeProperty, writeKey}
 use Rattle.history.specs.Permit.{all, every, levelFor, regionFor, mayRead, mayWrite, indexFor, entryFor, clears, fills, allowed}
 use Rattle.history.proofs.Bools.{all-at, every-at, every-all, or-left, or-right, or-cases}
@@ -200,13 +200,13 @@ module _ (x : Asked) (g : Good 1 (x .sheet)) where
       on : all Ts ≡ true → WriteAllowed x object id n s d
       on e = ways (or-cases (clears n s d) (fills E n s d) (all-at Ts e 2))
         where
-          p : IsProperty S object id I
+          p : PropertyWith S object id I
           p = property-found S object id small low (ltb-true _ _ (all-at Ts e 0))
 
           w : Writable x object id I
           w =
               record {
-                found = record { there = p .there; sameObject = p .sameObject; sameId = p .sameId };
+                found = p;
                 bit7 = eqb-true _ _ (all-at Ts e 1);
                 level = L;
                 acts = acts-so x;
@@ -219,7 +219,7 @@ module _ (x : Asked) (g : Good 1 (x .sheet)) where
 
       either : (i : ℕ) → Writable x object id i → (clears n s d || fills (entry S properties i) n s d) ≡ true → all Ts ≡ true
       either i w t =
-          let q : I ≡ i = property-hit g (record { there = w .found .there; sameObject = w .found .sameObject; sameId = w .found .sameId }) in
+          let q : I ≡ i = property-hit g (w .found) in
           let r : L ≤ property.levels of entry S properties i % 16 = omega (arith, acts-once x (w .acts), w .right) in
           rw q (simp (lt-ltb _ _ (w .found .there), eq-eqb _ _ (w .bit7), t, le-leb _ _ r))
 
