@@ -24,22 +24,12 @@ use Rattle.device.specs.Octets.{Octets}
 use Rattle.device.specs.Asked.{Asked}
 use Rattle.device.specs.Right as right
 use Rattle.device.specs.Right.{MemoryWritable, BitsWritable, InRegion, Writable, Elements, WriteAllowed, KeyWritable}
+use Rattle.device.proofs.Properly.{two-zeros}
 use Rattle.history.specs.Wish.{writeMemory, writeBits, writeProperty, writeKey}
 use Rattle.history.specs.Permit.{all, every, levelFor, regionFor, mayRead, mayWrite, indexFor, entryFor, clears, fills, allowed}
 use Rattle.history.proofs.Bools.{all-at, every-at, every-all, or-left, or-right, or-cases}
 use Rattle.history.proofs.Finding.{region-covers, covered-byte, region-hit, may-read, may-write, property-hit, property-found}
 use Rattle.history.proofs.Levels.{acts-once, acts-so}
-
--- only 00 00 clears
-pub two-zeros : (d : List ℕ) → length d ≡ 2 → numAt d 0 2 ≡ 0 → d ≡ 0 ∷ 0 ∷ []
-two-zeros [] e z = absurd (omega arith)
-two-zeros (x ∷ []) e z = absurd (omega arith)
-two-zeros (x ∷ (y ∷ [])) e z =
-    let q = num-two (x ∷ (y ∷ [])) 0 in
-    let a : x ≡ 0 = omega (arith, q) in
-    let b : y ≡ 0 = omega (arith, q) in
-    rw (a, b)
-two-zeros (x ∷ (y ∷ (w ∷ d))) e z = absurd (omega arith)
 
 -- the two ways to write a property
 clears-is : (n s : ℕ) (d : List ℕ) → (clears n s d ≡ true) ↔ ((s ≡ 0) × (n ≡ 1) × (d ≡ 0 ∷ 0 ∷ []))
