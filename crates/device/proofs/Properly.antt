@@ -9,6 +9,7 @@ use Rattle.octets.specs.Bytes.{numAt}
 use Rattle.octets.proofs.Numbers.{num-one, num-two, num-below}
 use Rattle.sheet.specs.Kind.{properties}
 use Rattle.sheet.specs.Entries.{place, entry}
+use Rattle.sheet.specs.Places.{PropertyWith}
 use Rattle.sheet.proofs.Keys.{key-is, key-parts}
 use Rattle.sheet.proofs.Standing.{entry-at}
 use Rattle.pdu.specs.Item.{Value, the, Id}
@@ -17,9 +18,8 @@ use Rattle.pdu.specs.declared.Pdu.the-variants.{PropertyValueRead, PropertyValu
 use Rattle.judge.proofs.PropertyCases.{Keyed}
 use Rattle.device.specs.Octets.{Octets}
 use Rattle.device.specs.Asked.{Asked}
-use Rattle.device.specs.Right.{Property}
 
-pub keyed : (x : Asked) (object id i : ℕ) → Property x object id i → Keyed (x .sheet) object id i
+pub keyed : (x : Asked) (object id i : ℕ) → PropertyWith (x .sheet) object id i → Keyed (x .sheet) object id i
 keyed x object id i p =
     let e : List ℕ = entry (x .sheet) properties i in
     record { there = p .there; key = omega (arith, key-is e, p .sameObject, p .sameId) }
@@ -30,7 +30,7 @@ entry-byte s i j l h =
     omega (arith, num-one (entry s properties i) j, entry-at s properties i j l, h (place s properties i + j))
 
 -- where ids are bytes, the first word says both
-pub unkeyed : (x : Asked) (object id i : ℕ) → Octets (x .sheet) → id < 256 → Keyed (x .sheet) object id i → Property x object id i
+pub unkeyed : (x : Asked) (object id i : ℕ) → Octets (x .sheet) → id < 256 → Keyed (x .sheet) object id i → PropertyWith (x .sheet) object id i
 unkeyed x object id i h l k =
     let e : List ℕ = entry (x .sheet) properties i in
     let p = key-parts e object id (entry-byte (x .sheet) i 1 (omega arith) h) l (k .key) in

@@ -16,6 +16,7 @@ use Rattle.sheet.specs.Property as property
 use Rattle.sheet.specs.Group as group
 use Rattle.sheet.specs.Entries.{count, place, entry}
 use Rattle.sheet.specs.Lookup.{rank}
+use Rattle.sheet.specs.Places.{PropertyWith}
 use Rattle.pdu.specs.Write.{encoded}
 use Rattle.pdu.specs.Read.{readPdu}
 use Rattle.pdu.specs.declared.Service.{Service}
@@ -43,12 +44,6 @@ pub data Brings : Pdu → ℕ → ℕ → Type 0 where
 abbrev pub Flag : List ℕ → ℕ → Type 0
 Flag e f = group.flags of e / f % 2 ≡ 1
 
--- property i has that object and id
-pub record Property (x : Asked) (object id i : ℕ) : Type 0 where
-  pub there : i < count (x .sheet) properties
-  pub sameObject : property.object of entry (x .sheet) properties i ≡ object
-  pub sameId : property.id of entry (x .sheet) properties i ≡ id
-
 -- n elements from element s on, counted from 1, where e has as many
 pub record Elements (e : List ℕ) (n s : ℕ) : Type 0 where
   pub start : 1 ≤ s
@@ -60,7 +55,7 @@ abbrev pub elementAt : List ℕ → ℕ → ℕ
 elementAt e s = property.offset of e + (s - 1) * property.element of e
 
 pub record Readable (x : Asked) (object id i : ℕ) : Type 0 where
-  pub found : Property x object id i
+  pub found : PropertyWith (x .sheet) object id i
   pub level : ℕ
   pub acts : Acts x level
   pub right : level ≤ property.levels of entry (x .sheet) properties i / 16
@@ -72,7 +67,7 @@ pub data ReadAllowed (x : Asked) (object id n s : ℕ) : Type 0 where
       n * property.element of entry (x .sheet) properties i ≤ 10 → ReadAllowed x object id n s
 
 pub record Writable (x : Asked) (object id i : ℕ) : Type 0 where
-  pub found : Property x object id i
+  pub found : PropertyWith (x .sheet) object id i
   pub bit7 : property.kind of entry (x .sheet) properties i / 128 ≡ 1
   pub level : ℕ
   pub acts : Acts x level
@@ -86,7 +81,7 @@ pub data WriteAllowed (x : Asked) (object id n s : ℕ) (d : List ℕ) : Type 0 
 
 -- the property that a description is asked of: by id, or where that is 0 by its index within the object
 pub data Described (x : Asked) (object id index i : ℕ) : Type 0 where
-  byId : (id ≡ 0 → ⊥) → Property x object id i → Described x object id index i
+  byId : (id ≡ 0 → ⊥) → PropertyWith (x .sheet) object id i → Described x object id index i
   byIndex :
       id ≡ 0 → i < count (x .sheet) properties → property.object of entry (x .sheet) properties i ≡ object →
       rank (x .sheet) object i ≡ index → Described x object id index i

@@ -13,12 +13,12 @@ use Rattle.sheet.specs.Region as region
 use Rattle.sheet.specs.Property as property
 use Rattle.sheet.specs.Entries.{count, place, entry, keyOf}
 use Rattle.sheet.specs.Lookup.{covers}
+use Rattle.sheet.specs.Places.{PropertyWith}
 use Rattle.sheet.proofs.Good.{Good}
 use Rattle.sheet.proofs.Standing.{entry-at}
 use Rattle.sheet.proofs.Seeks.{seek-hit, seek-passes}
 use Rattle.sheet.proofs.Keys.{index-hit, index-key, key-is, key-parts}
 use Rattle.sheet.proofs.Runs.{Covered, covering, covered, region-once}
-use Rattle.history.specs.Location.{IsProperty}
 use Rattle.history.specs.Permit.{regionFor, mayRead, mayWrite, indexFor}
 use Rattle.device.specs.Octets.{Octets}
 
@@ -53,14 +53,14 @@ module _ {s : List ℕ} (g : Good 1 s) where
   may-write i y level c = rw (region-hit i y 1 (omega arith) c, lt-ltb i (count s regions) (c .below))
 
   -- a property that has the object and the id is the one
-  pub property-hit : {object id i : ℕ} → IsProperty s object id i → indexFor s object id ≡ i
+  pub property-hit : {object id i : ℕ} → PropertyWith s object id i → indexFor s object id ≡ i
   unfolding indexFor keyOf
   property-hit {object} {id} {i} q =
       index-hit g properties (omega arith) i (object * 256 + id) (q .there) (omega (arith, key-is (entry s properties i), q .sameObject, q .sameId))
 
 -- the property that the search gives has the object and the id, ids being bytes
 pub property-found :
-    (s : List ℕ) (object id : ℕ) → Octets s → id < 256 → indexFor s object id < count s properties → IsProperty s object id (indexFor s object id)
+    (s : List ℕ) (object id : ℕ) → Octets s → id < 256 → indexFor s object id < count s properties → PropertyWith s object id (indexFor s object id)
 unfolding indexFor keyOf
 property-found s object id small low h =
     let i : ℕ = indexFor s object id in

@@ -15,11 +15,11 @@ use Rattle.sheet.specs.Property as property
 use Rattle.sheet.specs.Entries.{count, entry}
 use Rattle.sheet.specs.Lookup.{seek, covers}
 use Rattle.sheet.specs.Frame.{Agree}
+use Rattle.sheet.specs.Places.{PropertyWith}
 use Rattle.sheet.proofs.Sames.{count-same, region-same, property-same}
 use Rattle.sheet.proofs.Seeks.{seek-same}
 use Rattle.sheet.proofs.Finds.{index-same}
 use Rattle.sheet.proofs.Runs.{Covered}
-use Rattle.history.specs.Location.{IsProperty}
 use Rattle.history.specs.Wish.{Wish, writeMemory, writeBits, writeProperty, writeKey, offerKey, restart, address, addressFor, group as groupWish, nothing}
 use Rattle.history.specs.Permit.{regionFor, mayRead, mayWrite, indexFor, entryFor, clears, fills, allowed}
 use Rattle.history.proofs.Bools.{every-same}
@@ -51,7 +51,7 @@ module _ {f s : List ℕ} (a : Agree f s) where
       let q = region-same a i region.length h (omega arith) in
       record { below = h; from = omega (arith, c .from); to = omega (arith, c .to) }
 
-  pub is-same : {object id i : ℕ} → IsProperty s object id i → IsProperty f object id i
+  pub is-same : {object id i : ℕ} → PropertyWith s object id i → PropertyWith f object id i
   is-same {i = i} q =
       let h = below-same properties i (q .there) in
       record {

@@ -13,7 +13,7 @@ use Rattle.history.specs.Wish.{asks, brings}
 use Rattle.history.specs.Permit.{gives}
 use Rattle.history.specs.History.{First, content}
 use Rattle.history.specs.Others.{programming}
-use Rattle.history.specs.Keeps.{stateAfter, Kept, Begins, BringsOctets, Heard, Keeps}
+use Rattle.history.specs.Keeps.{stateAfter, Kept, Begins, BringsOctets, AllOctets, Keeps}
 use Rattle.history.specs.Rightful.{asked, Rightful}
 use Rattle.history.proofs.Invariant.{Inv, begin, connected, disconnected, button-pressed, now, now-accepted}
 use Rattle.history.proofs.Requests.{Done, contents-new}
@@ -38,7 +38,7 @@ module _ (step : State → Event → Step) (rightful : Rightful step) (f : First
     after (request mode g a out) o = requested mode g a out o .next
 
   -- THE INVARIANT AFTER EVERY HISTORY
-  holds-after : (h : List Event) → Heard h → Inv f h (stateAfter step f h)
+  holds-after : (h : List Event) → AllOctets h → Inv f h (stateAfter step f h)
   unfolding stateAfter
   holds-after [] k = begin f b
   holds-after (e ∷ h) k = after h (holds-after h (k .1)) e (k .0)

@@ -25,4 +25,5 @@ pub mod OtherSteps
 pub mod GroupSteps
 pub mod Steps
 pub mod Keep
+pub mod InOrder
 pub mod Refuted

@@ -16,6 +16,7 @@ use Rattle.sheet.specs.Layout.{_of_}
 use Rattle.sheet.specs.Region as region
 use Rattle.sheet.specs.Property as property
 use Rattle.sheet.specs.Entries.{count, entry}
+use Rattle.sheet.specs.Places.{PropertyWith}
 use Rattle.sheet.proofs.Good.{Good}
 use Rattle.sheet.proofs.Runs.{Covered}
 use Rattle.pdu.proofs.Truths.{and-is}
@@ -23,23 +24,12 @@ use Rattle.device.specs.Octets.{Octets}
 use Rattle.device.specs.Asked.{Asked}
 use Rattle.device.specs.Right as right
 use Rattle.device.specs.Right.{MemoryWritable, BitsWritable, InRegion, Writable, Elements, WriteAllowed, KeyWritable}
-use Rattle.history.specs.Location.{IsProperty}
+use Rattle.device.proofs.Properly.{two-zeros}
 use Rattle.history.specs.Wish.{writeMemory, writeBits, writeProperty, writeKey}
 use Rattle.history.specs.Permit.{all, every, levelFor, regionFor, mayRead, mayWrite, indexFor, entryFor, clears, fills, allowed}
 use Rattle.history.proofs.Bools.{all-at, every-at, every-all, or-left, or-right, or-cases}
 use Rattle.history.proofs.Finding.{region-covers, covered-byte, region-hit, may-read, may-write, property-hit, property-found}
 use Rattle.history.proofs.Levels.{acts-once, acts-so}
-
--- only 00 00 clears
-pub two-zeros : (d : List ℕ) → length d ≡ 2 → numAt d 0 2 ≡ 0 → d ≡ 0 ∷ 0 ∷ []
-two-zeros [] e z = absurd (omega arith)
-two-zeros (x ∷ []) e z = absurd (omega arith)
-two-zeros (x ∷ (y ∷ [])) e z =
-    let q = num-two (x ∷ (y ∷ [])) 0 in
-    let a : x ≡ 0 = omega (arith, q) in
-    let b : y ≡ 0 = omega (arith, q) in
-    rw (a, b)
-two-zeros (x ∷ (y ∷ (w ∷ d))) e z = absurd (omega arith)
 
 -- the two ways to write a property
 clears-is : (n s : ℕ) (d : List ℕ) → (clears n s d ≡ true) ↔ ((s ≡ 0) × (n ≡ 1) × (d ≡ 0 ∷ 0 ∷ []))
@@ -200,13 +190,13 @@ module _ (x : Asked) (g : Good 1 (x .sheet)) where
       on : all Ts ≡ true → WriteAllowed x object id n s d
       on e = ways (or-cases (clears n s d) (fills E n s d) (all-at Ts e 2))
         where
-          p : IsProperty S object id I
+          p : PropertyWith S object id I
           p = property-found S object id small low (ltb-true _ _ (all-at Ts e 0))
 
           w : Writable x object id I
           w =
               record {
-                found = record { there = p .there; sameObject = p .sameObject; sameId = p .sameId };
+                found = p;
                 bit7 = eqb-true _ _ (all-at Ts e 1);
                 level = L;
                 acts = acts-so x;
@@ -219,7 +209,7 @@ module _ (x : Asked) (g : Good 1 (x .sheet)) where
 
       either : (i : ℕ) → Writable x object id i → (clears n s d || fills (entry S properties i) n s d) ≡ true → all Ts ≡ true
       either i w t =
-          let q : I ≡ i = property-hit g (record { there = w .found .there; sameObject = w .found .sameObject; sameId = w .found .sameId }) in
+          let q : I ≡ i = property-hit g (w .found) in
           let r : L ≤ property.levels of entry S properties i % 16 = omega (arith, acts-once x (w .acts), w .right) in
           rw q (simp (lt-ltb _ _ (w .found .there), eq-eqb _ _ (w .bit7), t, le-leb _ _ r))
 

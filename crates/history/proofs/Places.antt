@@ -12,7 +12,7 @@ use Rattle.sheet.specs.Layout.{_of_}
 use Rattle.sheet.specs.Region as region
 use Rattle.sheet.specs.Property as property
 use Rattle.sheet.specs.Entries.{count, place, contents, entry, keyOf, bodyAt, bodyEnd, InBody}
-use Rattle.sheet.specs.Places.{Position, inHead, inEntry, inBody, Stands}
+use Rattle.sheet.specs.Places.{Position, inHead, inEntry, inBody, Stands, PropertyWith}
 use Rattle.sheet.specs.Frame.{Fixed}
 use Rattle.sheet.specs.Rules.{ruleOf}
 use Rattle.sheet.proofs.Good.{Good, good}
@@ -21,24 +21,24 @@ use Rattle.sheet.proofs.Standing.{InEntry, after-head, place-in, one-entry}
 use Rattle.sheet.proofs.Positions.{position}
 use Rattle.sheet.proofs.Keys.{key-once, key-is}
 use Rattle.sheet.proofs.Runs.{stands-in, stands-once, stands-back}
-use Rattle.history.specs.Location.{Location, memory, key, IsProperty, Place, ofMemory, ofBody, ofCounter, ofKey}
+use Rattle.history.specs.Location.{Location, memory, key, Place, ofMemory, ofBody, ofCounter, ofKey}
 use Rattle.history.specs.Sort.{Sort, isLocation, isGroup, isField, location, groupBody, beingOf}
 
 -- byte j of a property's body lies in it, and byte j of its count in its entry
 pub body-in :
-    {s : List ℕ} {object id i j p : ℕ} → IsProperty s object id i →
+    {s : List ℕ} {object id i j p : ℕ} → PropertyWith s object id i →
     j < property.element of entry s properties i * property.maximum of entry s properties i → p ≡ bodyAt s properties i + j → InBody s properties i p
 unfolding bodyAt bodyEnd
 body-in q h e = record { kind = omega arith; below = q .there; from = omega arith; to = omega arith }
 
 pub counter-in :
-    {s : List ℕ} {object id i j p : ℕ} → IsProperty s object id i → j < property.count .width →
+    {s : List ℕ} {object id i j p : ℕ} → PropertyWith s object id i → j < property.count .width →
     p ≡ place s properties i + property.count .at + j → InEntry s properties i (6 + j) p
 counter-in q h e = record { kind = omega arith; below = q .there; short = omega arith; here = omega arith }
 
 module _ {s : List ℕ} (g : Good 1 s) where
   -- one property at most has an object and an id
-  pub property-once : {object id i j : ℕ} → IsProperty s object id i → IsProperty s object id j → i ≡ j
+  pub property-once : {object id i j : ℕ} → PropertyWith s object id i → PropertyWith s object id j → i ≡ j
   unfolding keyOf
   property-once {object} {id} {i} {j} a b =
       key-once g properties (omega arith) i j (a .there) (b .there)
@@ -54,7 +54,7 @@ module _ {s : List ℕ} (g : Good 1 s) where
   pub past-contents : {k i p : ℕ} → InBody s k i p → contents s ≤ p
   past-contents {k} {i} b = omega (arith, b .from, after-contents g k i (b .kind) (b .below))
 
-  same-property : {o d o′ d′ i i′ : ℕ} → IsProperty s o d i → IsProperty s o′ d′ i′ → i ≡ i′ → (o ≡ o′) × (d ≡ d′)
+  same-property : {o d o′ d′ i i′ : ℕ} → PropertyWith s o d i → PropertyWith s o′ d′ i′ → i ≡ i′ → (o ≡ o′) × (d ≡ d′)
   same-property {i = i} {i′} a b e = (
     sym (a .sameObject) ∙ ap (λ (n : ℕ). property.object of entry s properties n) e ∙ b .sameObject,
     sym (a .sameId) ∙ ap (λ (n : ℕ). property.id of entry s properties n) e ∙ b .sameId,

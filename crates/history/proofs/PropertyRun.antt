@@ -13,9 +13,10 @@ use Rattle.sheet.specs.Kind.{properties}
 use Rattle.sheet.specs.Layout.{_of_}
 use Rattle.sheet.specs.Property as property
 use Rattle.sheet.specs.Entries.{count, place, entry, bodyAt}
+use Rattle.sheet.specs.Places.{PropertyWith}
 use Rattle.sheet.proofs.Good.{Good}
 use Rattle.pdu.proofs.Truths.{never, and-is}
-use Rattle.history.specs.Location.{Location, memory, body, counter, key, IsProperty, Place, ofBody, ofCounter}
+use Rattle.history.specs.Location.{Location, memory, body, counter, key, Place, ofBody, ofCounter}
 use Rattle.history.specs.Wish.{writeProperty}
 use Rattle.history.specs.Permit.{all, entryFor, start, names}
 use Rattle.history.proofs.Bools.{all-at}
@@ -40,7 +41,7 @@ onCounters t (key l j) = false
 pub elements-fit : (t n z m : ℕ) → t + n ≤ m → t * z + n * z ≤ z * m
 elements-fit t n z m h = omega (arith, mul-le-mul-right z h)
 
-module _ {s : List ℕ} (g : Good 1 s) {object id i : ℕ} (is : IsProperty s object id i) where
+module _ {s : List ℕ} (g : Good 1 s) {object id i : ℕ} (is : PropertyWith s object id i) where
   pub entry-for : entryFor s object id ≡ entry s properties i
   unfolding entryFor
   entry-for = ap (entry s properties) (property-hit g is)

@@ -17,6 +17,7 @@ use Rattle.sheet.specs.Property as property
 use Rattle.sheet.specs.Entries.{count, place, entry, bodyAt, bodyEnd}
 use Rattle.sheet.specs.Frame.{Agree}
 use Rattle.sheet.specs.Rules.{entryDemands}
+use Rattle.sheet.specs.Places.{PropertyWith}
 use Rattle.sheet.proofs.Frames.{kept}
 use Rattle.sheet.proofs.Lie.{Inside, inside-within}
 use Rattle.sheet.proofs.Sames.{count-same, place-same, property-same}
@@ -30,7 +31,7 @@ use Rattle.device.specs.Events.{Event, State}
 use Rattle.device.specs.Asked.{Asked, Reads, given}
 use Rattle.device.specs.Right as right
 use Rattle.device.specs.Right.{Elements, elementAt, Writable, WriteAllowed}
-use Rattle.history.specs.Location.{Location, memory, body, counter, key, IsProperty}
+use Rattle.history.specs.Location.{Location, memory, body, counter, key}
 use Rattle.history.specs.Wish.{writeProperty}
 use Rattle.history.specs.Permit.{countIn, names, gives}
 use Rattle.history.specs.History.{First, content}
@@ -84,10 +85,8 @@ module _ (f : First) (b : Begins f) (h : List Event) (x : State) (inv : Inv f h 
       k answer high
 
   module _ (object id i : ℕ) (w : Writable R object id i) where
-    is : IsProperty (f .sheet) object id i
-    is =
-        is-same (inv .means .agree)
-        (record { there = w .found .there; sameObject = w .found .sameObject; sameId = w .found .sameId })
+    is : PropertyWith (f .sheet) object id i
+    is = is-same (inv .means .agree) (w .found)
 
     -- the count by the history is the count of the sheet
     count-now : countIn (content f h) object id ≡ property.count of entry (x .sheet) properties i

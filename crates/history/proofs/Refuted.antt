@@ -34,7 +34,7 @@ use Rattle.history.specs.Location.{memory, counter, Place, ofMemory, ofC
 use Rattle.history.specs.Wish.{asks, brings}
 use Rattle.history.specs.Permit.{every, heard, levelFor, regionFor, mayWrite, indexFor, entryFor, clears, fills, allowed, names, countIn, gives}
 use Rattle.history.specs.History.{firstOf, keyIn, opened, level, content, permitted}
-use Rattle.history.specs.Keeps.{Begins, Heard, Keeps, stateAfter}
+use Rattle.history.specs.Keeps.{Begins, AllOctets, Keeps, stateAfter}
 use Rattle.history.specs.Wrong.{refusesAll, storesNothing, storesOnce, inventsCount, keepsLevel, fresh, buffer, strongKey, wrongKey, firstWrite, secondWrite, elementWrite, authorized, writtenOnce, givenUp}
 
 -- bytes, by one test
@@ -53,14 +53,14 @@ unfolding sample ruleIn walkRule entriesRule bodiesRule entryRule bodyRule bodyD
 begins = record { octets = octets-by sample refl; accepted = refl }
 
 -- the runs bring bytes
-heard-authorized : Heard authorized
-heard-authorized = (octets-by strongKey refl, (tt, tt))
+octets-authorized : AllOctets authorized
+octets-authorized = (octets-by strongKey refl, (tt, tt))
 
-heard-written : Heard writtenOnce
-heard-written = (octets-by firstWrite refl, heard-authorized)
+octets-written : AllOctets writtenOnce
+octets-written = (octets-by firstWrite refl, octets-authorized)
 
-heard-given-up : Heard givenUp
-heard-given-up = (octets-by wrongKey refl, heard-authorized)
+octets-given-up : AllOctets givenUp
+octets-given-up = (octets-by wrongKey refl, octets-authorized)
 
 -- the first write is permitted
 first-permitted : permitted fresh authorized (request 3 0 firstWrite buffer) ≡ true
@@ -92,7 +92,7 @@ counter-at = ofCounter {j = 1} {p = 47} 0 (record { there = omega arith; sameObj
 -- REFUSING EVERYTHING
 pub refuses-refuted : Keeps refusesAll → ⊥
 refuses-refuted k =
-    let c = k fresh authorized begins heard-authorized .allPermitted 3 0 firstWrite buffer (octets-by firstWrite refl) first-permitted in
+    let c = k fresh authorized begins octets-authorized .allPermitted 3 0 firstWrite buffer (octets-by firstWrite refl) first-permitted in
     omega (arith, c .outcome)
 
 -- STORING NOTHING: address 0100 keeps its A0
@@ -100,7 +100,7 @@ pub nothing-refuted : Keeps storesNothing → ⊥
 unfolding stateAfter eventOf names gives asks brings readPdu find dataOf lowAt isBelow isAtMost isEqual both either sample numAt
 nothing-refuted k =
     let e : _≡_ {A = ℕ} 160 85 =
-    k fresh authorized begins heard-authorized .atOnce 3 0 firstWrite buffer (octets-by firstWrite refl) first-permitted (memory 256) 60 (memory-at 0 (omega arith)) refl in
+    k fresh authorized begins octets-authorized .atOnce 3 0 firstWrite buffer (octets-by firstWrite refl) first-permitted (memory 256) 60 (memory-at 0 (omega arith)) refl in
     omega arith
 
 -- STORING ONCE: address 0101 keeps its A1
@@ -110,7 +110,7 @@ unfolding stateAfter eventOf stepOf stepBy judgeOf isAccepted isShut reachedOf r
     ruleIn walkRule entriesRule bodiesRule entryRule bodyRule bodyDemands entryDemands entry keyOf floor bodyAt bodyEnd startOf reached sixBits first breach numAt bytesOf sample
 once-refuted k =
     let e : _≡_ {A = ℕ} 161 102 =
-    k fresh writtenOnce begins heard-written .atOnce 3 0 secondWrite buffer (octets-by secondWrite refl) second-permitted (memory 257) 61 (memory-at 1 (omega arith)) refl in
+    k fresh writtenOnce begins octets-written .atOnce 3 0 secondWrite buffer (octets-by secondWrite refl) second-permitted (memory 257) 61 (memory-at 1 (omega arith)) refl in
     omega arith
 
 -- INVENTING THE COUNT: it becomes 2, and 1 element was written
@@ -121,7 +121,7 @@ unfolding stateAfter eventOf stepOf stepBy judgeOf isAccepted isShut reachedOf r
     ruleIn walkRule entriesRule bodiesRule entryRule bodyRule bodyDemands entryDemands entry keyOf floor bodyAt bodyEnd startOf reached sixBits first breach numAt bytesOf sample
 count-refuted k =
     let e : _≡_ {A = ℕ} 2 1 =
-    k fresh authorized begins heard-authorized .atOnce 3 0 elementWrite buffer (octets-by elementWrite refl) element-permitted (counter 1 51 1) 47 counter-at refl in
+    k fresh authorized begins octets-authorized .atOnce 3 0 elementWrite buffer (octets-by elementWrite refl) element-permitted (counter 1 51 1) 47 counter-at refl in
     omega arith
 
 -- KEEPING THE LEVEL after a wrong key
@@ -129,4 +129,4 @@ pub level-refuted : Keeps keepsLevel → ⊥
 unfolding stateAfter eventOf stepOf stepBy judgeOf isAccepted isShut reachedOf rulesOf levelIn levelOf grantOf authorizeOf
     level opened content firstOf keyIn heard allowed asks readPdu find dataOf encoded headBytes lowAt isBelow isAtMost isEqual both either
     ruleIn walkRule entriesRule bodiesRule entryRule bodyRule bodyDemands entryDemands entry keyOf floor bodyAt bodyEnd startOf reached sixBits first breach numAt bytesOf sample
-level-refuted k = let e : _≡_ {A = ℕ} 0 3 = k fresh givenUp begins heard-given-up .rights in omega arith
+level-refuted k = let e : _≡_ {A = ℕ} 0 3 = k fresh givenUp begins octets-given-up .rights in omega arith

@@ -29,7 +29,7 @@ firstOf s (body o i j) = getD s (property.offset of entryFor s o i + j) 0
 firstOf s (counter o i j) = getD s (place s properties (indexFor s o i) + property.count .at + j) 0
 firstOf s (key l j) = getD s ((head.key l) .at + j) 0
 
--- a restart, and a key offered
+-- a restart
 abbrev pub isRestart : Wish → Bool
 isRestart (writeMemory n a) = false
 isRestart (writeBits n a) = false
@@ -42,7 +42,7 @@ isRestart (addressFor serial new) = false
 isRestart (group flag v) = false
 isRestart nothing = false
 
--- the level after an offer, given the number of each level's key and the level before
+-- the level that a request leaves, given the number of each level's key and the level before: an offer and a restart set it
 abbrev pub offered : (ℕ → ℕ) → ℕ → Wish → ℕ
 offered keys before (writeMemory n a) = before
 offered keys before (writeBits n a) = before
@@ -59,10 +59,6 @@ offered keys before nothing = before
 -- the number of a level's key by the contents of its four bytes
 unfoldable pub keyIn : (Location → ℕ) → ℕ → ℕ
 keyIn now l = ((now (key l 0) * 256 + now (key l 1)) * 256 + now (key l 2)) * 256 + now (key l 3)
-
--- the event concerns our connection: there is one so far
-abbrev pub concerns : Event → Bool
-concerns e = true
 
 -- what one event makes of an open or closed session
 abbrev pub openedBy : Bool → Event → Bool
@@ -89,22 +85,22 @@ permits s live level (request mode g a out) =
 
 -- what a permitted write gives to a location, and what any other event leaves there
 abbrev pub contentBy : List ℕ → Bool → (Location → ℕ) → Event → Location → ℕ
-contentBy s allowed now connect x = now x
-contentBy s allowed now disconnect x = now x
-contentBy s allowed now (button on) x = now x
-contentBy s allowed now (request mode g a out) x =
-    cond (allowed && names s (asks a) x) (gives s now (brings a) (asks a) x) (now x)
+contentBy s isPermitted now connect x = now x
+contentBy s isPermitted now disconnect x = now x
+contentBy s isPermitted now (button on) x = now x
+contentBy s isPermitted now (request mode g a out) x =
+    cond (isPermitted && names s (asks a) x) (gives s now (brings a) (asks a) x) (now x)
 
 -- WHETHER THE SESSION IS OPEN
 unfoldable pub opened : First → List Event → Bool
 opened f [] = f .session .opened
-opened f (e ∷ h) = cond (concerns e) (openedBy (opened f h) e) (opened f h)
+opened f (e ∷ h) = openedBy (opened f h) e
 
 -- THE LEVEL, and WHAT A LOCATION HOLDS: what the last permitted write gave, or its first content
 unfoldable mutual
   pub level : First → List Event → ℕ
   level f [] = f .session .level
-  level f (e ∷ h) = cond (concerns e) (levelBy (opened f h) (λ x. content f h x) (level f h) e) (level f h)
+  level f (e ∷ h) = levelBy (opened f h) (λ x. content f h x) (level f h) e
 
   pub content : First → List Event → Location → ℕ
   content f [] x = firstOf (f .sheet) x

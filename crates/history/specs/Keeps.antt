@@ -84,17 +84,17 @@ pub record Begins (f : First) : Type 0 where
   pub octets : Octets (f .sheet)
   pub accepted : ruleOf (f .sheet) ≡ 0
 
--- the requests of a history bring bytes
+-- every APDU is a list of bytes, whether it passes any check or not
 abbrev pub BringsOctets : Event → Type 0
 BringsOctets connect = Unit {0}
 BringsOctets disconnect = Unit {0}
 BringsOctets (button on) = Unit {0}
 BringsOctets (request mode g a out) = Octets a
 
-abbrev pub Heard : List Event → Type 0
-Heard [] = Unit {0}
-Heard (e ∷ h) = BringsOctets e × Heard h
+abbrev pub AllOctets : List Event → Type 0
+AllOctets [] = Unit {0}
+AllOctets (e ∷ h) = BringsOctets e × AllOctets h
 
 -- DEMAND 3: from an accepted sheet and any session, after every history
 abbrev pub Keeps : (State → Event → Step) → Type 0
-Keeps step = (f : First) (h : List Event) → Begins f → Heard h → Kept step f h
+Keeps step = (f : First) (h : List Event) → Begins f → AllOctets h → Kept step f h

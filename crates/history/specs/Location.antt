@@ -7,8 +7,8 @@ use Rattle.sheet.specs.Kind.{regions, properties}
 use Rattle.sheet.specs.Layout.{_of_}
 use Rattle.sheet.specs.Head as head
 use Rattle.sheet.specs.Property as property
-use Rattle.sheet.specs.Entries.{count, place, entry, bodyAt}
-use Rattle.sheet.specs.Places.{Stands}
+use Rattle.sheet.specs.Entries.{place, entry, bodyAt}
+use Rattle.sheet.specs.Places.{Stands, PropertyWith}
 
 -- a byte of memory by its address; byte j of the body of a property, or of its count, by object and id; byte j of the key of a level
 pub data Location : Type 0 where
@@ -17,20 +17,14 @@ pub data Location : Type 0 where
   counter : ℕ → ℕ → ℕ → Location
   key : ℕ → ℕ → Location
 
--- property i has that object and id
-pub record IsProperty (s : List ℕ) (object id i : ℕ) : Type 0 where
-  pub there : i < count s properties
-  pub sameObject : property.object of entry s properties i ≡ object
-  pub sameId : property.id of entry s properties i ≡ id
-
 -- WHERE A LOCATION STANDS
 pub data Place (s : List ℕ) : Location → ℕ → Type 0 where
   ofMemory : {y p levels : ℕ} → Stands s regions y p levels → Place s (memory y) p
   ofBody :
-      {object id j p : ℕ} (i : ℕ) → IsProperty s object id i →
+      {object id j p : ℕ} (i : ℕ) → PropertyWith s object id i →
       j < property.element of entry s properties i * property.maximum of entry s properties i →
       p ≡ bodyAt s properties i + j → Place s (body object id j) p
   ofCounter :
-      {object id j p : ℕ} (i : ℕ) → IsProperty s object id i → j < property.count .width →
+      {object id j p : ℕ} (i : ℕ) → PropertyWith s object id i → j < property.count .width →
       p ≡ place s properties i + property.count .at + j → Place s (counter object id j) p
   ofKey : {l j p : ℕ} → l < 3 → j < (head.key l) .width → p ≡ (head.key l) .at + j → Place s (key l j) p

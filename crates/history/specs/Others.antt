@@ -24,18 +24,18 @@ programming f (button on ∷ h) = bit on
 programming f (request mode g a out ∷ h) =
     cond (heard (opened f h) mode a out (wish.asks a) && isRestart (wish.asks a)) 0 (programming f h)
 
--- the new address that a request brings: in programming mode, or by the serial number
+-- the new address that a request brings: in programming mode (`inProgramming` is 1), or by the serial number
 abbrev pub newAddress : ℕ → ℕ → ℕ → wish.Wish → ℕ
-newAddress mode serial before (wish.writeMemory n a) = before
-newAddress mode serial before (wish.writeBits n a) = before
-newAddress mode serial before (wish.writeProperty object id n s) = before
-newAddress mode serial before (wish.writeKey level number) = before
-newAddress mode serial before (wish.offerKey number) = before
-newAddress mode serial before wish.restart = before
-newAddress mode serial before (wish.address new) = cond (eqb mode 1) new before
-newAddress mode serial before (wish.addressFor named new) = cond (eqb named serial) new before
-newAddress mode serial before (wish.group flag v) = before
-newAddress mode serial before wish.nothing = before
+newAddress inProgramming serial before (wish.writeMemory n a) = before
+newAddress inProgramming serial before (wish.writeBits n a) = before
+newAddress inProgramming serial before (wish.writeProperty object id n s) = before
+newAddress inProgramming serial before (wish.writeKey level number) = before
+newAddress inProgramming serial before (wish.offerKey number) = before
+newAddress inProgramming serial before wish.restart = before
+newAddress inProgramming serial before (wish.address new) = cond (eqb inProgramming 1) new before
+newAddress inProgramming serial before (wish.addressFor named new) = cond (eqb named serial) new before
+newAddress inProgramming serial before (wish.group flag v) = before
+newAddress inProgramming serial before wish.nothing = before
 
 -- THE INDIVIDUAL ADDRESS
 unfoldable pub individual : First → List Event → ℕ

@@ -89,7 +89,7 @@ allowed s level d (addressFor serial new) = false
 allowed s level d (group flag v) = false
 allowed s level d nothing = false
 
--- where the elements that a write names begin in the body, and how many bytes they are
+-- where the elements that a write names begin in the body
 abbrev pub start : List ℕ → ℕ → ℕ
 start e s = (s - 1) * property.element of e
 

@@ -58,6 +58,7 @@ abbrev pub wishIn : Parsed → Wish
 wishIn (Is p) = wishOf p
 wishIn (Refused n) = nothing
 
+-- judge's `dataIn` says the same: a history is read without any word of judging, so it stands here again
 abbrev pub dataFrom : Parsed → List ℕ → List ℕ
 dataFrom (Is p) a = dataOf p a
 dataFrom (Refused n) a = []

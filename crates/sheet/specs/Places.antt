@@ -1,4 +1,4 @@
--- What a position of an accepted sheet is, where an address of a memory stands, and what calls of this crate promise of entries.
+-- What a position of an accepted sheet is, where an address of a memory stands, which property has an object and id, and what calls of this crate promise of entries.
 -- Assumes nothing.
 use Prim.Native.Nat.{ℕ, _+_, _*_, _-_, _/_, _%_, _≤_, _<_, max}
 use mathlib.Core.Path.{_≡_}
@@ -28,6 +28,12 @@ pub record Stands (s : List ℕ) (k y p levels : ℕ) : Type 0 where
   pub to : y < region.address of entry s k index + region.length of entry s k index
   pub here : p ≡ region.offset of entry s k index + (y - region.address of entry s k index)
   pub under : levels ≡ region.levels of entry s k index
+
+-- property i has that object and id
+pub record PropertyWith (s : List ℕ) (object id i : ℕ) : Type 0 where
+  pub there : i < count s properties
+  pub sameObject : property.object of entry s properties i ≡ object
+  pub sameId : property.id of entry s properties i ≡ id
 
 -- r has the fields of property i
 pub record IsProperty (s : List ℕ) (i : ℕ) (r : PropertyEntry) : Type 0 where
