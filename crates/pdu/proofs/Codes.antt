@@ -12,8 +12,7 @@ use lib.ListN.{getElem?}
 use borrow.Author.Tests.{leb-true, ltb-true, le-leb, lt-ltb}
 use Rattle.pdu.specs.Item.{Row, pick}
 use Rattle.pdu.specs.Table.{rowOf, services, has, find, serviceAt}
-use Rattle.pdu.proofs.Truths.{and-is, either-is, decided}
-use Rattle.pdu.specs.Tests.{either}
+use Rattle.pdu.proofs.Truths.{and-is, or-is, decided}
 use Rattle.pdu.specs.declared.Service.{Service}
 use Rattle.pdu.specs.declared.Service.the-variants.{GroupValueRead, GroupValueResponse, GroupValueWrite, IndividualAddressWrite, IndividualAddressRead, SerialNumberRead, SerialNumberWrite, DeviceDescriptorRead, PropertyValueRead, PropertyValueWrite, PropertyDescriptionRead, MemoryRead, MemoryWrite, MemoryBitWrite, AuthorizeRequest, KeyWrite, Restart, IndividualAddressResponse, SerialNumberResponse, DeviceDescriptorResponse, PropertyValueResponse, PropertyDescriptionResponse, MemoryResponse, AuthorizeResponse, KeyResponse}
 use Rattle.pdu.specs.declared.Found.the-variants.{Listed, Unknown}
@@ -70,7 +69,6 @@ test : allClear services ≡ true
 test = refl
 
 clear-says : (a b : Row) (c : ℕ) → clear a b ≡ true → has b c ≡ true → has a c ≡ false
-unfolding either
 clear-says a b c e h = ⊎-elim (λ (g : has a c ≡ true). absurd (wrong g)) (λ g. g) (decided (has a c))
   where
     wrong : has a c ≡ true → ⊥
@@ -78,7 +76,7 @@ clear-says a b c e h = ⊎-elim (λ (g : has a c ≡ true). absurd (wrong g)) (�
         let i = has-is a c .0 g in
         let j = has-is b c .0 h in
         ⊎-elim (λ l. let m = leb-true (a .base + a .span) (b .base) l in omega arith) (λ l. let m = leb-true (b .base + b .span) (a .base) l in omega arith)
-        (either-is (leb (a .base + a .span) (b .base)) (leb (b .base + b .span) (a .base)) .0 e)
+        (or-is (leb (a .base + a .span) (b .base)) (leb (b .base + b .span) (a .base)) .0 e)
 
 clear-of : (r : Row) (ks : List Service) (i : ℕ) (k : Service) → clearOf r ks ≡ true → getElem? ks i ≡ some k → clear r (rowOf k) ≡ true
 clear-of r [] i k e l = cc

@@ -6,17 +6,16 @@ use mathlib.Core.Logic.{_↔_, _⊎_, inl, inr, ⊎-elim}
 use mathlib.Core.Bool.{Bool, true, false}
 use mathlib.Core.List.{List}
 use native.Mathlib.Omega.{arith}
-use lib.Dec.{ltb}
+use lib.Dec.{leb, ltb}
 use lib.ListN.{length}
 use borrow.Author.Tests.{ltb-true, ltb-false, lt-ltb, le-ltb}
-use Rattle.pdu.specs.Tests.{isAtMost}
 use Rattle.pdu.specs.Item.{pick}
 use Rattle.pdu.specs.Table.{rowOf}
 use Rattle.pdu.specs.Pdus.{serviceOf, valuesOf}
 use Rattle.pdu.specs.Read.{dataAt}
 use Rattle.pdu.specs.Write.{fitsIn, writable, writeOf, writeOutcome}
 use Rattle.pdu.specs.Allows.{Allows, Typed}
-use Rattle.pdu.proofs.Truths.{never, decided, both-is, at-most-is}
+use Rattle.pdu.proofs.Truths.{never, decided, and-is, at-most-is}
 use Rattle.pdu.proofs.Allowed.{fits-is}
 use Rattle.pdu.specs.declared.Pdu.{Pdu}
 use Rattle.pdu.specs.declared.Written.{Written}
@@ -27,7 +26,7 @@ pub writable-is : (p : Pdu) (d : List ℕ) → Typed p → (writable p d ≡ tru
 unfolding writable
 writable-is p d w =
     let n : ℕ = dataAt p + length d in
-    let b = both-is (isAtMost n 16) (fitsIn p n) in (
+    let b = and-is (leb n 16) (fitsIn p n) in (
       λ e. let m = at-most-is n 16 .0 (b .0 e .0) in fits-is (rowOf (serviceOf p)) (valuesOf p) n w m .0 (b .0 e .1),
       λ a. b .1 (at-most-is n 16 .1 (a .most), fits-is (rowOf (serviceOf p)) (valuesOf p) n w (a .most) .1 a),
     )

@@ -2,17 +2,17 @@
 -- Assumes nothing.
 use Prim.Native.Nat.{ℕ, _+_, _-_, _*_, _≤_, _<_}
 use mathlib.Core.Path.{_≡_, refl, sym, ap, _∙_}
-use mathlib.Core.Bool.{Bool, true, false}
+use mathlib.Core.Bool.{Bool, true, false, _&&_}
 use mathlib.Core.List.{List, [], _∷_, _++_}
 use native.Mathlib.Nat.{add-zero}
 use native.Mathlib.Omega.{arith}
+use lib.Dec.{leb}
 use lib.ListN.{length, take, drop, length-append, length-drop, drop-of-length-le}
 use lib.Seq.{take-all, drop-length}
 use borrow.Author.Tests.{lt-ltb, le-ltb, le-leb, lt-leb}
 use Rattle.octets.specs.Bytes.{bytesOf}
 use Rattle.octets.specs.Splice.{splice}
 use Rattle.octets.proofs.Numbers.{length-bytes}
-use Rattle.pdu.specs.Tests.{isAtMost, both}
 use Rattle.pdu.specs.Item.{Item, low, num, cap, duo, skip, Row, Value, the}
 use Rattle.pdu.specs.Table.{rowOf}
 use Rattle.pdu.specs.Pdus.{serviceOf, valuesOf}
@@ -49,21 +49,20 @@ refused : (p : Pdu) (d o : List ℕ) → 16 ≤ length o → writable p d ≡ fa
 unfolding writeOf
 refused p d o h e = record { result = simp (le-ltb _ _ h, e); buffer = refl }
 
-both-false : (a : Bool) → both a false ≡ false
-unfolding both
-both-false true = refl
-both-false false = refl
+and-false : (a : Bool) → (a && false) ≡ false
+and-false true = refl
+and-false false = refl
 
 module _ (p : Pdu) (d o : List ℕ) (a : ℕ) (h : 16 ≤ length o) (e : a ≡ dataAt p) where
   pub wrote-long : 16 < a + length d → Wrote p d o (Refused 13) o
-  unfolding writable both isAtMost
+  unfolding writable
   wrote-long l = refused p d o h (let k : 16 < dataAt p + length d = rw e at l in simp (lt-leb _ _ k))
 
   pub wrote-13 : (b : Bool) → b ≡ fitsIn p (a + length d) → b ≡ false → Wrote p d o (Refused 13) o
   unfolding writable
   wrote-13 b f t =
       let g : fitsIn p (dataAt p + length d) ≡ false = sym (rw e at f) ∙ t in
-      refused p d o h (ap (both (isAtMost (dataAt p + length d) 16)) g ∙ both-false (isAtMost (dataAt p + length d) 16))
+      refused p d o h (ap (λ (t : Bool). leb (dataAt p + length d) 16 && t) g ∙ and-false (leb (dataAt p + length d) 16))
 
   -- head and data stored are the PDU's bytes
   pub wrote-all :
@@ -74,7 +73,7 @@ module _ (p : Pdu) (d o : List ℕ) (a : ℕ) (h : 16 ≤ length o) (e : a ≡ d
       o₁ ≡ splice o 0 (headBytes (rowOf (serviceOf p)) (valuesOf p)) →
       o₂ ≡ splice o₁ a d →
       Wrote p d o (Bytes (a + length d)) o₂
-  unfolding writeOf writable both isAtMost encoded
+  unfolding writeOf writable encoded
   wrote-all o₁ o₂ b l f t g k =
       let l′ : dataAt p + length d ≤ 16 = rw e at l in
       let f′ : fitsIn p (dataAt p + length d) ≡ true = sym (rw e at f) ∙ t in

@@ -3,13 +3,12 @@
 use Prim.Native.Nat.{ℕ, zero, suc, _+_, _-_, _≤_, _<_}
 use mathlib.Core.Path.{_≡_, refl, sym, subst, ap, _∙_}
 use mathlib.Core.List.{List, [], _∷_}
-use mathlib.Core.Bool.{Bool, true, false}
+use mathlib.Core.Bool.{Bool, true, false, _&&_}
 use mathlib.Core.Option.{none}
-use lib.Dec.{ltb}
+use lib.Dec.{leb, ltb}
 use native.Mathlib.Omega.{arith}
 use lib.ListN.{length, getD, getElem?, length-drop}
 use Rattle.pdu.specs.Item.{Value, pick}
-use Rattle.pdu.specs.Tests.{isAtMost, both}
 use Rattle.pdu.specs.Table.{rowOf, services}
 use Rattle.pdu.specs.Read.{readPdu, dataAt, dataOf}
 use Rattle.pdu.specs.Write.{writeOf, writeCount, bufferOf, fitsIn, writable, Wrote}
@@ -24,7 +23,7 @@ use Rattle.pdu.proofs.Find.{NoneOf}
 use Rattle.pdu.proofs.Formed.{formed-says, long-enough}
 use Rattle.pdu.proofs.Sound.{sound}
 use Rattle.pdu.proofs.Outcomes.{reads-pdu}
-use Rattle.pdu.proofs.Truths.{both-is, at-most-is}
+use Rattle.pdu.proofs.Truths.{and-is, at-most-is}
 use Rattle.pdu.specs.Pdus.{serviceOf, valuesOf}
 use Rattle.pdu.specs.declared.Pdu.{Pdu}
 use Rattle.tool.specs.Flat.{laid, kindOf, flatOf, flatBy, flatRead, meantAs, meantBy, meantWrite, meantBuffer, unknownKind, flatWritten, FlatWrote}
@@ -99,7 +98,7 @@ pub few : (p : Pdu) (d o : List ℕ) (w : Written) → w ≡ writeOf p d o → w
 unfolding writeOf writable
 few p d o w e =
     let n : ℕ = dataAt p + length d in
-    rw e (counted n (ltb (length o) 16) (both (isAtMost n 16) (fitsIn p n)) (λ u. at-most-is n 16 .0 (both-is (isAtMost n 16) (fitsIn p n) .0 u .0)))
+    rw e (counted n (ltb (length o) 16) (leb n 16 && fitsIn p n) (λ u. at-most-is n 16 .0 (and-is (leb n 16) (fitsIn p n) .0 u .0)))
 
 pub count-few : (w : Written) (n : ℕ) → w ≡ Bytes n → writeCount w ≤ 16 → n ≤ 16
 count-few w n e h = rw e at h
