@@ -1,10 +1,11 @@
 -- THE RULES S1 to S9 as rows, and the first rule broken.
 -- Assumes nothing.
 use Prim.Native.Nat.{ℕ, zero, suc, _+_, _/_, _%_}
+use mathlib.Core.Bool.{cond}
 use mathlib.Core.List.{List, [], _∷_}
 use lib.ListN.{length}
 use lib.Dec.{ltb}
-use Rattle.sheet.specs.Demand.{Demand, _≼_, _≐_, _⦂_, breach, pick}
+use Rattle.sheet.specs.Demand.{Demand, _≼_, _≐_, _⦂_, breach}
 use Rattle.sheet.specs.First.{first, orElse}
 use Rattle.sheet.specs.Kind.{byKind, kinds, regions, properties, groups}
 use Rattle.sheet.specs.Layout.{_of_}
@@ -118,7 +119,7 @@ kindAt (suc (suc (suc p))) = p
 
 unfoldable pub stepRule : List ℕ → ℕ → ℕ → ℕ
 stepRule s p i =
-    pick (ltb p regionBodies) (breach (entryDemands s (kindAt p) i)) (breach (bodyDemands s (kindAt p) i))
+    cond (ltb p regionBodies) (breach (entryDemands s (kindAt p) i)) (breach (bodyDemands s (kindAt p) i))
 
 unfoldable pub passRule : List ℕ → ℕ → ℕ
 passRule s p = first (stepRule s p) (count s (kindAt p))

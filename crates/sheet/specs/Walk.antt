@@ -2,10 +2,11 @@
 -- Assumes nothing.
 use Prim.Native.Nat.{ℕ, _+_, _≤_, _<_}
 use mathlib.Core.Path.{_≡_}
+use mathlib.Core.Bool.{cond}
 use mathlib.Core.List.{List}
 use lib.ListN.{length}
 use lib.Dec.{ltb}
-use Rattle.sheet.specs.Demand.{Demand, Met, Tells, pick}
+use Rattle.sheet.specs.Demand.{Demand, Met, Tells}
 use Rattle.sheet.specs.Kind.{kinds, OfKind}
 use Rattle.sheet.specs.Entries.{count, size, entry, floor, reached, startOf, offsetOf, lengthOf}
 use Rattle.sheet.specs.Rules.{frameDemands, stepRule, kindAt, regionBodies, passes}
@@ -49,7 +50,7 @@ pub record Long (k : ℕ) (e : List ℕ) (r : ℕ) : Type 0 where
 
 -- what step i of pass p is judged against: the least first word, or where the body before ended
 unfoldable pub before : List ℕ → ℕ → ℕ → ℕ
-before s p i = pick (ltb p regionBodies) (floor s (kindAt p) i) (reached s (kindAt p) i)
+before s p i = cond (ltb p regionBodies) (floor s (kindAt p) i) (reached s (kindAt p) i)
 
 -- step i of pass p is one
 pub record Step (s : List ℕ) (p i : ℕ) : Type 0 where

@@ -3,12 +3,12 @@
 use Prim.Native.Nat.{ℕ, zero, suc, _+_, _-_, _≤_, _<_}
 use mathlib.Core.Path.{_≡_, refl, sym, subst, ap, _∙_}
 use mathlib.Core.List.{List, [], _∷_}
-use mathlib.Core.Bool.{Bool, true, false, _&&_}
+use mathlib.Core.Bool.{Bool, true, false, cond, _&&_}
 use mathlib.Core.Option.{none}
 use lib.Dec.{leb, ltb}
 use native.Mathlib.Omega.{arith}
 use lib.ListN.{length, getD, getElem?, length-drop}
-use Rattle.pdu.specs.Item.{Value, pick}
+use Rattle.pdu.specs.Item.{Value}
 use Rattle.pdu.specs.Table.{rowOf, services}
 use Rattle.pdu.specs.Read.{readPdu, dataAt, dataOf}
 use Rattle.pdu.specs.Write.{writeOf, writeCount, bufferOf, fitsIn, writable, Wrote}
@@ -89,7 +89,7 @@ unfolding meantBy
 no-kind f h = ap (λ o. meantAs o f) (sym (past-end services (f .kind) (at-least 25 (f .kind) h)))
 
 -- at most 16 bytes are written
-counted : (n : ℕ) (t u : Bool) → (u ≡ true → n ≤ 16) → writeCount (pick t (Refuses 3) (pick u (Bytes n) (Refuses 13))) ≤ 16
+counted : (n : ℕ) (t u : Bool) → (u ≡ true → n ≤ 16) → writeCount (cond t (Refuses 3) (cond u (Bytes n) (Refuses 13))) ≤ 16
 counted n true u h = omega arith
 counted n false true h = h refl
 counted n false false h = omega arith
