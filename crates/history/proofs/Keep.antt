@@ -12,7 +12,6 @@ use Rattle.device.proofs.Rightly.{right}
 use Rattle.history.specs.Wish.{asks, brings}
 use Rattle.history.specs.Permit.{gives}
 use Rattle.history.specs.History.{First, content}
-use Rattle.history.specs.Others.{programming}
 use Rattle.history.specs.Keeps.{stateAfter, Kept, Begins, BringsOctets, Heard, Keeps}
 use Rattle.history.specs.Rightful.{asked, Rightful}
 use Rattle.history.proofs.Invariant.{Inv, begin, connected, disconnected, button-pressed, now, now-accepted}

@@ -11,7 +11,7 @@ use Rattle.sheet.specs.Kind.{regions, properties, groups}
 use Rattle.sheet.specs.Layout.{_of_}
 use Rattle.sheet.specs.Region as region
 use Rattle.sheet.specs.Property as property
-use Rattle.sheet.specs.Entries.{count, place, contents, entry, keyOf, bodyAt, bodyEnd, InBody}
+use Rattle.sheet.specs.Entries.{place, contents, entry, keyOf, bodyAt, bodyEnd, InBody}
 use Rattle.sheet.specs.Places.{Position, inHead, inEntry, inBody, Stands}
 use Rattle.sheet.specs.Frame.{Fixed}
 use Rattle.sheet.specs.Rules.{ruleOf}

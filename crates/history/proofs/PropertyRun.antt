@@ -12,7 +12,7 @@ use borrow.Author.Tests.{eqb-true, eq-eqb, ltb-true, lt-ltb, leb-true, le-leb}
 use Rattle.sheet.specs.Kind.{properties}
 use Rattle.sheet.specs.Layout.{_of_}
 use Rattle.sheet.specs.Property as property
-use Rattle.sheet.specs.Entries.{count, place, entry, bodyAt}
+use Rattle.sheet.specs.Entries.{place, entry, bodyAt}
 use Rattle.sheet.proofs.Good.{Good}
 use Rattle.pdu.proofs.Truths.{never, and-is}
 use Rattle.history.specs.Location.{Location, memory, body, counter, key, IsProperty, Place, ofBody, ofCounter}

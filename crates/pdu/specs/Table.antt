@@ -4,7 +4,7 @@ use Prim.Native.Nat.{ℕ, _+_}
 use mathlib.Core.List.{List, [], _∷_}
 use mathlib.Core.Bool.{Bool, cond, _&&_}
 use lib.Dec.{leb, ltb}
-use Rattle.pdu.specs.Item.{Item, low, num, cap, duo, skip, Tail, none, by, twice, between, group, Row, row, V6, Address, Serial, Domain, T, Object, Id, N, S, Index, Kind, Maximum, Access, Level, Key}
+use Rattle.pdu.specs.Item.{low, num, cap, duo, skip, none, by, twice, between, group, Row, row, V6, Address, Serial, Domain, T, Object, Id, N, S, Index, Kind, Maximum, Access, Level, Key}
 use Rattle.pdu.specs.declared.Service.{Service}
 use Rattle.pdu.specs.declared.Service.the-variants.{GroupValueRead, GroupValueResponse, GroupValueWrite, IndividualAddressWrite, IndividualAddressRead, SerialNumberRead, SerialNumberWrite, DeviceDescriptorRead, PropertyValueRead, PropertyValueWrite, PropertyDescriptionRead, MemoryRead, MemoryWrite, MemoryBitWrite, AuthorizeRequest, KeyWrite, Restart, IndividualAddressResponse, SerialNumberResponse, DeviceDescriptorResponse, PropertyValueResponse, PropertyDescriptionResponse, MemoryResponse, AuthorizeResponse, KeyResponse}
 use Rattle.pdu.specs.declared.Found.{Found}

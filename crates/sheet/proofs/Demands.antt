@@ -1,10 +1,10 @@
 -- A table of demands, its first broken row, and that all rows hold.
 -- Assumes nothing.
-use Prim.Native.Nat.{ℕ, _≤_, _<_}
+use Prim.Native.Nat.{ℕ, _≤_}
 use mathlib.Core.List.{List, [], _∷_}
 use mathlib.Core.Bool.{Bool, true, false, cond}
-use mathlib.Core.Path.{_≡_, refl, sym, _∙_}
-use lib.Dec.{leb, eqb, T}
+use mathlib.Core.Path.{_≡_, refl}
+use lib.Dec.{leb, T}
 use native.Mathlib.Omega.{arith}
 use borrow.Author.Tests.{le-leb, leb-true, leb-false, eq-eqb, eqb-true, eqb-false}
 use Rattle.sheet.specs.Demand.{Demand, Order, _≼_, _≐_, test, Holds, Fails, breach, Met, Tells}

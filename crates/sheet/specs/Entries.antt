@@ -1,14 +1,13 @@
 -- The entries of a sheet by kind and number, and their bodies.
 -- Assumes nothing.
 use Prim.Native.Nat.{ℕ, zero, suc, _+_, _*_, _<_, _≤_, max}
-use mathlib.Core.Path.{_≡_}
 use mathlib.Core.Bool.{cond}
 use mathlib.Core.List.{List}
-use lib.ListN.{length, take, drop}
+use lib.ListN.{take, drop}
 use lib.Dec.{leb}
 use Rattle.octets.specs.Bytes.{numAt}
 use Rattle.sheet.specs.Kind.{byKind, kinds}
-use Rattle.sheet.specs.Layout.{Field, _of_}
+use Rattle.sheet.specs.Layout.{_of_}
 use Rattle.sheet.specs.Head as head
 use Rattle.sheet.specs.Region as region
 use Rattle.sheet.specs.Property as property

@@ -14,7 +14,7 @@ use Rattle.pdu.specs.Read.{readPdu, dataAt, dataOf}
 use Rattle.pdu.specs.Write.{writeOf, writeCount, bufferOf, fitsIn, writable, Wrote}
 use Rattle.pdu.specs.Rules.{headOf}
 use Rattle.pdu.specs.declared.Parsed.{Parsed}
-use Rattle.pdu.specs.declared.Parsed.the-variants.{Is, Refused}
+use Rattle.pdu.specs.declared.Parsed.the-variants.{Is}
 use Rattle.pdu.specs.declared.Service.{Service}
 use Rattle.pdu.specs.declared.Written.{Written}
 use Rattle.pdu.specs.declared.Written.the-variants.{Bytes, Refused as Refuses}
@@ -26,7 +26,7 @@ use Rattle.pdu.proofs.Outcomes.{reads-pdu}
 use Rattle.pdu.proofs.Truths.{and-is, at-most-is}
 use Rattle.pdu.specs.Pdus.{serviceOf, valuesOf}
 use Rattle.pdu.specs.declared.Pdu.{Pdu}
-use Rattle.tool.specs.Flat.{laid, kindOf, flatOf, flatBy, flatRead, meantAs, meantBy, meantWrite, meantBuffer, unknownKind, flatWritten, FlatWrote}
+use Rattle.tool.specs.Flat.{laid, kindOf, flatBy, flatRead, meantAs, meantBy, unknownKind, flatWritten, FlatWrote}
 use Rattle.tool.specs.declared.FlatPdu.{FlatPdu}
 use Rattle.tool.specs.declared.FlatWritten.{FlatWritten}
 use Rattle.tool.specs.declared.Meant.{Meant}
