@@ -9,7 +9,6 @@ use Rattle.sheet.specs.First.{first}
 use Rattle.sheet.specs.Entries.{entry, keyOf, floor, bodyEnd, startOf, reached, sixBits}
 use Rattle.sheet.specs.Rules.{entryDemands, bodyDemands, entryRule, bodyRule, entriesRule, bodiesRule, walkRule, ruleIn}
 use Rattle.sheet.specs.Lookup.{seek, indexOf, objectAt, rank, covers, rangeOf}
-use Rattle.pdu.specs.Tests.{isBelow, isAtMost, isEqual, both}
 use Rattle.pdu.specs.Table.{find}
 use Rattle.pdu.specs.Rules.{lowAt, fourAt, twelveAt, headBytes}
 use Rattle.pdu.specs.Read.{readPdu, dataOf}
@@ -28,7 +27,7 @@ use Rattle.device.specs.Marked.{sample, cases, found, wanted}
 pub marked : map found cases ≡ map wanted cases
 unfolding sample cases found wanted stepOf stepBy build bitAt judgeOf isAccepted isShut reachedOf rulesOf levelIn levelOf
     readIn propertyReadOf writeIn propertyWriteOf describedAt descriptionOf memoryReadOf changeOf memoryWriteOf bitWriteOf
-    grantOf authorizeOf keyWriteOf readPdu find dataOf encoded headBytes lowAt fourAt twelveAt isBelow isAtMost isEqual both
+    grantOf authorizeOf keyWriteOf readPdu find dataOf encoded headBytes lowAt fourAt twelveAt
     seek indexOf objectAt rank covers rangeOf ruleIn walkRule entriesRule bodiesRule entryRule bodyRule bodyDemands entryDemands
     entry keyOf floor bodyEnd startOf reached sixBits first breach splice numAt bytesOf
 marked = refl

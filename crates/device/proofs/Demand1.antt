@@ -5,13 +5,13 @@ use mathlib.Core.Path.{_≡_, refl}
 use mathlib.Core.Logic.{_⊎_, inl, inr}
 use mathlib.Core.Bool.{Bool, true, false, cond}
 use mathlib.Core.List.{List, []}
+use lib.Dec.{leb}
 use lib.ListN.{length}
 use native.Mathlib.Omega.{arith}
 use Rattle.octets.specs.Bytes.{bytesOf}
-use Rattle.pdu.specs.Tests.{isAtMost}
 use Rattle.pdu.specs.Read.{readPdu, dataAt}
 use Rattle.pdu.specs.Write.{encoded, writable}
-use Rattle.pdu.proofs.Truths.{both-is, at-most-is}
+use Rattle.pdu.proofs.Truths.{and-is, at-most-is}
 use Rattle.pdu.proofs.Writing.{length-encoded}
 use Rattle.pdu.specs.declared.Pdu.{Pdu}
 use Rattle.judge.specs.declared.Session.{Session}
@@ -60,7 +60,7 @@ ends s q a d k (done f t) =
 short : (p : Pdu) (d : List ℕ) → writable p d ≡ true → length (encoded p d) ≤ 16
 unfolding writable
 short p d w =
-    let h = at-most-is (dataAt p + length d) 16 .0 (both-is (isAtMost (dataAt p + length d) 16) _ .0 w .0) in
+    let h = at-most-is (dataAt p + length d) 16 .0 (and-is (leb (dataAt p + length d) 16) _ .0 w .0) in
     omega (arith, length-encoded p d)
 
 short-answer : (s d : List ℕ) (r : Answer) → AnswerSafe s d r → length (answerOf s d r) ≤ 16

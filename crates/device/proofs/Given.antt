@@ -4,27 +4,27 @@ use Prim.Native.Nat.{ℕ, _+_, _*_, _≤_, _<_}
 use mathlib.Core.Path.{_≡_}
 use mathlib.Core.List.{List}
 use native.Mathlib.Omega.{arith}
+use lib.Dec.{ltb}
 use lib.ListN.{length, length-drop}
-use Rattle.pdu.specs.Tests.{isBelow}
 use Rattle.pdu.specs.Read.{dataOf}
-use Rattle.pdu.proofs.Truths.{both-is, below-is, equal-is}
+use Rattle.pdu.proofs.Truths.{and-is, below-is, equal-is}
 use Rattle.pdu.proofs.Readings.{Reading}
 use Rattle.pdu.specs.declared.Pdu.the-variants.{SerialNumberRead, PropertyValueRead, PropertyValueWrite, MemoryWrite, MemoryBitWrite}
 
 module _ (a : List ℕ) where
   pub serial-small : (serial : ℕ) → Reading a (SerialNumberRead serial) → serial < 281474976710656
-  serial-small serial r = below-is serial _ .0 (both-is _ _ .0 (r .fit) .0)
+  serial-small serial r = below-is serial _ .0 (and-is _ _ .0 (r .fit) .0)
 
   module _ (object id n s : ℕ) where
     pub read-fields : Reading a (PropertyValueRead object id n s) → (n < 16) × (s < 4096)
     read-fields r =
-        let h = both-is (isBelow n 16) _ .0 (r .fit) in
-        (below-is n 16 .0 (h .0), below-is s 4096 .0 (both-is (isBelow s 4096) _ .0 (h .1) .0))
+        let h = and-is (ltb n 16) _ .0 (r .fit) in
+        (below-is n 16 .0 (h .0), below-is s 4096 .0 (and-is (ltb s 4096) _ .0 (h .1) .0))
 
     pub write-fields : Reading a (PropertyValueWrite object id n s) → (n < 16) × (s < 4096)
     write-fields r =
-        let h = both-is (isBelow n 16) _ .0 (r .fit) in
-        (below-is n 16 .0 (h .0), below-is s 4096 .0 (both-is (isBelow s 4096) _ .0 (h .1) .0))
+        let h = and-is (ltb n 16) _ .0 (r .fit) in
+        (below-is n 16 .0 (h .0), below-is s 4096 .0 (and-is (ltb s 4096) _ .0 (h .1) .0))
 
     pub write-data : Reading a (PropertyValueWrite object id n s) → length (dataOf (PropertyValueWrite object id n s) a) ≤ 10
     unfolding dataOf
@@ -34,7 +34,7 @@ module _ (a : List ℕ) where
     pub memory-data : Reading a (MemoryWrite n address) → length (dataOf (MemoryWrite n address) a) ≡ n
     unfolding dataOf
     memory-data r =
-        let h = equal-is (length a) (4 + n) .0 (both-is (isBelow n 16) _ .0 (r .fit) .1) in
+        let h = equal-is (length a) (4 + n) .0 (and-is (ltb n 16) _ .0 (r .fit) .1) in
         omega (arith, length-drop 4 a)
 
     pub bits-data : Reading a (MemoryBitWrite n address) → length (dataOf (MemoryBitWrite n address) a) ≡ n + n

@@ -8,7 +8,6 @@ use Rattle.sheet.specs.First.{first}
 use Rattle.sheet.specs.Entries.{entry, keyOf, floor, bodyEnd, startOf, reached, sixBits}
 use Rattle.sheet.specs.Rules.{entryDemands, bodyDemands, entryRule, bodyRule, entriesRule, bodiesRule, walkRule, ruleIn}
 use Rattle.sheet.specs.Lookup.{seek, indexOf}
-use Rattle.pdu.specs.Tests.{isBelow, isEqual, both}
 use Rattle.pdu.specs.Table.{find}
 use Rattle.pdu.specs.Rules.{fourAt, twelveAt, headBytes}
 use Rattle.pdu.specs.Read.{readPdu}
@@ -24,6 +23,6 @@ use Rattle.device.specs.Wrong.{inflated, inventsCount}
 -- THE LAST BYTE IS 2, the maximum, where the count is 1
 pub invented : getD (inventsCount (asked readCount) .answer) 7 0 ≡ 2
 unfolding sample inventsCount inflated stepBy judgeOf isAccepted isShut reachedOf rulesOf levelIn levelOf readIn propertyReadOf
-    readPdu find encoded headBytes fourAt twelveAt isBelow isEqual both seek indexOf ruleIn walkRule entriesRule bodiesRule entryRule bodyRule
+    readPdu find encoded headBytes fourAt twelveAt seek indexOf ruleIn walkRule entriesRule bodiesRule entryRule bodyRule
     bodyDemands entryDemands entry keyOf floor bodyEnd startOf reached sixBits first breach numAt bytesOf
 invented = refl

@@ -17,7 +17,7 @@ use Rattle.sheet.specs.Rules.{entryDemands}
 use Rattle.sheet.proofs.Good.{Good}
 use Rattle.sheet.proofs.Stores.{key-store, address-store, flags-store}
 use Rattle.pdu.specs.Read.{dataOf}
-use Rattle.pdu.proofs.Truths.{both-is, below-is}
+use Rattle.pdu.proofs.Truths.{and-is, below-is}
 use Rattle.pdu.proofs.Readings.{Reading}
 use Rattle.pdu.specs.declared.Pdu.{Pdu}
 use Rattle.pdu.specs.declared.Pdu.the-variants.{GroupValueRead, GroupValueResponse, GroupValueWrite, IndividualAddressWrite, IndividualAddressRead, SerialNumberRead, SerialNumberWrite, DeviceDescriptorRead, PropertyValueRead, PropertyValueWrite, PropertyDescriptionRead, MemoryRead, MemoryWrite, MemoryBitWrite, AuthorizeRequest, KeyWrite, Restart, IndividualAddressResponse, SerialNumberResponse, DeviceDescriptorResponse, PropertyValueResponse, PropertyDescriptionResponse, MemoryResponse, AuthorizeResponse, KeyResponse}
@@ -49,10 +49,10 @@ Keeps s d k = Agree s (left s d k)
 
 -- six bits of a group value that reads are below 64
 six : (a : List ℕ) (v : ℕ) → Reading a (GroupValueResponse v) → v < 64
-six a v r = below-is v 64 .0 (both-is _ _ .0 (r .fit) .0)
+six a v r = below-is v 64 .0 (and-is _ _ .0 (r .fit) .0)
 
 six-written : (a : List ℕ) (v : ℕ) → Reading a (GroupValueWrite v) → v < 64
-six-written a v r = below-is v 64 .0 (both-is _ _ .0 (r .fit) .0)
+six-written a v r = below-is v 64 .0 (and-is _ _ .0 (r .fit) .0)
 
 one-byte : (v j : ℕ) → v < 64 → j < length (bytesOf 1 v) → getD (bytesOf 1 v) j 0 < 64
 unfolding bytesOf

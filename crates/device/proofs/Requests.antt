@@ -3,8 +3,6 @@
 use Prim.Native.Nat.{ℕ}
 use mathlib.Core.Path.{_≡_, refl, ap, sym, subst, _∙_}
 use mathlib.Core.List.{List}
-use lib.ListN.{length}
-use Rattle.octets.specs.Splice.{splice}
 use Rattle.pdu.specs.Read.{readPdu}
 use Rattle.pdu.specs.declared.Parsed.{Parsed}
 use Rattle.judge.specs.Judge.{dataIn, judgeOf}
@@ -13,7 +11,6 @@ use Rattle.judge.specs.declared.Decision.{Decision}
 use Rattle.device.specs.Carry.{storeOf, turnOf, answerOf, Filled}
 use Rattle.device.specs.Safe.{StoreSafe, AnswerSafe, Roomy, Safe}
 use Rattle.device.specs.Step.{Step, stepBy, stepOf, Did}
-use Rattle.device.specs.declared.Done.{Done}
 use Rattle.device.proofs.Safe.{safe}
 use Rattle.device.proofs.Room.{roomy}
 

@@ -12,7 +12,7 @@ use Rattle.sheet.specs.Kind.{regions, properties}
 use Rattle.sheet.specs.Layout.{_of_}
 use Rattle.sheet.specs.Property as property
 use Rattle.sheet.specs.Head as head
-use Rattle.sheet.specs.Entries.{count, entry}
+use Rattle.sheet.specs.Entries.{entry}
 use Rattle.sheet.proofs.Good.{Good}
 use Rattle.pdu.specs.Read.{dataOf}
 use Rattle.pdu.specs.Write.{writable}

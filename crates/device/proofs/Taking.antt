@@ -3,10 +3,10 @@
 use Prim.Native.Nat.{ℕ}
 use mathlib.Core.Path.{_≡_, refl}
 use mathlib.Core.Logic.{_↔_, _⊎_, inl, inr, ⊎-elim}
-use mathlib.Core.Bool.{Bool, true, false, _||_}
+use mathlib.Core.Bool.{true, false, _||_}
 use lib.Dec.{eqb}
 use borrow.Author.Tests.{eq-eqb, eqb-true}
-use Rattle.pdu.proofs.Truths.{never}
+use Rattle.pdu.proofs.Truths.{never, or-is}
 use Rattle.pdu.specs.declared.Service.{Service}
 use Rattle.pdu.specs.declared.Service.the-variants.{GroupValueRead, GroupValueResponse, GroupValueWrite, IndividualAddressWrite, IndividualAddressRead, SerialNumberRead, SerialNumberWrite, DeviceDescriptorRead, PropertyValueRead, PropertyValueWrite, PropertyDescriptionRead, MemoryRead, MemoryWrite, MemoryBitWrite, AuthorizeRequest, KeyWrite, Restart, IndividualAddressResponse, SerialNumberResponse, DeviceDescriptorResponse, PropertyValueResponse, PropertyDescriptionResponse, MemoryResponse, AuthorizeResponse, KeyResponse}
 use Rattle.judge.specs.Modes.{reachOf, reaches, takes}
@@ -14,17 +14,13 @@ use Rattle.judge.specs.declared.Reach.{Reach}
 use Rattle.judge.specs.declared.Reach.the-variants.{Multicast, Broadcast, PointToPoint, Connected, Never}
 use Rattle.device.specs.Asked.{Takes, Served}
 
-either-is : (a b : Bool) → (a || b ≡ true) ↔ ((a ≡ true) ⊎ (b ≡ true))
-either-is true b = (λ e. inl refl, λ h. refl)
-either-is false b = (λ e. inr e, λ h. ⊎-elim (λ e. never e) (λ e. e) h)
-
 one : (m n : ℕ) → (eqb m n ≡ true) ↔ (m ≡ n)
 one m n = (eqb-true m n, eq-eqb m n)
 
 two : (m a b : ℕ) → (eqb m a || eqb m b ≡ true) ↔ ((m ≡ a) ⊎ (m ≡ b))
 two m a b = (
-  λ e. ⊎-elim (λ h. inl (eqb-true m a h)) (λ h. inr (eqb-true m b h)) (either-is (eqb m a) (eqb m b) .0 e),
-  λ h. either-is (eqb m a) (eqb m b) .1 (⊎-elim (λ e. inl (eq-eqb m a e)) (λ e. inr (eq-eqb m b e)) h),
+  λ e. ⊎-elim (λ h. inl (eqb-true m a h)) (λ h. inr (eqb-true m b h)) (or-is (eqb m a) (eqb m b) .0 e),
+  λ h. or-is (eqb m a) (eqb m b) .1 (⊎-elim (λ e. inl (eq-eqb m a e)) (λ e. inr (eq-eqb m b e)) h),
 )
 
 none : (false ≡ true) ↔ ⊥

@@ -2,64 +2,63 @@
 -- Assumes nothing.
 use Prim.Native.Nat.{ℕ, _+_, _≤_, _<_}
 use mathlib.Core.Path.{_≡_, refl}
-use mathlib.Core.Logic.{inl, inr}
+use mathlib.Core.Logic.{inr}
 use mathlib.Core.Bool.{true}
 use mathlib.Core.List.{List, []}
 use native.Mathlib.Omega.{arith}
+use lib.Dec.{eqb}
 use lib.ListN.{length}
 use Rattle.pdu.specs.Read.{dataAt}
 use Rattle.pdu.specs.Write.{writable, fitsIn}
-use Rattle.pdu.proofs.Truths.{both-is, either-is, below-is, at-most-is, equal-is}
+use Rattle.pdu.proofs.Truths.{and-is, or-is, below-is, at-most-is, equal-is}
 use Rattle.pdu.specs.declared.Pdu.{Pdu}
 use Rattle.pdu.specs.declared.Pdu.the-variants.{GroupValueResponse, IndividualAddressResponse, SerialNumberResponse, DeviceDescriptorResponse, PropertyValueResponse, PropertyDescriptionResponse, MemoryResponse, AuthorizeResponse, KeyResponse}
 
 -- a PDU whose row lets it stand with data that leave room for it
 stands : (p : Pdu) (d : List ℕ) → dataAt p + length d ≤ 16 → fitsIn p (dataAt p + length d) ≡ true → writable p d ≡ true
 unfolding writable
-stands p d h f = both-is _ _ .1 (at-most-is _ 16 .1 h, f)
+stands p d h f = and-is _ _ .1 (at-most-is _ 16 .1 h, f)
 
 pub writes-six : (v : ℕ) → v < 64 → writable (GroupValueResponse v) [] ≡ true
 writes-six v h =
-    stands (GroupValueResponse v) [] (omega arith)
-    (both-is _ _ .1 (below-is v 64 .1 h, either-is _ _ .1 (inl (equal-is 2 2 .1 refl))))
+    stands (GroupValueResponse v) [] (omega arith) (and-is _ _ .1 (below-is v 64 .1 h, refl))
 
 module _ (d : List ℕ) where
   pub writes-value : length d ≤ 14 → writable (GroupValueResponse 0) d ≡ true
   writes-value h =
-      stands (GroupValueResponse 0) d (omega arith)
-      (both-is _ _ .1 (below-is 0 64 .1 (omega arith), either-is _ _ .1 (inr (equal-is 0 0 .1 refl))))
+      stands (GroupValueResponse 0) d (omega arith) (or-is (eqb (2 + length d) 2) true .1 (inr refl))
 
   pub writes-descriptor : length d ≤ 14 → writable (DeviceDescriptorResponse 0) d ≡ true
   writes-descriptor h =
       stands (DeviceDescriptorResponse 0) d (omega arith)
-      (both-is _ _ .1 (below-is 0 64 .1 (omega arith), both-is _ _ .1 (at-most-is 2 _ .1 (omega arith), at-most-is _ 16 .1 (omega arith))))
+      (and-is _ _ .1 (at-most-is 2 (2 + length d) .1 (omega arith), at-most-is (2 + length d) 16 .1 (omega arith)))
 
   pub writes-property :
       (object id n s : ℕ) → n < 16 → s < 4096 → length d ≤ 10 → writable (PropertyValueResponse object id n s) d ≡ true
   writes-property object id n s h k l =
       stands (PropertyValueResponse object id n s) d (omega arith)
-      (both-is _ _ .1 (below-is n 16 .1 h, both-is _ _ .1 (below-is s 4096 .1 k, both-is _ _ .1 (at-most-is 6 _ .1 (omega arith), at-most-is _ 16 .1 (omega arith)))))
+      (and-is _ _ .1 (below-is n 16 .1 h, and-is _ _ .1 (below-is s 4096 .1 k, and-is _ _ .1 (at-most-is 6 (6 + length d) .1 (omega arith), at-most-is (6 + length d) 16 .1 (omega arith)))))
 
   pub writes-memory : (n address : ℕ) → n ≤ 12 → length d ≡ n → writable (MemoryResponse n address) d ≡ true
   writes-memory n address h e =
       stands (MemoryResponse n address) d (omega arith)
-      (both-is _ _ .1 (below-is n 16 .1 (omega arith), equal-is _ (4 + n) .1 (omega arith)))
+      (and-is _ _ .1 (below-is n 16 .1 (omega arith), equal-is _ (4 + n) .1 (omega arith)))
 
 pub writes-address : writable IndividualAddressResponse [] ≡ true
-writes-address = stands IndividualAddressResponse [] (omega arith) (equal-is 2 2 .1 refl)
+writes-address = stands IndividualAddressResponse [] (omega arith) refl
 
 pub writes-serial : (serial : ℕ) → serial < 281474976710656 → writable (SerialNumberResponse serial 0) [] ≡ true
 writes-serial serial h =
-    stands (SerialNumberResponse serial 0) [] (omega arith) (both-is _ _ .1 (below-is serial _ .1 h, equal-is 12 12 .1 refl))
+    stands (SerialNumberResponse serial 0) [] (omega arith) (and-is _ _ .1 (below-is serial _ .1 h, refl))
 
 pub writes-description :
     (object id index kind maximum access : ℕ) → maximum < 4096 → writable (PropertyDescriptionResponse object id index kind maximum access) [] ≡ true
 writes-description object id index kind maximum access h =
     stands (PropertyDescriptionResponse object id index kind maximum access) [] (omega arith)
-    (both-is _ _ .1 (below-is maximum 4096 .1 h, equal-is 9 9 .1 refl))
+    (and-is _ _ .1 (below-is maximum 4096 .1 h, refl))
 
 pub writes-level : (level : ℕ) → writable (AuthorizeResponse level) [] ≡ true
-writes-level level = stands (AuthorizeResponse level) [] (omega arith) (equal-is 3 3 .1 refl)
+writes-level level = stands (AuthorizeResponse level) [] (omega arith) refl
 
 pub writes-key : (level : ℕ) → writable (KeyResponse level) [] ≡ true
-writes-key level = stands (KeyResponse level) [] (omega arith) (equal-is 3 3 .1 refl)
+writes-key level = stands (KeyResponse level) [] (omega arith) refl

@@ -7,7 +7,6 @@ use mathlib.Core.Logic.{_⊎_}
 use mathlib.Core.List.{List, []}
 use lib.ListN.{length}
 use Rattle.sheet.specs.Rules.{ruleOf}
-use Rattle.pdu.specs.Item.{Row}
 use Rattle.pdu.specs.Table.{rowOf}
 use Rattle.pdu.specs.Pdus.{serviceOf}
 use Rattle.pdu.specs.Rules.{codeOf}
@@ -16,7 +15,7 @@ use Rattle.pdu.specs.Write.{encoded}
 use Rattle.pdu.specs.declared.Service.{Service}
 use Rattle.pdu.specs.declared.Service.the-variants.{GroupValueRead, GroupValueResponse, GroupValueWrite, IndividualAddressWrite, IndividualAddressRead, SerialNumberRead, SerialNumberWrite, DeviceDescriptorRead, PropertyValueRead, PropertyValueWrite, PropertyDescriptionRead, MemoryRead, MemoryWrite, MemoryBitWrite, AuthorizeRequest, KeyWrite, Restart, IndividualAddressResponse, SerialNumberResponse, DeviceDescriptorResponse, PropertyValueResponse, PropertyDescriptionResponse, MemoryResponse, AuthorizeResponse, KeyResponse}
 use Rattle.pdu.specs.declared.Pdu.{Pdu}
-use Rattle.pdu.specs.declared.Parsed.the-variants.{Is, Refused}
+use Rattle.pdu.specs.declared.Parsed.the-variants.{Is}
 use Rattle.judge.specs.Session.{multicast, broadcast, connectionless, connected}
 use Rattle.judge.specs.declared.Session.{Session}
 use Rattle.device.specs.Step.{Step}

@@ -21,7 +21,7 @@ use Rattle.device.specs.Asked.{Asked, Reads}
 use Rattle.device.specs.Right.{Programming}
 use Rattle.history.specs.Wish.{Wish, nothing, address, addressFor, restart, wishOf, asks}
 use Rattle.history.specs.Permit.{allowed}
-use Rattle.history.specs.History.{First, isRestart, offered, opened, level, permitted}
+use Rattle.history.specs.History.{First, isRestart, offered, permitted}
 use Rattle.history.specs.Others.{programming, individual, newAddress, newValue}
 use Rattle.history.specs.Keeps.{Begins, Still, Writing}
 use Rattle.history.specs.Rightful.{asked}

@@ -14,7 +14,6 @@ use Rattle.sheet.specs.First.{first}
 use Rattle.sheet.specs.Entries.{entry, keyOf, floor, bodyAt, bodyEnd, startOf, reached, sixBits}
 use Rattle.sheet.specs.Rules.{entryDemands, bodyDemands, entryRule, bodyRule, entriesRule, bodiesRule, walkRule, ruleIn}
 use Rattle.sheet.specs.Lookup.{seek, indexOf, covers, rangeOf}
-use Rattle.pdu.specs.Tests.{isBelow, isAtMost, isEqual, both, either}
 use Rattle.pdu.specs.Table.{find}
 use Rattle.pdu.specs.Rules.{lowAt, fourAt, twelveAt, headBytes}
 use Rattle.pdu.specs.Read.{readPdu, dataOf}
@@ -65,17 +64,17 @@ octets-given-up = (octets-by wrongKey refl, octets-authorized)
 -- the first write is permitted
 first-permitted : permitted fresh authorized (request 3 0 firstWrite buffer) ≡ true
 unfolding permitted opened level content firstOf keyIn heard levelFor allowed every regionFor mayWrite asks brings readPdu find dataOf lowAt
-    isBelow isAtMost isEqual both either seek covers entry sample numAt
+    seek covers entry sample numAt
 first-permitted = refl
 
 second-permitted : permitted fresh writtenOnce (request 3 0 secondWrite buffer) ≡ true
 unfolding permitted opened level content firstOf keyIn heard levelFor allowed every regionFor mayWrite asks brings readPdu find dataOf lowAt
-    isBelow isAtMost isEqual both either seek covers entry sample numAt
+    seek covers entry sample numAt
 second-permitted = refl
 
 element-permitted : permitted fresh authorized (request 3 0 elementWrite buffer) ≡ true
 unfolding permitted opened level content firstOf keyIn heard levelFor allowed clears fills indexFor entryFor indexOf keyOf asks brings readPdu find
-    dataOf lowAt fourAt twelveAt isBelow isAtMost isEqual both either seek entry sample numAt
+    dataOf lowAt fourAt twelveAt seek entry sample numAt
 element-permitted = refl
 
 -- where the bytes stand
@@ -97,7 +96,7 @@ refuses-refuted k =
 
 -- STORING NOTHING: address 0100 keeps its A0
 pub nothing-refuted : Keeps storesNothing → ⊥
-unfolding stateAfter eventOf names gives asks brings readPdu find dataOf lowAt isBelow isAtMost isEqual both either sample numAt
+unfolding stateAfter eventOf names gives asks brings readPdu find dataOf lowAt sample numAt
 nothing-refuted k =
     let e : _≡_ {A = ℕ} 160 85 =
     k fresh authorized begins octets-authorized .atOnce 3 0 firstWrite buffer (octets-by firstWrite refl) first-permitted (memory 256) 60 (memory-at 0 (omega arith)) refl in
@@ -106,7 +105,7 @@ nothing-refuted k =
 -- STORING ONCE: address 0101 keeps its A1
 pub once-refuted : Keeps storesOnce → ⊥
 unfolding stateAfter eventOf stepOf stepBy judgeOf isAccepted isShut reachedOf rulesOf levelIn levelOf grantOf authorizeOf changeOf memoryWriteOf
-    names gives asks brings readPdu find dataOf encoded headBytes lowAt isBelow isAtMost isEqual both either seek covers rangeOf splice
+    names gives asks brings readPdu find dataOf encoded headBytes lowAt seek covers rangeOf splice
     ruleIn walkRule entriesRule bodiesRule entryRule bodyRule bodyDemands entryDemands entry keyOf floor bodyAt bodyEnd startOf reached sixBits first breach numAt bytesOf sample
 once-refuted k =
     let e : _≡_ {A = ℕ} 161 102 =
@@ -117,7 +116,7 @@ once-refuted k =
 pub count-refuted : Keeps inventsCount → ⊥
 unfolding stateAfter eventOf stepOf stepBy judgeOf isAccepted isShut reachedOf rulesOf levelIn levelOf grantOf authorizeOf writeIn propertyWriteOf
     names gives countIn indexFor entryFor indexOf level opened content firstOf keyIn heard allowed asks brings readPdu find dataOf encoded headBytes lowAt fourAt twelveAt
-    isBelow isAtMost isEqual both either seek splice
+    seek splice
     ruleIn walkRule entriesRule bodiesRule entryRule bodyRule bodyDemands entryDemands entry keyOf floor bodyAt bodyEnd startOf reached sixBits first breach numAt bytesOf sample
 count-refuted k =
     let e : _≡_ {A = ℕ} 2 1 =
@@ -127,6 +126,6 @@ count-refuted k =
 -- KEEPING THE LEVEL after a wrong key
 pub level-refuted : Keeps keepsLevel → ⊥
 unfolding stateAfter eventOf stepOf stepBy judgeOf isAccepted isShut reachedOf rulesOf levelIn levelOf grantOf authorizeOf
-    level opened content firstOf keyIn heard allowed asks readPdu find dataOf encoded headBytes lowAt isBelow isAtMost isEqual both either
+    level opened content firstOf keyIn heard allowed asks readPdu find dataOf encoded headBytes lowAt
     ruleIn walkRule entriesRule bodiesRule entryRule bodyRule bodyDemands entryDemands entry keyOf floor bodyAt bodyEnd startOf reached sixBits first breach numAt bytesOf sample
 level-refuted k = let e : _≡_ {A = ℕ} 0 3 = k fresh givenUp begins octets-given-up .rights in omega arith

@@ -17,7 +17,7 @@ use Rattle.device.specs.Right as right
 use Rattle.device.specs.Right.{Right}
 use Rattle.history.specs.Wish.{asks}
 use Rattle.history.specs.Permit.{heard}
-use Rattle.history.specs.History.{First, opened}
+use Rattle.history.specs.History.{First}
 use Rattle.history.specs.Keeps.{Begins, Writing}
 use Rattle.history.specs.Rightful.{asked}
 use Rattle.history.proofs.Hearing.{Idle, asks-is}

@@ -9,7 +9,6 @@ use Rattle.device.specs.Step.{Step, stepOf, Did}
 use Rattle.device.specs.declared.Done.{Done}
 use Rattle.device.proofs.Demand1.{at-most-16}
 use Rattle.host.specs.Calls.{repliedOf}
-use Rattle.host.specs.declared.Replied.{Replied}
 
 pub few :
     (room : ℕ) (s : List ℕ) (q : Session) (mode group : ℕ) (a : List ℕ) (d : Done) (o s′ o′ : List ℕ) →

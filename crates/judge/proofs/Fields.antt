@@ -1,13 +1,11 @@
 -- The fields of a property's entry in an accepted sheet are small.
 -- Assumes nothing.
-use Prim.Native.Nat.{ℕ, zero, suc, _+_, _≤_, _<_}
+use Prim.Native.Nat.{ℕ, zero, suc, _≤_, _<_}
 use mathlib.Core.Path.{_≡_}
 use mathlib.Core.List.{List}
-use mathlib.Core.Bool.{Bool, true, false}
-use lib.ListN.{length}
+use mathlib.Core.Bool.{Bool, true, false, cond}
 use lib.Dec.{eqb}
 use native.Mathlib.Omega.{arith}
-use Rattle.sheet.specs.Demand.{pick}
 use Rattle.sheet.specs.Rules.{ruleOf}
 use Rattle.sheet.specs.Lookup.{objectAt, rank}
 use Rattle.sheet.specs.Places.{PropertyIn}
@@ -21,7 +19,7 @@ module _ (s : List ℕ) (ok : ruleOf s ≡ 0) (i : ℕ) (e : PropertyEntry) (p :
   pub small-place : e .place ≤ 16384
   small-place = omega (arith, p .room, good 1 s ok .framed)
 
-one : (b : Bool) → pick b 1 0 ≤ 1
+one : (b : Bool) → cond b 1 0 ≤ 1
 one true = omega arith
 one false = omega arith
 

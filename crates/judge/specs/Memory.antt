@@ -8,7 +8,6 @@ use Rattle.sheet.specs.Head as head
 use Rattle.sheet.specs.Lookup.{rangeOf}
 use Rattle.sheet.specs.declared.Run.{Run}
 use Rattle.sheet.specs.declared.Run.the-variants.{At, Nowhere}
-use Rattle.pdu.specs.declared.Pdu.{Pdu}
 use Rattle.pdu.specs.declared.Pdu.the-variants.{MemoryResponse}
 use Rattle.judge.specs.declared.Store.{Store}
 use Rattle.judge.specs.declared.Store.the-variants as store

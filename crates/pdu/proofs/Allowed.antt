@@ -3,21 +3,21 @@
 use Prim.Native.Nat.{ℕ, _+_, _*_, _≤_, _<_}
 use mathlib.Core.Path.{_≡_}
 use mathlib.Core.Logic.{_↔_, inl, inr, ⊎-elim}
-use mathlib.Core.Bool.{Bool, true}
+use mathlib.Core.Bool.{Bool, true, _&&_}
 use mathlib.Core.List.{List, [], _∷_}
-use Rattle.pdu.specs.Tests.{isBelow, isAtMost, isEqual, both}
+use lib.Dec.{leb, ltb, eqb}
 use Rattle.pdu.specs.Item.{Item, low, num, cap, duo, skip, Tail, none, by, twice, between, group, Row, Value, the}
 use Rattle.pdu.specs.Rules.{under, suits, fits, headOf}
 use Rattle.pdu.specs.Allows.{AllWithin, Length, Allows, AllWide}
-use Rattle.pdu.proofs.Truths.{both-is, either-is, below-is, at-most-is, equal-is}
+use Rattle.pdu.proofs.Truths.{and-is, or-is, below-is, at-most-is, equal-is}
 
-below-and : (y m : ℕ) (t : Bool) (A B : Type 0) → (t ≡ true) ↔ (A × B) → (both (isBelow y m) t ≡ true) ↔ (((y < m) × A) × B)
+below-and : (y m : ℕ) (t : Bool) (A B : Type 0) → (t ≡ true) ↔ (A × B) → ((ltb y m && t) ≡ true) ↔ (((y < m) × A) × B)
 below-and y m t A B i = (
   λ e.
-      let h = both-is (isBelow y m) t .0 e in
+      let h = and-is (ltb y m) t .0 e in
       let g = i .0 (h .1) in
       ((below-is y m .0 (h .0), g .0), g .1),
-  λ h. both-is (isBelow y m) t .1 (below-is y m .1 (h .0 .0), i .1 (h .0 .1, h .1)),
+  λ h. and-is (ltb y m) t .1 (below-is y m .1 (h .0 .0), i .1 (h .0 .1, h .1)),
 )
 
 under-is : (is : List Item) (x : List Value) (t : Bool) → AllWide is x → (under is x t ≡ true) ↔ (AllWithin is x × (t ≡ true))
@@ -29,7 +29,7 @@ under-is (num f v ∷ is) x t w =
 under-is (cap f v m ∷ is) x t w = below-and (the x f) m (under is x t) (AllWithin is x) (t ≡ true) (under-is is x t (w .1))
 under-is (duo f g ∷ is) x t w =
     let i = below-and (the x g) 4096 (under is x t) (AllWithin is x) (t ≡ true) (under-is is x t (w .1)) in
-    let j = below-and (the x f) 16 (both (isBelow (the x g) 4096) (under is x t)) ((the x g < 4096) × AllWithin is x) (t ≡ true) i in
+    let j = below-and (the x f) 16 (ltb (the x g) 4096 && under is x t) ((the x g < 4096) × AllWithin is x) (t ≡ true) i in
     (λ e. let h = j .0 e in (((h .0 .0, h .0 .1 .0), h .0 .1 .1), h .1), λ h. j .1 ((h .0 .0 .0, (h .0 .0 .1, h .0 .1)), h .1))
 under-is (skip v ∷ is) x t w =
     let i = under-is is x t (w .1) in
@@ -40,12 +40,12 @@ suits-is none h x n = equal-is n h
 suits-is (by f) h x n = equal-is n (h + the x f)
 suits-is (twice f) h x n = equal-is n (h + 2 * the x f)
 suits-is (between lo hi) h x n = (
-  λ e. let g = both-is (isAtMost (h + lo) n) (isAtMost n (h + hi)) .0 e in (at-most-is (h + lo) n .0 (g .0), at-most-is n (h + hi) .0 (g .1)),
-  λ g. both-is (isAtMost (h + lo) n) (isAtMost n (h + hi)) .1 (at-most-is (h + lo) n .1 (g .0), at-most-is n (h + hi) .1 (g .1)),
+  λ e. let g = and-is (leb (h + lo) n) (leb n (h + hi)) .0 e in (at-most-is (h + lo) n .0 (g .0), at-most-is n (h + hi) .0 (g .1)),
+  λ g. and-is (leb (h + lo) n) (leb n (h + hi)) .1 (at-most-is (h + lo) n .1 (g .0), at-most-is n (h + hi) .1 (g .1)),
 )
 suits-is (group f) h x n = (
-  λ e. ⊎-elim (λ g. inl (equal-is n h .0 g)) (λ g. inr (equal-is (the x f) 0 .0 g)) (either-is (isEqual n h) (isEqual (the x f) 0) .0 e),
-  λ g. either-is (isEqual n h) (isEqual (the x f) 0) .1 (⊎-elim (λ e. inl (equal-is n h .1 e)) (λ e. inr (equal-is (the x f) 0 .1 e)) g),
+  λ e. ⊎-elim (λ g. inl (equal-is n h .0 g)) (λ g. inr (equal-is (the x f) 0 .0 g)) (or-is (eqb n h) (eqb (the x f) 0) .0 e),
+  λ g. or-is (eqb n h) (eqb (the x f) 0) .1 (⊎-elim (λ e. inl (equal-is n h .1 e)) (λ e. inr (equal-is (the x f) 0 .1 e)) g),
 )
 
 -- THE TEST AND THE PROPOSITION, of any row

@@ -3,17 +3,16 @@
 use Prim.Native.Nat.{ℕ, zero, suc, _+_, _≤_, _<_}
 use mathlib.Core.Path.{_≡_, refl, ap, subst, _∙_}
 use mathlib.Core.Logic.{_↔_, ⊎-elim}
-use mathlib.Core.Bool.{Bool, true, false, _&&_, _||_}
+use mathlib.Core.Bool.{Bool, true, false, cond, _&&_, _||_}
 use mathlib.Core.List.{List, [], _∷_}
 use mathlib.Core.Option.{some}
 use native.Mathlib.Omega.{arith}
 use lib.Dec.{leb, ltb}
 use lib.ListN.{getElem?}
 use borrow.Author.Tests.{leb-true, ltb-true, le-leb, lt-ltb}
-use Rattle.pdu.specs.Item.{Row, pick}
+use Rattle.pdu.specs.Item.{Row}
 use Rattle.pdu.specs.Table.{rowOf, services, has, find, serviceAt}
-use Rattle.pdu.proofs.Truths.{and-is, either-is, decided}
-use Rattle.pdu.specs.Tests.{either}
+use Rattle.pdu.proofs.Truths.{and-is, or-is, decided}
 use Rattle.pdu.specs.declared.Service.{Service}
 use Rattle.pdu.specs.declared.Service.the-variants.{GroupValueRead, GroupValueResponse, GroupValueWrite, IndividualAddressWrite, IndividualAddressRead, SerialNumberRead, SerialNumberWrite, DeviceDescriptorRead, PropertyValueRead, PropertyValueWrite, PropertyDescriptionRead, MemoryRead, MemoryWrite, MemoryBitWrite, AuthorizeRequest, KeyWrite, Restart, IndividualAddressResponse, SerialNumberResponse, DeviceDescriptorResponse, PropertyValueResponse, PropertyDescriptionResponse, MemoryResponse, AuthorizeResponse, KeyResponse}
 use Rattle.pdu.specs.declared.Found.the-variants.{Listed, Unknown}
@@ -70,7 +69,6 @@ test : allClear services ≡ true
 test = refl
 
 clear-says : (a b : Row) (c : ℕ) → clear a b ≡ true → has b c ≡ true → has a c ≡ false
-unfolding either
 clear-says a b c e h = ⊎-elim (λ (g : has a c ≡ true). absurd (wrong g)) (λ g. g) (decided (has a c))
   where
     wrong : has a c ≡ true → ⊥
@@ -78,7 +76,7 @@ clear-says a b c e h = ⊎-elim (λ (g : has a c ≡ true). absurd (wrong g)) (�
         let i = has-is a c .0 g in
         let j = has-is b c .0 h in
         ⊎-elim (λ l. let m = leb-true (a .base + a .span) (b .base) l in omega arith) (λ l. let m = leb-true (b .base + b .span) (a .base) l in omega arith)
-        (either-is (leb (a .base + a .span) (b .base)) (leb (b .base + b .span) (a .base)) .0 e)
+        (or-is (leb (a .base + a .span) (b .base)) (leb (b .base + b .span) (a .base)) .0 e)
 
 clear-of : (r : Row) (ks : List Service) (i : ℕ) (k : Service) → clearOf r ks ≡ true → getElem? ks i ≡ some k → clear r (rowOf k) ≡ true
 clear-of r [] i k e l = cc
@@ -93,11 +91,11 @@ find-in [] i k c e l h = cc
 find-in (j ∷ ks) zero k c e l h =
     let m : j ≡ k = cc in
     let h′ : has (rowOf j) c ≡ true = rw (← m) at h in
-    ap (λ (t : Bool). pick t (Listed j) (find ks c)) h′ ∙ ap Listed m
+    ap (λ (t : Bool). cond t (Listed j) (find ks c)) h′ ∙ ap Listed m
 find-in (j ∷ ks) (suc i) k c e l h =
     let a = and-is (clearOf (rowOf j) ks) (allClear ks) .0 e in
     let g : has (rowOf j) c ≡ false = clear-says (rowOf j) (rowOf k) c (clear-of (rowOf j) ks i k (a .0) l) h in
-    ap (λ (t : Bool). pick t (Listed j) (find ks c)) g ∙ find-in ks i k c (a .1) l h
+    ap (λ (t : Bool). cond t (Listed j) (find ks c)) g ∙ find-in ks i k c (a .1) l h
 
 -- A CODE OF A ROW NAMES ITS SERVICE
 pub found : (k : Service) (c : ℕ) → has (rowOf k) c ≡ true → serviceAt c ≡ Listed k
@@ -113,7 +111,7 @@ unfolding find
 find-has [] k c e = cc
 find-has (j ∷ ks) k c e = go (has (rowOf j) c) refl e (λ f. find-has ks k c f)
   where
-    go : (t : Bool) → has (rowOf j) c ≡ t → pick t (Listed j) (find ks c) ≡ Listed k → (find ks c ≡ Listed k → has (rowOf k) c ≡ true) → has (rowOf k) c ≡ true
+    go : (t : Bool) → has (rowOf j) c ≡ t → cond t (Listed j) (find ks c) ≡ Listed k → (find ks c ≡ Listed k → has (rowOf k) c ≡ true) → has (rowOf k) c ≡ true
     go true h f ih = let m : j ≡ k = cc in rw m at h
     go false h f ih = ih f
 
@@ -124,7 +122,7 @@ named k c e = find-has services k c e
 find-none : (ks : List Service) (c : ℕ) → ((k : Service) → has (rowOf k) c ≡ false) → find ks c ≡ Unknown
 unfolding find
 find-none [] c h = refl
-find-none (j ∷ ks) c h = ap (λ (t : Bool). pick t (Listed j) (find ks c)) (h j) ∙ find-none ks c h
+find-none (j ∷ ks) c h = ap (λ (t : Bool). cond t (Listed j) (find ks c)) (h j) ∙ find-none ks c h
 
 -- A CODE NAMES NO SERVICE EXACTLY IF NO ROW HAS IT
 pub unknown : (c : ℕ) → (serviceAt c ≡ Unknown) ↔ ((k : Service) → has (rowOf k) c ≡ false)

@@ -3,20 +3,18 @@
 use Prim.Native.Nat.{ℕ, _+_, _≤_, _<_}
 use mathlib.Core.Path.{_≡_, refl, sym, ap, _∙_}
 use mathlib.Core.Logic.{_↔_, _⊎_, inl, inr, ⊎-elim}
-use mathlib.Core.Bool.{Bool, true, false}
+use mathlib.Core.Bool.{Bool, true, false, cond}
 use mathlib.Core.List.{List}
 use native.Mathlib.Omega.{arith}
-use lib.Dec.{ltb}
+use lib.Dec.{leb, ltb}
 use lib.ListN.{length}
 use borrow.Author.Tests.{ltb-true, ltb-false, lt-ltb, le-ltb}
-use Rattle.pdu.specs.Tests.{isAtMost}
-use Rattle.pdu.specs.Item.{pick}
 use Rattle.pdu.specs.Table.{rowOf}
 use Rattle.pdu.specs.Pdus.{serviceOf, valuesOf}
 use Rattle.pdu.specs.Read.{dataAt}
 use Rattle.pdu.specs.Write.{fitsIn, writable, writeOf, writeOutcome}
 use Rattle.pdu.specs.Allows.{Allows, Typed}
-use Rattle.pdu.proofs.Truths.{never, decided, both-is, at-most-is}
+use Rattle.pdu.proofs.Truths.{never, decided, and-is, at-most-is}
 use Rattle.pdu.proofs.Allowed.{fits-is}
 use Rattle.pdu.specs.declared.Pdu.{Pdu}
 use Rattle.pdu.specs.declared.Written.{Written}
@@ -27,7 +25,7 @@ pub writable-is : (p : Pdu) (d : List ℕ) → Typed p → (writable p d ≡ tru
 unfolding writable
 writable-is p d w =
     let n : ℕ = dataAt p + length d in
-    let b = both-is (isAtMost n 16) (fitsIn p n) in (
+    let b = and-is (leb n 16) (fitsIn p n) in (
       λ e. let m = at-most-is n 16 .0 (b .0 e .0) in fits-is (rowOf (serviceOf p)) (valuesOf p) n w m .0 (b .0 e .1),
       λ a. b .1 (at-most-is n 16 .1 (a .most), fits-is (rowOf (serviceOf p)) (valuesOf p) n w (a .most) .1 a),
     )
@@ -39,7 +37,7 @@ data Due (p : Pdu) (d o : List ℕ) : Type 0 where
 
 abbrev given : {p : Pdu} {d o : List ℕ} → Due p d o → Written
 given (short h) = Refused 3
-given {p} {d} (long h t e) = pick t (Bytes (dataAt p + length d)) (Refused 13)
+given {p} {d} (long h t e) = cond t (Bytes (dataAt p + length d)) (Refused 13)
 
 due : (p : Pdu) (d o : List ℕ) → Due p d o
 due p d o = ⊎-elim (λ h. short (ltb-true (length o) 16 h)) (λ h. long (ltb-false (length o) 16 h) (writable p d) refl) (decided (ltb (length o) 16))
@@ -47,7 +45,7 @@ due p d o = ⊎-elim (λ h. short (ltb-true (length o) 16 h)) (λ h. long (ltb-f
 gives : (p : Pdu) (d o : List ℕ) (c : Due p d o) → writeOf p d o ≡ given c
 unfolding writeOf
 gives p d o (short h) = simp (lt-ltb (length o) 16 h)
-gives p d o (long h t e) = simp (le-ltb (length o) 16 h) (ap (λ (u : Bool). pick u (Bytes (dataAt p + length d)) (Refused 13)) e)
+gives p d o (long h t e) = simp (le-ltb (length o) 16 h) (ap (λ (u : Bool). cond u (Bytes (dataAt p + length d)) (Refused 13)) e)
 
 told : (p : Pdu) (d o : List ℕ) (z : Written) → writeOf p d o ≡ z → writeOutcome (given (due p d o)) ≡ writeOutcome z
 told p d o z e = ap writeOutcome (sym (gives p d o (due p d o)) ∙ e)

@@ -3,13 +3,13 @@
 use Prim.Native.Nat.{ℕ, _≤_, _<_}
 use mathlib.Core.Path.{_≡_, refl, sym, ap, subst, subst₂, _∙_}
 use mathlib.Core.Logic.{_↔_, _⊎_, inl, inr, ⊎-elim}
-use mathlib.Core.Bool.{Bool, true, false}
+use mathlib.Core.Bool.{Bool, true, false, cond}
 use mathlib.Core.List.{List}
 use native.Mathlib.Omega.{arith}
 use lib.Dec.{ltb}
 use lib.ListN.{length, getD}
 use borrow.Author.Tests.{ltb-true, ltb-false, lt-ltb, le-ltb}
-use Rattle.pdu.specs.Item.{Value, pick}
+use Rattle.pdu.specs.Item.{Value}
 use Rattle.pdu.specs.Table.{rowOf, has, serviceAt}
 use Rattle.pdu.specs.Pdus.{serviceOf, valuesOf, pduOf}
 use Rattle.pdu.specs.Rules.{codeOf, valuesAt, fits}
@@ -61,7 +61,7 @@ due b =
 abbrev given : {b : List ℕ} → Due b → Parsed
 given (size h) = Refused 5
 given (none s h) = Refused 8
-given {b} (one s k t h f) = pick t (Is (builtOf k b)) (Refused 10)
+given {b} (one s k t h f) = cond t (Is (builtOf k b)) (Refused 10)
 
 sized : (b : List ℕ) (f : Found) → Sized b → serviceAt (codeOf b) ≡ f → readPdu b ≡ readFound f b
 unfolding readPdu
@@ -72,7 +72,7 @@ unfolding readPdu
 gives b (size (inl h)) = simp (lt-ltb (length b) 2 h)
 gives b (size (inr h)) = simp (le-ltb (length b) 2 (omega arith), lt-ltb 16 (length b) h)
 gives b (none s h) = sized b Unknown s (unknown (codeOf b) .1 h)
-gives b (one s k t h f) = sized b (Listed k) s (found k (codeOf b) h) ∙ ap (λ (u : Bool). pick u (Is (builtOf k b)) (Refused 10)) f
+gives b (one s k t h f) = sized b (Listed k) s (found k (codeOf b) h) ∙ ap (λ (u : Bool). cond u (Is (builtOf k b)) (Refused 10)) f
 
 -- an outcome says which case it was
 told : (b : List ℕ) (z : Parsed) → readPdu b ≡ z → readOutcome (given (due b)) ≡ readOutcome z

@@ -2,13 +2,13 @@
 -- Assumes nothing.
 use Prim.Native.Nat.{ℕ, _≤_}
 use mathlib.Core.Path.{_≡_, refl, sym, ap, subst, _∙_}
-use mathlib.Core.Bool.{Bool, true, false}
+use mathlib.Core.Bool.{Bool, true, false, cond}
 use mathlib.Core.List.{List}
 use native.Mathlib.Omega.{arith}
 use lib.Dec.{ltb}
 use lib.ListN.{length}
 use borrow.Author.Tests.{ltb-false, le-ltb}
-use Rattle.pdu.specs.Item.{Value, pick}
+use Rattle.pdu.specs.Item.{Value}
 use Rattle.pdu.specs.Table.{rowOf, serviceAt}
 use Rattle.pdu.specs.Pdus.{serviceOf, valuesOf}
 use Rattle.pdu.specs.Rules.{codeOf, valuesAt, fits}
@@ -48,7 +48,7 @@ module _ (b : List ℕ) where
   module _ (p : Pdu) where
     by-row :
         (k : Service) → 2 ≤ length b → length b ≤ 16 → serviceAt (codeOf b) ≡ Listed k → (t : Bool) →
-        fits (rowOf k) (valuesAt (rowOf k .items) 2 b) (length b) ≡ t → pick t (Is (builtOf k b)) (Refused 10) ≡ Is p → Reading b p
+        fits (rowOf k) (valuesAt (rowOf k .items) 2 b) (length b) ≡ t → cond t (Is (builtOf k b)) (Refused 10) ≡ Is p → Reading b p
     by-row k l m n true f e = let q : builtOf k b ≡ p = cc in subst (Reading b) q (built k l m n f)
     by-row k l m n false f e = let z : _≡_ {A = ℕ} 0 1 = cc in absurd (omega arith)
 
@@ -63,7 +63,7 @@ module _ (b : List ℕ) where
     reading e = go (ltb (length b) 2) refl (ltb 16 (length b)) refl e
       where
         go : (t : Bool) → ltb (length b) 2 ≡ t → (u : Bool) → ltb 16 (length b) ≡ u →
-            pick t (Refused 5) (pick u (Refused 5) (readFound (serviceAt (codeOf b)) b)) ≡ Is p → Reading b p
+            cond t (Refused 5) (cond u (Refused 5) (readFound (serviceAt (codeOf b)) b)) ≡ Is p → Reading b p
         go true h u k e = let z : _≡_ {A = ℕ} 0 1 = cc in absurd (omega arith)
         go false h true k e = let z : _≡_ {A = ℕ} 0 1 = cc in absurd (omega arith)
         go false h false k e =
@@ -76,6 +76,6 @@ module _ (b : List ℕ) where
   refused-row k n l m e q =
       go (fits (rowOf k) (valuesAt (rowOf k .items) 2 b) (length b)) (simp (le-ltb (length b) 2 l, le-ltb 16 (length b) m, e) at q)
     where
-      go : (t : Bool) → pick t (Is (builtOf k b)) (Refused 10) ≡ Refused n → n ≡ 10
+      go : (t : Bool) → cond t (Is (builtOf k b)) (Refused 10) ≡ Refused n → n ≡ 10
       go true q = cc
       go false q = cc

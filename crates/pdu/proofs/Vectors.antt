@@ -4,7 +4,6 @@ use Prim.Native.Nat.{ℕ}
 use mathlib.Core.Path.{_≡_, refl}
 use mathlib.Core.List.{List, [], _∷_, map}
 use Rattle.octets.specs.Bytes.{numAt, bytesOf}
-use Rattle.pdu.specs.Tests.{isBelow, isAtMost, isEqual, both, either}
 use Rattle.pdu.specs.Table.{find}
 use Rattle.pdu.specs.Rules.{lowAt, fourAt, twelveAt, headBytes}
 use Rattle.pdu.specs.Read.{readPdu, dataOf}
@@ -81,7 +80,7 @@ wanted x = record { read = Is (x .pdu); data-of = x .rest; bytes = x .written }
 
 -- ALL EXAMPLES ARE READ AND WRITTEN AS THE FIGURES HAVE THEM
 pub vectors : map found examples ≡ map wanted examples
-unfolding readPdu find dataOf encoded headBytes numAt bytesOf lowAt fourAt twelveAt isBelow isAtMost isEqual both either
+unfolding readPdu find dataOf encoded headBytes numAt bytesOf lowAt fourAt twelveAt
 vectors = refl
 
 -- bytes that are no APDU of the table, and the number of the refusal
@@ -112,5 +111,5 @@ refusals =
 
 -- AND THESE ARE REFUSED
 pub refused : map (λ (x : Refusal). readPdu (x .apdu)) refusals ≡ map (λ (x : Refusal). Refused (x .number)) refusals
-unfolding readPdu find numAt lowAt fourAt twelveAt isBelow isAtMost isEqual both either
+unfolding readPdu find numAt lowAt fourAt twelveAt
 refused = refl

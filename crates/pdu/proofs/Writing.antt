@@ -2,15 +2,15 @@
 -- Assumes nothing.
 use Prim.Native.Nat.{ℕ, _+_, _-_, _≤_, _<_}
 use mathlib.Core.Path.{_≡_, refl, sym, ap, _∙_}
-use mathlib.Core.Bool.{Bool, true, false}
+use mathlib.Core.Bool.{Bool, true, false, _&&_}
 use mathlib.Core.List.{List}
 use native.Mathlib.Omega.{arith}
+use lib.Dec.{leb}
 use lib.ListN.{length, take, drop, length-append, length-drop, drop-of-length-le}
 use lib.Seq.{take-all, drop-length}
 use borrow.Author.Tests.{lt-ltb, le-ltb, le-leb, lt-leb}
 use Rattle.octets.specs.Splice.{splice}
 use Rattle.octets.proofs.Splices.{length-splice}
-use Rattle.pdu.specs.Tests.{isAtMost, both}
 use Rattle.pdu.specs.Item.{Row}
 use Rattle.pdu.specs.Table.{rowOf}
 use Rattle.pdu.specs.Pdus.{serviceOf, valuesOf}
@@ -19,7 +19,7 @@ use Rattle.pdu.specs.Read.{dataAt, dataOf}
 use Rattle.pdu.specs.Write.{encoded, fitsIn, writable, writeOf, Wrote}
 use Rattle.pdu.proofs.Items.{length-head}
 use Rattle.pdu.proofs.Stores.{longer}
-use Rattle.pdu.proofs.Truths.{both-is, at-most-is}
+use Rattle.pdu.proofs.Truths.{and-is, at-most-is}
 use Rattle.pdu.specs.declared.Pdu.{Pdu}
 use Rattle.pdu.specs.declared.Written.the-variants.{Bytes, Refused}
 
@@ -38,21 +38,20 @@ refused : (p : Pdu) (d o : List ℕ) → 16 ≤ length o → writable p d ≡ fa
 unfolding writeOf
 refused p d o h e = record { result = simp (le-ltb _ _ h, e); buffer = refl }
 
-both-false : (a : Bool) → both a false ≡ false
-unfolding both
-both-false true = refl
-both-false false = refl
+and-false : (a : Bool) → (a && false) ≡ false
+and-false true = refl
+and-false false = refl
 
 module _ (p : Pdu) (d o : List ℕ) (a : ℕ) (h : 16 ≤ length o) (e : a ≡ dataAt p) where
   pub wrote-long : 16 < a + length d → Wrote p d o (Refused 13) o
-  unfolding writable both isAtMost
+  unfolding writable
   wrote-long l = refused p d o h (let k : 16 < dataAt p + length d = rw e at l in simp (lt-leb _ _ k))
 
   pub wrote-13 : (b : Bool) → b ≡ fitsIn p (a + length d) → b ≡ false → Wrote p d o (Refused 13) o
   unfolding writable
   wrote-13 b f t =
       let g : fitsIn p (dataAt p + length d) ≡ false = sym (rw e at f) ∙ t in
-      refused p d o h (ap (both (isAtMost (dataAt p + length d) 16)) g ∙ both-false (isAtMost (dataAt p + length d) 16))
+      refused p d o h (ap (λ (t : Bool). leb (dataAt p + length d) 16 && t) g ∙ and-false (leb (dataAt p + length d) 16))
 
   pub wrote-all :
       (o₂ : List ℕ) (b : Bool) (n : ℕ) →
@@ -62,7 +61,7 @@ module _ (p : Pdu) (d o : List ℕ) (a : ℕ) (h : 16 ≤ length o) (e : a ≡ d
       n ≡ dataAt p + length d →
       o₂ ≡ splice o 0 (encoded p d) →
       Wrote p d o (Bytes n) o₂
-  unfolding writeOf writable both isAtMost
+  unfolding writeOf writable
   wrote-all o₂ b n l f t g k =
       let l′ : dataAt p + length d ≤ 16 = rw e at l in
       let f′ : fitsIn p (dataAt p + length d) ≡ true = sym (rw e at f) ∙ t in
@@ -83,7 +82,7 @@ same-room p d o e h l q = ap length q ∙ length-splice o 0 (encoded p d) (omega
 -- what may be written has room
 pub has-room : (p : Pdu) (d : List ℕ) → writable p d ≡ true → dataAt p + length d ≤ 16
 unfolding writable
-has-room p d w = let n : ℕ = dataAt p + length d in at-most-is n 16 .0 (both-is (isAtMost n 16) (fitsIn p n) .0 w .0)
+has-room p d w = let n : ℕ = dataAt p + length d in at-most-is n 16 .0 (and-is (leb n 16) (fitsIn p n) .0 w .0)
 
 -- the part of a slice from the data's place on
 module _ (p : Pdu) (s : List ℕ) (a : ℕ) (e : a ≡ dataAt p) where

@@ -2,7 +2,7 @@
 -- Assumes nothing.
 use Prim.Native.Nat.{ℕ}
 use mathlib.Core.List.{List, [], _∷_}
-use mathlib.Core.Bool.{Bool, true, false}
+use mathlib.Core.Bool.{Bool, cond}
 use lib.Dec.{eqb}
 
 -- The names of the fields, as the table has them. V6 is v, the six bits of a group value; Kind is a property's type.
@@ -71,11 +71,7 @@ infix 70 _≔_
 abbrev pub _≔_ : Name → ℕ → Value
 f ≔ x = record { name = f; number = x }
 
-abbrev pub pick {ℓ} : {A : Type ℓ} → Bool → A → A → A
-pick true a b = a
-pick false a b = b
-
 -- the number of a field, 0 where it is not among them
 abbrev pub the : List Value → Name → ℕ
 the [] f = 0
-the (v ∷ vs) f = pick (same (v .name) f) (v .number) (the vs f)
+the (v ∷ vs) f = cond (same (v .name) f) (v .number) (the vs f)

@@ -1,4 +1,3 @@
-pub mod Tests
 pub mod Item
 pub mod Table
 pub mod Pdus

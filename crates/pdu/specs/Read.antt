@@ -1,10 +1,10 @@
 -- What reading an APDU gives.
 -- Assumes nothing.
 use Prim.Native.Nat.{ℕ}
+use mathlib.Core.Bool.{cond}
 use mathlib.Core.List.{List}
 use lib.ListN.{length, drop}
 use lib.Dec.{ltb}
-use Rattle.pdu.specs.Item.{pick}
 use Rattle.pdu.specs.Table.{rowOf, serviceAt}
 use Rattle.pdu.specs.Pdus.{serviceOf, pduOf}
 use Rattle.pdu.specs.Rules.{codeOf, valuesAt, headOf, fits}
@@ -21,7 +21,7 @@ builtOf k b = pduOf k (valuesAt (rowOf k .items) 2 b)
 
 -- bytes of a service: 10 where its row does not let them stand
 abbrev pub readAs : Service → List ℕ → Parsed
-readAs k b = pick (fits (rowOf k) (valuesAt (rowOf k .items) 2 b) (length b)) (Is (builtOf k b)) (Refused 10)
+readAs k b = cond (fits (rowOf k) (valuesAt (rowOf k .items) 2 b) (length b)) (Is (builtOf k b)) (Refused 10)
 
 abbrev pub readFound : Found → List ℕ → Parsed
 readFound Unknown b = Refused 8
@@ -30,7 +30,7 @@ readFound (Listed k) b = readAs k b
 -- WHAT READING GIVES: 5, then 8, then 10, or the PDU
 unfoldable pub readPdu : List ℕ → Parsed
 readPdu b =
-    pick (ltb (length b) 2) (Refused 5) (pick (ltb 16 (length b)) (Refused 5) (readFound (serviceAt (codeOf b)) b))
+    cond (ltb (length b) 2) (Refused 5) (cond (ltb 16 (length b)) (Refused 5) (readFound (serviceAt (codeOf b)) b))
 
 -- the outcome of a reading by its number
 abbrev pub readOutcome : Parsed → ℕ

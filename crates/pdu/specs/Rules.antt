@@ -2,9 +2,9 @@
 -- Assumes nothing.
 use Prim.Native.Nat.{ℕ, _+_, _*_, _/_, _%_}
 use mathlib.Core.List.{List, [], _∷_, _++_}
-use mathlib.Core.Bool.{Bool}
+use mathlib.Core.Bool.{Bool, _&&_, _||_}
+use lib.Dec.{leb, ltb, eqb}
 use Rattle.octets.specs.Bytes.{numAt, bytesOf}
-use Rattle.pdu.specs.Tests.{isBelow, isAtMost, isEqual, both, either}
 use Rattle.pdu.specs.Item.{Item, low, num, cap, duo, skip, Tail, none, by, twice, between, group, Row, Value, _≔_, the}
 
 -- the service code: the ten low bits of the first two bytes
@@ -46,19 +46,19 @@ headOf r = endOf 2 (r .items)
 -- each field keeps its item's limit, and then t; the limit of a `num` is its width, which its type keeps
 abbrev pub under : List Item → List Value → Bool → Bool
 under [] x t = t
-under (low f m ∷ is) x t = both (isBelow (the x f) m) (under is x t)
+under (low f m ∷ is) x t = ltb (the x f) m && under is x t
 under (num f w ∷ is) x t = under is x t
-under (cap f w m ∷ is) x t = both (isBelow (the x f) m) (under is x t)
-under (duo f g ∷ is) x t = both (isBelow (the x f) 16) (both (isBelow (the x g) 4096) (under is x t))
+under (cap f w m ∷ is) x t = ltb (the x f) m && under is x t
+under (duo f g ∷ is) x t = ltb (the x f) 16 && (ltb (the x g) 4096 && under is x t)
 under (skip w ∷ is) x t = under is x t
 
 -- n bytes in all, of which the first h are code and items, suit the rule for the data
 abbrev pub suits : Tail → ℕ → List Value → ℕ → Bool
-suits none h x n = isEqual n h
-suits (by f) h x n = isEqual n (h + the x f)
-suits (twice f) h x n = isEqual n (h + 2 * the x f)
-suits (between lo hi) h x n = both (isAtMost (h + lo) n) (isAtMost n (h + hi))
-suits (group f) h x n = either (isEqual n h) (isEqual (the x f) 0)
+suits none h x n = eqb n h
+suits (by f) h x n = eqb n (h + the x f)
+suits (twice f) h x n = eqb n (h + 2 * the x f)
+suits (between lo hi) h x n = leb (h + lo) n && leb n (h + hi)
+suits (group f) h x n = eqb n h || eqb (the x f) 0
 
 -- THE ROW LETS THESE FIELDS STAND IN n BYTES
 abbrev pub fits : Row → List Value → ℕ → Bool

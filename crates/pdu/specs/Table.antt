@@ -2,9 +2,9 @@
 -- Assumes nothing.
 use Prim.Native.Nat.{ℕ, _+_}
 use mathlib.Core.List.{List, [], _∷_}
-use mathlib.Core.Bool.{Bool, _&&_}
+use mathlib.Core.Bool.{Bool, cond, _&&_}
 use lib.Dec.{leb, ltb}
-use Rattle.pdu.specs.Item.{Item, low, num, cap, duo, skip, Tail, none, by, twice, between, group, Row, row, pick, V6, Address, Serial, Domain, T, Object, Id, N, S, Index, Kind, Maximum, Access, Level, Key}
+use Rattle.pdu.specs.Item.{low, num, cap, duo, skip, none, by, twice, between, group, Row, row, V6, Address, Serial, Domain, T, Object, Id, N, S, Index, Kind, Maximum, Access, Level, Key}
 use Rattle.pdu.specs.declared.Service.{Service}
 use Rattle.pdu.specs.declared.Service.the-variants.{GroupValueRead, GroupValueResponse, GroupValueWrite, IndividualAddressWrite, IndividualAddressRead, SerialNumberRead, SerialNumberWrite, DeviceDescriptorRead, PropertyValueRead, PropertyValueWrite, PropertyDescriptionRead, MemoryRead, MemoryWrite, MemoryBitWrite, AuthorizeRequest, KeyWrite, Restart, IndividualAddressResponse, SerialNumberResponse, DeviceDescriptorResponse, PropertyValueResponse, PropertyDescriptionResponse, MemoryResponse, AuthorizeResponse, KeyResponse}
 use Rattle.pdu.specs.declared.Found.{Found}
@@ -76,7 +76,7 @@ has r c = leb (r .base) c && ltb c (r .base + r .span)
 -- the service among these whose row has the code
 unfoldable pub find : List Service → ℕ → Found
 find [] c = Unknown
-find (k ∷ ks) c = pick (has (rowOf k) c) (Listed k) (find ks c)
+find (k ∷ ks) c = cond (has (rowOf k) c) (Listed k) (find ks c)
 
 -- WHICH SERVICE A CODE NAMES
 abbrev pub serviceAt : ℕ → Found

@@ -2,13 +2,11 @@
 -- Assumes nothing.
 use Prim.Native.Nat.{ℕ, _+_}
 use mathlib.Core.Path.{_≡_}
-use mathlib.Core.List.{List, [], _++_}
-use mathlib.Core.Bool.{Bool}
+use mathlib.Core.List.{List, _++_}
+use mathlib.Core.Bool.{Bool, cond, _&&_}
 use lib.ListN.{length}
-use lib.Dec.{ltb}
+use lib.Dec.{leb, ltb}
 use Rattle.octets.specs.Splice.{splice}
-use Rattle.pdu.specs.Tests.{isAtMost, both}
-use Rattle.pdu.specs.Item.{pick}
 use Rattle.pdu.specs.Table.{rowOf}
 use Rattle.pdu.specs.Pdus.{serviceOf, valuesOf}
 use Rattle.pdu.specs.Rules.{fits, headBytes}
@@ -27,11 +25,11 @@ fitsIn p n = fits (rowOf (serviceOf p)) (valuesOf p) n
 
 -- at most 16 bytes in all, and its row lets them stand
 unfoldable pub writable : Pdu → List ℕ → Bool
-writable p d = both (isAtMost (dataAt p + length d) 16) (fitsIn p (dataAt p + length d))
+writable p d = leb (dataAt p + length d) 16 && fitsIn p (dataAt p + length d)
 
 -- WHAT WRITING GIVES: 3, then 13, or the count of bytes
 unfoldable pub writeOf : Pdu → List ℕ → List ℕ → Written
-writeOf p d o = pick (ltb (length o) 16) (Refused 3) (pick (writable p d) (Bytes (dataAt p + length d)) (Refused 13))
+writeOf p d o = cond (ltb (length o) 16) (Refused 3) (cond (writable p d) (Bytes (dataAt p + length d)) (Refused 13))
 
 -- the outcome of a writing by its number, and its count
 abbrev pub writeOutcome : Written → ℕ

@@ -1,13 +1,13 @@
 -- A table of demands, its first broken row, and that all rows hold.
 -- Assumes nothing.
-use Prim.Native.Nat.{ℕ, _≤_, _<_}
+use Prim.Native.Nat.{ℕ, _≤_}
 use mathlib.Core.List.{List, [], _∷_}
-use mathlib.Core.Bool.{Bool, true, false}
-use mathlib.Core.Path.{_≡_, refl, sym, _∙_}
-use lib.Dec.{leb, eqb, T}
+use mathlib.Core.Bool.{Bool, true, false, cond}
+use mathlib.Core.Path.{_≡_, refl}
+use lib.Dec.{leb, T}
 use native.Mathlib.Omega.{arith}
 use borrow.Author.Tests.{le-leb, leb-true, leb-false, eq-eqb, eqb-true, eqb-false}
-use Rattle.sheet.specs.Demand.{Demand, Order, _≼_, _≐_, test, Holds, Fails, breach, pick, Met, Tells}
+use Rattle.sheet.specs.Demand.{Demand, Order, _≼_, _≐_, test, Holds, Fails, breach, Met, Tells}
 
 -- a test tells whether the order holds
 pub passed : (o : Order) → test o ≡ true → Holds o
@@ -33,7 +33,7 @@ told r (d ∷ ds) t =
     split (test (d .order)) refl (λ e. told r ds (t .1 (passed (d .order) e))) (λ e. t .0 (failed (d .order) e))
   where
     split : (b : Bool) → test (d .order) ≡ b → (test (d .order) ≡ true → r ≡ breach ds) → (test (d .order) ≡ false → r ≡ d .rule)
-        → r ≡ pick b (breach ds) (d .rule)
+        → r ≡ cond b (breach ds) (d .rule)
     split true e f g = f e
     split false e f g = g e
 
@@ -52,7 +52,7 @@ met [] n e = tt
 met (d ∷ ds) n e = split (test (d .order)) refl (leb 1 (d .rule)) refl n e (met ds)
   where
     split : (b : Bool) → test (d .order) ≡ b → (a : Bool) → leb 1 (d .rule) ≡ a → T (both a (named ds))
-        → pick b (breach ds) (d .rule) ≡ 0 → (T (named ds) → breach ds ≡ 0 → Met ds) → Holds (d .order) × Met ds
+        → cond b (breach ds) (d .rule) ≡ 0 → (T (named ds) → breach ds ≡ 0 → Met ds) → Holds (d .order) × Met ds
     split true p true q n e f = (passed (d .order) p, f n e)
     split true p false q n e f = absurd n
     split false p true q n e f = let h : 1 ≤ d .rule = leb-true _ _ q in absurd (omega arith)

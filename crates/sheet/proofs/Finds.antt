@@ -3,12 +3,11 @@
 use Prim.Native.Nat.{ℕ, zero, suc, _<_, _≤_}
 use mathlib.Core.Path.{_≡_, refl, _∙_, ap}
 use mathlib.Core.List.{List}
-use mathlib.Core.Bool.{_&&_}
+use mathlib.Core.Bool.{cond, _&&_}
 use lib.Dec.{eqb, ltb}
 use native.Mathlib.Decide.{decLt}
 use native.Mathlib.Omega.{arith}
 use borrow.Author.Tests.{le-ltb}
-use Rattle.sheet.specs.Demand.{pick}
 use Rattle.sheet.specs.Kind.{kinds, regions, properties}
 use Rattle.sheet.specs.Region as region
 use Rattle.sheet.specs.Property as property
@@ -70,6 +69,6 @@ module _ {s s′ : List ℕ} (a : Agree s s′) where
     unfolding rangeOf found
     range-same = rw (found-same, count-same a regions) (go (found s) (decLt (found s) (count s regions)))
       where
-        go : (i : ℕ) → Dec (i < count s regions) → pick (ltb i (count s regions)) (runIn (entry s′ regions i) f) Nowhere ≡ pick (ltb i (count s regions)) (runIn (entry s regions i) f) Nowhere
+        go : (i : ℕ) → Dec (i < count s regions) → cond (ltb i (count s regions)) (runIn (entry s′ regions i) f) Nowhere ≡ cond (ltb i (count s regions)) (runIn (entry s regions i) f) Nowhere
         go i (yes h) = rw (run-same i h)
         go i (no h) = rw (le-ltb i (count s regions) (omega arith))

@@ -1,9 +1,8 @@
 -- Two sheets that agree on what the rules read are both accepted or both not.
 -- Assumes nothing.
-use Prim.Native.Nat.{ℕ, zero, _<_, _≤_}
+use Prim.Native.Nat.{ℕ, _<_, _≤_}
 use mathlib.Core.Path.{_≡_, sym, _∙_}
 use mathlib.Core.List.{List}
-use lib.ListN.{length}
 use native.Mathlib.Omega.{arith}
 use Rattle.sheet.specs.Demand.{Met}
 use Rattle.sheet.specs.Kind.{kinds, regions, properties, groups}

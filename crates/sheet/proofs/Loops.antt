@@ -3,13 +3,12 @@
 use Prim.Native.Nat.{ℕ, _+_, _-_, _≤_, _<_}
 use mathlib.Core.Path.{_≡_, refl, sym, _∙_, ap, ap₂}
 use mathlib.Core.List.{List}
-use mathlib.Core.Bool.{Bool, true, false, _&&_, true≢false}
+use mathlib.Core.Bool.{Bool, true, false, cond, _&&_, true≢false}
 use lib.Dec.{eqb, leb}
 use borrow.Author.Tests.{le-leb, lt-leb, lt-ltb, le-ltb}
 use native.Mathlib.Decide.{decLe}
 use native.Mathlib.Numerals.{add-one}
 use native.Mathlib.Omega.{arith}
-use Rattle.sheet.specs.Demand.{pick}
 use Rattle.sheet.specs.Kind.{properties}
 use Rattle.sheet.specs.Layout.{_of_}
 use Rattle.sheet.specs.Region as region
@@ -36,7 +35,7 @@ module _ (s : List ℕ) (object : ℕ) where
   rank-none = record { is = refl; low = omega arith }
 
   pub rank-more :
-      (i r a b : ℕ) → Ranked s object i r → a ≡ objectAt s i → b ≡ pick (eqb a object) 1 0 → b ≤ 1 → Ranked s object (i + 1) (r + b)
+      (i r a b : ℕ) → Ranked s object i r → a ≡ objectAt s i → b ≡ cond (eqb a object) 1 0 → b ≤ 1 → Ranked s object (i + 1) (r + b)
   unfolding rank
   rank-more i r a b h e q l =
       record { is = rw (add-one i, ← e, ← q) (ap (λ (x : ℕ). x + b) (h .is)); low = omega (arith, h .low) }

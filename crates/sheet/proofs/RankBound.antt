@@ -1,11 +1,10 @@
 -- A property's index within its object is at most its number.
 -- Assumes nothing.
 use Prim.Native.Nat.{ℕ, zero, suc, _+_, _≤_}
-use mathlib.Core.Bool.{Bool, true, false}
+use mathlib.Core.Bool.{Bool, true, false, cond}
 use mathlib.Core.List.{List}
 use lib.Dec.{eqb}
 use native.Mathlib.Omega.{arith}
-use Rattle.sheet.specs.Demand.{pick}
 use Rattle.sheet.specs.Lookup.{objectAt, rank}
 
 pub rank-bound : (s : List ℕ) (object i : ℕ) → rank s object i ≤ i
@@ -13,6 +12,6 @@ unfolding rank
 rank-bound s object zero = omega arith
 rank-bound s object (suc i) = go (eqb (objectAt s i) object) (rank-bound s object i)
   where
-    go : (t : Bool) → rank s object i ≤ i → rank s object i + pick t 1 0 ≤ suc i
+    go : (t : Bool) → rank s object i ≤ i → rank s object i + cond t 1 0 ≤ suc i
     go true h = omega arith
     go false h = omega arith

@@ -3,11 +3,11 @@
 use Prim.Native.Nat.{ℕ, _+_, _≤_, _<_}
 use mathlib.Core.Path.{_≡_, refl, sym, _∙_, ap}
 use mathlib.Core.List.{List}
-use mathlib.Core.Bool.{Bool, true, false}
+use mathlib.Core.Bool.{Bool, true, false, cond}
 use lib.Dec.{eqb, leb}
 use native.Mathlib.Numerals.{add-one}
 use native.Mathlib.Omega.{arith}
-use Rattle.sheet.specs.Demand.{Tells, breach, pick}
+use Rattle.sheet.specs.Demand.{Tells, breach}
 use Rattle.sheet.specs.First.{first, orElse}
 use Rattle.sheet.specs.Kind.{byKind, kinds}
 use Rattle.sheet.specs.Entries.{count, contents, entry, floor, floorAfter, offsetOf, lengthOf, sixBits, bodyEnd, startOf, reached}
@@ -59,7 +59,7 @@ body-ninth : (from z six : ℕ) → Ninth (breach (bodyRows from z six))
 unfolding breach
 body-ninth from z six = go (eqb from z) (leb six 63)
   where
-    go : (t u : Bool) → Ninth (pick t (pick u 0 9) 9)
+    go : (t u : Bool) → Ninth (cond t (cond u 0 9) 9)
     go true true = unbroken
     go true false = ninth
     go false u = ninth

@@ -3,13 +3,12 @@
 use Prim.Native.Nat.{ℕ, _+_, _-_, _<_, _≤_}
 use mathlib.Core.Path.{_≡_, refl, sym, _∙_, ap}
 use mathlib.Core.List.{List}
-use mathlib.Core.Bool.{Bool, true, false, and-eq-true-iff}
+use mathlib.Core.Bool.{Bool, true, false, cond, and-eq-true-iff}
 use lib.Dec.{leb, ltb}
 use lib.ListN.{length}
 use native.Mathlib.Decide.{decLt}
 use native.Mathlib.Omega.{arith}
 use borrow.Author.Tests.{le-leb, leb-true, lt-ltb, le-ltb, ltb-true}
-use Rattle.sheet.specs.Demand.{pick}
 use Rattle.sheet.specs.Kind.{regions}
 use Rattle.sheet.specs.Layout.{_of_}
 use Rattle.sheet.specs.Region as region
@@ -57,7 +56,7 @@ module _ (s : List ℕ) (k a n : ℕ) where
   unfolding rangeOf sought
   ranged {o} {l} e = go (ltb sought (count s k)) refl e
     where
-      go : (b : Bool) → ltb sought (count s k) ≡ b → pick b (runIn (entry s k sought) a) Nowhere ≡ At o l → Ranged s k a n o l
+      go : (b : Bool) → ltb sought (count s k) ≡ b → cond b (runIn (entry s k sought) a) Nowhere ≡ At o l → Ranged s k a n o l
       go true p q =
           let h : sought < count s k = ltb-true _ _ p in
           let c = covering (entry s k sought) a n (seek-passes (λ j. covers (entry s k j) a n) (count s k) h) in

@@ -2,13 +2,13 @@
 -- Assumes nothing.
 use Prim.Native.Nat.{ℕ, zero, suc, _<_, _≤_}
 use mathlib.Core.List.{List, [], _∷_, _++_}
-use mathlib.Core.Bool.{Bool, true, false}
+use mathlib.Core.Bool.{Bool, true, false, cond}
 use mathlib.Core.Path.{_≡_, refl, sym, _∙_}
 use lib.Dec.{T, eqb, leb}
 use native.Mathlib.Decide.{decLt}
 use native.Mathlib.Omega.{arith}
 use borrow.Author.Tests.{eqb-true, leb-true}
-use Rattle.sheet.specs.Demand.{Demand, test, Holds, breach, pick, Met}
+use Rattle.sheet.specs.Demand.{Demand, test, Holds, breach, Met}
 use Rattle.sheet.specs.First.{first, orElse}
 use Rattle.sheet.proofs.Demands.{passed, failed, contrary, both, named}
 use Rattle.sheet.proofs.First.{orElse-some}
@@ -71,7 +71,7 @@ module _ (n : ℕ) (pos : 0 < n) where
       more h s = says-map (λ m. (h, m)) (λ m. m .1) s
 
       split : (b : Bool) → test (d .order) ≡ b → (a : Bool) → eqb (d .rule) n ≡ a → T (both a (ruled ds))
-          → (T (ruled ds) → Says n (Met ds) (breach ds)) → Says n (Met (d ∷ ds)) (pick b (breach ds) (d .rule))
+          → (T (ruled ds) → Says n (Met ds) (breach ds)) → Says n (Met (d ∷ ds)) (cond b (breach ds) (d .rule))
       split true p true q t f = more (passed (d .order) p) (f t)
       split true p false q t f = absurd t
       split false p true q t f = fails (λ m. contrary (d .order) (m .0) (failed (d .order) p)) (eqb-true _ _ q)
@@ -84,7 +84,7 @@ breach-append [] es t = refl
 breach-append (d ∷ ds) es t = split (test (d .order)) (leb 1 (d .rule)) refl t (breach-append ds es)
   where
     split : (b a : Bool) → leb 1 (d .rule) ≡ a → T (both a (named ds)) → (T (named ds) → breach (ds ++ es) ≡ orElse (breach ds) (breach es))
-        → pick b (breach (ds ++ es)) (d .rule) ≡ orElse (pick b (breach ds) (d .rule)) (breach es)
+        → cond b (breach (ds ++ es)) (d .rule) ≡ orElse (cond b (breach ds) (d .rule)) (breach es)
     split true true q t f = f t
     split true false q t f = absurd t
     split false true q t f =

@@ -2,10 +2,9 @@
 -- Assumes nothing.
 use Prim.Native.Nat.{ℕ, zero, suc, _+_, _<_, _≤_}
 use mathlib.Core.Path.{_≡_, refl, sym, _∙_}
-use mathlib.Core.Bool.{Bool, true, false, true≢false}
+use mathlib.Core.Bool.{Bool, true, false, cond, true≢false}
 use native.Mathlib.Decide.{decLt}
 use native.Mathlib.Omega.{arith}
-use Rattle.sheet.specs.Demand.{pick}
 use Rattle.sheet.specs.Lookup.{seek}
 
 -- r is the first of i, .., i + d - 1 that passes, and i + d where none does
@@ -23,7 +22,7 @@ module _ (t : ℕ → Bool) where
       record { from = omega arith; to = omega arith; before = λ j h l. absurd (omega arith); passes = λ l. absurd (omega arith) }
   sought i (suc d) = go (t i) refl (sought (suc i) d)
     where
-      go : (b : Bool) → t i ≡ b → Sought t (suc i) d (seek t (suc i) d) → Sought t i (suc d) (pick b i (seek t (suc i) d))
+      go : (b : Bool) → t i ≡ b → Sought t (suc i) d (seek t (suc i) d) → Sought t i (suc d) (cond b i (seek t (suc i) d))
       go true e r = record { from = omega arith; to = omega arith; before = λ j h l. absurd (omega arith); passes = λ l. e }
       go false e r =
           record {

@@ -2,7 +2,7 @@
 -- Assumes nothing.
 use Prim.Native.Nat.{ℕ, _≤_, _<_}
 use mathlib.Core.List.{List, [], _∷_}
-use mathlib.Core.Bool.{Bool, true, false}
+use mathlib.Core.Bool.{Bool, cond}
 use mathlib.Core.Path.{_≡_}
 use lib.Dec.{leb, eqb}
 
@@ -19,10 +19,6 @@ infix 20 _⦂_
 abbrev pub _⦂_ : ℕ → Order → Demand
 n ⦂ o = record { rule = n; order = o }
 
-abbrev pub pick {ℓ} : {A : Type ℓ} → Bool → A → A → A
-pick true a b = a
-pick false a b = b
-
 abbrev pub test : Order → Bool
 test (a ≼ b) = leb a b
 test (a ≐ b) = eqb a b
@@ -30,7 +26,7 @@ test (a ≐ b) = eqb a b
 -- the rule of the first row that does not hold, and 0 where all hold
 unfoldable pub breach : List Demand → ℕ
 breach [] = 0
-breach (d ∷ ds) = pick (test (d .order)) (breach ds) (d .rule)
+breach (d ∷ ds) = cond (test (d .order)) (breach ds) (d .rule)
 
 -- the two numbers stand so, and not so
 abbrev pub Holds : Order → Type 0

@@ -1,14 +1,13 @@
 -- The entries of a sheet by kind and number, and their bodies.
 -- Assumes nothing.
 use Prim.Native.Nat.{ℕ, zero, suc, _+_, _*_, _<_, _≤_, max}
-use mathlib.Core.Path.{_≡_}
+use mathlib.Core.Bool.{cond}
 use mathlib.Core.List.{List}
-use lib.ListN.{length, take, drop}
+use lib.ListN.{take, drop}
 use lib.Dec.{leb}
 use Rattle.octets.specs.Bytes.{numAt}
-use Rattle.sheet.specs.Demand.{pick}
 use Rattle.sheet.specs.Kind.{byKind, kinds}
-use Rattle.sheet.specs.Layout.{Field, _of_}
+use Rattle.sheet.specs.Layout.{_of_}
 use Rattle.sheet.specs.Head as head
 use Rattle.sheet.specs.Region as region
 use Rattle.sheet.specs.Property as property
@@ -80,7 +79,7 @@ reached s k i = endFrom s k (startOf s k) i
 
 -- the byte of a code-0 group object; 0 for any other entry
 unfoldable pub sixBits : List ℕ → ℕ → List ℕ → ℕ
-sixBits s k e = byKind k 0 0 (pick (leb 1 (group.code of e)) 0 (numAt s (group.offset of e) 1))
+sixBits s k e = byKind k 0 0 (cond (leb 1 (group.code of e)) 0 (numAt s (group.offset of e) 1))
 
 -- position p lies in body i of kind k
 pub record InBody (s : List ℕ) (k i p : ℕ) : Type 0 where

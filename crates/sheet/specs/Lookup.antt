@@ -3,11 +3,10 @@
 use Prim.Native.Nat.{ℕ, zero, suc, _+_, _*_, _-_}
 use mathlib.Core.Path.{_≡_}
 use mathlib.Core.List.{List, []}
-use mathlib.Core.Bool.{Bool, true, false, _&&_}
+use mathlib.Core.Bool.{Bool, true, false, cond, _&&_}
 use lib.ListN.{length, take, drop}
 use lib.Dec.{ltb, leb, eqb}
 use denote.Ref.{RefT}
-use Rattle.sheet.specs.Demand.{pick}
 use Rattle.sheet.specs.Kind.{regions, properties, groups}
 use Rattle.sheet.specs.Layout.{_of_}
 use Rattle.sheet.specs.Region as region
@@ -21,7 +20,7 @@ use Rattle.sheet.specs.declared.Run.the-variants.{At, Nowhere}
 -- the first of i, i + 1, .., i + d - 1 that passes a test, and i + d where none does
 unfoldable pub seek : (ℕ → Bool) → ℕ → ℕ → ℕ
 seek t i zero = i
-seek t i (suc d) = pick (t i) i (seek t (suc i) d)
+seek t i (suc d) = cond (t i) i (seek t (suc i) d)
 
 -- the entry of kind k whose first word is x, and the count where there is none
 unfoldable pub indexOf : List ℕ → ℕ → ℕ → ℕ
@@ -41,10 +40,10 @@ lookup s k i = when (eqb (ruleOf s) 0) (bodyOf s k i)
 
 -- where in the sheet that part starts; an empty one at 0
 unfoldable pub bodyFrom : List ℕ → ℕ → ℕ → ℕ
-bodyFrom s k i = pick (ltb i (count s k)) (offsetOf k (entry s k i)) 0
+bodyFrom s k i = cond (ltb i (count s k)) (offsetOf k (entry s k i)) 0
 
 unfoldable pub lookupFrom : List ℕ → ℕ → ℕ → ℕ
-lookupFrom s k i = pick (eqb (ruleOf s) 0) (bodyFrom s k i) 0
+lookupFrom s k i = cond (eqb (ruleOf s) 0) (bodyFrom s k i) 0
 
 -- r refers to the very bytes of s from a place on, no copy: these bytes, in the block of memory that s lies in, so far behind its start
 pub record PartOf (s r : RefT (List ℕ)) (bytes : List ℕ) (from : ℕ) : Type 0 where
@@ -83,7 +82,7 @@ objectAt s i = property.object of entry s properties i
 
 unfoldable pub rank : List ℕ → ℕ → ℕ → ℕ
 rank s object zero = 0
-rank s object (suc i) = rank s object i + pick (eqb (objectAt s i) object) 1 0
+rank s object (suc i) = rank s object i + cond (eqb (objectAt s i) object) 1 0
 
 -- the property of an object by its index, counted from 0 within the object, and the count where there is none
 unfoldable pub nthOf : List ℕ → ℕ → ℕ → ℕ
@@ -99,4 +98,4 @@ runIn e a = At (region.offset of e + (a - region.address of e)) (region.levels o
 
 unfoldable pub rangeOf : List ℕ → ℕ → ℕ → ℕ → Run
 rangeOf s k a n =
-    let i = seek (λ j. covers (entry s k j) a n) 0 (count s k) in pick (ltb i (count s k)) (runIn (entry s k i) a) Nowhere
+    let i = seek (λ j. covers (entry s k j) a n) 0 (count s k) in cond (ltb i (count s k)) (runIn (entry s k i) a) Nowhere

@@ -1,9 +1,8 @@
 // The entries of an accepted sheet as records, and properties by their index within an object.
 ghost use mathlib.Core.Path.{_≡_};
-ghost use mathlib.Core.Bool.{_&&_};
+ghost use mathlib.Core.Bool.{cond, _&&_};
 ghost use Prim.Native.Nat.{_+_, _≤_, _<_};
 ghost use lib.Dec.{eqb};
-ghost use Rattle.sheet.specs.Demand.{pick};
 ghost use Rattle.sheet.specs.Kind.{kinds, properties, groups};
 ghost use Rattle.sheet.specs.Property as property;
 ghost use Rattle.sheet.specs.Entries.{count as countOf};
@@ -80,7 +79,7 @@ fn object_at(s: &[u8], i: usize) -> usize
 
 // 1 where two objects are the same, else 0.
 fn same(a: usize, b: u8) -> usize
-    ensures { λ r. ⌜ (r ≡ pick (eqb a b) 1 0) × (r ≤ 1) ⌝ }
+    ensures { λ r. ⌜ (r ≡ cond (eqb a b) 1 0) × (r ≤ 1) ⌝ }
 {
     if a == b as usize { 1 } else { 0 }
 }

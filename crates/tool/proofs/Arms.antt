@@ -3,19 +3,18 @@
 use Prim.Native.Nat.{ℕ, zero, suc, _+_, _-_, _≤_, _<_}
 use mathlib.Core.Path.{_≡_, refl, sym, subst, ap, _∙_}
 use mathlib.Core.List.{List, [], _∷_}
-use mathlib.Core.Bool.{Bool, true, false}
+use mathlib.Core.Bool.{Bool, true, false, cond, _&&_}
 use mathlib.Core.Option.{none}
-use lib.Dec.{ltb}
+use lib.Dec.{leb, ltb}
 use native.Mathlib.Omega.{arith}
 use lib.ListN.{length, getD, getElem?, length-drop}
-use Rattle.pdu.specs.Item.{Value, pick}
-use Rattle.pdu.specs.Tests.{isAtMost, both}
+use Rattle.pdu.specs.Item.{Value}
 use Rattle.pdu.specs.Table.{rowOf, services}
 use Rattle.pdu.specs.Read.{readPdu, dataAt, dataOf}
 use Rattle.pdu.specs.Write.{writeOf, writeCount, bufferOf, fitsIn, writable, Wrote}
 use Rattle.pdu.specs.Rules.{headOf}
 use Rattle.pdu.specs.declared.Parsed.{Parsed}
-use Rattle.pdu.specs.declared.Parsed.the-variants.{Is, Refused}
+use Rattle.pdu.specs.declared.Parsed.the-variants.{Is}
 use Rattle.pdu.specs.declared.Service.{Service}
 use Rattle.pdu.specs.declared.Written.{Written}
 use Rattle.pdu.specs.declared.Written.the-variants.{Bytes, Refused as Refuses}
@@ -24,10 +23,10 @@ use Rattle.pdu.proofs.Find.{NoneOf}
 use Rattle.pdu.proofs.Formed.{formed-says, long-enough}
 use Rattle.pdu.proofs.Sound.{sound}
 use Rattle.pdu.proofs.Outcomes.{reads-pdu}
-use Rattle.pdu.proofs.Truths.{both-is, at-most-is}
+use Rattle.pdu.proofs.Truths.{and-is, at-most-is}
 use Rattle.pdu.specs.Pdus.{serviceOf, valuesOf}
 use Rattle.pdu.specs.declared.Pdu.{Pdu}
-use Rattle.tool.specs.Flat.{laid, kindOf, flatOf, flatBy, flatRead, meantAs, meantBy, meantWrite, meantBuffer, unknownKind, flatWritten, FlatWrote}
+use Rattle.tool.specs.Flat.{laid, kindOf, flatBy, flatRead, meantAs, meantBy, unknownKind, flatWritten, FlatWrote}
 use Rattle.tool.specs.declared.FlatPdu.{FlatPdu}
 use Rattle.tool.specs.declared.FlatWritten.{FlatWritten}
 use Rattle.tool.specs.declared.Meant.{Meant}
@@ -90,7 +89,7 @@ unfolding meantBy
 no-kind f h = ap (λ o. meantAs o f) (sym (past-end services (f .kind) (at-least 25 (f .kind) h)))
 
 -- at most 16 bytes are written
-counted : (n : ℕ) (t u : Bool) → (u ≡ true → n ≤ 16) → writeCount (pick t (Refuses 3) (pick u (Bytes n) (Refuses 13))) ≤ 16
+counted : (n : ℕ) (t u : Bool) → (u ≡ true → n ≤ 16) → writeCount (cond t (Refuses 3) (cond u (Bytes n) (Refuses 13))) ≤ 16
 counted n true u h = omega arith
 counted n false true h = h refl
 counted n false false h = omega arith
@@ -99,7 +98,7 @@ pub few : (p : Pdu) (d o : List ℕ) (w : Written) → w ≡ writeOf p d o → w
 unfolding writeOf writable
 few p d o w e =
     let n : ℕ = dataAt p + length d in
-    rw e (counted n (ltb (length o) 16) (both (isAtMost n 16) (fitsIn p n)) (λ u. at-most-is n 16 .0 (both-is (isAtMost n 16) (fitsIn p n) .0 u .0)))
+    rw e (counted n (ltb (length o) 16) (leb n 16 && fitsIn p n) (λ u. at-most-is n 16 .0 (and-is (leb n 16) (fitsIn p n) .0 u .0)))
 
 pub count-few : (w : Written) (n : ℕ) → w ≡ Bytes n → writeCount w ≤ 16 → n ≤ 16
 count-few w n e h = rw e at h

@@ -2,11 +2,12 @@
 -- Assumes nothing.
 use Prim.Native.Nat.{ℕ, suc, _-_}
 use mathlib.Core.Path.{_≡_}
+use mathlib.Core.Bool.{cond}
 use mathlib.Core.List.{List, [], _∷_}
 use mathlib.Core.Option.{Option, none, some}
 use lib.ListN.{length, getElem?}
 use lib.Dec.{eqb, ltb}
-use Rattle.pdu.specs.Item.{Value, _≔_, the, pick, V6, Address, Serial, Domain, T, Object, Id, N, S, Index, Kind, Maximum, Access, Level, Key}
+use Rattle.pdu.specs.Item.{Value, _≔_, the, V6, Address, Serial, Domain, T, Object, Id, N, S, Index, Kind, Maximum, Access, Level, Key}
 use Rattle.pdu.specs.Table.{rowOf, services}
 use Rattle.pdu.specs.Pdus.{serviceOf, valuesOf, pduOf}
 use Rattle.pdu.specs.Read.{readPdu, dataAt}
@@ -25,7 +26,7 @@ use Rattle.tool.specs.declared.Meant.the-variants.{Known, Nothing}
 -- THE KIND OF A SERVICE: its place in the table, where its first code tells it from the others
 unfoldable pub placeIn : List Service → Service → ℕ
 placeIn [] k = 0
-placeIn (j ∷ js) k = pick (eqb (rowOf j .base) (rowOf k .base)) 0 (suc (placeIn js k))
+placeIn (j ∷ js) k = cond (eqb (rowOf j .base) (rowOf k .base)) 0 (suc (placeIn js k))
 
 unfoldable pub kindOf : Service → ℕ
 kindOf k = placeIn services k
@@ -122,7 +123,7 @@ meantBy f = meantAs (getElem? services (f .kind)) f
 
 -- WHAT WRITING GIVES: of an unknown kind 3, then 13
 abbrev pub unknownKind : ℕ → Written
-unknownKind room = pick (ltb room 16) (Refuses 3) (Refuses 13)
+unknownKind room = cond (ltb room 16) (Refuses 3) (Refuses 13)
 
 abbrev pub meantWrite : Meant → List ℕ → List ℕ → Written
 meantWrite (Known p) d o = writeOf p d o

@@ -6,7 +6,7 @@ use Prim.Native.Nat.{ℕ, _+_, _≤_, _-_}
 use native.Mathlib.Omega.{arith}
 use native.Mathlib.Numerals.{add-one}
 use borrow.Author.Needs.{needs}
-use lib.ListN.{length, length-set, set, getD, replicate, length-replicate, getD-replicate}
+use lib.ListN.{length, length-set, set, replicate, length-replicate, getD-replicate}
 use lib.Seq.{paste, paste-zero, paste-suc, take-all}
 use denote.Ref.{now}
 use Rattle.octets.specs.Splice.{splice}

@@ -1,7 +1,6 @@
 -- `judge::memory::can_change` meets its contract.
 -- Assumes nothing.
 use borrow.Author.Needs.{needs}
-use native.Mathlib.Omega.{arith}
 use Rattle.judge.proofs.Arms.{permitted-at, via-permitted}
 use Rattle.judge.proofs.memory.can_change.Statement.{statement}
 use Rattle.judge.proofs.memory.can_change.Tie as tie

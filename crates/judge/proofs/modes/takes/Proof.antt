@@ -1,7 +1,6 @@
 -- `judge::modes::takes` meets its contract.
 -- Assumes nothing.
 use borrow.Author.Needs.{needs}
-use native.Mathlib.Omega.{arith}
 use Rattle.judge.proofs.Arms.{via-takes}
 use Rattle.judge.proofs.modes.takes.Statement.{statement}
 use Rattle.judge.proofs.modes.takes.Tie as tie

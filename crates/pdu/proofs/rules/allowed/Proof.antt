@@ -1,13 +1,11 @@
 -- `pdu::rules::allowed` meets its contract: an arm knows the PDU, and what the function that it calls says.
 -- Assumes nothing.
 use borrow.Author.Needs.{needs}
-use Rattle.pdu.specs.Tests.{isEqual}
 use Rattle.pdu.proofs.Arms.{via-fits}
 use Rattle.pdu.proofs.rules.allowed.Statement.{statement}
 use Rattle.pdu.proofs.rules.allowed.Tie as tie
 
 pub allowed-spec : {M : Type 1} → statement M
-unfolding isEqual
 allowed-spec =
     tie.close
     (tie.spec

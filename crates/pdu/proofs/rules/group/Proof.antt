@@ -1,11 +1,9 @@
 -- `pdu::rules::group` meets its contract.
 -- Assumes nothing.
 use native.Mathlib.Omega.{arith}
-use Rattle.pdu.specs.Tests.{both, either, isBelow, isEqual}
 use Rattle.pdu.proofs.Arms.{tests}
 use Rattle.pdu.proofs.rules.group.Statement.{statement}
 use Rattle.pdu.proofs.rules.group.Tie as tie
 
 pub group-spec : {M : Type 1} → statement M
-unfolding both either isBelow isEqual
 group-spec = tie.close (tie.spec (λ c. search (tests, arith)) (λ c. search (tests, arith)) (λ c. search (tests, arith)))

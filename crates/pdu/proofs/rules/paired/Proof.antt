@@ -1,11 +1,9 @@
 -- `pdu::rules::paired` meets its contract.
 -- Assumes nothing.
 use native.Mathlib.Omega.{arith}
-use Rattle.pdu.specs.Tests.{both, isBelow, isEqual}
 use Rattle.pdu.proofs.Arms.{tests}
 use Rattle.pdu.proofs.rules.paired.Statement.{statement}
 use Rattle.pdu.proofs.rules.paired.Tie as tie
 
 pub paired-spec : {M : Type 1} → statement M
-unfolding both isBelow isEqual
 paired-spec = tie.close (tie.spec (λ c. search (tests, arith)) (λ c. search (tests, arith)) (λ c. search (tests, arith)))
