@@ -10,6 +10,7 @@ pub mod Bits
 pub mod Runs
 pub mod Sent
 pub mod Levels
+pub mod Flags
 pub mod Stepped
 pub mod RightGroups
 pub mod RightAddresses
