@@ -33,7 +33,7 @@ module _ (session : Session) (mode group : ℕ) (apdu sheet answer : List ℕ) w
       go (yes h) = omega (arith, ap length (none h))
       go (no h) = omega (arith, at-most-16 (length answer) sheet session mode group apdu)
 
-  module _ (r : Done) (sheet′ answer′ : List ℕ) (did : Did step r answer sheet′ answer′) where
+  module _ (r : Done) (sheet′ answer′ : List ℕ) (did : Did (stepOf (length answer) sheet session mode group apdu) r answer sheet′ answer′) where
     -- 2 TO 12 LEAVE SHEET AND SESSION AS FOUND
     pub all-kept : 2 ≤ r .outcome → (sheet′ ≡ sheet) × (r .session ≡ session)
     all-kept h =
