@@ -2,8 +2,7 @@
 -- Assumes nothing.
 use Prim.Native.Nat.{ℕ, _+_, _≤_}
 use mathlib.Core.Path.{_≡_, refl}
-use mathlib.Core.Logic.{_⊎_, inl, inr}
-use mathlib.Core.Bool.{Bool, true, false, cond}
+use mathlib.Core.Bool.{true}
 use mathlib.Core.List.{List, []}
 use lib.Dec.{leb}
 use lib.ListN.{length}
@@ -18,11 +17,9 @@ use Rattle.judge.specs.declared.Session.{Session}
 use Rattle.judge.specs.declared.Decision.{Decision}
 use Rattle.judge.specs.declared.Answer.{Answer}
 use Rattle.judge.specs.declared.Answer.the-variants as answer
-use Rattle.judge.specs.Judge.{isAccepted, judgeOf, dataIn}
-use Rattle.judge.proofs.Walks.{by-test}
+use Rattle.judge.specs.Judge.{judgeOf, dataIn}
 use Rattle.device.specs.Carry.{storeOf, answerOf}
 use Rattle.device.specs.Step.{Step, stepBy, stepOf}
-use Rattle.device.specs.Events.{State, button, eventOf, pressed, buttonOutcome, buttonSheet}
 use Rattle.device.specs.Safe.{AnswerSafe}
 use Rattle.device.specs.Replies.{Denial}
 use Rattle.device.proofs.Safe.{safe}
@@ -104,23 +101,3 @@ module _ (room : ℕ) (s : List ℕ) (q : Session) (mode group : ℕ) (a : List 
       let d : List ℕ = dataIn (readPdu a) a in
       let k : Decision = judgeOf room s q mode group a in
       short-answer (storeOf (storeOf s d (k .first)) d (k .second)) d (k .answer) (safe room s q mode group a .answer)
-
--- THE BUTTON GIVES 1 OR 4, answers nothing and leaves the session
-pub button-of : (x : State) (on : Bool) → (eventOf x (button on) .outcome ≡ 1) ⊎ (eventOf x (button on) .outcome ≡ 4)
-unfolding eventOf buttonOutcome
-button-of x on =
-    by-test (λ (n : ℕ). (n ≡ 1) ⊎ (n ≡ 4)) (isAccepted (x .sheet)) 1 4 (λ e. inl refl) (λ e. inr refl)
-
-pub button-quiet :
-    (x : State) (on : Bool) → (eventOf x (button on) .answer ≡ []) × (eventOf x (button on) .session ≡ x .session)
-unfolding eventOf
-button-quiet x on = (refl, refl)
-
--- AND 4 CHANGES NOTHING
-pub button-untouched : (x : State) (on : Bool) → eventOf x (button on) .outcome ≡ 4 → eventOf x (button on) .sheet ≡ x .sheet
-unfolding eventOf buttonOutcome buttonSheet
-button-untouched x on e = go (isAccepted (x .sheet)) e
-  where
-    go : (t : Bool) → _≡_ {A = ℕ} (cond t 1 4) 4 → cond t (pressed (x .sheet) on) (x .sheet) ≡ x .sheet
-    go true e = absurd (omega arith)
-    go false e = refl

@@ -1,8 +1,9 @@
--- What a device that shows the maximum for the count answers, by computation.
+-- What devices that invent the count answer and store, by computation.
 -- Assumes nothing.
 use mathlib.Core.Path.{_≡_, refl}
 use lib.ListN.{getD}
 use Rattle.octets.specs.Bytes.{numAt, bytesOf}
+use Rattle.octets.specs.Splice.{splice}
 use Rattle.sheet.specs.Demand.{breach}
 use Rattle.sheet.specs.First.{first}
 use Rattle.sheet.specs.Entries.{entry, keyOf, floor, bodyEnd, startOf, reached, sixBits}
@@ -10,15 +11,16 @@ use Rattle.sheet.specs.Rules.{entryDemands, bodyDemands, entryRule, bodyRule, e
 use Rattle.sheet.specs.Lookup.{seek, indexOf}
 use Rattle.pdu.specs.Table.{find}
 use Rattle.pdu.specs.Rules.{fourAt, twelveAt, headBytes}
-use Rattle.pdu.specs.Read.{readPdu}
+use Rattle.pdu.specs.Read.{readPdu, dataOf}
 use Rattle.pdu.specs.Write.{encoded}
 use Rattle.judge.specs.Session.{levelOf, levelIn}
 use Rattle.judge.specs.Modes.{rulesOf}
-use Rattle.judge.specs.Properties.{readIn, propertyReadOf}
+use Rattle.judge.specs.Properties.{readIn, propertyReadOf, writeIn, propertyWriteOf}
 use Rattle.judge.specs.Judge.{isAccepted, reachedOf, isShut, judgeOf}
-use Rattle.device.specs.Step.{stepBy}
-use Rattle.device.specs.Marked.{sample, readCount, asked}
-use Rattle.device.specs.Wrong.{inflated, inventsCount}
+use Rattle.device.specs.Step.{stepBy, stepOf}
+use Rattle.device.specs.Demand2.{done}
+use Rattle.device.specs.Marked.{sample, readCount, writeElement, asked}
+use Rattle.device.specs.Wrong.{inflated, inventsCount, raised, inventsStored}
 
 -- THE LAST BYTE IS 2, the maximum, where the count is 1
 pub invented : getD (inventsCount (asked readCount) .answer) 7 0 ≡ 2
@@ -26,3 +28,17 @@ unfolding sample inventsCount inflated stepBy judgeOf isAccepted isShut reachedO
     readPdu find encoded headBytes fourAt twelveAt seek indexOf ruleIn walkRule entriesRule bodiesRule entryRule bodyRule
     bodyDemands entryDemands entry keyOf floor bodyEnd startOf reached sixBits first breach numAt bytesOf
 invented = refl
+
+-- AFTER A WRITE OF ITS ONE ELEMENT THE STORED COUNT IS 2
+pub invented-stored : getD (inventsStored (asked writeElement) .sheet) 47 0 ≡ 2
+unfolding sample inventsStored raised stepBy judgeOf isAccepted isShut reachedOf rulesOf levelIn levelOf writeIn propertyWriteOf
+    readPdu find dataOf fourAt twelveAt seek indexOf ruleIn walkRule entriesRule bodiesRule entryRule bodyRule
+    bodyDemands entryDemands entry keyOf floor bodyEnd startOf reached sixBits first breach splice numAt bytesOf
+invented-stored = refl
+
+-- where 1 is due
+pub stored : getD (done (asked writeElement) .sheet) 47 0 ≡ 1
+unfolding sample stepOf stepBy judgeOf isAccepted isShut reachedOf rulesOf levelIn levelOf writeIn propertyWriteOf
+    readPdu find dataOf fourAt twelveAt seek indexOf ruleIn walkRule entriesRule bodiesRule entryRule bodyRule
+    bodyDemands entryDemands entry keyOf floor bodyEnd startOf reached sixBits first breach splice numAt bytesOf
+stored = refl

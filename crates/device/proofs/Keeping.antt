@@ -37,7 +37,7 @@ use Rattle.judge.proofs.MemoryCases.{Says, says-write, says-change, memory-read
 use Rattle.judge.proofs.KeyCases.{key-write-cases}
 use Rattle.device.specs.Carry.{build, bitAt, storeOf}
 use Rattle.device.proofs.Given.{memory-data}
-use Rattle.device.proofs.Stores.{length-build}
+use Rattle.device.proofs.Bits.{length-build}
 use Rattle.device.proofs.Agreeing.{agree-refl, memory-keeps, group-keeps, elements-keep, count-keeps}
 
 -- the sheet s afterwards, and that it agrees with s

@@ -10,6 +10,7 @@ pub mod Bits
 pub mod Runs
 pub mod Sent
 pub mod Levels
+pub mod Flags
 pub mod Stepped
 pub mod RightGroups
 pub mod RightAddresses
@@ -22,9 +23,11 @@ pub mod RightMemory
 pub mod Rightly
 pub mod Shapes
 pub mod Demand1
+pub mod Called
 pub mod Typing
 pub mod Answers
 pub mod Pressing
+pub mod Dues
 pub mod Room
 pub mod Requests
 pub mod Cases

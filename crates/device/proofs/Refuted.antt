@@ -13,11 +13,11 @@ use Rattle.device.specs.Octets.{Octets}
 use Rattle.device.specs.Step.{Step}
 use Rattle.device.specs.Asked.{Asked}
 use Rattle.device.specs.Demand2.{Answers, done}
-use Rattle.device.specs.Marked.{sample, Case, Result, readElement, readCount, cases, asked, found, wanted}
-use Rattle.device.specs.Wrong.{refusesAll, fixedAnswer, inventsCount}
+use Rattle.device.specs.Marked.{sample, Case, Result, readElement, readCount, writeElement, cases, asked, found, wanted}
+use Rattle.device.specs.Wrong.{refusesAll, fixedAnswer, inventsCount, inventsStored}
 use Rattle.device.proofs.Rightly.{right, right-only}
 use Rattle.device.proofs.Cases.{marked}
-use Rattle.device.proofs.Invented.{invented}
+use Rattle.device.proofs.Invented.{invented, invented-stored, stored}
 
 -- OURS
 pub answers-ours : Answers done
@@ -58,6 +58,11 @@ module _ (step : Asked → Step) (f : Answers step) where
   unfolding bytes found wanted
   count-answered = ap (λ (r : Step). r .answer) (only readCount refl) ∙ ap (λ (r : Result). r .answer) marked-count
 
+  -- the count that it stores with a write of the element
+  count-stored : getD (step (asked writeElement) .sheet) 47 0 ≡ 1
+  unfolding bytes
+  count-stored = ap (λ (r : Step). getD (r .sheet) 47 0) (only writeElement refl) ∙ stored
+
 -- NOT OF ONE THAT REFUSES EVERYTHING: a read of the element
 pub refuses-refuted : (n : ℕ) → Answers (refusesAll n) → ⊥
 unfolding refusesAll
@@ -71,6 +76,10 @@ fixed-refuted b f =
     let g : getD b 5 0 ≡ 0 = ap (λ (l : List ℕ). getD l 5 0) (count-answered (fixedAnswer b) f) in
     omega arith
 
--- NOT OF ONE THAT INVENTS THE COUNT: a read of the count
+-- NOT OF ONE THAT INVENTS THE COUNT: that it answers, a read of the count
 pub invents-refuted : Answers inventsCount → ⊥
 invents-refuted f = omega (arith, invented, ap (λ (l : List ℕ). getD l 7 0) (count-answered inventsCount f))
+
+-- or that it stores, a write of the element
+pub stored-refuted : Answers inventsStored → ⊥
+stored-refuted f = omega (arith, invented-stored, count-stored inventsStored f)

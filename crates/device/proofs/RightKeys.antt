@@ -1,7 +1,7 @@
 -- Keys and restart: what is due is what is done.
 -- Assumes nothing.
-use Prim.Native.Nat.{ℕ, _-_}
-use mathlib.Core.Path.{_≡_, refl, sym, ap, _∙_}
+use Prim.Native.Nat.{ℕ, _*_, _-_}
+use mathlib.Core.Path.{_≡_, refl, sym, ap, subst, _∙_}
 use mathlib.Core.Bool.{false}
 use mathlib.Core.List.{List, []}
 use native.Mathlib.Omega.{arith}
@@ -21,6 +21,7 @@ use Rattle.device.specs.Step.{Step, stepBy}
 use Rattle.device.specs.Asked.{Asked, says, saysAfter, Reads, given}
 use Rattle.device.specs.Right.{Grants, key0, key1, key2, other, KeyWritable, Right, authorize, keyWrite, noKeyWrite, restart}
 use Rattle.device.proofs.Levels.{acts, acts-at}
+use Rattle.device.proofs.Flags.{verify-left}
 use Rattle.device.proofs.Stepped.{step, step-read}
 
 -- the level that a key grants
@@ -90,18 +91,23 @@ module _ (x : Asked) where
         refl
 
   module _ (r : Reads x Restart) where
-    pub only-restart :
-        _≡_ {A = Step}
+    -- what a restart does, these being the flags afterwards
+    abbrev restarted : ℕ → Step
+    restarted f =
         record {
           outcome = 1;
           answer = [];
           session = record { opened = false; level = 3 };
-          sheet = splice (x .sheet) (head.flags .at) (bytesOf 1 (head.flags of x .sheet - head.programming (x .sheet)));
+          sheet = splice (x .sheet) (head.flags .at) (bytesOf 1 f);
         }
-        (step x)
+
+    left : head.flags of x .sheet - head.programming (x .sheet) ≡ head.verify (x .sheet) * 2
+    left = verify-left (x .sheet) (r .ready .sheet)
+
+    pub only-restart : restarted (head.verify (x .sheet) * 2) ≡ step x
     unfolding stepBy restartOf
-    only-restart = step-read x _ r _ refl
+    only-restart = ap restarted (sym left) ∙ step-read x _ r _ refl
 
     pub right-restart : Right x (stepBy (x .sheet) (x .session) (given x Restart) (restartOf (x .sheet)))
     unfolding stepBy restartOf
-    right-restart = restart r
+    right-restart = subst (λ (f : ℕ). Right x (restarted f)) (sym left) (restart r)

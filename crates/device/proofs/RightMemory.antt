@@ -25,7 +25,7 @@ use Rattle.device.specs.Right.{part, InRegion, memoryAt, MemoryReadable,
 use Rattle.device.proofs.Given.{memory-data}
 use Rattle.device.proofs.Changes.{Change, right-change}
 use Rattle.device.proofs.Levels.{acts, acts-at}
-use Rattle.device.proofs.Stores.{length-build}
+use Rattle.device.proofs.Bits.{length-build, combined}
 use Rattle.device.proofs.Stepped.{step, step-read}
 
 module _ (x : Asked) (n address : ℕ) where
@@ -148,6 +148,6 @@ module _ (x : Asked) (n address : ℕ) where
       (stepBy (x .sheet) (x .session) (given x (MemoryBitWrite n address)) (bitWriteOf (x .sheet) regions level n address))
   unfolding bitWriteOf
   right-bit-write r =
-      right-change x _ n address _ bit-writing r (λ i w v. bitWriteVerified n address i _ r w refl v)
-      (λ i w v. bitWrite n address i _ r w refl v) (λ f v. noBitWriteVerified n address r f v)
+      right-change x _ n address _ bit-writing r (λ i w v. bitWriteVerified n address i _ r w (combined _ _ n _) v)
+      (λ i w v. bitWrite n address i _ r w (combined _ _ n _) v) (λ f v. noBitWriteVerified n address r f v)
       (λ f v. noBitWrite n address r f v)

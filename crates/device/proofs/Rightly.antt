@@ -14,6 +14,7 @@ use Rattle.device.specs.Asked.{Asked, Reads, given}
 use Rattle.device.specs.Right as due
 use Rattle.device.specs.Right.{Brings, Right}
 use Rattle.device.proofs.Judged.{judged}
+use Rattle.device.proofs.Bits.{combined-is}
 use Rattle.device.proofs.Stepped.{step-refused, step-unknown, step-other, step-unfit}
 use Rattle.device.proofs.RightGroups.{right-group-read, right-group-put, only-group-read0, only-group-read, only-no-group-read, only-group-put0, only-group-put, only-group-length, only-no-group-put}
 use Rattle.device.proofs.RightAddresses.{right-address-write, right-address-read, right-serial-read, right-serial-write, right-descriptor, only-address-write, only-no-address-write, only-address-read, only-no-address-read, only-serial-read, only-no-serial-read, only-serial-write, only-no-serial-write, only-descriptor, only-no-descriptor}
@@ -103,8 +104,8 @@ module _ (x : Asked) (hs : Octets (x .sheet)) (ha : Octets (x .apdu)) where
   right-only r (due.memoryWrite n address i d h p e v) = rw e (only-stored x _ n address _ (writing x n address h) h i p v)
   right-only r (due.noMemoryWriteVerified n address h f v) = only-denied x _ n address _ (writing x n address h) h f v
   right-only r (due.noMemoryWrite n address h f v) = only-refused x _ n address _ (writing x n address h) h f v
-  right-only r (due.bitWriteVerified n address i d h p e v) = rw e (only-verified x _ n address _ (bit-writing x n address) h i p v)
-  right-only r (due.bitWrite n address i d h p e v) = rw e (only-stored x _ n address _ (bit-writing x n address) h i p v)
+  right-only r (due.bitWriteVerified n address i d h p e v) = rw (combined-is _ _ n _ e) (only-verified x _ n address _ (bit-writing x n address) h i p v)
+  right-only r (due.bitWrite n address i d h p e v) = rw (combined-is _ _ n _ e) (only-stored x _ n address _ (bit-writing x n address) h i p v)
   right-only r (due.noBitWriteVerified n address h f v) = only-denied x _ n address _ (bit-writing x n address) h f v
   right-only r (due.noBitWrite n address h f v) = only-refused x _ n address _ (bit-writing x n address) h f v
   right-only r (due.authorize key level h g) = only-authorize x key h level g

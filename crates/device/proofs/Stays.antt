@@ -1,8 +1,8 @@
 -- Accepted stays accepted: no event takes a sheet out of the rules.
 -- Assumes nothing.
-use Prim.Native.Nat.{ℕ, _≤_}
+use Prim.Native.Nat.{ℕ}
 use mathlib.Core.Path.{_≡_, sym, subst}
-use mathlib.Core.Bool.{Bool, true, false}
+use mathlib.Core.Bool.{Bool}
 use mathlib.Core.List.{List}
 use lib.ListN.{length}
 use native.Mathlib.Omega.{arith}
@@ -18,8 +18,9 @@ use Rattle.judge.specs.Judge.{isAccepted, decideOf, dataIn}
 use Rattle.judge.proofs.Walks.{by-test}
 use Rattle.device.specs.Step.{stepBy, stepOf}
 use Rattle.device.specs.Asked.{Asked, given}
-use Rattle.device.specs.Events.{State, Event, connect, disconnect, button, request, bit, pressed, buttonSheet, eventOf, after}
+use Rattle.device.specs.Events.{State, Event, connect, disconnect, button, request, pressed, buttonSheet, eventOf, after}
 use Rattle.device.proofs.Judged.{judged}
+use Rattle.device.proofs.Flags.{bit-small}
 use Rattle.device.proofs.Agreeing.{agree-refl}
 use Rattle.device.proofs.Keeping.{Keeps, flags-new, keeps-decided}
 
@@ -37,10 +38,6 @@ request-agrees x ok =
     (λ n r. agree-refl (x .sheet))
 
 -- the button
-bit-small : (on : Bool) → bit on ≤ 1
-bit-small true = omega arith
-bit-small false = omega arith
-
 button-agrees : (s : List ℕ) (on : Bool) → ruleOf s ≡ 0 → Agree s (buttonSheet s on)
 unfolding buttonSheet pressed
 button-agrees s on ok =

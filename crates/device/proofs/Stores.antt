@@ -2,9 +2,9 @@
 -- Assumes nothing.
 use Prim.Native.Nat.{ℕ, zero, suc, _+_, _≤_}
 use mathlib.Core.Path.{_≡_, refl, sym, ap, _∙_}
-use mathlib.Core.List.{List, [], _∷_}
+use mathlib.Core.List.{List}
 use native.Mathlib.Omega.{arith}
-use lib.ListN.{length, take, drop, replicate, length-append, length-replicate}
+use lib.ListN.{length, take, drop, replicate, length-replicate}
 use Rattle.octets.specs.Bytes.{bytesOf}
 use Rattle.octets.specs.Splice.{splice}
 use Rattle.octets.proofs.Numbers.{length-bytes}
@@ -13,11 +13,7 @@ use Rattle.judge.specs.declared.Store.{Store}
 use Rattle.judge.specs.declared.Store.the-variants as store
 use Rattle.device.specs.Carry.{build, bitAt, storeOf}
 use Rattle.device.specs.Safe.{StoreSafe}
-
-pub length-build : (n : ℕ) (f : ℕ → ℕ) → length (build n f) ≡ n
-unfolding build
-length-build zero f = refl
-length-build (suc n) f = length-append (build n f) (f n ∷ []) ∙ omega (arith, length-build n f)
+use Rattle.device.proofs.Bits.{length-build}
 
 length-copies : (n b : ℕ) → length (replicate n b) ≡ n
 length-copies zero b = refl

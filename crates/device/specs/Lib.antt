@@ -1,6 +1,7 @@
 pub mod Carry
 pub mod Step
 pub mod Events
+pub mod Due
 pub mod Asked
 pub mod Right
 pub mod Safe

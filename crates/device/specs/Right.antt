@@ -4,7 +4,8 @@ use Prim.Native.Nat.{ℕ, _+_, _*_, _-_, _/_, _%_, _≤_, _<_, max}
 use mathlib.Core.Path.{_≡_}
 use mathlib.Core.Bool.{false}
 use mathlib.Core.List.{List, [], _∷_}
-use lib.ListN.{length, take, drop}
+use lib.ListN.{length, getD, take, drop}
+use lib.Bits.{bitAnd, bitXor}
 use Rattle.octets.specs.Bytes.{numAt, bytesOf}
 use Rattle.octets.specs.Splice.{splice}
 use Rattle.sheet.specs.Kind.{regions, properties, groups}
@@ -22,7 +23,6 @@ use Rattle.pdu.specs.declared.Service.{Service}
 use Rattle.pdu.specs.declared.Pdu.{Pdu}
 use Rattle.pdu.specs.declared.Pdu.the-variants.{GroupValueRead, GroupValueResponse, GroupValueWrite, IndividualAddressWrite, IndividualAddressRead, SerialNumberRead, SerialNumberWrite, DeviceDescriptorRead, PropertyValueRead, PropertyValueWrite, PropertyDescriptionRead, MemoryRead, MemoryWrite, MemoryBitWrite, AuthorizeRequest, KeyWrite, Restart, IndividualAddressResponse, SerialNumberResponse, DeviceDescriptorResponse, PropertyValueResponse, PropertyDescriptionResponse, MemoryResponse, AuthorizeResponse, KeyResponse}
 use Rattle.pdu.specs.declared.Parsed.the-variants.{Refused}
-use Rattle.device.specs.Carry.{build, bitAt}
 use Rattle.device.specs.Step.{Step}
 use Rattle.device.specs.Asked.{Asked, quiet, says, saysAfter, stores, Takes, Names, Served, Refusal, Ready, Reads, given, Acts}
 
@@ -120,6 +120,12 @@ pub record BitsWritable (x : Asked) (n address i : ℕ) : Type 0 where
   pub acts : Acts x level
   pub read : level ≤ region.levels of entry (x .sheet) regions i / 16
   pub write : level ≤ region.levels of entry (x .sheet) regions i % 16
+
+-- d is what it leaves of the n bytes from place o on: (old AND a) XOR x for each, the data being n AND bytes a and then n XOR bytes x
+pub record Combined (s : List ℕ) (o n : ℕ) (given d : List ℕ) : Type 0 where
+  pub long : length d ≡ n
+  pub each :
+      (i : ℕ) → i < n → getD d i 0 ≡ bitXor (bitAnd (getD s (o + i) 0) (getD given i 0)) (getD given (n + i) 0)
 
 abbrev pub Verify : Asked → Type 0
 Verify x = head.verify (x .sheet) ≡ 1
@@ -264,13 +270,13 @@ pub data Right (x : Asked) : Step → Type 0 where
       (Verify x → ⊥) → Right x (quiet x 12)
   bitWriteVerified :
       (n address i : ℕ) (d : List ℕ) → Reads x (MemoryBitWrite n address) → BitsWritable x n address i →
-      d ≡ build n (bitAt (x .sheet) (memoryAt (entry (x .sheet) regions i) address) n (given x (MemoryBitWrite n address))) →
+      Combined (x .sheet) (memoryAt (entry (x .sheet) regions i) address) n (given x (MemoryBitWrite n address)) d →
       Verify x →
       Right x
       (saysAfter x (splice (x .sheet) (memoryAt (entry (x .sheet) regions i) address) d) (MemoryResponse n address) d)
   bitWrite :
       (n address i : ℕ) (d : List ℕ) → Reads x (MemoryBitWrite n address) → BitsWritable x n address i →
-      d ≡ build n (bitAt (x .sheet) (memoryAt (entry (x .sheet) regions i) address) n (given x (MemoryBitWrite n address))) →
+      Combined (x .sheet) (memoryAt (entry (x .sheet) regions i) address) n (given x (MemoryBitWrite n address)) d →
       (Verify x → ⊥) → Right x (stores x (splice (x .sheet) (memoryAt (entry (x .sheet) regions i) address) d))
   noBitWriteVerified :
       (n address : ℕ) → Reads x (MemoryBitWrite n address) → ((i : ℕ) → BitsWritable x n address i → ⊥) → Verify x →
@@ -293,7 +299,7 @@ pub data Right (x : Asked) : Step → Type 0 where
       Right x (saysAfter x (splice (x .sheet) ((head.key named) .at) (bytesOf 4 key)) (KeyResponse named) [])
   noKeyWrite :
       (named key : ℕ) → Reads x (KeyWrite named key) → (KeyWritable x named → ⊥) → Right x (says x 11 (KeyResponse 255) [])
-  -- restart
+  -- restart: programming mode is cleared, verify stays
   restart :
       Reads x Restart →
       Right x
@@ -301,5 +307,5 @@ pub data Right (x : Asked) : Step → Type 0 where
         outcome = 1;
         answer = [];
         session = record { opened = false; level = 3 };
-        sheet = splice (x .sheet) (head.flags .at) (bytesOf 1 (head.flags of x .sheet - head.programming (x .sheet)));
+        sheet = splice (x .sheet) (head.flags .at) (bytesOf 1 (head.verify (x .sheet) * 2));
       }

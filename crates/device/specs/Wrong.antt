@@ -1,6 +1,6 @@
 -- Devices that are wrong, to hold against demand 2.
 -- Assumes nothing.
-use Prim.Native.Nat.{ℕ}
+use Prim.Native.Nat.{ℕ, _+_}
 use mathlib.Core.List.{List}
 use mathlib.Core.Bool.{cond}
 use lib.Dec.{ltb}
@@ -11,6 +11,8 @@ use Rattle.sheet.specs.Entries.{count, entry}
 use Rattle.pdu.specs.Item.{the, Object, Id}
 use Rattle.pdu.specs.Pdus.{valuesOf}
 use Rattle.pdu.specs.Read.{readPdu}
+use Rattle.judge.specs.declared.Store.{Store}
+use Rattle.judge.specs.declared.Store.the-variants as store
 use Rattle.judge.specs.declared.Answer.{Answer}
 use Rattle.judge.specs.declared.Answer.the-variants as answer
 use Rattle.judge.specs.Properties.{propertyAt}
@@ -26,7 +28,7 @@ refusesAll n x = quiet x n
 unfoldable pub fixedAnswer : List ℕ → Asked → Step
 fixedAnswer b x = record { outcome = 0; answer = b; session = x .session; sheet = x .sheet }
 
--- it does all as ours does, but shows a property's maximum where its count is asked for
+-- it does all as ours does, but shows a property's maximum where its count is asked for: it invents the count that it answers
 unfoldable pub inflated : List ℕ → Answer → Answer
 inflated s answer.Silence = answer.Silence
 inflated s (answer.Plain p) = answer.Plain p
@@ -41,3 +43,17 @@ inventsCount x =
     let k = judgeOf (x .room) (x .sheet) (x .session) (x .mode) (x .group) (x .apdu) in
     stepBy (x .sheet) (x .session) (dataIn (readPdu (x .apdu)) (x .apdu))
     record { outcome = k .outcome; first = k .first; second = k .second; turn = k .turn; answer = inflated (x .sheet) (k .answer) }
+
+-- it does all as ours does, but stores one more than a property's new count, the number in a second run: it invents the count that it stores
+unfoldable pub raised : Store → Store
+raised store.Nothing = store.Nothing
+raised (store.Number at w c) = store.Number at w (c + 1)
+raised (store.Data at) = store.Data at
+raised (store.Bits at n) = store.Bits at n
+raised (store.Fill at n b) = store.Fill at n b
+
+unfoldable pub inventsStored : Asked → Step
+inventsStored x =
+    let k = judgeOf (x .room) (x .sheet) (x .session) (x .mode) (x .group) (x .apdu) in
+    stepBy (x .sheet) (x .session) (dataIn (readPdu (x .apdu)) (x .apdu))
+    record { outcome = k .outcome; first = k .first; second = raised (k .second); turn = k .turn; answer = k .answer }

@@ -16,7 +16,6 @@ pub mod PropertyRun
 pub mod Invariant
 pub mod Requests
 pub mod Unheard
-pub mod Bit
 pub mod Writes
 pub mod MemorySteps
 pub mod KeySteps

@@ -17,9 +17,8 @@ use Rattle.sheet.proofs.Runs.{Covered}
 use Rattle.pdu.specs.declared.Pdu.the-variants.{MemoryWrite, MemoryBitWrite}
 use Rattle.device.specs.Octets.{Octets}
 use Rattle.device.specs.Events.{Event, State}
-use Rattle.device.specs.Carry.{build, bitAt}
 use Rattle.device.specs.Asked.{Asked, Reads, given}
-use Rattle.device.specs.Right.{InRegion, MemoryWritable, BitsWritable, memoryAt}
+use Rattle.device.specs.Right.{InRegion, MemoryWritable, BitsWritable, Combined, memoryAt}
 use Rattle.history.specs.Location.{Location, memory}
 use Rattle.history.specs.Wish.{writeMemory, writeBits}
 use Rattle.history.specs.Permit.{names, gives}
@@ -27,7 +26,6 @@ use Rattle.history.specs.History.{First, content}
 use Rattle.history.specs.Others.{programming, individual, groupByte}
 use Rattle.history.specs.Keeps.{Begins}
 use Rattle.history.specs.Rightful.{asked}
-use Rattle.history.proofs.Bit.{length-build, build-at}
 use Rattle.history.proofs.Carried.{memory-data}
 use Rattle.history.proofs.Framed.{covered-same, below-same}
 use Rattle.history.proofs.Invariant.{Inv, fine, now}
@@ -108,26 +106,23 @@ module _ (f : First) (b : Begins f) (h : List Event) (x : State) (inv : Inv f h 
   -- A BIT WRITE, carried out
   pub bits-written :
       (n y i : ℕ) (d : List ℕ) → Reads R (MemoryBitWrite n y) → BitsWritable R n y i →
-      d ≡ build n (bitAt (x .sheet) (memoryAt (entry (x .sheet) regions i) y) n (given R (MemoryBitWrite n y))) →
+      Combined (x .sheet) (memoryAt (entry (x .sheet) regions i) y) n (given R (MemoryBitWrite n y)) d →
       (k : ℕ) (answer : List ℕ) → k ≤ 1 →
       Done f h mode g a out
       (record { outcome = k; answer = answer; session = x .session; sheet = splice (x .sheet) (memoryAt (entry (x .sheet) regions i) y) d })
-  unfolding gives bitAt
-  bits-written n y i d r w e k answer low =
+  unfolding gives
+  bits-written n y i d r w c k answer low =
       carried-out f b h x inv mode g a out (MemoryBitWrite n y) r tt
       (bits-is R (now inv b) n y (given R (MemoryBitWrite n y)) .1 (i, w))
       k answer _ low
       (range-stored n y i (w .range) (names (f .sheet) (writeBits n y)) (gives (f .sheet) (content f h) bytes (writeBits n y)) d
       (bits-range (f .sheet) n y)
-      (ap length e ∙ length-build n (bitAt (x .sheet) o n bytes))
-      (rw e (octets-bits (x .sheet) o n bytes (inv .means .octets) (octets-data (MemoryBitWrite n y) a octets)))
+      (c .long)
+      (octets-bits c (inv .means .octets) (octets-data (MemoryBitWrite n y) a octets))
       (λ j l.
       let z : y + j - y ≡ j = omega arith in
-      rw (e, build-at n (bitAt (x .sheet) o n bytes) j l, z, held n y i (w .range) j l)))
+      rw (c .each j l, z, held n y i (w .range) j l)))
     where
-      o : ℕ
-      o = memoryAt (entry (x .sheet) regions i) y
-
       bytes : List ℕ
       bytes = given R (MemoryBitWrite n y)
 

@@ -4,7 +4,7 @@ use Prim.Native.Nat.{ℕ, zero, suc, _+_, _-_, _/_, _%_, _<_, _≤_}
 use mathlib.Core.Path.{_≡_, ap, _∙_}
 use mathlib.Core.Logic.{inl, inr}
 use mathlib.Core.List.{List, [], _∷_, _++_}
-use lib.ListN.{length, getD}
+use lib.ListN.{length, getD, List·getD-eq-default}
 use lib.Seq.{getD-drop}
 use lib.Bits.{and-lt, xor-lt}
 use native.Mathlib.Decide.{decLt}
@@ -15,7 +15,7 @@ use Rattle.octets.proofs.Splices.{splice-in, splice-outside}
 use Rattle.pdu.specs.Read.{dataAt, dataOf}
 use Rattle.pdu.specs.declared.Pdu.{Pdu}
 use Rattle.device.specs.Octets.{Octets}
-use Rattle.device.specs.Carry.{build, bitAt}
+use Rattle.device.specs.Right.{Combined}
 
 pub octets-none : Octets []
 octets-none i = omega arith
@@ -39,16 +39,12 @@ pub octets-data : (p : Pdu) (a : List ℕ) → Octets a → Octets (dataOf p a)
 unfolding dataOf
 octets-data p a h i = rw (getD-drop (dataAt p) a i 0) (h (dataAt p + i))
 
-octets-build : (n : ℕ) (f : ℕ → ℕ) → ((i : ℕ) → f i < 256) → Octets (build n f)
-unfolding build
-octets-build zero f h = octets-none
-octets-build (suc n) f h = octets-append (build n f) (f n ∷ []) (octets-build n f h) (octets-one (f n) (h n))
-
-pub octets-bits : (s : List ℕ) (at n : ℕ) (d : List ℕ) → Octets s → Octets d → Octets (build n (bitAt s at n d))
-unfolding bitAt
-octets-bits s at n d p q =
-    octets-build n (bitAt s at n d)
-    (λ i. xor-lt 8 _ _ (and-lt 8 _ _ (p (at + i)) (q i)) (q (n + i)))
+pub octets-bits : {s : List ℕ} {o n : ℕ} {given d : List ℕ} → Combined s o n given d → Octets s → Octets given → Octets d
+octets-bits {s} {o} {n} {given} {d} c p q i = go (decLt i n)
+  where
+    go : Dec (i < n) → getD d i 0 < 256
+    go (yes l) = rw (c .each i l) (xor-lt 8 _ _ (and-lt 8 _ _ (p (o + i)) (q i)) (q (n + i)))
+    go (no l) = rw (List·getD-eq-default d 0 {n = i} (omega (arith, c .long))) (omega arith)
 
 pub octets-splice : (s : List ℕ) (o : ℕ) (ds : List ℕ) → o + length ds ≤ length s → Octets s → Octets ds → Octets (splice s o ds)
 octets-splice s o ds room a b p = go (decLt p o) (decLt p (o + length ds))

@@ -1,6 +1,6 @@
 -- The individual address, and a restart.
 -- Assumes nothing.
-use Prim.Native.Nat.{ℕ, _+_, _-_, _/_, _%_, _<_}
+use Prim.Native.Nat.{ℕ, _+_, _*_, _/_, _%_, _<_}
 use mathlib.Core.Path.{_≡_, refl, sym, _∙_}
 use mathlib.Core.Logic.{inl}
 use mathlib.Core.Bool.{true, false}
@@ -174,7 +174,7 @@ module _ (f : First) (b : Begins f) (h : List Event) (x : State) (inv : Inv f h 
         outcome = k;
         answer = answer;
         session = record { opened = false; level = 3 };
-        sheet = splice (x .sheet) (head.flags .at) (bytesOf 1 (head.flags of x .sheet - head.programming (x .sheet)));
+        sheet = splice (x .sheet) (head.flags .at) (bytesOf 1 (head.verify (x .sheet) * 2));
       })
   unfolding allowed
   restarted r k answer =
@@ -184,7 +184,7 @@ module _ (f : First) (b : Begins f) (h : List Event) (x : State) (inv : Inv f h 
               session = sym (opens-new f h mode g a out restart asked-so ok);
               rights = sym (levels-new f h mode g a out restart asked-so ok);
               means =
-                  means-as (store-flags (fine inv b) (inv .means) v (omega (arith, now inv b .zeros .0)) verify)
+                  means-as (store-flags (fine inv b) (inv .means) v (omega arith) verify)
                   (λ y. sym (contents-same f h mode g a out never-write y))
                   (sym (addresses-same f h mode g a out restart asked-so (λ m s v. refl)))
                   (let z : v % 2 ≡ 0 = omega arith in z ∙ sym (programs-new f h mode g a out restart asked-so ok))
@@ -195,7 +195,7 @@ module _ (f : First) (b : Begins f) (h : List Event) (x : State) (inv : Inv f h 
       }
     where
       v : ℕ
-      v = head.flags of x .sheet - head.programming (x .sheet)
+      v = head.verify (x .sheet) * 2
 
       asked-so : asks a ≡ restart
       asked-so = asks-is a Restart (r .reads)
