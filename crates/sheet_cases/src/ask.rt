@@ -3,10 +3,10 @@
 //   region K             the bytes of the body that is found, as hex digits; - for none
 //   property OBJECT ID
 //   group ADDRESS
-use check::same;
 use lines::number;
 use lines::put_all;
 use lines::put_hex;
+use lines::which;
 use lines::word;
 
 fn unclear(out: &mut [u8]) -> usize {
@@ -52,14 +52,11 @@ pub(crate) fn ask(sheet: &[u8], question: &[u8], out: &mut [u8]) -> usize {
         return rule(sheet, out);
     }
     let first = number(word(question, 2));
-    if same(what, b"region") {
-        return region(sheet, first, out);
+    let kind = which(b"region property group", what);
+    match kind {
+        0 => region(sheet, first, out),
+        1 => property(sheet, first, number(word(question, 3)), out),
+        2 => group(sheet, first, out),
+        _ => unclear(out),
     }
-    if same(what, b"property") {
-        return property(sheet, first, number(word(question, 3)), out);
-    }
-    if same(what, b"group") {
-        return group(sheet, first, out);
-    }
-    unclear(out)
 }
