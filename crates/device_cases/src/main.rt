@@ -56,7 +56,7 @@ fn with_tally(t: State, tally: Tally) -> State {
 
 fn unclear(line: &[u8], t: State) -> State {
     let old = t.tally;
-    with_tally(t, told(old, line, b"", b"line not understood"))
+    with_tally(t, lines::unclear(old, line))
 }
 
 // A case that gave something else: what it gave, and what was wanted.

@@ -6,6 +6,7 @@
 use crate::setup::Setup;
 use device::Done;
 use judge::Session;
+use lines::first;
 use lines::is_hex;
 use lines::part;
 use lines::put_unhex;
@@ -38,24 +39,18 @@ fn silent(outcome: u8, session: Session) -> Done {
     }
 }
 
-fn ask(q: Setup, apdu: &[u8], sheet: &mut [u8], out: &mut [u8]) -> Done {
-    device::request(session(q), q.mode, q.group, apdu, sheet, out)
-}
-
 // The request, with an answer buffer of the length said.
-fn request(q: Setup, apdu: &[u8], sheet: &mut [u8], out: &mut [u8]) -> Done {
-    let room = q.room;
-    if room < out.len() {
-        ask(q, apdu, sheet, &mut out[0..room])
-    } else {
-        ask(q, apdu, sheet, out)
-    }
-}
-
-fn request_in(q: Setup, hex: &[u8], sheet: &mut [u8], out: &mut [u8]) -> Done {
+fn request(q: Setup, hex: &[u8], sheet: &mut [u8], out: &mut [u8]) -> Done {
     let mut apdu = [0u8; 64];
     let n = put_unhex(&mut apdu, 0, hex);
-    request(q, part(&apdu, 0, n), sheet, out)
+    device::request(
+        session(q),
+        q.mode,
+        q.group,
+        part(&apdu, 0, n),
+        sheet,
+        first(out, q.room),
+    )
 }
 
 fn event(q: Setup, event: &[u8], sheet: &mut [u8], out: &mut [u8]) -> Done {
@@ -66,15 +61,11 @@ fn event(q: Setup, event: &[u8], sheet: &mut [u8], out: &mut [u8]) -> Done {
         2 => silent(1, device::disconnect(session(q))),
         3 => silent(device::button(sheet, true), session(q)),
         4 => silent(device::button(sheet, false), session(q)),
-        _ => request_in(q, event, sheet, out),
+        _ => request(q, event, sheet, out),
     }
 }
 
 // An event on the first len bytes, which are the sheet.
 pub(crate) fn play(q: Setup, text: &[u8], s: &mut [u8], len: usize, out: &mut [u8]) -> Done {
-    if len < s.len() {
-        event(q, text, &mut s[0..len], out)
-    } else {
-        event(q, text, s, out)
-    }
+    event(q, text, first(s, len), out)
 }

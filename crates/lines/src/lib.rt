@@ -12,6 +12,7 @@ pub use out::put;
 pub use out::put_all;
 pub use out::put_decimal;
 pub use out::put_digits;
+pub use out::put_unclear;
 pub use out::say;
 pub use tally::Tally;
 pub use tally::begin;
@@ -19,6 +20,7 @@ pub use tally::counted;
 pub use tally::end;
 pub use tally::is_remark;
 pub use tally::told;
+pub use tally::unclear;
 pub use value::digits;
 pub use value::number;
 ghost use mathlib.Core.Path.{_≡_};
@@ -39,6 +41,11 @@ pub fn part(s: &[u8], from: usize, to: usize) -> &[u8] {
 // The part from a place on.
 pub fn rest(s: &[u8], from: usize) -> &[u8] {
     part(s, from, s.len())
+}
+
+// The first so many bytes, or all where there are fewer.
+pub fn first(s: &mut [u8], n: usize) -> &mut [u8] {
+    if n < s.len() { &mut s[0..n] } else { s }
 }
 
 // The place of the first such byte from a place on, or the end.

@@ -34,6 +34,11 @@ pub fn put_digits(out: &mut [u8], at: usize, n: u64, width: usize) -> usize {
     put_all(out, at, &text[..k])
 }
 
+// What a line gives that does not say what to do.
+pub fn put_unclear(out: &mut [u8]) -> usize {
+    put_all(out, 0, b"line not understood")
+}
+
 pub fn say(before: &[u8], line: &[u8]) {
     io::write_all(STDOUT_FILENO, before);
     io::write_all(STDOUT_FILENO, line);

@@ -42,6 +42,11 @@ pub fn told(t: Tally, line: &[u8], want: &[u8], got: &[u8]) -> Tally {
     counted(t, true)
 }
 
+// One case more, of a line that does not say what to do.
+pub fn unclear(t: Tally, line: &[u8]) -> Tally {
+    told(t, line, b"", b"line not understood")
+}
+
 // The counts, after an input of so many bytes: `io::large_buffer` has no room for more.
 pub fn end(t: Tally, read: usize) {
     io::print_decimal(STDOUT_FILENO, t.cases);

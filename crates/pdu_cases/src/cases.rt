@@ -15,16 +15,13 @@ use lines::part;
 use lines::put_all;
 use lines::put_decimal;
 use lines::put_hex;
+use lines::put_unclear;
 use lines::put_unhex;
 use lines::rest;
 use lines::which;
 use lines::word;
 use std::num::wrapping_add_usize;
 use std::num::wrapping_sub_usize;
-
-fn unclear(got: &mut [u8]) -> usize {
-    put_all(got, 0, b"line not understood")
-}
 
 // The length of what was got, or 0 where it is what is wanted.
 fn unless(want: &[u8], got: &[u8]) -> usize {
@@ -122,7 +119,7 @@ pub(crate) fn reads_and_writes(apdu: &[u8], text: &[u8], got: &mut [u8]) -> usiz
 // `HEX`
 fn read_case(hex: &[u8], answer: &[u8], got: &mut [u8]) -> usize {
     if !is_hex(hex) {
-        return unclear(got);
+        return put_unclear(got);
     }
     let mut apdu = [0u8; 64];
     let n = put_unhex(&mut apdu, 0, hex);
@@ -134,7 +131,7 @@ fn write_case(pdu: &[u8], room: usize, answer: &[u8], got: &mut [u8]) -> usize {
     let p = plain::cut(taken(pdu));
     let n = put_pdu(got, 0, p);
     if !same(part(got, 0, n), pdu) {
-        return unclear(got);
+        return put_unclear(got);
     }
     writes(p, room, answer, got)
 }
@@ -143,7 +140,7 @@ fn write_case(pdu: &[u8], room: usize, answer: &[u8], got: &mut [u8]) -> usize {
 fn into_case(words: &[u8], answer: &[u8], got: &mut [u8]) -> usize {
     let room = number(word(words, 0));
     if 20 < room {
-        return unclear(got);
+        return put_unclear(got);
     }
     write_case(beyond(words, b' '), room as usize, answer, got)
 }
@@ -156,7 +153,7 @@ fn command_case(command: &[u8], answer: &[u8], got: &mut [u8]) -> usize {
         0 => read_case(words, answer, got),
         1 => write_case(words, 20, answer, got),
         2 => into_case(words, answer, got),
-        _ => unclear(got),
+        _ => put_unclear(got),
     }
 }
 
@@ -165,11 +162,11 @@ pub(crate) fn case(line: &[u8], got: &mut [u8]) -> usize {
     let arrow = wrapping_sub_usize(find(line, 0, b'>'), 2);
     let from = wrapping_add_usize(arrow, 4);
     if !same(part(line, arrow, from), b" -> ") {
-        return unclear(got);
+        return put_unclear(got);
     }
     let bar = wrapping_sub_usize(find(line, from, b'|'), 1);
     if !same(part(line, bar, wrapping_add_usize(bar, 3)), b" | ") {
-        return unclear(got);
+        return put_unclear(got);
     }
     command_case(part(line, 0, arrow), part(line, from, bar), got)
 }

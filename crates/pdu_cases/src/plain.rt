@@ -1,4 +1,5 @@
 // The PDU layer in plain numbers: a PDU is the number of its kind, the numbers of its fields in order, and its data.
+use lines::first;
 use lines::part;
 use lines::put_all;
 use pdu::Found;
@@ -207,21 +208,16 @@ pub(crate) fn cut(p: Plain) -> Plain {
     accepted(apart(built(p.kind, x)), part(&data, 0, p.len))
 }
 
-// Writing into the first so many bytes of a buffer.
-fn write_into(p: Pdu, data: &[u8], out: &mut [u8], room: usize) -> Written {
-    if room < out.len() {
-        pdu::write(p, data, &mut out[0..room])
-    } else {
-        pdu::write(p, data, out)
-    }
-}
-
 // The PDU written into the first so many of 20 bytes of EEh.
 pub(crate) fn write(p: Plain, room: usize) -> Output {
     let x = p.x;
     let data = p.data;
     let mut out = [0xEEu8; 20];
-    let w = write_into(built(p.kind, x), part(&data, 0, p.len), &mut out, room);
+    let w = pdu::write(
+        built(p.kind, x),
+        part(&data, 0, p.len),
+        first(&mut out, room),
+    );
     match w {
         Written::Bytes(count) => Output {
             outcome: 0,

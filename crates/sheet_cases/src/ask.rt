@@ -6,12 +6,9 @@
 use lines::number;
 use lines::put_all;
 use lines::put_hex;
+use lines::put_unclear;
 use lines::which;
 use lines::word;
-
-fn unclear(out: &mut [u8]) -> usize {
-    put_all(out, 0, b"line not understood")
-}
 
 fn rule(sheet: &[u8], out: &mut [u8]) -> usize {
     let broken = sheet::check(sheet);
@@ -23,24 +20,24 @@ fn rule(sheet: &[u8], out: &mut [u8]) -> usize {
 
 fn region(sheet: &[u8], k: u64, out: &mut [u8]) -> usize {
     if 4294967295 < k {
-        return unclear(out);
+        return put_unclear(out);
     }
     put_hex(out, 0, sheet::region(sheet, k as usize))
 }
 
 fn property(sheet: &[u8], object: u64, id: u64, out: &mut [u8]) -> usize {
     if 255 < object {
-        return unclear(out);
+        return put_unclear(out);
     }
     if 255 < id {
-        return unclear(out);
+        return put_unclear(out);
     }
     put_hex(out, 0, sheet::property(sheet, object as u8, id as u8))
 }
 
 fn group(sheet: &[u8], address: u64, out: &mut [u8]) -> usize {
     if 65535 < address {
-        return unclear(out);
+        return put_unclear(out);
     }
     put_hex(out, 0, sheet::group(sheet, address as u16))
 }
@@ -57,6 +54,6 @@ pub(crate) fn ask(sheet: &[u8], question: &[u8], out: &mut [u8]) -> usize {
         0 => region(sheet, first, out),
         1 => property(sheet, first, number(word(question, 3)), out),
         2 => group(sheet, first, out),
-        _ => unclear(out),
+        _ => put_unclear(out),
     }
 }

@@ -17,9 +17,11 @@ use lines::find;
 use lines::is_remark;
 use lines::part;
 use lines::put_all;
+use lines::put_unclear;
 use lines::rest;
 use lines::say;
 use lines::told;
+use lines::unclear;
 use lines::word;
 use words::with_words;
 
@@ -40,7 +42,7 @@ struct State {
 fn answered(line: &[u8], s: &mut [u8], base: Draft, got: &mut [u8]) -> usize {
     let d = with_words(s, base, before(line, b'?'));
     if !d.fine {
-        return put_all(got, 0, b"line not understood");
+        return put_unclear(got);
     }
     ask(part(s, 0, d.len), beyond(line, b'?'), got)
 }
@@ -71,7 +73,7 @@ fn with_base(line: &[u8], base: &mut [u8], t: State) -> State {
             tally: tally,
         };
     }
-    let next = told(tally, line, b"a base", b"line not understood");
+    let next = unclear(tally, line);
     State {
         base: empty(),
         tally: next,
