@@ -11,12 +11,15 @@ use device::Done;
 use libc::STDIN_FILENO;
 use lines::Tally;
 use lines::after;
+use lines::begin;
 use lines::find;
+use lines::is_remark;
 use lines::part;
 use lines::put_all;
 use lines::rest;
 use lines::say;
 use lines::told;
+use lines::which;
 use lines::word;
 use play::is_event;
 use play::play;
@@ -53,7 +56,7 @@ fn with_tally(t: State, tally: Tally) -> State {
 
 fn unclear(line: &[u8], t: State) -> State {
     let old = t.tally;
-    with_tally(t, told(old, line, b"", b"line not understood"))
+    with_tally(t, lines::unclear(old, line))
 }
 
 // A case that gave something else: what it gave, and what was wanted.
@@ -159,28 +162,25 @@ fn with_sheet(line: &[u8], base: &mut [u8], t: State) -> State {
     }
 }
 
+// A case on the sheet that cases start from.
+fn with_new(line: &[u8], base: &[u8], s: &mut [u8], w: &mut [u8], t: State) -> State {
+    put_all(s, 0, base);
+    with_case(line, base, s, w, found(true, 3, false), t)
+}
+
 // A line by its first word.
 fn by_word(line: &[u8], base: &mut [u8], s: &mut [u8], w: &mut [u8], t: State) -> State {
-    let first = word(line, 0);
-    if same(first, b"sheet") {
-        return with_sheet(line, base, t);
+    let first = which(b"sheet at then", word(line, 0));
+    match first {
+        0 => with_sheet(line, base, t),
+        1 => with_new(line, base, s, w, t),
+        2 => with_case(line, base, s, w, found(t.opened, t.level, true), t),
+        _ => unclear(line, t),
     }
-    if same(first, b"at") {
-        put_all(s, 0, base);
-        return with_case(line, base, s, w, found(true, 3, false), t);
-    }
-    if same(first, b"then") {
-        return with_case(line, base, s, w, found(t.opened, t.level, true), t);
-    }
-    unclear(line, t)
 }
 
 fn with_line(line: &[u8], base: &mut [u8], s: &mut [u8], w: &mut [u8], t: State) -> State {
-    if line.len() == 0 {
-        say(b"", line);
-        return t;
-    }
-    if line[0] == b'#' {
+    if is_remark(line) {
         say(b"", line);
         return t;
     }
@@ -192,10 +192,7 @@ fn with_all(text: &[u8], base: &mut [u8], s: &mut [u8], w: &mut [u8]) -> Tally {
         len: 0,
         opened: false,
         level: 3,
-        tally: Tally {
-            cases: 0,
-            different: 0,
-        },
+        tally: begin(),
     };
     let mut at = 0;
     while at < text.len() {
@@ -213,8 +210,5 @@ fn main() {
     let mut s = [0u8; 256];
     let mut w = [0u8; 256];
     let tally = with_all(&text[..n], &mut base, &mut s, &mut w);
-    lines::end(tally);
-    if n == 65536 {
-        say(b"", b"there may be more cases than that");
-    }
+    lines::end(tally, n);
 }

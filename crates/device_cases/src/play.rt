@@ -3,35 +3,25 @@
 //   fresh                    a new session
 //   connect, disconnect
 //   press, release           the programming button on, off
-use crate::hex::bytes;
-use crate::hex::is_bytes;
 use crate::setup::Setup;
-use check::same;
 use device::Done;
 use judge::Session;
+use lines::first;
+use lines::is_hex;
 use lines::part;
+use lines::put_unhex;
+use lines::which;
 
-fn is_name(event: &[u8]) -> bool {
-    if same(event, b"fresh") {
-        return true;
-    }
-    if same(event, b"connect") {
-        return true;
-    }
-    if same(event, b"disconnect") {
-        return true;
-    }
-    if same(event, b"press") {
-        return true;
-    }
-    same(event, b"release")
+// Which of the named events it is; 5 for none.
+fn event_named(event: &[u8]) -> usize {
+    which(b"fresh connect disconnect press release", event)
 }
 
 pub(crate) fn is_event(event: &[u8]) -> bool {
-    if is_name(event) {
+    if event_named(event) < 5 {
         return true;
     }
-    is_bytes(event)
+    is_hex(event)
 }
 
 fn session(q: Setup) -> Session {
@@ -49,46 +39,33 @@ fn silent(outcome: u8, session: Session) -> Done {
     }
 }
 
-fn ask(q: Setup, apdu: &[u8], sheet: &mut [u8], out: &mut [u8]) -> Done {
-    device::request(session(q), q.mode, q.group, apdu, sheet, out)
-}
-
 // The request, with an answer buffer of the length said.
-fn request(q: Setup, apdu: &[u8], sheet: &mut [u8], out: &mut [u8]) -> Done {
-    let room = q.room;
-    if room < out.len() {
-        ask(q, apdu, sheet, &mut out[0..room])
-    } else {
-        ask(q, apdu, sheet, out)
-    }
+fn request(q: Setup, hex: &[u8], sheet: &mut [u8], out: &mut [u8]) -> Done {
+    let mut apdu = [0u8; 64];
+    let n = put_unhex(&mut apdu, 0, hex);
+    device::request(
+        session(q),
+        q.mode,
+        q.group,
+        part(&apdu, 0, n),
+        sheet,
+        first(out, q.room),
+    )
 }
 
 fn event(q: Setup, event: &[u8], sheet: &mut [u8], out: &mut [u8]) -> Done {
-    if same(event, b"fresh") {
-        return silent(1, device::fresh());
+    let name = event_named(event);
+    match name {
+        0 => silent(1, device::fresh()),
+        1 => silent(1, device::connect(session(q))),
+        2 => silent(1, device::disconnect(session(q))),
+        3 => silent(device::button(sheet, true), session(q)),
+        4 => silent(device::button(sheet, false), session(q)),
+        _ => request(q, event, sheet, out),
     }
-    if same(event, b"connect") {
-        return silent(1, device::connect(session(q)));
-    }
-    if same(event, b"disconnect") {
-        return silent(1, device::disconnect(session(q)));
-    }
-    if same(event, b"press") {
-        return silent(device::button(sheet, true), session(q));
-    }
-    if same(event, b"release") {
-        return silent(device::button(sheet, false), session(q));
-    }
-    let mut apdu = [0u8; 64];
-    let n = bytes(&mut apdu, event);
-    request(q, part(&apdu, 0, n), sheet, out)
 }
 
 // An event on the first len bytes, which are the sheet.
 pub(crate) fn play(q: Setup, text: &[u8], s: &mut [u8], len: usize, out: &mut [u8]) -> Done {
-    if len < s.len() {
-        event(q, text, &mut s[0..len], out)
-    } else {
-        event(q, text, s, out)
-    }
+    event(q, text, first(s, len), out)
 }

@@ -10,10 +10,14 @@
 use crate::hex::poke;
 use check::same;
 use lines::after;
+use lines::before;
+use lines::beyond;
 use lines::find;
 use lines::number;
 use lines::part;
-use lines::rest;
+use lines::put;
+use lines::which;
+use octets::byte;
 
 // What a request comes with; whether it follows on a case before it, and whether every word was understood.
 pub struct Setup {
@@ -104,33 +108,14 @@ fn verify_bit(b: u8, on: bool) -> u8 {
     }
 }
 
-fn with_button(s: &mut [u8], q: Setup, word: &[u8]) -> Setup {
-    if s.len() < 15 {
-        return wrong(q);
-    }
-    let b = s[14];
+// The sheet's byte 14 as it is with a bit on, or off.
+fn with_flag(s: &mut [u8], q: Setup, word: &[u8], on: u8, off: u8) -> Setup {
     if same(word, b"on") {
-        s[14] = button_bit(b, true);
+        put(s, 14, on);
         return q;
     }
     if same(word, b"off") {
-        s[14] = button_bit(b, false);
-        return q;
-    }
-    wrong(q)
-}
-
-fn with_verify(s: &mut [u8], q: Setup, word: &[u8]) -> Setup {
-    if s.len() < 15 {
-        return wrong(q);
-    }
-    let b = s[14];
-    if same(word, b"on") {
-        s[14] = verify_bit(b, true);
-        return q;
-    }
-    if same(word, b"off") {
-        s[14] = verify_bit(b, false);
+        put(s, 14, off);
         return q;
     }
     wrong(q)
@@ -145,40 +130,33 @@ fn with_bytes(s: &mut [u8], len: usize, q: Setup, place: u64, hex: &[u8]) -> Set
 
 // A word about the sheet.
 fn with_sheet(s: &mut [u8], len: usize, q: Setup, name: &[u8], value: &[u8]) -> Setup {
-    if same(name, b"button") {
-        return with_button(s, q, value);
+    let b = (byte(s, 14) % 256) as u8;
+    let flag = which(b"button verify", name);
+    match flag {
+        0 => with_flag(s, q, value, button_bit(b, true), button_bit(b, false)),
+        1 => with_flag(s, q, value, verify_bit(b, true), verify_bit(b, false)),
+        _ => with_bytes(s, len, q, number(name), value),
     }
-    if same(name, b"verify") {
-        return with_verify(s, q, value);
-    }
-    with_bytes(s, len, q, number(name), value)
 }
 
 fn with_value(s: &mut [u8], len: usize, q: Setup, name: &[u8], value: &[u8]) -> Setup {
-    if same(name, b"mode") {
-        return with_mode(q, number(value));
+    let x = number(value);
+    let what = which(b"mode open level group buf", name);
+    match what {
+        0 => with_mode(q, x),
+        1 => with_open(q, x),
+        2 => with_level(q, x),
+        3 => with_group(q, x),
+        4 => with_room(q, x),
+        _ => with_sheet(s, len, q, name, value),
     }
-    if same(name, b"open") {
-        return with_open(q, number(value));
-    }
-    if same(name, b"level") {
-        return with_level(q, number(value));
-    }
-    if same(name, b"group") {
-        return with_group(q, number(value));
-    }
-    if same(name, b"buf") {
-        return with_room(q, number(value));
-    }
-    with_sheet(s, len, q, name, value)
 }
 
 fn with_word(s: &mut [u8], len: usize, q: Setup, word: &[u8]) -> Setup {
     if word.len() == 0 {
         return q;
     }
-    let eq = find(word, 0, b'=');
-    with_value(s, len, q, part(word, 0, eq), rest(word, after(word, eq)))
+    with_value(s, len, q, before(word, b'='), beyond(word, b'='))
 }
 
 pub(crate) fn with_words(s: &mut [u8], len: usize, q: Setup, words: &[u8]) -> Setup {

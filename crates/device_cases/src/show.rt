@@ -2,14 +2,9 @@
 // sheet differs from the one that cases start from.
 use lines::put;
 use lines::put_all;
+use lines::put_decimal;
 use lines::put_hex;
 use octets::byte;
-
-fn put_decimal(out: &mut [u8], at: usize, n: u64) -> usize {
-    let mut text = [0u8; 20];
-    let k = io::decimal(n, &mut text);
-    put_all(out, at, &text[..k])
-}
 
 fn put_session(out: &mut [u8], at: usize, opened: bool, level: u8) -> usize {
     let a = put_all(out, at, b" open=");

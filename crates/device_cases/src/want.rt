@@ -1,15 +1,15 @@
-// What a case is to give: ` OUTCOME ANSWER CHANGES `. The answer is hex, or - for none. The changes are
+// What a case is to give: ` OUTCOME ANSWER CHANGES `. The answer is hex, or - for none. The changes are words as those that set
+// a case up (setup.rt), of the session and the sheet alone:
 //   open=N, level=N   what is different about the session
 //   PLACE=HEX         what is different in the sheet
-use crate::hex::bytes;
-use crate::hex::is_bytes;
-use crate::hex::poke;
 use crate::setup::Setup;
-use check::same;
+use crate::setup::found;
+use crate::setup::with_words;
 use lines::after;
 use lines::find;
+use lines::is_hex;
 use lines::number;
-use lines::part;
+use lines::put_unhex;
 use lines::rest;
 use lines::word;
 
@@ -22,102 +22,47 @@ pub struct Want {
     pub fine: bool,
 }
 
-fn wrong(w: Want) -> Want {
-    let mut r = w;
-    r.fine = false;
-    r
+// The session that a case is to leave. It is not fine where a word is not understood, or changes what a request comes with.
+fn left(q: Setup, s: &mut [u8], len: usize, changes: &[u8]) -> Setup {
+    let old = found(q.opened, q.level, true);
+    let mut new = with_words(s, len, old, changes);
+    if new.mode != old.mode {
+        new.fine = false;
+    }
+    if new.group != old.group {
+        new.fine = false;
+    }
+    if new.room != old.room {
+        new.fine = false;
+    }
+    new
 }
 
-// The session as found, and nothing answered.
-fn silent(q: Setup) -> Want {
-    Want {
-        outcome: 0,
-        count: 0,
-        opened: q.opened,
-        level: q.level,
-        fine: true,
+fn is_fine(outcome: u64, hex: &[u8], q: Setup) -> bool {
+    if 255 < outcome {
+        return false;
     }
-}
-
-fn with_outcome(w: Want, x: u64) -> Want {
-    if 255 < x {
-        return wrong(w);
+    if !is_hex(hex) {
+        return false;
     }
-    let mut r = w;
-    r.outcome = x as u8;
-    r
-}
-
-fn with_answer(answer: &mut [u8], w: Want, hex: &[u8]) -> Want {
-    if !is_bytes(hex) {
-        return wrong(w);
-    }
-    let mut r = w;
-    r.count = bytes(answer, hex);
-    r
-}
-
-fn with_open(w: Want, x: u64) -> Want {
-    if 1 < x {
-        return wrong(w);
-    }
-    let mut r = w;
-    r.opened = x == 1;
-    r
-}
-
-fn with_level(w: Want, x: u64) -> Want {
-    if 255 < x {
-        return wrong(w);
-    }
-    let mut r = w;
-    r.level = x as u8;
-    r
-}
-
-fn with_bytes(s: &mut [u8], len: usize, w: Want, place: u64, hex: &[u8]) -> Want {
-    if poke(s, len, place, hex) {
-        return w;
-    }
-    wrong(w)
-}
-
-fn with_value(s: &mut [u8], len: usize, w: Want, name: &[u8], value: &[u8]) -> Want {
-    if same(name, b"open") {
-        return with_open(w, number(value));
-    }
-    if same(name, b"level") {
-        return with_level(w, number(value));
-    }
-    with_bytes(s, len, w, number(name), value)
-}
-
-fn with_change(s: &mut [u8], len: usize, w: Want, word: &[u8]) -> Want {
-    if word.len() == 0 {
-        return w;
-    }
-    let eq = find(word, 0, b'=');
-    with_value(s, len, w, part(word, 0, eq), rest(word, after(word, eq)))
-}
-
-fn with_changes(s: &mut [u8], len: usize, w: Want, words: &[u8]) -> Want {
-    let mut now = w;
-    let mut at = 0;
-    while at < words.len() {
-        let end = find(words, at, b' ');
-        now = with_change(s, len, now, part(words, at, end));
-        at = after(words, end);
-    }
-    now
+    q.fine
 }
 
 // What is wanted, with the sheet and the answer buffer as they should be afterwards.
 pub(crate) fn wanted(text: &[u8], q: Setup, s: &mut [u8], len: usize, answer: &mut [u8]) -> Want {
     let a = find(text, 1, b' ');
     let b = find(text, after(text, a), b' ');
-    let outcome = with_outcome(silent(q), number(word(text, 1)));
-    let answered = with_answer(answer, outcome, word(text, 2));
-    with_changes(s, len, answered, rest(text, b))
+    let outcome = number(word(text, 1));
+    let hex = word(text, 2);
+    let count = put_unhex(answer, 0, hex);
+    let new = left(q, s, len, rest(text, b));
+    Want {
+        outcome: (outcome % 256) as u8,
+        count: count,
+        opened: new.opened,
+        level: new.level,
+        fine: is_fine(outcome, hex, new),
+    }
 }
 
 pub(crate) fn is_wanted(w: Want, outcome: u8, count: usize, opened: bool, level: u8) -> bool {

@@ -21,27 +21,22 @@ pub fn put_all(out: &mut [u8], at: usize, src: &[u8]) -> usize {
     to
 }
 
-fn glyph(d: u8) -> u8 {
-    if d < 10 { b'0' + d } else { 87 + d % 16 }
+pub fn put_decimal(out: &mut [u8], at: usize, n: u64) -> usize {
+    let mut text = [0u8; 20];
+    let k = io::decimal(n, &mut text);
+    put_all(out, at, &text[..k])
 }
 
-// Bytes as hex digits, `-` for none.
-pub fn put_hex(out: &mut [u8], at: usize, src: &[u8]) -> usize {
-    if src.len() == 0 {
-        return put(out, at, b'-');
-    }
-    put_bytes(out, at, src)
+// A number in hex digits, at least so many.
+pub fn put_digits(out: &mut [u8], at: usize, n: u64, width: usize) -> usize {
+    let mut text = [0u8; 16];
+    let k = io::hex(n, width, &mut text);
+    put_all(out, at, &text[..k])
 }
 
-fn put_bytes(out: &mut [u8], at: usize, src: &[u8]) -> usize {
-    let mut to = at;
-    let mut i = 0;
-    while i < src.len() {
-        to = put(out, to, glyph(src[i] / 16));
-        to = put(out, to, glyph(src[i] % 16));
-        i += 1;
-    }
-    to
+// What a line gives that does not say what to do.
+pub fn put_unclear(out: &mut [u8]) -> usize {
+    put_all(out, 0, b"line not understood")
 }
 
 pub fn say(before: &[u8], line: &[u8]) {

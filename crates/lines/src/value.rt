@@ -1,8 +1,6 @@
-// Numbers in text, and bytes as hex digits.
-use crate::after;
-use crate::out::put;
-use crate::part;
+// Numbers in text.
 use crate::rest;
+use crate::starts;
 
 // What is no number is this one, which fits no place.
 const NONE: u64 = u64::MAX;
@@ -32,7 +30,7 @@ fn digit(b: u8) -> u64 {
 
 // A number with one digit more.
 fn longer(x: u64, base: u64, d: u64) -> u64 {
-    if 4294967295 < x {
+    if 1152921504606846975 < x {
         return NONE;
     }
     if base <= d {
@@ -45,7 +43,8 @@ fn longer(x: u64, base: u64, d: u64) -> u64 {
     }
 }
 
-fn digits(s: &[u8], base: u64) -> u64 {
+// The number that digits are, decimal or hex.
+pub fn digits(s: &[u8], base: u64) -> u64 {
     if s.len() == 0 {
         return NONE;
     }
@@ -60,21 +59,9 @@ fn digits(s: &[u8], base: u64) -> u64 {
 
 // The number that a text is: decimal, or hex after 0x.
 pub fn number(s: &[u8]) -> u64 {
-    if check::same(part(s, 0, 2), b"0x") {
+    if starts(s, b"0x") {
         digits(rest(s, 2), 16)
     } else {
         digits(s, 10)
     }
-}
-
-// The bytes that pairs of hex digits are, stored from a place on, and the place after them. What is no digit gives FFh.
-pub fn put_unhex(out: &mut [u8], at: usize, s: &[u8]) -> usize {
-    let mut to = at;
-    let mut i = 0;
-    while i < s.len() {
-        let next = after(s, after(s, i));
-        to = put(out, to, (digits(part(s, i, next), 16) % 256) as u8);
-        i = next;
-    }
-    to
 }

@@ -1,15 +1,10 @@
 // The whole code table: what the two bytes of each code read as, in runs of codes that read alike.
 use crate::cases::reads_and_writes;
 use crate::plain;
-use crate::say;
-use crate::text::Text;
-use crate::text::empty;
-use crate::text::part;
-use crate::text::put;
-use crate::text::put_all;
-use crate::text::put_decimal;
-use crate::text::put_digits;
 use crate::words;
+use libc::STDOUT_FILENO;
+use lines::part;
+use lines::say;
 use std::num::wrapping_add_u64;
 use std::num::wrapping_sub_u16;
 
@@ -21,28 +16,34 @@ pub(crate) struct Run {
     pub(crate) wrong: u64,
 }
 
+// The second bytes read as the first ones do, and are written again.
+fn reads_alike(bytes: &[u8], top: &[u8]) -> bool {
+    let mut text = [0u8; 256];
+    let n = words::put_answer(&mut text, 0, plain::read(bytes));
+    let mut got = [0u8; 256];
+    reads_and_writes(top, part(&text, 0, n), &mut got) == 0
+}
+
 // The outcome of reading the two bytes of a code. It is 99 where the PDU is not of the kind that the code names, and where
 // with the top six bits set the code is another, or they read otherwise, or are not written without these bits.
 fn outcome_at(code: u16, kind: usize) -> u64 {
     let low = (code % 256) as u8;
     let bytes = [(code / 256 % 4) as u8, low];
     let top = [(252 + code / 256 % 4) as u8, low];
-    let p = plain::read(&bytes);
-    let text = words::answer(p);
-    let all = text.bytes;
-    let told = reads_and_writes(&top, part(&all, 0, text.len));
-    if told.len != 0 {
+    if !reads_alike(&bytes, &top) {
         return 99;
     }
     if pdu::code(&top) != code {
         return 99;
     }
-    if p.outcome == 0 {
-        if p.kind != kind {
-            return 99;
-        }
+    let p = plain::read(&bytes);
+    if p.outcome != 0 {
+        return p.outcome;
     }
-    p.outcome
+    if p.kind != kind {
+        return 99;
+    }
+    0
 }
 
 fn run_at(code: u16, wrong: u64) -> Run {
@@ -57,21 +58,23 @@ fn run_at(code: u16, wrong: u64) -> Run {
     }
 }
 
-fn put_last(t: Text, first: u16, last: u16) -> Text {
-    if first == last {
-        return t;
+fn say_last(first: u16, last: u16) {
+    if first != last {
+        io::write_all(STDOUT_FILENO, b"..");
+        io::print_hex(STDOUT_FILENO, last as u64, 3);
     }
-    put_digits(put_all(t, b".."), last as u64, 3)
 }
 
 // `FIRST..LAST: OUTCOME KIND`
 fn say_run(r: Run, last: u16) {
-    let t = put_last(put_digits(empty(), r.first as u64, 3), r.first, last);
-    let u = put_decimal(put_all(t, b": "), r.outcome);
+    io::print_hex(STDOUT_FILENO, r.first as u64, 3);
+    say_last(r.first, last);
+    io::write_all(STDOUT_FILENO, b": ");
+    io::print_decimal(STDOUT_FILENO, r.outcome);
     if r.kind < 25 {
-        say(b"", words::put_kind(put(u, b' '), r.kind));
+        words::say_kind(r.kind);
     } else {
-        say(b"", u);
+        say(b"", b"");
     }
 }
 

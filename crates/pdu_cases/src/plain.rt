@@ -1,8 +1,7 @@
 // The PDU layer in plain numbers: a PDU is the number of its kind, the numbers of its fields in order, and its data.
-use crate::text::Text;
-use crate::text::empty;
-use crate::text::part;
-use crate::text::put_all;
+use lines::first;
+use lines::part;
+use lines::put_all;
 use pdu::Found;
 use pdu::Parsed;
 use pdu::Pdu;
@@ -14,7 +13,8 @@ pub(crate) struct Plain {
     pub(crate) outcome: u64,
     pub(crate) kind: usize,
     pub(crate) x: [u64; 6],
-    pub(crate) data: Text,
+    pub(crate) len: usize,
+    pub(crate) data: [u8; 64],
 }
 
 // What writing into a part of 20 bytes gave, and the 20 bytes.
@@ -173,12 +173,15 @@ fn built_property(kind: usize, x: [u64; 6]) -> Pdu {
     }
 }
 
-fn accepted(f: Fields, data: Text) -> Plain {
+fn accepted(f: Fields, src: &[u8]) -> Plain {
     let x = f.x;
+    let mut data = [0u8; 64];
+    let len = put_all(&mut data, 0, src);
     Plain {
         outcome: 0,
         kind: f.kind,
         x,
+        len,
         data,
     }
 }
@@ -187,12 +190,13 @@ fn accepted(f: Fields, data: Text) -> Plain {
 pub(crate) fn read(apdu: &[u8]) -> Plain {
     let r = pdu::read(apdu);
     match r {
-        Parsed::Is(p) => accepted(apart(p), put_all(empty(), pdu::data_of(p, apdu))),
+        Parsed::Is(p) => accepted(apart(p), pdu::data_of(p, apdu)),
         Parsed::Refused(n) => Plain {
             outcome: n as u64,
             kind: 25,
             x: [0; 6],
-            data: empty(),
+            len: 0,
+            data: [0; 64],
         },
     }
 }
@@ -201,26 +205,19 @@ pub(crate) fn read(apdu: &[u8]) -> Plain {
 pub(crate) fn cut(p: Plain) -> Plain {
     let x = p.x;
     let data = p.data;
-    accepted(apart(built(p.kind, x)), data)
-}
-
-// Writing into the first so many bytes of a buffer.
-fn write_into(p: Pdu, data: &[u8], out: &mut [u8], room: usize) -> Written {
-    if room < out.len() {
-        pdu::write(p, data, &mut out[0..room])
-    } else {
-        pdu::write(p, data, out)
-    }
+    accepted(apart(built(p.kind, x)), part(&data, 0, p.len))
 }
 
 // The PDU written into the first so many of 20 bytes of EEh.
 pub(crate) fn write(p: Plain, room: usize) -> Output {
     let x = p.x;
-    let d = p.data;
-    let n = d.len;
-    let bytes = d.bytes;
+    let data = p.data;
     let mut out = [0xEEu8; 20];
-    let w = write_into(built(p.kind, x), part(&bytes, 0, n), &mut out, room);
+    let w = pdu::write(
+        built(p.kind, x),
+        part(&data, 0, p.len),
+        first(&mut out, room),
+    );
     match w {
         Written::Bytes(count) => Output {
             outcome: 0,

@@ -1,18 +1,20 @@
 // PDUs in words, `kind field=value ..`: shown, and taken from the words.
 use crate::plain::Plain;
-use crate::text::Text;
-use crate::text::empty;
-use crate::text::is;
-use crate::text::number;
-use crate::text::part;
-use crate::text::piece;
-use crate::text::put;
-use crate::text::put_all;
-use crate::text::put_bytes;
-use crate::text::put_decimal;
-use crate::text::put_digits;
-use crate::text::put_hex;
-use crate::text::zero;
+use lines::before;
+use lines::beyond;
+use lines::digits;
+use lines::named;
+use lines::part;
+use lines::piece;
+use lines::put;
+use lines::put_all;
+use lines::put_decimal;
+use lines::put_digits;
+use lines::put_hex;
+use lines::put_unhex;
+use lines::say;
+use lines::which;
+use lines::word;
 
 // The kinds by number, each with its fields in order.
 fn rows() -> [u8; 624] {
@@ -43,48 +45,21 @@ authorize_response level
 key_response level"
 }
 
-fn row(kind: usize) -> Text {
+// The name of a kind, written.
+pub(crate) fn say_kind(kind: usize) {
     let all = rows();
-    put_all(empty(), piece(&all, kind, b'\n'))
-}
-
-// The name of a kind.
-pub(crate) fn put_kind(t: Text, kind: usize) -> Text {
-    let r = row(kind);
-    let bytes = r.bytes;
-    put_all(t, piece(part(&bytes, 0, r.len), 0, b' '))
+    say(b" ", word(piece(&all, kind, b'\n'), 0));
 }
 
 // The number of the kind of that name, or 25.
-fn kind_named(word: &[u8]) -> usize {
-    let mut i = 0;
-    while i < 25 {
-        if is(put_kind(empty(), i), word) {
-            return i;
-        }
-        i += 1;
-    }
-    25
+fn kind_named(name: &[u8]) -> usize {
+    let all = rows();
+    named(&all, b'\n', b' ', name)
 }
 
-// How a field is written: 0 decimal, 1 and 2 in hex digits, 3 all the data, 4 its AND bytes, 5 its XOR bytes.
-fn style(name: &[u8]) -> u8 {
-    if check::same(name, b"serial") {
-        return 1;
-    }
-    if check::same(name, b"key") {
-        return 2;
-    }
-    if check::same(name, b"data") {
-        return 3;
-    }
-    if check::same(name, b"and") {
-        return 4;
-    }
-    if check::same(name, b"xor") {
-        return 5;
-    }
-    0
+// How a field is written: 0 and 1 in hex digits, 2 all the data, 3 its AND bytes, 4 its XOR bytes, 5 decimal.
+fn style(name: &[u8]) -> usize {
+    which(b"serial key data and xor", name)
 }
 
 fn value(p: Plain, i: usize) -> u64 {
@@ -95,44 +70,42 @@ fn value(p: Plain, i: usize) -> u64 {
 // How many bytes of the data are AND bytes: n, or all where there are fewer.
 fn ands(p: Plain) -> usize {
     let n = value(p, 0);
-    let d = p.data;
-    if n < 32 { n as usize } else { d.len }
+    if n < 32 { n as usize } else { p.len }
 }
 
 // The data from a place up to another.
-fn put_data(t: Text, p: Plain, from: usize, to: usize) -> Text {
-    let d = p.data;
-    let bytes = d.bytes;
-    put_hex(t, part(part(&bytes, 0, d.len), from, to))
+fn put_data(out: &mut [u8], at: usize, p: Plain, from: usize, to: usize) -> usize {
+    let data = p.data;
+    put_hex(out, at, part(part(&data, 0, p.len), from, to))
 }
 
-fn put_value(t: Text, how: u8, i: usize, p: Plain) -> Text {
-    let d = p.data;
-    let len = d.len;
+fn put_value(out: &mut [u8], at: usize, how: usize, i: usize, p: Plain) -> usize {
     match how {
-        1 => put_digits(t, value(p, i), 12),
-        2 => put_digits(t, value(p, i), 8),
-        3 => put_data(t, p, 0, len),
-        4 => put_data(t, p, 0, ands(p)),
-        5 => put_data(t, p, ands(p), len),
-        _ => put_decimal(t, value(p, i)),
+        0 => put_digits(out, at, value(p, i), 12),
+        1 => put_digits(out, at, value(p, i), 8),
+        2 => put_data(out, at, p, 0, p.len),
+        3 => put_data(out, at, p, 0, ands(p)),
+        4 => put_data(out, at, p, ands(p), p.len),
+        _ => put_decimal(out, at, value(p, i)),
     }
 }
 
 // ` name=value`; nothing where there is no name.
-fn put_field(t: Text, name: &[u8], i: usize, p: Plain) -> Text {
+fn put_field(out: &mut [u8], at: usize, name: &[u8], i: usize, p: Plain) -> usize {
     if name.len() == 0 {
-        return t;
+        return at;
     }
-    let u = put(put_all(put(t, b' '), name), b'=');
-    put_value(u, style(name), i, p)
+    let a = put(out, at, b' ');
+    let b = put_all(out, a, name);
+    let c = put(out, b, b'=');
+    put_value(out, c, style(name), i, p)
 }
 
-fn put_fields(t: Text, row: &[u8], p: Plain) -> Text {
-    let mut to = t;
+fn put_fields(out: &mut [u8], at: usize, row: &[u8], p: Plain) -> usize {
+    let mut to = at;
     let mut i = 0;
     while i < 6 {
-        to = put_field(to, piece(row, i + 1, b' '), i, p);
+        to = put_field(out, to, word(row, i + 1), i, p);
         i += 1;
     }
     to
@@ -147,45 +120,58 @@ fn has_data(kind: usize) -> bool {
 }
 
 // The PDU in words; data that its kind does not have is shown too.
-pub(crate) fn put_pdu(t: Text, p: Plain) -> Text {
+pub(crate) fn put_pdu(out: &mut [u8], at: usize, p: Plain) -> usize {
     let kind = p.kind;
-    let r = row(kind);
-    let bytes = r.bytes;
-    let u = put_fields(put_kind(t, kind), part(&bytes, 0, r.len), p);
+    let all = rows();
+    let row = piece(&all, kind, b'\n');
+    let a = put_all(out, at, word(row, 0));
+    let b = put_fields(out, a, row, p);
     if has_data(kind) {
-        return u;
+        return b;
     }
-    let d = p.data;
-    if d.len == 0 {
-        return u;
+    if p.len == 0 {
+        return b;
     }
-    put_field(u, b"data", 6, p)
+    put_field(out, b, b"data", 6, p)
 }
 
 // `0` and the PDU in words, or the number of the refusal.
-pub(crate) fn answer(p: Plain) -> Text {
+pub(crate) fn put_answer(out: &mut [u8], at: usize, p: Plain) -> usize {
     if p.outcome != 0 {
-        return put_decimal(empty(), p.outcome);
+        return put_decimal(out, at, p.outcome);
     }
-    put_pdu(zero(), p)
+    let a = put_all(out, at, b"0 ");
+    put_pdu(out, a, p)
 }
 
-// With the i-th field as a word `name=value` has it; bytes go to the end of the data.
-fn with_word(p: Plain, i: usize, word: &[u8]) -> Plain {
-    let how = style(piece(word, 0, b'='));
-    let text = piece(word, 1, b'=');
-    let mut x = p.x;
+// With these bytes at the end of the data.
+fn with_data(p: Plain, hex: &[u8]) -> Plain {
     let mut data = p.data;
-    if 3 <= how {
-        data = put_bytes(data, text);
-    } else if i < 6 {
-        x[i] = number(text, how != 0);
+    let mut r = p;
+    r.len = put_unhex(&mut data, p.len, hex);
+    r.data = data;
+    r
+}
+
+fn with_number(p: Plain, i: usize, n: u64) -> Plain {
+    let mut r = p;
+    if i < 6 {
+        r.x[i] = n;
     }
-    Plain {
-        outcome: 0,
-        kind: p.kind,
-        x,
-        data,
+    r
+}
+
+// With the i-th field as a word `name=value` has it.
+fn with_word(p: Plain, i: usize, word: &[u8]) -> Plain {
+    if word.len() == 0 {
+        return p;
+    }
+    let how = style(before(word, b'='));
+    let text = beyond(word, b'=');
+    match how {
+        0 | 1 => with_number(p, i, digits(text, 16)),
+        2 | 3 | 4 => with_data(p, text),
+        _ => with_number(p, i, digits(text, 10)),
     }
 }
 
@@ -193,13 +179,14 @@ fn with_word(p: Plain, i: usize, word: &[u8]) -> Plain {
 pub(crate) fn taken(words: &[u8]) -> Plain {
     let mut p = Plain {
         outcome: 0,
-        kind: kind_named(piece(words, 0, b' ')),
+        kind: kind_named(word(words, 0)),
         x: [0; 6],
-        data: empty(),
+        len: 0,
+        data: [0; 64],
     };
     let mut i = 0;
     while i < 7 {
-        p = with_word(p, i, piece(words, i + 1, b' '));
+        p = with_word(p, i, word(words, i + 1));
         i += 1;
     }
     p

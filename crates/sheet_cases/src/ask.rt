@@ -3,15 +3,12 @@
 //   region K             the bytes of the body that is found, as hex digits; - for none
 //   property OBJECT ID
 //   group ADDRESS
-use check::same;
 use lines::number;
 use lines::put_all;
 use lines::put_hex;
+use lines::put_unclear;
+use lines::which;
 use lines::word;
-
-fn unclear(out: &mut [u8]) -> usize {
-    put_all(out, 0, b"line not understood")
-}
 
 fn rule(sheet: &[u8], out: &mut [u8]) -> usize {
     let broken = sheet::check(sheet);
@@ -23,24 +20,24 @@ fn rule(sheet: &[u8], out: &mut [u8]) -> usize {
 
 fn region(sheet: &[u8], k: u64, out: &mut [u8]) -> usize {
     if 4294967295 < k {
-        return unclear(out);
+        return put_unclear(out);
     }
     put_hex(out, 0, sheet::region(sheet, k as usize))
 }
 
 fn property(sheet: &[u8], object: u64, id: u64, out: &mut [u8]) -> usize {
     if 255 < object {
-        return unclear(out);
+        return put_unclear(out);
     }
     if 255 < id {
-        return unclear(out);
+        return put_unclear(out);
     }
     put_hex(out, 0, sheet::property(sheet, object as u8, id as u8))
 }
 
 fn group(sheet: &[u8], address: u64, out: &mut [u8]) -> usize {
     if 65535 < address {
-        return unclear(out);
+        return put_unclear(out);
     }
     put_hex(out, 0, sheet::group(sheet, address as u16))
 }
@@ -52,14 +49,11 @@ pub(crate) fn ask(sheet: &[u8], question: &[u8], out: &mut [u8]) -> usize {
         return rule(sheet, out);
     }
     let first = number(word(question, 2));
-    if same(what, b"region") {
-        return region(sheet, first, out);
+    let kind = which(b"region property group", what);
+    match kind {
+        0 => region(sheet, first, out),
+        1 => property(sheet, first, number(word(question, 3)), out),
+        2 => group(sheet, first, out),
+        _ => put_unclear(out),
     }
-    if same(what, b"property") {
-        return property(sheet, first, number(word(question, 3)), out);
-    }
-    if same(what, b"group") {
-        return group(sheet, first, out);
-    }
-    unclear(out)
 }

@@ -10,12 +10,18 @@ use draft::empty;
 use libc::STDIN_FILENO;
 use lines::Tally;
 use lines::after;
+use lines::before;
+use lines::begin;
+use lines::beyond;
 use lines::find;
+use lines::is_remark;
 use lines::part;
 use lines::put_all;
+use lines::put_unclear;
 use lines::rest;
 use lines::say;
 use lines::told;
+use lines::unclear;
 use lines::word;
 use words::with_words;
 
@@ -34,12 +40,11 @@ struct State {
 
 // The answer to what stands before a case's arrow, put into `got` as text; how long it is.
 fn answered(line: &[u8], s: &mut [u8], base: Draft, got: &mut [u8]) -> usize {
-    let q = find(line, 0, b'?');
-    let d = with_words(s, base, part(line, 0, q));
+    let d = with_words(s, base, before(line, b'?'));
     if !d.fine {
-        return put_all(got, 0, b"line not understood");
+        return put_unclear(got);
     }
-    ask(part(s, 0, d.len), rest(line, after(line, q)), got)
+    ask(part(s, 0, d.len), beyond(line, b'?'), got)
 }
 
 // s has room for a copy of the base.
@@ -47,10 +52,9 @@ fn with_case(line: &[u8], base: &[u8], s: &mut [u8], t: State) -> State {
     let d = t.base;
     let tally = t.tally;
     put_all(s, 0, part(base, 0, d.len));
-    let arrow = find(line, 0, b'-');
     let mut got = [0u8; 256];
-    let n = answered(part(line, 0, arrow), s, d, &mut got);
-    let want = word(rest(line, arrow), 1);
+    let n = answered(before(line, b'-'), s, d, &mut got);
+    let want = word(beyond(line, b'-'), 1);
     let next = told(tally, line, want, part(&got, 0, n));
     State {
         base: d,
@@ -69,7 +73,7 @@ fn with_base(line: &[u8], base: &mut [u8], t: State) -> State {
             tally: tally,
         };
     }
-    let next = told(tally, line, b"a base", b"line not understood");
+    let next = unclear(tally, line);
     State {
         base: empty(),
         tally: next,
@@ -77,11 +81,7 @@ fn with_base(line: &[u8], base: &mut [u8], t: State) -> State {
 }
 
 fn with_line(line: &[u8], base: &mut [u8], s: &mut [u8], t: State) -> State {
-    if line.len() == 0 {
-        say(b"", line);
-        return t;
-    }
-    if line[0] == b'#' {
+    if is_remark(line) {
         say(b"", line);
         return t;
     }
@@ -94,10 +94,7 @@ fn with_line(line: &[u8], base: &mut [u8], s: &mut [u8], t: State) -> State {
 fn with_all(text: &[u8], base: &mut [u8], s: &mut [u8]) -> Tally {
     let mut t = State {
         base: empty(),
-        tally: Tally {
-            cases: 0,
-            different: 0,
-        },
+        tally: begin(),
     };
     let mut at = 0;
     while at < text.len() {
@@ -115,8 +112,5 @@ fn main() {
     let mut base = [0u8; 16400];
     let mut s = [0u8; 16400];
     let tally = with_all(&text[..n], &mut base, &mut s);
-    lines::end(tally);
-    if n == 65536 {
-        say(b"", b"there may be more cases than that");
-    }
+    lines::end(tally, n);
 }

@@ -4,12 +4,12 @@ use crate::draft::GROUPS;
 use crate::draft::PROPERTIES;
 use crate::draft::REGIONS;
 use crate::draft::place;
-use check::same;
-use lines::after;
-use lines::find;
+use lines::before;
+use lines::beyond;
 use lines::number;
-use lines::part;
+use lines::piece;
 use lines::rest;
+use lines::starts;
 
 // So many bytes from a place on; no bytes are no field.
 pub struct Field {
@@ -23,26 +23,18 @@ fn none() -> Field {
 
 // A field of a row, `NAME,PLACE,WIDTH`.
 fn read_field(text: &[u8]) -> Field {
-    let a = after(text, find(text, 0, b','));
-    let b = find(text, a, b',');
+    if text.len() == 0 {
+        return none();
+    }
     Field {
-        at: (number(part(text, a, b)) % 64) as usize,
-        width: (number(rest(text, after(text, b))) % 4) as usize,
+        at: (number(piece(text, 1, b',')) % 64) as usize,
+        width: (number(piece(text, 2, b',')) % 4) as usize,
     }
 }
 
 // The field of a name in a row.
 fn in_row(row: &[u8], name: &[u8]) -> Field {
-    let mut at = 0;
-    while at < row.len() {
-        let end = find(row, at, b' ');
-        let text = part(row, at, end);
-        if same(part(text, 0, find(text, 0, b',')), name) {
-            return read_field(text);
-        }
-        at = after(row, end);
-    }
-    none()
+    read_field(piece(row, lines::named(row, b' ', b',', name), b' '))
 }
 
 fn head(name: &[u8]) -> Field {
@@ -82,10 +74,6 @@ fn of_entry(d: Draft, kind: usize, n: usize, i: u64, f: Field) -> Field {
         at: place(d, kind, i as usize) + f.at % 16,
         width: f.width,
     }
-}
-
-fn starts(s: &[u8], with: &[u8]) -> bool {
-    same(part(s, 0, with.len()), with)
 }
 
 // `region0.length` and the like.
@@ -129,9 +117,9 @@ pub(crate) fn named(d: Draft, name: &[u8]) -> Field {
     if starts(name, b"@") {
         return byte_at(number(rest(name, 1)));
     }
-    let dot = find(name, 0, b'.');
-    if dot < name.len() {
-        return entry(d, part(name, 0, dot), rest(name, after(name, dot)));
+    let field = beyond(name, b'.');
+    if field.len() == 0 {
+        return head(name);
     }
-    head(name)
+    entry(d, before(name, b'.'), field)
 }

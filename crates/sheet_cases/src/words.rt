@@ -13,12 +13,16 @@ use crate::lay::lay;
 use crate::make::make;
 use crate::names::Field;
 use crate::names::named;
-use check::same;
 use lines::after;
+use lines::before;
+use lines::beyond;
 use lines::find;
 use lines::number;
 use lines::part;
+use lines::piece;
 use lines::rest;
+use lines::starts;
+use lines::which;
 use octets::byte;
 
 fn sized(s: &mut [u8], d: Draft, len: u64) -> Draft {
@@ -52,13 +56,11 @@ fn joined(s: &mut [u8], d: Draft, hex: &[u8]) -> Draft {
 }
 
 fn made(s: &mut [u8], counts: &[u8]) -> Draft {
-    let a = find(counts, 0, b',');
-    let b = find(counts, after(counts, a), b',');
     make(
         s,
-        number(part(counts, 0, a)),
-        number(part(counts, after(counts, a), b)),
-        number(rest(counts, after(counts, b))),
+        number(piece(counts, 0, b',')),
+        number(piece(counts, 1, b',')),
+        number(piece(counts, 2, b',')),
     )
 }
 
@@ -86,30 +88,32 @@ fn changed(s: &mut [u8], d: Draft, f: Field, x: u64) -> Draft {
 
 // NAME=VALUE.
 fn with_value(s: &mut [u8], d: Draft, name: &[u8], value: &[u8]) -> Draft {
-    if same(name, b"make") {
-        return made(s, value);
+    let what = which(b"make length", name);
+    match what {
+        0 => made(s, value),
+        1 => sized(s, d, number(value)),
+        _ => changed(s, d, named(d, name), number(value)),
     }
-    if same(name, b"length") {
-        return sized(s, d, number(value));
+}
+
+// +HEX or NAME=VALUE.
+fn with_sign(s: &mut [u8], d: Draft, word: &[u8]) -> Draft {
+    if starts(word, b"+") {
+        return joined(s, d, rest(word, 1));
     }
-    changed(s, d, named(d, name), number(value))
+    with_value(s, d, before(word, b'='), beyond(word, b'='))
 }
 
 fn with_word(s: &mut [u8], d: Draft, word: &[u8]) -> Draft {
     if word.len() == 0 {
         return d;
     }
-    if same(word, b"new") {
-        return empty();
+    let what = which(b"new lay", word);
+    match what {
+        0 => empty(),
+        1 => lay(s, d),
+        _ => with_sign(s, d, word),
     }
-    if same(word, b"lay") {
-        return lay(s, d);
-    }
-    if word[0] == b'+' {
-        return joined(s, d, rest(word, 1));
-    }
-    let eq = find(word, 0, b'=');
-    with_value(s, d, part(word, 0, eq), rest(word, after(word, eq)))
 }
 
 pub(crate) fn with_words(s: &mut [u8], d: Draft, words: &[u8]) -> Draft {

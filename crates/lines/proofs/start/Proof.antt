@@ -6,10 +6,10 @@ use Rattle.lines.proofs.start.Statement.{statement}
 use Rattle.lines.proofs.start.Tie as tie
 
 abbrev Inv-loop : tie.InvT-loop
-Inv-loop s k at₀ i₀ at i = i ≤ k
+Inv-loop s k sep at₀ i₀ at i = i ≤ k
 
 abbrev μ-loop : tie.MeasureT-loop
-μ-loop s k at₀ i₀ at i = k - i
+μ-loop s k sep at₀ i₀ at i = k - i
 
 pub start-spec : {M : Type 1} → statement M
 start-spec =

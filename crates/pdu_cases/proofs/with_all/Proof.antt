@@ -7,10 +7,10 @@ use Rattle.pdu_cases.proofs.with_all.Statement.{statement}
 use Rattle.pdu_cases.proofs.with_all.Tie as tie
 
 abbrev Inv-loop : tie.InvT-loop
-Inv-loop s t₀ i₀ t i = i ≤ length s
+Inv-loop text t₀ at₀ t at = at ≤ length text
 
 abbrev μ-loop : tie.MeasureT-loop
-μ-loop s t₀ i₀ t i = length s - i
+μ-loop text t₀ at₀ t at = length text - at
 
 pub with-all-spec : {M : Type 1} → statement M
 with-all-spec =
@@ -18,11 +18,12 @@ with-all-spec =
     (tie.spec
     Inv-loop
     μ-loop
+    (λ c κs. search needs)
     (λ c. search needs)
-    (λ c. search needs)
+    (λ c κs. search needs)
+    (λ c κs. search needs)
+    (λ c κs. search needs)
     (λ c κs. search needs)
     (λ c. search needs)
     (λ c. search needs)
-    (λ c. search needs)
-    (λ c κs. search needs)
     (λ c. search needs))

@@ -1,15 +1,17 @@
 -- `pdu_cases::words::put_fields` is safe and ends: the count of fields rises to 6.
 -- Assumes nothing.
 use Prim.Native.Nat.{_≤_, _-_}
+use mathlib.Core.Path.{_≡_}
 use borrow.Author.Needs.{needs}
+use lib.ListN.{length}
 use Rattle.pdu_cases.proofs.words.put_fields.Statement.{statement}
 use Rattle.pdu_cases.proofs.words.put_fields.Tie as tie
 
 abbrev Inv-loop : tie.InvT-loop
-Inv-loop row p to₀ i₀ to i = i ≤ 6
+Inv-loop out₀ at row p to₀ i₀ out to i = (i ≤ 6) × (length out ≡ length out₀)
 
 abbrev μ-loop : tie.MeasureT-loop
-μ-loop row p to₀ i₀ to i = 6 - i
+μ-loop out₀ at row p to₀ i₀ out to i = 6 - i
 
 pub put-fields-spec : {M : Type 1} → statement M
 put-fields-spec =
@@ -21,6 +23,7 @@ put-fields-spec =
     (λ c. search needs)
     (λ c κs. search needs)
     (λ c κs. search needs)
+    (λ c. search needs)
     (λ c. search needs)
     (λ c. search needs)
     (λ c. search needs)

@@ -1,31 +1,33 @@
--- `pdu_cases::text::put_hex` is safe and ends: the place rises to the end.
+-- `lines::hex::put_unhex` is safe and ends.
 -- Assumes nothing.
 use Prim.Native.Nat.{_≤_, _-_}
+use mathlib.Core.Path.{_≡_}
 use borrow.Author.Needs.{needs}
 use lib.ListN.{length}
-use Rattle.pdu_cases.proofs.text.put_hex.Statement.{statement}
-use Rattle.pdu_cases.proofs.text.put_hex.Tie as tie
+use Rattle.lines.proofs.hex.put_unhex.Statement.{statement}
+use Rattle.lines.proofs.hex.put_unhex.Tie as tie
 
 abbrev Inv-loop : tie.InvT-loop
-Inv-loop s to₀ i₀ to i = i ≤ length s
+Inv-loop out₀ at s to₀ i₀ out to i = (i ≤ length s) × (length out ≡ length out₀)
 
 abbrev μ-loop : tie.MeasureT-loop
-μ-loop s to₀ i₀ to i = length s - i
+μ-loop out₀ at s to₀ i₀ out to i = length s - i
 
-pub put-hex-spec : {M : Type 1} → statement M
-put-hex-spec =
+pub put-unhex-spec : {M : Type 1} → statement M
+put-unhex-spec =
     tie.close
     (tie.spec
     Inv-loop
     μ-loop
+    (λ c. search needs)
     (λ c κs. search needs)
     (λ c. search needs)
     (λ c. search needs)
-    (λ c. search needs)
+    (λ c κs. search needs)
+    (λ c κs. search needs)
     (λ c κs. search needs)
     (λ c κs. search needs)
     (λ c. search needs)
-    (λ c κs. search needs)
     (λ c κs. search needs)
     (λ c. search needs)
     (λ c. search needs)

@@ -1,20 +1,19 @@
--- `device_cases::want::with_changes` is safe and ends.
+-- `lines::named` is safe and ends: no piece is counted that does not take a byte.
 -- Assumes nothing.
 use Prim.Native.Nat.{_≤_, _-_}
-use mathlib.Core.Path.{_≡_}
 use borrow.Author.Needs.{needs}
 use lib.ListN.{length}
-use Rattle.device_cases.proofs.want.with_changes.Statement.{statement}
-use Rattle.device_cases.proofs.want.with_changes.Tie as tie
+use Rattle.lines.proofs.named.Statement.{statement}
+use Rattle.lines.proofs.named.Tie as tie
 
 abbrev Inv-loop : tie.InvT-loop
-Inv-loop s₀ len words now₀ at₀ s now at = (at ≤ length words) × (length s ≡ length s₀)
+Inv-loop s sep stop name at₀ k₀ at k = (at ≤ length s) × (k ≤ at)
 
 abbrev μ-loop : tie.MeasureT-loop
-μ-loop s₀ len words now₀ at₀ s now at = length words - at
+μ-loop s sep stop name at₀ k₀ at k = length s - at
 
-pub with-changes-spec : {M : Type 1} → statement M
-with-changes-spec =
+pub named-spec : {M : Type 1} → statement M
+named-spec =
     tie.close
     (tie.spec
     Inv-loop
@@ -23,6 +22,8 @@ with-changes-spec =
     (λ c κs. search needs)
     (λ c κs. search needs)
     (λ c κs. search needs)
+    (λ c κs. search needs)
+    (λ c. search needs)
     (λ c κs. search needs)
     (λ c. search needs)
     (λ c. search needs)

@@ -1,11 +1,11 @@
--- `lines::out::put_bytes` is safe and ends.
+-- `lines::hex::put_hex` is safe and ends.
 -- Assumes nothing.
 use Prim.Native.Nat.{_≤_, _-_}
 use mathlib.Core.Path.{_≡_}
 use borrow.Author.Needs.{needs}
 use lib.ListN.{length}
-use Rattle.lines.proofs.out.put_bytes.Statement.{statement}
-use Rattle.lines.proofs.out.put_bytes.Tie as tie
+use Rattle.lines.proofs.hex.put_hex.Statement.{statement}
+use Rattle.lines.proofs.hex.put_hex.Tie as tie
 
 abbrev Inv-loop : tie.InvT-loop
 Inv-loop out₀ at src to₀ i₀ out to i = (i ≤ length src) × (length out ≡ length out₀)
@@ -13,18 +13,17 @@ Inv-loop out₀ at src to₀ i₀ out to i = (i ≤ length src) × (length out �
 abbrev μ-loop : tie.MeasureT-loop
 μ-loop out₀ at src to₀ i₀ out to i = length src - i
 
-pub put-bytes-spec : {M : Type 1} → statement M
-put-bytes-spec =
+pub put-hex-spec : {M : Type 1} → statement M
+put-hex-spec =
     tie.close
     (tie.spec
     Inv-loop
     μ-loop
-    (λ c. search needs)
-    (λ c. search needs)
-    (λ c κs. search needs)
     (λ c κs. search needs)
     (λ c. search needs)
-    (λ c κs. search needs)
+    (λ c. search needs)
+    (λ c. search needs)
+    (λ c. search needs)
     (λ c κs. search needs)
     (λ c. search needs)
     (λ c. search needs)
