@@ -119,7 +119,7 @@ kelindap_reply kelindap_request(kelindap_session *session, uint8_t mode, uint16_
  */
 uint8_t kelindap_check(const uint8_t *sheet, size_t sheet_length);
 
-/* Where the body of a value stands in the sheet: by object and id, by region number from 0, by group address. */
+/* Where a body stands in the sheet: that of a property, of region k (the first is 0), of a group object. */
 kelindap_part kelindap_property(const uint8_t *sheet, size_t sheet_length, uint8_t object, uint8_t id);
 kelindap_part kelindap_region(const uint8_t *sheet, size_t sheet_length, size_t k);
 kelindap_part kelindap_group(const uint8_t *sheet, size_t sheet_length, uint16_t address);
