@@ -1,13 +1,24 @@
 /*
  * The device side of the KNX application layer, for one device.
- * Link with libhost.a (x86-64 Linux; it calls nothing but memcpy and memset, if those).
+ *
+ * Link with libhost.a, which is made for x86-64 Linux. Today it needs memset from outside and nothing else. A freestanding
+ * host should provide memcpy, memset, memmove and memcmp: compiled code may call any of the four (tests/c/bare.c has them).
+ *
+ * An APDU is the part of a frame from octet 6 on: 2 to 16 bytes, of which the first, b0, is octet 6. The service code is the
+ * two low bits of b0 and the eight of the next byte. The six high bits of b0 are transport's: in a request they are ignored,
+ * in an answer they are 0, and the host's transport sets them when it sends.
  *
  * The host's duties, which no proof covers:
  *  - the buffers of one call do not overlap, and stay lent until the call returns;
  *  - nothing else writes the sheet between calls: the promises about a history hold only then;
  *  - a bool is 0 or 1, and a pointer has as many readable (for answer and sheet, writable) bytes as its length says;
  *  - a length of 0 is allowed everywhere, and its pointer is then never followed: NULL with 0 is an empty run;
- *  - a session is the host's to keep, one for each connection, changed by these calls alone;
+ *  - a sheet has one session, which the host keeps and these calls alone change; there is one connection at a time;
+ *  - the mode says how the frame came. The library sees no address of the frame but the group address: in modes 2 and 3 the
+ *    host hands over only what is sent to this device, in mode 3 only what comes from the partner of the open connection;
+ *  - when a connection opens or ends, transport's time limits included, the host calls connect or disconnect;
+ *  - a Restart shows only as outcome 1 in mode 3 with the session closed afterwards: the host then drops the connection, and
+ *    restarts what it wants;
  *  - calls on one sheet come one after the other, never from two threads at once.
  */
 #ifndef KELINDAP_H
@@ -25,7 +36,7 @@ extern "C" {
 enum kelindap_outcome {
     KELINDAP_ANSWERED = 0,       /* carried out, an answer is in the buffer */
     KELINDAP_DONE = 1,           /* carried out, no answer is due */
-    KELINDAP_NOT_FOR_US = 2,     /* another device is meant */
+    KELINDAP_NOT_FOR_US = 2,     /* not for this device: see below */
     KELINDAP_NO_ROOM = 3,        /* the answer buffer has under 16 bytes */
     KELINDAP_BAD_SHEET = 4,      /* the sheet is not accepted */
     KELINDAP_BAD_LENGTH = 5,     /* the APDU has not 2 to 16 bytes */
@@ -33,11 +44,20 @@ enum kelindap_outcome {
     KELINDAP_NOT_CONNECTED = 7,  /* connected mode on a closed session */
     KELINDAP_UNKNOWN = 8,        /* unknown service */
     KELINDAP_WRONG_MODE = 9,     /* the service is not in this mode */
-    KELINDAP_UNFIT = 10,         /* length or value against the service table */
+    KELINDAP_UNFIT = 10,         /* length or value against the service's row (kelindap_pdu.h), or a group value of
+                                    another length than its entry's */
     KELINDAP_DENIED = 11,        /* denied, the negative answer is in the buffer */
     KELINDAP_DENIED_SILENT = 12, /* denied, no answer is due */
     KELINDAP_UNWRITABLE = 13     /* PDU writing only: see kelindap_pdu.h */
 };
+
+/*
+ * Outcome 2 has these causes, and nothing is answered or changed:
+ *  - a group value: the sheet has no entry for the address, or the entry's flag for this service is off;
+ *  - an individual address is read or written, and the device is not in programming mode;
+ *  - the same by serial number, and the number is not this device's;
+ *  - a device descriptor of a type other than 0 is read.
+ */
 
 /* The modes of a request. */
 enum kelindap_mode {
@@ -59,7 +79,7 @@ typedef struct kelindap_reply {
     uint8_t count;
 } kelindap_reply;
 
-/* A part of a sheet; 0 and 0 if there is none. */
+/* A part of a sheet; 0 and 0 if the sheet is not accepted or has no such entry. */
 typedef struct kelindap_part {
     size_t offset;
     size_t length;
@@ -75,16 +95,31 @@ uint8_t kelindap_disconnect(kelindap_session *session);
 /* The programming button: 4 and nothing changed if the sheet is not accepted, else 1. */
 uint8_t kelindap_button(uint8_t *sheet, size_t sheet_length, bool on);
 
-/* A request. The group address counts in mode 0 only. The first `count` bytes of the answer buffer are filled, the rest stays. */
+/*
+ * A request. The group address counts in mode 0 only. The first `count` bytes of the answer buffer are filled, the rest
+ * stays. The sheet is checked on every request.
+ */
 kelindap_reply kelindap_request(kelindap_session *session, uint8_t mode, uint16_t group,
                                 const uint8_t *apdu, size_t apdu_length,
                                 uint8_t *sheet, size_t sheet_length,
                                 uint8_t *answer, size_t answer_length);
 
-/* 0 if the sheet is accepted, else the number of the first rule it breaks, 1 to 9. */
+/*
+ * 0 if the sheet is accepted, else the number of the first rule it breaks, S1 to S9. docs/SHEET.md has the layout of a sheet
+ * and the rules in full; in short, a sheet breaks
+ *  1  if its length is not 32 to 16,384 bytes;
+ *  2  if its edition is not 1;
+ *  3  if it has more than 16 regions, 64 properties or 64 group objects;
+ *  4  if it states another length than it has, or has no room for its entries;
+ *  5  if a bit of the head that must be 0 is not;
+ *  6  by a region: no bytes, past the last address, not above the one before, a level above 3, zero byte;
+ *  7  by a property: id 0, not above the one before, bit 6 of the type, size, maximum, count, a level above 3, zero byte;
+ *  8  by a group object: address 0, not above the one before, length code, flags, zero bytes;
+ *  9  by the bodies: a gap or an overlap between contents, bodies and the end of the sheet, a six-bit value above 63.
+ */
 uint8_t kelindap_check(const uint8_t *sheet, size_t sheet_length);
 
-/* Where a value stands in the sheet: by object and id, by region number from 0, by group address. */
+/* Where a body stands in the sheet: that of a property, of region k (the first is 0), of a group object. */
 kelindap_part kelindap_property(const uint8_t *sheet, size_t sheet_length, uint8_t object, uint8_t id);
 kelindap_part kelindap_region(const uint8_t *sheet, size_t sheet_length, size_t k);
 kelindap_part kelindap_group(const uint8_t *sheet, size_t sheet_length, uint16_t address);

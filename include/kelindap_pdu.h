@@ -1,6 +1,11 @@
 /*
  * The reader and writer of the PDUs, for the commissioning tool.
- * Link with libtool.a (x86-64 Linux).
+ *
+ * Link with libtool.a, which is made for x86-64 Linux. Today it needs nothing from outside. A freestanding host should
+ * provide memcpy, memset, memmove and memcmp: compiled code may call any of the four (tests/c/bare.c has them).
+ *
+ * An APDU is the part of a frame from octet 6 on: 2 to 16 bytes, of which the first, b0, is octet 6. The six high bits of b0
+ * are transport's: ignored on reading, 0 on writing, so that the tool's transport sets them when it sends.
  *
  * The host's duties: the buffers of one call do not overlap; a pointer has as many readable (for out, writable) bytes as
  * its length says; NULL with length 0 is an empty run.
@@ -15,7 +20,7 @@
 extern "C" {
 #endif
 
-/* The PDUs, in the order of the service table, then the answers. */
+/* The PDUs: 0 to 16 are requests to a device, 17 to 24 answers of one. GROUP_RESPONSE is both. */
 enum kelindap_kind {
     KELINDAP_GROUP_READ = 0,
     KELINDAP_GROUP_RESPONSE = 1,
@@ -45,9 +50,52 @@ enum kelindap_kind {
 };
 
 /*
- * A PDU laid flat. Each kind has its own fields (see the service table); on reading the others are 0, on writing they are not looked at.
- * outcome is of reading alone: 0, or 5 (length not 2 to 16), 8 (unknown code), 10 (length or a field against the table),
- * and then every other field is 0. data_offset and data_length say where the data stands in the APDU that was read.
+ * What each kind has: the service code, the fields in order, the data after them, and the length of the APDU.
+ *
+ *  kind                  code      fields                          data bytes    bytes in all
+ *
+ *  GROUP_READ            000h      -                               none          2
+ *  GROUP_RESPONSE        040h + v  v 0..63                         0 to 14       2 + data; with data, v must be 0
+ *  GROUP_WRITE           080h + v  v 0..63                         0 to 14       2 + data; with data, v must be 0
+ *  ADDRESS_WRITE         0C0h      address                         none          4
+ *  ADDRESS_READ          100h      -                               none          2
+ *  SERIAL_READ           3DCh      serial                          none          8
+ *  SERIAL_WRITE          3DEh      serial, address                 none          14, the last 4 ignored
+ *  DESCRIPTOR_READ       300h + t  t 0..63                         none          2
+ *  PROPERTY_READ         3D5h      object, id, n 0..15, s 0..4095  none          6
+ *  PROPERTY_WRITE        3D7h      object, id, n 0..15, s 0..4095  1 to 10       6 + data
+ *  DESCRIPTION_READ      3D8h      object, id, index               none          5
+ *  MEMORY_READ           200h + n  n 0..15, address                none          4
+ *  MEMORY_WRITE          280h + n  n 0..12, address                n             4 + n
+ *  MEMORY_BIT_WRITE      3D0h      n 0..5, address                 n AND, n XOR  5 + 2n
+ *  AUTHORIZE_REQUEST     3D1h      key                             none          7, the third ignored
+ *  KEY_WRITE             3D3h      level, key                      none          7
+ *  RESTART               380h      -                               none          2
+ *  ADDRESS_RESPONSE      140h      -                               none          2
+ *  SERIAL_RESPONSE       3DDh      serial, domain                  none          12, the last 2 ignored
+ *  DESCRIPTOR_RESPONSE   340h + t  t 0..63                         0 to 14       2 + data
+ *  PROPERTY_RESPONSE     3D6h      object, id, n 0..15, s 0..4095  0 to 10       6 + data
+ *  DESCRIPTION_RESPONSE  3D9h      object, id, index, type,        none          9
+ *                                  maximum 0..4095, access
+ *  MEMORY_RESPONSE       240h + n  n 0..12, address                n             4 + n
+ *  AUTHORIZE_RESPONSE    3D2h      level                           none          3
+ *  KEY_RESPONSE          3D4h      level                           none          3
+ *
+ * A field without a range may have any value of its type; serial has six bytes, so it is below 2^48. Numbers stand in the
+ * APDU high byte first, n and s of a property in two bytes: four bits n, twelve bits s.
+ *  - In a memory write or response n is the number of data bytes, in a bit write half of it: first the n AND bytes, then
+ *    the n XOR bytes. In a memory read n is what is asked for. In the property kinds n counts elements, and is not compared
+ *    with the data.
+ *  - A group value has up to six bits in v and no data, or v = 0 and its bytes as data.
+ *  - Ignored bytes are no fields: any value is read, 0 is written.
+ * Whatever is against this table, in a field or in the length, reads as 10 and is not written: 13.
+ */
+
+/*
+ * A PDU laid flat. On reading, the fields that its kind does not have are 0; on writing they are not looked at, nor are
+ * outcome, data_offset and data_length.
+ * outcome is of reading alone: 0, or 5 (length not 2 to 16), 8 (no kind has the code), 10 (against the table above), and
+ * then every other field is 0. data_offset and data_length say where the data stands in the APDU that was read.
  */
 typedef struct kelindap_pdu {
     uint64_t serial;
@@ -71,15 +119,19 @@ typedef struct kelindap_pdu {
     size_t data_length;
 } kelindap_pdu;
 
-/* What writing gave: 0 and the count of bytes filled, or 3 (buffer under 16 bytes), 13 (an unknown kind, or a field, the length or the data against the table); then the buffer is as it was. */
+/*
+ * What writing gave: 0 and the count of bytes filled, the rest of the buffer as it was; or 3 (the buffer has under 16 bytes),
+ * else 13 (an unknown kind, or anything against the table above), count 0, and the buffer as it was.
+ */
 typedef struct kelindap_written {
     uint8_t outcome;
     uint8_t count;
 } kelindap_written;
 
+/* The PDU in an APDU. */
 kelindap_pdu kelindap_read(const uint8_t *apdu, size_t apdu_length);
 
-/* data is the data after the fields: of a bit write the AND bytes and then the XOR bytes. */
+/* A PDU with its data, written to the front of out; of a bit write the data is the AND bytes and then the XOR bytes. */
 kelindap_written kelindap_write(kelindap_pdu pdu, const uint8_t *data, size_t data_length, uint8_t *out, size_t out_length);
 
 #ifdef __cplusplus
