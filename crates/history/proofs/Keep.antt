@@ -8,6 +8,7 @@ use native.Mathlib.Omega.{arith}
 use Rattle.device.specs.Octets.{Octets}
 use Rattle.device.specs.Step.{Step}
 use Rattle.device.specs.Events.{Event, State, connect, disconnect, button, request, eventOf}
+use Rattle.device.proofs.Dues.{connect-due, connect-only, disconnect-due, disconnect-only, button-due, button-only}
 use Rattle.device.proofs.Rightly.{right}
 use Rattle.history.specs.Wish.{asks, brings}
 use Rattle.history.specs.Permit.{gives}
@@ -32,9 +33,9 @@ module _ (step : State → Event → Step) (rightful : Rightful step) (f : First
     after :
         (e : Event) → BringsOctets e → Inv f (e ∷ h) (stateAfter step f (e ∷ h))
     unfolding stateAfter eventOf
-    after connect o = rw (rightful .connects X) (connected inv)
-    after disconnect o = rw (rightful .disconnects X) (disconnected inv)
-    after (button on) o = rw (rightful .presses X on) (button-pressed inv b on)
+    after connect o = rw (connect-only X (step X connect) (rightful .connects X)) (connected inv)
+    after disconnect o = rw (disconnect-only X (step X disconnect) (rightful .disconnects X)) (disconnected inv)
+    after (button on) o = rw (button-only X on (step X (button on)) (rightful .presses X on)) (button-pressed inv b on)
     after (request mode g a out) o = requested mode g a out o .next
 
   -- THE INVARIANT AFTER EVERY HISTORY
@@ -72,9 +73,9 @@ pub ours : Rightful eventOf
 unfolding eventOf
 ours =
     record {
-      connects = λ x. refl;
-      disconnects = λ x. refl;
-      presses = λ x on. refl;
+      connects = connect-due;
+      disconnects = disconnect-due;
+      presses = button-due;
       answers = λ x mode g a out s o. right (asked x mode g a out) s o;
     }
 
