@@ -6,24 +6,23 @@ use mathlib.Core.List.{List, _++_}
 use native.Mathlib.Omega.{arith}
 use lib.ListN.{length, take, drop}
 use lib.Seq.{take-at, drop-at}
-use Rattle.octets.proofs.Splices.{splice-front}
 use Rattle.pdu.specs.Item.{Row, Value}
 use Rattle.pdu.specs.Table.{rowOf}
 use Rattle.pdu.specs.Pdus.{serviceOf, valuesOf}
 use Rattle.pdu.specs.Rules.{headBytes}
 use Rattle.pdu.specs.Read.{readPdu, dataAt, dataOf}
-use Rattle.pdu.specs.Write.{encoded, bufferOf, Wrote}
+use Rattle.pdu.specs.Write.{encoded, writeOutcome, writeCount, Wrote}
 use Rattle.pdu.specs.Allows.{Allows, Typed, Carries}
 use Rattle.pdu.proofs.Formed.{formed-says}
 use Rattle.pdu.proofs.Sound.{sound, shown}
 use Rattle.pdu.proofs.Items.{length-head, two-or-more, RowBack, row-back}
 use Rattle.pdu.proofs.Outcomes.{carried}
 use Rattle.pdu.proofs.Writing.{length-encoded}
-use Rattle.pdu.proofs.Only.{writes-bytes}
+use Rattle.pdu.proofs.Only.{writes-0}
+use Rattle.pdu.proofs.Filled.{buffer-filled}
 use Rattle.pdu.specs.declared.Pdu.{Pdu}
 use Rattle.pdu.specs.declared.Parsed.the-variants.{Is}
 use Rattle.pdu.specs.declared.Written.{Written}
-use Rattle.pdu.specs.declared.Written.the-variants.{Bytes}
 
 -- the bytes of a PDU carry it
 encoded-carries : (p : Pdu) (d : List ℕ) → Allows (rowOf (serviceOf p)) (valuesOf p) (dataAt p + length d) → Carries (encoded p d) p
@@ -48,17 +47,18 @@ read-back p d a =
     let r : Row = rowOf (serviceOf p) in
     (carried (encoded p d) p (encoded-carries p d a), drop-at (headBytes r (valuesOf p)) d (dataAt p) (length-head r (valuesOf p)))
 
--- AND FROM THE BUFFER: of what a write leaves there the first n bytes read as the PDU with its data, and the rest is as found
+-- AND FROM THE BUFFER: of what a write leaves there as many bytes as counted read as the PDU with its data, and the rest is as found
 pub buffer-back :
-    (p : Pdu) (d o e : List ℕ) (r : Written) (n : ℕ) → Wrote p d o r e → Typed p → r ≡ Bytes n →
-    (readPdu (take n e) ≡ Is p) × (dataOf p (take n e) ≡ d) × (drop n e ≡ drop n o)
-buffer-back p d o e r n w t b =
-    let h = writes-bytes p d o n t .0 (sym (w .result) ∙ b) in
-    let k : length (encoded p d) ≡ n = length-encoded p d ∙ sym (h .2) in
-    let f : e ≡ encoded p d ++ drop (length (encoded p d)) o = w .buffer ∙ ap (bufferOf p d o) b ∙ splice-front o (encoded p d) in
-    let front : take n e ≡ encoded p d = ap (take n) f ∙ take-at (encoded p d) (drop (length (encoded p d)) o) n k in
-    let back = read-back p d (h .1) in (
+    (p : Pdu) (d o e : List ℕ) (r : Written) → Wrote p d o r e → Typed p → writeOutcome r ≡ 0 →
+    (readPdu (take (writeCount r) e) ≡ Is p) × (dataOf p (take (writeCount r) e) ≡ d) × (drop (writeCount r) e ≡ drop (writeCount r) o)
+buffer-back p d o e r w t z =
+    let n : ℕ = writeCount r in
+    let a = writes-0 p d o t .0 (ap writeOutcome (sym (w .result)) ∙ z) .1 in
+    let f = buffer-filled p d o e r w z in
+    let k : length (encoded p d) ≡ n = sym (f .0) in
+    let front : take n e ≡ encoded p d = ap (take n) (f .1) ∙ take-at (encoded p d) (drop n o) n k in
+    let back = read-back p d a in (
       ap readPdu front ∙ back .0,
       ap (dataOf p) front ∙ back .1,
-      ap (drop n) f ∙ drop-at (encoded p d) (drop (length (encoded p d)) o) n k ∙ ap (λ (j : ℕ). drop j o) k,
+      ap (drop n) (f .1) ∙ drop-at (encoded p d) (drop n o) n k,
     )

@@ -11,7 +11,10 @@ pub mod Stands
 pub mod Codes
 pub mod Items
 pub mod Outcomes
+pub mod Founds
+pub mod Refusals
 pub mod Only
+pub mod Filled
 pub mod Back
 pub mod Kept
 pub mod Again

@@ -1,4 +1,4 @@
--- Only what the row allows is written, and all of it.
+-- When writing gives each of its numbers: only what the row allows is written, and all of it.
 -- Assumes nothing.
 use Prim.Native.Nat.{ℕ, _+_, _≤_, _<_}
 use mathlib.Core.Path.{_≡_, refl, sym, ap, _∙_}
@@ -47,21 +47,23 @@ unfolding writeOf
 gives p d o (short h) = simp (lt-ltb (length o) 16 h)
 gives p d o (long h t e) = simp (le-ltb (length o) 16 h) (ap (λ (u : Bool). cond u (Bytes (dataAt p + length d)) (Refused 13)) e)
 
-told : (p : Pdu) (d o : List ℕ) (z : Written) → writeOf p d o ≡ z → writeOutcome (given (due p d o)) ≡ writeOutcome z
-told p d o z e = ap writeOutcome (sym (gives p d o (due p d o)) ∙ e)
+-- the number of a writing is that of its case
+told : (p : Pdu) (d o : List ℕ) → writeOutcome (writeOf p d o) ≡ writeOutcome (given (due p d o))
+told p d o = ap writeOutcome (gives p d o (due p d o))
 
--- NOTHING ELSE IS GIVEN
-pub writes-one : (p : Pdu) (d o : List ℕ) → (writeOf p d o ≡ Bytes (dataAt p + length d)) ⊎ (writeOf p d o ≡ Refused 3) ⊎ (writeOf p d o ≡ Refused 13)
-writes-one p d o = from (due p d o)
+-- NO OTHER NUMBER IS GIVEN
+pub writes-one : (p : Pdu) (d o : List ℕ) → (writeOutcome (writeOf p d o) ≡ 0) ⊎ (writeOutcome (writeOf p d o) ≡ 3) ⊎ (writeOutcome (writeOf p d o) ≡ 13)
+writes-one p d o = from (due p d o) (told p d o)
   where
-    from : Due p d o → (writeOf p d o ≡ Bytes (dataAt p + length d)) ⊎ (writeOf p d o ≡ Refused 3) ⊎ (writeOf p d o ≡ Refused 13)
-    from (short h) = inr (inl (gives p d o (short h)))
-    from (long h true f) = inl (gives p d o (long h true f))
-    from (long h false f) = inr (inr (gives p d o (long h false f)))
+    from : (c : Due p d o) → writeOutcome (writeOf p d o) ≡ writeOutcome (given c) →
+        (writeOutcome (writeOf p d o) ≡ 0) ⊎ (writeOutcome (writeOf p d o) ≡ 3) ⊎ (writeOutcome (writeOf p d o) ≡ 13)
+    from (short h) e = inr (inl e)
+    from (long h true f) e = inl e
+    from (long h false f) e = inr (inr e)
 
 -- 3: EXACTLY IF THE BUFFER HAS LESS THAN 16 BYTES
-pub writes-3 : (p : Pdu) (d o : List ℕ) → (writeOf p d o ≡ Refused 3) ↔ (length o < 16)
-writes-3 p d o = (λ e. from (due p d o) (told p d o (Refused 3) e), λ h. gives p d o (short h))
+pub writes-3 : (p : Pdu) (d o : List ℕ) → (writeOutcome (writeOf p d o) ≡ 3) ↔ (length o < 16)
+writes-3 p d o = (λ e. from (due p d o) (sym (told p d o) ∙ e), λ h. ap writeOutcome (gives p d o (short h)))
   where
     from : (c : Due p d o) → writeOutcome (given c) ≡ 3 → length o < 16
     from (short h) n = h
@@ -71,10 +73,10 @@ writes-3 p d o = (λ e. from (due p d o) (told p d o (Refused 3) e), λ h. gives
 -- 13: EXACTLY IF IT HAS THEM AND THE ROW DOES NOT ALLOW THE FIELDS IN SO MANY BYTES
 pub writes-13 :
     (p : Pdu) (d o : List ℕ) → Typed p →
-    (writeOf p d o ≡ Refused 13) ↔ ((16 ≤ length o) × (Allows (rowOf (serviceOf p)) (valuesOf p) (dataAt p + length d) → ⊥))
+    (writeOutcome (writeOf p d o) ≡ 13) ↔ ((16 ≤ length o) × (Allows (rowOf (serviceOf p)) (valuesOf p) (dataAt p + length d) → ⊥))
 writes-13 p d o w = (
-  λ e. from (due p d o) (told p d o (Refused 13) e),
-  λ h. gives p d o (long (h .0) false (⊎-elim (λ f. absurd (h .1 (writable-is p d w .0 f))) (λ f. f) (decided (writable p d)))),
+  λ e. from (due p d o) (sym (told p d o) ∙ e),
+  λ h. ap writeOutcome (gives p d o (long (h .0) false (⊎-elim (λ f. absurd (h .1 (writable-is p d w .0 f))) (λ f. f) (decided (writable p d))))),
 )
   where
     from : (c : Due p d o) → writeOutcome (given c) ≡ 13 → (16 ≤ length o) × (Allows (rowOf (serviceOf p)) (valuesOf p) (dataAt p + length d) → ⊥)
@@ -82,18 +84,25 @@ writes-13 p d o w = (
     from (long h true f) n = absurd (omega arith)
     from (long h false f) n = (h, λ a. never (sym f ∙ writable-is p d w .1 a))
 
--- A COUNT OF BYTES: EXACTLY IF IT HAS THEM AND THE ROW ALLOWS THE FIELDS IN SO MANY BYTES
-pub writes-bytes :
-    (p : Pdu) (d o : List ℕ) (n : ℕ) → Typed p →
-    (writeOf p d o ≡ Bytes n) ↔ ((16 ≤ length o) × Allows (rowOf (serviceOf p)) (valuesOf p) (dataAt p + length d) × (n ≡ dataAt p + length d))
-writes-bytes p d o n w = (
-  λ e. from (due p d o) (told p d o (Bytes n) e) e,
-  λ h. gives p d o (long (h .0) true (writable-is p d w .1 (h .1))) ∙ ap Bytes (sym (h .2)),
+-- 0: EXACTLY IF IT HAS THEM AND THE ROW ALLOWS THE FIELDS IN SO MANY BYTES
+pub writes-0 :
+    (p : Pdu) (d o : List ℕ) → Typed p →
+    (writeOutcome (writeOf p d o) ≡ 0) ↔ ((16 ≤ length o) × Allows (rowOf (serviceOf p)) (valuesOf p) (dataAt p + length d))
+writes-0 p d o w = (
+  λ e. from (due p d o) (sym (told p d o) ∙ e),
+  λ h. ap writeOutcome (gives p d o (long (h .0) true (writable-is p d w .1 (h .1)))),
 )
   where
-    from : (c : Due p d o) → writeOutcome (given c) ≡ 0 → writeOf p d o ≡ Bytes n → (16 ≤ length o) × Allows (rowOf (serviceOf p)) (valuesOf p) (dataAt p + length d) × (n ≡ dataAt p + length d)
-    from (short h) z e = absurd (omega arith)
-    from (long h true f) z e =
-        let g : Bytes (dataAt p + length d) ≡ Bytes n = sym (gives p d o (long h true f)) ∙ e in
-        (h, writable-is p d w .0 f, cc)
-    from (long h false f) z e = absurd (omega arith)
+    from : (c : Due p d o) → writeOutcome (given c) ≡ 0 → (16 ≤ length o) × Allows (rowOf (serviceOf p)) (valuesOf p) (dataAt p + length d)
+    from (short h) n = absurd (omega arith)
+    from (long h true f) n = (h, writable-is p d w .0 f)
+    from (long h false f) n = absurd (omega arith)
+
+-- and then it is the count
+pub written : (p : Pdu) (d o : List ℕ) → writeOutcome (writeOf p d o) ≡ 0 → writeOf p d o ≡ Bytes (dataAt p + length d)
+written p d o e = from (due p d o) (gives p d o (due p d o)) (sym (told p d o) ∙ e)
+  where
+    from : (c : Due p d o) → writeOf p d o ≡ given c → writeOutcome (given c) ≡ 0 → writeOf p d o ≡ Bytes (dataAt p + length d)
+    from (short h) g n = absurd (omega arith)
+    from (long h true f) g n = g
+    from (long h false f) g n = absurd (omega arith)

@@ -1,4 +1,4 @@
--- When reading gives each of its outcomes.
+-- When reading gives each of its numbers, and which PDU with 0.
 -- Assumes nothing.
 use Prim.Native.Nat.{ℕ, _≤_, _<_}
 use mathlib.Core.Path.{_≡_, refl, sym, ap, subst, subst₂, _∙_}
@@ -74,23 +74,25 @@ gives b (size (inr h)) = simp (le-ltb (length b) 2 (omega arith), lt-ltb 16 (len
 gives b (none s h) = sized b Unknown s (unknown (codeOf b) .1 h)
 gives b (one s k t h f) = sized b (Listed k) s (found k (codeOf b) h) ∙ ap (λ (u : Bool). cond u (Is (builtOf k b)) (Refused 10)) f
 
--- an outcome says which case it was
-told : (b : List ℕ) (z : Parsed) → readPdu b ≡ z → readOutcome (given (due b)) ≡ readOutcome z
-told b z e = ap readOutcome (sym (gives b (due b)) ∙ e)
+-- the number of a reading is that of its case
+told : (b : List ℕ) → readOutcome (readPdu b) ≡ readOutcome (given (due b))
+told b = ap readOutcome (gives b (due b))
 
--- NOTHING ELSE IS GIVEN
-pub reads-one : (b : List ℕ) → ((p : Pdu) × (readPdu b ≡ Is p)) ⊎ (readPdu b ≡ Refused 5) ⊎ (readPdu b ≡ Refused 8) ⊎ (readPdu b ≡ Refused 10)
-reads-one b = from (due b)
+-- NO OTHER NUMBER IS GIVEN
+pub reads-one :
+    (b : List ℕ) → (readOutcome (readPdu b) ≡ 0) ⊎ (readOutcome (readPdu b) ≡ 5) ⊎ (readOutcome (readPdu b) ≡ 8) ⊎ (readOutcome (readPdu b) ≡ 10)
+reads-one b = from (due b) (told b)
   where
-    from : Due b → ((p : Pdu) × (readPdu b ≡ Is p)) ⊎ (readPdu b ≡ Refused 5) ⊎ (readPdu b ≡ Refused 8) ⊎ (readPdu b ≡ Refused 10)
-    from (size h) = inr (inl (gives b (size h)))
-    from (none s h) = inr (inr (inl (gives b (none s h))))
-    from (one s k true h f) = inl (builtOf k b, gives b (one s k true h f))
-    from (one s k false h f) = inr (inr (inr (gives b (one s k false h f))))
+    from : (d : Due b) → readOutcome (readPdu b) ≡ readOutcome (given d) →
+        (readOutcome (readPdu b) ≡ 0) ⊎ (readOutcome (readPdu b) ≡ 5) ⊎ (readOutcome (readPdu b) ≡ 8) ⊎ (readOutcome (readPdu b) ≡ 10)
+    from (size h) e = inr (inl e)
+    from (none s h) e = inr (inr (inl e))
+    from (one s k true h f) e = inl e
+    from (one s k false h f) e = inr (inr (inr e))
 
 -- 5: EXACTLY IF THE LENGTH IS NOT 2 TO 16
-pub reads-5 : (b : List ℕ) → (readPdu b ≡ Refused 5) ↔ ((length b < 2) ⊎ (16 < length b))
-reads-5 b = (λ e. from (due b) (told b (Refused 5) e), λ h. gives b (size h))
+pub reads-5 : (b : List ℕ) → (readOutcome (readPdu b) ≡ 5) ↔ ((length b < 2) ⊎ (16 < length b))
+reads-5 b = (λ e. from (due b) (sym (told b) ∙ e), λ h. ap readOutcome (gives b (size h)))
   where
     from : (d : Due b) → readOutcome (given d) ≡ 5 → (length b < 2) ⊎ (16 < length b)
     from (size h) e = h
@@ -99,8 +101,8 @@ reads-5 b = (λ e. from (due b) (told b (Refused 5) e), λ h. gives b (size h))
     from (one s k false h f) e = absurd (omega arith)
 
 -- 8: EXACTLY IF IT IS, AND NO ROW HAS THE CODE
-pub reads-8 : (b : List ℕ) → (readPdu b ≡ Refused 8) ↔ ((2 ≤ length b) × (length b ≤ 16) × ((k : Service) → has (rowOf k) (codeOf b) ≡ false))
-reads-8 b = (λ e. from (due b) (told b (Refused 8) e), λ h. gives b (none (record { least = h .0; most = h .1 }) (h .2)))
+pub reads-8 : (b : List ℕ) → (readOutcome (readPdu b) ≡ 8) ↔ ((2 ≤ length b) × (length b ≤ 16) × ((k : Service) → has (rowOf k) (codeOf b) ≡ false))
+reads-8 b = (λ e. from (due b) (sym (told b) ∙ e), λ h. ap readOutcome (gives b (none (record { least = h .0; most = h .1 }) (h .2))))
   where
     from : (d : Due b) → readOutcome (given d) ≡ 8 → (2 ≤ length b) × (length b ≤ 16) × ((k : Service) → has (rowOf k) (codeOf b) ≡ false)
     from (size h) e = absurd (omega arith)
@@ -111,10 +113,10 @@ reads-8 b = (λ e. from (due b) (told b (Refused 8) e), λ h. gives b (none (rec
 -- 10: EXACTLY IF IT IS, A ROW HAS THE CODE, AND THAT ROW DOES NOT ALLOW THE FIELDS IN SO MANY BYTES
 pub reads-10 :
     (b : List ℕ) → ((i : ℕ) → getD b i 0 < 256) →
-    (readPdu b ≡ Refused 10) ↔ ((2 ≤ length b) × (length b ≤ 16) × ((k : Service) × (has (rowOf k) (codeOf b) ≡ true) × (Allows (rowOf k) (valuesAt (rowOf k .items) 2 b) (length b) → ⊥)))
+    (readOutcome (readPdu b) ≡ 10) ↔ ((2 ≤ length b) × (length b ≤ 16) × ((k : Service) × (has (rowOf k) (codeOf b) ≡ true) × (Allows (rowOf k) (valuesAt (rowOf k .items) 2 b) (length b) → ⊥)))
 reads-10 b small = (
-  λ e. from (due b) (told b (Refused 10) e),
-  λ h. gives b (one (record { least = h .0; most = h .1 }) (h .2 .0) false (h .2 .1) (⊎-elim (λ f. absurd (h .2 .2 (fits-at-is b (h .2 .0) small (h .1) .0 f))) (λ f. f) (decided (fitsAt (h .2 .0) b)))),
+  λ e. from (due b) (sym (told b) ∙ e),
+  λ h. ap readOutcome (gives b (one (record { least = h .0; most = h .1 }) (h .2 .0) false (h .2 .1) (⊎-elim (λ f. absurd (h .2 .2 (fits-at-is b (h .2 .0) small (h .1) .0 f))) (λ f. f) (decided (fitsAt (h .2 .0) b))))),
 )
   where
     from : (d : Due b) → readOutcome (given d) ≡ 10 → (2 ≤ length b) × (length b ≤ 16) × ((k : Service) × (has (rowOf k) (codeOf b) ≡ true) × (Allows (rowOf k) (valuesAt (rowOf k .items) 2 b) (length b) → ⊥))
@@ -133,9 +135,9 @@ carried b p c =
     let g : builtOf k b ≡ p = ap (pduOf k) (sym (c .fields)) ∙ again p in
     e ∙ ap Is g
 
--- A PDU: EXACTLY IF THE BYTES CARRY IT
+-- WHICH PDU: THE ONE THAT THE BYTES CARRY
 pub reads-pdu : (b : List ℕ) (p : Pdu) → ((i : ℕ) → getD b i 0 < 256) → (readPdu b ≡ Is p) ↔ Carries b p
-reads-pdu b p small = (λ e. from (due b) (told b (Is p) e) e, carried b p)
+reads-pdu b p small = (λ e. from (due b) (sym (told b) ∙ ap readOutcome e) e, carried b p)
   where
     built : (k : Service) → 2 ≤ length b → has (rowOf k) (codeOf b) ≡ true → Allows (rowOf k) (valuesAt (rowOf k .items) 2 b) (length b) → Carries b (builtOf k b)
     built k l h a =
@@ -157,3 +159,13 @@ reads-pdu b p small = (λ e. from (due b) (told b (Is p) e) e, carried b p)
         let q : builtOf k b ≡ p = cc in
         subst (Carries b) q (built k (s .least) h (fits-at-is b k small (s .most) .0 f))
     from (one s k false h f) n e = absurd (omega arith)
+
+-- 0: EXACTLY IF THE BYTES CARRY A PDU
+pub reads-0 : (b : List ℕ) → ((i : ℕ) → getD b i 0 < 256) → (readOutcome (readPdu b) ≡ 0) ↔ ((p : Pdu) × Carries b p)
+reads-0 b small = (λ e. from (due b) (sym (told b) ∙ e), λ h. ap readOutcome (carried b (h .0) (h .1)))
+  where
+    from : (d : Due b) → readOutcome (given d) ≡ 0 → (p : Pdu) × Carries b p
+    from (size h) e = absurd (omega arith)
+    from (none s h) e = absurd (omega arith)
+    from (one s k true h f) e = (builtOf k b, reads-pdu b (builtOf k b) small .0 (gives b (one s k true h f)))
+    from (one s k false h f) e = absurd (omega arith)

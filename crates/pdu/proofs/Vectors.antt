@@ -6,12 +6,12 @@ use mathlib.Core.List.{List, [], _∷_, map}
 use Rattle.octets.specs.Bytes.{numAt, bytesOf}
 use Rattle.pdu.specs.Table.{find}
 use Rattle.pdu.specs.Rules.{lowAt, fourAt, twelveAt, headBytes}
-use Rattle.pdu.specs.Read.{readPdu, dataOf}
+use Rattle.pdu.specs.Read.{readPdu, readOutcome, dataOf}
 use Rattle.pdu.specs.Write.{encoded}
 use Rattle.pdu.specs.declared.Pdu.{Pdu}
 use Rattle.pdu.specs.declared.Pdu.the-variants.{GroupValueRead, GroupValueResponse, GroupValueWrite, IndividualAddressWrite, IndividualAddressRead, SerialNumberRead, SerialNumberWrite, DeviceDescriptorRead, PropertyValueRead, PropertyValueWrite, PropertyDescriptionRead, MemoryRead, MemoryWrite, MemoryBitWrite, AuthorizeRequest, KeyWrite, Restart, IndividualAddressResponse, SerialNumberResponse, DeviceDescriptorResponse, PropertyValueResponse, PropertyDescriptionResponse, MemoryResponse, AuthorizeResponse, KeyResponse}
 use Rattle.pdu.specs.declared.Parsed.{Parsed}
-use Rattle.pdu.specs.declared.Parsed.the-variants.{Is, Refused}
+use Rattle.pdu.specs.declared.Parsed.the-variants.{Is}
 
 -- an APDU, the PDU that it is, its data, and the APDU that writing these gives
 pub record Example : Type 0 where
@@ -109,7 +109,7 @@ refusals =
     refusal (0x03 ∷ 0xD9 ∷ 0x01 ∷ 0x33 ∷ 0x00 ∷ 0x84 ∷ 0x10 ∷ 0x00 ∷ 0x31 ∷ []) 10 ∷
     []
 
--- AND THESE ARE REFUSED
-pub refused : map (λ (x : Refusal). readPdu (x .apdu)) refusals ≡ map (λ (x : Refusal). Refused (x .number)) refusals
+-- AND THESE ARE REFUSED BY THAT NUMBER
+pub refused : map (λ (x : Refusal). readOutcome (readPdu (x .apdu))) refusals ≡ map (λ (x : Refusal). x .number) refusals
 unfolding readPdu find numAt lowAt fourAt twelveAt
 refused = refl

@@ -81,3 +81,8 @@ find (k ∷ ks) c = cond (has (rowOf k) c) (Listed k) (find ks c)
 -- WHICH SERVICE A CODE NAMES
 abbrev pub serviceAt : ℕ → Found
 serviceAt c = find services c
+
+-- the outcome of that by its number: 0 for a service, 8 for unknown
+abbrev pub foundOutcome : Found → ℕ
+foundOutcome (Listed k) = 0
+foundOutcome Unknown = 8
