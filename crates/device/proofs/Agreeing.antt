@@ -14,7 +14,7 @@ use Rattle.sheet.specs.Property as property
 use Rattle.sheet.specs.Group as group
 use Rattle.sheet.specs.Entries.{count, place, entry, bodyAt, bodyEnd}
 use Rattle.sheet.specs.Frame.{Agree}
-use Rattle.sheet.proofs.Good.{Good}
+use Rattle.sheet.proofs.Good.{Good, accepted}
 use Rattle.sheet.proofs.Runs.{Covered}
 use Rattle.sheet.proofs.Sames.{count-same, place-same, property-same}
 use Rattle.sheet.proofs.Frames.{agree-trans, kept}
@@ -43,7 +43,7 @@ module _ {s : List ℕ} (ok : Good 1 s) where
   pub memory-keeps : (a n i : ℕ) (ds : List ℕ) → length ds ≡ n → Covered s regions i a n → Agree s (splice s (spot s regions a i) ds)
   unfolding bodyAt bodyEnd
   memory-keeps a n i ds e c =
-      body-store ok regions i (spot s regions a i) ds
+      body-store 1 (accepted ok) regions i (spot s regions a i) ds
       (record { kind = omega arith; below = c .below; from = omega arith; to = omega (arith, c) })
       (λ g. absurd (omega arith))
 
@@ -53,7 +53,7 @@ module _ {s : List ℕ} (ok : Good 1 s) where
       Agree s (splice s (group.offset of entry s groups i) ds)
   unfolding bodyAt bodyEnd
   group-keeps i ds h l f =
-      body-store ok groups i (group.offset of entry s groups i) ds
+      body-store 1 (accepted ok) groups i (group.offset of entry s groups i) ds
       (record { kind = omega arith; below = h; from = omega arith; to = omega arith })
       (λ g. f)
 
@@ -65,7 +65,7 @@ module _ {s : List ℕ} (ok : Good 1 s) where
   elements-keep i n t ds h a e =
       let z : ℕ = property.element of entry s properties i in
       let u : t - 1 + n ≤ property.maximum of entry s properties i = omega (arith, a) in
-      body-store ok properties i (property.offset of entry s properties i + (t - 1) * z) ds
+      body-store 1 (accepted ok) properties i (property.offset of entry s properties i + (t - 1) * z) ds
       (record { kind = omega arith; below = h; from = omega arith; to = omega (arith, mul-le-mul-right z u) })
       (λ g. absurd (omega arith))
 

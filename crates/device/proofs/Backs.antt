@@ -16,7 +16,7 @@ use Rattle.sheet.specs.Region as region
 use Rattle.sheet.specs.Property as property
 use Rattle.sheet.specs.Entries.{count, place, entry, keyOf, bodyAt}
 use Rattle.sheet.specs.Frame.{Agree}
-use Rattle.sheet.proofs.Good.{Good}
+use Rattle.sheet.proofs.Good.{Good, accepted}
 use Rattle.sheet.proofs.Keys.{key-once}
 use Rattle.sheet.proofs.Lie.{after-contents}
 use Rattle.sheet.proofs.Standing.{place-in}
@@ -50,7 +50,7 @@ module _ {s : List ℕ} (ok : Good 1 s) where
   unfolding keyOf
   same-property {s′} a object id i j k m =
       let h : j < count s properties = omega (arith, m .there, count-same a properties) in
-      key-once ok properties (omega arith) i j (k .there) h
+      key-once 1 s (accepted ok) properties (omega arith) i j (k .there) h
       (k .key ∙ sym (m .key) ∙ property-same a j property.key h (omega arith) (omega arith))
 
   pub same-region :

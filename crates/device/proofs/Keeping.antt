@@ -14,7 +14,7 @@ use Rattle.sheet.specs.Layout.{_of_}
 use Rattle.sheet.specs.Head as head
 use Rattle.sheet.specs.Frame.{Agree}
 use Rattle.sheet.specs.Rules.{entryDemands}
-use Rattle.sheet.proofs.Good.{Good}
+use Rattle.sheet.proofs.Good.{Good, accepted}
 use Rattle.sheet.proofs.Stores.{key-store, address-store, flags-store}
 use Rattle.pdu.specs.Read.{dataOf}
 use Rattle.pdu.proofs.Truths.{and-is, below-is}
@@ -71,12 +71,12 @@ module _ {s : List ℕ} (ok : Good 1 s) (d : List ℕ) where
       same
 
   address-new : (address : ℕ) → Agree s (splice s (head.address .at) (bytesOf 2 address))
-  address-new address = address-store ok (bytesOf 2 address) (length-bytes 2 address)
+  address-new address = address-store 1 (accepted ok) (bytesOf 2 address) (length-bytes 2 address)
 
   -- new flags, from the old
   pub flags-new : (f : ℕ) → f ≤ 3 → Agree s (splice s (head.flags .at) (bytesOf 1 f))
   unfolding bytesOf
-  flags-new f h = flags-store ok _ (omega arith)
+  flags-new f h = flags-store 1 (accepted ok) _ (omega arith)
 
   -- a write to memory
   change :
@@ -133,7 +133,7 @@ module _ {s : List ℕ} (ok : Good 1 s) (level group : ℕ) (a : List ℕ) where
       change ok _ says-change 5 level n address (λ o. store.Bits o n) (λ o. build n (bitAt s o n (dataOf (MemoryBitWrite n address) a))) (λ o. refl) (λ o. length-build n _)
   keeps-decided (AuthorizeRequest key) r = as-is
   keeps-decided (KeyWrite named key) r =
-      key-write-cases level named key (K (KeyWrite named key)) (λ h l. key-store ok named (bytesOf 4 key) (omega arith) (length-bytes 4 key)) as-is
+      key-write-cases level named key (K (KeyWrite named key)) (λ h l. key-store 1 (accepted ok) named (bytesOf 4 key) (omega arith) (length-bytes 4 key)) as-is
   keeps-decided Restart r = flags-new ok [] _ (omega (arith, ok .zeros))
   keeps-decided IndividualAddressResponse r = as-is
   keeps-decided (SerialNumberResponse serial domain) r = as-is

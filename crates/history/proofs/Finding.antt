@@ -14,7 +14,7 @@ use Rattle.sheet.specs.Property as property
 use Rattle.sheet.specs.Entries.{count, place, entry, keyOf}
 use Rattle.sheet.specs.Lookup.{covers}
 use Rattle.sheet.specs.Places.{PropertyWith}
-use Rattle.sheet.proofs.Good.{Good}
+use Rattle.sheet.proofs.Good.{Good, accepted}
 use Rattle.sheet.proofs.Standing.{entry-at}
 use Rattle.sheet.proofs.Seeks.{seek-hit, seek-passes}
 use Rattle.sheet.proofs.Keys.{index-hit, index-key, key-is, key-parts}
@@ -56,7 +56,7 @@ module _ {s : List ℕ} (g : Good 1 s) where
   pub property-hit : {object id i : ℕ} → PropertyWith s object id i → indexFor s object id ≡ i
   unfolding indexFor keyOf
   property-hit {object} {id} {i} q =
-      index-hit g properties (omega arith) i (object * 256 + id) (q .there) (omega (arith, key-is (entry s properties i), q .sameObject, q .sameId))
+      index-hit 1 s (accepted g) properties (omega arith) i (object * 256 + id) (q .there) (omega (arith, key-is (entry s properties i), q .sameObject, q .sameId))
 
 -- the property that the search gives has the object and the id, ids being bytes
 pub property-found :

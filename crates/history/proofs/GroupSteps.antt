@@ -16,9 +16,10 @@ use Rattle.sheet.specs.Kind.{groups}
 use Rattle.sheet.specs.Layout.{_of_}
 use Rattle.sheet.specs.Group as group
 use Rattle.sheet.specs.Entries.{count, entry, keyOf, bodyAt, bodyEnd}
+use Rattle.sheet.specs.Stores.{Fit}
+use Rattle.sheet.proofs.Good.{accepted}
 use Rattle.sheet.proofs.Keys.{key-once}
 use Rattle.sheet.proofs.Sames.{count-same, group-same}
-use Rattle.sheet.proofs.Stores.{Fit}
 use Rattle.pdu.specs.declared.Pdu.{Pdu}
 use Rattle.pdu.proofs.Truths.{never}
 use Rattle.device.specs.Octets.{Octets}
@@ -126,7 +127,7 @@ module _ (f : First) (b : Begins f) (h : List Event) (x : State) (inv : Inv f h 
     group-once : (i j : ℕ) → Group R i → Group R j → i ≡ j
     unfolding keyOf
     group-once i j m n =
-        key-once (now inv b) groups (omega arith) i j (m .there) (n .there) (m .address ∙ sym (n .address))
+        key-once 1 _ (accepted (now inv b)) groups (omega arith) i j (m .there) (n .there) (m .address ∙ sym (n .address))
 
     pub unfit :
         (i : ℕ) → Group R i → (length D ≡ group.code of entry (x .sheet) groups i → ⊥) → (j : ℕ) → Group R j →

@@ -12,6 +12,7 @@ use Rattle.octets.specs.Splice.{splice}
 use Rattle.octets.proofs.Numbers.{length-bytes}
 use Rattle.sheet.specs.Layout.{_of_}
 use Rattle.sheet.specs.Head as head
+use Rattle.sheet.proofs.Good.{accepted}
 use Rattle.sheet.proofs.Stores.{key-store}
 use Rattle.pdu.specs.declared.Pdu.the-variants.{AuthorizeRequest, KeyWrite}
 use Rattle.device.specs.Events.{Event, State, request}
@@ -60,7 +61,7 @@ module _ (f : First) (b : Begins f) (h : List Event) (x : State) (inv : Inv f h 
       (store-run (fine inv b) (inv .means) _ _ ((head.key named) .at) (bytesOf 4 number)
       (omega (arith, size, w .known, long (fine inv b) (inv .means)))
       (key-run (f .sheet) (content f h) (given R (KeyWrite named number)) named number (omega (arith, w .known)))
-      (key-store (now inv b) named (bytesOf 4 number) (omega (arith, w .known)) size)
+      (key-store 1 (accepted (now inv b)) named (bytesOf 4 number) (omega (arith, w .known)) size)
       (octets-bytes 4 number))
     where
       size : length (bytesOf 4 number) ≡ 4

@@ -17,10 +17,11 @@ use Rattle.sheet.specs.Layout.{_of_}
 use Rattle.sheet.specs.Head as head
 use Rattle.sheet.specs.Entries.{count, bodyAt, bodyEnd, InBody}
 use Rattle.sheet.specs.Frame.{Agree}
-use Rattle.sheet.proofs.Good.{Good}
+use Rattle.sheet.specs.Stores.{Inside, Fit}
+use Rattle.sheet.proofs.Good.{Good, accepted}
 use Rattle.sheet.proofs.Frames.{agree-trans, kept}
-use Rattle.sheet.proofs.Stores.{Fit, body-store, address-store, flags-store}
-use Rattle.sheet.proofs.Lie.{Inside, within, disjoint}
+use Rattle.sheet.proofs.Stores.{body-store, address-store, flags-store}
+use Rattle.sheet.proofs.Lie.{within, disjoint}
 use Rattle.sheet.proofs.Sames.{count-same, at-same, end-same}
 use Rattle.history.specs.Location.{Location, Place}
 use Rattle.device.specs.Octets.{Octets}
@@ -82,7 +83,7 @@ module _ {f : List ℕ} (g : Good 1 f) {c : Location → ℕ} {adr prog : ℕ} {
       (v : ℕ) → v ≤ 3 → v / 2 % 2 ≡ head.verify f → Means f c adr (v % 2) grp (splice s (head.flags .at) (bytesOf 1 v))
   store-flags v low e =
       record {
-        agree = agree-trans (m .agree) (subst (λ (ds : List ℕ). Agree s (splice s 14 ds)) (one-byte v low) (flags-store fine v low));
+        agree = agree-trans (m .agree) (subst (λ (ds : List ℕ). Agree s (splice s 14 ds)) (one-byte v low) (flags-store 1 (accepted fine) v low));
         octets = octets-splice s 14 ds room (m .octets) (octets-bytes 1 v);
         holds = λ x p h. late p (omega (arith, place-after g h)) ∙ m .holds x p h;
         still = λ p h. off p (h .flags) ∙ m .still p h;
@@ -114,7 +115,7 @@ module _ {f : List ℕ} (g : Good 1 f) {c : Location → ℕ} {adr prog : ℕ} {
   pub store-address : (v : ℕ) → v < 65536 → Means f c v prog grp (splice s (head.address .at) (bytesOf 2 v))
   store-address v low =
       record {
-        agree = agree-trans (m .agree) (address-store fine ds size);
+        agree = agree-trans (m .agree) (address-store 1 (accepted fine) ds size);
         octets = octets-splice s 16 ds room (m .octets) (octets-bytes 2 v);
         holds = λ x p h. late p (place-after g h) ∙ m .holds x p h;
         still = λ p h. off p (h .address) ∙ m .still p h;
@@ -153,7 +154,7 @@ module _ {f : List ℕ} (g : Good 1 f) {c : Location → ℕ} {adr prog : ℕ} {
         Fit s groups i ds → Octets ds → Means f c adr prog new (splice s (bodyAt f groups i) ds)
     store-group new here there fit b =
         record {
-          agree = agree-trans (m .agree) (body-store fine groups i o ds lies fit);
+          agree = agree-trans (m .agree) (body-store 1 (accepted fine) groups i o ds lies fit);
           octets = octets-splice s o ds room (m .octets) b;
           holds = λ x p h. off p (λ k. no-group g h k) ∙ m .holds x p h;
           still = λ p h. off p (h .group i) ∙ m .still p h;

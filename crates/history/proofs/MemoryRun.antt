@@ -13,7 +13,7 @@ use Rattle.sheet.specs.Layout.{_of_}
 use Rattle.sheet.specs.Region as region
 use Rattle.sheet.specs.Entries.{entry}
 use Rattle.sheet.specs.Places.{Stands}
-use Rattle.sheet.proofs.Good.{Good}
+use Rattle.sheet.proofs.Good.{Good, accepted}
 use Rattle.sheet.proofs.Runs.{Covered, stands-once}
 use Rattle.device.specs.Right.{memoryAt}
 use Rattle.pdu.proofs.Truths.{never, and-is}
@@ -91,4 +91,4 @@ module _ {s : List ℕ} (g : Good 1 s) {i y n : ℕ} (c : Covered s regions i y 
       }
     where
       within : (p z : ℕ) → Place s (memory z) p → y ≤ z → z < y + n → (here ≤ p) × (p < here + length ds)
-      within p z (ofMemory h) a b = let k = stands-once g h (stands-at z a b) .0 in omega arith
+      within p z (ofMemory h) a b = let k = stands-once 1 (accepted g) h (stands-at z a b) .0 in omega arith

@@ -10,7 +10,9 @@ use Rattle.octets.specs.Splice.{splice}
 use Rattle.sheet.specs.Kind.{regions}
 use Rattle.sheet.specs.Region as region
 use Rattle.sheet.specs.Entries.{entry, bodyAt, bodyEnd}
-use Rattle.sheet.proofs.Lie.{Inside, inside-within}
+use Rattle.sheet.specs.Stores.{Inside}
+use Rattle.sheet.proofs.Good.{accepted}
+use Rattle.sheet.proofs.Lie.{inside-within}
 use Rattle.sheet.proofs.Sames.{region-same}
 use Rattle.sheet.proofs.Stores.{body-store}
 use Rattle.sheet.proofs.Runs.{Covered}
@@ -68,7 +70,7 @@ module _ (f : First) (b : Begins f) (h : List Event) (x : State) (inv : Inv f h 
         store-run (fine inv b) (inv .means) named given (memoryAt (entry (x .sheet) regions i) y) ds
         (inside-within (now inv b) (inside ds size))
         (rw at-first (memory-run (fine inv b) first named given ds range size gives))
-        (body-store (now inv b) regions i (memoryAt (entry (x .sheet) regions i) y) ds (inside ds size) (λ e. absurd (omega arith)))
+        (body-store 1 (accepted (now inv b)) regions i (memoryAt (entry (x .sheet) regions i) y) ds (inside ds size) (λ e. absurd (omega arith)))
         small
 
     -- what an address of the range holds

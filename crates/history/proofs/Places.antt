@@ -15,7 +15,7 @@ use Rattle.sheet.specs.Entries.{count, place, contents, entry, keyOf, bodyAt, b
 use Rattle.sheet.specs.Places.{Position, inHead, inEntry, inBody, Stands, PropertyWith}
 use Rattle.sheet.specs.Frame.{Fixed}
 use Rattle.sheet.specs.Rules.{ruleOf}
-use Rattle.sheet.proofs.Good.{Good, good}
+use Rattle.sheet.proofs.Good.{Good, good, accepted}
 use Rattle.sheet.proofs.Lie.{within, after-contents, disjoint}
 use Rattle.sheet.proofs.Standing.{InEntry, after-head, place-in, one-entry}
 use Rattle.sheet.proofs.Positions.{position}
@@ -41,7 +41,7 @@ module _ {s : List ℕ} (g : Good 1 s) where
   pub property-once : {object id i j : ℕ} → PropertyWith s object id i → PropertyWith s object id j → i ≡ j
   unfolding keyOf
   property-once {object} {id} {i} {j} a b =
-      key-once g properties (omega arith) i j (a .there) (b .there)
+      key-once 1 s (accepted g) properties (omega arith) i j (a .there) (b .there)
       (let p = key-is (entry s properties i) in let q = key-is (entry s properties j) in omega (arith, a .sameObject, a .sameId, b .sameObject, b .sameId))
 
   -- locations stand in the keys, in the entries, or after them
@@ -97,7 +97,7 @@ module _ {s : List ℕ} (g : Good 1 s) where
 
   -- and each stands at one alone
   pub place-once : {x : Location} {p q : ℕ} → Place s x p → Place s x q → p ≡ q
-  place-once (ofMemory a) (ofMemory b) = stands-once g a b .0
+  place-once (ofMemory a) (ofMemory b) = stands-once 1 (accepted g) a b .0
   place-once (ofBody i a h e) (ofBody m b l f) = let z = ap (bodyAt s properties) (property-once a b) in omega arith
   place-once (ofCounter i a h e) (ofCounter m b l f) = let z = property-once a b in omega arith
   place-once (ofKey h k e) (ofKey c d f) = omega arith
@@ -179,7 +179,7 @@ module _ {s : List ℕ} (g : Good 1 s) where
 
     -- every position is a location's, a group object's or a field's
     pub sort : p < length s → Sort s p
-    sort h = from (position g p h)
+    sort h = from (position 1 (accepted g) p h)
       where
         from : Position s p → Sort s p
         from (inHead l) = in-head l (decLe 18 p) (decLt p 30)

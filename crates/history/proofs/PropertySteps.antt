@@ -18,8 +18,10 @@ use Rattle.sheet.specs.Entries.{count, place, entry, bodyAt, bodyEnd}
 use Rattle.sheet.specs.Frame.{Agree}
 use Rattle.sheet.specs.Rules.{entryDemands}
 use Rattle.sheet.specs.Places.{PropertyWith}
+use Rattle.sheet.specs.Stores.{Inside}
+use Rattle.sheet.proofs.Good.{accepted}
 use Rattle.sheet.proofs.Frames.{kept}
-use Rattle.sheet.proofs.Lie.{Inside, inside-within}
+use Rattle.sheet.proofs.Lie.{inside-within}
 use Rattle.sheet.proofs.Sames.{count-same, place-same, property-same}
 use Rattle.sheet.proofs.Standing.{field-at, place-in}
 use Rattle.sheet.proofs.Counts.{count-store}
@@ -187,7 +189,7 @@ module _ (f : First) (b : Begins f) (h : List Event) (x : State) (inv : Inv f h 
           store-run (fine inv b) (inv .means) (onBodies (names (f .sheet) (writeProperty object id n z))) (Given object id n z) (elementAt S z) d
           (inside-within (now inv b) inside)
           (rw at-first (body-run (fine inv b) is n z (Given object id n z) d (rw element-same at size) (el .start) (rw maximum-same at (el .end)) gives-each))
-          (body-store (now inv b) properties i (elementAt S z) d inside (λ q. absurd (omega arith)))
+          (body-store 1 (accepted (now inv b)) properties i (elementAt S z) d inside (λ q. absurd (omega arith)))
           (rw e (octets-data (P object id n z) a octets))
 
       pub property-written :

@@ -11,7 +11,7 @@ use Rattle.sheet.specs.Layout.{_of_}
 use Rattle.sheet.specs.Group as group
 use Rattle.sheet.specs.Entries.{count, entry, keyOf}
 use Rattle.sheet.specs.Lookup.{indexOf}
-use Rattle.sheet.proofs.Good.{Good}
+use Rattle.sheet.proofs.Good.{Good, accepted}
 use Rattle.sheet.proofs.Keys.{index-hit, index-key}
 use Rattle.pdu.specs.declared.Pdu.the-variants.{GroupValueResponse}
 use Rattle.judge.specs.declared.Store.the-variants as store
@@ -76,7 +76,7 @@ module _ (s : List ℕ) (address : ℕ) where
 module _ {s : List ℕ} (ok : Good 1 s) (address i : ℕ) where
   here : (w : ℕ) → Lets s w address i → indexOf s groups address ≡ i
   unfolding keyOf
-  here w t = index-hit ok groups (omega arith) i address (t .there) (t .named)
+  here w t = index-hit 1 s (accepted ok) groups (omega arith) i address (t .there) (t .named)
 
   reads : Lets s 1 address i → groupReadOf s address ≡ valueOf s (group.code of entry s groups i) (group.offset of entry s groups i)
   unfolding groupReadOf flagsAt

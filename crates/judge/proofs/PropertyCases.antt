@@ -14,7 +14,7 @@ use Rattle.sheet.specs.Layout.{_of_}
 use Rattle.sheet.specs.Property as property
 use Rattle.sheet.specs.Entries.{count, place, entry, keyOf}
 use Rattle.sheet.specs.Lookup.{nthOf, rank, objectAt}
-use Rattle.sheet.proofs.Good.{Good}
+use Rattle.sheet.proofs.Good.{Good, accepted}
 use Rattle.sheet.proofs.Keys.{index-hit, index-key}
 use Rattle.sheet.proofs.Ranks.{nth-hit, nth-is}
 use Rattle.pdu.proofs.Truths.{and-is}
@@ -149,7 +149,7 @@ among-back {n} {s} {m} a = simp (le-leb 1 s (a .start), le-leb 1 n (a .some), le
 module _ {sheet : List ℕ} (ok : Good 1 sheet) (object id i : ℕ) (k : Keyed sheet object id i) where
   here : propertyAt sheet object id ≡ i
   unfolding keyOf
-  here = index-hit ok properties (omega arith) i (object * 256 + id) (k .there) (k .key)
+  here = index-hit 1 sheet (accepted ok) properties (omega arith) i (object * 256 + id) (k .there) (k .key)
 
   module _ (level n s : ℕ) where
     reads : propertyReadOf sheet level object id n s ≡ readIn (entry sheet properties i) level object id n s

@@ -95,7 +95,7 @@ module _ {ed : ℕ} {s s′ : List ℕ} (g : Good ed s) (a : Agree s s′) where
   bodies k i hk hi =
       (offset-same a i k hk hi ∙ g .bodies k i hk hi .0 ∙ sym (reached-same a k i hk hi), (six i k hk hi, tt))
 
-  -- WHAT AGREES WITH AN ACCEPTED SHEET IS ACCEPTED
+  -- what agrees with a sheet whose demands are all met meets them too
   pub kept : Good ed s′
   kept =
       record {

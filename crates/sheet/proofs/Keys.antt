@@ -12,10 +12,10 @@ use Rattle.sheet.specs.Kind.{kinds}
 use Rattle.sheet.specs.Layout.{_of_}
 use Rattle.sheet.specs.Property as property
 use Rattle.sheet.specs.Entries.{count, keyOf, floor}
-use Rattle.sheet.specs.Rules.{entryDemands}
+use Rattle.sheet.specs.Rules.{entryDemands, ruleIn}
 use Rattle.sheet.specs.Lookup.{indexOf}
 use Rattle.sheet.proofs.ByKind.{eachKind}
-use Rattle.sheet.proofs.Good.{Good}
+use Rattle.sheet.proofs.Good.{Good, good}
 use Rattle.sheet.proofs.Rising.{rising}
 use Rattle.sheet.proofs.Seeks.{seek-bound, seek-passes, seek-hit, seek-none}
 
@@ -51,21 +51,25 @@ module _ {ed : ℕ} {s : List ℕ} (g : Good ed s) where
     pub key-rising : (i j : ℕ) → i < j → j < count s k → keyOf s k i < keyOf s k j
     key-rising i j h l = le-trans (under-next i k hk (omega arith)) (past-floor i j h l)
 
-    -- two entries of a kind have two first words
-    pub key-once : (i j : ℕ) → i < count s k → j < count s k → keyOf s k i ≡ keyOf s k j → i ≡ j
-    key-once i j hi hj e = go (decLt i j) (decLt j i)
-      where
-        go : Dec (i < j) → Dec (j < i) → i ≡ j
-        go (yes h) d = absurd (omega (arith, key-rising i j h hj))
-        go (no h) (yes l) = absurd (omega (arith, key-rising j i l hi))
-        go (no h) (no l) = omega arith
+module _ (ed : ℕ) (s : List ℕ) (ok : ruleIn ed s ≡ 0) (k : ℕ) (hk : k < kinds) where
+  rises : (i j : ℕ) → i < j → j < count s k → keyOf s k i < keyOf s k j
+  rises = key-rising (good ed s ok) k hk
 
-    -- A LOOKUP FINDS THE ENTRY THAT HAS THE FIRST WORD
-    pub index-hit : (i x : ℕ) → i < count s k → keyOf s k i ≡ x → indexOf s k x ≡ i
-    unfolding indexOf
-    index-hit i x hi e =
-        seek-hit _ (count s k) i hi (eq-eqb (keyOf s k i) x e)
-        (λ m hm q. key-once m i hm hi (eqb-true (keyOf s k m) x q ∙ sym e))
+  -- two entries of a kind have two first words
+  pub key-once : (i j : ℕ) → i < count s k → j < count s k → keyOf s k i ≡ keyOf s k j → i ≡ j
+  key-once i j hi hj e = go (decLt i j) (decLt j i)
+    where
+      go : Dec (i < j) → Dec (j < i) → i ≡ j
+      go (yes h) d = absurd (omega (arith, rises i j h hj))
+      go (no h) (yes l) = absurd (omega (arith, rises j i l hi))
+      go (no h) (no l) = omega arith
+
+  -- A LOOKUP FINDS THE ENTRY THAT HAS THE FIRST WORD
+  pub index-hit : (i x : ℕ) → i < count s k → keyOf s k i ≡ x → indexOf s k x ≡ i
+  unfolding indexOf
+  index-hit i x hi e =
+      seek-hit _ (count s k) i hi (eq-eqb (keyOf s k i) x e)
+      (λ m hm q. key-once m i hm hi (eqb-true (keyOf s k m) x q ∙ sym e))
 
 module _ (s : List ℕ) (k x : ℕ) where
   -- a lookup gives an entry or the count

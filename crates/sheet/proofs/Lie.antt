@@ -8,17 +8,11 @@ use native.Mathlib.Omega.{arith}
 use Rattle.sheet.specs.Kind.{kinds}
 use Rattle.sheet.specs.Entries.{count, contents, entry, lengthOf, bodyAt, bodyEnd, startOf, reached, InBody}
 use Rattle.sheet.specs.Rules.{bodyDemands}
+use Rattle.sheet.specs.Stores.{Inside}
 use Rattle.sheet.proofs.Good.{Good}
 use Rattle.sheet.proofs.Rising.{Step, between, rising, once}
 
--- the n positions from o on lie in body i of kind k
-pub record Inside (s : List ℕ) (k i o n : ℕ) : Type 0 where
-  pub kind : k < kinds
-  pub below : i < count s k
-  pub from : bodyAt s k i ≤ o
-  pub to : o + n ≤ bodyEnd s k i
-
--- each of them lies in that body
+-- each position of a run inside a body lies in that body
 pub inside-at : {s : List ℕ} {k i o n : ℕ} → Inside s k i o n → (p : ℕ) → o ≤ p → p < o + n → InBody s k i p
 inside-at h p l m = record { kind = h .kind; below = h .below; from = omega (arith, h .from); to = omega (arith, h .to) }
 

@@ -14,14 +14,11 @@ use Rattle.sheet.specs.Group as group
 use Rattle.sheet.specs.Entries.{count, size, place, entry, bodyAt}
 use Rattle.sheet.specs.Rules.{entryDemands, bodyDemands}
 use Rattle.sheet.specs.Frame.{Agree, Fixed}
+use Rattle.sheet.specs.Stores.{countAt}
 use Rattle.sheet.proofs.Good.{Good}
 use Rattle.sheet.proofs.Sames.{place-front}
 use Rattle.sheet.proofs.Standing.{entry-at, field-at}
 use Rattle.sheet.proofs.Ties.{six-to}
-
--- where the count of property i stands
-abbrev pub countAt : List ℕ → ℕ → ℕ
-countAt s i = place s properties i + property.count .at
 
 -- what such a change leaves as it is, and what it may change within bounds
 pub record Mild (s s′ : List ℕ) : Type 0 where

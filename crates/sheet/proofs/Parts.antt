@@ -1,17 +1,23 @@
--- Where a lookup's part stands, in numbers.
+-- Where a lookup's part stands, in numbers, and the part that these cut out of the sheet.
 -- Assumes nothing.
-use Prim.Native.Nat.{ℕ, _+_, _<_, _≤_}
+use Prim.Native.Nat.{ℕ, _+_, _-_, _<_, _≤_}
 use mathlib.Core.Path.{_≡_, refl, sym, ap, _∙_}
 use mathlib.Core.List.{List, []}
+use mathlib.Core.Bool.{Bool, true, false, cond}
+use lib.Dec.{eqb, ltb}
 use lib.ListN.{length, take, drop, length-take, length-drop}
-use borrow.Author.Tests.{eq-eqb, ne-eqb, lt-ltb, le-ltb}
+use borrow.Author.Tests.{eq-eqb, ne-eqb, eqb-true, lt-ltb, le-ltb, ltb-true}
+use denote.Ref.{RefT}
+use native.Mathlib.Nat.{add-sub-cancel-left}
 use native.Mathlib.Omega.{arith}
 use Rattle.sheet.specs.Kind.{kinds, OfKind}
-use Rattle.sheet.specs.Entries.{count, entry, offsetOf, lengthOf}
+use Rattle.sheet.specs.Entries.{count, entry, offsetOf, lengthOf, bodyEnd}
 use Rattle.sheet.specs.Rules.{ruleOf}
-use Rattle.sheet.specs.Lookup.{StandsIn, bodyOf, bodyFrom, lookup, lookupFrom}
+use Rattle.sheet.specs.Lookup.{PartOf, StandsIn, bodyOf, bodyFrom, lookup, lookupFrom}
 use Rattle.sheet.specs.Walk.{Counted}
 use Rattle.sheet.proofs.ByKind.{kinded}
+use Rattle.sheet.proofs.Good.{good}
+use Rattle.sheet.proofs.Lie.{within}
 use Rattle.sheet.proofs.Seek.{body-end}
 use Rattle.sheet.specs.declared.Part.{Part}
 
@@ -48,3 +54,30 @@ module _ (s : List ℕ) where
     pub in-sheet : (p : Part) → r ≡ 0 → StandsIn s p (bodyOf s k i) (bodyFrom s k i) → StandsIn s p (lookup s k i) (lookupFrom s k i)
     unfolding lookup lookupFrom
     in-sheet p h b = rw (eq-eqb (ruleOf s) 0 (sym e ∙ h)) b
+
+-- what is cut out of a sheet from a to a + z is the part of that offset and length
+pub cut-out :
+    (s r : RefT (List ℕ)) (a z : ℕ) → r .now ≡ take (a + z - a) (drop a (s .now)) → r .ptr .0 ≡ s .ptr .0 → r .ptr .1 ≡ a + s .ptr .1
+    → PartOf s r (take z (drop a (s .now))) a
+cut-out s r a z e b p = record { is = e ∙ rw (add-sub-cancel-left); block = b; place = omega arith }
+
+-- the part that a lookup says lies within the sheet
+pub part-in : (s : List ℕ) (k i : ℕ) (p : Part) → k < kinds → StandsIn s p (lookup s k i) (lookupFrom s k i) → p .offset + p .length ≤ length s
+unfolding lookupFrom bodyFrom bodyEnd
+part-in s k i p hk h =
+    let f = from (eqb (ruleOf s) 0) (ltb i (count s k)) (eqb-true (ruleOf s) 0) (ltb-true i (count s k)) in
+    let l : p .length ≡ length (take (p .length) (drop (p .offset) s)) = h .long ∙ sym (ap length (h .is)) in
+    omega (arith, h .place, simp (length-take, length-drop) at l)
+  where
+    from :
+        (a b : Bool) → (a ≡ true → ruleOf s ≡ 0) → (b ≡ true → i < count s k) →
+        cond a (cond b (offsetOf k (entry s k i)) 0) 0 ≤ length s
+    from true true e h = omega (arith, within (good 1 s (e refl)) k i hk (h refl))
+    from true false e h = omega arith
+    from false b e h = omega arith
+
+-- and cut out it is what the lookup hands back
+pub part-of :
+    (s r : RefT (List ℕ)) (p : Part) (x : List ℕ) (f : ℕ) → StandsIn (s .now) p x f →
+    PartOf s r (take (p .length) (drop (p .offset) (s .now))) (p .offset) → PartOf s r x f
+part-of s r p x f h c = record { is = c .is ∙ h .is; block = c .block; place = rw (← h .place) (c .place) }

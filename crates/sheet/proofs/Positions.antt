@@ -8,24 +8,16 @@ use native.Mathlib.Decide.{decLt}
 use native.Mathlib.Omega.{arith}
 use Rattle.sheet.specs.Head as head
 use Rattle.sheet.specs.Entries.{contents}
-use Rattle.sheet.specs.Places.{Position, inHead, inEntry, inBody}
-use Rattle.sheet.proofs.Good.{Good}
+use Rattle.sheet.specs.Rules.{ruleIn}
+use Rattle.sheet.specs.Places.{Position, inHead, inEntry, inBody, placeOf}
+use Rattle.sheet.proofs.Good.{Good, good}
 use Rattle.sheet.proofs.Lie.{after-contents, disjoint, some-body}
 use Rattle.sheet.proofs.Standing.{after-head, place-in, one-entry, some-entry}
 
--- what a position is, in numbers
-pub data Place : Type 0 where
-  ofHead : Place
-  ofEntry : ℕ → ℕ → ℕ → Place
-  ofBody : ℕ → ℕ → Place
+module _ (ed : ℕ) {s : List ℕ} (ok : ruleIn ed s ≡ 0) (p : ℕ) where
+  g : Good ed s
+  g = good ed s ok
 
--- and what one is
-abbrev pub placeOf : {s : List ℕ} {p : ℕ} → Position s p → Place
-placeOf (inHead h) = ofHead
-placeOf (inEntry k i j hk hi hj e) = ofEntry k i j
-placeOf (inBody k i b) = ofBody k i
-
-module _ {ed : ℕ} {s : List ℕ} (g : Good ed s) (p : ℕ) where
   -- EVERY POSITION IS ONE OF THESE
   pub position : p < length s → Position s p
   position h = go (decLt p head.size) (decLt p (contents s))

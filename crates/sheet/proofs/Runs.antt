@@ -15,10 +15,12 @@ use Rattle.sheet.specs.Region as region
 use Rattle.sheet.specs.Entries.{count, entry, keyOf, floor, bodyAt, bodyEnd, InBody}
 use Rattle.sheet.specs.Lookup.{seek, covers, runIn, rangeOf}
 use Rattle.sheet.specs.Places.{Stands}
+use Rattle.sheet.specs.Rules.{ruleIn}
+use Rattle.sheet.specs.Stores.{Inside}
 use Rattle.sheet.specs.declared.Run.the-variants.{At, Nowhere}
-use Rattle.sheet.proofs.Good.{Good}
+use Rattle.sheet.proofs.Good.{Good, good}
 use Rattle.sheet.proofs.Keys.{past-floor}
-use Rattle.sheet.proofs.Lie.{Inside, inside-within, disjoint}
+use Rattle.sheet.proofs.Lie.{inside-within, disjoint}
 use Rattle.sheet.proofs.Seeks.{seek-passes, seek-hit, seek-none}
 
 -- the n addresses from a on lie in region i of memory k
@@ -131,18 +133,19 @@ module _ {ed : ℕ} {s : List ℕ} (g : Good ed s) where
   unfolding bodyAt bodyEnd
   stands-in h = record { kind = omega arith; below = h .below; from = omega (arith, h); to = omega (arith, h) }
 
-  -- AN ADDRESS STANDS AT ONE PLACE AT MOST
-  pub stands-once : {y p p′ l l′ : ℕ} → Stands s regions y p l → Stands s regions y p′ l′ → (p ≡ p′) × (l ≡ l′)
-  stands-once {y} a b =
-      let e : a .index ≡ b .index = region-once (a .index) (b .index) y
-      (record { below = a .below; from = a .from; to = omega (arith, a) })
-      (record { below = b .below; from = b .from; to = omega (arith, b) }) in
-      (a .here ∙ ap (λ (i : ℕ). region.offset of entry s regions i + (y - region.address of entry s regions i)) e ∙ sym (b .here), a .under ∙ ap (λ (i : ℕ). region.levels of entry s regions i) e ∙ sym (b .under))
-
-  -- AND NO TWO ADDRESSES STAND AT ONE PLACE
+  -- no two addresses stand at one place
   pub stands-back : {y y′ p l l′ : ℕ} → Stands s regions y p l → Stands s regions y′ p l′ → y ≡ y′
   stands-back {y} {y′} {p} a b =
       let e = disjoint g regions (a .index) regions (b .index) p (stands-in a) (stands-in b) .1 in
       let q : region.offset of entry s regions (a .index) ≡ region.offset of entry s regions (b .index) = ap (λ (i : ℕ). region.offset of entry s regions i) e in
       let r : region.address of entry s regions (a .index) ≡ region.address of entry s regions (b .index) = ap (λ (i : ℕ). region.address of entry s regions i) e in
       omega (arith, a .from, b .from, a .here, b .here)
+
+-- AN ADDRESS STANDS AT ONE PLACE AT MOST
+pub stands-once :
+    (ed : ℕ) {s : List ℕ} → ruleIn ed s ≡ 0 → {y p p′ l l′ : ℕ} → Stands s regions y p l → Stands s regions y p′ l′ → (p ≡ p′) × (l ≡ l′)
+stands-once ed {s} ok {y} a b =
+    let e : a .index ≡ b .index = region-once (good ed s ok) (a .index) (b .index) y
+    (record { below = a .below; from = a .from; to = omega (arith, a) })
+    (record { below = b .below; from = b .from; to = omega (arith, b) }) in
+    (a .here ∙ ap (λ (i : ℕ). region.offset of entry s regions i + (y - region.address of entry s regions i)) e ∙ sym (b .here), a .under ∙ ap (λ (i : ℕ). region.levels of entry s regions i) e ∙ sym (b .under))

@@ -1,21 +1,19 @@
--- A search from the front as a loop makes it, and the body that it leads to.
+-- A search from the front as a loop makes it, and where the body that it leads to ends.
 -- Assumes nothing.
-use Prim.Native.Nat.{ℕ, zero, suc, _+_, _-_, _<_, _≤_}
+use Prim.Native.Nat.{ℕ, zero, suc, _+_, _<_, _≤_}
 use mathlib.Core.Path.{_≡_, refl, sym, _∙_, ap}
-use mathlib.Core.List.{List, []}
+use mathlib.Core.List.{List}
 use mathlib.Core.Bool.{Bool, true, false, true≢false}
 use lib.Dec.{eqb}
-use lib.ListN.{length, take, drop}
-use borrow.Author.Tests.{eq-eqb, ne-eqb, lt-ltb, le-ltb}
-use denote.Ref.{RefT}
+use lib.ListN.{length}
+use borrow.Author.Tests.{eq-eqb, ne-eqb}
 use native.Mathlib.Decide.{decLt}
-use native.Mathlib.Nat.{add-sub-cancel-left}
 use native.Mathlib.Omega.{arith}
 use Rattle.octets.specs.Bytes.{numAt}
 use Rattle.sheet.specs.Kind.{kinds, OfKind}
-use Rattle.sheet.specs.Entries.{count, entry, keyOf, offsetOf, lengthOf, bodyEnd}
+use Rattle.sheet.specs.Entries.{entry, keyOf, offsetOf, lengthOf, bodyEnd}
 use Rattle.sheet.specs.Rules.{ruleOf}
-use Rattle.sheet.specs.Lookup.{PartOf, seek, indexOf, bodyOf, bodyFrom, lookup, lookupFrom}
+use Rattle.sheet.specs.Lookup.{seek, indexOf}
 use Rattle.sheet.specs.Walk.{Framed, Entry, Counted}
 use Rattle.sheet.proofs.ByKind.{kinded}
 use Rattle.sheet.proofs.Good.{good}
@@ -77,36 +75,6 @@ key-of s k i e r q p = p ∙ ap (λ (l : List ℕ). numAt l 0 2) q ∙ go k
     go zero = refl
     go (suc zero) = refl
     go (suc (suc k)) = refl
-
--- the part that a call cuts out of the sheet behind s, from a to z
-module _ (s p : RefT (List ℕ)) (block : p .ptr .0 ≡ s .ptr .0) where
-  cut : (a : ℕ) (bytes : List ℕ) (from : ℕ) → p .ptr .1 ≡ a + s .ptr .1 → p .now ≡ bytes → a ≡ from → PartOf s p bytes from
-  cut a bytes from e q w = record { is = q; block = block; place = omega arith }
-
-  module _ (k i n : ℕ) (c : Counted (s .now) k n) where
-    pub no-body : n ≤ i → p .now ≡ [] → p .ptr .1 ≡ 0 + s .ptr .1 → PartOf s p (bodyOf (s .now) k i) (bodyFrom (s .now) k i)
-    unfolding bodyOf bodyFrom
-    no-body h q w =
-        let l : count (s .now) k ≤ i = omega (arith, c .is) in
-        rw (le-ltb i (count (s .now) k) l) (cut 0 [] 0 w q refl)
-
-    pub the-body : (e : List ℕ) (a z : ℕ) → i < n → e ≡ entry (s .now) k i → a ≡ offsetOf k e → OfKind z k (lengthOf 0 e) (lengthOf 1 e) (lengthOf 2 e)
-        → p .now ≡ take (a + z - a) (drop a (s .now)) → p .ptr .1 ≡ a + s .ptr .1 → PartOf s p (bodyOf (s .now) k i) (bodyFrom (s .now) k i)
-    unfolding bodyOf bodyFrom
-    the-body e a z h ee ea ez q w =
-        let l : i < count (s .now) k = omega (arith, c .is) in
-        rw (lt-ltb i (count (s .now) k) l, ← ee)
-        (cut a _ _ w (q ∙ rw (add-sub-cancel-left, ea, kinded ez)) ea)
-
-  -- what a lookup hands back of a sheet that is not accepted, and of one that is
-  module _ (k i r : ℕ) (e : r ≡ ruleOf (s .now)) where
-    pub refused : (r ≡ 0 → ⊥) → p .now ≡ [] → p .ptr .1 ≡ 0 + s .ptr .1 → PartOf s p (lookup (s .now) k i) (lookupFrom (s .now) k i)
-    unfolding lookup lookupFrom
-    refused h q w = rw (ne-eqb (ruleOf (s .now)) 0 (λ z. h (e ∙ z))) (cut 0 [] 0 w q refl)
-
-    pub allowed : r ≡ 0 → PartOf s p (bodyOf (s .now) k i) (bodyFrom (s .now) k i) → PartOf s p (lookup (s .now) k i) (lookupFrom (s .now) k i)
-    unfolding lookup lookupFrom
-    allowed h b = rw (eq-eqb (ruleOf (s .now)) 0 (sym e ∙ h)) b
 
 -- the body of an entry lies within the sheet
 pub body-end :

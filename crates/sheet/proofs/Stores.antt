@@ -18,19 +18,17 @@ use Rattle.sheet.specs.Property as property
 use Rattle.sheet.specs.Group as group
 use Rattle.sheet.specs.Entries.{count, place, contents, entry, bodyAt, InBody}
 use Rattle.sheet.specs.Frame.{Agree}
-use Rattle.sheet.proofs.Good.{Good}
-use Rattle.sheet.proofs.Lie.{Inside, inside-at, inside-within, after-contents, disjoint, end-is}
-use Rattle.sheet.proofs.Mild.{countAt, mild, count-stood, six-stood}
+use Rattle.sheet.specs.Rules.{ruleIn}
+use Rattle.sheet.specs.Stores.{Inside, Fit, countAt}
+use Rattle.sheet.proofs.Good.{Good, good}
+use Rattle.sheet.proofs.Lie.{inside-at, inside-within, after-contents, disjoint, end-is}
+use Rattle.sheet.proofs.Mild.{mild, count-stood, six-stood}
 use Rattle.sheet.proofs.Standing.{after-head, place-in}
-
--- what the body of an entry may take: a code-0 group object's, bytes below 64
-abbrev pub Fit : List ℕ → ℕ → ℕ → List ℕ → Type 0
-Fit s k i ds = k ≡ groups → group.code of entry s k i ≡ 0 → (j : ℕ) → j < length ds → getD ds j 0 < 64
 
 -- A STORE INSIDE ONE BODY
 pub body-store :
-    {ed : ℕ} {s : List ℕ} → Good ed s → (k i o : ℕ) (ds : List ℕ) → Inside s k i o (length ds) → Fit s k i ds → Agree s (splice s o ds)
-body-store {ed} {s} g k i o ds inside fit =
+    (ed : ℕ) {s : List ℕ} → ruleIn ed s ≡ 0 → (k i o : ℕ) (ds : List ℕ) → Inside s k i o (length ds) → Fit s k i ds → Agree s (splice s o ds)
+body-store ed {s} ok k i o ds inside fit =
     mild g
     (record {
       long = length-splice s o ds room;
@@ -45,6 +43,9 @@ body-store {ed} {s} g k i o ds inside fit =
       six = λ j h c. six j h c (decLt (bodyAt s groups j) o) (decLt (bodyAt s groups j) (o + length ds));
     })
   where
+    g : Good ed s
+    g = good ed s ok
+
     room : o + length ds ≤ length s
     room = inside-within g inside
 
@@ -98,7 +99,10 @@ head-store {ed} {s} g o ds low high miss flags =
     room : o + length ds ≤ length s
     room = omega (arith, g .framed)
 
-module _ {ed : ℕ} {s : List ℕ} (g : Good ed s) where
+module _ (ed : ℕ) {s : List ℕ} (ok : ruleIn ed s ≡ 0) where
+  g : Good ed s
+  g = good ed s ok
+
   -- a store after the flags
   later-store : (o : ℕ) (ds : List ℕ) → head.address .at ≤ o → o + length ds ≤ head.zero30 .at → Agree s (splice s o ds)
   later-store o ds low high =

@@ -13,3 +13,4 @@ pub mod Plain
 pub mod Lookup
 pub mod Places
 pub mod Frame
+pub mod Stores

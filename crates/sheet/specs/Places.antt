@@ -20,6 +20,17 @@ pub data Position (s : List ℕ) : ℕ → Type 0 where
   inEntry : {p : ℕ} (k i j : ℕ) → k < kinds → i < count s k → j < size k → p ≡ place s k i + j → Position s p
   inBody : {p : ℕ} (k i : ℕ) → InBody s k i p → Position s p
 
+-- which byte it is: one of the head, byte j of entry i of kind k, or one of body i of kind k
+pub data Place : Type 0 where
+  ofHead : Place
+  ofEntry : ℕ → ℕ → ℕ → Place
+  ofBody : ℕ → ℕ → Place
+
+abbrev pub placeOf : {s : List ℕ} {p : ℕ} → Position s p → Place
+placeOf (inHead h) = ofHead
+placeOf (inEntry k i j hk hi hj e) = ofEntry k i j
+placeOf (inBody k i b) = ofBody k i
+
 -- address y of memory k stands at position p, under these levels
 pub record Stands (s : List ℕ) (k y p levels : ℕ) : Type 0 where
   pub index : ℕ

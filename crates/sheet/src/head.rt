@@ -30,13 +30,6 @@ pub fn flags(s: &[u8]) -> u8
     byte(s, head::FLAGS) as u8
 }
 
-// The individual address.
-pub fn individual(s: &[u8]) -> u16
-    ensures { λ r. ⌜ r ≡ head.address of now (s .entry) ⌝ }
-{
-    number(s, head::ADDRESS, 2) as u16
-}
-
 // The key of a level.
 pub fn key(s: &[u8], l: usize) -> u32
     requires { ⌜ l < 3 ⌝ }

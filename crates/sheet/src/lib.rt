@@ -6,22 +6,23 @@ mod layout;
 mod lookup;
 mod memory;
 mod records;
-mod stands;
 mod table;
 mod walk;
 
 pub use head::address_at;
 pub use head::flags;
 pub use head::flags_at;
-pub use head::individual;
 pub use head::key;
 pub use head::key_at;
 pub use head::mask;
 pub use head::serial;
 pub use lookup::find;
 pub use lookup::group;
+pub use lookup::group_part;
 pub use lookup::property;
+pub use lookup::property_part;
 pub use lookup::region;
+pub use lookup::region_part;
 pub use memory::range;
 pub use records::count;
 pub use records::count_at;
@@ -29,9 +30,6 @@ pub use records::group_entry;
 pub use records::nth;
 pub use records::property_entry;
 pub use records::rank;
-pub use stands::group_part;
-pub use stands::property_part;
-pub use stands::region_part;
 pub use walk::check;
 
 // Where a value stands in the sheet, in numbers: 0 and 0 if there is none.

@@ -1,7 +1,8 @@
 -- `sheet::lookup::body` meets its contract.
 -- Assumes nothing.
 use borrow.Author.Needs.{needs}
-use Rattle.sheet.proofs.Seek.{ok-framed, ok-entry, no-body, body-end, the-body}
+use Rattle.sheet.proofs.Seek.{ok-framed, ok-entry}
+use Rattle.sheet.proofs.Parts.{no-part, the-part}
 use Rattle.sheet.proofs.lookup.body.Statement.{statement}
 use Rattle.sheet.proofs.lookup.body.Tie as tie
 
@@ -10,15 +11,8 @@ body-spec =
     tie.close
     (tie.spec
     (λ c κs. search ok-framed)
-    (λ c. search needs)
-    (λ c. search needs)
-    (λ c. search needs)
-    (λ c. search no-body)
+    (λ c. search no-part)
     (λ c κs. search ok-entry)
     (λ c κs. search needs)
     (λ c κs. search needs)
-    (λ c. search needs)
-    (λ c. search needs)
-    (λ c. search needs)
-    (λ c. search body-end)
-    (λ c. search the-body))
+    (λ c. search the-part))

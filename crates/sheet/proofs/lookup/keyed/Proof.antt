@@ -1,7 +1,7 @@
 -- `sheet::lookup::keyed` meets its contract.
 -- Assumes nothing.
 use borrow.Author.Needs.{needs}
-use Rattle.sheet.proofs.Seek.{refused, allowed}
+use Rattle.sheet.proofs.Parts.{no-sheet, in-sheet}
 use Rattle.sheet.proofs.lookup.keyed.Statement.{statement}
 use Rattle.sheet.proofs.lookup.keyed.Tie as tie
 
@@ -10,10 +10,7 @@ keyed-spec =
     tie.close
     (tie.spec
     (λ c κs. search needs)
-    (λ c. search needs)
-    (λ c. search needs)
-    (λ c. search needs)
-    (λ c. search refused)
+    (λ c. search no-sheet)
     (λ c κs. search needs)
     (λ c κs. search needs)
-    (λ c. rw (← c .before .find .ensures) (search allowed)))
+    (λ c. rw (← c .before .find .ensures) (search in-sheet)))

@@ -1,7 +1,7 @@
 -- `sheet::lookup::value` meets its contract.
 -- Assumes nothing.
 use borrow.Author.Needs.{needs}
-use Rattle.sheet.proofs.Seek.{refused, allowed}
+use Rattle.sheet.proofs.Parts.{no-sheet, in-sheet}
 use Rattle.sheet.proofs.lookup.value.Statement.{statement}
 use Rattle.sheet.proofs.lookup.value.Tie as tie
 
@@ -10,9 +10,6 @@ value-spec =
     tie.close
     (tie.spec
     (λ c κs. search needs)
-    (λ c. search needs)
-    (λ c. search needs)
-    (λ c. search needs)
-    (λ c. search refused)
+    (λ c. search no-sheet)
     (λ c κs. search needs)
-    (λ c. search allowed))
+    (λ c. search in-sheet))

@@ -1,0 +1,10 @@
+-- `sheet::lookup::cut` meets its contract.
+-- Assumes nothing.
+use borrow.Author.Needs.{needs}
+use Rattle.sheet.proofs.Parts.{cut-out}
+use Rattle.sheet.proofs.lookup.cut.Statement.{statement}
+use Rattle.sheet.proofs.lookup.cut.Tie as tie
+
+pub cut-spec : {M : Type 1} → statement M
+cut-spec =
+    tie.close (tie.spec (λ c. search needs) (λ c. search needs) (λ c. search needs) (λ c. search needs) (λ c. search cut-out))
