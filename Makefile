@@ -15,9 +15,10 @@ test: tools
 tools:
 	for t in rt cargo rustc gcc; do command -v $$t > /dev/null || { echo "$$t is missing" >&2; exit 1; }; done
 
-# the plain Rust model of the rules, against the vectors
+# the plain Rust model of the rules, against the vectors; and that the benchmark still compiles
 model: tools
 	cd tests/model && cargo test --offline --release --quiet
+	cd tests/bench && cargo check --offline --release --quiet
 
 # the checking program on files and pipes
 sheet-check: tools

@@ -63,7 +63,9 @@ need-gcc:
 
 # the archives are made anew when a source or a proof has changed
 target/staticlib/lib%.a: crates.txt $(shell find crates -name '*.rt' -o -name '*.antt')
-	rt staticlib $*
+	@echo "lib$*.a is proved and built, which takes some minutes at first"
+	@mkdir -p build
+	@rt staticlib $* > build/lib$*.log 2>&1 || { cat build/lib$*.log >&2; exit 1; }
 
 # the same for this machine's own processor, to be watched and timed
 build/own/lib%.a: mk/own crates.txt $(shell find crates -name '*.rt' -o -name '*.antt')
