@@ -24,21 +24,6 @@ use Rattle.history.specs.Wish.{Wish, writeMemory, writeBits, writeProper
 use Rattle.history.specs.Permit.{regionFor, mayRead, mayWrite, indexFor, entryFor, clears, fills, allowed}
 use Rattle.history.proofs.Bools.{every-same}
 
--- a sheet agrees with itself
-pub agree-refl : (s : List ℕ) → Agree s s
-agree-refl s =
-    record {
-      long = refl;
-      front = λ p h. refl;
-      zero15 = refl;
-      zero30 = refl;
-      zero31 = refl;
-      flags = (λ h. h, λ h. h);
-      fixed = λ k i j hk hi hj f. refl;
-      counts = λ i h. (λ l. l, λ l. l);
-      six = λ i h c. (λ l. l, λ l. l);
-    }
-
 module _ {f s : List ℕ} (a : Agree f s) where
   -- an entry of the one is an entry of the other
   pub below-same : (k i : ℕ) → i < count s k → i < count f k

@@ -22,7 +22,7 @@ use Rattle.history.specs.History.{First, firstOf, opened, level, content
 use Rattle.history.specs.Others.{programming, individual, groupByte}
 use Rattle.history.specs.Keeps.{Begins}
 use Rattle.history.proofs.Finding.{region-hit, property-hit}
-use Rattle.history.proofs.Framed.{agree-refl}
+use Rattle.device.proofs.Agreeing.{agree-refl}
 use Rattle.history.proofs.Means.{Means, store-flags}
 
 pub record Inv (f : First) (h : List Event) (x : State) : Type 0 where
