@@ -9,7 +9,7 @@ use native.Mathlib.Omega.{arith}
 use Rattle.sheet.specs.Head as head
 use Rattle.sheet.specs.Entries.{contents}
 use Rattle.sheet.specs.Rules.{ruleIn}
-use Rattle.sheet.specs.Places.{Position, inHead, inEntry, inBody, placeOf}
+use Rattle.sheet.specs.Places.{Position, inHead, inEntry, inBody, whichOf}
 use Rattle.sheet.proofs.Good.{Good, good}
 use Rattle.sheet.proofs.Lie.{after-contents, disjoint, some-body}
 use Rattle.sheet.proofs.Standing.{after-head, place-in, one-entry, some-entry}
@@ -32,7 +32,7 @@ module _ (ed : ℕ) {s : List ℕ} (ok : ruleIn ed s ≡ 0) (p : ℕ) where
           inBody (b .0) (b .1) (b .2)
 
   -- AND ONE ALONE
-  pub position-once : (a b : Position s p) → placeOf a ≡ placeOf b
+  pub position-once : (a b : Position s p) → whichOf a ≡ whichOf b
   position-once (inHead h) (inHead l) = refl
   position-once (inHead h) (inEntry k i j hk hi hj e) = absurd (omega (arith, after-head s k i hk hi))
   position-once (inHead h) (inBody k i b) = absurd (omega (arith, b, after-contents g k i (b .kind) (b .below)))

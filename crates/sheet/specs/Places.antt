@@ -21,15 +21,15 @@ pub data Position (s : List ℕ) : ℕ → Type 0 where
   inBody : {p : ℕ} (k i : ℕ) → InBody s k i p → Position s p
 
 -- which byte it is: one of the head, byte j of entry i of kind k, or one of body i of kind k
-pub data Place : Type 0 where
-  ofHead : Place
-  ofEntry : ℕ → ℕ → ℕ → Place
-  ofBody : ℕ → ℕ → Place
+pub data Which : Type 0 where
+  headByte : Which
+  entryByte : ℕ → ℕ → ℕ → Which
+  bodyByte : ℕ → ℕ → Which
 
-abbrev pub placeOf : {s : List ℕ} {p : ℕ} → Position s p → Place
-placeOf (inHead h) = ofHead
-placeOf (inEntry k i j hk hi hj e) = ofEntry k i j
-placeOf (inBody k i b) = ofBody k i
+abbrev pub whichOf : {s : List ℕ} {p : ℕ} → Position s p → Which
+whichOf (inHead h) = headByte
+whichOf (inEntry k i j hk hi hj e) = entryByte k i j
+whichOf (inBody k i b) = bodyByte k i
 
 -- address y of memory k stands at position p, under these levels
 pub record Stands (s : List ℕ) (k y p levels : ℕ) : Type 0 where
