@@ -2,14 +2,21 @@
 SHELL := /bin/bash
 .SHELLFLAGS := -euo pipefail -c
 .DEFAULT_GOAL := test
-.PHONY: test tools model sheet-check
+.PHONY: test tools documents model sheet-check
 
 test: tools
 	rt fmt --check
+	$(MAKE) --no-print-directory -s documents
 	$(MAKE) --no-print-directory -s model
 	$(MAKE) --no-print-directory -s sheet-check
 	$(MAKE) --no-print-directory -s test-unit test-c compare
-	rt ci
+	tests/edits/gate.sh tests/edits/refused.tsv
+
+# every name that a document quotes stands where the document says
+documents: tools
+	mkdir -p build
+	rustc --edition 2021 -O -o build/names tests/docs/names.rs
+	build/names docs/PROMISES.md docs/READING.md docs/CONFORMANCE.md
 
 # a missing tool fails the tests
 tools:

@@ -31,8 +31,9 @@ test-unit: build/unit build/unit_watched
 	tests/unit/run.sh build/unit
 	$(WATCHED) tests/unit/run.sh build/unit_watched
 
-test-c: build/layout build/host_test build/tool_test $(OWN_TESTS)
+test-c: build/layout build/stack build/host_test build/tool_test $(OWN_TESTS)
 	$(WATCHED) build/layout
+	build/stack
 	tests/c/symbols.sh include/kelindap.h $(HOST_A)
 	tests/c/symbols.sh include/kelindap_pdu.h $(TOOL_A)
 	CC86="$(CC86)" tests/c/freestanding.sh $(HOST_A) $(TOOL_A)
@@ -54,6 +55,11 @@ build/layout build/host_test build/tool_test: build/%: tests/c/%.c tests/c/lent.
 	mkdir -p build
 	gcc $(STRICT) -c $< -o /dev/null
 	$(CC86) -o $@ $(STRICT) -g $(SANITIZE) $< $(HOST_A) $(TOOL_A)
+
+# not watched: the sanitizers' own frames would be measured
+build/stack: tests/c/stack.c $(LINKED) | need-gcc
+	mkdir -p build
+	$(CC86) -o $@ $(STRICT) -D_GNU_SOURCE -Wl,-z,now $< $(HOST_A) $(TOOL_A)
 
 build/host_test_own: tests/c/host_test.c tests/c/lent.h include/kelindap.h build/own/libhost.a | need-gcc
 	gcc -o $@ $(STRICT) -g $(SANITIZERS) -DDEVICE_ALONE $< build/own/libhost.a

@@ -1,0 +1,126 @@
+/*
+ * How much stack each call of the libraries takes, by painting: the calls run on a stack of their own that was filled with
+ * one byte before, and the deepest byte that changed tells how far they went. What an empty function takes is taken off.
+ * No call may go deeper than LIMIT. The libraries have no recursion and no array of variable length, so the depth of a call
+ * is bounded by its deepest chain of calls; the many requests below are there to reach it. Linked with -z now, since the
+ * first call of a function of the C library would otherwise run its loader on the same stack.
+ */
+#include "kelindap.h"
+#include "kelindap_pdu.h"
+
+#include <stdint.h>
+#include <stdio.h>
+#include <string.h>
+#include <ucontext.h>
+
+enum { LIMIT = 1024, ROOM = 1 << 16, PAINT = 0xA5, ROUNDS = 4 };
+
+static _Alignas(64) uint8_t stack[ROOM];
+static ucontext_t here, there;
+
+static const uint8_t sample[] = {
+    0x01, 0x01, 0x01, 0x01, 0x00, 0x45, 0x00, 0xC5, 0x01, 0x02, 0x03, 0x04, 0x07, 0xB0, 0x03, 0x00, 0x11, 0x05, 0x11, 0x11, 0x11, 0x11, 0x22,
+    0x22, 0x22, 0x22, 0xFF, 0xFF, 0xFF, 0xFF, 0x00, 0x00, 0x01, 0x00, 0x00, 0x04, 0x00, 0x3C, 0x32, 0x00, 0x01, 0x33, 0x84, 0x02, 0x00, 0x02,
+    0x00, 0x01, 0x00, 0x40, 0x31, 0x00, 0x08, 0x01, 0x01, 0x07, 0x00, 0x44, 0x00, 0x00, 0xA0, 0xA1, 0xA2, 0xA3, 0x03, 0xE8, 0x00, 0x00, 0x00};
+static uint8_t sheet[sizeof sample], answer[16], apdu[16];
+static kelindap_session session;
+static volatile unsigned kept; /* so that no call is left out */
+
+/* a byte at random, three of four times one that the sample sheet knows, so that many requests are carried out */
+static uint8_t some_byte(void)
+{
+    static const uint8_t known[] = {0x00, 0x01, 0x02, 0x10, 0x33, 0x05, 0x11, 0x22, 0xC5, 0x04, 0x03, 0xD5, 0xD7};
+    static uint64_t state = 1;
+    state = state * 6364136223846793005u + 1442695040888963407u;
+    uint32_t x = (uint32_t)(state >> 33);
+    return x % 4 ? known[x / 4 % sizeof known] : (uint8_t)(x / 4);
+}
+
+/* the next APDU: every code in turn, at every length */
+static size_t next_apdu(unsigned i)
+{
+    apdu[0] = (uint8_t)(i >> 8 & 3);
+    apdu[1] = (uint8_t)i;
+    for (size_t k = 2; k < sizeof apdu; k++)
+        apdu[k] = some_byte();
+    return 2 + (i >> 10) % 15;
+}
+
+static void nothing(void) {}
+static void fresh(void) { session = kelindap_fresh(); }
+static void connect(void) { kept += kelindap_connect(&session); }
+static void disconnect(void) { kept += kelindap_disconnect(&session); }
+static void button(void) { kept += kelindap_button(sheet, sizeof sheet, true); }
+static void check(void) { kept += kelindap_check(sheet, sizeof sheet); }
+static void property(void) { kept += (unsigned)kelindap_property(sheet, sizeof sheet, 1, 51).length; }
+static void region(void) { kept += (unsigned)kelindap_region(sheet, sizeof sheet, 0).length; }
+static void group(void) { kept += (unsigned)kelindap_group(sheet, sizeof sheet, 0x0801).length; }
+
+static void request(void)
+{
+    for (unsigned i = 0; i < ROUNDS * 15 * 1024u; i++) {
+        size_t length = next_apdu(i);
+        for (uint8_t mode = 0; mode < 4; mode++) {
+            session = (kelindap_session){.open = true, .level = (uint8_t)(i % 4)};
+            kept += kelindap_request(&session, mode, 0x0801, apdu, length, sheet, sizeof sheet, answer, sizeof answer).count;
+        }
+    }
+}
+
+static void read_and_write(void)
+{
+    for (unsigned i = 0; i < ROUNDS * 15 * 1024u; i++) {
+        size_t length = next_apdu(i);
+        kelindap_pdu pdu = kelindap_read(apdu, length);
+        kept += kelindap_write(pdu, apdu + pdu.data_offset, pdu.data_length, answer, sizeof answer).count;
+    }
+}
+
+/* the depth of what a function does, in bytes */
+static size_t depth_of(void (*function)(void))
+{
+    memset(stack, PAINT, sizeof stack);
+    memcpy(sheet, sample, sizeof sheet);
+    getcontext(&there);
+    there.uc_stack.ss_sp = stack;
+    there.uc_stack.ss_size = sizeof stack;
+    there.uc_link = &here;
+    makecontext(&there, function, 0);
+    swapcontext(&here, &there);
+    size_t low = 0;
+    while (low < sizeof stack && stack[low] == PAINT)
+        low++;
+    return sizeof stack - low;
+}
+
+int main(void)
+{
+    static const struct {
+        const char *name;
+        void (*function)(void);
+    } calls[] = {
+        {"kelindap_fresh", fresh},
+        {"kelindap_connect", connect},
+        {"kelindap_disconnect", disconnect},
+        {"kelindap_button", button},
+        {"kelindap_check", check},
+        {"kelindap_property", property},
+        {"kelindap_region", region},
+        {"kelindap_group", group},
+        {"kelindap_request", request},
+        {"kelindap_read, kelindap_write", read_and_write},
+    };
+    size_t empty = depth_of(nothing);
+    size_t deepest = 0;
+    for (size_t i = 0; i < sizeof calls / sizeof *calls; i++) {
+        size_t depth = depth_of(calls[i].function);
+        depth = depth > empty ? depth - empty : 0;
+        deepest = depth > deepest ? depth : deepest;
+        printf("stack: %-30s %4zu bytes\n", calls[i].name, depth);
+    }
+    if (deepest > LIMIT) {
+        printf("stack: a call takes more than %d bytes\n", LIMIT);
+        return 1;
+    }
+    return 0;
+}
