@@ -2,7 +2,7 @@ pub mod Writing
 pub mod Given
 pub mod Stores
 pub mod Taking
-pub mod Judged
+pub mod RequestCases
 pub mod Accepted
 pub mod SafeEach
 pub mod Safe
@@ -25,7 +25,7 @@ pub mod Shapes
 pub mod Demand1
 pub mod Called
 pub mod Typing
-pub mod Answers
+pub mod AnswerReads
 pub mod Pressing
 pub mod Dues
 pub mod Room

@@ -12,7 +12,7 @@ use Rattle.pdu.proofs.Truths.{and-is}
 use Rattle.device.specs.Octets.{Octets}
 use Rattle.device.specs.Step.{Step}
 use Rattle.device.specs.Asked.{Asked}
-use Rattle.device.specs.Demand2.{Answers, done}
+use Rattle.device.specs.Demand2.{Serves, done}
 use Rattle.device.specs.Marked.{sample, Case, Result, readElement, readCount, writeElement, cases, asked, found, wanted}
 use Rattle.device.specs.Wrong.{refusesAll, fixedAnswer, inventsCount, inventsStored}
 use Rattle.device.proofs.Rightly.{right, right-only}
@@ -20,8 +20,8 @@ use Rattle.device.proofs.Cases.{marked}
 use Rattle.device.proofs.Invented.{invented, invented-stored, stored}
 
 -- OURS
-pub answers-ours : Answers done
-answers-ours x hs ha = right x hs ha
+pub serves-ours : Serves done
+serves-ours x hs ha = right x hs ha
 
 -- a list of bytes, by a test
 bytes : List ℕ → Bool
@@ -44,7 +44,7 @@ unfolding cases
 marked-count = let m = marked in cc
 
 -- what a device that meets the demand answers to them
-module _ (step : Asked → Step) (f : Answers step) where
+module _ (step : Asked → Step) (f : Serves step) where
   only : (c : Case) → bytes (c .request) ≡ true → step (asked c) ≡ done (asked c)
   unfolding bytes sample
   only c e =
@@ -64,12 +64,12 @@ module _ (step : Asked → Step) (f : Answers step) where
   count-stored = ap (λ (r : Step). getD (r .sheet) 47 0) (only writeElement refl) ∙ stored
 
 -- NOT OF ONE THAT REFUSES EVERYTHING: a read of the element
-pub refuses-refuted : (n : ℕ) → Answers (refusesAll n) → ⊥
+pub refuses-refuted : (n : ℕ) → Serves (refusesAll n) → ⊥
 unfolding refusesAll
 refuses-refuted n f = let e : _≡_ {A = ℕ} 0 3 = ap (λ (l : List ℕ). getD l 0 0) (element-answered (refusesAll n) f) in omega arith
 
 -- NOT OF ONE THAT SENDS ONE ANSWER, WHATEVER IT IS: reads of the element and of the count
-pub fixed-refuted : (b : List ℕ) → Answers (fixedAnswer b) → ⊥
+pub fixed-refuted : (b : List ℕ) → Serves (fixedAnswer b) → ⊥
 unfolding fixedAnswer
 fixed-refuted b f =
     let e : getD b 5 0 ≡ 1 = ap (λ (l : List ℕ). getD l 5 0) (element-answered (fixedAnswer b) f) in
@@ -77,9 +77,9 @@ fixed-refuted b f =
     omega arith
 
 -- NOT OF ONE THAT INVENTS THE COUNT: that it answers, a read of the count
-pub invents-refuted : Answers inventsCount → ⊥
+pub invents-refuted : Serves inventsCount → ⊥
 invents-refuted f = omega (arith, invented, ap (λ (l : List ℕ). getD l 7 0) (count-answered inventsCount f))
 
 -- or that it stores, a write of the element
-pub stored-refuted : Answers inventsStored → ⊥
+pub stored-refuted : Serves inventsStored → ⊥
 stored-refuted f = omega (arith, invented-stored, count-stored inventsStored f)

@@ -6,8 +6,8 @@ use Rattle.device.specs.Asked.{Asked}
 use Rattle.device.specs.Right.{Right}
 
 -- a device as its steps, sheet and request being bytes
-abbrev pub Answers : (Asked → Step) → Type 0
-Answers step = (x : Asked) → Octets (x .sheet) → Octets (x .apdu) → Right x (step x)
+abbrev pub Serves : (Asked → Step) → Type 0
+Serves step = (x : Asked) → Octets (x .sheet) → Octets (x .apdu) → Right x (step x)
 
 -- our device
 abbrev pub done : Asked → Step

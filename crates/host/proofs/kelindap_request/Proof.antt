@@ -121,8 +121,8 @@ module _ {M : Type 1} (𝓤 : URA M) (H : Heap 𝓤) (A : Atoms 𝓤) (W : Given
   goes = qed W (tokens ∷ ‵ (T.the-row .own h (vals h)) ∷ others ∷ []) ∵ move ! (1 ∷ 2 ∷ []) $ fjoin ! $ move ! (1 ∷ 0 ∷ []) $ join ! $ frame ! $ done !
 
   -- what `request` ensures
-  abbrev Says : Replied → List ℕ → List ℕ → Type 0
-  Says r ys zs =
+  abbrev Ensures : Replied → List ℕ → List ℕ → Type 0
+  Ensures r ys zs =
       (r ≡ repliedOf (stepIn h m n (x₁ .now) (x₂ .now) (x₃ .now))) × (ys ≡ stepIn h m n (x₁ .now) (x₂ .now) (x₃ .now) .sheet) × (zs ≡ splice (x₃ .now) 0 (stepIn h m n (x₁ .now) (x₂ .now) (x₃ .now) .answer))
 
   -- the answer, and what is known of the fields of what `request` returns
@@ -135,7 +135,7 @@ module _ {M : Type 1} (𝓤 : URA M) (H : Heap 𝓤) (A : Atoms 𝓤) (W : Given
   made : (r : Replied) (w : Val) → Is D.the-row r (w ∷ []) → Is R.the-row (ans r) (LL.vals R.the-type R′.the-laws (ans r))
   made r w is = LL.owes R.the-type R′.the-laws (ans r) (LL.owed D.the-type D′.the-laws r _ is .0, (LL.owed D.the-type D′.the-laws r _ is .1 .0, tt))
 
-  exits : (r : Replied) (w : Val) (ys zs : List ℕ) → Is D.the-row r (w ∷ []) → Says r ys zs → length ys ≡ length (x₂ .now) → length zs ≡ length (x₃ .now)
+  exits : (r : Replied) (w : Val) (ys zs : List ℕ) → Is D.the-row r (w ∷ []) → Ensures r ys zs → length ys ≡ length (x₂ .now) → length zs ≡ length (x₃ .now)
       → ent 𝓤 (⋆ 𝓤 H A (‵ (fobs γ (T.the-row .coded .code (r .session))) ∷ ‵ (fbor κ (Body (mem T.the-row) b o γ)) ∷ ‵ (flft κ q) ∷ tokens ∷ ‵ (finally u8 (x₂ .name) ys) ∷ ‵ (finally u8 (x₃ .name) zs) ∷ [])) (Post (R′.lowered (ans r)))
   exits r w ys zs is e l₂ l₃ =
       qed W (‵ (fobs γ (T.the-row .coded .code (r .session))) ∷ ‵ (fbor κ (Body (mem T.the-row) b o γ)) ∷ ‵ (flft κ q) ∷ tokens ∷ ‵ (finally u8 (x₂ .name) ys) ∷ ‵ (finally u8 (x₃ .name) zs) ∷ []) ∵

@@ -39,12 +39,12 @@ told s d (answer.Sheet p at n) h t = inr (is-pdu p (take n (drop at s)) t (h .2)
 told s d (answer.Echo p) h t = inr (is-pdu p d t h)
 
 -- THERE IS NO ANSWER, OR IT IS A PDU THAT READS BACK
-pub answers :
+pub answer-reads :
     (x : Asked) → Octets (x .sheet) → Octets (x .apdu) →
     (stepOf (x .room) (x .sheet) (x .session) (x .mode) (x .group) (x .apdu) .answer ≡ [])
     ⊎ IsPdu (stepOf (x .room) (x .sheet) (x .session) (x .mode) (x .group) (x .apdu) .answer)
 unfolding stepOf stepBy
-answers x hs ha =
+answer-reads x hs ha =
     let s : List ℕ = x .sheet in
     let d : List ℕ = dataIn (readPdu (x .apdu)) (x .apdu) in
     let k : Decision = judgeOf (x .room) s (x .session) (x .mode) (x .group) (x .apdu) in
