@@ -26,6 +26,7 @@ pub mod Demand1
 pub mod Called
 pub mod Typing
 pub mod AnswerReads
+pub mod Unread
 pub mod Pressing
 pub mod Dues
 pub mod Room
@@ -42,5 +43,5 @@ pub mod FoundMemory
 pub mod Found
 pub mod Unseen
 pub mod NoBody
-pub mod Invented
+pub mod WrongSteps
 pub mod Refuted
