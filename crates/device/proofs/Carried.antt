@@ -14,7 +14,7 @@ use Rattle.device.specs.Step.{stepBy, stepOf}
 use Rattle.device.specs.Asked.{Asked, Refusal, noRoom, badSheet, badLength, badMode, noSession, Reads}
 use Rattle.device.specs.Demand2.{done}
 use Rattle.device.specs.Next.{Next}
-use Rattle.device.proofs.Judged.{judged}
+use Rattle.device.proofs.RequestCases.{request-cases}
 use Rattle.device.proofs.Stays.{request-agrees}
 
 late : {x : Asked} {n : ℕ} → Refusal x n → 3 ≤ n
@@ -29,7 +29,7 @@ module _ (x : Asked) (p : Pdu) (e : readPdu (x .apdu) ≡ Is p) where
   pub carried : done x .outcome ≤ 1 → Reads x p
   unfolding stepOf stepBy
   carried =
-      judged x (λ (k : Decision). k .outcome ≤ 1 → Reads x p)
+      request-cases x (λ (k : Decision). k .outcome ≤ 1 → Reads x p)
       (λ k r n v t h. absurd (omega arith)) (λ r f h. absurd (omega arith)) (λ k r n t u h. absurd (omega arith))
       (λ q r h. let u = r .reads in let z : q ≡ p = cc in subst (Reads x) z r)
       (λ n r h. absurd (omega (arith, late r)))

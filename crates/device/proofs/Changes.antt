@@ -17,7 +17,7 @@ use Rattle.judge.specs.declared.Decision.{Decision}
 use Rattle.judge.specs.Decisions as decisions
 use Rattle.judge.specs.Session.{levelIn}
 use Rattle.judge.specs.Judge.{decideOf}
-use Rattle.judge.proofs.MemoryCases.{Says, Permits, changed, verified, change-cases, change-writes, change-stores}
+use Rattle.judge.proofs.MemoryCases.{Reflects, Permits, changed, verified, change-cases, change-writes, change-stores}
 use Rattle.device.specs.Carry.{storeOf}
 use Rattle.device.specs.Step.{stepBy}
 use Rattle.device.specs.Asked.{Asked, quiet, says, saysAfter, stores, Reads, given}
@@ -30,7 +30,7 @@ use Rattle.device.proofs.Stepped.{step, step-read}
 pub record Change (x : Asked) (p : Pdu) (n address : ℕ) (W : ℕ → Type 0) : Type 1 where
   pub test : ℕ → ℕ → Bool
   pub R : ℕ → ℕ → Type 0
-  pub tells : Says test R
+  pub tells : Reflects test R
   pub most : ℕ
   pub new : ℕ → Store
   pub bytes : ℕ → List ℕ

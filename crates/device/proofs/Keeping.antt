@@ -33,7 +33,7 @@ use Rattle.judge.specs.Judge.{decideOf}
 use Rattle.judge.proofs.Walks.{by-eq}
 use Rattle.judge.proofs.GroupCases.{group-read-cases, group-put-cases}
 use Rattle.judge.proofs.PropertyCases.{property-read-cases, property-write-cases, description-cases}
-use Rattle.judge.proofs.MemoryCases.{Says, says-write, says-change, memory-read-cases, changed, change-cases}
+use Rattle.judge.proofs.MemoryCases.{Reflects, reflects-write, reflects-change, memory-read-cases, changed, change-cases}
 use Rattle.judge.proofs.KeyCases.{key-write-cases}
 use Rattle.device.specs.Carry.{build, bitAt, storeOf}
 use Rattle.device.proofs.Given.{memory-data}
@@ -80,7 +80,7 @@ module _ {s : List ℕ} (ok : Good 1 s) (d : List ℕ) where
 
   -- a write to memory
   change :
-      {test : ℕ → ℕ → Bool} {R : ℕ → ℕ → Type 0} (y : Says test R) (m level n a : ℕ) (new : ℕ → Store) (bytes : ℕ → List ℕ) →
+      {test : ℕ → ℕ → Bool} {R : ℕ → ℕ → Type 0} (y : Reflects test R) (m level n a : ℕ) (new : ℕ → Store) (bytes : ℕ → List ℕ) →
       ((o : ℕ) → storeOf s d (new o) ≡ splice s o (bytes o)) → ((o : ℕ) → length (bytes o) ≡ n) → Keeps s d (changed y m new s regions level n a)
   change y m level n a new bytes e l =
       change-cases y m new s regions level n a (Keeps s d)
@@ -128,9 +128,9 @@ module _ {s : List ℕ} (ok : Good 1 s) (level group : ℕ) (a : List ℕ) where
       description-cases s object id index (K (PropertyDescriptionRead object id index)) (λ i z k. as-is) (λ i z k. as-is) as-is
   keeps-decided (MemoryRead n address) r = memory-read-cases s regions level n address (K (MemoryRead n address)) (λ i p. as-is) as-is
   keeps-decided (MemoryWrite n address) r =
-      change ok _ says-write 12 level n address store.Data (λ o. dataOf (MemoryWrite n address) a) (λ o. refl) (λ o. memory-data a n address r)
+      change ok _ reflects-write 12 level n address store.Data (λ o. dataOf (MemoryWrite n address) a) (λ o. refl) (λ o. memory-data a n address r)
   keeps-decided (MemoryBitWrite n address) r =
-      change ok _ says-change 5 level n address (λ o. store.Bits o n) (λ o. build n (bitAt s o n (dataOf (MemoryBitWrite n address) a))) (λ o. refl) (λ o. length-build n _)
+      change ok _ reflects-change 5 level n address (λ o. store.Bits o n) (λ o. build n (bitAt s o n (dataOf (MemoryBitWrite n address) a))) (λ o. refl) (λ o. length-build n _)
   keeps-decided (AuthorizeRequest key) r = as-is
   keeps-decided (KeyWrite named key) r =
       key-write-cases level named key (K (KeyWrite named key)) (λ h l. key-store 1 (accepted ok) named (bytesOf 4 key) (omega arith) (length-bytes 4 key)) as-is

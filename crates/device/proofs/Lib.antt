@@ -2,7 +2,7 @@ pub mod Writing
 pub mod Given
 pub mod Stores
 pub mod Taking
-pub mod Judged
+pub mod RequestCases
 pub mod Accepted
 pub mod SafeEach
 pub mod Safe
@@ -25,7 +25,8 @@ pub mod Shapes
 pub mod Demand1
 pub mod Called
 pub mod Typing
-pub mod Answers
+pub mod AnswerReads
+pub mod Unread
 pub mod Pressing
 pub mod Dues
 pub mod Room
@@ -42,5 +43,5 @@ pub mod FoundMemory
 pub mod Found
 pub mod Unseen
 pub mod NoBody
-pub mod Invented
+pub mod WrongSteps
 pub mod Refuted

@@ -1,4 +1,4 @@
--- Demand 2 holds of our device, and not of one that refuses everything, sends one answer, or invents the count.
+-- Demand 2 holds of our device, and not of one that refuses everything, sends one answer, invents the count, stores what it refuses, has the levels turned, or lets level 1 set key 0.
 -- Assumes nothing.
 use Prim.Native.Nat.{ℕ, zero, suc}
 use mathlib.Core.Path.{_≡_, refl, ap, _∙_}
@@ -12,16 +12,16 @@ use Rattle.pdu.proofs.Truths.{and-is}
 use Rattle.device.specs.Octets.{Octets}
 use Rattle.device.specs.Step.{Step}
 use Rattle.device.specs.Asked.{Asked}
-use Rattle.device.specs.Demand2.{Answers, done}
+use Rattle.device.specs.Demand2.{Serves, done}
 use Rattle.device.specs.Marked.{sample, Case, Result, readElement, readCount, writeElement, cases, asked, found, wanted}
-use Rattle.device.specs.Wrong.{refusesAll, fixedAnswer, inventsCount, inventsStored}
+use Rattle.device.specs.Wrong.{refusesAll, fixedAnswer, inventsCount, inventsStored, storesDenied, actsAt, levelsTurned, keyOfAnother, keylessWrite, writeKey0}
 use Rattle.device.proofs.Rightly.{right, right-only}
 use Rattle.device.proofs.Cases.{marked}
-use Rattle.device.proofs.Invented.{invented, invented-stored, stored}
+use Rattle.device.proofs.WrongSteps.{invented, invented-stored, stored, denied-stored, turned-stored, element-kept, key-stored, key-kept}
 
 -- OURS
-pub answers-ours : Answers done
-answers-ours x hs ha = right x hs ha
+pub serves-ours : Serves done
+serves-ours x hs ha = right x hs ha
 
 -- a list of bytes, by a test
 bytes : List ℕ → Bool
@@ -44,7 +44,7 @@ unfolding cases
 marked-count = let m = marked in cc
 
 -- what a device that meets the demand answers to them
-module _ (step : Asked → Step) (f : Answers step) where
+module _ (step : Asked → Step) (f : Serves step) where
   only : (c : Case) → bytes (c .request) ≡ true → step (asked c) ≡ done (asked c)
   unfolding bytes sample
   only c e =
@@ -58,18 +58,30 @@ module _ (step : Asked → Step) (f : Answers step) where
   unfolding bytes found wanted
   count-answered = ap (λ (r : Step). r .answer) (only readCount refl) ∙ ap (λ (r : Result). r .answer) marked-count
 
-  -- the count that it stores with a write of the element
+  -- a byte of the sheet that it leaves is the one that ours leaves
+  byte-left : (c : Case) → bytes (c .request) ≡ true → (i : ℕ) → getD (step (asked c) .sheet) i 0 ≡ getD (done (asked c) .sheet) i 0
+  byte-left c e i = ap (λ (r : Step). getD (r .sheet) i 0) (only c e)
+
+  -- the count after a write of the element; the element after one without a key; key 0 after it was written at level 1
   count-stored : getD (step (asked writeElement) .sheet) 47 0 ≡ 1
   unfolding bytes
-  count-stored = ap (λ (r : Step). getD (r .sheet) 47 0) (only writeElement refl) ∙ stored
+  count-stored = byte-left writeElement refl 47 ∙ stored
+
+  element-left : getD (step (asked keylessWrite) .sheet) 65 0 ≡ 0xE8
+  unfolding bytes
+  element-left = byte-left keylessWrite refl 65 ∙ element-kept
+
+  key-left : getD (step (asked writeKey0) .sheet) 18 0 ≡ 0x11
+  unfolding bytes
+  key-left = byte-left writeKey0 refl 18 ∙ key-kept
 
 -- NOT OF ONE THAT REFUSES EVERYTHING: a read of the element
-pub refuses-refuted : (n : ℕ) → Answers (refusesAll n) → ⊥
+pub refuses-refuted : (n : ℕ) → Serves (refusesAll n) → ⊥
 unfolding refusesAll
 refuses-refuted n f = let e : _≡_ {A = ℕ} 0 3 = ap (λ (l : List ℕ). getD l 0 0) (element-answered (refusesAll n) f) in omega arith
 
 -- NOT OF ONE THAT SENDS ONE ANSWER, WHATEVER IT IS: reads of the element and of the count
-pub fixed-refuted : (b : List ℕ) → Answers (fixedAnswer b) → ⊥
+pub fixed-refuted : (b : List ℕ) → Serves (fixedAnswer b) → ⊥
 unfolding fixedAnswer
 fixed-refuted b f =
     let e : getD b 5 0 ≡ 1 = ap (λ (l : List ℕ). getD l 5 0) (element-answered (fixedAnswer b) f) in
@@ -77,9 +89,21 @@ fixed-refuted b f =
     omega arith
 
 -- NOT OF ONE THAT INVENTS THE COUNT: that it answers, a read of the count
-pub invents-refuted : Answers inventsCount → ⊥
+pub invents-refuted : Serves inventsCount → ⊥
 invents-refuted f = omega (arith, invented, ap (λ (l : List ℕ). getD l 7 0) (count-answered inventsCount f))
 
 -- or that it stores, a write of the element
-pub stored-refuted : Answers inventsStored → ⊥
+pub stored-refuted : Serves inventsStored → ⊥
 stored-refuted f = omega (arith, invented-stored, count-stored inventsStored f)
+
+-- NOT OF ONE THAT ANSWERS THE REFUSAL AND STORES: a write of the element without a key
+pub denied-refuted : Serves storesDenied → ⊥
+denied-refuted f = omega (arith, denied-stored, element-left storesDenied f)
+
+-- NOT OF ONE WITH THE LEVELS TURNED: the same write
+pub turned-refuted : Serves levelsTurned → ⊥
+turned-refuted f = omega (arith, turned-stored, element-left levelsTurned f)
+
+-- NOT OF ONE THAT LETS LEVEL 1 SET KEY 0
+pub key-refuted : Serves keyOfAnother → ⊥
+key-refuted f = omega (arith, key-stored, key-left keyOfAnother f)

@@ -62,7 +62,7 @@ module _ (x : Asked) where
 
   module _ (named key : ℕ) (r : Reads x (KeyWrite named key)) where
     writes : KeyWritable x named → keyWriteOf (levelIn (x .session) (x .mode)) named key ≡ keyed (levelIn (x .session) (x .mode)) named key
-    writes w = key-writes (levelIn (x .session) (x .mode)) named key (w .known) (acts-at x named (w .acts) (w .right))
+    writes w = key-writes (levelIn (x .session) (x .mode)) named key (w .known) (acts-at x named (w .acts) (w .suffices))
 
     pub only-key-write :
         KeyWritable x named → saysAfter x (splice (x .sheet) ((head.key named) .at) (bytesOf 4 key)) (KeyResponse named) [] ≡ step x
@@ -74,7 +74,7 @@ module _ (x : Asked) where
     only-no-key-write f =
         step-read x _ r _
         (key-write-cases (levelIn (x .session) (x .mode)) named key (λ (k : Decision). k ≡ decisions.denied (KeyResponse 255))
-        (λ h l. absurd (f (record { known = h; level = levelIn (x .session) (x .mode); acts = acts x; right = l })))
+        (λ h l. absurd (f (record { known = h; level = levelIn (x .session) (x .mode); acts = acts x; suffices = l })))
         refl)
 
     pub right-key-write :
@@ -84,7 +84,7 @@ module _ (x : Asked) where
     right-key-write =
         key-write-cases (levelIn (x .session) (x .mode)) named key
         (λ (k : Decision). keyWriteOf (levelIn (x .session) (x .mode)) named key ≡ k → Right x (stepBy (x .sheet) (x .session) (given x (KeyWrite named key)) k))
-        (λ h l e. keyWrite named key r (record { known = h; level = levelIn (x .session) (x .mode); acts = acts x; right = l }))
+        (λ h l e. keyWrite named key r (record { known = h; level = levelIn (x .session) (x .mode); acts = acts x; suffices = l }))
         (λ e.
         noKeyWrite named key r
         (λ w. let z : _≡_ {A = ℕ} 0 11 = ap (λ (k : Decision). k .outcome) (sym (writes w) ∙ e) in omega arith))

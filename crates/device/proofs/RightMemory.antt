@@ -17,7 +17,7 @@ use Rattle.judge.specs.Decisions as decisions
 use Rattle.judge.specs.Session.{levelIn}
 use Rattle.judge.specs.Memory.{mayWrite, mayChange, memoryReadOf, memoryWriteOf, bitWriteOf}
 use Rattle.judge.proofs.MemoryCases as cases
-use Rattle.judge.proofs.MemoryCases.{Permits, says-write, says-change, memory-read-cases, memory-reads, memory-write-is, bit-write-is}
+use Rattle.judge.proofs.MemoryCases.{Permits, reflects-write, reflects-change, memory-read-cases, memory-reads, memory-write-is, bit-write-is}
 use Rattle.device.specs.Carry.{build, bitAt}
 use Rattle.device.specs.Step.{stepBy}
 use Rattle.device.specs.Asked.{Asked, says, Reads, given}
@@ -42,11 +42,11 @@ module _ (x : Asked) (n address : ℕ) where
   module _ (r : Reads x (MemoryRead n address)) where
     permits-read : (i : ℕ) → MemoryReadable x n address i → Permits cases.Reads 12 (x .sheet) regions level n address i
     permits-read i p =
-        record { some = p .some; most = p .most; covered = covered i (p .range); right = acts-at x _ (p .acts) (p .right) }
+        record { some = p .some; most = p .most; covered = covered i (p .range); suffices = acts-at x _ (p .acts) (p .suffices) }
 
     readable : (i : ℕ) → Permits cases.Reads 12 (x .sheet) regions level n address i → MemoryReadable x n address i
     readable i p =
-        record { some = p .some; most = p .most; range = ranged i (p .covered); level = level; acts = acts x; right = p .right }
+        record { some = p .some; most = p .most; range = ranged i (p .covered); level = level; acts = acts x; suffices = p .suffices }
 
     reads : (i : ℕ) → MemoryReadable x n address i → memoryReadOf (x .sheet) regions level n address ≡ decisions.answered (answer.Sheet (MemoryResponse n address) (memoryAt (entry (x .sheet) regions i) address) n)
     reads i p = memory-reads (good 1 (x .sheet) (r .ready .sheet)) level n address i (permits-read i p)
@@ -84,7 +84,7 @@ module _ (x : Asked) (n address : ℕ) where
       record {
         test = mayWrite;
         R = cases.Writes;
-        tells = says-write;
+        tells = reflects-write;
         most = 12;
         new = store.Data;
         bytes = λ o. given x (MemoryWrite n address);
@@ -92,9 +92,9 @@ module _ (x : Asked) (n address : ℕ) where
         leaves = λ o. refl;
         long = λ o. memory-data (x .apdu) n address (reading (x .apdu) _ (r .reads));
         to = λ i p.
-            record { some = p .some; most = p .most; covered = covered i (p .range); right = acts-at x _ (p .acts) (p .right) };
+            record { some = p .some; most = p .most; covered = covered i (p .range); suffices = acts-at x _ (p .acts) (p .suffices) };
         from = λ i p.
-            record { some = p .some; most = p .most; range = ranged i (p .covered); level = level; acts = acts x; right = p .right };
+            record { some = p .some; most = p .most; range = ranged i (p .covered); level = level; acts = acts x; suffices = p .suffices };
       }
 
   -- the bytes that a bit write leaves from a place on
@@ -106,7 +106,7 @@ module _ (x : Asked) (n address : ℕ) where
       record {
         test = mayChange;
         R = cases.Changes;
-        tells = says-change;
+        tells = reflects-change;
         most = 5;
         new = λ o. store.Bits o n;
         bytes = bits;
@@ -118,7 +118,7 @@ module _ (x : Asked) (n address : ℕ) where
               some = p .some;
               most = p .most;
               covered = covered i (p .range);
-              right = (acts-at x _ (p .acts) (p .read), acts-at x _ (p .acts) (p .write));
+              suffices = (acts-at x _ (p .acts) (p .read), acts-at x _ (p .acts) (p .write));
             };
         from = λ i p.
             record {
@@ -127,8 +127,8 @@ module _ (x : Asked) (n address : ℕ) where
               range = ranged i (p .covered);
               level = level;
               acts = acts x;
-              read = p .right .0;
-              write = p .right .1;
+              read = p .suffices .0;
+              write = p .suffices .1;
             };
       }
 

@@ -38,7 +38,7 @@ module _ (x : Asked) (object id : ℕ) where
   Open i = levelIn (x .session) (x .mode) ≤ property.levels of entry (x .sheet) properties i / 16
 
   opened : (i : ℕ) → Readable x object id i → Open i
-  opened i p = acts-at x _ (p .acts) (p .right)
+  opened i p = acts-at x _ (p .acts) (p .suffices)
 
   module _ (n s : ℕ) (r : Reads x (PropertyValueRead object id n s)) where
     ok : Good 1 (x .sheet)
@@ -83,7 +83,7 @@ module _ (x : Asked) (object id : ℕ) where
             found = unkeyed x object id i hs (read-id (x .apdu) ha object id n s (reading (x .apdu) _ (r .reads))) k;
             level = levelIn (x .session) (x .mode);
             acts = acts x;
-            right = l;
+            suffices = l;
           }
 
       pub only-no-property-read : (ReadAllowed x object id n s → ⊥) → says x 11 (PropertyValueResponse object id 0 s) [] ≡ step x
@@ -107,7 +107,7 @@ module _ (x : Asked) (object id : ℕ) where
 
   -- WRITING
   freed : (i : ℕ) → Writable x object id i → Free (entry (x .sheet) properties i) (levelIn (x .session) (x .mode))
-  freed i p = record { bit7 = p .bit7; right = acts-at x _ (p .acts) (p .right) }
+  freed i p = record { bit7 = p .bit7; suffices = acts-at x _ (p .acts) (p .suffices) }
 
   cleared :
       (i : ℕ) → Reads x (PropertyValueWrite object id 1 0) → Writable x object id i →
@@ -169,7 +169,7 @@ module _ (x : Asked) (object id : ℕ) where
             bit7 = w .bit7;
             level = levelIn (x .session) (x .mode);
             acts = acts x;
-            right = w .right;
+            suffices = w .suffices;
           }
 
       pub only-no-property-write : (WriteAllowed x object id n s d → ⊥) → says x 11 (PropertyValueResponse object id 0 s) [] ≡ step x

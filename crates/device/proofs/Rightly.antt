@@ -13,7 +13,7 @@ use Rattle.device.specs.Step.{Step, stepBy, stepOf}
 use Rattle.device.specs.Asked.{Asked, Reads, given}
 use Rattle.device.specs.Right as due
 use Rattle.device.specs.Right.{Brings, Right}
-use Rattle.device.proofs.Judged.{judged}
+use Rattle.device.proofs.RequestCases.{request-cases}
 use Rattle.device.proofs.Bits.{combined-is}
 use Rattle.device.proofs.Stepped.{step-refused, step-unknown, step-other, step-unfit}
 use Rattle.device.proofs.RightGroups.{right-group-read, right-group-put, only-group-read0, only-group-read, only-no-group-read, only-group-put0, only-group-put, only-group-length, only-no-group-put}
@@ -59,17 +59,17 @@ module _ (x : Asked) (hs : Octets (x .sheet)) (ha : Octets (x .apdu)) where
   pub right : Right x (stepOf (x .room) (x .sheet) (x .session) (x .mode) (x .group) (x .apdu))
   unfolding stepOf stepBy
   right =
-      judged x (λ (k : Decision). Right x (stepBy (x .sheet) (x .session) (dataIn (readPdu (x .apdu)) (x .apdu)) k))
+      request-cases x (λ (k : Decision). Right x (stepBy (x .sheet) (x .session) (dataIn (readPdu (x .apdu)) (x .apdu)) k))
       (λ k r n v t. due.otherMode k r n v t) (λ r f. due.unknown r f) (λ k r n t e. due.unfit k r n t e)
       (λ p r.
       subst
       (λ (z : Parsed). Right x (stepBy (x .sheet) (x .session) (dataIn z (x .apdu)) (decideOf (x .sheet) (levelIn (x .session) (x .mode)) (x .group) (given x p) p)))
       (sym (r .reads)) (right-read p r))
-      (λ n r. due.refused r)
+      (λ n r. due.beforeService r)
 
   -- AND NOTHING ELSE IS
   pub right-only : (r : Step) → Right x r → r ≡ stepOf (x .room) (x .sheet) (x .session) (x .mode) (x .group) (x .apdu)
-  right-only r (due.refused h) = step-refused x h
+  right-only r (due.beforeService h) = step-refused x h
   right-only r (due.unknown h f) = step-unknown x h f
   right-only r (due.otherMode k h n v t) = step-other x k h n v t
   right-only r (due.unfit k h n t e) = step-unfit x k h n t e

@@ -13,7 +13,7 @@ use Rattle.judge.specs.Session.{levelIn}
 use Rattle.judge.specs.Judge.{judgeOf, decideOf, dataIn}
 use Rattle.device.specs.Asked.{Asked, given}
 use Rattle.device.specs.Safe.{Safe}
-use Rattle.device.proofs.Judged.{judged}
+use Rattle.device.proofs.RequestCases.{request-cases}
 use Rattle.device.proofs.SafeEach.{safe-refused, safe-decided}
 
 -- WHATEVER IS DECIDED CAN BE CARRIED OUT
@@ -23,7 +23,7 @@ pub safe :
 safe room s q mode group a =
     let x : Asked = record { room = room; sheet = s; session = q; mode = mode; group = group; apdu = a } in
     let d : List ℕ = dataIn (readPdu a) a in
-    judged x (Safe s d) (λ k r n v t. safe-refused s d 9) (λ r f. safe-refused s d 8) (λ k r n t e. safe-refused s d 10)
+    request-cases x (Safe s d) (λ k r n v t. safe-refused s d 9) (λ r f. safe-refused s d 8) (λ k r n t e. safe-refused s d 10)
     (λ p r.
     let k : Decision = decideOf s (levelIn q mode) group (given x p) p in
     subst (λ (z : Parsed). Safe s (dataIn z a) k) (sym (r .reads))

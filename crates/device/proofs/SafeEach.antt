@@ -33,7 +33,7 @@ use Rattle.judge.specs.Judge.{decideOf}
 use Rattle.judge.proofs.Walks.{by-eq}
 use Rattle.judge.proofs.GroupCases.{group-read-cases, group-put-cases}
 use Rattle.judge.proofs.PropertyCases.{property-read-cases, property-write-cases, description-cases}
-use Rattle.judge.proofs.MemoryCases.{Says, says-write, says-change, spot, memory-read-cases, changed, change-cases}
+use Rattle.judge.proofs.MemoryCases.{Reflects, reflects-write, reflects-change, spot, memory-read-cases, changed, change-cases}
 use Rattle.judge.proofs.KeyCases.{key-write-cases}
 use Rattle.device.specs.Carry.{storeOf}
 use Rattle.device.specs.Safe.{StoreSafe, AnswerSafe, Safe}
@@ -166,7 +166,7 @@ module _ {s : List ℕ} (ok : Good 1 s) (d : List ℕ) where
 
     -- a write whose stores lie where the range does
     change :
-        {test : ℕ → ℕ → Bool} {R : ℕ → ℕ → Type 0} (y : Says test R) (m : ℕ) (new : ℕ → Store) → m ≤ 12 →
+        {test : ℕ → ℕ → Bool} {R : ℕ → ℕ → Type 0} (y : Reflects test R) (m : ℕ) (new : ℕ → Store) → m ≤ 12 →
         ((o : ℕ) → o + n ≤ length s → StoreSafe s d (new o)) → Safe s d (changed y m new s regions level n a)
     change y m new l f =
         change-cases y m new s regions level n a (Safe s d)
@@ -179,11 +179,11 @@ module _ {s : List ℕ} (ok : Good 1 s) (d : List ℕ) where
 
     memory-write : length d ≡ n → Safe s d (memoryWriteOf s regions level n a)
     unfolding memoryWriteOf
-    memory-write e = change says-write 12 store.Data (omega arith) (λ o w. omega arith)
+    memory-write e = change reflects-write 12 store.Data (omega arith) (λ o w. omega arith)
 
     bit-write : length d ≡ n + n → Safe s d (bitWriteOf s regions level n a)
     unfolding bitWriteOf
-    bit-write e = change says-change 5 (λ o. store.Bits o n) (omega arith) (λ o w. (w, e))
+    bit-write e = change reflects-change 5 (λ o. store.Bits o n) (omega arith) (λ o w. (w, e))
 
   authorize : (key : ℕ) → Safe s d (authorizeOf s key)
   unfolding authorizeOf

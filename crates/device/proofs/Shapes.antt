@@ -26,11 +26,11 @@ use Rattle.judge.specs.Judge.{decideOf, judgeOf}
 use Rattle.judge.proofs.Walks.{by-eq}
 use Rattle.judge.proofs.GroupCases.{group-read-cases, group-put-cases}
 use Rattle.judge.proofs.PropertyCases.{property-read-cases, property-write-cases, description-cases}
-use Rattle.judge.proofs.MemoryCases.{says-write, says-change, memory-read-cases, change-cases}
+use Rattle.judge.proofs.MemoryCases.{reflects-write, reflects-change, memory-read-cases, change-cases}
 use Rattle.judge.proofs.KeyCases.{key-write-cases}
 use Rattle.device.specs.Asked.{Asked, Refusal, noRoom, badSheet, badLength, badMode, noSession}
 use Rattle.device.specs.Replies.{Negative, ofRead, ofWrite, ofDescription, ofMemoryRead, ofMemoryWrite, ofBitWrite, ofKeyWrite}
-use Rattle.device.proofs.Judged.{judged}
+use Rattle.device.proofs.RequestCases.{request-cases}
 
 -- about a request a
 pub data Shape (a : List ℕ) : Decision → Type 0 where
@@ -78,10 +78,10 @@ module _ (a s : List ℕ) (level group : ℕ) (d : List ℕ) where
   shaped (MemoryRead n address) e =
       memory-read-cases s regions level n address (Shape a) (λ i p. reply _ _ _ _) (deny _ _ e (ofMemoryRead n address))
   shaped (MemoryWrite n address) e =
-      change-cases says-write 12 store.Data s regions level n address (Shape a) (λ i p v. reply _ _ _ _) (λ i p v. done _ _)
+      change-cases reflects-write 12 store.Data s regions level n address (Shape a) (λ i p v. reply _ _ _ _) (λ i p v. done _ _)
       (λ v. deny _ _ e (ofMemoryWrite n address)) (λ v. unanswered a)
   shaped (MemoryBitWrite n address) e =
-      change-cases says-change 5 (λ o. store.Bits o n) s regions level n address (Shape a) (λ i p v. reply _ _ _ _) (λ i p v. done _ _)
+      change-cases reflects-change 5 (λ o. store.Bits o n) s regions level n address (Shape a) (λ i p v. reply _ _ _ _) (λ i p v. done _ _)
       (λ v. deny _ _ e (ofBitWrite n address)) (λ v. unanswered a)
   shaped (AuthorizeRequest key) e = reply _ _ _ _
   shaped (KeyWrite named key) e =
@@ -106,5 +106,5 @@ early n (noSession b s l m c o) = refuse 7 (omega arith) (omega arith) (λ e. om
 -- EVERY DECISION HAS ONE OF THEM
 pub shape : (x : Asked) → Shape (x .apdu) (judgeOf (x .room) (x .sheet) (x .session) (x .mode) (x .group) (x .apdu))
 shape x =
-    judged x (Shape (x .apdu)) (λ k r n v t. refuse 9 (omega arith) (omega arith) (λ e. omega arith)) (λ r f. unknown (x .apdu))
+    request-cases x (Shape (x .apdu)) (λ k r n v t. refuse 9 (omega arith) (omega arith) (λ e. omega arith)) (λ r f. unknown (x .apdu))
     (λ k r n t e. unfit (x .apdu)) (λ p r. shaped (x .apdu) (x .sheet) _ (x .group) _ p (r .reads)) early

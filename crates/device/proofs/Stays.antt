@@ -19,7 +19,7 @@ use Rattle.judge.proofs.Walks.{by-test}
 use Rattle.device.specs.Step.{stepBy, stepOf}
 use Rattle.device.specs.Asked.{Asked, given}
 use Rattle.device.specs.Events.{State, Event, connect, disconnect, button, request, pressed, buttonSheet, eventOf, after}
-use Rattle.device.proofs.Judged.{judged}
+use Rattle.device.proofs.RequestCases.{request-cases}
 use Rattle.device.proofs.Flags.{bit-small}
 use Rattle.device.proofs.Agreeing.{agree-refl}
 use Rattle.device.proofs.Keeping.{Keeps, flags-new, keeps-decided}
@@ -29,7 +29,7 @@ pub request-agrees :
     (x : Asked) → ruleOf (x .sheet) ≡ 0 → Agree (x .sheet) (stepOf (x .room) (x .sheet) (x .session) (x .mode) (x .group) (x .apdu) .sheet)
 unfolding stepOf stepBy
 request-agrees x ok =
-    judged x (Keeps (x .sheet) (dataIn (readPdu (x .apdu)) (x .apdu)))
+    request-cases x (Keeps (x .sheet) (dataIn (readPdu (x .apdu)) (x .apdu)))
     (λ k r n v t. agree-refl (x .sheet)) (λ r f. agree-refl (x .sheet)) (λ k r n t e. agree-refl (x .sheet))
     (λ p r.
     subst

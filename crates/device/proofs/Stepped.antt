@@ -29,7 +29,7 @@ use Rattle.judge.specs.Judge.{isAccepted, decideOf, readOf, reachedOf, foundOf,
 use Rattle.device.specs.Step.{Step, stepBy, stepOf}
 use Rattle.device.specs.Asked.{Asked, quiet, Takes, Names, Served, Refusal, noRoom, badSheet, badLength, badMode, noSession, Ready, Reads, given}
 use Rattle.device.proofs.Taking.{takes-is, served-is}
-use Rattle.device.proofs.Judged.{names-found, found-names}
+use Rattle.device.proofs.RequestCases.{names-found, found-names}
 
 -- a test that can't pass fails
 fails : (t : Bool) → (t ≡ true → ⊥) → t ≡ false

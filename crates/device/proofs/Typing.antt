@@ -32,11 +32,11 @@ use Rattle.judge.specs.Judge.{decideOf, judgeOf}
 use Rattle.judge.proofs.Walks.{by-eq}
 use Rattle.judge.proofs.GroupCases.{group-read-cases, group-put-cases}
 use Rattle.judge.proofs.PropertyCases.{describes, property-read-cases, property-write-cases, description-cases}
-use Rattle.judge.proofs.MemoryCases.{says-write, says-change, memory-read-cases, change-cases}
+use Rattle.judge.proofs.MemoryCases.{reflects-write, reflects-change, memory-read-cases, change-cases}
 use Rattle.judge.proofs.KeyCases.{grant-cases, key-write-cases}
 use Rattle.device.specs.Octets.{Octets}
 use Rattle.device.specs.Asked.{Asked}
-use Rattle.device.proofs.Judged.{judged}
+use Rattle.device.proofs.RequestCases.{request-cases}
 use Rattle.device.proofs.Properly.{entry-byte}
 
 abbrev pub AnswerTyped : Answer → Type 0
@@ -87,9 +87,9 @@ module _ {s : List ℕ} (ok : Good 1 s) (h : Octets s) (level group : ℕ) (d : 
       (t .0, (t .1 .0, (t .1 .1 .0, (omega arith, (tt, (omega arith, tt))))))
   fitted (MemoryRead n address) t = memory-read-cases s regions level n address Fits (λ i p. t) t
   fitted (MemoryWrite n address) t =
-      change-cases says-write 12 store.Data s regions level n address Fits (λ i p v. t) (λ i p v. tt) (λ v. t) (λ v. tt)
+      change-cases reflects-write 12 store.Data s regions level n address Fits (λ i p v. t) (λ i p v. tt) (λ v. t) (λ v. tt)
   fitted (MemoryBitWrite n address) t =
-      change-cases says-change 5 (λ o. store.Bits o n) s regions level n address Fits (λ i p v. (tt, t .1)) (λ i p v. tt) (λ v. (tt, t .1)) (λ v. tt)
+      change-cases reflects-change 5 (λ o. store.Bits o n) s regions level n address Fits (λ i p v. (tt, t .1)) (λ i p v. tt) (λ v. (tt, t .1)) (λ v. tt)
   fitted (AuthorizeRequest key) t = (omega (arith, granted s key), tt)
   fitted (KeyWrite named key) t = key-write-cases level named key Fits (λ l r. (t .0, tt)) (omega arith, tt)
   fitted Restart t = tt
@@ -106,6 +106,6 @@ module _ {s : List ℕ} (ok : Good 1 s) (h : Octets s) (level group : ℕ) (d : 
 pub typed :
     (x : Asked) → Octets (x .sheet) → Octets (x .apdu) → AnswerTyped (judgeOf (x .room) (x .sheet) (x .session) (x .mode) (x .group) (x .apdu) .answer)
 typed x hs ha =
-    judged x Fits (λ k r n v t. tt) (λ r f. tt) (λ k r n t e. tt)
+    request-cases x Fits (λ k r n v t. tt) (λ r f. tt) (λ k r n t e. tt)
     (λ p r. fitted (good 1 (x .sheet) (r .ready .sheet)) hs _ (x .group) _ p (request-typed (x .apdu) p ha (r .reads)))
     (λ n r. tt)

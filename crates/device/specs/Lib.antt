@@ -1,3 +1,4 @@
+pub mod Octets
 pub mod Carry
 pub mod Step
 pub mod Events
@@ -5,8 +6,8 @@ pub mod Due
 pub mod Asked
 pub mod Right
 pub mod Safe
-pub mod Octets
 pub mod Replies
+pub mod Demand1
 pub mod Demand2
 pub mod Marked
 pub mod Next

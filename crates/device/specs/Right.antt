@@ -30,10 +30,20 @@ use Rattle.device.specs.Asked.{Asked, quiet, says, saysAfter, stores, Ta
 abbrev pub part : List ℕ → ℕ → ℕ → List ℕ
 part s o n = take n (drop o s)
 
+-- entry i of its kind in the sheet that the request meets
+abbrev pub regionEntry : Asked → ℕ → List ℕ
+regionEntry x i = entry (x .sheet) regions i
+
+abbrev pub propertyEntry : Asked → ℕ → List ℕ
+propertyEntry x i = entry (x .sheet) properties i
+
+abbrev pub groupEntry : Asked → ℕ → List ℕ
+groupEntry x i = entry (x .sheet) groups i
+
 -- group object i has the address
 pub record Group (x : Asked) (i : ℕ) : Type 0 where
   pub there : i < count (x .sheet) groups
-  pub address : group.address of entry (x .sheet) groups i ≡ x .group
+  pub address : group.address of groupEntry x i ≡ x .group
 
 -- p brings the six bits v to a group object that has the flag: 2 write, 4 take a Response
 pub data Brings : Pdu → ℕ → ℕ → Type 0 where
@@ -57,39 +67,39 @@ pub record Readable (x : Asked) (object id i : ℕ) : Type 0 where
   pub found : PropertyWith (x .sheet) object id i
   pub level : ℕ
   pub acts : Acts x level
-  pub right : level ≤ property.levels of entry (x .sheet) properties i / 16
+  pub suffices : level ≤ property.levels of propertyEntry x i / 16
 
 pub data ReadAllowed (x : Asked) (object id n s : ℕ) : Type 0 where
   ofCount : (i : ℕ) → Readable x object id i → s ≡ 0 → n ≡ 1 → ReadAllowed x object id n s
   ofElements :
-      (i : ℕ) → Readable x object id i → Elements (entry (x .sheet) properties i) n s →
-      n * property.element of entry (x .sheet) properties i ≤ 10 → ReadAllowed x object id n s
+      (i : ℕ) → Readable x object id i → Elements (propertyEntry x i) n s →
+      n * property.element of propertyEntry x i ≤ 10 → ReadAllowed x object id n s
 
 pub record Writable (x : Asked) (object id i : ℕ) : Type 0 where
   pub found : PropertyWith (x .sheet) object id i
-  pub bit7 : property.kind of entry (x .sheet) properties i / 128 ≡ 1
+  pub bit7 : property.kind of propertyEntry x i / 128 ≡ 1
   pub level : ℕ
   pub acts : Acts x level
-  pub right : level ≤ property.levels of entry (x .sheet) properties i % 16
+  pub suffices : level ≤ property.levels of propertyEntry x i % 16
 
 pub data WriteAllowed (x : Asked) (object id n s : ℕ) (d : List ℕ) : Type 0 where
   ofCount : (i : ℕ) → Writable x object id i → s ≡ 0 → n ≡ 1 → d ≡ 0 ∷ 0 ∷ [] → WriteAllowed x object id n s d
   ofElements :
-      (i : ℕ) → Writable x object id i → Elements (entry (x .sheet) properties i) n s →
-      length d ≡ n * property.element of entry (x .sheet) properties i → WriteAllowed x object id n s d
+      (i : ℕ) → Writable x object id i → Elements (propertyEntry x i) n s →
+      length d ≡ n * property.element of propertyEntry x i → WriteAllowed x object id n s d
 
 -- the property that a description is asked of: by id, or where that is 0 by its index within the object
 pub data Described (x : Asked) (object id index i : ℕ) : Type 0 where
   byId : (id ≡ 0 → ⊥) → PropertyWith (x .sheet) object id i → Described x object id index i
   byIndex :
-      id ≡ 0 → i < count (x .sheet) properties → property.object of entry (x .sheet) properties i ≡ object →
+      id ≡ 0 → i < count (x .sheet) properties → property.object of propertyEntry x i ≡ object →
       rank (x .sheet) object i ≡ index → Described x object id index i
 
 -- n bytes of memory from an address on, all in one region
 pub record InRegion (x : Asked) (address n i : ℕ) : Type 0 where
   pub there : i < count (x .sheet) regions
-  pub start : region.address of entry (x .sheet) regions i ≤ address
-  pub end : address + n ≤ region.address of entry (x .sheet) regions i + region.length of entry (x .sheet) regions i
+  pub start : region.address of regionEntry x i ≤ address
+  pub end : address + n ≤ region.address of regionEntry x i + region.length of regionEntry x i
 
 -- where they stand in the sheet
 abbrev pub memoryAt : List ℕ → ℕ → ℕ
@@ -101,7 +111,7 @@ pub record MemoryReadable (x : Asked) (n address i : ℕ) : Type 0 where
   pub range : InRegion x address n i
   pub level : ℕ
   pub acts : Acts x level
-  pub right : level ≤ region.levels of entry (x .sheet) regions i / 16
+  pub suffices : level ≤ region.levels of regionEntry x i / 16
 
 pub record MemoryWritable (x : Asked) (n address i : ℕ) : Type 0 where
   pub some : 1 ≤ n
@@ -109,7 +119,7 @@ pub record MemoryWritable (x : Asked) (n address i : ℕ) : Type 0 where
   pub range : InRegion x address n i
   pub level : ℕ
   pub acts : Acts x level
-  pub right : level ≤ region.levels of entry (x .sheet) regions i % 16
+  pub suffices : level ≤ region.levels of regionEntry x i % 16
 
 -- a bit write shows old bits, so it needs both rights
 pub record BitsWritable (x : Asked) (n address i : ℕ) : Type 0 where
@@ -118,8 +128,8 @@ pub record BitsWritable (x : Asked) (n address i : ℕ) : Type 0 where
   pub range : InRegion x address n i
   pub level : ℕ
   pub acts : Acts x level
-  pub read : level ≤ region.levels of entry (x .sheet) regions i / 16
-  pub write : level ≤ region.levels of entry (x .sheet) regions i % 16
+  pub read : level ≤ region.levels of regionEntry x i / 16
+  pub write : level ≤ region.levels of regionEntry x i % 16
 
 -- d is what it leaves of the n bytes from place o on: (old AND a) XOR x for each, the data being n AND bytes a and then n XOR bytes x
 pub record Combined (s : List ℕ) (o n : ℕ) (given d : List ℕ) : Type 0 where
@@ -145,41 +155,41 @@ pub record KeyWritable (x : Asked) (named : ℕ) : Type 0 where
   pub known : named ≤ 2
   pub level : ℕ
   pub acts : Acts x level
-  pub right : level ≤ named
+  pub suffices : level ≤ named
 
 -- THE STEP THAT IS DUE
 pub data Right (x : Asked) : Step → Type 0 where
   -- 3 to 10
-  refused : {n : ℕ} → Refusal x n → Right x (quiet x n)
+  beforeService : {n : ℕ} → Refusal x n → Right x (quiet x n)
   unknown : Ready x → ((k : Service) → Names x k → Served k → ⊥) → Right x (quiet x 8)
   otherMode : (k : Service) → Ready x → Names x k → Served k → (Takes k (x .mode) → ⊥) → Right x (quiet x 9)
   unfit : (k : Service) → Ready x → Names x k → Takes k (x .mode) → readPdu (x .apdu) ≡ Refused 10 → Right x (quiet x 10)
   -- group values
   groupRead0 :
-      (i : ℕ) → Reads x GroupValueRead → Group x i → Flag (entry (x .sheet) groups i) 1 →
-      group.code of entry (x .sheet) groups i ≡ 0 →
-      Right x (says x 0 (GroupValueResponse (numAt (x .sheet) (group.offset of entry (x .sheet) groups i) 1)) [])
+      (i : ℕ) → Reads x GroupValueRead → Group x i → Flag (groupEntry x i) 1 →
+      group.code of groupEntry x i ≡ 0 →
+      Right x (says x 0 (GroupValueResponse (numAt (x .sheet) (group.offset of groupEntry x i) 1)) [])
   groupRead :
-      (i : ℕ) → Reads x GroupValueRead → Group x i → Flag (entry (x .sheet) groups i) 1 →
-      1 ≤ group.code of entry (x .sheet) groups i →
+      (i : ℕ) → Reads x GroupValueRead → Group x i → Flag (groupEntry x i) 1 →
+      1 ≤ group.code of groupEntry x i →
       Right x
       (says x 0 (GroupValueResponse 0)
-      (part (x .sheet) (group.offset of entry (x .sheet) groups i) (group.code of entry (x .sheet) groups i)))
+      (part (x .sheet) (group.offset of groupEntry x i) (group.code of groupEntry x i)))
   noGroupRead :
-      Reads x GroupValueRead → ((i : ℕ) → Group x i → Flag (entry (x .sheet) groups i) 1 → ⊥) → Right x (quiet x 2)
+      Reads x GroupValueRead → ((i : ℕ) → Group x i → Flag (groupEntry x i) 1 → ⊥) → Right x (quiet x 2)
   groupPut0 :
-      (p : Pdu) (v f i : ℕ) → Reads x p → Brings p v f → Group x i → Flag (entry (x .sheet) groups i) f →
-      group.code of entry (x .sheet) groups i ≡ 0 → given x p ≡ [] →
-      Right x (stores x (splice (x .sheet) (group.offset of entry (x .sheet) groups i) (bytesOf 1 v)))
+      (p : Pdu) (v f i : ℕ) → Reads x p → Brings p v f → Group x i → Flag (groupEntry x i) f →
+      group.code of groupEntry x i ≡ 0 → given x p ≡ [] →
+      Right x (stores x (splice (x .sheet) (group.offset of groupEntry x i) (bytesOf 1 v)))
   groupPut :
-      (p : Pdu) (v f i : ℕ) → Reads x p → Brings p v f → Group x i → Flag (entry (x .sheet) groups i) f →
-      1 ≤ group.code of entry (x .sheet) groups i → length (given x p) ≡ group.code of entry (x .sheet) groups i →
-      Right x (stores x (splice (x .sheet) (group.offset of entry (x .sheet) groups i) (given x p)))
+      (p : Pdu) (v f i : ℕ) → Reads x p → Brings p v f → Group x i → Flag (groupEntry x i) f →
+      1 ≤ group.code of groupEntry x i → length (given x p) ≡ group.code of groupEntry x i →
+      Right x (stores x (splice (x .sheet) (group.offset of groupEntry x i) (given x p)))
   groupLength :
-      (p : Pdu) (v f i : ℕ) → Reads x p → Brings p v f → Group x i → Flag (entry (x .sheet) groups i) f →
-      (length (given x p) ≡ group.code of entry (x .sheet) groups i → ⊥) → Right x (quiet x 10)
+      (p : Pdu) (v f i : ℕ) → Reads x p → Brings p v f → Group x i → Flag (groupEntry x i) f →
+      (length (given x p) ≡ group.code of groupEntry x i → ⊥) → Right x (quiet x 10)
   noGroupPut :
-      (p : Pdu) (v f : ℕ) → Reads x p → Brings p v f → ((i : ℕ) → Group x i → Flag (entry (x .sheet) groups i) f → ⊥) → Right x (quiet x 2)
+      (p : Pdu) (v f : ℕ) → Reads x p → Brings p v f → ((i : ℕ) → Group x i → Flag (groupEntry x i) f → ⊥) → Right x (quiet x 2)
   -- the individual address
   addressWrite :
       (address : ℕ) → Reads x (IndividualAddressWrite address) → Programming x →
@@ -205,13 +215,13 @@ pub data Right (x : Asked) : Step → Type 0 where
   propertyCount :
       (object id i : ℕ) → Reads x (PropertyValueRead object id 1 0) → Readable x object id i →
       Right x
-      (says x 0 (PropertyValueResponse object id 1 0) (bytesOf 2 (property.count of entry (x .sheet) properties i)))
+      (says x 0 (PropertyValueResponse object id 1 0) (bytesOf 2 (property.count of propertyEntry x i)))
   propertyRead :
       (object id n s i : ℕ) → Reads x (PropertyValueRead object id n s) → Readable x object id i →
-      Elements (entry (x .sheet) properties i) n s → n * property.element of entry (x .sheet) properties i ≤ 10 →
+      Elements (propertyEntry x i) n s → n * property.element of propertyEntry x i ≤ 10 →
       Right x
       (says x 0 (PropertyValueResponse object id n s)
-      (part (x .sheet) (elementAt (entry (x .sheet) properties i) s) (n * property.element of entry (x .sheet) properties i)))
+      (part (x .sheet) (elementAt (propertyEntry x i) s) (n * property.element of propertyEntry x i)))
   noPropertyRead :
       (object id n s : ℕ) → Reads x (PropertyValueRead object id n s) → (ReadAllowed x object id n s → ⊥) →
       Right x (says x 11 (PropertyValueResponse object id 0 s) [])
@@ -223,13 +233,13 @@ pub data Right (x : Asked) : Step → Type 0 where
       (PropertyValueResponse object id 1 0) (0 ∷ 0 ∷ []))
   propertyWrite :
       (object id n s i : ℕ) (d : List ℕ) → Reads x (PropertyValueWrite object id n s) → Writable x object id i →
-      d ≡ given x (PropertyValueWrite object id n s) → Elements (entry (x .sheet) properties i) n s →
-      length d ≡ n * property.element of entry (x .sheet) properties i →
+      d ≡ given x (PropertyValueWrite object id n s) → Elements (propertyEntry x i) n s →
+      length d ≡ n * property.element of propertyEntry x i →
       Right x
       (saysAfter x
-      (splice (splice (x .sheet) (elementAt (entry (x .sheet) properties i) s) d)
+      (splice (splice (x .sheet) (elementAt (propertyEntry x i) s) d)
       (place (x .sheet) properties i + property.count .at)
-      (bytesOf 2 (max (property.count of entry (x .sheet) properties i) (s + n - 1))))
+      (bytesOf 2 (max (property.count of propertyEntry x i) (s + n - 1))))
       (PropertyValueResponse object id n s) d)
   noPropertyWrite :
       (object id n s : ℕ) → Reads x (PropertyValueWrite object id n s) →
@@ -239,9 +249,9 @@ pub data Right (x : Asked) : Step → Type 0 where
       (object id index i : ℕ) → Reads x (PropertyDescriptionRead object id index) → Described x object id index i →
       Right x
       (says x 0
-      (PropertyDescriptionResponse object (property.id of entry (x .sheet) properties i) (rank (x .sheet) object i)
-      (property.kind of entry (x .sheet) properties i) (property.maximum of entry (x .sheet) properties i)
-      (property.levels of entry (x .sheet) properties i)) [])
+      (PropertyDescriptionResponse object (property.id of propertyEntry x i) (rank (x .sheet) object i)
+      (property.kind of propertyEntry x i) (property.maximum of propertyEntry x i)
+      (property.levels of propertyEntry x i)) [])
   noDescription :
       (object id index : ℕ) → Reads x (PropertyDescriptionRead object id index) →
       ((i : ℕ) → Described x object id index i → ⊥) →
@@ -249,7 +259,7 @@ pub data Right (x : Asked) : Step → Type 0 where
   -- memory
   memoryRead :
       (n address i : ℕ) → Reads x (MemoryRead n address) → MemoryReadable x n address i →
-      Right x (says x 0 (MemoryResponse n address) (part (x .sheet) (memoryAt (entry (x .sheet) regions i) address) n))
+      Right x (says x 0 (MemoryResponse n address) (part (x .sheet) (memoryAt (regionEntry x i) address) n))
   noMemoryRead :
       (n address : ℕ) → Reads x (MemoryRead n address) → ((i : ℕ) → MemoryReadable x n address i → ⊥) →
       Right x (says x 11 (MemoryResponse 0 address) [])
@@ -257,11 +267,11 @@ pub data Right (x : Asked) : Step → Type 0 where
       (n address i : ℕ) (d : List ℕ) → Reads x (MemoryWrite n address) → MemoryWritable x n address i →
       d ≡ given x (MemoryWrite n address) → Verify x →
       Right x
-      (saysAfter x (splice (x .sheet) (memoryAt (entry (x .sheet) regions i) address) d) (MemoryResponse n address) d)
+      (saysAfter x (splice (x .sheet) (memoryAt (regionEntry x i) address) d) (MemoryResponse n address) d)
   memoryWrite :
       (n address i : ℕ) (d : List ℕ) → Reads x (MemoryWrite n address) → MemoryWritable x n address i →
       d ≡ given x (MemoryWrite n address) → (Verify x → ⊥) →
-      Right x (stores x (splice (x .sheet) (memoryAt (entry (x .sheet) regions i) address) d))
+      Right x (stores x (splice (x .sheet) (memoryAt (regionEntry x i) address) d))
   noMemoryWriteVerified :
       (n address : ℕ) → Reads x (MemoryWrite n address) → ((i : ℕ) → MemoryWritable x n address i → ⊥) → Verify x →
       Right x (says x 11 (MemoryResponse 0 address) [])
@@ -270,14 +280,14 @@ pub data Right (x : Asked) : Step → Type 0 where
       (Verify x → ⊥) → Right x (quiet x 12)
   bitWriteVerified :
       (n address i : ℕ) (d : List ℕ) → Reads x (MemoryBitWrite n address) → BitsWritable x n address i →
-      Combined (x .sheet) (memoryAt (entry (x .sheet) regions i) address) n (given x (MemoryBitWrite n address)) d →
+      Combined (x .sheet) (memoryAt (regionEntry x i) address) n (given x (MemoryBitWrite n address)) d →
       Verify x →
       Right x
-      (saysAfter x (splice (x .sheet) (memoryAt (entry (x .sheet) regions i) address) d) (MemoryResponse n address) d)
+      (saysAfter x (splice (x .sheet) (memoryAt (regionEntry x i) address) d) (MemoryResponse n address) d)
   bitWrite :
       (n address i : ℕ) (d : List ℕ) → Reads x (MemoryBitWrite n address) → BitsWritable x n address i →
-      Combined (x .sheet) (memoryAt (entry (x .sheet) regions i) address) n (given x (MemoryBitWrite n address)) d →
-      (Verify x → ⊥) → Right x (stores x (splice (x .sheet) (memoryAt (entry (x .sheet) regions i) address) d))
+      Combined (x .sheet) (memoryAt (regionEntry x i) address) n (given x (MemoryBitWrite n address)) d →
+      (Verify x → ⊥) → Right x (stores x (splice (x .sheet) (memoryAt (regionEntry x i) address) d))
   noBitWriteVerified :
       (n address : ℕ) → Reads x (MemoryBitWrite n address) → ((i : ℕ) → BitsWritable x n address i → ⊥) → Verify x →
       Right x (says x 11 (MemoryResponse 0 address) [])

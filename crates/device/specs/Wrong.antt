@@ -1,9 +1,9 @@
 -- Devices that are wrong, to hold against demand 2.
 -- Assumes nothing.
-use Prim.Native.Nat.{ℕ, _+_}
-use mathlib.Core.List.{List}
+use Prim.Native.Nat.{ℕ, _+_, _-_}
+use mathlib.Core.List.{List, [], _∷_}
 use mathlib.Core.Bool.{cond}
-use lib.Dec.{ltb}
+use lib.Dec.{ltb, leb}
 use Rattle.sheet.specs.Kind.{properties}
 use Rattle.sheet.specs.Layout.{_of_}
 use Rattle.sheet.specs.Property as property
@@ -19,6 +19,8 @@ use Rattle.judge.specs.Properties.{propertyAt}
 use Rattle.judge.specs.Judge.{judgeOf, dataIn}
 use Rattle.device.specs.Step.{Step, stepBy}
 use Rattle.device.specs.Asked.{Asked, quiet}
+use Rattle.device.specs.Demand2.{done}
+use Rattle.device.specs.Marked.{Case, at}
 
 -- it refuses everything, by one number
 unfoldable pub refusesAll : ℕ → Asked → Step
@@ -57,3 +59,47 @@ inventsStored x =
     let k = judgeOf (x .room) (x .sheet) (x .session) (x .mode) (x .group) (x .apdu) in
     stepBy (x .sheet) (x .session) (dataIn (readPdu (x .apdu)) (x .apdu))
     record { outcome = k .outcome; first = k .first; second = raised (k .second); turn = k .turn; answer = k .answer }
+
+-- the same request, the session's level read by f
+abbrev pub acting : (ℕ → ℕ) → Asked → Asked
+acting f x =
+    record {
+      room = x .room;
+      sheet = x .sheet;
+      session = record { opened = x .session .opened; level = f (x .session .level) };
+      mode = x .mode;
+      group = x .group;
+      apdu = x .apdu;
+    }
+
+-- THE ACCIDENT: it answers as ours does, a refusal too, and stores what a session of level 0 may store
+unfoldable pub storesDenied : Asked → Step
+storesDenied x =
+    record {
+      outcome = done x .outcome;
+      answer = done x .answer;
+      session = done x .session;
+      sheet = done (acting (λ l. 0) x) .sheet;
+    }
+
+-- it does all as ours does at another level; the session becomes what ours makes of it
+unfoldable pub actsAt : (ℕ → ℕ) → Asked → Step
+actsAt f x =
+    let r = done (acting f x) in
+    record { outcome = r .outcome; answer = r .answer; session = done x .session; sheet = r .sheet }
+
+-- it has the levels the wrong way round: 3 has most rights
+abbrev pub levelsTurned : Asked → Step
+levelsTurned = actsAt (λ l. 3 - l)
+
+-- it lets level 1 do what level 0 may: set key 0
+abbrev pub keyOfAnother : Asked → Step
+keyOfAnother = actsAt (λ l. cond (leb l 1) 0 l)
+
+-- what refutes them: a write of the protected element without a key; key 0 written at level 1
+abbrev pub keylessWrite : Case
+keylessWrite =
+    at 3 (0x03 ∷ 0xD7 ∷ 0x01 ∷ 0x33 ∷ 0x10 ∷ 0x01 ∷ 0x03 ∷ 0x84 ∷ []) (0x03 ∷ 0xD6 ∷ 0x01 ∷ 0x33 ∷ 0x00 ∷ 0x01 ∷ []) 11
+
+abbrev pub writeKey0 : Case
+writeKey0 = at 1 (0x03 ∷ 0xD3 ∷ 0x00 ∷ 0x33 ∷ 0x33 ∷ 0x33 ∷ 0x33 ∷ []) (0x03 ∷ 0xD4 ∷ 0xFF ∷ []) 11

@@ -7,8 +7,7 @@ pub use session::button;
 pub use session::connect;
 pub use session::disconnect;
 pub use session::fresh;
-ghost use lib.ListN.{length};
-ghost use Rattle.device.specs.Step.{stepOf, Did};
+ghost use Rattle.device.specs.Step.{Called};
 use judge::Session;
 
 // What a request gave: the outcome, the count of bytes answered, the session afterwards.
@@ -27,7 +26,7 @@ pub fn request(
     sheet: &mut [u8],
     answer: &mut [u8],
 ) -> Done
-    ensures { λ r. ⌜ Did (stepOf (length (now (answer .entry))) (now (sheet .entry)) session mode group (now (apdu .entry))) r (now (answer .entry)) (now (sheet .exit)) (now (answer .exit)) ⌝ }
+    ensures { λ r. ⌜ Called session mode group (now (apdu .entry)) (now (sheet .entry)) (now (answer .entry)) r (now (sheet .exit)) (now (answer .exit)) ⌝ }
 {
     let f = pdu::service_of(pdu::code(apdu));
     let got = pdu::read_found(f, apdu);

@@ -102,14 +102,14 @@ module _ (x : Asked) (g : Good 1 (x .sheet)) where
               range = in-region c;
               level = L;
               acts = acts-so x;
-              right = leb-true _ _ (sym (may-write g (regionFor S y n) (y + 0) L (covered-byte c 0 some)) ∙ b);
+              suffices = leb-true _ _ (sym (may-write g (regionFor S y n) (y + 0) L (covered-byte c 0 some)) ∙ b);
             },
           )
 
       back : (i : ℕ) → MemoryWritable x n y i → all Ts ≡ true
       back i w =
           let c = ranged (w .range) in
-          let r : L ≤ region.levels of entry S regions i % 16 = omega (arith, acts-once x (w .acts), w .right) in
+          let r : L ≤ region.levels of entry S regions i % 16 = omega (arith, acts-once x (w .acts), w .suffices) in
           let b : every n (λ i. mayWrite S L (y + i)) ≡ true =
           every-all _ n (λ j h. may-write g i (y + j) L (covered-byte c j h) ∙ le-leb _ _ r) in
           let k : ltb (regionFor S y n) (count S regions) ≡ true =
@@ -164,9 +164,9 @@ module _ (x : Asked) (g : Good 1 (x .sheet)) where
   key-is named number d = (
     λ e.
         let b = and-is (ltb named 3) (leb L named) .0 e in
-        record { known = omega (arith, ltb-true named 3 (b .0)); level = L; acts = acts-so x; right = leb-true _ _ (b .1) },
+        record { known = omega (arith, ltb-true named 3 (b .0)); level = L; acts = acts-so x; suffices = leb-true _ _ (b .1) },
     λ w.
-        let r : L ≤ named = omega (arith, acts-once x (w .acts), w .right) in
+        let r : L ≤ named = omega (arith, acts-once x (w .acts), w .suffices) in
         and-is (ltb named 3) (leb L named) .1 (lt-ltb named 3 (omega (arith, w .known)), le-leb _ _ r),
   )
 
@@ -200,7 +200,7 @@ module _ (x : Asked) (g : Good 1 (x .sheet)) where
                 bit7 = eqb-true _ _ (all-at Ts e 1);
                 level = L;
                 acts = acts-so x;
-                right = leb-true _ _ (all-at Ts e 3);
+                suffices = leb-true _ _ (all-at Ts e 3);
               }
 
           ways : (clears n s d ≡ true) ⊎ (fills E n s d ≡ true) → WriteAllowed x object id n s d
@@ -210,7 +210,7 @@ module _ (x : Asked) (g : Good 1 (x .sheet)) where
       either : (i : ℕ) → Writable x object id i → (clears n s d || fills (entry S properties i) n s d) ≡ true → all Ts ≡ true
       either i w t =
           let q : I ≡ i = property-hit g (w .found) in
-          let r : L ≤ property.levels of entry S properties i % 16 = omega (arith, acts-once x (w .acts), w .right) in
+          let r : L ≤ property.levels of entry S properties i % 16 = omega (arith, acts-once x (w .acts), w .suffices) in
           rw q (simp (lt-ltb _ _ (w .found .there), eq-eqb _ _ (w .bit7), t, le-leb _ _ r))
 
       back : WriteAllowed x object id n s d → all Ts ≡ true

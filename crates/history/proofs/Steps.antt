@@ -52,7 +52,7 @@ module _ (f : First) (b : Begins f) (h : List Event) (x : State) (inv : Inv f h 
 
   -- EVERY STEP THAT IS DUE
   pub due : {r : Step} → Right R r → Done f h mode g a out r
-  due (right.refused {n} q) =
+  due (right.beforeService {n} q) =
       unheard (refusal-unheard x mode g a out accepted q) n [] (λ z l. let k = refusal-high q in omega arith)
   due (right.unknown r q) = unheard (unknown-unheard x mode g a out accepted octets q) 8 [] (λ z l. omega arith)
   due (right.otherMode k r n s q) = unheard (mode-unheard x mode g a out accepted octets k n q) 9 [] (λ z l. omega arith)

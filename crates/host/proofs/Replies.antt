@@ -1,21 +1,27 @@
 -- The count of a reply fits a byte, and what a request did is what its reply says.
 -- Assumes nothing.
 use Prim.Native.Nat.{ℕ, _≤_}
-use mathlib.Core.Path.{_≡_}
 use mathlib.Core.List.{List}
-use native.Mathlib.Omega.{arith}
 use Rattle.judge.specs.declared.Session.{Session}
-use Rattle.device.specs.Step.{Step, stepOf, Did}
+use Rattle.device.specs.Step.{Called}
 use Rattle.device.specs.declared.Done.{Done}
-use Rattle.device.proofs.Demand1.{at-most-16}
-use Rattle.host.specs.Calls.{repliedOf}
+use Rattle.device.proofs.Called.{call-leaves}
 
-pub few :
-    (room : ℕ) (s : List ℕ) (q : Session) (mode group : ℕ) (a : List ℕ) (d : Done) (o s′ o′ : List ℕ) →
-    Did (stepOf room s q mode group a) d o s′ o′ → d .count ≤ 16
-few room s q mode group a d o s′ o′ h = omega (arith, h .count, at-most-16 room s q mode group a)
+module _ (q : Session) (mode group : ℕ) (a s o : List ℕ) (d : Done) (s′ o′ : List ℕ) (c : Called q mode group a s o d s′ o′) where
+  pub few : d .count ≤ 16
+  few = call-leaves q mode group a s o d s′ o′ c .most
 
-pub as-replied :
-    (x : Step) (d : Done) (o s′ o′ : List ℕ) → Did x d o s′ o′ →
-    record { outcome = d .outcome; count = d .count; session = d .session } ≡ repliedOf x
-as-replied x d o s′ o′ h = simp (h .outcome, h .count, h .session)
+  pub as-given : Called q mode group a s o (record { outcome = d .outcome; count = d .count; session = d .session }) s′ o′
+  as-given =
+      record {
+        did =
+            record {
+              outcome = c .did .outcome;
+              count = c .did .count;
+              session = c .did .session;
+              sheet = c .did .sheet;
+              answer = c .did .answer;
+            };
+        sheetBytes = c .sheetBytes;
+        apduBytes = c .apduBytes;
+      }

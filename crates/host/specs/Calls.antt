@@ -1,19 +1,12 @@
--- What a request gives in C's terms: the step, its reply, and the same with the session.
+-- What a request in C gives: its reply and the session that it left, together what `device::request` gives.
 -- Assumes nothing.
-use Prim.Native.Nat.{ℕ}
-use mathlib.Core.List.{List}
-use lib.ListN.{length}
 use Rattle.judge.specs.declared.Session.{Session}
-use Rattle.device.specs.Step.{Step, stepOf}
+use Rattle.device.specs.declared.Done.{Done}
 use Rattle.host.specs.declared.Reply.{Reply}
 use Rattle.host.specs.declared.Replied.{Replied}
 
--- the step of a request on session q, with APDU a, sheet s and answer buffer o
-abbrev pub stepIn : Session → ℕ → ℕ → List ℕ → List ℕ → List ℕ → Step
-stepIn q mode group a s o = stepOf (length o) s q mode group a
+abbrev pub gave : Reply → Session → Done
+gave r q = record { outcome = r .outcome; count = r .count; session = q }
 
-abbrev pub replyOf : Step → Reply
-replyOf x = record { outcome = x .outcome; count = length (x .answer) }
-
-abbrev pub repliedOf : Step → Replied
-repliedOf x = record { outcome = x .outcome; count = length (x .answer); session = x .session }
+abbrev pub gaveBack : Replied → Done
+gaveBack r = record { outcome = r .outcome; count = r .count; session = r .session }

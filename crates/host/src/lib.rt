@@ -1,10 +1,10 @@
 // The C interface of the device: the calls of include/kelindap.h, those on a session in place.
 ghost use mathlib.Core.Path.{_≡_};
-ghost use Rattle.octets.specs.Splice.{splice};
 ghost use Rattle.sheet.specs.Rules.{ruleOf};
 ghost use Rattle.sheet.specs.Lookup.{StandsIn, regionOf, regionFrom, propertyOf, propertyFrom, groupOf, groupFrom};
 ghost use Rattle.device.specs.Events.{freshOf, connectOf, disconnectOf, Pressed};
-ghost use Rattle.host.specs.Calls.{stepIn, replyOf, repliedOf};
+ghost use Rattle.device.specs.Step.{Called};
+ghost use Rattle.host.specs.Calls.{gave, gaveBack};
 use judge::Session;
 use sheet::Part;
 
@@ -65,9 +65,7 @@ fn request(
     sheet: &mut [u8],
     answer: &mut [u8],
 ) -> Replied
-    ensures result { λ r. ⌜ r ≡ repliedOf (stepIn session mode group (now (apdu .entry)) (now (sheet .entry)) (now (answer .entry))) ⌝ }
-    ensures stored { λ r. ⌜ now (sheet .exit) ≡ stepIn session mode group (now (apdu .entry)) (now (sheet .entry)) (now (answer .entry)) .sheet ⌝ }
-    ensures filled { λ r. ⌜ now (answer .exit) ≡ splice (now (answer .entry)) 0 (stepIn session mode group (now (apdu .entry)) (now (sheet .entry)) (now (answer .entry)) .answer) ⌝ }
+    ensures { λ r. ⌜ Called session mode group (now (apdu .entry)) (now (sheet .entry)) (now (answer .entry)) (gaveBack r) (now (sheet .exit)) (now (answer .exit)) ⌝ }
 {
     let d = device::request(session, mode, group, apdu, sheet, answer);
     let next = d.session;
@@ -88,10 +86,7 @@ pub extern "C" fn kelindap_request(
     sheet: &mut [u8],
     answer: &mut [u8],
 ) -> Reply
-    ensures { λ r. ⌜ (r ≡ replyOf (stepIn (now (session .entry)) mode group (now (apdu .entry)) (now (sheet .entry)) (now (answer .entry))))
-        × (now (session .exit) ≡ stepIn (now (session .entry)) mode group (now (apdu .entry)) (now (sheet .entry)) (now (answer .entry)) .session)
-        × (now (sheet .exit) ≡ stepIn (now (session .entry)) mode group (now (apdu .entry)) (now (sheet .entry)) (now (answer .entry)) .sheet)
-        × (now (answer .exit) ≡ splice (now (answer .entry)) 0 (stepIn (now (session .entry)) mode group (now (apdu .entry)) (now (sheet .entry)) (now (answer .entry)) .answer)) ⌝ }
+    ensures { λ r. ⌜ Called (now (session .entry)) mode group (now (apdu .entry)) (now (sheet .entry)) (now (answer .entry)) (gave r (now (session .exit))) (now (sheet .exit)) (now (answer .exit)) ⌝ }
 {
     let d = request(*session, mode, group, apdu, sheet, answer);
     *session = d.session;

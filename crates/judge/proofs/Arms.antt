@@ -9,7 +9,7 @@ use Rattle.sheet.specs.declared.Run.the-variants.{At}
 use Rattle.pdu.specs.declared.Service.{Service}
 use Rattle.judge.specs.declared.Reach.{Reach}
 use Rattle.judge.specs.Modes.{reachOf, takes}
-use Rattle.judge.specs.Memory.{permitted}
+use Rattle.judge.specs.Memory.{runAllowed}
 
 pub via-reach : (ed : ℕ) (k j : Service) (r : Reach) → k ≡ j → r ≡ reachOf ed j → r ≡ reachOf ed k
 via-reach ed k j r e h = h ∙ ap (reachOf ed) (sym e)
@@ -17,12 +17,12 @@ via-reach ed k j r e h = h ∙ ap (reachOf ed) (sym e)
 pub via-takes : (k j : Reach) (m : ℕ) (r : Bool) → k ≡ j → r ≡ takes j m → r ≡ takes k m
 via-takes k j m r e h = h ∙ ap (λ (x : Reach). takes x m) (sym e)
 
-pub via-permitted :
-    (right : ℕ → ℕ → Bool) (m level n : ℕ) (k j : Run) (r : Bool) →
-    k ≡ j → r ≡ permitted right m level n j → r ≡ permitted right m level n k
-via-permitted right m level n k j r e h = h ∙ ap (permitted right m level n) (sym e)
+pub via-allowed :
+    (may : ℕ → ℕ → Bool) (m level n : ℕ) (k j : Run) (r : Bool) →
+    k ≡ j → r ≡ runAllowed may m level n j → r ≡ runAllowed may m level n k
+via-allowed may m level n k j r e h = h ∙ ap (runAllowed may m level n) (sym e)
 
-pub permitted-at :
+pub allowed-at :
     (f : ℕ → ℕ → Bool) (m level n o l : ℕ) (right r : Bool) (k : Run) →
-    k ≡ At o l → right ≡ f level l → r ≡ (leb 1 n && leb n m && right) → r ≡ permitted f m level n k
-permitted-at f m level n o l right r k e h g = via-permitted f m level n k (At o l) r e (rw h at g)
+    k ≡ At o l → right ≡ f level l → r ≡ (leb 1 n && leb n m && right) → r ≡ runAllowed f m level n k
+allowed-at f m level n o l right r k e h g = via-allowed f m level n k (At o l) r e (rw h at g)

@@ -10,4 +10,4 @@ pub mod Grouped
 pub mod Fields
 pub mod Memories
 pub mod Heads
-pub mod Judged
+pub mod Judgement

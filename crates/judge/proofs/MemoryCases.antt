@@ -23,7 +23,7 @@ use Rattle.judge.specs.declared.Store.the-variants as store
 use Rattle.judge.specs.declared.Answer.the-variants as answer
 use Rattle.judge.specs.declared.Decision.{Decision}
 use Rattle.judge.specs.Decisions.{refused, denied, answered, written, stored}
-use Rattle.judge.specs.Memory.{mayRead, mayWrite, mayChange, verifies, permitted, runAt, memoryReadOf, changeOf, memoryWriteOf, bitWriteOf}
+use Rattle.judge.specs.Memory.{mayRead, mayWrite, mayChange, verifies, runAllowed, runAt, memoryReadOf, changeOf, memoryWriteOf, bitWriteOf}
 use Rattle.judge.proofs.Walks.{by-test, by-eq}
 
 -- a level suffices to read, to write, and to do both
@@ -41,41 +41,41 @@ pub record Permits (R : ℕ → ℕ → Type 0) (m : ℕ) (s : List ℕ) (k leve
   pub some : 1 ≤ n
   pub most : n ≤ m
   pub covered : Covered s k i a n
-  pub right : R level (region.levels of entry s k i)
+  pub suffices : R level (region.levels of entry s k i)
 
 -- where address a of region i stands in the sheet
 abbrev pub spot : List ℕ → ℕ → ℕ → ℕ → ℕ
 spot s k a i = region.offset of entry s k i + (a - region.address of entry s k i)
 
 -- a test of levels and what it says
-pub record Says (test : ℕ → ℕ → Bool) (R : ℕ → ℕ → Type 0) : Type 0 where
+pub record Reflects (test : ℕ → ℕ → Bool) (R : ℕ → ℕ → Type 0) : Type 0 where
   pub to : (level levels : ℕ) → test level levels ≡ true → R level levels
   pub from : (level levels : ℕ) → R level levels → test level levels ≡ true
 
-pub says-read : Says mayRead Reads
-says-read = record { to = λ m n e. leb-true m (n / 16) e; from = λ m n h. le-leb m (n / 16) h }
+pub reflects-read : Reflects mayRead Reads
+reflects-read = record { to = λ m n e. leb-true m (n / 16) e; from = λ m n h. le-leb m (n / 16) h }
 
-pub says-write : Says mayWrite Writes
-says-write = record { to = λ m n e. leb-true m (n % 16) e; from = λ m n h. le-leb m (n % 16) h }
+pub reflects-write : Reflects mayWrite Writes
+reflects-write = record { to = λ m n e. leb-true m (n % 16) e; from = λ m n h. le-leb m (n % 16) h }
 
-pub says-change : Says mayChange Changes
-says-change =
+pub reflects-change : Reflects mayChange Changes
+reflects-change =
     record {
       to = λ m n e. let h = and-is (mayRead m n) (mayWrite m n) .0 e in (leb-true m (n / 16) (h .0), leb-true m (n % 16) (h .1));
       from = λ m n h. and-is (mayRead m n) (mayWrite m n) .1 (le-leb m (n / 16) (h .0), le-leb m (n % 16) (h .1));
     }
 
-module _ {test : ℕ → ℕ → Bool} {R : ℕ → ℕ → Type 0} (y : Says test R) (m : ℕ) (s : List ℕ) (level n a : ℕ) where
+module _ {test : ℕ → ℕ → Bool} {R : ℕ → ℕ → Type 0} (y : Reflects test R) (m : ℕ) (s : List ℕ) (level n a : ℕ) where
   -- what is permitted lies in a region
   pub record Found (k : ℕ) : Type 0 where
     pub index : ℕ
     pub permits : Permits R m s k level n a index
     pub here : runAt (rangeOf s k a n) ≡ spot s k a index
 
-  pub permitted-in : (k : ℕ) → permitted test m level n (rangeOf s k a n) ≡ true → Found k
-  permitted-in k e = go (rangeOf s k a n) refl e
+  pub allowed-in : (k : ℕ) → runAllowed test m level n (rangeOf s k a n) ≡ true → Found k
+  allowed-in k e = go (rangeOf s k a n) refl e
     where
-      go : (r : Run) → rangeOf s k a n ≡ r → permitted test m level n r ≡ true → Found k
+      go : (r : Run) → rangeOf s k a n ≡ r → runAllowed test m level n r ≡ true → Found k
       go Nowhere q e = never e
       go (At o l) q e =
           let f = ranged s k a n q in
@@ -88,7 +88,7 @@ module _ {test : ℕ → ℕ → Bool} {R : ℕ → ℕ → Type 0} (y : Says te
                   some = leb-true 1 n (b .0);
                   most = leb-true n m (b .1);
                   covered = f .covered;
-                  right = subst (R level) (f .under) (y .to level l (h .1));
+                  suffices = subst (R level) (f .under) (y .to level l (h .1));
                 };
             here = ap runAt q ∙ f .here;
           }
@@ -98,8 +98,8 @@ module _ {test : ℕ → ℕ → Bool} {R : ℕ → ℕ → Type 0} (y : Says te
     range-is : rangeOf s regions a n ≡ At (spot s regions a i) (region.levels of entry s regions i)
     range-is = range-hit ok i a n (p .some) (p .covered)
 
-    pub permitted-is : permitted test m level n (rangeOf s regions a n) ≡ true
-    permitted-is = rw range-is (simp (le-leb 1 n (p .some), le-leb n m (p .most), y .from level _ (p .right)))
+    pub allowed-is : runAllowed test m level n (rangeOf s regions a n) ≡ true
+    allowed-is = rw range-is (simp (le-leb 1 n (p .some), le-leb n m (p .most), y .from level _ (p .suffices)))
 
     pub run-is : runAt (rangeOf s regions a n) ≡ spot s regions a i
     run-is = ap runAt range-is
@@ -110,17 +110,17 @@ module _ (s : List ℕ) (k level n a : ℕ) (P : Decision → Type 0) where
       P (denied (MemoryResponse 0 a)) → P (memoryReadOf s k level n a)
   unfolding memoryReadOf
   memory-read-cases f h =
-      by-test P (permitted mayRead 12 level n (rangeOf s k a n)) _ _
+      by-test P (runAllowed mayRead 12 level n (rangeOf s k a n)) _ _
       (λ e.
-      let r = permitted-in says-read 12 s level n a k e in
+      let r = allowed-in reflects-read 12 s level n a k e in
       rw (r .here) (f (r .index) (r .permits)))
       (λ e. h)
 
 -- A WRITE, of bytes or of bits: as a test of levels, the most bytes that it may name, and what it stores at a place
-module _ {test : ℕ → ℕ → Bool} {R : ℕ → ℕ → Type 0} (y : Says test R) (m : ℕ) (new : ℕ → Store) (s : List ℕ) (k level n a : ℕ) where
+module _ {test : ℕ → ℕ → Bool} {R : ℕ → ℕ → Type 0} (y : Reflects test R) (m : ℕ) (new : ℕ → Store) (s : List ℕ) (k level n a : ℕ) where
   abbrev pub changed : Decision
   changed =
-      changeOf (permitted test m level n (rangeOf s k a n)) (verifies s) (new (runAt (rangeOf s k a n))) (runAt (rangeOf s k a n)) n a
+      changeOf (runAllowed test m level n (rangeOf s k a n)) (verifies s) (new (runAt (rangeOf s k a n))) (runAt (rangeOf s k a n)) n a
 
   abbrev pub verified : ℕ → Decision
   verified i = written (new (spot s k a i)) store.Nothing (answer.Sheet (MemoryResponse n a) (spot s k a i) n)
@@ -133,9 +133,9 @@ module _ {test : ℕ → ℕ → Bool} {R : ℕ → ℕ → Type 0} (y : Says te
       ((head.verify s ≡ 1 → ⊥) → P (refused 12)) → P changed
   unfolding changeOf
   change-cases P f g h u =
-      by-test P (permitted test m level n (rangeOf s k a n)) _ _
+      by-test P (runAllowed test m level n (rangeOf s k a n)) _ _
       (λ e.
-      let r = permitted-in y m s level n a k e in
+      let r = allowed-in y m s level n a k e in
       by-eq P (head.verify s) 1 _ _ (λ v. rw (r .here) (f (r .index) (r .permits) v)) (λ v. rw (r .here) (g (r .index) (r .permits) v)))
       (λ e. by-eq P (head.verify s) 1 _ _ h u)
 
@@ -145,23 +145,23 @@ pub memory-reads :
     memoryReadOf s regions level n a ≡ answered (answer.Sheet (MemoryResponse n a) (spot s regions a i) n)
 unfolding memoryReadOf
 memory-reads {s} ok level n a i p =
-    simp (permitted-is says-read 12 s level n a ok i p, run-is says-read 12 s level n a ok i p)
+    simp (allowed-is reflects-read 12 s level n a ok i p, run-is reflects-read 12 s level n a ok i p)
 
-module _ {test : ℕ → ℕ → Bool} {R : ℕ → ℕ → Type 0} (y : Says test R) (m : ℕ) (new : ℕ → Store) {s : List ℕ} (ok : Good 1 s) (level n a i : ℕ)
+module _ {test : ℕ → ℕ → Bool} {R : ℕ → ℕ → Type 0} (y : Reflects test R) (m : ℕ) (new : ℕ → Store) {s : List ℕ} (ok : Good 1 s) (level n a i : ℕ)
     (p : Permits R m s regions level n a i) where
   pub change-writes : head.verify s ≡ 1 → changed y m new s regions level n a ≡ verified y m new s regions level n a i
   unfolding changeOf
-  change-writes v = simp (permitted-is y m s level n a ok i p, run-is y m s level n a ok i p, eq-eqb (head.verify s) 1 v)
+  change-writes v = simp (allowed-is y m s level n a ok i p, run-is y m s level n a ok i p, eq-eqb (head.verify s) 1 v)
 
   pub change-stores : (head.verify s ≡ 1 → ⊥) → changed y m new s regions level n a ≡ stored (new (spot s regions a i))
   unfolding changeOf
-  change-stores v = simp (permitted-is y m s level n a ok i p, run-is y m s level n a ok i p, ne-eqb (head.verify s) 1 v)
+  change-stores v = simp (allowed-is y m s level n a ok i p, run-is y m s level n a ok i p, ne-eqb (head.verify s) 1 v)
 
 -- the two writes
-pub memory-write-is : (s : List ℕ) (k level n a : ℕ) → memoryWriteOf s k level n a ≡ changed says-write 12 store.Data s k level n a
+pub memory-write-is : (s : List ℕ) (k level n a : ℕ) → memoryWriteOf s k level n a ≡ changed reflects-write 12 store.Data s k level n a
 unfolding memoryWriteOf
 memory-write-is s k level n a = refl
 
-pub bit-write-is : (s : List ℕ) (k level n a : ℕ) → bitWriteOf s k level n a ≡ changed says-change 5 (λ o. store.Bits o n) s k level n a
+pub bit-write-is : (s : List ℕ) (k level n a : ℕ) → bitWriteOf s k level n a ≡ changed reflects-change 5 (λ o. store.Bits o n) s k level n a
 unfolding bitWriteOf
 bit-write-is s k level n a = refl

@@ -46,7 +46,7 @@ among n s m e =
 -- the property may be written at a level
 pub record Free (e : List ℕ) (level : ℕ) : Type 0 where
   pub bit7 : property.kind of e / 128 ≡ 1
-  pub right : level ≤ property.levels of e % 16
+  pub suffices : level ≤ property.levels of e % 16
 
 module _ (sheet : List ℕ) (object id : ℕ) where
   at : ℕ
@@ -101,7 +101,7 @@ module _ (sheet : List ℕ) (level object id n s : ℕ) (P : Decision → Type 0
         by-lt P i (count sheet properties) _ _
         (λ l. by-both P (eqb (property.kind of e / 128) 1) (leb level (property.levels of e % 16)) _ _
         (λ k r.
-        let w : Free e level = record { bit7 = eqb-true _ 1 k; right = leb-true level _ r } in
+        let w : Free e level = record { bit7 = eqb-true _ 1 k; suffices = leb-true level _ r } in
         by-test P (counted n s && eqb (length d) 2 && eqb (numAt d 0 2) 0) _ _
         (λ c.
         let u = and-is (counted n s && eqb (length d) 2) (eqb (numAt d 0 2) 0) .0 c in
@@ -187,7 +187,7 @@ module _ {sheet : List ℕ} (ok : Good 1 sheet) (object id i : ℕ) (k : Keyed s
       unfolding writeIn
       property-write-clear z o l v =
           writes
-          ∙ simp (eq-eqb _ 1 (w .bit7), le-leb level _ (w .right), eq-eqb s 0 z, eq-eqb n 1 o, eq-eqb (length d) 2 l, eq-eqb (numAt d 0 2) 0 v)
+          ∙ simp (eq-eqb _ 1 (w .bit7), le-leb level _ (w .suffices), eq-eqb s 0 z, eq-eqb n 1 o, eq-eqb (length d) 2 l, eq-eqb (numAt d 0 2) 0 v)
 
       pub property-write-elements :
           Among n s (property.maximum of entry sheet properties i) → length d ≡ n * property.element of entry sheet properties i →
@@ -199,7 +199,7 @@ module _ {sheet : List ℕ} (ok : Good 1 sheet) (object id i : ℕ) (k : Keyed s
       unfolding writeIn
       property-write-elements a l =
           writes
-          ∙ simp (eq-eqb _ 1 (w .bit7), le-leb level _ (w .right), ne-eqb s 0 (λ z. omega (arith, a .start)), among-back a, eq-eqb (length d) (n * property.element of entry sheet properties i) l)
+          ∙ simp (eq-eqb _ 1 (w .bit7), le-leb level _ (w .suffices), ne-eqb s 0 (λ z. omega (arith, a .start)), among-back a, eq-eqb (length d) (n * property.element of entry sheet properties i) l)
 
   pub description-by-id : (index : ℕ) → (id ≡ 0 → ⊥) → descriptionOf sheet object id index ≡ describes sheet i
   unfolding descriptionOf describedAt

@@ -36,9 +36,9 @@ abbrev pub verifies : List ℕ → Bool
 verifies s = eqb (head.verify s) 1
 
 -- n is 1 to m, the range is a run, and the level suffices for it
-abbrev pub permitted : (ℕ → ℕ → Bool) → ℕ → ℕ → ℕ → Run → Bool
-permitted right m level n Nowhere = mathlib.Core.Bool.false
-permitted right m level n (At offset levels) = leb 1 n && leb n m && right level levels
+abbrev pub runAllowed : (ℕ → ℕ → Bool) → ℕ → ℕ → ℕ → Run → Bool
+runAllowed may m level n Nowhere = mathlib.Core.Bool.false
+runAllowed may m level n (At offset levels) = leb 1 n && leb n m && may level levels
 
 -- where a run starts
 abbrev pub runAt : Run → ℕ
@@ -48,7 +48,7 @@ runAt (At offset levels) = offset
 unfoldable pub memoryReadOf : List ℕ → ℕ → ℕ → ℕ → ℕ → Decision
 memoryReadOf s k level n a =
     let r = rangeOf s k a n in
-    cond (permitted mayRead mostBytes level n r) (answered (answer.Sheet (MemoryResponse n a) (runAt r) n))
+    cond (runAllowed mayRead mostBytes level n r) (answered (answer.Sheet (MemoryResponse n a) (runAt r) n))
     (denied (MemoryResponse 0 a))
 
 -- a store of n bytes: answered with the new bytes if verify is on
@@ -61,9 +61,9 @@ changeOf allowed verify new o n a =
 unfoldable pub memoryWriteOf : List ℕ → ℕ → ℕ → ℕ → ℕ → Decision
 memoryWriteOf s k level n a =
     let r = rangeOf s k a n in
-    changeOf (permitted mayWrite mostBytes level n r) (verifies s) (store.Data (runAt r)) (runAt r) n a
+    changeOf (runAllowed mayWrite mostBytes level n r) (verifies s) (store.Data (runAt r)) (runAt r) n a
 
 unfoldable pub bitWriteOf : List ℕ → ℕ → ℕ → ℕ → ℕ → Decision
 bitWriteOf s k level n a =
     let r = rangeOf s k a n in
-    changeOf (permitted mayChange mostBits level n r) (verifies s) (store.Bits (runAt r) n) (runAt r) n a
+    changeOf (runAllowed mayChange mostBits level n r) (verifies s) (store.Bits (runAt r) n) (runAt r) n a

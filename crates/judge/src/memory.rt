@@ -5,7 +5,7 @@ ghost use lib.Dec.{leb};
 ghost use Prim.Native.Nat.{_<_};
 ghost use Rattle.sheet.specs.Kind.{kinds};
 ghost use Rattle.sheet.specs.Rules.{ruleOf};
-ghost use Rattle.judge.specs.Memory.{mayRead, mayWrite, mayChange, mostBytes, mostBits, permitted, runAt, changeOf, verifies as verifiesOf, memoryReadOf, memoryWriteOf, bitWriteOf};
+ghost use Rattle.judge.specs.Memory.{mayRead, mayWrite, mayChange, mostBytes, mostBits, runAllowed, runAt, changeOf, verifies as verifiesOf, memoryReadOf, memoryWriteOf, bitWriteOf};
 use crate::Answer;
 use crate::Decision;
 use crate::Store;
@@ -40,7 +40,7 @@ fn permits(n: u8, m: u8, right: bool) -> bool
 
 // A read of n bytes is permitted.
 fn can_read(level: u8, n: u8, run: Run) -> bool
-    ensures { λ r. ⌜ r ≡ permitted mayRead mostBytes level n run ⌝ }
+    ensures { λ r. ⌜ r ≡ runAllowed mayRead mostBytes level n run ⌝ }
 {
     match run {
         Run::At { offset: _, levels } => permits(n, MOST_BYTES, may_read(level, levels)),
@@ -50,7 +50,7 @@ fn can_read(level: u8, n: u8, run: Run) -> bool
 
 // A write of n bytes is permitted.
 fn can_write(level: u8, n: u8, run: Run) -> bool
-    ensures { λ r. ⌜ r ≡ permitted mayWrite mostBytes level n run ⌝ }
+    ensures { λ r. ⌜ r ≡ runAllowed mayWrite mostBytes level n run ⌝ }
 {
     match run {
         Run::At { offset: _, levels } => permits(n, MOST_BYTES, may_write(level, levels)),
@@ -60,7 +60,7 @@ fn can_write(level: u8, n: u8, run: Run) -> bool
 
 // A bit write of n bytes is permitted.
 fn can_change(level: u8, n: u8, run: Run) -> bool
-    ensures { λ r. ⌜ r ≡ permitted mayChange mostBits level n run ⌝ }
+    ensures { λ r. ⌜ r ≡ runAllowed mayChange mostBits level n run ⌝ }
 {
     match run {
         Run::At { offset: _, levels } => permits(n, MOST_BITS, may_change(level, levels)),

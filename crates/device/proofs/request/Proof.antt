@@ -16,7 +16,12 @@ answer-requires c κs =
 
 returns : tie.Need-returns
 returns c =
-    did _ _ _ _ _ _ _ _ _ (c .before .before .before .before .before .before .before .before .before .before .before .before .before .read-found .ensures) (c .before .before .before .before .before .before .before .before .before .before .before .before .data-in .ensures) (c .before .before .before .before .before .before .before .before .before .before .judge .ensures) _ (c .before .before .before .before .before .before .before .before .carry-out .ensures) _ _ _ _ (c .before .before .before .answer .ensures) (c .turned .ensures)
+    record {
+      did =
+          did _ _ _ _ _ _ _ _ _ (c .before .before .before .before .before .before .before .before .before .before .before .before .before .read-found .ensures) (c .before .before .before .before .before .before .before .before .before .before .before .before .data-in .ensures) (c .before .before .before .before .before .before .before .before .before .before .judge .ensures) _ (c .before .before .before .before .before .before .before .before .carry-out .ensures) _ _ _ _ (c .before .before .before .answer .ensures) (c .turned .ensures);
+      sheetBytes = λ i. c .before .before .before .before .before .before .before .before .before .before .before .before .before .before .before .before .before .slice-known .given i .fits;
+      apduBytes = λ i. c .before .before .before .before .before .before .before .before .before .before .before .before .before .before .before .before .before .before .shared-slice-known .given i .fits;
+    }
 
 pub request-spec : {M : Type 1} → statement M
 request-spec =

@@ -42,8 +42,8 @@ use denote.Exit.{yes}
 use Rattle.judge.specs.declared.Session.{Session}
 use Rattle.host.specs.declared.Replied.{Replied}
 use Rattle.host.specs.declared.Reply.{Reply}
-use Rattle.octets.specs.Splice.{splice}
-use Rattle.host.specs.Calls.{stepIn, repliedOf}
+use Rattle.device.specs.Step.{Called}
+use Rattle.host.specs.Calls.{gaveBack}
 use Rattle.host.proofs.InPlace.{opened, closed-at, finish}
 use Rattle.judge.proofs.Session as T
 use Rattle.judge.proofs.Session.Laws as T′
@@ -121,9 +121,8 @@ module _ {M : Type 1} (𝓤 : URA M) (H : Heap 𝓤) (A : Atoms 𝓤) (W : Given
   goes = qed W (tokens ∷ ‵ (T.the-row .own h (vals h)) ∷ others ∷ []) ∵ move ! (1 ∷ 2 ∷ []) $ fjoin ! $ move ! (1 ∷ 0 ∷ []) $ join ! $ frame ! $ done !
 
   -- what `request` ensures
-  abbrev Says : Replied → List ℕ → List ℕ → Type 0
-  Says r ys zs =
-      (r ≡ repliedOf (stepIn h m n (x₁ .now) (x₂ .now) (x₃ .now))) × (ys ≡ stepIn h m n (x₁ .now) (x₂ .now) (x₃ .now) .sheet) × (zs ≡ splice (x₃ .now) 0 (stepIn h m n (x₁ .now) (x₂ .now) (x₃ .now) .answer))
+  abbrev Ensures : Replied → List ℕ → List ℕ → Type 0
+  Ensures r ys zs = Called h m n (x₁ .now) (x₂ .now) (x₃ .now) (gaveBack r) ys zs
 
   -- the answer, and what is known of the fields of what `request` returns
   abbrev ans : Replied → Reply
@@ -135,13 +134,13 @@ module _ {M : Type 1} (𝓤 : URA M) (H : Heap 𝓤) (A : Atoms 𝓤) (W : Given
   made : (r : Replied) (w : Val) → Is D.the-row r (w ∷ []) → Is R.the-row (ans r) (LL.vals R.the-type R′.the-laws (ans r))
   made r w is = LL.owes R.the-type R′.the-laws (ans r) (LL.owed D.the-type D′.the-laws r _ is .0, (LL.owed D.the-type D′.the-laws r _ is .1 .0, tt))
 
-  exits : (r : Replied) (w : Val) (ys zs : List ℕ) → Is D.the-row r (w ∷ []) → Says r ys zs → length ys ≡ length (x₂ .now) → length zs ≡ length (x₃ .now)
+  exits : (r : Replied) (w : Val) (ys zs : List ℕ) → Is D.the-row r (w ∷ []) → Ensures r ys zs → length ys ≡ length (x₂ .now) → length zs ≡ length (x₃ .now)
       → ent 𝓤 (⋆ 𝓤 H A (‵ (fobs γ (T.the-row .coded .code (r .session))) ∷ ‵ (fbor κ (Body (mem T.the-row) b o γ)) ∷ ‵ (flft κ q) ∷ tokens ∷ ‵ (finally u8 (x₂ .name) ys) ∷ ‵ (finally u8 (x₃ .name) zs) ∷ [])) (Post (R′.lowered (ans r)))
   exits r w ys zs is e l₂ l₃ =
       qed W (‵ (fobs γ (T.the-row .coded .code (r .session))) ∷ ‵ (fbor κ (Body (mem T.the-row) b o γ)) ∷ ‵ (flft κ q) ∷ tokens ∷ ‵ (finally u8 (x₂ .name) ys) ∷ ‵ (finally u8 (x₃ .name) zs) ∷ []) ∵
       suffices ! _ (ends-at 𝓤 H A f.ended stayed (f.clauses 𝓤 H A at-mem run) W (((κ, (κ₁, (κ₂, (κ₃, tt)))), (q, (q₁, (q₂, (q₃, tt)))), tt, a, at), tt) (R′.lowered (ans r)) (ans r)
       (r .session, (tt, (tt, (tt, (ys, (zs, tt)))))) (tt, (tt, (tt, (tt, (l₂, (l₃, tt))))))) $
-      says ! (ap ans (e .0), ap (λ (d : Replied). d .session) (e .0), e .1, e .2) $ move ! (2 ∷ 3 ∷ []) $ join ! $ frame ! $
+      says ! e $ move ! (2 ∷ 3 ∷ []) $ join ! $ frame ! $
       feqI ! (List Val) (vptr b o ∷ []) (vptr b o ∷ []) refl $ fjoin3 ! $ nothing ! $ move ! (3 ∷ 0 ∷ []) $ fjoin ! $ move ! (2 ∷ 0 ∷ []) $ fjoin ! $ nothing ! $ fjoin ! $ nothing ! $ fjoin ! $ nothing ! $ fjoin ! $ move ! (1 ∷ 0 ∷ []) $ fjoin ! $
       owned ! R.the-row (Is R.the-row) (LL.makes R.the-type R′.the-plain 𝓤 H A) (ans r) _ (made r w is) $ move ! (1 ∷ 0 ∷ []) $ done !
 
@@ -169,8 +168,8 @@ module _ {M : Type 1} (𝓤 : URA M) (H : Heap 𝓤) (A : Atoms 𝓤) (W : Given
         (and-then ! (load ! (from ! (stop !)) (look ! 21 refl)) (and-then ! (load ! (from ! (stop !)) (look ! 9 refl)) (and-then ! (load ! (from ! (stop !)) (look ! 5 refl)) (no-more !))))))) (λ w.
         use1 W (later (some (λ (r : Replied). (tokens ⊛ ‵ (D.the-row .own r (w ∷ []))) ⊛ raw (ensured 𝓤 H A g.ended (g.clauses 𝓤 H A at-mem run) (κ₁, (κ₂, (κ₃, tt))) a′ tt r)))) (id⊢ 𝓤 _) $ await ! tt $ pick ! (λ r.
         split ! $ move ! (1 ∷ []) $ use1 W (some (λ (zs : Lasts g.ended (κ₁, (κ₂, (κ₃, tt))) a′). ‵ (lasts g.ended (κ₁, (κ₂, (κ₃, tt))) a′ zs)
-        ⊛ (raw (fact 𝓤 (r ≡ repliedOf (stepIn h m n (x₁ .now) (x₂ .now) (x₃ .now)))) ⊛ (raw (fact 𝓤 (zs .1 .1 .1 .1 .0 ≡ stepIn h m n (x₁ .now) (x₂ .now) (x₃ .now) .sheet)) ⊛ raw (fact 𝓤 (zs .1 .1 .1 .1 .1 .0 ≡ splice (x₃ .now) 0 (stepIn h m n (x₁ .now) (x₂ .now) (x₃ .now) .answer))))))) (id⊢ 𝓤 _) $ pick ! (λ zs.
-        split ! $ move ! (1 ∷ []) $ split ! $ heard ! _ (λ e₁. split ! $ heard ! _ (λ e₂. heard ! _ (λ e₃.
+        ⊛ raw (fact 𝓤 (Ensures r (zs .1 .1 .1 .1 .0) (zs .1 .1 .1 .1 .1 .0))))) (id⊢ 𝓤 _) $ pick ! (λ zs.
+        split ! $ move ! (1 ∷ []) $ heard ! _ (λ e.
         fsplit ! $ drop ! $ fsplit ! $ drop ! $ fsplit ! $ drop ! $ fsplit ! $ drop ! $ fsplit ! $ fsplit ! $ move ! (1 ∷ []) $ feqL ! (λ len₂. move ! (1 ∷ []) $ fsplit ! $ fsplit ! $ move ! (1 ∷ []) $ feqL ! (λ len₃.
         -- [out's last list; true; the sheet's last list; the tokens and the result; the cell; the open borrow; obs; auth; _12; …]
         move ! (3 ∷ []) $ split ! $ move ! (1 ∷ []) $ peeks ! D.the-row (Is D.the-row) (shows 𝓤 H A D.the-row) r (w ∷ []) (λ is.
@@ -185,7 +184,7 @@ module _ {M : Type 1} (𝓤 : URA M) (H : Heap 𝓤) (A : Atoms 𝓤) (W : Given
         returns ! (look ! 32 refl) $ forget ! 8 refl $ forget ! 10 refl $ forget ! 12 refl $ forget ! 14 refl $ forget ! 16 refl $ forget ! 18 refl $ forget ! 20 refl $ forget ! 22 refl $ forget ! 24 refl $ forget ! 26 refl $ forget ! 28 refl $ forget ! 30 refl $ forget ! 32 refl $
         move ! (32 ∷ 33 ∷ []) $ free1 ! $ move ! (30 ∷ 31 ∷ []) $ free1 ! $ move ! (28 ∷ 29 ∷ []) $ free1 ! $ move ! (26 ∷ 27 ∷ []) $ free1 ! $ move ! (24 ∷ 25 ∷ []) $ free1 ! $ move ! (22 ∷ 23 ∷ []) $ free1 ! $ move ! (20 ∷ 21 ∷ []) $ free1 ! $ move ! (18 ∷ 19 ∷ []) $ free1 ! $
         move ! (16 ∷ 17 ∷ []) $ free1 ! $ move ! (14 ∷ 15 ∷ []) $ free1 ! $ move ! (12 ∷ 13 ∷ []) $ free1 ! $ move ! (10 ∷ 11 ∷ []) $ free1 ! $ move ! (8 ∷ 9 ∷ []) $ free1 ! $ free0 ! $
-        keep ! (0 ∷ 1 ∷ 2 ∷ 4 ∷ 7 ∷ 5 ∷ []) $ by ! (exits r w _ _ is (e₁, e₂, e₃) len₂ len₃))))))))))))))))))))))))
+        keep ! (0 ∷ 1 ∷ 2 ∷ 4 ∷ 7 ∷ 5 ∷ []) $ by ! (exits r w _ _ is e len₂ len₃))))))))))))))))))))))
 
 module _ {M : Type 1} (𝓤 : URA M) (H : Heap 𝓤) (A : Atoms 𝓤) (W : Given 𝓤 H A) (mem : Memory → SProp 𝓤) (run : Routine → Fun 𝓤) where
   walks : (C : Calls 𝓤 H) (Λ : Loops 𝓤 H) → FmC 𝓤 H (W .laws) C → Triple 𝓤 (C #host·request) (Request 𝓤 H A mem run) → Walks 𝓤 H A f.ended stayed (WpFn 𝓤 H C Λ code.function) (f.clauses 𝓤 H A mem run)

@@ -2,7 +2,7 @@
 -- Assumes nothing.
 use borrow.Author.Needs.{needs}
 use native.Mathlib.Omega.{arith}
-use Rattle.host.proofs.Replies.{few, as-replied}
+use Rattle.host.proofs.Replies.{few, as-given}
 use Rattle.host.proofs.request.Statement.{statement}
 use Rattle.host.proofs.request.Tie as tie
 
@@ -11,9 +11,7 @@ request-spec =
     tie.close
     (tie.spec
     (λ c κs. search needs)
-    (λ c. omega (arith, few _ _ _ _ _ _ _ _ _ _ (c .before .before .before .before .before .before .request .ensures)))
+    (λ c. omega (arith, few _ _ _ _ _ _ _ _ _ (c .before .before .before .before .before .before .request .ensures)))
     (λ c. search needs)
     (λ c. search needs)
-    (λ c.
-    let e = c .before .before .before .before .before .before .request .ensures in
-    (as-replied _ _ _ _ _ e, (e .sheet, e .answer))))
+    (λ c. as-given _ _ _ _ _ _ _ _ _ (c .before .before .before .before .before .before .request .ensures)))

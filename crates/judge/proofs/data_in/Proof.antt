@@ -1,7 +1,7 @@
 -- `judge::data_in` meets its contract.
 -- Assumes nothing.
 use borrow.Author.Needs.{needs}
-use Rattle.judge.proofs.Judged.{via-data}
+use Rattle.judge.proofs.Judgement.{via-data}
 use Rattle.judge.proofs.data_in.Statement.{statement}
 use Rattle.judge.proofs.data_in.Tie as tie
 

@@ -1,7 +1,7 @@
 -- `judge::found` meets its contract.
 -- Assumes nothing.
 use borrow.Author.Needs.{needs}
-use Rattle.judge.proofs.Judged.{unknown, listed}
+use Rattle.judge.proofs.Judgement.{unknown, listed}
 use Rattle.judge.proofs.found.Statement.{statement}
 use Rattle.judge.proofs.found.Tie as tie
 

@@ -1,7 +1,7 @@
 -- `judge::reached` meets its contract.
 -- Assumes nothing.
 use borrow.Author.Needs.{needs}
-use Rattle.judge.proofs.Judged.{unreached, untaken, unread, decided}
+use Rattle.judge.proofs.Judgement.{unreached, untaken, unread, decided}
 use Rattle.judge.proofs.reached.Statement.{statement}
 use Rattle.judge.proofs.reached.Tie as tie
 

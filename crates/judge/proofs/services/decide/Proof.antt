@@ -1,7 +1,7 @@
 -- `judge::services::decide` meets its contract.
 -- Assumes nothing.
 use borrow.Author.Needs.{needs}
-use Rattle.judge.proofs.Judged.{via-decide}
+use Rattle.judge.proofs.Judgement.{via-decide}
 use Rattle.judge.proofs.services.decide.Statement.{statement}
 use Rattle.judge.proofs.services.decide.Tie as tie
 

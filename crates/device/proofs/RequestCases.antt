@@ -80,11 +80,11 @@ module _ (x : Asked) where
         (λ t. by-reading k r n (takes-is ed (x .mode) k .0 t) (readPdu (x .apdu)) refl))
 
     -- THE JUDGEMENT, CASE BY CASE
-    pub judged :
+    pub request-cases :
         ((n : ℕ) → Refusal x n → P (refused n)) →
         P (judgeOf (x .room) (x .sheet) (x .session) (x .mode) (x .group) (x .apdu))
     unfolding judgeOf isAccepted isShut
-    judged refuse =
+    request-cases refuse =
         by-lt P (x .room) 16 _ _ (λ b. refuse 3 (noRoom b))
         (λ b. by-not P (eqb (ruleOf (x .sheet)) 0) _ _ (λ e. refuse 4 (badSheet b (eqb-false _ 0 e)))
         (λ e.

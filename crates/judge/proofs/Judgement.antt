@@ -104,10 +104,10 @@ module _ (s : List ℕ) (q : Session) (mode group : ℕ) (a : List ℕ) (r : Dec
               shut h g =
                   simp (le-ltb _ _ roomy, ← b-is, good, le-ltb _ _ two, le-ltb _ _ most, le-ltb _ _ known, ← c-is, h) g
 
-              pub judged :
+              pub by-code :
                   c ≡ false → (f : Found) (x : Parsed) (d : List ℕ) → f ≡ serviceAt (codeOf a) → x ≡ readPdu a → d ≡ dataIn x a →
                   ((a : List ℕ) → x ≡ readPdu a → d ≡ dataIn x a → r ≡ foundOf s q mode group a f) → r ≡ judgeOf room s q mode group a
               unfolding judgeOf
-              judged h f x d f-is x-is d-is g =
+              by-code h f x d f-is x-is d-is g =
                   simp (le-ltb _ _ roomy, ← b-is, good, le-ltb _ _ two, le-ltb _ _ most, le-ltb _ _ known, ← c-is, h, ← f-is)
                   (g a x-is d-is)
