@@ -9,7 +9,8 @@ use lib.ListN.{getD}
 use native.Mathlib.Decide.{decLt}
 use native.Mathlib.Omega.{arith}
 use Rattle.pdu.proofs.Truths.{never, and-is}
-use Rattle.history.specs.Permit.{all, every}
+use Rattle.history.specs.Span.{all}
+use Rattle.history.specs.Permit.{every}
 
 -- two tests that hold together are the same
 pub bool-same : (a b : Bool) → (a ≡ true → b ≡ true) → (b ≡ true → a ≡ true) → a ≡ b

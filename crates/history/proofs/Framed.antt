@@ -20,7 +20,7 @@ use Rattle.sheet.proofs.Sames.{count-same, region-same, property-same}
 use Rattle.sheet.proofs.Seeks.{seek-same}
 use Rattle.sheet.proofs.Finds.{index-same}
 use Rattle.sheet.proofs.Runs.{Covered}
-use Rattle.history.specs.Wish.{Wish, writeMemory, writeBits, writeProperty, writeKey, offerKey, restart, address, addressFor, group as groupWish, nothing}
+use Rattle.history.specs.Wish.{Wish, change, writeMemory, writeBits, writeProperty, writeKey, offerKey, restart, other, nothing}
 use Rattle.history.specs.Permit.{regionFor, mayRead, mayWrite, indexFor, entryFor, clears, fills, allowed}
 use Rattle.history.proofs.Bools.{every-same}
 
@@ -80,11 +80,11 @@ module _ {f s : List ℕ} (a : Agree f s) where
   -- WHAT IS ALLOWED STAYS ALLOWED
   pub allowed-same : (level : ℕ) (d : List ℕ) (w : Wish) → allowed s level d w ≡ allowed f level d w
   unfolding allowed entryFor fills
-  allowed-same level d (writeMemory n y) =
+  allowed-same level d (change (writeMemory n y)) =
       rw (region-for-same y n, count-same a regions, every-same (λ i. mayWrite s level (y + i)) (λ i. mayWrite f level (y + i)) n (λ i. may-write-same level (y + i)))
-  allowed-same level d (writeBits n y) =
+  allowed-same level d (change (writeBits n y)) =
       rw (region-for-same y n, count-same a regions, every-same (λ i. mayRead s level (y + i) && mayWrite s level (y + i)) (λ i. mayRead f level (y + i) && mayWrite f level (y + i)) n (λ i. rw (may-read-same level (y + i), may-write-same level (y + i))))
-  allowed-same level d (writeProperty object id n z) =
+  allowed-same level d (change (writeProperty object id n z)) =
       rw (index-for-same object id, count-same a properties) (go (indexFor f object id) (decLt (indexFor f object id) (count f properties)))
     where
       Tests : List ℕ → ℕ → Bool
@@ -96,10 +96,8 @@ module _ {f s : List ℕ} (a : Agree f s) where
       go i (yes h) =
           rw (property-same a i property.kind h (omega arith) (omega arith), property-same a i property.maximum h (omega arith) (omega arith), property-same a i property.element h (omega arith) (omega arith), property-same a i property.levels h (omega arith) (omega arith))
       go i (no h) = rw (le-ltb i (count f properties) (omega arith))
-  allowed-same level d (writeKey named number) = refl
+  allowed-same level d (change (writeKey named number)) = refl
   allowed-same level d (offerKey number) = refl
   allowed-same level d restart = refl
-  allowed-same level d (address new) = refl
-  allowed-same level d (addressFor serial new) = refl
-  allowed-same level d (groupWish flag v) = refl
+  allowed-same level d (other o) = refl
   allowed-same level d nothing = refl

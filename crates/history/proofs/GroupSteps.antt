@@ -28,7 +28,8 @@ use Rattle.device.specs.Asked.{Asked, Reads, given}
 use Rattle.device.specs.Right.{Group, Brings, write, response, Flag}
 use Rattle.history.specs.Wish.{Wish, wishOf, asks}
 use Rattle.history.specs.Wish as wish
-use Rattle.history.specs.Permit.{all, allowed}
+use Rattle.history.specs.Span.{all}
+use Rattle.history.specs.Permit.{allowed}
 use Rattle.history.specs.History.{First, permitted}
 use Rattle.history.specs.Others.{groupByte, newValue}
 use Rattle.history.specs.Keeps.{Begins, Writing}
@@ -44,7 +45,7 @@ use Rattle.history.proofs.Requests.{E, Ok, Done, opens-same, levels-sam
 use Rattle.history.proofs.Writes.{heard-now}
 
 -- what a PDU brings is what it asks for
-brings-wish : {p : Pdu} {v k : ℕ} → Brings p v k → wishOf p ≡ wish.group k v
+brings-wish : {p : Pdu} {v k : ℕ} → Brings p v k → wishOf p ≡ wish.other (wish.group k v)
 brings-wish (write v) = refl
 brings-wish (response v) = refl
 
@@ -67,7 +68,7 @@ module _ (f : First) (b : Begins f) (h : List Event) (x : State) (inv : Inv f h 
 
   module _ (p : Pdu) (v k : ℕ) (r : Reads R p) (q : Brings p v k) where
     abbrev W : Wish
-    W = wish.group k v
+    W = wish.other (wish.group k v)
 
     abbrev D : List ℕ
     D = given R p
@@ -151,7 +152,7 @@ module _ (f : First) (b : Begins f) (h : List Event) (x : State) (inv : Inv f h 
               new-is i j
               ∙ ap (λ (t : Bool). cond t (cond (eqb (group.code of Entry i) 0) v (getD D j 0)) (groupByte f h i j)) (must-fail (all (Tests i)) (λ t. let u = test-is i l .0 t in no-test i (u .0) (u .1) (u .2)));
         })
-        none n answer (λ z l. subst Writing e z)
+        none n answer (λ z. subst Writing e (z .writing))
 
     -- STORED, where one does
     module _ (i : ℕ) (m : Group R i) (n : Flag (entry (x .sheet) groups i) k) (o : length D ≡ group.code of entry (x .sheet) groups i) where
@@ -177,7 +178,7 @@ module _ (f : First) (b : Begins f) (h : List Event) (x : State) (inv : Inv f h 
                       rw (group-same (inv .means .agree) i group.offset there (omega arith))
                       (means-as
                       (store-group (fine inv b) (inv .means) i there ds (omega (arith, size, field-now i there .2)) (groupByte f (E f h mode g a out ∷ h)) here away fit small)
-                      (λ y. sym (contents-same f h mode g a out none y)) (sym (addresses-same f h mode g a out W e (λ m s v. refl)))
+                      (λ y. sym (contents-same f h (E f h mode g a out) none y)) (sym (addresses-same f h mode g a out W e (λ m s v. refl)))
                       (sym (programs-same f h mode g a out W e refl)) (λ i j l. refl));
                 };
             only = λ z. absurd (subst Writing e (z .writing));

@@ -2,17 +2,18 @@
 -- Assumes nothing.
 use mathlib.Core.Path.{_≡_, refl, sym, ap, _∙_}
 use mathlib.Core.List.{List, [], _∷_, reverse, reverse-cons, reverse-reverse}
-use Rattle.device.specs.Events.{Event, State, eventOf, after, run}
+use Rattle.device.specs.Events.{Event, State, after, run}
 use Rattle.device.proofs.Append.{run-append}
 use Rattle.history.specs.History.{First}
 use Rattle.history.specs.Keeps.{stateAfter}
+use Rattle.history.specs.Rightful.{ours}
 
 module _ (f : First) where
   abbrev pub firstState : State
   firstState = record { session = f .session; sheet = f .sheet }
 
   -- AFTER A HISTORY IS AFTER THE RUN OF ITS EVENTS
-  pub after-is-run : (h : List Event) → stateAfter eventOf f h ≡ run firstState (reverse h)
+  pub after-is-run : (h : List Event) → stateAfter ours f h ≡ run firstState (reverse h)
   unfolding stateAfter run after
   after-is-run [] = refl
   after-is-run (e ∷ h) =
@@ -21,5 +22,5 @@ module _ (f : First) where
       ∙ sym (ap (run firstState) (reverse-cons e h))
 
   -- and the other way round
-  pub run-is-after : (es : List Event) → run firstState es ≡ stateAfter eventOf f (reverse es)
+  pub run-is-after : (es : List Event) → run firstState es ≡ stateAfter ours f (reverse es)
   run-is-after es = ap (run firstState) (sym (reverse-reverse es)) ∙ sym (after-is-run (reverse es))

@@ -48,7 +48,7 @@ means-as m p q r t =
     }
 
 -- the first content is what stands in the first sheet
-first-holds : {s : List ℕ} → Good 1 s → (x : Location) (p : ℕ) → Place s x p → getD s p 0 ≡ firstOf s x
+pub first-holds : {s : List ℕ} → Good 1 s → (x : Location) (p : ℕ) → Place s x p → getD s p 0 ≡ firstOf s x
 unfolding firstOf entryFor bodyAt
 first-holds {s} g (memory y) p (ofMemory h) =
     rw (region-hit g (h .index) y 1 (omega arith) (record { below = h .below; from = h .from; to = omega (arith, h .to) }), h .here)

@@ -1,6 +1,6 @@
 -- Key writes, carried out and denied; a key offered.
 -- Assumes nothing.
-use Prim.Native.Nat.{ℕ, _+_, _*_, _<_, _≤_}
+use Prim.Native.Nat.{ℕ, _+_, _*_, _<_}
 use mathlib.Core.Path.{_≡_, refl, sym, _∙_}
 use mathlib.Core.Bool.{false}
 use mathlib.Core.List.{List, _∷_}
@@ -19,15 +19,15 @@ use Rattle.device.specs.Events.{Event, State, request}
 use Rattle.device.specs.Asked.{Asked, Reads, given}
 use Rattle.device.specs.Right.{KeyWritable, Grants, key0, key1, key2, other}
 use Rattle.history.specs.Location.{key}
-use Rattle.history.specs.Wish.{Wish, offerKey, asks}
-use Rattle.history.specs.Permit.{allowed}
-use Rattle.history.specs.History.{First, keyIn, offered, level, content, permitted}
-use Rattle.history.specs.Keeps.{Begins}
+use Rattle.history.specs.Wish.{Wish, writeKey, offerKey, asks}
+use Rattle.history.specs.Permit.{allowed, spans}
+use Rattle.history.specs.History.{First, keyIn, offered, level, keys, content, permitted}
+use Rattle.history.specs.Keeps.{Begins, Succeeds}
 use Rattle.history.specs.Rightful.{asked}
 use Rattle.history.proofs.Hearing.{asks-is}
 use Rattle.history.proofs.Invariant.{Inv, fine, now, means-as}
 use Rattle.history.proofs.KeyRun.{key-place, key-run}
-use Rattle.history.proofs.Means.{long, store-run}
+use Rattle.history.proofs.Means.{long, store-span}
 use Rattle.history.proofs.Octet.{octets-bytes}
 use Rattle.history.proofs.Permits.{key-is}
 use Rattle.history.proofs.Requests.{Done, opens-same, levels-new, programs-same, addresses-same, values-same, contents-same, forbidden}
@@ -51,16 +51,17 @@ module _ (f : First) (b : Begins f) (h : List Event) (x : State) (inv : Inv f h 
 
   -- A KEY WRITE, carried out
   pub key-written :
-      (named number : ℕ) → Reads R (KeyWrite named number) → KeyWritable R named → (k : ℕ) (answer : List ℕ) → k ≤ 1 →
+      (named number : ℕ) → Reads R (KeyWrite named number) → KeyWritable R named → (k : ℕ) (answer : List ℕ) → Succeeds k →
       Done f h mode g a out
       (record { outcome = k; answer = answer; session = x .session; sheet = splice (x .sheet) ((head.key named) .at) (bytesOf 4 number) })
+  unfolding spans
   key-written named number r w k answer low =
-      carried-out f b h x inv mode g a out (KeyWrite named number) r tt
+      carried-out f b h x inv mode g a out (KeyWrite named number) (writeKey named number) refl r
       (key-is R (now inv b) named number (given R (KeyWrite named number)) .1 w)
       k answer _ low
-      (store-run (fine inv b) (inv .means) _ _ ((head.key named) .at) (bytesOf 4 number)
+      (store-span (fine inv b) (inv .means) _ ((head.key named) .at) (bytesOf 4 number)
       (omega (arith, size, w .known, long (fine inv b) (inv .means)))
-      (key-run (f .sheet) (content f h) (given R (KeyWrite named number)) named number (omega (arith, w .known)))
+      (key-run (f .sheet) named number (omega (arith, w .known)))
       (key-store 1 (accepted (now inv b)) named (bytesOf 4 number) (omega (arith, w .known)) size)
       (octets-bytes 4 number))
     where
@@ -69,16 +70,16 @@ module _ (f : First) (b : Begins f) (h : List Event) (x : State) (inv : Inv f h 
 
   -- and denied
   pub key-denied :
-      (named number : ℕ) → Reads R (KeyWrite named number) → (KeyWritable R named → ⊥) → (k : ℕ) (answer : List ℕ) → 1 < k →
+      (named number : ℕ) → Reads R (KeyWrite named number) → (KeyWritable R named → ⊥) → (k : ℕ) (answer : List ℕ) → (Succeeds k → ⊥) →
       Done f h mode g a out (record { outcome = k; answer = answer; session = x .session; sheet = x .sheet })
   key-denied named number r none k answer high =
-      denied f b h x inv mode g a out (KeyWrite named number) r tt
+      denied f b h x inv mode g a out (KeyWrite named number) (writeKey named number) refl r
       (λ e. none (key-is R (now inv b) named number (given R (KeyWrite named number)) .0 e))
       k answer high
 
   -- what a key is by the history
-  key-now : (l : ℕ) → l < 3 → keyIn (content f h) l ≡ head.key l of x .sheet
-  unfolding keyIn numAt
+  key-now : (l : ℕ) → l < 3 → keys f h l ≡ head.key l of x .sheet
+  unfolding keys keyIn numAt
   key-now l low =
       let at : (j : ℕ) → j < 4 → getD (x .sheet) (18 + 4 * l + j) 0 ≡ content f h (key l j) =
       λ j k. inv .means .holds (key l j) _ (key-place (f .sheet) l j low k) in
@@ -95,9 +96,9 @@ module _ (f : First) (b : Begins f) (h : List Event) (x : State) (inv : Inv f h 
         next =
             record {
               session = inv .session ∙ sym (opens-same f h mode g a out w e refl);
-              rights = granted (x .sheet) (keyIn (content f h)) number (level f h) (key-now 0 (omega arith)) (key-now 1 (omega arith)) (key-now 2 (omega arith)) q ∙ sym new;
+              rights = granted (x .sheet) (keys f h) number (level f h) (key-now 0 (omega arith)) (key-now 1 (omega arith)) (key-now 2 (omega arith)) q ∙ sym new;
               means =
-                  means-as (inv .means) (λ y. sym (contents-same f h mode g a out none y))
+                  means-as (inv .means) (λ y. sym (contents-same f h (request mode g a out) none y))
                   (sym (addresses-same f h mode g a out w e (λ m s v. refl))) (sym (programs-same f h mode g a out w e refl))
                   (λ i j m. sym (values-same f h mode g a out w e (λ n k d j v. refl) i j));
             };
@@ -114,7 +115,7 @@ module _ (f : First) (b : Begins f) (h : List Event) (x : State) (inv : Inv f h 
       none : permitted f h (request mode g a out) ≡ false
       none = forbidden f h mode g a out w e refl
 
-      new : level f (request mode g a out ∷ h) ≡ offered (keyIn (content f h)) (level f h) w
+      new : level f (request mode g a out ∷ h) ≡ offered (keys f h) (level f h) w
       new =
           levels-new f h mode g a out w e
           (heard-now f b h x inv mode g a out (AuthorizeRequest number) r (λ q. let z : _≡_ {A = ℕ} 0 1 = cc in omega arith))

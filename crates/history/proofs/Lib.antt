@@ -7,6 +7,7 @@ pub mod Permits
 pub mod Carried
 pub mod Permitted
 pub mod Octet
+pub mod Spans
 pub mod Stored
 pub mod Framed
 pub mod Means
@@ -23,6 +24,10 @@ pub mod PropertySteps
 pub mod OtherSteps
 pub mod GroupSteps
 pub mod Steps
+pub mod AtOnce
 pub mod Keep
 pub mod InOrder
+pub mod Pinned
 pub mod Refuted
+pub mod Suffices
+pub mod Keyless

@@ -3,7 +3,7 @@
 use Prim.Native.Nat.{ℕ, _+_, _/_, _%_, _<_, _≤_}
 use mathlib.Core.Path.{_≡_, sym, ap, subst, _∙_}
 use mathlib.Core.Logic.{_⊎_, inl, inr}
-use mathlib.Core.Bool.{Bool, cond}
+use mathlib.Core.Bool.{cond}
 use mathlib.Core.List.{List, [], _∷_}
 use lib.ListN.{length, getD}
 use native.Mathlib.Decide.{ℕ-discrete}
@@ -24,10 +24,12 @@ use Rattle.sheet.proofs.Stores.{body-store, address-store, flags-store}
 use Rattle.sheet.proofs.Lie.{within, disjoint}
 use Rattle.sheet.proofs.Sames.{count-same, at-same, end-same}
 use Rattle.history.specs.Location.{Location, Place}
+use Rattle.history.specs.Span.{Span, has, put}
 use Rattle.device.specs.Octets.{Octets}
 use Rattle.history.specs.Keeps.{Still}
 use Rattle.history.proofs.Places.{no-group, place-after, past-contents}
 use Rattle.history.proofs.Octet.{octets-bytes, octets-splice}
+use Rattle.history.proofs.Spans.{laid}
 use Rattle.history.proofs.Stored.{Run, away, stored, spared}
 
 -- the locations hold c, the address is adr, programming mode is prog, byte j of group object i is grp i j, and all else is as at first
@@ -54,29 +56,28 @@ module _ {f : List ℕ} (g : Good 1 f) {c : Location → ℕ} {adr prog : ℕ} {
   pub long : 32 ≤ length s
   long = omega (arith, fine .framed)
 
-  -- A RUN OF LOCATIONS
-  pub store-run :
-      (named : Location → Bool) (given : Location → ℕ) (o : ℕ) (ds : List ℕ) → o + length ds ≤ length s → Run f named given o ds →
-      Agree s (splice s o ds) → Octets ds → Means f (λ x. cond (named x) (given x) (c x)) adr prog grp (splice s o ds)
-  store-run named given o ds room run a b =
+  -- A SPAN
+  pub store-span :
+      (p : Span) (o : ℕ) (ds : List ℕ) → o + length ds ≤ length s → Run f p o ds → Agree s (splice s o ds) → Octets ds →
+      Means f (laid (p ∷ []) c) adr prog grp (splice s o ds)
+  store-span p o ds room run a b =
       record {
         agree = agree-trans (m .agree) a;
         octets = octets-splice s o ds room (m .octets) b;
-        holds = λ x p h.
-            stored g s named given o ds room run x p h ∙ ap (λ (n : ℕ). cond (named x) (given x) n) (m .holds x p h);
-        still = λ p h. spare p (h .location) ∙ m .still p h;
+        holds = λ x q h. stored g s p o ds room run x q h ∙ ap (λ (n : ℕ). cond (has p x) (put p x) n) (m .holds x q h);
+        still = λ q h. spare q (h .location) ∙ m .still q h;
         address = early 16 2 (omega arith) ∙ m .address;
         programming = ap (λ (n : ℕ). n % 2) (early 14 1 (omega arith)) ∙ m .programming;
         verify = ap (λ (n : ℕ). n / 2 % 2) (early 14 1 (omega arith)) ∙ m .verify;
         group = λ i j h. spare _ (λ x q. no-group g q h) ∙ m .group i j h;
       }
     where
-      spare : (p : ℕ) → ((x : Location) → Place f x p → ⊥) → getD (splice s o ds) p 0 ≡ getD s p 0
-      spare = spared g s named given o ds room run
+      spare : (q : ℕ) → ((x : Location) → Place f x q → ⊥) → getD (splice s o ds) q 0 ≡ getD s q 0
+      spare = spared g s p o ds room run
 
-      early : (p w : ℕ) → p + w ≤ 18 → numAt (splice s o ds) p w ≡ numAt s p w
-      early p w h =
-          num-same (splice s o ds) s p p w (λ i l. spare (p + i) (λ x q. omega (arith, place-after g q)))
+      early : (q w : ℕ) → q + w ≤ 18 → numAt (splice s o ds) q w ≡ numAt s q w
+      early q w h =
+          num-same (splice s o ds) s q q w (λ i l. spare (q + i) (λ x k. omega (arith, place-after g k)))
 
   -- NEW FLAGS, verify as it was
   pub store-flags :

@@ -19,7 +19,7 @@ use Rattle.device.specs.Octets.{Octets}
 use Rattle.device.specs.Events.{Event, State}
 use Rattle.device.specs.Asked.{Asked, Reads}
 use Rattle.device.specs.Right.{Programming}
-use Rattle.history.specs.Wish.{Wish, nothing, address, addressFor, restart, wishOf, asks}
+use Rattle.history.specs.Wish.{Wish, nothing, other, address, addressFor, restart, wishOf, asks}
 use Rattle.history.specs.Permit.{allowed}
 use Rattle.history.specs.History.{First, isRestart, offered, permitted}
 use Rattle.history.specs.Others.{programming, individual, newAddress, newValue}
@@ -42,7 +42,7 @@ record Addressing (w : Wish) : Type 0 where
   no-write : Writing w → ⊥
   concerned : w ≡ nothing → ⊥
 
-by-mode : (v : ℕ) → Addressing (address v)
+by-mode : (v : ℕ) → Addressing (other (address v))
 unfolding allowed
 by-mode v =
     record {
@@ -54,7 +54,7 @@ by-mode v =
       concerned = λ e. let z : _≡_ {A = ℕ} 0 1 = cc in omega arith;
     }
 
-by-serial : (n v : ℕ) → Addressing (addressFor n v)
+by-serial : (n v : ℕ) → Addressing (other (addressFor n v))
 unfolding allowed
 by-serial n v =
     record {
@@ -109,7 +109,7 @@ module _ (f : First) (b : Begins f) (h : List Event) (x : State) (inv : Inv f h 
                 session = inv .session ∙ sym (opens-same f h mode g a out w e (q .restarts));
                 rights = inv .rights ∙ sym (levels-same f h mode g a out w e (q .offers));
                 means =
-                    means-as (store-address (fine inv b) (inv .means) new low) (λ y. sym (contents-same f h mode g a out none y))
+                    means-as (store-address (fine inv b) (inv .means) new low) (λ y. sym (contents-same f h (E f h mode g a out) none y))
                     (sym (new-is ∙ is)) (sym (programs-same f h mode g a out w e (q .restarts)))
                     (λ i j l. sym (values-same f h mode g a out w e (q .values) i j));
               };
@@ -129,7 +129,7 @@ module _ (f : First) (b : Begins f) (h : List Event) (x : State) (inv : Inv f h 
           programs = programs-same f h mode g a out w e (q .restarts);
           values = λ i j l. values-same f h mode g a out w e (q .values) i j;
         })
-        none k answer (λ z l. q .no-write (rw e at z))
+        none k answer (λ z. q .no-write (rw e at (z .writing)))
 
   -- THE ADDRESS IN PROGRAMMING MODE
   programming-is : head.programming (x .sheet) ≡ programming f h
@@ -140,14 +140,14 @@ module _ (f : First) (b : Begins f) (h : List Event) (x : State) (inv : Inv f h 
       Done f h mode g a out
       (record { outcome = k; answer = answer; session = x .session; sheet = splice (x .sheet) (head.address .at) (bytesOf 2 v) })
   address-written v octets r on k answer =
-      address-new (IndividualAddressWrite v) (address v) refl (by-mode v) r k answer v (address-field a octets (r .reads))
+      address-new (IndividualAddressWrite v) (other (address v)) refl (by-mode v) r k answer v (address-field a octets (r .reads))
       (rw (eq-eqb (programming f h) 1 (sym programming-is ∙ on)))
 
   pub address-unwritten :
       (v : ℕ) → Reads R (IndividualAddressWrite v) → (Programming R → ⊥) → (k : ℕ) (answer : List ℕ) →
       Done f h mode g a out (record { outcome = k; answer = answer; session = x .session; sheet = x .sheet })
   address-unwritten v r off k answer =
-      address-left (IndividualAddressWrite v) (address v) refl (by-mode v) r k answer
+      address-left (IndividualAddressWrite v) (other (address v)) refl (by-mode v) r k answer
       (rw (ne-eqb (programming f h) 1 (λ z. off (programming-is ∙ z))))
 
   -- AND BY THE SERIAL NUMBER
@@ -156,14 +156,14 @@ module _ (f : First) (b : Begins f) (h : List Event) (x : State) (inv : Inv f h 
       Done f h mode g a out
       (record { outcome = k; answer = answer; session = x .session; sheet = splice (x .sheet) (head.address .at) (bytesOf 2 v) })
   serial-written n v octets r on k answer =
-      address-new (SerialNumberWrite n v) (addressFor n v) refl (by-serial n v) r k answer v (serial-address a octets (r .reads))
+      address-new (SerialNumberWrite n v) (other (addressFor n v)) refl (by-serial n v) r k answer v (serial-address a octets (r .reads))
       (rw (eq-eqb n (head.serial of f .sheet) (on ∙ serial-same)))
 
   pub serial-unwritten :
       (n v : ℕ) → Reads R (SerialNumberWrite n v) → (n ≡ head.serial of x .sheet → ⊥) → (k : ℕ) (answer : List ℕ) →
       Done f h mode g a out (record { outcome = k; answer = answer; session = x .session; sheet = x .sheet })
   serial-unwritten n v r off k answer =
-      address-left (SerialNumberWrite n v) (addressFor n v) refl (by-serial n v) r k answer
+      address-left (SerialNumberWrite n v) (other (addressFor n v)) refl (by-serial n v) r k answer
       (rw (ne-eqb n (head.serial of f .sheet) (λ z. off (z ∙ sym serial-same))))
 
   -- A RESTART
@@ -185,7 +185,7 @@ module _ (f : First) (b : Begins f) (h : List Event) (x : State) (inv : Inv f h 
               rights = sym (levels-new f h mode g a out restart asked-so ok);
               means =
                   means-as (store-flags (fine inv b) (inv .means) v (omega arith) verify)
-                  (λ y. sym (contents-same f h mode g a out never-write y))
+                  (λ y. sym (contents-same f h (E f h mode g a out) never-write y))
                   (sym (addresses-same f h mode g a out restart asked-so (λ m s v. refl)))
                   (let z : v % 2 ≡ 0 = omega arith in z ∙ sym (programs-new f h mode g a out restart asked-so ok))
                   (λ i j l. sym (values-same f h mode g a out restart asked-so (λ n k d j v. refl) i j));

@@ -25,8 +25,9 @@ use Rattle.device.specs.Asked.{Asked}
 use Rattle.device.specs.Right as right
 use Rattle.device.specs.Right.{MemoryWritable, BitsWritable, InRegion, Writable, Elements, WriteAllowed, KeyWritable}
 use Rattle.device.proofs.Properly.{two-zeros}
-use Rattle.history.specs.Wish.{writeMemory, writeBits, writeProperty, writeKey}
-use Rattle.history.specs.Permit.{all, every, levelFor, regionFor, mayRead, mayWrite, indexFor, entryFor, clears, fills, allowed}
+use Rattle.history.specs.Wish.{change, writeMemory, writeBits, writeProperty, writeKey}
+use Rattle.history.specs.Span.{all}
+use Rattle.history.specs.Permit.{every, levelFor, regionFor, mayRead, mayWrite, indexFor, entryFor, clears, fills, allowed}
 use Rattle.history.proofs.Bools.{all-at, every-at, every-all, or-left, or-right, or-cases}
 use Rattle.history.proofs.Finding.{region-covers, covered-byte, region-hit, may-read, may-write, property-hit, property-found}
 use Rattle.history.proofs.Levels.{acts-once, acts-so}
@@ -83,7 +84,7 @@ module _ (x : Asked) (g : Good 1 (x .sheet)) where
   in-region c = record { there = c .below; start = c .from; end = c .to }
 
   -- MEMORY: every byte named may be written exactly if the one region of the range says so
-  pub memory-is : (n y : ℕ) (d : List ℕ) → (allowed S L d (writeMemory n y) ≡ true) ↔ ((i : ℕ) × MemoryWritable x n y i)
+  pub memory-is : (n y : ℕ) (d : List ℕ) → (allowed S L d (change (writeMemory n y)) ≡ true) ↔ ((i : ℕ) × MemoryWritable x n y i)
   unfolding allowed
   memory-is n y d = (on, λ w. back (w .0) (w .1))
     where
@@ -117,7 +118,7 @@ module _ (x : Asked) (g : Good 1 (x .sheet)) where
           simp (le-leb _ _ (w .some), le-leb _ _ (w .most), k, b)
 
   -- BITS: and may be read
-  pub bits-is : (n y : ℕ) (d : List ℕ) → (allowed S L d (writeBits n y) ≡ true) ↔ ((i : ℕ) × BitsWritable x n y i)
+  pub bits-is : (n y : ℕ) (d : List ℕ) → (allowed S L d (change (writeBits n y)) ≡ true) ↔ ((i : ℕ) × BitsWritable x n y i)
   unfolding allowed
   bits-is n y d = (on, λ w. back (w .0) (w .1))
     where
@@ -159,7 +160,7 @@ module _ (x : Asked) (g : Good 1 (x .sheet)) where
           simp (le-leb _ _ (w .some), le-leb _ _ (w .most), k, b)
 
   -- A KEY
-  pub key-is : (named number : ℕ) (d : List ℕ) → (allowed S L d (writeKey named number) ≡ true) ↔ KeyWritable x named
+  pub key-is : (named number : ℕ) (d : List ℕ) → (allowed S L d (change (writeKey named number)) ≡ true) ↔ KeyWritable x named
   unfolding allowed
   key-is named number d = (
     λ e.
@@ -172,7 +173,7 @@ module _ (x : Asked) (g : Good 1 (x .sheet)) where
 
   -- A PROPERTY, ids being bytes
   pub property-is :
-      (object id n s : ℕ) (d : List ℕ) → Octets S → id < 256 → (allowed S L d (writeProperty object id n s) ≡ true) ↔ WriteAllowed x object id n s d
+      (object id n s : ℕ) (d : List ℕ) → Octets S → id < 256 → (allowed S L d (change (writeProperty object id n s)) ≡ true) ↔ WriteAllowed x object id n s d
   unfolding allowed entryFor
   property-is object id n s d small low = (on, back)
     where

@@ -1,10 +1,8 @@
 -- Property writes, carried out and denied.
 -- Assumes nothing.
-use Prim.Native.Nat.{ℕ, zero, suc, _+_, _*_, _-_, _<_, _≤_, max}
-use mathlib.Core.Path.{_≡_, refl, ap, _∙_}
-use mathlib.Core.Bool.{cond}
+use Prim.Native.Nat.{ℕ, _+_, _*_, _-_, _<_, _≤_, max}
+use mathlib.Core.Path.{_≡_, refl, sym, ap, _∙_}
 use mathlib.Core.List.{List, [], _∷_}
-use lib.Dec.{eqb}
 use lib.ListN.{length, getD}
 use native.Mathlib.Omega.{arith}
 use borrow.Author.Tests.{ne-eqb}
@@ -33,32 +31,24 @@ use Rattle.device.specs.Events.{Event, State}
 use Rattle.device.specs.Asked.{Asked, Reads, given}
 use Rattle.device.specs.Right as right
 use Rattle.device.specs.Right.{Elements, elementAt, Writable, WriteAllowed}
-use Rattle.history.specs.Location.{Location, memory, body, counter, key}
-use Rattle.history.specs.Wish.{writeProperty}
-use Rattle.history.specs.Permit.{countIn, names, gives}
+use Rattle.history.specs.Location.{Location, body, counter}
+use Rattle.history.specs.Span.{Span}
+use Rattle.history.specs.Wish.{change, writeProperty}
+use Rattle.history.specs.Permit.{countIn, countTo, spans}
 use Rattle.history.specs.History.{First, content}
 use Rattle.history.specs.Others.{programming, individual, groupByte}
-use Rattle.history.specs.Keeps.{Begins}
+use Rattle.history.specs.Keeps.{Begins, Succeeds}
 use Rattle.history.specs.Rightful.{asked}
-use Rattle.history.proofs.Bools.{and-false}
 use Rattle.history.proofs.Carried.{property-id}
 use Rattle.history.proofs.Framed.{is-same}
-use Rattle.history.proofs.Invariant.{Inv, fine, now, means-as}
-use Rattle.history.proofs.Means.{Means, store-run}
+use Rattle.history.proofs.Invariant.{Inv, fine, now}
+use Rattle.history.proofs.Means.{Means, store-span}
 use Rattle.history.proofs.Octet.{octets-bytes, octets-data}
 use Rattle.history.proofs.Permits.{property-is}
-use Rattle.history.proofs.PropertyRun.{onBodies, onCounters, counter-place, counter-run, body-run, elements-fit, entry-for}
+use Rattle.history.proofs.PropertyRun.{counter-place, counter-run, body-run, elements-fit, entry-for}
 use Rattle.history.proofs.Requests.{Done}
+use Rattle.history.proofs.Spans.{laid}
 use Rattle.history.proofs.Writes.{carried-out, denied}
-
-two-zero-bytes : bytesOf 2 0 ≡ 0 ∷ 0 ∷ []
-unfolding bytesOf
-two-zero-bytes = refl
-
-two-zeros : (j : ℕ) → _≡_ {A = ℕ} 0 (getD (0 ∷ 0 ∷ []) j 0)
-two-zeros zero = refl
-two-zeros (suc zero) = refl
-two-zeros (suc (suc j)) = refl
 
 module _ (f : First) (b : Begins f) (h : List Event) (x : State) (inv : Inv f h x) (mode g : ℕ) (a out : List ℕ) (octets : Octets a) where
   abbrev R : Asked
@@ -68,8 +58,9 @@ module _ (f : First) (b : Begins f) (h : List Event) (x : State) (inv : Inv f h 
   abbrev P : ℕ → ℕ → ℕ → ℕ → Pdu
   P object id n z = PropertyValueWrite object id n z
 
-  abbrev Given : ℕ → ℕ → ℕ → ℕ → Location → ℕ
-  Given object id n z = gives (f .sheet) (content f h) (given R (P object id n z)) (writeProperty object id n z)
+  abbrev Spans : ℕ → ℕ → ℕ → ℕ → List Span
+  Spans object id n z =
+      spans (f .sheet) (content f h) (given R (P object id n z)) (change (writeProperty object id n z))
 
   abbrev Holds : (Location → ℕ) → List ℕ → Type 0
   Holds c s = Means (f .sheet) c (individual f h) (programming f h) (groupByte f h) s
@@ -77,10 +68,10 @@ module _ (f : First) (b : Begins f) (h : List Event) (x : State) (inv : Inv f h 
   -- denied
   pub property-denied :
       (object id n z : ℕ) → Reads R (P object id n z) → (WriteAllowed R object id n z (given R (P object id n z)) → ⊥) →
-      (k : ℕ) (answer : List ℕ) → 1 < k →
+      (k : ℕ) (answer : List ℕ) → (Succeeds k → ⊥) →
       Done f h mode g a out (record { outcome = k; answer = answer; session = x .session; sheet = x .sheet })
   property-denied object id n z r none k answer high =
-      denied f b h x inv mode g a out (P object id n z) r tt
+      denied f b h x inv mode g a out (P object id n z) (writeProperty object id n z) refl r
       (λ e.
       none
       (property-is R (now inv b) object id n z (given R (P object id n z)) (inv .means .octets) (property-id a octets (r .reads)) .0 e))
@@ -104,11 +95,9 @@ module _ (f : First) (b : Begins f) (h : List Event) (x : State) (inv : Inv f h 
 
     -- A NEW COUNT in a sheet that has the places of the first
     count-stored :
-        (n z c : ℕ) (k : Location → ℕ) (s : List ℕ) → Holds k s → c ≤ property.maximum of entry (f .sheet) properties i →
-        ((j : ℕ) → j < 2 → Given object id n z (counter object id j) ≡ getD (bytesOf 2 c) j 0) →
-        Holds (λ y. cond (onCounters (names (f .sheet) (writeProperty object id n z)) y) (Given object id n z y) (k y))
-        (splice s (place (x .sheet) properties i + property.count .at) (bytesOf 2 c))
-    count-stored n z c k s m low same =
+        (c : ℕ) (k : Location → ℕ) (s : List ℕ) → Holds k s → c ≤ property.maximum of entry (f .sheet) properties i →
+        Holds (laid (countTo object id c ∷ []) k) (splice s (place (x .sheet) properties i + property.count .at) (bytesOf 2 c))
+    count-stored c k s m low =
         let now-good = kept (fine inv b) (m .agree) in
         let there : i < count s properties = omega (arith, is .there, count-same (m .agree) properties) in
         let l : c ≤ property.maximum of entry s properties i =
@@ -116,36 +105,23 @@ module _ (f : First) (b : Begins f) (h : List Event) (x : State) (inv : Inv f h 
         let agrees : Agree s (splice s (place (f .sheet) properties i + 6) (bytesOf 2 c)) =
         rw (place-same (m .agree) properties i) at (count-store now-good i c there l) in
         rw (place-same (inv .means .agree) properties i)
-        (store-run (fine inv b) m _ _ (place (f .sheet) properties i + 6) (bytesOf 2 c)
+        (store-span (fine inv b) m (countTo object id c) (place (f .sheet) properties i + 6) (bytesOf 2 c)
         (omega (arith, length-bytes 2 c, place-in (f .sheet) properties i (omega arith) (is .there), fine inv b .framed, m .agree .long))
-        (counter-run (fine inv b) is n z (Given object id n z) (bytesOf 2 c) (length-bytes 2 c) same)
+        (counter-run (fine inv b) is c)
         agrees
         (octets-bytes 2 c))
 
     -- CLEARED
     pub property-cleared :
-        Reads R (P object id 1 0) → given R (P object id 1 0) ≡ 0 ∷ 0 ∷ [] → (k : ℕ) (answer : List ℕ) → k ≤ 1 →
+        Reads R (P object id 1 0) → given R (P object id 1 0) ≡ 0 ∷ 0 ∷ [] → (k : ℕ) (answer : List ℕ) → Succeeds k →
         Done f h mode g a out
         (record { outcome = k; answer = answer; session = x .session; sheet = splice (x .sheet) (place (x .sheet) properties i + property.count .at) (0 ∷ 0 ∷ []) })
-    unfolding gives names
+    unfolding spans bytesOf
     property-cleared r e k answer low =
-        carried-out f b h x inv mode g a out (P object id 1 0) r tt
+        carried-out f b h x inv mode g a out (P object id 1 0) (writeProperty object id 1 0) refl r
         (property-is R (now inv b) object id 1 0 (given R (P object id 1 0)) (inv .means .octets) (property-id a octets (r .reads)) .1 (right.ofCount i w refl refl e))
         k answer _ low
-        (means-as
-        (rw two-zero-bytes at (count-stored 1 0 0 (content f h) (x .sheet) (inv .means) (omega arith) zeros))
-        named refl refl (λ i j m. refl))
-      where
-        zeros : (j : ℕ) → j < 2 → 0 ≡ getD (bytesOf 2 0) j 0
-        zeros j l = rw two-zero-bytes (two-zeros j)
-
-        named : (y : Location) →
-            cond (onCounters (names (f .sheet) (writeProperty object id 1 0)) y) (Given object id 1 0 y) (content f h y)
-            ≡ cond (names (f .sheet) (writeProperty object id 1 0) y) (Given object id 1 0 y) (content f h y)
-        named (memory y) = refl
-        named (body o d j) = rw (and-false (eqb d id), and-false (eqb o object))
-        named (counter o d j) = refl
-        named (key l j) = refl
+        (count-stored 0 (content f h) (x .sheet) (inv .means) (omega arith))
 
     -- WRITTEN
     module _ (n z : ℕ) (d : List ℕ) (r : Reads R (P object id n z)) (e : d ≡ given R (P object id n z))
@@ -174,26 +150,36 @@ module _ (f : First) (b : Begins f) (h : List Event) (x : State) (inv : Inv f h 
             to = omega (arith, size, elements-fit (z - 1) n (property.element of S) (property.maximum of S) (omega (arith, el .start, el .end)));
           }
 
-      gives-each :
-          (j : ℕ) → j < n * property.element of entry (f .sheet) properties i →
-          Given object id n z (body object id ((z - 1) * property.element of entry (f .sheet) properties i + j)) ≡ getD d j 0
-      unfolding gives
-      gives-each j l =
-          let q : (z - 1) * property.element of entry (f .sheet) properties i + j - (z - 1) * property.element of entry (f .sheet) properties i ≡ j = omega arith in
-          rw (entry-for (fine inv b) is, q, e)
+      -- the elements that are named
+      Elems : Span
+      Elems =
+          let size = property.element of entry (f .sheet) properties i in
+          record { from = body object id ((z - 1) * size); long = n * size; give = λ j. getD d j 0 }
 
-      first-stored :
-          Holds (λ y. cond (onBodies (names (f .sheet) (writeProperty object id n z)) y) (Given object id n z y) (content f h y))
-          (splice (x .sheet) (elementAt S z) d)
-      first-stored =
-          store-run (fine inv b) (inv .means) (onBodies (names (f .sheet) (writeProperty object id n z))) (Given object id n z) (elementAt S z) d
+      elements-stored : Holds (laid (Elems ∷ []) (content f h)) (splice (x .sheet) (elementAt S z) d)
+      unfolding Elems
+      elements-stored =
+          store-span (fine inv b) (inv .means) Elems (elementAt S z) d
           (inside-within (now inv b) inside)
-          (rw at-first (body-run (fine inv b) is n z (Given object id n z) d (rw element-same at size) (el .start) (rw maximum-same at (el .end)) gives-each))
+          (rw at-first (body-run (fine inv b) is n z d (rw element-same at size) (el .start) (rw maximum-same at (el .end))))
           (body-store 1 (accepted (now inv b)) properties i (elementAt S z) d inside (λ q. absurd (omega arith)))
           (rw e (octets-data (P object id n z) a octets))
 
+      -- the new count
+      New : ℕ
+      New = max (property.count of S) (z + n - 1)
+
+      count-is : (c : ℕ) → c ≡ New → countTo object id c ∷ Elems ∷ [] ≡ countTo object id New ∷ Elems ∷ []
+      count-is c q = ap (λ (m : ℕ). countTo object id m ∷ Elems ∷ []) q
+
+      spans-are : Spans object id n z ≡ countTo object id New ∷ Elems ∷ []
+      unfolding spans Elems New
+      spans-are =
+          rw (ne-eqb z 0 (omega (arith, el .start)), entry-for (fine inv b) is, sym e)
+          (count-is _ (omega (arith, count-now)))
+
       pub property-written :
-          (k : ℕ) (answer : List ℕ) → k ≤ 1 →
+          (k : ℕ) (answer : List ℕ) → Succeeds k →
           Done f h mode g a out
           (record {
             outcome = k;
@@ -203,24 +189,12 @@ module _ (f : First) (b : Begins f) (h : List Event) (x : State) (inv : Inv f h 
                 splice (splice (x .sheet) (elementAt S z) d) (place (x .sheet) properties i + property.count .at)
                 (bytesOf 2 (max (property.count of S) (z + n - 1)));
           })
-      unfolding gives names entryDemands
+      unfolding New entryDemands
       property-written k answer low =
-          carried-out f b h x inv mode g a out (P object id n z) r tt
+          carried-out f b h x inv mode g a out (P object id n z) (writeProperty object id n z) refl r
           (property-is R (now inv b) object id n z (given R (P object id n z)) (inv .means .octets) (property-id a octets (r .reads)) .1 (right.ofElements i w el (rw e at size)))
           k answer _ low
-          (means-as (count-stored n z _ _ _ first-stored most counts) named refl refl (λ i j m. refl))
+          (rw spans-are (count-stored New _ _ elements-stored most))
         where
           most : max (property.count of S) (z + n - 1) ≤ property.maximum of entry (f .sheet) properties i
           most = omega (arith, now inv b .entries properties i (omega arith) (w .found .there), el .end, maximum-same)
-
-          counts : (j : ℕ) → j < 2 → Given object id n z (counter object id j) ≡ getD (bytesOf 2 (max (property.count of S) (z + n - 1))) j 0
-          counts j l = rw (ne-eqb z 0 (omega (arith, el .start)), count-now)
-
-          named : (y : Location) →
-              cond (onCounters (names (f .sheet) (writeProperty object id n z)) y) (Given object id n z y)
-              (cond (onBodies (names (f .sheet) (writeProperty object id n z)) y) (Given object id n z y) (content f h y))
-              ≡ cond (names (f .sheet) (writeProperty object id n z) y) (Given object id n z y) (content f h y)
-          named (memory y) = refl
-          named (body o d j) = refl
-          named (counter o d j) = refl
-          named (key l j) = refl

@@ -1,12 +1,12 @@
--- What demand 3 rules out: each of the five wrong devices, on a short run, by computation.
+-- What demand 3 rules out: each of the wrong devices, since after its run its state is not ours.
 -- Assumes nothing.
-use Prim.Native.Nat.{ℕ, zero, suc, _+_, _<_}
-use mathlib.Core.Path.{_≡_, refl}
-use mathlib.Core.Bool.{Bool, true, _&&_}
+use Prim.Native.Nat.{ℕ, zero, suc}
+use mathlib.Core.Path.{_≡_, refl, sym, ap, _∙_}
+use mathlib.Core.Bool.{Bool, true, false, _&&_, not}
 use mathlib.Core.List.{List, [], _∷_}
-use lib.Dec.{ltb}
+use lib.Dec.{ltb, eqb}
+use borrow.Author.Tests.{ltb-true, eq-eqb}
 use native.Mathlib.Omega.{arith}
-use borrow.Author.Tests.{ltb-true}
 use Rattle.octets.specs.Bytes.{numAt, bytesOf}
 use Rattle.octets.specs.Splice.{splice}
 use Rattle.sheet.specs.Demand.{breach}
@@ -18,114 +18,113 @@ use Rattle.pdu.specs.Table.{find}
 use Rattle.pdu.specs.Rules.{lowAt, fourAt, twelveAt, headBytes}
 use Rattle.pdu.specs.Read.{readPdu, dataOf}
 use Rattle.pdu.specs.Write.{encoded}
-use Rattle.pdu.proofs.Truths.{and-is}
+use Rattle.pdu.proofs.Truths.{never, and-is}
 use Rattle.judge.specs.Session.{levelOf, levelIn}
 use Rattle.judge.specs.Modes.{rulesOf}
 use Rattle.judge.specs.Properties.{writeIn, propertyWriteOf}
 use Rattle.judge.specs.Memory.{changeOf, memoryWriteOf}
-use Rattle.judge.specs.Keys.{grantOf, authorizeOf}
+use Rattle.judge.specs.Keys.{grantOf, authorizeOf, keyWriteOf}
 use Rattle.judge.specs.Judge.{isAccepted, reachedOf, isShut, judgeOf}
 use Rattle.device.specs.Octets.{Octets}
 use Rattle.device.specs.Step.{stepBy, stepOf}
-use Rattle.device.specs.Events.{request, eventOf}
+use Rattle.device.specs.Events.{Event, State, connect, disconnect, button, request, eventOf}
 use Rattle.device.specs.Marked.{sample}
-use Rattle.history.specs.Location.{memory, counter, Place, ofMemory, ofCounter}
+use Rattle.history.specs.Span.{same}
 use Rattle.history.specs.Wish.{asks, brings}
-use Rattle.history.specs.Permit.{every, heard, levelFor, regionFor, mayWrite, indexFor, entryFor, clears, fills, allowed, names, countIn, gives}
+use Rattle.history.specs.Permit.{every, heard, levelFor, regionFor, mayWrite, indexFor, entryFor, allowed}
 use Rattle.history.specs.History.{firstOf, keyIn, opened, level, content, permitted}
 use Rattle.history.specs.Keeps.{Begins, AllOctets, Keeps, stateAfter}
-use Rattle.history.specs.Wrong.{refusesAll, storesNothing, storesOnce, inventsCount, keepsLevel, fresh, buffer, strongKey, wrongKey, firstWrite, secondWrite, elementWrite, authorized, writtenOnce, givenUp}
+use Rattle.history.specs.Rightful.{ours}
+use Rattle.history.specs.Wrong.{fresh, Witness, wrongs}
+use Rattle.history.proofs.Keep.{keeps}
+use Rattle.history.proofs.Pinned.{pinned}
+use Rattle.history.proofs.Spans.{same-so}
 
 -- bytes, by one test
-abbrev below : List ℕ → Bool
-below [] = true
-below (x ∷ s) = ltb x 256 && below s
+abbrev isBytes : List ℕ → Bool
+isBytes [] = true
+isBytes (x ∷ s) = ltb x 256 && isBytes s
 
-octets-by : (s : List ℕ) → below s ≡ true → Octets s
+octets-by : (s : List ℕ) → isBytes s ≡ true → Octets s
 octets-by [] e i = omega arith
-octets-by (x ∷ s) e zero = ltb-true x 256 (and-is (ltb x 256) (below s) .0 e .0)
-octets-by (x ∷ s) e (suc i) = octets-by s (and-is (ltb x 256) (below s) .0 e .1) i
+octets-by (x ∷ s) e zero = ltb-true x 256 (and-is (ltb x 256) (isBytes s) .0 e .0)
+octets-by (x ∷ s) e (suc i) = octets-by s (and-is (ltb x 256) (isBytes s) .0 e .1) i
+
+abbrev bringsBytes : Event → Bool
+bringsBytes connect = true
+bringsBytes disconnect = true
+bringsBytes (button on) = true
+bringsBytes (request mode g a out) = isBytes a
+
+abbrev allBytes : List Event → Bool
+allBytes [] = true
+allBytes (e ∷ h) = bringsBytes e && allBytes h
+
+octets-all : (h : List Event) → allBytes h ≡ true → AllOctets h
+octets-all [] e = tt
+octets-all (connect ∷ h) e = (tt, octets-all h e)
+octets-all (disconnect ∷ h) e = (tt, octets-all h e)
+octets-all (button on ∷ h) e = (tt, octets-all h e)
+octets-all (request mode g a out ∷ h) e =
+    let b = and-is (isBytes a) (allBytes h) .0 e in
+    (octets-by a (b .0), octets-all h (b .1))
+
+-- one state, by one test
+abbrev bit : Bool → ℕ
+bit true = 1
+bit false = 0
+
+abbrev sameState : State → State → Bool
+sameState x y =
+    eqb (bit (x .session .opened)) (bit (y .session .opened)) &&
+    (eqb (x .session .level) (y .session .level) && same (x .sheet) (y .sheet))
+
+same-state : (x : State) → sameState x x ≡ true
+same-state x =
+    let o = bit (x .session .opened) in
+    let l = x .session .level in
+    and-is (eqb o o) (eqb l l && same (x .sheet) (x .sheet)) .1
+    (eq-eqb o o refl, and-is (eqb l l) (same (x .sheet) (x .sheet)) .1 (eq-eqb l l refl, same-so (x .sheet)))
 
 -- the sample is accepted
 begins : Begins fresh
 unfolding sample ruleIn walkRule entriesRule bodiesRule entryRule bodyRule bodyDemands entryDemands entry keyOf floor bodyAt bodyEnd startOf reached sixBits first breach numAt
 begins = record { octets = octets-by sample refl; accepted = refl }
 
--- the runs bring bytes
-octets-authorized : AllOctets authorized
-octets-authorized = (octets-by strongKey refl, (tt, tt))
+-- A WITNESS brings bytes and leaves another state than ours
+abbrev tells : Witness → Bool
+tells w = allBytes (w .events) && not (sameState (stateAfter (w .device) fresh (w .events)) (stateAfter ours fresh (w .events)))
 
-octets-written : AllOctets writtenOnce
-octets-written = (octets-by firstWrite refl, octets-authorized)
+-- and so refutes its device
+refuted : (w : Witness) → tells w ≡ true → Keeps (w .device) → ⊥
+refuted w e k =
+    let X : State = stateAfter (w .device) fresh (w .events) in
+    let Y : State = stateAfter ours fresh (w .events) in
+    let b = and-is (allBytes (w .events)) (not (sameState X Y)) .0 e in
+    let s : X ≡ Y = pinned (w .device) ours k keeps fresh (w .events) begins (octets-all (w .events) (b .0)) in
+    let t : sameState X Y ≡ true = sym (ap (sameState X) s) ∙ same-state X in
+    never (sym (ap not t) ∙ b .1)
 
-octets-given-up : AllOctets givenUp
-octets-given-up = (octets-by wrongKey refl, octets-authorized)
+abbrev tellAll : List Witness → Bool
+tellAll [] = true
+tellAll (w ∷ ws) = tells w && tellAll ws
 
--- the first write is permitted
-first-permitted : permitted fresh authorized (request 3 0 firstWrite buffer) ≡ true
-unfolding permitted opened level content firstOf keyIn heard levelFor allowed every regionFor mayWrite asks brings readPdu find dataOf lowAt
-    seek covers entry sample numAt
-first-permitted = refl
+-- EACH OF THEM IS REFUTED
+abbrev pub Each : List Witness → Type 0
+Each [] = Unit
+Each (w ∷ ws) = (Keeps (w .device) → ⊥) × Each ws
 
-second-permitted : permitted fresh writtenOnce (request 3 0 secondWrite buffer) ≡ true
-unfolding permitted opened level content firstOf keyIn heard levelFor allowed every regionFor mayWrite asks brings readPdu find dataOf lowAt
-    seek covers entry sample numAt
-second-permitted = refl
+each : (ws : List Witness) → tellAll ws ≡ true → Each ws
+each [] e = tt
+each (w ∷ ws) e = let b = and-is (tells w) (tellAll ws) .0 e in (refuted w (b .0), each ws (b .1))
 
-element-permitted : permitted fresh authorized (request 3 0 elementWrite buffer) ≡ true
-unfolding permitted opened level content firstOf keyIn heard levelFor allowed clears fills indexFor entryFor indexOf keyOf asks brings readPdu find
-    dataOf lowAt fourAt twelveAt seek entry sample numAt
-element-permitted = refl
-
--- where the bytes stand
-memory-at : (j : ℕ) → j < 4 → Place sample (memory (256 + j)) (60 + j)
-unfolding sample entry numAt
-memory-at j h =
-    ofMemory {y = 256 + j} {p = 60 + j} {levels = 50}
-    (record { index = 0; below = omega arith; from = omega arith; to = omega arith; here = omega arith; under = refl })
-
-counter-at : Place sample (counter 1 51 1) 47
-unfolding sample entry numAt
-counter-at = ofCounter {j = 1} {p = 47} 0 (record { there = omega arith; sameObject = refl; sameId = refl }) (omega arith) refl
-
--- REFUSING EVERYTHING
-pub refuses-refuted : Keeps refusesAll → ⊥
-refuses-refuted k =
-    let c = k fresh authorized begins octets-authorized .allPermitted 3 0 firstWrite buffer (octets-by firstWrite refl) first-permitted in
-    omega (arith, c .outcome)
-
--- STORING NOTHING: address 0100 keeps its A0
-pub nothing-refuted : Keeps storesNothing → ⊥
-unfolding stateAfter eventOf names gives asks brings readPdu find dataOf lowAt sample numAt
-nothing-refuted k =
-    let e : _≡_ {A = ℕ} 160 85 =
-    k fresh authorized begins octets-authorized .atOnce 3 0 firstWrite buffer (octets-by firstWrite refl) first-permitted (memory 256) 60 (memory-at 0 (omega arith)) refl in
-    omega arith
-
--- STORING ONCE: address 0101 keeps its A1
-pub once-refuted : Keeps storesOnce → ⊥
-unfolding stateAfter eventOf stepOf stepBy judgeOf isAccepted isShut reachedOf rulesOf levelIn levelOf grantOf authorizeOf changeOf memoryWriteOf
-    names gives asks brings readPdu find dataOf encoded headBytes lowAt seek covers rangeOf splice
+-- by computation
+told : tellAll wrongs ≡ true
+unfolding stateAfter eventOf stepOf stepBy judgeOf isAccepted isShut reachedOf rulesOf levelIn levelOf grantOf authorizeOf keyWriteOf changeOf memoryWriteOf writeIn propertyWriteOf
+    permitted opened level content firstOf keyIn heard levelFor allowed every regionFor mayWrite indexFor entryFor
+    asks brings readPdu find dataOf encoded headBytes lowAt fourAt twelveAt seek indexOf covers rangeOf splice
     ruleIn walkRule entriesRule bodiesRule entryRule bodyRule bodyDemands entryDemands entry keyOf floor bodyAt bodyEnd startOf reached sixBits first breach numAt bytesOf sample
-once-refuted k =
-    let e : _≡_ {A = ℕ} 161 102 =
-    k fresh writtenOnce begins octets-written .atOnce 3 0 secondWrite buffer (octets-by secondWrite refl) second-permitted (memory 257) 61 (memory-at 1 (omega arith)) refl in
-    omega arith
+told = refl
 
--- INVENTING THE COUNT: it becomes 2, and 1 element was written
-pub count-refuted : Keeps inventsCount → ⊥
-unfolding stateAfter eventOf stepOf stepBy judgeOf isAccepted isShut reachedOf rulesOf levelIn levelOf grantOf authorizeOf writeIn propertyWriteOf
-    names gives countIn indexFor entryFor indexOf level opened content firstOf keyIn heard allowed asks brings readPdu find dataOf encoded headBytes lowAt fourAt twelveAt
-    seek splice
-    ruleIn walkRule entriesRule bodiesRule entryRule bodyRule bodyDemands entryDemands entry keyOf floor bodyAt bodyEnd startOf reached sixBits first breach numAt bytesOf sample
-count-refuted k =
-    let e : _≡_ {A = ℕ} 2 1 =
-    k fresh authorized begins octets-authorized .atOnce 3 0 elementWrite buffer (octets-by elementWrite refl) element-permitted (counter 1 51 1) 47 counter-at refl in
-    omega arith
-
--- KEEPING THE LEVEL after a wrong key
-pub level-refuted : Keeps keepsLevel → ⊥
-unfolding stateAfter eventOf stepOf stepBy judgeOf isAccepted isShut reachedOf rulesOf levelIn levelOf grantOf authorizeOf
-    level opened content firstOf keyIn heard allowed asks readPdu find dataOf encoded headBytes lowAt
-    ruleIn walkRule entriesRule bodiesRule entryRule bodyRule bodyDemands entryDemands entry keyOf floor bodyAt bodyEnd startOf reached sixBits first breach numAt bytesOf sample
-level-refuted k = let e : _≡_ {A = ℕ} 0 3 = k fresh givenUp begins octets-given-up .rights in omega arith
+pub wrongs-refuted : Each wrongs
+wrongs-refuted = each wrongs told

@@ -12,14 +12,30 @@ use Rattle.pdu.proofs.Truths.{never}
 use Rattle.device.specs.Step.{Step}
 use Rattle.device.specs.Events.{Event, State, request}
 use Rattle.history.specs.Location.{Location}
-use Rattle.history.specs.Wish.{Wish, writeMemory, writeBits, writeProperty, writeKey, offerKey, restart, address, addressFor, group, nothing, asks, brings}
-use Rattle.history.specs.Permit.{heard, levelFor, allowed, names, gives}
-use Rattle.history.specs.History.{First, isRestart, keyIn, offered, opened, level, content, permitted}
+use Rattle.history.specs.Span.{Span, names, gives}
+use Rattle.history.specs.Wish.{Wish, Change, change, asks, brings}
+use Rattle.history.specs.Permit.{heard, levelFor, allowed, spans}
+use Rattle.history.specs.History.{First, wished, supplied, isRestart, offered, opened, level, keys, content, permitted}
 use Rattle.history.specs.Others.{programming, individual, groupByte, newAddress, newValue}
-use Rattle.history.specs.Keeps.{Writing, CarriedOut}
+use Rattle.history.specs.Keeps.{CarriedOut}
 use Rattle.history.proofs.Bools.{and-false, cond-same}
 use Rattle.history.proofs.Invariant.{Inv, means-as}
 use Rattle.history.proofs.Means.{Means}
+use Rattle.history.proofs.Spans.{laid, laid-is}
+
+-- contents change by a permitted write alone, and by it they do
+module _ (f : First) (h : List Event) (e : Event) where
+  abbrev pub Spans : List Span
+  Spans = spans (f .sheet) (content f h) (supplied e) (wished e)
+
+  pub contents-same : permitted f h e ≡ false → (y : Location) → content f (e ∷ h) y ≡ content f h y
+  unfolding content permitted
+  contents-same p y = rw p
+
+  pub contents-new :
+      permitted f h e ≡ true → (y : Location) → content f (e ∷ h) y ≡ cond (names Spans y) (gives Spans y) (content f h y)
+  unfolding content permitted
+  contents-new p y = rw p
 
 module _ (f : First) (h : List Event) (mode g : ℕ) (a out : List ℕ) where
   abbrev pub E : Event
@@ -71,8 +87,8 @@ module _ (f : First) (h : List Event) (mode g : ℕ) (a out : List ℕ) where
     unfolding opened
     opens-new = rw (ok, e)
 
-    pub levels-new : level f (E ∷ h) ≡ offered (keyIn (content f h)) (level f h) w
-    unfolding level
+    pub levels-new : level f (E ∷ h) ≡ offered (keys f h) (level f h) w
+    unfolding level keys
     levels-new = rw (ok, e)
 
     pub programs-new : programming f (E ∷ h) ≡ cond (isRestart w) 0 (programming f h)
@@ -89,38 +105,15 @@ module _ (f : First) (h : List Event) (mode g : ℕ) (a out : List ℕ) where
     values-new i j = rw (ok, e)
 
   -- by a write
-  pub writing-same : (w : Wish) → asks a ≡ w → Writing w → Same
-  writing-same w e t =
+  pub writing-same : (c : Change) → asks a ≡ change c → Same
+  writing-same c e =
       record {
-        opens = opens-same w e (quiet w t .0);
-        levels = levels-same w e (quiet w t .1);
-        addresses = addresses-same w e (quiet w t .2);
-        programs = programs-same w e (quiet w t .0);
-        values = λ i j l. values-same w e (quiet w t .3) i j;
+        opens = opens-same (change c) e refl;
+        levels = levels-same (change c) e (λ k l. refl);
+        addresses = addresses-same (change c) e (λ m s v. refl);
+        programs = programs-same (change c) e refl;
+        values = λ i j l. values-same (change c) e (λ n k d j v. refl) i j;
       }
-    where
-      quiet : (w : Wish) → Writing w → (isRestart w ≡ false) × ((k : ℕ → ℕ) (l : ℕ) → offered k l w ≡ l) × ((m s v : ℕ) → newAddress m s v w ≡ v) × ((n : List ℕ) (k : ℕ) (d : List ℕ) (j v : ℕ) → newValue n k d j v w ≡ v)
-      quiet (writeMemory n y) t = (refl, λ k l. refl, λ m s v. refl, λ n k d j v. refl)
-      quiet (writeBits n y) t = (refl, λ k l. refl, λ m s v. refl, λ n k d j v. refl)
-      quiet (writeProperty o i n s) t = (refl, λ k l. refl, λ m s v. refl, λ n k d j v. refl)
-      quiet (writeKey l n) t = (refl, λ k l. refl, λ m s v. refl, λ n k d j v. refl)
-      quiet (offerKey n) t = absurd t
-      quiet restart t = absurd t
-      quiet (address v) t = absurd t
-      quiet (addressFor n v) t = absurd t
-      quiet (group k v) t = absurd t
-      quiet nothing t = absurd t
-
-  -- contents change by a permitted write alone
-  pub contents-same : permitted f h E ≡ false → (y : Location) → content f (E ∷ h) y ≡ content f h y
-  unfolding content permitted
-  contents-same e y = rw e
-
-  pub contents-new :
-      permitted f h E ≡ true → (y : Location) →
-      content f (E ∷ h) y ≡ cond (names (f .sheet) (asks a) y) (gives (f .sheet) (content f h) (brings a) (asks a) y) (content f h y)
-  unfolding content permitted
-  contents-new e y = rw e
 
   -- and it is one exactly if it is heard and allowed
   pub unheard-forbidden : Ok ≡ false → permitted f h E ≡ false
@@ -140,12 +133,13 @@ module _ (f : First) (h : List Event) (mode g : ℕ) (a out : List ℕ) where
   -- WHAT IS SHOWN OF EVERY REQUEST and the step that it gets
   pub record Done (r : Step) : Type 0 where
     pub next : Inv f (E ∷ h) (record { session = r .session; sheet = r .sheet })
-    pub only : CarriedOut a r → permitted f h E ≡ true
-    pub all : permitted f h E ≡ true → CarriedOut a r
+    pub only : CarriedOut E r → permitted f h E ≡ true
+    pub all : permitted f h E ≡ true → CarriedOut E r
 
   module _ (x : State) (inv : Inv f h x) where
     -- nothing is carried out, and nothing changes
-    pub left : Same → permitted f h E ≡ false → (n : ℕ) (d : List ℕ) → (Writing (asks a) → n ≤ 1 → ⊥) →
+    pub left : Same → permitted f h E ≡ false → (n : ℕ) (d : List ℕ) →
+        (CarriedOut E (record { outcome = n; answer = d; session = x .session; sheet = x .sheet }) → ⊥) →
         Done (record { outcome = n; answer = d; session = x .session; sheet = x .sheet })
     left same e n d none =
         record {
@@ -154,21 +148,21 @@ module _ (f : First) (h : List Event) (mode g : ℕ) (a out : List ℕ) where
                 session = inv .session ∙ sym (same .opens);
                 rights = inv .rights ∙ sym (same .levels);
                 means =
-                    means-as (inv .means) (λ y. sym (contents-same e y)) (sym (same .addresses)) (sym (same .programs))
+                    means-as (inv .means) (λ y. sym (contents-same f h E e y)) (sym (same .addresses)) (sym (same .programs))
                     (λ i j l. sym (same .values i j l));
               };
-          only = λ c. absurd (none (c .writing) (c .outcome));
+          only = λ c. absurd (none c);
           all = λ p. never (sym e ∙ p);
         }
 
     -- a write is carried out
     pub wrote :
-        (w : Wish) → asks a ≡ w → Writing w → permitted f h E ≡ true → (n : ℕ) (d s : List ℕ) → n ≤ 1 →
-        Means (f .sheet) (λ y. cond (names (f .sheet) w y) (gives (f .sheet) (content f h) (brings a) w y) (content f h y))
-        (individual f h) (programming f h) (groupByte f h) s →
+        (w : Change) → asks a ≡ change w → permitted f h E ≡ true → (n : ℕ) (d s : List ℕ) →
+        CarriedOut E (record { outcome = n; answer = d; session = x .session; sheet = s }) →
+        Means (f .sheet) (laid (spans (f .sheet) (content f h) (brings a) (change w)) (content f h)) (individual f h) (programming f h) (groupByte f h) s →
         Done (record { outcome = n; answer = d; session = x .session; sheet = s })
-    wrote w e t p n d s low m =
-        let same = writing-same w e t in
+    wrote w e p n d s carried m =
+        let same = writing-same w e in
         record {
           next =
               record {
@@ -176,9 +170,12 @@ module _ (f : First) (h : List Event) (mode g : ℕ) (a out : List ℕ) where
                 rights = inv .rights ∙ sym (same .levels);
                 means =
                     means-as m
-                    (λ y. ap (λ (v : Wish). cond (names (f .sheet) v y) (gives (f .sheet) (content f h) (brings a) v y) (content f h y)) (sym e) ∙ sym (contents-new p y))
+                    (λ y.
+                    ap (λ (v : Wish). laid (spans (f .sheet) (content f h) (brings a) v) (content f h) y) (sym e)
+                    ∙ laid-is (Spans f h E) (content f h) y
+                    ∙ sym (contents-new f h E p y))
                     (sym (same .addresses)) (sym (same .programs)) (λ i j l. sym (same .values i j l));
               };
           only = λ c. p;
-          all = λ q. record { writing = rw e t; outcome = low };
+          all = λ q. carried;
         }

@@ -1,6 +1,6 @@
 -- Every step that is due does what the history says.
 -- Assumes nothing.
-use Prim.Native.Nat.{ℕ, _≤_}
+use Prim.Native.Nat.{ℕ}
 use mathlib.Core.Path.{_≡_, refl, sym, ap, subst, _∙_}
 use mathlib.Core.Bool.{Bool, false}
 use mathlib.Core.List.{List, []}
@@ -11,14 +11,14 @@ use Rattle.pdu.specs.declared.Pdu.{Pdu}
 use Rattle.pdu.specs.declared.Pdu.the-variants.{GroupValueRead, IndividualAddressRead, SerialNumberRead, DeviceDescriptorRead, PropertyValueRead, PropertyDescriptionRead, MemoryRead}
 use Rattle.device.specs.Octets.{Octets}
 use Rattle.device.specs.Step.{Step}
-use Rattle.device.specs.Events.{Event, State}
+use Rattle.device.specs.Events.{Event, State, request}
 use Rattle.device.specs.Asked.{Asked, Reads}
 use Rattle.device.specs.Right as right
 use Rattle.device.specs.Right.{Right}
 use Rattle.history.specs.Wish.{asks}
 use Rattle.history.specs.Permit.{heard}
 use Rattle.history.specs.History.{First}
-use Rattle.history.specs.Keeps.{Begins, Writing}
+use Rattle.history.specs.Keeps.{Begins, Writing, CarriedOut}
 use Rattle.history.specs.Rightful.{asked}
 use Rattle.history.proofs.Hearing.{Idle, asks-is}
 use Rattle.history.proofs.Invariant.{Inv, now-accepted}
@@ -39,7 +39,7 @@ module _ (f : First) (b : Begins f) (h : List Event) (x : State) (inv : Inv f h 
 
   -- what is not heard
   unheard :
-      heard (x .session .opened) mode a out (asks a) ≡ false → (n : ℕ) (d : List ℕ) → (Writing (asks a) → n ≤ 1 → ⊥) →
+      heard (x .session .opened) mode a out (asks a) ≡ false → (n : ℕ) (d : List ℕ) → (CarriedOut (request mode g a out) (record { outcome = n; answer = d; session = x .session; sheet = x .sheet }) → ⊥) →
       Done f h mode g a out (record { outcome = n; answer = d; session = x .session; sheet = x .sheet })
   unheard e n d none =
       let o : Ok f h mode g a out ≡ false = ap (λ (t : Bool). heard t mode a out (asks a)) (sym (inv .session)) ∙ e in
@@ -48,15 +48,15 @@ module _ (f : First) (b : Begins f) (h : List Event) (x : State) (inv : Inv f h 
   idle : (p : Pdu) → Idle p → Reads R p → (n : ℕ) (d : List ℕ) → Done f h mode g a out (record { outcome = n; answer = d; session = x .session; sheet = x .sheet })
   idle p i r n d =
       let e = asks-is a p (r .reads) ∙ i in
-      unheard (nothing-unheard x mode g a out accepted e) n d (λ z l. subst Writing e z)
+      unheard (nothing-unheard x mode g a out accepted e) n d (λ z. subst Writing e (z .writing))
 
   -- EVERY STEP THAT IS DUE
   pub due : {r : Step} → Right R r → Done f h mode g a out r
   due (right.beforeService {n} q) =
-      unheard (refusal-unheard x mode g a out accepted q) n [] (λ z l. let k = refusal-high q in omega arith)
-  due (right.unknown r q) = unheard (unknown-unheard x mode g a out accepted octets q) 8 [] (λ z l. omega arith)
-  due (right.otherMode k r n s q) = unheard (mode-unheard x mode g a out accepted octets k n q) 9 [] (λ z l. omega arith)
-  due (right.unfit k r n t q) = unheard (unread-unheard x mode g a out accepted 10 q) 10 [] (λ z l. omega arith)
+      unheard (refusal-unheard x mode g a out accepted q) n [] (λ z. omega (arith, z .outcome, refusal-high q))
+  due (right.unknown r q) = unheard (unknown-unheard x mode g a out accepted octets q) 8 [] (λ z. omega (arith, z .outcome))
+  due (right.otherMode k r n s q) = unheard (mode-unheard x mode g a out accepted octets k n q) 9 [] (λ z. omega (arith, z .outcome))
+  due (right.unfit k r n t q) = unheard (unread-unheard x mode g a out accepted 10 q) 10 [] (λ z. omega (arith, z .outcome))
   due (right.groupRead0 i r m n o) = idle GroupValueRead refl r 0 _
   due (right.groupRead i r m n o) = idle GroupValueRead refl r 0 _
   due (right.noGroupRead r q) = idle GroupValueRead refl r 2 []
@@ -80,20 +80,20 @@ module _ (f : First) (b : Begins f) (h : List Event) (x : State) (inv : Inv f h 
   due (right.propertyClear o d i r w e) = property-cleared f b h x inv mode g a out octets o d i w r e 0 _ (omega arith)
   due (right.propertyWrite o d n z i ds r w e el size) =
       property-written f b h x inv mode g a out octets o d i w n z ds r e el size 0 _ (omega arith)
-  due (right.noPropertyWrite o d n z r q) = property-denied f b h x inv mode g a out octets o d n z r q 11 _ (omega arith)
+  due (right.noPropertyWrite o d n z r q) = property-denied f b h x inv mode g a out octets o d n z r q 11 _ (λ z. omega arith)
   due (right.description o d n i r q) = idle (PropertyDescriptionRead o d n) refl r 0 _
   due (right.noDescription o d n r q) = idle (PropertyDescriptionRead o d n) refl r 11 _
   due (right.memoryRead n y i r q) = idle (MemoryRead n y) refl r 0 _
   due (right.noMemoryRead n y r q) = idle (MemoryRead n y) refl r 11 _
   due (right.memoryWriteVerified n y i d r w e v) = memory-written f b h x inv mode g a out octets n y i d r w e 0 _ (omega arith)
   due (right.memoryWrite n y i d r w e v) = memory-written f b h x inv mode g a out octets n y i d r w e 1 [] (omega arith)
-  due (right.noMemoryWriteVerified n y r q v) = memory-denied f b h x inv mode g a out octets n y r q 11 _ (omega arith)
-  due (right.noMemoryWrite n y r q v) = memory-denied f b h x inv mode g a out octets n y r q 12 [] (omega arith)
+  due (right.noMemoryWriteVerified n y r q v) = memory-denied f b h x inv mode g a out octets n y r q 11 _ (λ z. omega arith)
+  due (right.noMemoryWrite n y r q v) = memory-denied f b h x inv mode g a out octets n y r q 12 [] (λ z. omega arith)
   due (right.bitWriteVerified n y i d r w e v) = bits-written f b h x inv mode g a out octets n y i d r w e 0 _ (omega arith)
   due (right.bitWrite n y i d r w e v) = bits-written f b h x inv mode g a out octets n y i d r w e 1 [] (omega arith)
-  due (right.noBitWriteVerified n y r q v) = bits-denied f b h x inv mode g a out octets n y r q 11 _ (omega arith)
-  due (right.noBitWrite n y r q v) = bits-denied f b h x inv mode g a out octets n y r q 12 [] (omega arith)
+  due (right.noBitWriteVerified n y r q v) = bits-denied f b h x inv mode g a out octets n y r q 11 _ (λ z. omega arith)
+  due (right.noBitWrite n y r q v) = bits-denied f b h x inv mode g a out octets n y r q 12 [] (λ z. omega arith)
   due (right.authorize n l r q) = authorized f b h x inv mode g a out n l r q 0 _
   due (right.keyWrite l n r w) = key-written f b h x inv mode g a out l n r w 0 _ (omega arith)
-  due (right.noKeyWrite l n r q) = key-denied f b h x inv mode g a out l n r q 11 _ (omega arith)
+  due (right.noKeyWrite l n r q) = key-denied f b h x inv mode g a out l n r q 11 _ (λ z. omega arith)
   due (right.restart r) = restarted f b h x inv mode g a out r 1 []

@@ -1,4 +1,4 @@
--- A STORE TO LOCATIONS: a run of bytes, each of them the place of a location that the write names.
+-- A STORE TO LOCATIONS: a run of bytes, each of them the place of a location that a span has.
 -- Assumes nothing.
 use Prim.Native.Nat.{ℕ, _+_, _-_, _<_, _≤_}
 use mathlib.Core.Path.{_≡_, refl, sym, ap, subst, _∙_}
@@ -12,15 +12,16 @@ use Rattle.octets.specs.Splice.{splice}
 use Rattle.octets.proofs.Splices.{splice-in, splice-outside}
 use Rattle.sheet.proofs.Good.{Good}
 use Rattle.history.specs.Location.{Location, Place}
-use Rattle.history.proofs.Places.{location-once}
+use Rattle.pdu.proofs.Truths.{never}
+use Rattle.history.specs.Span.{byte, Span, has, put}
+use Rattle.history.proofs.Places.{location-once, place-once}
+use Rattle.history.proofs.Spans.{on, has-only, has-on}
 
--- the run ds from o on, in a sheet with the places of s: byte i is that of the location `at i`, and no other location is named
-pub record Run (s : List ℕ) (named : Location → Bool) (given : Location → ℕ) (o : ℕ) (ds : List ℕ) : Type 0 where
-  pub at : ℕ → Location
-  pub places : (i : ℕ) → i < length ds → Place s (at i) (o + i)
-  pub names : (i : ℕ) → i < length ds → named (at i) ≡ true
-  pub gives : (i : ℕ) → i < length ds → given (at i) ≡ getD ds i 0
-  pub only : (x : Location) (p : ℕ) → Place s x p → named x ≡ true → (o ≤ p) × (p < o + length ds)
+-- the bytes ds from o on are those of a span, in a sheet with the places of s
+pub record Run (s : List ℕ) (p : Span) (o : ℕ) (ds : List ℕ) : Type 0 where
+  pub size : length ds ≡ p .long
+  pub places : (j : ℕ) → j < p .long → Place s (on (p .from) j) (o + j)
+  pub bytes : (j : ℕ) → j < p .long → p .give j ≡ getD ds j 0
 
 -- what is not in a run is before or after it
 pub away : (o n p : ℕ) → (o ≤ p → p < o + n → ⊥) → (p < o) ⊎ (o + n ≤ p)
@@ -33,39 +34,34 @@ away o n p f = go (decLt p o) (decLt p (o + n))
 
 -- places of the sheet f; the bytes of the sheet s
 module _
-    {f : List ℕ} (g : Good 1 f) (s : List ℕ) (named : Location → Bool) (given : Location → ℕ) (o : ℕ) (ds : List ℕ)
-    (room : o + length ds ≤ length s) (run : Run f named given o ds) where
-  -- a location in the run is the one that stands there
-  in-run : (x : Location) (p : ℕ) → Place f x p → o ≤ p → p < o + length ds → run .at (p - o) ≡ x
-  in-run x p h l m =
-      let q : Place f (run .at (p - o)) p =
-      subst (λ (n : ℕ). Place f (run .at (p - o)) n) (omega arith) (run .places (p - o) (omega arith)) in
-      location-once g q h
+    {f : List ℕ} (g : Good 1 f) (s : List ℕ) (p : Span) (o : ℕ) (ds : List ℕ) (room : o + length ds ≤ length s)
+    (run : Run f p o ds) where
+  -- the location that stands in the run at q
+  there : (q : ℕ) → o ≤ q → q < o + length ds → Place f (on (p .from) (q - o)) q
+  there q l m =
+      let e : o + (q - o) ≡ q = omega arith in
+      subst (λ (n : ℕ). Place f (on (p .from) (q - o)) n) e (run .places (q - o) (omega (arith, run .size)))
 
-  -- EVERY LOCATION HOLDS WHAT THE WRITE GAVE, IF IT NAMED IT, AND ELSE WHAT IT HELD
-  pub stored : (x : Location) (p : ℕ) → Place f x p → getD (splice s o ds) p 0 ≡ cond (named x) (given x) (getD s p 0)
-  stored x p h = go (named x) refl
+  -- EVERY LOCATION HOLDS WHAT THE SPAN GIVES, IF IT HAS IT, AND ELSE WHAT IT HELD
+  pub stored : (x : Location) (q : ℕ) → Place f x q → getD (splice s o ds) q 0 ≡ cond (has p x) (put p x) (getD s q 0)
+  unfolding put
+  stored x q h = go (has p x) refl
     where
-      go : (t : Bool) → named x ≡ t → getD (splice s o ds) p 0 ≡ cond t (given x) (getD s p 0)
+      go : (t : Bool) → has p x ≡ t → getD (splice s o ds) q 0 ≡ cond t (p .give (byte x - byte (p .from))) (getD s q 0)
       go true e =
-          let b = run .only x p h e in
-          let q : p ≡ o + (p - o) = omega arith in
-          ap (λ (i : ℕ). getD (splice s o ds) i 0) q
-          ∙ splice-in s o ds room (p - o) (omega arith)
-          ∙ sym (run .gives (p - o) (omega arith))
-          ∙ ap given (in-run x p h (b .0) (b .1))
+          let b = has-only p x e in
+          let k : q ≡ o + (byte x - byte (p .from)) =
+          place-once g h (subst (λ (y : Location). Place f y (o + (byte x - byte (p .from)))) (sym (b .0)) (run .places _ (b .1))) in
+          ap (λ (i : ℕ). getD (splice s o ds) i 0) k
+          ∙ splice-in s o ds room (byte x - byte (p .from)) (omega (arith, run .size, b .1))
+          ∙ sym (run .bytes _ (b .1))
       go false e =
-          splice-outside s o ds room p
-          (away o (length ds) p
+          splice-outside s o ds room q
+          (away o (length ds) q
           (λ l m.
-          let t : named x ≡ true = sym (ap named (in-run x p h l m)) ∙ run .names (p - o) (omega arith) in
-          let z : _≡_ {A = ℕ} 0 1 = cc in omega arith))
+          let k : on (p .from) (q - o) ≡ x = location-once g (there q l m) h in
+          never (sym e ∙ sym (ap (has p) k) ∙ has-on p (q - o) (omega (arith, run .size)))))
 
   -- and what is no location's stays
-  pub spared : (p : ℕ) → ((x : Location) → Place f x p → ⊥) → getD (splice s o ds) p 0 ≡ getD s p 0
-  spared p no-place =
-      splice-outside s o ds room p
-      (away o (length ds) p
-      (λ l m.
-      no-place (run .at (p - o))
-      (subst (λ (n : ℕ). Place f (run .at (p - o)) n) (omega arith) (run .places (p - o) (omega arith)))))
+  pub spared : (q : ℕ) → ((x : Location) → Place f x q → ⊥) → getD (splice s o ds) q 0 ≡ getD s q 0
+  spared q no-place = splice-outside s o ds room q (away o (length ds) q (λ l m. no-place _ (there q l m)))

@@ -14,8 +14,9 @@ use Rattle.sheet.specs.Entries.{entry, place}
 use Rattle.judge.specs.declared.Session.{Session}
 use Rattle.device.specs.Events.{Event, connect, disconnect, button, request}
 use Rattle.history.specs.Location.{Location, memory, body, counter, key}
-use Rattle.history.specs.Wish.{Wish, writeMemory, writeBits, writeProperty, writeKey, offerKey, restart, address, addressFor, group, nothing, asks, brings}
-use Rattle.history.specs.Permit.{heard, levelFor, regionFor, indexFor, entryFor, allowed, names, gives}
+use Rattle.history.specs.Span.{names, gives}
+use Rattle.history.specs.Wish.{Wish, change, offerKey, restart, other, nothing, asks, brings}
+use Rattle.history.specs.Permit.{heard, levelFor, regionFor, indexFor, entryFor, allowed, spans}
 
 pub record First : Type 0 where
   pub sheet : List ℕ
@@ -29,31 +30,34 @@ firstOf s (body o i j) = getD s (property.offset of entryFor s o i + j) 0
 firstOf s (counter o i j) = getD s (place s properties (indexFor s o i) + property.count .at + j) 0
 firstOf s (key l j) = getD s ((head.key l) .at + j) 0
 
+-- what an event asks for, and the data that it brings: a request alone does
+abbrev pub wished : Event → Wish
+wished connect = nothing
+wished disconnect = nothing
+wished (button on) = nothing
+wished (request mode g a out) = asks a
+
+abbrev pub supplied : Event → List ℕ
+supplied connect = []
+supplied disconnect = []
+supplied (button on) = []
+supplied (request mode g a out) = brings a
+
 -- a restart
 abbrev pub isRestart : Wish → Bool
-isRestart (writeMemory n a) = false
-isRestart (writeBits n a) = false
-isRestart (writeProperty object id n s) = false
-isRestart (writeKey level number) = false
+isRestart (change c) = false
 isRestart (offerKey number) = false
 isRestart restart = true
-isRestart (address new) = false
-isRestart (addressFor serial new) = false
-isRestart (group flag v) = false
+isRestart (other o) = false
 isRestart nothing = false
 
 -- the level that a request leaves, given the number of each level's key and the level before: an offer and a restart set it
 abbrev pub offered : (ℕ → ℕ) → ℕ → Wish → ℕ
-offered keys before (writeMemory n a) = before
-offered keys before (writeBits n a) = before
-offered keys before (writeProperty object id n s) = before
-offered keys before (writeKey level number) = before
+offered keys before (change c) = before
 offered keys before (offerKey number) =
     cond (eqb number (keys 0)) 0 (cond (eqb number (keys 1)) 1 (cond (eqb number (keys 2)) 2 3))
 offered keys before restart = 3
-offered keys before (address new) = before
-offered keys before (addressFor serial new) = before
-offered keys before (group flag v) = before
+offered keys before (other o) = before
 offered keys before nothing = before
 
 -- the number of a level's key by the contents of its four bytes
@@ -67,13 +71,13 @@ openedBy live disconnect = false
 openedBy live (button on) = live
 openedBy live (request mode g a out) = cond (heard live mode a out (asks a) && isRestart (asks a)) false live
 
--- what one event makes of a level, `now` being the contents before it
-abbrev pub levelBy : Bool → (Location → ℕ) → ℕ → Event → ℕ
-levelBy live now before connect = 3
-levelBy live now before disconnect = 3
-levelBy live now before (button on) = before
-levelBy live now before (request mode g a out) =
-    cond (heard live mode a out (asks a)) (offered (keyIn now) before (asks a)) before
+-- what one event makes of a level, `keys` being the keys before it
+abbrev pub levelBy : Bool → (ℕ → ℕ) → ℕ → Event → ℕ
+levelBy live keys before connect = 3
+levelBy live keys before disconnect = 3
+levelBy live keys before (button on) = before
+levelBy live keys before (request mode g a out) =
+    cond (heard live mode a out (asks a)) (offered keys before (asks a)) before
 
 -- A PERMITTED WRITE: heard while the session is so, and allowed at the level
 abbrev pub permits : List ℕ → Bool → ℕ → Event → Bool
@@ -83,13 +87,10 @@ permits s live level (button on) = false
 permits s live level (request mode g a out) =
     heard live mode a out (asks a) && allowed s (levelFor mode level) (brings a) (asks a)
 
--- what a permitted write gives to a location, and what any other event leaves there
+-- what a permitted write gives to a location that it names; all else stays
 abbrev pub contentBy : List ℕ → Bool → (Location → ℕ) → Event → Location → ℕ
-contentBy s isPermitted now connect x = now x
-contentBy s isPermitted now disconnect x = now x
-contentBy s isPermitted now (button on) x = now x
-contentBy s isPermitted now (request mode g a out) x =
-    cond (isPermitted && names s (asks a) x) (gives s now (brings a) (asks a) x) (now x)
+contentBy s isPermitted now e x =
+    let ps = spans s now (supplied e) (wished e) in cond (isPermitted && names ps x) (gives ps x) (now x)
 
 -- WHETHER THE SESSION IS OPEN
 unfoldable pub opened : First → List Event → Bool
@@ -100,12 +101,16 @@ opened f (e ∷ h) = openedBy (opened f h) e
 unfoldable mutual
   pub level : First → List Event → ℕ
   level f [] = f .session .level
-  level f (e ∷ h) = levelBy (opened f h) (λ x. content f h x) (level f h) e
+  level f (e ∷ h) = levelBy (opened f h) (λ l. keyIn (λ x. content f h x) l) (level f h) e
 
   pub content : First → List Event → Location → ℕ
   content f [] x = firstOf (f .sheet) x
   content f (e ∷ h) x =
       contentBy (f .sheet) (permits (f .sheet) (opened f h) (level f h) e) (λ y. content f h y) e x
+
+-- THE KEY OF A LEVEL
+unfoldable pub keys : First → List Event → ℕ → ℕ
+keys f h l = keyIn (λ x. content f h x) l
 
 -- A WRITE THAT IS PERMITTED AFTER A HISTORY
 unfoldable pub permitted : First → List Event → Event → Bool

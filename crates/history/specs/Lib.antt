@@ -1,9 +1,11 @@
 pub mod Location
 pub mod Sort
+pub mod Span
 pub mod Wish
 pub mod Permit
 pub mod History
 pub mod Others
 pub mod Keeps
+pub mod Keyless
 pub mod Rightful
 pub mod Wrong

@@ -12,7 +12,8 @@ use Rattle.sheet.specs.Group as group
 use Rattle.sheet.specs.Entries.{entry, bodyAt}
 use Rattle.device.specs.Events.{Event, connect, disconnect, button, request, bit}
 use Rattle.history.specs.Wish as wish
-use Rattle.history.specs.Permit.{all, heard}
+use Rattle.history.specs.Span.{all}
+use Rattle.history.specs.Permit.{heard}
 use Rattle.history.specs.History.{First, opened, isRestart}
 
 -- PROGRAMMING MODE: what the last button event set, cleared by a restart
@@ -26,15 +27,12 @@ programming f (request mode g a out ∷ h) =
 
 -- the new address that a request brings: in programming mode (`inProgramming` is 1), or by the serial number
 abbrev pub newAddress : ℕ → ℕ → ℕ → wish.Wish → ℕ
-newAddress inProgramming serial before (wish.writeMemory n a) = before
-newAddress inProgramming serial before (wish.writeBits n a) = before
-newAddress inProgramming serial before (wish.writeProperty object id n s) = before
-newAddress inProgramming serial before (wish.writeKey level number) = before
+newAddress inProgramming serial before (wish.change c) = before
 newAddress inProgramming serial before (wish.offerKey number) = before
 newAddress inProgramming serial before wish.restart = before
-newAddress inProgramming serial before (wish.address new) = cond (eqb inProgramming 1) new before
-newAddress inProgramming serial before (wish.addressFor named new) = cond (eqb named serial) new before
-newAddress inProgramming serial before (wish.group flag v) = before
+newAddress inProgramming serial before (wish.other (wish.address new)) = cond (eqb inProgramming 1) new before
+newAddress inProgramming serial before (wish.other (wish.addressFor named new)) = cond (eqb named serial) new before
+newAddress inProgramming serial before (wish.other (wish.group flag v)) = before
 newAddress inProgramming serial before wish.nothing = before
 
 -- THE INDIVIDUAL ADDRESS
@@ -49,15 +47,12 @@ individual f (request mode g a out ∷ h) =
 
 -- byte j of what a group value brings to the object of entry e: the six bits, or the data
 abbrev pub newValue : List ℕ → ℕ → List ℕ → ℕ → ℕ → wish.Wish → ℕ
-newValue e g d j before (wish.writeMemory n a) = before
-newValue e g d j before (wish.writeBits n a) = before
-newValue e g d j before (wish.writeProperty object id n s) = before
-newValue e g d j before (wish.writeKey level number) = before
+newValue e g d j before (wish.change c) = before
 newValue e g d j before (wish.offerKey number) = before
 newValue e g d j before wish.restart = before
-newValue e g d j before (wish.address new) = before
-newValue e g d j before (wish.addressFor named new) = before
-newValue e g d j before (wish.group flag v) =
+newValue e g d j before (wish.other (wish.address new)) = before
+newValue e g d j before (wish.other (wish.addressFor named new)) = before
+newValue e g d j before (wish.other (wish.group flag v)) =
     cond
     (all
     (eqb (group.address of e) g ∷ eqb (group.flags of e / flag % 2) 1 ∷ eqb (length d) (group.code of e) ∷ []))

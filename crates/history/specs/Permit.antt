@@ -1,4 +1,4 @@
--- Which writes are permitted, which bytes they name, and what they give to each.
+-- Which requests are heard, which writes are allowed, which bytes they name, and what they give to each.
 -- Assumes nothing.
 use Prim.Native.Nat.{ℕ, zero, suc, _+_, _*_, _-_, _/_, _%_, max}
 use mathlib.Core.List.{List, [], _∷_}
@@ -9,16 +9,14 @@ use lib.Bits.{bitAnd, bitXor}
 use Rattle.octets.specs.Bytes.{numAt, bytesOf}
 use Rattle.sheet.specs.Kind.{regions, properties}
 use Rattle.sheet.specs.Layout.{_of_}
+use Rattle.sheet.specs.Head as head
 use Rattle.sheet.specs.Region as region
 use Rattle.sheet.specs.Property as property
 use Rattle.sheet.specs.Entries.{count, entry}
 use Rattle.sheet.specs.Lookup.{seek, covers, indexOf}
 use Rattle.history.specs.Location.{Location, memory, body, counter, key}
-use Rattle.history.specs.Wish.{Wish, writeMemory, writeBits, writeProperty, writeKey, offerKey, restart, address, addressFor, group, nothing, taken}
-
-abbrev pub all : List Bool → Bool
-all [] = true
-all (b ∷ bs) = b && all bs
+use Rattle.history.specs.Span.{all, Span}
+use Rattle.history.specs.Wish.{Wish, change, writeMemory, writeBits, writeProperty, writeKey, offerKey, restart, other, nothing, taken}
 
 unfoldable pub every : ℕ → (ℕ → Bool) → Bool
 every zero f = true
@@ -68,87 +66,52 @@ fills e n s d =
 
 -- EVERY OTHER CHECK PASSES, AND THE LEVEL SUFFICES FOR EVERY BYTE THAT IS NAMED
 unfoldable pub allowed : List ℕ → ℕ → List ℕ → Wish → Bool
-allowed s level d (writeMemory n a) =
+allowed s level d (change (writeMemory n a)) =
     all
     (leb 1 n ∷ leb n 12 ∷ ltb (regionFor s a n) (count s regions) ∷ every n (λ i. mayWrite s level (a + i)) ∷ [])
-allowed s level d (writeBits n a) =
+allowed s level d (change (writeBits n a)) =
     all
     (leb 1 n ∷
     leb n 5 ∷
     ltb (regionFor s a n) (count s regions) ∷ every n (λ i. mayRead s level (a + i) && mayWrite s level (a + i)) ∷ [])
-allowed sheet level d (writeProperty object id n s) =
+allowed sheet level d (change (writeProperty object id n s)) =
     let e = entryFor sheet object id in
     all
     (ltb (indexFor sheet object id) (count sheet properties) ∷
     eqb (property.kind of e / 128) 1 ∷ (clears n s d || fills e n s d) ∷ leb level (property.levels of e % 16) ∷ [])
-allowed s level d (writeKey named number) = ltb named 3 && leb level named
+allowed s level d (change (writeKey named number)) = ltb named 3 && leb level named
 allowed s level d (offerKey number) = false
 allowed s level d restart = false
-allowed s level d (address new) = false
-allowed s level d (addressFor serial new) = false
-allowed s level d (group flag v) = false
+allowed s level d (other o) = false
 allowed s level d nothing = false
-
--- where the elements that a write names begin in the body
-abbrev pub start : List ℕ → ℕ → ℕ
-start e s = (s - 1) * property.element of e
-
--- THE BYTES THAT A WRITE NAMES
-unfoldable pub names : List ℕ → Wish → Location → Bool
-names s (writeMemory n a) (memory y) = leb a y && ltb y (a + n)
-names s (writeMemory n a) (body o i j) = false
-names s (writeMemory n a) (counter o i j) = false
-names s (writeMemory n a) (key l j) = false
-names s (writeBits n a) (memory y) = leb a y && ltb y (a + n)
-names s (writeBits n a) (body o i j) = false
-names s (writeBits n a) (counter o i j) = false
-names s (writeBits n a) (key l j) = false
-names sheet (writeProperty object id n s) (memory y) = false
-names sheet (writeProperty object id n s) (body o i j) =
-    let e = entryFor sheet object id in
-    all
-    (eqb o object ∷
-    eqb i id ∷ leb 1 s ∷ leb (start e s) j ∷ ltb j (start e s + n * property.element of e) ∷ [])
-names sheet (writeProperty object id n s) (counter o i j) = eqb o object && eqb i id
-names sheet (writeProperty object id n s) (key l j) = false
-names s (writeKey named number) (memory y) = false
-names s (writeKey named number) (body o i j) = false
-names s (writeKey named number) (counter o i j) = false
-names s (writeKey named number) (key l j) = eqb l named
-names s (offerKey number) x = false
-names s restart x = false
-names s (address new) x = false
-names s (addressFor serial new) x = false
-names s (group flag v) x = false
-names s nothing x = false
 
 -- the count of a property by the contents of its two bytes
 unfoldable pub countIn : (Location → ℕ) → ℕ → ℕ → ℕ
 countIn before o i = before (counter o i 0) * 256 + before (counter o i 1)
 
--- WHAT A WRITE GIVES TO A BYTE THAT IT NAMES, d being its data and `before` the contents before it
-unfoldable pub gives : List ℕ → (Location → ℕ) → List ℕ → Wish → Location → ℕ
-gives s before d (writeMemory n a) (memory y) = getD d (y - a) 0
-gives s before d (writeMemory n a) (body o i j) = 0
-gives s before d (writeMemory n a) (counter o i j) = 0
-gives s before d (writeMemory n a) (key l j) = 0
-gives s before d (writeBits n a) (memory y) =
-    bitXor (bitAnd (before (memory y)) (getD d (y - a) 0)) (getD d (n + (y - a)) 0)
-gives s before d (writeBits n a) (body o i j) = 0
-gives s before d (writeBits n a) (counter o i j) = 0
-gives s before d (writeBits n a) (key l j) = 0
-gives sheet before d (writeProperty object id n s) (memory y) = 0
-gives sheet before d (writeProperty object id n s) (body o i j) = getD d (j - start (entryFor sheet object id) s) 0
-gives sheet before d (writeProperty object id n s) (counter o i j) =
-    cond (eqb s 0) 0 (getD (bytesOf 2 (max (countIn before o i) (s + n - 1))) j 0)
-gives sheet before d (writeProperty object id n s) (key l j) = 0
-gives s before d (writeKey named number) (memory y) = 0
-gives s before d (writeKey named number) (body o i j) = 0
-gives s before d (writeKey named number) (counter o i j) = 0
-gives s before d (writeKey named number) (key l j) = getD (bytesOf 4 number) j 0
-gives s before d (offerKey number) x = 0
-gives s before d restart x = 0
-gives s before d (address new) x = 0
-gives s before d (addressFor serial new) x = 0
-gives s before d (group flag v) x = 0
-gives s before d nothing x = 0
+-- its two bytes become c
+abbrev pub countTo : ℕ → ℕ → ℕ → Span
+countTo object id c =
+    record { from = counter object id 0; long = property.count .width; give = λ j. getD (bytesOf 2 c) j 0 }
+
+-- THE BYTES THAT A WRITE NAMES, AND WHAT IT GIVES TO EACH, d being its data and `before` the contents before it
+unfoldable pub spans : List ℕ → (Location → ℕ) → List ℕ → Wish → List Span
+spans s before d (change (writeMemory n a)) = record { from = memory a; long = n; give = λ j. getD d j 0 } ∷ []
+spans s before d (change (writeBits n a)) =
+    record {
+      from = memory a;
+      long = n;
+      give = λ j. bitXor (bitAnd (before (memory (a + j))) (getD d j 0)) (getD d (n + j) 0);
+    } ∷
+    []
+spans sheet before d (change (writeProperty object id n s)) =
+    let z = property.element of entryFor sheet object id in
+    cond (eqb s 0) (countTo object id 0 ∷ [])
+    (countTo object id (max (countIn before object id) (s + n - 1)) ∷
+    record { from = body object id ((s - 1) * z); long = n * z; give = λ j. getD d j 0 } ∷ [])
+spans s before d (change (writeKey named number)) =
+    record { from = key named 0; long = (head.key named) .width; give = λ j. getD (bytesOf 4 number) j 0 } ∷ []
+spans s before d (offerKey number) = []
+spans s before d restart = []
+spans s before d (other o) = []
+spans s before d nothing = []

@@ -10,39 +10,44 @@ use Rattle.pdu.specs.declared.Parsed.the-variants.{Is, Refused}
 use Rattle.pdu.specs.declared.Pdu.{Pdu}
 use Rattle.pdu.specs.declared.Pdu.the-variants.{GroupValueRead, GroupValueResponse, GroupValueWrite, IndividualAddressWrite, IndividualAddressRead, SerialNumberRead, SerialNumberWrite, DeviceDescriptorRead, PropertyValueRead, PropertyValueWrite, PropertyDescriptionRead, MemoryRead, MemoryWrite, MemoryBitWrite, AuthorizeRequest, KeyWrite, Restart, IndividualAddressResponse, SerialNumberResponse, DeviceDescriptorResponse, PropertyValueResponse, PropertyDescriptionResponse, MemoryResponse, AuthorizeResponse, KeyResponse}
 
+-- a write to locations
+pub data Change : Type 0 where
+  writeMemory : (n address : ℕ) → Change
+  writeBits : (n address : ℕ) → Change
+  writeProperty : (object id n s : ℕ) → Change
+  writeKey : (level number : ℕ) → Change
+
+-- what changes other bytes: the address in programming mode, and by serial; a group value for objects that have a flag
+pub data Other : Type 0 where
+  address : (new : ℕ) → Other
+  addressFor : (serial new : ℕ) → Other
+  group : (flag v : ℕ) → Other
+
+-- a change, a key offered, a restart, other bytes, or nothing of these
 pub data Wish : Type 0 where
-  -- writes to locations
-  writeMemory : (n address : ℕ) → Wish
-  writeBits : (n address : ℕ) → Wish
-  writeProperty : (object id n s : ℕ) → Wish
-  writeKey : (level number : ℕ) → Wish
-  -- what changes the session
+  change : Change → Wish
   offerKey : (number : ℕ) → Wish
   restart : Wish
-  -- what changes other bytes: the address in programming mode, and by serial; a group value for objects that have a flag
-  address : (new : ℕ) → Wish
-  addressFor : (serial new : ℕ) → Wish
-  group : (flag v : ℕ) → Wish
-  -- anything else
+  other : Other → Wish
   nothing : Wish
 
 abbrev pub wishOf : Pdu → Wish
 wishOf GroupValueRead = nothing
-wishOf (GroupValueResponse v) = group 4 v
-wishOf (GroupValueWrite v) = group 2 v
-wishOf (IndividualAddressWrite new) = address new
+wishOf (GroupValueResponse v) = other (group 4 v)
+wishOf (GroupValueWrite v) = other (group 2 v)
+wishOf (IndividualAddressWrite new) = other (address new)
 wishOf IndividualAddressRead = nothing
 wishOf (SerialNumberRead serial) = nothing
-wishOf (SerialNumberWrite serial new) = addressFor serial new
+wishOf (SerialNumberWrite serial new) = other (addressFor serial new)
 wishOf (DeviceDescriptorRead t) = nothing
 wishOf (PropertyValueRead object id n s) = nothing
-wishOf (PropertyValueWrite object id n s) = writeProperty object id n s
+wishOf (PropertyValueWrite object id n s) = change (writeProperty object id n s)
 wishOf (PropertyDescriptionRead object id index) = nothing
 wishOf (MemoryRead n a) = nothing
-wishOf (MemoryWrite n a) = writeMemory n a
-wishOf (MemoryBitWrite n a) = writeBits n a
+wishOf (MemoryWrite n a) = change (writeMemory n a)
+wishOf (MemoryBitWrite n a) = change (writeBits n a)
 wishOf (AuthorizeRequest number) = offerKey number
-wishOf (KeyWrite level number) = writeKey level number
+wishOf (KeyWrite level number) = change (writeKey level number)
 wishOf Restart = restart
 wishOf IndividualAddressResponse = nothing
 wishOf (SerialNumberResponse serial domain) = nothing
@@ -71,13 +76,13 @@ brings a = dataFrom (readPdu a) a
 
 -- WHICH MODE TAKES IT: 0 multicast, 1 broadcast, 2 connectionless, 3 connected
 abbrev pub taken : Wish → ℕ → Bool
-taken (writeMemory n a) mode = eqb mode 3
-taken (writeBits n a) mode = eqb mode 3
-taken (writeProperty object id n s) mode = eqb mode 2 || eqb mode 3
-taken (writeKey level number) mode = eqb mode 3
+taken (change (writeMemory n a)) mode = eqb mode 3
+taken (change (writeBits n a)) mode = eqb mode 3
+taken (change (writeProperty object id n s)) mode = eqb mode 2 || eqb mode 3
+taken (change (writeKey level number)) mode = eqb mode 3
 taken (offerKey number) mode = eqb mode 3
 taken restart mode = eqb mode 3
-taken (address new) mode = eqb mode 1
-taken (addressFor serial new) mode = eqb mode 1
-taken (group flag v) mode = eqb mode 0
+taken (other (address new)) mode = eqb mode 1
+taken (other (addressFor serial new)) mode = eqb mode 1
+taken (other (group flag v)) mode = eqb mode 0
 taken nothing mode = false

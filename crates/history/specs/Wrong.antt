@@ -1,88 +1,142 @@
--- Five wrong devices, and short runs from the sample sheet on which they show.
+-- Wrong devices, each with a short run from the sample sheet on which it shows.
 -- Assumes nothing.
-use Prim.Native.Nat.{ℕ, _+_}
+use Prim.Native.Nat.{ℕ, _+_, _-_}
 use mathlib.Core.List.{List, [], _∷_}
-use mathlib.Core.Bool.{Bool, true, false, cond, _&&_}
-use lib.ListN.{replicate}
+use mathlib.Core.Bool.{Bool, true, false, cond, _&&_, _||_}
+use lib.ListN.{getD, replicate}
 use lib.Dec.{leb, eqb}
 use Rattle.octets.specs.Bytes.{bytesOf}
 use Rattle.octets.specs.Splice.{splice}
 use Rattle.sheet.specs.Kind.{properties}
 use Rattle.sheet.specs.Layout.{_of_}
+use Rattle.sheet.specs.Head as head
 use Rattle.sheet.specs.Property as property
 use Rattle.sheet.specs.Entries.{place}
 use Rattle.device.specs.Step.{Step}
 use Rattle.device.specs.Events.{Event, State, connect, disconnect, button, request, eventOf, freshOf}
 use Rattle.device.specs.Marked.{sample}
-use Rattle.history.specs.Wish.{Wish, writeMemory, writeBits, writeProperty, writeKey, offerKey, restart, address, addressFor, group, nothing, asks}
+use Rattle.history.specs.Wish.{Wish, change, writeMemory, writeBits, writeProperty, writeKey, offerKey, restart, other, nothing}
 use Rattle.history.specs.Permit.{indexFor, entryFor}
-use Rattle.history.specs.History.{First}
+use Rattle.history.specs.History.{First, wished, permitted}
+use Rattle.history.specs.Keeps.{Device, stateAfter}
+use Rattle.history.specs.Rightful.{ours}
 
--- a device that changes what ours makes of a request
-abbrev pub onRequests : (State → List ℕ → Step → Step) → State → Event → Step
-onRequests f x connect = eventOf x connect
-onRequests f x disconnect = eventOf x disconnect
-onRequests f x (button on) = eventOf x (button on)
-onRequests f x (request mode g a out) = f x a (eventOf x (request mode g a out))
+-- a step with another sheet, and with another level
+abbrev pub withSheet : Step → List ℕ → Step
+withSheet r s = record { outcome = r .outcome; answer = r .answer; session = r .session; sheet = s }
+
+abbrev pub withLevel : Step → ℕ → Step
+withLevel r l =
+    record { outcome = r .outcome; answer = r .answer; session = record { opened = r .session .opened; level = l }; sheet = r .sheet }
+
+-- a state whose session is open at a level
+abbrev pub at : State → ℕ → State
+at x l = record { session = record { opened = true; level = l }; sheet = x .sheet }
+
+-- a device that changes what ours makes of a request, and one that acts on requests as if the level were another
+abbrev pub onRequests : (State → Event → Step → Step) → Device
+onRequests c f h x connect = eventOf x connect
+onRequests c f h x disconnect = eventOf x disconnect
+onRequests c f h x (button on) = eventOf x (button on)
+onRequests c f h x (request mode g a out) = c x (request mode g a out) (eventOf x (request mode g a out))
+
+abbrev pub actsAt : (ℕ → ℕ) → Device
+actsAt taking =
+    onRequests
+    (λ x e r.
+    let w = eventOf record { session = record { opened = x .session .opened; level = taking (x .session .level) }; sheet = x .sheet } e in
+    record { outcome = w .outcome; answer = w .answer; session = r .session; sheet = w .sheet })
 
 -- ONE THAT REFUSES EVERYTHING
-abbrev pub refusesAll : State → Event → Step
-refusesAll = onRequests (λ x a r. record { outcome = 8; answer = []; session = x .session; sheet = x .sheet })
+abbrev pub refusesAll : Device
+refusesAll =
+    onRequests (λ x e r. record { outcome = 8; answer = []; session = x .session; sheet = x .sheet })
 
 -- ONE THAT ANSWERS AND STORES NOTHING
-abbrev pub storesNothing : State → Event → Step
-storesNothing =
-    onRequests (λ x a r. record { outcome = r .outcome; answer = r .answer; session = r .session; sheet = x .sheet })
+abbrev pub storesNothing : Device
+storesNothing = onRequests (λ x e r. withSheet r (x .sheet))
 
--- ONE THAT STORES THE FIRST WRITE AND AFTERWARDS ONLY ANSWERS: it stores while the sheet is the sample
-abbrev pub same : List ℕ → List ℕ → Bool
-same [] [] = true
-same [] (y ∷ t) = false
-same (x ∷ s) [] = false
-same (x ∷ s) (y ∷ t) = eqb x y && same s t
+-- ONE THAT STORES THE FIRST WRITE AND AFTERWARDS ONLY ANSWERS: it remembers whether there was one
+abbrev pub wrote : First → List Event → Bool
+wrote f [] = false
+wrote f (e ∷ h) = wrote f h || permitted f h e
 
-abbrev pub storesOnce : State → Event → Step
-storesOnce =
-    onRequests
-    (λ x a r.
-    record { outcome = r .outcome; answer = r .answer; session = r .session; sheet = cond (same (x .sheet) sample) (r .sheet) (x .sheet) })
+abbrev pub storesOnce : Device
+storesOnce f h x e = let r = eventOf x e in withSheet r (cond (wrote f h) (x .sheet) (r .sheet))
+
+-- ONE THAT STORES AN EVENT LATE: the sheet is what ours was before this event
+abbrev pub storesLate : Device
+storesLate f h x e = withSheet (eventOf (stateAfter ours f h) e) (stateAfter ours f h .sheet)
 
 -- ONE THAT INVENTS THE COUNT: it stores the maximum
 abbrev pub invented : List ℕ → Wish → List ℕ
-invented s (writeMemory n a) = s
-invented s (writeBits n a) = s
-invented s (writeProperty object id n z) =
+invented s (change (writeMemory n a)) = s
+invented s (change (writeBits n a)) = s
+invented s (change (writeProperty object id n z)) =
     splice s (place s properties (indexFor s object id) + property.count .at)
     (bytesOf 2 (property.maximum of entryFor s object id))
-invented s (writeKey level number) = s
+invented s (change (writeKey level number)) = s
 invented s (offerKey number) = s
 invented s restart = s
-invented s (address new) = s
-invented s (addressFor serial new) = s
-invented s (group flag v) = s
+invented s (other o) = s
 invented s nothing = s
 
-abbrev pub inventsCount : State → Event → Step
+abbrev pub inventsCount : Device
 inventsCount =
+    onRequests (λ x e r. withSheet r (cond (leb (r .outcome) 1) (invented (r .sheet) (wished e)) (r .sheet)))
+
+-- ONE THAT STORES BEFORE IT JUDGES: the sheet is stored to as if at level 0, and then judged as ours
+abbrev pub storesFirst : Device
+storesFirst =
     onRequests
-    (λ x a r.
-    record { outcome = r .outcome; answer = r .answer; session = r .session; sheet = cond (leb (r .outcome) 1) (invented (r .sheet) (asks a)) (r .sheet) })
+    (λ x e r.
+    let w = eventOf (at x 0) e in
+    withSheet (eventOf record { session = x .session; sheet = w .sheet } e) (w .sheet))
+
+-- THE ACCIDENT: it answers the refusal, 11, and stores, as if the request had come connected at level 0
+abbrev pub deniesAndStores : Device
+deniesAndStores f h x connect = eventOf x connect
+deniesAndStores f h x disconnect = eventOf x disconnect
+deniesAndStores f h x (button on) = eventOf x (button on)
+deniesAndStores f h x (request mode g a out) =
+    let r = eventOf x (request mode g a out) in
+    withSheet r (cond (eqb (r .outcome) 11) (eventOf (at x 0) (request 3 g a out) .sheet) (r .sheet))
 
 -- ONE THAT KEEPS THE LEVEL AFTER A WRONG KEY: while the session is open, only a wrong key makes the level 3
-abbrev pub keepsLevel : State → Event → Step
+abbrev pub keepsLevel : Device
 keepsLevel =
     onRequests
-    (λ x a r.
-    record {
-      outcome = r .outcome;
-      answer = r .answer;
-      session =
-          record {
-            opened = r .session .opened;
-            level = cond (r .session .opened && eqb (r .session .level) 3) (x .session .level) (r .session .level);
-          };
-      sheet = r .sheet;
-    })
+    (λ x e r.
+    withLevel r (cond (r .session .opened && eqb (r .session .level) 3) (x .session .level) (r .session .level)))
+
+-- ONE THAT KEEPS THE LEVEL OVER A CONNECT
+abbrev pub keepsOver : Device
+keepsOver f h x connect = withLevel (eventOf x connect) (x .session .level)
+keepsOver f h x disconnect = eventOf x disconnect
+keepsOver f h x (button on) = eventOf x (button on)
+keepsOver f h x (request mode g a out) = eventOf x (request mode g a out)
+
+-- ONE WITH < FOR ≤: it acts one level too weak
+abbrev pub strict : Device
+strict = actsAt (λ l. l + 1)
+
+-- ONE THAT COMPARES LEVELS THE WRONG WAY ROUND
+abbrev pub turned : Device
+turned = actsAt (λ l. 3 - l)
+
+-- ONE THAT LETS A KEY HOLDER OF LEVEL 1 SET KEY 0
+abbrev pub setsKey0 : Device
+setsKey0 = actsAt (λ l. cond (eqb l 1) 0 l)
+
+-- ONE THAT LOSES THE SECOND OF TWO BYTES: the byte of address 0101, position 61, never changes
+abbrev pub losesSecond : Device
+losesSecond = onRequests (λ x e r. withSheet r (splice (r .sheet) 61 (getD (x .sheet) 61 0 ∷ [])))
+
+-- ONE THAT IGNORES A KEY WRITE OF LEVEL 0: it answers, and puts the old key back
+abbrev pub ignoresKey0 : Device
+ignoresKey0 =
+    onRequests
+    (λ x e r. withSheet r (splice (r .sheet) ((head.key 0) .at) (bytesOf 4 (head.key 0 of x .sheet))))
 
 -- THE RUNS begin with the sample sheet and a fresh session
 abbrev pub fresh : First
@@ -91,28 +145,56 @@ fresh = record { sheet = sample; session = freshOf }
 abbrev pub buffer : List ℕ
 buffer = replicate 16 0
 
--- the key of level 0, and none; 55 to address 0100 and 66 to 0101; 0384 to element 1 of property 51 of object 1
-abbrev pub strongKey : List ℕ
-strongKey = 0x03 ∷ 0xD1 ∷ 0x00 ∷ 0x11 ∷ 0x11 ∷ 0x11 ∷ 0x11 ∷ []
+-- a connected request
+abbrev pub sent : List ℕ → Event
+sent a = request 3 0 a buffer
 
-abbrev pub wrongKey : List ℕ
-wrongKey = 0x03 ∷ 0xD1 ∷ 0x00 ∷ 0x33 ∷ 0x33 ∷ 0x33 ∷ 0x33 ∷ []
+-- the keys of levels 0 and 1, the public one of level 2, and none
+abbrev pub offering : ℕ → Event
+offering b = sent (0x03 ∷ 0xD1 ∷ 0x00 ∷ b ∷ b ∷ b ∷ b ∷ [])
 
-abbrev pub firstWrite : List ℕ
-firstWrite = 0x02 ∷ 0x81 ∷ 0x01 ∷ 0x00 ∷ 0x55 ∷ []
+-- 55 to address 0100, 66 to 0101, both at once; 77777777 as the key of level 0
+abbrev pub firstWrite : Event
+firstWrite = sent (0x02 ∷ 0x81 ∷ 0x01 ∷ 0x00 ∷ 0x55 ∷ [])
 
-abbrev pub secondWrite : List ℕ
-secondWrite = 0x02 ∷ 0x81 ∷ 0x01 ∷ 0x01 ∷ 0x66 ∷ []
+abbrev pub secondWrite : Event
+secondWrite = sent (0x02 ∷ 0x81 ∷ 0x01 ∷ 0x01 ∷ 0x66 ∷ [])
 
-abbrev pub elementWrite : List ℕ
-elementWrite = 0x03 ∷ 0xD7 ∷ 0x01 ∷ 0x33 ∷ 0x10 ∷ 0x01 ∷ 0x03 ∷ 0x84 ∷ []
+abbrev pub bothBytes : Event
+bothBytes = sent (0x02 ∷ 0x82 ∷ 0x01 ∷ 0x00 ∷ 0x55 ∷ 0x66 ∷ [])
 
--- the newest event first
+abbrev pub newKey0 : Event
+newKey0 = sent (0x03 ∷ 0xD3 ∷ 0x00 ∷ 0x77 ∷ 0x77 ∷ 0x77 ∷ 0x77 ∷ [])
+
+-- 0384 to element 1 of property 51 of object 1, in a mode
+abbrev pub elementWrite : ℕ → Event
+elementWrite mode = request mode 0 (0x03 ∷ 0xD7 ∷ 0x01 ∷ 0x33 ∷ 0x10 ∷ 0x01 ∷ 0x03 ∷ 0x84 ∷ []) buffer
+
+-- connected, the key of level 0 offered
 abbrev pub authorized : List Event
-authorized = request 3 0 strongKey buffer ∷ connect ∷ []
+authorized = offering 0x11 ∷ connect ∷ []
 
-abbrev pub writtenOnce : List Event
-writtenOnce = request 3 0 firstWrite buffer ∷ authorized
+-- a device, and a run after which its state is not ours; the newest event first
+pub record Witness : Type 0 where
+  pub device : Device
+  pub events : List Event
 
-abbrev pub givenUp : List Event
-givenUp = request 3 0 wrongKey buffer ∷ authorized
+abbrev pub shows : Device → List Event → Witness
+shows d h = record { device = d; events = h }
+
+-- THE WRONG DEVICES
+abbrev pub wrongs : List Witness
+wrongs =
+    shows refusesAll (firstWrite ∷ authorized) ∷
+    shows storesNothing (firstWrite ∷ authorized) ∷
+    shows storesOnce (secondWrite ∷ firstWrite ∷ authorized) ∷
+    shows storesLate (firstWrite ∷ authorized) ∷
+    shows inventsCount (elementWrite 3 ∷ authorized) ∷
+    shows storesFirst (firstWrite ∷ connect ∷ []) ∷
+    shows deniesAndStores (elementWrite 2 ∷ []) ∷
+    shows keepsLevel (offering 0x33 ∷ authorized) ∷
+    shows keepsOver (connect ∷ authorized) ∷
+    shows strict (firstWrite ∷ offering 0xFF ∷ connect ∷ []) ∷
+    shows turned (firstWrite ∷ authorized) ∷
+    shows setsKey0 (newKey0 ∷ offering 0x22 ∷ connect ∷ []) ∷
+    shows losesSecond (bothBytes ∷ authorized) ∷ shows ignoresKey0 (newKey0 ∷ authorized) ∷ []

@@ -1,0 +1,80 @@
+-- Demand 3 leaves one state: two devices that keep it have the same after every history.
+-- Assumes nothing.
+use Prim.Native.Nat.{ℕ, _+_, _*_, _-_, _<_, _≤_}
+use mathlib.Core.Path.{_≡_, sym, ap, ap₂, subst, _∙_}
+use mathlib.Core.Logic.{inl, inr}
+use mathlib.Core.Bool.{Bool}
+use mathlib.Core.List.{List}
+use lib.ListN.{length, getD}
+use lib.Seq.{ext-getD}
+use native.Mathlib.Decide.{decLt, ℕ-discrete}
+use native.Mathlib.Omega.{arith}
+use Rattle.octets.proofs.Numbers.{num-one, num-two}
+use Rattle.sheet.specs.Kind.{groups}
+use Rattle.sheet.specs.Head as head
+use Rattle.sheet.specs.Entries.{bodyAt, InBody}
+use Rattle.sheet.proofs.Good.{Good, good}
+use Rattle.judge.specs.declared.Session.{Session}
+use Rattle.device.specs.Events.{Event, State}
+use Rattle.history.specs.Location.{Location, Place}
+use Rattle.history.specs.Sort.{Sort, isLocation, isGroup, isField}
+use Rattle.history.specs.History.{First}
+use Rattle.history.specs.Keeps.{Device, stateAfter, Still, Kept, Begins, AllOctets, Keeps}
+use Rattle.history.proofs.Places.{sort, past-contents}
+
+module _ (f : First) (b : Begins f) (h : List Event) (step step′ : Device) (k : Kept step f h) (k′ : Kept step′ f h) where
+  abbrev S : List ℕ
+  S = stateAfter step f h .sheet
+
+  abbrev T : List ℕ
+  T = stateAfter step′ f h .sheet
+
+  g : Good 1 (f .sheet)
+  g = good 1 (f .sheet) (b .accepted)
+
+  -- the two bytes of the address are known from their number, being bytes
+  address-same : (getD S 16 0 ≡ getD T 16 0) × (getD S 17 0 ≡ getD T 17 0)
+  address-same =
+      let n : 256 * getD S 16 0 + getD S 17 0 ≡ 256 * getD T 16 0 + getD T 17 0 =
+      omega (arith, num-two S 16, num-two T 16, k .address, k′ .address) in
+      (omega (arith, k .octets 17, k′ .octets 17), omega (arith, k .octets 17, k′ .octets 17))
+
+  -- a byte of the head or of an entry
+  module _ (p : ℕ) (within : p < length (f .sheet)) (none : (x : Location) → Place (f .sheet) x p → ⊥)
+      (no-group : (i : ℕ) → InBody (f .sheet) groups i p → ⊥) where
+    still : Still (f .sheet) p → getD S p 0 ≡ getD T p 0
+    still q = k .still p q ∙ sym (k′ .still p q)
+
+    field-same : Dec (p ≡ head.flags .at) → Dec (p < 16) → Dec (p < 18) → Dec (p ≡ 16) → getD S p 0 ≡ getD T p 0
+    field-same (yes e) c d u = rw e (sym (num-one S 14) ∙ k .flags ∙ sym (k′ .flags) ∙ num-one T 14)
+    field-same (no e) (yes c) d u = still (record { inside = within; location = none; group = no-group; address = inl c; flags = e })
+    field-same (no e) (no c) (no d) u =
+        still (record { inside = within; location = none; group = no-group; address = inr (omega arith); flags = e })
+    field-same (no e) (no c) (yes d) (yes u) = rw u (address-same .0)
+    field-same (no e) (no c) (yes d) (no u) = let v : p ≡ 17 = omega arith in rw v (address-same .1)
+
+  at : (p : ℕ) → p < length (f .sheet) → Sort (f .sheet) p → getD S p 0 ≡ getD T p 0
+  at p l (isLocation x q) = k .holds x p q ∙ sym (k′ .holds x p q)
+  at p l (isGroup i q) =
+      let j : ℕ = p - bodyAt (f .sheet) groups i in
+      let e : p ≡ bodyAt (f .sheet) groups i + (p - bodyAt (f .sheet) groups i) = omega (arith, q .from) in
+      let w : InBody (f .sheet) groups i (bodyAt (f .sheet) groups i + (p - bodyAt (f .sheet) groups i)) =
+      subst (λ (n : ℕ). InBody (f .sheet) groups i n) e q in
+      ap (λ (n : ℕ). getD S n 0) e
+      ∙ k .group i j w
+      ∙ sym (k′ .group i j w)
+      ∙ ap (λ (n : ℕ). getD T n 0) (sym e)
+  at p l (isField c n) =
+      field-same p l n (λ i q. omega (arith, past-contents g q)) (ℕ-discrete p 14) (decLt p 16) (decLt p 18) (ℕ-discrete p 16)
+
+  one-state : stateAfter step f h ≡ stateAfter step′ f h
+  one-state =
+      ap₂ (λ (q : Session) (s : List ℕ). record { session = q; sheet = s })
+      (ap₂ (λ (t : Bool) (n : ℕ). record { opened = t; level = n }) (k .session ∙ sym (k′ .session)) (k .rights ∙ sym (k′ .rights)))
+      (ext-getD 0 S T (k .same ∙ sym (k′ .same)) (λ i l. at i (omega (arith, k .same)) (sort g i (omega (arith, k .same)))))
+
+-- THE STATE AFTER A HISTORY IS ONE
+pub pinned :
+    (step step′ : Device) → Keeps step → Keeps step′ → (f : First) (h : List Event) → Begins f → AllOctets h →
+    stateAfter step f h ≡ stateAfter step′ f h
+pinned step step′ k k′ f h b o = one-state f b h step step′ (k f h b o) (k′ f h b o)

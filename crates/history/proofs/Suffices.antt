@@ -1,0 +1,90 @@
+-- The level of an allowed write suffices for every byte that it names.
+-- Assumes nothing.
+use Prim.Native.Nat.{ℕ, _+_, _/_, _%_, _≤_, _<_}
+use mathlib.Core.Path.{_≡_, sym, subst}
+use mathlib.Core.Logic.{_⊎_, inl, inr}
+use mathlib.Core.Bool.{Bool, true, false, cond, _&&_, _||_}
+use mathlib.Core.List.{List, [], _∷_}
+use lib.Dec.{ltb, leb, eqb}
+use borrow.Author.Tests.{leb-true}
+use Rattle.sheet.specs.Kind.{regions, properties}
+use Rattle.sheet.specs.Layout.{_of_}
+use Rattle.sheet.specs.Region as region
+use Rattle.sheet.specs.Property as property
+use Rattle.sheet.specs.Entries.{count, entry}
+use Rattle.pdu.proofs.Truths.{never, and-is}
+use Rattle.history.specs.Location.{Location, memory}
+use Rattle.history.specs.Span.{Span, has, names}
+use Rattle.history.specs.Wish.{Wish, change, writeMemory, writeBits, writeProperty, writeKey, offerKey, restart, other, nothing}
+use Rattle.history.specs.Permit.{every, regionFor, mayRead, mayWrite, indexFor, entryFor, clears, fills, allowed, spans}
+use Rattle.history.specs.Keyless.{writeLevel}
+use Rattle.history.proofs.Bools.{all-at, every-at, or-cases}
+use Rattle.history.proofs.Spans.{on, has-only}
+
+-- what holds of each byte of each span holds of what they name
+abbrev Each : (Location → Type 0) → List Span → Type 0
+Each P [] = Unit
+Each P (p ∷ ps) = ((j : ℕ) → j < p .long → P (on (p .from) j)) × Each P ps
+
+named-each : (P : Location → Type 0) (ps : List Span) → Each P ps → (x : Location) → names ps x ≡ true → P x
+unfolding names
+named-each P [] a x e = never e
+named-each P (p ∷ ps) a x e = go (or-cases (has p x) (names ps x) e) (λ n. named-each P ps (a .1) x n)
+  where
+    go : (has p x ≡ true) ⊎ (names ps x ≡ true) → (names ps x ≡ true → P x) → P x
+    go (inl h) r = let b = has-only p x h in subst P (sym (b .0)) (a .0 _ (b .1))
+    go (inr n) r = r n
+
+each-cond : (P : Location → Type 0) (t : Bool) (ps qs : List Span) → Each P ps → Each P qs → Each P (cond t ps qs)
+each-cond P true ps qs a b = a
+each-cond P false ps qs a b = b
+
+module _ (s : List ℕ) (level : ℕ) where
+  -- a byte that may be written
+  may-suffices : (y : ℕ) → mayWrite s level y ≡ true → level ≤ writeLevel s (memory y)
+  unfolding mayWrite writeLevel
+  may-suffices y e = leb-true _ _ (and-is (ltb (regionFor s y 1) (count s regions)) _ .0 e .1)
+
+  module _ (before : Location → ℕ) (d : List ℕ) where
+    Enough : Location → Type 0
+    Enough x = level ≤ writeLevel s x
+
+    each : (w : Wish) → allowed s level d w ≡ true → Each Enough (spans s before d w)
+    unfolding allowed spans Enough writeLevel
+    each (change (writeMemory n a)) e = (λ j h. may-suffices (a + j) (every-at (λ i. mayWrite s level (a + i)) n (all-at Ts e 3) j h), tt)
+      where
+        Ts : List Bool
+        Ts = leb 1 n ∷ leb n 12 ∷ ltb (regionFor s a n) (count s regions) ∷ every n (λ i. mayWrite s level (a + i)) ∷ []
+    each (change (writeBits n a)) e = (
+      λ j h.
+          may-suffices (a + j)
+          (and-is (mayRead s level (a + j)) (mayWrite s level (a + j)) .0 (every-at (λ i. mayRead s level (a + i) && mayWrite s level (a + i)) n (all-at Ts e 3) j h) .1),
+      tt,
+    )
+      where
+        Ts : List Bool
+        Ts =
+            leb 1 n ∷
+            leb n 5 ∷
+            ltb (regionFor s a n) (count s regions) ∷ every n (λ i. mayRead s level (a + i) && mayWrite s level (a + i)) ∷ []
+    each (change (writeProperty object id n z)) e =
+        each-cond (λ x. level ≤ writeLevel s x) (eqb z 0) _ _ ((λ j h. enough), tt) ((λ j h. enough), ((λ j h. enough), tt))
+      where
+        Ts : List Bool
+        Ts =
+            ltb (indexFor s object id) (count s properties) ∷
+            eqb (property.kind of entryFor s object id / 128) 1 ∷
+            (clears n z d || fills (entryFor s object id) n z d) ∷ leb level (property.levels of entryFor s object id % 16) ∷ []
+
+        enough : level ≤ property.levels of entryFor s object id % 16
+        enough = leb-true _ _ (all-at Ts e 3)
+    each (change (writeKey named number)) e = (λ j h. leb-true _ _ (and-is (ltb named 3) (leb level named) .0 e .1), tt)
+    each (offerKey number) e = tt
+    each restart e = tt
+    each (other o) e = tt
+    each nothing e = tt
+
+    -- IT SUFFICES
+    pub suffices : (w : Wish) (x : Location) → allowed s level d w ≡ true → names (spans s before d w) x ≡ true → level ≤ writeLevel s x
+    unfolding Enough
+    suffices w x e n = named-each Enough (spans s before d w) (each w e) x n
