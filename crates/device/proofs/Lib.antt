@@ -1,3 +1,5 @@
+-- PROMISES, named in docs/PROMISES.md: Demand1, Called (demand 1); Rightly, Dues, AnswerReads, Unread, Found, Cases, Stays, NoBody, Append, Refuted (demand 2).
+-- LAWS behind them and behind the contracts: all other modules. A folder holds the proof of the function whose name it has.
 pub mod Writing
 pub mod Given
 pub mod Stores

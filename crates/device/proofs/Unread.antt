@@ -1,6 +1,6 @@
 -- What of a request is not read: outside multicast the group address, and always the top six bits of the first byte.
 -- Assumes nothing.
-use Prim.Native.Nat.{ℕ, zero, suc, _+_, _*_, _/_, _%_, _^_, _≤_, _<_}
+use Prim.Native.Nat.{ℕ, zero, suc, _+_, _*_, _%_, _^_, _≤_, _<_}
 use mathlib.Core.Path.{_≡_, refl, sym, ap, ap₂, subst, _∙_}
 use mathlib.Core.Bool.{Bool, true, false, cond, not, _&&_}
 use mathlib.Core.List.{List, [], _∷_}
@@ -126,20 +126,26 @@ module _ (b b′ : ℕ) (l : List ℕ) (h : b % 4 ≡ b′ % 4) where
       ∙ ap (λ (c : ℕ). c % m) code-same
       ∙ mod-mod-of-dvd m (numAt (b′ ∷ l) 0 2) (dvd-of-mod-eq-zero m d)
 
+  four-same : (at : ℕ) → 1 ≤ at → fourAt (b ∷ l) at ≡ fourAt (b′ ∷ l) at
+  unfolding fourAt
+  four-same at k = rw (number-same at 2 k)
+
+  twelve-same : (at : ℕ) → 1 ≤ at → twelveAt (b ∷ l) at ≡ twelveAt (b′ ∷ l) at
+  unfolding twelveAt
+  twelve-same at k = rw (number-same at 2 k)
+
   -- a field and those after it
   field : (f : Name) (m n : ℕ) (x y : List Value) → m ≡ n → x ≡ y → f ≔ m ∷ x ≡ f ≔ n ∷ y
   field f m n x y p q = ap₂ (λ (k : ℕ) (z : List Value). f ≔ k ∷ z) p q
 
   later-same : (is : List Item) (at : ℕ) → 1 ≤ at → laterFormed is ≡ true → valuesAt is at (b ∷ l) ≡ valuesAt is at (b′ ∷ l)
-  unfolding fourAt twelveAt
   later-same [] at k e = refl
   later-same (low f m ∷ is) at k e = never e
   later-same (num f w ∷ is) at k e = field f _ _ _ _ (number-same at w k) (later-same is (at + w) (omega arith) e)
   later-same (cap f w m ∷ is) at k e =
       field f _ _ _ _ (number-same at w k) (later-same is (at + w) (omega arith) (and-is (leb m (256 ^ w)) (laterFormed is) .0 e .1))
   later-same (duo f g ∷ is) at k e =
-      field f _ _ _ _ (ap (λ (n : ℕ). n / 4096) (number-same at 2 k))
-      (field g _ _ _ _ (ap (λ (n : ℕ). n % 4096) (number-same at 2 k)) (later-same is (at + 2) (omega arith) e))
+      field f _ _ _ _ (four-same at k) (field g _ _ _ _ (twelve-same at k) (later-same is (at + 2) (omega arith) e))
   later-same (skip w ∷ is) at k e = later-same is (at + w) (omega arith) e
 
   items-same : (a n : ℕ) (is : List Item) → itemsFormed a n is ≡ true → valuesAt is 2 (b ∷ l) ≡ valuesAt is 2 (b′ ∷ l)
