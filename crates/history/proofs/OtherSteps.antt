@@ -27,7 +27,7 @@ use Rattle.history.specs.Keeps.{Begins, Still, Writing}
 use Rattle.history.specs.Rightful.{asked}
 use Rattle.history.proofs.Carried.{address-field, serial-address}
 use Rattle.history.proofs.Hearing.{asks-is}
-use Rattle.history.proofs.Invariant.{Inv, fine, now, means-as}
+use Rattle.history.proofs.Invariant.{Inv, fine, means-as}
 use Rattle.history.proofs.Means.{store-flags, store-address}
 use Rattle.history.proofs.Places.{no-head, past-contents}
 use Rattle.history.proofs.Requests.{E, Ok, Done, opens-same, opens-new, levels-same, levels-new, programs-same, programs-new, addresses-same, addresses-new, values-same, contents-same, forbidden, left}

@@ -27,7 +27,7 @@ use Rattle.judge.specs.Keys.{grantOf, authorizeOf, keyWriteOf}
 use Rattle.judge.specs.Judge.{isAccepted, reachedOf, isShut, judgeOf}
 use Rattle.device.specs.Octets.{Octets}
 use Rattle.device.specs.Step.{stepBy, stepOf}
-use Rattle.device.specs.Events.{Event, State, connect, disconnect, button, request, eventOf}
+use Rattle.device.specs.Events.{Event, State, connect, disconnect, button, request, eventOf, bit}
 use Rattle.device.specs.Marked.{sample}
 use Rattle.history.specs.Span.{same}
 use Rattle.history.specs.Wish.{asks, brings}
@@ -70,10 +70,6 @@ octets-all (request mode g a out ∷ h) e =
     (octets-by a (b .0), octets-all h (b .1))
 
 -- one state, by one test
-abbrev bit : Bool → ℕ
-bit true = 1
-bit false = 0
-
 abbrev sameState : State → State → Bool
 sameState x y =
     eqb (bit (x .session .opened)) (bit (y .session .opened)) &&
