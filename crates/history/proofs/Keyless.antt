@@ -10,8 +10,10 @@ use lib.ListN.{length}
 use native.Mathlib.Decide.{decLt}
 use native.Mathlib.Omega.{arith}
 use borrow.Author.Tests.{eqb-true, lt-ltb, le-ltb}
+use Rattle.octets.specs.Bytes.{numAt}
 use Rattle.sheet.specs.Kind.{regions, properties}
 use Rattle.sheet.specs.Layout.{_of_}
+use Rattle.sheet.specs.Head as head
 use Rattle.sheet.specs.Property as property
 use Rattle.sheet.specs.Entries.{entry}
 use Rattle.sheet.specs.Places.{Stands, PropertyWith}
@@ -22,9 +24,9 @@ use Rattle.history.specs.Location.{Location, memory, body, counter, key}
 use Rattle.history.specs.Span.{names, gives}
 use Rattle.history.specs.Wish.{Wish, change, offerKey, restart, other, nothing, asks, brings, taken}
 use Rattle.history.specs.Permit.{heard, levelFor, entryFor}
-use Rattle.history.specs.History.{First, keyIn, isRestart, offered, opened, level, keys, content, permitted}
+use Rattle.history.specs.History.{First, firstOf, wished, keyIn, isRestart, offered, opened, level, keys, content, permitted}
 use Rattle.history.specs.Keeps.{Device, stateAfter, Begins, AllOctets, Keeps}
-use Rattle.history.specs.Keyless.{writeLevel, Unlocks, offers, Locked, Shut, Protected}
+use Rattle.history.specs.Keyless.{writeLevel, Unlocks, offers, Locked, NotOffered, Shut, Protected}
 use Rattle.history.specs.Rightful.{ours}
 use Rattle.history.proofs.Bools.{all-at, must-fail}
 use Rattle.history.proofs.Finding.{region-hit, property-hit}
@@ -163,6 +165,23 @@ module _ (l : ℕ) (low : l < 3) where
 
           sameKeys : (n : ℕ) → n ≤ l → keys f (e ∷ h) n ≡ keys f [] n
           sameKeys n m = rw (holds (key n 0) m, holds (key n 1) m, holds (key n 2) m, holds (key n 3) m)
+
+  -- the keys of the first sheet
+  first-key : (f : First) (k : ℕ) → keys f [] k ≡ head.key k of f .sheet
+  unfolding keys keyIn content firstOf numAt
+  first-key f k = omega arith
+
+  -- WHERE NO KEY OF THE FIRST SHEET IS OFFERED
+  pub locked : (f : First) → f .session .opened ≡ false → (h : List Event) → NotOffered f l h → Locked f l h
+  locked f closed [] o = tt
+  locked f closed (e ∷ h) o = next (locked f closed h (o .1))
+    where
+      next : Locked f l h → Locked f l (e ∷ h)
+      next k = (λ u. unlocks e u (o .0), k)
+        where
+          unlocks : (e : Event) → Unlocks f h l e → ((n : ℕ) → n ≤ l → wished e ≡ offerKey (head.key n of f .sheet) → ⊥) → ⊥
+          unlocks _ (offers n m heard-so asks-so) none =
+              none n (omega arith) (asks-so ∙ ap offerKey (keyless f closed h k .sameKeys n (omega arith) ∙ first-key f n))
 
   -- OF ANY DEVICE THAT KEEPS DEMAND 3
   pub keyless-device :
