@@ -1,6 +1,7 @@
--- PROMISES, named in docs/PROMISES.md: Keyless (nobody without the key), Keep (demand 3), Pinned (one result), AtOnce, Suffices,
+-- PROMISES, named in docs/PROMISES.md: Keyless (nobody without the key), Height (that, on the sample sheet), Keep (demand 3), Pinned (one result), AtOnce, Suffices,
 -- Permitted (permitted as plain propositions), Places (`place-injective`, `exactly-one`), InOrder (histories and runs), Refuted (wrong devices).
 pub mod Keyless
+pub mod Height
 pub mod Keep
 pub mod Pinned
 pub mod AtOnce

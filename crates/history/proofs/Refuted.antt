@@ -83,7 +83,7 @@ same-state x =
     (eq-eqb o o refl, and-is (eqb l l) (same (x .sheet) (x .sheet)) .1 (eq-eqb l l refl, same-so (x .sheet)))
 
 -- the sample is accepted
-begins : Begins fresh
+pub begins : Begins fresh
 unfolding sample ruleIn walkRule entriesRule bodiesRule entryRule bodyRule bodyDemands entryDemands entry keyOf floor bodyAt bodyEnd startOf reached sixBits first breach numAt
 begins = record { octets = octets-by sample refl; accepted = refl }
 
