@@ -35,14 +35,14 @@ use Rattle.history.proofs.Writes.{heard-now, carried-out, denied}
 use Rattle.pdu.proofs.Truths.{never}
 
 -- the level that a number gets is the one that the keys grant
-granted : (s : List ℕ) (keys : ℕ → ℕ) (number before : ℕ) → keys 0 ≡ head.key 0 of s → keys 1 ≡ head.key 1 of s → keys 2 ≡ head.key 2 of s →
-    {l : ℕ} → Grants s number l → l ≡ offered keys before (offerKey number)
-granted s keys number before a b c (key0 p) = rw (a, eq-eqb number (head.key 0 of s) (sym p))
-granted s keys number before a b c (key1 p q) =
+granted : (s : List ℕ) (now : ℕ → ℕ) (number before : ℕ) → now 0 ≡ head.key 0 of s → now 1 ≡ head.key 1 of s → now 2 ≡ head.key 2 of s →
+    {l : ℕ} → Grants s number l → l ≡ offered now before (offerKey number)
+granted s now number before a b c (key0 p) = rw (a, eq-eqb number (head.key 0 of s) (sym p))
+granted s now number before a b c (key1 p q) =
     rw (a, b, ne-eqb number (head.key 0 of s) (λ e. p (sym e)), eq-eqb number (head.key 1 of s) (sym q))
-granted s keys number before a b c (key2 p q r) =
+granted s now number before a b c (key2 p q r) =
     rw (a, b, c, ne-eqb number (head.key 0 of s) (λ e. p (sym e)), ne-eqb number (head.key 1 of s) (λ e. q (sym e)), eq-eqb number (head.key 2 of s) (sym r))
-granted s keys number before a b c (other p q r) =
+granted s now number before a b c (other p q r) =
     rw (a, b, c, ne-eqb number (head.key 0 of s) (λ e. p (sym e)), ne-eqb number (head.key 1 of s) (λ e. q (sym e)), ne-eqb number (head.key 2 of s) (λ e. r (sym e)))
 
 module _ (f : First) (b : Begins f) (h : List Event) (x : State) (inv : Inv f h x) (mode g : ℕ) (a out : List ℕ) where

@@ -1,6 +1,6 @@
 -- NOBODY WITHOUT THE KEY CHANGES A PROTECTED BYTE: over the history alone, then of any device that keeps demand 3, then of ours.
 -- Assumes nothing.
-use Prim.Native.Nat.{ℕ, _<_, _≤_}
+use Prim.Native.Nat.{ℕ, _%_, _<_, _≤_}
 use mathlib.Core.Path.{_≡_, refl, sym, ap, _∙_}
 use mathlib.Core.Logic.{_⊎_, inl, inr}
 use mathlib.Core.Bool.{Bool, true, false, cond, _&&_, _||_, not}
@@ -10,23 +10,44 @@ use lib.ListN.{length}
 use native.Mathlib.Decide.{decLt}
 use native.Mathlib.Omega.{arith}
 use borrow.Author.Tests.{eqb-true, lt-ltb, le-ltb}
-use Rattle.sheet.proofs.Good.{good}
+use Rattle.octets.specs.Bytes.{numAt}
+use Rattle.sheet.specs.Kind.{regions, properties}
+use Rattle.sheet.specs.Layout.{_of_}
+use Rattle.sheet.specs.Head as head
+use Rattle.sheet.specs.Property as property
+use Rattle.sheet.specs.Entries.{entry}
+use Rattle.sheet.specs.Places.{Stands, PropertyWith}
+use Rattle.sheet.proofs.Good.{Good, good}
 use Rattle.pdu.proofs.Truths.{never, decided, and-is}
-use Rattle.device.specs.Events.{Event, State, connect, disconnect, button, request, run}
-use Rattle.history.specs.Location.{Location, key}
+use Rattle.device.specs.Events.{Event, connect, disconnect, button, request, run}
+use Rattle.history.specs.Location.{Location, memory, body, counter, key}
 use Rattle.history.specs.Span.{names, gives}
 use Rattle.history.specs.Wish.{Wish, change, offerKey, restart, other, nothing, asks, brings, taken}
-use Rattle.history.specs.Permit.{heard, levelFor, allowed}
-use Rattle.history.specs.History.{First, keyIn, isRestart, offered, opened, level, keys, content, permitted}
+use Rattle.history.specs.Permit.{heard, levelFor, entryFor}
+use Rattle.history.specs.History.{First, firstOf, wished, keyIn, isRestart, offered, opened, level, keys, content, permitted}
 use Rattle.history.specs.Keeps.{Device, stateAfter, Begins, AllOctets, Keeps}
-use Rattle.history.specs.Keyless.{writeLevel, Unlocks, offers, Locked, Shut, Protected}
+use Rattle.history.specs.Keyless.{writeLevel, Unlocks, offers, Locked, NotOffered, Shut, Protected}
 use Rattle.history.specs.Rightful.{ours}
 use Rattle.history.proofs.Bools.{all-at, must-fail}
+use Rattle.history.proofs.Finding.{region-hit, property-hit}
 use Rattle.history.proofs.InOrder.{firstState, after-is-run}
 use Rattle.history.proofs.Invariant.{first-holds}
 use Rattle.history.proofs.Keep.{keeps}
 use Rattle.history.proofs.Requests.{Spans}
 use Rattle.history.proofs.Suffices.{suffices}
+
+-- the write level is the one that the entry says: of the region where an address stands, of the property with an object and id
+module _ {s : List ℕ} (g : Good 1 s) where
+  pub level-of-memory : {y p levels : ℕ} → Stands s regions y p levels → writeLevel s (memory y) ≡ levels % 16
+  unfolding writeLevel
+  level-of-memory {y} h =
+      rw (region-hit g (h .index) y 1 (omega arith) (record { below = h .below; from = h .from; to = omega (arith, h .to) }), h .under)
+
+  pub level-of-property :
+      {object id i : ℕ} → PropertyWith s object id i → (j : ℕ) →
+      (writeLevel s (body object id j) ≡ property.levels of entry s properties i % 16) × (writeLevel s (counter object id j) ≡ property.levels of entry s properties i % 16)
+  unfolding writeLevel entryFor
+  level-of-property q j = (rw (property-hit g q), rw (property-hit g q))
 
 module _ (l : ℕ) (low : l < 3) where
   -- an offer that is no key of a level up to l leaves a level above l
@@ -144,6 +165,23 @@ module _ (l : ℕ) (low : l < 3) where
 
           sameKeys : (n : ℕ) → n ≤ l → keys f (e ∷ h) n ≡ keys f [] n
           sameKeys n m = rw (holds (key n 0) m, holds (key n 1) m, holds (key n 2) m, holds (key n 3) m)
+
+  -- the keys of the first sheet
+  first-key : (f : First) (k : ℕ) → keys f [] k ≡ head.key k of f .sheet
+  unfolding keys keyIn content firstOf numAt
+  first-key f k = omega arith
+
+  -- WHERE NO KEY OF THE FIRST SHEET IS OFFERED
+  pub locked : (f : First) → f .session .opened ≡ false → (h : List Event) → NotOffered f l h → Locked f l h
+  locked f closed [] o = tt
+  locked f closed (e ∷ h) o = next (locked f closed h (o .1))
+    where
+      next : Locked f l h → Locked f l (e ∷ h)
+      next k = (λ u. unlocks e u (o .0), k)
+        where
+          unlocks : (e : Event) → Unlocks f h l e → ((n : ℕ) → n ≤ l → wished e ≡ offerKey (head.key n of f .sheet) → ⊥) → ⊥
+          unlocks _ (offers n m heard-so asks-so) none =
+              none n (omega arith) (asks-so ∙ ap offerKey (keyless f closed h k .sameKeys n (omega arith) ∙ first-key f n))
 
   -- OF ANY DEVICE THAT KEEPS DEMAND 3
   pub keyless-device :

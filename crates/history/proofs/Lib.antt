@@ -1,22 +1,36 @@
+-- PROMISES, named in docs/PROMISES.md: Keyless (nobody without the key), Height (that, on the sample sheet), Keep (demand 3), Pinned (one result), AtOnce, Suffices,
+-- Permitted (permitted as plain propositions), Places (`place-injective`, `exactly-one`), InOrder (histories and runs), Refuted (wrong devices).
+pub mod Keyless
+pub mod Height
+pub mod Keep
+pub mod Pinned
+pub mod AtOnce
+pub mod Suffices
+pub mod Permitted
 pub mod Places
+pub mod InOrder
+pub mod Refuted
+-- LAWS BEHIND THEM. Of tests, of spans, of bytes:
 pub mod Bools
+pub mod Spans
+pub mod Octet
+pub mod Carried
+-- of what is heard, found, allowed:
 pub mod Hearing
+pub mod Unheard
 pub mod Finding
+pub mod Framed
 pub mod Levels
 pub mod Permits
-pub mod Carried
-pub mod Permitted
-pub mod Octet
-pub mod Spans
+-- of a sheet after a store:
 pub mod Stored
-pub mod Framed
 pub mod Means
 pub mod MemoryRun
 pub mod KeyRun
 pub mod PropertyRun
+-- of the state after one event more:
 pub mod Invariant
 pub mod Requests
-pub mod Unheard
 pub mod Writes
 pub mod MemorySteps
 pub mod KeySteps
@@ -24,10 +38,3 @@ pub mod PropertySteps
 pub mod OtherSteps
 pub mod GroupSteps
 pub mod Steps
-pub mod AtOnce
-pub mod Keep
-pub mod InOrder
-pub mod Pinned
-pub mod Refuted
-pub mod Suffices
-pub mod Keyless

@@ -19,52 +19,19 @@ use Rattle.device.specs.Octets.{Octets}
 use Rattle.device.specs.Events.{Event, State}
 use Rattle.device.specs.Asked.{Asked, Reads}
 use Rattle.device.specs.Right.{Programming}
-use Rattle.history.specs.Wish.{Wish, nothing, other, address, addressFor, restart, wishOf, asks}
+use Rattle.history.specs.Wish.{Wish, Other, other, address, addressFor, restart, wishOf, asks}
 use Rattle.history.specs.Permit.{allowed}
-use Rattle.history.specs.History.{First, isRestart, offered, permitted}
+use Rattle.history.specs.History.{First, permitted}
 use Rattle.history.specs.Others.{programming, individual, newAddress, newValue}
-use Rattle.history.specs.Keeps.{Begins, Still, Writing}
+use Rattle.history.specs.Keeps.{Begins, Still}
 use Rattle.history.specs.Rightful.{asked}
 use Rattle.history.proofs.Carried.{address-field, serial-address}
 use Rattle.history.proofs.Hearing.{asks-is}
-use Rattle.history.proofs.Invariant.{Inv, fine, now, means-as}
+use Rattle.history.proofs.Invariant.{Inv, fine, means-as}
 use Rattle.history.proofs.Means.{store-flags, store-address}
 use Rattle.history.proofs.Places.{no-head, past-contents}
 use Rattle.history.proofs.Requests.{E, Ok, Done, opens-same, opens-new, levels-same, levels-new, programs-same, programs-new, addresses-same, addresses-new, values-same, contents-same, forbidden, left}
 use Rattle.history.proofs.Writes.{heard-now}
-
--- a request that may change the address, and nothing else
-record Addressing (w : Wish) : Type 0 where
-  restarts : isRestart w ≡ false
-  offers : (k : ℕ → ℕ) (l : ℕ) → offered k l w ≡ l
-  values : (n : List ℕ) (k : ℕ) (d : List ℕ) (j v : ℕ) → newValue n k d j v w ≡ v
-  forbids : (s : List ℕ) (l : ℕ) (d : List ℕ) → allowed s l d w ≡ false
-  no-write : Writing w → ⊥
-  concerned : w ≡ nothing → ⊥
-
-by-mode : (v : ℕ) → Addressing (other (address v))
-unfolding allowed
-by-mode v =
-    record {
-      restarts = refl;
-      offers = λ k l. refl;
-      values = λ n k d j v. refl;
-      forbids = λ s l d. refl;
-      no-write = λ z. z;
-      concerned = λ e. let z : _≡_ {A = ℕ} 0 1 = cc in omega arith;
-    }
-
-by-serial : (n v : ℕ) → Addressing (other (addressFor n v))
-unfolding allowed
-by-serial n v =
-    record {
-      restarts = refl;
-      offers = λ k l. refl;
-      values = λ n k d j v. refl;
-      forbids = λ s l d. refl;
-      no-write = λ z. z;
-      concerned = λ e. let z : _≡_ {A = ℕ} 0 1 = cc in omega arith;
-    }
 
 module _ (f : First) (b : Begins f) (h : List Event) (x : State) (inv : Inv f h x) (mode g : ℕ) (a out : List ℕ) where
   abbrev R : Asked
@@ -84,19 +51,24 @@ module _ (f : First) (b : Begins f) (h : List Event) (x : State) (inv : Inv f h 
             flags = omega arith;
           }
 
-  module _ (p : Pdu) (w : Wish) (c : wishOf p ≡ w) (q : Addressing w) (r : Reads R p) where
-    abbrev New : ℕ
-    New = newAddress (programming f h) (head.serial of f .sheet) (individual f h) w
+  -- a request that may change the address, and no group value
+  module _ (p : Pdu) (w : Other) (c : wishOf p ≡ other w) (q : (n : List ℕ) (k : ℕ) (d : List ℕ) (j v : ℕ) → newValue n k d j v (other w) ≡ v) (r : Reads R p) where
+    abbrev W : Wish
+    W = other w
 
-    e : asks a ≡ w
+    abbrev New : ℕ
+    New = newAddress (programming f h) (head.serial of f .sheet) (individual f h) W
+
+    e : asks a ≡ W
     e = asks-is a p (r .reads) ∙ c
 
     new-is : individual f (E f h mode g a out ∷ h) ≡ New
     new-is =
-        addresses-new f h mode g a out w e (heard-now f b h x inv mode g a out p r (λ z. q .concerned (sym c ∙ z)))
+        addresses-new f h mode g a out W e (heard-now f b h x inv mode g a out p r (λ z. let k = sym c ∙ z in let m : _≡_ {A = ℕ} 0 1 = cc in omega arith))
 
     none : permitted f h (E f h mode g a out) ≡ false
-    none = forbidden f h mode g a out w e (q .forbids _ _ _)
+    unfolding allowed
+    none = forbidden f h mode g a out W e refl
 
     address-new :
         (k : ℕ) (answer : List ℕ) (new : ℕ) → new < 65536 → New ≡ new →
@@ -106,14 +78,14 @@ module _ (f : First) (b : Begins f) (h : List Event) (x : State) (inv : Inv f h 
         record {
           next =
               record {
-                session = inv .session ∙ sym (opens-same f h mode g a out w e (q .restarts));
-                rights = inv .rights ∙ sym (levels-same f h mode g a out w e (q .offers));
+                session = inv .session ∙ sym (opens-same f h mode g a out W e refl);
+                rights = inv .rights ∙ sym (levels-same f h mode g a out W e (λ k l. refl));
                 means =
                     means-as (store-address (fine inv b) (inv .means) new low) (λ y. sym (contents-same f h (E f h mode g a out) none y))
-                    (sym (new-is ∙ is)) (sym (programs-same f h mode g a out w e (q .restarts)))
-                    (λ i j l. sym (values-same f h mode g a out w e (q .values) i j));
+                    (sym (new-is ∙ is)) (sym (programs-same f h mode g a out W e refl))
+                    (λ i j l. sym (values-same f h mode g a out W e q i j));
               };
-          only = λ z. absurd (q .no-write (rw e at (z .writing)));
+          only = λ z. absurd (rw e at (z .writing));
           all = λ z. never (sym none ∙ z);
         }
 
@@ -123,13 +95,13 @@ module _ (f : First) (b : Begins f) (h : List Event) (x : State) (inv : Inv f h 
     address-left k answer is =
         left f h mode g a out x inv
         (record {
-          opens = opens-same f h mode g a out w e (q .restarts);
-          levels = levels-same f h mode g a out w e (q .offers);
+          opens = opens-same f h mode g a out W e refl;
+          levels = levels-same f h mode g a out W e (λ k l. refl);
           addresses = new-is ∙ is;
-          programs = programs-same f h mode g a out w e (q .restarts);
-          values = λ i j l. values-same f h mode g a out w e (q .values) i j;
+          programs = programs-same f h mode g a out W e refl;
+          values = λ i j l. values-same f h mode g a out W e q i j;
         })
-        none k answer (λ z. q .no-write (rw e at (z .writing)))
+        none k answer (λ z. rw e at (z .writing))
 
   -- THE ADDRESS IN PROGRAMMING MODE
   programming-is : head.programming (x .sheet) ≡ programming f h
@@ -140,14 +112,14 @@ module _ (f : First) (b : Begins f) (h : List Event) (x : State) (inv : Inv f h 
       Done f h mode g a out
       (record { outcome = k; answer = answer; session = x .session; sheet = splice (x .sheet) (head.address .at) (bytesOf 2 v) })
   address-written v octets r on k answer =
-      address-new (IndividualAddressWrite v) (other (address v)) refl (by-mode v) r k answer v (address-field a octets (r .reads))
+      address-new (IndividualAddressWrite v) (address v) refl (λ n k d j v. refl) r k answer v (address-field a octets (r .reads))
       (rw (eq-eqb (programming f h) 1 (sym programming-is ∙ on)))
 
   pub address-unwritten :
       (v : ℕ) → Reads R (IndividualAddressWrite v) → (Programming R → ⊥) → (k : ℕ) (answer : List ℕ) →
       Done f h mode g a out (record { outcome = k; answer = answer; session = x .session; sheet = x .sheet })
   address-unwritten v r off k answer =
-      address-left (IndividualAddressWrite v) (other (address v)) refl (by-mode v) r k answer
+      address-left (IndividualAddressWrite v) (address v) refl (λ n k d j v. refl) r k answer
       (rw (ne-eqb (programming f h) 1 (λ z. off (programming-is ∙ z))))
 
   -- AND BY THE SERIAL NUMBER
@@ -156,14 +128,14 @@ module _ (f : First) (b : Begins f) (h : List Event) (x : State) (inv : Inv f h 
       Done f h mode g a out
       (record { outcome = k; answer = answer; session = x .session; sheet = splice (x .sheet) (head.address .at) (bytesOf 2 v) })
   serial-written n v octets r on k answer =
-      address-new (SerialNumberWrite n v) (other (addressFor n v)) refl (by-serial n v) r k answer v (serial-address a octets (r .reads))
+      address-new (SerialNumberWrite n v) (addressFor n v) refl (λ n k d j v. refl) r k answer v (serial-address a octets (r .reads))
       (rw (eq-eqb n (head.serial of f .sheet) (on ∙ serial-same)))
 
   pub serial-unwritten :
       (n v : ℕ) → Reads R (SerialNumberWrite n v) → (n ≡ head.serial of x .sheet → ⊥) → (k : ℕ) (answer : List ℕ) →
       Done f h mode g a out (record { outcome = k; answer = answer; session = x .session; sheet = x .sheet })
   serial-unwritten n v r off k answer =
-      address-left (SerialNumberWrite n v) (other (addressFor n v)) refl (by-serial n v) r k answer
+      address-left (SerialNumberWrite n v) (addressFor n v) refl (λ n k d j v. refl) r k answer
       (rw (ne-eqb n (head.serial of f .sheet) (λ z. off (z ∙ sym serial-same))))
 
   -- A RESTART

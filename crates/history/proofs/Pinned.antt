@@ -1,6 +1,6 @@
 -- Demand 3 leaves one state: two devices that keep it have the same after every history.
 -- Assumes nothing.
-use Prim.Native.Nat.{ℕ, _+_, _*_, _-_, _<_, _≤_}
+use Prim.Native.Nat.{ℕ, _+_, _*_, _-_, _<_}
 use mathlib.Core.Path.{_≡_, sym, ap, ap₂, subst, _∙_}
 use mathlib.Core.Logic.{inl, inr}
 use mathlib.Core.Bool.{Bool}
@@ -15,7 +15,7 @@ use Rattle.sheet.specs.Head as head
 use Rattle.sheet.specs.Entries.{bodyAt, InBody}
 use Rattle.sheet.proofs.Good.{Good, good}
 use Rattle.judge.specs.declared.Session.{Session}
-use Rattle.device.specs.Events.{Event, State}
+use Rattle.device.specs.Events.{Event}
 use Rattle.history.specs.Location.{Location, Place}
 use Rattle.history.specs.Sort.{Sort, isLocation, isGroup, isField}
 use Rattle.history.specs.History.{First}

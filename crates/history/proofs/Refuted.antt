@@ -2,7 +2,7 @@
 -- Assumes nothing.
 use Prim.Native.Nat.{ℕ, zero, suc}
 use mathlib.Core.Path.{_≡_, refl, sym, ap, _∙_}
-use mathlib.Core.Bool.{Bool, true, false, _&&_, not}
+use mathlib.Core.Bool.{Bool, true, _&&_, not}
 use mathlib.Core.List.{List, [], _∷_}
 use lib.Dec.{ltb, eqb}
 use borrow.Author.Tests.{ltb-true, eq-eqb}
@@ -27,7 +27,7 @@ use Rattle.judge.specs.Keys.{grantOf, authorizeOf, keyWriteOf}
 use Rattle.judge.specs.Judge.{isAccepted, reachedOf, isShut, judgeOf}
 use Rattle.device.specs.Octets.{Octets}
 use Rattle.device.specs.Step.{stepBy, stepOf}
-use Rattle.device.specs.Events.{Event, State, connect, disconnect, button, request, eventOf}
+use Rattle.device.specs.Events.{Event, State, connect, disconnect, button, request, eventOf, bit}
 use Rattle.device.specs.Marked.{sample}
 use Rattle.history.specs.Span.{same}
 use Rattle.history.specs.Wish.{asks, brings}
@@ -70,10 +70,6 @@ octets-all (request mode g a out ∷ h) e =
     (octets-by a (b .0), octets-all h (b .1))
 
 -- one state, by one test
-abbrev bit : Bool → ℕ
-bit true = 1
-bit false = 0
-
 abbrev sameState : State → State → Bool
 sameState x y =
     eqb (bit (x .session .opened)) (bit (y .session .opened)) &&
@@ -87,7 +83,7 @@ same-state x =
     (eq-eqb o o refl, and-is (eqb l l) (same (x .sheet) (x .sheet)) .1 (eq-eqb l l refl, same-so (x .sheet)))
 
 -- the sample is accepted
-begins : Begins fresh
+pub begins : Begins fresh
 unfolding sample ruleIn walkRule entriesRule bodiesRule entryRule bodyRule bodyDemands entryDemands entry keyOf floor bodyAt bodyEnd startOf reached sixBits first breach numAt
 begins = record { octets = octets-by sample refl; accepted = refl }
 

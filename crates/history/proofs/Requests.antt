@@ -1,6 +1,6 @@
 -- What the history says of one more request, by what it asks.
 -- Assumes nothing.
-use Prim.Native.Nat.{ℕ, _<_, _≤_}
+use Prim.Native.Nat.{ℕ, _<_}
 use mathlib.Core.Path.{_≡_, refl, sym, ap, _∙_}
 use mathlib.Core.Bool.{Bool, true, false, cond}
 use mathlib.Core.List.{List, _∷_}
@@ -137,20 +137,23 @@ module _ (f : First) (h : List Event) (mode g : ℕ) (a out : List ℕ) where
     pub all : permitted f h E ≡ true → CarriedOut E r
 
   module _ (x : State) (inv : Inv f h x) where
+    -- what the history says is left as it was, and contents are c
+    next-so : Same → (c : Location → ℕ) → ((y : Location) → c y ≡ content f (E ∷ h) y) → (s : List ℕ) →
+        Means (f .sheet) c (individual f h) (programming f h) (groupByte f h) s → Inv f (E ∷ h) (record { session = x .session; sheet = s })
+    next-so same c e s m =
+        record {
+          session = inv .session ∙ sym (same .opens);
+          rights = inv .rights ∙ sym (same .levels);
+          means = means-as m e (sym (same .addresses)) (sym (same .programs)) (λ i j l. sym (same .values i j l));
+        }
+
     -- nothing is carried out, and nothing changes
     pub left : Same → permitted f h E ≡ false → (n : ℕ) (d : List ℕ) →
         (CarriedOut E (record { outcome = n; answer = d; session = x .session; sheet = x .sheet }) → ⊥) →
         Done (record { outcome = n; answer = d; session = x .session; sheet = x .sheet })
     left same e n d none =
         record {
-          next =
-              record {
-                session = inv .session ∙ sym (same .opens);
-                rights = inv .rights ∙ sym (same .levels);
-                means =
-                    means-as (inv .means) (λ y. sym (contents-same f h E e y)) (sym (same .addresses)) (sym (same .programs))
-                    (λ i j l. sym (same .values i j l));
-              };
+          next = next-so same (content f h) (λ y. sym (contents-same f h E e y)) (x .sheet) (inv .means);
           only = λ c. absurd (none c);
           all = λ p. never (sym e ∙ p);
         }
@@ -162,20 +165,14 @@ module _ (f : First) (h : List Event) (mode g : ℕ) (a out : List ℕ) where
         Means (f .sheet) (laid (spans (f .sheet) (content f h) (brings a) (change w)) (content f h)) (individual f h) (programming f h) (groupByte f h) s →
         Done (record { outcome = n; answer = d; session = x .session; sheet = s })
     wrote w e p n d s carried m =
-        let same = writing-same w e in
         record {
           next =
-              record {
-                session = inv .session ∙ sym (same .opens);
-                rights = inv .rights ∙ sym (same .levels);
-                means =
-                    means-as m
-                    (λ y.
-                    ap (λ (v : Wish). laid (spans (f .sheet) (content f h) (brings a) v) (content f h) y) (sym e)
-                    ∙ laid-is (Spans f h E) (content f h) y
-                    ∙ sym (contents-new f h E p y))
-                    (sym (same .addresses)) (sym (same .programs)) (λ i j l. sym (same .values i j l));
-              };
+              next-so (writing-same w e) _
+              (λ y.
+              ap (λ (v : Wish). laid (spans (f .sheet) (content f h) (brings a) v) (content f h) y) (sym e)
+              ∙ laid-is (Spans f h E) (content f h) y
+              ∙ sym (contents-new f h E p y))
+              s m;
           only = λ c. p;
           all = λ q. carried;
         }

@@ -1,8 +1,8 @@
 -- What a span has is what stands j bytes on from its first byte.
 -- Assumes nothing.
 use Prim.Native.Nat.{ℕ, zero, suc, _+_, _-_, _<_, _≤_}
-use mathlib.Core.Path.{_≡_, refl, sym, ap, ap₂, _∙_}
-use mathlib.Core.Bool.{Bool, true, false, cond, _&&_, _||_}
+use mathlib.Core.Path.{_≡_, refl, sym, ap₂, _∙_}
+use mathlib.Core.Bool.{Bool, true, false, cond, _||_}
 use mathlib.Core.List.{List, [], _∷_}
 use lib.Dec.{ltb, leb, eqb}
 use lib.ListN.{getD}
@@ -10,7 +10,7 @@ use native.Mathlib.Omega.{arith}
 use borrow.Author.Tests.{ltb-true, lt-ltb, leb-true, le-leb, eqb-true, eq-eqb}
 use Rattle.pdu.proofs.Truths.{never, and-is}
 use Rattle.history.specs.Location.{Location, memory, body, counter, key}
-use Rattle.history.specs.Span.{all, owner, same, byte, Span, has, put, names, gives}
+use Rattle.history.specs.Span.{owner, same, byte, Span, has, put, names, gives}
 use Rattle.history.proofs.Bools.{all-at}
 
 same-is : (s t : List ℕ) → same s t ≡ true → s ≡ t

@@ -9,9 +9,8 @@ use lib.Dec.{ltb, leb, eqb}
 use borrow.Author.Tests.{leb-true}
 use Rattle.sheet.specs.Kind.{regions, properties}
 use Rattle.sheet.specs.Layout.{_of_}
-use Rattle.sheet.specs.Region as region
 use Rattle.sheet.specs.Property as property
-use Rattle.sheet.specs.Entries.{count, entry}
+use Rattle.sheet.specs.Entries.{count}
 use Rattle.pdu.proofs.Truths.{never, and-is}
 use Rattle.history.specs.Location.{Location, memory}
 use Rattle.history.specs.Span.{Span, has, names}

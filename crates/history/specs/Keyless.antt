@@ -7,6 +7,7 @@ use mathlib.Core.Bool.{true}
 use lib.ListN.{getD}
 use Rattle.sheet.specs.Kind.{regions}
 use Rattle.sheet.specs.Layout.{_of_}
+use Rattle.sheet.specs.Head as head
 use Rattle.sheet.specs.Region as region
 use Rattle.sheet.specs.Property as property
 use Rattle.sheet.specs.Entries.{entry}
@@ -14,7 +15,7 @@ use Rattle.device.specs.Events.{Event, State, request}
 use Rattle.history.specs.Location.{Location, memory, body, counter, key, Place}
 use Rattle.history.specs.Wish.{offerKey, asks}
 use Rattle.history.specs.Permit.{heard, regionFor, entryFor}
-use Rattle.history.specs.History.{First, firstOf, opened, level, keys, content}
+use Rattle.history.specs.History.{First, firstOf, wished, opened, level, keys, content}
 
 -- THE WRITE LEVEL of a byte: its region's, its property's, for the count too; of a key the level itself
 unfoldable pub writeLevel : List ℕ → Location → ℕ
@@ -33,6 +34,12 @@ pub data Unlocks (f : First) (h : List Event) (l : ℕ) : Event → Type 0 where
 abbrev pub Locked : First → ℕ → List Event → Type 0
 Locked f l [] = Unit {0}
 Locked f l (e ∷ h) = (Unlocks f h l e → ⊥) × Locked f l h
+
+-- and so where no request offers a key of such a level as it stands in the first sheet (`locked`): simpler to see, and no less
+abbrev pub NotOffered : First → ℕ → List Event → Type 0
+NotOffered f l [] = Unit {0}
+NotOffered f l (e ∷ h) =
+    ((k : ℕ) → k ≤ l → wished e ≡ offerKey (head.key k of f .sheet) → ⊥) × NotOffered f l h
 
 -- WHAT THEN STAYS, by the history
 pub record Shut (f : First) (l : ℕ) (h : List Event) : Type 0 where

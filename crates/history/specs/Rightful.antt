@@ -10,7 +10,6 @@ use Rattle.device.specs.Events.{Event, State, connect, disconnect, button, requ
 use Rattle.device.specs.Due.{ConnectDue, DisconnectDue, ButtonDue}
 use Rattle.device.specs.Asked.{Asked}
 use Rattle.device.specs.Right.{Right}
-use Rattle.history.specs.History.{First}
 use Rattle.history.specs.Keeps.{Device}
 
 -- a request as it meets a state

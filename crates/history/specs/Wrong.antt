@@ -138,6 +138,11 @@ ignoresKey0 =
     onRequests
     (λ x e r. withSheet r (splice (r .sheet) ((head.key 0) .at) (bytesOf 4 (head.key 0 of x .sheet))))
 
+-- ONE THAT KEEPS THE ADDRESS IN ONE BYTE: the number is right, but what stands at 17 is no byte
+abbrev pub addressInOne : Device
+addressInOne f h x e =
+    let r = eventOf x e in withSheet r (splice (r .sheet) (head.address .at) (0 ∷ head.address of r .sheet ∷ []))
+
 -- THE RUNS begin with the sample sheet and a fresh session
 abbrev pub fresh : First
 fresh = record { sheet = sample; session = freshOf }
@@ -197,4 +202,4 @@ wrongs =
     shows strict (firstWrite ∷ offering 0xFF ∷ connect ∷ []) ∷
     shows turned (firstWrite ∷ authorized) ∷
     shows setsKey0 (newKey0 ∷ offering 0x22 ∷ connect ∷ []) ∷
-    shows losesSecond (bothBytes ∷ authorized) ∷ shows ignoresKey0 (newKey0 ∷ authorized) ∷ []
+    shows losesSecond (bothBytes ∷ authorized) ∷ shows ignoresKey0 (newKey0 ∷ authorized) ∷ shows addressInOne (connect ∷ []) ∷ []

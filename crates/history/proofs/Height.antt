@@ -1,0 +1,53 @@
+-- `keyless` on the sample sheet: the height, property 51 of object 1, and the keys that protect it.
+-- Assumes nothing.
+use Prim.Native.Nat.{ℕ, _+_, _*_, _<_, _≤_}
+use mathlib.Core.Path.{_≡_, refl}
+use mathlib.Core.List.{List, reverse}
+use lib.ListN.{getD}
+use native.Mathlib.Omega.{arith}
+use Rattle.octets.specs.Bytes.{numAt}
+use Rattle.sheet.specs.Entries.{entry, keyOf, bodyAt}
+use Rattle.sheet.specs.Lookup.{seek, indexOf}
+use Rattle.device.specs.Events.{Event, State, run}
+use Rattle.device.specs.Marked.{sample}
+use Rattle.history.specs.Location.{body, counter, key, Place, ofBody, ofCounter, ofKey}
+use Rattle.history.specs.Permit.{indexFor, entryFor}
+use Rattle.history.specs.Keeps.{AllOctets}
+use Rattle.history.specs.Keyless.{writeLevel, NotOffered, Protected}
+use Rattle.history.specs.Wrong.{fresh}
+use Rattle.history.proofs.InOrder.{firstState}
+use Rattle.history.proofs.Keyless.{locked, keyless-run}
+use Rattle.history.proofs.Refuted.{begins}
+
+-- the four bytes of its two elements stand at 64, its count at 46
+height-at : (j : ℕ) → j < 4 → Place sample (body 1 51 j) (64 + j)
+unfolding sample entry numAt bodyAt
+height-at j h = ofBody {j = j} {p = 64 + j} 0 (record { there = omega arith; sameObject = refl; sameId = refl }) (omega arith) refl
+
+count-at : (j : ℕ) → j < 2 → Place sample (counter 1 51 j) (46 + j)
+unfolding sample entry numAt
+count-at j h = ofCounter {j = j} {p = 46 + j} 0 (record { there = omega arith; sameObject = refl; sameId = refl }) (omega arith) refl
+
+-- their write level is 1
+height-level : (j : ℕ) → (writeLevel sample (body 1 51 j) ≤ 1) × (writeLevel sample (counter 1 51 j) ≤ 1)
+unfolding writeLevel entryFor indexFor indexOf seek keyOf entry numAt sample
+height-level j = (omega arith, omega arith)
+
+module _ (h : List Event) (octets : AllOctets h) (none : NotOffered fresh 1 h) where
+  abbrev After : State
+  After = run (firstState fresh) (reverse h)
+
+  safe : Protected fresh 1 After
+  safe = keyless-run 1 (omega arith) fresh begins refl h octets (locked 1 (omega arith) fresh refl h none)
+
+  -- AS LONG AS NOBODY OFFERS 11111111 OR 22222222, height and count are as they were, and so are these two keys
+  pub height-stays : (j : ℕ) → j < 4 → getD (After .sheet) (64 + j) 0 ≡ getD sample (64 + j) 0
+  height-stays j l = safe .bytes (body 1 51 j) (64 + j) (height-at j l) (height-level j .0)
+
+  pub count-stays : (j : ℕ) → j < 2 → getD (After .sheet) (46 + j) 0 ≡ getD sample (46 + j) 0
+  count-stays j l = safe .bytes (counter 1 51 j) (46 + j) (count-at j l) (height-level j .1)
+
+  pub keys-stay : (k j : ℕ) → k ≤ 1 → j < 4 → getD (After .sheet) (18 + 4 * k + j) 0 ≡ getD sample (18 + 4 * k + j) 0
+  unfolding writeLevel
+  keys-stay k j m l =
+      safe .bytes (key k j) (18 + 4 * k + j) (ofKey {l = k} {j = j} {p = 18 + 4 * k + j} (omega arith) l (omega arith)) m
