@@ -28,3 +28,5 @@ pub mod Mild
 pub mod Counts
 pub mod Stores
 pub mod Parts
+pub mod Values
+pub mod Examples
