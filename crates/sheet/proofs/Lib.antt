@@ -11,6 +11,7 @@ pub mod Says
 pub mod Untils
 pub mod Ties
 pub mod Plains
+pub mod Nine
 pub mod Standing
 pub mod Positions
 pub mod Seeks
