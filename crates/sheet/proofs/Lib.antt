@@ -1,3 +1,5 @@
+-- Promises, named in docs/PROMISES.md: Plains, Nine, Values, Examples, Positions, Keys, Ranks, Runs, Frames, Stores, Counts.
+-- All others are laws behind them or behind the contracts.
 pub mod First
 pub mod ByKind
 pub mod Demands

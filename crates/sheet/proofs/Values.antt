@@ -80,21 +80,24 @@ module _ (s : List ℕ) where
       (λ ok h. record { there = h; sameAddress = index-key s groups address h })
       (λ ok j a. (a .there, sym (index-hit 1 s ok groups (omega arith) j address (a .there) (a .sameAddress))))
 
-  -- THE LOOKUP OF A PROPERTY BY ITS OBJECT AND ID
-  pub property-handed :
-      (object id : ℕ) → ((i : ℕ) → getD s i 0 < 256) → id < 256 →
-      Handed s properties (PropertyWith s object id) (propertyOf s object id) (propertyFrom s object id)
+  -- a property by a number that holds its object and id
+  by-number :
+      (x object id : ℕ) → ((i : ℕ) → getD s i 0 < 256) → id < 256 → x ≡ object * 256 + id →
+      Handed s properties (PropertyWith s object id) (lookup s properties (indexOf s properties x)) (lookupFrom s properties (indexOf s properties x))
   unfolding keyOf
-  property-handed object id bytes low =
+  by-number x object id bytes low e =
       handed s properties (indexOf s properties x) (PropertyWith s object id) (omega arith) found
       (λ ok j a. (a .there, sym (index-hit 1 s ok properties (omega arith) j x (a .there) (omega (arith, key-is (entry s properties j), a .sameObject, a .sameId)))))
     where
-      x : ℕ
-      x = object * 256 + id
-
       found : ruleOf s ≡ 0 → indexOf s properties x < count s properties → PropertyWith s object id (indexOf s properties x)
       found ok h =
           let i : ℕ = indexOf s properties x in
           let b = num-below s (place s properties i + property.id .at) (property.id .width) bytes in
-          let q = key-parts (entry s properties i) object id (omega (arith, field-at s properties i property.id (omega arith))) low (index-key s properties x h) in
+          let q = key-parts (entry s properties i) object id (omega (arith, field-at s properties i property.id (omega arith))) low (index-key s properties x h ∙ e) in
           record { there = h; sameObject = q .0; sameId = q .1 }
+
+  -- THE LOOKUP OF A PROPERTY BY ITS OBJECT AND ID
+  pub property-handed :
+      (object id : ℕ) → ((i : ℕ) → getD s i 0 < 256) → id < 256 →
+      Handed s properties (PropertyWith s object id) (propertyOf s object id) (propertyFrom s object id)
+  property-handed object id bytes low = by-number _ object id bytes low (omega arith)
