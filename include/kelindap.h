@@ -20,6 +20,9 @@
  *  - a Restart shows only as outcome 1 in mode 3 with the session closed afterwards: the host then drops the connection, and
  *    restarts what it wants;
  *  - calls on one sheet come one after the other, never from two threads at once.
+ *
+ * A warning: no key is special. A tool that "deletes" a key by writing FFFFFFFFh does not close that level but opens it: whoever
+ * then sends FFFFFFFFh by Authorize gets it. With key 0 that is level 0, which may write all that can be written.
  */
 #ifndef KELINDAP_H
 #define KELINDAP_H

@@ -1,6 +1,6 @@
 -- The bytes of a row's items: how many they are, and that the fields are read back from them.
 -- Assumes nothing.
-use Prim.Native.Nat.{ℕ, _+_, _*_, _/_, _%_, _^_, _≤_, _<_}
+use Prim.Native.Nat.{ℕ, _+_, _%_, _^_, _≤_, _<_}
 use mathlib.Core.Path.{_≡_, refl, sym, ap, ap₂, _∙_}
 use mathlib.Core.Bool.{true}
 use mathlib.Core.List.{List, [], _∷_, _++_, append-assoc}
@@ -11,7 +11,7 @@ use Rattle.octets.specs.Bytes.{numAt, bytesOf}
 use Rattle.octets.proofs.Numbers.{num-back, length-bytes}
 use Rattle.pdu.specs.Item.{Name, Item, low, num, cap, duo, skip, Row, Value, _≔_, the}
 use Rattle.pdu.specs.Table.{has}
-use Rattle.pdu.specs.Rules.{codeOf, lowAt, fourAt, twelveAt, valuesAt, endOf, headOf, codeFor, itemBytes, headBytes}
+use Rattle.pdu.specs.Rules.{codeOf, lowAt, fourAt, twelveAt, valuesAt, endOf, headOf, codeFor, pairOf, ignored, itemBytes, headBytes}
 use Rattle.pdu.specs.Allows.{AllWithin}
 use Rattle.pdu.proofs.Formed.{Formed, Held, Coded, coded}
 use Rattle.pdu.proofs.Sound.{chosen}
@@ -26,8 +26,8 @@ end-items [] x at = sym (add-zero at)
 end-items (low f m ∷ is) x at = end-items is x at
 end-items (num f w ∷ is) x at = end-more w (the x f) (itemBytes is x) at (endOf (at + w) is) (end-items is x (at + w))
 end-items (cap f w m ∷ is) x at = end-more w (the x f) (itemBytes is x) at (endOf (at + w) is) (end-items is x (at + w))
-end-items (duo f g ∷ is) x at = end-more 2 (the x f * 4096 + the x g) (itemBytes is x) at (endOf (at + 2) is) (end-items is x (at + 2))
-end-items (skip w ∷ is) x at = end-more w 0 (itemBytes is x) at (endOf (at + w) is) (end-items is x (at + w))
+end-items (duo f g ∷ is) x at = end-more 2 (pairOf (the x f) (the x g)) (itemBytes is x) at (endOf (at + 2) is) (end-items is x (at + 2))
+end-items (skip w ∷ is) x at = end-more w ignored (itemBytes is x) at (endOf (at + w) is) (end-items is x (at + w))
 
 -- CODE AND ITEMS FILL THE BYTES BEFORE THE DATA, which are two at least
 pub length-head : (r : Row) (x : List Value) → length (headBytes r x) ≡ headOf r
@@ -53,11 +53,16 @@ module _ (s a : List ℕ) (at w v : ℕ) (b t : List ℕ) (e : s ≡ a ++ ((byte
 field : (f : Name) (m n : ℕ) (x y : List Value) → m ≡ n → x ≡ y → f ≔ m ∷ x ≡ f ≔ n ∷ y
 field f m n x y p q = ap₂ (λ (k : ℕ) (z : List Value). f ≔ k ∷ z) p q
 
+-- four bits and twelve are read back from the number that they make
+duo-back : (s : List ℕ) (at x y : ℕ) → x < 16 → y < 4096 → numAt s at 2 ≡ pairOf x y → (fourAt s at ≡ x) × (twelveAt s at ≡ y)
+unfolding fourAt twelveAt
+duo-back s at x y p q e = (omega arith, omega arith)
+
 -- THE LAW OF THE ITEMS: fields that fit their places are read back
 values-back :
     (is : List Item) (x : List Value) (c : ℕ) (s a t : List ℕ) (at : ℕ) →
     s ≡ a ++ (itemBytes is x ++ t) → length a ≡ at → numAt s 0 2 ≡ c → Held is x c → valuesAt is at s ≡ chosen is x
-unfolding lowAt fourAt twelveAt
+unfolding lowAt
 values-back [] x c s a t at e l n h = refl
 values-back (low f m ∷ is) x c s a t at e l n h =
     field f (numAt s 0 2 % m) (the x f) (valuesAt is at s) (chosen is x) (ap (λ (k : ℕ). k % m) n ∙ h .0) (values-back is x c s a t at e l n (h .1))
@@ -70,15 +75,15 @@ values-back (cap f w m ∷ is) x c s a t at e l n h =
     field f (numAt s at w) v (valuesAt is (at + w) s) (chosen is x) (number-here s a at w v (itemBytes is x) t e l (h .0))
     (values-back is x c s (a ++ bytesOf w v) t (at + w) (rest s a at w v (itemBytes is x) t e l) (further s a at w v (itemBytes is x) t e l) n (h .1))
 values-back (duo f g ∷ is) x c s a t at e l n h =
-    let v : ℕ = the x f * 4096 + the x g in
-    let p : the x f < 16 = h .0 in
-    let q : the x g < 4096 = h .1 in
-    let k : numAt s at 2 ≡ v = number-here s a at 2 v (itemBytes is x) t e l (omega arith) in
-    field f (numAt s at 2 / 4096) (the x f) (g ≔ (numAt s at 2 % 4096) ∷ valuesAt is (at + 2) s) (g ≔ the x g ∷ chosen is x) (omega arith)
-    (field g (numAt s at 2 % 4096) (the x g) (valuesAt is (at + 2) s) (chosen is x) (omega arith)
+    let v : ℕ = pairOf (the x f) (the x g) in
+    let p = h .0 in
+    let q = h .1 in
+    let d = duo-back s at (the x f) (the x g) p q (number-here s a at 2 v (itemBytes is x) t e l (omega arith)) in
+    field f (fourAt s at) (the x f) (g ≔ twelveAt s at ∷ valuesAt is (at + 2) s) (g ≔ the x g ∷ chosen is x) (d .0)
+    (field g (twelveAt s at) (the x g) (valuesAt is (at + 2) s) (chosen is x) (d .1)
     (values-back is x c s (a ++ bytesOf 2 v) t (at + 2) (rest s a at 2 v (itemBytes is x) t e l) (further s a at 2 v (itemBytes is x) t e l) n (h .2)))
 values-back (skip w ∷ is) x c s a t at e l n h =
-    values-back is x c s (a ++ bytesOf w 0) t (at + w) (rest s a at w 0 (itemBytes is x) t e l) (further s a at w 0 (itemBytes is x) t e l) n h
+    values-back is x c s (a ++ bytesOf w ignored) t (at + w) (rest s a at w ignored (itemBytes is x) t e l) (further s a at w ignored (itemBytes is x) t e l) n h
 
 -- THE LAW OF THE ROW: of allowed fields, the bytes hold a code of the row, and the fields
 pub record RowBack (r : Row) (x : List Value) (s : List ℕ) : Type 0 where

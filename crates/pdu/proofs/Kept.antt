@@ -1,7 +1,7 @@
 -- The bytes of fields that stand in an APDU are the APDU's own, but for those of no meaning, which are 0.
 -- Assumes nothing.
 use Prim.Native.Nat.{ℕ, _+_, _-_, _*_, _/_, _%_, _≤_, _<_}
-use mathlib.Core.Path.{_≡_, ap, _∙_}
+use mathlib.Core.Path.{_≡_, ap, ap₂, _∙_}
 use mathlib.Core.Logic.{_⊎_, inl, inr, ⊎-elim}
 use mathlib.Core.List.{List, [], _∷_, _++_, append-assoc}
 use native.Mathlib.Omega.{arith}
@@ -11,7 +11,7 @@ use lib.Seq.{getD-drop, getD-append-add}
 use Rattle.octets.specs.Bytes.{numAt, bytesOf}
 use Rattle.octets.proofs.Numbers.{length-bytes, bytes-back, bytes-zero, bytes-two, num-two}
 use Rattle.pdu.specs.Item.{Item, low, num, cap, duo, skip, Row, Value, the}
-use Rattle.pdu.specs.Rules.{codeOf, endOf, headOf, codeFor, itemBytes, headBytes}
+use Rattle.pdu.specs.Rules.{codeOf, endOf, headOf, codeFor, fourAt, twelveAt, pairOf, ignored, itemBytes, headBytes}
 use Rattle.pdu.specs.Cleared.{Skipped, Cleared}
 use Rattle.pdu.proofs.Stands.{Stands}
 use Rattle.pdu.proofs.Items.{length-head}
@@ -58,17 +58,26 @@ kept-number S b at w v l small e after k j = go (decLt j w)
     )
     go (no h) = kept-behind S b at w v l j h (k (j - w))
 
-kept-skip : (S : ℕ → Type 0) (b : List ℕ) (at w : ℕ) (l : List ℕ) → ((j : ℕ) → Kept S b (at + w) l j) → (j : ℕ) → Kept (λ (i : ℕ). ((at ≤ i) × (i < at + w)) ⊎ S i) b at (bytesOf w 0 ++ l) j
+-- ignored bytes are written as zero
+ignored-zero : (w j : ℕ) → j < w → getD (bytesOf w ignored) j 0 ≡ 0
+ignored-zero w j h = ap (λ (z : List ℕ). getD z j 0) (bytes-zero w) ∙ getD-replicate w j 0 0 h
+
+kept-skip : (S : ℕ → Type 0) (b : List ℕ) (at w : ℕ) (l : List ℕ) → ((j : ℕ) → Kept S b (at + w) l j) → (j : ℕ) → Kept (λ (i : ℕ). ((at ≤ i) × (i < at + w)) ⊎ S i) b at (bytesOf w ignored ++ l) j
 kept-skip S b at w l k j = go (decLt j w)
   where
-    go : Dec (j < w) → Kept (λ (i : ℕ). ((at ≤ i) × (i < at + w)) ⊎ S i) b at (bytesOf w 0 ++ l) j
+    go : Dec (j < w) → Kept (λ (i : ℕ). ((at ≤ i) × (i < at + w)) ⊎ S i) b at (bytesOf w ignored ++ l) j
     go (yes h) = (
-      λ s. in-front w 0 l j h ∙ ap (λ (z : List ℕ). getD z j 0) (bytes-zero w) ∙ getD-replicate w j 0 0 h,
+      λ s. in-front w ignored l j h ∙ ignored-zero w j h,
       λ s. absurd (s (inl (omega arith, omega arith))),
     )
     go (no h) =
-        let m = kept-behind S b at w 0 l j h (k (j - w)) in
+        let m = kept-behind S b at w ignored l j h (k (j - w)) in
         (λ s. m .0 (⊎-elim (λ t. absurd (omega arith)) (λ t. t) s), λ s. m .1 (λ t. s (inr t)))
+
+-- four bits and twelve make the number that they stand in
+duo-kept : (b : List ℕ) (at : ℕ) → pairOf (fourAt b at) (twelveAt b at) ≡ numAt b at 2
+unfolding fourAt twelveAt
+duo-kept b at = omega arith
 
 -- THE LAW OF THE ITEMS: their bytes and what follows are those that stood there, but for those of no meaning
 kept-items :
@@ -82,13 +91,11 @@ kept-items (cap f w m ∷ is) x at b small s j =
     rw (append-assoc (bytesOf w (the x f)) (itemBytes is x) (drop (endOf (at + w) is) b))
     (kept-number (Skipped is (at + w)) b at w (the x f) (itemBytes is x ++ drop (endOf (at + w) is) b) small (s .0) (skipped-after is (at + w)) (kept-items is x (at + w) b small (s .1)) j)
 kept-items (duo f g ∷ is) x at b small s j =
-    let v : ℕ = the x f * 4096 + the x g in
-    let p : the x f ≡ numAt b at 2 / 4096 = s .0 in
-    let q : the x g ≡ numAt b at 2 % 4096 = s .1 in
+    let v : ℕ = pairOf (the x f) (the x g) in
     rw (append-assoc (bytesOf 2 v) (itemBytes is x) (drop (endOf (at + 2) is) b))
-    (kept-number (Skipped is (at + 2)) b at 2 v (itemBytes is x ++ drop (endOf (at + 2) is) b) small (omega arith) (skipped-after is (at + 2)) (kept-items is x (at + 2) b small (s .2)) j)
+    (kept-number (Skipped is (at + 2)) b at 2 v (itemBytes is x ++ drop (endOf (at + 2) is) b) small (ap₂ pairOf (s .0) (s .1) ∙ duo-kept b at) (skipped-after is (at + 2)) (kept-items is x (at + 2) b small (s .2)) j)
 kept-items (skip w ∷ is) x at b small s j =
-    rw (append-assoc (bytesOf w 0) (itemBytes is x) (drop (endOf (at + w) is) b))
+    rw (append-assoc (bytesOf w ignored) (itemBytes is x) (drop (endOf (at + w) is) b))
     (kept-skip (Skipped is (at + w)) b at w (itemBytes is x ++ drop (endOf (at + w) is) b) (kept-items is x (at + w) b small s) j)
 
 -- the two bytes of a code

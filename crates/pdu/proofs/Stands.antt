@@ -1,6 +1,6 @@
 -- Fields that stand in bytes, item by item.
 -- Assumes nothing.
-use Prim.Native.Nat.{ℕ, _+_, _/_, _%_, _<_}
+use Prim.Native.Nat.{ℕ, _+_, _%_, _<_}
 use mathlib.Core.Path.{_≡_, ap}
 use mathlib.Core.List.{List, [], _∷_}
 use native.Mathlib.Omega.{arith}
@@ -18,7 +18,7 @@ Stands [] x at b = Unit {0}
 Stands (low f m ∷ is) x at b = (the x f ≡ numAt b 0 2 % m) × Stands is x at b
 Stands (num f w ∷ is) x at b = (the x f ≡ numAt b at w) × Stands is x (at + w) b
 Stands (cap f w m ∷ is) x at b = (the x f ≡ numAt b at w) × Stands is x (at + w) b
-Stands (duo f g ∷ is) x at b = (the x f ≡ numAt b at 2 / 4096) × (the x g ≡ numAt b at 2 % 4096) × Stands is x (at + 2) b
+Stands (duo f g ∷ is) x at b = (the x f ≡ fourAt b at) × (the x g ≡ twelveAt b at) × Stands is x (at + 2) b
 Stands (skip w ∷ is) x at b = Stands is x (at + w) b
 
 -- two lists of fields are equal if their first fields and their rests are
@@ -36,7 +36,7 @@ split f m n x y e = (ap first-number e, ap rest e)
 
 -- the fields of the bytes stand in them
 pub stands : (is : List Item) (x : List Value) (at : ℕ) (b : List ℕ) → chosen is x ≡ valuesAt is at b → Stands is x at b
-unfolding lowAt fourAt twelveAt
+unfolding lowAt
 stands [] x at b e = tt
 stands (low f m ∷ is) x at b e =
     let h = split f (the x f) (numAt b 0 2 % m) (chosen is x) (valuesAt is at b) e in
@@ -48,8 +48,8 @@ stands (cap f w m ∷ is) x at b e =
     let h = split f (the x f) (numAt b at w) (chosen is x) (valuesAt is (at + w) b) e in
     (h .0, stands is x (at + w) b (h .1))
 stands (duo f g ∷ is) x at b e =
-    let h = split f (the x f) (numAt b at 2 / 4096) (g ≔ the x g ∷ chosen is x) (g ≔ (numAt b at 2 % 4096) ∷ valuesAt is (at + 2) b) e in
-    let k = split g (the x g) (numAt b at 2 % 4096) (chosen is x) (valuesAt is (at + 2) b) (h .1) in
+    let h = split f (the x f) (fourAt b at) (g ≔ the x g ∷ chosen is x) (g ≔ twelveAt b at ∷ valuesAt is (at + 2) b) e in
+    let k = split g (the x g) (twelveAt b at) (chosen is x) (valuesAt is (at + 2) b) (h .1) in
     (h .0, k .0, stands is x (at + 2) b (k .1))
 stands (skip w ∷ is) x at b e = stands is x (at + w) b e
 

@@ -9,25 +9,26 @@ use lib.Dec.{eqb}
 pub data Name : Type 0 where
   V6 Address Serial Domain T Object Id N S Index Kind Maximum Access Level Key : Name
 
-abbrev place : Name → ℕ
-place V6 = 0
-place Address = 1
-place Serial = 2
-place Domain = 3
-place T = 4
-place Object = 5
-place Id = 6
-place N = 7
-place S = 8
-place Index = 9
-place Kind = 10
-place Maximum = 11
-place Access = 12
-place Level = 13
-place Key = 14
+-- each by a number of its own
+abbrev pub nameNumber : Name → ℕ
+nameNumber V6 = 0
+nameNumber Address = 1
+nameNumber Serial = 2
+nameNumber Domain = 3
+nameNumber T = 4
+nameNumber Object = 5
+nameNumber Id = 6
+nameNumber N = 7
+nameNumber S = 8
+nameNumber Index = 9
+nameNumber Kind = 10
+nameNumber Maximum = 11
+nameNumber Access = 12
+nameNumber Level = 13
+nameNumber Key = 14
 
 abbrev pub same : Name → Name → Bool
-same a b = eqb (place a) (place b)
+same a b = eqb (nameNumber a) (nameNumber b)
 
 -- What stands in a PDU, in order.
 pub data Item : Type 0 where

@@ -76,14 +76,22 @@ codeBy b (skip w ∷ is) x = b
 abbrev pub codeFor : Row → List Value → ℕ
 codeFor r x = codeBy (r .base) (r .items) x
 
+-- two fields as one number of two bytes: four bits, then twelve
+abbrev pub pairOf : ℕ → ℕ → ℕ
+pairOf x y = x * 4096 + y
+
+-- what bytes of no meaning are written as
+abbrev pub ignored : ℕ
+ignored = 0
+
 -- the bytes of the items
 abbrev pub itemBytes : List Item → List Value → List ℕ
 itemBytes [] x = []
 itemBytes (low f m ∷ is) x = itemBytes is x
 itemBytes (num f w ∷ is) x = bytesOf w (the x f) ++ itemBytes is x
 itemBytes (cap f w m ∷ is) x = bytesOf w (the x f) ++ itemBytes is x
-itemBytes (duo f g ∷ is) x = bytesOf 2 (the x f * 4096 + the x g) ++ itemBytes is x
-itemBytes (skip w ∷ is) x = bytesOf w 0 ++ itemBytes is x
+itemBytes (duo f g ∷ is) x = bytesOf 2 (pairOf (the x f) (the x g)) ++ itemBytes is x
+itemBytes (skip w ∷ is) x = bytesOf w ignored ++ itemBytes is x
 
 -- code and items of a row with these fields
 unfoldable pub headBytes : Row → List Value → List ℕ

@@ -7,10 +7,13 @@ ghost use Rattle.octets.specs.Bytes.{bytesOf};
 ghost use Rattle.octets.specs.Splice.{splice};
 ghost use Rattle.pdu.specs.Table.{rowOf};
 ghost use Rattle.pdu.specs.Pdus.{serviceOf, valuesOf};
-ghost use Rattle.pdu.specs.Rules.{headBytes};
+ghost use Rattle.pdu.specs.Rules.{pairOf, ignored, headBytes};
 ghost use Rattle.pdu.specs.Read.{dataAt};
 use crate::Pdu;
 use octets::put;
+
+// What ignored bytes are written as.
+const IGNORED: u64 = 0;
 
 // The code, and then so many numbers, each of so many bytes.
 fn none(out: &mut [u8], code: u64)
@@ -44,18 +47,18 @@ fn three(out: &mut [u8], code: u64, w: usize, x: u64, v: usize, y: u64, u: usize
     put(out, 2 + w + v, u, z);
 }
 
-// A serial number, a number of two bytes, and u bytes of 0.
+// A serial number, a number of two bytes, and u ignored bytes.
 fn serial(out: &mut [u8], code: u64, serial: u64, x: u16, u: usize)
     requires { ⌜ (16 ≤ length (now out)) × (u ≤ 4) ⌝ }
-    ensures { λ _. ⌜ now (out .exit) ≡ splice (now (out .entry)) 0 (bytesOf 2 code ++ (bytesOf 6 serial ++ (bytesOf 2 x ++ (bytesOf u 0 ++ [])))) ⌝ }
+    ensures { λ _. ⌜ now (out .exit) ≡ splice (now (out .entry)) 0 (bytesOf 2 code ++ (bytesOf 6 serial ++ (bytesOf 2 x ++ (bytesOf u ignored ++ [])))) ⌝ }
 {
-    three(out, code, 6, serial, 2, x as u64, u, 0);
+    three(out, code, 6, serial, 2, x as u64, u, IGNORED);
 }
 
 // A property's value: the fields n and s share two bytes.
 fn property(out: &mut [u8], code: u64, object: u8, id: u8, n: u8, s: u16)
     requires { ⌜ 16 ≤ length (now out) ⌝ }
-    ensures { λ _. ⌜ now (out .exit) ≡ splice (now (out .entry)) 0 (bytesOf 2 code ++ (bytesOf 1 object ++ (bytesOf 1 id ++ (bytesOf 2 (n * 4096 + s) ++ [])))) ⌝ }
+    ensures { λ _. ⌜ now (out .exit) ≡ splice (now (out .entry)) 0 (bytesOf 2 code ++ (bytesOf 1 object ++ (bytesOf 1 id ++ (bytesOf 2 (pairOf n s) ++ [])))) ⌝ }
 {
     let x = (n as u64) * 4096 + (s as u64);
     three(out, code, 1, object as u64, 1, id as u64, 2, x);
@@ -110,7 +113,7 @@ pub(crate) fn put_head(pdu: Pdu, out: &mut [u8])
         Pdu::MemoryRead { n, address } => one(out, 0x200 + (n as u64), 2, address as u64),
         Pdu::MemoryWrite { n, address } => one(out, 0x280 + (n as u64), 2, address as u64),
         Pdu::MemoryBitWrite { n, address } => two(out, 0x3D0, 1, n as u64, 2, address as u64),
-        Pdu::AuthorizeRequest { key } => two(out, 0x3D1, 1, 0, 4, key as u64),
+        Pdu::AuthorizeRequest { key } => two(out, 0x3D1, 1, IGNORED, 4, key as u64),
         Pdu::KeyWrite { level, key } => two(out, 0x3D3, 1, level as u64, 4, key as u64),
         Pdu::Restart => none(out, 0x380),
         Pdu::IndividualAddressResponse => none(out, 0x140),

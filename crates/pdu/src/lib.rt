@@ -261,11 +261,11 @@ pub fn encode(pdu: Pdu, data: &[u8], out: &mut [u8]) -> usize
 pub fn write(pdu: Pdu, data: &[u8], out: &mut [u8]) -> Written
     ensures { λ r. ⌜ Wrote pdu (now («data» .entry)) (now (out .entry)) r (now (out .exit)) ⌝ }
 {
+    let at = head::data_at(pdu);
+    let n = at + data.len();
     if out.len() < 16 {
         return Written::Refused(3);
     }
-    let at = head::data_at(pdu);
-    let n = at + data.len();
     if 16 < n {
         return Written::Refused(13);
     }

@@ -89,7 +89,7 @@ module _ (s : List ℕ) (k x : ℕ) where
 
 -- the first word of a property is its object and id
 pub key-is : (e : List ℕ) → property.key of e ≡ property.object of e * 256 + property.id of e
-key-is e = omega (arith, num-two e 0, num-one e 0, num-one e 1)
+key-is e = omega (arith, num-two e (property.key .at), num-one e (property.object .at), num-one e (property.id .at))
 
 -- and says both, ids being bytes
 pub key-parts :

@@ -1,3 +1,5 @@
+-- Promises, named in docs/PROMISES.md: Plains, Nine, Values, Examples, Positions, Keys, Ranks, Runs, Frames, Stores, Counts.
+-- All others are laws behind them or behind the contracts.
 pub mod First
 pub mod ByKind
 pub mod Demands
@@ -11,6 +13,7 @@ pub mod Says
 pub mod Untils
 pub mod Ties
 pub mod Plains
+pub mod Nine
 pub mod Standing
 pub mod Positions
 pub mod Seeks
@@ -28,3 +31,5 @@ pub mod Mild
 pub mod Counts
 pub mod Stores
 pub mod Parts
+pub mod Values
+pub mod Examples

@@ -10,7 +10,7 @@ use native.Mathlib.Decide.{decLt}
 use native.Mathlib.Nat.{le-refl, add-zero, add-suc}
 use native.Mathlib.Omega.{arith}
 use borrow.Author.Tests.{eq-eqb, ne-eqb, eqb-true}
-use Rattle.octets.proofs.Numbers.{num-one}
+use Rattle.octets.proofs.Numbers.{num-below}
 use Rattle.sheet.specs.Kind.{properties}
 use Rattle.sheet.specs.Layout.{_of_}
 use Rattle.sheet.specs.Property as property
@@ -19,7 +19,7 @@ use Rattle.sheet.specs.Lookup.{objectAt, rank, nthOf}
 use Rattle.sheet.proofs.Good.{Good}
 use Rattle.sheet.proofs.Keys.{key-is, key-rising}
 use Rattle.sheet.proofs.Rising.{rising}
-use Rattle.sheet.proofs.Standing.{entry-at}
+use Rattle.sheet.proofs.Standing.{field-at}
 use Rattle.sheet.proofs.Seeks.{seek-bound, seek-passes, seek-hit, seek-none}
 
 module _ (s : List ℕ) (object : ℕ) where
@@ -103,7 +103,7 @@ module _ {ed : ℕ} {s : List ℕ} (g : Good ed s) (bytes : (i : ℕ) → getD s
   id-below : (i : ℕ) → property.id of entry s properties i < 256
   id-below i =
       omega
-      (arith, num-one (entry s properties i) 1, entry-at s properties i 1 (omega arith), bytes (place s properties i + 1))
+      (arith, field-at s properties i property.id (omega arith), num-below s (place s properties i + property.id .at) (property.id .width) bytes)
 
   -- the objects of the properties rise
   pub object-rising : (i j : ℕ) → i ≤ j → j < count s properties → objectAt s i ≤ objectAt s j

@@ -9,8 +9,9 @@ use lib.ListN.{length}
 use borrow.Author.Tests.{eq-eqb, ne-eqb}
 use native.Mathlib.Decide.{decLt}
 use native.Mathlib.Omega.{arith}
-use Rattle.octets.specs.Bytes.{numAt}
 use Rattle.sheet.specs.Kind.{kinds, OfKind}
+use Rattle.sheet.specs.Layout.{_of_}
+use Rattle.sheet.specs.Region as region
 use Rattle.sheet.specs.Entries.{entry, keyOf, offsetOf, lengthOf, bodyEnd}
 use Rattle.sheet.specs.Rules.{ruleOf}
 use Rattle.sheet.specs.Lookup.{seek, indexOf}
@@ -67,11 +68,12 @@ module _ (s : List ℕ) (k x n i : ℕ) (c : Counted s k n) (m : Missed (isKey s
   unfolding indexOf
   key-ended h = rw (← c .is) (ended (isKey s k x) n i m h)
 
-pub key-of : (s : List ℕ) (k i : ℕ) (e : List ℕ) (r : ℕ) → e ≡ entry s k i → r ≡ numAt e 0 2 → r ≡ keyOf s k i
+-- a first word stands where a region's address does
+pub key-of : (s : List ℕ) (k i : ℕ) (e : List ℕ) (r : ℕ) → e ≡ entry s k i → r ≡ region.address of e → r ≡ keyOf s k i
 unfolding keyOf
-key-of s k i e r q p = p ∙ ap (λ (l : List ℕ). numAt l 0 2) q ∙ go k
+key-of s k i e r q p = p ∙ ap (λ (l : List ℕ). region.address of l) q ∙ go k
   where
-    go : (k : ℕ) → numAt (entry s k i) 0 2 ≡ keyOf s k i
+    go : (k : ℕ) → region.address of entry s k i ≡ keyOf s k i
     go zero = refl
     go (suc zero) = refl
     go (suc (suc k)) = refl

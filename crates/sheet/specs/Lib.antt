@@ -11,6 +11,7 @@ pub mod Rules
 pub mod Walk
 pub mod Plain
 pub mod Lookup
+pub mod Values
 pub mod Places
 pub mod Frame
 pub mod Stores

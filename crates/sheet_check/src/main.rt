@@ -1,6 +1,9 @@
 // Reads a sheet from standard input, and writes OK or the rule that it breaks.
+ghost use mathlib.Core.Path.{_≡_};
+ghost use Prim.Native.Nat.{_≤_};
 ghost use lib.ListN.{length};
 ghost use Rattle.sheet_check.specs.Input.{Within};
+ghost use Rattle.sheet_check.specs.Line.{lineOf, saidOf};
 use libc::STDIN_FILENO;
 use libc::STDOUT_FILENO;
 
@@ -28,11 +31,22 @@ fn read_all(buf: &mut [u8]) -> Input
     Input::Bytes(n)
 }
 
-fn line(rule: u8) -> [u8; 3] {
+// The line of a rule.
+fn line(rule: u8) -> [u8; 3]
+    requires { ⌜ rule ≤ 9 ⌝ }
+    ensures { λ r. ⌜ r ≡ lineOf rule ⌝ }
+{
     if rule == 0 {
         return *b"OK\n";
     }
-    [b'S', b'0' + rule % 10, b'\n']
+    [b'S', b'0' + rule, b'\n']
+}
+
+// What is said of a sheet.
+fn said(sheet: &[u8]) -> [u8; 3]
+    ensures { λ r. ⌜ r ≡ saidOf (now (sheet .entry)) ⌝ }
+{
+    line(sheet::check(sheet))
 }
 
 fn say(line: &[u8]) {
@@ -46,7 +60,7 @@ fn main() {
     let mut buf = [0u8; 16385];
     let input = read_all(&mut buf);
     match input {
-        Input::Bytes(n) => say(&line(sheet::check(&buf[..n]))),
+        Input::Bytes(n) => say(&said(&buf[..n])),
         Input::Failed => os::fail(b"sheet_check: standard input"),
     }
 }

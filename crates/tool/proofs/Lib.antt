@@ -1,2 +1,4 @@
 pub mod Arms
 pub mod Means
+pub mod Returned
+pub mod Examples

@@ -37,7 +37,7 @@ fn none(kind: u8) -> FlatPdu
 }
 
 // A refusal.
-pub fn refused(n: u8) -> FlatPdu
+pub fn refuse(n: u8) -> FlatPdu
     ensures { λ r. ⌜ r ≡ refusal n ⌝ }
 {
     let mut f = none(0);
@@ -79,12 +79,20 @@ fn serial(kind: u8, serial: u64, address: u16, domain: u16) -> FlatPdu
     f
 }
 
-fn property(kind: u8, object: u8, id: u8, n: u8, s: u16) -> FlatPdu
-    ensures { λ r. ⌜ r ≡ laid kind (Object ≔ object ∷ Id ≔ id ∷ N ≔ n ∷ S ≔ s ∷ []) 0 0 ⌝ }
+// Of a property: object and id, and then what its value and its description have.
+fn entry(kind: u8, object: u8, id: u8) -> FlatPdu
+    ensures { λ r. ⌜ r ≡ laid kind (Object ≔ object ∷ Id ≔ id ∷ []) 0 0 ⌝ }
 {
     let mut f = none(kind);
     f.object = object;
     f.id = id;
+    f
+}
+
+fn property(kind: u8, object: u8, id: u8, n: u8, s: u16) -> FlatPdu
+    ensures { λ r. ⌜ r ≡ laid kind (Object ≔ object ∷ Id ≔ id ∷ N ≔ n ∷ S ≔ s ∷ []) 0 0 ⌝ }
+{
+    let mut f = entry(kind, object, id);
     f.n = n;
     f.s = s;
     f
@@ -101,9 +109,7 @@ fn description(
 ) -> FlatPdu
     ensures { λ r. ⌜ r ≡ laid kind (Object ≔ object ∷ Id ≔ id ∷ Index ≔ index ∷ Kind ≔ class ∷ Maximum ≔ maximum ∷ Access ≔ access ∷ []) 0 0 ⌝ }
 {
-    let mut f = none(kind);
-    f.object = object;
-    f.id = id;
+    let mut f = entry(kind, object, id);
     f.index = index;
     f.class = class;
     f.maximum = maximum;

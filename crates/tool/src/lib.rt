@@ -56,7 +56,7 @@ pub extern "C" fn kelindap_read(apdu: &[u8]) -> FlatPdu
     let got = pdu::read(apdu);
     match got {
         Parsed::Is(p) => lay::read_as(p, apdu),
-        Parsed::Refused(n) => lay::refused(n),
+        Parsed::Refused(n) => lay::refuse(n),
     }
 }
 

@@ -10,6 +10,8 @@ pub fn meant(f: FlatPdu) -> Meant
     ensures { λ r. ⌜ r ≡ meantBy f ⌝ }
 {
     let kind = f.kind;
+    let object = f.object;
+    let id = f.id;
     match kind {
         0 => Meant::Known(Pdu::GroupValueRead),
         1 => Meant::Known(Pdu::GroupValueResponse { v: f.v }),
@@ -23,20 +25,20 @@ pub fn meant(f: FlatPdu) -> Meant
         }),
         7 => Meant::Known(Pdu::DeviceDescriptorRead { t: f.t }),
         8 => Meant::Known(Pdu::PropertyValueRead {
-            object: f.object,
-            id: f.id,
+            object,
+            id,
             n: f.n,
             s: f.s,
         }),
         9 => Meant::Known(Pdu::PropertyValueWrite {
-            object: f.object,
-            id: f.id,
+            object,
+            id,
             n: f.n,
             s: f.s,
         }),
         10 => Meant::Known(Pdu::PropertyDescriptionRead {
-            object: f.object,
-            id: f.id,
+            object,
+            id,
             index: f.index,
         }),
         11 => Meant::Known(Pdu::MemoryRead {
@@ -64,14 +66,14 @@ pub fn meant(f: FlatPdu) -> Meant
         }),
         19 => Meant::Known(Pdu::DeviceDescriptorResponse { t: f.t }),
         20 => Meant::Known(Pdu::PropertyValueResponse {
-            object: f.object,
-            id: f.id,
+            object,
+            id,
             n: f.n,
             s: f.s,
         }),
         21 => Meant::Known(Pdu::PropertyDescriptionResponse {
-            object: f.object,
-            id: f.id,
+            object,
+            id,
             index: f.index,
             kind: f.class,
             maximum: f.maximum,

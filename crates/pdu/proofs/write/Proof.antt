@@ -21,9 +21,9 @@ pub write-spec : {M : Type 1} → statement M
 write-spec =
     tie.close
     (tie.spec
-    returns
     (λ c κs. search needs)
     (λ c. search needs)
+    returns
     returns-2
     (λ c κs. search needs)
     (λ c κs. search needs)

@@ -17,7 +17,6 @@ main-spec =
     (λ c. let fits = rw (c .before .input .given .1) at (c .before .before .before .before .read-all .ensures) in omega arith)
     (λ c. let fits = rw (c .before .before .input .given .1) at (c .before .before .before .before .before .read-all .ensures) in sym (length-take-le _ _ fits))
     (λ c κs. search needs)
-    (λ c κs. search needs)
     (λ c. search needs)
     (λ c κs. search needs)
     (λ c. search needs)

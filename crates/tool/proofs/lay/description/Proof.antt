@@ -5,4 +5,4 @@ use Rattle.tool.proofs.lay.description.Statement.{statement}
 use Rattle.tool.proofs.lay.description.Tie as tie
 
 pub description-spec : {M : Type 1} → statement M
-description-spec = tie.close (tie.spec (λ c κs. search needs) (λ c. simp (c .none .ensures)))
+description-spec = tie.close (tie.spec (λ c κs. search needs) (λ c. simp (c .entry .ensures)))

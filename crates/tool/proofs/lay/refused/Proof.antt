@@ -1,8 +1,0 @@
--- `tool::lay::refused` meets its contract.
--- Assumes nothing.
-use borrow.Author.Needs.{needs}
-use Rattle.tool.proofs.lay.refused.Statement.{statement}
-use Rattle.tool.proofs.lay.refused.Tie as tie
-
-pub refused-spec : {M : Type 1} → statement M
-refused-spec = tie.close (tie.spec (λ c κs. search needs) (λ c. simp (c .none .ensures)))
