@@ -1,4 +1,5 @@
 # make test: everything that is tested and proved. make run: the device at work on the sample sheet. make bench: its speed.
+# make firmware: the device for the controllers' own processors. make times: its instructions on them.
 SHELL := /bin/bash
 .SHELLFLAGS := -euo pipefail -c
 .DEFAULT_GOAL := test
@@ -8,7 +9,7 @@ test: tools
 	rt fmt --check
 	$(MAKE) --no-print-directory -s model
 	$(MAKE) --no-print-directory -s sheet-check
-	$(MAKE) --no-print-directory -s test-unit test-c compare
+	$(MAKE) --no-print-directory -s test-unit test-c compare test-firmware
 	rt ci
 
 # a missing tool fails the tests
@@ -28,3 +29,4 @@ sheet-check: tools
 include mk/hosts.mk
 include mk/compare.mk
 include mk/bench.mk
+include mk/firmware.mk
