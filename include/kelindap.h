@@ -1,9 +1,8 @@
 /*
  * The device side of the KNX application layer, for one device.
  *
- * Link with libhost.a, which is made for x86-64 Linux and, by make firmware, for Cortex-M0, M3, M4 and RISC-V 32. A
- * freestanding host should provide memcpy, memset, memmove and memcmp: compiled code may call any of the four
- * (tests/c/bare.c has them). For Cortex-M0 the compiler's own library has the rest.
+ * Link with libhost.a, which is made for x86-64 Linux. Today it needs memset from outside and nothing else. A freestanding
+ * host should provide memcpy, memset, memmove and memcmp: compiled code may call any of the four (tests/c/bare.c has them).
  *
  * An APDU is the part of a frame from octet 6 on: 2 to 16 bytes, of which the first, b0, is octet 6. The service code is the
  * two low bits of b0 and the eight of the next byte. The six high bits of b0 are transport's: in a request they are ignored,

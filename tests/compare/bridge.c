@@ -36,9 +36,14 @@
 
 /* ---- the pipes ---- */
 
-static uint8_t in[1 << 16];
+#ifdef SMALL /* a board with 16 KB of memory */
+enum { PIPE = 1 << 11, SHEET = 1 << 11, RUN = 63 };
+#else
+enum { PIPE = 1 << 16, SHEET = 1 << 17, RUN = 1023 };
+#endif
+static uint8_t in[PIPE];
 static size_t in_at, in_end;
-static uint8_t out[1 << 16];
+static uint8_t out[PIPE];
 static size_t out_end;
 
 static void flush(void)
@@ -169,7 +174,6 @@ static lent take_run(uint8_t *room, size_t most, size_t bytes)
     return l;
 }
 
-enum { SHEET = 1 << 17, RUN = 1023 };
 static uint8_t sheet_room[GUARD + SHEET + GUARD], apdu_room[GUARD + RUN + GUARD], answer_room[GUARD + RUN + GUARD];
 static lent sheet;
 static kelindap_session session;

@@ -113,7 +113,16 @@ _Noreturn void run_out_of_stack(void)
 
 /* ---- instructions ---- */
 
-#ifdef __arm__
+#ifdef SMALL /* this board's timers are others */
+uint64_t instructions(void)
+{
+    return 0;
+}
+
+static void start_timer(void)
+{
+}
+#elif defined(__arm__)
 /* the board's first timer counts down, 25 times in a microsecond; an instruction counts as a nanosecond */
 static volatile uint32_t *const timer = (volatile uint32_t *)0x40000000;
 
@@ -149,7 +158,11 @@ _Noreturn void begin(void);
 _Noreturn void fault(void);
 void start(void);
 
-#ifdef __arm__
+#ifdef SMALL /* a processor without memory protection */
+static void build_wall(void)
+{
+}
+#elif defined(__arm__)
 static void build_wall(void)
 {
     volatile uint32_t *const protection = (volatile uint32_t *)0xE000ED90;
