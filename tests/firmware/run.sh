@@ -4,7 +4,7 @@
 # of COMPARE, whose replies have the hash that they have on x86-64, and how deep each call goes into the stack; on one board
 # of each family the planted faults too. A board whose emulator is missing is named and passed over.
 set -euo pipefail
-compare=$(realpath "$1") x86=$(realpath "$2")
+compare=(timeout 1800 "$(realpath "$1")") x86=$(realpath "$2")
 cd "$(dirname "$0")/../.."
 events=${EVENTS:-100000} seed=${SEED:-$((10#$(date +%N)))}
 work=$(mktemp -d)
@@ -22,7 +22,7 @@ done
 
 # PROGRAM EVENTS: plays so many events, says so, and leaves the hash of the replies in $work/hash
 play() {
-    "$compare" --device "$1" "$2" "$seed" > "$work/out" 2> "$work/err" || { cat "$work/out" "$work/err"; fail "$1 differs"; }
+    "${compare[@]}" --device "$1" "$2" "$seed" > "$work/out" 2> "$work/err" || { cat "$work/out" "$work/err"; fail "$1 differs"; }
     grep -o 'hash of all replies .*' "$work/out" > "$work/hash"
 }
 
@@ -43,14 +43,14 @@ stack_holds() {
 # a stack that runs out ends in a fault
 wall_stands() {
     local status=0
-    printf '!' | "$1" > "$work/out" 2> "$work/err" || status=$?
+    printf '!' | timeout 300 "$1" > "$work/out" 2> "$work/err" || status=$?
     [ "$status" = 3 ] && grep -q faulted "$work/err" || fail "$1: a stack that is too deep is not seen"
 }
 
 # PROCESSOR PROGRAM: makes the program and plays the scripts on it; lines says how many
 play_scripts() {
     mk/firmware "$1" "$2" tests/compare/bridge.c tests/firmware/board.c tests/firmware/memory.c
-    "$compare" "build/firmware/$1/$2" --scripts "${scripts[@]}" > "$work/out" 2> "$work/err" ||
+    "${compare[@]}" "build/firmware/$1/$2" --scripts "${scripts[@]}" > "$work/out" 2> "$work/err" ||
         { cat "$work/out" "$work/err"; fail "$1: a script"; }
     lines=$(grep -o '[0-9]* lines' "$work/out")
 }
@@ -66,7 +66,7 @@ test_on() { # PROCESSOR EVENTS FAULTS
     stack_holds "$processor"
     echo "firmware: $processor: $lines of scripts, $events events, seed $seed, 0 different, as on x86-64;" \
         "a request took $deepest bytes of stack"
-    [ "$faults" = no ] || "$compare" --device "$bridge" --faults "$seed" > "$work/out" 2> "$work/err" ||
+    [ "$faults" = no ] || "${compare[@]}" --device "$bridge" --faults "$seed" > "$work/out" 2> "$work/err" ||
         { cat "$work/out"; fail "$processor: a planted fault is not found"; }
     [ "$faults" = no ] || echo "firmware: $processor: $(grep -o '[0-9]* of [0-9]* faults found' "$work/out")"
 }
