@@ -1,5 +1,4 @@
 # make test: everything that is tested and proved. make run: the device at work on the sample sheet. make bench: its speed.
-# make firmware: the device for the controllers' own processors. make times: its instructions on them.
 SHELL := /bin/bash
 .SHELLFLAGS := -euo pipefail -c
 .DEFAULT_GOAL := test
