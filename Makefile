@@ -9,7 +9,7 @@ test: tools
 	$(MAKE) --no-print-directory -s documents
 	$(MAKE) --no-print-directory -s model
 	$(MAKE) --no-print-directory -s sheet-check
-	$(MAKE) --no-print-directory -s test-unit test-c compare
+	$(MAKE) --no-print-directory -s test-unit test-c compare test-firmware
 	tests/edits/gate.sh tests/edits/refused.tsv
 
 # every name that a document quotes stands where the document says
@@ -35,3 +35,4 @@ sheet-check: tools
 include mk/hosts.mk
 include mk/compare.mk
 include mk/bench.mk
+include mk/firmware.mk

@@ -67,12 +67,12 @@ build/host_test_own: tests/c/host_test.c tests/c/lent.h include/kelindap.h build
 need-gcc:
 	@command -v gcc > /dev/null || { echo "gcc is missing" >&2; exit 1; }
 
-# the archives are made anew when a source or a proof has changed
-target/staticlib/lib%.a: crates.txt $(shell find crates -name '*.rt' -o -name '*.antt')
+# the archives are made anew when a source or a proof has changed, and with them the modules for other processors
+target/staticlib/lib%.a build/module/%.bc: mk/module crates.txt $(shell find crates -name '*.rt' -o -name '*.antt')
 	@echo "lib$*.a is proved and built, which takes some minutes at first"
-	@mkdir -p build
-	@rt staticlib $* > build/lib$*.log 2>&1 || { cat build/lib$*.log >&2; exit 1; }
+	@mk/module $*
+.PRECIOUS: target/staticlib/lib%.a build/module/%.bc
 
 # the same for this machine's own processor, to be watched and timed
-build/own/lib%.a: mk/own crates.txt $(shell find crates -name '*.rt' -o -name '*.antt')
+build/own/lib%.a: mk/own target/staticlib/lib%.a build/module/%.bc
 	mk/own $*

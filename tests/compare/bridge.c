@@ -14,25 +14,36 @@
  *   R APDU                                   reads a PDU                      the flat PDU
  *   W flat PDU, DATA BUFFER                  writes a PDU                     OUTCOME COUNT BUFFER
  *   D                                        shows the sheet                  BYTES
+ *   t TIMES4 MODE GROUP2 APDU BUFFER         so many requests, on a board     INSTRUCTIONS8
+ *   T TIMES4                                 so many checks, on a board       INSTRUCTIONS8
+ *   !                                        goes deeper than the stack, on a board
  *
  * HASH8 is of the whole sheet after the call. Replies are kept until the input runs dry, so a driver may send many
  * commands and then read as many replies. Sheet and buffers stand between guard bytes, an empty run is lent as NULL.
  */
 #define _POSIX_C_SOURCE 200809L
 #include "kelindap.h"
-#include "kelindap_pdu.h"
 
+#ifdef BOARD /* a controller's processor alone: no C library but the little of it that is used here, no PDU layer */
+#include "board.h"
+#else
+#include "kelindap_pdu.h"
 #include <errno.h>
-#include <stdio.h>
 #include <stdlib.h>
 #include <string.h>
 #include <unistd.h>
+#endif
 
 /* ---- the pipes ---- */
 
-static uint8_t in[1 << 16];
+#ifdef SMALL /* a board with 16 KB of memory */
+enum { PIPE = 1 << 11, SHEET = 1 << 11, RUN = 63 };
+#else
+enum { PIPE = 1 << 16, SHEET = 1 << 17, RUN = 1023 };
+#endif
+static uint8_t in[PIPE];
 static size_t in_at, in_end;
-static uint8_t out[1 << 16];
+static uint8_t out[PIPE];
 static size_t out_end;
 
 static void flush(void)
@@ -53,7 +64,9 @@ static void flush(void)
 static _Noreturn void give_up(const char *why)
 {
     flush();
-    fprintf(stderr, "bridge: %s\n", why);
+    if (write(STDERR_FILENO, "bridge: ", 8) < 0 || write(STDERR_FILENO, why, strlen(why)) < 0 ||
+        write(STDERR_FILENO, "\n", 1) < 0)
+        exit(2);
     exit(EXIT_FAILURE);
 }
 
@@ -161,7 +174,6 @@ static lent take_run(uint8_t *room, size_t most, size_t bytes)
     return l;
 }
 
-enum { SHEET = 1 << 17, RUN = 1023 };
 static uint8_t sheet_room[GUARD + SHEET + GUARD], apdu_room[GUARD + RUN + GUARD], answer_room[GUARD + RUN + GUARD];
 static lent sheet;
 static kelindap_session session;
@@ -245,6 +257,7 @@ static void request(void)
     give_hash();
 }
 
+#ifndef BOARD
 static void read_pdu(void)
 {
     lent apdu = take_run(apdu_room, RUN, 2);
@@ -293,10 +306,72 @@ static void write_pdu(void)
     give_number(written.count, 1);
     give(answer.bytes, answer.length);
 }
+#endif
+
+#ifdef BOARD
+/* ---- instructions: of calls through pointers, less those of a call that does nothing ---- */
+
+typedef kelindap_reply request_call(kelindap_session *, uint8_t, uint16_t, const uint8_t *, size_t, uint8_t *, size_t,
+                                    uint8_t *, size_t);
+typedef uint8_t check_call(const uint8_t *, size_t);
+
+static kelindap_reply no_request(kelindap_session *s, uint8_t m, uint16_t g, const uint8_t *a, size_t an, uint8_t *b, size_t bn,
+                                 uint8_t *c, size_t cn)
+{
+    (void)s, (void)m, (void)g, (void)a, (void)an, (void)b, (void)bn, (void)c, (void)cn;
+    return (kelindap_reply){ 0, 0 };
+}
+
+static uint8_t no_check(const uint8_t *s, size_t n)
+{
+    (void)s, (void)n;
+    return 0;
+}
+
+/* Each time session and flags are as at first, which is all that a repetition could find changed. */
+static void time_requests(void)
+{
+    request_call *const calls[2] = { kelindap_request, no_request };
+    uint64_t taken[2];
+    uint32_t times = (uint32_t)number(4);
+    uint8_t mode = byte();
+    uint16_t group = (uint16_t)number(2);
+    lent apdu = take_run(apdu_room, RUN, 2), answer = take_run(answer_room, RUN, 2);
+    const kelindap_session found = session;
+    const uint8_t flags = sheet.bytes[14];
+    for (int i = 0; i < 2; i++) {
+        request_call *volatile call = calls[i];
+        taken[i] = instructions();
+        for (uint32_t n = 0; n < times; n++) {
+            session = found;
+            sheet.bytes[14] = flags;
+            call(&session, mode, group, apdu.bytes, apdu.length, sheet.bytes, sheet.length, answer.bytes, answer.length);
+        }
+        taken[i] = instructions() - taken[i];
+    }
+    give_number(taken[0] - taken[1], 8);
+}
+
+static void time_checks(void)
+{
+    check_call *const calls[2] = { kelindap_check, no_check };
+    uint64_t taken[2];
+    uint32_t times = (uint32_t)number(4);
+    for (int i = 0; i < 2; i++) {
+        check_call *volatile call = calls[i];
+        taken[i] = instructions();
+        for (uint32_t n = 0; n < times; n++)
+            call(sheet.bytes, sheet.length);
+        taken[i] = instructions() - taken[i];
+    }
+    give_number(taken[0] - taken[1], 8);
+}
+#endif
 
 static void play(uint8_t command)
 {
     uint8_t object;
+    uint64_t k;
     switch (command) {
     case 's':
         sheet = take_run(sheet_room, SHEET, 4);
@@ -334,17 +409,29 @@ static void play(uint8_t command)
         give_part(kelindap_property(given(sheet), sheet.length, object, byte()));
         break;
     case 'r':
-        give_part(kelindap_region(given(sheet), sheet.length, (size_t)number(8)));
+        k = number(8);
+        give_part(kelindap_region(given(sheet), sheet.length, k < SIZE_MAX ? (size_t)k : SIZE_MAX));
         break;
     case 'g':
         give_part(kelindap_group(given(sheet), sheet.length, (uint16_t)number(2)));
         break;
+#ifndef BOARD
     case 'R':
         read_pdu();
         break;
     case 'W':
         write_pdu();
         break;
+#else
+    case 't':
+        time_requests();
+        break;
+    case 'T':
+        time_checks();
+        break;
+    case '!':
+        run_out_of_stack();
+#endif
     case 'D':
         give(sheet.bytes, sheet.length);
         break;

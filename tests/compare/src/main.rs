@@ -2,7 +2,10 @@
 //!
 //!     compare BRIDGE [EVENTS [SEED]]     plays the events on both sides
 //!     compare BRIDGE --faults [SEED]     the model's faults are each found
+//!     compare BRIDGE --scripts NAME..    scripts of the desk unit, NAME.in and NAME.out
+//!     compare --times BRIDGE..           instructions of each request, of boards that count them
 //!
+//! With --device before these no PDU is read or written, for a bridge that has the device alone.
 //! With SHOW in the environment each fault is shown as a difference would be.
 //! BRIDGE is the program of bridge.c. Everything it replies is compared: the
 //! rule of each sheet, outcome, count, session, the whole answer buffer and a
@@ -11,8 +14,10 @@
 mod flat;
 mod make;
 mod play;
+mod script;
 mod shrink;
 mod tally;
+mod times;
 
 use std::io::{Read, Write};
 use std::process::{Child, ChildStdout, Command, ExitCode, Stdio};
@@ -76,6 +81,12 @@ impl Bridge {
         let mut bytes = Vec::with_capacity(length);
         let _ = (&mut self.replies).take(length as u64).read_to_end(&mut bytes);
         bytes
+    }
+
+    /// No more commands: it says what it has to say, and ends well or not.
+    fn finish(mut self) -> bool {
+        self.commands = None;
+        self.child.wait().is_ok_and(|status| status.success())
     }
 }
 
@@ -148,16 +159,23 @@ impl Difference {
     }
 }
 
+/// What is played: which bridge, and whether it has the device alone.
+#[derive(Clone, Copy)]
+struct Side<'a> {
+    program: &'a str,
+    device_alone: bool,
+}
+
 /// Plays `events` up to the first difference.
 fn run(
-    program: &str,
+    side: Side,
     events: usize,
     seed: u64,
     fault: Fault,
     tally: &mut Tally,
 ) -> Option<Difference> {
-    let mut bridge = Bridge::start(program);
-    let mut maker = Maker::new(seed);
+    let mut bridge = Bridge::start(side.program);
+    let mut maker = Maker::new(seed, side.device_alone);
     let mut world = World::new(fault);
     let mut made = 0;
     let mut waiting: Option<Batch> = None;
@@ -178,7 +196,9 @@ fn run(
             for (i, play) in batch.plays.iter().enumerate() {
                 tally.count(play, &replies[batch.range(i)]);
             }
+            tally.add_block(play::hash(&replies));
         } else if next.is_none() {
+            tally.ended_badly = !bridge.finish();
             return None;
         }
         waiting = next;
@@ -260,18 +280,21 @@ fn report(program: &str, seed: u64, difference: &Difference) -> usize {
     number
 }
 
-fn compare(program: &str, events: usize, seed: u64) -> bool {
+fn compare(side: Side, events: usize, seed: u64) -> bool {
     println!("compare: seed {seed}");
     let began = Instant::now();
     let mut tally = Tally::default();
-    if let Some(difference) = run(program, events, seed, Fault::None, &mut tally) {
-        let number = report(program, seed, &difference);
+    if let Some(difference) = run(side, events, seed, Fault::None, &mut tally) {
+        let number = report(side.program, seed, &difference);
         println!("compare: event {number} of {events}, seed {seed}, is different");
         return false;
     }
     let seconds = began.elapsed().as_secs_f64();
     println!("compare: {}", tally.summary());
-    let complaints = tally.complaints(events >= EVENTS);
+    if side.device_alone {
+        println!("compare: hash of all replies {:016x}", tally.blocks);
+    }
+    let complaints = tally.complaints(events >= EVENTS && !side.device_alone);
     complaints.iter().for_each(|line| println!("compare: {line}"));
     println!(
         "compare: {events} events, seed {seed}, 0 different ({seconds:.0} s, {:.0} events a second)",
@@ -280,16 +303,16 @@ fn compare(program: &str, events: usize, seed: u64) -> bool {
     complaints.is_empty()
 }
 
-fn faults(program: &str, seed: u64) -> bool {
+fn faults(side: Side, seed: u64) -> bool {
     let mut found = 0;
     let show = std::env::var_os("SHOW").is_some();
     for fault in Fault::ALL {
-        match run(program, FAULT_EVENTS, seed, fault, &mut Tally::default()) {
+        match run(side, FAULT_EVENTS, seed, fault, &mut Tally::default()) {
             Some(difference) => {
                 found += 1;
                 println!("compare: fault {fault:?} found at event {}", difference.number());
                 if show {
-                    report(program, seed, &difference);
+                    report(side.program, seed, &difference);
                 }
             }
             None => println!("compare: fault {fault:?} not found in {FAULT_EVENTS} events"),
@@ -300,17 +323,24 @@ fn faults(program: &str, seed: u64) -> bool {
 }
 
 fn main() -> ExitCode {
-    let words: Vec<String> = std::env::args().skip(1).collect();
+    let mut words: Vec<String> = std::env::args().skip(1).collect();
+    let device_alone = words.first().is_some_and(|word| word == "--device");
+    if device_alone {
+        words.remove(0);
+    }
     let clock =
         || SystemTime::now().duration_since(UNIX_EPOCH).unwrap().as_nanos() as u64 % 1_000_000_007;
     let seed = |word: Option<&String>| word.map_or_else(|| Some(clock()), |w| w.parse().ok());
     let good = match &words[..] {
+        [word, programs @ ..] if word == "--times" => Some(times::times(programs)),
+        [program, word, names @ ..] if word == "--scripts" => Some(script::scripts(program, names)),
         [program, word, rest @ ..] if word == "--faults" && rest.len() <= 1 => {
-            seed(rest.first()).map(|seed| faults(program, seed))
+            seed(rest.first()).map(|seed| faults(Side { program, device_alone }, seed))
         }
         [program, rest @ ..] if rest.len() <= 2 => {
             let events = rest.first().map_or(Some(EVENTS), |w| w.parse().ok());
-            events.zip(seed(rest.get(1))).map(|(events, seed)| compare(program, events, seed))
+            let side = Side { program, device_alone };
+            events.zip(seed(rest.get(1))).map(|(events, seed)| compare(side, events, seed))
         }
         _ => None,
     };
@@ -318,7 +348,10 @@ fn main() -> ExitCode {
         Some(true) => ExitCode::SUCCESS,
         Some(false) => ExitCode::FAILURE,
         None => {
-            eprintln!("usage: compare BRIDGE [EVENTS [SEED]], compare BRIDGE --faults [SEED]");
+            eprintln!(
+                "usage: compare [--device] BRIDGE [EVENTS [SEED]], .. BRIDGE --faults [SEED],"
+            );
+            eprintln!("       .. BRIDGE --scripts NAME.., .. --times BRIDGE..");
             ExitCode::from(2)
         }
     }

@@ -23,14 +23,17 @@ enum Scene {
 
 pub struct Maker {
     rng: Rng,
+    /// No PDUs are read or written.
+    device_alone: bool,
     scene: Scene,
     left: usize,
     queue: VecDeque<Play>,
 }
 
 impl Maker {
-    pub fn new(seed: u64) -> Maker {
-        Maker { rng: Rng::new(seed), scene: Scene::Queued, left: 0, queue: VecDeque::new() }
+    pub fn new(seed: u64, device_alone: bool) -> Maker {
+        let (rng, scene, queue) = (Rng::new(seed), Scene::Queued, VecDeque::new());
+        Maker { rng, device_alone, scene, left: 0, queue }
     }
 
     /// The next command, for the state that the last one left.
@@ -71,7 +74,7 @@ impl Maker {
             0..=3 => (Scene::Mixed, long(rng)),
             4..=7 => (Scene::History, long(rng)),
             8 => (Scene::Damaged, rng.within(100, 400)),
-            9 => (Scene::Pdus, rng.within(300, 900)),
+            9 if !self.device_alone => (Scene::Pdus, rng.within(300, 900)),
             _ => (Scene::Queued, 0),
         };
         (self.scene, self.left) = (scene, left);

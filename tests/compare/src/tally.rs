@@ -20,6 +20,10 @@ pub struct Tally {
     lookups: [u64; 2],
     /// Connect, disconnect, button, and sessions as found or fresh.
     others: u64,
+    /// The hashes of the blocks of replies so far, in one.
+    pub blocks: u64,
+    /// The bridge did not end well.
+    pub ended_badly: bool,
 }
 
 struct Counts([u64; 256]);
@@ -76,6 +80,10 @@ impl Tally {
         }
     }
 
+    pub fn add_block(&mut self, hash: u64) {
+        self.blocks = self.blocks.rotate_left(7) ^ hash;
+    }
+
     pub fn summary(&self) -> String {
         let rarest =
             self.rarest().map_or(String::new(), |(n, what)| format!("; rarest: {what}, {n} times"));
@@ -124,6 +132,9 @@ impl Tally {
                 .get(k)
                 .map_or(("unknown kind", &[3, 13][..]), |(name, _)| (*name, &[0, 3, 13]));
             seen.judge(&format!("outcome of writing {name}"), can, must, &mut complaints);
+        }
+        if self.ended_badly {
+            complaints.push("the bridge did not end well".to_string());
         }
         if must && self.lookups.contains(&0) {
             complaints.push("lookups: none, or all, had a part".to_string());

@@ -1,0 +1,100 @@
+/*
+ * The functions of kelindap.h for a processor of 32 bits, over those of the proved module, whose names here begin with
+ * kelindap_module_. What differs is how values are passed, and nothing is decided here:
+ *  - a length has 64 bits in the module on every processor, and is widened on the way in;
+ *  - a byte, or a pair of them, comes back in a register whose other bits say nothing, and is cut out of it;
+ *  - a part comes back as two numbers of 64 bits. Each is at most 16,384, the longest sheet, so its lower half is all of it.
+ */
+#include "kelindap.h"
+
+_Static_assert(sizeof(size_t) == 4 && sizeof(void *) == 4, "for a processor of 32 bits");
+_Static_assert(sizeof(kelindap_session) == 2 && offsetof(kelindap_session, level) == 1, "as the module has it");
+
+#if defined(__arm__)
+/* four registers, for which C's only type is a vector */
+typedef uint32_t both __attribute__((vector_size(16)));
+#define OFFSET(p) ((p)[0])
+#define LENGTH(p) ((p)[2])
+#elif defined(__riscv)
+/* through memory, as C does it */
+typedef struct both {
+    uint64_t offset, length;
+} both;
+#define OFFSET(p) ((size_t)(p).offset)
+#define LENGTH(p) ((size_t)(p).length)
+#else
+#error "how does this processor return two numbers of 64 bits?"
+#endif
+
+uint32_t kelindap_module_fresh(void);
+uint32_t kelindap_module_connect(kelindap_session *);
+uint32_t kelindap_module_disconnect(kelindap_session *);
+uint32_t kelindap_module_button(uint8_t *, uint64_t, uint32_t);
+uint32_t kelindap_module_request(kelindap_session *, uint32_t, uint32_t, const uint8_t *, uint64_t, uint8_t *, uint64_t,
+                                 uint8_t *, uint64_t);
+uint32_t kelindap_module_check(const uint8_t *, uint64_t);
+both kelindap_module_property(const uint8_t *, uint64_t, uint32_t, uint32_t);
+both kelindap_module_region(const uint8_t *, uint64_t, uint64_t);
+both kelindap_module_group(const uint8_t *, uint64_t, uint32_t);
+
+static uint8_t low(uint32_t r) { return (uint8_t)r; }
+static uint8_t high(uint32_t r) { return (uint8_t)(r >> 8); }
+static kelindap_part part(both p) { return (kelindap_part){ OFFSET(p), LENGTH(p) }; }
+
+kelindap_session kelindap_fresh(void)
+{
+    uint32_t r = kelindap_module_fresh();
+    return (kelindap_session){ low(r) != 0, high(r) };
+}
+
+uint8_t kelindap_connect(kelindap_session *session)
+{
+    return low(kelindap_module_connect(session));
+}
+
+uint8_t kelindap_disconnect(kelindap_session *session)
+{
+    return low(kelindap_module_disconnect(session));
+}
+
+uint8_t kelindap_button(uint8_t *sheet, size_t sheet_length, bool on)
+{
+    return low(kelindap_module_button(sheet, sheet_length, on));
+}
+
+kelindap_reply kelindap_request(kelindap_session *session, uint8_t mode, uint16_t group, const uint8_t *apdu,
+                                size_t apdu_length, uint8_t *sheet, size_t sheet_length, uint8_t *answer,
+                                size_t answer_length)
+{
+    uint32_t r = kelindap_module_request(session, mode, group, apdu, apdu_length, sheet, sheet_length, answer, answer_length);
+    return (kelindap_reply){ low(r), high(r) };
+}
+
+uint8_t kelindap_check(const uint8_t *sheet, size_t sheet_length)
+{
+    return low(kelindap_module_check(sheet, sheet_length));
+}
+
+kelindap_part kelindap_property(const uint8_t *sheet, size_t sheet_length, uint8_t object, uint8_t id)
+{
+    return part(kelindap_module_property(sheet, sheet_length, object, id));
+}
+
+kelindap_part kelindap_region(const uint8_t *sheet, size_t sheet_length, size_t k)
+{
+    return part(kelindap_module_region(sheet, sheet_length, k));
+}
+
+kelindap_part kelindap_group(const uint8_t *sheet, size_t sheet_length, uint16_t address)
+{
+    return part(kelindap_module_group(sheet, sheet_length, address));
+}
+
+#ifdef KELINDAP_VERSION
+uint32_t kelindap_module_version(void);
+
+uint32_t kelindap_version(void)
+{
+    return kelindap_module_version();
+}
+#endif

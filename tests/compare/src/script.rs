@@ -1,0 +1,113 @@
+//! A script of the desk unit, played on a bridge: each answer is held to the
+//! line that the unit must give.
+
+use model::device::Session;
+use model::faults::Fault;
+use model::gen::Ask;
+use model::sheet::SAMPLE;
+
+use crate::play::{Play, World};
+use crate::{hex, Bridge};
+
+fn bytes(word: &str) -> Option<Vec<u8>> {
+    let digits = if word == "-" { "" } else { word };
+    (0..digits.len())
+        .step_by(2)
+        .map(|i| u8::from_str_radix(digits.get(i..i + 2)?, 16).ok())
+        .collect()
+}
+
+/// The command of a line; none if it is the PDU layer's, or no command.
+fn command(line: &str) -> Option<Play> {
+    let words: Vec<&str> = line.split_whitespace().collect();
+    Some(match words[..] {
+        ["sheet", sheet] => Play::Sheet(bytes(sheet)?),
+        ["session", open, level] => {
+            Play::Found(Session { open: open == "1", level: level.parse().ok()? })
+        }
+        ["connect"] => Play::Connect,
+        ["disconnect"] => Play::Disconnect,
+        ["button", way] => Play::Button(way == "on"),
+        ["request", mode, group, apdu, buffer] => Play::Request(Ask {
+            mode: mode.parse().ok()?,
+            group: group.parse().ok()?,
+            apdu: bytes(apdu)?,
+            buffer: bytes(buffer)?,
+        }),
+        ["lookup", "property", object, id] => {
+            Play::Property(object.parse().ok()?, id.parse().ok()?)
+        }
+        ["lookup", "region", k] => Play::Region(k.parse().ok()?),
+        ["lookup", "group", address] => Play::Group(address.parse().ok()?),
+        _ => return None,
+    })
+}
+
+/// A reply and the sheet afterwards as the unit says it.
+fn said(play: &Play, reply: &[u8], sheet: &[u8]) -> String {
+    match play {
+        Play::Sheet(_) if reply[0] == 0 => "OK".to_string(),
+        Play::Sheet(_) => format!("S{}", reply[0]),
+        Play::Fresh | Play::Found(_) => format!("session {} {}", reply[0], reply[1]),
+        Play::Request(_) => {
+            let buffer = &reply[4..reply.len() - 8];
+            let [outcome, count, open, level] = reply[..4] else { unreachable!() };
+            format!("{outcome} {open} {level} {count} {} {}", hex(buffer), hex(sheet))
+        }
+        Play::Property(..) | Play::Region(_) | Play::Group(_) => {
+            let number =
+                |i: usize| u64::from_le_bytes(reply[i..i + 8].try_into().unwrap()) as usize;
+            let (offset, length) = (number(0), number(8));
+            sheet.get(offset..offset + length).map_or("outside the sheet".to_string(), hex)
+        }
+        _ => format!("{} {} {} 0 - {}", reply[0], reply[1], reply[2], hex(sheet)),
+    }
+}
+
+/// Plays a script and gives the number of its answers, or says what differs.
+fn play(program: &str, script: &str, answers: &str) -> Result<usize, String> {
+    let file = |name: &str| std::fs::read_to_string(name).map_err(|e| format!("{name}: {e}"));
+    let (script_text, answers_text) = (file(script)?, file(answers)?);
+    let lines = script_text.lines().filter(|line| !line.is_empty() && !line.starts_with('#'));
+    let mut bridge = Bridge::start(program);
+    let mut world = World::new(Fault::None);
+    let mut ask = |play: &Play| {
+        let (mut wire, mut expected) = (Vec::new(), Vec::new());
+        world.play(play, &mut expected); // for the lengths alone
+        play.send(&mut wire);
+        wire.push(b'D');
+        bridge.send(wire);
+        let length = expected.len();
+        let got = bridge.receive(length + world.sheet.len());
+        (got.len() == length + world.sheet.len())
+            .then(|| said(play, &got[..length], &got[length..]))
+    };
+    ask(&Play::Sheet(SAMPLE.to_vec()));
+    ask(&Play::Fresh);
+    let mut played = 0;
+    for (line, wanted) in lines.zip(answers_text.lines()) {
+        let Some(play) = command(line).filter(|_| !wanted.starts_with("ERR")) else { continue };
+        let got = ask(&play).unwrap_or("no reply".to_string());
+        if got != wanted {
+            return Err(format!("{script}: {line}\n  expected {wanted}\n  got      {got}"));
+        }
+        played += 1;
+    }
+    Ok(played)
+}
+
+/// Plays each script, NAME.in, whose answers are in NAME.out.
+pub fn scripts(program: &str, names: &[String]) -> bool {
+    let mut played = 0;
+    for name in names {
+        match play(program, &format!("{name}.in"), &format!("{name}.out")) {
+            Ok(n) => played += n,
+            Err(why) => {
+                println!("compare: {why}");
+                return false;
+            }
+        }
+    }
+    println!("compare: {played} lines of {} scripts, 0 different", names.len());
+    played > 0
+}
