@@ -60,7 +60,11 @@ laid k x at n =
 abbrev pub flatOf : Pdu → List ℕ → FlatPdu
 flatOf p b = laid (kindOf (serviceOf p)) (valuesOf p) (dataAt p) (length b - dataAt p)
 
--- a refusal: its outcome, and all else 0
+-- no PDU: a kind that no service has
+abbrev pub noKind : ℕ
+noKind = 255
+
+-- a refusal: its outcome, no kind, and all else 0
 abbrev pub refusal : ℕ → FlatPdu
 refusal n =
     record {
@@ -71,7 +75,7 @@ refusal n =
       s = 0;
       maximum = 0;
       outcome = n;
-      kind = 0;
+      kind = noKind;
       v = 0;
       t = 0;
       object = 0;
