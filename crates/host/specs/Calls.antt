@@ -17,3 +17,7 @@ replyOf x = record { outcome = x .outcome; count = length (x .answer) }
 
 abbrev pub repliedOf : Step → Replied
 repliedOf x = record { outcome = x .outcome; count = length (x .answer); session = x .session }
+
+-- the version: 65536 times its first number, 256 times its second, its third; so this is 0.1.0
+abbrev pub versionOf : ℕ
+versionOf = 256

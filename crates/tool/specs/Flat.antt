@@ -143,3 +143,7 @@ flatWritten w = record { outcome = writeOutcome w; count = writeCount w }
 pub record FlatWrote (m : Meant) (d o : List ℕ) (r : FlatWritten) (e : List ℕ) : Type 0 where
   pub result : r ≡ flatWritten (meantWrite m d o)
   pub buffer : e ≡ meantBuffer m d o
+
+-- THE VERSION: 65536 times its first number, 256 times its second, its third; so this is 0.1.0
+abbrev pub versionOf : ℕ
+versionOf = 256
