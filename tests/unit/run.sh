@@ -1,7 +1,7 @@
 #!/usr/bin/env bash
-# tests/unit/run.sh UNIT: plays every script through the desk unit and holds each line it answers to the expected one.
+# tests/unit/run.sh UNIT SHEET: plays every script through the desk unit and holds each line it answers to the expected one.
 set -euo pipefail
-unit=$(realpath "$1")
+unit=$(realpath "$1") sheet=$(realpath "$2")
 cd "$(dirname "$0")"
 work=$(mktemp -d)
 trap 'rm -rf "$work"' EXIT
@@ -46,7 +46,7 @@ for script in "$work"/made/*.in; do
 done
 
 # the demonstration
-../../scripts/demo.sh "$unit" ../../scripts/demo.txt > "$work/got" || different=$((different + 1))
+../../scripts/demo.sh "$unit" "$sheet" ../../scripts/demo.txt > "$work/got" || different=$((different + 1))
 compare demo demo.expected "$work/got"
 
 # one line at a time: each answer is there before the next line is sent
