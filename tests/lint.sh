@@ -19,7 +19,7 @@ if cargo clippy --version > /dev/null 2>&1; then
 fi
 if command -v shellcheck > /dev/null; then
     mapfile -t scripts < <(git ls-files | xargs grep -lE '^#!.*(bash|/sh)' --)
-    shellcheck "${scripts[@]}"
+    shellcheck -S warning "${scripts[@]}"
     done+=("shellcheck")
 fi
 echo "lint: ${done[*]:-nothing is installed}"

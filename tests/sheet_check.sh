@@ -64,28 +64,28 @@ hex 01010101 0045 00C501020304 07B0 02 00 1105 11111111 22222222 FFFFFFFF 0000 \
 sheet 'the sample' sample OK
 sheet 'no bytes' empty S1
 sheet '/dev/null' /dev/null S1
-head -c 1 sample > cut
-sheet 'one byte' cut S1
-head -c 31 least > cut
-sheet '31 bytes' cut S1
+head -c 1 sample > piece
+sheet 'one byte' piece S1
+head -c 31 least > piece
+sheet '31 bytes' piece S1
 sheet '32 bytes, accepted' least OK
-zeros 32 > cut
-sheet '32 bytes, all zero' cut S2
-{ head -c 31 least && hex 01; } > cut
-sheet '32 bytes, the last not zero' cut S5
-{ cat least && zeros 1; } > cut
-sheet '33 bytes' cut S4
-head -c 68 sample > cut
-sheet 'the sample less a byte' cut S4
-head -c 16383 most > cut
-sheet '16,383 bytes' cut S4
+zeros 32 > piece
+sheet '32 bytes, all zero' piece S2
+{ head -c 31 least && hex 01; } > piece
+sheet '32 bytes, the last not zero' piece S5
+{ cat least && zeros 1; } > piece
+sheet '33 bytes' piece S4
+head -c 68 sample > piece
+sheet 'the sample less a byte' piece S4
+head -c 16383 most > piece
+sheet '16,383 bytes' piece S4
 sheet '16,384 bytes, accepted' most OK
-{ hex 02 && tail -c +2 most; } > cut
-sheet '16,384 bytes, edition 2' cut S2
+{ hex 02 && tail -c +2 most; } > piece
+sheet '16,384 bytes, edition 2' piece S2
 { cat most && zeros 1; } > over
 sheet '16,385 bytes' over S1
-{ cat most && zeros 100000; } > cut
-sheet '116,384 bytes' cut S1
+{ cat most && zeros 100000; } > piece
+sheet '116,384 bytes' piece S1
 
 slow 'the sample' sample 10 OK
 slow '32 bytes, accepted' least 31 OK
@@ -99,7 +99,7 @@ run <&- > out 2> err
 told 'standard input closed' $? '' 'standard input: Bad file descriptor'
 run < / > out 2> err
 told 'a directory' $? '' 'standard input: Is a directory'
-run 0> cut > out 2> err
+run 0> piece > out 2> err
 told 'standard input that is for writing' $? '' 'standard input: Bad file descriptor'
 
 # nor is a write that fails passed over
