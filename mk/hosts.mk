@@ -37,6 +37,7 @@ test-c: build/layout build/host_test build/tool_test $(OWN_TESTS)
 	tests/c/symbols.sh include/kelindap.h $(HOST_A)
 	tests/c/symbols.sh include/kelindap_pdu.h $(TOOL_A)
 	tests/c/readme.sh
+	tests/same.sh
 	CC86="$(CC86)" tests/c/freestanding.sh $(HOST_A) $(TOOL_A)
 	$(WATCHED) build/tool_test
 	$(WATCHED) build/host_test
@@ -52,13 +53,27 @@ build/unit_watched: hosts/unit.c $(LINKED) | need-gcc
 	mkdir -p build
 	$(CC86) -o $@ $(STRICT) -g $(SANITIZE) $< $(HOST_A) $(TOOL_A)
 
-build/layout build/host_test build/tool_test: build/%: tests/c/%.c tests/c/lent.h $(LINKED) | need-gcc
+build/layout build/host_test build/tool_test: build/%: tests/c/%.c tests/c/lent.h build/marked.inc $(LINKED) | need-gcc
 	mkdir -p build
-	gcc $(STRICT) -c $< -o /dev/null
-	$(CC86) -o $@ $(STRICT) -g $(SANITIZE) $< $(HOST_A) $(TOOL_A)
+	gcc $(STRICT) -Ibuild -c $< -o /dev/null
+	$(CC86) -o $@ $(STRICT) -Ibuild -g $(SANITIZE) $< $(HOST_A) $(TOOL_A)
 
-build/host_test_own: tests/c/host_test.c tests/c/lent.h include/kelindap.h build/own/libhost.a | need-gcc
-	gcc -o $@ $(STRICT) -g $(SANITIZERS) -DDEVICE_ALONE $< build/own/libhost.a
+# the marked cases as C: mode, level, APDU, answer, outcome, level afterwards, the last run of bytes that is stored
+build/marked.inc: tests/vectors/device.tsv mk/hosts.mk
+	@mkdir -p build
+	@awk -F '\t' '/^01 marked case/ { \
+	    mode = $$2; sub(/.*mode=/, "", mode); level = $$2; sub(/.*level=/, "", level); after = level; at = -1; to = ""; \
+	    n = split($$6, change, " "); \
+	    for (i = 1; i <= n; i++) { \
+	        split(change[i], pair, "="); \
+	        if (pair[1] == "level") after = pair[2]; \
+	        if (pair[1] ~ /^sheet/) { at = substr(pair[1], 7) + 0; to = pair[2] } \
+	    } \
+	    printf "{ %d, %d, \"%s\", \"%s\", %d, %d, %d, \"%s\" },\n", mode, level, $$3, $$4 == "-" ? "" : $$4, $$5, after, at, to \
+	}' $< > $@
+
+build/host_test_own: tests/c/host_test.c tests/c/lent.h build/marked.inc include/kelindap.h build/own/libhost.a | need-gcc
+	gcc -o $@ $(STRICT) -Ibuild -g $(SANITIZERS) -DDEVICE_ALONE $< build/own/libhost.a
 
 need-gcc:
 	@command -v gcc > /dev/null || { echo "gcc is missing" >&2; exit 1; }

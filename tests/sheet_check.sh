@@ -2,6 +2,7 @@
 # sheet_check.sh PROGRAM: runs the built sheet_check on files and pipes, and compares what it writes with what it should.
 set -uo pipefail
 program=$(realpath -e "${1:?usage: sheet_check.sh PROGRAM}") || exit 1
+sample=$(grep -o '0x..' "$(dirname "$0")/../hosts/sample_sheet.inc" | sed 's/0x//' | paste -sd '')
 room=$(mktemp -d)
 trap 'rm -rf "$room"' EXIT
 right=0
@@ -55,8 +56,7 @@ hex() { printf '%b' "$(printf '%s' "$@" | sed 's/../\\x&/g')"; }
 zeros() { head -c "$1" /dev/zero; }
 
 cd "$room" || exit 1
-hex 01010101 0045 00C501020304 07B0 02 00 1105 11111111 22222222 FFFFFFFF 0000 \
-    0100 0004 003C 32 00 01 33 84 02 0002 0001 0040 31 00 0801 01 03 0044 0000 A0A1A2A3 03E80000 00 > sample
+hex "$sample" > sample
 : > empty
 { hex 01000000 0020 && zeros 26; } > least
 { hex 01010000 4000 && zeros 26 && hex 0000 3FD8 0028 00 00 && zeros 16344; } > most
