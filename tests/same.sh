@@ -36,5 +36,12 @@ awk '/^at .*marked case/ {
 [ "$(wc -l < "$work/cases")" = 14 ] || { echo "same: there are not fourteen marked cases"; bad=1; }
 same crates/device_cases/stdin "$(cat "$work/cases")" "$(cat "$work/stdin")"
 same "$marked" "$(sort "$work/cases")" "$(sort "$work/antt")"
+
+# what README shows of the demonstration is what the demonstration shows
+sed -n '/^`make run` shows/,/^`make test` says/s/^    //p' README.md | grep . > "$work/shown"
+[ -s "$work/shown" ] || { echo "same: README shows nothing of the demonstration"; bad=1; }
+while IFS= read -r line; do
+    grep -qxF -- "$line" tests/unit/demo.expected || { echo "same: README shows what the demonstration does not: $line"; bad=1; }
+done < "$work/shown"
 [ "$bad" = 0 ]
 echo "same: the sample sheet in 4 places, the marked cases in 2"
