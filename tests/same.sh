@@ -43,5 +43,12 @@ sed -n '/^`make run` shows/,/^`make test` says/s/^    //p' README.md | grep . > 
 while IFS= read -r line; do
     grep -qxF -- "$line" tests/unit/demo.expected || { echo "same: README shows what the demonstration does not: $line"; bad=1; }
 done < "$work/shown"
+
+# docs/UNIT.md has the kinds of kelindap_names.h; the definitions that docs/RULES.md names are there
+names() { sed -n "/define KELINDAP_$1/,/^\$/s/.*\"\(.*\)\".*/\1/p" include/kelindap_names.h | sort; }
+same docs/UNIT.md "$(names KINDS)" "$(sed -n '/^## Kinds/,$p' docs/UNIT.md | awk -F '|' '/^\| `/ { print $2 }' | grep -o '[a-z_]*' | sort)"
+while read -r name; do
+    grep -rqwF -- "$name" crates/*/specs crates/*/proofs || { echo "same: docs/RULES.md names $name, which no definition has"; bad=1; }
+done < <(grep -oE '`[A-Za-z][A-Za-z-]*`' docs/RULES.md | tr -d '`' | sort -u)
 [ "$bad" = 0 ]
 echo "same: the sample sheet in 4 places, the marked cases in 2"
