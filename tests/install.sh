@@ -6,6 +6,7 @@ cd "$(dirname "$0")/.."
 work=$(mktemp -d)
 trap 'rm -rf "$work"' EXIT
 make --no-print-directory -s install PREFIX="$work/at" > /dev/null
+version=$(sed -n 's/.*KELINDAP_VERSION_TEXT "\(.*\)"/\1/p' include/kelindap_common.h)
 
 cat > "$work/host.c" << 'END'
 #include <kelindap.h>
@@ -26,13 +27,13 @@ flags="-I$work/at/include -L$work/at/lib -lkelindap_device -lkelindap_pdu"
 by="its own words"
 if command -v pkg-config > /dev/null; then
     export PKG_CONFIG_PATH=$work/at/lib/pkgconfig
-    [ "$(pkg-config --modversion kelindap)" = 0.1.0 ] || { echo "install: pkg-config tells another version"; exit 1; }
+    [ "$(pkg-config --modversion kelindap)" = "$version" ] || { echo "install: pkg-config tells another version"; exit 1; }
     flags=$(pkg-config --cflags --libs kelindap)
     by="pkg-config"
 fi
 read -ra words <<< "$flags"
 "${CC86:-mk/cc86}" -o "$work/host" -std=c11 "$work/host.c" "${words[@]}"
-[ "$("$work/host")" = "0.1.0 1 1 no PDU that can be written" ] || { echo "install: $("$work/host")"; exit 1; }
+[ "$("$work/host")" = "$version 1 1 no PDU that can be written" ] || { echo "install: $("$work/host")"; exit 1; }
 "$work/at/bin/kelindap-sheet" make /dev/null > "$work/said" 2>&1 || true
 grep -q 'edition is missing' "$work/said" || { echo "install: no sheet program"; exit 1; }
 echo "install: $(find "$work/at" -type f | wc -l) files; a host is built by $by"

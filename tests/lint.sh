@@ -18,7 +18,7 @@ if cargo clippy --version > /dev/null 2>&1; then
     done+=("clippy")
 fi
 if command -v shellcheck > /dev/null; then
-    mapfile -t scripts < <(git ls-files | xargs grep -lE '^#!.*(bash|/sh)' --)
+    mapfile -t scripts < <(grep -rlE --exclude-dir=target '^#!/usr/bin/env bash' .ci mk scripts tests)
     shellcheck -S warning "${scripts[@]}"
     done+=("shellcheck")
 fi
