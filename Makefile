@@ -1,38 +1,45 @@
-# make test: everything that is tested and proved. make run: the device at work on the sample sheet. make bench: its speed.
+# What there is to make, which `make` alone tells too; the parts stand in mk/.
 SHELL := /bin/bash
 .SHELLFLAGS := -euo pipefail -c
-.DEFAULT_GOAL := test
-.PHONY: test tools documents model sheet-check
+.DEFAULT_GOAL := help
+.PHONY: help test need-tools documents model sheet-check
 
-test: tools
+help:
+	@sed -n 's/^#: //p' $(MAKEFILE_LIST)
+
+#: make run        the device at work on the sample sheet, for a person to read
+#: make test       every test, every proof, every edit that must be refused, every program
+test: need-tools
 	rt fmt --check
+	$(MAKE) --no-print-directory -s lint
 	$(MAKE) --no-print-directory -s documents
 	$(MAKE) --no-print-directory -s model
 	$(MAKE) --no-print-directory -s sheet-check
-	$(MAKE) --no-print-directory -s test-unit test-c compare test-firmware
+	$(MAKE) --no-print-directory -s test-unit test-c test-tools compare test-firmware
 	tests/edits/gate.sh tests/edits/refused.tsv
 
 # every name that a document quotes stands where the document says
-documents: tools
+documents: need-tools
 	mkdir -p build
 	rustc --edition 2021 -O -o build/names tests/docs/names.rs
 	build/names docs/PROMISES.md docs/READING.md docs/CONFORMANCE.md
 
 # a missing tool fails the tests
-tools:
+need-tools:
 	for t in rt cargo rustc gcc; do command -v $$t > /dev/null || { echo "$$t is missing" >&2; exit 1; }; done
 
 # the plain Rust model of the rules, against the vectors; and that the benchmark still compiles
-model: tools
+model: need-tools
 	cd tests/model && cargo test --offline --release --quiet
 	cd tests/bench && cargo check --offline --release --quiet
 
 # the checking program on files and pipes
-sheet-check: tools
+sheet-check: need-tools
 	rt check sheet_check
 	tests/sheet_check.sh target/bin/sheet_check
 
 include mk/hosts.mk
+include mk/tools.mk
 include mk/compare.mk
 include mk/bench.mk
 include mk/firmware.mk

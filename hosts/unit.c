@@ -16,6 +16,7 @@
  * begins with ERR and says why, and changes nothing. The unit starts with the sample sheet and a fresh session.
  */
 #include "kelindap.h"
+#include "kelindap_names.h"
 #include "kelindap_pdu.h"
 
 #include <inttypes.h>
@@ -35,12 +36,7 @@ typedef struct device {
 } device;
 
 static const uint8_t sample_sheet[] = {
-    0x01, 0x01, 0x01, 0x01, 0x00, 0x45, 0x00, 0xC5, 0x01, 0x02, 0x03, 0x04, 0x07, 0xB0, 0x02, 0x00, /* head */
-    0x11, 0x05, 0x11, 0x11, 0x11, 0x11, 0x22, 0x22, 0x22, 0x22, 0xFF, 0xFF, 0xFF, 0xFF, 0x00, 0x00, /* address, keys */
-    0x01, 0x00, 0x00, 0x04, 0x00, 0x3C, 0x32, 0x00,                                                 /* region */
-    0x01, 0x33, 0x84, 0x02, 0x00, 0x02, 0x00, 0x01, 0x00, 0x40, 0x31, 0x00,                         /* property */
-    0x08, 0x01, 0x01, 0x03, 0x00, 0x44, 0x00, 0x00,                                                 /* group object */
-    0xA0, 0xA1, 0xA2, 0xA3, 0x03, 0xE8, 0x00, 0x00, 0x00,                                           /* bodies */
+#include "sample_sheet.inc"
 };
 
 /* ---- what can go wrong ---- */
@@ -53,6 +49,9 @@ static _Noreturn void give_up(const char *why)
 }
 
 /* Answers a line that is no command. Always false, so that whoever finds the fault can return it. */
+#if defined(__GNUC__)
+__attribute__((format(printf, 1, 2)))
+#endif
 static bool err(const char *format, ...)
 {
     va_list parts;
@@ -371,38 +370,35 @@ static const struct {
 #undef FLAT
 };
 
-/* The kinds by number, each with its fields in the order in which they are shown. */
-static const struct kind {
-    const char *name;
-    enum field fields[7];
-} kinds[] = {
-    [KELINDAP_GROUP_READ] = { "group_read", { END } },
-    [KELINDAP_GROUP_RESPONSE] = { "group_response", { V, DATA, END } },
-    [KELINDAP_GROUP_WRITE] = { "group_write", { V, DATA, END } },
-    [KELINDAP_ADDRESS_WRITE] = { "address_write", { ADDRESS, END } },
-    [KELINDAP_ADDRESS_READ] = { "address_read", { END } },
-    [KELINDAP_SERIAL_READ] = { "serial_read", { SERIAL, END } },
-    [KELINDAP_SERIAL_WRITE] = { "serial_write", { SERIAL, ADDRESS, END } },
-    [KELINDAP_DESCRIPTOR_READ] = { "descriptor_read", { T, END } },
-    [KELINDAP_PROPERTY_READ] = { "property_read", { OBJECT, ID, N, S, END } },
-    [KELINDAP_PROPERTY_WRITE] = { "property_write", { OBJECT, ID, N, S, DATA, END } },
-    [KELINDAP_DESCRIPTION_READ] = { "description_read", { OBJECT, ID, INDEX, END } },
-    [KELINDAP_MEMORY_READ] = { "memory_read", { N, ADDRESS, END } },
-    [KELINDAP_MEMORY_WRITE] = { "memory_write", { N, ADDRESS, DATA, END } },
-    [KELINDAP_MEMORY_BIT_WRITE] = { "memory_bit_write", { N, ADDRESS, AND, XOR, END } },
-    [KELINDAP_AUTHORIZE_REQUEST] = { "authorize_request", { KEY, END } },
-    [KELINDAP_KEY_WRITE] = { "key_write", { LEVEL, KEY, END } },
-    [KELINDAP_RESTART] = { "restart", { END } },
-    [KELINDAP_ADDRESS_RESPONSE] = { "address_response", { END } },
-    [KELINDAP_SERIAL_RESPONSE] = { "serial_response", { SERIAL, DOMAIN, END } },
-    [KELINDAP_DESCRIPTOR_RESPONSE] = { "descriptor_response", { T, DATA, END } },
-    [KELINDAP_PROPERTY_RESPONSE] = { "property_response", { OBJECT, ID, N, S, DATA, END } },
-    [KELINDAP_DESCRIPTION_RESPONSE] = { "description_response", { OBJECT, ID, INDEX, TYPE, MAXIMUM, ACCESS, END } },
-    [KELINDAP_MEMORY_RESPONSE] = { "memory_response", { N, ADDRESS, DATA, END } },
-    [KELINDAP_AUTHORIZE_RESPONSE] = { "authorize_response", { LEVEL, END } },
-    [KELINDAP_KEY_RESPONSE] = { "key_response", { LEVEL, END } },
+/* The fields of each kind, in the order in which they are shown; kelindap_names.h has the kinds' names. */
+static const enum field kinds[][7] = {
+    [KELINDAP_GROUP_READ] = { END },
+    [KELINDAP_GROUP_RESPONSE] = { V, DATA, END },
+    [KELINDAP_GROUP_WRITE] = { V, DATA, END },
+    [KELINDAP_ADDRESS_WRITE] = { ADDRESS, END },
+    [KELINDAP_ADDRESS_READ] = { END },
+    [KELINDAP_SERIAL_READ] = { SERIAL, END },
+    [KELINDAP_SERIAL_WRITE] = { SERIAL, ADDRESS, END },
+    [KELINDAP_DESCRIPTOR_READ] = { T, END },
+    [KELINDAP_PROPERTY_READ] = { OBJECT, ID, N, S, END },
+    [KELINDAP_PROPERTY_WRITE] = { OBJECT, ID, N, S, DATA, END },
+    [KELINDAP_DESCRIPTION_READ] = { OBJECT, ID, INDEX, END },
+    [KELINDAP_MEMORY_READ] = { N, ADDRESS, END },
+    [KELINDAP_MEMORY_WRITE] = { N, ADDRESS, DATA, END },
+    [KELINDAP_MEMORY_BIT_WRITE] = { N, ADDRESS, AND, XOR, END },
+    [KELINDAP_AUTHORIZE_REQUEST] = { KEY, END },
+    [KELINDAP_KEY_WRITE] = { LEVEL, KEY, END },
+    [KELINDAP_RESTART] = { END },
+    [KELINDAP_ADDRESS_RESPONSE] = { END },
+    [KELINDAP_SERIAL_RESPONSE] = { SERIAL, DOMAIN, END },
+    [KELINDAP_DESCRIPTOR_RESPONSE] = { T, DATA, END },
+    [KELINDAP_PROPERTY_RESPONSE] = { OBJECT, ID, N, S, DATA, END },
+    [KELINDAP_DESCRIPTION_RESPONSE] = { OBJECT, ID, INDEX, TYPE, MAXIMUM, ACCESS, END },
+    [KELINDAP_MEMORY_RESPONSE] = { N, ADDRESS, DATA, END },
+    [KELINDAP_AUTHORIZE_RESPONSE] = { LEVEL, END },
+    [KELINDAP_KEY_RESPONSE] = { LEVEL, END },
 };
-enum { KINDS = sizeof kinds / sizeof kinds[0], NO_KIND = 255 };
+enum { KINDS = sizeof kinds / sizeof kinds[0] };
 
 /* The number in a field of a flat PDU. */
 static uint64_t get(const kelindap_pdu *pdu, enum field f)
@@ -484,9 +480,9 @@ static bool do_read(device *d, char **words, size_t count)
         return false;
     kelindap_pdu pdu = kelindap_read(apdu.bytes, apdu.length);
     printf("%d", pdu.outcome);
-    if (pdu.outcome == KELINDAP_ANSWERED) {
-        printf(" %s", kinds[pdu.kind].name);
-        for (const enum field *f = kinds[pdu.kind].fields; *f != END; f++)
+    if (pdu.outcome == KELINDAP_OK) {
+        printf(" %s", kelindap_kind_name(pdu.kind));
+        for (const enum field *f = kinds[pdu.kind]; *f != END; f++)
             put_field(&pdu, apdu, *f);
     }
     putchar('\n');
@@ -497,24 +493,24 @@ static bool do_read(device *d, char **words, size_t count)
 
 /* A PDU on its way from the words of a line. */
 typedef struct draft {
-    const struct kind *kind;
+    uint8_t kind;
     kelindap_pdu pdu;
     bool given[FIELDS];
     run runs[FIELDS]; /* of the run fields */
     bool fits;        /* each field so far fits its place in the flat PDU */
 } draft;
 
-static const struct kind *kind_of(const char *name)
+static uint8_t kind_of(const char *name)
 {
-    for (size_t k = 0; k < KINDS; k++)
-        if (strcmp(kinds[k].name, name) == 0)
-            return &kinds[k];
-    return NULL;
+    for (uint8_t k = 0; k < KINDS; k++)
+        if (strcmp(kelindap_kind_name(k), name) == 0)
+            return k;
+    return KELINDAP_NO_KIND;
 }
 
-static enum field field_of(const struct kind *kind, const char *name)
+static enum field field_of(uint8_t kind, const char *name)
 {
-    const enum field *f = kind->fields;
+    const enum field *f = kinds[kind];
     while (*f != END && strcmp(fields[*f].name, name) != 0)
         f++;
     return *f;
@@ -550,7 +546,7 @@ static bool take_field(draft *w, char *word)
     *equals = '\0';
     enum field f = field_of(w->kind, word);
     if (f == END)
-        return err("%s has no field of this name: \"%s\"", w->kind->name, shown(word));
+        return err("%s has no field of this name: \"%s\"", kelindap_kind_name(w->kind), shown(word));
     if (w->given[f])
         return err("%s is given twice", fields[f].name);
     w->given[f] = true;
@@ -562,9 +558,9 @@ static bool take_fields(draft *w, char **words, size_t count)
     for (size_t i = 0; i < count; i++)
         if (!take_field(w, words[i]))
             return false;
-    for (const enum field *f = w->kind->fields; *f != END; f++)
+    for (const enum field *f = kinds[w->kind]; *f != END; f++)
         if (!w->given[*f])
-            return err("%s needs the field %s", w->kind->name, fields[*f].name);
+            return err("%s needs the field %s", kelindap_kind_name(w->kind), fields[*f].name);
     return true;
 }
 
@@ -592,14 +588,14 @@ static bool do_write(device *d, char **words, size_t count)
     uint8_t both[2 * MOST_BITS];
     run out;
     (void)d;
-    if (w.kind == NULL)
+    if (w.kind == KELINDAP_NO_KIND)
         return err("no kind of PDU has this name: \"%s\"", shown(words[0]));
     if (strchr(words[count - 1], '=') != NULL)
         return err("BUFHEX is missing after the fields");
     if (!take_fields(&w, words + 1, count - 2) || !take_bytes("BUFHEX", words[count - 1], &out))
         return false;
     run data = data_of(&w, both);
-    w.pdu.kind = w.fits ? (uint8_t)(w.kind - kinds) : NO_KIND; /* NO_KIND gives 3 or 13, as is due */
+    w.pdu.kind = w.fits ? w.kind : KELINDAP_NO_KIND; /* which gives 3 or 13, as is due */
     kelindap_written written = kelindap_write(w.pdu, data.bytes, data.length, out.bytes, out.length);
     printf("%d %d ", written.outcome, written.count);
     put_bytes(out.bytes, out.length);

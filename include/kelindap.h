@@ -1,14 +1,17 @@
 /*
  * The device side of the KNX application layer, for one device.
  *
- * Link with libhost.a, which is made for x86-64 Linux. Today it needs memset from outside and nothing else. A freestanding
- * host should provide memcpy, memset, memmove and memcmp: compiled code may call any of the four (tests/c/bare.c has them).
+ * Link with libkelindap_device.a. Today it needs memset from outside and nothing else. A freestanding host should provide
+ * memcpy, memset, memmove and memcmp: compiled code may call any of the four (tests/c/bare.c has them). For which processors
+ * there are archives README says; nothing here depends on one.
  *
  * An APDU is the part of a frame from octet 6 on: 2 to 16 bytes, of which the first, b0, is octet 6. The service code is the
  * two low bits of b0 and the eight of the next byte. The six high bits of b0 are transport's: in a request they are ignored,
  * in an answer they are 0, and the host's transport sets them when it sends.
  *
  * The host's duties, which no proof covers:
+ *  - it begins with a session from kelindap_fresh and a sheet that kelindap_check accepts. No request on another sheet does
+ *    anything, so a host that skips the check has a device that is silent;
  *  - the buffers of one call do not overlap, and stay lent until the call returns;
  *  - nothing else writes the sheet between calls: the promises about a history hold only then;
  *  - a bool is 0 or 1, and a pointer has as many readable (for answer and sheet, writable) bytes as its length says;
@@ -19,7 +22,18 @@
  *  - when a connection opens or ends, transport's time limits included, the host calls connect or disconnect;
  *  - a Restart shows only as outcome 1 in mode 3 with the session closed afterwards: the host then drops the connection, and
  *    restarts what it wants;
- *  - calls on one sheet come one after the other, never from two threads at once.
+ *  - calls on one sheet come one after the other, never from two threads at once;
+ *  - saving. The sheet is all that has to survive a power cut; a session does not survive one: it begins fresh. A call changes
+ *    the sheet only if it gives 0 or 1, and then perhaps not: a host finds out by comparing the sheet with the copy that it
+ *    saved last (memcmp of at most 16,384 bytes). It saves after such a call and before it sends the answer, so that what was
+ *    answered is kept, or at times of its own if the loss of the last writes is acceptable;
+ *  - a power cut during a call leaves a sheet in memory that may hold a part of a write, and no promise speaks of it: so what
+ *    the host starts from is the saved copy, and never memory that lay open to a call. A save must leave the old copy or the
+ *    new one, whole: two places with a mark of the newer, or a new file renamed over the old one (examples/host.c). At start
+ *    kelindap_check accepts what was saved, but it judges the form of a sheet and is no checksum;
+ *  - programming mode is a bit of the sheet, and so survives in a saved one: a host that does not want to start in it calls
+ *    kelindap_button with false first, and the button's lamp follows bit 0 of byte 14;
+ *  - the keys stand in the sheet in clear: whoever reads the saved copy, a dump or a backup has them.
  *
  * A warning: no key is special. A tool that "deletes" a key by writing FFFFFFFFh does not close that level but opens it: whoever
  * then sends FFFFFFFFh by Authorize gets it. With key 0 that is level 0, which may write all that can be written.
@@ -27,32 +41,11 @@
 #ifndef KELINDAP_H
 #define KELINDAP_H
 
-#include <stdbool.h>
-#include <stddef.h>
-#include <stdint.h>
+#include "kelindap_common.h"
 
 #ifdef __cplusplus
 extern "C" {
 #endif
-
-/* The outcomes, by number. */
-enum kelindap_outcome {
-    KELINDAP_ANSWERED = 0,       /* carried out, an answer is in the buffer */
-    KELINDAP_DONE = 1,           /* carried out, no answer is due */
-    KELINDAP_NOT_FOR_US = 2,     /* not for this device: see below */
-    KELINDAP_NO_ROOM = 3,        /* the answer buffer has under 16 bytes */
-    KELINDAP_BAD_SHEET = 4,      /* the sheet is not accepted */
-    KELINDAP_BAD_LENGTH = 5,     /* the APDU has not 2 to 16 bytes */
-    KELINDAP_BAD_MODE = 6,       /* the mode is not 0 to 3 */
-    KELINDAP_NOT_CONNECTED = 7,  /* connected mode on a closed session */
-    KELINDAP_UNKNOWN = 8,        /* unknown service */
-    KELINDAP_WRONG_MODE = 9,     /* the service is not in this mode */
-    KELINDAP_UNFIT = 10,         /* length or value against the service's row (kelindap_pdu.h), or a group value of
-                                    another length than its entry's */
-    KELINDAP_DENIED = 11,        /* denied, the negative answer is in the buffer */
-    KELINDAP_DENIED_SILENT = 12, /* denied, no answer is due */
-    KELINDAP_UNWRITABLE = 13     /* PDU writing only: see kelindap_pdu.h */
-};
 
 /*
  * Outcome 2 has these causes, and nothing is answered or changed:
@@ -87,6 +80,9 @@ typedef struct kelindap_part {
     size_t offset;
     size_t length;
 } kelindap_part;
+
+/* The version of the library, in the form of KELINDAP_VERSION. */
+uint32_t kelindap_version(void);
 
 /* A closed session at level 3. */
 kelindap_session kelindap_fresh(void);

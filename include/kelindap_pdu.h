@@ -1,8 +1,8 @@
 /*
  * The reader and writer of the PDUs, for the commissioning tool.
  *
- * Link with libtool.a, which is made for x86-64 Linux. Today it needs nothing from outside. A freestanding host should
- * provide memcpy, memset, memmove and memcmp: compiled code may call any of the four (tests/c/bare.c has them).
+ * Link with libkelindap_pdu.a. Today it needs nothing from outside. A freestanding host should provide memcpy, memset,
+ * memmove and memcmp: compiled code may call any of the four (tests/c/bare.c has them).
  *
  * An APDU is the part of a frame from octet 6 on: 2 to 16 bytes, of which the first, b0, is octet 6. The six high bits of b0
  * are transport's: ignored on reading, 0 on writing, so that the tool's transport sets them when it sends.
@@ -13,8 +13,7 @@
 #ifndef KELINDAP_PDU_H
 #define KELINDAP_PDU_H
 
-#include <stddef.h>
-#include <stdint.h>
+#include "kelindap_common.h"
 
 #ifdef __cplusplus
 extern "C" {
@@ -46,7 +45,8 @@ enum kelindap_kind {
     KELINDAP_DESCRIPTION_RESPONSE = 21,
     KELINDAP_MEMORY_RESPONSE = 22,
     KELINDAP_AUTHORIZE_RESPONSE = 23,
-    KELINDAP_KEY_RESPONSE = 24
+    KELINDAP_KEY_RESPONSE = 24,
+    KELINDAP_NO_KIND = 255 /* no PDU: the kind of what was refused on reading; writing refuses it */
 };
 
 /*
@@ -94,8 +94,8 @@ enum kelindap_kind {
 /*
  * A PDU laid flat. On reading, the fields that its kind does not have are 0; on writing they are not looked at, nor are
  * outcome, data_offset and data_length.
- * outcome is of reading alone: 0, or 5 (length not 2 to 16), 8 (no kind has the code), 10 (against the table above), and
- * then every other field is 0. data_offset and data_length say where the data stands in the APDU that was read.
+ * outcome is of reading alone: 0 (KELINDAP_OK), or 5 (length not 2 to 16), 8 (no kind has the code), 10 (against the table
+ * above), and then the kind is KELINDAP_NO_KIND and every other field is 0. data_offset and data_length say where the data stands in the APDU that was read.
  */
 typedef struct kelindap_pdu {
     uint64_t serial;
@@ -127,6 +127,9 @@ typedef struct kelindap_written {
     uint8_t outcome;
     uint8_t count;
 } kelindap_written;
+
+/* The version of the library, in the form of KELINDAP_VERSION. */
+uint32_t kelindap_pdu_version(void);
 
 /* The PDU in an APDU. */
 kelindap_pdu kelindap_read(const uint8_t *apdu, size_t apdu_length);

@@ -1,6 +1,7 @@
 # The library beside the plain Rust model, both compiled for this machine's own processor. Comes after hosts.mk.
 .PHONY: bench
 
+#: make bench      the speed of each request, beside plain Rust
 # nanoseconds and instructions for each request: figures and no verdict, so not among the tests
 bench: build/own/libhost.a
 	cd tests/bench && cargo build --offline --release --quiet

@@ -5,6 +5,7 @@ EVENTS ?= 2000000
 SEED ?=
 COMPARE := tests/compare/target/release/compare
 
+#: make compare    the libraries against a plain Rust model; EVENTS and SEED may be given
 compare: build/bridge
 	cd tests/compare && cargo build --offline --release --quiet
 	$(COMPARE) build/bridge $(EVENTS) $(SEED)

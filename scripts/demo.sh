@@ -1,9 +1,9 @@
 #!/usr/bin/env bash
-# scripts/demo.sh UNIT SCRIPT: plays a script through the desk unit and shows what happens, for a person to read.
-# Comments of the script are shown as they are; PDUs by their fields, as the unit's `read` tells them; of the sheet, the bytes
-# that changed, as offset: old -> new.
+# scripts/demo.sh UNIT SHEET SCRIPT: plays a script through the desk unit and shows what happens, for a person to read.
+# Comments of the script are shown as they are; PDUs by their fields, as the unit's `read` tells them; of the sheet, what
+# changed by its meaning, as `sheet diff` tells it.
 set -euo pipefail
-unit=$1 script=$2
+unit=$1 sheet=$2 script=$3
 work=$(mktemp -d)
 trap 'rm -rf "$work"' EXIT
 
@@ -16,37 +16,42 @@ grep -v -e '^#' -e '^$' "$work/script" | paste -d ' ' - "$work/answers" | awk '
     $1 == "request" { print "read", $4; print "read", ($9 > 0 ? substr($10, 1, 2 * $9) : "-") }
 ' | "$unit" > "$work/fields"
 
-awk -v answers="$work/answers" -v fields="$work/fields" '
-    BEGIN {
-        split("carried out|not for this device|the answer buffer is too short|the sheet is not accepted|the length is wrong|" \
-            "unknown mode|not connected|unknown service|wrong mode|unfit length or value|refused|refused", words, "|")
-    }
-    function meaning(n) { return n == 0 ? words[1] : words[n] }
+# for every answer the changes since the one before it, and a line that ends them
+bytes() { printf '%b' "$(sed 's/../\\x&/g' <<< "$1")"; }
+old=
+while read -r _ _ _ _ _ new; do
+    if [ "${old:-$new}" != "$new" ]; then
+        bytes "$old" > "$work/old"
+        bytes "$new" > "$work/new"
+        "$sheet" diff "$work/old" "$work/new" || [ $? = 1 ]
+    fi
+    echo .
+    old=$new
+done < "$work/answers" > "$work/changes"
+
+# the outcomes by number, in words
+sed -n '/define KELINDAP_OUTCOMES/,/^$/s/.*X(\([0-9]*\), .*"\(.*\)").*/\1 \2/p' "${0%/*}/../include/kelindap_names.h" > "$work/words"
+
+awk -v answers="$work/answers" -v fields="$work/fields" -v changes="$work/changes" -v words="$work/words" '
+    BEGIN { while ((getline line < words) > 0) meaning[line + 0] = substr(line, index(line, " ") + 1) }
     function told(line) { getline line < fields; return line ~ /^0 / ? substr(line, 3) : "an unreadable PDU" }
     function ask(text) { print "   > " text }
-    function answer(text, outcome) { printf "   < %-56s %s (%d)\n", text, meaning(outcome), outcome }
+    function answer(text, outcome) { printf "   < %-56s %s (%d)\n", text, meaning[outcome], outcome }
     function change(what) { printf "     %-56s %s\n", "", what }
-    function compare(old, new,    i, a, b) {
-        for (i = 1; i < length(new); i += 2) {
-            a = substr(old, i, 2); b = substr(new, i, 2)
-            if (a != b) change("sheet byte " (i - 1) / 2 ": " a " -> " b)
-        }
-    }
     /^#/ { print substr($0, 3); next }
     /^$/ { next }
     {
         getline line < answers
         split(line, now, " ")
-        if (FNR == 1) { level = now[3]; sheet = now[6]; next }
         if ($1 == "request") {
             ask(told())
             reply = told()
-        } else {
+        } else if (FNR > 1) {
             ask($0)
         }
-        answer(now[4] > 0 ? reply : "no answer", now[1])
-        if (now[3] != level) change("level " level " -> " now[3])
-        compare(sheet, now[6])
-        level = now[3]; sheet = now[6]
+        if (FNR > 1) answer(now[4] > 0 ? reply : "no answer", now[1])
+        if (FNR > 1 && now[3] != level) change("level " level " -> " now[3])
+        while ((getline line < changes) > 0 && line != ".") change(line)
+        level = now[3]
     }
 ' "$work/script"

@@ -2,6 +2,7 @@
 # sheet_check.sh PROGRAM: runs the built sheet_check on files and pipes, and compares what it writes with what it should.
 set -uo pipefail
 program=$(realpath -e "${1:?usage: sheet_check.sh PROGRAM}") || exit 1
+sample=$(grep -o '0x..' "$(dirname "$0")/../hosts/sample_sheet.inc" | sed 's/0x//' | paste -sd '')
 room=$(mktemp -d)
 trap 'rm -rf "$room"' EXIT
 right=0
@@ -55,8 +56,7 @@ hex() { printf '%b' "$(printf '%s' "$@" | sed 's/../\\x&/g')"; }
 zeros() { head -c "$1" /dev/zero; }
 
 cd "$room" || exit 1
-hex 01010101 0045 00C501020304 07B0 02 00 1105 11111111 22222222 FFFFFFFF 0000 \
-    0100 0004 003C 32 00 01 33 84 02 0002 0001 0040 31 00 0801 01 03 0044 0000 A0A1A2A3 03E80000 00 > sample
+hex "$sample" > sample
 : > empty
 { hex 01000000 0020 && zeros 26; } > least
 { hex 01010000 4000 && zeros 26 && hex 0000 3FD8 0028 00 00 && zeros 16344; } > most
@@ -64,28 +64,28 @@ hex 01010101 0045 00C501020304 07B0 02 00 1105 11111111 22222222 FFFFFFFF 0000 \
 sheet 'the sample' sample OK
 sheet 'no bytes' empty S1
 sheet '/dev/null' /dev/null S1
-head -c 1 sample > cut
-sheet 'one byte' cut S1
-head -c 31 least > cut
-sheet '31 bytes' cut S1
+head -c 1 sample > piece
+sheet 'one byte' piece S1
+head -c 31 least > piece
+sheet '31 bytes' piece S1
 sheet '32 bytes, accepted' least OK
-zeros 32 > cut
-sheet '32 bytes, all zero' cut S2
-{ head -c 31 least && hex 01; } > cut
-sheet '32 bytes, the last not zero' cut S5
-{ cat least && zeros 1; } > cut
-sheet '33 bytes' cut S4
-head -c 68 sample > cut
-sheet 'the sample less a byte' cut S4
-head -c 16383 most > cut
-sheet '16,383 bytes' cut S4
+zeros 32 > piece
+sheet '32 bytes, all zero' piece S2
+{ head -c 31 least && hex 01; } > piece
+sheet '32 bytes, the last not zero' piece S5
+{ cat least && zeros 1; } > piece
+sheet '33 bytes' piece S4
+head -c 68 sample > piece
+sheet 'the sample less a byte' piece S4
+head -c 16383 most > piece
+sheet '16,383 bytes' piece S4
 sheet '16,384 bytes, accepted' most OK
-{ hex 02 && tail -c +2 most; } > cut
-sheet '16,384 bytes, edition 2' cut S2
+{ hex 02 && tail -c +2 most; } > piece
+sheet '16,384 bytes, edition 2' piece S2
 { cat most && zeros 1; } > over
 sheet '16,385 bytes' over S1
-{ cat most && zeros 100000; } > cut
-sheet '116,384 bytes' cut S1
+{ cat most && zeros 100000; } > piece
+sheet '116,384 bytes' piece S1
 
 slow 'the sample' sample 10 OK
 slow '32 bytes, accepted' least 31 OK
@@ -99,7 +99,7 @@ run <&- > out 2> err
 told 'standard input closed' $? '' 'standard input: Bad file descriptor'
 run < / > out 2> err
 told 'a directory' $? '' 'standard input: Is a directory'
-run 0> cut > out 2> err
+run 0> piece > out 2> err
 told 'standard input that is for writing' $? '' 'standard input: Bad file descriptor'
 
 # nor is a write that fails passed over

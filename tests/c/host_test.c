@@ -126,10 +126,7 @@ static const effect *try_everywhere(const event *e)
 /* ---- sheets ---- */
 
 static const uint8_t sample[69] = {
-    0x01, 0x01, 0x01, 0x01, 0x00, 0x45, 0x00, 0xC5, 0x01, 0x02, 0x03, 0x04, 0x07, 0xB0, 0x02, 0x00, 0x11, 0x05,
-    0x11, 0x11, 0x11, 0x11, 0x22, 0x22, 0x22, 0x22, 0xFF, 0xFF, 0xFF, 0xFF, 0x00, 0x00, 0x01, 0x00, 0x00, 0x04,
-    0x00, 0x3C, 0x32, 0x00, 0x01, 0x33, 0x84, 0x02, 0x00, 0x02, 0x00, 0x01, 0x00, 0x40, 0x31, 0x00, 0x08, 0x01,
-    0x01, 0x03, 0x00, 0x44, 0x00, 0x00, 0xA0, 0xA1, 0xA2, 0xA3, 0x03, 0xE8, 0x00, 0x00, 0x00,
+#include "../../hosts/sample_sheet.inc"
 };
 static const run sample_sheet = { sample, sizeof sample };
 
@@ -303,20 +300,7 @@ static const struct marked {
     int changed; /* offset of the bytes that change, or -1 */
     const char *to;
 } marked[] = {
-    { 2, 3, "03D501331001", "03D60133100103E8", 0, 3, -1, "" },
-    { 3, 3, "03D501331000", "03D6013310000001", 0, 3, -1, "" },
-    { 2, 3, "03D7013310010384", "03D601330001", 11, 3, -1, "" },
-    { 3, 1, "03D7013310010384", "03D6013310010384", 0, 1, 64, "0384" },
-    { 3, 3, "03D10022222222", "03D201", 0, 1, -1, "" },
-    { 3, 1, "03D10033333333", "03D203", 0, 3, -1, "" },
-    { 3, 3, "03D100FFFFFFFF", "03D202", 0, 2, -1, "" },
-    { 3, 3, "02040100", "02440100A0A1A2A3", 0, 3, -1, "" },
-    { 3, 3, "02020103", "02400103", 11, 3, -1, "" },
-    { 3, 1, "0281010055", "0241010055", 0, 1, 60, "55" },
-    { 3, 1, "03D00101000FF0", "02410100F0", 0, 1, 60, "F0" },
-    { 3, 1, "03D30033333333", "03D4FF", 11, 1, -1, "" },
-    { 3, 3, "03D8013300", "03D901330084000231", 0, 3, -1, "" },
-    { 2, 3, "02040100", "", 9, 3, -1, "" },
+#include "marked.inc" /* from tests/vectors/device.tsv */
 };
 enum { MARKED = sizeof marked / sizeof marked[0] };
 
@@ -558,6 +542,7 @@ static void test_nothing(void)
 int main(void)
 {
     begin("host");
+    expect(kelindap_version() == KELINDAP_VERSION, "the library has another version than its header");
     build_full_sheet();
     build_longest_sheet();
     test_marked_cases();

@@ -42,6 +42,9 @@
 static const char *test_name = "test";
 static unsigned long calls, failures;
 
+#if defined(__GNUC__)
+__attribute__((format(printf, 2, 3)))
+#endif
 static void expect(bool holds, const char *format, ...)
 {
     if (holds || failures++ >= 20)

@@ -100,12 +100,15 @@ static void write_again(enum place place, run apdu, kelindap_pdu pdu)
 
 static void try_reading(enum place place, run apdu)
 {
-    kelindap_pdu pdu = read_at(place, apdu), error = { .outcome = pdu.outcome };
+    kelindap_pdu pdu = read_at(place, apdu), error = { .outcome = pdu.outcome, .kind = KELINDAP_NO_KIND };
     bool fits = 2 <= apdu.length && apdu.length <= 16;
     expect(fits ? pdu.outcome == 0 || pdu.outcome == 8 || pdu.outcome == 10 : pdu.outcome == 5, "reading %d bytes gave %d",
            (int)apdu.length, pdu.outcome);
     if (pdu.outcome != 0) {
+        uint8_t now[MOST_ROOM];
         expect(same_fields(&pdu, &error) && pdu.data_offset == 0, "reading gave %d with fields", pdu.outcome);
+        expect(write_at(place, pdu, (run){ apdu.bytes, 0 }, 16, now).outcome == KELINDAP_UNWRITABLE,
+               "what reading gave %d for was written", pdu.outcome);
         return;
     }
     expect(pdu.kind < KINDS && (fields_in(&pdu) & ~fields_of[pdu.kind]) == 0, "kind %d has fields of another", pdu.kind);
@@ -176,6 +179,7 @@ static void test_nothing(void)
 int main(void)
 {
     begin("tool");
+    expect(kelindap_pdu_version() == KELINDAP_VERSION, "the library has another version than its header");
     test_nothing();
     test_reading();
     test_writing();

@@ -5,11 +5,11 @@ set -euo pipefail
 out=$1
 cd "$(dirname "$0")/../vectors"
 
-sample=01010101004500c50102030407b0020011051111111122222222ffffffff000001000004003c3200
-sample+=0133840200020001004031000801010300440000a0a1a2a303e8000000
+sample=$(grep -o '0x..' ../../hosts/sample_sheet.inc | cut -c 3-4 | paste -sd '' | tr A-F a-f)
 buffer=eeeeeeeeeeeeeeeeeeeeeeeeeeeeeeee
 
-# Each device vector: the sheet with its button and verify bits, the session, the request on a buffer of 20 bytes.
+# Each device vector: the sheet with its button and verify bits, the session, the request on a buffer of 20 bytes; and once
+# more in upper case on one of 16.
 awk -F '\t' -v sample="$sample" -v script="$out/device-vectors.in" -v expected="$out/device-vectors.out" '
     function put(text, at, hex) { return substr(text, 1, 2 * at) hex substr(text, 2 * at + length(hex) + 1) }
     /^#/ { next }
@@ -18,14 +18,13 @@ awk -F '\t' -v sample="$sample" -v script="$out/device-vectors.in" -v expected="
         n = split($2, pairs, " ")
         for (i = 1; i <= n; i++) { split(pairs[i], pair, "="); at[pair[1]] = pair[2] }
         sheet = put(sample, 14, "0" (at["button"] + 2 * at["verify"]))
-        buffer = "c3c3c3c3c3c3c3c3c3c3c3c3c3c3c3c3c3c3c3c3"
+        long = "c3c3c3c3c3c3c3c3c3c3c3c3c3c3c3c3c3c3c3c3"
+        short = substr(long, 1, 32)
         print "# " $1 > script
-        print "sheet " sheet > script
-        print "session " at["open"], at["level"] > script
-        print "request " at["mode"], at["group"], $3, buffer > script
-
-        print "OK" > expected
-        print "session " at["open"], at["level"] > expected
+        setup = "sheet " sheet "\nsession " at["open"] " " at["level"] "\nrequest " at["mode"] " " at["group"] " "
+        print setup $3, long > script
+        print setup toupper($3), short > script
+        ready = "OK\nsession " at["open"] " " at["level"] "\n"
         n = split($6, pairs, " ")
         for (i = 1; i <= n; i++) {
             split(pairs[i], pair, "=")
@@ -33,8 +32,9 @@ awk -F '\t' -v sample="$sample" -v script="$out/device-vectors.in" -v expected="
             else at[pair[1]] = pair[2]
         }
         count = 0
-        if ($4 != "-") { buffer = put(buffer, 0, $4); count = length($4) / 2 }
-        print $5, at["open"], at["level"], count, buffer, sheet > expected
+        if ($4 != "-") { long = put(long, 0, $4); short = put(short, 0, $4); count = length($4) / 2 }
+        print ready $5, at["open"], at["level"], count, long, sheet > expected
+        print ready $5, at["open"], at["level"], count, short, sheet > expected
     }
 ' device.tsv
 
@@ -88,6 +88,11 @@ line "write memory_read n=${zeros}1 address=0 $buffer" "0 4 02010000${buffer:8}"
 line "session 1 ${zeros}2" "session 1 2"
 line "request $nines 0 0300 $buffer" "ERR MODE is above 255: \"999999999999999999999999\""
 line "lookup region $nines" -
+line "lookup region 0" a0a1a2a3
+line "lookup region 1" -
+line "lookup region 256" -
+line "lookup region 4294967296" -
+line "lookup region 18446744073709551616" -
 line "sheet ${zeros}0" "ERR HEX has an odd number of hex digits"
 line "sheet ${zeros}0x" "ERR HEX has a character that is no hex digit"
 line "$abs" "ERR no command has this name: \"abababababababababababab\""

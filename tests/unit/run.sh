@@ -1,7 +1,7 @@
 #!/usr/bin/env bash
-# tests/unit/run.sh UNIT: plays every script through the desk unit and holds each line it answers to the expected one.
+# tests/unit/run.sh UNIT SHEET: plays every script through the desk unit and holds each line it answers to the expected one.
 set -euo pipefail
-unit=$(realpath "$1")
+unit=$(realpath "$1") sheet=$(realpath "$2")
 cd "$(dirname "$0")"
 work=$(mktemp -d)
 trap 'rm -rf "$work"' EXIT
@@ -46,8 +46,20 @@ for script in "$work"/made/*.in; do
 done
 
 # the demonstration
-../../scripts/demo.sh "$unit" ../../scripts/demo.txt > "$work/got" || different=$((different + 1))
+../../scripts/demo.sh "$unit" "$sheet" ../../scripts/demo.txt > "$work/got" || different=$((different + 1))
 compare demo demo.expected "$work/got"
+
+# an input that can't be read, closed or a folder: nothing is answered, and the status says so
+unreadable() { # HOW it was opened, the unit's status on the lines after
+    [ "$1" != 0 ] && [ ! -s "$work/got" ] && [ "$(cat "$work/err")" = "unit: the input can't be read" ] ||
+        { echo "an unreadable input: status $1, $(cat "$work/got" "$work/err")"; different=$((different + 1)); }
+}
+status=0
+"$unit" < / > "$work/got" 2> "$work/err" || status=$?
+unreadable "$status"
+status=0
+"$unit" <&- > "$work/got" 2> "$work/err" || status=$?
+unreadable "$status"
 
 # one line at a time: each answer is there before the next line is sent
 trap '' PIPE

@@ -1,5 +1,6 @@
 -- What a request in C gives: its reply and the session that it left, together what `device::request` gives.
 -- Assumes nothing.
+use Prim.Native.Nat.{ℕ}
 use Rattle.judge.specs.declared.Session.{Session}
 use Rattle.device.specs.declared.Done.{Done}
 use Rattle.host.specs.declared.Reply.{Reply}
@@ -10,3 +11,7 @@ gave r q = record { outcome = r .outcome; count = r .count; session = q }
 
 abbrev pub gaveBack : Replied → Done
 gaveBack r = record { outcome = r .outcome; count = r .count; session = r .session }
+
+-- the version: 65536 times its first number, 256 times its second, its third; so this is 0.1.0
+abbrev pub versionOf : ℕ
+versionOf = 256

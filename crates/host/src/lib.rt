@@ -4,7 +4,7 @@ ghost use Rattle.sheet.specs.Rules.{ruleOf};
 ghost use Rattle.sheet.specs.Lookup.{StandsIn, regionOf, regionFrom, propertyOf, propertyFrom, groupOf, groupFrom};
 ghost use Rattle.device.specs.Events.{freshOf, connectOf, disconnectOf, Pressed};
 ghost use Rattle.device.specs.Step.{Called};
-ghost use Rattle.host.specs.Calls.{gave, gaveBack};
+ghost use Rattle.host.specs.Calls.{gave, gaveBack, versionOf};
 use judge::Session;
 use sheet::Part;
 
@@ -126,4 +126,12 @@ pub extern "C" fn kelindap_group(sheet: &[u8], address: u16) -> Part
     ensures { λ r. ⌜ StandsIn (now (sheet .entry)) r (groupOf (now (sheet .entry)) address) (groupFrom (now (sheet .entry)) address) ⌝ }
 {
     sheet::group_part(sheet, address)
+}
+
+// The version of this library.
+#[no_mangle]
+pub extern "C" fn kelindap_version() -> u32
+    ensures { λ r. ⌜ r ≡ versionOf ⌝ }
+{
+    256
 }

@@ -10,8 +10,8 @@ use Rattle.pdu.specs.declared.Service.{Service}
 use Rattle.pdu.specs.declared.Service.the-variants as svc
 use Rattle.pdu.specs.declared.Pdu.{Pdu}
 use Rattle.pdu.specs.declared.Pdu.the-variants.{GroupValueRead, GroupValueResponse, GroupValueWrite, IndividualAddressWrite, IndividualAddressRead, SerialNumberRead, SerialNumberWrite, DeviceDescriptorRead, PropertyValueRead, PropertyValueWrite, PropertyDescriptionRead, MemoryRead, MemoryWrite, MemoryBitWrite, AuthorizeRequest, KeyWrite, Restart, IndividualAddressResponse, SerialNumberResponse, DeviceDescriptorResponse, PropertyValueResponse, PropertyDescriptionResponse, MemoryResponse, AuthorizeResponse, KeyResponse}
-use Rattle.tool.specs.Flat.{placeIn, kindOf, flatOf, meantBy}
-use Rattle.tool.specs.declared.Meant.the-variants.{Known}
+use Rattle.tool.specs.Flat.{placeIn, kindOf, flatOf, refusal, meantBy}
+use Rattle.tool.specs.declared.Meant.the-variants.{Known, Nothing}
 
 -- THE SERVICE AT THE PLACE OF ITS KIND
 pub kind-is : (k : Service) → getElem? services (kindOf k) ≡ some k
@@ -70,3 +70,8 @@ means (PropertyDescriptionResponse a b c d e f) l = refl
 means (MemoryResponse a b) l = refl
 means (AuthorizeResponse a) l = refl
 means (KeyResponse a) l = refl
+
+-- WHAT WAS REFUSED MEANS NO PDU: written, it gives 3 or 13
+pub refused-means-nothing : (n : ℕ) → meantBy (refusal n) ≡ Nothing
+unfolding meantBy
+refused-means-nothing n = refl

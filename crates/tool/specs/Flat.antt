@@ -60,7 +60,11 @@ laid k x at n =
 abbrev pub flatOf : Pdu → List ℕ → FlatPdu
 flatOf p b = laid (kindOf (serviceOf p)) (valuesOf p) (dataAt p) (length b - dataAt p)
 
--- a refusal: its outcome, and all else 0
+-- no PDU: a kind that no service has
+abbrev pub noKind : ℕ
+noKind = 255
+
+-- a refusal: its outcome, no kind, and all else 0
 abbrev pub refusal : ℕ → FlatPdu
 refusal n =
     record {
@@ -71,7 +75,7 @@ refusal n =
       s = 0;
       maximum = 0;
       outcome = n;
-      kind = 0;
+      kind = noKind;
       v = 0;
       t = 0;
       object = 0;
@@ -139,3 +143,7 @@ flatWritten w = record { outcome = writeOutcome w; count = writeCount w }
 pub record FlatWrote (m : Meant) (d o : List ℕ) (r : FlatWritten) (e : List ℕ) : Type 0 where
   pub result : r ≡ flatWritten (meantWrite m d o)
   pub buffer : e ≡ meantBuffer m d o
+
+-- THE VERSION: 65536 times its first number, 256 times its second, its third; so this is 0.1.0
+abbrev pub versionOf : ℕ
+versionOf = 256

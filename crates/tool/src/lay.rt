@@ -36,11 +36,11 @@ fn none(kind: u8) -> FlatPdu
     }
 }
 
-// A refusal.
+// A refusal, of no kind.
 pub fn refuse(n: u8) -> FlatPdu
     ensures { λ r. ⌜ r ≡ refusal n ⌝ }
 {
-    let mut f = none(0);
+    let mut f = none(255);
     f.outcome = n;
     f
 }

@@ -2,7 +2,7 @@
 ghost use mathlib.Core.Path.{_≡_};
 ghost use Prim.Native.Nat.{_≤_};
 ghost use Rattle.pdu.specs.Write.{writeCount};
-ghost use Rattle.tool.specs.Flat.{flatRead, meantBy, unknownKind, flatWritten, FlatWrote};
+ghost use Rattle.tool.specs.Flat.{flatRead, meantBy, unknownKind, flatWritten, FlatWrote, versionOf};
 ghost use Rattle.tool.specs.declared.Meant.the-variants.{Known};
 use pdu::Parsed;
 use pdu::Pdu;
@@ -111,4 +111,12 @@ pub extern "C" fn kelindap_write(flat: FlatPdu, data: &[u8], out: &mut [u8]) -> 
         Meant::Known(p) => write_known(p, data, out),
         Meant::Nothing => write_unknown(out.len()),
     }
+}
+
+// The version of this library.
+#[no_mangle]
+pub extern "C" fn kelindap_pdu_version() -> u32
+    ensures { λ r. ⌜ r ≡ versionOf ⌝ }
+{
+    256
 }

@@ -25,34 +25,45 @@ pub struct Flat {
     pub data_length: u64,
 }
 
-/// The kinds by number, with their fields as the desk unit names them.
-pub const KINDS: [(&str, &[&str]); 25] = [
-    ("group_read", &[]),
-    ("group_response", &["v", "data"]),
-    ("group_write", &["v", "data"]),
-    ("address_write", &["address"]),
-    ("address_read", &[]),
-    ("serial_read", &["serial"]),
-    ("serial_write", &["serial", "address"]),
-    ("descriptor_read", &["t"]),
-    ("property_read", &["object", "id", "n", "s"]),
-    ("property_write", &["object", "id", "n", "s", "data"]),
-    ("description_read", &["object", "id", "index"]),
-    ("memory_read", &["n", "address"]),
-    ("memory_write", &["n", "address", "data"]),
-    ("memory_bit_write", &["n", "address", "and", "xor"]),
-    ("authorize_request", &["key"]),
-    ("key_write", &["level", "key"]),
-    ("restart", &[]),
-    ("address_response", &[]),
-    ("serial_response", &["serial", "domain"]),
-    ("descriptor_response", &["t", "data"]),
-    ("property_response", &["object", "id", "n", "s", "data"]),
-    ("description_response", &["object", "id", "index", "type", "maximum", "access"]),
-    ("memory_response", &["n", "address", "data"]),
-    ("authorize_response", &["level"]),
-    ("key_response", &["level"]),
+/// The kind of what was refused.
+pub const NO_KIND: u8 = 255;
+
+/// The fields of the kinds by number, as the desk unit names them.
+pub const KINDS: [&[&str]; 25] = [
+    &[],
+    &["v", "data"],
+    &["v", "data"],
+    &["address"],
+    &[],
+    &["serial"],
+    &["serial", "address"],
+    &["t"],
+    &["object", "id", "n", "s"],
+    &["object", "id", "n", "s", "data"],
+    &["object", "id", "index"],
+    &["n", "address"],
+    &["n", "address", "data"],
+    &["n", "address", "and", "xor"],
+    &["key"],
+    &["level", "key"],
+    &[],
+    &[],
+    &["serial", "domain"],
+    &["t", "data"],
+    &["object", "id", "n", "s", "data"],
+    &["object", "id", "index", "type", "maximum", "access"],
+    &["n", "address", "data"],
+    &["level"],
+    &["level"],
 ];
+
+/// The name of a kind, from the one file that has the names.
+pub fn kind_name(kind: usize) -> &'static str {
+    let names = include_str!("../../../include/kelindap_names.h");
+    let kinds = names.split("#define KELINDAP_KINDS").nth(1).unwrap();
+    let line = kinds.lines().find(|line| line.trim_start().starts_with(&format!("X({kind}, ")));
+    line.and_then(|line| line.split('"').nth(1)).unwrap()
+}
 
 fn number(serial: [u8; 6]) -> u64 {
     serial.iter().fold(0, |n, &b| n << 8 | b as u64)
@@ -158,11 +169,11 @@ impl Flat {
 
     /// The kind and its fields in the desk unit's words.
     pub fn words(&self, data: &[u8]) -> String {
-        let Some((kind, fields)) = KINDS.get(self.kind as usize) else {
+        let Some(fields) = KINDS.get(self.kind as usize) else {
             return format!("kind{} data={}", self.kind, crate::hex(data));
         };
         let half = data.len() / 2;
-        let mut words = kind.to_string();
+        let mut words = kind_name(self.kind as usize).to_string();
         for field in *fields {
             let value = match *field {
                 "v" => self.v.to_string(),

@@ -6,7 +6,7 @@ use model::faults::Fault;
 use model::gen::Ask;
 use model::{pdu, sheet};
 
-use crate::flat::Flat;
+use crate::flat::{Flat, NO_KIND};
 use crate::hex;
 
 #[derive(Clone, Debug)]
@@ -231,7 +231,7 @@ impl World {
                         data_length: data.len() as u64,
                         ..Flat::lay(&pdu, Flat::default())
                     },
-                    Err(outcome) => Flat { outcome, ..Flat::default() },
+                    Err(outcome) => Flat { outcome, kind: NO_KIND, ..Flat::default() },
                 };
                 flat.send(reply);
             }

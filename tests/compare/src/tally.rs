@@ -2,7 +2,7 @@
 
 use model::matrix::{self, ROWS};
 
-use crate::flat::KINDS;
+use crate::flat::{kind_name, KINDS};
 use crate::play::Play;
 
 /// Counts of the library's own replies.
@@ -128,9 +128,12 @@ impl Tally {
         self.reads.judge("outcome of reading", &[0, 5, 8, 10], must, &mut complaints);
         self.kinds.judge("kind that was read", &kinds, must, &mut complaints);
         for (k, seen) in self.writes.iter().enumerate() {
-            let (name, can) = KINDS
-                .get(k)
-                .map_or(("unknown kind", &[3, 13][..]), |(name, _)| (*name, &[0, 3, 13]));
+            let known = k < KINDS.len();
+            let (name, can) = if known {
+                (kind_name(k), &[0, 3, 13][..])
+            } else {
+                ("unknown kind", &[3, 13][..])
+            };
             seen.judge(&format!("outcome of writing {name}"), can, must, &mut complaints);
         }
         if self.ended_badly {

@@ -10,24 +10,31 @@ pub const KEYS: usize = 18;
 pub const HEAD: usize = 32;
 pub const LONGEST: usize = 16_384;
 
-/// The sample sheet of the rules.
-#[rustfmt::skip]
-pub const SAMPLE: [u8; 69] = [
-    0x01, 0x01, 0x01, 0x01,
-    0x00, 0x45,
-    0x00, 0xC5, 0x01, 0x02, 0x03, 0x04,
-    0x07, 0xB0,
-    0x02, 0x00,
-    0x11, 0x05,
-    0x11, 0x11, 0x11, 0x11, 0x22, 0x22, 0x22, 0x22, 0xFF, 0xFF, 0xFF, 0xFF,
-    0x00, 0x00,
-    0x01, 0x00, 0x00, 0x04, 0x00, 0x3C, 0x32, 0x00,
-    0x01, 0x33, 0x84, 0x02, 0x00, 0x02, 0x00, 0x01, 0x00, 0x40, 0x31, 0x00,
-    0x08, 0x01, 0x01, 0x03, 0x00, 0x44, 0x00, 0x00,
-    0xA0, 0xA1, 0xA2, 0xA3,
-    0x03, 0xE8, 0x00, 0x00,
-    0x00,
-];
+/// The sample sheet of the rules, from the one file that has it.
+pub const SAMPLE: [u8; 69] = listed(include_bytes!("../../../hosts/sample_sheet.inc"));
+
+/// The bytes of a C list: every 0x and two digits.
+const fn listed<const N: usize>(text: &[u8]) -> [u8; N] {
+    let mut bytes = [0; N];
+    let (mut i, mut n) = (0, 0);
+    while i + 3 < text.len() {
+        if text[i] == b'0' && text[i + 1] == b'x' {
+            bytes[n] = 16 * digit(text[i + 2]) + digit(text[i + 3]);
+            n += 1;
+        }
+        i += 1;
+    }
+    assert!(n == N);
+    bytes
+}
+
+const fn digit(c: u8) -> u8 {
+    match c {
+        b'0'..=b'9' => c - b'0',
+        b'A'..=b'F' => c - b'A' + 10,
+        _ => panic!("no hex digit"),
+    }
+}
 
 fn word(high: u8, low: u8) -> u16 {
     u16::from_be_bytes([high, low])

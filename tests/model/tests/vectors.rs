@@ -1,4 +1,4 @@
-//! Fixed cases: the marked ones, further ones, and the PDU layouts.
+//! Fixed cases: those of tests/vectors, the marked ones among them, further ones, and the PDU layouts.
 
 use model::device::{button, connect, disconnect, request, Reply, Session};
 use model::pdu::{self, Pdu};
@@ -65,27 +65,54 @@ fn expect(cases: &[(&str, &str, &str, u8)]) {
     }
 }
 
+/// A number that `at` names, such as that of "level" in "mode=3 level=1".
+fn named(at: &str, name: &str) -> u16 {
+    let value = at.split(' ').find_map(|pair| pair.strip_prefix(name)?.strip_prefix('='));
+    value.unwrap_or_else(|| panic!("{at}: no {name}")).parse().unwrap()
+}
+
+/// Every row of the file that the tests share, the marked cases first.
 #[test]
-fn marked_cases() {
-    expect(&[
-        ("M2", "03D501331001", "03D60133100103E8", 0),
-        ("L3", "03D501331000", "03D6013310000001", 0),
-        ("M2", "03D7013310010384", "03D601330001", 11),
-        ("L1", "03D7013310010384", "03D6013310010384", 0),
-        ("L3", "03D10022222222", "03D201", 0),
-        ("L1", "03D10033333333", "03D203", 0),
-        ("L3", "03D100FFFFFFFF", "03D202", 0),
-        ("L3", "02040100", "02440100A0A1A2A3", 0),
-        ("L3", "02020103", "02400103", 11),
-        ("L1", "0281010055", "0241010055", 0),
-        ("L1", "03D00101000FF0", "02410100F0", 0),
-        ("L1", "03D30033333333", "03D4FF", 11),
-        ("L3", "03D8013300", "03D901330084000231", 0),
-        ("M2", "02040100", "", 9),
-    ]);
-    assert_eq!(run("L3", "03D10022222222").session.level, 1);
-    assert_eq!(run("L1", "03D10033333333").session.level, 3);
-    assert_eq!(run("L3", "03D100FFFFFFFF").session.level, 2);
+fn shared_cases() {
+    let rows = include_str!("../../vectors/device.tsv").lines().filter(|row| !row.starts_with('#'));
+    let mut marked = 0;
+    for row in rows {
+        let [source, at, apdu, answer, outcome, change] = row.split('\t').collect::<Vec<_>>()[..]
+        else {
+            panic!("{row}")
+        };
+        marked += usize::from(source.starts_with("01 marked case"));
+        let mut sheet = SAMPLE;
+        sheet[14] = (named(at, "button") + 2 * named(at, "verify")) as u8;
+        let mut session = Session { open: named(at, "open") == 1, level: named(at, "level") as u8 };
+        let (mut after, mut stored) = (session, sheet);
+        for pair in change.split(' ').filter(|&pair| pair != "-") {
+            let (name, value) = pair.split_once('=').unwrap();
+            match name {
+                "open" => after.open = value == "1",
+                "level" => after.level = value.parse().unwrap(),
+                _ => {
+                    let from: usize = name[6..name.len() - 1].parse().unwrap();
+                    let bytes = hex(value);
+                    stored[from..from + bytes.len()].copy_from_slice(&bytes);
+                }
+            }
+        }
+        let mut buffer = [0x5A; 20];
+        let mode = named(at, "mode") as u8;
+        let reply =
+            request(&mut session, mode, named(at, "group"), &hex(apdu), &mut sheet, &mut buffer);
+        let due = hex(answer.trim_matches('-'));
+        assert_eq!(reply.outcome.to_string(), outcome, "{row}");
+        assert_eq!(&buffer[..reply.count as usize], due, "{row}");
+        assert!(buffer[due.len()..].iter().all(|&b| b == 0x5A), "{row}: wrote past the answer");
+        assert_eq!(
+            (session.open, session.level, sheet),
+            (after.open, after.level, stored),
+            "{row}"
+        );
+    }
+    assert_eq!(marked, 14);
 }
 
 #[test]

@@ -1,0 +1,79 @@
+/*
+ * Outcomes and kinds of PDUs as text, for logs and people. The only place that has these words: the desk unit, the tests
+ * and the demonstration take them from here.
+ */
+#ifndef KELINDAP_NAMES_H
+#define KELINDAP_NAMES_H
+
+#include "kelindap_common.h"
+#include "kelindap_pdu.h"
+
+/* Each outcome by number, with its name in enum kelindap_outcome and its words. */
+#define KELINDAP_OUTCOMES(X)                          \
+    X(0, ANSWERED, "carried out")                     \
+    X(1, DONE, "carried out")                         \
+    X(2, NOT_FOR_US, "not for this device")           \
+    X(3, NO_ROOM, "the answer buffer is too short")   \
+    X(4, BAD_SHEET, "the sheet is not accepted")      \
+    X(5, BAD_LENGTH, "the length is wrong")           \
+    X(6, BAD_MODE, "unknown mode")                    \
+    X(7, NOT_CONNECTED, "not connected")              \
+    X(8, UNKNOWN, "unknown service")                  \
+    X(9, WRONG_MODE, "wrong mode")                    \
+    X(10, UNFIT, "unfit length or value")             \
+    X(11, DENIED, "refused")                          \
+    X(12, DENIED_SILENT, "refused")                   \
+    X(13, UNWRITABLE, "no PDU that can be written")
+
+/* Each kind by number, with its name in enum kelindap_kind and its name at the desk unit. */
+#define KELINDAP_KINDS(X)                               \
+    X(0, GROUP_READ, "group_read")                      \
+    X(1, GROUP_RESPONSE, "group_response")              \
+    X(2, GROUP_WRITE, "group_write")                    \
+    X(3, ADDRESS_WRITE, "address_write")                \
+    X(4, ADDRESS_READ, "address_read")                  \
+    X(5, SERIAL_READ, "serial_read")                    \
+    X(6, SERIAL_WRITE, "serial_write")                  \
+    X(7, DESCRIPTOR_READ, "descriptor_read")            \
+    X(8, PROPERTY_READ, "property_read")                \
+    X(9, PROPERTY_WRITE, "property_write")              \
+    X(10, DESCRIPTION_READ, "description_read")         \
+    X(11, MEMORY_READ, "memory_read")                   \
+    X(12, MEMORY_WRITE, "memory_write")                 \
+    X(13, MEMORY_BIT_WRITE, "memory_bit_write")         \
+    X(14, AUTHORIZE_REQUEST, "authorize_request")       \
+    X(15, KEY_WRITE, "key_write")                       \
+    X(16, RESTART, "restart")                           \
+    X(17, ADDRESS_RESPONSE, "address_response")         \
+    X(18, SERIAL_RESPONSE, "serial_response")           \
+    X(19, DESCRIPTOR_RESPONSE, "descriptor_response")   \
+    X(20, PROPERTY_RESPONSE, "property_response")       \
+    X(21, DESCRIPTION_RESPONSE, "description_response") \
+    X(22, MEMORY_RESPONSE, "memory_response")           \
+    X(23, AUTHORIZE_RESPONSE, "authorize_response")     \
+    X(24, KEY_RESPONSE, "key_response")
+
+/* The words of a number that is none: "no outcome", "no kind". */
+static inline const char *kelindap_outcome_name(uint8_t outcome)
+{
+    switch (outcome) {
+#define KELINDAP_CASE(number, name, text) \
+    case KELINDAP_##name:                 \
+        return text;
+        KELINDAP_OUTCOMES(KELINDAP_CASE)
+    default:
+        return "no outcome";
+    }
+}
+
+static inline const char *kelindap_kind_name(uint8_t kind)
+{
+    switch (kind) {
+        KELINDAP_KINDS(KELINDAP_CASE)
+#undef KELINDAP_CASE
+    default:
+        return "no kind";
+    }
+}
+
+#endif

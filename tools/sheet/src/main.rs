@@ -1,0 +1,113 @@
+//! `sheet check|show|make|diff`: the device sheet as text. Exit status 0; 1 if a sheet is not accepted or two differ;
+//! 2 with a line on standard error for anything else: a file that can't be read, a text with a fault, a wrong word.
+
+use std::fs::File;
+use std::io::{self, Read, Write};
+use std::process::ExitCode;
+
+use sheet::check::{check, Broken};
+use sheet::layout::{Sheet, LONGEST};
+use sheet::{diff, make, show};
+
+const USAGE: &str = "usage: sheet check FILE
+       sheet show [--keys] FILE
+       sheet make TEXT
+       sheet diff FILE FILE
+FILE and TEXT are names of files, - being standard input.";
+
+/// The longest text that is read: some twenty times that of the longest sheet.
+const LONGEST_TEXT: u64 = 1 << 22;
+
+/// What a command says, with its status.
+type Said = Result<(Vec<u8>, u8), String>;
+
+fn main() -> ExitCode {
+    let words: Vec<_> = std::env::args_os().skip(1).collect();
+    let words: Vec<&str> = words.iter().map(|w| w.to_str().unwrap_or("\u{fffd}")).collect();
+    let said = match words[..] {
+        ["check", file] => load(file).map(|bytes| checked(&bytes)),
+        ["show", "--keys", file] | ["show", file, "--keys"] => {
+            load(file).map(|bytes| shown(&bytes, true))
+        }
+        ["show", file] => load(file).map(|bytes| shown(&bytes, false)),
+        ["make", text] => made(text),
+        ["diff", a, b] => differ(a, b),
+        _ => Err(USAGE.to_string()),
+    };
+    finish(said)
+}
+
+fn finish(said: Said) -> ExitCode {
+    let (bytes, status) = match said {
+        Ok(said) => said,
+        Err(why) => return complain(&why),
+    };
+    let mut out = io::stdout().lock();
+    match out.write_all(&bytes).and_then(|()| out.flush()) {
+        Ok(()) => ExitCode::from(status),
+        Err(why) => complain(&format!("standard output: {why}")),
+    }
+}
+
+fn complain(why: &str) -> ExitCode {
+    // if standard error is closed too there is nobody to tell
+    let _ = writeln!(io::stderr(), "{}{why}", if why == USAGE { "" } else { "sheet: " });
+    ExitCode::from(2)
+}
+
+/// At most so many bytes of a file.
+fn read(name: &str, most: u64) -> Result<Vec<u8>, String> {
+    let mut bytes = Vec::new();
+    let got = if name == "-" {
+        io::stdin().lock().take(most).read_to_end(&mut bytes)
+    } else {
+        File::open(name).and_then(|file| file.take(most).read_to_end(&mut bytes))
+    };
+    got.map(|_| bytes).map_err(|why| format!("{name}: {why}"))
+}
+
+/// A sheet; of one that is too long, a byte more than it may have.
+fn load(name: &str) -> Result<Vec<u8>, String> {
+    read(name, LONGEST as u64 + 1)
+}
+
+fn line(text: impl ToString) -> Vec<u8> {
+    (text.to_string() + "\n").into_bytes()
+}
+
+fn checked(bytes: &[u8]) -> (Vec<u8>, u8) {
+    match check(bytes) {
+        Ok(()) => (line("OK"), 0),
+        Err(broken) => (line(broken), 1),
+    }
+}
+
+fn shown(bytes: &[u8], keys: bool) -> (Vec<u8>, u8) {
+    match Sheet::read(bytes) {
+        Ok(sheet) => (show::text(&sheet, keys).into_bytes(), 0),
+        Err(broken) => (line(broken), 1),
+    }
+}
+
+fn made(name: &str) -> Said {
+    let bytes = read(name, LONGEST_TEXT + 1)?;
+    if bytes.len() as u64 > LONGEST_TEXT {
+        return Err(format!("{name}: more than {LONGEST_TEXT} bytes, which is no sheet's text"));
+    }
+    let text = String::from_utf8(bytes).map_err(|why| {
+        let upto = &why.as_bytes()[..why.utf8_error().valid_up_to()];
+        let at = 1 + upto.iter().filter(|&&b| b == b'\n').count();
+        format!("{name}: line {at}: a byte that is no text")
+    })?;
+    make::bytes(&text).map(|sheet| (sheet, 0)).map_err(|fault| format!("{name}: {fault}"))
+}
+
+fn differ(a: &str, b: &str) -> Said {
+    let accepted = |name: &str| {
+        let broken = |broken: Broken| format!("{name}: {broken}");
+        load(name).and_then(|bytes| Sheet::read(&bytes).map_err(broken))
+    };
+    let lines = diff::lines(&accepted(a)?, &accepted(b)?);
+    let status = u8::from(!lines.is_empty());
+    Ok((lines.iter().flat_map(line).collect(), status))
+}

@@ -1,0 +1,122 @@
+//! A sheet as text that a person reads and edits, and that `make` reads again.
+
+use crate::layout::{
+    group_address, hex, individual_address, memory_address, Group, Levels, Property, Region, Sheet,
+};
+
+/// What stands for a key that is not shown.
+pub const HIDDEN: &str = "hidden";
+
+/// The flags of a group object: their bits and words.
+pub const GROUP_FLAGS: [(u8, &str); 3] = [(1, "read"), (2, "write"), (4, "response")];
+
+/// So many numbers and bytes stand on a line.
+const NUMBERS: usize = 8;
+const BYTES: usize = 16;
+
+/// The text of a sheet, with or without its keys.
+pub fn text(sheet: &Sheet, keys: bool) -> String {
+    let mut out = head(sheet, keys);
+    for region in &sheet.regions {
+        out += &region_text(region);
+    }
+    for property in &sheet.properties {
+        out += &property_text(property);
+    }
+    for group in &sheet.groups {
+        out += &group_text(group);
+    }
+    out
+}
+
+pub fn switch(on: bool) -> &'static str {
+    if on {
+        "on"
+    } else {
+        "off"
+    }
+}
+
+fn head(sheet: &Sheet, keys: bool) -> String {
+    let mut out = String::from("edition 1\n");
+    out += &format!("serial {}\n", hex(&sheet.serial));
+    out += &format!("mask {}\n", hex(&sheet.mask));
+    out += &format!("programming {}\n", switch(sheet.programming));
+    out += &format!("verify {}\n", switch(sheet.verify));
+    out += &format!("address {}\n", individual_address(sheet.address));
+    for (level, key) in sheet.keys.iter().enumerate() {
+        let key = if keys { hex(key) } else { HIDDEN.to_string() };
+        out += &format!("key {level} {key}\n");
+    }
+    out
+}
+
+fn levels(levels: Levels) -> String {
+    format!("r{} w{}", levels.read, levels.write)
+}
+
+/// Words on lines of so many, each with what its first word is, if there is more than one line.
+fn lines(words: &[String], to_a_line: usize, first: impl Fn(usize) -> String) -> String {
+    let mut out = String::new();
+    for (i, line) in words.chunks(to_a_line).enumerate() {
+        out += "    ";
+        out += &line.join(" ");
+        if words.len() > to_a_line {
+            out += "  # ";
+            out += &first(i * to_a_line);
+        }
+        out += "\n";
+    }
+    out
+}
+
+pub fn byte_words(bytes: &[u8]) -> Vec<String> {
+    bytes.chunks(1).map(hex).collect()
+}
+
+fn region_text(r: &Region) -> String {
+    let first = r.address as usize;
+    let head = format!("\nregion {} {}\n", memory_address(first), levels(r.levels));
+    head + &lines(&byte_words(&r.body), BYTES, |i| memory_address(first + i))
+}
+
+/// An element: a number if it has up to four bytes, else its hex digits.
+pub fn element(bytes: &[u8]) -> String {
+    if bytes.len() > 4 {
+        return format!("{}h", hex(bytes));
+    }
+    bytes.iter().fold(0, |number, &b| number << 8 | u32::from(b)).to_string()
+}
+
+/// The elements up to the count and up to the last that is not 0; those after them are 0.
+fn property_text(p: &Property) -> String {
+    let size = p.size as usize;
+    let used = p.body.iter().rposition(|&b| b != 0).map_or(0, |last| last / size + 1);
+    let shown = used.max(p.count as usize);
+    let words: Vec<String> = p.body.chunks(size).take(shown).map(element).collect();
+    let writable = if p.writable { " writable" } else { "" };
+    let head = format!(
+        "\nproperty {}/{} type {}{writable} size {size} maximum {} count {} {}\n",
+        p.object,
+        p.id,
+        p.class,
+        p.maximum,
+        p.count,
+        levels(p.levels)
+    );
+    head + &lines(&words, NUMBERS, |i| format!("element {}", i + 1))
+}
+
+pub fn flag_words(flags: u8) -> String {
+    GROUP_FLAGS
+        .iter()
+        .filter(|(bit, _)| flags & bit != 0)
+        .map(|(_, word)| format!(" {word}"))
+        .collect()
+}
+
+fn group_text(g: &Group) -> String {
+    let head =
+        format!("\ngroup {} code {}{}\n", group_address(g.address), g.code, flag_words(g.flags));
+    head + &lines(&byte_words(&g.body), BYTES, |i| format!("byte {i}"))
+}

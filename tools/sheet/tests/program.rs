@@ -1,0 +1,126 @@
+//! The program itself: what it writes where, and its exit status.
+
+use std::fs;
+use std::path::PathBuf;
+use std::process::{Command, Output, Stdio};
+
+use model::sheet::SAMPLE;
+
+/// A folder of the test's own, with the sample sheet in it, another, a damaged one and texts.
+fn room(name: &str) -> PathBuf {
+    let room = PathBuf::from(env!("CARGO_TARGET_TMPDIR")).join(name);
+    fs::create_dir_all(&room).unwrap();
+    let write = |name: &str, bytes: &[u8]| fs::write(room.join(name), bytes).unwrap();
+    write("sample", &SAMPLE);
+    let mut other = SAMPLE;
+    other[64..66].copy_from_slice(&[0x04, 0xE2]);
+    write("other", &other);
+    other[47] = 3;
+    write("bad", &other);
+    write("long", &[1; 20_000]);
+    write("noise", b"edition 1\nserial \xff\n");
+    room
+}
+
+fn run(room: &PathBuf, words: &[&str]) -> Output {
+    let program = env!("CARGO_BIN_EXE_sheet");
+    Command::new(program).args(words).current_dir(room).stdin(Stdio::null()).output().unwrap()
+}
+
+/// Status, standard output and standard error.
+fn told(room: &PathBuf, words: &[&str]) -> (i32, String, String) {
+    let got = run(room, words);
+    let text = |bytes| String::from_utf8(bytes).unwrap();
+    (got.status.code().unwrap(), text(got.stdout), text(got.stderr))
+}
+
+fn said(status: i32, out: &str, err: &str) -> (i32, String, String) {
+    (status, out.to_string(), err.to_string())
+}
+
+#[test]
+fn check() {
+    let room = room("check");
+    assert_eq!(told(&room, &["check", "sample"]), said(0, "OK\n", ""));
+    let broken = "S7: property 1/51, count 3 above maximum 2\n";
+    assert_eq!(told(&room, &["check", "bad"]), said(1, broken, ""));
+    assert_eq!(told(&room, &["show", "bad"]), said(1, broken, ""));
+    assert_eq!(
+        told(&room, &["check", "long"]),
+        said(1, "S1: the sheet has more than 16384 bytes\n", "")
+    );
+    assert_eq!(
+        told(&room, &["check", "-"]),
+        said(1, "S1: the sheet has 0 bytes, fewer than 32\n", "")
+    );
+    let missing = "sheet: nothing: No such file or directory (os error 2)\n";
+    assert_eq!(told(&room, &["check", "nothing"]), said(2, "", missing));
+    assert_eq!(
+        told(&room, &["check", "."]),
+        said(2, "", "sheet: .: Is a directory (os error 21)\n")
+    );
+}
+
+#[test]
+fn show_and_make() {
+    let room = room("make");
+    let (status, text, err) = told(&room, &["show", "--keys", "sample"]);
+    assert_eq!((status, err.as_str()), (0, ""));
+    fs::write(room.join("text"), &text).unwrap();
+    let made = run(&room, &["make", "text"]);
+    assert_eq!((made.status.code(), made.stdout, made.stderr), (Some(0), SAMPLE.to_vec(), vec![]));
+    let hidden = told(&room, &["show", "sample"]).1;
+    assert!(
+        hidden.contains("key 0 hidden\nkey 1 hidden\nkey 2 hidden\n") && !hidden.contains("1111")
+    );
+    fs::write(room.join("text"), text.replace("count 1", "count x")).unwrap();
+    let fault = "sheet: text: line 14: property 1/51, count is no number: \"x\"\n";
+    assert_eq!(told(&room, &["make", "text"]), said(2, "", fault));
+    assert_eq!(
+        told(&room, &["make", "noise"]),
+        said(2, "", "sheet: noise: line 2: a byte that is no text\n")
+    );
+    let (status, out, err) = told(&room, &["make", "/dev/zero"]);
+    assert_eq!((status, out.as_str()), (2, ""));
+    assert!(err.contains("more than 4194304 bytes"), "{err}");
+}
+
+#[test]
+fn diff() {
+    let room = room("diff");
+    assert_eq!(told(&room, &["diff", "sample", "sample"]), said(0, "", ""));
+    let line = "property 1/51 element 1: 1000 → 1250\n";
+    assert_eq!(told(&room, &["diff", "sample", "other"]), said(1, line, ""));
+    let broken = "sheet: bad: S7: property 1/51, count 3 above maximum 2\n";
+    assert_eq!(told(&room, &["diff", "sample", "bad"]), said(2, "", broken));
+    assert_eq!(told(&room, &["diff", "sample", "nothing"]).0, 2);
+}
+
+/// Words that are no command, and an output that can't be written.
+#[test]
+fn wrong_use() {
+    let room = room("wrong");
+    for words in [
+        &[][..],
+        &["check"],
+        &["check", "a", "b"],
+        &["shew", "a"],
+        &["show", "--key", "a"],
+        &["diff", "a"],
+    ] {
+        let (status, out, err) = told(&room, words);
+        assert_eq!(
+            (status, out.as_str(), err.starts_with("usage: sheet check FILE\n")),
+            (2, "", true)
+        );
+    }
+    let full = fs::OpenOptions::new().write(true).open("/dev/full").unwrap();
+    let got = Command::new(env!("CARGO_BIN_EXE_sheet"))
+        .args(["show", "sample"])
+        .current_dir(&room)
+        .stdout(full)
+        .output()
+        .unwrap();
+    assert_eq!(got.status.code(), Some(2));
+    assert!(String::from_utf8(got.stderr).unwrap().starts_with("sheet: standard output: "));
+}

@@ -1,0 +1,144 @@
+//! Random sheets, accepted and damaged: the verdict, there and back as text, and what differs.
+
+use model::gen::{any_sheet, damage, sheet, Rng};
+use sheet::check::check;
+use sheet::diff;
+use sheet::layout::Sheet;
+use sheet::{make, show};
+
+const SHEETS: u64 = 10_000;
+
+fn verdict(bytes: &[u8]) -> u8 {
+    check(bytes).map_or_else(|broken| broken.rule, |()| 0)
+}
+
+/// The text of an accepted sheet makes the same bytes.
+#[test]
+fn there_and_back() {
+    for seed in 0..SHEETS {
+        let bytes = sheet(&mut Rng::new(seed));
+        let values = Sheet::read(&bytes).unwrap_or_else(|broken| panic!("seed {seed}: {broken}"));
+        assert_eq!(values.bytes(), bytes, "seed {seed}");
+        let text = show::text(&values, true);
+        let again = make::bytes(&text).unwrap_or_else(|fault| panic!("seed {seed}: {fault}"));
+        assert!(again == bytes, "seed {seed}: other bytes");
+    }
+}
+
+/// Without the keys nothing is made, and no key is in the text.
+#[test]
+fn hidden_keys() {
+    for seed in 0..200 {
+        let bytes = sheet(&mut Rng::new(seed));
+        let values = Sheet::read(&bytes).unwrap();
+        let text = show::text(&values, false);
+        assert_eq!(text.matches("hidden").count(), 3);
+        let fault = make::bytes(&text).unwrap_err();
+        assert_eq!(
+            (fault.line, fault.what.as_str()),
+            (7, "key 0 is hidden: show the sheet with --keys")
+        );
+    }
+}
+
+/// The model, written from the rules alone, gives the same verdict; every rule is met.
+#[test]
+fn verdicts() {
+    let mut seen = [0; 10];
+    for seed in 0..60_000 {
+        let bytes = any_sheet(&mut Rng::new(seed));
+        let rule = verdict(&bytes);
+        assert_eq!(rule, model::sheet::check(&bytes), "seed {seed}");
+        seen[rule as usize] += 1;
+    }
+    assert!(seen.iter().all(|&n| n > 50), "{seen:?}");
+}
+
+/// A rule broken by an entry names one that is there; one broken by the head names none.
+#[test]
+fn named_entries() {
+    for seed in 0..20_000 {
+        let bytes = any_sheet(&mut Rng::new(seed));
+        let Err(broken) = check(&bytes) else { continue };
+        match broken.entry {
+            None => assert!(broken.rule <= 5 || broken.rule == 9, "seed {seed}: {broken}"),
+            Some((kind, i)) => {
+                assert!(i < sheet::layout::count(&bytes, kind), "seed {seed}: {broken}");
+                assert!(broken.rule == 9 || broken.rule == 6 + kind as u8, "seed {seed}: {broken}");
+            }
+        }
+    }
+}
+
+/// Two sheets have the same bytes exactly if nothing is said to differ.
+#[test]
+fn differences() {
+    let mut different = 0;
+    for seed in 0..3000 {
+        let rng = &mut Rng::new(seed);
+        let old = sheet(rng);
+        let mut new = old.clone();
+        for _ in 0..rng.below(3) {
+            let before = new.clone();
+            damage(rng, &mut new);
+            if verdict(&new) != 0 {
+                new = before;
+                let at = rng.below(new.len());
+                new[at] ^= 1 << rng.below(8);
+                if verdict(&new) != 0 {
+                    new = old.clone();
+                }
+            }
+        }
+        let lines = diff::lines(&Sheet::read(&old).unwrap(), &Sheet::read(&new).unwrap());
+        assert_eq!(lines.is_empty(), old == new, "seed {seed}: {lines:?}");
+        different += usize::from(old != new);
+    }
+    assert!(different > 1000, "only {different} pairs differ");
+}
+
+/// So do any two sheets; no key is told.
+#[test]
+fn strangers() {
+    for seed in 0..500 {
+        let (a, b) = (sheet(&mut Rng::new(seed)), sheet(&mut Rng::new(seed + 1)));
+        let (a, b) = (Sheet::read(&a).unwrap(), Sheet::read(&b).unwrap());
+        assert!(!diff::lines(&a, &b).is_empty());
+        assert!(diff::lines(&a, &a).is_empty());
+    }
+}
+
+/// Any text gets an answer: words exchanged, lost, doubled, cut.
+#[test]
+fn damaged_texts() {
+    for seed in 0..3000 {
+        let rng = &mut Rng::new(seed);
+        let mut bytes = sheet(rng);
+        while bytes.len() > 2000 {
+            bytes = sheet(rng);
+        }
+        let text = show::text(&Sheet::read(&bytes).unwrap(), true);
+        let mut lines: Vec<Vec<String>> =
+            text.lines().map(|line| line.split(' ').map(String::from).collect()).collect();
+        let i = rng.below(lines.len());
+        let line = &mut lines[i];
+        let k = rng.below(line.len());
+        match rng.below(5) {
+            0 => drop(line.remove(k)),
+            1 => line.insert(
+                k,
+                rng.pick(&["-1", "99999", "r4", "on", "h", "🐟", "type", "0x1", "#"]).to_string(),
+            ),
+            2 => line[k] = rng.word().to_string(),
+            3 => line[k] = line[k].chars().skip(1).collect(),
+            _ => drop(lines.remove(i)),
+        }
+        let text: Vec<String> = lines.iter().map(|line| line.join(" ")).collect();
+        match make::bytes(&text.join("\n")) {
+            Ok(made) => assert_eq!(verdict(&made), 0, "seed {seed}"),
+            Err(fault) => {
+                assert!(1 <= fault.line && fault.line <= lines.len(), "seed {seed}: {fault}")
+            }
+        }
+    }
+}
