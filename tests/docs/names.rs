@@ -1,16 +1,17 @@
 //! Every back-quoted name of a document stands in the file that is named for it.
 //!
-//! A name is looked for in the files named on its own line; where the line names none, in those that the last text (no row
-//! of a table) of the same section named, or in those of its heading. A crate or a folder stands for all of its files.
-//! What is no name (a term, a command, a number) is passed over, and so is what the language or its library has.
+//! A name is looked for in the files named on its own line, in those that the last text (no row of a table) of the same
+//! section named, and in those of its heading. A crate or a folder stands for all of its files. What is no name (a term, a
+//! command, a number) is passed over, and so is what the language or its library has.
 
 use std::collections::BTreeMap;
 use std::path::{Path, PathBuf};
 use std::{env, fs, process};
 
-/// The words of the language and its library that the documents explain or use.
+/// The words of the language, of its library and of a verdict that the documents explain or use.
 const LIBRARY: &[&str] = &[
     "getD", "cond", "ltb", "leb", "eqb", "bitAnd", "bitXor", "requires", "ensures", "rt", "memset", "memcpy", "memmove", "memcmp",
+    "sum", "native", "logic-built", "libraries-built",
 ];
 
 /// The endings by which a word is a file.
@@ -83,7 +84,7 @@ fn judge(tree: &mut Tree, place: &mut Place, line: &str) -> Vec<(String, Result<
     if !row && !files.is_empty() {
         place.last = files.clone();
     }
-    let within = [files, place.last.clone(), place.heading.clone()].into_iter().find(|f| !f.is_empty()).unwrap_or_default();
+    let within: Vec<PathBuf> = [files, place.last.clone(), place.heading.clone()].concat();
     for word in quoted {
         if is_name(word) && !near.iter().any(|c| c == word) && !LIBRARY.contains(&word) && !tree.is_edit(word) {
             verdicts.push((word.to_string(), tree.look_up(word, &within)));
@@ -150,7 +151,7 @@ fn is_file(word: &str) -> bool {
 /// Whether a quoted text is a name: letters, digits and the signs that names have, with dots and double colons between.
 fn is_name(word: &str) -> bool {
     let starts = word.chars().next().is_some_and(|c| c.is_alphabetic());
-    starts && !is_file(word) && word.chars().all(|c| in_word(c) || c == '.' || c == ':')
+    starts && !is_file(word) && word.chars().all(|c| c != '′' && in_word(c) || c == '.' || c == ':')
 }
 
 fn in_word(c: char) -> bool {
