@@ -1,0 +1,6 @@
+pub mod Layout
+pub mod Read
+pub mod Parts
+pub mod Meaning
+pub mod Means
+pub mod Write
