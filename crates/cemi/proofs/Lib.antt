@@ -4,3 +4,8 @@ pub mod Taken
 pub mod Cut
 pub mod Stores
 pub mod Wrote
+pub mod Tables
+pub mod Standards
+pub mod Agains
+pub mod Understood
+pub mod Backs

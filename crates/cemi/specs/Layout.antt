@@ -1,7 +1,8 @@
 -- The layout of a frame: message code, length of the additional information, that information, the table of fields, the bytes from octet 6 on.
 -- Assumes nothing.
-use Prim.Native.Nat.{ℕ, _+_}
+use Prim.Native.Nat.{ℕ, _+_, _^_, _<_}
 use mathlib.Core.List.{List, [], _∷_, _++_}
+use lib.ListN.{getD}
 use Rattle.octets.specs.Bytes.{numAt, bytesOf}
 
 -- the message codes that are read and written: L_Data.req and L_Data.ind
@@ -63,3 +64,14 @@ unfoldable pub bytesIn : List Field → List ℕ → List ℕ
 bytesIn [] x = []
 bytesIn (f ∷ fs) [] = []
 bytesIn (f ∷ fs) (n ∷ x) = bytesOf (f .width) n ++ bytesIn fs x
+
+-- each number fits its field; of the numbers that the code holds, each does by its type
+abbrev pub Fit : List Field → List ℕ → Type 0
+Fit [] [] = Unit {0}
+Fit [] (n ∷ x) = ⊥
+Fit (f ∷ fs) [] = ⊥
+Fit (f ∷ fs) (n ∷ x) = (n < 256 ^ f .width) × Fit fs x
+
+-- a list of bytes, which every lent slice is
+abbrev pub Octets : List ℕ → Type 0
+Octets b = (i : ℕ) → getD b i 0 < 256

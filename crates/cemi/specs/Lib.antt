@@ -4,3 +4,4 @@ pub mod Parts
 pub mod Meaning
 pub mod Means
 pub mod Write
+pub mod Standard
