@@ -15,7 +15,7 @@ use Rattle.octets.proofs.Numbers.{num-one}
 use Rattle.cemi.specs.Layout.{table, infoLength, octet6, stated, _of_, bytesIn, Fit}
 use Rattle.cemi.specs.Read.{fieldsIn, frameIn, readFrame, refusalOf}
 use Rattle.cemi.specs.Parts.{infoOf, tpduOf}
-use Rattle.cemi.specs.Write.{numbersOf, under, frontBytes, encoded, countOf, writable}
+use Rattle.cemi.specs.Write.{numbersOf, under, frontBytes, encoded, frameOf, countOf, writable}
 use Rattle.cemi.proofs.Stores.{length-table}
 use Rattle.cemi.proofs.Tables.{numbersAt, numbers-back}
 use Rattle.cemi.proofs.Standards.{IsStandard, accepted, standard-reads}
@@ -23,10 +23,6 @@ use Rattle.cemi.proofs.Wrote.{Writable, bounds}
 use Rattle.cemi.specs.declared.Fields.{Fields}
 use Rattle.cemi.specs.declared.Frame.{Frame}
 use Rattle.cemi.specs.declared.Got.the-variants.{Is}
-
--- the frame that was meant
-abbrev pub frameOf : Fields → List ℕ → List ℕ → Frame
-frameOf f i a = record { fields = f; low = getD a 0 0 % 4; info = length i; stated = length a - 1 }
 
 pub length-under : (t : ℕ) (a : List ℕ) → length (under t a) ≡ length a
 unfolding under

@@ -9,3 +9,4 @@ pub mod Standards
 pub mod Agains
 pub mod Understood
 pub mod Backs
+pub mod Filled

@@ -4,12 +4,13 @@ use Prim.Native.Nat.{ℕ, _+_, _-_, _*_, _%_}
 use mathlib.Core.Path.{_≡_}
 use mathlib.Core.Bool.{Bool, cond, _&&_}
 use mathlib.Core.List.{List, [], _∷_, _++_}
-use lib.ListN.{length}
+use lib.ListN.{length, getD}
 use lib.Dec.{leb, ltb, eqb}
 use Rattle.octets.specs.Splice.{splice}
 use Rattle.cemi.specs.Layout.{table, octet6, bytesIn}
 use Rattle.cemi.specs.Read.{refusalOf}
 use Rattle.cemi.specs.declared.Fields.{Fields}
+use Rattle.cemi.specs.declared.Frame.{Frame}
 use Rattle.cemi.specs.declared.Written.{Written}
 use Rattle.cemi.specs.declared.Written.the-variants.{Bytes, Refused}
 
@@ -29,6 +30,10 @@ frontBytes c i = c ∷ length i ∷ i
 -- THE BYTES OF A FRAME with these fields, additional information and APDU
 unfoldable pub encoded : Fields → List ℕ → List ℕ → List ℕ
 encoded f i a = frontBytes (f .code) i ++ (bytesIn table (numbersOf f (length a - 1)) ++ under (f .transport) a)
+
+-- the frame that they are
+abbrev pub frameOf : Fields → List ℕ → List ℕ → Frame
+frameOf f i a = record { fields = f; low = getD a 0 0 % 4; info = length i; stated = length a - 1 }
 
 -- how many they are, of l and k bytes
 abbrev pub countOf : ℕ → ℕ → ℕ
