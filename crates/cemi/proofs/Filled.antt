@@ -14,6 +14,7 @@ use Rattle.octets.proofs.Splices.{splice-front}
 use Rattle.cemi.specs.Layout.{table, Fit}
 use Rattle.cemi.specs.Read.{readFrame}
 use Rattle.cemi.specs.Write.{numbersOf, encoded, frameOf, countOf, writable, writeOf, writeOutcome, writeCount, bufferOf, Wrote}
+use Rattle.cemi.proofs.Wrote.{bounds}
 use Rattle.cemi.proofs.Backs.{length-encoded, read-back}
 use Rattle.cemi.specs.declared.Fields.{Fields}
 use Rattle.cemi.specs.declared.Got.the-variants.{Is}
@@ -43,6 +44,15 @@ writes-one f l k room = go (writeOf f l k room) (went f l k room)
     go w (wrong e) = inr (inr refl)
     go w (narrow e d) = inr (inl refl)
     go w (done e d) = inl refl
+
+-- AT MOST 280 BYTES
+pub count-few : (f : Fields) (l k room : ℕ) → writeCount (writeOf f l k room) ≤ 280
+count-few f l k room = go (writeOf f l k room) (went f l k room)
+  where
+    go : (w : Written) → Went f l k room w → writeCount w ≤ 280
+    go w (wrong e) = omega arith
+    go w (narrow e d) = omega arith
+    go w (done e d) = omega (arith, bounds f l k e)
 
 module _ (f : Fields) (i a o e : List ℕ) (r : Written) (w : Wrote f i a o r e) where
   abbrev all : ℕ
