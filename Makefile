@@ -8,7 +8,7 @@ test: tools
 	rt fmt --check
 	$(MAKE) --no-print-directory -s model
 	$(MAKE) --no-print-directory -s sheet-check
-	$(MAKE) --no-print-directory -s test-unit test-c compare
+	$(MAKE) --no-print-directory -s test-unit test-c test-frames compare
 	rt ci
 
 # a missing tool fails the tests
@@ -26,5 +26,6 @@ sheet-check: tools
 	tests/sheet_check.sh target/bin/sheet_check
 
 include mk/hosts.mk
+include mk/frames.mk
 include mk/compare.mk
 include mk/bench.mk

@@ -17,7 +17,7 @@ endif
 # leaks are no matter here: the libraries have no heap, and looking for them takes long
 WATCHED := ASAN_OPTIONS=detect_leaks=0
 # what every program here rests on
-LINKED := include/kelindap.h include/kelindap_pdu.h mk/cc86 mk/hosts.mk $(HOST_A) $(TOOL_A)
+LINKED := include/kelindap.h include/kelindap_pdu.h include/kelindap_frame.h mk/cc86 mk/hosts.mk $(HOST_A) $(TOOL_A)
 .PHONY: unit run test-unit test-c need-gcc
 
 unit: build/unit
@@ -34,19 +34,19 @@ test-unit: build/unit build/unit_watched
 test-c: build/layout build/host_test build/tool_test $(OWN_TESTS)
 	$(WATCHED) build/layout
 	tests/c/symbols.sh include/kelindap.h $(HOST_A)
-	tests/c/symbols.sh include/kelindap_pdu.h $(TOOL_A)
+	tests/c/symbols.sh include/kelindap_pdu.h include/kelindap_frame.h $(TOOL_A)
 	CC86="$(CC86)" tests/c/freestanding.sh $(HOST_A) $(TOOL_A)
 	$(WATCHED) build/tool_test
 	$(WATCHED) build/host_test
 	for t in $(OWN_TESTS); do $(WATCHED) $$t; done
 
 # gcc judges every program, also where another compiler makes it
-build/unit: hosts/unit.c $(LINKED) | need-gcc
+build/unit: hosts/unit.c hosts/unit_frames.h $(LINKED) | need-gcc
 	mkdir -p build
 	gcc $(STRICT) -c $< -o /dev/null
 	$(CC86) -o $@ $(STRICT) $< $(HOST_A) $(TOOL_A)
 
-build/unit_watched: hosts/unit.c $(LINKED) | need-gcc
+build/unit_watched: hosts/unit.c hosts/unit_frames.h $(LINKED) | need-gcc
 	mkdir -p build
 	$(CC86) -o $@ $(STRICT) -g $(SANITIZE) $< $(HOST_A) $(TOOL_A)
 
