@@ -1,21 +1,20 @@
 -- WRITTEN AGAIN FROM WHAT WAS READ, A FRAME HAS THE SAME BYTES.
 -- Assumes nothing.
-use Prim.Native.Nat.{ℕ, suc, _+_, _-_, _*_, _/_, _%_, _≤_, _<_}
+use Prim.Native.Nat.{ℕ, _+_, _-_, _/_, _≤_, _<_}
 use mathlib.Core.Path.{_≡_, refl, sym, ap, ap₂, subst, _∙_}
 use mathlib.Core.Bool.{true}
-use mathlib.Core.List.{List, [], _∷_, _++_, append-assoc}
+use mathlib.Core.List.{List, [], _∷_, _++_}
 use native.Mathlib.Nat.{add-zero}
 use native.Mathlib.Omega.{arith}
 use lib.ListN.{length, getD, take, drop, length-take, length-drop, take-append-drop}
-use lib.Dec.{leb, eqb}
 use lib.Seq.{drop-drop, getD-drop, take-all}
-use borrow.Author.Tests.{le-leb, eq-eqb}
+use borrow.Author.Tests.{le-leb}
 use Rattle.octets.specs.Bytes.{numAt}
 use Rattle.octets.proofs.Numbers.{num-one}
 use Rattle.cemi.specs.Layout.{table, infoLength, octet6, stated, _of_, bytesIn, Octets}
-use Rattle.cemi.specs.Read.{fieldsIn, frameIn, readFrame, refusalOf}
+use Rattle.cemi.specs.Read.{fieldsIn, frameIn, readFrame}
 use Rattle.cemi.specs.Parts.{infoOf, tpduOf}
-use Rattle.cemi.specs.Write.{numbersOf, under, frontBytes, encoded, countOf, writable}
+use Rattle.cemi.specs.Write.{numbersOf, under, frontBytes, encoded, writable}
 use Rattle.cemi.proofs.Tables.{numbersAt, bytes-there}
 use Rattle.cemi.proofs.Standards.{IsStandard, reads-standard, accepts}
 use Rattle.cemi.specs.declared.Frame.{Frame}

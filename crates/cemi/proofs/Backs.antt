@@ -1,13 +1,12 @@
 -- WHAT WAS WRITTEN READS AS THESE FIELDS, with its additional information and its APDU.
 -- Assumes nothing.
-use Prim.Native.Nat.{ℕ, _+_, _-_, _*_, _/_, _%_, _≤_, _<_}
+use Prim.Native.Nat.{ℕ, _+_, _-_, _*_, _/_, _%_, _≤_}
 use mathlib.Core.Path.{_≡_, refl, sym, ap, ap₂, subst, _∙_}
 use mathlib.Core.Bool.{true}
 use mathlib.Core.List.{List, [], _∷_, _++_, append-assoc}
 use native.Mathlib.Nat.{add-zero}
 use native.Mathlib.Omega.{arith}
 use lib.ListN.{length, getD, take, drop, length-append}
-use lib.Dec.{leb, eqb}
 use lib.Seq.{getD-append-add, drop-at, take-append-seam, take-all}
 use borrow.Author.Tests.{le-leb, eqb-true}
 use Rattle.octets.specs.Bytes.{numAt}
@@ -19,7 +18,7 @@ use Rattle.cemi.specs.Write.{numbersOf, under, frontBytes, encoded, fram
 use Rattle.cemi.proofs.Stores.{length-table}
 use Rattle.cemi.proofs.Tables.{numbersAt, numbers-back}
 use Rattle.cemi.proofs.Standards.{IsStandard, accepted, standard-reads}
-use Rattle.cemi.proofs.Wrote.{Writable, bounds}
+use Rattle.cemi.proofs.Wrote.{bounds}
 use Rattle.cemi.specs.declared.Fields.{Fields}
 use Rattle.cemi.specs.declared.Frame.{Frame}
 use Rattle.cemi.specs.declared.Got.the-variants.{Is}

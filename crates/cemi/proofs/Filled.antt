@@ -1,6 +1,6 @@
 -- What a call of `cemi::write` leaves in the buffer.
 -- Assumes nothing.
-use Prim.Native.Nat.{ℕ, _+_, _-_, _≤_, _<_}
+use Prim.Native.Nat.{ℕ, _+_, _-_, _≤_}
 use mathlib.Core.Path.{_≡_, refl, sym, ap, _∙_}
 use mathlib.Core.Bool.{Bool, true, false, cond}
 use mathlib.Core.Logic.{_⊎_, inl, inr}
@@ -9,7 +9,6 @@ use native.Mathlib.Omega.{arith}
 use lib.ListN.{length, take, drop}
 use lib.Seq.{take-at}
 use lib.Dec.{ltb}
-use Rattle.octets.specs.Splice.{splice}
 use Rattle.octets.proofs.Splices.{splice-front}
 use Rattle.cemi.specs.Layout.{table, Fit}
 use Rattle.cemi.specs.Read.{readFrame}

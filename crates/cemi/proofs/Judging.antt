@@ -1,14 +1,13 @@
 -- From the tests that reading and writing make to the number of the refusal.
 -- Assumes nothing.
 use Prim.Native.Nat.{ℕ, _+_, _-_, _≤_, _<_}
-use mathlib.Core.Path.{_≡_, refl, sym, ap, _∙_}
+use mathlib.Core.Path.{_≡_, refl, ap, _∙_}
 use mathlib.Core.Bool.{Bool, true, false, cond, _&&_, _||_}
-use native.Mathlib.Omega.{arith}
-use lib.Dec.{leb, eqb}
+use lib.Dec.{eqb}
 use borrow.Author.Tests.{lt-ltb, le-ltb, le-leb, lt-leb, eq-eqb, ne-eqb}
-use Rattle.cemi.specs.Layout.{request, indication, octet6}
+use Rattle.cemi.specs.Layout.{request, indication}
 use Rattle.cemi.specs.Read.{standardOf, refusalOf}
-use Rattle.cemi.specs.Write.{countOf, writable}
+use Rattle.cemi.specs.Write.{writable}
 use Rattle.cemi.specs.declared.Fields.{Fields}
 
 or-second : (a b : Bool) → b ≡ true → (a || b) ≡ true

@@ -1,23 +1,21 @@
 -- The number of the refusal is 0 exactly of a standard frame; what that says of its length.
 -- Assumes nothing.
 use Prim.Native.Nat.{ℕ, _+_, _%_, _≤_, _<_}
-use mathlib.Core.Path.{_≡_, refl, sym, ap, _∙_}
+use mathlib.Core.Path.{_≡_, refl, sym}
 use mathlib.Core.Bool.{Bool, true, false, cond, _||_}
-use mathlib.Core.Logic.{_⊎_, inl, inr, ⊎-elim, _↔_}
+use mathlib.Core.Logic.{_⊎_, inl, inr, ⊎-elim}
 use mathlib.Core.List.{List}
 use native.Mathlib.Omega.{arith}
 use lib.ListN.{length}
 use lib.Dec.{ltb, eqb}
-use borrow.Author.Tests.{lt-ltb, le-ltb, eq-eqb, ne-eqb, ltb-false, eqb-true}
-use Rattle.octets.specs.Bytes.{numAt}
+use borrow.Author.Tests.{le-ltb, eq-eqb, ltb-false, eqb-true}
 use Rattle.octets.proofs.Numbers.{num-one}
 use Rattle.cemi.specs.Layout.{request, indication, octet6, infoLength, stated, _of_, Octets}
-use Rattle.cemi.specs.Read.{standardOf, refusalOf, gotBy, fieldsIn, frameIn, readFrame, readOutcome}
+use Rattle.cemi.specs.Read.{standardOf, refusalOf, gotBy, fieldsIn, frameIn, readFrame}
 use Rattle.cemi.specs.Standard.{Standard}
 use Rattle.cemi.proofs.Judging.{of-request, of-indication}
 use Rattle.cemi.specs.declared.Fields.{Fields}
 use Rattle.cemi.specs.declared.Frame.{Frame}
-use Rattle.cemi.specs.declared.Got.{Got}
 use Rattle.cemi.specs.declared.Got.the-variants.{Is, Refused}
 
 -- a choice that is 0 went the other way than to a number that is not

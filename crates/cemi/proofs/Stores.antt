@@ -1,17 +1,16 @@
 -- Runs stored one after the other make the bytes of a frame.
 -- Assumes nothing.
 use Prim.Native.Nat.{ℕ, _+_, _-_, _*_, _/_, _%_, _≤_, _<_}
-use mathlib.Core.Path.{_≡_, refl, sym, ap, _∙_}
+use mathlib.Core.Path.{_≡_, refl, ap, _∙_}
 use mathlib.Core.List.{List, [], _∷_, _++_, append-assoc}
 use native.Mathlib.Omega.{arith}
-use native.Mathlib.Nat.{zero-add}
-use lib.ListN.{length, take, drop, getD, length-append, length-drop}
+use lib.ListN.{length, take, drop, getD, length-append}
 use lib.Seq.{take-all}
 use Rattle.octets.specs.Bytes.{bytesOf}
 use Rattle.octets.specs.Splice.{splice}
 use Rattle.octets.proofs.Splices.{splice-more, length-splice}
 use Rattle.cemi.specs.Layout.{table, bytesIn, size}
-use Rattle.cemi.specs.Write.{numbersOf, under, frontBytes, encoded, countOf}
+use Rattle.cemi.specs.Write.{numbersOf, under, frontBytes, encoded}
 use Rattle.cemi.specs.declared.Fields.{Fields}
 
 -- a second run right after the first

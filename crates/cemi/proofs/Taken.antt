@@ -4,9 +4,8 @@ use Prim.Native.Nat.{ℕ, _+_, _/_, _%_, _^_}
 use mathlib.Core.Path.{_≡_, sym, ap, _∙_}
 use mathlib.Core.List.{List}
 use lib.ListN.{length}
-use lib.Dec.{eqb}
-use borrow.Author.Tests.{eq-eqb, ne-eqb}
-use Rattle.octets.specs.Bytes.{numAt, IsNum}
+use borrow.Author.Tests.{ne-eqb}
+use Rattle.octets.specs.Bytes.{IsNum}
 use Rattle.cemi.specs.Layout.{infoLength, tableAt}
 use Rattle.cemi.specs.Read.{fieldsIn, frameIn, refusalOf, readFrame}
 use Rattle.cemi.specs.declared.Fields.{Fields}

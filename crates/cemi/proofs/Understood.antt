@@ -1,6 +1,6 @@
 -- WHAT A FRAME MEANS IS ONE THING, AND ALWAYS SOMETHING.
 -- Assumes nothing.
-use Prim.Native.Nat.{ℕ, _+_, _*_, _≤_, _<_}
+use Prim.Native.Nat.{ℕ, _≤_, _<_}
 use mathlib.Core.Path.{_≡_, refl}
 use mathlib.Core.Bool.{Bool, true, false, cond, _&&_}
 use mathlib.Core.Logic.{_⊎_, inl, inr, ⊎-elim}
@@ -8,11 +8,11 @@ use native.Mathlib.Omega.{arith}
 use lib.Dec.{leb, eqb}
 use borrow.Author.Tests.{le-leb, lt-leb, eq-eqb, ne-eqb, leb-true, leb-false, eqb-true, eqb-false}
 use Rattle.cemi.specs.Meaning.{toGroup, control, numbered, toOne, meaningOf}
-use Rattle.cemi.specs.Means.{Means, toAll, toSome, toNone, plain, numbered as isNumbered, connects, disconnects, acknowledges, other, Group, Individual, Acknowledges, octet}
-use Rattle.cemi.proofs.Tests.{both, first-true, second-true, not-first, not-second}
+use Rattle.cemi.specs.Means.{Means, toAll, toSome, toNone, plain, numbered as isNumbered, connects, disconnects, acknowledges, other, Group, Individual, octet}
+use Rattle.cemi.proofs.Tests.{both, first-true, second-true, not-second}
 use Rattle.cemi.specs.declared.Frame.{Frame}
 use Rattle.cemi.specs.declared.Meaning.{Meaning}
-use Rattle.cemi.specs.declared.Meaning.the-variants.{Data, Connect, Disconnect, Refused}
+use Rattle.cemi.specs.declared.Meaning.the-variants.{Refused}
 
 by-test : (P : Meaning → Type 0) (t : Bool) (x y : Meaning) → (t ≡ true → P x) → (t ≡ false → P y) → P (cond t x y)
 by-test P true x y a b = a refl

@@ -1,11 +1,10 @@
 -- THE DEVICE DOES WITH THE BYTES FROM OCTET 6 ON WHAT IT DOES WITH THE APDU, whatever transport's bits are.
 -- Assumes nothing.
-use Prim.Native.Nat.{ℕ, zero, suc, _+_, _*_, _%_}
+use Prim.Native.Nat.{ℕ}
 use mathlib.Core.Path.{_≡_, refl, ap, ap₂, _∙_}
 use mathlib.Core.Bool.{cond, not}
 use mathlib.Core.List.{List, [], _∷_}
 use native.Mathlib.Omega.{arith}
-use lib.ListN.{length, getD}
 use lib.Dec.{ltb}
 use Rattle.pdu.specs.Table.{serviceAt}
 use Rattle.pdu.specs.Rules.{codeOf}
@@ -21,7 +20,7 @@ use Rattle.judge.specs.Judge.{dataIn, isAccepted, isShut, decideOf, readOf, rea
 use Rattle.judge.specs.declared.Session.{Session}
 use Rattle.judge.specs.declared.Reach.{Reach}
 use Rattle.judge.specs.declared.Decision.{Decision}
-use Rattle.device.specs.Step.{Step, stepBy, stepOf}
+use Rattle.device.specs.Step.{stepBy, stepOf}
 use Rattle.cemi.specs.Write.{under}
 use Rattle.frames.proofs.Alike.{Alike, code-alike, read-alike, data-alike}
 

@@ -1,11 +1,10 @@
 -- THE DEVICE'S ANSWER, WRITTEN INTO AN ANSWERING FRAME, READS BACK AS THAT PDU.
 -- Assumes nothing.
-use Prim.Native.Nat.{ℕ, _+_, _-_, _≤_}
-use mathlib.Core.Path.{_≡_, sym, ap, _∙_}
+use Prim.Native.Nat.{ℕ, _-_}
+use mathlib.Core.Path.{_≡_, ap, _∙_}
 use mathlib.Core.Bool.{true}
 use mathlib.Core.Logic.{_⊎_, inl, inr, ⊎-elim}
 use mathlib.Core.List.{List, []}
-use native.Mathlib.Omega.{arith}
 use lib.ListN.{length}
 use Rattle.pdu.specs.Read.{readPdu, dataOf}
 use Rattle.pdu.specs.declared.Pdu.{Pdu}
@@ -13,17 +12,14 @@ use Rattle.pdu.specs.declared.Parsed.the-variants as parsed
 use Rattle.judge.specs.declared.Session.{Session}
 use Rattle.device.specs.Octets.{Octets}
 use Rattle.device.specs.Asked.{Asked}
-use Rattle.device.specs.Replies.{IsPdu}
-use Rattle.device.specs.Step.{Step, stepOf}
+use Rattle.device.specs.Step.{stepOf}
 use Rattle.device.proofs.Answers.{answers}
 use Rattle.cemi.specs.Layout.{table, Fit}
-use Rattle.cemi.specs.Read.{readFrame}
 use Rattle.cemi.specs.Parts.{tpduOf}
 use Rattle.cemi.specs.Write.{numbersOf, under, encoded, frameOf, writable}
 use Rattle.cemi.proofs.Backs.{read-back, info-part, tpdu-part}
 use Rattle.cemi.proofs.Wrote.{bounds}
 use Rattle.cemi.specs.declared.Fields.{Fields}
-use Rattle.cemi.specs.declared.Frame.{Frame}
 use Rattle.cemi.specs.declared.Got.the-variants as got
 use Rattle.frames.specs.Answering.{answering, Brings}
 use Rattle.frames.proofs.Alike.{read-alike, data-alike}

@@ -9,7 +9,4 @@ pub read-spec : {M : Type 1} → statement M
 read-spec =
     tie.close
     (tie.spec
-    (λ c κs. search needs)
-    (λ c κs. search needs)
-    (λ c. search gives)
-    (λ c. search refuses))
+    (λ c κs. search needs) (λ c κs. search needs) (λ c. search gives) (λ c. search refuses))

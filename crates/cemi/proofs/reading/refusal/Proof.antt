@@ -9,11 +9,5 @@ pub refusal-spec : {M : Type 1} → statement M
 refusal-spec =
     tie.close
     (tie.spec
-    (λ c. search no-code-room)
-    (λ c. search needs)
-    (λ c. search too-short)
-    (λ c κs. search needs)
-    (λ c. search of-request)
-    (λ c κs. search needs)
-    (λ c. search of-indication)
-    (λ c. search of-another))
+    (λ c. search no-code-room) (λ c. search needs) (λ c. search too-short) (λ c κs. search needs) (λ c. search of-request)
+    (λ c κs. search needs) (λ c. search of-indication) (λ c. search of-another))

@@ -12,12 +12,5 @@ unfolding standardOf
 standard-spec =
     tie.close
     (tie.spec
-    (λ c. search (tests, arith))
-    (λ c. search (tests, arith))
-    (λ c. search (tests, arith))
-    (λ c. search needs)
-    (λ c. search needs)
-    (λ c. search needs)
-    (λ c. search needs)
-    (λ c. search (tests, arith))
-    (λ c. search (tests, arith)))
+    (λ c. search (tests, arith)) (λ c. search (tests, arith)) (λ c. search (tests, arith)) (λ c. search needs)
+    (λ c. search needs) (λ c. search needs) (λ c. search needs) (λ c. search (tests, arith)) (λ c. search (tests, arith)))

@@ -12,10 +12,5 @@ unfolding control
 controlled-spec =
     tie.close
     (tie.spec
-    (λ c. search needs)
-    (λ c. search needs)
-    (λ c. search (tests, arith))
-    (λ c. search (tests, arith))
-    (λ c. search (tests, arith))
-    (λ c. search (tests, arith))
-    (λ c. search (tests, arith)))
+    (λ c. search needs) (λ c. search needs) (λ c. search (tests, arith)) (λ c. search (tests, arith))
+    (λ c. search (tests, arith)) (λ c. search (tests, arith)) (λ c. search (tests, arith)))

@@ -1,6 +1,5 @@
 -- `cemi::transport::is_numbered` meets its contract.
 -- Assumes nothing.
-use borrow.Author.Needs.{needs}
 use native.Mathlib.Omega.{arith}
 use Rattle.cemi.proofs.Tests.{tests}
 use Rattle.cemi.specs.Meaning.{numbered}
@@ -12,5 +11,4 @@ unfolding numbered
 is-numbered-spec =
     tie.close
     (tie.spec
-    (λ c. search (tests, arith))
-    (λ c. search (tests, arith)))
+    (λ c. search (tests, arith)) (λ c. search (tests, arith)))

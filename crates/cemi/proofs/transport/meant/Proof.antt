@@ -12,7 +12,4 @@ unfolding meaningOf
 meant-spec =
     tie.close
     (tie.spec
-    (λ c κs. search needs)
-    (λ c κs. search needs)
-    (λ c. search (branches, arith))
-    (λ c. search (branches, arith)))
+    (λ c κs. search needs) (λ c κs. search needs) (λ c. search (branches, arith)) (λ c. search (branches, arith)))

@@ -1,6 +1,5 @@
 -- `cemi::transport::to_group` meets its contract.
 -- Assumes nothing.
-use borrow.Author.Needs.{needs}
 use native.Mathlib.Omega.{arith}
 use Rattle.cemi.proofs.Tests.{tests}
 use Rattle.cemi.specs.Meaning.{toGroup}
@@ -12,6 +11,4 @@ unfolding toGroup
 to-group-spec =
     tie.close
     (tie.spec
-    (λ c. search (tests, arith))
-    (λ c. search (tests, arith))
-    (λ c. search (tests, arith)))
+    (λ c. search (tests, arith)) (λ c. search (tests, arith)) (λ c. search (tests, arith)))

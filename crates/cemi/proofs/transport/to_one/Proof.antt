@@ -12,9 +12,5 @@ unfolding toOne
 to-one-spec =
     tie.close
     (tie.spec
-    (λ c. search (branches, arith))
-    (λ c κs. search needs)
-    (λ c. search (branches, arith))
-    (λ c κs. search needs)
-    (λ c. search (branches, arith))
-    (λ c. search (branches, arith)))
+    (λ c. search (branches, arith)) (λ c κs. search needs) (λ c. search (branches, arith)) (λ c κs. search needs)
+    (λ c. search (branches, arith)) (λ c. search (branches, arith)))

@@ -9,14 +9,6 @@ pub is-writable-spec : {M : Type 1} → statement M
 is-writable-spec =
     tie.close
     (tie.spec
-    (λ c. search long-info)
-    (λ c. search wide-transport)
-    (λ c. search no-apdu)
-    (λ c. search long-apdu)
-    (λ c. search needs)
-    (λ c. search needs)
-    (λ c. search needs)
-    (λ c. search needs)
-    (λ c. search needs)
-    (λ c κs. search needs)
+    (λ c. search long-info) (λ c. search wide-transport) (λ c. search no-apdu) (λ c. search long-apdu) (λ c. search needs)
+    (λ c. search needs) (λ c. search needs) (λ c. search needs) (λ c. search needs) (λ c κs. search needs)
     (λ c. search judged-alike))

@@ -10,8 +10,5 @@ pub count-spec : {M : Type 1} → statement M
 count-spec =
     tie.close
     (tie.spec
-    (λ c. search needs)
-    (λ c. omega (arith, bytes-few _ _ (c .before .w .given .1) (c .before .before .before .pre)))
-    (λ c. search needs)
-    (λ c. search via-framed)
-    (λ c. search via-framed))
+    (λ c. search needs) (λ c. omega (arith, bytes-few _ _ (c .before .w .given .1) (c .before .before .before .pre)))
+    (λ c. search needs) (λ c. search via-framed) (λ c. search via-framed))
