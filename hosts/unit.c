@@ -11,11 +11,14 @@
  *   lookup group ADDRESS
  *   read APDUHEX                         reads a PDU                    OUTCOME, or 0 KIND field=value ..
  *   write KIND field=value .. BUFHEX     writes a PDU                   OUTCOME COUNT BUFHEX
+ *   frame read HEX                       reads a frame                  OUTCOME, or 0 field=value .. EVENT
+ *   frame write field=value .. BUFHEX    writes a frame                 OUTCOME COUNT BUFHEX
  *
  * An empty line, or one that begins with #, is passed over. Any other line that is no command gets one line that
  * begins with ERR and says why, and changes nothing. The unit starts with the sample sheet and a fresh session.
  */
 #include "kelindap.h"
+#include "kelindap_frame.h"
 #include "kelindap_names.h"
 #include "kelindap_pdu.h"
 
@@ -603,6 +606,16 @@ static bool do_write(device *d, char **words, size_t count)
     return true;
 }
 
+/* ---- frames ---- */
+
+#include "unit_frames.h"
+
+static bool do_frame(device *d, char **words, size_t count)
+{
+    (void)d;
+    return frame_command(words, count);
+}
+
 /* ---- commands ---- */
 
 /* A command's name and form, and how many words follow the name. Its function has these words and their number. */
@@ -620,6 +633,7 @@ static const struct command {
     { "lookup", lookups, 2, 3, do_lookup },
     { "read", "read APDUHEX", 1, 1, do_read },
     { "write", "write KIND field=value .. BUFHEX", 2, MOST_WORDS - 1, do_write },
+    { "frame", frame_forms, 2, MOST_WORDS - 1, do_frame },
 };
 
 static const struct command *command_of(const char *name)

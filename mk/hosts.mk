@@ -36,7 +36,7 @@ test-c: build/layout build/stack build/host_test build/tool_test $(OWN_TESTS)
 	$(WATCHED) build/layout
 	build/stack
 	tests/c/symbols.sh include/kelindap.h $(HOST_A)
-	tests/c/symbols.sh include/kelindap_pdu.h $(TOOL_A)
+	tests/c/symbols.sh include/kelindap_pdu.h include/kelindap_frame.h $(TOOL_A)
 	tests/c/readme.sh
 	tests/same.sh
 	CC86="$(CC86)" tests/c/freestanding.sh $(HOST_A) $(TOOL_A)
@@ -45,12 +45,12 @@ test-c: build/layout build/stack build/host_test build/tool_test $(OWN_TESTS)
 	for t in $(OWN_TESTS); do $(WATCHED) $$t; done
 
 # gcc judges every program, also where another compiler makes it
-build/unit: hosts/unit.c $(LINKED) | need-gcc
+build/unit: hosts/unit.c hosts/unit_frames.h $(LINKED) | need-gcc
 	mkdir -p build
 	gcc $(STRICT) -c $< -o /dev/null
 	$(CC86) -o $@ $(STRICT) $< $(HOST_A) $(TOOL_A)
 
-build/unit_watched: hosts/unit.c $(LINKED) | need-gcc
+build/unit_watched: hosts/unit.c hosts/unit_frames.h $(LINKED) | need-gcc
 	mkdir -p build
 	$(CC86) -o $@ $(STRICT) -g $(SANITIZE) $< $(HOST_A) $(TOOL_A)
 

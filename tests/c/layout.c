@@ -3,6 +3,7 @@
  * outcomes, modes and kinds. Every line is checked by the compiler; the program only says how many there are.
  */
 #include "kelindap.h"
+#include "kelindap_frame.h"
 #include "kelindap_pdu.h"
 
 #include <stdio.h>
@@ -49,6 +50,32 @@
     FIELD(kelindap_pdu, level, 1, 30) \
     FIELD(kelindap_pdu, data_offset, 8, 32) \
     FIELD(kelindap_pdu, data_length, 8, 40) \
+    SIZE(kelindap_frame, 48) \
+    FIELD(kelindap_frame, source, 2, 0) \
+    FIELD(kelindap_frame, destination, 2, 2) \
+    FIELD(kelindap_frame, outcome, 1, 4) \
+    FIELD(kelindap_frame, event, 1, 5) \
+    FIELD(kelindap_frame, code, 1, 6) \
+    FIELD(kelindap_frame, control1, 1, 7) \
+    FIELD(kelindap_frame, control2, 1, 8) \
+    FIELD(kelindap_frame, transport, 1, 9) \
+    FIELD(kelindap_frame, info_offset, 8, 16) \
+    FIELD(kelindap_frame, info_length, 8, 24) \
+    FIELD(kelindap_frame, tpdu_offset, 8, 32) \
+    FIELD(kelindap_frame, tpdu_length, 8, 40) \
+    SIZE(kelindap_framed, 4) \
+    FIELD(kelindap_framed, count, 2, 0) \
+    FIELD(kelindap_framed, outcome, 1, 2) \
+    NUMBER(KELINDAP_L_DATA_REQ, 17) \
+    NUMBER(KELINDAP_L_DATA_IND, 41) \
+    NUMBER(KELINDAP_EVENT_MULTICAST, 0) \
+    NUMBER(KELINDAP_EVENT_BROADCAST, 1) \
+    NUMBER(KELINDAP_EVENT_CONNECTIONLESS, 2) \
+    NUMBER(KELINDAP_EVENT_CONNECTED, 3) \
+    NUMBER(KELINDAP_EVENT_CONNECT, 4) \
+    NUMBER(KELINDAP_EVENT_DISCONNECT, 5) \
+    NUMBER(KELINDAP_EVENT_OTHER, 44) \
+    NUMBER(KELINDAP_EVENT_ACKNOWLEDGED, 45) \
     NUMBER(KELINDAP_ANSWERED, 0) \
     NUMBER(KELINDAP_DONE, 1) \
     NUMBER(KELINDAP_NOT_FOR_US, 2) \

@@ -1,15 +1,15 @@
 #!/usr/bin/env bash
-# tests/c/symbols.sh HEADER ARCHIVE: the archive defines exactly the functions that its header declares,
+# tests/c/symbols.sh HEADER.. ARCHIVE: the archive defines exactly the functions that its headers declare,
 # and needs from outside at most memcpy, memset, memmove and memcmp. An archive for a controller's processor also has what is
 # below the shim (kelindap_module_) and Arm's names for memcpy and the like; the compiler's own library has the two for which
 # the smallest Arm has no instruction, a product of 64 bits and a quotient.
 set -euo pipefail
 export LC_ALL=C
-header=$1 archive=$2
+archive=${*: -1} headers=("${@:1:$#-1}")
 work=$(mktemp -d)
 trap 'rm -rf "$work"' EXIT
 
-grep -o 'kelindap_[a-z_]*(' "$header" | tr -d '(' | sort > "$work/declared"
+grep -oh 'kelindap_[a-z_]*(' "${headers[@]}" | tr -d '(' | sort > "$work/declared"
 nm -g --defined-only "$archive" > "$work/nm-defined"
 nm -u "$archive" > "$work/nm-wanted"
 awk 'NF == 3 { print $3 }' "$work/nm-defined" | sort > "$work/all"
@@ -25,10 +25,10 @@ complain() { # MESSAGE, names on standard input
         bad=1
     done
 }
-complain "lacks a function of $header" < <(comm -23 "$work/declared" "$work/defined")
-complain "defines what $header does not declare" < <(comm -13 "$work/declared" "$work/defined")
+complain "lacks a function of ${headers[*]}" < <(comm -23 "$work/declared" "$work/defined")
+complain "defines what ${headers[*]} does not declare" < <(comm -13 "$work/declared" "$work/defined")
 complain "needs from outside" < <(comm -23 "$work/wanted" "$work/allowed")
-[ -s "$work/declared" ] || { echo "symbols: $header declares nothing"; bad=1; }
+[ -s "$work/declared" ] || { echo "symbols: ${headers[*]} declares nothing"; bad=1; }
 [ "$bad" = 0 ]
 name=${archive##*staticlib/}
-echo "symbols: ${name#build/} defines the $(wc -l < "$work/declared") functions of ${header##*/}, needs: $(paste -sd ' ' "$work/wanted")"
+echo "symbols: ${name#build/} defines the $(wc -l < "$work/declared") functions of ${headers[*]##*/}, needs: $(paste -sd ' ' "$work/wanted")"

@@ -2,3 +2,4 @@ pub mod Arms
 pub mod Means
 pub mod Returned
 pub mod Examples
+pub mod Framing

@@ -2,12 +2,14 @@
 ghost use mathlib.Core.Path.{_≡_};
 ghost use Prim.Native.Nat.{_≤_};
 ghost use Rattle.pdu.specs.Write.{writeCount};
+ghost use Rattle.tool.specs.FlatFrame.{flatFrame, FrameWrote};
 ghost use Rattle.tool.specs.Flat.{flatRead, meantBy, unknownKind, flatWritten, FlatWrote, versionOf};
 ghost use Rattle.tool.specs.declared.Meant.the-variants.{Known};
 use pdu::Parsed;
 use pdu::Pdu;
 use pdu::Written;
 
+mod frames;
 mod lay;
 mod mean;
 
@@ -40,6 +42,30 @@ pub struct FlatPdu {
 pub struct FlatWritten {
     pub outcome: u8,
     pub count: u8,
+}
+
+// A frame laid flat, in the order of include/kelindap_frame.h.
+#[repr(C)]
+pub struct FlatFrame {
+    pub source: u16,
+    pub destination: u16,
+    pub outcome: u8,
+    pub event: u8,
+    pub code: u8,
+    pub control1: u8,
+    pub control2: u8,
+    pub transport: u8,
+    pub info_offset: usize,
+    pub info_length: usize,
+    pub tpdu_offset: usize,
+    pub tpdu_length: usize,
+}
+
+// What writing a frame gave: the count of bytes filled, and the outcome.
+#[repr(C)]
+pub struct Framed {
+    pub count: u16,
+    pub outcome: u8,
 }
 
 // The PDU that a flat one means, if its kind is known.
@@ -119,4 +145,25 @@ pub extern "C" fn kelindap_pdu_version() -> u32
     ensures { λ r. ⌜ r ≡ versionOf ⌝ }
 {
     256
+}
+
+// The frame in the bytes, laid flat, with where its parts stand; or the outcome alone.
+#[no_mangle]
+pub extern "C" fn kelindap_frame_read(frame: &[u8]) -> FlatFrame
+    ensures { λ r. ⌜ r ≡ flatFrame (now (frame .entry)) ⌝ }
+{
+    frames::read(frame)
+}
+
+// The bytes of a frame with its parts at the front of out, and their count; on a refusal out is as it was.
+#[no_mangle]
+pub extern "C" fn kelindap_frame_write(
+    f: FlatFrame,
+    info: &[u8],
+    apdu: &[u8],
+    out: &mut [u8],
+) -> Framed
+    ensures { λ r. ⌜ FrameWrote f (now (info .entry)) (now (apdu .entry)) (now (out .entry)) r (now (out .exit)) ⌝ }
+{
+    frames::write(f, info, apdu, out)
 }

@@ -4,6 +4,7 @@
 
 pub mod device;
 pub mod faults;
+pub mod frame;
 pub mod gen;
 pub mod matrix;
 pub mod pdu;

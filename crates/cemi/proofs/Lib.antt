@@ -1,0 +1,12 @@
+pub mod Tests
+pub mod Judging
+pub mod Taken
+pub mod Cut
+pub mod Stores
+pub mod Wrote
+pub mod Tables
+pub mod Standards
+pub mod Agains
+pub mod Understood
+pub mod Backs
+pub mod Filled

@@ -1,0 +1,15 @@
+-- `cemi::transport::meant` meets its contract.
+-- Assumes nothing.
+use borrow.Author.Needs.{needs}
+use native.Mathlib.Omega.{arith}
+use Rattle.cemi.proofs.Tests.{branches}
+use Rattle.cemi.specs.Meaning.{meaningOf}
+use Rattle.cemi.proofs.transport.meant.Statement.{statement}
+use Rattle.cemi.proofs.transport.meant.Tie as tie
+
+pub meant-spec : {M : Type 1} → statement M
+unfolding meaningOf
+meant-spec =
+    tie.close
+    (tie.spec
+    (λ c κs. search needs) (λ c κs. search needs) (λ c. search (branches, arith)) (λ c. search (branches, arith)))

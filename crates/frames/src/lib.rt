@@ -1,0 +1,1 @@
+// What joins frames and device stands in specs/ and proofs/: this crate has no code.

@@ -1,0 +1,65 @@
+#!/usr/bin/env bash
+# tests/unit/frames.sh UNIT: a host in shell, over the desk unit. Each line of standard input is a frame from the bus. The unit
+# reads it; a connect, a disconnect or data goes to the device; an answer goes back to the sender, or to the group that was
+# asked, with the host's own sequence number, and the unit reads it once more. Frames to another address are left alone.
+set -euo pipefail
+coproc unit { exec "$1"; }
+pid=$unit_PID
+room=eeeeeeeeeeeeeeeeeeeeeeeeeeeeeeee own=4357 next=0
+
+ask() { # COMMAND: the unit's answer in $reply
+    printf '%s\n' "$1" >&"${unit[1]}"
+    IFS= read -r -t 20 reply <&"${unit[0]}"
+}
+
+understand() { # FRAMEHEX: its fields in $got, what it means in $meaning
+    ask "frame read $1"
+    local -a words=($reply)
+    got=() meaning=${words[0]}
+    [ "$meaning" = 0 ] || return 0
+    for word in "${words[@]:1:8}"; do got[${word%%=*}]=${word#*=}; done
+    meaning="${words[*]:9}"
+}
+
+answer() { # DESTINATION TRANSPORT APDUHEX
+    ask "frame write code=17 c1=${got[c1]} c2=${got[c2]} source=$own destination=$1 transport=$2 info=- apdu=$3 $room$room"
+    local -a words=($reply)
+    local sent=${words[2]:0:2 * words[1]}
+    understand "$sent"
+    [ "${got[source]} ${got[destination]} ${got[tpdu]:2}" = "$own $1 ${3:2}" ] || { echo "  > $sent reads as another frame" && exit 1; }
+    ask "read ${got[tpdu]}"
+    echo "  > $sent $meaning: $reply"
+}
+
+request() { # MODE GROUP DESTINATION TRANSPORT
+    ask "request $1 $2 ${got[tpdu]} $room"
+    local -a words=($reply)
+    echo "  outcome ${words[0]}, session ${words[1]} ${words[2]}"
+    [ "${words[3]}" = 0 ] || answer "$3" "$4" "${words[4]:0:2 * words[3]}"
+}
+
+declare -A got
+while read -r frame; do
+    case $frame in '' | '#'*) continue ;; esac
+    understand "$frame"
+    echo "< $frame $meaning"
+    case $meaning in
+    connect | disconnect | connectionless | connected) [ "${got[destination]}" = "$own" ] || { echo "  for another" && continue; } ;;
+    esac
+    case $meaning in
+    multicast*) request 0 "${got[destination]}" "${got[destination]}" 0 ;;
+    broadcast) request 1 0 0 0 ;;
+    connectionless) request 2 0 "${got[source]}" 0 ;;
+    connected)
+        request 3 0 "${got[source]}" $((16 + next))
+        next=$(((next + 1) % 16))
+        ;;
+    connect | disconnect)
+        ask "$meaning"
+        next=0
+        echo "  session ${reply:2:3}"
+        ;;
+    esac
+done
+exec {unit[1]}>&-
+wait "$pid"
