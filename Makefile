@@ -8,7 +8,7 @@ test: tools
 	rt fmt --check
 	$(MAKE) --no-print-directory -s model
 	$(MAKE) --no-print-directory -s sheet-check
-	$(MAKE) --no-print-directory -s test-unit test-c compare
+	$(MAKE) --no-print-directory -s test-unit test-c points compare
 	rt ci
 
 # a missing tool fails the tests

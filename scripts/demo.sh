@@ -1,7 +1,7 @@
 #!/usr/bin/env bash
 # scripts/demo.sh UNIT SCRIPT: plays a script through the desk unit and shows what happens, for a person to read.
 # Comments of the script are shown as they are; PDUs by their fields, as the unit's `read` tells them; of the sheet, the bytes
-# that changed, as offset: old -> new.
+# that changed, as offset: old -> new; hundredths as a decimal fraction.
 set -euo pipefail
 unit=$1 script=$2
 work=$(mktemp -d)
@@ -38,6 +38,11 @@ awk -v answers="$work/answers" -v fields="$work/fields" '
         getline line < answers
         split(line, now, " ")
         if (FNR == 1) { level = now[3]; sheet = now[6]; next }
+        if ($1 == "point") {
+            ask($0)
+            answer($3 == 9 ? sprintf("%.2f", now[2] / 100) : now[2], now[1])
+            next
+        }
         if ($1 == "request") {
             ask(told())
             reply = told()

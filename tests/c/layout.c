@@ -49,6 +49,12 @@
     FIELD(kelindap_pdu, level, 1, 30) \
     FIELD(kelindap_pdu, data_offset, 8, 32) \
     FIELD(kelindap_pdu, data_length, 8, 40) \
+    SIZE(kelindap_point, 12) \
+    FIELD(kelindap_point, hundredths, 4, 0) \
+    FIELD(kelindap_point, bits, 4, 4) \
+    FIELD(kelindap_point, type, 1, 8) \
+    FIELD(kelindap_point, value, 1, 9) \
+    FIELD(kelindap_point, outcome, 1, 10) \
     NUMBER(KELINDAP_ANSWERED, 0) \
     NUMBER(KELINDAP_DONE, 1) \
     NUMBER(KELINDAP_NOT_FOR_US, 2) \

@@ -15,7 +15,7 @@ use mir.Val.{Fits}
 use borrow.Author.Tests.{lt-ltb, le-ltb, le-leb, lt-leb, eq-eqb, ne-eqb, eqb-true, eqb-false}
 use Rattle.points.specs.Nine.{res, mantissaAt, exponentAt}
 use Rattle.octets.specs.Bytes.{numAt, IsNum}
-use Rattle.points.specs.Point.{widthAt, pointAt, readPoint}
+use Rattle.points.specs.Point.{widthAt, pointAt, Narrow, readPoint}
 use Rattle.points.specs.declared.Datapoint.the-variants.{Hundredths}
 use Rattle.points.specs.declared.Reading.{Reading}
 use Rattle.points.specs.declared.Reading.the-variants.{Is, Refused}
@@ -61,14 +61,11 @@ pub point-else : (t n : ℕ) (r : Reading) → (t ≡ 1 → ⊥) → (t ≡ 5 �
 point-else t n r a b c h =
     h ∙ sym (simp (ne-eqb t 1 a, ne-eqb t 5 b, ne-eqb t 9 c))
 
-below-by : (t j n : ℕ) → t ≡ j → n < 256 ^ widthAt t → n < 256 ^ widthAt j
-below-by t j n e h = subst (λ (k : ℕ). n < 256 ^ widthAt k) e h
+pub byte-below : (t n : ℕ) → t ≡ 5 → Narrow t n → Fits w8 n
+byte-below t n e h = record { fits = h .byte e }
 
-pub byte-below : (t n : ℕ) → t ≡ 5 → n < 256 ^ widthAt t → Fits w8 n
-byte-below t n e h = record { fits = below-by t 5 n e h }
-
-pub word-below : (t n : ℕ) → t ≡ 9 → n < 256 ^ widthAt t → n < 65536
-word-below t n e h = below-by t 9 n e h
+pub word-below : (t n : ℕ) → t ≡ 9 → Narrow t n → n < 65536
+word-below t n e h = h .word e
 
 -- a value has at most four bytes
 pub width-small : (t w : ℕ) → w ≡ widthAt t → w ≤ 4
@@ -84,8 +81,11 @@ width-small t w e = subst (λ (k : ℕ). k ≤ 4) (sym e) (go (eqb t 1) (eqb t 5
 pub num-fits : (t w n : ℕ) → w ≡ widthAt t → n < 256 ^ w → Fits w32 n
 num-fits t w n e h = record { fits = omega (arith, h, pow-le-pow-right {n = 256} (omega arith) {i = w} {j = 4} (width-small t w e)) }
 
-pub num-by : (t w n : ℕ) → w ≡ widthAt t → n < 256 ^ w → n < 256 ^ widthAt t
-num-by t w n e h = subst (λ (k : ℕ). n < 256 ^ k) e h
+pub num-by : (t w n : ℕ) → w ≡ widthAt t → n < 256 ^ w → Narrow t n
+num-by t w n e h = record { byte = below 5; word = below 9 }
+  where
+    below : (j : ℕ) → t ≡ j → n < 256 ^ widthAt j
+    below j f = subst (λ (k : ℕ). n < 256 ^ k) (e ∙ ap widthAt f) h
 
 -- what reading gives, branch by branch
 pub read-25 : (t w : ℕ) (b : List ℕ) → w ≡ widthAt t → w ≡ 0 → Refused 25 ≡ readPoint t b

@@ -44,6 +44,11 @@ pointAt t n =
     (cond (eqb t 9) (cond (eqb n 32767) (Refused 22) (Is (Hundredths (res n))))
     (cond (finiteBits n) (Is (Single (ofBits binary32 n))) (Refused 24))))
 
+-- a number that stands in so many bytes as the type has
+pub record Narrow (t n : ℕ) : Type 0 where
+  pub byte : t ≡ 5 → n < 256
+  pub word : t ≡ 9 → n < 65536
+
 -- WHAT READING GIVES: 25, then 20, then by the type
 unfoldable pub readPoint : ℕ → List ℕ → Reading
 readPoint t b = cond (eqb (widthAt t) 0) (Refused 25) (cond (eqb (length b) (widthAt t)) (pointAt t (numAt b 0 (widthAt t))) (Refused 20))

@@ -1,6 +1,6 @@
 // Readable group values: datapoint types 1, 5, 9 and 14, read from their bytes and written to them.
 ghost use mathlib.Core.Path.{_≡_};
-ghost use Rattle.points.specs.Point.{typeOf, widthAt, readPoint, Put};
+ghost use Rattle.points.specs.Point.{typeOf, widthAt, pointAt, Narrow, readPoint, Put};
 
 mod float;
 mod hundredths;
@@ -46,6 +46,19 @@ pub fn kind(d: Datapoint) -> u8
     }
 }
 
+// What a number means in a type; in another than those of `width` it is taken for a float's bits.
+pub fn point(kind: u8, n: u32) -> Reading
+    requires { ⌜ Narrow kind n ⌝ }
+    ensures { λ r. ⌜ r ≡ pointAt kind n ⌝ }
+{
+    match kind {
+        1 => number::switch(n),
+        5 => Reading::Is(Datapoint::Byte(n as u8)),
+        9 => hundredths::point(n),
+        _ => float::point(n),
+    }
+}
+
 // The value of a type in the bytes, or the number of the refusal.
 pub fn read(kind: u8, bytes: &[u8]) -> Reading
     ensures { λ r. ⌜ r ≡ readPoint kind (now (bytes .entry)) ⌝ }
@@ -58,7 +71,7 @@ pub fn read(kind: u8, bytes: &[u8]) -> Reading
         return Reading::Refused(20);
     }
     let n = octets::number(bytes, 0, w);
-    number::point(kind, n as u32)
+    point(kind, n as u32)
 }
 
 // A datapoint's bytes into a part exactly as long; on a refusal the part is as it was.

@@ -1,9 +1,8 @@
 // The number that stands for a datapoint in its bytes, and back.
 ghost use mathlib.Core.Path.{_≡_};
 ghost use mathlib.Core.Bool.{cond};
-ghost use Prim.Native.Nat.{_<_, _^_};
 ghost use lib.Dec.{ltb, eqb};
-ghost use Rattle.points.specs.Point.{widthAt, pointAt, Numbered};
+ghost use Rattle.points.specs.Point.{Numbered};
 ghost use Rattle.points.specs.declared.Datapoint.the-variants.{Switch};
 ghost use Rattle.points.specs.declared.Reading.the-variants.{Is, Refused};
 use crate::Datapoint;
@@ -18,26 +17,13 @@ pub struct Coding {
 }
 
 // Bit 0 says on or off; no other may be set.
-fn switch(n: u32) -> Reading
+pub fn switch(n: u32) -> Reading
     ensures { λ r. ⌜ r ≡ cond (ltb n 2) (Is (Switch (eqb n 1))) (Refused 21) ⌝ }
 {
     if n < 2 {
         return Reading::Is(Datapoint::Switch(n == 1));
     }
     Reading::Refused(21)
-}
-
-// What a number means in a type that there is.
-pub fn point(kind: u8, n: u32) -> Reading
-    requires { ⌜ n < 256 ^ widthAt kind ⌝ }
-    ensures { λ r. ⌜ r ≡ pointAt kind n ⌝ }
-{
-    match kind {
-        1 => switch(n),
-        5 => Reading::Is(Datapoint::Byte(n as u8)),
-        9 => hundredths::point(n),
-        _ => float::point(n),
-    }
 }
 
 // The number of a datapoint, by its case.

@@ -8,6 +8,7 @@ use pdu::Parsed;
 use pdu::Pdu;
 use pdu::Written;
 
+mod datapoints;
 mod lay;
 mod mean;
 
@@ -40,6 +41,16 @@ pub struct FlatPdu {
 pub struct FlatWritten {
     pub outcome: u8,
     pub count: u8,
+}
+
+// A datapoint laid flat, in the order of include/kelindap_pdu.h, whose `type` is `kind` here.
+#[repr(C)]
+pub struct FlatPoint {
+    pub hundredths: i32,
+    pub bits: u32,
+    pub kind: u8,
+    pub value: u8,
+    pub outcome: u8,
 }
 
 // The PDU that a flat one means, if its kind is known.

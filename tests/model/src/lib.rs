@@ -7,4 +7,5 @@ pub mod faults;
 pub mod gen;
 pub mod matrix;
 pub mod pdu;
+pub mod points;
 pub mod sheet;

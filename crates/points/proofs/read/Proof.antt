@@ -6,7 +6,7 @@ use Rattle.points.proofs.read.Tie as tie
 use Rattle.points.proofs.read.Reads as reads
 use Rattle.points.proofs.read.Lts as lts
 use Rattle.octets.proofs.number.Reads as number-reads
-use Rattle.points.proofs.number.point.Reads as point-reads
+use Rattle.points.proofs.point.Reads as point-reads
 use Rattle.points.proofs.width.Reads as width-reads
 
 width-requires : tie.Need-width-requires

@@ -1,9 +1,9 @@
 use Rattle.points.proofs.Laws.{point-by, point-else, byte-below, word-below}
 use borrow.Author.Needs.{needs}
-use Rattle.points.proofs.number.point.Statement.{statement}
-use Rattle.points.proofs.number.point.Tie as tie
-use Rattle.points.proofs.number.point.Reads as reads
-use Rattle.points.proofs.number.point.Lts as lts
+use Rattle.points.proofs.point.Statement.{statement}
+use Rattle.points.proofs.point.Tie as tie
+use Rattle.points.proofs.point.Reads as reads
+use Rattle.points.proofs.point.Lts as lts
 use Rattle.points.proofs.float.point.Reads as float-point-reads
 use Rattle.points.proofs.hundredths.point.Reads as hundredths-point-reads
 use Rattle.points.proofs.number.switch.Reads as switch-reads
