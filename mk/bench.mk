@@ -2,6 +2,7 @@
 .PHONY: bench
 
 # nanoseconds and instructions for each request: figures and no verdict, so not among the tests
-bench: build/own/libhost.a
+bench: build/own/libhost.a build/own/libtool.a
 	cd tests/bench && cargo build --offline --release --quiet
 	tests/bench/target/release/bench
+	tests/bench/target/release/points

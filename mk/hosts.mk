@@ -31,12 +31,13 @@ test-unit: build/unit build/unit_watched
 	tests/unit/run.sh build/unit
 	$(WATCHED) tests/unit/run.sh build/unit_watched
 
-test-c: build/layout build/host_test build/tool_test $(OWN_TESTS)
+test-c: build/layout build/host_test build/tool_test build/point_test $(OWN_TESTS)
 	$(WATCHED) build/layout
 	tests/c/symbols.sh include/kelindap.h $(HOST_A)
 	tests/c/symbols.sh include/kelindap_pdu.h $(TOOL_A)
 	CC86="$(CC86)" tests/c/freestanding.sh $(HOST_A) $(TOOL_A)
 	$(WATCHED) build/tool_test
+	$(WATCHED) build/point_test
 	$(WATCHED) build/host_test
 	for t in $(OWN_TESTS); do $(WATCHED) $$t; done
 
@@ -50,7 +51,7 @@ build/unit_watched: hosts/unit.c $(LINKED) | need-gcc
 	mkdir -p build
 	$(CC86) -o $@ $(STRICT) -g $(SANITIZE) $< $(HOST_A) $(TOOL_A)
 
-build/layout build/host_test build/tool_test: build/%: tests/c/%.c tests/c/lent.h $(LINKED) | need-gcc
+build/layout build/host_test build/tool_test build/point_test: build/%: tests/c/%.c tests/c/lent.h $(LINKED) | need-gcc
 	mkdir -p build
 	gcc $(STRICT) -c $< -o /dev/null
 	$(CC86) -o $@ $(STRICT) -g $(SANITIZE) $< $(HOST_A) $(TOOL_A)

@@ -1,12 +1,9 @@
+-- `points::point` meets its contract.
+-- Assumes nothing.
 use Rattle.points.proofs.Laws.{point-by, point-else, byte-below, word-below}
 use borrow.Author.Needs.{needs}
 use Rattle.points.proofs.point.Statement.{statement}
 use Rattle.points.proofs.point.Tie as tie
-use Rattle.points.proofs.point.Reads as reads
-use Rattle.points.proofs.point.Lts as lts
-use Rattle.points.proofs.float.point.Reads as float-point-reads
-use Rattle.points.proofs.hundredths.point.Reads as hundredths-point-reads
-use Rattle.points.proofs.number.switch.Reads as switch-reads
 
 switch-requires : tie.Need-switch-requires
 switch-requires c κs = search needs

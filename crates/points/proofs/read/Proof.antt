@@ -1,13 +1,10 @@
+-- `points::read` meets its contract.
+-- Assumes nothing.
 use native.Mathlib.Omega.{arith}
 use Rattle.points.proofs.Laws.{width-small, num-fits, num-by, read-25, read-20, read-is}
 use borrow.Author.Needs.{needs}
 use Rattle.points.proofs.read.Statement.{statement}
 use Rattle.points.proofs.read.Tie as tie
-use Rattle.points.proofs.read.Reads as reads
-use Rattle.points.proofs.read.Lts as lts
-use Rattle.octets.proofs.number.Reads as number-reads
-use Rattle.points.proofs.point.Reads as point-reads
-use Rattle.points.proofs.width.Reads as width-reads
 
 width-requires : tie.Need-width-requires
 width-requires c κs = search needs

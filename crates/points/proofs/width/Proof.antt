@@ -1,10 +1,10 @@
+-- `points::width` meets its contract.
+-- Assumes nothing.
 use Rattle.points.proofs.Laws.{width-by}
 use native.Mathlib.Omega.{arith}
 use Rattle.points.proofs.Laws.{tests}
 use Rattle.points.proofs.width.Statement.{statement}
 use Rattle.points.proofs.width.Tie as tie
-use Rattle.points.proofs.width.Reads as reads
-use Rattle.points.proofs.width.Lts as lts
 
 returns : tie.Need-returns
 returns c = search (tests, arith)

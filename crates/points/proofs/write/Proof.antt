@@ -1,13 +1,9 @@
+-- `points::write` meets its contract.
+-- Assumes nothing.
 use Rattle.points.proofs.Writes.{write-20, write-no, write-yes, write-room}
 use borrow.Author.Needs.{needs}
 use Rattle.points.proofs.write.Statement.{statement}
 use Rattle.points.proofs.write.Tie as tie
-use Rattle.points.proofs.write.Reads as reads
-use Rattle.points.proofs.write.Lts as lts
-use Rattle.octets.proofs.put.Reads as put-reads
-use Rattle.points.proofs.kind.Reads as kind-reads
-use Rattle.points.proofs.number.coded.Reads as coded-reads
-use Rattle.points.proofs.width.Reads as width-reads
 
 kind-requires : tie.Need-kind-requires
 kind-requires c κs = search needs

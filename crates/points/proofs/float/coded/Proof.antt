@@ -1,3 +1,5 @@
+-- `points::float::coded` meets its contract.
+-- Assumes nothing.
 use Prim.Native.Nat.{ℕ}
 use mathlib.Core.Path.{refl, sym, ap, subst, _∙_}
 use mathlib.Core.Bool.{Bool, cond}
@@ -6,8 +8,6 @@ use lib.Dec.{T}
 use Rattle.points.proofs.Floats.{equal-no-nan, below-finite, above-infinite, unequal-nan}
 use Rattle.points.proofs.float.coded.Statement.{statement}
 use Rattle.points.proofs.float.coded.Tie as tie
-use Rattle.points.proofs.float.coded.Reads as reads
-use Rattle.points.proofs.float.coded.Lts as lts
 
 float-to-bits-n : tie.Need-float-to-bits-n
 float-to-bits-n c = equal-no-nan (c .before .args .x) (c .if1 .taken)

@@ -1,10 +1,10 @@
+-- `points::float::point` meets its contract.
+-- Assumes nothing.
 use native.Mathlib.Omega.{arith}
 use Rattle.points.proofs.Laws.{tests}
 use Rattle.points.proofs.Floats.{no-nan}
 use Rattle.points.proofs.float.point.Statement.{statement}
 use Rattle.points.proofs.float.point.Tie as tie
-use Rattle.points.proofs.float.point.Reads as reads
-use Rattle.points.proofs.float.point.Lts as lts
 
 float-from-bits-t5 : tie.Need-float-from-bits-t5
 float-from-bits-t5 c = no-nan (c .before .args .n) (c .if1 .taken)

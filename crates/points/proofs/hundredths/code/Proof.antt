@@ -1,3 +1,5 @@
+-- `points::hundredths::code` meets its contract.
+-- Assumes nothing.
 use mathlib.Core.Path.{sym, _∙_, subst}
 use Prim.Native.Nat.{ℕ, _≤_}
 use native.Mathlib.Omega.{arith}
@@ -13,14 +15,6 @@ use Rattle.points.proofs.Signed.{range-abs}
 use borrow.Author.Needs.{needs}
 use Rattle.points.proofs.hundredths.code.Statement.{statement}
 use Rattle.points.proofs.hundredths.code.Tie as tie
-use Rattle.points.proofs.hundredths.code.Reads as reads
-use Rattle.points.proofs.hundredths.code.Lts as lts
-use Rattle.points.proofs.hundredths.exponent.Reads as exponent-reads
-use Rattle.points.proofs.hundredths.limit.Reads as limit-reads
-use Rattle.points.proofs.hundredths.power.Reads as power-reads
-use Rattle.points.proofs.hundredths.stepped.Reads as stepped-reads
-use Rattle.points.proofs.signs.magnitude.Reads as magnitude-reads
-use Rattle.points.proofs.signs.quotient.Reads as quotient-reads
 
 magnitude-requires : tie.Need-magnitude-requires
 magnitude-requires c κs = search needs

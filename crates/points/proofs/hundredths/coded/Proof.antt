@@ -1,11 +1,10 @@
+-- `points::hundredths::coded` meets its contract.
+-- Assumes nothing.
 use mir.Syntax.{w32}
 use mir.Val.{toZ, ofZ}
 use Rattle.points.proofs.Writes.{in-range, numbered-in, numbered-high, numbered-low}
 use Rattle.points.proofs.hundredths.coded.Statement.{statement}
 use Rattle.points.proofs.hundredths.coded.Tie as tie
-use Rattle.points.proofs.hundredths.coded.Reads as reads
-use Rattle.points.proofs.hundredths.coded.Lts as lts
-use Rattle.points.proofs.hundredths.code.Reads as code-reads
 
 code-requires : tie.Need-code-requires
 code-requires c κs = in-range (toZ w32 (ofZ w32 (c .before .before .args .x))) (c .before .if1 .taken) (c .if2 .taken)

@@ -1,3 +1,5 @@
+-- `points::hundredths::exponent` meets its contract.
+-- Assumes nothing.
 use Prim.Native.Nat.{ℕ, _≤_, _<_, _-_, _*_, _^_, _+_}
 use mathlib.Core.Path.{_≡_, refl, sym, ap, _∙_, subst}
 use native.Mathlib.Omega.{arith}
@@ -5,8 +7,6 @@ use Rattle.points.specs.Code.{exponentFrom}
 use Rattle.points.proofs.Search.{top-next, top-small, goes-on, stops, ends}
 use Rattle.points.proofs.hundredths.exponent.Statement.{statement}
 use Rattle.points.proofs.hundredths.exponent.Tie as tie
-use Rattle.points.proofs.hundredths.exponent.Reads as reads
-use Rattle.points.proofs.hundredths.exponent.Lts as lts
 
 abbrev Inv-loop : tie.InvT-loop
 Inv-loop m l twice top₀ e₀ top e = (e ≤ 15) × (top ≡ l * 2 ^ e) × (exponentFrom (15 - e) m l e ≡ exponentFrom 15 m l 0)

@@ -1,8 +1,8 @@
+-- `points::hundredths::limit` meets its contract.
+-- Assumes nothing.
 use Rattle.points.proofs.Casts.{limit-minus, limit-plus}
 use Rattle.points.proofs.hundredths.limit.Statement.{statement}
 use Rattle.points.proofs.hundredths.limit.Tie as tie
-use Rattle.points.proofs.hundredths.limit.Reads as reads
-use Rattle.points.proofs.hundredths.limit.Lts as lts
 
 returns : tie.Need-returns
 returns c = limit-minus _ (c .before .fits .x) (c .if1 .taken)

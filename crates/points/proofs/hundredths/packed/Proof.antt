@@ -1,11 +1,10 @@
+-- `points::hundredths::packed` meets its contract.
+-- Assumes nothing.
 use native.Mathlib.Omega.{arith}
 use Rattle.points.proofs.Casts.{abs-is, packed-minus, packed-plus}
 use borrow.Author.Needs.{needs}
 use Rattle.points.proofs.hundredths.packed.Statement.{statement}
 use Rattle.points.proofs.hundredths.packed.Tie as tie
-use Rattle.points.proofs.hundredths.packed.Reads as reads
-use Rattle.points.proofs.hundredths.packed.Lts as lts
-use Rattle.points.proofs.signs.magnitude.Reads as magnitude-reads
 
 magnitude-requires : tie.Need-magnitude-requires
 magnitude-requires c κs = search needs

@@ -1,12 +1,11 @@
+-- `points::hundredths::point` meets its contract.
+-- Assumes nothing.
 use native.Mathlib.Omega.{arith}
 use mir.Facts.{toZ-ofZ}
 use Rattle.points.proofs.Laws.{tests, point-nine}
 use borrow.Author.Needs.{needs}
 use Rattle.points.proofs.hundredths.point.Statement.{statement}
 use Rattle.points.proofs.hundredths.point.Tie as tie
-use Rattle.points.proofs.hundredths.point.Reads as reads
-use Rattle.points.proofs.hundredths.point.Lts as lts
-use Rattle.points.proofs.hundredths.result.Reads as result-reads
 
 returns : tie.Need-returns
 returns c = search (tests, arith)

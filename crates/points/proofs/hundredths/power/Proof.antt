@@ -1,9 +1,9 @@
+-- `points::hundredths::power` meets its contract.
+-- Assumes nothing.
 use Rattle.points.proofs.Laws.{shifted}
 use borrow.Author.Needs.{needs}
 use Rattle.points.proofs.hundredths.power.Statement.{statement}
 use Rattle.points.proofs.hundredths.power.Tie as tie
-use Rattle.points.proofs.hundredths.power.Reads as reads
-use Rattle.points.proofs.hundredths.power.Lts as lts
 
 shl-result : tie.Need-shl-result
 shl-result c = search needs

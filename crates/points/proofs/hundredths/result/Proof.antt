@@ -1,4 +1,4 @@
--- `points::hundredths::result` meets its contract: the result by its sign.
+-- `points::hundredths::result` meets its contract.
 -- Assumes nothing.
 use mathlib.Core.Path.{sym, ap, _∙_}
 use Prim.Native.Nat.{ℕ, _*_, _-_, _%_, _/_}
@@ -10,10 +10,6 @@ use Rattle.points.proofs.Laws.{product-by, res-plus, res-minus}
 use borrow.Author.Needs.{needs}
 use Rattle.points.proofs.hundredths.result.Statement.{statement}
 use Rattle.points.proofs.hundredths.result.Tie as tie
-use Rattle.points.proofs.hundredths.result.Reads as reads
-use Rattle.points.proofs.hundredths.result.Lts as lts
-use Rattle.points.proofs.hundredths.power.Reads as power-reads
-use Rattle.points.proofs.signs.minus.Reads as minus-reads
 
 power-requires : tie.Need-power-requires
 power-requires c κs = search needs

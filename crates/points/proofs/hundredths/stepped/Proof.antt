@@ -1,3 +1,5 @@
+-- `points::hundredths::stepped` meets its contract.
+-- Assumes nothing.
 use mathlib.Core.Path.{ap, _∙_}
 use mir.Facts.{toZ-ofZ}
 use Rattle.points.specs.Code.{packed}
@@ -5,9 +7,6 @@ use Rattle.points.proofs.Casts.{step-zero, step-yes, step-no}
 use borrow.Author.Needs.{needs}
 use Rattle.points.proofs.hundredths.stepped.Statement.{statement}
 use Rattle.points.proofs.hundredths.stepped.Tie as tie
-use Rattle.points.proofs.hundredths.stepped.Reads as reads
-use Rattle.points.proofs.hundredths.stepped.Lts as lts
-use Rattle.points.proofs.hundredths.packed.Reads as packed-reads
 
 packed-requires : tie.Need-packed-requires
 packed-requires c κs = search needs

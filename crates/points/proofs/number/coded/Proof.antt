@@ -1,3 +1,5 @@
+-- `points::number::coded` meets its contract.
+-- Assumes nothing.
 use mathlib.Core.Path.{_≡_, subst}
 use lib.IntN.{ℤ}
 use mir.Syntax.{w32}
@@ -8,10 +10,6 @@ use Rattle.points.proofs.Writes.{numbered-by, numbered-switch, numbered
 use borrow.Author.Needs.{needs}
 use Rattle.points.proofs.number.coded.Statement.{statement}
 use Rattle.points.proofs.number.coded.Tie as tie
-use Rattle.points.proofs.number.coded.Reads as reads
-use Rattle.points.proofs.number.coded.Lts as lts
-use Rattle.points.proofs.float.coded.Reads as float-coded-reads
-use Rattle.points.proofs.hundredths.coded.Reads as hundredths-coded-reads
 
 enum-known-d : tie.Need-enum-known-d
 enum-known-d c = search needs

@@ -1,9 +1,9 @@
+-- `points::number::switch` meets its contract.
+-- Assumes nothing.
 use native.Mathlib.Omega.{arith}
 use Rattle.points.proofs.Laws.{tests}
 use Rattle.points.proofs.number.switch.Statement.{statement}
 use Rattle.points.proofs.number.switch.Tie as tie
-use Rattle.points.proofs.number.switch.Reads as reads
-use Rattle.points.proofs.number.switch.Lts as lts
 
 returns : tie.Need-returns
 returns c = search (tests, arith)

@@ -1,4 +1,5 @@
--- `points::signs::magnitude` meets its contract, by `Signs.antt`. Assumes nothing.
+-- `points::signs::magnitude` meets its contract.
+-- Assumes nothing.
 use mathlib.Core.Path.{_≡_, sym, ap, _∙_, subst}
 use lib.Dec.{T}
 use lib.IntN.{ℤ, natAbs, pos, _-ℤ_}

@@ -1,9 +1,9 @@
+-- `points::signs::minus` meets its contract.
+-- Assumes nothing.
 use Rattle.points.proofs.Casts.{minus-fits, minus-is}
 use borrow.Author.Needs.{needs}
 use Rattle.points.proofs.signs.minus.Statement.{statement}
 use Rattle.points.proofs.signs.minus.Tie as tie
-use Rattle.points.proofs.signs.minus.Reads as reads
-use Rattle.points.proofs.signs.minus.Lts as lts
 
 cast-v : tie.Need-cast-v
 cast-v c = search needs

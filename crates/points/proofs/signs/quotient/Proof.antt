@@ -1,3 +1,5 @@
+-- `points::signs::quotient` meets its contract.
+-- Assumes nothing.
 use native.Mathlib.Omega.{arith}
 use mathlib.Core.Path.{sym, ap, _∙_, subst}
 use Prim.Native.Nat.{ℕ, _*_, _-_, _+_}
@@ -8,10 +10,6 @@ use Rattle.points.proofs.Casts.{abs-is, quotient-fits, divided-minus, d
 use borrow.Author.Needs.{needs}
 use Rattle.points.proofs.signs.quotient.Statement.{statement}
 use Rattle.points.proofs.signs.quotient.Tie as tie
-use Rattle.points.proofs.signs.quotient.Reads as reads
-use Rattle.points.proofs.signs.quotient.Lts as lts
-use Rattle.points.proofs.signs.magnitude.Reads as magnitude-reads
-use Rattle.points.proofs.signs.minus.Reads as minus-reads
 
 magnitude-requires : tie.Need-magnitude-requires
 magnitude-requires c κs = search needs
