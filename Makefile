@@ -15,7 +15,7 @@ test: need-tools
 	$(MAKE) --no-print-directory -s documents
 	$(MAKE) --no-print-directory -s model
 	$(MAKE) --no-print-directory -s sheet-check
-	$(MAKE) --no-print-directory -s test-unit test-c test-frames test-tools compare test-firmware
+	$(MAKE) --no-print-directory -s test-unit test-c points test-frames test-tools compare test-firmware
 	tests/edits/gate.sh tests/edits/refused.tsv
 
 # every name that a document quotes stands where the document says

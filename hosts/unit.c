@@ -11,6 +11,8 @@
  *   lookup group ADDRESS
  *   read APDUHEX                         reads a PDU                    OUTCOME, or 0 KIND field=value ..
  *   write KIND field=value .. BUFHEX     writes a PDU                   OUTCOME COUNT BUFHEX
+ *   point read TYPE HEX                  reads a group value            OUTCOME, or 0 VALUE
+ *   point write TYPE VALUE               writes a group value           OUTCOME, or 0 HEX
  *   frame read HEX                       reads a frame                  OUTCOME, or 0 field=value .. EVENT
  *   frame write field=value .. BUFHEX    writes a frame                 OUTCOME COUNT BUFHEX
  *
@@ -606,6 +608,97 @@ static bool do_write(device *d, char **words, size_t count)
     return true;
 }
 
+/* ---- group values ---- */
+
+/* The bytes of a value by its type, 0 where there is no such type. */
+static size_t point_width(uint64_t type)
+{
+    return type == 1 || type == 5 ? 1 : type == 9 ? 2 : type == 14 ? 4 : 0;
+}
+
+/* Hundredths: digits, and a minus sign before them; what 32 bits can't hold is an error. */
+static bool take_hundredths(const char *word, int32_t *value)
+{
+    uint64_t size;
+    bool minus = word[0] == '-';
+    if (!take_up_to("VALUE", word + minus, (uint64_t)INT32_MAX + minus, &size))
+        return false;
+    *value = minus ? (int32_t)-(int64_t)size : (int32_t)size;
+    return true;
+}
+
+static bool take_bits(char *word, uint32_t *value)
+{
+    run hex;
+    if (!take_bytes("VALUE", word, &hex))
+        return false;
+    if (hex.length != 4)
+        return err("VALUE has eight hex digits");
+    *value = (uint32_t)hex.bytes[0] << 24 | (uint32_t)hex.bytes[1] << 16 | (uint32_t)hex.bytes[2] << 8 | hex.bytes[3];
+    return true;
+}
+
+static bool take_point(uint8_t type, char *word, kelindap_point *point)
+{
+    uint64_t number = 0;
+    *point = (kelindap_point){ .type = type };
+    if (type == 9)
+        return take_hundredths(word, &point->hundredths);
+    if (type == 14)
+        return take_bits(word, &point->bits);
+    if (point_width(type) == 1 && !take_up_to("VALUE", word, type == 1 ? 1 : 255, &number))
+        return false;
+    point->value = (uint8_t)number;
+    return true;
+}
+
+static bool point_read(uint8_t type, char *word)
+{
+    run bytes;
+    if (!take_bytes("HEX", word, &bytes))
+        return false;
+    kelindap_point point = kelindap_point_read(type, bytes.bytes, bytes.length);
+    printf("%d", point.outcome);
+    if (point.outcome == 0 && type == 9)
+        printf(" %" PRId32, point.hundredths);
+    else if (point.outcome == 0 && type == 14)
+        printf(" %08" PRIx32, point.bits);
+    else if (point.outcome == 0)
+        printf(" %d", point.value);
+    putchar('\n');
+    return true;
+}
+
+static bool point_write(uint8_t type, char *word)
+{
+    kelindap_point point;
+    uint8_t out[4];
+    if (!take_point(type, word, &point))
+        return false;
+    int outcome = kelindap_point_write(point, out, point_width(type));
+    printf("%d", outcome);
+    if (outcome == 0) {
+        putchar(' ');
+        put_bytes(out, point_width(type));
+    }
+    putchar('\n');
+    return true;
+}
+
+static const char points[] = "point read TYPE HEX, or point write TYPE VALUE";
+
+static bool do_point(device *d, char **words, size_t count)
+{
+    uint64_t type;
+    (void)d, (void)count;
+    if (strcmp(words[0], "read") != 0 && strcmp(words[0], "write") != 0)
+        return err("the form is: %s", points);
+    if (!take_number("TYPE", words[1], &type))
+        return false;
+    type = type > 255 ? 0 : type; /* neither is a type, and 0 fits a byte */
+    return words[0][0] == 'r' ? point_read((uint8_t)type, words[2]) : point_write((uint8_t)type, words[2]);
+}
+
 /* ---- frames ---- */
 
 #include "unit_frames.h"
@@ -634,6 +727,7 @@ static const struct command {
     { "read", "read APDUHEX", 1, 1, do_read },
     { "write", "write KIND field=value .. BUFHEX", 2, MOST_WORDS - 1, do_write },
     { "frame", frame_forms, 2, MOST_WORDS - 1, do_frame },
+    { "point", points, 3, 3, do_point },
 };
 
 static const struct command *command_of(const char *name)

@@ -137,6 +137,32 @@ kelindap_pdu kelindap_read(const uint8_t *apdu, size_t apdu_length);
 /* A PDU with its data, written to the front of out; of a bit write the data is the AND bytes and then the XOR bytes. */
 kelindap_written kelindap_write(kelindap_pdu pdu, const uint8_t *data, size_t data_length, uint8_t *out, size_t out_length);
 
+/*
+ * A group value as a person reads it, by its datapoint type: 1 a switch and 5 a byte, in value; 9 a signed count of
+ * hundredths; 14 a float, by the bits of an IEEE single. A type 1 value is 0 or 1, and goes into a PDU as v; the others go
+ * as data, of 1, 2 and 4 bytes.
+ * outcome is of reading alone: 0, and the fields that the type does not have are 0; or a refusal, and all else is 0.
+ * The refusals of both calls: 25 no such type; 20 wrong number of bytes, on writing a part not exactly as long as the value;
+ * 21 a type 1 value above 1; 22 the code 7FFFh of type 9; 23 hundredths below -67,108,864 or above 67,043,328; 24 an infinity
+ * or NaN. 25 is tested first, then 20.
+ */
+typedef struct kelindap_point {
+    int32_t hundredths;
+    uint32_t bits;
+    uint8_t type;
+    uint8_t value;
+    uint8_t outcome;
+} kelindap_point;
+
+/* The value of a type in its bytes. */
+kelindap_point kelindap_point_read(uint8_t type, const uint8_t *bytes, size_t length);
+
+/*
+ * A value into the whole of out: 0, or a refusal, and out is as it was. Of type 9 the code's result is as near as that of any
+ * valid code; of two equally near ones it has the one nearer zero; of codes with one result the smallest exponent.
+ */
+uint8_t kelindap_point_write(kelindap_point point, uint8_t *out, size_t out_length);
+
 #ifdef __cplusplus
 }
 #endif

@@ -1,5 +1,5 @@
 # The libraries against the plain Rust model, event by event; EVENTS and SEED may be given. Comes after hosts.mk.
-.PHONY: compare
+.PHONY: compare points
 
 EVENTS ?= 2000000
 SEED ?=
@@ -15,3 +15,8 @@ build/bridge: tests/compare/bridge.c mk/compare.mk $(LINKED) | need-gcc
 	mkdir -p build
 	gcc $(STRICT) -c $< -o /dev/null
 	$(CC86) -o $@ $(STRICT) $< $(HOST_A) $(TOOL_A)
+
+# group values against the model, through the desk unit
+points: build/unit
+	cd tests/compare && cargo build --offline --release --quiet
+	tests/compare/target/release/points build/unit

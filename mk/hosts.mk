@@ -32,7 +32,7 @@ test-unit: build/unit build/unit_watched build/sheet
 	tests/unit/run.sh build/unit build/sheet
 	$(WATCHED) tests/unit/run.sh build/unit_watched build/sheet
 
-test-c: build/layout build/stack build/host_test build/tool_test $(OWN_TESTS)
+test-c: build/layout build/stack build/host_test build/tool_test build/point_test $(OWN_TESTS)
 	$(WATCHED) build/layout
 	build/stack
 	tests/c/symbols.sh include/kelindap.h $(HOST_A)
@@ -41,6 +41,7 @@ test-c: build/layout build/stack build/host_test build/tool_test $(OWN_TESTS)
 	tests/same.sh
 	CC86="$(CC86)" tests/c/freestanding.sh $(HOST_A) $(TOOL_A)
 	$(WATCHED) build/tool_test
+	$(WATCHED) build/point_test
 	$(WATCHED) build/host_test
 	for t in $(OWN_TESTS); do $(WATCHED) $$t; done
 
@@ -54,7 +55,7 @@ build/unit_watched: hosts/unit.c hosts/unit_frames.h $(LINKED) | need-gcc
 	mkdir -p build
 	$(CC86) -o $@ $(STRICT) -g $(SANITIZE) $< $(HOST_A) $(TOOL_A)
 
-build/layout build/host_test build/tool_test: build/%: tests/c/%.c tests/c/lent.h build/marked.inc $(LINKED) | need-gcc
+build/layout build/host_test build/tool_test build/point_test: build/%: tests/c/%.c tests/c/lent.h build/marked.inc $(LINKED) | need-gcc
 	mkdir -p build
 	gcc $(STRICT) -Ibuild -c $< -o /dev/null
 	$(CC86) -o $@ $(STRICT) -Ibuild -g $(SANITIZE) $< $(HOST_A) $(TOOL_A)

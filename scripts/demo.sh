@@ -1,7 +1,7 @@
 #!/usr/bin/env bash
 # scripts/demo.sh UNIT SHEET SCRIPT: plays a script through the desk unit and shows what happens, for a person to read.
 # Comments of the script are shown as they are; PDUs by their fields, as the unit's `read` tells them; of the sheet, what
-# changed by its meaning, as `sheet diff` tells it.
+# changed by its meaning, as `sheet diff` tells it; hundredths as a decimal fraction.
 set -euo pipefail
 unit=$1 sheet=$2 script=$3
 work=$(mktemp -d)
@@ -20,6 +20,7 @@ grep -v -e '^#' -e '^$' "$work/script" | paste -d ' ' - "$work/answers" | awk '
 bytes() { printf '%b' "$(sed 's/../\\x&/g' <<< "$1")"; }
 old=
 while read -r _ _ _ _ _ new; do
+    new=${new:-$old} # what tells of a value tells no sheet
     if [ "${old:-$new}" != "$new" ]; then
         bytes "$old" > "$work/old"
         bytes "$new" > "$work/new"
@@ -43,6 +44,12 @@ awk -v answers="$work/answers" -v fields="$work/fields" -v changes="$work/change
     {
         getline line < answers
         split(line, now, " ")
+        if ($1 == "point") {
+            ask($0)
+            answer($3 == 9 ? sprintf("%.2f", now[2] / 100) : now[2], now[1])
+            getline line < changes
+            next
+        }
         if ($1 == "request") {
             ask(told())
             reply = told()

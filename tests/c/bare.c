@@ -72,11 +72,21 @@ static int tool_works(void)
            written.outcome == 0 && written.count == 4 && memcmp(out, apdu, 4) == 0;
 }
 
+/* 21.5 degrees, as 2150 hundredths. */
+static int points_work(void)
+{
+    static uint8_t out[2];
+    kelindap_point point = { .type = 9, .hundredths = 2150 };
+    uint8_t outcome = kelindap_point_write(point, out, sizeof out);
+    point = kelindap_point_read(9, out, sizeof out);
+    return outcome == 0 && out[0] == 0x0C && out[1] == 0x33 && point.outcome == 0 && point.hundredths == 2150;
+}
+
 /* The exit status: 0, 1 if the device's library failed, 2 if the tool's did. */
 int run(void);
 int run(void)
 {
-    return !device_works() ? 1 : !tool_works() ? 2 : 0;
+    return !device_works() ? 1 : !tool_works() || !points_work() ? 2 : 0;
 }
 
 #if defined(__x86_64__)

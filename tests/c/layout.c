@@ -76,6 +76,12 @@
     NUMBER(KELINDAP_EVENT_DISCONNECT, 5) \
     NUMBER(KELINDAP_EVENT_OTHER, 44) \
     NUMBER(KELINDAP_EVENT_ACKNOWLEDGED, 45) \
+    SIZE(kelindap_point, 12) \
+    FIELD(kelindap_point, hundredths, 4, 0) \
+    FIELD(kelindap_point, bits, 4, 4) \
+    FIELD(kelindap_point, type, 1, 8) \
+    FIELD(kelindap_point, value, 1, 9) \
+    FIELD(kelindap_point, outcome, 1, 10) \
     NUMBER(KELINDAP_ANSWERED, 0) \
     NUMBER(KELINDAP_DONE, 1) \
     NUMBER(KELINDAP_NOT_FOR_US, 2) \

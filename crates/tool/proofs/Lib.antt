@@ -3,3 +3,4 @@ pub mod Means
 pub mod Returned
 pub mod Examples
 pub mod Framing
+pub mod PointLaws

@@ -1,3 +1,4 @@
 pub mod Flat
 pub mod Back
 pub mod FlatFrame
+pub mod Points

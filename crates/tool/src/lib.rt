@@ -9,6 +9,7 @@ use pdu::Parsed;
 use pdu::Pdu;
 use pdu::Written;
 
+mod datapoints;
 mod frames;
 mod lay;
 mod mean;
@@ -65,6 +66,16 @@ pub struct FlatFrame {
 #[repr(C)]
 pub struct Framed {
     pub count: u16,
+    pub outcome: u8,
+}
+
+// A datapoint laid flat, in the order of include/kelindap_pdu.h, whose `type` is `kind` here.
+#[repr(C)]
+pub struct FlatPoint {
+    pub hundredths: i32,
+    pub bits: u32,
+    pub kind: u8,
+    pub value: u8,
     pub outcome: u8,
 }
 

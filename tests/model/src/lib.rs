@@ -8,4 +8,5 @@ pub mod frame;
 pub mod gen;
 pub mod matrix;
 pub mod pdu;
+pub mod points;
 pub mod sheet;

@@ -1,0 +1,10 @@
+pub mod Floats
+pub mod Laws
+pub mod Casts
+pub mod Search
+pub mod Best
+pub mod Signed
+pub mod Choice
+pub mod Writes
+pub mod Unique
+pub mod Back

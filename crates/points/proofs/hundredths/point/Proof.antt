@@ -1,0 +1,20 @@
+-- `points::hundredths::point` meets its contract.
+-- Assumes nothing.
+use native.Mathlib.Omega.{arith}
+use mir.Facts.{toZ-ofZ}
+use Rattle.points.proofs.Laws.{tests, point-nine}
+use borrow.Author.Needs.{needs}
+use Rattle.points.proofs.hundredths.point.Statement.{statement}
+use Rattle.points.proofs.hundredths.point.Tie as tie
+
+returns : tie.Need-returns
+returns c = search (tests, arith)
+
+result-requires : tie.Need-result-requires
+result-requires c κs = search needs
+
+returns-2 : tie.Need-returns-2
+returns-2 c = point-nine _ _ _ (c .before .if1 .left) (toZ-ofZ (record { sfits = c .result .ok })) (c .result .ensures)
+
+pub point-spec : {M : Type 1} → statement M
+point-spec = tie.close (tie.spec returns result-requires returns-2)

@@ -1,0 +1,15 @@
+-- `points::hundredths::power` meets its contract.
+-- Assumes nothing.
+use Rattle.points.proofs.Laws.{shifted}
+use borrow.Author.Needs.{needs}
+use Rattle.points.proofs.hundredths.power.Statement.{statement}
+use Rattle.points.proofs.hundredths.power.Tie as tie
+
+shl-result : tie.Need-shl-result
+shl-result c = search needs
+
+returns : tie.Need-returns
+returns c = shifted (c .args .e) (c .pre)
+
+pub power-spec : {M : Type 1} → statement M
+power-spec = tie.close (tie.spec shl-result returns)

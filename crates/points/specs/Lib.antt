@@ -1,0 +1,3 @@
+pub mod Nine
+pub mod Code
+pub mod Point
