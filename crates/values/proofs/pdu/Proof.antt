@@ -1,9 +1,9 @@
+-- `values::pdu` meets its contract.
+-- Assumes nothing.
 use Rattle.values.proofs.Laws.{pdu-switch, pdu-byte, pdu-hundredths, pdu-float}
 use borrow.Author.Needs.{needs}
 use Rattle.values.proofs.pdu.Statement.{statement}
 use Rattle.values.proofs.pdu.Tie as tie
-use Rattle.values.proofs.pdu.Reads as reads
-use Rattle.values.proofs.pdu.Lts as lts
 
 enum-known-d : tie.Need-enum-known-d
 enum-known-d c = search needs

@@ -1,11 +1,9 @@
+-- `values::read` meets its contract.
+-- Assumes nothing.
 use Rattle.values.proofs.Laws.{by-data, with-data, by-bits}
 use borrow.Author.Needs.{needs}
 use Rattle.values.proofs.read.Statement.{statement}
 use Rattle.values.proofs.read.Tie as tie
-use Rattle.values.proofs.read.Reads as reads
-use Rattle.values.proofs.read.Lts as lts
-use Rattle.points.proofs.point.Reads as point-reads
-use Rattle.points.proofs.read.Reads as read-reads
 
 read-requires : tie.Need-read-requires
 read-requires c κs = search needs

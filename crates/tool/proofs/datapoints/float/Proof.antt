@@ -1,10 +1,9 @@
+-- `tool::datapoints::float` meets its contract.
+-- Assumes nothing.
 use Rattle.tool.proofs.PointLaws.{float-is}
 use borrow.Author.Needs.{needs}
 use Rattle.tool.proofs.datapoints.float.Statement.{statement}
 use Rattle.tool.proofs.datapoints.float.Tie as tie
-use Rattle.tool.proofs.datapoints.float.Reads as reads
-use Rattle.tool.proofs.datapoints.float.Lts as lts
-use Rattle.octets.proofs.number.Reads as number-reads
 
 number-requires : tie.Need-number-requires
 number-requires c κs = search needs

@@ -1,12 +1,9 @@
+-- `tool::datapoints::kelindap_point_read` meets its contract.
+-- Assumes nothing.
 use Rattle.tool.proofs.PointLaws.{read-yes, read-no}
 use borrow.Author.Needs.{needs}
 use Rattle.tool.proofs.datapoints.kelindap_point_read.Statement.{statement}
 use Rattle.tool.proofs.datapoints.kelindap_point_read.Tie as tie
-use Rattle.tool.proofs.datapoints.kelindap_point_read.Reads as reads
-use Rattle.tool.proofs.datapoints.kelindap_point_read.Lts as lts
-use Rattle.points.proofs.read.Reads as read-reads
-use Rattle.tool.proofs.datapoints.laid.Reads as laid-reads
-use Rattle.tool.proofs.datapoints.small.Reads as small-reads
 
 read-requires : tie.Need-read-requires
 read-requires c κs = search needs

@@ -1,12 +1,9 @@
+-- `tool::datapoints::kelindap_point_write` meets its contract.
+-- Assumes nothing.
 use Rattle.tool.proofs.PointLaws.{write-25, write-20, write-is, write-no}
 use borrow.Author.Needs.{needs}
 use Rattle.tool.proofs.datapoints.kelindap_point_write.Statement.{statement}
 use Rattle.tool.proofs.datapoints.kelindap_point_write.Tie as tie
-use Rattle.tool.proofs.datapoints.kelindap_point_write.Reads as reads
-use Rattle.tool.proofs.datapoints.kelindap_point_write.Lts as lts
-use Rattle.points.proofs.width.Reads as width-reads
-use Rattle.points.proofs.write.Reads as write-reads
-use Rattle.tool.proofs.datapoints.meant.Reads as meant-reads
 
 width-requires : tie.Need-width-requires
 width-requires c κs = search needs

@@ -1,3 +1,5 @@
+-- `tool::datapoints::laid` meets its contract.
+-- Assumes nothing.
 use mathlib.Core.Path.{_≡_, ap, _∙_}
 use lib.IntN.{ℤ}
 use mir.Syntax.{w32}
@@ -7,11 +9,6 @@ use Rattle.tool.proofs.PointLaws.{laid-by, laid-switch}
 use borrow.Author.Needs.{needs}
 use Rattle.tool.proofs.datapoints.laid.Statement.{statement}
 use Rattle.tool.proofs.datapoints.laid.Tie as tie
-use Rattle.tool.proofs.datapoints.laid.Reads as reads
-use Rattle.tool.proofs.datapoints.laid.Lts as lts
-use Rattle.tool.proofs.datapoints.float.Reads as float-reads
-use Rattle.tool.proofs.datapoints.hundredths.Reads as hundredths-reads
-use Rattle.tool.proofs.datapoints.small.Reads as small-reads
 
 enum-known-d : tie.Need-enum-known-d
 enum-known-d c = search needs

@@ -1,10 +1,9 @@
+-- `tool::datapoints::meant` meets its contract.
+-- Assumes nothing.
 use Rattle.tool.proofs.PointLaws.{meant-9, meant-14, meant-else}
 use borrow.Author.Needs.{needs}
 use Rattle.tool.proofs.datapoints.meant.Statement.{statement}
 use Rattle.tool.proofs.datapoints.meant.Tie as tie
-use Rattle.tool.proofs.datapoints.meant.Reads as reads
-use Rattle.tool.proofs.datapoints.meant.Lts as lts
-use Rattle.points.proofs.point.Reads as point-reads
 
 point-requires : tie.Need-point-requires
 point-requires c κs = search needs
