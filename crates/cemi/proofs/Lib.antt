@@ -10,3 +10,4 @@ pub mod Agains
 pub mod Understood
 pub mod Backs
 pub mod Filled
+pub mod Examples
