@@ -11,3 +11,4 @@ pub mod Understood
 pub mod Backs
 pub mod Filled
 pub mod Examples
+pub mod Dues
