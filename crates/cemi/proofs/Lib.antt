@@ -10,3 +10,5 @@ pub mod Agains
 pub mod Understood
 pub mod Backs
 pub mod Filled
+pub mod Examples
+pub mod Dues

@@ -27,7 +27,7 @@ held : (t : Bool) (k r : ℕ) → 0 < k → cond t r k ≡ 0 → (t ≡ true) ×
 held true k r h e = (refl, e)
 held false k r h e = absurd (omega arith)
 
-either : (a b : Bool) → (a || b) ≡ true → (a ≡ true) ⊎ (b ≡ true)
+pub either : (a b : Bool) → (a || b) ≡ true → (a ≡ true) ⊎ (b ≡ true)
 either true b e = inl refl
 either false b e = inr e
 
