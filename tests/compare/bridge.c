@@ -19,7 +19,7 @@
  *   !                                        goes deeper than the stack, on a board
  *
  * HASH8 is of the whole sheet after the call. Replies are kept until the input runs dry, so a driver may send many
- * commands and then read as many replies. Sheet and buffers stand between guard bytes, an empty run is lent as NULL.
+ * commands and then read as many replies. Sheet, session and buffers stand between guard bytes; an empty run is lent as NULL.
  */
 #define _POSIX_C_SOURCE 200809L
 #include "kelindap.h"
@@ -176,7 +176,12 @@ static lent take_run(uint8_t *room, size_t most, size_t bytes)
 
 static uint8_t sheet_room[GUARD + SHEET + GUARD], apdu_room[GUARD + RUN + GUARD], answer_room[GUARD + RUN + GUARD];
 static lent sheet;
-static kelindap_session session;
+static struct {
+    uint8_t below[GUARD];
+    kelindap_session session;
+    uint8_t above[GUARD];
+} session_room;
+#define session (session_room.session)
 
 /* FNV-1a by words of eight bytes, and each word's upper half brought down, so that no two changes hide each other. */
 static void give_hash(void)
@@ -200,6 +205,7 @@ static void give_session(void)
 {
     /* as it stands in memory: a bool that is neither 0 nor 1 would be seen */
     uint8_t raw[sizeof session];
+    guarded((lent){ (uint8_t *)&session_room + GUARD, sizeof session });
     memcpy(raw, &session, sizeof raw);
     give(raw, sizeof raw);
 }
@@ -443,6 +449,7 @@ static void play(uint8_t command)
 int main(void)
 {
     sheet = lend(sheet_room, 0);
+    lend((uint8_t *)&session_room, sizeof session);
     session = kelindap_fresh();
     while (in_at < in_end || fill())
         play(in[in_at++]);
