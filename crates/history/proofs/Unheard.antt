@@ -15,7 +15,7 @@ use Rattle.pdu.specs.declared.Service.{Service}
 use Rattle.pdu.specs.declared.Pdu.{Pdu}
 use Rattle.pdu.specs.declared.Parsed.the-variants.{Refused}
 use Rattle.pdu.proofs.Truths.{never}
-use Rattle.pdu.proofs.Codes.{has-is, apart}
+use Rattle.pdu.proofs.Codes.{has-is, codes-apart}
 use Rattle.device.specs.Octets.{Octets}
 use Rattle.device.specs.Events.{State}
 use Rattle.device.specs.Asked.{Asked, Takes, Names, Served, Refusal, noRoom, badSheet, badLength, badMode, noSession, Ready, Reads}
@@ -81,5 +81,5 @@ module _ (x : State) (mode g : ℕ) (a out : List ℕ) (accepted : ruleOf (x .sh
         clash : (p : Pdu) → Reads X p → ⊥
         clash p r =
             let s : serviceOf p ≡ k =
-            apart (codeOf a) (serviceOf p) k (code-has a octets (r .reads)) (has-is (rowOf k) (codeOf a) .1 (n .from, n .to)) in
+            codes-apart (codeOf a) (serviceOf p) k (code-has a octets (r .reads)) (has-is (rowOf k) (codeOf a) .1 (n .from, n .to)) in
             not-taken (subst (λ (j : Service). Takes j mode) s (r .takes))

@@ -273,7 +273,7 @@ pub fn description(sheet: &[u8], object: u8, id: u8, index: u8) -> Decision
             object,
             id,
             index,
-            kind: 0,
+            typ: 0,
             maximum: 0,
             access: 0,
         });
@@ -283,7 +283,7 @@ pub fn description(sheet: &[u8], object: u8, id: u8, index: u8) -> Decision
         object: e.object,
         id: e.id,
         index: sheet::rank(sheet, e.object, i) as u8,
-        kind: e.kind,
+        typ: e.kind,
         maximum: e.maximum as u16,
         access: e.levels,
     }))

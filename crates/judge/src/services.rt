@@ -74,7 +74,7 @@ pub fn decide(s: &[u8], level: u8, group: u16, d: &[u8], p: Pdu) -> Decision
             object: _,
             id: _,
             index: _,
-            kind: _,
+            typ: _,
             maximum: _,
             access: _,
         } => refused(8),

@@ -102,8 +102,8 @@ pub found : (k : Service) (c : ℕ) → has (rowOf k) c ≡ true → serviceAt c
 found k c h = let l = all-listed k in find-in services (l .0) k c test (l .1) h
 
 -- NO CODE LIES IN TWO ROWS
-pub apart : (c : ℕ) (j k : Service) → has (rowOf j) c ≡ true → has (rowOf k) c ≡ true → j ≡ k
-apart c j k h g = let e = found j c h in let f = found k c g in cc
+pub codes-apart : (c : ℕ) (j k : Service) → has (rowOf j) c ≡ true → has (rowOf k) c ≡ true → j ≡ k
+codes-apart c j k h g = let e = found j c h in let f = found k c g in cc
 
 -- and the service that a code names has it
 find-has : (ks : List Service) (k : Service) (c : ℕ) → find ks c ≡ Listed k → has (rowOf k) c ≡ true

@@ -23,14 +23,14 @@ In r c = (r .base ≤ c) × (c < r .base + r .span)
 abbrev pub nth : List Service → ℕ → Service
 nth ks i = getD ks i GroupValueRead
 
-abbrev pub apart : Row → Row → Bool
-apart a b = leb (a .base + a .span) (b .base) || leb (b .base + b .span) (a .base)
+abbrev pub rows-apart : Row → Row → Bool
+rows-apart a b = leb (a .base + a .span) (b .base) || leb (b .base + b .span) (a .base)
 
 -- place i lies in the list, and the rows before it lie apart from its row
 abbrev pub clear : List Service → ℕ → Bool
 clear [] i = false
 clear (j ∷ ks) zero = true
-clear (j ∷ ks) (suc i) = apart (rowOf j) (rowOf (nth ks i)) && clear ks i
+clear (j ∷ ks) (suc i) = rows-apart (rowOf j) (rowOf (nth ks i)) && clear ks i
 
 left-of : (a b : Bool) → T (a && b) → T a
 left-of true b t = tt
@@ -55,8 +55,8 @@ has-no r c h = go (leb (r .base) c) (ltb c (r .base + r .span)) refl refl
     go true false p q = refl
     go true true p q = absurd (h (leb-true _ _ p, ltb-true _ _ q))
 
-apart-no : (a b : Row) (c : ℕ) → T (apart a b) → In b c → In a c → ⊥
-apart-no a b c t h = go (leb (a .base + a .span) (b .base)) (leb (b .base + b .span) (a .base)) refl refl t
+rows-apart-no : (a b : Row) (c : ℕ) → T (rows-apart a b) → In b c → In a c → ⊥
+rows-apart-no a b c t h = go (leb (a .base + a .span) (b .base)) (leb (b .base + b .span) (a .base)) refl refl t
   where
     go : (x y : Bool) → leb (a .base + a .span) (b .base) ≡ x → leb (b .base + b .span) (a .base) ≡ y → T (x || y) → In a c → ⊥
     go true y p q u k = let m = leb-true (a .base + a .span) (b .base) p in omega arith
@@ -68,9 +68,9 @@ unfolding find
 found [] i c t h = absurd t
 found (k ∷ ks) zero c t h = simp (has-yes (rowOf k) c h)
 found (j ∷ ks) (suc i) c t h =
-    let a = apart (rowOf j) (rowOf (nth ks i)) in
+    let a = rows-apart (rowOf j) (rowOf (nth ks i)) in
     simp
-    (has-no (rowOf j) c (apart-no (rowOf j) (rowOf (nth ks i)) c (left-of a (clear ks i) t) h))
+    (has-no (rowOf j) c (rows-apart-no (rowOf j) (rowOf (nth ks i)) c (left-of a (clear ks i) t) h))
     (found ks i c (right-of a (clear ks i) t) h)
 
 abbrev pub Outside : List Service → ℕ → Type 0

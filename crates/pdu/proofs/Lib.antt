@@ -1,3 +1,5 @@
+-- Promises, named in docs/PROMISES.md: Codes, Founds, Outcomes, Refusals, Only, Filled, Back, Again, Vectors; and to the layers above Readings, Writing, Allowed and Truths.
+-- All others are laws behind them or behind the contracts.
 pub mod Arms
 pub mod Find
 pub mod Reading

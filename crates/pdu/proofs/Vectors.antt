@@ -110,6 +110,6 @@ refusals =
     []
 
 -- AND THESE ARE REFUSED BY THAT NUMBER
-pub refused : map (λ (x : Refusal). readOutcome (readPdu (x .apdu))) refusals ≡ map (λ (x : Refusal). x .number) refusals
+pub vectors-refused : map (λ (x : Refusal). readOutcome (readPdu (x .apdu))) refusals ≡ map (λ (x : Refusal). x .number) refusals
 unfolding readPdu find numAt lowAt fourAt twelveAt
-refused = refl
+vectors-refused = refl

@@ -34,9 +34,9 @@ pub wrote-3 : (p : Pdu) (d o : List ℕ) → length o < 16 → Wrote p d o (Refu
 unfolding writeOf
 wrote-3 p d o h = record { result = simp (lt-ltb _ _ h); buffer = refl }
 
-refused : (p : Pdu) (d o : List ℕ) → 16 ≤ length o → writable p d ≡ false → Wrote p d o (Refused 13) o
+wrote-refused : (p : Pdu) (d o : List ℕ) → 16 ≤ length o → writable p d ≡ false → Wrote p d o (Refused 13) o
 unfolding writeOf
-refused p d o h e = record { result = simp (le-ltb _ _ h, e); buffer = refl }
+wrote-refused p d o h e = record { result = simp (le-ltb _ _ h, e); buffer = refl }
 
 and-false : (a : Bool) → (a && false) ≡ false
 and-false true = refl
@@ -45,13 +45,13 @@ and-false false = refl
 module _ (p : Pdu) (d o : List ℕ) (a : ℕ) (h : 16 ≤ length o) (e : a ≡ dataAt p) where
   pub wrote-long : 16 < a + length d → Wrote p d o (Refused 13) o
   unfolding writable
-  wrote-long l = refused p d o h (let k : 16 < dataAt p + length d = rw e at l in simp (lt-leb _ _ k))
+  wrote-long l = wrote-refused p d o h (let k : 16 < dataAt p + length d = rw e at l in simp (lt-leb _ _ k))
 
   pub wrote-13 : (b : Bool) → b ≡ fitsIn p (a + length d) → b ≡ false → Wrote p d o (Refused 13) o
   unfolding writable
   wrote-13 b f t =
       let g : fitsIn p (dataAt p + length d) ≡ false = sym (rw e at f) ∙ t in
-      refused p d o h (ap (λ (t : Bool). leb (dataAt p + length d) 16 && t) g ∙ and-false (leb (dataAt p + length d) 16))
+      wrote-refused p d o h (ap (λ (t : Bool). leb (dataAt p + length d) 16 && t) g ∙ and-false (leb (dataAt p + length d) 16))
 
   pub wrote-all :
       (o₂ : List ℕ) (b : Bool) (n : ℕ) →

@@ -5,9 +5,9 @@ use mathlib.Core.List.{List, [], _∷_}
 use mathlib.Core.Bool.{Bool, cond}
 use lib.Dec.{eqb}
 
--- The names of the fields, as the table has them. V6 is v, the six bits of a group value; Kind is a property's type.
+-- The names of the fields, as the table has them. V6 is v, the six bits of a group value; Typ is a property's type.
 pub data Name : Type 0 where
-  V6 Address Serial Domain T Object Id N S Index Kind Maximum Access Level Key : Name
+  V6 Address Serial Domain T Object Id N S Index Typ Maximum Access Level Key : Name
 
 -- each by a number of its own
 abbrev pub nameNumber : Name → ℕ
@@ -21,7 +21,7 @@ nameNumber Id = 6
 nameNumber N = 7
 nameNumber S = 8
 nameNumber Index = 9
-nameNumber Kind = 10
+nameNumber Typ = 10
 nameNumber Maximum = 11
 nameNumber Access = 12
 nameNumber Level = 13

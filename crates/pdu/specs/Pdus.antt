@@ -1,7 +1,7 @@
 -- The PDUs: the service and the named fields of each.
 -- Assumes nothing.
 use mathlib.Core.List.{List, [], _∷_}
-use Rattle.pdu.specs.Item.{Value, _≔_, the, V6, Address, Serial, Domain, T, Object, Id, N, S, Index, Kind, Maximum, Access, Level, Key}
+use Rattle.pdu.specs.Item.{Value, _≔_, the, V6, Address, Serial, Domain, T, Object, Id, N, S, Index, Typ, Maximum, Access, Level, Key}
 use Rattle.pdu.specs.declared.Service.{Service}
 use Rattle.pdu.specs.declared.Service.the-variants as svc
 use Rattle.pdu.specs.declared.Pdu.{Pdu}
@@ -29,7 +29,7 @@ serviceOf IndividualAddressResponse = svc.IndividualAddressResponse
 serviceOf (SerialNumberResponse serial domain) = svc.SerialNumberResponse
 serviceOf (DeviceDescriptorResponse t) = svc.DeviceDescriptorResponse
 serviceOf (PropertyValueResponse object id n s) = svc.PropertyValueResponse
-serviceOf (PropertyDescriptionResponse object id index kind maximum access) = svc.PropertyDescriptionResponse
+serviceOf (PropertyDescriptionResponse object id index typ maximum access) = svc.PropertyDescriptionResponse
 serviceOf (MemoryResponse n address) = svc.MemoryResponse
 serviceOf (AuthorizeResponse level) = svc.AuthorizeResponse
 serviceOf (KeyResponse level) = svc.KeyResponse
@@ -57,8 +57,8 @@ valuesOf IndividualAddressResponse = []
 valuesOf (SerialNumberResponse serial domain) = Serial ≔ serial ∷ Domain ≔ domain ∷ []
 valuesOf (DeviceDescriptorResponse t) = T ≔ t ∷ []
 valuesOf (PropertyValueResponse object id n s) = Object ≔ object ∷ Id ≔ id ∷ N ≔ n ∷ S ≔ s ∷ []
-valuesOf (PropertyDescriptionResponse object id index kind maximum access) =
-    Object ≔ object ∷ Id ≔ id ∷ Index ≔ index ∷ Kind ≔ kind ∷ Maximum ≔ maximum ∷ Access ≔ access ∷ []
+valuesOf (PropertyDescriptionResponse object id index typ maximum access) =
+    Object ≔ object ∷ Id ≔ id ∷ Index ≔ index ∷ Typ ≔ typ ∷ Maximum ≔ maximum ∷ Access ≔ access ∷ []
 valuesOf (MemoryResponse n address) = N ≔ n ∷ Address ≔ address ∷ []
 valuesOf (AuthorizeResponse level) = Level ≔ level ∷ []
 valuesOf (KeyResponse level) = Level ≔ level ∷ []
@@ -87,7 +87,7 @@ pduOf svc.SerialNumberResponse x = SerialNumberResponse (the x Serial) (the x Do
 pduOf svc.DeviceDescriptorResponse x = DeviceDescriptorResponse (the x T)
 pduOf svc.PropertyValueResponse x = PropertyValueResponse (the x Object) (the x Id) (the x N) (the x S)
 pduOf svc.PropertyDescriptionResponse x =
-    PropertyDescriptionResponse (the x Object) (the x Id) (the x Index) (the x Kind) (the x Maximum) (the x Access)
+    PropertyDescriptionResponse (the x Object) (the x Id) (the x Index) (the x Typ) (the x Maximum) (the x Access)
 pduOf svc.MemoryResponse x = MemoryResponse (the x N) (the x Address)
 pduOf svc.AuthorizeResponse x = AuthorizeResponse (the x Level)
 pduOf svc.KeyResponse x = KeyResponse (the x Level)

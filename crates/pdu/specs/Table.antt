@@ -4,7 +4,7 @@ use Prim.Native.Nat.{ℕ, _+_}
 use mathlib.Core.List.{List, [], _∷_}
 use mathlib.Core.Bool.{Bool, cond, _&&_}
 use lib.Dec.{leb, ltb}
-use Rattle.pdu.specs.Item.{low, num, cap, duo, skip, none, by, twice, between, group, Row, row, V6, Address, Serial, Domain, T, Object, Id, N, S, Index, Kind, Maximum, Access, Level, Key}
+use Rattle.pdu.specs.Item.{low, num, cap, duo, skip, none, by, twice, between, group, Row, row, V6, Address, Serial, Domain, T, Object, Id, N, S, Index, Typ, Maximum, Access, Level, Key}
 use Rattle.pdu.specs.declared.Service.{Service}
 use Rattle.pdu.specs.declared.Service.the-variants.{GroupValueRead, GroupValueResponse, GroupValueWrite, IndividualAddressWrite, IndividualAddressRead, SerialNumberRead, SerialNumberWrite, DeviceDescriptorRead, PropertyValueRead, PropertyValueWrite, PropertyDescriptionRead, MemoryRead, MemoryWrite, MemoryBitWrite, AuthorizeRequest, KeyWrite, Restart, IndividualAddressResponse, SerialNumberResponse, DeviceDescriptorResponse, PropertyValueResponse, PropertyDescriptionResponse, MemoryResponse, AuthorizeResponse, KeyResponse}
 use Rattle.pdu.specs.declared.Found.{Found}
@@ -34,7 +34,7 @@ rowOf IndividualAddressResponse = row 0x140 1 [] none
 rowOf SerialNumberResponse = row 0x3DD 1 (cap Serial 6 281474976710656 ∷ num Domain 2 ∷ skip 2 ∷ []) none
 rowOf DeviceDescriptorResponse = row 0x340 64 (low T 64 ∷ []) (between 0 14)
 rowOf PropertyValueResponse = row 0x3D6 1 (num Object 1 ∷ num Id 1 ∷ duo N S ∷ []) (between 0 10)
-rowOf PropertyDescriptionResponse = row 0x3D9 1 (num Object 1 ∷ num Id 1 ∷ num Index 1 ∷ num Kind 1 ∷ cap Maximum 2 4096 ∷ num Access 1 ∷ []) none
+rowOf PropertyDescriptionResponse = row 0x3D9 1 (num Object 1 ∷ num Id 1 ∷ num Index 1 ∷ num Typ 1 ∷ cap Maximum 2 4096 ∷ num Access 1 ∷ []) none
 rowOf MemoryResponse = row 0x240 16 (low N 16 ∷ num Address 2 ∷ []) (by N)
 rowOf AuthorizeResponse = row 0x3D2 1 (num Level 1 ∷ []) none
 rowOf KeyResponse = row 0x3D4 1 (num Level 1 ∷ []) none

@@ -80,15 +80,15 @@ fn described(
     object: u8,
     id: u8,
     index: u8,
-    kind: u8,
+    typ: u8,
     maximum: u16,
     access: u8,
 )
     requires { ⌜ 16 ≤ length (now out) ⌝ }
-    ensures { λ _. ⌜ now (out .exit) ≡ splice (now (out .entry)) 0 (bytesOf 2 code ++ (bytesOf 1 object ++ (bytesOf 1 id ++ (bytesOf 1 index ++ (bytesOf 1 kind ++ (bytesOf 2 maximum ++ (bytesOf 1 access ++ []))))))) ⌝ }
+    ensures { λ _. ⌜ now (out .exit) ≡ splice (now (out .entry)) 0 (bytesOf 2 code ++ (bytesOf 1 object ++ (bytesOf 1 id ++ (bytesOf 1 index ++ (bytesOf 1 typ ++ (bytesOf 2 maximum ++ (bytesOf 1 access ++ []))))))) ⌝ }
 {
     asked(out, code, object, id, index);
-    put(out, 5, 1, kind as u64);
+    put(out, 5, 1, typ as u64);
     put(out, 6, 2, maximum as u64);
     put(out, 8, 1, access as u64);
 }
@@ -124,10 +124,10 @@ pub(crate) fn put_head(pdu: Pdu, out: &mut [u8])
             object,
             id,
             index,
-            kind,
+            typ,
             maximum,
             access,
-        } => described(out, 0x3D9, object, id, index, kind, maximum, access),
+        } => described(out, 0x3D9, object, id, index, typ, maximum, access),
         Pdu::MemoryResponse { n, address } => one(out, 0x240 + (n as u64), 2, address as u64),
         Pdu::AuthorizeResponse { level } => one(out, 0x3D2, 1, level as u64),
         Pdu::KeyResponse { level } => one(out, 0x3D4, 1, level as u64),

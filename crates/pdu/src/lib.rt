@@ -127,7 +127,7 @@ pub enum Pdu {
         object: u8,
         id: u8,
         index: u8,
-        kind: u8,
+        typ: u8,
         maximum: u16,
         access: u8,
     },

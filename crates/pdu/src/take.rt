@@ -167,7 +167,7 @@ pub(crate) fn property_description_response(s: &[u8]) -> Pdu
         object: byte(s, OBJECT),
         id: byte(s, ID),
         index: byte(s, 4),
-        kind: byte(s, 5),
+        typ: byte(s, 5),
         maximum: word(s, 6),
         access: byte(s, 8),
     }

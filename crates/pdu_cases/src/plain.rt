@@ -54,10 +54,10 @@ fn property(kind: usize, object: u8, id: u8, c: u8, d: u16) -> Fields {
     }
 }
 
-fn described(object: u8, id: u8, index: u8, kind: u8, maximum: u16, access: u8) -> Fields {
+fn described(object: u8, id: u8, index: u8, typ: u8, maximum: u16, access: u8) -> Fields {
     let f = property(21, object, id, index, 0);
     let mut x = f.x;
-    x[3] = kind as u64;
+    x[3] = typ as u64;
     x[4] = maximum as u64;
     x[5] = access as u64;
     Fields { kind: 21, x }
@@ -90,10 +90,10 @@ fn apart(p: Pdu) -> Fields {
             object,
             id,
             index,
-            kind,
+            typ,
             maximum,
             access,
-        } => described(object, id, index, kind, maximum, access),
+        } => described(object, id, index, typ, maximum, access),
         Pdu::MemoryResponse { n, address } => memory(22, n, address),
         Pdu::AuthorizeResponse { level } => one(23, level as u64),
         Pdu::KeyResponse { level } => one(24, level as u64),
@@ -166,7 +166,7 @@ fn built_property(kind: usize, x: [u64; 6]) -> Pdu {
             object,
             id,
             index: n,
-            kind: byte(x[3]),
+            typ: byte(x[3]),
             maximum: word(x[4]),
             access: byte(x[5]),
         },

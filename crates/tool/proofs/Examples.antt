@@ -21,8 +21,8 @@ pub record Example : Type 0 where
   pub apdu : List ℕ
 
 -- its kind and fields in the order of the header's table: v, t, level; serial, address, domain, key; object, id, n, s; index, type, maximum, access; and where the data starts
-abbrev example : (kind v t level serial address domain key object id n s index class maximum access at : ℕ) → List ℕ → List ℕ → Example
-example kind v t level serial address domain key object id n s index class maximum access at rest apdu =
+abbrev example : (kind v t level serial address domain key object id n s index typ maximum access at : ℕ) → List ℕ → List ℕ → Example
+example kind v t level serial address domain key object id n s index typ maximum access at rest apdu =
     record {
       flat =
           record {
@@ -40,7 +40,7 @@ example kind v t level serial address domain key object id n s index class maxim
             id = id;
             n = n;
             index = index;
-            class = class;
+            typ = typ;
             access = access;
             level = level;
             «data_offset» = at;

@@ -1,3 +1,4 @@
+-- Promises, named in docs/PROMISES.md: Means, Returned, Examples. Arms has the laws behind the contracts.
 pub mod Arms
 pub mod Means
 pub mod Returned

@@ -12,7 +12,7 @@ use borrow.Author.Tests.{eq-eqb, eqb-true}
 use lib.Dec.{eqb, ltb}
 use lib.ListN.{length, take, drop, getElem?, length-drop}
 use lib.Seq.{take-all}
-use Rattle.pdu.specs.Item.{Name, Item, low, num, cap, duo, skip, Value, _≔_, the, nameNumber, same, V6, Address, Serial, Domain, T, Object, Id, N, S, Index, Kind, Maximum, Access, Level, Key}
+use Rattle.pdu.specs.Item.{Name, Item, low, num, cap, duo, skip, Value, _≔_, the, nameNumber, same, V6, Address, Serial, Domain, T, Object, Id, N, S, Index, Typ, Maximum, Access, Level, Key}
 use Rattle.pdu.specs.Table.{rowOf, services}
 use Rattle.pdu.specs.Pdus.{serviceOf, valuesOf, pduOf}
 use Rattle.pdu.specs.Read.{readPdu, dataAt, dataOf}
@@ -72,7 +72,7 @@ fields-back k x at n Id = refl
 fields-back k x at n N = refl
 fields-back k x at n S = refl
 fields-back k x at n Index = refl
-fields-back k x at n Kind = refl
+fields-back k x at n Typ = refl
 fields-back k x at n Maximum = refl
 fields-back k x at n Access = refl
 fields-back k x at n Level = refl
@@ -125,7 +125,7 @@ typed svc.IndividualAddressResponse f c = tt
 typed svc.SerialNumberResponse f c = (tt, (c .domain, (tt, tt)))
 typed svc.DeviceDescriptorResponse f c = (tt, tt)
 typed svc.PropertyValueResponse f c = (c .object, (c .id, (tt, tt)))
-typed svc.PropertyDescriptionResponse f c = (c .object, (c .id, (c .index, (c .class, (tt, (c .access, tt))))))
+typed svc.PropertyDescriptionResponse f c = (c .object, (c .id, (c .index, (c .typ, (tt, (c .access, tt))))))
 typed svc.MemoryResponse f c = (tt, (c .address, tt))
 typed svc.AuthorizeResponse f c = (c .level, tt)
 typed svc.KeyResponse f c = (c .level, tt)

@@ -21,7 +21,7 @@ pub record InC (f : FlatPdu) : Type 0 where
   pub object : f .object < 256
   pub id : f .id < 256
   pub index : f .index < 256
-  pub class : f .class < 256
+  pub typ : f .typ < 256
   pub access : f .access < 256
   pub level : f .level < 256
 

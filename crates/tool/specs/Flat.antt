@@ -7,7 +7,7 @@ use mathlib.Core.List.{List, [], _∷_}
 use mathlib.Core.Option.{Option, none, some}
 use lib.ListN.{length, getElem?}
 use lib.Dec.{eqb, ltb}
-use Rattle.pdu.specs.Item.{Value, _≔_, the, V6, Address, Serial, Domain, T, Object, Id, N, S, Index, Kind, Maximum, Access, Level, Key}
+use Rattle.pdu.specs.Item.{Value, _≔_, the, V6, Address, Serial, Domain, T, Object, Id, N, S, Index, Typ, Maximum, Access, Level, Key}
 use Rattle.pdu.specs.Table.{rowOf, services}
 use Rattle.pdu.specs.Pdus.{serviceOf, valuesOf, pduOf}
 use Rattle.pdu.specs.Read.{readPdu, dataAt}
@@ -49,7 +49,7 @@ laid k x at n =
       id = the x Id;
       n = the x N;
       index = the x Index;
-      class = the x Kind;
+      typ = the x Typ;
       access = the x Access;
       level = the x Level;
       «data_offset» = at;
@@ -82,7 +82,7 @@ refusal n =
       id = 0;
       n = 0;
       index = 0;
-      class = 0;
+      typ = 0;
       access = 0;
       level = 0;
       «data_offset» = 0;
@@ -110,7 +110,7 @@ fieldsIn f =
     N ≔ f .n ∷
     S ≔ f .s ∷
     Index ≔ f .index ∷
-    Kind ≔ f .class ∷
+    Typ ≔ f .typ ∷
     Maximum ≔ f .maximum ∷
     Access ≔ f .access ∷
     Level ≔ f .level ∷

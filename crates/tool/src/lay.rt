@@ -1,7 +1,7 @@
 // A PDU laid flat: its kind and its fields, and all else 0.
 ghost use mathlib.Core.Path.{_≡_};
 ghost use mathlib.Core.List.{[], _∷_};
-ghost use Rattle.pdu.specs.Item.{_≔_, V6, Address, Serial, Domain, T, Object, Id, N, S, Index, Kind, Maximum, Access, Level, Key};
+ghost use Rattle.pdu.specs.Item.{_≔_, V6, Address, Serial, Domain, T, Object, Id, N, S, Index, Typ, Maximum, Access, Level, Key};
 ghost use Rattle.pdu.specs.Pdus.{serviceOf, valuesOf};
 ghost use Rattle.pdu.specs.Read.{readPdu};
 ghost use Rattle.pdu.specs.declared.Parsed.the-variants.{Is};
@@ -28,7 +28,7 @@ fn none(kind: u8) -> FlatPdu
         id: 0,
         n: 0,
         index: 0,
-        class: 0,
+        typ: 0,
         access: 0,
         level: 0,
         data_offset: 0,
@@ -103,15 +103,15 @@ fn description(
     object: u8,
     id: u8,
     index: u8,
-    class: u8,
+    typ: u8,
     maximum: u16,
     access: u8,
 ) -> FlatPdu
-    ensures { λ r. ⌜ r ≡ laid kind (Object ≔ object ∷ Id ≔ id ∷ Index ≔ index ∷ Kind ≔ class ∷ Maximum ≔ maximum ∷ Access ≔ access ∷ []) 0 0 ⌝ }
+    ensures { λ r. ⌜ r ≡ laid kind (Object ≔ object ∷ Id ≔ id ∷ Index ≔ index ∷ Typ ≔ typ ∷ Maximum ≔ maximum ∷ Access ≔ access ∷ []) 0 0 ⌝ }
 {
     let mut f = entry(kind, object, id);
     f.index = index;
-    f.class = class;
+    f.typ = typ;
     f.maximum = maximum;
     f.access = access;
     f
@@ -167,10 +167,10 @@ fn flat(p: Pdu) -> FlatPdu
             object,
             id,
             index,
-            kind,
+            typ,
             maximum,
             access,
-        } => description(21, object, id, index, kind, maximum, access),
+        } => description(21, object, id, index, typ, maximum, access),
         Pdu::MemoryResponse { n, address } => memory(22, n, address),
         Pdu::AuthorizeResponse { level } => key(23, level, 0),
         Pdu::KeyResponse { level } => key(24, level, 0),

@@ -14,7 +14,7 @@ mod frames;
 mod lay;
 mod mean;
 
-// A PDU laid flat, in the order of include/kelindap_pdu.h, whose `type` is `class` here.
+// A PDU laid flat, in the order of include/kelindap_pdu.h, whose `type` is `typ` here.
 #[repr(C)]
 pub struct FlatPdu {
     pub serial: u64,
@@ -31,7 +31,7 @@ pub struct FlatPdu {
     pub id: u8,
     pub n: u8,
     pub index: u8,
-    pub class: u8,
+    pub typ: u8,
     pub access: u8,
     pub level: u8,
     pub data_offset: usize,

@@ -75,7 +75,7 @@ pub fn meant(f: FlatPdu) -> Meant
             object,
             id,
             index: f.index,
-            kind: f.class,
+            typ: f.typ,
             maximum: f.maximum,
             access: f.access,
         }),
