@@ -9,6 +9,7 @@ use Rattle.sheet.specs.Kind.{kinds, OfKind}
 use Rattle.sheet.specs.Entries.{count, size, entry, keyOf, offsetOf, lengthOf}
 use Rattle.sheet.specs.Rules.{frameDemands}
 use Rattle.sheet.specs.declared.judge.Judged.{Judged}
+use Rattle.sheet.specs.declared.judge.Laid.{Laid}
 use Rattle.sheet.specs.Region as region
 
 -- S1 to S4 of an edition hold
@@ -55,4 +56,10 @@ pub record Long (k : ℕ) (e : List ℕ) (r : ℕ) : Type 0 where
 -- the first rule that some rows break, and n
 pub record Says (ds : List Demand) (n : ℕ) (r : Judged) : Type 0 where
   pub rule : Tells (r .rule) ds
+  pub next : r .next ≡ n
+
+-- whether some rows hold, told by 0, and n
+pub record Lies (ds : List Demand) (n : ℕ) (r : Laid) : Type 0 where
+  pub even : r .odd ≡ 0 → Met ds
+  pub met : Met ds → r .odd ≡ 0
   pub next : r .next ≡ n

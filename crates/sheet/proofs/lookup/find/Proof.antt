@@ -11,7 +11,7 @@ pub find-spec : {M : Type 1} → statement M
 find-spec =
     tie.close
     (tie.spec
-    (λ c κs. search ok-framed)
+    (λ c κs. search (ok-framed, needs))
     (λ c κs. search needs)
     (λ c. search half-past)
     (λ c κs. search (ok-entry, needs))

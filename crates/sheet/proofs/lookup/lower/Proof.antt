@@ -20,7 +20,7 @@ lower-spec =
     (tie.spec
     Inv-loop
     μ-loop
-    (λ c κs. search ok-framed)
+    (λ c κs. search (ok-framed, needs))
     (λ c. search halves-begin)
     (λ c. omega arith)
     (λ c. omega arith)

@@ -12,7 +12,7 @@ pub nth-spec : {M : Type 1} → statement M
 nth-spec =
     tie.close
     (tie.spec
-    (λ c κs. search ok-framed)
+    (λ c κs. search (ok-framed, needs))
     (λ c. search needs)
     (λ c κs. search needs)
     (λ c. search needs)
