@@ -6,14 +6,23 @@ use mathlib.Core.List.{List}
 use lib.ListN.{length, take, drop, length-take, length-drop}
 use native.Mathlib.Nat.{add-sub-cancel-left}
 use native.Mathlib.Omega.{arith}
-use Rattle.sheet.specs.Kind.{OfKind}
+use Rattle.octets.specs.Bytes.{numAt}
+use Rattle.sheet.specs.Kind.{kinds, OfKind}
 use Rattle.sheet.specs.Region as region
 use Rattle.sheet.specs.Entries.{count, size, place, contents, entry, offsetOf}
-use Rattle.sheet.specs.Walk.{Entry, Counted, Starts, Shown}
+use Rattle.sheet.specs.Walk.{Framed, Entry, Counted, Starts, Shown}
 use Rattle.sheet.proofs.ByKind.{eachKind, kinded, at-kind}
 
-pub counted : {s : List ℕ} {k r : ℕ} → OfKind r k (count s 0) (count s 1) (count s 2) → r ≤ 64 → Counted s k r
-counted o h = record { is = kinded o; few = h }
+-- the numbers of entries stand one after the other
+pub counted : (s : List ℕ) (k r : ℕ) → Framed 1 s → k < kinds → r ≡ numAt s (1 + k) 1 → Counted s k r
+counted s k r f h e =
+    eachKind (λ (j : ℕ). r ≡ numAt s (1 + j) 1 → Counted s j r)
+    (λ q. record { is = q; few = omega (arith, f .rows) })
+    (λ q. record { is = q; few = omega (arith, f .rows) })
+    (λ q. record { is = q; few = omega (arith, f .rows) })
+    k
+    h
+    e
 
 pub starts : {k r : ℕ} {e : List ℕ} → OfKind r k (offsetOf 0 e) (offsetOf 1 e) (offsetOf 2 e) → r < 65536 → Starts k e r
 starts o h = record { is = kinded o; below = h }

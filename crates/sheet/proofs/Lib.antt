@@ -20,9 +20,11 @@ pub mod Seeks
 pub mod Keys
 pub mod Ranks
 pub mod Seek
+pub mod Halves
+pub mod Objects
 pub mod Fields
-pub mod Loops
 pub mod Runs
+pub mod Loops
 pub mod RankBound
 pub mod Sames
 pub mod Frames

@@ -1,64 +1,33 @@
--- Properties counted within an object, and address ranges found, as loops do it.
+-- Address ranges found as the code does it: by halves up to the entries that begin past the address, then one by one.
 -- Assumes nothing.
 use Prim.Native.Nat.{ℕ, _+_, _-_, _≤_, _<_}
-use mathlib.Core.Path.{_≡_, refl, sym, _∙_, ap, ap₂}
+use mathlib.Core.Path.{_≡_, refl, sym, _∙_, ap}
 use mathlib.Core.List.{List}
-use mathlib.Core.Bool.{Bool, true, false, cond, _&&_, true≢false}
-use lib.Dec.{eqb, leb}
-use borrow.Author.Tests.{le-leb, lt-leb, lt-ltb, le-ltb}
-use native.Mathlib.Decide.{decLe}
-use native.Mathlib.Numerals.{add-one}
+use mathlib.Core.Bool.{Bool, true, false, true≢false}
+use lib.Dec.{leb}
+use borrow.Author.Tests.{le-leb, lt-leb, lt-ltb}
+use native.Mathlib.Decide.{decLe, decLt}
 use native.Mathlib.Omega.{arith}
-use Rattle.sheet.specs.Kind.{properties}
+use Rattle.sheet.specs.Kind.{regions, properties, kinds}
 use Rattle.sheet.specs.Layout.{_of_}
 use Rattle.sheet.specs.Region as region
 use Rattle.sheet.specs.Property as property
-use Rattle.sheet.specs.Entries.{count, entry}
-use Rattle.sheet.specs.Lookup.{objectAt, rank, nthOf, seek, covers, runIn, rangeOf}
-use Rattle.sheet.specs.Walk.{Counted}
+use Rattle.sheet.specs.Entries.{count, entry, keyOf}
+use Rattle.sheet.specs.Lookup.{objectAt, covers, runIn, rangeOf}
+use Rattle.sheet.specs.Rules.{ruleOf}
+use Rattle.sheet.specs.Walk.{Entry, Lower}
 use Rattle.sheet.specs.declared.Run.{Run}
 use Rattle.sheet.specs.declared.Run.the-variants.{At, Nowhere}
-use Rattle.sheet.proofs.Seek.{Missed, missed, hit, ended}
+use Rattle.sheet.proofs.Good.{Good, good}
+use Rattle.sheet.proofs.Keys.{key-rising}
+use Rattle.sheet.proofs.Runs.{Covered, covering, covered, regions-apart, range-none}
+use Rattle.sheet.proofs.Seek.{Missed, missed, ok-framed, key-word}
+use Rattle.sheet.proofs.Seeks.{seek-first}
 
+-- the object of a property
 pub object-of : (s : List ℕ) (i : ℕ) (e : List ℕ) (r : ℕ) → e ≡ entry s properties i → r ≡ property.object of e → r ≡ objectAt s i
 unfolding objectAt
 object-of s i e r q p = rw q at p
-
--- THE INVARIANT of a count: r of the first i properties have the object
-pub record Ranked (s : List ℕ) (object i r : ℕ) : Type 0 where
-  pub is : r ≡ rank s object i
-  pub low : r ≤ i
-
-module _ (s : List ℕ) (object : ℕ) where
-  pub rank-none : Ranked s object 0 0
-  unfolding rank
-  rank-none = record { is = refl; low = omega arith }
-
-  pub rank-more :
-      (i r a b : ℕ) → Ranked s object i r → a ≡ objectAt s i → b ≡ cond (eqb a object) 1 0 → b ≤ 1 → Ranked s object (i + 1) (r + b)
-  unfolding rank
-  rank-more i r a b h e q l =
-      record { is = rw (add-one i, ← e, ← q) (ap (λ (x : ℕ). x + b) (h .is)); low = omega (arith, h .low) }
-
--- the search by object and index
-abbrev pub isNth : List ℕ → ℕ → ℕ → ℕ → Bool
-isNth s object index i = eqb (objectAt s i) object && eqb (rank s object i) index
-
-module _ (s : List ℕ) (object index n i r a : ℕ) (t : Bool) (c : Counted s properties n) (m : Missed (isNth s object index) n i)
-    (h : Ranked s object i r) (ea : a ≡ objectAt s i) (et : t ≡ (eqb a object && eqb r index)) where
-  told : t ≡ isNth s object index i
-  told = et ∙ ap₂ (λ (x y : ℕ). eqb x object && eqb y index) ea (h .is)
-
-  pub nth-found : i < n → t ≡ true → i ≡ nthOf s object index
-  unfolding nthOf
-  nth-found l q = rw (← c .is) (hit (isNth s object index) n i m l (sym told ∙ q))
-
-  pub nth-missed : i < n → t ≡ false → Missed (isNth s object index) n (i + 1)
-  nth-missed l q = missed (isNth s object index) n i m l (sym told ∙ q)
-
-pub nth-ended : (s : List ℕ) (object index n i : ℕ) → Counted s properties n → Missed (isNth s object index) n i → n ≤ i → i ≡ nthOf s object index
-unfolding nthOf
-nth-ended s object index n i c m l = rw (← c .is) (ended (isNth s object index) n i m l)
 
 -- an address range in a region
 module _ (e : List ℕ) (a n : ℕ) where
@@ -85,21 +54,47 @@ run-is e a x y z p q r = rw (p, q, r)
 abbrev pub isRange : List ℕ → ℕ → ℕ → ℕ → ℕ → Bool
 isRange s k a n i = covers (entry s k i) a n
 
-module _ (s : List ℕ) (k a n all i : ℕ) (c : Counted s k all) (m : Missed (isRange s k a n) all i) where
-  pub range-found : (e : List ℕ) (t : Bool) (r : Run) → i < all → e ≡ entry s k i → t ≡ covers e a n → t ≡ true → r ≡ runIn e a → r ≡ rangeOf s k a n
-  unfolding rangeOf
-  range-found e t r l ee et h q =
-      let at : i ≡ seek (isRange s k a n) 0 (count s k) =
-      rw (← c .is) (hit (isRange s k a n) all i m l (ap (λ (x : List ℕ). covers x a n) (sym ee) ∙ sym et ∙ h)) in
-      let below : i < count s k = omega (arith, c .is) in
-      rw (← at, lt-ltb i (count s k) below, ← ee) q
+-- a range that is not within a region, either way
+not-covers : (e : List ℕ) (a n : ℕ) → (region.address of e ≤ a → a + n ≤ region.address of e + region.length of e → ⊥) → covers e a n ≡ false
+not-covers e a n f = go (covers e a n) refl
+  where
+    go : (t : Bool) → covers e a n ≡ t → t ≡ false
+    go true q = let c = covering e a n q in absurd (f (c .0) (c .1))
+    go false q = refl
 
-  pub range-missed : (e : List ℕ) (t : Bool) → i < all → e ≡ entry s k i → t ≡ covers e a n → t ≡ false → Missed (isRange s k a n) all (i + 1)
-  range-missed e t l ee et h = missed (isRange s k a n) all i m l (ap (λ (x : List ℕ). covers x a n) (sym ee) ∙ sym et ∙ h)
+module _ (s : List ℕ) (ok : ruleOf s ≡ 0) (k : ℕ) (hk : k < kinds) (a n end : ℕ) (low : Lower s k (a + 1) end) where
+  pub range-there : (i : ℕ) → i < end → Entry s k i
+  range-there i h = record { framed = ok-framed s ok; kind = hk; below = omega (arith, low .within) }
 
-  pub range-ended : all ≤ i → Nowhere ≡ rangeOf s k a n
-  unfolding rangeOf
-  range-ended l =
-      let at : i ≡ seek (isRange s k a n) 0 (count s k) = rw (← c .is) (ended (isRange s k a n) all i m l) in
-      let past : count s k ≤ i = omega (arith, c .is) in
-      rw (← at, le-ltb i (count s k) past)
+  -- no region before the last but one that begin at the address or below reaches it
+  pub range-begins : (i : ℕ) → (i ≤ end) × (0 < i → (k ≡ regions) × (i + 2 ≤ end)) → Missed (isRange s k a n) end i
+  range-begins i h = record { within = h .0; none = λ j l. short j l (h .1 (omega arith)) }
+    where
+      short : (j : ℕ) → j < i → (k ≡ regions) × (i + 2 ≤ end) → covers (entry s k j) a n ≡ false
+      short j l (e, b) =
+          let g = good 1 s ok in
+          let w : end ≤ count s regions = rw e at (low .within) in
+          let last : keyOf s regions (end - 1) < a + 1 = rw e at (low .before (end - 1) (omega arith)) in
+          let apart = regions-apart g j (j + 1) (omega arith) (omega arith) in
+          let up = key-rising g regions (omega arith) (j + 1) (end - 1) (omega arith) (omega arith) in
+          let word = key-word s regions (j + 1) in
+          rw e (not-covers (entry s regions j) a n (λ p q. omega (arith, apart, up, word)))
+
+  module _ (i : ℕ) (m : Missed (isRange s k a n) end i) where
+    pub range-found : (e : List ℕ) (t : Bool) (r : Run) → i < end → e ≡ entry s k i → t ≡ covers e a n → t ≡ true → r ≡ runIn e a → r ≡ rangeOf s k a n
+    unfolding rangeOf
+    range-found e t r l ee et h q =
+        let below : i < count s k = omega (arith, low .within) in
+        let at = seek-first (isRange s k a n) (count s k) i below (ap (λ (x : List ℕ). covers x a n) (sym ee) ∙ sym et ∙ h) (m .none) in
+        rw (at, lt-ltb i (count s k) below, ← ee) q
+
+    pub range-missed : (e : List ℕ) (t : Bool) → i < end → e ≡ entry s k i → t ≡ covers e a n → t ≡ false → Missed (isRange s k a n) end (i + 1)
+    range-missed e t l ee et h = missed (isRange s k a n) end i m l (ap (λ (x : List ℕ). covers x a n) (sym ee) ∙ sym et ∙ h)
+
+    -- the entries from `end` on begin past the address
+    pub range-ended : end ≤ i → Nowhere ≡ rangeOf s k a n
+    range-ended l = sym (range-none s k a n (λ j c. go j c (decLt j i)))
+      where
+        go : (j : ℕ) → Covered s k j a n → Dec (j < i) → ⊥
+        go j c (yes h) = true≢false (sym (covered c) ∙ m .none j h)
+        go j c (no h) = omega (arith, low .from j (omega arith) (c .below), key-word s k j, c .from)

@@ -86,21 +86,28 @@ module _ (s : List ℕ) (object : ℕ) where
     unfolding nthOf test
     nth-none f = seek-none test (count s properties) (λ i h q. let r = right i q in f i h (r .0) (r .1))
 
-  -- before an object's first property, and along its properties
-  rank-none : (a : ℕ) → ((j : ℕ) → j < a → objectAt s j ≡ object → ⊥) → rank s object a ≡ 0
+  -- before an object's first property, along its properties, and where there are none
+  pub rank-none : (a : ℕ) → ((j : ℕ) → j < a → objectAt s j ≡ object → ⊥) → rank s object a ≡ 0
   unfolding rank
   rank-none zero f = refl
   rank-none (suc a) f = rank-skip a (f a (omega arith)) ∙ rank-none a (λ j h. f j (omega arith))
 
-  rank-along : (a n : ℕ) → ((j : ℕ) → a ≤ j → j < a + n → objectAt s j ≡ object) → rank s object (a + n) ≡ rank s object a + n
+  pub rank-along : (a n : ℕ) → ((j : ℕ) → a ≤ j → j < a + n → objectAt s j ≡ object) → rank s object (a + n) ≡ rank s object a + n
   rank-along a zero f = simp add-zero
   rank-along a (suc n) f =
       ap (rank s object) (add-suc a n)
       ∙ rank-more (a + n) (f (a + n) (omega arith) (omega arith))
       ∙ omega (arith, rank-along a n (λ j h l. f j h (omega arith)))
 
+  pub rank-flat : (a n : ℕ) → ((j : ℕ) → a ≤ j → j < a + n → objectAt s j ≡ object → ⊥) → rank s object (a + n) ≡ rank s object a
+  rank-flat a zero f = simp add-zero
+  rank-flat a (suc n) f =
+      ap (rank s object) (add-suc a n)
+      ∙ rank-skip (a + n) (f (a + n) (omega arith) (omega arith))
+      ∙ rank-flat a n (λ j h l. f j h (omega arith))
+
 module _ {ed : ℕ} {s : List ℕ} (g : Good ed s) (bytes : (i : ℕ) → getD s i 0 < 256) where
-  id-below : (i : ℕ) → property.id of entry s properties i < 256
+  pub id-below : (i : ℕ) → property.id of entry s properties i < 256
   id-below i =
       omega
       (arith, field-at s properties i property.id (omega arith), num-below s (place s properties i + property.id .at) (property.id .width) bytes)

@@ -6,9 +6,10 @@ use mathlib.Core.List.{List}
 use lib.ListN.{length}
 use Rattle.sheet.specs.Demand.{Demand, Met, Tells}
 use Rattle.sheet.specs.Kind.{kinds, OfKind}
-use Rattle.sheet.specs.Entries.{count, size, entry, offsetOf, lengthOf}
+use Rattle.sheet.specs.Entries.{count, size, entry, keyOf, offsetOf, lengthOf}
 use Rattle.sheet.specs.Rules.{frameDemands}
 use Rattle.sheet.specs.declared.judge.Judged.{Judged}
+use Rattle.sheet.specs.declared.judge.Laid.{Laid}
 use Rattle.sheet.specs.Region as region
 
 -- S1 to S4 of an edition hold
@@ -25,6 +26,12 @@ pub record Entry (s : List ℕ) (k i : ℕ) : Type 0 where
 pub record Counted (s : List ℕ) (k r : ℕ) : Type 0 where
   pub is : r ≡ count s k
   pub few : r ≤ 64
+
+-- r is the first entry of kind k whose first word is at least x, or the count
+pub record Lower (s : List ℕ) (k x r : ℕ) : Type 0 where
+  pub within : r ≤ count s k
+  pub before : (j : ℕ) → j < r → keyOf s k j < x
+  pub from : (j : ℕ) → r ≤ j → j < count s k → x ≤ keyOf s k j
 
 -- e is as long as an entry of kind k; none is shorter than a region's
 pub record Sized (k : ℕ) (e : List ℕ) : Type 0 where
@@ -49,4 +56,10 @@ pub record Long (k : ℕ) (e : List ℕ) (r : ℕ) : Type 0 where
 -- the first rule that some rows break, and n
 pub record Says (ds : List Demand) (n : ℕ) (r : Judged) : Type 0 where
   pub rule : Tells (r .rule) ds
+  pub next : r .next ≡ n
+
+-- whether some rows hold, told by 0, and n
+pub record Lies (ds : List Demand) (n : ℕ) (r : Laid) : Type 0 where
+  pub even : r .odd ≡ 0 → Met ds
+  pub met : Met ds → r .odd ≡ 0
   pub next : r .next ≡ n

@@ -2,11 +2,11 @@
 ghost use mathlib.Core.Path.{_≡_};
 ghost use Prim.Native.Nat.{_+_, _≤_};
 ghost use lib.ListN.{length};
-ghost use Rattle.sheet.specs.Demand.{Tells};
+ghost use Rattle.sheet.specs.Demand.{Met, Tells};
 ghost use Rattle.sheet.specs.Kind.{regions, properties, groups};
 ghost use Rattle.sheet.specs.Entries.{floorAfter, offsetOf, lengthOf, sixBits};
 ghost use Rattle.sheet.specs.Rules.{regionDemands, propertyDemands, groupDemands, bodyRows};
-ghost use Rattle.sheet.specs.Walk.{Sized, Says};
+ghost use Rattle.sheet.specs.Walk.{Sized, Says, Lies};
 ghost use Rattle.sheet.specs.Region as region;
 ghost use Rattle.sheet.specs.Property as property;
 ghost use Rattle.sheet.specs.Group as group;
@@ -22,6 +22,12 @@ use octets::word;
 // The rule that a step of the walk breaks, or 0, and what the step after it is judged against.
 pub struct Judged {
     pub rule: u8,
+    pub next: usize,
+}
+
+// How a body lies: 0 if it meets S9, else another number; and where the body after it is to start.
+pub struct Laid {
+    pub odd: usize,
     pub next: usize,
 }
 
@@ -167,27 +173,21 @@ fn six_bits(s: &[u8], k: usize, e: &[u8]) -> usize
     byte(s, word(e, group::OFFSET))
 }
 
-// S9, of a body that starts at `from` where the one before ended at z.
-fn body_rows(from: usize, z: usize, six: usize) -> u8
-    ensures { λ r. ⌜ Tells r (bodyRows from z six) ⌝ }
+// S9, of a body that starts at `from` where the one before ended at z: what differs, and 0 if nothing does.
+fn odd(from: usize, z: usize, six: usize) -> usize
+    ensures { λ r. ⌜ (r ≡ 0 → Met (bodyRows from z six)) × (Met (bodyRows from z six) → r ≡ 0) ⌝ }
 {
-    if from != z {
-        return 9;
-    }
-    if 63 < six {
-        return 9;
-    }
-    0
+    (from ^ z) | (six / 64)
 }
 
 // S9, of the body of an entry e of a kind where the one before ended at z, and where the body ends.
-pub fn body_of(s: &[u8], k: usize, z: usize, e: &[u8]) -> Judged
+pub fn body_of(s: &[u8], k: usize, z: usize, e: &[u8]) -> Laid
     requires { ⌜ Sized k (now e) ⌝ }
-    ensures { λ r. ⌜ Says (bodyRows (offsetOf k (now (e .entry))) z (sixBits (now (s .entry)) k (now (e .entry)))) (offsetOf k (now (e .entry)) + lengthOf k (now (e .entry))) r ⌝ }
+    ensures { λ r. ⌜ Lies (bodyRows (offsetOf k (now (e .entry))) z (sixBits (now (s .entry)) k (now (e .entry)))) (offsetOf k (now (e .entry)) + lengthOf k (now (e .entry))) r ⌝ }
 {
     let from = offset(k, e);
-    Judged {
-        rule: body_rows(from, z, six_bits(s, k, e)),
+    Laid {
+        odd: odd(from, z, six_bits(s, k, e)),
         next: from + length(k, e),
     }
 }

@@ -5,6 +5,9 @@ pub mod head {
 
     pub const EDITION: usize = 0;
 
+    // the numbers of entries, kind by kind
+    pub const COUNTS: usize = 1;
+
     pub const REGIONS: usize = 1;
 
     pub const PROPERTIES: usize = 2;

@@ -6,7 +6,7 @@ ghost use Rattle.sheet.specs.Kind.{kinds};
 ghost use Rattle.sheet.specs.Entries.{keyOf};
 ghost use Rattle.sheet.specs.Rules.{ruleOf};
 ghost use Rattle.sheet.specs.Lookup.{PartOf, StandsIn, indexOf, bodyOf, bodyFrom, lookup, lookupFrom, regionOf, regionFrom, propertyOf, propertyFrom, groupOf, groupFrom};
-ghost use Rattle.sheet.specs.Walk.{Entry};
+ghost use Rattle.sheet.specs.Walk.{Entry, Lower};
 use crate::Part;
 use crate::layout;
 use crate::layout::kind;
@@ -25,20 +25,39 @@ fn first_word(s: &[u8], k: usize, i: usize) -> usize
     word(entry(s, k, i), layout::KEY)
 }
 
+// THE SEARCH BY HALVES: the first entry of a kind whose first word is not below `key`, and the count where there is none.
+// Each step leaves half of what is left, or less: of 64 entries 32, 16, 8, 4, 2, 1 and none, so there are seven at most.
+pub fn lower(s: &[u8], k: usize, key: usize) -> usize
+    requires { ⌜ (ruleOf (now s) ≡ 0) × (k < kinds) ⌝ }
+    ensures { λ r. ⌜ Lower (now (s .entry)) k key r ⌝ }
+{
+    let mut lo = 0;
+    let mut hi = many(s, k);
+    while lo < hi {
+        let mid = lo + (hi - lo) / 2;
+        if first_word(s, k, mid) < key {
+            lo = mid + 1;
+        } else {
+            hi = mid;
+        }
+    }
+    lo
+}
+
 // The number of the entry of a kind whose first word is `key`, and the count where there is none.
 pub fn find(s: &[u8], k: usize, key: usize) -> usize
     requires { ⌜ (ruleOf (now s) ≡ 0) × (k < kinds) ⌝ }
     ensures { λ r. ⌜ r ≡ indexOf (now (s .entry)) k key ⌝ }
 {
     let n = many(s, k);
-    let mut i = 0;
-    while i < n {
-        if first_word(s, k, i) == key {
-            return i;
-        }
-        i += 1;
+    let i = lower(s, k, key);
+    if n <= i {
+        return n;
     }
-    i
+    if first_word(s, k, i) == key {
+        return i;
+    }
+    n
 }
 
 // The body of entry i of a kind, and nothing where that is no entry.

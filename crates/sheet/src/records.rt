@@ -1,8 +1,6 @@
 // The entries of an accepted sheet as records, and properties by their index within an object.
 ghost use mathlib.Core.Path.{_≡_};
-ghost use mathlib.Core.Bool.{cond, _&&_};
 ghost use Prim.Native.Nat.{_+_, _≤_, _<_};
-ghost use lib.Dec.{eqb};
 ghost use Rattle.sheet.specs.Kind.{kinds, properties, groups};
 ghost use Rattle.sheet.specs.Property as property;
 ghost use Rattle.sheet.specs.Entries.{count as countOf};
@@ -15,6 +13,7 @@ use crate::PropertyEntry;
 use crate::layout::group;
 use crate::layout::kind;
 use crate::layout::property;
+use crate::lookup::lower;
 use crate::table::entry;
 use crate::table::many;
 use crate::table::place;
@@ -77,35 +76,19 @@ fn object_at(s: &[u8], i: usize) -> usize
     byte(entry(s, kind::PROPERTIES, i), property::OBJECT)
 }
 
-// 1 where two objects are the same, else 0.
-fn same(a: usize, b: u8) -> usize
-    ensures { λ r. ⌜ (r ≡ cond (eqb a b) 1 0) × (r ≤ 1) ⌝ }
-{
-    if a == b as usize { 1 } else { 0 }
-}
-
-// How many of the first i properties have an object.
+// How many of the first i properties have an object: its properties stand side by side.
 pub fn rank(s: &[u8], object: u8, i: usize) -> usize
     requires { ⌜ (ruleOf (now s) ≡ 0) × (i ≤ countOf (now s) properties) ⌝ }
     ensures { λ r. ⌜ r ≡ rankOf (now (s .entry)) object i ⌝ }
 {
-    let mut r = 0;
-    let mut j = 0;
-    while j < i {
-        r += same(object_at(s, j), object);
-        j += 1;
+    let first = lower(s, kind::PROPERTIES, object as usize * 256);
+    if i <= first {
+        return 0;
     }
-    r
-}
-
-// Whether a property of object a, with r before it of the same, is the one asked for.
-fn is_nth(a: usize, object: u8, r: usize, index: u8) -> bool
-    ensures { λ t. ⌜ t ≡ (eqb a object && eqb r index) ⌝ }
-{
-    if a != object as usize {
-        return false;
+    if object_at(s, i - 1) == object as usize {
+        return i - first;
     }
-    r == index as usize
+    lower(s, kind::PROPERTIES, object as usize * 256 + 256) - first
 }
 
 // The property of an object by its index, counted from 0 within the object, and the count where there is none.
@@ -114,15 +97,12 @@ pub fn nth(s: &[u8], object: u8, index: u8) -> usize
     ensures { λ r. ⌜ r ≡ nthOf (now (s .entry)) object index ⌝ }
 {
     let n = many(s, kind::PROPERTIES);
-    let mut r = 0;
-    let mut i = 0;
-    while i < n {
-        let here = object_at(s, i);
-        if is_nth(here, object, r, index) {
-            return i;
-        }
-        r += same(here, object);
-        i += 1;
+    let i = lower(s, kind::PROPERTIES, object as usize * 256) + index as usize;
+    if n <= i {
+        return n;
     }
-    i
+    if object_at(s, i) == object as usize {
+        return i;
+    }
+    n
 }

@@ -2,7 +2,7 @@
 ghost use mathlib.Core.Path.{_≡_};
 ghost use Prim.Native.Nat.{_+_, _*_, _≤_, _<_, max};
 ghost use lib.ListN.{length};
-ghost use Rattle.sheet.specs.Kind.{OfKind};
+ghost use Rattle.sheet.specs.Kind.{kinds, OfKind};
 ghost use Rattle.sheet.specs.Layout.{_of_};
 ghost use Rattle.sheet.specs.Property as property;
 ghost use Rattle.sheet.specs.Entries.{size as sizeOf, place as placeOf, contents as contentsOf};
@@ -15,16 +15,12 @@ use crate::layout::region;
 use octets::byte;
 use octets::word;
 
-// How many entries of a kind there are.
+// How many entries of a kind there are: the numbers stand in the order of the kinds.
 pub fn many(s: &[u8], k: usize) -> usize
-    requires { ⌜ Framed 1 (now s) ⌝ }
+    requires { ⌜ Framed 1 (now s) × (k < kinds) ⌝ }
     ensures { λ r. ⌜ Counted (now (s .entry)) k r ⌝ }
 {
-    match k {
-        kind::REGIONS => byte(s, head::REGIONS),
-        kind::PROPERTIES => byte(s, head::PROPERTIES),
-        _ => byte(s, head::GROUPS),
-    }
+    byte(s, head::COUNTS + k)
 }
 
 // How long an entry of a kind is.

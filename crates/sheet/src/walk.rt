@@ -4,12 +4,12 @@ ghost use Prim.Native.Nat.{_+_};
 ghost use Rattle.sheet.specs.Demand.{Tells};
 ghost use Rattle.sheet.specs.Kind.{kinds};
 ghost use Rattle.sheet.specs.Entries.{floor as floorOf, reached, startOf};
-ghost use Rattle.sheet.specs.First.{orElse};
 ghost use Rattle.sheet.specs.Rules.{entryDemands, bodyDemands, endDemands, walkRule, ruleOf};
-ghost use Rattle.sheet.specs.Walk.{Framed, Entry, Says};
+ghost use Rattle.sheet.specs.Walk.{Framed, Entry, Says, Lies};
 use crate::frame::frame_rule;
 use crate::frame::zero_rule;
 use crate::judge::Judged;
+use crate::judge::Laid;
 use crate::judge::body_of;
 use crate::judge::group_step;
 use crate::judge::property_step;
@@ -32,9 +32,9 @@ fn entry_step(s: &[u8], k: usize, i: usize, floor: usize) -> Judged
 }
 
 // S9 of its body, and where the body ends.
-fn body_step(s: &[u8], k: usize, i: usize, z: usize) -> Judged
+fn body_step(s: &[u8], k: usize, i: usize, z: usize) -> Laid
     requires { ⌜ Entry (now s) k i × (z ≡ reached (now s) k i) ⌝ }
-    ensures { λ r. ⌜ Says (bodyDemands (now (s .entry)) k i) (reached (now (s .entry)) k (i + 1)) r ⌝ }
+    ensures { λ r. ⌜ Lies (bodyDemands (now (s .entry)) k i) (reached (now (s .entry)) k (i + 1)) r ⌝ }
 {
     match k {
         kind::REGIONS => body_of(s, kind::REGIONS, z, entry(s, kind::REGIONS, i)),
@@ -43,22 +43,18 @@ fn body_step(s: &[u8], k: usize, i: usize, z: usize) -> Judged
     }
 }
 
-// S9, of the last body, which ends at z.
-fn end_rule(s: &[u8], z: usize) -> u8
+// S9, of all bodies, the last of which ends at z.
+fn end_rule(s: &[u8], z: usize, late: usize) -> u8
     requires { ⌜ z ≡ startOf (now s) kinds ⌝ }
-    ensures { λ r. ⌜ Tells r (endDemands (now (s .entry))) ⌝ }
+    ensures { λ r. ⌜ ((late ≡ 0 → ⊥) → r ≡ 9) × (late ≡ 0 → Tells r (endDemands (now (s .entry)))) ⌝ }
 {
+    if late != 0 {
+        return 9;
+    }
     if z == s.len() { 0 } else { 9 }
 }
 
-// The first of two rules that is one.
-fn or_else(a: u8, b: u8) -> u8
-    ensures { λ r. ⌜ r ≡ orElse a b ⌝ }
-{
-    if a != 0 { a } else { b }
-}
-
-// S6 to S9, each entry with its body in one go: a body's rule counts once all entries have passed.
+// S6 to S9, each entry with its body in one go: that a body is odd counts once all entries have passed.
 fn walk(s: &[u8]) -> u8
     requires { ⌜ Framed 1 (now s) ⌝ }
     ensures { λ r. ⌜ r ≡ walkRule (now (s .entry)) ⌝ }
@@ -68,7 +64,7 @@ fn walk(s: &[u8]) -> u8
     let mut late = 0;
     'walk: loop {
         if kind::ALL <= k {
-            break 'walk or_else(late, end_rule(s, z));
+            break 'walk end_rule(s, z, late);
         }
         let n = many(s, k);
         let mut i = 0;
@@ -81,7 +77,7 @@ fn walk(s: &[u8]) -> u8
             }
             floor = judged.next;
             let body = body_step(s, k, i, z);
-            late = or_else(body.rule, late);
+            late = late | body.odd;
             z = body.next;
             i += 1;
         }

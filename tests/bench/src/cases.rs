@@ -1,5 +1,6 @@
 //! What is measured: every service, carried out, and some that are refused, on
-//! the sample sheet and on a full one.
+//! the sample sheet and on a full one; and the lookups of entries, on sheets with
+//! 1, 8 and 64 properties and groups.
 
 use model::device::Session;
 use model::sheet::{FLAGS, PROGRAMMING, SAMPLE, VERIFY};
@@ -7,13 +8,25 @@ use model::sheet::{FLAGS, PROGRAMMING, SAMPLE, VERIFY};
 /// All requests come on an open session with all rights.
 pub const SESSION: Session = Session { open: true, level: 0 };
 
-pub struct Case {
-    pub name: &'static str,
-    pub mode: u8,
-    pub apdu: Vec<u8>,
-    pub outcome: u8,
+/// One call.
+pub enum Ask {
+    Check,
+    Request { mode: u8, apdu: Vec<u8> },
+    Property(u8, u8),
+    Group(u16),
 }
 
+pub struct Case {
+    pub name: &'static str,
+    pub ask: Ask,
+    /// The rule, the outcome, or the length of the part that is found.
+    pub gives: usize,
+    /// Whether the figures are those of the call less those of the check of the
+    /// same sheet, which every call makes first: the search and what is around it.
+    pub less_check: bool,
+}
+
+/// The first case is the check of the sheet.
 pub struct Bench {
     pub name: &'static str,
     pub sheet: Vec<u8>,
@@ -21,11 +34,8 @@ pub struct Bench {
     pub cases: Vec<Case>,
 }
 
-impl Bench {
-    /// First `None`, the check of the sheet alone.
-    pub fn all(&self) -> impl Iterator<Item = Option<&Case>> {
-        std::iter::once(None).chain(self.cases.iter().map(Some))
-    }
+fn the_check() -> Case {
+    Case { name: "the check of the sheet", ask: Ask::Check, gives: 0, less_check: false }
 }
 
 /// The entries asked for, in each table the last.
@@ -38,7 +48,7 @@ struct Asked {
     response: u8,
 }
 
-pub fn benches() -> [Bench; 2] {
+pub fn benches() -> [Bench; 5] {
     let of_sample = Asked {
         object: 1,
         id: 51,
@@ -49,17 +59,23 @@ pub fn benches() -> [Bench; 2] {
     };
     let of_full =
         Asked { object: 4, id: 16, region: 0x0F00, group: 0x0840, value: &[5, 6], response: 1 };
-    [bench("sample", SAMPLE.to_vec(), of_sample), bench("full", full(), of_full)]
+    [
+        bench("sample", SAMPLE.to_vec(), of_sample),
+        bench("full", filled(64), of_full),
+        lookups("1", 1),
+        lookups("8", 8),
+        lookups("64", 64),
+    ]
 }
 
 fn word(n: usize) -> [u8; 2] {
     (n as u16).to_be_bytes()
 }
 
-/// 16 regions of 16 bytes, 64 properties of two elements of two bytes each, and
-/// 64 groups of two bytes.
-fn full() -> Vec<u8> {
-    let (regions, properties, groups) = (16, 64, 64);
+/// 16 regions of 16 bytes, n properties of two elements of two bytes each, and
+/// n groups of two bytes.
+fn filled(n: usize) -> Vec<u8> {
+    let (regions, properties, groups) = (16, n, n);
     let mut body = 32 + 8 * regions + 12 * properties + 8 * groups;
     let mut sheet = SAMPLE[..32].to_vec();
     sheet[1..4].copy_from_slice(&[regions as u8, properties as u8, groups as u8]);
@@ -115,8 +131,38 @@ fn bench(name: &'static str, mut sheet: Vec<u8>, asked: Asked) -> Bench {
         ("unfit length (10)", 3, 10, 0x3D5, vec![object]),
     ];
     let case = |(name, mode, outcome, code, rest): (&'static str, u8, u8, u16, Vec<u8>)| {
-        let apdu = [&code.to_be_bytes()[..], &rest].concat();
-        Case { name, mode, apdu, outcome }
+        let ask = Ask::Request { mode, apdu: [&code.to_be_bytes()[..], &rest].concat() };
+        Case { name, ask, gives: outcome.into(), less_check: false }
     };
-    Bench { name, sheet, group, cases: cases.map(case).into() }
+    let cases = std::iter::once(the_check()).chain(cases.map(case)).collect();
+    Bench { name, sheet, group, cases }
+}
+
+/// First, last and absent entry, with n properties and n groups. A region is
+/// found for a Memory_Read of one byte, which is measured whole but for the check.
+fn lookups(name: &'static str, n: usize) -> Bench {
+    let last = (n - 1) as u8;
+    let property = |name, object, id, gives| (name, Ask::Property(object, id), gives);
+    let group = |name, address, gives| (name, Ask::Group(address), gives);
+    let region = |name, high, low, gives| {
+        (name, Ask::Request { mode: 3, apdu: vec![0x02, 0x01, high, low] }, gives)
+    };
+    let mut asked = vec![
+        property("first property", 1, 1, 4),
+        property("last property", 1 + last / 16, 1 + last % 16, 4),
+        property("absent property", 1, 200, 0),
+        group("first group", 0x0801, 2),
+        group("last group", 0x0801 + last as u16, 2),
+        group("absent group", 0x0900, 0),
+    ];
+    if n == 64 {
+        asked.extend([
+            region("read in region 0", 0, 0, 0),
+            region("read in region 15", 15, 0, 0),
+            region("read in no region", 7, 0x80, 11),
+        ]);
+    }
+    let case = |(name, ask, gives)| Case { name, ask, gives, less_check: true };
+    let cases = std::iter::once(the_check()).chain(asked.into_iter().map(case)).collect();
+    Bench { name, sheet: filled(n), group: 0, cases }
 }

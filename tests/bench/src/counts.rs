@@ -13,14 +13,14 @@ const SIDES: [Side; 3] = [Side::Proved, Side::Plain, Side::Nothing];
 
 /// Under callgrind: case `k` on the side with this number, `TIMES` times.
 pub fn play(benches: &[Bench], k: usize, side: usize) {
-    let mut cases = benches.iter().flat_map(|b| b.all().map(move |c| (b, c)));
+    let mut cases = benches.iter().flat_map(|b| b.cases.iter().map(move |c| (b, c)));
     let (bench, case) = cases.nth(k).expect("a case");
     Ready::new(SIDES[side], bench, case).run(TIMES);
 }
 
 /// `None` if there is no valgrind.
 pub fn measure(benches: &[Bench]) -> Option<Vec<[f64; 2]>> {
-    let cases = benches.iter().map(|b| b.all().count()).sum();
+    let cases = benches.iter().map(|b| b.cases.len()).sum();
     (0..cases)
         .map(|k| {
             let [ours, plain, nothing] = [0, 1, 2].map(|side| total(k, side));

@@ -11,85 +11,98 @@ mod times;
 
 use std::hint::black_box;
 
-use cases::{benches, Bench, Case, SESSION};
+use cases::{benches, Ask, Bench, Case, SESSION};
 use model::sheet::FLAGS;
 use sides::{Lent, Side};
 
-/// A case made ready on one side. Case `None` is the check of the sheet.
+/// A case made ready on one side.
 pub struct Ready<'a> {
     side: Side,
     bench: &'a Bench,
-    case: Option<&'a Case>,
+    case: &'a Case,
     sheet: Vec<u8>,
     answer: [u8; 16],
 }
 
 impl<'a> Ready<'a> {
-    fn new(side: Side, bench: &'a Bench, case: Option<&'a Case>) -> Self {
+    fn new(side: Side, bench: &'a Bench, case: &'a Case) -> Self {
         Ready { side, bench, case, sheet: bench.sheet.clone(), answer: [0; 16] }
     }
 
     /// The case `n` times; each time session and flags are as at first, which
     /// is all that a repetition could find changed.
     fn run(&mut self, n: usize) {
-        let Some(case) = self.case else {
-            for _ in 0..n {
-                black_box(self.side.check(black_box(&self.sheet)));
+        let (side, sheet) = (self.side, &mut self.sheet);
+        match self.case.ask {
+            Ask::Check => (0..n).for_each(|_| {
+                black_box(side.check(black_box(sheet)));
+            }),
+            Ask::Property(object, id) => (0..n).for_each(|_| {
+                black_box(side.property(black_box(sheet), object, id));
+            }),
+            Ask::Group(address) => (0..n).for_each(|_| {
+                black_box(side.group(black_box(sheet), address));
+            }),
+            Ask::Request { mode, ref apdu } => {
+                let flags = sheet[FLAGS];
+                for _ in 0..n {
+                    let mut lent = Lent {
+                        session: SESSION,
+                        mode,
+                        group: self.bench.group,
+                        apdu: black_box(apdu),
+                        sheet: black_box(sheet),
+                        answer: black_box(&mut self.answer),
+                    };
+                    black_box(side.request(&mut lent));
+                    sheet[FLAGS] = flags;
+                }
             }
-            return;
-        };
-        let flags = self.sheet[FLAGS];
-        for _ in 0..n {
-            let mut lent = Lent {
-                session: SESSION,
-                mode: case.mode,
-                group: self.bench.group,
-                apdu: black_box(&case.apdu),
-                sheet: black_box(&mut self.sheet),
-                answer: black_box(&mut self.answer),
-            };
-            black_box(self.side.request(&mut lent));
-            self.sheet[FLAGS] = flags;
         }
     }
 
-    /// What one request gives, for comparison.
-    fn effect(&mut self) -> (u8, u8, model::device::Session, [u8; 16], Vec<u8>) {
-        let Some(case) = self.case else {
-            return (self.side.check(&self.sheet), 0, SESSION, self.answer, self.sheet.clone());
-        };
+    /// What one call gives, in two numbers, and leaves, for comparison.
+    fn effect(&mut self) -> (usize, usize, model::device::Session, [u8; 16], Vec<u8>) {
         let mut sheet = self.sheet.clone();
         let mut answer = [0; 16];
-        let (reply, session) = self.side.request(&mut Lent {
-            session: SESSION,
-            mode: case.mode,
-            group: self.bench.group,
-            apdu: &case.apdu,
-            sheet: &mut sheet,
-            answer: &mut answer,
-        });
-        (reply.outcome, reply.count, session, answer, sheet)
+        let mut session = SESSION;
+        let (first, second) = match self.case.ask {
+            Ask::Check => (self.side.check(&sheet).into(), 0),
+            Ask::Property(object, id) => self.side.property(&sheet, object, id),
+            Ask::Group(address) => self.side.group(&sheet, address),
+            Ask::Request { mode, ref apdu } => {
+                let (reply, after) = self.side.request(&mut Lent {
+                    session,
+                    mode,
+                    group: self.bench.group,
+                    apdu,
+                    sheet: &mut sheet,
+                    answer: &mut answer,
+                });
+                session = after;
+                (reply.outcome.into(), reply.count.into())
+            }
+        };
+        (first, second, session, answer, sheet)
     }
 }
 
-/// The check of each sheet, then its cases.
-pub fn for_each_case(benches: &[Bench], mut f: impl FnMut(&Bench, Option<&Case>)) {
+pub fn for_each_case(benches: &[Bench], mut f: impl FnMut(&Bench, &Case)) {
     for bench in benches {
-        bench.all().for_each(|case| f(bench, case));
+        bench.cases.iter().for_each(|case| f(bench, case));
     }
 }
 
-/// Both sides give the same, and the outcome that the case is meant for.
-fn agree(bench: &Bench, case: Option<&Case>) {
+/// Both sides give the same, and what the case is meant to give.
+fn agree(bench: &Bench, case: &Case) {
     let [ours, plain] =
         [Side::Proved, Side::Plain].map(|side| Ready::new(side, bench, case).effect());
-    let name = name(case);
-    assert!(ours == plain, "{}, {name}: the sides differ", bench.name);
-    assert_eq!(ours.0, case.map_or(0, |c| c.outcome), "{}, {name}", bench.name);
-}
-
-fn name(case: Option<&Case>) -> &str {
-    case.map_or("the check of the sheet", |c| c.name)
+    assert!(ours == plain, "{}, {}: the sides differ", bench.name, case.name);
+    let given = match case.ask {
+        Ask::Check | Ask::Request { .. } => ours.0,
+        Ask::Property(..) | Ask::Group(_) => ours.1,
+    };
+    assert_eq!(given, case.gives, "{}, {}", bench.name, case.name);
 }
 
 fn main() {
@@ -122,18 +135,23 @@ fn print(benches: &[Bench], times: &[[f64; 2]], counts: Option<&[[f64; 2]]>) {
         "{:6} {:24} {:>8} {:>8} {:>6}   {:>8} {:>8} {:>6}",
         "sheet", "request", "ns", "plain", "ratio", "instr.", "plain", "ratio"
     );
-    let mut k = 0;
-    for_each_case(benches, |bench, case| {
-        let name = name(case);
-        let [ours, plain] = times[k];
-        print!("{:6} {name:24} {ours:8.1} {plain:8.1} {:6.2}", bench.name, ours / plain);
-        match counts {
-            Some(counts) => {
-                let [ours, plain] = counts[k];
-                println!("   {ours:8.0} {plain:8.0} {:6.2}", ours / plain);
+    let mut first = 0;
+    for bench in benches {
+        for (k, case) in bench.cases.iter().enumerate() {
+            let row = |figures: &[[f64; 2]]| -> [f64; 2] {
+                let check = if case.less_check { figures[first] } else { [0.0; 2] };
+                [0, 1].map(|side| figures[first + k][side] - check[side])
+            };
+            let [ours, plain] = row(times);
+            print!("{:6} {:24} {ours:8.1} {plain:8.1} {:6.2}", bench.name, case.name, ours / plain);
+            match counts {
+                Some(counts) => {
+                    let [ours, plain] = row(counts);
+                    println!("   {ours:8.0} {plain:8.0} {:6.2}", ours / plain);
+                }
+                None => println!(),
             }
-            None => println!(),
         }
-        k += 1;
-    });
+        first += bench.cases.len();
+    }
 }

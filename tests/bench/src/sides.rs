@@ -29,6 +29,14 @@ extern "C" {
         answer: *mut u8,
         answer_length: usize,
     ) -> CReply;
+    fn kelindap_property(sheet: *const u8, length: usize, object: u8, id: u8) -> CPart;
+    fn kelindap_group(sheet: *const u8, length: usize, address: u16) -> CPart;
+}
+
+#[repr(C)]
+struct CPart {
+    offset: usize,
+    length: usize,
 }
 
 /// What a request is made of, its buffers lent.
@@ -54,6 +62,29 @@ impl Side {
             Side::Proved => unsafe { kelindap_check(sheet.as_ptr(), sheet.len()) },
             Side::Plain => plain_check(sheet),
             Side::Nothing => no_check(sheet),
+        }
+    }
+
+    /// Offset and length of a property's body, and of a group's.
+    pub fn property(self, sheet: &[u8], object: u8, id: u8) -> (usize, usize) {
+        match self {
+            Side::Proved => {
+                let part = unsafe { kelindap_property(sheet.as_ptr(), sheet.len(), object, id) };
+                (part.offset, part.length)
+            }
+            Side::Plain => plain_property(sheet, object, id),
+            Side::Nothing => no_part(sheet),
+        }
+    }
+
+    pub fn group(self, sheet: &[u8], address: u16) -> (usize, usize) {
+        match self {
+            Side::Proved => {
+                let part = unsafe { kelindap_group(sheet.as_ptr(), sheet.len(), address) };
+                (part.offset, part.length)
+            }
+            Side::Plain => plain_group(sheet, address),
+            Side::Nothing => no_part(sheet),
         }
     }
 
@@ -95,6 +126,21 @@ impl Side {
 #[inline(never)]
 fn plain_check(sheet: &[u8]) -> u8 {
     model::sheet::check(sheet)
+}
+
+#[inline(never)]
+fn plain_property(sheet: &[u8], object: u8, id: u8) -> (usize, usize) {
+    model::sheet::property(sheet, object, id)
+}
+
+#[inline(never)]
+fn plain_group(sheet: &[u8], address: u16) -> (usize, usize) {
+    model::sheet::group(sheet, address)
+}
+
+#[inline(never)]
+fn no_part(sheet: &[u8]) -> (usize, usize) {
+    (std::hint::black_box(sheet.len()), 0)
 }
 
 #[inline(never)]

@@ -10,7 +10,7 @@ pub body-spec : {M : Type 1} → statement M
 body-spec =
     tie.close
     (tie.spec
-    (λ c κs. search ok-framed)
+    (λ c κs. search (ok-framed, needs))
     (λ c. search no-part)
     (λ c κs. search ok-entry)
     (λ c κs. search needs)

@@ -1,28 +1,21 @@
--- `sheet::lookup::find` meets its contract. The invariant: no entry passed has the key.
+-- `sheet::lookup::find` meets its contract.
 -- Assumes nothing.
-use Prim.Native.Nat.{_-_}
 use borrow.Author.Needs.{needs}
-use Rattle.sheet.proofs.Seek.{Missed, isKey, ok-framed, ok-entry, none-yet, key-found, key-missed, key-ended}
+use native.Mathlib.Omega.{arith}
+use Rattle.sheet.proofs.Seek.{ok-framed, ok-entry}
+use Rattle.sheet.proofs.Halves.{half-past, half-missed, half-found}
 use Rattle.sheet.proofs.lookup.find.Statement.{statement}
 use Rattle.sheet.proofs.lookup.find.Tie as tie
-
-abbrev Inv-loop : tie.InvT-loop
-Inv-loop s k key n i₀ i = Missed (isKey s k key) n i
-
-abbrev μ-loop : tie.MeasureT-loop
-μ-loop s k key n i₀ i = n - i
 
 pub find-spec : {M : Type 1} → statement M
 find-spec =
     tie.close
     (tie.spec
-    Inv-loop
-    μ-loop
-    (λ c κs. search ok-framed)
-    (λ c. search none-yet)
-    (λ c κs. search ok-entry)
-    (λ c. search key-found)
-    (λ c. search needs)
-    (λ c. search needs)
-    (λ c. search key-missed)
-    (λ c. search key-ended))
+    (λ c κs. search (ok-framed, needs))
+    (λ c κs. search needs)
+    (λ c. search half-past)
+    (λ c κs. search (ok-entry, needs))
+    (λ c.
+    half-found _ (c .before .before .before .before .before .before .pre .0) _ (c .before .before .before .before .before .before .pre .1) _ _ _ (c .before .before .before .before .many .ensures) (c .before .before .before .lower .ensures) _
+    (omega arith) (c .before .first-word .ensures) (omega arith))
+    (λ c. search half-missed))

@@ -2,16 +2,16 @@
 -- Assumes nothing.
 use Prim.Native.Nat.{_-_}
 use borrow.Author.Needs.{needs}
-use Rattle.sheet.proofs.Seek.{Missed, ok-framed, ok-entry, none-yet}
-use Rattle.sheet.proofs.Loops.{isRange, covers-from, range-found, range-missed, range-ended}
+use Rattle.sheet.proofs.Seek.{Missed}
+use Rattle.sheet.proofs.Loops.{isRange, covers-from, range-there, range-begins, range-found, range-missed, range-ended}
 use Rattle.sheet.proofs.memory.range.Statement.{statement}
 use Rattle.sheet.proofs.memory.range.Tie as tie
 
 abbrev Inv-loop : tie.InvT-loop
-Inv-loop s k address n all i₀ i = Missed (isRange s k address n) all i
+Inv-loop s k address n end i₀ i = Missed (isRange s k address n) end i
 
 abbrev μ-loop : tie.MeasureT-loop
-μ-loop s k address n all i₀ i = all - i
+μ-loop s k address n end i₀ i = end - i
 
 pub range-spec : {M : Type 1} → statement M
 range-spec =
@@ -19,9 +19,11 @@ range-spec =
     (tie.spec
     Inv-loop
     μ-loop
-    (λ c κs. search ok-framed)
-    (λ c. search none-yet)
-    (λ c κs. search ok-entry)
+    (λ c. search needs)
+    (λ c κs. search needs)
+    (λ c κs. search needs)
+    (λ c. search range-begins)
+    (λ c κs. search range-there)
     (λ c κs. search needs)
     (λ c κs. search (covers-from, needs))
     (λ c. search range-found)

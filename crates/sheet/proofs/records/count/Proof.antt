@@ -6,4 +6,4 @@ use Rattle.sheet.proofs.records.count.Statement.{statement}
 use Rattle.sheet.proofs.records.count.Tie as tie
 
 pub count-spec : {M : Type 1} → statement M
-count-spec = tie.close (tie.spec (λ c κs. search ok-framed) (λ c. search needs))
+count-spec = tie.close (tie.spec (λ c κs. search (ok-framed, needs)) (λ c. search needs))

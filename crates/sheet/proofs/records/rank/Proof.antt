@@ -1,32 +1,31 @@
--- `sheet::records::rank` meets its contract. The invariant: r of the first j properties have the object.
+-- `sheet::records::rank` meets its contract.
 -- Assumes nothing.
-use Prim.Native.Nat.{_-_, _≤_}
-use mathlib.Core.Path.{_∙_, ap}
 use borrow.Author.Needs.{needs}
 use native.Mathlib.Omega.{arith}
-use Rattle.sheet.specs.Lookup.{rank}
 use Rattle.sheet.proofs.Fields.{property-there}
-use Rattle.sheet.proofs.Loops.{Ranked, rank-none, rank-more}
+use Rattle.sheet.proofs.Objects.{index-none, index-within, first-last, index-past}
 use Rattle.sheet.proofs.records.rank.Statement.{statement}
 use Rattle.sheet.proofs.records.rank.Tie as tie
-
-abbrev Inv-loop : tie.InvT-loop
-Inv-loop s object i r₀ j₀ r j = (j ≤ i) × Ranked s object j r
-
-abbrev μ-loop : tie.MeasureT-loop
-μ-loop s object i r₀ j₀ r j = i - j
 
 pub rank-spec : {M : Type 1} → statement M
 rank-spec =
     tie.close
     (tie.spec
-    Inv-loop
-    μ-loop
-    (λ c. search (rank-none, needs))
-    (λ c κs. property-there _ (c .before .before .before .pre .0) _ (omega arith))
+    (λ c. search needs)
     (λ c κs. search needs)
+    (λ c. index-none _ (c .before .before .before .pre .0) (λ j. omega (arith, c .before .before .shared-slice-known .given j)) _ _ (c .before .lower .ensures) _ (omega arith))
+    (λ c. search needs)
+    (λ c κs. property-there _ (c .before .before .before .pre .0) _ (omega arith))
+    (λ c. search needs)
+    (λ c.
+    index-within _ (c .before .before .before .before .before .pre .0) (λ j. omega (arith, c .before .before .before .before .shared-slice-known .given j)) _ _ (c .before .before .before .lower .ensures) _ _
+    (omega arith) (c .before .before .before .before .before .pre .1) (c .before .object-at .ensures) (omega arith))
     (λ c. search needs)
     (λ c. search needs)
-    (λ c. search needs)
-    (λ c. search (rank-more, needs))
-    (λ c. c .before .loop .inv .1 .is ∙ ap (rank _ _) (omega arith)))
+    (λ c κs. search needs)
+    (λ c.
+    omega
+    (arith, first-last _ (c .before .before .before .before .before .before .pre .0) (λ j. omega (arith, c .before .before .before .before .before .shared-slice-known .given j)) _ _ (c .before .before .before .before .lower .ensures) _ (c .lower2 .ensures)))
+    (λ c.
+    index-past _ (c .before .before .before .before .before .before .pre .0) (λ j. omega (arith, c .before .before .before .before .before .shared-slice-known .given j)) _ _ (c .before .before .before .before .lower .ensures) _ (c .lower2 .ensures) _ _
+    (omega arith) (c .before .before .before .before .before .before .pre .1) (c .before .before .object-at .ensures) (c .before .if2 .left)))

@@ -6,12 +6,4 @@ use Rattle.sheet.proofs.table.many.Statement.{statement}
 use Rattle.sheet.proofs.table.many.Tie as tie
 
 pub many-spec : {M : Type 1} → statement M
-many-spec =
-    tie.close
-    (tie.spec
-    (λ c κs. search needs)
-    (λ c κs. search needs)
-    (λ c κs. search needs)
-    (λ c. counted (search needs) (search needs))
-    (λ c. counted (search needs) (search needs))
-    (λ c. counted (search needs) (search needs)))
+many-spec = tie.close (tie.spec (λ c. search needs) (λ c κs. search needs) (λ c. search counted))

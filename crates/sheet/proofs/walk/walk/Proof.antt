@@ -1,5 +1,5 @@
--- `sheet::walk::walk` meets its contract. The invariants: no entry before this one has broken a rule, and `late` is the rule
--- that their bodies have broken. Assumes nothing.
+-- `sheet::walk::walk` meets its contract. The invariants: no entry before this one has broken a rule, and `late` is 0 exactly if
+-- none of their bodies has. Assumes nothing.
 use Prim.Native.Nat.{_-_}
 use borrow.Author.Needs.{needs}
 use Rattle.sheet.specs.Kind.{kinds}
@@ -31,11 +31,9 @@ walk-spec =
     (λ c. search walk-begins)
     (λ c κs. search walk-ends)
     (λ c κs. search needs)
-    (λ c κs. search needs)
     (λ c. search pass-begins)
     (λ c κs. search (pass-entry, needs))
     (λ c κs. search (pass-entry, needs))
-    (λ c κs. search needs)
     (λ c. search needs)
     (λ c. search needs)
     (λ c. search pass-goes)
