@@ -90,11 +90,9 @@ kelindap_part kelindap_group(const uint8_t *sheet, size_t sheet_length, uint16_t
     return part(kelindap_module_group(sheet, sheet_length, address));
 }
 
-#ifdef KELINDAP_VERSION
 uint32_t kelindap_module_version(void);
 
 uint32_t kelindap_version(void)
 {
     return kelindap_module_version();
 }
-#endif

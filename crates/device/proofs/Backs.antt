@@ -51,7 +51,7 @@ module _ {s : List ℕ} (ok : Good 1 s) where
   same-property {s′} a object id i j k m =
       let h : j < count s properties = omega (arith, m .there, count-same a properties) in
       key-once 1 s (accepted ok) properties (omega arith) i j (k .there) h
-      (k .key ∙ sym (m .key) ∙ property-same a j property.key h (omega arith) (omega arith))
+      (k .key ∙ sym (m .key) ∙ property-same a j property.objectId h (omega arith) (omega arith))
 
   pub same-region :
       {s′ : List ℕ} → Agree s s′ → (i j f n : ℕ) → 1 ≤ n → Covered s regions i f n → Covered s′ regions j f n → i ≡ j

@@ -32,7 +32,7 @@ module _ (x : Asked) (object id index : ℕ) (r : Reads x (PropertyDescriptionRe
   shows o i =
       says x 0
       (PropertyDescriptionResponse o (property.id of entry (x .sheet) properties i) (rank (x .sheet) o i)
-      (property.kind of entry (x .sheet) properties i) (property.maximum of entry (x .sheet) properties i)
+      (property.typ of entry (x .sheet) properties i) (property.maximum of entry (x .sheet) properties i)
       (property.levels of entry (x .sheet) properties i)) []
 
   ranked : (i : ℕ) → i < count (x .sheet) properties → property.object of entry (x .sheet) properties i ≡ object → rank (x .sheet) object i ≡ index → Ranked (x .sheet) object index i

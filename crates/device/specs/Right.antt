@@ -77,7 +77,7 @@ pub data ReadAllowed (x : Asked) (object id n s : ℕ) : Type 0 where
 
 pub record Writable (x : Asked) (object id i : ℕ) : Type 0 where
   pub found : PropertyWith (x .sheet) object id i
-  pub bit7 : property.kind of propertyEntry x i / 128 ≡ 1
+  pub bit7 : property.typ of propertyEntry x i / 128 ≡ 1
   pub level : ℕ
   pub acts : Acts x level
   pub suffices : level ≤ property.levels of propertyEntry x i % 16
@@ -250,7 +250,7 @@ pub data Right (x : Asked) : Step → Type 0 where
       Right x
       (says x 0
       (PropertyDescriptionResponse object (property.id of propertyEntry x i) (rank (x .sheet) object i)
-      (property.kind of propertyEntry x i) (property.maximum of propertyEntry x i)
+      (property.typ of propertyEntry x i) (property.maximum of propertyEntry x i)
       (property.levels of propertyEntry x i)) [])
   noDescription :
       (object id index : ℕ) → Reads x (PropertyDescriptionRead object id index) →

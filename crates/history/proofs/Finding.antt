@@ -64,7 +64,7 @@ pub property-found :
 unfolding indexFor keyOf
 property-found s object id small low h =
     let i : ℕ = indexFor s object id in
-    let k : property.key of entry s properties i ≡ object * 256 + id = index-key s properties (object * 256 + id) h in
+    let k : property.objectId of entry s properties i ≡ object * 256 + id = index-key s properties (object * 256 + id) h in
     let b : property.id of entry s properties i < 256 =
     omega (arith, num-one (entry s properties i) 1, entry-at s properties i 1 (omega arith), small (place s properties i + 1)) in
     let q = key-parts (entry s properties i) object id b low k in

@@ -90,11 +90,11 @@ module _ {f s : List ℕ} (a : Agree f s) where
       Tests : List ℕ → ℕ → Bool
       Tests e i =
           ltb i (count f properties) &&
-          (eqb (property.kind of e / 128) 1 && ((clears n z d || fills e n z d) && (leb level (property.levels of e % 16) && true)))
+          (eqb (property.typ of e / 128) 1 && ((clears n z d || fills e n z d) && (leb level (property.levels of e % 16) && true)))
 
       go : (i : ℕ) → Dec (i < count f properties) → Tests (entry s properties i) i ≡ Tests (entry f properties i) i
       go i (yes h) =
-          rw (property-same a i property.kind h (omega arith) (omega arith), property-same a i property.maximum h (omega arith) (omega arith), property-same a i property.element h (omega arith) (omega arith), property-same a i property.levels h (omega arith) (omega arith))
+          rw (property-same a i property.typ h (omega arith) (omega arith), property-same a i property.maximum h (omega arith) (omega arith), property-same a i property.element h (omega arith) (omega arith), property-same a i property.levels h (omega arith) (omega arith))
       go i (no h) = rw (le-ltb i (count f properties) (omega arith))
   allowed-same level d (change (writeKey named number)) = refl
   allowed-same level d (offerKey number) = refl

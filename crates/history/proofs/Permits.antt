@@ -186,7 +186,7 @@ module _ (x : Asked) (g : Good 1 (x .sheet)) where
       Ts : List Bool
       Ts =
           ltb I (count S properties) ∷
-          eqb (property.kind of E / 128) 1 ∷ (clears n s d || fills E n s d) ∷ leb L (property.levels of E % 16) ∷ []
+          eqb (property.typ of E / 128) 1 ∷ (clears n s d || fills E n s d) ∷ leb L (property.levels of E % 16) ∷ []
 
       on : all Ts ≡ true → WriteAllowed x object id n s d
       on e = ways (or-cases (clears n s d) (fills E n s d) (all-at Ts e 2))

@@ -72,7 +72,7 @@ module _ (s : List ℕ) (level : ℕ) where
         Ts : List Bool
         Ts =
             ltb (indexFor s object id) (count s properties) ∷
-            eqb (property.kind of entryFor s object id / 128) 1 ∷
+            eqb (property.typ of entryFor s object id / 128) 1 ∷
             (clears n z d || fills (entryFor s object id) n z d) ∷ leb level (property.levels of entryFor s object id % 16) ∷ []
 
         enough : level ≤ property.levels of entryFor s object id % 16

@@ -78,7 +78,7 @@ allowed sheet level d (change (writeProperty object id n s)) =
     let e = entryFor sheet object id in
     all
     (ltb (indexFor sheet object id) (count sheet properties) ∷
-    eqb (property.kind of e / 128) 1 ∷ (clears n s d || fills e n s d) ∷ leb level (property.levels of e % 16) ∷ [])
+    eqb (property.typ of e / 128) 1 ∷ (clears n s d || fills e n s d) ∷ leb level (property.levels of e % 16) ∷ [])
 allowed s level d (change (writeKey named number)) = ltb named 3 && leb level named
 allowed s level d (offerKey number) = false
 allowed s level d restart = false

@@ -29,7 +29,7 @@ use Rattle.judge.proofs.Walks.{by-lt, by-le, by-eq, by-both, by-test}
 -- property i has the object and the id
 pub record Keyed (s : List ℕ) (object id i : ℕ) : Type 0 where
   pub there : i < count s properties
-  pub key : property.key of entry s properties i ≡ object * 256 + id
+  pub key : property.objectId of entry s properties i ≡ object * 256 + id
 
 -- n elements from element s on, counted from 1, are among the first m
 pub record Among (n s m : ℕ) : Type 0 where
@@ -45,7 +45,7 @@ among n s m e =
 
 -- the property may be written at a level
 pub record Free (e : List ℕ) (level : ℕ) : Type 0 where
-  pub bit7 : property.kind of e / 128 ≡ 1
+  pub bit7 : property.typ of e / 128 ≡ 1
   pub suffices : level ≤ property.levels of e % 16
 
 module _ (sheet : List ℕ) (object id : ℕ) where
@@ -99,7 +99,7 @@ module _ (sheet : List ℕ) (level object id n s : ℕ) (P : Decision → Type 0
         let i : ℕ = at sheet object id in
         let e : List ℕ = entry sheet properties i in
         by-lt P i (count sheet properties) _ _
-        (λ l. by-both P (eqb (property.kind of e / 128) 1) (leb level (property.levels of e % 16)) _ _
+        (λ l. by-both P (eqb (property.typ of e / 128) 1) (leb level (property.levels of e % 16)) _ _
         (λ k r.
         let w : Free e level = record { bit7 = eqb-true _ 1 k; suffices = leb-true level _ r } in
         by-test P (counted n s && eqb (length d) 2 && eqb (numAt d 0 2) 0) _ _
@@ -119,7 +119,7 @@ describes sheet i =
     answered
     (answer.Plain
     (PropertyDescriptionResponse (property.object of entry sheet properties i) (property.id of entry sheet properties i)
-    (rank sheet (property.object of entry sheet properties i) i) (property.kind of entry sheet properties i)
+    (rank sheet (property.object of entry sheet properties i) i) (property.typ of entry sheet properties i)
     (property.maximum of entry sheet properties i) (property.levels of entry sheet properties i)))
 
 -- property i has the object, and that index within it

@@ -62,11 +62,11 @@ module _ (n s m : ℕ) (u b : Bool) (e : b ≡ (elements n s m && u)) (h : b ≡
 
 module _
     (e : PropertyEntry) (t : List ℕ) (i : ℕ) (p : IsProperty t i e) (level object id n s : ℕ) (d : List ℕ) (r : Decision)
-    (w : Bool) (w-is : w ≡ (eqb (e .kind / 128) 1 && mayWrite level (e .levels)))
+    (w : Bool) (w-is : w ≡ (eqb (e .typ / 128) 1 && mayWrite level (e .levels)))
   where
     pub write-low : not w ≡ true → r ≡ noValue object id s → r ≡ writeIn (entry t properties i) (place t properties i) level object id n s d
     unfolding writeIn
-    write-low h g = simp (← (p .kind), ← (p .levels), ← w-is, not-true w h) g
+    write-low h g = simp (← (p .typ), ← (p .levels), ← w-is, not-true w h) g
 
     module _
         (l : not w ≡ false) (c : Bool) (c-is : c ≡ (counted n s && eqb (length d) 2 && eqb (numAt d 0 2) 0)) (o : ℕ) (o-is : o ≡ e .place + 6)
@@ -75,7 +75,7 @@ module _
             c ≡ true → r ≡ written (store.Fill o 2 0) store.Nothing (answer.Echo (PropertyValueResponse object id n s)) →
             r ≡ writeIn (entry t properties i) (place t properties i) level object id n s d
         unfolding writeIn
-        write-count h g = simp (← (p .kind), ← (p .levels), ← (p .place), ← w-is, not-false w l, ← c-is, h, ← o-is) g
+        write-count h g = simp (← (p .typ), ← (p .levels), ← (p .place), ← w-is, not-false w l, ← c-is, h, ← o-is) g
 
         module _ (m : c ≡ false) (z : ℕ) (z-is : z ≡ n * e .element) (b : Bool) (b-is : b ≡ (elements n s (e .maximum) && eqb (length d) z)) where
           pub write-elements :
@@ -85,13 +85,13 @@ module _
           unfolding writeIn
           write-elements x at h x-is at-is g =
               simp
-              (← (p .kind), ← (p .levels), ← (p .place), ← (p .maximum), ← (p .element), ← (p .offset), ← (p .count), ← w-is, not-false w l, ← c-is, m, ← z-is, ← b-is, h, ← o-is, ← x-is, ← at-is)
+              (← (p .typ), ← (p .levels), ← (p .place), ← (p .maximum), ← (p .element), ← (p .offset), ← (p .count), ← w-is, not-false w l, ← c-is, m, ← z-is, ← b-is, h, ← o-is, ← x-is, ← at-is)
               g
 
           pub write-none : b ≡ false → r ≡ noValue object id s → r ≡ writeIn (entry t properties i) (place t properties i) level object id n s d
           unfolding writeIn
           write-none h g =
-              simp (← (p .kind), ← (p .levels), ← (p .maximum), ← (p .element), ← w-is, not-false w l, ← c-is, m, ← z-is, ← b-is, h) g
+              simp (← (p .typ), ← (p .levels), ← (p .maximum), ← (p .element), ← w-is, not-false w l, ← c-is, m, ← z-is, ← b-is, h) g
 
 -- the property is looked for
 module _
@@ -128,10 +128,10 @@ module _
 
     pub describe-there :
         i < m → (e : PropertyEntry) (x : ℕ) → IsProperty t i e → x ≡ rank t (e .object) i →
-        r ≡ answered (answer.Plain (PropertyDescriptionResponse (e .object) (e .id) x (e .kind) (e .maximum) (e .levels))) →
+        r ≡ answered (answer.Plain (PropertyDescriptionResponse (e .object) (e .id) x (e .typ) (e .maximum) (e .levels))) →
         r ≡ descriptionOf t object id index
     unfolding descriptionOf
     describe-there h e x p x-is g =
         simp
-        (← i-is, ← m-is, lt-ltb _ _ h, ← (p .object), ← (p .id), ← (p .kind), ← (p .maximum), ← (p .levels), ← x-is)
+        (← i-is, ← m-is, lt-ltb _ _ h, ← (p .object), ← (p .id), ← (p .typ), ← (p .maximum), ← (p .levels), ← x-is)
         g

@@ -61,7 +61,7 @@ propertyReadOf sheet level object id n s =
 
 -- the property may be written at this level
 abbrev pub writable : List ℕ → ℕ → Bool
-writable e level = eqb (property.kind of e / 128) 1 && leb level (property.levels of e % 16)
+writable e level = eqb (property.typ of e / 128) 1 && leb level (property.levels of e % 16)
 
 -- a write of data d at this level to the property of entry e, which stands at p
 unfoldable pub writeIn : List ℕ → ℕ → ℕ → ℕ → ℕ → ℕ → ℕ → List ℕ → Decision
@@ -95,6 +95,6 @@ descriptionOf s object id index =
     (let e = entry s properties i in
     answered
     (answer.Plain
-    (PropertyDescriptionResponse (property.object of e) (property.id of e) (rank s (property.object of e) i) (property.kind of e)
+    (PropertyDescriptionResponse (property.object of e) (property.id of e) (rank s (property.object of e) i) (property.typ of e)
     (property.maximum of e) (property.levels of e))))
     (denied (PropertyDescriptionResponse object id index 0 0 0))

@@ -130,10 +130,10 @@ fn read_in(e: PropertyEntry, level: u8, object: u8, id: u8, n: u8, s: u16) -> De
 }
 
 // The property may be written at this level.
-fn is_writable(kind: u8, levels: u8, level: u8) -> bool
-    ensures { λ r. ⌜ r ≡ (eqb (kind / 128) 1 && mayWrite level levels) ⌝ }
+fn is_writable(typ: u8, levels: u8, level: u8) -> bool
+    ensures { λ r. ⌜ r ≡ (eqb (typ / 128) 1 && mayWrite level levels) ⌝ }
 {
-    if kind / 128 != 1 {
+    if typ / 128 != 1 {
         return false;
     }
     may_write(level, levels)
@@ -180,7 +180,7 @@ fn write_in(e: PropertyEntry, level: u8, object: u8, id: u8, n: u8, s: u16, d: &
     ensures { λ r. ⌜ ((t : List ℕ) (i : ℕ) → IsProperty t i e → r ≡ writeIn (entry t properties i) (place t properties i) level object id n s (now (d .entry))) ⌝ }
 {
     let element = e.element;
-    if !is_writable(e.kind, e.levels, level) {
+    if !is_writable(e.typ, e.levels, level) {
         return no_value(object, id, s);
     }
     let answer = Pdu::PropertyValueResponse { object, id, n, s };
@@ -283,7 +283,7 @@ pub fn description(sheet: &[u8], object: u8, id: u8, index: u8) -> Decision
         object: e.object,
         id: e.id,
         index: sheet::rank(sheet, e.object, i) as u8,
-        typ: e.kind,
+        typ: e.typ,
         maximum: e.maximum as u16,
         access: e.levels,
     }))

@@ -69,7 +69,7 @@ unfolding example entry numAt
 example-region = refl
 
 pub example-property :
-    map (λ (f : Field). f of entry example properties 0) (property.object ∷ property.id ∷ property.kind ∷ property.element ∷ property.maximum ∷ property.count ∷ property.offset ∷ property.levels ∷ property.zero ∷ [])
+    map (λ (f : Field). f of entry example properties 0) (property.object ∷ property.id ∷ property.typ ∷ property.element ∷ property.maximum ∷ property.count ∷ property.offset ∷ property.levels ∷ property.zero ∷ [])
     ≡ 1 ∷ 2 ∷ 0x84 ∷ 1 ∷ 4 ∷ 3 ∷ 97 ∷ 0x31 ∷ 0 ∷ []
 unfolding example entry numAt
 example-property = refl

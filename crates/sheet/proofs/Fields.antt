@@ -35,7 +35,7 @@ module _ (s : List ℕ) (ok : ruleOf s ≡ 0) where
     group-there h = record { framed = record { rows = good 1 s ok .framed }; kind = lit< tt; below = h }
 
     pub property-in : (e : List ℕ) (r : PropertyEntry) → i < count s properties → e ≡ entry s properties i
-        → r .object ≡ property.object of e → r .id ≡ property.id of e → r .kind ≡ property.kind of e → r .element ≡ property.element of e
+        → r .object ≡ property.object of e → r .id ≡ property.id of e → r .typ ≡ property.typ of e → r .element ≡ property.element of e
         → r .maximum ≡ property.maximum of e → r .count ≡ property.count of e → r .offset ≡ property.offset of e
         → r .levels ≡ property.levels of e → OfKind (r .place) properties (place s 0 i) (place s 1 i) (place s 2 i) → PropertyIn s i r
     unfolding entryDemands bodyEnd
@@ -50,7 +50,7 @@ module _ (s : List ℕ) (ok : ruleOf s ≡ 0) where
               record {
                 object = rw ee at a;
                 id = rw ee at b;
-                kind = rw ee at c;
+                typ = rw ee at c;
                 element = rw ee at d;
                 maximum = rw ee at f;
                 count = rw ee at g;

@@ -75,7 +75,7 @@ module _ {ed : ℕ} {s s′ : List ℕ} (g : Good ed s) (a : Agree s s′) where
       (λ h.
       let m = g .entries properties i (omega arith) h in
       let c : property.count of entry s properties i ≤ property.maximum of entry s properties i = omega (arith, m) in
-      rw (floor-same a properties i (omega arith) h, property-same a i property.id h (omega arith) (omega arith), property-same a i property.key h (omega arith) (omega arith), property-same a i property.kind h (omega arith) (omega arith), property-same a i property.element h (omega arith) (omega arith), property-same a i property.maximum h (omega arith) (omega arith), property-same a i property.levels h (omega arith) (omega arith), property-same a i property.zero h (omega arith) (omega arith))
+      rw (floor-same a properties i (omega arith) h, property-same a i property.id h (omega arith) (omega arith), property-same a i property.objectId h (omega arith) (omega arith), property-same a i property.typ h (omega arith) (omega arith), property-same a i property.element h (omega arith) (omega arith), property-same a i property.maximum h (omega arith) (omega arith), property-same a i property.levels h (omega arith) (omega arith), property-same a i property.zero h (omega arith) (omega arith))
       (omega (arith, m, a .counts i h .0 c)))
       (λ h.
       rw (floor-same a groups i (omega arith) h, group-same a i group.address h (omega arith), group-same a i group.code h (omega arith), group-same a i group.flags h (omega arith), group-same a i group.zeros h (omega arith))

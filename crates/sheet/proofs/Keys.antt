@@ -88,11 +88,11 @@ module _ (s : List ℕ) (k x : ℕ) where
   index-none f = seek-none _ (count s k) (λ i h q. f i h (eqb-true (keyOf s k i) x q))
 
 -- the first word of a property is its object and id
-pub key-is : (e : List ℕ) → property.key of e ≡ property.object of e * 256 + property.id of e
-key-is e = omega (arith, num-two e (property.key .at), num-one e (property.object .at), num-one e (property.id .at))
+pub key-is : (e : List ℕ) → property.objectId of e ≡ property.object of e * 256 + property.id of e
+key-is e = omega (arith, num-two e (property.objectId .at), num-one e (property.object .at), num-one e (property.id .at))
 
 -- and says both, ids being bytes
 pub key-parts :
-    (e : List ℕ) (object id : ℕ) → property.id of e < 256 → id < 256 → property.key of e ≡ object * 256 + id
+    (e : List ℕ) (object id : ℕ) → property.id of e < 256 → id < 256 → property.objectId of e ≡ object * 256 + id
     → (property.object of e ≡ object) × (property.id of e ≡ id)
 key-parts e object id h l q = let r = key-is e in omega arith

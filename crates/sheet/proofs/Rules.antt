@@ -14,8 +14,8 @@ use Rattle.sheet.specs.First.{first, orElse}
 use Rattle.sheet.specs.Kind.{byKind, kinds}
 use Rattle.sheet.specs.Entries.{count, contents, entry, floor, floorAfter, offsetOf, lengthOf, sixBits, bodyEnd, startOf, reached}
 use Rattle.sheet.specs.Rules.{regionDemands, propertyDemands, groupDemands, bodyRows, entryDemands, bodyDemands, endDemands, frameDemands, zeroDemands, entryRule, bodyRule, entriesRule, bodiesRule, walkRule, ruleIn, ruleOf}
-use Rattle.sheet.specs.Walk.{Framed, Entry, Counted, Says, Lies}
-use Rattle.sheet.specs.declared.judge.Judged.{Judged}
+use Rattle.sheet.specs.Walk.{Framed, Entry, Counted, VerdictOf, Lies}
+use Rattle.sheet.specs.declared.judge.Verdict.{Verdict}
 use Rattle.sheet.specs.declared.judge.Laid.{Laid}
 use Rattle.sheet.proofs.Bodies.{or-none}
 use Rattle.sheet.proofs.Demands.{told, met, unbroken as all-unbroken}
@@ -29,9 +29,9 @@ module _ (s : List ℕ) (k i j : ℕ) (q : k ≡ j) where
   pub entry-there : Entry s k i → Entry s j i
   entry-there h = rw q at h
 
-  module _ (e : List ℕ) (ee : e ≡ entry s j i) (z : ℕ) (r : Judged) where
-    pub says-entry : z ≡ floor s k i → Says (byKind j (regionDemands z e) (propertyDemands z e) (groupDemands z e)) (floorAfter j e) r
-        → Says (entryDemands s k i) (floor s k (i + 1)) r
+  module _ (e : List ℕ) (ee : e ≡ entry s j i) (z : ℕ) (r : Verdict) where
+    pub says-entry : z ≡ floor s k i → VerdictOf (byKind j (regionDemands z e) (propertyDemands z e) (groupDemands z e)) (floorAfter j e) r
+        → VerdictOf (entryDemands s k i) (floor s k (i + 1)) r
     unfolding entryDemands
     says-entry f o =
         let n : floorAfter j e ≡ floor s k (i + 1) = unfold floor in rw (add-one i, q, ee) in
@@ -136,7 +136,7 @@ module _ (s : List ℕ) where
       pub pass-entry : Framed 1 s → k < kinds → i < n → Entry s k i
       pass-entry fr hk hi = record { framed = fr; kind = hk; below = omega (arith, h .whole) }
 
-      pub pass-goes : (e : Judged) (b : Laid) → i < n → Says (entryDemands s k i) (floor s k (i + 1)) e → e .rule ≡ 0
+      pub pass-goes : (e : Verdict) (b : Laid) → i < n → VerdictOf (entryDemands s k i) (floor s k (i + 1)) e → e .rule ≡ 0
           → Lies (bodyDemands s k i) (reached s k (i + 1)) b → Passed s k n (e .next) (b .next) (bitOr late (b .odd)) (i + 1)
       unfolding entryRule
       pass-goes e b hi u q v =
@@ -163,8 +163,8 @@ module _ (s : List ℕ) where
 
 -- where the walk leaves
 module _ (s : List ℕ) (r : ℕ) where
-  pub left-at : (k n f z late i z₀ late₀ : ℕ) (e : Judged) → Walked s k z₀ late₀ → Passed s k n f z late i → k < kinds → i < n
-      → Says (entryDemands s k i) (floor s k (i + 1)) e → r ≡ e .rule → (r ≡ 0 → ⊥) → r ≡ walkRule s
+  pub left-at : (k n f z late i z₀ late₀ : ℕ) (e : Verdict) → Walked s k z₀ late₀ → Passed s k n f z late i → k < kinds → i < n
+      → VerdictOf (entryDemands s k i) (floor s k (i + 1)) e → r ≡ e .rule → (r ≡ 0 → ⊥) → r ≡ walkRule s
   unfolding walkRule
   left-at k n f z late i z₀ late₀ e w v hk hi u q h = rw (← all) (sym (orElse-some r _ h))
     where

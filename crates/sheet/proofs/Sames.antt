@@ -78,7 +78,7 @@ module _ {s s′ : List ℕ} (a : Agree s s′) where
   key-same i =
       eachKind (λ (k : ℕ). i < count s k → keyOf s′ k i ≡ keyOf s k i)
       (λ h. region-same i region.address h (omega arith))
-      (λ h. property-same i property.key h (omega arith) (omega arith))
+      (λ h. property-same i property.objectId h (omega arith) (omega arith))
       (λ h. group-same i group.address h (omega arith))
 
   -- what it leaves to the next
@@ -86,7 +86,7 @@ module _ {s s′ : List ℕ} (a : Agree s s′) where
   after-same i =
       eachKind (λ (k : ℕ). i < count s k → floorAfter k (entry s′ k i) ≡ floorAfter k (entry s k i))
       (λ h. rw (region-same i region.address h (omega arith), region-same i region.length h (omega arith)))
-      (λ h. rw (property-same i property.key h (omega arith) (omega arith)))
+      (λ h. rw (property-same i property.objectId h (omega arith) (omega arith)))
       (λ h. rw (group-same i group.address h (omega arith)))
 
   -- what the entry before leaves to it

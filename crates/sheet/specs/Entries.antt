@@ -38,12 +38,12 @@ entry s k i = take (size k) (drop (place s k i) s)
 
 -- the first word of an entry: where a region starts, object and id of a property, the address of a group object
 unfoldable pub keyOf : List ℕ → ℕ → ℕ → ℕ
-keyOf s k i = byKind k region.address property.key group.address of entry s k i
+keyOf s k i = byKind k region.address property.objectId group.address of entry s k i
 
 -- the least first word that the entry after e may have: a region's end, one more than the key of another
 abbrev pub floorAfter : ℕ → List ℕ → ℕ
 floorAfter k e =
-    byKind k (region.address of e + region.length of e) (property.key of e + 1) (group.address of e + 1)
+    byKind k (region.address of e + region.length of e) (property.objectId of e + 1) (group.address of e + 1)
 
 unfoldable pub floor : List ℕ → ℕ → ℕ → ℕ
 floor s k zero = 0

@@ -50,7 +50,7 @@ pub record PropertyWith (s : List ℕ) (object id i : ℕ) : Type 0 where
 pub record IsProperty (s : List ℕ) (i : ℕ) (r : PropertyEntry) : Type 0 where
   pub object : r .object ≡ property.object of entry s properties i
   pub id : r .id ≡ property.id of entry s properties i
-  pub kind : r .kind ≡ property.kind of entry s properties i
+  pub typ : r .typ ≡ property.typ of entry s properties i
   pub element : r .element ≡ property.element of entry s properties i
   pub maximum : r .maximum ≡ property.maximum of entry s properties i
   pub count : r .count ≡ property.count of entry s properties i

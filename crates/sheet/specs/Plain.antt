@@ -46,7 +46,7 @@ pub record S6 (s : List ℕ) : Type 0 where
 
 pub record Property (e : List ℕ) : Type 0 where
   pub id : 1 ≤ property.id of e
-  pub bit6 : property.kind of e / 64 % 2 ≡ 0
+  pub bit6 : property.typ of e / 64 % 2 ≡ 0
   pub element : (1 ≤ property.element of e) × (property.element of e ≤ 10)
   pub maximum : (1 ≤ property.maximum of e) × (property.maximum of e ≤ 4095)
   pub count : property.count of e ≤ property.maximum of e
@@ -56,7 +56,7 @@ pub record Property (e : List ℕ) : Type 0 where
 pub record S7 (s : List ℕ) : Type 0 where
   pub each : (i : ℕ) → i < count s properties → Property (entry s properties i)
   pub rising :
-      (i : ℕ) → suc i < count s properties → property.key of entry s properties i < property.key of entry s properties (suc i)
+      (i : ℕ) → suc i < count s properties → property.objectId of entry s properties i < property.objectId of entry s properties (suc i)
 
 pub record Group (e : List ℕ) : Type 0 where
   pub address : 1 ≤ group.address of e

@@ -13,12 +13,12 @@ abbrev pub id : Field
 id = field 1 1
 
 -- object and id as one number
-abbrev pub key : Field
-key = field 0 2
+abbrev pub objectId : Field
+objectId = field 0 2
 
 -- bit 7 writable, bit 6 zero
-abbrev pub kind : Field
-kind = field 2 1
+abbrev pub typ : Field
+typ = field 2 1
 
 -- the bytes of an element
 abbrev pub element : Field

@@ -49,8 +49,8 @@ regionDemands f e =
 abbrev pub propertyDemands : ℕ → List ℕ → List Demand
 propertyDemands f e =
     (7 ⦂ 1 ≼ property.id of e) ∷
-    (7 ⦂ f ≼ property.key of e) ∷
-    (7 ⦂ property.kind of e / 64 % 2 ≐ 0) ∷
+    (7 ⦂ f ≼ property.objectId of e) ∷
+    (7 ⦂ property.typ of e / 64 % 2 ≐ 0) ∷
     (7 ⦂ 1 ≼ property.element of e) ∷
     (7 ⦂ property.element of e ≼ 10) ∷
     (7 ⦂ 1 ≼ property.maximum of e) ∷

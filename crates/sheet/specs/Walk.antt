@@ -8,7 +8,7 @@ use Rattle.sheet.specs.Demand.{Demand, Met, Tells}
 use Rattle.sheet.specs.Kind.{kinds, OfKind}
 use Rattle.sheet.specs.Entries.{count, size, entry, keyOf, offsetOf, lengthOf}
 use Rattle.sheet.specs.Rules.{frameDemands}
-use Rattle.sheet.specs.declared.judge.Judged.{Judged}
+use Rattle.sheet.specs.declared.judge.Verdict.{Verdict}
 use Rattle.sheet.specs.declared.judge.Laid.{Laid}
 use Rattle.sheet.specs.Region as region
 
@@ -54,7 +54,7 @@ pub record Long (k : ℕ) (e : List ℕ) (r : ℕ) : Type 0 where
   pub below : r < 16777216
 
 -- the first rule that some rows break, and n
-pub record Says (ds : List Demand) (n : ℕ) (r : Judged) : Type 0 where
+pub record VerdictOf (ds : List Demand) (n : ℕ) (r : Verdict) : Type 0 where
   pub rule : Tells (r .rule) ds
   pub next : r .next ≡ n
 

@@ -6,7 +6,7 @@ ghost use Rattle.sheet.specs.Demand.{Met, Tells};
 ghost use Rattle.sheet.specs.Kind.{regions, properties, groups};
 ghost use Rattle.sheet.specs.Entries.{floorAfter, offsetOf, lengthOf, sixBits};
 ghost use Rattle.sheet.specs.Rules.{regionDemands, propertyDemands, groupDemands, bodyRows};
-ghost use Rattle.sheet.specs.Walk.{Sized, Says, Lies};
+ghost use Rattle.sheet.specs.Walk.{Sized, VerdictOf, Lies};
 ghost use Rattle.sheet.specs.Region as region;
 ghost use Rattle.sheet.specs.Property as property;
 ghost use Rattle.sheet.specs.Group as group;
@@ -20,7 +20,7 @@ use octets::byte;
 use octets::word;
 
 // The rule that a step of the walk breaks, or 0, and what the step after it is judged against.
-pub struct Judged {
+pub struct Verdict {
     pub rule: u8,
     pub next: usize,
 }
@@ -61,11 +61,11 @@ fn region_rule(floor: usize, e: &[u8]) -> u8
 }
 
 // The same, and the least address that the next may have.
-pub fn region_step(floor: usize, e: &[u8]) -> Judged
+pub fn region_step(floor: usize, e: &[u8]) -> Verdict
     requires { ⌜ region.size ≤ length (now e) ⌝ }
-    ensures { λ r. ⌜ Says (regionDemands floor (now (e .entry))) (floorAfter regions (now (e .entry))) r ⌝ }
+    ensures { λ r. ⌜ VerdictOf (regionDemands floor (now (e .entry))) (floorAfter regions (now (e .entry))) r ⌝ }
 {
-    Judged {
+    Verdict {
         rule: region_rule(floor, e),
         next: word(e, region::ADDRESS) + word(e, region::LENGTH),
     }
@@ -79,10 +79,10 @@ fn property_rule(floor: usize, e: &[u8]) -> u8
     if byte(e, property::ID) < 1 {
         return 7;
     }
-    if word(e, property::KEY) < floor {
+    if word(e, property::OBJECT_ID) < floor {
         return 7;
     }
-    if byte(e, property::KIND) / 64 % 2 != 0 {
+    if byte(e, property::TYPE) / 64 % 2 != 0 {
         return 7;
     }
     if byte(e, property::ELEMENT) < 1 {
@@ -114,13 +114,13 @@ fn property_rule(floor: usize, e: &[u8]) -> u8
 }
 
 // The same, and the least object and id that the next may have.
-pub fn property_step(floor: usize, e: &[u8]) -> Judged
+pub fn property_step(floor: usize, e: &[u8]) -> Verdict
     requires { ⌜ property.size ≤ length (now e) ⌝ }
-    ensures { λ r. ⌜ Says (propertyDemands floor (now (e .entry))) (floorAfter properties (now (e .entry))) r ⌝ }
+    ensures { λ r. ⌜ VerdictOf (propertyDemands floor (now (e .entry))) (floorAfter properties (now (e .entry))) r ⌝ }
 {
-    Judged {
+    Verdict {
         rule: property_rule(floor, e),
-        next: word(e, property::KEY) + 1,
+        next: word(e, property::OBJECT_ID) + 1,
     }
 }
 
@@ -149,11 +149,11 @@ fn group_rule(floor: usize, e: &[u8]) -> u8
 }
 
 // The same, and the least address that the next may have.
-pub fn group_step(floor: usize, e: &[u8]) -> Judged
+pub fn group_step(floor: usize, e: &[u8]) -> Verdict
     requires { ⌜ group.size ≤ length (now e) ⌝ }
-    ensures { λ r. ⌜ Says (groupDemands floor (now (e .entry))) (floorAfter groups (now (e .entry))) r ⌝ }
+    ensures { λ r. ⌜ VerdictOf (groupDemands floor (now (e .entry))) (floorAfter groups (now (e .entry))) r ⌝ }
 {
-    Judged {
+    Verdict {
         rule: group_rule(floor, e),
         next: word(e, group::ADDRESS) + 1,
     }

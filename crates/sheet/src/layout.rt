@@ -57,9 +57,9 @@ pub mod property {
 
     pub const ID: usize = 1;
 
-    pub const KEY: usize = 0;
+    pub const OBJECT_ID: usize = 0;
 
-    pub const KIND: usize = 2;
+    pub const TYPE: usize = 2;
 
     pub const ELEMENT: usize = 3;
 

@@ -49,7 +49,7 @@ pub enum Run {
 pub struct PropertyEntry {
     pub object: u8,
     pub id: u8,
-    pub kind: u8,
+    pub typ: u8,
     pub element: usize,
     pub maximum: usize,
     pub count: usize,

@@ -37,7 +37,7 @@ pub fn property_entry(s: &[u8], i: usize) -> PropertyEntry
     PropertyEntry {
         object: byte(e, property::OBJECT) as u8,
         id: byte(e, property::ID) as u8,
-        kind: byte(e, property::KIND) as u8,
+        typ: byte(e, property::TYPE) as u8,
         element: byte(e, property::ELEMENT),
         maximum: word(e, property::MAXIMUM),
         count: word(e, property::COUNT),

@@ -5,11 +5,11 @@ ghost use Rattle.sheet.specs.Demand.{Tells};
 ghost use Rattle.sheet.specs.Kind.{kinds};
 ghost use Rattle.sheet.specs.Entries.{floor as floorOf, reached, startOf};
 ghost use Rattle.sheet.specs.Rules.{entryDemands, bodyDemands, endDemands, walkRule, ruleOf};
-ghost use Rattle.sheet.specs.Walk.{Framed, Entry, Says, Lies};
+ghost use Rattle.sheet.specs.Walk.{Framed, Entry, VerdictOf, Lies};
 use crate::frame::frame_rule;
 use crate::frame::zero_rule;
-use crate::judge::Judged;
 use crate::judge::Laid;
+use crate::judge::Verdict;
 use crate::judge::body_of;
 use crate::judge::group_step;
 use crate::judge::property_step;
@@ -20,9 +20,9 @@ use crate::table::entry;
 use crate::table::many;
 
 // S6, S7 or S8 of entry i of a kind, and the floor of the next. An arm for each kind, so that each is compiled by itself.
-fn entry_step(s: &[u8], k: usize, i: usize, floor: usize) -> Judged
+fn entry_step(s: &[u8], k: usize, i: usize, floor: usize) -> Verdict
     requires { ⌜ Entry (now s) k i × (floor ≡ floorOf (now s) k i) ⌝ }
-    ensures { λ r. ⌜ Says (entryDemands (now (s .entry)) k i) (floorOf (now (s .entry)) k (i + 1)) r ⌝ }
+    ensures { λ r. ⌜ VerdictOf (entryDemands (now (s .entry)) k i) (floorOf (now (s .entry)) k (i + 1)) r ⌝ }
 {
     match k {
         kind::REGIONS => region_step(floor, entry(s, kind::REGIONS, i)),
