@@ -13,7 +13,7 @@ use Rattle.judge.specs.declared.Session.{Session}
 use Rattle.device.specs.Octets.{Octets}
 use Rattle.device.specs.Asked.{Asked}
 use Rattle.device.specs.Step.{stepOf}
-use Rattle.device.proofs.Answers.{answers}
+use Rattle.device.proofs.AnswerReads.{answer-reads}
 use Rattle.cemi.specs.Layout.{table, Fit}
 use Rattle.cemi.specs.Parts.{tpduOf}
 use Rattle.cemi.specs.Write.{numbersOf, under, encoded, frameOf, writable}
@@ -49,7 +49,7 @@ pub answered :
 answered x f code t i hs ha fit w =
     ⊎-elim (λ e. inl e)
     (λ r. inr (r .pdu, r .bytes, brought (answering f code t) i _ (r .pdu) (r .bytes) fit w (r .reads) (r .gives)))
-    (answers x hs ha)
+    (answer-reads x hs ha)
 
 -- A REQUEST THAT CAME IN A FRAME is dealt with as the APDU that was written into it
 pub heard :
