@@ -6,6 +6,7 @@
  * first call of a function of the C library would otherwise run its loader on the same stack.
  */
 #include "kelindap.h"
+#include "kelindap_frame.h"
 #include "kelindap_pdu.h"
 
 #include <stdint.h>
@@ -76,6 +77,36 @@ static void read_and_write(void)
     }
 }
 
+static void points(void)
+{
+    static const uint8_t types[] = {1, 5, 9, 14};
+    for (unsigned i = 0; i < 1 << 14; i++) {
+        (void)next_apdu(i);
+        uint8_t type = types[i % 4];
+        size_t width = type == 14 ? 4 : type == 9 ? 2 : 1;
+        kelindap_point point = kelindap_point_read(type, apdu + i % 8, width);
+        kept += kelindap_point_write(point, answer, width);
+    }
+}
+
+static void frames(void)
+{
+    static uint8_t frame[26], out[32];
+    for (unsigned i = 0; i < 1 << 14; i++) {
+        size_t length = next_apdu(i), info = i % 4;
+        frame[0] = i & 1 ? KELINDAP_L_DATA_REQ : KELINDAP_L_DATA_IND;
+        frame[1] = (uint8_t)info;
+        frame[2 + info] = 0xBC;
+        frame[3 + info] = i & 2 ? 0xE0 : 0x60;
+        frame[8 + info] = (uint8_t)(length - 1);
+        for (size_t k = 0; k < length && 9 + info + k < sizeof frame; k++)
+            frame[9 + info + k] = apdu[k];
+        size_t all = 9 + info + length < sizeof frame ? 9 + info + length : sizeof frame;
+        kelindap_frame got = kelindap_frame_read(frame, all);
+        kept += kelindap_frame_write(got, frame + 2, got.info_length, apdu, length, out, sizeof out).count;
+    }
+}
+
 /* the depth of what a function does, in bytes */
 static size_t depth_of(void (*function)(void))
 {
@@ -108,7 +139,9 @@ int main(void)
         {"kelindap_region", region},
         {"kelindap_group", group},
         {"kelindap_request", request},
-        {"kelindap_read, kelindap_write", read_and_write},
+        {"kelindap_read, _write", read_and_write},
+        {"kelindap_point_read, _write", points},
+        {"kelindap_frame_read, _write", frames},
     };
     size_t empty = depth_of(nothing);
     size_t deepest = 0;
