@@ -10,8 +10,24 @@ use std::{env, fs, process};
 
 /// The words of the language, of its library and of a verdict that the documents explain or use.
 const LIBRARY: &[&str] = &[
-    "getD", "cond", "ltb", "leb", "eqb", "bitAnd", "bitXor", "requires", "ensures", "rt", "memset", "memcpy", "memmove", "memcmp",
-    "sum", "native", "logic-built", "libraries-built",
+    "getD",
+    "cond",
+    "ltb",
+    "leb",
+    "eqb",
+    "bitAnd",
+    "bitXor",
+    "requires",
+    "ensures",
+    "rt",
+    "memset",
+    "memcpy",
+    "memmove",
+    "memcmp",
+    "sum",
+    "native",
+    "logic-built",
+    "libraries-built",
 ];
 
 /// The endings by which a word is a file.
@@ -127,7 +143,8 @@ impl Tree {
     /// Whether a file, or a file of a folder, has the word.
     fn stands(&mut self, word: &str, path: &Path) -> bool {
         if path.is_dir() {
-            let mut inner: Vec<PathBuf> = fs::read_dir(path).map(|d| d.flatten().map(|e| e.path()).collect()).unwrap_or_default();
+            let mut inner: Vec<PathBuf> =
+                fs::read_dir(path).map(|d| d.flatten().map(|e| e.path()).collect()).unwrap_or_default();
             inner.sort();
             return inner.iter().any(|p| (p.is_dir() || is_file(&p.to_string_lossy())) && self.stands(word, p));
         }

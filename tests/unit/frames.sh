@@ -4,6 +4,7 @@
 # asked, with the host's own sequence number, and the unit reads it once more. Frames to another address are left alone.
 set -euo pipefail
 coproc unit { exec "$1"; }
+# shellcheck disable=SC2154 # coproc sets it
 pid=$unit_PID
 room=eeeeeeeeeeeeeeeeeeeeeeeeeeeeeeee own=4357 next=0
 
@@ -14,7 +15,8 @@ ask() { # COMMAND: the unit's answer in $reply
 
 understand() { # FRAMEHEX: its fields in $got, what it means in $meaning
     ask "frame read $1"
-    local -a words=($reply)
+    local -a words
+    read -r -a words <<< "$reply"
     got=() meaning=${words[0]}
     [ "$meaning" = 0 ] || return 0
     for word in "${words[@]:1:8}"; do got[${word%%=*}]=${word#*=}; done
@@ -23,7 +25,8 @@ understand() { # FRAMEHEX: its fields in $got, what it means in $meaning
 
 answer() { # DESTINATION TRANSPORT APDUHEX
     ask "frame write code=17 c1=${got[c1]} c2=${got[c2]} source=$own destination=$1 transport=$2 info=- apdu=$3 $room$room"
-    local -a words=($reply)
+    local -a words
+    read -r -a words <<< "$reply"
     local sent=${words[2]:0:2 * words[1]}
     understand "$sent"
     [ "${got[source]} ${got[destination]} ${got[tpdu]:2}" = "$own $1 ${3:2}" ] || { echo "  > $sent reads as another frame" && exit 1; }
@@ -33,7 +36,8 @@ answer() { # DESTINATION TRANSPORT APDUHEX
 
 request() { # MODE GROUP DESTINATION TRANSPORT
     ask "request $1 $2 ${got[tpdu]} $room"
-    local -a words=($reply)
+    local -a words
+    read -r -a words <<< "$reply"
     echo "  outcome ${words[0]}, session ${words[1]} ${words[2]}"
     [ "${words[3]}" = 0 ] || answer "$3" "$4" "${words[4]:0:2 * words[3]}"
 }
@@ -61,5 +65,6 @@ while read -r frame; do
         ;;
     esac
 done
+# shellcheck disable=SC2093,SC1083 # closes the file, and replaces nothing
 exec {unit[1]}>&-
 wait "$pid"

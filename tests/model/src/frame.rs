@@ -65,7 +65,7 @@ pub fn write(f: &Frame, buffer: &mut [u8]) -> (u8, usize) {
     let possible = (f.code == 0x11 || f.code == 0x29)
         && (128..256).contains(&f.c1)
         && f.c2 < 256
-        && f.c2 % 16 == 0
+        && f.c2.is_multiple_of(16)
         && f.source < 65_536
         && f.destination < 65_536
         && f.transport < 64

@@ -67,7 +67,9 @@ fn time(f: impl Fn(i32, &mut [u8]) -> u8, x: i32) -> f64 {
 
 fn main() {
     println!("type 9 written                   ns    plain  ratio");
-    for (name, x) in [("worst case, -67108864", -67_108_864), ("21.50 degrees, 2150", 2150), ("smallest, 1", 1)] {
+    for (name, x) in
+        [("worst case, -67108864", -67_108_864), ("21.50 degrees, 2150", 2150), ("smallest, 1", 1)]
+    {
         let (mut a, mut b) = ([0; 2], [0; 2]);
         assert_eq!((proved(x, &mut a), a), (plain(x, &mut b), b), "{x}");
         let idle = time(nothing, x);

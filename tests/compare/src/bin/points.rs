@@ -90,7 +90,17 @@ fn others(script: &mut Script, random: &mut Rng) {
     }
     script.write(Point::Switch(false));
     script.write(Point::Switch(true));
-    let edges = [0, 1, 0x007F_FFFF, 0x0080_0000, 0x7F7F_FFFF, 0x7F80_0000, 0x7F80_0001, 0x7FC0_0000, 0x7FFF_FFFF];
+    let edges = [
+        0,
+        1,
+        0x007F_FFFF,
+        0x0080_0000,
+        0x7F7F_FFFF,
+        0x7F80_0000,
+        0x7F80_0001,
+        0x7FC0_0000,
+        0x7FFF_FFFF,
+    ];
     let floats = edges.into_iter().flat_map(|b| [b, b | 0x8000_0000]);
     for bits in floats.chain((0..20_000).map(|_| random.draw() as u32)).collect::<Vec<u32>>() {
         script.read(14, &bits.to_be_bytes());
@@ -141,7 +151,11 @@ fn main() -> ExitCode {
     match play(&unit, &script.lines) {
         Ok(different) => {
             println!("points: {} values, {different} different", script.lines.len());
-            if different == 0 { ExitCode::SUCCESS } else { ExitCode::FAILURE }
+            if different == 0 {
+                ExitCode::SUCCESS
+            } else {
+                ExitCode::FAILURE
+            }
         }
         Err(e) => {
             println!("points: {unit}: {e}");
