@@ -18,8 +18,14 @@ piece() {
     echo 'void ask_height(void) {'
     piece 'kelindap_pdu ask = '
     echo '}'
+    echo 'void take_frame(const uint8_t *frame, size_t length) {'
+    piece 'kelindap_frame f = '
+    echo '}'
+    echo 'void set_warm(void) {'
+    piece 'kelindap_point warm = '
+    echo '}'
 } > "$work/readme.c"
-[ "$(grep -c 'kelindap_request\|kelindap_write' "$work/readme.c")" = 2 ] || { echo "readme: a piece is missing"; exit 1; }
+[ "$(grep -c 'kelindap_request\|kelindap_write' "$work/readme.c")" = 3 ] || { echo "readme: a piece is missing"; exit 1; }
 
 gcc -std=c11 -Wall -Wextra -Wpedantic -Werror -Iinclude -I. -c "$work/readme.c" -o "$work/c.o"
 languages=C11
