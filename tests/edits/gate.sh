@@ -6,7 +6,7 @@ set -uo pipefail
 list=$1
 log=build/ci.log
 mkdir -p build
-rt ci 2>&1 | tee "$log" | awk 'NR > 1 { print held; fflush() } { held = $0 }'
+rt ci 2>&1 | tee "$log" | sed -u '$d'
 status=${PIPESTATUS[0]}
 
 # from the log: crate/edit and the file where the prover first said no
