@@ -1,3 +1,4 @@
+-- All are promises, named in docs/PROMISES.md.
 pub mod Alike
 pub mod Heard
 pub mod Joined

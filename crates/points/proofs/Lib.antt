@@ -1,3 +1,4 @@
+-- Promises, named in docs/PROMISES.md: Choice, Unique, Back. All others are laws behind them or behind the contracts.
 pub mod Floats
 pub mod Laws
 pub mod Casts
