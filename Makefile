@@ -33,9 +33,9 @@ model: need-tools
 	cd tests/model && cargo test --offline --release --quiet
 	cd tests/bench && cargo check --offline --release --quiet
 
-# the checking program on files and pipes
+# the checking program on files and pipes; what the other tests link is proved in the same run, several crates at a time
 sheet-check: need-tools
-	rt check sheet_check
+	rt check sheet_check host tool
 	tests/sheet_check.sh target/bin/sheet_check
 
 include mk/hosts.mk
