@@ -12,7 +12,7 @@ use lib.Seq.{getD-append-add, ext-getD}
 use Rattle.octets.specs.Splice.{splice}
 use Rattle.octets.proofs.Splices.{length-splice, splice-none, splice-above, splice-more, splice-one}
 use Rattle.device.specs.Carry.{build, bitAt}
-use Rattle.device.specs.Right.{Combined}
+use Rattle.device.specs.MemoryDue.{Combined}
 
 -- its length, and its bytes
 pub length-build : (n : ℕ) (f : ℕ → ℕ) → length (build n f) ≡ n

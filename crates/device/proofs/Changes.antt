@@ -21,7 +21,7 @@ use Rattle.judge.proofs.MemoryCases.{Reflects, Permits, changed, verified, chan
 use Rattle.device.specs.Carry.{storeOf}
 use Rattle.device.specs.Step.{stepBy}
 use Rattle.device.specs.Asked.{Asked, quiet, says, saysAfter, stores, Reads, given}
-use Rattle.device.specs.Right.{memoryAt, Verify, Right}
+use Rattle.device.specs.MemoryDue.{MemoryDue, memoryAt, Verify}
 use Rattle.device.proofs.Accepted.{memory-within}
 use Rattle.device.proofs.Stores.{stored-back}
 use Rattle.device.proofs.Stepped.{step, step-read}
@@ -106,16 +106,16 @@ module _ (x : Asked) (p : Pdu) (n address : ℕ) (W : ℕ → Type 0) (c : Chang
 
   -- one of the four is due
   pub right-change :
-      ((i : ℕ) → W i → Verify x → Right x (saysAfter x (after i) (MemoryResponse n address) (c .bytes (spot i)))) →
-      ((i : ℕ) → W i → (Verify x → ⊥) → Right x (stores x (after i))) →
-      (((i : ℕ) → W i → ⊥) → Verify x → Right x (says x 11 (MemoryResponse 0 address) [])) →
-      (((i : ℕ) → W i → ⊥) → (Verify x → ⊥) → Right x (quiet x 12)) → Right x (stepBy (x .sheet) (x .session) (given x p) made)
+      ((i : ℕ) → W i → Verify x → MemoryDue x (saysAfter x (after i) (MemoryResponse n address) (c .bytes (spot i)))) →
+      ((i : ℕ) → W i → (Verify x → ⊥) → MemoryDue x (stores x (after i))) →
+      (((i : ℕ) → W i → ⊥) → Verify x → MemoryDue x (says x 11 (MemoryResponse 0 address) [])) →
+      (((i : ℕ) → W i → ⊥) → (Verify x → ⊥) → MemoryDue x (quiet x 12)) → MemoryDue x (stepBy (x .sheet) (x .session) (given x p) made)
   unfolding stepBy
   right-change f g h u =
       change-cases (c .tells) (c .most) (c .new) (x .sheet) regions level n address
-      (λ (k : Decision). made ≡ k → Right x (stepBy (x .sheet) (x .session) (given x p) k))
-      (λ i q v e. let w = c .from i q in subst (Right x) (sym (shown i w)) (f i w v))
-      (λ i q v e. subst (Right x) (sym (kept i)) (g i (c .from i q) v))
+      (λ (k : Decision). made ≡ k → MemoryDue x (stepBy (x .sheet) (x .session) (given x p) k))
+      (λ i q v e. let w = c .from i q in subst (MemoryDue x) (sym (shown i w)) (f i w v))
+      (λ i q v e. subst (MemoryDue x) (sym (kept i)) (g i (c .from i q) v))
       (λ v e.
       h
       (λ i w. let z : _≡_ {A = ℕ} 0 11 = ap (λ (k : Decision). k .outcome) (sym (writes i w v) ∙ e) in omega arith)

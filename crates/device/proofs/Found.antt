@@ -6,7 +6,8 @@ use mathlib.Core.Logic.{_⊎_, inl, inr}
 use native.Mathlib.Omega.{arith}
 use Rattle.pdu.specs.declared.Pdu.the-variants.{PropertyValueRead, PropertyValueWrite, MemoryRead, MemoryWrite, MemoryBitWrite}
 use Rattle.device.specs.Asked.{Asked, Reads}
-use Rattle.device.specs.Right.{Readable, MemoryReadable}
+use Rattle.device.specs.PropertiesDue.{Readable}
+use Rattle.device.specs.MemoryDue.{MemoryReadable}
 use Rattle.device.specs.Next.{Confirmed, Next, SameAnswer}
 use Rattle.device.proofs.RightMemory.{writing, bit-writing}
 use Rattle.device.proofs.Carried.{carried, ready-next}

@@ -20,7 +20,8 @@ use Rattle.judge.specs.Session.{levelIn}
 use Rattle.judge.proofs.MemoryCases.{Permits, change-cases}
 use Rattle.device.specs.Step.{Step, stepBy}
 use Rattle.device.specs.Asked.{Asked, Reads, given}
-use Rattle.device.specs.Right.{part, memoryAt, MemoryReadable}
+use Rattle.device.specs.Asked.{part}
+use Rattle.device.specs.MemoryDue.{memoryAt, MemoryReadable}
 use Rattle.device.specs.Demand2.{done}
 use Rattle.device.specs.Next.{SameAnswer}
 use Rattle.device.proofs.Accepted.{memory-within}

@@ -24,7 +24,8 @@ use Rattle.judge.specs.Session.{levelIn}
 use Rattle.judge.proofs.PropertyCases.{Keyed, Among, property-write-cases}
 use Rattle.device.specs.Step.{Step, stepBy}
 use Rattle.device.specs.Asked.{Asked, Reads, given}
-use Rattle.device.specs.Right.{part, elementAt, Readable}
+use Rattle.device.specs.Asked.{part}
+use Rattle.device.specs.PropertiesDue.{elementAt, Readable}
 use Rattle.device.specs.Demand2.{done}
 use Rattle.device.specs.Next.{SameAnswer}
 use Rattle.device.proofs.Given.{write-data}

@@ -17,7 +17,7 @@ use Rattle.judge.specs.Addresses.{newAddress, addressWriteOf, addressReadOf, se
 use Rattle.judge.proofs.Walks.{by-eq}
 use Rattle.device.specs.Step.{stepBy}
 use Rattle.device.specs.Asked.{Asked, quiet, says, stores, Reads, given}
-use Rattle.device.specs.Right.{Programming, Right, addressWrite, noAddressWrite, addressRead, noAddressRead, serialRead, noSerialRead, serialWrite, noSerialWrite, descriptor, noDescriptor}
+use Rattle.device.specs.AddressesDue.{AddressesDue, Programming, addressWrite, noAddressWrite, addressRead, noAddressRead, serialRead, noSerialRead, serialWrite, noSerialWrite, descriptor, noDescriptor}
 use Rattle.device.proofs.Stepped.{step, step-read}
 
 module _ (x : Asked) where
@@ -31,10 +31,10 @@ module _ (x : Asked) where
     only-no-address-write h = step-read x _ r (decisions.refused 2) (simp (ne-eqb (head.programming (x .sheet)) 1 h))
 
     pub right-address-write :
-        Right x (stepBy (x .sheet) (x .session) (given x (IndividualAddressWrite address)) (addressWriteOf (x .sheet) address))
+        AddressesDue x (stepBy (x .sheet) (x .session) (given x (IndividualAddressWrite address)) (addressWriteOf (x .sheet) address))
     unfolding stepBy addressWriteOf
     right-address-write =
-        by-eq (λ (k : Decision). Right x (stepBy (x .sheet) (x .session) (given x (IndividualAddressWrite address)) k))
+        by-eq (λ (k : Decision). AddressesDue x (stepBy (x .sheet) (x .session) (given x (IndividualAddressWrite address)) k))
         (head.programming (x .sheet)) 1 _ _ (λ h. addressWrite address r h) (λ h. noAddressWrite address r h)
 
   module _ (r : Reads x IndividualAddressRead) where
@@ -46,10 +46,10 @@ module _ (x : Asked) where
     unfolding stepBy addressReadOf
     only-no-address-read h = step-read x _ r (decisions.refused 2) (simp (ne-eqb (head.programming (x .sheet)) 1 h))
 
-    pub right-address-read : Right x (stepBy (x .sheet) (x .session) (given x IndividualAddressRead) (addressReadOf (x .sheet)))
+    pub right-address-read : AddressesDue x (stepBy (x .sheet) (x .session) (given x IndividualAddressRead) (addressReadOf (x .sheet)))
     unfolding stepBy addressReadOf
     right-address-read =
-        by-eq (λ (k : Decision). Right x (stepBy (x .sheet) (x .session) (given x IndividualAddressRead) k))
+        by-eq (λ (k : Decision). AddressesDue x (stepBy (x .sheet) (x .session) (given x IndividualAddressRead) k))
         (head.programming (x .sheet)) 1 _ _ (λ h. addressRead r h) (λ h. noAddressRead r h)
 
   module _ (serial : ℕ) (r : Reads x (SerialNumberRead serial)) where
@@ -62,10 +62,10 @@ module _ (x : Asked) where
     only-no-serial-read h = step-read x _ r (decisions.refused 2) (simp (ne-eqb serial (head.serial of x .sheet) h))
 
     pub right-serial-read :
-        Right x (stepBy (x .sheet) (x .session) (given x (SerialNumberRead serial)) (serialReadOf (x .sheet) serial))
+        AddressesDue x (stepBy (x .sheet) (x .session) (given x (SerialNumberRead serial)) (serialReadOf (x .sheet) serial))
     unfolding stepBy serialReadOf
     right-serial-read =
-        by-eq (λ (k : Decision). Right x (stepBy (x .sheet) (x .session) (given x (SerialNumberRead serial)) k))
+        by-eq (λ (k : Decision). AddressesDue x (stepBy (x .sheet) (x .session) (given x (SerialNumberRead serial)) k))
         serial (head.serial of x .sheet) _ _ (λ h. serialRead serial r h) (λ h. noSerialRead serial r h)
 
   module _ (serial address : ℕ) (r : Reads x (SerialNumberWrite serial address)) where
@@ -79,11 +79,11 @@ module _ (x : Asked) where
     only-no-serial-write h = step-read x _ r (decisions.refused 2) (simp (ne-eqb serial (head.serial of x .sheet) h))
 
     pub right-serial-write :
-        Right x
+        AddressesDue x
         (stepBy (x .sheet) (x .session) (given x (SerialNumberWrite serial address)) (serialWriteOf (x .sheet) serial address))
     unfolding stepBy serialWriteOf
     right-serial-write =
-        by-eq (λ (k : Decision). Right x (stepBy (x .sheet) (x .session) (given x (SerialNumberWrite serial address)) k))
+        by-eq (λ (k : Decision). AddressesDue x (stepBy (x .sheet) (x .session) (given x (SerialNumberWrite serial address)) k))
         serial (head.serial of x .sheet) _ _ (λ h. serialWrite serial address r h) (λ h. noSerialWrite serial address r h)
 
   pub only-descriptor :
@@ -97,8 +97,8 @@ module _ (x : Asked) where
 
   pub right-descriptor :
       (t : ℕ) → Reads x (DeviceDescriptorRead t) →
-      Right x (stepBy (x .sheet) (x .session) (given x (DeviceDescriptorRead t)) (descriptorOf (x .sheet) t))
+      AddressesDue x (stepBy (x .sheet) (x .session) (given x (DeviceDescriptorRead t)) (descriptorOf (x .sheet) t))
   unfolding stepBy descriptorOf
   right-descriptor t r =
-      by-eq (λ (k : Decision). Right x (stepBy (x .sheet) (x .session) (given x (DeviceDescriptorRead t)) k))
+      by-eq (λ (k : Decision). AddressesDue x (stepBy (x .sheet) (x .session) (given x (DeviceDescriptorRead t)) k))
       t 0 _ _ (λ h. descriptor (rw h at r)) (λ h. noDescriptor t r (omega arith))

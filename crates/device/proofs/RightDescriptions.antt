@@ -19,7 +19,7 @@ use Rattle.judge.proofs.PropertyCases.{Keyed, Ranked, describes, description-ca
 use Rattle.device.specs.Octets.{Octets}
 use Rattle.device.specs.Step.{Step, stepBy}
 use Rattle.device.specs.Asked.{Asked, says, Reads, given}
-use Rattle.device.specs.Right.{Described, Right, description, noDescription}
+use Rattle.device.specs.PropertiesDue.{PropertiesDue, Described, description, noDescription}
 use Rattle.device.proofs.Properly.{keyed, unkeyed, describe-id}
 use Rattle.device.proofs.Stepped.{step, step-read}
 
@@ -69,16 +69,16 @@ module _ (x : Asked) (object id index : ℕ) (r : Reads x (PropertyDescriptionRe
         (λ i z k. absurd (f i (by-index i z k)))
         refl)
 
-    due : (i : ℕ) → Described x object id index i → Right x (shows (property.object of entry (x .sheet) properties i) i)
+    due : (i : ℕ) → Described x object id index i → PropertiesDue x (shows (property.object of entry (x .sheet) properties i) i)
     due i h = rw (same-object i h) (description object id index i r h)
 
     pub right-description :
-        Right x
+        PropertiesDue x
         (stepBy (x .sheet) (x .session) (given x (PropertyDescriptionRead object id index)) (descriptionOf (x .sheet) object id index))
     unfolding stepBy
     right-description =
         description-cases (x .sheet) object id index
-        (λ (k : Decision). descriptionOf (x .sheet) object id index ≡ k → Right x (stepBy (x .sheet) (x .session) (given x (PropertyDescriptionRead object id index)) k))
+        (λ (k : Decision). descriptionOf (x .sheet) object id index ≡ k → PropertiesDue x (stepBy (x .sheet) (x .session) (given x (PropertyDescriptionRead object id index)) k))
         (λ i z k e. due i (by-id i z k))
         (λ i z k e. due i (by-index i z k))
         (λ e.

@@ -22,7 +22,8 @@ use Rattle.judge.specs.Judge.{decideOf}
 use Rattle.judge.proofs.GroupCases.{Lets, group-read-cases, group-put-cases, group-read-six, group-read-bytes, group-put-six, group-put-bytes, group-put-unfit, group-read-for-us, group-put-for-us}
 use Rattle.device.specs.Step.{stepBy}
 use Rattle.device.specs.Asked.{Asked, quiet, says, stores, Reads, given}
-use Rattle.device.specs.Right.{part, Group, Brings, Flag, Right, groupRead0, groupRead, noGroupRead, groupPut0, groupPut, groupLength, noGroupPut}
+use Rattle.device.specs.Asked.{part}
+use Rattle.device.specs.GroupsDue.{GroupsDue, Group, Brings, Flag, groupRead0, groupRead, noGroupRead, groupPut0, groupPut, groupLength, noGroupPut}
 use Rattle.device.proofs.Stepped.{step, step-read}
 
 -- a list of no length
@@ -63,11 +64,11 @@ module _ (x : Asked) where
         (λ i t z. absurd (f i (grouped 1 i t) (t .flag)))
         refl)
 
-    pub right-group-read : Right x (stepBy (x .sheet) (x .session) (given x GroupValueRead) (groupReadOf (x .sheet) (x .group)))
+    pub right-group-read : GroupsDue x (stepBy (x .sheet) (x .session) (given x GroupValueRead) (groupReadOf (x .sheet) (x .group)))
     unfolding stepBy
     right-group-read =
         group-read-cases (x .sheet) (x .group)
-        (λ (k : Decision). groupReadOf (x .sheet) (x .group) ≡ k → Right x (stepBy (x .sheet) (x .session) (given x GroupValueRead) k))
+        (λ (k : Decision). groupReadOf (x .sheet) (x .group) ≡ k → GroupsDue x (stepBy (x .sheet) (x .session) (given x GroupValueRead) k))
         (λ i t z e. groupRead0 i r (grouped 1 i t) (t .flag) z)
         (λ i t z e. groupRead i r (grouped 1 i t) (t .flag) z)
         (λ e. noGroupRead r (λ i g f. group-read-for-us reading-ok (x .group) i (lets 1 i g f) e))
@@ -120,11 +121,11 @@ module _ (x : Asked) where
         (λ i t e. absurd (f i (grouped w i t) (t .flag)))
         refl)
 
-    pub right-group-put : Right x (stepBy (x .sheet) (x .session) (given x p) (groupPutOf w (x .sheet) (x .group) v (length (given x p))))
+    pub right-group-put : GroupsDue x (stepBy (x .sheet) (x .session) (given x p) (groupPutOf w (x .sheet) (x .group) v (length (given x p))))
     unfolding stepBy
     right-group-put =
         group-put-cases (x .sheet) (x .group)
-        (λ (k : Decision). groupPutOf w (x .sheet) (x .group) v (length (given x p)) ≡ k → Right x (stepBy (x .sheet) (x .session) (given x p) k))
+        (λ (k : Decision). groupPutOf w (x .sheet) (x .group) v (length (given x p)) ≡ k → GroupsDue x (stepBy (x .sheet) (x .session) (given x p) k))
         w v (length (given x p))
         (λ i t z d e. groupPut0 p v w i r b (grouped w i t) (t .flag) z (empty (given x p) d))
         (λ i t z d e. groupPut p v w i r b (grouped w i t) (t .flag) z d)

@@ -19,7 +19,7 @@ use Rattle.judge.specs.Keys.{grantOf, authorizeOf, keyWriteOf, restartOf}
 use Rattle.judge.proofs.KeyCases.{keyed, grant-cases, key-write-cases, key-writes}
 use Rattle.device.specs.Step.{Step, stepBy}
 use Rattle.device.specs.Asked.{Asked, says, saysAfter, Reads, given}
-use Rattle.device.specs.Right.{Grants, key0, key1, key2, other, KeyWritable, Right, authorize, keyWrite, noKeyWrite, restart}
+use Rattle.device.specs.KeysDue.{KeysDue, Grants, key0, key1, key2, other, KeyWritable, authorize, keyWrite, noKeyWrite, restart}
 use Rattle.device.proofs.Levels.{acts, acts-at}
 use Rattle.device.proofs.Flags.{verify-left}
 use Rattle.device.proofs.Stepped.{step, step-read}
@@ -56,7 +56,7 @@ module _ (x : Asked) where
     only-authorize level g = ap granted (sym (grants-is (x .sheet) key g)) ∙ step-read x _ r _ refl
 
     pub right-authorize :
-        Right x (stepBy (x .sheet) (x .session) (given x (AuthorizeRequest key)) (authorizeOf (x .sheet) key))
+        KeysDue x (stepBy (x .sheet) (x .session) (given x (AuthorizeRequest key)) (authorizeOf (x .sheet) key))
     unfolding stepBy authorizeOf
     right-authorize = authorize key (grantOf (x .sheet) key) r (grants (x .sheet) key)
 
@@ -78,12 +78,12 @@ module _ (x : Asked) where
         refl)
 
     pub right-key-write :
-        Right x
+        KeysDue x
         (stepBy (x .sheet) (x .session) (given x (KeyWrite named key)) (keyWriteOf (levelIn (x .session) (x .mode)) named key))
     unfolding stepBy
     right-key-write =
         key-write-cases (levelIn (x .session) (x .mode)) named key
-        (λ (k : Decision). keyWriteOf (levelIn (x .session) (x .mode)) named key ≡ k → Right x (stepBy (x .sheet) (x .session) (given x (KeyWrite named key)) k))
+        (λ (k : Decision). keyWriteOf (levelIn (x .session) (x .mode)) named key ≡ k → KeysDue x (stepBy (x .sheet) (x .session) (given x (KeyWrite named key)) k))
         (λ h l e. keyWrite named key r (record { known = h; level = levelIn (x .session) (x .mode); acts = acts x; suffices = l }))
         (λ e.
         noKeyWrite named key r
@@ -108,6 +108,6 @@ module _ (x : Asked) where
     unfolding stepBy restartOf
     only-restart = ap restarted (sym left) ∙ step-read x _ r _ refl
 
-    pub right-restart : Right x (stepBy (x .sheet) (x .session) (given x Restart) (restartOf (x .sheet)))
+    pub right-restart : KeysDue x (stepBy (x .sheet) (x .session) (given x Restart) (restartOf (x .sheet)))
     unfolding stepBy restartOf
-    right-restart = subst (λ (f : ℕ). Right x (restarted f)) (sym left) (restart r)
+    right-restart = subst (λ (f : ℕ). KeysDue x (restarted f)) (sym left) (restart r)

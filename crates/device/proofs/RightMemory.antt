@@ -21,7 +21,8 @@ use Rattle.judge.proofs.MemoryCases.{Permits, reflects-write, reflects-change, 
 use Rattle.device.specs.Carry.{build, bitAt}
 use Rattle.device.specs.Step.{stepBy}
 use Rattle.device.specs.Asked.{Asked, says, Reads, given}
-use Rattle.device.specs.Right.{part, InRegion, memoryAt, MemoryReadable, MemoryWritable, BitsWritable, Right, memoryRead, noMemoryRead, memoryWriteVerified, memoryWrite, noMemoryWriteVerified, noMemoryWrite, bitWriteVerified, bitWrite, noBitWriteVerified, noBitWrite}
+use Rattle.device.specs.Asked.{part}
+use Rattle.device.specs.MemoryDue.{MemoryDue, InRegion, memoryAt, MemoryReadable, MemoryWritable, BitsWritable, memoryRead, noMemoryRead, memoryWriteVerified, memoryWrite, noMemoryWriteVerified, noMemoryWrite, bitWriteVerified, bitWrite, noBitWriteVerified, noBitWrite}
 use Rattle.device.proofs.Given.{memory-data}
 use Rattle.device.proofs.Changes.{Change, right-change}
 use Rattle.device.proofs.Levels.{acts, acts-at}
@@ -66,12 +67,12 @@ module _ (x : Asked) (n address : ℕ) where
         refl)
 
     pub right-memory-read :
-        Right x
+        MemoryDue x
         (stepBy (x .sheet) (x .session) (given x (MemoryRead n address)) (memoryReadOf (x .sheet) regions level n address))
     unfolding stepBy
     right-memory-read =
         memory-read-cases (x .sheet) regions level n address
-        (λ (k : Decision). memoryReadOf (x .sheet) regions level n address ≡ k → Right x (stepBy (x .sheet) (x .session) (given x (MemoryRead n address)) k))
+        (λ (k : Decision). memoryReadOf (x .sheet) regions level n address ≡ k → MemoryDue x (stepBy (x .sheet) (x .session) (given x (MemoryRead n address)) k))
         (λ i p e. memoryRead n address i r (readable i p))
         (λ e.
         noMemoryRead n address r
@@ -134,7 +135,7 @@ module _ (x : Asked) (n address : ℕ) where
 
   pub right-memory-write :
       Reads x (MemoryWrite n address) →
-      Right x
+      MemoryDue x
       (stepBy (x .sheet) (x .session) (given x (MemoryWrite n address)) (memoryWriteOf (x .sheet) regions level n address))
   unfolding memoryWriteOf
   right-memory-write r =
@@ -144,7 +145,7 @@ module _ (x : Asked) (n address : ℕ) where
 
   pub right-bit-write :
       Reads x (MemoryBitWrite n address) →
-      Right x
+      MemoryDue x
       (stepBy (x .sheet) (x .session) (given x (MemoryBitWrite n address)) (bitWriteOf (x .sheet) regions level n address))
   unfolding bitWriteOf
   right-bit-write r =

@@ -21,7 +21,8 @@ use Rattle.judge.proofs.PropertyCases.{Keyed, Among, Free, property-read-cases,
 use Rattle.device.specs.Octets.{Octets}
 use Rattle.device.specs.Step.{stepBy}
 use Rattle.device.specs.Asked.{Asked, says, saysAfter, Reads, given}
-use Rattle.device.specs.Right.{part, Elements, elementAt, Readable, ReadAllowed, Writable, WriteAllowed, Right, propertyCount, propertyRead, noPropertyRead, propertyClear, propertyWrite, noPropertyWrite}
+use Rattle.device.specs.Asked.{part}
+use Rattle.device.specs.PropertiesDue.{PropertiesDue, Elements, elementAt, Readable, ReadAllowed, Writable, WriteAllowed, propertyCount, propertyRead, noPropertyRead, propertyClear, propertyWrite, noPropertyWrite}
 use Rattle.device.proofs.Levels.{acts, acts-at}
 use Rattle.device.proofs.Properly.{keyed, unkeyed, read-id, write-id, two-zeros}
 use Rattle.device.proofs.Stepped.{step, step-read}
@@ -95,11 +96,11 @@ module _ (x : Asked) (object id : ℕ) where
           (λ i k l m b. absurd (f (ReadAllowed.ofElements i (readable i k l) (elements _ n s m) b)))
           refl)
 
-      pub right-property-read : Right x (stepBy (x .sheet) (x .session) (given x (PropertyValueRead object id n s)) read)
+      pub right-property-read : PropertiesDue x (stepBy (x .sheet) (x .session) (given x (PropertyValueRead object id n s)) read)
       unfolding stepBy
       right-property-read =
           property-read-cases (x .sheet) (levelIn (x .session) (x .mode)) object id n s
-          (λ (k : Decision). read ≡ k → Right x (stepBy (x .sheet) (x .session) (given x (PropertyValueRead object id n s)) k))
+          (λ (k : Decision). read ≡ k → PropertiesDue x (stepBy (x .sheet) (x .session) (given x (PropertyValueRead object id n s)) k))
           (λ i k l z o e. rw (z, o) (propertyCount object id i (rw (z, o) at r) (readable i k l)))
           (λ i k l m b e. propertyRead object id n s i r (readable i k l) (elements _ n s m) b)
           (λ e. noPropertyRead object id n s r (λ a. read-not-denied a e))
@@ -112,7 +113,7 @@ module _ (x : Asked) (object id : ℕ) where
   cleared :
       (i : ℕ) → Reads x (PropertyValueWrite object id 1 0) → Writable x object id i →
       given x (PropertyValueWrite object id 1 0) ≡ 0 ∷ 0 ∷ [] →
-      Right x
+      PropertiesDue x
       (saysAfter x (splice (x .sheet) (place (x .sheet) properties i + 6) (0 ∷ 0 ∷ [])) (PropertyValueResponse object id 1 0)
       (given x (PropertyValueWrite object id 1 0)))
   cleared i r w c = rw c (propertyClear object id i r w c)
@@ -181,11 +182,11 @@ module _ (x : Asked) (object id : ℕ) where
           (λ i k w m l. absurd (f (WriteAllowed.ofElements i (writable i k w) (elements _ n s m) l)))
           refl)
 
-      pub right-property-write : Right x (stepBy (x .sheet) (x .session) d write)
+      pub right-property-write : PropertiesDue x (stepBy (x .sheet) (x .session) d write)
       unfolding stepBy
       right-property-write =
           property-write-cases (x .sheet) (levelIn (x .session) (x .mode)) object id n s
-          (λ (k : Decision). write ≡ k → Right x (stepBy (x .sheet) (x .session) d k)) d
+          (λ (k : Decision). write ≡ k → PropertiesDue x (stepBy (x .sheet) (x .session) d k)) d
           (λ i k w z o l v e. let c = two-zeros d l v in rw (z, o) (cleared i (rw (z, o) at r) (writable i k w) (rw (z, o) at c)))
           (λ i k w m l e. propertyWrite object id n s i d r (writable i k w) refl (elements _ n s m) l)
           (λ e. noPropertyWrite object id n s r (λ a. write-not-denied a e))

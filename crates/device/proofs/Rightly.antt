@@ -12,7 +12,13 @@ use Rattle.device.specs.Octets.{Octets}
 use Rattle.device.specs.Step.{Step, stepBy, stepOf}
 use Rattle.device.specs.Asked.{Asked, Reads, given}
 use Rattle.device.specs.Right as due
-use Rattle.device.specs.Right.{Brings, Right}
+use Rattle.device.specs.GroupsDue as groups
+use Rattle.device.specs.AddressesDue as addresses
+use Rattle.device.specs.PropertiesDue as properties
+use Rattle.device.specs.MemoryDue as memory
+use Rattle.device.specs.KeysDue as keys
+use Rattle.device.specs.GroupsDue.{Brings}
+use Rattle.device.specs.Right.{Right}
 use Rattle.device.proofs.RequestCases.{request-cases}
 use Rattle.device.proofs.Bits.{combined-is}
 use Rattle.device.proofs.Stepped.{step-refused, step-unknown, step-other, step-unfit}
@@ -29,23 +35,23 @@ module _ (x : Asked) (hs : Octets (x .sheet)) (ha : Octets (x .apdu)) where
   right-read :
       (p : Pdu) → Reads x p →
       Right x (stepBy (x .sheet) (x .session) (given x p) (decideOf (x .sheet) (levelIn (x .session) (x .mode)) (x .group) (given x p) p))
-  right-read GroupValueRead r = right-group-read x r
-  right-read (GroupValueResponse v) r = right-group-put x (GroupValueResponse v) v 4 r (Brings.response v)
-  right-read (GroupValueWrite v) r = right-group-put x (GroupValueWrite v) v 2 r (Brings.write v)
-  right-read (IndividualAddressWrite address) r = right-address-write x address r
-  right-read IndividualAddressRead r = right-address-read x r
-  right-read (SerialNumberRead serial) r = right-serial-read x serial r
-  right-read (SerialNumberWrite serial address) r = right-serial-write x serial address r
-  right-read (DeviceDescriptorRead t) r = right-descriptor x t r
-  right-read (PropertyValueRead object id n s) r = right-property-read x object id n s r hs ha
-  right-read (PropertyValueWrite object id n s) r = right-property-write x object id n s r hs ha
-  right-read (PropertyDescriptionRead object id index) r = right-description x object id index r hs ha
-  right-read (MemoryRead n address) r = right-memory-read x n address r
-  right-read (MemoryWrite n address) r = right-memory-write x n address r
-  right-read (MemoryBitWrite n address) r = right-bit-write x n address r
-  right-read (AuthorizeRequest key) r = right-authorize x key r
-  right-read (KeyWrite named key) r = right-key-write x named key r
-  right-read Restart r = right-restart x r
+  right-read GroupValueRead r = due.groups (right-group-read x r)
+  right-read (GroupValueResponse v) r = due.groups (right-group-put x (GroupValueResponse v) v 4 r (Brings.response v))
+  right-read (GroupValueWrite v) r = due.groups (right-group-put x (GroupValueWrite v) v 2 r (Brings.write v))
+  right-read (IndividualAddressWrite address) r = due.addresses (right-address-write x address r)
+  right-read IndividualAddressRead r = due.addresses (right-address-read x r)
+  right-read (SerialNumberRead serial) r = due.addresses (right-serial-read x serial r)
+  right-read (SerialNumberWrite serial address) r = due.addresses (right-serial-write x serial address r)
+  right-read (DeviceDescriptorRead t) r = due.addresses (right-descriptor x t r)
+  right-read (PropertyValueRead object id n s) r = due.properties (right-property-read x object id n s r hs ha)
+  right-read (PropertyValueWrite object id n s) r = due.properties (right-property-write x object id n s r hs ha)
+  right-read (PropertyDescriptionRead object id index) r = due.properties (right-description x object id index r hs ha)
+  right-read (MemoryRead n address) r = due.memory (right-memory-read x n address r)
+  right-read (MemoryWrite n address) r = due.memory (right-memory-write x n address r)
+  right-read (MemoryBitWrite n address) r = due.memory (right-bit-write x n address r)
+  right-read (AuthorizeRequest key) r = due.keys (right-authorize x key r)
+  right-read (KeyWrite named key) r = due.keys (right-key-write x named key r)
+  right-read Restart r = due.keys (right-restart x r)
   right-read IndividualAddressResponse r = absurd (r .takes)
   right-read (SerialNumberResponse serial domain) r = absurd (r .takes)
   right-read (DeviceDescriptorResponse t) r = absurd (r .takes)
@@ -73,42 +79,42 @@ module _ (x : Asked) (hs : Octets (x .sheet)) (ha : Octets (x .apdu)) where
   right-only r (due.unknown h f) = step-unknown x h f
   right-only r (due.otherMode k h n v t) = step-other x k h n v t
   right-only r (due.unfit k h n t e) = step-unfit x k h n t e
-  right-only r (due.groupRead0 i h g f z) = only-group-read0 x h i g f z
-  right-only r (due.groupRead i h g f z) = only-group-read x h i g f z
-  right-only r (due.noGroupRead h f) = only-no-group-read x h f
-  right-only r (due.groupPut0 p v w i h b g f z d) = only-group-put0 x p v w h b i g f z d
-  right-only r (due.groupPut p v w i h b g f z d) = only-group-put x p v w h b i g f z d
-  right-only r (due.groupLength p v w i h b g f d) = only-group-length x p v w h b i g f d
-  right-only r (due.noGroupPut p v w h b f) = only-no-group-put x p v w h b f
-  right-only r (due.addressWrite address h m) = only-address-write x address h m
-  right-only r (due.noAddressWrite address h m) = only-no-address-write x address h m
-  right-only r (due.addressRead h m) = only-address-read x h m
-  right-only r (due.noAddressRead h m) = only-no-address-read x h m
-  right-only r (due.serialRead serial h e) = only-serial-read x serial h e
-  right-only r (due.noSerialRead serial h e) = only-no-serial-read x serial h e
-  right-only r (due.serialWrite serial address h e) = only-serial-write x serial address h e
-  right-only r (due.noSerialWrite serial address h e) = only-no-serial-write x serial address h e
-  right-only r (due.descriptor h) = only-descriptor x h
-  right-only r (due.noDescriptor t h l) = only-no-descriptor x t h l
-  right-only r (due.propertyCount object id i h p) = only-property-count x object id 1 0 h i p refl refl
-  right-only r (due.propertyRead object id n s i h p m l) = only-property-read x object id n s h i p m l
-  right-only r (due.noPropertyRead object id n s h f) = only-no-property-read x object id n s h hs ha f
-  right-only r (due.propertyClear object id i h w e) = only-property-clear x object id 1 0 h i w refl refl e
-  right-only r (due.propertyWrite object id n s i d h w e m l) = rw e (only-property-write x object id n s h i w m (rw e at l))
-  right-only r (due.noPropertyWrite object id n s h f) = only-no-property-write x object id n s h hs ha f
-  right-only r (due.description object id index i h e) = only-description x object id index h i e
-  right-only r (due.noDescription object id index h f) = only-no-description x object id index h hs ha f
-  right-only r (due.memoryRead n address i h p) = only-memory-read x n address h i p
-  right-only r (due.noMemoryRead n address h f) = only-no-memory-read x n address h f
-  right-only r (due.memoryWriteVerified n address i d h p e v) = rw e (only-verified x _ n address _ (writing x n address h) h i p v)
-  right-only r (due.memoryWrite n address i d h p e v) = rw e (only-stored x _ n address _ (writing x n address h) h i p v)
-  right-only r (due.noMemoryWriteVerified n address h f v) = only-denied x _ n address _ (writing x n address h) h f v
-  right-only r (due.noMemoryWrite n address h f v) = only-refused x _ n address _ (writing x n address h) h f v
-  right-only r (due.bitWriteVerified n address i d h p e v) = rw (combined-is _ _ n _ e) (only-verified x _ n address _ (bit-writing x n address) h i p v)
-  right-only r (due.bitWrite n address i d h p e v) = rw (combined-is _ _ n _ e) (only-stored x _ n address _ (bit-writing x n address) h i p v)
-  right-only r (due.noBitWriteVerified n address h f v) = only-denied x _ n address _ (bit-writing x n address) h f v
-  right-only r (due.noBitWrite n address h f v) = only-refused x _ n address _ (bit-writing x n address) h f v
-  right-only r (due.authorize key level h g) = only-authorize x key h level g
-  right-only r (due.keyWrite named key h w) = only-key-write x named key h w
-  right-only r (due.noKeyWrite named key h f) = only-no-key-write x named key h f
-  right-only r (due.restart h) = only-restart x h
+  right-only r (due.groups (groups.groupRead0 i h g f z)) = only-group-read0 x h i g f z
+  right-only r (due.groups (groups.groupRead i h g f z)) = only-group-read x h i g f z
+  right-only r (due.groups (groups.noGroupRead h f)) = only-no-group-read x h f
+  right-only r (due.groups (groups.groupPut0 p v w i h b g f z d)) = only-group-put0 x p v w h b i g f z d
+  right-only r (due.groups (groups.groupPut p v w i h b g f z d)) = only-group-put x p v w h b i g f z d
+  right-only r (due.groups (groups.groupLength p v w i h b g f d)) = only-group-length x p v w h b i g f d
+  right-only r (due.groups (groups.noGroupPut p v w h b f)) = only-no-group-put x p v w h b f
+  right-only r (due.addresses (addresses.addressWrite address h m)) = only-address-write x address h m
+  right-only r (due.addresses (addresses.noAddressWrite address h m)) = only-no-address-write x address h m
+  right-only r (due.addresses (addresses.addressRead h m)) = only-address-read x h m
+  right-only r (due.addresses (addresses.noAddressRead h m)) = only-no-address-read x h m
+  right-only r (due.addresses (addresses.serialRead serial h e)) = only-serial-read x serial h e
+  right-only r (due.addresses (addresses.noSerialRead serial h e)) = only-no-serial-read x serial h e
+  right-only r (due.addresses (addresses.serialWrite serial address h e)) = only-serial-write x serial address h e
+  right-only r (due.addresses (addresses.noSerialWrite serial address h e)) = only-no-serial-write x serial address h e
+  right-only r (due.addresses (addresses.descriptor h)) = only-descriptor x h
+  right-only r (due.addresses (addresses.noDescriptor t h l)) = only-no-descriptor x t h l
+  right-only r (due.properties (properties.propertyCount object id i h p)) = only-property-count x object id 1 0 h i p refl refl
+  right-only r (due.properties (properties.propertyRead object id n s i h p m l)) = only-property-read x object id n s h i p m l
+  right-only r (due.properties (properties.noPropertyRead object id n s h f)) = only-no-property-read x object id n s h hs ha f
+  right-only r (due.properties (properties.propertyClear object id i h w e)) = only-property-clear x object id 1 0 h i w refl refl e
+  right-only r (due.properties (properties.propertyWrite object id n s i d h w e m l)) = rw e (only-property-write x object id n s h i w m (rw e at l))
+  right-only r (due.properties (properties.noPropertyWrite object id n s h f)) = only-no-property-write x object id n s h hs ha f
+  right-only r (due.properties (properties.description object id index i h e)) = only-description x object id index h i e
+  right-only r (due.properties (properties.noDescription object id index h f)) = only-no-description x object id index h hs ha f
+  right-only r (due.memory (memory.memoryRead n address i h p)) = only-memory-read x n address h i p
+  right-only r (due.memory (memory.noMemoryRead n address h f)) = only-no-memory-read x n address h f
+  right-only r (due.memory (memory.memoryWriteVerified n address i d h p e v)) = rw e (only-verified x _ n address _ (writing x n address h) h i p v)
+  right-only r (due.memory (memory.memoryWrite n address i d h p e v)) = rw e (only-stored x _ n address _ (writing x n address h) h i p v)
+  right-only r (due.memory (memory.noMemoryWriteVerified n address h f v)) = only-denied x _ n address _ (writing x n address h) h f v
+  right-only r (due.memory (memory.noMemoryWrite n address h f v)) = only-refused x _ n address _ (writing x n address h) h f v
+  right-only r (due.memory (memory.bitWriteVerified n address i d h p e v)) = rw (combined-is _ _ n _ e) (only-verified x _ n address _ (bit-writing x n address) h i p v)
+  right-only r (due.memory (memory.bitWrite n address i d h p e v)) = rw (combined-is _ _ n _ e) (only-stored x _ n address _ (bit-writing x n address) h i p v)
+  right-only r (due.memory (memory.noBitWriteVerified n address h f v)) = only-denied x _ n address _ (bit-writing x n address) h f v
+  right-only r (due.memory (memory.noBitWrite n address h f v)) = only-refused x _ n address _ (bit-writing x n address) h f v
+  right-only r (due.keys (keys.authorize key level h g)) = only-authorize x key h level g
+  right-only r (due.keys (keys.keyWrite named key h w)) = only-key-write x named key h w
+  right-only r (due.keys (keys.noKeyWrite named key h f)) = only-no-key-write x named key h f
+  right-only r (due.keys (keys.restart h)) = only-restart x h

@@ -5,7 +5,7 @@ use mathlib.Core.Path.{_≡_}
 use mathlib.Core.Bool.{true, false}
 use mathlib.Core.Logic.{_⊎_}
 use mathlib.Core.List.{List, []}
-use lib.ListN.{length}
+use lib.ListN.{length, take, drop}
 use Rattle.sheet.specs.Rules.{ruleOf}
 use Rattle.pdu.specs.Table.{rowOf}
 use Rattle.pdu.specs.Pdus.{serviceOf}
@@ -114,3 +114,7 @@ pub data Acts (x : Asked) : ℕ → Type 0 where
   bySession : x .mode ≡ connected → x .session .level ≤ 3 → Acts x (x .session .level)
   byLimit : x .mode ≡ connected → 3 < x .session .level → Acts x 3
   unconnected : (x .mode ≡ connected → ⊥) → Acts x 3
+
+-- n bytes of a sheet from o on
+abbrev pub part : List ℕ → ℕ → ℕ → List ℕ
+part s o n = take n (drop o s)

@@ -4,6 +4,11 @@ pub mod Step
 pub mod Events
 pub mod Due
 pub mod Asked
+pub mod GroupsDue
+pub mod AddressesDue
+pub mod PropertiesDue
+pub mod MemoryDue
+pub mod KeysDue
 pub mod Right
 pub mod Safe
 pub mod Replies

@@ -25,7 +25,7 @@ use Rattle.pdu.proofs.Truths.{never}
 use Rattle.device.specs.Octets.{Octets}
 use Rattle.device.specs.Events.{Event, State}
 use Rattle.device.specs.Asked.{Asked, Reads, given}
-use Rattle.device.specs.Right.{Group, Brings, write, response, Flag}
+use Rattle.device.specs.GroupsDue.{Group, Brings, write, response, Flag}
 use Rattle.history.specs.Wish.{Wish, wishOf, asks}
 use Rattle.history.specs.Wish as wish
 use Rattle.history.specs.Span.{all}

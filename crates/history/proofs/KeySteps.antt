@@ -17,7 +17,7 @@ use Rattle.sheet.proofs.Stores.{key-store}
 use Rattle.pdu.specs.declared.Pdu.the-variants.{AuthorizeRequest, KeyWrite}
 use Rattle.device.specs.Events.{Event, State, request}
 use Rattle.device.specs.Asked.{Asked, Reads, given}
-use Rattle.device.specs.Right.{KeyWritable, Grants, key0, key1, key2, other}
+use Rattle.device.specs.KeysDue.{KeyWritable, Grants, key0, key1, key2, other}
 use Rattle.history.specs.Location.{key}
 use Rattle.history.specs.Wish.{Wish, writeKey, offerKey, asks}
 use Rattle.history.specs.Permit.{allowed, spans}

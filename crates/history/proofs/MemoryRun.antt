@@ -10,7 +10,7 @@ use Rattle.sheet.specs.Layout.{_of_}
 use Rattle.sheet.specs.Region as region
 use Rattle.sheet.specs.Entries.{entry}
 use Rattle.sheet.proofs.Runs.{Covered}
-use Rattle.device.specs.Right.{memoryAt}
+use Rattle.device.specs.MemoryDue.{memoryAt}
 use Rattle.history.specs.Location.{memory, Place, ofMemory}
 use Rattle.history.proofs.Stored.{Run}
 

@@ -20,7 +20,7 @@ use Rattle.pdu.specs.declared.Pdu.the-variants.{MemoryWrite, MemoryBitWrite}
 use Rattle.device.specs.Octets.{Octets}
 use Rattle.device.specs.Events.{Event, State}
 use Rattle.device.specs.Asked.{Asked, Reads, given}
-use Rattle.device.specs.Right.{InRegion, MemoryWritable, BitsWritable, Combined, memoryAt}
+use Rattle.device.specs.MemoryDue.{InRegion, MemoryWritable, BitsWritable, Combined, memoryAt}
 use Rattle.history.specs.Location.{memory}
 use Rattle.history.specs.Wish.{writeMemory, writeBits}
 use Rattle.history.specs.Permit.{spans}

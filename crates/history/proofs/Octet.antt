@@ -15,7 +15,7 @@ use Rattle.octets.proofs.Splices.{splice-in, splice-outside}
 use Rattle.pdu.specs.Read.{dataAt, dataOf}
 use Rattle.pdu.specs.declared.Pdu.{Pdu}
 use Rattle.device.specs.Octets.{Octets}
-use Rattle.device.specs.Right.{Combined}
+use Rattle.device.specs.MemoryDue.{Combined}
 
 pub octets-none : Octets []
 octets-none i = omega arith

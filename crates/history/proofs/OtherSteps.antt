@@ -18,7 +18,7 @@ use Rattle.pdu.proofs.Truths.{never}
 use Rattle.device.specs.Octets.{Octets}
 use Rattle.device.specs.Events.{Event, State}
 use Rattle.device.specs.Asked.{Asked, Reads}
-use Rattle.device.specs.Right.{Programming}
+use Rattle.device.specs.AddressesDue.{Programming}
 use Rattle.history.specs.Wish.{Wish, Other, other, address, addressFor, restart, wishOf, asks}
 use Rattle.history.specs.Permit.{allowed}
 use Rattle.history.specs.History.{First, permitted}

@@ -22,8 +22,10 @@ use Rattle.sheet.proofs.Runs.{Covered}
 use Rattle.pdu.proofs.Truths.{and-is}
 use Rattle.device.specs.Octets.{Octets}
 use Rattle.device.specs.Asked.{Asked}
-use Rattle.device.specs.Right as right
-use Rattle.device.specs.Right.{MemoryWritable, BitsWritable, InRegion, Writable, Elements, WriteAllowed, KeyWritable}
+use Rattle.device.specs.PropertiesDue as properties-due
+use Rattle.device.specs.MemoryDue.{MemoryWritable, BitsWritable, InRegion}
+use Rattle.device.specs.PropertiesDue.{Writable, Elements, WriteAllowed}
+use Rattle.device.specs.KeysDue.{KeyWritable}
 use Rattle.device.proofs.Properly.{two-zeros}
 use Rattle.history.specs.Wish.{change, writeMemory, writeBits, writeProperty, writeKey}
 use Rattle.history.specs.Span.{all}
@@ -205,8 +207,8 @@ module _ (x : Asked) (g : Good 1 (x .sheet)) where
               }
 
           ways : (clears n s d ≡ true) ⊎ (fills E n s d ≡ true) → WriteAllowed x object id n s d
-          ways (inl c) = let h = clears-is n s d .0 c in right.ofCount I w (h .0) (h .1) (h .2)
-          ways (inr f) = let h = fills-is E n s d .0 f in right.ofElements I w (h .0) (h .1)
+          ways (inl c) = let h = clears-is n s d .0 c in properties-due.ofCount I w (h .0) (h .1) (h .2)
+          ways (inr f) = let h = fills-is E n s d .0 f in properties-due.ofElements I w (h .0) (h .1)
 
       either : (i : ℕ) → Writable x object id i → (clears n s d || fills (entry S properties i) n s d) ≡ true → all Ts ≡ true
       either i w t =
@@ -215,6 +217,6 @@ module _ (x : Asked) (g : Good 1 (x .sheet)) where
           rw q (simp (lt-ltb _ _ (w .found .there), eq-eqb _ _ (w .bit7), t, le-leb _ _ r))
 
       back : WriteAllowed x object id n s d → all Ts ≡ true
-      back (right.ofCount i w a b c) = either i w (or-left _ _ (clears-is n s d .1 (a, b, c)))
-      back (right.ofElements i w a b) =
+      back (properties-due.ofCount i w a b c) = either i w (or-left _ _ (clears-is n s d .1 (a, b, c)))
+      back (properties-due.ofElements i w a b) =
           either i w (or-right (clears n s d) _ (fills-is (entry S properties i) n s d .1 (a, b)))

@@ -14,7 +14,9 @@ use Rattle.pdu.proofs.Truths.{never, and-is}
 use Rattle.device.specs.Octets.{Octets}
 use Rattle.device.specs.Events.{State, request}
 use Rattle.device.specs.Asked.{Asked, Reads, given}
-use Rattle.device.specs.Right.{MemoryWritable, BitsWritable, WriteAllowed, KeyWritable}
+use Rattle.device.specs.MemoryDue.{MemoryWritable, BitsWritable}
+use Rattle.device.specs.PropertiesDue.{WriteAllowed}
+use Rattle.device.specs.KeysDue.{KeyWritable}
 use Rattle.history.specs.Wish.{nothing, wishOf, asks, brings}
 use Rattle.history.specs.Permit.{levelFor, heard, allowed}
 use Rattle.history.specs.History.{permits}

@@ -29,8 +29,8 @@ use Rattle.pdu.specs.declared.Pdu.the-variants.{PropertyValueWrite}
 use Rattle.device.specs.Octets.{Octets}
 use Rattle.device.specs.Events.{Event, State}
 use Rattle.device.specs.Asked.{Asked, Reads, given}
-use Rattle.device.specs.Right as right
-use Rattle.device.specs.Right.{Elements, elementAt, Writable, WriteAllowed}
+use Rattle.device.specs.PropertiesDue as properties-due
+use Rattle.device.specs.PropertiesDue.{Elements, elementAt, Writable, WriteAllowed}
 use Rattle.history.specs.Location.{Location, body, counter}
 use Rattle.history.specs.Span.{Span}
 use Rattle.history.specs.Wish.{change, writeProperty}
@@ -119,7 +119,7 @@ module _ (f : First) (b : Begins f) (h : List Event) (x : State) (inv : Inv f h 
     unfolding spans bytesOf
     property-cleared r e k answer low =
         carried-out f b h x inv mode g a out (P object id 1 0) (writeProperty object id 1 0) refl r
-        (property-is R (now inv b) object id 1 0 (given R (P object id 1 0)) (inv .means .octets) (property-id a octets (r .reads)) .1 (right.ofCount i w refl refl e))
+        (property-is R (now inv b) object id 1 0 (given R (P object id 1 0)) (inv .means .octets) (property-id a octets (r .reads)) .1 (properties-due.ofCount i w refl refl e))
         k answer _ low
         (count-stored 0 (content f h) (x .sheet) (inv .means) (omega arith))
 
@@ -192,7 +192,7 @@ module _ (f : First) (b : Begins f) (h : List Event) (x : State) (inv : Inv f h 
       unfolding New entryDemands
       property-written k answer low =
           carried-out f b h x inv mode g a out (P object id n z) (writeProperty object id n z) refl r
-          (property-is R (now inv b) object id n z (given R (P object id n z)) (inv .means .octets) (property-id a octets (r .reads)) .1 (right.ofElements i w el (rw e at size)))
+          (property-is R (now inv b) object id n z (given R (P object id n z)) (inv .means .octets) (property-id a octets (r .reads)) .1 (properties-due.ofElements i w el (rw e at size)))
           k answer _ low
           (rw spans-are (count-stored New _ _ elements-stored most))
         where

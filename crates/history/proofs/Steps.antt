@@ -14,6 +14,11 @@ use Rattle.device.specs.Step.{Step}
 use Rattle.device.specs.Events.{Event, State, request}
 use Rattle.device.specs.Asked.{Asked, Reads}
 use Rattle.device.specs.Right as right
+use Rattle.device.specs.GroupsDue as groups
+use Rattle.device.specs.AddressesDue as addresses
+use Rattle.device.specs.PropertiesDue as properties
+use Rattle.device.specs.MemoryDue as memory
+use Rattle.device.specs.KeysDue as keys
 use Rattle.device.specs.Right.{Right}
 use Rattle.history.specs.Wish.{asks}
 use Rattle.history.specs.Permit.{heard}
@@ -57,43 +62,43 @@ module _ (f : First) (b : Begins f) (h : List Event) (x : State) (inv : Inv f h 
   due (right.unknown r q) = unheard (unknown-unheard x mode g a out accepted octets q) 8 [] (λ z. omega (arith, z .outcome))
   due (right.otherMode k r n s q) = unheard (mode-unheard x mode g a out accepted octets k n q) 9 [] (λ z. omega (arith, z .outcome))
   due (right.unfit k r n t q) = unheard (unread-unheard x mode g a out accepted 10 q) 10 [] (λ z. omega (arith, z .outcome))
-  due (right.groupRead0 i r m n o) = idle GroupValueRead refl r 0 _
-  due (right.groupRead i r m n o) = idle GroupValueRead refl r 0 _
-  due (right.noGroupRead r q) = idle GroupValueRead refl r 2 []
-  due (right.groupPut0 p v k i r q m n o d) = bits-stored f b h x inv mode g a out octets p v k r q i m n (ap length d ∙ sym o) o 1 []
-  due (right.groupPut p v k i r q m n o d) = bytes-stored f b h x inv mode g a out octets p v k r q i m n d o 1 []
-  due (right.groupLength p v k i r q m n o) = value-left f b h x inv mode g a out octets p v k r q (unfit f b h x inv mode g a out octets p v k r q i m o) 10 []
-  due (right.noGroupPut p v k r q o) = value-left f b h x inv mode g a out octets p v k r q (λ i m n l. o i m n) 2 []
-  due (right.addressWrite v r o) = address-written f b h x inv mode g a out v octets r o 1 []
-  due (right.noAddressWrite v r o) = address-unwritten f b h x inv mode g a out v r o 2 []
-  due (right.addressRead r o) = idle IndividualAddressRead refl r 0 _
-  due (right.noAddressRead r o) = idle IndividualAddressRead refl r 2 []
-  due (right.serialRead n r o) = idle (SerialNumberRead n) refl r 0 _
-  due (right.noSerialRead n r o) = idle (SerialNumberRead n) refl r 2 []
-  due (right.serialWrite n v r o) = serial-written f b h x inv mode g a out n v octets r o 1 []
-  due (right.noSerialWrite n v r o) = serial-unwritten f b h x inv mode g a out n v r o 2 []
-  due (right.descriptor r) = idle (DeviceDescriptorRead 0) refl r 0 _
-  due (right.noDescriptor t r o) = idle (DeviceDescriptorRead t) refl r 2 []
-  due (right.propertyCount o d i r q) = idle (PropertyValueRead o d 1 0) refl r 0 _
-  due (right.propertyRead o d n z i r q e l) = idle (PropertyValueRead o d n z) refl r 0 _
-  due (right.noPropertyRead o d n z r q) = idle (PropertyValueRead o d n z) refl r 11 _
-  due (right.propertyClear o d i r w e) = property-cleared f b h x inv mode g a out octets o d i w r e 0 _ (omega arith)
-  due (right.propertyWrite o d n z i ds r w e el size) =
+  due (right.groups (groups.groupRead0 i r m n o)) = idle GroupValueRead refl r 0 _
+  due (right.groups (groups.groupRead i r m n o)) = idle GroupValueRead refl r 0 _
+  due (right.groups (groups.noGroupRead r q)) = idle GroupValueRead refl r 2 []
+  due (right.groups (groups.groupPut0 p v k i r q m n o d)) = bits-stored f b h x inv mode g a out octets p v k r q i m n (ap length d ∙ sym o) o 1 []
+  due (right.groups (groups.groupPut p v k i r q m n o d)) = bytes-stored f b h x inv mode g a out octets p v k r q i m n d o 1 []
+  due (right.groups (groups.groupLength p v k i r q m n o)) = value-left f b h x inv mode g a out octets p v k r q (unfit f b h x inv mode g a out octets p v k r q i m o) 10 []
+  due (right.groups (groups.noGroupPut p v k r q o)) = value-left f b h x inv mode g a out octets p v k r q (λ i m n l. o i m n) 2 []
+  due (right.addresses (addresses.addressWrite v r o)) = address-written f b h x inv mode g a out v octets r o 1 []
+  due (right.addresses (addresses.noAddressWrite v r o)) = address-unwritten f b h x inv mode g a out v r o 2 []
+  due (right.addresses (addresses.addressRead r o)) = idle IndividualAddressRead refl r 0 _
+  due (right.addresses (addresses.noAddressRead r o)) = idle IndividualAddressRead refl r 2 []
+  due (right.addresses (addresses.serialRead n r o)) = idle (SerialNumberRead n) refl r 0 _
+  due (right.addresses (addresses.noSerialRead n r o)) = idle (SerialNumberRead n) refl r 2 []
+  due (right.addresses (addresses.serialWrite n v r o)) = serial-written f b h x inv mode g a out n v octets r o 1 []
+  due (right.addresses (addresses.noSerialWrite n v r o)) = serial-unwritten f b h x inv mode g a out n v r o 2 []
+  due (right.addresses (addresses.descriptor r)) = idle (DeviceDescriptorRead 0) refl r 0 _
+  due (right.addresses (addresses.noDescriptor t r o)) = idle (DeviceDescriptorRead t) refl r 2 []
+  due (right.properties (properties.propertyCount o d i r q)) = idle (PropertyValueRead o d 1 0) refl r 0 _
+  due (right.properties (properties.propertyRead o d n z i r q e l)) = idle (PropertyValueRead o d n z) refl r 0 _
+  due (right.properties (properties.noPropertyRead o d n z r q)) = idle (PropertyValueRead o d n z) refl r 11 _
+  due (right.properties (properties.propertyClear o d i r w e)) = property-cleared f b h x inv mode g a out octets o d i w r e 0 _ (omega arith)
+  due (right.properties (properties.propertyWrite o d n z i ds r w e el size)) =
       property-written f b h x inv mode g a out octets o d i w n z ds r e el size 0 _ (omega arith)
-  due (right.noPropertyWrite o d n z r q) = property-denied f b h x inv mode g a out octets o d n z r q 11 _ (λ z. omega arith)
-  due (right.description o d n i r q) = idle (PropertyDescriptionRead o d n) refl r 0 _
-  due (right.noDescription o d n r q) = idle (PropertyDescriptionRead o d n) refl r 11 _
-  due (right.memoryRead n y i r q) = idle (MemoryRead n y) refl r 0 _
-  due (right.noMemoryRead n y r q) = idle (MemoryRead n y) refl r 11 _
-  due (right.memoryWriteVerified n y i d r w e v) = memory-written f b h x inv mode g a out octets n y i d r w e 0 _ (omega arith)
-  due (right.memoryWrite n y i d r w e v) = memory-written f b h x inv mode g a out octets n y i d r w e 1 [] (omega arith)
-  due (right.noMemoryWriteVerified n y r q v) = memory-denied f b h x inv mode g a out octets n y r q 11 _ (λ z. omega arith)
-  due (right.noMemoryWrite n y r q v) = memory-denied f b h x inv mode g a out octets n y r q 12 [] (λ z. omega arith)
-  due (right.bitWriteVerified n y i d r w e v) = bits-written f b h x inv mode g a out octets n y i d r w e 0 _ (omega arith)
-  due (right.bitWrite n y i d r w e v) = bits-written f b h x inv mode g a out octets n y i d r w e 1 [] (omega arith)
-  due (right.noBitWriteVerified n y r q v) = bits-denied f b h x inv mode g a out octets n y r q 11 _ (λ z. omega arith)
-  due (right.noBitWrite n y r q v) = bits-denied f b h x inv mode g a out octets n y r q 12 [] (λ z. omega arith)
-  due (right.authorize n l r q) = authorized f b h x inv mode g a out n l r q 0 _
-  due (right.keyWrite l n r w) = key-written f b h x inv mode g a out l n r w 0 _ (omega arith)
-  due (right.noKeyWrite l n r q) = key-denied f b h x inv mode g a out l n r q 11 _ (λ z. omega arith)
-  due (right.restart r) = restarted f b h x inv mode g a out r 1 []
+  due (right.properties (properties.noPropertyWrite o d n z r q)) = property-denied f b h x inv mode g a out octets o d n z r q 11 _ (λ z. omega arith)
+  due (right.properties (properties.description o d n i r q)) = idle (PropertyDescriptionRead o d n) refl r 0 _
+  due (right.properties (properties.noDescription o d n r q)) = idle (PropertyDescriptionRead o d n) refl r 11 _
+  due (right.memory (memory.memoryRead n y i r q)) = idle (MemoryRead n y) refl r 0 _
+  due (right.memory (memory.noMemoryRead n y r q)) = idle (MemoryRead n y) refl r 11 _
+  due (right.memory (memory.memoryWriteVerified n y i d r w e v)) = memory-written f b h x inv mode g a out octets n y i d r w e 0 _ (omega arith)
+  due (right.memory (memory.memoryWrite n y i d r w e v)) = memory-written f b h x inv mode g a out octets n y i d r w e 1 [] (omega arith)
+  due (right.memory (memory.noMemoryWriteVerified n y r q v)) = memory-denied f b h x inv mode g a out octets n y r q 11 _ (λ z. omega arith)
+  due (right.memory (memory.noMemoryWrite n y r q v)) = memory-denied f b h x inv mode g a out octets n y r q 12 [] (λ z. omega arith)
+  due (right.memory (memory.bitWriteVerified n y i d r w e v)) = bits-written f b h x inv mode g a out octets n y i d r w e 0 _ (omega arith)
+  due (right.memory (memory.bitWrite n y i d r w e v)) = bits-written f b h x inv mode g a out octets n y i d r w e 1 [] (omega arith)
+  due (right.memory (memory.noBitWriteVerified n y r q v)) = bits-denied f b h x inv mode g a out octets n y r q 11 _ (λ z. omega arith)
+  due (right.memory (memory.noBitWrite n y r q v)) = bits-denied f b h x inv mode g a out octets n y r q 12 [] (λ z. omega arith)
+  due (right.keys (keys.authorize n l r q)) = authorized f b h x inv mode g a out n l r q 0 _
+  due (right.keys (keys.keyWrite l n r w)) = key-written f b h x inv mode g a out l n r w 0 _ (omega arith)
+  due (right.keys (keys.noKeyWrite l n r q)) = key-denied f b h x inv mode g a out l n r q 11 _ (λ z. omega arith)
+  due (right.keys (keys.restart r)) = restarted f b h x inv mode g a out r 1 []
