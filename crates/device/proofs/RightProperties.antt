@@ -27,10 +27,10 @@ use Rattle.device.proofs.Levels.{acts, acts-at}
 use Rattle.device.proofs.Properly.{keyed, unkeyed, read-id, write-id, two-zeros}
 use Rattle.device.proofs.Stepped.{step, step-read}
 
-among : {e : List ℕ} {n s : ℕ} → Elements e n s → Among n s (property.maximum of e)
+among : {m n s : ℕ} → Elements m n s → Among n s m
 among m = record { start = m .start; some = m .some; end = m .end }
 
-elements : (e : List ℕ) (n s : ℕ) → Among n s (property.maximum of e) → Elements e n s
+elements : (m n s : ℕ) → Among n s m → Elements m n s
 elements e n s m = record { start = m .start; some = m .some; end = m .end }
 
 module _ (x : Asked) (object id : ℕ) where
@@ -56,7 +56,7 @@ module _ (x : Asked) (object id : ℕ) where
         step-read x _ r _ (property-read-count ok object id i (keyed x object id i (p .found)) _ n s (opened i p) z o)
 
     pub only-property-read :
-        (i : ℕ) → Readable x object id i → Elements (entry (x .sheet) properties i) n s →
+        (i : ℕ) → Readable x object id i → Elements (property.maximum of entry (x .sheet) properties i) n s →
         n * property.element of entry (x .sheet) properties i ≤ 10 →
         says x 0 (PropertyValueResponse object id n s)
         (part (x .sheet) (elementAt (entry (x .sheet) properties i) s) (n * property.element of entry (x .sheet) properties i))
@@ -138,7 +138,7 @@ module _ (x : Asked) (object id : ℕ) where
         (property-write-clear ok′ object id i (keyed x object id i (p .found)) _ n s d (freed i p) z o (ap length e) (ap (λ (l : List ℕ). numAt l 0 2) e))
 
     pub only-property-write :
-        (i : ℕ) → Writable x object id i → Elements (entry (x .sheet) properties i) n s →
+        (i : ℕ) → Writable x object id i → Elements (property.maximum of entry (x .sheet) properties i) n s →
         length d ≡ n * property.element of entry (x .sheet) properties i →
         saysAfter x
         (splice (splice (x .sheet) (elementAt (entry (x .sheet) properties i) s) d)

@@ -20,11 +20,11 @@ use Rattle.device.specs.Asked.{Asked, says, saysAfter, Reads, given, Act
 abbrev pub propertyEntry : Asked → ℕ → List ℕ
 propertyEntry x i = entry (x .sheet) properties i
 
--- n elements from element s on, counted from 1, where e has as many
-pub record Elements (e : List ℕ) (n s : ℕ) : Type 0 where
+-- n elements from element s on, counted from 1, are among the first m
+pub record Elements (m n s : ℕ) : Type 0 where
   pub start : 1 ≤ s
   pub some : 1 ≤ n
-  pub end : s + n - 1 ≤ property.maximum of e
+  pub end : s + n - 1 ≤ m
 
 -- where element s stands
 abbrev pub elementAt : List ℕ → ℕ → ℕ
@@ -39,7 +39,7 @@ pub record Readable (x : Asked) (object id i : ℕ) : Type 0 where
 pub data ReadAllowed (x : Asked) (object id n s : ℕ) : Type 0 where
   ofCount : (i : ℕ) → Readable x object id i → s ≡ 0 → n ≡ 1 → ReadAllowed x object id n s
   ofElements :
-      (i : ℕ) → Readable x object id i → Elements (propertyEntry x i) n s →
+      (i : ℕ) → Readable x object id i → Elements (property.maximum of propertyEntry x i) n s →
       n * property.element of propertyEntry x i ≤ 10 → ReadAllowed x object id n s
 
 pub record Writable (x : Asked) (object id i : ℕ) : Type 0 where
@@ -52,7 +52,7 @@ pub record Writable (x : Asked) (object id i : ℕ) : Type 0 where
 pub data WriteAllowed (x : Asked) (object id n s : ℕ) (d : List ℕ) : Type 0 where
   ofCount : (i : ℕ) → Writable x object id i → s ≡ 0 → n ≡ 1 → d ≡ 0 ∷ 0 ∷ [] → WriteAllowed x object id n s d
   ofElements :
-      (i : ℕ) → Writable x object id i → Elements (propertyEntry x i) n s →
+      (i : ℕ) → Writable x object id i → Elements (property.maximum of propertyEntry x i) n s →
       length d ≡ n * property.element of propertyEntry x i → WriteAllowed x object id n s d
 
 -- the property that a description is asked of: by id, or where that is 0 by its index within the object
@@ -70,7 +70,7 @@ pub data PropertiesDue (x : Asked) : Step → Type 0 where
       (says x 0 (PropertyValueResponse object id 1 0) (bytesOf 2 (property.count of propertyEntry x i)))
   propertyRead :
       (object id n s i : ℕ) → Reads x (PropertyValueRead object id n s) → Readable x object id i →
-      Elements (propertyEntry x i) n s → n * property.element of propertyEntry x i ≤ 10 →
+      Elements (property.maximum of propertyEntry x i) n s → n * property.element of propertyEntry x i ≤ 10 →
       PropertiesDue x
       (says x 0 (PropertyValueResponse object id n s)
       (part (x .sheet) (elementAt (propertyEntry x i) s) (n * property.element of propertyEntry x i)))
@@ -85,7 +85,7 @@ pub data PropertiesDue (x : Asked) : Step → Type 0 where
       (PropertyValueResponse object id 1 0) (0 ∷ 0 ∷ []))
   propertyWrite :
       (object id n s i : ℕ) (d : List ℕ) → Reads x (PropertyValueWrite object id n s) → Writable x object id i →
-      d ≡ given x (PropertyValueWrite object id n s) → Elements (propertyEntry x i) n s →
+      d ≡ given x (PropertyValueWrite object id n s) → Elements (property.maximum of propertyEntry x i) n s →
       length d ≡ n * property.element of propertyEntry x i →
       PropertiesDue x
       (saysAfter x

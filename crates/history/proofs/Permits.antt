@@ -53,7 +53,7 @@ clears-is n s d = (
     zeros = rw (num-two (0 ∷ 0 ∷ []) 0)
 
 fills-is :
-    (e : List ℕ) (n s : ℕ) (d : List ℕ) → (fills e n s d ≡ true) ↔ (Elements e n s × (length d ≡ n * property.element of e))
+    (e : List ℕ) (n s : ℕ) (d : List ℕ) → (fills e n s d ≡ true) ↔ (Elements (property.maximum of e) n s × (length d ≡ n * property.element of e))
 unfolding fills
 fills-is e n s d = (
   λ h. (

@@ -125,7 +125,7 @@ module _ (f : First) (b : Begins f) (h : List Event) (x : State) (inv : Inv f h 
 
     -- WRITTEN
     module _ (n z : ℕ) (d : List ℕ) (r : Reads R (P object id n z)) (e : d ≡ given R (P object id n z))
-        (el : Elements (entry (x .sheet) properties i) n z) (size : length d ≡ n * property.element of entry (x .sheet) properties i) where
+        (el : Elements (property.maximum of entry (x .sheet) properties i) n z) (size : length d ≡ n * property.element of entry (x .sheet) properties i) where
       abbrev S : List ℕ
       S = entry (x .sheet) properties i
 
