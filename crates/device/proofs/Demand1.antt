@@ -10,7 +10,7 @@ use native.Mathlib.Omega.{arith}
 use Rattle.octets.specs.Bytes.{bytesOf}
 use Rattle.pdu.specs.Read.{readPdu, dataAt}
 use Rattle.pdu.specs.Write.{encoded, writable}
-use Rattle.pdu.proofs.Truths.{and-is, at-most-is}
+use Rattle.octets.proofs.Truths.{and-is, at-most-is}
 use Rattle.pdu.proofs.Writing.{length-encoded}
 use Rattle.pdu.specs.declared.Pdu.{Pdu}
 use Rattle.judge.specs.declared.Session.{Session}

@@ -7,7 +7,7 @@ use native.Mathlib.Omega.{arith}
 use lib.Dec.{ltb}
 use lib.ListN.{length, length-drop}
 use Rattle.pdu.specs.Read.{dataOf}
-use Rattle.pdu.proofs.Truths.{and-is, below-is, equal-is}
+use Rattle.octets.proofs.Truths.{and-is, below-is, equal-is}
 use Rattle.pdu.proofs.Readings.{Reading}
 use Rattle.pdu.specs.declared.Pdu.the-variants.{SerialNumberRead, PropertyValueRead, PropertyValueWrite, MemoryWrite, MemoryBitWrite}
 

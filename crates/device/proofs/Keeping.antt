@@ -17,7 +17,7 @@ use Rattle.sheet.specs.Rules.{entryDemands}
 use Rattle.sheet.proofs.Good.{Good, accepted}
 use Rattle.sheet.proofs.Stores.{key-store, address-store, flags-store}
 use Rattle.pdu.specs.Read.{dataOf}
-use Rattle.pdu.proofs.Truths.{and-is, below-is}
+use Rattle.octets.proofs.Truths.{and-is, below-is}
 use Rattle.pdu.proofs.Readings.{Reading}
 use Rattle.pdu.specs.declared.Pdu.{Pdu}
 use Rattle.pdu.specs.declared.Pdu.the-variants.{GroupValueRead, GroupValueResponse, GroupValueWrite, IndividualAddressWrite, IndividualAddressRead, SerialNumberRead, SerialNumberWrite, DeviceDescriptorRead, PropertyValueRead, PropertyValueWrite, PropertyDescriptionRead, MemoryRead, MemoryWrite, MemoryBitWrite, AuthorizeRequest, KeyWrite, Restart, IndividualAddressResponse, SerialNumberResponse, DeviceDescriptorResponse, PropertyValueResponse, PropertyDescriptionResponse, MemoryResponse, AuthorizeResponse, KeyResponse}
@@ -30,7 +30,7 @@ use Rattle.judge.specs.Groups.{groupPutOf}
 use Rattle.judge.specs.Properties.{propertyWriteOf}
 use Rattle.judge.specs.Keys.{authorizeOf, restartOf}
 use Rattle.judge.specs.Judge.{decideOf}
-use Rattle.judge.proofs.Walks.{by-eq}
+use Rattle.octets.proofs.Walks.{by-eq}
 use Rattle.judge.proofs.GroupCases.{group-read-cases, group-put-cases}
 use Rattle.judge.proofs.PropertyCases.{property-read-cases, property-write-cases, description-cases}
 use Rattle.judge.proofs.MemoryCases.{Reflects, reflects-write, reflects-change, memory-read-cases, changed, change-cases}

@@ -4,7 +4,7 @@ use Prim.Native.Nat.{ℕ, _≤_}
 use mathlib.Core.Path.{_≡_}
 use borrow.Author.Tests.{eq-eqb, ne-eqb, lt-ltb, le-ltb}
 use Rattle.judge.specs.Session.{levelOf, levelIn}
-use Rattle.judge.proofs.Walks.{by-eq, by-lt}
+use Rattle.octets.proofs.Walks.{by-eq, by-lt}
 use Rattle.device.specs.Asked.{Asked, Acts, bySession, byLimit, unconnected}
 
 -- it acts at a level

@@ -12,7 +12,7 @@ use Rattle.pdu.specs.Table.{rowOf, serviceAt}
 use Rattle.pdu.specs.Pdus.{serviceOf}
 use Rattle.pdu.specs.Rules.{codeOf}
 use Rattle.pdu.specs.Read.{readPdu}
-use Rattle.pdu.proofs.Truths.{never, and-is}
+use Rattle.octets.proofs.Truths.{never, and-is}
 use Rattle.pdu.proofs.Codes.{has-is, found, named, unknown}
 use Rattle.pdu.proofs.Readings.{reading, refused-row}
 use Rattle.pdu.specs.declared.Service.{Service}
@@ -26,7 +26,7 @@ use Rattle.judge.specs.Decisions.{refused}
 use Rattle.judge.specs.Session.{levelIn}
 use Rattle.judge.specs.Modes.{rulesOf, reachOf, reaches, takes}
 use Rattle.judge.specs.Judge.{isAccepted, decideOf, readOf, reachedOf, foundOf, isShut, judgeOf}
-use Rattle.judge.proofs.Walks.{by-test, by-not, by-lt}
+use Rattle.octets.proofs.Walks.{by-test, by-not, by-lt}
 use Rattle.device.specs.Asked.{Asked, Takes, Names, Served, Refusal, noRoom, badSheet, badLength, badMode, noSession, Ready, Reads, given}
 use Rattle.device.proofs.Taking.{takes-is, served-is}
 

@@ -14,7 +14,7 @@ use Rattle.judge.specs.declared.Decision.{Decision}
 use Rattle.judge.specs.declared.Answer.the-variants as answer
 use Rattle.judge.specs.Decisions as decisions
 use Rattle.judge.specs.Addresses.{newAddress, addressWriteOf, addressReadOf, serialReadOf, serialWriteOf, descriptorOf}
-use Rattle.judge.proofs.Walks.{by-eq}
+use Rattle.octets.proofs.Walks.{by-eq}
 use Rattle.device.specs.Step.{stepBy}
 use Rattle.device.specs.Asked.{Asked, quiet, says, stores, Reads, given}
 use Rattle.device.specs.AddressesDue.{AddressesDue, Programming, addressWrite, noAddressWrite, addressRead, noAddressRead, serialRead, noSerialRead, serialWrite, noSerialWrite, descriptor, noDescriptor}

@@ -30,7 +30,7 @@ use Rattle.judge.specs.Properties.{propertyReadOf, propertyWriteOf, description
 use Rattle.judge.specs.Memory.{memoryReadOf, memoryWriteOf, bitWriteOf}
 use Rattle.judge.specs.Keys.{authorizeOf, keyWriteOf, restartOf}
 use Rattle.judge.specs.Judge.{decideOf}
-use Rattle.judge.proofs.Walks.{by-eq}
+use Rattle.octets.proofs.Walks.{by-eq}
 use Rattle.judge.proofs.GroupCases.{group-read-cases, group-put-cases}
 use Rattle.judge.proofs.PropertyCases.{property-read-cases, property-write-cases, description-cases}
 use Rattle.judge.proofs.MemoryCases.{Reflects, reflects-write, reflects-change, spot, memory-read-cases, changed, change-cases}

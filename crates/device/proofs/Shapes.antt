@@ -23,7 +23,7 @@ use Rattle.judge.specs.Addresses.{addressWriteOf, addressReadOf, serialReadOf, 
 use Rattle.judge.specs.Memory.{memoryWriteOf, bitWriteOf}
 use Rattle.judge.specs.Keys.{authorizeOf, restartOf}
 use Rattle.judge.specs.Judge.{decideOf, judgeOf}
-use Rattle.judge.proofs.Walks.{by-eq}
+use Rattle.octets.proofs.Walks.{by-eq}
 use Rattle.judge.proofs.GroupCases.{group-read-cases, group-put-cases}
 use Rattle.judge.proofs.PropertyCases.{property-read-cases, property-write-cases, description-cases}
 use Rattle.judge.proofs.MemoryCases.{reflects-write, reflects-change, memory-read-cases, change-cases}

@@ -15,7 +15,7 @@ use Rattle.pdu.proofs.Readings.{reading}
 use Rattle.pdu.specs.declared.Parsed.{Parsed}
 use Rattle.judge.specs.Session.{levelIn}
 use Rattle.judge.specs.Judge.{isAccepted, decideOf, dataIn}
-use Rattle.judge.proofs.Walks.{by-test}
+use Rattle.octets.proofs.Walks.{by-test}
 use Rattle.device.specs.Step.{stepBy, stepOf}
 use Rattle.device.specs.Asked.{Asked, given}
 use Rattle.device.specs.Events.{State, Event, connect, disconnect, button, request, pressed, buttonSheet, eventOf, after}

@@ -29,7 +29,7 @@ use Rattle.judge.specs.declared.Store.the-variants as store
 use Rattle.judge.specs.Memory.{memoryWriteOf, bitWriteOf}
 use Rattle.judge.specs.Keys.{grantOf, authorizeOf, restartOf}
 use Rattle.judge.specs.Judge.{decideOf, judgeOf}
-use Rattle.judge.proofs.Walks.{by-eq}
+use Rattle.octets.proofs.Walks.{by-eq}
 use Rattle.judge.proofs.GroupCases.{group-read-cases, group-put-cases}
 use Rattle.judge.proofs.PropertyCases.{describes, property-read-cases, property-write-cases, description-cases}
 use Rattle.judge.proofs.MemoryCases.{reflects-write, reflects-change, memory-read-cases, change-cases}

@@ -16,7 +16,7 @@ use Rattle.pdu.specs.Table.{rowOf, serviceAt}
 use Rattle.pdu.specs.Rules.{codeOf, lowAt, fourAt, twelveAt, valuesAt, fits}
 use Rattle.pdu.specs.Pdus.{serviceOf, valuesOf, pduOf}
 use Rattle.pdu.specs.Read.{readPdu, readFound, dataOf, dataAt}
-use Rattle.pdu.proofs.Truths.{and-is, never}
+use Rattle.octets.proofs.Truths.{and-is, never}
 use Rattle.pdu.proofs.Formed.{laterFormed, itemsFormed, formed-says}
 use Rattle.pdu.proofs.Sound.{sound}
 use Rattle.pdu.proofs.Items.{two-or-more}

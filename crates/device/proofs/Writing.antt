@@ -10,7 +10,7 @@ use lib.Dec.{eqb}
 use lib.ListN.{length}
 use Rattle.pdu.specs.Read.{dataAt}
 use Rattle.pdu.specs.Write.{writable, fitsIn}
-use Rattle.pdu.proofs.Truths.{and-is, or-is, below-is, at-most-is, equal-is}
+use Rattle.octets.proofs.Truths.{and-is, or-is, below-is, at-most-is, equal-is}
 use Rattle.pdu.specs.declared.Pdu.{Pdu}
 use Rattle.pdu.specs.declared.Pdu.the-variants.{GroupValueResponse, IndividualAddressResponse, SerialNumberResponse, DeviceDescriptorResponse, PropertyValueResponse, PropertyDescriptionResponse, MemoryResponse, AuthorizeResponse, KeyResponse}
 

@@ -20,7 +20,7 @@ use Rattle.pdu.specs.Read.{readFound, readPdu, dataAt, dataOf}
 use Rattle.pdu.proofs.Formed.{laterFormed, itemsFormed, formed-says}
 use Rattle.pdu.proofs.Items.{two-or-more}
 use Rattle.pdu.proofs.Sound.{sound}
-use Rattle.pdu.proofs.Truths.{and-is, never}
+use Rattle.octets.proofs.Truths.{and-is, never}
 use Rattle.pdu.specs.declared.Service.{Service}
 use Rattle.pdu.specs.declared.Found.{Found}
 use Rattle.pdu.specs.declared.Found.the-variants.{Listed, Unknown}

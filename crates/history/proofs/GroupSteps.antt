@@ -21,7 +21,7 @@ use Rattle.sheet.proofs.Good.{accepted}
 use Rattle.sheet.proofs.Keys.{key-once}
 use Rattle.sheet.proofs.Sames.{count-same, group-same}
 use Rattle.pdu.specs.declared.Pdu.{Pdu}
-use Rattle.pdu.proofs.Truths.{never}
+use Rattle.octets.proofs.Truths.{never}
 use Rattle.device.specs.Octets.{Octets}
 use Rattle.device.specs.Events.{Event, State}
 use Rattle.device.specs.Asked.{Asked, Reads, given}

@@ -5,7 +5,7 @@ use mathlib.Core.Path.{_≡_}
 use mathlib.Core.Bool.{true}
 use mathlib.Core.List.{List, [], _∷_}
 use native.Mathlib.Omega.{arith}
-use Rattle.pdu.proofs.Truths.{never}
+use Rattle.octets.proofs.Truths.{never}
 use Rattle.device.specs.Octets.{Octets}
 use Rattle.device.specs.Events.{Event, State, connect, disconnect, button, request, eventOf}
 use Rattle.device.proofs.Dues.{connect-due, connect-only, disconnect-due, disconnect-only, button-due, button-only}

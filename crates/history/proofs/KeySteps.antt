@@ -32,7 +32,7 @@ use Rattle.history.proofs.Octet.{octets-bytes}
 use Rattle.history.proofs.Permits.{key-is}
 use Rattle.history.proofs.Requests.{Done, opens-same, levels-new, programs-same, addresses-same, values-same, contents-same, forbidden}
 use Rattle.history.proofs.Writes.{heard-now, carried-out, denied}
-use Rattle.pdu.proofs.Truths.{never}
+use Rattle.octets.proofs.Truths.{never}
 
 -- the level that a number gets is the one that the keys grant
 granted : (s : List ℕ) (now : ℕ → ℕ) (number before : ℕ) → now 0 ≡ head.key 0 of s → now 1 ≡ head.key 1 of s → now 2 ≡ head.key 2 of s →

@@ -18,7 +18,7 @@ use Rattle.sheet.specs.Property as property
 use Rattle.sheet.specs.Entries.{entry}
 use Rattle.sheet.specs.Places.{Stands, PropertyWith}
 use Rattle.sheet.proofs.Good.{Good, good}
-use Rattle.pdu.proofs.Truths.{never, decided, and-is}
+use Rattle.octets.proofs.Truths.{never, decided, and-is}
 use Rattle.device.specs.Events.{Event, connect, disconnect, button, request, run}
 use Rattle.history.specs.Location.{Location, memory, body, counter, key}
 use Rattle.history.specs.Span.{names, gives}

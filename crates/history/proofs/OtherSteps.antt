@@ -14,7 +14,7 @@ use Rattle.sheet.specs.Layout.{_of_}
 use Rattle.sheet.specs.Head as head
 use Rattle.pdu.specs.declared.Pdu.{Pdu}
 use Rattle.pdu.specs.declared.Pdu.the-variants.{IndividualAddressWrite, SerialNumberWrite, Restart}
-use Rattle.pdu.proofs.Truths.{never}
+use Rattle.octets.proofs.Truths.{never}
 use Rattle.device.specs.Octets.{Octets}
 use Rattle.device.specs.Events.{Event, State}
 use Rattle.device.specs.Asked.{Asked, Reads}

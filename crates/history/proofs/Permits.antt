@@ -19,7 +19,7 @@ use Rattle.sheet.specs.Entries.{count, entry}
 use Rattle.sheet.specs.Places.{PropertyWith}
 use Rattle.sheet.proofs.Good.{Good}
 use Rattle.sheet.proofs.Runs.{Covered}
-use Rattle.pdu.proofs.Truths.{and-is}
+use Rattle.octets.proofs.Truths.{and-is}
 use Rattle.device.specs.Octets.{Octets}
 use Rattle.device.specs.Asked.{Asked}
 use Rattle.device.specs.PropertiesDue as properties-due

@@ -10,7 +10,7 @@ use Rattle.sheet.specs.Rules.{ruleOf}
 use Rattle.sheet.proofs.Good.{Good, good}
 use Rattle.pdu.specs.declared.Pdu.{Pdu}
 use Rattle.pdu.specs.declared.Pdu.the-variants.{GroupValueRead, GroupValueResponse, GroupValueWrite, IndividualAddressWrite, IndividualAddressRead, SerialNumberRead, SerialNumberWrite, DeviceDescriptorRead, PropertyValueRead, PropertyValueWrite, PropertyDescriptionRead, MemoryRead, MemoryWrite, MemoryBitWrite, AuthorizeRequest, KeyWrite, Restart, IndividualAddressResponse, SerialNumberResponse, DeviceDescriptorResponse, PropertyValueResponse, PropertyDescriptionResponse, MemoryResponse, AuthorizeResponse, KeyResponse}
-use Rattle.pdu.proofs.Truths.{never, and-is}
+use Rattle.octets.proofs.Truths.{never, and-is}
 use Rattle.device.specs.Octets.{Octets}
 use Rattle.device.specs.Events.{State, request}
 use Rattle.device.specs.Asked.{Asked, Reads, given}

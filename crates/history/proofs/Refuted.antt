@@ -18,7 +18,7 @@ use Rattle.pdu.specs.Table.{find}
 use Rattle.pdu.specs.Rules.{lowAt, fourAt, twelveAt, headBytes}
 use Rattle.pdu.specs.Read.{readPdu, dataOf}
 use Rattle.pdu.specs.Write.{encoded}
-use Rattle.pdu.proofs.Truths.{never, and-is}
+use Rattle.octets.proofs.Truths.{never, and-is}
 use Rattle.judge.specs.Session.{levelOf, levelIn}
 use Rattle.judge.specs.Modes.{rulesOf}
 use Rattle.judge.specs.Properties.{writeIn, propertyWriteOf}

@@ -8,7 +8,7 @@ use Rattle.sheet.specs.Kind.{groups}
 use Rattle.sheet.specs.Layout.{_of_}
 use Rattle.sheet.specs.Head as head
 use Rattle.sheet.specs.Entries.{count, entry}
-use Rattle.pdu.proofs.Truths.{never}
+use Rattle.octets.proofs.Truths.{never}
 use Rattle.device.specs.Step.{Step}
 use Rattle.device.specs.Events.{Event, State, request}
 use Rattle.history.specs.Location.{Location}

@@ -12,7 +12,7 @@ use Rattle.octets.specs.Splice.{splice}
 use Rattle.octets.proofs.Splices.{splice-in, splice-outside}
 use Rattle.sheet.proofs.Good.{Good}
 use Rattle.history.specs.Location.{Location, Place}
-use Rattle.pdu.proofs.Truths.{never}
+use Rattle.octets.proofs.Truths.{never}
 use Rattle.history.specs.Span.{byte, Span, has, put}
 use Rattle.history.proofs.Places.{location-once, place-once}
 use Rattle.history.proofs.Spans.{on, has-only, has-on}

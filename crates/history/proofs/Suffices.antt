@@ -11,7 +11,7 @@ use Rattle.sheet.specs.Kind.{regions, properties}
 use Rattle.sheet.specs.Layout.{_of_}
 use Rattle.sheet.specs.Property as property
 use Rattle.sheet.specs.Entries.{count}
-use Rattle.pdu.proofs.Truths.{never, and-is}
+use Rattle.octets.proofs.Truths.{never, and-is}
 use Rattle.history.specs.Location.{Location, memory}
 use Rattle.history.specs.Span.{Span, has, names}
 use Rattle.history.specs.Wish.{Wish, change, writeMemory, writeBits, writeProperty, writeKey, offerKey, restart, other, nothing}

@@ -14,7 +14,7 @@ use Rattle.pdu.specs.Read.{readPdu}
 use Rattle.pdu.specs.declared.Service.{Service}
 use Rattle.pdu.specs.declared.Pdu.{Pdu}
 use Rattle.pdu.specs.declared.Parsed.the-variants.{Refused}
-use Rattle.pdu.proofs.Truths.{never}
+use Rattle.octets.proofs.Truths.{never}
 use Rattle.pdu.proofs.Codes.{has-is, codes-apart}
 use Rattle.device.specs.Octets.{Octets}
 use Rattle.device.specs.Events.{State}

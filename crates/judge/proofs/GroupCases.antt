@@ -19,7 +19,7 @@ use Rattle.judge.specs.declared.Answer.the-variants as answer
 use Rattle.judge.specs.declared.Decision.{Decision}
 use Rattle.judge.specs.Decisions.{refused, answered, stored}
 use Rattle.judge.specs.Groups.{valueOf, putValue, flagsAt, groupReadOf, groupPutOf}
-use Rattle.judge.proofs.Walks.{by-lt, by-eq}
+use Rattle.octets.proofs.Walks.{by-lt, by-eq}
 
 -- group object i has the address, and the flag w
 pub record Lets (s : List ℕ) (w address i : ℕ) : Type 0 where

@@ -14,7 +14,7 @@ use Rattle.judge.specs.declared.Answer.the-variants as answer
 use Rattle.judge.specs.declared.Decision.{Decision}
 use Rattle.judge.specs.Decisions.{denied, written}
 use Rattle.judge.specs.Keys.{grantOf, keyWriteOf}
-use Rattle.judge.proofs.Walks.{by-both, by-eq}
+use Rattle.octets.proofs.Walks.{by-both, by-eq}
 
 -- the smallest level with the key, else 3
 pub grant-cases :

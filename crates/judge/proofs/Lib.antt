@@ -1,7 +1,6 @@
 -- This crate's promise is the contract of `judge::judge`; its theorems are LAWS behind it and behind the device's.
--- What is decided, case by case, which the device cites: GroupCases, PropertyCases, MemoryCases, KeyCases, Walks.
+-- What is decided, case by case, which the device cites: GroupCases, PropertyCases, MemoryCases, KeyCases.
 -- From what the parts of a function ensure to what it ensures: all other modules. A folder holds the proof of the function whose name it has.
-pub mod Walks
 pub mod GroupCases
 pub mod PropertyCases
 pub mod MemoryCases

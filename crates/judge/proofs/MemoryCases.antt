@@ -16,7 +16,7 @@ use Rattle.sheet.specs.declared.Run.{Run}
 use Rattle.sheet.specs.declared.Run.the-variants.{At, Nowhere}
 use Rattle.sheet.proofs.Good.{Good}
 use Rattle.sheet.proofs.Runs.{Covered, ranged, range-hit}
-use Rattle.pdu.proofs.Truths.{and-is, never}
+use Rattle.octets.proofs.Truths.{and-is, never}
 use Rattle.pdu.specs.declared.Pdu.the-variants.{MemoryResponse}
 use Rattle.judge.specs.declared.Store.{Store}
 use Rattle.judge.specs.declared.Store.the-variants as store
@@ -24,7 +24,7 @@ use Rattle.judge.specs.declared.Answer.the-variants as answer
 use Rattle.judge.specs.declared.Decision.{Decision}
 use Rattle.judge.specs.Decisions.{refused, denied, answered, written, stored}
 use Rattle.judge.specs.Memory.{mayRead, mayWrite, mayChange, verifies, runAllowed, runAt, memoryReadOf, changeOf, memoryWriteOf, bitWriteOf}
-use Rattle.judge.proofs.Walks.{by-test, by-eq}
+use Rattle.octets.proofs.Walks.{by-test, by-eq}
 
 -- a level suffices to read, to write, and to do both
 abbrev pub Reads : ℕ → ℕ → Type 0

@@ -17,14 +17,14 @@ use Rattle.sheet.specs.Lookup.{nthOf, rank, objectAt}
 use Rattle.sheet.proofs.Good.{Good, accepted}
 use Rattle.sheet.proofs.Keys.{index-hit, index-key}
 use Rattle.sheet.proofs.Ranks.{nth-hit, nth-is}
-use Rattle.pdu.proofs.Truths.{and-is}
+use Rattle.octets.proofs.Truths.{and-is}
 use Rattle.pdu.specs.declared.Pdu.the-variants.{PropertyValueResponse, PropertyDescriptionResponse}
 use Rattle.judge.specs.declared.Store.the-variants as store
 use Rattle.judge.specs.declared.Answer.the-variants as answer
 use Rattle.judge.specs.declared.Decision.{Decision}
 use Rattle.judge.specs.Decisions.{denied, answered, written}
 use Rattle.judge.specs.Properties.{elements, counted, elementAt, noValue, propertyAt, readIn, propertyReadOf, writeIn, propertyWriteOf, describedAt, descriptionOf}
-use Rattle.judge.proofs.Walks.{by-lt, by-le, by-eq, by-both, by-test}
+use Rattle.octets.proofs.Walks.{by-lt, by-le, by-eq, by-both, by-test}
 
 -- property i has the object and the id
 pub record Keyed (s : List ℕ) (object id i : ℕ) : Type 0 where

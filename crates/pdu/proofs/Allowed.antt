@@ -9,7 +9,7 @@ use lib.Dec.{leb, ltb, eqb}
 use Rattle.pdu.specs.Item.{Item, low, num, cap, duo, skip, Tail, none, by, twice, between, group, Row, Value, the}
 use Rattle.pdu.specs.Rules.{under, suits, fits, headOf}
 use Rattle.pdu.specs.Allows.{AllWithin, Length, Allows, AllWide}
-use Rattle.pdu.proofs.Truths.{and-is, or-is, below-is, at-most-is, equal-is}
+use Rattle.octets.proofs.Truths.{and-is, or-is, below-is, at-most-is, equal-is}
 
 below-and : (y m : ℕ) (t : Bool) (A B : Type 0) → (t ≡ true) ↔ (A × B) → ((ltb y m && t) ≡ true) ↔ (((y < m) × A) × B)
 below-and y m t A B i = (

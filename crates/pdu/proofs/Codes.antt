@@ -12,7 +12,7 @@ use lib.ListN.{getElem?}
 use borrow.Author.Tests.{leb-true, ltb-true, le-leb, lt-ltb}
 use Rattle.pdu.specs.Item.{Row}
 use Rattle.pdu.specs.Table.{rowOf, services, has, find, serviceAt}
-use Rattle.pdu.proofs.Truths.{and-is, or-is, decided}
+use Rattle.octets.proofs.Truths.{and-is, or-is, decided}
 use Rattle.pdu.specs.declared.Service.{Service}
 use Rattle.pdu.specs.declared.Service.the-variants.{GroupValueRead, GroupValueResponse, GroupValueWrite, IndividualAddressWrite, IndividualAddressRead, SerialNumberRead, SerialNumberWrite, DeviceDescriptorRead, PropertyValueRead, PropertyValueWrite, PropertyDescriptionRead, MemoryRead, MemoryWrite, MemoryBitWrite, AuthorizeRequest, KeyWrite, Restart, IndividualAddressResponse, SerialNumberResponse, DeviceDescriptorResponse, PropertyValueResponse, PropertyDescriptionResponse, MemoryResponse, AuthorizeResponse, KeyResponse}
 use Rattle.pdu.specs.declared.Found.the-variants.{Listed, Unknown}

@@ -11,7 +11,7 @@ use borrow.Author.Tests.{leb-true, eqb-true}
 use Rattle.pdu.specs.Item.{Item, low, num, cap, duo, skip, Tail, none, by, twice, between, group, Row, Value, the}
 use Rattle.pdu.specs.Rules.{headOf, codeBy}
 use Rattle.pdu.specs.Allows.{AllWithin, Length}
-use Rattle.pdu.proofs.Truths.{never, and-is}
+use Rattle.octets.proofs.Truths.{never, and-is}
 
 -- items none of which stands in the code
 abbrev pub laterFormed : List Item → Bool

@@ -1,11 +1,10 @@
--- Promises, named in docs/PROMISES.md: Codes, Founds, Outcomes, Refusals, Only, Filled, Back, Again, Vectors; and to the layers above Readings, Writing, Allowed and Truths.
+-- Promises, named in docs/PROMISES.md: Codes, Founds, Outcomes, Refusals, Only, Filled, Back, Again, Vectors; and to the layers above Readings, Writing and Allowed.
 -- All others are laws behind them or behind the contracts.
 pub mod Arms
 pub mod Find
 pub mod Reading
 pub mod Stores
 pub mod Writing
-pub mod Truths
 pub mod Allowed
 pub mod Formed
 pub mod Sound

@@ -14,7 +14,7 @@ use Rattle.pdu.specs.Pdus.{serviceOf, valuesOf}
 use Rattle.pdu.specs.Read.{dataAt}
 use Rattle.pdu.specs.Write.{fitsIn, writable, writeOf, writeOutcome}
 use Rattle.pdu.specs.Allows.{Allows, Typed}
-use Rattle.pdu.proofs.Truths.{never, decided, and-is, at-most-is}
+use Rattle.octets.proofs.Truths.{never, decided, and-is, at-most-is}
 use Rattle.pdu.proofs.Allowed.{fits-is}
 use Rattle.pdu.specs.declared.Pdu.{Pdu}
 use Rattle.pdu.specs.declared.Written.{Written}

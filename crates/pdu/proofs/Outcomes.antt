@@ -15,7 +15,7 @@ use Rattle.pdu.specs.Pdus.{serviceOf, valuesOf, pduOf}
 use Rattle.pdu.specs.Rules.{codeOf, valuesAt, fits}
 use Rattle.pdu.specs.Read.{builtOf, readFound, readPdu, readOutcome}
 use Rattle.pdu.specs.Allows.{Allows, Carries}
-use Rattle.pdu.proofs.Truths.{never, decided}
+use Rattle.octets.proofs.Truths.{never, decided}
 use Rattle.pdu.proofs.Allowed.{fits-is, wide}
 use Rattle.pdu.proofs.Sound.{sound, again}
 use Rattle.pdu.proofs.Stands.{stands, stands-wide}

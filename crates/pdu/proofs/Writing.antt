@@ -19,7 +19,7 @@ use Rattle.pdu.specs.Read.{dataAt, dataOf}
 use Rattle.pdu.specs.Write.{encoded, fitsIn, writable, writeOf, Wrote}
 use Rattle.pdu.proofs.Items.{length-head}
 use Rattle.pdu.proofs.Stores.{longer}
-use Rattle.pdu.proofs.Truths.{and-is, at-most-is}
+use Rattle.octets.proofs.Truths.{and-is, at-most-is}
 use Rattle.pdu.specs.declared.Pdu.{Pdu}
 use Rattle.pdu.specs.declared.Written.the-variants.{Bytes, Refused}
 

@@ -23,7 +23,7 @@ use Rattle.pdu.proofs.Find.{NoneOf}
 use Rattle.pdu.proofs.Formed.{formed-says, long-enough}
 use Rattle.pdu.proofs.Sound.{sound}
 use Rattle.pdu.proofs.Outcomes.{reads-pdu}
-use Rattle.pdu.proofs.Truths.{and-is, at-most-is}
+use Rattle.octets.proofs.Truths.{and-is, at-most-is}
 use Rattle.pdu.specs.Pdus.{serviceOf, valuesOf}
 use Rattle.pdu.specs.declared.Pdu.{Pdu}
 use Rattle.tool.specs.Flat.{laid, kindOf, flatBy, flatRead, meantAs, meantBy, unknownKind, flatWritten, FlatWrote}

@@ -5,7 +5,7 @@ use mathlib.Core.Path.{_≡_, refl}
 use mathlib.Core.Bool.{Bool, true, false, cond, not, _&&_}
 use lib.Dec.{ltb, leb, eqb}
 use borrow.Author.Tests.{ltb-true, ltb-false, leb-true, leb-false, eqb-true, eqb-false}
-use Rattle.pdu.proofs.Truths.{and-is}
+use Rattle.octets.proofs.Truths.{and-is}
 
 module _ {D : Type 0} (P : D → Type 0) where
   pub by-test : (t : Bool) (x y : D) → (t ≡ true → P x) → (t ≡ false → P y) → P (cond t x y)
