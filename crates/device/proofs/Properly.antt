@@ -8,6 +8,7 @@ use lib.ListN.{length}
 use Rattle.octets.specs.Bytes.{numAt}
 use Rattle.octets.proofs.Numbers.{num-one, num-two, num-below}
 use Rattle.sheet.specs.Kind.{properties}
+use Rattle.sheet.specs.Property as property
 use Rattle.sheet.specs.Entries.{place, entry}
 use Rattle.sheet.specs.Places.{PropertyWith}
 use Rattle.sheet.proofs.Keys.{key-is, key-parts}
@@ -25,7 +26,7 @@ keyed x object id i p =
     record { there = p .there; key = omega (arith, key-is e, p .sameObject, p .sameId) }
 
 -- a byte of a property's entry is one
-pub entry-byte : (s : List ℕ) (i j : ℕ) → j < 12 → Octets s → numAt (entry s properties i) j 1 < 256
+pub entry-byte : (s : List ℕ) (i j : ℕ) → j < property.size → Octets s → numAt (entry s properties i) j 1 < 256
 entry-byte s i j l h =
     omega (arith, num-one (entry s properties i) j, entry-at s properties i j l, h (place s properties i + j))
 
@@ -33,7 +34,7 @@ entry-byte s i j l h =
 pub unkeyed : (x : Asked) (object id i : ℕ) → Octets (x .sheet) → id < 256 → Keyed (x .sheet) object id i → PropertyWith (x .sheet) object id i
 unkeyed x object id i h l k =
     let e : List ℕ = entry (x .sheet) properties i in
-    let p = key-parts e object id (entry-byte (x .sheet) i 1 (omega arith) h) l (k .key) in
+    let p = key-parts e object id (entry-byte (x .sheet) i (property.id .at) (omega arith) h) l (k .key) in
     record { there = k .there; sameObject = p .0; sameId = p .1 }
 
 -- an id of a request is a byte

@@ -32,12 +32,19 @@ module _ (f : First) (b : Begins f) (h : List Event) (step step′ : Device) (k 
   g : Good 1 (f .sheet)
   g = good 1 (f .sheet) (b .accepted)
 
+  -- where the address stands, and the flags
+  abbrev A : ℕ
+  A = head.address .at
+
+  abbrev F : ℕ
+  F = head.flags .at
+
   -- the two bytes of the address are known from their number, being bytes
-  address-same : (getD S 16 0 ≡ getD T 16 0) × (getD S 17 0 ≡ getD T 17 0)
+  address-same : (getD S A 0 ≡ getD T A 0) × (getD S (A + 1) 0 ≡ getD T (A + 1) 0)
   address-same =
-      let n : 256 * getD S 16 0 + getD S 17 0 ≡ 256 * getD T 16 0 + getD T 17 0 =
-      omega (arith, num-two S 16, num-two T 16, k .address, k′ .address) in
-      (omega (arith, k .octets 17, k′ .octets 17), omega (arith, k .octets 17, k′ .octets 17))
+      let n : 256 * getD S A 0 + getD S (A + 1) 0 ≡ 256 * getD T A 0 + getD T (A + 1) 0 =
+      omega (arith, num-two S A, num-two T A, k .address, k′ .address) in
+      (omega (arith, k .octets (A + 1), k′ .octets (A + 1)), omega (arith, k .octets (A + 1), k′ .octets (A + 1)))
 
   -- a byte of the head or of an entry
   module _ (p : ℕ) (within : p < length (f .sheet)) (none : (x : Location) → Place (f .sheet) x p → ⊥)
@@ -45,13 +52,13 @@ module _ (f : First) (b : Begins f) (h : List Event) (step step′ : Device) (k 
     still : Still (f .sheet) p → getD S p 0 ≡ getD T p 0
     still q = k .still p q ∙ sym (k′ .still p q)
 
-    field-same : Dec (p ≡ head.flags .at) → Dec (p < 16) → Dec (p < 18) → Dec (p ≡ 16) → getD S p 0 ≡ getD T p 0
-    field-same (yes e) c d u = rw e (sym (num-one S 14) ∙ k .flags ∙ sym (k′ .flags) ∙ num-one T 14)
+    field-same : Dec (p ≡ F) → Dec (p < A) → Dec (p < A + head.address .width) → Dec (p ≡ A) → getD S p 0 ≡ getD T p 0
+    field-same (yes e) c d u = rw e (sym (num-one S F) ∙ k .flags ∙ sym (k′ .flags) ∙ num-one T F)
     field-same (no e) (yes c) d u = still (record { inside = within; location = none; group = no-group; address = inl c; flags = e })
     field-same (no e) (no c) (no d) u =
         still (record { inside = within; location = none; group = no-group; address = inr (omega arith); flags = e })
     field-same (no e) (no c) (yes d) (yes u) = rw u (address-same .0)
-    field-same (no e) (no c) (yes d) (no u) = let v : p ≡ 17 = omega arith in rw v (address-same .1)
+    field-same (no e) (no c) (yes d) (no u) = let v : p ≡ A + 1 = omega arith in rw v (address-same .1)
 
   at : (p : ℕ) → p < length (f .sheet) → Sort (f .sheet) p → getD S p 0 ≡ getD T p 0
   at p l (isLocation x q) = k .holds x p q ∙ sym (k′ .holds x p q)
@@ -65,7 +72,7 @@ module _ (f : First) (b : Begins f) (h : List Event) (step step′ : Device) (k 
       ∙ sym (k′ .group i j w)
       ∙ ap (λ (n : ℕ). getD T n 0) (sym e)
   at p l (isField c n) =
-      field-same p l n (λ i q. omega (arith, past-contents g q)) (ℕ-discrete p 14) (decLt p 16) (decLt p 18) (ℕ-discrete p 16)
+      field-same p l n (λ i q. omega (arith, past-contents g q)) (ℕ-discrete p F) (decLt p A) (decLt p (A + head.address .width)) (ℕ-discrete p A)
 
   one-state : stateAfter step f h ≡ stateAfter step′ f h
   one-state =

@@ -8,6 +8,7 @@ use lib.Dec.{leb, eqb}
 use lib.ListN.{length}
 use borrow.Author.Tests.{lt-ltb, le-ltb, leb-true, not-true, not-false}
 use Rattle.octets.specs.Bytes.{numAt}
+use Rattle.sheet.specs.Property as property
 use Rattle.sheet.specs.Kind.{properties}
 use Rattle.sheet.specs.Entries.{count, place, entry}
 use Rattle.sheet.specs.Lookup.{rank}
@@ -69,7 +70,7 @@ module _
     write-low h g = simp (← (p .typ), ← (p .levels), ← w-is, not-true w h) g
 
     module _
-        (l : not w ≡ false) (c : Bool) (c-is : c ≡ (counted n s && eqb (length d) 2 && eqb (numAt d 0 2) 0)) (o : ℕ) (o-is : o ≡ e .place + 6)
+        (l : not w ≡ false) (c : Bool) (c-is : c ≡ (counted n s && eqb (length d) 2 && eqb (numAt d 0 2) 0)) (o : ℕ) (o-is : o ≡ e .place + property.count .at)
       where
         pub write-count :
             c ≡ true → r ≡ written (store.Fill o 2 0) store.Nothing (answer.Echo (PropertyValueResponse object id n s)) →
