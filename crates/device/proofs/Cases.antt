@@ -14,7 +14,7 @@ use Rattle.pdu.specs.Rules.{lowAt, fourAt, twelveAt, headBytes}
 use Rattle.pdu.specs.Read.{readPdu, dataOf}
 use Rattle.pdu.specs.Write.{encoded}
 use Rattle.judge.specs.Session.{levelOf, levelIn}
-use Rattle.judge.specs.Modes.{rulesOf}
+use Rattle.sheet.specs.Head.{rulesOf}
 use Rattle.judge.specs.Properties.{readIn, propertyReadOf, writeIn, propertyWriteOf, describedAt, descriptionOf}
 use Rattle.judge.specs.Memory.{memoryReadOf, changeOf, memoryWriteOf, bitWriteOf}
 use Rattle.judge.specs.Keys.{grantOf, authorizeOf, keyWriteOf}

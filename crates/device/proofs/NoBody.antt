@@ -16,7 +16,7 @@ use Rattle.sheet.specs.Entries.{entry}
 use Rattle.sheet.specs.Lookup.{indexOf}
 use Rattle.sheet.specs.Rules.{ruleOf}
 use Rattle.sheet.specs.Frame.{Agree}
-use Rattle.sheet.proofs.Sames.{count-same, place-same}
+use Rattle.sheet.proofs.Sames.{rules-same, count-same, place-same}
 use Rattle.sheet.proofs.Finds.{index-same, rank-same, nth-same, range-same}
 use Rattle.sheet.proofs.Frames.{both-or-neither}
 use Rattle.pdu.specs.Read.{readPdu, dataOf}
@@ -31,7 +31,6 @@ use Rattle.pdu.specs.declared.Pdu.the-variants.{GroupValueRead, GroupValueRespo
 use Rattle.judge.specs.declared.Session.{Session}
 use Rattle.judge.specs.declared.Decision.{Decision}
 use Rattle.judge.specs.Session.{levelIn}
-use Rattle.judge.specs.Modes.{rulesOf}
 use Rattle.judge.specs.Groups.{valueOf, flagsAt, groupReadOf, groupPutOf}
 use Rattle.judge.specs.Addresses.{addressWriteOf, addressReadOf, serialReadOf, serialWriteOf, descriptorOf}
 use Rattle.judge.specs.Properties.{propertyAt, propertyReadOf, propertyWriteOf, describedAt, descriptionOf}
@@ -131,9 +130,9 @@ module _ {s s′ : List ℕ} (b : SameButBodies s s′) where
 
   found-same :
       (q : Session) (mode group : ℕ) (c : List ℕ) (f : Found) → foundOf s′ q mode group c f ≡ foundOf s q mode group c f
-  unfolding reachedOf rulesOf
+  unfolding reachedOf
   found-same q mode group c Unknown = refl
-  found-same q mode group c (Listed k) = rw (read-same (levelIn q mode) group c (readPdu c))
+  found-same q mode group c (Listed k) = rw (rules-same a, read-same (levelIn q mode) group c (readPdu c))
 
   -- a sheet is accepted if the other is
   accepted-same : isAccepted s′ ≡ isAccepted s

@@ -7,6 +7,7 @@ use mathlib.Core.Bool.{Bool, true, false, not, _&&_}
 use lib.ListN.{length}
 use lib.Dec.{eqb}
 use borrow.Author.Tests.{eq-eqb, eqb-true, eqb-false, not-true, not-false}
+use Rattle.sheet.specs.Head.{rulesOf}
 use Rattle.sheet.specs.Rules.{ruleOf}
 use Rattle.pdu.specs.Table.{rowOf, serviceAt}
 use Rattle.pdu.specs.Pdus.{serviceOf}
@@ -24,7 +25,7 @@ use Rattle.pdu.specs.declared.Parsed.the-variants.{Is, Refused}
 use Rattle.judge.specs.declared.Decision.{Decision}
 use Rattle.judge.specs.Decisions.{refused}
 use Rattle.judge.specs.Session.{levelIn}
-use Rattle.judge.specs.Modes.{rulesOf, reachOf, reaches, takes}
+use Rattle.judge.specs.Modes.{reachOf, reaches, takes}
 use Rattle.judge.specs.Judge.{isAccepted, decideOf, readOf, reachedOf, foundOf, isShut, judgeOf}
 use Rattle.octets.proofs.Walks.{by-test, by-not, by-lt}
 use Rattle.device.specs.Asked.{Asked, Takes, Names, Served, Refusal, noRoom, badSheet, badLength, badMode, noSession, Ready, Reads, given}
@@ -36,6 +37,9 @@ open-then true b e h = not-false b e
 open-then false b e h = never h
 
 module _ (x : Asked) where
+  abbrev rules : ℕ
+  rules = rulesOf (x .sheet)
+
   -- the code names a service exactly if it is one of the service's
   pub names-found : (k : Service) → Names x k → serviceAt (codeOf (x .apdu)) ≡ Listed k
   names-found k n = found k (codeOf (x .apdu)) (has-is (rowOf k) _ .1 (n .from, n .to))
@@ -47,18 +51,18 @@ module _ (x : Asked) where
   names-once j k a b = let e = names-found j a in let f = names-found k b in cc
 
   module _ (P : Decision → Type 0)
-      (other : (k : Service) → Ready x → Names x k → Served k → (Takes k (x .mode) → ⊥) → P (refused 9))
-      (none : Ready x → ((k : Service) → Names x k → Served k → ⊥) → P (refused 8))
-      (unfit : (k : Service) → Ready x → Names x k → Takes k (x .mode) → readPdu (x .apdu) ≡ Refused 10 → P (refused 10))
+      (other : (k : Service) → Ready x → Names x k → Served rules k → (Takes rules k (x .mode) → ⊥) → P (refused 9))
+      (none : Ready x → ((k : Service) → Names x k → Served rules k → ⊥) → P (refused 8))
+      (unfit : (k : Service) → Ready x → Names x k → Takes rules k (x .mode) → readPdu (x .apdu) ≡ Refused 10 → P (refused 10))
       (reads : (p : Pdu) → Reads x p → P (decideOf (x .sheet) (levelIn (x .session) (x .mode)) (x .group) (given x p) p)) where
     by-reading :
-        (k : Service) → Ready x → Names x k → Takes k (x .mode) → (z : Parsed) → readPdu (x .apdu) ≡ z →
+        (k : Service) → Ready x → Names x k → Takes rules k (x .mode) → (z : Parsed) → readPdu (x .apdu) ≡ z →
         P (readOf (x .sheet) (levelIn (x .session) (x .mode)) (x .group) (x .apdu) z)
     by-reading k r n t (Is p) e =
         let f = names-found k n in
         let g = reading (x .apdu) p e .names in
         let q : k ≡ serviceOf p = cc in
-        reads p (record { ready = r; takes = subst (λ (j : Service). Takes j (x .mode)) q t; reads = e })
+        reads p (record { ready = r; takes = subst (λ (j : Service). Takes rules j (x .mode)) q t; reads = e })
     by-reading k r n t (Refused m) e =
         let q : m ≡ 10 = refused-row (x .apdu) k m (r .least) (r .most) (names-found k n) e in
         rw q (unfit k r n t (rw q at e))
@@ -70,14 +74,13 @@ module _ (x : Asked) where
     by-code r Unknown e =
         none r (λ k n s. let h = unknown (codeOf (x .apdu)) .0 e k in never (sym h ∙ has-is (rowOf k) _ .1 (n .from, n .to)))
     by-code r (Listed k) e =
-        let ed = rulesOf (x .sheet) in
         let n = found-names k e in
-        by-not P (reaches (reachOf ed k)) _ _
-        (λ h. none r (λ j m s. never (sym h ∙ served-is ed k .1 (subst Served (names-once j k m n) s))))
+        by-not P (reaches (reachOf rules k)) _ _
+        (λ h. none r (λ j m s. never (sym h ∙ served-is rules k .1 (subst (Served rules) (names-once j k m n) s))))
         (λ h.
-        by-not P (takes (reachOf ed k) (x .mode)) _ _
-        (λ t. other k r n (served-is ed k .0 h) (λ m. never (sym t ∙ takes-is ed (x .mode) k .1 m)))
-        (λ t. by-reading k r n (takes-is ed (x .mode) k .0 t) (readPdu (x .apdu)) refl))
+        by-not P (takes (reachOf rules k) (x .mode)) _ _
+        (λ t. other k r n (served-is rules k .0 h) (λ m. never (sym t ∙ takes-is rules (x .mode) k .1 m)))
+        (λ t. by-reading k r n (takes-is rules (x .mode) k .0 t) (readPdu (x .apdu)) refl))
 
     -- THE JUDGEMENT, CASE BY CASE
     pub request-cases :

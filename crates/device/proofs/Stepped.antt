@@ -9,6 +9,7 @@ use lib.ListN.{length}
 use lib.Dec.{eqb}
 use native.Mathlib.Omega.{arith}
 use borrow.Author.Tests.{lt-ltb, le-ltb, eq-eqb, ne-eqb, eqb-true}
+use Rattle.sheet.specs.Head.{rulesOf}
 use Rattle.sheet.specs.Rules.{ruleOf}
 use Rattle.pdu.specs.Table.{serviceAt}
 use Rattle.pdu.specs.Pdus.{serviceOf}
@@ -24,7 +25,7 @@ use Rattle.pdu.specs.declared.Parsed.the-variants.{Refused}
 use Rattle.judge.specs.declared.Decision.{Decision}
 use Rattle.judge.specs.Decisions as decisions
 use Rattle.judge.specs.Session.{levelIn}
-use Rattle.judge.specs.Modes.{rulesOf, reachOf, reaches, takes}
+use Rattle.judge.specs.Modes.{reachOf, reaches, takes}
 use Rattle.judge.specs.Judge.{isAccepted, decideOf, readOf, reachedOf, foundOf, isShut, judgeOf, dataIn}
 use Rattle.device.specs.Step.{Step, stepBy, stepOf}
 use Rattle.device.specs.Asked.{Asked, quiet, Takes, Names, Served, Refusal, noRoom, badSheet, badLength, badMode, noSession, Ready, Reads, given}
@@ -37,6 +38,9 @@ fails true f = absurd (f refl)
 fails false f = refl
 
 module _ (x : Asked) where
+  abbrev rules : ℕ
+  rules = rulesOf (x .sheet)
+
   abbrev judgement : Decision
   judgement = judgeOf (x .room) (x .sheet) (x .session) (x .mode) (x .group) (x .apdu)
 
@@ -78,7 +82,7 @@ module _ (x : Asked) where
       (le-ltb (x .room) 16 (r .buffer), eq-eqb (ruleOf (x .sheet)) 0 (r .sheet), le-ltb (length (x .apdu)) 2 (r .least), le-ltb 16 (length (x .apdu)) (r .most), le-ltb 3 (x .mode) (r .mode), not-shut r)
 
   -- 8
-  pub step-unknown : Ready x → ((k : Service) → Names x k → Served k → ⊥) → quiet x 8 ≡ step
+  pub step-unknown : Ready x → ((k : Service) → Names x k → Served rules k → ⊥) → quiet x 8 ≡ step
   unfolding reachedOf
   step-unknown r f = quietly 8 (ready-judged r ∙ go (serviceAt (codeOf (x .apdu))) refl)
     where
@@ -86,29 +90,29 @@ module _ (x : Asked) where
           foundOf (x .sheet) (x .session) (x .mode) (x .group) (x .apdu) z ≡ decisions.refused 8
       go Unknown e = refl
       go (Listed k) e =
-          simp (fails (reaches (reachOf (rulesOf (x .sheet)) k)) (λ h. f k (found-names x k e) (served-is (rulesOf (x .sheet)) k .0 h)))
+          simp (fails (reaches (reachOf rules k)) (λ h. f k (found-names x k e) (served-is rules k .0 h)))
 
   module _ (k : Service) (r : Ready x) (n : Names x k) where
-    named-judged : judgement ≡ reachedOf (x .sheet) (x .session) (x .mode) (x .group) (x .apdu) (reachOf (rulesOf (x .sheet)) k)
+    named-judged : judgement ≡ reachedOf (x .sheet) (x .session) (x .mode) (x .group) (x .apdu) (reachOf rules k)
     named-judged = ready-judged r ∙ ap (foundOf (x .sheet) (x .session) (x .mode) (x .group) (x .apdu)) (names-found x k n)
 
     -- 9
-    pub step-other : Served k → (Takes k (x .mode) → ⊥) → quiet x 9 ≡ step
+    pub step-other : Served rules k → (Takes rules k (x .mode) → ⊥) → quiet x 9 ≡ step
     unfolding reachedOf
     step-other v t =
         quietly 9
         (named-judged
         ∙ simp
-        (served-is (rulesOf (x .sheet)) k .1 v, fails (takes (reachOf (rulesOf (x .sheet)) k) (x .mode)) (λ h. t (takes-is (rulesOf (x .sheet)) (x .mode) k .0 h))))
+        (served-is rules k .1 v, fails (takes (reachOf rules k) (x .mode)) (λ h. t (takes-is rules (x .mode) k .0 h))))
 
-    taken-judged : Takes k (x .mode) → judgement ≡ readOf (x .sheet) (levelIn (x .session) (x .mode)) (x .group) (x .apdu) (readPdu (x .apdu))
+    taken-judged : Takes rules k (x .mode) → judgement ≡ readOf (x .sheet) (levelIn (x .session) (x .mode)) (x .group) (x .apdu) (readPdu (x .apdu))
     unfolding reachedOf
     taken-judged t =
         named-judged
-        ∙ simp (served-is (rulesOf (x .sheet)) k .1 (record { mode = x .mode; takes = t }), takes-is (rulesOf (x .sheet)) (x .mode) k .1 t)
+        ∙ simp (served-is rules k .1 (record { mode = x .mode; takes = t }), takes-is rules (x .mode) k .1 t)
 
     -- 10
-    pub step-unfit : Takes k (x .mode) → readPdu (x .apdu) ≡ Refused 10 → quiet x 10 ≡ step
+    pub step-unfit : Takes rules k (x .mode) → readPdu (x .apdu) ≡ Refused 10 → quiet x 10 ≡ step
     step-unfit t e =
         quietly 10
         (taken-judged t ∙ ap (readOf (x .sheet) (levelIn (x .session) (x .mode)) (x .group) (x .apdu)) e)

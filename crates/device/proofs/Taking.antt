@@ -14,45 +14,46 @@ use Rattle.judge.specs.declared.Reach.{Reach}
 use Rattle.judge.specs.declared.Reach.the-variants.{Multicast, Broadcast, PointToPoint, Connected, Never}
 use Rattle.device.specs.Asked.{Takes, Served}
 
-one : (m n : ℕ) → (eqb m n ≡ true) ↔ (m ≡ n)
-one m n = (eqb-true m n, eq-eqb m n)
+-- one mode, two modes, none
+pub one-mode : (m a : ℕ) → (eqb m a ≡ true) ↔ (m ≡ a)
+one-mode m a = (eqb-true m a, eq-eqb m a)
 
-two : (m a b : ℕ) → (eqb m a || eqb m b ≡ true) ↔ ((m ≡ a) ⊎ (m ≡ b))
-two m a b = (
+pub two-modes : (m a b : ℕ) → (eqb m a || eqb m b ≡ true) ↔ ((m ≡ a) ⊎ (m ≡ b))
+two-modes m a b = (
   λ e. ⊎-elim (λ h. inl (eqb-true m a h)) (λ h. inr (eqb-true m b h)) (or-is (eqb m a) (eqb m b) .0 e),
   λ h. or-is (eqb m a) (eqb m b) .1 (⊎-elim (λ e. inl (eq-eqb m a e)) (λ e. inr (eq-eqb m b e)) h),
 )
 
-none : (false ≡ true) ↔ ⊥
-none = (λ e. never e, λ h. absurd h)
+no-mode : (false ≡ true) ↔ ⊥
+no-mode = (λ e. never e, λ h. absurd h)
 
 -- THE TEST SAYS WHICH MODE TAKES A SERVICE
-pub takes-is : (ed m : ℕ) (k : Service) → (takes (reachOf ed k) m ≡ true) ↔ Takes k m
-takes-is ed m GroupValueRead = one m 0
-takes-is ed m GroupValueResponse = one m 0
-takes-is ed m GroupValueWrite = one m 0
-takes-is ed m IndividualAddressWrite = one m 1
-takes-is ed m IndividualAddressRead = one m 1
-takes-is ed m SerialNumberRead = one m 1
-takes-is ed m SerialNumberWrite = one m 1
-takes-is ed m DeviceDescriptorRead = two m 2 3
-takes-is ed m PropertyValueRead = two m 2 3
-takes-is ed m PropertyValueWrite = two m 2 3
-takes-is ed m PropertyDescriptionRead = two m 2 3
-takes-is ed m MemoryRead = one m 3
-takes-is ed m MemoryWrite = one m 3
-takes-is ed m MemoryBitWrite = one m 3
-takes-is ed m AuthorizeRequest = one m 3
-takes-is ed m KeyWrite = one m 3
-takes-is ed m Restart = one m 3
-takes-is ed m IndividualAddressResponse = none
-takes-is ed m SerialNumberResponse = none
-takes-is ed m DeviceDescriptorResponse = none
-takes-is ed m PropertyValueResponse = none
-takes-is ed m PropertyDescriptionResponse = none
-takes-is ed m MemoryResponse = none
-takes-is ed m AuthorizeResponse = none
-takes-is ed m KeyResponse = none
+pub takes-is : (rules m : ℕ) (k : Service) → (takes (reachOf rules k) m ≡ true) ↔ Takes rules k m
+takes-is rules m GroupValueRead = one-mode m 0
+takes-is rules m GroupValueResponse = one-mode m 0
+takes-is rules m GroupValueWrite = one-mode m 0
+takes-is rules m IndividualAddressWrite = one-mode m 1
+takes-is rules m IndividualAddressRead = one-mode m 1
+takes-is rules m SerialNumberRead = one-mode m 1
+takes-is rules m SerialNumberWrite = one-mode m 1
+takes-is rules m DeviceDescriptorRead = two-modes m 2 3
+takes-is rules m PropertyValueRead = two-modes m 2 3
+takes-is rules m PropertyValueWrite = two-modes m 2 3
+takes-is rules m PropertyDescriptionRead = two-modes m 2 3
+takes-is rules m MemoryRead = one-mode m 3
+takes-is rules m MemoryWrite = one-mode m 3
+takes-is rules m MemoryBitWrite = one-mode m 3
+takes-is rules m AuthorizeRequest = one-mode m 3
+takes-is rules m KeyWrite = one-mode m 3
+takes-is rules m Restart = one-mode m 3
+takes-is rules m IndividualAddressResponse = no-mode
+takes-is rules m SerialNumberResponse = no-mode
+takes-is rules m DeviceDescriptorResponse = no-mode
+takes-is rules m PropertyValueResponse = no-mode
+takes-is rules m PropertyDescriptionResponse = no-mode
+takes-is rules m MemoryResponse = no-mode
+takes-is rules m AuthorizeResponse = no-mode
+takes-is rules m KeyResponse = no-mode
 
 -- some mode takes what reaches the device, and only that
 some-mode : (r : Reach) → reaches r ≡ true → (m : ℕ) × (takes r m ≡ true)
@@ -70,8 +71,8 @@ any-mode Connected m e = refl
 any-mode Never m e = e
 
 -- THE TEST SAYS WHICH SERVICE IS SERVED
-pub served-is : (ed : ℕ) (k : Service) → (reaches (reachOf ed k) ≡ true) ↔ Served k
-served-is ed k = (
-  λ e. let h = some-mode (reachOf ed k) e in record { mode = h .0; takes = takes-is ed (h .0) k .0 (h .1) },
-  λ h. any-mode (reachOf ed k) (h .mode) (takes-is ed (h .mode) k .1 (h .takes)),
+pub served-is : (rules : ℕ) (k : Service) → (reaches (reachOf rules k) ≡ true) ↔ Served rules k
+served-is rules k = (
+  λ e. let h = some-mode (reachOf rules k) e in record { mode = h .0; takes = takes-is rules (h .0) k .0 (h .1) },
+  λ h. any-mode (reachOf rules k) (h .mode) (takes-is rules (h .mode) k .1 (h .takes)),
 )

@@ -11,6 +11,7 @@ use lib.ListN.{length, getD, drop}
 use borrow.Author.Tests.{eqb-true}
 use Rattle.octets.specs.Bytes.{numAt}
 use Rattle.octets.proofs.Numbers.{num-two, num-same}
+use Rattle.sheet.specs.Head.{rulesOf}
 use Rattle.pdu.specs.Item.{Name, Item, Value, low, num, cap, duo, skip, _≔_}
 use Rattle.pdu.specs.Table.{rowOf, serviceAt}
 use Rattle.pdu.specs.Rules.{codeOf, lowAt, fourAt, twelveAt, valuesAt, fits}
@@ -31,7 +32,7 @@ use Rattle.pdu.specs.declared.Pdu.the-variants.{GroupValueRead, GroupValueRespo
 use Rattle.judge.specs.declared.Session.{Session}
 use Rattle.judge.specs.declared.Decision.{Decision}
 use Rattle.judge.specs.Session.{multicast, levelIn}
-use Rattle.judge.specs.Modes.{rulesOf, reachOf, reaches, takes}
+use Rattle.judge.specs.Modes.{reachOf, reaches, takes}
 use Rattle.judge.specs.Decisions.{refused}
 use Rattle.judge.specs.Judge.{decideOf, readOf, reachedOf, foundOf, judgeOf, dataIn}
 use Rattle.device.specs.Asked.{Takes}
@@ -45,7 +46,7 @@ if-holds false x y z f = refl
 
 module _ (room : ℕ) (s : List ℕ) (q : Session) (mode : ℕ) (a : List ℕ) (g g′ : ℕ) (other : mode ≡ multicast → ⊥) where
   -- no service that another mode takes asks for the group address
-  decide-other : (l : ℕ) (d : List ℕ) (p : Pdu) → Takes (serviceOf p) mode → decideOf s l g d p ≡ decideOf s l g′ d p
+  decide-other : (l : ℕ) (d : List ℕ) (p : Pdu) → Takes (rulesOf s) (serviceOf p) mode → decideOf s l g d p ≡ decideOf s l g′ d p
   decide-other l d GroupValueRead t = absurd (other t)
   decide-other l d (GroupValueResponse v) t = absurd (other t)
   decide-other l d (GroupValueWrite v) t = absurd (other t)
@@ -73,23 +74,23 @@ module _ (room : ℕ) (s : List ℕ) (q : Session) (mode : ℕ) (a : List ℕ) (
   decide-other l d (KeyResponse named) t = refl
 
   read-other :
-      (l : ℕ) (k : Service) → serviceAt (codeOf a) ≡ Listed k → Takes k mode → (z : Parsed) → readPdu a ≡ z →
+      (l : ℕ) (k : Service) → serviceAt (codeOf a) ≡ Listed k → Takes (rulesOf s) k mode → (z : Parsed) → readPdu a ≡ z →
       readOf s l g a z ≡ readOf s l g′ a z
   read-other l k e t (Is p) r =
       let n = reading a p r .names in
       let i : k ≡ serviceOf p = cc in
-      decide-other l (dataOf p a) p (subst (λ (j : Service). Takes j mode) i t)
+      decide-other l (dataOf p a) p (subst (λ (j : Service). Takes (rulesOf s) j mode) i t)
   read-other l k e t (Refused n) r = refl
 
   found-other : (f : Found) → serviceAt (codeOf a) ≡ f → foundOf s q mode g a f ≡ foundOf s q mode g′ a f
   unfolding reachedOf
   found-other Unknown e = refl
   found-other (Listed k) e =
-      let ed = rulesOf s in
-      if-holds (reaches (reachOf ed k)) _ _ _
+      let rules = rulesOf s in
+      if-holds (reaches (reachOf rules k)) _ _ _
       (λ h.
-      if-holds (takes (reachOf ed k) mode) _ _ _
-      (λ t. read-other (levelIn q mode) k e (takes-is ed mode k .0 t) (readPdu a) refl))
+      if-holds (takes (reachOf rules k) mode) _ _ _
+      (λ t. read-other (levelIn q mode) k e (takes-is rules mode k .0 t) (readPdu a) refl))
 
   judge-other : judgeOf room s q mode g a ≡ judgeOf room s q mode g′ a
   unfolding judgeOf

@@ -14,7 +14,7 @@ use Rattle.pdu.specs.Rules.{fourAt, twelveAt, headBytes}
 use Rattle.pdu.specs.Read.{readPdu, dataOf}
 use Rattle.pdu.specs.Write.{encoded}
 use Rattle.judge.specs.Session.{levelOf, levelIn}
-use Rattle.judge.specs.Modes.{rulesOf}
+use Rattle.sheet.specs.Head.{rulesOf}
 use Rattle.judge.specs.Keys.{keyWriteOf}
 use Rattle.judge.specs.Properties.{readIn, propertyReadOf, writeIn, propertyWriteOf}
 use Rattle.judge.specs.Judge.{isAccepted, reachedOf, isShut, judgeOf}

@@ -6,6 +6,7 @@ use mathlib.Core.Bool.{true, false}
 use mathlib.Core.Logic.{_⊎_}
 use mathlib.Core.List.{List, []}
 use lib.ListN.{length, take, drop}
+use Rattle.sheet.specs.Head.{rulesOf}
 use Rattle.sheet.specs.Rules.{ruleOf}
 use Rattle.pdu.specs.Table.{rowOf}
 use Rattle.pdu.specs.Pdus.{serviceOf}
@@ -43,33 +44,33 @@ saysAfter x s p d = record { outcome = 0; answer = encoded p d; session = x .ses
 abbrev pub stores : Asked → List ℕ → Step
 stores x s = record { outcome = 1; answer = []; session = x .session; sheet = s }
 
--- WHICH MODE TAKES WHICH SERVICE
-abbrev pub Takes : Service → ℕ → Type 0
-Takes GroupValueRead m = m ≡ multicast
-Takes GroupValueResponse m = m ≡ multicast
-Takes GroupValueWrite m = m ≡ multicast
-Takes IndividualAddressWrite m = m ≡ broadcast
-Takes IndividualAddressRead m = m ≡ broadcast
-Takes SerialNumberRead m = m ≡ broadcast
-Takes SerialNumberWrite m = m ≡ broadcast
-Takes DeviceDescriptorRead m = (m ≡ connectionless) ⊎ (m ≡ connected)
-Takes PropertyValueRead m = (m ≡ connectionless) ⊎ (m ≡ connected)
-Takes PropertyValueWrite m = (m ≡ connectionless) ⊎ (m ≡ connected)
-Takes PropertyDescriptionRead m = (m ≡ connectionless) ⊎ (m ≡ connected)
-Takes MemoryRead m = m ≡ connected
-Takes MemoryWrite m = m ≡ connected
-Takes MemoryBitWrite m = m ≡ connected
-Takes AuthorizeRequest m = m ≡ connected
-Takes KeyWrite m = m ≡ connected
-Takes Restart m = m ≡ connected
-Takes IndividualAddressResponse m = ⊥
-Takes SerialNumberResponse m = ⊥
-Takes DeviceDescriptorResponse m = ⊥
-Takes PropertyValueResponse m = ⊥
-Takes PropertyDescriptionResponse m = ⊥
-Takes MemoryResponse m = ⊥
-Takes AuthorizeResponse m = ⊥
-Takes KeyResponse m = ⊥
+-- WHICH MODE TAKES WHICH SERVICE, by the number of the rules
+abbrev pub Takes : ℕ → Service → ℕ → Type 0
+Takes rules GroupValueRead m = m ≡ multicast
+Takes rules GroupValueResponse m = m ≡ multicast
+Takes rules GroupValueWrite m = m ≡ multicast
+Takes rules IndividualAddressWrite m = m ≡ broadcast
+Takes rules IndividualAddressRead m = m ≡ broadcast
+Takes rules SerialNumberRead m = m ≡ broadcast
+Takes rules SerialNumberWrite m = m ≡ broadcast
+Takes rules DeviceDescriptorRead m = (m ≡ connectionless) ⊎ (m ≡ connected)
+Takes rules PropertyValueRead m = (m ≡ connectionless) ⊎ (m ≡ connected)
+Takes rules PropertyValueWrite m = (m ≡ connectionless) ⊎ (m ≡ connected)
+Takes rules PropertyDescriptionRead m = (m ≡ connectionless) ⊎ (m ≡ connected)
+Takes rules MemoryRead m = m ≡ connected
+Takes rules MemoryWrite m = m ≡ connected
+Takes rules MemoryBitWrite m = m ≡ connected
+Takes rules AuthorizeRequest m = m ≡ connected
+Takes rules KeyWrite m = m ≡ connected
+Takes rules Restart m = m ≡ connected
+Takes rules IndividualAddressResponse m = ⊥
+Takes rules SerialNumberResponse m = ⊥
+Takes rules DeviceDescriptorResponse m = ⊥
+Takes rules PropertyValueResponse m = ⊥
+Takes rules PropertyDescriptionResponse m = ⊥
+Takes rules MemoryResponse m = ⊥
+Takes rules AuthorizeResponse m = ⊥
+Takes rules KeyResponse m = ⊥
 
 -- the code of the request is one of the service's
 pub record Names (x : Asked) (k : Service) : Type 0 where
@@ -77,9 +78,9 @@ pub record Names (x : Asked) (k : Service) : Type 0 where
   pub to : codeOf (x .apdu) < rowOf k .base + rowOf k .span
 
 -- a service that some mode takes
-pub record Served (k : Service) : Type 0 where
+pub record Served (rules : ℕ) (k : Service) : Type 0 where
   pub mode : ℕ
-  pub takes : Takes k mode
+  pub takes : Takes rules k mode
 
 -- THE REFUSALS BEFORE THE SERVICE, in order; each is due only where none before it is
 pub data Refusal (x : Asked) : ℕ → Type 0 where
@@ -102,7 +103,7 @@ pub record Ready (x : Asked) : Type 0 where
 -- the request reads as p, in a mode that takes p's service
 pub record Reads (x : Asked) (p : Pdu) : Type 0 where
   pub ready : Ready x
-  pub takes : Takes (serviceOf p) (x .mode)
+  pub takes : Takes (rulesOf (x .sheet)) (serviceOf p) (x .mode)
   pub reads : readPdu (x .apdu) ≡ Is p
 
 -- its data

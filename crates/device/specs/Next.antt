@@ -3,6 +3,7 @@
 use Prim.Native.Nat.{_≤_}
 use mathlib.Core.Path.{_≡_}
 use mathlib.Core.Bool.{true}
+use Rattle.sheet.specs.Head.{rulesOf}
 use Rattle.pdu.specs.Pdus.{serviceOf}
 use Rattle.pdu.specs.Read.{readPdu}
 use Rattle.pdu.specs.declared.Pdu.{Pdu}
@@ -20,7 +21,7 @@ pub record Confirmed (x : Asked) (p : Pdu) : Type 0 where
 pub record Next (x y : Asked) (p : Pdu) : Type 0 where
   pub sheet : y .sheet ≡ done x .sheet
   pub buffer : 16 ≤ y .room
-  pub takes : Takes (serviceOf p) (y .mode)
+  pub takes : Takes (rulesOf (y .sheet)) (serviceOf p) (y .mode)
   pub session : y .mode ≡ connected → y .session .opened ≡ true
   pub reads : readPdu (y .apdu) ≡ Is p
 

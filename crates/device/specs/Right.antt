@@ -2,6 +2,7 @@
 -- Assumes nothing.
 use Prim.Native.Nat.{ℕ}
 use mathlib.Core.Path.{_≡_}
+use Rattle.sheet.specs.Head.{rulesOf}
 use Rattle.pdu.specs.Read.{readPdu}
 use Rattle.pdu.specs.declared.Service.{Service}
 use Rattle.pdu.specs.declared.Parsed.the-variants.{Refused}
@@ -16,9 +17,9 @@ use Rattle.device.specs.KeysDue.{KeysDue}
 pub data Right (x : Asked) : Step → Type 0 where
   -- 3 to 10
   beforeService : {n : ℕ} → Refusal x n → Right x (quiet x n)
-  unknown : Ready x → ((k : Service) → Names x k → Served k → ⊥) → Right x (quiet x 8)
-  otherMode : (k : Service) → Ready x → Names x k → Served k → (Takes k (x .mode) → ⊥) → Right x (quiet x 9)
-  unfit : (k : Service) → Ready x → Names x k → Takes k (x .mode) → readPdu (x .apdu) ≡ Refused 10 → Right x (quiet x 10)
+  unknown : Ready x → ((k : Service) → Names x k → Served (rulesOf (x .sheet)) k → ⊥) → Right x (quiet x 8)
+  otherMode : (k : Service) → Ready x → Names x k → Served (rulesOf (x .sheet)) k → (Takes (rulesOf (x .sheet)) k (x .mode) → ⊥) → Right x (quiet x 9)
+  unfit : (k : Service) → Ready x → Names x k → Takes (rulesOf (x .sheet)) k (x .mode) → readPdu (x .apdu) ≡ Refused 10 → Right x (quiet x 10)
   -- the rest by service
   groups : {r : Step} → GroupsDue x r → Right x r
   addresses : {r : Step} → AddressesDue x r → Right x r

@@ -8,6 +8,7 @@ use mathlib.Core.List.{List, [], _∷_}
 use lib.Dec.{eqb, leb}
 use lib.ListN.{length}
 use borrow.Author.Tests.{leb-true, le-leb, eqb-true, eq-eqb}
+use Rattle.sheet.specs.Head.{rulesOf}
 use Rattle.sheet.specs.Rules.{ruleOf}
 use Rattle.pdu.specs.Read.{readPdu, dataOf}
 use Rattle.pdu.specs.Pdus.{serviceOf}
@@ -19,10 +20,11 @@ use Rattle.octets.proofs.Truths.{never, decided}
 use Rattle.judge.specs.Session.{connected}
 use Rattle.device.specs.Events.{State}
 use Rattle.device.specs.Asked.{Takes, Ready, Reads}
+use Rattle.device.proofs.Taking.{one-mode, two-modes}
 use Rattle.history.specs.Wish.{Wish, wishOf, nothing, asks, brings, taken}
-use Rattle.history.specs.Permit.{heard}
+use Rattle.history.specs.Permit.{checks, heard}
 use Rattle.history.specs.Rightful.{asked}
-use Rattle.history.proofs.Bools.{all-at, or-left, or-right, or-cases}
+use Rattle.history.proofs.Bools.{all-at}
 
 -- what reads as p asks what p asks
 module _ (a : List ℕ) (p : Pdu) (e : readPdu a ≡ Is p) where
@@ -38,58 +40,43 @@ pub refused-asks : (a : List ℕ) (n : ℕ) → readPdu a ≡ Refused n → asks
 unfolding asks
 refused-asks a n e = rw e
 
--- two modes
-either-mode : (m k l : ℕ) → ((eqb m k || eqb m l) ≡ true) ↔ ((m ≡ k) ⊎ (m ≡ l))
-either-mode m k l = (λ e. back (or-cases (eqb m k) (eqb m l) e), λ h. on h)
-  where
-    back : (eqb m k ≡ true) ⊎ (eqb m l ≡ true) → (m ≡ k) ⊎ (m ≡ l)
-    back (inl h) = inl (eqb-true m k h)
-    back (inr h) = inr (eqb-true m l h)
-
-    on : (m ≡ k) ⊎ (m ≡ l) → (eqb m k || eqb m l) ≡ true
-    on (inl h) = or-left (eqb m k) (eqb m l) (eq-eqb m k h)
-    on (inr h) = or-right (eqb m k) (eqb m l) (eq-eqb m l h)
-
-one-mode : (m k : ℕ) → (eqb m k ≡ true) ↔ (m ≡ k)
-one-mode m k = (eqb-true m k, eq-eqb m k)
-
 -- what a PDU asks for, if a history is concerned with it, is taken as its service is
 abbrev pub Idle : Pdu → Type 0
 Idle p = wishOf p ≡ nothing
 
-taken-is : (p : Pdu) (m : ℕ) → Idle p ⊎ ((taken (wishOf p) m ≡ true) ↔ Takes (serviceOf p) m)
-taken-is GroupValueRead m = inl refl
-taken-is (GroupValueResponse v) m = inr (one-mode m 0)
-taken-is (GroupValueWrite v) m = inr (one-mode m 0)
-taken-is (IndividualAddressWrite v) m = inr (one-mode m 1)
-taken-is IndividualAddressRead m = inl refl
-taken-is (SerialNumberRead n) m = inl refl
-taken-is (SerialNumberWrite n v) m = inr (one-mode m 1)
-taken-is (DeviceDescriptorRead t) m = inl refl
-taken-is (PropertyValueRead o i n s) m = inl refl
-taken-is (PropertyValueWrite o i n s) m = inr (either-mode m 2 3)
-taken-is (PropertyDescriptionRead o i n) m = inl refl
-taken-is (MemoryRead n y) m = inl refl
-taken-is (MemoryWrite n y) m = inr (one-mode m 3)
-taken-is (MemoryBitWrite n y) m = inr (one-mode m 3)
-taken-is (AuthorizeRequest n) m = inr (one-mode m 3)
-taken-is (KeyWrite l n) m = inr (one-mode m 3)
-taken-is Restart m = inr (one-mode m 3)
-taken-is IndividualAddressResponse m = inl refl
-taken-is (SerialNumberResponse n d) m = inl refl
-taken-is (DeviceDescriptorResponse t) m = inl refl
-taken-is (PropertyValueResponse o i n s) m = inl refl
-taken-is (PropertyDescriptionResponse o i n k x l) m = inl refl
-taken-is (MemoryResponse n y) m = inl refl
-taken-is (AuthorizeResponse l) m = inl refl
-taken-is (KeyResponse l) m = inl refl
+taken-is : (rules : ℕ) (p : Pdu) (m : ℕ) → Idle p ⊎ ((taken rules (wishOf p) m ≡ true) ↔ Takes rules (serviceOf p) m)
+taken-is rules GroupValueRead m = inl refl
+taken-is rules (GroupValueResponse v) m = inr (one-mode m 0)
+taken-is rules (GroupValueWrite v) m = inr (one-mode m 0)
+taken-is rules (IndividualAddressWrite v) m = inr (one-mode m 1)
+taken-is rules IndividualAddressRead m = inl refl
+taken-is rules (SerialNumberRead n) m = inl refl
+taken-is rules (SerialNumberWrite n v) m = inr (one-mode m 1)
+taken-is rules (DeviceDescriptorRead t) m = inl refl
+taken-is rules (PropertyValueRead o i n s) m = inl refl
+taken-is rules (PropertyValueWrite o i n s) m = inr (two-modes m 2 3)
+taken-is rules (PropertyDescriptionRead o i n) m = inl refl
+taken-is rules (MemoryRead n y) m = inl refl
+taken-is rules (MemoryWrite n y) m = inr (one-mode m 3)
+taken-is rules (MemoryBitWrite n y) m = inr (one-mode m 3)
+taken-is rules (AuthorizeRequest n) m = inr (one-mode m 3)
+taken-is rules (KeyWrite l n) m = inr (one-mode m 3)
+taken-is rules Restart m = inr (one-mode m 3)
+taken-is rules IndividualAddressResponse m = inl refl
+taken-is rules (SerialNumberResponse n d) m = inl refl
+taken-is rules (DeviceDescriptorResponse t) m = inl refl
+taken-is rules (PropertyValueResponse o i n s) m = inl refl
+taken-is rules (PropertyDescriptionResponse o i n k x l) m = inl refl
+taken-is rules (MemoryResponse n y) m = inl refl
+taken-is rules (AuthorizeResponse l) m = inl refl
+taken-is rules (KeyResponse l) m = inl refl
 
 module _ (x : State) (mode g : ℕ) (a out : List ℕ) (accepted : ruleOf (x .sheet) ≡ 0) where
+  abbrev rules : ℕ
+  rules = rulesOf (x .sheet)
+
   abbrev Tests : Wish → List Bool
-  Tests w =
-      leb 16 (length out) ∷
-      leb 2 (length a) ∷
-      leb (length a) 16 ∷ leb mode 3 ∷ (not (eqb mode 3) || x .session .opened) ∷ taken w mode ∷ []
+  Tests = checks rules (x .session .opened) mode a out
 
   -- connected only while open
   while-open : (m : ℕ) (live : Bool) → (not (eqb m 3) || live) ≡ true → m ≡ connected → live ≡ true
@@ -104,7 +91,7 @@ module _ (x : State) (mode g : ℕ) (a out : List ℕ) (accepted : ruleOf (x .sh
 
   -- the checks before the rights, but for the mode
   pub ready-is :
-      (w : Wish) → (heard (x .session .opened) mode a out w ≡ true) ↔ (Ready (asked x mode g a out) × (taken w mode ≡ true))
+      (w : Wish) → (heard rules (x .session .opened) mode a out w ≡ true) ↔ (Ready (asked x mode g a out) × (taken rules w mode ≡ true))
   unfolding heard
   ready-is w = (
     λ e. (
@@ -126,18 +113,18 @@ module _ (x : State) (mode g : ℕ) (a out : List ℕ) (accepted : ruleOf (x .sh
   -- A REQUEST THAT READS IS HEARD EXACTLY IF IT IS READY AND ITS MODE TAKES IT
   pub heard-is :
       (p : Pdu) → readPdu a ≡ Is p → (Idle p → ⊥) →
-      (heard (x .session .opened) mode a out (asks a) ≡ true) ↔ (Ready (asked x mode g a out) × Takes (serviceOf p) mode)
-  heard-is p e concerned = go (taken-is p mode)
+      (heard rules (x .session .opened) mode a out (asks a) ≡ true) ↔ (Ready (asked x mode g a out) × Takes rules (serviceOf p) mode)
+  heard-is p e concerned = go (taken-is rules p mode)
     where
-      go : Idle p ⊎ ((taken (wishOf p) mode ≡ true) ↔ Takes (serviceOf p) mode)
-          → (heard (x .session .opened) mode a out (asks a) ≡ true) ↔ (Ready (asked x mode g a out) × Takes (serviceOf p) mode)
+      go : Idle p ⊎ ((taken rules (wishOf p) mode ≡ true) ↔ Takes rules (serviceOf p) mode)
+          → (heard rules (x .session .opened) mode a out (asks a) ≡ true) ↔ (Ready (asked x mode g a out) × Takes rules (serviceOf p) mode)
       go (inl i) = absurd (concerned i)
       go (inr t) =
           rw (asks-is a p e)
           (λ h. let r = ready-is (wishOf p) .0 h in (r .0, t .0 (r .1)), λ h. ready-is (wishOf p) .1 (h .0, t .1 (h .1)))
 
   -- what is heard reads as a PDU that a history is concerned with
-  pub heard-reads : heard (x .session .opened) mode a out (asks a) ≡ true → (p : Pdu) × Reads (asked x mode g a out) p
+  pub heard-reads : heard rules (x .session .opened) mode a out (asks a) ≡ true → (p : Pdu) × Reads (asked x mode g a out) p
   heard-reads h = go (readPdu a) refl
     where
       of-none : asks a ≡ nothing → ⊥
@@ -149,5 +136,5 @@ module _ (x : State) (mode g : ℕ) (a out : List ℕ) (accepted : ruleOf (x .sh
           (p, record { ready = r .0; takes = r .1; reads = e })
       go (Refused n) e = absurd (of-none (refused-asks a n e))
 
-  pub reads-heard : (p : Pdu) → Reads (asked x mode g a out) p → (Idle p → ⊥) → heard (x .session .opened) mode a out (asks a) ≡ true
+  pub reads-heard : (p : Pdu) → Reads (asked x mode g a out) p → (Idle p → ⊥) → heard rules (x .session .opened) mode a out (asks a) ≡ true
   reads-heard p r c = heard-is p (r .reads) c .1 (r .ready, r .takes)

@@ -5,8 +5,7 @@ use mathlib.Core.Path.{_≡_, refl, sym, ap, _∙_}
 use mathlib.Core.Logic.{_⊎_, inl, inr}
 use mathlib.Core.Bool.{Bool, true, false, cond, _&&_, _||_, not}
 use mathlib.Core.List.{List, [], _∷_, reverse}
-use lib.Dec.{leb, eqb}
-use lib.ListN.{length}
+use lib.Dec.{eqb}
 use native.Mathlib.Decide.{decLt}
 use native.Mathlib.Omega.{arith}
 use borrow.Author.Tests.{eqb-true, lt-ltb, le-ltb}
@@ -14,6 +13,7 @@ use Rattle.octets.specs.Bytes.{numAt}
 use Rattle.sheet.specs.Kind.{regions, properties}
 use Rattle.sheet.specs.Layout.{_of_}
 use Rattle.sheet.specs.Head as head
+use Rattle.sheet.specs.Head.{rulesOf}
 use Rattle.sheet.specs.Property as property
 use Rattle.sheet.specs.Entries.{entry}
 use Rattle.sheet.specs.Places.{Stands, PropertyWith}
@@ -22,8 +22,8 @@ use Rattle.octets.proofs.Truths.{never, decided, and-is}
 use Rattle.device.specs.Events.{Event, connect, disconnect, button, request, run}
 use Rattle.history.specs.Location.{Location, memory, body, counter, key}
 use Rattle.history.specs.Span.{names, gives}
-use Rattle.history.specs.Wish.{Wish, change, offerKey, restart, other, nothing, asks, brings, taken}
-use Rattle.history.specs.Permit.{heard, levelFor, entryFor}
+use Rattle.history.specs.Wish.{Wish, change, offerKey, restart, other, nothing, asks, brings}
+use Rattle.history.specs.Permit.{checks, heard, levelFor, entryFor}
 use Rattle.history.specs.History.{First, firstOf, wished, keyIn, isRestart, offered, opened, level, keys, content, permitted}
 use Rattle.history.specs.Keeps.{Device, stateAfter, Begins, AllOctets, Keeps}
 use Rattle.history.specs.Keyless.{writeLevel, Unlocks, offers, Locked, NotOffered, Shut, Protected}
@@ -101,7 +101,7 @@ module _ (l : ℕ) (low : l < 3) where
     moved disconnect none = inl low
     moved (button on) none = inr (refl, λ o. o)
     moved (request mode g a out) none =
-        asked (keys f h) (level f h) (opened f h) (heard (opened f h) mode a out (asks a)) (asks a)
+        asked (keys f h) (level f h) (opened f h) (heard (rulesOf (f .sheet)) (opened f h) mode a out (asks a)) (asks a)
         (λ e n w k m q. none (offers k (omega arith) e (w ∙ ap offerKey q)))
 
     -- contents protected up to l stay
@@ -112,16 +112,10 @@ module _ (l : ℕ) (low : l < 3) where
     unnamed above x w disconnect p n = never p
     unnamed above x w (button on) p n = never p
     unnamed above x w (request mode g a out) p n =
-        let b = and-is (heard (opened f h) mode a out (asks a)) _ .0 p in
+        let b = and-is (heard (rulesOf (f .sheet)) (opened f h) mode a out (asks a)) _ .0 p in
         let k = suffices (f .sheet) (levelFor mode (level f h)) (content f h) (brings a) (asks a) x (b .1) n in
-        let m = acts-above mode (level f h) (opened f h) (all-at Ts (b .0) 4) above in
+        let m = acts-above mode (level f h) (opened f h) (all-at (checks (rulesOf (f .sheet)) (opened f h) mode a out (asks a)) (b .0) 4) above in
         omega arith
-      where
-        Ts : List Bool
-        Ts =
-            leb 16 (length out) ∷
-            leb 2 (length a) ∷
-            leb (length a) 16 ∷ leb mode 3 ∷ (not (eqb mode 3) || opened f h) ∷ taken (asks a) mode ∷ []
 
     unchanged : (opened f h ≡ true → l < level f h) → (x : Location) → writeLevel (f .sheet) x ≤ l → (e : Event) → content f (e ∷ h) x ≡ content f h x
     unfolding content permitted

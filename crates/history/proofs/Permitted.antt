@@ -6,6 +6,7 @@ use mathlib.Core.Logic.{_↔_}
 use mathlib.Core.Bool.{Bool, true, _&&_}
 use mathlib.Core.List.{List}
 use native.Mathlib.Omega.{arith}
+use Rattle.sheet.specs.Head.{rulesOf}
 use Rattle.sheet.specs.Rules.{ruleOf}
 use Rattle.sheet.proofs.Good.{Good, good}
 use Rattle.pdu.specs.declared.Pdu.{Pdu}
@@ -79,7 +80,7 @@ module _ (x : State) (mode g : ℕ) (a out : List ℕ) (accepted : ruleOf (x .sh
   permitted-is = (on, back)
     where
       H : Bool
-      H = heard (x .session .opened) mode a out (asks a)
+      H = heard (rulesOf (x .sheet)) (x .session .opened) mode a out (asks a)
 
       A : Bool
       A = allowed (x .sheet) L (brings a) (asks a)

@@ -20,7 +20,7 @@ use Rattle.pdu.specs.Read.{readPdu, dataOf}
 use Rattle.pdu.specs.Write.{encoded}
 use Rattle.octets.proofs.Truths.{never, and-is}
 use Rattle.judge.specs.Session.{levelOf, levelIn}
-use Rattle.judge.specs.Modes.{rulesOf}
+use Rattle.sheet.specs.Head.{rulesOf}
 use Rattle.judge.specs.Properties.{writeIn, propertyWriteOf}
 use Rattle.judge.specs.Memory.{changeOf, memoryWriteOf}
 use Rattle.judge.specs.Keys.{grantOf, authorizeOf, keyWriteOf}

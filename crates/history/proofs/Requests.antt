@@ -1,13 +1,15 @@
 -- What the history says of one more request, by what it asks.
 -- Assumes nothing.
 use Prim.Native.Nat.{ℕ, _<_}
-use mathlib.Core.Path.{_≡_, refl, sym, ap, _∙_}
+use mathlib.Core.Path.{_≡_, refl, sym, ap, ap₂, _∙_}
 use mathlib.Core.Bool.{Bool, true, false, cond}
 use mathlib.Core.List.{List, _∷_}
 use Rattle.sheet.specs.Kind.{groups}
 use Rattle.sheet.specs.Layout.{_of_}
 use Rattle.sheet.specs.Head as head
+use Rattle.sheet.specs.Head.{rulesOf}
 use Rattle.sheet.specs.Entries.{count, entry}
+use Rattle.sheet.proofs.Sames.{rules-same}
 use Rattle.octets.proofs.Truths.{never}
 use Rattle.device.specs.Step.{Step}
 use Rattle.device.specs.Events.{Event, State, request}
@@ -42,7 +44,13 @@ module _ (f : First) (h : List Event) (mode g : ℕ) (a out : List ℕ) where
   E = request mode g a out
 
   abbrev pub Ok : Bool
-  Ok = heard (opened f h) mode a out (asks a)
+  Ok = heard (rulesOf (f .sheet)) (opened f h) mode a out (asks a)
+
+  -- by the sheet and the session as they are now
+  pub heard-so :
+      (x : State) → Inv f h x → Ok ≡ heard (rulesOf (x .sheet)) (x .session .opened) mode a out (asks a)
+  heard-so x inv =
+      sym (ap₂ (λ (r : ℕ) (t : Bool). heard r t mode a out (asks a)) (rules-same (inv .means .agree)) (inv .session))
 
   -- what the history says is left as it was, contents apart
   pub record Same : Type 0 where
@@ -61,25 +69,25 @@ module _ (f : First) (h : List Event) (mode g : ℕ) (a out : List ℕ) where
   module _ (w : Wish) (e : asks a ≡ w) where
     pub opens-same : isRestart w ≡ false → opened f (E ∷ h) ≡ opened f h
     unfolding opened
-    opens-same r = rw (e, r, and-false (heard (opened f h) mode a out w))
+    opens-same r = rw (e, r, and-false (heard (rulesOf (f .sheet)) (opened f h) mode a out w))
 
     pub levels-same : ((k : ℕ → ℕ) (l : ℕ) → offered k l w ≡ l) → level f (E ∷ h) ≡ level f h
     unfolding level
-    levels-same r = rw (e, r _ (level f h)) (cond-same (heard (opened f h) mode a out w) (level f h))
+    levels-same r = rw (e, r _ (level f h)) (cond-same (heard (rulesOf (f .sheet)) (opened f h) mode a out w) (level f h))
 
     pub programs-same : isRestart w ≡ false → programming f (E ∷ h) ≡ programming f h
     unfolding programming
-    programs-same r = rw (e, r, and-false (heard (opened f h) mode a out w))
+    programs-same r = rw (e, r, and-false (heard (rulesOf (f .sheet)) (opened f h) mode a out w))
 
     pub addresses-same : ((m s v : ℕ) → newAddress m s v w ≡ v) → individual f (E ∷ h) ≡ individual f h
     unfolding individual
-    addresses-same r = rw (e, r _ _ (individual f h)) (cond-same (heard (opened f h) mode a out w) (individual f h))
+    addresses-same r = rw (e, r _ _ (individual f h)) (cond-same (heard (rulesOf (f .sheet)) (opened f h) mode a out w) (individual f h))
 
     pub values-same :
         ((n : List ℕ) (k : ℕ) (d : List ℕ) (j v : ℕ) → newValue n k d j v w ≡ v) → (i j : ℕ) → groupByte f (E ∷ h) i j ≡ groupByte f h i j
     unfolding groupByte
     values-same r i j =
-        rw (e, r _ _ _ _ (groupByte f h i j)) (cond-same (heard (opened f h) mode a out w) (groupByte f h i j))
+        rw (e, r _ _ _ _ (groupByte f h i j)) (cond-same (heard (rulesOf (f .sheet)) (opened f h) mode a out w) (groupByte f h i j))
 
   -- and what it says of a request that is heard
   module _ (w : Wish) (e : asks a ≡ w) (ok : Ok ≡ true) where
@@ -123,7 +131,7 @@ module _ (f : First) (h : List Event) (mode g : ℕ) (a out : List ℕ) where
   pub forbidden :
       (w : Wish) → asks a ≡ w → allowed (f .sheet) (levelFor mode (level f h)) (brings a) w ≡ false → permitted f h E ≡ false
   unfolding permitted
-  forbidden w e r = rw (e, r) (and-false (heard (opened f h) mode a out w))
+  forbidden w e r = rw (e, r) (and-false (heard (rulesOf (f .sheet)) (opened f h) mode a out w))
 
   pub permitted-so :
       (w : Wish) → asks a ≡ w → Ok ≡ true → allowed (f .sheet) (levelFor mode (level f h)) (brings a) w ≡ true → permitted f h E ≡ true

@@ -2,10 +2,11 @@
 -- Assumes nothing.
 use Prim.Native.Nat.{ℕ}
 use mathlib.Core.Path.{_≡_, refl, sym, ap, subst, _∙_}
-use mathlib.Core.Bool.{Bool, false}
+use mathlib.Core.Bool.{false}
 use mathlib.Core.List.{List, []}
 use lib.ListN.{length}
 use native.Mathlib.Omega.{arith}
+use Rattle.sheet.specs.Head.{rulesOf}
 use Rattle.sheet.specs.Rules.{ruleOf}
 use Rattle.pdu.specs.declared.Pdu.{Pdu}
 use Rattle.pdu.specs.declared.Pdu.the-variants.{GroupValueRead, IndividualAddressRead, SerialNumberRead, DeviceDescriptorRead, PropertyValueRead, PropertyDescriptionRead, MemoryRead}
@@ -27,7 +28,7 @@ use Rattle.history.specs.Keeps.{Begins, Writing, CarriedOut}
 use Rattle.history.specs.Rightful.{asked}
 use Rattle.history.proofs.Hearing.{Idle, asks-is}
 use Rattle.history.proofs.Invariant.{Inv, now-accepted}
-use Rattle.history.proofs.Requests.{Ok, Done, unheard-same, unheard-forbidden, left}
+use Rattle.history.proofs.Requests.{Ok, heard-so, Done, unheard-same, unheard-forbidden, left}
 use Rattle.history.proofs.Unheard.{refusal-high, refusal-unheard, nothing-unheard, unread-unheard, unknown-unheard, mode-unheard}
 use Rattle.history.proofs.MemorySteps.{memory-written, memory-denied, bits-written, bits-denied}
 use Rattle.history.proofs.KeySteps.{key-written, key-denied, authorized}
@@ -44,10 +45,10 @@ module _ (f : First) (b : Begins f) (h : List Event) (x : State) (inv : Inv f h 
 
   -- what is not heard
   unheard :
-      heard (x .session .opened) mode a out (asks a) ≡ false → (n : ℕ) (d : List ℕ) → (CarriedOut (request mode g a out) (record { outcome = n; answer = d; session = x .session; sheet = x .sheet }) → ⊥) →
+      heard (rulesOf (x .sheet)) (x .session .opened) mode a out (asks a) ≡ false → (n : ℕ) (d : List ℕ) → (CarriedOut (request mode g a out) (record { outcome = n; answer = d; session = x .session; sheet = x .sheet }) → ⊥) →
       Done f h mode g a out (record { outcome = n; answer = d; session = x .session; sheet = x .sheet })
   unheard e n d none =
-      let o : Ok f h mode g a out ≡ false = ap (λ (t : Bool). heard t mode a out (asks a)) (sym (inv .session)) ∙ e in
+      let o : Ok f h mode g a out ≡ false = heard-so f h mode g a out x inv ∙ e in
       left f h mode g a out x inv (unheard-same f h mode g a out o) (unheard-forbidden f h mode g a out o) n d none
 
   idle : (p : Pdu) → Idle p → Reads R p → (n : ℕ) (d : List ℕ) → Done f h mode g a out (record { outcome = n; answer = d; session = x .session; sheet = x .sheet })

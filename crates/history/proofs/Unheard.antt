@@ -6,6 +6,7 @@ use mathlib.Core.Logic.{inl, inr}
 use mathlib.Core.Bool.{Bool, false}
 use mathlib.Core.List.{List}
 use native.Mathlib.Omega.{arith}
+use Rattle.sheet.specs.Head.{rulesOf}
 use Rattle.sheet.specs.Rules.{ruleOf}
 use Rattle.pdu.specs.Table.{rowOf}
 use Rattle.pdu.specs.Pdus.{serviceOf}
@@ -48,7 +49,7 @@ module _ (x : State) (mode g : ℕ) (a out : List ℕ) (accepted : ruleOf (x .sh
   X = asked x mode g a out
 
   abbrev Ok : Bool
-  Ok = heard (x .session .opened) mode a out (asks a)
+  Ok = heard (rulesOf (x .sheet)) (x .session .opened) mode a out (asks a)
 
   pub refusal-unheard : {n : ℕ} → Refusal X n → Ok ≡ false
   refusal-unheard r = must-fail Ok (λ e. refusal-ready r (ready-is x mode g a out accepted (asks a) .0 e .0))
@@ -67,14 +68,14 @@ module _ (x : State) (mode g : ℕ) (a out : List ℕ) (accepted : ruleOf (x .sh
         let b = has-is (rowOf (serviceOf p)) (codeOf a) .0 (code-has a octets (r .reads)) in
         record { from = b .0; to = b .1 }
 
-    pub unknown-unheard : ((k : Service) → Names X k → Served k → ⊥) → Ok ≡ false
+    pub unknown-unheard : ((k : Service) → Names X k → Served (rulesOf (x .sheet)) k → ⊥) → Ok ≡ false
     unknown-unheard none =
         must-fail Ok
         (λ e.
         let q = heard-reads x mode g a out accepted e in
         none (serviceOf (q .0)) (names-so (q .0) (q .1)) (record { mode = mode; takes = q .1 .takes }))
 
-    pub mode-unheard : (k : Service) → Names X k → (Takes k mode → ⊥) → Ok ≡ false
+    pub mode-unheard : (k : Service) → Names X k → (Takes (rulesOf (x .sheet)) k mode → ⊥) → Ok ≡ false
     mode-unheard k n not-taken =
         must-fail Ok (λ e. let q = heard-reads x mode g a out accepted e in clash (q .0) (q .1))
       where
@@ -82,4 +83,4 @@ module _ (x : State) (mode g : ℕ) (a out : List ℕ) (accepted : ruleOf (x .sh
         clash p r =
             let s : serviceOf p ≡ k =
             codes-apart (codeOf a) (serviceOf p) k (code-has a octets (r .reads)) (has-is (rowOf k) (codeOf a) .1 (n .from, n .to)) in
-            not-taken (subst (λ (j : Service). Takes j mode) s (r .takes))
+            not-taken (subst (λ (j : Service). Takes (rulesOf (x .sheet)) j mode) s (r .takes))

@@ -2,14 +2,14 @@
 -- Assumes nothing.
 use Prim.Native.Nat.{ℕ}
 use mathlib.Core.Path.{_≡_, sym, ap, _∙_}
-use mathlib.Core.Bool.{Bool, true}
+use mathlib.Core.Bool.{true}
 use mathlib.Core.List.{List}
 use native.Mathlib.Omega.{arith}
 use Rattle.pdu.specs.declared.Pdu.{Pdu}
 use Rattle.device.specs.Events.{Event, State}
 use Rattle.device.specs.Asked.{Asked, Reads, given}
 use Rattle.history.specs.Wish.{Wish, Change, change, nothing, wishOf, asks, brings}
-use Rattle.history.specs.Permit.{levelFor, heard, allowed, spans}
+use Rattle.history.specs.Permit.{levelFor, allowed, spans}
 use Rattle.history.specs.History.{First, level, content}
 use Rattle.history.specs.Others.{programming, individual, groupByte}
 use Rattle.history.specs.Keeps.{Begins, Succeeds}
@@ -20,7 +20,7 @@ use Rattle.history.proofs.Hearing.{asks-is, brings-is, reads-heard}
 use Rattle.history.proofs.Invariant.{Inv, now-accepted}
 use Rattle.history.proofs.Means.{Means}
 use Rattle.history.proofs.Spans.{laid}
-use Rattle.history.proofs.Requests.{Ok, Done, left, wrote, writing-same, forbidden, permitted-so}
+use Rattle.history.proofs.Requests.{Ok, heard-so, Done, left, wrote, writing-same, forbidden, permitted-so}
 
 module _ (f : First) (b : Begins f) (h : List Event) (x : State) (inv : Inv f h x) (mode g : ℕ) (a out : List ℕ) where
   abbrev pub X : Asked
@@ -32,7 +32,7 @@ module _ (f : First) (b : Begins f) (h : List Event) (x : State) (inv : Inv f h 
 
   pub heard-now : (p : Pdu) → Reads X p → (wishOf p ≡ nothing → ⊥) → Ok f h mode g a out ≡ true
   heard-now p r c =
-      ap (λ (t : Bool). heard t mode a out (asks a)) (sym (inv .session))
+      heard-so f h mode g a out x inv
       ∙ reads-heard x mode g a out (now-accepted inv b) p r c
 
   -- what is allowed now is what is allowed by the first sheet

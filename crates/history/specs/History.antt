@@ -8,6 +8,7 @@ use lib.Dec.{eqb}
 use Rattle.sheet.specs.Kind.{regions, properties}
 use Rattle.sheet.specs.Layout.{_of_}
 use Rattle.sheet.specs.Head as head
+use Rattle.sheet.specs.Head.{rulesOf}
 use Rattle.sheet.specs.Region as region
 use Rattle.sheet.specs.Property as property
 use Rattle.sheet.specs.Entries.{entry, place}
@@ -64,20 +65,20 @@ offered keys before nothing = before
 unfoldable pub keyIn : (Location → ℕ) → ℕ → ℕ
 keyIn now l = ((now (key l 0) * 256 + now (key l 1)) * 256 + now (key l 2)) * 256 + now (key l 3)
 
--- what one event makes of an open or closed session
-abbrev pub openedBy : Bool → Event → Bool
-openedBy live connect = true
-openedBy live disconnect = false
-openedBy live (button on) = live
-openedBy live (request mode g a out) = cond (heard live mode a out (asks a) && isRestart (asks a)) false live
+-- what one event makes of an open or closed session, under rules of this number
+abbrev pub openedBy : ℕ → Bool → Event → Bool
+openedBy rules live connect = true
+openedBy rules live disconnect = false
+openedBy rules live (button on) = live
+openedBy rules live (request mode g a out) = cond (heard rules live mode a out (asks a) && isRestart (asks a)) false live
 
 -- what one event makes of a level, `keys` being the keys before it
-abbrev pub levelBy : Bool → (ℕ → ℕ) → ℕ → Event → ℕ
-levelBy live keys before connect = 3
-levelBy live keys before disconnect = 3
-levelBy live keys before (button on) = before
-levelBy live keys before (request mode g a out) =
-    cond (heard live mode a out (asks a)) (offered keys before (asks a)) before
+abbrev pub levelBy : ℕ → Bool → (ℕ → ℕ) → ℕ → Event → ℕ
+levelBy rules live keys before connect = 3
+levelBy rules live keys before disconnect = 3
+levelBy rules live keys before (button on) = before
+levelBy rules live keys before (request mode g a out) =
+    cond (heard rules live mode a out (asks a)) (offered keys before (asks a)) before
 
 -- A PERMITTED WRITE: heard while the session is so, and allowed at the level
 abbrev pub permits : List ℕ → Bool → ℕ → Event → Bool
@@ -85,7 +86,7 @@ permits s live level connect = false
 permits s live level disconnect = false
 permits s live level (button on) = false
 permits s live level (request mode g a out) =
-    heard live mode a out (asks a) && allowed s (levelFor mode level) (brings a) (asks a)
+    heard (rulesOf s) live mode a out (asks a) && allowed s (levelFor mode level) (brings a) (asks a)
 
 -- what a permitted write gives to a location that it names; all else stays
 abbrev pub contentBy : List ℕ → Bool → (Location → ℕ) → Event → Location → ℕ
@@ -95,13 +96,13 @@ contentBy s isPermitted now e x =
 -- WHETHER THE SESSION IS OPEN
 unfoldable pub opened : First → List Event → Bool
 opened f [] = f .session .opened
-opened f (e ∷ h) = openedBy (opened f h) e
+opened f (e ∷ h) = openedBy (rulesOf (f .sheet)) (opened f h) e
 
 -- THE LEVEL, and WHAT A LOCATION HOLDS: what the last permitted write gave, or its first content
 unfoldable mutual
   pub level : First → List Event → ℕ
   level f [] = f .session .level
-  level f (e ∷ h) = levelBy (opened f h) (λ l. keyIn (λ x. content f h x) l) (level f h) e
+  level f (e ∷ h) = levelBy (rulesOf (f .sheet)) (opened f h) (λ l. keyIn (λ x. content f h x) l) (level f h) e
 
   pub content : First → List Event → Location → ℕ
   content f [] x = firstOf (f .sheet) x

@@ -8,6 +8,7 @@ use lib.ListN.{getD}
 use Rattle.sheet.specs.Kind.{regions}
 use Rattle.sheet.specs.Layout.{_of_}
 use Rattle.sheet.specs.Head as head
+use Rattle.sheet.specs.Head.{rulesOf}
 use Rattle.sheet.specs.Region as region
 use Rattle.sheet.specs.Property as property
 use Rattle.sheet.specs.Entries.{entry}
@@ -27,7 +28,7 @@ writeLevel s (key l j) = l
 -- an event that is heard after h and offers what is then the key of a level up to l
 pub data Unlocks (f : First) (h : List Event) (l : ℕ) : Event → Type 0 where
   offers :
-      {mode g : ℕ} {a out : List ℕ} (k : ℕ) → k ≤ l → heard (opened f h) mode a out (asks a) ≡ true →
+      {mode g : ℕ} {a out : List ℕ} (k : ℕ) → k ≤ l → heard (rulesOf (f .sheet)) (opened f h) mode a out (asks a) ≡ true →
       asks a ≡ offerKey (keys f h k) → Unlocks f h l (request mode g a out)
 
 -- NO EVENT OF A HISTORY DOES

@@ -8,6 +8,7 @@ use lib.Dec.{eqb}
 use Rattle.sheet.specs.Kind.{groups}
 use Rattle.sheet.specs.Layout.{_of_}
 use Rattle.sheet.specs.Head as head
+use Rattle.sheet.specs.Head.{rulesOf}
 use Rattle.sheet.specs.Group as group
 use Rattle.sheet.specs.Entries.{entry, bodyAt}
 use Rattle.device.specs.Events.{Event, connect, disconnect, button, request, bit}
@@ -23,7 +24,7 @@ programming f (connect ∷ h) = programming f h
 programming f (disconnect ∷ h) = programming f h
 programming f (button on ∷ h) = bit on
 programming f (request mode g a out ∷ h) =
-    cond (heard (opened f h) mode a out (wish.asks a) && isRestart (wish.asks a)) 0 (programming f h)
+    cond (heard (rulesOf (f .sheet)) (opened f h) mode a out (wish.asks a) && isRestart (wish.asks a)) 0 (programming f h)
 
 -- the new address that a request brings: in programming mode (`inProgramming` is 1), or by the serial number
 abbrev pub newAddress : ℕ → ℕ → ℕ → wish.Wish → ℕ
@@ -42,7 +43,7 @@ individual f (connect ∷ h) = individual f h
 individual f (disconnect ∷ h) = individual f h
 individual f (button on ∷ h) = individual f h
 individual f (request mode g a out ∷ h) =
-    cond (heard (opened f h) mode a out (wish.asks a))
+    cond (heard (rulesOf (f .sheet)) (opened f h) mode a out (wish.asks a))
     (newAddress (programming f h) (head.serial of f .sheet) (individual f h) (wish.asks a)) (individual f h)
 
 -- byte j of what a group value brings to the object of entry e: the six bits, or the data
@@ -66,5 +67,5 @@ groupByte f (connect ∷ h) i j = groupByte f h i j
 groupByte f (disconnect ∷ h) i j = groupByte f h i j
 groupByte f (button on ∷ h) i j = groupByte f h i j
 groupByte f (request mode g a out ∷ h) i j =
-    cond (heard (opened f h) mode a out (wish.asks a))
+    cond (heard (rulesOf (f .sheet)) (opened f h) mode a out (wish.asks a))
     (newValue (entry (f .sheet) groups i) g (wish.brings a) j (groupByte f h i j) (wish.asks a)) (groupByte f h i j)

@@ -24,11 +24,13 @@ every (suc n) f = every n f && f n
 
 -- THE CHECKS BEFORE THE RIGHTS: buffer, length, mode, connected only while open, the service in this mode.
 -- That the service is known and its length right is that the APDU reads.
-unfoldable pub heard : Bool → ℕ → List ℕ → List ℕ → Wish → Bool
-heard live mode a out w =
-    all
-    (leb 16 (length out) ∷
-    leb 2 (length a) ∷ leb (length a) 16 ∷ leb mode 3 ∷ (not (eqb mode 3) || live) ∷ taken w mode ∷ [])
+abbrev pub checks : ℕ → Bool → ℕ → List ℕ → List ℕ → Wish → List Bool
+checks rules live mode a out w =
+    leb 16 (length out) ∷
+    leb 2 (length a) ∷ leb (length a) 16 ∷ leb mode 3 ∷ (not (eqb mode 3) || live) ∷ taken rules w mode ∷ []
+
+unfoldable pub heard : ℕ → Bool → ℕ → List ℕ → List ℕ → Wish → Bool
+heard rules live mode a out w = all (checks rules live mode a out w)
 
 -- the level that a request has: a connected one the session's, read as 3 above 3; any other 3
 unfoldable pub levelFor : ℕ → ℕ → ℕ

@@ -74,15 +74,15 @@ asks a = wishIn (readPdu a)
 unfoldable pub brings : List ℕ → List ℕ
 brings a = dataFrom (readPdu a) a
 
--- WHICH MODE TAKES IT: 0 multicast, 1 broadcast, 2 connectionless, 3 connected
-abbrev pub taken : Wish → ℕ → Bool
-taken (change (writeMemory n a)) mode = eqb mode 3
-taken (change (writeBits n a)) mode = eqb mode 3
-taken (change (writeProperty object id n s)) mode = eqb mode 2 || eqb mode 3
-taken (change (writeKey level number)) mode = eqb mode 3
-taken (offerKey number) mode = eqb mode 3
-taken restart mode = eqb mode 3
-taken (other (address new)) mode = eqb mode 1
-taken (other (addressFor serial new)) mode = eqb mode 1
-taken (other (group flag v)) mode = eqb mode 0
-taken nothing mode = false
+-- WHICH MODE TAKES IT, by the number of the rules: 0 multicast, 1 broadcast, 2 connectionless, 3 connected
+abbrev pub taken : ℕ → Wish → ℕ → Bool
+taken rules (change (writeMemory n a)) mode = eqb mode 3
+taken rules (change (writeBits n a)) mode = eqb mode 3
+taken rules (change (writeProperty object id n s)) mode = eqb mode 2 || eqb mode 3
+taken rules (change (writeKey level number)) mode = eqb mode 3
+taken rules (offerKey number) mode = eqb mode 3
+taken rules restart mode = eqb mode 3
+taken rules (other (address new)) mode = eqb mode 1
+taken rules (other (addressFor serial new)) mode = eqb mode 1
+taken rules (other (group flag v)) mode = eqb mode 0
+taken rules nothing mode = false

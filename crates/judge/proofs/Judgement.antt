@@ -6,6 +6,7 @@ use mathlib.Core.List.{List}
 use mathlib.Core.Bool.{Bool, true, false, not}
 use lib.ListN.{length}
 use borrow.Author.Tests.{lt-ltb, le-ltb, eqb-true, not-false}
+use Rattle.sheet.specs.Head.{rulesOf}
 use Rattle.sheet.specs.Rules.{ruleOf}
 use Rattle.pdu.specs.Rules.{codeOf}
 use Rattle.pdu.specs.Table.{serviceAt}
@@ -21,7 +22,7 @@ use Rattle.judge.specs.declared.Reach.{Reach}
 use Rattle.judge.specs.declared.Decision.{Decision}
 use Rattle.judge.specs.Decisions.{refused}
 use Rattle.judge.specs.Session.{levelIn}
-use Rattle.judge.specs.Modes.{rulesOf, reachOf, reaches, takes}
+use Rattle.judge.specs.Modes.{reachOf, reaches, takes}
 use Rattle.judge.specs.Judge.{dataIn, isAccepted, decideOf, reachedOf, foundOf, isShut, judgeOf}
 
 pub via-data : (x : Parsed) (p : Pdu) (a d : List ℕ) → x ≡ Is p → d ≡ dataOf p a → d ≡ dataIn x a

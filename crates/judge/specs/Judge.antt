@@ -6,6 +6,7 @@ use mathlib.Core.Bool.{Bool, cond, _&&_, not}
 use lib.ListN.{length}
 use lib.Dec.{ltb, eqb}
 use Rattle.sheet.specs.Kind.{regions}
+use Rattle.sheet.specs.Head.{rulesOf}
 use Rattle.sheet.specs.Rules.{ruleOf}
 use Rattle.pdu.specs.Rules.{codeOf}
 use Rattle.pdu.specs.Table.{serviceAt}
@@ -21,7 +22,7 @@ use Rattle.judge.specs.declared.Reach.{Reach}
 use Rattle.judge.specs.declared.Decision.{Decision}
 use Rattle.judge.specs.Decisions.{refused}
 use Rattle.judge.specs.Session.{levelIn, connected}
-use Rattle.judge.specs.Modes.{rulesOf, reachOf, reaches, takes}
+use Rattle.judge.specs.Modes.{reachOf, reaches, takes}
 use Rattle.judge.specs.Groups.{groupReadOf, groupPutOf, write, response}
 use Rattle.judge.specs.Addresses.{addressWriteOf, addressReadOf, serialReadOf, serialWriteOf, descriptorOf}
 use Rattle.judge.specs.Properties.{propertyReadOf, propertyWriteOf, descriptionOf}

@@ -1,7 +1,6 @@
--- WHICH MODE TAKES WHICH SERVICE, by the edition of the rules.
+-- WHICH MODE TAKES WHICH SERVICE, by the number of the rules.
 -- Assumes nothing.
 use Prim.Native.Nat.{ℕ}
-use mathlib.Core.List.{List}
 use mathlib.Core.Bool.{Bool, true, false, _||_}
 use lib.Dec.{eqb}
 use Rattle.pdu.specs.declared.Service.{Service}
@@ -10,37 +9,33 @@ use Rattle.judge.specs.Session as mode
 use Rattle.judge.specs.declared.Reach.{Reach}
 use Rattle.judge.specs.declared.Reach.the-variants.{Multicast, Broadcast, PointToPoint, Connected, Never}
 
--- the edition of the rules that a sheet asks for: there is one so far
-unfoldable pub rulesOf : List ℕ → ℕ
-rulesOf s = 0
-
 -- an answer to a tool never reaches the device
 abbrev pub reachOf : ℕ → Service → Reach
-reachOf ed GroupValueRead = Multicast
-reachOf ed GroupValueResponse = Multicast
-reachOf ed GroupValueWrite = Multicast
-reachOf ed IndividualAddressWrite = Broadcast
-reachOf ed IndividualAddressRead = Broadcast
-reachOf ed SerialNumberRead = Broadcast
-reachOf ed SerialNumberWrite = Broadcast
-reachOf ed DeviceDescriptorRead = PointToPoint
-reachOf ed PropertyValueRead = PointToPoint
-reachOf ed PropertyValueWrite = PointToPoint
-reachOf ed PropertyDescriptionRead = PointToPoint
-reachOf ed MemoryRead = Connected
-reachOf ed MemoryWrite = Connected
-reachOf ed MemoryBitWrite = Connected
-reachOf ed AuthorizeRequest = Connected
-reachOf ed KeyWrite = Connected
-reachOf ed Restart = Connected
-reachOf ed IndividualAddressResponse = Never
-reachOf ed SerialNumberResponse = Never
-reachOf ed DeviceDescriptorResponse = Never
-reachOf ed PropertyValueResponse = Never
-reachOf ed PropertyDescriptionResponse = Never
-reachOf ed MemoryResponse = Never
-reachOf ed AuthorizeResponse = Never
-reachOf ed KeyResponse = Never
+reachOf rules GroupValueRead = Multicast
+reachOf rules GroupValueResponse = Multicast
+reachOf rules GroupValueWrite = Multicast
+reachOf rules IndividualAddressWrite = Broadcast
+reachOf rules IndividualAddressRead = Broadcast
+reachOf rules SerialNumberRead = Broadcast
+reachOf rules SerialNumberWrite = Broadcast
+reachOf rules DeviceDescriptorRead = PointToPoint
+reachOf rules PropertyValueRead = PointToPoint
+reachOf rules PropertyValueWrite = PointToPoint
+reachOf rules PropertyDescriptionRead = PointToPoint
+reachOf rules MemoryRead = Connected
+reachOf rules MemoryWrite = Connected
+reachOf rules MemoryBitWrite = Connected
+reachOf rules AuthorizeRequest = Connected
+reachOf rules KeyWrite = Connected
+reachOf rules Restart = Connected
+reachOf rules IndividualAddressResponse = Never
+reachOf rules SerialNumberResponse = Never
+reachOf rules DeviceDescriptorResponse = Never
+reachOf rules PropertyValueResponse = Never
+reachOf rules PropertyDescriptionResponse = Never
+reachOf rules MemoryResponse = Never
+reachOf rules AuthorizeResponse = Never
+reachOf rules KeyResponse = Never
 
 abbrev pub takes : Reach → ℕ → Bool
 takes Multicast m = eqb m mode.multicast

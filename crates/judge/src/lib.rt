@@ -23,7 +23,6 @@ use levels::CONNECTED;
 use levels::level_in;
 use modes::reach;
 use modes::reaches;
-use modes::rules;
 use modes::takes;
 use pdu::Found;
 use pdu::Parsed;
@@ -138,7 +137,7 @@ fn found(s: &[u8], q: Session, mode: u8, group: u16, got: Parsed, d: &[u8], f: F
     ensures { λ k. ⌜ ((a : List ℕ) → got ≡ readPdu a → now (d .entry) ≡ dataIn got a → k ≡ foundOf (now (s .entry)) q mode group a f) ⌝ }
 {
     match f {
-        Found::Listed(k) => reached(s, q, mode, group, got, d, reach(rules(s), k)),
+        Found::Listed(k) => reached(s, q, mode, group, got, d, reach(sheet::rules_of(s), k)),
         Found::Unknown => refused(8),
     }
 }

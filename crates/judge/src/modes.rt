@@ -1,6 +1,6 @@
-// Which mode takes which service, by the edition of the rules.
+// Which mode takes which service, by the number of the rules.
 ghost use mathlib.Core.Path.{_≡_};
-ghost use Rattle.judge.specs.Modes.{rulesOf, reachOf, takes as takesOf, reaches as reachesOf};
+ghost use Rattle.judge.specs.Modes.{reachOf, takes as takesOf, reaches as reachesOf};
 use crate::Reach;
 use crate::levels::BROADCAST;
 use crate::levels::CONNECTED;
@@ -8,16 +8,9 @@ use crate::levels::CONNECTIONLESS;
 use crate::levels::MULTICAST;
 use pdu::Service;
 
-// The edition of the rules that a sheet asks for: there is one so far.
-pub fn rules(s: &[u8]) -> u8
-    ensures { λ r. ⌜ r ≡ rulesOf (now (s .entry)) ⌝ }
-{
-    0
-}
-
 // Who can reach a service. An answer to a tool never reaches the device.
-pub fn reach(edition: u8, k: Service) -> Reach
-    ensures { λ r. ⌜ r ≡ reachOf edition k ⌝ }
+pub fn reach(rules: u8, k: Service) -> Reach
+    ensures { λ r. ⌜ r ≡ reachOf rules k ⌝ }
 {
     match k {
         Service::GroupValueRead => Reach::Multicast,

@@ -9,6 +9,7 @@ use Rattle.octets.proofs.Numbers.{num-same}
 use Rattle.sheet.specs.Kind.{kinds, regions, properties, groups}
 use Rattle.sheet.specs.Layout.{Field, _of_}
 use Rattle.sheet.specs.Head as head
+use Rattle.sheet.specs.Head.{rulesOf}
 use Rattle.sheet.specs.Region as region
 use Rattle.sheet.specs.Property as property
 use Rattle.sheet.specs.Group as group
@@ -38,6 +39,11 @@ module _ {s s′ : List ℕ} (a : Agree s s′) where
   -- a field of the head before the serial
   pub front-same : (f : Field) → f .at + f .width ≤ head.serial .at → f of s′ ≡ f of s
   front-same = field-front s s′ (a .front)
+
+  -- the number of the rules
+  pub rules-same : rulesOf s′ ≡ rulesOf s
+  unfolding rulesOf
+  rules-same = refl
 
   -- the number of entries of a kind
   pub count-same : (k : ℕ) → count s′ k ≡ count s k

@@ -47,6 +47,10 @@ zero30 = field 30 1
 abbrev pub zero31 : Field
 zero31 = field 31 1
 
+-- THE NUMBER OF THE RULES that a sheet asks for: they are 0 so far
+unfoldable pub rulesOf : List ℕ → ℕ
+rulesOf s = 0
+
 -- the flags: bit 0 programming mode, bit 1 verify
 abbrev pub programming : List ℕ → ℕ
 programming s = flags of s % 2

@@ -3,6 +3,7 @@ ghost use mathlib.Core.Path.{_≡_};
 ghost use Prim.Native.Nat.{_≤_, _<_};
 ghost use Rattle.sheet.specs.Layout.{_of_};
 ghost use Rattle.sheet.specs.Head as head;
+ghost use Rattle.sheet.specs.Head.{rulesOf};
 ghost use Rattle.sheet.specs.Rules.{ruleOf};
 use crate::layout::head;
 use octets::byte;
@@ -20,6 +21,13 @@ pub fn mask(s: &[u8]) -> u16
     ensures { λ r. ⌜ r ≡ head.mask of now (s .entry) ⌝ }
 {
     number(s, head::MASK, 2) as u16
+}
+
+// The number of the rules that the sheet asks for: they are 0 so far.
+pub fn rules_of(s: &[u8]) -> u8
+    ensures { λ r. ⌜ r ≡ rulesOf (now (s .entry)) ⌝ }
+{
+    0
 }
 
 // Programming mode in bit 0, verify in bit 1.

@@ -15,6 +15,7 @@ pub use head::flags_at;
 pub use head::key;
 pub use head::key_at;
 pub use head::mask;
+pub use head::rules_of;
 pub use head::serial;
 pub use lookup::find;
 pub use lookup::group;
