@@ -128,7 +128,7 @@ module _ {s : List ℕ} (ok : Good 1 s) (level group : ℕ) (a : List ℕ) where
       description-cases s object id index (K (PropertyDescriptionRead object id index)) (λ i z k. as-is) (λ i z k. as-is) as-is
   keeps-decided (MemoryRead n address) r = memory-read-cases s regions level n address (K (MemoryRead n address)) (λ i p. as-is) as-is
   keeps-decided (MemoryWrite n address) r =
-      change ok _ reflects-write 12 level n address store.Data (λ o. dataOf (MemoryWrite n address) a) (λ o. refl) (λ o. memory-data a n address r)
+      change ok _ reflects-write 12 level n address (store.Data 0) (λ o. dataOf (MemoryWrite n address) a) (λ o. refl) (λ o. memory-data a n address r)
   keeps-decided (MemoryBitWrite n address) r =
       change ok _ reflects-change 5 level n address (λ o. store.Bits o n) (λ o. build n (bitAt s o n (dataOf (MemoryBitWrite n address) a))) (λ o. refl) (λ o. length-build n _)
   keeps-decided (AuthorizeRequest key) r = as-is

@@ -87,7 +87,7 @@ module _ (x : Asked) (n address : ℕ) where
         R = cases.Writes;
         tells = reflects-write;
         most = 12;
-        new = store.Data;
+        new = store.Data 0;
         bytes = λ o. given x (MemoryWrite n address);
         decides = memory-write-is (x .sheet) regions level n address;
         leaves = λ o. refl;

@@ -142,7 +142,7 @@ module _ {s : List ℕ} (ok : Good 1 s) (d : List ℕ) where
         let f : property.offset of entry s properties i + (t - 1) * property.element of entry s properties i + length d ≤ length s = omega arith in
         record {
           first = f;
-          second = (omega (arith, count-within ok i (k .there), length-store s d (store.Data _) f), omega arith);
+          second = (omega (arith, count-within ok i (k .there), length-store s d (store.Data 0 _) f), omega arith);
           answer = writes-property d object id n t (h .0) (h .1) l;
         })
         no-value
@@ -179,7 +179,7 @@ module _ {s : List ℕ} (ok : Good 1 s) (d : List ℕ) where
 
     memory-write : length d ≡ n → Safe s d (memoryWriteOf s regions level n a)
     unfolding memoryWriteOf
-    memory-write e = change reflects-write 12 store.Data (omega arith) (λ o w. omega arith)
+    memory-write e = change reflects-write 12 (store.Data 0) (omega arith) (λ o w. omega arith)
 
     bit-write : length d ≡ n + n → Safe s d (bitWriteOf s regions level n a)
     unfolding bitWriteOf

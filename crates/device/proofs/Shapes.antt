@@ -78,7 +78,7 @@ module _ (a s : List ℕ) (level group : ℕ) (d : List ℕ) where
   shaped (MemoryRead n address) e =
       memory-read-cases s regions level n address (Shape a) (λ i p. reply _ _ _ _) (deny _ _ e (ofMemoryRead n address))
   shaped (MemoryWrite n address) e =
-      change-cases reflects-write 12 store.Data s regions level n address (Shape a) (λ i p v. reply _ _ _ _) (λ i p v. done _ _)
+      change-cases reflects-write 12 (store.Data 0) s regions level n address (Shape a) (λ i p v. reply _ _ _ _) (λ i p v. done _ _)
       (λ v. deny _ _ e (ofMemoryWrite n address)) (λ v. unanswered a)
   shaped (MemoryBitWrite n address) e =
       change-cases reflects-change 5 (λ o. store.Bits o n) s regions level n address (Shape a) (λ i p v. reply _ _ _ _) (λ i p v. done _ _)

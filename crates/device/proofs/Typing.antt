@@ -87,7 +87,7 @@ module _ {s : List ℕ} (ok : Good 1 s) (h : Octets s) (level group : ℕ) (d : 
       (t .0, (t .1 .0, (t .1 .1 .0, (omega arith, (tt, (omega arith, tt))))))
   fitted (MemoryRead n address) t = memory-read-cases s regions level n address Fits (λ i p. t) t
   fitted (MemoryWrite n address) t =
-      change-cases reflects-write 12 store.Data s regions level n address Fits (λ i p v. t) (λ i p v. tt) (λ v. t) (λ v. tt)
+      change-cases reflects-write 12 (store.Data 0) s regions level n address Fits (λ i p v. t) (λ i p v. tt) (λ v. t) (λ v. tt)
   fitted (MemoryBitWrite n address) t =
       change-cases reflects-change 5 (λ o. store.Bits o n) s regions level n address Fits (λ i p v. (tt, t .1)) (λ i p v. tt) (λ v. (tt, t .1)) (λ v. tt)
   fitted (AuthorizeRequest key) t = (omega (arith, granted s key), tt)

@@ -27,11 +27,15 @@ build (suc n) f = build n f ++ (f n ∷ [])
 unfoldable pub bitAt : List ℕ → ℕ → ℕ → List ℕ → ℕ → ℕ
 bitAt s at n d i = bitXor (bitAnd (getD s (at + i) 0) (getD d i 0)) (getD d (n + i) 0)
 
+-- so many zeros, then the data
+abbrev pub padded : ℕ → List ℕ → List ℕ
+padded zeros d = replicate zeros 0 ++ d
+
 -- the sheet after one store
 abbrev pub storeOf : List ℕ → List ℕ → Store → List ℕ
 storeOf s d store.Nothing = s
 storeOf s d (store.Number at w x) = splice s at (bytesOf w x)
-storeOf s d (store.Data at) = splice s at d
+storeOf s d (store.Data zeros at) = splice s at (padded zeros d)
 storeOf s d (store.Bits at n) = splice s at (build n (bitAt s at n d))
 storeOf s d (store.Fill at n b) = splice s at (replicate n b)
 

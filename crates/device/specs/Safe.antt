@@ -12,13 +12,13 @@ use Rattle.judge.specs.declared.Store.the-variants as store
 use Rattle.judge.specs.declared.Answer.{Answer}
 use Rattle.judge.specs.declared.Answer.the-variants as answer
 use Rattle.judge.specs.declared.Decision.{Decision}
-use Rattle.device.specs.Carry.{storeOf}
+use Rattle.device.specs.Carry.{padded, storeOf}
 
 -- a store in sheet s, of a request with data d
 abbrev pub StoreSafe : List ℕ → List ℕ → Store → Type 0
 StoreSafe s d store.Nothing = Unit {0}
 StoreSafe s d (store.Number at w x) = (at + w ≤ length s) × (w ≤ 6)
-StoreSafe s d (store.Data at) = at + length d ≤ length s
+StoreSafe s d (store.Data zeros at) = at + length (padded zeros d) ≤ length s
 StoreSafe s d (store.Bits at n) = (at + n ≤ length s) × (length d ≡ n + n)
 StoreSafe s d (store.Fill at n b) = at + n ≤ length s
 

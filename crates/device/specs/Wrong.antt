@@ -50,7 +50,7 @@ inventsCount x =
 unfoldable pub raised : Store → Store
 raised store.Nothing = store.Nothing
 raised (store.Number at w c) = store.Number at w (c + 1)
-raised (store.Data at) = store.Data at
+raised (store.Data zeros at) = store.Data zeros at
 raised (store.Bits at n) = store.Bits at n
 raised (store.Fill at n b) = store.Fill at n b
 

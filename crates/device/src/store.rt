@@ -5,7 +5,7 @@ ghost use mathlib.Core.Path.{_≡_};
 ghost use Prim.Native.Nat.{_+_, _≤_};
 ghost use lib.ListN.{length};
 ghost use Rattle.octets.specs.Splice.{splice};
-ghost use Rattle.device.specs.Carry.{build, bitAt, storeOf};
+ghost use Rattle.device.specs.Carry.{padded, build, bitAt, storeOf};
 ghost use Rattle.device.specs.Safe.{StoreSafe};
 
 // n bytes from a place on changed by n AND bytes and then n XOR bytes.
@@ -20,6 +20,15 @@ pub fn bits(s: &mut [u8], at: usize, n: usize, d: &[u8])
     }
 }
 
+// So many zeros from a place on, then data.
+fn put_padded(s: &mut [u8], zeros: usize, at: usize, d: &[u8])
+    requires { ⌜ at + (zeros + length (now d)) ≤ length (now s) ⌝ }
+    ensures { λ _. ⌜ now (s .exit) ≡ splice (now (s .entry)) at (padded zeros (now (d .entry))) ⌝ }
+{
+    octets::fill(s, at, zeros, 0);
+    octets::splice(s, at + zeros, d);
+}
+
 // One run of bytes.
 pub fn store(s: &mut [u8], run: Store, d: &[u8])
     requires { ⌜ StoreSafe (now s) (now d) run ⌝ }
@@ -30,8 +39,8 @@ pub fn store(s: &mut [u8], run: Store, d: &[u8])
         Store::Number { at, width, x } => {
             octets::put(s, at, width, x);
         }
-        Store::Data { at } => {
-            octets::splice(s, at, d);
+        Store::Data { zeros, at } => {
+            put_padded(s, zeros, at, d);
         }
         Store::Bits { at, n } => {
             bits(s, at, n, d);

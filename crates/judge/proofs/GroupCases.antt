@@ -57,7 +57,7 @@ module _ (s : List ℕ) (address : ℕ) where
         ((i : ℕ) → Lets s w address i → group.code of entry s groups i ≡ 0 → d ≡ 0 →
         P (stored (store.Number (group.offset of entry s groups i) 1 v))) →
         ((i : ℕ) → Lets s w address i → 1 ≤ group.code of entry s groups i → d ≡ group.code of entry s groups i →
-        P (stored (store.Data (group.offset of entry s groups i)))) →
+        P (stored (store.Data 0 (group.offset of entry s groups i)))) →
         ((i : ℕ) → Lets s w address i → (d ≡ group.code of entry s groups i → ⊥) → P (refused 10)) →
         P (refused 2) → P (groupPutOf w s address v d)
     unfolding groupPutOf putValue flagsAt at
@@ -109,7 +109,7 @@ module _ {s : List ℕ} (ok : Good 1 s) (address i : ℕ) where
 
     pub group-put-bytes :
         1 ≤ group.code of entry s groups i → d ≡ group.code of entry s groups i →
-        groupPutOf w s address v d ≡ stored (store.Data (group.offset of entry s groups i))
+        groupPutOf w s address v d ≡ stored (store.Data 0 (group.offset of entry s groups i))
     unfolding putValue
     group-put-bytes z e =
         puts w v d t ∙ simp (eq-eqb d (group.code of entry s groups i) e, ne-eqb (group.code of entry s groups i) 0 (omega arith))

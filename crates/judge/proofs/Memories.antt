@@ -27,7 +27,7 @@ module _ (s : List ℕ) (k level n a : ℕ) (run : Run) (run-is : run ≡ rangeO
 
   module _ (o-is : o ≡ runAt run) (v : Bool) (v-is : v ≡ verifies s) where
     pub written-at :
-        b ≡ runAllowed mayWrite mostBytes level n run → r ≡ changeOf b v (store.Data o) o n a → r ≡ memoryWriteOf s k level n a
+        b ≡ runAllowed mayWrite mostBytes level n run → r ≡ changeOf b v (store.Data 0 o) o n a → r ≡ memoryWriteOf s k level n a
     unfolding memoryWriteOf
     written-at b-is g = simp (← run-is, ← b-is, ← o-is, ← v-is) g
 

@@ -158,7 +158,7 @@ module _ {test : ℕ → ℕ → Bool} {R : ℕ → ℕ → Type 0} (y : Reflect
   change-stores v = simp (allowed-is y m s level n a ok i p, run-is y m s level n a ok i p, ne-eqb (head.verify s) 1 v)
 
 -- the two writes
-pub memory-write-is : (s : List ℕ) (k level n a : ℕ) → memoryWriteOf s k level n a ≡ changed reflects-write 12 store.Data s k level n a
+pub memory-write-is : (s : List ℕ) (k level n a : ℕ) → memoryWriteOf s k level n a ≡ changed reflects-write 12 (store.Data 0) s k level n a
 unfolding memoryWriteOf
 memory-write-is s k level n a = refl
 

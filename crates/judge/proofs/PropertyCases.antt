@@ -90,7 +90,7 @@ module _ (sheet : List ℕ) (level object id n s : ℕ) (P : Decision → Type 0
         Among n s (property.maximum of entry sheet properties i) → length d ≡ n * property.element of entry sheet properties i →
         P
         (written
-        (store.Data (elementAt (property.offset of entry sheet properties i) (property.element of entry sheet properties i) s))
+        (store.Data 0 (elementAt (property.offset of entry sheet properties i) (property.element of entry sheet properties i) s))
         (store.Number (place sheet properties i + 6) 2 (max (property.count of entry sheet properties i) (s + n - 1)))
         (answer.Echo (PropertyValueResponse object id n s)))) →
         P (noValue object id s) → P (propertyWriteOf sheet level object id n s d)
@@ -193,7 +193,7 @@ module _ {sheet : List ℕ} (ok : Good 1 sheet) (object id i : ℕ) (k : Keyed s
           Among n s (property.maximum of entry sheet properties i) → length d ≡ n * property.element of entry sheet properties i →
           propertyWriteOf sheet level object id n s d
           ≡ written
-          (store.Data (elementAt (property.offset of entry sheet properties i) (property.element of entry sheet properties i) s))
+          (store.Data 0 (elementAt (property.offset of entry sheet properties i) (property.element of entry sheet properties i) s))
           (store.Number (place sheet properties i + 6) 2 (max (property.count of entry sheet properties i) (s + n - 1)))
           (answer.Echo (PropertyValueResponse object id n s))
       unfolding writeIn

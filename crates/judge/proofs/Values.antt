@@ -81,7 +81,7 @@ module _
         module _ (m : c ≡ false) (z : ℕ) (z-is : z ≡ n * e .element) (b : Bool) (b-is : b ≡ (elements n s (e .maximum) && eqb (length d) z)) where
           pub write-elements :
               (x at : ℕ) → b ≡ true → x ≡ max (e .count) (s + n - 1) → at ≡ elementAt (e .offset) (e .element) s →
-              r ≡ written (store.Data at) (store.Number o 2 x) (answer.Echo (PropertyValueResponse object id n s)) →
+              r ≡ written (store.Data 0 at) (store.Number o 2 x) (answer.Echo (PropertyValueResponse object id n s)) →
               r ≡ writeIn (entry t properties i) (place t properties i) level object id n s d
           unfolding writeIn
           write-elements x at h x-is at-is g =

@@ -39,7 +39,7 @@ valueOf s c o =
 -- a new value: six bits v, or d bytes of data; 10 where that doesn't suit the length code
 unfoldable pub putValue : ℕ → ℕ → ℕ → ℕ → Decision
 putValue c o v d =
-    cond (eqb d c) (cond (eqb c 0) (stored (store.Number o 1 v)) (stored (store.Data o))) (refused 10)
+    cond (eqb d c) (cond (eqb c 0) (stored (store.Number o 1 v)) (stored (store.Data 0 o))) (refused 10)
 
 -- the flags of group object i
 unfoldable pub flagsAt : List ℕ → ℕ → ℕ

@@ -61,7 +61,7 @@ changeOf allowed verify new o n a =
 unfoldable pub memoryWriteOf : List ℕ → ℕ → ℕ → ℕ → ℕ → Decision
 memoryWriteOf s k level n a =
     let r = rangeOf s k a n in
-    changeOf (runAllowed mayWrite mostBytes level n r) (verifies s) (store.Data (runAt r)) (runAt r) n a
+    changeOf (runAllowed mayWrite mostBytes level n r) (verifies s) (store.Data 0 (runAt r)) (runAt r) n a
 
 unfoldable pub bitWriteOf : List ℕ → ℕ → ℕ → ℕ → ℕ → Decision
 bitWriteOf s k level n a =

@@ -71,7 +71,7 @@ writeIn e p level object id n s d =
     (written (store.Fill (p + property.count .at) (property.count .width) 0) store.Nothing
     (answer.Echo (PropertyValueResponse object id n s)))
     (cond (elements n s (property.maximum of e) && eqb (length d) (n * property.element of e))
-    (written (store.Data (elementAt (property.offset of e) (property.element of e) s))
+    (written (store.Data 0 (elementAt (property.offset of e) (property.element of e) s))
     (store.Number (p + property.count .at) (property.count .width) (max (property.count of e) (s + n - 1)))
     (answer.Echo (PropertyValueResponse object id n s)))
     (noValue object id s)))

@@ -58,7 +58,7 @@ fn put_value(code: usize, at: usize, v: u8, n: usize) -> Decision
             x: v as u64,
         });
     }
-    stored(Store::Data { at })
+    stored(Store::Data { zeros: 0, at })
 }
 
 // The value of a group object with the read flag.

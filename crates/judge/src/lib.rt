@@ -50,8 +50,8 @@ pub enum Store {
     Nothing,
     // the width low bytes of x
     Number { at: usize, width: usize, x: u64 },
-    // the request's data
-    Data { at: usize },
+    // so many zeros, then the request's data
+    Data { zeros: usize, at: usize },
     // n bytes computed from those there by the request's AND and XOR bytes
     Bits { at: usize, n: usize },
     // n bytes b

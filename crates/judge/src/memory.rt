@@ -136,7 +136,7 @@ pub fn memory_write(s: &[u8], k: usize, level: u8, n: u8, address: u16) -> Decis
     change(
         can_write(level, n, run),
         verifies(s),
-        Store::Data { at },
+        Store::Data { zeros: 0, at },
         at,
         n,
         address,

@@ -196,6 +196,7 @@ fn write_in(e: PropertyEntry, level: u8, object: u8, id: u8, n: u8, s: u16, d: &
     if is_stored(n, s, e.maximum, size, d.len()) {
         let x = new_count(e.count, n, s) as u64;
         let elements = Store::Data {
+            zeros: 0,
             at: element_at(e.offset, element, s),
         };
         return written(

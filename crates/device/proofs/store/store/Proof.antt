@@ -1,7 +1,7 @@
 -- `device::store::store` meets its contract: each arm knows the run, and what the function that it calls stores.
 -- Assumes nothing.
 use borrow.Author.Needs.{needs}
-use Rattle.device.proofs.Runs.{via-safe, via-store}
+use Rattle.device.proofs.Runs.{via-safe, via-padded, via-store}
 use Rattle.device.proofs.store.store.Statement.{statement}
 use Rattle.device.proofs.store.store.Tie as tie
 
@@ -13,7 +13,7 @@ store-spec =
     (λ c. search needs)
     (λ c κs. via-safe _ _ _ _ (c .before .before .before .before .before .before .pre) (c .before .before .run .given .1))
     (λ c. search needs)
-    (λ c κs. via-safe _ _ _ _ (c .before .before .before .before .before .before .pre) (c .before .before .run2 .given .1))
+    (λ c κs. via-padded _ _ _ _ _ (c .before .before .before .before .before .before .pre) (c .before .before .run2 .given .1))
     (λ c. search needs)
     (λ c κs. via-safe _ _ _ _ (c .before .before .before .before .before .before .pre) (c .before .before .run3 .given .1))
     (λ c. search needs)
