@@ -8,6 +8,7 @@ pub use session::connect;
 pub use session::disconnect;
 pub use session::fresh;
 ghost use Rattle.device.specs.Step.{Called};
+use judge::Request;
 use judge::Session;
 
 // What a request gave: the outcome, the count of bytes answered, the session afterwards.
@@ -28,20 +29,17 @@ pub fn request(
 ) -> Done
     ensures { λ r. ⌜ Called session mode group (now (apdu .entry)) (now (sheet .entry)) (now (answer .entry)) r (now (sheet .exit)) (now (answer .exit)) ⌝ }
 {
-    let f = pdu::service_of(pdu::code(apdu));
-    let got = pdu::read_found(f, apdu);
-    let d = judge::data_in(got, apdu);
-    let k = judge::judge(
-        answer.len(),
-        &sheet[..],
+    let found = pdu::service_of(pdu::code(apdu));
+    let parsed = pdu::read_found(found, apdu);
+    let d = judge::data_in(parsed, apdu);
+    let x = Request {
         session,
         mode,
         group,
-        apdu,
-        f,
-        got,
-        d,
-    );
+        found,
+        parsed,
+    };
+    let k = judge::judge(answer.len(), &sheet[..], x, apdu, d);
     store::carry_out(sheet, k, d);
     let reply = k.answer;
     let count = answer::answer(answer, reply, &sheet[..], d);

@@ -36,6 +36,16 @@ pub struct Session {
     pub level: u8,
 }
 
+// A request as it came and was read: the session that it meets, its mode and group address; what its code names, and what
+// it reads as.
+pub struct Request {
+    pub session: Session,
+    pub mode: u8,
+    pub group: u16,
+    pub found: Found,
+    pub parsed: Parsed,
+}
+
 // Who can reach a service.
 pub enum Reach {
     Multicast,
@@ -115,48 +125,40 @@ fn is_accepted(s: &[u8]) -> bool
 }
 
 // 8, then 9, then the reading: what a request of a service with that reach and with data d gets.
-fn reached(s: &[u8], q: Session, mode: u8, group: u16, got: Parsed, d: &[u8], r: Reach) -> Decision
+fn reached(s: &[u8], x: Request, d: &[u8], r: Reach) -> Decision
     requires { ⌜ ruleOf (now s) ≡ 0 ⌝ }
-    ensures { λ k. ⌜ ((a : List ℕ) → got ≡ readPdu a → now (d .entry) ≡ dataIn got a → k ≡ reachedOf (now (s .entry)) q mode group a r) ⌝ }
+    ensures { λ k. ⌜ ((a : List ℕ) → x .parsed ≡ readPdu a → now (d .entry) ≡ dataIn (x .parsed) a → k ≡ reachedOf (now (s .entry)) (x .session) (x .mode) (x .group) a r) ⌝ }
 {
     if !reaches(r) {
         return refused(8);
     }
-    if !takes(r, mode) {
+    if !takes(r, x.mode) {
         return refused(9);
     }
-    let Parsed::Is(p) = got else {
-        return refused(pdu::outcome(got));
+    let parsed = x.parsed;
+    let Parsed::Is(p) = parsed else {
+        return refused(pdu::outcome(parsed));
     };
-    decide(s, level_in(q, mode), group, d, p)
+    let session = x.session;
+    decide(s, level_in(session, x.mode), x.group, d, p)
 }
 
 // The same by what the code names.
-fn found(s: &[u8], q: Session, mode: u8, group: u16, got: Parsed, d: &[u8], f: Found) -> Decision
+fn found(s: &[u8], x: Request, d: &[u8]) -> Decision
     requires { ⌜ ruleOf (now s) ≡ 0 ⌝ }
-    ensures { λ k. ⌜ ((a : List ℕ) → got ≡ readPdu a → now (d .entry) ≡ dataIn got a → k ≡ foundOf (now (s .entry)) q mode group a f) ⌝ }
+    ensures { λ k. ⌜ ((a : List ℕ) → x .parsed ≡ readPdu a → now (d .entry) ≡ dataIn (x .parsed) a → k ≡ foundOf (now (s .entry)) (x .session) (x .mode) (x .group) a (x .found)) ⌝ }
 {
+    let f = x.found;
     match f {
-        Found::Listed(k) => reached(s, q, mode, group, got, d, reach(sheet::rules_of(s), k)),
+        Found::Listed(k) => reached(s, x, d, reach(sheet::rules_of(s), k)),
         Found::Unknown => refused(8),
     }
 }
 
-// What is decided about a request that was read, with its data, and what its code names: room is the length of the answer
-// buffer.
-pub fn judge(
-    room: usize,
-    s: &[u8],
-    q: Session,
-    mode: u8,
-    group: u16,
-    apdu: &[u8],
-    f: Found,
-    got: Parsed,
-    d: &[u8],
-) -> Decision
-    requires { ⌜ (f ≡ serviceAt (codeOf (now apdu))) × (got ≡ readPdu (now apdu)) × (now d ≡ dataIn got (now apdu)) ⌝ }
-    ensures { λ r. ⌜ r ≡ judgeOf room (now (s .entry)) q mode group (now (apdu .entry)) ⌝ }
+// What is decided about a request of that APDU, with its data: room is the length of the answer buffer.
+pub fn judge(room: usize, s: &[u8], x: Request, apdu: &[u8], d: &[u8]) -> Decision
+    requires { ⌜ (x .found ≡ serviceAt (codeOf (now apdu))) × (x .parsed ≡ readPdu (now apdu)) × (now d ≡ dataIn (x .parsed) (now apdu)) ⌝ }
+    ensures { λ r. ⌜ r ≡ judgeOf room (now (s .entry)) (x .session) (x .mode) (x .group) (now (apdu .entry)) ⌝ }
 {
     if room < 16 {
         return refused(3);
@@ -170,11 +172,12 @@ pub fn judge(
     if 16 < apdu.len() {
         return refused(5);
     }
-    if CONNECTED < mode {
+    if CONNECTED < x.mode {
         return refused(6);
     }
-    if is_shut(q, mode) {
+    let session = x.session;
+    if is_shut(session, x.mode) {
         return refused(7);
     }
-    found(s, q, mode, group, got, d, f)
+    found(s, x, d)
 }

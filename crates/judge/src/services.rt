@@ -26,60 +26,39 @@ use crate::properties::property_write;
 use pdu::Pdu;
 
 // A request with data d, at a level. An answer to a tool is no request.
-pub fn decide(s: &[u8], level: u8, group: u16, d: &[u8], p: Pdu) -> Decision
-    requires { ⌜ ruleOf (now s) ≡ 0 ⌝ }
-    ensures { λ r. ⌜ r ≡ decideOf (now (s .entry)) level group (now (d .entry)) p ⌝ }
+pub fn decide(sheet: &[u8], level: u8, group: u16, d: &[u8], p: Pdu) -> Decision
+    requires { ⌜ ruleOf (now sheet) ≡ 0 ⌝ }
+    ensures { λ r. ⌜ r ≡ decideOf (now (sheet .entry)) level group (now (d .entry)) p ⌝ }
 {
     match p {
-        Pdu::GroupValueRead => group_read(s, group),
-        Pdu::GroupValueResponse { v } => group_put(RESPONSE, s, group, v, d.len()),
-        Pdu::GroupValueWrite { v } => group_put(WRITE, s, group, v, d.len()),
-        Pdu::IndividualAddressWrite { address } => address_write(s, address),
-        Pdu::IndividualAddressRead => address_read(s),
-        Pdu::SerialNumberRead { serial } => serial_read(s, serial),
-        Pdu::SerialNumberWrite { serial, address } => serial_write(s, serial, address),
-        Pdu::DeviceDescriptorRead { t } => descriptor(s, t),
-        Pdu::PropertyValueRead {
-            object,
-            id,
-            n,
-            s: start,
-        } => property_read(s, level, object, id, n, start),
-        Pdu::PropertyValueWrite {
-            object,
-            id,
-            n,
-            s: start,
-        } => property_write(s, level, object, id, n, start, d),
-        Pdu::PropertyDescriptionRead { object, id, index } => description(s, object, id, index),
-        Pdu::MemoryRead { n, address } => memory_read(s, REGIONS, level, n, address),
-        Pdu::MemoryWrite { n, address } => memory_write(s, REGIONS, level, n, address),
-        Pdu::MemoryBitWrite { n, address } => bit_write(s, REGIONS, level, n, address),
-        Pdu::AuthorizeRequest { key } => authorize(s, key),
+        Pdu::GroupValueRead => group_read(sheet, group),
+        Pdu::GroupValueResponse { v } => group_put(RESPONSE, sheet, group, v, d.len()),
+        Pdu::GroupValueWrite { v } => group_put(WRITE, sheet, group, v, d.len()),
+        Pdu::IndividualAddressWrite { address } => address_write(sheet, address),
+        Pdu::IndividualAddressRead => address_read(sheet),
+        Pdu::SerialNumberRead { serial } => serial_read(sheet, serial),
+        Pdu::SerialNumberWrite { serial, address } => serial_write(sheet, serial, address),
+        Pdu::DeviceDescriptorRead { t } => descriptor(sheet, t),
+        Pdu::PropertyValueRead { object, id, n, s } => {
+            property_read(sheet, level, object, id, n, s)
+        }
+        Pdu::PropertyValueWrite { object, id, n, s } => {
+            property_write(sheet, level, object, id, n, s, d)
+        }
+        Pdu::PropertyDescriptionRead { object, id, index } => description(sheet, object, id, index),
+        Pdu::MemoryRead { n, address } => memory_read(sheet, REGIONS, level, n, address),
+        Pdu::MemoryWrite { n, address } => memory_write(sheet, REGIONS, level, n, address),
+        Pdu::MemoryBitWrite { n, address } => bit_write(sheet, REGIONS, level, n, address),
+        Pdu::AuthorizeRequest { key } => authorize(sheet, key),
         Pdu::KeyWrite { level: named, key } => key_write(level, named, key),
-        Pdu::Restart => restart(s),
+        Pdu::Restart => restart(sheet),
         Pdu::IndividualAddressResponse => refused(8),
-        Pdu::SerialNumberResponse {
-            serial: _,
-            domain: _,
-        } => refused(8),
-        Pdu::DeviceDescriptorResponse { t: _ } => refused(8),
-        Pdu::PropertyValueResponse {
-            object: _,
-            id: _,
-            n: _,
-            s: _,
-        } => refused(8),
-        Pdu::PropertyDescriptionResponse {
-            object: _,
-            id: _,
-            index: _,
-            typ: _,
-            maximum: _,
-            access: _,
-        } => refused(8),
-        Pdu::MemoryResponse { n: _, address: _ } => refused(8),
-        Pdu::AuthorizeResponse { level: _ } => refused(8),
-        Pdu::KeyResponse { level: _ } => refused(8),
+        Pdu::SerialNumberResponse { .. } => refused(8),
+        Pdu::DeviceDescriptorResponse { .. } => refused(8),
+        Pdu::PropertyValueResponse { .. } => refused(8),
+        Pdu::PropertyDescriptionResponse { .. } => refused(8),
+        Pdu::MemoryResponse { .. } => refused(8),
+        Pdu::AuthorizeResponse { .. } => refused(8),
+        Pdu::KeyResponse { .. } => refused(8),
     }
 }

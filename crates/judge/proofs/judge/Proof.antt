@@ -13,5 +13,5 @@ judge-spec =
     (λ c. search not-accepted) (λ c κs. search needs) (λ c. search too-short) (λ c κs. search needs)
     (λ c. search too-long) (λ c κs. search needs) (λ c. search no-mode) (λ c κs. search needs)
     (λ c κs. search needs) (λ c. search shut)
-    (λ c κs. accepted _ _ (c .before .before .before .before .before .before .is-accepted .ensures) (c .before .before .before .before .before .if2 .left))
+    (λ c κs. accepted _ _ (c .before .before .before .before .before .before .before .before .is-accepted .ensures) (c .before .before .before .before .before .before .before .if2 .left))
     (λ c. search by-code))
