@@ -17,7 +17,8 @@ use Rattle.device.specs.Next.{Next}
 use Rattle.device.proofs.RequestCases.{request-cases}
 use Rattle.device.proofs.Stays.{request-agrees}
 
-late : {x : Asked} {n : ℕ} → Refusal x n → 3 ≤ n
+-- a refusal before the service gives 3 or more
+pub late : {x : Asked} {n : ℕ} → Refusal x n → 3 ≤ n
 late (noRoom b) = omega arith
 late (badSheet b s) = omega arith
 late (badLength b s l) = omega arith

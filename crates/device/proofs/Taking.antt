@@ -6,7 +6,7 @@ use mathlib.Core.Logic.{_↔_, _⊎_, inl, inr, ⊎-elim}
 use mathlib.Core.Bool.{true, false, _||_}
 use lib.Dec.{eqb}
 use borrow.Author.Tests.{eq-eqb, eqb-true}
-use Rattle.octets.proofs.Truths.{never, or-is}
+use Rattle.octets.proofs.Truths.{never, or-is, equal-is}
 use Rattle.pdu.specs.declared.Service.{Service}
 use Rattle.pdu.specs.declared.Service.the-variants.{GroupValueRead, GroupValueResponse, GroupValueWrite, IndividualAddressWrite, IndividualAddressRead, SerialNumberRead, SerialNumberWrite, DeviceDescriptorRead, PropertyValueRead, PropertyValueWrite, PropertyDescriptionRead, MemoryRead, MemoryWrite, MemoryBitWrite, AuthorizeRequest, KeyWrite, Restart, IndividualAddressResponse, SerialNumberResponse, DeviceDescriptorResponse, PropertyValueResponse, PropertyDescriptionResponse, MemoryResponse, AuthorizeResponse, KeyResponse}
 use Rattle.judge.specs.Modes.{reachOf, reaches, takes}
@@ -14,10 +14,7 @@ use Rattle.judge.specs.declared.Reach.{Reach}
 use Rattle.judge.specs.declared.Reach.the-variants.{Multicast, Broadcast, PointToPoint, Connected, Never}
 use Rattle.device.specs.Asked.{Takes, Served}
 
--- one mode, two modes, none
-pub one-mode : (m a : ℕ) → (eqb m a ≡ true) ↔ (m ≡ a)
-one-mode m a = (eqb-true m a, eq-eqb m a)
-
+-- two modes, none
 pub two-modes : (m a b : ℕ) → (eqb m a || eqb m b ≡ true) ↔ ((m ≡ a) ⊎ (m ≡ b))
 two-modes m a b = (
   λ e. ⊎-elim (λ h. inl (eqb-true m a h)) (λ h. inr (eqb-true m b h)) (or-is (eqb m a) (eqb m b) .0 e),
@@ -29,23 +26,23 @@ no-mode = (λ e. never e, λ h. absurd h)
 
 -- THE TEST SAYS WHICH MODE TAKES A SERVICE
 pub takes-is : (rules m : ℕ) (k : Service) → (takes (reachOf rules k) m ≡ true) ↔ Takes rules k m
-takes-is rules m GroupValueRead = one-mode m 0
-takes-is rules m GroupValueResponse = one-mode m 0
-takes-is rules m GroupValueWrite = one-mode m 0
-takes-is rules m IndividualAddressWrite = one-mode m 1
-takes-is rules m IndividualAddressRead = one-mode m 1
-takes-is rules m SerialNumberRead = one-mode m 1
-takes-is rules m SerialNumberWrite = one-mode m 1
+takes-is rules m GroupValueRead = equal-is m 0
+takes-is rules m GroupValueResponse = equal-is m 0
+takes-is rules m GroupValueWrite = equal-is m 0
+takes-is rules m IndividualAddressWrite = equal-is m 1
+takes-is rules m IndividualAddressRead = equal-is m 1
+takes-is rules m SerialNumberRead = equal-is m 1
+takes-is rules m SerialNumberWrite = equal-is m 1
 takes-is rules m DeviceDescriptorRead = two-modes m 2 3
 takes-is rules m PropertyValueRead = two-modes m 2 3
 takes-is rules m PropertyValueWrite = two-modes m 2 3
 takes-is rules m PropertyDescriptionRead = two-modes m 2 3
-takes-is rules m MemoryRead = one-mode m 3
-takes-is rules m MemoryWrite = one-mode m 3
-takes-is rules m MemoryBitWrite = one-mode m 3
-takes-is rules m AuthorizeRequest = one-mode m 3
-takes-is rules m KeyWrite = one-mode m 3
-takes-is rules m Restart = one-mode m 3
+takes-is rules m MemoryRead = equal-is m 3
+takes-is rules m MemoryWrite = equal-is m 3
+takes-is rules m MemoryBitWrite = equal-is m 3
+takes-is rules m AuthorizeRequest = equal-is m 3
+takes-is rules m KeyWrite = equal-is m 3
+takes-is rules m Restart = equal-is m 3
 takes-is rules m IndividualAddressResponse = no-mode
 takes-is rules m SerialNumberResponse = no-mode
 takes-is rules m DeviceDescriptorResponse = no-mode

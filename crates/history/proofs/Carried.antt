@@ -2,13 +2,9 @@
 -- Assumes nothing.
 use Prim.Native.Nat.{ℕ, _+_, _<_}
 use mathlib.Core.Path.{_≡_}
-use mathlib.Core.Bool.{true}
 use mathlib.Core.List.{List}
 use lib.ListN.{length, length-drop}
 use native.Mathlib.Omega.{arith}
-use Rattle.pdu.specs.Table.{rowOf, has}
-use Rattle.pdu.specs.Pdus.{serviceOf}
-use Rattle.pdu.specs.Rules.{codeOf}
 use Rattle.pdu.specs.Read.{readPdu, dataOf}
 use Rattle.pdu.specs.Allows.{Carries}
 use Rattle.pdu.proofs.Outcomes.{reads-pdu}
@@ -20,10 +16,6 @@ use Rattle.device.specs.Octets.{Octets}
 module _ (a : List ℕ) (small : Octets a) where
   carries : {p : Pdu} → readPdu a ≡ Is p → Carries a p
   carries {p} e = reads-pdu a p small .0 e
-
-  -- the code is one of the service's
-  pub code-has : {p : Pdu} → readPdu a ≡ Is p → has (rowOf (serviceOf p)) (codeOf a) ≡ true
-  code-has e = carries e .code
 
   pub property-id : {object id n s : ℕ} → readPdu a ≡ Is (PropertyValueWrite object id n s) → id < 256
   property-id e = carries e .allowed .fields .1 .0

@@ -21,7 +21,6 @@ use Rattle.sheet.proofs.Good.{accepted}
 use Rattle.sheet.proofs.Keys.{key-once}
 use Rattle.sheet.proofs.Sames.{count-same, group-same}
 use Rattle.pdu.specs.declared.Pdu.{Pdu}
-use Rattle.octets.proofs.Truths.{never}
 use Rattle.device.specs.Octets.{Octets}
 use Rattle.device.specs.Events.{Event, State}
 use Rattle.device.specs.Asked.{Asked, Reads, given}
@@ -29,7 +28,6 @@ use Rattle.device.specs.GroupsDue.{Group, Brings, write, response, Flag}
 use Rattle.history.specs.Wish.{Wish, wishOf, asks}
 use Rattle.history.specs.Wish as wish
 use Rattle.history.specs.Span.{all}
-use Rattle.history.specs.Permit.{allowed}
 use Rattle.history.specs.History.{First, permitted}
 use Rattle.history.specs.Others.{groupByte, newValue}
 use Rattle.history.specs.Keeps.{Begins, Writing}
@@ -38,10 +36,10 @@ use Rattle.history.proofs.Bools.{all-at, must-fail}
 use Rattle.history.proofs.Carried.{write-value, response-value}
 use Rattle.history.proofs.Framed.{below-same}
 use Rattle.history.proofs.Hearing.{asks-is, brings-is}
-use Rattle.history.proofs.Invariant.{Inv, fine, now, means-as}
+use Rattle.history.proofs.Invariant.{Inv, fine, now}
 use Rattle.history.proofs.Means.{store-group}
 use Rattle.history.proofs.Octet.{octets-bytes, octets-data}
-use Rattle.history.proofs.Requests.{E, Ok, Done, opens-same, levels-same, programs-same, addresses-same, values-new, contents-same, forbidden, left}
+use Rattle.history.proofs.Requests.{E, Ok, Done, opens-same, levels-same, programs-same, addresses-same, values-new, unwritten, left, aside}
 use Rattle.history.proofs.Writes.{heard-now}
 
 -- what a PDU brings is what it asks for
@@ -82,8 +80,7 @@ module _ (f : First) (b : Begins f) (h : List Event) (x : State) (inv : Inv f h 
         (λ n. let w = brings-wish q in let z : _≡_ {A = ℕ} 0 1 = cc in omega arith)
 
     none : permitted f h (E f h mode g a out) ≡ false
-    unfolding allowed
-    none = forbidden f h mode g a out W e refl
+    none = unwritten f h mode g a out W e (λ z. z)
 
     -- the test of the history, and what it says
     Tests : ℕ → List Bool
@@ -169,21 +166,13 @@ module _ (f : First) (b : Begins f) (h : List Event) (x : State) (inv : Inv f h 
           (record { outcome = c; answer = answer; session = x .session; sheet = splice (x .sheet) (group.offset of entry (x .sheet) groups i) ds })
       unfolding bodyAt bodyEnd
       stored-at ds size small fit same c answer =
-          record {
-            next =
-                record {
-                  session = inv .session ∙ sym (opens-same f h mode g a out W e refl);
-                  rights = inv .rights ∙ sym (levels-same f h mode g a out W e (λ k l. refl));
-                  means =
-                      rw (group-same (inv .means .agree) i group.offset there (omega arith))
-                      (means-as
-                      (store-group (fine inv b) (inv .means) i there ds (omega (arith, size, field-now i there .2)) (groupByte f (E f h mode g a out ∷ h)) here away fit small)
-                      (λ y. sym (contents-same f h (E f h mode g a out) none y)) (sym (addresses-same f h mode g a out W e (λ m s v. refl)))
-                      (sym (programs-same f h mode g a out W e refl)) (λ i j l. refl));
-                };
-            only = λ z. absurd (subst Writing e (z .writing));
-            all = λ z. never (sym none ∙ z);
-          }
+          aside f h mode g a out x inv W e (λ z. z) _
+          (inv .session ∙ sym (opens-same f h mode g a out W e refl))
+          (inv .rights ∙ sym (levels-same f h mode g a out W e (λ k l. refl)))
+          (rw (group-same (inv .means .agree) i group.offset there (omega arith)) (store-group (fine inv b) (inv .means) i there ds (omega (arith, size, field-now i there .2)) (groupByte f (E f h mode g a out ∷ h)) here away fit small))
+          (sym (addresses-same f h mode g a out W e (λ m s v. refl)))
+          (sym (programs-same f h mode g a out W e refl))
+          (λ i j l. refl)
         where
           here : (j : ℕ) → j < length ds → groupByte f (E f h mode g a out ∷ h) i j ≡ getD ds j 0
           here j l = new-is i j ∙ rw (test-is i there .1 (m, n, o)) (same j l)

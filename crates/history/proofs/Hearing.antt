@@ -4,9 +4,8 @@ use Prim.Native.Nat.{ℕ}
 use mathlib.Core.Path.{_≡_, refl, _∙_}
 use mathlib.Core.Logic.{_⊎_, inl, inr, _↔_}
 use mathlib.Core.Bool.{Bool, true, false, _||_, not}
-use mathlib.Core.List.{List, [], _∷_}
-use lib.Dec.{eqb, leb}
-use lib.ListN.{length}
+use mathlib.Core.List.{List}
+use lib.Dec.{eqb}
 use borrow.Author.Tests.{leb-true, le-leb, eqb-true, eq-eqb}
 use Rattle.sheet.specs.Head.{rulesOf}
 use Rattle.sheet.specs.Rules.{ruleOf}
@@ -16,11 +15,11 @@ use Rattle.pdu.specs.declared.Parsed.{Parsed}
 use Rattle.pdu.specs.declared.Parsed.the-variants.{Is, Refused}
 use Rattle.pdu.specs.declared.Pdu.{Pdu}
 use Rattle.pdu.specs.declared.Pdu.the-variants.{GroupValueRead, GroupValueResponse, GroupValueWrite, IndividualAddressWrite, IndividualAddressRead, SerialNumberRead, SerialNumberWrite, DeviceDescriptorRead, PropertyValueRead, PropertyValueWrite, PropertyDescriptionRead, MemoryRead, MemoryWrite, MemoryBitWrite, AuthorizeRequest, KeyWrite, Restart, IndividualAddressResponse, SerialNumberResponse, DeviceDescriptorResponse, PropertyValueResponse, PropertyDescriptionResponse, MemoryResponse, AuthorizeResponse, KeyResponse}
-use Rattle.octets.proofs.Truths.{never, decided}
+use Rattle.octets.proofs.Truths.{never, decided, equal-is}
 use Rattle.judge.specs.Session.{connected}
 use Rattle.device.specs.Events.{State}
 use Rattle.device.specs.Asked.{Takes, Ready, Reads}
-use Rattle.device.proofs.Taking.{one-mode, two-modes}
+use Rattle.device.proofs.Taking.{two-modes}
 use Rattle.history.specs.Wish.{Wish, wishOf, nothing, asks, brings, taken}
 use Rattle.history.specs.Permit.{checks, heard}
 use Rattle.history.specs.Rightful.{asked}
@@ -46,22 +45,22 @@ Idle p = wishOf p ≡ nothing
 
 taken-is : (rules : ℕ) (p : Pdu) (m : ℕ) → Idle p ⊎ ((taken rules (wishOf p) m ≡ true) ↔ Takes rules (serviceOf p) m)
 taken-is rules GroupValueRead m = inl refl
-taken-is rules (GroupValueResponse v) m = inr (one-mode m 0)
-taken-is rules (GroupValueWrite v) m = inr (one-mode m 0)
-taken-is rules (IndividualAddressWrite v) m = inr (one-mode m 1)
+taken-is rules (GroupValueResponse v) m = inr (equal-is m 0)
+taken-is rules (GroupValueWrite v) m = inr (equal-is m 0)
+taken-is rules (IndividualAddressWrite v) m = inr (equal-is m 1)
 taken-is rules IndividualAddressRead m = inl refl
 taken-is rules (SerialNumberRead n) m = inl refl
-taken-is rules (SerialNumberWrite n v) m = inr (one-mode m 1)
+taken-is rules (SerialNumberWrite n v) m = inr (equal-is m 1)
 taken-is rules (DeviceDescriptorRead t) m = inl refl
 taken-is rules (PropertyValueRead o i n s) m = inl refl
 taken-is rules (PropertyValueWrite o i n s) m = inr (two-modes m 2 3)
 taken-is rules (PropertyDescriptionRead o i n) m = inl refl
 taken-is rules (MemoryRead n y) m = inl refl
-taken-is rules (MemoryWrite n y) m = inr (one-mode m 3)
-taken-is rules (MemoryBitWrite n y) m = inr (one-mode m 3)
-taken-is rules (AuthorizeRequest n) m = inr (one-mode m 3)
-taken-is rules (KeyWrite l n) m = inr (one-mode m 3)
-taken-is rules Restart m = inr (one-mode m 3)
+taken-is rules (MemoryWrite n y) m = inr (equal-is m 3)
+taken-is rules (MemoryBitWrite n y) m = inr (equal-is m 3)
+taken-is rules (AuthorizeRequest n) m = inr (equal-is m 3)
+taken-is rules (KeyWrite l n) m = inr (equal-is m 3)
+taken-is rules Restart m = inr (equal-is m 3)
 taken-is rules IndividualAddressResponse m = inl refl
 taken-is rules (SerialNumberResponse n d) m = inl refl
 taken-is rules (DeviceDescriptorResponse t) m = inl refl

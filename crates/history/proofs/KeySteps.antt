@@ -2,7 +2,6 @@
 -- Assumes nothing.
 use Prim.Native.Nat.{ℕ, _+_, _*_, _<_}
 use mathlib.Core.Path.{_≡_, refl, sym, _∙_}
-use mathlib.Core.Bool.{false}
 use mathlib.Core.List.{List, _∷_}
 use lib.ListN.{length, getD}
 use native.Mathlib.Omega.{arith}
@@ -20,19 +19,18 @@ use Rattle.device.specs.Asked.{Asked, Reads, given}
 use Rattle.device.specs.KeysDue.{KeyWritable, Grants, key0, key1, key2, other}
 use Rattle.history.specs.Location.{key}
 use Rattle.history.specs.Wish.{Wish, writeKey, offerKey, asks}
-use Rattle.history.specs.Permit.{allowed, spans}
-use Rattle.history.specs.History.{First, keyIn, offered, level, keys, content, permitted}
+use Rattle.history.specs.Permit.{spans}
+use Rattle.history.specs.History.{First, keyIn, offered, level, keys, content}
 use Rattle.history.specs.Keeps.{Begins, Succeeds}
 use Rattle.history.specs.Rightful.{asked}
 use Rattle.history.proofs.Hearing.{asks-is}
-use Rattle.history.proofs.Invariant.{Inv, fine, now, means-as}
+use Rattle.history.proofs.Invariant.{Inv, fine, now}
 use Rattle.history.proofs.KeyRun.{key-place, key-run}
 use Rattle.history.proofs.Means.{long, store-span}
 use Rattle.history.proofs.Octet.{octets-bytes}
 use Rattle.history.proofs.Permits.{key-is}
-use Rattle.history.proofs.Requests.{Done, opens-same, levels-new, programs-same, addresses-same, values-same, contents-same, forbidden}
+use Rattle.history.proofs.Requests.{Done, opens-same, levels-new, programs-same, addresses-same, values-same, aside}
 use Rattle.history.proofs.Writes.{heard-now, carried-out, denied}
-use Rattle.octets.proofs.Truths.{never}
 
 -- the level that a number gets is the one that the keys grant
 granted : (s : List ℕ) (now : ℕ → ℕ) (number before : ℕ) → now 0 ≡ head.key 0 of s → now 1 ≡ head.key 1 of s → now 2 ≡ head.key 2 of s →
@@ -90,30 +88,20 @@ module _ (f : First) (b : Begins f) (h : List Event) (x : State) (inv : Inv f h 
       (number l : ℕ) → Reads R (AuthorizeRequest number) → Grants (x .sheet) number l → (k : ℕ) (answer : List ℕ) →
       Done f h mode g a out
       (record { outcome = k; answer = answer; session = record { opened = x .session .opened; level = l }; sheet = x .sheet })
-  unfolding allowed
   authorized number l r q k answer =
-      record {
-        next =
-            record {
-              session = inv .session ∙ sym (opens-same f h mode g a out w e refl);
-              rights = granted (x .sheet) (keys f h) number (level f h) (key-now 0 (omega arith)) (key-now 1 (omega arith)) (key-now 2 (omega arith)) q ∙ sym new;
-              means =
-                  means-as (inv .means) (λ y. sym (contents-same f h (request mode g a out) none y))
-                  (sym (addresses-same f h mode g a out w e (λ m s v. refl))) (sym (programs-same f h mode g a out w e refl))
-                  (λ i j m. sym (values-same f h mode g a out w e (λ n k d j v. refl) i j));
-            };
-        only = λ c. absurd (rw e at (c .writing));
-        all = λ p. never (sym none ∙ p);
-      }
+      aside f h mode g a out x inv w e (λ z. z) _
+      (inv .session ∙ sym (opens-same f h mode g a out w e refl))
+      (granted (x .sheet) (keys f h) number (level f h) (key-now 0 (omega arith)) (key-now 1 (omega arith)) (key-now 2 (omega arith)) q ∙ sym new)
+      (inv .means)
+      (sym (addresses-same f h mode g a out w e (λ m s v. refl)))
+      (sym (programs-same f h mode g a out w e refl))
+      (λ i j m. sym (values-same f h mode g a out w e (λ n k d j v. refl) i j))
     where
       w : Wish
       w = offerKey number
 
       e : asks a ≡ w
       e = asks-is a (AuthorizeRequest number) (r .reads)
-
-      none : permitted f h (request mode g a out) ≡ false
-      none = forbidden f h mode g a out w e refl
 
       new : level f (request mode g a out ∷ h) ≡ offered (keys f h) (level f h) w
       new =

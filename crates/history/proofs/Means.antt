@@ -1,6 +1,6 @@
 -- What a sheet means, its places being those of the first sheet f: what the locations, the address, the flags and the group objects hold. And what each kind of store makes of it.
 -- Assumes nothing.
-use Prim.Native.Nat.{ℕ, _+_, _/_, _%_, _<_, _≤_}
+use Prim.Native.Nat.{ℕ, _+_, _/_, _%_, _^_, _<_, _≤_}
 use mathlib.Core.Path.{_≡_, sym, ap, subst, _∙_}
 use mathlib.Core.Logic.{_⊎_, inl, inr}
 use mathlib.Core.Bool.{cond}
@@ -13,7 +13,7 @@ use Rattle.octets.specs.Splice.{splice}
 use Rattle.octets.proofs.Numbers.{num-same, length-bytes}
 use Rattle.octets.proofs.Splices.{splice-in, splice-outside, splice-num, splice-num-outside}
 use Rattle.sheet.specs.Kind.{groups}
-use Rattle.sheet.specs.Layout.{_of_}
+use Rattle.sheet.specs.Layout.{Field, _of_}
 use Rattle.sheet.specs.Head as head
 use Rattle.sheet.specs.Entries.{count, bodyAt, bodyEnd, InBody}
 use Rattle.sheet.specs.Frame.{Agree}
@@ -79,71 +79,68 @@ module _ {f : List ℕ} (g : Good 1 f) {c : Location → ℕ} {adr prog : ℕ} {
       early q w h =
           num-same (splice s o ds) s q q w (λ i l. spare (q + i) (λ x k. omega (arith, place-after g k)))
 
+  -- A NUMBER OF THE HEAD, before the keys
+  module _ (n : Field) (v : ℕ) (low : v < 256 ^ n .width) (early : n .at + n .width ≤ (head.key 0) .at) where
+    abbrev New : List ℕ
+    New = splice s (n .at) (bytesOf (n .width) v)
+
+    size : length (bytesOf (n .width) v) ≡ n .width
+    size = length-bytes (n .width) v
+
+    room : n .at + length (bytesOf (n .width) v) ≤ length s
+    room = omega (arith, size, long)
+
+    it-is : n of New ≡ v
+    it-is = splice-num s (n .at) (n .width) v (omega (arith, long)) low
+
+    other-field : (k : Field) → (k .at + k .width ≤ n .at) ⊎ (n .at + n .width ≤ k .at) → k of New ≡ k of s
+    other-field k (inl h) = splice-num-outside s (n .at) _ room (k .at) (k .width) (inl h)
+    other-field k (inr h) = splice-num-outside s (n .at) _ room (k .at) (k .width) (inr (omega (arith, size)))
+
+    off : (p : ℕ) → (p < n .at) ⊎ (n .at + n .width ≤ p) → getD New p 0 ≡ getD s p 0
+    off p (inl h) = splice-outside s (n .at) _ room p (inl h)
+    off p (inr h) = splice-outside s (n .at) _ room p (inr (omega (arith, size)))
+
+    store-number :
+        Agree s New → ((p : ℕ) → Still f p → (p < n .at) ⊎ (n .at + n .width ≤ p)) → {adr′ prog′ : ℕ} →
+        head.address of New ≡ adr′ → head.programming New ≡ prog′ → head.verify New ≡ head.verify f → Means f c adr′ prog′ grp New
+    store-number agrees elsewhere addressed programmed verified =
+        record {
+          agree = agree-trans (m .agree) agrees;
+          octets = octets-splice s (n .at) _ room (m .octets) (octets-bytes (n .width) v);
+          holds = λ x p h. off p (inr (omega (arith, place-after g h))) ∙ m .holds x p h;
+          still = λ p h. off p (elsewhere p h) ∙ m .still p h;
+          address = addressed;
+          programming = programmed;
+          verify = verified;
+          group = λ i j h. off _ (inr (omega (arith, past-contents g h))) ∙ m .group i j h;
+        }
+
   -- NEW FLAGS, verify as it was
   pub store-flags :
       (v : ℕ) → v ≤ 3 → v / 2 % 2 ≡ head.verify f → Means f c adr (v % 2) grp (splice s (head.flags .at) (bytesOf 1 v))
   store-flags v low e =
-      record {
-        agree = agree-trans (m .agree) (subst (λ (ds : List ℕ). Agree s (splice s 14 ds)) (one-byte v low) (flags-store 1 (accepted fine) v low));
-        octets = octets-splice s 14 ds room (m .octets) (octets-bytes 1 v);
-        holds = λ x p h. late p (omega (arith, place-after g h)) ∙ m .holds x p h;
-        still = λ p h. off p (h .flags) ∙ m .still p h;
-        address = splice-num-outside s 14 ds room 16 2 (inr (omega (arith, size))) ∙ m .address;
-        programming = ap (λ (n : ℕ). n % 2) flags;
-        verify = ap (λ (n : ℕ). n / 2 % 2) flags ∙ e;
-        group = λ i j h. late _ (omega (arith, past-contents g h)) ∙ m .group i j h;
-      }
-    where
-      ds : List ℕ
-      ds = bytesOf 1 v
-
-      size : length ds ≡ 1
-      size = length-bytes 1 v
-
-      room : 14 + length ds ≤ length s
-      room = omega (arith, size, long)
-
-      flags : head.flags of splice s 14 ds ≡ v
-      flags = splice-num s 14 1 v (omega (arith, long)) (omega arith)
-
-      off : (p : ℕ) → (p ≡ 14 → ⊥) → getD (splice s 14 ds) p 0 ≡ getD s p 0
-      off p h = splice-outside s 14 ds room p (away 14 (length ds) p (λ a b. h (omega (arith, size))))
-
-      late : (p : ℕ) → 15 ≤ p → getD (splice s 14 ds) p 0 ≡ getD s p 0
-      late p h = off p (omega arith)
+      let l : v < 256 ^ 1 = omega arith in
+      let k : 14 + 1 ≤ 18 = omega arith in
+      let new = it-is head.flags v l k in
+      store-number head.flags v l k
+      (subst (λ (ds : List ℕ). Agree s (splice s 14 ds)) (one-byte v low) (flags-store 1 (accepted fine) v low))
+      (λ p h. away 14 1 p (λ a b. h .flags (omega arith)))
+      (other-field head.flags v l k head.address (inr (omega arith)) ∙ m .address)
+      (ap (λ (n : ℕ). n % 2) new)
+      (ap (λ (n : ℕ). n / 2 % 2) new ∙ e)
 
   -- A NEW ADDRESS
   pub store-address : (v : ℕ) → v < 65536 → Means f c v prog grp (splice s (head.address .at) (bytesOf 2 v))
   store-address v low =
-      record {
-        agree = agree-trans (m .agree) (address-store 1 (accepted fine) ds size);
-        octets = octets-splice s 16 ds room (m .octets) (octets-bytes 2 v);
-        holds = λ x p h. late p (place-after g h) ∙ m .holds x p h;
-        still = λ p h. off p (h .address) ∙ m .still p h;
-        address = splice-num s 16 2 v (omega (arith, long)) low;
-        programming = ap (λ (n : ℕ). n % 2) early ∙ m .programming;
-        verify = ap (λ (n : ℕ). n / 2 % 2) early ∙ m .verify;
-        group = λ i j h. late _ (omega (arith, past-contents g h)) ∙ m .group i j h;
-      }
-    where
-      ds : List ℕ
-      ds = bytesOf 2 v
-
-      size : length ds ≡ 2
-      size = length-bytes 2 v
-
-      room : 16 + length ds ≤ length s
-      room = omega (arith, size, long)
-
-      early : head.flags of splice s 16 ds ≡ head.flags of s
-      early = splice-num-outside s 16 ds room 14 1 (inl (omega arith))
-
-      off : (p : ℕ) → (p < 16) ⊎ (16 + 2 ≤ p) → getD (splice s 16 ds) p 0 ≡ getD s p 0
-      off p (inl h) = splice-outside s 16 ds room p (inl h)
-      off p (inr h) = splice-outside s 16 ds room p (inr (omega (arith, size)))
-
-      late : (p : ℕ) → 18 ≤ p → getD (splice s 16 ds) p 0 ≡ getD s p 0
-      late p h = off p (inr (omega arith))
+      let k : 16 + 2 ≤ 18 = omega arith in
+      let flags = other-field head.address v low k head.flags (inl (omega arith)) in
+      store-number head.address v low k
+      (address-store 1 (accepted fine) (bytesOf 2 v) (length-bytes 2 v))
+      (λ p h. h .address)
+      (it-is head.address v low k)
+      (ap (λ (n : ℕ). n % 2) flags ∙ m .programming)
+      (ap (λ (n : ℕ). n / 2 % 2) flags ∙ m .verify)
 
   -- A GROUP VALUE
   module _ (i : ℕ) (below : i < count f groups) (ds : List ℕ) (size : bodyAt f groups i + length ds ≡ bodyEnd f groups i) where

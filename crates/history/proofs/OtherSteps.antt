@@ -14,23 +14,21 @@ use Rattle.sheet.specs.Layout.{_of_}
 use Rattle.sheet.specs.Head as head
 use Rattle.pdu.specs.declared.Pdu.{Pdu}
 use Rattle.pdu.specs.declared.Pdu.the-variants.{IndividualAddressWrite, SerialNumberWrite, Restart}
-use Rattle.octets.proofs.Truths.{never}
 use Rattle.device.specs.Octets.{Octets}
 use Rattle.device.specs.Events.{Event, State}
 use Rattle.device.specs.Asked.{Asked, Reads}
 use Rattle.device.specs.AddressesDue.{Programming}
 use Rattle.history.specs.Wish.{Wish, Other, other, address, addressFor, restart, wishOf, asks}
-use Rattle.history.specs.Permit.{allowed}
 use Rattle.history.specs.History.{First, permitted}
 use Rattle.history.specs.Others.{programming, individual, newAddress, newValue}
 use Rattle.history.specs.Keeps.{Begins, Still}
 use Rattle.history.specs.Rightful.{asked}
 use Rattle.history.proofs.Carried.{address-field, serial-address}
 use Rattle.history.proofs.Hearing.{asks-is}
-use Rattle.history.proofs.Invariant.{Inv, fine, means-as}
+use Rattle.history.proofs.Invariant.{Inv, fine}
 use Rattle.history.proofs.Means.{store-flags, store-address}
 use Rattle.history.proofs.Places.{no-head, past-contents}
-use Rattle.history.proofs.Requests.{E, Ok, Done, opens-same, opens-new, levels-same, levels-new, programs-same, programs-new, addresses-same, addresses-new, values-same, contents-same, forbidden, left}
+use Rattle.history.proofs.Requests.{E, Ok, Done, opens-same, opens-new, levels-same, levels-new, programs-same, programs-new, addresses-same, addresses-new, values-same, unwritten, left, aside}
 use Rattle.history.proofs.Writes.{heard-now}
 
 module _ (f : First) (b : Begins f) (h : List Event) (x : State) (inv : Inv f h x) (mode g : ℕ) (a out : List ℕ) where
@@ -67,27 +65,20 @@ module _ (f : First) (b : Begins f) (h : List Event) (x : State) (inv : Inv f h 
         addresses-new f h mode g a out W e (heard-now f b h x inv mode g a out p r (λ z. let k = sym c ∙ z in let m : _≡_ {A = ℕ} 0 1 = cc in omega arith))
 
     none : permitted f h (E f h mode g a out) ≡ false
-    unfolding allowed
-    none = forbidden f h mode g a out W e refl
+    none = unwritten f h mode g a out W e (λ z. z)
 
     address-new :
         (k : ℕ) (answer : List ℕ) (new : ℕ) → new < 65536 → New ≡ new →
         Done f h mode g a out
         (record { outcome = k; answer = answer; session = x .session; sheet = splice (x .sheet) (head.address .at) (bytesOf 2 new) })
     address-new k answer new low is =
-        record {
-          next =
-              record {
-                session = inv .session ∙ sym (opens-same f h mode g a out W e refl);
-                rights = inv .rights ∙ sym (levels-same f h mode g a out W e (λ k l. refl));
-                means =
-                    means-as (store-address (fine inv b) (inv .means) new low) (λ y. sym (contents-same f h (E f h mode g a out) none y))
-                    (sym (new-is ∙ is)) (sym (programs-same f h mode g a out W e refl))
-                    (λ i j l. sym (values-same f h mode g a out W e q i j));
-              };
-          only = λ z. absurd (rw e at (z .writing));
-          all = λ z. never (sym none ∙ z);
-        }
+        aside f h mode g a out x inv W e (λ z. z) _
+        (inv .session ∙ sym (opens-same f h mode g a out W e refl))
+        (inv .rights ∙ sym (levels-same f h mode g a out W e (λ k l. refl)))
+        (store-address (fine inv b) (inv .means) new low)
+        (sym (new-is ∙ is))
+        (sym (programs-same f h mode g a out W e refl))
+        (λ i j l. sym (values-same f h mode g a out W e q i j))
 
     address-left :
         (k : ℕ) (answer : List ℕ) → New ≡ individual f h →
@@ -148,23 +139,14 @@ module _ (f : First) (b : Begins f) (h : List Event) (x : State) (inv : Inv f h 
         session = record { opened = false; level = 3 };
         sheet = splice (x .sheet) (head.flags .at) (bytesOf 1 (head.verify (x .sheet) * 2));
       })
-  unfolding allowed
   restarted r k answer =
-      record {
-        next =
-            record {
-              session = sym (opens-new f h mode g a out restart asked-so ok);
-              rights = sym (levels-new f h mode g a out restart asked-so ok);
-              means =
-                  means-as (store-flags (fine inv b) (inv .means) v (omega arith) verify)
-                  (λ y. sym (contents-same f h (E f h mode g a out) never-write y))
-                  (sym (addresses-same f h mode g a out restart asked-so (λ m s v. refl)))
-                  (let z : v % 2 ≡ 0 = omega arith in z ∙ sym (programs-new f h mode g a out restart asked-so ok))
-                  (λ i j l. sym (values-same f h mode g a out restart asked-so (λ n k d j v. refl) i j));
-            };
-        only = λ z. absurd (rw asked-so at (z .writing));
-        all = λ z. never (sym never-write ∙ z);
-      }
+      aside f h mode g a out x inv restart asked-so (λ z. z) _
+      (sym (opens-new f h mode g a out restart asked-so ok))
+      (sym (levels-new f h mode g a out restart asked-so ok))
+      (store-flags (fine inv b) (inv .means) v (omega arith) verify)
+      (sym (addresses-same f h mode g a out restart asked-so (λ m s v. refl)))
+      (let z : v % 2 ≡ 0 = omega arith in z ∙ sym (programs-new f h mode g a out restart asked-so ok))
+      (λ i j l. sym (values-same f h mode g a out restart asked-so (λ n k d j v. refl) i j))
     where
       v : ℕ
       v = head.verify (x .sheet) * 2
@@ -174,9 +156,6 @@ module _ (f : First) (b : Begins f) (h : List Event) (x : State) (inv : Inv f h 
 
       ok : Ok f h mode g a out ≡ true
       ok = heard-now f b h x inv mode g a out Restart r (λ q. let z : _≡_ {A = ℕ} 0 1 = cc in omega arith)
-
-      never-write : permitted f h (E f h mode g a out) ≡ false
-      never-write = forbidden f h mode g a out restart asked-so refl
 
       verify : v / 2 % 2 ≡ head.verify (f .sheet)
       verify = let z : v / 2 % 2 ≡ head.verify (x .sheet) = omega arith in z ∙ inv .means .verify

@@ -19,7 +19,7 @@ use Rattle.sheet.specs.Entries.{count, entry}
 use Rattle.sheet.specs.Places.{PropertyWith}
 use Rattle.sheet.proofs.Good.{Good}
 use Rattle.sheet.proofs.Runs.{Covered}
-use Rattle.octets.proofs.Truths.{and-is}
+use Rattle.octets.proofs.Truths.{and-is, or-is}
 use Rattle.device.specs.Octets.{Octets}
 use Rattle.device.specs.Asked.{Asked}
 use Rattle.device.specs.PropertiesDue as properties-due
@@ -30,7 +30,7 @@ use Rattle.device.proofs.Properly.{two-zeros}
 use Rattle.history.specs.Wish.{change, writeMemory, writeBits, writeProperty, writeKey}
 use Rattle.history.specs.Span.{all}
 use Rattle.history.specs.Permit.{every, levelFor, regionFor, mayRead, mayWrite, indexFor, entryFor, clears, fills, allowed}
-use Rattle.history.proofs.Bools.{all-at, every-at, every-all, or-left, or-right, or-cases}
+use Rattle.history.proofs.Bools.{all-at, every-at, every-all}
 use Rattle.history.proofs.Finding.{region-covers, covered-byte, region-hit, may-read, may-write, property-hit, property-found}
 use Rattle.history.proofs.Levels.{acts-once, acts-so}
 
@@ -191,7 +191,7 @@ module _ (x : Asked) (g : Good 1 (x .sheet)) where
           eqb (property.typ of E / 128) 1 ∷ (clears n s d || fills E n s d) ∷ leb L (property.levels of E % 16) ∷ []
 
       on : all Ts ≡ true → WriteAllowed x object id n s d
-      on e = ways (or-cases (clears n s d) (fills E n s d) (all-at Ts e 2))
+      on e = ways (or-is (clears n s d) (fills E n s d) .0 (all-at Ts e 2))
         where
           p : PropertyWith S object id I
           p = property-found S object id small low (ltb-true _ _ (all-at Ts e 0))
@@ -217,6 +217,6 @@ module _ (x : Asked) (g : Good 1 (x .sheet)) where
           rw q (simp (lt-ltb _ _ (w .found .there), eq-eqb _ _ (w .bit7), t, le-leb _ _ r))
 
       back : WriteAllowed x object id n s d → all Ts ≡ true
-      back (properties-due.ofCount i w a b c) = either i w (or-left _ _ (clears-is n s d .1 (a, b, c)))
+      back (properties-due.ofCount i w a b c) = either i w (or-is _ _ .1 (inl (clears-is n s d .1 (a, b, c))))
       back (properties-due.ofElements i w a b) =
-          either i w (or-right (clears n s d) _ (fills-is (entry S properties i) n s d .1 (a, b)))
+          either i w (or-is (clears n s d) _ .1 (inr (fills-is (entry S properties i) n s d .1 (a, b))))

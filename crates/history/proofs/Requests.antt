@@ -1,7 +1,7 @@
 -- What the history says of one more request, by what it asks.
 -- Assumes nothing.
 use Prim.Native.Nat.{ℕ, _<_}
-use mathlib.Core.Path.{_≡_, refl, sym, ap, ap₂, _∙_}
+use mathlib.Core.Path.{_≡_, refl, sym, ap, ap₂, subst, _∙_}
 use mathlib.Core.Bool.{Bool, true, false, cond}
 use mathlib.Core.List.{List, _∷_}
 use Rattle.sheet.specs.Kind.{groups}
@@ -15,15 +15,24 @@ use Rattle.device.specs.Step.{Step}
 use Rattle.device.specs.Events.{Event, State, request}
 use Rattle.history.specs.Location.{Location}
 use Rattle.history.specs.Span.{Span, names, gives}
-use Rattle.history.specs.Wish.{Wish, Change, change, asks, brings}
+use Rattle.history.specs.Wish.{Wish, Change, change, offerKey, restart, other, nothing, asks, brings}
 use Rattle.history.specs.Permit.{heard, levelFor, allowed, spans}
 use Rattle.history.specs.History.{First, wished, supplied, isRestart, offered, opened, level, keys, content, permitted}
 use Rattle.history.specs.Others.{programming, individual, groupByte, newAddress, newValue}
-use Rattle.history.specs.Keeps.{CarriedOut}
+use Rattle.history.specs.Keeps.{Writing, CarriedOut}
 use Rattle.history.proofs.Bools.{and-false, cond-same}
 use Rattle.history.proofs.Invariant.{Inv, means-as}
 use Rattle.history.proofs.Means.{Means}
 use Rattle.history.proofs.Spans.{laid, laid-is}
+
+-- no level allows what is no write
+no-right : (s : List ℕ) (l : ℕ) (d : List ℕ) (w : Wish) → (Writing w → ⊥) → allowed s l d w ≡ false
+unfolding allowed
+no-right s l d (change c) idle = absurd (idle tt)
+no-right s l d (offerKey number) idle = refl
+no-right s l d restart idle = refl
+no-right s l d (other o) idle = refl
+no-right s l d nothing idle = refl
 
 -- contents change by a permitted write alone, and by it they do
 module _ (f : First) (h : List Event) (e : Event) where
@@ -138,6 +147,10 @@ module _ (f : First) (h : List Event) (mode g : ℕ) (a out : List ℕ) where
   unfolding permitted
   permitted-so w e o r = rw (o, e) r
 
+  -- what asks for no write is none
+  pub unwritten : (w : Wish) → asks a ≡ w → (Writing w → ⊥) → permitted f h E ≡ false
+  unwritten w e idle = forbidden w e (no-right _ _ _ w idle)
+
   -- WHAT IS SHOWN OF EVERY REQUEST and the step that it gets
   pub record Done (r : Step) : Type 0 where
     pub next : Inv f (E ∷ h) (record { session = r .session; sheet = r .sheet })
@@ -164,6 +177,25 @@ module _ (f : First) (h : List Event) (mode g : ℕ) (a out : List ℕ) where
           next = next-so same (content f h) (λ y. sym (contents-same f h E e y)) (x .sheet) (inv .means);
           only = λ c. absurd (none c);
           all = λ p. never (sym e ∙ p);
+        }
+
+    -- what asks for no write is carried out: contents stay
+    pub aside :
+        (w : Wish) → asks a ≡ w → (Writing w → ⊥) → (r : Step) → r .session .opened ≡ opened f (E ∷ h) → r .session .level ≡ level f (E ∷ h) →
+        {adr prog : ℕ} {grp : ℕ → ℕ → ℕ} → Means (f .sheet) (content f h) adr prog grp (r .sheet) →
+        adr ≡ individual f (E ∷ h) → prog ≡ programming f (E ∷ h) → ((i j : ℕ) → i < count (f .sheet) groups → grp i j ≡ groupByte f (E ∷ h) i j) →
+        Done r
+    aside w e idle r opens levels m addresses programs values =
+        let none = unwritten w e idle in
+        record {
+          next =
+              record {
+                session = opens;
+                rights = levels;
+                means = means-as m (λ y. sym (contents-same f h E none y)) addresses programs values;
+              };
+          only = λ c. absurd (idle (subst Writing e (c .writing)));
+          all = λ p. never (sym none ∙ p);
         }
 
     -- a write is carried out

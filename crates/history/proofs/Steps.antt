@@ -21,6 +21,7 @@ use Rattle.device.specs.PropertiesDue as properties
 use Rattle.device.specs.MemoryDue as memory
 use Rattle.device.specs.KeysDue as keys
 use Rattle.device.specs.Right.{Right}
+use Rattle.device.proofs.Carried.{late}
 use Rattle.history.specs.Wish.{asks}
 use Rattle.history.specs.Permit.{heard}
 use Rattle.history.specs.History.{First}
@@ -29,7 +30,7 @@ use Rattle.history.specs.Rightful.{asked}
 use Rattle.history.proofs.Hearing.{Idle, asks-is}
 use Rattle.history.proofs.Invariant.{Inv, now-accepted}
 use Rattle.history.proofs.Requests.{Ok, heard-so, Done, unheard-same, unheard-forbidden, left}
-use Rattle.history.proofs.Unheard.{refusal-high, refusal-unheard, nothing-unheard, unread-unheard, unknown-unheard, mode-unheard}
+use Rattle.history.proofs.Unheard.{refusal-unheard, nothing-unheard, unread-unheard, unknown-unheard, mode-unheard}
 use Rattle.history.proofs.MemorySteps.{memory-written, memory-denied, bits-written, bits-denied}
 use Rattle.history.proofs.KeySteps.{key-written, key-denied, authorized}
 use Rattle.history.proofs.PropertySteps.{property-denied, property-cleared, property-written}
@@ -59,9 +60,9 @@ module _ (f : First) (b : Begins f) (h : List Event) (x : State) (inv : Inv f h 
   -- EVERY STEP THAT IS DUE
   pub due : {r : Step} → Right R r → Done f h mode g a out r
   due (right.beforeService {n} q) =
-      unheard (refusal-unheard x mode g a out accepted q) n [] (λ z. omega (arith, z .outcome, refusal-high q))
-  due (right.unknown r q) = unheard (unknown-unheard x mode g a out accepted octets q) 8 [] (λ z. omega (arith, z .outcome))
-  due (right.otherMode k r n s q) = unheard (mode-unheard x mode g a out accepted octets k n q) 9 [] (λ z. omega (arith, z .outcome))
+      unheard (refusal-unheard x mode g a out accepted q) n [] (λ z. omega (arith, z .outcome, late q))
+  due (right.unknown r q) = unheard (unknown-unheard x mode g a out accepted q) 8 [] (λ z. omega (arith, z .outcome))
+  due (right.otherMode k r n s q) = unheard (mode-unheard x mode g a out accepted k n q) 9 [] (λ z. omega (arith, z .outcome))
   due (right.unfit k r n t q) = unheard (unread-unheard x mode g a out accepted 10 q) 10 [] (λ z. omega (arith, z .outcome))
   due (right.groups (groups.groupRead0 i r m n o)) = idle GroupValueRead refl r 0 _
   due (right.groups (groups.groupRead i r m n o)) = idle GroupValueRead refl r 0 _

@@ -11,13 +11,13 @@ use Rattle.sheet.specs.Kind.{regions, properties}
 use Rattle.sheet.specs.Layout.{_of_}
 use Rattle.sheet.specs.Property as property
 use Rattle.sheet.specs.Entries.{count}
-use Rattle.octets.proofs.Truths.{never, and-is}
+use Rattle.octets.proofs.Truths.{never, and-is, or-is}
 use Rattle.history.specs.Location.{Location, memory}
 use Rattle.history.specs.Span.{Span, has, names}
 use Rattle.history.specs.Wish.{Wish, change, writeMemory, writeBits, writeProperty, writeKey, offerKey, restart, other, nothing}
 use Rattle.history.specs.Permit.{every, regionFor, mayRead, mayWrite, indexFor, entryFor, clears, fills, allowed, spans}
 use Rattle.history.specs.Keyless.{writeLevel}
-use Rattle.history.proofs.Bools.{all-at, every-at, or-cases}
+use Rattle.history.proofs.Bools.{all-at, every-at}
 use Rattle.history.proofs.Spans.{on, has-only}
 
 -- what holds of each byte of each span holds of what they name
@@ -28,7 +28,7 @@ Each P (p ∷ ps) = ((j : ℕ) → j < p .long → P (on (p .from) j)) × Each P
 named-each : (P : Location → Type 0) (ps : List Span) → Each P ps → (x : Location) → names ps x ≡ true → P x
 unfolding names
 named-each P [] a x e = never e
-named-each P (p ∷ ps) a x e = go (or-cases (has p x) (names ps x) e) (λ n. named-each P ps (a .1) x n)
+named-each P (p ∷ ps) a x e = go (or-is (has p x) (names ps x) .0 e) (λ n. named-each P ps (a .1) x n)
   where
     go : (has p x ≡ true) ⊎ (names ps x ≡ true) → (names ps x ≡ true → P x) → P x
     go (inl h) r = let b = has-only p x h in subst P (sym (b .0)) (a .0 _ (b .1))

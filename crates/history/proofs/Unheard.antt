@@ -1,6 +1,6 @@
 -- What is refused before its service, and what a history is not concerned with, is not heard.
 -- Assumes nothing.
-use Prim.Native.Nat.{ℕ, _≤_}
+use Prim.Native.Nat.{ℕ}
 use mathlib.Core.Path.{_≡_, sym, subst, _∙_}
 use mathlib.Core.Logic.{inl, inr}
 use mathlib.Core.Bool.{Bool, false}
@@ -8,34 +8,23 @@ use mathlib.Core.List.{List}
 use native.Mathlib.Omega.{arith}
 use Rattle.sheet.specs.Head.{rulesOf}
 use Rattle.sheet.specs.Rules.{ruleOf}
-use Rattle.pdu.specs.Table.{rowOf}
 use Rattle.pdu.specs.Pdus.{serviceOf}
-use Rattle.pdu.specs.Rules.{codeOf}
 use Rattle.pdu.specs.Read.{readPdu}
+use Rattle.pdu.proofs.Readings.{reading}
 use Rattle.pdu.specs.declared.Service.{Service}
 use Rattle.pdu.specs.declared.Pdu.{Pdu}
 use Rattle.pdu.specs.declared.Parsed.the-variants.{Refused}
 use Rattle.octets.proofs.Truths.{never}
-use Rattle.pdu.proofs.Codes.{has-is, codes-apart}
-use Rattle.device.specs.Octets.{Octets}
 use Rattle.device.specs.Events.{State}
 use Rattle.device.specs.Asked.{Asked, Takes, Names, Served, Refusal, noRoom, badSheet, badLength, badMode, noSession, Ready, Reads}
+use Rattle.device.proofs.RequestCases.{found-names, names-once}
 use Rattle.history.specs.Wish.{nothing, asks}
 use Rattle.history.specs.Permit.{heard}
 use Rattle.history.specs.Rightful.{asked}
 use Rattle.history.proofs.Bools.{must-fail}
-use Rattle.history.proofs.Carried.{code-has}
 use Rattle.history.proofs.Hearing.{ready-is, heard-reads, refused-asks}
 
--- a refusal gives 3 or more
-pub refusal-high : {x : Asked} {n : ℕ} → Refusal x n → 3 ≤ n
-refusal-high (noRoom p) = omega arith
-refusal-high (badSheet p q) = omega arith
-refusal-high (badLength p q r) = omega arith
-refusal-high (badMode p q r s t) = omega arith
-refusal-high (noSession p q r s t u) = omega arith
-
--- and is not due where the request is ready
+-- a refusal is not due where the request is ready
 refusal-ready : {x : Asked} {n : ℕ} → Refusal x n → Ready x → ⊥
 refusal-ready (noRoom p) r = omega (arith, r .buffer)
 refusal-ready (badSheet p q) r = q (r .sheet)
@@ -61,26 +50,21 @@ module _ (x : State) (mode g : ℕ) (a out : List ℕ) (accepted : ruleOf (x .sh
   pub unread-unheard : (n : ℕ) → readPdu a ≡ Refused n → Ok ≡ false
   unread-unheard n e = nothing-unheard (refused-asks a n e)
 
-  module _ (octets : Octets a) where
-    -- what is heard has the code of a service that is served
-    names-so : (p : Pdu) → Reads X p → Names X (serviceOf p)
-    names-so p r =
-        let b = has-is (rowOf (serviceOf p)) (codeOf a) .0 (code-has a octets (r .reads)) in
-        record { from = b .0; to = b .1 }
+  -- what is heard has the code of a service that is served
+  names-so : (p : Pdu) → Reads X p → Names X (serviceOf p)
+  names-so p r = found-names X (serviceOf p) (reading a p (r .reads) .names)
 
-    pub unknown-unheard : ((k : Service) → Names X k → Served (rulesOf (x .sheet)) k → ⊥) → Ok ≡ false
-    unknown-unheard none =
-        must-fail Ok
-        (λ e.
-        let q = heard-reads x mode g a out accepted e in
-        none (serviceOf (q .0)) (names-so (q .0) (q .1)) (record { mode = mode; takes = q .1 .takes }))
+  pub unknown-unheard : ((k : Service) → Names X k → Served (rulesOf (x .sheet)) k → ⊥) → Ok ≡ false
+  unknown-unheard none =
+      must-fail Ok
+      (λ e.
+      let q = heard-reads x mode g a out accepted e in
+      none (serviceOf (q .0)) (names-so (q .0) (q .1)) (record { mode = mode; takes = q .1 .takes }))
 
-    pub mode-unheard : (k : Service) → Names X k → (Takes (rulesOf (x .sheet)) k mode → ⊥) → Ok ≡ false
-    mode-unheard k n not-taken =
-        must-fail Ok (λ e. let q = heard-reads x mode g a out accepted e in clash (q .0) (q .1))
-      where
-        clash : (p : Pdu) → Reads X p → ⊥
-        clash p r =
-            let s : serviceOf p ≡ k =
-            codes-apart (codeOf a) (serviceOf p) k (code-has a octets (r .reads)) (has-is (rowOf k) (codeOf a) .1 (n .from, n .to)) in
-            not-taken (subst (λ (j : Service). Takes (rulesOf (x .sheet)) j mode) s (r .takes))
+  pub mode-unheard : (k : Service) → Names X k → (Takes (rulesOf (x .sheet)) k mode → ⊥) → Ok ≡ false
+  mode-unheard k n not-taken =
+      must-fail Ok
+      (λ e.
+      let q = heard-reads x mode g a out accepted e in
+      not-taken
+      (subst (λ (j : Service). Takes (rulesOf (x .sheet)) j mode) (names-once X (serviceOf (q .0)) k (names-so (q .0) (q .1)) n) (q .1 .takes)))
