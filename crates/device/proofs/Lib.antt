@@ -11,7 +11,7 @@ pub mod Safe
 pub mod Bits
 pub mod Runs
 pub mod Sent
-pub mod Levels
+pub mod Acts
 pub mod Flags
 pub mod Stepped
 pub mod RightGroups
@@ -38,11 +38,11 @@ pub mod Append
 pub mod Agreeing
 pub mod Keeping
 pub mod Stays
-pub mod Carried
+pub mod WasReady
 pub mod Backs
-pub mod FoundProperties
+pub mod ReadBackProperties
 pub mod FoundMemory
-pub mod Found
+pub mod ReadBack
 pub mod Unseen
 pub mod NoBody
 pub mod WrongSteps

@@ -20,7 +20,7 @@ use Rattle.judge.proofs.KeyCases.{keyed, grant-cases, key-write-cases, key-writ
 use Rattle.device.specs.Step.{Step, stepBy}
 use Rattle.device.specs.Asked.{Asked, says, saysAfter, Reads, given}
 use Rattle.device.specs.KeysDue.{KeysDue, Grants, key0, key1, key2, other, KeyWritable, authorize, keyWrite, noKeyWrite, restart}
-use Rattle.device.proofs.Levels.{acts, acts-at}
+use Rattle.device.proofs.Acts.{acts, acts-at}
 use Rattle.device.proofs.Flags.{verify-left}
 use Rattle.device.proofs.Stepped.{step, step-read}
 

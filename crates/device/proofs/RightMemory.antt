@@ -25,7 +25,7 @@ use Rattle.device.specs.Asked.{part}
 use Rattle.device.specs.MemoryDue.{MemoryDue, InRegion, memoryAt, MemoryReadable, MemoryWritable, BitsWritable, memoryRead, noMemoryRead, memoryWriteVerified, memoryWrite, noMemoryWriteVerified, noMemoryWrite, bitWriteVerified, bitWrite, noBitWriteVerified, noBitWrite}
 use Rattle.device.proofs.Given.{memory-data}
 use Rattle.device.proofs.Changes.{Change, right-change}
-use Rattle.device.proofs.Levels.{acts, acts-at}
+use Rattle.device.proofs.Acts.{acts, acts-at}
 use Rattle.device.proofs.Bits.{length-build, combined}
 use Rattle.device.proofs.Stepped.{step, step-read}
 

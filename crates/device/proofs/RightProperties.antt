@@ -23,7 +23,7 @@ use Rattle.device.specs.Step.{stepBy}
 use Rattle.device.specs.Asked.{Asked, says, saysAfter, Reads, given}
 use Rattle.device.specs.Asked.{part}
 use Rattle.device.specs.PropertiesDue.{PropertiesDue, Elements, elementAt, Readable, ReadAllowed, Writable, WriteAllowed, propertyCount, propertyRead, noPropertyRead, propertyClear, propertyWrite, noPropertyWrite}
-use Rattle.device.proofs.Levels.{acts, acts-at}
+use Rattle.device.proofs.Acts.{acts, acts-at}
 use Rattle.device.proofs.Properly.{keyed, unkeyed, read-id, write-id, two-zeros}
 use Rattle.device.proofs.Stepped.{step, step-read}
 

@@ -33,7 +33,7 @@ use Rattle.history.specs.Others.{groupByte, newValue}
 use Rattle.history.specs.Keeps.{Begins, Writing}
 use Rattle.history.specs.Rightful.{asked}
 use Rattle.history.proofs.Bools.{all-at, must-fail}
-use Rattle.history.proofs.Carried.{write-value, response-value}
+use Rattle.history.proofs.RequestFields.{write-value, response-value}
 use Rattle.history.proofs.Framed.{below-same}
 use Rattle.history.proofs.Hearing.{asks-is, brings-is}
 use Rattle.history.proofs.Invariant.{Inv, fine, now}

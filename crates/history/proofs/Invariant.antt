@@ -21,7 +21,7 @@ use Rattle.history.specs.Permit.{entryFor}
 use Rattle.history.specs.History.{First, firstOf, opened, level, content}
 use Rattle.history.specs.Others.{programming, individual, groupByte}
 use Rattle.history.specs.Keeps.{Begins}
-use Rattle.history.proofs.Finding.{region-hit, property-hit}
+use Rattle.history.proofs.Searches.{region-hit, property-hit}
 use Rattle.device.proofs.Agreeing.{agree-refl}
 use Rattle.history.proofs.Means.{Means, store-flags}
 

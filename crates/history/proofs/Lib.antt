@@ -14,13 +14,13 @@ pub mod Refuted
 pub mod Bools
 pub mod Spans
 pub mod Octet
-pub mod Carried
+pub mod RequestFields
 -- of what is heard, found, allowed:
 pub mod Hearing
 pub mod Unheard
-pub mod Finding
+pub mod Searches
 pub mod Framed
-pub mod Levels
+pub mod LevelFor
 pub mod Permits
 -- of a sheet after a store:
 pub mod Stored

@@ -28,7 +28,7 @@ use Rattle.history.specs.History.{First, content}
 use Rattle.history.specs.Others.{programming, individual, groupByte}
 use Rattle.history.specs.Keeps.{Begins, Succeeds}
 use Rattle.history.specs.Rightful.{asked}
-use Rattle.history.proofs.Carried.{memory-data}
+use Rattle.history.proofs.RequestFields.{memory-data}
 use Rattle.history.proofs.Framed.{covered-same, below-same}
 use Rattle.history.proofs.Invariant.{Inv, fine, now}
 use Rattle.history.proofs.Means.{Means, store-span}

@@ -23,7 +23,7 @@ use Rattle.history.specs.History.{First, permitted}
 use Rattle.history.specs.Others.{programming, individual, newAddress, newValue}
 use Rattle.history.specs.Keeps.{Begins, Still}
 use Rattle.history.specs.Rightful.{asked}
-use Rattle.history.proofs.Carried.{address-field, serial-address}
+use Rattle.history.proofs.RequestFields.{address-field, serial-address}
 use Rattle.history.proofs.Hearing.{asks-is}
 use Rattle.history.proofs.Invariant.{Inv, fine}
 use Rattle.history.proofs.Means.{store-flags, store-address}

@@ -31,8 +31,8 @@ use Rattle.history.specs.Wish.{change, writeMemory, writeBits, writeProp
 use Rattle.history.specs.Span.{all}
 use Rattle.history.specs.Permit.{every, levelFor, regionFor, mayRead, mayWrite, indexFor, entryFor, clears, fills, allowed}
 use Rattle.history.proofs.Bools.{all-at, every-at, every-all}
-use Rattle.history.proofs.Finding.{region-covers, covered-byte, region-hit, may-read, may-write, property-hit, property-found}
-use Rattle.history.proofs.Levels.{acts-once, acts-so}
+use Rattle.history.proofs.Searches.{region-covers, covered-byte, region-hit, may-read, may-write, property-hit, property-found}
+use Rattle.history.proofs.LevelFor.{acts-once, acts-so}
 
 -- the two ways to write a property
 clears-is : (n s : ℕ) (d : List ℕ) → (clears n s d ≡ true) ↔ ((s ≡ 0) × (n ≡ 1) × (d ≡ 0 ∷ 0 ∷ []))

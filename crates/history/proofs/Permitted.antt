@@ -22,7 +22,7 @@ use Rattle.history.specs.Wish.{nothing, wishOf, asks, brings}
 use Rattle.history.specs.Permit.{levelFor, heard, allowed}
 use Rattle.history.specs.History.{permits}
 use Rattle.history.specs.Rightful.{asked}
-use Rattle.history.proofs.Carried.{property-id}
+use Rattle.history.proofs.RequestFields.{property-id}
 use Rattle.history.proofs.Hearing.{asks-is, brings-is, heard-reads, reads-heard}
 use Rattle.history.proofs.Permits.{memory-is, bits-is, property-is, key-is}
 

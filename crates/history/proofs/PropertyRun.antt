@@ -16,7 +16,7 @@ use Rattle.sheet.specs.Places.{PropertyWith}
 use Rattle.sheet.proofs.Good.{Good}
 use Rattle.history.specs.Location.{body, counter, Place, ofBody, ofCounter}
 use Rattle.history.specs.Permit.{entryFor, countTo}
-use Rattle.history.proofs.Finding.{property-hit}
+use Rattle.history.proofs.Searches.{property-hit}
 use Rattle.history.proofs.Stored.{Run}
 
 -- t elements before, n elements, of z bytes each, at most m in all

@@ -39,7 +39,7 @@ use Rattle.history.specs.History.{First, content}
 use Rattle.history.specs.Others.{programming, individual, groupByte}
 use Rattle.history.specs.Keeps.{Begins, Succeeds}
 use Rattle.history.specs.Rightful.{asked}
-use Rattle.history.proofs.Carried.{property-id}
+use Rattle.history.proofs.RequestFields.{property-id}
 use Rattle.history.proofs.Framed.{is-same}
 use Rattle.history.proofs.Invariant.{Inv, fine, now}
 use Rattle.history.proofs.Means.{Means, store-span}

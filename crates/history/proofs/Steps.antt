@@ -21,7 +21,7 @@ use Rattle.device.specs.PropertiesDue as properties
 use Rattle.device.specs.MemoryDue as memory
 use Rattle.device.specs.KeysDue as keys
 use Rattle.device.specs.Right.{Right}
-use Rattle.device.proofs.Carried.{late}
+use Rattle.device.proofs.WasReady.{late}
 use Rattle.history.specs.Wish.{asks}
 use Rattle.history.specs.Permit.{heard}
 use Rattle.history.specs.History.{First}

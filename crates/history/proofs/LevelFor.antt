@@ -4,7 +4,7 @@ use Prim.Native.Nat.{ℕ}
 use mathlib.Core.Path.{_≡_, refl, sym, subst, _∙_}
 use Rattle.judge.specs.Session.{levelOf, levelIn}
 use Rattle.device.specs.Asked.{Asked, Acts}
-use Rattle.device.proofs.Levels.{acts, acts-is}
+use Rattle.device.proofs.Acts.{acts, acts-is}
 use Rattle.history.specs.Permit.{levelFor}
 
 module _ (x : Asked) where

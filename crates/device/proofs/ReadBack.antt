@@ -10,8 +10,8 @@ use Rattle.device.specs.PropertiesDue.{Readable}
 use Rattle.device.specs.MemoryDue.{MemoryReadable}
 use Rattle.device.specs.Next.{Confirmed, Next, SameAnswer}
 use Rattle.device.proofs.RightMemory.{writing, bit-writing}
-use Rattle.device.proofs.Carried.{carried, ready-next}
-use Rattle.device.proofs.FoundProperties.{property-same-answer}
+use Rattle.device.proofs.WasReady.{carried, ready-next}
+use Rattle.device.proofs.ReadBackProperties.{property-same-answer}
 use Rattle.device.proofs.FoundMemory.{memory-same-answer}
 
 either-low : {m : ℕ} → (m ≡ 2) ⊎ (m ≡ 3) → m ≤ 3
