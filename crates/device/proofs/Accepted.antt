@@ -7,20 +7,19 @@ use lib.ListN.{length}
 use native.Mathlib.Nat.{mul-le-mul-right}
 use native.Mathlib.Omega.{arith}
 use Rattle.octets.specs.Bytes.{numAt}
-use Rattle.sheet.specs.Kind.{regions, properties, groups}
+use Rattle.sheet.specs.Kind.{properties, groups}
 use Rattle.sheet.specs.Layout.{_of_}
 use Rattle.sheet.specs.Region as region
 use Rattle.sheet.specs.Property as property
 use Rattle.sheet.specs.Group as group
 use Rattle.sheet.specs.Entries.{count, place, entry, bodyAt, bodyEnd}
-use Rattle.sheet.specs.Rules.{entryDemands, bodyDemands}
+use Rattle.sheet.specs.Rules.{entryDemands, bodyDemands, edition}
 use Rattle.sheet.proofs.Good.{Good}
 use Rattle.sheet.proofs.Lie.{within}
 use Rattle.sheet.proofs.Standing.{place-in}
 use Rattle.sheet.proofs.Ties.{six-to}
-use Rattle.sheet.proofs.Runs.{Covered}
 
-module _ {s : List ℕ} (ok : Good 1 s) where
+module _ {s : List ℕ} (ok : Good edition s) where
   pub long : 32 ≤ length s
   long = ok .framed .0
 
@@ -61,8 +60,3 @@ module _ {s : List ℕ} (ok : Good 1 s) where
     -- the count in the entry
     pub count-within : place s properties i + 6 + 2 ≤ length s
     count-within = omega (arith, place-in s properties i (omega arith) h, ok .framed)
-
-  module _ (a n i : ℕ) (c : Covered s regions i a n) where
-    pub memory-within : region.offset of entry s regions i + (a - region.address of entry s regions i) + n ≤ length s
-    unfolding bodyEnd
-    memory-within = omega (arith, c, within ok regions i (omega arith) (c .below))

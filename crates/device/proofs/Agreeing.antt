@@ -8,20 +8,19 @@ use native.Mathlib.Nat.{mul-le-mul-right}
 use native.Mathlib.Omega.{arith}
 use Rattle.octets.specs.Bytes.{bytesOf}
 use Rattle.octets.specs.Splice.{splice}
-use Rattle.sheet.specs.Kind.{regions, properties, groups}
+use Rattle.sheet.specs.Rules.{edition}
+use Rattle.sheet.specs.Kind.{properties, groups}
 use Rattle.sheet.specs.Layout.{_of_}
 use Rattle.sheet.specs.Property as property
 use Rattle.sheet.specs.Group as group
 use Rattle.sheet.specs.Entries.{count, place, entry, bodyAt, bodyEnd}
 use Rattle.sheet.specs.Frame.{Agree}
 use Rattle.sheet.proofs.Good.{Good, accepted}
-use Rattle.sheet.proofs.Runs.{Covered}
 use Rattle.sheet.proofs.Sames.{count-same, place-same, property-same}
 use Rattle.sheet.proofs.Frames.{agree-trans, kept}
 use Rattle.sheet.proofs.Stores.{body-store}
 use Rattle.sheet.proofs.Counts.{count-store}
 use Rattle.judge.proofs.PropertyCases.{Among}
-use Rattle.judge.proofs.MemoryCases.{spot}
 
 -- a sheet agrees with itself
 pub agree-refl : (s : List ℕ) → Agree s s
@@ -38,22 +37,15 @@ agree-refl s =
       six = λ i h c. (λ l. l, λ l. l);
     }
 
-module _ {s : List ℕ} (ok : Good 1 s) where
-  -- a store in a region's body, in a group object's, in a property's, and of a property's count
-  pub memory-keeps : (a n i : ℕ) (ds : List ℕ) → length ds ≡ n → Covered s regions i a n → Agree s (splice s (spot s regions a i) ds)
-  unfolding bodyAt bodyEnd
-  memory-keeps a n i ds e c =
-      body-store 1 (accepted ok) regions i (spot s regions a i) ds
-      (record { kind = omega arith; below = c .below; from = omega arith; to = omega (arith, c) })
-      (λ g. absurd (omega arith))
-
+module _ {s : List ℕ} (ok : Good edition s) where
+  -- a store in a group object's body, in a property's, and of a property's count
   pub group-keeps :
       (i : ℕ) (ds : List ℕ) → i < count s groups → length ds ≤ max 1 (group.code of entry s groups i) →
       (group.code of entry s groups i ≡ 0 → (j : ℕ) → j < length ds → getD ds j 0 < 64) →
       Agree s (splice s (group.offset of entry s groups i) ds)
   unfolding bodyAt bodyEnd
   group-keeps i ds h l f =
-      body-store 1 (accepted ok) groups i (group.offset of entry s groups i) ds
+      body-store edition (accepted ok) groups i (group.offset of entry s groups i) ds
       (record { kind = omega arith; below = h; from = omega arith; to = omega arith })
       (λ g. f)
 
@@ -65,13 +57,13 @@ module _ {s : List ℕ} (ok : Good 1 s) where
   elements-keep i n t ds h a e =
       let z : ℕ = property.element of entry s properties i in
       let u : t - 1 + n ≤ property.maximum of entry s properties i = omega (arith, a) in
-      body-store 1 (accepted ok) properties i (property.offset of entry s properties i + (t - 1) * z) ds
+      body-store edition (accepted ok) properties i (property.offset of entry s properties i + (t - 1) * z) ds
       (record { kind = omega arith; below = h; from = omega arith; to = omega (arith, mul-le-mul-right z u) })
       (λ g. absurd (omega arith))
 
 -- the count of a property after a store that agrees
 pub count-keeps :
-    {s s′ : List ℕ} → Good 1 s → Agree s s′ → (i c : ℕ) → i < count s properties → c ≤ property.maximum of entry s properties i →
+    {s s′ : List ℕ} → Good edition s → Agree s s′ → (i c : ℕ) → i < count s properties → c ≤ property.maximum of entry s properties i →
     Agree s (splice s′ (place s properties i + 6) (bytesOf 2 c))
 count-keeps {s} {s′} ok a i c h l =
     agree-trans a

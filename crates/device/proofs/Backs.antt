@@ -10,7 +10,8 @@ use Rattle.octets.specs.Bytes.{bytesOf}
 use Rattle.octets.specs.Splice.{splice}
 use Rattle.octets.proofs.Numbers.{length-bytes, bytes-zero}
 use Rattle.octets.proofs.Splices.{length-splice, splice-above}
-use Rattle.sheet.specs.Kind.{regions, properties}
+use Rattle.sheet.specs.Rules.{edition}
+use Rattle.sheet.specs.Kind.{properties}
 use Rattle.sheet.specs.Layout.{_of_}
 use Rattle.sheet.specs.Region as region
 use Rattle.sheet.specs.Property as property
@@ -20,7 +21,6 @@ use Rattle.sheet.proofs.Good.{Good, accepted}
 use Rattle.sheet.proofs.Keys.{key-once}
 use Rattle.sheet.proofs.Lie.{after-contents}
 use Rattle.sheet.proofs.Standing.{place-in}
-use Rattle.sheet.proofs.Runs.{Covered, region-once}
 use Rattle.sheet.proofs.Sames.{count-same, region-same, property-same}
 use Rattle.sheet.proofs.Counts.{count-now}
 use Rattle.judge.proofs.PropertyCases.{Keyed, Among}
@@ -43,28 +43,15 @@ part-after : (s ds : List ℕ) (p o n : ℕ) → p + length ds ≤ length s → 
 part-after s ds p o n h l =
     part-same s (splice s p ds) o n (length-splice s p ds h) (λ i k. splice-above s p ds h (o + i) (omega arith))
 
-module _ {s : List ℕ} (ok : Good 1 s) where
-  -- the property and the region that a request named are the same after a store that agrees
+module _ {s : List ℕ} (ok : Good edition s) where
+  -- the property that a request named is the same after a store that agrees
   pub same-property :
       {s′ : List ℕ} → Agree s s′ → (object id i j : ℕ) → Keyed s object id i → Keyed s′ object id j → i ≡ j
   unfolding keyOf
   same-property {s′} a object id i j k m =
       let h : j < count s properties = omega (arith, m .there, count-same a properties) in
-      key-once 1 s (accepted ok) properties (omega arith) i j (k .there) h
+      key-once edition s (accepted ok) properties (omega arith) i j (k .there) h
       (k .key ∙ sym (m .key) ∙ property-same a j property.objectId h (omega arith) (omega arith))
-
-  pub same-region :
-      {s′ : List ℕ} → Agree s s′ → (i j f n : ℕ) → 1 ≤ n → Covered s regions i f n → Covered s′ regions j f n → i ≡ j
-  same-region a i j f n l c m =
-      let h : j < count s regions = omega (arith, m .below, count-same a regions) in
-      region-once ok i j f (record { below = c .below; from = c .from; to = omega (arith, c .to) })
-      (record {
-        below = h;
-        from = omega (arith, m .from, region-same a j region.address h (omega arith));
-        to =
-            omega
-            (arith, m .to, region-same a j region.address h (omega arith), region-same a j region.length h (omega arith));
-      })
 
   module _ (i : ℕ) (h : i < count s properties) where
     -- the count that was cleared

@@ -7,7 +7,7 @@ use Rattle.octets.specs.Splice.{splice}
 use Rattle.sheet.specs.Demand.{breach}
 use Rattle.sheet.specs.First.{first}
 use Rattle.sheet.specs.Entries.{entry, keyOf, floor, bodyEnd, startOf, reached, sixBits}
-use Rattle.sheet.specs.Rules.{entryDemands, bodyDemands, entryRule, bodyRule, entriesRule, bodiesRule, walkRule, ruleIn}
+use Rattle.sheet.specs.Rules.{entryDemands, bodyDemands, entryRule, bodyRule, entriesRule, bodiesRule, walkRule, ruleIn, isAccepted}
 use Rattle.sheet.specs.Lookup.{seek, indexOf, objectAt, rank, covers, rangeOf}
 use Rattle.pdu.specs.Table.{find}
 use Rattle.pdu.specs.Rules.{lowAt, fourAt, twelveAt, headBytes}
@@ -18,7 +18,7 @@ use Rattle.sheet.specs.Head.{rulesOf}
 use Rattle.judge.specs.Properties.{readIn, propertyReadOf, writeIn, propertyWriteOf, describedAt, descriptionOf}
 use Rattle.judge.specs.Memory.{memoryReadOf, changeOf, memoryWriteOf, bitWriteOf}
 use Rattle.judge.specs.Keys.{grantOf, authorizeOf, keyWriteOf}
-use Rattle.judge.specs.Judge.{isAccepted, reachedOf, isShut, judgeOf}
+use Rattle.judge.specs.Judge.{reachedOf, isShut, judgeOf}
 use Rattle.device.specs.Carry.{build, bitAt}
 use Rattle.device.specs.Step.{stepBy, stepOf}
 use Rattle.device.specs.Marked.{sample, cases, found, wanted}

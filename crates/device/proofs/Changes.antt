@@ -2,126 +2,195 @@
 -- Assumes nothing.
 use Prim.Native.Nat.{ℕ}
 use mathlib.Core.Path.{_≡_, refl, sym, ap, subst, _∙_}
-use mathlib.Core.Bool.{Bool}
+use mathlib.Core.Logic.{_↔_}
 use mathlib.Core.List.{List, []}
 use lib.ListN.{length, take, drop}
 use native.Mathlib.Omega.{arith}
 use Rattle.octets.specs.Splice.{splice}
-use Rattle.sheet.specs.Kind.{regions}
-use Rattle.sheet.specs.Entries.{entry}
+use Rattle.sheet.specs.Rules.{edition}
+use Rattle.sheet.specs.declared.Memory.the-variants.{Device}
 use Rattle.sheet.proofs.Good.{Good, good}
+use Rattle.sheet.proofs.Runs.{range-within}
 use Rattle.pdu.specs.declared.Pdu.{Pdu}
-use Rattle.pdu.specs.declared.Pdu.the-variants.{MemoryResponse}
+use Rattle.pdu.proofs.Readings.{reading}
+use Rattle.judge.specs.declared.Access.{Access}
+use Rattle.judge.specs.declared.Access.the-variants as access
 use Rattle.judge.specs.declared.Store.{Store}
+use Rattle.judge.specs.declared.Store.the-variants as store
 use Rattle.judge.specs.declared.Decision.{Decision}
 use Rattle.judge.specs.Decisions as decisions
 use Rattle.judge.specs.Session.{levelIn}
 use Rattle.judge.specs.Judge.{decideOf}
-use Rattle.judge.proofs.MemoryCases.{Reflects, Permits, changed, verified, change-cases, change-writes, change-stores}
-use Rattle.device.specs.Carry.{storeOf}
+use Rattle.judge.specs.Memory.{responseOf}
+use Rattle.judge.proofs.MemoryCases.{Suffices, Permits, changed, verified, change-cases, change-writes, change-stores, memory-write-is, bit-write-is}
+use Rattle.device.specs.Carry.{storeOf, build, bitAt}
 use Rattle.device.specs.Step.{stepBy}
 use Rattle.device.specs.Asked.{Asked, quiet, says, saysAfter, stores, Reads, given}
-use Rattle.device.specs.MemoryDue.{MemoryDue, memoryAt, Verify}
-use Rattle.device.proofs.Accepted.{memory-within}
+use Rattle.device.specs.MemoryDue.{Write, bytes, bits, into, writing, mostIn, response, ToWrite, MemoryWritable, Leaves, Verify, MemoryDue, memoryWriteVerified, memoryWrite, noMemoryWriteVerified, noMemoryWrite}
+use Rattle.device.proofs.Bits.{length-build, combined, combined-is}
+use Rattle.device.proofs.Given.{memory-data}
+use Rattle.device.proofs.Acts.{acts, acts-is}
 use Rattle.device.proofs.Stores.{stored-back}
 use Rattle.device.proofs.Stepped.{step, step-read}
 
--- the request p is a write of n bytes to an address that region i allows if W i, and leaves `bytes o` from place o on
-pub record Change (x : Asked) (p : Pdu) (n address : ℕ) (W : ℕ → Type 0) : Type 1 where
-  pub test : ℕ → ℕ → Bool
-  pub R : ℕ → ℕ → Type 0
-  pub tells : Reflects test R
-  pub most : ℕ
+-- how judging goes about a write, and that it means the same
+pub record Change (x : Asked) (w : Write) (n address : ℕ) : Type 0 where
+  pub access : Access
   pub new : ℕ → Store
-  pub bytes : ℕ → List ℕ
+  pub left : ℕ → List ℕ
   pub decides :
-      decideOf (x .sheet) (levelIn (x .session) (x .mode)) (x .group) (given x p) p
-      ≡ changed tells most new (x .sheet) regions (levelIn (x .session) (x .mode)) n address
-  pub leaves : (o : ℕ) → storeOf (x .sheet) (given x p) (new o) ≡ splice (x .sheet) o (bytes o)
-  pub long : (o : ℕ) → length (bytes o) ≡ n
-  pub to : (i : ℕ) → W i → Permits R most (x .sheet) regions (levelIn (x .session) (x .mode)) n address i
-  pub from : (i : ℕ) → Permits R most (x .sheet) regions (levelIn (x .session) (x .mode)) n address i → W i
+      decideOf (x .sheet) (levelIn (x .session) (x .mode)) (x .group) (given x (writing w n address)) (writing w n address)
+      ≡ changed access (mostIn w) new (x .sheet) (into w) (levelIn (x .session) (x .mode)) n address
+  pub answers : (k : ℕ) → responseOf (into w) k address ≡ response (into w) k address
+  pub stored : (o : ℕ) → storeOf (x .sheet) (given x (writing w n address)) (new o) ≡ splice (x .sheet) o (left o)
+  pub long : (o : ℕ) → length (left o) ≡ n
+  pub rights : (level levels : ℕ) → ToWrite w level levels ↔ Suffices access level levels
+  pub leaves : (o : ℕ) → Leaves x w n address o (left o)
+  pub only : (o : ℕ) (d : List ℕ) → Leaves x w n address o d → d ≡ left o
 
-module _ (x : Asked) (p : Pdu) (n address : ℕ) (W : ℕ → Type 0) (c : Change x p n address W) (r : Reads x p) where
+pub change-of : (x : Asked) (w : Write) (n address : ℕ) → Reads x (writing w n address) → Change x w n address
+change-of x (bytes Device) n address r =
+    record {
+      access = access.Write;
+      new = (store.Data 0);
+      left = λ o. given x (writing (bytes Device) n address);
+      decides = memory-write-is (x .sheet) Device _ n address;
+      answers = λ k. refl;
+      stored = λ o. refl;
+      long = λ o. memory-data (x .apdu) n address (reading (x .apdu) _ (r .reads));
+      rights = λ level levels. (λ h. h, λ h. h);
+      leaves = λ o. refl;
+      only = λ o d e. e;
+    }
+change-of x bits n address r =
+    record {
+      access = access.Change;
+      new = λ o. store.Bits o n;
+      left = λ o. build n (bitAt (x .sheet) o n (given x (writing bits n address)));
+      decides = bit-write-is (x .sheet) _ n address;
+      answers = λ k. refl;
+      stored = λ o. refl;
+      long = λ o. length-build n _;
+      rights = λ level levels. (λ h. h, λ h. h);
+      leaves = λ o. combined (x .sheet) o n _;
+      only = λ o d e. combined-is (x .sheet) o n _ e;
+    }
+
+module _ (x : Asked) (w : Write) (n address : ℕ) (r : Reads x (writing w n address)) where
+  abbrev c : Change x w n address
+  c = change-of x w n address r
+
+  abbrev p : Pdu
+  p = writing w n address
+
   abbrev level : ℕ
   level = levelIn (x .session) (x .mode)
 
-  abbrev spot : ℕ → ℕ
-  spot i = memoryAt (entry (x .sheet) regions i) address
+  abbrev Permitted : ℕ → Type 0
+  Permitted o = Permits (c .access) (mostIn w) (x .sheet) (into w) level n address o
+
+  pub to : (o : ℕ) → MemoryWritable x w n address o → Permitted o
+  to o q =
+      record {
+        some = q .some;
+        few = q .few;
+        levels = q .levels;
+        range = q .range;
+        suffices = c .rights level (q .levels) .0 (subst (λ (l : ℕ). ToWrite w l (q .levels)) (sym (acts-is x (q .acts))) (q .suffices));
+      }
+
+  pub from : (o : ℕ) → Permitted o → MemoryWritable x w n address o
+  from o q =
+      record {
+        some = q .some;
+        few = q .few;
+        levels = q .levels;
+        range = q .range;
+        level = level;
+        acts = acts x;
+        suffices = c .rights level (q .levels) .1 (q .suffices);
+      }
 
   -- the sheet afterwards
   abbrev after : ℕ → List ℕ
-  after i = splice (x .sheet) (spot i) (c .bytes (spot i))
+  after o = splice (x .sheet) o (c .left o)
 
   abbrev made : Decision
-  made = changed (c .tells) (c .most) (c .new) (x .sheet) regions level n address
+  made = changed (c .access) (mostIn w) (c .new) (x .sheet) (into w) level n address
 
-  ok : Good 1 (x .sheet)
-  ok = good 1 (x .sheet) (r .ready .sheet)
+  ok : Good edition (x .sheet)
+  ok = good edition (x .sheet) (r .ready .sheet)
 
-  writes : (i : ℕ) → W i → Verify x → made ≡ verified (c .tells) (c .most) (c .new) (x .sheet) regions level n address i
-  writes i w v = change-writes (c .tells) (c .most) (c .new) ok level n address i (c .to i w) v
+  writes : (o : ℕ) → MemoryWritable x w n address o → Verify x → made ≡ verified (c .access) (mostIn w) (c .new) (x .sheet) (into w) level n address o
+  writes o q v = change-writes (c .access) (mostIn w) (c .new) (x .sheet) (into w) level n address ok o (to o q) v
 
-  saves : (i : ℕ) → W i → (Verify x → ⊥) → made ≡ decisions.stored (c .new (spot i))
-  saves i w v = change-stores (c .tells) (c .most) (c .new) ok level n address i (c .to i w) v
+  saves : (o : ℕ) → MemoryWritable x w n address o → (Verify x → ⊥) → made ≡ decisions.stored (c .new o)
+  saves o q v = change-stores (c .access) (mostIn w) (c .new) (x .sheet) (into w) level n address ok o (to o q) v
 
   -- what the answer then shows is what was stored
   shown :
-      (i : ℕ) → W i →
-      stepBy (x .sheet) (x .session) (given x p) (verified (c .tells) (c .most) (c .new) (x .sheet) regions level n address i)
-      ≡ saysAfter x (after i) (MemoryResponse n address) (c .bytes (spot i))
+      (o : ℕ) → MemoryWritable x w n address o →
+      stepBy (x .sheet) (x .session) (given x p) (verified (c .access) (mostIn w) (c .new) (x .sheet) (into w) level n address o)
+      ≡ saysAfter x (after o) (response (into w) n address) (c .left o)
   unfolding stepBy
-  shown i w =
-      ap (λ (t : List ℕ). saysAfter x t (MemoryResponse n address) (take n (drop (spot i) t))) (c .leaves (spot i))
-      ∙ ap (saysAfter x (after i) (MemoryResponse n address)) (stored-back (x .sheet) (c .bytes (spot i)) (spot i) n (c .long (spot i)) (memory-within ok address n i (c .to i w .covered)))
+  shown o q =
+      ap (λ (t : List ℕ). saysAfter x t (responseOf (into w) n address) (take n (drop o t))) (c .stored o)
+      ∙ ap (saysAfter x (after o) (responseOf (into w) n address)) (stored-back (x .sheet) (c .left o) o n (c .long o) (range-within ok (q .range)))
+      ∙ ap (λ (a : Pdu). saysAfter x (after o) a (c .left o)) (c .answers n)
 
-  kept : (i : ℕ) → stepBy (x .sheet) (x .session) (given x p) (decisions.stored (c .new (spot i))) ≡ stores x (after i)
+  kept : (o : ℕ) → stepBy (x .sheet) (x .session) (given x p) (decisions.stored (c .new o)) ≡ stores x (after o)
   unfolding stepBy
-  kept i = ap (stores x) (c .leaves (spot i))
+  kept o = ap (stores x) (c .stored o)
 
-  pub only-verified : (i : ℕ) → W i → Verify x → saysAfter x (after i) (MemoryResponse n address) (c .bytes (spot i)) ≡ step x
-  only-verified i w v = sym (shown i w) ∙ step-read x p r _ (c .decides ∙ writes i w v)
+  denies : stepBy (x .sheet) (x .session) (given x p) (decisions.denied (responseOf (into w) 0 address)) ≡ says x 11 (response (into w) 0 address) []
+  unfolding stepBy
+  denies = ap (λ (a : Pdu). says x 11 a []) (c .answers 0)
 
-  pub only-stored : (i : ℕ) → W i → (Verify x → ⊥) → stores x (after i) ≡ step x
-  only-stored i w v = sym (kept i) ∙ step-read x p r _ (c .decides ∙ saves i w v)
+  pub only-verified : (o : ℕ) → MemoryWritable x w n address o → Verify x → saysAfter x (after o) (response (into w) n address) (c .left o) ≡ step x
+  only-verified o q v = sym (shown o q) ∙ step-read x p r _ (c .decides ∙ writes o q v)
 
-  module _ (f : (i : ℕ) → W i → ⊥) where
-    pub only-denied : Verify x → says x 11 (MemoryResponse 0 address) [] ≡ step x
-    unfolding stepBy
+  pub only-stored : (o : ℕ) → MemoryWritable x w n address o → (Verify x → ⊥) → stores x (after o) ≡ step x
+  only-stored o q v = sym (kept o) ∙ step-read x p r _ (c .decides ∙ saves o q v)
+
+  module _ (f : (o : ℕ) → MemoryWritable x w n address o → ⊥) where
+    pub only-denied : Verify x → says x 11 (response (into w) 0 address) [] ≡ step x
     only-denied v =
-        step-read x p r (decisions.denied (MemoryResponse 0 address))
+        sym denies
+        ∙ step-read x p r (decisions.denied (responseOf (into w) 0 address))
         (c .decides
-        ∙ change-cases (c .tells) (c .most) (c .new) (x .sheet) regions level n address
-        (λ (k : Decision). k ≡ decisions.denied (MemoryResponse 0 address))
-        (λ i q u. absurd (f i (c .from i q))) (λ i q u. absurd (u v)) (λ u. refl) (λ u. absurd (u v)))
+        ∙ change-cases (c .access) (mostIn w) (c .new) (x .sheet) (into w) level n address
+        (λ (k : Decision). k ≡ decisions.denied (responseOf (into w) 0 address))
+        (λ o q u. absurd (f o (from o q))) (λ o q u. absurd (u v)) (λ u. refl) (λ u. absurd (u v)))
 
     pub only-refused : (Verify x → ⊥) → quiet x 12 ≡ step x
     unfolding stepBy
     only-refused v =
         step-read x p r (decisions.refused 12)
         (c .decides
-        ∙ change-cases (c .tells) (c .most) (c .new) (x .sheet) regions level n address
+        ∙ change-cases (c .access) (mostIn w) (c .new) (x .sheet) (into w) level n address
         (λ (k : Decision). k ≡ decisions.refused 12)
-        (λ i q u. absurd (v u)) (λ i q u. absurd (f i (c .from i q))) (λ u. absurd (v u)) (λ u. refl))
+        (λ o q u. absurd (v u)) (λ o q u. absurd (f o (from o q))) (λ u. absurd (v u)) (λ u. refl))
 
   -- one of the four is due
-  pub right-change :
-      ((i : ℕ) → W i → Verify x → MemoryDue x (saysAfter x (after i) (MemoryResponse n address) (c .bytes (spot i)))) →
-      ((i : ℕ) → W i → (Verify x → ⊥) → MemoryDue x (stores x (after i))) →
-      (((i : ℕ) → W i → ⊥) → Verify x → MemoryDue x (says x 11 (MemoryResponse 0 address) [])) →
-      (((i : ℕ) → W i → ⊥) → (Verify x → ⊥) → MemoryDue x (quiet x 12)) → MemoryDue x (stepBy (x .sheet) (x .session) (given x p) made)
+  pub right-change : MemoryDue x (stepBy (x .sheet) (x .session) (given x p) made)
   unfolding stepBy
-  right-change f g h u =
-      change-cases (c .tells) (c .most) (c .new) (x .sheet) regions level n address
+  right-change =
+      change-cases (c .access) (mostIn w) (c .new) (x .sheet) (into w) level n address
       (λ (k : Decision). made ≡ k → MemoryDue x (stepBy (x .sheet) (x .session) (given x p) k))
-      (λ i q v e. let w = c .from i q in subst (MemoryDue x) (sym (shown i w)) (f i w v))
-      (λ i q v e. subst (MemoryDue x) (sym (kept i)) (g i (c .from i q) v))
+      (λ o q v e.
+      let u = from o q in
+      subst (MemoryDue x) (sym (shown o u)) (memoryWriteVerified w n address o (c .left o) r u (c .leaves o) v))
+      (λ o q v e. subst (MemoryDue x) (sym (kept o)) (memoryWrite w n address o (c .left o) r (from o q) (c .leaves o) v))
       (λ v e.
-      h
-      (λ i w. let z : _≡_ {A = ℕ} 0 11 = ap (λ (k : Decision). k .outcome) (sym (writes i w v) ∙ e) in omega arith)
-      v)
+      subst (MemoryDue x) (sym denies)
+      (noMemoryWriteVerified w n address r
+      (λ o q. let z : _≡_ {A = ℕ} 0 11 = ap (λ (k : Decision). k .outcome) (sym (writes o q v) ∙ e) in omega arith)
+      v))
       (λ v e.
-      u
-      (λ i w. let z : _≡_ {A = ℕ} 1 12 = ap (λ (k : Decision). k .outcome) (sym (saves i w v) ∙ e) in omega arith)
+      noMemoryWrite w n address r
+      (λ o q. let z : _≡_ {A = ℕ} 1 12 = ap (λ (k : Decision). k .outcome) (sym (saves o q v) ∙ e) in omega arith)
       v)
       refl
+
+  pub right-memory-write : MemoryDue x (stepBy (x .sheet) (x .session) (given x p) (decideOf (x .sheet) level (x .group) (given x p) p))
+  right-memory-write = rw (c .decides) right-change

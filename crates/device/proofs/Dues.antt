@@ -16,8 +16,7 @@ use Rattle.octets.proofs.Numbers.{length-bytes}
 use Rattle.octets.proofs.Splices.{length-splice, splice-outside, splice-num}
 use Rattle.sheet.specs.Layout.{_of_}
 use Rattle.sheet.specs.Head as head
-use Rattle.sheet.specs.Rules.{ruleOf}
-use Rattle.judge.specs.Judge.{isAccepted}
+use Rattle.sheet.specs.Rules.{ruleOf, Accepted, isAccepted}
 use Rattle.judge.specs.declared.Session.{Session}
 use Rattle.device.specs.Step.{Step}
 use Rattle.device.specs.Events.{State, connect, disconnect, button, eventOf, bit, pressed, buttonOutcome, buttonSheet}
@@ -33,7 +32,7 @@ same-step r t n a q s =
     ∙ ap₂ (λ (q : Session) (s : List ℕ). record { outcome = t .outcome; answer = t .answer; session = q; sheet = s }) q s
 
 -- an accepted sheet after the button
-module _ (s : List ℕ) (on : Bool) (ok : ruleOf s ≡ 0) where
+module _ (s : List ℕ) (on : Bool) (ok : Accepted s) where
   abbrev new : ℕ
   new = head.verify s * 2 + bit on
 
@@ -105,7 +104,7 @@ module _ (x : State) where
     pub button-only : (r : Step) → ButtonDue on x r → r ≡ eventOf x (button on)
     button-only r d = go (ℕ-discrete (ruleOf (x .sheet)) 0)
       where
-        go : Dec (ruleOf (x .sheet) ≡ 0) → r ≡ eventOf x (button on)
+        go : Dec (Accepted (x .sheet)) → r ≡ eventOf x (button on)
         go (no n) =
             let a = d .badSheet n in
             let b = button-due .badSheet n in

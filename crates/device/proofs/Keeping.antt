@@ -9,11 +9,11 @@ use native.Mathlib.Omega.{arith}
 use Rattle.octets.specs.Bytes.{bytesOf}
 use Rattle.octets.specs.Splice.{splice}
 use Rattle.octets.proofs.Numbers.{length-bytes, bytes-zero}
-use Rattle.sheet.specs.Kind.{regions, properties}
+use Rattle.sheet.specs.Kind.{properties}
 use Rattle.sheet.specs.Layout.{_of_}
 use Rattle.sheet.specs.Head as head
 use Rattle.sheet.specs.Frame.{Agree}
-use Rattle.sheet.specs.Rules.{entryDemands}
+use Rattle.sheet.specs.Rules.{entryDemands, edition}
 use Rattle.sheet.proofs.Good.{Good, accepted}
 use Rattle.sheet.proofs.Stores.{key-store, address-store, flags-store}
 use Rattle.pdu.specs.Read.{dataOf}
@@ -21,6 +21,11 @@ use Rattle.octets.proofs.Truths.{and-is, below-is}
 use Rattle.pdu.proofs.Readings.{Reading}
 use Rattle.pdu.specs.declared.Pdu.{Pdu}
 use Rattle.pdu.specs.declared.Pdu.the-variants.{GroupValueRead, GroupValueResponse, GroupValueWrite, IndividualAddressWrite, IndividualAddressRead, SerialNumberRead, SerialNumberWrite, DeviceDescriptorRead, PropertyValueRead, PropertyValueWrite, PropertyDescriptionRead, MemoryRead, MemoryWrite, MemoryBitWrite, AuthorizeRequest, KeyWrite, Restart, IndividualAddressResponse, SerialNumberResponse, DeviceDescriptorResponse, PropertyValueResponse, PropertyDescriptionResponse, MemoryResponse, AuthorizeResponse, KeyResponse}
+use Rattle.sheet.specs.declared.Memory.{Memory}
+use Rattle.sheet.specs.declared.Memory.the-variants.{Device}
+use Rattle.sheet.proofs.Runs.{range-store}
+use Rattle.judge.specs.declared.Access.{Access}
+use Rattle.judge.specs.declared.Access.the-variants.{Write, Change}
 use Rattle.judge.specs.declared.Store.{Store}
 use Rattle.judge.specs.declared.Store.the-variants as store
 use Rattle.judge.specs.declared.Decision.{Decision}
@@ -33,12 +38,12 @@ use Rattle.judge.specs.Judge.{decideOf}
 use Rattle.octets.proofs.Walks.{by-eq}
 use Rattle.judge.proofs.GroupCases.{group-read-cases, group-put-cases}
 use Rattle.judge.proofs.PropertyCases.{property-read-cases, property-write-cases, description-cases}
-use Rattle.judge.proofs.MemoryCases.{Reflects, reflects-write, reflects-change, memory-read-cases, changed, change-cases}
+use Rattle.judge.proofs.MemoryCases.{memory-read-cases, changed, change-cases}
 use Rattle.judge.proofs.KeyCases.{key-write-cases}
 use Rattle.device.specs.Carry.{build, bitAt, storeOf}
 use Rattle.device.proofs.Given.{memory-data}
 use Rattle.device.proofs.Bits.{length-build}
-use Rattle.device.proofs.Agreeing.{agree-refl, memory-keeps, group-keeps, elements-keep, count-keeps}
+use Rattle.device.proofs.Agreeing.{agree-refl, group-keeps, elements-keep, count-keeps}
 
 -- the sheet s afterwards, and that it agrees with s
 abbrev pub left : List ℕ → List ℕ → Decision → List ℕ
@@ -58,7 +63,7 @@ one-byte : (v j : ℕ) → v < 64 → j < length (bytesOf 1 v) → getD (bytesOf
 unfolding bytesOf
 one-byte v j h l = let e : j ≡ 0 = omega arith in rw e (omega arith)
 
-module _ {s : List ℕ} (ok : Good 1 s) (d : List ℕ) where
+module _ {s : List ℕ} (ok : Good edition s) (d : List ℕ) where
   same : Agree s s
   same = agree-refl s
 
@@ -71,21 +76,21 @@ module _ {s : List ℕ} (ok : Good 1 s) (d : List ℕ) where
       same
 
   address-new : (address : ℕ) → Agree s (splice s (head.address .at) (bytesOf 2 address))
-  address-new address = address-store 1 (accepted ok) (bytesOf 2 address) (length-bytes 2 address)
+  address-new address = address-store edition (accepted ok) (bytesOf 2 address) (length-bytes 2 address)
 
   -- new flags, from the old
   pub flags-new : (f : ℕ) → f ≤ 3 → Agree s (splice s (head.flags .at) (bytesOf 1 f))
   unfolding bytesOf
-  flags-new f h = flags-store 1 (accepted ok) _ (omega arith)
+  flags-new f h = flags-store edition (accepted ok) _ (omega arith)
 
   -- a write to memory
   change :
-      {test : ℕ → ℕ → Bool} {R : ℕ → ℕ → Type 0} (y : Reflects test R) (m level n a : ℕ) (new : ℕ → Store) (bytes : ℕ → List ℕ) →
-      ((o : ℕ) → storeOf s d (new o) ≡ splice s o (bytes o)) → ((o : ℕ) → length (bytes o) ≡ n) → Keeps s d (changed y m new s regions level n a)
-  change y m level n a new bytes e l =
-      change-cases y m new s regions level n a (Keeps s d)
-      (λ i p v. rw e (memory-keeps ok a n i (bytes _) (l _) (p .covered)))
-      (λ i p v. rw e (memory-keeps ok a n i (bytes _) (l _) (p .covered)))
+      (w : Access) (most : ℕ) (m : Memory) (level n a : ℕ) (new : ℕ → Store) (bytes : ℕ → List ℕ) →
+      ((o : ℕ) → storeOf s d (new o) ≡ splice s o (bytes o)) → ((o : ℕ) → length (bytes o) ≡ n) → Keeps s d (changed w most new s m level n a)
+  change w most m level n a new bytes e l =
+      change-cases w most new s m level n a (Keeps s d)
+      (λ o p v. rw e (range-store ok (p .range) (bytes o) (l o)))
+      (λ o p v. rw e (range-store ok (p .range) (bytes o) (l o)))
       (λ v. same)
       (λ v. same)
 
@@ -100,7 +105,7 @@ module _ {s : List ℕ} (ok : Good 1 s) (d : List ℕ) where
         count-keeps ok (elements-keep ok i n t d (k .there) a l) i _ (k .there) (omega (arith, a .end, ok .entries properties i (omega arith) (k .there))))
         same
 
-module _ {s : List ℕ} (ok : Good 1 s) (level group : ℕ) (a : List ℕ) where
+module _ {s : List ℕ} (ok : Good edition s) (level group : ℕ) (a : List ℕ) where
   as-is : Agree s s
   as-is = agree-refl s
 
@@ -126,14 +131,14 @@ module _ {s : List ℕ} (ok : Good 1 s) (level group : ℕ) (a : List ℕ) where
   keeps-decided (PropertyValueWrite object id n t) r = property-write ok _ level object id n t
   keeps-decided (PropertyDescriptionRead object id index) r =
       description-cases s object id index (K (PropertyDescriptionRead object id index)) (λ i z k. as-is) (λ i z k. as-is) as-is
-  keeps-decided (MemoryRead n address) r = memory-read-cases s regions level n address (K (MemoryRead n address)) (λ i p. as-is) as-is
+  keeps-decided (MemoryRead n address) r = memory-read-cases s Device level n address (K (MemoryRead n address)) (λ i p. as-is) as-is
   keeps-decided (MemoryWrite n address) r =
-      change ok _ reflects-write 12 level n address (store.Data 0) (λ o. dataOf (MemoryWrite n address) a) (λ o. refl) (λ o. memory-data a n address r)
+      change ok _ Write 12 Device level n address (store.Data 0) (λ o. dataOf (MemoryWrite n address) a) (λ o. refl) (λ o. memory-data a n address r)
   keeps-decided (MemoryBitWrite n address) r =
-      change ok _ reflects-change 5 level n address (λ o. store.Bits o n) (λ o. build n (bitAt s o n (dataOf (MemoryBitWrite n address) a))) (λ o. refl) (λ o. length-build n _)
+      change ok _ Change 5 Device level n address (λ o. store.Bits o n) (λ o. build n (bitAt s o n (dataOf (MemoryBitWrite n address) a))) (λ o. refl) (λ o. length-build n _)
   keeps-decided (AuthorizeRequest key) r = as-is
   keeps-decided (KeyWrite named key) r =
-      key-write-cases level named key (K (KeyWrite named key)) (λ h l. key-store 1 (accepted ok) named (bytesOf 4 key) (omega arith) (length-bytes 4 key)) as-is
+      key-write-cases level named key (K (KeyWrite named key)) (λ h l. key-store edition (accepted ok) named (bytesOf 4 key) (omega arith) (length-bytes 4 key)) as-is
   keeps-decided Restart r = flags-new ok [] _ (omega (arith, ok .zeros))
   keeps-decided IndividualAddressResponse r = as-is
   keeps-decided (SerialNumberResponse serial domain) r = as-is

@@ -41,7 +41,7 @@ pub mod Stays
 pub mod WasReady
 pub mod Backs
 pub mod ReadBackProperties
-pub mod FoundMemory
+pub mod ReadBackMemory
 pub mod ReadBack
 pub mod Unseen
 pub mod NoBody

@@ -14,10 +14,11 @@ use Rattle.sheet.specs.Head as head
 use Rattle.sheet.specs.Property as property
 use Rattle.sheet.specs.Entries.{entry}
 use Rattle.sheet.specs.Lookup.{indexOf}
-use Rattle.sheet.specs.Rules.{ruleOf}
+use Rattle.sheet.specs.Rules.{ruleOf, edition, isAccepted}
 use Rattle.sheet.specs.Frame.{Agree}
 use Rattle.sheet.proofs.Sames.{rules-same, count-same, place-same}
 use Rattle.sheet.proofs.Finds.{index-same, rank-same, nth-same, range-same}
+use Rattle.sheet.specs.declared.Memory.the-variants.{Device}
 use Rattle.sheet.proofs.Frames.{both-or-neither}
 use Rattle.pdu.specs.Read.{readPdu, dataOf}
 use Rattle.pdu.specs.Rules.{codeOf}
@@ -36,7 +37,7 @@ use Rattle.judge.specs.Addresses.{addressWriteOf, addressReadOf, serialReadOf, 
 use Rattle.judge.specs.Properties.{propertyAt, propertyReadOf, propertyWriteOf, describedAt, descriptionOf}
 use Rattle.judge.specs.Memory.{memoryReadOf, memoryWriteOf, bitWriteOf}
 use Rattle.judge.specs.Keys.{grantOf, authorizeOf, restartOf}
-use Rattle.judge.specs.Judge.{isAccepted, decideOf, readOf, reachedOf, foundOf, judgeOf}
+use Rattle.judge.specs.Judge.{decideOf, readOf, reachedOf, foundOf, judgeOf}
 use Rattle.device.specs.Bodies.{SameButBodies}
 use Rattle.device.proofs.Unseen.{head-same, entry-same, value-same, unseen}
 
@@ -108,9 +109,9 @@ module _ {s s′ : List ℕ} (b : SameButBodies s s′) where
   decide-same level group d (PropertyValueRead object id n t) = property-read level object id n t
   decide-same level group d (PropertyValueWrite object id n t) = property-write level object id n t d
   decide-same level group d (PropertyDescriptionRead object id index) = description object id index
-  decide-same level group d (MemoryRead n address) = rw (range-same a address n)
-  decide-same level group d (MemoryWrite n address) = rw (range-same a address n, head-same b head.flags (omega arith))
-  decide-same level group d (MemoryBitWrite n address) = rw (range-same a address n, head-same b head.flags (omega arith))
+  decide-same level group d (MemoryRead n address) = rw (range-same a Device address n)
+  decide-same level group d (MemoryWrite n address) = rw (range-same a Device address n, head-same b head.flags (omega arith))
+  decide-same level group d (MemoryBitWrite n address) = rw (range-same a Device address n, head-same b head.flags (omega arith))
   decide-same level group d (AuthorizeRequest key) =
       rw (head-same b (head.key 0) (omega arith), head-same b (head.key 1) (omega arith), head-same b (head.key 2) (omega arith))
   decide-same level group d (KeyWrite named key) = refl
@@ -140,8 +141,8 @@ module _ {s s′ : List ℕ} (b : SameButBodies s s′) where
   accepted-same = go (eqb (ruleOf s) 0) (eqb (ruleOf s′) 0) refl refl
     where
       go : (t u : Bool) → eqb (ruleOf s) 0 ≡ t → eqb (ruleOf s′) 0 ≡ u → u ≡ t
-      go true u e f = sym f ∙ eq-eqb (ruleOf s′) 0 (both-or-neither 1 a .0 (eqb-true (ruleOf s) 0 e))
-      go false true e f = sym (eq-eqb (ruleOf s) 0 (both-or-neither 1 a .1 (eqb-true (ruleOf s′) 0 f))) ∙ e
+      go true u e f = sym f ∙ eq-eqb (ruleOf s′) 0 (both-or-neither edition a .0 (eqb-true (ruleOf s) 0 e))
+      go false true e f = sym (eq-eqb (ruleOf s) 0 (both-or-neither edition a .1 (eqb-true (ruleOf s′) 0 f))) ∙ e
       go false false e f = refl
 
 -- JUDGING READS NO BODY

@@ -4,19 +4,25 @@ use Prim.Native.Nat.{ℕ, _≤_}
 use mathlib.Core.Path.{_≡_}
 use mathlib.Core.Logic.{_⊎_, inl, inr}
 use native.Mathlib.Omega.{arith}
-use Rattle.pdu.specs.declared.Pdu.the-variants.{PropertyValueRead, PropertyValueWrite, MemoryRead, MemoryWrite, MemoryBitWrite}
-use Rattle.device.specs.Asked.{Asked, Reads}
+use Rattle.sheet.specs.declared.Memory.{Memory}
+use Rattle.sheet.specs.declared.Memory.the-variants.{Device}
+use Rattle.pdu.specs.Pdus.{serviceOf}
+use Rattle.pdu.specs.declared.Pdu.the-variants.{PropertyValueRead, PropertyValueWrite}
+use Rattle.device.specs.Asked.{Asked, Takes, Reads}
 use Rattle.device.specs.PropertiesDue.{Readable}
-use Rattle.device.specs.MemoryDue.{MemoryReadable}
+use Rattle.device.specs.MemoryDue.{Write, into, writing, reading, MemoryReadable}
 use Rattle.device.specs.Next.{Confirmed, Next, SameAnswer}
-use Rattle.device.proofs.RightMemory.{writing, bit-writing}
 use Rattle.device.proofs.WasReady.{carried, ready-next}
 use Rattle.device.proofs.ReadBackProperties.{property-same-answer}
-use Rattle.device.proofs.FoundMemory.{memory-same-answer}
+use Rattle.device.proofs.ReadBackMemory.{memory-same-answer}
 
 either-low : {m : ℕ} → (m ≡ 2) ⊎ (m ≡ 3) → m ≤ 3
 either-low (inl e) = omega arith
 either-low (inr e) = omega arith
+
+-- a memory is read in connected mode alone
+connected-low : (m : Memory) (n address : ℕ) {rules mode : ℕ} → Takes rules (serviceOf (reading m n address)) mode → mode ≤ 3
+connected-low Device n address e = omega arith
 
 module _ (x y : Asked) where
   -- ELEMENTS OF A PROPERTY, OR ITS COUNT
@@ -27,16 +33,10 @@ module _ (x y : Asked) where
       let r : Reads x (PropertyValueWrite object id n s) = carried x _ (w .reads) (omega (arith, w .outcome)) in
       property-same-answer x y object id n s r (ready-next x y _ _ r next (either-low (next .takes))) (next .sheet) i may (w .outcome)
 
-  -- A RANGE OF MEMORY
+  -- A RANGE OF MEMORY, its bytes written or its bits
   pub memory-found :
-      (n address i : ℕ) → Confirmed x (MemoryWrite n address) → Next x y (MemoryRead n address) → MemoryReadable y n address i → SameAnswer x y
-  memory-found n address i w next may =
-      let r : Reads x (MemoryWrite n address) = carried x _ (w .reads) (omega (arith, w .outcome)) in
-      memory-same-answer x y _ n address _ (writing x n address r) r (ready-next x y _ _ r next (omega (arith, next .takes))) (next .sheet) i may (w .outcome)
-
-  -- OR BITS OF IT
-  pub bits-found :
-      (n address i : ℕ) → Confirmed x (MemoryBitWrite n address) → Next x y (MemoryRead n address) → MemoryReadable y n address i → SameAnswer x y
-  bits-found n address i w next may =
-      let r : Reads x (MemoryBitWrite n address) = carried x _ (w .reads) (omega (arith, w .outcome)) in
-      memory-same-answer x y _ n address _ (bit-writing x n address) r (ready-next x y _ _ r next (omega (arith, next .takes))) (next .sheet) i may (w .outcome)
+      (w : Write) (n address o : ℕ) → Confirmed x (writing w n address) → Next x y (reading (into w) n address) →
+      MemoryReadable y (into w) n address o → SameAnswer x y
+  memory-found w n address o c next may =
+      let r : Reads x (writing w n address) = carried x _ (c .reads) (omega (arith, c .outcome)) in
+      memory-same-answer x y w n address r (ready-next x y _ _ r next (connected-low (into w) n address (next .takes))) (next .sheet) o may (c .outcome)

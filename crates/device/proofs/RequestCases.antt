@@ -8,7 +8,7 @@ use lib.ListN.{length}
 use lib.Dec.{eqb}
 use borrow.Author.Tests.{eq-eqb, eqb-true, eqb-false, not-true, not-false}
 use Rattle.sheet.specs.Head.{rulesOf}
-use Rattle.sheet.specs.Rules.{ruleOf}
+use Rattle.sheet.specs.Rules.{ruleOf, Accepted, isAccepted}
 use Rattle.pdu.specs.Table.{rowOf, serviceAt}
 use Rattle.pdu.specs.Pdus.{serviceOf}
 use Rattle.pdu.specs.Rules.{codeOf}
@@ -26,7 +26,7 @@ use Rattle.judge.specs.declared.Decision.{Decision}
 use Rattle.judge.specs.Decisions.{refused}
 use Rattle.judge.specs.Session.{levelIn}
 use Rattle.judge.specs.Modes.{reachOf, reaches, takes}
-use Rattle.judge.specs.Judge.{isAccepted, decideOf, readOf, reachedOf, foundOf, isShut, judgeOf}
+use Rattle.judge.specs.Judge.{decideOf, readOf, reachedOf, foundOf, isShut, judgeOf}
 use Rattle.octets.proofs.Walks.{by-test, by-not, by-lt}
 use Rattle.device.specs.Asked.{Asked, Takes, Names, Served, Refusal, noRoom, badSheet, badLength, badMode, noSession, Ready, Reads, given}
 use Rattle.device.proofs.Taking.{takes-is, served-is}
@@ -91,7 +91,7 @@ module _ (x : Asked) where
         by-lt P (x .room) 16 _ _ (λ b. refuse 3 (noRoom b))
         (λ b. by-not P (eqb (ruleOf (x .sheet)) 0) _ _ (λ e. refuse 4 (badSheet b (eqb-false _ 0 e)))
         (λ e.
-        let s : ruleOf (x .sheet) ≡ 0 = eqb-true _ 0 e in
+        let s : Accepted (x .sheet) = eqb-true _ 0 e in
         by-lt P (length (x .apdu)) 2 _ _ (λ l. refuse 5 (badLength b s (inl l)))
         (λ l. by-lt P 16 (length (x .apdu)) _ _ (λ m. refuse 5 (badLength b s (inr m)))
         (λ m. by-lt P 3 (x .mode) _ _ (λ h. refuse 6 (badMode b s l m h))

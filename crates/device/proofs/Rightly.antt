@@ -1,6 +1,7 @@
 -- DEMAND 2: the step that is done is the step that is due, and no other is due.
 -- Assumes nothing.
 use mathlib.Core.Path.{_≡_, refl, sym, subst}
+use Rattle.sheet.specs.declared.Memory.the-variants.{Device}
 use Rattle.pdu.specs.Read.{readPdu}
 use Rattle.pdu.specs.declared.Pdu.{Pdu}
 use Rattle.pdu.specs.declared.Pdu.the-variants.{GroupValueRead, GroupValueResponse, GroupValueWrite, IndividualAddressWrite, IndividualAddressRead, SerialNumberRead, SerialNumberWrite, DeviceDescriptorRead, PropertyValueRead, PropertyValueWrite, PropertyDescriptionRead, MemoryRead, MemoryWrite, MemoryBitWrite, AuthorizeRequest, KeyWrite, Restart, IndividualAddressResponse, SerialNumberResponse, DeviceDescriptorResponse, PropertyValueResponse, PropertyDescriptionResponse, MemoryResponse, AuthorizeResponse, KeyResponse}
@@ -20,14 +21,13 @@ use Rattle.device.specs.KeysDue as keys
 use Rattle.device.specs.GroupsDue.{Brings}
 use Rattle.device.specs.Right.{Right}
 use Rattle.device.proofs.RequestCases.{request-cases}
-use Rattle.device.proofs.Bits.{combined-is}
 use Rattle.device.proofs.Stepped.{step-refused, step-unknown, step-other, step-unfit}
 use Rattle.device.proofs.RightGroups.{right-group-read, right-group-put, only-group-read0, only-group-read, only-no-group-read, only-group-put0, only-group-put, only-group-length, only-no-group-put}
 use Rattle.device.proofs.RightAddresses.{right-address-write, right-address-read, right-serial-read, right-serial-write, right-descriptor, only-address-write, only-no-address-write, only-address-read, only-no-address-read, only-serial-read, only-no-serial-read, only-serial-write, only-no-serial-write, only-descriptor, only-no-descriptor}
 use Rattle.device.proofs.RightProperties.{right-property-read, right-property-write, only-property-count, only-property-read, only-no-property-read, only-property-clear, only-property-write, only-no-property-write}
 use Rattle.device.proofs.RightDescriptions.{right-description, only-description, only-no-description}
-use Rattle.device.proofs.Changes.{only-verified, only-stored, only-denied, only-refused}
-use Rattle.device.proofs.RightMemory.{writing, bit-writing, right-memory-read, right-memory-write, right-bit-write, only-memory-read, only-no-memory-read}
+use Rattle.device.proofs.Changes.{change-of, right-memory-write, only-verified, only-stored, only-denied, only-refused}
+use Rattle.device.proofs.RightMemory.{right-memory-read, only-memory-read, only-no-memory-read}
 use Rattle.device.proofs.RightKeys.{right-authorize, right-key-write, right-restart, only-authorize, only-key-write, only-no-key-write, only-restart}
 
 module _ (x : Asked) (hs : Octets (x .sheet)) (ha : Octets (x .apdu)) where
@@ -46,9 +46,9 @@ module _ (x : Asked) (hs : Octets (x .sheet)) (ha : Octets (x .apdu)) where
   right-read (PropertyValueRead object id n s) r = due.properties (right-property-read x object id n s r hs ha)
   right-read (PropertyValueWrite object id n s) r = due.properties (right-property-write x object id n s r hs ha)
   right-read (PropertyDescriptionRead object id index) r = due.properties (right-description x object id index r hs ha)
-  right-read (MemoryRead n address) r = due.memory (right-memory-read x n address r)
-  right-read (MemoryWrite n address) r = due.memory (right-memory-write x n address r)
-  right-read (MemoryBitWrite n address) r = due.memory (right-bit-write x n address r)
+  right-read (MemoryRead n address) r = due.memory (right-memory-read x Device n address r)
+  right-read (MemoryWrite n address) r = due.memory (right-memory-write x (memory.bytes Device) n address r)
+  right-read (MemoryBitWrite n address) r = due.memory (right-memory-write x memory.bits n address r)
   right-read (AuthorizeRequest key) r = due.keys (right-authorize x key r)
   right-read (KeyWrite named key) r = due.keys (right-key-write x named key r)
   right-read Restart r = due.keys (right-restart x r)
@@ -104,16 +104,12 @@ module _ (x : Asked) (hs : Octets (x .sheet)) (ha : Octets (x .apdu)) where
   right-only r (due.properties (properties.noPropertyWrite object id n s h f)) = only-no-property-write x object id n s h hs ha f
   right-only r (due.properties (properties.description object id index i h e)) = only-description x object id index h i e
   right-only r (due.properties (properties.noDescription object id index h f)) = only-no-description x object id index h hs ha f
-  right-only r (due.memory (memory.memoryRead n address i h p)) = only-memory-read x n address h i p
-  right-only r (due.memory (memory.noMemoryRead n address h f)) = only-no-memory-read x n address h f
-  right-only r (due.memory (memory.memoryWriteVerified n address i d h p e v)) = rw e (only-verified x _ n address _ (writing x n address h) h i p v)
-  right-only r (due.memory (memory.memoryWrite n address i d h p e v)) = rw e (only-stored x _ n address _ (writing x n address h) h i p v)
-  right-only r (due.memory (memory.noMemoryWriteVerified n address h f v)) = only-denied x _ n address _ (writing x n address h) h f v
-  right-only r (due.memory (memory.noMemoryWrite n address h f v)) = only-refused x _ n address _ (writing x n address h) h f v
-  right-only r (due.memory (memory.bitWriteVerified n address i d h p e v)) = rw (combined-is _ _ n _ e) (only-verified x _ n address _ (bit-writing x n address) h i p v)
-  right-only r (due.memory (memory.bitWrite n address i d h p e v)) = rw (combined-is _ _ n _ e) (only-stored x _ n address _ (bit-writing x n address) h i p v)
-  right-only r (due.memory (memory.noBitWriteVerified n address h f v)) = only-denied x _ n address _ (bit-writing x n address) h f v
-  right-only r (due.memory (memory.noBitWrite n address h f v)) = only-refused x _ n address _ (bit-writing x n address) h f v
+  right-only r (due.memory (memory.memoryRead m n address o h p)) = only-memory-read x m n address h o p
+  right-only r (due.memory (memory.noMemoryRead m n address h f)) = only-no-memory-read x m n address h f
+  right-only r (due.memory (memory.memoryWriteVerified w n address o d h p e v)) = rw (change-of x w n address h .only o d e) (only-verified x w n address h o p v)
+  right-only r (due.memory (memory.memoryWrite w n address o d h p e v)) = rw (change-of x w n address h .only o d e) (only-stored x w n address h o p v)
+  right-only r (due.memory (memory.noMemoryWriteVerified w n address h f v)) = only-denied x w n address h f v
+  right-only r (due.memory (memory.noMemoryWrite w n address h f v)) = only-refused x w n address h f v
   right-only r (due.keys (keys.authorize key level h g)) = only-authorize x key h level g
   right-only r (due.keys (keys.keyWrite named key h w)) = only-key-write x named key h w
   right-only r (due.keys (keys.noKeyWrite named key h f)) = only-no-key-write x named key h f

@@ -8,7 +8,8 @@ use lib.ListN.{length, take, drop, length-take, length-drop}
 use native.Mathlib.Omega.{arith}
 use Rattle.octets.specs.Bytes.{bytesOf}
 use Rattle.octets.proofs.Numbers.{length-bytes}
-use Rattle.sheet.specs.Kind.{regions, properties}
+use Rattle.sheet.specs.Rules.{edition}
+use Rattle.sheet.specs.Kind.{properties}
 use Rattle.sheet.specs.Layout.{_of_}
 use Rattle.sheet.specs.Property as property
 use Rattle.sheet.specs.Head as head
@@ -19,6 +20,11 @@ use Rattle.pdu.specs.Write.{writable}
 use Rattle.pdu.proofs.Readings.{Reading}
 use Rattle.pdu.specs.declared.Pdu.{Pdu}
 use Rattle.pdu.specs.declared.Pdu.the-variants.{GroupValueRead, GroupValueResponse, GroupValueWrite, IndividualAddressWrite, IndividualAddressRead, SerialNumberRead, SerialNumberWrite, DeviceDescriptorRead, PropertyValueRead, PropertyValueWrite, PropertyDescriptionRead, MemoryRead, MemoryWrite, MemoryBitWrite, AuthorizeRequest, KeyWrite, Restart, IndividualAddressResponse, SerialNumberResponse, DeviceDescriptorResponse, PropertyValueResponse, PropertyDescriptionResponse, MemoryResponse, AuthorizeResponse, KeyResponse}
+use Rattle.sheet.specs.declared.Memory.{Memory}
+use Rattle.sheet.specs.declared.Memory.the-variants.{Device}
+use Rattle.sheet.proofs.Runs.{range-within}
+use Rattle.judge.specs.declared.Access.{Access}
+use Rattle.judge.specs.declared.Access.the-variants.{Write, Change}
 use Rattle.judge.specs.declared.Store.{Store}
 use Rattle.judge.specs.declared.Store.the-variants as store
 use Rattle.judge.specs.declared.Answer.{Answer}
@@ -27,17 +33,17 @@ use Rattle.judge.specs.Decisions.{refused, denied, answered, written, stored}
 use Rattle.judge.specs.Groups.{groupReadOf, groupPutOf}
 use Rattle.judge.specs.Addresses.{addressWriteOf, addressReadOf, serialReadOf, serialWriteOf, descriptorOf}
 use Rattle.judge.specs.Properties.{propertyReadOf, propertyWriteOf, descriptionOf}
-use Rattle.judge.specs.Memory.{memoryReadOf, memoryWriteOf, bitWriteOf}
+use Rattle.judge.specs.Memory.{mostBytes, responseOf, memoryReadOf, memoryWriteOf, bitWriteOf}
 use Rattle.judge.specs.Keys.{authorizeOf, keyWriteOf, restartOf}
 use Rattle.judge.specs.Judge.{decideOf}
 use Rattle.octets.proofs.Walks.{by-eq}
 use Rattle.judge.proofs.GroupCases.{group-read-cases, group-put-cases}
 use Rattle.judge.proofs.PropertyCases.{property-read-cases, property-write-cases, description-cases}
-use Rattle.judge.proofs.MemoryCases.{Reflects, reflects-write, reflects-change, spot, memory-read-cases, changed, change-cases}
+use Rattle.judge.proofs.MemoryCases.{memory-read-cases, changed, change-cases}
 use Rattle.judge.proofs.KeyCases.{key-write-cases}
 use Rattle.device.specs.Carry.{storeOf}
 use Rattle.device.specs.Safe.{StoreSafe, AnswerSafe, Safe}
-use Rattle.device.proofs.Accepted.{long, group-within, six-within, group-short, six-below, maximum-below, elements-within, count-within, memory-within}
+use Rattle.device.proofs.Accepted.{long, group-within, six-within, group-short, six-below, maximum-below, elements-within, count-within}
 use Rattle.device.proofs.Given.{serial-small, read-fields, write-fields, write-data, memory-data, bits-data}
 use Rattle.device.proofs.Stores.{length-store}
 use Rattle.device.proofs.Writing.{writes-six, writes-value, writes-descriptor, writes-property, writes-memory, writes-address, writes-serial, writes-description, writes-level, writes-key}
@@ -60,15 +66,19 @@ module _ (s d : List ℕ) where
   safe-stored k h = record { first = h; second = tt; answer = tt }
 
   -- a part of memory, as it stands or as it stands after a store
-  memory-answer : (n a o : ℕ) → n ≤ 12 → o + n ≤ length s → AnswerSafe s d (answer.Sheet (MemoryResponse n a) o n)
-  memory-answer n a o m h = (h, omega arith, writes-memory (take n (drop o s)) n a m (part-length s o n h))
+  memory-answer : (m : Memory) (n a o : ℕ) → n ≤ mostBytes m → o + n ≤ length s → AnswerSafe s d (answer.Sheet (responseOf m n a) o n)
+  memory-answer Device n a o m h = (h, omega arith, writes-memory (take n (drop o s)) n a m (part-length s o n h))
+
+  no-memory : (m : Memory) (a : ℕ) → Safe s d (denied (responseOf m 0 a))
+  no-memory Device a = safe-denied _ (writes-memory [] 0 a (omega arith) refl)
 
 safe-verified :
-    (s d : List ℕ) (k : Store) (n a o : ℕ) → StoreSafe s d k → n ≤ 12 → o + n ≤ length s → Safe s d (written k store.Nothing (answer.Sheet (MemoryResponse n a) o n))
-safe-verified s d k n a o h m l =
-    record { first = h; second = tt; answer = memory-answer (storeOf s d k) d n a o m (omega (arith, length-store s d k h)) }
+    (s d : List ℕ) (k : Store) (m : Memory) (n a o : ℕ) → StoreSafe s d k → n ≤ mostBytes m → o + n ≤ length s →
+    Safe s d (written k store.Nothing (answer.Sheet (responseOf m n a) o n))
+safe-verified s d k m n a o h f l =
+    record { first = h; second = tt; answer = memory-answer (storeOf s d k) d m n a o f (omega (arith, length-store s d k h)) }
 
-module _ {s : List ℕ} (ok : Good 1 s) (d : List ℕ) where
+module _ {s : List ℕ} (ok : Good edition s) (d : List ℕ) where
   group-read : (address : ℕ) → Safe s d (groupReadOf s address)
   group-read address =
       group-read-cases s address (Safe s d)
@@ -155,35 +165,32 @@ module _ {s : List ℕ} (ok : Good 1 s) (d : List ℕ) where
       (safe-denied s d _ (writes-description object id index 0 0 0 (omega arith)))
 
   module _ (level n a : ℕ) where
-    no-memory : Safe s d (denied (MemoryResponse 0 a))
-    no-memory = safe-denied s d _ (writes-memory [] 0 a (omega arith) refl)
-
-    memory-read : Safe s d (memoryReadOf s regions level n a)
-    memory-read =
-        memory-read-cases s regions level n a (Safe s d)
-        (λ i p. safe-answered s d _ (memory-answer s d n a _ (p .most) (memory-within ok a n i (p .covered))))
-        no-memory
+    memory-read : (m : Memory) → Safe s d (memoryReadOf s m level n a)
+    memory-read m =
+        memory-read-cases s m level n a (Safe s d)
+        (λ o p. safe-answered s d _ (memory-answer s d m n a o (p .few) (range-within ok (p .range))))
+        (no-memory s d m a)
 
     -- a write whose stores lie where the range does
     change :
-        {test : ℕ → ℕ → Bool} {R : ℕ → ℕ → Type 0} (y : Reflects test R) (m : ℕ) (new : ℕ → Store) → m ≤ 12 →
-        ((o : ℕ) → o + n ≤ length s → StoreSafe s d (new o)) → Safe s d (changed y m new s regions level n a)
-    change y m new l f =
-        change-cases y m new s regions level n a (Safe s d)
-        (λ i p v.
-        let w = memory-within ok a n i (p .covered) in
-        safe-verified s d (new (spot s regions a i)) n a _ (f _ w) (omega (arith, p .most)) w)
-        (λ i p v. safe-stored s d (new (spot s regions a i)) (f _ (memory-within ok a n i (p .covered))))
-        (λ v. no-memory)
+        (w : Access) (most : ℕ) (m : Memory) (new : ℕ → Store) → most ≤ mostBytes m →
+        ((o : ℕ) → o + n ≤ length s → StoreSafe s d (new o)) → Safe s d (changed w most new s m level n a)
+    change w most m new l f =
+        change-cases w most new s m level n a (Safe s d)
+        (λ o p v.
+        let h = range-within ok (p .range) in
+        safe-verified s d (new o) m n a o (f o h) (omega (arith, p .few)) h)
+        (λ o p v. safe-stored s d (new o) (f o (range-within ok (p .range))))
+        (λ v. no-memory s d m a)
         (λ v. safe-refused s d 12)
 
-    memory-write : length d ≡ n → Safe s d (memoryWriteOf s regions level n a)
+    memory-write : (m : Memory) → length d ≡ n → Safe s d (memoryWriteOf s m level n a)
     unfolding memoryWriteOf
-    memory-write e = change reflects-write 12 (store.Data 0) (omega arith) (λ o w. omega arith)
+    memory-write m e = change Write (mostBytes m) m (store.Data 0) (omega arith) (λ o w. omega arith)
 
-    bit-write : length d ≡ n + n → Safe s d (bitWriteOf s regions level n a)
+    bit-write : length d ≡ n + n → Safe s d (bitWriteOf s level n a)
     unfolding bitWriteOf
-    bit-write e = change reflects-change 5 (λ o. store.Bits o n) (omega arith) (λ o w. (w, e))
+    bit-write e = change Change 5 Device (λ o. store.Bits o n) (omega arith) (λ o w. (w, e))
 
   authorize : (key : ℕ) → Safe s d (authorizeOf s key)
   unfolding authorizeOf
@@ -201,7 +208,7 @@ module _ {s : List ℕ} (ok : Good 1 s) (d : List ℕ) where
 
 -- A REQUEST THAT READS IS DECIDED SO THAT IT CAN BE CARRIED OUT
 pub safe-decided :
-    {s : List ℕ} (ok : Good 1 s) (level group : ℕ) (a : List ℕ) (p : Pdu) → Reading a p →
+    {s : List ℕ} (ok : Good edition s) (level group : ℕ) (a : List ℕ) (p : Pdu) → Reading a p →
     Safe s (dataOf p a) (decideOf s level group (dataOf p a) p)
 safe-decided ok level group a GroupValueRead r = group-read ok _ group
 safe-decided ok level group a (GroupValueResponse v) r = group-put ok _ 4 group v
@@ -216,8 +223,8 @@ safe-decided ok level group a (PropertyValueRead object id n s) r =
 safe-decided ok level group a (PropertyValueWrite object id n s) r =
     property-write ok _ level object id n s (write-fields a object id n s r) (write-data a object id n s r)
 safe-decided ok level group a (PropertyDescriptionRead object id index) r = description ok _ object id index
-safe-decided ok level group a (MemoryRead n address) r = memory-read ok _ level n address
-safe-decided ok level group a (MemoryWrite n address) r = memory-write ok _ level n address (memory-data a n address r)
+safe-decided ok level group a (MemoryRead n address) r = memory-read ok _ level n address Device
+safe-decided ok level group a (MemoryWrite n address) r = memory-write ok _ level n address Device (memory-data a n address r)
 safe-decided ok level group a (MemoryBitWrite n address) r = bit-write ok _ level n address (bits-data a n address r)
 safe-decided ok level group a (AuthorizeRequest key) r = authorize ok _ key
 safe-decided ok level group a (KeyWrite named key) r = key-write ok _ level named key

@@ -5,7 +5,6 @@ use mathlib.Core.Path.{_≡_}
 use mathlib.Core.List.{List}
 use lib.ListN.{length}
 use native.Mathlib.Omega.{arith}
-use Rattle.sheet.specs.Kind.{regions}
 use Rattle.sheet.specs.Layout.{_of_}
 use Rattle.sheet.specs.Head as head
 use Rattle.pdu.specs.Read.{readPdu}
@@ -13,6 +12,8 @@ use Rattle.pdu.specs.declared.Pdu.{Pdu}
 use Rattle.pdu.specs.declared.Pdu.the-variants.{GroupValueRead, GroupValueResponse, GroupValueWrite, IndividualAddressWrite, IndividualAddressRead, SerialNumberRead, SerialNumberWrite, DeviceDescriptorRead, PropertyValueRead, PropertyValueWrite, PropertyDescriptionRead, MemoryRead, MemoryWrite, MemoryBitWrite, AuthorizeRequest, KeyWrite, Restart, IndividualAddressResponse, SerialNumberResponse, DeviceDescriptorResponse, PropertyValueResponse, PropertyDescriptionResponse, MemoryResponse, AuthorizeResponse, KeyResponse}
 use Rattle.pdu.specs.declared.Parsed.the-variants.{Is}
 use Rattle.judge.specs.declared.Store.{Store}
+use Rattle.sheet.specs.declared.Memory.the-variants.{Device}
+use Rattle.judge.specs.declared.Access.the-variants.{Write, Change}
 use Rattle.judge.specs.declared.Store.the-variants as store
 use Rattle.judge.specs.declared.Turn.{Turn}
 use Rattle.judge.specs.declared.Answer.{Answer}
@@ -26,7 +27,7 @@ use Rattle.judge.specs.Judge.{decideOf, judgeOf}
 use Rattle.octets.proofs.Walks.{by-eq}
 use Rattle.judge.proofs.GroupCases.{group-read-cases, group-put-cases}
 use Rattle.judge.proofs.PropertyCases.{property-read-cases, property-write-cases, description-cases}
-use Rattle.judge.proofs.MemoryCases.{reflects-write, reflects-change, memory-read-cases, change-cases}
+use Rattle.judge.proofs.MemoryCases.{memory-read-cases, change-cases}
 use Rattle.judge.proofs.KeyCases.{key-write-cases}
 use Rattle.device.specs.Asked.{Asked, Refusal, noRoom, badSheet, badLength, badMode, noSession}
 use Rattle.device.specs.Replies.{Negative, ofRead, ofWrite, ofDescription, ofMemoryRead, ofMemoryWrite, ofBitWrite, ofKeyWrite}
@@ -76,12 +77,12 @@ module _ (a s : List ℕ) (level group : ℕ) (d : List ℕ) where
       description-cases s object id index (Shape a) (λ i z k. reply _ _ _ _) (λ i z k. reply _ _ _ _)
       (deny _ _ e (ofDescription object id index))
   shaped (MemoryRead n address) e =
-      memory-read-cases s regions level n address (Shape a) (λ i p. reply _ _ _ _) (deny _ _ e (ofMemoryRead n address))
+      memory-read-cases s Device level n address (Shape a) (λ i p. reply _ _ _ _) (deny _ _ e (ofMemoryRead n address))
   shaped (MemoryWrite n address) e =
-      change-cases reflects-write 12 (store.Data 0) s regions level n address (Shape a) (λ i p v. reply _ _ _ _) (λ i p v. done _ _)
+      change-cases Write 12 (store.Data 0) s Device level n address (Shape a) (λ i p v. reply _ _ _ _) (λ i p v. done _ _)
       (λ v. deny _ _ e (ofMemoryWrite n address)) (λ v. unanswered a)
   shaped (MemoryBitWrite n address) e =
-      change-cases reflects-change 5 (λ o. store.Bits o n) s regions level n address (Shape a) (λ i p v. reply _ _ _ _) (λ i p v. done _ _)
+      change-cases Change 5 (λ o. store.Bits o n) s Device level n address (Shape a) (λ i p v. reply _ _ _ _) (λ i p v. done _ _)
       (λ v. deny _ _ e (ofBitWrite n address)) (λ v. unanswered a)
   shaped (AuthorizeRequest key) e = reply _ _ _ _
   shaped (KeyWrite named key) e =

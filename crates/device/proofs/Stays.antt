@@ -6,7 +6,7 @@ use mathlib.Core.Bool.{Bool}
 use mathlib.Core.List.{List}
 use lib.ListN.{length}
 use native.Mathlib.Omega.{arith}
-use Rattle.sheet.specs.Rules.{ruleOf}
+use Rattle.sheet.specs.Rules.{Accepted, edition, isAccepted}
 use Rattle.sheet.specs.Frame.{Agree}
 use Rattle.sheet.proofs.Good.{Good, good}
 use Rattle.sheet.proofs.Frames.{both-or-neither}
@@ -14,7 +14,7 @@ use Rattle.pdu.specs.Read.{readPdu}
 use Rattle.pdu.proofs.Readings.{reading}
 use Rattle.pdu.specs.declared.Parsed.{Parsed}
 use Rattle.judge.specs.Session.{levelIn}
-use Rattle.judge.specs.Judge.{isAccepted, decideOf, dataIn}
+use Rattle.judge.specs.Judge.{decideOf, dataIn}
 use Rattle.octets.proofs.Walks.{by-test}
 use Rattle.device.specs.Step.{stepBy, stepOf}
 use Rattle.device.specs.Asked.{Asked, given}
@@ -26,7 +26,7 @@ use Rattle.device.proofs.Keeping.{Keeps, flags-new, keeps-decided}
 
 -- a request
 pub request-agrees :
-    (x : Asked) → ruleOf (x .sheet) ≡ 0 → Agree (x .sheet) (stepOf (x .room) (x .sheet) (x .session) (x .mode) (x .group) (x .apdu) .sheet)
+    (x : Asked) → Accepted (x .sheet) → Agree (x .sheet) (stepOf (x .room) (x .sheet) (x .session) (x .mode) (x .group) (x .apdu) .sheet)
 unfolding stepOf stepBy
 request-agrees x ok =
     request-cases x (Keeps (x .sheet) (dataIn (readPdu (x .apdu)) (x .apdu)))
@@ -34,18 +34,18 @@ request-agrees x ok =
     (λ p r.
     subst
     (λ (z : Parsed). Keeps (x .sheet) (dataIn z (x .apdu)) (decideOf (x .sheet) (levelIn (x .session) (x .mode)) (x .group) (given x p) p))
-    (sym (r .reads)) (keeps-decided (good 1 (x .sheet) ok) _ (x .group) (x .apdu) p (reading (x .apdu) p (r .reads))))
+    (sym (r .reads)) (keeps-decided (good edition (x .sheet) ok) _ (x .group) (x .apdu) p (reading (x .apdu) p (r .reads))))
     (λ n r. agree-refl (x .sheet))
 
 -- the button
-button-agrees : (s : List ℕ) (on : Bool) → ruleOf s ≡ 0 → Agree s (buttonSheet s on)
+button-agrees : (s : List ℕ) (on : Bool) → Accepted s → Agree s (buttonSheet s on)
 unfolding buttonSheet pressed
 button-agrees s on ok =
-    let g : Good 1 s = good 1 s ok in
+    let g : Good edition s = good edition s ok in
     by-test (Agree s) (isAccepted s) _ _ (λ e. flags-new g s _ (omega (arith, g .zeros, bit-small on))) (λ e. agree-refl s)
 
 -- AN EVENT LEAVES ALL THAT THE RULES READ
-pub agrees : (x : State) (e : Event) → ruleOf (x .sheet) ≡ 0 → Agree (x .sheet) (after x e .sheet)
+pub agrees : (x : State) (e : Event) → Accepted (x .sheet) → Agree (x .sheet) (after x e .sheet)
 unfolding after eventOf
 agrees x connect ok = agree-refl (x .sheet)
 agrees x disconnect ok = agree-refl (x .sheet)
@@ -55,5 +55,5 @@ agrees x (request mode group a out) ok =
     (record { room = length out; sheet = x .sheet; session = x .session; mode = mode; group = group; apdu = a }) ok
 
 -- ACCEPTED STAYS ACCEPTED
-pub stays : (x : State) (e : Event) → ruleOf (x .sheet) ≡ 0 → ruleOf (after x e .sheet) ≡ 0
-stays x e ok = both-or-neither 1 (agrees x e ok) .0 ok
+pub stays : (x : State) (e : Event) → Accepted (x .sheet) → Accepted (after x e .sheet)
+stays x e ok = both-or-neither edition (agrees x e ok) .0 ok

@@ -10,7 +10,7 @@ use lib.Dec.{eqb}
 use native.Mathlib.Omega.{arith}
 use borrow.Author.Tests.{lt-ltb, le-ltb, eq-eqb, ne-eqb, eqb-true}
 use Rattle.sheet.specs.Head.{rulesOf}
-use Rattle.sheet.specs.Rules.{ruleOf}
+use Rattle.sheet.specs.Rules.{ruleOf, isAccepted}
 use Rattle.pdu.specs.Table.{serviceAt}
 use Rattle.pdu.specs.Pdus.{serviceOf}
 use Rattle.pdu.specs.Rules.{codeOf}
@@ -26,7 +26,7 @@ use Rattle.judge.specs.declared.Decision.{Decision}
 use Rattle.judge.specs.Decisions as decisions
 use Rattle.judge.specs.Session.{levelIn}
 use Rattle.judge.specs.Modes.{reachOf, reaches, takes}
-use Rattle.judge.specs.Judge.{isAccepted, decideOf, readOf, reachedOf, foundOf, isShut, judgeOf, dataIn}
+use Rattle.judge.specs.Judge.{decideOf, readOf, reachedOf, foundOf, isShut, judgeOf, dataIn}
 use Rattle.device.specs.Step.{Step, stepBy, stepOf}
 use Rattle.device.specs.Asked.{Asked, quiet, Takes, Names, Served, Refusal, noRoom, badSheet, badLength, badMode, noSession, Ready, Reads, given}
 use Rattle.device.proofs.Taking.{takes-is, served-is}

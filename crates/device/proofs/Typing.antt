@@ -5,7 +5,8 @@ use mathlib.Core.Path.{_≡_}
 use mathlib.Core.List.{List}
 use lib.ListN.{length}
 use native.Mathlib.Omega.{arith}
-use Rattle.sheet.specs.Kind.{regions, properties}
+use Rattle.sheet.specs.Rules.{edition}
+use Rattle.sheet.specs.Kind.{properties}
 use Rattle.sheet.specs.Layout.{_of_}
 use Rattle.sheet.specs.Property as property
 use Rattle.sheet.specs.Head as head
@@ -25,6 +26,8 @@ use Rattle.judge.specs.declared.Answer.{Answer}
 use Rattle.judge.specs.declared.Answer.the-variants as answer
 use Rattle.judge.specs.declared.Decision.{Decision}
 use Rattle.judge.specs.Addresses.{addressWriteOf, addressReadOf, serialReadOf, serialWriteOf, descriptorOf}
+use Rattle.sheet.specs.declared.Memory.the-variants.{Device}
+use Rattle.judge.specs.declared.Access.the-variants.{Write, Change}
 use Rattle.judge.specs.declared.Store.the-variants as store
 use Rattle.judge.specs.Memory.{memoryWriteOf, bitWriteOf}
 use Rattle.judge.specs.Keys.{grantOf, authorizeOf, restartOf}
@@ -32,7 +35,7 @@ use Rattle.judge.specs.Judge.{decideOf, judgeOf}
 use Rattle.octets.proofs.Walks.{by-eq}
 use Rattle.judge.proofs.GroupCases.{group-read-cases, group-put-cases}
 use Rattle.judge.proofs.PropertyCases.{describes, property-read-cases, property-write-cases, description-cases}
-use Rattle.judge.proofs.MemoryCases.{reflects-write, reflects-change, memory-read-cases, change-cases}
+use Rattle.judge.proofs.MemoryCases.{memory-read-cases, change-cases}
 use Rattle.judge.proofs.KeyCases.{grant-cases, key-write-cases}
 use Rattle.device.specs.Octets.{Octets}
 use Rattle.device.specs.Asked.{Asked}
@@ -58,13 +61,13 @@ granted : (s : List ℕ) (key : ℕ) → grantOf s key ≤ 3
 granted s key =
     grant-cases s key (λ (l : ℕ). l ≤ 3) (λ a. omega arith) (λ a b. omega arith) (λ a b c. omega arith) (λ a b c. omega arith)
 
-module _ {s : List ℕ} (ok : Good 1 s) (h : Octets s) where
+module _ {s : List ℕ} (ok : Good edition s) (h : Octets s) where
   description-fits : (i : ℕ) → i < count s properties → Fits (describes s i)
   description-fits i l =
       let index = rank-bound s (property.object of entry s properties i) i in
       (entry-byte s i 0 (omega arith) h, (entry-byte s i 1 (omega arith) h, (omega (arith, ok .framed), (entry-byte s i 2 (omega arith) h, (tt, (entry-byte s i 10 (omega arith) h, tt))))))
 
-module _ {s : List ℕ} (ok : Good 1 s) (h : Octets s) (level group : ℕ) (d : List ℕ) where
+module _ {s : List ℕ} (ok : Good edition s) (h : Octets s) (level group : ℕ) (d : List ℕ) where
   fitted : (p : Pdu) → Typed p → Fits (decideOf s level group d p)
   unfolding addressWriteOf addressReadOf serialReadOf serialWriteOf descriptorOf memoryWriteOf bitWriteOf authorizeOf restartOf
   fitted GroupValueRead t = group-read-cases s group Fits (λ i l z. (tt, tt)) (λ i l z. (tt, tt)) tt
@@ -85,11 +88,11 @@ module _ {s : List ℕ} (ok : Good 1 s) (h : Octets s) (level group : ℕ) (d : 
   fitted (PropertyDescriptionRead object id index) t =
       description-cases s object id index Fits (λ i z k. description-fits ok h i (k .there)) (λ i z r. description-fits ok h i (r .there))
       (t .0, (t .1 .0, (t .1 .1 .0, (omega arith, (tt, (omega arith, tt))))))
-  fitted (MemoryRead n address) t = memory-read-cases s regions level n address Fits (λ i p. t) t
+  fitted (MemoryRead n address) t = memory-read-cases s Device level n address Fits (λ i p. t) t
   fitted (MemoryWrite n address) t =
-      change-cases reflects-write 12 (store.Data 0) s regions level n address Fits (λ i p v. t) (λ i p v. tt) (λ v. t) (λ v. tt)
+      change-cases Write 12 (store.Data 0) s Device level n address Fits (λ i p v. t) (λ i p v. tt) (λ v. t) (λ v. tt)
   fitted (MemoryBitWrite n address) t =
-      change-cases reflects-change 5 (λ o. store.Bits o n) s regions level n address Fits (λ i p v. (tt, t .1)) (λ i p v. tt) (λ v. (tt, t .1)) (λ v. tt)
+      change-cases Change 5 (λ o. store.Bits o n) s Device level n address Fits (λ i p v. (tt, t .1)) (λ i p v. tt) (λ v. (tt, t .1)) (λ v. tt)
   fitted (AuthorizeRequest key) t = (omega (arith, granted s key), tt)
   fitted (KeyWrite named key) t = key-write-cases level named key Fits (λ l r. (t .0, tt)) (omega arith, tt)
   fitted Restart t = tt
@@ -107,5 +110,5 @@ pub typed :
     (x : Asked) → Octets (x .sheet) → Octets (x .apdu) → AnswerTyped (judgeOf (x .room) (x .sheet) (x .session) (x .mode) (x .group) (x .apdu) .answer)
 typed x hs ha =
     request-cases x Fits (λ k r n v t. tt) (λ r f. tt) (λ k r n t e. tt)
-    (λ p r. fitted (good 1 (x .sheet) (r .ready .sheet)) hs _ (x .group) _ p (request-typed (x .apdu) p ha (r .reads)))
+    (λ p r. fitted (good edition (x .sheet) (r .ready .sheet)) hs _ (x .group) _ p (request-typed (x .apdu) p ha (r .reads)))
     (λ n r. tt)

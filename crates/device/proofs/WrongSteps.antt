@@ -7,7 +7,7 @@ use Rattle.octets.specs.Splice.{splice}
 use Rattle.sheet.specs.Demand.{breach}
 use Rattle.sheet.specs.First.{first}
 use Rattle.sheet.specs.Entries.{entry, keyOf, floor, bodyEnd, startOf, reached, sixBits}
-use Rattle.sheet.specs.Rules.{entryDemands, bodyDemands, entryRule, bodyRule, entriesRule, bodiesRule, walkRule, ruleIn}
+use Rattle.sheet.specs.Rules.{entryDemands, bodyDemands, entryRule, bodyRule, entriesRule, bodiesRule, walkRule, ruleIn, isAccepted}
 use Rattle.sheet.specs.Lookup.{seek, indexOf}
 use Rattle.pdu.specs.Table.{find}
 use Rattle.pdu.specs.Rules.{fourAt, twelveAt, headBytes}
@@ -17,7 +17,7 @@ use Rattle.judge.specs.Session.{levelOf, levelIn}
 use Rattle.sheet.specs.Head.{rulesOf}
 use Rattle.judge.specs.Keys.{keyWriteOf}
 use Rattle.judge.specs.Properties.{readIn, propertyReadOf, writeIn, propertyWriteOf}
-use Rattle.judge.specs.Judge.{isAccepted, reachedOf, isShut, judgeOf}
+use Rattle.judge.specs.Judge.{reachedOf, isShut, judgeOf}
 use Rattle.device.specs.Step.{stepBy, stepOf}
 use Rattle.device.specs.Demand2.{done}
 use Rattle.device.specs.Marked.{sample, readCount, writeElement, asked}

@@ -7,7 +7,7 @@ use mathlib.Core.Logic.{_⊎_}
 use mathlib.Core.List.{List, []}
 use lib.ListN.{length, take, drop}
 use Rattle.sheet.specs.Head.{rulesOf}
-use Rattle.sheet.specs.Rules.{ruleOf}
+use Rattle.sheet.specs.Rules.{Accepted}
 use Rattle.pdu.specs.Table.{rowOf}
 use Rattle.pdu.specs.Pdus.{serviceOf}
 use Rattle.pdu.specs.Rules.{codeOf}
@@ -85,16 +85,16 @@ pub record Served (rules : ℕ) (k : Service) : Type 0 where
 -- THE REFUSALS BEFORE THE SERVICE, in order; each is due only where none before it is
 pub data Refusal (x : Asked) : ℕ → Type 0 where
   noRoom : x .room < 16 → Refusal x 3
-  badSheet : 16 ≤ x .room → (ruleOf (x .sheet) ≡ 0 → ⊥) → Refusal x 4
-  badLength : 16 ≤ x .room → ruleOf (x .sheet) ≡ 0 → (length (x .apdu) < 2) ⊎ (16 < length (x .apdu)) → Refusal x 5
-  badMode : 16 ≤ x .room → ruleOf (x .sheet) ≡ 0 → 2 ≤ length (x .apdu) → length (x .apdu) ≤ 16 → 3 < x .mode → Refusal x 6
+  badSheet : 16 ≤ x .room → (Accepted (x .sheet) → ⊥) → Refusal x 4
+  badLength : 16 ≤ x .room → Accepted (x .sheet) → (length (x .apdu) < 2) ⊎ (16 < length (x .apdu)) → Refusal x 5
+  badMode : 16 ≤ x .room → Accepted (x .sheet) → 2 ≤ length (x .apdu) → length (x .apdu) ≤ 16 → 3 < x .mode → Refusal x 6
   noSession :
-      16 ≤ x .room → ruleOf (x .sheet) ≡ 0 → 2 ≤ length (x .apdu) → length (x .apdu) ≤ 16 → x .mode ≡ connected → x .session .opened ≡ false → Refusal x 7
+      16 ≤ x .room → Accepted (x .sheet) → 2 ≤ length (x .apdu) → length (x .apdu) ≤ 16 → x .mode ≡ connected → x .session .opened ≡ false → Refusal x 7
 
 -- none of these is due
 pub record Ready (x : Asked) : Type 0 where
   pub buffer : 16 ≤ x .room
-  pub sheet : ruleOf (x .sheet) ≡ 0
+  pub sheet : Accepted (x .sheet)
   pub least : 2 ≤ length (x .apdu)
   pub most : length (x .apdu) ≤ 16
   pub mode : x .mode ≤ 3

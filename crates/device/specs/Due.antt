@@ -7,7 +7,7 @@ use mathlib.Core.List.{List, []}
 use lib.ListN.{length, getD}
 use Rattle.sheet.specs.Layout.{_of_}
 use Rattle.sheet.specs.Head as head
-use Rattle.sheet.specs.Rules.{ruleOf}
+use Rattle.sheet.specs.Rules.{Accepted}
 use Rattle.judge.specs.declared.Session.{Session}
 use Rattle.device.specs.Step.{Step}
 use Rattle.device.specs.Events.{State, bit}
@@ -35,5 +35,5 @@ pub record Switched (s : List ℕ) (on : Bool) (s′ : List ℕ) : Type 0 where
 pub record ButtonDue (on : Bool) (x : State) (r : Step) : Type 0 where
   pub answer : r .answer ≡ []
   pub session : r .session ≡ x .session
-  pub badSheet : (ruleOf (x .sheet) ≡ 0 → ⊥) → (r .outcome ≡ 4) × (r .sheet ≡ x .sheet)
-  pub accepted : ruleOf (x .sheet) ≡ 0 → (r .outcome ≡ 1) × Switched (x .sheet) on (r .sheet)
+  pub badSheet : (Accepted (x .sheet) → ⊥) → (r .outcome ≡ 4) × (r .sheet ≡ x .sheet)
+  pub accepted : Accepted (x .sheet) → (r .outcome ≡ 1) × Switched (x .sheet) on (r .sheet)

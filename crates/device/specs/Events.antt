@@ -7,10 +7,10 @@ use mathlib.Core.Bool.{Bool, true, false, cond}
 use lib.ListN.{length}
 use Rattle.octets.specs.Bytes.{bytesOf}
 use Rattle.octets.specs.Splice.{splice}
+use Rattle.sheet.specs.Rules.{isAccepted}
 use Rattle.sheet.specs.Layout.{_of_}
 use Rattle.sheet.specs.Head as head
 use Rattle.judge.specs.Session.{weakest}
-use Rattle.judge.specs.Judge.{isAccepted}
 use Rattle.judge.specs.declared.Session.{Session}
 use Rattle.device.specs.Step.{Step, stepOf}
 

@@ -1,65 +1,81 @@
 -- WHAT IS DUE FOR MEMORY: read, written, bits written.
 -- Assumes nothing.
-use Prim.Native.Nat.{ℕ, _+_, _-_, _/_, _%_, _≤_, _<_}
+use Prim.Native.Nat.{ℕ, _+_, _/_, _%_, _≤_, _<_}
 use mathlib.Core.Path.{_≡_}
 use mathlib.Core.List.{List, []}
 use lib.ListN.{length, getD}
 use lib.Bits.{bitAnd, bitXor}
 use Rattle.octets.specs.Splice.{splice}
-use Rattle.sheet.specs.Kind.{regions}
-use Rattle.sheet.specs.Layout.{_of_}
 use Rattle.sheet.specs.Head as head
-use Rattle.sheet.specs.Region as region
-use Rattle.sheet.specs.Entries.{count, entry}
+use Rattle.sheet.specs.Places.{Ranged}
+use Rattle.sheet.specs.declared.Memory.{Memory}
+use Rattle.sheet.specs.declared.Memory.the-variants.{Device}
+use Rattle.pdu.specs.declared.Pdu.{Pdu}
 use Rattle.pdu.specs.declared.Pdu.the-variants.{MemoryRead, MemoryWrite, MemoryBitWrite, MemoryResponse}
 use Rattle.device.specs.Step.{Step}
 use Rattle.device.specs.Asked.{Asked, quiet, says, saysAfter, stores, Reads, given, Acts, part}
 
--- entry i among the regions of the sheet that the request meets
-abbrev pub regionEntry : Asked → ℕ → List ℕ
-regionEntry x i = entry (x .sheet) regions i
+-- the services of a memory, and how many bytes a read or write may name
+abbrev pub reading : Memory → ℕ → ℕ → Pdu
+reading Device n address = MemoryRead n address
 
--- n bytes of memory from an address on, all in one region
-pub record InRegion (x : Asked) (address n i : ℕ) : Type 0 where
-  pub there : i < count (x .sheet) regions
-  pub start : region.address of regionEntry x i ≤ address
-  pub end : address + n ≤ region.address of regionEntry x i + region.length of regionEntry x i
+abbrev pub response : Memory → ℕ → ℕ → Pdu
+response Device n address = MemoryResponse n address
 
--- where they stand in the sheet
-abbrev pub memoryAt : List ℕ → ℕ → ℕ
-memoryAt e address = region.offset of e + (address - region.address of e)
+abbrev pub mostOf : Memory → ℕ
+mostOf Device = 12
 
-pub record MemoryReadable (x : Asked) (n address i : ℕ) : Type 0 where
+-- the writes: of bytes of a memory, of bits of the device's memory
+pub data Write : Type 0 where
+  bytes : Memory → Write
+  bits : Write
+
+abbrev pub into : Write → Memory
+into (bytes m) = m
+into bits = Device
+
+abbrev pub writing : Write → ℕ → ℕ → Pdu
+writing (bytes Device) n address = MemoryWrite n address
+writing bits n address = MemoryBitWrite n address
+
+abbrev pub mostIn : Write → ℕ
+mostIn (bytes m) = mostOf m
+mostIn bits = 5
+
+-- a level suffices, by the levels of what is read or written; a bit write shows old bits, so it needs both rights
+abbrev pub ToRead : ℕ → ℕ → Type 0
+ToRead level levels = level ≤ levels / 16
+
+abbrev pub ToWrite : Write → ℕ → ℕ → Type 0
+ToWrite (bytes m) level levels = level ≤ levels % 16
+ToWrite bits level levels = (level ≤ levels / 16) × (level ≤ levels % 16)
+
+-- THESE n ADDRESSES of a memory, 1 to `most`, stand from place o on, under levels for which the level of the request suffices
+pub record Open (x : Asked) (m : Memory) (most : ℕ) (Suffices : ℕ → ℕ → Type 0) (n address o : ℕ) : Type 0 where
   pub some : 1 ≤ n
-  pub most : n ≤ 12
-  pub range : InRegion x address n i
+  pub few : n ≤ most
+  pub levels : ℕ
+  pub range : Ranged (x .sheet) m address n o levels
   pub level : ℕ
   pub acts : Acts x level
-  pub suffices : level ≤ region.levels of regionEntry x i / 16
+  pub suffices : Suffices level levels
 
-pub record MemoryWritable (x : Asked) (n address i : ℕ) : Type 0 where
-  pub some : 1 ≤ n
-  pub most : n ≤ 12
-  pub range : InRegion x address n i
-  pub level : ℕ
-  pub acts : Acts x level
-  pub suffices : level ≤ region.levels of regionEntry x i % 16
+abbrev pub MemoryReadable : Asked → Memory → ℕ → ℕ → ℕ → Type 0
+MemoryReadable x m n address o = Open x m (mostOf m) ToRead n address o
 
--- a bit write shows old bits, so it needs both rights
-pub record BitsWritable (x : Asked) (n address i : ℕ) : Type 0 where
-  pub some : 1 ≤ n
-  pub most : n ≤ 5
-  pub range : InRegion x address n i
-  pub level : ℕ
-  pub acts : Acts x level
-  pub read : level ≤ region.levels of regionEntry x i / 16
-  pub write : level ≤ region.levels of regionEntry x i % 16
+abbrev pub MemoryWritable : Asked → Write → ℕ → ℕ → ℕ → Type 0
+MemoryWritable x w n address o = Open x (into w) (mostIn w) (ToWrite w) n address o
 
--- d is what it leaves of the n bytes from place o on: (old AND a) XOR x for each, the data being n AND bytes a and then n XOR bytes x
+-- d is what a bit write leaves of the n bytes from place o on: (old AND a) XOR x for each, the data being n AND bytes a and then n XOR bytes x
 pub record Combined (s : List ℕ) (o n : ℕ) (given d : List ℕ) : Type 0 where
   pub long : length d ≡ n
   pub each :
       (i : ℕ) → i < n → getD d i 0 ≡ bitXor (bitAnd (getD s (o + i) 0) (getD given i 0)) (getD given (n + i) 0)
+
+-- d is what a write leaves of them
+abbrev pub Leaves : Asked → Write → ℕ → ℕ → ℕ → List ℕ → Type 0
+Leaves x (bytes m) n address o d = d ≡ given x (writing (bytes m) n address)
+Leaves x bits n address o d = Combined (x .sheet) o n (given x (MemoryBitWrite n address)) d
 
 abbrev pub Verify : Asked → Type 0
 Verify x = head.verify (x .sheet) ≡ 1
@@ -67,39 +83,21 @@ Verify x = head.verify (x .sheet) ≡ 1
 -- THE STEP THAT IS DUE
 pub data MemoryDue (x : Asked) : Step → Type 0 where
   memoryRead :
-      (n address i : ℕ) → Reads x (MemoryRead n address) → MemoryReadable x n address i →
-      MemoryDue x (says x 0 (MemoryResponse n address) (part (x .sheet) (memoryAt (regionEntry x i) address) n))
+      (m : Memory) (n address o : ℕ) → Reads x (reading m n address) → MemoryReadable x m n address o →
+      MemoryDue x (says x 0 (response m n address) (part (x .sheet) o n))
   noMemoryRead :
-      (n address : ℕ) → Reads x (MemoryRead n address) → ((i : ℕ) → MemoryReadable x n address i → ⊥) →
-      MemoryDue x (says x 11 (MemoryResponse 0 address) [])
+      (m : Memory) (n address : ℕ) → Reads x (reading m n address) → ((o : ℕ) → MemoryReadable x m n address o → ⊥) →
+      MemoryDue x (says x 11 (response m 0 address) [])
   memoryWriteVerified :
-      (n address i : ℕ) (d : List ℕ) → Reads x (MemoryWrite n address) → MemoryWritable x n address i →
-      d ≡ given x (MemoryWrite n address) → Verify x →
-      MemoryDue x
-      (saysAfter x (splice (x .sheet) (memoryAt (regionEntry x i) address) d) (MemoryResponse n address) d)
+      (w : Write) (n address o : ℕ) (d : List ℕ) → Reads x (writing w n address) → MemoryWritable x w n address o →
+      Leaves x w n address o d → Verify x →
+      MemoryDue x (saysAfter x (splice (x .sheet) o d) (response (into w) n address) d)
   memoryWrite :
-      (n address i : ℕ) (d : List ℕ) → Reads x (MemoryWrite n address) → MemoryWritable x n address i →
-      d ≡ given x (MemoryWrite n address) → (Verify x → ⊥) →
-      MemoryDue x (stores x (splice (x .sheet) (memoryAt (regionEntry x i) address) d))
+      (w : Write) (n address o : ℕ) (d : List ℕ) → Reads x (writing w n address) → MemoryWritable x w n address o →
+      Leaves x w n address o d → (Verify x → ⊥) → MemoryDue x (stores x (splice (x .sheet) o d))
   noMemoryWriteVerified :
-      (n address : ℕ) → Reads x (MemoryWrite n address) → ((i : ℕ) → MemoryWritable x n address i → ⊥) → Verify x →
-      MemoryDue x (says x 11 (MemoryResponse 0 address) [])
+      (w : Write) (n address : ℕ) → Reads x (writing w n address) → ((o : ℕ) → MemoryWritable x w n address o → ⊥) →
+      Verify x → MemoryDue x (says x 11 (response (into w) 0 address) [])
   noMemoryWrite :
-      (n address : ℕ) → Reads x (MemoryWrite n address) → ((i : ℕ) → MemoryWritable x n address i → ⊥) →
-      (Verify x → ⊥) → MemoryDue x (quiet x 12)
-  bitWriteVerified :
-      (n address i : ℕ) (d : List ℕ) → Reads x (MemoryBitWrite n address) → BitsWritable x n address i →
-      Combined (x .sheet) (memoryAt (regionEntry x i) address) n (given x (MemoryBitWrite n address)) d →
-      Verify x →
-      MemoryDue x
-      (saysAfter x (splice (x .sheet) (memoryAt (regionEntry x i) address) d) (MemoryResponse n address) d)
-  bitWrite :
-      (n address i : ℕ) (d : List ℕ) → Reads x (MemoryBitWrite n address) → BitsWritable x n address i →
-      Combined (x .sheet) (memoryAt (regionEntry x i) address) n (given x (MemoryBitWrite n address)) d →
-      (Verify x → ⊥) → MemoryDue x (stores x (splice (x .sheet) (memoryAt (regionEntry x i) address) d))
-  noBitWriteVerified :
-      (n address : ℕ) → Reads x (MemoryBitWrite n address) → ((i : ℕ) → BitsWritable x n address i → ⊥) → Verify x →
-      MemoryDue x (says x 11 (MemoryResponse 0 address) [])
-  noBitWrite :
-      (n address : ℕ) → Reads x (MemoryBitWrite n address) → ((i : ℕ) → BitsWritable x n address i → ⊥) →
+      (w : Write) (n address : ℕ) → Reads x (writing w n address) → ((o : ℕ) → MemoryWritable x w n address o → ⊥) →
       (Verify x → ⊥) → MemoryDue x (quiet x 12)

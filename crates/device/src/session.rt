@@ -3,7 +3,7 @@ use judge::Session;
 use judge::Turn;
 ghost use mathlib.Core.Path.{_≡_};
 ghost use Prim.Native.Nat.{_+_, _-_, _≤_};
-ghost use Rattle.sheet.specs.Rules.{ruleOf};
+ghost use Rattle.sheet.specs.Rules.{Accepted};
 ghost use Rattle.sheet.specs.Layout.{_of_};
 ghost use Rattle.sheet.specs.Head as head;
 ghost use Rattle.device.specs.Carry.{turnOf};
@@ -68,7 +68,7 @@ fn bit_of(on: bool) -> u8
 
 // The flags with programming mode set or cleared, verify as it was.
 fn flags_with(s: &[u8], on: bool) -> u8
-    requires { ⌜ ruleOf (now s) ≡ 0 ⌝ }
+    requires { ⌜ Accepted (now s) ⌝ }
     ensures { λ r. ⌜ r ≡ head.flags of now (s .entry) - head.programming (now (s .entry)) + bit on ⌝ }
 {
     let f = sheet::flags(s);

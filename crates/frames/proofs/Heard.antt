@@ -1,5 +1,6 @@
 -- THE DEVICE DOES WITH THE BYTES FROM OCTET 6 ON WHAT IT DOES WITH THE APDU, whatever transport's bits are.
 -- Assumes nothing.
+use Rattle.sheet.specs.Rules.{isAccepted}
 use Prim.Native.Nat.{ℕ}
 use mathlib.Core.Path.{_≡_, refl, ap, ap₂, _∙_}
 use mathlib.Core.Bool.{cond, not}
@@ -17,7 +18,7 @@ use Rattle.pdu.specs.declared.Parsed.the-variants.{Is, Refused}
 use Rattle.judge.specs.Decisions.{refused}
 use Rattle.judge.specs.Session.{levelIn}
 use Rattle.judge.specs.Modes.{reachOf, reaches, takes}
-use Rattle.judge.specs.Judge.{dataIn, isAccepted, isShut, decideOf, readOf, reachedOf, foundOf, judgeOf}
+use Rattle.judge.specs.Judge.{dataIn, isShut, decideOf, readOf, reachedOf, foundOf, judgeOf}
 use Rattle.judge.specs.declared.Session.{Session}
 use Rattle.judge.specs.declared.Reach.{Reach}
 use Rattle.judge.specs.declared.Decision.{Decision}

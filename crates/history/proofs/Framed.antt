@@ -8,33 +8,27 @@ use lib.Dec.{ltb, leb, eqb}
 use native.Mathlib.Decide.{decLt}
 use native.Mathlib.Omega.{arith}
 use borrow.Author.Tests.{le-ltb}
-use Rattle.sheet.specs.Kind.{regions, properties}
+use Rattle.sheet.specs.Kind.{properties, kindOf}
+use Rattle.sheet.specs.declared.Memory.{Memory}
+use Rattle.sheet.specs.declared.Memory.the-variants.{Device}
 use Rattle.sheet.specs.Layout.{_of_}
 use Rattle.sheet.specs.Region as region
 use Rattle.sheet.specs.Property as property
 use Rattle.sheet.specs.Entries.{count, entry}
 use Rattle.sheet.specs.Lookup.{seek, covers}
 use Rattle.sheet.specs.Frame.{Agree}
-use Rattle.sheet.specs.Places.{PropertyWith}
+use Rattle.sheet.specs.Places.{regionAt, PropertyWith}
 use Rattle.sheet.proofs.Sames.{count-same, region-same, property-same}
 use Rattle.sheet.proofs.Seeks.{seek-same}
 use Rattle.sheet.proofs.Finds.{index-same}
-use Rattle.sheet.proofs.Runs.{Covered}
 use Rattle.history.specs.Wish.{Wish, change, writeMemory, writeBits, writeProperty, writeKey, offerKey, restart, other, nothing}
-use Rattle.history.specs.Permit.{regionFor, mayRead, mayWrite, indexFor, entryFor, clears, fills, allowed}
+use Rattle.history.specs.Permit.{regionFor, mayRead, mayWrite, mostBytes, inRange, indexFor, entryFor, clears, fills, allowed}
 use Rattle.history.proofs.Bools.{every-same}
 
 module _ {f s : List ℕ} (a : Agree f s) where
   -- an entry of the one is an entry of the other
   pub below-same : (k i : ℕ) → i < count s k → i < count f k
   below-same k i h = omega (arith, count-same a k)
-
-  pub covered-same : {i y n : ℕ} → Covered s regions i y n → Covered f regions i y n
-  covered-same {i} c =
-      let h = below-same regions i (c .below) in
-      let p = region-same a i region.address h (omega arith) in
-      let q = region-same a i region.length h (omega arith) in
-      record { below = h; from = omega (arith, c .from); to = omega (arith, c .to) }
 
   pub is-same : {object id i : ℕ} → PropertyWith s object id i → PropertyWith f object id i
   is-same {i = i} q =
@@ -45,33 +39,44 @@ module _ {f s : List ℕ} (a : Agree f s) where
         sameId = sym (property-same a i property.id h (omega arith) (omega arith)) ∙ q .sameId;
       }
 
-  -- the same region of a range, with the same rights
-  cover-same : (y n i : ℕ) → i < count f regions → covers (entry s regions i) y n ≡ covers (entry f regions i) y n
-  unfolding covers
-  cover-same y n i h = rw (region-same a i region.address h (omega arith), region-same a i region.length h (omega arith))
+  module _ (m : Memory) where
+    -- the same region of a range, with the same rights
+    cover-same : (y n i : ℕ) → i < count f (kindOf m) → covers (regionAt s m i) y n ≡ covers (regionAt f m i) y n
+    unfolding covers
+    cover-same y n i h = rw (region-same a m i region.address h (omega arith), region-same a m i region.length h (omega arith))
 
-  pub region-for-same : (y n : ℕ) → regionFor s y n ≡ regionFor f y n
-  unfolding regionFor
-  region-for-same y n =
-      ap (seek (λ i. covers (entry s regions i) y n) 0) (count-same a regions)
-      ∙ seek-same (λ i. covers (entry s regions i) y n) (λ i. covers (entry f regions i) y n) 0 (count f regions)
-      (λ i h l. cover-same y n i (omega arith))
+    pub region-for-same : (y n : ℕ) → regionFor s m y n ≡ regionFor f m y n
+    unfolding regionFor
+    region-for-same y n =
+        ap (seek (λ i. covers (regionAt s m i) y n) 0) (count-same a (kindOf m))
+        ∙ seek-same (λ i. covers (regionAt s m i) y n) (λ i. covers (regionAt f m i) y n) 0 (count f (kindOf m))
+        (λ i h l. cover-same y n i (omega arith))
 
-  may-read-same : (level y : ℕ) → mayRead s level y ≡ mayRead f level y
-  unfolding mayRead
-  may-read-same level y = rw (region-for-same y 1, count-same a regions) (go (regionFor f y 1) (decLt (regionFor f y 1) (count f regions)))
-    where
-      go : (i : ℕ) → Dec (i < count f regions) → (ltb i (count f regions) && leb level (region.levels of entry s regions i / 16)) ≡ (ltb i (count f regions) && leb level (region.levels of entry f regions i / 16))
-      go i (yes h) = rw (region-same a i region.levels h (omega arith))
-      go i (no h) = rw (le-ltb i (count f regions) (omega arith))
+    -- what a region's levels say
+    may-same :
+        (may : ℕ → Bool) (i : ℕ) →
+        (ltb i (count f (kindOf m)) && may (region.levels of regionAt s m i)) ≡ (ltb i (count f (kindOf m)) && may (region.levels of regionAt f m i))
+    may-same may i = go (decLt i (count f (kindOf m)))
+      where
+        go :
+            Dec (i < count f (kindOf m)) →
+            (ltb i (count f (kindOf m)) && may (region.levels of regionAt s m i)) ≡ (ltb i (count f (kindOf m)) && may (region.levels of regionAt f m i))
+        go (yes h) = rw (region-same a m i region.levels h (omega arith))
+        go (no h) = rw (le-ltb i (count f (kindOf m)) (omega arith))
 
-  may-write-same : (level y : ℕ) → mayWrite s level y ≡ mayWrite f level y
-  unfolding mayWrite
-  may-write-same level y = rw (region-for-same y 1, count-same a regions) (go (regionFor f y 1) (decLt (regionFor f y 1) (count f regions)))
-    where
-      go : (i : ℕ) → Dec (i < count f regions) → (ltb i (count f regions) && leb level (region.levels of entry s regions i % 16)) ≡ (ltb i (count f regions) && leb level (region.levels of entry f regions i % 16))
-      go i (yes h) = rw (region-same a i region.levels h (omega arith))
-      go i (no h) = rw (le-ltb i (count f regions) (omega arith))
+    may-read-same : (level y : ℕ) → mayRead s m level y ≡ mayRead f m level y
+    unfolding mayRead
+    may-read-same level y = rw (region-for-same y 1, count-same a (kindOf m)) (may-same (λ l. leb level (l / 16)) (regionFor f m y 1))
+
+    may-write-same : (level y : ℕ) → mayWrite s m level y ≡ mayWrite f m level y
+    unfolding mayWrite
+    may-write-same level y = rw (region-for-same y 1, count-same a (kindOf m)) (may-same (λ l. leb level (l % 16)) (regionFor f m y 1))
+
+    range-same :
+        (most : ℕ) (t u : ℕ → Bool) (n y : ℕ) → ((i : ℕ) → t i ≡ u i) → inRange s m most t n y ≡ inRange f m most u n y
+    unfolding inRange
+    range-same most t u n y e =
+        rw (region-for-same y n, count-same a (kindOf m), every-same (λ i. t (y + i)) (λ i. u (y + i)) n (λ i. e (y + i)))
 
   pub index-for-same : (object id : ℕ) → indexFor s object id ≡ indexFor f object id
   unfolding indexFor
@@ -80,10 +85,9 @@ module _ {f s : List ℕ} (a : Agree f s) where
   -- WHAT IS ALLOWED STAYS ALLOWED
   pub allowed-same : (level : ℕ) (d : List ℕ) (w : Wish) → allowed s level d w ≡ allowed f level d w
   unfolding allowed entryFor fills
-  allowed-same level d (change (writeMemory n y)) =
-      rw (region-for-same y n, count-same a regions, every-same (λ i. mayWrite s level (y + i)) (λ i. mayWrite f level (y + i)) n (λ i. may-write-same level (y + i)))
+  allowed-same level d (change (writeMemory m n y)) = range-same m (mostBytes m) _ _ n y (may-write-same m level)
   allowed-same level d (change (writeBits n y)) =
-      rw (region-for-same y n, count-same a regions, every-same (λ i. mayRead s level (y + i) && mayWrite s level (y + i)) (λ i. mayRead f level (y + i) && mayWrite f level (y + i)) n (λ i. rw (may-read-same level (y + i), may-write-same level (y + i))))
+      range-same Device 5 _ _ n y (λ i. rw (may-read-same Device level i, may-write-same Device level i))
   allowed-same level d (change (writeProperty object id n z)) =
       rw (index-for-same object id, count-same a properties) (go (indexFor f object id) (decLt (indexFor f object id) (count f properties)))
     where

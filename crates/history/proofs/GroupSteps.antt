@@ -12,6 +12,7 @@ use borrow.Author.Tests.{eqb-true, eq-eqb, ne-eqb}
 use Rattle.octets.specs.Bytes.{bytesOf}
 use Rattle.octets.specs.Splice.{splice}
 use Rattle.octets.proofs.Numbers.{length-bytes}
+use Rattle.sheet.specs.Rules.{edition}
 use Rattle.sheet.specs.Kind.{groups}
 use Rattle.sheet.specs.Layout.{_of_}
 use Rattle.sheet.specs.Group as group
@@ -125,7 +126,7 @@ module _ (f : First) (b : Begins f) (h : List Event) (x : State) (inv : Inv f h 
     group-once : (i j : ℕ) → Group R i → Group R j → i ≡ j
     unfolding keyOf
     group-once i j m n =
-        key-once 1 _ (accepted (now inv b)) groups (omega arith) i j (m .there) (n .there) (m .address ∙ sym (n .address))
+        key-once edition _ (accepted (now inv b)) groups (omega arith) i j (m .there) (n .there) (m .address ∙ sym (n .address))
 
     pub unfit :
         (i : ℕ) → Group R i → (length D ≡ group.code of entry (x .sheet) groups i → ⊥) → (j : ℕ) → Group R j →

@@ -8,7 +8,7 @@ use mathlib.Core.List.{List}
 use lib.Dec.{eqb}
 use borrow.Author.Tests.{leb-true, le-leb, eqb-true, eq-eqb}
 use Rattle.sheet.specs.Head.{rulesOf}
-use Rattle.sheet.specs.Rules.{ruleOf}
+use Rattle.sheet.specs.Rules.{Accepted}
 use Rattle.pdu.specs.Read.{readPdu, dataOf}
 use Rattle.pdu.specs.Pdus.{serviceOf}
 use Rattle.pdu.specs.declared.Parsed.{Parsed}
@@ -70,7 +70,7 @@ taken-is rules (MemoryResponse n y) m = inl refl
 taken-is rules (AuthorizeResponse l) m = inl refl
 taken-is rules (KeyResponse l) m = inl refl
 
-module _ (x : State) (mode g : ℕ) (a out : List ℕ) (accepted : ruleOf (x .sheet) ≡ 0) where
+module _ (x : State) (mode g : ℕ) (a out : List ℕ) (accepted : Accepted (x .sheet)) where
   abbrev rules : ℕ
   rules = rulesOf (x .sheet)
 

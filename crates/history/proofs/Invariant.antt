@@ -11,17 +11,16 @@ use Rattle.sheet.specs.Kind.{groups}
 use Rattle.sheet.specs.Layout.{_of_}
 use Rattle.sheet.specs.Head as head
 use Rattle.sheet.specs.Entries.{count, bodyAt}
-use Rattle.sheet.specs.Rules.{ruleOf}
+use Rattle.sheet.specs.Rules.{ruleOf, Accepted, edition, isAccepted}
 use Rattle.sheet.proofs.Good.{Good, good, accepted}
 use Rattle.sheet.proofs.Frames.{kept}
-use Rattle.judge.specs.Judge.{isAccepted}
 use Rattle.device.specs.Events.{Event, State, connect, disconnect, button, connectOf, disconnectOf, bit, pressed, buttonSheet}
 use Rattle.history.specs.Location.{Location, memory, body, counter, key, Place, ofMemory, ofBody, ofCounter, ofKey}
 use Rattle.history.specs.Permit.{entryFor}
 use Rattle.history.specs.History.{First, firstOf, opened, level, content}
 use Rattle.history.specs.Others.{programming, individual, groupByte}
 use Rattle.history.specs.Keeps.{Begins}
-use Rattle.history.proofs.Searches.{region-hit, property-hit}
+use Rattle.history.proofs.Searches.{covered-stands, region-hit, property-hit}
 use Rattle.device.proofs.Agreeing.{agree-refl}
 use Rattle.history.proofs.Means.{Means, store-flags}
 
@@ -48,10 +47,9 @@ means-as m p q r t =
     }
 
 -- the first content is what stands in the first sheet
-pub first-holds : {s : List ℕ} → Good 1 s → (x : Location) (p : ℕ) → Place s x p → getD s p 0 ≡ firstOf s x
+pub first-holds : {s : List ℕ} → Good edition s → (x : Location) (p : ℕ) → Place s x p → getD s p 0 ≡ firstOf s x
 unfolding firstOf entryFor bodyAt
-first-holds {s} g (memory y) p (ofMemory h) =
-    rw (region-hit g (h .index) y 1 (omega arith) (record { below = h .below; from = h .from; to = omega (arith, h .to) }), h .here)
+first-holds {s} g (memory m y) p (ofMemory h) = rw (region-hit g 1 (omega arith) (covered-stands h), h .here)
 first-holds g (body o d j) p (ofBody i q h e) = rw (property-hit g q, e)
 first-holds g (counter o d j) p (ofCounter i q h e) = rw (property-hit g q, e)
 first-holds g (key l j) p (ofKey h k e) = rw e
@@ -67,7 +65,7 @@ begin f b =
           record {
             agree = agree-refl (f .sheet);
             octets = b .octets;
-            holds = first-holds (good 1 (f .sheet) (b .accepted));
+            holds = first-holds (good edition (f .sheet) (b .accepted));
             still = λ p h. refl;
             address = refl;
             programming = refl;
@@ -87,13 +85,13 @@ module _ {f : First} {h : List Event} {x : State} (inv : Inv f h x) where
   disconnected = record { session = refl; rights = refl; means = inv .means }
 
   module _ (b : Begins f) where
-    pub fine : Good 1 (f .sheet)
-    fine = good 1 (f .sheet) (b .accepted)
+    pub fine : Good edition (f .sheet)
+    fine = good edition (f .sheet) (b .accepted)
 
-    pub now : Good 1 (x .sheet)
+    pub now : Good edition (x .sheet)
     now = kept fine (inv .means .agree)
 
-    pub now-accepted : ruleOf (x .sheet) ≡ 0
+    pub now-accepted : Accepted (x .sheet)
     now-accepted = accepted now
 
     -- THE BUTTON

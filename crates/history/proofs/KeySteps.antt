@@ -9,6 +9,7 @@ use borrow.Author.Tests.{eq-eqb, ne-eqb}
 use Rattle.octets.specs.Bytes.{numAt, bytesOf}
 use Rattle.octets.specs.Splice.{splice}
 use Rattle.octets.proofs.Numbers.{length-bytes}
+use Rattle.sheet.specs.Rules.{edition}
 use Rattle.sheet.specs.Layout.{_of_}
 use Rattle.sheet.specs.Head as head
 use Rattle.sheet.proofs.Good.{accepted}
@@ -60,7 +61,7 @@ module _ (f : First) (b : Begins f) (h : List Event) (x : State) (inv : Inv f h 
       (store-span (fine inv b) (inv .means) _ ((head.key named) .at) (bytesOf 4 number)
       (omega (arith, size, w .known, long (fine inv b) (inv .means)))
       (key-run (f .sheet) named number (omega (arith, w .known)))
-      (key-store 1 (accepted (now inv b)) named (bytesOf 4 number) (omega (arith, w .known)) size)
+      (key-store edition (accepted (now inv b)) named (bytesOf 4 number) (omega (arith, w .known)) size)
       (octets-bytes 4 number))
     where
       size : length (bytesOf 4 number) ≡ 4

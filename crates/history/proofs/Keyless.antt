@@ -10,13 +10,15 @@ use native.Mathlib.Decide.{decLt}
 use native.Mathlib.Omega.{arith}
 use borrow.Author.Tests.{eqb-true, lt-ltb, le-ltb}
 use Rattle.octets.specs.Bytes.{numAt}
-use Rattle.sheet.specs.Kind.{regions, properties}
+use Rattle.sheet.specs.Rules.{edition}
+use Rattle.sheet.specs.Kind.{properties}
 use Rattle.sheet.specs.Layout.{_of_}
 use Rattle.sheet.specs.Head as head
 use Rattle.sheet.specs.Head.{rulesOf}
 use Rattle.sheet.specs.Property as property
 use Rattle.sheet.specs.Entries.{entry}
 use Rattle.sheet.specs.Places.{Stands, PropertyWith}
+use Rattle.sheet.specs.declared.Memory.{Memory}
 use Rattle.sheet.proofs.Good.{Good, good}
 use Rattle.octets.proofs.Truths.{never, decided, and-is}
 use Rattle.device.specs.Events.{Event, connect, disconnect, button, request, run}
@@ -29,7 +31,7 @@ use Rattle.history.specs.Keeps.{Device, stateAfter, Begins, AllOctets, K
 use Rattle.history.specs.Keyless.{writeLevel, Unlocks, offers, Locked, NotOffered, Shut, Protected}
 use Rattle.history.specs.Rightful.{ours}
 use Rattle.history.proofs.Bools.{all-at, must-fail}
-use Rattle.history.proofs.Searches.{region-hit, property-hit}
+use Rattle.history.proofs.Searches.{covered-stands, region-hit, property-hit}
 use Rattle.history.proofs.InOrder.{firstState, after-is-run}
 use Rattle.history.proofs.Invariant.{first-holds}
 use Rattle.history.proofs.Keep.{keeps}
@@ -37,11 +39,10 @@ use Rattle.history.proofs.Requests.{Spans}
 use Rattle.history.proofs.Suffices.{suffices}
 
 -- the write level is the one that the entry says: of the region where an address stands, of the property with an object and id
-module _ {s : List ℕ} (g : Good 1 s) where
-  pub level-of-memory : {y p levels : ℕ} → Stands s regions y p levels → writeLevel s (memory y) ≡ levels % 16
+module _ {s : List ℕ} (g : Good edition s) where
+  pub level-of-memory : {m : Memory} {y p levels : ℕ} → Stands s m y p levels → writeLevel s (memory m y) ≡ levels % 16
   unfolding writeLevel
-  level-of-memory {y} h =
-      rw (region-hit g (h .index) y 1 (omega arith) (record { below = h .below; from = h .from; to = omega (arith, h .to) }), h .under)
+  level-of-memory h = rw (region-hit g 1 (omega arith) (covered-stands h), h .under)
 
   pub level-of-property :
       {object id i : ℕ} → PropertyWith s object id i → (j : ℕ) →
@@ -185,7 +186,7 @@ module _ (l : ℕ) (low : l < 3) where
       let c = k f h b o in
       let s = keyless f closed h locked in
       record {
-        bytes = λ y p q w. c .holds y p q ∙ s .holds y w ∙ sym (first-holds (good 1 (f .sheet) (b .accepted)) y p q);
+        bytes = λ y p q w. c .holds y p q ∙ s .holds y w ∙ sym (first-holds (good edition (f .sheet) (b .accepted)) y p q);
         rights = λ e. rw (c .rights) (s .rights (sym (c .session) ∙ e));
         always = λ a. rw (c .rights) (s .always a);
       }

@@ -12,6 +12,7 @@ use Rattle.octets.specs.Bytes.{numAt, bytesOf}
 use Rattle.octets.specs.Splice.{splice}
 use Rattle.octets.proofs.Numbers.{num-same, length-bytes}
 use Rattle.octets.proofs.Splices.{splice-in, splice-outside, splice-num, splice-num-outside}
+use Rattle.sheet.specs.Rules.{edition}
 use Rattle.sheet.specs.Kind.{groups}
 use Rattle.sheet.specs.Layout.{Field, _of_}
 use Rattle.sheet.specs.Head as head
@@ -49,8 +50,8 @@ one-byte : (v : ℕ) → v ≤ 3 → v ∷ [] ≡ bytesOf 1 v
 unfolding bytesOf
 one-byte v h = ap (λ (n : ℕ). n ∷ []) (let e : v ≡ v % 256 = omega arith in e)
 
-module _ {f : List ℕ} (g : Good 1 f) {c : Location → ℕ} {adr prog : ℕ} {grp : ℕ → ℕ → ℕ} {s : List ℕ} (m : Means f c adr prog grp s) where
-  fine : Good 1 s
+module _ {f : List ℕ} (g : Good edition f) {c : Location → ℕ} {adr prog : ℕ} {grp : ℕ → ℕ → ℕ} {s : List ℕ} (m : Means f c adr prog grp s) where
+  fine : Good edition s
   fine = kept g (m .agree)
 
   pub long : 32 ≤ length s
@@ -124,7 +125,7 @@ module _ {f : List ℕ} (g : Good 1 f) {c : Location → ℕ} {adr prog : ℕ} {
       let k : 14 + 1 ≤ 18 = omega arith in
       let new = it-is head.flags v l k in
       store-number head.flags v l k
-      (subst (λ (ds : List ℕ). Agree s (splice s 14 ds)) (one-byte v low) (flags-store 1 (accepted fine) v low))
+      (subst (λ (ds : List ℕ). Agree s (splice s 14 ds)) (one-byte v low) (flags-store edition (accepted fine) v low))
       (λ p h. away 14 1 p (λ a b. h .flags (omega arith)))
       (other-field head.flags v l k head.address (inr (omega arith)) ∙ m .address)
       (ap (λ (n : ℕ). n % 2) new)
@@ -136,7 +137,7 @@ module _ {f : List ℕ} (g : Good 1 f) {c : Location → ℕ} {adr prog : ℕ} {
       let k : 16 + 2 ≤ 18 = omega arith in
       let flags = other-field head.address v low k head.flags (inl (omega arith)) in
       store-number head.address v low k
-      (address-store 1 (accepted fine) (bytesOf 2 v) (length-bytes 2 v))
+      (address-store edition (accepted fine) (bytesOf 2 v) (length-bytes 2 v))
       (λ p h. h .address)
       (it-is head.address v low k)
       (ap (λ (n : ℕ). n % 2) flags ∙ m .programming)
@@ -152,7 +153,7 @@ module _ {f : List ℕ} (g : Good 1 f) {c : Location → ℕ} {adr prog : ℕ} {
         Fit s groups i ds → Octets ds → Means f c adr prog new (splice s (bodyAt f groups i) ds)
     store-group new here there fit b =
         record {
-          agree = agree-trans (m .agree) (body-store 1 (accepted fine) groups i o ds lies fit);
+          agree = agree-trans (m .agree) (body-store edition (accepted fine) groups i o ds lies fit);
           octets = octets-splice s o ds room (m .octets) b;
           holds = λ x p h. off p (λ k. no-group g h k) ∙ m .holds x p h;
           still = λ p h. off p (h .group i) ∙ m .still p h;

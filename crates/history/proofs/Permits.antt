@@ -1,7 +1,7 @@
 -- A write is permitted exactly if the plain propositions of its service hold.
 -- Assumes nothing.
 use Prim.Native.Nat.{ℕ, _+_, _*_, _-_, _/_, _%_, _<_, _≤_}
-use mathlib.Core.Path.{_≡_, sym, _∙_}
+use mathlib.Core.Path.{_≡_, sym, subst, _∙_}
 use mathlib.Core.Logic.{_↔_, _⊎_, inl, inr}
 use mathlib.Core.Bool.{Bool, true, _&&_, _||_}
 use mathlib.Core.List.{List, [], _∷_}
@@ -11,26 +11,29 @@ use native.Mathlib.Omega.{arith}
 use borrow.Author.Tests.{ltb-true, lt-ltb, leb-true, le-leb, eqb-true, eq-eqb}
 use Rattle.octets.specs.Bytes.{numAt}
 use Rattle.octets.proofs.Numbers.{num-two}
-use Rattle.sheet.specs.Kind.{regions, properties}
+use Rattle.sheet.specs.Rules.{edition}
+use Rattle.sheet.specs.Kind.{properties, kindOf}
 use Rattle.sheet.specs.Layout.{_of_}
 use Rattle.sheet.specs.Region as region
 use Rattle.sheet.specs.Property as property
 use Rattle.sheet.specs.Entries.{count, entry}
-use Rattle.sheet.specs.Places.{PropertyWith}
+use Rattle.sheet.specs.Places.{regionAt, PropertyWith}
+use Rattle.sheet.specs.declared.Memory.{Memory}
+use Rattle.sheet.specs.declared.Memory.the-variants.{Device}
 use Rattle.sheet.proofs.Good.{Good}
-use Rattle.sheet.proofs.Runs.{Covered}
-use Rattle.octets.proofs.Truths.{and-is, or-is}
+use Rattle.sheet.proofs.Runs.{Covered, covers-range, in-region}
+use Rattle.octets.proofs.Truths.{and-is}
 use Rattle.device.specs.Octets.{Octets}
 use Rattle.device.specs.Asked.{Asked}
 use Rattle.device.specs.PropertiesDue as properties-due
-use Rattle.device.specs.MemoryDue.{MemoryWritable, BitsWritable, InRegion}
+use Rattle.device.specs.MemoryDue.{Write, bytes, bits, ToWrite, Open, MemoryWritable}
 use Rattle.device.specs.PropertiesDue.{Writable, Elements, WriteAllowed}
 use Rattle.device.specs.KeysDue.{KeyWritable}
 use Rattle.device.proofs.Properly.{two-zeros}
-use Rattle.history.specs.Wish.{change, writeMemory, writeBits, writeProperty, writeKey}
+use Rattle.history.specs.Wish.{Change, change, writeMemory, writeBits, writeProperty, writeKey}
 use Rattle.history.specs.Span.{all}
-use Rattle.history.specs.Permit.{every, levelFor, regionFor, mayRead, mayWrite, indexFor, entryFor, clears, fills, allowed}
-use Rattle.history.proofs.Bools.{all-at, every-at, every-all}
+use Rattle.history.specs.Permit.{every, levelFor, regionFor, mayRead, mayWrite, inRange, indexFor, entryFor, clears, fills, allowed}
+use Rattle.history.proofs.Bools.{all-at, every-at, every-all, or-left, or-right, or-cases}
 use Rattle.history.proofs.Searches.{region-covers, covered-byte, region-hit, may-read, may-write, property-hit, property-found}
 use Rattle.history.proofs.LevelFor.{acts-once, acts-so}
 
@@ -71,95 +74,74 @@ fills-is e n s d = (
     Ts =
         leb 1 s ∷ leb 1 n ∷ leb (s + n - 1) (property.maximum of e) ∷ eqb (length d) (n * property.element of e) ∷ []
 
-module _ (x : Asked) (g : Good 1 (x .sheet)) where
+-- what a write to memory asks for
+abbrev pub wish : Write → ℕ → ℕ → Change
+wish (bytes m) n y = writeMemory m n y
+wish bits n y = writeBits n y
+
+module _ (x : Asked) (g : Good edition (x .sheet)) where
   abbrev S : List ℕ
   S = x .sheet
 
   abbrev L : ℕ
   L = levelFor (x .mode) (x .session .level)
 
-  -- the range of a request, as the laws of the sheet have it
-  ranged : {y n i : ℕ} → InRegion x y n i → Covered S regions i y n
-  ranged r = record { below = r .there; from = r .start; to = r .end }
+  -- A RANGE OF MEMORY: a test passes for each byte exactly if the level suffices for the range
+  module _ (m : Memory) (most : ℕ) (may : ℕ → Bool) (Suffices : ℕ → ℕ → Type 0)
+      (may-is : (i y : ℕ) → Covered S m i y 1 → (may y ≡ true) ↔ Suffices L (region.levels of regionAt S m i)) (n y : ℕ) where
+    Ts : List Bool
+    Ts = leb 1 n ∷ leb n most ∷ ltb (regionFor S m y n) (count S (kindOf m)) ∷ every n (λ i. may (y + i)) ∷ []
 
-  in-region : {y n i : ℕ} → Covered S regions i y n → InRegion x y n i
-  in-region c = record { there = c .below; start = c .from; end = c .to }
+    range-open : inRange S m most may n y ≡ true → (o : ℕ) × Open x m most Suffices n y o
+    unfolding inRange Ts
+    range-open e =
+        let some : 1 ≤ n = leb-true _ _ (all-at Ts e 0) in
+        let c = region-covers S m y n (ltb-true _ _ (all-at Ts e 2)) in (
+          _,
+          record {
+            some = some;
+            few = leb-true _ _ (all-at Ts e 1);
+            levels = _;
+            range = in-region c;
+            level = L;
+            acts = acts-so x;
+            suffices = may-is _ (y + 0) (covered-byte c 0 some) .0 (every-at (λ i. may (y + i)) n (all-at Ts e 3) 0 some);
+          },
+        )
 
-  -- MEMORY: every byte named may be written exactly if the one region of the range says so
-  pub memory-is : (n y : ℕ) (d : List ℕ) → (allowed S L d (change (writeMemory n y)) ≡ true) ↔ ((i : ℕ) × MemoryWritable x n y i)
+    open-range : (o : ℕ) → Open x m most Suffices n y o → inRange S m most may n y ≡ true
+    unfolding inRange
+    open-range o w =
+        let c = covers-range (w .range) in
+        let r : Suffices L (region.levels of regionAt S m (w .range .index)) =
+        subst (Suffices L) (w .range .under) (subst (λ (l : ℕ). Suffices l (w .levels)) (acts-once x (w .acts)) (w .suffices)) in
+        let b : every n (λ i. may (y + i)) ≡ true = every-all _ n (λ j h. may-is _ (y + j) (covered-byte c j h) .1 r) in
+        let k : ltb (regionFor S m y n) (count S (kindOf m)) ≡ true = rw (region-hit g n (w .some) c) (lt-ltb _ _ (c .below)) in
+        simp (le-leb _ _ (w .some), le-leb _ _ (w .few), k, b)
+
+  -- a byte may be written, and read and written, as its region says
+  writes : (m : Memory) (i y : ℕ) → Covered S m i y 1 → (mayWrite S m L y ≡ true) ↔ (L ≤ region.levels of regionAt S m i % 16)
+  writes m i y c = (λ e. leb-true _ _ (sym (may-write g L c) ∙ e), λ h. may-write g L c ∙ le-leb _ _ h)
+
+  changes :
+      (m : Memory) (i y : ℕ) → Covered S m i y 1 →
+      ((mayRead S m L y && mayWrite S m L y) ≡ true) ↔ ((L ≤ region.levels of regionAt S m i / 16) × (L ≤ region.levels of regionAt S m i % 16))
+  changes m i y c = (
+    λ e. let b = and-is (mayRead S m L y) (mayWrite S m L y) .0 e in (leb-true _ _ (sym (may-read g L c) ∙ b .0), writes m i y c .0 (b .1)),
+    λ h. and-is (mayRead S m L y) (mayWrite S m L y) .1 (may-read g L c ∙ le-leb _ _ (h .0), writes m i y c .1 (h .1)),
+  )
+
+  -- A WRITE TO MEMORY, of bytes or of bits
+  pub memory-is : (w : Write) (n y : ℕ) (d : List ℕ) → (allowed S L d (change (wish w n y)) ≡ true) ↔ ((o : ℕ) × MemoryWritable x w n y o)
   unfolding allowed
-  memory-is n y d = (on, λ w. back (w .0) (w .1))
-    where
-      Ts : List Bool
-      Ts = leb 1 n ∷ leb n 12 ∷ ltb (regionFor S y n) (count S regions) ∷ every n (λ i. mayWrite S L (y + i)) ∷ []
-
-      on : all Ts ≡ true → (i : ℕ) × MemoryWritable x n y i
-      on e =
-          let some : 1 ≤ n = leb-true _ _ (all-at Ts e 0) in
-          let c = region-covers S y n (ltb-true _ _ (all-at Ts e 2)) in
-          let b = every-at (λ i. mayWrite S L (y + i)) n (all-at Ts e 3) 0 some in (
-            regionFor S y n,
-            record {
-              some = some;
-              most = leb-true _ _ (all-at Ts e 1);
-              range = in-region c;
-              level = L;
-              acts = acts-so x;
-              suffices = leb-true _ _ (sym (may-write g (regionFor S y n) (y + 0) L (covered-byte c 0 some)) ∙ b);
-            },
-          )
-
-      back : (i : ℕ) → MemoryWritable x n y i → all Ts ≡ true
-      back i w =
-          let c = ranged (w .range) in
-          let r : L ≤ region.levels of entry S regions i % 16 = omega (arith, acts-once x (w .acts), w .suffices) in
-          let b : every n (λ i. mayWrite S L (y + i)) ≡ true =
-          every-all _ n (λ j h. may-write g i (y + j) L (covered-byte c j h) ∙ le-leb _ _ r) in
-          let k : ltb (regionFor S y n) (count S regions) ≡ true =
-          rw (region-hit g i y n (w .some) c) (lt-ltb _ _ (c .below)) in
-          simp (le-leb _ _ (w .some), le-leb _ _ (w .most), k, b)
-
-  -- BITS: and may be read
-  pub bits-is : (n y : ℕ) (d : List ℕ) → (allowed S L d (change (writeBits n y)) ≡ true) ↔ ((i : ℕ) × BitsWritable x n y i)
-  unfolding allowed
-  bits-is n y d = (on, λ w. back (w .0) (w .1))
-    where
-      both : ℕ → Bool
-      both i = mayRead S L (y + i) && mayWrite S L (y + i)
-
-      Ts : List Bool
-      Ts = leb 1 n ∷ leb n 5 ∷ ltb (regionFor S y n) (count S regions) ∷ every n both ∷ []
-
-      on : all Ts ≡ true → (i : ℕ) × BitsWritable x n y i
-      on e =
-          let some : 1 ≤ n = leb-true _ _ (all-at Ts e 0) in
-          let i : ℕ = regionFor S y n in
-          let c = region-covers S y n (ltb-true _ _ (all-at Ts e 2)) in
-          let b = and-is (mayRead S L (y + 0)) (mayWrite S L (y + 0)) .0 (every-at both n (all-at Ts e 3) 0 some) in (
-            i,
-            record {
-              some = some;
-              most = leb-true _ _ (all-at Ts e 1);
-              range = in-region c;
-              level = L;
-              acts = acts-so x;
-              read = leb-true _ _ (sym (may-read g i (y + 0) L (covered-byte c 0 some)) ∙ b .0);
-              write = leb-true _ _ (sym (may-write g i (y + 0) L (covered-byte c 0 some)) ∙ b .1);
-            },
-          )
-
-      back : (i : ℕ) → BitsWritable x n y i → all Ts ≡ true
-      back i w =
-          let c = ranged (w .range) in
-          let r : L ≤ region.levels of entry S regions i / 16 = omega (arith, acts-once x (w .acts), w .read) in
-          let q : L ≤ region.levels of entry S regions i % 16 = omega (arith, acts-once x (w .acts), w .write) in
-          let b : every n both ≡ true =
-          every-all both n
-          (λ j h. and-is (mayRead S L (y + j)) (mayWrite S L (y + j)) .1
-          (may-read g i (y + j) L (covered-byte c j h) ∙ le-leb _ _ r, may-write g i (y + j) L (covered-byte c j h) ∙ le-leb _ _ q)) in
-          let k : ltb (regionFor S y n) (count S regions) ≡ true =
-          rw (region-hit g i y n (w .some) c) (lt-ltb _ _ (c .below)) in
-          simp (le-leb _ _ (w .some), le-leb _ _ (w .most), k, b)
+  memory-is (bytes Device) n y d = (
+    range-open Device 12 (mayWrite S Device L) (ToWrite (bytes Device)) (writes Device) n y,
+    λ w. open-range Device 12 (mayWrite S Device L) (ToWrite (bytes Device)) (writes Device) n y (w .0) (w .1),
+  )
+  memory-is bits n y d = (
+    range-open Device 5 (λ y. mayRead S Device L y && mayWrite S Device L y) (ToWrite bits) (changes Device) n y,
+    λ w. open-range Device 5 (λ y. mayRead S Device L y && mayWrite S Device L y) (ToWrite bits) (changes Device) n y (w .0) (w .1),
+  )
 
   -- A KEY
   pub key-is : (named number : ℕ) (d : List ℕ) → (allowed S L d (change (writeKey named number)) ≡ true) ↔ KeyWritable x named

@@ -7,7 +7,8 @@ use mathlib.Core.Bool.{Bool, true, _&&_}
 use mathlib.Core.List.{List}
 use native.Mathlib.Omega.{arith}
 use Rattle.sheet.specs.Head.{rulesOf}
-use Rattle.sheet.specs.Rules.{ruleOf}
+use Rattle.sheet.specs.Rules.{Accepted, edition}
+use Rattle.sheet.specs.declared.Memory.the-variants.{Device}
 use Rattle.sheet.proofs.Good.{Good, good}
 use Rattle.pdu.specs.declared.Pdu.{Pdu}
 use Rattle.pdu.specs.declared.Pdu.the-variants.{GroupValueRead, GroupValueResponse, GroupValueWrite, IndividualAddressWrite, IndividualAddressRead, SerialNumberRead, SerialNumberWrite, DeviceDescriptorRead, PropertyValueRead, PropertyValueWrite, PropertyDescriptionRead, MemoryRead, MemoryWrite, MemoryBitWrite, AuthorizeRequest, KeyWrite, Restart, IndividualAddressResponse, SerialNumberResponse, DeviceDescriptorResponse, PropertyValueResponse, PropertyDescriptionResponse, MemoryResponse, AuthorizeResponse, KeyResponse}
@@ -15,7 +16,7 @@ use Rattle.octets.proofs.Truths.{never, and-is}
 use Rattle.device.specs.Octets.{Octets}
 use Rattle.device.specs.Events.{State, request}
 use Rattle.device.specs.Asked.{Asked, Reads, given}
-use Rattle.device.specs.MemoryDue.{MemoryWritable, BitsWritable}
+use Rattle.device.specs.MemoryDue.{Write, bytes, bits, writing, MemoryWritable}
 use Rattle.device.specs.PropertiesDue.{WriteAllowed}
 use Rattle.device.specs.KeysDue.{KeyWritable}
 use Rattle.history.specs.Wish.{nothing, wishOf, asks, brings}
@@ -24,25 +25,24 @@ use Rattle.history.specs.History.{permits}
 use Rattle.history.specs.Rightful.{asked}
 use Rattle.history.proofs.RequestFields.{property-id}
 use Rattle.history.proofs.Hearing.{asks-is, brings-is, heard-reads, reads-heard}
-use Rattle.history.proofs.Permits.{memory-is, bits-is, property-is, key-is}
+use Rattle.history.proofs.Permits.{memory-is, property-is, key-is}
 
 pub data Permitted (x : Asked) : Type 0 where
-  byMemory : (n y i : ℕ) → Reads x (MemoryWrite n y) → MemoryWritable x n y i → Permitted x
-  byBits : (n y i : ℕ) → Reads x (MemoryBitWrite n y) → BitsWritable x n y i → Permitted x
+  byMemory : (w : Write) (n y o : ℕ) → Reads x (writing w n y) → MemoryWritable x w n y o → Permitted x
   byProperty :
       (object id n s : ℕ) → Reads x (PropertyValueWrite object id n s) →
       WriteAllowed x object id n s (given x (PropertyValueWrite object id n s)) → Permitted x
   byKey : (named number : ℕ) → Reads x (KeyWrite named number) → KeyWritable x named → Permitted x
 
-module _ (x : State) (mode g : ℕ) (a out : List ℕ) (accepted : ruleOf (x .sheet) ≡ 0) (small : Octets (x .sheet)) (octets : Octets a) where
+module _ (x : State) (mode g : ℕ) (a out : List ℕ) (accepted : Accepted (x .sheet)) (small : Octets (x .sheet)) (octets : Octets a) where
   abbrev X : Asked
   X = asked x mode g a out
 
   abbrev L : ℕ
   L = levelFor mode (x .session .level)
 
-  fine : Good 1 (x .sheet)
-  fine = good 1 (x .sheet) accepted
+  fine : Good edition (x .sheet)
+  fine = good edition (x .sheet) accepted
 
   -- allowed, of the PDU that it reads as
   by-pdu : (p : Pdu) → Reads X p → allowed (x .sheet) L (given X p) (wishOf p) ≡ true → Permitted X
@@ -60,8 +60,10 @@ module _ (x : State) (mode g : ℕ) (a out : List ℕ) (accepted : ruleOf (x .sh
       byProperty o i n s r (property-is X fine o i n s _ small (property-id a octets (r .reads)) .0 e)
   by-pdu (PropertyDescriptionRead o i n) r e = never e
   by-pdu (MemoryRead n y) r e = never e
-  by-pdu (MemoryWrite n y) r e = let w = memory-is X fine n y (given X (MemoryWrite n y)) .0 e in byMemory n y (w .0) r (w .1)
-  by-pdu (MemoryBitWrite n y) r e = let w = bits-is X fine n y (given X (MemoryBitWrite n y)) .0 e in byBits n y (w .0) r (w .1)
+  by-pdu (MemoryWrite n y) r e =
+      let w = memory-is X fine (bytes Device) n y (given X (MemoryWrite n y)) .0 e in byMemory (bytes Device) n y (w .0) r (w .1)
+  by-pdu (MemoryBitWrite n y) r e =
+      let w = memory-is X fine bits n y (given X (MemoryBitWrite n y)) .0 e in byMemory bits n y (w .0) r (w .1)
   by-pdu (AuthorizeRequest n) r e = never e
   by-pdu (KeyWrite l n) r e = byKey l n r (key-is X fine l n (given X (KeyWrite l n)) .0 e)
   by-pdu Restart r e = never e
@@ -100,10 +102,10 @@ module _ (x : State) (mode g : ℕ) (a out : List ℕ) (accepted : ruleOf (x .sh
           (reads-heard x mode g a out accepted p r c, rw (asks-is a p (r .reads), brings-is a p (r .reads)) e)
 
       back : Permitted X → (H && A) ≡ true
-      back (byMemory n y i r w) =
-          so (MemoryWrite n y) r (λ e. let z : _≡_ {A = ℕ} 0 1 = cc in omega arith) (memory-is X fine n y _ .1 (i, w))
-      back (byBits n y i r w) =
-          so (MemoryBitWrite n y) r (λ e. let z : _≡_ {A = ℕ} 0 1 = cc in omega arith) (bits-is X fine n y _ .1 (i, w))
+      back (byMemory (bytes Device) n y o r w) =
+          so (MemoryWrite n y) r (λ e. let z : _≡_ {A = ℕ} 0 1 = cc in omega arith) (memory-is X fine (bytes Device) n y _ .1 (o, w))
+      back (byMemory bits n y o r w) =
+          so (MemoryBitWrite n y) r (λ e. let z : _≡_ {A = ℕ} 0 1 = cc in omega arith) (memory-is X fine bits n y _ .1 (o, w))
       back (byProperty o i n s r w) =
           so (PropertyValueWrite o i n s) r (λ e. let z : _≡_ {A = ℕ} 0 1 = cc in omega arith)
           (property-is X fine o i n s _ small (property-id a octets (r .reads)) .1 w)

@@ -1,26 +1,28 @@
 -- Every location stands at one position, and no two at the same.
 -- Assumes nothing.
 use Prim.Native.Nat.{ℕ, zero, suc, _+_, _*_, _-_, _/_, _%_, _<_, _≤_}
-use mathlib.Core.Path.{_≡_, refl, sym, _∙_, ap, subst}
+use mathlib.Core.Path.{_≡_, refl, sym, _∙_, ap, ap₂, subst, subst⁻¹}
 use mathlib.Core.Logic.{_⊎_, inl, inr}
 use mathlib.Core.List.{List}
 use lib.ListN.{length}
 use native.Mathlib.Decide.{decLt, decLe}
 use native.Mathlib.Omega.{arith}
-use Rattle.sheet.specs.Kind.{regions, properties, groups}
+use Rattle.sheet.specs.Kind.{regions, properties, groups, kindOf}
 use Rattle.sheet.specs.Layout.{_of_}
 use Rattle.sheet.specs.Region as region
 use Rattle.sheet.specs.Property as property
 use Rattle.sheet.specs.Entries.{count, place, contents, entry, keyOf, bodyAt, bodyEnd, InBody}
 use Rattle.sheet.specs.Places.{Position, inHead, inEntry, inBody, Stands, PropertyWith}
 use Rattle.sheet.specs.Frame.{Fixed}
-use Rattle.sheet.specs.Rules.{ruleOf}
+use Rattle.sheet.specs.Rules.{Accepted, edition}
 use Rattle.sheet.proofs.Good.{Good, good, accepted}
 use Rattle.sheet.proofs.Lie.{within, after-contents, disjoint}
+use Rattle.sheet.specs.declared.Memory.{Memory}
+use Rattle.sheet.specs.declared.Memory.the-variants.{Device}
 use Rattle.sheet.proofs.Standing.{InEntry, after-head, place-in, one-entry}
 use Rattle.sheet.proofs.Positions.{position}
 use Rattle.sheet.proofs.Keys.{key-once, key-is}
-use Rattle.sheet.proofs.Runs.{stands-in, stands-once, stands-back}
+use Rattle.sheet.proofs.Runs.{kind-once, no-property, no-group as no-group-region, stands-in, stands-once, stands-back}
 use Rattle.history.specs.Location.{Location, memory, key, Place, ofMemory, ofBody, ofCounter, ofKey}
 use Rattle.history.specs.Sort.{Sort, isLocation, isGroup, isField, location, groupBody, beingOf}
 
@@ -36,12 +38,12 @@ pub counter-in :
     p ≡ place s properties i + property.count .at + j → InEntry s properties i (6 + j) p
 counter-in q h e = record { kind = omega arith; below = q .there; short = omega arith; here = omega arith }
 
-module _ {s : List ℕ} (g : Good 1 s) where
+module _ {s : List ℕ} (g : Good edition s) where
   -- one property at most has an object and an id
   pub property-once : {object id i j : ℕ} → PropertyWith s object id i → PropertyWith s object id j → i ≡ j
   unfolding keyOf
   property-once {object} {id} {i} {j} a b =
-      key-once 1 s (accepted g) properties (omega arith) i j (a .there) (b .there)
+      key-once edition s (accepted g) properties (omega arith) i j (a .there) (b .there)
       (let p = key-is (entry s properties i) in let q = key-is (entry s properties j) in omega (arith, a .sameObject, a .sameId, b .sameObject, b .sameId))
 
   -- locations stand in the keys, in the entries, or after them
@@ -62,14 +64,17 @@ module _ {s : List ℕ} (g : Good 1 s) where
 
   -- no two locations stand at one position
   pub location-once : {x y : Location} {p : ℕ} → Place s x p → Place s y p → x ≡ y
-  location-once (ofMemory a) (ofMemory b) = ap memory (stands-back g a b)
-  location-once {p = p} (ofMemory a) (ofBody m b l f) =
-      absurd (omega (arith, disjoint g regions (a .index) properties m p (stands-in g a) (body-in b l f) .0))
+  location-once {p = p} (ofMemory {m = m} a) (ofMemory {m = n} {y = y} {levels = l} b) =
+      let e : m ≡ n = kind-once m n (disjoint g (kindOf m) (a .index) (kindOf n) (b .index) p (stands-in g a) (stands-in g b) .0) in
+      let c : Stands s m y p l = subst⁻¹ (λ (k : Memory). Stands s k y p l) e b in
+      ap₂ memory e (stands-back g a c)
+  location-once {p = p} (ofMemory {m = n} a) (ofBody m b l f) =
+      absurd (no-property n (disjoint g (kindOf n) (a .index) properties m p (stands-in g a) (body-in b l f) .0))
   location-once (ofMemory a) (ofCounter m b l f) =
       absurd (omega (arith, past-contents (stands-in g a), in-contents (counter-in b l f)))
   location-once (ofMemory a) (ofKey l j f) = absurd (omega (arith, past-contents (stands-in g a)))
-  location-once {p = p} (ofBody i a h e) (ofMemory b) =
-      absurd (omega (arith, disjoint g regions (b .index) properties i p (stands-in g b) (body-in a h e) .0))
+  location-once {p = p} (ofBody i a h e) (ofMemory {m = n} b) =
+      absurd (no-property n (disjoint g (kindOf n) (b .index) properties i p (stands-in g b) (body-in a h e) .0))
   location-once {p = p} (ofBody {j = j} i a h e) (ofBody {j = n} m b l f) =
       let q : i ≡ m = disjoint g properties i properties m p (body-in a h e) (body-in b l f) .1 in
       let z : bodyAt s properties i ≡ bodyAt s properties m = ap (bodyAt s properties) q in
@@ -97,7 +102,7 @@ module _ {s : List ℕ} (g : Good 1 s) where
 
   -- and each stands at one alone
   pub place-once : {x : Location} {p q : ℕ} → Place s x p → Place s x q → p ≡ q
-  place-once (ofMemory a) (ofMemory b) = stands-once 1 (accepted g) a b .0
+  place-once (ofMemory a) (ofMemory b) = stands-once edition (accepted g) a b .0
   place-once (ofBody i a h e) (ofBody m b l f) = let z = ap (bodyAt s properties) (property-once a b) in omega arith
   place-once (ofCounter i a h e) (ofCounter m b l f) = let z = property-once a b in omega arith
   place-once (ofKey h k e) (ofKey c d f) = omega arith
@@ -116,7 +121,7 @@ module _ {s : List ℕ} (g : Good 1 s) where
   place-after (ofKey h k e) = omega arith
 
   pub no-group : {x : Location} {p i : ℕ} → Place s x p → InBody s groups i p → ⊥
-  no-group {p = p} {i} (ofMemory a) b = omega (arith, disjoint g regions (a .index) groups i p (stands-in g a) b .0)
+  no-group {p = p} {i} (ofMemory {m = n} a) b = no-group-region n (disjoint g (kindOf n) (a .index) groups i p (stands-in g a) b .0)
   no-group {p = p} {i} (ofBody m a h e) b = omega (arith, disjoint g properties m groups i p (body-in a h e) b .0)
   no-group (ofCounter m a h e) b = omega (arith, in-contents (counter-in a h e), past-contents b)
   no-group (ofKey h k e) b = omega (arith, past-contents b)
@@ -168,7 +173,7 @@ module _ {s : List ℕ} (g : Good 1 s) where
     in-body : (k i : ℕ) → InBody s k i p → Sort s p
     unfolding bodyAt bodyEnd
     in-body zero i b =
-        let h : Stands s regions (region.address of entry s regions i + (p - region.offset of entry s regions i)) p (region.levels of entry s regions i) =
+        let h : Stands s Device (region.address of entry s regions i + (p - region.offset of entry s regions i)) p (region.levels of entry s regions i) =
         record { index = i; below = b .below; from = omega arith; to = omega (arith, b .from, b .to); here = omega (arith, b .from); under = refl } in
         isLocation _ (ofMemory h)
     in-body (suc zero) i b =
@@ -179,7 +184,7 @@ module _ {s : List ℕ} (g : Good 1 s) where
 
     -- every position is a location's, a group object's or a field's
     pub sort : p < length s → Sort s p
-    sort h = from (position 1 (accepted g) p h)
+    sort h = from (position edition (accepted g) p h)
       where
         from : Position s p → Sort s p
         from (inHead l) = in-head l (decLe 18 p) (decLt p 30)
@@ -198,11 +203,11 @@ module _ {s : List ℕ} (g : Good 1 s) where
     sort-once (isField h f) (isGroup m b) = absurd (omega (arith, past-contents b))
     sort-once (isField h f) (isField l o) = refl
 
-module _ (s : List ℕ) (accepted : ruleOf s ≡ 0) where
+module _ (s : List ℕ) (accepted : Accepted s) where
   -- NO TWO LOCATIONS STAND AT ONE POSITION, AND EACH STANDS AT ONE ALONE
   pub place-injective : (x y : Location) (p q : ℕ) → (Place s x p → Place s y p → x ≡ y) × (Place s x p → Place s x q → p ≡ q)
-  place-injective x y p q = (location-once (good 1 s accepted), place-once (good 1 s accepted))
+  place-injective x y p q = (location-once (good edition s accepted), place-once (good edition s accepted))
 
   -- EVERY POSITION IS EXACTLY ONE OF A LOCATION'S, A GROUP OBJECT'S AND A FIELD'S
   pub exactly-one : (p : ℕ) → p < length s → (a : Sort s p) × ((b : Sort s p) → beingOf b ≡ beingOf a)
-  exactly-one p h = let a = sort (good 1 s accepted) p h in (a, λ b. sort-once (good 1 s accepted) p b a)
+  exactly-one p h = let a = sort (good edition s accepted) p h in (a, λ b. sort-once (good edition s accepted) p b a)

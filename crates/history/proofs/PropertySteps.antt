@@ -14,7 +14,7 @@ use Rattle.sheet.specs.Layout.{_of_}
 use Rattle.sheet.specs.Property as property
 use Rattle.sheet.specs.Entries.{count, place, entry, bodyAt, bodyEnd}
 use Rattle.sheet.specs.Frame.{Agree}
-use Rattle.sheet.specs.Rules.{entryDemands}
+use Rattle.sheet.specs.Rules.{entryDemands, edition}
 use Rattle.sheet.specs.Places.{PropertyWith}
 use Rattle.sheet.specs.Stores.{Inside}
 use Rattle.sheet.proofs.Good.{accepted}
@@ -162,7 +162,7 @@ module _ (f : First) (b : Begins f) (h : List Event) (x : State) (inv : Inv f h 
           store-span (fine inv b) (inv .means) Elems (elementAt S z) d
           (inside-within (now inv b) inside)
           (rw at-first (body-run (fine inv b) is n z d (rw element-same at size) (el .start) (rw maximum-same at (el .end))))
-          (body-store 1 (accepted (now inv b)) properties i (elementAt S z) d inside (λ q. absurd (omega arith)))
+          (body-store edition (accepted (now inv b)) properties i (elementAt S z) d inside (λ q. absurd (omega arith)))
           (rw e (octets-data (P object id n z) a octets))
 
       -- the new count

@@ -12,7 +12,7 @@ use Rattle.octets.specs.Splice.{splice}
 use Rattle.sheet.specs.Demand.{breach}
 use Rattle.sheet.specs.First.{first}
 use Rattle.sheet.specs.Entries.{entry, keyOf, floor, bodyAt, bodyEnd, startOf, reached, sixBits}
-use Rattle.sheet.specs.Rules.{entryDemands, bodyDemands, entryRule, bodyRule, entriesRule, bodiesRule, walkRule, ruleIn}
+use Rattle.sheet.specs.Rules.{entryDemands, bodyDemands, entryRule, bodyRule, entriesRule, bodiesRule, walkRule, ruleIn, isAccepted}
 use Rattle.sheet.specs.Lookup.{seek, indexOf, covers, rangeOf}
 use Rattle.pdu.specs.Table.{find}
 use Rattle.pdu.specs.Rules.{lowAt, fourAt, twelveAt, headBytes}
@@ -24,14 +24,14 @@ use Rattle.sheet.specs.Head.{rulesOf}
 use Rattle.judge.specs.Properties.{writeIn, propertyWriteOf}
 use Rattle.judge.specs.Memory.{changeOf, memoryWriteOf}
 use Rattle.judge.specs.Keys.{grantOf, authorizeOf, keyWriteOf}
-use Rattle.judge.specs.Judge.{isAccepted, reachedOf, isShut, judgeOf}
+use Rattle.judge.specs.Judge.{reachedOf, isShut, judgeOf}
 use Rattle.device.specs.Octets.{Octets}
 use Rattle.device.specs.Step.{stepBy, stepOf}
 use Rattle.device.specs.Events.{Event, State, connect, disconnect, button, request, eventOf, bit}
 use Rattle.device.specs.Marked.{sample}
 use Rattle.history.specs.Span.{same}
 use Rattle.history.specs.Wish.{asks, brings}
-use Rattle.history.specs.Permit.{every, heard, levelFor, regionFor, mayWrite, indexFor, entryFor, allowed}
+use Rattle.history.specs.Permit.{every, heard, levelFor, regionFor, mayWrite, inRange, indexFor, entryFor, allowed}
 use Rattle.history.specs.History.{firstOf, keyIn, opened, level, content, permitted}
 use Rattle.history.specs.Keeps.{Begins, AllOctets, Keeps, stateAfter}
 use Rattle.history.specs.Rightful.{ours}
@@ -117,7 +117,7 @@ each (w ∷ ws) e = let b = and-is (tells w) (tellAll ws) .0 e in (refuted w (b 
 -- by computation
 told : tellAll wrongs ≡ true
 unfolding stateAfter eventOf stepOf stepBy judgeOf isAccepted isShut reachedOf rulesOf levelIn levelOf grantOf authorizeOf keyWriteOf changeOf memoryWriteOf writeIn propertyWriteOf
-    permitted opened level content firstOf keyIn heard levelFor allowed every regionFor mayWrite indexFor entryFor
+    permitted opened level content firstOf keyIn heard levelFor allowed every regionFor mayWrite inRange indexFor entryFor
     asks brings readPdu find dataOf encoded headBytes lowAt fourAt twelveAt seek indexOf covers rangeOf splice
     ruleIn walkRule entriesRule bodiesRule entryRule bodyRule bodyDemands entryDemands entry keyOf floor bodyAt bodyEnd startOf reached sixBits first breach numAt bytesOf sample
 told = refl

@@ -7,13 +7,15 @@ use lib.Dec.{leb}
 use native.Mathlib.Omega.{arith}
 use borrow.Author.Tests.{lt-ltb}
 use Rattle.octets.proofs.Numbers.{num-one}
-use Rattle.sheet.specs.Kind.{regions, properties}
+use Rattle.sheet.specs.Rules.{edition}
+use Rattle.sheet.specs.Kind.{properties, kindOf}
 use Rattle.sheet.specs.Layout.{_of_}
 use Rattle.sheet.specs.Region as region
 use Rattle.sheet.specs.Property as property
 use Rattle.sheet.specs.Entries.{count, place, entry, keyOf}
 use Rattle.sheet.specs.Lookup.{covers}
-use Rattle.sheet.specs.Places.{PropertyWith}
+use Rattle.sheet.specs.Places.{regionAt, Stands, PropertyWith}
+use Rattle.sheet.specs.declared.Memory.{Memory}
 use Rattle.sheet.proofs.Good.{Good, accepted}
 use Rattle.sheet.proofs.Standing.{entry-at}
 use Rattle.sheet.proofs.Seeks.{seek-hit, seek-passes}
@@ -23,40 +25,44 @@ use Rattle.history.specs.Permit.{regionFor, mayRead, mayWrite, indexFor}
 use Rattle.device.specs.Octets.{Octets}
 
 -- the region that the search gives has the whole range
-pub region-covers : (s : List ℕ) (y n : ℕ) → regionFor s y n < count s regions → Covered s regions (regionFor s y n) y n
+pub region-covers : (s : List ℕ) (m : Memory) (y n : ℕ) → regionFor s m y n < count s (kindOf m) → Covered s m (regionFor s m y n) y n
 unfolding regionFor
-region-covers s y n h =
-    let c = covering (entry s regions (regionFor s y n)) y n (seek-passes (λ i. covers (entry s regions i) y n) (count s regions) h) in
+region-covers s m y n h =
+    let c = covering (regionAt s m (regionFor s m y n)) y n (seek-passes (λ i. covers (regionAt s m i) y n) (count s (kindOf m)) h) in
     record { below = h; from = c .0; to = c .1 }
 
--- a byte of a range
-pub covered-byte : {s : List ℕ} {i y n : ℕ} → Covered s regions i y n → (j : ℕ) → j < n → Covered s regions i (y + j) 1
+-- a byte of a range, and an address that stands somewhere
+pub covered-byte : {s : List ℕ} {m : Memory} {i y n : ℕ} → Covered s m i y n → (j : ℕ) → j < n → Covered s m i (y + j) 1
 covered-byte c j h = record { below = c .below; from = omega (arith, c .from); to = omega (arith, c .to) }
 
-module _ {s : List ℕ} (g : Good 1 s) where
-  -- and a region that has it is the one
-  pub region-hit : (i y n : ℕ) → 0 < n → Covered s regions i y n → regionFor s y n ≡ i
-  unfolding regionFor
-  region-hit i y n h c =
-      seek-hit (λ j. covers (entry s regions j) y n) (count s regions) i (c .below) (covered c)
-      (λ m l q.
-      let d = covering (entry s regions m) y n q in
-      region-once g m i y (record { below = l; from = d .0; to = omega arith }) (record { below = c .below; from = c .from; to = omega (arith, c .to) }))
+pub covered-stands : {s : List ℕ} {m : Memory} {y p levels : ℕ} (h : Stands s m y p levels) → Covered s m (h .index) y 1
+covered-stands h = record { below = h .below; from = h .from; to = omega (arith, h .to) }
 
-  -- what may be done with a byte is what its region says
-  pub may-read : (i y level : ℕ) → Covered s regions i y 1 → mayRead s level y ≡ leb level (region.levels of entry s regions i / 16)
-  unfolding mayRead
-  may-read i y level c = rw (region-hit i y 1 (omega arith) c, lt-ltb i (count s regions) (c .below))
+module _ {s : List ℕ} (g : Good edition s) where
+  module _ {m : Memory} {i y : ℕ} where
+    -- and a region that has it is the one
+    pub region-hit : (n : ℕ) → 0 < n → Covered s m i y n → regionFor s m y n ≡ i
+    unfolding regionFor
+    region-hit n h c =
+        seek-hit (λ j. covers (regionAt s m j) y n) (count s (kindOf m)) i (c .below) (covered c)
+        (λ k l q.
+        let d = covering (regionAt s m k) y n q in
+        region-once g m k i y (record { below = l; from = d .0; to = omega arith }) (record { below = c .below; from = c .from; to = omega (arith, c .to) }))
 
-  pub may-write : (i y level : ℕ) → Covered s regions i y 1 → mayWrite s level y ≡ leb level (region.levels of entry s regions i % 16)
-  unfolding mayWrite
-  may-write i y level c = rw (region-hit i y 1 (omega arith) c, lt-ltb i (count s regions) (c .below))
+    -- what may be done with a byte is what its region says
+    pub may-read : (level : ℕ) → Covered s m i y 1 → mayRead s m level y ≡ leb level (region.levels of regionAt s m i / 16)
+    unfolding mayRead
+    may-read level c = rw (region-hit 1 (omega arith) c, lt-ltb i (count s (kindOf m)) (c .below))
+
+    pub may-write : (level : ℕ) → Covered s m i y 1 → mayWrite s m level y ≡ leb level (region.levels of regionAt s m i % 16)
+    unfolding mayWrite
+    may-write level c = rw (region-hit 1 (omega arith) c, lt-ltb i (count s (kindOf m)) (c .below))
 
   -- a property that has the object and the id is the one
   pub property-hit : {object id i : ℕ} → PropertyWith s object id i → indexFor s object id ≡ i
   unfolding indexFor keyOf
   property-hit {object} {id} {i} q =
-      index-hit 1 s (accepted g) properties (omega arith) i (object * 256 + id) (q .there) (omega (arith, key-is (entry s properties i), q .sameObject, q .sameId))
+      index-hit edition s (accepted g) properties (omega arith) i (object * 256 + id) (q .there) (omega (arith, key-is (entry s properties i), q .sameObject, q .sameId))
 
 -- the property that the search gives has the object and the id, ids being bytes
 pub property-found :

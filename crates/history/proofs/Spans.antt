@@ -9,6 +9,8 @@ use lib.ListN.{getD}
 use native.Mathlib.Omega.{arith}
 use borrow.Author.Tests.{ltb-true, lt-ltb, leb-true, le-leb, eqb-true, eq-eqb}
 use Rattle.octets.proofs.Truths.{never, and-is}
+use Rattle.sheet.specs.declared.Memory.{Memory}
+use Rattle.sheet.specs.declared.Memory.the-variants.{Device}
 use Rattle.history.specs.Location.{Location, memory, body, counter, key}
 use Rattle.history.specs.Span.{owner, same, byte, Span, has, put, names, gives}
 use Rattle.history.proofs.Bools.{all-at}
@@ -26,8 +28,11 @@ same-so [] = refl
 same-so (x ∷ s) = and-is (eqb x x) (same s s) .1 (eq-eqb x x refl, same-so s)
 
 -- a location by its owner's numbers and its byte
+abbrev memoryOf : ℕ → Memory
+memoryOf k = Device
+
 abbrev spelled : ℕ → ℕ → ℕ → ℕ → Location
-spelled zero a b j = memory j
+spelled zero a b j = memory (memoryOf a) j
 spelled (suc zero) a b j = body a b j
 spelled (suc (suc zero)) a b j = counter a b j
 spelled (suc (suc (suc n))) a b j = key a j
@@ -35,24 +40,33 @@ spelled (suc (suc (suc n))) a b j = key a j
 abbrev located : List ℕ → ℕ → Location
 located o j = spelled (getD o 0 0) (getD o 1 0) (getD o 2 0) j
 
+-- j bytes on from x
+abbrev pub on : Location → ℕ → Location
+on (memory m y) j = memory m (y + j)
+on (body o i n) j = body o i (n + j)
+on (counter o i n) j = counter o i (n + j)
+on (key l n) j = key l (n + j)
+
 located-is : (x : Location) → located (owner x) (byte x) ≡ x
-located-is (memory y) = refl
+located-is (memory Device y) = refl
 located-is (body o i j) = refl
 located-is (counter o i j) = refl
 located-is (key l j) = refl
 
--- j bytes on from x
-abbrev pub on : Location → ℕ → Location
-on x j = located (owner x) (byte x + j)
+located-on : (x : Location) (j : ℕ) → located (owner x) (byte x + j) ≡ on x j
+located-on (memory Device y) j = refl
+located-on (body o i n) j = refl
+located-on (counter o i n) j = refl
+located-on (key l n) j = refl
 
 owner-on : (x : Location) (j : ℕ) → owner (on x j) ≡ owner x
-owner-on (memory y) j = refl
+owner-on (memory m y) j = refl
 owner-on (body o i n) j = refl
 owner-on (counter o i n) j = refl
 owner-on (key l n) j = refl
 
 byte-on : (x : Location) (j : ℕ) → byte (on x j) ≡ byte x + j
-byte-on (memory y) j = refl
+byte-on (memory m y) j = refl
 byte-on (body o i n) j = refl
 byte-on (counter o i n) j = refl
 byte-on (key l n) j = refl
@@ -72,7 +86,7 @@ module _ (p : Span) where
       let l : byte (p .from) ≤ byte x = leb-true _ _ (all-at (Tests x) e 1) in
       let m : byte x < byte (p .from) + p .long = ltb-true _ _ (all-at (Tests x) e 2) in
       let j : byte x ≡ byte (p .from) + (byte x - byte (p .from)) = omega arith in (
-        sym (located-is x) ∙ ap₂ located (sym o) j,
+        sym (located-is x) ∙ ap₂ located (sym o) j ∙ located-on (p .from) _,
         omega arith,
       )
 

@@ -7,7 +7,8 @@ use mathlib.Core.List.{List, []}
 use lib.ListN.{length}
 use native.Mathlib.Omega.{arith}
 use Rattle.sheet.specs.Head.{rulesOf}
-use Rattle.sheet.specs.Rules.{ruleOf}
+use Rattle.sheet.specs.Rules.{Accepted}
+use Rattle.sheet.specs.declared.Memory.the-variants.{Device}
 use Rattle.pdu.specs.declared.Pdu.{Pdu}
 use Rattle.pdu.specs.declared.Pdu.the-variants.{GroupValueRead, IndividualAddressRead, SerialNumberRead, DeviceDescriptorRead, PropertyValueRead, PropertyDescriptionRead, MemoryRead}
 use Rattle.device.specs.Octets.{Octets}
@@ -31,7 +32,7 @@ use Rattle.history.proofs.Hearing.{Idle, asks-is}
 use Rattle.history.proofs.Invariant.{Inv, now-accepted}
 use Rattle.history.proofs.Requests.{Ok, heard-so, Done, unheard-same, unheard-forbidden, left}
 use Rattle.history.proofs.Unheard.{refusal-unheard, nothing-unheard, unread-unheard, unknown-unheard, mode-unheard}
-use Rattle.history.proofs.MemorySteps.{memory-written, memory-denied, bits-written, bits-denied}
+use Rattle.history.proofs.MemorySteps.{memory-written, memory-denied}
 use Rattle.history.proofs.KeySteps.{key-written, key-denied, authorized}
 use Rattle.history.proofs.PropertySteps.{property-denied, property-cleared, property-written}
 use Rattle.history.proofs.OtherSteps.{address-written, address-unwritten, serial-written, serial-unwritten, restarted}
@@ -41,7 +42,7 @@ module _ (f : First) (b : Begins f) (h : List Event) (x : State) (inv : Inv f h 
   abbrev R : Asked
   R = asked x mode g a out
 
-  accepted : ruleOf (x .sheet) ≡ 0
+  accepted : Accepted (x .sheet)
   accepted = now-accepted inv b
 
   -- what is not heard
@@ -90,16 +91,12 @@ module _ (f : First) (b : Begins f) (h : List Event) (x : State) (inv : Inv f h 
   due (right.properties (properties.noPropertyWrite o d n z r q)) = property-denied f b h x inv mode g a out octets o d n z r q 11 _ (λ z. omega arith)
   due (right.properties (properties.description o d n i r q)) = idle (PropertyDescriptionRead o d n) refl r 0 _
   due (right.properties (properties.noDescription o d n r q)) = idle (PropertyDescriptionRead o d n) refl r 11 _
-  due (right.memory (memory.memoryRead n y i r q)) = idle (MemoryRead n y) refl r 0 _
-  due (right.memory (memory.noMemoryRead n y r q)) = idle (MemoryRead n y) refl r 11 _
-  due (right.memory (memory.memoryWriteVerified n y i d r w e v)) = memory-written f b h x inv mode g a out octets n y i d r w e 0 _ (omega arith)
-  due (right.memory (memory.memoryWrite n y i d r w e v)) = memory-written f b h x inv mode g a out octets n y i d r w e 1 [] (omega arith)
-  due (right.memory (memory.noMemoryWriteVerified n y r q v)) = memory-denied f b h x inv mode g a out octets n y r q 11 _ (λ z. omega arith)
-  due (right.memory (memory.noMemoryWrite n y r q v)) = memory-denied f b h x inv mode g a out octets n y r q 12 [] (λ z. omega arith)
-  due (right.memory (memory.bitWriteVerified n y i d r w e v)) = bits-written f b h x inv mode g a out octets n y i d r w e 0 _ (omega arith)
-  due (right.memory (memory.bitWrite n y i d r w e v)) = bits-written f b h x inv mode g a out octets n y i d r w e 1 [] (omega arith)
-  due (right.memory (memory.noBitWriteVerified n y r q v)) = bits-denied f b h x inv mode g a out octets n y r q 11 _ (λ z. omega arith)
-  due (right.memory (memory.noBitWrite n y r q v)) = bits-denied f b h x inv mode g a out octets n y r q 12 [] (λ z. omega arith)
+  due (right.memory (memory.memoryRead Device n y o r q)) = idle (MemoryRead n y) refl r 0 _
+  due (right.memory (memory.noMemoryRead Device n y r q)) = idle (MemoryRead n y) refl r 11 _
+  due (right.memory (memory.memoryWriteVerified w n y o d r q e v)) = memory-written f b h x inv mode g a out octets w n y o d r q e 0 _ (omega arith)
+  due (right.memory (memory.memoryWrite w n y o d r q e v)) = memory-written f b h x inv mode g a out octets w n y o d r q e 1 [] (omega arith)
+  due (right.memory (memory.noMemoryWriteVerified w n y r q v)) = memory-denied f b h x inv mode g a out octets w n y r q 11 _ (λ z. omega arith)
+  due (right.memory (memory.noMemoryWrite w n y r q v)) = memory-denied f b h x inv mode g a out octets w n y r q 12 [] (λ z. omega arith)
   due (right.keys (keys.authorize n l r q)) = authorized f b h x inv mode g a out n l r q 0 _
   due (right.keys (keys.keyWrite l n r w)) = key-written f b h x inv mode g a out l n r w 0 _ (omega arith)
   due (right.keys (keys.noKeyWrite l n r q)) = key-denied f b h x inv mode g a out l n r q 11 _ (λ z. omega arith)

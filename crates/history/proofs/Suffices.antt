@@ -7,7 +7,9 @@ use mathlib.Core.Bool.{Bool, true, false, cond, _&&_, _||_}
 use mathlib.Core.List.{List, [], _∷_}
 use lib.Dec.{ltb, leb, eqb}
 use borrow.Author.Tests.{leb-true}
-use Rattle.sheet.specs.Kind.{regions, properties}
+use Rattle.sheet.specs.Kind.{properties, kindOf}
+use Rattle.sheet.specs.declared.Memory.{Memory}
+use Rattle.sheet.specs.declared.Memory.the-variants.{Device}
 use Rattle.sheet.specs.Layout.{_of_}
 use Rattle.sheet.specs.Property as property
 use Rattle.sheet.specs.Entries.{count}
@@ -15,7 +17,7 @@ use Rattle.octets.proofs.Truths.{never, and-is, or-is}
 use Rattle.history.specs.Location.{Location, memory}
 use Rattle.history.specs.Span.{Span, has, names}
 use Rattle.history.specs.Wish.{Wish, change, writeMemory, writeBits, writeProperty, writeKey, offerKey, restart, other, nothing}
-use Rattle.history.specs.Permit.{every, regionFor, mayRead, mayWrite, indexFor, entryFor, clears, fills, allowed, spans}
+use Rattle.history.specs.Permit.{every, regionFor, mayRead, mayWrite, mostBytes, inRange, indexFor, entryFor, clears, fills, allowed, spans}
 use Rattle.history.specs.Keyless.{writeLevel}
 use Rattle.history.proofs.Bools.{all-at, every-at}
 use Rattle.history.proofs.Spans.{on, has-only}
@@ -40,9 +42,16 @@ each-cond P false ps qs a b = b
 
 module _ (s : List ℕ) (level : ℕ) where
   -- a byte that may be written
-  may-suffices : (y : ℕ) → mayWrite s level y ≡ true → level ≤ writeLevel s (memory y)
+  may-suffices : (m : Memory) (y : ℕ) → mayWrite s m level y ≡ true → level ≤ writeLevel s (memory m y)
   unfolding mayWrite writeLevel
-  may-suffices y e = leb-true _ _ (and-is (ltb (regionFor s y 1) (count s regions)) _ .0 e .1)
+  may-suffices m y e = leb-true _ _ (and-is (ltb (regionFor s m y 1) (count s (kindOf m))) _ .0 e .1)
+
+  -- each of a range
+  range-each : (m : Memory) (most : ℕ) (may : ℕ → Bool) (n a : ℕ) → inRange s m most may n a ≡ true → (j : ℕ) → j < n → may (a + j) ≡ true
+  unfolding inRange
+  range-each m most may n a e j h =
+      every-at (λ i. may (a + i)) n
+      (all-at (leb 1 n ∷ leb n most ∷ ltb (regionFor s m a n) (count s (kindOf m)) ∷ every n (λ i. may (a + i)) ∷ []) e 3) j h
 
   module _ (before : Location → ℕ) (d : List ℕ) where
     Enough : Location → Type 0
@@ -50,22 +59,15 @@ module _ (s : List ℕ) (level : ℕ) where
 
     each : (w : Wish) → allowed s level d w ≡ true → Each Enough (spans s before d w)
     unfolding allowed spans Enough writeLevel
-    each (change (writeMemory n a)) e = (λ j h. may-suffices (a + j) (every-at (λ i. mayWrite s level (a + i)) n (all-at Ts e 3) j h), tt)
-      where
-        Ts : List Bool
-        Ts = leb 1 n ∷ leb n 12 ∷ ltb (regionFor s a n) (count s regions) ∷ every n (λ i. mayWrite s level (a + i)) ∷ []
+    each (change (writeMemory m n a)) e =
+        (λ j h. may-suffices m (a + j) (range-each m (mostBytes m) (mayWrite s m level) n a e j h), tt)
     each (change (writeBits n a)) e = (
       λ j h.
-          may-suffices (a + j)
-          (and-is (mayRead s level (a + j)) (mayWrite s level (a + j)) .0 (every-at (λ i. mayRead s level (a + i) && mayWrite s level (a + i)) n (all-at Ts e 3) j h) .1),
+          may-suffices Device (a + j)
+          (and-is (mayRead s Device level (a + j)) (mayWrite s Device level (a + j)) .0
+          (range-each Device 5 (λ y. mayRead s Device level y && mayWrite s Device level y) n a e j h) .1),
       tt,
     )
-      where
-        Ts : List Bool
-        Ts =
-            leb 1 n ∷
-            leb n 5 ∷
-            ltb (regionFor s a n) (count s regions) ∷ every n (λ i. mayRead s level (a + i) && mayWrite s level (a + i)) ∷ []
     each (change (writeProperty object id n z)) e =
         each-cond (λ x. level ≤ writeLevel s x) (eqb z 0) _ _ ((λ j h. enough), tt) ((λ j h. enough), ((λ j h. enough), tt))
       where

@@ -7,7 +7,7 @@ use mathlib.Core.Bool.{Bool, false}
 use mathlib.Core.List.{List}
 use native.Mathlib.Omega.{arith}
 use Rattle.sheet.specs.Head.{rulesOf}
-use Rattle.sheet.specs.Rules.{ruleOf}
+use Rattle.sheet.specs.Rules.{Accepted}
 use Rattle.pdu.specs.Pdus.{serviceOf}
 use Rattle.pdu.specs.Read.{readPdu}
 use Rattle.pdu.proofs.Readings.{reading}
@@ -33,7 +33,7 @@ refusal-ready (badLength p q (inr l)) r = omega (arith, r .most)
 refusal-ready (badMode p q l m t) r = omega (arith, r .mode)
 refusal-ready (noSession p q l m t u) r = never (sym u ∙ r .session t)
 
-module _ (x : State) (mode g : ℕ) (a out : List ℕ) (accepted : ruleOf (x .sheet) ≡ 0) where
+module _ (x : State) (mode g : ℕ) (a out : List ℕ) (accepted : Accepted (x .sheet)) where
   abbrev X : Asked
   X = asked x mode g a out
 

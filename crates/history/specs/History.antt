@@ -5,13 +5,14 @@ use mathlib.Core.List.{List, [], _∷_}
 use mathlib.Core.Bool.{Bool, true, false, cond, _&&_}
 use lib.ListN.{getD}
 use lib.Dec.{eqb}
-use Rattle.sheet.specs.Kind.{regions, properties}
+use Rattle.sheet.specs.Kind.{properties}
 use Rattle.sheet.specs.Layout.{_of_}
 use Rattle.sheet.specs.Head as head
 use Rattle.sheet.specs.Head.{rulesOf}
 use Rattle.sheet.specs.Region as region
 use Rattle.sheet.specs.Property as property
 use Rattle.sheet.specs.Entries.{entry, place}
+use Rattle.sheet.specs.Places.{regionAt}
 use Rattle.judge.specs.declared.Session.{Session}
 use Rattle.device.specs.Events.{Event, connect, disconnect, button, request}
 use Rattle.history.specs.Location.{Location, memory, body, counter, key}
@@ -25,8 +26,8 @@ pub record First : Type 0 where
 
 -- the first content of a location
 unfoldable pub firstOf : List ℕ → Location → ℕ
-firstOf s (memory y) =
-    let e = entry s regions (regionFor s y 1) in getD s (region.offset of e + (y - region.address of e)) 0
+firstOf s (memory m y) =
+    let e = regionAt s m (regionFor s m y 1) in getD s (region.offset of e + (y - region.address of e)) 0
 firstOf s (body o i j) = getD s (property.offset of entryFor s o i + j) 0
 firstOf s (counter o i j) = getD s (place s properties (indexFor s o i) + property.count .at + j) 0
 firstOf s (key l j) = getD s ((head.key l) .at + j) 0

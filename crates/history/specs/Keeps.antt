@@ -9,7 +9,7 @@ use lib.ListN.{length, getD}
 use Rattle.sheet.specs.Kind.{groups}
 use Rattle.sheet.specs.Layout.{_of_}
 use Rattle.sheet.specs.Head as head
-use Rattle.sheet.specs.Rules.{ruleOf}
+use Rattle.sheet.specs.Rules.{Accepted}
 use Rattle.sheet.specs.Entries.{InBody, bodyAt}
 use Rattle.device.specs.Octets.{Octets}
 use Rattle.device.specs.Step.{Step}
@@ -70,7 +70,7 @@ AllOctets (e ∷ h) = BringsOctets e × AllOctets h
 -- what holds after a history
 pub record Kept (step : Device) (f : First) (h : List Event) : Type 0 where
   -- the sheet stays accepted, and bytes, as many as at first
-  pub accepted : ruleOf (stateAfter step f h .sheet) ≡ 0
+  pub accepted : Accepted (stateAfter step f h .sheet)
   pub octets : Octets (stateAfter step f h .sheet)
   pub same : length (stateAfter step f h .sheet) ≡ length (f .sheet)
   -- session and level are what the history says
@@ -98,7 +98,7 @@ pub record Kept (step : Device) (f : First) (h : List Event) : Type 0 where
 
 pub record Begins (f : First) : Type 0 where
   pub octets : Octets (f .sheet)
-  pub accepted : ruleOf (f .sheet) ≡ 0
+  pub accepted : Accepted (f .sheet)
 
 -- DEMAND 3: from an accepted sheet and any session, after every history
 abbrev pub Keeps : Device → Type 0

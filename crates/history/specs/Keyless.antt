@@ -5,13 +5,12 @@ use mathlib.Core.Path.{_≡_}
 use mathlib.Core.List.{List, [], _∷_}
 use mathlib.Core.Bool.{true}
 use lib.ListN.{getD}
-use Rattle.sheet.specs.Kind.{regions}
 use Rattle.sheet.specs.Layout.{_of_}
 use Rattle.sheet.specs.Head as head
 use Rattle.sheet.specs.Head.{rulesOf}
 use Rattle.sheet.specs.Region as region
 use Rattle.sheet.specs.Property as property
-use Rattle.sheet.specs.Entries.{entry}
+use Rattle.sheet.specs.Places.{regionAt}
 use Rattle.device.specs.Events.{Event, State, request}
 use Rattle.history.specs.Location.{Location, memory, body, counter, key, Place}
 use Rattle.history.specs.Wish.{offerKey, asks}
@@ -20,7 +19,7 @@ use Rattle.history.specs.History.{First, firstOf, wished, opened, level,
 
 -- THE WRITE LEVEL of a byte: its region's, its property's, for the count too; of a key the level itself
 unfoldable pub writeLevel : List ℕ → Location → ℕ
-writeLevel s (memory y) = region.levels of entry s regions (regionFor s y 1) % 16
+writeLevel s (memory m y) = region.levels of regionAt s m (regionFor s m y 1) % 16
 writeLevel s (body o i j) = property.levels of entryFor s o i % 16
 writeLevel s (counter o i j) = property.levels of entryFor s o i % 16
 writeLevel s (key l j) = l

@@ -3,23 +3,24 @@
 use Prim.Native.Nat.{ℕ, _+_, _*_, _<_}
 use mathlib.Core.Path.{_≡_}
 use mathlib.Core.List.{List}
-use Rattle.sheet.specs.Kind.{regions, properties}
+use Rattle.sheet.specs.Kind.{properties}
 use Rattle.sheet.specs.Layout.{_of_}
 use Rattle.sheet.specs.Head as head
 use Rattle.sheet.specs.Property as property
 use Rattle.sheet.specs.Entries.{place, entry, bodyAt}
 use Rattle.sheet.specs.Places.{Stands, PropertyWith}
+use Rattle.sheet.specs.declared.Memory.{Memory}
 
--- a byte of memory by its address; byte j of the body of a property, or of its count, by object and id; byte j of the key of a level
+-- a byte of a memory by its address; byte j of the body of a property, or of its count, by object and id; byte j of the key of a level
 pub data Location : Type 0 where
-  memory : ℕ → Location
+  memory : Memory → ℕ → Location
   body : ℕ → ℕ → ℕ → Location
   counter : ℕ → ℕ → ℕ → Location
   key : ℕ → ℕ → Location
 
 -- WHERE A LOCATION STANDS
 pub data Place (s : List ℕ) : Location → ℕ → Type 0 where
-  ofMemory : {y p levels : ℕ} → Stands s regions y p levels → Place s (memory y) p
+  ofMemory : {m : Memory} {y p levels : ℕ} → Stands s m y p levels → Place s (memory m y) p
   ofBody :
       {object id j p : ℕ} (i : ℕ) → PropertyWith s object id i →
       j < property.element of entry s properties i * property.maximum of entry s properties i →

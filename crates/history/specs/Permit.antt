@@ -7,13 +7,16 @@ use lib.ListN.{length, getD}
 use lib.Dec.{ltb, leb, eqb}
 use lib.Bits.{bitAnd, bitXor}
 use Rattle.octets.specs.Bytes.{numAt, bytesOf}
-use Rattle.sheet.specs.Kind.{regions, properties}
+use Rattle.sheet.specs.Kind.{properties, kindOf}
 use Rattle.sheet.specs.Layout.{_of_}
 use Rattle.sheet.specs.Head as head
 use Rattle.sheet.specs.Region as region
 use Rattle.sheet.specs.Property as property
 use Rattle.sheet.specs.Entries.{count, entry}
 use Rattle.sheet.specs.Lookup.{seek, covers, indexOf}
+use Rattle.sheet.specs.Places.{regionAt}
+use Rattle.sheet.specs.declared.Memory.{Memory}
+use Rattle.sheet.specs.declared.Memory.the-variants.{Device}
 use Rattle.history.specs.Location.{Location, memory, body, counter, key}
 use Rattle.history.specs.Span.{all, Span}
 use Rattle.history.specs.Wish.{Wish, change, writeMemory, writeBits, writeProperty, writeKey, offerKey, restart, other, nothing, taken}
@@ -36,18 +39,27 @@ heard rules live mode a out w = all (checks rules live mode a out w)
 unfoldable pub levelFor : ℕ → ℕ → ℕ
 levelFor mode level = cond (eqb mode 3) (cond (ltb 3 level) 3 level) 3
 
--- the region that has all n addresses from a on, the number of regions where none has
-unfoldable pub regionFor : List ℕ → ℕ → ℕ → ℕ
-regionFor s a n = seek (λ i. covers (entry s regions i) a n) 0 (count s regions)
+-- the region of a memory that has all n addresses from a on, the number of its regions where none has
+unfoldable pub regionFor : List ℕ → Memory → ℕ → ℕ → ℕ
+regionFor s m a n = seek (λ i. covers (regionAt s m i) a n) 0 (count s (kindOf m))
 
 -- the byte at an address is there, and a level may read or write it
-unfoldable pub mayRead : List ℕ → ℕ → ℕ → Bool
-mayRead s level y =
-    let i = regionFor s y 1 in ltb i (count s regions) && leb level (region.levels of entry s regions i / 16)
+unfoldable pub mayRead : List ℕ → Memory → ℕ → ℕ → Bool
+mayRead s m level y =
+    let i = regionFor s m y 1 in ltb i (count s (kindOf m)) && leb level (region.levels of regionAt s m i / 16)
 
-unfoldable pub mayWrite : List ℕ → ℕ → ℕ → Bool
-mayWrite s level y =
-    let i = regionFor s y 1 in ltb i (count s regions) && leb level (region.levels of entry s regions i % 16)
+unfoldable pub mayWrite : List ℕ → Memory → ℕ → ℕ → Bool
+mayWrite s m level y =
+    let i = regionFor s m y 1 in ltb i (count s (kindOf m)) && leb level (region.levels of regionAt s m i % 16)
+
+-- how many bytes a write to a memory may name
+abbrev pub mostBytes : Memory → ℕ
+mostBytes Device = 12
+
+-- the n addresses from a on, 1 to `most`, lie in one region, and a test passes for each
+unfoldable pub inRange : List ℕ → Memory → ℕ → (ℕ → Bool) → ℕ → ℕ → Bool
+inRange s m most may n a =
+    all (leb 1 n ∷ leb n most ∷ ltb (regionFor s m a n) (count s (kindOf m)) ∷ every n (λ i. may (a + i)) ∷ [])
 
 -- the entry of a property by object and id, if there is one
 unfoldable pub indexFor : List ℕ → ℕ → ℕ → ℕ
@@ -68,14 +80,9 @@ fills e n s d =
 
 -- EVERY OTHER CHECK PASSES, AND THE LEVEL SUFFICES FOR EVERY BYTE THAT IS NAMED
 unfoldable pub allowed : List ℕ → ℕ → List ℕ → Wish → Bool
-allowed s level d (change (writeMemory n a)) =
-    all
-    (leb 1 n ∷ leb n 12 ∷ ltb (regionFor s a n) (count s regions) ∷ every n (λ i. mayWrite s level (a + i)) ∷ [])
+allowed s level d (change (writeMemory m n a)) = inRange s m (mostBytes m) (mayWrite s m level) n a
 allowed s level d (change (writeBits n a)) =
-    all
-    (leb 1 n ∷
-    leb n 5 ∷
-    ltb (regionFor s a n) (count s regions) ∷ every n (λ i. mayRead s level (a + i) && mayWrite s level (a + i)) ∷ [])
+    inRange s Device 5 (λ y. mayRead s Device level y && mayWrite s Device level y) n a
 allowed sheet level d (change (writeProperty object id n s)) =
     let e = entryFor sheet object id in
     all
@@ -98,12 +105,12 @@ countTo object id c =
 
 -- THE BYTES THAT A WRITE NAMES, AND WHAT IT GIVES TO EACH, d being its data and `before` the contents before it
 unfoldable pub spans : List ℕ → (Location → ℕ) → List ℕ → Wish → List Span
-spans s before d (change (writeMemory n a)) = record { from = memory a; long = n; give = λ j. getD d j 0 } ∷ []
+spans s before d (change (writeMemory m n a)) = record { from = memory m a; long = n; give = λ j. getD d j 0 } ∷ []
 spans s before d (change (writeBits n a)) =
     record {
-      from = memory a;
+      from = memory Device a;
       long = n;
-      give = λ j. bitXor (bitAnd (before (memory (a + j))) (getD d j 0)) (getD d (n + j) 0);
+      give = λ j. bitXor (bitAnd (before (memory Device (a + j))) (getD d j 0)) (getD d (n + j) 0);
     } ∷
     []
 spans sheet before d (change (writeProperty object id n s)) =

@@ -4,15 +4,16 @@ use Prim.Native.Nat.{ℕ, _+_, _-_}
 use mathlib.Core.List.{List, [], _∷_}
 use mathlib.Core.Bool.{Bool, true, false, cond, _&&_, _||_}
 use lib.Dec.{ltb, leb, eqb}
+use Rattle.sheet.specs.Kind.{kindOf}
 use Rattle.history.specs.Location.{Location, memory, body, counter, key}
 
 abbrev pub all : List Bool → Bool
 all [] = true
 all (b ∷ bs) = b && all bs
 
--- whose byte a location is, in numbers that can be compared: memory, the body or the count of a property, the key of a level
+-- whose byte a location is, in numbers that can be compared: a memory, the body or the count of a property, the key of a level
 abbrev pub owner : Location → List ℕ
-owner (memory y) = 0 ∷ []
+owner (memory m y) = 0 ∷ kindOf m ∷ []
 owner (body o i j) = 1 ∷ o ∷ i ∷ []
 owner (counter o i j) = 2 ∷ o ∷ i ∷ []
 owner (key l j) = 3 ∷ l ∷ []
@@ -25,7 +26,7 @@ same (x ∷ s) (y ∷ t) = eqb x y && same s t
 
 -- and which of its bytes
 abbrev pub byte : Location → ℕ
-byte (memory y) = y
+byte (memory m y) = y
 byte (body o i j) = j
 byte (counter o i j) = j
 byte (key l j) = j

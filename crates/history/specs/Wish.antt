@@ -4,15 +4,17 @@ use Prim.Native.Nat.{ℕ}
 use mathlib.Core.List.{List, []}
 use mathlib.Core.Bool.{Bool, false, _||_}
 use lib.Dec.{eqb}
+use Rattle.sheet.specs.declared.Memory.{Memory}
+use Rattle.sheet.specs.declared.Memory.the-variants.{Device}
 use Rattle.pdu.specs.Read.{readPdu, dataOf}
 use Rattle.pdu.specs.declared.Parsed.{Parsed}
 use Rattle.pdu.specs.declared.Parsed.the-variants.{Is, Refused}
 use Rattle.pdu.specs.declared.Pdu.{Pdu}
 use Rattle.pdu.specs.declared.Pdu.the-variants.{GroupValueRead, GroupValueResponse, GroupValueWrite, IndividualAddressWrite, IndividualAddressRead, SerialNumberRead, SerialNumberWrite, DeviceDescriptorRead, PropertyValueRead, PropertyValueWrite, PropertyDescriptionRead, MemoryRead, MemoryWrite, MemoryBitWrite, AuthorizeRequest, KeyWrite, Restart, IndividualAddressResponse, SerialNumberResponse, DeviceDescriptorResponse, PropertyValueResponse, PropertyDescriptionResponse, MemoryResponse, AuthorizeResponse, KeyResponse}
 
--- a write to locations
+-- a write to locations: bytes of a memory, bits of the device's memory, a property, a key
 pub data Change : Type 0 where
-  writeMemory : (n address : ℕ) → Change
+  writeMemory : Memory → (n address : ℕ) → Change
   writeBits : (n address : ℕ) → Change
   writeProperty : (object id n s : ℕ) → Change
   writeKey : (level number : ℕ) → Change
@@ -44,7 +46,7 @@ wishOf (PropertyValueRead object id n s) = nothing
 wishOf (PropertyValueWrite object id n s) = change (writeProperty object id n s)
 wishOf (PropertyDescriptionRead object id index) = nothing
 wishOf (MemoryRead n a) = nothing
-wishOf (MemoryWrite n a) = change (writeMemory n a)
+wishOf (MemoryWrite n a) = change (writeMemory Device n a)
 wishOf (MemoryBitWrite n a) = change (writeBits n a)
 wishOf (AuthorizeRequest number) = offerKey number
 wishOf (KeyWrite level number) = change (writeKey level number)
@@ -76,7 +78,7 @@ brings a = dataFrom (readPdu a) a
 
 -- WHICH MODE TAKES IT, by the number of the rules: 0 multicast, 1 broadcast, 2 connectionless, 3 connected
 abbrev pub taken : ℕ → Wish → ℕ → Bool
-taken rules (change (writeMemory n a)) mode = eqb mode 3
+taken rules (change (writeMemory m n a)) mode = eqb mode 3
 taken rules (change (writeBits n a)) mode = eqb mode 3
 taken rules (change (writeProperty object id n s)) mode = eqb mode 2 || eqb mode 3
 taken rules (change (writeKey level number)) mode = eqb mode 3

@@ -70,7 +70,7 @@ storesLate f h x e = withSheet (eventOf (stateAfter ours f h) e) (stateAfter our
 
 -- ONE THAT INVENTS THE COUNT: it stores the maximum
 abbrev pub invented : List ℕ → Wish → List ℕ
-invented s (change (writeMemory n a)) = s
+invented s (change (writeMemory m n a)) = s
 invented s (change (writeBits n a)) = s
 invented s (change (writeProperty object id n z)) =
     splice s (place s properties (indexFor s object id) + property.count .at)

@@ -7,9 +7,10 @@ use lib.Dec.{leb}
 use Rattle.sheet.specs.declared.Run.{Run}
 use Rattle.sheet.specs.declared.Run.the-variants.{At}
 use Rattle.pdu.specs.declared.Service.{Service}
+use Rattle.judge.specs.declared.Access.{Access}
 use Rattle.judge.specs.declared.Reach.{Reach}
 use Rattle.judge.specs.Modes.{reachOf, takes}
-use Rattle.judge.specs.Memory.{runAllowed}
+use Rattle.judge.specs.Memory.{may, runAllowed}
 
 pub via-reach : (ed : ℕ) (k j : Service) (r : Reach) → k ≡ j → r ≡ reachOf ed j → r ≡ reachOf ed k
 via-reach ed k j r e h = h ∙ ap (reachOf ed) (sym e)
@@ -17,12 +18,13 @@ via-reach ed k j r e h = h ∙ ap (reachOf ed) (sym e)
 pub via-takes : (k j : Reach) (m : ℕ) (r : Bool) → k ≡ j → r ≡ takes j m → r ≡ takes k m
 via-takes k j m r e h = h ∙ ap (λ (x : Reach). takes x m) (sym e)
 
-pub via-allowed :
-    (may : ℕ → ℕ → Bool) (m level n : ℕ) (k j : Run) (r : Bool) →
-    k ≡ j → r ≡ runAllowed may m level n j → r ≡ runAllowed may m level n k
-via-allowed may m level n k j r e h = h ∙ ap (runAllowed may m level n) (sym e)
+pub via-may : (w v : Access) (level levels : ℕ) (r : Bool) → w ≡ v → r ≡ may v level levels → r ≡ may w level levels
+via-may w v level levels r e h = h ∙ ap (λ (x : Access). may x level levels) (sym e)
+
+pub via-allowed : (w : Access) (m level n : ℕ) (k j : Run) (r : Bool) → k ≡ j → r ≡ runAllowed w m level n j → r ≡ runAllowed w m level n k
+via-allowed w m level n k j r e h = h ∙ ap (runAllowed w m level n) (sym e)
 
 pub allowed-at :
-    (f : ℕ → ℕ → Bool) (m level n o l : ℕ) (right r : Bool) (k : Run) →
-    k ≡ At o l → right ≡ f level l → r ≡ (leb 1 n && leb n m && right) → r ≡ runAllowed f m level n k
-allowed-at f m level n o l right r k e h g = via-allowed f m level n k (At o l) r e (rw h at g)
+    (w : Access) (m level n o l : ℕ) (right r : Bool) (k : Run) →
+    k ≡ At o l → right ≡ may w level l → r ≡ (leb 1 n && leb n m && right) → r ≡ runAllowed w m level n k
+allowed-at w m level n o l right r k e h g = via-allowed w m level n k (At o l) r e (rw h at g)

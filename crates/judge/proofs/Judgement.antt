@@ -7,7 +7,7 @@ use mathlib.Core.Bool.{Bool, true, false, not}
 use lib.ListN.{length}
 use borrow.Author.Tests.{lt-ltb, le-ltb, eqb-true, not-false}
 use Rattle.sheet.specs.Head.{rulesOf}
-use Rattle.sheet.specs.Rules.{ruleOf}
+use Rattle.sheet.specs.Rules.{ruleOf, Accepted, isAccepted}
 use Rattle.pdu.specs.Rules.{codeOf}
 use Rattle.pdu.specs.Table.{serviceAt}
 use Rattle.pdu.specs.Read.{readPdu, readOutcome, dataOf}
@@ -23,7 +23,7 @@ use Rattle.judge.specs.declared.Decision.{Decision}
 use Rattle.judge.specs.Decisions.{refused}
 use Rattle.judge.specs.Session.{levelIn}
 use Rattle.judge.specs.Modes.{reachOf, reaches, takes}
-use Rattle.judge.specs.Judge.{dataIn, isAccepted, decideOf, reachedOf, foundOf, isShut, judgeOf}
+use Rattle.judge.specs.Judge.{dataIn, decideOf, reachedOf, foundOf, isShut, judgeOf}
 
 pub via-data : (x : Parsed) (p : Pdu) (a d : List ℕ) → x ≡ Is p → d ≡ dataOf p a → d ≡ dataIn x a
 via-data x p a d e h = h ∙ ap (λ (y : Parsed). dataIn y a) (sym e)
@@ -33,7 +33,7 @@ pub via-decide :
     p ≡ j → r ≡ decideOf s level group d j → r ≡ decideOf s level group d p
 via-decide s level group d p j r e h = h ∙ ap (decideOf s level group d) (sym e)
 
-pub accepted : (s : List ℕ) (b : Bool) → b ≡ isAccepted s → not b ≡ false → ruleOf s ≡ 0
+pub accepted : (s : List ℕ) (b : Bool) → b ≡ isAccepted s → not b ≡ false → Accepted s
 unfolding isAccepted
 accepted s b e h = eqb-true (ruleOf s) 0 (sym e ∙ not-false b h)
 

@@ -5,9 +5,9 @@ use mathlib.Core.List.{List, []}
 use mathlib.Core.Bool.{Bool, cond, _&&_, not}
 use lib.ListN.{length}
 use lib.Dec.{ltb, eqb}
-use Rattle.sheet.specs.Kind.{regions}
 use Rattle.sheet.specs.Head.{rulesOf}
-use Rattle.sheet.specs.Rules.{ruleOf}
+use Rattle.sheet.specs.declared.Memory.the-variants.{Device}
+use Rattle.sheet.specs.Rules.{isAccepted}
 use Rattle.pdu.specs.Rules.{codeOf}
 use Rattle.pdu.specs.Table.{serviceAt}
 use Rattle.pdu.specs.Read.{readPdu, dataOf}
@@ -34,10 +34,6 @@ abbrev pub dataIn : Parsed → List ℕ → List ℕ
 dataIn (parsed.Is p) a = dataOf p a
 dataIn (parsed.Refused n) a = []
 
--- the sheet is one that the device works with
-unfoldable pub isAccepted : List ℕ → Bool
-isAccepted s = eqb (ruleOf s) 0
-
 -- a request of its service, with data d, at a level
 abbrev pub decideOf : List ℕ → ℕ → ℕ → List ℕ → Pdu → Decision
 decideOf s level group d GroupValueRead = groupReadOf s group
@@ -51,9 +47,9 @@ decideOf s level group d (DeviceDescriptorRead t) = descriptorOf s t
 decideOf sheet level group d (PropertyValueRead object id n s) = propertyReadOf sheet level object id n s
 decideOf sheet level group d (PropertyValueWrite object id n s) = propertyWriteOf sheet level object id n s d
 decideOf s level group d (PropertyDescriptionRead object id index) = descriptionOf s object id index
-decideOf s level group d (MemoryRead n address) = memoryReadOf s regions level n address
-decideOf s level group d (MemoryWrite n address) = memoryWriteOf s regions level n address
-decideOf s level group d (MemoryBitWrite n address) = bitWriteOf s regions level n address
+decideOf s level group d (MemoryRead n address) = memoryReadOf s Device level n address
+decideOf s level group d (MemoryWrite n address) = memoryWriteOf s Device level n address
+decideOf s level group d (MemoryBitWrite n address) = bitWriteOf s level n address
 decideOf s level group d (AuthorizeRequest key) = authorizeOf s key
 decideOf s level group d (KeyWrite named key) = keyWriteOf level named key
 decideOf s level group d Restart = restartOf s

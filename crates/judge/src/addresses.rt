@@ -1,6 +1,6 @@
 // The individual address, by programming mode and by serial number, and the descriptor.
 ghost use mathlib.Core.Path.{_≡_};
-ghost use Rattle.sheet.specs.Rules.{ruleOf};
+ghost use Rattle.sheet.specs.Rules.{Accepted};
 ghost use Rattle.judge.specs.Decisions as made;
 ghost use Rattle.judge.specs.Addresses.{inProgramming, newAddress, addressWriteOf, addressReadOf, serialReadOf, serialWriteOf, descriptorOf};
 use crate::Answer;
@@ -13,7 +13,7 @@ use pdu::Pdu;
 
 // Programming mode is on.
 fn in_programming(s: &[u8]) -> bool
-    requires { ⌜ ruleOf (now s) ≡ 0 ⌝ }
+    requires { ⌜ Accepted (now s) ⌝ }
     ensures { λ r. ⌜ r ≡ inProgramming (now (s .entry)) ⌝ }
 {
     sheet::flags(s) % 2 == 1
@@ -32,7 +32,7 @@ fn new_address(address: u16) -> Decision
 
 // The address set, and the device answering, in programming mode only.
 pub fn address_write(s: &[u8], address: u16) -> Decision
-    requires { ⌜ ruleOf (now s) ≡ 0 ⌝ }
+    requires { ⌜ Accepted (now s) ⌝ }
     ensures { λ r. ⌜ r ≡ addressWriteOf (now (s .entry)) address ⌝ }
 {
     if in_programming(s) {
@@ -42,7 +42,7 @@ pub fn address_write(s: &[u8], address: u16) -> Decision
 }
 
 pub fn address_read(s: &[u8]) -> Decision
-    requires { ⌜ ruleOf (now s) ≡ 0 ⌝ }
+    requires { ⌜ Accepted (now s) ⌝ }
     ensures { λ r. ⌜ r ≡ addressReadOf (now (s .entry)) ⌝ }
 {
     if in_programming(s) {

@@ -1,7 +1,7 @@
 // Group values.
 ghost use mathlib.Core.Path.{_≡_};
 ghost use Prim.Native.Nat.{_<_};
-ghost use Rattle.sheet.specs.Rules.{ruleOf};
+ghost use Rattle.sheet.specs.Rules.{Accepted};
 ghost use Rattle.judge.specs.Groups.{hasFlag, valueOf, putValue, groupReadOf, groupPutOf};
 use crate::Answer;
 use crate::Decision;
@@ -63,7 +63,7 @@ fn put_value(code: usize, at: usize, v: u8, n: usize) -> Decision
 
 // The value of a group object with the read flag.
 pub fn group_read(s: &[u8], address: u16) -> Decision
-    requires { ⌜ ruleOf (now s) ≡ 0 ⌝ }
+    requires { ⌜ Accepted (now s) ⌝ }
     ensures { λ r. ⌜ r ≡ groupReadOf (now (s .entry)) address ⌝ }
 {
     let i = sheet::find(s, GROUPS, address as usize);
@@ -79,7 +79,7 @@ pub fn group_read(s: &[u8], address: u16) -> Decision
 
 // GroupValue_Write and GroupValue_Response, which ask for different flags: six bits v, or n bytes of data.
 pub fn group_put(flag: u8, s: &[u8], address: u16, v: u8, n: usize) -> Decision
-    requires { ⌜ (0 < flag) × (ruleOf (now s) ≡ 0) ⌝ }
+    requires { ⌜ (0 < flag) × Accepted (now s) ⌝ }
     ensures { λ r. ⌜ r ≡ groupPutOf flag (now (s .entry)) address v n ⌝ }
 {
     let i = sheet::find(s, GROUPS, address as usize);

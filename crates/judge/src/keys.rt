@@ -1,6 +1,6 @@
 // Authorize, key write and restart.
 ghost use mathlib.Core.Path.{_≡_};
-ghost use Rattle.sheet.specs.Rules.{ruleOf};
+ghost use Rattle.sheet.specs.Rules.{Accepted};
 ghost use Rattle.judge.specs.Keys.{grantOf, authorizeOf, keyWriteOf, restartOf};
 use crate::Answer;
 use crate::Decision;
@@ -65,7 +65,7 @@ pub fn key_write(level: u8, named: u8, new: u32) -> Decision
 
 // Programming mode is cleared, verify stays.
 pub fn restart(s: &[u8]) -> Decision
-    requires { ⌜ ruleOf (now s) ≡ 0 ⌝ }
+    requires { ⌜ Accepted (now s) ⌝ }
     ensures { λ r. ⌜ r ≡ restartOf (now (s .entry)) ⌝ }
 {
     let old = sheet::flags(s);

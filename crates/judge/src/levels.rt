@@ -1,7 +1,8 @@
 // The modes, the level that a request acts at, and what a level may do.
 ghost use mathlib.Core.Path.{_≡_};
 ghost use Rattle.judge.specs.Session.{levelOf, levelIn};
-ghost use Rattle.judge.specs.Memory.{mayRead, mayWrite, mayChange};
+ghost use Rattle.judge.specs.Memory.{mayRead, mayWrite, may as mayOf};
+use crate::Access;
 use crate::Session;
 
 pub const MULTICAST: u8 = 0;
@@ -48,12 +49,23 @@ pub fn may_write(level: u8, levels: u8) -> bool
     level <= levels % 16
 }
 
-// A bit write needs both, since its answer shows old bits.
-pub fn may_change(level: u8, levels: u8) -> bool
-    ensures { λ r. ⌜ r ≡ mayChange level levels ⌝ }
+// A bit write needs both.
+fn may_change(level: u8, levels: u8) -> bool
+    ensures { λ r. ⌜ r ≡ mayOf Access.Change level levels ⌝ }
 {
     if may_read(level, levels) {
         return may_write(level, levels);
     }
     false
+}
+
+// An access is within the rights.
+pub fn may(w: Access, level: u8, levels: u8) -> bool
+    ensures { λ r. ⌜ r ≡ mayOf w level levels ⌝ }
+{
+    match w {
+        Access::Read => may_read(level, levels),
+        Access::Write => may_write(level, levels),
+        Access::Change => may_change(level, levels),
+    }
 }

@@ -13,11 +13,11 @@ mod services;
 ghost use mathlib.Core.Path.{_≡_};
 ghost use Prim.Native.Nat.{ℕ};
 ghost use mathlib.Core.List.{List};
-ghost use Rattle.sheet.specs.Rules.{ruleOf};
+ghost use Rattle.sheet.specs.Rules.{Accepted, isAccepted};
 ghost use Rattle.pdu.specs.Rules.{codeOf};
 ghost use Rattle.pdu.specs.Table.{serviceAt};
 ghost use Rattle.pdu.specs.Read.{readPdu};
-ghost use Rattle.judge.specs.Judge.{dataIn, isShut, isAccepted, reachedOf, foundOf, judgeOf};
+ghost use Rattle.judge.specs.Judge.{dataIn, isShut, reachedOf, foundOf, judgeOf};
 use decisions::refused;
 use levels::CONNECTED;
 use levels::level_in;
@@ -53,6 +53,13 @@ pub enum Reach {
     PointToPoint,
     Connected,
     Never,
+}
+
+// What is done with a range of memory: read, written, or changed by bits, whose answer shows old ones.
+pub enum Access {
+    Read,
+    Write,
+    Change,
 }
 
 // One run of bytes to be stored in the sheet.
@@ -126,7 +133,7 @@ fn is_accepted(s: &[u8]) -> bool
 
 // 8, then 9, then the reading: what a request of a service with that reach and with data d gets.
 fn reached(s: &[u8], x: Request, d: &[u8], r: Reach) -> Decision
-    requires { ⌜ ruleOf (now s) ≡ 0 ⌝ }
+    requires { ⌜ Accepted (now s) ⌝ }
     ensures { λ k. ⌜ ((a : List ℕ) → x .parsed ≡ readPdu a → now (d .entry) ≡ dataIn (x .parsed) a → k ≡ reachedOf (now (s .entry)) (x .session) (x .mode) (x .group) a r) ⌝ }
 {
     if !reaches(r) {
@@ -145,7 +152,7 @@ fn reached(s: &[u8], x: Request, d: &[u8], r: Reach) -> Decision
 
 // The same by what the code names.
 fn found(s: &[u8], x: Request, d: &[u8]) -> Decision
-    requires { ⌜ ruleOf (now s) ≡ 0 ⌝ }
+    requires { ⌜ Accepted (now s) ⌝ }
     ensures { λ k. ⌜ ((a : List ℕ) → x .parsed ≡ readPdu a → now (d .entry) ≡ dataIn (x .parsed) a → k ≡ foundOf (now (s .entry)) (x .session) (x .mode) (x .group) a (x .found)) ⌝ }
 {
     let f = x.found;

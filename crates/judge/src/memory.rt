@@ -1,11 +1,10 @@
-// Memory: read, write and bit write, of a memory of a kind.
+// Memory: read, write and bit write.
 ghost use mathlib.Core.Path.{_≡_};
 ghost use mathlib.Core.Bool.{_&&_};
 ghost use lib.Dec.{leb};
-ghost use Prim.Native.Nat.{_<_};
-ghost use Rattle.sheet.specs.Kind.{kinds};
-ghost use Rattle.sheet.specs.Rules.{ruleOf};
-ghost use Rattle.judge.specs.Memory.{mayRead, mayWrite, mayChange, mostBytes, mostBits, runAllowed, runAt, changeOf, verifies as verifiesOf, memoryReadOf, memoryWriteOf, bitWriteOf};
+ghost use Rattle.sheet.specs.Rules.{Accepted};
+ghost use Rattle.judge.specs.Memory.{mostBytes, responseOf, runAllowed, runAt, changeOf, verifies as verifiesOf, memoryReadOf, memoryWriteOf, bitWriteOf};
+use crate::Access;
 use crate::Answer;
 use crate::Decision;
 use crate::Store;
@@ -14,16 +13,33 @@ use crate::decisions::denied;
 use crate::decisions::refused;
 use crate::decisions::stored;
 use crate::decisions::written;
-use crate::levels::may_change;
-use crate::levels::may_read;
-use crate::levels::may_write;
+use crate::levels::may;
 use pdu::Pdu;
+use sheet::Memory;
 use sheet::Run;
 
-// How many bytes a read or write, and a bit write, may name.
+// How many bytes a read or write of the device's memory, and a bit write, may name.
 const MOST_BYTES: u8 = 12;
 
 const MOST_BITS: u8 = 5;
+
+// How many a read or write of a memory may name.
+fn most_of(m: Memory) -> u8
+    ensures { λ r. ⌜ r ≡ mostBytes m ⌝ }
+{
+    match m {
+        Memory::Device => MOST_BYTES,
+    }
+}
+
+// What a memory answers with.
+fn response(m: Memory, n: u8, address: u16) -> Pdu
+    ensures { λ r. ⌜ r ≡ responseOf m n address ⌝ }
+{
+    match m {
+        Memory::Device => Pdu::MemoryResponse { n, address },
+    }
+}
 
 // n is 1 to m, and the right is there.
 fn permits(n: u8, m: u8, right: bool) -> bool
@@ -38,32 +54,12 @@ fn permits(n: u8, m: u8, right: bool) -> bool
     right
 }
 
-// A read of n bytes is permitted.
-fn can_read(level: u8, n: u8, run: Run) -> bool
-    ensures { λ r. ⌜ r ≡ runAllowed mayRead mostBytes level n run ⌝ }
+// An access to n bytes, at most m, is permitted.
+fn allowed(w: Access, m: u8, level: u8, n: u8, run: Run) -> bool
+    ensures { λ r. ⌜ r ≡ runAllowed w m level n run ⌝ }
 {
     match run {
-        Run::At { offset: _, levels } => permits(n, MOST_BYTES, may_read(level, levels)),
-        Run::Nowhere => false,
-    }
-}
-
-// A write of n bytes is permitted.
-fn can_write(level: u8, n: u8, run: Run) -> bool
-    ensures { λ r. ⌜ r ≡ runAllowed mayWrite mostBytes level n run ⌝ }
-{
-    match run {
-        Run::At { offset: _, levels } => permits(n, MOST_BYTES, may_write(level, levels)),
-        Run::Nowhere => false,
-    }
-}
-
-// A bit write of n bytes is permitted.
-fn can_change(level: u8, n: u8, run: Run) -> bool
-    ensures { λ r. ⌜ r ≡ runAllowed mayChange mostBits level n run ⌝ }
-{
-    match run {
-        Run::At { offset: _, levels } => permits(n, MOST_BITS, may_change(level, levels)),
+        Run::At { offset: _, levels } => permits(n, m, may(w, level, levels)),
         Run::Nowhere => false,
     }
 }
@@ -79,8 +75,16 @@ fn run_at(run: Run) -> usize
 }
 
 // A store of n bytes: answered with the new bytes if verify is on.
-fn change(allowed: bool, verify: bool, new: Store, at: usize, n: u8, address: u16) -> Decision
-    ensures { λ r. ⌜ r ≡ changeOf allowed verify new at n address ⌝ }
+fn change(
+    m: Memory,
+    allowed: bool,
+    verify: bool,
+    new: Store,
+    at: usize,
+    n: u8,
+    address: u16,
+) -> Decision
+    ensures { λ r. ⌜ r ≡ changeOf m allowed verify new at n address ⌝ }
 {
     if allowed {
         if verify {
@@ -88,7 +92,7 @@ fn change(allowed: bool, verify: bool, new: Store, at: usize, n: u8, address: u1
                 new,
                 Store::Nothing,
                 Answer::Sheet {
-                    pdu: Pdu::MemoryResponse { n, address },
+                    pdu: response(m, n, address),
                     at,
                     n: n as usize,
                 },
@@ -97,44 +101,45 @@ fn change(allowed: bool, verify: bool, new: Store, at: usize, n: u8, address: u1
         return stored(new);
     }
     if verify {
-        return denied(Pdu::MemoryResponse { n: 0, address });
+        return denied(response(m, 0, address));
     }
     refused(12)
 }
 
 // Memory writes are answered.
 fn verifies(s: &[u8]) -> bool
-    requires { ⌜ ruleOf (now s) ≡ 0 ⌝ }
+    requires { ⌜ Accepted (now s) ⌝ }
     ensures { λ r. ⌜ r ≡ verifiesOf (now (s .entry)) ⌝ }
 {
     sheet::flags(s) / 2 % 2 == 1
 }
 
 // A read of n bytes from an address on.
-pub fn memory_read(s: &[u8], k: usize, level: u8, n: u8, address: u16) -> Decision
-    requires { ⌜ (ruleOf (now s) ≡ 0) × (k < kinds) ⌝ }
-    ensures { λ r. ⌜ r ≡ memoryReadOf (now (s .entry)) k level n address ⌝ }
+pub fn memory_read(s: &[u8], m: Memory, level: u8, n: u8, address: u16) -> Decision
+    requires { ⌜ Accepted (now s) ⌝ }
+    ensures { λ r. ⌜ r ≡ memoryReadOf (now (s .entry)) m level n address ⌝ }
 {
-    let run = sheet::range(s, k, address as usize, n as usize);
-    if can_read(level, n, run) {
+    let run = sheet::range(s, m, address as usize, n as usize);
+    if allowed(Access::Read, most_of(m), level, n, run) {
         return answered(Answer::Sheet {
-            pdu: Pdu::MemoryResponse { n, address },
+            pdu: response(m, n, address),
             at: run_at(run),
             n: n as usize,
         });
     }
-    denied(Pdu::MemoryResponse { n: 0, address })
+    denied(response(m, 0, address))
 }
 
 // A write of the request's n bytes from an address on.
-pub fn memory_write(s: &[u8], k: usize, level: u8, n: u8, address: u16) -> Decision
-    requires { ⌜ (ruleOf (now s) ≡ 0) × (k < kinds) ⌝ }
-    ensures { λ r. ⌜ r ≡ memoryWriteOf (now (s .entry)) k level n address ⌝ }
+pub fn memory_write(s: &[u8], m: Memory, level: u8, n: u8, address: u16) -> Decision
+    requires { ⌜ Accepted (now s) ⌝ }
+    ensures { λ r. ⌜ r ≡ memoryWriteOf (now (s .entry)) m level n address ⌝ }
 {
-    let run = sheet::range(s, k, address as usize, n as usize);
+    let run = sheet::range(s, m, address as usize, n as usize);
     let at = run_at(run);
     change(
-        can_write(level, n, run),
+        m,
+        allowed(Access::Write, most_of(m), level, n, run),
         verifies(s),
         Store::Data { zeros: 0, at },
         at,
@@ -143,15 +148,16 @@ pub fn memory_write(s: &[u8], k: usize, level: u8, n: u8, address: u16) -> Decis
     )
 }
 
-// A bit write of n bytes from an address on.
-pub fn bit_write(s: &[u8], k: usize, level: u8, n: u8, address: u16) -> Decision
-    requires { ⌜ (ruleOf (now s) ≡ 0) × (k < kinds) ⌝ }
-    ensures { λ r. ⌜ r ≡ bitWriteOf (now (s .entry)) k level n address ⌝ }
+// A bit write of n bytes of the device's memory from an address on.
+pub fn bit_write(s: &[u8], level: u8, n: u8, address: u16) -> Decision
+    requires { ⌜ Accepted (now s) ⌝ }
+    ensures { λ r. ⌜ r ≡ bitWriteOf (now (s .entry)) level n address ⌝ }
 {
-    let run = sheet::range(s, k, address as usize, n as usize);
+    let run = sheet::range(s, Memory::Device, address as usize, n as usize);
     let at = run_at(run);
     change(
-        can_change(level, n, run),
+        Memory::Device,
+        allowed(Access::Change, MOST_BITS, level, n, run),
         verifies(s),
         Store::Bits { at, n: n as usize },
         at,

@@ -10,7 +10,7 @@ ghost use Rattle.sheet.specs.Kind.{properties};
 ghost use Rattle.sheet.specs.Property as property;
 ghost use Rattle.sheet.specs.Entries.{entry, place};
 ghost use Rattle.sheet.specs.Places.{IsProperty};
-ghost use Rattle.sheet.specs.Rules.{ruleOf};
+ghost use Rattle.sheet.specs.Rules.{Accepted};
 ghost use Rattle.judge.specs.Memory.{mayWrite};
 ghost use Rattle.judge.specs.Properties.{elements as elementsOf, counted as countedOf, elementAt, noValue, most, readIn, writeIn, propertyAt, propertyReadOf, propertyWriteOf, describedAt, descriptionOf};
 use crate::Answer;
@@ -214,7 +214,7 @@ fn write_in(e: PropertyEntry, level: u8, object: u8, id: u8, n: u8, s: u16, d: &
 
 // The number of the property with that object and id, the count of properties where there is none.
 fn property_at(sheet: &[u8], object: u8, id: u8) -> usize
-    requires { ⌜ ruleOf (now sheet) ≡ 0 ⌝ }
+    requires { ⌜ Accepted (now sheet) ⌝ }
     ensures { λ r. ⌜ r ≡ propertyAt (now (sheet .entry)) object id ⌝ }
 {
     sheet::find(sheet, PROPERTIES, object as usize * 256 + id as usize)
@@ -222,7 +222,7 @@ fn property_at(sheet: &[u8], object: u8, id: u8) -> usize
 
 // A read of n elements from element s on, or of the count.
 pub fn property_read(sheet: &[u8], level: u8, object: u8, id: u8, n: u8, s: u16) -> Decision
-    requires { ⌜ ruleOf (now sheet) ≡ 0 ⌝ }
+    requires { ⌜ Accepted (now sheet) ⌝ }
     ensures { λ r. ⌜ r ≡ propertyReadOf (now (sheet .entry)) level object id n s ⌝ }
 {
     let i = property_at(sheet, object, id);
@@ -242,7 +242,7 @@ pub fn property_write(
     s: u16,
     d: &[u8],
 ) -> Decision
-    requires { ⌜ ruleOf (now sheet) ≡ 0 ⌝ }
+    requires { ⌜ Accepted (now sheet) ⌝ }
     ensures { λ r. ⌜ r ≡ propertyWriteOf (now (sheet .entry)) level object id n s (now (d .entry)) ⌝ }
 {
     let i = property_at(sheet, object, id);
@@ -254,7 +254,7 @@ pub fn property_write(
 
 // An id other than 0 decides; id 0 means the index within the object.
 fn described_at(sheet: &[u8], object: u8, id: u8, index: u8) -> usize
-    requires { ⌜ ruleOf (now sheet) ≡ 0 ⌝ }
+    requires { ⌜ Accepted (now sheet) ⌝ }
     ensures { λ r. ⌜ r ≡ describedAt (now (sheet .entry)) object id index ⌝ }
 {
     if id == 0 {
@@ -265,7 +265,7 @@ fn described_at(sheet: &[u8], object: u8, id: u8, index: u8) -> usize
 
 // The entry's own fields, or what was asked.
 pub fn description(sheet: &[u8], object: u8, id: u8, index: u8) -> Decision
-    requires { ⌜ ruleOf (now sheet) ≡ 0 ⌝ }
+    requires { ⌜ Accepted (now sheet) ⌝ }
     ensures { λ r. ⌜ r ≡ descriptionOf (now (sheet .entry)) object id index ⌝ }
 {
     let i = described_at(sheet, object, id, index);

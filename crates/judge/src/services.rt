@@ -1,6 +1,6 @@
 // What is decided about a request of each service.
 ghost use mathlib.Core.Path.{_≡_};
-ghost use Rattle.sheet.specs.Rules.{ruleOf};
+ghost use Rattle.sheet.specs.Rules.{Accepted};
 ghost use Rattle.judge.specs.Judge.{decideOf};
 use crate::Decision;
 use crate::addresses::address_read;
@@ -16,7 +16,6 @@ use crate::groups::group_read;
 use crate::keys::authorize;
 use crate::keys::key_write;
 use crate::keys::restart;
-use crate::kinds::REGIONS;
 use crate::memory::bit_write;
 use crate::memory::memory_read;
 use crate::memory::memory_write;
@@ -24,10 +23,11 @@ use crate::properties::description;
 use crate::properties::property_read;
 use crate::properties::property_write;
 use pdu::Pdu;
+use sheet::Memory;
 
 // A request with data d, at a level. An answer to a tool is no request.
 pub fn decide(sheet: &[u8], level: u8, group: u16, d: &[u8], p: Pdu) -> Decision
-    requires { ⌜ ruleOf (now sheet) ≡ 0 ⌝ }
+    requires { ⌜ Accepted (now sheet) ⌝ }
     ensures { λ r. ⌜ r ≡ decideOf (now (sheet .entry)) level group (now (d .entry)) p ⌝ }
 {
     match p {
@@ -46,9 +46,9 @@ pub fn decide(sheet: &[u8], level: u8, group: u16, d: &[u8], p: Pdu) -> Decision
             property_write(sheet, level, object, id, n, s, d)
         }
         Pdu::PropertyDescriptionRead { object, id, index } => description(sheet, object, id, index),
-        Pdu::MemoryRead { n, address } => memory_read(sheet, REGIONS, level, n, address),
-        Pdu::MemoryWrite { n, address } => memory_write(sheet, REGIONS, level, n, address),
-        Pdu::MemoryBitWrite { n, address } => bit_write(sheet, REGIONS, level, n, address),
+        Pdu::MemoryRead { n, address } => memory_read(sheet, Memory::Device, level, n, address),
+        Pdu::MemoryWrite { n, address } => memory_write(sheet, Memory::Device, level, n, address),
+        Pdu::MemoryBitWrite { n, address } => bit_write(sheet, level, n, address),
         Pdu::AuthorizeRequest { key } => authorize(sheet, key),
         Pdu::KeyWrite { level: named, key } => key_write(level, named, key),
         Pdu::Restart => restart(sheet),

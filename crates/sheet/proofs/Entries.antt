@@ -7,6 +7,7 @@ use lib.ListN.{length, take, drop, length-take, length-drop}
 use native.Mathlib.Nat.{add-sub-cancel-left}
 use native.Mathlib.Omega.{arith}
 use Rattle.octets.specs.Bytes.{numAt}
+use Rattle.sheet.specs.Rules.{edition}
 use Rattle.sheet.specs.Kind.{kinds, OfKind}
 use Rattle.sheet.specs.Region as region
 use Rattle.sheet.specs.Head as head
@@ -15,7 +16,7 @@ use Rattle.sheet.specs.Walk.{Framed, Entry, Counted, Starts, Shown}
 use Rattle.sheet.proofs.ByKind.{eachKind, kinded, at-kind}
 
 -- the numbers of entries stand one after the other, that of regions first
-pub counted : (s : List ℕ) (k r : ℕ) → Framed 1 s → k < kinds → r ≡ numAt s (head.regions .at + k) 1 → Counted s k r
+pub counted : (s : List ℕ) (k r : ℕ) → Framed edition s → k < kinds → r ≡ numAt s (head.regions .at + k) 1 → Counted s k r
 counted s k r f h e =
     eachKind (λ (j : ℕ). r ≡ numAt s (head.regions .at + j) 1 → Counted s j r)
     (λ q. record { is = q; few = omega (arith, f .rows) })

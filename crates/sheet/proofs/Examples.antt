@@ -13,7 +13,7 @@ use Rattle.sheet.specs.Region as region
 use Rattle.sheet.specs.Property as property
 use Rattle.sheet.specs.Group as group
 use Rattle.sheet.specs.Entries.{count, contents, entry, keyOf, floor, bodyEnd, startOf, reached, sixBits}
-use Rattle.sheet.specs.Rules.{entryDemands, bodyDemands, entryRule, bodyRule, entriesRule, bodiesRule, walkRule, ruleIn, ruleOf}
+use Rattle.sheet.specs.Rules.{entryDemands, bodyDemands, entryRule, bodyRule, entriesRule, bodiesRule, walkRule, ruleIn, Accepted, edition, isAccepted}
 use Rattle.sheet.specs.Lookup.{seek, indexOf, bodyOf, lookup, regionOf, propertyOf, groupOf, objectAt, rank, nthOf}
 
 -- THE SHEET, 109 bytes: no two of its numbers that could be taken for one another are the same
@@ -40,7 +40,7 @@ example =
     0xC0 ∷ 0xC1 ∷ []
 
 -- IT IS ACCEPTED
-pub example-accepted : ruleOf example ≡ 0
+pub example-accepted : Accepted example
 unfolding example ruleIn walkRule entriesRule bodiesRule entryRule bodyRule entryDemands bodyDemands breach first entry floor bodyEnd startOf reached sixBits numAt
 example-accepted = refl
 
@@ -83,17 +83,17 @@ example-group = refl
 -- THE VALUE LOOKUPS: by region number, by object and id, by group address
 pub example-regions :
     map (regionOf example) (0 ∷ 1 ∷ 2 ∷ []) ≡ (0xA0 ∷ 0xA1 ∷ []) ∷ (0xA2 ∷ 0xA3 ∷ 0xA4 ∷ []) ∷ [] ∷ []
-unfolding example lookup bodyOf ruleIn walkRule entriesRule bodiesRule entryRule bodyRule entryDemands bodyDemands breach first entry floor bodyEnd startOf reached sixBits numAt
+unfolding example lookup isAccepted bodyOf ruleIn walkRule entriesRule bodiesRule entryRule bodyRule entryDemands bodyDemands breach first entry floor bodyEnd startOf reached sixBits numAt
 example-regions = refl
 
 pub example-properties :
     propertyOf example 1 2 ∷ propertyOf example 2 1 ∷ propertyOf example 2 3 ∷ propertyOf example 3 2 ∷ []
     ≡ (0xB0 ∷ 0xB1 ∷ 0xB2 ∷ 0xB3 ∷ []) ∷ (0xB4 ∷ 0xB5 ∷ 0xB6 ∷ []) ∷ (0xB7 ∷ 0xB8 ∷ 0xB9 ∷ []) ∷ [] ∷ []
-unfolding example lookup bodyOf indexOf seek keyOf ruleIn walkRule entriesRule bodiesRule entryRule bodyRule entryDemands bodyDemands breach first entry floor bodyEnd startOf reached sixBits numAt
+unfolding example lookup isAccepted bodyOf indexOf seek keyOf ruleIn walkRule entriesRule bodiesRule entryRule bodyRule entryDemands bodyDemands breach first entry floor bodyEnd startOf reached sixBits numAt
 example-properties = refl
 
 pub example-groups : map (groupOf example) (0x0801 ∷ 0x0108 ∷ []) ≡ (0xC0 ∷ 0xC1 ∷ []) ∷ [] ∷ []
-unfolding example lookup bodyOf indexOf seek keyOf ruleIn walkRule entriesRule bodiesRule entryRule bodyRule entryDemands bodyDemands breach first entry floor bodyEnd startOf reached sixBits numAt
+unfolding example lookup isAccepted bodyOf indexOf seek keyOf ruleIn walkRule entriesRule bodiesRule entryRule bodyRule entryDemands bodyDemands breach first entry floor bodyEnd startOf reached sixBits numAt
 example-groups = refl
 
 -- THE INDEX WITHIN AN OBJECT: of each property, and the property of an index

@@ -1,19 +1,21 @@
 -- In two sheets that agree on what the rules read, lookups find the same.
 -- Assumes nothing.
 use Prim.Native.Nat.{ℕ, zero, suc, _<_, _≤_}
-use mathlib.Core.Path.{_≡_, refl, _∙_, ap}
+use mathlib.Core.Path.{_≡_, refl, sym, _∙_, ap}
 use mathlib.Core.List.{List}
 use mathlib.Core.Bool.{cond, _&&_}
 use lib.Dec.{eqb, ltb}
 use native.Mathlib.Decide.{decLt}
 use native.Mathlib.Omega.{arith}
 use borrow.Author.Tests.{le-ltb}
-use Rattle.sheet.specs.Kind.{kinds, regions, properties}
+use Rattle.sheet.specs.Kind.{kinds, properties, kindOf}
 use Rattle.sheet.specs.Region as region
 use Rattle.sheet.specs.Property as property
 use Rattle.sheet.specs.Entries.{count, entry, keyOf}
 use Rattle.sheet.specs.Lookup.{seek, indexOf, objectAt, rank, nthOf, covers, runIn, rangeOf}
 use Rattle.sheet.specs.Frame.{Agree}
+use Rattle.sheet.specs.Places.{regionAt, Ranged}
+use Rattle.sheet.specs.declared.Memory.{Memory}
 use Rattle.sheet.specs.declared.Run.the-variants.{Nowhere}
 use Rattle.sheet.proofs.Sames.{count-same, key-same, region-same, property-same}
 use Rattle.sheet.proofs.Seeks.{seek-same}
@@ -45,30 +47,47 @@ module _ {s s′ : List ℕ} (a : Agree s s′) where
       ∙ seek-same (λ i. eqb (objectAt s′ i) object && eqb (rank s′ object i) index) (λ i. eqb (objectAt s i) object && eqb (rank s object i) index) 0 (count s properties)
       (λ i h l. rw (object-same i (omega arith), rank-same object i (omega arith)))
 
-  module _ (f n : ℕ) where
-    covers-same : (i : ℕ) → i < count s regions → covers (entry s′ regions i) f n ≡ covers (entry s regions i) f n
+  module _ (m : Memory) (f n : ℕ) where
+    covers-same : (i : ℕ) → i < count s (kindOf m) → covers (regionAt s′ m i) f n ≡ covers (regionAt s m i) f n
     unfolding covers
-    covers-same i h = rw (region-same a i region.address h (omega arith), region-same a i region.length h (omega arith))
+    covers-same i h = rw (region-same a m i region.address h (omega arith), region-same a m i region.length h (omega arith))
 
-    run-same : (i : ℕ) → i < count s regions → runIn (entry s′ regions i) f ≡ runIn (entry s regions i) f
+    run-same : (i : ℕ) → i < count s (kindOf m) → runIn (regionAt s′ m i) f ≡ runIn (regionAt s m i) f
     run-same i h =
-        rw (region-same a i region.offset h (omega arith), region-same a i region.address h (omega arith), region-same a i region.levels h (omega arith))
+        rw (region-same a m i region.offset h (omega arith), region-same a m i region.address h (omega arith), region-same a m i region.levels h (omega arith))
 
     found : List ℕ → ℕ
-    found t = seek (λ j. covers (entry t regions j) f n) 0 (count t regions)
+    found t = seek (λ j. covers (regionAt t m j) f n) 0 (count t (kindOf m))
 
     found-same : found s′ ≡ found s
     unfolding found
     found-same =
-        ap (seek (λ j. covers (entry s′ regions j) f n) 0) (count-same a regions)
-        ∙ seek-same (λ j. covers (entry s′ regions j) f n) (λ j. covers (entry s regions j) f n) 0 (count s regions)
+        ap (seek (λ j. covers (regionAt s′ m j) f n) 0) (count-same a (kindOf m))
+        ∙ seek-same (λ j. covers (regionAt s′ m j) f n) (λ j. covers (regionAt s m j) f n) 0 (count s (kindOf m))
         (λ i h l. covers-same i (omega arith))
 
     -- the same run of an address range
-    pub range-same : rangeOf s′ regions f n ≡ rangeOf s regions f n
+    pub range-same : rangeOf s′ m f n ≡ rangeOf s m f n
     unfolding rangeOf found
-    range-same = rw (found-same, count-same a regions) (go (found s) (decLt (found s) (count s regions)))
+    range-same = rw (found-same, count-same a (kindOf m)) (go (found s) (decLt (found s) (count s (kindOf m))))
       where
-        go : (i : ℕ) → Dec (i < count s regions) → cond (ltb i (count s regions)) (runIn (entry s′ regions i) f) Nowhere ≡ cond (ltb i (count s regions)) (runIn (entry s regions i) f) Nowhere
+        go : (i : ℕ) → Dec (i < count s (kindOf m)) → cond (ltb i (count s (kindOf m))) (runIn (regionAt s′ m i) f) Nowhere ≡ cond (ltb i (count s (kindOf m))) (runIn (regionAt s m i) f) Nowhere
         go i (yes h) = rw (run-same i h)
-        go i (no h) = rw (le-ltb i (count s regions) (omega arith))
+        go i (no h) = rw (le-ltb i (count s (kindOf m)) (omega arith))
+
+  -- and the same range at the same place
+  pub ranged-same : {m : Memory} {y n o l : ℕ} → Ranged s m y n o l → Ranged s′ m y n o l
+  ranged-same {m} r =
+      let i : ℕ = r .index in
+      let h : i < count s (kindOf m) = r .below in
+      let f = region-same a m i region.address h (omega arith) in
+      let t = region-same a m i region.length h (omega arith) in
+      let o = region-same a m i region.offset h (omega arith) in
+      record {
+        index = i;
+        below = omega (arith, h, count-same a (kindOf m));
+        from = omega (arith, r .from, f);
+        to = omega (arith, r .to, f, t);
+        here = omega (arith, r .here, f, o);
+        under = r .under ∙ sym (region-same a m i region.levels h (omega arith));
+      }

@@ -13,6 +13,7 @@ use Rattle.sheet.specs.Property as property
 use Rattle.sheet.specs.Group as group
 use Rattle.sheet.specs.Entries.{count, entry, sixBits}
 use Rattle.sheet.specs.Rules.{entryDemands, bodyDemands, ruleIn}
+use Rattle.sheet.specs.declared.Memory.the-variants.{Device}
 use Rattle.sheet.specs.Frame.{Agree}
 use Rattle.sheet.proofs.ByKind.{eachKind}
 use Rattle.sheet.proofs.Good.{Good, good, accepted}
@@ -70,7 +71,7 @@ module _ {ed : ℕ} {s s′ : List ℕ} (g : Good ed s) (a : Agree s s′) where
   entries i =
       eachKind (λ (k : ℕ). i < count s k → Met (entryDemands s′ k i))
       (λ h.
-      rw (floor-same a regions i (omega arith) h, region-same a i region.address h (omega arith), region-same a i region.length h (omega arith), region-same a i region.levels h (omega arith), region-same a i region.zero h (omega arith))
+      rw (floor-same a regions i (omega arith) h, region-same a Device i region.address h (omega arith), region-same a Device i region.length h (omega arith), region-same a Device i region.levels h (omega arith), region-same a Device i region.zero h (omega arith))
       (g .entries regions i (omega arith) h))
       (λ h.
       let m = g .entries properties i (omega arith) h in

@@ -7,7 +7,7 @@ use native.Mathlib.Decide.{decLt}
 use native.Mathlib.Omega.{arith}
 use Rattle.sheet.specs.Kind.{kinds}
 use Rattle.sheet.specs.Entries.{count, keyOf}
-use Rattle.sheet.specs.Rules.{ruleOf}
+use Rattle.sheet.specs.Rules.{Accepted, edition}
 use Rattle.sheet.specs.Lookup.{indexOf}
 use Rattle.sheet.specs.Walk.{Entry, Counted, Lower}
 use Rattle.sheet.proofs.Good.{good}
@@ -30,7 +30,7 @@ halves-begin s k x n c =
       from = λ j h l. absurd (omega (arith, c .is));
     }
 
-module _ (s : List ℕ) (ok : ruleOf s ≡ 0) (k : ℕ) (hk : k < kinds) (x lo hi : ℕ) (h : Halved s k x lo hi) (l : lo < hi) where
+module _ (s : List ℕ) (ok : Accepted s) (k : ℕ) (hk : k < kinds) (x lo hi : ℕ) (h : Halved s k x lo hi) (l : lo < hi) where
   -- the middle is an entry
   abbrev mid : ℕ
   mid = lo + (hi - lo) / 2
@@ -39,7 +39,7 @@ module _ (s : List ℕ) (ok : ruleOf s ≡ 0) (k : ℕ) (hk : k < kinds) (x lo h
   half-there = record { framed = ok-framed s ok; kind = hk; below = omega (arith, h .within) }
 
   rises : (i j : ℕ) → i < j → j < count s k → keyOf s k i < keyOf s k j
-  rises = key-rising (good 1 s ok) k hk
+  rises = key-rising (good edition s ok) k hk
 
   module _ (r : ℕ) (e : r ≡ keyOf s k mid) where
     pub upper-half : r < x → Halved s k x (mid + 1) hi
@@ -62,7 +62,7 @@ halves-end s k x lo hi h l =
     record { within = omega (arith, h .order, h .within); before = h .before; from = λ j q w. h .from j (omega (arith, h .order)) w }
 
 -- WHAT IS FOUND is what a search from the front finds
-module _ (s : List ℕ) (ok : ruleOf s ≡ 0) (k : ℕ) (hk : k < kinds) (x n i : ℕ) (c : Counted s k n) (l : Lower s k x i) where
+module _ (s : List ℕ) (ok : Accepted s) (k : ℕ) (hk : k < kinds) (x n i : ℕ) (c : Counted s k n) (l : Lower s k x i) where
   pub half-past : n ≤ i → n ≡ indexOf s k x
   half-past h =
       c .is ∙ sym (index-none s k x (λ j w e. omega (arith, l .before j (omega (arith, c .is)))))
@@ -75,8 +75,8 @@ module _ (s : List ℕ) (ok : ruleOf s ≡ 0) (k : ℕ) (hk : k < kinds) (x n i 
 
       go : (j : ℕ) → j < count s k → keyOf s k j ≡ x → Dec (j < i) → Dec (i < j) → ⊥
       go j w z (yes d) f = omega (arith, l .before j d)
-      go j w z (no d) (yes f) = omega (arith, key-rising (good 1 s ok) k hk i j f w, l .from i (omega arith) there)
+      go j w z (no d) (yes f) = omega (arith, key-rising (good edition s ok) k hk i j f w, l .from i (omega arith) there)
       go j w z (no d) (no f) = let u : j ≡ i = omega arith in q (e ∙ rw u at z)
 
   pub half-found : (r : ℕ) → i < n → r ≡ keyOf s k i → r ≡ x → i ≡ indexOf s k x
-  half-found r h e q = sym (index-hit 1 s ok k hk i x (omega (arith, c .is)) (sym e ∙ q))
+  half-found r h e q = sym (index-hit edition s ok k hk i x (omega (arith, c .is)) (sym e ∙ q))

@@ -8,14 +8,16 @@ use lib.Dec.{leb}
 use borrow.Author.Tests.{le-leb, lt-leb, lt-ltb}
 use native.Mathlib.Decide.{decLe, decLt}
 use native.Mathlib.Omega.{arith}
-use Rattle.sheet.specs.Kind.{regions, properties, kinds}
+use Rattle.sheet.specs.Kind.{regions, properties, kindOf}
 use Rattle.sheet.specs.Layout.{_of_}
 use Rattle.sheet.specs.Region as region
 use Rattle.sheet.specs.Property as property
 use Rattle.sheet.specs.Entries.{count, entry, keyOf}
 use Rattle.sheet.specs.Lookup.{objectAt, covers, runIn, rangeOf}
-use Rattle.sheet.specs.Rules.{ruleOf}
-use Rattle.sheet.specs.Walk.{Entry, Lower}
+use Rattle.sheet.specs.Rules.{Accepted, edition}
+use Rattle.sheet.specs.Walk.{Holds, Entry, Lower}
+use Rattle.sheet.specs.declared.Memory.{Memory}
+use Rattle.sheet.specs.declared.Memory.the-variants.{Device}
 use Rattle.sheet.specs.declared.Run.{Run}
 use Rattle.sheet.specs.declared.Run.the-variants.{At, Nowhere}
 use Rattle.sheet.proofs.Good.{Good, good}
@@ -50,6 +52,10 @@ module _ (e : List ℕ) (a n : ℕ) where
 pub run-is : (e : List ℕ) (a x y z : ℕ) → x ≡ region.offset of e → y ≡ region.address of e → z ≡ region.levels of e → At (x + (a - y)) z ≡ runIn e a
 run-is e a x y z p q r = rw (p, q, r)
 
+-- the one memory that there is
+pub device-kind : (m : Memory) → regions ≡ kindOf m
+device-kind Device = refl
+
 -- the search by an address range
 abbrev pub isRange : List ℕ → ℕ → ℕ → ℕ → ℕ → Bool
 isRange s k a n i = covers (entry s k i) a n
@@ -62,39 +68,43 @@ not-covers e a n f = go (covers e a n) refl
     go true q = let c = covering e a n q in absurd (f (c .0) (c .1))
     go false q = refl
 
-module _ (s : List ℕ) (ok : ruleOf s ≡ 0) (k : ℕ) (hk : k < kinds) (a n end : ℕ) (low : Lower s k (a + 1) end) where
+-- k is the kind of a memory
+module _ (s : List ℕ) (ok : Accepted s) (m : Memory) (k : ℕ) (kind : Holds m k) (a n end : ℕ) (low : Lower s k (a + 1) end) where
   pub range-there : (i : ℕ) → i < end → Entry s k i
-  range-there i h = record { framed = ok-framed s ok; kind = hk; below = omega (arith, low .within) }
+  range-there i h = record { framed = ok-framed s ok; kind = kind .known; below = omega (arith, low .within) }
 
   -- no region before the last but one that begin at the address or below reaches it
-  pub range-begins : (i : ℕ) → (i ≤ end) × (0 < i → (k ≡ regions) × (i + 2 ≤ end)) → Missed (isRange s k a n) end i
+  pub range-begins : (i : ℕ) → (i ≤ end) × (0 < i → i + 2 ≤ end) → Missed (isRange s k a n) end i
   range-begins i h = record { within = h .0; none = λ j l. short j l (h .1 (omega arith)) }
     where
-      short : (j : ℕ) → j < i → (k ≡ regions) × (i + 2 ≤ end) → covers (entry s k j) a n ≡ false
-      short j l (e, b) =
-          let g = good 1 s ok in
-          let w : end ≤ count s regions = rw e at (low .within) in
-          let last : keyOf s regions (end - 1) < a + 1 = rw e at (low .before (end - 1) (omega arith)) in
-          let apart = regions-apart g j (j + 1) (omega arith) (omega arith) in
-          let up = key-rising g regions (omega arith) (j + 1) (end - 1) (omega arith) (omega arith) in
-          let word = key-word s regions (j + 1) in
-          rw e (not-covers (entry s regions j) a n (λ p q. omega (arith, apart, up, word)))
+      short : (j : ℕ) → j < i → i + 2 ≤ end → covers (entry s k j) a n ≡ false
+      short j l b =
+          let g = good edition s ok in
+          let w : end ≤ count s (kindOf m) = rw (kind .is) at (low .within) in
+          let last : keyOf s k (end - 1) < a + 1 = low .before (end - 1) (omega arith) in
+          let apart = regions-apart g m j (j + 1) (omega arith) (omega arith) in
+          let up = key-rising g k (kind .known) (j + 1) (end - 1) (omega arith) (omega (arith, low .within)) in
+          let word = key-word s k (j + 1) in
+          not-covers (entry s k j) a n (λ p q. omega (arith, rw (← (kind .is)) at apart, up, word))
 
-  module _ (i : ℕ) (m : Missed (isRange s k a n) end i) where
-    pub range-found : (e : List ℕ) (t : Bool) (r : Run) → i < end → e ≡ entry s k i → t ≡ covers e a n → t ≡ true → r ≡ runIn e a → r ≡ rangeOf s k a n
+  module _ (i : ℕ) (u : Missed (isRange s k a n) end i) where
+    pub range-found : (e : List ℕ) (t : Bool) (r : Run) → i < end → e ≡ entry s k i → t ≡ covers e a n → t ≡ true → r ≡ runIn e a → r ≡ rangeOf s m a n
     unfolding rangeOf
     range-found e t r l ee et h q =
         let below : i < count s k = omega (arith, low .within) in
-        let at = seek-first (isRange s k a n) (count s k) i below (ap (λ (x : List ℕ). covers x a n) (sym ee) ∙ sym et ∙ h) (m .none) in
-        rw (at, lt-ltb i (count s k) below, ← ee) q
+        let at = seek-first (isRange s k a n) (count s k) i below (ap (λ (x : List ℕ). covers x a n) (sym ee) ∙ sym et ∙ h) (u .none) in
+        rw (← (kind .is), at, lt-ltb i (count s k) below, ← ee) q
 
     pub range-missed : (e : List ℕ) (t : Bool) → i < end → e ≡ entry s k i → t ≡ covers e a n → t ≡ false → Missed (isRange s k a n) end (i + 1)
-    range-missed e t l ee et h = missed (isRange s k a n) end i m l (ap (λ (x : List ℕ). covers x a n) (sym ee) ∙ sym et ∙ h)
+    range-missed e t l ee et h = missed (isRange s k a n) end i u l (ap (λ (x : List ℕ). covers x a n) (sym ee) ∙ sym et ∙ h)
 
     -- the entries from `end` on begin past the address
-    pub range-ended : end ≤ i → Nowhere ≡ rangeOf s k a n
-    range-ended l = sym (range-none s k a n (λ j c. go j c (decLt j i)))
+    pub range-ended : end ≤ i → Nowhere ≡ rangeOf s m a n
+    range-ended l = sym (range-none s m a n (λ j c. go j c (decLt j i)))
       where
-        go : (j : ℕ) → Covered s k j a n → Dec (j < i) → ⊥
-        go j c (yes h) = true≢false (sym (covered c) ∙ m .none j h)
-        go j c (no h) = omega (arith, low .from j (omega arith) (c .below), key-word s k j, c .from)
+        go : (j : ℕ) → Covered s m j a n → Dec (j < i) → ⊥
+        go j c (yes h) = true≢false (sym (covered c) ∙ ap (λ (x : ℕ). covers (entry s x j) a n) (sym (kind .is)) ∙ u .none j h)
+        go j c (no h) =
+            let b : j < count s k = rw (kind .is) (c .below) in
+            let f : region.address of entry s k j ≤ a = rw (kind .is) (c .from) in
+            omega (arith, low .from j (omega arith) b, key-word s k j, f)

@@ -9,16 +9,16 @@ use native.Mathlib.Decide.{decLe}
 use native.Mathlib.Omega.{arith}
 use Rattle.sheet.specs.Kind.{properties}
 use Rattle.sheet.specs.Entries.{count, entry, keyOf}
-use Rattle.sheet.specs.Rules.{ruleOf}
+use Rattle.sheet.specs.Rules.{Accepted, edition}
 use Rattle.sheet.specs.Lookup.{objectAt, rank, nthOf}
 use Rattle.sheet.specs.Walk.{Counted, Lower}
 use Rattle.sheet.proofs.Good.{Good, good}
 use Rattle.sheet.proofs.Keys.{key-is}
 use Rattle.sheet.proofs.Ranks.{id-below, object-rising, rank-is, rank-none, rank-along, rank-flat, nth-hit, nth-none}
 
-module _ (s : List ℕ) (ok : ruleOf s ≡ 0) (bytes : (i : ℕ) → getD s i 0 < 256) (object a : ℕ) (low : Lower s properties (object * 256) a) where
-  g : Good 1 s
-  g = good 1 s ok
+module _ (s : List ℕ) (ok : Accepted s) (bytes : (i : ℕ) → getD s i 0 < 256) (object a : ℕ) (low : Lower s properties (object * 256) a) where
+  g : Good edition s
+  g = good edition s ok
 
   -- before the first property of the object, and from it on
   lesser : (j : ℕ) → j < a → objectAt s j < object

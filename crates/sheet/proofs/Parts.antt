@@ -12,7 +12,7 @@ use native.Mathlib.Nat.{add-sub-cancel-left}
 use native.Mathlib.Omega.{arith}
 use Rattle.sheet.specs.Kind.{kinds, OfKind}
 use Rattle.sheet.specs.Entries.{count, entry, offsetOf, lengthOf, bodyEnd}
-use Rattle.sheet.specs.Rules.{ruleOf}
+use Rattle.sheet.specs.Rules.{ruleOf, Accepted, edition, isAccepted}
 use Rattle.sheet.specs.Lookup.{PartOf, StandsIn, bodyOf, bodyFrom, lookup, lookupFrom}
 use Rattle.sheet.specs.Walk.{Counted}
 use Rattle.sheet.proofs.ByKind.{kinded}
@@ -36,7 +36,7 @@ module _ (s : List ℕ) where
     no-part h = let l : count s k ≤ i = omega (arith, c .is) in rw (le-ltb i (count s k) l) no-bytes
 
     pub the-part :
-        (e : List ℕ) (a z : ℕ) → ruleOf s ≡ 0 → k < kinds → i < n → e ≡ entry s k i → a ≡ offsetOf k e →
+        (e : List ℕ) (a z : ℕ) → Accepted s → k < kinds → i < n → e ≡ entry s k i → a ≡ offsetOf k e →
         OfKind z k (lengthOf 0 e) (lengthOf 1 e) (lengthOf 2 e) →
         StandsIn s (record { offset = a; length = z }) (bodyOf s k i) (bodyFrom s k i)
     unfolding bodyOf bodyFrom
@@ -48,11 +48,11 @@ module _ (s : List ℕ) where
   -- of a sheet that is not accepted, and of one that is
   module _ (k i r : ℕ) (e : r ≡ ruleOf s) where
     pub no-sheet : (r ≡ 0 → ⊥) → StandsIn s (record { offset = 0; length = 0 }) (lookup s k i) (lookupFrom s k i)
-    unfolding lookup lookupFrom
+    unfolding lookup lookupFrom isAccepted
     no-sheet h = rw (ne-eqb (ruleOf s) 0 (λ z. h (e ∙ z))) no-bytes
 
     pub in-sheet : (p : Part) → r ≡ 0 → StandsIn s p (bodyOf s k i) (bodyFrom s k i) → StandsIn s p (lookup s k i) (lookupFrom s k i)
-    unfolding lookup lookupFrom
+    unfolding lookup lookupFrom isAccepted
     in-sheet p h b = rw (eq-eqb (ruleOf s) 0 (sym e ∙ h)) b
 
 -- what is cut out of a sheet from a to a + z is the part of that offset and length
@@ -63,16 +63,16 @@ cut-out s r a z e b p = record { is = e ∙ rw (add-sub-cancel-left); block = b;
 
 -- the part that a lookup says lies within the sheet
 pub part-in : (s : List ℕ) (k i : ℕ) (p : Part) → k < kinds → StandsIn s p (lookup s k i) (lookupFrom s k i) → p .offset + p .length ≤ length s
-unfolding lookupFrom bodyFrom bodyEnd
+unfolding lookupFrom isAccepted bodyFrom bodyEnd
 part-in s k i p hk h =
     let f = from (eqb (ruleOf s) 0) (ltb i (count s k)) (eqb-true (ruleOf s) 0) (ltb-true i (count s k)) in
     let l : p .length ≡ length (take (p .length) (drop (p .offset) s)) = h .long ∙ sym (ap length (h .is)) in
     omega (arith, h .place, simp (length-take, length-drop) at l)
   where
     from :
-        (a b : Bool) → (a ≡ true → ruleOf s ≡ 0) → (b ≡ true → i < count s k) →
+        (a b : Bool) → (a ≡ true → Accepted s) → (b ≡ true → i < count s k) →
         cond a (cond b (offsetOf k (entry s k i)) 0) 0 ≤ length s
-    from true true e h = omega (arith, within (good 1 s (e refl)) k i hk (h refl))
+    from true true e h = omega (arith, within (good edition s (e refl)) k i hk (h refl))
     from true false e h = omega arith
     from false b e h = omega arith
 

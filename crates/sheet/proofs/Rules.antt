@@ -13,7 +13,7 @@ use Rattle.sheet.specs.Demand.{Met, Tells, breach}
 use Rattle.sheet.specs.First.{first, orElse}
 use Rattle.sheet.specs.Kind.{byKind, kinds}
 use Rattle.sheet.specs.Entries.{count, contents, entry, floor, floorAfter, offsetOf, lengthOf, sixBits, bodyEnd, startOf, reached}
-use Rattle.sheet.specs.Rules.{regionDemands, propertyDemands, groupDemands, bodyRows, entryDemands, bodyDemands, endDemands, frameDemands, zeroDemands, entryRule, bodyRule, entriesRule, bodiesRule, walkRule, ruleIn, ruleOf}
+use Rattle.sheet.specs.Rules.{regionDemands, propertyDemands, groupDemands, bodyRows, entryDemands, bodyDemands, endDemands, frameDemands, zeroDemands, entryRule, bodyRule, entriesRule, bodiesRule, walkRule, ruleIn, ruleOf, edition}
 use Rattle.sheet.specs.Walk.{Framed, Entry, Counted, VerdictOf, Lies}
 use Rattle.sheet.specs.declared.judge.Verdict.{Verdict}
 use Rattle.sheet.specs.declared.judge.Laid.{Laid}
@@ -133,7 +133,7 @@ module _ (s : List ℕ) where
         }
 
     module _ (f i : ℕ) (h : Passed s k n f z late i) where
-      pub pass-entry : Framed 1 s → k < kinds → i < n → Entry s k i
+      pub pass-entry : Framed edition s → k < kinds → i < n → Entry s k i
       pass-entry fr hk hi = record { framed = fr; kind = hk; below = omega (arith, h .whole) }
 
       pub pass-goes : (e : Verdict) (b : Laid) → i < n → VerdictOf (entryDemands s k i) (floor s k (i + 1)) e → e .rule ≡ 0

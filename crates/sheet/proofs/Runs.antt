@@ -1,6 +1,6 @@
 -- The run of bytes that an address range is: all of it stands in one region's body.
 -- Assumes nothing.
-use Prim.Native.Nat.{ℕ, _+_, _-_, _<_, _≤_}
+use Prim.Native.Nat.{ℕ, _+_, _-_, _/_, _%_, _<_, _≤_}
 use mathlib.Core.Path.{_≡_, refl, sym, _∙_, ap}
 use mathlib.Core.List.{List}
 use mathlib.Core.Bool.{Bool, true, false, cond, and-eq-true-iff}
@@ -9,25 +9,30 @@ use lib.ListN.{length}
 use native.Mathlib.Decide.{decLt}
 use native.Mathlib.Omega.{arith}
 use borrow.Author.Tests.{le-leb, leb-true, lt-ltb, le-ltb, ltb-true}
-use Rattle.sheet.specs.Kind.{regions}
+use Rattle.octets.specs.Splice.{splice}
+use Rattle.sheet.specs.Kind.{regions, properties, groups, kindOf}
 use Rattle.sheet.specs.Layout.{_of_}
 use Rattle.sheet.specs.Region as region
 use Rattle.sheet.specs.Entries.{count, entry, keyOf, floor, bodyAt, bodyEnd, InBody}
 use Rattle.sheet.specs.Lookup.{seek, covers, runIn, rangeOf}
-use Rattle.sheet.specs.Places.{Stands}
+use Rattle.sheet.specs.Places.{regionAt, Stands, Ranged}
+use Rattle.sheet.specs.Frame.{Agree}
 use Rattle.sheet.specs.Rules.{ruleIn}
 use Rattle.sheet.specs.Stores.{Inside}
+use Rattle.sheet.specs.declared.Memory.{Memory}
+use Rattle.sheet.specs.declared.Memory.the-variants.{Device}
 use Rattle.sheet.specs.declared.Run.the-variants.{At, Nowhere}
-use Rattle.sheet.proofs.Good.{Good, good}
+use Rattle.sheet.proofs.Good.{Good, good, accepted}
 use Rattle.sheet.proofs.Keys.{past-floor}
-use Rattle.sheet.proofs.Lie.{inside-within, disjoint}
+use Rattle.sheet.proofs.Lie.{inside-within, inside-at, disjoint}
 use Rattle.sheet.proofs.Seeks.{seek-passes, seek-hit, seek-none}
+use Rattle.sheet.proofs.Stores.{body-store}
 
--- the n addresses from a on lie in region i of memory k
-pub record Covered (s : List ℕ) (k i a n : ℕ) : Type 0 where
-  pub below : i < count s k
-  pub from : region.address of entry s k i ≤ a
-  pub to : a + n ≤ region.address of entry s k i + region.length of entry s k i
+-- the n addresses from a on lie in region i of a memory
+pub record Covered (s : List ℕ) (m : Memory) (i a n : ℕ) : Type 0 where
+  pub below : i < count s (kindOf m)
+  pub from : region.address of regionAt s m i ≤ a
+  pub to : a + n ≤ region.address of regionAt s m i + region.length of regionAt s m i
 
 -- the test says so of an entry
 pub covering : (e : List ℕ) (a n : ℕ) → covers e a n ≡ true → (region.address of e ≤ a) × (a + n ≤ region.address of e + region.length of e)
@@ -37,115 +42,166 @@ covering e a n q =
     (leb-true _ _ (p .0), leb-true _ _ (p .1))
 
 -- and passes for such a region
-pub covered : {s : List ℕ} {k i a n : ℕ} → Covered s k i a n → covers (entry s k i) a n ≡ true
+pub covered : {s : List ℕ} {m : Memory} {i a n : ℕ} → Covered s m i a n → covers (regionAt s m i) a n ≡ true
 unfolding covers
-covered {s} {k} {i} {a} {n} c =
-    and-eq-true-iff (leb (region.address of entry s k i) a) _ .1 (le-leb _ _ (c .from), le-leb _ _ (c .to))
+covered {s} {m} {i} {a} {n} c =
+    and-eq-true-iff (leb (region.address of regionAt s m i) a) _ .1 (le-leb _ _ (c .from), le-leb _ _ (c .to))
 
--- a run is of a region that covers the range
-pub record Ranged (s : List ℕ) (k a n o l : ℕ) : Type 0 where
-  pub index : ℕ
-  pub covered : Covered s k index a n
-  pub here : o ≡ region.offset of entry s k index + (a - region.address of entry s k index)
-  pub under : l ≡ region.levels of entry s k index
+-- a range lies in its region, and what lies in a region is a range
+pub covers-range : {s : List ℕ} {m : Memory} {a n o l : ℕ} (r : Ranged s m a n o l) → Covered s m (r .index) a n
+covers-range r = record { below = r .below; from = r .from; to = r .to }
 
-module _ (s : List ℕ) (k a n : ℕ) where
+pub in-region :
+    {s : List ℕ} {m : Memory} {i a n : ℕ} → Covered s m i a n →
+    Ranged s m a n (region.offset of regionAt s m i + (a - region.address of regionAt s m i)) (region.levels of regionAt s m i)
+in-region {s} {m} {i} c = record { index = i; below = c .below; from = c .from; to = c .to; here = refl; under = refl }
+
+module _ (s : List ℕ) (m : Memory) (a n : ℕ) where
   sought : ℕ
-  sought = seek (λ j. covers (entry s k j) a n) 0 (count s k)
+  sought = seek (λ j. covers (regionAt s m j) a n) 0 (count s (kindOf m))
 
-  -- the region that a run is of
-  pub ranged : {o l : ℕ} → rangeOf s k a n ≡ At o l → Ranged s k a n o l
+  -- A RUN IS A RANGE
+  pub ranged : {o l : ℕ} → rangeOf s m a n ≡ At o l → Ranged s m a n o l
   unfolding rangeOf sought
-  ranged {o} {l} e = go (ltb sought (count s k)) refl e
+  ranged {o} {l} e = go (ltb sought (count s (kindOf m))) refl e
     where
-      go : (b : Bool) → ltb sought (count s k) ≡ b → cond b (runIn (entry s k sought) a) Nowhere ≡ At o l → Ranged s k a n o l
+      go : (b : Bool) → ltb sought (count s (kindOf m)) ≡ b → cond b (runIn (regionAt s m sought) a) Nowhere ≡ At o l → Ranged s m a n o l
       go true p q =
-          let h : sought < count s k = ltb-true _ _ p in
-          let c = covering (entry s k sought) a n (seek-passes (λ j. covers (entry s k j) a n) (count s k) h) in
-          record { index = sought; covered = record { below = h; from = c .0; to = c .1 }; here = cc; under = cc }
+          let h : sought < count s (kindOf m) = ltb-true _ _ p in
+          let c = covering (regionAt s m sought) a n (seek-passes (λ j. covers (regionAt s m j) a n) (count s (kindOf m)) h) in
+          record { index = sought; below = h; from = c .0; to = c .1; here = cc; under = cc }
       go false p q = let z : _≡_ {A = ℕ} 0 1 = cc in absurd (omega arith)
 
-  -- EVERY ADDRESS OF THE RANGE STANDS IN ITS PLACE IN THE RUN
-  pub stands : {o l : ℕ} → rangeOf s k a n ≡ At o l → (y : ℕ) → a ≤ y → y < a + n → Stands s k y (o + (y - a)) l
-  stands e y h m =
-      let r = ranged e in
-      let c = r .covered in
+  -- A RANGE THAT NO REGION COVERS IS NOWHERE
+  pub range-none : ((i : ℕ) → Covered s m i a n → ⊥) → rangeOf s m a n ≡ Nowhere
+  unfolding rangeOf
+  range-none f =
+      let e = seek-none (λ j. covers (regionAt s m j) a n) (count s (kindOf m))
+      (λ i h q. let c = covering (regionAt s m i) a n q in f i (record { below = h; from = c .0; to = c .1 })) in
+      rw (e, le-ltb (count s (kindOf m)) (count s (kindOf m)) (omega arith))
+
+module _ {s : List ℕ} {m : Memory} {a n o l : ℕ} (r : Ranged s m a n o l) where
+  -- EVERY ADDRESS OF A RANGE STANDS IN ITS PLACE, under levels that give no less than the range's
+  pub record Byte (j : ℕ) : Type 0 where
+    pub levels : ℕ
+    pub stands : Stands s m (a + j) (o + j) levels
+    pub read : l / 16 ≤ levels / 16
+    pub write : l % 16 ≤ levels % 16
+
+  pub range-byte : (j : ℕ) → j < n → Byte j
+  range-byte j h =
+      record {
+        levels = l;
+        stands =
+            record {
+              index = r .index;
+              below = r .below;
+              from = omega (arith, r .from);
+              to = omega (arith, r .to);
+              here = omega (arith, r .from, r .here);
+              under = r .under;
+            };
+        read = omega arith;
+        write = omega arith;
+      }
+
+  -- the first of them, as an address on its own, and a part of a range as a range
+  pub range-part : (j k : ℕ) → j + k ≤ n → Ranged s m (a + j) k (o + j) l
+  range-part j k h =
       record {
         index = r .index;
-        below = c .below;
-        from = omega (arith, c);
-        to = omega (arith, c);
-        here = omega (arith, c .from, r .here);
+        below = r .below;
+        from = omega (arith, r .from);
+        to = omega (arith, r .to);
+        here = omega (arith, r .from, r .here);
         under = r .under;
       }
 
-  -- A RANGE THAT NO REGION COVERS IS NOWHERE
-  pub range-none : ((i : ℕ) → Covered s k i a n → ⊥) → rangeOf s k a n ≡ Nowhere
-  unfolding rangeOf
-  range-none f =
-      let e = seek-none (λ j. covers (entry s k j) a n) (count s k)
-      (λ i h q. let c = covering (entry s k i) a n q in f i (record { below = h; from = c .0; to = c .1 })) in
-      rw (e, le-ltb (count s k) (count s k) (omega arith))
+-- memories have kinds of their own, and a region is no property and no group object
+pub kind-once : (m m′ : Memory) → kindOf m ≡ kindOf m′ → m ≡ m′
+kind-once Device Device e = refl
+
+pub no-property : (m : Memory) → kindOf m ≡ properties → ⊥
+no-property Device e = omega arith
+
+pub no-group : (m : Memory) → kindOf m ≡ groups → ⊥
+no-group Device e = omega arith
+
+-- the bodies of a memory's regions
+in-body : (s : List ℕ) (m : Memory) (i p n : ℕ) → i < count s (kindOf m) → region.offset of regionAt s m i ≤ p → p + n ≤ region.offset of regionAt s m i + region.length of regionAt s m i → Inside s (kindOf m) i p n
+unfolding bodyAt bodyEnd
+in-body s Device i p n h f t = record { kind = omega arith; below = h; from = f; to = t }
 
 module _ {ed : ℕ} {s : List ℕ} (g : Good ed s) where
-  -- a region ends before a later one begins
+  -- a region ends before a later one of its memory begins
   pub regions-apart :
-      (i j : ℕ) → i < j → j < count s regions →
-      region.address of entry s regions i + region.length of entry s regions i ≤ region.address of entry s regions j
+      (m : Memory) (i j : ℕ) → i < j → j < count s (kindOf m) →
+      region.address of regionAt s m i + region.length of regionAt s m i ≤ region.address of regionAt s m j
   unfolding floor keyOf
-  regions-apart i j h l = past-floor g regions (omega arith) i j h l
+  regions-apart Device i j h l = past-floor g regions (omega arith) i j h l
 
-  -- two regions that share an address are one
-  pub region-once :
-      (i j y : ℕ) → Covered s regions i y 1 → Covered s regions j y 1 → i ≡ j
-  region-once i j y a b = go (decLt i j) (decLt j i)
-    where
-      go : Dec (i < j) → Dec (j < i) → i ≡ j
-      go (yes h) d = absurd (omega (arith, a, b, regions-apart i j h (b .below)))
-      go (no h) (yes l) = absurd (omega (arith, a, b, regions-apart j i l (a .below)))
-      go (no h) (no l) = omega arith
+  module _ (m : Memory) where
+    -- two regions that share an address are one
+    pub region-once : (i j y : ℕ) → Covered s m i y 1 → Covered s m j y 1 → i ≡ j
+    region-once i j y a b = go (decLt i j) (decLt j i)
+      where
+        go : Dec (i < j) → Dec (j < i) → i ≡ j
+        go (yes h) d = absurd (omega (arith, a, b, regions-apart m i j h (b .below)))
+        go (no h) (yes l) = absurd (omega (arith, a, b, regions-apart m j i l (a .below)))
+        go (no h) (no l) = omega arith
 
-  -- A RANGE THAT A REGION COVERS IS THE RUN IN ITS BODY
-  pub range-hit : (i a n : ℕ) → 0 < n → Covered s regions i a n → rangeOf s regions a n ≡ runIn (entry s regions i) a
-  unfolding rangeOf
-  range-hit i a n pos c =
-      let e = seek-hit (λ j. covers (entry s regions j) a n) (count s regions) i (c .below) (covered c)
-      (λ m h q.
-      let d = covering (entry s regions m) a n q in
-      region-once m i a (record { below = h; from = d .0; to = omega arith }) (record { below = c .below; from = c .from; to = omega (arith, c) })) in
-      rw (e, lt-ltb i (count s regions) (c .below))
+    first-address : {i a n : ℕ} → 0 < n → Covered s m i a n → Covered s m i a 1
+    first-address h c = record { below = c .below; from = c .from; to = omega (arith, c .to) }
 
-  module _ (a n : ℕ) {o l : ℕ} (e : rangeOf s regions a n ≡ At o l) where
-    -- THE RUN LIES INSIDE ONE BODY
-    pub run-inside : Inside s regions (ranged s regions a n e .index) o n
-    unfolding bodyAt bodyEnd
-    run-inside =
-        let r = ranged s regions a n e in
-        let c = r .covered in
-        record { kind = omega arith; below = c .below; from = omega (arith, r .here); to = omega (arith, c, r .here) }
+    region-hit : (i a n : ℕ) → 0 < n → Covered s m i a n → rangeOf s m a n ≡ runIn (regionAt s m i) a
+    unfolding rangeOf
+    region-hit i a n pos c =
+        let e = seek-hit (λ j. covers (regionAt s m j) a n) (count s (kindOf m)) i (c .below) (covered c)
+        (λ j h q.
+        let d = covering (regionAt s m j) a n q in
+        region-once j i a (first-address pos (record { below = h; from = d .0; to = d .1 })) (first-address pos c)) in
+        rw (e, lt-ltb i (count s (kindOf m)) (c .below))
 
-    -- and so within the sheet
-    pub run-within : o + n ≤ length s
-    run-within = inside-within g run-inside
+  module _ {m : Memory} {a n o l : ℕ} (r : Ranged s m a n o l) where
+    -- A RANGE OF AT LEAST ONE ADDRESS IS THE RUN THAT IS FOUND
+    pub range-hit : 0 < n → rangeOf s m a n ≡ At o l
+    range-hit pos = region-hit m (r .index) a n pos (covers-range r) ∙ rw (r .here, r .under) refl
+
+    -- and stands at one place
+    pub range-once : {o′ l′ : ℕ} → Ranged s m a n o′ l′ → 0 < n → (o ≡ o′) × (l ≡ l′)
+    range-once {o′} {l′} q pos =
+        let e : At o l ≡ At o′ l′ = sym (range-hit pos) ∙ region-hit m (q .index) a n pos (covers-range q) ∙ rw (q .here, q .under) refl in (cc, cc)
+
+    range-inside : Inside s (kindOf m) (r .index) o n
+    range-inside = in-body s m (r .index) o n (r .below) (omega (arith, r .here)) (omega (arith, r .from, r .to, r .here))
+
+    -- it lies within the sheet
+    pub range-within : o + n ≤ length s
+    range-within = inside-within g range-inside
+
+    -- A STORE OF ITS BYTES KEEPS THE SHEET ACCEPTED
+    pub range-store : (ds : List ℕ) → length ds ≡ n → Agree s (splice s o ds)
+    range-store ds e =
+        body-store ed (accepted g) (kindOf m) (r .index) o ds (rw e range-inside) (λ q. absurd (no-group m q))
 
   -- an address that stands somewhere stands in a body
-  pub stands-in : {y p l : ℕ} (h : Stands s regions y p l) → InBody s regions (h .index) p
-  unfolding bodyAt bodyEnd
-  stands-in h = record { kind = omega arith; below = h .below; from = omega (arith, h); to = omega (arith, h) }
+  pub stands-in : {m : Memory} {y p l : ℕ} (h : Stands s m y p l) → InBody s (kindOf m) (h .index) p
+  stands-in {m} {y} {p} h =
+      inside-at (in-body s m (h .index) p 1 (h .below) (omega (arith, h .here)) (omega (arith, h .from, h .to, h .here))) p (omega arith) (omega arith)
 
-  -- no two addresses stand at one place
-  pub stands-back : {y y′ p l l′ : ℕ} → Stands s regions y p l → Stands s regions y′ p l′ → y ≡ y′
-  stands-back {y} {y′} {p} a b =
-      let e = disjoint g regions (a .index) regions (b .index) p (stands-in a) (stands-in b) .1 in
-      let q : region.offset of entry s regions (a .index) ≡ region.offset of entry s regions (b .index) = ap (λ (i : ℕ). region.offset of entry s regions i) e in
-      let r : region.address of entry s regions (a .index) ≡ region.address of entry s regions (b .index) = ap (λ (i : ℕ). region.address of entry s regions i) e in
+  -- no two addresses of a memory stand at one place
+  pub stands-back : {m : Memory} {y y′ p l l′ : ℕ} → Stands s m y p l → Stands s m y′ p l′ → y ≡ y′
+  stands-back {m} {y} {y′} {p} a b =
+      let e = disjoint g (kindOf m) (a .index) (kindOf m) (b .index) p (stands-in a) (stands-in b) .1 in
+      let q : region.offset of regionAt s m (a .index) ≡ region.offset of regionAt s m (b .index) = ap (λ (i : ℕ). region.offset of regionAt s m i) e in
+      let r : region.address of regionAt s m (a .index) ≡ region.address of regionAt s m (b .index) = ap (λ (i : ℕ). region.address of regionAt s m i) e in
       omega (arith, a .from, b .from, a .here, b .here)
 
--- AN ADDRESS STANDS AT ONE PLACE AT MOST
+-- AN ADDRESS OF A MEMORY STANDS AT ONE PLACE AT MOST
 pub stands-once :
-    (ed : ℕ) {s : List ℕ} → ruleIn ed s ≡ 0 → {y p p′ l l′ : ℕ} → Stands s regions y p l → Stands s regions y p′ l′ → (p ≡ p′) × (l ≡ l′)
-stands-once ed {s} ok {y} a b =
-    let e : a .index ≡ b .index = region-once (good ed s ok) (a .index) (b .index) y
+    (ed : ℕ) {s : List ℕ} → ruleIn ed s ≡ 0 → {m : Memory} {y p p′ l l′ : ℕ} → Stands s m y p l → Stands s m y p′ l′ → (p ≡ p′) × (l ≡ l′)
+stands-once ed {s} ok {m} {y} a b =
+    let e : a .index ≡ b .index = region-once (good ed s ok) m (a .index) (b .index) y
     (record { below = a .below; from = a .from; to = omega (arith, a) })
     (record { below = b .below; from = b .from; to = omega (arith, b) }) in
-    (a .here ∙ ap (λ (i : ℕ). region.offset of entry s regions i + (y - region.address of entry s regions i)) e ∙ sym (b .here), a .under ∙ ap (λ (i : ℕ). region.levels of entry s regions i) e ∙ sym (b .under))
+    (a .here ∙ ap (λ (i : ℕ). region.offset of regionAt s m i + (y - region.address of regionAt s m i)) e ∙ sym (b .here), a .under ∙ ap (λ (i : ℕ). region.levels of regionAt s m i) e ∙ sym (b .under))

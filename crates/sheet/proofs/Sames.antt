@@ -6,7 +6,7 @@ use mathlib.Core.List.{List}
 use lib.ListN.{getD}
 use native.Mathlib.Omega.{arith}
 use Rattle.octets.proofs.Numbers.{num-same}
-use Rattle.sheet.specs.Kind.{kinds, regions, properties, groups}
+use Rattle.sheet.specs.Kind.{kinds, regions, properties, groups, kindOf}
 use Rattle.sheet.specs.Layout.{Field, _of_}
 use Rattle.sheet.specs.Head as head
 use Rattle.sheet.specs.Head.{rulesOf}
@@ -15,6 +15,9 @@ use Rattle.sheet.specs.Property as property
 use Rattle.sheet.specs.Group as group
 use Rattle.sheet.specs.Entries.{count, size, base, place, contents, entry, keyOf, floorAfter, floor, offsetOf, lengthOf, bodyAt, bodyEnd, endFrom, startOf, reached}
 use Rattle.sheet.specs.Frame.{Agree, Fixed}
+use Rattle.sheet.specs.Places.{regionAt}
+use Rattle.sheet.specs.declared.Memory.{Memory}
+use Rattle.sheet.specs.declared.Memory.the-variants.{Device}
 use Rattle.sheet.proofs.ByKind.{eachKind}
 
 -- by the first six bytes of the head alone
@@ -65,9 +68,9 @@ module _ {s s′ : List ℕ} (a : Agree s s′) where
       num-same (entry s′ k i) (entry s k i) (f .at) (f .at) (f .width)
       (λ j l. a .fixed k i (f .at + j) hk hi (omega arith) (fx j l))
 
-  -- any field of a region, and of a group object
-  pub region-same : (i : ℕ) (f : Field) → i < count s regions → f .at + f .width ≤ region.size → f of entry s′ regions i ≡ f of entry s regions i
-  region-same i f h l = field-same regions i f (omega arith) h l (λ j m. omega arith)
+  -- any field of a region of a memory, and of a group object
+  pub region-same : (m : Memory) (i : ℕ) (f : Field) → i < count s (kindOf m) → f .at + f .width ≤ region.size → f of regionAt s′ m i ≡ f of regionAt s m i
+  region-same Device i f h l = field-same regions i f (omega arith) h l (λ j m. omega arith)
 
   pub group-same : (i : ℕ) (f : Field) → i < count s groups → f .at + f .width ≤ group.size → f of entry s′ groups i ≡ f of entry s groups i
   group-same i f h l = field-same groups i f (omega arith) h l (λ j m. omega arith)
@@ -83,7 +86,7 @@ module _ {s s′ : List ℕ} (a : Agree s s′) where
   unfolding keyOf
   key-same i =
       eachKind (λ (k : ℕ). i < count s k → keyOf s′ k i ≡ keyOf s k i)
-      (λ h. region-same i region.address h (omega arith))
+      (λ h. region-same Device i region.address h (omega arith))
       (λ h. property-same i property.objectId h (omega arith) (omega arith))
       (λ h. group-same i group.address h (omega arith))
 
@@ -91,7 +94,7 @@ module _ {s s′ : List ℕ} (a : Agree s s′) where
   pub after-same : (i k : ℕ) → k < kinds → i < count s k → floorAfter k (entry s′ k i) ≡ floorAfter k (entry s k i)
   after-same i =
       eachKind (λ (k : ℕ). i < count s k → floorAfter k (entry s′ k i) ≡ floorAfter k (entry s k i))
-      (λ h. rw (region-same i region.address h (omega arith), region-same i region.length h (omega arith)))
+      (λ h. rw (region-same Device i region.address h (omega arith), region-same Device i region.length h (omega arith)))
       (λ h. rw (property-same i property.objectId h (omega arith) (omega arith)))
       (λ h. rw (group-same i group.address h (omega arith)))
 
@@ -105,14 +108,14 @@ module _ {s s′ : List ℕ} (a : Agree s s′) where
   pub offset-same : (i k : ℕ) → k < kinds → i < count s k → offsetOf k (entry s′ k i) ≡ offsetOf k (entry s k i)
   offset-same i =
       eachKind (λ (k : ℕ). i < count s k → offsetOf k (entry s′ k i) ≡ offsetOf k (entry s k i))
-      (λ h. region-same i region.offset h (omega arith))
+      (λ h. region-same Device i region.offset h (omega arith))
       (λ h. property-same i property.offset h (omega arith) (omega arith))
       (λ h. group-same i group.offset h (omega arith))
 
   pub length-same : (i k : ℕ) → k < kinds → i < count s k → lengthOf k (entry s′ k i) ≡ lengthOf k (entry s k i)
   length-same i =
       eachKind (λ (k : ℕ). i < count s k → lengthOf k (entry s′ k i) ≡ lengthOf k (entry s k i))
-      (λ h. region-same i region.length h (omega arith))
+      (λ h. region-same Device i region.length h (omega arith))
       (λ h. rw (property-same i property.element h (omega arith) (omega arith), property-same i property.maximum h (omega arith) (omega arith)))
       (λ h. rw (group-same i group.code h (omega arith)))
 

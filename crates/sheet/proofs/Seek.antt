@@ -11,16 +11,16 @@ use Rattle.sheet.specs.Kind.{kinds, OfKind}
 use Rattle.sheet.specs.Layout.{_of_}
 use Rattle.sheet.specs.Region as region
 use Rattle.sheet.specs.Entries.{entry, keyOf, offsetOf, lengthOf, bodyEnd}
-use Rattle.sheet.specs.Rules.{ruleOf}
+use Rattle.sheet.specs.Rules.{Accepted, edition}
 use Rattle.sheet.specs.Walk.{Framed, Entry, Counted}
 use Rattle.sheet.proofs.ByKind.{kinded}
 use Rattle.sheet.proofs.Good.{good}
 use Rattle.sheet.proofs.Lie.{within}
 
-pub ok-framed : (s : List ℕ) → ruleOf s ≡ 0 → Framed 1 s
-ok-framed s e = record { rows = good 1 s e .framed }
+pub ok-framed : (s : List ℕ) → Accepted s → Framed edition s
+ok-framed s e = record { rows = good edition s e .framed }
 
-pub ok-entry : (s : List ℕ) (k i n : ℕ) → ruleOf s ≡ 0 → k < kinds → Counted s k n → i < n → Entry s k i
+pub ok-entry : (s : List ℕ) (k i n : ℕ) → Accepted s → k < kinds → Counted s k n → i < n → Entry s k i
 ok-entry s k i n e hk c h = record { framed = ok-framed s e; kind = hk; below = omega (arith, c .is) }
 
 -- THE INVARIANT of a search: none of the first i of n has passed the test
@@ -49,7 +49,7 @@ key-of s k i e r q p = p ∙ ap (λ (l : List ℕ). region.address of l) q ∙ k
 
 -- the body of an entry lies within the sheet
 pub body-end :
-    (s : List ℕ) (k i n : ℕ) (e : List ℕ) (a z : ℕ) → ruleOf s ≡ 0 → k < kinds → Counted s k n → i < n → e ≡ entry s k i → a ≡ offsetOf k e
+    (s : List ℕ) (k i n : ℕ) (e : List ℕ) (a z : ℕ) → Accepted s → k < kinds → Counted s k n → i < n → e ≡ entry s k i → a ≡ offsetOf k e
     → OfKind z k (lengthOf 0 e) (lengthOf 1 e) (lengthOf 2 e) → a + z ≤ length s
 unfolding bodyEnd
-body-end s k i n e a z ok hk c h ee ea ez = rw (ea, kinded ez, ee) (within (good 1 s ok) k i hk (omega (arith, c .is)))
+body-end s k i n e a z ok hk c h ee ea ez = rw (ea, kinded ez, ee) (within (good edition s ok) k i hk (omega (arith, c .is)))

@@ -12,7 +12,7 @@ use Rattle.octets.proofs.Numbers.{num-below}
 use Rattle.sheet.specs.Kind.{kinds, regions, properties, groups}
 use Rattle.sheet.specs.Property as property
 use Rattle.sheet.specs.Entries.{count, place, entry, keyOf, offsetOf, lengthOf, bodyAt, bodyEnd}
-use Rattle.sheet.specs.Rules.{ruleOf}
+use Rattle.sheet.specs.Rules.{ruleOf, Accepted, edition, isAccepted}
 use Rattle.sheet.specs.Lookup.{indexOf, bodyOf, bodyFrom, lookup, lookupFrom, regionOf, regionFrom, propertyOf, propertyFrom, groupOf, groupFrom}
 use Rattle.sheet.specs.Places.{PropertyWith}
 use Rattle.sheet.specs.Values.{IsBody, RegionWith, GroupWith, Handed, body, nothing, unaccepted}
@@ -35,33 +35,33 @@ module _ (s : List ℕ) (k i : ℕ) where
       record { long = omega arith; bytes = λ j m. getD-take z (drop a s) j 0 (omega arith) ∙ getD-drop a s j 0 }
 
   -- that, and from there, if the entry is there
-  there : ruleOf s ≡ 0 → i < count s k → (lookup s k i ≡ cut) × (lookupFrom s k i ≡ bodyAt s k i)
-  unfolding cut lookup lookupFrom bodyOf bodyFrom bodyAt
+  there : Accepted s → i < count s k → (lookup s k i ≡ cut) × (lookupFrom s k i ≡ bodyAt s k i)
+  unfolding cut lookup lookupFrom isAccepted bodyOf bodyFrom bodyAt
   there ok h = (simp (eq-eqb (ruleOf s) 0 ok, lt-ltb i (count s k) h), simp (eq-eqb (ruleOf s) 0 ok, lt-ltb i (count s k) h))
 
   -- nothing if not, and nothing of a sheet that is not accepted
-  missing : ruleOf s ≡ 0 → count s k ≤ i → (lookup s k i ≡ []) × (lookupFrom s k i ≡ 0)
-  unfolding lookup lookupFrom bodyOf bodyFrom
+  missing : Accepted s → count s k ≤ i → (lookup s k i ≡ []) × (lookupFrom s k i ≡ 0)
+  unfolding lookup lookupFrom isAccepted bodyOf bodyFrom
   missing ok h = (simp (eq-eqb (ruleOf s) 0 ok, le-ltb i (count s k) h), simp (eq-eqb (ruleOf s) 0 ok, le-ltb i (count s k) h))
 
-  rejected : (ruleOf s ≡ 0 → ⊥) → (lookup s k i ≡ []) × (lookupFrom s k i ≡ 0)
-  unfolding lookup lookupFrom
+  rejected : (Accepted s → ⊥) → (lookup s k i ≡ []) × (lookupFrom s k i ≡ 0)
+  unfolding lookup lookupFrom isAccepted
   rejected n = (simp (ne-eqb (ruleOf s) 0 n), simp (ne-eqb (ruleOf s) 0 n))
 
   -- OF ANY KIND, i being the one entry that is asked for, or none
   handed :
-      (Asked : ℕ → Type 0) → k < kinds → (ruleOf s ≡ 0 → i < count s k → Asked i) →
-      (ruleOf s ≡ 0 → (j : ℕ) → Asked j → (j < count s k) × (j ≡ i)) → Handed s k Asked (lookup s k i) (lookupFrom s k i)
+      (Asked : ℕ → Type 0) → k < kinds → (Accepted s → i < count s k → Asked i) →
+      (Accepted s → (j : ℕ) → Asked j → (j < count s k) × (j ≡ i)) → Handed s k Asked (lookup s k i) (lookupFrom s k i)
   handed Asked hk is only = go (decLt 0 (ruleOf s)) (decLt i (count s k))
     where
       go : Dec (0 < ruleOf s) → Dec (i < count s k) → Handed s k Asked (lookup s k i) (lookupFrom s k i)
       go (yes h) d = let e = rejected (λ z. omega arith) in rw (e .0, e .1) (unaccepted (λ z. omega arith))
       go (no h) (yes l) =
-          let ok : ruleOf s ≡ 0 = omega arith in
+          let ok : Accepted s = omega arith in
           let e = there ok l in
-          rw (e .0, e .1) (body i ok (is ok l) (λ j a. only ok j a .1) (cut-is (within (good 1 s ok) k i hk l)))
+          rw (e .0, e .1) (body i ok (is ok l) (λ j a. only ok j a .1) (cut-is (within (good edition s ok) k i hk l)))
       go (no h) (no l) =
-          let ok : ruleOf s ≡ 0 = omega arith in
+          let ok : Accepted s = omega arith in
           let e = missing ok (omega arith) in
           rw (e .0, e .1) (nothing ok (λ j a. let q = only ok j a in omega arith))
 
@@ -78,7 +78,7 @@ module _ (s : List ℕ) where
   group-handed address =
       handed s groups (indexOf s groups address) (GroupWith s address) (omega arith)
       (λ ok h. record { there = h; sameAddress = index-key s groups address h })
-      (λ ok j a. (a .there, sym (index-hit 1 s ok groups (omega arith) j address (a .there) (a .sameAddress))))
+      (λ ok j a. (a .there, sym (index-hit edition s ok groups (omega arith) j address (a .there) (a .sameAddress))))
 
   -- a property by a number that holds its object and id
   by-number :
@@ -87,9 +87,9 @@ module _ (s : List ℕ) where
   unfolding keyOf
   by-number x object id bytes low e =
       handed s properties (indexOf s properties x) (PropertyWith s object id) (omega arith) found
-      (λ ok j a. (a .there, sym (index-hit 1 s ok properties (omega arith) j x (a .there) (omega (arith, key-is (entry s properties j), a .sameObject, a .sameId)))))
+      (λ ok j a. (a .there, sym (index-hit edition s ok properties (omega arith) j x (a .there) (omega (arith, key-is (entry s properties j), a .sameObject, a .sameId)))))
     where
-      found : ruleOf s ≡ 0 → indexOf s properties x < count s properties → PropertyWith s object id (indexOf s properties x)
+      found : Accepted s → indexOf s properties x < count s properties → PropertyWith s object id (indexOf s properties x)
       found ok h =
           let i : ℕ = indexOf s properties x in
           let b = num-below s (place s properties i + property.id .at) (property.id .width) bytes in

@@ -7,13 +7,14 @@ use mathlib.Core.Bool.{Bool, true, false, cond, _&&_}
 use lib.ListN.{length, take, drop}
 use lib.Dec.{ltb, leb, eqb}
 use denote.Ref.{RefT}
-use Rattle.sheet.specs.Kind.{regions, properties, groups}
+use Rattle.sheet.specs.Kind.{regions, properties, groups, kindOf}
 use Rattle.sheet.specs.Layout.{_of_}
 use Rattle.sheet.specs.Region as region
 use Rattle.sheet.specs.Property as property
-use Rattle.sheet.specs.Rules.{ruleOf}
+use Rattle.sheet.specs.Rules.{isAccepted}
 use Rattle.sheet.specs.Entries.{count, entry, keyOf, offsetOf, lengthOf}
 use Rattle.sheet.specs.declared.Part.{Part}
+use Rattle.sheet.specs.declared.Memory.{Memory}
 use Rattle.sheet.specs.declared.Run.{Run}
 use Rattle.sheet.specs.declared.Run.the-variants.{At, Nowhere}
 
@@ -36,14 +37,14 @@ bodyOf s k i = when (ltb i (count s k)) (take (lengthOf k (entry s k i)) (drop (
 
 -- the same of an accepted sheet, and nothing of any other
 unfoldable pub lookup : List ℕ → ℕ → ℕ → List ℕ
-lookup s k i = when (eqb (ruleOf s) 0) (bodyOf s k i)
+lookup s k i = when (isAccepted s) (bodyOf s k i)
 
 -- where in the sheet that part starts; an empty one at 0
 unfoldable pub bodyFrom : List ℕ → ℕ → ℕ → ℕ
 bodyFrom s k i = cond (ltb i (count s k)) (offsetOf k (entry s k i)) 0
 
 unfoldable pub lookupFrom : List ℕ → ℕ → ℕ → ℕ
-lookupFrom s k i = cond (eqb (ruleOf s) 0) (bodyFrom s k i) 0
+lookupFrom s k i = cond (isAccepted s) (bodyFrom s k i) 0
 
 -- r refers to the very bytes of s from a place on, no copy: these bytes, in the block of memory that s lies in, so far behind its start
 pub record PartOf (s r : RefT (List ℕ)) (bytes : List ℕ) (from : ℕ) : Type 0 where
@@ -96,6 +97,7 @@ covers e a n = leb (region.address of e) a && leb (a + n) (region.address of e +
 abbrev pub runIn : List ℕ → ℕ → Run
 runIn e a = At (region.offset of e + (a - region.address of e)) (region.levels of e)
 
-unfoldable pub rangeOf : List ℕ → ℕ → ℕ → ℕ → Run
-rangeOf s k a n =
+unfoldable pub rangeOf : List ℕ → Memory → ℕ → ℕ → Run
+rangeOf s m a n =
+    let k = kindOf m in
     let i = seek (λ j. covers (entry s k j) a n) 0 (count s k) in cond (ltb i (count s k)) (runIn (entry s k i) a) Nowhere

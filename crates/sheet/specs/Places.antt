@@ -4,13 +4,14 @@ use Prim.Native.Nat.{ℕ, _+_, _*_, _-_, _≤_, _<_, max}
 use mathlib.Core.Path.{_≡_}
 use mathlib.Core.List.{List}
 use lib.ListN.{length}
-use Rattle.sheet.specs.Kind.{kinds, properties, groups}
+use Rattle.sheet.specs.Kind.{kinds, properties, groups, kindOf}
 use Rattle.sheet.specs.Layout.{_of_}
 use Rattle.sheet.specs.Head as head
 use Rattle.sheet.specs.Region as region
 use Rattle.sheet.specs.Property as property
 use Rattle.sheet.specs.Group as group
 use Rattle.sheet.specs.Entries.{count, size, place, entry, InBody}
+use Rattle.sheet.specs.declared.Memory.{Memory}
 use Rattle.sheet.specs.declared.PropertyEntry.{PropertyEntry}
 use Rattle.sheet.specs.declared.GroupEntry.{GroupEntry}
 
@@ -31,14 +32,27 @@ whichOf (inHead h) = headByte
 whichOf (inEntry k i j hk hi hj e) = entryByte k i j
 whichOf (inBody k i b) = bodyByte k i
 
--- address y of memory k stands at position p, under these levels
-pub record Stands (s : List ℕ) (k y p levels : ℕ) : Type 0 where
+-- entry i among the regions of a memory
+abbrev pub regionAt : List ℕ → Memory → ℕ → List ℕ
+regionAt s m i = entry s (kindOf m) i
+
+-- address y of a memory stands at position p, under these levels
+pub record Stands (s : List ℕ) (m : Memory) (y p levels : ℕ) : Type 0 where
   pub index : ℕ
-  pub below : index < count s k
-  pub from : region.address of entry s k index ≤ y
-  pub to : y < region.address of entry s k index + region.length of entry s k index
-  pub here : p ≡ region.offset of entry s k index + (y - region.address of entry s k index)
-  pub under : levels ≡ region.levels of entry s k index
+  pub below : index < count s (kindOf m)
+  pub from : region.address of regionAt s m index ≤ y
+  pub to : y < region.address of regionAt s m index + region.length of regionAt s m index
+  pub here : p ≡ region.offset of regionAt s m index + (y - region.address of regionAt s m index)
+  pub under : levels ≡ region.levels of regionAt s m index
+
+-- the n addresses from a on of a memory, all in one region, stand from position o on, under its levels
+pub record Ranged (s : List ℕ) (m : Memory) (a n o levels : ℕ) : Type 0 where
+  pub index : ℕ
+  pub below : index < count s (kindOf m)
+  pub from : region.address of regionAt s m index ≤ a
+  pub to : a + n ≤ region.address of regionAt s m index + region.length of regionAt s m index
+  pub here : o ≡ region.offset of regionAt s m index + (a - region.address of regionAt s m index)
+  pub under : levels ≡ region.levels of regionAt s m index
 
 -- property i has that object and id
 pub record PropertyWith (s : List ℕ) (object id i : ℕ) : Type 0 where

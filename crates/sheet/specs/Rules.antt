@@ -1,7 +1,10 @@
 -- THE RULES S1 to S9 as rows, and the first rule broken.
 -- Assumes nothing.
 use Prim.Native.Nat.{ℕ, _+_, _/_, _%_}
+use mathlib.Core.Path.{_≡_}
+use mathlib.Core.Bool.{Bool}
 use mathlib.Core.List.{List, [], _∷_}
+use lib.Dec.{eqb}
 use lib.ListN.{length}
 use Rattle.sheet.specs.Demand.{Demand, _≼_, _≐_, _⦂_, breach}
 use Rattle.sheet.specs.First.{first, orElse}
@@ -108,6 +111,17 @@ walkRule s = orElse (first (entriesRule s) kinds) (orElse (first (bodiesRule s) 
 unfoldable pub ruleIn : ℕ → List ℕ → ℕ
 ruleIn ed s = orElse (breach (frameDemands ed s)) (orElse (breach (zeroDemands s)) (walkRule s))
 
+-- the edition that sheets have
+abbrev pub edition : ℕ
+edition = 1
+
 -- THE FIRST RULE BROKEN, and 0 for an accepted sheet
 abbrev pub ruleOf : List ℕ → ℕ
-ruleOf s = ruleIn 1 s
+ruleOf s = ruleIn edition s
+
+-- AN ACCEPTED SHEET, and the test for it
+abbrev pub Accepted : List ℕ → Type 0
+Accepted s = ruleOf s ≡ 0
+
+unfoldable pub isAccepted : List ℕ → Bool
+isAccepted s = eqb (ruleOf s) 0

@@ -8,7 +8,7 @@ use Rattle.sheet.specs.Kind.{regions, groups}
 use Rattle.sheet.specs.Layout.{_of_}
 use Rattle.sheet.specs.Group as group
 use Rattle.sheet.specs.Entries.{count, entry, bodyAt, bodyEnd}
-use Rattle.sheet.specs.Rules.{ruleOf}
+use Rattle.sheet.specs.Rules.{Accepted}
 
 -- b is the body of entry i of kind k, from its first byte to its last
 pub record IsBody (s : List ℕ) (k i : ℕ) (b : List ℕ) : Type 0 where
@@ -26,6 +26,6 @@ pub record GroupWith (s : List ℕ) (address i : ℕ) : Type 0 where
 
 -- WHAT A LOOKUP HANDS BACK, and from where in the sheet, Asked saying which entry of kind k is asked for: the whole body of the one that is asked for; nothing where there is none, and nothing of a sheet that is not accepted
 pub data Handed (s : List ℕ) (k : ℕ) (Asked : ℕ → Type 0) : List ℕ → ℕ → Type 0 where
-  body : {b : List ℕ} (i : ℕ) → ruleOf s ≡ 0 → Asked i → ((j : ℕ) → Asked j → j ≡ i) → IsBody s k i b → Handed s k Asked b (bodyAt s k i)
-  nothing : ruleOf s ≡ 0 → ((i : ℕ) → Asked i → ⊥) → Handed s k Asked [] 0
-  unaccepted : (ruleOf s ≡ 0 → ⊥) → Handed s k Asked [] 0
+  body : {b : List ℕ} (i : ℕ) → Accepted s → Asked i → ((j : ℕ) → Asked j → j ≡ i) → IsBody s k i b → Handed s k Asked b (bodyAt s k i)
+  nothing : Accepted s → ((i : ℕ) → Asked i → ⊥) → Handed s k Asked [] 0
+  unaccepted : (Accepted s → ⊥) → Handed s k Asked [] 0

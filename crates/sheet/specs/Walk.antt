@@ -5,9 +5,10 @@ use mathlib.Core.Path.{_≡_}
 use mathlib.Core.List.{List}
 use lib.ListN.{length}
 use Rattle.sheet.specs.Demand.{Demand, Met, Tells}
-use Rattle.sheet.specs.Kind.{kinds, OfKind}
+use Rattle.sheet.specs.Kind.{kinds, kindOf, OfKind}
 use Rattle.sheet.specs.Entries.{count, size, entry, keyOf, offsetOf, lengthOf}
-use Rattle.sheet.specs.Rules.{frameDemands}
+use Rattle.sheet.specs.Rules.{frameDemands, edition}
+use Rattle.sheet.specs.declared.Memory.{Memory}
 use Rattle.sheet.specs.declared.judge.Verdict.{Verdict}
 use Rattle.sheet.specs.declared.judge.Laid.{Laid}
 use Rattle.sheet.specs.Region as region
@@ -18,9 +19,14 @@ pub record Framed (ed : ℕ) (s : List ℕ) : Type 0 where
 
 -- entry i of kind k is there
 pub record Entry (s : List ℕ) (k i : ℕ) : Type 0 where
-  pub framed : Framed 1 s
+  pub framed : Framed edition s
   pub kind : k < kinds
   pub below : i < count s k
+
+-- k is the kind of entry that the regions of a memory are
+pub record Holds (m : Memory) (k : ℕ) : Type 0 where
+  pub is : k ≡ kindOf m
+  pub known : k < kinds
 
 -- r is the number of entries of kind k
 pub record Counted (s : List ℕ) (k r : ℕ) : Type 0 where

@@ -1,6 +1,6 @@
 // S1 to S5: the length, the edition, the numbers of entries, and the bytes that are zero.
 ghost use Rattle.sheet.specs.Demand.{Tells};
-ghost use Rattle.sheet.specs.Rules.{frameDemands, zeroDemands};
+ghost use Rattle.sheet.specs.Rules.{frameDemands, zeroDemands, edition};
 ghost use Rattle.sheet.specs.Walk.{Framed};
 use crate::layout::group;
 use crate::layout::head;
@@ -48,7 +48,7 @@ pub fn frame_rule(s: &[u8]) -> u8
 
 // S5.
 pub fn zero_rule(s: &[u8]) -> u8
-    requires { ⌜ Framed 1 (now s) ⌝ }
+    requires { ⌜ Framed edition (now s) ⌝ }
     ensures { λ r. ⌜ Tells r (zeroDemands (now (s .entry))) ⌝ }
 {
     if 3 < byte(s, head::FLAGS) {

@@ -4,7 +4,7 @@ ghost use Prim.Native.Nat.{_≤_, _<_};
 ghost use Rattle.sheet.specs.Layout.{_of_};
 ghost use Rattle.sheet.specs.Head as head;
 ghost use Rattle.sheet.specs.Head.{rulesOf};
-ghost use Rattle.sheet.specs.Rules.{ruleOf};
+ghost use Rattle.sheet.specs.Rules.{Accepted};
 use crate::layout::head;
 use octets::byte;
 use octets::number;
@@ -32,7 +32,7 @@ pub fn rules_of(s: &[u8]) -> u8
 
 // Programming mode in bit 0, verify in bit 1.
 pub fn flags(s: &[u8]) -> u8
-    requires { ⌜ ruleOf (now s) ≡ 0 ⌝ }
+    requires { ⌜ Accepted (now s) ⌝ }
     ensures { λ r. ⌜ (r ≡ head.flags of now (s .entry)) × (r ≤ 3) ⌝ }
 {
     byte(s, head::FLAGS) as u8

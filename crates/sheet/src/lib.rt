@@ -4,7 +4,7 @@ mod head;
 mod judge;
 mod layout;
 mod lookup;
-mod memory;
+mod ranges;
 mod records;
 mod table;
 mod walk;
@@ -24,7 +24,7 @@ pub use lookup::property;
 pub use lookup::property_part;
 pub use lookup::region;
 pub use lookup::region_part;
-pub use memory::range;
+pub use ranges::range;
 pub use records::count;
 pub use records::count_at;
 pub use records::group_entry;
@@ -38,6 +38,11 @@ pub use walk::check;
 pub struct Part {
     pub offset: usize,
     pub length: usize,
+}
+
+// A memory of the sheet: its regions are the entries of a kind.
+pub enum Memory {
+    Device,
 }
 
 // A run of sheet bytes that an address range is, with the levels that it stands under.

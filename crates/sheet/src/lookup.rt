@@ -4,7 +4,7 @@ ghost use Prim.Native.Nat.{_+_, _*_, _≤_, _<_};
 ghost use lib.ListN.{length, take, drop};
 ghost use Rattle.sheet.specs.Kind.{kinds};
 ghost use Rattle.sheet.specs.Entries.{keyOf};
-ghost use Rattle.sheet.specs.Rules.{ruleOf};
+ghost use Rattle.sheet.specs.Rules.{Accepted};
 ghost use Rattle.sheet.specs.Lookup.{PartOf, StandsIn, indexOf, bodyOf, bodyFrom, lookup, lookupFrom, regionOf, regionFrom, propertyOf, propertyFrom, groupOf, groupFrom};
 ghost use Rattle.sheet.specs.Walk.{Entry, Lower};
 use crate::Part;
@@ -28,7 +28,7 @@ fn first_word(s: &[u8], k: usize, i: usize) -> usize
 // THE SEARCH BY HALVES: the first entry of a kind whose first word is not below `key`, and the count where there is none.
 // Each step leaves half of what is left, or less: of 64 entries 32, 16, 8, 4, 2, 1 and none, so there are seven at most.
 pub fn lower(s: &[u8], k: usize, key: usize) -> usize
-    requires { ⌜ (ruleOf (now s) ≡ 0) × (k < kinds) ⌝ }
+    requires { ⌜ Accepted (now s) × (k < kinds) ⌝ }
     ensures { λ r. ⌜ Lower (now (s .entry)) k key r ⌝ }
 {
     let mut lo = 0;
@@ -46,7 +46,7 @@ pub fn lower(s: &[u8], k: usize, key: usize) -> usize
 
 // The number of the entry of a kind whose first word is `key`, and the count where there is none.
 pub fn find(s: &[u8], k: usize, key: usize) -> usize
-    requires { ⌜ (ruleOf (now s) ≡ 0) × (k < kinds) ⌝ }
+    requires { ⌜ Accepted (now s) × (k < kinds) ⌝ }
     ensures { λ r. ⌜ r ≡ indexOf (now (s .entry)) k key ⌝ }
 {
     let n = many(s, k);
@@ -62,7 +62,7 @@ pub fn find(s: &[u8], k: usize, key: usize) -> usize
 
 // The body of entry i of a kind, and nothing where that is no entry.
 fn body(s: &[u8], k: usize, i: usize) -> Part
-    requires { ⌜ (ruleOf (now s) ≡ 0) × (k < kinds) ⌝ }
+    requires { ⌜ Accepted (now s) × (k < kinds) ⌝ }
     ensures { λ r. ⌜ StandsIn (now (s .entry)) r (bodyOf (now (s .entry)) k i) (bodyFrom (now (s .entry)) k i) ⌝ }
 {
     if many(s, k) <= i {

@@ -4,7 +4,7 @@ ghost use Prim.Native.Nat.{_+_, _≤_, _<_};
 ghost use Rattle.sheet.specs.Kind.{kinds, properties, groups};
 ghost use Rattle.sheet.specs.Property as property;
 ghost use Rattle.sheet.specs.Entries.{count as countOf};
-ghost use Rattle.sheet.specs.Rules.{ruleOf};
+ghost use Rattle.sheet.specs.Rules.{Accepted};
 ghost use Rattle.sheet.specs.Lookup.{objectAt, rank as rankOf, nthOf};
 ghost use Rattle.sheet.specs.Places.{PropertyIn, GroupIn};
 ghost use Rattle.sheet.specs.Walk.{Entry, Counted};
@@ -22,7 +22,7 @@ use octets::word;
 
 // How many entries of a kind there are.
 pub fn count(s: &[u8], k: usize) -> usize
-    requires { ⌜ (ruleOf (now s) ≡ 0) × (k < kinds) ⌝ }
+    requires { ⌜ Accepted (now s) × (k < kinds) ⌝ }
     ensures { λ r. ⌜ Counted (now (s .entry)) k r ⌝ }
 {
     many(s, k)
@@ -30,7 +30,7 @@ pub fn count(s: &[u8], k: usize) -> usize
 
 // Property i.
 pub fn property_entry(s: &[u8], i: usize) -> PropertyEntry
-    requires { ⌜ (ruleOf (now s) ≡ 0) × (i < countOf (now s) properties) ⌝ }
+    requires { ⌜ Accepted (now s) × (i < countOf (now s) properties) ⌝ }
     ensures { λ r. ⌜ PropertyIn (now (s .entry)) i r ⌝ }
 {
     let e = entry(s, kind::PROPERTIES, i);
@@ -49,7 +49,7 @@ pub fn property_entry(s: &[u8], i: usize) -> PropertyEntry
 
 // Group object i.
 pub fn group_entry(s: &[u8], i: usize) -> GroupEntry
-    requires { ⌜ (ruleOf (now s) ≡ 0) × (i < countOf (now s) groups) ⌝ }
+    requires { ⌜ Accepted (now s) × (i < countOf (now s) groups) ⌝ }
     ensures { λ r. ⌜ GroupIn (now (s .entry)) i r ⌝ }
 {
     let e = entry(s, kind::GROUPS, i);
@@ -78,7 +78,7 @@ fn object_at(s: &[u8], i: usize) -> usize
 
 // How many of the first i properties have an object: its properties stand side by side.
 pub fn rank(s: &[u8], object: u8, i: usize) -> usize
-    requires { ⌜ (ruleOf (now s) ≡ 0) × (i ≤ countOf (now s) properties) ⌝ }
+    requires { ⌜ Accepted (now s) × (i ≤ countOf (now s) properties) ⌝ }
     ensures { λ r. ⌜ r ≡ rankOf (now (s .entry)) object i ⌝ }
 {
     let first = lower(s, kind::PROPERTIES, object as usize * 256);
@@ -93,7 +93,7 @@ pub fn rank(s: &[u8], object: u8, i: usize) -> usize
 
 // The property of an object by its index, counted from 0 within the object, and the count where there is none.
 pub fn nth(s: &[u8], object: u8, index: u8) -> usize
-    requires { ⌜ ruleOf (now s) ≡ 0 ⌝ }
+    requires { ⌜ Accepted (now s) ⌝ }
     ensures { λ r. ⌜ r ≡ nthOf (now (s .entry)) object index ⌝ }
 {
     let n = many(s, kind::PROPERTIES);

@@ -2,6 +2,7 @@
 ghost use mathlib.Core.Path.{_≡_};
 ghost use Prim.Native.Nat.{_+_, _*_, _≤_, _<_, max};
 ghost use lib.ListN.{length};
+ghost use Rattle.sheet.specs.Rules.{edition};
 ghost use Rattle.sheet.specs.Kind.{kinds, OfKind};
 ghost use Rattle.sheet.specs.Layout.{_of_};
 ghost use Rattle.sheet.specs.Property as property;
@@ -17,7 +18,7 @@ use octets::word;
 
 // How many entries of a kind there are: the numbers stand in the order of the kinds.
 pub fn many(s: &[u8], k: usize) -> usize
-    requires { ⌜ Framed 1 (now s) × (k < kinds) ⌝ }
+    requires { ⌜ Framed edition (now s) × (k < kinds) ⌝ }
     ensures { λ r. ⌜ Counted (now (s .entry)) k r ⌝ }
 {
     byte(s, head::COUNTS + k)
@@ -36,7 +37,7 @@ pub fn size(k: usize) -> usize
 
 // Where entry i of a kind stands.
 pub fn place(s: &[u8], k: usize, i: usize) -> usize
-    requires { ⌜ Framed 1 (now s) × (i ≤ 64) ⌝ }
+    requires { ⌜ Framed edition (now s) × (i ≤ 64) ⌝ }
     ensures { λ r. ⌜ OfKind r k (placeOf (now (s .entry)) 0 i) (placeOf (now (s .entry)) 1 i) (placeOf (now (s .entry)) 2 i) ⌝ }
 {
     let properties = head::SIZE + region::SIZE * byte(s, head::REGIONS);
@@ -50,7 +51,7 @@ pub fn place(s: &[u8], k: usize, i: usize) -> usize
 
 // Where the contents end.
 pub fn contents(s: &[u8]) -> usize
-    requires { ⌜ Framed 1 (now s) ⌝ }
+    requires { ⌜ Framed edition (now s) ⌝ }
     ensures { λ r. ⌜ r ≡ contentsOf (now (s .entry)) ⌝ }
 {
     head::SIZE

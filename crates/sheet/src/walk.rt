@@ -4,7 +4,7 @@ ghost use Prim.Native.Nat.{_+_};
 ghost use Rattle.sheet.specs.Demand.{Tells};
 ghost use Rattle.sheet.specs.Kind.{kinds};
 ghost use Rattle.sheet.specs.Entries.{floor as floorOf, reached, startOf};
-ghost use Rattle.sheet.specs.Rules.{entryDemands, bodyDemands, endDemands, walkRule, ruleOf};
+ghost use Rattle.sheet.specs.Rules.{entryDemands, bodyDemands, endDemands, walkRule, ruleOf, edition};
 ghost use Rattle.sheet.specs.Walk.{Framed, Entry, VerdictOf, Lies};
 use crate::frame::frame_rule;
 use crate::frame::zero_rule;
@@ -56,7 +56,7 @@ fn end_rule(s: &[u8], z: usize, late: usize) -> u8
 
 // S6 to S9, each entry with its body in one go: that a body is odd counts once all entries have passed.
 fn walk(s: &[u8]) -> u8
-    requires { ⌜ Framed 1 (now s) ⌝ }
+    requires { ⌜ Framed edition (now s) ⌝ }
     ensures { λ r. ⌜ r ≡ walkRule (now (s .entry)) ⌝ }
 {
     let mut k = 0;

@@ -4,7 +4,7 @@ use Prim.Native.Nat.{ℕ, zero, suc, _+_, _≤_}
 use mathlib.Core.Path.{_≡_, refl}
 use mathlib.Core.List.{List, [], _∷_}
 use native.Mathlib.Omega.{arith}
-use Rattle.sheet.specs.Rules.{ruleOf}
+use Rattle.sheet.specs.Rules.{ruleOf, edition}
 use Rattle.sheet.proofs.Nine.{at-most-nine}
 use Rattle.sheet_check.specs.Line.{lineOf, saidOf}
 
@@ -16,7 +16,7 @@ broken zero h = absurd (h refl)
 broken (suc r) h = refl
 
 pub one-digit : (s : List ℕ) (r : ℕ) → r ≡ ruleOf s → r ≤ 9
-one-digit s r e = omega (arith, at-most-nine 1 s)
+one-digit s r e = omega (arith, at-most-nine edition s)
 
 pub via-said : (s : List ℕ) (r : ℕ) (l : List ℕ) → r ≡ ruleOf s → l ≡ lineOf r → l ≡ saidOf s
 via-said s r l e h = rw (← e) h

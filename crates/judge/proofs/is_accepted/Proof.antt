@@ -1,7 +1,7 @@
 -- `judge::is_accepted` meets its contract.
 -- Assumes nothing.
+use Rattle.sheet.specs.Rules.{isAccepted}
 use borrow.Author.Needs.{needs}
-use Rattle.judge.specs.Judge.{isAccepted}
 use Rattle.judge.proofs.is_accepted.Statement.{statement}
 use Rattle.judge.proofs.is_accepted.Tie as tie
 

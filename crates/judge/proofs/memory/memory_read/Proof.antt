@@ -9,5 +9,13 @@ pub memory-read-spec : {M : Type 1} → statement M
 memory-read-spec =
     tie.close
     (tie.spec
-    (λ c κs. search needs) (λ c κs. search needs) (λ c κs. search needs) (λ c κs. search needs)
-    (λ c. search read-run) (λ c κs. search needs) (λ c. search read-denied))
+    (λ c κs. search needs)
+    (λ c κs. search needs)
+    (λ c κs. search needs)
+    (λ c κs. search needs)
+    (λ c κs. search needs)
+    (λ c κs. search needs)
+    (λ c. search read-run)
+    (λ c κs. search needs)
+    (λ c κs. search needs)
+    (λ c. search read-denied))

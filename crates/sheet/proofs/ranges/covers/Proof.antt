@@ -1,9 +1,9 @@
--- `sheet::memory::covers` meets its contract.
+-- `sheet::ranges::covers` meets its contract.
 -- Assumes nothing.
 use borrow.Author.Needs.{needs}
 use Rattle.sheet.proofs.Loops.{covers-below, covers-rest}
-use Rattle.sheet.proofs.memory.covers.Statement.{statement}
-use Rattle.sheet.proofs.memory.covers.Tie as tie
+use Rattle.sheet.proofs.ranges.covers.Statement.{statement}
+use Rattle.sheet.proofs.ranges.covers.Tie as tie
 
 pub covers-spec : {M : Type 1} → statement M
 covers-spec =

@@ -1,17 +1,17 @@
--- `sheet::memory::range` meets its contract. The invariant: no region passed covers the range.
+-- `sheet::ranges::range` meets its contract. The invariant: no region passed covers the range.
 -- Assumes nothing.
 use Prim.Native.Nat.{_-_}
 use borrow.Author.Needs.{needs}
 use Rattle.sheet.proofs.Seek.{Missed}
 use Rattle.sheet.proofs.Loops.{isRange, covers-from, range-there, range-begins, range-found, range-missed, range-ended}
-use Rattle.sheet.proofs.memory.range.Statement.{statement}
-use Rattle.sheet.proofs.memory.range.Tie as tie
+use Rattle.sheet.proofs.ranges.range.Statement.{statement}
+use Rattle.sheet.proofs.ranges.range.Tie as tie
 
 abbrev Inv-loop : tie.InvT-loop
-Inv-loop s k address n end i₀ i = Missed (isRange s k address n) end i
+Inv-loop s address n k end i₀ i = Missed (isRange s k address n) end i
 
 abbrev μ-loop : tie.MeasureT-loop
-μ-loop s k address n end i₀ i = end - i
+μ-loop s address n k end i₀ i = end - i
 
 pub range-spec : {M : Type 1} → statement M
 range-spec =
@@ -19,6 +19,7 @@ range-spec =
     (tie.spec
     Inv-loop
     μ-loop
+    (λ c κs. search needs)
     (λ c. search needs)
     (λ c κs. search needs)
     (λ c κs. search needs)

@@ -1,12 +1,12 @@
--- `judge::memory::can_change` meets its contract.
+-- `judge::memory::allowed` meets its contract.
 -- Assumes nothing.
 use borrow.Author.Needs.{needs}
 use Rattle.judge.proofs.Arms.{allowed-at, via-allowed}
-use Rattle.judge.proofs.memory.can_change.Statement.{statement}
-use Rattle.judge.proofs.memory.can_change.Tie as tie
+use Rattle.judge.proofs.memory.allowed.Statement.{statement}
+use Rattle.judge.proofs.memory.allowed.Tie as tie
 
-pub can-change-spec : {M : Type 1} → statement M
-can-change-spec =
+pub allowed-spec : {M : Type 1} → statement M
+allowed-spec =
     tie.close
     (tie.spec
     (λ c. search needs) (λ c κs. search needs) (λ c κs. search needs) (λ c. search needs)

@@ -2,11 +2,12 @@
 ghost use mathlib.Core.Path.{_≡_};
 ghost use Prim.Native.Nat.{_+_, _≤_, _<_};
 ghost use lib.ListN.{length};
-ghost use Rattle.sheet.specs.Kind.{regions, kinds};
 ghost use Rattle.sheet.specs.Layout.{_of_};
 ghost use Rattle.sheet.specs.Region as region;
-ghost use Rattle.sheet.specs.Rules.{ruleOf};
+ghost use Rattle.sheet.specs.Rules.{Accepted};
 ghost use Rattle.sheet.specs.Lookup.{covers as coversOf, runIn, rangeOf};
+ghost use Rattle.sheet.specs.Walk.{Holds};
+use crate::Memory;
 use crate::Run;
 use crate::layout::kind;
 use crate::layout::region;
@@ -39,26 +40,33 @@ fn run_in(e: &[u8], a: usize) -> Run
 }
 
 // From which entry on a region can reach an address, `end` being the first that begins past it: the last before `end`, and for
-// an empty range the one before that, whose end it may be. Entries of another kind are no regions and have no such order.
-fn nearest(k: usize, end: usize) -> usize
-    ensures { λ r. ⌜ (r ≤ end) × (0 < r → (k ≡ regions) × (r + 2 ≤ end)) ⌝ }
+// an empty range the one before that, whose end it may be.
+fn nearest(end: usize) -> usize
+    ensures { λ r. ⌜ (r ≤ end) × (0 < r → r + 2 ≤ end) ⌝ }
 {
-    if k != kind::REGIONS {
-        return 0;
-    }
     if end < 2 {
         return 0;
     }
     end - 2
 }
 
-// The run of sheet bytes that the n addresses from a on are, in the memory whose regions are the entries of kind k.
-pub fn range(s: &[u8], k: usize, address: usize, n: usize) -> Run
-    requires { ⌜ (ruleOf (now s) ≡ 0) × (k < kinds) × (address < 65536) × (n < 256) ⌝ }
-    ensures { λ r. ⌜ r ≡ rangeOf (now (s .entry)) k address n ⌝ }
+// The kind of entry that a memory's regions are.
+fn kind_of(m: Memory) -> usize
+    ensures { λ r. ⌜ Holds m r ⌝ }
 {
+    match m {
+        Memory::Device => kind::REGIONS,
+    }
+}
+
+// The run of sheet bytes that the n addresses from a on of a memory are.
+pub fn range(s: &[u8], m: Memory, address: usize, n: usize) -> Run
+    requires { ⌜ Accepted (now s) × (address < 65536) × (n < 256) ⌝ }
+    ensures { λ r. ⌜ r ≡ rangeOf (now (s .entry)) m address n ⌝ }
+{
+    let k = kind_of(m);
     let end = lower(s, k, address + 1);
-    let mut i = nearest(k, end);
+    let mut i = nearest(end);
     while i < end {
         let e = entry(s, k, i);
         if covers(e, address, n) {

@@ -1,9 +1,9 @@
--- `sheet::memory::run_in` meets its contract.
+-- `sheet::ranges::run_in` meets its contract.
 -- Assumes nothing.
 use borrow.Author.Needs.{needs}
 use Rattle.sheet.proofs.Loops.{run-is}
-use Rattle.sheet.proofs.memory.run_in.Statement.{statement}
-use Rattle.sheet.proofs.memory.run_in.Tie as tie
+use Rattle.sheet.proofs.ranges.run_in.Statement.{statement}
+use Rattle.sheet.proofs.ranges.run_in.Tie as tie
 
 pub run-in-spec : {M : Type 1} → statement M
 run-in-spec =
