@@ -2,7 +2,7 @@
 -- Assumes nothing.
 use Prim.Native.Nat.{ℕ}
 use mathlib.Core.Bool.{Bool, cond}
-use mathlib.Core.List.{List, [], _∷_}
+use mathlib.Core.List.{List, []}
 use lib.ListN.{length}
 use lib.Dec.{eqb}
 use Rattle.pdu.specs.declared.Pdu.{Pdu}
@@ -30,7 +30,3 @@ valuePdu d = GroupValueWrite (sixBits d)
 -- WHAT SIX BITS v AND DATA s SAY in a type: 20 where the form is not the type's
 unfoldable pub readValue : ℕ → ℕ → List ℕ → Reading
 readValue t v s = cond (short t) (cond (eqb (length s) 0) (pointAt 1 v) (Refused 20)) (readPoint t s)
-
--- what the body of a group object holds once such a value is stored: the six bits as a byte, or the data
-abbrev pub held : ℕ → List ℕ → List ℕ
-held v s = cond (eqb (length s) 0) (v ∷ []) s

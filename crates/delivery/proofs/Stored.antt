@@ -1,0 +1,50 @@
+-- What is stored over the body of a group object is what a lookup by its address then hands out.
+-- Assumes nothing.
+use Prim.Native.Nat.{ℕ, _+_, _≤_, _<_, max}
+use mathlib.Core.Path.{_≡_, sym, ap, ap₂, _∙_}
+use mathlib.Core.List.{List}
+use lib.ListN.{length, take, drop}
+use native.Mathlib.Omega.{arith}
+use borrow.Author.Tests.{eq-eqb, lt-ltb}
+use Rattle.octets.specs.Splice.{splice}
+use Rattle.octets.proofs.Splices.{splice-read}
+use Rattle.sheet.specs.Kind.{groups}
+use Rattle.sheet.specs.Layout.{_of_}
+use Rattle.sheet.specs.Group as group
+use Rattle.sheet.specs.Entries.{count, entry, keyOf, offsetOf, lengthOf, bodyEnd}
+use Rattle.sheet.specs.Rules.{ruleOf, Accepted, isAccepted}
+use Rattle.sheet.specs.Lookup.{bodyOf, lookup, groupOf}
+use Rattle.sheet.specs.Frame.{Agree}
+use Rattle.sheet.proofs.Good.{good}
+use Rattle.sheet.proofs.Keys.{index-hit}
+use Rattle.sheet.proofs.BodyPlaces.{within}
+use Rattle.sheet.proofs.Sames.{count-same, group-same, offset-same, length-same}
+use Rattle.sheet.proofs.Frames.{both-or-neither}
+
+module _ (s : List ℕ) (ok : Accepted s) (i : ℕ) (there : i < count s groups) (ds : List ℕ) (long : length ds ≡ max 1 (group.code of entry s groups i)) where
+  abbrev pub stored : List ℕ
+  stored = splice s (group.offset of entry s groups i) ds
+
+  pub room : group.offset of entry s groups i + length ds ≤ length s
+  unfolding bodyEnd
+  room = omega (arith, long, within (good s ok) groups i (omega arith) there)
+
+  module _ (a : Agree s stored) where
+    pub still : Accepted stored
+    still = both-or-neither a .0 ok
+
+    there-still : i < count stored groups
+    there-still = rw (count-same a groups) there
+
+    looked-up : lookup stored groups i ≡ take (lengthOf groups (entry stored groups i)) (drop (offsetOf groups (entry stored groups i)) stored)
+    unfolding lookup isAccepted bodyOf
+    looked-up = simp (eq-eqb (ruleOf stored) 0 still, lt-ltb i (count stored groups) there-still)
+
+    pub handed : (address : ℕ) → group.address of entry s groups i ≡ address → groupOf stored address ≡ ds
+    unfolding keyOf
+    handed address e =
+        ap (lookup stored groups)
+        (index-hit stored still groups (omega arith) i address there-still (group-same a i group.address there (omega arith) ∙ e))
+        ∙ looked-up
+        ∙ ap₂ (λ (n o : ℕ). take n (drop o stored)) (length-same a i groups (omega arith) there ∙ sym long) (offset-same a i groups (omega arith) there)
+        ∙ splice-read s (group.offset of entry s groups i) ds room

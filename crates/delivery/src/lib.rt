@@ -1,0 +1,1 @@
+// What joins datapoints and device stands in specs/ and proofs/: this crate has no code.
