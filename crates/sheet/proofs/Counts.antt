@@ -16,22 +16,22 @@ use Rattle.sheet.specs.Layout.{Field, _of_}
 use Rattle.sheet.specs.Head as head
 use Rattle.sheet.specs.Property as property
 use Rattle.sheet.specs.Entries.{count, size, place, contents, entry, bodyAt}
-use Rattle.sheet.specs.Rules.{entryDemands, ruleIn}
+use Rattle.sheet.specs.Rules.{entryDemands, Accepted}
 use Rattle.sheet.specs.Frame.{Agree, Fixed}
 use Rattle.sheet.specs.Stores.{countAt, NoCount}
 use Rattle.sheet.proofs.Good.{Good, good, accepted}
-use Rattle.sheet.proofs.Lie.{after-contents}
-use Rattle.sheet.proofs.Mild.{mild, count-stood, six-stood}
+use Rattle.sheet.proofs.BodyPlaces.{after-contents}
+use Rattle.sheet.proofs.Sparing.{mild, count-stood, six-stood}
 use Rattle.sheet.proofs.Sames.{place-same}
 use Rattle.sheet.proofs.Standing.{field-at, after-head, place-in, one-entry}
 
 -- ANY NUMBER OF NEW COUNTS, none above its maximum
 pub counts-store :
-    (ed : ℕ) {s : List ℕ} → ruleIn ed s ≡ 0 → (s′ : List ℕ) → length s′ ≡ length s →
+    {s : List ℕ} → Accepted s → (s′ : List ℕ) → length s′ ≡ length s →
     ((p : ℕ) → NoCount s p → getD s′ p 0 ≡ getD s p 0) →
     ((i : ℕ) → i < count s properties → numAt s′ (countAt s i) (property.count .width) ≤ property.maximum of entry s properties i)
     → Agree s s′
-counts-store ed {s} ok s′ long but low =
+counts-store {s} ok s′ long but low =
     mild g
     (record {
       long = long;
@@ -45,8 +45,8 @@ counts-store ed {s} ok s′ long but low =
       six = λ i h c. rw (late (bodyAt s groups i) (after-contents g groups i (omega arith) h)) (six-stood g i h c);
     })
   where
-    g : Good ed s
-    g = good ed s ok
+    g : Good s
+    g = good s ok
 
     early : (p : ℕ) → p < head.size → getD s′ p 0 ≡ getD s p 0
     early p h = but p (λ i hi a b. omega (arith, after-head s properties i (omega arith) hi))
@@ -70,7 +70,7 @@ abbrev pub withCount : List ℕ → ℕ → ℕ → List ℕ
 withCount s i c = splice s (countAt s i) (bytesOf (property.count .width) c)
 
 module _
-    {ed : ℕ} {s : List ℕ} (g : Good ed s) (i c : ℕ) (hi : i < count s properties) (low : c ≤ property.maximum of entry s properties i) where
+    {s : List ℕ} (g : Good s) (i c : ℕ) (hi : i < count s properties) (low : c ≤ property.maximum of entry s properties i) where
   two : length (bytesOf 2 c) ≡ 2
   two = length-bytes 2 c
 
@@ -93,7 +93,7 @@ module _
   -- A NEW COUNT OF ONE PROPERTY
   pub count-store : Agree s (withCount s i c)
   count-store =
-      counts-store ed (accepted g) (withCount s i c) (length-splice s (countAt s i) (bytesOf 2 c) room)
+      counts-store (accepted g) (withCount s i c) (length-splice s (countAt s i) (bytesOf 2 c) room)
       (λ p n. same p n (decLt p (countAt s i)) (decLt p (countAt s i + 2)))
       (λ j h. counts j h (ℕ-discrete j i))
     where

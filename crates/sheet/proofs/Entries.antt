@@ -12,7 +12,7 @@ use Rattle.sheet.specs.Kind.{kinds, OfKind}
 use Rattle.sheet.specs.Region as region
 use Rattle.sheet.specs.Head as head
 use Rattle.sheet.specs.Entries.{count, size, place, contents, entry, offsetOf}
-use Rattle.sheet.specs.Walk.{Framed, Entry, Counted, Starts, Shown}
+use Rattle.sheet.specs.Walk.{Framed, Entry, Counted, Starts, Shown, far}
 use Rattle.sheet.proofs.ByKind.{eachKind, kinded, at-kind}
 
 -- the numbers of entries stand one after the other, that of regions first
@@ -60,14 +60,18 @@ module _ {s : List ℕ} {k i : ℕ} (h : Entry s k i) where
   pub shown : Shown s k i (entry s k i)
   shown = record { is = refl; sized = record { least = omega (arith, least, length-entry); long = length-entry } }
 
-  -- the part that code cuts out
-  module _ {a z : ℕ} (ea : OfKind a k (place s 0 i) (place s 1 i) (place s 2 i)) (ez : OfKind z k (size 0) (size 1) (size 2)) where
-    pub at-place : a ≡ place s k i
-    at-place = at-kind (λ j. place s j i) (h .kind) ea
+  -- where it stands, as code finds it
+  pub at-place : {a : ℕ} → OfKind a k (place s 0 i) (place s 1 i) (place s 2 i) → a ≡ place s k i
+  at-place ea = at-kind (λ j. place s j i) (h .kind) ea
 
+  pub place-near : {a : ℕ} → a ≡ place s k i → a < far
+  place-near e = omega (arith, place-in, h .framed .rows)
+
+  -- the part that code cuts out
+  module _ {a z : ℕ} (ea : a ≡ place s k i) (ez : OfKind z k (size 0) (size 1) (size 2)) where
     pub part-end : a + z ≤ length s
-    part-end = omega (arith, place-in, at-place, kinded ez)
+    part-end = omega (arith, place-in, kinded ez)
 
     pub part : Shown s k i (take (a + z - a) (drop a s))
     unfolding entry
-    part = rw (add-sub-cancel-left, at-place, kinded ez) shown
+    part = rw (add-sub-cancel-left, ea, kinded ez) shown

@@ -12,13 +12,13 @@ use Rattle.sheet.specs.Region as region
 use Rattle.sheet.specs.Property as property
 use Rattle.sheet.specs.Group as group
 use Rattle.sheet.specs.Entries.{count, entry, sixBits}
-use Rattle.sheet.specs.Rules.{entryDemands, bodyDemands, ruleIn}
+use Rattle.sheet.specs.Rules.{entryDemands, bodyDemands, Accepted}
 use Rattle.sheet.specs.declared.Memory.the-variants.{Device}
 use Rattle.sheet.specs.Frame.{Agree}
 use Rattle.sheet.proofs.ByKind.{eachKind}
 use Rattle.sheet.proofs.Good.{Good, good, accepted}
 use Rattle.sheet.proofs.Sames.{front-same, count-same, region-same, property-same, group-same, floor-same, offset-same, at-same, start-same, reached-same}
-use Rattle.sheet.proofs.Ties.{six-to, six-from}
+use Rattle.sheet.proofs.PlainRows.{six-to, six-from}
 
 module _ {s s′ : List ℕ} (a : Agree s s′) where
   below-same : (k i : ℕ) → i < count s′ k → i < count s k
@@ -65,7 +65,7 @@ module _ {s s′ : List ℕ} (a : Agree s s′) where
             (λ n. m .0 (a .six i h c .0 n), λ n. a .six i h c .1 (m .1 n));
       }
 
-module _ {ed : ℕ} {s s′ : List ℕ} (g : Good ed s) (a : Agree s s′) where
+module _ {s s′ : List ℕ} (g : Good s) (a : Agree s s′) where
   entries : (i k : ℕ) → k < kinds → i < count s k → Met (entryDemands s′ k i)
   unfolding entryDemands
   entries i =
@@ -97,7 +97,7 @@ module _ {ed : ℕ} {s s′ : List ℕ} (g : Good ed s) (a : Agree s s′) where
       (offset-same a i k hk hi ∙ g .bodies k i hk hi .0 ∙ sym (reached-same a k i hk hi), (six i k hk hi, tt))
 
   -- what agrees with a sheet whose demands are all met meets them too
-  pub kept : Good ed s′
+  pub kept : Good s′
   kept =
       record {
         framed =
@@ -111,5 +111,5 @@ module _ {ed : ℕ} {s s′ : List ℕ} (g : Good ed s) (a : Agree s s′) where
 
 -- OF TWO THAT AGREE BOTH ARE ACCEPTED OR NEITHER IS
 pub both-or-neither :
-    (ed : ℕ) {s s′ : List ℕ} → Agree s s′ → (ruleIn ed s ≡ 0 → ruleIn ed s′ ≡ 0) × (ruleIn ed s′ ≡ 0 → ruleIn ed s ≡ 0)
-both-or-neither ed {s} {s′} a = (λ e. accepted (kept (good ed s e) a), λ e. accepted (kept (good ed s′ e) (agree-sym a)))
+    {s s′ : List ℕ} → Agree s s′ → (Accepted s → Accepted s′) × (Accepted s′ → Accepted s)
+both-or-neither {s} {s′} a = (λ e. accepted (kept (good s e) a), λ e. accepted (kept (good s′ e) (agree-sym a)))

@@ -8,14 +8,14 @@ use Rattle.sheet.specs.Demand.{breach, Met}
 use Rattle.sheet.specs.First.{first}
 use Rattle.sheet.specs.Kind.{kinds}
 use Rattle.sheet.specs.Entries.{count}
-use Rattle.sheet.specs.Rules.{frameDemands, zeroDemands, entryDemands, bodyDemands, endDemands, entryRule, bodyRule, entriesRule, bodiesRule, walkRule, ruleIn}
+use Rattle.sheet.specs.Rules.{frameDemands, zeroDemands, entryDemands, bodyDemands, endDemands, entryRule, bodyRule, entriesRule, bodiesRule, walkRule, ruleIn, edition, Accepted}
 use Rattle.sheet.proofs.ByKind.{eachKind}
 use Rattle.sheet.proofs.Demands.{met, unbroken, named}
 use Rattle.sheet.proofs.First.{orElse-left, orElse-right, first-each, first-all}
 
 -- a sheet whose demands are all met, part by part
-pub record Good (ed : ℕ) (s : List ℕ) : Type 0 where
-  pub framed : Met (frameDemands ed s)
+pub record Good (s : List ℕ) : Type 0 where
+  pub framed : Met (frameDemands edition s)
   pub zeros : Met (zeroDemands s)
   pub entries : (k i : ℕ) → k < kinds → i < count s k → Met (entryDemands s k i)
   pub bodies : (k i : ℕ) → k < kinds → i < count s k → Met (bodyDemands s k i)
@@ -45,11 +45,11 @@ module _ (s : List ℕ) (rule : ℕ → ℕ → ℕ) where
   all h = first-all (λ k. first (rule k) (count s k)) kinds (λ k hk. first-all (rule k) (count s k) (λ i hi. h k i hk hi))
 
 -- AN ACCEPTED SHEET MEETS ALL DEMANDS
-pub good : (ed : ℕ) (s : List ℕ) → ruleIn ed s ≡ 0 → Good ed s
+pub good : (s : List ℕ) → Accepted s → Good s
 unfolding ruleIn walkRule entriesRule bodiesRule entryRule bodyRule AllOf
-good ed s e =
-    let f = orElse-left (breach (frameDemands ed s)) _ e in
-    let e₁ = orElse-right (breach (frameDemands ed s)) _ e in
+good s e =
+    let f = orElse-left (breach (frameDemands edition s)) _ e in
+    let e₁ = orElse-right (breach (frameDemands edition s)) _ e in
     let z = orElse-left (breach (zeroDemands s)) _ e₁ in
     let e₂ = orElse-right (breach (zeroDemands s)) _ e₁ in
     let w = orElse-left (first (entriesRule s) kinds) _ e₂ in
@@ -57,7 +57,7 @@ good ed s e =
     let b = orElse-left (first (bodiesRule s) kinds) _ e₃ in
     let l = orElse-right (first (bodiesRule s) kinds) _ e₃ in
     record {
-      framed = met (frameDemands ed s) tt f;
+      framed = met (frameDemands edition s) tt f;
       zeros = met (zeroDemands s) tt z;
       entries = λ k i hk hi. met (entryDemands s k i) (entry-named s i k hk) (each s (entryRule s) w k i hk hi);
       bodies = λ k i hk hi. met (bodyDemands s k i) (body-named s i k) (each s (bodyRule s) b k i hk hi);
@@ -65,10 +65,10 @@ good ed s e =
     }
 
 -- A SHEET THAT MEETS ALL DEMANDS IS ACCEPTED
-pub accepted : {ed : ℕ} {s : List ℕ} → Good ed s → ruleIn ed s ≡ 0
+pub accepted : {s : List ℕ} → Good s → Accepted s
 unfolding ruleIn walkRule entriesRule bodiesRule entryRule bodyRule AllOf
-accepted {ed} {s} g =
-    rw (unbroken (frameDemands ed s) (g .framed), unbroken (zeroDemands s) (g .zeros), entries, bodies) (unbroken (endDemands s) (g .last))
+accepted {s} g =
+    rw (unbroken (frameDemands edition s) (g .framed), unbroken (zeroDemands s) (g .zeros), entries, bodies) (unbroken (endDemands s) (g .last))
   where
     entries : first (entriesRule s) kinds ≡ 0
     entries = all s (entryRule s) (λ k i hk hi. unbroken (entryDemands s k i) (g .entries k i hk hi))

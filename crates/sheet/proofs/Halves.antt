@@ -7,12 +7,12 @@ use native.Mathlib.Decide.{decLt}
 use native.Mathlib.Omega.{arith}
 use Rattle.sheet.specs.Kind.{kinds}
 use Rattle.sheet.specs.Entries.{count, keyOf}
-use Rattle.sheet.specs.Rules.{Accepted, edition}
+use Rattle.sheet.specs.Rules.{Accepted}
 use Rattle.sheet.specs.Lookup.{indexOf}
 use Rattle.sheet.specs.Walk.{Entry, Counted, Lower}
 use Rattle.sheet.proofs.Good.{good}
 use Rattle.sheet.proofs.Keys.{key-rising, index-hit, index-none}
-use Rattle.sheet.proofs.Seek.{ok-framed}
+use Rattle.sheet.proofs.SearchLoops.{ok-framed}
 
 -- THE INVARIANT: before lo the first words are below x, from hi on they are not
 pub record Halved (s : List ℕ) (k x lo hi : ℕ) : Type 0 where
@@ -39,7 +39,7 @@ module _ (s : List ℕ) (ok : Accepted s) (k : ℕ) (hk : k < kinds) (x lo hi : 
   half-there = record { framed = ok-framed s ok; kind = hk; below = omega (arith, h .within) }
 
   rises : (i j : ℕ) → i < j → j < count s k → keyOf s k i < keyOf s k j
-  rises = key-rising (good edition s ok) k hk
+  rises = key-rising (good s ok) k hk
 
   module _ (r : ℕ) (e : r ≡ keyOf s k mid) where
     pub upper-half : r < x → Halved s k x (mid + 1) hi
@@ -75,8 +75,8 @@ module _ (s : List ℕ) (ok : Accepted s) (k : ℕ) (hk : k < kinds) (x n i : �
 
       go : (j : ℕ) → j < count s k → keyOf s k j ≡ x → Dec (j < i) → Dec (i < j) → ⊥
       go j w z (yes d) f = omega (arith, l .before j d)
-      go j w z (no d) (yes f) = omega (arith, key-rising (good edition s ok) k hk i j f w, l .from i (omega arith) there)
+      go j w z (no d) (yes f) = omega (arith, key-rising (good s ok) k hk i j f w, l .from i (omega arith) there)
       go j w z (no d) (no f) = let u : j ≡ i = omega arith in q (e ∙ rw u at z)
 
   pub half-found : (r : ℕ) → i < n → r ≡ keyOf s k i → r ≡ x → i ≡ indexOf s k x
-  half-found r h e q = sym (index-hit edition s ok k hk i x (omega (arith, c .is)) (sym e ∙ q))
+  half-found r h e q = sym (index-hit s ok k hk i x (omega (arith, c .is)) (sym e ∙ q))

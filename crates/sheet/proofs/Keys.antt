@@ -12,14 +12,14 @@ use Rattle.sheet.specs.Kind.{kinds}
 use Rattle.sheet.specs.Layout.{_of_}
 use Rattle.sheet.specs.Property as property
 use Rattle.sheet.specs.Entries.{count, keyOf, floor}
-use Rattle.sheet.specs.Rules.{entryDemands, ruleIn}
+use Rattle.sheet.specs.Rules.{entryDemands, Accepted}
 use Rattle.sheet.specs.Lookup.{indexOf}
 use Rattle.sheet.proofs.ByKind.{eachKind}
 use Rattle.sheet.proofs.Good.{Good, good}
 use Rattle.sheet.proofs.Rising.{rising}
-use Rattle.sheet.proofs.Seeks.{seek-bound, seek-passes, seek-hit, seek-none}
+use Rattle.sheet.proofs.FrontSearch.{seek-bound, seek-passes, seek-hit, seek-none}
 
-module _ {ed : ℕ} {s : List ℕ} (g : Good ed s) where
+module _ {s : List ℕ} (g : Good s) where
   -- an entry's first word is not below the floor, and below that of the next
   pub over-floor : (i k : ℕ) → k < kinds → i < count s k → floor s k i ≤ keyOf s k i
   unfolding entryDemands keyOf
@@ -51,9 +51,9 @@ module _ {ed : ℕ} {s : List ℕ} (g : Good ed s) where
     pub key-rising : (i j : ℕ) → i < j → j < count s k → keyOf s k i < keyOf s k j
     key-rising i j h l = le-trans (under-next i k hk (omega arith)) (past-floor i j h l)
 
-module _ (ed : ℕ) (s : List ℕ) (ok : ruleIn ed s ≡ 0) (k : ℕ) (hk : k < kinds) where
+module _ (s : List ℕ) (ok : Accepted s) (k : ℕ) (hk : k < kinds) where
   rises : (i j : ℕ) → i < j → j < count s k → keyOf s k i < keyOf s k j
-  rises = key-rising (good ed s ok) k hk
+  rises = key-rising (good s ok) k hk
 
   -- two entries of a kind have two first words
   pub key-once : (i j : ℕ) → i < count s k → j < count s k → keyOf s k i ≡ keyOf s k j → i ≡ j

@@ -14,17 +14,17 @@ use Rattle.sheet.specs.Region as region
 use Rattle.sheet.specs.Property as property
 use Rattle.sheet.specs.Entries.{count, entry, keyOf}
 use Rattle.sheet.specs.Lookup.{objectAt, covers, runIn, rangeOf}
-use Rattle.sheet.specs.Rules.{Accepted, edition}
+use Rattle.sheet.specs.Rules.{Accepted}
 use Rattle.sheet.specs.Walk.{Holds, Entry, Lower}
 use Rattle.sheet.specs.declared.Memory.{Memory}
 use Rattle.sheet.specs.declared.Memory.the-variants.{Device}
 use Rattle.sheet.specs.declared.Run.{Run}
 use Rattle.sheet.specs.declared.Run.the-variants.{At, Nowhere}
-use Rattle.sheet.proofs.Good.{Good, good}
+use Rattle.sheet.proofs.Good.{good}
 use Rattle.sheet.proofs.Keys.{key-rising}
 use Rattle.sheet.proofs.Runs.{Covered, covering, covered, regions-apart, range-none}
-use Rattle.sheet.proofs.Seek.{Missed, missed, ok-framed, key-word}
-use Rattle.sheet.proofs.Seeks.{seek-first}
+use Rattle.sheet.proofs.SearchLoops.{Missed, missed, ok-framed, key-word}
+use Rattle.sheet.proofs.FrontSearch.{seek-first}
 
 -- the object of a property
 pub object-of : (s : List ℕ) (i : ℕ) (e : List ℕ) (r : ℕ) → e ≡ entry s properties i → r ≡ property.object of e → r ≡ objectAt s i
@@ -79,7 +79,7 @@ module _ (s : List ℕ) (ok : Accepted s) (m : Memory) (k : ℕ) (kind : Holds m
     where
       short : (j : ℕ) → j < i → i + 2 ≤ end → covers (entry s k j) a n ≡ false
       short j l b =
-          let g = good edition s ok in
+          let g = good s ok in
           let w : end ≤ count s (kindOf m) = rw (kind .is) at (low .within) in
           let last : keyOf s k (end - 1) < a + 1 = low .before (end - 1) (omega arith) in
           let apart = regions-apart g m j (j + 1) (omega arith) (omega arith) in

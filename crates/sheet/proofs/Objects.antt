@@ -3,13 +3,12 @@
 use Prim.Native.Nat.{ℕ, _+_, _*_, _-_, _≤_, _<_}
 use mathlib.Core.Path.{_≡_, sym, _∙_, ap}
 use mathlib.Core.List.{List}
-use lib.Dec.{lit<}
 use lib.ListN.{getD}
 use native.Mathlib.Decide.{decLe}
 use native.Mathlib.Omega.{arith}
 use Rattle.sheet.specs.Kind.{properties}
 use Rattle.sheet.specs.Entries.{count, entry, keyOf}
-use Rattle.sheet.specs.Rules.{Accepted, edition}
+use Rattle.sheet.specs.Rules.{Accepted}
 use Rattle.sheet.specs.Lookup.{objectAt, rank, nthOf}
 use Rattle.sheet.specs.Walk.{Counted, Lower}
 use Rattle.sheet.proofs.Good.{Good, good}
@@ -17,8 +16,8 @@ use Rattle.sheet.proofs.Keys.{key-is}
 use Rattle.sheet.proofs.Ranks.{id-below, object-rising, rank-is, rank-none, rank-along, rank-flat, nth-hit, nth-none}
 
 module _ (s : List ℕ) (ok : Accepted s) (bytes : (i : ℕ) → getD s i 0 < 256) (object a : ℕ) (low : Lower s properties (object * 256) a) where
-  g : Good edition s
-  g = good edition s ok
+  g : Good s
+  g = good s ok
 
   -- before the first property of the object, and from it on
   lesser : (j : ℕ) → j < a → objectAt s j < object

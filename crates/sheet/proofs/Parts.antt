@@ -12,13 +12,13 @@ use native.Mathlib.Nat.{add-sub-cancel-left}
 use native.Mathlib.Omega.{arith}
 use Rattle.sheet.specs.Kind.{kinds, OfKind}
 use Rattle.sheet.specs.Entries.{count, entry, offsetOf, lengthOf, bodyEnd}
-use Rattle.sheet.specs.Rules.{ruleOf, Accepted, edition, isAccepted}
+use Rattle.sheet.specs.Rules.{ruleOf, Accepted, isAccepted}
 use Rattle.sheet.specs.Lookup.{PartOf, StandsIn, bodyOf, bodyFrom, lookup, lookupFrom}
 use Rattle.sheet.specs.Walk.{Counted}
 use Rattle.sheet.proofs.ByKind.{kinded}
 use Rattle.sheet.proofs.Good.{good}
-use Rattle.sheet.proofs.Lie.{within}
-use Rattle.sheet.proofs.Seek.{body-end}
+use Rattle.sheet.proofs.BodyPlaces.{within}
+use Rattle.sheet.proofs.SearchLoops.{body-end}
 use Rattle.sheet.specs.declared.Part.{Part}
 
 module _ (s : List ℕ) where
@@ -72,7 +72,7 @@ part-in s k i p hk h =
     from :
         (a b : Bool) → (a ≡ true → Accepted s) → (b ≡ true → i < count s k) →
         cond a (cond b (offsetOf k (entry s k i)) 0) 0 ≤ length s
-    from true true e h = omega (arith, within (good edition s (e refl)) k i hk (h refl))
+    from true true e h = omega (arith, within (good s (e refl)) k i hk (h refl))
     from true false e h = omega arith
     from false b e h = omega arith
 

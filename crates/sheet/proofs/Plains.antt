@@ -11,8 +11,8 @@ use Rattle.sheet.specs.Entries.{count}
 use Rattle.sheet.specs.Rules.{frameDemands, zeroDemands, entryDemands, bodyDemands, endDemands, entryRule, bodyRule, entriesRule, bodiesRule, walkRule, ruleIn}
 use Rattle.sheet.specs.Plain.{S1, S2, S3, S4, S5, S6, S7, S8, S9, Judged, breaks1, breaks2, breaks3, breaks4, breaks5, breaks6, breaks7, breaks8, breaks9, none}
 use Rattle.sheet.proofs.First.{orElse-some, orElse-assoc, orElse-zero}
-use Rattle.sheet.proofs.Says.{Says, holds, fails, says-yes, says-no, says-map, says-and, says-all, says-rows, breach-append}
-use Rattle.sheet.proofs.Ties.{Bodies, to6, from6, to7, from7, to8, from8, to9, from9}
+use Rattle.sheet.proofs.Telling.{Says, holds, fails, says-yes, says-no, says-map, says-and, says-all, says-rows, breach-append}
+use Rattle.sheet.proofs.PlainRows.{Bodies, to6, from6, to7, from7, to8, from8, to9, from9}
 
 -- the first of a few numbers that is not 0
 abbrev firstOf : List ℕ → ℕ

@@ -8,15 +8,15 @@ use native.Mathlib.Decide.{decLt}
 use native.Mathlib.Omega.{arith}
 use Rattle.sheet.specs.Head as head
 use Rattle.sheet.specs.Entries.{contents}
-use Rattle.sheet.specs.Rules.{ruleIn}
+use Rattle.sheet.specs.Rules.{Accepted}
 use Rattle.sheet.specs.Places.{Position, inHead, inEntry, inBody, whichOf}
 use Rattle.sheet.proofs.Good.{Good, good}
-use Rattle.sheet.proofs.Lie.{after-contents, disjoint, some-body}
+use Rattle.sheet.proofs.BodyPlaces.{after-contents, disjoint, some-body}
 use Rattle.sheet.proofs.Standing.{after-head, place-in, one-entry, some-entry}
 
-module _ (ed : ℕ) {s : List ℕ} (ok : ruleIn ed s ≡ 0) (p : ℕ) where
-  g : Good ed s
-  g = good ed s ok
+module _ {s : List ℕ} (ok : Accepted s) (p : ℕ) where
+  g : Good s
+  g = good s ok
 
   -- EVERY POSITION IS ONE OF THESE
   pub position : p < length s → Position s p

@@ -20,7 +20,7 @@ use Rattle.sheet.proofs.Good.{Good}
 use Rattle.sheet.proofs.Keys.{key-is, key-rising}
 use Rattle.sheet.proofs.Rising.{rising}
 use Rattle.sheet.proofs.Standing.{field-at}
-use Rattle.sheet.proofs.Seeks.{seek-bound, seek-passes, seek-hit, seek-none}
+use Rattle.sheet.proofs.FrontSearch.{seek-bound, seek-passes, seek-hit, seek-none}
 
 module _ (s : List ℕ) (object : ℕ) where
   -- one more property, of the object, and of another
@@ -106,7 +106,7 @@ module _ (s : List ℕ) (object : ℕ) where
       ∙ rank-skip (a + n) (f (a + n) (omega arith) (omega arith))
       ∙ rank-flat a n (λ j h l. f j h (omega arith))
 
-module _ {ed : ℕ} {s : List ℕ} (g : Good ed s) (bytes : (i : ℕ) → getD s i 0 < 256) where
+module _ {s : List ℕ} (g : Good s) (bytes : (i : ℕ) → getD s i 0 < 256) where
   pub id-below : (i : ℕ) → property.id of entry s properties i < 256
   id-below i =
       omega

@@ -1,6 +1,6 @@
 -- The run of bytes that an address range is: all of it stands in one region's body.
 -- Assumes nothing.
-use Prim.Native.Nat.{ℕ, _+_, _-_, _/_, _%_, _<_, _≤_}
+use Prim.Native.Nat.{ℕ, _+_, _-_, _<_, _≤_}
 use mathlib.Core.Path.{_≡_, refl, sym, _∙_, ap}
 use mathlib.Core.List.{List}
 use mathlib.Core.Bool.{Bool, true, false, cond, and-eq-true-iff}
@@ -13,19 +13,19 @@ use Rattle.octets.specs.Splice.{splice}
 use Rattle.sheet.specs.Kind.{regions, properties, groups, kindOf}
 use Rattle.sheet.specs.Layout.{_of_}
 use Rattle.sheet.specs.Region as region
-use Rattle.sheet.specs.Entries.{count, entry, keyOf, floor, bodyAt, bodyEnd, InBody}
+use Rattle.sheet.specs.Entries.{count, keyOf, floor, bodyAt, bodyEnd, InBody}
 use Rattle.sheet.specs.Lookup.{seek, covers, runIn, rangeOf}
 use Rattle.sheet.specs.Places.{regionAt, Stands, Ranged}
 use Rattle.sheet.specs.Frame.{Agree}
-use Rattle.sheet.specs.Rules.{ruleIn}
+use Rattle.sheet.specs.Rules.{Accepted}
 use Rattle.sheet.specs.Stores.{Inside}
 use Rattle.sheet.specs.declared.Memory.{Memory}
 use Rattle.sheet.specs.declared.Memory.the-variants.{Device}
 use Rattle.sheet.specs.declared.Run.the-variants.{At, Nowhere}
 use Rattle.sheet.proofs.Good.{Good, good, accepted}
 use Rattle.sheet.proofs.Keys.{past-floor}
-use Rattle.sheet.proofs.Lie.{inside-within, inside-at, disjoint}
-use Rattle.sheet.proofs.Seeks.{seek-passes, seek-hit, seek-none}
+use Rattle.sheet.proofs.BodyPlaces.{inside-within, inside-at, disjoint}
+use Rattle.sheet.proofs.FrontSearch.{seek-passes, seek-hit, seek-none}
 use Rattle.sheet.proofs.Stores.{body-store}
 
 -- the n addresses from a on lie in region i of a memory
@@ -81,33 +81,9 @@ module _ (s : List ℕ) (m : Memory) (a n : ℕ) where
       rw (e, le-ltb (count s (kindOf m)) (count s (kindOf m)) (omega arith))
 
 module _ {s : List ℕ} {m : Memory} {a n o l : ℕ} (r : Ranged s m a n o l) where
-  -- EVERY ADDRESS OF A RANGE STANDS IN ITS PLACE, under levels that give no less than the range's
-  pub record Byte (j : ℕ) : Type 0 where
-    pub levels : ℕ
-    pub stands : Stands s m (a + j) (o + j) levels
-    pub read : l / 16 ≤ levels / 16
-    pub write : l % 16 ≤ levels % 16
-
-  pub range-byte : (j : ℕ) → j < n → Byte j
+  -- EVERY ADDRESS OF A RANGE STANDS IN ITS PLACE
+  pub range-byte : (j : ℕ) → j < n → Stands s m (a + j) (o + j) l
   range-byte j h =
-      record {
-        levels = l;
-        stands =
-            record {
-              index = r .index;
-              below = r .below;
-              from = omega (arith, r .from);
-              to = omega (arith, r .to);
-              here = omega (arith, r .from, r .here);
-              under = r .under;
-            };
-        read = omega arith;
-        write = omega arith;
-      }
-
-  -- the first of them, as an address on its own, and a part of a range as a range
-  pub range-part : (j k : ℕ) → j + k ≤ n → Ranged s m (a + j) k (o + j) l
-  range-part j k h =
       record {
         index = r .index;
         below = r .below;
@@ -132,7 +108,7 @@ in-body : (s : List ℕ) (m : Memory) (i p n : ℕ) → i < count s (kindOf m) �
 unfolding bodyAt bodyEnd
 in-body s Device i p n h f t = record { kind = omega arith; below = h; from = f; to = t }
 
-module _ {ed : ℕ} {s : List ℕ} (g : Good ed s) where
+module _ {s : List ℕ} (g : Good s) where
   -- a region ends before a later one of its memory begins
   pub regions-apart :
       (m : Memory) (i j : ℕ) → i < j → j < count s (kindOf m) →
@@ -182,7 +158,7 @@ module _ {ed : ℕ} {s : List ℕ} (g : Good ed s) where
     -- A STORE OF ITS BYTES KEEPS THE SHEET ACCEPTED
     pub range-store : (ds : List ℕ) → length ds ≡ n → Agree s (splice s o ds)
     range-store ds e =
-        body-store ed (accepted g) (kindOf m) (r .index) o ds (rw e range-inside) (λ q. absurd (no-group m q))
+        body-store (accepted g) (kindOf m) (r .index) o ds (rw e range-inside) (λ q. absurd (no-group m q))
 
   -- an address that stands somewhere stands in a body
   pub stands-in : {m : Memory} {y p l : ℕ} (h : Stands s m y p l) → InBody s (kindOf m) (h .index) p
@@ -199,9 +175,9 @@ module _ {ed : ℕ} {s : List ℕ} (g : Good ed s) where
 
 -- AN ADDRESS OF A MEMORY STANDS AT ONE PLACE AT MOST
 pub stands-once :
-    (ed : ℕ) {s : List ℕ} → ruleIn ed s ≡ 0 → {m : Memory} {y p p′ l l′ : ℕ} → Stands s m y p l → Stands s m y p′ l′ → (p ≡ p′) × (l ≡ l′)
-stands-once ed {s} ok {m} {y} a b =
-    let e : a .index ≡ b .index = region-once (good ed s ok) m (a .index) (b .index) y
+    {s : List ℕ} → Accepted s → {m : Memory} {y p p′ l l′ : ℕ} → Stands s m y p l → Stands s m y p′ l′ → (p ≡ p′) × (l ≡ l′)
+stands-once {s} ok {m} {y} a b =
+    let e : a .index ≡ b .index = region-once (good s ok) m (a .index) (b .index) y
     (record { below = a .below; from = a .from; to = omega (arith, a) })
     (record { below = b .below; from = b .from; to = omega (arith, b) }) in
     (a .here ∙ ap (λ (i : ℕ). region.offset of regionAt s m i + (y - region.address of regionAt s m i)) e ∙ sym (b .here), a .under ∙ ap (λ (i : ℕ). region.levels of regionAt s m i) e ∙ sym (b .under))

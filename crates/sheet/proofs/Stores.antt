@@ -18,17 +18,17 @@ use Rattle.sheet.specs.Property as property
 use Rattle.sheet.specs.Group as group
 use Rattle.sheet.specs.Entries.{count, place, contents, entry, bodyAt, InBody}
 use Rattle.sheet.specs.Frame.{Agree}
-use Rattle.sheet.specs.Rules.{ruleIn}
+use Rattle.sheet.specs.Rules.{Accepted}
 use Rattle.sheet.specs.Stores.{Inside, Fit, countAt}
 use Rattle.sheet.proofs.Good.{Good, good}
-use Rattle.sheet.proofs.Lie.{inside-at, inside-within, after-contents, disjoint, end-is}
-use Rattle.sheet.proofs.Mild.{mild, count-stood, six-stood}
+use Rattle.sheet.proofs.BodyPlaces.{inside-at, inside-within, after-contents, disjoint, end-is}
+use Rattle.sheet.proofs.Sparing.{mild, count-stood, six-stood}
 use Rattle.sheet.proofs.Standing.{after-head, place-in}
 
 -- A STORE INSIDE ONE BODY
 pub body-store :
-    (ed : ℕ) {s : List ℕ} → ruleIn ed s ≡ 0 → (k i o : ℕ) (ds : List ℕ) → Inside s k i o (length ds) → Fit s k i ds → Agree s (splice s o ds)
-body-store ed {s} ok k i o ds inside fit =
+    {s : List ℕ} → Accepted s → (k i o : ℕ) (ds : List ℕ) → Inside s k i o (length ds) → Fit s k i ds → Agree s (splice s o ds)
+body-store {s} ok k i o ds inside fit =
     mild g
     (record {
       long = length-splice s o ds room;
@@ -43,8 +43,8 @@ body-store ed {s} ok k i o ds inside fit =
       six = λ j h c. six j h c (decLt (bodyAt s groups j) o) (decLt (bodyAt s groups j) (o + length ds));
     })
   where
-    g : Good ed s
-    g = good ed s ok
+    g : Good s
+    g = good s ok
 
     room : o + length ds ≤ length s
     room = inside-within g inside
@@ -78,9 +78,9 @@ body-store ed {s} ok k i o ds inside fit =
 
 -- a store to the head that misses what the rules read there, but for the flags
 head-store :
-    {ed : ℕ} {s : List ℕ} → Good ed s → (o : ℕ) (ds : List ℕ) → head.serial .at ≤ o → o + length ds ≤ head.zero30 .at →
+    {s : List ℕ} → Good s → (o : ℕ) (ds : List ℕ) → head.serial .at ≤ o → o + length ds ≤ head.zero30 .at →
     (head.address .at ≤ o) ⊎ (o + length ds ≤ head.zero15 .at) → head.flags of splice s o ds ≤ 3 → Agree s (splice s o ds)
-head-store {ed} {s} g o ds low high miss flags =
+head-store {s} g o ds low high miss flags =
     mild g
     (record {
       long = length-splice s o ds room;
@@ -99,9 +99,9 @@ head-store {ed} {s} g o ds low high miss flags =
     room : o + length ds ≤ length s
     room = omega (arith, g .framed)
 
-module _ (ed : ℕ) {s : List ℕ} (ok : ruleIn ed s ≡ 0) where
-  g : Good ed s
-  g = good ed s ok
+module _ {s : List ℕ} (ok : Accepted s) where
+  g : Good s
+  g = good s ok
 
   -- a store after the flags
   later-store : (o : ℕ) (ds : List ℕ) → head.address .at ≤ o → o + length ds ≤ head.zero30 .at → Agree s (splice s o ds)

@@ -1,7 +1,7 @@
 -- A value lookup hands back the whole body of the entry that is asked for, and else nothing.
 -- Assumes nothing.
 use Prim.Native.Nat.{ℕ, _+_, _*_, _<_, _≤_}
-use mathlib.Core.Path.{_≡_, refl, sym, subst⁻¹, _∙_}
+use mathlib.Core.Path.{_≡_, refl, sym, _∙_}
 use mathlib.Core.List.{List, []}
 use lib.ListN.{length, getD, take, drop, length-take, length-drop}
 use lib.Seq.{getD-take, getD-drop}
@@ -12,13 +12,13 @@ use Rattle.octets.proofs.Numbers.{num-below}
 use Rattle.sheet.specs.Kind.{kinds, regions, properties, groups}
 use Rattle.sheet.specs.Property as property
 use Rattle.sheet.specs.Entries.{count, place, entry, keyOf, offsetOf, lengthOf, bodyAt, bodyEnd}
-use Rattle.sheet.specs.Rules.{ruleOf, Accepted, edition, isAccepted}
+use Rattle.sheet.specs.Rules.{ruleOf, Accepted, isAccepted}
 use Rattle.sheet.specs.Lookup.{indexOf, bodyOf, bodyFrom, lookup, lookupFrom, regionOf, regionFrom, propertyOf, propertyFrom, groupOf, groupFrom}
 use Rattle.sheet.specs.Places.{PropertyWith}
 use Rattle.sheet.specs.Values.{IsBody, RegionWith, GroupWith, Handed, body, nothing, unaccepted}
 use Rattle.sheet.proofs.Good.{good}
 use Rattle.sheet.proofs.Keys.{index-hit, index-key, key-is, key-parts}
-use Rattle.sheet.proofs.Lie.{within}
+use Rattle.sheet.proofs.BodyPlaces.{within}
 use Rattle.sheet.proofs.Standing.{field-at}
 
 module _ (s : List ℕ) (k i : ℕ) where
@@ -59,7 +59,7 @@ module _ (s : List ℕ) (k i : ℕ) where
       go (no h) (yes l) =
           let ok : Accepted s = omega arith in
           let e = there ok l in
-          rw (e .0, e .1) (body i ok (is ok l) (λ j a. only ok j a .1) (cut-is (within (good edition s ok) k i hk l)))
+          rw (e .0, e .1) (body i ok (is ok l) (λ j a. only ok j a .1) (cut-is (within (good s ok) k i hk l)))
       go (no h) (no l) =
           let ok : Accepted s = omega arith in
           let e = missing ok (omega arith) in
@@ -78,7 +78,7 @@ module _ (s : List ℕ) where
   group-handed address =
       handed s groups (indexOf s groups address) (GroupWith s address) (omega arith)
       (λ ok h. record { there = h; sameAddress = index-key s groups address h })
-      (λ ok j a. (a .there, sym (index-hit edition s ok groups (omega arith) j address (a .there) (a .sameAddress))))
+      (λ ok j a. (a .there, sym (index-hit s ok groups (omega arith) j address (a .there) (a .sameAddress))))
 
   -- a property by a number that holds its object and id
   by-number :
@@ -87,7 +87,7 @@ module _ (s : List ℕ) where
   unfolding keyOf
   by-number x object id bytes low e =
       handed s properties (indexOf s properties x) (PropertyWith s object id) (omega arith) found
-      (λ ok j a. (a .there, sym (index-hit edition s ok properties (omega arith) j x (a .there) (omega (arith, key-is (entry s properties j), a .sameObject, a .sameId)))))
+      (λ ok j a. (a .there, sym (index-hit s ok properties (omega arith) j x (a .there) (omega (arith, key-is (entry s properties j), a .sameObject, a .sameId)))))
     where
       found : Accepted s → indexOf s properties x < count s properties → PropertyWith s object id (indexOf s properties x)
       found ok h =

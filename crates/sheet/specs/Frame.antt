@@ -5,7 +5,6 @@ use mathlib.Core.Path.{_≡_}
 use mathlib.Core.List.{List}
 use lib.ListN.{length, getD}
 use Rattle.octets.specs.Bytes.{numAt}
-use Rattle.sheet.specs.Rules.{edition}
 use Rattle.sheet.specs.Kind.{kinds, properties, groups}
 use Rattle.sheet.specs.Layout.{_of_}
 use Rattle.sheet.specs.Head as head

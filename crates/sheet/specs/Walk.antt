@@ -1,16 +1,15 @@
 -- What calls of this crate promise one another on the walk over a sheet.
 -- Assumes nothing.
-use Prim.Native.Nat.{ℕ, _≤_, _<_}
+use Prim.Native.Nat.{ℕ, _+_, _-_, _≤_, _<_}
 use mathlib.Core.Path.{_≡_}
 use mathlib.Core.List.{List}
 use lib.ListN.{length}
 use Rattle.sheet.specs.Demand.{Demand, Met, Tells}
-use Rattle.sheet.specs.Kind.{kinds, kindOf, OfKind}
-use Rattle.sheet.specs.Entries.{count, size, entry, keyOf, offsetOf, lengthOf}
-use Rattle.sheet.specs.Rules.{frameDemands, edition}
+use Rattle.sheet.specs.Kind.{kinds, kindOf, byKind, OfKind}
+use Rattle.sheet.specs.Entries.{count, size, place, entry, keyOf, floor, offsetOf, lengthOf, sixBits}
+use Rattle.sheet.specs.Rules.{frameDemands, entryDemands, bodyRows, edition}
 use Rattle.sheet.specs.declared.Memory.{Memory}
 use Rattle.sheet.specs.declared.judge.Verdict.{Verdict}
-use Rattle.sheet.specs.declared.judge.Laid.{Laid}
 use Rattle.sheet.specs.Region as region
 
 -- S1 to S4 of an edition hold
@@ -59,13 +58,35 @@ pub record Long (k : ℕ) (e : List ℕ) (r : ℕ) : Type 0 where
   pub is : OfKind r k (lengthOf 0 e) (lengthOf 1 e) (lengthOf 2 e)
   pub below : r < 16777216
 
--- the first rule that some rows break, and n
-pub record VerdictOf (ds : List Demand) (n : ℕ) (r : Verdict) : Type 0 where
-  pub rule : Tells (r .rule) ds
-  pub next : r .next ≡ n
+-- what the next entry is judged against, its first word being at least f: a region by f, another by the one before f
+abbrev pub lastOf : ℕ → ℕ → ℕ
+lastOf k f = byKind k f (f - 1) (f - 1)
 
--- whether some rows hold, told by 0, and n
-pub record Lies (ds : List Demand) (n : ℕ) (r : Laid) : Type 0 where
-  pub even : r .odd ≡ 0 → Met ds
-  pub met : Met ds → r .odd ≡ 0
-  pub next : r .next ≡ n
+-- no body is so long, and no walk comes so far
+abbrev pub long : ℕ
+long = 16777216
+
+abbrev pub far : ℕ
+far = 1099511627776
+
+-- r is 0 exactly if `late` is and S9 holds of a body that starts at `from`
+pub record Late (late from z six r : ℕ) : Type 0 where
+  pub even : r ≡ 0 → (late ≡ 0) × Met (bodyRows from z six)
+  pub met : late ≡ 0 → Met (bodyRows from z six) → r ≡ 0
+
+-- what a step leaves behind an entry with a body of n bytes: p, l, what is late, and where the body is to end
+pub record Next (l late from z six n p : ℕ) (r : Verdict) : Type 0 where
+  pub at : r .at ≡ p
+  pub last : r .last ≡ l
+  pub kept : Late late from z six (r .late)
+  pub end : r .end ≡ z + n
+  pub short : n < long
+
+-- the first rule that some rows break, and if they break none, what is left
+pub record VerdictOf (ds : List Demand) (l late from z six n p : ℕ) (r : Verdict) : Type 0 where
+  pub rule : Tells (r .rule) ds
+  pub next : r .rule ≡ 0 → Next l late from z six n p r
+
+-- the same of entry i of kind k
+pub record Steps (s : List ℕ) (k i z late : ℕ) (r : Verdict) : Type 0 where
+  pub is : VerdictOf (entryDemands s k i) (lastOf k (floor s k (i + 1))) late (offsetOf k (entry s k i)) z (sixBits s k (entry s k i)) (lengthOf k (entry s k i)) (place s k (i + 1)) r

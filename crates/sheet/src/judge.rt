@@ -1,34 +1,39 @@
-// S6 to S8 of one entry, and S9 of one body.
+// S6 to S8 of one entry, and S9 of its body.
 ghost use mathlib.Core.Path.{_≡_};
-ghost use Prim.Native.Nat.{_+_, _≤_};
+ghost use Prim.Native.Nat.{_+_, _≤_, _<_};
 ghost use lib.ListN.{length};
-ghost use Rattle.sheet.specs.Demand.{Met, Tells};
+ghost use Rattle.sheet.specs.Demand.{Tells};
 ghost use Rattle.sheet.specs.Kind.{regions, properties, groups};
 ghost use Rattle.sheet.specs.Entries.{floorAfter, offsetOf, lengthOf, sixBits};
-ghost use Rattle.sheet.specs.Rules.{regionDemands, propertyDemands, groupDemands, bodyRows};
-ghost use Rattle.sheet.specs.Walk.{Sized, VerdictOf, Lies};
+ghost use Rattle.sheet.specs.Rules.{regionDemands, propertyDemands, groupDemands};
+ghost use Rattle.sheet.specs.Walk.{Late, VerdictOf, lastOf, far};
 ghost use Rattle.sheet.specs.Region as region;
 ghost use Rattle.sheet.specs.Property as property;
 ghost use Rattle.sheet.specs.Group as group;
 use crate::layout::group;
-use crate::layout::kind;
 use crate::layout::property;
 use crate::layout::region;
-use crate::table::length;
-use crate::table::offset;
+use crate::table::elements;
 use octets::byte;
 use octets::word;
+use std::num::wrapping_sub_usize;
 
-// The rule that a step of the walk breaks, or 0, and what the step after it is judged against.
+// The rule that an entry breaks, or 0. If 0: where the next entry stands, what it is judged against, what is late, and where the
+// body is to end.
 pub struct Verdict {
     pub rule: u8,
-    pub next: usize,
+    pub at: usize,
+    pub last: usize,
+    pub late: usize,
+    pub end: usize,
 }
 
-// How a body lies: 0 if it meets S9, else another number; and where the body after it is to start.
-pub struct Laid {
-    pub odd: usize,
-    pub next: usize,
+// S9, of a body that starts at `from` where the one before ended at z, six being its byte if it is to be below 64: what differs,
+// with what is late already. 0 if nothing is.
+fn late_of(late: usize, from: usize, z: usize, six: usize) -> usize
+    ensures { λ r. ⌜ Late late from z six r ⌝ }
+{
+    late | (from ^ z) | (six / 64)
 }
 
 // S6, of a region whose address is to be at least `floor`.
@@ -60,42 +65,52 @@ fn region_rule(floor: usize, e: &[u8]) -> u8
     0
 }
 
-// The same, and the least address that the next may have.
-pub fn region_step(floor: usize, e: &[u8]) -> Verdict
-    requires { ⌜ region.size ≤ length (now e) ⌝ }
-    ensures { λ r. ⌜ VerdictOf (regionDemands floor (now (e .entry))) (floorAfter regions (now (e .entry))) r ⌝ }
+// The same, and if it breaks nothing, S9 of its body.
+pub fn region_step(at: usize, floor: usize, z: usize, late: usize, e: &[u8]) -> Verdict
+    requires { ⌜ (region.size ≤ length (now e)) × (at < far) × (z < far) ⌝ }
+    ensures { λ r. ⌜ VerdictOf (regionDemands floor (now (e .entry))) (floorAfter regions (now (e .entry))) late (offsetOf regions (now (e .entry))) z 0 (lengthOf regions (now (e .entry))) (at + region.size) r ⌝ }
 {
+    let rule = region_rule(floor, e);
+    if rule != 0 {
+        return Verdict {
+            rule,
+            at,
+            last: floor,
+            late,
+            end: z,
+        };
+    }
+    let address = word(e, region::ADDRESS);
+    let long = word(e, region::LENGTH);
     Verdict {
-        rule: region_rule(floor, e),
-        next: word(e, region::ADDRESS) + word(e, region::LENGTH),
+        rule,
+        at: at + region::SIZE,
+        last: address + long,
+        late: late_of(late, word(e, region::OFFSET), z, 0),
+        end: z + long,
     }
 }
 
-// S7, of a property whose object and id, as one number, are to be at least `floor`.
-fn property_rule(floor: usize, e: &[u8]) -> u8
+// S7, of a property whose object and id, as one number, are to be above `last`. One less wraps at 0, so that one test has both
+// limits of a number.
+fn property_rule(last: usize, e: &[u8]) -> u8
     requires { ⌜ property.size ≤ length (now e) ⌝ }
-    ensures { λ r. ⌜ Tells r (propertyDemands floor (now (e .entry))) ⌝ }
+    ensures { λ r. ⌜ Tells r (propertyDemands (last + 1) (now (e .entry))) ⌝ }
 {
+    let maximum = word(e, property::MAXIMUM);
     if byte(e, property::ID) < 1 {
         return 7;
     }
-    if word(e, property::OBJECT_ID) < floor {
+    if word(e, property::OBJECT_ID) <= last {
         return 7;
     }
     if byte(e, property::TYPE) / 64 % 2 != 0 {
         return 7;
     }
-    if byte(e, property::ELEMENT) < 1 {
+    if 10 <= wrapping_sub_usize(byte(e, property::ELEMENT), 1) {
         return 7;
     }
-    if 10 < byte(e, property::ELEMENT) {
-        return 7;
-    }
-    let maximum = word(e, property::MAXIMUM);
-    if maximum < 1 {
-        return 7;
-    }
-    if 4095 < maximum {
+    if 4095 <= wrapping_sub_usize(maximum, 1) {
         return 7;
     }
     if maximum < word(e, property::COUNT) {
@@ -113,27 +128,38 @@ fn property_rule(floor: usize, e: &[u8]) -> u8
     0
 }
 
-// The same, and the least object and id that the next may have.
-pub fn property_step(floor: usize, e: &[u8]) -> Verdict
-    requires { ⌜ property.size ≤ length (now e) ⌝ }
-    ensures { λ r. ⌜ VerdictOf (propertyDemands floor (now (e .entry))) (floorAfter properties (now (e .entry))) r ⌝ }
+// The same, and if it breaks nothing, S9 of its body.
+pub fn property_step(at: usize, last: usize, z: usize, late: usize, e: &[u8]) -> Verdict
+    requires { ⌜ (property.size ≤ length (now e)) × (at < far) × (z < far) ⌝ }
+    ensures { λ r. ⌜ VerdictOf (propertyDemands (last + 1) (now (e .entry))) (lastOf properties (floorAfter properties (now (e .entry)))) late (offsetOf properties (now (e .entry))) z 0 (lengthOf properties (now (e .entry))) (at + property.size) r ⌝ }
 {
+    let rule = property_rule(last, e);
+    if rule != 0 {
+        return Verdict {
+            rule,
+            at,
+            last,
+            late,
+            end: z,
+        };
+    }
+    let long = elements(e);
     Verdict {
-        rule: property_rule(floor, e),
-        next: word(e, property::OBJECT_ID) + 1,
+        rule,
+        at: at + property::SIZE,
+        last: word(e, property::OBJECT_ID),
+        late: late_of(late, word(e, property::OFFSET), z, 0),
+        end: z + long,
     }
 }
 
-// S8, of a group object whose address is to be at least `floor`.
-fn group_rule(floor: usize, e: &[u8]) -> u8
+// S8, of a group object whose address is to be above `last`, and so not 0.
+fn group_rule(last: usize, e: &[u8]) -> u8
     requires { ⌜ group.size ≤ length (now e) ⌝ }
-    ensures { λ r. ⌜ Tells r (groupDemands floor (now (e .entry))) ⌝ }
+    ensures { λ r. ⌜ Tells r (groupDemands (last + 1) (now (e .entry))) ⌝ }
 {
     let address = word(e, group::ADDRESS);
-    if address < 1 {
-        return 8;
-    }
-    if address < floor {
+    if address <= last {
         return 8;
     }
     if 14 < byte(e, group::CODE) {
@@ -148,46 +174,38 @@ fn group_rule(floor: usize, e: &[u8]) -> u8
     0
 }
 
-// The same, and the least address that the next may have.
-pub fn group_step(floor: usize, e: &[u8]) -> Verdict
-    requires { ⌜ group.size ≤ length (now e) ⌝ }
-    ensures { λ r. ⌜ VerdictOf (groupDemands floor (now (e .entry))) (floorAfter groups (now (e .entry))) r ⌝ }
+// The same, and if it breaks nothing, S9 of its body.
+pub fn group_step(s: &[u8], at: usize, last: usize, z: usize, late: usize, e: &[u8]) -> Verdict
+    requires { ⌜ (group.size ≤ length (now e)) × (at < far) × (z < far) ⌝ }
+    ensures { λ r. ⌜ VerdictOf (groupDemands (last + 1) (now (e .entry))) (lastOf groups (floorAfter groups (now (e .entry)))) late (offsetOf groups (now (e .entry))) z (sixBits (now (s .entry)) groups (now (e .entry))) (lengthOf groups (now (e .entry))) (at + group.size) r ⌝ }
 {
+    let rule = group_rule(last, e);
+    if rule != 0 {
+        return Verdict {
+            rule,
+            at,
+            last,
+            late,
+            end: z,
+        };
+    }
+    let address = word(e, group::ADDRESS);
+    let code = byte(e, group::CODE);
+    let from = word(e, group::OFFSET);
+    if 1 <= code {
+        return Verdict {
+            rule,
+            at: at + group::SIZE,
+            last: address,
+            late: late_of(late, from, z, 0),
+            end: z + code,
+        };
+    }
     Verdict {
-        rule: group_rule(floor, e),
-        next: word(e, group::ADDRESS) + 1,
-    }
-}
-
-// The byte of a code-0 group object; 0 for any other entry.
-fn six_bits(s: &[u8], k: usize, e: &[u8]) -> usize
-    requires { ⌜ group.size ≤ length (now e) ⌝ }
-    ensures { λ r. ⌜ r ≡ sixBits (now (s .entry)) k (now (e .entry)) ⌝ }
-{
-    if k < kind::GROUPS {
-        return 0;
-    }
-    if 1 <= byte(e, group::CODE) {
-        return 0;
-    }
-    byte(s, word(e, group::OFFSET))
-}
-
-// S9, of a body that starts at `from` where the one before ended at z: what differs, and 0 if nothing does.
-fn odd(from: usize, z: usize, six: usize) -> usize
-    ensures { λ r. ⌜ (r ≡ 0 → Met (bodyRows from z six)) × (Met (bodyRows from z six) → r ≡ 0) ⌝ }
-{
-    (from ^ z) | (six / 64)
-}
-
-// S9, of the body of an entry e of a kind where the one before ended at z, and where the body ends.
-pub fn body_of(s: &[u8], k: usize, z: usize, e: &[u8]) -> Laid
-    requires { ⌜ Sized k (now e) ⌝ }
-    ensures { λ r. ⌜ Lies (bodyRows (offsetOf k (now (e .entry))) z (sixBits (now (s .entry)) k (now (e .entry)))) (offsetOf k (now (e .entry)) + lengthOf k (now (e .entry))) r ⌝ }
-{
-    let from = offset(k, e);
-    Laid {
-        odd: odd(from, z, six_bits(s, k, e)),
-        next: from + length(k, e),
+        rule,
+        at: at + group::SIZE,
+        last: address,
+        late: late_of(late, from, z, byte(s, from)),
+        end: z + 1,
     }
 }

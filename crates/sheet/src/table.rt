@@ -60,14 +60,21 @@ pub fn contents(s: &[u8]) -> usize
         + group::SIZE * byte(s, head::GROUPS)
 }
 
-// Entry i of a kind, as the part of the sheet that it is.
+// Entry i of a kind, as the part of the sheet that it is: it stands at a.
+pub fn part(s: &[u8], k: usize, i: usize, a: usize) -> &[u8]
+    requires { ⌜ Entry (now s) k i × (a ≡ placeOf (now s) k i) ⌝ }
+    ensures { λ r. ⌜ Shown (now (s .entry)) k i (now r) ⌝ }
+{
+    let z = a + size(k);
+    &s[a..z]
+}
+
+// The same, wherever it stands.
 pub fn entry(s: &[u8], k: usize, i: usize) -> &[u8]
     requires { ⌜ Entry (now s) k i ⌝ }
     ensures { λ r. ⌜ Shown (now (s .entry)) k i (now r) ⌝ }
 {
-    let a = place(s, k, i);
-    let z = a + size(k);
-    &s[a..z]
+    part(s, k, i, place(s, k, i))
 }
 
 // Where the body of an entry starts.
@@ -95,7 +102,7 @@ pub fn length(k: usize, e: &[u8]) -> usize
 }
 
 // The elements of a property.
-fn elements(e: &[u8]) -> usize
+pub fn elements(e: &[u8]) -> usize
     requires { ⌜ property.maximum .at + 1 < length (now e) ⌝ }
     ensures { λ r. ⌜ (r ≡ property.element of now (e .entry) * property.maximum of now (e .entry)) × (r < 16777216) ⌝ }
 {

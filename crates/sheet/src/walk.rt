@@ -1,52 +1,38 @@
 // S6 to S9: the walk over the entries and their bodies, that stops at the first rule broken.
 ghost use mathlib.Core.Path.{_≡_};
-ghost use Prim.Native.Nat.{_+_};
+ghost use Prim.Native.Nat.{_<_};
 ghost use Rattle.sheet.specs.Demand.{Tells};
 ghost use Rattle.sheet.specs.Kind.{kinds};
-ghost use Rattle.sheet.specs.Entries.{floor as floorOf, reached, startOf};
-ghost use Rattle.sheet.specs.Rules.{entryDemands, bodyDemands, endDemands, walkRule, ruleOf, edition};
-ghost use Rattle.sheet.specs.Walk.{Framed, Entry, VerdictOf, Lies};
+ghost use Rattle.sheet.specs.Entries.{place, floor, startOf};
+ghost use Rattle.sheet.specs.Rules.{endDemands, walkRule, ruleOf, edition};
+ghost use Rattle.sheet.specs.Walk.{Framed, Entry, Steps, lastOf, far};
 use crate::frame::frame_rule;
 use crate::frame::zero_rule;
-use crate::judge::Laid;
 use crate::judge::Verdict;
-use crate::judge::body_of;
 use crate::judge::group_step;
 use crate::judge::property_step;
 use crate::judge::region_step;
+use crate::layout::head;
 use crate::layout::kind;
 use crate::table::contents;
-use crate::table::entry;
 use crate::table::many;
+use crate::table::part;
 
-// S6, S7 or S8 of entry i of a kind, and the floor of the next. An arm for each kind, so that each is compiled by itself.
-fn entry_step(s: &[u8], k: usize, i: usize, floor: usize) -> Verdict
-    requires { ⌜ Entry (now s) k i × (floor ≡ floorOf (now s) k i) ⌝ }
-    ensures { λ r. ⌜ VerdictOf (entryDemands (now (s .entry)) k i) (floorOf (now (s .entry)) k (i + 1)) r ⌝ }
+// S6, S7 or S8 of entry i of a kind, and S9 of its body. An arm for each kind, so that each is compiled by itself.
+fn step(s: &[u8], k: usize, i: usize, at: usize, last: usize, z: usize, late: usize) -> Verdict
+    requires { ⌜ Entry (now s) k i × (at ≡ place (now s) k i) × (last ≡ lastOf k (floor (now s) k i)) × (z < far) ⌝ }
+    ensures { λ r. ⌜ Steps (now (s .entry)) k i z late r ⌝ }
 {
     match k {
-        kind::REGIONS => region_step(floor, entry(s, kind::REGIONS, i)),
-        kind::PROPERTIES => property_step(floor, entry(s, kind::PROPERTIES, i)),
-        _ => group_step(floor, entry(s, kind::GROUPS, i)),
-    }
-}
-
-// S9 of its body, and where the body ends.
-fn body_step(s: &[u8], k: usize, i: usize, z: usize) -> Laid
-    requires { ⌜ Entry (now s) k i × (z ≡ reached (now s) k i) ⌝ }
-    ensures { λ r. ⌜ Lies (bodyDemands (now (s .entry)) k i) (reached (now (s .entry)) k (i + 1)) r ⌝ }
-{
-    match k {
-        kind::REGIONS => body_of(s, kind::REGIONS, z, entry(s, kind::REGIONS, i)),
-        kind::PROPERTIES => body_of(s, kind::PROPERTIES, z, entry(s, kind::PROPERTIES, i)),
-        _ => body_of(s, kind::GROUPS, z, entry(s, kind::GROUPS, i)),
+        kind::REGIONS => region_step(at, last, z, late, part(s, kind::REGIONS, i, at)),
+        kind::PROPERTIES => property_step(at, last, z, late, part(s, kind::PROPERTIES, i, at)),
+        _ => group_step(s, at, last, z, late, part(s, kind::GROUPS, i, at)),
     }
 }
 
 // S9, of all bodies, the last of which ends at z.
 fn end_rule(s: &[u8], z: usize, late: usize) -> u8
-    requires { ⌜ z ≡ startOf (now s) kinds ⌝ }
-    ensures { λ r. ⌜ ((late ≡ 0 → ⊥) → r ≡ 9) × (late ≡ 0 → Tells r (endDemands (now (s .entry)))) ⌝ }
+    ensures { λ r. ⌜ ((late ≡ 0 → ⊥) → r ≡ 9) × (late ≡ 0 → z ≡ startOf (now (s .entry)) kinds → Tells r (endDemands (now (s .entry)))) ⌝ }
 {
     if late != 0 {
         return 9;
@@ -54,12 +40,14 @@ fn end_rule(s: &[u8], z: usize, late: usize) -> u8
     if z == s.len() { 0 } else { 9 }
 }
 
-// S6 to S9, each entry with its body in one go: that a body is odd counts once all entries have passed.
+// S6 to S9, each entry with its body in one go: that a body breaks S9 counts once all entries have passed. A body's end is that
+// of the one before and its length, and stands where the sheet says as long as nothing is late.
 fn walk(s: &[u8]) -> u8
     requires { ⌜ Framed edition (now s) ⌝ }
     ensures { λ r. ⌜ r ≡ walkRule (now (s .entry)) ⌝ }
 {
     let mut k = 0;
+    let mut at = head::SIZE;
     let mut z = contents(s);
     let mut late = 0;
     'walk: loop {
@@ -68,34 +56,42 @@ fn walk(s: &[u8]) -> u8
         }
         let n = many(s, k);
         let mut i = 0;
-        let mut floor = 0;
+        let mut last = 0;
         while i < n {
-            let judged = entry_step(s, k, i, floor);
+            let judged = step(s, k, i, at, last, z, late);
             let rule = judged.rule;
             if rule != 0 {
                 break 'walk rule;
             }
-            floor = judged.next;
-            let body = body_step(s, k, i, z);
-            late = late | body.odd;
-            z = body.next;
+            at = judged.at;
+            last = judged.last;
+            late = judged.late;
+            z = judged.end;
             i += 1;
         }
         k += 1;
     }
 }
 
-// The number of the first rule that the sheet breaks, S1 to S9, and 0 if it breaks none.
-pub fn check(sheet: &[u8]) -> u8
-    ensures { λ r. ⌜ r ≡ ruleOf (now (sheet .entry)) ⌝ }
+// S1 to S9, one after the other.
+fn first_broken(s: &[u8]) -> u8
+    ensures { λ r. ⌜ r ≡ ruleOf (now (s .entry)) ⌝ }
 {
-    let frame = frame_rule(sheet);
+    let frame = frame_rule(s);
     if frame != 0 {
         return frame;
     }
-    let zeros = zero_rule(sheet);
+    let zeros = zero_rule(s);
     if zeros != 0 {
         return zeros;
     }
-    walk(sheet)
+    walk(s)
+}
+
+// The number of the first rule that the sheet breaks, S1 to S9, and 0 if it breaks none. Taken as a part of itself, the sheet is
+// handed over in registers.
+pub fn check(sheet: &[u8]) -> u8
+    ensures { λ r. ⌜ r ≡ ruleOf (now (sheet .entry)) ⌝ }
+{
+    first_broken(&sheet[..])
 }

@@ -1,7 +1,7 @@
 -- `sheet::lookup::body` meets its contract.
 -- Assumes nothing.
 use borrow.Author.Needs.{needs}
-use Rattle.sheet.proofs.Seek.{ok-framed, ok-entry}
+use Rattle.sheet.proofs.SearchLoops.{ok-framed, ok-entry}
 use Rattle.sheet.proofs.Parts.{no-part, the-part}
 use Rattle.sheet.proofs.lookup.body.Statement.{statement}
 use Rattle.sheet.proofs.lookup.body.Tie as tie

@@ -2,7 +2,7 @@
 -- Assumes nothing.
 use Prim.Native.Nat.{_-_}
 use borrow.Author.Needs.{needs}
-use Rattle.sheet.proofs.Seek.{Missed}
+use Rattle.sheet.proofs.SearchLoops.{Missed}
 use Rattle.sheet.proofs.Loops.{isRange, covers-from, range-there, range-begins, range-found, range-missed, range-ended}
 use Rattle.sheet.proofs.ranges.range.Statement.{statement}
 use Rattle.sheet.proofs.ranges.range.Tie as tie

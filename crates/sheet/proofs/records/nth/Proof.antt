@@ -3,7 +3,7 @@
 use mathlib.Core.Path.{refl}
 use borrow.Author.Needs.{needs}
 use native.Mathlib.Omega.{arith}
-use Rattle.sheet.proofs.Seek.{ok-framed, ok-entry}
+use Rattle.sheet.proofs.SearchLoops.{ok-framed, ok-entry}
 use Rattle.sheet.proofs.Objects.{nth-there, nth-short, nth-other}
 use Rattle.sheet.proofs.records.nth.Statement.{statement}
 use Rattle.sheet.proofs.records.nth.Tie as tie

@@ -3,21 +3,21 @@
 use Prim.Native.Nat.{_-_}
 use borrow.Author.Needs.{needs}
 use Rattle.sheet.specs.Kind.{kinds}
-use Rattle.sheet.proofs.Rules.{Walked, Passed, walk-begins, walk-ends, pass-begins, pass-entry, pass-goes, walk-goes, left-at, at-end}
+use Rattle.sheet.proofs.Rules.{Walked, Passed, walk-begins, pass-begins, pass-entry, pass-near, pass-goes, walk-goes, left-at, at-end}
 use Rattle.sheet.proofs.walk.walk.Statement.{statement}
 use Rattle.sheet.proofs.walk.walk.Tie as tie
 
 abbrev Inv-loop : tie.InvT-loop
-Inv-loop s k z₀ late₀ n i₀ f₀ z late i f = Passed s k n f z late i
+Inv-loop s k a₀ z₀ late₀ n i₀ l₀ a z late i l = Passed s k n a l z late i
 
 abbrev μ-loop : tie.MeasureT-loop
-μ-loop s k z₀ late₀ n i₀ f₀ z late i f = n - i
+μ-loop s k a₀ z₀ late₀ n i₀ l₀ a z late i l = n - i
 
 abbrev Inv-walk : tie.InvT-walk
-Inv-walk s k₀ z₀ late₀ k z late = Walked s k z late
+Inv-walk s k₀ a₀ z₀ late₀ k a z late = Walked s k a z late
 
 abbrev μ-walk : tie.MeasureT-walk
-μ-walk s k₀ z₀ late₀ k z late = kinds - k
+μ-walk s k₀ a₀ z₀ late₀ k a z late = kinds - k
 
 pub walk-spec : {M : Type 1} → statement M
 walk-spec =
@@ -29,11 +29,10 @@ walk-spec =
     μ-walk
     (λ c κs. search needs)
     (λ c. search walk-begins)
-    (λ c κs. search walk-ends)
+    (λ c κs. search needs)
     (λ c κs. search needs)
     (λ c. search pass-begins)
-    (λ c κs. search (pass-entry, needs))
-    (λ c κs. search (pass-entry, needs))
+    (λ c κs. search (pass-entry, pass-near, needs))
     (λ c. search needs)
     (λ c. search needs)
     (λ c. search pass-goes)

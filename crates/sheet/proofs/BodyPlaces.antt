@@ -40,7 +40,7 @@ pub start-first : (s : List ℕ) → startOf s 0 ≡ contents s
 unfolding startOf
 start-first s = refl
 
-module _ {ed : ℕ} {s : List ℕ} (g : Good ed s) where
+module _ {s : List ℕ} (g : Good s) where
   -- a body starts where the one before ended
   pub starts : (k i : ℕ) → k < kinds → i < count s k → bodyAt s k i ≡ reached s k i
   unfolding bodyDemands bodyAt

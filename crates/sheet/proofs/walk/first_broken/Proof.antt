@@ -1,12 +1,12 @@
--- `sheet::walk::check` meets its contract.
+-- `sheet::walk::first_broken` meets its contract.
 -- Assumes nothing.
 use borrow.Author.Needs.{needs}
 use Rattle.sheet.proofs.Rules.{framed, in-frame, in-zeros, in-walk}
-use Rattle.sheet.proofs.walk.check.Statement.{statement}
-use Rattle.sheet.proofs.walk.check.Tie as tie
+use Rattle.sheet.proofs.walk.first_broken.Statement.{statement}
+use Rattle.sheet.proofs.walk.first_broken.Tie as tie
 
-pub check-spec : {M : Type 1} → statement M
-check-spec =
+pub first-broken-spec : {M : Type 1} → statement M
+first-broken-spec =
     tie.close
     (tie.spec
     (λ c κs. search needs)

@@ -15,10 +15,10 @@ use Rattle.sheet.specs.Rules.{Accepted, edition}
 use Rattle.sheet.specs.Walk.{Framed, Entry, Counted}
 use Rattle.sheet.proofs.ByKind.{kinded}
 use Rattle.sheet.proofs.Good.{good}
-use Rattle.sheet.proofs.Lie.{within}
+use Rattle.sheet.proofs.BodyPlaces.{within}
 
 pub ok-framed : (s : List ℕ) → Accepted s → Framed edition s
-ok-framed s e = record { rows = good edition s e .framed }
+ok-framed s e = record { rows = good s e .framed }
 
 pub ok-entry : (s : List ℕ) (k i n : ℕ) → Accepted s → k < kinds → Counted s k n → i < n → Entry s k i
 ok-entry s k i n e hk c h = record { framed = ok-framed s e; kind = hk; below = omega (arith, c .is) }
@@ -52,4 +52,4 @@ pub body-end :
     (s : List ℕ) (k i n : ℕ) (e : List ℕ) (a z : ℕ) → Accepted s → k < kinds → Counted s k n → i < n → e ≡ entry s k i → a ≡ offsetOf k e
     → OfKind z k (lengthOf 0 e) (lengthOf 1 e) (lengthOf 2 e) → a + z ≤ length s
 unfolding bodyEnd
-body-end s k i n e a z ok hk c h ee ea ez = rw (ea, kinded ez, ee) (within (good edition s ok) k i hk (omega (arith, c .is)))
+body-end s k i n e a z ok hk c h ee ea ez = rw (ea, kinded ez, ee) (within (good s ok) k i hk (omega (arith, c .is)))

@@ -18,7 +18,7 @@ use Rattle.sheet.specs.Stores.{countAt}
 use Rattle.sheet.proofs.Good.{Good}
 use Rattle.sheet.proofs.Sames.{place-front}
 use Rattle.sheet.proofs.Standing.{entry-at, field-at}
-use Rattle.sheet.proofs.Ties.{six-to}
+use Rattle.sheet.proofs.PlainRows.{six-to}
 
 -- what such a change leaves as it is, and what it may change within bounds
 pub record Mild (s s′ : List ℕ) : Type 0 where
@@ -35,7 +35,7 @@ pub record Mild (s s′ : List ℕ) : Type 0 where
       numAt s′ (countAt s i) (property.count .width) ≤ property.maximum of entry s properties i
   pub six : (i : ℕ) → i < count s groups → group.code of entry s groups i ≡ 0 → numAt s′ (bodyAt s groups i) 1 < 64
 
-module _ {ed : ℕ} {s : List ℕ} (g : Good ed s) where
+module _ {s : List ℕ} (g : Good s) where
   -- a count, and a code-0 byte, as it stood before
   old-count : (i : ℕ) → i < count s properties → property.count of entry s properties i ≤ property.maximum of entry s properties i
   unfolding entryDemands

@@ -1,0 +1,21 @@
+-- `sheet::judge::region_step` meets its contract.
+-- Assumes nothing.
+use borrow.Author.Needs.{needs}
+use Rattle.sheet.proofs.Bodies.{behind}
+use Rattle.sheet.proofs.judge.region_step.Statement.{statement}
+use Rattle.sheet.proofs.judge.region_step.Tie as tie
+
+pub region-step-spec : {M : Type 1} → statement M
+region-step-spec =
+    tie.close
+    (tie.spec
+    (λ c κs. search needs)
+    (λ c. search needs)
+    (λ c κs. search needs)
+    (λ c κs. search needs)
+    (λ c. search needs)
+    (λ c. search needs)
+    (λ c κs. search needs)
+    (λ c κs. search needs)
+    (λ c. search needs)
+    (λ c. behind _ _ _ _ _ _ _ _ _ _ _ (search needs) (search needs) (search needs) (c .late-of .ensures) (search needs) (search needs) (search needs) (search needs)))

@@ -1,0 +1,27 @@
+-- `sheet::walk::step` meets its contract.
+-- Assumes nothing.
+use mathlib.Core.Path.{_≡_}
+use borrow.Author.Needs.{needs}
+use native.Mathlib.Omega.{arith}
+use Rattle.sheet.proofs.Entries.{place-near}
+use Rattle.sheet.proofs.Rules.{entry-there, place-there, says-region, says-property, says-group}
+use Rattle.sheet.proofs.walk.step.Statement.{statement}
+use Rattle.sheet.proofs.walk.step.Tie as tie
+
+pub step-spec : {M : Type 1} → statement M
+step-spec =
+    tie.close
+    (tie.spec
+    (λ c κs. search (entry-there, place-there))
+    (λ c κs. search (place-near, needs))
+    (λ c κs. search (entry-there, place-there))
+    (λ c κs. search (place-near, needs))
+    (λ c κs.
+    let e : c .before .before .args .k ≡ 2 = omega (arith, c .match .rest .0 .1, c .match .rest .1) in
+    search (entry-there, place-there))
+    (λ c κs. search (place-near, needs))
+    (λ c. search says-region)
+    (λ c. search says-property)
+    (λ c.
+    let e : c .before .before .before .before .args .k ≡ 2 = omega (arith, c .before .before .match .rest .0 .1, c .before .before .match .rest .1) in
+    search says-group))
