@@ -8,16 +8,14 @@ use native.Mathlib.Decide.{decLt}
 use native.Mathlib.Omega.{arith}
 use lib.Dec.{ltb, eqb}
 use borrow.Author.Tests.{lt-ltb, le-ltb, eq-eqb, ne-eqb, ltb-true, ltb-false, eqb-true, eqb-false}
+use Rattle.octets.proofs.Truths.{or-is}
+use Rattle.octets.proofs.Walks.{by-test}
 use Rattle.cemi.specs.Layout.{request, indication, octet6}
 use Rattle.cemi.specs.Read.{standardOf, refusalOf}
-use Rattle.cemi.specs.Standard.{Standard, Due, tooShort, otherCode, notStandard, wrongLength, nothing}
+use Rattle.cemi.specs.Standard.{Due, tooShort, otherCode, notStandard, wrongLength, nothing}
 use Rattle.cemi.proofs.Judging.{no-code-room, too-short, of-request, of-indication, of-another}
-use Rattle.cemi.proofs.Standards.{accepts, either}
+use Rattle.cemi.proofs.Standards.{accepts}
 use Rattle.cemi.specs.declared.Fields.{Fields}
-
-by-test : (P : ℕ → Type 0) (t : Bool) (x y : ℕ) → (t ≡ true → P x) → (t ≡ false → P y) → P (cond t x y)
-by-test P true x y a b = a refl
-by-test P false x y a b = b refl
 
 neither : (a b : Bool) → (a || b) ≡ false → (a ≡ false) × (b ≡ false)
 neither true b e = (e, absurd (let z : _≡_ {A = ℕ} 0 1 = cc in omega arith))
@@ -45,7 +43,7 @@ module _ (n l : ℕ) (f : Fields) (x : ℕ) where
       by-test (Due n l f x) (ltb n 2) _ _ (λ e. tooShort (let h = ltb-true n 2 e in omega arith))
       (λ _. by-test (Due n l f x) (ltb n (10 + l)) _ _ (λ e. tooShort (ltb-true n (10 + l) e))
       (λ a. by-test (Due n l f x) (eqb (f .code) request || eqb (f .code) indication) _ _
-      (λ c. fitted (ltb-false n (10 + l) a) (⊎-elim (λ k. inl (eqb-true (f .code) request k)) (λ k. inr (eqb-true (f .code) indication k)) (either (eqb (f .code) request) (eqb (f .code) indication) c)))
+      (λ c. fitted (ltb-false n (10 + l) a) (⊎-elim (λ k. inl (eqb-true (f .code) request k)) (λ k. inr (eqb-true (f .code) indication k)) (or-is (eqb (f .code) request) (eqb (f .code) indication) .0 c)))
       (λ c.
       let d = neither (eqb (f .code) request) (eqb (f .code) indication) c in
       otherCode (ltb-false n (10 + l) a) (eqb-false (f .code) request (d .0)) (eqb-false (f .code) indication (d .1)))))

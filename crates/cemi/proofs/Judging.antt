@@ -2,17 +2,15 @@
 -- Assumes nothing.
 use Prim.Native.Nat.{ℕ, _+_, _-_, _≤_, _<_}
 use mathlib.Core.Path.{_≡_, refl, ap, _∙_}
-use mathlib.Core.Bool.{Bool, true, false, cond, _&&_, _||_}
+use mathlib.Core.Bool.{Bool, true, false, cond, _||_}
+use mathlib.Core.Logic.{inr}
 use lib.Dec.{eqb}
 use borrow.Author.Tests.{lt-ltb, le-ltb, le-leb, lt-leb, eq-eqb, ne-eqb}
+use Rattle.octets.proofs.Truths.{or-is}
 use Rattle.cemi.specs.Layout.{request, indication}
 use Rattle.cemi.specs.Read.{standardOf, refusalOf}
 use Rattle.cemi.specs.Write.{writable}
 use Rattle.cemi.specs.declared.Fields.{Fields}
-
-or-second : (a b : Bool) → b ≡ true → (a || b) ≡ true
-or-second true b e = refl
-or-second false b e = e
 
 module _ (n l : ℕ) (f : Fields) (x : ℕ) where
   pub no-code-room : n < 2 → 40 ≡ refusalOf n l f x
@@ -33,16 +31,12 @@ module _ (n l : ℕ) (f : Fields) (x : ℕ) where
       of-request r e q = long true r (ap (λ (t : Bool). t || eqb (f .code) indication) (eq-eqb _ _ e)) q
 
       pub of-indication : (r : ℕ) → f .code ≡ indication → r ≡ standardOf n l f x → r ≡ refusalOf n l f x
-      of-indication r e q = long true r (or-second (eqb (f .code) request) (eqb (f .code) indication) (eq-eqb _ _ e)) q
+      of-indication r e q = long true r (or-is (eqb (f .code) request) (eqb (f .code) indication) .1 (inr (eq-eqb _ _ e))) q
 
       pub of-another : (f .code ≡ request → ⊥) → (f .code ≡ indication → ⊥) → 41 ≡ refusalOf n l f x
       of-another a b = long false 41 (ap (λ (t : Bool). t || eqb (f .code) indication) (ne-eqb _ _ a) ∙ ne-eqb _ _ b) refl
 
 -- what may be written
-and-none : (a : Bool) → (a && false) ≡ false
-and-none true = refl
-and-none false = refl
-
 module _ (f : Fields) (l k : ℕ) where
   pub long-info : 255 < l → false ≡ writable f l k
   unfolding writable

@@ -1,5 +1,4 @@
 -- Promises, named in docs/PROMISES.md: Tables, Standards, Agains, Understood, Backs, Filled, Examples, Dues. All others are laws behind them or behind the contracts.
-pub mod Tests
 pub mod Judging
 pub mod Taken
 pub mod Cut

@@ -3,12 +3,13 @@
 use Prim.Native.Nat.{ℕ, _+_, _%_, _≤_, _<_}
 use mathlib.Core.Path.{_≡_, refl, sym}
 use mathlib.Core.Bool.{Bool, true, false, cond, _||_}
-use mathlib.Core.Logic.{_⊎_, inl, inr, ⊎-elim}
+use mathlib.Core.Logic.{inl, inr, ⊎-elim}
 use mathlib.Core.List.{List}
 use native.Mathlib.Omega.{arith}
 use lib.ListN.{length}
 use lib.Dec.{ltb, eqb}
 use borrow.Author.Tests.{le-ltb, eq-eqb, ltb-false, eqb-true}
+use Rattle.octets.proofs.Truths.{or-is}
 use Rattle.octets.proofs.Numbers.{num-one}
 use Rattle.cemi.specs.Layout.{request, indication, octet6, infoLength, stated, _of_, Octets}
 use Rattle.cemi.specs.Read.{standardOf, refusalOf, gotBy, fieldsIn, frameIn, readFrame}
@@ -27,10 +28,6 @@ held : (t : Bool) (k r : ℕ) → 0 < k → cond t r k ≡ 0 → (t ≡ true) ×
 held true k r h e = (refl, e)
 held false k r h e = absurd (omega arith)
 
-pub either : (a b : Bool) → (a || b) ≡ true → (a ≡ true) ⊎ (b ≡ true)
-either true b e = inl refl
-either false b e = inr e
-
 module _ (n l : ℕ) (f : Fields) (x : ℕ) where
   pub accepted : refusalOf n l f x ≡ 0 → Standard n l f x
   unfolding refusalOf standardOf
@@ -48,7 +45,7 @@ module _ (n l : ℕ) (f : Fields) (x : ℕ) where
       let i = held (eqb (octet6 l + (x + 1)) n) 43 0 (omega arith) (h .1) in
       record {
         long = ltb-false n (10 + l) (b .0);
-        known = ⊎-elim (λ k. inl (eqb-true (f .code) request k)) (λ k. inr (eqb-true (f .code) indication k)) (either (eqb (f .code) request) (eqb (f .code) indication) (c .0));
+        known = ⊎-elim (λ k. inl (eqb-true (f .code) request k)) (λ k. inr (eqb-true (f .code) indication k)) (or-is (eqb (f .code) request) (eqb (f .code) indication) .0 (c .0));
         standard = ltb-false (f .control1) 128 (d .0);
         plain = eqb-true (f .control2 % 16) 0 (g .0);
         short = ltb-false 15 x (h .0);

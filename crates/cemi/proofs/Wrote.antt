@@ -10,7 +10,7 @@ use lib.Dec.{leb, eqb}
 use Rattle.octets.specs.Splice.{splice}
 use Rattle.cemi.specs.Read.{refusalOf}
 use Rattle.cemi.specs.Write.{encoded, countOf, writable, writeOf, Wrote}
-use Rattle.cemi.proofs.Tests.{first-true, second-true}
+use Rattle.octets.proofs.Truths.{first-true, second-true}
 use Rattle.cemi.specs.declared.Fields.{Fields}
 use Rattle.cemi.specs.declared.Written.the-variants.{Bytes, Refused}
 

@@ -13,13 +13,13 @@ use Rattle.sheet.specs.Region as region
 use Rattle.sheet.specs.Property as property
 use Rattle.sheet.specs.Group as group
 use Rattle.sheet.specs.Entries.{count, place, entry, bodyAt, bodyEnd}
-use Rattle.sheet.specs.Rules.{entryDemands, bodyDemands, edition}
+use Rattle.sheet.specs.Rules.{entryDemands, bodyDemands}
 use Rattle.sheet.proofs.Good.{Good}
-use Rattle.sheet.proofs.Lie.{within}
+use Rattle.sheet.proofs.BodyPlaces.{within}
 use Rattle.sheet.proofs.Standing.{place-in}
-use Rattle.sheet.proofs.Ties.{six-to}
+use Rattle.sheet.proofs.PlainRows.{six-to}
 
-module _ {s : List ℕ} (ok : Good edition s) where
+module _ {s : List ℕ} (ok : Good s) where
   pub long : 32 ≤ length s
   long = ok .framed .0
 

@@ -8,7 +8,6 @@ use native.Mathlib.Nat.{mul-le-mul-right}
 use native.Mathlib.Omega.{arith}
 use Rattle.octets.specs.Bytes.{bytesOf}
 use Rattle.octets.specs.Splice.{splice}
-use Rattle.sheet.specs.Rules.{edition}
 use Rattle.sheet.specs.Kind.{properties, groups}
 use Rattle.sheet.specs.Layout.{_of_}
 use Rattle.sheet.specs.Property as property
@@ -37,7 +36,7 @@ agree-refl s =
       six = λ i h c. (λ l. l, λ l. l);
     }
 
-module _ {s : List ℕ} (ok : Good edition s) where
+module _ {s : List ℕ} (ok : Good s) where
   -- a store in a group object's body, in a property's, and of a property's count
   pub group-keeps :
       (i : ℕ) (ds : List ℕ) → i < count s groups → length ds ≤ max 1 (group.code of entry s groups i) →
@@ -45,7 +44,7 @@ module _ {s : List ℕ} (ok : Good edition s) where
       Agree s (splice s (group.offset of entry s groups i) ds)
   unfolding bodyAt bodyEnd
   group-keeps i ds h l f =
-      body-store edition (accepted ok) groups i (group.offset of entry s groups i) ds
+      body-store (accepted ok) groups i (group.offset of entry s groups i) ds
       (record { kind = omega arith; below = h; from = omega arith; to = omega arith })
       (λ g. f)
 
@@ -57,13 +56,13 @@ module _ {s : List ℕ} (ok : Good edition s) where
   elements-keep i n t ds h a e =
       let z : ℕ = property.element of entry s properties i in
       let u : t - 1 + n ≤ property.maximum of entry s properties i = omega (arith, a) in
-      body-store edition (accepted ok) properties i (property.offset of entry s properties i + (t - 1) * z) ds
+      body-store (accepted ok) properties i (property.offset of entry s properties i + (t - 1) * z) ds
       (record { kind = omega arith; below = h; from = omega arith; to = omega (arith, mul-le-mul-right z u) })
       (λ g. absurd (omega arith))
 
 -- the count of a property after a store that agrees
 pub count-keeps :
-    {s s′ : List ℕ} → Good edition s → Agree s s′ → (i c : ℕ) → i < count s properties → c ≤ property.maximum of entry s properties i →
+    {s s′ : List ℕ} → Good s → Agree s s′ → (i c : ℕ) → i < count s properties → c ≤ property.maximum of entry s properties i →
     Agree s (splice s′ (place s properties i + 6) (bytesOf 2 c))
 count-keeps {s} {s′} ok a i c h l =
     agree-trans a

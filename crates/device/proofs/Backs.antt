@@ -10,7 +10,6 @@ use Rattle.octets.specs.Bytes.{bytesOf}
 use Rattle.octets.specs.Splice.{splice}
 use Rattle.octets.proofs.Numbers.{length-bytes, bytes-zero}
 use Rattle.octets.proofs.Splices.{length-splice, splice-above}
-use Rattle.sheet.specs.Rules.{edition}
 use Rattle.sheet.specs.Kind.{properties}
 use Rattle.sheet.specs.Layout.{_of_}
 use Rattle.sheet.specs.Region as region
@@ -19,9 +18,9 @@ use Rattle.sheet.specs.Entries.{count, place, entry, keyOf, bodyAt}
 use Rattle.sheet.specs.Frame.{Agree}
 use Rattle.sheet.proofs.Good.{Good, accepted}
 use Rattle.sheet.proofs.Keys.{key-once}
-use Rattle.sheet.proofs.Lie.{after-contents}
+use Rattle.sheet.proofs.BodyPlaces.{after-contents}
 use Rattle.sheet.proofs.Standing.{place-in}
-use Rattle.sheet.proofs.Sames.{count-same, region-same, property-same}
+use Rattle.sheet.proofs.Sames.{count-same, property-same}
 use Rattle.sheet.proofs.Counts.{count-now}
 use Rattle.judge.proofs.PropertyCases.{Keyed, Among}
 use Rattle.device.proofs.Accepted.{elements-within}
@@ -43,14 +42,14 @@ part-after : (s ds : List ℕ) (p o n : ℕ) → p + length ds ≤ length s → 
 part-after s ds p o n h l =
     part-same s (splice s p ds) o n (length-splice s p ds h) (λ i k. splice-above s p ds h (o + i) (omega arith))
 
-module _ {s : List ℕ} (ok : Good edition s) where
+module _ {s : List ℕ} (ok : Good s) where
   -- the property that a request named is the same after a store that agrees
   pub same-property :
       {s′ : List ℕ} → Agree s s′ → (object id i j : ℕ) → Keyed s object id i → Keyed s′ object id j → i ≡ j
   unfolding keyOf
   same-property {s′} a object id i j k m =
       let h : j < count s properties = omega (arith, m .there, count-same a properties) in
-      key-once edition s (accepted ok) properties (omega arith) i j (k .there) h
+      key-once s (accepted ok) properties (omega arith) i j (k .there) h
       (k .key ∙ sym (m .key) ∙ property-same a j property.objectId h (omega arith) (omega arith))
 
   module _ (i : ℕ) (h : i < count s properties) where

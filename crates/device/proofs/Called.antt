@@ -1,7 +1,7 @@
 -- DEMANDS 1 AND 2 of a call: of what `device::request` gives back and leaves in the slices lent to it.
 -- Assumes nothing.
 use Prim.Native.Nat.{ℕ, _+_, _≤_, _<_}
-use mathlib.Core.Path.{_≡_, refl, sym, ap, subst, _∙_}
+use mathlib.Core.Path.{_≡_, sym, ap, subst, _∙_}
 use mathlib.Core.List.{List, []}
 use lib.ListN.{length, getD, take}
 use native.Mathlib.Decide.{decLt}

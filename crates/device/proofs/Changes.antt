@@ -7,7 +7,6 @@ use mathlib.Core.List.{List, []}
 use lib.ListN.{length, take, drop}
 use native.Mathlib.Omega.{arith}
 use Rattle.octets.specs.Splice.{splice}
-use Rattle.sheet.specs.Rules.{edition}
 use Rattle.sheet.specs.declared.Memory.the-variants.{Device}
 use Rattle.sheet.proofs.Good.{Good, good}
 use Rattle.sheet.proofs.Runs.{range-within}
@@ -118,8 +117,8 @@ module _ (x : Asked) (w : Write) (n address : ℕ) (r : Reads x (writing w n add
   abbrev made : Decision
   made = changed (c .access) (mostIn w) (c .new) (x .sheet) (into w) level n address
 
-  ok : Good edition (x .sheet)
-  ok = good edition (x .sheet) (r .ready .sheet)
+  ok : Good (x .sheet)
+  ok = good (x .sheet) (r .ready .sheet)
 
   writes : (o : ℕ) → MemoryWritable x w n address o → Verify x → made ≡ verified (c .access) (mostIn w) (c .new) (x .sheet) (into w) level n address o
   writes o q v = change-writes (c .access) (mostIn w) (c .new) (x .sheet) (into w) level n address ok o (to o q) v

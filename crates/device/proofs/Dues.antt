@@ -1,6 +1,6 @@
 -- DEMAND 2 of connect, disconnect and the button: what is done is what is due, and nothing else is due.
 -- Assumes nothing.
-use Prim.Native.Nat.{ℕ, _+_, _*_, _-_, _≤_, _<_}
+use Prim.Native.Nat.{ℕ, _+_, _*_, _≤_, _<_}
 use mathlib.Core.Path.{_≡_, refl, sym, ap, ap₂, _∙_}
 use mathlib.Core.Logic.{_⊎_, inl, inr}
 use mathlib.Core.Bool.{Bool}
@@ -14,13 +14,12 @@ use Rattle.octets.specs.Bytes.{numAt, bytesOf}
 use Rattle.octets.specs.Splice.{splice}
 use Rattle.octets.proofs.Numbers.{length-bytes}
 use Rattle.octets.proofs.Splices.{length-splice, splice-outside, splice-num}
-use Rattle.sheet.specs.Layout.{_of_}
 use Rattle.sheet.specs.Head as head
 use Rattle.sheet.specs.Rules.{ruleOf, Accepted, isAccepted}
 use Rattle.judge.specs.declared.Session.{Session}
 use Rattle.device.specs.Step.{Step}
 use Rattle.device.specs.Events.{State, connect, disconnect, button, eventOf, bit, pressed, buttonOutcome, buttonSheet}
-use Rattle.device.specs.Due.{SessionDue, ConnectDue, DisconnectDue, Switched, ButtonDue}
+use Rattle.device.specs.Due.{ConnectDue, DisconnectDue, Switched, ButtonDue}
 use Rattle.device.proofs.Flags.{verify-left, bit-small}
 use Rattle.device.proofs.Pressing.{head-room}
 

@@ -7,13 +7,13 @@ use mathlib.Core.List.{List}
 use native.Mathlib.Omega.{arith}
 use Rattle.sheet.specs.Layout.{_of_}
 use Rattle.sheet.specs.Head as head
-use Rattle.sheet.specs.Rules.{Accepted, edition}
+use Rattle.sheet.specs.Rules.{Accepted}
 use Rattle.sheet.proofs.Good.{good}
 use Rattle.device.specs.Events.{bit}
 
 -- only verify is left
 pub verify-left : (s : List ℕ) → Accepted s → head.flags of s - head.programming s ≡ head.verify s * 2
-verify-left s ok = omega (arith, good edition s ok .zeros .0)
+verify-left s ok = omega (arith, good s ok .zeros .0)
 
 pub bit-small : (on : Bool) → bit on ≤ 1
 bit-small true = omega arith

@@ -2,7 +2,6 @@
 -- Assumes nothing.
 use Prim.Native.Nat.{ℕ, _≤_, _<_}
 use mathlib.Core.Path.{_≡_, refl}
-use mathlib.Core.Bool.{Bool}
 use mathlib.Core.List.{List, []}
 use lib.ListN.{length, getD}
 use native.Mathlib.Omega.{arith}
@@ -13,7 +12,7 @@ use Rattle.sheet.specs.Kind.{properties}
 use Rattle.sheet.specs.Layout.{_of_}
 use Rattle.sheet.specs.Head as head
 use Rattle.sheet.specs.Frame.{Agree}
-use Rattle.sheet.specs.Rules.{entryDemands, edition}
+use Rattle.sheet.specs.Rules.{entryDemands}
 use Rattle.sheet.proofs.Good.{Good, accepted}
 use Rattle.sheet.proofs.Stores.{key-store, address-store, flags-store}
 use Rattle.pdu.specs.Read.{dataOf}
@@ -63,7 +62,7 @@ one-byte : (v j : ℕ) → v < 64 → j < length (bytesOf 1 v) → getD (bytesOf
 unfolding bytesOf
 one-byte v j h l = let e : j ≡ 0 = omega arith in rw e (omega arith)
 
-module _ {s : List ℕ} (ok : Good edition s) (d : List ℕ) where
+module _ {s : List ℕ} (ok : Good s) (d : List ℕ) where
   same : Agree s s
   same = agree-refl s
 
@@ -76,12 +75,12 @@ module _ {s : List ℕ} (ok : Good edition s) (d : List ℕ) where
       same
 
   address-new : (address : ℕ) → Agree s (splice s (head.address .at) (bytesOf 2 address))
-  address-new address = address-store edition (accepted ok) (bytesOf 2 address) (length-bytes 2 address)
+  address-new address = address-store (accepted ok) (bytesOf 2 address) (length-bytes 2 address)
 
   -- new flags, from the old
   pub flags-new : (f : ℕ) → f ≤ 3 → Agree s (splice s (head.flags .at) (bytesOf 1 f))
   unfolding bytesOf
-  flags-new f h = flags-store edition (accepted ok) _ (omega arith)
+  flags-new f h = flags-store (accepted ok) _ (omega arith)
 
   -- a write to memory
   change :
@@ -105,7 +104,7 @@ module _ {s : List ℕ} (ok : Good edition s) (d : List ℕ) where
         count-keeps ok (elements-keep ok i n t d (k .there) a l) i _ (k .there) (omega (arith, a .end, ok .entries properties i (omega arith) (k .there))))
         same
 
-module _ {s : List ℕ} (ok : Good edition s) (level group : ℕ) (a : List ℕ) where
+module _ {s : List ℕ} (ok : Good s) (level group : ℕ) (a : List ℕ) where
   as-is : Agree s s
   as-is = agree-refl s
 
@@ -138,7 +137,7 @@ module _ {s : List ℕ} (ok : Good edition s) (level group : ℕ) (a : List ℕ)
       change ok _ Change 5 Device level n address (λ o. store.Bits o n) (λ o. build n (bitAt s o n (dataOf (MemoryBitWrite n address) a))) (λ o. refl) (λ o. length-build n _)
   keeps-decided (AuthorizeRequest key) r = as-is
   keeps-decided (KeyWrite named key) r =
-      key-write-cases level named key (K (KeyWrite named key)) (λ h l. key-store edition (accepted ok) named (bytesOf 4 key) (omega arith) (length-bytes 4 key)) as-is
+      key-write-cases level named key (K (KeyWrite named key)) (λ h l. key-store (accepted ok) named (bytesOf 4 key) (omega arith) (length-bytes 4 key)) as-is
   keeps-decided Restart r = flags-new ok [] _ (omega (arith, ok .zeros))
   keeps-decided IndividualAddressResponse r = as-is
   keeps-decided (SerialNumberResponse serial domain) r = as-is

@@ -11,6 +11,7 @@ pub mod Safe
 pub mod Bits
 pub mod Runs
 pub mod Sent
+pub mod Octet
 pub mod Acts
 pub mod Flags
 pub mod Stepped

@@ -14,10 +14,10 @@ use Rattle.sheet.specs.Head as head
 use Rattle.sheet.specs.Property as property
 use Rattle.sheet.specs.Entries.{entry}
 use Rattle.sheet.specs.Lookup.{indexOf}
-use Rattle.sheet.specs.Rules.{ruleOf, edition, isAccepted}
+use Rattle.sheet.specs.Rules.{ruleOf, isAccepted}
 use Rattle.sheet.specs.Frame.{Agree}
 use Rattle.sheet.proofs.Sames.{rules-same, count-same, place-same}
-use Rattle.sheet.proofs.Finds.{index-same, rank-same, nth-same, range-same}
+use Rattle.sheet.proofs.SameLookups.{index-same, rank-same, nth-same, range-same}
 use Rattle.sheet.specs.declared.Memory.the-variants.{Device}
 use Rattle.sheet.proofs.Frames.{both-or-neither}
 use Rattle.pdu.specs.Read.{readPdu, dataOf}
@@ -141,8 +141,8 @@ module _ {s s′ : List ℕ} (b : SameButBodies s s′) where
   accepted-same = go (eqb (ruleOf s) 0) (eqb (ruleOf s′) 0) refl refl
     where
       go : (t u : Bool) → eqb (ruleOf s) 0 ≡ t → eqb (ruleOf s′) 0 ≡ u → u ≡ t
-      go true u e f = sym f ∙ eq-eqb (ruleOf s′) 0 (both-or-neither edition a .0 (eqb-true (ruleOf s) 0 e))
-      go false true e f = sym (eq-eqb (ruleOf s) 0 (both-or-neither edition a .1 (eqb-true (ruleOf s′) 0 f))) ∙ e
+      go true u e f = sym f ∙ eq-eqb (ruleOf s′) 0 (both-or-neither a .0 (eqb-true (ruleOf s) 0 e))
+      go false true e f = sym (eq-eqb (ruleOf s) 0 (both-or-neither a .1 (eqb-true (ruleOf s′) 0 f))) ∙ e
       go false false e f = refl
 
 -- JUDGING READS NO BODY

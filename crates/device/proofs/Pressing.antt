@@ -11,7 +11,7 @@ use Rattle.octets.specs.Bytes.{bytesOf}
 use Rattle.octets.specs.Splice.{splice}
 use Rattle.sheet.specs.Layout.{_of_}
 use Rattle.sheet.specs.Head as head
-use Rattle.sheet.specs.Rules.{ruleOf, edition, isAccepted}
+use Rattle.sheet.specs.Rules.{ruleOf, isAccepted}
 use Rattle.sheet.proofs.Good.{good}
 use Rattle.judge.specs.declared.Session.{Session}
 use Rattle.judge.specs.declared.Turn.{Turn}
@@ -23,7 +23,7 @@ via-turn q t u r e h = subst (λ (x : Turn). r ≡ turnOf q x) (sym e) h
 
 -- an accepted sheet has room for its head
 pub head-room : (s : List ℕ) (c : ℕ) → c ≡ ruleOf s → c ≡ 0 → 32 ≤ length s
-head-room s c e z = good edition s (sym e ∙ z) .framed .0
+head-room s c e z = good s (sym e ∙ z) .framed .0
 
 pub not-pressed : (s : List ℕ) (on : Bool) (c : ℕ) → c ≡ ruleOf s → (c ≡ 0 → ⊥) → Pressed s on 4 s
 unfolding buttonOutcome buttonSheet isAccepted

@@ -21,8 +21,8 @@ either-low (inl e) = omega arith
 either-low (inr e) = omega arith
 
 -- a memory is read in connected mode alone
-connected-low : (m : Memory) (n address : ℕ) {rules mode : ℕ} → Takes rules (serviceOf (reading m n address)) mode → mode ≤ 3
-connected-low Device n address e = omega arith
+connected-low : (rules : ℕ) (m : Memory) (n address : ℕ) {mode : ℕ} → Takes rules (serviceOf (reading m n address)) mode → mode ≤ 3
+connected-low rules Device n address e = omega arith
 
 module _ (x y : Asked) where
   -- ELEMENTS OF A PROPERTY, OR ITS COUNT
@@ -39,4 +39,4 @@ module _ (x y : Asked) where
       MemoryReadable y (into w) n address o → SameAnswer x y
   memory-found w n address o c next may =
       let r : Reads x (writing w n address) = carried x _ (c .reads) (omega (arith, c .outcome)) in
-      memory-same-answer x y w n address r (ready-next x y _ _ r next (connected-low (into w) n address (next .takes))) (next .sheet) o may (c .outcome)
+      memory-same-answer x y w n address r (ready-next x y _ _ r next (connected-low _ (into w) n address (next .takes))) (next .sheet) o may (c .outcome)

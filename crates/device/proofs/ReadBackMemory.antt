@@ -4,11 +4,10 @@ use Prim.Native.Nat.{ℕ}
 use mathlib.Core.Path.{_≡_, sym, ap, _∙_}
 use native.Mathlib.Omega.{arith}
 use Rattle.octets.specs.Splice.{splice}
-use Rattle.sheet.specs.Rules.{edition}
 use Rattle.sheet.specs.Head as head
 use Rattle.sheet.specs.Frame.{Agree}
 use Rattle.sheet.proofs.Good.{Good, good}
-use Rattle.sheet.proofs.Finds.{ranged-same}
+use Rattle.sheet.proofs.SameLookups.{ranged-same}
 use Rattle.sheet.proofs.Frames.{agree-sym}
 use Rattle.sheet.proofs.Runs.{range-once, range-within}
 use Rattle.pdu.specs.Write.{encoded}
@@ -31,8 +30,8 @@ module _ (x y : Asked) (w : Write) (n address : ℕ) (r : Reads x (writing w n a
   abbrev c : Change x w n address
   c = change-of x w n address r
 
-  ok : Good edition (x .sheet)
-  ok = good edition (x .sheet) (r .ready .sheet)
+  ok : Good (x .sheet)
+  ok = good (x .sheet) (r .ready .sheet)
 
   agree : Agree (x .sheet) (y .sheet)
   agree = rw new (request-agrees x (r .ready .sheet))

@@ -13,7 +13,7 @@ use Rattle.sheet.specs.Layout.{Field, _of_}
 use Rattle.sheet.specs.Property as property
 use Rattle.sheet.specs.Entries.{count, place, entry}
 use Rattle.sheet.specs.Frame.{Agree, Fixed}
-use Rattle.sheet.specs.Rules.{entryDemands, edition}
+use Rattle.sheet.specs.Rules.{entryDemands}
 use Rattle.sheet.proofs.Good.{Good, good}
 use Rattle.sheet.proofs.Sames.{property-same}
 use Rattle.pdu.specs.Write.{encoded}
@@ -37,8 +37,8 @@ use Rattle.device.proofs.Backs.{same-property, count-back, wrote, eleme
 
 module _ (x y : Asked) (object id n s : ℕ) (r : Reads x (PropertyValueWrite object id n s)) (u : Reads y (PropertyValueRead object id n s))
     (new : y .sheet ≡ done x .sheet) (j : ℕ) (may : Readable y object id j) where
-  ok : Good edition (x .sheet)
-  ok = good edition (x .sheet) (r .ready .sheet)
+  ok : Good (x .sheet)
+  ok = good (x .sheet) (r .ready .sheet)
 
   agree : Agree (x .sheet) (y .sheet)
   agree = rw new (request-agrees x (r .ready .sheet))

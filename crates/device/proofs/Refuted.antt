@@ -1,20 +1,17 @@
 -- Demand 2 holds of our device, and not of one that refuses everything, sends one answer, invents the count, stores what it refuses, has the levels turned, or lets level 1 set key 0.
 -- Assumes nothing.
-use Prim.Native.Nat.{ℕ, zero, suc}
+use Prim.Native.Nat.{ℕ}
 use mathlib.Core.Path.{_≡_, refl, ap, _∙_}
-use mathlib.Core.List.{List, [], _∷_}
-use mathlib.Core.Bool.{Bool, true, _&&_}
-use lib.Dec.{ltb}
+use mathlib.Core.List.{List}
+use mathlib.Core.Bool.{true}
 use lib.ListN.{getD}
 use native.Mathlib.Omega.{arith}
-use borrow.Author.Tests.{ltb-true}
-use Rattle.octets.proofs.Truths.{and-is}
-use Rattle.device.specs.Octets.{Octets}
 use Rattle.device.specs.Step.{Step}
 use Rattle.device.specs.Asked.{Asked}
 use Rattle.device.specs.Demand2.{Serves, done}
 use Rattle.device.specs.Marked.{sample, Case, Result, readElement, readCount, writeElement, cases, asked, found, wanted}
-use Rattle.device.specs.Wrong.{refusesAll, fixedAnswer, inventsCount, inventsStored, storesDenied, actsAt, levelsTurned, keyOfAnother, keylessWrite, writeKey0}
+use Rattle.device.specs.Wrong.{refusesAll, fixedAnswer, inventsCount, inventsStored, storesDenied, levelsTurned, keyOfAnother, keylessWrite, writeKey0}
+use Rattle.device.proofs.Octet.{isBytes, octets-by}
 use Rattle.device.proofs.Rightly.{right, right-only}
 use Rattle.device.proofs.Cases.{marked}
 use Rattle.device.proofs.WrongSteps.{invented, invented-stored, stored, denied-stored, turned-stored, element-kept, key-stored, key-kept}
@@ -22,17 +19,6 @@ use Rattle.device.proofs.WrongSteps.{invented, invented-stored, stored,
 -- OURS
 pub serves-ours : Serves done
 serves-ours x hs ha = right x hs ha
-
--- a list of bytes, by a test
-bytes : List ℕ → Bool
-bytes [] = true
-bytes (b ∷ l) = ltb b 256 && bytes l
-
-octets : (l : List ℕ) → bytes l ≡ true → Octets l
-unfolding bytes
-octets [] e i = omega arith
-octets (b ∷ l) e zero = ltb-true b 256 (and-is (ltb b 256) (bytes l) .0 e .0)
-octets (b ∷ l) e (suc i) = octets l (and-is (ltb b 256) (bytes l) .0 e .1) i
 
 -- what is due for a read of the element, and of the count
 marked-element : found readElement ≡ wanted readElement
@@ -45,34 +31,31 @@ marked-count = let m = marked in cc
 
 -- what a device that meets the demand answers to them
 module _ (step : Asked → Step) (f : Serves step) where
-  only : (c : Case) → bytes (c .request) ≡ true → step (asked c) ≡ done (asked c)
-  unfolding bytes sample
+  only : (c : Case) → isBytes (c .request) ≡ true → step (asked c) ≡ done (asked c)
+  unfolding sample
   only c e =
-      right-only (asked c) (octets sample refl) (octets (c .request) e) (step (asked c)) (f (asked c) (octets sample refl) (octets (c .request) e))
+      right-only (asked c) (octets-by sample refl) (octets-by (c .request) e) (step (asked c)) (f (asked c) (octets-by sample refl) (octets-by (c .request) e))
 
   element-answered : step (asked readElement) .answer ≡ readElement .answer
-  unfolding bytes found wanted
+  unfolding found wanted
   element-answered = ap (λ (r : Step). r .answer) (only readElement refl) ∙ ap (λ (r : Result). r .answer) marked-element
 
   count-answered : step (asked readCount) .answer ≡ readCount .answer
-  unfolding bytes found wanted
+  unfolding found wanted
   count-answered = ap (λ (r : Step). r .answer) (only readCount refl) ∙ ap (λ (r : Result). r .answer) marked-count
 
   -- a byte of the sheet that it leaves is the one that ours leaves
-  byte-left : (c : Case) → bytes (c .request) ≡ true → (i : ℕ) → getD (step (asked c) .sheet) i 0 ≡ getD (done (asked c) .sheet) i 0
+  byte-left : (c : Case) → isBytes (c .request) ≡ true → (i : ℕ) → getD (step (asked c) .sheet) i 0 ≡ getD (done (asked c) .sheet) i 0
   byte-left c e i = ap (λ (r : Step). getD (r .sheet) i 0) (only c e)
 
   -- the count after a write of the element; the element after one without a key; key 0 after it was written at level 1
   count-stored : getD (step (asked writeElement) .sheet) 47 0 ≡ 1
-  unfolding bytes
   count-stored = byte-left writeElement refl 47 ∙ stored
 
   element-left : getD (step (asked keylessWrite) .sheet) 65 0 ≡ 0xE8
-  unfolding bytes
   element-left = byte-left keylessWrite refl 65 ∙ element-kept
 
   key-left : getD (step (asked writeKey0) .sheet) 18 0 ≡ 0x11
-  unfolding bytes
   key-left = byte-left writeKey0 refl 18 ∙ key-kept
 
 -- NOT OF ONE THAT REFUSES EVERYTHING: a read of the element

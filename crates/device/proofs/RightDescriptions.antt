@@ -4,7 +4,6 @@ use Prim.Native.Nat.{ℕ, _<_}
 use mathlib.Core.Path.{_≡_, refl, sym, ap, _∙_}
 use mathlib.Core.List.{[]}
 use native.Mathlib.Omega.{arith}
-use Rattle.sheet.specs.Rules.{edition}
 use Rattle.sheet.specs.Kind.{properties}
 use Rattle.sheet.specs.Layout.{_of_}
 use Rattle.sheet.specs.Property as property
@@ -25,8 +24,8 @@ use Rattle.device.proofs.Properly.{keyed, unkeyed, describe-id}
 use Rattle.device.proofs.Stepped.{step, step-read}
 
 module _ (x : Asked) (object id index : ℕ) (r : Reads x (PropertyDescriptionRead object id index)) where
-  ok : Good edition (x .sheet)
-  ok = good edition (x .sheet) (r .ready .sheet)
+  ok : Good (x .sheet)
+  ok = good (x .sheet) (r .ready .sheet)
 
   -- the answer that describes property i, as one of an object
   abbrev shows : ℕ → ℕ → Step

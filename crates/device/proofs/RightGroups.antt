@@ -7,7 +7,6 @@ use lib.ListN.{length}
 use native.Mathlib.Omega.{arith}
 use Rattle.octets.specs.Bytes.{numAt, bytesOf}
 use Rattle.octets.specs.Splice.{splice}
-use Rattle.sheet.specs.Rules.{edition}
 use Rattle.sheet.specs.Kind.{groups}
 use Rattle.sheet.specs.Layout.{_of_}
 use Rattle.sheet.specs.Group as group
@@ -41,8 +40,8 @@ module _ (x : Asked) where
 
   -- a read
   module _ (r : Reads x GroupValueRead) where
-    reading-ok : Good edition (x .sheet)
-    reading-ok = good edition (x .sheet) (r .ready .sheet)
+    reading-ok : Good (x .sheet)
+    reading-ok = good (x .sheet) (r .ready .sheet)
 
     pub only-group-read0 :
         (i : ℕ) → Group x i → Flag (entry (x .sheet) groups i) 1 → group.code of entry (x .sheet) groups i ≡ 0 →
@@ -83,8 +82,8 @@ module _ (x : Asked) where
   brought p (Brings.response v) = refl
 
   module _ (p : Pdu) (v w : ℕ) (r : Reads x p) (b : Brings p v w) where
-    bringing-ok : Good edition (x .sheet)
-    bringing-ok = good edition (x .sheet) (r .ready .sheet)
+    bringing-ok : Good (x .sheet)
+    bringing-ok = good (x .sheet) (r .ready .sheet)
 
     pub only-group-put0 :
         (i : ℕ) → Group x i → Flag (entry (x .sheet) groups i) w → group.code of entry (x .sheet) groups i ≡ 0 → given x p ≡ [] →

@@ -4,7 +4,6 @@ use Prim.Native.Nat.{ℕ}
 use mathlib.Core.Path.{_≡_, refl, sym, ap, subst, _∙_}
 use mathlib.Core.List.{List, []}
 use native.Mathlib.Omega.{arith}
-use Rattle.sheet.specs.Rules.{edition}
 use Rattle.sheet.specs.declared.Memory.{Memory}
 use Rattle.sheet.specs.declared.Memory.the-variants.{Device}
 use Rattle.sheet.proofs.Good.{good}
@@ -48,7 +47,7 @@ module _ (x : Asked) (m : Memory) (n address : ℕ) (r : Reads x (reading m n ad
       record { some = q .some; few = rw (look-at m .most) at (q .few); levels = q .levels; range = q .range; level = level; acts = acts x; suffices = q .suffices }
 
   reads : (o : ℕ) → MemoryReadable x m n address o → memoryReadOf (x .sheet) m level n address ≡ decisions.answered (answer.Sheet (responseOf m n address) o n)
-  reads o q = memory-reads (x .sheet) m level n address (good edition (x .sheet) (r .ready .sheet)) o (to o q)
+  reads o q = memory-reads (x .sheet) m level n address (good (x .sheet) (r .ready .sheet)) o (to o q)
 
   pub only-memory-read :
       (o : ℕ) → MemoryReadable x m n address o → says x 0 (response m n address) (part (x .sheet) o n) ≡ step x

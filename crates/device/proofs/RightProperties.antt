@@ -7,7 +7,6 @@ use lib.ListN.{length}
 use native.Mathlib.Omega.{arith}
 use Rattle.octets.specs.Bytes.{numAt, bytesOf}
 use Rattle.octets.specs.Splice.{splice}
-use Rattle.sheet.specs.Rules.{edition}
 use Rattle.sheet.specs.Kind.{properties}
 use Rattle.sheet.specs.Layout.{_of_}
 use Rattle.sheet.specs.Property as property
@@ -43,8 +42,8 @@ module _ (x : Asked) (object id : ℕ) where
   opened i p = acts-at x _ (p .acts) (p .suffices)
 
   module _ (n s : ℕ) (r : Reads x (PropertyValueRead object id n s)) where
-    ok : Good edition (x .sheet)
-    ok = good edition (x .sheet) (r .ready .sheet)
+    ok : Good (x .sheet)
+    ok = good (x .sheet) (r .ready .sheet)
 
     abbrev read : Decision
     read = propertyReadOf (x .sheet) (levelIn (x .session) (x .mode)) object id n s
@@ -123,8 +122,8 @@ module _ (x : Asked) (object id : ℕ) where
     abbrev d : List ℕ
     d = given x (PropertyValueWrite object id n s)
 
-    ok′ : Good edition (x .sheet)
-    ok′ = good edition (x .sheet) (r .ready .sheet)
+    ok′ : Good (x .sheet)
+    ok′ = good (x .sheet) (r .ready .sheet)
 
     abbrev write : Decision
     write = propertyWriteOf (x .sheet) (levelIn (x .session) (x .mode)) object id n s d

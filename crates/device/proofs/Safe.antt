@@ -3,7 +3,6 @@
 use Prim.Native.Nat.{ℕ}
 use mathlib.Core.Path.{sym, subst}
 use mathlib.Core.List.{List}
-use Rattle.sheet.specs.Rules.{edition}
 use Rattle.sheet.proofs.Good.{good}
 use Rattle.pdu.specs.Read.{readPdu}
 use Rattle.pdu.proofs.Readings.{reading}
@@ -28,5 +27,5 @@ safe room s q mode group a =
     (λ p r.
     let k : Decision = decideOf s (levelIn q mode) group (given x p) p in
     subst (λ (z : Parsed). Safe s (dataIn z a) k) (sym (r .reads))
-    (safe-decided (good edition s (r .ready .sheet)) (levelIn q mode) group a p (reading a p (r .reads))))
+    (safe-decided (good s (r .ready .sheet)) (levelIn q mode) group a p (reading a p (r .reads))))
     (λ n r. safe-refused s d n)

@@ -2,13 +2,12 @@
 -- Assumes nothing.
 use Prim.Native.Nat.{ℕ, _+_, _*_, _-_, _≤_, _<_}
 use mathlib.Core.Path.{_≡_, refl}
-use mathlib.Core.Bool.{Bool, true}
+use mathlib.Core.Bool.{true}
 use mathlib.Core.List.{List, []}
 use lib.ListN.{length, take, drop, length-take, length-drop}
 use native.Mathlib.Omega.{arith}
 use Rattle.octets.specs.Bytes.{bytesOf}
 use Rattle.octets.proofs.Numbers.{length-bytes}
-use Rattle.sheet.specs.Rules.{edition}
 use Rattle.sheet.specs.Kind.{properties}
 use Rattle.sheet.specs.Layout.{_of_}
 use Rattle.sheet.specs.Property as property
@@ -78,7 +77,7 @@ safe-verified :
 safe-verified s d k m n a o h f l =
     record { first = h; second = tt; answer = memory-answer (storeOf s d k) d m n a o f (omega (arith, length-store s d k h)) }
 
-module _ {s : List ℕ} (ok : Good edition s) (d : List ℕ) where
+module _ {s : List ℕ} (ok : Good s) (d : List ℕ) where
   group-read : (address : ℕ) → Safe s d (groupReadOf s address)
   group-read address =
       group-read-cases s address (Safe s d)
@@ -208,7 +207,7 @@ module _ {s : List ℕ} (ok : Good edition s) (d : List ℕ) where
 
 -- A REQUEST THAT READS IS DECIDED SO THAT IT CAN BE CARRIED OUT
 pub safe-decided :
-    {s : List ℕ} (ok : Good edition s) (level group : ℕ) (a : List ℕ) (p : Pdu) → Reading a p →
+    {s : List ℕ} (ok : Good s) (level group : ℕ) (a : List ℕ) (p : Pdu) → Reading a p →
     Safe s (dataOf p a) (decideOf s level group (dataOf p a) p)
 safe-decided ok level group a GroupValueRead r = group-read ok _ group
 safe-decided ok level group a (GroupValueResponse v) r = group-put ok _ 4 group v

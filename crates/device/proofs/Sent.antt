@@ -1,24 +1,20 @@
 -- What writing an answer gives, where its row allows it.
 -- Assumes nothing.
-use Prim.Native.Nat.{ℕ, _+_, _-_, _≤_}
+use Prim.Native.Nat.{ℕ, _+_, _-_}
 use mathlib.Core.Path.{_≡_, refl, ap, sym, subst, _∙_}
 use mathlib.Core.Bool.{true}
 use mathlib.Core.List.{List}
 use native.Mathlib.Nat.{add-sub-cancel-left}
-use native.Mathlib.Omega.{arith}
 use lib.ListN.{length, take, drop}
 use lib.Seq.{take-at}
-use borrow.Author.Tests.{le-ltb}
 use Rattle.octets.specs.Bytes.{bytesOf}
 use Rattle.octets.specs.Splice.{splice}
 use Rattle.octets.proofs.Numbers.{length-bytes}
 use Rattle.octets.proofs.Splices.{splice-front, splice-none}
 use Rattle.pdu.specs.Read.{dataAt}
-use Rattle.pdu.specs.Write.{encoded, writable, writeOf, bufferOf, Wrote}
+use Rattle.pdu.specs.Write.{encoded, writable}
 use Rattle.pdu.proofs.Writing.{length-encoded}
 use Rattle.pdu.specs.declared.Pdu.{Pdu}
-use Rattle.pdu.specs.declared.Written.{Written}
-use Rattle.pdu.specs.declared.Written.the-variants.{Bytes, Refused}
 use Rattle.judge.specs.declared.Answer.{Answer}
 use Rattle.judge.specs.declared.Answer.the-variants as answer
 use Rattle.device.specs.Carry.{Filled, answerOf}

@@ -1,12 +1,12 @@
 -- Accepted stays accepted: no event takes a sheet out of the rules.
 -- Assumes nothing.
 use Prim.Native.Nat.{ℕ}
-use mathlib.Core.Path.{_≡_, sym, subst}
+use mathlib.Core.Path.{sym, subst}
 use mathlib.Core.Bool.{Bool}
 use mathlib.Core.List.{List}
 use lib.ListN.{length}
 use native.Mathlib.Omega.{arith}
-use Rattle.sheet.specs.Rules.{Accepted, edition, isAccepted}
+use Rattle.sheet.specs.Rules.{Accepted, isAccepted}
 use Rattle.sheet.specs.Frame.{Agree}
 use Rattle.sheet.proofs.Good.{Good, good}
 use Rattle.sheet.proofs.Frames.{both-or-neither}
@@ -34,14 +34,14 @@ request-agrees x ok =
     (λ p r.
     subst
     (λ (z : Parsed). Keeps (x .sheet) (dataIn z (x .apdu)) (decideOf (x .sheet) (levelIn (x .session) (x .mode)) (x .group) (given x p) p))
-    (sym (r .reads)) (keeps-decided (good edition (x .sheet) ok) _ (x .group) (x .apdu) p (reading (x .apdu) p (r .reads))))
+    (sym (r .reads)) (keeps-decided (good (x .sheet) ok) _ (x .group) (x .apdu) p (reading (x .apdu) p (r .reads))))
     (λ n r. agree-refl (x .sheet))
 
 -- the button
 button-agrees : (s : List ℕ) (on : Bool) → Accepted s → Agree s (buttonSheet s on)
 unfolding buttonSheet pressed
 button-agrees s on ok =
-    let g : Good edition s = good edition s ok in
+    let g : Good s = good s ok in
     by-test (Agree s) (isAccepted s) _ _ (λ e. flags-new g s _ (omega (arith, g .zeros, bit-small on))) (λ e. agree-refl s)
 
 -- AN EVENT LEAVES ALL THAT THE RULES READ
@@ -56,4 +56,4 @@ agrees x (request mode group a out) ok =
 
 -- ACCEPTED STAYS ACCEPTED
 pub stays : (x : State) (e : Event) → Accepted (x .sheet) → Accepted (after x e .sheet)
-stays x e ok = both-or-neither edition (agrees x e ok) .0 ok
+stays x e ok = both-or-neither (agrees x e ok) .0 ok

@@ -5,7 +5,6 @@ use mathlib.Core.Path.{_≡_}
 use mathlib.Core.List.{List}
 use lib.ListN.{length}
 use native.Mathlib.Omega.{arith}
-use Rattle.sheet.specs.Rules.{edition}
 use Rattle.sheet.specs.Kind.{properties}
 use Rattle.sheet.specs.Layout.{_of_}
 use Rattle.sheet.specs.Property as property
@@ -61,13 +60,13 @@ granted : (s : List ℕ) (key : ℕ) → grantOf s key ≤ 3
 granted s key =
     grant-cases s key (λ (l : ℕ). l ≤ 3) (λ a. omega arith) (λ a b. omega arith) (λ a b c. omega arith) (λ a b c. omega arith)
 
-module _ {s : List ℕ} (ok : Good edition s) (h : Octets s) where
+module _ {s : List ℕ} (ok : Good s) (h : Octets s) where
   description-fits : (i : ℕ) → i < count s properties → Fits (describes s i)
   description-fits i l =
       let index = rank-bound s (property.object of entry s properties i) i in
       (entry-byte s i 0 (omega arith) h, (entry-byte s i 1 (omega arith) h, (omega (arith, ok .framed), (entry-byte s i 2 (omega arith) h, (tt, (entry-byte s i 10 (omega arith) h, tt))))))
 
-module _ {s : List ℕ} (ok : Good edition s) (h : Octets s) (level group : ℕ) (d : List ℕ) where
+module _ {s : List ℕ} (ok : Good s) (h : Octets s) (level group : ℕ) (d : List ℕ) where
   fitted : (p : Pdu) → Typed p → Fits (decideOf s level group d p)
   unfolding addressWriteOf addressReadOf serialReadOf serialWriteOf descriptorOf memoryWriteOf bitWriteOf authorizeOf restartOf
   fitted GroupValueRead t = group-read-cases s group Fits (λ i l z. (tt, tt)) (λ i l z. (tt, tt)) tt
@@ -110,5 +109,5 @@ pub typed :
     (x : Asked) → Octets (x .sheet) → Octets (x .apdu) → AnswerTyped (judgeOf (x .room) (x .sheet) (x .session) (x .mode) (x .group) (x .apdu) .answer)
 typed x hs ha =
     request-cases x Fits (λ k r n v t. tt) (λ r f. tt) (λ k r n t e. tt)
-    (λ p r. fitted (good edition (x .sheet) (r .ready .sheet)) hs _ (x .group) _ p (request-typed (x .apdu) p ha (r .reads)))
+    (λ p r. fitted (good (x .sheet) (r .ready .sheet)) hs _ (x .group) _ p (request-typed (x .apdu) p ha (r .reads)))
     (λ n r. tt)

@@ -1,6 +1,6 @@
 -- What of a request is not read: outside multicast the group address, and always the top six bits of the first byte.
 -- Assumes nothing.
-use Prim.Native.Nat.{ℕ, zero, suc, _+_, _*_, _%_, _^_, _≤_, _<_}
+use Prim.Native.Nat.{ℕ, zero, suc, _+_, _*_, _%_, _^_, _≤_}
 use mathlib.Core.Path.{_≡_, refl, sym, ap, ap₂, subst, _∙_}
 use mathlib.Core.Bool.{Bool, true, false, cond, not, _&&_}
 use mathlib.Core.List.{List, [], _∷_}
@@ -36,7 +36,7 @@ use Rattle.judge.specs.Modes.{reachOf, reaches, takes}
 use Rattle.judge.specs.Decisions.{refused}
 use Rattle.judge.specs.Judge.{decideOf, readOf, reachedOf, foundOf, judgeOf, dataIn}
 use Rattle.device.specs.Asked.{Takes}
-use Rattle.device.specs.Step.{Step, stepBy, stepOf}
+use Rattle.device.specs.Step.{stepBy, stepOf}
 use Rattle.device.proofs.Taking.{takes-is}
 
 -- what is decided where a test holds is the same if it is under that test

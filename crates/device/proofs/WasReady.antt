@@ -3,7 +3,7 @@
 use Prim.Native.Nat.{ℕ, _≤_}
 use mathlib.Core.Path.{_≡_, subst}
 use native.Mathlib.Omega.{arith}
-use Rattle.sheet.specs.Rules.{Accepted, edition}
+use Rattle.sheet.specs.Rules.{Accepted}
 use Rattle.sheet.proofs.Frames.{both-or-neither}
 use Rattle.pdu.specs.Read.{readPdu}
 use Rattle.pdu.proofs.Readings.{reading}
@@ -40,7 +40,7 @@ module _ (x y : Asked) (p q : Pdu) (r : Reads x p) (next : Next x y q) (low : y 
   pub ready-next : Reads y q
   ready-next =
       let a = reading (y .apdu) q (next .reads) in
-      let s : Accepted (y .sheet) = rw (next .sheet) (both-or-neither edition (request-agrees x (r .ready .sheet)) .0 (r .ready .sheet)) in
+      let s : Accepted (y .sheet) = rw (next .sheet) (both-or-neither (request-agrees x (r .ready .sheet)) .0 (r .ready .sheet)) in
       record {
         ready = record { buffer = next .buffer; sheet = s; least = a .least; most = a .most; mode = low; session = next .session };
         takes = next .takes;

@@ -8,7 +8,6 @@ use lib.ListN.{length, getD}
 use Rattle.sheet.specs.Layout.{_of_}
 use Rattle.sheet.specs.Head as head
 use Rattle.sheet.specs.Rules.{Accepted}
-use Rattle.judge.specs.declared.Session.{Session}
 use Rattle.device.specs.Step.{Step}
 use Rattle.device.specs.Events.{State, bit}
 

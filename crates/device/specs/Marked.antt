@@ -1,6 +1,5 @@
 -- The sample sheet and the fourteen marked cases.
 -- Assumes nothing.
-use Rattle.sheet.specs.Rules.{edition}
 use Prim.Native.Nat.{ℕ}
 use mathlib.Core.List.{List, [], _∷_}
 use mathlib.Core.Bool.{true, false}

@@ -19,8 +19,8 @@ use Rattle.sheet.specs.Lookup.{seek, covers}
 use Rattle.sheet.specs.Frame.{Agree}
 use Rattle.sheet.specs.Places.{regionAt, PropertyWith}
 use Rattle.sheet.proofs.Sames.{count-same, region-same, property-same}
-use Rattle.sheet.proofs.Seeks.{seek-same}
-use Rattle.sheet.proofs.Finds.{index-same}
+use Rattle.sheet.proofs.FrontSearch.{seek-same}
+use Rattle.sheet.proofs.SameLookups.{index-same}
 use Rattle.history.specs.Wish.{Wish, change, writeMemory, writeBits, writeProperty, writeKey, offerKey, restart, other, nothing}
 use Rattle.history.specs.Permit.{regionFor, mayRead, mayWrite, mostBytes, inRange, indexFor, entryFor, clears, fills, allowed}
 use Rattle.history.proofs.Bools.{every-same}

@@ -12,7 +12,6 @@ use borrow.Author.Tests.{eqb-true, eq-eqb, ne-eqb}
 use Rattle.octets.specs.Bytes.{bytesOf}
 use Rattle.octets.specs.Splice.{splice}
 use Rattle.octets.proofs.Numbers.{length-bytes}
-use Rattle.sheet.specs.Rules.{edition}
 use Rattle.sheet.specs.Kind.{groups}
 use Rattle.sheet.specs.Layout.{_of_}
 use Rattle.sheet.specs.Group as group
@@ -39,7 +38,7 @@ use Rattle.history.proofs.Framed.{below-same}
 use Rattle.history.proofs.Hearing.{asks-is, brings-is}
 use Rattle.history.proofs.Invariant.{Inv, fine, now}
 use Rattle.history.proofs.Means.{store-group}
-use Rattle.history.proofs.Octet.{octets-bytes, octets-data}
+use Rattle.device.proofs.Octet.{octets-bytes, octets-data}
 use Rattle.history.proofs.Requests.{E, Ok, Done, opens-same, levels-same, programs-same, addresses-same, values-new, unwritten, left, aside}
 use Rattle.history.proofs.Writes.{heard-now}
 
@@ -126,7 +125,7 @@ module _ (f : First) (b : Begins f) (h : List Event) (x : State) (inv : Inv f h 
     group-once : (i j : ℕ) → Group R i → Group R j → i ≡ j
     unfolding keyOf
     group-once i j m n =
-        key-once edition _ (accepted (now inv b)) groups (omega arith) i j (m .there) (n .there) (m .address ∙ sym (n .address))
+        key-once _ (accepted (now inv b)) groups (omega arith) i j (m .there) (n .there) (m .address ∙ sym (n .address))
 
     pub unfit :
         (i : ℕ) → Group R i → (length D ≡ group.code of entry (x .sheet) groups i → ⊥) → (j : ℕ) → Group R j →

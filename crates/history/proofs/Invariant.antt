@@ -11,7 +11,7 @@ use Rattle.sheet.specs.Kind.{groups}
 use Rattle.sheet.specs.Layout.{_of_}
 use Rattle.sheet.specs.Head as head
 use Rattle.sheet.specs.Entries.{count, bodyAt}
-use Rattle.sheet.specs.Rules.{ruleOf, Accepted, edition, isAccepted}
+use Rattle.sheet.specs.Rules.{ruleOf, Accepted, isAccepted}
 use Rattle.sheet.proofs.Good.{Good, good, accepted}
 use Rattle.sheet.proofs.Frames.{kept}
 use Rattle.device.specs.Events.{Event, State, connect, disconnect, button, connectOf, disconnectOf, bit, pressed, buttonSheet}
@@ -47,7 +47,7 @@ means-as m p q r t =
     }
 
 -- the first content is what stands in the first sheet
-pub first-holds : {s : List ℕ} → Good edition s → (x : Location) (p : ℕ) → Place s x p → getD s p 0 ≡ firstOf s x
+pub first-holds : {s : List ℕ} → Good s → (x : Location) (p : ℕ) → Place s x p → getD s p 0 ≡ firstOf s x
 unfolding firstOf entryFor bodyAt
 first-holds {s} g (memory m y) p (ofMemory h) = rw (region-hit g 1 (omega arith) (covered-stands h), h .here)
 first-holds g (body o d j) p (ofBody i q h e) = rw (property-hit g q, e)
@@ -65,7 +65,7 @@ begin f b =
           record {
             agree = agree-refl (f .sheet);
             octets = b .octets;
-            holds = first-holds (good edition (f .sheet) (b .accepted));
+            holds = first-holds (good (f .sheet) (b .accepted));
             still = λ p h. refl;
             address = refl;
             programming = refl;
@@ -85,10 +85,10 @@ module _ {f : First} {h : List Event} {x : State} (inv : Inv f h x) where
   disconnected = record { session = refl; rights = refl; means = inv .means }
 
   module _ (b : Begins f) where
-    pub fine : Good edition (f .sheet)
-    fine = good edition (f .sheet) (b .accepted)
+    pub fine : Good (f .sheet)
+    fine = good (f .sheet) (b .accepted)
 
-    pub now : Good edition (x .sheet)
+    pub now : Good (x .sheet)
     now = kept fine (inv .means .agree)
 
     pub now-accepted : Accepted (x .sheet)

@@ -9,7 +9,6 @@ use borrow.Author.Tests.{eq-eqb, ne-eqb}
 use Rattle.octets.specs.Bytes.{numAt, bytesOf}
 use Rattle.octets.specs.Splice.{splice}
 use Rattle.octets.proofs.Numbers.{length-bytes}
-use Rattle.sheet.specs.Rules.{edition}
 use Rattle.sheet.specs.Layout.{_of_}
 use Rattle.sheet.specs.Head as head
 use Rattle.sheet.proofs.Good.{accepted}
@@ -28,7 +27,7 @@ use Rattle.history.proofs.Hearing.{asks-is}
 use Rattle.history.proofs.Invariant.{Inv, fine, now}
 use Rattle.history.proofs.KeyRun.{key-place, key-run}
 use Rattle.history.proofs.Means.{long, store-span}
-use Rattle.history.proofs.Octet.{octets-bytes}
+use Rattle.device.proofs.Octet.{octets-bytes}
 use Rattle.history.proofs.Permits.{key-is}
 use Rattle.history.proofs.Requests.{Done, opens-same, levels-new, programs-same, addresses-same, values-same, aside}
 use Rattle.history.proofs.Writes.{heard-now, carried-out, denied}
@@ -61,7 +60,7 @@ module _ (f : First) (b : Begins f) (h : List Event) (x : State) (inv : Inv f h 
       (store-span (fine inv b) (inv .means) _ ((head.key named) .at) (bytesOf 4 number)
       (omega (arith, size, w .known, long (fine inv b) (inv .means)))
       (key-run (f .sheet) named number (omega (arith, w .known)))
-      (key-store edition (accepted (now inv b)) named (bytesOf 4 number) (omega (arith, w .known)) size)
+      (key-store (accepted (now inv b)) named (bytesOf 4 number) (omega (arith, w .known)) size)
       (octets-bytes 4 number))
     where
       size : length (bytesOf 4 number) ≡ 4

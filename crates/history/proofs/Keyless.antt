@@ -10,7 +10,6 @@ use native.Mathlib.Decide.{decLt}
 use native.Mathlib.Omega.{arith}
 use borrow.Author.Tests.{eqb-true, lt-ltb, le-ltb}
 use Rattle.octets.specs.Bytes.{numAt}
-use Rattle.sheet.specs.Rules.{edition}
 use Rattle.sheet.specs.Kind.{properties}
 use Rattle.sheet.specs.Layout.{_of_}
 use Rattle.sheet.specs.Head as head
@@ -39,7 +38,7 @@ use Rattle.history.proofs.Requests.{Spans}
 use Rattle.history.proofs.Suffices.{suffices}
 
 -- the write level is the one that the entry says: of the region where an address stands, of the property with an object and id
-module _ {s : List ℕ} (g : Good edition s) where
+module _ {s : List ℕ} (g : Good s) where
   pub level-of-memory : {m : Memory} {y p levels : ℕ} → Stands s m y p levels → writeLevel s (memory m y) ≡ levels % 16
   unfolding writeLevel
   level-of-memory h = rw (region-hit g 1 (omega arith) (covered-stands h), h .under)
@@ -186,7 +185,7 @@ module _ (l : ℕ) (low : l < 3) where
       let c = k f h b o in
       let s = keyless f closed h locked in
       record {
-        bytes = λ y p q w. c .holds y p q ∙ s .holds y w ∙ sym (first-holds (good edition (f .sheet) (b .accepted)) y p q);
+        bytes = λ y p q w. c .holds y p q ∙ s .holds y w ∙ sym (first-holds (good (f .sheet) (b .accepted)) y p q);
         rights = λ e. rw (c .rights) (s .rights (sym (c .session) ∙ e));
         always = λ a. rw (c .rights) (s .always a);
       }

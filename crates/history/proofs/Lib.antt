@@ -13,7 +13,6 @@ pub mod Refuted
 -- LAWS BEHIND THEM. Of tests, of spans, of bytes:
 pub mod Bools
 pub mod Spans
-pub mod Octet
 pub mod RequestFields
 -- of what is heard, found, allowed:
 pub mod Hearing

@@ -12,7 +12,6 @@ use Rattle.octets.specs.Bytes.{numAt, bytesOf}
 use Rattle.octets.specs.Splice.{splice}
 use Rattle.octets.proofs.Numbers.{num-same, length-bytes}
 use Rattle.octets.proofs.Splices.{splice-in, splice-outside, splice-num, splice-num-outside}
-use Rattle.sheet.specs.Rules.{edition}
 use Rattle.sheet.specs.Kind.{groups}
 use Rattle.sheet.specs.Layout.{Field, _of_}
 use Rattle.sheet.specs.Head as head
@@ -22,14 +21,14 @@ use Rattle.sheet.specs.Stores.{Inside, Fit}
 use Rattle.sheet.proofs.Good.{Good, accepted}
 use Rattle.sheet.proofs.Frames.{agree-trans, kept}
 use Rattle.sheet.proofs.Stores.{body-store, address-store, flags-store}
-use Rattle.sheet.proofs.Lie.{within, disjoint}
+use Rattle.sheet.proofs.BodyPlaces.{within, disjoint}
 use Rattle.sheet.proofs.Sames.{count-same, at-same, end-same}
 use Rattle.history.specs.Location.{Location, Place}
 use Rattle.history.specs.Span.{Span, has, put}
 use Rattle.device.specs.Octets.{Octets}
 use Rattle.history.specs.Keeps.{Still}
 use Rattle.history.proofs.Places.{no-group, place-after, past-contents}
-use Rattle.history.proofs.Octet.{octets-bytes, octets-splice}
+use Rattle.device.proofs.Octet.{octets-bytes, octets-splice}
 use Rattle.history.proofs.Spans.{laid}
 use Rattle.history.proofs.Stored.{Run, away, stored, spared}
 
@@ -50,8 +49,8 @@ one-byte : (v : ℕ) → v ≤ 3 → v ∷ [] ≡ bytesOf 1 v
 unfolding bytesOf
 one-byte v h = ap (λ (n : ℕ). n ∷ []) (let e : v ≡ v % 256 = omega arith in e)
 
-module _ {f : List ℕ} (g : Good edition f) {c : Location → ℕ} {adr prog : ℕ} {grp : ℕ → ℕ → ℕ} {s : List ℕ} (m : Means f c adr prog grp s) where
-  fine : Good edition s
+module _ {f : List ℕ} (g : Good f) {c : Location → ℕ} {adr prog : ℕ} {grp : ℕ → ℕ → ℕ} {s : List ℕ} (m : Means f c adr prog grp s) where
+  fine : Good s
   fine = kept g (m .agree)
 
   pub long : 32 ≤ length s
@@ -125,7 +124,7 @@ module _ {f : List ℕ} (g : Good edition f) {c : Location → ℕ} {adr prog : 
       let k : 14 + 1 ≤ 18 = omega arith in
       let new = it-is head.flags v l k in
       store-number head.flags v l k
-      (subst (λ (ds : List ℕ). Agree s (splice s 14 ds)) (one-byte v low) (flags-store edition (accepted fine) v low))
+      (subst (λ (ds : List ℕ). Agree s (splice s 14 ds)) (one-byte v low) (flags-store (accepted fine) v low))
       (λ p h. away 14 1 p (λ a b. h .flags (omega arith)))
       (other-field head.flags v l k head.address (inr (omega arith)) ∙ m .address)
       (ap (λ (n : ℕ). n % 2) new)
@@ -137,7 +136,7 @@ module _ {f : List ℕ} (g : Good edition f) {c : Location → ℕ} {adr prog : 
       let k : 16 + 2 ≤ 18 = omega arith in
       let flags = other-field head.address v low k head.flags (inl (omega arith)) in
       store-number head.address v low k
-      (address-store edition (accepted fine) (bytesOf 2 v) (length-bytes 2 v))
+      (address-store (accepted fine) (bytesOf 2 v) (length-bytes 2 v))
       (λ p h. h .address)
       (it-is head.address v low k)
       (ap (λ (n : ℕ). n % 2) flags ∙ m .programming)
@@ -153,7 +152,7 @@ module _ {f : List ℕ} (g : Good edition f) {c : Location → ℕ} {adr prog : 
         Fit s groups i ds → Octets ds → Means f c adr prog new (splice s (bodyAt f groups i) ds)
     store-group new here there fit b =
         record {
-          agree = agree-trans (m .agree) (body-store edition (accepted fine) groups i o ds lies fit);
+          agree = agree-trans (m .agree) (body-store (accepted fine) groups i o ds lies fit);
           octets = octets-splice s o ds room (m .octets) b;
           holds = λ x p h. off p (λ k. no-group g h k) ∙ m .holds x p h;
           still = λ p h. off p (h .group i) ∙ m .still p h;

@@ -12,7 +12,7 @@ use Rattle.history.proofs.Stored.{Run}
 
 module _ {s : List ℕ} {m : Memory} {y n o l : ℕ} (r : Ranged s m y n o l) where
   pub memory-place : (j : ℕ) → j < n → Place s (memory m (y + j)) (o + j)
-  memory-place j h = ofMemory (range-byte r j h .stands)
+  memory-place j h = ofMemory (range-byte r j h)
 
   -- A RUN OF MEMORY
   pub memory-run :

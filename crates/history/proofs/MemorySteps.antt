@@ -9,7 +9,7 @@ use Rattle.octets.specs.Splice.{splice}
 use Rattle.sheet.specs.Places.{Ranged}
 use Rattle.sheet.specs.declared.Memory.{Memory}
 use Rattle.sheet.specs.declared.Memory.the-variants.{Device}
-use Rattle.sheet.proofs.Finds.{ranged-same}
+use Rattle.sheet.proofs.SameLookups.{ranged-same}
 use Rattle.sheet.proofs.Frames.{agree-sym}
 use Rattle.sheet.proofs.Runs.{range-within, range-store}
 use Rattle.pdu.specs.declared.Pdu.the-variants.{MemoryWrite, MemoryBitWrite}
@@ -28,7 +28,7 @@ use Rattle.history.proofs.RequestFields.{memory-data}
 use Rattle.history.proofs.Invariant.{Inv, fine, now}
 use Rattle.history.proofs.Means.{Means, store-span}
 use Rattle.history.proofs.MemoryRun.{memory-place, memory-run}
-use Rattle.history.proofs.Octet.{octets-data, octets-bits}
+use Rattle.device.proofs.Octet.{octets-data, octets-bits}
 use Rattle.history.proofs.Permits.{wish, memory-is}
 use Rattle.history.proofs.Requests.{Done}
 use Rattle.history.proofs.Spans.{laid}

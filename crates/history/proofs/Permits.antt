@@ -11,7 +11,6 @@ use native.Mathlib.Omega.{arith}
 use borrow.Author.Tests.{ltb-true, lt-ltb, leb-true, le-leb, eqb-true, eq-eqb}
 use Rattle.octets.specs.Bytes.{numAt}
 use Rattle.octets.proofs.Numbers.{num-two}
-use Rattle.sheet.specs.Rules.{edition}
 use Rattle.sheet.specs.Kind.{properties, kindOf}
 use Rattle.sheet.specs.Layout.{_of_}
 use Rattle.sheet.specs.Region as region
@@ -22,7 +21,7 @@ use Rattle.sheet.specs.declared.Memory.{Memory}
 use Rattle.sheet.specs.declared.Memory.the-variants.{Device}
 use Rattle.sheet.proofs.Good.{Good}
 use Rattle.sheet.proofs.Runs.{Covered, covers-range, in-region}
-use Rattle.octets.proofs.Truths.{and-is}
+use Rattle.octets.proofs.Truths.{and-is, or-is}
 use Rattle.device.specs.Octets.{Octets}
 use Rattle.device.specs.Asked.{Asked}
 use Rattle.device.specs.PropertiesDue as properties-due
@@ -33,7 +32,7 @@ use Rattle.device.proofs.Properly.{two-zeros}
 use Rattle.history.specs.Wish.{Change, change, writeMemory, writeBits, writeProperty, writeKey}
 use Rattle.history.specs.Span.{all}
 use Rattle.history.specs.Permit.{every, levelFor, regionFor, mayRead, mayWrite, inRange, indexFor, entryFor, clears, fills, allowed}
-use Rattle.history.proofs.Bools.{all-at, every-at, every-all, or-left, or-right, or-cases}
+use Rattle.history.proofs.Bools.{all-at, every-at, every-all}
 use Rattle.history.proofs.Searches.{region-covers, covered-byte, region-hit, may-read, may-write, property-hit, property-found}
 use Rattle.history.proofs.LevelFor.{acts-once, acts-so}
 
@@ -79,7 +78,7 @@ abbrev pub wish : Write → ℕ → ℕ → Change
 wish (bytes m) n y = writeMemory m n y
 wish bits n y = writeBits n y
 
-module _ (x : Asked) (g : Good edition (x .sheet)) where
+module _ (x : Asked) (g : Good (x .sheet)) where
   abbrev S : List ℕ
   S = x .sheet
 

@@ -7,7 +7,7 @@ use mathlib.Core.Bool.{Bool, true, _&&_}
 use mathlib.Core.List.{List}
 use native.Mathlib.Omega.{arith}
 use Rattle.sheet.specs.Head.{rulesOf}
-use Rattle.sheet.specs.Rules.{Accepted, edition}
+use Rattle.sheet.specs.Rules.{Accepted}
 use Rattle.sheet.specs.declared.Memory.the-variants.{Device}
 use Rattle.sheet.proofs.Good.{Good, good}
 use Rattle.pdu.specs.declared.Pdu.{Pdu}
@@ -41,8 +41,8 @@ module _ (x : State) (mode g : ℕ) (a out : List ℕ) (accepted : Accepted (x .
   abbrev L : ℕ
   L = levelFor mode (x .session .level)
 
-  fine : Good edition (x .sheet)
-  fine = good edition (x .sheet) accepted
+  fine : Good (x .sheet)
+  fine = good (x .sheet) accepted
 
   -- allowed, of the PDU that it reads as
   by-pdu : (p : Pdu) → Reads X p → allowed (x .sheet) L (given X p) (wishOf p) ≡ true → Permitted X

@@ -10,7 +10,6 @@ use lib.Seq.{ext-getD}
 use native.Mathlib.Decide.{decLt, ℕ-discrete}
 use native.Mathlib.Omega.{arith}
 use Rattle.octets.proofs.Numbers.{num-one, num-two}
-use Rattle.sheet.specs.Rules.{edition}
 use Rattle.sheet.specs.Kind.{groups}
 use Rattle.sheet.specs.Head as head
 use Rattle.sheet.specs.Entries.{bodyAt, InBody}
@@ -30,8 +29,8 @@ module _ (f : First) (b : Begins f) (h : List Event) (step step′ : Device) (k 
   abbrev T : List ℕ
   T = stateAfter step′ f h .sheet
 
-  g : Good edition (f .sheet)
-  g = good edition (f .sheet) (b .accepted)
+  g : Good (f .sheet)
+  g = good (f .sheet) (b .accepted)
 
   -- where the address stands, and the flags
   abbrev A : ℕ

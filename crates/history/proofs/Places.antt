@@ -14,9 +14,9 @@ use Rattle.sheet.specs.Property as property
 use Rattle.sheet.specs.Entries.{count, place, contents, entry, keyOf, bodyAt, bodyEnd, InBody}
 use Rattle.sheet.specs.Places.{Position, inHead, inEntry, inBody, Stands, PropertyWith}
 use Rattle.sheet.specs.Frame.{Fixed}
-use Rattle.sheet.specs.Rules.{Accepted, edition}
+use Rattle.sheet.specs.Rules.{Accepted}
 use Rattle.sheet.proofs.Good.{Good, good, accepted}
-use Rattle.sheet.proofs.Lie.{within, after-contents, disjoint}
+use Rattle.sheet.proofs.BodyPlaces.{within, after-contents, disjoint}
 use Rattle.sheet.specs.declared.Memory.{Memory}
 use Rattle.sheet.specs.declared.Memory.the-variants.{Device}
 use Rattle.sheet.proofs.Standing.{InEntry, after-head, place-in, one-entry}
@@ -38,12 +38,12 @@ pub counter-in :
     p ≡ place s properties i + property.count .at + j → InEntry s properties i (6 + j) p
 counter-in q h e = record { kind = omega arith; below = q .there; short = omega arith; here = omega arith }
 
-module _ {s : List ℕ} (g : Good edition s) where
+module _ {s : List ℕ} (g : Good s) where
   -- one property at most has an object and an id
   pub property-once : {object id i j : ℕ} → PropertyWith s object id i → PropertyWith s object id j → i ≡ j
   unfolding keyOf
   property-once {object} {id} {i} {j} a b =
-      key-once edition s (accepted g) properties (omega arith) i j (a .there) (b .there)
+      key-once s (accepted g) properties (omega arith) i j (a .there) (b .there)
       (let p = key-is (entry s properties i) in let q = key-is (entry s properties j) in omega (arith, a .sameObject, a .sameId, b .sameObject, b .sameId))
 
   -- locations stand in the keys, in the entries, or after them
@@ -102,7 +102,7 @@ module _ {s : List ℕ} (g : Good edition s) where
 
   -- and each stands at one alone
   pub place-once : {x : Location} {p q : ℕ} → Place s x p → Place s x q → p ≡ q
-  place-once (ofMemory a) (ofMemory b) = stands-once edition (accepted g) a b .0
+  place-once (ofMemory a) (ofMemory b) = stands-once (accepted g) a b .0
   place-once (ofBody i a h e) (ofBody m b l f) = let z = ap (bodyAt s properties) (property-once a b) in omega arith
   place-once (ofCounter i a h e) (ofCounter m b l f) = let z = property-once a b in omega arith
   place-once (ofKey h k e) (ofKey c d f) = omega arith
@@ -184,7 +184,7 @@ module _ {s : List ℕ} (g : Good edition s) where
 
     -- every position is a location's, a group object's or a field's
     pub sort : p < length s → Sort s p
-    sort h = from (position edition (accepted g) p h)
+    sort h = from (position (accepted g) p h)
       where
         from : Position s p → Sort s p
         from (inHead l) = in-head l (decLe 18 p) (decLt p 30)
@@ -206,8 +206,8 @@ module _ {s : List ℕ} (g : Good edition s) where
 module _ (s : List ℕ) (accepted : Accepted s) where
   -- NO TWO LOCATIONS STAND AT ONE POSITION, AND EACH STANDS AT ONE ALONE
   pub place-injective : (x y : Location) (p q : ℕ) → (Place s x p → Place s y p → x ≡ y) × (Place s x p → Place s x q → p ≡ q)
-  place-injective x y p q = (location-once (good edition s accepted), place-once (good edition s accepted))
+  place-injective x y p q = (location-once (good s accepted), place-once (good s accepted))
 
   -- EVERY POSITION IS EXACTLY ONE OF A LOCATION'S, A GROUP OBJECT'S AND A FIELD'S
   pub exactly-one : (p : ℕ) → p < length s → (a : Sort s p) × ((b : Sort s p) → beingOf b ≡ beingOf a)
-  exactly-one p h = let a = sort (good edition s accepted) p h in (a, λ b. sort-once (good edition s accepted) p b a)
+  exactly-one p h = let a = sort (good s accepted) p h in (a, λ b. sort-once (good s accepted) p b a)

@@ -8,7 +8,6 @@ use native.Mathlib.Nat.{mul-le-mul-right}
 use native.Mathlib.Omega.{arith}
 use Rattle.octets.specs.Bytes.{bytesOf}
 use Rattle.octets.proofs.Numbers.{length-bytes}
-use Rattle.sheet.specs.Rules.{edition}
 use Rattle.sheet.specs.Kind.{properties}
 use Rattle.sheet.specs.Layout.{_of_}
 use Rattle.sheet.specs.Property as property
@@ -24,7 +23,7 @@ use Rattle.history.proofs.Stored.{Run}
 pub elements-fit : (t n z m : ℕ) → t + n ≤ m → t * z + n * z ≤ z * m
 elements-fit t n z m h = omega (arith, mul-le-mul-right z h)
 
-module _ {s : List ℕ} (g : Good edition s) {object id i : ℕ} (is : PropertyWith s object id i) where
+module _ {s : List ℕ} (g : Good s) {object id i : ℕ} (is : PropertyWith s object id i) where
   pub entry-for : entryFor s object id ≡ entry s properties i
   unfolding entryFor
   entry-for = ap (entry s properties) (property-hit g is)

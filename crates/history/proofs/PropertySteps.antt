@@ -14,12 +14,12 @@ use Rattle.sheet.specs.Layout.{_of_}
 use Rattle.sheet.specs.Property as property
 use Rattle.sheet.specs.Entries.{count, place, entry, bodyAt, bodyEnd}
 use Rattle.sheet.specs.Frame.{Agree}
-use Rattle.sheet.specs.Rules.{entryDemands, edition}
+use Rattle.sheet.specs.Rules.{entryDemands}
 use Rattle.sheet.specs.Places.{PropertyWith}
 use Rattle.sheet.specs.Stores.{Inside}
 use Rattle.sheet.proofs.Good.{accepted}
 use Rattle.sheet.proofs.Frames.{kept}
-use Rattle.sheet.proofs.Lie.{inside-within}
+use Rattle.sheet.proofs.BodyPlaces.{inside-within}
 use Rattle.sheet.proofs.Sames.{count-same, place-same, property-same}
 use Rattle.sheet.proofs.Standing.{field-at, place-in}
 use Rattle.sheet.proofs.Counts.{count-store}
@@ -43,7 +43,7 @@ use Rattle.history.proofs.RequestFields.{property-id}
 use Rattle.history.proofs.Framed.{is-same}
 use Rattle.history.proofs.Invariant.{Inv, fine, now}
 use Rattle.history.proofs.Means.{Means, store-span}
-use Rattle.history.proofs.Octet.{octets-bytes, octets-data}
+use Rattle.device.proofs.Octet.{octets-bytes, octets-data}
 use Rattle.history.proofs.Permits.{property-is}
 use Rattle.history.proofs.PropertyRun.{counter-place, counter-run, body-run, elements-fit, entry-for}
 use Rattle.history.proofs.Requests.{Done}
@@ -162,7 +162,7 @@ module _ (f : First) (b : Begins f) (h : List Event) (x : State) (inv : Inv f h 
           store-span (fine inv b) (inv .means) Elems (elementAt S z) d
           (inside-within (now inv b) inside)
           (rw at-first (body-run (fine inv b) is n z d (rw element-same at size) (el .start) (rw maximum-same at (el .end))))
-          (body-store edition (accepted (now inv b)) properties i (elementAt S z) d inside (λ q. absurd (omega arith)))
+          (body-store (accepted (now inv b)) properties i (elementAt S z) d inside (λ q. absurd (omega arith)))
           (rw e (octets-data (P object id n z) a octets))
 
       -- the new count

@@ -1,12 +1,10 @@
 -- What demand 3 rules out: each of the wrong devices, since after its run its state is not ours.
 -- Assumes nothing.
-use Prim.Native.Nat.{ℕ, zero, suc}
 use mathlib.Core.Path.{_≡_, refl, sym, ap, _∙_}
 use mathlib.Core.Bool.{Bool, true, _&&_, not}
 use mathlib.Core.List.{List, [], _∷_}
-use lib.Dec.{ltb, eqb}
-use borrow.Author.Tests.{ltb-true, eq-eqb}
-use native.Mathlib.Omega.{arith}
+use lib.Dec.{eqb}
+use borrow.Author.Tests.{eq-eqb}
 use Rattle.octets.specs.Bytes.{numAt, bytesOf}
 use Rattle.octets.specs.Splice.{splice}
 use Rattle.sheet.specs.Demand.{breach}
@@ -25,10 +23,10 @@ use Rattle.judge.specs.Properties.{writeIn, propertyWriteOf}
 use Rattle.judge.specs.Memory.{changeOf, memoryWriteOf}
 use Rattle.judge.specs.Keys.{grantOf, authorizeOf, keyWriteOf}
 use Rattle.judge.specs.Judge.{reachedOf, isShut, judgeOf}
-use Rattle.device.specs.Octets.{Octets}
 use Rattle.device.specs.Step.{stepBy, stepOf}
 use Rattle.device.specs.Events.{Event, State, connect, disconnect, button, request, eventOf, bit}
 use Rattle.device.specs.Marked.{sample}
+use Rattle.device.proofs.Octet.{isBytes, octets-by}
 use Rattle.history.specs.Span.{same}
 use Rattle.history.specs.Wish.{asks, brings}
 use Rattle.history.specs.Permit.{every, heard, levelFor, regionFor, mayWrite, inRange, indexFor, entryFor, allowed}
@@ -41,15 +39,6 @@ use Rattle.history.proofs.Pinned.{pinned}
 use Rattle.history.proofs.Spans.{same-so}
 
 -- bytes, by one test
-abbrev isBytes : List ℕ → Bool
-isBytes [] = true
-isBytes (x ∷ s) = ltb x 256 && isBytes s
-
-octets-by : (s : List ℕ) → isBytes s ≡ true → Octets s
-octets-by [] e i = omega arith
-octets-by (x ∷ s) e zero = ltb-true x 256 (and-is (ltb x 256) (isBytes s) .0 e .0)
-octets-by (x ∷ s) e (suc i) = octets-by s (and-is (ltb x 256) (isBytes s) .0 e .1) i
-
 abbrev bringsBytes : Event → Bool
 bringsBytes connect = true
 bringsBytes disconnect = true

@@ -7,7 +7,6 @@ use lib.Dec.{leb}
 use native.Mathlib.Omega.{arith}
 use borrow.Author.Tests.{lt-ltb}
 use Rattle.octets.proofs.Numbers.{num-one}
-use Rattle.sheet.specs.Rules.{edition}
 use Rattle.sheet.specs.Kind.{properties, kindOf}
 use Rattle.sheet.specs.Layout.{_of_}
 use Rattle.sheet.specs.Region as region
@@ -18,7 +17,7 @@ use Rattle.sheet.specs.Places.{regionAt, Stands, PropertyWith}
 use Rattle.sheet.specs.declared.Memory.{Memory}
 use Rattle.sheet.proofs.Good.{Good, accepted}
 use Rattle.sheet.proofs.Standing.{entry-at}
-use Rattle.sheet.proofs.Seeks.{seek-hit, seek-passes}
+use Rattle.sheet.proofs.FrontSearch.{seek-hit, seek-passes}
 use Rattle.sheet.proofs.Keys.{index-hit, index-key, key-is, key-parts}
 use Rattle.sheet.proofs.Runs.{Covered, covering, covered, region-once}
 use Rattle.history.specs.Permit.{regionFor, mayRead, mayWrite, indexFor}
@@ -38,7 +37,7 @@ covered-byte c j h = record { below = c .below; from = omega (arith, c .from); t
 pub covered-stands : {s : List ℕ} {m : Memory} {y p levels : ℕ} (h : Stands s m y p levels) → Covered s m (h .index) y 1
 covered-stands h = record { below = h .below; from = h .from; to = omega (arith, h .to) }
 
-module _ {s : List ℕ} (g : Good edition s) where
+module _ {s : List ℕ} (g : Good s) where
   module _ {m : Memory} {i y : ℕ} where
     -- and a region that has it is the one
     pub region-hit : (n : ℕ) → 0 < n → Covered s m i y n → regionFor s m y n ≡ i
@@ -62,7 +61,7 @@ module _ {s : List ℕ} (g : Good edition s) where
   pub property-hit : {object id i : ℕ} → PropertyWith s object id i → indexFor s object id ≡ i
   unfolding indexFor keyOf
   property-hit {object} {id} {i} q =
-      index-hit edition s (accepted g) properties (omega arith) i (object * 256 + id) (q .there) (omega (arith, key-is (entry s properties i), q .sameObject, q .sameId))
+      index-hit s (accepted g) properties (omega arith) i (object * 256 + id) (q .there) (omega (arith, key-is (entry s properties i), q .sameObject, q .sameId))
 
 -- the property that the search gives has the object and the id, ids being bytes
 pub property-found :

@@ -10,7 +10,6 @@ use native.Mathlib.Decide.{decLt}
 use native.Mathlib.Omega.{arith}
 use Rattle.octets.specs.Splice.{splice}
 use Rattle.octets.proofs.Splices.{splice-in, splice-outside}
-use Rattle.sheet.specs.Rules.{edition}
 use Rattle.sheet.proofs.Good.{Good}
 use Rattle.history.specs.Location.{Location, Place}
 use Rattle.octets.proofs.Truths.{never}
@@ -35,7 +34,7 @@ away o n p f = go (decLt p o) (decLt p (o + n))
 
 -- places of the sheet f; the bytes of the sheet s
 module _
-    {f : List ℕ} (g : Good edition f) (s : List ℕ) (p : Span) (o : ℕ) (ds : List ℕ) (room : o + length ds ≤ length s)
+    {f : List ℕ} (g : Good f) (s : List ℕ) (p : Span) (o : ℕ) (ds : List ℕ) (room : o + length ds ≤ length s)
     (run : Run f p o ds) where
   -- the location that stands in the run at q
   there : (q : ℕ) → o ≤ q → q < o + length ds → Place f (on (p .from) (q - o)) q

@@ -11,7 +11,7 @@ use Rattle.sheet.specs.Head as head
 use Rattle.sheet.specs.Head.{rulesOf}
 use Rattle.sheet.specs.Region as region
 use Rattle.sheet.specs.Property as property
-use Rattle.sheet.specs.Entries.{entry, place}
+use Rattle.sheet.specs.Entries.{place}
 use Rattle.sheet.specs.Places.{regionAt}
 use Rattle.judge.specs.declared.Session.{Session}
 use Rattle.device.specs.Events.{Event, connect, disconnect, button, request}

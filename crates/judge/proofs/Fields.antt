@@ -6,7 +6,7 @@ use mathlib.Core.List.{List}
 use mathlib.Core.Bool.{Bool, true, false, cond}
 use lib.Dec.{eqb}
 use native.Mathlib.Omega.{arith}
-use Rattle.sheet.specs.Rules.{Accepted, edition}
+use Rattle.sheet.specs.Rules.{Accepted}
 use Rattle.sheet.specs.Lookup.{objectAt, rank}
 use Rattle.sheet.specs.Places.{PropertyIn}
 use Rattle.sheet.specs.declared.PropertyEntry.{PropertyEntry}
@@ -14,10 +14,10 @@ use Rattle.sheet.proofs.Good.{good}
 
 module _ (s : List ℕ) (ok : Accepted s) (i : ℕ) (e : PropertyEntry) (p : PropertyIn s i e) where
   pub small-offset : e .offset ≤ 16384
-  small-offset = omega (arith, p .body, good edition s ok .framed)
+  small-offset = omega (arith, p .body, good s ok .framed)
 
   pub small-place : e .place ≤ 16384
-  small-place = omega (arith, p .room, good edition s ok .framed)
+  small-place = omega (arith, p .room, good s ok .framed)
 
 one : (b : Bool) → cond b 1 0 ≤ 1
 one true = omega arith

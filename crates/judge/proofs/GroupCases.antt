@@ -6,7 +6,6 @@ use mathlib.Core.List.{List}
 use native.Mathlib.Omega.{arith}
 use borrow.Author.Tests.{lt-ltb, eq-eqb, ne-eqb}
 use Rattle.octets.specs.Bytes.{numAt}
-use Rattle.sheet.specs.Rules.{edition}
 use Rattle.sheet.specs.Kind.{groups}
 use Rattle.sheet.specs.Layout.{_of_}
 use Rattle.sheet.specs.Group as group
@@ -74,10 +73,10 @@ module _ (s : List ℕ) (address : ℕ) where
         (λ l. h)
 
 -- AND BACK: the object that lets it decides
-module _ {s : List ℕ} (ok : Good edition s) (address i : ℕ) where
+module _ {s : List ℕ} (ok : Good s) (address i : ℕ) where
   here : (w : ℕ) → Lets s w address i → indexOf s groups address ≡ i
   unfolding keyOf
-  here w t = index-hit edition s (accepted ok) groups (omega arith) i address (t .there) (t .named)
+  here w t = index-hit s (accepted ok) groups (omega arith) i address (t .there) (t .named)
 
   reads : Lets s 1 address i → groupReadOf s address ≡ valueOf s (group.code of entry s groups i) (group.offset of entry s groups i)
   unfolding groupReadOf flagsAt

@@ -5,7 +5,6 @@ pub mod GroupCases
 pub mod PropertyCases
 pub mod MemoryCases
 pub mod KeyCases
-pub mod Laws
 pub mod Arms
 pub mod Values
 pub mod Grouped

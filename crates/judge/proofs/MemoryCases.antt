@@ -8,7 +8,6 @@ use mathlib.Core.List.{List}
 use lib.Dec.{leb}
 use borrow.Author.Tests.{le-leb, leb-true, eq-eqb, ne-eqb}
 use Rattle.sheet.specs.Head as head
-use Rattle.sheet.specs.Rules.{edition}
 use Rattle.sheet.specs.Places.{Ranged}
 use Rattle.sheet.specs.Lookup.{rangeOf}
 use Rattle.sheet.specs.declared.Memory.{Memory}
@@ -79,7 +78,7 @@ module _ (w : Access) (most : ℕ) (s : List ℕ) (m : Memory) (level n a : ℕ)
           }
 
   -- and what stands there is permitted
-  module _ (ok : Good edition s) (o : ℕ) (p : Permits w most s m level n a o) where
+  module _ (ok : Good s) (o : ℕ) (p : Permits w most s m level n a o) where
     range-is : rangeOf s m a n ≡ At o (p .levels)
     range-is = range-hit ok (p .range) (p .some)
 
@@ -104,7 +103,7 @@ module _ (s : List ℕ) (m : Memory) (level n a : ℕ) where
       (λ e. h)
 
   pub memory-reads :
-      Good edition s → (o : ℕ) → Permits Read (mostBytes m) s m level n a o →
+      Good s → (o : ℕ) → Permits Read (mostBytes m) s m level n a o →
       memoryReadOf s m level n a ≡ answered (answer.Sheet (responseOf m n a) o n)
   unfolding memoryReadOf
   memory-reads ok o p =
@@ -134,7 +133,7 @@ module _ (w : Access) (most : ℕ) (new : ℕ → Store) (s : List ℕ) (m : Mem
       (λ e. by-eq P (head.verify s) 1 _ _ h u)
 
   -- AND BACK: the place where the range stands decides
-  module _ (ok : Good edition s) (o : ℕ) (p : Permits w most s m level n a o) where
+  module _ (ok : Good s) (o : ℕ) (p : Permits w most s m level n a o) where
     pub change-writes : head.verify s ≡ 1 → changed ≡ verified o
     unfolding changeOf
     change-writes v = simp (allowed-is w most s m level n a ok o p, run-is w most s m level n a ok o p, eq-eqb (head.verify s) 1 v)

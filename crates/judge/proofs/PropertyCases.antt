@@ -9,7 +9,6 @@ use lib.ListN.{length}
 use native.Mathlib.Omega.{arith}
 use borrow.Author.Tests.{lt-ltb, le-leb, eq-eqb, ne-eqb, leb-true, eqb-true}
 use Rattle.octets.specs.Bytes.{numAt}
-use Rattle.sheet.specs.Rules.{edition}
 use Rattle.sheet.specs.Kind.{properties}
 use Rattle.sheet.specs.Layout.{_of_}
 use Rattle.sheet.specs.Property as property
@@ -147,10 +146,10 @@ module _ (sheet : List ℕ) (object id index : ℕ) (P : Decision → Type 0) wh
 among-back : {n s m : ℕ} → Among n s m → elements n s m ≡ true
 among-back {n} {s} {m} a = simp (le-leb 1 s (a .start), le-leb 1 n (a .some), le-leb (s + n - 1) m (a .end))
 
-module _ {sheet : List ℕ} (ok : Good edition sheet) (object id i : ℕ) (k : Keyed sheet object id i) where
+module _ {sheet : List ℕ} (ok : Good sheet) (object id i : ℕ) (k : Keyed sheet object id i) where
   here : propertyAt sheet object id ≡ i
   unfolding keyOf
-  here = index-hit edition sheet (accepted ok) properties (omega arith) i (object * 256 + id) (k .there) (k .key)
+  here = index-hit sheet (accepted ok) properties (omega arith) i (object * 256 + id) (k .there) (k .key)
 
   module _ (level n s : ℕ) where
     reads : propertyReadOf sheet level object id n s ≡ readIn (entry sheet properties i) level object id n s

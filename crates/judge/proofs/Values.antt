@@ -19,7 +19,7 @@ use Rattle.judge.specs.declared.Store.the-variants as store
 use Rattle.judge.specs.declared.Answer.the-variants as answer
 use Rattle.judge.specs.declared.Decision.{Decision}
 use Rattle.judge.specs.Decisions.{denied, answered, written}
-use Rattle.judge.proofs.Laws.{first-true, second-true}
+use Rattle.octets.proofs.Truths.{first-true, second-true}
 use Rattle.judge.specs.Memory.{mayRead, mayWrite}
 use Rattle.judge.specs.Properties.{elements, counted, elementAt, most, noValue, propertyAt, readIn, propertyReadOf, writeIn, propertyWriteOf, describedAt, descriptionOf}
 

@@ -1,6 +1,5 @@
 -- WHICH MODE TAKES WHICH SERVICE, by the number of the rules.
 -- Assumes nothing.
-use Rattle.sheet.specs.Rules.{edition}
 use Prim.Native.Nat.{ℕ}
 use mathlib.Core.Bool.{Bool, true, false, _||_}
 use lib.Dec.{eqb}

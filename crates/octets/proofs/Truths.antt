@@ -15,6 +15,12 @@ pub and-is : (a b : Bool) → ((a && b) ≡ true) ↔ ((a ≡ true) × (b ≡ tr
 and-is true b = (λ e. (refl, e), λ h. h .1)
 and-is false b = (λ e. (e, never e), λ h. h .0)
 
+pub first-true : (a b : Bool) → (a && b) ≡ true → a ≡ true
+first-true a b e = and-is a b .0 e .0
+
+pub second-true : (a b : Bool) → (a && b) ≡ true → b ≡ true
+second-true a b e = and-is a b .0 e .1
+
 pub or-is : (a b : Bool) → ((a || b) ≡ true) ↔ ((a ≡ true) ⊎ (b ≡ true))
 or-is true b = (λ e. inl refl, λ h. refl)
 or-is false b = (λ e. inr e, λ h. mathlib.Core.Logic.⊎-elim (λ e. never e) (λ e. e) h)

@@ -1,10 +1,9 @@
--- What the arms of a match on a PDU or a service ask, and the tests in them.
+-- What the arms of a match on a PDU or a service ask.
 -- Assumes nothing.
 use Prim.Native.Nat.{ℕ}
 use mathlib.Core.Path.{_≡_, sym, subst}
 use mathlib.Core.Bool.{Bool}
 use mathlib.Core.List.{List}
-use borrow.Author.Tests.{lt-ltb, le-ltb, le-leb, lt-leb, eq-eqb, ne-eqb}
 use Rattle.octets.specs.Splice.{splice}
 use Rattle.pdu.specs.Table.{rowOf}
 use Rattle.pdu.specs.Pdus.{serviceOf, valuesOf}
@@ -12,9 +11,6 @@ use Rattle.pdu.specs.Rules.{headBytes}
 use Rattle.pdu.specs.Read.{dataAt}
 use Rattle.pdu.specs.Write.{fitsIn}
 use Rattle.pdu.specs.declared.Pdu.{Pdu}
-
--- a test whose answer is known
-pub ruleset tests = (lt-ltb, le-ltb, le-leb, lt-leb, eq-eqb, ne-eqb)
 
 -- in an arm the enum is known: what holds of its constructor holds of it
 pub via-fits : (p q : Pdu) (n : ℕ) (r : Bool) → p ≡ q → r ≡ fitsIn q n → r ≡ fitsIn p n

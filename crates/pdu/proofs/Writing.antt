@@ -2,7 +2,7 @@
 -- Assumes nothing.
 use Prim.Native.Nat.{ℕ, _+_, _-_, _≤_, _<_}
 use mathlib.Core.Path.{_≡_, refl, sym, ap, _∙_}
-use mathlib.Core.Bool.{Bool, true, false, _&&_}
+use mathlib.Core.Bool.{Bool, true, false}
 use mathlib.Core.List.{List}
 use native.Mathlib.Omega.{arith}
 use lib.Dec.{leb}
@@ -11,6 +11,7 @@ use lib.Seq.{take-all, drop-length}
 use borrow.Author.Tests.{lt-ltb, le-ltb, le-leb, lt-leb}
 use Rattle.octets.specs.Splice.{splice}
 use Rattle.octets.proofs.Splices.{length-splice}
+use Rattle.octets.proofs.Tests.{not-second}
 use Rattle.pdu.specs.Item.{Row}
 use Rattle.pdu.specs.Table.{rowOf}
 use Rattle.pdu.specs.Pdus.{serviceOf, valuesOf}
@@ -38,10 +39,6 @@ wrote-refused : (p : Pdu) (d o : List ℕ) → 16 ≤ length o → writable p d 
 unfolding writeOf
 wrote-refused p d o h e = record { result = simp (le-ltb _ _ h, e); buffer = refl }
 
-and-false : (a : Bool) → (a && false) ≡ false
-and-false true = refl
-and-false false = refl
-
 module _ (p : Pdu) (d o : List ℕ) (a : ℕ) (h : 16 ≤ length o) (e : a ≡ dataAt p) where
   pub wrote-long : 16 < a + length d → Wrote p d o (Refused 13) o
   unfolding writable
@@ -51,7 +48,7 @@ module _ (p : Pdu) (d o : List ℕ) (a : ℕ) (h : 16 ≤ length o) (e : a ≡ d
   unfolding writable
   wrote-13 b f t =
       let g : fitsIn p (dataAt p + length d) ≡ false = sym (rw e at f) ∙ t in
-      wrote-refused p d o h (ap (λ (t : Bool). leb (dataAt p + length d) 16 && t) g ∙ and-false (leb (dataAt p + length d) 16))
+      wrote-refused p d o h (not-second (leb (dataAt p + length d) 16) _ g)
 
   pub wrote-all :
       (o₂ : List ℕ) (b : Bool) (n : ℕ) →

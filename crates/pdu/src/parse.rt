@@ -4,8 +4,12 @@ ghost use Rattle.pdu.specs.Read.{builtOf, readAs};
 use crate::Parsed;
 use crate::Pdu;
 use crate::Service;
+use crate::fields::byte;
+use crate::fields::low;
+use crate::fields::word;
 use crate::rules::allowed;
 use crate::take;
+use octets::number;
 
 // The PDU of the service with the fields in the bytes.
 fn built(k: Service, s: &[u8]) -> Pdu
@@ -13,30 +17,57 @@ fn built(k: Service, s: &[u8]) -> Pdu
 {
     match k {
         Service::GroupValueRead => Pdu::GroupValueRead,
-        Service::GroupValueResponse => take::group_value_response(s),
-        Service::GroupValueWrite => take::group_value_write(s),
-        Service::IndividualAddressWrite => take::individual_address_write(s),
+        Service::GroupValueResponse => Pdu::GroupValueResponse { v: low(s, 64) },
+        Service::GroupValueWrite => Pdu::GroupValueWrite { v: low(s, 64) },
+        Service::IndividualAddressWrite => Pdu::IndividualAddressWrite {
+            address: word(s, 2),
+        },
         Service::IndividualAddressRead => Pdu::IndividualAddressRead,
-        Service::SerialNumberRead => take::serial_number_read(s),
-        Service::SerialNumberWrite => take::serial_number_write(s),
-        Service::DeviceDescriptorRead => take::device_descriptor_read(s),
+        Service::SerialNumberRead => Pdu::SerialNumberRead {
+            serial: number(s, 2, 6),
+        },
+        Service::SerialNumberWrite => Pdu::SerialNumberWrite {
+            serial: number(s, 2, 6),
+            address: word(s, 8),
+        },
+        Service::DeviceDescriptorRead => Pdu::DeviceDescriptorRead { t: low(s, 64) },
         Service::PropertyValueRead => take::property_value_read(s),
         Service::PropertyValueWrite => take::property_value_write(s),
         Service::PropertyDescriptionRead => take::property_description_read(s),
-        Service::MemoryRead => take::memory_read(s),
-        Service::MemoryWrite => take::memory_write(s),
-        Service::MemoryBitWrite => take::memory_bit_write(s),
-        Service::AuthorizeRequest => take::authorize_request(s),
-        Service::KeyWrite => take::key_write(s),
+        Service::MemoryRead => Pdu::MemoryRead {
+            n: low(s, 16),
+            address: word(s, 2),
+        },
+        Service::MemoryWrite => Pdu::MemoryWrite {
+            n: low(s, 16),
+            address: word(s, 2),
+        },
+        Service::MemoryBitWrite => Pdu::MemoryBitWrite {
+            n: byte(s, 2),
+            address: word(s, 3),
+        },
+        Service::AuthorizeRequest => Pdu::AuthorizeRequest {
+            key: number(s, 3, 4) as u32,
+        },
+        Service::KeyWrite => Pdu::KeyWrite {
+            level: byte(s, 2),
+            key: number(s, 3, 4) as u32,
+        },
         Service::Restart => Pdu::Restart,
         Service::IndividualAddressResponse => Pdu::IndividualAddressResponse,
-        Service::SerialNumberResponse => take::serial_number_response(s),
-        Service::DeviceDescriptorResponse => take::device_descriptor_response(s),
+        Service::SerialNumberResponse => Pdu::SerialNumberResponse {
+            serial: number(s, 2, 6),
+            domain: word(s, 8),
+        },
+        Service::DeviceDescriptorResponse => Pdu::DeviceDescriptorResponse { t: low(s, 64) },
         Service::PropertyValueResponse => take::property_value_response(s),
         Service::PropertyDescriptionResponse => take::property_description_response(s),
-        Service::MemoryResponse => take::memory_response(s),
-        Service::AuthorizeResponse => take::authorize_response(s),
-        Service::KeyResponse => take::key_response(s),
+        Service::MemoryResponse => Pdu::MemoryResponse {
+            n: low(s, 16),
+            address: word(s, 2),
+        },
+        Service::AuthorizeResponse => Pdu::AuthorizeResponse { level: byte(s, 2) },
+        Service::KeyResponse => Pdu::KeyResponse { level: byte(s, 2) },
     }
 }
 

@@ -1,30 +1,30 @@
 -- Every valid code's result is in the range that is written; read-back of whole datapoints.
 -- Assumes nothing.
 use mathlib.Core.Path.{_≡_, refl, sym, ap, ap₂, _∙_, subst}
-use Prim.Native.Nat.{ℕ, zero, suc, _+_, _*_, _-_, _/_, _%_, _^_, _≤_, _<_}
+use Prim.Native.Nat.{ℕ, zero, suc, _*_, _/_, _%_, _^_, _≤_, _<_}
 use mathlib.Core.Bool.{Bool, true, false, cond, not, _&&_}
-use mathlib.Core.List.{List, [], _++_, append-nil}
+use mathlib.Core.List.{List, [], append-nil}
 use native.Mathlib.Omega.{arith}
 use native.Mathlib.Nat.{mul-le-mul}
 use lib.ListN.{length, getD}
 use lib.Seq.{ext-getD}
-use lib.Dec.{T, eqb, ltb, leb}
-use lib.IntN.{ℤ, pos, negsuc, negℤ, natAbs}
+use lib.Dec.{T, eqb}
+use lib.IntN.{ℤ, pos}
 use lib.Ieee.{Float, binary32, toBits, ofBits, isNan, fits}
 use lib.Ieee.Bits.{ofBits-toBits, toBits-ofBits, toBits-lt, nanBits-is}
-use borrow.Author.Tests.{lt-ltb, le-leb, eq-eqb, ne-eqb, ltb-true, ltb-false, eqb-true, eqb-false}
+use borrow.Author.Tests.{le-leb, ne-eqb, ltb-true, ltb-false, eqb-true, eqb-false}
 use Rattle.octets.specs.Bytes.{numAt, bytesOf}
 use Rattle.octets.proofs.Numbers.{num-back, length-bytes, bytes-back, num-below}
-use Rattle.points.specs.Nine.{exponentAt, res, Valid, inRange, Chosen}
+use Rattle.points.specs.Nine.{exponentAt, res, Valid, inRange}
 use Rattle.points.specs.Code.{codeOf}
-use Rattle.points.specs.Point.{typeOf, widthAt, finite, finiteBits, pointAt, readPoint, refusalOf, numberOf, pointBytes, readOutcome, Typed, Exact}
+use Rattle.points.specs.Point.{typeOf, widthAt, finite, finiteBits, pointAt, readPoint, refusalOf, numberOf, pointBytes, readOutcome, Typed, Exact, asWritten}
 use Rattle.points.specs.declared.Datapoint.{Datapoint}
 use Rattle.points.specs.declared.Datapoint.the-variants.{Switch, Byte, Hundredths, Float as Single}
 use Rattle.points.specs.declared.Reading.{Reading}
 use Rattle.points.specs.declared.Reading.the-variants.{Is, Refused}
 use Rattle.points.proofs.Laws.{small, read-is}
 use Rattle.points.proofs.Floats.{no-nan, above-infinite}
-use Rattle.points.proofs.Choice.{View, view, code, most, chosen}
+use Rattle.points.proofs.Choice.{view, code, most, chosen}
 use Rattle.points.proofs.Signed.{sgn}
 use Rattle.points.proofs.Unique.{back}
 
@@ -115,20 +115,31 @@ finite-bits x t f = go (finiteBits (toBits binary32 x)) refl
     go true e = e
     go false e = absurd (subst T (sym (sym (above-infinite x t (ltb-false (toBits binary32 x / 8388608 % 256) 255 e)) ∙ f)) tt)
 
-pub point-back : (d : Datapoint) → Typed d → refusalOf d ≡ 0 → Exact d → pointAt (typeOf d) (numberOf d) ≡ Is d
-point-back (Switch true) t r e = refl
-point-back (Switch false) t r e = refl
-point-back (Byte n) t r e = refl
-point-back (Hundredths z) t r e =
+-- the number of a datapoint that is written says it, hundredths as they are written
+pub point-written : (d : Datapoint) → Typed d → refusalOf d ≡ 0 → pointAt (typeOf d) (numberOf d) ≡ Is (asWritten d)
+point-written (Switch true) t r = refl
+point-written (Switch false) t r = refl
+point-written (Byte n) t r = refl
+point-written (Hundredths z) t r =
     ap (λ (b : Bool). cond b (Refused 22) (Is (Hundredths (res (codeOf z))))) (ne-eqb (codeOf z) 32767 (chosen z (written-in z r) .valid .other))
-    ∙ ap (λ (y : ℤ). Is (Hundredths y)) (ap (λ (y : ℤ). res (codeOf y)) (sym (e .1 .1)) ∙ result-back (e .0) (e .1 .0) ∙ e .1 .1)
-point-back (Single x) t r e =
+point-written (Single x) t r =
     ap (λ (b : Bool). cond b (Is (Single (ofBits binary32 (toBits binary32 x)))) (Refused 24)) (finite-bits x t (written-finite x r))
     ∙ ap (λ (y : Float). Is (Single y)) (ofBits-toBits binary32 x t)
 
--- A DATAPOINT THAT IS WRITTEN IS READ BACK FROM ITS BYTES; hundredths where a valid code has them
+-- A DATAPOINT THAT IS WRITTEN IS READ BACK FROM ITS BYTES, hundredths as they are written
+pub written-back : (d : Datapoint) → Typed d → refusalOf d ≡ 0 → readPoint (typeOf d) (pointBytes d) ≡ Is (asWritten d)
+written-back d t r = sym (read-number d t r) ∙ point-written d t r
+
+-- WHICH IS AS THEY WERE where a valid code has them
+pub exact-written : (d : Datapoint) → Exact d → asWritten d ≡ d
+exact-written (Switch b) e = refl
+exact-written (Byte n) e = refl
+exact-written (Hundredths z) e =
+    ap Hundredths (ap (λ (y : ℤ). res (codeOf y)) (sym (e .1 .1)) ∙ result-back (e .0) (e .1 .0) ∙ e .1 .1)
+exact-written (Single x) e = refl
+
 pub read-back : (d : Datapoint) → Typed d → refusalOf d ≡ 0 → Exact d → readPoint (typeOf d) (pointBytes d) ≡ Is d
-read-back d t r e = sym (read-number d t r) ∙ point-back d t r e
+read-back d t r e = written-back d t r ∙ ap Is (exact-written d e)
 
 refused : (n : ℕ) (d : Datapoint) → (n ≡ 0 → ⊥) → Refused n ≡ Is d → ⊥
 refused n d h e = h (ap readOutcome e)

@@ -2,7 +2,7 @@
 -- Assumes nothing.
 use mathlib.Core.Path.{_≡_, refl, sym, ap, ap₂, _∙_, subst}
 use mathlib.Core.Logic.{_⊎_, inl, inr}
-use Prim.Native.Nat.{ℕ, zero, suc, _+_, _*_, _-_, _/_, _%_, _^_, _≤_, _<_, zero-le}
+use Prim.Native.Nat.{ℕ, zero, suc, _+_, _*_, _-_, _%_, _^_, _≤_, _<_, zero-le}
 use mathlib.Core.Bool.{Bool, true, false, cond, not}
 use native.Mathlib.Omega.{arith}
 use native.Mathlib.Nat.{mul-le-mul-right, pow-suc, pow-le-pow-right}
@@ -12,7 +12,7 @@ use lib.IntN.{ℤ, pos, negsuc, negℤ, natAbs, _-ℤ_}
 use borrow.Author.Tests.{ltb-true, ltb-false, leb-true, leb-false, eqb-true, eqb-false, ne-eqb}
 use Rattle.points.specs.Nine.{exponentAt, res, Valid, inRange, off, Chosen}
 use Rattle.points.specs.Code.{rounded, quotient, exponentFrom, exponentOf, packed, stepped, codeOf}
-use Rattle.points.proofs.Best.{dist, Nearer, Before, nearest, low, least, before, reach, within, up-to, twice-of}
+use Rattle.points.proofs.Best.{Nearer, Before, nearest, low, least, before, reach, within, up-to, twice-of}
 use Rattle.points.proofs.Laws.{res-plus, res-minus}
 use Rattle.points.proofs.Signed.{sgn, abs-sgn, zero-sgn, far, far-is, compare, range-plus, range-minus}
 

@@ -1,7 +1,7 @@
 -- Which bits are those of finite floats.
 -- Assumes nothing.
 use mathlib.Core.Path.{_≡_, refl, sym, ap, _∙_, subst}
-use Prim.Native.Nat.{ℕ, zero, suc, _<_, _≤_, _%_, _/_, _*_}
+use Prim.Native.Nat.{ℕ, _<_, _≤_, _%_, _/_, _*_}
 use native.Mathlib.Omega.{arith}
 use native.Mathlib.Nat.{le-of-lt}
 use mathlib.Core.Bool.{Bool, true, false, not, cond, _&&_, _||_, Bool·beq}

@@ -1,26 +1,24 @@
 -- What the branches of reading and writing ask.
 -- Assumes nothing.
-use Prim.Native.Nat.{ℕ, zero, suc, _+_, _*_, _-_, _/_, _%_, _^_, _≤_, _<_}
-use mathlib.Core.Path.{_≡_, refl, sym, ap, ap₂, _∙_, subst}
+use Prim.Native.Nat.{ℕ, zero, suc, _*_, _-_, _/_, _%_, _^_, _≤_, _<_}
+use mathlib.Core.Path.{_≡_, refl, sym, ap, _∙_, subst}
 use mathlib.Core.Bool.{Bool, true, false, cond}
 use native.Mathlib.Omega.{arith}
-use native.Mathlib.Nat.{pow-le-pow-right, mul-le-mul, mul-comm}
-use lib.Dec.{eqb, ltb, leb}
+use native.Mathlib.Nat.{pow-le-pow-right, mul-le-mul}
+use lib.Dec.{eqb}
 use lib.Pow.{pow-pos}
-use lib.IntN.{ℤ, pos, negsuc, negℤ, natAbs, _*ℤ_}
+use lib.IntN.{ℤ, pos, negℤ, _*ℤ_}
 use mathlib.Core.List.{List}
 use lib.ListN.{length}
 use mir.Syntax.{w8, w32}
 use mir.Val.{Fits}
-use borrow.Author.Tests.{lt-ltb, le-ltb, le-leb, lt-leb, eq-eqb, ne-eqb, eqb-true, eqb-false}
-use Rattle.points.specs.Nine.{res, mantissaAt, exponentAt}
+use borrow.Author.Tests.{lt-ltb, le-ltb, eq-eqb, ne-eqb}
+use Rattle.points.specs.Nine.{res, exponentAt}
 use Rattle.octets.specs.Bytes.{numAt, IsNum}
 use Rattle.points.specs.Point.{widthAt, pointAt, Narrow, readPoint}
 use Rattle.points.specs.declared.Datapoint.the-variants.{Hundredths}
 use Rattle.points.specs.declared.Reading.{Reading}
 use Rattle.points.specs.declared.Reading.the-variants.{Is, Refused}
-
-pub ruleset tests = (lt-ltb, le-ltb, le-leb, lt-leb, eq-eqb, ne-eqb)
 
 -- a power of two with an exponent up to 15
 pub small : (e : ℕ) → e ≤ 15 → (0 < 2 ^ e) × (2 ^ e ≤ 32768)

@@ -1,12 +1,13 @@
 -- Numbers by sign and magnitude, and how far two of them are apart.
 -- Assumes nothing.
-use mathlib.Core.Path.{_≡_, refl, sym, ap, ap₂, _∙_, subst}
+use mathlib.Core.Path.{_≡_, refl, sym, ap, _∙_}
 use Prim.Native.Nat.{ℕ, zero, suc, _+_, _-_, _≤_, _<_}
-use mathlib.Core.Bool.{Bool, true, false, cond, _&&_}
+use mathlib.Core.Bool.{Bool, true, false, cond}
 use native.Mathlib.Omega.{arith}
-use lib.Dec.{T, ltb, leb}
-use lib.IntN.{ℤ, pos, negsuc, negℤ, natAbs, subℕ, _+ℤ_, _-ℤ_, pos-ne-negsuc}
+use lib.Dec.{ltb, leb}
+use lib.IntN.{ℤ, pos, negsuc, negℤ, natAbs, subℕ, _-ℤ_, pos-ne-negsuc}
 use borrow.Author.Tests.{ltb-true, ltb-false, leb-true}
+use Rattle.octets.proofs.Truths.{first-true}
 use Rattle.points.specs.Nine.{inRange}
 use Rattle.points.proofs.Best.{dist, Nearer}
 
@@ -78,16 +79,11 @@ far-none false true a b h =
     ap (sgn false) i ∙ ap (sgn true) j
 
 -- the range by magnitudes
-pub both : (a b : Bool) → (a && b) ≡ true → (a ≡ true) × (b ≡ true)
-both true true e = (refl, refl)
-both true false e = (refl, e)
-both false b e = (e, absurd (subst T (sym e) tt))
-
 pub range-plus : (m : ℕ) → inRange (pos m) ≡ true → m ≤ 67043328
 range-plus m h = leb-true m 67043328 h
 
 pub range-minus : (n : ℕ) → inRange (negsuc n) ≡ true → n < 67108864
-range-minus n h = omega (arith, leb-true n 67108863 (both (leb n 67108863) true h .0))
+range-minus n h = omega (arith, leb-true n 67108863 (first-true (leb n 67108863) true h))
 
 pub range-abs : (x : ℤ) → inRange x ≡ true → natAbs x ≤ 67108864
 range-abs (pos m) h = omega (arith, range-plus m h)

@@ -2,7 +2,7 @@
 -- Assumes nothing.
 use mathlib.Core.Path.{_≡_, refl, sym, ap, _∙_, subst}
 use mathlib.Core.Logic.{_⊎_, inl, inr}
-use Prim.Native.Nat.{ℕ, zero, suc, _+_, _*_, _-_, _^_, _≤_, _<_, zero-le}
+use Prim.Native.Nat.{ℕ, zero, suc, _*_, _^_, _≤_, _<_}
 use mathlib.Core.Bool.{Bool, true, false, not}
 use native.Mathlib.Omega.{arith}
 use native.Mathlib.Nat.{le-antisymm, eq-of-mul-eq-mul-right}
@@ -10,9 +10,8 @@ use lib.Pow.{pow-pos}
 use lib.IntN.{ℤ, pos, negsuc, natAbs, _-ℤ_}
 use Rattle.points.specs.Nine.{exponentAt, res, Valid, inRange, off, Chosen}
 use Rattle.points.specs.Code.{codeOf}
-use Rattle.points.proofs.Best.{dist}
-use Rattle.points.proofs.Signed.{sgn, abs-sgn, zero-sgn, far, far-is, far-none}
-use Rattle.points.proofs.Choice.{View, view, code, most, off-is, size-is, same?, chosen}
+use Rattle.points.proofs.Signed.{sgn, zero-sgn, far, far-is, far-none}
+use Rattle.points.proofs.Choice.{view, code, off-is, size-is, chosen}
 
 -- x by its sign
 abbrev isMinus : ℤ → Bool

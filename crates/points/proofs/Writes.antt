@@ -1,13 +1,12 @@
 -- What the branches of writing ask.
 -- Assumes nothing.
-use Prim.Native.Nat.{ℕ, zero, suc, _+_, _≤_, _<_}
+use Prim.Native.Nat.{ℕ, _+_, _≤_}
 use mathlib.Core.Path.{_≡_, refl, sym, ap, ap₂, _∙_, subst}
 use mathlib.Core.Bool.{Bool, true, false, cond, _&&_}
-use mathlib.Core.List.{List, [], _++_, append-nil}
+use mathlib.Core.List.{List, _++_, append-nil}
 use native.Mathlib.Omega.{arith}
 use lib.ListN.{length, drop}
 use lib.Seq.{drop-length}
-use lib.Dec.{eqb}
 use lib.IntN.{ℤ, pos, negsuc}
 use lib.Signed.{leZ}
 use mir.Syntax.{w32}
@@ -18,9 +17,10 @@ use Rattle.octets.specs.Bytes.{bytesOf}
 use Rattle.octets.specs.Splice.{splice}
 use Rattle.octets.proofs.Numbers.{length-bytes}
 use Rattle.octets.proofs.Splices.{splice-front}
+use Rattle.octets.proofs.Tests.{not-second}
 use Rattle.points.specs.Nine.{inRange}
 use Rattle.points.specs.Code.{codeOf}
-use Rattle.points.specs.Point.{typeOf, widthAt, refusalOf, numberOf, pointBytes, writeOutcome, Put, Numbered}
+use Rattle.points.specs.Point.{typeOf, widthAt, refusalOf, pointBytes, writeOutcome, Put, Numbered}
 use Rattle.points.specs.declared.Datapoint.{Datapoint}
 use Rattle.points.specs.declared.Datapoint.the-variants.{Switch, Byte, Hundredths}
 use Rattle.points.proofs.Laws.{width-small}
@@ -39,10 +39,6 @@ numbered-byte n = record { why = refl; is = λ _. refl }
 pub in-range : (x : ℤ) → leZ (negsuc 67108863) x ≡ true → leZ x (pos 67043328) ≡ true → inRange x ≡ true
 in-range x e f = ap₂ _&&_ e f
 
-no-and : (a : Bool) → (a && false) ≡ false
-no-and true = refl
-no-and false = refl
-
 module _ (x : ℤ) (f : SFits w32 x) where
   refused-in : (b : Bool) → inRange (toZ w32 (ofZ w32 x)) ≡ b → refusalOf (Hundredths x) ≡ cond b 0 23
   refused-in b e = ap (λ (t : Bool). cond t 0 23) (ap inRange (sym (toZ-ofZ f)) ∙ e)
@@ -53,7 +49,7 @@ numbered-in x n f e g h = record { why = sym (refused-in x f true (in-range (toZ
 pub numbered-high : (x : ℤ) → SFits w32 x → leZ (toZ w32 (ofZ w32 x)) (pos 67043328) ≡ false → Numbered (Hundredths x) 23 0
 numbered-high x f e =
     record {
-      why = sym (refused-in x f false (ap (λ (b : Bool). leZ (negsuc 67108863) (toZ w32 (ofZ w32 x)) && b) e ∙ no-and (leZ (negsuc 67108863) (toZ w32 (ofZ w32 x)))));
+      why = sym (refused-in x f false (not-second (leZ (negsuc 67108863) (toZ w32 (ofZ w32 x))) _ e));
       is = λ z. absurd (omega (arith, z));
     }
 

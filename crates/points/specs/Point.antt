@@ -6,7 +6,6 @@ use mathlib.Core.Bool.{Bool, true, false, cond}
 use mathlib.Core.List.{List}
 use lib.ListN.{length}
 use lib.Dec.{T, eqb, ltb}
-use lib.IntN.{ℤ}
 use lib.Ieee.{Float, nan, inf, fin, binary32, toBits, ofBits, fits}
 use Rattle.octets.specs.Bytes.{numAt, bytesOf}
 use Rattle.points.specs.Nine.{res, inRange, Valid}
@@ -103,3 +102,10 @@ Exact (Switch b) = Unit {0}
 Exact (Byte n) = Unit {0}
 Exact (Hundredths z) = (c : ℕ) × (Valid c × (res c ≡ z))
 Exact (Single x) = Unit {0}
+
+-- THE DATAPOINT THAT THE BYTES OF d SAY: hundredths are those of the code that is chosen, all others are d
+abbrev pub asWritten : Datapoint → Datapoint
+asWritten (Switch b) = Switch b
+asWritten (Byte n) = Byte n
+asWritten (Hundredths z) = Hundredths (res (codeOf z))
+asWritten (Single x) = Single x

@@ -1,7 +1,7 @@
 -- What the branches of reading and writing a flat datapoint ask.
 -- Assumes nothing.
 use Prim.Native.Nat.{ℕ}
-use mathlib.Core.Path.{_≡_, refl, sym, ap, _∙_, subst}
+use mathlib.Core.Path.{_≡_, refl, sym, ap, _∙_}
 use mathlib.Core.Bool.{Bool, true, false, cond}
 use mathlib.Core.List.{List}
 use lib.ListN.{length}
@@ -10,9 +10,9 @@ use lib.IntN.{ℤ, pos}
 use mir.Val.{boolByte}
 use borrow.Author.Tests.{eq-eqb, ne-eqb}
 use Rattle.octets.specs.Bytes.{numAt, IsNum}
-use Rattle.points.specs.Point.{widthAt, pointAt, readPoint, writeOutcome, pointBytes, Put}
+use Rattle.points.specs.Point.{widthAt, pointAt, readPoint, Put}
 use Rattle.points.specs.declared.Datapoint.{Datapoint}
-use Rattle.points.specs.declared.Datapoint.the-variants.{Switch, Byte, Hundredths, Float as Single}
+use Rattle.points.specs.declared.Datapoint.the-variants.{Switch, Hundredths}
 use Rattle.points.specs.declared.Reading.{Reading}
 use Rattle.points.specs.declared.Reading.the-variants.{Is, Refused}
 use Rattle.tool.specs.Points.{flatPoint, pointLaid, flatPointRead, pointMeant, meantOutcome, meantPart, flatPointOutcome, FlatPut}

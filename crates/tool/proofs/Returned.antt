@@ -1,11 +1,11 @@
 -- What kelindap_write writes with outcome 0, kelindap_read gives back.
 -- Assumes nothing.
 use Prim.Native.Nat.{ℕ, zero, suc, _+_, _-_}
-use mathlib.Core.Path.{_≡_, refl, sym, subst⁻¹, ap, _∙_}
+use mathlib.Core.Path.{_≡_, refl, sym, ap, _∙_}
 use mathlib.Core.Logic.{_⊎_, inl, inr, ⊎-elim}
 use mathlib.Core.Bool.{Bool, true, false, cond, _&&_, and-eq-true-iff, true≢false}
 use mathlib.Core.List.{List, [], _∷_}
-use mathlib.Core.Option.{Option, none, some, Option·none-ne-some, Option·some-injective}
+use mathlib.Core.Option.{Option, none, some, Option·none-ne-some}
 use native.Mathlib.Omega.{arith}
 use native.Mathlib.Nat.{add-zero}
 use borrow.Author.Tests.{eq-eqb, eqb-true}
@@ -16,22 +16,19 @@ use Rattle.pdu.specs.Item.{Name, Item, low, num, cap, duo, skip, Value, _≔_, 
 use Rattle.pdu.specs.Table.{rowOf, services}
 use Rattle.pdu.specs.Pdus.{serviceOf, valuesOf, pduOf}
 use Rattle.pdu.specs.Read.{readPdu, dataAt, dataOf}
-use Rattle.pdu.specs.Write.{writeOf, writeOutcome, writeCount, Wrote}
+use Rattle.pdu.specs.Write.{writeOf, writeOutcome, writeCount}
 use Rattle.pdu.specs.Allows.{Typed}
 use Rattle.pdu.specs.declared.Service.{Service}
 use Rattle.pdu.specs.declared.Service.the-variants as svc
 use Rattle.pdu.specs.declared.Pdu.{Pdu}
 use Rattle.pdu.specs.declared.Parsed.the-variants.{Is}
-use Rattle.pdu.specs.declared.Written.{Written}
 use Rattle.pdu.specs.declared.Written.the-variants.{Refused as Refuses}
 use Rattle.pdu.proofs.Sound.{chosen, sound}
 use Rattle.pdu.proofs.Back.{buffer-back}
-use Rattle.tool.specs.Flat.{placeIn, kindOf, laid, flatOf, flatBy, flatRead, fieldsIn, meantAs, meantBy, unknownKind, meantWrite, flatWritten, FlatWrote}
+use Rattle.tool.specs.Flat.{placeIn, kindOf, laid, flatOf, flatRead, fieldsIn, meantAs, meantBy, FlatWrote}
 use Rattle.tool.specs.Back.{InC, Has, GivenBack}
 use Rattle.tool.specs.declared.FlatPdu.{FlatPdu}
 use Rattle.tool.specs.declared.FlatWritten.{FlatWritten}
-use Rattle.tool.specs.declared.Meant.{Meant}
-use Rattle.tool.specs.declared.Meant.the-variants.{Known, Nothing}
 
 -- the services stand in the order of their kinds
 numbered : ℕ → List Service → Bool

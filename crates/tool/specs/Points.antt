@@ -9,7 +9,6 @@ use lib.Dec.{eqb}
 use lib.IntN.{ℤ, pos}
 use Rattle.octets.specs.Bytes.{numAt}
 use Rattle.points.specs.Point.{widthAt, pointAt, readPoint, writeOutcome, pointBytes}
-use Rattle.points.specs.declared.Datapoint.{Datapoint}
 use Rattle.points.specs.declared.Datapoint.the-variants.{Switch, Byte, Hundredths, Float as Single}
 use Rattle.points.specs.declared.Reading.{Reading}
 use Rattle.points.specs.declared.Reading.the-variants.{Is, Refused}

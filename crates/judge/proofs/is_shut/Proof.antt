@@ -2,7 +2,7 @@
 -- Assumes nothing.
 use native.Mathlib.Omega.{arith}
 use Rattle.judge.specs.Judge.{isShut}
-use Rattle.judge.proofs.Laws.{tests}
+use Rattle.octets.proofs.Tests.{tests}
 use Rattle.judge.proofs.is_shut.Statement.{statement}
 use Rattle.judge.proofs.is_shut.Tie as tie
 

@@ -2,7 +2,7 @@
 -- Assumes nothing.
 use Rattle.points.proofs.Laws.{width-by}
 use native.Mathlib.Omega.{arith}
-use Rattle.points.proofs.Laws.{tests}
+use Rattle.octets.proofs.Tests.{tests}
 use Rattle.points.proofs.width.Statement.{statement}
 use Rattle.points.proofs.width.Tie as tie
 

@@ -2,7 +2,7 @@
 -- Assumes nothing.
 use borrow.Author.Needs.{needs}
 use native.Mathlib.Omega.{arith}
-use Rattle.cemi.proofs.Tests.{tests}
+use Rattle.octets.proofs.Tests.{tests}
 use Rattle.cemi.specs.Meaning.{control}
 use Rattle.cemi.proofs.transport.controlled.Statement.{statement}
 use Rattle.cemi.proofs.transport.controlled.Tie as tie

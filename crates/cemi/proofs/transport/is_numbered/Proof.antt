@@ -1,7 +1,7 @@
 -- `cemi::transport::is_numbered` meets its contract.
 -- Assumes nothing.
 use native.Mathlib.Omega.{arith}
-use Rattle.cemi.proofs.Tests.{tests}
+use Rattle.octets.proofs.Tests.{tests}
 use Rattle.cemi.specs.Meaning.{numbered}
 use Rattle.cemi.proofs.transport.is_numbered.Statement.{statement}
 use Rattle.cemi.proofs.transport.is_numbered.Tie as tie

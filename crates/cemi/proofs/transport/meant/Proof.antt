@@ -2,7 +2,7 @@
 -- Assumes nothing.
 use borrow.Author.Needs.{needs}
 use native.Mathlib.Omega.{arith}
-use Rattle.cemi.proofs.Tests.{branches}
+use Rattle.octets.proofs.Tests.{branches}
 use Rattle.cemi.specs.Meaning.{meaningOf}
 use Rattle.cemi.proofs.transport.meant.Statement.{statement}
 use Rattle.cemi.proofs.transport.meant.Tie as tie

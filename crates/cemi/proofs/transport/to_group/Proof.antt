@@ -1,7 +1,7 @@
 -- `cemi::transport::to_group` meets its contract.
 -- Assumes nothing.
 use native.Mathlib.Omega.{arith}
-use Rattle.cemi.proofs.Tests.{tests}
+use Rattle.octets.proofs.Tests.{tests}
 use Rattle.cemi.specs.Meaning.{toGroup}
 use Rattle.cemi.proofs.transport.to_group.Statement.{statement}
 use Rattle.cemi.proofs.transport.to_group.Tie as tie

@@ -2,7 +2,7 @@
 -- Assumes nothing.
 use borrow.Author.Needs.{needs}
 use native.Mathlib.Omega.{arith}
-use Rattle.cemi.proofs.Tests.{branches}
+use Rattle.octets.proofs.Tests.{branches}
 use Rattle.cemi.specs.Meaning.{toOne}
 use Rattle.cemi.proofs.transport.to_one.Statement.{statement}
 use Rattle.cemi.proofs.transport.to_one.Tie as tie

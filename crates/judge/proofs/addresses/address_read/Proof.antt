@@ -2,7 +2,7 @@
 -- Assumes nothing.
 use borrow.Author.Needs.{needs}
 use native.Mathlib.Omega.{arith}
-use Rattle.judge.proofs.Laws.{branches}
+use Rattle.octets.proofs.Tests.{branches}
 use Rattle.judge.specs.Addresses.{addressReadOf}
 use Rattle.judge.proofs.addresses.address_read.Statement.{statement}
 use Rattle.judge.proofs.addresses.address_read.Tie as tie

@@ -3,7 +3,7 @@
 use borrow.Author.Needs.{needs}
 use native.Mathlib.Omega.{arith}
 use Rattle.judge.proofs.Heads.{mask-answered}
-use Rattle.judge.proofs.Laws.{branches}
+use Rattle.octets.proofs.Tests.{branches}
 use Rattle.judge.specs.Addresses.{descriptorOf}
 use Rattle.judge.proofs.addresses.descriptor.Statement.{statement}
 use Rattle.judge.proofs.addresses.descriptor.Tie as tie

@@ -1,7 +1,7 @@
 -- `judge::addresses::serial_read` meets its contract.
 -- Assumes nothing.
 use borrow.Author.Needs.{needs}
-use Rattle.judge.proofs.Laws.{given}
+use Rattle.octets.proofs.Tests.{given}
 use Rattle.judge.specs.Addresses.{serialReadOf}
 use Rattle.judge.proofs.addresses.serial_read.Statement.{statement}
 use Rattle.judge.proofs.addresses.serial_read.Tie as tie

@@ -1,7 +1,7 @@
 -- `judge::addresses::serial_write` meets its contract.
 -- Assumes nothing.
 use borrow.Author.Needs.{needs}
-use Rattle.judge.proofs.Laws.{given}
+use Rattle.octets.proofs.Tests.{given}
 use Rattle.judge.specs.Addresses.{serialWriteOf}
 use Rattle.judge.proofs.addresses.serial_write.Statement.{statement}
 use Rattle.judge.proofs.addresses.serial_write.Tie as tie

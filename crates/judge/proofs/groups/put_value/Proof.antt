@@ -3,7 +3,7 @@
 use borrow.Author.Needs.{needs}
 use native.Mathlib.Omega.{arith}
 use Rattle.judge.specs.Groups.{putValue}
-use Rattle.judge.proofs.Laws.{tests}
+use Rattle.octets.proofs.Tests.{tests}
 use Rattle.judge.proofs.groups.put_value.Statement.{statement}
 use Rattle.judge.proofs.groups.put_value.Tie as tie
 

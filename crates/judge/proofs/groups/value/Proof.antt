@@ -3,7 +3,7 @@
 use borrow.Author.Needs.{needs}
 use native.Mathlib.Omega.{arith}
 use Rattle.judge.specs.Groups.{valueOf}
-use Rattle.judge.proofs.Laws.{branches}
+use Rattle.octets.proofs.Tests.{branches}
 use Rattle.judge.proofs.Grouped.{six-bits}
 use Rattle.judge.proofs.groups.value.Statement.{statement}
 use Rattle.judge.proofs.groups.value.Tie as tie

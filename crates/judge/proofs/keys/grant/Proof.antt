@@ -1,7 +1,7 @@
 -- `judge::keys::grant` meets its contract.
 -- Assumes nothing.
 use borrow.Author.Needs.{needs}
-use Rattle.judge.proofs.Laws.{given}
+use Rattle.octets.proofs.Tests.{given}
 use Rattle.judge.specs.Keys.{grantOf}
 use Rattle.judge.proofs.keys.grant.Statement.{statement}
 use Rattle.judge.proofs.keys.grant.Tie as tie

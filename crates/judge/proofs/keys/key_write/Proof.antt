@@ -3,7 +3,7 @@
 use borrow.Author.Needs.{needs}
 use native.Mathlib.Omega.{arith}
 use Rattle.judge.proofs.Heads.{key-set}
-use Rattle.judge.proofs.Laws.{branches}
+use Rattle.octets.proofs.Tests.{branches}
 use Rattle.judge.specs.Keys.{keyWriteOf}
 use Rattle.judge.proofs.keys.key_write.Statement.{statement}
 use Rattle.judge.proofs.keys.key_write.Tie as tie

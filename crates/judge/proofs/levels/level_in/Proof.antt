@@ -3,7 +3,7 @@
 use borrow.Author.Needs.{needs}
 use native.Mathlib.Omega.{arith}
 use Rattle.judge.specs.Session.{levelIn}
-use Rattle.judge.proofs.Laws.{tests}
+use Rattle.octets.proofs.Tests.{tests}
 use Rattle.judge.proofs.levels.level_in.Statement.{statement}
 use Rattle.judge.proofs.levels.level_in.Tie as tie
 

@@ -2,7 +2,7 @@
 -- Assumes nothing.
 use native.Mathlib.Omega.{arith}
 use Rattle.judge.specs.Session.{levelOf}
-use Rattle.judge.proofs.Laws.{tests}
+use Rattle.octets.proofs.Tests.{tests}
 use Rattle.judge.proofs.levels.level_of.Statement.{statement}
 use Rattle.judge.proofs.levels.level_of.Tie as tie
 

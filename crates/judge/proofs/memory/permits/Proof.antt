@@ -1,7 +1,7 @@
 -- `judge::memory::permits` meets its contract.
 -- Assumes nothing.
 use native.Mathlib.Omega.{arith}
-use Rattle.judge.proofs.Laws.{tests}
+use Rattle.octets.proofs.Tests.{tests}
 use Rattle.judge.proofs.memory.permits.Statement.{statement}
 use Rattle.judge.proofs.memory.permits.Tie as tie
 

@@ -1,7 +1,7 @@
 -- `judge::properties::counted` meets its contract.
 -- Assumes nothing.
 use native.Mathlib.Omega.{arith}
-use Rattle.judge.proofs.Laws.{tests}
+use Rattle.octets.proofs.Tests.{tests}
 use Rattle.judge.proofs.properties.counted.Statement.{statement}
 use Rattle.judge.proofs.properties.counted.Tie as tie
 

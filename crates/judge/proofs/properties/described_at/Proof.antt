@@ -2,7 +2,7 @@
 -- Assumes nothing.
 use borrow.Author.Needs.{needs}
 use native.Mathlib.Omega.{arith}
-use Rattle.judge.proofs.Laws.{branches}
+use Rattle.octets.proofs.Tests.{branches}
 use Rattle.judge.specs.Properties.{describedAt}
 use Rattle.judge.proofs.properties.described_at.Statement.{statement}
 use Rattle.judge.proofs.properties.described_at.Tie as tie

@@ -1,7 +1,7 @@
 -- `pdu::rules::paired_ranged` meets its contract.
 -- Assumes nothing.
 use native.Mathlib.Omega.{arith}
-use Rattle.pdu.proofs.Arms.{tests}
+use Rattle.octets.proofs.Tests.{tests}
 use Rattle.pdu.proofs.rules.paired_ranged.Statement.{statement}
 use Rattle.pdu.proofs.rules.paired_ranged.Tie as tie
 

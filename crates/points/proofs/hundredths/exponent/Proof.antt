@@ -1,6 +1,6 @@
 -- `points::hundredths::exponent` meets its contract.
 -- Assumes nothing.
-use Prim.Native.Nat.{ℕ, _≤_, _<_, _-_, _*_, _^_, _+_}
+use Prim.Native.Nat.{ℕ, _≤_, _<_, _-_, _*_, _^_}
 use mathlib.Core.Path.{_≡_, refl, sym, ap, _∙_, subst}
 use native.Mathlib.Omega.{arith}
 use Rattle.points.specs.Code.{exponentFrom}

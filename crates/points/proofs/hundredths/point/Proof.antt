@@ -2,7 +2,8 @@
 -- Assumes nothing.
 use native.Mathlib.Omega.{arith}
 use mir.Facts.{toZ-ofZ}
-use Rattle.points.proofs.Laws.{tests, point-nine}
+use Rattle.octets.proofs.Tests.{tests}
+use Rattle.points.proofs.Laws.{point-nine}
 use borrow.Author.Needs.{needs}
 use Rattle.points.proofs.hundredths.point.Statement.{statement}
 use Rattle.points.proofs.hundredths.point.Tie as tie

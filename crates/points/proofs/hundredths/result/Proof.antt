@@ -1,10 +1,9 @@
 -- `points::hundredths::result` meets its contract.
 -- Assumes nothing.
-use mathlib.Core.Path.{sym, ap, _∙_}
+use mathlib.Core.Path.{ap, _∙_}
 use Prim.Native.Nat.{ℕ, _*_, _-_, _%_, _/_}
 use native.Mathlib.Omega.{arith}
 use lib.IntN.{pos, negℤ}
-use mir.Facts.{toZ-ofZ}
 use Rattle.points.proofs.Casts.{as-signed, small-minus}
 use Rattle.points.proofs.Laws.{product-by, res-plus, res-minus}
 use borrow.Author.Needs.{needs}

@@ -1,7 +1,7 @@
 -- `points::number::switch` meets its contract.
 -- Assumes nothing.
 use native.Mathlib.Omega.{arith}
-use Rattle.points.proofs.Laws.{tests}
+use Rattle.octets.proofs.Tests.{tests}
 use Rattle.points.proofs.number.switch.Statement.{statement}
 use Rattle.points.proofs.number.switch.Tie as tie
 

@@ -1,14 +1,13 @@
 -- `points::signs::magnitude` meets its contract.
 -- Assumes nothing.
-use mathlib.Core.Path.{_≡_, sym, ap, _∙_, subst}
+use mathlib.Core.Path.{sym, ap, _∙_, subst}
 use lib.Dec.{T}
 use lib.IntN.{ℤ, natAbs, pos, _-ℤ_}
 use Prim.Native.Nat.{ℕ, _<_, _^_}
 use lib.Signed.{nonNeg, ltZ}
-use mir.Syntax.{w32, w64}
-use mir.Val.{SFits, Fits, toZ, ofZ}
+use mir.Syntax.{w64}
+use mir.Val.{SFits}
 use mir.Facts.{toZ-ofZ}
-use mathlib.Core.Bool.{true, false}
 use Rattle.points.proofs.Casts.{widens, as-64, negates, negated, abs-neg, turned, kept, abs-in}
 use Rattle.points.proofs.signs.magnitude.Statement.{statement}
 use Rattle.points.proofs.signs.magnitude.Tie as tie

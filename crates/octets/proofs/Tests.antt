@@ -1,4 +1,4 @@
--- Definitions that go by tests, from the facts that the code has where it returns.
+-- From the facts that code has where it returns to definitions that go by tests.
 -- Assumes nothing.
 use Prim.Native.Nat.{ℕ}
 use mathlib.Core.Path.{_≡_, refl, sym, _∙_}
@@ -36,14 +36,6 @@ and-second a b r e h = simp e h
 pub and-no : (a b r : Bool) → a ≡ false → r ≡ false → r ≡ (a && b)
 and-no a b r e h = simp e h
 
-pub first-true : (a b : Bool) → (a && b) ≡ true → a ≡ true
-first-true true b e = refl
-first-true false b e = e
-
-pub second-true : (a b : Bool) → (a && b) ≡ true → b ≡ true
-second-true true b e = e
-second-true false b e = cc
-
 -- a test of a number that a call has given
 pub same-eqb : (x y z : ℕ) → x ≡ y → eqb x z ≡ eqb y z
 same-eqb x y z e = simp e
@@ -58,8 +50,11 @@ given-eqb x y z e h = eq-eqb x z (h ∙ e)
 pub other-eqb : (x y z : ℕ) → y ≡ z → (x ≡ y → ⊥) → eqb x z ≡ false
 other-eqb x y z e h = ne-eqb x z (λ k. h (k ∙ sym e))
 
+-- a test whose answer is known
 pub ruleset tests = (lt-ltb, le-ltb, le-leb, lt-leb, eq-eqb, ne-eqb)
 
+-- a choice by tests
 pub ruleset branches = (yes, no, lt-ltb, le-ltb, le-leb, lt-leb, eq-eqb, ne-eqb, made-yes, made-no, both, not-first, not-second, and-second, and-no, same-eqb, same-leb)
 
+-- a choice by numbers that calls have given
 pub ruleset given = (yes, no, given-eqb, other-eqb)

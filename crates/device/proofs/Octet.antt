@@ -3,19 +3,33 @@
 use Prim.Native.Nat.{ℕ, zero, suc, _+_, _-_, _/_, _%_, _<_, _≤_}
 use mathlib.Core.Path.{_≡_, ap, _∙_}
 use mathlib.Core.Logic.{inl, inr}
+use mathlib.Core.Bool.{Bool, true, _&&_}
 use mathlib.Core.List.{List, [], _∷_, _++_}
 use lib.ListN.{length, getD, List·getD-eq-default}
+use lib.Dec.{ltb}
 use lib.Seq.{getD-drop}
 use lib.Bits.{and-lt, xor-lt}
 use native.Mathlib.Decide.{decLt}
 use native.Mathlib.Omega.{arith}
+use borrow.Author.Tests.{ltb-true}
 use Rattle.octets.specs.Bytes.{bytesOf}
 use Rattle.octets.specs.Splice.{splice}
 use Rattle.octets.proofs.Splices.{splice-in, splice-outside}
+use Rattle.octets.proofs.Truths.{and-is}
 use Rattle.pdu.specs.Read.{dataAt, dataOf}
 use Rattle.pdu.specs.declared.Pdu.{Pdu}
 use Rattle.device.specs.Octets.{Octets}
 use Rattle.device.specs.MemoryDue.{Combined}
+
+-- bytes, by one test
+abbrev pub isBytes : List ℕ → Bool
+isBytes [] = true
+isBytes (x ∷ s) = ltb x 256 && isBytes s
+
+pub octets-by : (s : List ℕ) → isBytes s ≡ true → Octets s
+octets-by [] e i = omega arith
+octets-by (x ∷ s) e zero = ltb-true x 256 (and-is (ltb x 256) (isBytes s) .0 e .0)
+octets-by (x ∷ s) e (suc i) = octets-by s (and-is (ltb x 256) (isBytes s) .0 e .1) i
 
 pub octets-none : Octets []
 octets-none i = omega arith
@@ -24,7 +38,7 @@ pub octets-one : (x : ℕ) → x < 256 → Octets (x ∷ [])
 octets-one x h zero = h
 octets-one x h (suc i) = omega arith
 
-octets-append : (a b : List ℕ) → Octets a → Octets b → Octets (a ++ b)
+pub octets-append : (a b : List ℕ) → Octets a → Octets b → Octets (a ++ b)
 octets-append [] b p q i = q i
 octets-append (x ∷ a) b p q zero = p 0
 octets-append (x ∷ a) b p q (suc i) = octets-append a b (λ j. p (suc j)) q i
