@@ -36,6 +36,7 @@ uint32_t kelindap_module_check(const uint8_t *, uint64_t);
 both kelindap_module_property(const uint8_t *, uint64_t, uint32_t, uint32_t);
 both kelindap_module_region(const uint8_t *, uint64_t, uint64_t);
 both kelindap_module_group(const uint8_t *, uint64_t, uint32_t);
+both kelindap_module_user_region(const uint8_t *, uint64_t, uint64_t);
 
 static uint8_t low(uint32_t r) { return (uint8_t)r; }
 static uint8_t high(uint32_t r) { return (uint8_t)(r >> 8); }
@@ -88,6 +89,11 @@ kelindap_part kelindap_region(const uint8_t *sheet, size_t sheet_length, size_t 
 kelindap_part kelindap_group(const uint8_t *sheet, size_t sheet_length, uint16_t address)
 {
     return part(kelindap_module_group(sheet, sheet_length, address));
+}
+
+kelindap_part kelindap_user_region(const uint8_t *sheet, size_t sheet_length, size_t k)
+{
+    return part(kelindap_module_user_region(sheet, sheet_length, k));
 }
 
 uint32_t kelindap_module_version(void);

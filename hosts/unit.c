@@ -8,6 +8,7 @@
  *   request MODE GROUP APDUHEX BUFHEX    a request to the device        OUTCOME OPEN LEVEL COUNT BUFHEX SHEETHEX
  *   lookup property OBJECT ID            a value in the sheet           HEX
  *   lookup region K
+ *   lookup user K
  *   lookup group ADDRESS
  *   read APDUHEX                         reads a PDU                    OUTCOME, or 0 KIND field=value ..
  *   write KIND field=value .. BUFHEX     writes a PDU                   OUTCOME COUNT BUFHEX
@@ -295,12 +296,31 @@ static bool find_property(const device *d, char **words, kelindap_part *part)
     return true;
 }
 
+/* The number of a region; one that a size can't hold counts as the largest it can, which no sheet has. */
+static bool take_region(const char *word, size_t *k)
+{
+    uint64_t number;
+    if (!take_number("K", word, &number))
+        return false;
+    *k = number < SIZE_MAX ? (size_t)number : SIZE_MAX;
+    return true;
+}
+
 static bool find_region(const device *d, char **words, kelindap_part *part)
 {
-    uint64_t k;
-    if (!take_up_to("K", words[0], UINT64_MAX, &k))
+    size_t k;
+    if (!take_region(words[0], &k))
         return false;
-    *part = kelindap_region(d->sheet.bytes, d->sheet.length, k < SIZE_MAX ? (size_t)k : SIZE_MAX);
+    *part = kelindap_region(d->sheet.bytes, d->sheet.length, k);
+    return true;
+}
+
+static bool find_user_region(const device *d, char **words, kelindap_part *part)
+{
+    size_t k;
+    if (!take_region(words[0], &k))
+        return false;
+    *part = kelindap_user_region(d->sheet.bytes, d->sheet.length, k);
     return true;
 }
 
@@ -313,7 +333,7 @@ static bool find_group(const device *d, char **words, kelindap_part *part)
     return true;
 }
 
-static const char lookups[] = "lookup property OBJECT ID, lookup region K, or lookup group ADDRESS";
+static const char lookups[] = "lookup property OBJECT ID, lookup region K, lookup user K, or lookup group ADDRESS";
 
 static bool find(const device *d, char **words, size_t count, kelindap_part *part)
 {
@@ -321,6 +341,8 @@ static bool find(const device *d, char **words, size_t count, kelindap_part *par
         return find_property(d, words + 1, part);
     if (strcmp(words[0], "region") == 0 && count == 2)
         return find_region(d, words + 1, part);
+    if (strcmp(words[0], "user") == 0 && count == 2)
+        return find_user_region(d, words + 1, part);
     if (strcmp(words[0], "group") == 0 && count == 2)
         return find_group(d, words + 1, part);
     return err("the form is: %s", lookups);
@@ -402,6 +424,9 @@ static const enum field kinds[][7] = {
     [KELINDAP_MEMORY_RESPONSE] = { N, ADDRESS, DATA, END },
     [KELINDAP_AUTHORIZE_RESPONSE] = { LEVEL, END },
     [KELINDAP_KEY_RESPONSE] = { LEVEL, END },
+    [KELINDAP_USER_MEMORY_READ] = { N, ADDRESS, END },
+    [KELINDAP_USER_MEMORY_RESPONSE] = { N, ADDRESS, DATA, END },
+    [KELINDAP_USER_MEMORY_WRITE] = { N, ADDRESS, DATA, END },
 };
 enum { KINDS = sizeof kinds / sizeof kinds[0] };
 

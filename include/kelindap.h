@@ -107,21 +107,23 @@ kelindap_reply kelindap_request(kelindap_session *session, uint8_t mode, uint16_
  * 0 if the sheet is accepted, else the number of the first rule it breaks, S1 to S9. docs/SHEET.md has the layout of a sheet
  * and the rules in full; in short, a sheet breaks
  *  1  if its length is not 32 to 16,384 bytes;
- *  2  if its edition is not 1;
- *  3  if it has more than 16 regions, 64 properties or 64 group objects;
+ *  2  if its edition is not 1 or 2;
+ *  3  if it has more than 16 regions, 64 properties, 64 group objects or, in edition 2, 16 user regions;
  *  4  if it states another length than it has, or has no room for its entries;
  *  5  if a bit of the head that must be 0 is not;
- *  6  by a region: no bytes, past the last address, not above the one before, a level above 3, zero byte;
+ *  6  by a region or user region: no bytes, past the last address, not above the one before of the same memory, a level
+ *     above 3, zero byte;
  *  7  by a property: id 0, not above the one before, bit 6 of the type, size, maximum, count, a level above 3, zero byte;
  *  8  by a group object: address 0, not above the one before, length code, flags, zero bytes;
  *  9  by the bodies: a gap or an overlap between contents, bodies and the end of the sheet, a six-bit value above 63.
  */
 uint8_t kelindap_check(const uint8_t *sheet, size_t sheet_length);
 
-/* Where a body stands in the sheet: that of a property, of region k (the first is 0), of a group object. */
+/* Where a body stands in the sheet: that of a property, of region k (the first is 0), of a group object, of user region k. */
 kelindap_part kelindap_property(const uint8_t *sheet, size_t sheet_length, uint8_t object, uint8_t id);
 kelindap_part kelindap_region(const uint8_t *sheet, size_t sheet_length, size_t k);
 kelindap_part kelindap_group(const uint8_t *sheet, size_t sheet_length, uint16_t address);
+kelindap_part kelindap_user_region(const uint8_t *sheet, size_t sheet_length, size_t k);
 
 #ifdef __cplusplus
 }

@@ -51,7 +51,10 @@
     X(21, DESCRIPTION_RESPONSE, "description_response") \
     X(22, MEMORY_RESPONSE, "memory_response")           \
     X(23, AUTHORIZE_RESPONSE, "authorize_response")     \
-    X(24, KEY_RESPONSE, "key_response")
+    X(24, KEY_RESPONSE, "key_response")                 \
+    X(25, USER_MEMORY_READ, "user_memory_read")         \
+    X(26, USER_MEMORY_RESPONSE, "user_memory_response") \
+    X(27, USER_MEMORY_WRITE, "user_memory_write")
 
 /* The words of a number that is none: "no outcome", "no kind". */
 static inline const char *kelindap_outcome_name(uint8_t outcome)

@@ -19,7 +19,7 @@
 extern "C" {
 #endif
 
-/* The PDUs: 0 to 16 are requests to a device, 17 to 24 answers of one. GROUP_RESPONSE is both. */
+/* The PDUs: 0 to 16, 25 and 27 are requests to a device, 17 to 24 and 26 answers of one. GROUP_RESPONSE is both. */
 enum kelindap_kind {
     KELINDAP_GROUP_READ = 0,
     KELINDAP_GROUP_RESPONSE = 1,
@@ -46,6 +46,9 @@ enum kelindap_kind {
     KELINDAP_MEMORY_RESPONSE = 22,
     KELINDAP_AUTHORIZE_RESPONSE = 23,
     KELINDAP_KEY_RESPONSE = 24,
+    KELINDAP_USER_MEMORY_READ = 25,
+    KELINDAP_USER_MEMORY_RESPONSE = 26,
+    KELINDAP_USER_MEMORY_WRITE = 27,
     KELINDAP_NO_KIND = 255 /* no PDU: the kind of what was refused on reading; writing refuses it */
 };
 
@@ -80,12 +83,15 @@ enum kelindap_kind {
  *  MEMORY_RESPONSE       240h + n  n 0..12, address                n             4 + n
  *  AUTHORIZE_RESPONSE    3D2h      level                           none          3
  *  KEY_RESPONSE          3D4h      level                           none          3
+ *  USER_MEMORY_READ      2C0h      n, address                      none          5
+ *  USER_MEMORY_RESPONSE  2C1h      n 0..11, address                n             5 + n
+ *  USER_MEMORY_WRITE     2C2h      n 0..11, address                n             5 + n
  *
  * A field without a range may have any value of its type; serial has six bytes, so it is below 2^48. Numbers stand in the
  * APDU high byte first, n and s of a property in two bytes: four bits n, twelve bits s.
- *  - In a memory write or response n is the number of data bytes, in a bit write half of it: first the n AND bytes, then
- *    the n XOR bytes. In a memory read n is what is asked for. In the property kinds n counts elements, and is not compared
- *    with the data.
+ *  - In a memory write or response, user memory's too, n is the number of data bytes, in a bit write half of it: first the
+ *    n AND bytes, then the n XOR bytes. In a read of memory n is what is asked for. In the property kinds n counts elements,
+ *    and is not compared with the data.
  *  - A group value has up to six bits in v and no data, or v = 0 and its bytes as data.
  *  - Ignored bytes are no fields: any value is read, 0 is written.
  * Whatever is against this table, in a field or in the length, reads as 10 and is not written: 13.

@@ -17,7 +17,7 @@ endif
 # leaks are no matter here: the libraries have no heap, and looking for them takes long
 WATCHED := ASAN_OPTIONS=detect_leaks=0
 # what every program here rests on
-LINKED := $(wildcard include/*.h) hosts/sample_sheet.inc mk/cc86 mk/hosts.mk $(HOST_A) $(TOOL_A)
+LINKED := $(wildcard include/*.h) $(wildcard hosts/*.inc) mk/cc86 mk/hosts.mk $(HOST_A) $(TOOL_A)
 .PHONY: unit run test-unit test-c need-gcc
 
 #: make unit       the desk unit, build/unit, and the two libraries
@@ -79,7 +79,7 @@ build/marked.inc: tests/vectors/device.tsv mk/hosts.mk
 	    printf "{ %d, %d, \"%s\", \"%s\", %d, %d, %d, \"%s\" },\n", mode, level, $$3, $$4 == "-" ? "" : $$4, $$5, after, at, to \
 	}' $< > $@
 
-build/host_test_own: tests/c/host_test.c tests/c/lent.h build/marked.inc include/kelindap.h build/own/libhost.a | need-gcc
+build/host_test_own: tests/c/host_test.c tests/c/lent.h build/marked.inc $(wildcard hosts/*.inc) include/kelindap.h build/own/libhost.a | need-gcc
 	gcc -o $@ $(STRICT) -Ibuild -g $(SANITIZERS) -DDEVICE_ALONE $< build/own/libhost.a
 
 need-gcc:

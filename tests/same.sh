@@ -1,5 +1,5 @@
 #!/usr/bin/env bash
-# tests/same.sh: what stands in one file for all programs, hosts/sample_sheet.inc and the marked cases in
+# tests/same.sh: what stands in one file for all programs, the two sheets of hosts/ and the marked cases in
 # tests/vectors/device.tsv, stands the same where a definition, a program's input or a document has its own copy.
 set -euo pipefail
 cd "$(dirname "$0")/.."
@@ -13,13 +13,21 @@ same() { # WHAT, the file's words, the copy's
 lower() { tr A-F a-f; }
 digits() { tr -cd '0-9a-fA-F' | lower; }
 
-sample=$(grep -o '0x..' hosts/sample_sheet.inc | sed 's/0x//' | digits)
+sheet_of() { grep -o '0x..' "hosts/$1.inc" | sed 's/0x//' | digits; }
+# the bytes in the table of SHEET.md below a heading
+shown_below() { sed -n "/^## $1/,/^## /p" docs/SHEET.md | awk -F '|' 'NF == 5 && /^\| [0-9]/ { print $3 }' | grep -o '`[^`]*`' | digits; }
+sample=$(sheet_of sample_sheet) pump=$(sheet_of pump_sheet)
 [ ${#sample} = 138 ] || { echo "same: the sample sheet has not 69 bytes"; bad=1; }
+[ ${#pump} = 202 ] || { echo "same: the sheet of edition 2 has not 101 bytes"; bad=1; }
 marked=crates/device/specs/Marked.antt
 same "$marked" "$sample" "$(sed -n '/^sample =/,/\[\]$/p' $marked | grep -o '0x..' | sed 's/0x//' | digits)"
-same crates/device_cases/stdin "$sample" "$(grep -m 1 '^sheet ' crates/device_cases/stdin | sed 's/^sheet//' | digits)"
-same crates/sheet_cases/stdin "$sample" "$(grep -m 1 '^base new' crates/sheet_cases/stdin | grep -o '+[0-9A-Fa-f]*' | digits)"
-same docs/SHEET.md "$sample" "$(sed -n '/^## The sample sheet/,$p' docs/SHEET.md | awk -F '|' '/^\| [0-9]/ { print $3 }' | grep -o '`[^`]*`' | digits)"
+for sheet in "$sample" "$pump"; do
+    edition=${sheet:0:2}
+    same crates/device_cases/stdin "$sheet" "$(grep -m 1 "^sheet $edition" crates/device_cases/stdin | sed 's/^sheet//' | digits)"
+    same crates/sheet_cases/stdin "$sheet" "$(grep -m 1 "^base new +$edition" crates/sheet_cases/stdin | grep -o '+[0-9A-Fa-f]*' | digits)"
+done
+same docs/SHEET.md "$sample" "$(shown_below 'The sample sheet')"
+same docs/SHEET.md "$pump" "$(shown_below 'A sheet of edition 2')"
 
 # level (or loose), request, answer, outcome of each marked case
 awk -F '\t' '/^01 marked case/ {
@@ -51,4 +59,4 @@ while read -r name; do
     grep -rqwF -- "$name" crates/*/specs crates/*/proofs || { echo "same: docs/RULES.md names $name, which no definition has"; bad=1; }
 done < <(grep -oE '`[A-Za-z][A-Za-z-]*`' docs/RULES.md | tr -d '`' | sort -u)
 [ "$bad" = 0 ]
-echo "same: the sample sheet in 4 places, the marked cases in 2"
+echo "same: the sample sheet in 4 places, that of edition 2 in 3, the marked cases in 2"

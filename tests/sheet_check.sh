@@ -2,7 +2,8 @@
 # sheet_check.sh PROGRAM: runs the built sheet_check on files and pipes, and compares what it writes with what it should.
 set -uo pipefail
 program=$(realpath -e "${1:?usage: sheet_check.sh PROGRAM}") || exit 1
-sample=$(grep -o '0x..' "$(dirname "$0")/../hosts/sample_sheet.inc" | sed 's/0x//' | paste -sd '')
+bytes_of() { grep -o '0x..' "$(dirname "$0")/../hosts/$1.inc" | sed 's/0x//' | paste -sd ''; }
+sample=$(bytes_of sample_sheet) pump=$(bytes_of pump_sheet)
 room=$(mktemp -d)
 trap 'rm -rf "$room"' EXIT
 right=0
@@ -57,11 +58,17 @@ zeros() { head -c "$1" /dev/zero; }
 
 cd "$room" || exit 1
 hex "$sample" > sample
+hex "$pump" > pump
 : > empty
 { hex 01000000 0020 && zeros 26; } > least
 { hex 01010000 4000 && zeros 26 && hex 0000 3FD8 0028 00 00 && zeros 16344; } > most
 
 sheet 'the sample' sample OK
+sheet 'edition 2, both memories' pump OK
+hex "${pump:0:30}11${pump:32}" > piece
+sheet '17 user regions' piece S3
+hex "01${pump:2}" > piece
+sheet 'user regions in edition 1' piece S5
 sheet 'no bytes' empty S1
 sheet '/dev/null' /dev/null S1
 head -c 1 sample > piece
@@ -81,7 +88,9 @@ head -c 16383 most > piece
 sheet '16,383 bytes' piece S4
 sheet '16,384 bytes, accepted' most OK
 { hex 02 && tail -c +2 most; } > piece
-sheet '16,384 bytes, edition 2' piece S2
+sheet '16,384 bytes, edition 2' piece OK
+{ hex 03 && tail -c +2 most; } > piece
+sheet '16,384 bytes, edition 3' piece S2
 { cat most && zeros 1; } > over
 sheet '16,385 bytes' over S1
 { cat most && zeros 100000; } > piece

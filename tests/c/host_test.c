@@ -1,6 +1,7 @@
 /*
- * A host in C that trusts the device's library with nothing: the marked cases, all lengths and modes, damaged sheets,
- * lookups, long runs; each request is held to what is promised of any, and no byte beside its buffers is touched.
+ * A host in C that trusts the device's library with nothing: the marked cases, all lengths and modes, damaged sheets of
+ * both editions, lookups, long runs; each request is held to what is promised of any, and no byte beside its buffers is
+ * touched.
  */
 #define _DEFAULT_SOURCE
 #include "kelindap.h"
@@ -130,19 +131,27 @@ static const uint8_t sample[69] = {
 };
 static const run sample_sheet = { sample, sizeof sample };
 
+/* Edition 2: both memories. */
+static const uint8_t pump[101] = {
+#include "../../hosts/pump_sheet.inc"
+};
+static const run pump_sheet = { pump, sizeof pump };
+
 static void put_word(uint8_t *at, size_t value)
 {
     at[0] = (uint8_t)(value >> 8);
     at[1] = (uint8_t)value;
 }
 
-/* A full sheet: 16 regions, 64 properties, 64 group objects, and where the body of each stands. */
-enum { REGIONS = 16, PROPERTIES = 64, GROUPS = 64 };
+/* A full sheet: 16 regions, 64 properties, 64 group objects, 16 user regions, and where the body of each stands. */
+enum { REGIONS = 16, PROPERTIES = 64, GROUPS = 64, USERS = 16 };
+enum { CONTENTS = 32 + 8 * REGIONS + 12 * PROPERTIES + 8 * GROUPS + 8 * USERS };
 static uint8_t full[MOST_SHEET];
 static size_t full_length;
-static kelindap_part region_body[REGIONS], property_body[PROPERTIES], group_body[GROUPS];
+static kelindap_part region_body[REGIONS], property_body[PROPERTIES], group_body[GROUPS], user_body[USERS];
 
 static size_t region_address(size_t i) { return 0x100 + 0x200 * i; }
+static size_t user_address(size_t i) { return 0x102 + 0x200 * i; } /* addresses that device memory has too */
 static size_t property_object(size_t i) { return i / 8; }
 static size_t property_id(size_t i) { return 1 + 3 * (i % 8); }
 static size_t group_address(size_t i) { return 5 + 9 * i; }
@@ -159,11 +168,13 @@ static kelindap_part body(uint8_t *offset_at, size_t length)
 static void build_full_sheet(void)
 {
     uint8_t *e = full + 32;
-    full_length = 32 + 8 * REGIONS + 12 * PROPERTIES + 8 * GROUPS;
+    full_length = CONTENTS;
     memcpy(full, sample, 32);
+    full[0] = 2;
     full[1] = REGIONS;
     full[2] = PROPERTIES;
     full[3] = GROUPS;
+    full[15] = USERS;
     for (size_t i = 0; i < REGIONS; i++, e += 8) {
         size_t length = i == 3 ? 0x200 : 1 + 5 * i; /* region 3 touches region 4 */
         put_word(e, region_address(i));
@@ -188,6 +199,13 @@ static void build_full_sheet(void)
         e[3] = (uint8_t)(i % 8);
         group_body[i] = body(e + 4, i % 15 == 0 ? 1 : i % 15);
     }
+    for (size_t i = 0; i < USERS; i++, e += 8) {
+        size_t length = i == 5 ? 0x200 : 2 + 4 * i; /* user region 5 touches user region 6 */
+        put_word(e, user_address(i));
+        put_word(e + 2, length);
+        user_body[i] = body(e + 4, length);
+        e[6] = (uint8_t)(0x33 - 16 * (i % 4) - i / 4);
+    }
     put_word(full + 4, full_length);
     for (uint8_t *b = e; b < full + full_length; b++)
         *b = (uint8_t)((b - full) * 11 % 64);
@@ -210,7 +228,7 @@ static void build_longest_sheet(void)
 /* ---- lookups ---- */
 
 typedef struct question {
-    enum { BY_PROPERTY, BY_REGION, BY_GROUP } by;
+    enum { BY_PROPERTY, BY_REGION, BY_GROUP, BY_USER } by;
     size_t a, b;
 } question;
 
@@ -221,6 +239,8 @@ static kelindap_part ask(const lent *sheet, question q)
         return kelindap_property(sheet->bytes, sheet->length, (uint8_t)q.a, (uint8_t)q.b);
     case BY_REGION:
         return kelindap_region(sheet->bytes, sheet->length, q.a);
+    case BY_USER:
+        return kelindap_user_region(sheet->bytes, sheet->length, q.a);
     default:
         return kelindap_group(sheet->bytes, sheet->length, (uint16_t)q.a);
     }
@@ -250,7 +270,7 @@ static void look_up_everywhere(run sheet, question q, kelindap_part due)
 
 static const kelindap_part none = { 0, 0 };
 
-static void test_lookups_in_sample(void)
+static void test_lookups_in_small_sheets(void)
 {
     for (size_t object = 0; object < 256; object++)
         for (size_t id = 0; id < 256; id++)
@@ -260,8 +280,16 @@ static void test_lookups_in_sample(void)
         look_up((enum place)(address % PLACES), sample_sheet, (question){ BY_GROUP, address, 0 },
                 address == 0x801 ? (kelindap_part){ 68, 1 } : none);
     look_up_everywhere(sample_sheet, (question){ BY_REGION, 0, 0 }, (kelindap_part){ 60, 4 });
-    for (size_t k = 1; k != 0; k = k < 300 ? k + 1 : k == SIZE_MAX ? 0 : k > SIZE_MAX / 2 ? SIZE_MAX : 2 * k)
+    look_up_everywhere(sample_sheet, (question){ BY_USER, 0, 0 }, none);
+    look_up_everywhere(pump_sheet, (question){ BY_REGION, 0, 0 }, (kelindap_part){ 76, 4 });
+    look_up_everywhere(pump_sheet, (question){ BY_REGION, 1, 0 }, none);
+    look_up_everywhere(pump_sheet, (question){ BY_USER, 0, 0 }, (kelindap_part){ 85, 4 });
+    look_up_everywhere(pump_sheet, (question){ BY_USER, 1, 0 }, (kelindap_part){ 89, 12 });
+    for (size_t k = 2; k != 0; k = k < 300 ? k + 1 : k == SIZE_MAX ? 0 : k > SIZE_MAX / 2 ? SIZE_MAX : 2 * k) {
         look_up((enum place)(k % PLACES), sample_sheet, (question){ BY_REGION, k, 0 }, none);
+        look_up((enum place)(k % PLACES), pump_sheet, (question){ BY_USER, k, 0 }, none);
+    }
+    look_up_everywhere(sample_sheet, (question){ BY_REGION, 1, 0 }, none);
 }
 
 static void test_lookups_in_full_sheet(void)
@@ -271,6 +299,9 @@ static void test_lookups_in_full_sheet(void)
     for (size_t i = 0; i < REGIONS; i++)
         look_up_everywhere(sheet, (question){ BY_REGION, i, 0 }, region_body[i]);
     look_up_everywhere(sheet, (question){ BY_REGION, REGIONS, 0 }, none);
+    for (size_t i = 0; i < USERS; i++)
+        look_up_everywhere(sheet, (question){ BY_USER, i, 0 }, user_body[i]);
+    look_up_everywhere(sheet, (question){ BY_USER, USERS, 0 }, none);
     for (size_t i = 0; i < PROPERTIES; i++) {
         look_up_everywhere(sheet, (question){ BY_PROPERTY, property_object(i), property_id(i) }, property_body[i]);
         look_up_everywhere(sheet, (question){ BY_PROPERTY, property_object(i), property_id(i) + 1 }, none);
@@ -334,9 +365,16 @@ static const struct service {
     { 1, "03DC00C501020304" }, { 1, "03DE00C5010203041207DEADBEEF" }, { 2, "0300" }, { 2, "0305" },
     { 2, "03D501331001" }, { 3, "03D7013310010384" }, { 3, "03D7013310000000" }, { 2, "03D8013300" }, { 3, "02040100" },
     { 3, "028401001122334455" }, { 3, "0284010011223344" }, { 3, "03D00201000102A0B0" }, { 3, "03D10022222222" },
-    { 3, "03D300ABCDEF01" }, { 3, "0380" }, { 3, "0381" }, { 2, "0140" }, { 2, "03FF" },
+    { 3, "03D300ABCDEF01" }, { 3, "0380" }, { 3, "0381" }, { 2, "0140" }, { 2, "03FF" }, { 3, "02C0040100" },
+    { 3, "02C00B0104" }, { 3, "02C20401001122334455" }, { 3, "02C204010011223344" }, { 3, "02C20B01040102030405060708090A0B" },
 };
 enum { SERVICES = sizeof services / sizeof services[0] };
+
+/* The sample sheet, but for user memory, which it has not. */
+static run sheet_for(size_t service)
+{
+    return strncmp(services[service].apdu, "02C", 3) == 0 ? pump_sheet : sample_sheet;
+}
 
 static void test_lengths(void)
 {
@@ -345,7 +383,7 @@ static void test_lengths(void)
         unhex(services[i].apdu, apdu);
         for (size_t length = 0; length <= 20; length++)
             for (size_t room = 0; room <= 20; room++)
-                try_everywhere(&(event){ { true, (uint8_t)(i % 4) }, services[i].mode, 0x801, { apdu, length }, sample_sheet, room });
+                try_everywhere(&(event){ { true, (uint8_t)(i % 4) }, services[i].mode, 0x801, { apdu, length }, sheet_for(i), room });
     }
 }
 
@@ -356,7 +394,7 @@ static void test_modes(void)
         size_t length = unhex(services[i].apdu, apdu);
         for (int mode = 0; mode < 256; mode++)
             for (int open = 0; open < 2; open++)
-                try_everywhere(&(event){ { open != 0, (uint8_t)mode }, (uint8_t)mode, 0x801, { apdu, length }, sample_sheet, 16 });
+                try_everywhere(&(event){ { open != 0, (uint8_t)mode }, (uint8_t)mode, 0x801, { apdu, length }, sheet_for(i), 16 });
     }
 }
 
@@ -389,27 +427,28 @@ static void try_sheet(enum place place, run sheet)
     look_up(place, sheet, (question){ BY_PROPERTY, 1, 0x33 }, none);
     look_up(place, sheet, (question){ BY_REGION, 0, 0 }, none);
     look_up(place, sheet, (question){ BY_GROUP, 0x801, 0 }, none);
+    look_up(place, sheet, (question){ BY_USER, 0, 0 }, none);
 }
 
-static void test_damaged_sample(void)
+static void test_damaged(run good)
 {
-    static uint8_t sheet[sizeof sample];
-    for (size_t at = 0; at < sizeof sample; at++)
+    static uint8_t sheet[sizeof pump];
+    for (size_t at = 0; at < good.length; at++)
         for (int value = 0; value < 256; value++) {
-            memcpy(sheet, sample, sizeof sample);
+            memcpy(sheet, good.bytes, good.length);
             sheet[at] = (uint8_t)value;
-            try_sheet((enum place)(value % PLACES), (run){ sheet, sizeof sheet });
+            try_sheet((enum place)(value % PLACES), (run){ sheet, good.length });
         }
 }
 
 /* Sheets cut short, also with a stated length that agrees, and sheets with bytes to spare. */
-static void test_cut_sheets(void)
+static void test_cut_sheets(run good)
 {
-    static uint8_t sheet[sizeof sample + 10];
-    for (size_t length = 0; length <= sizeof sheet; length++)
+    static uint8_t sheet[sizeof pump + 10];
+    for (size_t length = 0; length <= good.length + 10; length++)
         for (enum place place = EXACT; place < PLACES; place++) {
             memset(sheet, 0, sizeof sheet);
-            memcpy(sheet, sample, sizeof sample);
+            memcpy(sheet, good.bytes, good.length);
             try_sheet(place, (run){ sheet, length });
             put_word(sheet + 4, length);
             try_sheet(place, (run){ sheet, length });
@@ -421,9 +460,8 @@ static void test_damaged_full_sheet(void)
 {
     static uint8_t sheet[MOST_SHEET];
     for (int i = 0; i < 4000; i++) {
-        size_t contents = 32 + 8 * REGIONS + 12 * PROPERTIES + 8 * GROUPS;
         memcpy(sheet, full, full_length);
-        sheet[any(i % 4 == 0 ? (uint32_t)full_length : (uint32_t)contents)] = (uint8_t)any(256);
+        sheet[any(i % 4 == 0 ? (uint32_t)full_length : CONTENTS)] = (uint8_t)any(256);
         try_sheet((enum place)(i % PLACES), (run){ sheet, full_length });
     }
     for (size_t length = 0; length <= full_length; length += 1 + any(9)) {
@@ -443,15 +481,20 @@ static size_t any_apdu(uint8_t apdu[20])
 {
     static const uint8_t codes[][2] = {
         { 0, 0x00 }, { 0, 0x40 }, { 0, 0x80 }, { 0, 0x85 }, { 0, 0xC0 }, { 1, 0x00 }, { 3, 0xDC }, { 3, 0xDE }, { 3, 0x00 },
-        { 3, 0xD5 }, { 3, 0xD7 }, { 3, 0xD8 }, { 2, 0x00 }, { 2, 0x80 }, { 3, 0xD0 }, { 3, 0xD1 }, { 3, 0xD3 },
+        { 3, 0xD5 }, { 3, 0xD7 }, { 3, 0xD8 }, { 2, 0x00 }, { 2, 0x80 }, { 3, 0xD0 }, { 3, 0xD1 }, { 3, 0xD3 }, { 2, 0xC0 },
+        { 2, 0xC2 },
     };
-    static const uint8_t lengths[] = { 2, 3, 3, 2, 4, 2, 8, 14, 2, 6, 8, 5, 4, 4, 5, 7, 7 };
+    static const uint8_t lengths[] = { 2, 3, 3, 2, 4, 2, 8, 14, 2, 6, 8, 5, 4, 4, 5, 7, 7, 5, 5 };
     size_t k = any(sizeof codes / 2), i = any(PROPERTIES), n = 1 + any(12), length = lengths[k];
     for (size_t j = 0; j < 20; j++)
         apdu[j] = (uint8_t)any(256);
     apdu[0] = (uint8_t)(apdu[0] << 2 | codes[k][0]);
     apdu[1] = codes[k][1];
-    if (codes[k][0] == 2) { /* memory: n in the code, then the address */
+    if (codes[k][0] == 2 && codes[k][1] >= 0xC0) { /* user memory: n, then the address */
+        apdu[2] = (uint8_t)n;
+        put_word(apdu + 3, user_address(i % USERS) + any(70));
+        length = codes[k][1] == 0xC0 ? 5 : 5 + n;
+    } else if (codes[k][0] == 2) { /* memory: n in the code, then the address */
         apdu[1] = (uint8_t)(apdu[1] + n);
         put_word(apdu + 2, region_address(i % REGIONS) + any(70));
         length = codes[k][1] == 0 ? 4 : 4 + n;
@@ -550,10 +593,12 @@ int main(void)
     test_nothing();
     test_lengths();
     test_modes();
-    test_lookups_in_sample();
+    test_lookups_in_small_sheets();
     test_lookups_in_full_sheet();
-    test_damaged_sample();
-    test_cut_sheets();
+    test_damaged(sample_sheet);
+    test_damaged(pump_sheet);
+    test_cut_sheets(sample_sheet);
+    test_cut_sheets(pump_sheet);
     test_damaged_full_sheet();
     test_long_run();
     return tell();

@@ -19,15 +19,14 @@ enum { LIMIT = 1024, ROOM = 1 << 16, PAINT = 0xA5, ROUNDS = 4 };
 static _Alignas(64) uint8_t stack[ROOM];
 static ucontext_t here, there;
 
-static const uint8_t sample[] = {
-    0x01, 0x01, 0x01, 0x01, 0x00, 0x45, 0x00, 0xC5, 0x01, 0x02, 0x03, 0x04, 0x07, 0xB0, 0x03, 0x00, 0x11, 0x05, 0x11, 0x11, 0x11, 0x11, 0x22,
-    0x22, 0x22, 0x22, 0xFF, 0xFF, 0xFF, 0xFF, 0x00, 0x00, 0x01, 0x00, 0x00, 0x04, 0x00, 0x3C, 0x32, 0x00, 0x01, 0x33, 0x84, 0x02, 0x00, 0x02,
-    0x00, 0x01, 0x00, 0x40, 0x31, 0x00, 0x08, 0x01, 0x01, 0x07, 0x00, 0x44, 0x00, 0x00, 0xA0, 0xA1, 0xA2, 0xA3, 0x03, 0xE8, 0x00, 0x00, 0x00};
-static uint8_t sheet[sizeof sample], answer[16], apdu[16];
+static const uint8_t pump[] = {
+#include "../../hosts/pump_sheet.inc"
+};
+static uint8_t sheet[sizeof pump], answer[16], apdu[16];
 static kelindap_session session;
 static volatile unsigned kept; /* so that no call is left out */
 
-/* a byte at random, three of four times one that the sample sheet knows, so that many requests are carried out */
+/* a byte at random, three of four times one that the sheet knows, so that many requests are carried out */
 static uint8_t some_byte(void)
 {
     static const uint8_t known[] = {0x00, 0x01, 0x02, 0x10, 0x33, 0x05, 0x11, 0x22, 0xC5, 0x04, 0x03, 0xD5, 0xD7};
@@ -55,6 +54,7 @@ static void button(void) { kept += kelindap_button(sheet, sizeof sheet, true); }
 static void check(void) { kept += kelindap_check(sheet, sizeof sheet); }
 static void property(void) { kept += (unsigned)kelindap_property(sheet, sizeof sheet, 1, 51).length; }
 static void region(void) { kept += (unsigned)kelindap_region(sheet, sizeof sheet, 0).length; }
+static void user_region(void) { kept += (unsigned)kelindap_user_region(sheet, sizeof sheet, 0).length; }
 static void group(void) { kept += (unsigned)kelindap_group(sheet, sizeof sheet, 0x0801).length; }
 
 static void request(void)
@@ -111,7 +111,9 @@ static void frames(void)
 static size_t depth_of(void (*function)(void))
 {
     memset(stack, PAINT, sizeof stack);
-    memcpy(sheet, sample, sizeof sheet);
+    memcpy(sheet, pump, sizeof sheet);
+    sheet[14] |= 1; /* programming mode */
+    sheet[55] = 7;  /* the group object takes a Response too */
     getcontext(&there);
     there.uc_stack.ss_sp = stack;
     there.uc_stack.ss_size = sizeof stack;
@@ -138,6 +140,7 @@ int main(void)
         {"kelindap_property", property},
         {"kelindap_region", region},
         {"kelindap_group", group},
+        {"kelindap_user_region", user_region},
         {"kelindap_request", request},
         {"kelindap_read, _write", read_and_write},
         {"kelindap_point_read, _write", points},

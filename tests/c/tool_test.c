@@ -38,6 +38,9 @@ static const uint16_t fields_of[] = {
     [KELINDAP_MEMORY_RESPONSE] = N | ADDRESS | DATA,
     [KELINDAP_AUTHORIZE_RESPONSE] = LEVEL,
     [KELINDAP_KEY_RESPONSE] = LEVEL,
+    [KELINDAP_USER_MEMORY_READ] = N | ADDRESS,
+    [KELINDAP_USER_MEMORY_RESPONSE] = N | ADDRESS | DATA,
+    [KELINDAP_USER_MEMORY_WRITE] = N | ADDRESS | DATA,
 };
 enum { KINDS = sizeof fields_of / sizeof fields_of[0] };
 
@@ -130,12 +133,15 @@ static void test_reading(void)
             apdu[1] = (uint8_t)code;
             try_reading((enum place)(any(PLACES)), (run){ apdu, length });
         }
-    for (int i = 0; i < 20000; i++) { /* kinds with n in the third byte, or a capped number, are rare above */
-        uint8_t apdu[20] = { 3, i % 2 == 0 ? 0xD0 : 0xD9, (uint8_t)any(7) };
+    static const uint16_t codes[] = { 0x3D0, 0x3D9, 0x2C1, 0x2C2 };
+    for (int i = 0; i < 40000; i++) { /* kinds with n in the third byte, or a capped number, are rare above */
+        uint16_t code = codes[i % 4];
+        size_t n = any(code < 0x300 ? 13 : 7);
+        uint8_t apdu[20] = { (uint8_t)(code >> 8), (uint8_t)code, (uint8_t)n };
         for (size_t k = 3; k < sizeof apdu; k++)
             apdu[k] = (uint8_t)any(256);
         apdu[6] &= 15;
-        try_reading((enum place)(any(PLACES)), (run){ apdu, i % 2 == 0 ? 5 + 2 * (size_t)apdu[2] : 9 });
+        try_reading((enum place)(any(PLACES)), (run){ apdu, code == 0x3D0 ? 5 + 2 * n : code == 0x3D9 ? 9 : 5 + n });
     }
     expect(calls > before + 40000, "too little was read and written");
 }

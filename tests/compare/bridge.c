@@ -10,7 +10,7 @@
  *   v OPEN LEVEL                             sets the session as found        OPEN LEVEL
  *   c, d, b ON                               connect, disconnect, button      OUTCOME OPEN LEVEL HASH8
  *   q MODE GROUP2 APDU BUFFER                a request                        OUTCOME COUNT OPEN LEVEL BUFFER HASH8
- *   p OBJECT ID, r K8, g ADDRESS2            lookups                          OFFSET8 LENGTH8 HASH8
+ *   p OBJECT ID, r K8, u K8, g ADDRESS2      lookups                          OFFSET8 LENGTH8 HASH8
  *   R APDU                                   reads a PDU                      the flat PDU
  *   W flat PDU, DATA BUFFER                  writes a PDU                     OUTCOME COUNT BUFFER
  *   D                                        shows the sheet                  BYTES
@@ -417,6 +417,10 @@ static void play(uint8_t command)
     case 'r':
         k = number(8);
         give_part(kelindap_region(given(sheet), sheet.length, k < SIZE_MAX ? (size_t)k : SIZE_MAX));
+        break;
+    case 'u':
+        k = number(8);
+        give_part(kelindap_user_region(given(sheet), sheet.length, k < SIZE_MAX ? (size_t)k : SIZE_MAX));
         break;
     case 'g':
         give_part(kelindap_group(given(sheet), sheet.length, (uint16_t)number(2)));

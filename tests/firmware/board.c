@@ -94,7 +94,7 @@ static void say_number(uint32_t n)
 void tell_deepest(void)
 {
     static const char *const names[CALLS] = { "fresh", "connect",  "disconnect", "button", "request",
-                                              "check", "property", "region",     "group" };
+                                              "check", "property", "region",     "group",  "user_region" };
     say("painted");
     for (int i = 0; i < CALLS; i++) {
         say(" ");

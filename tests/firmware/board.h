@@ -38,6 +38,7 @@ enum call {
     CALL_property,
     CALL_region,
     CALL_group,
+    CALL_user_region,
     CALLS
 };
 
@@ -99,6 +100,7 @@ static inline __attribute__((always_inline)) void measure_below(enum call call)
 #define kelindap_property(...) MEASURED(property, __VA_ARGS__)
 #define kelindap_region(...) MEASURED(region, __VA_ARGS__)
 #define kelindap_group(...) MEASURED(group, __VA_ARGS__)
+#define kelindap_user_region(...) MEASURED(user_region, __VA_ARGS__)
 
 /* ---- how many instructions it takes ---- */
 

@@ -15,7 +15,7 @@ missing=() packages=()
 # the scripts without the PDU layer's; the vectors as a script
 mkdir "$work/made"
 tests/unit/made.sh "$work/made"
-scripts=("$work/made/device-vectors")
+scripts=("$work/made/device-vectors" "$work/made/pump-vectors")
 for name in marked events lookups sheets story; do
     [ ! -e "tests/unit/$name.in" ] || scripts+=("tests/unit/$name")
 done

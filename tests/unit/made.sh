@@ -5,38 +5,43 @@ set -euo pipefail
 out=$1
 cd "$(dirname "$0")/../vectors"
 
-sample=$(grep -o '0x..' ../../hosts/sample_sheet.inc | cut -c 3-4 | paste -sd '' | tr A-F a-f)
+bytes_of() { grep -o '0x..' "../../hosts/$1.inc" | cut -c 3-4 | paste -sd '' | tr A-F a-f; }
+sample=$(bytes_of sample_sheet)
 buffer=eeeeeeeeeeeeeeeeeeeeeeeeeeeeeeee
 
-# Each device vector: the sheet with its button and verify bits, the session, the request on a buffer of 20 bytes; and once
-# more in upper case on one of 16.
-awk -F '\t' -v sample="$sample" -v script="$out/device-vectors.in" -v expected="$out/device-vectors.out" '
-    function put(text, at, hex) { return substr(text, 1, 2 * at) hex substr(text, 2 * at + length(hex) + 1) }
-    /^#/ { next }
-    {
-        delete at
-        n = split($2, pairs, " ")
-        for (i = 1; i <= n; i++) { split(pairs[i], pair, "="); at[pair[1]] = pair[2] }
-        sheet = put(sample, 14, "0" (at["button"] + 2 * at["verify"]))
-        long = "c3c3c3c3c3c3c3c3c3c3c3c3c3c3c3c3c3c3c3c3"
-        short = substr(long, 1, 32)
-        print "# " $1 > script
-        setup = "sheet " sheet "\nsession " at["open"] " " at["level"] "\nrequest " at["mode"] " " at["group"] " "
-        print setup $3, long > script
-        print setup toupper($3), short > script
-        ready = "OK\nsession " at["open"] " " at["level"] "\n"
-        n = split($6, pairs, " ")
-        for (i = 1; i <= n; i++) {
-            split(pairs[i], pair, "=")
-            if (pair[1] ~ /^sheet\[/) sheet = put(sheet, substr(pair[1], 7) + 0, pair[2])
-            else at[pair[1]] = pair[2]
+# Each vector of the device, of the sample sheet or the one of edition 2: the sheet with its button and verify bits, the
+# session, the request on a buffer of 20 bytes; and once more in upper case on one of 16.
+device_vectors() { # NAME of the vectors, the sheet
+    awk -F '\t' -v sample="$2" -v script="$out/$1-vectors.in" -v expected="$out/$1-vectors.out" '
+        function put(text, at, hex) { return substr(text, 1, 2 * at) hex substr(text, 2 * at + length(hex) + 1) }
+        /^#/ { next }
+        {
+            delete at
+            n = split($2, pairs, " ")
+            for (i = 1; i <= n; i++) { split(pairs[i], pair, "="); at[pair[1]] = pair[2] }
+            sheet = put(sample, 14, "0" (at["button"] + 2 * at["verify"]))
+            long = "c3c3c3c3c3c3c3c3c3c3c3c3c3c3c3c3c3c3c3c3"
+            short = substr(long, 1, 32)
+            print "# " $1 > script
+            setup = "sheet " sheet "\nsession " at["open"] " " at["level"] "\nrequest " at["mode"] " " at["group"] " "
+            print setup $3, long > script
+            print setup toupper($3), short > script
+            ready = "OK\nsession " at["open"] " " at["level"] "\n"
+            n = split($6, pairs, " ")
+            for (i = 1; i <= n; i++) {
+                split(pairs[i], pair, "=")
+                if (pair[1] ~ /^sheet\[/) sheet = put(sheet, substr(pair[1], 7) + 0, pair[2])
+                else at[pair[1]] = pair[2]
+            }
+            count = 0
+            if ($4 != "-") { long = put(long, 0, $4); short = put(short, 0, $4); count = length($4) / 2 }
+            print ready $5, at["open"], at["level"], count, long, sheet > expected
+            print ready $5, at["open"], at["level"], count, short, sheet > expected
         }
-        count = 0
-        if ($4 != "-") { long = put(long, 0, $4); short = put(short, 0, $4); count = length($4) / 2 }
-        print ready $5, at["open"], at["level"], count, long, sheet > expected
-        print ready $5, at["open"], at["level"], count, short, sheet > expected
-    }
-' device.tsv
+    ' "$1.tsv"
+}
+device_vectors device "$sample"
+device_vectors pump "$(bytes_of pump_sheet)"
 
 # Each PDU vector is read; one that reads is also written again, with its fields in order and backwards, and in upper case.
 awk -F '\t' -v script="$out/pdu-vectors.in" -v expected="$out/pdu-vectors.out" '

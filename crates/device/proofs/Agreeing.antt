@@ -27,7 +27,7 @@ agree-refl s =
     record {
       long = refl;
       front = λ p h. refl;
-      zero15 = refl;
+      byte15 = refl;
       zero30 = refl;
       zero31 = refl;
       flags = (λ h. h, λ h. h);

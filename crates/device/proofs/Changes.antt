@@ -7,7 +7,8 @@ use mathlib.Core.List.{List, []}
 use lib.ListN.{length, take, drop}
 use native.Mathlib.Omega.{arith}
 use Rattle.octets.specs.Splice.{splice}
-use Rattle.sheet.specs.declared.Memory.the-variants.{Device}
+use Rattle.sheet.specs.declared.Memory.{Memory}
+use Rattle.sheet.specs.declared.Memory.the-variants.{Device, User}
 use Rattle.sheet.proofs.Good.{Good, good}
 use Rattle.sheet.proofs.Runs.{range-within}
 use Rattle.pdu.specs.declared.Pdu.{Pdu}
@@ -20,14 +21,14 @@ use Rattle.judge.specs.declared.Decision.{Decision}
 use Rattle.judge.specs.Decisions as decisions
 use Rattle.judge.specs.Session.{levelIn}
 use Rattle.judge.specs.Judge.{decideOf}
-use Rattle.judge.specs.Memory.{responseOf}
+use Rattle.judge.specs.Memory.{mostBytes, responseOf, memoryWriteOf}
 use Rattle.judge.proofs.MemoryCases.{Suffices, Permits, changed, verified, change-cases, change-writes, change-stores, memory-write-is, bit-write-is}
 use Rattle.device.specs.Carry.{storeOf, build, bitAt}
 use Rattle.device.specs.Step.{stepBy}
 use Rattle.device.specs.Asked.{Asked, quiet, says, saysAfter, stores, Reads, given}
-use Rattle.device.specs.MemoryDue.{Write, bytes, bits, into, writing, mostIn, response, ToWrite, MemoryWritable, Leaves, Verify, MemoryDue, memoryWriteVerified, memoryWrite, noMemoryWriteVerified, noMemoryWrite}
+use Rattle.device.specs.MemoryDue.{Write, bytes, bits, into, writing, mostOf, mostIn, response, ToWrite, MemoryWritable, Leaves, Verify, MemoryDue, memoryWriteVerified, memoryWrite, noMemoryWriteVerified, noMemoryWrite}
 use Rattle.device.proofs.Bits.{length-build, combined, combined-is}
-use Rattle.device.proofs.Given.{memory-data}
+use Rattle.device.proofs.Given.{memory-data, user-data}
 use Rattle.device.proofs.Acts.{acts, acts-is}
 use Rattle.device.proofs.Stores.{stored-back}
 use Rattle.device.proofs.Stepped.{step, step-read}
@@ -47,20 +48,34 @@ pub record Change (x : Asked) (w : Write) (n address : ℕ) : Type 0 where
   pub leaves : (o : ℕ) → Leaves x w n address o (left o)
   pub only : (o : ℕ) (d : List ℕ) → Leaves x w n address o d → d ≡ left o
 
-pub change-of : (x : Asked) (w : Write) (n address : ℕ) → Reads x (writing w n address) → Change x w n address
-change-of x (bytes Device) n address r =
+-- of bytes: what is known of the memory's PDUs
+bytes-of :
+    (x : Asked) (m : Memory) (n address : ℕ) →
+    decideOf (x .sheet) (levelIn (x .session) (x .mode)) (x .group) (given x (writing (bytes m) n address)) (writing (bytes m) n address)
+    ≡ memoryWriteOf (x .sheet) m (levelIn (x .session) (x .mode)) n address →
+    mostBytes m ≡ mostOf m → ((k : ℕ) → responseOf m k address ≡ response m k address) →
+    length (given x (writing (bytes m) n address)) ≡ n → Change x (bytes m) n address
+bytes-of x m n address decides most answers long =
     record {
       access = access.Write;
-      new = (store.Data 0);
-      left = λ o. given x (writing (bytes Device) n address);
-      decides = memory-write-is (x .sheet) Device _ n address;
-      answers = λ k. refl;
+      new = store.Data 0;
+      left = λ o. given x (writing (bytes m) n address);
+      decides =
+          decides ∙ memory-write-is (x .sheet) m _ n address
+          ∙ ap (λ (k : ℕ). changed access.Write k (store.Data 0) (x .sheet) m (levelIn (x .session) (x .mode)) n address) most;
+      answers = answers;
       stored = λ o. refl;
-      long = λ o. memory-data (x .apdu) n address (reading (x .apdu) _ (r .reads));
+      long = λ o. long;
       rights = λ level levels. (λ h. h, λ h. h);
       leaves = λ o. refl;
       only = λ o d e. e;
     }
+
+pub change-of : (x : Asked) (w : Write) (n address : ℕ) → Reads x (writing w n address) → Change x w n address
+change-of x (bytes Device) n address r =
+    bytes-of x Device n address refl refl (λ k. refl) (memory-data (x .apdu) n address (reading (x .apdu) _ (r .reads)))
+change-of x (bytes User) n address r =
+    bytes-of x User n address refl refl (λ k. refl) (user-data (x .apdu) n address (reading (x .apdu) _ (r .reads)))
 change-of x bits n address r =
     record {
       access = access.Change;

@@ -9,7 +9,7 @@ use lib.ListN.{length, length-drop}
 use Rattle.pdu.specs.Read.{dataOf}
 use Rattle.octets.proofs.Truths.{and-is, below-is, equal-is}
 use Rattle.pdu.proofs.Readings.{Reading}
-use Rattle.pdu.specs.declared.Pdu.the-variants.{SerialNumberRead, PropertyValueRead, PropertyValueWrite, MemoryWrite, MemoryBitWrite}
+use Rattle.pdu.specs.declared.Pdu.the-variants.{SerialNumberRead, PropertyValueRead, PropertyValueWrite, MemoryWrite, MemoryBitWrite, UserMemoryWrite}
 
 module _ (a : List ℕ) where
   pub serial-small : (serial : ℕ) → Reading a (SerialNumberRead serial) → serial < 281474976710656
@@ -36,6 +36,10 @@ module _ (a : List ℕ) where
     memory-data r =
         let h = equal-is (length a) (4 + n) .0 (and-is (ltb n 16) _ .0 (r .fit) .1) in
         omega (arith, length-drop 4 a)
+
+    pub user-data : Reading a (UserMemoryWrite n address) → length (dataOf (UserMemoryWrite n address) a) ≡ n
+    unfolding dataOf
+    user-data r = let h = equal-is (length a) (5 + n) .0 (r .fit) in omega (arith, length-drop 5 a)
 
     pub bits-data : Reading a (MemoryBitWrite n address) → length (dataOf (MemoryBitWrite n address) a) ≡ n + n
     unfolding dataOf

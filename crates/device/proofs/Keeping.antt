@@ -19,9 +19,9 @@ use Rattle.pdu.specs.Read.{dataOf}
 use Rattle.octets.proofs.Truths.{and-is, below-is}
 use Rattle.pdu.proofs.Readings.{Reading}
 use Rattle.pdu.specs.declared.Pdu.{Pdu}
-use Rattle.pdu.specs.declared.Pdu.the-variants.{GroupValueRead, GroupValueResponse, GroupValueWrite, IndividualAddressWrite, IndividualAddressRead, SerialNumberRead, SerialNumberWrite, DeviceDescriptorRead, PropertyValueRead, PropertyValueWrite, PropertyDescriptionRead, MemoryRead, MemoryWrite, MemoryBitWrite, AuthorizeRequest, KeyWrite, Restart, IndividualAddressResponse, SerialNumberResponse, DeviceDescriptorResponse, PropertyValueResponse, PropertyDescriptionResponse, MemoryResponse, AuthorizeResponse, KeyResponse}
+use Rattle.pdu.specs.declared.Pdu.the-variants.{GroupValueRead, GroupValueResponse, GroupValueWrite, IndividualAddressWrite, IndividualAddressRead, SerialNumberRead, SerialNumberWrite, DeviceDescriptorRead, PropertyValueRead, PropertyValueWrite, PropertyDescriptionRead, MemoryRead, MemoryWrite, MemoryBitWrite, AuthorizeRequest, KeyWrite, Restart, IndividualAddressResponse, SerialNumberResponse, DeviceDescriptorResponse, PropertyValueResponse, PropertyDescriptionResponse, MemoryResponse, AuthorizeResponse, KeyResponse, UserMemoryRead, UserMemoryResponse, UserMemoryWrite}
 use Rattle.sheet.specs.declared.Memory.{Memory}
-use Rattle.sheet.specs.declared.Memory.the-variants.{Device}
+use Rattle.sheet.specs.declared.Memory.the-variants.{Device, User}
 use Rattle.sheet.proofs.Runs.{range-store}
 use Rattle.judge.specs.declared.Access.{Access}
 use Rattle.judge.specs.declared.Access.the-variants.{Write, Change}
@@ -40,7 +40,7 @@ use Rattle.judge.proofs.PropertyCases.{property-read-cases, property-write-case
 use Rattle.judge.proofs.MemoryCases.{memory-read-cases, changed, change-cases}
 use Rattle.judge.proofs.KeyCases.{key-write-cases}
 use Rattle.device.specs.Carry.{build, bitAt, storeOf}
-use Rattle.device.proofs.Given.{memory-data}
+use Rattle.device.proofs.Given.{memory-data, user-data}
 use Rattle.device.proofs.Bits.{length-build}
 use Rattle.device.proofs.Agreeing.{agree-refl, group-keeps, elements-keep, count-keeps}
 
@@ -147,3 +147,7 @@ module _ {s : List ℕ} (ok : Good s) (level group : ℕ) (a : List ℕ) where
   keeps-decided (MemoryResponse n address) r = as-is
   keeps-decided (AuthorizeResponse named) r = as-is
   keeps-decided (KeyResponse named) r = as-is
+  keeps-decided (UserMemoryRead n address) r = memory-read-cases s User level n address (K (UserMemoryRead n address)) (λ i p. as-is) as-is
+  keeps-decided (UserMemoryResponse n address) r = as-is
+  keeps-decided (UserMemoryWrite n address) r =
+      change ok _ Write 11 User level n address (store.Data 0) (λ o. dataOf (UserMemoryWrite n address) a) (λ o. refl) (λ o. user-data a n address r)

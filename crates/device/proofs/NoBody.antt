@@ -18,7 +18,7 @@ use Rattle.sheet.specs.Rules.{ruleOf, isAccepted}
 use Rattle.sheet.specs.Frame.{Agree}
 use Rattle.sheet.proofs.Sames.{rules-same, count-same, place-same}
 use Rattle.sheet.proofs.SameLookups.{index-same, rank-same, nth-same, range-same}
-use Rattle.sheet.specs.declared.Memory.the-variants.{Device}
+use Rattle.sheet.specs.declared.Memory.the-variants.{Device, User}
 use Rattle.sheet.proofs.Frames.{both-or-neither}
 use Rattle.pdu.specs.Read.{readPdu, dataOf}
 use Rattle.pdu.specs.Rules.{codeOf}
@@ -28,7 +28,7 @@ use Rattle.pdu.specs.declared.Found.the-variants.{Listed, Unknown}
 use Rattle.pdu.specs.declared.Parsed.{Parsed}
 use Rattle.pdu.specs.declared.Parsed.the-variants.{Is, Refused}
 use Rattle.pdu.specs.declared.Pdu.{Pdu}
-use Rattle.pdu.specs.declared.Pdu.the-variants.{GroupValueRead, GroupValueResponse, GroupValueWrite, IndividualAddressWrite, IndividualAddressRead, SerialNumberRead, SerialNumberWrite, DeviceDescriptorRead, PropertyValueRead, PropertyValueWrite, PropertyDescriptionRead, MemoryRead, MemoryWrite, MemoryBitWrite, AuthorizeRequest, KeyWrite, Restart, IndividualAddressResponse, SerialNumberResponse, DeviceDescriptorResponse, PropertyValueResponse, PropertyDescriptionResponse, MemoryResponse, AuthorizeResponse, KeyResponse}
+use Rattle.pdu.specs.declared.Pdu.the-variants.{GroupValueRead, GroupValueResponse, GroupValueWrite, IndividualAddressWrite, IndividualAddressRead, SerialNumberRead, SerialNumberWrite, DeviceDescriptorRead, PropertyValueRead, PropertyValueWrite, PropertyDescriptionRead, MemoryRead, MemoryWrite, MemoryBitWrite, AuthorizeRequest, KeyWrite, Restart, IndividualAddressResponse, SerialNumberResponse, DeviceDescriptorResponse, PropertyValueResponse, PropertyDescriptionResponse, MemoryResponse, AuthorizeResponse, KeyResponse, UserMemoryRead, UserMemoryResponse, UserMemoryWrite}
 use Rattle.judge.specs.declared.Session.{Session}
 use Rattle.judge.specs.declared.Decision.{Decision}
 use Rattle.judge.specs.Session.{levelIn}
@@ -124,6 +124,9 @@ module _ {s s′ : List ℕ} (b : SameButBodies s s′) where
   decide-same level group d (MemoryResponse n address) = refl
   decide-same level group d (AuthorizeResponse named) = refl
   decide-same level group d (KeyResponse named) = refl
+  decide-same level group d (UserMemoryRead n address) = rw (range-same a User address n)
+  decide-same level group d (UserMemoryResponse n address) = refl
+  decide-same level group d (UserMemoryWrite n address) = rw (range-same a User address n, head-same b head.flags (omega arith))
 
   read-same : (level group : ℕ) (c : List ℕ) (z : Parsed) → readOf s′ level group c z ≡ readOf s level group c z
   read-same level group c (Is p) = decide-same level group (dataOf p c) p

@@ -5,7 +5,7 @@ use mathlib.Core.Path.{_≡_}
 use mathlib.Core.Logic.{_⊎_, inl, inr}
 use native.Mathlib.Omega.{arith}
 use Rattle.sheet.specs.declared.Memory.{Memory}
-use Rattle.sheet.specs.declared.Memory.the-variants.{Device}
+use Rattle.sheet.specs.declared.Memory.the-variants.{Device, User}
 use Rattle.pdu.specs.Pdus.{serviceOf}
 use Rattle.pdu.specs.declared.Pdu.the-variants.{PropertyValueRead, PropertyValueWrite}
 use Rattle.device.specs.Asked.{Asked, Takes, Reads}
@@ -23,6 +23,7 @@ either-low (inr e) = omega arith
 -- a memory is read in connected mode alone
 connected-low : (rules : ℕ) (m : Memory) (n address : ℕ) {mode : ℕ} → Takes rules (serviceOf (reading m n address)) mode → mode ≤ 3
 connected-low rules Device n address e = omega arith
+connected-low rules User n address e = omega arith
 
 module _ (x y : Asked) where
   -- ELEMENTS OF A PROPERTY, OR ITS COUNT

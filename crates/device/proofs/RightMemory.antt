@@ -5,7 +5,7 @@ use mathlib.Core.Path.{_≡_, refl, sym, ap, subst, _∙_}
 use mathlib.Core.List.{List, []}
 use native.Mathlib.Omega.{arith}
 use Rattle.sheet.specs.declared.Memory.{Memory}
-use Rattle.sheet.specs.declared.Memory.the-variants.{Device}
+use Rattle.sheet.specs.declared.Memory.the-variants.{Device, User}
 use Rattle.sheet.proofs.Good.{good}
 use Rattle.pdu.specs.declared.Pdu.{Pdu}
 use Rattle.judge.specs.declared.Access.the-variants as access
@@ -30,6 +30,7 @@ pub record Look (m : Memory) : Type 0 where
 
 look-at : (m : Memory) → Look m
 look-at Device = record { decides = λ s level group n address d. refl; answers = λ n address. refl; most = refl }
+look-at User = record { decides = λ s level group n address d. refl; answers = λ n address. refl; most = refl }
 
 module _ (x : Asked) (m : Memory) (n address : ℕ) (r : Reads x (reading m n address)) where
   abbrev level : ℕ

@@ -18,9 +18,9 @@ use Rattle.pdu.specs.Read.{dataOf}
 use Rattle.pdu.specs.Write.{writable}
 use Rattle.pdu.proofs.Readings.{Reading}
 use Rattle.pdu.specs.declared.Pdu.{Pdu}
-use Rattle.pdu.specs.declared.Pdu.the-variants.{GroupValueRead, GroupValueResponse, GroupValueWrite, IndividualAddressWrite, IndividualAddressRead, SerialNumberRead, SerialNumberWrite, DeviceDescriptorRead, PropertyValueRead, PropertyValueWrite, PropertyDescriptionRead, MemoryRead, MemoryWrite, MemoryBitWrite, AuthorizeRequest, KeyWrite, Restart, IndividualAddressResponse, SerialNumberResponse, DeviceDescriptorResponse, PropertyValueResponse, PropertyDescriptionResponse, MemoryResponse, AuthorizeResponse, KeyResponse}
+use Rattle.pdu.specs.declared.Pdu.the-variants.{GroupValueRead, GroupValueResponse, GroupValueWrite, IndividualAddressWrite, IndividualAddressRead, SerialNumberRead, SerialNumberWrite, DeviceDescriptorRead, PropertyValueRead, PropertyValueWrite, PropertyDescriptionRead, MemoryRead, MemoryWrite, MemoryBitWrite, AuthorizeRequest, KeyWrite, Restart, IndividualAddressResponse, SerialNumberResponse, DeviceDescriptorResponse, PropertyValueResponse, PropertyDescriptionResponse, MemoryResponse, AuthorizeResponse, KeyResponse, UserMemoryRead, UserMemoryResponse, UserMemoryWrite}
 use Rattle.sheet.specs.declared.Memory.{Memory}
-use Rattle.sheet.specs.declared.Memory.the-variants.{Device}
+use Rattle.sheet.specs.declared.Memory.the-variants.{Device, User}
 use Rattle.sheet.proofs.Runs.{range-within}
 use Rattle.judge.specs.declared.Access.{Access}
 use Rattle.judge.specs.declared.Access.the-variants.{Write, Change}
@@ -43,9 +43,9 @@ use Rattle.judge.proofs.KeyCases.{key-write-cases}
 use Rattle.device.specs.Carry.{storeOf}
 use Rattle.device.specs.Safe.{StoreSafe, AnswerSafe, Safe}
 use Rattle.device.proofs.Accepted.{long, group-within, six-within, group-short, six-below, maximum-below, elements-within, count-within}
-use Rattle.device.proofs.Given.{serial-small, read-fields, write-fields, write-data, memory-data, bits-data}
+use Rattle.device.proofs.Given.{serial-small, read-fields, write-fields, write-data, memory-data, user-data, bits-data}
 use Rattle.device.proofs.Stores.{length-store}
-use Rattle.device.proofs.Writing.{writes-six, writes-value, writes-descriptor, writes-property, writes-memory, writes-address, writes-serial, writes-description, writes-level, writes-key}
+use Rattle.device.proofs.Writing.{writes-six, writes-value, writes-descriptor, writes-property, writes-memory, writes-user, writes-address, writes-serial, writes-description, writes-level, writes-key}
 
 -- n bytes of a list that has them
 part-length : (s : List ℕ) (o n : ℕ) → o + n ≤ length s → length (take n (drop o s)) ≡ n
@@ -67,9 +67,11 @@ module _ (s d : List ℕ) where
   -- a part of memory, as it stands or as it stands after a store
   memory-answer : (m : Memory) (n a o : ℕ) → n ≤ mostBytes m → o + n ≤ length s → AnswerSafe s d (answer.Sheet (responseOf m n a) o n)
   memory-answer Device n a o m h = (h, omega arith, writes-memory (take n (drop o s)) n a m (part-length s o n h))
+  memory-answer User n a o m h = (h, omega arith, writes-user (take n (drop o s)) n a m (part-length s o n h))
 
   no-memory : (m : Memory) (a : ℕ) → Safe s d (denied (responseOf m 0 a))
   no-memory Device a = safe-denied _ (writes-memory [] 0 a (omega arith) refl)
+  no-memory User a = safe-denied _ (writes-user [] 0 a (omega arith) refl)
 
 safe-verified :
     (s d : List ℕ) (k : Store) (m : Memory) (n a o : ℕ) → StoreSafe s d k → n ≤ mostBytes m → o + n ≤ length s →
@@ -236,3 +238,6 @@ safe-decided ok level group a (PropertyDescriptionResponse object id index kind 
 safe-decided ok level group a (MemoryResponse n address) r = safe-refused _ _ 8
 safe-decided ok level group a (AuthorizeResponse named) r = safe-refused _ _ 8
 safe-decided ok level group a (KeyResponse named) r = safe-refused _ _ 8
+safe-decided ok level group a (UserMemoryRead n address) r = memory-read ok _ level n address User
+safe-decided ok level group a (UserMemoryResponse n address) r = safe-refused _ _ 8
+safe-decided ok level group a (UserMemoryWrite n address) r = memory-write ok _ level n address User (user-data a n address r)

@@ -9,10 +9,10 @@ use Rattle.sheet.specs.Layout.{_of_}
 use Rattle.sheet.specs.Head as head
 use Rattle.pdu.specs.Read.{readPdu}
 use Rattle.pdu.specs.declared.Pdu.{Pdu}
-use Rattle.pdu.specs.declared.Pdu.the-variants.{GroupValueRead, GroupValueResponse, GroupValueWrite, IndividualAddressWrite, IndividualAddressRead, SerialNumberRead, SerialNumberWrite, DeviceDescriptorRead, PropertyValueRead, PropertyValueWrite, PropertyDescriptionRead, MemoryRead, MemoryWrite, MemoryBitWrite, AuthorizeRequest, KeyWrite, Restart, IndividualAddressResponse, SerialNumberResponse, DeviceDescriptorResponse, PropertyValueResponse, PropertyDescriptionResponse, MemoryResponse, AuthorizeResponse, KeyResponse}
+use Rattle.pdu.specs.declared.Pdu.the-variants.{GroupValueRead, GroupValueResponse, GroupValueWrite, IndividualAddressWrite, IndividualAddressRead, SerialNumberRead, SerialNumberWrite, DeviceDescriptorRead, PropertyValueRead, PropertyValueWrite, PropertyDescriptionRead, MemoryRead, MemoryWrite, MemoryBitWrite, AuthorizeRequest, KeyWrite, Restart, IndividualAddressResponse, SerialNumberResponse, DeviceDescriptorResponse, PropertyValueResponse, PropertyDescriptionResponse, MemoryResponse, AuthorizeResponse, KeyResponse, UserMemoryRead, UserMemoryResponse, UserMemoryWrite}
 use Rattle.pdu.specs.declared.Parsed.the-variants.{Is}
 use Rattle.judge.specs.declared.Store.{Store}
-use Rattle.sheet.specs.declared.Memory.the-variants.{Device}
+use Rattle.sheet.specs.declared.Memory.the-variants.{Device, User}
 use Rattle.judge.specs.declared.Access.the-variants.{Write, Change}
 use Rattle.judge.specs.declared.Store.the-variants as store
 use Rattle.judge.specs.declared.Turn.{Turn}
@@ -30,7 +30,7 @@ use Rattle.judge.proofs.PropertyCases.{property-read-cases, property-write-case
 use Rattle.judge.proofs.MemoryCases.{memory-read-cases, change-cases}
 use Rattle.judge.proofs.KeyCases.{key-write-cases}
 use Rattle.device.specs.Asked.{Asked, Refusal, noRoom, badSheet, badLength, badMode, noSession}
-use Rattle.device.specs.Replies.{Negative, ofRead, ofWrite, ofDescription, ofMemoryRead, ofMemoryWrite, ofBitWrite, ofKeyWrite}
+use Rattle.device.specs.Replies.{Negative, ofRead, ofWrite, ofDescription, ofMemoryRead, ofMemoryWrite, ofUserRead, ofUserWrite, ofBitWrite, ofKeyWrite}
 use Rattle.device.proofs.RequestCases.{request-cases}
 
 -- about a request a
@@ -96,6 +96,12 @@ module _ (a s : List ℕ) (level group : ℕ) (d : List ℕ) where
   shaped (MemoryResponse n address) e = unknown a
   shaped (AuthorizeResponse named) e = unknown a
   shaped (KeyResponse named) e = unknown a
+  shaped (UserMemoryRead n address) e =
+      memory-read-cases s User level n address (Shape a) (λ i p. reply _ _ _ _) (deny _ _ e (ofUserRead n address))
+  shaped (UserMemoryResponse n address) e = unknown a
+  shaped (UserMemoryWrite n address) e =
+      change-cases Write 11 (store.Data 0) s User level n address (Shape a) (λ i p v. reply _ _ _ _) (λ i p v. done _ _)
+      (λ v. deny _ _ e (ofUserWrite n address)) (λ v. unanswered a)
 
 early : {x : Asked} (n : ℕ) → Refusal x n → Shape (x .apdu) (refused n)
 early n (noRoom b) = refuse 3 (omega arith) (omega arith) (λ e. omega arith)

@@ -8,7 +8,7 @@ use lib.Dec.{eqb}
 use borrow.Author.Tests.{eq-eqb, eqb-true}
 use Rattle.octets.proofs.Truths.{never, or-is, equal-is}
 use Rattle.pdu.specs.declared.Service.{Service}
-use Rattle.pdu.specs.declared.Service.the-variants.{GroupValueRead, GroupValueResponse, GroupValueWrite, IndividualAddressWrite, IndividualAddressRead, SerialNumberRead, SerialNumberWrite, DeviceDescriptorRead, PropertyValueRead, PropertyValueWrite, PropertyDescriptionRead, MemoryRead, MemoryWrite, MemoryBitWrite, AuthorizeRequest, KeyWrite, Restart, IndividualAddressResponse, SerialNumberResponse, DeviceDescriptorResponse, PropertyValueResponse, PropertyDescriptionResponse, MemoryResponse, AuthorizeResponse, KeyResponse}
+use Rattle.pdu.specs.declared.Service.the-variants.{GroupValueRead, GroupValueResponse, GroupValueWrite, IndividualAddressWrite, IndividualAddressRead, SerialNumberRead, SerialNumberWrite, DeviceDescriptorRead, PropertyValueRead, PropertyValueWrite, PropertyDescriptionRead, MemoryRead, MemoryWrite, MemoryBitWrite, AuthorizeRequest, KeyWrite, Restart, IndividualAddressResponse, SerialNumberResponse, DeviceDescriptorResponse, PropertyValueResponse, PropertyDescriptionResponse, MemoryResponse, AuthorizeResponse, KeyResponse, UserMemoryRead, UserMemoryResponse, UserMemoryWrite}
 use Rattle.judge.specs.Modes.{reachOf, reaches, takes}
 use Rattle.judge.specs.declared.Reach.{Reach}
 use Rattle.judge.specs.declared.Reach.the-variants.{Multicast, Broadcast, PointToPoint, Connected, Never}
@@ -51,6 +51,9 @@ takes-is rules m PropertyDescriptionResponse = no-mode
 takes-is rules m MemoryResponse = no-mode
 takes-is rules m AuthorizeResponse = no-mode
 takes-is rules m KeyResponse = no-mode
+takes-is rules m UserMemoryRead = equal-is m 3
+takes-is rules m UserMemoryResponse = no-mode
+takes-is rules m UserMemoryWrite = equal-is m 3
 
 -- some mode takes what reaches the device, and only that
 some-mode : (r : Reach) → reaches r ≡ true → (m : ℕ) × (takes r m ≡ true)

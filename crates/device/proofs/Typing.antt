@@ -19,13 +19,13 @@ use Rattle.pdu.specs.Allows.{Typed}
 use Rattle.pdu.proofs.Allowed.{wide}
 use Rattle.pdu.proofs.Outcomes.{reads-pdu}
 use Rattle.pdu.specs.declared.Pdu.{Pdu}
-use Rattle.pdu.specs.declared.Pdu.the-variants.{GroupValueRead, GroupValueResponse, GroupValueWrite, IndividualAddressWrite, IndividualAddressRead, SerialNumberRead, SerialNumberWrite, DeviceDescriptorRead, PropertyValueRead, PropertyValueWrite, PropertyDescriptionRead, MemoryRead, MemoryWrite, MemoryBitWrite, AuthorizeRequest, KeyWrite, Restart, IndividualAddressResponse, SerialNumberResponse, DeviceDescriptorResponse, PropertyValueResponse, PropertyDescriptionResponse, MemoryResponse, AuthorizeResponse, KeyResponse}
+use Rattle.pdu.specs.declared.Pdu.the-variants.{GroupValueRead, GroupValueResponse, GroupValueWrite, IndividualAddressWrite, IndividualAddressRead, SerialNumberRead, SerialNumberWrite, DeviceDescriptorRead, PropertyValueRead, PropertyValueWrite, PropertyDescriptionRead, MemoryRead, MemoryWrite, MemoryBitWrite, AuthorizeRequest, KeyWrite, Restart, IndividualAddressResponse, SerialNumberResponse, DeviceDescriptorResponse, PropertyValueResponse, PropertyDescriptionResponse, MemoryResponse, AuthorizeResponse, KeyResponse, UserMemoryRead, UserMemoryResponse, UserMemoryWrite}
 use Rattle.pdu.specs.declared.Parsed.the-variants.{Is}
 use Rattle.judge.specs.declared.Answer.{Answer}
 use Rattle.judge.specs.declared.Answer.the-variants as answer
 use Rattle.judge.specs.declared.Decision.{Decision}
 use Rattle.judge.specs.Addresses.{addressWriteOf, addressReadOf, serialReadOf, serialWriteOf, descriptorOf}
-use Rattle.sheet.specs.declared.Memory.the-variants.{Device}
+use Rattle.sheet.specs.declared.Memory.the-variants.{Device, User}
 use Rattle.judge.specs.declared.Access.the-variants.{Write, Change}
 use Rattle.judge.specs.declared.Store.the-variants as store
 use Rattle.judge.specs.Memory.{memoryWriteOf, bitWriteOf}
@@ -103,6 +103,10 @@ module _ {s : List ℕ} (ok : Good s) (h : Octets s) (level group : ℕ) (d : Li
   fitted (MemoryResponse n address) t = tt
   fitted (AuthorizeResponse named) t = tt
   fitted (KeyResponse named) t = tt
+  fitted (UserMemoryRead n address) t = memory-read-cases s User level n address Fits (λ i p. t) (omega arith, t .1)
+  fitted (UserMemoryResponse n address) t = tt
+  fitted (UserMemoryWrite n address) t =
+      change-cases Write 11 (store.Data 0) s User level n address Fits (λ i p v. t) (λ i p v. tt) (λ v. (omega arith, t .1)) (λ v. tt)
 
 -- EVERY ANSWER'S FIELDS FIT THEIR PLACES
 pub typed :

@@ -28,7 +28,7 @@ use Rattle.pdu.specs.declared.Found.the-variants.{Listed, Unknown}
 use Rattle.pdu.specs.declared.Parsed.{Parsed}
 use Rattle.pdu.specs.declared.Parsed.the-variants.{Is, Refused}
 use Rattle.pdu.specs.declared.Pdu.{Pdu}
-use Rattle.pdu.specs.declared.Pdu.the-variants.{GroupValueRead, GroupValueResponse, GroupValueWrite, IndividualAddressWrite, IndividualAddressRead, SerialNumberRead, SerialNumberWrite, DeviceDescriptorRead, PropertyValueRead, PropertyValueWrite, PropertyDescriptionRead, MemoryRead, MemoryWrite, MemoryBitWrite, AuthorizeRequest, KeyWrite, Restart, IndividualAddressResponse, SerialNumberResponse, DeviceDescriptorResponse, PropertyValueResponse, PropertyDescriptionResponse, MemoryResponse, AuthorizeResponse, KeyResponse}
+use Rattle.pdu.specs.declared.Pdu.the-variants.{GroupValueRead, GroupValueResponse, GroupValueWrite, IndividualAddressWrite, IndividualAddressRead, SerialNumberRead, SerialNumberWrite, DeviceDescriptorRead, PropertyValueRead, PropertyValueWrite, PropertyDescriptionRead, MemoryRead, MemoryWrite, MemoryBitWrite, AuthorizeRequest, KeyWrite, Restart, IndividualAddressResponse, SerialNumberResponse, DeviceDescriptorResponse, PropertyValueResponse, PropertyDescriptionResponse, MemoryResponse, AuthorizeResponse, KeyResponse, UserMemoryRead, UserMemoryResponse, UserMemoryWrite}
 use Rattle.judge.specs.declared.Session.{Session}
 use Rattle.judge.specs.declared.Decision.{Decision}
 use Rattle.judge.specs.Session.{multicast, levelIn}
@@ -72,6 +72,9 @@ module _ (room : ℕ) (s : List ℕ) (q : Session) (mode : ℕ) (a : List ℕ) (
   decide-other l d (MemoryResponse n address) t = refl
   decide-other l d (AuthorizeResponse named) t = refl
   decide-other l d (KeyResponse named) t = refl
+  decide-other l d (UserMemoryRead n address) t = refl
+  decide-other l d (UserMemoryResponse n address) t = refl
+  decide-other l d (UserMemoryWrite n address) t = refl
 
   read-other :
       (l : ℕ) (k : Service) → serviceAt (codeOf a) ≡ Listed k → Takes (rulesOf s) k mode → (z : Parsed) → readPdu a ≡ z →

@@ -27,7 +27,7 @@ module _ {s s′ : List ℕ} (b : SameButBodies s s′) where
   pub entry-same : (k i : ℕ) → k < kinds → i < count s k → entry s′ k i ≡ entry s k i
   unfolding entry
   entry-same k i hk hi =
-      let e = place-front s s′ (λ p h. b .before p (omega arith)) k i in
+      let e = place-front s s′ (λ p h. b .before p (omega arith)) (head-same head.byte15 (omega arith)) k i in
       rw e (part-same s s′ (place s k i) (size k) (b .long) (λ j l. b .before (place s k i + j) (omega (arith, place-in s k i hk hi))))
 
   -- the first byte of a group object's body
@@ -45,7 +45,7 @@ module _ {s s′ : List ℕ} (b : SameButBodies s s′) where
       record {
         long = b .long;
         front = λ p h. b .before p (omega arith);
-        zero15 = head-same head.zero15 (omega arith);
+        byte15 = head-same head.byte15 (omega arith);
         zero30 = head-same head.zero30 (omega arith);
         zero31 = head-same head.zero31 (omega arith);
         flags = rw (head-same head.flags (omega arith)) (λ h. h, λ h. h);

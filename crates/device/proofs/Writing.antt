@@ -12,7 +12,7 @@ use Rattle.pdu.specs.Read.{dataAt}
 use Rattle.pdu.specs.Write.{writable, fitsIn}
 use Rattle.octets.proofs.Truths.{and-is, or-is, below-is, at-most-is, equal-is}
 use Rattle.pdu.specs.declared.Pdu.{Pdu}
-use Rattle.pdu.specs.declared.Pdu.the-variants.{GroupValueResponse, IndividualAddressResponse, SerialNumberResponse, DeviceDescriptorResponse, PropertyValueResponse, PropertyDescriptionResponse, MemoryResponse, AuthorizeResponse, KeyResponse}
+use Rattle.pdu.specs.declared.Pdu.the-variants.{GroupValueResponse, IndividualAddressResponse, SerialNumberResponse, DeviceDescriptorResponse, PropertyValueResponse, PropertyDescriptionResponse, MemoryResponse, AuthorizeResponse, KeyResponse, UserMemoryResponse}
 
 -- a PDU whose row lets it stand with data that leave room for it
 stands : (p : Pdu) (d : List ℕ) → dataAt p + length d ≤ 16 → fitsIn p (dataAt p + length d) ≡ true → writable p d ≡ true
@@ -43,6 +43,9 @@ module _ (d : List ℕ) where
   writes-memory n address h e =
       stands (MemoryResponse n address) d (omega arith)
       (and-is _ _ .1 (below-is n 16 .1 (omega arith), equal-is _ (4 + n) .1 (omega arith)))
+
+  pub writes-user : (n address : ℕ) → n ≤ 11 → length d ≡ n → writable (UserMemoryResponse n address) d ≡ true
+  writes-user n address h e = stands (UserMemoryResponse n address) d (omega arith) (equal-is _ (5 + n) .1 (omega arith))
 
 pub writes-address : writable IndividualAddressResponse [] ≡ true
 writes-address = stands IndividualAddressResponse [] (omega arith) refl

@@ -15,6 +15,7 @@ pub mod Replies
 pub mod Demand1
 pub mod Demand2
 pub mod Marked
+pub mod Pump
 pub mod Next
 pub mod Bodies
 pub mod Wrong

@@ -9,21 +9,24 @@ use Rattle.octets.specs.Splice.{splice}
 use Rattle.sheet.specs.Head as head
 use Rattle.sheet.specs.Places.{Ranged}
 use Rattle.sheet.specs.declared.Memory.{Memory}
-use Rattle.sheet.specs.declared.Memory.the-variants.{Device}
+use Rattle.sheet.specs.declared.Memory.the-variants.{Device, User}
 use Rattle.pdu.specs.declared.Pdu.{Pdu}
-use Rattle.pdu.specs.declared.Pdu.the-variants.{MemoryRead, MemoryWrite, MemoryBitWrite, MemoryResponse}
+use Rattle.pdu.specs.declared.Pdu.the-variants.{MemoryRead, MemoryWrite, MemoryBitWrite, MemoryResponse, UserMemoryRead, UserMemoryWrite, UserMemoryResponse}
 use Rattle.device.specs.Step.{Step}
 use Rattle.device.specs.Asked.{Asked, quiet, says, saysAfter, stores, Reads, given, Acts, part}
 
 -- the services of a memory, and how many bytes a read or write may name
 abbrev pub reading : Memory → ℕ → ℕ → Pdu
 reading Device n address = MemoryRead n address
+reading User n address = UserMemoryRead n address
 
 abbrev pub response : Memory → ℕ → ℕ → Pdu
 response Device n address = MemoryResponse n address
+response User n address = UserMemoryResponse n address
 
 abbrev pub mostOf : Memory → ℕ
 mostOf Device = 12
+mostOf User = 11
 
 -- the writes: of bytes of a memory, of bits of the device's memory
 pub data Write : Type 0 where
@@ -36,6 +39,7 @@ into bits = Device
 
 abbrev pub writing : Write → ℕ → ℕ → Pdu
 writing (bytes Device) n address = MemoryWrite n address
+writing (bytes User) n address = UserMemoryWrite n address
 writing bits n address = MemoryBitWrite n address
 
 abbrev pub mostIn : Write → ℕ

@@ -7,7 +7,7 @@ use Rattle.pdu.specs.Read.{readPdu, dataOf}
 use Rattle.pdu.specs.Write.{encoded}
 use Rattle.pdu.specs.declared.Parsed.the-variants.{Is}
 use Rattle.pdu.specs.declared.Pdu.{Pdu}
-use Rattle.pdu.specs.declared.Pdu.the-variants.{PropertyValueRead, PropertyValueWrite, PropertyDescriptionRead, MemoryRead, MemoryWrite, MemoryBitWrite, KeyWrite, PropertyValueResponse, PropertyDescriptionResponse, MemoryResponse, KeyResponse}
+use Rattle.pdu.specs.declared.Pdu.the-variants.{PropertyValueRead, PropertyValueWrite, PropertyDescriptionRead, MemoryRead, MemoryWrite, MemoryBitWrite, KeyWrite, PropertyValueResponse, PropertyDescriptionResponse, MemoryResponse, KeyResponse, UserMemoryRead, UserMemoryWrite, UserMemoryResponse}
 
 -- b is the bytes of a PDU with its data, and reads as that
 pub record IsPdu (b : List ℕ) : Type 0 where
@@ -26,6 +26,8 @@ pub data Negative : Pdu → Pdu → Type 0 where
   ofMemoryRead : (n address : ℕ) → Negative (MemoryRead n address) (MemoryResponse 0 address)
   ofMemoryWrite : (n address : ℕ) → Negative (MemoryWrite n address) (MemoryResponse 0 address)
   ofBitWrite : (n address : ℕ) → Negative (MemoryBitWrite n address) (MemoryResponse 0 address)
+  ofUserRead : (n address : ℕ) → Negative (UserMemoryRead n address) (UserMemoryResponse 0 address)
+  ofUserWrite : (n address : ℕ) → Negative (UserMemoryWrite n address) (UserMemoryResponse 0 address)
   ofKeyWrite : (level key : ℕ) → Negative (KeyWrite level key) (KeyResponse 255)
 
 -- b is the negative answer to the request a, and nothing else

@@ -14,7 +14,7 @@ use Rattle.pdu.specs.Pdus.{serviceOf}
 use Rattle.pdu.specs.declared.Parsed.{Parsed}
 use Rattle.pdu.specs.declared.Parsed.the-variants.{Is, Refused}
 use Rattle.pdu.specs.declared.Pdu.{Pdu}
-use Rattle.pdu.specs.declared.Pdu.the-variants.{GroupValueRead, GroupValueResponse, GroupValueWrite, IndividualAddressWrite, IndividualAddressRead, SerialNumberRead, SerialNumberWrite, DeviceDescriptorRead, PropertyValueRead, PropertyValueWrite, PropertyDescriptionRead, MemoryRead, MemoryWrite, MemoryBitWrite, AuthorizeRequest, KeyWrite, Restart, IndividualAddressResponse, SerialNumberResponse, DeviceDescriptorResponse, PropertyValueResponse, PropertyDescriptionResponse, MemoryResponse, AuthorizeResponse, KeyResponse}
+use Rattle.pdu.specs.declared.Pdu.the-variants.{GroupValueRead, GroupValueResponse, GroupValueWrite, IndividualAddressWrite, IndividualAddressRead, SerialNumberRead, SerialNumberWrite, DeviceDescriptorRead, PropertyValueRead, PropertyValueWrite, PropertyDescriptionRead, MemoryRead, MemoryWrite, MemoryBitWrite, AuthorizeRequest, KeyWrite, Restart, IndividualAddressResponse, SerialNumberResponse, DeviceDescriptorResponse, PropertyValueResponse, PropertyDescriptionResponse, MemoryResponse, AuthorizeResponse, KeyResponse, UserMemoryRead, UserMemoryResponse, UserMemoryWrite}
 use Rattle.octets.proofs.Truths.{never, decided, equal-is}
 use Rattle.judge.specs.Session.{connected}
 use Rattle.device.specs.Events.{State}
@@ -69,6 +69,9 @@ taken-is rules (PropertyDescriptionResponse o i n k x l) m = inl refl
 taken-is rules (MemoryResponse n y) m = inl refl
 taken-is rules (AuthorizeResponse l) m = inl refl
 taken-is rules (KeyResponse l) m = inl refl
+taken-is rules (UserMemoryRead n y) m = inl refl
+taken-is rules (UserMemoryResponse n y) m = inl refl
+taken-is rules (UserMemoryWrite n y) m = inr (equal-is m 3)
 
 module _ (x : State) (mode g : ℕ) (a out : List ℕ) (accepted : Accepted (x .sheet)) where
   abbrev rules : ℕ

@@ -8,11 +8,11 @@ use lib.Bits.{bitAnd, bitXor}
 use Rattle.octets.specs.Splice.{splice}
 use Rattle.sheet.specs.Places.{Ranged}
 use Rattle.sheet.specs.declared.Memory.{Memory}
-use Rattle.sheet.specs.declared.Memory.the-variants.{Device}
+use Rattle.sheet.specs.declared.Memory.the-variants.{Device, User}
 use Rattle.sheet.proofs.SameLookups.{ranged-same}
 use Rattle.sheet.proofs.Frames.{agree-sym}
 use Rattle.sheet.proofs.Runs.{range-within, range-store}
-use Rattle.pdu.specs.declared.Pdu.the-variants.{MemoryWrite, MemoryBitWrite}
+use Rattle.pdu.specs.declared.Pdu.the-variants.{MemoryWrite, MemoryBitWrite, UserMemoryWrite}
 use Rattle.device.specs.Octets.{Octets}
 use Rattle.device.specs.Events.{Event, State}
 use Rattle.device.specs.Asked.{Asked, Reads, given}
@@ -24,7 +24,7 @@ use Rattle.history.specs.History.{First, content}
 use Rattle.history.specs.Others.{programming, individual, groupByte}
 use Rattle.history.specs.Keeps.{Begins, Succeeds}
 use Rattle.history.specs.Rightful.{asked}
-use Rattle.history.proofs.RequestFields.{memory-data}
+use Rattle.history.proofs.RequestFields.{memory-data, user-data}
 use Rattle.history.proofs.Invariant.{Inv, fine, now}
 use Rattle.history.proofs.Means.{Means, store-span}
 use Rattle.history.proofs.MemoryRun.{memory-place, memory-run}
@@ -37,6 +37,7 @@ use Rattle.history.proofs.Writes.{carried-out, denied}
 -- what a write to memory asks for
 pub wish-is : (w : Write) (n y : ℕ) → wishOf (writing w n y) ≡ change (wish w n y)
 wish-is (bytes Device) n y = refl
+wish-is (bytes User) n y = refl
 wish-is bits n y = refl
 
 module _ (f : First) (b : Begins f) (h : List Event) (x : State) (inv : Inv f h x) (mode g : ℕ) (a out : List ℕ) (octets : Octets a) where
@@ -71,6 +72,10 @@ module _ (f : First) (b : Begins f) (h : List Event) (x : State) (inv : Inv f h 
   stored (bytes Device) n y o d r w e =
       range-stored (w .range) (λ j. getD (given R (MemoryWrite n y)) j 0) d (ap length e ∙ memory-data a octets (r .reads))
       (rw e (octets-data (MemoryWrite n y) a octets))
+      (λ j k. ap (λ (c : List ℕ). getD c j 0) (sym e))
+  stored (bytes User) n y o d r w e =
+      range-stored (w .range) (λ j. getD (given R (UserMemoryWrite n y)) j 0) d (ap length e ∙ user-data a octets (r .reads))
+      (rw e (octets-data (UserMemoryWrite n y) a octets))
       (λ j k. ap (λ (c : List ℕ). getD c j 0) (sym e))
   stored bits n y o d r w c =
       let given : List ℕ = given R (MemoryBitWrite n y) in

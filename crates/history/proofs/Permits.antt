@@ -18,7 +18,7 @@ use Rattle.sheet.specs.Property as property
 use Rattle.sheet.specs.Entries.{count, entry}
 use Rattle.sheet.specs.Places.{regionAt, PropertyWith}
 use Rattle.sheet.specs.declared.Memory.{Memory}
-use Rattle.sheet.specs.declared.Memory.the-variants.{Device}
+use Rattle.sheet.specs.declared.Memory.the-variants.{Device, User}
 use Rattle.sheet.proofs.Good.{Good}
 use Rattle.sheet.proofs.Runs.{Covered, covers-range, in-region}
 use Rattle.octets.proofs.Truths.{and-is, or-is}
@@ -130,13 +130,19 @@ module _ (x : Asked) (g : Good (x .sheet)) where
     λ h. and-is (mayRead S m L y) (mayWrite S m L y) .1 (may-read g L c ∙ le-leb _ _ (h .0), writes m i y c .1 (h .1)),
   )
 
+  bytes-is :
+      (m : Memory) (most n y : ℕ) →
+      (inRange S m most (mayWrite S m L) n y ≡ true) ↔ ((o : ℕ) × Open x m most (λ level levels. level ≤ levels % 16) n y o)
+  bytes-is m most n y = (
+    range-open m most (mayWrite S m L) (λ level levels. level ≤ levels % 16) (writes m) n y,
+    λ w. open-range m most (mayWrite S m L) (λ level levels. level ≤ levels % 16) (writes m) n y (w .0) (w .1),
+  )
+
   -- A WRITE TO MEMORY, of bytes or of bits
   pub memory-is : (w : Write) (n y : ℕ) (d : List ℕ) → (allowed S L d (change (wish w n y)) ≡ true) ↔ ((o : ℕ) × MemoryWritable x w n y o)
   unfolding allowed
-  memory-is (bytes Device) n y d = (
-    range-open Device 12 (mayWrite S Device L) (ToWrite (bytes Device)) (writes Device) n y,
-    λ w. open-range Device 12 (mayWrite S Device L) (ToWrite (bytes Device)) (writes Device) n y (w .0) (w .1),
-  )
+  memory-is (bytes Device) n y d = bytes-is Device 12 n y
+  memory-is (bytes User) n y d = bytes-is User 11 n y
   memory-is bits n y d = (
     range-open Device 5 (λ y. mayRead S Device L y && mayWrite S Device L y) (ToWrite bits) (changes Device) n y,
     λ w. open-range Device 5 (λ y. mayRead S Device L y && mayWrite S Device L y) (ToWrite bits) (changes Device) n y (w .0) (w .1),

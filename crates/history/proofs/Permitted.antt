@@ -8,10 +8,10 @@ use mathlib.Core.List.{List}
 use native.Mathlib.Omega.{arith}
 use Rattle.sheet.specs.Head.{rulesOf}
 use Rattle.sheet.specs.Rules.{Accepted}
-use Rattle.sheet.specs.declared.Memory.the-variants.{Device}
+use Rattle.sheet.specs.declared.Memory.the-variants.{Device, User}
 use Rattle.sheet.proofs.Good.{Good, good}
 use Rattle.pdu.specs.declared.Pdu.{Pdu}
-use Rattle.pdu.specs.declared.Pdu.the-variants.{GroupValueRead, GroupValueResponse, GroupValueWrite, IndividualAddressWrite, IndividualAddressRead, SerialNumberRead, SerialNumberWrite, DeviceDescriptorRead, PropertyValueRead, PropertyValueWrite, PropertyDescriptionRead, MemoryRead, MemoryWrite, MemoryBitWrite, AuthorizeRequest, KeyWrite, Restart, IndividualAddressResponse, SerialNumberResponse, DeviceDescriptorResponse, PropertyValueResponse, PropertyDescriptionResponse, MemoryResponse, AuthorizeResponse, KeyResponse}
+use Rattle.pdu.specs.declared.Pdu.the-variants.{GroupValueRead, GroupValueResponse, GroupValueWrite, IndividualAddressWrite, IndividualAddressRead, SerialNumberRead, SerialNumberWrite, DeviceDescriptorRead, PropertyValueRead, PropertyValueWrite, PropertyDescriptionRead, MemoryRead, MemoryWrite, MemoryBitWrite, AuthorizeRequest, KeyWrite, Restart, IndividualAddressResponse, SerialNumberResponse, DeviceDescriptorResponse, PropertyValueResponse, PropertyDescriptionResponse, MemoryResponse, AuthorizeResponse, KeyResponse, UserMemoryRead, UserMemoryResponse, UserMemoryWrite}
 use Rattle.octets.proofs.Truths.{never, and-is}
 use Rattle.device.specs.Octets.{Octets}
 use Rattle.device.specs.Events.{State, request}
@@ -75,6 +75,10 @@ module _ (x : State) (mode g : ℕ) (a out : List ℕ) (accepted : Accepted (x .
   by-pdu (MemoryResponse n y) r e = never e
   by-pdu (AuthorizeResponse l) r e = never e
   by-pdu (KeyResponse l) r e = never e
+  by-pdu (UserMemoryRead n y) r e = never e
+  by-pdu (UserMemoryResponse n y) r e = never e
+  by-pdu (UserMemoryWrite n y) r e =
+      let w = memory-is X fine (bytes User) n y (given X (UserMemoryWrite n y)) .0 e in byMemory (bytes User) n y (w .0) r (w .1)
 
   -- A WRITE IS PERMITTED EXACTLY IF THE PROPOSITIONS OF ITS SERVICE HOLD
   pub permitted-is :
@@ -104,6 +108,8 @@ module _ (x : State) (mode g : ℕ) (a out : List ℕ) (accepted : Accepted (x .
       back : Permitted X → (H && A) ≡ true
       back (byMemory (bytes Device) n y o r w) =
           so (MemoryWrite n y) r (λ e. let z : _≡_ {A = ℕ} 0 1 = cc in omega arith) (memory-is X fine (bytes Device) n y _ .1 (o, w))
+      back (byMemory (bytes User) n y o r w) =
+          so (UserMemoryWrite n y) r (λ e. let z : _≡_ {A = ℕ} 0 1 = cc in omega arith) (memory-is X fine (bytes User) n y _ .1 (o, w))
       back (byMemory bits n y o r w) =
           so (MemoryBitWrite n y) r (λ e. let z : _≡_ {A = ℕ} 0 1 = cc in omega arith) (memory-is X fine bits n y _ .1 (o, w))
       back (byProperty o i n s r w) =

@@ -7,18 +7,18 @@ use mathlib.Core.List.{List}
 use lib.ListN.{length}
 use native.Mathlib.Decide.{decLt, decLe}
 use native.Mathlib.Omega.{arith}
-use Rattle.sheet.specs.Kind.{regions, properties, groups, kindOf}
+use Rattle.sheet.specs.Kind.{properties, groups, kindOf}
 use Rattle.sheet.specs.Layout.{_of_}
 use Rattle.sheet.specs.Region as region
 use Rattle.sheet.specs.Property as property
 use Rattle.sheet.specs.Entries.{count, place, contents, entry, keyOf, bodyAt, bodyEnd, InBody}
-use Rattle.sheet.specs.Places.{Position, inHead, inEntry, inBody, Stands, PropertyWith}
+use Rattle.sheet.specs.Places.{Position, inHead, inEntry, inBody, regionAt, Stands, PropertyWith}
 use Rattle.sheet.specs.Frame.{Fixed}
 use Rattle.sheet.specs.Rules.{Accepted}
 use Rattle.sheet.proofs.Good.{Good, good, accepted}
 use Rattle.sheet.proofs.BodyPlaces.{within, after-contents, disjoint}
 use Rattle.sheet.specs.declared.Memory.{Memory}
-use Rattle.sheet.specs.declared.Memory.the-variants.{Device}
+use Rattle.sheet.specs.declared.Memory.the-variants.{Device, User}
 use Rattle.sheet.proofs.Standing.{InEntry, after-head, place-in, one-entry}
 use Rattle.sheet.proofs.Positions.{position}
 use Rattle.sheet.proofs.Keys.{key-once, key-is}
@@ -170,17 +170,24 @@ module _ {s : List ℕ} (g : Good s) where
             isLocation _
             (ofCounter {j = j - 6} {p = p} i (record { there = r .below; sameObject = refl; sameId = refl }) (omega arith) (omega (arith, r .here)))
 
+    -- a byte of a region's body
+    of-memory :
+        (m : Memory) (i : ℕ) → i < count s (kindOf m) → region.offset of regionAt s m i ≤ p →
+        p < region.offset of regionAt s m i + region.length of regionAt s m i → Sort s p
+    of-memory m i h l u =
+        let a : Stands s m (region.address of regionAt s m i + (p - region.offset of regionAt s m i)) p (region.levels of regionAt s m i) =
+        record { index = i; below = h; from = omega arith; to = omega arith; here = omega arith; under = refl } in
+        isLocation _ (ofMemory a)
+
     in-body : (k i : ℕ) → InBody s k i p → Sort s p
     unfolding bodyAt bodyEnd
-    in-body zero i b =
-        let h : Stands s Device (region.address of entry s regions i + (p - region.offset of entry s regions i)) p (region.levels of entry s regions i) =
-        record { index = i; below = b .below; from = omega arith; to = omega (arith, b .from, b .to); here = omega (arith, b .from); under = refl } in
-        isLocation _ (ofMemory h)
+    in-body zero i b = of-memory Device i (b .below) (b .from) (b .to)
     in-body (suc zero) i b =
         isLocation _
         (ofBody {j = p - bodyAt s properties i} {p = p} i (record { there = b .below; sameObject = refl; sameId = refl }) (omega (arith, b .from, b .to)) (omega (arith, b .from)))
     in-body (suc (suc zero)) i b = isGroup i b
-    in-body (suc (suc (suc k))) i b = absurd (omega (arith, b .kind))
+    in-body (suc (suc (suc zero))) i b = of-memory User i (b .below) (b .from) (b .to)
+    in-body (suc (suc (suc (suc k)))) i b = absurd (omega (arith, b .kind))
 
     -- every position is a location's, a group object's or a field's
     pub sort : p < length s → Sort s p

@@ -4,13 +4,13 @@ use mathlib.Core.Path.{_≡_, refl, sym, ap, _∙_}
 use mathlib.Core.Bool.{Bool, true, _&&_, not}
 use mathlib.Core.List.{List, [], _∷_}
 use lib.Dec.{eqb}
-use borrow.Author.Tests.{eq-eqb}
+use borrow.Author.Tests.{eq-eqb, eqb-true}
 use Rattle.octets.specs.Bytes.{numAt, bytesOf}
 use Rattle.octets.specs.Splice.{splice}
 use Rattle.sheet.specs.Demand.{breach}
 use Rattle.sheet.specs.First.{first}
 use Rattle.sheet.specs.Entries.{entry, keyOf, floor, bodyAt, bodyEnd, startOf, reached, sixBits}
-use Rattle.sheet.specs.Rules.{entryDemands, bodyDemands, entryRule, bodyRule, entriesRule, bodiesRule, walkRule, ruleIn, isAccepted}
+use Rattle.sheet.specs.Rules.{entryDemands, bodyDemands, entryRule, bodyRule, entriesRule, bodiesRule, walkRule, restRule, ruleIn, ruleOf, isAccepted}
 use Rattle.sheet.specs.Lookup.{seek, indexOf, covers, rangeOf}
 use Rattle.pdu.specs.Table.{find}
 use Rattle.pdu.specs.Rules.{lowAt, fourAt, twelveAt, headBytes}
@@ -26,11 +26,12 @@ use Rattle.judge.specs.Judge.{reachedOf, isShut, judgeOf}
 use Rattle.device.specs.Step.{stepBy, stepOf}
 use Rattle.device.specs.Events.{Event, State, connect, disconnect, button, request, eventOf, bit}
 use Rattle.device.specs.Marked.{sample}
+use Rattle.device.specs.Pump.{pump}
 use Rattle.device.proofs.Octet.{isBytes, octets-by}
 use Rattle.history.specs.Span.{same}
 use Rattle.history.specs.Wish.{asks, brings}
 use Rattle.history.specs.Permit.{every, heard, levelFor, regionFor, mayWrite, inRange, indexFor, entryFor, allowed}
-use Rattle.history.specs.History.{firstOf, keyIn, opened, level, content, permitted}
+use Rattle.history.specs.History.{First, firstOf, keyIn, opened, level, content, permitted}
 use Rattle.history.specs.Keeps.{Begins, AllOctets, Keeps, stateAfter}
 use Rattle.history.specs.Rightful.{ours}
 use Rattle.history.specs.Wrong.{fresh, Witness, wrongs}
@@ -73,20 +74,33 @@ same-state x =
 
 -- the sample is accepted
 pub begins : Begins fresh
-unfolding sample ruleIn walkRule entriesRule bodiesRule entryRule bodyRule bodyDemands entryDemands entry keyOf floor bodyAt bodyEnd startOf reached sixBits first breach numAt
+unfolding sample ruleIn walkRule restRule entriesRule bodiesRule entryRule bodyRule bodyDemands entryDemands entry keyOf floor bodyAt bodyEnd startOf reached sixBits first breach numAt
 begins = record { octets = octets-by sample refl; accepted = refl }
 
--- A WITNESS brings bytes and leaves another state than ours
+-- a first sheet of bytes that is accepted, by one test
+abbrev isFirst : First → Bool
+isFirst f = isBytes (f .sheet) && isAccepted (f .sheet)
+
+begins-by : (f : First) → isFirst f ≡ true → Begins f
+unfolding isAccepted
+begins-by f e =
+    let b = and-is (isBytes (f .sheet)) (isAccepted (f .sheet)) .0 e in
+    record { octets = octets-by (f .sheet) (b .0); accepted = eqb-true (ruleOf (f .sheet)) 0 (b .1) }
+
+-- A WITNESS begins so, brings bytes and leaves another state than ours
 abbrev tells : Witness → Bool
-tells w = allBytes (w .events) && not (sameState (stateAfter (w .device) fresh (w .events)) (stateAfter ours fresh (w .events)))
+tells w =
+    isFirst (w .first) &&
+    (allBytes (w .events) && not (sameState (stateAfter (w .device) (w .first) (w .events)) (stateAfter ours (w .first) (w .events))))
 
 -- and so refutes its device
 refuted : (w : Witness) → tells w ≡ true → Keeps (w .device) → ⊥
 refuted w e k =
-    let X : State = stateAfter (w .device) fresh (w .events) in
-    let Y : State = stateAfter ours fresh (w .events) in
-    let b = and-is (allBytes (w .events)) (not (sameState X Y)) .0 e in
-    let s : X ≡ Y = pinned (w .device) ours k keeps fresh (w .events) begins (octets-all (w .events) (b .0)) in
+    let X : State = stateAfter (w .device) (w .first) (w .events) in
+    let Y : State = stateAfter ours (w .first) (w .events) in
+    let a = and-is (isFirst (w .first)) (allBytes (w .events) && not (sameState X Y)) .0 e in
+    let b = and-is (allBytes (w .events)) (not (sameState X Y)) .0 (a .1) in
+    let s : X ≡ Y = pinned (w .device) ours k keeps (w .first) (w .events) (begins-by (w .first) (a .0)) (octets-all (w .events) (b .0)) in
     let t : sameState X Y ≡ true = sym (ap (sameState X) s) ∙ same-state X in
     never (sym (ap not t) ∙ b .1)
 
@@ -108,7 +122,7 @@ told : tellAll wrongs ≡ true
 unfolding stateAfter eventOf stepOf stepBy judgeOf isAccepted isShut reachedOf rulesOf levelIn levelOf grantOf authorizeOf keyWriteOf changeOf memoryWriteOf writeIn propertyWriteOf
     permitted opened level content firstOf keyIn heard levelFor allowed every regionFor mayWrite inRange indexFor entryFor
     asks brings readPdu find dataOf encoded headBytes lowAt fourAt twelveAt seek indexOf covers rangeOf splice
-    ruleIn walkRule entriesRule bodiesRule entryRule bodyRule bodyDemands entryDemands entry keyOf floor bodyAt bodyEnd startOf reached sixBits first breach numAt bytesOf sample
+    ruleIn walkRule restRule entriesRule bodiesRule entryRule bodyRule bodyDemands entryDemands entry keyOf floor bodyAt bodyEnd startOf reached sixBits first breach numAt bytesOf sample pump
 told = refl
 
 pub wrongs-refuted : Each wrongs

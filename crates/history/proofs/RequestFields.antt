@@ -10,7 +10,7 @@ use Rattle.pdu.specs.Allows.{Carries}
 use Rattle.pdu.proofs.Outcomes.{reads-pdu}
 use Rattle.pdu.specs.declared.Parsed.the-variants.{Is}
 use Rattle.pdu.specs.declared.Pdu.{Pdu}
-use Rattle.pdu.specs.declared.Pdu.the-variants.{GroupValueResponse, GroupValueWrite, IndividualAddressWrite, SerialNumberWrite, PropertyValueWrite, MemoryWrite}
+use Rattle.pdu.specs.declared.Pdu.the-variants.{GroupValueResponse, GroupValueWrite, IndividualAddressWrite, SerialNumberWrite, PropertyValueWrite, MemoryWrite, UserMemoryWrite}
 use Rattle.device.specs.Octets.{Octets}
 
 module _ (a : List ℕ) (small : Octets a) where
@@ -33,6 +33,12 @@ module _ (a : List ℕ) (small : Octets a) where
   serial-address e = carries e .allowed .fields .1 .0
 
   -- a memory write brings as many bytes as it says
+  pub user-data : {n y : ℕ} → readPdu a ≡ Is (UserMemoryWrite n y) → length (dataOf (UserMemoryWrite n y) a) ≡ n
+  unfolding dataOf
+  user-data {n} {y} e =
+      let l : length a ≡ 5 + n = carries e .allowed .suited in
+      rw (length-drop 5 a) (omega arith)
+
   pub memory-data : {n y : ℕ} → readPdu a ≡ Is (MemoryWrite n y) → length (dataOf (MemoryWrite n y) a) ≡ n
   unfolding dataOf
   memory-data {n} {y} e =

@@ -10,7 +10,7 @@ use native.Mathlib.Omega.{arith}
 use borrow.Author.Tests.{ltb-true, lt-ltb, leb-true, le-leb, eqb-true, eq-eqb}
 use Rattle.octets.proofs.Truths.{never, and-is}
 use Rattle.sheet.specs.declared.Memory.{Memory}
-use Rattle.sheet.specs.declared.Memory.the-variants.{Device}
+use Rattle.sheet.specs.declared.Memory.the-variants.{Device, User}
 use Rattle.history.specs.Location.{Location, memory, body, counter, key}
 use Rattle.history.specs.Span.{owner, same, byte, Span, has, put, names, gives}
 use Rattle.history.proofs.Bools.{all-at}
@@ -29,7 +29,8 @@ same-so (x ∷ s) = and-is (eqb x x) (same s s) .1 (eq-eqb x x refl, same-so s)
 
 -- a location by its owner's numbers and its byte
 abbrev memoryOf : ℕ → Memory
-memoryOf k = Device
+memoryOf zero = Device
+memoryOf (suc k) = User
 
 abbrev spelled : ℕ → ℕ → ℕ → ℕ → Location
 spelled zero a b j = memory (memoryOf a) j
@@ -49,12 +50,14 @@ on (key l n) j = key l (n + j)
 
 located-is : (x : Location) → located (owner x) (byte x) ≡ x
 located-is (memory Device y) = refl
+located-is (memory User y) = refl
 located-is (body o i j) = refl
 located-is (counter o i j) = refl
 located-is (key l j) = refl
 
 located-on : (x : Location) (j : ℕ) → located (owner x) (byte x + j) ≡ on x j
 located-on (memory Device y) j = refl
+located-on (memory User y) j = refl
 located-on (body o i n) j = refl
 located-on (counter o i n) j = refl
 located-on (key l n) j = refl

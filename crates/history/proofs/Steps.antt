@@ -8,9 +8,9 @@ use lib.ListN.{length}
 use native.Mathlib.Omega.{arith}
 use Rattle.sheet.specs.Head.{rulesOf}
 use Rattle.sheet.specs.Rules.{Accepted}
-use Rattle.sheet.specs.declared.Memory.the-variants.{Device}
+use Rattle.sheet.specs.declared.Memory.the-variants.{Device, User}
 use Rattle.pdu.specs.declared.Pdu.{Pdu}
-use Rattle.pdu.specs.declared.Pdu.the-variants.{GroupValueRead, IndividualAddressRead, SerialNumberRead, DeviceDescriptorRead, PropertyValueRead, PropertyDescriptionRead, MemoryRead}
+use Rattle.pdu.specs.declared.Pdu.the-variants.{GroupValueRead, IndividualAddressRead, SerialNumberRead, DeviceDescriptorRead, PropertyValueRead, PropertyDescriptionRead, MemoryRead, UserMemoryRead}
 use Rattle.device.specs.Octets.{Octets}
 use Rattle.device.specs.Step.{Step}
 use Rattle.device.specs.Events.{Event, State, request}
@@ -93,6 +93,8 @@ module _ (f : First) (b : Begins f) (h : List Event) (x : State) (inv : Inv f h 
   due (right.properties (properties.noDescription o d n r q)) = idle (PropertyDescriptionRead o d n) refl r 11 _
   due (right.memory (memory.memoryRead Device n y o r q)) = idle (MemoryRead n y) refl r 0 _
   due (right.memory (memory.noMemoryRead Device n y r q)) = idle (MemoryRead n y) refl r 11 _
+  due (right.memory (memory.memoryRead User n y o r q)) = idle (UserMemoryRead n y) refl r 0 _
+  due (right.memory (memory.noMemoryRead User n y r q)) = idle (UserMemoryRead n y) refl r 11 _
   due (right.memory (memory.memoryWriteVerified w n y o d r q e v)) = memory-written f b h x inv mode g a out octets w n y o d r q e 0 _ (omega arith)
   due (right.memory (memory.memoryWrite w n y o d r q e v)) = memory-written f b h x inv mode g a out octets w n y o d r q e 1 [] (omega arith)
   due (right.memory (memory.noMemoryWriteVerified w n y r q v)) = memory-denied f b h x inv mode g a out octets w n y r q 11 _ (λ z. omega arith)

@@ -16,7 +16,7 @@ use Rattle.sheet.specs.Entries.{count, entry}
 use Rattle.sheet.specs.Lookup.{seek, covers, indexOf}
 use Rattle.sheet.specs.Places.{regionAt}
 use Rattle.sheet.specs.declared.Memory.{Memory}
-use Rattle.sheet.specs.declared.Memory.the-variants.{Device}
+use Rattle.sheet.specs.declared.Memory.the-variants.{Device, User}
 use Rattle.history.specs.Location.{Location, memory, body, counter, key}
 use Rattle.history.specs.Span.{all, Span}
 use Rattle.history.specs.Wish.{Wish, change, writeMemory, writeBits, writeProperty, writeKey, offerKey, restart, other, nothing, taken}
@@ -55,6 +55,7 @@ mayWrite s m level y =
 -- how many bytes a write to a memory may name
 abbrev pub mostBytes : Memory → ℕ
 mostBytes Device = 12
+mostBytes User = 11
 
 -- the n addresses from a on, 1 to `most`, lie in one region, and a test passes for each
 unfoldable pub inRange : List ℕ → Memory → ℕ → (ℕ → Bool) → ℕ → ℕ → Bool

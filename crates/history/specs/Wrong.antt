@@ -1,11 +1,11 @@
--- Wrong devices, each with a short run from the sample sheet on which it shows.
+-- Wrong devices, each with a short run on which it shows.
 -- Assumes nothing.
 use Prim.Native.Nat.{ℕ, _+_, _-_}
 use mathlib.Core.List.{List, [], _∷_}
 use mathlib.Core.Bool.{Bool, true, false, cond, _&&_, _||_}
-use lib.ListN.{getD, replicate}
+use lib.ListN.{getD, drop, replicate}
 use lib.Dec.{leb, eqb}
-use Rattle.octets.specs.Bytes.{bytesOf}
+use Rattle.octets.specs.Bytes.{numAt, bytesOf}
 use Rattle.octets.specs.Splice.{splice}
 use Rattle.sheet.specs.Kind.{properties}
 use Rattle.sheet.specs.Layout.{_of_}
@@ -15,6 +15,7 @@ use Rattle.sheet.specs.Entries.{place}
 use Rattle.device.specs.Step.{Step}
 use Rattle.device.specs.Events.{Event, State, connect, disconnect, button, request, eventOf, freshOf}
 use Rattle.device.specs.Marked.{sample}
+use Rattle.device.specs.Pump.{pump}
 use Rattle.history.specs.Wish.{Wish, change, writeMemory, writeBits, writeProperty, writeKey, offerKey, restart, other, nothing}
 use Rattle.history.specs.Permit.{indexFor, entryFor}
 use Rattle.history.specs.History.{First, wished, permitted}
@@ -143,9 +144,23 @@ abbrev pub addressInOne : Device
 addressInOne f h x e =
     let r = eventOf x e in withSheet r (splice (r .sheet) (head.address .at) (0 ∷ head.address of r .sheet ∷ []))
 
--- THE RUNS begin with the sample sheet and a fresh session
+-- ONE THAT SERVES USER MEMORY FROM DEVICE MEMORY, at the same address: a UserMemory_Write is carried out as a Memory_Write
+abbrev pub asMemoryWrite : List ℕ → List ℕ
+asMemoryWrite a = cond (eqb (numAt a 0 2) 0x2C2) (0x02 ∷ (0x80 + getD a 2 0) ∷ drop 3 a) a
+
+abbrev pub userFromDevice : Device
+userFromDevice f h x connect = eventOf x connect
+userFromDevice f h x disconnect = eventOf x disconnect
+userFromDevice f h x (button on) = eventOf x (button on)
+userFromDevice f h x (request mode g a out) =
+    withSheet (eventOf x (request mode g a out)) (eventOf x (request mode g (asMemoryWrite a) out) .sheet)
+
+-- THE RUNS begin with the sample sheet, or with the pump controller's, and a fresh session
 abbrev pub fresh : First
 fresh = record { sheet = sample; session = freshOf }
+
+abbrev pub freshPump : First
+freshPump = record { sheet = pump; session = freshOf }
 
 abbrev pub buffer : List ℕ
 buffer = replicate 16 0
@@ -171,6 +186,10 @@ bothBytes = sent (0x02 ∷ 0x82 ∷ 0x01 ∷ 0x00 ∷ 0x55 ∷ 0x66 ∷ [])
 abbrev pub newKey0 : Event
 newKey0 = sent (0x03 ∷ 0xD3 ∷ 0x00 ∷ 0x77 ∷ 0x77 ∷ 0x77 ∷ 0x77 ∷ [])
 
+-- 55 to user address 0100
+abbrev pub userWrite : Event
+userWrite = sent (0x02 ∷ 0xC2 ∷ 0x01 ∷ 0x01 ∷ 0x00 ∷ 0x55 ∷ [])
+
 -- 0384 to element 1 of property 51 of object 1, in a mode
 abbrev pub elementWrite : ℕ → Event
 elementWrite mode = request mode 0 (0x03 ∷ 0xD7 ∷ 0x01 ∷ 0x33 ∷ 0x10 ∷ 0x01 ∷ 0x03 ∷ 0x84 ∷ []) buffer
@@ -182,10 +201,11 @@ authorized = offering 0x11 ∷ connect ∷ []
 -- a device, and a run after which its state is not ours; the newest event first
 pub record Witness : Type 0 where
   pub device : Device
+  pub first : First
   pub events : List Event
 
 abbrev pub shows : Device → List Event → Witness
-shows d h = record { device = d; events = h }
+shows d h = record { device = d; first = fresh; events = h }
 
 -- THE WRONG DEVICES
 abbrev pub wrongs : List Witness
@@ -202,4 +222,5 @@ wrongs =
     shows strict (firstWrite ∷ offering 0xFF ∷ connect ∷ []) ∷
     shows turned (firstWrite ∷ authorized) ∷
     shows setsKey0 (newKey0 ∷ offering 0x22 ∷ connect ∷ []) ∷
-    shows losesSecond (bothBytes ∷ authorized) ∷ shows ignoresKey0 (newKey0 ∷ authorized) ∷ shows addressInOne (connect ∷ []) ∷ []
+    shows losesSecond (bothBytes ∷ authorized) ∷ shows ignoresKey0 (newKey0 ∷ authorized) ∷ shows addressInOne (connect ∷ []) ∷
+    record { device = userFromDevice; first = freshPump; events = userWrite ∷ authorized } ∷ []

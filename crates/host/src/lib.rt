@@ -1,7 +1,7 @@
 // The C interface of the device: the calls of include/kelindap.h, those on a session in place.
 ghost use mathlib.Core.Path.{_≡_};
 ghost use Rattle.sheet.specs.Rules.{ruleOf};
-ghost use Rattle.sheet.specs.Lookup.{StandsIn, regionOf, regionFrom, propertyOf, propertyFrom, groupOf, groupFrom};
+ghost use Rattle.sheet.specs.Lookup.{StandsIn, regionOf, regionFrom, userRegionOf, userRegionFrom, propertyOf, propertyFrom, groupOf, groupFrom};
 ghost use Rattle.device.specs.Events.{freshOf, connectOf, disconnectOf, Pressed};
 ghost use Rattle.device.specs.Step.{Called};
 ghost use Rattle.host.specs.Calls.{gave, gaveBack, versionOf};
@@ -118,6 +118,14 @@ pub extern "C" fn kelindap_region(sheet: &[u8], k: usize) -> Part
     ensures { λ r. ⌜ StandsIn (now (sheet .entry)) r (regionOf (now (sheet .entry)) k) (regionFrom (now (sheet .entry)) k) ⌝ }
 {
     sheet::region_part(sheet, k)
+}
+
+// Where the body of user region k stands, counted from 0.
+#[no_mangle]
+pub extern "C" fn kelindap_user_region(sheet: &[u8], k: usize) -> Part
+    ensures { λ r. ⌜ StandsIn (now (sheet .entry)) r (userRegionOf (now (sheet .entry)) k) (userRegionFrom (now (sheet .entry)) k) ⌝ }
+{
+    sheet::user_region_part(sheet, k)
 }
 
 // Where the body of a group object stands.

@@ -4,19 +4,27 @@ use Prim.Native.Nat.{ℕ}
 use mathlib.Core.Path.{_≡_, sym, ap, _∙_}
 use mathlib.Core.Bool.{Bool, _&&_}
 use lib.Dec.{leb}
+use Rattle.sheet.specs.declared.Memory.{Memory}
 use Rattle.sheet.specs.declared.Run.{Run}
 use Rattle.sheet.specs.declared.Run.the-variants.{At}
+use Rattle.pdu.specs.declared.Pdu.{Pdu}
 use Rattle.pdu.specs.declared.Service.{Service}
 use Rattle.judge.specs.declared.Access.{Access}
 use Rattle.judge.specs.declared.Reach.{Reach}
 use Rattle.judge.specs.Modes.{reachOf, takes}
-use Rattle.judge.specs.Memory.{may, runAllowed}
+use Rattle.judge.specs.Memory.{mostBytes, responseOf, may, runAllowed}
 
 pub via-reach : (ed : ℕ) (k j : Service) (r : Reach) → k ≡ j → r ≡ reachOf ed j → r ≡ reachOf ed k
 via-reach ed k j r e h = h ∙ ap (reachOf ed) (sym e)
 
 pub via-takes : (k j : Reach) (m : ℕ) (r : Bool) → k ≡ j → r ≡ takes j m → r ≡ takes k m
 via-takes k j m r e h = h ∙ ap (λ (x : Reach). takes x m) (sym e)
+
+pub via-most : (m j : Memory) (r : ℕ) → m ≡ j → r ≡ mostBytes j → r ≡ mostBytes m
+via-most m j r e h = h ∙ ap mostBytes (sym e)
+
+pub via-response : (m j : Memory) (n a : ℕ) (r : Pdu) → m ≡ j → r ≡ responseOf j n a → r ≡ responseOf m n a
+via-response m j n a r e h = h ∙ ap (λ (x : Memory). responseOf x n a) (sym e)
 
 pub via-may : (w v : Access) (level levels : ℕ) (r : Bool) → w ≡ v → r ≡ may v level levels → r ≡ may w level levels
 via-may w v level levels r e h = h ∙ ap (λ (x : Access). may x level levels) (sym e)

@@ -1,7 +1,7 @@
 -- Memory, from what the parts ensure.
 -- Assumes nothing.
 use Prim.Native.Nat.{ℕ}
-use mathlib.Core.Path.{_≡_, refl}
+use mathlib.Core.Path.{_≡_}
 use mathlib.Core.List.{List}
 use mathlib.Core.Bool.{Bool, true, false}
 use Rattle.sheet.specs.Lookup.{rangeOf}
@@ -9,7 +9,6 @@ use Rattle.sheet.specs.declared.Memory.{Memory}
 use Rattle.sheet.specs.declared.Memory.the-variants.{Device}
 use Rattle.sheet.specs.declared.Run.{Run}
 use Rattle.pdu.specs.declared.Pdu.{Pdu}
-use Rattle.pdu.specs.declared.Pdu.the-variants.{MemoryResponse}
 use Rattle.judge.specs.declared.Access.the-variants.{Read, Write, Change}
 use Rattle.judge.specs.declared.Store.{Store}
 use Rattle.judge.specs.declared.Store.the-variants as store
@@ -17,13 +16,6 @@ use Rattle.judge.specs.declared.Answer.the-variants as answer
 use Rattle.judge.specs.declared.Decision.{Decision}
 use Rattle.judge.specs.Decisions.{refused, denied, answered, written, stored}
 use Rattle.judge.specs.Memory.{mostBytes, mostBits, responseOf, runAllowed, runAt, verifies, memoryReadOf, changeOf, memoryWriteOf, bitWriteOf}
-
--- the one memory that there is
-pub device-most : (m : Memory) → 12 ≡ mostBytes m
-device-most Device = refl
-
-pub device-response : (m : Memory) (n a : ℕ) → MemoryResponse n a ≡ responseOf m n a
-device-response Device n a = refl
 
 module _ (s : List ℕ) (m : Memory) (level n a : ℕ) (run : Run) (run-is : run ≡ rangeOf s m a n) (o : ℕ) (p : Pdu) (r : Decision) (b : Bool) where
   module _ (most : ℕ) (most-is : most ≡ mostBytes m) where

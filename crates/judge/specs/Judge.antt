@@ -6,7 +6,7 @@ use mathlib.Core.Bool.{Bool, cond, _&&_, not}
 use lib.ListN.{length}
 use lib.Dec.{ltb, eqb}
 use Rattle.sheet.specs.Head.{rulesOf}
-use Rattle.sheet.specs.declared.Memory.the-variants.{Device}
+use Rattle.sheet.specs.declared.Memory.the-variants.{Device, User}
 use Rattle.sheet.specs.Rules.{isAccepted}
 use Rattle.pdu.specs.Rules.{codeOf}
 use Rattle.pdu.specs.Table.{serviceAt}
@@ -16,7 +16,7 @@ use Rattle.pdu.specs.declared.Found.the-variants.{Listed, Unknown}
 use Rattle.pdu.specs.declared.Parsed.{Parsed}
 use Rattle.pdu.specs.declared.Parsed.the-variants as parsed
 use Rattle.pdu.specs.declared.Pdu.{Pdu}
-use Rattle.pdu.specs.declared.Pdu.the-variants.{GroupValueRead, GroupValueResponse, GroupValueWrite, IndividualAddressWrite, IndividualAddressRead, SerialNumberRead, SerialNumberWrite, DeviceDescriptorRead, PropertyValueRead, PropertyValueWrite, PropertyDescriptionRead, MemoryRead, MemoryWrite, MemoryBitWrite, AuthorizeRequest, KeyWrite, Restart, IndividualAddressResponse, SerialNumberResponse, DeviceDescriptorResponse, PropertyValueResponse, PropertyDescriptionResponse, MemoryResponse, AuthorizeResponse, KeyResponse}
+use Rattle.pdu.specs.declared.Pdu.the-variants.{GroupValueRead, GroupValueResponse, GroupValueWrite, IndividualAddressWrite, IndividualAddressRead, SerialNumberRead, SerialNumberWrite, DeviceDescriptorRead, PropertyValueRead, PropertyValueWrite, PropertyDescriptionRead, MemoryRead, MemoryWrite, MemoryBitWrite, AuthorizeRequest, KeyWrite, Restart, IndividualAddressResponse, SerialNumberResponse, DeviceDescriptorResponse, PropertyValueResponse, PropertyDescriptionResponse, MemoryResponse, AuthorizeResponse, KeyResponse, UserMemoryRead, UserMemoryResponse, UserMemoryWrite}
 use Rattle.judge.specs.declared.Session.{Session}
 use Rattle.judge.specs.declared.Reach.{Reach}
 use Rattle.judge.specs.declared.Decision.{Decision}
@@ -61,6 +61,9 @@ decideOf s level group d (PropertyDescriptionResponse object id index kind maxim
 decideOf s level group d (MemoryResponse n address) = refused 8
 decideOf s level group d (AuthorizeResponse named) = refused 8
 decideOf s level group d (KeyResponse named) = refused 8
+decideOf s level group d (UserMemoryRead n address) = memoryReadOf s User level n address
+decideOf s level group d (UserMemoryResponse n address) = refused 8
+decideOf s level group d (UserMemoryWrite n address) = memoryWriteOf s User level n address
 
 -- what reads is decided; what doesn't is refused by the reader's number
 abbrev pub readOf : List ℕ → ℕ → ℕ → List ℕ → Parsed → Decision

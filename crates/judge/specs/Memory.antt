@@ -7,11 +7,11 @@ use lib.Dec.{leb, eqb}
 use Rattle.sheet.specs.Head as head
 use Rattle.sheet.specs.Lookup.{rangeOf}
 use Rattle.sheet.specs.declared.Memory.{Memory}
-use Rattle.sheet.specs.declared.Memory.the-variants.{Device}
+use Rattle.sheet.specs.declared.Memory.the-variants.{Device, User}
 use Rattle.sheet.specs.declared.Run.{Run}
 use Rattle.sheet.specs.declared.Run.the-variants.{At, Nowhere}
 use Rattle.pdu.specs.declared.Pdu.{Pdu}
-use Rattle.pdu.specs.declared.Pdu.the-variants.{MemoryResponse}
+use Rattle.pdu.specs.declared.Pdu.the-variants.{MemoryResponse, UserMemoryResponse}
 use Rattle.judge.specs.declared.Access.{Access}
 use Rattle.judge.specs.declared.Access.the-variants.{Read, Write, Change}
 use Rattle.judge.specs.declared.Store.{Store}
@@ -23,6 +23,7 @@ use Rattle.judge.specs.Decisions.{refused, denied, answered, written, st
 -- how many bytes a read or write of a memory, and a bit write, may name
 abbrev pub mostBytes : Memory → ℕ
 mostBytes Device = 12
+mostBytes User = 11
 
 abbrev pub mostBits : ℕ
 mostBits = 5
@@ -30,6 +31,7 @@ mostBits = 5
 -- what a memory answers with
 abbrev pub responseOf : Memory → ℕ → ℕ → Pdu
 responseOf Device n a = MemoryResponse n a
+responseOf User n a = UserMemoryResponse n a
 
 -- the rights that a run's levels give at a level
 abbrev pub mayRead : ℕ → ℕ → Bool

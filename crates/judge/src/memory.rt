@@ -18,8 +18,10 @@ use pdu::Pdu;
 use sheet::Memory;
 use sheet::Run;
 
-// How many bytes a read or write of the device's memory, and a bit write, may name.
+// How many bytes a read or write of the device's memory and of the user memory, and a bit write, may name.
 const MOST_BYTES: u8 = 12;
+
+const MOST_USER_BYTES: u8 = 11;
 
 const MOST_BITS: u8 = 5;
 
@@ -29,6 +31,7 @@ fn most_of(m: Memory) -> u8
 {
     match m {
         Memory::Device => MOST_BYTES,
+        Memory::User => MOST_USER_BYTES,
     }
 }
 
@@ -38,6 +41,7 @@ fn response(m: Memory, n: u8, address: u16) -> Pdu
 {
     match m {
         Memory::Device => Pdu::MemoryResponse { n, address },
+        Memory::User => Pdu::UserMemoryResponse { n, address },
     }
 }
 

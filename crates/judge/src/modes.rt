@@ -38,6 +38,9 @@ pub fn reach(rules: u8, k: Service) -> Reach
         Service::MemoryResponse => Reach::Never,
         Service::AuthorizeResponse => Reach::Never,
         Service::KeyResponse => Reach::Never,
+        Service::UserMemoryRead => Reach::Connected,
+        Service::UserMemoryResponse => Reach::Never,
+        Service::UserMemoryWrite => Reach::Connected,
     }
 }
 

@@ -60,5 +60,8 @@ pub fn decide(sheet: &[u8], level: u8, group: u16, d: &[u8], p: Pdu) -> Decision
         Pdu::MemoryResponse { .. } => refused(8),
         Pdu::AuthorizeResponse { .. } => refused(8),
         Pdu::KeyResponse { .. } => refused(8),
+        Pdu::UserMemoryRead { n, address } => memory_read(sheet, Memory::User, level, n, address),
+        Pdu::UserMemoryResponse { .. } => refused(8),
+        Pdu::UserMemoryWrite { n, address } => memory_write(sheet, Memory::User, level, n, address),
     }
 }

@@ -14,7 +14,7 @@ use Rattle.pdu.specs.Item.{Row}
 use Rattle.pdu.specs.Table.{rowOf, services, has, find, serviceAt}
 use Rattle.octets.proofs.Truths.{and-is, or-is, decided}
 use Rattle.pdu.specs.declared.Service.{Service}
-use Rattle.pdu.specs.declared.Service.the-variants.{GroupValueRead, GroupValueResponse, GroupValueWrite, IndividualAddressWrite, IndividualAddressRead, SerialNumberRead, SerialNumberWrite, DeviceDescriptorRead, PropertyValueRead, PropertyValueWrite, PropertyDescriptionRead, MemoryRead, MemoryWrite, MemoryBitWrite, AuthorizeRequest, KeyWrite, Restart, IndividualAddressResponse, SerialNumberResponse, DeviceDescriptorResponse, PropertyValueResponse, PropertyDescriptionResponse, MemoryResponse, AuthorizeResponse, KeyResponse}
+use Rattle.pdu.specs.declared.Service.the-variants.{GroupValueRead, GroupValueResponse, GroupValueWrite, IndividualAddressWrite, IndividualAddressRead, SerialNumberRead, SerialNumberWrite, DeviceDescriptorRead, PropertyValueRead, PropertyValueWrite, PropertyDescriptionRead, MemoryRead, MemoryWrite, MemoryBitWrite, AuthorizeRequest, KeyWrite, Restart, IndividualAddressResponse, SerialNumberResponse, DeviceDescriptorResponse, PropertyValueResponse, PropertyDescriptionResponse, MemoryResponse, AuthorizeResponse, KeyResponse, UserMemoryRead, UserMemoryResponse, UserMemoryWrite}
 use Rattle.pdu.specs.declared.Found.the-variants.{Listed, Unknown}
 
 -- EVERY SERVICE IS IN THE LIST, at this place
@@ -44,6 +44,9 @@ all-listed PropertyDescriptionResponse = (21, refl)
 all-listed MemoryResponse = (22, refl)
 all-listed AuthorizeResponse = (23, refl)
 all-listed KeyResponse = (24, refl)
+all-listed UserMemoryRead = (25, refl)
+all-listed UserMemoryResponse = (26, refl)
+all-listed UserMemoryWrite = (27, refl)
 
 -- a row has the codes from its first to its last
 pub has-is : (r : Row) (c : ℕ) → (has r c ≡ true) ↔ ((r .base ≤ c) × (c < r .base + r .span))

@@ -49,6 +49,9 @@ built-fits svc.PropertyDescriptionResponse s n = refl
 built-fits svc.MemoryResponse s n = refl
 built-fits svc.AuthorizeResponse s n = refl
 built-fits svc.KeyResponse s n = refl
+built-fits svc.UserMemoryRead s n = refl
+built-fits svc.UserMemoryResponse s n = refl
+built-fits svc.UserMemoryWrite s n = refl
 
 pub parsed :
     (k : Service) (s : List ℕ) (p : Pdu) (b : Bool) → p ≡ builtOf k s → b ≡ fitsIn p (length s) → b ≡ true → Is p ≡ readAs k s

@@ -12,7 +12,7 @@ use Rattle.pdu.proofs.Formed.{formed}
 use Rattle.pdu.specs.declared.Service.{Service}
 use Rattle.pdu.specs.declared.Service.the-variants as svc
 use Rattle.pdu.specs.declared.Pdu.{Pdu}
-use Rattle.pdu.specs.declared.Pdu.the-variants.{GroupValueRead, GroupValueResponse, GroupValueWrite, IndividualAddressWrite, IndividualAddressRead, SerialNumberRead, SerialNumberWrite, DeviceDescriptorRead, PropertyValueRead, PropertyValueWrite, PropertyDescriptionRead, MemoryRead, MemoryWrite, MemoryBitWrite, AuthorizeRequest, KeyWrite, Restart, IndividualAddressResponse, SerialNumberResponse, DeviceDescriptorResponse, PropertyValueResponse, PropertyDescriptionResponse, MemoryResponse, AuthorizeResponse, KeyResponse}
+use Rattle.pdu.specs.declared.Pdu.the-variants.{GroupValueRead, GroupValueResponse, GroupValueWrite, IndividualAddressWrite, IndividualAddressRead, SerialNumberRead, SerialNumberWrite, DeviceDescriptorRead, PropertyValueRead, PropertyValueWrite, PropertyDescriptionRead, MemoryRead, MemoryWrite, MemoryBitWrite, AuthorizeRequest, KeyWrite, Restart, IndividualAddressResponse, SerialNumberResponse, DeviceDescriptorResponse, PropertyValueResponse, PropertyDescriptionResponse, MemoryResponse, AuthorizeResponse, KeyResponse, UserMemoryRead, UserMemoryResponse, UserMemoryWrite}
 
 -- the fields of the items, out of these
 abbrev pub chosen : List Item → List Value → List Value
@@ -56,6 +56,9 @@ sound svc.PropertyDescriptionResponse = record { form = refl; serves = λ x. ref
 sound svc.MemoryResponse = record { form = refl; serves = λ x. refl; values = λ x. refl; distinct = λ b. refl }
 sound svc.AuthorizeResponse = record { form = refl; serves = λ x. refl; values = λ x. refl; distinct = λ b. refl }
 sound svc.KeyResponse = record { form = refl; serves = λ x. refl; values = λ x. refl; distinct = λ b. refl }
+sound svc.UserMemoryRead = record { form = refl; serves = λ x. refl; values = λ x. refl; distinct = λ b. refl }
+sound svc.UserMemoryResponse = record { form = refl; serves = λ x. refl; values = λ x. refl; distinct = λ b. refl }
+sound svc.UserMemoryWrite = record { form = refl; serves = λ x. refl; values = λ x. refl; distinct = λ b. refl }
 
 -- a PDU is the one of its service and its fields
 pub again : (p : Pdu) → pduOf (serviceOf p) (valuesOf p) ≡ p
@@ -84,6 +87,9 @@ again (PropertyDescriptionResponse a b c d e f) = refl
 again (MemoryResponse a b) = refl
 again (AuthorizeResponse a) = refl
 again (KeyResponse a) = refl
+again (UserMemoryRead a b) = refl
+again (UserMemoryResponse a b) = refl
+again (UserMemoryWrite a b) = refl
 
 -- so its fields are those of its row
 pub shown : (p : Pdu) → chosen (rowOf (serviceOf p) .items) (valuesOf p) ≡ valuesOf p

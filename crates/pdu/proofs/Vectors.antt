@@ -1,4 +1,4 @@
--- Worked examples: the figures of the standards (004: 8 to 46; 003: 6, 12, 13, 35, 36, 41, 64 to 68), filled with the values of the sample sheet.
+-- Worked examples: the figures of the standards (004: 8 to 46; 003: 6, 12, 13, 35, 36, 41, 57 to 59, 64 to 68), filled with the values of the sample sheet.
 -- Assumes nothing.
 use Prim.Native.Nat.{ℕ}
 use mathlib.Core.Path.{_≡_, refl}
@@ -9,7 +9,7 @@ use Rattle.pdu.specs.Rules.{lowAt, fourAt, twelveAt, headBytes}
 use Rattle.pdu.specs.Read.{readPdu, readOutcome, dataOf}
 use Rattle.pdu.specs.Write.{encoded}
 use Rattle.pdu.specs.declared.Pdu.{Pdu}
-use Rattle.pdu.specs.declared.Pdu.the-variants.{GroupValueRead, GroupValueResponse, GroupValueWrite, IndividualAddressWrite, IndividualAddressRead, SerialNumberRead, SerialNumberWrite, DeviceDescriptorRead, PropertyValueRead, PropertyValueWrite, PropertyDescriptionRead, MemoryRead, MemoryWrite, MemoryBitWrite, AuthorizeRequest, KeyWrite, Restart, IndividualAddressResponse, SerialNumberResponse, DeviceDescriptorResponse, PropertyValueResponse, PropertyDescriptionResponse, MemoryResponse, AuthorizeResponse, KeyResponse}
+use Rattle.pdu.specs.declared.Pdu.the-variants.{GroupValueRead, GroupValueResponse, GroupValueWrite, IndividualAddressWrite, IndividualAddressRead, SerialNumberRead, SerialNumberWrite, DeviceDescriptorRead, PropertyValueRead, PropertyValueWrite, PropertyDescriptionRead, MemoryRead, MemoryWrite, MemoryBitWrite, AuthorizeRequest, KeyWrite, Restart, IndividualAddressResponse, SerialNumberResponse, DeviceDescriptorResponse, PropertyValueResponse, PropertyDescriptionResponse, MemoryResponse, AuthorizeResponse, KeyResponse, UserMemoryRead, UserMemoryResponse, UserMemoryWrite}
 use Rattle.pdu.specs.declared.Parsed.{Parsed}
 use Rattle.pdu.specs.declared.Parsed.the-variants.{Is}
 
@@ -59,6 +59,11 @@ examples =
     exact (0x02 ∷ 0x40 ∷ 0x01 ∷ 0x00 ∷ []) (MemoryResponse 0 0x0100) [] ∷
     exact (0x03 ∷ 0xD2 ∷ 0x01 ∷ []) (AuthorizeResponse 1) [] ∷
     exact (0x03 ∷ 0xD4 ∷ 0xFF ∷ []) (KeyResponse 0xFF) [] ∷
+    exact (0x02 ∷ 0xC0 ∷ 0x04 ∷ 0x02 ∷ 0x00 ∷ []) (UserMemoryRead 4 0x0200) [] ∷
+    exact (0x02 ∷ 0xC0 ∷ 0x14 ∷ 0x02 ∷ 0x00 ∷ []) (UserMemoryRead 0x14 0x0200) [] ∷
+    exact (0x02 ∷ 0xC1 ∷ 0x04 ∷ 0x02 ∷ 0x00 ∷ 0xB0 ∷ 0xB1 ∷ 0xB2 ∷ 0xB3 ∷ []) (UserMemoryResponse 4 0x0200) (0xB0 ∷ 0xB1 ∷ 0xB2 ∷ 0xB3 ∷ []) ∷
+    exact (0x02 ∷ 0xC1 ∷ 0x00 ∷ 0x02 ∷ 0x00 ∷ []) (UserMemoryResponse 0 0x0200) [] ∷
+    exact (0x02 ∷ 0xC2 ∷ 0x02 ∷ 0x02 ∷ 0x01 ∷ 0x11 ∷ 0x22 ∷ []) (UserMemoryWrite 2 0x0201) (0x11 ∷ 0x22 ∷ []) ∷
     -- the top six bits of the first byte, and bytes of no meaning
     loose (0xFE ∷ 0x04 ∷ 0x01 ∷ 0x00 ∷ []) (MemoryRead 4 0x0100) [] (0x02 ∷ 0x04 ∷ 0x01 ∷ 0x00 ∷ []) ∷
     loose (0x03 ∷ 0xD1 ∷ 0x55 ∷ 0x22 ∷ 0x22 ∷ 0x22 ∷ 0x22 ∷ []) (AuthorizeRequest 0x22222222) [] (0x03 ∷ 0xD1 ∷ 0x00 ∷ 0x22 ∷ 0x22 ∷ 0x22 ∷ 0x22 ∷ []) ∷
@@ -107,6 +112,8 @@ refusals =
     refusal (0x02 ∷ 0x81 ∷ 0x01 ∷ 0x00 ∷ []) 10 ∷
     refusal (0x03 ∷ 0xD7 ∷ 0x01 ∷ 0x33 ∷ 0x10 ∷ 0x01 ∷ []) 10 ∷
     refusal (0x03 ∷ 0xD9 ∷ 0x01 ∷ 0x33 ∷ 0x00 ∷ 0x84 ∷ 0x10 ∷ 0x00 ∷ 0x31 ∷ []) 10 ∷
+    refusal (0x02 ∷ 0xC3 ∷ 0x04 ∷ 0x02 ∷ 0x00 ∷ []) 8 ∷
+    refusal (0x02 ∷ 0xC2 ∷ 0x12 ∷ 0x02 ∷ 0x01 ∷ 0x11 ∷ 0x22 ∷ []) 10 ∷
     []
 
 -- AND THESE ARE REFUSED BY THAT NUMBER

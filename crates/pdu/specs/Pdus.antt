@@ -5,7 +5,7 @@ use Rattle.pdu.specs.Item.{Value, _≔_, the, V6, Address, Serial, Domai
 use Rattle.pdu.specs.declared.Service.{Service}
 use Rattle.pdu.specs.declared.Service.the-variants as svc
 use Rattle.pdu.specs.declared.Pdu.{Pdu}
-use Rattle.pdu.specs.declared.Pdu.the-variants.{GroupValueRead, GroupValueResponse, GroupValueWrite, IndividualAddressWrite, IndividualAddressRead, SerialNumberRead, SerialNumberWrite, DeviceDescriptorRead, PropertyValueRead, PropertyValueWrite, PropertyDescriptionRead, MemoryRead, MemoryWrite, MemoryBitWrite, AuthorizeRequest, KeyWrite, Restart, IndividualAddressResponse, SerialNumberResponse, DeviceDescriptorResponse, PropertyValueResponse, PropertyDescriptionResponse, MemoryResponse, AuthorizeResponse, KeyResponse}
+use Rattle.pdu.specs.declared.Pdu.the-variants.{GroupValueRead, GroupValueResponse, GroupValueWrite, IndividualAddressWrite, IndividualAddressRead, SerialNumberRead, SerialNumberWrite, DeviceDescriptorRead, PropertyValueRead, PropertyValueWrite, PropertyDescriptionRead, MemoryRead, MemoryWrite, MemoryBitWrite, AuthorizeRequest, KeyWrite, Restart, IndividualAddressResponse, SerialNumberResponse, DeviceDescriptorResponse, PropertyValueResponse, PropertyDescriptionResponse, MemoryResponse, AuthorizeResponse, KeyResponse, UserMemoryRead, UserMemoryResponse, UserMemoryWrite}
 
 abbrev pub serviceOf : Pdu → Service
 serviceOf GroupValueRead = svc.GroupValueRead
@@ -33,6 +33,9 @@ serviceOf (PropertyDescriptionResponse object id index typ maximum access) = svc
 serviceOf (MemoryResponse n address) = svc.MemoryResponse
 serviceOf (AuthorizeResponse level) = svc.AuthorizeResponse
 serviceOf (KeyResponse level) = svc.KeyResponse
+serviceOf (UserMemoryRead n address) = svc.UserMemoryRead
+serviceOf (UserMemoryResponse n address) = svc.UserMemoryResponse
+serviceOf (UserMemoryWrite n address) = svc.UserMemoryWrite
 
 -- the fields that it has, by name
 abbrev pub valuesOf : Pdu → List Value
@@ -62,6 +65,9 @@ valuesOf (PropertyDescriptionResponse object id index typ maximum access) =
 valuesOf (MemoryResponse n address) = N ≔ n ∷ Address ≔ address ∷ []
 valuesOf (AuthorizeResponse level) = Level ≔ level ∷ []
 valuesOf (KeyResponse level) = Level ≔ level ∷ []
+valuesOf (UserMemoryRead n address) = N ≔ n ∷ Address ≔ address ∷ []
+valuesOf (UserMemoryResponse n address) = N ≔ n ∷ Address ≔ address ∷ []
+valuesOf (UserMemoryWrite n address) = N ≔ n ∷ Address ≔ address ∷ []
 
 -- the PDU of a service with these fields
 abbrev pub pduOf : Service → List Value → Pdu
@@ -91,3 +97,6 @@ pduOf svc.PropertyDescriptionResponse x =
 pduOf svc.MemoryResponse x = MemoryResponse (the x N) (the x Address)
 pduOf svc.AuthorizeResponse x = AuthorizeResponse (the x Level)
 pduOf svc.KeyResponse x = KeyResponse (the x Level)
+pduOf svc.UserMemoryRead x = UserMemoryRead (the x N) (the x Address)
+pduOf svc.UserMemoryResponse x = UserMemoryResponse (the x N) (the x Address)
+pduOf svc.UserMemoryWrite x = UserMemoryWrite (the x N) (the x Address)

@@ -6,7 +6,7 @@ use mathlib.Core.Bool.{Bool, cond, _&&_}
 use lib.Dec.{leb, ltb}
 use Rattle.pdu.specs.Item.{low, num, cap, duo, skip, none, by, twice, between, group, Row, row, V6, Address, Serial, Domain, T, Object, Id, N, S, Index, Typ, Maximum, Access, Level, Key}
 use Rattle.pdu.specs.declared.Service.{Service}
-use Rattle.pdu.specs.declared.Service.the-variants.{GroupValueRead, GroupValueResponse, GroupValueWrite, IndividualAddressWrite, IndividualAddressRead, SerialNumberRead, SerialNumberWrite, DeviceDescriptorRead, PropertyValueRead, PropertyValueWrite, PropertyDescriptionRead, MemoryRead, MemoryWrite, MemoryBitWrite, AuthorizeRequest, KeyWrite, Restart, IndividualAddressResponse, SerialNumberResponse, DeviceDescriptorResponse, PropertyValueResponse, PropertyDescriptionResponse, MemoryResponse, AuthorizeResponse, KeyResponse}
+use Rattle.pdu.specs.declared.Service.the-variants.{GroupValueRead, GroupValueResponse, GroupValueWrite, IndividualAddressWrite, IndividualAddressRead, SerialNumberRead, SerialNumberWrite, DeviceDescriptorRead, PropertyValueRead, PropertyValueWrite, PropertyDescriptionRead, MemoryRead, MemoryWrite, MemoryBitWrite, AuthorizeRequest, KeyWrite, Restart, IndividualAddressResponse, SerialNumberResponse, DeviceDescriptorResponse, PropertyValueResponse, PropertyDescriptionResponse, MemoryResponse, AuthorizeResponse, KeyResponse, UserMemoryRead, UserMemoryResponse, UserMemoryWrite}
 use Rattle.pdu.specs.declared.Found.{Found}
 use Rattle.pdu.specs.declared.Found.the-variants.{Listed, Unknown}
 
@@ -38,6 +38,10 @@ rowOf PropertyDescriptionResponse = row 0x3D9 1 (num Object 1 ∷ num Id 1 ∷ n
 rowOf MemoryResponse = row 0x240 16 (low N 16 ∷ num Address 2 ∷ []) (by N)
 rowOf AuthorizeResponse = row 0x3D2 1 (num Level 1 ∷ []) none
 rowOf KeyResponse = row 0x3D4 1 (num Level 1 ∷ []) none
+-- user memory: a request, the answer, a request
+rowOf UserMemoryRead = row 0x2C0 1 (num N 1 ∷ num Address 2 ∷ []) none
+rowOf UserMemoryResponse = row 0x2C1 1 (num N 1 ∷ num Address 2 ∷ []) (by N)
+rowOf UserMemoryWrite = row 0x2C2 1 (num N 1 ∷ num Address 2 ∷ []) (by N)
 
 -- all of them, in the table's order
 abbrev pub services : List Service
@@ -67,6 +71,9 @@ services =
     MemoryResponse ∷
     AuthorizeResponse ∷
     KeyResponse ∷
+    UserMemoryRead ∷
+    UserMemoryResponse ∷
+    UserMemoryWrite ∷
     []
 
 -- the code is one of the row's

@@ -131,6 +131,9 @@ pub(crate) fn put_head(pdu: Pdu, out: &mut [u8])
         Pdu::MemoryResponse { n, address } => one(out, 0x240 + (n as u64), 2, address as u64),
         Pdu::AuthorizeResponse { level } => one(out, 0x3D2, 1, level as u64),
         Pdu::KeyResponse { level } => one(out, 0x3D4, 1, level as u64),
+        Pdu::UserMemoryRead { n, address } => two(out, 0x2C0, 1, n as u64, 2, address as u64),
+        Pdu::UserMemoryResponse { n, address } => two(out, 0x2C1, 1, n as u64, 2, address as u64),
+        Pdu::UserMemoryWrite { n, address } => two(out, 0x2C2, 1, n as u64, 2, address as u64),
     }
 }
 
@@ -164,5 +167,8 @@ pub(crate) fn data_at(pdu: Pdu) -> usize
         Pdu::MemoryResponse { .. } => 4,
         Pdu::AuthorizeResponse { .. } => 3,
         Pdu::KeyResponse { .. } => 3,
+        Pdu::UserMemoryRead { .. } => 5,
+        Pdu::UserMemoryResponse { .. } => 5,
+        Pdu::UserMemoryWrite { .. } => 5,
     }
 }

@@ -14,7 +14,7 @@ mod parse;
 mod rules;
 mod take;
 
-// The services, then the answers, in the table's order.
+// The services, then the answers, then those of user memory, in the table's order.
 pub enum Service {
     GroupValueRead,
     GroupValueResponse,
@@ -41,6 +41,9 @@ pub enum Service {
     MemoryResponse,
     AuthorizeResponse,
     KeyResponse,
+    UserMemoryRead,
+    UserMemoryResponse,
+    UserMemoryWrite,
 }
 
 // What a code names.
@@ -141,6 +144,18 @@ pub enum Pdu {
     KeyResponse {
         level: u8,
     },
+    UserMemoryRead {
+        n: u8,
+        address: u16,
+    },
+    UserMemoryResponse {
+        n: u8,
+        address: u16,
+    },
+    UserMemoryWrite {
+        n: u8,
+        address: u16,
+    },
 }
 
 // What reading gives: the PDU, or the number of the refusal.
@@ -185,6 +200,9 @@ pub fn service_of(code: u16) -> Found
         0x3D9 => Found::Listed(Service::PropertyDescriptionResponse),
         0x3D2 => Found::Listed(Service::AuthorizeResponse),
         0x3D4 => Found::Listed(Service::KeyResponse),
+        0x2C0 => Found::Listed(Service::UserMemoryRead),
+        0x2C1 => Found::Listed(Service::UserMemoryResponse),
+        0x2C2 => Found::Listed(Service::UserMemoryWrite),
         _ => match code / 64 {
             1 => Found::Listed(Service::GroupValueResponse),
             2 => Found::Listed(Service::GroupValueWrite),

@@ -68,6 +68,18 @@ fn built(k: Service, s: &[u8]) -> Pdu
         },
         Service::AuthorizeResponse => Pdu::AuthorizeResponse { level: byte(s, 2) },
         Service::KeyResponse => Pdu::KeyResponse { level: byte(s, 2) },
+        Service::UserMemoryRead => Pdu::UserMemoryRead {
+            n: byte(s, 2),
+            address: word(s, 3),
+        },
+        Service::UserMemoryResponse => Pdu::UserMemoryResponse {
+            n: byte(s, 2),
+            address: word(s, 3),
+        },
+        Service::UserMemoryWrite => Pdu::UserMemoryWrite {
+            n: byte(s, 2),
+            address: word(s, 3),
+        },
     }
 }
 

@@ -115,5 +115,8 @@ pub(crate) fn allowed(pdu: Pdu, n: usize) -> bool
         Pdu::MemoryResponse { n: count, .. } => counted(count, 16, n, 4),
         Pdu::AuthorizeResponse { .. } => n == 3,
         Pdu::KeyResponse { .. } => n == 3,
+        Pdu::UserMemoryRead { .. } => n == 5,
+        Pdu::UserMemoryResponse { n: count, .. } => n == 5 + (count as usize),
+        Pdu::UserMemoryWrite { n: count, .. } => n == 5 + (count as usize),
     }
 }

@@ -71,7 +71,7 @@ fn say_run(r: Run, last: u16) {
     say_last(r.first, last);
     io::write_all(STDOUT_FILENO, b": ");
     io::print_decimal(STDOUT_FILENO, r.outcome);
-    if r.kind < 25 {
+    if r.kind < 28 {
         words::say_kind(r.kind);
     } else {
         say(b"", b"");

@@ -97,6 +97,9 @@ fn apart(p: Pdu) -> Fields {
         Pdu::MemoryResponse { n, address } => memory(22, n, address),
         Pdu::AuthorizeResponse { level } => one(23, level as u64),
         Pdu::KeyResponse { level } => one(24, level as u64),
+        Pdu::UserMemoryRead { n, address } => memory(25, n, address),
+        Pdu::UserMemoryResponse { n, address } => memory(26, n, address),
+        Pdu::UserMemoryWrite { n, address } => memory(27, n, address),
     }
 }
 
@@ -144,6 +147,9 @@ fn built(kind: usize, x: [u64; 6]) -> Pdu {
         22 => Pdu::MemoryResponse { n: a, address: b },
         23 => Pdu::AuthorizeResponse { level: a },
         24 => Pdu::KeyResponse { level: a },
+        25 => Pdu::UserMemoryRead { n: a, address: b },
+        26 => Pdu::UserMemoryResponse { n: a, address: b },
+        27 => Pdu::UserMemoryWrite { n: a, address: b },
         _ => built_property(kind, x),
     }
 }
@@ -193,7 +199,7 @@ pub(crate) fn read(apdu: &[u8]) -> Plain {
         Parsed::Is(p) => accepted(apart(p), pdu::data_of(p, apdu)),
         Parsed::Refused(n) => Plain {
             outcome: n as u64,
-            kind: 25,
+            kind: 28,
             x: [0; 6],
             len: 0,
             data: [0; 64],
@@ -232,11 +238,11 @@ pub(crate) fn write(p: Plain, room: usize) -> Output {
     }
 }
 
-// The number of the kind that a code names, 25 for none.
+// The number of the kind that a code names, 28 for none.
 pub(crate) fn kind_at(code: u16) -> usize {
     let found = pdu::service_of(code);
     let Found::Listed(k) = found else {
-        return 25;
+        return 28;
     };
     match k {
         Service::GroupValueRead => 0,
@@ -264,5 +270,8 @@ pub(crate) fn kind_at(code: u16) -> usize {
         Service::MemoryResponse => 22,
         Service::AuthorizeResponse => 23,
         Service::KeyResponse => 24,
+        Service::UserMemoryRead => 25,
+        Service::UserMemoryResponse => 26,
+        Service::UserMemoryWrite => 27,
     }
 }

@@ -17,7 +17,7 @@ use lines::which;
 use lines::word;
 
 // The kinds by number, each with its fields in order.
-fn rows() -> [u8; 624] {
+fn rows() -> [u8; 720] {
     *b"group_read
 group_response v data
 group_write v data
@@ -42,7 +42,10 @@ property_response object id n s data
 description_response object id index type maximum access
 memory_response n address data
 authorize_response level
-key_response level"
+key_response level
+user_memory_read n address
+user_memory_response n address data
+user_memory_write n address data"
 }
 
 // The name of a kind, written.
@@ -51,7 +54,7 @@ pub(crate) fn say_kind(kind: usize) {
     say(b" ", word(piece(&all, kind, b'\n'), 0));
 }
 
-// The number of the kind of that name, or 25.
+// The number of the kind of that name, or 28.
 fn kind_named(name: &[u8]) -> usize {
     let all = rows();
     named(&all, b'\n', b' ', name)
@@ -114,7 +117,7 @@ fn put_fields(out: &mut [u8], at: usize, row: &[u8], p: Plain) -> usize {
 // The kind's row has data.
 fn has_data(kind: usize) -> bool {
     match kind {
-        1 | 2 | 9 | 12 | 13 | 19 | 20 | 22 => true,
+        1 | 2 | 9 | 12 | 13 | 19 | 20 | 22 | 26 | 27 => true,
         _ => false,
     }
 }

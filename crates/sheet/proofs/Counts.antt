@@ -36,7 +36,7 @@ counts-store {s} ok s′ long but low =
     (record {
       long = long;
       front = λ p h. early p (omega arith);
-      zero15 = field head.zero15 (omega arith);
+      byte15 = field head.byte15 (omega arith);
       zero30 = field head.zero30 (omega arith);
       zero31 = field head.zero31 (omega arith);
       flags = rw (field head.flags (omega arith)) (g .zeros .0);

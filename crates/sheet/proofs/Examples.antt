@@ -6,14 +6,14 @@ use mathlib.Core.List.{List, [], _∷_, map}
 use Rattle.octets.specs.Bytes.{numAt}
 use Rattle.sheet.specs.Demand.{breach}
 use Rattle.sheet.specs.First.{first}
-use Rattle.sheet.specs.Kind.{regions, properties, groups}
+use Rattle.sheet.specs.Kind.{regions, properties, groups, users}
 use Rattle.sheet.specs.Layout.{Field, _of_}
 use Rattle.sheet.specs.Head as head
 use Rattle.sheet.specs.Region as region
 use Rattle.sheet.specs.Property as property
 use Rattle.sheet.specs.Group as group
 use Rattle.sheet.specs.Entries.{count, contents, entry, keyOf, floor, bodyEnd, startOf, reached, sixBits}
-use Rattle.sheet.specs.Rules.{entryDemands, bodyDemands, entryRule, bodyRule, entriesRule, bodiesRule, walkRule, ruleIn, Accepted, edition, isAccepted}
+use Rattle.sheet.specs.Rules.{entryDemands, bodyDemands, entryRule, bodyRule, entriesRule, bodiesRule, restRule, walkRule, ruleIn, Accepted, edition, isAccepted}
 use Rattle.sheet.specs.Lookup.{seek, indexOf, bodyOf, lookup, regionOf, propertyOf, groupOf, objectAt, rank, nthOf}
 
 -- THE SHEET, 109 bytes: no two of its numbers that could be taken for one another are the same
@@ -41,12 +41,12 @@ example =
 
 -- IT IS ACCEPTED
 pub example-accepted : Accepted example
-unfolding example ruleIn walkRule entriesRule bodiesRule entryRule bodyRule entryDemands bodyDemands breach first entry floor bodyEnd startOf reached sixBits numAt
+unfolding example ruleIn walkRule restRule entriesRule bodiesRule entryRule bodyRule entryDemands bodyDemands breach first entry floor bodyEnd startOf reached sixBits numAt
 example-accepted = refl
 
 -- THE NUMBERS IN ITS HEAD
 pub example-head :
-    map (λ (f : Field). f of example) (head.edition ∷ head.regions ∷ head.properties ∷ head.groups ∷ head.stated ∷ head.serial ∷ head.mask ∷ head.flags ∷ head.zero15 ∷ head.address ∷ head.key 0 ∷ head.key 1 ∷ head.key 2 ∷ head.zero30 ∷ head.zero31 ∷ [])
+    map (λ (f : Field). f of example) (head.edition ∷ head.regions ∷ head.properties ∷ head.groups ∷ head.stated ∷ head.serial ∷ head.mask ∷ head.flags ∷ head.byte15 ∷ head.address ∷ head.key 0 ∷ head.key 1 ∷ head.key 2 ∷ head.zero30 ∷ head.zero31 ∷ [])
     ≡ 1 ∷ 2 ∷ 3 ∷ 1 ∷ 109 ∷ 0x00C501020304 ∷ 0x07B0 ∷ 2 ∷ 0 ∷ 0x1105 ∷ 0x0A0B0C0D ∷ 0x1A1B1C1D ∷ 0x2A2B2C2D ∷ 0 ∷ 0 ∷ []
 unfolding example numAt
 example-head = refl
@@ -57,7 +57,7 @@ unfolding example numAt
 example-flags = (refl, refl)
 
 -- THE NUMBERS OF ENTRIES, AND WHERE THE CONTENTS END
-pub example-counts : (map (count example) (regions ∷ properties ∷ groups ∷ []) ≡ 2 ∷ 3 ∷ 1 ∷ []) × (contents example ≡ 92)
+pub example-counts : (map (count example) (regions ∷ properties ∷ groups ∷ users ∷ []) ≡ 2 ∷ 3 ∷ 1 ∷ 0 ∷ []) × (contents example ≡ 92)
 unfolding example numAt
 example-counts = (refl, refl)
 
@@ -83,17 +83,17 @@ example-group = refl
 -- THE VALUE LOOKUPS: by region number, by object and id, by group address
 pub example-regions :
     map (regionOf example) (0 ∷ 1 ∷ 2 ∷ []) ≡ (0xA0 ∷ 0xA1 ∷ []) ∷ (0xA2 ∷ 0xA3 ∷ 0xA4 ∷ []) ∷ [] ∷ []
-unfolding example lookup isAccepted bodyOf ruleIn walkRule entriesRule bodiesRule entryRule bodyRule entryDemands bodyDemands breach first entry floor bodyEnd startOf reached sixBits numAt
+unfolding example lookup isAccepted bodyOf ruleIn walkRule restRule entriesRule bodiesRule entryRule bodyRule entryDemands bodyDemands breach first entry floor bodyEnd startOf reached sixBits numAt
 example-regions = refl
 
 pub example-properties :
     propertyOf example 1 2 ∷ propertyOf example 2 1 ∷ propertyOf example 2 3 ∷ propertyOf example 3 2 ∷ []
     ≡ (0xB0 ∷ 0xB1 ∷ 0xB2 ∷ 0xB3 ∷ []) ∷ (0xB4 ∷ 0xB5 ∷ 0xB6 ∷ []) ∷ (0xB7 ∷ 0xB8 ∷ 0xB9 ∷ []) ∷ [] ∷ []
-unfolding example lookup isAccepted bodyOf indexOf seek keyOf ruleIn walkRule entriesRule bodiesRule entryRule bodyRule entryDemands bodyDemands breach first entry floor bodyEnd startOf reached sixBits numAt
+unfolding example lookup isAccepted bodyOf indexOf seek keyOf ruleIn walkRule restRule entriesRule bodiesRule entryRule bodyRule entryDemands bodyDemands breach first entry floor bodyEnd startOf reached sixBits numAt
 example-properties = refl
 
 pub example-groups : map (groupOf example) (0x0801 ∷ 0x0108 ∷ []) ≡ (0xC0 ∷ 0xC1 ∷ []) ∷ [] ∷ []
-unfolding example lookup isAccepted bodyOf indexOf seek keyOf ruleIn walkRule entriesRule bodiesRule entryRule bodyRule entryDemands bodyDemands breach first entry floor bodyEnd startOf reached sixBits numAt
+unfolding example lookup isAccepted bodyOf indexOf seek keyOf ruleIn walkRule restRule entriesRule bodiesRule entryRule bodyRule entryDemands bodyDemands breach first entry floor bodyEnd startOf reached sixBits numAt
 example-groups = refl
 
 -- THE INDEX WITHIN AN OBJECT: of each property, and the property of an index

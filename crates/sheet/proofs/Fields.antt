@@ -37,7 +37,7 @@ module _ (s : List ℕ) (ok : Accepted s) where
     pub property-in : (e : List ℕ) (r : PropertyEntry) → i < count s properties → e ≡ entry s properties i
         → r .object ≡ property.object of e → r .id ≡ property.id of e → r .typ ≡ property.typ of e → r .element ≡ property.element of e
         → r .maximum ≡ property.maximum of e → r .count ≡ property.count of e → r .offset ≡ property.offset of e
-        → r .levels ≡ property.levels of e → OfKind (r .place) properties (place s 0 i) (place s 1 i) (place s 2 i) → PropertyIn s i r
+        → r .levels ≡ property.levels of e → OfKind (r .place) properties (place s 0 i) (place s 1 i) (place s 2 i) (place s 3 i) → PropertyIn s i r
     unfolding entryDemands bodyEnd
     property-in e r h ee a b c d f g j k p =
         let rows = good s ok .entries properties i (lit< tt) h in

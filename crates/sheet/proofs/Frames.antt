@@ -5,7 +5,7 @@ use mathlib.Core.Path.{_≡_, sym, _∙_}
 use mathlib.Core.List.{List}
 use native.Mathlib.Omega.{arith}
 use Rattle.sheet.specs.Demand.{Met}
-use Rattle.sheet.specs.Kind.{kinds, regions, properties, groups}
+use Rattle.sheet.specs.Kind.{kinds, regions, properties, groups, users}
 use Rattle.sheet.specs.Layout.{_of_}
 use Rattle.sheet.specs.Head as head
 use Rattle.sheet.specs.Region as region
@@ -13,11 +13,11 @@ use Rattle.sheet.specs.Property as property
 use Rattle.sheet.specs.Group as group
 use Rattle.sheet.specs.Entries.{count, entry, sixBits}
 use Rattle.sheet.specs.Rules.{entryDemands, bodyDemands, Accepted}
-use Rattle.sheet.specs.declared.Memory.the-variants.{Device}
+use Rattle.sheet.specs.declared.Memory.the-variants.{Device, User}
 use Rattle.sheet.specs.Frame.{Agree}
 use Rattle.sheet.proofs.ByKind.{eachKind}
 use Rattle.sheet.proofs.Good.{Good, good, accepted}
-use Rattle.sheet.proofs.Sames.{front-same, count-same, region-same, property-same, group-same, floor-same, offset-same, at-same, start-same, reached-same}
+use Rattle.sheet.proofs.Sames.{front-same, count-same, region-same, spare-same, property-same, group-same, floor-same, offset-same, at-same, start-same, reached-same}
 use Rattle.sheet.proofs.PlainRows.{six-to, six-from}
 
 module _ {s s′ : List ℕ} (a : Agree s s′) where
@@ -30,7 +30,7 @@ module _ {s s′ : List ℕ} (a : Agree s s′) where
       record {
         long = sym (a .long);
         front = λ p h. sym (a .front p h);
-        zero15 = sym (a .zero15);
+        byte15 = sym (a .byte15);
         zero30 = sym (a .zero30);
         zero31 = sym (a .zero31);
         flags = (a .flags .1, a .flags .0);
@@ -50,7 +50,7 @@ module _ {s s′ : List ℕ} (a : Agree s s′) where
       record {
         long = b .long ∙ a .long;
         front = λ p h. b .front p h ∙ a .front p h;
-        zero15 = b .zero15 ∙ a .zero15;
+        byte15 = b .byte15 ∙ a .byte15;
         zero30 = b .zero30 ∙ a .zero30;
         zero31 = b .zero31 ∙ a .zero31;
         flags = (λ h. b .flags .0 (a .flags .0 h), λ h. a .flags .1 (b .flags .1 h));
@@ -81,6 +81,9 @@ module _ {s s′ : List ℕ} (g : Good s) (a : Agree s s′) where
       (λ h.
       rw (floor-same a groups i (omega arith) h, group-same a i group.address h (omega arith), group-same a i group.code h (omega arith), group-same a i group.flags h (omega arith), group-same a i group.zeros h (omega arith))
       (g .entries groups i (omega arith) h))
+      (λ h.
+      rw (floor-same a users i (omega arith) h, region-same a User i region.address h (omega arith), region-same a User i region.length h (omega arith), region-same a User i region.levels h (omega arith), region-same a User i region.zero h (omega arith))
+      (g .entries users i (omega arith) h))
 
   six : (i k : ℕ) → k < kinds → i < count s k → sixBits s′ k (entry s′ k i) ≤ 63
   six i =
@@ -90,6 +93,7 @@ module _ {s s′ : List ℕ} (g : Good s) (a : Agree s s′) where
       (λ h. six-from s′ i (λ c.
       let d : group.code of entry s groups i ≡ 0 = sym (group-same a i group.code h (omega arith)) ∙ c in
       rw (at-same a groups i (omega arith) h) (a .six i h d .0 (six-to s i (unfold bodyDemands in g .bodies groups i (omega arith) h .1 .0) d))))
+      (λ h. unfold sixBits in omega arith)
 
   bodies : (k i : ℕ) → k < kinds → i < count s k → Met (bodyDemands s′ k i)
   unfolding bodyDemands
@@ -102,8 +106,8 @@ module _ {s s′ : List ℕ} (g : Good s) (a : Agree s s′) where
       record {
         framed =
             omega
-            (arith, a .long, g .framed, front-same a head.edition (omega arith), front-same a head.stated (omega arith), count-same a 0, count-same a 1, count-same a 2);
-        zeros = omega (arith, a .zero15, a .zero30, a .zero31, a .flags .0 (g .zeros .0), g .zeros);
+            (arith, a .long, g .framed, front-same a head.edition (omega arith), front-same a head.stated (omega arith), count-same a 0, count-same a 1, count-same a 2, count-same a 3);
+        zeros = omega (arith, spare-same a, a .zero30, a .zero31, a .flags .0 (g .zeros .0), g .zeros);
         entries = λ k i hk h. entries i k hk (below-same a k i h);
         bodies = λ k i hk h. bodies k i hk (below-same a k i h);
         last = (start-same a kinds (omega arith) ∙ g .last .0 ∙ sym (a .long), tt);

@@ -1,17 +1,18 @@
 -- A sheet is accepted exactly if all its demands are met.
 -- Assumes nothing.
 use Prim.Native.Nat.{ℕ, _<_}
-use mathlib.Core.Path.{_≡_}
+use mathlib.Core.Path.{_≡_, sym, _∙_}
 use mathlib.Core.List.{List}
 use lib.Dec.{T}
+use native.Mathlib.Omega.{arith}
 use Rattle.sheet.specs.Demand.{breach, Met}
 use Rattle.sheet.specs.First.{first}
-use Rattle.sheet.specs.Kind.{kinds}
+use Rattle.sheet.specs.Kind.{kinds, users}
 use Rattle.sheet.specs.Entries.{count}
-use Rattle.sheet.specs.Rules.{frameDemands, zeroDemands, entryDemands, bodyDemands, endDemands, entryRule, bodyRule, entriesRule, bodiesRule, walkRule, ruleIn, edition, Accepted}
+use Rattle.sheet.specs.Rules.{frameDemands, zeroDemands, entryDemands, bodyDemands, endDemands, entryRule, bodyRule, entriesRule, bodiesRule, restRule, walkRule, ruleIn, edition, Accepted}
 use Rattle.sheet.proofs.ByKind.{eachKind}
 use Rattle.sheet.proofs.Demands.{met, unbroken, named}
-use Rattle.sheet.proofs.First.{orElse-left, orElse-right, first-each, first-all}
+use Rattle.sheet.proofs.First.{orElse-left, orElse-right, first-each, first-all, first-more, first-suc}
 
 -- a sheet whose demands are all met, part by part
 pub record Good (s : List ℕ) : Type 0 where
@@ -25,7 +26,7 @@ pub record Good (s : List ℕ) : Type 0 where
 module _ (s : List ℕ) (i : ℕ) where
   entry-named : (k : ℕ) → k < kinds → T (named (entryDemands s k i))
   unfolding entryDemands
-  entry-named = eachKind (λ (k : ℕ). T (named (entryDemands s k i))) tt tt tt
+  entry-named = eachKind (λ (k : ℕ). T (named (entryDemands s k i))) tt tt tt tt
 
   body-named : (k : ℕ) → T (named (bodyDemands s k i))
   unfolding bodyDemands
@@ -46,14 +47,15 @@ module _ (s : List ℕ) (rule : ℕ → ℕ → ℕ) where
 
 -- AN ACCEPTED SHEET MEETS ALL DEMANDS
 pub good : (s : List ℕ) → Accepted s → Good s
-unfolding ruleIn walkRule entriesRule bodiesRule entryRule bodyRule AllOf
+unfolding ruleIn walkRule restRule entriesRule bodiesRule entryRule bodyRule AllOf
 good s e =
     let f = orElse-left (breach (frameDemands edition s)) _ e in
     let e₁ = orElse-right (breach (frameDemands edition s)) _ e in
     let z = orElse-left (breach (zeroDemands s)) _ e₁ in
     let e₂ = orElse-right (breach (zeroDemands s)) _ e₁ in
-    let w = orElse-left (first (entriesRule s) kinds) _ e₂ in
-    let e₃ = orElse-right (first (entriesRule s) kinds) _ e₂ in
+    let e₄ = orElse-right (entriesRule s users) _ e₂ in
+    let w = first-more (entriesRule s) users (orElse-left (first (entriesRule s) users) _ e₄) (orElse-left (entriesRule s users) _ e₂) in
+    let e₃ = orElse-right (first (entriesRule s) users) _ e₄ in
     let b = orElse-left (first (bodiesRule s) kinds) _ e₃ in
     let l = orElse-right (first (bodiesRule s) kinds) _ e₃ in
     record {
@@ -66,12 +68,15 @@ good s e =
 
 -- A SHEET THAT MEETS ALL DEMANDS IS ACCEPTED
 pub accepted : {s : List ℕ} → Good s → Accepted s
-unfolding ruleIn walkRule entriesRule bodiesRule entryRule bodyRule AllOf
+unfolding ruleIn walkRule restRule entriesRule bodiesRule entryRule bodyRule AllOf
 accepted {s} g =
-    rw (unbroken (frameDemands edition s) (g .framed), unbroken (zeroDemands s) (g .zeros), entries, bodies) (unbroken (endDemands s) (g .last))
+    rw (unbroken (frameDemands edition s) (g .framed), unbroken (zeroDemands s) (g .zeros), early, entries, bodies) (unbroken (endDemands s) (g .last))
   where
-    entries : first (entriesRule s) kinds ≡ 0
-    entries = all s (entryRule s) (λ k i hk hi. unbroken (entryDemands s k i) (g .entries k i hk hi))
+    entries : first (entriesRule s) users ≡ 0
+    entries = orElse-left (first (entriesRule s) users) _ (sym (first-suc (entriesRule s) users) ∙ all s (entryRule s) (λ k i hk hi. unbroken (entryDemands s k i) (g .entries k i hk hi)))
+
+    early : entriesRule s users ≡ 0
+    early = first-all (entryRule s users) (count s users) (λ i hi. unbroken (entryDemands s users i) (g .entries users i (omega arith) hi))
 
     bodies : first (bodiesRule s) kinds ≡ 0
     bodies = all s (bodyRule s) (λ k i hk hi. unbroken (bodyDemands s k i) (g .bodies k i hk hi))

@@ -28,6 +28,7 @@ module _ {s : List ℕ} (g : Good s) where
       (λ h. omega (arith, g .entries 0 i (omega arith) h))
       (λ h. omega (arith, g .entries 1 i (omega arith) h))
       (λ h. omega (arith, g .entries 2 i (omega arith) h))
+      (λ h. omega (arith, g .entries 3 i (omega arith) h))
 
   pub under-next : (i k : ℕ) → k < kinds → i < count s k → keyOf s k i < floor s k (suc i)
   unfolding entryDemands keyOf floor
@@ -36,6 +37,7 @@ module _ {s : List ℕ} (g : Good s) where
       (λ h. omega (arith, g .entries 0 i (omega arith) h))
       (λ h. omega arith)
       (λ h. omega arith)
+      (λ h. omega (arith, g .entries 3 i (omega arith) h))
 
   module _ (k : ℕ) (hk : k < kinds) where
     key-up : (i : ℕ) → suc i < count s k → keyOf s k i < keyOf s k (suc i)

@@ -1,7 +1,9 @@
--- Promises, named in docs/PROMISES.md: Plains, Nine, Values, Examples, Positions, Keys, Ranks, Runs, Frames, Stores, Counts.
+-- Promises, named in docs/PROMISES.md: Plains, Nine, Values, Examples, TwoMemories, Positions, Keys, Ranks, Runs, Frames, Stores, Counts.
 -- All others are laws behind them or behind the contracts.
 pub mod First
 pub mod ByKind
+pub mod Editions
+pub mod Before
 pub mod Demands
 pub mod Entries
 pub mod Bodies
@@ -35,3 +37,4 @@ pub mod Stores
 pub mod Parts
 pub mod Values
 pub mod Examples
+pub mod TwoMemories

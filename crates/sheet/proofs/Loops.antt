@@ -8,7 +8,7 @@ use lib.Dec.{leb}
 use borrow.Author.Tests.{le-leb, lt-leb, lt-ltb}
 use native.Mathlib.Decide.{decLe, decLt}
 use native.Mathlib.Omega.{arith}
-use Rattle.sheet.specs.Kind.{regions, properties, kindOf}
+use Rattle.sheet.specs.Kind.{properties, kindOf}
 use Rattle.sheet.specs.Layout.{_of_}
 use Rattle.sheet.specs.Region as region
 use Rattle.sheet.specs.Property as property
@@ -17,7 +17,6 @@ use Rattle.sheet.specs.Lookup.{objectAt, covers, runIn, rangeOf}
 use Rattle.sheet.specs.Rules.{Accepted}
 use Rattle.sheet.specs.Walk.{Holds, Entry, Lower}
 use Rattle.sheet.specs.declared.Memory.{Memory}
-use Rattle.sheet.specs.declared.Memory.the-variants.{Device}
 use Rattle.sheet.specs.declared.Run.{Run}
 use Rattle.sheet.specs.declared.Run.the-variants.{At, Nowhere}
 use Rattle.sheet.proofs.Good.{good}
@@ -51,10 +50,6 @@ module _ (e : List ℕ) (a n : ℕ) where
 
 pub run-is : (e : List ℕ) (a x y z : ℕ) → x ≡ region.offset of e → y ≡ region.address of e → z ≡ region.levels of e → At (x + (a - y)) z ≡ runIn e a
 run-is e a x y z p q r = rw (p, q, r)
-
--- the one memory that there is
-pub device-kind : (m : Memory) → regions ≡ kindOf m
-device-kind Device = refl
 
 -- the search by an address range
 abbrev pub isRange : List ℕ → ℕ → ℕ → ℕ → ℕ → Bool

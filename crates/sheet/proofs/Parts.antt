@@ -37,7 +37,7 @@ module _ (s : List ℕ) where
 
     pub the-part :
         (e : List ℕ) (a z : ℕ) → Accepted s → k < kinds → i < n → e ≡ entry s k i → a ≡ offsetOf k e →
-        OfKind z k (lengthOf 0 e) (lengthOf 1 e) (lengthOf 2 e) →
+        OfKind z k (lengthOf 0 e) (lengthOf 1 e) (lengthOf 2 e) (lengthOf 3 e) →
         StandsIn s (record { offset = a; length = z }) (bodyOf s k i) (bodyFrom s k i)
     unfolding bodyOf bodyFrom
     the-part e a z ok hk h ee ea ez =

@@ -8,12 +8,12 @@ use native.Mathlib.Omega.{arith}
 use borrow.Author.Tests.{le-leb, lt-leb}
 use Rattle.octets.specs.Bytes.{numAt}
 use Rattle.sheet.specs.Demand.{Met}
-use Rattle.sheet.specs.Kind.{kinds, regions, properties, groups}
+use Rattle.sheet.specs.Kind.{kinds, regions, properties, groups, users}
 use Rattle.sheet.specs.Layout.{_of_}
 use Rattle.sheet.specs.Group as group
 use Rattle.sheet.specs.Entries.{count, entry, floor, bodyAt, startOf, reached, sixBits}
 use Rattle.sheet.specs.Rules.{entryDemands, bodyDemands, endDemands}
-use Rattle.sheet.specs.Plain.{S6, S7, S8, S9}
+use Rattle.sheet.specs.Plain.{Ordered, S6, S7, S8, S9}
 use Rattle.sheet.proofs.ByKind.{eachKind}
 use Rattle.sheet.proofs.Untils.{until, until-only}
 
@@ -26,14 +26,25 @@ Bodies s k = (i : ℕ) → i < count s k → Met (bodyDemands s k i)
 
 module _ (s : List ℕ) where
   -- S6
-  pub to6 : Entries s regions → S6 s
+  pub to6 : Entries s users × Entries s regions → S6 s
   unfolding entryDemands floor
-  to6 m = record { each = λ i h. omega (arith, m i h); after = λ i h. omega (arith, m (suc i) h) }
+  to6 m = (
+    record { each = λ i h. omega (arith, m .1 i h); after = λ i h. omega (arith, m .1 (suc i) h) },
+    record { each = λ i h. omega (arith, m .0 i h); after = λ i h. omega (arith, m .0 (suc i) h) },
+  )
 
-  pub from6 : S6 s → Entries s regions
+  from-regions : Ordered s regions → Entries s regions
   unfolding entryDemands floor
-  from6 m zero h = omega (arith, m .each 0 h)
-  from6 m (suc i) h = omega (arith, m .each (suc i) h, m .after i h)
+  from-regions m zero h = omega (arith, m .each 0 h)
+  from-regions m (suc i) h = omega (arith, m .each (suc i) h, m .after i h)
+
+  from-users : Ordered s users → Entries s users
+  unfolding entryDemands floor
+  from-users m zero h = omega (arith, m .each 0 h)
+  from-users m (suc i) h = omega (arith, m .each (suc i) h, m .after i h)
+
+  pub from6 : S6 s → Entries s users × Entries s regions
+  from6 m = (from-users (m .1), from-regions (m .0))
 
   -- S7
   pub to7 : Entries s properties → S7 s
@@ -72,22 +83,22 @@ module _ (s : List ℕ) where
       go (no l) = rw (le-leb 1 (group.code of entry s groups i) (omega arith)) (omega arith)
 
   -- S9
-  pub to9 : ((Bodies s 0 × Bodies s 1) × Bodies s 2) × Met (endDemands s) → S9 s
+  pub to9 : (((Bodies s 0 × Bodies s 1) × Bodies s 2) × Bodies s 3) × Met (endDemands s) → S9 s
   unfolding bodyDemands reached bodyAt
   to9 m =
       record {
         first = λ k z hk h u. bodies k hk 0 h .0 ∙ sym (until-only s u);
         next = λ k i hk h. bodies k hk (suc i) h .0;
         last = λ z u. until-only s u ∙ m .1 .0;
-        six = λ i h. six-to i (m .0 .1 i h .1 .0);
+        six = λ i h. six-to i (m .0 .0 .1 i h .1 .0);
       }
     where
       bodies : (k : ℕ) → k < kinds → Bodies s k
-      bodies = eachKind (Bodies s) (m .0 .0 .0) (m .0 .0 .1) (m .0 .1)
+      bodies = eachKind (Bodies s) (m .0 .0 .0 .0) (m .0 .0 .0 .1) (m .0 .0 .1) (m .0 .1)
 
-  pub from9 : S9 s → ((Bodies s 0 × Bodies s 1) × Bodies s 2) × Met (endDemands s)
+  pub from9 : S9 s → (((Bodies s 0 × Bodies s 1) × Bodies s 2) × Bodies s 3) × Met (endDemands s)
   unfolding bodyDemands reached bodyAt
-  from9 m = (((bodies 0 (omega arith), bodies 1 (omega arith)), bodies 2 (omega arith)), (m .last (startOf s kinds) (until s kinds), tt))
+  from9 m = ((((bodies 0 (omega arith), bodies 1 (omega arith)), bodies 2 (omega arith)), bodies 3 (omega arith)), (m .last (startOf s kinds) (until s kinds), tt))
     where
       six : (i k : ℕ) → k < kinds → i < count s k → sixBits s k (entry s k i) ≤ 63
       six i =
@@ -95,6 +106,7 @@ module _ (s : List ℕ) where
           (λ h. unfold sixBits in omega arith)
           (λ h. unfold sixBits in omega arith)
           (λ h. six-from i (m .six i h))
+          (λ h. unfold sixBits in omega arith)
 
       bodies : (k : ℕ) → k < kinds → Bodies s k
       bodies k hk zero h = (m .first k (startOf s k) hk h (until s k), (six 0 k hk h, tt))

@@ -8,11 +8,11 @@ use native.Mathlib.Omega.{arith}
 use Rattle.sheet.specs.Demand.{Demand, breach, Met}
 use Rattle.sheet.specs.First.{first, orElse}
 use Rattle.sheet.specs.Entries.{count}
-use Rattle.sheet.specs.Rules.{frameDemands, zeroDemands, entryDemands, bodyDemands, endDemands, entryRule, bodyRule, entriesRule, bodiesRule, walkRule, ruleIn}
+use Rattle.sheet.specs.Rules.{restRule, frameDemands, zeroDemands, entryDemands, bodyDemands, endDemands, entryRule, bodyRule, entriesRule, bodiesRule, walkRule, ruleIn}
 use Rattle.sheet.specs.Plain.{S1, S2, S3, S4, S5, S6, S7, S8, S9, Judged, breaks1, breaks2, breaks3, breaks4, breaks5, breaks6, breaks7, breaks8, breaks9, none}
 use Rattle.sheet.proofs.First.{orElse-some, orElse-assoc, orElse-zero}
 use Rattle.sheet.proofs.Telling.{Says, holds, fails, says-yes, says-no, says-map, says-and, says-all, says-rows, breach-append}
-use Rattle.sheet.proofs.PlainRows.{Bodies, to6, from6, to7, from7, to8, from8, to9, from9}
+use Rattle.sheet.proofs.PlainRows.{Entries, Bodies, to6, from6, to7, from7, to8, from8, to9, from9}
 
 -- the first of a few numbers that is not 0
 abbrev firstOf : List ℕ → ℕ
@@ -33,27 +33,39 @@ module _ (ed : ℕ) (s : List ℕ) where
   unfolding rows
   says1 = says-map (λ m. omega arith) (λ m. omega arith) (says-rows 1 (omega arith) (rows 0 2) tt)
 
-  says2 : Says 2 (S2 ed s) (breach (rows 2 1))
+  says2 : Says 2 (S2 ed s) (breach (rows 2 2))
   unfolding rows
-  says2 = says-map (λ m. omega arith) (λ m. omega arith) (says-rows 2 (omega arith) (rows 2 1) tt)
+  says2 = says-map (λ m. omega arith) (λ m. omega arith) (says-rows 2 (omega arith) (rows 2 2) tt)
 
-  says3 : Says 3 (S3 s) (breach (rows 3 3))
+  says3 : Says 3 (S3 s) (breach (rows 4 4))
   unfolding rows
-  says3 = says-map (λ m. omega arith) (λ m. omega arith) (says-rows 3 (omega arith) (rows 3 3) tt)
+  says3 = says-map (λ m. omega arith) (λ m. omega arith) (says-rows 3 (omega arith) (rows 4 4) tt)
 
-  says4 : Says 4 (S4 s) (breach (rows 6 2))
+  says4 : Says 4 (S4 s) (breach (rows 8 2))
   unfolding rows
-  says4 = says-map (λ m. omega arith) (λ m. omega arith) (says-rows 4 (omega arith) (rows 6 2) tt)
+  says4 = says-map (λ m. omega arith) (λ m. omega arith) (says-rows 4 (omega arith) (rows 8 2) tt)
 
   says5 : Says 5 (S5 s) (breach (zeroDemands s))
   says5 = says-map (λ m. omega arith) (λ m. omega arith) (says-rows 5 (omega arith) (zeroDemands s) tt)
 
-  says6 : Says 6 (S6 s) (entriesRule s 0)
+  says-regions : Says 6 (Entries s 0) (entriesRule s 0)
   unfolding entriesRule entryRule entryDemands
-  says6 =
-      says-map (to6 s) (from6 s)
-      (says-all 6 (omega arith) (λ i. Met (entryDemands s 0 i)) (entryRule s 0) (count s 0)
-      (λ i h. says-rows 6 (omega arith) (entryDemands s 0 i) tt))
+  says-regions =
+      says-all 6 (omega arith) (λ i. Met (entryDemands s 0 i)) (entryRule s 0) (count s 0)
+      (λ i h. says-rows 6 (omega arith) (entryDemands s 0 i) tt)
+
+  says-users : Says 6 (Entries s 3) (entriesRule s 3)
+  unfolding entriesRule entryRule entryDemands
+  says-users =
+      says-all 6 (omega arith) (λ i. Met (entryDemands s 3 i)) (entryRule s 3) (count s 3)
+      (λ i h. says-rows 6 (omega arith) (entryDemands s 3 i) tt)
+
+  sixth : ℕ
+  sixth = orElse (entriesRule s 3) (entriesRule s 0)
+
+  says6 : Says 6 (S6 s) sixth
+  unfolding sixth
+  says6 = says-map (to6 s) (from6 s) (says-and 6 (omega arith) says-users says-regions)
 
   says7 : Says 7 (S7 s) (entriesRule s 1)
   unfolding entriesRule entryRule entryDemands
@@ -76,21 +88,21 @@ module _ (ed : ℕ) (s : List ℕ) where
       (λ i h. says-rows 9 (omega arith) (bodyDemands s k i) tt)
 
   ninth : ℕ
-  ninth = orElse (orElse (orElse (bodiesRule s 0) (bodiesRule s 1)) (bodiesRule s 2)) (breach (endDemands s))
+  ninth = orElse (orElse (orElse (orElse (bodiesRule s 0) (bodiesRule s 1)) (bodiesRule s 2)) (bodiesRule s 3)) (breach (endDemands s))
 
   says9 : Says 9 (S9 s) ninth
   unfolding ninth
   says9 =
       says-map (to9 s) (from9 s)
-      (says-and 9 (omega arith) (says-and 9 (omega arith) (says-and 9 (omega arith) (says-bodies 0) (says-bodies 1)) (says-bodies 2))
+      (says-and 9 (omega arith) (says-and 9 (omega arith) (says-and 9 (omega arith) (says-and 9 (omega arith) (says-bodies 0) (says-bodies 1)) (says-bodies 2)) (says-bodies 3))
       (says-rows 9 (omega arith) (endDemands s) tt))
 
   nine :
       ruleIn ed s ≡
-      firstOf (breach (rows 0 2) ∷ breach (rows 2 1) ∷ breach (rows 3 3) ∷ breach (rows 6 2) ∷ breach (zeroDemands s) ∷ entriesRule s 0 ∷ entriesRule s 1 ∷ entriesRule s 2 ∷ ninth ∷ [])
-  unfolding ruleIn walkRule rows first ninth
+      firstOf (breach (rows 0 2) ∷ breach (rows 2 2) ∷ breach (rows 4 4) ∷ breach (rows 8 2) ∷ breach (zeroDemands s) ∷ sixth ∷ entriesRule s 1 ∷ entriesRule s 2 ∷ ninth ∷ [])
+  unfolding ruleIn walkRule restRule rows first sixth ninth
   nine =
-      rw (breach-append (rows 0 2) (drop 2 (frameDemands ed s)) tt, breach-append (rows 2 1) (drop 3 (frameDemands ed s)) tt, breach-append (rows 3 3) (rows 6 2) tt)
+      rw (breach-append (rows 0 2) (drop 2 (frameDemands ed s)) tt, breach-append (rows 2 2) (drop 4 (frameDemands ed s)) tt, breach-append (rows 4 4) (rows 8 2) tt)
       (simp (orElse-assoc, orElse-zero))
 
   -- THE FIRST RULE BROKEN JUDGES THE SHEET
@@ -115,7 +127,7 @@ module _ (ed : ℕ) (s : List ℕ) where
   pub judged-only : {n : ℕ} → Judged ed s n → n ≡ ruleIn ed s
   judged-only {n} j = rw nine (only j)
     where
-      only : {n : ℕ} → Judged ed s n → n ≡ firstOf (breach (rows 0 2) ∷ breach (rows 2 1) ∷ breach (rows 3 3) ∷ breach (rows 6 2) ∷ breach (zeroDemands s) ∷ entriesRule s 0 ∷ entriesRule s 1 ∷ entriesRule s 2 ∷ ninth ∷ [])
+      only : {n : ℕ} → Judged ed s n → n ≡ firstOf (breach (rows 0 2) ∷ breach (rows 2 2) ∷ breach (rows 4 4) ∷ breach (rows 8 2) ∷ breach (zeroDemands s) ∷ sixth ∷ entriesRule s 1 ∷ entriesRule s 2 ∷ ninth ∷ [])
       only (breaks1 n) = rw (says-no says1 n)
       only (breaks2 a n) = rw (says-yes says1 a, says-no says2 n)
       only (breaks3 a b n) = rw (says-yes says1 a, says-yes says2 b, says-no says3 n)

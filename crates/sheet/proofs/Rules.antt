@@ -11,12 +11,12 @@ use native.Mathlib.Omega.{arith}
 use Rattle.octets.specs.Bytes.{numAt}
 use Rattle.sheet.specs.Demand.{Tells, breach}
 use Rattle.sheet.specs.First.{first, orElse}
-use Rattle.sheet.specs.Kind.{regions, properties, groups, byKind, kinds}
+use Rattle.sheet.specs.Kind.{regions, properties, groups, users, byKind, kinds, OfKind}
 use Rattle.sheet.specs.Layout.{_of_}
 use Rattle.sheet.specs.Head as head
 use Rattle.sheet.specs.Property as property
 use Rattle.sheet.specs.Entries.{count, size, base, place, contents, entry, floor, floorAfter, offsetOf, lengthOf, sixBits, bodyEnd, startOf, reached}
-use Rattle.sheet.specs.Rules.{regionDemands, propertyDemands, groupDemands, entryDemands, bodyDemands, endDemands, frameDemands, zeroDemands, entryRule, bodyRule, entriesRule, bodiesRule, walkRule, ruleIn, ruleOf, edition}
+use Rattle.sheet.specs.Rules.{regionDemands, propertyDemands, groupDemands, entryDemands, bodyDemands, endDemands, frameDemands, zeroDemands, entryRule, bodyRule, entriesRule, bodiesRule, restRule, walkRule, ruleIn, ruleOf, edition}
 use Rattle.sheet.specs.Walk.{Framed, Entry, Counted, lastOf, long, far, Late, Next, VerdictOf, Steps}
 use Rattle.sheet.specs.declared.judge.Verdict.{Verdict}
 use Rattle.sheet.proofs.Demands.{told, met, unbroken as all-unbroken}
@@ -35,7 +35,8 @@ above : (j l f r : ℕ) (e : List ℕ) → l ≡ lastOf j f → Tells r (byKind 
 above zero l f r e q t = rw (← q) t
 above (suc zero) l f r e q t =
     (t .0, λ h. (λ b. t .1 h .0 (omega arith), λ b. t .1 h .1 (omega (arith, id-low e))))
-above (suc (suc j)) l f r e q t = (t .0, λ h. (λ b. t .1 h .0 (omega arith), λ b. t .1 h .1 (omega arith)))
+above (suc (suc (suc j))) l f r e q t = rw (← q) t
+above (suc (suc zero)) l f r e q t = (t .0, λ h. (λ b. t .1 h .0 (omega arith), λ b. t .1 h .1 (omega arith)))
 
 -- an entry of a kind, where the kind is known
 module _ (s : List ℕ) (k i j : ℕ) (q : k ≡ j) where
@@ -76,6 +77,11 @@ module _ (s : List ℕ) (k i : ℕ) (e : List ℕ) (a l z late : ℕ) (r : Verdi
       → VerdictOf (regionDemands l e) (floorAfter regions e) late (offsetOf regions e) z 0 (lengthOf regions e) (a + size regions) r → Steps s k i z late r
   unfolding sixBits
   says-region q ee v = says s k i regions q e a l z late r ee ea el v
+
+  pub says-user : k ≡ users → e ≡ entry s users i
+      → VerdictOf (regionDemands l e) (floorAfter regions e) late (offsetOf regions e) z 0 (lengthOf regions e) (a + size regions) r → Steps s k i z late r
+  unfolding sixBits
+  says-user q ee v = says s k i users q e a l z late r ee ea el v
 
   pub says-property : k ≡ properties → e ≡ entry s properties i
       → VerdictOf (propertyDemands (l + 1) e) (lastOf properties (floorAfter properties e)) late (offsetOf properties e) z 0 (lengthOf properties e) (a + size properties) r → Steps s k i z late r
@@ -163,7 +169,8 @@ module _ (s : List ℕ) where
         go : (k : ℕ) → lastOf k 0 ≡ 0
         go zero = refl
         go (suc zero) = refl
-        go (suc (suc k)) = refl
+        go (suc (suc zero)) = refl
+        go (suc (suc (suc k))) = refl
 
     pub pass-begins : Walked s k a z late → Counted s k n → Passed s k n a 0 z late 0
     unfolding floor reached
@@ -242,31 +249,42 @@ module _ (s : List ℕ) where
             near = omega (arith, h .near, h .few);
           }
 
+-- all kinds say what those before the user regions say, and then these
+all-kinds : (s : List ℕ) → first (entriesRule s) kinds ≡ orElse (first (entriesRule s) users) (entriesRule s users)
+all-kinds s = first-suc (entriesRule s) users
+
 -- where the walk leaves
 module _ (s : List ℕ) (r : ℕ) where
-  pub left-at : (k n a l z late i a₀ z₀ late₀ : ℕ) (e : Verdict) → Walked s k a₀ z₀ late₀ → Passed s k n a l z late i → k < kinds → i < n
-      → Steps s k i z late e → r ≡ e .rule → (r ≡ 0 → ⊥) → r ≡ walkRule s
-  unfolding walkRule
-  left-at k n a l z late i a₀ z₀ late₀ e w v hk hi u q h = rw (← all) (sym (orElse-some r _ h))
+  pub left-at : (k n a l z late i a₀ z₀ late₀ x : ℕ) (e : Verdict) → Walked s k a₀ z₀ late₀ → Passed s k n a l z late i → k < kinds → i < n
+      → Steps s k i z late e → x ≡ e .rule → (x ≡ 0 → ⊥) → r ≡ orElse (entriesRule s users) x → r ≡ walkRule s
+  unfolding walkRule restRule
+  left-at k n a l z late i a₀ z₀ late₀ x e w v hk hi u q h t = t ∙ go (first (entriesRule s) users) refl
     where
-      here : r ≡ entryRule s k i
+      here : x ≡ entryRule s k i
       here = unfold entryRule in q ∙ told _ _ (u .is .rule)
 
-      kind : r ≡ entriesRule s k
-      kind = unfold entriesRule in rw (← v .whole) (here ∙ first-stop (entryRule s k) n i hi (v .clean) (λ x. h (here ∙ x)))
+      kind : x ≡ entriesRule s k
+      kind = unfold entriesRule in rw (← v .whole) (here ∙ first-stop (entryRule s k) n i hi (v .clean) (λ y. h (here ∙ y)))
 
-      all : r ≡ first (entriesRule s) kinds
-      all = kind ∙ first-stop (entriesRule s) kinds k hk (w .clean) (λ x. h (kind ∙ x))
+      all : x ≡ orElse (first (entriesRule s) users) (entriesRule s users)
+      all = kind ∙ first-stop (entriesRule s) kinds k hk (w .clean) (λ y. h (kind ∙ y)) ∙ all-kinds s
+
+      go : (f : ℕ) → first (entriesRule s) users ≡ f → orElse (entriesRule s users) x ≡ orElse (entriesRule s users) (orElse f (orElse (first (bodiesRule s) kinds) (breach (endDemands s))))
+      go zero e =
+          let y : x ≡ entriesRule s users = all ∙ rw e in
+          let z : entriesRule s users ≡ 0 → ⊥ = λ o. h (y ∙ o) in
+          orElse-some _ x z ∙ sym (orElse-some _ _ z)
+      go (suc f) e = let y : x ≡ suc f = all ∙ rw e in rw y
 
   pub at-end : (k a z late : ℕ) → Walked s k a z late → kinds ≤ k → ((late ≡ 0 → ⊥) → r ≡ 9) × (late ≡ 0 → z ≡ startOf s kinds → Tells r (endDemands s)) → r ≡ walkRule s
-  unfolding walkRule
-  at-end k a z late w h u = rw c (go (decLt 0 late))
+  unfolding walkRule restRule
+  at-end k a z late w h u = rw (orElse-right (first (entriesRule s) users) (entriesRule s users) none, orElse-left (first (entriesRule s) users) (entriesRule s users) none) (go (decLt 0 late))
     where
       q : k ≡ kinds
       q = omega (arith, w .within)
 
-      c : first (entriesRule s) kinds ≡ 0
-      c = rw q at (w .clean)
+      none : orElse (first (entriesRule s) users) (entriesRule s users) ≡ 0
+      none = sym (all-kinds s) ∙ (rw q at (w .clean))
 
       b : Alike late (first (bodiesRule s) kinds)
       b = rw q at (w .broken)
@@ -280,15 +298,55 @@ module _ (s : List ℕ) (r : ℕ) where
           let nine : first (bodiesRule s) kinds ≡ 9 = broken-ninth (first-ninth (bodiesRule s) (bodies-ninth s) kinds) (λ x. some (b .even x)) in
           rw nine (u .0 some)
 
-  pub in-frame : Tells r (frameDemands 1 s) → (r ≡ 0 → ⊥) → r ≡ ruleOf s
+  pub in-frame : Tells r (frameDemands edition s) → (r ≡ 0 → ⊥) → r ≡ ruleOf s
   unfolding ruleIn
   in-frame t h = rw (← told _ _ t) (sym (orElse-some r _ h))
 
-  pub in-zeros : (f : ℕ) → Tells f (frameDemands 1 s) → f ≡ 0 → Tells r (zeroDemands s) → (r ≡ 0 → ⊥) → r ≡ ruleOf s
+  pub in-zeros : (f : ℕ) → Tells f (frameDemands edition s) → f ≡ 0 → Tells r (zeroDemands s) → (r ≡ 0 → ⊥) → r ≡ ruleOf s
   unfolding ruleIn
   in-zeros f t e u h = rw (← told _ _ t, e, ← told _ _ u) (sym (orElse-some r _ h))
 
   pub in-walk :
-      (f z : ℕ) → Tells f (frameDemands 1 s) → f ≡ 0 → Tells z (zeroDemands s) → z ≡ 0 → r ≡ walkRule s → r ≡ ruleOf s
+      (f z : ℕ) → Tells f (frameDemands edition s) → f ≡ 0 → Tells z (zeroDemands s) → z ≡ 0 → r ≡ walkRule s → r ≡ ruleOf s
   unfolding ruleIn
   in-walk f z t e u q w = rw (← told _ _ t, e, ← told _ _ u, q) w
+
+-- THE INVARIANT of the loop over the user regions alone: none before this one has broken S6
+pub record Ordered (s : List ℕ) (n a l i : ℕ) : Type 0 where
+  pub within : i ≤ n
+  pub whole : n ≡ count s users
+  pub at : a ≡ place s users i
+  pub clean : first (entryRule s users) i ≡ 0
+  pub last : l ≡ lastOf users (floor s users i)
+
+pub users-first : (s : List ℕ) (f x r : ℕ) → f ≡ entriesRule s users → (f ≡ 0 → ⊥) → r ≡ f → r ≡ orElse (entriesRule s users) x
+users-first s f x r e h q = q ∙ rw (← e) (sym (orElse-some f x h))
+
+pub users-passed : (s : List ℕ) (f x : ℕ) → f ≡ entriesRule s users → f ≡ 0 → x ≡ orElse (entriesRule s users) x
+users-passed s f x e h = rw (← e, h)
+
+module _ (s : List ℕ) (n : ℕ) where
+  pub users-begin : (a : ℕ) → Counted s users n → OfKind a users (place s 0 0) (place s 1 0) (place s 2 0) (place s 3 0) → Ordered s n a 0 0
+  unfolding floor
+  users-begin a m o = record { within = omega arith; whole = m .is; at = o .user (omega arith); clean = first-none _; last = refl }
+
+  module _ (a l i : ℕ) (h : Ordered s n a l i) where
+    pub users-entry : Framed edition s → i < n → Entry s users i
+    users-entry fr hi = record { framed = fr; kind = omega arith; below = omega (arith, h .whole) }
+
+    module _ (e : Verdict) (hi : i < n) (u : Steps s users i 0 0 e) where
+      pub users-go : e .rule ≡ 0 → Ordered s n (e .at) (e .last) (i + 1)
+      unfolding entryRule
+      users-go q =
+          let x = u .is .next q in
+          record { within = omega arith; whole = h .whole; at = x .at; clean = first-more _ _ (h .clean) (sym (told _ _ (u .is .rule)) ∙ q); last = x .last }
+
+      pub users-left : (r : ℕ) → r ≡ e .rule → (r ≡ 0 → ⊥) → r ≡ entriesRule s users
+      users-left r q z = unfold entriesRule in rw (← h .whole) (here ∙ first-stop (entryRule s users) n i hi (h .clean) (λ x. z (here ∙ x)))
+        where
+          here : r ≡ entryRule s users i
+          here = unfold entryRule in q ∙ told _ _ (u .is .rule)
+
+    pub users-end : n ≤ i → 0 ≡ entriesRule s users
+    unfolding entriesRule
+    users-end y = let e : i ≡ count s users = omega (arith, h .within, h .whole) in rw (← e) (sym (h .clean))

@@ -10,7 +10,7 @@ use native.Mathlib.Decide.{decLt}
 use native.Mathlib.Omega.{arith}
 use borrow.Author.Tests.{le-leb, leb-true, lt-ltb, le-ltb, ltb-true}
 use Rattle.octets.specs.Splice.{splice}
-use Rattle.sheet.specs.Kind.{regions, properties, groups, kindOf}
+use Rattle.sheet.specs.Kind.{regions, properties, groups, users, kindOf}
 use Rattle.sheet.specs.Layout.{_of_}
 use Rattle.sheet.specs.Region as region
 use Rattle.sheet.specs.Entries.{count, keyOf, floor, bodyAt, bodyEnd, InBody}
@@ -20,7 +20,7 @@ use Rattle.sheet.specs.Frame.{Agree}
 use Rattle.sheet.specs.Rules.{Accepted}
 use Rattle.sheet.specs.Stores.{Inside}
 use Rattle.sheet.specs.declared.Memory.{Memory}
-use Rattle.sheet.specs.declared.Memory.the-variants.{Device}
+use Rattle.sheet.specs.declared.Memory.the-variants.{Device, User}
 use Rattle.sheet.specs.declared.Run.the-variants.{At, Nowhere}
 use Rattle.sheet.proofs.Good.{Good, good, accepted}
 use Rattle.sheet.proofs.Keys.{past-floor}
@@ -96,17 +96,23 @@ module _ {s : List ℕ} {m : Memory} {a n o l : ℕ} (r : Ranged s m a n o l) wh
 -- memories have kinds of their own, and a region is no property and no group object
 pub kind-once : (m m′ : Memory) → kindOf m ≡ kindOf m′ → m ≡ m′
 kind-once Device Device e = refl
+kind-once Device User e = absurd (omega arith)
+kind-once User Device e = absurd (omega arith)
+kind-once User User e = refl
 
 pub no-property : (m : Memory) → kindOf m ≡ properties → ⊥
 no-property Device e = omega arith
+no-property User e = omega arith
 
 pub no-group : (m : Memory) → kindOf m ≡ groups → ⊥
 no-group Device e = omega arith
+no-group User e = omega arith
 
 -- the bodies of a memory's regions
 in-body : (s : List ℕ) (m : Memory) (i p n : ℕ) → i < count s (kindOf m) → region.offset of regionAt s m i ≤ p → p + n ≤ region.offset of regionAt s m i + region.length of regionAt s m i → Inside s (kindOf m) i p n
 unfolding bodyAt bodyEnd
 in-body s Device i p n h f t = record { kind = omega arith; below = h; from = f; to = t }
+in-body s User i p n h f t = record { kind = omega arith; below = h; from = f; to = t }
 
 module _ {s : List ℕ} (g : Good s) where
   -- a region ends before a later one of its memory begins
@@ -115,6 +121,7 @@ module _ {s : List ℕ} (g : Good s) where
       region.address of regionAt s m i + region.length of regionAt s m i ≤ region.address of regionAt s m j
   unfolding floor keyOf
   regions-apart Device i j h l = past-floor g regions (omega arith) i j h l
+  regions-apart User i j h l = past-floor g users (omega arith) i j h l
 
   module _ (m : Memory) where
     -- two regions that share an address are one

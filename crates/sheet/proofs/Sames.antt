@@ -6,7 +6,8 @@ use mathlib.Core.List.{List}
 use lib.ListN.{getD}
 use native.Mathlib.Omega.{arith}
 use Rattle.octets.proofs.Numbers.{num-same}
-use Rattle.sheet.specs.Kind.{kinds, regions, properties, groups, kindOf}
+use Rattle.sheet.specs.Rules.{edition}
+use Rattle.sheet.specs.Kind.{kinds, regions, properties, groups, users, kindOf}
 use Rattle.sheet.specs.Layout.{Field, _of_}
 use Rattle.sheet.specs.Head as head
 use Rattle.sheet.specs.Head.{rulesOf}
@@ -17,18 +18,20 @@ use Rattle.sheet.specs.Entries.{count, size, base, place, contents, entr
 use Rattle.sheet.specs.Frame.{Agree, Fixed}
 use Rattle.sheet.specs.Places.{regionAt}
 use Rattle.sheet.specs.declared.Memory.{Memory}
-use Rattle.sheet.specs.declared.Memory.the-variants.{Device}
+use Rattle.sheet.specs.declared.Memory.the-variants.{Device, User}
 use Rattle.sheet.proofs.ByKind.{eachKind}
 
--- by the first six bytes of the head alone
-module _ (s s′ : List ℕ) (front : (p : ℕ) → p < head.serial .at → getD s′ p 0 ≡ getD s p 0) where
+-- by the first six bytes of the head and byte 15 alone
+module _ (s s′ : List ℕ) (front : (p : ℕ) → p < head.serial .at → getD s′ p 0 ≡ getD s p 0)
+    (fifteen : head.byte15 of s′ ≡ head.byte15 of s) where
   field-front : (f : Field) → f .at + f .width ≤ head.serial .at → f of s′ ≡ f of s
   field-front f h = num-same s′ s (f .at) (f .at) (f .width) (λ i l. front (f .at + i) (omega arith))
 
   count-front : (k : ℕ) → count s′ k ≡ count s k
   count-front zero = field-front head.regions (omega arith)
   count-front (suc zero) = field-front head.properties (omega arith)
-  count-front (suc (suc k)) = field-front head.groups (omega arith)
+  count-front (suc (suc zero)) = field-front head.groups (omega arith)
+  count-front (suc (suc (suc k))) = rw (field-front head.edition (omega arith), fifteen)
 
   base-front : (k : ℕ) → base s′ k ≡ base s k
   base-front zero = refl
@@ -41,7 +44,7 @@ module _ (s s′ : List ℕ) (front : (p : ℕ) → p < head.serial .at → getD
 module _ {s s′ : List ℕ} (a : Agree s s′) where
   -- a field of the head before the serial
   pub front-same : (f : Field) → f .at + f .width ≤ head.serial .at → f of s′ ≡ f of s
-  front-same = field-front s s′ (a .front)
+  front-same = field-front s s′ (a .front) (a .byte15)
 
   -- the number of the rules
   pub rules-same : rulesOf s′ ≡ rulesOf s
@@ -50,15 +53,19 @@ module _ {s s′ : List ℕ} (a : Agree s s′) where
 
   -- the number of entries of a kind
   pub count-same : (k : ℕ) → count s′ k ≡ count s k
-  count-same = count-front s s′ (a .front)
+  count-same = count-front s s′ (a .front) (a .byte15)
 
   -- where an entry stands
   pub place-same : (k i : ℕ) → place s′ k i ≡ place s k i
-  place-same = place-front s s′ (a .front)
+  place-same = place-front s s′ (a .front) (a .byte15)
+
+  -- byte 15 of edition 1
+  pub spare-same : head.spare s′ ≡ head.spare s
+  spare-same = rw (front-same head.edition (omega arith), a .byte15)
 
   -- where the contents end
   pub contents-same : contents s′ ≡ contents s
-  contents-same = base-front s s′ (a .front) kinds
+  contents-same = base-front s s′ (a .front) (a .byte15) kinds
 
   -- a field of an entry that is no part of a property's count
   pub field-same :
@@ -71,6 +78,7 @@ module _ {s s′ : List ℕ} (a : Agree s s′) where
   -- any field of a region of a memory, and of a group object
   pub region-same : (m : Memory) (i : ℕ) (f : Field) → i < count s (kindOf m) → f .at + f .width ≤ region.size → f of regionAt s′ m i ≡ f of regionAt s m i
   region-same Device i f h l = field-same regions i f (omega arith) h l (λ j m. omega arith)
+  region-same User i f h l = field-same users i f (omega arith) h l (λ j m. omega arith)
 
   pub group-same : (i : ℕ) (f : Field) → i < count s groups → f .at + f .width ≤ group.size → f of entry s′ groups i ≡ f of entry s groups i
   group-same i f h l = field-same groups i f (omega arith) h l (λ j m. omega arith)
@@ -89,6 +97,7 @@ module _ {s s′ : List ℕ} (a : Agree s s′) where
       (λ h. region-same Device i region.address h (omega arith))
       (λ h. property-same i property.objectId h (omega arith) (omega arith))
       (λ h. group-same i group.address h (omega arith))
+      (λ h. region-same User i region.address h (omega arith))
 
   -- what it leaves to the next
   pub after-same : (i k : ℕ) → k < kinds → i < count s k → floorAfter k (entry s′ k i) ≡ floorAfter k (entry s k i)
@@ -97,6 +106,7 @@ module _ {s s′ : List ℕ} (a : Agree s s′) where
       (λ h. rw (region-same Device i region.address h (omega arith), region-same Device i region.length h (omega arith)))
       (λ h. rw (property-same i property.objectId h (omega arith) (omega arith)))
       (λ h. rw (group-same i group.address h (omega arith)))
+      (λ h. rw (region-same User i region.address h (omega arith), region-same User i region.length h (omega arith)))
 
   -- what the entry before leaves to it
   pub floor-same : (k i : ℕ) → k < kinds → i < count s k → floor s′ k i ≡ floor s k i
@@ -111,6 +121,7 @@ module _ {s s′ : List ℕ} (a : Agree s s′) where
       (λ h. region-same Device i region.offset h (omega arith))
       (λ h. property-same i property.offset h (omega arith) (omega arith))
       (λ h. group-same i group.offset h (omega arith))
+      (λ h. region-same User i region.offset h (omega arith))
 
   pub length-same : (i k : ℕ) → k < kinds → i < count s k → lengthOf k (entry s′ k i) ≡ lengthOf k (entry s k i)
   length-same i =
@@ -118,6 +129,7 @@ module _ {s s′ : List ℕ} (a : Agree s s′) where
       (λ h. region-same Device i region.length h (omega arith))
       (λ h. rw (property-same i property.element h (omega arith) (omega arith), property-same i property.maximum h (omega arith) (omega arith)))
       (λ h. rw (group-same i group.code h (omega arith)))
+      (λ h. region-same User i region.length h (omega arith))
 
   -- where a body starts, and where it ends
   pub at-same : (k i : ℕ) → k < kinds → i < count s k → bodyAt s′ k i ≡ bodyAt s k i

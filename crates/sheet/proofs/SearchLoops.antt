@@ -42,7 +42,8 @@ pub key-word : (s : List ℕ) (k i : ℕ) → region.address of entry s k i ≡ 
 unfolding keyOf
 key-word s zero i = refl
 key-word s (suc zero) i = refl
-key-word s (suc (suc k)) i = refl
+key-word s (suc (suc zero)) i = refl
+key-word s (suc (suc (suc k))) i = refl
 
 pub key-of : (s : List ℕ) (k i : ℕ) (e : List ℕ) (r : ℕ) → e ≡ entry s k i → r ≡ region.address of e → r ≡ keyOf s k i
 key-of s k i e r q p = p ∙ ap (λ (l : List ℕ). region.address of l) q ∙ key-word s k i
@@ -50,6 +51,6 @@ key-of s k i e r q p = p ∙ ap (λ (l : List ℕ). region.address of l) q ∙ k
 -- the body of an entry lies within the sheet
 pub body-end :
     (s : List ℕ) (k i n : ℕ) (e : List ℕ) (a z : ℕ) → Accepted s → k < kinds → Counted s k n → i < n → e ≡ entry s k i → a ≡ offsetOf k e
-    → OfKind z k (lengthOf 0 e) (lengthOf 1 e) (lengthOf 2 e) → a + z ≤ length s
+    → OfKind z k (lengthOf 0 e) (lengthOf 1 e) (lengthOf 2 e) (lengthOf 3 e) → a + z ≤ length s
 unfolding bodyEnd
 body-end s k i n e a z ok hk c h ee ea ez = rw (ea, kinded ez, ee) (within (good s ok) k i hk (omega (arith, c .is)))

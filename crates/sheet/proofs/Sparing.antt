@@ -24,7 +24,7 @@ use Rattle.sheet.proofs.PlainRows.{six-to}
 pub record Mild (s s′ : List ℕ) : Type 0 where
   pub long : length s′ ≡ length s
   pub front : (p : ℕ) → p < head.serial .at → getD s′ p 0 ≡ getD s p 0
-  pub zero15 : head.zero15 of s′ ≡ head.zero15 of s
+  pub byte15 : head.byte15 of s′ ≡ head.byte15 of s
   pub zero30 : head.zero30 of s′ ≡ head.zero30 of s
   pub zero31 : head.zero31 of s′ ≡ head.zero31 of s
   pub flags : head.flags of s′ ≤ 3
@@ -56,13 +56,13 @@ module _ {s : List ℕ} (g : Good s) where
       record {
         long = m .long;
         front = m .front;
-        zero15 = m .zero15;
+        byte15 = m .byte15;
         zero30 = m .zero30;
         zero31 = m .zero31;
         flags = (λ h. m .flags, λ h. g .zeros .0);
         fixed = λ k i j hk hi hj f.
             entry-at s′ k i j hj
-            ∙ ap (λ (p : ℕ). getD s′ (p + j) 0) (place-front s s′ (m .front) k i)
+            ∙ ap (λ (p : ℕ). getD s′ (p + j) 0) (place-front s s′ (m .front) (m .byte15) k i)
             ∙ m .entries k i j hk hi hj f
             ∙ sym (entry-at s k i j hj);
         counts = λ i h. (λ l. new i h, λ l. old-count i h);
@@ -71,4 +71,4 @@ module _ {s : List ℕ} (g : Good s) where
     where
       new : (i : ℕ) → i < count s properties → property.count of entry s′ properties i ≤ property.maximum of entry s properties i
       new i h =
-          rw (field-at s′ properties i property.count (omega arith), place-front s s′ (m .front) properties i) (m .counts i h)
+          rw (field-at s′ properties i property.count (omega arith), place-front s s′ (m .front) (m .byte15) properties i) (m .counts i h)

@@ -33,7 +33,7 @@ body-store {s} ok k i o ds inside fit =
     (record {
       long = length-splice s o ds room;
       front = λ p h. early p (omega arith);
-      zero15 = field head.zero15 (omega arith);
+      byte15 = field head.byte15 (omega arith);
       zero30 = field head.zero30 (omega arith);
       zero31 = field head.zero31 (omega arith);
       flags = rw (field head.flags (omega arith)) (g .zeros .0);
@@ -79,13 +79,13 @@ body-store {s} ok k i o ds inside fit =
 -- a store to the head that misses what the rules read there, but for the flags
 head-store :
     {s : List ℕ} → Good s → (o : ℕ) (ds : List ℕ) → head.serial .at ≤ o → o + length ds ≤ head.zero30 .at →
-    (head.address .at ≤ o) ⊎ (o + length ds ≤ head.zero15 .at) → head.flags of splice s o ds ≤ 3 → Agree s (splice s o ds)
+    (head.address .at ≤ o) ⊎ (o + length ds ≤ head.byte15 .at) → head.flags of splice s o ds ≤ 3 → Agree s (splice s o ds)
 head-store {s} g o ds low high miss flags =
     mild g
     (record {
       long = length-splice s o ds room;
       front = λ p h. splice-below s o ds room p (omega arith);
-      zero15 = splice-num-outside s o ds room (head.zero15 .at) (head.zero15 .width) miss;
+      byte15 = splice-num-outside s o ds room (head.byte15 .at) (head.byte15 .width) miss;
       zero30 = splice-num-outside s o ds room (head.zero30 .at) (head.zero30 .width) (inr high);
       zero31 = splice-num-outside s o ds room (head.zero31 .at) (head.zero31 .width) (inr (omega arith));
       flags = flags;

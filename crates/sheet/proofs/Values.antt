@@ -9,12 +9,14 @@ use native.Mathlib.Decide.{decLt}
 use native.Mathlib.Omega.{arith}
 use borrow.Author.Tests.{eq-eqb, ne-eqb, lt-ltb, le-ltb}
 use Rattle.octets.proofs.Numbers.{num-below}
-use Rattle.sheet.specs.Kind.{kinds, regions, properties, groups}
+use Rattle.sheet.specs.Kind.{kinds, regions, properties, groups, users, kindOf}
 use Rattle.sheet.specs.Property as property
 use Rattle.sheet.specs.Entries.{count, place, entry, keyOf, offsetOf, lengthOf, bodyAt, bodyEnd}
 use Rattle.sheet.specs.Rules.{ruleOf, Accepted, isAccepted}
-use Rattle.sheet.specs.Lookup.{indexOf, bodyOf, bodyFrom, lookup, lookupFrom, regionOf, regionFrom, propertyOf, propertyFrom, groupOf, groupFrom}
+use Rattle.sheet.specs.Lookup.{indexOf, bodyOf, bodyFrom, lookup, lookupFrom, regionOf, regionFrom, userRegionOf, userRegionFrom, propertyOf, propertyFrom, groupOf, groupFrom}
 use Rattle.sheet.specs.Places.{PropertyWith}
+use Rattle.sheet.specs.declared.Memory.{Memory}
+use Rattle.sheet.specs.declared.Memory.the-variants.{Device, User}
 use Rattle.sheet.specs.Values.{IsBody, RegionWith, GroupWith, Handed, body, nothing, unaccepted}
 use Rattle.sheet.proofs.Good.{good}
 use Rattle.sheet.proofs.Keys.{index-hit, index-key, key-is, key-parts}
@@ -67,10 +69,17 @@ module _ (s : List ℕ) (k i : ℕ) where
 
 module _ (s : List ℕ) where
   -- THE LOOKUP OF A REGION BY ITS NUMBER
-  pub region-handed : (number : ℕ) → Handed s regions (RegionWith s number) (regionOf s number) (regionFrom s number)
-  region-handed number =
-      handed s regions number (RegionWith s number) (omega arith) (λ ok h. record { there = h; sameNumber = refl })
+  region-of : (m : Memory) → kindOf m < kinds → (number : ℕ) → Handed s (kindOf m) (RegionWith s m number) (lookup s (kindOf m) number) (lookupFrom s (kindOf m) number)
+  region-of m h number =
+      handed s (kindOf m) number (RegionWith s m number) h (λ ok h. record { there = h; sameNumber = refl })
       (λ ok j a. (a .there, a .sameNumber))
+
+  pub region-handed : (number : ℕ) → Handed s regions (RegionWith s Device number) (regionOf s number) (regionFrom s number)
+  region-handed number = region-of Device (omega arith) number
+
+  -- AND OF A USER REGION BY ITS NUMBER
+  pub user-region-handed : (number : ℕ) → Handed s users (RegionWith s User number) (userRegionOf s number) (userRegionFrom s number)
+  user-region-handed number = region-of User (omega arith) number
 
   -- THE LOOKUP OF A GROUP OBJECT BY ITS ADDRESS
   pub group-handed : (address : ℕ) → Handed s groups (GroupWith s address) (groupOf s address) (groupFrom s address)

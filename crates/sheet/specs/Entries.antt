@@ -15,7 +15,10 @@ use Rattle.sheet.specs.Group as group
 
 -- how many entries of a kind there are, and how long one is
 abbrev pub count : List ℕ → ℕ → ℕ
-count s k = byKind k (head.regions of s) (head.properties of s) (head.groups of s)
+count s zero = head.regions of s
+count s (suc zero) = head.properties of s
+count s (suc (suc zero)) = head.groups of s
+count s (suc (suc (suc k))) = head.users s
 
 abbrev pub size : ℕ → ℕ
 size k = byKind k region.size property.size group.size

@@ -1,6 +1,8 @@
 -- The head of a sheet.
 -- Assumes nothing.
 use Prim.Native.Nat.{ℕ, _+_, _*_, _/_, _%_}
+use mathlib.Core.Bool.{cond}
+use lib.Dec.{eqb}
 use mathlib.Core.List.{List}
 use Rattle.sheet.specs.Layout.{Field, field, _of_}
 
@@ -31,8 +33,9 @@ mask = field 12 2
 abbrev pub flags : Field
 flags = field 14 1
 
-abbrev pub zero15 : Field
-zero15 = field 15 1
+-- the number of user regions in edition 2, zero in edition 1
+abbrev pub byte15 : Field
+byte15 = field 15 1
 
 abbrev pub address : Field
 address = field 16 2
@@ -50,6 +53,13 @@ zero31 = field 31 1
 -- THE NUMBER OF THE RULES that a sheet asks for: they are 0 so far
 unfoldable pub rulesOf : List ℕ → ℕ
 rulesOf s = 0
+
+-- how many user regions there are, and what byte 15 is beside that
+abbrev pub users : List ℕ → ℕ
+users s = cond (eqb (edition of s) 2) (byte15 of s) 0
+
+abbrev pub spare : List ℕ → ℕ
+spare s = cond (eqb (edition of s) 2) 0 (byte15 of s)
 
 -- the flags: bit 0 programming mode, bit 1 verify
 abbrev pub programming : List ℕ → ℕ

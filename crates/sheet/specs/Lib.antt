@@ -8,6 +8,7 @@ pub mod Property
 pub mod Group
 pub mod Entries
 pub mod Rules
+pub mod Before
 pub mod Walk
 pub mod Plain
 pub mod Lookup

@@ -7,7 +7,7 @@ use mathlib.Core.Bool.{Bool, true, false, cond, _&&_}
 use lib.ListN.{length, take, drop}
 use lib.Dec.{ltb, leb, eqb}
 use denote.Ref.{RefT}
-use Rattle.sheet.specs.Kind.{regions, properties, groups, kindOf}
+use Rattle.sheet.specs.Kind.{regions, properties, groups, users, kindOf}
 use Rattle.sheet.specs.Layout.{_of_}
 use Rattle.sheet.specs.Region as region
 use Rattle.sheet.specs.Property as property
@@ -62,6 +62,9 @@ pub record StandsIn (s : List ℕ) (r : Part) (bytes : List ℕ) (from : ℕ) : 
 abbrev pub regionOf : List ℕ → ℕ → List ℕ
 regionOf s k = lookup s regions k
 
+abbrev pub userRegionOf : List ℕ → ℕ → List ℕ
+userRegionOf s k = lookup s users k
+
 abbrev pub propertyOf : List ℕ → ℕ → ℕ → List ℕ
 propertyOf s object id = lookup s properties (indexOf s properties (object * 256 + id))
 
@@ -70,6 +73,9 @@ groupOf s address = lookup s groups (indexOf s groups address)
 
 abbrev pub regionFrom : List ℕ → ℕ → ℕ
 regionFrom s k = lookupFrom s regions k
+
+abbrev pub userRegionFrom : List ℕ → ℕ → ℕ
+userRegionFrom s k = lookupFrom s users k
 
 abbrev pub propertyFrom : List ℕ → ℕ → ℕ → ℕ
 propertyFrom s object id = lookupFrom s properties (indexOf s properties (object * 256 + id))

@@ -5,7 +5,7 @@ use mathlib.Core.Path.{_≡_}
 use mathlib.Core.List.{List}
 use lib.ListN.{length}
 use Rattle.octets.specs.Bytes.{numAt}
-use Rattle.sheet.specs.Kind.{regions, properties, groups, kinds}
+use Rattle.sheet.specs.Kind.{regions, properties, groups, users, kinds}
 use Rattle.sheet.specs.Layout.{_of_}
 use Rattle.sheet.specs.Head as head
 use Rattle.sheet.specs.Region as region
@@ -17,16 +17,16 @@ abbrev pub S1 : List ℕ → Type 0
 S1 s = (32 ≤ length s) × (length s ≤ 16384)
 
 abbrev pub S2 : ℕ → List ℕ → Type 0
-S2 ed s = head.edition of s ≡ ed
+S2 ed s = (1 ≤ head.edition of s) × (head.edition of s ≤ ed)
 
 abbrev pub S3 : List ℕ → Type 0
-S3 s = (count s regions ≤ 16) × (count s properties ≤ 64) × (count s groups ≤ 64)
+S3 s = (count s regions ≤ 16) × (count s properties ≤ 64) × (count s groups ≤ 64) × (count s users ≤ 16)
 
 abbrev pub S4 : List ℕ → Type 0
 S4 s = (head.stated of s ≡ length s) × (contents s ≤ length s)
 
 abbrev pub S5 : List ℕ → Type 0
-S5 s = (head.zero15 of s ≡ 0) × (head.zero30 of s ≡ 0) × (head.zero31 of s ≡ 0) × (head.flags of s ≤ 3)
+S5 s = (head.spare s ≡ 0) × (head.zero30 of s ≡ 0) × (head.zero31 of s ≡ 0) × (head.flags of s ≤ 3)
 
 -- levels: read in the high four bits, write in the low
 abbrev pub Levels : ℕ → Type 0
@@ -38,11 +38,15 @@ pub record Region (e : List ℕ) : Type 0 where
   pub levels : Levels (region.levels of e)
   pub zero : region.zero of e ≡ 0
 
-pub record S6 (s : List ℕ) : Type 0 where
-  pub each : (i : ℕ) → i < count s regions → Region (entry s regions i)
+-- the regions of a memory, ordered among themselves
+pub record Ordered (s : List ℕ) (k : ℕ) : Type 0 where
+  pub each : (i : ℕ) → i < count s k → Region (entry s k i)
   pub after :
-      (i : ℕ) → suc i < count s regions →
-      region.address of entry s regions i + region.length of entry s regions i ≤ region.address of entry s regions (suc i)
+      (i : ℕ) → suc i < count s k →
+      region.address of entry s k i + region.length of entry s k i ≤ region.address of entry s k (suc i)
+
+abbrev pub S6 : List ℕ → Type 0
+S6 s = Ordered s regions × Ordered s users
 
 pub record Property (e : List ℕ) : Type 0 where
   pub id : 1 ≤ property.id of e

@@ -8,7 +8,7 @@ use lib.Dec.{eqb}
 use lib.ListN.{length}
 use Rattle.sheet.specs.Demand.{Demand, _≼_, _≐_, _⦂_, breach}
 use Rattle.sheet.specs.First.{first, orElse}
-use Rattle.sheet.specs.Kind.{byKind, kinds}
+use Rattle.sheet.specs.Kind.{byKind, kinds, users}
 use Rattle.sheet.specs.Layout.{_of_}
 use Rattle.sheet.specs.Head as head
 use Rattle.sheet.specs.Region as region
@@ -21,10 +21,12 @@ abbrev pub frameDemands : ℕ → List ℕ → List Demand
 frameDemands ed s =
     (1 ⦂ head.size ≼ length s) ∷
     (1 ⦂ length s ≼ 16384) ∷
-    (2 ⦂ head.edition of s ≐ ed) ∷
+    (2 ⦂ 1 ≼ head.edition of s) ∷
+    (2 ⦂ head.edition of s ≼ ed) ∷
     (3 ⦂ head.regions of s ≼ 16) ∷
     (3 ⦂ head.properties of s ≼ 64) ∷
     (3 ⦂ head.groups of s ≼ 64) ∷
+    (3 ⦂ head.users s ≼ 16) ∷
     (4 ⦂ head.stated of s ≐ length s) ∷
     (4 ⦂ contents s ≼ length s) ∷
     []
@@ -33,7 +35,7 @@ frameDemands ed s =
 abbrev pub zeroDemands : List ℕ → List Demand
 zeroDemands s =
     (5 ⦂ head.flags of s ≼ 3) ∷
-    (5 ⦂ head.zero15 of s ≐ 0) ∷
+    (5 ⦂ head.spare s ≐ 0) ∷
     (5 ⦂ head.zero30 of s ≐ 0) ∷
     (5 ⦂ head.zero31 of s ≐ 0) ∷
     []
@@ -103,17 +105,21 @@ entriesRule s k = first (entryRule s k) (count s k)
 unfoldable pub bodiesRule : List ℕ → ℕ → ℕ
 bodiesRule s k = first (bodyRule s k) (count s k)
 
--- S6 to S9: the entries of all kinds, then the bodies of all kinds, then the end
+-- the entries of the kinds before the user regions, then the bodies of all kinds, then the end
+unfoldable pub restRule : List ℕ → ℕ
+restRule s = orElse (first (entriesRule s) users) (orElse (first (bodiesRule s) kinds) (breach (endDemands s)))
+
+-- S6 to S9: the user regions, whose rule is S6, and then the rest
 unfoldable pub walkRule : List ℕ → ℕ
-walkRule s = orElse (first (entriesRule s) kinds) (orElse (first (bodiesRule s) kinds) (breach (endDemands s)))
+walkRule s = orElse (entriesRule s users) (restRule s)
 
 -- the first rule of an edition that the sheet breaks, and 0 if it breaks none
 unfoldable pub ruleIn : ℕ → List ℕ → ℕ
 ruleIn ed s = orElse (breach (frameDemands ed s)) (orElse (breach (zeroDemands s)) (walkRule s))
 
--- the edition that sheets have
+-- the latest edition that sheets have: those before it are accepted too
 abbrev pub edition : ℕ
-edition = 1
+edition = 2
 
 -- THE FIRST RULE BROKEN, and 0 for an accepted sheet
 abbrev pub ruleOf : List ℕ → ℕ

@@ -4,20 +4,21 @@ use Prim.Native.Nat.{ℕ, _+_, _<_}
 use mathlib.Core.Path.{_≡_}
 use mathlib.Core.List.{List, []}
 use lib.ListN.{length, getD}
-use Rattle.sheet.specs.Kind.{regions, groups}
+use Rattle.sheet.specs.Kind.{groups, kindOf}
 use Rattle.sheet.specs.Layout.{_of_}
 use Rattle.sheet.specs.Group as group
 use Rattle.sheet.specs.Entries.{count, entry, bodyAt, bodyEnd}
 use Rattle.sheet.specs.Rules.{Accepted}
+use Rattle.sheet.specs.declared.Memory.{Memory}
 
 -- b is the body of entry i of kind k, from its first byte to its last
 pub record IsBody (s : List ℕ) (k i : ℕ) (b : List ℕ) : Type 0 where
   pub long : bodyAt s k i + length b ≡ bodyEnd s k i
   pub bytes : (j : ℕ) → j < length b → getD b j 0 ≡ getD s (bodyAt s k i + j) 0
 
--- entry i is the region of that number, the group object of that address (of a property: `PropertyWith` in Places.antt)
-pub record RegionWith (s : List ℕ) (number i : ℕ) : Type 0 where
-  pub there : i < count s regions
+-- entry i is the region of that number of a memory, the group object of that address (of a property: `PropertyWith` in Places.antt)
+pub record RegionWith (s : List ℕ) (m : Memory) (number i : ℕ) : Type 0 where
+  pub there : i < count s (kindOf m)
   pub sameNumber : i ≡ number
 
 pub record GroupWith (s : List ℕ) (address i : ℕ) : Type 0 where

@@ -55,7 +55,7 @@ pub record Starts (k : ℕ) (e : List ℕ) (r : ℕ) : Type 0 where
 
 -- and is r long
 pub record Long (k : ℕ) (e : List ℕ) (r : ℕ) : Type 0 where
-  pub is : OfKind r k (lengthOf 0 e) (lengthOf 1 e) (lengthOf 2 e)
+  pub is : OfKind r k (lengthOf 0 e) (lengthOf 1 e) (lengthOf 2 e) (lengthOf 3 e)
   pub below : r < 16777216
 
 -- what the next entry is judged against, its first word being at least f: a region by f, another by the one before f

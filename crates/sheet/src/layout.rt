@@ -22,7 +22,7 @@ pub mod head {
 
     pub const FLAGS: usize = 14;
 
-    pub const ZERO15: usize = 15;
+    pub const BYTE15: usize = 15;
 
     pub const ADDRESS: usize = 16;
 
@@ -95,5 +95,7 @@ pub mod kind {
 
     pub const GROUPS: usize = 2;
 
-    pub const ALL: usize = 3;
+    pub const USERS: usize = 3;
+
+    pub const ALL: usize = 4;
 }

@@ -24,6 +24,8 @@ pub use lookup::property;
 pub use lookup::property_part;
 pub use lookup::region;
 pub use lookup::region_part;
+pub use lookup::user_region;
+pub use lookup::user_region_part;
 pub use ranges::range;
 pub use records::count;
 pub use records::count_at;
@@ -43,6 +45,7 @@ pub struct Part {
 // A memory of the sheet: its regions are the entries of a kind.
 pub enum Memory {
     Device,
+    User,
 }
 
 // A run of sheet bytes that an address range is, with the levels that it stands under.

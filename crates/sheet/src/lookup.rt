@@ -5,7 +5,7 @@ ghost use lib.ListN.{length, take, drop};
 ghost use Rattle.sheet.specs.Kind.{kinds};
 ghost use Rattle.sheet.specs.Entries.{keyOf};
 ghost use Rattle.sheet.specs.Rules.{Accepted};
-ghost use Rattle.sheet.specs.Lookup.{PartOf, StandsIn, indexOf, bodyOf, bodyFrom, lookup, lookupFrom, regionOf, regionFrom, propertyOf, propertyFrom, groupOf, groupFrom};
+ghost use Rattle.sheet.specs.Lookup.{PartOf, StandsIn, indexOf, bodyOf, bodyFrom, lookup, lookupFrom, regionOf, regionFrom, userRegionOf, userRegionFrom, propertyOf, propertyFrom, groupOf, groupFrom};
 ghost use Rattle.sheet.specs.Walk.{Entry, Lower};
 use crate::Part;
 use crate::layout;
@@ -113,6 +113,13 @@ pub fn region_part(sheet: &[u8], k: usize) -> Part
     value(sheet, kind::REGIONS, k)
 }
 
+// Where the body of user region k stands, counted from 0.
+pub fn user_region_part(sheet: &[u8], k: usize) -> Part
+    ensures { λ r. ⌜ StandsIn (now (sheet .entry)) r (userRegionOf (now (sheet .entry)) k) (userRegionFrom (now (sheet .entry)) k) ⌝ }
+{
+    value(sheet, kind::USERS, k)
+}
+
 // Where the body of a property stands.
 pub fn property_part(sheet: &[u8], object: u8, id: u8) -> Part
     ensures { λ r. ⌜ StandsIn (now (sheet .entry)) r (propertyOf (now (sheet .entry)) object id) (propertyFrom (now (sheet .entry)) object id) ⌝ }
@@ -142,6 +149,13 @@ pub fn region(sheet: &[u8], k: usize) -> &[u8]
     ensures { λ r. ⌜ PartOf (sheet .entry) r (regionOf (now (sheet .entry)) k) (regionFrom (now (sheet .entry)) k) ⌝ }
 {
     cut(sheet, region_part(sheet, k))
+}
+
+// The body of user region k, counted from 0.
+pub fn user_region(sheet: &[u8], k: usize) -> &[u8]
+    ensures { λ r. ⌜ PartOf (sheet .entry) r (userRegionOf (now (sheet .entry)) k) (userRegionFrom (now (sheet .entry)) k) ⌝ }
+{
+    cut(sheet, user_region_part(sheet, k))
 }
 
 // The body of a property.

@@ -56,6 +56,7 @@ fn kind_of(m: Memory) -> usize
 {
     match m {
         Memory::Device => kind::REGIONS,
+        Memory::User => kind::USERS,
     }
 }
 

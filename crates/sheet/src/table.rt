@@ -5,6 +5,7 @@ ghost use lib.ListN.{length};
 ghost use Rattle.sheet.specs.Rules.{edition};
 ghost use Rattle.sheet.specs.Kind.{kinds, OfKind};
 ghost use Rattle.sheet.specs.Layout.{_of_};
+ghost use Rattle.sheet.specs.Head as head;
 ghost use Rattle.sheet.specs.Property as property;
 ghost use Rattle.sheet.specs.Entries.{size as sizeOf, place as placeOf, contents as contentsOf};
 ghost use Rattle.sheet.specs.Walk.{Framed, Entry, Counted, Shown, Starts, Long, Sized};
@@ -16,36 +17,51 @@ use crate::layout::region;
 use octets::byte;
 use octets::word;
 
-// How many entries of a kind there are: the numbers stand in the order of the kinds.
+// How many user regions there are.
+pub fn users(s: &[u8]) -> usize
+    ensures { λ r. ⌜ (r ≡ head.users (now (s .entry))) × (r < 256) ⌝ }
+{
+    if byte(s, head::EDITION) == 2 {
+        return byte(s, head::BYTE15);
+    }
+    0
+}
+
+// How many entries of a kind there are: the numbers stand in the order of the kinds, but for that of the user regions.
 pub fn many(s: &[u8], k: usize) -> usize
     requires { ⌜ Framed edition (now s) × (k < kinds) ⌝ }
     ensures { λ r. ⌜ Counted (now (s .entry)) k r ⌝ }
 {
+    if k == kind::USERS {
+        return users(s);
+    }
     byte(s, head::COUNTS + k)
 }
 
 // How long an entry of a kind is.
 pub fn size(k: usize) -> usize
-    ensures { λ r. ⌜ OfKind r k (sizeOf 0) (sizeOf 1) (sizeOf 2) ⌝ }
+    ensures { λ r. ⌜ OfKind r k (sizeOf 0) (sizeOf 1) (sizeOf 2) (sizeOf 3) ⌝ }
 {
     match k {
         kind::REGIONS => region::SIZE,
         kind::PROPERTIES => property::SIZE,
-        _ => group::SIZE,
+        kind::GROUPS => group::SIZE,
+        _ => region::SIZE,
     }
 }
 
 // Where entry i of a kind stands.
 pub fn place(s: &[u8], k: usize, i: usize) -> usize
     requires { ⌜ Framed edition (now s) × (i ≤ 64) ⌝ }
-    ensures { λ r. ⌜ OfKind r k (placeOf (now (s .entry)) 0 i) (placeOf (now (s .entry)) 1 i) (placeOf (now (s .entry)) 2 i) ⌝ }
+    ensures { λ r. ⌜ OfKind r k (placeOf (now (s .entry)) 0 i) (placeOf (now (s .entry)) 1 i) (placeOf (now (s .entry)) 2 i) (placeOf (now (s .entry)) 3 i) ⌝ }
 {
     let properties = head::SIZE + region::SIZE * byte(s, head::REGIONS);
     let groups = properties + property::SIZE * byte(s, head::PROPERTIES);
     match k {
         kind::REGIONS => head::SIZE + region::SIZE * i,
         kind::PROPERTIES => properties + property::SIZE * i,
-        _ => groups + group::SIZE * i,
+        kind::GROUPS => groups + group::SIZE * i,
+        _ => groups + group::SIZE * byte(s, head::GROUPS) + region::SIZE * i,
     }
 }
 
@@ -58,6 +74,7 @@ pub fn contents(s: &[u8]) -> usize
         + region::SIZE * byte(s, head::REGIONS)
         + property::SIZE * byte(s, head::PROPERTIES)
         + group::SIZE * byte(s, head::GROUPS)
+        + region::SIZE * users(s)
 }
 
 // Entry i of a kind, as the part of the sheet that it is: it stands at a.
@@ -85,7 +102,8 @@ pub fn offset(k: usize, e: &[u8]) -> usize
     match k {
         kind::REGIONS => word(e, region::OFFSET),
         kind::PROPERTIES => word(e, property::OFFSET),
-        _ => word(e, group::OFFSET),
+        kind::GROUPS => word(e, group::OFFSET),
+        _ => word(e, region::OFFSET),
     }
 }
 
@@ -97,7 +115,8 @@ pub fn length(k: usize, e: &[u8]) -> usize
     match k {
         kind::REGIONS => word(e, region::LENGTH),
         kind::PROPERTIES => elements(e),
-        _ => at_least_one(byte(e, group::CODE)),
+        kind::GROUPS => at_least_one(byte(e, group::CODE)),
+        _ => word(e, region::LENGTH),
     }
 }
 

@@ -2,9 +2,10 @@
 ghost use mathlib.Core.Path.{_≡_};
 ghost use Prim.Native.Nat.{_<_};
 ghost use Rattle.sheet.specs.Demand.{Tells};
-ghost use Rattle.sheet.specs.Kind.{kinds};
-ghost use Rattle.sheet.specs.Entries.{place, floor, startOf};
-ghost use Rattle.sheet.specs.Rules.{endDemands, walkRule, ruleOf, edition};
+ghost use Rattle.sheet.specs.Kind.{kinds, users};
+ghost use Rattle.sheet.specs.Entries.{place as placeOf, floor, startOf};
+ghost use Rattle.sheet.specs.First.{orElse};
+ghost use Rattle.sheet.specs.Rules.{endDemands, entriesRule, walkRule, ruleOf, edition};
 ghost use Rattle.sheet.specs.Walk.{Framed, Entry, Steps, lastOf, far};
 use crate::frame::frame_rule;
 use crate::frame::zero_rule;
@@ -17,16 +18,18 @@ use crate::layout::kind;
 use crate::table::contents;
 use crate::table::many;
 use crate::table::part;
+use crate::table::place;
 
 // S6, S7 or S8 of entry i of a kind, and S9 of its body. An arm for each kind, so that each is compiled by itself.
 fn step(s: &[u8], k: usize, i: usize, at: usize, last: usize, z: usize, late: usize) -> Verdict
-    requires { ⌜ Entry (now s) k i × (at ≡ place (now s) k i) × (last ≡ lastOf k (floor (now s) k i)) × (z < far) ⌝ }
+    requires { ⌜ Entry (now s) k i × (at ≡ placeOf (now s) k i) × (last ≡ lastOf k (floor (now s) k i)) × (z < far) ⌝ }
     ensures { λ r. ⌜ Steps (now (s .entry)) k i z late r ⌝ }
 {
     match k {
         kind::REGIONS => region_step(at, last, z, late, part(s, kind::REGIONS, i, at)),
         kind::PROPERTIES => property_step(at, last, z, late, part(s, kind::PROPERTIES, i, at)),
-        _ => group_step(s, at, last, z, late, part(s, kind::GROUPS, i, at)),
+        kind::GROUPS => group_step(s, at, last, z, late, part(s, kind::GROUPS, i, at)),
+        _ => region_step(at, last, z, late, part(s, kind::USERS, i, at)),
     }
 }
 
@@ -38,6 +41,40 @@ fn end_rule(s: &[u8], z: usize, late: usize) -> u8
         return 9;
     }
     if z == s.len() { 0 } else { 9 }
+}
+
+// S6 of the user regions.
+fn users_rule(s: &[u8]) -> u8
+    requires { ⌜ Framed edition (now s) ⌝ }
+    ensures { λ r. ⌜ r ≡ entriesRule (now (s .entry)) users ⌝ }
+{
+    let n = many(s, kind::USERS);
+    let mut i = 0;
+    let mut at = place(s, kind::USERS, 0);
+    let mut last = 0;
+    while i < n {
+        let judged = step(s, kind::USERS, i, at, last, 0, 0);
+        let rule = judged.rule;
+        if rule != 0 {
+            return rule;
+        }
+        at = judged.at;
+        last = judged.last;
+        i += 1;
+    }
+    0
+}
+
+// The rule that an entry breaks, but first that of the user regions: their S6 goes before S7 and S8, and they are walked last.
+fn users_first(s: &[u8], rule: u8) -> u8
+    requires { ⌜ Framed edition (now s) ⌝ }
+    ensures { λ r. ⌜ r ≡ orElse (entriesRule (now (s .entry)) users) rule ⌝ }
+{
+    let first = users_rule(s);
+    if first != 0 {
+        return first;
+    }
+    rule
 }
 
 // S6 to S9, each entry with its body in one go: that a body breaks S9 counts once all entries have passed. A body's end is that
@@ -61,7 +98,7 @@ fn walk(s: &[u8]) -> u8
             let judged = step(s, k, i, at, last, z, late);
             let rule = judged.rule;
             if rule != 0 {
-                break 'walk rule;
+                break 'walk users_first(s, rule);
             }
             at = judged.at;
             last = judged.last;

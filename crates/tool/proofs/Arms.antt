@@ -84,9 +84,9 @@ past-end [] n h = refl
 past-end (k ∷ ks) zero h = absurd (omega arith)
 past-end (k ∷ ks) (suc n) h = past-end ks n (omega arith)
 
-pub no-kind : (f : FlatPdu) → NoneOf (downFrom 25) (f .kind) → Nothing ≡ meantBy f
+pub no-kind : (f : FlatPdu) → NoneOf (downFrom (length services)) (f .kind) → Nothing ≡ meantBy f
 unfolding meantBy
-no-kind f h = ap (λ o. meantAs o f) (sym (past-end services (f .kind) (at-least 25 (f .kind) h)))
+no-kind f h = ap (λ o. meantAs o f) (sym (past-end services (f .kind) (at-least (length services) (f .kind) h)))
 
 -- at most 16 bytes are written
 counted : (n : ℕ) (t u : Bool) → (u ≡ true → n ≤ 16) → writeCount (cond t (Refuses 3) (cond u (Bytes n) (Refuses 13))) ≤ 16

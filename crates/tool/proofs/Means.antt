@@ -9,7 +9,7 @@ use Rattle.pdu.specs.Table.{services}
 use Rattle.pdu.specs.declared.Service.{Service}
 use Rattle.pdu.specs.declared.Service.the-variants as svc
 use Rattle.pdu.specs.declared.Pdu.{Pdu}
-use Rattle.pdu.specs.declared.Pdu.the-variants.{GroupValueRead, GroupValueResponse, GroupValueWrite, IndividualAddressWrite, IndividualAddressRead, SerialNumberRead, SerialNumberWrite, DeviceDescriptorRead, PropertyValueRead, PropertyValueWrite, PropertyDescriptionRead, MemoryRead, MemoryWrite, MemoryBitWrite, AuthorizeRequest, KeyWrite, Restart, IndividualAddressResponse, SerialNumberResponse, DeviceDescriptorResponse, PropertyValueResponse, PropertyDescriptionResponse, MemoryResponse, AuthorizeResponse, KeyResponse}
+use Rattle.pdu.specs.declared.Pdu.the-variants.{GroupValueRead, GroupValueResponse, GroupValueWrite, IndividualAddressWrite, IndividualAddressRead, SerialNumberRead, SerialNumberWrite, DeviceDescriptorRead, PropertyValueRead, PropertyValueWrite, PropertyDescriptionRead, MemoryRead, MemoryWrite, MemoryBitWrite, AuthorizeRequest, KeyWrite, Restart, IndividualAddressResponse, SerialNumberResponse, DeviceDescriptorResponse, PropertyValueResponse, PropertyDescriptionResponse, MemoryResponse, AuthorizeResponse, KeyResponse, UserMemoryRead, UserMemoryResponse, UserMemoryWrite}
 use Rattle.tool.specs.Flat.{placeIn, kindOf, flatOf, refusal, meantBy}
 use Rattle.tool.specs.declared.Meant.the-variants.{Known, Nothing}
 
@@ -41,6 +41,9 @@ kind-is svc.PropertyDescriptionResponse = refl
 kind-is svc.MemoryResponse = refl
 kind-is svc.AuthorizeResponse = refl
 kind-is svc.KeyResponse = refl
+kind-is svc.UserMemoryRead = refl
+kind-is svc.UserMemoryResponse = refl
+kind-is svc.UserMemoryWrite = refl
 
 -- THERE AND BACK
 pub means : (p : Pdu) (l : List ℕ) → meantBy (flatOf p l) ≡ Known p
@@ -70,6 +73,9 @@ means (PropertyDescriptionResponse a b c d e f) l = refl
 means (MemoryResponse a b) l = refl
 means (AuthorizeResponse a) l = refl
 means (KeyResponse a) l = refl
+means (UserMemoryRead a b) l = refl
+means (UserMemoryResponse a b) l = refl
+means (UserMemoryWrite a b) l = refl
 
 -- WHAT WAS REFUSED MEANS NO PDU: written, it gives 3 or 13
 pub refused-means-nothing : (n : ℕ) → meantBy (refusal n) ≡ Nothing

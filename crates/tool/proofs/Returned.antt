@@ -126,6 +126,9 @@ typed svc.PropertyDescriptionResponse f c = (c .object, (c .id, (c .index, (c .t
 typed svc.MemoryResponse f c = (tt, (c .address, tt))
 typed svc.AuthorizeResponse f c = (c .level, tt)
 typed svc.KeyResponse f c = (c .level, tt)
+typed svc.UserMemoryRead f c = (c .n, (c .address, tt))
+typed svc.UserMemoryResponse f c = (c .n, (c .address, tt))
+typed svc.UserMemoryWrite f c = (c .n, (c .address, tt))
 
 -- a flat PDU of an unknown kind is refused
 unknown-refused : (room : ℕ) (t : Bool) → writeOutcome (cond t (Refuses 3) (Refuses 13)) ≡ 0 → ⊥

@@ -174,6 +174,9 @@ fn flat(p: Pdu) -> FlatPdu
         Pdu::MemoryResponse { n, address } => memory(22, n, address),
         Pdu::AuthorizeResponse { level } => key(23, level, 0),
         Pdu::KeyResponse { level } => key(24, level, 0),
+        Pdu::UserMemoryRead { n, address } => memory(25, n, address),
+        Pdu::UserMemoryResponse { n, address } => memory(26, n, address),
+        Pdu::UserMemoryWrite { n, address } => memory(27, n, address),
     }
 }
 

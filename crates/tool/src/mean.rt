@@ -61,6 +61,9 @@ pub fn meant(f: FlatPdu) -> Meant
         22 => Meant::Known(Pdu::MemoryResponse { n, address }),
         23 => Meant::Known(Pdu::AuthorizeResponse { level }),
         24 => Meant::Known(Pdu::KeyResponse { level }),
+        25 => Meant::Known(Pdu::UserMemoryRead { n, address }),
+        26 => Meant::Known(Pdu::UserMemoryResponse { n, address }),
+        27 => Meant::Known(Pdu::UserMemoryWrite { n, address }),
         _ => Meant::Nothing,
     }
 }

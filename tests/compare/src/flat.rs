@@ -29,7 +29,7 @@ pub struct Flat {
 pub const NO_KIND: u8 = 255;
 
 /// The fields of the kinds by number, as the desk unit names them.
-pub const KINDS: [&[&str]; 25] = [
+pub const KINDS: [&[&str]; 28] = [
     &[],
     &["v", "data"],
     &["v", "data"],
@@ -55,6 +55,9 @@ pub const KINDS: [&[&str]; 25] = [
     &["n", "address", "data"],
     &["level"],
     &["level"],
+    &["n", "address"],
+    &["n", "address", "data"],
+    &["n", "address", "data"],
 ];
 
 /// The name of a kind, from the one file that has the names.
@@ -112,6 +115,9 @@ impl Flat {
             Pdu::MemoryResponse { n, address } => Flat { kind: 22, n, address, ..rest },
             Pdu::AuthorizeResponse { level } => Flat { kind: 23, level, ..rest },
             Pdu::KeyResponse { level } => Flat { kind: 24, level, ..rest },
+            Pdu::UserMemoryRead { n, address } => Flat { kind: 25, n, address, ..rest },
+            Pdu::UserMemoryResponse { n, address } => Flat { kind: 26, n, address, ..rest },
+            Pdu::UserMemoryWrite { n, address } => Flat { kind: 27, n, address, ..rest },
         }
     }
 
@@ -151,6 +157,9 @@ impl Flat {
             22 => Pdu::MemoryResponse { n, address },
             23 => Pdu::AuthorizeResponse { level },
             24 => Pdu::KeyResponse { level },
+            25 => Pdu::UserMemoryRead { n, address },
+            26 => Pdu::UserMemoryResponse { n, address },
+            27 => Pdu::UserMemoryWrite { n, address },
             _ => return None,
         })
     }

@@ -3,7 +3,8 @@
 use std::collections::VecDeque;
 
 use model::gen::{self, Ask, Event, Rng};
-use model::{matrix, sheet};
+use model::matrix;
+use model::sheet::{self, Memory};
 
 use crate::flat::Flat;
 use crate::play::{Play, World};
@@ -188,11 +189,14 @@ impl Maker {
                     Play::Property(p.object, id)
                 }
             }
-            1 => Play::Region(match rng.below(10) {
-                0 => rng.draw(),
-                1 => rng.pick(&[15, 16, 255, 256, 1 << 32, u64::MAX]),
-                _ => rng.below(17) as u64,
-            }),
+            1 => Play::Region(
+                rng.pick(&[Memory::Device, Memory::User]),
+                match rng.below(10) {
+                    0 => rng.draw(),
+                    1 => rng.pick(&[15, 16, 255, 256, 1 << 32, u64::MAX]),
+                    _ => rng.below(17) as u64,
+                },
+            ),
             _ => {
                 let all: Vec<_> = if good { sheet::groups(sheet).collect() } else { vec![] };
                 if all.is_empty() || rng.chance(10) {
@@ -226,7 +230,7 @@ impl Maker {
                 let mut flat = Flat::lay(&pdu, noise(rng));
                 match rng.below(40) {
                     0 => flat.kind = rng.byte(),
-                    1 => flat.kind = rng.pick(&[25, 26, 255]),
+                    1 => flat.kind = rng.pick(&[28, 29, 255]),
                     2 => flat.serial |= 1 << rng.within(48, 63),
                     _ => {}
                 }

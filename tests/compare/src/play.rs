@@ -4,7 +4,8 @@
 use model::device::{self, Session};
 use model::faults::Fault;
 use model::gen::Ask;
-use model::{pdu, sheet};
+use model::pdu;
+use model::sheet::{self, Memory};
 
 use crate::flat::{Flat, NO_KIND};
 use crate::hex;
@@ -22,7 +23,7 @@ pub enum Play {
     Button(bool),
     Request(Ask),
     Property(u8, u8),
-    Region(u64),
+    Region(Memory, u64),
     Group(u16),
     Read(Vec<u8>),
     /// A flat PDU, its data, and the buffer as found.
@@ -61,8 +62,8 @@ impl Play {
                 run(out, &ask.buffer);
             }
             Play::Property(object, id) => out.extend([b'p', *object, *id]),
-            Play::Region(k) => {
-                out.push(b'r');
+            Play::Region(memory, k) => {
+                out.push(if *memory == Memory::User { b'u' } else { b'r' });
                 out.extend(k.to_le_bytes());
             }
             Play::Group(address) => {
@@ -96,7 +97,8 @@ impl Play {
                 format!("request {} {} {} {}", a.mode, a.group, hex(&a.apdu), hex(&a.buffer))
             }
             Play::Property(object, id) => format!("lookup property {object} {id}"),
-            Play::Region(k) => format!("lookup region {k}"),
+            Play::Region(Memory::Device, k) => format!("lookup region {k}"),
+            Play::Region(Memory::User, k) => format!("lookup user {k}"),
             Play::Group(address) => format!("lookup group {address}"),
             Play::Read(apdu) => format!("read {}", hex(apdu)),
             Play::Write(flat, data, buffer) => {
@@ -129,7 +131,7 @@ impl Play {
                 hex(&reply[4..reply.len() - 8]),
                 tail(8)
             ),
-            Play::Property(..) | Play::Region(_) | Play::Group(_) => {
+            Play::Property(..) | Play::Region(..) | Play::Group(_) => {
                 let word = |i: usize| u64::from_le_bytes(reply[i..i + 8].try_into().unwrap());
                 format!("offset {}, length {}, sheet hash {}", word(0), word(8), tail(8))
             }
@@ -222,7 +224,9 @@ impl World {
             Play::Property(object, id) => {
                 self.part(sheet::property(&self.sheet, *object, *id), reply);
             }
-            Play::Region(k) => self.part(sheet::region(&self.sheet, *k as usize), reply),
+            Play::Region(memory, k) => {
+                self.part(sheet::region(&self.sheet, *memory, *k as usize), reply);
+            }
             Play::Group(address) => self.part(sheet::group(&self.sheet, *address), reply),
             Play::Read(apdu) => {
                 let flat = match pdu::read(apdu) {

@@ -4,7 +4,7 @@
 use model::device::Session;
 use model::faults::Fault;
 use model::gen::Ask;
-use model::sheet::SAMPLE;
+use model::sheet::{Memory, SAMPLE};
 
 use crate::play::{Play, World};
 use crate::{hex, Bridge};
@@ -37,7 +37,8 @@ fn command(line: &str) -> Option<Play> {
         ["lookup", "property", object, id] => {
             Play::Property(object.parse().ok()?, id.parse().ok()?)
         }
-        ["lookup", "region", k] => Play::Region(k.parse().ok()?),
+        ["lookup", "region", k] => Play::Region(Memory::Device, k.parse().ok()?),
+        ["lookup", "user", k] => Play::Region(Memory::User, k.parse().ok()?),
         ["lookup", "group", address] => Play::Group(address.parse().ok()?),
         _ => return None,
     })
@@ -54,7 +55,7 @@ fn said(play: &Play, reply: &[u8], sheet: &[u8]) -> String {
             let [outcome, count, open, level] = reply[..4] else { unreachable!() };
             format!("{outcome} {open} {level} {count} {} {}", hex(buffer), hex(sheet))
         }
-        Play::Property(..) | Play::Region(_) | Play::Group(_) => {
+        Play::Property(..) | Play::Region(..) | Play::Group(_) => {
             let number =
                 |i: usize| u64::from_le_bytes(reply[i..i + 8].try_into().unwrap()) as usize;
             let (offset, length) = (number(0), number(8));

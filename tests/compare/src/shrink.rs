@@ -1,6 +1,6 @@
 //! Smaller sheets that still show a difference.
 
-use model::sheet::{self, HEAD};
+use model::sheet::{self, Memory, HEAD, USERS};
 
 /// An entry of the contents and its body; `at` is where the entry keeps the
 /// body's offset.
@@ -11,22 +11,29 @@ struct Part {
     body: Vec<u8>,
 }
 
-/// An accepted sheet taken apart: its head, regions, properties and groups.
+/// An accepted sheet taken apart: its head, regions, properties, groups and user regions.
 #[derive(Clone)]
 struct Parts {
     head: Vec<u8>,
-    tables: [Vec<Part>; 3],
+    tables: [Vec<Part>; 4],
 }
+
+/// Where the head has the number of entries of each table.
+const NUMBERS: [usize; 4] = [1, 2, 3, USERS];
 
 impl Parts {
     fn of(sheet: &[u8]) -> Option<Parts> {
         if sheet::check(sheet) != 0 {
             return None;
         }
+        let regions = |memory| {
+            sheet::regions(sheet, memory).map(|r| (r.body, r.length as usize)).collect::<Vec<_>>()
+        };
         let bodies = [
-            sheet::regions(sheet).map(|r| (r.body, r.length as usize)).collect::<Vec<_>>(),
+            regions(Memory::Device),
             sheet::properties(sheet).map(|p| (p.body, p.size * p.maximum as usize)).collect(),
             sheet::groups(sheet).map(|g| (g.body, g.length())).collect(),
+            regions(Memory::User),
         ];
         let mut entry = HEAD;
         let mut table = |k: usize, size: usize, at: usize| {
@@ -37,7 +44,7 @@ impl Parts {
             };
             bodies[k].iter().map(part).collect()
         };
-        let tables = [table(0, 8, 4), table(1, 12, 8), table(2, 8, 4)];
+        let tables = [table(0, 8, 4), table(1, 12, 8), table(2, 8, 4), table(3, 8, 4)];
         Some(Parts { head: sheet[..HEAD].to_vec(), tables })
     }
 
@@ -46,8 +53,8 @@ impl Parts {
         let contents = HEAD + parts().map(|p| p.entry.len()).sum::<usize>();
         let total = contents + parts().map(|p| p.body.len()).sum::<usize>();
         let mut s = self.head.clone();
-        for (k, table) in self.tables.iter().enumerate() {
-            s[1 + k] = table.len() as u8;
+        for (at, table) in NUMBERS.into_iter().zip(&self.tables) {
+            s[at] = table.len() as u8;
         }
         s[4..6].copy_from_slice(&(total as u16).to_be_bytes());
         let mut body = contents;
@@ -65,7 +72,7 @@ impl Parts {
     fn cut(&self, k: usize, i: usize, keep: usize) -> Parts {
         let mut less = self.clone();
         let part = &mut less.tables[k][i];
-        if k == 0 {
+        if k != 1 {
             part.body.truncate(keep);
             part.entry[2..4].copy_from_slice(&(keep as u16).to_be_bytes());
         } else {
@@ -80,16 +87,16 @@ impl Parts {
     /// Everything that is a little smaller.
     fn smaller(&self) -> Vec<Parts> {
         let mut all = Vec::new();
-        for k in 0..3 {
+        for k in 0..self.tables.len() {
             for i in 0..self.tables[k].len() {
                 let mut less = self.clone();
                 less.tables[k].remove(i);
                 all.push(less);
             }
         }
-        for k in 0..2 {
+        for k in [0, 1, 3] {
             for (i, part) in self.tables[k].iter().enumerate() {
-                let unit = if k == 0 { 1 } else { part.entry[3] as usize };
+                let unit = if k == 1 { part.entry[3] as usize } else { 1 };
                 let length = part.body.len() / unit;
                 for keep in [1, length / 2, length - 1] {
                     if 0 < keep && keep < length {

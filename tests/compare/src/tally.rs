@@ -62,7 +62,7 @@ impl Tally {
                 let (row, column) = (matrix::row(&ask.apdu), matrix::column(ask.mode));
                 self.requests[row][column][reply[0] as usize] += 1;
             }
-            Play::Property(..) | Play::Region(_) | Play::Group(_) => {
+            Play::Property(..) | Play::Region(..) | Play::Group(_) => {
                 self.lookups[(reply[8..16] != [0; 8]) as usize] += 1;
             }
             Play::Read(_) => {

@@ -2,7 +2,7 @@
 
 use crate::faults::{Fault, Faults};
 use crate::pdu::{self, Pdu};
-use crate::sheet::{self, ADDRESS, FLAGS, KEYS, MASK, PROGRAMMING, SERIAL, VERIFY};
+use crate::sheet::{self, Memory, ADDRESS, FLAGS, KEYS, MASK, PROGRAMMING, SERIAL, VERIFY};
 
 #[derive(Clone, Copy, Debug, PartialEq, Eq)]
 pub struct Session {
@@ -77,7 +77,7 @@ fn modes(code: u16) -> u8 {
         0x000 | 0x040..=0x0BF => 0b0001,
         0x0C0 | 0x100 | 0x3DC | 0x3DE => 0b0010,
         0x300..=0x33F | 0x3D5 | 0x3D7 | 0x3D8 => 0b1100,
-        0x200..=0x20F | 0x280..=0x28F | 0x380 | 0x3D0 | 0x3D1 | 0x3D3 => 0b1000,
+        0x200..=0x20F | 0x280..=0x28F | 0x2C0 | 0x2C2 | 0x380 | 0x3D0 | 0x3D1 | 0x3D3 => 0b1000,
         _ => 0,
     }
 }
@@ -99,6 +99,29 @@ fn permits<const ON: bool>(faults: Faults<ON>, level: u8, needed: u8) -> bool {
     }
 }
 
+/// So many bytes of a memory may one request name at most.
+fn most(memory: Memory) -> u8 {
+    match memory {
+        Memory::Device => 12,
+        Memory::User => 11,
+    }
+}
+
+fn response(memory: Memory, n: u8, address: u16) -> Pdu {
+    match memory {
+        Memory::Device => Pdu::MemoryResponse { n, address },
+        Memory::User => Pdu::UserMemoryResponse { n, address },
+    }
+}
+
+/// The memory that a request is for.
+fn memory_of(pdu: &Pdu) -> Memory {
+    match pdu {
+        Pdu::UserMemoryRead { .. } | Pdu::UserMemoryWrite { .. } => Memory::User,
+        _ => Memory::Device,
+    }
+}
+
 /// A memory range found inside one region.
 struct Place {
     at: usize,
@@ -106,20 +129,28 @@ struct Place {
     write: u8,
 }
 
-fn place<const ON: bool>(faults: Faults<ON>, sheet: &[u8], n: u8, address: u16) -> Option<Place> {
-    if !(1..=12).contains(&n) {
+fn place<const ON: bool>(
+    faults: Faults<ON>,
+    sheet: &[u8],
+    memory: Memory,
+    n: u8,
+    address: u16,
+) -> Option<Place> {
+    if !(1..=most(memory)).contains(&n) {
         return None;
     }
+    let served = if faults.is(Fault::UserFromDeviceMemory) { Memory::Device } else { memory };
+    let mut regions = sheet::regions(sheet, served);
     let (first, end) = (address as u32, address as u32 + n as u32);
     let region = if faults.is(Fault::RunsIntoNeighbour) {
-        let bodies = sheet::regions(sheet).map(|r| r.body as u32 + r.length).last()?;
-        sheet::regions(sheet).find(|r| {
+        let bodies = sheet::regions(sheet, served).map(|r| r.body as u32 + r.length).last()?;
+        regions.find(|r| {
             r.address <= first
                 && first < r.address + r.length
                 && r.body as u32 + (end - r.address) <= bodies
         })?
     } else {
-        sheet::regions(sheet).find(|r| r.address <= first && end <= r.address + r.length)?
+        regions.find(|r| r.address <= first && end <= r.address + r.length)?
     };
     let at = region.body + (first - region.address) as usize;
     Some(Place { at, read: region.read, write: region.write })
@@ -129,6 +160,7 @@ fn place<const ON: bool>(faults: Faults<ON>, sheet: &[u8], n: u8, address: u16) 
 /// `stored` is where the new bytes lie, `None` if the write was denied.
 fn memory_reply(
     sheet: &[u8],
+    memory: Memory,
     stored: Option<usize>,
     n: u8,
     address: u16,
@@ -137,10 +169,10 @@ fn memory_reply(
     let verify = sheet[FLAGS] & VERIFY != 0;
     match stored {
         Some(at) if verify => {
-            reply(0, Pdu::MemoryResponse { n, address }, &sheet[at..at + n as usize], answer)
+            reply(0, response(memory, n, address), &sheet[at..at + n as usize], answer)
         }
         Some(_) => silent(1),
-        None if verify => reply(11, Pdu::MemoryResponse { n: 0, address }, &[], answer),
+        None if verify => reply(11, response(memory, 0, address), &[], answer),
         None => silent(12),
     }
 }
@@ -340,31 +372,35 @@ fn step<const ON: bool>(
             reply(outcome, pdu, &[], answer)
         }
 
-        Pdu::MemoryRead { n, address } => {
-            let found = place(faults, sheet, n, address);
+        Pdu::MemoryRead { n, address } | Pdu::UserMemoryRead { n, address } => {
+            let memory = memory_of(&pdu);
+            let n = if faults.is(Fault::ExtensionIgnored) { n & 15 } else { n };
+            let found = place(faults, sheet, memory, n, address);
             match found.filter(|p| permits(faults, level, p.read)) {
                 Some(Place { at, .. }) => {
                     let bytes = &sheet[at..at + n as usize];
-                    reply(0, Pdu::MemoryResponse { n, address }, bytes, answer)
+                    reply(0, response(memory, n, address), bytes, answer)
                 }
-                None => reply(11, Pdu::MemoryResponse { n: 0, address }, &[], answer),
+                None => reply(11, response(memory, 0, address), &[], answer),
             }
         }
-        Pdu::MemoryWrite { n, address } => {
+        Pdu::MemoryWrite { n, address } | Pdu::UserMemoryWrite { n, address } => {
+            let memory = memory_of(&pdu);
             let mut stored = None;
-            if let Some(Place { at, write, .. }) = place(faults, sheet, n, address) {
+            if let Some(Place { at, write, .. }) = place(faults, sheet, memory, n, address) {
                 let allowed = permits(faults, level, write);
                 if allowed || store_first {
                     sheet[at..at + n as usize].copy_from_slice(data);
                 }
                 stored = allowed.then_some(at);
             }
-            memory_reply(sheet, stored, n, address, answer)
+            memory_reply(sheet, memory, stored, n, address, answer)
         }
         Pdu::MemoryBitWrite { n, address } => {
             let (and, xor) = data.split_at(n as usize);
             let mut stored = None;
-            if let Some(Place { at, read, write }) = place(faults, sheet, n, address) {
+            let memory = Memory::Device;
+            if let Some(Place { at, read, write }) = place(faults, sheet, memory, n, address) {
                 let may_read =
                     faults.is(Fault::BitWriteWithoutRead) || permits(faults, level, read);
                 let allowed = may_read && permits(faults, level, write);
@@ -375,7 +411,7 @@ fn step<const ON: bool>(
                 }
                 stored = allowed.then_some(at);
             }
-            memory_reply(sheet, stored, n, address, answer)
+            memory_reply(sheet, memory, stored, n, address, answer)
         }
 
         Pdu::AuthorizeRequest { key } => {
@@ -414,6 +450,7 @@ fn step<const ON: bool>(
         | Pdu::DescriptionResponse { .. }
         | Pdu::MemoryResponse { .. }
         | Pdu::AuthorizeResponse { .. }
-        | Pdu::KeyResponse { .. } => unreachable!("no answer has a mode"),
+        | Pdu::KeyResponse { .. }
+        | Pdu::UserMemoryResponse { .. } => unreachable!("no answer has a mode"),
     }
 }

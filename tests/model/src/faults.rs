@@ -23,10 +23,14 @@ pub enum Fault {
     InventsCount,
     /// A bit write asks for the write right alone.
     BitWriteWithoutRead,
+    /// User memory is served from the device's memory at the same address.
+    UserFromDeviceMemory,
+    /// A read of user memory goes by the four low bits of n alone, as if the others extended the address.
+    ExtensionIgnored,
 }
 
 impl Fault {
-    pub const ALL: [Fault; 10] = [
+    pub const ALL: [Fault; 12] = [
         Fault::StoreFirst,
         Fault::LevelsReversed,
         Fault::WrongKeyKeepsLevel,
@@ -37,6 +41,8 @@ impl Fault {
         Fault::AnswersOnly,
         Fault::InventsCount,
         Fault::BitWriteWithoutRead,
+        Fault::UserFromDeviceMemory,
+        Fault::ExtensionIgnored,
     ];
 }
 

@@ -5,7 +5,7 @@ use std::collections::BTreeSet;
 use crate::device::Session;
 use crate::matrix;
 use crate::pdu::Pdu;
-use crate::sheet::{self, HEAD, KEYS, LONGEST, SERIAL};
+use crate::sheet::{self, Memory, HEAD, KEYS, LONGEST, SERIAL, USERS};
 
 /// splitmix64
 #[derive(Clone, Debug)]
@@ -134,23 +134,67 @@ fn addresses(rng: &mut Rng, g: usize) -> BTreeSet<u16> {
     addresses
 }
 
-/// An accepted sheet.
+/// Lengths of the regions of one memory, what they take of `spare` taken off it.
+fn lengths(rng: &mut Rng, r: usize, spare: &mut usize) -> Vec<usize> {
+    (0..r)
+        .map(|_| {
+            let more = share(rng, *spare);
+            *spare -= more;
+            1 + more
+        })
+        .collect()
+}
+
+/// The entries of the regions of one memory, whose bodies begin at `body`. They
+/// often touch, and often begin at an address in `shared`.
+fn regions(rng: &mut Rng, lengths: &[usize], mut body: usize, shared: &[usize]) -> Vec<u8> {
+    let mut entries = Vec::new();
+    let mut gaps = 65_536 - lengths.iter().sum::<usize>();
+    let mut address = 0;
+    for (k, &length) in lengths.iter().enumerate() {
+        let near = shared.iter().copied().find(|&a| address <= a);
+        let gap = match (rng.below(8), near) {
+            (0..=2, Some(near)) => near - address,
+            (0..=3, _) => 0,
+            (4 | 5, _) => rng.within(1, 4),
+            (6, _) if k + 1 == lengths.len() => gaps, // the last one ends with the address space
+            _ => rng.within(0, gaps / 4),
+        }
+        .min(gaps);
+        gaps -= gap;
+        address += gap;
+        entries.extend((address as u16).to_be_bytes());
+        entries.extend((length as u16).to_be_bytes());
+        entries.extend((body as u16).to_be_bytes());
+        entries.extend([levels(rng), 0]);
+        address += length;
+        body += length;
+    }
+    entries
+}
+
+/// The first addresses of region entries.
+fn firsts(entries: &[u8]) -> Vec<usize> {
+    entries.chunks(8).map(|e| u16::from_be_bytes([e[0], e[1]]) as usize).collect()
+}
+
+/// An accepted sheet of either edition; in the second, user memory often has
+/// addresses that the device's memory has too.
 pub fn sheet(rng: &mut Rng) -> Vec<u8> {
-    let (r, p, g) = match rng.below(12) {
-        0 => (16, 64, 64),
-        1 => (0, 0, 0),
-        _ => (entries(rng, 16), entries(rng, 64), entries(rng, 64)),
+    let edition = rng.pick(&[1, 2, 2]);
+    let most_users = if edition == 2 { 16 } else { 0 };
+    let (r, p, g, u) = match rng.below(12) {
+        0 => (16, 64, 64, most_users),
+        1 => (0, 0, 0, 0),
+        _ => (entries(rng, 16), entries(rng, 64), entries(rng, 64), entries(rng, 16)),
     };
-    let contents = HEAD + 8 * r + 12 * p + 8 * g;
+    let u = u.min(most_users);
+    let contents = HEAD + 8 * r + 12 * p + 8 * g + 8 * u;
 
     // Every body can have its smallest size; the rest is handed out freely.
-    let mut spare = LONGEST - contents - r - 10 * p - 14 * g;
-    let mut lengths = Vec::new();
-    for _ in 0..r {
-        let more = share(rng, spare);
-        spare -= more;
-        lengths.push(1 + more);
-    }
+    let mut spare = LONGEST - contents - r - 10 * p - 14 * g - u;
+    let mut device = lengths(rng, r, &mut spare);
+    let user = lengths(rng, u, &mut spare);
     let mut shapes = Vec::new();
     for _ in 0..p {
         let size = rng.within(1, 10);
@@ -165,47 +209,31 @@ pub fn sheet(rng: &mut Rng) -> Vec<u8> {
             _ => rng.within(1, 14),
         })
         .collect();
-    let bodies = |lengths: &[usize]| {
-        lengths.iter().sum::<usize>()
+    let bodies = |device: &[usize]| {
+        device.iter().chain(&user).sum::<usize>()
             + shapes.iter().map(|(size, maximum)| size * maximum).sum::<usize>()
             + codes.iter().map(|&c| c.max(1)).sum::<usize>()
     };
     if r > 0 && rng.chance(12) {
         let k = rng.below(r);
-        lengths[k] += LONGEST - contents - bodies(&lengths);
+        device[k] += LONGEST - contents - bodies(&device);
     }
-    let total = contents + bodies(&lengths);
+    let total = contents + bodies(&device);
 
-    let mut s = vec![1, r as u8, p as u8, g as u8];
+    let mut s = vec![edition, r as u8, p as u8, g as u8];
     s.extend((total as u16).to_be_bytes());
     s.extend(rng.array::<6>());
     s.extend(rng.array::<2>());
     s.push(rng.pick(&[0, 1, 2, 2, 3, 3]));
-    s.push(0);
+    s.push(u as u8);
     s.extend(rng.array::<2>());
     s.extend(keys(rng).as_flattened());
     s.extend([0, 0]);
 
     let mut body = contents;
-    let mut gaps = 65_536 - lengths.iter().sum::<usize>();
-    let mut address = 0;
-    for (k, &length) in lengths.iter().enumerate() {
-        let gap = match rng.below(8) {
-            0..=3 => 0,
-            4 | 5 => rng.within(1, 4),
-            6 if k + 1 == r => gaps, // the last one ends with the address space
-            _ => rng.within(0, gaps / 4),
-        }
-        .min(gaps);
-        gaps -= gap;
-        address += gap;
-        s.extend((address as u16).to_be_bytes());
-        s.extend((length as u16).to_be_bytes());
-        s.extend((body as u16).to_be_bytes());
-        s.extend([levels(rng), 0]);
-        address += length;
-        body += length;
-    }
+    let of_device = regions(rng, &device, body, &[]);
+    s.extend(&of_device);
+    body += device.iter().sum::<usize>();
     for ((object, id), &(size, maximum)) in names(rng, p).into_iter().zip(&shapes) {
         let count = match rng.below(4) {
             0 => 0,
@@ -232,6 +260,7 @@ pub fn sheet(rng: &mut Rng) -> Vec<u8> {
         }
         body += code.max(1);
     }
+    s.extend(regions(rng, &user, body, &firsts(&of_device)));
     while s.len() < total {
         s.push(rng.byte());
     }
@@ -246,13 +275,11 @@ pub fn damage(rng: &mut Rng, sheet: &mut [u8]) {
     if sheet.is_empty() {
         return;
     }
-    let contents = match *sheet {
-        [_, r, p, g, ..] => HEAD + 8 * r as usize + 12 * p as usize + 8 * g as usize,
-        _ => HEAD,
-    };
+    let contents = if sheet.len() < HEAD { HEAD } else { sheet::contents(sheet) };
     let at = match rng.below(10) {
         0 => rng.below(sheet.len()),
-        1..=4 => rng.below(HEAD.min(sheet.len())),
+        1 => rng.pick(&[0, USERS]).min(sheet.len() - 1),
+        2..=4 => rng.below(HEAD.min(sheet.len())),
         _ => rng.below(contents.min(sheet.len())),
     };
     let old = sheet[at];
@@ -290,7 +317,7 @@ pub fn any_sheet(rng: &mut Rng) -> Vec<u8> {
             }
         }
         18 => {
-            s[1 + rng.below(3)] = rng.byte();
+            s[rng.pick(&[1, 2, 3, USERS])] = rng.byte();
         }
         _ => {
             let len = rng.within(0, 200);
@@ -394,9 +421,14 @@ fn elements(rng: &mut Rng, size: i64, maximum: i64, count: i64) -> (u8, u16) {
     (n as u8, s as u16)
 }
 
-/// Number and first address of a range aimed at a region's inside or edges.
-fn range(rng: &mut Rng, sheet: &[u8], good: bool, most: i64) -> (u8, u16) {
-    let all: Vec<_> = if good { sheet::regions(sheet).collect() } else { Vec::new() };
+/// Number and first address of a range aimed at the inside or the edges of a
+/// region, sometimes of one of the other memory.
+fn range(rng: &mut Rng, sheet: &[u8], good: bool, memory: Memory, most: i64) -> (u8, u16) {
+    let of = |memory| if good { sheet::regions(sheet, memory).collect() } else { Vec::new() };
+    let mut all: Vec<sheet::Region> = of(memory);
+    if rng.chance(10) {
+        all = of(if memory == Memory::Device { Memory::User } else { Memory::Device });
+    }
     let mut n = rng.within(1, most as usize) as i64;
     if all.is_empty() || rng.chance(4) {
         return (n as u8, rng.word());
@@ -450,9 +482,9 @@ fn serial(rng: &mut Rng, sheet: &[u8], good: bool) -> [u8; 6] {
 fn unknown_code(rng: &mut Rng) -> u16 {
     loop {
         let code = match rng.below(5) {
-            0 => rng.pick(&[0x140, 0x3D2, 0x3D4, 0x3D6, 0x3D9, 0x3DD]),
+            0 => rng.pick(&[0x140, 0x3D2, 0x3D4, 0x3D6, 0x3D9, 0x3DD, 0x2C1]),
             1 => rng.pick(&[0x240, 0x340]) + rng.below(16) as u16,
-            2 => rng.pick(&[0x001, 0x03F, 0x0C1, 0x101, 0x210, 0x290, 0x2C0, 0x381, 0x3DF, 0x3FF]),
+            2 => rng.pick(&[0x001, 0x03F, 0x0C1, 0x101, 0x210, 0x290, 0x2C3, 0x381, 0x3DF, 0x3FF]),
             _ => rng.word() & 0x3FF,
         };
         if matrix::row(&code.to_be_bytes()) == matrix::UNKNOWN {
@@ -533,7 +565,7 @@ fn apdu(rng: &mut Rng, sheet: &[u8], good: bool, row: usize) -> (Vec<u8>, u16) {
             a.push(index);
         }
         11 | 12 => {
-            let (n, address) = range(rng, sheet, good, 12);
+            let (n, address) = range(rng, sheet, good, Memory::Device, 12);
             code(&mut a, if row == 11 { 0x200 } else { 0x280 } + n as usize);
             a.extend(address.to_be_bytes());
             if row == 12 {
@@ -541,7 +573,7 @@ fn apdu(rng: &mut Rng, sheet: &[u8], good: bool, row: usize) -> (Vec<u8>, u16) {
             }
         }
         13 => {
-            let (n, address) = range(rng, sheet, good, 5);
+            let (n, address) = range(rng, sheet, good, Memory::Device, 5);
             code(&mut a, 0x3D0);
             a.push(n);
             a.extend(address.to_be_bytes());
@@ -559,6 +591,22 @@ fn apdu(rng: &mut Rng, sheet: &[u8], good: bool, row: usize) -> (Vec<u8>, u16) {
             a.extend(key(rng, sheet, good));
         }
         16 => code(&mut a, 0x380),
+        17 | 18 => {
+            let (mut n, address) = range(rng, sheet, good, Memory::User, 11);
+            if row == 17 && rng.chance(15) {
+                // an address extension of the later standard, or any n at all
+                n = if rng.chance(50) { n | 16 << rng.below(4) } else { rng.byte() };
+            }
+            code(&mut a, if row == 17 { 0x2C0 } else { 0x2C2 });
+            a.push(n);
+            a.extend(address.to_be_bytes());
+            if row == 18 {
+                let extension = if rng.chance(3) { 16 << rng.below(4) } else { 0 };
+                a[2] |= extension;
+                a.extend(rng.bytes(n as usize));
+                a.truncate(16);
+            }
+        }
         matrix::UNKNOWN => {
             code(&mut a, unknown_code(rng) as usize);
             let more = rng.below(15);
@@ -575,13 +623,15 @@ fn apdu(rng: &mut Rng, sheet: &[u8], good: bool, row: usize) -> (Vec<u8>, u16) {
 /// A request aimed at the sheet, good or bad, with all its surroundings.
 pub fn ask(rng: &mut Rng, sheet: &[u8]) -> Ask {
     let good = sheet::check(sheet) == 0;
-    let row = match rng.below(80) {
+    let row = match rng.below(90) {
         0..=2 => matrix::UNKNOWN,
         3 => matrix::MALFORMED,
         4..=9 => 9,
         10..=13 => 12,
         14..=17 => 13,
-        _ => rng.below(17),
+        18..=21 => 17,
+        22..=27 => 18,
+        _ => rng.below(matrix::UNKNOWN),
     };
     let (mut apdu, group) = apdu(rng, sheet, good, row);
     match rng.below(60) {
@@ -609,7 +659,7 @@ pub fn ask(rng: &mut Rng, sheet: &[u8]) -> Ask {
             0..=2 => 0,
             3..=6 => 1,
             7..=10 => 2 + rng.below(2) as u8,
-            11..=16 => 3,
+            11..=18 => 3,
             _ => rng.below(4) as u8,
         },
     };
@@ -638,11 +688,11 @@ pub fn pdu(rng: &mut Rng) -> (Pdu, Vec<u8>) {
     let n = small(rng, 16);
     let (s, address) = (wide(rng), rng.word());
     let (object, id, index, level) = (rng.byte(), rng.byte(), rng.byte(), rng.byte());
-    let kind = rng.below(25);
+    let kind = rng.below(28);
     let mut length = match kind {
         1 | 2 | 10 => rng.within(0, 15),
         12 | 13 => rng.within(0, 11),
-        17 | 18 => n as usize,
+        17 | 18 | 26 | 27 => n as usize,
         19 => 2 * n as usize,
         _ => 0,
     };
@@ -684,7 +734,10 @@ pub fn pdu(rng: &mut Rng) -> (Pdu, Vec<u8>) {
         21 => Pdu::AuthorizeResponse { level },
         22 => Pdu::KeyWrite { level, key: rng.array() },
         23 => Pdu::KeyResponse { level },
-        _ => Pdu::Restart,
+        24 => Pdu::Restart,
+        25 => Pdu::UserMemoryRead { n: if rng.chance(50) { n } else { rng.byte() }, address },
+        26 => Pdu::UserMemoryResponse { n, address },
+        _ => Pdu::UserMemoryWrite { n, address },
     };
     (pdu, rng.bytes(length))
 }

@@ -17,8 +17,8 @@ pub type Outcomes = u16;
 /// A row's name and its cells for modes 0, 1, 2, 3 and any above.
 pub type Row = (&'static str, [Outcomes; 5]);
 
-pub const UNKNOWN: usize = 17;
-pub const MALFORMED: usize = 18;
+pub const UNKNOWN: usize = 19;
+pub const MALFORMED: usize = 20;
 
 const fn set(outcomes: &[u8]) -> Outcomes {
     let mut bits = 0;
@@ -51,7 +51,7 @@ const ALWAYS_3: Outcomes = set(&[3, 4, 7, 10, 0]); // Authorize cannot be denied
 const SILENT_3: Outcomes = set(&[3, 4, 7, 10, 1]); // Restart neither, and has no answer
 
 #[rustfmt::skip]
-pub const ROWS: [Row; 19] = [
+pub const ROWS: [Row; 21] = [
     //                      mode 0   1       2       3           above
     ("group_read",         [TELLS,  WRONG,  WRONG,  WRONG_3,    NOMODE]),
     ("group_response",     [TAKES,  WRONG,  WRONG,  WRONG_3,    NOMODE]),
@@ -70,6 +70,8 @@ pub const ROWS: [Row; 19] = [
     ("authorize_request",  [WRONG,  WRONG,  WRONG,  ALWAYS_3,   NOMODE]),
     ("key_write",          [WRONG,  WRONG,  WRONG,  JUDGED_3,   NOMODE]),
     ("restart",            [WRONG,  WRONG,  WRONG,  SILENT_3,   NOMODE]),
+    ("user_memory_read",   [WRONG,  WRONG,  WRONG,  JUDGED_3,   NOMODE]),
+    ("user_memory_write",  [WRONG,  WRONG,  WRONG,  VERIFIED_3, NOMODE]),
     ("unknown code",       [UNKN,   UNKN,   UNKN,   UNKN_3,     NOMODE]),
     ("malformed length",   [BADLEN, BADLEN, BADLEN, BADLEN,     BADLEN]),
 ];
@@ -97,6 +99,8 @@ pub fn row(apdu: &[u8]) -> usize {
         (3, 0xD1) => 14,
         (3, 0xD3) => 15,
         (3, 0x80) => 16,
+        (2, 0xC0) => 17,
+        (2, 0xC2) => 18,
         _ => UNKNOWN,
     }
 }

@@ -31,6 +31,9 @@ pub enum Pdu {
     KeyWrite { level: u8, key: [u8; 4] },
     KeyResponse { level: u8 },
     Restart,
+    UserMemoryRead { n: u8, address: u16 },
+    UserMemoryResponse { n: u8, address: u16 },
+    UserMemoryWrite { n: u8, address: u16 },
 }
 
 /// The ten-bit service code; the APDU has at least two bytes.
@@ -68,6 +71,11 @@ pub fn read(apdu: &[u8]) -> Result<(Pdu, Range<usize>), u8> {
         0x280..=0x28F => {
             (Pdu::MemoryWrite { n: four, address: word(2) }, len == 4 + four as usize, 4)
         }
+        0x2C0 => (Pdu::UserMemoryRead { n: b[2], address: word(3) }, len == 5, len),
+        0x2C1 => {
+            (Pdu::UserMemoryResponse { n: b[2], address: word(3) }, len == 5 + b[2] as usize, 5)
+        }
+        0x2C2 => (Pdu::UserMemoryWrite { n: b[2], address: word(3) }, len == 5 + b[2] as usize, 5),
         0x300..=0x33F => (Pdu::DescriptorRead { t: six }, len == 2, len),
         0x340..=0x37F => (Pdu::DescriptorResponse { t: six }, true, 2),
         0x380 => (Pdu::Restart, len == 2, len),
@@ -188,6 +196,13 @@ pub fn write(pdu: &Pdu, data: &[u8], out: &mut [u8]) -> Result<usize, u8> {
         Pdu::KeyWrite { level, key } => (front(0x3D3).put(&[level]).put(&key), none),
         Pdu::KeyResponse { level } => (front(0x3D4).put(&[level]), none),
         Pdu::Restart => (front(0x380), none),
+        Pdu::UserMemoryRead { n, address } => (front(0x2C0).put(&[n]).word(address), none),
+        Pdu::UserMemoryResponse { n, address } => {
+            (front(0x2C1).put(&[n]).word(address), data.len() == n as usize)
+        }
+        Pdu::UserMemoryWrite { n, address } => {
+            (front(0x2C2).put(&[n]).word(address), data.len() == n as usize)
+        }
     };
     let total = front.len + data.len();
     if !fits || total > 16 {

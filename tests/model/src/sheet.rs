@@ -1,6 +1,7 @@
 //! The device sheet: its check, views of its entries, and the lookups.
 
 pub const FLAGS: usize = 14;
+pub const USERS: usize = 15;
 pub const PROGRAMMING: u8 = 1;
 pub const VERIFY: u8 = 2;
 pub const SERIAL: usize = 6;
@@ -12,6 +13,8 @@ pub const LONGEST: usize = 16_384;
 
 /// The sample sheet of the rules, from the one file that has it.
 pub const SAMPLE: [u8; 69] = listed(include_bytes!("../../../hosts/sample_sheet.inc"));
+/// A sheet of edition 2 with both memories, likewise.
+pub const PUMP: [u8; 101] = listed(include_bytes!("../../../hosts/pump_sheet.inc"));
 
 /// The bytes of a C list: every 0x and two digits.
 const fn listed<const N: usize>(text: &[u8]) -> [u8; N] {
@@ -49,60 +52,96 @@ struct Tables<'a> {
     regions: &'a [[u8; 8]],
     properties: &'a [[u8; 12]],
     groups: &'a [[u8; 8]],
+    users: &'a [[u8; 8]],
+}
+
+/// The number of user regions: edition 2 has it in byte 15, edition 1 has none.
+fn user_count(sheet: &[u8]) -> usize {
+    if sheet[0] == 2 {
+        sheet[USERS] as usize
+    } else {
+        0
+    }
+}
+
+/// The length of the head and of all entries, by the numbers in the head.
+pub fn contents(sheet: &[u8]) -> usize {
+    let (r, p, g) = (sheet[1] as usize, sheet[2] as usize, sheet[3] as usize);
+    HEAD + 8 * r + 12 * p + 8 * g + 8 * user_count(sheet)
 }
 
 /// Splits the contents; the caller knows that they fit into the sheet.
 fn tables(sheet: &[u8]) -> Tables<'_> {
     let (r, p, g) = (sheet[1] as usize, sheet[2] as usize, sheet[3] as usize);
-    let (regions, rest) = sheet[HEAD..HEAD + 8 * r + 12 * p + 8 * g].split_at(8 * r);
-    let (properties, groups) = rest.split_at(12 * p);
+    let (regions, rest) = sheet[HEAD..contents(sheet)].split_at(8 * r);
+    let (properties, rest) = rest.split_at(12 * p);
+    let (groups, users) = rest.split_at(8 * g);
     Tables {
         regions: regions.as_chunks().0,
         properties: properties.as_chunks().0,
         groups: groups.as_chunks().0,
+        users: users.as_chunks().0,
     }
+}
+
+/// Rule 6 of the regions of one memory.
+fn regions_bad(entries: &[[u8; 8]]) -> bool {
+    let mut free = 0; // first address after the previous region
+    for e in entries {
+        let address = word(e[0], e[1]) as u32;
+        let length = word(e[2], e[3]) as u32;
+        let end = address + length;
+        if length == 0 || end > 65_536 || address < free || level_too_high(e[6]) || e[7] != 0 {
+            return true;
+        }
+        free = end;
+    }
+    false
+}
+
+/// The bodies of the regions of one memory: true if each stands where the one
+/// before ended, the first at `next`, which moves on to the end of the last.
+fn regions_chained(entries: &[[u8; 8]], next: &mut usize) -> bool {
+    let mut chained = true;
+    for e in entries {
+        chained &= word(e[4], e[5]) as usize == *next;
+        *next += word(e[2], e[3]) as usize;
+    }
+    chained
 }
 
 /// 0 if the sheet is accepted, else the number of the first rule broken.
 ///
-/// One pass over the entries. A misplaced body (rule 9) only counts once all
-/// entries have passed 6 to 8, so it is remembered in `chained` until the end.
+/// One pass over the entries, but for the two memories' regions, of which rule
+/// 6 comes first. A misplaced body (rule 9) only counts once all entries have
+/// passed 6 to 8, so it is remembered in `chained` until the end.
 pub fn check(sheet: &[u8]) -> u8 {
     let len = sheet.len();
     if !(HEAD..=LONGEST).contains(&len) {
         return 1;
     }
-    if sheet[0] != 1 {
+    let edition = sheet[0];
+    if edition != 1 && edition != 2 {
         return 2;
     }
-    let (r, p, g) = (sheet[1] as usize, sheet[2] as usize, sheet[3] as usize);
-    if r > 16 || p > 64 || g > 64 {
+    if sheet[1] > 16 || sheet[2] > 64 || sheet[3] > 64 || edition == 2 && sheet[USERS] > 16 {
         return 3;
     }
-    let contents = HEAD + 8 * r + 12 * p + 8 * g;
-    if word(sheet[4], sheet[5]) as usize != len || contents > len {
+    if word(sheet[4], sheet[5]) as usize != len || contents(sheet) > len {
         return 4;
     }
-    if sheet[15] | sheet[30] | sheet[31] | (sheet[FLAGS] & !(PROGRAMMING | VERIFY)) != 0 {
+    if edition == 1 && sheet[USERS] != 0
+        || sheet[30] | sheet[31] | (sheet[FLAGS] & !(PROGRAMMING | VERIFY)) != 0
+    {
         return 5;
     }
 
     let tables = tables(sheet);
-    let mut next = contents;
-    let mut chained = true;
-
-    let mut free = 0; // first address after the previous region
-    for e in tables.regions {
-        let address = word(e[0], e[1]) as u32;
-        let length = word(e[2], e[3]) as u32;
-        let end = address + length;
-        if length == 0 || end > 65_536 || address < free || level_too_high(e[6]) || e[7] != 0 {
-            return 6;
-        }
-        free = end;
-        chained &= word(e[4], e[5]) as usize == next;
-        next += length as usize;
+    if regions_bad(tables.regions) || regions_bad(tables.users) {
+        return 6;
     }
+    let mut next = contents(sheet);
+    let mut chained = regions_chained(tables.regions, &mut next);
 
     let mut last = 0; // starting at 0 also refuses id 0 of object 0
     for e in tables.properties {
@@ -142,6 +181,7 @@ pub fn check(sheet: &[u8]) -> u8 {
         }
     }
 
+    chained &= regions_chained(tables.users, &mut next);
     if chained && next == len {
         0
     } else {
@@ -202,8 +242,19 @@ impl Group {
 
 // The three walks below expect an accepted sheet.
 
-pub fn regions(sheet: &[u8]) -> impl Iterator<Item = Region> + '_ {
-    tables(sheet).regions.iter().map(|e| Region {
+/// The two memories: the device's, and user memory, which edition 2 has.
+#[derive(Clone, Copy, Debug, PartialEq, Eq)]
+pub enum Memory {
+    Device,
+    User,
+}
+
+pub fn regions(sheet: &[u8], memory: Memory) -> impl Iterator<Item = Region> + '_ {
+    let entries = match memory {
+        Memory::Device => tables(sheet).regions,
+        Memory::User => tables(sheet).users,
+    };
+    entries.iter().map(|e| Region {
         address: word(e[0], e[1]) as u32,
         length: word(e[2], e[3]) as u32,
         body: word(e[4], e[5]) as usize,
@@ -246,11 +297,11 @@ pub fn property(sheet: &[u8], object: u8, id: u8) -> (usize, usize) {
     found.map_or((0, 0), |p| (p.body, p.size * p.maximum as usize))
 }
 
-pub fn region(sheet: &[u8], k: usize) -> (usize, usize) {
+pub fn region(sheet: &[u8], memory: Memory, k: usize) -> (usize, usize) {
     if check(sheet) != 0 {
         return (0, 0);
     }
-    regions(sheet).nth(k).map_or((0, 0), |r| (r.body, r.length as usize))
+    regions(sheet, memory).nth(k).map_or((0, 0), |r| (r.body, r.length as usize))
 }
 
 pub fn group(sheet: &[u8], address: u16) -> (usize, usize) {

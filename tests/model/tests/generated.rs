@@ -7,31 +7,43 @@ use model::faults::Fault;
 use model::gen::{self, Event, Rng};
 use model::matrix::{self, ROWS};
 use model::pdu;
-use model::sheet;
+use model::sheet::{self, Memory, USERS};
 
 #[test]
 fn sheets_are_accepted_and_of_many_sizes() {
     let mut rng = Rng::new(1);
     let mut lengths = BTreeSet::new();
-    let mut seen = [[false; 65]; 3];
-    let (mut touching, mut code_0, mut verify) = (0, 0, [0; 2]);
+    let mut seen = [[false; 65]; 4];
+    let (mut touching, mut code_0, mut verify) = ([0; 2], 0, [0; 2]);
+    let (mut editions, mut shared) = ([0; 3], 0);
     for _ in 0..4000 {
         let s = gen::sheet(&mut rng);
         assert_eq!(sheet::check(&s), 0);
         lengths.insert(s.len());
-        for k in 0..3 {
-            seen[k][s[1 + k] as usize] = true;
+        editions[s[0] as usize] += 1;
+        for (k, at) in [1, 2, 3, USERS].into_iter().enumerate() {
+            seen[k][s[at] as usize] = true;
         }
-        let regions: Vec<_> = sheet::regions(&s).collect();
-        touching +=
-            regions.windows(2).filter(|w| w[0].address + w[0].length == w[1].address).count();
+        let [device, user] = [Memory::Device, Memory::User]
+            .map(|memory| sheet::regions(&s, memory).collect::<Vec<_>>());
+        for (count, regions) in touching.iter_mut().zip([&device, &user]) {
+            *count +=
+                regions.windows(2).filter(|w| w[0].address + w[0].length == w[1].address).count();
+        }
+        let meet = |a: &sheet::Region, b: &sheet::Region| {
+            a.address < b.address + b.length && b.address < a.address + a.length
+        };
+        shared += usize::from(user.iter().any(|u| device.iter().any(|d| meet(u, d))));
         code_0 += sheet::groups(&s).filter(|g| g.code == 0).count();
         verify[(s[14] >> 1) as usize] += 1;
     }
     assert!(lengths.len() > 1500, "{}", lengths.len());
     assert!(lengths.contains(&32) && lengths.contains(&16_384));
-    assert!(seen[0][..17].iter().all(|&b| b) && seen[1..].iter().flatten().all(|&b| b));
-    assert!(touching > 1000 && code_0 > 1000 && verify[0] > 500 && verify[1] > 500);
+    assert!(seen[0][..17].iter().chain(&seen[3][..17]).all(|&b| b));
+    assert!(seen[1..3].iter().flatten().all(|&b| b));
+    assert!(touching.iter().all(|&n| n > 1000) && code_0 > 1000);
+    assert!(verify[0] > 500 && verify[1] > 500 && editions[1] > 1000 && editions[2] > 1000);
+    assert!(shared > 500, "{shared}");
 }
 
 #[test]
@@ -93,7 +105,7 @@ impl State {
 #[test]
 fn every_outcome_that_can_occur_does_and_no_other() {
     let mut rng = Rng::new(3);
-    let mut seen = [[0u16; 5]; 19];
+    let mut seen = [[0u16; 5]; ROWS.len()];
     for _ in 0..8000 {
         let mut state = State::new(&mut rng);
         for _ in 0..100 {
@@ -163,8 +175,8 @@ fn rows_agree_with_the_reader() {
     }
     let known = (0..1024u16).filter(|c| pdu::read(&c.to_be_bytes()) != Err(8)).count();
     let served = (0..1024u16).filter(|c| matrix::row(&c.to_be_bytes()) != matrix::UNKNOWN).count();
-    assert_eq!(served, 1 + 64 + 64 + 1 + 1 + 1 + 1 + 64 + 3 + 16 + 16 + 3 + 1);
-    assert_eq!(known - served, 1 + 1 + 64 + 1 + 1 + 16 + 1 + 1);
+    assert_eq!(served, 1 + 64 + 64 + 1 + 1 + 1 + 1 + 64 + 3 + 16 + 16 + 3 + 1 + 2);
+    assert_eq!(known - served, 1 + 1 + 64 + 1 + 1 + 16 + 1 + 1 + 1);
 }
 
 #[test]

@@ -1,8 +1,9 @@
 //! Fixed cases: those of tests/vectors, the marked ones among them, further ones, and the PDU layouts.
 
 use model::device::{button, connect, disconnect, request, Reply, Session};
+use model::gen::{any_sheet, Rng};
 use model::pdu::{self, Pdu};
-use model::sheet::{self, SAMPLE};
+use model::sheet::{self, Memory, PUMP, SAMPLE};
 
 fn hex(text: &str) -> Vec<u8> {
     let digits: Vec<u8> = text.chars().filter_map(|c| c.to_digit(16)).map(|d| d as u8).collect();
@@ -71,18 +72,16 @@ fn named(at: &str, name: &str) -> u16 {
     value.unwrap_or_else(|| panic!("{at}: no {name}")).parse().unwrap()
 }
 
-/// Every row of the file that the tests share, the marked cases first.
-#[test]
-fn shared_cases() {
-    let rows = include_str!("../../vectors/device.tsv").lines().filter(|row| !row.starts_with('#'));
+/// Plays every row of a file that the tests share, each from the sheet, and counts the marked cases.
+fn play_rows<const N: usize>(rows: &str, from: [u8; N]) -> usize {
     let mut marked = 0;
-    for row in rows {
+    for row in rows.lines().filter(|row| !row.starts_with('#')) {
         let [source, at, apdu, answer, outcome, change] = row.split('\t').collect::<Vec<_>>()[..]
         else {
             panic!("{row}")
         };
         marked += usize::from(source.starts_with("01 marked case"));
-        let mut sheet = SAMPLE;
+        let mut sheet = from;
         sheet[14] = (named(at, "button") + 2 * named(at, "verify")) as u8;
         let mut session = Session { open: named(at, "open") == 1, level: named(at, "level") as u8 };
         let (mut after, mut stored) = (session, sheet);
@@ -112,7 +111,13 @@ fn shared_cases() {
             "{row}"
         );
     }
-    assert_eq!(marked, 14);
+    marked
+}
+
+#[test]
+fn shared_cases() {
+    assert_eq!(play_rows(include_str!("../../vectors/device.tsv"), SAMPLE), 14);
+    assert_eq!(play_rows(include_str!("../../vectors/pump.tsv"), PUMP), 0);
 }
 
 #[test]
@@ -252,7 +257,7 @@ fn sessions_and_button() {
     let reply = request(&mut session, 3, 0, &[3, 0x80], &mut sheet, &mut buffer);
     assert_eq!((reply, sheet[14]), (Reply { outcome: 1, count: 0 }, 2));
     assert_eq!((button(&mut sheet, false), sheet), (1, SAMPLE));
-    sheet[0] = 2;
+    sheet[0] = 3;
     assert_eq!((button(&mut sheet, true), sheet[14]), (4, 2));
 }
 
@@ -260,7 +265,7 @@ fn sessions_and_button() {
 fn order_of_refusals() {
     let mut session = Session::FRESH;
     let mut bad = SAMPLE;
-    bad[0] = 2;
+    bad[0] = 3;
     let mut good = SAMPLE;
     let mut ask = |sheet: &mut [u8], room, mode, apdu: &[u8]| {
         let mut buffer = vec![9; room];
@@ -356,6 +361,17 @@ fn layouts() {
     same("03D401", Pdu::KeyResponse { level: 1 }, "");
     same("03D4FF", Pdu::KeyResponse { level: 255 }, "");
     same("0380", Pdu::Restart, "");
+    same("02C0040200", Pdu::UserMemoryRead { n: 4, address: 0x200 }, "");
+    same("02C0140200", Pdu::UserMemoryRead { n: 0x14, address: 0x200 }, "");
+    same("02C0FFFFFF", Pdu::UserMemoryRead { n: 255, address: 0xFFFF }, "");
+    same("02C1040200B0B1B2B3", Pdu::UserMemoryResponse { n: 4, address: 0x200 }, "B0B1B2B3");
+    same("02C1000200", Pdu::UserMemoryResponse { n: 0, address: 0x200 }, "");
+    same("02C20202011122", Pdu::UserMemoryWrite { n: 2, address: 0x201 }, "1122");
+    same(
+        "02C20B0200 000102030405060708090A",
+        Pdu::UserMemoryWrite { n: 11, address: 0x200 },
+        "000102030405060708090A",
+    );
     reads("FF80", Pdu::Restart, "", "0380");
     same(
         "004000112233445566778899AABBCCDD",
@@ -375,7 +391,8 @@ fn reading_refused() {
         "0280", "020401", "0281010011 22", "0244010011", "024D0100 000000000000000000000000",
         "028D0100 000000000000000000000000", "03D0", "03D001",
         "03D0060100 0102030405060708090A0B", "03D0 FF 0100", "03D1", "03D2", "03D20102", "03D3",
-        "03D4", "038001",
+        "03D4", "038001", "02C0", "02C1", "02C2", "02C00402", "02C0040200FF", "02C10402 00B0B1B2",
+        "02C10C0200 000102030405060708090A", "02C2010200", "02C21202011122", "02C2FF0200",
     ];
     for (list, number) in [(&five[..], 5), (&ten[..], 10)] {
         for apdu in list {
@@ -386,8 +403,7 @@ fn reading_refused() {
     let unknown = [
         "03DF", "0180", "01C0", "02C4", "02C5", "02C6", "03E0", "03E1", "03E2", "03E3", "0001",
         "003F", "00C1", "0101", "0141", "02100100", "0250", "0290", "03810100", "03A1000000",
-        "02C0040200", "02C1040200B0B1B2B3", "02C1000200", "02C20202011122", "02C0140200", "02C0",
-        "02C1", "02C2",
+        "02BF", "02C3", "02C3040200", "02C7", "02FF",
     ];
     for apdu in unknown {
         assert_eq!(pdu::read(&hex(apdu)), Err(8), "{apdu}");
@@ -449,7 +465,7 @@ fn rules_of_the_sheet() {
     // position, new byte, rule
     #[rustfmt::skip]
     let cases = [
-        (0, 0, 2), (1, 17, 3), (2, 65, 3), (3, 65, 3), (1, 6, 4), (5, 0x44, 4), (14, 4, 5),
+        (0, 0, 2), (0, 3, 2), (0, 2, 0), (1, 17, 3), (2, 65, 3), (3, 65, 3), (1, 6, 4), (5, 0x44, 4), (14, 4, 5),
         (15, 1, 5), (30, 1, 5), (31, 1, 5), (35, 0, 6), (34, 0xFF, 6), (38, 0x42, 6),
         (38, 0x34, 6), (39, 1, 6), (41, 0, 7), (42, 0xC4, 7), (43, 0, 7), (43, 11, 7),
         (45, 0, 7), (44, 16, 7), (47, 3, 7), (50, 0x41, 7), (50, 0x34, 7), (51, 1, 7),
@@ -481,14 +497,70 @@ fn rules_of_the_sheet() {
 }
 
 #[test]
+fn rules_of_edition_2() {
+    assert_eq!(sheet::check(&PUMP), 0);
+    assert_eq!(sheet::check(&PUMP[..100]), 4);
+    // changes of position and byte, then the rule
+    #[rustfmt::skip]
+    let cases: [(&[(usize, u8)], u8); 32] = [
+        (&[(0, 0)], 2), (&[(0, 3)], 2), (&[(0, 255)], 2),
+        (&[(15, 17)], 3), (&[(15, 255)], 3), (&[(1, 17)], 3), (&[(15, 17), (5, 0)], 3),
+        (&[(15, 16)], 4), (&[(15, 6)], 4), (&[(15, 17), (0, 1)], 5), (&[(0, 1)], 5),
+        (&[(15, 5)], 6), (&[(15, 3)], 6), (&[(15, 1)], 9), (&[(15, 0)], 9),
+        (&[(30, 1)], 5), (&[(14, 4)], 5), (&[(15, 16), (30, 1)], 4),
+        (&[(63, 0)], 6), (&[(66, 0x41)], 6), (&[(66, 0x34)], 6), (&[(67, 1)], 6),
+        (&[(69, 3)], 6), (&[(68, 0)], 6), (&[(68, 0xFF), (69, 0xF5)], 6),
+        (&[(68, 0xFF), (69, 0xF4)], 0), (&[(67, 1), (41, 0)], 6), (&[(75, 1), (55, 8)], 6),
+        (&[(65, 0x56)], 9), (&[(63, 5), (69, 5)], 9), (&[(71, 11)], 9), (&[(57, 0x55), (65, 0x54)], 9),
+    ];
+    for (changes, rule) in cases {
+        let mut sheet = PUMP;
+        for &(at, byte) in changes {
+            sheet[at] = byte;
+        }
+        assert_eq!(sheet::check(&sheet), rule, "{changes:?}");
+    }
+    // User regions may stand anywhere beside device memory: below, around, above.
+    for first in [[0, 0xFC], [0, 0xFE], [1, 0]] {
+        let mut sheet = PUMP;
+        sheet[60..62].copy_from_slice(&first);
+        assert_eq!(sheet::check(&sheet), 0);
+    }
+    // Without user regions the two editions have the same rules, but for their number.
+    let mut rng = Rng::new(6);
+    for _ in 0..20_000 {
+        let mut sheet = any_sheet(&mut rng);
+        if sheet.len() < 32 {
+            continue;
+        }
+        sheet[15] = 0;
+        let rules = [1, 2].map(|edition| {
+            sheet[0] = edition;
+            sheet::check(&sheet)
+        });
+        assert_eq!(rules[0], rules[1]);
+    }
+}
+
+#[test]
 fn lookups() {
-    assert_eq!(sheet::region(&SAMPLE, 0), (60, 4));
+    assert_eq!(sheet::region(&SAMPLE, Memory::Device, 0), (60, 4));
     assert_eq!(sheet::property(&SAMPLE, 1, 0x33), (64, 4));
     assert_eq!(sheet::group(&SAMPLE, 0x0801), (68, 1));
-    assert_eq!(sheet::region(&SAMPLE, 1), (0, 0));
+    assert_eq!(sheet::region(&SAMPLE, Memory::Device, 1), (0, 0));
     assert_eq!(sheet::property(&SAMPLE, 1, 0), (0, 0));
     assert_eq!(sheet::group(&SAMPLE, 0), (0, 0));
+    assert_eq!(sheet::region(&SAMPLE, Memory::User, 0), (0, 0));
+    assert_eq!(sheet::region(&PUMP, Memory::Device, 0), (76, 4));
+    assert_eq!(sheet::region(&PUMP, Memory::Device, 1), (0, 0));
+    assert_eq!(sheet::region(&PUMP, Memory::User, 0), (85, 4));
+    assert_eq!(sheet::region(&PUMP, Memory::User, 1), (89, 12));
+    assert_eq!(sheet::region(&PUMP, Memory::User, 2), (0, 0));
+    assert_eq!(sheet::region(&PUMP[..100], Memory::User, 0), (0, 0));
     let bad = &SAMPLE[..68];
-    assert_eq!((sheet::region(bad, 0), sheet::property(bad, 1, 0x33)), ((0, 0), (0, 0)));
+    assert_eq!(
+        (sheet::region(bad, Memory::Device, 0), sheet::property(bad, 1, 0x33)),
+        ((0, 0), (0, 0))
+    );
     assert_eq!(sheet::group(bad, 0x0801), (0, 0));
 }

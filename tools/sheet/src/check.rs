@@ -30,10 +30,11 @@ fn whole(rule: u8, broken: bool, why: impl FnOnce() -> String) -> Result<(), Bro
     Ok(())
 }
 
-/// Accepted, or the first rule broken: S1 to S5, then S6 of all regions, S7, S8, S9.
+/// Accepted, or the first rule broken: S1 to S5, then S6 of all regions of both memories, S7, S8, S9.
 pub fn check(s: &[u8]) -> Result<(), Broken> {
     head(s)?;
-    regions(s)?;
+    regions(s, Kind::Region)?;
+    regions(s, Kind::User)?;
     properties(s)?;
     groups(s)?;
     bodies(s)
@@ -43,7 +44,7 @@ pub fn check(s: &[u8]) -> Result<(), Broken> {
 fn head(s: &[u8]) -> Result<(), Broken> {
     whole(1, s.len() < HEAD, || format!("the sheet has {} bytes, fewer than {HEAD}", s.len()))?;
     whole(1, s.len() > LONGEST, || format!("the sheet has more than {LONGEST} bytes"))?;
-    whole(2, s[0] != 1, || format!("edition {}, not 1", s[0]))?;
+    whole(2, s[0] != 1 && s[0] != 2, || format!("edition {}, not 1 or 2", s[0]))?;
     for kind in KINDS {
         let (n, most) = (count(s, kind), kind.most());
         whole(3, n > most, || format!("{n} {}, more than {most}", kind.plural()))?;
@@ -57,7 +58,8 @@ fn head(s: &[u8]) -> Result<(), Broken> {
         format!("head and entries take {contents} bytes, the sheet has {}", s.len())
     })?;
     for at in [15, 30, 31] {
-        whole(5, s[at] != 0, || format!("byte {at} of the head is {}, not 0", s[at]))?;
+        let zero = at != 15 || s[0] == 1; // edition 2 has a number there
+        whole(5, zero && s[at] != 0, || format!("byte {at} of the head is {}, not 0", s[at]))?;
     }
     whole(5, s[14] > 3, || format!("flags {}, of which only 1 and 2 may be set", s[14]))
 }
@@ -86,10 +88,10 @@ fn zero(e: &[u8], at: usize) -> Option<String> {
     (e[at] != 0).then(|| format!("byte {at} of the entry is {}, not 0", e[at]))
 }
 
-/// S6.
-fn regions(s: &[u8]) -> Result<(), Broken> {
+/// S6, of the regions of one memory.
+fn regions(s: &[u8], kind: Kind) -> Result<(), Broken> {
     let mut free = 0; // the first address above the region before
-    for (i, e) in entries(s, Kind::Region).enumerate() {
+    for (i, e) in entries(s, kind).enumerate() {
         let (address, length) = (word(e, 0) as usize, word(e, 2) as usize);
         let fault = if length == 0 {
             Some("length 0".to_string())
@@ -103,7 +105,7 @@ fn regions(s: &[u8]) -> Result<(), Broken> {
         } else {
             levels(e[6]).or(zero(e, 7))
         };
-        of_entry(6, Kind::Region, i, e, fault)?;
+        of_entry(6, kind, i, e, fault)?;
         free = address + length;
     }
     Ok(())

@@ -11,13 +11,13 @@ use crate::show::{byte_words, element, flag_words, switch};
 pub fn lines(a: &Sheet, b: &Sheet) -> Vec<String> {
     let mut out = Lines(Vec::new());
     head(&mut out, a, b);
-    regions(&mut out, &a.regions, &b.regions);
-    memory(&mut out, &a.regions, &b.regions);
+    memory(&mut out, "", &a.regions, &b.regions);
     let (pa, pb) =
         (by(&a.properties, |p| (p.object, p.id)), by(&b.properties, |p| (p.object, p.id)));
     both(&mut out, &pa, &pb, |(object, id)| format!("property {object}/{id}"), property);
     let (ga, gb) = (by(&a.groups, |g| g.address), by(&b.groups, |g| g.address));
     both(&mut out, &ga, &gb, |address| format!("group object {}", group_address(address)), group);
+    memory(&mut out, "user ", &a.users, &b.users);
     out.0
 }
 
@@ -43,6 +43,7 @@ impl Lines {
 }
 
 fn head(out: &mut Lines, a: &Sheet, b: &Sheet) {
+    out.compare("edition", a.edition, b.edition);
     out.compare("serial number", hex(&a.serial), hex(&b.serial));
     out.compare("mask version", hex(&a.mask), hex(&b.mask));
     out.compare("programming mode", switch(a.programming), switch(b.programming));
@@ -80,8 +81,14 @@ fn both<T, K: Ord + Copy>(
     }
 }
 
-fn regions(out: &mut Lines, a: &[Region], b: &[Region]) {
-    let name = |address: u16| format!("region {}", memory_address(address.into()));
+/// One memory, which a word before its regions and bytes tells from the other.
+fn memory(out: &mut Lines, whose: &str, a: &[Region], b: &[Region]) {
+    regions(out, whose, a, b);
+    bytes(out, whose, a, b);
+}
+
+fn regions(out: &mut Lines, whose: &str, a: &[Region], b: &[Region]) {
+    let name = |address: u16| format!("{whose}region {}", memory_address(address.into()));
     let (a, b) = (by(a, |r| r.address), by(b, |r| r.address));
     both(out, &a, &b, name, |out, name, x, y| {
         out.compare(&format!("{name} length"), x.body.len(), y.body.len());
@@ -99,7 +106,7 @@ fn bytes_of(regions: &[Region]) -> BTreeMap<usize, u8> {
 }
 
 /// Bytes at addresses that both sheets have, neighbours on one line; and those that are new and not 0.
-fn memory(out: &mut Lines, a: &[Region], b: &[Region]) {
+fn bytes(out: &mut Lines, whose: &str, a: &[Region], b: &[Region]) {
     const TO_A_LINE: usize = 8;
     if a == b {
         return;
@@ -115,14 +122,14 @@ fn memory(out: &mut Lines, a: &[Region], b: &[Region]) {
                 line.iter().map(|&(_, old, new)| (old, new)).unzip();
             let at = memory_address(line[0].0);
             out.compare(
-                &format!("memory {at}"),
+                &format!("{whose}memory {at}"),
                 byte_words(&old).join(" "),
                 byte_words(&new).join(" "),
             );
         }
     }
     for (&at, &byte) in b.iter().filter(|(at, byte)| !a.contains_key(at) && **byte != 0) {
-        out.say(format!("memory {}: new, {byte:02x}", memory_address(at)));
+        out.say(format!("{whose}memory {}: new, {byte:02x}", memory_address(at)));
     }
 }
 

@@ -11,23 +11,24 @@ pub enum Kind {
     Region,
     Property,
     Group,
+    User,
 }
 
-pub const KINDS: [Kind; 3] = [Kind::Region, Kind::Property, Kind::Group];
+pub const KINDS: [Kind; 4] = [Kind::Region, Kind::Property, Kind::Group, Kind::User];
 
 impl Kind {
     /// The length of an entry.
     pub fn length(self) -> usize {
-        [8, 12, 8][self as usize]
+        [8, 12, 8, 8][self as usize]
     }
 
     /// So many entries a sheet may have.
     pub fn most(self) -> usize {
-        [16, 64, 64][self as usize]
+        [16, 64, 64, 16][self as usize]
     }
 
     pub fn plural(self) -> &'static str {
-        ["regions", "properties", "group objects"][self as usize]
+        ["regions", "properties", "group objects", "user regions"][self as usize]
     }
 }
 
@@ -35,9 +36,12 @@ pub fn word(s: &[u8], at: usize) -> u16 {
     u16::from_be_bytes([s[at], s[at + 1]])
 }
 
-/// The number of entries of a kind, by the head.
+/// The number of entries of a kind, by the head; in edition 1 there are no user regions.
 pub fn count(s: &[u8], kind: Kind) -> usize {
-    s[1 + kind as usize] as usize
+    if kind == Kind::User && s[0] != 2 {
+        return 0;
+    }
+    s[[1, 2, 3, 15][kind as usize]] as usize
 }
 
 /// Where the entries of a kind begin.
@@ -47,7 +51,7 @@ fn start(s: &[u8], kind: Kind) -> usize {
 
 /// The length of head and entries.
 pub fn contents(s: &[u8]) -> usize {
-    start(s, Kind::Group) + Kind::Group.length() * count(s, Kind::Group)
+    start(s, Kind::User) + Kind::User.length() * count(s, Kind::User)
 }
 
 /// The entries of a kind; they must lie in the sheet.
@@ -58,12 +62,12 @@ pub fn entries(s: &[u8], kind: Kind) -> impl Iterator<Item = &[u8]> {
 
 /// Where the body of an entry starts, by the entry.
 pub fn body_at(kind: Kind, e: &[u8]) -> usize {
-    word(e, [4, 8, 4][kind as usize]) as usize
+    word(e, [4, 8, 4, 4][kind as usize]) as usize
 }
 
 pub fn body_length(kind: Kind, e: &[u8]) -> usize {
     match kind {
-        Kind::Region => word(e, 2) as usize,
+        Kind::Region | Kind::User => word(e, 2) as usize,
         Kind::Property => e[3] as usize * word(e, 4) as usize,
         Kind::Group => e[2].max(1) as usize,
     }
@@ -75,6 +79,7 @@ pub fn name(kind: Kind, e: &[u8]) -> String {
         Kind::Region => format!("region {}", memory_address(word(e, 0).into())),
         Kind::Property => format!("property {}/{}", e[0], e[1]),
         Kind::Group => format!("group object {}", group_address(word(e, 0))),
+        Kind::User => format!("user region {}", memory_address(word(e, 0).into())),
     }
 }
 
@@ -108,6 +113,7 @@ pub fn hex(bytes: &[u8]) -> String {
 /// All that an accepted sheet says; places and lengths follow from it.
 #[derive(Clone, Debug, PartialEq, Eq)]
 pub struct Sheet {
+    pub edition: u8,
     pub serial: [u8; 6],
     pub mask: [u8; 2],
     pub programming: bool,
@@ -117,6 +123,8 @@ pub struct Sheet {
     pub regions: Vec<Region>,
     pub properties: Vec<Property>,
     pub groups: Vec<Group>,
+    /// The regions of user memory; edition 1 has none.
+    pub users: Vec<Region>,
 }
 
 #[derive(Clone, Copy, Debug, PartialEq, Eq)]
@@ -178,20 +186,26 @@ fn with_bodies(s: &[u8], kind: Kind) -> impl Iterator<Item = (&[u8], Vec<u8>)> {
     })
 }
 
+/// The regions of one memory.
+fn regions(s: &[u8], kind: Kind) -> Vec<Region> {
+    with_bodies(s, kind)
+        .map(|(e, body)| Region { address: word(e, 0), levels: Levels::of(e[6]), body })
+        .collect()
+}
+
 impl Sheet {
     /// The values of a sheet, if it is accepted.
     pub fn read(s: &[u8]) -> Result<Sheet, Broken> {
         check(s)?;
         Ok(Sheet {
+            edition: s[0],
             serial: array(s, 6),
             mask: array(s, 12),
             programming: s[14] & 1 != 0,
             verify: s[14] & 2 != 0,
             address: word(s, 16),
             keys: [array(s, 18), array(s, 22), array(s, 26)],
-            regions: with_bodies(s, Kind::Region)
-                .map(|(e, body)| Region { address: word(e, 0), levels: Levels::of(e[6]), body })
-                .collect(),
+            regions: regions(s, Kind::Region),
             properties: with_bodies(s, Kind::Property)
                 .map(|(e, body)| Property {
                     object: e[0],
@@ -208,18 +222,14 @@ impl Sheet {
             groups: with_bodies(s, Kind::Group)
                 .map(|(e, body)| Group { address: word(e, 0), code: e[2], flags: e[3], body })
                 .collect(),
+            users: regions(s, Kind::User),
         })
     }
 
     /// The bytes of these values; whether they are accepted is for `check` to say.
     pub fn bytes(&self) -> Vec<u8> {
         let mut out = Out { bytes: self.head(), bodies: Vec::new(), next: self.contents() };
-        for r in &self.regions {
-            out.put(&r.address.to_be_bytes());
-            out.put(&(r.body.len() as u16).to_be_bytes());
-            out.place(&r.body);
-            out.put(&[r.levels.byte(), 0]);
-        }
+        out.regions(&self.regions);
         for p in &self.properties {
             let writable = if p.writable { WRITABLE } else { 0 };
             out.put(&[p.object, p.id, writable | p.class, p.size]);
@@ -234,25 +244,30 @@ impl Sheet {
             out.place(&g.body);
             out.put(&[0, 0]);
         }
+        out.regions(&self.users);
         out.bytes.extend(out.bodies);
         let total = out.bytes.len() as u16;
         out.bytes[4..6].copy_from_slice(&total.to_be_bytes());
         out.bytes
     }
 
+    /// The numbers of entries, in the order of the kinds.
+    pub fn numbers(&self) -> [usize; 4] {
+        [self.regions.len(), self.properties.len(), self.groups.len(), self.users.len()]
+    }
+
     fn contents(&self) -> usize {
-        HEAD + 8 * self.regions.len() + 12 * self.properties.len() + 8 * self.groups.len()
+        HEAD + KINDS.iter().zip(self.numbers()).map(|(kind, n)| kind.length() * n).sum::<usize>()
     }
 
     /// The head, but for the sheet's length.
     fn head(&self) -> Vec<u8> {
-        let numbers = [self.regions.len(), self.properties.len(), self.groups.len()];
-        let mut head = vec![1];
-        head.extend(numbers.map(|n| n as u8));
+        let [regions, properties, groups, users] = self.numbers().map(|n| n as u8);
+        let mut head = vec![self.edition, regions, properties, groups];
         head.extend([0, 0]);
         head.extend(self.serial);
         head.extend(self.mask);
-        head.extend([u8::from(self.programming) + 2 * u8::from(self.verify), 0]);
+        head.extend([u8::from(self.programming) + 2 * u8::from(self.verify), users]);
         head.extend(self.address.to_be_bytes());
         head.extend(self.keys.as_flattened());
         head.extend([0, 0]);
@@ -270,6 +285,16 @@ struct Out {
 impl Out {
     fn put(&mut self, bytes: &[u8]) {
         self.bytes.extend(bytes);
+    }
+
+    /// The entries of one memory's regions.
+    fn regions(&mut self, regions: &[Region]) {
+        for r in regions {
+            self.put(&r.address.to_be_bytes());
+            self.put(&(r.body.len() as u16).to_be_bytes());
+            self.place(&r.body);
+            self.put(&[r.levels.byte(), 0]);
+        }
     }
 
     /// Writes where the body will stand, and keeps it.

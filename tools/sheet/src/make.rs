@@ -206,8 +206,9 @@ struct Draft {
     regions: Vec<Region>,
     properties: Vec<Property>,
     groups: Vec<Group>,
+    users: Vec<Region>,
     /// The line of each entry, by kind.
-    lines: [Vec<usize>; 3],
+    lines: [Vec<usize>; 4],
     /// The kind of the entry whose body the next lines have.
     last: Option<Kind>,
 }
@@ -217,7 +218,7 @@ impl Draft {
         let Some((first, rest)) = words.split_first() else { return Ok(()) };
         match *first {
             "edition" => {
-                let edition = number("edition", only("edition", rest)?, 1, 1)?;
+                let edition = number("edition", only("edition", rest)?, 1, 2)?;
                 once("edition", &mut self.edition, edition as u8)
             }
             "serial" => {
@@ -236,9 +237,16 @@ impl Draft {
                 once("address", &mut self.address, address)
             }
             "key" => self.key(rest),
-            "region" => self.region(rest).map(|()| self.begun(Kind::Region, line)),
+            "region" => region("region", rest).map(|r| {
+                self.regions.push(r);
+                self.begun(Kind::Region, line)
+            }),
             "property" => self.property(rest).map(|()| self.begun(Kind::Property, line)),
             "group" => self.group(rest).map(|()| self.begun(Kind::Group, line)),
+            "user" => region("user", rest).map(|r| {
+                self.users.push(r);
+                self.begun(Kind::User, line)
+            }),
             _ => self.body(words),
         }
     }
@@ -258,15 +266,6 @@ impl Draft {
             return Err(format!("{field} is hidden: show the sheet with --keys"));
         }
         once(&field, &mut self.keys[level as usize], hex_bytes(&field, key)?)
-    }
-
-    fn region(&mut self, words: &[&str]) -> Read<()> {
-        let (mut fields, key) = Fields::new("region", words)?;
-        let address = number("first address", key, 0, 65_535).map_err(|what| fields.fault(what))?;
-        let levels = fields.levels()?;
-        fields.end()?;
-        self.regions.push(Region { address: address as u16, levels, body: Vec::new() });
-        Ok(())
     }
 
     fn property(&mut self, words: &[&str]) -> Read<()> {
@@ -313,6 +312,10 @@ impl Draft {
                 .last_mut()
                 .map_or(Ok(()), |g| byte_run("group object", &mut g.body, words)),
             Kind::Property => self.properties.last_mut().map_or(Ok(()), |p| elements(p, words)),
+            Kind::User => self
+                .users
+                .last_mut()
+                .map_or(Ok(()), |r| byte_run("user region", &mut r.body, words)),
         }
     }
 
@@ -323,7 +326,11 @@ impl Draft {
         let sheet = self
             .sheet()
             .map_err(|field| Fault { line: last, what: format!("{field} is missing") })?;
-        let numbers = [sheet.regions.len(), sheet.properties.len(), sheet.groups.len()];
+        if let (1, Some(&line)) = (sheet.edition, lines[Kind::User as usize].first()) {
+            let what = "a sheet of edition 1 has no user regions".to_string();
+            return Err(Fault { line, what });
+        }
+        let numbers = sheet.numbers();
         for kind in KINDS {
             if numbers[kind as usize] > kind.most() {
                 let what = format!("S3: more than {} {}", kind.most(), kind.plural());
@@ -362,8 +369,8 @@ impl Draft {
 
     /// The values, or the first field of the head that is missing.
     fn sheet(self) -> Result<Sheet, &'static str> {
-        self.edition.ok_or("edition")?;
         Ok(Sheet {
+            edition: self.edition.ok_or("edition")?,
             serial: self.serial.ok_or("serial")?,
             mask: self.mask.ok_or("mask")?,
             programming: self.programming.ok_or("programming")?,
@@ -377,8 +384,18 @@ impl Draft {
             regions: self.regions,
             properties: self.properties,
             groups: self.groups,
+            users: self.users,
         })
     }
+}
+
+/// A region of the memory that the word stands for, without its bytes.
+fn region(word: &str, words: &[&str]) -> Read<Region> {
+    let (mut fields, key) = Fields::new(word, words)?;
+    let address = number("first address", key, 0, 65_535).map_err(|what| fields.fault(what))?;
+    let levels = fields.levels()?;
+    fields.end()?;
+    Ok(Region { address: address as u16, levels, body: Vec::new() })
 }
 
 /// Bytes in hex, two digits each.

@@ -18,13 +18,16 @@ const BYTES: usize = 16;
 pub fn text(sheet: &Sheet, keys: bool) -> String {
     let mut out = head(sheet, keys);
     for region in &sheet.regions {
-        out += &region_text(region);
+        out += &region_text("region", region);
     }
     for property in &sheet.properties {
         out += &property_text(property);
     }
     for group in &sheet.groups {
         out += &group_text(group);
+    }
+    for region in &sheet.users {
+        out += &region_text("user", region);
     }
     out
 }
@@ -38,7 +41,7 @@ pub fn switch(on: bool) -> &'static str {
 }
 
 fn head(sheet: &Sheet, keys: bool) -> String {
-    let mut out = String::from("edition 1\n");
+    let mut out = format!("edition {}\n", sheet.edition);
     out += &format!("serial {}\n", hex(&sheet.serial));
     out += &format!("mask {}\n", hex(&sheet.mask));
     out += &format!("programming {}\n", switch(sheet.programming));
@@ -74,9 +77,10 @@ pub fn byte_words(bytes: &[u8]) -> Vec<String> {
     bytes.chunks(1).map(hex).collect()
 }
 
-fn region_text(r: &Region) -> String {
+/// A region of the memory that the word stands for.
+fn region_text(word: &str, r: &Region) -> String {
     let first = r.address as usize;
-    let head = format!("\nregion {} {}\n", memory_address(first), levels(r.levels));
+    let head = format!("\n{word} {} {}\n", memory_address(first), levels(r.levels));
     head + &lines(&byte_words(&r.body), BYTES, |i| memory_address(first + i))
 }
 

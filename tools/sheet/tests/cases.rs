@@ -1,6 +1,6 @@
 //! The sample sheet by hand, each rule's words, each fault's words.
 
-use model::sheet::SAMPLE;
+use model::sheet::{PUMP, SAMPLE};
 use sheet::check::check;
 use sheet::layout::Sheet;
 use sheet::{diff, make, show};
@@ -25,10 +25,38 @@ group 1/0/1 code 1 read write
     00
 ";
 
+const PUMP_TEXT: &str = "edition 2
+serial 00c501020305
+mask 07b0
+programming off
+verify on
+address 1.1.6
+key 0 11111111
+key 1 22222222
+key 2 ffffffff
+
+region 0100h r3 w2
+    a0 a1 a2 a3
+
+property 1/51 type 4 writable size 2 maximum 2 count 1 r3 w1
+    1000
+
+group 1/0/1 code 1 read write
+    00
+
+user 0100h r3 w1
+    b0 b1 b2 b3
+
+user 0104h r2 w0
+    c0 c1 c2 c3 c4 c5 c6 c7 c8 c9 ca cb
+";
+
 #[test]
-fn sample_by_hand() {
+fn by_hand() {
     assert_eq!(show::text(&Sheet::read(&SAMPLE).unwrap(), true), TEXT);
     assert_eq!(make::bytes(TEXT).unwrap(), SAMPLE);
+    assert_eq!(show::text(&Sheet::read(&PUMP).unwrap(), true), PUMP_TEXT);
+    assert_eq!(make::bytes(PUMP_TEXT).unwrap(), PUMP);
 }
 
 /// Other ways to write the same.
@@ -42,7 +70,11 @@ fn free_forms() {
 }
 
 fn told(changes: &[(usize, u8)]) -> String {
-    let mut bytes = SAMPLE.to_vec();
+    told_of(&SAMPLE, changes)
+}
+
+fn told_of(sheet: &[u8], changes: &[(usize, u8)]) -> String {
+    let mut bytes = sheet.to_vec();
     for &(at, byte) in changes {
         bytes[at] = byte;
     }
@@ -57,7 +89,7 @@ fn rules() {
         check(&[1; 16_385]).unwrap_err().to_string(),
         "S1: the sheet has more than 16384 bytes"
     );
-    assert_eq!(told(&[(0, 2)]), "S2: edition 2, not 1");
+    assert_eq!(told(&[(0, 3)]), "S2: edition 3, not 1 or 2");
     assert_eq!(told(&[(1, 17)]), "S3: 17 regions, more than 16");
     assert_eq!(told(&[(3, 65)]), "S3: 65 group objects, more than 64");
     assert_eq!(told(&[(5, 70)]), "S4: the head states 70 bytes, the sheet has 69");
@@ -89,6 +121,28 @@ fn rules() {
     assert_eq!(told(&[(54, 0), (68, 64)]), "S9: group object 1/0/1, six-bit value 64 above 63");
 }
 
+#[test]
+fn rules_of_edition_2() {
+    let told = |changes: &[(usize, u8)]| told_of(&PUMP, changes);
+    assert_eq!(check(&PUMP), Ok(()));
+    assert_eq!(told(&[(0, 0)]), "S2: edition 0, not 1 or 2");
+    assert_eq!(told(&[(15, 17)]), "S3: 17 user regions, more than 16");
+    assert_eq!(told(&[(15, 16)]), "S4: head and entries take 188 bytes, the sheet has 101");
+    assert_eq!(told(&[(0, 1)]), "S5: byte 15 of the head is 2, not 0");
+    assert_eq!(told(&[(30, 1)]), "S5: byte 30 of the head is 1, not 0");
+    assert_eq!(told(&[(63, 0)]), "S6: user region 0100h, length 0");
+    assert_eq!(told(&[(66, 0x51)]), "S6: user region 0100h, read level 5 above 3");
+    assert_eq!(
+        told(&[(69, 3), (41, 0)]),
+        "S6: user region 0103h, first address below the end of the region before, 0104h"
+    );
+    assert_eq!(
+        told(&[(65, 0x56)]),
+        "S9: user region 0100h, its body starts at 86, and the one before ends at 85"
+    );
+    assert_eq!(told(&[(71, 11)]), "S9: the last body ends at 100, the sheet at 101");
+}
+
 /// The second of two entries, by their order.
 #[test]
 fn order() {
@@ -111,7 +165,7 @@ fn order() {
 #[test]
 fn faults() {
     let cases = [
-        ("edition 1", "edition 2", "line 1: edition is \"2\", not 1 to 1"),
+        ("edition 1", "edition 3", "line 1: edition is \"3\", not 1 to 2"),
         ("edition 1\n", "", "line 17: edition is missing"),
         ("mask 07b0", "mask 7b0", "line 3: mask is not 4 hex digits: \"7b0\""),
         ("mask 07b0", "mask", "line 3: mask has no value"),
@@ -152,6 +206,19 @@ fn faults() {
         let fault = make::bytes(&TEXT.replacen(from, to, 1)).unwrap_err();
         assert_eq!(fault.to_string(), what);
     }
+    let cases = [
+        ("edition 2", "edition 1", "line 20: a sheet of edition 1 has no user regions"),
+        ("    b0 b1 b2 b3\n", "", "line 20: S6: user region 0100h, length 0"),
+        ("r2 w0", "r2", "line 23: user 0104h, write level is missing: w0 to w3"),
+        ("b1 b2", "b1 2", "line 21: byte 2 of the user region is not 2 hex digits: \"2\""),
+        ("user 0104h", "user x", "line 23: user x, first address is no number: \"x\""),
+        ("user 0104h", "user", "line 23: user r2, first address is no number: \"r2\""),
+    ];
+    for (from, to, what) in cases {
+        assert!(PUMP_TEXT.contains(from));
+        let fault = make::bytes(&PUMP_TEXT.replacen(from, to, 1)).unwrap_err();
+        assert_eq!(fault.to_string(), what);
+    }
     assert_eq!(make::bytes("").unwrap_err().to_string(), "line 1: edition is missing");
 }
 
@@ -162,6 +229,9 @@ fn too_much() {
     let fault =
         make::bytes(&TEXT.replace("region 0100h r3 w2\n    a0 a1 a2 a3\n", &regions)).unwrap_err();
     assert_eq!(fault.to_string(), "line 43: S3: more than 16 regions");
+    let users: String = (0..17).map(|i| format!("user {i} r3 w3\n00\n")).collect();
+    let fault = make::bytes(&(TEXT.replace("edition 1", "edition 2") + &users)).unwrap_err();
+    assert_eq!(fault.to_string(), "line 51: S3: more than 16 user regions");
     let fault = make::bytes(&TEXT.replace("size 2 maximum 2", "size 10 maximum 4095")).unwrap_err();
     assert_eq!(fault.to_string(), "line 18: S1: the sheet has more than 16384 bytes");
 }
@@ -195,4 +265,20 @@ fn differences() {
         assert_eq!(diff::lines(&old, &new), [line]);
         assert_eq!(diff::lines(&new, &new), [""; 0]);
     }
+    let cases = [
+        ("b0 b1", "b0 55", "user memory 0101h: b1 → 55"),
+        ("a0 a1", "a0 55", "memory 0101h: a1 → 55"),
+        ("c9 ca cb", "c9 ca", "user region 0104h length: 12 → 11"),
+        ("r2 w0", "r3 w0", "user region 0104h read level: 2 → 3"),
+        ("cb\n", "cb\nuser 0200h r3 w3\n00\n", "user region 0200h is new"),
+    ];
+    let old = Sheet::read(&PUMP).unwrap();
+    for (from, to, line) in cases {
+        let new = Sheet::read(&make::bytes(&PUMP_TEXT.replacen(from, to, 1)).unwrap()).unwrap();
+        assert_eq!(diff::lines(&old, &new), [line]);
+    }
+    let mut second = SAMPLE;
+    second[0] = 2;
+    let (first, second) = (Sheet::read(&SAMPLE).unwrap(), Sheet::read(&second).unwrap());
+    assert_eq!(diff::lines(&first, &second), ["edition: 1 → 2"]);
 }

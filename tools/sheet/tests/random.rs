@@ -64,7 +64,8 @@ fn named_entries() {
             None => assert!(broken.rule <= 5 || broken.rule == 9, "seed {seed}: {broken}"),
             Some((kind, i)) => {
                 assert!(i < sheet::layout::count(&bytes, kind), "seed {seed}: {broken}");
-                assert!(broken.rule == 9 || broken.rule == 6 + kind as u8, "seed {seed}: {broken}");
+                let rule = [6, 7, 8, 6][kind as usize];
+                assert!(broken.rule == 9 || broken.rule == rule, "seed {seed}: {broken}");
             }
         }
     }

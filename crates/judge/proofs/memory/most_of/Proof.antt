@@ -1,8 +1,10 @@
 -- `judge::memory::most_of` meets its contract.
 -- Assumes nothing.
-use Rattle.judge.proofs.Memories.{device-most}
+use borrow.Author.Needs.{needs}
+use Rattle.judge.proofs.Arms.{via-most}
 use Rattle.judge.proofs.memory.most_of.Statement.{statement}
 use Rattle.judge.proofs.memory.most_of.Tie as tie
 
 pub most-of-spec : {M : Type 1} → statement M
-most-of-spec = tie.close (tie.spec (λ c. search device-most))
+most-of-spec =
+    tie.close (tie.spec (λ c. search needs) (λ c. search needs) (λ c. search via-most) (λ c. search via-most))

@@ -1,9 +1,16 @@
 -- `sheet::table::many` meets its contract.
 -- Assumes nothing.
 use borrow.Author.Needs.{needs}
-use Rattle.sheet.proofs.Entries.{counted}
+use Rattle.sheet.proofs.Entries.{counted, users-counted}
 use Rattle.sheet.proofs.table.many.Statement.{statement}
 use Rattle.sheet.proofs.table.many.Tie as tie
 
 pub many-spec : {M : Type 1} → statement M
-many-spec = tie.close (tie.spec (λ c. search needs) (λ c κs. search needs) (λ c. search counted))
+many-spec =
+    tie.close
+    (tie.spec
+    (λ c κs. search needs)
+    (λ c. search users-counted)
+    (λ c. search needs)
+    (λ c κs. search needs)
+    (λ c. search counted))

@@ -4,7 +4,7 @@ use mathlib.Core.Path.{_≡_}
 use borrow.Author.Needs.{needs}
 use native.Mathlib.Omega.{arith}
 use Rattle.sheet.proofs.Entries.{place-near}
-use Rattle.sheet.proofs.Rules.{entry-there, place-there, says-region, says-property, says-group}
+use Rattle.sheet.proofs.Rules.{entry-there, place-there, says-region, says-property, says-group, says-user}
 use Rattle.sheet.proofs.walk.step.Statement.{statement}
 use Rattle.sheet.proofs.walk.step.Tie as tie
 
@@ -16,12 +16,15 @@ step-spec =
     (λ c κs. search (place-near, needs))
     (λ c κs. search (entry-there, place-there))
     (λ c κs. search (place-near, needs))
+    (λ c κs. search (entry-there, place-there))
+    (λ c κs. search (place-near, needs))
     (λ c κs.
-    let e : c .before .before .args .k ≡ 2 = omega (arith, c .match .rest .0 .1, c .match .rest .1) in
+    let e : c .before .before .args .k ≡ 3 = omega (arith, c .match .rest, c .before .before .pre .0 .kind) in
     search (entry-there, place-there))
     (λ c κs. search (place-near, needs))
     (λ c. search says-region)
     (λ c. search says-property)
+    (λ c. search says-group)
     (λ c.
-    let e : c .before .before .before .before .args .k ≡ 2 = omega (arith, c .before .before .match .rest .0 .1, c .before .before .match .rest .1) in
-    search says-group))
+    let e : c .before .before .before .before .args .k ≡ 3 = omega (arith, c .before .before .match .rest, c .before .before .before .before .pre .0 .kind) in
+    search says-user))

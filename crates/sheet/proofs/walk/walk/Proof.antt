@@ -33,6 +33,7 @@ walk-spec =
     (λ c κs. search needs)
     (λ c. search pass-begins)
     (λ c κs. search (pass-entry, pass-near, needs))
+    (λ c κs. search needs)
     (λ c. search needs)
     (λ c. search needs)
     (λ c. search pass-goes)

@@ -15,4 +15,5 @@ meant-spec =
     (λ c. search via-meant) (λ c. search via-meant) (λ c. search via-meant) (λ c. search via-meant) (λ c. search via-meant)
     (λ c. search via-meant) (λ c. search via-meant) (λ c. search via-meant) (λ c. search via-meant) (λ c. search via-meant)
     (λ c. search via-meant) (λ c. search via-meant) (λ c. search via-meant) (λ c. search via-meant) (λ c. search via-meant)
+    (λ c. search via-meant) (λ c. search via-meant) (λ c. search via-meant)
     (λ c. no-kind _ (c .match .rest)))

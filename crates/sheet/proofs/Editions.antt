@@ -1,0 +1,22 @@
+-- Byte 15 by the edition.
+-- Assumes nothing.
+use Prim.Native.Nat.{ℕ}
+use mathlib.Core.Path.{_≡_, sym, _∙_}
+use mathlib.Core.List.{List}
+use borrow.Author.Tests.{eq-eqb, ne-eqb}
+use Rattle.sheet.specs.Rules.{edition}
+use Rattle.sheet.specs.Layout.{_of_}
+use Rattle.sheet.specs.Head as head
+
+module _ (s : List ℕ) (r : ℕ) (e : r ≡ head.edition of s) where
+  pub users-second : (b : ℕ) → r ≡ 2 → b ≡ head.byte15 of s → b ≡ head.users s
+  users-second b q f = rw (eq-eqb (head.edition of s) 2 (sym e ∙ q)) f
+
+  pub users-first : (r ≡ 2 → ⊥) → 0 ≡ head.users s
+  users-first q = rw (ne-eqb (head.edition of s) 2 (λ z. q (e ∙ z)))
+
+  pub spare-second : r ≡ 2 → 0 ≡ head.spare s
+  spare-second q = rw (eq-eqb (head.edition of s) 2 (sym e ∙ q))
+
+  pub spare-first : (b : ℕ) → (r ≡ 2 → ⊥) → b ≡ head.byte15 of s → b ≡ head.spare s
+  spare-first b q f = rw (ne-eqb (head.edition of s) 2 (λ z. q (e ∙ z))) f

@@ -1,0 +1,15 @@
+-- `sheet::frame::spare` meets its contract.
+-- Assumes nothing.
+use borrow.Author.Needs.{needs}
+use Rattle.sheet.proofs.Editions.{spare-second, spare-first}
+use Rattle.sheet.proofs.frame.spare.Statement.{statement}
+use Rattle.sheet.proofs.frame.spare.Tie as tie
+
+pub spare-spec : {M : Type 1} → statement M
+spare-spec =
+    tie.close
+    (tie.spec
+    (λ c κs. search needs)
+    (λ c. search (spare-second, needs))
+    (λ c κs. search needs)
+    (λ c. search (spare-first, needs)))

@@ -1,0 +1,15 @@
+-- `sheet::table::users` meets its contract.
+-- Assumes nothing.
+use borrow.Author.Needs.{needs}
+use Rattle.sheet.proofs.Editions.{users-second, users-first}
+use Rattle.sheet.proofs.table.users.Statement.{statement}
+use Rattle.sheet.proofs.table.users.Tie as tie
+
+pub users-spec : {M : Type 1} → statement M
+users-spec =
+    tie.close
+    (tie.spec
+    (λ c κs. search needs)
+    (λ c κs. search needs)
+    (λ c. search (users-second, needs))
+    (λ c. search (users-first, needs)))
