@@ -41,7 +41,7 @@ awk '/^at .*marked case/ {
     level = parts[1]; sub(/.*level=/, "", level)
     print ($0 ~ /mode=3/ ? "at " level : "loose"), words[1], words[4], words[3]
 }' crates/device_cases/stdin > "$work/stdin"
-[ "$(wc -l < "$work/cases")" = 14 ] || { echo "same: there are not fourteen marked cases"; bad=1; }
+[ "$(wc -l < "$work/cases")" = 16 ] || { echo "same: there are not sixteen marked cases"; bad=1; }
 same crates/device_cases/stdin "$(cat "$work/cases")" "$(cat "$work/stdin")"
 same "$marked" "$(sort "$work/cases")" "$(sort "$work/antt")"
 

@@ -45,6 +45,10 @@ module _ {s : List ℕ} (ok : Good s) where
     unfolding entryDemands
     maximum-below = omega (arith, ok .entries properties i (omega arith) h)
 
+    pub count-below : property.count of entry s properties i ≤ property.maximum of entry s properties i
+    unfolding entryDemands
+    count-below = omega (arith, ok .entries properties i (omega arith) h)
+
     -- n elements from element t on
     pub elements-within :
         (n t : ℕ) → 1 ≤ t → t + n - 1 ≤ property.maximum of entry s properties i →
@@ -56,6 +60,14 @@ module _ {s : List ℕ} (ok : Good s) where
         let z : ℕ = property.element of entry s properties i in
         let u : t - 1 + n ≤ property.maximum of entry s properties i = omega arith in
         omega (arith, within ok properties i (omega arith) h, mul-le-mul-right z u)
+
+    -- the elements that are counted
+    pub counted-within :
+        property.offset of entry s properties i + property.count of entry s properties i * property.element of entry s properties i
+        ≤ length s
+    unfolding bodyEnd
+    counted-within =
+        omega (arith, within ok properties i (omega arith) h, mul-le-mul-right (property.element of entry s properties i) count-below)
 
     -- the count in the entry
     pub count-within : place s properties i + 6 + 2 ≤ length s

@@ -1,9 +1,9 @@
 -- What was stored is read back where it was stored: elements and count of a property, and memory.
 -- Assumes nothing.
 use Prim.Native.Nat.{ℕ, _+_, _*_, _-_, _≤_, _<_}
-use mathlib.Core.Path.{_≡_, refl, sym, _∙_}
+use mathlib.Core.Path.{_≡_, refl, sym, ap, _∙_}
 use mathlib.Core.List.{List}
-use lib.ListN.{length, getD, take, drop, replicate, length-take, length-drop}
+use lib.ListN.{length, getD, take, drop, replicate, length-take, length-drop, length-replicate}
 use lib.Seq.{getD-take, getD-drop, ext-getD}
 use native.Mathlib.Omega.{arith}
 use Rattle.octets.specs.Bytes.{bytesOf}
@@ -12,7 +12,6 @@ use Rattle.octets.proofs.Numbers.{length-bytes, bytes-zero}
 use Rattle.octets.proofs.Splices.{length-splice, splice-above}
 use Rattle.sheet.specs.Kind.{properties}
 use Rattle.sheet.specs.Layout.{_of_}
-use Rattle.sheet.specs.Region as region
 use Rattle.sheet.specs.Property as property
 use Rattle.sheet.specs.Entries.{count, place, entry, keyOf, bodyAt}
 use Rattle.sheet.specs.Frame.{Agree}
@@ -20,12 +19,16 @@ use Rattle.sheet.proofs.Good.{Good, accepted}
 use Rattle.sheet.proofs.Keys.{key-once}
 use Rattle.sheet.proofs.BodyPlaces.{after-contents}
 use Rattle.sheet.proofs.Standing.{place-in}
-use Rattle.sheet.proofs.Sames.{count-same, property-same}
+use Rattle.sheet.proofs.Frames.{kept}
+use Rattle.sheet.proofs.Sames.{count-same, place-same, property-same}
 use Rattle.sheet.proofs.Counts.{count-now}
-use Rattle.judge.proofs.PropertyCases.{Keyed, Among}
-use Rattle.device.proofs.Accepted.{elements-within}
+use Rattle.judge.specs.Properties.{jumped}
+use Rattle.judge.proofs.PropertyCases.{Keyed, Among, runIn}
+use Rattle.device.specs.Carry.{storeOf}
+use Rattle.device.proofs.Accepted.{count-below, elements-within, counted-within}
+use Rattle.device.proofs.Jumps.{whole, length-run, zeros-and-data}
 use Rattle.device.proofs.Stores.{stored-back}
-use Rattle.device.proofs.Agreeing.{elements-keep, count-keeps}
+use Rattle.device.proofs.Agreeing.{elements-keep}
 
 -- a part of two lists that have the same bytes there
 pub part-same :
@@ -60,20 +63,46 @@ module _ {s : List ℕ} (ok : Good s) where
     -- elements that were written, the count being set after them
     module _ (n t c : ℕ) (d : List ℕ) (a : Among n t (property.maximum of entry s properties i)) (l : length d ≡ n * property.element of entry s properties i)
         (m : c ≤ property.maximum of entry s properties i) where
+      abbrev z : ℕ
+      z = property.element of entry s properties i
+
+      abbrev j : ℕ
+      j = jumped (property.count of entry s properties i) t
+
       abbrev o : ℕ
-      o = property.offset of entry s properties i + (t - 1) * property.element of entry s properties i
+      o = property.offset of entry s properties i + (t - 1) * z
+
+      -- after the run
+      abbrev ran : List ℕ
+      ran = storeOf s d (runIn (entry s properties i) t)
 
       abbrev pub wrote : List ℕ
-      wrote = splice (splice s o d) (place s properties i + 6) (bytesOf 2 c)
+      wrote = splice ran (place s properties i + 6) (bytesOf 2 c)
 
-      pub wrote-agrees : Agree s wrote
-      wrote-agrees = count-keeps ok (elements-keep ok i n t d h a l) i c h m
+      ran-agrees : Agree s ran
+      ran-agrees = elements-keep ok i _ _ _ h (whole _ a) (length-run j n z d l)
+
+      pub counted-back : property.count of entry wrote properties i ≡ c
+      counted-back =
+          rw (← (place-same ran-agrees properties i))
+          (count-now (kept ok ran-agrees) i c (rw (count-same ran-agrees properties) h) (rw (property-same ran-agrees i property.maximum h (omega arith) (omega arith)) m))
+
+      -- the jumped elements are zeros, and then the data stand
+      abbrev cleared : List ℕ
+      cleared = splice s (property.offset of entry s properties i + (property.count of entry s properties i + 1 - 1) * z) (replicate (j * z) 0)
+
+      cleared-long : length cleared ≡ length s
+      cleared-long =
+          length-splice s _ (replicate (j * z) 0)
+          (omega (arith, length-replicate {A = ℕ} (j * z) 0, elements-within ok i h j (property.count of entry s properties i + 1) (omega arith) (omega (arith, a .end, a .start, a .some, count-below ok i h))))
 
       pub elements-back : take (length d) (drop o wrote) ≡ d
       unfolding bodyAt
       elements-back =
           let w : o + length d ≤ length s = omega (arith, elements-within ok i h n t (a .start) (a .end)) in
-          part-after (splice s o d) (bytesOf 2 c) (place s properties i + 6) o (length d)
-          (omega (arith, length-bytes 2 c, length-splice s o d w, place-in s properties i (omega arith) h, ok .framed))
+          part-after ran (bytesOf 2 c) (place s properties i + 6) o (length d)
+          (omega (arith, length-bytes 2 c, ran-agrees .long, place-in s properties i (omega arith) h, ok .framed))
           (omega (arith, length-bytes 2 c, place-in s properties i (omega arith) h, after-contents ok properties i (omega arith) h))
-          ∙ stored-back s d o (length d) refl w
+          ∙ ap (λ (u : List ℕ). take (length d) (drop o u))
+          (zeros-and-data s d (property.offset of entry s properties i) z (property.count of entry s properties i) t (a .start) (counted-within ok i h))
+          ∙ stored-back cleared d o (length d) refl (omega (arith, cleared-long))

@@ -1,4 +1,4 @@
--- The fourteen marked cases, by computation.
+-- The sixteen marked cases, by computation.
 -- Assumes nothing.
 use mathlib.Core.Path.{_≡_, refl}
 use mathlib.Core.List.{map}
@@ -23,7 +23,7 @@ use Rattle.device.specs.Carry.{build, bitAt}
 use Rattle.device.specs.Step.{stepBy, stepOf}
 use Rattle.device.specs.Marked.{sample, cases, found, wanted}
 
--- THE FOURTEEN MARKED CASES HOLD
+-- THE SIXTEEN MARKED CASES HOLD
 pub marked : map found cases ≡ map wanted cases
 unfolding sample cases found wanted stepOf stepBy build bitAt judgeOf isAccepted isShut reachedOf rulesOf levelIn levelOf
     readIn propertyReadOf writeIn propertyWriteOf describedAt descriptionOf memoryReadOf changeOf memoryWriteOf bitWriteOf

@@ -11,6 +11,8 @@ use Rattle.octets.proofs.Numbers.{length-bytes, bytes-zero}
 use Rattle.sheet.specs.Kind.{properties}
 use Rattle.sheet.specs.Layout.{_of_}
 use Rattle.sheet.specs.Head as head
+use Rattle.sheet.specs.Property as property
+use Rattle.sheet.specs.Entries.{entry}
 use Rattle.sheet.specs.Frame.{Agree}
 use Rattle.sheet.specs.Rules.{entryDemands}
 use Rattle.sheet.proofs.Good.{Good, accepted}
@@ -31,7 +33,7 @@ use Rattle.judge.specs.declared.Decision.{Decision}
 use Rattle.judge.specs.Addresses.{addressWriteOf, addressReadOf, serialReadOf, serialWriteOf, descriptorOf}
 use Rattle.judge.specs.Memory.{memoryWriteOf, bitWriteOf}
 use Rattle.judge.specs.Groups.{groupPutOf}
-use Rattle.judge.specs.Properties.{propertyWriteOf}
+use Rattle.judge.specs.Properties.{jumped, propertyWriteOf}
 use Rattle.judge.specs.Keys.{authorizeOf, restartOf}
 use Rattle.judge.specs.Judge.{decideOf}
 use Rattle.octets.proofs.Walks.{by-eq}
@@ -42,6 +44,7 @@ use Rattle.judge.proofs.KeyCases.{key-write-cases}
 use Rattle.device.specs.Carry.{build, bitAt, storeOf}
 use Rattle.device.proofs.Given.{memory-data, user-data}
 use Rattle.device.proofs.Bits.{length-build}
+use Rattle.device.proofs.Jumps.{whole, length-run}
 use Rattle.device.proofs.Agreeing.{agree-refl, group-keeps, elements-keep, count-keeps}
 
 -- the sheet s afterwards, and that it agrees with s
@@ -101,7 +104,10 @@ module _ {s : List ℕ} (ok : Good s) (d : List ℕ) where
         property-write-cases s level object id n t (Keeps s d) d
         (λ i k w z o l v. rw (← (bytes-zero 2)) (count-keeps ok same i 0 (k .there) (omega arith)))
         (λ i k w a l.
-        count-keeps ok (elements-keep ok i n t d (k .there) a l) i _ (k .there) (omega (arith, a .end, ok .entries properties i (omega arith) (k .there))))
+        let c : ℕ = property.count of entry s properties i in
+        count-keeps ok
+        (elements-keep ok i _ _ _ (k .there) (whole c a) (length-run (jumped c t) n (property.element of entry s properties i) d l))
+        i _ (k .there) (omega (arith, a .end, ok .entries properties i (omega arith) (k .there))))
         same
 
 module _ {s : List ℕ} (ok : Good s) (level group : ℕ) (a : List ℕ) where

@@ -37,6 +37,7 @@ pub mod Room
 pub mod Requests
 pub mod Cases
 pub mod Append
+pub mod Jumps
 pub mod Agreeing
 pub mod Keeping
 pub mod Stays

@@ -33,7 +33,7 @@ use Rattle.device.proofs.Stepped.{step-read}
 use Rattle.device.proofs.Properly.{keyed, two-zeros}
 use Rattle.device.proofs.RightProperties.{only-property-count, only-property-read}
 use Rattle.device.proofs.Stays.{request-agrees}
-use Rattle.device.proofs.Backs.{same-property, count-back, wrote, elements-back}
+use Rattle.device.proofs.Backs.{same-property, count-back, wrote, counted-back, elements-back}
 
 module _ (x y : Asked) (object id n s : ℕ) (r : Reads x (PropertyValueWrite object id n s)) (u : Reads y (PropertyValueRead object id n s))
     (new : y .sheet ≡ done x .sheet) (j : ℕ) (may : Readable y object id j) where
@@ -86,6 +86,12 @@ module _ (x y : Asked) (object id n s : ℕ) (r : Reads x (PropertyValueWrite ob
       let g = field i property.element k (omega arith) (omega arith) in
       rw (f, g, ← l, new, e) (elements-back ok i (k .there) n s c d a l m)
 
+  counted-found :
+      (i c : ℕ) (k : Keyed (x .sheet) object id i) (a : Among n s (property.maximum of entry (x .sheet) properties i))
+      (l : length d ≡ n * property.element of entry (x .sheet) properties i) (m : c ≤ property.maximum of entry (x .sheet) properties i) →
+      done x .sheet ≡ wrote ok i (k .there) n s c d a l m → property.count of entry (y .sheet) properties j ≡ c
+  counted-found i c k a l m e = rw (← (same i k), new, e) (counted-back ok i (k .there) n s c d a l m)
+
   -- THE SAME ANSWER
   pub property-same-answer : done x .outcome ≡ 0 → SameAnswer x y
   unfolding stepBy entryDemands
@@ -96,11 +102,11 @@ module _ (x y : Asked) (object id n s : ℕ) (r : Reads x (PropertyValueWrite ob
       joined d _ _ _ p (only-property-count y object id n s u j may z o) refl refl refl
       (count-found i k (sym (ap (λ (t : Step). t .sheet) p)) ∙ sym (two-zeros d l v)))
       (λ i k w a l p.
-      let g = field i property.maximum k (omega arith) (omega arith) in
       let h = field i property.element k (omega arith) (omega arith) in
       let m : max (property.count of entry (x .sheet) properties i) (s + n - 1) ≤ property.maximum of entry (x .sheet) properties i = omega (arith, a .end, ok .entries properties i (omega arith) (k .there)) in
+      let g = counted-found i _ k a l m (sym (ap (λ (t : Step). t .sheet) p)) in
       joined d _ _ _ p
-      (only-property-read y object id n s u j may (record { start = a .start; some = a .some; end = rw g (a .end) })
+      (only-property-read y object id n s u j may (record { start = a .start; some = a .some; end = rw g (omega arith) })
       (rw (h, ← l) (write-data (x .apdu) object id n s (reading (x .apdu) _ (r .reads)))))
       refl refl refl (elements-found i _ k a l m (sym (ap (λ (t : Step). t .sheet) p))))
       (λ p. let z : _≡_ {A = ℕ} 11 0 = ap (λ (t : Step). t .outcome) p ∙ out in absurd (omega arith))

@@ -1,7 +1,7 @@
 -- Property values: what is due is what is done.
 -- Assumes nothing.
-use Prim.Native.Nat.{ℕ, _+_, _*_, _-_, _/_, _≤_, max}
-use mathlib.Core.Path.{_≡_, refl, sym, ap, _∙_}
+use Prim.Native.Nat.{ℕ, _+_, _*_, _-_, _/_, _≤_, _<_, max}
+use mathlib.Core.Path.{_≡_, refl, sym, ap, subst, _∙_}
 use mathlib.Core.List.{List, [], _∷_}
 use lib.ListN.{length}
 use native.Mathlib.Omega.{arith}
@@ -10,20 +10,23 @@ use Rattle.octets.specs.Splice.{splice}
 use Rattle.sheet.specs.Kind.{properties}
 use Rattle.sheet.specs.Layout.{_of_}
 use Rattle.sheet.specs.Property as property
-use Rattle.sheet.specs.Entries.{place, entry}
+use Rattle.sheet.specs.Entries.{count, place, entry}
 use Rattle.sheet.proofs.Good.{Good, good}
 use Rattle.pdu.proofs.Readings.{reading}
 use Rattle.pdu.specs.declared.Pdu.the-variants.{PropertyValueRead, PropertyValueWrite, PropertyValueResponse}
 use Rattle.judge.specs.declared.Decision.{Decision}
 use Rattle.judge.specs.Session.{levelIn}
 use Rattle.judge.specs.Properties.{noValue, propertyReadOf, propertyWriteOf}
-use Rattle.judge.proofs.PropertyCases.{Keyed, Among, Free, property-read-cases, property-write-cases, property-read-count, property-read-elements, property-write-clear, property-write-elements}
+use Rattle.judge.proofs.PropertyCases.{Keyed, Among, Free, runIn, property-read-cases, property-write-cases, property-read-count, property-read-elements, property-write-clear, property-write-elements}
 use Rattle.device.specs.Octets.{Octets}
-use Rattle.device.specs.Step.{stepBy}
+use Rattle.device.specs.Carry.{storeOf}
+use Rattle.device.specs.Step.{Step, stepBy}
 use Rattle.device.specs.Asked.{Asked, says, saysAfter, Reads, given}
 use Rattle.device.specs.Asked.{part}
-use Rattle.device.specs.PropertiesDue.{PropertiesDue, Elements, elementAt, Readable, ReadAllowed, Writable, WriteAllowed, propertyCount, propertyRead, noPropertyRead, propertyClear, propertyWrite, noPropertyWrite}
+use Rattle.device.specs.PropertiesDue.{PropertiesDue, Elements, elementAt, zeroed, Readable, ReadAllowed, Writable, WriteAllowed, propertyCount, propertyRead, noPropertyRead, propertyClear, propertyWrite, noPropertyWrite}
+use Rattle.device.proofs.Accepted.{counted-within}
 use Rattle.device.proofs.Acts.{acts, acts-at}
+use Rattle.device.proofs.Jumps.{zeros-and-data}
 use Rattle.device.proofs.Properly.{keyed, unkeyed, read-id, write-id, two-zeros}
 use Rattle.device.proofs.Stepped.{step, step-read}
 
@@ -56,7 +59,7 @@ module _ (x : Asked) (object id : ℕ) where
         step-read x _ r _ (property-read-count ok object id i (keyed x object id i (p .found)) _ n s (opened i p) z o)
 
     pub only-property-read :
-        (i : ℕ) → Readable x object id i → Elements (property.maximum of entry (x .sheet) properties i) n s →
+        (i : ℕ) → Readable x object id i → Elements (property.count of entry (x .sheet) properties i) n s →
         n * property.element of entry (x .sheet) properties i ≤ 10 →
         says x 0 (PropertyValueResponse object id n s)
         (part (x .sheet) (elementAt (entry (x .sheet) properties i) s) (n * property.element of entry (x .sheet) properties i))
@@ -137,18 +140,34 @@ module _ (x : Asked) (object id : ℕ) where
         ∙ step-read x _ r _
         (property-write-clear ok′ object id i (keyed x object id i (p .found)) _ n s d (freed i p) z o (ap length e) (ap (λ (l : List ℕ). numAt l 0 2) e))
 
+    -- one run of zeros and data is what is due, after which the count is stored
+    wrote : ℕ → List ℕ → Step
+    wrote i t =
+        saysAfter x
+        (splice t (place (x .sheet) properties i + 6) (bytesOf 2 (max (property.count of entry (x .sheet) properties i) (s + n - 1))))
+        (PropertyValueResponse object id n s) d
+
+    two-stores :
+        (i : ℕ) → i < count (x .sheet) properties → 1 ≤ s →
+        storeOf (x .sheet) d (runIn (entry (x .sheet) properties i) s)
+        ≡ splice (zeroed (x .sheet) (entry (x .sheet) properties i) s) (elementAt (entry (x .sheet) properties i) s) d
+    two-stores i h low =
+        zeros-and-data (x .sheet) d (property.offset of entry (x .sheet) properties i) (property.element of entry (x .sheet) properties i)
+        (property.count of entry (x .sheet) properties i) s low (counted-within ok′ i h)
+
     pub only-property-write :
         (i : ℕ) → Writable x object id i → Elements (property.maximum of entry (x .sheet) properties i) n s →
         length d ≡ n * property.element of entry (x .sheet) properties i →
         saysAfter x
-        (splice (splice (x .sheet) (elementAt (entry (x .sheet) properties i) s) d)
+        (splice (splice (zeroed (x .sheet) (entry (x .sheet) properties i) s) (elementAt (entry (x .sheet) properties i) s) d)
         (place (x .sheet) properties i + 6)
         (bytesOf 2 (max (property.count of entry (x .sheet) properties i) (s + n - 1))))
         (PropertyValueResponse object id n s) d
         ≡ step x
-    unfolding stepBy
+    unfolding stepBy wrote
     only-property-write i p m l =
-        step-read x _ r _
+        ap (wrote i) (sym (two-stores i (p .found .there) (m .start)))
+        ∙ step-read x _ r _
         (property-write-elements ok′ object id i (keyed x object id i (p .found)) _ n s d (freed i p) (among m) l)
 
     write-not-denied : WriteAllowed x object id n s d → write ≡ noValue object id s → ⊥
@@ -183,11 +202,13 @@ module _ (x : Asked) (object id : ℕ) where
           refl)
 
       pub right-property-write : PropertiesDue x (stepBy (x .sheet) (x .session) d write)
-      unfolding stepBy
+      unfolding stepBy wrote
       right-property-write =
           property-write-cases (x .sheet) (levelIn (x .session) (x .mode)) object id n s
           (λ (k : Decision). write ≡ k → PropertiesDue x (stepBy (x .sheet) (x .session) d k)) d
           (λ i k w z o l v e. let c = two-zeros d l v in rw (z, o) (cleared i (rw (z, o) at r) (writable i k w) (rw (z, o) at c)))
-          (λ i k w m l e. propertyWrite object id n s i d r (writable i k w) refl (elements _ n s m) l)
+          (λ i k w m l e.
+          subst (λ (t : List ℕ). PropertiesDue x (wrote i t)) (sym (two-stores i (k .there) (m .start)))
+          (propertyWrite object id n s i d r (writable i k w) refl (elements _ n s m) l))
           (λ e. noPropertyWrite object id n s r (λ a. write-not-denied a e))
           refl

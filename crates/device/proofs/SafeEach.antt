@@ -31,19 +31,20 @@ use Rattle.judge.specs.declared.Answer.the-variants as answer
 use Rattle.judge.specs.Decisions.{refused, denied, answered, written, stored}
 use Rattle.judge.specs.Groups.{groupReadOf, groupPutOf}
 use Rattle.judge.specs.Addresses.{addressWriteOf, addressReadOf, serialReadOf, serialWriteOf, descriptorOf}
-use Rattle.judge.specs.Properties.{propertyReadOf, propertyWriteOf, descriptionOf}
+use Rattle.judge.specs.Properties.{jumped, propertyReadOf, propertyWriteOf, descriptionOf}
 use Rattle.judge.specs.Memory.{mostBytes, responseOf, memoryReadOf, memoryWriteOf, bitWriteOf}
 use Rattle.judge.specs.Keys.{authorizeOf, keyWriteOf, restartOf}
 use Rattle.judge.specs.Judge.{decideOf}
 use Rattle.octets.proofs.Walks.{by-eq}
 use Rattle.judge.proofs.GroupCases.{group-read-cases, group-put-cases}
-use Rattle.judge.proofs.PropertyCases.{property-read-cases, property-write-cases, description-cases}
+use Rattle.judge.proofs.PropertyCases.{runIn, property-read-cases, property-write-cases, description-cases}
 use Rattle.judge.proofs.MemoryCases.{memory-read-cases, changed, change-cases}
 use Rattle.judge.proofs.KeyCases.{key-write-cases}
 use Rattle.device.specs.Carry.{storeOf}
 use Rattle.device.specs.Safe.{StoreSafe, AnswerSafe, Safe}
-use Rattle.device.proofs.Accepted.{long, group-within, six-within, group-short, six-below, maximum-below, elements-within, count-within}
+use Rattle.device.proofs.Accepted.{long, group-within, six-within, group-short, six-below, maximum-below, count-below, elements-within, count-within}
 use Rattle.device.proofs.Given.{serial-small, read-fields, write-fields, write-data, memory-data, user-data, bits-data}
+use Rattle.device.proofs.Jumps.{whole, length-run}
 use Rattle.device.proofs.Stores.{length-store}
 use Rattle.device.proofs.Writing.{writes-six, writes-value, writes-descriptor, writes-property, writes-memory, writes-user, writes-address, writes-serial, writes-description, writes-level, writes-key}
 
@@ -139,7 +140,7 @@ module _ {s : List ℕ} (ok : Good s) (d : List ℕ) where
         let c : ℕ = property.count of entry s properties i in
         safe-answered s d _ (omega arith, writes-property (bytesOf 2 c) object id n t (h .0) (h .1) (omega (arith, length-bytes 2 c))))
         (λ i k r a m.
-        let w = elements-within ok i (k .there) n t (a .start) (a .end) in
+        let w = elements-within ok i (k .there) n t (a .start) (omega (arith, a .end, count-below ok i (k .there))) in
         safe-answered s d _ (w, omega arith, writes-property _ object id n t (h .0) (h .1) (omega (arith, part-length s _ _ w))))
         no-value
 
@@ -149,11 +150,14 @@ module _ {s : List ℕ} (ok : Good s) (d : List ℕ) where
         (λ i k w z o e v.
         record { first = count-within ok i (k .there); second = tt; answer = writes-property d object id n t (h .0) (h .1) l })
         (λ i k w a e.
-        let b = elements-within ok i (k .there) n t (a .start) (a .end) in
-        let f : property.offset of entry s properties i + (t - 1) * property.element of entry s properties i + length d ≤ length s = omega arith in
+        let c : ℕ = property.count of entry s properties i in
+        let v = whole c a in
+        let b = elements-within ok i (k .there) (jumped c t + n) (t - jumped c t) (v .start) (v .end) in
+        let f : StoreSafe s d (runIn (entry s properties i) t) =
+        omega (arith, length-run (jumped c t) n (property.element of entry s properties i) d e) in
         record {
           first = f;
-          second = (omega (arith, count-within ok i (k .there), length-store s d (store.Data 0 _) f), omega arith);
+          second = (omega (arith, count-within ok i (k .there), length-store s d (runIn (entry s properties i) t) f), omega arith);
           answer = writes-property d object id n t (h .0) (h .1) l;
         })
         no-value

@@ -3,7 +3,7 @@
 use Prim.Native.Nat.{ℕ, _+_, _*_, _-_, _/_, _%_, _≤_, _<_, max}
 use mathlib.Core.Path.{_≡_}
 use mathlib.Core.List.{List, [], _∷_}
-use lib.ListN.{length}
+use lib.ListN.{length, replicate}
 use Rattle.octets.specs.Bytes.{bytesOf}
 use Rattle.octets.specs.Splice.{splice}
 use Rattle.sheet.specs.Kind.{properties}
@@ -30,6 +30,11 @@ pub record Elements (m n s : ℕ) : Type 0 where
 abbrev pub elementAt : List ℕ → ℕ → ℕ
 elementAt e s = property.offset of e + (s - 1) * property.element of e
 
+-- the elements that a write from element s on jumps, those after the counted ones, become zero bytes
+abbrev pub zeroed : List ℕ → List ℕ → ℕ → List ℕ
+zeroed t e s =
+    splice t (elementAt e (property.count of e + 1)) (replicate ((s - 1 - property.count of e) * property.element of e) 0)
+
 pub record Readable (x : Asked) (object id i : ℕ) : Type 0 where
   pub found : PropertyWith (x .sheet) object id i
   pub level : ℕ
@@ -39,7 +44,7 @@ pub record Readable (x : Asked) (object id i : ℕ) : Type 0 where
 pub data ReadAllowed (x : Asked) (object id n s : ℕ) : Type 0 where
   ofCount : (i : ℕ) → Readable x object id i → s ≡ 0 → n ≡ 1 → ReadAllowed x object id n s
   ofElements :
-      (i : ℕ) → Readable x object id i → Elements (property.maximum of propertyEntry x i) n s →
+      (i : ℕ) → Readable x object id i → Elements (property.count of propertyEntry x i) n s →
       n * property.element of propertyEntry x i ≤ 10 → ReadAllowed x object id n s
 
 pub record Writable (x : Asked) (object id i : ℕ) : Type 0 where
@@ -70,7 +75,7 @@ pub data PropertiesDue (x : Asked) : Step → Type 0 where
       (says x 0 (PropertyValueResponse object id 1 0) (bytesOf 2 (property.count of propertyEntry x i)))
   propertyRead :
       (object id n s i : ℕ) → Reads x (PropertyValueRead object id n s) → Readable x object id i →
-      Elements (property.maximum of propertyEntry x i) n s → n * property.element of propertyEntry x i ≤ 10 →
+      Elements (property.count of propertyEntry x i) n s → n * property.element of propertyEntry x i ≤ 10 →
       PropertiesDue x
       (says x 0 (PropertyValueResponse object id n s)
       (part (x .sheet) (elementAt (propertyEntry x i) s) (n * property.element of propertyEntry x i)))
@@ -89,7 +94,7 @@ pub data PropertiesDue (x : Asked) : Step → Type 0 where
       length d ≡ n * property.element of propertyEntry x i →
       PropertiesDue x
       (saysAfter x
-      (splice (splice (x .sheet) (elementAt (propertyEntry x i) s) d)
+      (splice (splice (zeroed (x .sheet) (propertyEntry x i) s) (elementAt (propertyEntry x i) s) d)
       (place (x .sheet) properties i + property.count .at)
       (bytesOf 2 (max (property.count of propertyEntry x i) (s + n - 1))))
       (PropertyValueResponse object id n s) d)

@@ -49,7 +49,7 @@ module _ (step : Device) (rightful : (f : First) (h : List Event) → Rightful (
     all (request mode g a out) o p = requested mode g a out o .all p
 
   -- THE INVARIANT AFTER EVERY HISTORY
-  holds-after : (h : List Event) → AllOctets h → Inv f h (stateAfter step f h)
+  pub holds-after : (h : List Event) → AllOctets h → Inv f h (stateAfter step f h)
   unfolding stateAfter
   holds-after [] k = begin f b
   holds-after (e ∷ h) k = after h (holds-after h (k .1)) e (k .0)

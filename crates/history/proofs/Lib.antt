@@ -1,10 +1,11 @@
--- PROMISES, named in docs/PROMISES.md: Keyless (nobody without the key), Height (that, on the sample sheet), Keep (demand 3), Pinned (one result), AtOnce, Suffices,
+-- PROMISES, named in docs/PROMISES.md: Keyless (nobody without the key), Height (that, on the sample sheet), Keep (demand 3), Pinned (one result), AtOnce, Suffices, Shown (what a read shows was written),
 -- Permitted (permitted as plain propositions), Places (`place-injective`, `exactly-one`), InOrder (histories and runs), Refuted (wrong devices).
 pub mod Keyless
 pub mod Height
 pub mod Keep
 pub mod Pinned
 pub mod AtOnce
+pub mod Shown
 pub mod Suffices
 pub mod Permitted
 pub mod Places
@@ -30,6 +31,8 @@ pub mod PropertyRun
 -- of the state after one event more:
 pub mod Invariant
 pub mod Requests
+pub mod CountNow
+pub mod Counted
 pub mod Writes
 pub mod MemorySteps
 pub mod KeySteps

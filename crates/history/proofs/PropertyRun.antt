@@ -43,15 +43,16 @@ module _ {s : List ℕ} (g : Good s) {object id i : ℕ} (is : PropertyWith s ob
         bytes = λ j h. refl;
       }
 
-  -- A RUN OF ELEMENTS
+  -- A RUN OF n ELEMENTS, after the first t
   pub body-run :
-      (n z : ℕ) (ds : List ℕ) → length ds ≡ n * Z → 1 ≤ z → z + n - 1 ≤ property.maximum of entry s properties i →
-      Run s (record { from = body object id ((z - 1) * Z); long = n * Z; give = λ j. getD ds j 0 }) (bodyAt s properties i + (z - 1) * Z) ds
-  body-run n z ds size low high =
+      (n t : ℕ) (ds : List ℕ) (give : ℕ → ℕ) → ((j : ℕ) → j < n * Z → give j ≡ getD ds j 0) → length ds ≡ n * Z →
+      t + n ≤ property.maximum of entry s properties i →
+      Run s (record { from = body object id (t * Z); long = n * Z; give = give }) (bodyAt s properties i + t * Z) ds
+  body-run n t ds give gives size high =
       record {
         size = size;
         places = λ j h.
-            ofBody {j = (z - 1) * Z + j} {p = bodyAt s properties i + (z - 1) * Z + j} i is
-            (omega (arith, elements-fit (z - 1) n Z (property.maximum of entry s properties i) (omega arith))) (omega arith);
-        bytes = λ j h. refl;
+            ofBody {j = t * Z + j} {p = bodyAt s properties i + t * Z + j} i is
+            (omega (arith, elements-fit t n Z (property.maximum of entry s properties i) high)) (omega arith);
+        bytes = gives;
       }

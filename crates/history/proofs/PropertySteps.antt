@@ -1,14 +1,14 @@
 -- Property writes, carried out and denied.
 -- Assumes nothing.
 use Prim.Native.Nat.{ℕ, _+_, _*_, _-_, _<_, _≤_, max}
-use mathlib.Core.Path.{_≡_, refl, sym, ap, _∙_}
+use mathlib.Core.Path.{_≡_, refl, sym, ap, subst, _∙_}
 use mathlib.Core.List.{List, [], _∷_}
-use lib.ListN.{length, getD}
+use lib.ListN.{length, getD, replicate, length-replicate, getD-replicate}
 use native.Mathlib.Omega.{arith}
 use borrow.Author.Tests.{ne-eqb}
 use Rattle.octets.specs.Bytes.{bytesOf}
 use Rattle.octets.specs.Splice.{splice}
-use Rattle.octets.proofs.Numbers.{num-two, length-bytes}
+use Rattle.octets.proofs.Numbers.{length-bytes, bytes-zero}
 use Rattle.sheet.specs.Kind.{properties}
 use Rattle.sheet.specs.Layout.{_of_}
 use Rattle.sheet.specs.Property as property
@@ -20,8 +20,8 @@ use Rattle.sheet.specs.Stores.{Inside}
 use Rattle.sheet.proofs.Good.{accepted}
 use Rattle.sheet.proofs.Frames.{kept}
 use Rattle.sheet.proofs.BodyPlaces.{inside-within}
-use Rattle.sheet.proofs.Sames.{count-same, place-same, property-same}
-use Rattle.sheet.proofs.Standing.{field-at, place-in}
+use Rattle.sheet.proofs.Sames.{count-same, place-same, property-same, at-same, end-same}
+use Rattle.sheet.proofs.Standing.{place-in}
 use Rattle.sheet.proofs.Counts.{count-store}
 use Rattle.sheet.proofs.Stores.{body-store}
 use Rattle.pdu.specs.declared.Pdu.{Pdu}
@@ -30,11 +30,11 @@ use Rattle.device.specs.Octets.{Octets}
 use Rattle.device.specs.Events.{Event, State}
 use Rattle.device.specs.Asked.{Asked, Reads, given}
 use Rattle.device.specs.PropertiesDue as properties-due
-use Rattle.device.specs.PropertiesDue.{Elements, elementAt, Writable, WriteAllowed}
-use Rattle.history.specs.Location.{Location, body, counter}
+use Rattle.device.specs.PropertiesDue.{Elements, elementAt, zeroed, Writable, WriteAllowed}
+use Rattle.history.specs.Location.{Location, body}
 use Rattle.history.specs.Span.{Span}
 use Rattle.history.specs.Wish.{change, writeProperty}
-use Rattle.history.specs.Permit.{countIn, countTo, spans}
+use Rattle.history.specs.Permit.{countTo, spans}
 use Rattle.history.specs.History.{First, content}
 use Rattle.history.specs.Others.{programming, individual, groupByte}
 use Rattle.history.specs.Keeps.{Begins, Succeeds}
@@ -45,7 +45,8 @@ use Rattle.history.proofs.Invariant.{Inv, fine, now}
 use Rattle.history.proofs.Means.{Means, store-span}
 use Rattle.device.proofs.Octet.{octets-bytes, octets-data}
 use Rattle.history.proofs.Permits.{property-is}
-use Rattle.history.proofs.PropertyRun.{counter-place, counter-run, body-run, elements-fit, entry-for}
+use Rattle.history.proofs.PropertyRun.{counter-run, body-run, elements-fit, entry-for}
+use Rattle.history.proofs.CountNow.{count-now}
 use Rattle.history.proofs.Requests.{Done}
 use Rattle.history.proofs.Spans.{laid}
 use Rattle.history.proofs.Writes.{carried-out, denied}
@@ -81,18 +82,6 @@ module _ (f : First) (b : Begins f) (h : List Event) (x : State) (inv : Inv f h 
     is : PropertyWith (f .sheet) object id i
     is = is-same (inv .means .agree) (w .found)
 
-    -- the count by the history is the count of the sheet
-    count-now : countIn (content f h) object id ≡ property.count of entry (x .sheet) properties i
-    unfolding countIn
-    count-now =
-        let q = place-same (inv .means .agree) properties i in
-        let at : (j p : ℕ) → j < 2 → p ≡ place (x .sheet) properties i + 6 + j → getD (x .sheet) p 0 ≡ content f h (counter object id j) =
-        λ j p k e.
-        ap (λ (o : ℕ). getD (x .sheet) o 0) (let z : p ≡ place (f .sheet) properties i + 6 + j = omega arith in z)
-        ∙ inv .means .holds (counter object id j) _ (counter-place (fine inv b) is j k) in
-        omega
-        (arith, field-at (x .sheet) properties i property.count (omega arith), num-two (x .sheet) (place (x .sheet) properties i + 6), at 0 (place (x .sheet) properties i + 6) (omega arith) (omega arith), at 1 (place (x .sheet) properties i + 6 + 1) (omega arith) (omega arith))
-
     -- A NEW COUNT in a sheet that has the places of the first
     count-stored :
         (c : ℕ) (k : Location → ℕ) (s : List ℕ) → Holds k s → c ≤ property.maximum of entry (f .sheet) properties i →
@@ -110,6 +99,38 @@ module _ (f : First) (b : Begins f) (h : List Event) (x : State) (inv : Inv f h 
         (counter-run (fine inv b) is c)
         agrees
         (octets-bytes 2 c))
+
+    -- BYTES FOR m ELEMENTS of its body, after the first t
+    elements-stored :
+        (m t o : ℕ) (ds : List ℕ) (give : ℕ → ℕ) → ((j : ℕ) → j < m * property.element of entry (f .sheet) properties i → give j ≡ getD ds j 0) →
+        t + m ≤ property.maximum of entry (f .sheet) properties i → length ds ≡ m * property.element of entry (f .sheet) properties i → Octets ds →
+        o ≡ bodyAt (f .sheet) properties i + t * property.element of entry (f .sheet) properties i → (k : Location → ℕ) (s : List ℕ) → Holds k s →
+        Holds
+        (laid
+        (record {
+          from = body object id (t * property.element of entry (f .sheet) properties i);
+          long = m * property.element of entry (f .sheet) properties i;
+          give = give;
+        } ∷
+        [])
+        k)
+        (splice s o ds)
+    unfolding bodyEnd bodyAt
+    elements-stored m t o ds give gives high long bytes e k s means =
+        let now-good = kept (fine inv b) (means .agree) in
+        let fit = elements-fit t m (property.element of entry (f .sheet) properties i) (property.maximum of entry (f .sheet) properties i) high in
+        let inside : Inside s properties i o (length ds) =
+        record {
+          kind = omega arith;
+          below = omega (arith, is .there, count-same (means .agree) properties);
+          from = omega (arith, at-same (means .agree) properties i (omega arith) (is .there));
+          to = omega (arith, end-same (means .agree) properties i (omega arith) (is .there), fit);
+        } in
+        store-span (fine inv b) means _ o ds
+        (inside-within now-good inside)
+        (rw e (body-run (fine inv b) is m t ds give gives long high))
+        (body-store (accepted now-good) properties i o ds inside (λ q. absurd (omega arith)))
+        bytes
 
     -- CLEARED
     pub property-cleared :
@@ -135,48 +156,59 @@ module _ (f : First) (b : Begins f) (h : List Event) (x : State) (inv : Inv f h 
       maximum-same : property.maximum of S ≡ property.maximum of entry (f .sheet) properties i
       maximum-same = property-same (inv .means .agree) i property.maximum (is .there) (omega arith) (omega arith)
 
-      at-first : elementAt S z ≡ bodyAt (f .sheet) properties i + (z - 1) * property.element of entry (f .sheet) properties i
-      unfolding bodyAt
-      at-first =
-          rw (property-same (inv .means .agree) i property.offset (is .there) (omega arith) (omega arith), element-same)
+      -- the elements that are jumped: zeros; and those that the data are for
+      Zeros : Span
+      Zeros =
+          let size = property.element of entry (f .sheet) properties i in
+          let c = property.count of S in
+          record { from = body object id (c * size); long = (z - 1 - c) * size; give = λ j. 0 }
 
-      inside : Inside (x .sheet) properties i (elementAt S z) (length d)
-      unfolding bodyAt bodyEnd
-      inside =
-          record {
-            kind = omega arith;
-            below = w .found .there;
-            from = omega arith;
-            to = omega (arith, size, elements-fit (z - 1) n (property.element of S) (property.maximum of S) (omega (arith, el .start, el .end)));
-          }
-
-      -- the elements that are named
       Elems : Span
       Elems =
           let size = property.element of entry (f .sheet) properties i in
           record { from = body object id ((z - 1) * size); long = n * size; give = λ j. getD d j 0 }
 
-      elements-stored : Holds (laid (Elems ∷ []) (content f h)) (splice (x .sheet) (elementAt S z) d)
+      counted-low : property.count of S ≤ property.maximum of S
+      unfolding entryDemands
+      counted-low = omega (arith, now inv b .entries properties i (omega arith) (w .found .there))
+
+      at-first : (t : ℕ) → elementAt S t ≡ bodyAt (f .sheet) properties i + (t - 1) * property.element of entry (f .sheet) properties i
+      unfolding bodyAt
+      at-first t =
+          rw (property-same (inv .means .agree) i property.offset (is .there) (omega arith) (omega arith), element-same)
+
+      zeros-stored : Holds (laid (Zeros ∷ []) (content f h)) (zeroed (x .sheet) S z)
+      unfolding Zeros
+      zeros-stored =
+          let m : ℕ = z - 1 - property.count of S in
+          let ds : List ℕ = replicate (m * property.element of S) 0 in
+          let c : property.count of S + 1 - 1 ≡ property.count of S = omega arith in
+          elements-stored m (property.count of S) (elementAt S (property.count of S + 1)) ds (λ j. 0)
+          (λ j l. sym (getD-replicate (m * property.element of S) j 0 0 (rw element-same l)))
+          (omega (arith, counted-low, el .start, el .some, el .end, maximum-same))
+          (length-replicate {A = ℕ} (m * property.element of S) 0 ∙ ap (λ (q : ℕ). m * q) element-same)
+          (subst Octets (bytes-zero (m * property.element of S)) (octets-bytes (m * property.element of S) 0))
+          (at-first (property.count of S + 1) ∙ ap (λ (t : ℕ). bodyAt (f .sheet) properties i + t * property.element of entry (f .sheet) properties i) c)
+          (content f h) (x .sheet) (inv .means)
+
+      data-stored : Holds (laid (Elems ∷ Zeros ∷ []) (content f h)) (splice (zeroed (x .sheet) S z) (elementAt S z) d)
       unfolding Elems
-      elements-stored =
-          store-span (fine inv b) (inv .means) Elems (elementAt S z) d
-          (inside-within (now inv b) inside)
-          (rw at-first (body-run (fine inv b) is n z d (rw element-same at size) (el .start) (rw maximum-same at (el .end))))
-          (body-store (accepted (now inv b)) properties i (elementAt S z) d inside (λ q. absurd (omega arith)))
+      data-stored =
+          elements-stored n (z - 1) (elementAt S z) d (λ j. getD d j 0) (λ j l. refl)
+          (omega (arith, el .start, el .some, el .end, maximum-same))
+          (rw element-same at size)
           (rw e (octets-data (P object id n z) a octets))
+          (at-first z)
+          _ _ zeros-stored
 
       -- the new count
       New : ℕ
       New = max (property.count of S) (z + n - 1)
 
-      count-is : (c : ℕ) → c ≡ New → countTo object id c ∷ Elems ∷ [] ≡ countTo object id New ∷ Elems ∷ []
-      count-is c q = ap (λ (m : ℕ). countTo object id m ∷ Elems ∷ []) q
-
-      spans-are : Spans object id n z ≡ countTo object id New ∷ Elems ∷ []
-      unfolding spans Elems New
+      spans-are : Spans object id n z ≡ countTo object id New ∷ Elems ∷ Zeros ∷ []
+      unfolding spans Elems Zeros New
       spans-are =
-          rw (ne-eqb z 0 (omega (arith, el .start)), entry-for (fine inv b) is, sym e)
-          (count-is _ (omega (arith, count-now)))
+          rw (ne-eqb z 0 (omega (arith, el .start)), entry-for (fine inv b) is, sym e, count-now f b h x inv is)
 
       pub property-written :
           (k : ℕ) (answer : List ℕ) → Succeeds k →
@@ -186,15 +218,15 @@ module _ (f : First) (b : Begins f) (h : List Event) (x : State) (inv : Inv f h 
             answer = answer;
             session = x .session;
             sheet =
-                splice (splice (x .sheet) (elementAt S z) d) (place (x .sheet) properties i + property.count .at)
+                splice (splice (zeroed (x .sheet) S z) (elementAt S z) d) (place (x .sheet) properties i + property.count .at)
                 (bytesOf 2 (max (property.count of S) (z + n - 1)));
           })
-      unfolding New entryDemands
+      unfolding New
       property-written k answer low =
           carried-out f b h x inv mode g a out (P object id n z) (writeProperty object id n z) refl r
           (property-is R (now inv b) object id n z (given R (P object id n z)) (inv .means .octets) (property-id a octets (r .reads)) .1 (properties-due.ofElements i w el (rw e at size)))
           k answer _ low
-          (rw spans-are (count-stored New _ _ elements-stored most))
+          (rw spans-are (count-stored New _ _ data-stored most))
         where
           most : max (property.count of S) (z + n - 1) ≤ property.maximum of entry (f .sheet) properties i
-          most = omega (arith, now inv b .entries properties i (omega arith) (w .found .there), el .end, maximum-same)
+          most = omega (arith, counted-low, el .end, maximum-same)

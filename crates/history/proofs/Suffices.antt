@@ -69,7 +69,7 @@ module _ (s : List ℕ) (level : ℕ) where
       tt,
     )
     each (change (writeProperty object id n z)) e =
-        each-cond (λ x. level ≤ writeLevel s x) (eqb z 0) _ _ ((λ j h. enough), tt) ((λ j h. enough), ((λ j h. enough), tt))
+        each-cond (λ x. level ≤ writeLevel s x) (eqb z 0) _ _ ((λ j h. enough), tt) ((λ j h. enough), ((λ j h. enough), ((λ j h. enough), tt)))
       where
         Ts : List Bool
         Ts =

@@ -8,4 +8,5 @@ pub mod Others
 pub mod Keeps
 pub mod Keyless
 pub mod Rightful
+pub mod Shown
 pub mod Wrong

@@ -116,9 +116,12 @@ spans s before d (change (writeBits n a)) =
     []
 spans sheet before d (change (writeProperty object id n s)) =
     let z = property.element of entryFor sheet object id in
+    let c = countIn before object id in
     cond (eqb s 0) (countTo object id 0 ∷ [])
-    (countTo object id (max (countIn before object id) (s + n - 1)) ∷
-    record { from = body object id ((s - 1) * z); long = n * z; give = λ j. getD d j 0 } ∷ [])
+    (countTo object id (max c (s + n - 1)) ∷
+    record { from = body object id ((s - 1) * z); long = n * z; give = λ j. getD d j 0 } ∷
+    -- the elements that are jumped: zeros, whatever stood there
+    record { from = body object id (c * z); long = (s - 1 - c) * z; give = λ j. 0 } ∷ [])
 spans s before d (change (writeKey named number)) =
     record { from = key named 0; long = (head.key named) .width; give = λ j. getD (bytesOf 4 number) j 0 } ∷ []
 spans s before d (offerKey number) = []

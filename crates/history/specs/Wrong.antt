@@ -1,9 +1,9 @@
 -- Wrong devices, each with a short run on which it shows.
 -- Assumes nothing.
-use Prim.Native.Nat.{ℕ, _+_, _-_}
+use Prim.Native.Nat.{ℕ, _+_, _*_, _-_}
 use mathlib.Core.List.{List, [], _∷_}
 use mathlib.Core.Bool.{Bool, true, false, cond, _&&_, _||_}
-use lib.ListN.{getD, drop, replicate}
+use lib.ListN.{getD, take, drop, replicate}
 use lib.Dec.{leb, eqb}
 use Rattle.octets.specs.Bytes.{numAt, bytesOf}
 use Rattle.octets.specs.Splice.{splice}
@@ -69,22 +69,38 @@ storesOnce f h x e = let r = eventOf x e in withSheet r (cond (wrote f h) (x .sh
 abbrev pub storesLate : Device
 storesLate f h x e = withSheet (eventOf (stateAfter ours f h) e) (stateAfter ours f h .sheet)
 
--- ONE THAT INVENTS THE COUNT: it stores the maximum
-abbrev pub invented : List ℕ → Wish → List ℕ
-invented s (change (writeMemory m n a)) = s
-invented s (change (writeBits n a)) = s
-invented s (change (writeProperty object id n z)) =
-    splice s (place s properties (indexFor s object id) + property.count .at)
-    (bytesOf 2 (property.maximum of entryFor s object id))
-invented s (change (writeKey level number)) = s
-invented s (offerKey number) = s
-invented s restart = s
-invented s (other o) = s
-invented s nothing = s
+-- a device that changes the sheet after a write to elements from z on of the property with an object and id, x being the sheet before it
+abbrev pub written : (List ℕ → List ℕ → ℕ → ℕ → ℕ → List ℕ) → List ℕ → List ℕ → Wish → List ℕ
+written c x s (change (writeMemory m n a)) = s
+written c x s (change (writeBits n a)) = s
+written c x s (change (writeProperty object id n z)) = c x s object id z
+written c x s (change (writeKey level number)) = s
+written c x s (offerKey number) = s
+written c x s restart = s
+written c x s (other o) = s
+written c x s nothing = s
 
+abbrev pub onElements : (List ℕ → List ℕ → ℕ → ℕ → ℕ → List ℕ) → Device
+onElements c =
+    onRequests
+    (λ x e r. withSheet r (cond (leb (r .outcome) 1) (written c (x .sheet) (r .sheet) (wished e)) (r .sheet)))
+
+-- ONE THAT INVENTS THE COUNT: it stores the maximum
 abbrev pub inventsCount : Device
 inventsCount =
-    onRequests (λ x e r. withSheet r (cond (leb (r .outcome) 1) (invented (r .sheet) (wished e)) (r .sheet)))
+    onElements
+    (λ x s object id z.
+    splice s (place s properties (indexFor s object id) + property.count .at)
+    (bytesOf 2 (property.maximum of entryFor s object id)))
+
+-- ONE THAT LEAVES THE JUMPED ELEMENTS: from the count on, what stood before element z still stands there
+abbrev pub leavesJumped : Device
+leavesJumped =
+    onElements
+    (λ x s object id z.
+    let e = entryFor x object id in
+    let o = property.offset of e + property.count of e * property.element of e in
+    splice s o (take ((z - 1 - property.count of e) * property.element of e) (drop o x)))
 
 -- ONE THAT STORES BEFORE IT JUDGES: the sheet is stored to as if at level 0, and then judged as ours
 abbrev pub storesFirst : Device
@@ -194,6 +210,13 @@ userWrite = sent (0x02 ∷ 0xC2 ∷ 0x01 ∷ 0x01 ∷ 0x00 ∷ 0x55 ∷ [])
 abbrev pub elementWrite : ℕ → Event
 elementWrite mode = request mode 0 (0x03 ∷ 0xD7 ∷ 0x01 ∷ 0x33 ∷ 0x10 ∷ 0x01 ∷ 0x03 ∷ 0x84 ∷ []) buffer
 
+-- its count cleared; 0384 to its element 2
+abbrev pub clear : Event
+clear = sent (0x03 ∷ 0xD7 ∷ 0x01 ∷ 0x33 ∷ 0x10 ∷ 0x00 ∷ 0x00 ∷ 0x00 ∷ [])
+
+abbrev pub jump : Event
+jump = sent (0x03 ∷ 0xD7 ∷ 0x01 ∷ 0x33 ∷ 0x10 ∷ 0x02 ∷ 0x03 ∷ 0x84 ∷ [])
+
 -- connected, the key of level 0 offered
 abbrev pub authorized : List Event
 authorized = offering 0x11 ∷ connect ∷ []
@@ -215,6 +238,7 @@ wrongs =
     shows storesOnce (secondWrite ∷ firstWrite ∷ authorized) ∷
     shows storesLate (firstWrite ∷ authorized) ∷
     shows inventsCount (elementWrite 3 ∷ authorized) ∷
+    shows leavesJumped (jump ∷ clear ∷ authorized) ∷
     shows storesFirst (firstWrite ∷ connect ∷ []) ∷
     shows deniesAndStores (elementWrite 2 ∷ []) ∷
     shows keepsLevel (offering 0x33 ∷ authorized) ∷

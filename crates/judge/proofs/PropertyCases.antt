@@ -19,11 +19,12 @@ use Rattle.sheet.proofs.Keys.{index-hit, index-key}
 use Rattle.sheet.proofs.Ranks.{nth-hit, nth-is}
 use Rattle.octets.proofs.Truths.{and-is}
 use Rattle.pdu.specs.declared.Pdu.the-variants.{PropertyValueResponse, PropertyDescriptionResponse}
+use Rattle.judge.specs.declared.Store.{Store}
 use Rattle.judge.specs.declared.Store.the-variants as store
 use Rattle.judge.specs.declared.Answer.the-variants as answer
 use Rattle.judge.specs.declared.Decision.{Decision}
 use Rattle.judge.specs.Decisions.{denied, answered, written}
-use Rattle.judge.specs.Properties.{elements, counted, elementAt, noValue, propertyAt, readIn, propertyReadOf, writeIn, propertyWriteOf, describedAt, descriptionOf}
+use Rattle.judge.specs.Properties.{elements, counted, elementAt, jumped, noValue, propertyAt, readIn, propertyReadOf, writeIn, propertyWriteOf, describedAt, descriptionOf}
 use Rattle.octets.proofs.Walks.{by-lt, by-le, by-eq, by-both, by-test}
 
 -- property i has the object and the id
@@ -43,6 +44,12 @@ among n s m e =
     let k = and-is (leb 1 s) (leb 1 n) .0 (h .0) in
     record { start = leb-true 1 s (k .0); some = leb-true 1 n (k .1); end = leb-true (s + n - 1) m (h .1) }
 
+-- the run of a write from element s on
+abbrev pub runIn : List ℕ → ℕ → Store
+runIn e s =
+    store.Data (jumped (property.count of e) s * property.element of e)
+    (elementAt (property.offset of e) (property.element of e) (s - jumped (property.count of e) s))
+
 -- the property may be written at a level
 pub record Free (e : List ℕ) (level : ℕ) : Type 0 where
   pub bit7 : property.typ of e / 128 ≡ 1
@@ -61,7 +68,7 @@ module _ (sheet : List ℕ) (level object id n s : ℕ) (P : Decision → Type 0
       ((i : ℕ) → Keyed sheet object id i → level ≤ property.levels of entry sheet properties i / 16 → s ≡ 0 → n ≡ 1 →
       P (answered (answer.Number (PropertyValueResponse object id n s) 2 (property.count of entry sheet properties i)))) →
       ((i : ℕ) → Keyed sheet object id i → level ≤ property.levels of entry sheet properties i / 16 →
-      Among n s (property.maximum of entry sheet properties i) → n * property.element of entry sheet properties i ≤ 10 →
+      Among n s (property.count of entry sheet properties i) → n * property.element of entry sheet properties i ≤ 10 →
       P
       (answered
       (answer.Sheet (PropertyValueResponse object id n s)
@@ -76,8 +83,8 @@ module _ (sheet : List ℕ) (level object id n s : ℕ) (P : Decision → Type 0
       (λ l. by-le P level (property.levels of e / 16) _ _
       (λ r. by-test P (counted n s) _ _
       (λ c. let k = and-is (eqb s 0) (eqb n 1) .0 c in f i (found sheet object id l) r (eqb-true s 0 (k .0)) (eqb-true n 1 (k .1)))
-      (λ c. by-both P (elements n s (property.maximum of e)) (leb (n * property.element of e) 10) _ _
-      (λ a b. g i (found sheet object id l) r (among n s (property.maximum of e) a) (leb-true _ 10 b)) h))
+      (λ c. by-both P (elements n s (property.count of e)) (leb (n * property.element of e) 10) _ _
+      (λ a b. g i (found sheet object id l) r (among n s (property.count of e) a) (leb-true _ 10 b)) h))
       (λ r. h))
       (λ l. h)
 
@@ -89,8 +96,7 @@ module _ (sheet : List ℕ) (level object id n s : ℕ) (P : Decision → Type 0
         ((i : ℕ) → Keyed sheet object id i → Free (entry sheet properties i) level →
         Among n s (property.maximum of entry sheet properties i) → length d ≡ n * property.element of entry sheet properties i →
         P
-        (written
-        (store.Data 0 (elementAt (property.offset of entry sheet properties i) (property.element of entry sheet properties i) s))
+        (written (runIn (entry sheet properties i) s)
         (store.Number (place sheet properties i + 6) 2 (max (property.count of entry sheet properties i) (s + n - 1)))
         (answer.Echo (PropertyValueResponse object id n s)))) →
         P (noValue object id s) → P (propertyWriteOf sheet level object id n s d)
@@ -163,7 +169,7 @@ module _ {sheet : List ℕ} (ok : Good sheet) (object id i : ℕ) (k : Keyed she
     property-read-count r z o = reads ∙ simp (le-leb level _ r, eq-eqb s 0 z, eq-eqb n 1 o)
 
     pub property-read-elements :
-        level ≤ property.levels of entry sheet properties i / 16 → Among n s (property.maximum of entry sheet properties i) →
+        level ≤ property.levels of entry sheet properties i / 16 → Among n s (property.count of entry sheet properties i) →
         n * property.element of entry sheet properties i ≤ 10 →
         propertyReadOf sheet level object id n s
         ≡ answered
@@ -192,8 +198,7 @@ module _ {sheet : List ℕ} (ok : Good sheet) (object id i : ℕ) (k : Keyed she
       pub property-write-elements :
           Among n s (property.maximum of entry sheet properties i) → length d ≡ n * property.element of entry sheet properties i →
           propertyWriteOf sheet level object id n s d
-          ≡ written
-          (store.Data 0 (elementAt (property.offset of entry sheet properties i) (property.element of entry sheet properties i) s))
+          ≡ written (runIn (entry sheet properties i) s)
           (store.Number (place sheet properties i + 6) 2 (max (property.count of entry sheet properties i) (s + n - 1)))
           (answer.Echo (PropertyValueResponse object id n s))
       unfolding writeIn

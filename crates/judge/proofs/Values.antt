@@ -15,13 +15,14 @@ use Rattle.sheet.specs.Lookup.{rank}
 use Rattle.sheet.specs.Places.{IsProperty}
 use Rattle.sheet.specs.declared.PropertyEntry.{PropertyEntry}
 use Rattle.pdu.specs.declared.Pdu.the-variants.{PropertyValueResponse, PropertyDescriptionResponse}
+use Rattle.judge.specs.declared.Store.{Store}
 use Rattle.judge.specs.declared.Store.the-variants as store
 use Rattle.judge.specs.declared.Answer.the-variants as answer
 use Rattle.judge.specs.declared.Decision.{Decision}
 use Rattle.judge.specs.Decisions.{denied, answered, written}
 use Rattle.octets.proofs.Truths.{first-true, second-true}
 use Rattle.judge.specs.Memory.{mayRead, mayWrite}
-use Rattle.judge.specs.Properties.{elements, counted, elementAt, most, noValue, propertyAt, readIn, propertyReadOf, writeIn, propertyWriteOf, describedAt, descriptionOf}
+use Rattle.judge.specs.Properties.{elements, counted, elementAt, jumped, most, noValue, propertyAt, readIn, propertyReadOf, writeIn, propertyWriteOf, describedAt, descriptionOf}
 
 module _
     (e : PropertyEntry) (t : List ℕ) (i : ℕ) (p : IsProperty t i e) (level object id n s : ℕ) (r : Decision) (w : Bool)
@@ -38,17 +39,23 @@ module _
       unfolding readIn
       read-count h g = simp (← (p .levels), ← (p .count), ← w-is, not-false w l, sym c-is ∙ h) g
 
-      module _ (m : c ≡ false) (z : ℕ) (z-is : z ≡ n * e .element) (b : Bool) (b-is : b ≡ (elements n s (e .maximum) && leb z most)) where
+      module _ (m : c ≡ false) (z : ℕ) (z-is : z ≡ n * e .element) (b : Bool) (b-is : b ≡ (elements n s (e .count) && leb z most)) where
         pub read-elements :
             (at : ℕ) → b ≡ true → at ≡ elementAt (e .offset) (e .element) s →
             r ≡ answered (answer.Sheet (PropertyValueResponse object id n s) at z) → r ≡ readIn (entry t properties i) level object id n s
         unfolding readIn
         read-elements at h k g =
-            simp (← (p .levels), ← (p .maximum), ← (p .element), ← (p .offset), ← w-is, not-false w l, sym c-is ∙ m, ← z-is, sym b-is ∙ h, ← k) g
+            simp (← (p .levels), ← (p .count), ← (p .element), ← (p .offset), ← w-is, not-false w l, sym c-is ∙ m, ← z-is, sym b-is ∙ h, ← k) g
 
         pub read-none : b ≡ false → r ≡ noValue object id s → r ≡ readIn (entry t properties i) level object id n s
         unfolding readIn
-        read-none h g = simp (← (p .levels), ← (p .maximum), ← (p .element), ← w-is, not-false w l, sym c-is ∙ m, ← z-is, sym b-is ∙ h) g
+        read-none h g = simp (← (p .levels), ← (p .count), ← (p .element), ← w-is, not-false w l, sym c-is ∙ m, ← z-is, sym b-is ∙ h) g
+
+-- the run of a write: j elements as zeros, then the data
+pub run-is :
+    (c s z o j zeros at : ℕ) (r : Store) → j ≡ jumped c s → zeros ≡ j * z → at ≡ elementAt o z (s - j) → r ≡ store.Data zeros at →
+    r ≡ store.Data (jumped c s * z) (elementAt o z (s - jumped c s))
+run-is c s z o j zeros at r e f g h = rw (← e, ← f, ← g) h
 
 -- what elements says of the numbers
 module _ (n s m : ℕ) (u b : Bool) (e : b ≡ (elements n s m && u)) (h : b ≡ true) where
@@ -80,13 +87,14 @@ module _
 
         module _ (m : c ≡ false) (z : ℕ) (z-is : z ≡ n * e .element) (b : Bool) (b-is : b ≡ (elements n s (e .maximum) && eqb (length d) z)) where
           pub write-elements :
-              (x at : ℕ) → b ≡ true → x ≡ max (e .count) (s + n - 1) → at ≡ elementAt (e .offset) (e .element) s →
-              r ≡ written (store.Data 0 at) (store.Number o 2 x) (answer.Echo (PropertyValueResponse object id n s)) →
+              (x : ℕ) (u : Store) → b ≡ true → x ≡ max (e .count) (s + n - 1) →
+              u ≡ store.Data (jumped (e .count) s * e .element) (elementAt (e .offset) (e .element) (s - jumped (e .count) s)) →
+              r ≡ written u (store.Number o 2 x) (answer.Echo (PropertyValueResponse object id n s)) →
               r ≡ writeIn (entry t properties i) (place t properties i) level object id n s d
           unfolding writeIn
-          write-elements x at h x-is at-is g =
+          write-elements x u h x-is u-is g =
               simp
-              (← (p .typ), ← (p .levels), ← (p .place), ← (p .maximum), ← (p .element), ← (p .offset), ← (p .count), ← w-is, not-false w l, ← c-is, m, ← z-is, ← b-is, h, ← o-is, ← x-is, ← at-is)
+              (← (p .typ), ← (p .levels), ← (p .place), ← (p .maximum), ← (p .element), ← (p .offset), ← (p .count), ← w-is, not-false w l, ← c-is, m, ← z-is, ← b-is, h, ← o-is, ← x-is, ← u-is)
               g
 
           pub write-none : b ≡ false → r ≡ noValue object id s → r ≡ writeIn (entry t properties i) (place t properties i) level object id n s d

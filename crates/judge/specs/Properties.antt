@@ -33,6 +33,10 @@ counted n s = eqb s 0 && eqb n 1
 abbrev pub elementAt : ℕ → ℕ → ℕ → ℕ
 elementAt o z s = o + (s - 1) * z
 
+-- how many elements a write from element s on jumps, the first c being counted
+abbrev pub jumped : ℕ → ℕ → ℕ
+jumped c s = s - 1 - c
+
 -- the index of the property with that object and id, the count of properties where there is none
 abbrev pub propertyAt : List ℕ → ℕ → ℕ → ℕ
 propertyAt s object id = indexOf s properties (object * 256 + id)
@@ -41,13 +45,13 @@ propertyAt s object id = indexOf s properties (object * 256 + id)
 abbrev pub noValue : ℕ → ℕ → ℕ → Decision
 noValue object id s = denied (PropertyValueResponse object id 0 s)
 
--- a read at this level of the property of entry e
+-- a read at this level of the property of entry e: its elements as far as they are counted
 unfoldable pub readIn : List ℕ → ℕ → ℕ → ℕ → ℕ → ℕ → Decision
 readIn e level object id n s =
     cond (leb level (property.levels of e / 16))
     (cond (counted n s)
     (answered (answer.Number (PropertyValueResponse object id n s) (property.count .width) (property.count of e)))
-    (cond (elements n s (property.maximum of e) && leb (n * property.element of e) most)
+    (cond (elements n s (property.count of e) && leb (n * property.element of e) most)
     (answered
     (answer.Sheet (PropertyValueResponse object id n s) (elementAt (property.offset of e) (property.element of e) s)
     (n * property.element of e)))
@@ -63,7 +67,8 @@ propertyReadOf sheet level object id n s =
 abbrev pub writable : List ℕ → ℕ → Bool
 writable e level = eqb (property.typ of e / 128) 1 && leb level (property.levels of e % 16)
 
--- a write of data d at this level to the property of entry e, which stands at p
+-- a write of data d at this level to the property of entry e, which stands at p: one run, the elements that it jumps
+-- as zeros and then the data
 unfoldable pub writeIn : List ℕ → ℕ → ℕ → ℕ → ℕ → ℕ → ℕ → List ℕ → Decision
 writeIn e p level object id n s d =
     cond (writable e level)
@@ -71,7 +76,9 @@ writeIn e p level object id n s d =
     (written (store.Fill (p + property.count .at) (property.count .width) 0) store.Nothing
     (answer.Echo (PropertyValueResponse object id n s)))
     (cond (elements n s (property.maximum of e) && eqb (length d) (n * property.element of e))
-    (written (store.Data 0 (elementAt (property.offset of e) (property.element of e) s))
+    (written
+    (store.Data (jumped (property.count of e) s * property.element of e)
+    (elementAt (property.offset of e) (property.element of e) (s - jumped (property.count of e) s)))
     (store.Number (p + property.count .at) (property.count .width) (max (property.count of e) (s + n - 1)))
     (answer.Echo (PropertyValueResponse object id n s)))
     (noValue object id s)))

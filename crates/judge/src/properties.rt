@@ -11,8 +11,9 @@ ghost use Rattle.sheet.specs.Property as property;
 ghost use Rattle.sheet.specs.Entries.{entry, place};
 ghost use Rattle.sheet.specs.Places.{IsProperty};
 ghost use Rattle.sheet.specs.Rules.{Accepted};
+ghost use Rattle.judge.specs.declared.Store.the-variants as store;
 ghost use Rattle.judge.specs.Memory.{mayWrite};
-ghost use Rattle.judge.specs.Properties.{elements as elementsOf, counted as countedOf, elementAt, noValue, most, readIn, writeIn, propertyAt, propertyReadOf, propertyWriteOf, describedAt, descriptionOf};
+ghost use Rattle.judge.specs.Properties.{elements as elementsOf, counted as countedOf, elementAt, jumped as jumpedOf, noValue, most, readIn, writeIn, propertyAt, propertyReadOf, propertyWriteOf, describedAt, descriptionOf};
 use crate::Answer;
 use crate::Decision;
 use crate::Store;
@@ -72,11 +73,35 @@ fn times(n: usize, element: usize) -> usize
 }
 
 // Where element s of the body from a place on stands, each element having so many bytes.
-fn element_at(offset: usize, element: usize, s: u16) -> usize
-    requires { ⌜ (1 ≤ s) × (offset ≤ 16384) × (element ≤ 10) ⌝ }
+fn element_at(offset: usize, element: usize, s: usize) -> usize
+    requires { ⌜ (1 ≤ s) × (s ≤ 65535) × (offset ≤ 16384) × (element ≤ 10) ⌝ }
     ensures { λ r. ⌜ r ≡ elementAt offset element s ⌝ }
 {
-    offset + times(s as usize - 1, element)
+    offset + times(s - 1, element)
+}
+
+// How many elements a write from element s on jumps, so many being counted.
+fn jumped(count: usize, s: u16) -> usize
+    requires { ⌜ 1 ≤ s ⌝ }
+    ensures { λ r. ⌜ r ≡ jumpedOf count s ⌝ }
+{
+    let before = s as usize - 1;
+    if before < count {
+        return 0;
+    }
+    before - count
+}
+
+// The run of a write from element s on: the elements that it jumps as zeros, then the data.
+fn run(e: PropertyEntry, s: u16) -> Store
+    requires { ⌜ (1 ≤ s) × (e .element ≤ 10) × (e .offset ≤ 16384) ⌝ }
+    ensures { λ r. ⌜ r ≡ store.Data (jumpedOf (e .count) s * e .element) (elementAt (e .offset) (e .element) (s - jumpedOf (e .count) s)) ⌝ }
+{
+    let zeros = jumped(e.count, s);
+    Store::Data {
+        zeros: times(zeros, e.element),
+        at: element_at(e.offset, e.element, s as usize - zeros),
+    }
 }
 
 // What is answered to a denied read or write.
@@ -91,11 +116,11 @@ fn no_value(object: u8, id: u8, s: u16) -> Decision
     })
 }
 
-// The elements are there, and their bytes fit into a PDU.
-fn is_readable(n: u8, s: u16, maximum: usize, size: usize) -> bool
-    ensures { λ r. ⌜ r ≡ (elementsOf n s maximum && leb size most) ⌝ }
+// The elements are counted, and their bytes fit into a PDU.
+fn is_readable(n: u8, s: u16, count: usize, size: usize) -> bool
+    ensures { λ r. ⌜ r ≡ (elementsOf n s count && leb size most) ⌝ }
 {
-    if elements(n, s, maximum) {
+    if elements(n, s, count) {
         return size <= MOST;
     }
     false
@@ -119,10 +144,10 @@ fn read_in(e: PropertyEntry, level: u8, object: u8, id: u8, n: u8, s: u16) -> De
         });
     }
     let size = times(n as usize, element);
-    if is_readable(n, s, e.maximum, size) {
+    if is_readable(n, s, e.count, size) {
         return answered(Answer::Sheet {
             pdu: answer,
-            at: element_at(e.offset, element, s),
+            at: element_at(e.offset, element, s as usize),
             n: size,
         });
     }
@@ -195,12 +220,8 @@ fn write_in(e: PropertyEntry, level: u8, object: u8, id: u8, n: u8, s: u16, d: &
     let size = times(n as usize, element);
     if is_stored(n, s, e.maximum, size, d.len()) {
         let x = new_count(e.count, n, s) as u64;
-        let elements = Store::Data {
-            zeros: 0,
-            at: element_at(e.offset, element, s),
-        };
         return written(
-            elements,
+            run(e, s),
             Store::Number {
                 at,
                 width: COUNT,

@@ -177,18 +177,19 @@ fn memory_reply(
     }
 }
 
-/// Where in the sheet elements s to s+n-1 lie, if the property has them all.
+/// Where in the sheet elements s to s+n-1 lie, if all are among the first `limit`.
 fn elements<const ON: bool>(
     faults: Faults<ON>,
     p: &sheet::Property,
     n: u8,
     s: u16,
+    limit: u16,
 ) -> Option<std::ops::Range<usize>> {
     if s == 0 || n == 0 {
         return None;
     }
     let before = if faults.is(Fault::CountsFromZero) { s as usize } else { s as usize - 1 };
-    if before + n as usize > p.maximum as usize {
+    if before + n as usize > limit as usize {
         return None;
     }
     let from = p.body + before * p.size;
@@ -302,7 +303,8 @@ fn step<const ON: bool>(
                 if s == 0 && n == 1 {
                     Some(p.entry + 6..p.entry + 8)
                 } else {
-                    elements(faults, &p, n, s).filter(|part| part.len() <= 10)
+                    let limit = if faults.is(Fault::ReadsToMaximum) { p.maximum } else { p.count };
+                    elements(faults, &p, n, s, limit).filter(|part| part.len() <= 10)
                 }
             });
             match part {
@@ -319,7 +321,7 @@ fn step<const ON: bool>(
                 if s == 0 {
                     (n == 1 && data == [0, 0]).then_some((p, None))
                 } else {
-                    let part = elements(faults, &p, n, s)?;
+                    let part = elements(faults, &p, n, s, p.maximum)?;
                     (part.len() == data.len()).then_some((p, Some(part)))
                 }
             });
@@ -337,6 +339,11 @@ fn step<const ON: bool>(
                     };
                     sheet[p.entry + 6..p.entry + 8].copy_from_slice(&count.to_be_bytes());
                     if let Some(part) = part {
+                        // The elements between the count and s, which nobody has given.
+                        let counted = p.body + p.count as usize * p.size;
+                        if counted < part.start && !faults.is(Fault::LeavesJumped) {
+                            sheet[counted..part.start].fill(0);
+                        }
                         sheet[part].copy_from_slice(data);
                     }
                 }

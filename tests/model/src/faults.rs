@@ -21,6 +21,10 @@ pub enum Fault {
     AnswersOnly,
     /// Whatever a property write holds, the stored count becomes the maximum.
     InventsCount,
+    /// Elements are read up to the maximum, whatever the count.
+    ReadsToMaximum,
+    /// A write past the count leaves the elements that it jumps.
+    LeavesJumped,
     /// A bit write asks for the write right alone.
     BitWriteWithoutRead,
     /// User memory is served from the device's memory at the same address.
@@ -30,7 +34,7 @@ pub enum Fault {
 }
 
 impl Fault {
-    pub const ALL: [Fault; 12] = [
+    pub const ALL: [Fault; 14] = [
         Fault::StoreFirst,
         Fault::LevelsReversed,
         Fault::WrongKeyKeepsLevel,
@@ -40,6 +44,8 @@ impl Fault {
         Fault::LevelOneSetsKeyZero,
         Fault::AnswersOnly,
         Fault::InventsCount,
+        Fault::ReadsToMaximum,
+        Fault::LeavesJumped,
         Fault::BitWriteWithoutRead,
         Fault::UserFromDeviceMemory,
         Fault::ExtensionIgnored,

@@ -538,7 +538,9 @@ fn apdu(rng: &mut Rng, sheet: &[u8], good: bool, row: usize) -> (Vec<u8>, u16) {
         }
         8 | 9 => {
             let (object, id, size, maximum, count) = target(rng, sheet, good);
-            let (n, s) = elements(rng, size, maximum, count);
+            // A read is bounded by the count, a write by the maximum.
+            let limit = if row == 8 && count > 0 && rng.chance(70) { count } else { maximum };
+            let (n, s) = elements(rng, size, limit, count);
             code(&mut a, if row == 8 { 0x3D5 } else { 0x3D7 });
             a.extend([object, id]);
             a.extend(((n as u16) << 12 | s).to_be_bytes());

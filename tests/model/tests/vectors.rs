@@ -116,7 +116,7 @@ fn play_rows<const N: usize>(rows: &str, from: [u8; N]) -> usize {
 
 #[test]
 fn shared_cases() {
-    assert_eq!(play_rows(include_str!("../../vectors/device.tsv"), SAMPLE), 14);
+    assert_eq!(play_rows(include_str!("../../vectors/device.tsv"), SAMPLE), 16);
     assert_eq!(play_rows(include_str!("../../vectors/pump.tsv"), PUMP), 0);
 }
 
@@ -138,8 +138,8 @@ fn further_cases() {
         ("M1", "03DE00C5010203041207DEADBEEF", "", 1),
         ("M2", "0300", "034007B0", 0),
         ("M2", "0302", "", 2),
-        ("M2", "03D501332001", "03D60133200103E80000", 0),
-        ("M2", "03D501331002", "03D6013310020000", 0),
+        ("M2", "03D501332001", "03D601330001", 11),
+        ("M2", "03D501331002", "03D601330002", 11),
         ("M2", "03D501331003", "03D601330003", 11),
         ("M2", "03D501330001", "03D601330001", 11),
         ("M2", "03D501332000", "03D601330000", 11),

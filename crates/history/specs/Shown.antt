@@ -1,0 +1,64 @@
+-- WHAT A READ MAY SHOW OF A PROPERTY: by the first sheet, the first session and the events alone.
+-- Assumes nothing.
+use Prim.Native.Nat.{ℕ, _+_, _*_, _-_, _<_, _≤_}
+use mathlib.Core.Path.{_≡_}
+use mathlib.Core.List.{List, [], _∷_}
+use mathlib.Core.Bool.{Bool, true, false, cond, _&&_, _||_}
+use lib.ListN.{length, getD}
+use lib.Dec.{ltb, eqb}
+use Rattle.sheet.specs.Layout.{_of_}
+use Rattle.sheet.specs.Property as property
+use Rattle.pdu.specs.Read.{readPdu}
+use Rattle.pdu.specs.Write.{encoded}
+use Rattle.pdu.specs.declared.Parsed.the-variants.{Is}
+use Rattle.pdu.specs.declared.Pdu.the-variants.{PropertyValueRead, PropertyValueResponse}
+use Rattle.device.specs.Octets.{Octets}
+use Rattle.device.specs.Step.{Step}
+use Rattle.device.specs.Events.{Event, request}
+use Rattle.history.specs.Location.{body}
+use Rattle.history.specs.Span.{all, names}
+use Rattle.history.specs.Wish.{Wish, change, writeMemory, writeBits, writeProperty, writeKey, offerKey, restart, other, nothing}
+use Rattle.history.specs.Permit.{entryFor, countIn, spans}
+use Rattle.history.specs.History.{First, firstOf, wished, supplied, content, permitted}
+use Rattle.history.specs.Keeps.{Device, stateAfter, Begins, AllOctets}
+
+-- the bytes of one element
+abbrev pub elementOf : First → ℕ → ℕ → ℕ
+elementOf f object id = property.element of entryFor (f .sheet) object id
+
+-- the count of the property is written, and so cleared
+abbrev pub clearing : ℕ → ℕ → Wish → Bool
+clearing object id (change (writeMemory m n a)) = false
+clearing object id (change (writeBits n a)) = false
+clearing object id (change (writeProperty o i n s)) = all (eqb o object ∷ eqb i id ∷ eqb s 0 ∷ [])
+clearing object id (change (writeKey level number)) = false
+clearing object id (offerKey number) = false
+clearing object id restart = false
+clearing object id (other o) = false
+clearing object id nothing = false
+
+-- BYTE j OF ITS BODY IS GIVEN: the first sheet counted it, or a permitted write has named it, with its data or with the zeros
+-- of an element that it jumped; and the count has not been cleared since
+unfoldable pub given : First → ℕ → ℕ → ℕ → List Event → Bool
+given f object id j [] = ltb j (countIn (firstOf (f .sheet)) object id * elementOf f object id)
+given f object id j (e ∷ h) =
+    cond (permitted f h e && clearing object id (wished e)) false
+    ((permitted f h e && names (spans (f .sheet) (content f h) (supplied e) (wished e)) (body object id j)) ||
+    given f object id j h)
+
+-- the answer shows n elements from element s on, each byte of them given, and it is what the history says
+pub record Shows (f : First) (h : List Event) (object id n s : ℕ) (r : Step) : Type 0 where
+  pub bytes : List ℕ
+  pub answer : r .answer ≡ encoded (PropertyValueResponse object id n s) bytes
+  pub long : length bytes ≡ n * elementOf f object id
+  pub isGiven : (k : ℕ) → k < length bytes → given f object id ((s - 1) * elementOf f object id + k) h ≡ true
+  pub holds :
+      (k : ℕ) → k < length bytes → getD bytes k 0 ≡ content f h (body object id ((s - 1) * elementOf f object id + k))
+
+-- WHAT IS SHOWN WAS WRITTEN: after every history, whenever a read of elements is carried out
+abbrev pub ShownWasWritten : Device → Type 0
+ShownWasWritten step =
+    (f : First) (h : List Event) → Begins f → AllOctets h → (mode g : ℕ) (a out : List ℕ) → Octets a →
+    (object id n s : ℕ) → readPdu a ≡ Is (PropertyValueRead object id n s) → 1 ≤ s →
+    step f h (stateAfter step f h) (request mode g a out) .outcome ≡ 0 →
+    Shows f h object id n s (step f h (stateAfter step f h) (request mode g a out))
