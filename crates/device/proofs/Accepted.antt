@@ -7,6 +7,7 @@ use lib.ListN.{length}
 use native.Mathlib.Nat.{mul-le-mul-right}
 use native.Mathlib.Omega.{arith}
 use Rattle.octets.specs.Bytes.{numAt}
+use Rattle.sheet.specs.Head as head
 use Rattle.sheet.specs.Kind.{properties, groups}
 use Rattle.sheet.specs.Layout.{_of_}
 use Rattle.sheet.specs.Region as region
@@ -20,7 +21,7 @@ use Rattle.sheet.proofs.Standing.{place-in}
 use Rattle.sheet.proofs.PlainRows.{six-to}
 
 module _ {s : List ℕ} (ok : Good s) where
-  pub long : 32 ≤ length s
+  pub long : head.size ≤ length s
   long = ok .framed .0
 
   module _ (i : ℕ) (h : i < count s groups) where
@@ -70,5 +71,5 @@ module _ {s : List ℕ} (ok : Good s) where
         omega (arith, within ok properties i (omega arith) h, mul-le-mul-right (property.element of entry s properties i) count-below)
 
     -- the count in the entry
-    pub count-within : place s properties i + 6 + 2 ≤ length s
+    pub count-within : place s properties i + property.count .at + property.count .width ≤ length s
     count-within = omega (arith, place-in s properties i (omega arith) h, ok .framed)

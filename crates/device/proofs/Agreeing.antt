@@ -63,8 +63,8 @@ module _ {s : List ℕ} (ok : Good s) where
 -- the count of a property after a store that agrees
 pub count-keeps :
     {s s′ : List ℕ} → Good s → Agree s s′ → (i c : ℕ) → i < count s properties → c ≤ property.maximum of entry s properties i →
-    Agree s (splice s′ (place s properties i + 6) (bytesOf 2 c))
+    Agree s (splice s′ (place s properties i + property.count .at) (bytesOf 2 c))
 count-keeps {s} {s′} ok a i c h l =
     agree-trans a
-    (subst (λ (p : ℕ). Agree s′ (splice s′ (p + 6) (bytesOf 2 c))) (place-same a properties i)
+    (subst (λ (p : ℕ). Agree s′ (splice s′ (p + property.count .at) (bytesOf 2 c))) (place-same a properties i)
     (count-store (kept ok a) i c (rw (count-same a properties) h) (rw (property-same a i property.maximum h (omega arith) (omega arith)) l)))

@@ -57,7 +57,7 @@ module _ {s : List ℕ} (ok : Good s) where
 
   module _ (i : ℕ) (h : i < count s properties) where
     -- the count that was cleared
-    pub count-back : property.count of entry (splice s (place s properties i + 6) (replicate 2 0)) properties i ≡ 0
+    pub count-back : property.count of entry (splice s (place s properties i + property.count .at) (replicate 2 0)) properties i ≡ 0
     count-back = rw (← (bytes-zero 2)) (count-now ok i 0 h (omega arith))
 
     -- elements that were written, the count being set after them
@@ -77,7 +77,7 @@ module _ {s : List ℕ} (ok : Good s) where
       ran = storeOf s d (runIn (entry s properties i) t)
 
       abbrev pub wrote : List ℕ
-      wrote = splice ran (place s properties i + 6) (bytesOf 2 c)
+      wrote = splice ran (place s properties i + property.count .at) (bytesOf 2 c)
 
       ran-agrees : Agree s ran
       ran-agrees = elements-keep ok i _ _ _ h (whole _ a) (length-run j n z d l)
@@ -100,7 +100,7 @@ module _ {s : List ℕ} (ok : Good s) where
       unfolding bodyAt
       elements-back =
           let w : o + length d ≤ length s = omega (arith, elements-within ok i h n t (a .start) (a .end)) in
-          part-after ran (bytesOf 2 c) (place s properties i + 6) o (length d)
+          part-after ran (bytesOf 2 c) (place s properties i + property.count .at) o (length d)
           (omega (arith, length-bytes 2 c, ran-agrees .long, place-in s properties i (omega arith) h, ok .framed))
           (omega (arith, length-bytes 2 c, place-in s properties i (omega arith) h, after-contents ok properties i (omega arith) h))
           ∙ ap (λ (u : List ℕ). take (length d) (drop o u))

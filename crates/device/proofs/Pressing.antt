@@ -22,7 +22,7 @@ pub via-turn : (q : Session) (t u : Turn) (r : Session) → t ≡ u → r ≡ tu
 via-turn q t u r e h = subst (λ (x : Turn). r ≡ turnOf q x) (sym e) h
 
 -- an accepted sheet has room for its head
-pub head-room : (s : List ℕ) (c : ℕ) → c ≡ ruleOf s → c ≡ 0 → 32 ≤ length s
+pub head-room : (s : List ℕ) (c : ℕ) → c ≡ ruleOf s → c ≡ 0 → head.size ≤ length s
 head-room s c e z = good s (sym e ∙ z) .framed .0
 
 pub not-pressed : (s : List ℕ) (on : Bool) (c : ℕ) → c ≡ ruleOf s → (c ≡ 0 → ⊥) → Pressed s on 4 s

@@ -70,7 +70,7 @@ module _ (x y : Asked) (object id n s : ℕ) (r : Reads x (PropertyValueWrite ob
 
   -- the count, and elements
   count-found :
-      (i : ℕ) → Keyed (x .sheet) object id i → done x .sheet ≡ splice (x .sheet) (place (x .sheet) properties i + 6) (replicate 2 0) →
+      (i : ℕ) → Keyed (x .sheet) object id i → done x .sheet ≡ splice (x .sheet) (place (x .sheet) properties i + property.count .at) (replicate 2 0) →
       bytesOf 2 (property.count of entry (y .sheet) properties j) ≡ 0 ∷ 0 ∷ []
   count-found i k e =
       let c : property.count of entry (y .sheet) properties i ≡ 0 = rw (new, e) (count-back ok i (k .there)) in

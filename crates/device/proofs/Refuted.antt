@@ -6,6 +6,7 @@ use mathlib.Core.List.{List}
 use mathlib.Core.Bool.{true}
 use lib.ListN.{getD}
 use native.Mathlib.Omega.{arith}
+use Rattle.sheet.specs.Head as head
 use Rattle.device.specs.Step.{Step}
 use Rattle.device.specs.Asked.{Asked}
 use Rattle.device.specs.Demand2.{Serves, done}
@@ -56,7 +57,7 @@ module _ (step : Asked → Step) (f : Serves step) where
   element-left = byte-left keylessWrite refl 65 ∙ element-kept
 
   key-left : getD (step (asked writeKey0) .sheet) 18 0 ≡ 0x11
-  key-left = byte-left writeKey0 refl 18 ∙ key-kept
+  key-left = byte-left writeKey0 refl ((head.key 0) .at) ∙ key-kept
 
 -- NOT OF ONE THAT REFUSES EVERYTHING: a read of the element
 pub refuses-refuted : (n : ℕ) → Serves (refusesAll n) → ⊥

@@ -117,7 +117,7 @@ module _ (x : Asked) (object id : ℕ) where
       (i : ℕ) → Reads x (PropertyValueWrite object id 1 0) → Writable x object id i →
       given x (PropertyValueWrite object id 1 0) ≡ 0 ∷ 0 ∷ [] →
       PropertiesDue x
-      (saysAfter x (splice (x .sheet) (place (x .sheet) properties i + 6) (0 ∷ 0 ∷ [])) (PropertyValueResponse object id 1 0)
+      (saysAfter x (splice (x .sheet) (place (x .sheet) properties i + property.count .at) (0 ∷ 0 ∷ [])) (PropertyValueResponse object id 1 0)
       (given x (PropertyValueWrite object id 1 0)))
   cleared i r w c = rw c (propertyClear object id i r w c)
 
@@ -133,10 +133,10 @@ module _ (x : Asked) (object id : ℕ) where
 
     pub only-property-clear :
         (i : ℕ) → Writable x object id i → s ≡ 0 → n ≡ 1 → d ≡ 0 ∷ 0 ∷ [] →
-        saysAfter x (splice (x .sheet) (place (x .sheet) properties i + 6) (0 ∷ 0 ∷ [])) (PropertyValueResponse object id n s) (0 ∷ 0 ∷ []) ≡ step x
+        saysAfter x (splice (x .sheet) (place (x .sheet) properties i + property.count .at) (0 ∷ 0 ∷ [])) (PropertyValueResponse object id n s) (0 ∷ 0 ∷ []) ≡ step x
     unfolding stepBy numAt
     only-property-clear i p z o e =
-        ap (saysAfter x (splice (x .sheet) (place (x .sheet) properties i + 6) (0 ∷ 0 ∷ [])) (PropertyValueResponse object id n s)) (sym e)
+        ap (saysAfter x (splice (x .sheet) (place (x .sheet) properties i + property.count .at) (0 ∷ 0 ∷ [])) (PropertyValueResponse object id n s)) (sym e)
         ∙ step-read x _ r _
         (property-write-clear ok′ object id i (keyed x object id i (p .found)) _ n s d (freed i p) z o (ap length e) (ap (λ (l : List ℕ). numAt l 0 2) e))
 
@@ -144,7 +144,7 @@ module _ (x : Asked) (object id : ℕ) where
     wrote : ℕ → List ℕ → Step
     wrote i t =
         saysAfter x
-        (splice t (place (x .sheet) properties i + 6) (bytesOf 2 (max (property.count of entry (x .sheet) properties i) (s + n - 1))))
+        (splice t (place (x .sheet) properties i + property.count .at) (bytesOf 2 (max (property.count of entry (x .sheet) properties i) (s + n - 1))))
         (PropertyValueResponse object id n s) d
 
     two-stores :
@@ -160,7 +160,7 @@ module _ (x : Asked) (object id : ℕ) where
         length d ≡ n * property.element of entry (x .sheet) properties i →
         saysAfter x
         (splice (splice (zeroed (x .sheet) (entry (x .sheet) properties i) s) (elementAt (entry (x .sheet) properties i) s) d)
-        (place (x .sheet) properties i + 6)
+        (place (x .sheet) properties i + property.count .at)
         (bytesOf 2 (max (property.count of entry (x .sheet) properties i) (s + n - 1))))
         (PropertyValueResponse object id n s) d
         ≡ step x

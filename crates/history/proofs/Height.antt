@@ -6,6 +6,7 @@ use mathlib.Core.List.{List, reverse}
 use lib.ListN.{getD}
 use native.Mathlib.Omega.{arith}
 use Rattle.octets.specs.Bytes.{numAt}
+use Rattle.sheet.specs.Head as head
 use Rattle.sheet.specs.Entries.{entry, keyOf, bodyAt}
 use Rattle.sheet.specs.Lookup.{seek, indexOf}
 use Rattle.device.specs.Events.{Event, State, run}
@@ -47,7 +48,7 @@ module _ (h : List Event) (octets : AllOctets h) (none : NotOffered fresh 1 h) w
   pub count-stays : (j : ℕ) → j < 2 → getD (After .sheet) (46 + j) 0 ≡ getD sample (46 + j) 0
   count-stays j l = safe .bytes (counter 1 51 j) (46 + j) (count-at j l) (height-level j .1)
 
-  pub keys-stay : (k j : ℕ) → k ≤ 1 → j < 4 → getD (After .sheet) (18 + 4 * k + j) 0 ≡ getD sample (18 + 4 * k + j) 0
+  pub keys-stay : (k j : ℕ) → k ≤ 1 → j < 4 → getD (After .sheet) ((head.key k) .at + j) 0 ≡ getD sample ((head.key k) .at + j) 0
   unfolding writeLevel
   keys-stay k j m l =
-      safe .bytes (key k j) (18 + 4 * k + j) (ofKey {l = k} {j = j} {p = 18 + 4 * k + j} (omega arith) l (omega arith)) m
+      safe .bytes (key k j) ((head.key k) .at + j) (ofKey {l = k} {j = j} {p = (head.key k) .at + j} (omega arith) l (omega arith)) m

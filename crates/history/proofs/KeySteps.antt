@@ -79,7 +79,7 @@ module _ (f : First) (b : Begins f) (h : List Event) (x : State) (inv : Inv f h 
   key-now : (l : ℕ) → l < 3 → keys f h l ≡ head.key l of x .sheet
   unfolding keys keyIn numAt
   key-now l low =
-      let at : (j : ℕ) → j < 4 → getD (x .sheet) (18 + 4 * l + j) 0 ≡ content f h (key l j) =
+      let at : (j : ℕ) → j < 4 → getD (x .sheet) ((head.key l) .at + j) 0 ≡ content f h (key l j) =
       λ j k. inv .means .holds (key l j) _ (key-place (f .sheet) l j low k) in
       omega (arith, at 0 (omega arith), at 1 (omega arith), at 2 (omega arith), at 3 (omega arith))
 

@@ -53,7 +53,7 @@ module _ {f : List ℕ} (g : Good f) {c : Location → ℕ} {adr prog : ℕ} {gr
   fine : Good s
   fine = kept g (m .agree)
 
-  pub long : 32 ≤ length s
+  pub long : head.size ≤ length s
   long = omega (arith, fine .framed)
 
   -- A SPAN
@@ -66,16 +66,16 @@ module _ {f : List ℕ} (g : Good f) {c : Location → ℕ} {adr prog : ℕ} {gr
         octets = octets-splice s o ds room (m .octets) b;
         holds = λ x q h. stored g s p o ds room run x q h ∙ ap (λ (n : ℕ). cond (has p x) (put p x) n) (m .holds x q h);
         still = λ q h. spare q (h .location) ∙ m .still q h;
-        address = early 16 2 (omega arith) ∙ m .address;
-        programming = ap (λ (n : ℕ). n % 2) (early 14 1 (omega arith)) ∙ m .programming;
-        verify = ap (λ (n : ℕ). n / 2 % 2) (early 14 1 (omega arith)) ∙ m .verify;
+        address = early (head.address .at) (head.address .width) (omega arith) ∙ m .address;
+        programming = ap (λ (n : ℕ). n % 2) (early (head.flags .at) (head.flags .width) (omega arith)) ∙ m .programming;
+        verify = ap (λ (n : ℕ). n / 2 % 2) (early (head.flags .at) (head.flags .width) (omega arith)) ∙ m .verify;
         group = λ i j h. spare _ (λ x q. no-group g q h) ∙ m .group i j h;
       }
     where
       spare : (q : ℕ) → ((x : Location) → Place f x q → ⊥) → getD (splice s o ds) q 0 ≡ getD s q 0
       spare = spared g s p o ds room run
 
-      early : (q w : ℕ) → q + w ≤ 18 → numAt (splice s o ds) q w ≡ numAt s q w
+      early : (q w : ℕ) → q + w ≤ (head.key 0) .at → numAt (splice s o ds) q w ≡ numAt s q w
       early q w h =
           num-same (splice s o ds) s q q w (λ i l. spare (q + i) (λ x k. omega (arith, place-after g k)))
 
@@ -121,11 +121,11 @@ module _ {f : List ℕ} (g : Good f) {c : Location → ℕ} {adr prog : ℕ} {gr
       (v : ℕ) → v ≤ 3 → v / 2 % 2 ≡ head.verify f → Means f c adr (v % 2) grp (splice s (head.flags .at) (bytesOf 1 v))
   store-flags v low e =
       let l : v < 256 ^ 1 = omega arith in
-      let k : 14 + 1 ≤ 18 = omega arith in
+      let k : head.flags .at + head.flags .width ≤ (head.key 0) .at = omega arith in
       let new = it-is head.flags v l k in
       store-number head.flags v l k
-      (subst (λ (ds : List ℕ). Agree s (splice s 14 ds)) (one-byte v low) (flags-store (accepted fine) v low))
-      (λ p h. away 14 1 p (λ a b. h .flags (omega arith)))
+      (subst (λ (ds : List ℕ). Agree s (splice s (head.flags .at) ds)) (one-byte v low) (flags-store (accepted fine) v low))
+      (λ p h. away (head.flags .at) (head.flags .width) p (λ a b. h .flags (omega arith)))
       (other-field head.flags v l k head.address (inr (omega arith)) ∙ m .address)
       (ap (λ (n : ℕ). n % 2) new)
       (ap (λ (n : ℕ). n / 2 % 2) new ∙ e)
@@ -133,7 +133,7 @@ module _ {f : List ℕ} (g : Good f) {c : Location → ℕ} {adr prog : ℕ} {gr
   -- A NEW ADDRESS
   pub store-address : (v : ℕ) → v < 65536 → Means f c v prog grp (splice s (head.address .at) (bytesOf 2 v))
   store-address v low =
-      let k : 16 + 2 ≤ 18 = omega arith in
+      let k : head.address .at + head.address .width ≤ (head.key 0) .at = omega arith in
       let flags = other-field head.address v low k head.flags (inl (omega arith)) in
       store-number head.address v low k
       (address-store (accepted fine) (bytesOf 2 v) (length-bytes 2 v))
@@ -156,9 +156,9 @@ module _ {f : List ℕ} (g : Good f) {c : Location → ℕ} {adr prog : ℕ} {gr
           octets = octets-splice s o ds room (m .octets) b;
           holds = λ x p h. off p (λ k. no-group g h k) ∙ m .holds x p h;
           still = λ p h. off p (h .group i) ∙ m .still p h;
-          address = early 16 2 (omega arith) ∙ m .address;
-          programming = ap (λ (n : ℕ). n % 2) (early 14 1 (omega arith)) ∙ m .programming;
-          verify = ap (λ (n : ℕ). n / 2 % 2) (early 14 1 (omega arith)) ∙ m .verify;
+          address = early (head.address .at) (head.address .width) (omega arith) ∙ m .address;
+          programming = ap (λ (n : ℕ). n % 2) (early (head.flags .at) (head.flags .width) (omega arith)) ∙ m .programming;
+          verify = ap (λ (n : ℕ). n / 2 % 2) (early (head.flags .at) (head.flags .width) (omega arith)) ∙ m .verify;
           group = λ k j h. at k j h (ℕ-discrete k i);
         }
       where
@@ -180,7 +180,7 @@ module _ {f : List ℕ} (g : Good f) {c : Location → ℕ} {adr prog : ℕ} {gr
         off : (p : ℕ) → (InBody f groups i p → ⊥) → getD (splice s o ds) p 0 ≡ getD s p 0
         off p h = splice-outside s o ds room p (away o (length ds) p (λ a b. h (inside p a b)))
 
-        early : (p w : ℕ) → p + w ≤ 18 → numAt (splice s o ds) p w ≡ numAt s p w
+        early : (p w : ℕ) → p + w ≤ (head.key 0) .at → numAt (splice s o ds) p w ≡ numAt s p w
         early p w h =
             num-same (splice s o ds) s p p w (λ k l. off (p + k) (λ q. omega (arith, past-contents g q)))
 

@@ -37,7 +37,7 @@ module _ (f : First) (b : Begins f) (h : List Event) (x : State) (inv : Inv f h 
 
   -- the serial number never changes
   serial-same : head.serial of x .sheet ≡ head.serial of f .sheet
-  serial-same = num-same (x .sheet) (f .sheet) 6 6 6 (λ i l. inv .means .still (6 + i) (still (6 + i) (omega arith)))
+  serial-same = num-same (x .sheet) (f .sheet) (head.serial .at) (head.serial .at) (head.serial .width) (λ i l. inv .means .still (head.serial .at + i) (still (head.serial .at + i) (omega arith)))
     where
       still : (p : ℕ) → p < 12 → Still (f .sheet) p
       still p l =

@@ -7,6 +7,7 @@ use mathlib.Core.List.{List}
 use lib.ListN.{length}
 use native.Mathlib.Decide.{decLt, decLe}
 use native.Mathlib.Omega.{arith}
+use Rattle.sheet.specs.Head as head
 use Rattle.sheet.specs.Kind.{properties, groups, kindOf}
 use Rattle.sheet.specs.Layout.{_of_}
 use Rattle.sheet.specs.Region as region
@@ -35,7 +36,7 @@ body-in q h e = record { kind = omega arith; below = q .there; from = omega arit
 
 pub counter-in :
     {s : List ℕ} {object id i j p : ℕ} → PropertyWith s object id i → j < property.count .width →
-    p ≡ place s properties i + property.count .at + j → InEntry s properties i (6 + j) p
+    p ≡ place s properties i + property.count .at + j → InEntry s properties i (property.count .at + j) p
 counter-in q h e = record { kind = omega arith; below = q .there; short = omega arith; here = omega arith }
 
 module _ {s : List ℕ} (g : Good s) where
@@ -47,7 +48,7 @@ module _ {s : List ℕ} (g : Good s) where
       (let p = key-is (entry s properties i) in let q = key-is (entry s properties j) in omega (arith, a .sameObject, a .sameId, b .sameObject, b .sameId))
 
   -- locations stand in the keys, in the entries, or after them
-  pub in-contents : {i j p : ℕ} → InEntry s properties i j p → (32 ≤ p) × (p < contents s)
+  pub in-contents : {i j p : ℕ} → InEntry s properties i j p → (head.size ≤ p) × (p < contents s)
   in-contents {i} h =
       let a = after-head s properties i (h .kind) (h .below) in
       let b = place-in s properties i (h .kind) (h .below) in
@@ -88,7 +89,7 @@ module _ {s : List ℕ} (g : Good s) where
   location-once (ofCounter i a h e) (ofBody m b l f) =
       absurd (omega (arith, past-contents (body-in b l f), in-contents (counter-in a h e)))
   location-once {p = p} (ofCounter {j = j} i a h e) (ofCounter {j = n} m b l f) =
-      let q = one-entry s properties i (6 + j) properties m (6 + n) p (counter-in a h e) (counter-in b l f) in
+      let q = one-entry s properties i (property.count .at + j) properties m (property.count .at + n) p (counter-in a h e) (counter-in b l f) in
       let w : j ≡ n = omega (arith, q .2) in
       rw (same-property a b (q .1) .0, same-property a b (q .1) .1, w)
   location-once (ofCounter i a h e) (ofKey l j f) = absurd (omega (arith, in-contents (counter-in a h e)))
@@ -114,7 +115,7 @@ module _ {s : List ℕ} (g : Good s) where
   place-within (ofCounter i a h e) = omega (arith, in-contents (counter-in a h e), g .framed)
   place-within (ofKey h k e) = omega (arith, g .framed)
 
-  pub place-after : {x : Location} {p : ℕ} → Place s x p → 18 ≤ p
+  pub place-after : {x : Location} {p : ℕ} → Place s x p → (head.key 0) .at ≤ p
   place-after (ofMemory a) = omega (arith, past-contents (stands-in g a))
   place-after (ofBody i a h e) = omega (arith, past-contents (body-in a h e))
   place-after (ofCounter i a h e) = omega (arith, in-contents (counter-in a h e))
@@ -133,12 +134,12 @@ module _ {s : List ℕ} (g : Good s) where
   no-entry {k = k} {i} h f (ofBody m a l e) =
       omega (arith, past-contents (body-in a l e), place-in s k i (h .kind) (h .below), h .short, h .here)
   no-entry {k = k} {i} {j} {p} h f (ofCounter {j = n} m a l e) =
-      let q = one-entry s k i j properties m (6 + n) p h (counter-in a l e) in
+      let q = one-entry s k i j properties m (property.count .at + n) p h (counter-in a l e) in
       f (q .0) (omega (arith, q .2)) (omega (arith, q .2))
   no-entry {k = k} {i} h f (ofKey l m e) = omega (arith, after-head s k i (h .kind) (h .below), h .here)
 
   -- and one of the head only if it is one of a key
-  pub no-head : {x : Location} {p : ℕ} → p < 32 → (p < 18) ⊎ (30 ≤ p) → Place s x p → ⊥
+  pub no-head : {x : Location} {p : ℕ} → p < head.size → (p < (head.key 0) .at) ⊎ (head.zero30 .at ≤ p) → Place s x p → ⊥
   no-head h o (ofMemory a) = omega (arith, past-contents (stands-in g a))
   no-head h o (ofBody m a l e) = omega (arith, past-contents (body-in a l e))
   no-head h o (ofCounter m a l e) = omega (arith, in-contents (counter-in a l e))
@@ -146,20 +147,20 @@ module _ {s : List ℕ} (g : Good s) where
   no-head h (inr o) (ofKey l m e) = omega arith
 
   module _ (p : ℕ) where
-    in-head : p < 32 → Dec (18 ≤ p) → Dec (p < 30) → Sort s p
+    in-head : p < head.size → Dec ((head.key 0) .at ≤ p) → Dec (p < head.zero30 .at) → Sort s p
     in-head h (yes a) (yes b) =
-        isLocation (key ((p - 18) / 4) ((p - 18) % 4))
-        (ofKey {l = (p - 18) / 4} {j = (p - 18) % 4} {p = p} (omega arith) (omega arith) (omega arith))
+        isLocation (key ((p - (head.key 0) .at) / 4) ((p - (head.key 0) .at) % 4))
+        (ofKey {l = (p - (head.key 0) .at) / 4} {j = (p - (head.key 0) .at) % 4} {p = p} (omega arith) (omega arith) (omega arith))
     in-head h (yes a) (no b) = isField {p = p} (omega arith) (λ x. no-head h (inr (omega arith)))
     in-head h (no a) b = isField {p = p} (omega arith) (λ x. no-head h (inl (omega arith)))
 
     in-entry : (k i j : ℕ) → InEntry s k i j p → Sort s p
-    in-entry k i j h = go (decLt 0 k) (decLt k 2) (decLt 5 j) (decLt j 8)
+    in-entry k i j h = go (decLt 0 k) (decLt k 2) (decLe (property.count .at) j) (decLt j (property.count .at + property.count .width))
       where
         early : p < contents s
         early = omega (arith, place-in s k i (h .kind) (h .below), h .short, h .here)
 
-        go : Dec (0 < k) → Dec (k < 2) → Dec (5 < j) → Dec (j < 8) → Sort s p
+        go : Dec (0 < k) → Dec (k < 2) → Dec (property.count .at ≤ j) → Dec (j < property.count .at + property.count .width) → Sort s p
         go (no a) b c d = isField early (λ x. no-entry h (λ e l m. omega arith))
         go (yes a) (no b) c d = isField early (λ x. no-entry h (λ e l m. omega arith))
         go (yes a) (yes b) (no c) d = isField early (λ x. no-entry h (λ e l m. omega arith))
@@ -168,7 +169,7 @@ module _ {s : List ℕ} (g : Good s) where
             let q : k ≡ properties = omega arith in
             let r : InEntry s properties i j p = subst (λ (n : ℕ). InEntry s n i j p) q h in
             isLocation _
-            (ofCounter {j = j - 6} {p = p} i (record { there = r .below; sameObject = refl; sameId = refl }) (omega arith) (omega (arith, r .here)))
+            (ofCounter {j = j - property.count .at} {p = p} i (record { there = r .below; sameObject = refl; sameId = refl }) (omega arith) (omega (arith, r .here)))
 
     -- a byte of a region's body
     of-memory :
@@ -194,7 +195,7 @@ module _ {s : List ℕ} (g : Good s) where
     sort h = from (position (accepted g) p h)
       where
         from : Position s p → Sort s p
-        from (inHead l) = in-head l (decLe 18 p) (decLt p 30)
+        from (inHead l) = in-head l (decLe ((head.key 0) .at) p) (decLt p (head.zero30 .at))
         from (inEntry k i j hk hi hj e) = in-entry k i j (record { kind = hk; below = hi; short = hj; here = e })
         from (inBody k i b) = in-body k i b
 

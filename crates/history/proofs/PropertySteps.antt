@@ -91,10 +91,10 @@ module _ (f : First) (b : Begins f) (h : List Event) (x : State) (inv : Inv f h 
         let there : i < count s properties = omega (arith, is .there, count-same (m .agree) properties) in
         let l : c ≤ property.maximum of entry s properties i =
         rw (property-same (m .agree) i property.maximum (is .there) (omega arith) (omega arith)) low in
-        let agrees : Agree s (splice s (place (f .sheet) properties i + 6) (bytesOf 2 c)) =
+        let agrees : Agree s (splice s (place (f .sheet) properties i + property.count .at) (bytesOf 2 c)) =
         rw (place-same (m .agree) properties i) at (count-store now-good i c there l) in
         rw (place-same (inv .means .agree) properties i)
-        (store-span (fine inv b) m (countTo object id c) (place (f .sheet) properties i + 6) (bytesOf 2 c)
+        (store-span (fine inv b) m (countTo object id c) (place (f .sheet) properties i + property.count .at) (bytesOf 2 c)
         (omega (arith, length-bytes 2 c, place-in (f .sheet) properties i (omega arith) (is .there), fine inv b .framed, m .agree .long))
         (counter-run (fine inv b) is c)
         agrees

@@ -32,7 +32,7 @@ grant-cases s key P f g h u =
 
 module _ (level named key : ℕ) where
   abbrev pub keyed : Decision
-  keyed = written (store.Number (18 + 4 * named) 4 key) store.Nothing (answer.Plain (KeyResponse named))
+  keyed = written (store.Number ((head.key named) .at) ((head.key named) .width) key) store.Nothing (answer.Plain (KeyResponse named))
 
   pub key-write-cases : (P : Decision → Type 0) → (named ≤ 2 → level ≤ named → P keyed) → P (denied (KeyResponse 255)) → P (keyWriteOf level named key)
   unfolding keyWriteOf

@@ -92,12 +92,12 @@ module _ (sheet : List ℕ) (level object id n s : ℕ) (P : Decision → Type 0
     pub property-write-cases :
         ((i : ℕ) → Keyed sheet object id i → Free (entry sheet properties i) level → s ≡ 0 → n ≡ 1 → length d ≡ 2 → numAt d 0 2 ≡ 0 →
         P
-        (written (store.Fill (place sheet properties i + 6) 2 0) store.Nothing (answer.Echo (PropertyValueResponse object id n s)))) →
+        (written (store.Fill (place sheet properties i + property.count .at) 2 0) store.Nothing (answer.Echo (PropertyValueResponse object id n s)))) →
         ((i : ℕ) → Keyed sheet object id i → Free (entry sheet properties i) level →
         Among n s (property.maximum of entry sheet properties i) → length d ≡ n * property.element of entry sheet properties i →
         P
         (written (runIn (entry sheet properties i) s)
-        (store.Number (place sheet properties i + 6) 2 (max (property.count of entry sheet properties i) (s + n - 1)))
+        (store.Number (place sheet properties i + property.count .at) 2 (max (property.count of entry sheet properties i) (s + n - 1)))
         (answer.Echo (PropertyValueResponse object id n s)))) →
         P (noValue object id s) → P (propertyWriteOf sheet level object id n s d)
     unfolding propertyWriteOf writeIn at
@@ -189,7 +189,7 @@ module _ {sheet : List ℕ} (ok : Good sheet) (object id i : ℕ) (k : Keyed she
       pub property-write-clear :
           s ≡ 0 → n ≡ 1 → length d ≡ 2 → numAt d 0 2 ≡ 0 →
           propertyWriteOf sheet level object id n s d
-          ≡ written (store.Fill (place sheet properties i + 6) 2 0) store.Nothing (answer.Echo (PropertyValueResponse object id n s))
+          ≡ written (store.Fill (place sheet properties i + property.count .at) 2 0) store.Nothing (answer.Echo (PropertyValueResponse object id n s))
       unfolding writeIn
       property-write-clear z o l v =
           writes
@@ -199,7 +199,7 @@ module _ {sheet : List ℕ} (ok : Good sheet) (object id i : ℕ) (k : Keyed she
           Among n s (property.maximum of entry sheet properties i) → length d ≡ n * property.element of entry sheet properties i →
           propertyWriteOf sheet level object id n s d
           ≡ written (runIn (entry sheet properties i) s)
-          (store.Number (place sheet properties i + 6) 2 (max (property.count of entry sheet properties i) (s + n - 1)))
+          (store.Number (place sheet properties i + property.count .at) 2 (max (property.count of entry sheet properties i) (s + n - 1)))
           (answer.Echo (PropertyValueResponse object id n s))
       unfolding writeIn
       property-write-elements a l =
