@@ -1,9 +1,9 @@
 //! What is measured: every service, carried out, and some that are refused, on
-//! the sample sheet and on a full one; and the lookups of entries, on sheets with
-//! 1, 8 and 64 properties and groups.
+//! the sample sheet and on a full one; user memory on the sheet of edition 2; and
+//! the lookups of entries, on sheets with 1, 8 and 64 properties and groups.
 
 use model::device::Session;
-use model::sheet::{FLAGS, PROGRAMMING, SAMPLE, VERIFY};
+use model::sheet::{FLAGS, PROGRAMMING, PUMP, SAMPLE, VERIFY};
 
 /// All requests come on an open session with all rights.
 pub const SESSION: Session = Session { open: true, level: 0 };
@@ -48,7 +48,7 @@ struct Asked {
     response: u8,
 }
 
-pub fn benches() -> [Bench; 5] {
+pub fn benches() -> [Bench; 6] {
     let of_sample = Asked {
         object: 1,
         id: 51,
@@ -62,6 +62,7 @@ pub fn benches() -> [Bench; 5] {
     [
         bench("sample", SAMPLE.to_vec(), of_sample),
         bench("full", filled(64), of_full),
+        users(),
         lookups("1", 1),
         lookups("8", 8),
         lookups("64", 64),
@@ -136,6 +137,22 @@ fn bench(name: &'static str, mut sheet: Vec<u8>, asked: Asked) -> Bench {
     };
     let cases = std::iter::once(the_check()).chain(cases.map(case)).collect();
     Bench { name, sheet, group, cases }
+}
+
+/// User memory: four bytes of the first user region.
+fn users() -> Bench {
+    let mut sheet = PUMP.to_vec();
+    sheet[FLAGS] = PROGRAMMING | VERIFY;
+    let case = |name, code: u8, data: &[u8]| {
+        let ask = Ask::Request { mode: 3, apdu: [&[0x02, code, 4, 1, 0], data].concat() };
+        Case { name, ask, gives: 0, less_check: false }
+    };
+    let cases = vec![
+        the_check(),
+        case("UserMemory_Read", 0xC0, &[]),
+        case("UserMemory_Write", 0xC2, &[1, 2, 3, 4]),
+    ];
+    Bench { name: "pump", sheet, group: 0, cases }
 }
 
 /// First, last and absent entry, with n properties and n groups. A region is
