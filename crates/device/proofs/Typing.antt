@@ -64,7 +64,7 @@ module _ {s : List ℕ} (ok : Good s) (h : Octets s) where
   description-fits : (i : ℕ) → i < count s properties → Fits (describes s i)
   description-fits i l =
       let index = rank-bound s (property.object of entry s properties i) i in
-      (entry-byte s i 0 (omega arith) h, (entry-byte s i 1 (omega arith) h, (omega (arith, ok .framed), (entry-byte s i 2 (omega arith) h, (tt, (entry-byte s i 10 (omega arith) h, tt))))))
+      (entry-byte s i (property.object .at) (omega arith) h, (entry-byte s i (property.id .at) (omega arith) h, (omega (arith, ok .framed), (entry-byte s i (property.typ .at) (omega arith) h, (tt, (entry-byte s i (property.levels .at) (omega arith) h, tt))))))
 
 module _ {s : List ℕ} (ok : Good s) (h : Octets s) (level group : ℕ) (d : List ℕ) where
   fitted : (p : Pdu) → Typed p → Fits (decideOf s level group d p)

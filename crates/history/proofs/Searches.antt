@@ -71,6 +71,6 @@ property-found s object id small low h =
     let i : ℕ = indexFor s object id in
     let k : property.objectId of entry s properties i ≡ object * 256 + id = index-key s properties (object * 256 + id) h in
     let b : property.id of entry s properties i < 256 =
-    omega (arith, num-one (entry s properties i) 1, entry-at s properties i 1 (omega arith), small (place s properties i + 1)) in
+    omega (arith, num-one (entry s properties i) (property.id .at), entry-at s properties i (property.id .at) (omega arith), small (place s properties i + property.id .at)) in
     let q = key-parts (entry s properties i) object id b low k in
     record { there = h; sameObject = q .0; sameId = q .1 }
