@@ -1,4 +1,5 @@
 -- All are promises, named in docs/PROMISES.md.
 pub mod Alike
+pub mod Examples
 pub mod Heard
 pub mod Joined
