@@ -46,7 +46,7 @@ module _ {s s′ : List ℕ} (b : SameButBodies s s′) where
         long = b .long;
         front = λ p h. b .before p (omega arith);
         byte15 = head-same head.byte15 (omega arith);
-        zero30 = head-same head.zero30 (omega arith);
+        rules = head-same head.rules (omega arith);
         zero31 = head-same head.zero31 (omega arith);
         flags = rw (head-same head.flags (omega arith)) (λ h. h, λ h. h);
         fixed = λ k i j hk hi hj f. ap (λ (e : List ℕ). getD e j 0) (entry-same k i hk hi);

@@ -139,7 +139,7 @@ module _ {s : List ℕ} (g : Good s) where
   no-entry {k = k} {i} h f (ofKey l m e) = omega (arith, after-head s k i (h .kind) (h .below), h .here)
 
   -- and one of the head only if it is one of a key
-  pub no-head : {x : Location} {p : ℕ} → p < head.size → (p < (head.key 0) .at) ⊎ (head.zero30 .at ≤ p) → Place s x p → ⊥
+  pub no-head : {x : Location} {p : ℕ} → p < head.size → (p < (head.key 0) .at) ⊎ (head.rules .at ≤ p) → Place s x p → ⊥
   no-head h o (ofMemory a) = omega (arith, past-contents (stands-in g a))
   no-head h o (ofBody m a l e) = omega (arith, past-contents (body-in a l e))
   no-head h o (ofCounter m a l e) = omega (arith, in-contents (counter-in a l e))
@@ -147,7 +147,7 @@ module _ {s : List ℕ} (g : Good s) where
   no-head h (inr o) (ofKey l m e) = omega arith
 
   module _ (p : ℕ) where
-    in-head : p < head.size → Dec ((head.key 0) .at ≤ p) → Dec (p < head.zero30 .at) → Sort s p
+    in-head : p < head.size → Dec ((head.key 0) .at ≤ p) → Dec (p < head.rules .at) → Sort s p
     in-head h (yes a) (yes b) =
         isLocation (key ((p - (head.key 0) .at) / 4) ((p - (head.key 0) .at) % 4))
         (ofKey {l = (p - (head.key 0) .at) / 4} {j = (p - (head.key 0) .at) % 4} {p = p} (omega arith) (omega arith) (omega arith))
@@ -195,7 +195,7 @@ module _ {s : List ℕ} (g : Good s) where
     sort h = from (position (accepted g) p h)
       where
         from : Position s p → Sort s p
-        from (inHead l) = in-head l (decLe ((head.key 0) .at) p) (decLt p (head.zero30 .at))
+        from (inHead l) = in-head l (decLe ((head.key 0) .at) p) (decLt p (head.rules .at))
         from (inEntry k i j hk hi hj e) = in-entry k i j (record { kind = hk; below = hi; short = hj; here = e })
         from (inBody k i b) = in-body k i b
 

@@ -4,8 +4,10 @@ use Prim.Native.Nat.{ℕ, zero, suc, _≤_, _<_}
 use mathlib.Core.Path.{_≡_, refl, sym, _∙_}
 use mathlib.Core.List.{List, [], _∷_}
 use mathlib.Core.Bool.{Bool, true, false, cond}
+use lib.Dec.{leb, eqb}
 use native.Mathlib.Decide.{decLt}
 use native.Mathlib.Omega.{arith}
+use borrow.Author.Tests.{lt-leb, ne-eqb}
 use Rattle.sheet.specs.Demand.{Demand, Holds, Fails, Tells, test, breach}
 use Rattle.sheet.specs.First.{first, orElse}
 use Rattle.sheet.specs.Kind.{users, kinds}
@@ -16,7 +18,7 @@ use Rattle.sheet.specs.Rules.{frameDemands, zeroDemands, bodyDemands, en
 use Rattle.sheet.specs.Before.{frameBefore, zerosBefore, startBefore, bodyBefore, bodiesBefore, restBefore, ruleBefore}
 use Rattle.sheet.proofs.Demands.{passed, failed, contrary, told, met}
 use Rattle.sheet.proofs.First.{orElse-some, orElse-zero, first-suc, first-none}
-use Rattle.sheet.proofs.Editions.{users-first, spare-first}
+use Rattle.sheet.proofs.Editions.{users-first, spare-first, latest-first}
 
 -- a table tells its own first broken row
 tells : (ds : List Demand) → Tells (breach ds) ds
@@ -34,6 +36,11 @@ unfolding first
 first-same f g h zero = refl
 first-same f g h (suc n) = rw (first-same f g h n, h n)
 
+-- at most 0 is 0
+none-or-equal : (n : ℕ) → leb n 0 ≡ eqb n 0
+none-or-equal zero = refl
+none-or-equal (suc n) = lt-leb (suc n) 0 (omega arith) ∙ sym (ne-eqb (suc n) 0 (λ e. omega arith))
+
 module _ (s : List ℕ) (other : head.edition of s ≡ 2 → ⊥) where
   no-users : head.users s ≡ 0
   no-users = sym (users-first s (head.edition of s) refl other)
@@ -42,7 +49,9 @@ module _ (s : List ℕ) (other : head.edition of s ≡ 2 → ⊥) where
   same-contents = omega (arith, no-users)
 
   same-zeros : breach (zeroDemands s) ≡ breach (zerosBefore s)
-  same-zeros = rw (← spare-first s (head.edition of s) refl (head.byte15 of s) other refl)
+  unfolding breach
+  same-zeros =
+      rw (← spare-first s (head.edition of s) refl (head.byte15 of s) other refl, ← latest-first s (head.edition of s) refl other, none-or-equal (head.rules of s))
 
   same-start : (k : ℕ) → startOf s k ≡ startBefore s k
   unfolding startOf startBefore

@@ -1,4 +1,4 @@
--- Byte 15 by the edition.
+-- Byte 15 and the last number of rules, by the edition.
 -- Assumes nothing.
 use Prim.Native.Nat.{ℕ}
 use mathlib.Core.Path.{_≡_, sym, _∙_}
@@ -17,6 +17,12 @@ module _ (s : List ℕ) (r : ℕ) (e : r ≡ head.edition of s) where
 
   pub spare-second : r ≡ 2 → 0 ≡ head.spare s
   spare-second q = rw (eq-eqb (head.edition of s) 2 (sym e ∙ q))
+
+  pub latest-second : r ≡ 2 → head.later ≡ head.latest s
+  latest-second q = rw (eq-eqb (head.edition of s) 2 (sym e ∙ q))
+
+  pub latest-first : (r ≡ 2 → ⊥) → 0 ≡ head.latest s
+  latest-first q = rw (ne-eqb (head.edition of s) 2 (λ z. q (e ∙ z)))
 
   pub spare-first : (b : ℕ) → (r ≡ 2 → ⊥) → b ≡ head.byte15 of s → b ≡ head.spare s
   spare-first b q f = rw (ne-eqb (head.edition of s) 2 (λ z. q (e ∙ z))) f

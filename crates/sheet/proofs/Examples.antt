@@ -4,16 +4,18 @@ use Prim.Native.Nat.{ℕ}
 use mathlib.Core.Path.{_≡_, refl}
 use mathlib.Core.List.{List, [], _∷_, map}
 use Rattle.octets.specs.Bytes.{numAt}
+use Rattle.octets.specs.Splice.{splice}
 use Rattle.sheet.specs.Demand.{breach}
 use Rattle.sheet.specs.First.{first}
 use Rattle.sheet.specs.Kind.{regions, properties, groups, users}
 use Rattle.sheet.specs.Layout.{Field, _of_}
 use Rattle.sheet.specs.Head as head
+use Rattle.sheet.specs.Head.{rulesOf}
 use Rattle.sheet.specs.Region as region
 use Rattle.sheet.specs.Property as property
 use Rattle.sheet.specs.Group as group
 use Rattle.sheet.specs.Entries.{count, contents, entry, keyOf, floor, bodyEnd, startOf, reached, sixBits}
-use Rattle.sheet.specs.Rules.{entryDemands, bodyDemands, entryRule, bodyRule, entriesRule, bodiesRule, restRule, walkRule, ruleIn, Accepted, edition, isAccepted}
+use Rattle.sheet.specs.Rules.{entryDemands, bodyDemands, entryRule, bodyRule, entriesRule, bodiesRule, restRule, walkRule, ruleIn, ruleOf, Accepted, edition, isAccepted}
 use Rattle.sheet.specs.Lookup.{seek, indexOf, bodyOf, lookup, regionOf, propertyOf, groupOf, objectAt, rank, nthOf}
 
 -- THE SHEET, 109 bytes: no two of its numbers that could be taken for one another are the same
@@ -46,7 +48,7 @@ example-accepted = refl
 
 -- THE NUMBERS IN ITS HEAD
 pub example-head :
-    map (λ (f : Field). f of example) (head.edition ∷ head.regions ∷ head.properties ∷ head.groups ∷ head.stated ∷ head.serial ∷ head.mask ∷ head.flags ∷ head.byte15 ∷ head.address ∷ head.key 0 ∷ head.key 1 ∷ head.key 2 ∷ head.zero30 ∷ head.zero31 ∷ [])
+    map (λ (f : Field). f of example) (head.edition ∷ head.regions ∷ head.properties ∷ head.groups ∷ head.stated ∷ head.serial ∷ head.mask ∷ head.flags ∷ head.byte15 ∷ head.address ∷ head.key 0 ∷ head.key 1 ∷ head.key 2 ∷ head.rules ∷ head.zero31 ∷ [])
     ≡ 1 ∷ 2 ∷ 3 ∷ 1 ∷ 109 ∷ 0x00C501020304 ∷ 0x07B0 ∷ 2 ∷ 0 ∷ 0x1105 ∷ 0x0A0B0C0D ∷ 0x1A1B1C1D ∷ 0x2A2B2C2D ∷ 0 ∷ 0 ∷ []
 unfolding example numAt
 example-head = refl
@@ -55,6 +57,17 @@ example-head = refl
 pub example-flags : (head.programming example ≡ 0) × (head.verify example ≡ 1)
 unfolding example numAt
 example-flags = (refl, refl)
+
+-- THE NUMBER OF THE RULES: in edition 2 it may be 0 or 1 and no other, in edition 1 it is 0
+unfoldable pub named : ℕ → ℕ → List ℕ
+named ed n = splice (splice example 0 (ed ∷ [])) 30 (n ∷ [])
+
+pub example-rules :
+    (map (λ (n : ℕ). ruleOf (named 2 n)) (0 ∷ 1 ∷ 2 ∷ 255 ∷ []) ≡ 0 ∷ 0 ∷ 5 ∷ 5 ∷ [])
+    × (map (λ (n : ℕ). ruleOf (named 1 n)) (0 ∷ 1 ∷ []) ≡ 0 ∷ 5 ∷ [])
+    × (map (λ (n : ℕ). rulesOf (named 2 n)) (0 ∷ 1 ∷ []) ≡ 0 ∷ 1 ∷ [])
+unfolding example named splice rulesOf ruleIn walkRule restRule entriesRule bodiesRule entryRule bodyRule entryDemands bodyDemands breach first entry floor bodyEnd startOf reached sixBits numAt
+example-rules = (refl, refl, refl)
 
 -- THE NUMBERS OF ENTRIES, AND WHERE THE CONTENTS END
 pub example-counts : (map (count example) (regions ∷ properties ∷ groups ∷ users ∷ []) ≡ 2 ∷ 3 ∷ 1 ∷ 0 ∷ []) × (contents example ≡ 92)

@@ -17,7 +17,7 @@ use Rattle.sheet.specs.declared.Memory.the-variants.{Device, User}
 use Rattle.sheet.specs.Frame.{Agree}
 use Rattle.sheet.proofs.ByKind.{eachKind}
 use Rattle.sheet.proofs.Good.{Good, good, accepted}
-use Rattle.sheet.proofs.Sames.{front-same, count-same, region-same, spare-same, property-same, group-same, floor-same, offset-same, at-same, start-same, reached-same}
+use Rattle.sheet.proofs.Sames.{front-same, count-same, region-same, spare-same, latest-same, property-same, group-same, floor-same, offset-same, at-same, start-same, reached-same}
 use Rattle.sheet.proofs.PlainRows.{six-to, six-from}
 
 module _ {s s′ : List ℕ} (a : Agree s s′) where
@@ -31,7 +31,7 @@ module _ {s s′ : List ℕ} (a : Agree s s′) where
         long = sym (a .long);
         front = λ p h. sym (a .front p h);
         byte15 = sym (a .byte15);
-        zero30 = sym (a .zero30);
+        rules = sym (a .rules);
         zero31 = sym (a .zero31);
         flags = (a .flags .1, a .flags .0);
         fixed = λ k i j hk hi hj f. sym (a .fixed k i j hk (below-same k i hi) hj f);
@@ -51,7 +51,7 @@ module _ {s s′ : List ℕ} (a : Agree s s′) where
         long = b .long ∙ a .long;
         front = λ p h. b .front p h ∙ a .front p h;
         byte15 = b .byte15 ∙ a .byte15;
-        zero30 = b .zero30 ∙ a .zero30;
+        rules = b .rules ∙ a .rules;
         zero31 = b .zero31 ∙ a .zero31;
         flags = (λ h. b .flags .0 (a .flags .0 h), λ h. a .flags .1 (b .flags .1 h));
         fixed = λ k i j hk hi hj f. b .fixed k i j hk (rw (count-same a k) hi) hj f ∙ a .fixed k i j hk hi hj f;
@@ -107,7 +107,7 @@ module _ {s s′ : List ℕ} (g : Good s) (a : Agree s s′) where
         framed =
             omega
             (arith, a .long, g .framed, front-same a head.edition (omega arith), front-same a head.stated (omega arith), count-same a 0, count-same a 1, count-same a 2, count-same a 3);
-        zeros = omega (arith, spare-same a, a .zero30, a .zero31, a .flags .0 (g .zeros .0), g .zeros);
+        zeros = omega (arith, spare-same a, latest-same a, a .rules, a .zero31, a .flags .0 (g .zeros .0), g .zeros);
         entries = λ k i hk h. entries i k hk (below-same a k i h);
         bodies = λ k i hk h. bodies k i hk (below-same a k i h);
         last = (start-same a kinds (omega arith) ∙ g .last .0 ∙ sym (a .long), tt);

@@ -1,4 +1,4 @@
--- Promises, named in docs/PROMISES.md: Plains, Nine, Values, Examples, TwoMemories, Positions, Keys, Ranks, Runs, Frames, Stores, Counts.
+-- Promises, named in docs/PROMISES.md: Plains, Nine, RulesKnown, Values, Examples, TwoMemories, Positions, Keys, Ranks, Runs, Frames, Stores, Counts.
 -- All others are laws behind them or behind the contracts.
 pub mod First
 pub mod ByKind
@@ -9,6 +9,7 @@ pub mod Entries
 pub mod Bodies
 pub mod Rules
 pub mod Good
+pub mod RulesKnown
 pub mod Rising
 pub mod BodyPlaces
 pub mod Telling

@@ -49,7 +49,7 @@ module _ {s s′ : List ℕ} (a : Agree s s′) where
   -- the number of the rules
   pub rules-same : rulesOf s′ ≡ rulesOf s
   unfolding rulesOf
-  rules-same = refl
+  rules-same = a .rules
 
   -- the number of entries of a kind
   pub count-same : (k : ℕ) → count s′ k ≡ count s k
@@ -62,6 +62,10 @@ module _ {s s′ : List ℕ} (a : Agree s s′) where
   -- byte 15 of edition 1
   pub spare-same : head.spare s′ ≡ head.spare s
   spare-same = rw (front-same head.edition (omega arith), a .byte15)
+
+  -- the last number of rules that the edition knows
+  pub latest-same : head.latest s′ ≡ head.latest s
+  latest-same = rw (front-same head.edition (omega arith))
 
   -- where the contents end
   pub contents-same : contents s′ ≡ contents s

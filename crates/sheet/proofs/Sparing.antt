@@ -25,7 +25,7 @@ pub record Mild (s s′ : List ℕ) : Type 0 where
   pub long : length s′ ≡ length s
   pub front : (p : ℕ) → p < head.serial .at → getD s′ p 0 ≡ getD s p 0
   pub byte15 : head.byte15 of s′ ≡ head.byte15 of s
-  pub zero30 : head.zero30 of s′ ≡ head.zero30 of s
+  pub rules : head.rules of s′ ≡ head.rules of s
   pub zero31 : head.zero31 of s′ ≡ head.zero31 of s
   pub flags : head.flags of s′ ≤ 3
   pub entries :
@@ -57,7 +57,7 @@ module _ {s : List ℕ} (g : Good s) where
         long = m .long;
         front = m .front;
         byte15 = m .byte15;
-        zero30 = m .zero30;
+        rules = m .rules;
         zero31 = m .zero31;
         flags = (λ h. m .flags, λ h. g .zeros .0);
         fixed = λ k i j hk hi hj f.

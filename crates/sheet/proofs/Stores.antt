@@ -34,7 +34,7 @@ body-store {s} ok k i o ds inside fit =
       long = length-splice s o ds room;
       front = λ p h. early p (omega arith);
       byte15 = field head.byte15 (omega arith);
-      zero30 = field head.zero30 (omega arith);
+      rules = field head.rules (omega arith);
       zero31 = field head.zero31 (omega arith);
       flags = rw (field head.flags (omega arith)) (g .zeros .0);
       entries = λ k i j hk hi hj f. early (place s k i + j) (omega (arith, place-in s k i hk hi));
@@ -78,7 +78,7 @@ body-store {s} ok k i o ds inside fit =
 
 -- a store to the head that misses what the rules read there, but for the flags
 head-store :
-    {s : List ℕ} → Good s → (o : ℕ) (ds : List ℕ) → head.serial .at ≤ o → o + length ds ≤ head.zero30 .at →
+    {s : List ℕ} → Good s → (o : ℕ) (ds : List ℕ) → head.serial .at ≤ o → o + length ds ≤ head.rules .at →
     (head.address .at ≤ o) ⊎ (o + length ds ≤ head.byte15 .at) → head.flags of splice s o ds ≤ 3 → Agree s (splice s o ds)
 head-store {s} g o ds low high miss flags =
     mild g
@@ -86,7 +86,7 @@ head-store {s} g o ds low high miss flags =
       long = length-splice s o ds room;
       front = λ p h. splice-below s o ds room p (omega arith);
       byte15 = splice-num-outside s o ds room (head.byte15 .at) (head.byte15 .width) miss;
-      zero30 = splice-num-outside s o ds room (head.zero30 .at) (head.zero30 .width) (inr high);
+      rules = splice-num-outside s o ds room (head.rules .at) (head.rules .width) (inr high);
       zero31 = splice-num-outside s o ds room (head.zero31 .at) (head.zero31 .width) (inr (omega arith));
       flags = flags;
       entries = λ k i j hk hi hj f. splice-above s o ds room (place s k i + j) (omega (arith, after-head s k i hk hi));
@@ -104,7 +104,7 @@ module _ {s : List ℕ} (ok : Accepted s) where
   g = good s ok
 
   -- a store after the flags
-  later-store : (o : ℕ) (ds : List ℕ) → head.address .at ≤ o → o + length ds ≤ head.zero30 .at → Agree s (splice s o ds)
+  later-store : (o : ℕ) (ds : List ℕ) → head.address .at ≤ o → o + length ds ≤ head.rules .at → Agree s (splice s o ds)
   later-store o ds low high =
       head-store g o ds (omega arith) high (inl low)
       (rw (splice-num-outside s o ds (omega (arith, g .framed)) (head.flags .at) (head.flags .width) (inl (omega arith))) (g .zeros .0))

@@ -1,4 +1,4 @@
--- THE RULES BEFORE EDITION 2, as they stood: byte 15 is zero, and there are three kinds of entries.
+-- THE RULES BEFORE EDITION 2, as they stood: bytes 15 and 30 are zero, and there are three kinds of entries.
 -- Assumes nothing.
 use Prim.Native.Nat.{ℕ, zero, suc}
 use mathlib.Core.List.{List, [], _∷_}
@@ -29,7 +29,7 @@ abbrev pub zerosBefore : List ℕ → List Demand
 zerosBefore s =
     (5 ⦂ head.flags of s ≼ 3) ∷
     (5 ⦂ head.byte15 of s ≐ 0) ∷
-    (5 ⦂ head.zero30 of s ≐ 0) ∷
+    (5 ⦂ head.rules of s ≐ 0) ∷
     (5 ⦂ head.zero31 of s ≐ 0) ∷
     []
 

@@ -20,9 +20,9 @@ pub record Agree (s s′ : List ℕ) : Type 0 where
   pub long : length s′ ≡ length s
   -- edition, numbers of entries, stated length
   pub front : (p : ℕ) → p < head.serial .at → getD s′ p 0 ≡ getD s p 0
-  -- the zero bytes, and the flags' zero bits
+  -- byte 15, the number of the rules, the zero byte, and the flags' zero bits
   pub byte15 : head.byte15 of s′ ≡ head.byte15 of s
-  pub zero30 : head.zero30 of s′ ≡ head.zero30 of s
+  pub rules : head.rules of s′ ≡ head.rules of s
   pub zero31 : head.zero31 of s′ ≡ head.zero31 of s
   pub flags : (head.flags of s ≤ 3 → head.flags of s′ ≤ 3) × (head.flags of s′ ≤ 3 → head.flags of s ≤ 3)
   -- the entries but for the counts

@@ -44,15 +44,24 @@ address = field 16 2
 abbrev pub key : ℕ → Field
 key l = field (18 + 4 * l) 4
 
-abbrev pub zero30 : Field
-zero30 = field 30 1
+-- the number of the rules in edition 2, zero in edition 1
+abbrev pub rules : Field
+rules = field 30 1
 
 abbrev pub zero31 : Field
 zero31 = field 31 1
 
--- THE NUMBER OF THE RULES that a sheet asks for: they are 0 so far
+-- THE NUMBER OF THE RULES that a sheet asks for
 unfoldable pub rulesOf : List ℕ → ℕ
-rulesOf s = 0
+rulesOf s = rules of s
+
+-- the number of the later rules
+abbrev pub later : ℕ
+later = 1
+
+-- the last number of rules that the sheet's edition knows
+abbrev pub latest : List ℕ → ℕ
+latest s = cond (eqb (edition of s) 2) later 0
 
 -- how many user regions there are, and what byte 15 is beside that
 abbrev pub users : List ℕ → ℕ

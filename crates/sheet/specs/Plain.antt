@@ -26,7 +26,7 @@ abbrev pub S4 : List ℕ → Type 0
 S4 s = (head.stated of s ≡ length s) × (contents s ≤ length s)
 
 abbrev pub S5 : List ℕ → Type 0
-S5 s = (head.spare s ≡ 0) × (head.zero30 of s ≡ 0) × (head.zero31 of s ≡ 0) × (head.flags of s ≤ 3)
+S5 s = (head.spare s ≡ 0) × (head.rules of s ≤ head.latest s) × (head.zero31 of s ≡ 0) × (head.flags of s ≤ 3)
 
 -- levels: read in the high four bits, write in the low
 abbrev pub Levels : ℕ → Type 0

@@ -36,7 +36,7 @@ abbrev pub zeroDemands : List ℕ → List Demand
 zeroDemands s =
     (5 ⦂ head.flags of s ≼ 3) ∷
     (5 ⦂ head.spare s ≐ 0) ∷
-    (5 ⦂ head.zero30 of s ≐ 0) ∷
+    (5 ⦂ head.rules of s ≼ head.latest s) ∷
     (5 ⦂ head.zero31 of s ≐ 0) ∷
     []
 

@@ -4,6 +4,7 @@ ghost use Rattle.sheet.specs.Demand.{Tells};
 ghost use Rattle.sheet.specs.Head as head;
 ghost use Rattle.sheet.specs.Rules.{frameDemands, zeroDemands, edition};
 ghost use Rattle.sheet.specs.Walk.{Framed};
+use crate::head::LATER;
 use crate::layout::group;
 use crate::layout::head;
 use crate::layout::property;
@@ -71,6 +72,16 @@ fn spare(s: &[u8]) -> usize
     byte(s, head::BYTE15)
 }
 
+// The last number of rules that the sheet's edition knows.
+fn latest(s: &[u8]) -> usize
+    ensures { λ r. ⌜ r ≡ head.latest (now (s .entry)) ⌝ }
+{
+    if byte(s, head::EDITION) == 2 {
+        return LATER as usize;
+    }
+    0
+}
+
 // S5.
 pub fn zero_rule(s: &[u8]) -> u8
     requires { ⌜ Framed edition (now s) ⌝ }
@@ -82,7 +93,7 @@ pub fn zero_rule(s: &[u8]) -> u8
     if spare(s) != 0 {
         return 5;
     }
-    if byte(s, head::ZERO30) != 0 {
+    if latest(s) < byte(s, head::RULES) {
         return 5;
     }
     if byte(s, head::ZERO31) != 0 {

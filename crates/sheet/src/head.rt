@@ -23,11 +23,14 @@ pub fn mask(s: &[u8]) -> u16
     number(s, head::MASK, 2) as u16
 }
 
-// The number of the rules that the sheet asks for: they are 0 so far.
+// The number of the later rules.
+pub const LATER: u8 = 1;
+
+// The number of the rules that the sheet asks for.
 pub fn rules_of(s: &[u8]) -> u8
     ensures { λ r. ⌜ r ≡ rulesOf (now (s .entry)) ⌝ }
 {
-    0
+    byte(s, head::RULES) as u8
 }
 
 // Programming mode in bit 0, verify in bit 1.

@@ -28,7 +28,7 @@ pub mod head {
 
     pub const KEYS: usize = 18;
 
-    pub const ZERO30: usize = 30;
+    pub const RULES: usize = 30;
 
     pub const ZERO31: usize = 31;
 }

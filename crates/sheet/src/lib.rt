@@ -9,6 +9,7 @@ mod records;
 mod table;
 mod walk;
 
+pub use head::LATER;
 pub use head::address_at;
 pub use head::flags;
 pub use head::flags_at;

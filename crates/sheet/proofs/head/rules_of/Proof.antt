@@ -1,6 +1,6 @@
 -- `sheet::head::rules_of` meets its contract.
 -- Assumes nothing.
-use mathlib.Core.Path.{refl}
+use borrow.Author.Needs.{needs}
 use Rattle.sheet.specs.Head.{rulesOf}
 use Rattle.sheet.proofs.head.rules_of.Statement.{statement}
 use Rattle.sheet.proofs.head.rules_of.Tie as tie
@@ -10,4 +10,6 @@ unfolding rulesOf
 rules-of-spec =
     tie.close
     (tie.spec
-    (λ c. refl))
+    (λ c κs. search needs)
+    (λ c. search needs)
+    (λ c. search needs))

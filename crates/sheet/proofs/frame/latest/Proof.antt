@@ -1,0 +1,15 @@
+-- `sheet::frame::latest` meets its contract.
+-- Assumes nothing.
+use borrow.Author.Needs.{needs}
+use Rattle.sheet.proofs.Editions.{latest-second, latest-first}
+use Rattle.sheet.proofs.frame.latest.Statement.{statement}
+use Rattle.sheet.proofs.frame.latest.Tie as tie
+
+pub latest-spec : {M : Type 1} → statement M
+latest-spec =
+    tie.close
+    (tie.spec
+    (λ c κs. search needs)
+    (λ c. search needs)
+    (λ c. search (latest-second, needs))
+    (λ c. search (latest-first, needs)))
