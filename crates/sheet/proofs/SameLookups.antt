@@ -13,14 +13,14 @@ use Rattle.sheet.specs.Region as region
 use Rattle.sheet.specs.Property as property
 use Rattle.sheet.specs.Entries.{count, keyOf}
 use Rattle.sheet.specs.Lookup.{seek, indexOf, objectAt, rank, nthOf, covers, runIn, rangeOf}
-use Rattle.sheet.specs.Frame.{Agree}
+use Rattle.sheet.specs.Frame.{AgreeBy}
 use Rattle.sheet.specs.Places.{regionAt, Ranged}
 use Rattle.sheet.specs.declared.Memory.{Memory}
 use Rattle.sheet.specs.declared.Run.the-variants.{Nowhere}
 use Rattle.sheet.proofs.Sames.{count-same, key-same, region-same, property-same}
 use Rattle.sheet.proofs.FrontSearch.{seek-same}
 
-module _ {s s′ : List ℕ} (a : Agree s s′) where
+module _ {R : ℕ → ℕ → Type 0} {s s′ : List ℕ} (a : AgreeBy R s s′) where
   -- the same entry by its first word
   pub index-same : (k x : ℕ) → k < kinds → indexOf s′ k x ≡ indexOf s k x
   unfolding indexOf

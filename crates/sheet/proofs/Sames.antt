@@ -15,7 +15,7 @@ use Rattle.sheet.specs.Region as region
 use Rattle.sheet.specs.Property as property
 use Rattle.sheet.specs.Group as group
 use Rattle.sheet.specs.Entries.{count, size, base, place, contents, entry, keyOf, floorAfter, floor, offsetOf, lengthOf, bodyAt, bodyEnd, endFrom, startOf, reached}
-use Rattle.sheet.specs.Frame.{Agree, Fixed}
+use Rattle.sheet.specs.Frame.{Agree, AgreeBy, Fixed}
 use Rattle.sheet.specs.Places.{regionAt}
 use Rattle.sheet.specs.declared.Memory.{Memory}
 use Rattle.sheet.specs.declared.Memory.the-variants.{Device, User}
@@ -41,15 +41,16 @@ module _ (s s′ : List ℕ) (front : (p : ℕ) → p < head.serial .at → getD
   pub place-front : (k i : ℕ) → place s′ k i ≡ place s k i
   place-front k i = rw (base-front k)
 
-module _ {s s′ : List ℕ} (a : Agree s s′) where
+-- the number of the rules
+pub rules-same : {s s′ : List ℕ} → Agree s s′ → rulesOf s′ ≡ rulesOf s
+unfolding rulesOf
+rules-same a = a .rules
+
+-- all else, whatever that number is
+module _ {R : ℕ → ℕ → Type 0} {s s′ : List ℕ} (a : AgreeBy R s s′) where
   -- a field of the head before the serial
   pub front-same : (f : Field) → f .at + f .width ≤ head.serial .at → f of s′ ≡ f of s
   front-same = field-front s s′ (a .front) (a .byte15)
-
-  -- the number of the rules
-  pub rules-same : rulesOf s′ ≡ rulesOf s
-  unfolding rulesOf
-  rules-same = a .rules
 
   -- the number of entries of a kind
   pub count-same : (k : ℕ) → count s′ k ≡ count s k
