@@ -1,17 +1,21 @@
 -- Numbers of the sheet's head in answers and stores.
 -- Assumes nothing.
 use Prim.Native.Nat.{ℕ, _≤_, _<_}
-use mathlib.Core.Path.{_≡_}
-use mathlib.Core.List.{List}
-use borrow.Author.Tests.{lt-ltb, le-leb, eq-eqb}
+use mathlib.Core.Path.{_≡_, refl, sym, _∙_}
+use mathlib.Core.List.{List, [], _∷_}
+use borrow.Author.Tests.{lt-ltb, le-leb, eq-eqb, ne-eqb}
 use Rattle.sheet.specs.Layout.{_of_}
 use Rattle.sheet.specs.Head as head
+use Rattle.sheet.specs.Head.{rulesOf, later}
+use Rattle.octets.specs.Bytes.{bytesOf}
+use Rattle.pdu.specs.Rules.{headBytes}
+use Rattle.pdu.specs.Write.{encoded}
 use Rattle.pdu.specs.declared.Pdu.the-variants.{DeviceDescriptorResponse, KeyResponse}
 use Rattle.judge.specs.declared.Store.the-variants as store
 use Rattle.judge.specs.declared.Answer.the-variants as answer
 use Rattle.judge.specs.declared.Decision.{Decision}
-use Rattle.judge.specs.Decisions.{answered, written}
-use Rattle.judge.specs.Addresses.{descriptorOf}
+use Rattle.judge.specs.Decisions.{refused, denied, answered, written}
+use Rattle.judge.specs.Addresses.{noType, descriptorOf}
 use Rattle.judge.specs.Keys.{keyWriteOf}
 
 pub mask-answered :
@@ -19,6 +23,21 @@ pub mask-answered :
     r ≡ answered (answer.Number (DeviceDescriptorResponse 0) 2 x) → r ≡ descriptorOf s t
 unfolding descriptorOf
 mask-answered s t x r h x-is g = simp (eq-eqb _ _ h, ← x-is) g
+
+-- a type that the device has not, under the later rules and under those before: the first is answered with 63, whatever is asked
+module _ (s : List ℕ) (t n : ℕ) (r : Decision) (other : t ≡ 0 → ⊥) (n-is : n ≡ rulesOf s) where
+  pub no-type : n ≡ later → r ≡ denied (DeviceDescriptorResponse 63) → r ≡ descriptorOf s t
+  unfolding descriptorOf
+  no-type e g = simp (ne-eqb _ _ other, eq-eqb _ _ (sym n-is ∙ e)) g
+
+  pub not-for-us : (n ≡ later → ⊥) → r ≡ refused 2 → r ≡ descriptorOf s t
+  unfolding descriptorOf
+  not-for-us e g = simp (ne-eqb _ _ other, ne-eqb _ _ (λ h. e (n-is ∙ h))) g
+
+-- and the bytes of that answer
+pub no-type-bytes : encoded (DeviceDescriptorResponse noType) [] ≡ 0x03 ∷ 0x7F ∷ []
+unfolding encoded headBytes bytesOf
+no-type-bytes = refl
 
 pub key-set :
     (level named key o : ℕ) (r : Decision) → named < 3 → level ≤ named → o ≡ (head.key named) .at →

@@ -6,12 +6,13 @@ use mathlib.Core.Bool.{Bool, cond}
 use lib.Dec.{eqb}
 use Rattle.sheet.specs.Layout.{_of_}
 use Rattle.sheet.specs.Head as head
+use Rattle.sheet.specs.Head.{rulesOf, later}
 use Rattle.pdu.specs.declared.Pdu.the-variants.{IndividualAddressResponse, SerialNumberResponse, DeviceDescriptorResponse}
 use Rattle.judge.specs.declared.Store.{Store}
 use Rattle.judge.specs.declared.Store.the-variants as store
 use Rattle.judge.specs.declared.Answer.the-variants as answer
 use Rattle.judge.specs.declared.Decision.{Decision}
-use Rattle.judge.specs.Decisions.{refused, answered, stored}
+use Rattle.judge.specs.Decisions.{refused, denied, answered, stored}
 
 abbrev pub inProgramming : List ℕ → Bool
 inProgramming s = eqb (head.programming s) 1
@@ -33,6 +34,12 @@ serialReadOf s serial =
 unfoldable pub serialWriteOf : List ℕ → ℕ → ℕ → Decision
 serialWriteOf s serial a = cond (eqb serial (head.serial of s)) (stored (newAddress a)) (refused 2)
 
+-- what is answered for a type that the device has not
+abbrev pub noType : ℕ
+noType = 63
+
+-- the mask version is type 0; any other is denied under the later rules, and not for us under those before
 unfoldable pub descriptorOf : List ℕ → ℕ → Decision
 descriptorOf s t =
-    cond (eqb t 0) (answered (answer.Number (DeviceDescriptorResponse 0) (head.mask .width) (head.mask of s))) (refused 2)
+    cond (eqb t 0) (answered (answer.Number (DeviceDescriptorResponse 0) (head.mask .width) (head.mask of s)))
+    (cond (eqb (rulesOf s) later) (denied (DeviceDescriptorResponse noType)) (refused 2))

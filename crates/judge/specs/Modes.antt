@@ -1,15 +1,16 @@
 -- WHICH MODE TAKES WHICH SERVICE, by the number of the rules.
 -- Assumes nothing.
 use Prim.Native.Nat.{ℕ}
-use mathlib.Core.Bool.{Bool, true, false, _||_}
+use mathlib.Core.Bool.{Bool, true, false, cond, _||_}
 use lib.Dec.{eqb}
+use Rattle.sheet.specs.Head.{later}
 use Rattle.pdu.specs.declared.Service.{Service}
 use Rattle.pdu.specs.declared.Service.the-variants.{GroupValueRead, GroupValueResponse, GroupValueWrite, IndividualAddressWrite, IndividualAddressRead, SerialNumberRead, SerialNumberWrite, DeviceDescriptorRead, PropertyValueRead, PropertyValueWrite, PropertyDescriptionRead, MemoryRead, MemoryWrite, MemoryBitWrite, AuthorizeRequest, KeyWrite, Restart, IndividualAddressResponse, SerialNumberResponse, DeviceDescriptorResponse, PropertyValueResponse, PropertyDescriptionResponse, MemoryResponse, AuthorizeResponse, KeyResponse, UserMemoryRead, UserMemoryResponse, UserMemoryWrite}
 use Rattle.judge.specs.Session as mode
 use Rattle.judge.specs.declared.Reach.{Reach}
 use Rattle.judge.specs.declared.Reach.the-variants.{Multicast, Broadcast, PointToPoint, Connected, Never}
 
--- an answer to a tool never reaches the device
+-- an answer to a tool never reaches the device; under the later rules a restart needs no connection
 abbrev pub reachOf : ℕ → Service → Reach
 reachOf rules GroupValueRead = Multicast
 reachOf rules GroupValueResponse = Multicast
@@ -27,7 +28,7 @@ reachOf rules MemoryWrite = Connected
 reachOf rules MemoryBitWrite = Connected
 reachOf rules AuthorizeRequest = Connected
 reachOf rules KeyWrite = Connected
-reachOf rules Restart = Connected
+reachOf rules Restart = cond (eqb rules later) PointToPoint Connected
 reachOf rules IndividualAddressResponse = Never
 reachOf rules SerialNumberResponse = Never
 reachOf rules DeviceDescriptorResponse = Never

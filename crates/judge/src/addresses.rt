@@ -7,9 +7,11 @@ use crate::Answer;
 use crate::Decision;
 use crate::Store;
 use crate::decisions::answered;
+use crate::decisions::denied;
 use crate::decisions::refused;
 use crate::decisions::stored;
 use pdu::Pdu;
+use sheet::LATER;
 
 // Programming mode is on.
 fn in_programming(s: &[u8]) -> bool
@@ -74,16 +76,22 @@ pub fn serial_write(s: &[u8], asked: u64, address: u16) -> Decision
     refused(2)
 }
 
-// The mask version is descriptor 0; there is no other.
+// What is answered for a type that the device has not.
+const NO_TYPE: u8 = 63;
+
+// The mask version is type 0; any other is denied under the later rules, and not for us under those before.
 pub fn descriptor(s: &[u8], t: u8) -> Decision
     ensures { λ r. ⌜ r ≡ descriptorOf (now (s .entry)) t ⌝ }
 {
-    if t != 0 {
-        return refused(2);
+    if t == 0 {
+        return answered(Answer::Number {
+            pdu: Pdu::DeviceDescriptorResponse { t: 0 },
+            width: 2,
+            x: sheet::mask(s) as u64,
+        });
     }
-    answered(Answer::Number {
-        pdu: Pdu::DeviceDescriptorResponse { t: 0 },
-        width: 2,
-        x: sheet::mask(s) as u64,
-    })
+    if sheet::rules_of(s) == LATER {
+        return denied(Pdu::DeviceDescriptorResponse { t: NO_TYPE });
+    }
+    refused(2)
 }

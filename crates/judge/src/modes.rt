@@ -7,6 +7,17 @@ use crate::levels::CONNECTED;
 use crate::levels::CONNECTIONLESS;
 use crate::levels::MULTICAST;
 use pdu::Service;
+use sheet::LATER;
+
+// Under the later rules a restart needs no connection.
+fn restart_reach(rules: u8) -> Reach
+    ensures { λ r. ⌜ r ≡ reachOf rules Service.Restart ⌝ }
+{
+    if rules == LATER {
+        return Reach::PointToPoint;
+    }
+    Reach::Connected
+}
 
 // Who can reach a service. An answer to a tool never reaches the device.
 pub fn reach(rules: u8, k: Service) -> Reach
@@ -29,7 +40,7 @@ pub fn reach(rules: u8, k: Service) -> Reach
         Service::MemoryBitWrite => Reach::Connected,
         Service::AuthorizeRequest => Reach::Connected,
         Service::KeyWrite => Reach::Connected,
-        Service::Restart => Reach::Connected,
+        Service::Restart => restart_reach(rules),
         Service::IndividualAddressResponse => Reach::Never,
         Service::SerialNumberResponse => Reach::Never,
         Service::DeviceDescriptorResponse => Reach::Never,

@@ -2,7 +2,7 @@
 -- Assumes nothing.
 use borrow.Author.Needs.{needs}
 use native.Mathlib.Omega.{arith}
-use Rattle.judge.proofs.Heads.{mask-answered}
+use Rattle.judge.proofs.Heads.{mask-answered, no-type, not-for-us}
 use Rattle.octets.proofs.Tests.{branches}
 use Rattle.judge.specs.Addresses.{descriptorOf}
 use Rattle.judge.proofs.addresses.descriptor.Statement.{statement}
@@ -13,5 +13,5 @@ unfolding descriptorOf
 descriptor-spec =
     tie.close
     (tie.spec
-    (λ c κs. search needs) (λ c. search (branches, arith)) (λ c κs. search needs) (λ c. search needs)
-    (λ c κs. search needs) (λ c. search mask-answered))
+    (λ c κs. search needs) (λ c. search needs) (λ c κs. search needs) (λ c. search mask-answered)
+    (λ c κs. search needs) (λ c κs. search needs) (λ c. search no-type) (λ c κs. search needs) (λ c. search not-for-us))
