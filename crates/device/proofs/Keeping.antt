@@ -38,6 +38,7 @@ use Rattle.judge.specs.Keys.{authorizeOf, restartOf}
 use Rattle.judge.specs.Judge.{decideOf}
 use Rattle.octets.proofs.Walks.{by-eq}
 use Rattle.judge.proofs.GroupCases.{group-read-cases, group-put-cases}
+use Rattle.judge.proofs.DescriptorCases.{descriptor-cases}
 use Rattle.judge.proofs.PropertyCases.{property-read-cases, property-write-cases, description-cases}
 use Rattle.judge.proofs.MemoryCases.{memory-read-cases, changed, change-cases}
 use Rattle.judge.proofs.KeyCases.{key-write-cases}
@@ -130,7 +131,7 @@ module _ {s : List ℕ} (ok : Good s) (level group : ℕ) (a : List ℕ) where
       by-eq (K (SerialNumberRead serial)) serial (head.serial of s) _ _ (λ e. as-is) (λ e. as-is)
   keeps-decided (SerialNumberWrite serial address) r =
       by-eq (K (SerialNumberWrite serial address)) serial (head.serial of s) _ _ (λ e. address-new ok [] address) (λ e. as-is)
-  keeps-decided (DeviceDescriptorRead t) r = by-eq (K (DeviceDescriptorRead t)) t 0 _ _ (λ e. as-is) (λ e. as-is)
+  keeps-decided (DeviceDescriptorRead t) r = descriptor-cases s t (K (DeviceDescriptorRead t)) (λ e. as-is) (λ h l. as-is) (λ h l. as-is)
   keeps-decided (PropertyValueRead object id n t) r =
       property-read-cases s level object id n t (K (PropertyValueRead object id n t)) (λ i k l z o. as-is) (λ i k l m b. as-is) as-is
   keeps-decided (PropertyValueWrite object id n t) r = property-write ok _ level object id n t

@@ -47,6 +47,9 @@ pub mod ReadBackProperties
 pub mod ReadBackMemory
 pub mod ReadBack
 pub mod Unseen
+pub mod Judging
 pub mod NoBody
+pub mod PastHead
+pub mod RulesApart
 pub mod WrongSteps
 pub mod Refuted

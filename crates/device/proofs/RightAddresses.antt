@@ -9,15 +9,17 @@ use Rattle.octets.specs.Bytes.{bytesOf}
 use Rattle.octets.specs.Splice.{splice}
 use Rattle.sheet.specs.Layout.{_of_}
 use Rattle.sheet.specs.Head as head
+use Rattle.sheet.specs.Head.{rulesOf, later}
 use Rattle.pdu.specs.declared.Pdu.the-variants.{IndividualAddressWrite, IndividualAddressRead, SerialNumberRead, SerialNumberWrite, DeviceDescriptorRead, IndividualAddressResponse, SerialNumberResponse, DeviceDescriptorResponse}
 use Rattle.judge.specs.declared.Decision.{Decision}
 use Rattle.judge.specs.declared.Answer.the-variants as answer
 use Rattle.judge.specs.Decisions as decisions
 use Rattle.judge.specs.Addresses.{newAddress, addressWriteOf, addressReadOf, serialReadOf, serialWriteOf, descriptorOf}
 use Rattle.octets.proofs.Walks.{by-eq}
+use Rattle.judge.proofs.DescriptorCases.{descriptor-cases}
 use Rattle.device.specs.Step.{stepBy}
 use Rattle.device.specs.Asked.{Asked, quiet, says, stores, Reads, given}
-use Rattle.device.specs.AddressesDue.{AddressesDue, Programming, addressWrite, noAddressWrite, addressRead, noAddressRead, serialRead, noSerialRead, serialWrite, noSerialWrite, descriptor, noDescriptor}
+use Rattle.device.specs.AddressesDue.{AddressesDue, Programming, addressWrite, noAddressWrite, addressRead, noAddressRead, serialRead, noSerialRead, serialWrite, noSerialWrite, descriptor, noDescriptor, descriptorDenied}
 use Rattle.device.proofs.Stepped.{step, step-read}
 
 module _ (x : Asked) where
@@ -91,14 +93,20 @@ module _ (x : Asked) where
   unfolding stepBy descriptorOf
   only-descriptor r = step-read x _ r _ refl
 
-  pub only-no-descriptor : (t : ℕ) → Reads x (DeviceDescriptorRead t) → 1 ≤ t → quiet x 2 ≡ step x
-  unfolding stepBy descriptorOf
-  only-no-descriptor t r h = step-read x _ r (decisions.refused 2) (simp (ne-eqb t 0 (omega arith)))
+  module _ (t : ℕ) (r : Reads x (DeviceDescriptorRead t)) (h : 1 ≤ t) where
+    pub only-no-descriptor : (rulesOf (x .sheet) ≡ later → ⊥) → quiet x 2 ≡ step x
+    unfolding stepBy descriptorOf
+    only-no-descriptor l = step-read x _ r (decisions.refused 2) (simp (ne-eqb t 0 (omega arith), ne-eqb (rulesOf (x .sheet)) later l))
+
+    pub only-descriptor-denied : rulesOf (x .sheet) ≡ later → says x 11 (DeviceDescriptorResponse 63) [] ≡ step x
+    unfolding stepBy descriptorOf
+    only-descriptor-denied l =
+        step-read x _ r (decisions.denied (DeviceDescriptorResponse 63)) (simp (ne-eqb t 0 (omega arith), eq-eqb (rulesOf (x .sheet)) later l))
 
   pub right-descriptor :
       (t : ℕ) → Reads x (DeviceDescriptorRead t) →
       AddressesDue x (stepBy (x .sheet) (x .session) (given x (DeviceDescriptorRead t)) (descriptorOf (x .sheet) t))
-  unfolding stepBy descriptorOf
+  unfolding stepBy
   right-descriptor t r =
-      by-eq (λ (k : Decision). AddressesDue x (stepBy (x .sheet) (x .session) (given x (DeviceDescriptorRead t)) k))
-      t 0 _ _ (λ h. descriptor (rw h at r)) (λ h. noDescriptor t r (omega arith))
+      descriptor-cases (x .sheet) t (λ (k : Decision). AddressesDue x (stepBy (x .sheet) (x .session) (given x (DeviceDescriptorRead t)) k))
+      (λ h. descriptor (rw h at r)) (descriptorDenied t r) (noDescriptor t r)

@@ -23,7 +23,7 @@ use Rattle.device.specs.Right.{Right}
 use Rattle.device.proofs.RequestCases.{request-cases}
 use Rattle.device.proofs.Stepped.{step-refused, step-unknown, step-other, step-unfit}
 use Rattle.device.proofs.RightGroups.{right-group-read, right-group-put, only-group-read0, only-group-read, only-no-group-read, only-group-put0, only-group-put, only-group-length, only-no-group-put}
-use Rattle.device.proofs.RightAddresses.{right-address-write, right-address-read, right-serial-read, right-serial-write, right-descriptor, only-address-write, only-no-address-write, only-address-read, only-no-address-read, only-serial-read, only-no-serial-read, only-serial-write, only-no-serial-write, only-descriptor, only-no-descriptor}
+use Rattle.device.proofs.RightAddresses.{right-address-write, right-address-read, right-serial-read, right-serial-write, right-descriptor, only-address-write, only-no-address-write, only-address-read, only-no-address-read, only-serial-read, only-no-serial-read, only-serial-write, only-no-serial-write, only-descriptor, only-no-descriptor, only-descriptor-denied}
 use Rattle.device.proofs.RightProperties.{right-property-read, right-property-write, only-property-count, only-property-read, only-no-property-read, only-property-clear, only-property-write, only-no-property-write}
 use Rattle.device.proofs.RightDescriptions.{right-description, only-description, only-no-description}
 use Rattle.device.proofs.Changes.{change-of, right-memory-write, only-verified, only-stored, only-denied, only-refused}
@@ -98,7 +98,8 @@ module _ (x : Asked) (hs : Octets (x .sheet)) (ha : Octets (x .apdu)) where
   right-only r (due.addresses (addresses.serialWrite serial address h e)) = only-serial-write x serial address h e
   right-only r (due.addresses (addresses.noSerialWrite serial address h e)) = only-no-serial-write x serial address h e
   right-only r (due.addresses (addresses.descriptor h)) = only-descriptor x h
-  right-only r (due.addresses (addresses.noDescriptor t h l)) = only-no-descriptor x t h l
+  right-only r (due.addresses (addresses.noDescriptor t h l k)) = only-no-descriptor x t h l k
+  right-only r (due.addresses (addresses.descriptorDenied t h l k)) = only-descriptor-denied x t h l k
   right-only r (due.properties (properties.propertyCount object id i h p)) = only-property-count x object id 1 0 h i p refl refl
   right-only r (due.properties (properties.propertyRead object id n s i h p m l)) = only-property-read x object id n s h i p m l
   right-only r (due.properties (properties.noPropertyRead object id n s h f)) = only-no-property-read x object id n s h hs ha f

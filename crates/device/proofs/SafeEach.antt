@@ -37,6 +37,7 @@ use Rattle.judge.specs.Keys.{authorizeOf, keyWriteOf, restartOf}
 use Rattle.judge.specs.Judge.{decideOf}
 use Rattle.octets.proofs.Walks.{by-eq}
 use Rattle.judge.proofs.GroupCases.{group-read-cases, group-put-cases}
+use Rattle.judge.proofs.DescriptorCases.{descriptor-cases}
 use Rattle.judge.proofs.PropertyCases.{runIn, property-read-cases, property-write-cases, description-cases}
 use Rattle.judge.proofs.MemoryCases.{memory-read-cases, changed, change-cases}
 use Rattle.judge.proofs.KeyCases.{key-write-cases}
@@ -122,12 +123,12 @@ module _ {s : List ℕ} (ok : Good s) (d : List ℕ) where
       (λ e. safe-refused s d 2)
 
   descriptor : (t : ℕ) → Safe s d (descriptorOf s t)
-  unfolding descriptorOf
   descriptor t =
-      by-eq (Safe s d) t 0 _ _
+      descriptor-cases s t (Safe s d)
       (λ e.
-      safe-answered s d _ (omega arith, writes-descriptor (bytesOf 2 (head.mask of s)) (omega (arith, length-bytes 2 (head.mask of s)))))
-      (λ e. safe-refused s d 2)
+      safe-answered s d _ (omega arith, writes-descriptor (bytesOf 2 (head.mask of s)) 0 (omega arith) (omega (arith, length-bytes 2 (head.mask of s)))))
+      (λ h l. safe-denied s d _ (writes-descriptor [] 63 (omega arith) (omega arith)))
+      (λ h l. safe-refused s d 2)
 
   module _ (level object id n t : ℕ) (h : (n < 16) × (t < 4096)) where
     no-value : Safe s d (denied (PropertyValueResponse object id 0 t))

@@ -26,11 +26,12 @@ use Rattle.judge.specs.Keys.{authorizeOf, restartOf}
 use Rattle.judge.specs.Judge.{decideOf, judgeOf}
 use Rattle.octets.proofs.Walks.{by-eq}
 use Rattle.judge.proofs.GroupCases.{group-read-cases, group-put-cases}
+use Rattle.judge.proofs.DescriptorCases.{descriptor-cases}
 use Rattle.judge.proofs.PropertyCases.{property-read-cases, property-write-cases, description-cases}
 use Rattle.judge.proofs.MemoryCases.{memory-read-cases, change-cases}
 use Rattle.judge.proofs.KeyCases.{key-write-cases}
 use Rattle.device.specs.Asked.{Asked, Refusal, noRoom, badSheet, badLength, badMode, noSession}
-use Rattle.device.specs.Replies.{Negative, ofRead, ofWrite, ofDescription, ofMemoryRead, ofMemoryWrite, ofUserRead, ofUserWrite, ofBitWrite, ofKeyWrite}
+use Rattle.device.specs.Replies.{Negative, ofRead, ofWrite, ofDescription, ofMemoryRead, ofMemoryWrite, ofUserRead, ofUserWrite, ofBitWrite, ofDescriptor, ofKeyWrite}
 use Rattle.device.proofs.RequestCases.{request-cases}
 
 -- about a request a
@@ -66,7 +67,8 @@ module _ (a s : List ℕ) (level group : ℕ) (d : List ℕ) where
   shaped (SerialNumberRead serial) e = by-eq (Shape a) serial (head.serial of s) _ _ (λ h. reply _ _ _ _) (λ h. not-ours a)
   shaped (SerialNumberWrite serial address) e =
       by-eq (Shape a) serial (head.serial of s) _ _ (λ h. done _ _) (λ h. not-ours a)
-  shaped (DeviceDescriptorRead t) e = by-eq (Shape a) t 0 _ _ (λ h. reply _ _ _ _) (λ h. not-ours a)
+  shaped (DeviceDescriptorRead t) e =
+      descriptor-cases s t (Shape a) (λ z. reply _ _ _ _) (λ h l. deny _ _ e (ofDescriptor t h)) (λ h l. not-ours a)
   shaped (PropertyValueRead object id n t) e =
       property-read-cases s level object id n t (Shape a) (λ i k l z o. reply _ _ _ _) (λ i k l m b. reply _ _ _ _)
       (deny _ _ e (ofRead object id n t))

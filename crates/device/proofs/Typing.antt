@@ -33,6 +33,7 @@ use Rattle.judge.specs.Keys.{grantOf, authorizeOf, restartOf}
 use Rattle.judge.specs.Judge.{decideOf, judgeOf}
 use Rattle.octets.proofs.Walks.{by-eq}
 use Rattle.judge.proofs.GroupCases.{group-read-cases, group-put-cases}
+use Rattle.judge.proofs.DescriptorCases.{descriptor-cases}
 use Rattle.judge.proofs.PropertyCases.{describes, property-read-cases, property-write-cases, description-cases}
 use Rattle.judge.proofs.MemoryCases.{memory-read-cases, change-cases}
 use Rattle.judge.proofs.KeyCases.{grant-cases, key-write-cases}
@@ -79,7 +80,7 @@ module _ {s : List ℕ} (ok : Good s) (h : Octets s) (level group : ℕ) (d : Li
   fitted (SerialNumberRead serial) t =
       by-eq Fits serial (head.serial of s) _ _ (λ e. (tt, (omega arith, (tt, tt)))) (λ e. tt)
   fitted (SerialNumberWrite serial address) t = by-eq Fits serial (head.serial of s) _ _ (λ e. tt) (λ e. tt)
-  fitted (DeviceDescriptorRead k) t = by-eq Fits k 0 _ _ (λ e. (tt, tt)) (λ e. tt)
+  fitted (DeviceDescriptorRead k) t = descriptor-cases s k Fits (λ e. (tt, tt)) (λ h l. (tt, tt)) (λ h l. tt)
   fitted (PropertyValueRead object id n m) t =
       property-read-cases s level object id n m Fits (λ i k l z o. t) (λ i k l u b. t) t
   fitted (PropertyValueWrite object id n m) t =

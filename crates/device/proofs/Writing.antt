@@ -28,10 +28,10 @@ module _ (d : List ℕ) where
   writes-value h =
       stands (GroupValueResponse 0) d (omega arith) (or-is (eqb (2 + length d) 2) true .1 (inr refl))
 
-  pub writes-descriptor : length d ≤ 14 → writable (DeviceDescriptorResponse 0) d ≡ true
-  writes-descriptor h =
-      stands (DeviceDescriptorResponse 0) d (omega arith)
-      (and-is _ _ .1 (at-most-is 2 (2 + length d) .1 (omega arith), at-most-is (2 + length d) 16 .1 (omega arith)))
+  pub writes-descriptor : (t : ℕ) → t < 64 → length d ≤ 14 → writable (DeviceDescriptorResponse t) d ≡ true
+  writes-descriptor t l h =
+      stands (DeviceDescriptorResponse t) d (omega arith)
+      (and-is _ _ .1 (below-is t 64 .1 l, and-is _ _ .1 (at-most-is 2 (2 + length d) .1 (omega arith), at-most-is (2 + length d) 16 .1 (omega arith))))
 
   pub writes-property :
       (object id n s : ℕ) → n < 16 → s < 4096 → length d ≤ 10 → writable (PropertyValueResponse object id n s) d ≡ true

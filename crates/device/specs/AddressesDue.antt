@@ -7,6 +7,7 @@ use Rattle.octets.specs.Bytes.{bytesOf}
 use Rattle.octets.specs.Splice.{splice}
 use Rattle.sheet.specs.Layout.{_of_}
 use Rattle.sheet.specs.Head as head
+use Rattle.sheet.specs.Head.{rulesOf, later}
 use Rattle.pdu.specs.declared.Pdu.the-variants.{IndividualAddressWrite, IndividualAddressRead, SerialNumberRead, SerialNumberWrite, DeviceDescriptorRead, IndividualAddressResponse, SerialNumberResponse, DeviceDescriptorResponse}
 use Rattle.device.specs.Step.{Step}
 use Rattle.device.specs.Asked.{Asked, quiet, says, stores, Reads}
@@ -34,4 +35,8 @@ pub data AddressesDue (x : Asked) : Step → Type 0 where
       (serial address : ℕ) → Reads x (SerialNumberWrite serial address) → (serial ≡ head.serial of x .sheet → ⊥) → AddressesDue x (quiet x 2)
   descriptor :
       Reads x (DeviceDescriptorRead 0) → AddressesDue x (says x 0 (DeviceDescriptorResponse 0) (bytesOf 2 (head.mask of x .sheet)))
-  noDescriptor : (t : ℕ) → Reads x (DeviceDescriptorRead t) → 1 ≤ t → AddressesDue x (quiet x 2)
+  noDescriptor :
+      (t : ℕ) → Reads x (DeviceDescriptorRead t) → 1 ≤ t → (rulesOf (x .sheet) ≡ later → ⊥) → AddressesDue x (quiet x 2)
+  descriptorDenied :
+      (t : ℕ) → Reads x (DeviceDescriptorRead t) → 1 ≤ t → rulesOf (x .sheet) ≡ later →
+      AddressesDue x (says x 11 (DeviceDescriptorResponse 63) [])

@@ -6,7 +6,7 @@ use mathlib.Core.Bool.{true, false}
 use mathlib.Core.Logic.{_⊎_}
 use mathlib.Core.List.{List, []}
 use lib.ListN.{length, take, drop}
-use Rattle.sheet.specs.Head.{rulesOf}
+use Rattle.sheet.specs.Head.{rulesOf, later}
 use Rattle.sheet.specs.Rules.{Accepted}
 use Rattle.pdu.specs.Table.{rowOf}
 use Rattle.pdu.specs.Pdus.{serviceOf}
@@ -62,7 +62,7 @@ Takes rules MemoryWrite m = m ≡ connected
 Takes rules MemoryBitWrite m = m ≡ connected
 Takes rules AuthorizeRequest m = m ≡ connected
 Takes rules KeyWrite m = m ≡ connected
-Takes rules Restart m = m ≡ connected
+Takes rules Restart m = (m ≡ connected) ⊎ ((rules ≡ later) × (m ≡ connectionless))
 Takes rules IndividualAddressResponse m = ⊥
 Takes rules SerialNumberResponse m = ⊥
 Takes rules DeviceDescriptorResponse m = ⊥

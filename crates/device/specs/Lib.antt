@@ -18,4 +18,5 @@ pub mod Marked
 pub mod Pump
 pub mod Next
 pub mod Bodies
+pub mod Apart
 pub mod Wrong

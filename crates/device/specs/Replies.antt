@@ -1,13 +1,13 @@
 -- What the bytes of an answer are: a PDU, and where a request is denied the negative answer of its service.
 -- Assumes nothing.
-use Prim.Native.Nat.{ℕ}
+use Prim.Native.Nat.{ℕ, _≤_}
 use mathlib.Core.Path.{_≡_}
 use mathlib.Core.List.{List, []}
 use Rattle.pdu.specs.Read.{readPdu, dataOf}
 use Rattle.pdu.specs.Write.{encoded}
 use Rattle.pdu.specs.declared.Parsed.the-variants.{Is}
 use Rattle.pdu.specs.declared.Pdu.{Pdu}
-use Rattle.pdu.specs.declared.Pdu.the-variants.{PropertyValueRead, PropertyValueWrite, PropertyDescriptionRead, MemoryRead, MemoryWrite, MemoryBitWrite, KeyWrite, PropertyValueResponse, PropertyDescriptionResponse, MemoryResponse, KeyResponse, UserMemoryRead, UserMemoryWrite, UserMemoryResponse}
+use Rattle.pdu.specs.declared.Pdu.the-variants.{PropertyValueRead, PropertyValueWrite, PropertyDescriptionRead, MemoryRead, MemoryWrite, MemoryBitWrite, KeyWrite, DeviceDescriptorRead, DeviceDescriptorResponse, PropertyValueResponse, PropertyDescriptionResponse, MemoryResponse, KeyResponse, UserMemoryRead, UserMemoryWrite, UserMemoryResponse}
 
 -- b is the bytes of a PDU with its data, and reads as that
 pub record IsPdu (b : List ℕ) : Type 0 where
@@ -28,6 +28,7 @@ pub data Negative : Pdu → Pdu → Type 0 where
   ofBitWrite : (n address : ℕ) → Negative (MemoryBitWrite n address) (MemoryResponse 0 address)
   ofUserRead : (n address : ℕ) → Negative (UserMemoryRead n address) (UserMemoryResponse 0 address)
   ofUserWrite : (n address : ℕ) → Negative (UserMemoryWrite n address) (UserMemoryResponse 0 address)
+  ofDescriptor : (t : ℕ) → 1 ≤ t → Negative (DeviceDescriptorRead t) (DeviceDescriptorResponse 63)
   ofKeyWrite : (level key : ℕ) → Negative (KeyWrite level key) (KeyResponse 255)
 
 -- b is the negative answer to the request a, and nothing else

@@ -1,0 +1,56 @@
+-- Two devices whose sheets differ in the number of the rules alone, and the requests that the rules are at odds about.
+-- Assumes nothing.
+use Prim.Native.Nat.{ℕ, _≤_}
+use mathlib.Core.Path.{_≡_}
+use mathlib.Core.List.{List, [], _∷_}
+use lib.ListN.{length, getD}
+use Rattle.sheet.specs.Head as head
+use Rattle.sheet.specs.Rules.{Accepted}
+use Rattle.pdu.specs.Rules.{codeOf}
+use Rattle.pdu.specs.Table.{serviceAt}
+use Rattle.pdu.specs.Read.{readPdu}
+use Rattle.pdu.specs.declared.Found.the-variants.{Listed}
+use Rattle.pdu.specs.declared.Parsed.the-variants.{Is}
+use Rattle.pdu.specs.declared.Pdu.the-variants.{DeviceDescriptorRead}
+use Rattle.pdu.specs.declared.Service.the-variants.{Restart}
+use Rattle.judge.specs.Session.{connectionless}
+use Rattle.device.specs.Step.{Step}
+use Rattle.device.specs.Events.{Event, State, connect, disconnect, button, request}
+
+-- both accepted, and every byte the same but that of the rules
+pub record SameButRules (s s′ : List ℕ) : Type 0 where
+  pub accepted : Accepted s
+  pub accepted′ : Accepted s′
+  pub long : length s′ ≡ length s
+  pub others : (p : ℕ) → (p ≡ head.rules .at → ⊥) → getD s′ p 0 ≡ getD s p 0
+
+-- the code of a restart, connectionless; a descriptor type other than 0
+pub data Disputed (mode : ℕ) (a : List ℕ) : Type 0 where
+  restarts : mode ≡ connectionless → serviceAt (codeOf a) ≡ Listed Restart → Disputed mode a
+  describes : (t : ℕ) → 1 ≤ t → readPdu a ≡ Is (DeviceDescriptorRead t) → Disputed mode a
+
+abbrev pub Undisputed : ℕ → List ℕ → Type 0
+Undisputed mode a = Disputed mode a → ⊥
+
+-- the same outcome, answer and session, and the sheets still the same but for that byte
+pub record Alike (r r′ : Step) : Type 0 where
+  pub outcome : r′ .outcome ≡ r .outcome
+  pub answer : r′ .answer ≡ r .answer
+  pub session : r′ .session ≡ r .session
+  pub sheet : SameButRules (r .sheet) (r′ .sheet)
+
+-- an event, and a list of them, with no disputed request
+abbrev pub Settled : Event → Type 0
+Settled connect = Unit {0}
+Settled disconnect = Unit {0}
+Settled (button on) = Unit {0}
+Settled (request mode group a out) = Undisputed mode a
+
+abbrev pub AllSettled : List Event → Type 0
+AllSettled [] = Unit {0}
+AllSettled (e ∷ es) = Settled e × AllSettled es
+
+-- two devices with the same session, whose sheets are the same but for that byte
+pub record Together (x x′ : State) : Type 0 where
+  pub session : x′ .session ≡ x .session
+  pub sheet : SameButRules (x .sheet) (x′ .sheet)
