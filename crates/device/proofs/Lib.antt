@@ -1,4 +1,4 @@
--- PROMISES, named in docs/PROMISES.md: Demand1, Called (demand 1); Rightly, Dues, AnswerReads, Unread, Extended, ReadBack, Cases, Stays, NoBody, Append, Refuted (demand 2).
+-- PROMISES, named in docs/PROMISES.md: Demand1, Called (demand 1); Rightly, Dues, AnswerReads, Unread, Extended, ReadBack, Cases, Stays, NoBody, RulesApart, RunsApart, TwoRules, Append, Refuted (demand 2).
 -- LAWS behind them and behind the contracts: all other modules. A folder holds the proof of the function whose name it has.
 pub mod Writing
 pub mod Given
@@ -51,5 +51,7 @@ pub mod Judging
 pub mod NoBody
 pub mod PastHead
 pub mod RulesApart
+pub mod RunsApart
+pub mod TwoRules
 pub mod WrongSteps
 pub mod Refuted

@@ -2,12 +2,12 @@
 -- Assumes nothing.
 use Prim.Native.Nat.{ℕ}
 use mathlib.Core.Path.{_≡_, refl, _∙_}
-use mathlib.Core.Logic.{_⊎_, inl, inr, _↔_}
-use mathlib.Core.Bool.{Bool, true, false, _||_, not}
+use mathlib.Core.Logic.{_⊎_, inl, inr, ⊎-elim, _↔_}
+use mathlib.Core.Bool.{Bool, true, false, _||_, _&&_, not}
 use mathlib.Core.List.{List}
 use lib.Dec.{eqb}
 use borrow.Author.Tests.{leb-true, le-leb, eqb-true, eq-eqb}
-use Rattle.sheet.specs.Head.{rulesOf}
+use Rattle.sheet.specs.Head.{rulesOf, later}
 use Rattle.sheet.specs.Rules.{Accepted}
 use Rattle.pdu.specs.Read.{readPdu, dataOf}
 use Rattle.pdu.specs.Pdus.{serviceOf}
@@ -15,12 +15,12 @@ use Rattle.pdu.specs.declared.Parsed.{Parsed}
 use Rattle.pdu.specs.declared.Parsed.the-variants.{Is, Refused}
 use Rattle.pdu.specs.declared.Pdu.{Pdu}
 use Rattle.pdu.specs.declared.Pdu.the-variants.{GroupValueRead, GroupValueResponse, GroupValueWrite, IndividualAddressWrite, IndividualAddressRead, SerialNumberRead, SerialNumberWrite, DeviceDescriptorRead, PropertyValueRead, PropertyValueWrite, PropertyDescriptionRead, MemoryRead, MemoryWrite, MemoryBitWrite, AuthorizeRequest, KeyWrite, Restart, IndividualAddressResponse, SerialNumberResponse, DeviceDescriptorResponse, PropertyValueResponse, PropertyDescriptionResponse, MemoryResponse, AuthorizeResponse, KeyResponse, UserMemoryRead, UserMemoryResponse, UserMemoryWrite}
-use Rattle.octets.proofs.Truths.{never, decided, equal-is}
+use Rattle.octets.proofs.Truths.{never, decided, equal-is, and-is, or-is}
 use Rattle.judge.specs.Session.{connected}
 use Rattle.device.specs.Events.{State}
 use Rattle.device.specs.Asked.{Takes, Ready, Reads}
 use Rattle.device.proofs.Taking.{two-modes}
-use Rattle.history.specs.Wish.{Wish, wishOf, nothing, asks, brings, taken}
+use Rattle.history.specs.Wish.{Wish, wishOf, restart, nothing, asks, brings, taken}
 use Rattle.history.specs.Permit.{checks, heard}
 use Rattle.history.specs.Rightful.{asked}
 use Rattle.history.proofs.Bools.{all-at}
@@ -43,6 +43,16 @@ refused-asks a n e = rw e
 abbrev pub Idle : Pdu → Type 0
 Idle p = wishOf p ≡ nothing
 
+restart-taken : (rules m : ℕ) → (taken rules restart m ≡ true) ↔ ((m ≡ 3) ⊎ ((rules ≡ later) × (m ≡ 2)))
+restart-taken rules m = (
+  λ e.
+      ⊎-elim (λ h. inl (eqb-true m 3 h)) (λ h. let q = and-is (eqb rules later) (eqb m 2) .0 h in inr (eqb-true rules later (q .0), eqb-true m 2 (q .1)))
+      (or-is (eqb m 3) (eqb rules later && eqb m 2) .0 e),
+  λ h.
+      or-is (eqb m 3) (eqb rules later && eqb m 2) .1
+      (⊎-elim (λ e. inl (eq-eqb m 3 e)) (λ q. inr (and-is (eqb rules later) (eqb m 2) .1 (eq-eqb rules later (q .0), eq-eqb m 2 (q .1)))) h),
+)
+
 taken-is : (rules : ℕ) (p : Pdu) (m : ℕ) → Idle p ⊎ ((taken rules (wishOf p) m ≡ true) ↔ Takes rules (serviceOf p) m)
 taken-is rules GroupValueRead m = inl refl
 taken-is rules (GroupValueResponse v) m = inr (equal-is m 0)
@@ -60,7 +70,7 @@ taken-is rules (MemoryWrite n y) m = inr (equal-is m 3)
 taken-is rules (MemoryBitWrite n y) m = inr (equal-is m 3)
 taken-is rules (AuthorizeRequest n) m = inr (equal-is m 3)
 taken-is rules (KeyWrite l n) m = inr (equal-is m 3)
-taken-is rules Restart m = inr (equal-is m 3)
+taken-is rules Restart m = inr (restart-taken rules m)
 taken-is rules IndividualAddressResponse m = inl refl
 taken-is rules (SerialNumberResponse n d) m = inl refl
 taken-is rules (DeviceDescriptorResponse t) m = inl refl

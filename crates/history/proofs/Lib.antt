@@ -1,9 +1,10 @@
--- PROMISES, named in docs/PROMISES.md: Keyless (nobody without the key), Height (that, on the sample sheet), Keep (demand 3), Pinned (one result), AtOnce, Suffices, Shown (what a read shows was written),
+-- PROMISES, named in docs/PROMISES.md: Keyless (nobody without the key), Height (that, on the sample sheet), Keep (demand 3), Pinned (one result), RulesStay (the rules are those of the first sheet), AtOnce, Suffices, Shown (what a read shows was written),
 -- Permitted (permitted as plain propositions), Places (`place-injective`, `exactly-one`), InOrder (histories and runs), Refuted (wrong devices).
 pub mod Keyless
 pub mod Height
 pub mod Keep
 pub mod Pinned
+pub mod RulesStay
 pub mod AtOnce
 pub mod Shown
 pub mod Suffices

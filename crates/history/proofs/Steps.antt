@@ -81,7 +81,8 @@ module _ (f : First) (b : Begins f) (h : List Event) (x : State) (inv : Inv f h 
   due (right.addresses (addresses.serialWrite n v r o)) = serial-written f b h x inv mode g a out n v octets r o 1 []
   due (right.addresses (addresses.noSerialWrite n v r o)) = serial-unwritten f b h x inv mode g a out n v r o 2 []
   due (right.addresses (addresses.descriptor r)) = idle (DeviceDescriptorRead 0) refl r 0 _
-  due (right.addresses (addresses.noDescriptor t r o)) = idle (DeviceDescriptorRead t) refl r 2 []
+  due (right.addresses (addresses.noDescriptor t r o l)) = idle (DeviceDescriptorRead t) refl r 2 []
+  due (right.addresses (addresses.descriptorDenied t r o l)) = idle (DeviceDescriptorRead t) refl r 11 _
   due (right.properties (properties.propertyCount o d i r q)) = idle (PropertyValueRead o d 1 0) refl r 0 _
   due (right.properties (properties.propertyRead o d n z i r q e l)) = idle (PropertyValueRead o d n z) refl r 0 _
   due (right.properties (properties.noPropertyRead o d n z r q)) = idle (PropertyValueRead o d n z) refl r 11 _

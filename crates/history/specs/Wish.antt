@@ -2,8 +2,9 @@
 -- Assumes nothing.
 use Prim.Native.Nat.{ℕ}
 use mathlib.Core.List.{List, []}
-use mathlib.Core.Bool.{Bool, false, _||_}
+use mathlib.Core.Bool.{Bool, false, _||_, _&&_}
 use lib.Dec.{eqb}
+use Rattle.sheet.specs.Head.{later}
 use Rattle.sheet.specs.declared.Memory.{Memory}
 use Rattle.sheet.specs.declared.Memory.the-variants.{Device, User}
 use Rattle.pdu.specs.Read.{readPdu, dataOf}
@@ -86,7 +87,7 @@ taken rules (change (writeBits n a)) mode = eqb mode 3
 taken rules (change (writeProperty object id n s)) mode = eqb mode 2 || eqb mode 3
 taken rules (change (writeKey level number)) mode = eqb mode 3
 taken rules (offerKey number) mode = eqb mode 3
-taken rules restart mode = eqb mode 3
+taken rules restart mode = eqb mode 3 || (eqb rules later && eqb mode 2)
 taken rules (other (address new)) mode = eqb mode 1
 taken rules (other (addressFor serial new)) mode = eqb mode 1
 taken rules (other (group flag v)) mode = eqb mode 0
