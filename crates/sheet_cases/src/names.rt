@@ -39,7 +39,7 @@ fn in_row(row: &[u8], name: &[u8]) -> Field {
 
 fn head(name: &[u8]) -> Field {
     in_row(
-        b"edition,0,1 regions,1,1 properties,2,1 groups,3,1 stated,4,2 flags,14,1 zero15,15,1 zero30,30,1 zero31,31,1",
+        b"edition,0,1 regions,1,1 properties,2,1 groups,3,1 stated,4,2 flags,14,1 zero15,15,1 rules,30,1 zero31,31,1",
         name,
     )
 }
