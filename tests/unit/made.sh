@@ -9,8 +9,8 @@ bytes_of() { grep -o '0x..' "../../hosts/$1.inc" | cut -c 3-4 | paste -sd '' | t
 sample=$(bytes_of sample_sheet)
 buffer=eeeeeeeeeeeeeeeeeeeeeeeeeeeeeeee
 
-# Each vector of the device, of the sample sheet or the one of edition 2: the sheet with its button and verify bits, the
-# session, the request on a buffer of 20 bytes; and once more in upper case on one of 16.
+# Each vector of the device, of the sample sheet or the one of edition 2: the sheet with its button and verify bits and its
+# rules, the session, the request on a buffer of 20 bytes; and once more in upper case on one of 16.
 device_vectors() { # NAME of the vectors, the sheet
     awk -F '\t' -v sample="$2" -v script="$out/$1-vectors.in" -v expected="$out/$1-vectors.out" '
         function put(text, at, hex) { return substr(text, 1, 2 * at) hex substr(text, 2 * at + length(hex) + 1) }
@@ -19,7 +19,7 @@ device_vectors() { # NAME of the vectors, the sheet
             delete at
             n = split($2, pairs, " ")
             for (i = 1; i <= n; i++) { split(pairs[i], pair, "="); at[pair[1]] = pair[2] }
-            sheet = put(sample, 14, "0" (at["button"] + 2 * at["verify"]))
+            sheet = put(put(sample, 14, "0" (at["button"] + 2 * at["verify"])), 30, "0" (at["rules"] + 0))
             long = "c3c3c3c3c3c3c3c3c3c3c3c3c3c3c3c3c3c3c3c3"
             short = substr(long, 1, 32)
             print "# " $1 > script

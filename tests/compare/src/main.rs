@@ -26,6 +26,7 @@ use std::time::{Instant, SystemTime, UNIX_EPOCH};
 
 use make::Maker;
 use model::faults::Fault;
+use model::sheet;
 use play::{Play, World};
 use tally::Tally;
 
@@ -104,17 +105,19 @@ struct Batch {
     first: usize,
     start: World,
     plays: Vec<Play>,
+    /// The rules of the sheet that each of them finds.
+    rules: Vec<u8>,
     expected: Vec<u8>,
     ends: Vec<usize>,
 }
 
 impl Batch {
     fn make(first: usize, size: usize, maker: &mut Maker, world: &mut World) -> Batch {
-        let start = world.clone();
-        let mut batch =
-            Batch { first, start, plays: Vec::new(), expected: Vec::new(), ends: Vec::new() };
+        let (plays, rules, expected, ends) = (Vec::new(), Vec::new(), Vec::new(), Vec::new());
+        let mut batch = Batch { first, start: world.clone(), plays, rules, expected, ends };
         for _ in 0..size {
             let play = maker.next(world);
+            batch.rules.push(sheet::rules(&world.sheet));
             world.play(&play, &mut batch.expected);
             batch.plays.push(play);
             batch.ends.push(batch.expected.len());
@@ -194,7 +197,7 @@ fn run(
                 return Some(Difference { batches, at: i });
             }
             for (i, play) in batch.plays.iter().enumerate() {
-                tally.count(play, &replies[batch.range(i)]);
+                tally.count(batch.rules[i], play, &replies[batch.range(i)]);
             }
             tally.add_block(play::hash(&replies));
         } else if next.is_none() {

@@ -8,8 +8,8 @@ use crate::play::Play;
 /// Counts of the library's own replies.
 #[derive(Default)]
 pub struct Tally {
-    /// By service, column of the mode, and outcome.
-    requests: Vec<[[u64; 256]; 5]>,
+    /// By rules, service, column of the mode, and outcome.
+    requests: [Vec<[[u64; 256]; 5]>; 2],
     rules: Counts,
     /// By outcome; a kind that reads well is counted in `kinds`.
     reads: Counts,
@@ -54,13 +54,15 @@ impl Counts {
 }
 
 impl Tally {
-    pub fn count(&mut self, play: &Play, reply: &[u8]) {
+    /// A reply to a play on a sheet of these rules.
+    pub fn count(&mut self, rules: u8, play: &Play, reply: &[u8]) {
         match play {
             Play::Sheet(_) | Play::Poke(..) | Play::Check => self.rules.0[reply[0] as usize] += 1,
             Play::Request(ask) => {
-                self.requests.resize(ROWS.len(), [[0; 256]; 5]);
+                let requests = &mut self.requests[rules as usize];
+                requests.resize(ROWS.len(), [[0; 256]; 5]);
                 let (row, column) = (matrix::row(&ask.apdu), matrix::column(ask.mode));
-                self.requests[row][column][reply[0] as usize] += 1;
+                requests[row][column][reply[0] as usize] += 1;
             }
             Play::Property(..) | Play::Region(..) | Play::Group(_) => {
                 self.lookups[(reply[8..16] != [0; 8]) as usize] += 1;
@@ -89,7 +91,7 @@ impl Tally {
             self.rarest().map_or(String::new(), |(n, what)| format!("; rarest: {what}, {n} times"));
         format!(
             "{} requests, {} other calls, {} sheets ({} accepted), {} lookups, {} PDUs read, {} written{rarest}",
-            self.requests.iter().flatten().flatten().sum::<u64>(),
+            self.requests.iter().flatten().flatten().flatten().sum::<u64>(),
             self.others,
             self.rules.sum(),
             self.rules.0[0],
@@ -99,28 +101,34 @@ impl Tally {
         )
     }
 
+    /// Each cell of the matrix: its name, what was seen, and the outcomes that can be.
+    fn cells(&self) -> impl Iterator<Item = (String, &[u64; 256], Vec<usize>)> {
+        let rows = |rules: usize| self.requests[rules].iter().zip(&ROWS).enumerate();
+        (0..2).flat_map(move |rules| {
+            rows(rules).flat_map(move |(row, (seen, (name, _)))| {
+                let cells = matrix::cells(rules as u8, row);
+                seen.iter().zip(cells).enumerate().map(move |(column, (seen, can))| {
+                    let what = format!("{name} in mode {column} under rules {rules}");
+                    (what, seen, (0..16).filter(|k| can >> k & 1 != 0).collect())
+                })
+            })
+        })
+    }
+
     /// The outcome of a request that was seen least of those that can be.
     fn rarest(&self) -> Option<(u64, String)> {
-        let mut all = Vec::new();
-        for (seen, (name, cells)) in self.requests.iter().zip(&ROWS) {
-            for (column, (seen, can)) in seen.iter().zip(cells).enumerate() {
-                for k in (0..16).filter(|k| can >> k & 1 != 0) {
-                    all.push((seen[k], format!("{name} in mode {column}, outcome {k}")));
-                }
-            }
-        }
-        all.into_iter().min()
+        let outcomes = |(what, seen, can): (String, &[u64; 256], Vec<usize>)| {
+            let least = can.into_iter().min_by_key(|&k| seen[k])?;
+            Some((seen[least], format!("{what}, outcome {least}")))
+        };
+        self.cells().filter_map(outcomes).min()
     }
 
     /// What was seen and can't be; with `must`, also what was not and can.
     pub fn complaints(&self, must: bool) -> Vec<String> {
         let mut complaints = Vec::new();
-        for (seen, (name, cells)) in self.requests.iter().zip(&ROWS) {
-            for (column, (seen, can)) in seen.iter().zip(cells).enumerate() {
-                let can: Vec<usize> = (0..16).filter(|k| can >> k & 1 != 0).collect();
-                let what = format!("{name} in mode {column}");
-                Counts(*seen).judge(&what, &can, must, &mut complaints);
-            }
+        for (what, seen, can) in self.cells() {
+            Counts(*seen).judge(&what, &can, must, &mut complaints);
         }
         let rules: Vec<usize> = (0..=9).collect();
         let kinds: Vec<usize> = (0..KINDS.len()).collect();

@@ -2,7 +2,7 @@
 
 use crate::faults::{Fault, Faults};
 use crate::pdu::{self, Pdu};
-use crate::sheet::{self, Memory, ADDRESS, FLAGS, KEYS, MASK, PROGRAMMING, SERIAL, VERIFY};
+use crate::sheet::{self, Memory, ADDRESS, FLAGS, KEYS, LATER, MASK, PROGRAMMING, SERIAL, VERIFY};
 
 #[derive(Clone, Copy, Debug, PartialEq, Eq)]
 pub struct Session {
@@ -71,9 +71,10 @@ pub fn request_with(
     step(Faults::<true>(fault), session, mode, group, apdu, sheet, answer)
 }
 
-/// The modes a code is served in, bit m for mode m; no bit if unknown.
-fn modes(code: u16) -> u8 {
+/// The modes a code is served in by these rules, bit m for mode m; no bit if unknown.
+fn modes(rules: u8, code: u16) -> u8 {
     match code {
+        0x380 if rules == LATER => 0b1100,
         0x000 | 0x040..=0x0BF => 0b0001,
         0x0C0 | 0x100 | 0x3DC | 0x3DE => 0b0010,
         0x300..=0x33F | 0x3D5 | 0x3D7 | 0x3D8 => 0b1100,
@@ -220,7 +221,8 @@ fn step<const ON: bool>(
     if mode == 3 && !session.open {
         return silent(7);
     }
-    let modes = modes(pdu::code(apdu));
+    let rules = if faults.is(Fault::AlwaysLater) { LATER } else { sheet::rules(sheet) };
+    let modes = modes(rules, pdu::code(apdu));
     if modes == 0 {
         return silent(8);
     }
@@ -293,6 +295,10 @@ fn step<const ON: bool>(
 
         Pdu::DescriptorRead { t: 0 } => {
             reply(0, Pdu::DescriptorResponse { t: 0 }, &sheet[MASK..MASK + 2], answer)
+        }
+        Pdu::DescriptorRead { t } if rules == LATER => {
+            let t = if faults.is(Fault::RepeatsType) { t } else { 63 };
+            reply(11, Pdu::DescriptorResponse { t }, &[], answer)
         }
         Pdu::DescriptorRead { .. } => silent(2),
 
@@ -445,7 +451,9 @@ fn step<const ON: bool>(
             }
         }
         Pdu::Restart => {
-            *session = Session::FRESH;
+            if mode == 3 || !faults.is(Fault::RestartLeavesSession) {
+                *session = Session::FRESH;
+            }
             sheet[FLAGS] &= !PROGRAMMING;
             silent(1)
         }

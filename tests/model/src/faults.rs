@@ -31,10 +31,16 @@ pub enum Fault {
     UserFromDeviceMemory,
     /// A read of user memory goes by the four low bits of n alone, as if the others extended the address.
     ExtensionIgnored,
+    /// A connectionless restart leaves the open session as it is.
+    RestartLeavesSession,
+    /// A descriptor type that the device has not is repeated in the answer.
+    RepeatsType,
+    /// The later rules are in force whatever byte 30 says.
+    AlwaysLater,
 }
 
 impl Fault {
-    pub const ALL: [Fault; 14] = [
+    pub const ALL: [Fault; 17] = [
         Fault::StoreFirst,
         Fault::LevelsReversed,
         Fault::WrongKeyKeepsLevel,
@@ -49,6 +55,9 @@ impl Fault {
         Fault::BitWriteWithoutRead,
         Fault::UserFromDeviceMemory,
         Fault::ExtensionIgnored,
+        Fault::RestartLeavesSession,
+        Fault::RepeatsType,
+        Fault::AlwaysLater,
     ];
 }
 

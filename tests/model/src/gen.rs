@@ -5,7 +5,7 @@ use std::collections::BTreeSet;
 use crate::device::Session;
 use crate::matrix;
 use crate::pdu::Pdu;
-use crate::sheet::{self, Memory, HEAD, KEYS, LONGEST, SERIAL, USERS};
+use crate::sheet::{self, Memory, HEAD, KEYS, LATER, LONGEST, RULES, SERIAL, USERS};
 
 /// splitmix64
 #[derive(Clone, Debug)]
@@ -178,8 +178,8 @@ fn firsts(entries: &[u8]) -> Vec<usize> {
     entries.chunks(8).map(|e| u16::from_be_bytes([e[0], e[1]]) as usize).collect()
 }
 
-/// An accepted sheet of either edition; in the second, user memory often has
-/// addresses that the device's memory has too.
+/// An accepted sheet of either edition; in the second, of either rules, and user
+/// memory often has addresses that the device's memory has too.
 pub fn sheet(rng: &mut Rng) -> Vec<u8> {
     let edition = rng.pick(&[1, 2, 2]);
     let most_users = if edition == 2 { 16 } else { 0 };
@@ -228,7 +228,7 @@ pub fn sheet(rng: &mut Rng) -> Vec<u8> {
     s.push(u as u8);
     s.extend(rng.array::<2>());
     s.extend(keys(rng).as_flattened());
-    s.extend([0, 0]);
+    s.extend([if edition == 2 { rng.pick(&[0, LATER]) } else { 0 }, 0]);
 
     let mut body = contents;
     let of_device = regions(rng, &device, body, &[]);
@@ -278,7 +278,7 @@ pub fn damage(rng: &mut Rng, sheet: &mut [u8]) {
     let contents = if sheet.len() < HEAD { HEAD } else { sheet::contents(sheet) };
     let at = match rng.below(10) {
         0 => rng.below(sheet.len()),
-        1 => rng.pick(&[0, USERS]).min(sheet.len() - 1),
+        1 => rng.pick(&[0, USERS, RULES]).min(sheet.len() - 1),
         2..=4 => rng.below(HEAD.min(sheet.len())),
         _ => rng.below(contents.min(sheet.len())),
     };
@@ -317,7 +317,7 @@ pub fn any_sheet(rng: &mut Rng) -> Vec<u8> {
             }
         }
         18 => {
-            s[rng.pick(&[1, 2, 3, USERS])] = rng.byte();
+            s[rng.pick(&[1, 2, 3, USERS, RULES])] = rng.byte();
         }
         _ => {
             let len = rng.within(0, 200);
@@ -481,10 +481,11 @@ fn serial(rng: &mut Rng, sheet: &[u8], good: bool) -> [u8; 6] {
 /// Any ten-bit code the device does not serve, often a tool's answer.
 fn unknown_code(rng: &mut Rng) -> u16 {
     loop {
-        let code = match rng.below(5) {
+        let code = match rng.below(6) {
             0 => rng.pick(&[0x140, 0x3D2, 0x3D4, 0x3D6, 0x3D9, 0x3DD, 0x2C1]),
             1 => rng.pick(&[0x240, 0x340]) + rng.below(16) as u16,
-            2 => rng.pick(&[0x001, 0x03F, 0x0C1, 0x101, 0x210, 0x290, 0x2C3, 0x381, 0x3DF, 0x3FF]),
+            2 => rng.pick(&[0x001, 0x03F, 0x0C1, 0x101, 0x210, 0x290, 0x2C3, 0x3DF, 0x3FF]),
+            3 => 0x381 + rng.below(63) as u16, // a restart with bits that are the later standard's
             _ => rng.word() & 0x3FF,
         };
         if matrix::row(&code.to_be_bytes()) == matrix::UNKNOWN {
@@ -533,7 +534,8 @@ fn apdu(rng: &mut Rng, sheet: &[u8], good: bool, row: usize) -> (Vec<u8>, u16) {
             a.extend(rng.array::<6>());
         }
         7 => {
-            let t = if rng.chance(50) { 0 } else { rng.below(64) };
+            let t = rng.below(64);
+            let t = rng.pick(&[0, 0, 1, 63, t, t]);
             code(&mut a, 0x300 + t);
         }
         8 | 9 => {
@@ -660,7 +662,7 @@ pub fn ask(rng: &mut Rng, sheet: &[u8]) -> Ask {
         _ => match row {
             0..=2 => 0,
             3..=6 => 1,
-            7..=10 => 2 + rng.below(2) as u8,
+            7..=10 | 16 => 2 + rng.below(2) as u8,
             11..=18 => 3,
             _ => rng.below(4) as u8,
         },

@@ -1,20 +1,23 @@
-//! Which outcomes a request can end in, by service and mode.
+//! Which outcomes a request can end in, by rules, service and mode.
 //!
 //! An APDU belongs to a row by its length first: one that is not 2 to 16
 //! bytes long is "malformed length". Any other belongs to a service by its
 //! ten-bit code alone, whatever its length, mode or fields; a code the device
 //! does not serve, a tool's answer included, is "unknown code".
 //!
-//! A cell holds the outcomes that some sheet, session, group address and
+//! A cell holds the outcomes that some sheet of these rules, session, group address and
 //! answer buffer can bring about. Short buffers (3) and bad sheets (4) come
 //! first and so stand in every cell. A bad length (5) hides the mode; a mode
 //! above 3 (6) hides the session and the service; a closed session (7) is
-//! seen in mode 3 alone. 13 never comes from a request.
+//! seen in mode 3 alone. 13 never comes from a request. A sheet that is not
+//! accepted counts by `sheet::rules` too.
+
+use crate::sheet::LATER;
 
 /// Bit k stands for outcome k.
 pub type Outcomes = u16;
 
-/// A row's name and its cells for modes 0, 1, 2, 3 and any above.
+/// A row's name and its cells under rules 0 for modes 0, 1, 2, 3 and any above.
 pub type Row = (&'static str, [Outcomes; 5]);
 
 pub const UNKNOWN: usize = 19;
@@ -42,6 +45,7 @@ const WRONG_3: Outcomes = set(&[3, 4, 7, 9]);
 const TELLS: Outcomes = set(&[3, 4, 10, 2, 0]); // answers, or is not for us
 const TAKES: Outcomes = set(&[3, 4, 10, 2, 1]); // stores, or is not for us
 const JUDGED: Outcomes = set(&[3, 4, 10, 11, 0]); // answers either way
+const SILENT: Outcomes = set(&[3, 4, 10, 1]); // cannot be denied and has no answer
 
 // Cells of mode 3 that serve.
 const TELLS_3: Outcomes = set(&[3, 4, 7, 10, 2, 0]);
@@ -75,6 +79,16 @@ pub const ROWS: [Row; 21] = [
     ("unknown code",       [UNKN,   UNKN,   UNKN,   UNKN_3,     NOMODE]),
     ("malformed length",   [BADLEN, BADLEN, BADLEN, BADLEN,     BADLEN]),
 ];
+
+/// The rows that the later rules change, by number: `descriptor_read` and `restart`.
+const CHANGED: [(usize, [Outcomes; 5]); 2] =
+    [(7, [WRONG, WRONG, JUDGED, JUDGED_3, NOMODE]), (16, [WRONG, WRONG, SILENT, SILENT_3, NOMODE])];
+
+/// The cells of a row under the rules of this number.
+pub fn cells(rules: u8, row: usize) -> [Outcomes; 5] {
+    let changed = CHANGED.iter().find(|&&(k, _)| k == row && rules == LATER);
+    changed.map_or(ROWS[row].1, |&(_, cells)| cells)
+}
 
 /// The row an APDU belongs to.
 pub fn row(apdu: &[u8]) -> usize {
@@ -111,6 +125,6 @@ pub fn column(mode: u8) -> usize {
 }
 
 /// The outcomes that can follow from this APDU's service in this mode.
-pub fn can(apdu: &[u8], mode: u8) -> Outcomes {
-    ROWS[row(apdu)].1[column(mode)]
+pub fn can(rules: u8, apdu: &[u8], mode: u8) -> Outcomes {
+    cells(rules, row(apdu))[column(mode)]
 }

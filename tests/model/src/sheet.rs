@@ -8,6 +8,9 @@ pub const SERIAL: usize = 6;
 pub const MASK: usize = 12;
 pub const ADDRESS: usize = 16;
 pub const KEYS: usize = 18;
+pub const RULES: usize = 30;
+/// The number of the later rules, which edition 2 alone may name.
+pub const LATER: u8 = 1;
 pub const HEAD: usize = 32;
 pub const LONGEST: usize = 16_384;
 
@@ -130,8 +133,10 @@ pub fn check(sheet: &[u8]) -> u8 {
     if word(sheet[4], sheet[5]) as usize != len || contents(sheet) > len {
         return 4;
     }
+    let latest = if edition == 2 { LATER } else { 0 };
     if edition == 1 && sheet[USERS] != 0
-        || sheet[30] | sheet[31] | (sheet[FLAGS] & !(PROGRAMMING | VERIFY)) != 0
+        || sheet[RULES] > latest
+        || sheet[31] | (sheet[FLAGS] & !(PROGRAMMING | VERIFY)) != 0
     {
         return 5;
     }
@@ -187,6 +192,12 @@ pub fn check(sheet: &[u8]) -> u8 {
     } else {
         9
     }
+}
+
+/// The number of the rules that a sheet names, 0 if it is none that can: 0 as
+/// in 01, 1 the later ones.
+pub fn rules(sheet: &[u8]) -> u8 {
+    u8::from(sheet.first() == Some(&2) && sheet.get(RULES) == Some(&LATER))
 }
 
 /// A region entry; `body` is where its bytes start in the sheet.

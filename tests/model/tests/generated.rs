@@ -6,8 +6,8 @@ use model::device::{button, connect_with, disconnect, request_with, Reply, Sessi
 use model::faults::Fault;
 use model::gen::{self, Event, Rng};
 use model::matrix::{self, ROWS};
-use model::pdu;
-use model::sheet::{self, Memory, USERS};
+use model::pdu::{self, Pdu};
+use model::sheet::{self, Memory, LATER, RULES, USERS};
 
 #[test]
 fn sheets_are_accepted_and_of_many_sizes() {
@@ -15,12 +15,14 @@ fn sheets_are_accepted_and_of_many_sizes() {
     let mut lengths = BTreeSet::new();
     let mut seen = [[false; 65]; 4];
     let (mut touching, mut code_0, mut verify) = ([0; 2], 0, [0; 2]);
-    let (mut editions, mut shared) = ([0; 3], 0);
+    let (mut editions, mut rules, mut shared) = ([0; 3], [0; 2], 0);
     for _ in 0..4000 {
         let s = gen::sheet(&mut rng);
         assert_eq!(sheet::check(&s), 0);
         lengths.insert(s.len());
         editions[s[0] as usize] += 1;
+        rules[s[RULES] as usize] += usize::from(s[0] == 2);
+        assert_eq!(sheet::rules(&s), s[RULES]);
         for (k, at) in [1, 2, 3, USERS].into_iter().enumerate() {
             seen[k][s[at] as usize] = true;
         }
@@ -43,6 +45,7 @@ fn sheets_are_accepted_and_of_many_sizes() {
     assert!(seen[1..3].iter().flatten().all(|&b| b));
     assert!(touching.iter().all(|&n| n > 1000) && code_0 > 1000);
     assert!(verify[0] > 500 && verify[1] > 500 && editions[1] > 1000 && editions[2] > 1000);
+    assert!(rules.iter().all(|&n| n > 1000), "{rules:?}");
     assert!(shared > 500, "{shared}");
 }
 
@@ -105,8 +108,8 @@ impl State {
 #[test]
 fn every_outcome_that_can_occur_does_and_no_other() {
     let mut rng = Rng::new(3);
-    let mut seen = [[0u16; 5]; ROWS.len()];
-    for _ in 0..8000 {
+    let mut seen = [[[0u16; 5]; ROWS.len()]; 2];
+    for _ in 0..16_000 {
         let mut state = State::new(&mut rng);
         for _ in 0..100 {
             let event = gen::event(&mut rng, &state.sheet);
@@ -117,8 +120,10 @@ fn every_outcome_that_can_occur_does_and_no_other() {
             };
             let Reply { outcome, count } = state.reply;
             let (row, column) = (matrix::row(&ask.apdu), matrix::column(ask.mode));
-            assert!(matrix::can(&ask.apdu, ask.mode) >> outcome & 1 == 1, "{event:?} {outcome}");
-            seen[row][column] |= 1 << outcome;
+            let rules = sheet::rules(&before.sheet);
+            let can = matrix::can(rules, &ask.apdu, ask.mode);
+            assert!(can >> outcome & 1 == 1, "{event:?} {outcome}");
+            seen[rules as usize][row][column] |= 1 << outcome;
 
             let count = count as usize;
             assert!(count <= 16 && state.buffer[count..] == ask.buffer[count..], "{event:?}");
@@ -135,11 +140,47 @@ fn every_outcome_that_can_occur_does_and_no_other() {
             }
         }
     }
-    for ((name, cells), seen) in ROWS.iter().zip(&seen) {
-        for (column, (can, did)) in cells.iter().zip(seen).enumerate() {
-            assert_eq!(can, did, "{name}, column {column}: {can:#b} {did:#b}");
+    for (rules, seen) in seen.iter().enumerate() {
+        for (row, seen) in seen.iter().enumerate() {
+            let (name, can) = (ROWS[row].0, matrix::cells(rules as u8, row));
+            assert_eq!(can, *seen, "{name}, rules {rules}: {can:?} {seen:?}");
         }
     }
+}
+
+/// What the rules differ in: the code of Restart in mode 2, whatever the length,
+/// since 9 comes before 10, and a descriptor type other than 0. On all else a
+/// sheet does the same under both.
+#[test]
+fn the_rules_differ_in_two_services() {
+    let mut rng = Rng::new(7);
+    let mut differed = [0; 2];
+    for _ in 0..3000 {
+        let mut first = State::new(&mut rng);
+        (first.sheet[0], first.sheet[RULES]) = (2, 0);
+        for _ in 0..40 {
+            let event = gen::event(&mut rng, &first.sheet);
+            let mut later = first.clone();
+            later.sheet[RULES] = LATER;
+            first.step(Fault::None, &event);
+            later.step(Fault::None, &event);
+            let apart = match &event {
+                Event::Request(ask) if ask.mode == 2 && matrix::row(&ask.apdu) == 16 => Some(0),
+                Event::Request(ask) => match pdu::read(&ask.apdu) {
+                    Ok((Pdu::DescriptorRead { t: 1.. }, _)) => Some(1),
+                    _ => None,
+                },
+                _ => None,
+            };
+            assert_eq!((first.sheet[RULES], later.sheet[RULES]), (0, LATER));
+            later.sheet[RULES] = 0;
+            match apart {
+                Some(which) => differed[which] += usize::from(first != later),
+                None => assert_eq!(first, later, "{event:?}"),
+            }
+        }
+    }
+    assert!(differed.iter().all(|&n| n > 100), "{differed:?}");
 }
 
 #[test]

@@ -66,10 +66,14 @@ fn expect(cases: &[(&str, &str, &str, u8)]) {
     }
 }
 
-/// A number that `at` names, such as that of "level" in "mode=3 level=1".
-fn named(at: &str, name: &str) -> u16 {
+/// A number that `at` may name, such as that of "level" in "mode=3 level=1".
+fn found(at: &str, name: &str) -> Option<u16> {
     let value = at.split(' ').find_map(|pair| pair.strip_prefix(name)?.strip_prefix('='));
-    value.unwrap_or_else(|| panic!("{at}: no {name}")).parse().unwrap()
+    value.map(|value| value.parse().unwrap())
+}
+
+fn named(at: &str, name: &str) -> u16 {
+    found(at, name).unwrap_or_else(|| panic!("{at}: no {name}"))
 }
 
 /// Plays every row of a file that the tests share, each from the sheet, and counts the marked cases.
@@ -83,6 +87,7 @@ fn play_rows<const N: usize>(rows: &str, from: [u8; N]) -> usize {
         marked += usize::from(source.starts_with("01 marked case"));
         let mut sheet = from;
         sheet[14] = (named(at, "button") + 2 * named(at, "verify")) as u8;
+        sheet[30] = found(at, "rules").unwrap_or(0) as u8;
         let mut session = Session { open: named(at, "open") == 1, level: named(at, "level") as u8 };
         let (mut after, mut stored) = (session, sheet);
         for pair in change.split(' ').filter(|&pair| pair != "-") {
@@ -403,7 +408,7 @@ fn reading_refused() {
     let unknown = [
         "03DF", "0180", "01C0", "02C4", "02C5", "02C6", "03E0", "03E1", "03E2", "03E3", "0001",
         "003F", "00C1", "0101", "0141", "02100100", "0250", "0290", "03810100", "03A1000000",
-        "02BF", "02C3", "02C3040200", "02C7", "02FF",
+        "02BF", "02C3", "02C3040200", "02C7", "02FF", "0382", "03BF",
     ];
     for apdu in unknown {
         assert_eq!(pdu::read(&hex(apdu)), Err(8), "{apdu}");
@@ -502,12 +507,13 @@ fn rules_of_edition_2() {
     assert_eq!(sheet::check(&PUMP[..100]), 4);
     // changes of position and byte, then the rule
     #[rustfmt::skip]
-    let cases: [(&[(usize, u8)], u8); 32] = [
+    let cases: [(&[(usize, u8)], u8); 38] = [
         (&[(0, 0)], 2), (&[(0, 3)], 2), (&[(0, 255)], 2),
         (&[(15, 17)], 3), (&[(15, 255)], 3), (&[(1, 17)], 3), (&[(15, 17), (5, 0)], 3),
         (&[(15, 16)], 4), (&[(15, 6)], 4), (&[(15, 17), (0, 1)], 5), (&[(0, 1)], 5),
         (&[(15, 5)], 6), (&[(15, 3)], 6), (&[(15, 1)], 9), (&[(15, 0)], 9),
-        (&[(30, 1)], 5), (&[(14, 4)], 5), (&[(15, 16), (30, 1)], 4),
+        (&[(30, 1)], 0), (&[(30, 2)], 5), (&[(30, 255)], 5), (&[(31, 1)], 5), (&[(30, 1), (31, 1)], 5),
+        (&[(14, 4)], 5), (&[(15, 16), (30, 2)], 4), (&[(30, 1), (0, 1)], 5), (&[(30, 2), (63, 0)], 5),
         (&[(63, 0)], 6), (&[(66, 0x41)], 6), (&[(66, 0x34)], 6), (&[(67, 1)], 6),
         (&[(69, 3)], 6), (&[(68, 0)], 6), (&[(68, 0xFF), (69, 0xF5)], 6),
         (&[(68, 0xFF), (69, 0xF4)], 0), (&[(67, 1), (41, 0)], 6), (&[(75, 1), (55, 8)], 6),
@@ -526,7 +532,7 @@ fn rules_of_edition_2() {
         sheet[60..62].copy_from_slice(&first);
         assert_eq!(sheet::check(&sheet), 0);
     }
-    // Without user regions the two editions have the same rules, but for their number.
+    // Without user regions the two editions have the same rules, but for their number and byte 30.
     let mut rng = Rng::new(6);
     for _ in 0..20_000 {
         let mut sheet = any_sheet(&mut rng);
@@ -534,11 +540,12 @@ fn rules_of_edition_2() {
             continue;
         }
         sheet[15] = 0;
-        let rules = [1, 2].map(|edition| {
+        let [first, second] = [1, 2].map(|edition| {
             sheet[0] = edition;
             sheet::check(&sheet)
         });
-        assert_eq!(rules[0], rules[1]);
+        let later = sheet[30] == 1 && (second == 0 || second > 5);
+        assert_eq!(first, if later { 5 } else { second });
     }
 }
 
