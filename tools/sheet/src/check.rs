@@ -4,7 +4,7 @@ use std::fmt;
 
 use crate::layout::{
     body_at, body_length, contents, count, entries, group_address, memory_address, name, word,
-    Kind, HEAD, KINDS, LONGEST,
+    Kind, HEAD, KINDS, LATER, LONGEST,
 };
 
 /// The first rule that a sheet breaks.
@@ -58,9 +58,10 @@ fn head(s: &[u8]) -> Result<(), Broken> {
         format!("head and entries take {contents} bytes, the sheet has {}", s.len())
     })?;
     for at in [15, 30, 31] {
-        let zero = at != 15 || s[0] == 1; // edition 2 has a number there
+        let zero = at == 31 || s[0] == 1; // edition 2 has numbers in the first two
         whole(5, zero && s[at] != 0, || format!("byte {at} of the head is {}, not 0", s[at]))?;
     }
+    whole(5, s[30] > LATER, || format!("rules {}, not 0 or {LATER}", s[30]))?;
     whole(5, s[14] > 3, || format!("flags {}, of which only 1 and 2 may be set", s[14]))
 }
 

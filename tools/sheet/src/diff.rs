@@ -44,6 +44,7 @@ impl Lines {
 
 fn head(out: &mut Lines, a: &Sheet, b: &Sheet) {
     out.compare("edition", a.edition, b.edition);
+    out.compare("rules", a.rules, b.rules);
     out.compare("serial number", hex(&a.serial), hex(&b.serial));
     out.compare("mask version", hex(&a.mask), hex(&b.mask));
     out.compare("programming mode", switch(a.programming), switch(b.programming));

@@ -4,6 +4,8 @@ use crate::check::{check, Broken};
 
 pub const HEAD: usize = 32;
 pub const LONGEST: usize = 16_384;
+/// The number of the later rules, the highest there is.
+pub const LATER: u8 = 1;
 
 /// What an entry describes; the kinds in the order in which their entries and bodies stand.
 #[derive(Clone, Copy, Debug, PartialEq, Eq)]
@@ -114,6 +116,8 @@ pub fn hex(bytes: &[u8]) -> String {
 #[derive(Clone, Debug, PartialEq, Eq)]
 pub struct Sheet {
     pub edition: u8,
+    /// The number of the rules; edition 1 has 0 alone.
+    pub rules: u8,
     pub serial: [u8; 6],
     pub mask: [u8; 2],
     pub programming: bool,
@@ -199,6 +203,7 @@ impl Sheet {
         check(s)?;
         Ok(Sheet {
             edition: s[0],
+            rules: s[30],
             serial: array(s, 6),
             mask: array(s, 12),
             programming: s[14] & 1 != 0,
@@ -270,7 +275,7 @@ impl Sheet {
         head.extend([u8::from(self.programming) + 2 * u8::from(self.verify), users]);
         head.extend(self.address.to_be_bytes());
         head.extend(self.keys.as_flattened());
-        head.extend([0, 0]);
+        head.extend([self.rules, 0]);
         head
     }
 }

@@ -3,7 +3,7 @@
 use std::fmt;
 
 use crate::check::{check, Broken};
-use crate::layout::{name, Group, Kind, Levels, Property, Region, Sheet, KINDS};
+use crate::layout::{name, Group, Kind, Levels, Property, Region, Sheet, KINDS, LATER};
 use crate::show::{GROUP_FLAGS, HIDDEN};
 
 /// What is wrong with a text, and in which line, from 1.
@@ -197,6 +197,8 @@ impl<'a> Fields<'a> {
 #[derive(Default)]
 struct Draft {
     edition: Option<u8>,
+    /// The rules, 0 if they are not given, and their line.
+    rules: Option<(u8, usize)>,
     serial: Option<[u8; 6]>,
     mask: Option<[u8; 2]>,
     programming: Option<bool>,
@@ -220,6 +222,10 @@ impl Draft {
             "edition" => {
                 let edition = number("edition", only("edition", rest)?, 1, 2)?;
                 once("edition", &mut self.edition, edition as u8)
+            }
+            "rules" => {
+                let rules = byte("rules", only("rules", rest)?, LATER)?;
+                once("rules", &mut self.rules, (rules, line))
             }
             "serial" => {
                 once("serial", &mut self.serial, hex_bytes("serial", only("serial", rest)?)?)
@@ -322,13 +328,16 @@ impl Draft {
     /// The bytes, once all lines are read.
     fn whole(mut self, last: usize) -> Result<Vec<u8>, Fault> {
         self.fill()?;
-        let lines = self.lines.clone();
+        let (lines, rules) = (self.lines.clone(), self.rules);
         let sheet = self
             .sheet()
             .map_err(|field| Fault { line: last, what: format!("{field} is missing") })?;
         if let (1, Some(&line)) = (sheet.edition, lines[Kind::User as usize].first()) {
             let what = "a sheet of edition 1 has no user regions".to_string();
             return Err(Fault { line, what });
+        }
+        if let (1, Some((1.., line))) = (sheet.edition, rules) {
+            return Err(Fault { line, what: "a sheet of edition 1 has rules 0".to_string() });
         }
         let numbers = sheet.numbers();
         for kind in KINDS {
@@ -371,6 +380,7 @@ impl Draft {
     fn sheet(self) -> Result<Sheet, &'static str> {
         Ok(Sheet {
             edition: self.edition.ok_or("edition")?,
+            rules: self.rules.map_or(0, |(rules, _)| rules),
             serial: self.serial.ok_or("serial")?,
             mask: self.mask.ok_or("mask")?,
             programming: self.programming.ok_or("programming")?,

@@ -42,6 +42,9 @@ pub fn switch(on: bool) -> &'static str {
 
 fn head(sheet: &Sheet, keys: bool) -> String {
     let mut out = format!("edition {}\n", sheet.edition);
+    if sheet.edition == 2 {
+        out += &format!("rules {}\n", sheet.rules);
+    }
     out += &format!("serial {}\n", hex(&sheet.serial));
     out += &format!("mask {}\n", hex(&sheet.mask));
     out += &format!("programming {}\n", switch(sheet.programming));

@@ -26,6 +26,7 @@ group 1/0/1 code 1 read write
 ";
 
 const PUMP_TEXT: &str = "edition 2
+rules 0
 serial 00c501020305
 mask 07b0
 programming off
@@ -57,6 +58,10 @@ fn by_hand() {
     assert_eq!(make::bytes(TEXT).unwrap(), SAMPLE);
     assert_eq!(show::text(&Sheet::read(&PUMP).unwrap(), true), PUMP_TEXT);
     assert_eq!(make::bytes(PUMP_TEXT).unwrap(), PUMP);
+    let (mut later, text) = (PUMP, PUMP_TEXT.replace("rules 0", "rules 1"));
+    later[30] = 1;
+    assert_eq!(show::text(&Sheet::read(&later).unwrap(), true), text);
+    assert_eq!(make::bytes(&text).unwrap(), later);
 }
 
 /// Other ways to write the same.
@@ -67,6 +72,8 @@ fn free_forms() {
         group 1/0/1 write read code 1\n00\nregion 256 w2 r3\na0 A1\na2 a3
         property 1/33h r3 w1 count 1 maximum 2 writable size 2 type 04h\n3e8h 0";
     assert_eq!(make::bytes(other).unwrap(), SAMPLE);
+    assert_eq!(make::bytes(&TEXT.replace("edition 1", "rules 0\nedition 1")).unwrap(), SAMPLE);
+    assert_eq!(make::bytes(&PUMP_TEXT.replace("rules 0\n", "")).unwrap(), PUMP);
 }
 
 fn told(changes: &[(usize, u8)]) -> String {
@@ -129,7 +136,10 @@ fn rules_of_edition_2() {
     assert_eq!(told(&[(15, 17)]), "S3: 17 user regions, more than 16");
     assert_eq!(told(&[(15, 16)]), "S4: head and entries take 188 bytes, the sheet has 101");
     assert_eq!(told(&[(0, 1)]), "S5: byte 15 of the head is 2, not 0");
-    assert_eq!(told(&[(30, 1)]), "S5: byte 30 of the head is 1, not 0");
+    assert_eq!(told(&[(30, 2)]), "S5: rules 2, not 0 or 1");
+    assert_eq!(told(&[(30, 255), (63, 0)]), "S5: rules 255, not 0 or 1");
+    assert_eq!(told(&[(30, 1), (31, 1)]), "S5: byte 31 of the head is 1, not 0");
+    assert_eq!(told(&[(15, 0), (30, 1), (0, 1)]), "S5: byte 30 of the head is 1, not 0");
     assert_eq!(told(&[(63, 0)]), "S6: user region 0100h, length 0");
     assert_eq!(told(&[(66, 0x51)]), "S6: user region 0100h, read level 5 above 3");
     assert_eq!(
@@ -175,6 +185,7 @@ fn faults() {
         ("1.1.5", "1.1", "line 6: address has not 3 parts with . between them: \"1.1\""),
         ("key 2", "key 3", "line 9: level of the key is \"3\", not 0 to 2"),
         ("key 2 ffffffff\n", "", "line 17: key 2 is missing"),
+        ("mask", "rules 1\nmask", "line 3: a sheet of edition 1 has rules 0"),
         ("key 2", "keys 2", "line 9: \"keys\" is no name of a field, and no entry has begun"),
         (
             "0100h r3",
@@ -207,12 +218,15 @@ fn faults() {
         assert_eq!(fault.to_string(), what);
     }
     let cases = [
-        ("edition 2", "edition 1", "line 20: a sheet of edition 1 has no user regions"),
-        ("    b0 b1 b2 b3\n", "", "line 20: S6: user region 0100h, length 0"),
-        ("r2 w0", "r2", "line 23: user 0104h, write level is missing: w0 to w3"),
-        ("b1 b2", "b1 2", "line 21: byte 2 of the user region is not 2 hex digits: \"2\""),
-        ("user 0104h", "user x", "line 23: user x, first address is no number: \"x\""),
-        ("user 0104h", "user", "line 23: user r2, first address is no number: \"r2\""),
+        ("edition 2", "edition 1", "line 21: a sheet of edition 1 has no user regions"),
+        ("    b0 b1 b2 b3\n", "", "line 21: S6: user region 0100h, length 0"),
+        ("r2 w0", "r2", "line 24: user 0104h, write level is missing: w0 to w3"),
+        ("b1 b2", "b1 2", "line 22: byte 2 of the user region is not 2 hex digits: \"2\""),
+        ("user 0104h", "user x", "line 24: user x, first address is no number: \"x\""),
+        ("user 0104h", "user", "line 24: user r2, first address is no number: \"r2\""),
+        ("rules 0", "rules 2", "line 2: rules is \"2\", not 0 to 1"),
+        ("rules 0", "rules later", "line 2: rules is no number: \"later\""),
+        ("rules 0", "rules 1\nrules 1", "line 3: rules is given twice"),
     ];
     for (from, to, what) in cases {
         assert!(PUMP_TEXT.contains(from));
@@ -271,6 +285,7 @@ fn differences() {
         ("c9 ca cb", "c9 ca", "user region 0104h length: 12 → 11"),
         ("r2 w0", "r3 w0", "user region 0104h read level: 2 → 3"),
         ("cb\n", "cb\nuser 0200h r3 w3\n00\n", "user region 0200h is new"),
+        ("rules 0", "rules 1", "rules: 0 → 1"),
     ];
     let old = Sheet::read(&PUMP).unwrap();
     for (from, to, line) in cases {

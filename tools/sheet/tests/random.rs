@@ -36,7 +36,7 @@ fn hidden_keys() {
         let fault = make::bytes(&text).unwrap_err();
         assert_eq!(
             (fault.line, fault.what.as_str()),
-            (7, "key 0 is hidden: show the sheet with --keys")
+            (6 + values.edition as usize, "key 0 is hidden: show the sheet with --keys")
         );
     }
 }
