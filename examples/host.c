@@ -120,7 +120,7 @@ static void serve(host *h, int partner)
         size_t count = handle(h, packet, (size_t)length, answer + 1);
         if (send(partner, answer, 1 + count, 0) < 0)
             break;
-        if (packet[0] == KELINDAP_CONNECTED && was_open && !h->session.open)
+        if (packet[0] != BUS_DISCONNECT && was_open && !h->session.open)
             break;
     }
     kelindap_disconnect(&h->session);

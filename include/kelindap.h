@@ -20,8 +20,11 @@
  *  - the mode says how the frame came. The library sees no address of the frame but the group address: in modes 2 and 3 the
  *    host hands over only what is sent to this device, in mode 3 only what comes from the partner of the open connection;
  *  - when a connection opens or ends, transport's time limits included, the host calls connect or disconnect;
- *  - a Restart shows only as outcome 1 in mode 3 with the session closed afterwards: the host then drops the connection, and
- *    restarts what it wants;
+ *  - a Restart shows as outcome 1 in mode 2 or 3 with the session closed afterwards, and nothing else does: in mode 2 no other
+ *    request gives 1, in mode 3 no other that gives 1 closes the session. If the session was open before the call, the host
+ *    then drops the connection, also where it was somebody else who sent the Restart; it needs no disconnect, the session is
+ *    closed at level 3 already. After that it restarts what it wants. In mode 2 a Restart is taken only if the sheet names
+ *    rules 1, and then from anybody who reaches this device: such a sheet lets every sender end the open connection;
  *  - calls on one sheet come one after the other, never from two threads at once;
  *  - saving. The sheet is all that has to survive a power cut; a session does not survive one: it begins fresh. A call changes
  *    the sheet only if it gives 0 or 1, and then perhaps not: a host finds out by comparing the sheet with the copy that it
@@ -34,6 +37,9 @@
  *  - programming mode is a bit of the sheet, and so survives in a saved one: a host that does not want to start in it calls
  *    kelindap_button with false first, and the button's lamp follows bit 0 of byte 14;
  *  - the keys stand in the sheet in clear: whoever reads the saved copy, a dump or a backup has them.
+ *
+ * Byte 30 of the sheet names the rules. They differ in two services, Restart and the read of a device descriptor, and no call
+ * changes the byte; docs/RULES.md tells of both.
  *
  * A warning: no key is special. A tool that "deletes" a key by writing FFFFFFFFh does not close that level but opens it: whoever
  * then sends FFFFFFFFh by Authorize gets it. With key 0 that is level 0, which may write all that can be written.
@@ -52,7 +58,8 @@ extern "C" {
  *  - a group value: the sheet has no entry for the address, or the entry's flag for this service is off;
  *  - an individual address is read or written, and the device is not in programming mode;
  *  - the same by serial number, and the number is not this device's;
- *  - a device descriptor of a type other than 0 is read.
+ *  - a device descriptor of a type other than 0 is read, and the sheet names rules 0. Under rules 1 this is denied: outcome 11
+ *    and the answer 037Fh, whatever the type.
  */
 
 /* The modes of a request. */
@@ -110,7 +117,8 @@ kelindap_reply kelindap_request(kelindap_session *session, uint8_t mode, uint16_
  *  2  if its edition is not 1 or 2;
  *  3  if it has more than 16 regions, 64 properties, 64 group objects or, in edition 2, 16 user regions;
  *  4  if it states another length than it has, or has no room for its entries;
- *  5  if a bit of the head that must be 0 is not;
+ *  5  if a bit of the head that must be 0 is not, or byte 30 names rules that the edition has not: edition 2 has 0 and 1,
+ *     edition 1 has 0;
  *  6  by a region or user region: no bytes, past the last address, not above the one before of the same memory, a level
  *     above 3, zero byte;
  *  7  by a property: id 0, not above the one before, bit 6 of the type, size, maximum, count, a level above 3, zero byte;

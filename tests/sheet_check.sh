@@ -69,6 +69,12 @@ hex "${pump:0:30}11${pump:32}" > piece
 sheet '17 user regions' piece S3
 hex "01${pump:2}" > piece
 sheet 'user regions in edition 1' piece S5
+hex "${pump:0:60}01${pump:62}" > piece
+sheet 'edition 2, rules 1' piece OK
+hex "${pump:0:60}02${pump:62}" > piece
+sheet 'edition 2, rules 2' piece S5
+hex "${sample:0:60}01${sample:62}" > piece
+sheet 'edition 1, rules 1' piece S5
 sheet 'no bytes' empty S1
 sheet '/dev/null' /dev/null S1
 head -c 1 sample > piece

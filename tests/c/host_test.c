@@ -137,6 +137,16 @@ static const uint8_t pump[101] = {
 };
 static const run pump_sheet = { pump, sizeof pump };
 
+/* The same under the later rules. */
+static uint8_t later[sizeof pump];
+static const run later_sheet = { later, sizeof later };
+
+static void build_later_sheet(void)
+{
+    memcpy(later, pump, sizeof later);
+    later[30] = 1;
+}
+
 static void put_word(uint8_t *at, size_t value)
 {
     at[0] = (uint8_t)(value >> 8);
@@ -370,10 +380,11 @@ static const struct service {
 };
 enum { SERVICES = sizeof services / sizeof services[0] };
 
-/* The sample sheet, but for user memory, which it has not. */
-static run sheet_for(size_t service)
+/* The sample sheet, but for user memory, which it has not; and the one of the later rules, which all are tried on. */
+enum { RULES = 2 };
+static run sheet_for(size_t service, int rules)
 {
-    return strncmp(services[service].apdu, "02C", 3) == 0 ? pump_sheet : sample_sheet;
+    return rules == 1 ? later_sheet : strncmp(services[service].apdu, "02C", 3) == 0 ? pump_sheet : sample_sheet;
 }
 
 static void test_lengths(void)
@@ -381,9 +392,11 @@ static void test_lengths(void)
     for (size_t i = 0; i < SERVICES; i++) {
         uint8_t apdu[20] = { 0 };
         unhex(services[i].apdu, apdu);
-        for (size_t length = 0; length <= 20; length++)
-            for (size_t room = 0; room <= 20; room++)
-                try_everywhere(&(event){ { true, (uint8_t)(i % 4) }, services[i].mode, 0x801, { apdu, length }, sheet_for(i), room });
+        for (int rules = 0; rules < RULES; rules++)
+            for (size_t length = 0; length <= 20; length++)
+                for (size_t room = 0; room <= 20; room++)
+                    try_everywhere(&(event){ { true, (uint8_t)(i % 4) }, services[i].mode, 0x801, { apdu, length },
+                                             sheet_for(i, rules), room });
     }
 }
 
@@ -392,10 +405,75 @@ static void test_modes(void)
     for (size_t i = 0; i < SERVICES; i++) {
         uint8_t apdu[16];
         size_t length = unhex(services[i].apdu, apdu);
-        for (int mode = 0; mode < 256; mode++)
-            for (int open = 0; open < 2; open++)
-                try_everywhere(&(event){ { open != 0, (uint8_t)mode }, (uint8_t)mode, 0x801, { apdu, length }, sheet_for(i), 16 });
+        for (int rules = 0; rules < RULES; rules++)
+            for (int mode = 0; mode < 256; mode++)
+                for (int open = 0; open < 2; open++)
+                    try_everywhere(&(event){ { open != 0, (uint8_t)mode }, (uint8_t)mode, 0x801, { apdu, length },
+                                             sheet_for(i, rules), 16 });
     }
+}
+
+/* ---- the two rules ---- */
+
+/* A request on the sheet with the rules in byte 30 and programming mode on. */
+static const effect *under(uint8_t rules, kelindap_session session, uint8_t mode, uint8_t low)
+{
+    static uint8_t sheet[sizeof pump], apdu[2];
+    memcpy(sheet, pump, sizeof sheet);
+    sheet[30] = rules;
+    sheet[14] |= 1;
+    apdu[0] = 0x03;
+    apdu[1] = low;
+    return try_everywhere(&(event){ session, mode, 0, { apdu, sizeof apdu }, { sheet, sizeof sheet }, 16 });
+}
+
+/* A Restart in every mode, on a session open or closed at every level: what is due, by the rules. */
+static void test_restart(uint8_t rules)
+{
+    for (int i = 0; i < 5 * 2 * 256; i++) {
+        kelindap_session found = { i % 2 != 0, (uint8_t)(i / 10) }, shut = { false, 3 };
+        uint8_t mode = (uint8_t)(i / 2 % 5);
+        bool taken = (mode == KELINDAP_CONNECTED && found.open) || (mode == KELINDAP_CONNECTIONLESS && rules == 1);
+        int due = taken ? KELINDAP_DONE : mode > 3 ? KELINDAP_BAD_MODE : mode == 3 ? KELINDAP_NOT_CONNECTED : KELINDAP_WRONG_MODE;
+        const effect *f = under(rules, found, mode, 0x80);
+        expect(f->reply.outcome == due, "a Restart in mode %d under rules %d gave %d", mode, rules, f->reply.outcome);
+        expect(same_session(f->session, taken ? shut : found), "a Restart in mode %d under rules %d: session", mode, rules);
+        expect((f->sheet[14] & 1) == (taken ? 0 : 1), "a Restart in mode %d under rules %d: programming mode", mode, rules);
+        expect(f->sheet[30] == rules, "a Restart in mode %d changed the rules", mode);
+    }
+}
+
+/* Each code of a restart with more bits, and each type of descriptor, without and with a connection. */
+static void test_codes_and_types(uint8_t rules)
+{
+    kelindap_session open = { true, 1 };
+    for (uint8_t mode = KELINDAP_CONNECTIONLESS; mode <= KELINDAP_CONNECTED; mode++) {
+        for (uint8_t low = 0x81; low <= 0xBF; low++)
+            expect(under(rules, open, mode, low)->reply.outcome == KELINDAP_UNKNOWN, "code 3%02Xh in mode %d under rules %d", low,
+                   mode, rules);
+        for (uint8_t type = 1; type <= 63; type++) {
+            const effect *f = under(rules, open, mode, type);
+            bool denied = f->reply.outcome == KELINDAP_DENIED && f->reply.count == 2 && f->answer[0] == 0x03 && f->answer[1] == 0x7F;
+            expect(rules == 1 ? denied : f->reply.outcome == KELINDAP_NOT_FOR_US, "type %d in mode %d under rules %d gave %d", type,
+                   mode, rules, f->reply.outcome);
+        }
+        const effect *f = under(rules, open, mode, 0);
+        expect(f->reply.outcome == KELINDAP_ANSWERED && f->reply.count == 4, "type 0 in mode %d under rules %d", mode, rules);
+    }
+}
+
+/* Byte 30 by edition: 0, and in edition 2 also 1. */
+static void test_rules_byte(void)
+{
+    static uint8_t sheet[sizeof sample];
+    memcpy(sheet, sample, sizeof sheet);
+    for (int edition = 1; edition <= 2; edition++)
+        for (int rules = 0; rules < 256; rules++) {
+            sheet[0] = (uint8_t)edition;
+            sheet[30] = (uint8_t)rules;
+            uint8_t due = rules == 0 || (rules == 1 && edition == 2) ? 0 : 5;
+            expect(check_at(EXACT, (run){ sheet, sizeof sheet }) == due, "edition %d with rules %d", edition, rules);
+        }
 }
 
 /* The button sets or clears bit 0 of byte 14 and nothing else. */
@@ -526,6 +604,7 @@ static void test_long_run(void)
     kelindap_session session = kelindap_fresh();
     memcpy(sheet, full, full_length);
     for (int i = 0; i < 30000; i++) {
+        sheet[30] = (uint8_t)(i / 15000); /* the second half under the later rules */
         if (any(20) == 0)
             kelindap_connect(&session);
         if (any(200) == 0)
@@ -588,15 +667,22 @@ int main(void)
     expect(kelindap_version() == KELINDAP_VERSION, "the library has another version than its header");
     build_full_sheet();
     build_longest_sheet();
+    build_later_sheet();
     test_marked_cases();
     test_sessions();
     test_nothing();
     test_lengths();
     test_modes();
+    for (uint8_t rules = 0; rules < RULES; rules++) {
+        test_restart(rules);
+        test_codes_and_types(rules);
+    }
+    test_rules_byte();
     test_lookups_in_small_sheets();
     test_lookups_in_full_sheet();
     test_damaged(sample_sheet);
     test_damaged(pump_sheet);
+    test_damaged(later_sheet);
     test_cut_sheets(sample_sheet);
     test_cut_sheets(pump_sheet);
     test_damaged_full_sheet();

@@ -61,6 +61,7 @@ static void request(void)
 {
     for (unsigned i = 0; i < ROUNDS * 15 * 1024u; i++) {
         size_t length = next_apdu(i);
+        sheet[30] = (uint8_t)(i / (15 * 1024u) % 2); /* each round under the other rules */
         for (uint8_t mode = 0; mode < 4; mode++) {
             session = (kelindap_session){.open = true, .level = (uint8_t)(i % 4)};
             kept += kelindap_request(&session, mode, 0x0801, apdu, length, sheet, sizeof sheet, answer, sizeof answer).count;

@@ -16,7 +16,7 @@ missing=() packages=()
 mkdir "$work/made"
 tests/unit/made.sh "$work/made"
 scripts=("$work/made/device-vectors" "$work/made/pump-vectors")
-for name in marked events lookups sheets story; do
+for name in marked events lookups sheets story rules; do
     [ ! -e "tests/unit/$name.in" ] || scripts+=("tests/unit/$name")
 done
 

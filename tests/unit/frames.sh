@@ -1,12 +1,14 @@
 #!/usr/bin/env bash
 # tests/unit/frames.sh UNIT: a host in shell, over the desk unit. Each line of standard input is a frame from the bus. The unit
 # reads it; a connect, a disconnect or data goes to the device; an answer goes back to the sender, or to the group that was
-# asked, with the host's own sequence number, and the unit reads it once more. Frames to another address are left alone.
+# asked, with the host's own sequence number, and the unit reads it once more. Frames to another address are left alone. A
+# session that a request closes was closed by a Restart: the partner of the connection is sent a disconnect. A line that begins
+# with sheet sets the sheet.
 set -euo pipefail
 coproc unit { exec "$1"; }
 # shellcheck disable=SC2154 # coproc sets it
 pid=$unit_PID
-room=eeeeeeeeeeeeeeeeeeeeeeeeeeeeeeee own=4357 next=0
+room=eeeeeeeeeeeeeeeeeeeeeeeeeeeeeeee own=4357 next=0 open=0 partner=
 
 ask() { # COMMAND: the unit's answer in $reply
     printf '%s\n' "$1" >&"${unit[1]}"
@@ -40,11 +42,28 @@ request() { # MODE GROUP DESTINATION TRANSPORT
     read -r -a words <<< "$reply"
     echo "  outcome ${words[0]}, session ${words[1]} ${words[2]}"
     [ "${words[3]}" = 0 ] || answer "$3" "$4" "${words[4]:0:2 * words[3]}"
+    [ "$open" = "${words[1]}" ] || drop
+}
+
+drop() {
+    open=0
+    ask "frame write code=17 c1=176 c2=96 source=$own destination=$partner transport=32 info=- apdu=01 $room"
+    local -a words
+    read -r -a words <<< "$reply"
+    understand "${words[2]:0:2 * words[1]}"
+    echo "  > ${words[2]:0:2 * words[1]} $meaning"
 }
 
 declare -A got
 while read -r frame; do
-    case $frame in '' | '#'*) continue ;; esac
+    case $frame in
+    '' | '#'*) continue ;;
+    sheet*)
+        ask "$frame"
+        echo "sheet $reply"
+        continue
+        ;;
+    esac
     understand "$frame"
     echo "< $frame $meaning"
     case $meaning in
@@ -60,7 +79,7 @@ while read -r frame; do
         ;;
     connect | disconnect)
         ask "$meaning"
-        next=0
+        next=0 open=${reply:2:1} partner=${got[source]}
         echo "  session ${reply:2:3}"
         ;;
     esac
