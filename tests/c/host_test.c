@@ -92,6 +92,9 @@ static void hold_to_promises(const event *e, const effect *f)
 #ifndef DEVICE_ALONE
     expect(!answered || kelindap_read(f->answer, count).outcome == 0, "outcome %d: the answer can't be read", outcome);
 #endif
+    bool restart = e->apdu.length >= 2 && (e->apdu.bytes[0] & 3) == 3 && e->apdu.bytes[1] == 0x80;
+    if (outcome == KELINDAP_DONE && e->mode >= KELINDAP_CONNECTIONLESS)
+        expect(f->session.open != restart, "a host would not tell a Restart by the session, mode %d", e->mode);
     if (carried_out)
         return;
     expect(same_session(f->session, e->session), "outcome %d changed the session", outcome);

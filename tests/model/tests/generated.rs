@@ -132,6 +132,10 @@ fn every_outcome_that_can_occur_does_and_no_other() {
                 assert_eq!(state.sheet, before.sheet, "{event:?}");
                 assert_eq!(state.session, before.session, "{event:?}");
             }
+            // how a host sees a Restart, by kelindap.h
+            if ask.mode >= 2 && outcome == 1 {
+                assert_eq!(!state.session.open, row == 16, "{event:?}");
+            }
             if outcome != 4 && outcome != 3 {
                 assert_eq!(sheet::check(&state.sheet), 0, "{event:?}");
             }
