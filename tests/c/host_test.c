@@ -397,7 +397,7 @@ static void test_lengths(void)
         unhex(services[i].apdu, apdu);
         for (int rules = 0; rules < RULES; rules++)
             for (size_t length = 0; length <= 20; length++)
-                for (size_t room = 0; room <= 20; room++)
+                for (size_t room = 0; room <= 20; room += rules == 0 ? 1 : 4)
                     try_everywhere(&(event){ { true, (uint8_t)(i % 4) }, services[i].mode, 0x801, { apdu, length },
                                              sheet_for(i, rules), room });
     }
@@ -685,7 +685,6 @@ int main(void)
     test_lookups_in_full_sheet();
     test_damaged(sample_sheet);
     test_damaged(pump_sheet);
-    test_damaged(later_sheet);
     test_cut_sheets(sample_sheet);
     test_cut_sheets(pump_sheet);
     test_damaged_full_sheet();
