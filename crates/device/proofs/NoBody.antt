@@ -9,7 +9,6 @@ use lib.Dec.{eqb}
 use native.Mathlib.Omega.{arith}
 use borrow.Author.Tests.{eq-eqb, eqb-true}
 use Rattle.octets.proofs.Numbers.{num-same}
-use Rattle.sheet.specs.Layout.{_of_}
 use Rattle.sheet.specs.Head as head
 use Rattle.sheet.specs.Rules.{ruleOf, isAccepted}
 use Rattle.sheet.specs.Frame.{Agree}

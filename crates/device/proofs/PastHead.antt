@@ -1,7 +1,6 @@
 -- What carrying a decision out reads of the sheet stands after the head.
 -- Assumes nothing.
 use Prim.Native.Nat.{ℕ, _+_, _<_, _≤_}
-use mathlib.Core.Path.{_≡_}
 use mathlib.Core.List.{List}
 use lib.ListN.{length}
 use native.Mathlib.Omega.{arith}
@@ -10,7 +9,7 @@ use Rattle.sheet.specs.Layout.{_of_}
 use Rattle.sheet.specs.Head as head
 use Rattle.sheet.specs.Property as property
 use Rattle.sheet.specs.Group as group
-use Rattle.sheet.specs.Entries.{count, entry, bodyAt, InBody}
+use Rattle.sheet.specs.Entries.{count, entry, bodyAt}
 use Rattle.sheet.specs.Places.{Ranged}
 use Rattle.sheet.specs.declared.Memory.{Memory}
 use Rattle.sheet.specs.declared.Memory.the-variants.{Device, User}

@@ -1,20 +1,18 @@
 -- Runs of events without a disputed request are the same under both rules.
 -- Assumes nothing.
 use Prim.Native.Nat.{ℕ, _+_, _-_}
-use mathlib.Core.Path.{_≡_, refl, ap, subst, sym, _∙_}
+use mathlib.Core.Path.{_≡_, refl, subst, sym}
 use mathlib.Core.Bool.{Bool}
 use mathlib.Core.List.{List, [], _∷_}
 use lib.ListN.{length}
 use native.Mathlib.Omega.{arith}
 use Rattle.octets.specs.Bytes.{bytesOf}
-use Rattle.octets.specs.Splice.{splice}
 use Rattle.octets.proofs.Numbers.{length-bytes, num-same}
 use Rattle.sheet.specs.Layout.{_of_}
 use Rattle.sheet.specs.Head as head
-use Rattle.sheet.specs.Rules.{isAccepted}
 use Rattle.sheet.proofs.Good.{good}
 use Rattle.judge.specs.declared.Session.{Session}
-use Rattle.device.specs.Step.{Step, stepOf}
+use Rattle.device.specs.Step.{stepOf}
 use Rattle.device.specs.Events.{State, Event, connect, disconnect, button, request, bit, pressed, buttonOutcome, buttonSheet, eventOf, after, run}
 use Rattle.device.specs.Apart.{SameButRules, Alike, Settled, AllSettled, Together}
 use Rattle.device.proofs.Stays.{stays}

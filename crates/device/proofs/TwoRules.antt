@@ -22,7 +22,7 @@ use Rattle.judge.specs.Addresses.{descriptorOf}
 use Rattle.judge.specs.Keys.{restartOf}
 use Rattle.judge.specs.Judge.{reachedOf, isShut, judgeOf}
 use Rattle.device.specs.Step.{Step, stepBy, stepOf}
-use Rattle.device.specs.Marked.{sample, Result, seen}
+use Rattle.device.specs.Marked.{sample, seen}
 
 -- the sheet under rules n, with those flags
 unfoldable pub ruled : ℕ → ℕ → List ℕ

@@ -1,9 +1,7 @@
 -- `judge::addresses::descriptor` meets its contract.
 -- Assumes nothing.
 use borrow.Author.Needs.{needs}
-use native.Mathlib.Omega.{arith}
 use Rattle.judge.proofs.Heads.{mask-answered, no-type, not-for-us}
-use Rattle.octets.proofs.Tests.{branches}
 use Rattle.judge.specs.Addresses.{descriptorOf}
 use Rattle.judge.proofs.addresses.descriptor.Statement.{statement}
 use Rattle.judge.proofs.addresses.descriptor.Tie as tie
