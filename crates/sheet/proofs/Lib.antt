@@ -1,4 +1,4 @@
--- Promises, named in docs/PROMISES.md: Plains, Nine, RulesKnown, Values, Examples, TwoMemories, Positions, Keys, Ranks, Runs, Frames, Stores, Counts.
+-- Promises, named in docs/PROMISES.md: Plains, Nine, RulesKnown, Values, Examples, TwoMemories, Touching, Positions, Keys, Ranks, Runs, Frames, Stores, Counts.
 -- All others are laws behind them or behind the contracts.
 pub mod First
 pub mod ByKind
@@ -26,6 +26,8 @@ pub mod SearchLoops
 pub mod Halves
 pub mod Objects
 pub mod Fields
+pub mod Levels
+pub mod Regions
 pub mod Runs
 pub mod Loops
 pub mod RankBound
@@ -39,3 +41,4 @@ pub mod Parts
 pub mod Values
 pub mod Examples
 pub mod TwoMemories
+pub mod Touching

@@ -25,10 +25,12 @@ use Rattle.sheet.proofs.BodyPlaces.{inside-at, inside-within, after-con
 use Rattle.sheet.proofs.Sparing.{mild, count-stood, six-stood}
 use Rattle.sheet.proofs.Standing.{after-head, place-in}
 
--- A STORE INSIDE ONE BODY
-pub body-store :
-    {s : List ℕ} → Accepted s → (k i o : ℕ) (ds : List ℕ) → Inside s k i o (length ds) → Fit s k i ds → Agree s (splice s o ds)
-body-store {s} ok k i o ds inside fit =
+-- A STORE AFTER THE CONTENTS, over one body or several: a code-0 byte is below 64
+pub bodies-store :
+    {s : List ℕ} → Accepted s → (o : ℕ) (ds : List ℕ) → contents s ≤ o → o + length ds ≤ length s →
+    ((j p : ℕ) → InBody s groups j p → o ≤ p → p < o + length ds → group.code of entry s groups j ≡ 0 → getD ds (p - o) 0 < 64) →
+    Agree s (splice s o ds)
+bodies-store {s} ok o ds low room fit =
     mild g
     (record {
       long = length-splice s o ds room;
@@ -46,12 +48,8 @@ body-store {s} ok k i o ds inside fit =
     g : Good s
     g = good s ok
 
-    room : o + length ds ≤ length s
-    room = inside-within g inside
-
     early : (p : ℕ) → p < contents s → getD (splice s o ds) p 0 ≡ getD s p 0
-    early p h =
-        splice-below s o ds room p (omega (arith, inside .from, after-contents g k i (inside .kind) (inside .below)))
+    early p h = splice-below s o ds room p (omega arith)
 
     num-early : (p w : ℕ) → p + w ≤ contents s → numAt (splice s o ds) p w ≡ numAt s p w
     num-early p w h = num-same (splice s o ds) s p p w (λ j l. early (p + j) (omega arith))
@@ -69,12 +67,20 @@ body-store {s} ok k i o ds inside fit =
         rw (splice-num-outside s o ds room (bodyAt s groups j) 1 (inr (omega arith))) (six-stood g j h c)
     six j h c (no l) (yes m) =
         let p : ℕ = bodyAt s groups j in
-        let e = disjoint g k i groups j p (inside-at inside p (omega arith) m) (first j h) in
         let q : o + (p - o) ≡ p = omega arith in
-        let new : getD ds (p - o) 0 < 64 =
-        fit (e .0) (ap₂ (λ (x y : ℕ). group.code of entry s x y) (e .0) (e .1) ∙ c) (p - o) (omega arith) in
+        let new : getD ds (p - o) 0 < 64 = fit j p (first j h) (omega arith) m c in
         omega
         (arith, num-one (splice s o ds) p, ap (λ (x : ℕ). getD (splice s o ds) x 0) q, splice-in s o ds room (p - o) (omega arith))
+
+-- A STORE INSIDE ONE BODY
+pub body-store :
+    {s : List ℕ} → Accepted s → (k i o : ℕ) (ds : List ℕ) → Inside s k i o (length ds) → Fit s k i ds → Agree s (splice s o ds)
+body-store {s} ok k i o ds inside fit =
+    let g = good s ok in
+    bodies-store ok o ds (omega (arith, inside .from, after-contents g k i (inside .kind) (inside .below))) (inside-within g inside)
+    (λ j p b f t c.
+    let e = disjoint g k i groups j p (inside-at inside p f t) b in
+    fit (e .0) (ap₂ (λ (x y : ℕ). group.code of entry s x y) (e .0) (e .1) ∙ c) (p - o) (omega arith))
 
 -- a store to the head that misses what the rules read there, but for the flags
 head-store :

@@ -11,7 +11,7 @@ use Rattle.sheet.specs.Layout.{Field, _of_}
 use Rattle.sheet.specs.Region as region
 use Rattle.sheet.specs.Entries.{count, contents, entry, floor, bodyEnd, startOf, reached, sixBits}
 use Rattle.sheet.specs.Rules.{entryDemands, bodyDemands, entryRule, bodyRule, entriesRule, bodiesRule, restRule, walkRule, ruleIn, ruleOf, Accepted, isAccepted}
-use Rattle.sheet.specs.Lookup.{seek, covers, bodyOf, lookup, regionOf, userRegionOf, rangeOf}
+use Rattle.sheet.specs.Lookup.{seek, covers, bodyOf, lookup, regionOf, userRegionOf, placeOf, common, rangeOf}
 use Rattle.sheet.specs.declared.Memory.the-variants.{Device, User}
 use Rattle.sheet.specs.declared.Run.the-variants.{At, Nowhere}
 
@@ -71,5 +71,5 @@ second-regions = (refl, refl)
 pub second-ranges :
     (rangeOf second Device 0x0100 2 ≡ At 64 0x32) × (rangeOf second User 0x0100 2 ≡ At 67 0x31)
     × (rangeOf second Device 0x0200 1 ≡ Nowhere) × (rangeOf second User 0x0200 1 ≡ At 70 0x33)
-unfolding second after rangeOf seek covers entry numAt
+unfolding second after rangeOf placeOf common seek covers entry numAt
 second-ranges = (refl, refl, refl, refl)

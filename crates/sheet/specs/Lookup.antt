@@ -1,6 +1,6 @@
 -- Finding entries, and the part of a sheet that a value lookup hands back.
 -- Assumes nothing.
-use Prim.Native.Nat.{ℕ, zero, suc, _+_, _*_, _-_}
+use Prim.Native.Nat.{ℕ, zero, suc, _+_, _*_, _-_, _/_, _%_, min}
 use mathlib.Core.Path.{_≡_}
 use mathlib.Core.List.{List, []}
 use mathlib.Core.Bool.{Bool, true, false, cond, _&&_}
@@ -95,15 +95,32 @@ rank s object (suc i) = rank s object i + cond (eqb (objectAt s i) object) 1 0
 unfoldable pub nthOf : List ℕ → ℕ → ℕ → ℕ
 nthOf s object index = seek (λ i. eqb (objectAt s i) object && eqb (rank s object i) index) 0 (count s properties)
 
--- the n addresses from a on lie in the region of entry e
-unfoldable pub covers : List ℕ → ℕ → ℕ → Bool
-covers e a n = leb (region.address of e) a && leb (a + n) (region.address of e + region.length of e)
+-- address y lies in the region of entry e
+unfoldable pub covers : List ℕ → ℕ → Bool
+covers e y = leb (region.address of e) y && ltb y (region.address of e + region.length of e)
 
--- the run of sheet bytes that an address range of a memory is, with its levels
+-- the sheet byte that this address is, with the region's levels
 abbrev pub runIn : List ℕ → ℕ → Run
-runIn e a = At (region.offset of e + (a - region.address of e)) (region.levels of e)
+runIn e y = At (region.offset of e + (y - region.address of e)) (region.levels of e)
 
-unfoldable pub rangeOf : List ℕ → Memory → ℕ → ℕ → Run
-rangeOf s m a n =
+-- where one address of a memory stands, and under which levels
+unfoldable pub placeOf : List ℕ → Memory → ℕ → Run
+placeOf s m y =
     let k = kindOf m in
-    let i = seek (λ j. covers (entry s k j) a n) 0 (count s k) in cond (ltb i (count s k)) (runIn (entry s k i) a) Nowhere
+    let i = seek (λ j. covers (entry s k j) y) 0 (count s k) in cond (ltb i (count s k)) (runIn (entry s k i) y) Nowhere
+
+-- the rights that two bytes of levels have in common: of each half the smaller
+unfoldable pub common : ℕ → ℕ → ℕ
+common l k = min (l / 16) (k / 16) * 16 + min (l % 16) (k % 16)
+
+-- a run, and one address more
+abbrev pub joined : Run → Run → Run
+joined (At o l) (At p k) = At o (common l k)
+joined (At o l) Nowhere = Nowhere
+joined Nowhere r = Nowhere
+
+-- the run of sheet bytes that the n addresses from a on are: from where the first stands, with the rights that all have in common
+unfoldable pub rangeOf : List ℕ → Memory → ℕ → ℕ → Run
+rangeOf s m a zero = Nowhere
+rangeOf s m a (suc zero) = placeOf s m a
+rangeOf s m a (suc (suc n)) = joined (rangeOf s m a (suc n)) (placeOf s m (a + suc n))

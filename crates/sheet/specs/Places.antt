@@ -1,7 +1,8 @@
 -- What a position of an accepted sheet is, where an address of a memory stands, which property has an object and id, and what calls of this crate promise of entries.
 -- Assumes nothing.
-use Prim.Native.Nat.{ℕ, _+_, _*_, _-_, _≤_, _<_, max}
+use Prim.Native.Nat.{ℕ, _+_, _*_, _-_, _/_, _%_, _≤_, _<_, max}
 use mathlib.Core.Path.{_≡_}
+use mathlib.Core.Logic.{_↔_}
 use mathlib.Core.List.{List}
 use lib.ListN.{length}
 use Rattle.sheet.specs.Kind.{kinds, properties, groups, kindOf}
@@ -45,14 +46,14 @@ pub record Stands (s : List ℕ) (m : Memory) (y p levels : ℕ) : Type 0 where
   pub here : p ≡ region.offset of regionAt s m index + (y - region.address of regionAt s m index)
   pub under : levels ≡ region.levels of regionAt s m index
 
--- the n addresses from a on of a memory, all in one region, stand from position o on, under its levels
+-- the n addresses from a on of a memory, one at least, stand side by side from position o on, each under levels of its own;
+-- a level suffices under `levels` exactly if it suffices under those of each
 pub record Ranged (s : List ℕ) (m : Memory) (a n o levels : ℕ) : Type 0 where
-  pub index : ℕ
-  pub below : index < count s (kindOf m)
-  pub from : region.address of regionAt s m index ≤ a
-  pub to : a + n ≤ region.address of regionAt s m index + region.length of regionAt s m index
-  pub here : o ≡ region.offset of regionAt s m index + (a - region.address of regionAt s m index)
-  pub under : levels ≡ region.levels of regionAt s m index
+  pub some : 1 ≤ n
+  pub at : ℕ → ℕ
+  pub each : (i : ℕ) → i < n → Stands s m (a + i) (o + i) (at i)
+  pub reading : (level : ℕ) → (level ≤ levels / 16) ↔ ((i : ℕ) → i < n → level ≤ at i / 16)
+  pub writing : (level : ℕ) → (level ≤ levels % 16) ↔ ((i : ℕ) → i < n → level ≤ at i % 16)
 
 -- property i has that object and id
 pub record PropertyWith (s : List ℕ) (object id i : ℕ) : Type 0 where

@@ -8,7 +8,10 @@ use Rattle.sheet.specs.Demand.{Demand, Met, Tells}
 use Rattle.sheet.specs.Kind.{kinds, kindOf, byKind, OfKind}
 use Rattle.sheet.specs.Entries.{count, size, place, entry, keyOf, floor, offsetOf, lengthOf, sixBits}
 use Rattle.sheet.specs.Rules.{frameDemands, entryDemands, bodyRows, edition}
+use Rattle.sheet.specs.Layout.{_of_}
+use Rattle.sheet.specs.Lookup.{common}
 use Rattle.sheet.specs.declared.Memory.{Memory}
+use Rattle.sheet.specs.declared.ranges.Reach.{Reach}
 use Rattle.sheet.specs.declared.judge.Verdict.{Verdict}
 use Rattle.sheet.specs.Region as region
 
@@ -37,6 +40,19 @@ pub record Lower (s : List ℕ) (k x r : ℕ) : Type 0 where
   pub within : r ≤ count s k
   pub before : (j : ℕ) → j < r → keyOf s k j < x
   pub from : (j : ℕ) → r ≤ j → j < count s k → x ≤ keyOf s k j
+
+-- region i among the entries of kind k begins at z; r is where it ends, and the rights that its levels and l have in common
+pub record Goes (s : List ℕ) (k i z l : ℕ) (r : Reach) : Type 0 where
+  pub there : i < count s k
+  pub begins : region.address of entry s k i ≡ z
+  pub ends : r .end ≡ region.address of entry s k i + region.length of entry s k i
+  pub rights : r .levels ≡ common l (region.levels of entry s k i)
+  pub byte : r .levels < 256
+
+-- r is that, or 0 if there is no such region
+pub record Onward (s : List ℕ) (k i z l : ℕ) (r : Reach) : Type 0 where
+  pub stops : r .end ≡ 0 → i < count s k → region.address of entry s k i ≡ z → ⊥
+  pub goes : (r .end ≡ 0 → ⊥) → Goes s k i z l r
 
 -- e is as long as an entry of kind k; none is shorter than a region's
 pub record Sized (k : ℕ) (e : List ℕ) : Type 0 where

@@ -1,53 +1,51 @@
 // An address range of a memory, as a run of sheet bytes.
 ghost use mathlib.Core.Path.{_≡_};
-ghost use Prim.Native.Nat.{_+_, _≤_, _<_};
+ghost use Prim.Native.Nat.{_+_, _-_, _≤_, _<_, min};
 ghost use lib.ListN.{length};
 ghost use Rattle.sheet.specs.Layout.{_of_};
 ghost use Rattle.sheet.specs.Region as region;
 ghost use Rattle.sheet.specs.Rules.{Accepted};
-ghost use Rattle.sheet.specs.Lookup.{covers as coversOf, runIn, rangeOf};
-ghost use Rattle.sheet.specs.Walk.{Holds};
+ghost use Rattle.sheet.specs.Lookup.{common as commonOf, rangeOf};
+ghost use Rattle.sheet.specs.Kind.{kinds};
+ghost use Rattle.sheet.specs.Walk.{Holds, Onward};
 use crate::Memory;
 use crate::Run;
 use crate::layout::kind;
 use crate::layout::region;
 use crate::lookup::lower;
 use crate::table::entry;
+use crate::table::many;
 use octets::byte;
 use octets::word;
 
-// Whether the n addresses from a on lie in the region of entry e.
-fn covers(e: &[u8], a: usize, n: usize) -> bool
-    requires { ⌜ (region.size ≤ length (now e)) × (a < 65536) × (n < 256) ⌝ }
-    ensures { λ r. ⌜ r ≡ coversOf (now (e .entry)) a n ⌝ }
+// Where the region of entry e ends.
+fn end_of(e: &[u8]) -> usize
+    requires { ⌜ region.size ≤ length (now e) ⌝ }
+    ensures { λ r. ⌜ (r ≡ region.address of now (e .entry) + region.length of now (e .entry)) × (r < 131072) ⌝ }
 {
-    let from = word(e, region::ADDRESS);
-    if a < from {
-        return false;
-    }
-    a + n <= from + word(e, region::LENGTH)
+    word(e, region::ADDRESS) + word(e, region::LENGTH)
 }
 
-// The run that starts at address a.
-fn run_in(e: &[u8], a: usize) -> Run
+// Where address a of that region stands.
+fn place_in(e: &[u8], a: usize) -> usize
     requires { ⌜ (region.size ≤ length (now e)) × (region.address of now e ≤ a) × (a < 65536) ⌝ }
-    ensures { λ r. ⌜ r ≡ runIn (now (e .entry)) a ⌝ }
+    ensures { λ r. ⌜ r ≡ region.offset of now (e .entry) + (a - region.address of now (e .entry)) ⌝ }
 {
-    Run::At {
-        offset: word(e, region::OFFSET) + (a - word(e, region::ADDRESS)),
-        levels: byte(e, region::LEVELS) as u8,
-    }
+    word(e, region::OFFSET) + (a - word(e, region::ADDRESS))
 }
 
-// From which entry on a region can reach an address, `end` being the first that begins past it: the last before `end`, and for
-// an empty range the one before that, whose end it may be.
-fn nearest(end: usize) -> usize
-    ensures { λ r. ⌜ (r ≤ end) × (0 < r → r + 2 ≤ end) ⌝ }
+fn smaller(a: usize, b: usize) -> usize
+    ensures { λ r. ⌜ r ≡ min a b ⌝ }
 {
-    if end < 2 {
-        return 0;
-    }
-    end - 2
+    if a < b { a } else { b }
+}
+
+// The rights that two bytes of levels have in common.
+fn common(l: usize, k: usize) -> usize
+    requires { ⌜ (l < 256) × (k < 256) ⌝ }
+    ensures { λ r. ⌜ (r ≡ commonOf l k) × (r < 256) ⌝ }
+{
+    smaller(l / 16, k / 16) * 16 + smaller(l % 16, k % 16)
 }
 
 // The kind of entry that a memory's regions are.
@@ -60,20 +58,62 @@ fn kind_of(m: Memory) -> usize
     }
 }
 
-// The run of sheet bytes that the n addresses from a on of a memory are.
+// How far a run has come, and the rights that hold of all of it; an end of 0 if it comes no further.
+struct Reach {
+    end: usize,
+    levels: usize,
+}
+
+// A run that has come to `end` under `levels`, and on through region i: that one must begin there.
+fn next(s: &[u8], k: usize, i: usize, end: usize, levels: usize) -> Reach
+    requires { ⌜ Accepted (now s) × (k < kinds) × (0 < end) × (levels < 256) ⌝ }
+    ensures { λ r. ⌜ Onward (now (s .entry)) k i end levels r ⌝ }
+{
+    if many(s, k) <= i {
+        return Reach { end: 0, levels: 0 };
+    }
+    let e = entry(s, k, i);
+    if word(e, region::ADDRESS) != end {
+        return Reach { end: 0, levels: 0 };
+    }
+    Reach {
+        end: end_of(e),
+        levels: common(levels, byte(e, region::LEVELS)),
+    }
+}
+
+// The run of sheet bytes that the n addresses from a on of a memory are: the search by halves gives the first region, and as long
+// as the range goes on, the next one must begin where the last one ends.
 pub fn range(s: &[u8], m: Memory, address: usize, n: usize) -> Run
     requires { ⌜ Accepted (now s) × (address < 65536) × (n < 256) ⌝ }
     ensures { λ r. ⌜ r ≡ rangeOf (now (s .entry)) m address n ⌝ }
 {
+    if n == 0 {
+        return Run::Nowhere;
+    }
     let k = kind_of(m);
-    let end = lower(s, k, address + 1);
-    let mut i = nearest(end);
-    while i < end {
-        let e = entry(s, k, i);
-        if covers(e, address, n) {
-            return run_in(e, address);
+    let mut i = lower(s, k, address + 1);
+    if i == 0 {
+        return Run::Nowhere;
+    }
+    let e = entry(s, k, i - 1);
+    let mut end = end_of(e);
+    if end <= address {
+        return Run::Nowhere;
+    }
+    let offset = place_in(e, address);
+    let mut levels = byte(e, region::LEVELS);
+    while end < address + n {
+        let reach = next(s, k, i, end, levels);
+        if reach.end == 0 {
+            return Run::Nowhere;
         }
+        end = reach.end;
+        levels = reach.levels;
         i += 1;
     }
-    Run::Nowhere
+    Run::At {
+        offset: offset,
+        levels: levels as u8,
+    }
 }

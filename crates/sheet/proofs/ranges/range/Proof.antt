@@ -1,17 +1,17 @@
--- `sheet::ranges::range` meets its contract. The invariant: no region passed covers the range.
+-- `sheet::ranges::range` meets its contract. The invariant: what has been reached is a run.
 -- Assumes nothing.
 use Prim.Native.Nat.{_-_}
 use borrow.Author.Needs.{needs}
-use Rattle.sheet.proofs.SearchLoops.{Missed}
-use Rattle.sheet.proofs.Loops.{isRange, covers-from, range-there, range-begins, range-found, range-missed, range-ended}
+use Rattle.sheet.specs.Entries.{count}
+use Rattle.sheet.proofs.Loops.{Going, range-empty, none-begins, none-reaches, first-there, first-from, range-begins, no-next, less-left, goes-on, all-found}
 use Rattle.sheet.proofs.ranges.range.Statement.{statement}
 use Rattle.sheet.proofs.ranges.range.Tie as tie
 
 abbrev Inv-loop : tie.InvT-loop
-Inv-loop s address n k end i₀ i = Missed (isRange s k address n) end i
+Inv-loop s address n k i₀ end₀ offset levels₀ i end levels = Going s k address n offset i end levels
 
 abbrev μ-loop : tie.MeasureT-loop
-μ-loop s address n k end i₀ i = end - i
+μ-loop s address n k i₀ end₀ offset levels₀ i end levels = count s k - i
 
 pub range-spec : {M : Type 1} → statement M
 range-spec =
@@ -19,16 +19,23 @@ range-spec =
     (tie.spec
     Inv-loop
     μ-loop
+    (λ c. search range-empty)
     (λ c κs. search needs)
     (λ c. search needs)
     (λ c κs. search needs)
+    (λ c. search none-begins)
+    (λ c. search needs)
+    (λ c κs. search first-there)
+    (λ c κs. search needs)
+    (λ c. search none-reaches)
+    (λ c κs. search (first-from, needs))
     (λ c κs. search needs)
     (λ c. search range-begins)
-    (λ c κs. search range-there)
+    (λ c. search needs)
     (λ c κs. search needs)
-    (λ c κs. search (covers-from, needs))
-    (λ c. search range-found)
+    (λ c. search no-next)
     (λ c. search needs)
+    (λ c. less-left _ _ _ _ _ _ (c .before .before .next .ensures) (c .if4 .left))
+    (λ c. search goes-on)
     (λ c. search needs)
-    (λ c. search range-missed)
-    (λ c. search range-ended))
+    (λ c. search all-found))

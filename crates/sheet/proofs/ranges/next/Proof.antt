@@ -1,0 +1,22 @@
+-- `sheet::ranges::next` meets its contract.
+-- Assumes nothing.
+use mathlib.Core.Path.{sym}
+use borrow.Author.Needs.{needs}
+use Rattle.sheet.proofs.SearchLoops.{ok-framed, ok-entry}
+use Rattle.sheet.proofs.Loops.{none-left, flip, gap, touching}
+use Rattle.sheet.proofs.ranges.next.Statement.{statement}
+use Rattle.sheet.proofs.ranges.next.Tie as tie
+
+pub next-spec : {M : Type 1} → statement M
+next-spec =
+    tie.close
+    (tie.spec
+    (λ c κs. search (ok-framed, needs))
+    (λ c. search none-left)
+    (λ c κs. search ok-entry)
+    (λ c κs. search needs)
+    (λ c. search (gap, flip))
+    (λ c κs. search needs)
+    (λ c κs. search needs)
+    (λ c κs. search needs)
+    (λ c. search (touching, sym)))
