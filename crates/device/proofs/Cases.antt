@@ -8,7 +8,7 @@ use Rattle.sheet.specs.Demand.{breach}
 use Rattle.sheet.specs.First.{first}
 use Rattle.sheet.specs.Entries.{entry, keyOf, floor, bodyEnd, startOf, reached, sixBits}
 use Rattle.sheet.specs.Rules.{entryDemands, bodyDemands, entryRule, bodyRule, entriesRule, bodiesRule, walkRule, restRule, ruleIn, isAccepted}
-use Rattle.sheet.specs.Lookup.{seek, indexOf, objectAt, rank, covers, rangeOf}
+use Rattle.sheet.specs.Lookup.{seek, indexOf, objectAt, rank, covers, placeOf, common, rangeOf}
 use Rattle.pdu.specs.Table.{find}
 use Rattle.pdu.specs.Rules.{lowAt, fourAt, twelveAt, headBytes}
 use Rattle.pdu.specs.Read.{readPdu, dataOf}
@@ -28,6 +28,6 @@ pub marked : map found cases ≡ map wanted cases
 unfolding sample cases found wanted stepOf stepBy build bitAt judgeOf isAccepted isShut reachedOf rulesOf levelIn levelOf
     readIn propertyReadOf writeIn propertyWriteOf describedAt descriptionOf memoryReadOf changeOf memoryWriteOf bitWriteOf
     grantOf authorizeOf keyWriteOf readPdu find dataOf encoded headBytes lowAt fourAt twelveAt
-    seek indexOf objectAt rank covers rangeOf ruleIn walkRule restRule entriesRule bodiesRule entryRule bodyRule bodyDemands entryDemands
+    seek indexOf objectAt rank covers placeOf common rangeOf ruleIn walkRule restRule entriesRule bodiesRule entryRule bodyRule bodyDemands entryDemands
     entry keyOf floor bodyEnd startOf reached sixBits first breach splice numAt bytesOf
 marked = refl

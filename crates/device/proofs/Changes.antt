@@ -10,7 +10,7 @@ use Rattle.octets.specs.Splice.{splice}
 use Rattle.sheet.specs.declared.Memory.{Memory}
 use Rattle.sheet.specs.declared.Memory.the-variants.{Device, User}
 use Rattle.sheet.proofs.Good.{Good, good}
-use Rattle.sheet.proofs.Runs.{range-within}
+use Rattle.sheet.proofs.Runs.{range-hit, range-within}
 use Rattle.pdu.specs.declared.Pdu.{Pdu}
 use Rattle.pdu.proofs.Readings.{reading}
 use Rattle.judge.specs.declared.Access.{Access}
@@ -22,7 +22,7 @@ use Rattle.judge.specs.Decisions as decisions
 use Rattle.judge.specs.Session.{levelIn}
 use Rattle.judge.specs.Judge.{decideOf}
 use Rattle.judge.specs.Memory.{mostBytes, responseOf, memoryWriteOf}
-use Rattle.judge.proofs.MemoryCases.{Suffices, Permits, changed, verified, change-cases, change-writes, change-stores, memory-write-is, bit-write-is}
+use Rattle.judge.proofs.MemoryCases.{Suffices, Permits, range-in, changed, verified, change-cases, change-writes, change-stores, memory-write-is, bit-write-is}
 use Rattle.device.specs.Carry.{storeOf, build, bitAt}
 use Rattle.device.specs.Step.{stepBy}
 use Rattle.device.specs.Asked.{Asked, quiet, says, saysAfter, stores, Reads, given}
@@ -103,13 +103,16 @@ module _ (x : Asked) (w : Write) (n address : ℕ) (r : Reads x (writing w n add
   abbrev Permitted : ℕ → Type 0
   Permitted o = Permits (c .access) (mostIn w) (x .sheet) (into w) level n address o
 
+  ok : Good (x .sheet)
+  ok = good (x .sheet) (r .ready .sheet)
+
   pub to : (o : ℕ) → MemoryWritable x w n address o → Permitted o
   to o q =
       record {
         some = q .some;
         few = q .few;
         levels = q .levels;
-        range = q .range;
+        run = range-hit ok (q .range);
         suffices = c .rights level (q .levels) .0 (subst (λ (l : ℕ). ToWrite w l (q .levels)) (sym (acts-is x (q .acts))) (q .suffices));
       }
 
@@ -119,7 +122,7 @@ module _ (x : Asked) (w : Write) (n address : ℕ) (r : Reads x (writing w n add
         some = q .some;
         few = q .few;
         levels = q .levels;
-        range = q .range;
+        range = range-in ok q;
         level = level;
         acts = acts x;
         suffices = c .rights level (q .levels) .1 (q .suffices);
@@ -132,14 +135,11 @@ module _ (x : Asked) (w : Write) (n address : ℕ) (r : Reads x (writing w n add
   abbrev made : Decision
   made = changed (c .access) (mostIn w) (c .new) (x .sheet) (into w) level n address
 
-  ok : Good (x .sheet)
-  ok = good (x .sheet) (r .ready .sheet)
-
   writes : (o : ℕ) → MemoryWritable x w n address o → Verify x → made ≡ verified (c .access) (mostIn w) (c .new) (x .sheet) (into w) level n address o
-  writes o q v = change-writes (c .access) (mostIn w) (c .new) (x .sheet) (into w) level n address ok o (to o q) v
+  writes o q v = change-writes (c .access) (mostIn w) (c .new) (x .sheet) (into w) level n address o (to o q) v
 
   saves : (o : ℕ) → MemoryWritable x w n address o → (Verify x → ⊥) → made ≡ decisions.stored (c .new o)
-  saves o q v = change-stores (c .access) (mostIn w) (c .new) (x .sheet) (into w) level n address ok o (to o q) v
+  saves o q v = change-stores (c .access) (mostIn w) (c .new) (x .sheet) (into w) level n address o (to o q) v
 
   -- what the answer then shows is what was stored
   shown :

@@ -40,7 +40,7 @@ use Rattle.octets.proofs.Walks.{by-eq}
 use Rattle.judge.proofs.GroupCases.{group-read-cases, group-put-cases}
 use Rattle.judge.proofs.DescriptorCases.{descriptor-cases}
 use Rattle.judge.proofs.PropertyCases.{property-read-cases, property-write-cases, description-cases}
-use Rattle.judge.proofs.MemoryCases.{memory-read-cases, changed, change-cases}
+use Rattle.judge.proofs.MemoryCases.{range-in, memory-read-cases, changed, change-cases}
 use Rattle.judge.proofs.KeyCases.{key-write-cases}
 use Rattle.device.specs.Carry.{build, bitAt, storeOf}
 use Rattle.device.proofs.Given.{memory-data, user-data}
@@ -92,8 +92,8 @@ module _ {s : List ℕ} (ok : Good s) (d : List ℕ) where
       ((o : ℕ) → storeOf s d (new o) ≡ splice s o (bytes o)) → ((o : ℕ) → length (bytes o) ≡ n) → Keeps s d (changed w most new s m level n a)
   change w most m level n a new bytes e l =
       change-cases w most new s m level n a (Keeps s d)
-      (λ o p v. rw e (range-store ok (p .range) (bytes o) (l o)))
-      (λ o p v. rw e (range-store ok (p .range) (bytes o) (l o)))
+      (λ o p v. rw e (range-store ok (range-in ok p) (bytes o) (l o)))
+      (λ o p v. rw e (range-store ok (range-in ok p) (bytes o) (l o)))
       (λ v. same)
       (λ v. same)
 

@@ -1,4 +1,4 @@
--- PROMISES, named in docs/PROMISES.md: Demand1, Called (demand 1); Rightly, Dues, AnswerReads, Unread, Extended, ReadBack, Cases, Stays, NoBody, RulesApart, RunsApart, TwoRules, Append, Refuted (demand 2).
+-- PROMISES, named in docs/PROMISES.md: Demand1, Called (demand 1); Rightly, Dues, AnswerReads, Unread, Extended, Forbidden, ReadBack, Cases, Stays, NoBody, RulesApart, RunsApart, TwoRules, Append, Refuted (demand 2).
 -- LAWS behind them and behind the contracts: all other modules. A folder holds the proof of the function whose name it has.
 pub mod Writing
 pub mod Given
@@ -24,6 +24,7 @@ pub mod RightDescriptions
 pub mod Changes
 pub mod RightMemory
 pub mod Extended
+pub mod Forbidden
 pub mod Rightly
 pub mod Shapes
 pub mod Demand1

@@ -15,7 +15,7 @@ use Rattle.sheet.specs.declared.Memory.{Memory}
 use Rattle.sheet.specs.declared.Memory.the-variants.{Device, User}
 use Rattle.sheet.proofs.Good.{Good, good}
 use Rattle.sheet.proofs.BodyPlaces.{after-contents}
-use Rattle.sheet.proofs.Runs.{range-byte, stands-in}
+use Rattle.sheet.proofs.Runs.{stands-in}
 use Rattle.pdu.specs.declared.Pdu.{Pdu}
 use Rattle.pdu.specs.declared.Pdu.the-variants.{GroupValueRead, GroupValueResponse, GroupValueWrite, IndividualAddressWrite, IndividualAddressRead, SerialNumberRead, SerialNumberWrite, DeviceDescriptorRead, PropertyValueRead, PropertyValueWrite, PropertyDescriptionRead, MemoryRead, MemoryWrite, MemoryBitWrite, AuthorizeRequest, KeyWrite, Restart, IndividualAddressResponse, SerialNumberResponse, DeviceDescriptorResponse, PropertyValueResponse, PropertyDescriptionResponse, MemoryResponse, AuthorizeResponse, KeyResponse, UserMemoryRead, UserMemoryResponse, UserMemoryWrite}
 use Rattle.judge.specs.declared.Access.the-variants.{Write, Change}
@@ -34,7 +34,7 @@ use Rattle.octets.proofs.Walks.{by-eq}
 use Rattle.judge.proofs.GroupCases.{group-read-cases, group-put-cases}
 use Rattle.judge.proofs.DescriptorCases.{descriptor-cases}
 use Rattle.judge.proofs.PropertyCases.{property-read-cases, property-write-cases, description-cases}
-use Rattle.judge.proofs.MemoryCases.{memory-read-cases, change-cases}
+use Rattle.judge.proofs.MemoryCases.{range-in, memory-read-cases, change-cases}
 use Rattle.judge.proofs.KeyCases.{key-write-cases}
 use Rattle.device.specs.Asked.{Asked, given}
 use Rattle.device.proofs.RequestCases.{request-cases}
@@ -72,7 +72,7 @@ module _ {s : List ℕ} (ok : Good s) where
 
   range-past : {m : Memory} {a n o l : ℕ} → Ranged s m a n o l → Past o n
   range-past r j h =
-      let b = stands-in ok (range-byte r j h) in
+      let b = stands-in ok (r .each j h) in
       omega (arith, b .from, after-contents ok _ _ (b .kind) (b .below))
 
   module _ (level group : ℕ) (d : List ℕ) where
@@ -100,13 +100,13 @@ module _ {s : List ℕ} (ok : Good s) where
     past-decided (PropertyDescriptionRead object id index) =
         description-cases s object id index PastHead (λ i z k. (tt, tt, tt)) (λ i z k. (tt, tt, tt)) (tt, tt, tt)
     past-decided (MemoryRead n address) =
-        memory-read-cases s Device level n address PastHead (λ o p. (tt, tt, range-past (p .range))) (tt, tt, tt)
+        memory-read-cases s Device level n address PastHead (λ o p. (tt, tt, range-past (range-in ok p))) (tt, tt, tt)
     past-decided (MemoryWrite n address) =
-        change-cases Write 12 (store.Data 0) s Device level n address PastHead (λ o p v. (tt, tt, range-past (p .range))) (λ o p v. (tt, tt, tt))
+        change-cases Write 12 (store.Data 0) s Device level n address PastHead (λ o p v. (tt, tt, range-past (range-in ok p))) (λ o p v. (tt, tt, tt))
         (λ v. (tt, tt, tt)) (λ v. (tt, tt, tt))
     past-decided (MemoryBitWrite n address) =
         change-cases Change 5 (λ o. store.Bits o n) s Device level n address PastHead
-        (λ o p v. (range-past (p .range), tt, range-past (p .range))) (λ o p v. (range-past (p .range), tt, tt))
+        (λ o p v. (range-past (range-in ok p), tt, range-past (range-in ok p))) (λ o p v. (range-past (range-in ok p), tt, tt))
         (λ v. (tt, tt, tt)) (λ v. (tt, tt, tt))
     past-decided (AuthorizeRequest key) = (tt, tt, tt)
     past-decided (KeyWrite named key) = key-write-cases level named key PastHead (λ h l. (tt, tt, tt)) (tt, tt, tt)
@@ -120,10 +120,10 @@ module _ {s : List ℕ} (ok : Good s) where
     past-decided (AuthorizeResponse named) = (tt, tt, tt)
     past-decided (KeyResponse named) = (tt, tt, tt)
     past-decided (UserMemoryRead n address) =
-        memory-read-cases s User level n address PastHead (λ o p. (tt, tt, range-past (p .range))) (tt, tt, tt)
+        memory-read-cases s User level n address PastHead (λ o p. (tt, tt, range-past (range-in ok p))) (tt, tt, tt)
     past-decided (UserMemoryResponse n address) = (tt, tt, tt)
     past-decided (UserMemoryWrite n address) =
-        change-cases Write 11 (store.Data 0) s User level n address PastHead (λ o p v. (tt, tt, range-past (p .range))) (λ o p v. (tt, tt, tt))
+        change-cases Write 11 (store.Data 0) s User level n address PastHead (λ o p v. (tt, tt, range-past (range-in ok p))) (λ o p v. (tt, tt, tt))
         (λ v. (tt, tt, tt)) (λ v. (tt, tt, tt))
 
 -- WHATEVER IS DECIDED READS NOTHING OF THE HEAD WHEN IT IS CARRIED OUT

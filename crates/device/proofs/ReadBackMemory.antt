@@ -13,7 +13,7 @@ use Rattle.sheet.proofs.Runs.{range-once, range-within}
 use Rattle.pdu.specs.Write.{encoded}
 use Rattle.judge.specs.declared.Decision.{Decision}
 use Rattle.judge.specs.Session.{levelIn}
-use Rattle.judge.proofs.MemoryCases.{Permits, change-cases}
+use Rattle.judge.proofs.MemoryCases.{Permits, range-in, change-cases}
 use Rattle.device.specs.Step.{Step, stepBy}
 use Rattle.device.specs.Asked.{Asked, Reads, given, part}
 use Rattle.device.specs.MemoryDue.{Write, into, writing, reading, response, mostIn, MemoryReadable}
@@ -40,10 +40,10 @@ module _ (x y : Asked) (w : Write) (n address : ℕ) (r : Reads x (writing w n a
   module _ (o : ℕ) (q : Permits (c .access) (mostIn w) (x .sheet) (into w) (levelIn (x .session) (x .mode)) n address o) where
     -- is the place that is read
     same : o ≡ z
-    same = range-once ok (q .range) (ranged-same (agree-sym agree) (may .range)) (q .some) .0
+    same = range-once ok (range-in ok q) (ranged-same (agree-sym agree) (may .range)) .0
 
     bytes-found : done x .sheet ≡ splice (x .sheet) o (c .left o) → part (y .sheet) z n ≡ c .left o
-    bytes-found e = rw (← same, new, e) (stored-back (x .sheet) (c .left o) o n (c .long o) (range-within ok (q .range)))
+    bytes-found e = rw (← same, new, e) (stored-back (x .sheet) (c .left o) o n (c .long o) (range-within ok (range-in ok q)))
 
     found : head.verify (x .sheet) ≡ 1 → SameAnswer x y
     found v =

@@ -6,7 +6,8 @@ use mathlib.Core.List.{List, []}
 use native.Mathlib.Omega.{arith}
 use Rattle.sheet.specs.declared.Memory.{Memory}
 use Rattle.sheet.specs.declared.Memory.the-variants.{Device, User}
-use Rattle.sheet.proofs.Good.{good}
+use Rattle.sheet.proofs.Good.{Good, good}
+use Rattle.sheet.proofs.Runs.{range-hit}
 use Rattle.pdu.specs.declared.Pdu.{Pdu}
 use Rattle.judge.specs.declared.Access.the-variants as access
 use Rattle.judge.specs.declared.Decision.{Decision}
@@ -15,7 +16,7 @@ use Rattle.judge.specs.Decisions as decisions
 use Rattle.judge.specs.Session.{levelIn}
 use Rattle.judge.specs.Judge.{decideOf}
 use Rattle.judge.specs.Memory.{mostBytes, responseOf, memoryReadOf}
-use Rattle.judge.proofs.MemoryCases.{Permits, memory-read-cases, memory-reads}
+use Rattle.judge.proofs.MemoryCases.{Permits, range-in, memory-read-cases, memory-reads}
 use Rattle.device.specs.Step.{stepBy}
 use Rattle.device.specs.Asked.{Asked, says, Reads, given, part}
 use Rattle.device.specs.MemoryDue.{MemoryDue, reading, response, mostOf, MemoryReadable, memoryRead, noMemoryRead}
@@ -39,16 +40,19 @@ module _ (x : Asked) (m : Memory) (n address : ℕ) (r : Reads x (reading m n ad
   abbrev p : Pdu
   p = reading m n address
 
+  ok : Good (x .sheet)
+  ok = good (x .sheet) (r .ready .sheet)
+
   to : (o : ℕ) → MemoryReadable x m n address o → Permits access.Read (mostBytes m) (x .sheet) m level n address o
   to o q =
-      record { some = q .some; few = rw (look-at m .most) (q .few); levels = q .levels; range = q .range; suffices = acts-at x _ (q .acts) (q .suffices) }
+      record { some = q .some; few = rw (look-at m .most) (q .few); levels = q .levels; run = range-hit ok (q .range); suffices = acts-at x _ (q .acts) (q .suffices) }
 
   from : (o : ℕ) → Permits access.Read (mostBytes m) (x .sheet) m level n address o → MemoryReadable x m n address o
   from o q =
-      record { some = q .some; few = rw (look-at m .most) at (q .few); levels = q .levels; range = q .range; level = level; acts = acts x; suffices = q .suffices }
+      record { some = q .some; few = rw (look-at m .most) at (q .few); levels = q .levels; range = range-in ok q; level = level; acts = acts x; suffices = q .suffices }
 
   reads : (o : ℕ) → MemoryReadable x m n address o → memoryReadOf (x .sheet) m level n address ≡ decisions.answered (answer.Sheet (responseOf m n address) o n)
-  reads o q = memory-reads (x .sheet) m level n address (good (x .sheet) (r .ready .sheet)) o (to o q)
+  reads o q = memory-reads (x .sheet) m level n address o (to o q)
 
   pub only-memory-read :
       (o : ℕ) → MemoryReadable x m n address o → says x 0 (response m n address) (part (x .sheet) o n) ≡ step x

@@ -39,7 +39,7 @@ use Rattle.octets.proofs.Walks.{by-eq}
 use Rattle.judge.proofs.GroupCases.{group-read-cases, group-put-cases}
 use Rattle.judge.proofs.DescriptorCases.{descriptor-cases}
 use Rattle.judge.proofs.PropertyCases.{runIn, property-read-cases, property-write-cases, description-cases}
-use Rattle.judge.proofs.MemoryCases.{memory-read-cases, changed, change-cases}
+use Rattle.judge.proofs.MemoryCases.{range-in, memory-read-cases, changed, change-cases}
 use Rattle.judge.proofs.KeyCases.{key-write-cases}
 use Rattle.device.specs.Carry.{storeOf}
 use Rattle.device.specs.Safe.{StoreSafe, AnswerSafe, Safe}
@@ -174,7 +174,7 @@ module _ {s : List ℕ} (ok : Good s) (d : List ℕ) where
     memory-read : (m : Memory) → Safe s d (memoryReadOf s m level n a)
     memory-read m =
         memory-read-cases s m level n a (Safe s d)
-        (λ o p. safe-answered s d _ (memory-answer s d m n a o (p .few) (range-within ok (p .range))))
+        (λ o p. safe-answered s d _ (memory-answer s d m n a o (p .few) (range-within ok (range-in ok p))))
         (no-memory s d m a)
 
     -- a write whose stores lie where the range does
@@ -184,9 +184,9 @@ module _ {s : List ℕ} (ok : Good s) (d : List ℕ) where
     change w most m new l f =
         change-cases w most new s m level n a (Safe s d)
         (λ o p v.
-        let h = range-within ok (p .range) in
+        let h = range-within ok (range-in ok p) in
         safe-verified s d (new o) m n a o (f o h) (omega (arith, p .few)) h)
-        (λ o p v. safe-stored s d (new o) (f o (range-within ok (p .range))))
+        (λ o p v. safe-stored s d (new o) (f o (range-within ok (range-in ok p))))
         (λ v. no-memory s d m a)
         (λ v. safe-refused s d 12)
 

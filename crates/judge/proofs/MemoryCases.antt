@@ -15,7 +15,7 @@ use Rattle.sheet.specs.declared.Memory.the-variants.{Device}
 use Rattle.sheet.specs.declared.Run.{Run}
 use Rattle.sheet.specs.declared.Run.the-variants.{At, Nowhere}
 use Rattle.sheet.proofs.Good.{Good}
-use Rattle.sheet.proofs.Runs.{ranged, range-hit}
+use Rattle.sheet.proofs.Runs.{ranged}
 use Rattle.octets.proofs.Truths.{and-is, never}
 use Rattle.octets.proofs.Walks.{by-test, by-eq}
 use Rattle.judge.specs.declared.Access.{Access}
@@ -41,13 +41,17 @@ may-is Change m n = (
   λ h. and-is (mayRead m n) (mayWrite m n) .1 (le-leb m (n / 16) (h .0), le-leb m (n % 16) (h .1)),
 )
 
--- the n addresses from a on, 1 to most, of a memory stand from o on, under levels for which the level suffices
+-- the n addresses from a on, 1 to most, of a memory are the run from o on, under levels for which the level suffices
 pub record Permits (w : Access) (most : ℕ) (s : List ℕ) (m : Memory) (level n a o : ℕ) : Type 0 where
   pub some : 1 ≤ n
   pub few : n ≤ most
   pub levels : ℕ
-  pub range : Ranged s m a n o levels
+  pub run : rangeOf s m a n ≡ At o levels
   pub suffices : Suffices w level levels
+
+-- in a good sheet they stand there
+pub range-in : {w : Access} {most : ℕ} {s : List ℕ} {m : Memory} {level n a o : ℕ} → Good s → (p : Permits w most s m level n a o) → Ranged s m a n o (p .levels)
+range-in {m = m} {n = n} {a = a} ok p = ranged ok m a n (p .run)
 
 module _ (w : Access) (most : ℕ) (s : List ℕ) (m : Memory) (level n a : ℕ) where
   -- what is permitted stands in the sheet
@@ -71,22 +75,19 @@ module _ (w : Access) (most : ℕ) (s : List ℕ) (m : Memory) (level n a : ℕ)
                   some = leb-true 1 n (b .0);
                   few = leb-true n most (b .1);
                   levels = l;
-                  range = ranged s m a n q;
+                  run = q;
                   suffices = may-is w level l .0 (h .1);
                 };
             here = ap runAt q;
           }
 
-  -- and what stands there is permitted
-  module _ (ok : Good s) (o : ℕ) (p : Permits w most s m level n a o) where
-    range-is : rangeOf s m a n ≡ At o (p .levels)
-    range-is = range-hit ok (p .range) (p .some)
-
+  -- and what is permitted is allowed
+  module _ (o : ℕ) (p : Permits w most s m level n a o) where
     pub allowed-is : runAllowed w most level n (rangeOf s m a n) ≡ true
-    allowed-is = rw range-is (simp (le-leb 1 n (p .some), le-leb n most (p .few), may-is w level _ .1 (p .suffices)))
+    allowed-is = rw (p .run) (simp (le-leb 1 n (p .some), le-leb n most (p .few), may-is w level _ .1 (p .suffices)))
 
     pub run-is : runAt (rangeOf s m a n) ≡ o
-    run-is = ap runAt range-is
+    run-is = ap runAt (p .run)
 
 -- A READ
 module _ (s : List ℕ) (m : Memory) (level n a : ℕ) where
@@ -103,11 +104,11 @@ module _ (s : List ℕ) (m : Memory) (level n a : ℕ) where
       (λ e. h)
 
   pub memory-reads :
-      Good s → (o : ℕ) → Permits Read (mostBytes m) s m level n a o →
+      (o : ℕ) → Permits Read (mostBytes m) s m level n a o →
       memoryReadOf s m level n a ≡ answered (answer.Sheet (responseOf m n a) o n)
   unfolding memoryReadOf
-  memory-reads ok o p =
-      simp (allowed-is Read (mostBytes m) s m level n a ok o p, run-is Read (mostBytes m) s m level n a ok o p)
+  memory-reads o p =
+      simp (allowed-is Read (mostBytes m) s m level n a o p, run-is Read (mostBytes m) s m level n a o p)
 
 -- A WRITE, of bytes or of bits: an access, the most bytes that it may name, and what it stores at a place
 module _ (w : Access) (most : ℕ) (new : ℕ → Store) (s : List ℕ) (m : Memory) (level n a : ℕ) where
@@ -133,14 +134,14 @@ module _ (w : Access) (most : ℕ) (new : ℕ → Store) (s : List ℕ) (m : Mem
       (λ e. by-eq P (head.verify s) 1 _ _ h u)
 
   -- AND BACK: the place where the range stands decides
-  module _ (ok : Good s) (o : ℕ) (p : Permits w most s m level n a o) where
+  module _ (o : ℕ) (p : Permits w most s m level n a o) where
     pub change-writes : head.verify s ≡ 1 → changed ≡ verified o
     unfolding changeOf
-    change-writes v = simp (allowed-is w most s m level n a ok o p, run-is w most s m level n a ok o p, eq-eqb (head.verify s) 1 v)
+    change-writes v = simp (allowed-is w most s m level n a o p, run-is w most s m level n a o p, eq-eqb (head.verify s) 1 v)
 
     pub change-stores : (head.verify s ≡ 1 → ⊥) → changed ≡ stored (new o)
     unfolding changeOf
-    change-stores v = simp (allowed-is w most s m level n a ok o p, run-is w most s m level n a ok o p, ne-eqb (head.verify s) 1 v)
+    change-stores v = simp (allowed-is w most s m level n a o p, run-is w most s m level n a o p, ne-eqb (head.verify s) 1 v)
 
 -- the two writes
 pub memory-write-is :
