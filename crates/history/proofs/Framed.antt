@@ -40,17 +40,17 @@ module _ {f s : List ℕ} (a : Agree f s) where
       }
 
   module _ (m : Memory) where
-    -- the same region of a range, with the same rights
-    cover-same : (y n i : ℕ) → i < count f (kindOf m) → covers (regionAt s m i) y n ≡ covers (regionAt f m i) y n
+    -- the same region of an address, with the same rights
+    cover-same : (y i : ℕ) → i < count f (kindOf m) → covers (regionAt s m i) y ≡ covers (regionAt f m i) y
     unfolding covers
-    cover-same y n i h = rw (region-same a m i region.address h (omega arith), region-same a m i region.length h (omega arith))
+    cover-same y i h = rw (region-same a m i region.address h (omega arith), region-same a m i region.length h (omega arith))
 
-    pub region-for-same : (y n : ℕ) → regionFor s m y n ≡ regionFor f m y n
+    pub region-for-same : (y : ℕ) → regionFor s m y ≡ regionFor f m y
     unfolding regionFor
-    region-for-same y n =
-        ap (seek (λ i. covers (regionAt s m i) y n) 0) (count-same a (kindOf m))
-        ∙ seek-same (λ i. covers (regionAt s m i) y n) (λ i. covers (regionAt f m i) y n) 0 (count f (kindOf m))
-        (λ i h l. cover-same y n i (omega arith))
+    region-for-same y =
+        ap (seek (λ i. covers (regionAt s m i) y) 0) (count-same a (kindOf m))
+        ∙ seek-same (λ i. covers (regionAt s m i) y) (λ i. covers (regionAt f m i) y) 0 (count f (kindOf m))
+        (λ i h l. cover-same y i (omega arith))
 
     -- what a region's levels say
     may-same :
@@ -66,17 +66,15 @@ module _ {f s : List ℕ} (a : Agree f s) where
 
     may-read-same : (level y : ℕ) → mayRead s m level y ≡ mayRead f m level y
     unfolding mayRead
-    may-read-same level y = rw (region-for-same y 1, count-same a (kindOf m)) (may-same (λ l. leb level (l / 16)) (regionFor f m y 1))
+    may-read-same level y = rw (region-for-same y, count-same a (kindOf m)) (may-same (λ l. leb level (l / 16)) (regionFor f m y))
 
     may-write-same : (level y : ℕ) → mayWrite s m level y ≡ mayWrite f m level y
     unfolding mayWrite
-    may-write-same level y = rw (region-for-same y 1, count-same a (kindOf m)) (may-same (λ l. leb level (l % 16)) (regionFor f m y 1))
+    may-write-same level y = rw (region-for-same y, count-same a (kindOf m)) (may-same (λ l. leb level (l % 16)) (regionFor f m y))
 
-    range-same :
-        (most : ℕ) (t u : ℕ → Bool) (n y : ℕ) → ((i : ℕ) → t i ≡ u i) → inRange s m most t n y ≡ inRange f m most u n y
-    unfolding inRange
-    range-same most t u n y e =
-        rw (region-for-same y n, count-same a (kindOf m), every-same (λ i. t (y + i)) (λ i. u (y + i)) n (λ i. e (y + i)))
+  range-same : (most : ℕ) (t u : ℕ → Bool) (n y : ℕ) → ((i : ℕ) → t i ≡ u i) → inRange most t n y ≡ inRange most u n y
+  unfolding inRange
+  range-same most t u n y e = rw (every-same (λ i. t (y + i)) (λ i. u (y + i)) n (λ i. e (y + i)))
 
   pub index-for-same : (object id : ℕ) → indexFor s object id ≡ indexFor f object id
   unfolding indexFor
@@ -85,9 +83,9 @@ module _ {f s : List ℕ} (a : Agree f s) where
   -- WHAT IS ALLOWED STAYS ALLOWED
   pub allowed-same : (level : ℕ) (d : List ℕ) (w : Wish) → allowed s level d w ≡ allowed f level d w
   unfolding allowed entryFor fills
-  allowed-same level d (change (writeMemory m n y)) = range-same m (mostBytes m) _ _ n y (may-write-same m level)
+  allowed-same level d (change (writeMemory m n y)) = range-same (mostBytes m) _ _ n y (may-write-same m level)
   allowed-same level d (change (writeBits n y)) =
-      range-same Device 5 _ _ n y (λ i. rw (may-read-same Device level i, may-write-same Device level i))
+      range-same 5 _ _ n y (λ i. rw (may-read-same Device level i, may-write-same Device level i))
   allowed-same level d (change (writeProperty object id n z)) =
       rw (index-for-same object id, count-same a properties) (go (indexFor f object id) (decLt (indexFor f object id) (count f properties)))
     where

@@ -14,13 +14,14 @@ use Rattle.sheet.specs.Entries.{count, bodyAt}
 use Rattle.sheet.specs.Rules.{ruleOf, Accepted, isAccepted}
 use Rattle.sheet.proofs.Good.{Good, good, accepted}
 use Rattle.sheet.proofs.Frames.{kept}
+use Rattle.sheet.proofs.Regions.{covers-stands}
 use Rattle.device.specs.Events.{Event, State, connect, disconnect, button, connectOf, disconnectOf, bit, pressed, buttonSheet}
 use Rattle.history.specs.Location.{Location, memory, body, counter, key, Place, ofMemory, ofBody, ofCounter, ofKey}
 use Rattle.history.specs.Permit.{entryFor}
 use Rattle.history.specs.History.{First, firstOf, opened, level, content}
 use Rattle.history.specs.Others.{programming, individual, groupByte}
 use Rattle.history.specs.Keeps.{Begins}
-use Rattle.history.proofs.Searches.{covered-stands, region-hit, property-hit}
+use Rattle.history.proofs.Searches.{region-hit, property-hit}
 use Rattle.device.proofs.Agreeing.{agree-refl}
 use Rattle.history.proofs.Means.{Means, store-flags}
 
@@ -49,7 +50,7 @@ means-as m p q r t =
 -- the first content is what stands in the first sheet
 pub first-holds : {s : List ℕ} → Good s → (x : Location) (p : ℕ) → Place s x p → getD s p 0 ≡ firstOf s x
 unfolding firstOf entryFor bodyAt
-first-holds {s} g (memory m y) p (ofMemory h) = rw (region-hit g 1 (omega arith) (covered-stands h), h .here)
+first-holds {s} g (memory m y) p (ofMemory h) = rw (region-hit g (covers-stands h), h .here)
 first-holds g (body o d j) p (ofBody i q h e) = rw (property-hit g q, e)
 first-holds g (counter o d j) p (ofCounter i q h e) = rw (property-hit g q, e)
 first-holds g (key l j) p (ofKey h k e) = rw e

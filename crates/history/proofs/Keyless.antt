@@ -19,6 +19,7 @@ use Rattle.sheet.specs.Entries.{entry}
 use Rattle.sheet.specs.Places.{Stands, PropertyWith}
 use Rattle.sheet.specs.declared.Memory.{Memory}
 use Rattle.sheet.proofs.Good.{Good, good}
+use Rattle.sheet.proofs.Regions.{covers-stands}
 use Rattle.octets.proofs.Truths.{never, decided, and-is}
 use Rattle.device.specs.Events.{Event, connect, disconnect, button, request, run}
 use Rattle.history.specs.Location.{Location, memory, body, counter, key}
@@ -30,7 +31,7 @@ use Rattle.history.specs.Keeps.{Device, stateAfter, Begins, AllOctets, K
 use Rattle.history.specs.Keyless.{writeLevel, Unlocks, offers, Locked, NotOffered, Shut, Protected}
 use Rattle.history.specs.Rightful.{ours}
 use Rattle.history.proofs.Bools.{all-at, must-fail}
-use Rattle.history.proofs.Searches.{covered-stands, region-hit, property-hit}
+use Rattle.history.proofs.Searches.{region-hit, property-hit}
 use Rattle.history.proofs.InOrder.{firstState, after-is-run}
 use Rattle.history.proofs.Invariant.{first-holds}
 use Rattle.history.proofs.Keep.{keeps}
@@ -41,7 +42,7 @@ use Rattle.history.proofs.Suffices.{suffices}
 module _ {s : List ℕ} (g : Good s) where
   pub level-of-memory : {m : Memory} {y p levels : ℕ} → Stands s m y p levels → writeLevel s (memory m y) ≡ levels % 16
   unfolding writeLevel
-  level-of-memory h = rw (region-hit g 1 (omega arith) (covered-stands h), h .under)
+  level-of-memory h = rw (region-hit g (covers-stands h), h .under)
 
   pub level-of-property :
       {object id i : ℕ} → PropertyWith s object id i → (j : ℕ) →

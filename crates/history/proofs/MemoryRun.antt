@@ -6,13 +6,12 @@ use mathlib.Core.List.{List}
 use lib.ListN.{length, getD}
 use Rattle.sheet.specs.Places.{Ranged}
 use Rattle.sheet.specs.declared.Memory.{Memory}
-use Rattle.sheet.proofs.Runs.{range-byte}
 use Rattle.history.specs.Location.{memory, Place, ofMemory}
 use Rattle.history.proofs.Stored.{Run}
 
 module _ {s : List ℕ} {m : Memory} {y n o l : ℕ} (r : Ranged s m y n o l) where
   pub memory-place : (j : ℕ) → j < n → Place s (memory m (y + j)) (o + j)
-  memory-place j h = ofMemory (range-byte r j h)
+  memory-place j h = ofMemory (r .each j h)
 
   -- A RUN OF MEMORY
   pub memory-run :

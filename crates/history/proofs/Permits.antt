@@ -16,11 +16,12 @@ use Rattle.sheet.specs.Layout.{_of_}
 use Rattle.sheet.specs.Region as region
 use Rattle.sheet.specs.Property as property
 use Rattle.sheet.specs.Entries.{count, entry}
-use Rattle.sheet.specs.Places.{regionAt, PropertyWith}
+use Rattle.sheet.specs.Places.{regionAt, Ranged, PropertyWith}
 use Rattle.sheet.specs.declared.Memory.{Memory}
 use Rattle.sheet.specs.declared.Memory.the-variants.{Device, User}
 use Rattle.sheet.proofs.Good.{Good}
-use Rattle.sheet.proofs.Runs.{Covered, covers-range, in-region}
+use Rattle.sheet.proofs.Regions.{Covered, covers-stands}
+use Rattle.sheet.proofs.Runs.{range-there}
 use Rattle.octets.proofs.Truths.{and-is, or-is}
 use Rattle.device.specs.Octets.{Octets}
 use Rattle.device.specs.Asked.{Asked}
@@ -33,7 +34,7 @@ use Rattle.history.specs.Wish.{Change, change, writeMemory, writeBits, w
 use Rattle.history.specs.Span.{all}
 use Rattle.history.specs.Permit.{every, levelFor, regionFor, mayRead, mayWrite, inRange, indexFor, entryFor, clears, fills, allowed}
 use Rattle.history.proofs.Bools.{all-at, every-at, every-all}
-use Rattle.history.proofs.Searches.{region-covers, covered-byte, region-hit, may-read, may-write, property-hit, property-found}
+use Rattle.history.proofs.Searches.{region-covers, may-read, may-write, property-hit, property-found}
 use Rattle.history.proofs.LevelFor.{acts-once, acts-so}
 
 -- the two ways to write a property
@@ -85,45 +86,60 @@ module _ (x : Asked) (g : Good (x .sheet)) where
   abbrev L : ℕ
   L = levelFor (x .mode) (x .session .level)
 
-  -- A RANGE OF MEMORY: a test passes for each byte exactly if the level suffices for the range
+  -- A RANGE OF MEMORY: a test passes for each byte exactly if the level suffices for the range; a byte for which it passes lies in a
+  -- region, it passes there if the level suffices, and a level suffices for a range exactly if it does for each of its bytes
   module _ (m : Memory) (most : ℕ) (may : ℕ → Bool) (Suffices : ℕ → ℕ → Type 0)
-      (may-is : (i y : ℕ) → Covered S m i y 1 → (may y ≡ true) ↔ Suffices L (region.levels of regionAt S m i)) (n y : ℕ) where
+      (may-lies : (y : ℕ) → may y ≡ true → (i : ℕ) × Covered S m i y)
+      (may-is : (i y : ℕ) → Covered S m i y → (may y ≡ true) ↔ Suffices L (region.levels of regionAt S m i))
+      (over : (y n o l : ℕ) (r : Ranged S m y n o l) → Suffices L l ↔ ((i : ℕ) → i < n → Suffices L (r .at i))) (n y : ℕ) where
     Ts : List Bool
-    Ts = leb 1 n ∷ leb n most ∷ ltb (regionFor S m y n) (count S (kindOf m)) ∷ every n (λ i. may (y + i)) ∷ []
+    Ts = leb 1 n ∷ leb n most ∷ every n (λ i. may (y + i)) ∷ []
 
-    range-open : inRange S m most may n y ≡ true → (o : ℕ) × Open x m most Suffices n y o
+    range-open : inRange most may n y ≡ true → (o : ℕ) × Open x m most Suffices n y o
     unfolding inRange Ts
     range-open e =
         let some : 1 ≤ n = leb-true _ _ (all-at Ts e 0) in
-        let c = region-covers S m y n (ltb-true _ _ (all-at Ts e 2)) in (
-          _,
+        let each = every-at (λ i. may (y + i)) n (all-at Ts e 2) in
+        let w = range-there g m y n some (λ i h. may-lies (y + i) (each i h)) in
+        let r : Ranged S m y n (w .0) (w .1) = w .2 in (
+          w .0,
           record {
             some = some;
             few = leb-true _ _ (all-at Ts e 1);
-            levels = _;
-            range = in-region c;
+            levels = w .1;
+            range = r;
             level = L;
             acts = acts-so x;
-            suffices = may-is _ (y + 0) (covered-byte c 0 some) .0 (every-at (λ i. may (y + i)) n (all-at Ts e 3) 0 some);
+            suffices =
+                over y n (w .0) (w .1) r .1
+                (λ i h.
+                let b = r .each i h in
+                subst (Suffices L) (sym (b .under)) (may-is (b .index) (y + i) (covers-stands b) .0 (each i h)));
           },
         )
 
-    open-range : (o : ℕ) → Open x m most Suffices n y o → inRange S m most may n y ≡ true
+    open-range : (o : ℕ) → Open x m most Suffices n y o → inRange most may n y ≡ true
     unfolding inRange
     open-range o w =
-        let c = covers-range (w .range) in
-        let r : Suffices L (region.levels of regionAt S m (w .range .index)) =
-        subst (Suffices L) (w .range .under) (subst (λ (l : ℕ). Suffices l (w .levels)) (acts-once x (w .acts)) (w .suffices)) in
-        let b : every n (λ i. may (y + i)) ≡ true = every-all _ n (λ j h. may-is _ (y + j) (covered-byte c j h) .1 r) in
-        let k : ltb (regionFor S m y n) (count S (kindOf m)) ≡ true = rw (region-hit g n (w .some) c) (lt-ltb _ _ (c .below)) in
-        simp (le-leb _ _ (w .some), le-leb _ _ (w .few), k, b)
+        let r = w .range in
+        let enough : Suffices L (w .levels) = subst (λ (l : ℕ). Suffices l (w .levels)) (acts-once x (w .acts)) (w .suffices) in
+        let b : every n (λ i. may (y + i)) ≡ true =
+        every-all _ n (λ j h.
+        let b = r .each j h in
+        may-is (b .index) (y + j) (covers-stands b) .1 (subst (Suffices L) (b .under) (over y n o (w .levels) r .0 enough j h))) in
+        simp (le-leb _ _ (w .some), le-leb _ _ (w .few), b)
+
+  -- a byte that may be written lies in a region
+  write-lies : (m : Memory) (y : ℕ) → mayWrite S m L y ≡ true → (i : ℕ) × Covered S m i y
+  unfolding mayWrite
+  write-lies m y e = (regionFor S m y, region-covers S m y (ltb-true _ _ (and-is (ltb (regionFor S m y) (count S (kindOf m))) _ .0 e .0)))
 
   -- a byte may be written, and read and written, as its region says
-  writes : (m : Memory) (i y : ℕ) → Covered S m i y 1 → (mayWrite S m L y ≡ true) ↔ (L ≤ region.levels of regionAt S m i % 16)
+  writes : (m : Memory) (i y : ℕ) → Covered S m i y → (mayWrite S m L y ≡ true) ↔ (L ≤ region.levels of regionAt S m i % 16)
   writes m i y c = (λ e. leb-true _ _ (sym (may-write g L c) ∙ e), λ h. may-write g L c ∙ le-leb _ _ h)
 
   changes :
-      (m : Memory) (i y : ℕ) → Covered S m i y 1 →
+      (m : Memory) (i y : ℕ) → Covered S m i y →
       ((mayRead S m L y && mayWrite S m L y) ≡ true) ↔ ((L ≤ region.levels of regionAt S m i / 16) × (L ≤ region.levels of regionAt S m i % 16))
   changes m i y c = (
     λ e. let b = and-is (mayRead S m L y) (mayWrite S m L y) .0 e in (leb-true _ _ (sym (may-read g L c) ∙ b .0), writes m i y c .0 (b .1)),
@@ -132,10 +148,10 @@ module _ (x : Asked) (g : Good (x .sheet)) where
 
   bytes-is :
       (m : Memory) (most n y : ℕ) →
-      (inRange S m most (mayWrite S m L) n y ≡ true) ↔ ((o : ℕ) × Open x m most (λ level levels. level ≤ levels % 16) n y o)
+      (inRange most (mayWrite S m L) n y ≡ true) ↔ ((o : ℕ) × Open x m most (λ level levels. level ≤ levels % 16) n y o)
   bytes-is m most n y = (
-    range-open m most (mayWrite S m L) (λ level levels. level ≤ levels % 16) (writes m) n y,
-    λ w. open-range m most (mayWrite S m L) (λ level levels. level ≤ levels % 16) (writes m) n y (w .0) (w .1),
+    range-open m most (mayWrite S m L) (λ level levels. level ≤ levels % 16) (write-lies m) (writes m) (λ y n o l r. r .writing L) n y,
+    λ w. open-range m most (mayWrite S m L) (λ level levels. level ≤ levels % 16) (write-lies m) (writes m) (λ y n o l r. r .writing L) n y (w .0) (w .1),
   )
 
   -- A WRITE TO MEMORY, of bytes or of bits
@@ -144,9 +160,20 @@ module _ (x : Asked) (g : Good (x .sheet)) where
   memory-is (bytes Device) n y d = bytes-is Device 12 n y
   memory-is (bytes User) n y d = bytes-is User 11 n y
   memory-is bits n y d = (
-    range-open Device 5 (λ y. mayRead S Device L y && mayWrite S Device L y) (ToWrite bits) (changes Device) n y,
-    λ w. open-range Device 5 (λ y. mayRead S Device L y && mayWrite S Device L y) (ToWrite bits) (changes Device) n y (w .0) (w .1),
+    range-open Device 5 (λ y. mayRead S Device L y && mayWrite S Device L y) (ToWrite bits) lies (changes Device) both n y,
+    λ w. open-range Device 5 (λ y. mayRead S Device L y && mayWrite S Device L y) (ToWrite bits) lies (changes Device) both n y (w .0) (w .1),
   )
+    where
+      lies : (y : ℕ) → (mayRead S Device L y && mayWrite S Device L y) ≡ true → (i : ℕ) × Covered S Device i y
+      lies y e = write-lies Device y (and-is (mayRead S Device L y) (mayWrite S Device L y) .0 e .1)
+
+      both :
+          (y n o l : ℕ) (r : Ranged S Device y n o l) →
+          ((L ≤ l / 16) × (L ≤ l % 16)) ↔ ((i : ℕ) → i < n → (L ≤ r .at i / 16) × (L ≤ r .at i % 16))
+      both y n o l r = (
+        λ h i b. (r .reading L .0 (h .0) i b, r .writing L .0 (h .1) i b),
+        λ h. (r .reading L .1 (λ i b. h i b .0), r .writing L .1 (λ i b. h i b .1)),
+      )
 
   -- A KEY
   pub key-is : (named number : ℕ) (d : List ℕ) → (allowed S L d (change (writeKey named number)) ≡ true) ↔ KeyWritable x named

@@ -1,4 +1,4 @@
--- The region of an address range, and the property of an object and id: the searches find the one that there is.
+-- The region of an address, and the property of an object and id: the searches find the one that there is.
 -- Assumes nothing.
 use Prim.Native.Nat.{ℕ, _+_, _*_, _/_, _%_, _<_}
 use mathlib.Core.Path.{_≡_}
@@ -13,49 +13,40 @@ use Rattle.sheet.specs.Region as region
 use Rattle.sheet.specs.Property as property
 use Rattle.sheet.specs.Entries.{count, place, entry, keyOf}
 use Rattle.sheet.specs.Lookup.{covers}
-use Rattle.sheet.specs.Places.{regionAt, Stands, PropertyWith}
+use Rattle.sheet.specs.Places.{regionAt, PropertyWith}
 use Rattle.sheet.specs.declared.Memory.{Memory}
 use Rattle.sheet.proofs.Good.{Good, accepted}
 use Rattle.sheet.proofs.Standing.{entry-at}
 use Rattle.sheet.proofs.FrontSearch.{seek-hit, seek-passes}
 use Rattle.sheet.proofs.Keys.{index-hit, index-key, key-is, key-parts}
-use Rattle.sheet.proofs.Runs.{Covered, covering, covered, region-once}
+use Rattle.sheet.proofs.Regions.{Covered, covering, covered, region-once}
 use Rattle.history.specs.Permit.{regionFor, mayRead, mayWrite, indexFor}
 use Rattle.device.specs.Octets.{Octets}
 
--- the region that the search gives has the whole range
-pub region-covers : (s : List ℕ) (m : Memory) (y n : ℕ) → regionFor s m y n < count s (kindOf m) → Covered s m (regionFor s m y n) y n
+-- the region that the search gives has the address
+pub region-covers : (s : List ℕ) (m : Memory) (y : ℕ) → regionFor s m y < count s (kindOf m) → Covered s m (regionFor s m y) y
 unfolding regionFor
-region-covers s m y n h =
-    let c = covering (regionAt s m (regionFor s m y n)) y n (seek-passes (λ i. covers (regionAt s m i) y n) (count s (kindOf m)) h) in
+region-covers s m y h =
+    let c = covering (regionAt s m (regionFor s m y)) y (seek-passes (λ i. covers (regionAt s m i) y) (count s (kindOf m)) h) in
     record { below = h; from = c .0; to = c .1 }
-
--- a byte of a range, and an address that stands somewhere
-pub covered-byte : {s : List ℕ} {m : Memory} {i y n : ℕ} → Covered s m i y n → (j : ℕ) → j < n → Covered s m i (y + j) 1
-covered-byte c j h = record { below = c .below; from = omega (arith, c .from); to = omega (arith, c .to) }
-
-pub covered-stands : {s : List ℕ} {m : Memory} {y p levels : ℕ} (h : Stands s m y p levels) → Covered s m (h .index) y 1
-covered-stands h = record { below = h .below; from = h .from; to = omega (arith, h .to) }
 
 module _ {s : List ℕ} (g : Good s) where
   module _ {m : Memory} {i y : ℕ} where
     -- and a region that has it is the one
-    pub region-hit : (n : ℕ) → 0 < n → Covered s m i y n → regionFor s m y n ≡ i
+    pub region-hit : Covered s m i y → regionFor s m y ≡ i
     unfolding regionFor
-    region-hit n h c =
-        seek-hit (λ j. covers (regionAt s m j) y n) (count s (kindOf m)) i (c .below) (covered c)
-        (λ k l q.
-        let d = covering (regionAt s m k) y n q in
-        region-once g m k i y (record { below = l; from = d .0; to = omega arith }) (record { below = c .below; from = c .from; to = omega (arith, c .to) }))
+    region-hit c =
+        seek-hit (λ j. covers (regionAt s m j) y) (count s (kindOf m)) i (c .below) (covered c)
+        (λ k l q. let d = covering (regionAt s m k) y q in region-once g m k i y (record { below = l; from = d .0; to = d .1 }) c)
 
     -- what may be done with a byte is what its region says
-    pub may-read : (level : ℕ) → Covered s m i y 1 → mayRead s m level y ≡ leb level (region.levels of regionAt s m i / 16)
+    pub may-read : (level : ℕ) → Covered s m i y → mayRead s m level y ≡ leb level (region.levels of regionAt s m i / 16)
     unfolding mayRead
-    may-read level c = rw (region-hit 1 (omega arith) c, lt-ltb i (count s (kindOf m)) (c .below))
+    may-read level c = rw (region-hit c, lt-ltb i (count s (kindOf m)) (c .below))
 
-    pub may-write : (level : ℕ) → Covered s m i y 1 → mayWrite s m level y ≡ leb level (region.levels of regionAt s m i % 16)
+    pub may-write : (level : ℕ) → Covered s m i y → mayWrite s m level y ≡ leb level (region.levels of regionAt s m i % 16)
     unfolding mayWrite
-    may-write level c = rw (region-hit 1 (omega arith) c, lt-ltb i (count s (kindOf m)) (c .below))
+    may-write level c = rw (region-hit c, lt-ltb i (count s (kindOf m)) (c .below))
 
   -- a property that has the object and the id is the one
   pub property-hit : {object id i : ℕ} → PropertyWith s object id i → indexFor s object id ≡ i

@@ -44,14 +44,13 @@ module _ (s : List ℕ) (level : ℕ) where
   -- a byte that may be written
   may-suffices : (m : Memory) (y : ℕ) → mayWrite s m level y ≡ true → level ≤ writeLevel s (memory m y)
   unfolding mayWrite writeLevel
-  may-suffices m y e = leb-true _ _ (and-is (ltb (regionFor s m y 1) (count s (kindOf m))) _ .0 e .1)
+  may-suffices m y e = leb-true _ _ (and-is (ltb (regionFor s m y) (count s (kindOf m))) _ .0 e .1)
 
   -- each of a range
-  range-each : (m : Memory) (most : ℕ) (may : ℕ → Bool) (n a : ℕ) → inRange s m most may n a ≡ true → (j : ℕ) → j < n → may (a + j) ≡ true
+  range-each : (most : ℕ) (may : ℕ → Bool) (n a : ℕ) → inRange most may n a ≡ true → (j : ℕ) → j < n → may (a + j) ≡ true
   unfolding inRange
-  range-each m most may n a e j h =
-      every-at (λ i. may (a + i)) n
-      (all-at (leb 1 n ∷ leb n most ∷ ltb (regionFor s m a n) (count s (kindOf m)) ∷ every n (λ i. may (a + i)) ∷ []) e 3) j h
+  range-each most may n a e j h =
+      every-at (λ i. may (a + i)) n (all-at (leb 1 n ∷ leb n most ∷ every n (λ i. may (a + i)) ∷ []) e 2) j h
 
   module _ (before : Location → ℕ) (d : List ℕ) where
     Enough : Location → Type 0
@@ -60,12 +59,12 @@ module _ (s : List ℕ) (level : ℕ) where
     each : (w : Wish) → allowed s level d w ≡ true → Each Enough (spans s before d w)
     unfolding allowed spans Enough writeLevel
     each (change (writeMemory m n a)) e =
-        (λ j h. may-suffices m (a + j) (range-each m (mostBytes m) (mayWrite s m level) n a e j h), tt)
+        (λ j h. may-suffices m (a + j) (range-each (mostBytes m) (mayWrite s m level) n a e j h), tt)
     each (change (writeBits n a)) e = (
       λ j h.
           may-suffices Device (a + j)
           (and-is (mayRead s Device level (a + j)) (mayWrite s Device level (a + j)) .0
-          (range-each Device 5 (λ y. mayRead s Device level y && mayWrite s Device level y) n a e j h) .1),
+          (range-each 5 (λ y. mayRead s Device level y && mayWrite s Device level y) n a e j h) .1),
       tt,
     )
     each (change (writeProperty object id n z)) e =

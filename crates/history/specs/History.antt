@@ -27,7 +27,7 @@ pub record First : Type 0 where
 -- the first content of a location
 unfoldable pub firstOf : List ℕ → Location → ℕ
 firstOf s (memory m y) =
-    let e = regionAt s m (regionFor s m y 1) in getD s (region.offset of e + (y - region.address of e)) 0
+    let e = regionAt s m (regionFor s m y) in getD s (region.offset of e + (y - region.address of e)) 0
 firstOf s (body o i j) = getD s (property.offset of entryFor s o i + j) 0
 firstOf s (counter o i j) = getD s (place s properties (indexFor s o i) + property.count .at + j) 0
 firstOf s (key l j) = getD s ((head.key l) .at + j) 0

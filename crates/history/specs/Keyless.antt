@@ -19,7 +19,7 @@ use Rattle.history.specs.History.{First, firstOf, wished, opened, level,
 
 -- THE WRITE LEVEL of a byte: its region's, its property's, for the count too; of a key the level itself
 unfoldable pub writeLevel : List ℕ → Location → ℕ
-writeLevel s (memory m y) = region.levels of regionAt s m (regionFor s m y 1) % 16
+writeLevel s (memory m y) = region.levels of regionAt s m (regionFor s m y) % 16
 writeLevel s (body o i j) = property.levels of entryFor s o i % 16
 writeLevel s (counter o i j) = property.levels of entryFor s o i % 16
 writeLevel s (key l j) = l

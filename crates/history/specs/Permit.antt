@@ -39,28 +39,27 @@ heard rules live mode a out w = all (checks rules live mode a out w)
 unfoldable pub levelFor : ℕ → ℕ → ℕ
 levelFor mode level = cond (eqb mode 3) (cond (ltb 3 level) 3 level) 3
 
--- the region of a memory that has all n addresses from a on, the number of its regions where none has
-unfoldable pub regionFor : List ℕ → Memory → ℕ → ℕ → ℕ
-regionFor s m a n = seek (λ i. covers (regionAt s m i) a n) 0 (count s (kindOf m))
+-- the region of a memory that has an address, the number of its regions where none has
+unfoldable pub regionFor : List ℕ → Memory → ℕ → ℕ
+regionFor s m y = seek (λ i. covers (regionAt s m i) y) 0 (count s (kindOf m))
 
 -- the byte at an address is there, and a level may read or write it
 unfoldable pub mayRead : List ℕ → Memory → ℕ → ℕ → Bool
 mayRead s m level y =
-    let i = regionFor s m y 1 in ltb i (count s (kindOf m)) && leb level (region.levels of regionAt s m i / 16)
+    let i = regionFor s m y in ltb i (count s (kindOf m)) && leb level (region.levels of regionAt s m i / 16)
 
 unfoldable pub mayWrite : List ℕ → Memory → ℕ → ℕ → Bool
 mayWrite s m level y =
-    let i = regionFor s m y 1 in ltb i (count s (kindOf m)) && leb level (region.levels of regionAt s m i % 16)
+    let i = regionFor s m y in ltb i (count s (kindOf m)) && leb level (region.levels of regionAt s m i % 16)
 
 -- how many bytes a write to a memory may name
 abbrev pub mostBytes : Memory → ℕ
 mostBytes Device = 12
 mostBytes User = 11
 
--- the n addresses from a on, 1 to `most`, lie in one region, and a test passes for each
-unfoldable pub inRange : List ℕ → Memory → ℕ → (ℕ → Bool) → ℕ → ℕ → Bool
-inRange s m most may n a =
-    all (leb 1 n ∷ leb n most ∷ ltb (regionFor s m a n) (count s (kindOf m)) ∷ every n (λ i. may (a + i)) ∷ [])
+-- these are 1 to `most` addresses, n from a on, and a test passes for each
+unfoldable pub inRange : ℕ → (ℕ → Bool) → ℕ → ℕ → Bool
+inRange most may n a = all (leb 1 n ∷ leb n most ∷ every n (λ i. may (a + i)) ∷ [])
 
 -- the entry of a property by object and id, if there is one
 unfoldable pub indexFor : List ℕ → ℕ → ℕ → ℕ
@@ -81,9 +80,9 @@ fills e n s d =
 
 -- EVERY OTHER CHECK PASSES, AND THE LEVEL SUFFICES FOR EVERY BYTE THAT IS NAMED
 unfoldable pub allowed : List ℕ → ℕ → List ℕ → Wish → Bool
-allowed s level d (change (writeMemory m n a)) = inRange s m (mostBytes m) (mayWrite s m level) n a
+allowed s level d (change (writeMemory m n a)) = inRange (mostBytes m) (mayWrite s m level) n a
 allowed s level d (change (writeBits n a)) =
-    inRange s Device 5 (λ y. mayRead s Device level y && mayWrite s Device level y) n a
+    inRange 5 (λ y. mayRead s Device level y && mayWrite s Device level y) n a
 allowed sheet level d (change (writeProperty object id n s)) =
     let e = entryFor sheet object id in
     all

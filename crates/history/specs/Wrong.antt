@@ -171,6 +171,19 @@ userFromDevice f h x (button on) = eventOf x (button on)
 userFromDevice f h x (request mode g a out) =
     withSheet (eventOf x (request mode g a out)) (eventOf x (request mode g (asMemoryWrite a) out) .sheet)
 
+-- ONE THAT TAKES THE LEVELS OF THE FIRST REGION FOR ALL: a UserMemory_Write is stored whole if one of its first byte alone would be
+abbrev pub firstByte : List ℕ → List ℕ
+firstByte a = cond (eqb (numAt a 0 2) 0x2C2) (0x02 ∷ 0xC2 ∷ 0x01 ∷ take 3 (drop 3 a)) a
+
+abbrev pub firstRegionDecides : Device
+firstRegionDecides f h x connect = eventOf x connect
+firstRegionDecides f h x disconnect = eventOf x disconnect
+firstRegionDecides f h x (button on) = eventOf x (button on)
+firstRegionDecides f h x (request mode g a out) =
+    let r = eventOf x (request mode g a out) in
+    withSheet r
+    (cond (leb (eventOf x (request mode g (firstByte a) out) .outcome) 1) (eventOf (at x 0) (request mode g a out) .sheet) (r .sheet))
+
 -- THE RUNS begin with the sample sheet, or with the pump controller's, and a fresh session
 abbrev pub fresh : First
 fresh = record { sheet = sample; session = freshOf }
@@ -205,6 +218,10 @@ newKey0 = sent (0x03 ∷ 0xD3 ∷ 0x00 ∷ 0x77 ∷ 0x77 ∷ 0x77 ∷ 0x77 ∷ [
 -- 55 to user address 0100
 abbrev pub userWrite : Event
 userWrite = sent (0x02 ∷ 0xC2 ∷ 0x01 ∷ 0x01 ∷ 0x00 ∷ 0x55 ∷ [])
+
+-- 55 66 to user addresses 0103 and 0104: the last of one region and the first of the next
+abbrev pub acrossWrite : Event
+acrossWrite = sent (0x02 ∷ 0xC2 ∷ 0x02 ∷ 0x01 ∷ 0x03 ∷ 0x55 ∷ 0x66 ∷ [])
 
 -- 0384 to element 1 of property 51 of object 1, in a mode
 abbrev pub elementWrite : ℕ → Event
@@ -247,4 +264,5 @@ wrongs =
     shows turned (firstWrite ∷ authorized) ∷
     shows setsKey0 (newKey0 ∷ offering 0x22 ∷ connect ∷ []) ∷
     shows losesSecond (bothBytes ∷ authorized) ∷ shows ignoresKey0 (newKey0 ∷ authorized) ∷ shows addressInOne (connect ∷ []) ∷
-    record { device = userFromDevice; first = freshPump; events = userWrite ∷ authorized } ∷ []
+    record { device = userFromDevice; first = freshPump; events = userWrite ∷ authorized } ∷
+    record { device = firstRegionDecides; first = freshPump; events = acrossWrite ∷ offering 0x22 ∷ connect ∷ [] } ∷ []
