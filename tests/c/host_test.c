@@ -1,7 +1,7 @@
 /*
  * A host in C that trusts the device's library with nothing: the marked cases, all lengths and modes, damaged sheets of
- * both editions, lookups, long runs; each request is held to what is promised of any, and no byte beside its buffers is
- * touched.
+ * both editions, lookups, ranges over two regions, long runs; each request is held to what is promised of any, and no byte
+ * beside its buffers is touched.
  */
 #define _DEFAULT_SOURCE
 #include "kelindap.h"
@@ -628,6 +628,58 @@ static void test_long_run(void)
            seen[2], seen[10], seen[11]);
 }
 
+/* ---- ranges over the border of two regions that touch ---- */
+
+/* A read or write of n bytes of a memory, the new ones at `data`; gives its length. */
+static size_t memory_apdu(bool user, bool write, size_t address, size_t n, const uint8_t *data, uint8_t apdu[16])
+{
+    size_t head = user ? 5 : 4;
+    apdu[0] = 0x02;
+    apdu[1] = (uint8_t)(user ? (write ? 0xC2 : 0xC0) : (write ? 0x80 : 0x00) + n);
+    apdu[2] = (uint8_t)n;
+    put_word(apdu + head - 2, address);
+    if (write)
+        memcpy(apdu + head, data, n);
+    return write ? head + n : head;
+}
+
+/* The region before the border and the one behind it are k and k + 1. Each one that a range touches must permit it; then
+   its bytes are side by side in the sheet, and else nothing is stored. */
+static void try_border(bool user, size_t k, size_t border, size_t place)
+{
+    static const uint8_t data[12] = { 0xE1, 0xE2, 0xE3, 0xE4, 0xE5, 0xE6, 0xE7, 0xE8, 0xE9, 0xEA, 0xEB, 0xEC };
+    static uint8_t due[MOST_SHEET];
+    const uint8_t *entries = full + (user ? CONTENTS - 8 * USERS : 32);
+    int before = entries[8 * k + 6], behind = entries[8 * k + 14];
+    for (size_t address = border - 12; address <= border; address++)
+        for (size_t n = 1; n <= (user ? 11 : 12); n++)
+            for (int i = 0; i < 8; i++) {
+                bool write = i >= 4;
+                int level = i % 4, shift = write ? 0 : 4;
+                bool permitted = (address >= border || level <= (before >> shift & 15)) &&
+                                 (address + n <= border || level <= (behind >> shift & 15));
+                uint8_t apdu[16];
+                event e = { { true, (uint8_t)level }, 3, 0, { apdu, memory_apdu(user, write, address, n, data, apdu) },
+                            { full, full_length }, 16 };
+                const effect *f = try_at((enum place)(address % PLACES), &e);
+                size_t at = place + address - border, head = user ? 5 : 4;
+                memcpy(due, full, full_length);
+                if (write && permitted)
+                    memcpy(due + at, data, n);
+                expect(f->reply.outcome == (permitted ? KELINDAP_ANSWERED : KELINDAP_DENIED), "%d bytes at %d, level %d: %d", (int)n,
+                       (int)address, level, f->reply.outcome);
+                expect(f->reply.count == (permitted ? head + n : head) && (!permitted || memcmp(f->answer + head, due + at, n) == 0),
+                       "%d bytes at %d, level %d: the answer", (int)n, (int)address, level);
+                expect(memcmp(f->sheet, due, full_length) == 0, "%d bytes at %d, level %d: the sheet", (int)n, (int)address, level);
+            }
+}
+
+static void test_ranges(void)
+{
+    try_border(false, 3, region_address(4), region_body[4].offset);
+    try_border(true, 5, user_address(6), user_body[6].offset);
+}
+
 /* ---- sessions, and empty runs ---- */
 
 static void test_sessions(void)
@@ -688,6 +740,7 @@ int main(void)
     test_cut_sheets(sample_sheet);
     test_cut_sheets(pump_sheet);
     test_damaged_full_sheet();
+    test_ranges();
     test_long_run();
     return tell();
 }

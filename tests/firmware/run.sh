@@ -15,8 +15,8 @@ missing=() packages=()
 # the scripts without the PDU layer's; the vectors as a script
 mkdir "$work/made"
 tests/unit/made.sh "$work/made"
-scripts=("$work/made/device-vectors" "$work/made/pump-vectors")
-for name in marked events lookups sheets story rules; do
+scripts=("$work/made/device-vectors" "$work/made/pump-vectors" "$work/made/ranges-vectors")
+for name in marked events lookups ranges sheets story rules; do
     [ ! -e "tests/unit/$name.in" ] || scripts+=("tests/unit/$name")
 done
 

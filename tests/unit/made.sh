@@ -9,8 +9,9 @@ bytes_of() { grep -o '0x..' "../../hosts/$1.inc" | cut -c 3-4 | paste -sd '' | t
 sample=$(bytes_of sample_sheet)
 buffer=eeeeeeeeeeeeeeeeeeeeeeeeeeeeeeee
 
-# Each vector of the device, of the sample sheet or the one of edition 2: the sheet with its button and verify bits and its
-# rules, the session, the request on a buffer of 20 bytes; and once more in upper case on one of 16.
+# Each vector of the device, of the sample sheet, the one of edition 2 or the one whose regions touch: the sheet with its
+# button and verify bits and its rules, the session, the request on a buffer of 20 bytes; and once more in upper case on
+# one of 16.
 device_vectors() { # NAME of the vectors, the sheet
     awk -F '\t' -v sample="$2" -v script="$out/$1-vectors.in" -v expected="$out/$1-vectors.out" '
         function put(text, at, hex) { return substr(text, 1, 2 * at) hex substr(text, 2 * at + length(hex) + 1) }
@@ -42,6 +43,7 @@ device_vectors() { # NAME of the vectors, the sheet
 }
 device_vectors device "$sample"
 device_vectors pump "$(bytes_of pump_sheet)"
+device_vectors ranges "$(sed -n 's/^# sheet //p' ranges.tsv | cut -f 1 | tr -d ' \n')"
 
 # Each PDU vector is read; one that reads is also written again, with its fields in order and backwards, and in upper case.
 awk -F '\t' -v script="$out/pdu-vectors.in" -v expected="$out/pdu-vectors.out" '

@@ -1,9 +1,10 @@
 //! What is measured: every service, carried out, and some that are refused, on
-//! the sample sheet and on a full one; user memory on the sheet of edition 2; and
-//! the lookups of entries, on sheets with 1, 8 and 64 properties and groups.
+//! the sample sheet and on a full one; user memory on the sheet of edition 2; the
+//! lookups of entries, on sheets with 1, 8 and 64 properties and groups; and ranges
+//! over regions that touch.
 
 use model::device::Session;
-use model::sheet::{FLAGS, PROGRAMMING, PUMP, SAMPLE, VERIFY};
+use model::sheet::{touching, FLAGS, PROGRAMMING, PUMP, SAMPLE, VERIFY};
 
 /// All requests come on an open session with all rights.
 pub const SESSION: Session = Session { open: true, level: 0 };
@@ -48,7 +49,7 @@ struct Asked {
     response: u8,
 }
 
-pub fn benches() -> [Bench; 6] {
+pub fn benches() -> [Bench; 7] {
     let of_sample = Asked {
         object: 1,
         id: 51,
@@ -66,6 +67,7 @@ pub fn benches() -> [Bench; 6] {
         lookups("1", 1),
         lookups("8", 8),
         lookups("64", 64),
+        ranges(),
     ]
 }
 
@@ -182,4 +184,25 @@ fn lookups(name: &'static str, n: usize) -> Bench {
     let case = |(name, ask, gives)| Case { name, ask, gives, less_check: true };
     let cases = std::iter::once(the_check()).chain(asked.into_iter().map(case)).collect();
     Bench { name, sheet: filled(n), group: 0, cases }
+}
+
+/// Reads of four bytes of one region and of two, of twelve regions with a byte each, and
+/// one that is denied for its last byte; writes over two and over twelve regions.
+fn ranges() -> Bench {
+    let mut sheet = touching();
+    sheet[FLAGS] = PROGRAMMING | VERIFY;
+    let case = |name, gives, code: u8, address: u16, data: &[u8]| {
+        let apdu = [&[0x02, code][..], &address.to_be_bytes(), data].concat();
+        Case { name, ask: Ask::Request { mode: 3, apdu }, gives, less_check: false }
+    };
+    let cases = vec![
+        the_check(),
+        case("read in one region", 0, 0x04, 0x0108, &[]),
+        case("read over two regions", 0, 0x04, 0x0102, &[]),
+        case("read over twelve regions", 0, 0x0C, 0xFFF4, &[]),
+        case("read past the last (11)", 11, 0x0C, 0xFFF5, &[]),
+        case("write over two regions", 0, 0x84, 0x0102, &[1, 2, 3, 4]),
+        case("write over twelve", 0, 0x8C, 0xFFF4, &[5; 12]),
+    ];
+    Bench { name: "ranges", sheet, group: 0, cases }
 }

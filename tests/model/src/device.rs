@@ -123,55 +123,138 @@ fn memory_of(pdu: &Pdu) -> Memory {
     }
 }
 
-/// A memory range found inside one region.
-struct Place {
-    at: usize,
+/// A byte of memory: where it stands in the sheet, and the levels of its region.
+#[derive(Clone, Copy, Default)]
+struct Byte {
+    at: u16,
     read: u8,
     write: u8,
 }
 
-fn place<const ON: bool>(
-    faults: Faults<ON>,
-    sheet: &[u8],
-    memory: Memory,
-    n: u8,
-    address: u16,
-) -> Option<Place> {
-    if !(1..=most(memory)).contains(&n) {
-        return None;
+/// The byte at one address, looked up in the list of regions.
+fn byte(sheet: &[u8], memory: Memory, address: u32) -> Option<Byte> {
+    let r = sheet::regions(sheet, memory)
+        .find(|r| r.address <= address && address < r.address + r.length)?;
+    let at = r.body as u16 + (address - r.address) as u16;
+    Some(Byte { at, read: r.read, write: r.write })
+}
+
+/// The bytes of a memory range, each looked up for itself.
+struct Range {
+    bytes: [Byte; 12],
+    n: usize,
+}
+
+impl Range {
+    /// `None` if one byte of so many lies in no region, or if the memory can't be asked for so many.
+    fn find<const ON: bool>(
+        faults: Faults<ON>,
+        sheet: &[u8],
+        memory: Memory,
+        n: u8,
+        address: u16,
+    ) -> Option<Range> {
+        if !(1..=most(memory)).contains(&n) {
+            return None;
+        }
+        if ON {
+            return Range::slipped(faults.0, sheet, memory, n.into(), address.into());
+        }
+        Range::each(n.into(), |i| byte(sheet, memory, address as u32 + i))
     }
-    let served = if faults.is(Fault::UserFromDeviceMemory) { Memory::Device } else { memory };
-    let mut regions = sheet::regions(sheet, served);
-    let (first, end) = (address as u32, address as u32 + n as u32);
-    let region = if faults.is(Fault::RunsIntoNeighbour) {
-        let bodies = sheet::regions(sheet, served).map(|r| r.body as u32 + r.length).last()?;
-        regions.find(|r| {
-            r.address <= first
-                && first < r.address + r.length
-                && r.body as u32 + (end - r.address) <= bodies
-        })?
-    } else {
-        regions.find(|r| r.address <= first && end <= r.address + r.length)?
-    };
-    let at = region.body + (first - region.address) as usize;
-    Some(Place { at, read: region.read, write: region.write })
+
+    fn each(n: usize, find: impl Fn(u32) -> Option<Byte>) -> Option<Range> {
+        let mut bytes = [Byte::default(); 12];
+        for (i, b) in (0..).zip(&mut bytes[..n]) {
+            *b = find(i)?;
+        }
+        Some(Range { bytes, n })
+    }
+
+    /// What a fault makes of it.
+    fn slipped(fault: Fault, sheet: &[u8], memory: Memory, n: usize, first: u32) -> Option<Range> {
+        let touched = sheet::regions(sheet, memory)
+            .filter(|r| r.address < first + n as u32 && first < r.address + r.length)
+            .count();
+        let right = |i| byte(sheet, memory, first + i);
+        match fault {
+            Fault::RunsIntoNeighbour => {
+                let end = sheet::regions(sheet, memory).map(|r| r.body as u32 + r.length).last()?;
+                let found = right(0)?;
+                let next = |i| Byte { at: found.at + i as u16, ..found };
+                Range::each(n, |i| Some(next(i)).filter(|b| u32::from(b.at) < end))
+            }
+            Fault::OneRegionAlone if touched > 1 => None,
+            Fault::TwoRegionsAtMost if touched > 2 => None,
+            Fault::FirstLevelsForAll => {
+                let found = right(0)?;
+                Range::each(n, |i| right(i).map(|b| Byte { at: b.at, ..found }))
+            }
+            Fault::PassesOneByteGap => Range::each(n, |i| right(i).or_else(|| right(i + 1))),
+            Fault::RunsIntoUserMemory => {
+                Range::each(n, |i| right(i).or_else(|| byte(sheet, Memory::User, first + i)))
+            }
+            Fault::WrapsAtTheTop => Range::each(n, |i| byte(sheet, memory, (first + i) % 65_536)),
+            Fault::UserFromDeviceMemory => {
+                Range::each(n, |i| byte(sheet, Memory::Device, first + i))
+            }
+            _ => Range::each(n, right),
+        }
+    }
+
+    fn bytes(&self) -> &[Byte] {
+        &self.bytes[..self.n]
+    }
+
+    fn readable<const ON: bool>(&self, faults: Faults<ON>, level: u8) -> bool {
+        self.bytes().iter().all(|b| permits(faults, level, b.read))
+    }
+
+    fn writable<const ON: bool>(&self, faults: Faults<ON>, level: u8) -> bool {
+        self.bytes().iter().all(|b| permits(faults, level, b.write))
+    }
+
+    /// Gives each byte what `new` makes of its number and its old value, if that is allowed.
+    fn store<const ON: bool>(
+        &self,
+        faults: Faults<ON>,
+        level: u8,
+        allowed: bool,
+        sheet: &mut [u8],
+        new: impl Fn(usize, u8) -> u8,
+    ) {
+        for (i, b) in self.bytes().iter().enumerate() {
+            let slip = faults.is(Fault::StoreFirst)
+                || faults.is(Fault::StoresPermittedBytes) && permits(faults, level, b.write);
+            if allowed || slip {
+                let old = &mut sheet[b.at as usize];
+                *old = new(i, *old);
+            }
+        }
+    }
+
+    /// The answer with what the bytes hold.
+    fn told(&self, sheet: &[u8], memory: Memory, address: u16, answer: &mut [u8]) -> Reply {
+        let mut held = [0; 12];
+        for (h, b) in held.iter_mut().zip(self.bytes()) {
+            *h = sheet[b.at as usize];
+        }
+        reply(0, response(memory, self.n as u8, address), &held[..self.n], answer)
+    }
 }
 
 /// Ends a memory write: with verify on it is answered, else it is not.
-/// `stored` is where the new bytes lie, `None` if the write was denied.
+/// `stored` has the new bytes, `None` if the write was denied.
 fn memory_reply(
     sheet: &[u8],
     memory: Memory,
-    stored: Option<usize>,
-    n: u8,
+    stored: Option<Range>,
     address: u16,
     answer: &mut [u8],
 ) -> Reply {
     let verify = sheet[FLAGS] & VERIFY != 0;
     match stored {
-        Some(at) if verify => {
-            reply(0, response(memory, n, address), &sheet[at..at + n as usize], answer)
-        }
+        Some(range) if verify => range.told(sheet, memory, address, answer),
         Some(_) => silent(1),
         None if verify => reply(11, response(memory, 0, address), &[], answer),
         None => silent(12),
@@ -388,43 +471,31 @@ fn step<const ON: bool>(
         Pdu::MemoryRead { n, address } | Pdu::UserMemoryRead { n, address } => {
             let memory = memory_of(&pdu);
             let n = if faults.is(Fault::ExtensionIgnored) { n & 15 } else { n };
-            let found = place(faults, sheet, memory, n, address);
-            match found.filter(|p| permits(faults, level, p.read)) {
-                Some(Place { at, .. }) => {
-                    let bytes = &sheet[at..at + n as usize];
-                    reply(0, response(memory, n, address), bytes, answer)
-                }
+            let found = Range::find(faults, sheet, memory, n, address);
+            match found.filter(|range| range.readable(faults, level)) {
+                Some(range) => range.told(sheet, memory, address, answer),
                 None => reply(11, response(memory, 0, address), &[], answer),
             }
         }
         Pdu::MemoryWrite { n, address } | Pdu::UserMemoryWrite { n, address } => {
             let memory = memory_of(&pdu);
-            let mut stored = None;
-            if let Some(Place { at, write, .. }) = place(faults, sheet, memory, n, address) {
-                let allowed = permits(faults, level, write);
-                if allowed || store_first {
-                    sheet[at..at + n as usize].copy_from_slice(data);
-                }
-                stored = allowed.then_some(at);
-            }
-            memory_reply(sheet, memory, stored, n, address, answer)
+            let stored = Range::find(faults, sheet, memory, n, address).filter(|range| {
+                let allowed = range.writable(faults, level);
+                range.store(faults, level, allowed, sheet, |i, _| data[i]);
+                allowed
+            });
+            memory_reply(sheet, memory, stored, address, answer)
         }
         Pdu::MemoryBitWrite { n, address } => {
             let (and, xor) = data.split_at(n as usize);
-            let mut stored = None;
-            let memory = Memory::Device;
-            if let Some(Place { at, read, write }) = place(faults, sheet, memory, n, address) {
+            let stored = Range::find(faults, sheet, Memory::Device, n, address).filter(|range| {
                 let may_read =
-                    faults.is(Fault::BitWriteWithoutRead) || permits(faults, level, read);
-                let allowed = may_read && permits(faults, level, write);
-                if allowed || store_first {
-                    for (old, (a, x)) in sheet[at..].iter_mut().zip(and.iter().zip(xor)) {
-                        *old = (*old & a) ^ x;
-                    }
-                }
-                stored = allowed.then_some(at);
-            }
-            memory_reply(sheet, memory, stored, n, address, answer)
+                    faults.is(Fault::BitWriteWithoutRead) || range.readable(faults, level);
+                let allowed = may_read && range.writable(faults, level);
+                range.store(faults, level, allowed, sheet, |i, old| (old & and[i]) ^ xor[i]);
+                allowed
+            });
+            memory_reply(sheet, Memory::Device, stored, address, answer)
         }
 
         Pdu::AuthorizeRequest { key } => {

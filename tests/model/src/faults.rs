@@ -11,7 +11,7 @@ pub enum Fault {
     WrongKeyKeepsLevel,
     /// A new connection inherits the old level.
     ConnectKeepsLevel,
-    /// A memory range may leave its region as long as bodies follow it.
+    /// A memory range may leave its region as long as bodies follow it, whatever their addresses and levels.
     RunsIntoNeighbour,
     /// The first element is taken to be number 0.
     CountsFromZero,
@@ -37,10 +37,24 @@ pub enum Fault {
     RepeatsType,
     /// The later rules are in force whatever byte 30 says.
     AlwaysLater,
+    /// A memory range must lie in one region.
+    OneRegionAlone,
+    /// A memory range may go from a region to its neighbour, and no further.
+    TwoRegionsAtMost,
+    /// The levels of the region in which a memory range begins count for all of it.
+    FirstLevelsForAll,
+    /// A memory range may go over a gap of one byte between two regions.
+    PassesOneByteGap,
+    /// A range of device memory goes on in user memory.
+    RunsIntoUserMemory,
+    /// A memory range goes on at address 0 behind the last address.
+    WrapsAtTheTop,
+    /// A memory write that is denied stores the bytes that are permitted.
+    StoresPermittedBytes,
 }
 
 impl Fault {
-    pub const ALL: [Fault; 17] = [
+    pub const ALL: [Fault; 24] = [
         Fault::StoreFirst,
         Fault::LevelsReversed,
         Fault::WrongKeyKeepsLevel,
@@ -58,6 +72,13 @@ impl Fault {
         Fault::RestartLeavesSession,
         Fault::RepeatsType,
         Fault::AlwaysLater,
+        Fault::OneRegionAlone,
+        Fault::TwoRegionsAtMost,
+        Fault::FirstLevelsForAll,
+        Fault::PassesOneByteGap,
+        Fault::RunsIntoUserMemory,
+        Fault::WrapsAtTheTop,
+        Fault::StoresPermittedBytes,
     ];
 }
 

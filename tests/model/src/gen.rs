@@ -134,52 +134,106 @@ fn addresses(rng: &mut Rng, g: usize) -> BTreeSet<u16> {
     addresses
 }
 
+// The regions of a memory may be a chain: so many of a hundred have one byte, touch the
+// one before and have the levels that are usual in it. 0 is no chain.
+
+fn chain(rng: &mut Rng) -> usize {
+    rng.pick(&[0, 0, 75, 97])
+}
+
 /// Lengths of the regions of one memory, what they take of `spare` taken off it.
-fn lengths(rng: &mut Rng, r: usize, spare: &mut usize) -> Vec<usize> {
+fn lengths(rng: &mut Rng, chain: usize, r: usize, spare: &mut usize) -> Vec<usize> {
     (0..r)
         .map(|_| {
-            let more = share(rng, *spare);
+            let more = match chain {
+                _ if rng.chance(chain) => 0,
+                1.. if rng.chance(80) => rng.within(1, 4).min(*spare),
+                _ => share(rng, *spare),
+            };
             *spare -= more;
             1 + more
         })
         .collect()
 }
 
-/// The entries of the regions of one memory, whose bodies begin at `body`. They
-/// often touch, and often begin at an address in `shared`.
-fn regions(rng: &mut Rng, lengths: &[usize], mut body: usize, shared: &[usize]) -> Vec<u8> {
-    let mut entries = Vec::new();
-    let mut gaps = 65_536 - lengths.iter().sum::<usize>();
+/// Levels of the regions of one memory.
+fn all_levels(rng: &mut Rng, chain: usize, r: usize) -> Vec<u8> {
+    let usual = levels(rng);
+    (0..r).map(|_| if rng.chance(chain) { usual } else { levels(rng) }).collect()
+}
+
+/// What lies between the regions of one memory, and in front of the first. They often
+/// touch, and often begin at an address in `shared`. Where those of a chain don't touch they
+/// mostly lie one byte apart; half the chains end with the address space, and some of
+/// these begin with it.
+fn gaps(rng: &mut Rng, chain: usize, lengths: &[usize], shared: &[usize]) -> Vec<usize> {
+    let mut room = 65_536 - lengths.iter().sum::<usize>();
     let mut address = 0;
+    let mut gaps = Vec::new();
     for (k, &length) in lengths.iter().enumerate() {
-        let near = shared.iter().copied().find(|&a| address <= a);
+        let near = match shared.last() {
+            Some(&last) if k == 0 && rng.chance(30) => Some(last),
+            _ => shared.iter().copied().find(|&a| address <= a),
+        };
         let gap = match (rng.below(8), near) {
+            _ if k > 0 && rng.chance(chain) => 0,
+            (0..=5, _) if k > 0 && chain > 0 => 1,
             (0..=2, Some(near)) => near - address,
             (0..=3, _) => 0,
             (4 | 5, _) => rng.within(1, 4),
-            (6, _) if k + 1 == lengths.len() => gaps, // the last one ends with the address space
-            _ => rng.within(0, gaps / 4),
+            (6, _) if k + 1 == lengths.len() => room, // the last one ends with the address space
+            _ => rng.within(0, room / 4),
         }
-        .min(gaps);
-        gaps -= gap;
+        .min(room);
+        room -= gap;
+        address += gap + length;
+        gaps.push(gap);
+    }
+    if chain > 0 && !gaps.is_empty() && rng.chance(50) {
+        room += std::mem::take(&mut gaps[0]);
+        gaps[rng.below(lengths.len())] += room;
+    }
+    gaps
+}
+
+/// The entries of the regions of one memory, whose bodies begin at `body`.
+fn regions(
+    rng: &mut Rng,
+    chain: usize,
+    lengths: &[usize],
+    mut body: usize,
+    shared: &[usize],
+) -> Vec<u8> {
+    let mut entries = Vec::new();
+    let mut address = 0;
+    let gaps = gaps(rng, chain, lengths, shared);
+    let levels = all_levels(rng, chain, lengths.len());
+    for ((&length, gap), levels) in lengths.iter().zip(gaps).zip(levels) {
         address += gap;
         entries.extend((address as u16).to_be_bytes());
         entries.extend((length as u16).to_be_bytes());
         entries.extend((body as u16).to_be_bytes());
-        entries.extend([levels(rng), 0]);
+        entries.extend([levels, 0]);
         address += length;
         body += length;
     }
     entries
 }
 
-/// The first addresses of region entries.
-fn firsts(entries: &[u8]) -> Vec<usize> {
-    entries.chunks(8).map(|e| u16::from_be_bytes([e[0], e[1]]) as usize).collect()
+/// The addresses at which region entries begin and end, rising.
+fn edges(entries: &[u8]) -> Vec<usize> {
+    let word = |e: &[u8], at: usize| u16::from_be_bytes([e[at], e[at + 1]]) as usize;
+    let mut edges = Vec::new();
+    for e in entries.chunks(8) {
+        edges.extend([word(e, 0), word(e, 0) + word(e, 2)]);
+    }
+    edges.dedup();
+    edges
 }
 
 /// An accepted sheet of either edition; in the second, of either rules, and user
-/// memory often has addresses that the device's memory has too.
+/// memory often has addresses that the device's memory has too, and often begins
+/// where that ends.
 pub fn sheet(rng: &mut Rng) -> Vec<u8> {
     let edition = rng.pick(&[1, 2, 2]);
     let most_users = if edition == 2 { 16 } else { 0 };
@@ -193,8 +247,9 @@ pub fn sheet(rng: &mut Rng) -> Vec<u8> {
 
     // Every body can have its smallest size; the rest is handed out freely.
     let mut spare = LONGEST - contents - r - 10 * p - 14 * g - u;
-    let mut device = lengths(rng, r, &mut spare);
-    let user = lengths(rng, u, &mut spare);
+    let chains = [chain(rng), chain(rng)];
+    let mut device = lengths(rng, chains[0], r, &mut spare);
+    let user = lengths(rng, chains[1], u, &mut spare);
     let mut shapes = Vec::new();
     for _ in 0..p {
         let size = rng.within(1, 10);
@@ -231,7 +286,7 @@ pub fn sheet(rng: &mut Rng) -> Vec<u8> {
     s.extend([if edition == 2 { rng.pick(&[0, LATER]) } else { 0 }, 0]);
 
     let mut body = contents;
-    let of_device = regions(rng, &device, body, &[]);
+    let of_device = regions(rng, chains[0], &device, body, &[]);
     s.extend(&of_device);
     body += device.iter().sum::<usize>();
     for ((object, id), &(size, maximum)) in names(rng, p).into_iter().zip(&shapes) {
@@ -260,7 +315,7 @@ pub fn sheet(rng: &mut Rng) -> Vec<u8> {
         }
         body += code.max(1);
     }
-    s.extend(regions(rng, &user, body, &firsts(&of_device)));
+    s.extend(regions(rng, chains[1], &user, body, &edges(&of_device)));
     while s.len() < total {
         s.push(rng.byte());
     }
@@ -421,8 +476,24 @@ fn elements(rng: &mut Rng, size: i64, maximum: i64, count: i64) -> (u8, u16) {
     (n as u8, s as u16)
 }
 
-/// Number and first address of a range aimed at the inside or the edges of a
-/// region, sometimes of one of the other memory.
+/// Number and first address of a range from an edge of a region to an edge of
+/// one behind it, if it has no more than `most` bytes; sometimes a byte more or less.
+fn over(rng: &mut Rng, all: &[sheet::Region], most: i64) -> Option<(u8, u16)> {
+    let k = rng.below(all.len());
+    let first = all[k].address as i64 + rng.pick(&[0, 0, 0, all[k].length as i64 - 1, 1, -1]);
+    let ends = all[k..].iter().map(|r| (r.address + r.length) as i64 - first);
+    let fit: Vec<i64> = ends.filter(|n| (1..=most).contains(n)).collect();
+    let n = match (rng.below(3), fit.last()) {
+        (_, None) => return None,
+        (0, Some(&longest)) => longest,
+        _ => rng.pick(&fit),
+    };
+    let n = (n + rng.pick(&[0, 0, 0, 0, 0, 1, -1])).clamp(1, most);
+    Some((n as u8, first as u16))
+}
+
+/// Number and first address of a range aimed at the inside or the edges of
+/// regions, sometimes of the other memory's, or at the end of the address space.
 fn range(rng: &mut Rng, sheet: &[u8], good: bool, memory: Memory, most: i64) -> (u8, u16) {
     let of = |memory| if good { sheet::regions(sheet, memory).collect() } else { Vec::new() };
     let mut all: Vec<sheet::Region> = of(memory);
@@ -432,6 +503,14 @@ fn range(rng: &mut Rng, sheet: &[u8], good: bool, memory: Memory, most: i64) -> 
     let mut n = rng.within(1, most as usize) as i64;
     if all.is_empty() || rng.chance(4) {
         return (n as u8, rng.word());
+    }
+    if all.last().is_some_and(|r| r.address + r.length == 65_536) && rng.chance(30) {
+        return (n as u8, (65_536 - rng.within(1, 12)) as u16);
+    }
+    if rng.chance(40) {
+        if let Some(range) = over(rng, &all, most) {
+            return range;
+        }
     }
     let region = rng.pick(&all);
     let (first, length) = (region.address as i64, region.length as i64);
@@ -597,7 +676,7 @@ fn apdu(rng: &mut Rng, sheet: &[u8], good: bool, row: usize) -> (Vec<u8>, u16) {
         16 => code(&mut a, 0x380),
         17 | 18 => {
             let (mut n, address) = range(rng, sheet, good, Memory::User, 11);
-            if row == 17 && rng.chance(15) {
+            if row == 17 && rng.chance(20) {
                 // an address extension of the later standard, or any n at all
                 n = if rng.chance(50) { n | 16 << rng.below(4) } else { rng.byte() };
             }

@@ -19,6 +19,16 @@ pub const SAMPLE: [u8; 69] = listed(include_bytes!("../../../hosts/sample_sheet.
 /// A sheet of edition 2 with both memories, likewise.
 pub const PUMP: [u8; 101] = listed(include_bytes!("../../../hosts/pump_sheet.inc"));
 
+/// The sheet whose regions touch: what follows "# sheet" at the head of its cases.
+pub fn touching() -> Vec<u8> {
+    let cases = include_str!("../../vectors/ranges.tsv");
+    let lines = cases.lines().filter_map(|line| line.strip_prefix("# sheet "));
+    let hex: String =
+        lines.filter_map(|l| l.split('\t').next()).flat_map(|b| b.split(' ')).collect();
+    let byte = |i| u8::from_str_radix(&hex[i..i + 2], 16).expect("hex digits");
+    (0..hex.len()).step_by(2).map(byte).collect()
+}
+
 /// The bytes of a C list: every 0x and two digits.
 const fn listed<const N: usize>(text: &[u8]) -> [u8; N] {
     let mut bytes = [0; N];

@@ -187,6 +187,69 @@ fn the_rules_differ_in_two_services() {
     assert!(differed.iter().all(|&n| n > 100), "{differed:?}");
 }
 
+/// Memory, number and first address of a request for bytes of memory.
+fn range(apdu: &[u8]) -> Option<(Memory, u32, u32)> {
+    let (memory, n, address) = match pdu::read(apdu).ok()?.0 {
+        Pdu::MemoryRead { n, address }
+        | Pdu::MemoryWrite { n, address }
+        | Pdu::MemoryBitWrite { n, address } => (Memory::Device, n, address),
+        Pdu::UserMemoryRead { n, address } | Pdu::UserMemoryWrite { n, address } => {
+            (Memory::User, n, address)
+        }
+        _ => return None,
+    };
+    Some((memory, n.into(), address.into()))
+}
+
+#[test]
+fn ranges_go_over_any_number_of_regions() {
+    let mut rng = Rng::new(7);
+    // carried out, by memory and number of regions; denied for a level, a gap of one byte, the
+    // other memory, the last address
+    let mut done = [[0; 13]; 2];
+    let (mut level, mut gap, mut other, mut last) = ([0; 2], [0; 2], [0; 2], [0; 2]);
+    for _ in 0..5000 {
+        let mut state = State::new(&mut rng);
+        for _ in 0..100 {
+            let event = gen::event(&mut rng, &state.sheet);
+            let sheet = state.sheet.clone();
+            state.step(Fault::None, &event);
+            let Event::Request(ask) = &event else { continue };
+            let Some((memory, n, first)) = range(&ask.apdu) else { continue };
+            let of = memory as usize;
+            match state.reply.outcome {
+                0 | 1 => {
+                    let touched = sheet::regions(&sheet, memory)
+                        .filter(|r| r.address < first + n && first < r.address + r.length);
+                    done[of][touched.count()] += 1;
+                }
+                11 | 12 if (2..=12).contains(&n) => {
+                    let has = |memory, y| {
+                        sheet::regions(&sheet, memory)
+                            .any(|r| r.address <= y && y < r.address + r.length)
+                    };
+                    let missing: Vec<_> = (first..first + n).filter(|&y| !has(memory, y)).collect();
+                    let inner = missing.iter().all(|&y| first < y);
+                    let user = [Memory::User, Memory::Device][of];
+                    level[of] += usize::from(missing.is_empty());
+                    gap[of] +=
+                        usize::from(missing.len() == 1 && inner && missing[0] + 1 < first + n);
+                    other[of] += usize::from(
+                        !missing.is_empty() && inner && missing.iter().all(|&y| has(user, y)),
+                    );
+                    last[of] += usize::from(inner && missing.first() == Some(&65_536));
+                }
+                _ => {}
+            }
+        }
+    }
+    println!("{done:?} {level:?} {gap:?} {other:?} {last:?}");
+    assert!(done[0][1..=12].iter().chain(&done[1][1..=11]).all(|&n| n >= 5), "{done:?}");
+    for denied in [level, gap, other, last] {
+        assert!(denied.iter().all(|&n| n >= 200), "{level:?} {gap:?} {other:?} {last:?}");
+    }
+}
+
 #[test]
 fn every_fault_shows() {
     for (k, fault) in Fault::ALL.into_iter().enumerate() {

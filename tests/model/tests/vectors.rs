@@ -3,7 +3,7 @@
 use model::device::{button, connect, disconnect, request, Reply, Session};
 use model::gen::{any_sheet, Rng};
 use model::pdu::{self, Pdu};
-use model::sheet::{self, Memory, PUMP, SAMPLE};
+use model::sheet::{self, touching, Memory, PUMP, SAMPLE};
 
 fn hex(text: &str) -> Vec<u8> {
     let digits: Vec<u8> = text.chars().filter_map(|c| c.to_digit(16)).map(|d| d as u8).collect();
@@ -77,7 +77,7 @@ fn named(at: &str, name: &str) -> u16 {
 }
 
 /// Plays every row of a file that the tests share, each from the sheet, and counts the marked cases.
-fn play_rows<const N: usize>(rows: &str, from: [u8; N]) -> usize {
+fn play_rows(rows: &str, from: &[u8]) -> usize {
     let mut marked = 0;
     for row in rows.lines().filter(|row| !row.starts_with('#')) {
         let [source, at, apdu, answer, outcome, change] = row.split('\t').collect::<Vec<_>>()[..]
@@ -85,11 +85,11 @@ fn play_rows<const N: usize>(rows: &str, from: [u8; N]) -> usize {
             panic!("{row}")
         };
         marked += usize::from(source.starts_with("01 marked case"));
-        let mut sheet = from;
+        let mut sheet = from.to_vec();
         sheet[14] = (named(at, "button") + 2 * named(at, "verify")) as u8;
         sheet[30] = found(at, "rules").unwrap_or(0) as u8;
         let mut session = Session { open: named(at, "open") == 1, level: named(at, "level") as u8 };
-        let (mut after, mut stored) = (session, sheet);
+        let (mut after, mut stored) = (session, sheet.clone());
         for pair in change.split(' ').filter(|&pair| pair != "-") {
             let (name, value) = pair.split_once('=').unwrap();
             match name {
@@ -121,8 +121,62 @@ fn play_rows<const N: usize>(rows: &str, from: [u8; N]) -> usize {
 
 #[test]
 fn shared_cases() {
-    assert_eq!(play_rows(include_str!("../../vectors/device.tsv"), SAMPLE), 16);
-    assert_eq!(play_rows(include_str!("../../vectors/pump.tsv"), PUMP), 0);
+    assert_eq!(play_rows(include_str!("../../vectors/device.tsv"), &SAMPLE), 16);
+    assert_eq!(play_rows(include_str!("../../vectors/pump.tsv"), &PUMP), 0);
+    assert_eq!(play_rows(include_str!("../../vectors/ranges.tsv"), &touching()), 0);
+}
+
+/// Every range of a byte to thirteen on the sheet whose regions touch, at every level: what
+/// each address holds and permits is spelled here, and no region is.
+#[test]
+fn ranges_byte_by_byte() {
+    let device: Vec<(u32, u8, u8, u8)> = [
+        (0x0100..=0x0103, 0xA0, 3, 2),
+        (0x0104..=0x0105, 0xA4, 3, 1),
+        (0x0106..=0x0106, 0xA6, 2, 0),
+        (0x0108..=0x010B, 0xA8, 3, 3),
+        (0xFFF4..=0xFFF9, 0xF4, 3, 3),
+        (0xFFFA..=0xFFFA, 0xFA, 1, 3),
+        (0xFFFB..=0xFFFF, 0xFB, 3, 3),
+    ]
+    .into_iter()
+    .flat_map(|(addresses, held, read, write)| {
+        addresses.zip(held..).map(move |(address, held)| (address, held, read, write))
+    })
+    .collect();
+    let found = |address: u32| device.iter().find(|byte| byte.0 == address);
+    let sheet = touching();
+    let addresses = (0x00F0..=0x0120).chain(0xFFE0..=0xFFFF).chain(0..=3);
+    for (address, n) in addresses.flat_map(|a| (0..=13).map(move |n| (a, n))) {
+        let range: Option<Vec<_>> = (0..n).map(|i| found(address + i)).collect();
+        let range = range.filter(|_| (1..=12).contains(&n));
+        for level in 0..4 {
+            let due = range.as_ref().filter(|bytes| bytes.iter().all(|b| level <= b.2));
+            let [high, low] = (address as u16).to_be_bytes();
+            let mut answer = vec![0x02, 0x40, high, low];
+            if let Some(bytes) = due {
+                answer[1] += n as u8;
+                answer.extend(bytes.iter().map(|b| b.1));
+            }
+            let mut session = Session { open: true, level };
+            let (mut after, mut buffer) = (sheet.clone(), [0; 16]);
+            let apdu = [0x02, n as u8, high, low];
+            let reply = request(&mut session, 3, 0, &apdu, &mut after, &mut buffer);
+            assert_eq!(&buffer[..reply.count as usize], answer, "{address:04x} {n} {level}");
+            assert_eq!((reply.outcome == 0, &after), (due.is_some(), &sheet));
+
+            if n > 12 {
+                continue;
+            }
+            let due = range.as_ref().filter(|bytes| bytes.iter().all(|b| level <= b.3));
+            let data = vec![0x5A; n as usize];
+            let apdu = [&[0x02, 0x80 + n as u8, high, low][..], &data].concat();
+            let reply = request(&mut session, 3, 0, &apdu, &mut after, &mut buffer);
+            assert_eq!(reply.outcome == 0, due.is_some(), "{address:04x} {n} {level}");
+            let changed = after.iter().zip(&sheet).filter(|(new, old)| new != old).count();
+            assert_eq!(changed, due.map_or(0, |bytes| bytes.len()), "{address:04x} {n} {level}");
+        }
+    }
 }
 
 #[test]
