@@ -9,79 +9,114 @@ use native.Mathlib.Omega.{arith}
 use Rattle.octets.specs.Splice.{splice}
 use Rattle.octets.proofs.Splices.{splice-none, splice-above, length-splice, splice-read}
 use Rattle.judge.specs.declared.Session.{Session}
-use Rattle.device.specs.Step.{Step, stepOf, Did, Called}
-use Rattle.device.specs.Asked.{Asked, noRoom}
-use Rattle.device.specs.Right.{Right}
+use Rattle.device.specs.Step.{Step, stepOf}
+use Rattle.device.specs.Asked.{noRoom}
+use Rattle.device.specs.Sessions.{sessionFor, turnedOf}
+use Rattle.device.specs.Events.{State, Effect, request, requestOf, eventOf, Did, Called}
+use Rattle.device.specs.Due.{asked, RequestDue}
 use Rattle.device.specs.Replies.{Denial}
 use Rattle.device.specs.Demand1.{Leaves}
-use Rattle.device.specs.Demand2.{stepSeen}
+use Rattle.device.specs.Demand2.{effectSeen}
+use Rattle.device.specs.declared.Sessions.{Sessions}
 use Rattle.device.specs.declared.Done.{Done}
 use Rattle.device.proofs.Stepped.{step-refused}
-use Rattle.device.proofs.Demand1.{one-of, untouched, silent, denial, at-most-16}
-use Rattle.device.proofs.Rightly.{right, right-only}
+use Rattle.device.proofs.Demand1.{one-of, untouched, runs-on, silent, denial, at-most-16}
+use Rattle.device.proofs.Connections.{own-stays}
+use Rattle.device.proofs.Dues.{request-due, request-only}
 
-module _ (session : Session) (mode group : ℕ) (apdu sheet answer : List ℕ) where
-  abbrev x : Asked
-  x = record { room = length answer; sheet = sheet; session = session; mode = mode; group = group; apdu = apdu }
+module _ (sessions : Sessions) (mode c group : ℕ) (apdu sheet answer : List ℕ) where
+  abbrev x : State
+  x = record { sessions = sessions; sheet = sheet }
+
+  abbrev session : Session
+  session = sessionFor sessions mode c
 
   abbrev step : Step
   step = stepOf (length answer) sheet session mode group apdu
+
+  abbrev effect : Effect
+  effect = eventOf x (request mode c group apdu answer)
 
   -- an answer fits into the buffer
   fits : 0 + length (step .answer) ≤ length answer
   fits = go (decLt (length answer) 16)
     where
       none : length answer < 16 → step .answer ≡ []
-      none h = sym (ap (λ (r : Step). r .answer) (step-refused x (noRoom h)))
+      none h = sym (ap (λ (r : Step). r .answer) (step-refused (asked x mode c group apdu answer) (noRoom h)))
 
       go : Dec (length answer < 16) → 0 + length (step .answer) ≤ length answer
       go (yes h) = omega (arith, ap length (none h))
       go (no h) = omega (arith, at-most-16 (length answer) sheet session mode group apdu)
 
-  module _ (r : Done) (sheet′ answer′ : List ℕ) (call : Called session mode group apdu sheet answer r sheet′ answer′) where
-    did : Did step r answer sheet′ answer′
+  -- 2 to 12 leave both sessions
+  stay : 2 ≤ step .outcome → effect .sessions ≡ sessions
+  unfolding eventOf requestOf
+  stay h =
+      rw (runs-on (length answer) sheet session mode group apdu h)
+      (rw (untouched (length answer) sheet session mode group apdu h .1) (own-stays sessions mode c))
+
+  module _ (r : Done) (sheet′ answer′ : List ℕ) (call : Called sessions mode c group apdu sheet answer r sheet′ answer′) where
+    did : Did effect r answer sheet′ answer′
+    unfolding eventOf
     did = call .did
+
+    is-outcome : r .outcome ≡ step .outcome
+    unfolding eventOf requestOf
+    is-outcome = did .outcome
+
+    is-count : r .count ≡ length (step .answer)
+    unfolding eventOf requestOf
+    is-count = did .count
+
+    is-answer : answer′ ≡ splice answer 0 (step .answer)
+    unfolding eventOf requestOf
+    is-answer = did .answer
+
+    is-sheet : sheet′ ≡ step .sheet
+    unfolding eventOf requestOf
+    is-sheet = did .sheet
 
     -- in front of the buffer stands the step's answer
     front : take (r .count) answer′ ≡ step .answer
     front =
-        ap (λ (n : ℕ). take n answer′) (did .count)
-        ∙ ap (take (length (step .answer))) (did .answer)
+        ap (λ (n : ℕ). take n answer′) is-count
+        ∙ ap (take (length (step .answer))) is-answer
         ∙ splice-read answer 0 (step .answer) fits
 
-    seen : stepSeen r sheet′ answer′ ≡ step
+    seen : effectSeen r sheet′ answer′ ≡ effect
+    unfolding eventOf requestOf
     seen =
-        ap (λ (n : ℕ). record { outcome = n; answer = take (r .count) answer′; session = r .session; sheet = sheet′ }) (did .outcome)
-        ∙ ap (λ (b : List ℕ). record { outcome = step .outcome; answer = b; session = r .session; sheet = sheet′ }) front
-        ∙ ap (λ (q : Session). record { outcome = step .outcome; answer = step .answer; session = q; sheet = sheet′ }) (did .session)
-        ∙ ap (λ (s : List ℕ). record { outcome = step .outcome; answer = step .answer; session = step .session; sheet = s }) (did .sheet)
+        ap (λ (n : ℕ). record { outcome = n; answer = take (r .count) answer′; sessions = r .sessions; sheet = sheet′ }) is-outcome
+        ∙ ap (λ (b : List ℕ). record { outcome = step .outcome; answer = b; sessions = r .sessions; sheet = sheet′ }) front
+        ∙ ap (λ (q : Sessions). record { outcome = step .outcome; answer = step .answer; sessions = q; sheet = sheet′ }) (did .sessions)
+        ∙ ap (λ (s : List ℕ). record { outcome = step .outcome; answer = step .answer; sessions = effect .sessions; sheet = s }) is-sheet
 
     quiet : 1 ≤ r .outcome → (r .outcome ≡ 11 → ⊥) → step .answer ≡ []
-    quiet h n = silent (length answer) sheet session mode group apdu (omega (arith, did .outcome)) (λ z. n (did .outcome ∙ z))
+    quiet h n = silent (length answer) sheet session mode group apdu (omega (arith, is-outcome)) (λ z. n (is-outcome ∙ z))
 
     -- DEMAND 1 OF A CALL
-    pub call-leaves : Leaves session apdu sheet answer r sheet′ answer′
+    pub call-leaves : Leaves sessions apdu sheet answer r sheet′ answer′
     call-leaves =
         record {
-          outcome = omega (arith, did .outcome, one-of (length answer) sheet session mode group apdu);
+          outcome = omega (arith, is-outcome, one-of (length answer) sheet session mode group apdu);
           kept =
               λ h.
-              let k = untouched (length answer) sheet session mode group apdu (omega (arith, did .outcome)) in
-              (did .sheet ∙ k .0, did .session ∙ k .1);
-          silent = λ h n. (did .count ∙ ap length (quiet h n), did .answer ∙ ap (splice answer 0) (quiet h n) ∙ splice-none answer 0);
+              let m : 2 ≤ step .outcome = omega (arith, is-outcome) in
+              (is-sheet ∙ untouched (length answer) sheet session mode group apdu m .0, did .sessions ∙ stay m);
+          silent = λ h n. (is-count ∙ ap length (quiet h n), is-answer ∙ ap (splice answer 0) (quiet h n) ∙ splice-none answer 0);
           denial =
-              λ h. subst (Denial apdu) (sym front) (denial (length answer) sheet session mode group apdu (sym (did .outcome) ∙ h));
-          most = omega (arith, did .count, at-most-16 (length answer) sheet session mode group apdu);
+              λ h. subst (Denial apdu) (sym front) (denial (length answer) sheet session mode group apdu (sym is-outcome ∙ h));
+          most = omega (arith, is-count, at-most-16 (length answer) sheet session mode group apdu);
           rest =
               λ i h.
-              ap (λ (l : List ℕ). getD l i 0) (did .answer) ∙ splice-above answer 0 (step .answer) fits i (omega (arith, did .count));
-          long = ap length (did .answer) ∙ length-splice answer 0 (step .answer) fits;
+              ap (λ (l : List ℕ). getD l i 0) is-answer ∙ splice-above answer 0 (step .answer) fits i (omega (arith, is-count));
+          long = ap length is-answer ∙ length-splice answer 0 (step .answer) fits;
         }
 
     -- DEMAND 2 OF A CALL: WHAT IT DID IS WHAT IS DUE
-    pub call-due : Right x (stepSeen r sheet′ answer′)
-    call-due = subst (Right x) (sym seen) (right x (call .sheetBytes) (call .apduBytes))
+    pub call-due : RequestDue mode c group apdu answer x (effectSeen r sheet′ answer′)
+    call-due = subst (RequestDue mode c group apdu answer x) (sym seen) (request-due x mode c group apdu answer (call .sheetBytes) (call .apduBytes))
 
     -- AND NOTHING ELSE IS DUE
-    pub call-only : (y : Step) → Right x y → y ≡ stepSeen r sheet′ answer′
-    call-only y h = right-only x (call .sheetBytes) (call .apduBytes) y h ∙ sym seen
+    pub call-only : (y : Effect) → RequestDue mode c group apdu answer x y → y ≡ effectSeen r sheet′ answer′
+    call-only y h = request-only x mode c group apdu answer (call .sheetBytes) (call .apduBytes) y h ∙ sym seen

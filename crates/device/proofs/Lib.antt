@@ -14,6 +14,8 @@ pub mod Sent
 pub mod Octet
 pub mod Acts
 pub mod Flags
+pub mod Connections
+pub mod Turns
 pub mod Stepped
 pub mod RightGroups
 pub mod RightAddresses
@@ -28,12 +30,12 @@ pub mod Forbidden
 pub mod Rightly
 pub mod Shapes
 pub mod Demand1
-pub mod Called
 pub mod Typing
 pub mod AnswerReads
 pub mod Unread
 pub mod Pressing
 pub mod Dues
+pub mod Called
 pub mod Room
 pub mod Requests
 pub mod Cases

@@ -1,7 +1,7 @@
--- The button, and what becomes of a session, as the code's returns ask.
+-- The button, as the code's returns ask.
 -- Assumes nothing.
 use Prim.Native.Nat.{ℕ, _+_, _-_, _≤_}
-use mathlib.Core.Path.{_≡_, ap₂, sym, subst, _∙_}
+use mathlib.Core.Path.{_≡_, ap₂, sym, _∙_}
 use mathlib.Core.Bool.{Bool}
 use mathlib.Core.List.{List}
 use native.Mathlib.Omega.{arith}
@@ -13,13 +13,7 @@ use Rattle.sheet.specs.Layout.{_of_}
 use Rattle.sheet.specs.Head as head
 use Rattle.sheet.specs.Rules.{ruleOf, isAccepted}
 use Rattle.sheet.proofs.Good.{good}
-use Rattle.judge.specs.declared.Session.{Session}
-use Rattle.judge.specs.declared.Turn.{Turn}
-use Rattle.device.specs.Carry.{turnOf}
 use Rattle.device.specs.Events.{bit, pressed, buttonOutcome, buttonSheet, Pressed}
-
-pub via-turn : (q : Session) (t u : Turn) (r : Session) → t ≡ u → r ≡ turnOf q u → r ≡ turnOf q t
-via-turn q t u r e h = subst (λ (x : Turn). r ≡ turnOf q x) (sym e) h
 
 -- an accepted sheet has room for its head
 pub head-room : (s : List ℕ) (c : ℕ) → c ≡ ruleOf s → c ≡ 0 → head.size ≤ length s

@@ -8,9 +8,13 @@ use Rattle.pdu.specs.declared.Parsed.{Parsed}
 use Rattle.judge.specs.Judge.{dataIn, judgeOf}
 use Rattle.judge.specs.declared.Session.{Session}
 use Rattle.judge.specs.declared.Decision.{Decision}
-use Rattle.device.specs.Carry.{storeOf, turnOf, answerOf, Filled}
+use Rattle.device.specs.Carry.{storeOf, turnOf, closes, answerOf, Filled}
 use Rattle.device.specs.Safe.{StoreSafe, AnswerSafe, Roomy, Safe}
-use Rattle.device.specs.Step.{Step, stepBy, stepOf, Did}
+use Rattle.device.specs.Step.{Step, stepBy, stepOf}
+use Rattle.device.specs.Sessions.{sessionFor, turnedOf, sessionsAfter}
+use Rattle.device.specs.Events.{Effect, requestOf, Did}
+use Rattle.device.specs.declared.Sessions.{Sessions}
+use Rattle.device.specs.declared.Done.{Done}
 use Rattle.device.proofs.Safe.{safe}
 use Rattle.device.proofs.Room.{roomy}
 
@@ -34,19 +38,39 @@ module _ (room : ℕ) (s : List ℕ) (q : Session) (mode group : ℕ) (a d : Lis
       subst (λ (x : List ℕ). AnswerSafe x d (k .answer)) (sym carried) (is-safe .answer),
     )
 
-    module _ (out out′ : List ℕ) (n : ℕ) (q′ : Session) (sent : Filled (answerOf s′ d (k .answer)) n out out′) (turned : q′ ≡ turnOf q (k .turn)) where
+    module _ (out out′ : List ℕ) (n : ℕ) (qs new : Sessions) (c : ℕ) (sent : Filled (answerOf s′ d (k .answer)) n out out′)
+        (met : q ≡ sessionFor qs mode c) (turned : new ≡ turnedOf qs mode c (closes (k .turn)) (turnOf (sessionFor qs mode c) (k .turn))) where
+      -- the step that was carried out
       abbrev after : Step
-      after = record { outcome = k .outcome; answer = answerOf s′ d (k .answer); session = q′; sheet = s′ }
+      after =
+          record {
+            outcome = k .outcome;
+            answer = answerOf s′ d (k .answer);
+            session = turnOf q (k .turn);
+            sheet = s′;
+            restarts = closes (k .turn);
+          }
 
-      is-step : after ≡ stepOf room s q mode group a
+      is-step : after ≡ stepOf room s (sessionFor qs mode c) mode group a
       unfolding stepOf stepBy
       is-step =
-          ap (λ (x : Session). record { outcome = k .outcome; answer = answerOf s′ d (k .answer); session = x; sheet = s′ }) turned
-          ∙ ap (λ (x : List ℕ). record { outcome = k .outcome; answer = answerOf x d (k .answer); session = turnOf q (k .turn); sheet = x }) carried
+          ap (λ (x : List ℕ). record { outcome = k .outcome; answer = answerOf x d (k .answer); session = turnOf q (k .turn); sheet = x; restarts = closes (k .turn) }) carried
           ∙ ap (stepBy s q d) judged
           ∙ ap (λ (x : List ℕ). stepBy s q x (judgeOf room s q mode group a)) whose
+          ∙ ap (λ (x : Session). stepOf room s x mode group a) met
 
-      pub did : Did (stepOf room s q mode group a) (record { outcome = k .outcome; count = n; session = q′ }) out s′ out′
+      abbrev result : Done
+      result = record { outcome = k .outcome; count = n; sessions = new }
+
+      pub did : Did (requestOf room s qs mode c group a) result out s′ out′
+      unfolding requestOf
       did =
-          subst (λ (x : Step). Did x (record { outcome = k .outcome; count = n; session = q′ }) out s′ out′) is-step
-          (record { outcome = refl; count = sent .count; session = refl; sheet = refl; answer = sent .holds })
+          subst
+          (λ (r : Step). Did (record { outcome = r .outcome; answer = r .answer; sessions = sessionsAfter qs mode c r; sheet = r .sheet }) result out s′ out′) is-step
+          (record {
+            outcome = refl;
+            count = sent .count;
+            sessions = turned ∙ ap (λ (x : Session). turnedOf qs mode c (closes (k .turn)) (turnOf x (k .turn))) (sym met);
+            sheet = refl;
+            answer = sent .holds;
+          })

@@ -2,7 +2,7 @@
 -- Assumes nothing.
 use Prim.Native.Nat.{ℕ, _*_, _-_}
 use mathlib.Core.Path.{_≡_, refl, sym, ap, subst, _∙_}
-use mathlib.Core.Bool.{false}
+use mathlib.Core.Bool.{true, false}
 use mathlib.Core.List.{List, []}
 use native.Mathlib.Omega.{arith}
 use borrow.Author.Tests.{eq-eqb, ne-eqb}
@@ -48,6 +48,7 @@ module _ (x : Asked) where
         answer = encoded (AuthorizeResponse level) [];
         session = record { opened = x .session .opened; level = level };
         sheet = x .sheet;
+        restarts = false;
       }
 
   module _ (key : ℕ) (r : Reads x (AuthorizeRequest key)) where
@@ -99,6 +100,7 @@ module _ (x : Asked) where
           answer = [];
           session = record { opened = false; level = 3 };
           sheet = splice (x .sheet) (head.flags .at) (bytesOf 1 f);
+          restarts = true;
         }
 
     left : head.flags of x .sheet - head.programming (x .sheet) ≡ head.verify (x .sheet) * 2

@@ -131,6 +131,7 @@ module _ (room : ℕ) {s s′ : List ℕ} (q : Session) (mode group : ℕ) (a : 
         outcome = ap (λ (r : Step). r .outcome) as-first ∙ unfold stepOf stepBy in refl;
         answer = ap (λ (r : Step). r .answer) as-first ∙ unfold stepOf stepBy in answer-but left d (k .answer) (past .2);
         session = ap (λ (r : Step). r .session) as-first ∙ unfold stepOf stepBy in refl;
+        restarts = ap (λ (r : Step). r .restarts) as-first ∙ unfold stepOf stepBy in refl;
         sheet =
             let l : But (stepOf room s q mode group a .sheet) (stepOf room s′ q mode group a .sheet) =
             subst (λ (r : Step). But (stepOf room s q mode group a .sheet) (r .sheet)) (sym as-first) (unfold stepOf stepBy in left) in

@@ -1,9 +1,10 @@
 -- Runs of events without a disputed request are the same under both rules.
 -- Assumes nothing.
 use Prim.Native.Nat.{ℕ, _+_, _-_}
-use mathlib.Core.Path.{_≡_, refl, subst, sym}
-use mathlib.Core.Bool.{Bool}
+use mathlib.Core.Path.{_≡_, refl, ap, ap₂}
+use mathlib.Core.Bool.{Bool, cond}
 use mathlib.Core.List.{List, [], _∷_}
+use lib.Dec.{eqb}
 use lib.ListN.{length}
 use native.Mathlib.Omega.{arith}
 use Rattle.octets.specs.Bytes.{bytesOf}
@@ -11,10 +12,12 @@ use Rattle.octets.proofs.Numbers.{length-bytes, num-same}
 use Rattle.sheet.specs.Layout.{_of_}
 use Rattle.sheet.specs.Head as head
 use Rattle.sheet.proofs.Good.{good}
+use Rattle.judge.specs.Session.{connected}
 use Rattle.judge.specs.declared.Session.{Session}
-use Rattle.device.specs.Step.{stepOf}
-use Rattle.device.specs.Events.{State, Event, connect, disconnect, button, request, bit, pressed, buttonOutcome, buttonSheet, eventOf, after, run}
-use Rattle.device.specs.Apart.{SameButRules, Alike, Settled, AllSettled, Together}
+use Rattle.device.specs.declared.Sessions.{Sessions}
+use Rattle.device.specs.Sessions.{freshOf, withSession, sessionFor}
+use Rattle.device.specs.Events.{State, Event, connect, disconnect, button, request, bit, pressed, buttonOutcome, buttonSheet, connectOf, disconnectOf, requestOf, eventOf, after, run}
+use Rattle.device.specs.Apart.{SameButRules, AlikeAfter, Settled, AllSettled, Together}
 use Rattle.device.proofs.Stays.{stays}
 use Rattle.device.proofs.RulesApart.{But, but, splice-but, is-accepted, rules-apart}
 
@@ -37,16 +40,18 @@ module _ {s s′ : List ℕ} (b : SameButRules s s′) (on : Bool) where
       (splice-but (but b) (head.flags .at) (bytesOf 1 new) (omega (arith, length-bytes 1 new, good s (b .accepted) .framed)))
 
 -- AN EVENT THAT IS NO DISPUTED REQUEST
-pub event-apart : (x x′ : State) (e : Event) → Together x x′ → Settled e → Alike (eventOf x e) (eventOf x′ e)
-unfolding eventOf
-event-apart x x′ connect t c = record { outcome = refl; answer = refl; session = refl; sheet = t .sheet }
-event-apart x x′ disconnect t c = record { outcome = refl; answer = refl; session = refl; sheet = t .sheet }
-event-apart x x′ (button on) t c =
+pub event-apart : (x x′ : State) (e : Event) → Together x x′ → Settled e → AlikeAfter (eventOf x e) (eventOf x′ e)
+unfolding eventOf requestOf
+event-apart x x′ (connect c) t u =
+    record { outcome = refl; answer = refl; sessions = ap (λ (q : Sessions). connectOf q c) (t .sessions); sheet = t .sheet }
+event-apart x x′ (disconnect c) t u =
+    record { outcome = refl; answer = refl; sessions = ap (λ (q : Sessions). disconnectOf q c) (t .sessions); sheet = t .sheet }
+event-apart x x′ (button on) t u =
     let b = press-but (t .sheet) on in
     record {
       outcome = press-outcome (t .sheet) on;
       answer = refl;
-      session = t .session;
+      sessions = t .sessions;
       sheet =
           record {
             accepted = unfold after in stays x (button on) (t .sheet .accepted);
@@ -55,9 +60,15 @@ event-apart x x′ (button on) t c =
             others = b .others;
           };
     }
-event-apart x x′ (request mode group a out) t c =
-    subst (λ (q : Session). Alike (stepOf (length out) (x .sheet) (x .session) mode group a) (stepOf (length out) (x′ .sheet) q mode group a))
-    (sym (t .session)) (rules-apart (length out) (x .session) mode group a (t .sheet) c)
+event-apart x x′ (request mode c group a out) t u =
+    let k = rules-apart (length out) (sessionFor (x .sessions) mode c) mode group a (t .sheet) u in
+    rw (t .sessions)
+    record {
+      outcome = k .outcome;
+      answer = k .answer;
+      sessions = ap₂ (λ (b : Bool) (q : Session). cond b freshOf (cond (eqb mode connected) (withSession (x .sessions) c q) (x .sessions))) (k .restarts) (k .session);
+      sheet = k .sheet;
+    }
 
 -- THE STATES AFTER A RUN
 pub runs-apart : (x x′ : State) (es : List Event) → Together x x′ → AllSettled es → Together (run x es) (run x′ es)
@@ -65,9 +76,9 @@ unfolding run after
 runs-apart x x′ [] t c = t
 runs-apart x x′ (e ∷ es) t c =
     let k = event-apart x x′ e t (c .0) in
-    runs-apart (after x e) (after x′ e) es (record { session = k .session; sheet = k .sheet }) (c .1)
+    runs-apart (after x e) (after x′ e) es (record { sessions = k .sessions; sheet = k .sheet }) (c .1)
 
 -- AND EVERY EVENT'S OUTCOME AND ANSWER, whatever went before
 pub steps-apart :
-    (x x′ : State) (es : List Event) (e : Event) → Together x x′ → AllSettled es → Settled e → Alike (eventOf (run x es) e) (eventOf (run x′ es) e)
+    (x x′ : State) (es : List Event) (e : Event) → Together x x′ → AllSettled es → Settled e → AlikeAfter (eventOf (run x es) e) (eventOf (run x′ es) e)
 steps-apart x x′ es e t c d = event-apart (run x es) (run x′ es) e (runs-apart x x′ es t c) d

@@ -4,7 +4,6 @@ use Prim.Native.Nat.{ℕ}
 use mathlib.Core.Path.{sym, subst}
 use mathlib.Core.Bool.{Bool}
 use mathlib.Core.List.{List}
-use lib.ListN.{length}
 use native.Mathlib.Omega.{arith}
 use Rattle.sheet.specs.Rules.{Accepted, isAccepted}
 use Rattle.sheet.specs.Frame.{Agree}
@@ -18,7 +17,8 @@ use Rattle.judge.specs.Judge.{decideOf, dataIn}
 use Rattle.octets.proofs.Walks.{by-test}
 use Rattle.device.specs.Step.{stepBy, stepOf}
 use Rattle.device.specs.Asked.{Asked, given}
-use Rattle.device.specs.Events.{State, Event, connect, disconnect, button, request, pressed, buttonSheet, eventOf, after}
+use Rattle.device.specs.Events.{State, Event, connect, disconnect, button, request, pressed, buttonSheet, requestOf, eventOf, after}
+use Rattle.device.specs.Due.{asked}
 use Rattle.device.proofs.RequestCases.{request-cases}
 use Rattle.device.proofs.Flags.{bit-small}
 use Rattle.device.proofs.Agreeing.{agree-refl}
@@ -46,13 +46,11 @@ button-agrees s on ok =
 
 -- AN EVENT LEAVES ALL THAT THE RULES READ
 pub agrees : (x : State) (e : Event) → Accepted (x .sheet) → Agree (x .sheet) (after x e .sheet)
-unfolding after eventOf
-agrees x connect ok = agree-refl (x .sheet)
-agrees x disconnect ok = agree-refl (x .sheet)
+unfolding after eventOf requestOf
+agrees x (connect c) ok = agree-refl (x .sheet)
+agrees x (disconnect c) ok = agree-refl (x .sheet)
 agrees x (button on) ok = button-agrees (x .sheet) on ok
-agrees x (request mode group a out) ok =
-    request-agrees
-    (record { room = length out; sheet = x .sheet; session = x .session; mode = mode; group = group; apdu = a }) ok
+agrees x (request mode c group a out) ok = request-agrees (asked x mode c group a out) ok
 
 -- ACCEPTED STAYS ACCEPTED
 pub stays : (x : State) (e : Event) → Accepted (x .sheet) → Accepted (after x e .sheet)

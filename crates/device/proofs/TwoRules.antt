@@ -42,8 +42,8 @@ asks n mode b0 b1 = stepOf 16 (ruled n 3) holder mode 0 (b0 ∷ b1 ∷ [])
 
 -- A RESTART, CONNECTIONLESS: 9 before; under the later rules 1, programming mode cleared, the session closed at 3
 pub restarted :
-    (asks 0 2 0x03 0x80 ≡ record { outcome = 9; answer = []; session = holder; sheet = ruled 0 3 })
-    × (asks 1 2 0x03 0x80 ≡ record { outcome = 1; answer = []; session = nobody; sheet = ruled 1 2 })
+    (asks 0 2 0x03 0x80 ≡ record { outcome = 9; answer = []; session = holder; sheet = ruled 0 3; restarts = false })
+    × (asks 1 2 0x03 0x80 ≡ record { outcome = 1; answer = []; session = nobody; sheet = ruled 1 2; restarts = true })
 unfolding ruled sample stepOf stepBy judgeOf isAccepted isShut reachedOf rulesOf levelIn levelOf restartOf
     readPdu find dataOf ruleIn walkRule restRule entriesRule bodiesRule entryRule bodyRule bodyDemands entryDemands
     entry keyOf floor bodyEnd startOf reached sixBits first breach splice numAt bytesOf

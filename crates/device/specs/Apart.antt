@@ -15,7 +15,7 @@ use Rattle.pdu.specs.declared.Pdu.the-variants.{DeviceDescriptorRead}
 use Rattle.pdu.specs.declared.Service.the-variants.{Restart}
 use Rattle.judge.specs.Session.{connectionless}
 use Rattle.device.specs.Step.{Step}
-use Rattle.device.specs.Events.{Event, State, connect, disconnect, button, request}
+use Rattle.device.specs.Events.{Event, Effect, State, connect, disconnect, button, request}
 
 -- both accepted, and every byte the same but that of the rules
 pub record SameButRules (s s′ : List ℕ) : Type 0 where
@@ -38,19 +38,27 @@ pub record Alike (r r′ : Step) : Type 0 where
   pub answer : r′ .answer ≡ r .answer
   pub session : r′ .session ≡ r .session
   pub sheet : SameButRules (r .sheet) (r′ .sheet)
+  pub restarts : r′ .restarts ≡ r .restarts
+
+-- the same of what an event gives
+pub record AlikeAfter (r r′ : Effect) : Type 0 where
+  pub outcome : r′ .outcome ≡ r .outcome
+  pub answer : r′ .answer ≡ r .answer
+  pub sessions : r′ .sessions ≡ r .sessions
+  pub sheet : SameButRules (r .sheet) (r′ .sheet)
 
 -- an event, and a list of them, with no disputed request
 abbrev pub Settled : Event → Type 0
-Settled connect = Unit {0}
-Settled disconnect = Unit {0}
+Settled (connect c) = Unit {0}
+Settled (disconnect c) = Unit {0}
 Settled (button on) = Unit {0}
-Settled (request mode group a out) = Undisputed mode a
+Settled (request mode c group a out) = Undisputed mode a
 
 abbrev pub AllSettled : List Event → Type 0
 AllSettled [] = Unit {0}
 AllSettled (e ∷ es) = Settled e × AllSettled es
 
--- two devices with the same session, whose sheets are the same but for that byte
+-- two devices with the same sessions, whose sheets are the same but for that byte
 pub record Together (x x′ : State) : Type 0 where
-  pub session : x′ .session ≡ x .session
+  pub sessions : x′ .sessions ≡ x .sessions
   pub sheet : SameButRules (x .sheet) (x′ .sheet)

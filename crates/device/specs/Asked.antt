@@ -32,17 +32,17 @@ pub record Asked : Type 0 where
 
 -- what a step leaves as it was: all but the outcome, or all but the outcome and an answer
 abbrev pub quiet : Asked → ℕ → Step
-quiet x n = record { outcome = n; answer = []; session = x .session; sheet = x .sheet }
+quiet x n = record { outcome = n; answer = []; session = x .session; sheet = x .sheet; restarts = false }
 
 abbrev pub says : Asked → ℕ → Pdu → List ℕ → Step
-says x n p d = record { outcome = n; answer = encoded p d; session = x .session; sheet = x .sheet }
+says x n p d = record { outcome = n; answer = encoded p d; session = x .session; sheet = x .sheet; restarts = false }
 
 -- a store, answered or not
 abbrev pub saysAfter : Asked → List ℕ → Pdu → List ℕ → Step
-saysAfter x s p d = record { outcome = 0; answer = encoded p d; session = x .session; sheet = s }
+saysAfter x s p d = record { outcome = 0; answer = encoded p d; session = x .session; sheet = s; restarts = false }
 
 abbrev pub stores : Asked → List ℕ → Step
-stores x s = record { outcome = 1; answer = []; session = x .session; sheet = s }
+stores x s = record { outcome = 1; answer = []; session = x .session; sheet = s; restarts = false }
 
 -- WHICH MODE TAKES WHICH SERVICE, by the number of the rules
 abbrev pub Takes : ℕ → Service → ℕ → Type 0

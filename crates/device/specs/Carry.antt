@@ -3,7 +3,7 @@
 use Prim.Native.Nat.{ℕ, zero, suc, _+_}
 use mathlib.Core.Path.{_≡_}
 use mathlib.Core.List.{List, [], _∷_, _++_}
-use mathlib.Core.Bool.{false}
+use mathlib.Core.Bool.{Bool, true, false}
 use lib.ListN.{length, getD, take, drop, replicate}
 use lib.Bits.{bitAnd, bitXor}
 use Rattle.octets.specs.Bytes.{bytesOf}
@@ -43,6 +43,11 @@ abbrev pub turnOf : Session → Turn → Session
 turnOf q Stays = q
 turnOf q (Level l) = record { opened = q .opened; level = l }
 turnOf q Closes = record { opened = false; level = weakest }
+
+abbrev pub closes : Turn → Bool
+closes Stays = false
+closes (Level l) = false
+closes Closes = true
 
 -- the bytes of an answer, s being the sheet after the stores
 abbrev pub answerOf : List ℕ → List ℕ → Answer → List ℕ

@@ -6,6 +6,7 @@ use lib.ListN.{take}
 use Rattle.device.specs.Octets.{Octets}
 use Rattle.device.specs.Step.{Step, stepOf}
 use Rattle.device.specs.Asked.{Asked}
+use Rattle.device.specs.Events.{Effect}
 use Rattle.device.specs.Right.{Right}
 use Rattle.device.specs.declared.Done.{Done}
 
@@ -18,5 +19,5 @@ abbrev pub done : Asked → Step
 done x = stepOf (x .room) (x .sheet) (x .session) (x .mode) (x .group) (x .apdu)
 
 -- what a call did, as its caller sees it: what came back, the bytes in front of the answer buffer o′, and the sheet s′
-abbrev pub stepSeen : Done → List ℕ → List ℕ → Step
-stepSeen r s′ o′ = record { outcome = r .outcome; answer = take (r .count) o′; session = r .session; sheet = s′ }
+abbrev pub effectSeen : Done → List ℕ → List ℕ → Effect
+effectSeen r s′ o′ = record { outcome = r .outcome; answer = take (r .count) o′; sessions = r .sessions; sheet = s′ }

@@ -10,19 +10,32 @@ use Rattle.octets.specs.Splice.{splice}
 use Rattle.sheet.specs.Rules.{isAccepted}
 use Rattle.sheet.specs.Layout.{_of_}
 use Rattle.sheet.specs.Head as head
-use Rattle.judge.specs.Session.{weakest}
-use Rattle.judge.specs.declared.Session.{Session}
-use Rattle.device.specs.Step.{Step, stepOf}
+use Rattle.device.specs.Octets.{Octets}
+use Rattle.device.specs.Step.{stepOf}
+use Rattle.device.specs.Sessions.{newlyOpen, closed, known, withSession, sessionFor, sessionsAfter}
+use Rattle.device.specs.declared.Sessions.{Sessions}
+use Rattle.device.specs.declared.Done.{Done}
 
--- a fresh session; one that was connected; one that was disconnected
-abbrev pub freshOf : Session
-freshOf = record { opened = false; level = weakest }
+-- what an event gives: the outcome, the bytes answered, sessions and sheet afterwards
+pub record Effect : Type 0 where
+  pub outcome : ℕ
+  pub answer : List ℕ
+  pub sessions : Sessions
+  pub sheet : List ℕ
 
-abbrev pub connectOf : Session
-connectOf = record { opened = true; level = weakest }
+-- a connect and a disconnect name their connection: 7 where there is no such
+abbrev pub namedOutcome : ℕ → ℕ
+namedOutcome c = cond (known c) 1 7
 
-abbrev pub disconnectOf : Session
-disconnectOf = record { opened = false; level = weakest }
+-- what the call of one gives back, q being the sessions afterwards
+abbrev pub named : ℕ → Sessions → Done
+named c q = record { outcome = namedOutcome c; count = 0; sessions = q }
+
+abbrev pub connectOf : Sessions → ℕ → Sessions
+connectOf q c = withSession q c newlyOpen
+
+abbrev pub disconnectOf : Sessions → ℕ → Sessions
+disconnectOf q c = withSession q c closed
 
 abbrev pub bit : Bool → ℕ
 bit true = 1
@@ -45,26 +58,48 @@ pub record Pressed (s : List ℕ) (on : Bool) (r : ℕ) (s′ : List ℕ) : Type
   pub outcome : r ≡ buttonOutcome s
   pub sheet : s′ ≡ buttonSheet s on
 
--- a request comes with its mode, its group address, its APDU and the answer buffer as found
+-- WHAT A REQUEST GIVES: the step on the session that it meets; room is the length of the answer buffer
+unfoldable pub requestOf : ℕ → List ℕ → Sessions → ℕ → ℕ → ℕ → List ℕ → Effect
+requestOf room s q mode c group a =
+    let r = stepOf room s (sessionFor q mode c) mode group a in
+    record { outcome = r .outcome; answer = r .answer; sessions = sessionsAfter q mode c r; sheet = r .sheet }
+
+-- an effect as a call gives it: its result, the sheet and the buffer afterwards, the buffer having been `out`
+pub record Did (x : Effect) (r : Done) (out sheet′ out′ : List ℕ) : Type 0 where
+  pub outcome : r .outcome ≡ x .outcome
+  pub count : r .count ≡ length (x .answer)
+  pub sessions : r .sessions ≡ x .sessions
+  pub sheet : sheet′ ≡ x .sheet
+  pub answer : out′ ≡ splice out 0 (x .answer)
+
+-- WHAT A CALL DID with a request on connection c of sessions q, of APDU a, sheet s and answer buffer o; sheet and APDU being bytes
+pub record Called (q : Sessions) (mode c group : ℕ) (a s o : List ℕ) (r : Done) (s′ o′ : List ℕ) : Type 0 where
+  pub did : Did (requestOf (length o) s q mode c group a) r o s′ o′
+  pub sheetBytes : Octets s
+  pub apduBytes : Octets a
+
+-- a connect and a disconnect come with their connection; a request with its mode, connection, group address, APDU and the answer buffer as found; the button has no connection
 pub data Event : Type 0 where
-  connect disconnect : Event
+  connect disconnect : ℕ → Event
   button : Bool → Event
-  request : ℕ → ℕ → List ℕ → List ℕ → Event
+  request : ℕ → ℕ → ℕ → List ℕ → List ℕ → Event
 
 pub record State : Type 0 where
-  pub session : Session
+  pub sessions : Sessions
   pub sheet : List ℕ
 
--- ONE STEP
-unfoldable pub eventOf : State → Event → Step
-eventOf x connect = record { outcome = 1; answer = []; session = connectOf; sheet = x .sheet }
-eventOf x disconnect = record { outcome = 1; answer = []; session = disconnectOf; sheet = x .sheet }
+-- ONE EVENT
+unfoldable pub eventOf : State → Event → Effect
+eventOf x (connect c) =
+    record { outcome = namedOutcome c; answer = []; sessions = connectOf (x .sessions) c; sheet = x .sheet }
+eventOf x (disconnect c) =
+    record { outcome = namedOutcome c; answer = []; sessions = disconnectOf (x .sessions) c; sheet = x .sheet }
 eventOf x (button on) =
-    record { outcome = buttonOutcome (x .sheet); answer = []; session = x .session; sheet = buttonSheet (x .sheet) on }
-eventOf x (request mode group a out) = stepOf (length out) (x .sheet) (x .session) mode group a
+    record { outcome = buttonOutcome (x .sheet); answer = []; sessions = x .sessions; sheet = buttonSheet (x .sheet) on }
+eventOf x (request mode c group a out) = requestOf (length out) (x .sheet) (x .sessions) mode c group a
 
 unfoldable pub after : State → Event → State
-after x e = record { session = eventOf x e .session; sheet = eventOf x e .sheet }
+after x e = record { sessions = eventOf x e .sessions; sheet = eventOf x e .sheet }
 
 -- a run, the first event first
 unfoldable pub run : State → List Event → State

@@ -2,7 +2,7 @@
 -- Assumes nothing.
 use Prim.Native.Nat.{ℕ, _*_, _≤_}
 use mathlib.Core.Path.{_≡_}
-use mathlib.Core.Bool.{false}
+use mathlib.Core.Bool.{true, false}
 use mathlib.Core.List.{List, []}
 use Rattle.octets.specs.Bytes.{bytesOf}
 use Rattle.octets.specs.Splice.{splice}
@@ -37,6 +37,7 @@ pub data KeysDue (x : Asked) : Step → Type 0 where
         answer = encoded (AuthorizeResponse level) [];
         session = record { opened = x .session .opened; level = level };
         sheet = x .sheet;
+        restarts = false;
       }
   keyWrite :
       (named key : ℕ) → Reads x (KeyWrite named key) → KeyWritable x named →
@@ -52,4 +53,5 @@ pub data KeysDue (x : Asked) : Step → Type 0 where
         answer = [];
         session = record { opened = false; level = 3 };
         sheet = splice (x .sheet) (head.flags .at) (bytesOf 1 (head.verify (x .sheet) * 2));
+        restarts = true;
       }

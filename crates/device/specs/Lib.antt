@@ -1,8 +1,8 @@
 pub mod Octets
 pub mod Carry
 pub mod Step
+pub mod Sessions
 pub mod Events
-pub mod Due
 pub mod Asked
 pub mod GroupsDue
 pub mod AddressesDue
@@ -10,6 +10,7 @@ pub mod PropertiesDue
 pub mod MemoryDue
 pub mod KeysDue
 pub mod Right
+pub mod Due
 pub mod Safe
 pub mod Replies
 pub mod Demand1

@@ -2,7 +2,7 @@
 -- Assumes nothing.
 use Prim.Native.Nat.{ℕ, _+_, _-_}
 use mathlib.Core.List.{List, [], _∷_}
-use mathlib.Core.Bool.{cond}
+use mathlib.Core.Bool.{false, cond}
 use lib.Dec.{ltb, leb}
 use Rattle.sheet.specs.Kind.{properties}
 use Rattle.sheet.specs.Layout.{_of_}
@@ -28,7 +28,7 @@ refusesAll n x = quiet x n
 
 -- it sends one answer, whatever is asked
 unfoldable pub fixedAnswer : List ℕ → Asked → Step
-fixedAnswer b x = record { outcome = 0; answer = b; session = x .session; sheet = x .sheet }
+fixedAnswer b x = record { outcome = 0; answer = b; session = x .session; sheet = x .sheet; restarts = false }
 
 -- it does all as ours does, but shows a property's maximum where its count is asked for: it invents the count that it answers
 unfoldable pub inflated : List ℕ → Answer → Answer
@@ -80,13 +80,14 @@ storesDenied x =
       answer = done x .answer;
       session = done x .session;
       sheet = done (acting (λ l. 0) x) .sheet;
+      restarts = done x .restarts;
     }
 
 -- it does all as ours does at another level; the session becomes what ours makes of it
 unfoldable pub actsAt : (ℕ → ℕ) → Asked → Step
 actsAt f x =
     let r = done (acting f x) in
-    record { outcome = r .outcome; answer = r .answer; session = done x .session; sheet = r .sheet }
+    record { outcome = r .outcome; answer = r .answer; session = done x .session; sheet = r .sheet; restarts = r .restarts }
 
 -- it has the levels the wrong way round: 3 has most rights
 abbrev pub levelsTurned : Asked → Step

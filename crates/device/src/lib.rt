@@ -1,4 +1,4 @@
-// The device: a request judged, carried out and answered.
+// The device: a request on one of two connections judged, carried out and answered.
 mod answer;
 mod session;
 mod store;
@@ -7,31 +7,41 @@ pub use session::button;
 pub use session::connect;
 pub use session::disconnect;
 pub use session::fresh;
-ghost use Rattle.device.specs.Step.{Called};
+ghost use Rattle.device.specs.Events.{Called};
 use judge::Request;
 use judge::Session;
 
-// What a request gave: the outcome, the count of bytes answered, the session afterwards.
+// The sessions of connections 0 and 1.
+#[repr(C)]
+pub struct Sessions {
+    pub first: Session,
+    pub second: Session,
+}
+
+// What a call gave: the outcome, the count of bytes answered, the sessions afterwards.
 pub struct Done {
     pub outcome: u8,
     pub count: usize,
-    pub session: Session,
+    pub sessions: Sessions,
 }
 
-// A request: read, judged, carried out, answered. Whatever is refused leaves sheet, session and answer buffer as they were.
+// A request: read, judged on the session that it meets, carried out, answered. Whatever is refused leaves sheet, sessions and
+// answer buffer as they were.
 pub fn request(
-    session: Session,
+    sessions: Sessions,
     mode: u8,
+    connection: u8,
     group: u16,
     apdu: &[u8],
     sheet: &mut [u8],
     answer: &mut [u8],
 ) -> Done
-    ensures { λ r. ⌜ Called session mode group (now (apdu .entry)) (now (sheet .entry)) (now (answer .entry)) r (now (sheet .exit)) (now (answer .exit)) ⌝ }
+    ensures { λ r. ⌜ Called sessions mode connection group (now (apdu .entry)) (now (sheet .entry)) (now (answer .entry)) r (now (sheet .exit)) (now (answer .exit)) ⌝ }
 {
     let found = pdu::service_of(pdu::code(apdu));
     let parsed = pdu::read_found(found, apdu);
     let d = judge::data_in(parsed, apdu);
+    let session = session::session_for(sessions, mode, connection);
     let x = Request {
         session,
         mode,
@@ -47,6 +57,6 @@ pub fn request(
     Done {
         outcome: k.outcome,
         count,
-        session: session::turned(session, turn),
+        sessions: session::turned(sessions, mode, connection, turn),
     }
 }

@@ -1,4 +1,4 @@
--- `device::request` meets its contract: what was read is judged, what was judged is carried out, what was carried out is answered.
+-- `device::request` meets its contract: what was read is judged on the session that it meets, what was judged is carried out, what was carried out is answered.
 -- Assumes nothing.
 use borrow.Author.Needs.{needs}
 use Rattle.pdu.proofs.Reading.{named}
@@ -8,19 +8,19 @@ use Rattle.device.proofs.request.Tie as tie
 
 carry-out-requires : tie.Need-carry-out-requires
 carry-out-requires c κs =
-    carry-needs _ _ _ _ _ _ _ _ _ (c .before .before .before .before .read-found .ensures) (c .before .before .before .data-in .ensures) (c .before .judge .ensures)
+    carry-needs _ _ _ _ _ _ _ _ _ (c .before .before .before .before .before .read-found .ensures) (c .before .before .before .before .data-in .ensures) (c .before .judge .ensures)
 
 answer-requires : tie.Need-answer-requires
 answer-requires c κs =
-    answer-needs _ _ _ _ _ _ _ _ _ (c .before .before .before .before .before .before .before .before .before .read-found .ensures) (c .before .before .before .before .before .before .before .before .data-in .ensures) (c .before .before .before .before .before .before .judge .ensures) _ (c .before .before .before .before .carry-out .ensures)
+    answer-needs _ _ _ _ _ _ _ _ _ (c .before .before .before .before .before .before .before .before .before .before .read-found .ensures) (c .before .before .before .before .before .before .before .before .before .data-in .ensures) (c .before .before .before .before .before .before .judge .ensures) _ (c .before .before .before .before .carry-out .ensures)
 
 returns : tie.Need-returns
 returns c =
     record {
       did =
-          did _ _ _ _ _ _ _ _ _ (c .before .before .before .before .before .before .before .before .before .before .before .before .before .read-found .ensures) (c .before .before .before .before .before .before .before .before .before .before .before .before .data-in .ensures) (c .before .before .before .before .before .before .before .before .before .before .judge .ensures) _ (c .before .before .before .before .before .before .before .before .carry-out .ensures) _ _ _ _ (c .before .before .before .answer .ensures) (c .turned .ensures);
-      sheetBytes = λ i. c .before .before .before .before .before .before .before .before .before .before .before .before .before .before .before .before .before .slice-known .given i .fits;
-      apduBytes = λ i. c .before .before .before .before .before .before .before .before .before .before .before .before .before .before .before .before .before .before .shared-slice-known .given i .fits;
+          did _ _ _ _ _ _ _ _ _ (c .before .before .before .before .before .before .before .before .before .before .before .before .before .before .read-found .ensures) (c .before .before .before .before .before .before .before .before .before .before .before .before .before .data-in .ensures) (c .before .before .before .before .before .before .before .before .before .before .judge .ensures) _ (c .before .before .before .before .before .before .before .before .carry-out .ensures) _ _ _ _ _ _ (c .before .before .before .answer .ensures) (c .before .before .before .before .before .before .before .before .before .before .before .before .session-for .ensures) (c .turned .ensures);
+      sheetBytes = λ i. c .before .before .before .before .before .before .before .before .before .before .before .before .before .before .before .before .before .before .slice-known .given i .fits;
+      apduBytes = λ i. c .before .before .before .before .before .before .before .before .before .before .before .before .before .before .before .before .before .before .before .shared-slice-known .given i .fits;
     }
 
 pub request-spec : {M : Type 1} → statement M
@@ -30,6 +30,7 @@ request-spec =
     (λ c κs. search needs)
     (λ c κs. search needs)
     (λ c κs. search named)
+    (λ c κs. search needs)
     (λ c κs. search needs)
     (λ c κs. search named)
     carry-out-requires

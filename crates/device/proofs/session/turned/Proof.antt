@@ -1,7 +1,7 @@
 -- `device::session::turned` meets its contract: each arm knows the turn.
 -- Assumes nothing.
 use borrow.Author.Needs.{needs}
-use Rattle.device.proofs.Pressing.{via-turn}
+use Rattle.device.proofs.Turns.{via-turn, all-stay}
 use Rattle.device.proofs.session.turned.Statement.{statement}
 use Rattle.device.proofs.session.turned.Tie as tie
 
@@ -11,7 +11,9 @@ turned-spec =
     (tie.spec
     (λ c. search needs)
     (λ c. search needs)
+    (λ c κs. search needs)
     (λ c. search needs)
-    (λ c. search via-turn)
+    (λ c κs. search needs)
+    (λ c. search (via-turn, all-stay))
     (λ c. search via-turn)
     (λ c. search via-turn))

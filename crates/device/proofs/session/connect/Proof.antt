@@ -1,0 +1,14 @@
+-- `device::session::connect` meets its contract.
+-- Assumes nothing.
+use borrow.Author.Needs.{needs}
+use Rattle.device.proofs.Turns.{named-both}
+use Rattle.device.proofs.session.connect.Statement.{statement}
+use Rattle.device.proofs.session.connect.Tie as tie
+
+pub connect-spec : {M : Type 1} → statement M
+connect-spec =
+    tie.close
+    (tie.spec
+    (λ c κs. search needs)
+    (λ c κs. search needs)
+    (λ c. search named-both))

@@ -1,0 +1,14 @@
+-- `device::session::disconnect` meets its contract.
+-- Assumes nothing.
+use borrow.Author.Needs.{needs}
+use Rattle.device.proofs.Turns.{named-both}
+use Rattle.device.proofs.session.disconnect.Statement.{statement}
+use Rattle.device.proofs.session.disconnect.Tie as tie
+
+pub disconnect-spec : {M : Type 1} → statement M
+disconnect-spec =
+    tie.close
+    (tie.spec
+    (λ c κs. search needs)
+    (λ c κs. search needs)
+    (λ c. search named-both))
