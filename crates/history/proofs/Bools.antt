@@ -30,7 +30,7 @@ pub and-false : (t : Bool) → (t && false) ≡ false
 and-false true = refl
 and-false false = refl
 
-pub cond-same : (t : Bool) (y : ℕ) → cond t y y ≡ y
+pub cond-same : {A : Type 0} (t : Bool) (y : A) → cond t y y ≡ y
 cond-same true y = refl
 cond-same false y = refl
 

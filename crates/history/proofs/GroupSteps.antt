@@ -24,6 +24,7 @@ use Rattle.pdu.specs.declared.Pdu.{Pdu}
 use Rattle.device.specs.Octets.{Octets}
 use Rattle.device.specs.Events.{Event, State}
 use Rattle.device.specs.Asked.{Asked, Reads, given}
+use Rattle.device.specs.Due.{asked}
 use Rattle.device.specs.GroupsDue.{Group, Brings, write, response, Flag}
 use Rattle.history.specs.Wish.{Wish, wishOf, asks}
 use Rattle.history.specs.Wish as wish
@@ -31,7 +32,6 @@ use Rattle.history.specs.Span.{all}
 use Rattle.history.specs.History.{First, permitted}
 use Rattle.history.specs.Others.{groupByte, newValue}
 use Rattle.history.specs.Keeps.{Begins, Writing}
-use Rattle.history.specs.Rightful.{asked}
 use Rattle.history.proofs.Bools.{all-at, must-fail}
 use Rattle.history.proofs.RequestFields.{write-value, response-value}
 use Rattle.history.proofs.Framed.{below-same}
@@ -39,7 +39,7 @@ use Rattle.history.proofs.Hearing.{asks-is, brings-is}
 use Rattle.history.proofs.Invariant.{Inv, fine, now}
 use Rattle.history.proofs.Means.{store-group}
 use Rattle.device.proofs.Octet.{octets-bytes, octets-data}
-use Rattle.history.proofs.Requests.{E, Ok, Done, opens-same, levels-same, programs-same, addresses-same, values-new, unwritten, left, aside}
+use Rattle.history.proofs.Requests.{ends, E, Ok, Done, sessions-same, programs-same, addresses-same, values-new, unwritten, stayed, left, aside}
 use Rattle.history.proofs.Writes.{heard-now}
 
 -- what a PDU brings is what it asks for
@@ -53,9 +53,9 @@ unfolding bytesOf
 six-byte v zero h l = let e : v % 256 ≡ v = omega arith in e
 six-byte v (suc j) h l = absurd (omega arith)
 
-module _ (f : First) (b : Begins f) (h : List Event) (x : State) (inv : Inv f h x) (mode g : ℕ) (a out : List ℕ) (octets : Octets a) where
+module _ (f : First) (b : Begins f) (h : List Event) (x : State) (inv : Inv f h x) (mode c g : ℕ) (a out : List ℕ) (octets : Octets a) where
   abbrev R : Asked
-  R = asked x mode g a out
+  R = asked x mode c g a out
 
   six-bits : {p : Pdu} {v k : ℕ} → Brings p v k → Reads R p → v < 64
   six-bits (write v) r = write-value a octets (r .reads)
@@ -74,13 +74,13 @@ module _ (f : First) (b : Begins f) (h : List Event) (x : State) (inv : Inv f h 
     e : asks a ≡ W
     e = asks-is a p (r .reads) ∙ brings-wish q
 
-    ok : Ok f h mode g a out ≡ true
+    ok : Ok f h mode c g a out ≡ true
     ok =
-        heard-now f b h x inv mode g a out p r
+        heard-now f b h x inv mode c g a out p r
         (λ n. let w = brings-wish q in let z : _≡_ {A = ℕ} 0 1 = cc in omega arith)
 
-    none : permitted f h (E f h mode g a out) ≡ false
-    none = unwritten f h mode g a out W e (λ z. z)
+    none : permitted f h (E f h mode c g a out) ≡ false
+    none = unwritten f h mode c g a out W e (λ z. z)
 
     -- the test of the history, and what it says
     Tests : ℕ → List Bool
@@ -89,10 +89,10 @@ module _ (f : First) (b : Begins f) (h : List Event) (x : State) (inv : Inv f h 
         eqb (group.flags of Entry i / k % 2) 1 ∷ eqb (length D) (group.code of Entry i) ∷ []
 
     new-is :
-        (i j : ℕ) → groupByte f (E f h mode g a out ∷ h) i j ≡ cond (all (Tests i)) (cond (eqb (group.code of Entry i) 0) v (getD D j 0)) (groupByte f h i j)
+        (i j : ℕ) → groupByte f (E f h mode c g a out ∷ h) i j ≡ cond (all (Tests i)) (cond (eqb (group.code of Entry i) 0) v (getD D j 0)) (groupByte f h i j)
     unfolding Tests
     new-is i j =
-        values-new f h mode g a out W e ok i j
+        values-new f h mode c g a out W e ok i j
         ∙ ap (λ (d : List ℕ). newValue (Entry i) g d j (groupByte f h i j) W) (brings-is a p (r .reads))
 
     field-now : (i : ℕ) → i < count (f .sheet) groups → (group.address of entry (x .sheet) groups i ≡ group.address of Entry i) × (group.flags of entry (x .sheet) groups i ≡ group.flags of Entry i) × (group.code of entry (x .sheet) groups i ≡ group.code of Entry i)
@@ -137,14 +137,13 @@ module _ (f : First) (b : Begins f) (h : List Event) (x : State) (inv : Inv f h 
     pub value-left :
         ((i : ℕ) → Group R i → Flag (entry (x .sheet) groups i) k → length D ≡ group.code of entry (x .sheet) groups i → ⊥) →
         (n : ℕ) (answer : List ℕ) →
-        Done f h mode g a out (record { outcome = n; answer = answer; session = x .session; sheet = x .sheet })
+        Done f h mode c g a out (ends R n answer (x .sheet))
     value-left no-test n answer =
-        left f h mode g a out x inv
+        left f h mode c g a out x inv
         (record {
-          opens = opens-same f h mode g a out W e refl;
-          levels = levels-same f h mode g a out W e (λ k l. refl);
-          addresses = addresses-same f h mode g a out W e (λ m s v. refl);
-          programs = programs-same f h mode g a out W e refl;
+          sessions = sessions-same f h mode c g a out W e refl (λ k t l. refl);
+          addresses = addresses-same f h mode c g a out W e (λ m s v. refl);
+          programs = programs-same f h mode c g a out W e refl;
           values = λ i j l.
               new-is i j
               ∙ ap (λ (t : Bool). cond t (cond (eqb (group.code of Entry i) 0) v (getD D j 0)) (groupByte f h i j)) (must-fail (all (Tests i)) (λ t. let u = test-is i l .0 t in no-test i (u .0) (u .1) (u .2)));
@@ -161,30 +160,29 @@ module _ (f : First) (b : Begins f) (h : List Event) (x : State) (inv : Inv f h 
 
       stored-at :
           (ds : List ℕ) → length ds ≡ max 1 (group.code of entry (x .sheet) groups i) → Octets ds → Fit (x .sheet) groups i ds →
-          ((j : ℕ) → j < length ds → cond (eqb (group.code of Entry i) 0) v (getD D j 0) ≡ getD ds j 0) → (c : ℕ) (answer : List ℕ) →
-          Done f h mode g a out
-          (record { outcome = c; answer = answer; session = x .session; sheet = splice (x .sheet) (group.offset of entry (x .sheet) groups i) ds })
+          ((j : ℕ) → j < length ds → cond (eqb (group.code of Entry i) 0) v (getD D j 0) ≡ getD ds j 0) → (outcome : ℕ) (answer : List ℕ) →
+          Done f h mode c g a out
+          (ends R outcome answer (splice (x .sheet) (group.offset of entry (x .sheet) groups i) ds))
       unfolding bodyAt bodyEnd
-      stored-at ds size small fit same c answer =
-          aside f h mode g a out x inv W e (λ z. z) _
-          (inv .session ∙ sym (opens-same f h mode g a out W e refl))
-          (inv .rights ∙ sym (levels-same f h mode g a out W e (λ k l. refl)))
-          (rw (group-same (inv .means .agree) i group.offset there (omega arith)) (store-group (fine inv b) (inv .means) i there ds (omega (arith, size, field-now i there .2)) (groupByte f (E f h mode g a out ∷ h)) here away fit small))
-          (sym (addresses-same f h mode g a out W e (λ m s v. refl)))
-          (sym (programs-same f h mode g a out W e refl))
+      stored-at ds size small fit same outcome answer =
+          aside f h mode c g a out x inv W e (λ z. z) _
+          (stayed f h mode c g a out x inv (sessions-same f h mode c g a out W e refl (λ k t l. refl)) outcome answer _)
+          (rw (group-same (inv .means .agree) i group.offset there (omega arith)) (store-group (fine inv b) (inv .means) i there ds (omega (arith, size, field-now i there .2)) (groupByte f (E f h mode c g a out ∷ h)) here away fit small))
+          (sym (addresses-same f h mode c g a out W e (λ m s v. refl)))
+          (sym (programs-same f h mode c g a out W e refl))
           (λ i j l. refl)
         where
-          here : (j : ℕ) → j < length ds → groupByte f (E f h mode g a out ∷ h) i j ≡ getD ds j 0
+          here : (j : ℕ) → j < length ds → groupByte f (E f h mode c g a out ∷ h) i j ≡ getD ds j 0
           here j l = new-is i j ∙ rw (test-is i there .1 (m, n, o)) (same j l)
 
-          away : (l j : ℕ) → l < count (f .sheet) groups → (l ≡ i → ⊥) → groupByte f (E f h mode g a out ∷ h) l j ≡ groupByte f h l j
+          away : (l j : ℕ) → l < count (f .sheet) groups → (l ≡ i → ⊥) → groupByte f (E f h mode c g a out ∷ h) l j ≡ groupByte f h l j
           away l j d u = new-is l j ∙ rw (other l d u)
 
       -- six bits
       pub bits-stored :
-          group.code of entry (x .sheet) groups i ≡ 0 → (c : ℕ) (answer : List ℕ) →
-          Done f h mode g a out
-          (record { outcome = c; answer = answer; session = x .session; sheet = splice (x .sheet) (group.offset of entry (x .sheet) groups i) (bytesOf 1 v) })
+          group.code of entry (x .sheet) groups i ≡ 0 → (outcome : ℕ) (answer : List ℕ) →
+          Done f h mode c g a out
+          (ends R outcome answer (splice (x .sheet) (group.offset of entry (x .sheet) groups i) (bytesOf 1 v)))
       bits-stored z =
           stored-at (bytesOf 1 v) (omega (arith, length-bytes 1 v)) (octets-bytes 1 v)
           (λ u w j l. rw (six-byte v j (six-bits q r) (omega (arith, length-bytes 1 v))) (six-bits q r))
@@ -194,9 +192,9 @@ module _ (f : First) (b : Begins f) (h : List Event) (x : State) (inv : Inv f h 
 
       -- bytes
       pub bytes-stored :
-          1 ≤ group.code of entry (x .sheet) groups i → (c : ℕ) (answer : List ℕ) →
-          Done f h mode g a out
-          (record { outcome = c; answer = answer; session = x .session; sheet = splice (x .sheet) (group.offset of entry (x .sheet) groups i) D })
+          1 ≤ group.code of entry (x .sheet) groups i → (outcome : ℕ) (answer : List ℕ) →
+          Done f h mode c g a out
+          (ends R outcome answer (splice (x .sheet) (group.offset of entry (x .sheet) groups i) D))
       bytes-stored z =
           stored-at D (omega arith) (octets-data p a octets) (λ u w j l. absurd (omega arith))
           (λ j l. rw (ne-eqb (group.code of Entry i) 0 (omega (arith, field-now i there .2))))

@@ -18,11 +18,11 @@ use Rattle.pdu.specs.declared.Pdu.the-variants.{GroupValueRead, GroupValueRespo
 use Rattle.octets.proofs.Truths.{never, decided, equal-is, and-is, or-is}
 use Rattle.judge.specs.Session.{connected}
 use Rattle.device.specs.Events.{State}
-use Rattle.device.specs.Asked.{Takes, Ready, Reads}
+use Rattle.device.specs.Asked.{Asked, Takes, Ready, Reads}
+use Rattle.device.specs.Due.{asked}
 use Rattle.device.proofs.Taking.{two-modes}
 use Rattle.history.specs.Wish.{Wish, wishOf, restart, nothing, asks, brings, taken}
 use Rattle.history.specs.Permit.{checks, heard}
-use Rattle.history.specs.Rightful.{asked}
 use Rattle.history.proofs.Bools.{all-at}
 
 -- what reads as p asks what p asks
@@ -83,12 +83,15 @@ taken-is rules (UserMemoryRead n y) m = inl refl
 taken-is rules (UserMemoryResponse n y) m = inl refl
 taken-is rules (UserMemoryWrite n y) m = inr (equal-is m 3)
 
-module _ (x : State) (mode g : ℕ) (a out : List ℕ) (accepted : Accepted (x .sheet)) where
+module _ (x : State) (mode c g : ℕ) (a out : List ℕ) (accepted : Accepted (x .sheet)) where
   abbrev rules : ℕ
   rules = rulesOf (x .sheet)
 
+  abbrev R : Asked
+  R = asked x mode c g a out
+
   abbrev Tests : Wish → List Bool
-  Tests = checks rules (x .session .opened) mode a out
+  Tests = checks rules (R .session .opened) mode a out
 
   -- connected only while open
   while-open : (m : ℕ) (live : Bool) → (not (eqb m 3) || live) ≡ true → m ≡ connected → live ≡ true
@@ -103,7 +106,7 @@ module _ (x : State) (mode g : ℕ) (a out : List ℕ) (accepted : Accepted (x .
 
   -- the checks before the rights, but for the mode
   pub ready-is :
-      (w : Wish) → (heard rules (x .session .opened) mode a out w ≡ true) ↔ (Ready (asked x mode g a out) × (taken rules w mode ≡ true))
+      (w : Wish) → (heard rules (R .session .opened) mode a out w ≡ true) ↔ (Ready R × (taken rules w mode ≡ true))
   unfolding heard
   ready-is w = (
     λ e. (
@@ -113,40 +116,40 @@ module _ (x : State) (mode g : ℕ) (a out : List ℕ) (accepted : Accepted (x .
         least = leb-true _ _ (all-at (Tests w) e 1);
         most = leb-true _ _ (all-at (Tests w) e 2);
         mode = leb-true _ _ (all-at (Tests w) e 3);
-        session = while-open mode (x .session .opened) (all-at (Tests w) e 4);
+        session = while-open mode (R .session .opened) (all-at (Tests w) e 4);
       },
       all-at (Tests w) e 5,
     ),
     λ h.
         simp
-        (le-leb _ _ (h .0 .buffer), le-leb _ _ (h .0 .least), le-leb _ _ (h .0 .most), le-leb _ _ (h .0 .mode), open-test mode (x .session .opened) (h .0 .session), h .1),
+        (le-leb _ _ (h .0 .buffer), le-leb _ _ (h .0 .least), le-leb _ _ (h .0 .most), le-leb _ _ (h .0 .mode), open-test mode (R .session .opened) (h .0 .session), h .1),
   )
 
   -- A REQUEST THAT READS IS HEARD EXACTLY IF IT IS READY AND ITS MODE TAKES IT
   pub heard-is :
       (p : Pdu) → readPdu a ≡ Is p → (Idle p → ⊥) →
-      (heard rules (x .session .opened) mode a out (asks a) ≡ true) ↔ (Ready (asked x mode g a out) × Takes rules (serviceOf p) mode)
+      (heard rules (R .session .opened) mode a out (asks a) ≡ true) ↔ (Ready R × Takes rules (serviceOf p) mode)
   heard-is p e concerned = go (taken-is rules p mode)
     where
       go : Idle p ⊎ ((taken rules (wishOf p) mode ≡ true) ↔ Takes rules (serviceOf p) mode)
-          → (heard rules (x .session .opened) mode a out (asks a) ≡ true) ↔ (Ready (asked x mode g a out) × Takes rules (serviceOf p) mode)
+          → (heard rules (R .session .opened) mode a out (asks a) ≡ true) ↔ (Ready R × Takes rules (serviceOf p) mode)
       go (inl i) = absurd (concerned i)
       go (inr t) =
           rw (asks-is a p e)
           (λ h. let r = ready-is (wishOf p) .0 h in (r .0, t .0 (r .1)), λ h. ready-is (wishOf p) .1 (h .0, t .1 (h .1)))
 
   -- what is heard reads as a PDU that a history is concerned with
-  pub heard-reads : heard rules (x .session .opened) mode a out (asks a) ≡ true → (p : Pdu) × Reads (asked x mode g a out) p
+  pub heard-reads : heard rules (R .session .opened) mode a out (asks a) ≡ true → (p : Pdu) × Reads R p
   heard-reads h = go (readPdu a) refl
     where
       of-none : asks a ≡ nothing → ⊥
       of-none e = never (rw e at (ready-is (asks a) .0 h .1))
 
-      go : (q : Parsed) → readPdu a ≡ q → (p : Pdu) × Reads (asked x mode g a out) p
+      go : (q : Parsed) → readPdu a ≡ q → (p : Pdu) × Reads R p
       go (Is p) e =
           let r = heard-is p e (λ i. of-none (asks-is a p e ∙ i)) .0 h in
           (p, record { ready = r .0; takes = r .1; reads = e })
       go (Refused n) e = absurd (of-none (refused-asks a n e))
 
-  pub reads-heard : (p : Pdu) → Reads (asked x mode g a out) p → (Idle p → ⊥) → heard rules (x .session .opened) mode a out (asks a) ≡ true
-  reads-heard p r c = heard-is p (r .reads) c .1 (r .ready, r .takes)
+  pub reads-heard : (p : Pdu) → Reads R p → (Idle p → ⊥) → heard rules (R .session .opened) mode a out (asks a) ≡ true
+  reads-heard p r n = heard-is p (r .reads) n .1 (r .ready, r .takes)

@@ -39,7 +39,10 @@ module _ (h : List Event) (octets : AllOctets h) (none : NotOffered fresh 1 h) w
   After = run (firstState fresh) (reverse h)
 
   safe : Protected fresh 1 After
-  safe = keyless-run 1 (omega arith) fresh begins refl h octets (locked 1 (omega arith) fresh refl h none)
+  safe =
+      let low : 1 < 3 = omega arith in
+      let k = locked 1 low fresh (refl, refl) h none in
+      keyless-run 1 low fresh begins (refl, refl) h octets (k 0) (k 1)
 
   -- AS LONG AS NOBODY OFFERS 11111111 OR 22222222, height and count are as they were, and so are these two keys
   pub height-stays : (j : ℕ) → j < 4 → getD (After .sheet) (64 + j) 0 ≡ getD sample (64 + j) 0

@@ -10,7 +10,7 @@ use Rattle.history.specs.Rightful.{ours}
 
 module _ (f : First) where
   abbrev pub firstState : State
-  firstState = record { session = f .session; sheet = f .sheet }
+  firstState = record { sessions = f .sessions; sheet = f .sheet }
 
   -- AFTER A HISTORY IS AFTER THE RUN OF ITS EVENTS
   pub after-is-run : (h : List Event) → stateAfter ours f h ≡ run firstState (reverse h)

@@ -1,12 +1,13 @@
 -- What holds of the device after every history, at the beginning and over the events that are no requests.
 -- Assumes nothing.
 use Prim.Native.Nat.{ℕ, _+_, _-_, _/_, _%_, _<_, _≤_}
-use mathlib.Core.Path.{_≡_, refl, _∙_}
+use mathlib.Core.Path.{_≡_, refl, sym, _∙_}
 use mathlib.Core.Bool.{Bool, true, false}
 use mathlib.Core.List.{List, [], _∷_}
 use lib.ListN.{getD}
+use native.Mathlib.Decide.{decLt, ℕ-discrete}
 use native.Mathlib.Omega.{arith}
-use borrow.Author.Tests.{eq-eqb}
+use borrow.Author.Tests.{eq-eqb, ne-eqb, lt-ltb}
 use Rattle.sheet.specs.Kind.{groups}
 use Rattle.sheet.specs.Layout.{_of_}
 use Rattle.sheet.specs.Head as head
@@ -15,19 +16,22 @@ use Rattle.sheet.specs.Rules.{ruleOf, Accepted, isAccepted}
 use Rattle.sheet.proofs.Good.{Good, good, accepted}
 use Rattle.sheet.proofs.Frames.{kept}
 use Rattle.sheet.proofs.Regions.{covers-stands}
-use Rattle.device.specs.Events.{Event, State, connect, disconnect, button, connectOf, disconnectOf, bit, pressed, buttonSheet}
+use Rattle.device.specs.Sessions.{sessionOf}
+use Rattle.device.specs.Events.{Event, Effect, State, connect, disconnect, button, bit, pressed, buttonSheet}
+use Rattle.device.specs.Due.{SessionDue}
+use Rattle.device.proofs.Connections.{unknown-closed}
 use Rattle.history.specs.Location.{Location, memory, body, counter, key, Place, ofMemory, ofBody, ofCounter, ofKey}
 use Rattle.history.specs.Permit.{entryFor}
 use Rattle.history.specs.History.{First, firstOf, opened, level, content}
 use Rattle.history.specs.Others.{programming, individual, groupByte}
 use Rattle.history.specs.Keeps.{Begins}
+use Rattle.history.proofs.Connections.{said, no-connection}
 use Rattle.history.proofs.Searches.{region-hit, property-hit}
 use Rattle.device.proofs.Agreeing.{agree-refl}
 use Rattle.history.proofs.Means.{Means, store-flags}
 
 pub record Inv (f : First) (h : List Event) (x : State) : Type 0 where
-  pub session : x .session .opened ≡ opened f h
-  pub rights : x .session .level ≡ level f h
+  pub session : (c : ℕ) → sessionOf (x .sessions) c ≡ said f h c
   pub means : Means (f .sheet) (content f h) (individual f h) (programming f h) (groupByte f h) (x .sheet)
 
 -- what a sheet means, said in another way
@@ -56,12 +60,11 @@ first-holds g (counter o d j) p (ofCounter i q h e) = rw (property-hit g q, e)
 first-holds g (key l j) p (ofKey h k e) = rw e
 
 -- AT THE BEGINNING
-pub begin : (f : First) → Begins f → Inv f [] (record { session = f .session; sheet = f .sheet })
+pub begin : (f : First) → Begins f → Inv f [] (record { sessions = f .sessions; sheet = f .sheet })
 unfolding opened level content individual programming groupByte
 begin f b =
     record {
-      session = refl;
-      rights = refl;
+      session = λ c. refl;
       means =
           record {
             agree = agree-refl (f .sheet);
@@ -76,14 +79,36 @@ begin f b =
     }
 
 module _ {f : First} {h : List Event} {x : State} (inv : Inv f h x) where
-  -- CONNECTED, DISCONNECTED
-  pub connected : Inv f (connect ∷ h) (record { session = connectOf; sheet = x .sheet })
-  unfolding opened level content individual programming groupByte
-  connected = record { session = refl; rights = refl; means = inv .means }
+  module _ (c : ℕ) (r : Effect) where
+    -- a connect or a disconnect, e, after which the history has that session so
+    turned :
+        (on : Bool) → SessionDue on c x r → (e : Event) → ((d : ℕ) → (d ≡ c → ⊥) → said f (e ∷ h) d ≡ said f h d) →
+        (c < 2 → said f (e ∷ h) c ≡ record { opened = on; level = 3 }) → (d : ℕ) → sessionOf (r .sessions) d ≡ said f (e ∷ h) d
+    turned on due e others own d = go (ℕ-discrete d c) (decLt c 2)
+      where
+        go : Dec (d ≡ c) → Dec (c < 2) → sessionOf (r .sessions) d ≡ said f (e ∷ h) d
+        go (no n) l = due .others d n ∙ inv .session d ∙ sym (others d n)
+        go (yes q) (yes l) = rw q (due .known l .1 ∙ sym (own l))
+        go (yes q) (no l) = rw q (unknown-closed (r .sessions) c (omega arith) ∙ sym (no-connection f (e ∷ h) c (omega arith)))
 
-  pub disconnected : Inv f (disconnect ∷ h) (record { session = disconnectOf; sheet = x .sheet })
-  unfolding opened level content individual programming groupByte
-  disconnected = record { session = refl; rights = refl; means = inv .means }
+    -- CONNECTED, DISCONNECTED
+    pub connected : SessionDue true c x r → Inv f (connect c ∷ h) (record { sessions = r .sessions; sheet = r .sheet })
+    unfolding opened level content individual programming groupByte
+    connected due =
+        record {
+          session =
+              turned true due (connect c) (λ d n. rw (ne-eqb d c n)) (λ l. rw (eq-eqb c c refl, lt-ltb c 2 l));
+          means = rw (due .sheet) (inv .means);
+        }
+
+    pub disconnected : SessionDue false c x r → Inv f (disconnect c ∷ h) (record { sessions = r .sessions; sheet = r .sheet })
+    unfolding opened level content individual programming groupByte
+    disconnected due =
+        record {
+          session =
+              turned false due (disconnect c) (λ d n. rw (ne-eqb d c n)) (λ l. rw (eq-eqb c c refl));
+          means = rw (due .sheet) (inv .means);
+        }
 
   module _ (b : Begins f) where
     pub fine : Good (f .sheet)
@@ -96,12 +121,11 @@ module _ {f : First} {h : List Event} {x : State} (inv : Inv f h x) where
     now-accepted = accepted now
 
     -- THE BUTTON
-    pub button-pressed : (on : Bool) → Inv f (button on ∷ h) (record { session = x .session; sheet = buttonSheet (x .sheet) on })
+    pub button-pressed : (on : Bool) → Inv f (button on ∷ h) (record { sessions = x .sessions; sheet = buttonSheet (x .sheet) on })
     unfolding opened level content individual programming groupByte buttonSheet pressed isAccepted
     button-pressed on =
         record {
           session = inv .session;
-          rights = inv .rights;
           means =
               rw (eq-eqb (ruleOf (x .sheet)) 0 now-accepted)
               (means-as (store-flags fine (inv .means) new low verify) (λ y. refl) refl (odd on) (λ i j l. refl));

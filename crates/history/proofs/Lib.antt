@@ -1,21 +1,26 @@
--- PROMISES, named in docs/PROMISES.md: Keyless (nobody without the key), Height (that, on the sample sheet), Keep (demand 3), Pinned (one result), RulesStay (the rules are those of the first sheet), AtOnce, Suffices, Shown (what a read shows was written),
--- Permitted (permitted as plain propositions), Places (`place-injective`, `exactly-one`), InOrder (histories and runs), Refuted (wrong devices).
+-- PROMISES, named in docs/PROMISES.md: Keyless (nobody without the key), Height (that, on the sample sheet), Keep (demand 3), Pinned (one result), RulesStay (the rules are those of the first sheet), Connections (what bears on the level of one), AtOnce, Suffices, Shown (what a read shows was written), Isolated (one tool beside another),
+-- Permitted (permitted as plain propositions), Places (`place-injective`, `exactly-one`), InOrder (histories and runs), Refuted and LeaksRefuted (wrong devices).
 pub mod Keyless
 pub mod Height
 pub mod Keep
 pub mod Pinned
 pub mod RulesStay
+pub mod Connections
 pub mod AtOnce
 pub mod Shown
+pub mod Isolated
 pub mod Suffices
 pub mod Permitted
 pub mod Places
 pub mod InOrder
 pub mod Refuted
+pub mod LeaksRefuted
 -- LAWS BEHIND THEM. Of tests, of spans, of bytes:
 pub mod Bools
 pub mod Spans
 pub mod RequestFields
+-- of what a request meets:
+pub mod Meets
 -- of what is heard, found, allowed:
 pub mod Hearing
 pub mod Unheard

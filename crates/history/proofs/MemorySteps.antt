@@ -16,6 +16,7 @@ use Rattle.pdu.specs.declared.Pdu.the-variants.{MemoryWrite, MemoryBitWrite, Us
 use Rattle.device.specs.Octets.{Octets}
 use Rattle.device.specs.Events.{Event, State}
 use Rattle.device.specs.Asked.{Asked, Reads, given}
+use Rattle.device.specs.Due.{asked}
 use Rattle.device.specs.MemoryDue.{Write, bytes, bits, writing, MemoryWritable, Leaves}
 use Rattle.history.specs.Location.{memory}
 use Rattle.history.specs.Wish.{change, wishOf}
@@ -23,14 +24,13 @@ use Rattle.history.specs.Permit.{spans}
 use Rattle.history.specs.History.{First, content}
 use Rattle.history.specs.Others.{programming, individual, groupByte}
 use Rattle.history.specs.Keeps.{Begins, Succeeds}
-use Rattle.history.specs.Rightful.{asked}
 use Rattle.history.proofs.RequestFields.{memory-data, user-data}
 use Rattle.history.proofs.Invariant.{Inv, fine, now}
 use Rattle.history.proofs.Means.{Means, store-span}
 use Rattle.history.proofs.MemoryRun.{memory-place, memory-run}
 use Rattle.device.proofs.Octet.{octets-data, octets-bits}
 use Rattle.history.proofs.Permits.{wish, memory-is}
-use Rattle.history.proofs.Requests.{Done}
+use Rattle.history.proofs.Requests.{ends, Done}
 use Rattle.history.proofs.Spans.{laid}
 use Rattle.history.proofs.Writes.{carried-out, denied}
 
@@ -40,9 +40,9 @@ wish-is (bytes Device) n y = refl
 wish-is (bytes User) n y = refl
 wish-is bits n y = refl
 
-module _ (f : First) (b : Begins f) (h : List Event) (x : State) (inv : Inv f h x) (mode g : ℕ) (a out : List ℕ) (octets : Octets a) where
+module _ (f : First) (b : Begins f) (h : List Event) (x : State) (inv : Inv f h x) (mode c g : ℕ) (a out : List ℕ) (octets : Octets a) where
   abbrev R : Asked
-  R = asked x mode g a out
+  R = asked x mode c g a out
 
   module _ {m : Memory} {n y o l : ℕ} (r : Ranged (x .sheet) m y n o l) where
     -- the range stands where it stood
@@ -77,28 +77,28 @@ module _ (f : First) (b : Begins f) (h : List Event) (x : State) (inv : Inv f h 
       range-stored (w .range) (λ j. getD (given R (UserMemoryWrite n y)) j 0) d (ap length e ∙ user-data a octets (r .reads))
       (rw e (octets-data (UserMemoryWrite n y) a octets))
       (λ j k. ap (λ (c : List ℕ). getD c j 0) (sym e))
-  stored bits n y o d r w c =
+  stored bits n y o d r w e =
       let given : List ℕ = given R (MemoryBitWrite n y) in
       range-stored (w .range) (λ j. bitXor (bitAnd (content f h (memory Device (y + j))) (getD given j 0)) (getD given (n + j) 0)) d
-      (c .long)
-      (octets-bits c (inv .means .octets) (octets-data (MemoryBitWrite n y) a octets))
-      (λ j k. rw (c .each j k, held (w .range) j k))
+      (e .long)
+      (octets-bits e (inv .means .octets) (octets-data (MemoryBitWrite n y) a octets))
+      (λ j k. rw (e .each j k, held (w .range) j k))
 
   -- A WRITE, carried out
   pub memory-written :
       (w : Write) (n y o : ℕ) (d : List ℕ) → Reads R (writing w n y) → MemoryWritable R w n y o → Leaves R w n y o d →
       (k : ℕ) (answer : List ℕ) → Succeeds k →
-      Done f h mode g a out (record { outcome = k; answer = answer; session = x .session; sheet = splice (x .sheet) o d })
+      Done f h mode c g a out (ends R k answer (splice (x .sheet) o d))
   memory-written w n y o d r q e k answer low =
-      carried-out f b h x inv mode g a out (writing w n y) (wish w n y) (wish-is w n y) r
+      carried-out f b h x inv mode c g a out (writing w n y) (wish w n y) (wish-is w n y) r
       (memory-is R (now inv b) w n y _ .1 (o, q))
       k answer _ low (stored w n y o d r q e)
 
   -- and denied
   pub memory-denied :
       (w : Write) (n y : ℕ) → Reads R (writing w n y) → ((o : ℕ) → MemoryWritable R w n y o → ⊥) → (k : ℕ) (answer : List ℕ) → (Succeeds k → ⊥) →
-      Done f h mode g a out (record { outcome = k; answer = answer; session = x .session; sheet = x .sheet })
+      Done f h mode c g a out (ends R k answer (x .sheet))
   memory-denied w n y r none k answer high =
-      denied f b h x inv mode g a out (writing w n y) (wish w n y) (wish-is w n y) r
+      denied f b h x inv mode c g a out (writing w n y) (wish w n y) (wish-is w n y) r
       (λ e. let q = memory-is R (now inv b) w n y _ .0 e in none (q .0) (q .1))
       k answer high

@@ -1,7 +1,7 @@
 -- PERMITTED, as a test of the history, and as the propositions of the services.
 -- Assumes nothing.
 use Prim.Native.Nat.{ℕ}
-use mathlib.Core.Path.{_≡_}
+use mathlib.Core.Path.{_≡_, sym}
 use mathlib.Core.Logic.{_↔_}
 use mathlib.Core.Bool.{Bool, true, _&&_}
 use mathlib.Core.List.{List}
@@ -13,18 +13,22 @@ use Rattle.sheet.proofs.Good.{Good, good}
 use Rattle.pdu.specs.declared.Pdu.{Pdu}
 use Rattle.pdu.specs.declared.Pdu.the-variants.{GroupValueRead, GroupValueResponse, GroupValueWrite, IndividualAddressWrite, IndividualAddressRead, SerialNumberRead, SerialNumberWrite, DeviceDescriptorRead, PropertyValueRead, PropertyValueWrite, PropertyDescriptionRead, MemoryRead, MemoryWrite, MemoryBitWrite, AuthorizeRequest, KeyWrite, Restart, IndividualAddressResponse, SerialNumberResponse, DeviceDescriptorResponse, PropertyValueResponse, PropertyDescriptionResponse, MemoryResponse, AuthorizeResponse, KeyResponse, UserMemoryRead, UserMemoryResponse, UserMemoryWrite}
 use Rattle.octets.proofs.Truths.{never, and-is}
+use Rattle.judge.specs.Session.{connected}
+use Rattle.judge.specs.declared.Session.{Session}
 use Rattle.device.specs.Octets.{Octets}
+use Rattle.device.specs.Sessions.{sessionOf}
 use Rattle.device.specs.Events.{State, request}
 use Rattle.device.specs.Asked.{Asked, Reads, given}
+use Rattle.device.specs.Due.{asked}
 use Rattle.device.specs.MemoryDue.{Write, bytes, bits, writing, MemoryWritable}
 use Rattle.device.specs.PropertiesDue.{WriteAllowed}
 use Rattle.device.specs.KeysDue.{KeyWritable}
 use Rattle.history.specs.Wish.{nothing, wishOf, asks, brings}
 use Rattle.history.specs.Permit.{levelFor, heard, allowed}
 use Rattle.history.specs.History.{permits}
-use Rattle.history.specs.Rightful.{asked}
 use Rattle.history.proofs.RequestFields.{property-id}
 use Rattle.history.proofs.Hearing.{asks-is, brings-is, heard-reads, reads-heard}
+use Rattle.history.proofs.Meets.{meets, heard-met, level-met}
 use Rattle.history.proofs.Permits.{memory-is, property-is, key-is}
 
 pub data Permitted (x : Asked) : Type 0 where
@@ -34,12 +38,12 @@ pub data Permitted (x : Asked) : Type 0 where
       WriteAllowed x object id n s (given x (PropertyValueWrite object id n s)) → Permitted x
   byKey : (named number : ℕ) → Reads x (KeyWrite named number) → KeyWritable x named → Permitted x
 
-module _ (x : State) (mode g : ℕ) (a out : List ℕ) (accepted : Accepted (x .sheet)) (small : Octets (x .sheet)) (octets : Octets a) where
+module _ (x : State) (mode c g : ℕ) (a out : List ℕ) (accepted : Accepted (x .sheet)) (small : Octets (x .sheet)) (octets : Octets a) where
   abbrev X : Asked
-  X = asked x mode g a out
+  X = asked x mode c g a out
 
   abbrev L : ℕ
-  L = levelFor mode (x .session .level)
+  L = levelFor mode (X .session .level)
 
   fine : Good (x .sheet)
   fine = good (x .sheet) accepted
@@ -82,11 +86,17 @@ module _ (x : State) (mode g : ℕ) (a out : List ℕ) (accepted : Accepted (x .
 
   -- A WRITE IS PERMITTED EXACTLY IF THE PROPOSITIONS OF ITS SERVICE HOLD
   pub permitted-is :
-      (permits (x .sheet) (x .session .opened) (x .session .level) (request mode g a out) ≡ true) ↔ Permitted X
-  permitted-is = (on, back)
+      (permits (x .sheet) (λ d. sessionOf (x .sessions) d .opened) (λ d. sessionOf (x .sessions) d .level) (request mode c g a out) ≡ true) ↔ Permitted X
+  permitted-is = rw (heard-met mode Q (X .session) met (rulesOf (x .sheet)) a out (asks a), level-met mode Q (X .session) met) (on, back)
     where
+      Q : Session
+      Q = sessionOf (x .sessions) c
+
+      met : mode ≡ connected → sessionOf (x .sessions) c ≡ X .session
+      met m = sym (meets (x .sessions) mode c m)
+
       H : Bool
-      H = heard (rulesOf (x .sheet)) (x .session .opened) mode a out (asks a)
+      H = heard (rulesOf (x .sheet)) (X .session .opened) mode a out (asks a)
 
       A : Bool
       A = allowed (x .sheet) L (brings a) (asks a)
@@ -97,13 +107,13 @@ module _ (x : State) (mode g : ℕ) (a out : List ℕ) (accepted : Accepted (x .
       on : (H && A) ≡ true → Permitted X
       on e =
           let b = and-is H A .0 e in
-          let q = heard-reads x mode g a out accepted (b .0) in
+          let q = heard-reads x mode c g a out accepted (b .0) in
           of-pdu (q .0) (q .1) (b .1)
 
       so : (p : Pdu) → Reads X p → (wishOf p ≡ nothing → ⊥) → allowed (x .sheet) L (given X p) (wishOf p) ≡ true → (H && A) ≡ true
-      so p r c e =
+      so p r n e =
           and-is H A .1
-          (reads-heard x mode g a out accepted p r c, rw (asks-is a p (r .reads), brings-is a p (r .reads)) e)
+          (reads-heard x mode c g a out accepted p r n, rw (asks-is a p (r .reads), brings-is a p (r .reads)) e)
 
       back : Permitted X → (H && A) ≡ true
       back (byMemory (bytes Device) n y o r w) =

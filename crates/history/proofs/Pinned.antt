@@ -15,7 +15,9 @@ use Rattle.sheet.specs.Head as head
 use Rattle.sheet.specs.Entries.{bodyAt, InBody}
 use Rattle.sheet.proofs.Good.{Good, good}
 use Rattle.judge.specs.declared.Session.{Session}
+use Rattle.device.specs.Sessions.{sessionOf}
 use Rattle.device.specs.Events.{Event}
+use Rattle.device.specs.declared.Sessions.{Sessions}
 use Rattle.history.specs.Location.{Location, Place}
 use Rattle.history.specs.Sort.{Sort, isLocation, isGroup, isField}
 use Rattle.history.specs.History.{First}
@@ -74,10 +76,14 @@ module _ (f : First) (b : Begins f) (h : List Event) (step step′ : Device) (k 
   at p l (isField c n) =
       field-same p l n (λ i q. omega (arith, past-contents g q)) (ℕ-discrete p F) (decLt p A) (decLt p (A + head.address .width)) (ℕ-discrete p A)
 
+  one-session : (c : ℕ) → sessionOf (stateAfter step f h .sessions) c ≡ sessionOf (stateAfter step′ f h .sessions) c
+  one-session c =
+      ap₂ (λ (t : Bool) (n : ℕ). record { opened = t; level = n }) (k .session c ∙ sym (k′ .session c)) (k .rights c ∙ sym (k′ .rights c))
+
   one-state : stateAfter step f h ≡ stateAfter step′ f h
   one-state =
-      ap₂ (λ (q : Session) (s : List ℕ). record { session = q; sheet = s })
-      (ap₂ (λ (t : Bool) (n : ℕ). record { opened = t; level = n }) (k .session ∙ sym (k′ .session)) (k .rights ∙ sym (k′ .rights)))
+      ap₂ (λ (q : Sessions) (s : List ℕ). record { sessions = q; sheet = s })
+      (ap₂ (λ (q r : Session). record { first = q; second = r }) (one-session 0) (one-session 1))
       (ext-getD 0 S T (k .same ∙ sym (k′ .same)) (λ i l. at i (omega (arith, k .same)) (sort g i (omega (arith, k .same)))))
 
 -- THE STATE AFTER A HISTORY IS ONE

@@ -29,6 +29,7 @@ use Rattle.pdu.specs.declared.Pdu.the-variants.{PropertyValueWrite}
 use Rattle.device.specs.Octets.{Octets}
 use Rattle.device.specs.Events.{Event, State}
 use Rattle.device.specs.Asked.{Asked, Reads, given}
+use Rattle.device.specs.Due.{asked}
 use Rattle.device.specs.PropertiesDue as properties-due
 use Rattle.device.specs.PropertiesDue.{Elements, elementAt, zeroed, Writable, WriteAllowed}
 use Rattle.history.specs.Location.{Location, body}
@@ -38,7 +39,6 @@ use Rattle.history.specs.Permit.{countTo, spans}
 use Rattle.history.specs.History.{First, content}
 use Rattle.history.specs.Others.{programming, individual, groupByte}
 use Rattle.history.specs.Keeps.{Begins, Succeeds}
-use Rattle.history.specs.Rightful.{asked}
 use Rattle.history.proofs.RequestFields.{property-id}
 use Rattle.history.proofs.Framed.{is-same}
 use Rattle.history.proofs.Invariant.{Inv, fine, now}
@@ -47,13 +47,13 @@ use Rattle.device.proofs.Octet.{octets-bytes, octets-data}
 use Rattle.history.proofs.Permits.{property-is}
 use Rattle.history.proofs.PropertyRun.{counter-run, body-run, elements-fit, entry-for}
 use Rattle.history.proofs.CountNow.{count-now}
-use Rattle.history.proofs.Requests.{Done}
+use Rattle.history.proofs.Requests.{ends, Done}
 use Rattle.history.proofs.Spans.{laid}
 use Rattle.history.proofs.Writes.{carried-out, denied}
 
-module _ (f : First) (b : Begins f) (h : List Event) (x : State) (inv : Inv f h x) (mode g : ℕ) (a out : List ℕ) (octets : Octets a) where
+module _ (f : First) (b : Begins f) (h : List Event) (x : State) (inv : Inv f h x) (mode c g : ℕ) (a out : List ℕ) (octets : Octets a) where
   abbrev R : Asked
-  R = asked x mode g a out
+  R = asked x mode c g a out
 
   -- what is written to a property, as the history has it
   abbrev P : ℕ → ℕ → ℕ → ℕ → Pdu
@@ -70,9 +70,9 @@ module _ (f : First) (b : Begins f) (h : List Event) (x : State) (inv : Inv f h 
   pub property-denied :
       (object id n z : ℕ) → Reads R (P object id n z) → (WriteAllowed R object id n z (given R (P object id n z)) → ⊥) →
       (k : ℕ) (answer : List ℕ) → (Succeeds k → ⊥) →
-      Done f h mode g a out (record { outcome = k; answer = answer; session = x .session; sheet = x .sheet })
+      Done f h mode c g a out (ends R k answer (x .sheet))
   property-denied object id n z r none k answer high =
-      denied f b h x inv mode g a out (P object id n z) (writeProperty object id n z) refl r
+      denied f b h x inv mode c g a out (P object id n z) (writeProperty object id n z) refl r
       (λ e.
       none
       (property-is R (now inv b) object id n z (given R (P object id n z)) (inv .means .octets) (property-id a octets (r .reads)) .0 e))
@@ -135,11 +135,11 @@ module _ (f : First) (b : Begins f) (h : List Event) (x : State) (inv : Inv f h 
     -- CLEARED
     pub property-cleared :
         Reads R (P object id 1 0) → given R (P object id 1 0) ≡ 0 ∷ 0 ∷ [] → (k : ℕ) (answer : List ℕ) → Succeeds k →
-        Done f h mode g a out
-        (record { outcome = k; answer = answer; session = x .session; sheet = splice (x .sheet) (place (x .sheet) properties i + property.count .at) (0 ∷ 0 ∷ []) })
+        Done f h mode c g a out
+        (ends R k answer (splice (x .sheet) (place (x .sheet) properties i + property.count .at) (0 ∷ 0 ∷ [])))
     unfolding spans bytesOf
     property-cleared r e k answer low =
-        carried-out f b h x inv mode g a out (P object id 1 0) (writeProperty object id 1 0) refl r
+        carried-out f b h x inv mode c g a out (P object id 1 0) (writeProperty object id 1 0) refl r
         (property-is R (now inv b) object id 1 0 (given R (P object id 1 0)) (inv .means .octets) (property-id a octets (r .reads)) .1 (properties-due.ofCount i w refl refl e))
         k answer _ low
         (count-stored 0 (content f h) (x .sheet) (inv .means) (omega arith))
@@ -212,18 +212,13 @@ module _ (f : First) (b : Begins f) (h : List Event) (x : State) (inv : Inv f h 
 
       pub property-written :
           (k : ℕ) (answer : List ℕ) → Succeeds k →
-          Done f h mode g a out
-          (record {
-            outcome = k;
-            answer = answer;
-            session = x .session;
-            sheet =
-                splice (splice (zeroed (x .sheet) S z) (elementAt S z) d) (place (x .sheet) properties i + property.count .at)
-                (bytesOf 2 (max (property.count of S) (z + n - 1)));
-          })
+          Done f h mode c g a out
+          (ends R k answer
+          (splice (splice (zeroed (x .sheet) S z) (elementAt S z) d) (place (x .sheet) properties i + property.count .at)
+          (bytesOf 2 (max (property.count of S) (z + n - 1)))))
       unfolding New
       property-written k answer low =
-          carried-out f b h x inv mode g a out (P object id n z) (writeProperty object id n z) refl r
+          carried-out f b h x inv mode c g a out (P object id n z) (writeProperty object id n z) refl r
           (property-is R (now inv b) object id n z (given R (P object id n z)) (inv .means .octets) (property-id a octets (r .reads)) .1 (properties-due.ofElements i w el (rw e at size)))
           k answer _ low
           (rw spans-are (count-stored New _ _ data-stored most))

@@ -18,13 +18,14 @@ use Rattle.pdu.specs.Read.{readPdu, dataOf}
 use Rattle.pdu.specs.Write.{encoded}
 use Rattle.octets.proofs.Truths.{never, and-is}
 use Rattle.judge.specs.Session.{levelOf, levelIn}
+use Rattle.judge.specs.declared.Session.{Session}
 use Rattle.sheet.specs.Head.{rulesOf}
 use Rattle.judge.specs.Properties.{writeIn, propertyWriteOf}
 use Rattle.judge.specs.Memory.{changeOf, memoryWriteOf}
-use Rattle.judge.specs.Keys.{grantOf, authorizeOf, keyWriteOf}
+use Rattle.judge.specs.Keys.{grantOf, authorizeOf, keyWriteOf, restartOf}
 use Rattle.judge.specs.Judge.{reachedOf, isShut, judgeOf}
 use Rattle.device.specs.Step.{stepBy, stepOf}
-use Rattle.device.specs.Events.{Event, State, connect, disconnect, button, request, eventOf, bit}
+use Rattle.device.specs.Events.{Event, State, connect, disconnect, button, request, requestOf, eventOf, bit}
 use Rattle.device.specs.Marked.{sample}
 use Rattle.device.specs.Pump.{pump}
 use Rattle.device.proofs.Octet.{isBytes, octets-by}
@@ -41,10 +42,10 @@ use Rattle.history.proofs.Spans.{same-so}
 
 -- bytes, by one test
 abbrev bringsBytes : Event → Bool
-bringsBytes connect = true
-bringsBytes disconnect = true
+bringsBytes (connect c) = true
+bringsBytes (disconnect c) = true
 bringsBytes (button on) = true
-bringsBytes (request mode g a out) = isBytes a
+bringsBytes (request mode c g a out) = isBytes a
 
 abbrev allBytes : List Event → Bool
 allBytes [] = true
@@ -52,25 +53,34 @@ allBytes (e ∷ h) = bringsBytes e && allBytes h
 
 octets-all : (h : List Event) → allBytes h ≡ true → AllOctets h
 octets-all [] e = tt
-octets-all (connect ∷ h) e = (tt, octets-all h e)
-octets-all (disconnect ∷ h) e = (tt, octets-all h e)
+octets-all (connect c ∷ h) e = (tt, octets-all h e)
+octets-all (disconnect c ∷ h) e = (tt, octets-all h e)
 octets-all (button on ∷ h) e = (tt, octets-all h e)
-octets-all (request mode g a out ∷ h) e =
+octets-all (request mode c g a out ∷ h) e =
     let b = and-is (isBytes a) (allBytes h) .0 e in
     (octets-by a (b .0), octets-all h (b .1))
 
--- one state, by one test
+-- one session, one state, by one test
+abbrev sameSession : Session → Session → Bool
+sameSession q r = eqb (bit (q .opened)) (bit (r .opened)) && eqb (q .level) (r .level)
+
+same-session : (q : Session) → sameSession q q ≡ true
+same-session q =
+    let o = bit (q .opened) in
+    let l = q .level in
+    and-is (eqb o o) (eqb l l) .1 (eq-eqb o o refl, eq-eqb l l refl)
+
 abbrev sameState : State → State → Bool
 sameState x y =
-    eqb (bit (x .session .opened)) (bit (y .session .opened)) &&
-    (eqb (x .session .level) (y .session .level) && same (x .sheet) (y .sheet))
+    sameSession (x .sessions .first) (y .sessions .first) &&
+    (sameSession (x .sessions .second) (y .sessions .second) && same (x .sheet) (y .sheet))
 
 same-state : (x : State) → sameState x x ≡ true
 same-state x =
-    let o = bit (x .session .opened) in
-    let l = x .session .level in
-    and-is (eqb o o) (eqb l l && same (x .sheet) (x .sheet)) .1
-    (eq-eqb o o refl, and-is (eqb l l) (same (x .sheet) (x .sheet)) .1 (eq-eqb l l refl, same-so (x .sheet)))
+    let q = x .sessions .first in
+    let r = x .sessions .second in
+    and-is (sameSession q q) (sameSession r r && same (x .sheet) (x .sheet)) .1
+    (same-session q, and-is (sameSession r r) (same (x .sheet) (x .sheet)) .1 (same-session r, same-so (x .sheet)))
 
 -- the sample is accepted
 pub begins : Begins fresh
@@ -119,7 +129,7 @@ each (w ∷ ws) e = let b = and-is (tells w) (tellAll ws) .0 e in (refuted w (b 
 
 -- by computation
 told : tellAll wrongs ≡ true
-unfolding stateAfter eventOf stepOf stepBy judgeOf isAccepted isShut reachedOf rulesOf levelIn levelOf grantOf authorizeOf keyWriteOf changeOf memoryWriteOf writeIn propertyWriteOf
+unfolding stateAfter eventOf requestOf stepOf stepBy judgeOf isAccepted isShut reachedOf rulesOf levelIn levelOf grantOf authorizeOf keyWriteOf restartOf changeOf memoryWriteOf writeIn propertyWriteOf
     permitted opened level content firstOf keyIn heard levelFor allowed every regionFor mayWrite inRange indexFor entryFor
     asks brings readPdu find dataOf encoded headBytes lowAt fourAt twelveAt seek indexOf covers placeOf common rangeOf splice
     ruleIn walkRule restRule entriesRule bodiesRule entryRule bodyRule bodyDemands entryDemands entry keyOf floor bodyAt bodyEnd startOf reached sixBits first breach numAt bytesOf sample pump

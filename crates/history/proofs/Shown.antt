@@ -24,10 +24,11 @@ use Rattle.judge.specs.declared.Decision.{Decision}
 use Rattle.judge.proofs.PropertyCases.{Among, property-read-cases}
 use Rattle.device.specs.Octets.{Octets}
 use Rattle.device.specs.Step.{Step, stepBy}
-use Rattle.device.specs.Events.{Event, State, request}
+use Rattle.device.specs.Events.{Event, Effect, State, request}
 use Rattle.device.specs.Asked as ask
 use Rattle.device.specs.Asked.{Asked, Reads}
 use Rattle.device.specs.Demand2.{done}
+use Rattle.device.specs.Due.{RequestDue, asked}
 use Rattle.device.proofs.Accepted.{count-below, elements-within}
 use Rattle.device.proofs.Properly.{unkeyed, read-id}
 use Rattle.device.proofs.Rightly.{right-only}
@@ -36,7 +37,7 @@ use Rattle.device.proofs.WasReady.{carried}
 use Rattle.history.specs.Location.{body, Place, ofBody}
 use Rattle.history.specs.History.{First, content}
 use Rattle.history.specs.Keeps.{Device, stateAfter, Begins, AllOctets}
-use Rattle.history.specs.Rightful.{asked, Rightful, ours}
+use Rattle.history.specs.Rightful.{Rightful, ours}
 use Rattle.history.specs.Shown.{elementOf, given, Shows, ShownWasWritten}
 use Rattle.history.proofs.CountNow.{count-now}
 use Rattle.history.proofs.Counted.{counted-given}
@@ -92,7 +93,7 @@ module _ (f : First) (b : Begins f) (h : List Event) (x : State) (inv : Inv f h 
       ofBody {j = (s - 1) * Z + k} {p = O + k} i is q (omega (arith, o)) in
       inv .means .holds _ _ (subst (λ (w : ℕ). Place (f .sheet) (body object id ((s - 1) * w + k)) (O + k)) size-same p)
 
-  shown : (r : Step) → r .answer ≡ encoded (PropertyValueResponse object id n s) Bytes → Shows f h object id n s r
+  shown : (r : Effect) → r .answer ≡ encoded (PropertyValueResponse object id n s) Bytes → Shows f h object id n s r
   shown r e =
       record {
         bytes = Bytes;
@@ -105,44 +106,50 @@ module _ (f : First) (b : Begins f) (h : List Event) (x : State) (inv : Inv f h 
       }
 
 module _ (step : Device) (rightful : (f : First) (h : List Event) → Rightful (step f h)) (f : First) (h : List Event) (b : Begins f)
-    (all : AllOctets h) (mode g : ℕ) (a out : List ℕ) (octets : Octets a) (object id n s : ℕ)
+    (all : AllOctets h) (mode c g : ℕ) (a out : List ℕ) (octets : Octets a) (object id n s : ℕ)
     (reads : readPdu a ≡ Is (PropertyValueRead object id n s)) (low : 1 ≤ s)
-    (ok : step f h (stateAfter step f h) (request mode g a out) .outcome ≡ 0) where
+    (ok : step f h (stateAfter step f h) (request mode c g a out) .outcome ≡ 0) where
   abbrev X : State
   X = stateAfter step f h
 
   abbrev R : Asked
-  R = asked X mode g a out
+  R = asked X mode c g a out
+
+  abbrev Given : Effect
+  Given = step f h X (request mode c g a out)
 
   inv′ : Inv f h X
   inv′ = holds-after step rightful f b h all
 
-  is-done : step f h X (request mode g a out) ≡ done R
-  is-done = right-only R (inv′ .means .octets) octets _ (rightful f h .answers X mode g a out (inv′ .means .octets) octets)
+  is-due : RequestDue mode c g a out X Given
+  is-due = rightful f h .answers X mode c g a out (inv′ .means .octets) octets
+
+  is-done : is-due .step ≡ done R
+  is-done = right-only R (inv′ .means .octets) octets (is-due .step) (is-due .due)
 
   carried-out : done R .outcome ≡ 0
-  carried-out = ap (λ (t : Step). t .outcome) (sym is-done) ∙ ok
+  carried-out = ap (λ (t : Step). t .outcome) (sym is-done) ∙ sym (is-due .outcome) ∙ ok
 
   was : Reads R (PropertyValueRead object id n s)
   was = carried R _ reads (omega (arith, carried-out))
 
-  shows : Shows f h object id n s (done R)
+  shows : Shows f h object id n s Given
   unfolding stepBy
   shows =
-      property-read-cases (X .sheet) (levelIn (X .session) mode) object id n s
-      (λ (q : Decision). stepBy (X .sheet) (X .session) (ask.given R (PropertyValueRead object id n s)) q ≡ done R → Shows f h object id n s (done R))
+      property-read-cases (X .sheet) (levelIn (R .session) mode) object id n s
+      (λ (q : Decision). stepBy (X .sheet) (R .session) (ask.given R (PropertyValueRead object id n s)) q ≡ done R → Shows f h object id n s Given)
       (λ i key l z o p. absurd (omega arith))
       (λ i key l m z p.
       let there = unkeyed R object id i (inv′ .means .octets) (read-id a octets object id n s (reading a _ reads)) key in
-      shown f b h X inv′ object id n s i low (is-same (inv′ .means .agree) there) there m (done R) (sym (ap (λ (t : Step). t .answer) p)))
+      shown f b h X inv′ object id n s i low (is-same (inv′ .means .agree) there) there m Given
+      (is-due .answer ∙ ap (λ (t : Step). t .answer) (is-done ∙ sym p)))
       (λ p. let z : _≡_ {A = ℕ} 11 0 = ap (λ (t : Step). t .outcome) p ∙ carried-out in absurd (omega arith))
       (step-read R _ was _ refl)
 
 -- ANY DEVICE THAT DOES WHAT IS DUE
 pub shown-was-written : (step : Device) → ((f : First) (h : List Event) → Rightful (step f h)) → ShownWasWritten step
-shown-was-written step rightful f h b all mode g a out octets object id n s reads low ok =
-    subst (Shows f h object id n s) (sym (is-done step rightful f h b all mode g a out octets object id n s reads low ok))
-    (shows step rightful f h b all mode g a out octets object id n s reads low ok)
+shown-was-written step rightful f h b all mode c g a out octets object id n s reads low ok =
+    shows step rightful f h b all mode c g a out octets object id n s reads low ok
 
 -- OURS
 pub ours-shown : ShownWasWritten ours

@@ -17,10 +17,10 @@ use Rattle.pdu.specs.declared.Parsed.the-variants.{Refused}
 use Rattle.octets.proofs.Truths.{never}
 use Rattle.device.specs.Events.{State}
 use Rattle.device.specs.Asked.{Asked, Takes, Names, Served, Refusal, noRoom, badSheet, badLength, badMode, noSession, Ready, Reads}
+use Rattle.device.specs.Due.{asked}
 use Rattle.device.proofs.RequestCases.{found-names, names-once}
 use Rattle.history.specs.Wish.{nothing, asks}
 use Rattle.history.specs.Permit.{heard}
-use Rattle.history.specs.Rightful.{asked}
 use Rattle.history.proofs.Bools.{must-fail}
 use Rattle.history.proofs.Hearing.{ready-is, heard-reads, refused-asks}
 
@@ -33,19 +33,19 @@ refusal-ready (badLength p q (inr l)) r = omega (arith, r .most)
 refusal-ready (badMode p q l m t) r = omega (arith, r .mode)
 refusal-ready (noSession p q l m t u) r = never (sym u ∙ r .session t)
 
-module _ (x : State) (mode g : ℕ) (a out : List ℕ) (accepted : Accepted (x .sheet)) where
+module _ (x : State) (mode c g : ℕ) (a out : List ℕ) (accepted : Accepted (x .sheet)) where
   abbrev X : Asked
-  X = asked x mode g a out
+  X = asked x mode c g a out
 
   abbrev Ok : Bool
-  Ok = heard (rulesOf (x .sheet)) (x .session .opened) mode a out (asks a)
+  Ok = heard (rulesOf (x .sheet)) (X .session .opened) mode a out (asks a)
 
   pub refusal-unheard : {n : ℕ} → Refusal X n → Ok ≡ false
-  refusal-unheard r = must-fail Ok (λ e. refusal-ready r (ready-is x mode g a out accepted (asks a) .0 e .0))
+  refusal-unheard r = must-fail Ok (λ e. refusal-ready r (ready-is x mode c g a out accepted (asks a) .0 e .0))
 
   pub nothing-unheard : asks a ≡ nothing → Ok ≡ false
   nothing-unheard q =
-      must-fail Ok (λ e. never (rw q at (ready-is x mode g a out accepted (asks a) .0 e .1)))
+      must-fail Ok (λ e. never (rw q at (ready-is x mode c g a out accepted (asks a) .0 e .1)))
 
   pub unread-unheard : (n : ℕ) → readPdu a ≡ Refused n → Ok ≡ false
   unread-unheard n e = nothing-unheard (refused-asks a n e)
@@ -58,13 +58,13 @@ module _ (x : State) (mode g : ℕ) (a out : List ℕ) (accepted : Accepted (x .
   unknown-unheard none =
       must-fail Ok
       (λ e.
-      let q = heard-reads x mode g a out accepted e in
+      let q = heard-reads x mode c g a out accepted e in
       none (serviceOf (q .0)) (names-so (q .0) (q .1)) (record { mode = mode; takes = q .1 .takes }))
 
   pub mode-unheard : (k : Service) → Names X k → (Takes (rulesOf (x .sheet)) k mode → ⊥) → Ok ≡ false
   mode-unheard k n not-taken =
       must-fail Ok
       (λ e.
-      let q = heard-reads x mode g a out accepted e in
+      let q = heard-reads x mode c g a out accepted e in
       not-taken
       (subst (λ (j : Service). Takes (rulesOf (x .sheet)) j mode) (names-once X (serviceOf (q .0)) k (names-so (q .0) (q .1)) n) (q .1 .takes)))

@@ -12,8 +12,8 @@ use Rattle.sheet.specs.Head as head
 use Rattle.sheet.specs.Rules.{Accepted}
 use Rattle.sheet.specs.Entries.{InBody, bodyAt}
 use Rattle.device.specs.Octets.{Octets}
-use Rattle.device.specs.Step.{Step}
-use Rattle.device.specs.Events.{Event, State, connect, disconnect, button, request}
+use Rattle.device.specs.Sessions.{sessionOf}
+use Rattle.device.specs.Events.{Event, Effect, State, connect, disconnect, button, request}
 use Rattle.history.specs.Location.{Location, Place}
 use Rattle.history.specs.Span.{names, gives}
 use Rattle.history.specs.Wish.{Wish, change, offerKey, restart, other, nothing}
@@ -23,13 +23,13 @@ use Rattle.history.specs.Others.{programming, individual, groupByte}
 
 -- A DEVICE: its step may look at the first state and at all events so far, the newest first, beside the state that it left itself
 abbrev pub Device : Type 0
-Device = First → List Event → State → Event → Step
+Device = First → List Event → State → Event → Effect
 
 -- the state after a history
 unfoldable pub stateAfter : Device → First → List Event → State
-stateAfter step f [] = record { session = f .session; sheet = f .sheet }
+stateAfter step f [] = record { sessions = f .sessions; sheet = f .sheet }
 stateAfter step f (e ∷ h) =
-    let r = step f h (stateAfter step f h) e in record { session = r .session; sheet = r .sheet }
+    let r = step f h (stateAfter step f h) e in record { sessions = r .sessions; sheet = r .sheet }
 
 -- a write to locations
 abbrev pub Writing : Wish → Type 0
@@ -43,10 +43,10 @@ Writing nothing = ⊥
 abbrev pub Succeeds : ℕ → Type 0
 Succeeds n = n ≤ 1
 
--- a step carries a write out
-pub record CarriedOut (e : Event) (r : Step) : Type 0 where
+-- a write is carried out, by its outcome
+pub record CarriedOut (e : Event) (n : ℕ) : Type 0 where
   pub writing : Writing (wished e)
-  pub outcome : Succeeds (r .outcome)
+  pub outcome : Succeeds n
 
 -- a position that no history changes: no location, no group body byte, not the address, not the flags
 pub record Still (s : List ℕ) (p : ℕ) : Type 0 where
@@ -58,10 +58,10 @@ pub record Still (s : List ℕ) (p : ℕ) : Type 0 where
 
 -- every APDU is a list of bytes, whether it passes any check or not
 abbrev pub BringsOctets : Event → Type 0
-BringsOctets connect = Unit {0}
-BringsOctets disconnect = Unit {0}
+BringsOctets (connect c) = Unit {0}
+BringsOctets (disconnect c) = Unit {0}
 BringsOctets (button on) = Unit {0}
-BringsOctets (request mode g a out) = Octets a
+BringsOctets (request mode c g a out) = Octets a
 
 abbrev pub AllOctets : List Event → Type 0
 AllOctets [] = Unit {0}
@@ -73,16 +73,16 @@ pub record Kept (step : Device) (f : First) (h : List Event) : Type 0 where
   pub accepted : Accepted (stateAfter step f h .sheet)
   pub octets : Octets (stateAfter step f h .sheet)
   pub same : length (stateAfter step f h .sheet) ≡ length (f .sheet)
-  -- session and level are what the history says
-  pub session : stateAfter step f h .session .opened ≡ opened f h
-  pub rights : stateAfter step f h .session .level ≡ level f h
+  -- each connection is open or closed, and has the level, as the history says
+  pub session : (c : ℕ) → sessionOf (stateAfter step f h .sessions) c .opened ≡ opened f h c
+  pub rights : (c : ℕ) → sessionOf (stateAfter step f h .sessions) c .level ≡ level f h c
   -- every location holds what the last permitted write gave, or its first content
   pub holds : (x : Location) (p : ℕ) → Place (f .sheet) x p → getD (stateAfter step f h .sheet) p 0 ≡ content f h x
   -- a write is carried out exactly if it is permitted
   pub onlyPermitted :
-      (e : Event) → BringsOctets e → CarriedOut e (step f h (stateAfter step f h) e) → permitted f h e ≡ true
+      (e : Event) → BringsOctets e → CarriedOut e (step f h (stateAfter step f h) e .outcome) → permitted f h e ≡ true
   pub allPermitted :
-      (e : Event) → BringsOctets e → permitted f h e ≡ true → CarriedOut e (step f h (stateAfter step f h) e)
+      (e : Event) → BringsOctets e → permitted f h e ≡ true → CarriedOut e (step f h (stateAfter step f h) e .outcome)
   -- and takes effect at once. This follows from `holds` one event later (`at-once` in proofs/AtOnce.antt); it is a sentence of the user's, so it stands here
   pub atOnce :
       (e : Event) → BringsOctets e → permitted f h e ≡ true → (x : Location) (p : ℕ) → Place (f .sheet) x p →
@@ -100,6 +100,6 @@ pub record Begins (f : First) : Type 0 where
   pub octets : Octets (f .sheet)
   pub accepted : Accepted (f .sheet)
 
--- DEMAND 3: from an accepted sheet and any session, after every history
+-- DEMAND 3: from an accepted sheet and any sessions, after every history
 abbrev pub Keeps : Device → Type 0
 Keeps step = (f : First) (h : List Event) → Begins f → AllOctets h → Kept step f h

@@ -9,4 +9,6 @@ pub mod Keeps
 pub mod Keyless
 pub mod Rightful
 pub mod Shown
+pub mod Isolation
 pub mod Wrong
+pub mod Leaks

@@ -1,4 +1,4 @@
--- WHAT A READ MAY SHOW OF A PROPERTY: by the first sheet, the first session and the events alone.
+-- WHAT A READ MAY SHOW OF A PROPERTY: by the first sheet, the first sessions and the events alone.
 -- Assumes nothing.
 use Prim.Native.Nat.{ℕ, _+_, _*_, _-_, _<_, _≤_}
 use mathlib.Core.Path.{_≡_}
@@ -13,8 +13,7 @@ use Rattle.pdu.specs.Write.{encoded}
 use Rattle.pdu.specs.declared.Parsed.the-variants.{Is}
 use Rattle.pdu.specs.declared.Pdu.the-variants.{PropertyValueRead, PropertyValueResponse}
 use Rattle.device.specs.Octets.{Octets}
-use Rattle.device.specs.Step.{Step}
-use Rattle.device.specs.Events.{Event, request}
+use Rattle.device.specs.Events.{Event, Effect, request}
 use Rattle.history.specs.Location.{body}
 use Rattle.history.specs.Span.{all, names}
 use Rattle.history.specs.Wish.{Wish, change, writeMemory, writeBits, writeProperty, writeKey, offerKey, restart, other, nothing}
@@ -47,7 +46,7 @@ given f object id j (e ∷ h) =
     given f object id j h)
 
 -- the answer shows n elements from element s on, each byte of them given, and it is what the history says
-pub record Shows (f : First) (h : List Event) (object id n s : ℕ) (r : Step) : Type 0 where
+pub record Shows (f : First) (h : List Event) (object id n s : ℕ) (r : Effect) : Type 0 where
   pub bytes : List ℕ
   pub answer : r .answer ≡ encoded (PropertyValueResponse object id n s) bytes
   pub long : length bytes ≡ n * elementOf f object id
@@ -58,7 +57,7 @@ pub record Shows (f : First) (h : List Event) (object id n s : ℕ) (r : Step) :
 -- WHAT IS SHOWN WAS WRITTEN: after every history, whenever a read of elements is carried out
 abbrev pub ShownWasWritten : Device → Type 0
 ShownWasWritten step =
-    (f : First) (h : List Event) → Begins f → AllOctets h → (mode g : ℕ) (a out : List ℕ) → Octets a →
+    (f : First) (h : List Event) → Begins f → AllOctets h → (mode c g : ℕ) (a out : List ℕ) → Octets a →
     (object id n s : ℕ) → readPdu a ≡ Is (PropertyValueRead object id n s) → 1 ≤ s →
-    step f h (stateAfter step f h) (request mode g a out) .outcome ≡ 0 →
-    Shows f h object id n s (step f h (stateAfter step f h) (request mode g a out))
+    step f h (stateAfter step f h) (request mode c g a out) .outcome ≡ 0 →
+    Shows f h object id n s (step f h (stateAfter step f h) (request mode c g a out))

@@ -12,46 +12,56 @@ use Rattle.sheet.specs.Layout.{_of_}
 use Rattle.sheet.specs.Head as head
 use Rattle.sheet.specs.Property as property
 use Rattle.sheet.specs.Entries.{place}
-use Rattle.device.specs.Step.{Step}
-use Rattle.device.specs.Events.{Event, State, connect, disconnect, button, request, eventOf, freshOf}
+use Rattle.judge.specs.declared.Session.{Session}
+use Rattle.device.specs.Sessions.{closed, freshOf, withSession}
+use Rattle.device.specs.Events.{Event, Effect, State, connect, disconnect, button, request, eventOf}
+use Rattle.device.specs.declared.Sessions.{Sessions}
 use Rattle.device.specs.Marked.{sample}
 use Rattle.device.specs.Pump.{pump}
-use Rattle.history.specs.Wish.{Wish, change, writeMemory, writeBits, writeProperty, writeKey, offerKey, restart, other, nothing}
+use Rattle.history.specs.Wish.{Wish, change, writeMemory, writeBits, writeProperty, writeKey, offerKey, restart, other, nothing, asks}
 use Rattle.history.specs.Permit.{indexFor, entryFor}
-use Rattle.history.specs.History.{First, wished, permitted}
+use Rattle.history.specs.History.{First, wished, isRestart, permitted}
 use Rattle.history.specs.Keeps.{Device, stateAfter}
 use Rattle.history.specs.Rightful.{ours}
 
--- a step with another sheet, and with another level
-abbrev pub withSheet : Step → List ℕ → Step
-withSheet r s = record { outcome = r .outcome; answer = r .answer; session = r .session; sheet = s }
+-- an effect with another sheet, and with other sessions
+abbrev pub withSheet : Effect → List ℕ → Effect
+withSheet r s = record { outcome = r .outcome; answer = r .answer; sessions = r .sessions; sheet = s }
 
-abbrev pub withLevel : Step → ℕ → Step
-withLevel r l =
-    record { outcome = r .outcome; answer = r .answer; session = record { opened = r .session .opened; level = l }; sheet = r .sheet }
+abbrev pub withSessions : Effect → Sessions → Effect
+withSessions r q = record { outcome = r .outcome; answer = r .answer; sessions = q; sheet = r .sheet }
 
--- a state whose session is open at a level
+-- sessions r with other levels, each from the session that there was in q and the one that is in r
+abbrev pub levelled : (Session → Session → ℕ) → Sessions → Sessions → Sessions
+levelled l q r =
+    record {
+      first = record { opened = r .first .opened; level = l (q .first) (r .first) };
+      second = record { opened = r .second .opened; level = l (q .second) (r .second) };
+    }
+
+-- a state whose sessions are open at a level
 abbrev pub at : State → ℕ → State
-at x l = record { session = record { opened = true; level = l }; sheet = x .sheet }
+at x l =
+    let q : Session = record { opened = true; level = l } in record { sessions = record { first = q; second = q }; sheet = x .sheet }
 
--- a device that changes what ours makes of a request, and one that acts on requests as if the level were another
-abbrev pub onRequests : (State → Event → Step → Step) → Device
-onRequests c f h x connect = eventOf x connect
-onRequests c f h x disconnect = eventOf x disconnect
-onRequests c f h x (button on) = eventOf x (button on)
-onRequests c f h x (request mode g a out) = c x (request mode g a out) (eventOf x (request mode g a out))
+-- a device that changes what ours makes of a request, and one that acts on requests as if the levels were others
+abbrev pub onRequests : (State → Event → Effect → Effect) → Device
+onRequests k f h x (connect c) = eventOf x (connect c)
+onRequests k f h x (disconnect c) = eventOf x (disconnect c)
+onRequests k f h x (button on) = eventOf x (button on)
+onRequests k f h x (request mode c g a out) = k x (request mode c g a out) (eventOf x (request mode c g a out))
 
 abbrev pub actsAt : (ℕ → ℕ) → Device
 actsAt taking =
     onRequests
     (λ x e r.
-    let w = eventOf record { session = record { opened = x .session .opened; level = taking (x .session .level) }; sheet = x .sheet } e in
-    record { outcome = w .outcome; answer = w .answer; session = r .session; sheet = w .sheet })
+    let w = eventOf record { sessions = levelled (λ p q. taking (q .level)) (x .sessions) (x .sessions); sheet = x .sheet } e in
+    record { outcome = w .outcome; answer = w .answer; sessions = r .sessions; sheet = w .sheet })
 
 -- ONE THAT REFUSES EVERYTHING
 abbrev pub refusesAll : Device
 refusesAll =
-    onRequests (λ x e r. record { outcome = 8; answer = []; session = x .session; sheet = x .sheet })
+    onRequests (λ x e r. record { outcome = 8; answer = []; sessions = x .sessions; sheet = x .sheet })
 
 -- ONE THAT ANSWERS AND STORES NOTHING
 abbrev pub storesNothing : Device
@@ -108,30 +118,47 @@ storesFirst =
     onRequests
     (λ x e r.
     let w = eventOf (at x 0) e in
-    withSheet (eventOf record { session = x .session; sheet = w .sheet } e) (w .sheet))
+    withSheet (eventOf record { sessions = x .sessions; sheet = w .sheet } e) (w .sheet))
 
 -- THE ACCIDENT: it answers the refusal, 11, and stores, as if the request had come connected at level 0
 abbrev pub deniesAndStores : Device
-deniesAndStores f h x connect = eventOf x connect
-deniesAndStores f h x disconnect = eventOf x disconnect
+deniesAndStores f h x (connect c) = eventOf x (connect c)
+deniesAndStores f h x (disconnect c) = eventOf x (disconnect c)
 deniesAndStores f h x (button on) = eventOf x (button on)
-deniesAndStores f h x (request mode g a out) =
-    let r = eventOf x (request mode g a out) in
-    withSheet r (cond (eqb (r .outcome) 11) (eventOf (at x 0) (request 3 g a out) .sheet) (r .sheet))
+deniesAndStores f h x (request mode c g a out) =
+    let r = eventOf x (request mode c g a out) in
+    withSheet r (cond (eqb (r .outcome) 11) (eventOf (at x 0) (request 3 0 g a out) .sheet) (r .sheet))
 
 -- ONE THAT KEEPS THE LEVEL AFTER A WRONG KEY: while the session is open, only a wrong key makes the level 3
 abbrev pub keepsLevel : Device
 keepsLevel =
     onRequests
     (λ x e r.
-    withLevel r (cond (r .session .opened && eqb (r .session .level) 3) (x .session .level) (r .session .level)))
+    withSessions r
+    (levelled (λ p q. cond (q .opened && eqb (q .level) 3) (p .level) (q .level)) (x .sessions) (r .sessions)))
 
 -- ONE THAT KEEPS THE LEVEL OVER A CONNECT
 abbrev pub keepsOver : Device
-keepsOver f h x connect = withLevel (eventOf x connect) (x .session .level)
-keepsOver f h x disconnect = eventOf x disconnect
+keepsOver f h x (connect c) =
+    let r = eventOf x (connect c) in withSessions r (levelled (λ p q. p .level) (x .sessions) (r .sessions))
+keepsOver f h x (disconnect c) = eventOf x (disconnect c)
 keepsOver f h x (button on) = eventOf x (button on)
-keepsOver f h x (request mode g a out) = eventOf x (request mode g a out)
+keepsOver f h x (request mode c g a out) = eventOf x (request mode c g a out)
+
+-- ONE WITH ONE LEVEL FOR BOTH CONNECTIONS: the second has that of the first
+abbrev pub oneLevel : Device
+oneLevel f h x e =
+    let r = eventOf x e in withSessions r (levelled (λ p q. r .sessions .first .level) (x .sessions) (r .sessions))
+
+-- ONE WHOSE RESTART CLOSES ITS OWN CONNECTION ALONE
+abbrev pub closesOwn : Device
+closesOwn f h x (connect c) = eventOf x (connect c)
+closesOwn f h x (disconnect c) = eventOf x (disconnect c)
+closesOwn f h x (button on) = eventOf x (button on)
+closesOwn f h x (request mode c g a out) =
+    let r = eventOf x (request mode c g a out) in
+    withSessions r
+    (cond (isRestart (asks a) && leb (r .outcome) 1) (withSession (x .sessions) c closed) (r .sessions))
 
 -- ONE WITH < FOR ≤: it acts one level too weak
 abbrev pub strict : Device
@@ -165,42 +192,48 @@ abbrev pub asMemoryWrite : List ℕ → List ℕ
 asMemoryWrite a = cond (eqb (numAt a 0 2) 0x2C2) (0x02 ∷ (0x80 + getD a 2 0) ∷ drop 3 a) a
 
 abbrev pub userFromDevice : Device
-userFromDevice f h x connect = eventOf x connect
-userFromDevice f h x disconnect = eventOf x disconnect
+userFromDevice f h x (connect c) = eventOf x (connect c)
+userFromDevice f h x (disconnect c) = eventOf x (disconnect c)
 userFromDevice f h x (button on) = eventOf x (button on)
-userFromDevice f h x (request mode g a out) =
-    withSheet (eventOf x (request mode g a out)) (eventOf x (request mode g (asMemoryWrite a) out) .sheet)
+userFromDevice f h x (request mode c g a out) =
+    withSheet (eventOf x (request mode c g a out)) (eventOf x (request mode c g (asMemoryWrite a) out) .sheet)
 
 -- ONE THAT TAKES THE LEVELS OF THE FIRST REGION FOR ALL: a UserMemory_Write is stored whole if one of its first byte alone would be
 abbrev pub firstByte : List ℕ → List ℕ
 firstByte a = cond (eqb (numAt a 0 2) 0x2C2) (0x02 ∷ 0xC2 ∷ 0x01 ∷ take 3 (drop 3 a)) a
 
 abbrev pub firstRegionDecides : Device
-firstRegionDecides f h x connect = eventOf x connect
-firstRegionDecides f h x disconnect = eventOf x disconnect
+firstRegionDecides f h x (connect c) = eventOf x (connect c)
+firstRegionDecides f h x (disconnect c) = eventOf x (disconnect c)
 firstRegionDecides f h x (button on) = eventOf x (button on)
-firstRegionDecides f h x (request mode g a out) =
-    let r = eventOf x (request mode g a out) in
+firstRegionDecides f h x (request mode c g a out) =
+    let r = eventOf x (request mode c g a out) in
     withSheet r
-    (cond (leb (eventOf x (request mode g (firstByte a) out) .outcome) 1) (eventOf (at x 0) (request mode g a out) .sheet) (r .sheet))
+    (cond (leb (eventOf x (request mode c g (firstByte a) out) .outcome) 1) (eventOf (at x 0) (request mode c g a out) .sheet) (r .sheet))
 
--- THE RUNS begin with the sample sheet, or with the pump controller's, and a fresh session
+-- THE RUNS begin with the sample sheet, or with the pump controller's, and fresh sessions
 abbrev pub fresh : First
-fresh = record { sheet = sample; session = freshOf }
+fresh = record { sheet = sample; sessions = freshOf }
 
 abbrev pub freshPump : First
-freshPump = record { sheet = pump; session = freshOf }
+freshPump = record { sheet = pump; sessions = freshOf }
 
 abbrev pub buffer : List ℕ
 buffer = replicate 16 0
 
--- a connected request
+-- a connected request, on a connection, and on connection 0
+abbrev pub sentOn : ℕ → List ℕ → Event
+sentOn c a = request 3 c 0 a buffer
+
 abbrev pub sent : List ℕ → Event
-sent a = request 3 0 a buffer
+sent = sentOn 0
 
 -- the keys of levels 0 and 1, the public one of level 2, and none
+abbrev pub offeringOn : ℕ → ℕ → Event
+offeringOn c b = sentOn c (0x03 ∷ 0xD1 ∷ 0x00 ∷ b ∷ b ∷ b ∷ b ∷ [])
+
 abbrev pub offering : ℕ → Event
-offering b = sent (0x03 ∷ 0xD1 ∷ 0x00 ∷ b ∷ b ∷ b ∷ b ∷ [])
+offering = offeringOn 0
 
 -- 55 to address 0100, 66 to 0101, both at once; 77777777 as the key of level 0
 abbrev pub firstWrite : Event
@@ -225,7 +258,7 @@ acrossWrite = sent (0x02 ∷ 0xC2 ∷ 0x02 ∷ 0x01 ∷ 0x03 ∷ 0x55 ∷ 0x66 �
 
 -- 0384 to element 1 of property 51 of object 1, in a mode
 abbrev pub elementWrite : ℕ → Event
-elementWrite mode = request mode 0 (0x03 ∷ 0xD7 ∷ 0x01 ∷ 0x33 ∷ 0x10 ∷ 0x01 ∷ 0x03 ∷ 0x84 ∷ []) buffer
+elementWrite mode = request mode 0 0 (0x03 ∷ 0xD7 ∷ 0x01 ∷ 0x33 ∷ 0x10 ∷ 0x01 ∷ 0x03 ∷ 0x84 ∷ []) buffer
 
 -- its count cleared; 0384 to its element 2
 abbrev pub clear : Event
@@ -234,9 +267,17 @@ clear = sent (0x03 ∷ 0xD7 ∷ 0x01 ∷ 0x33 ∷ 0x10 ∷ 0x00 ∷ 0x00 ∷ 0x0
 abbrev pub jump : Event
 jump = sent (0x03 ∷ 0xD7 ∷ 0x01 ∷ 0x33 ∷ 0x10 ∷ 0x02 ∷ 0x03 ∷ 0x84 ∷ [])
 
+-- a restart
+abbrev pub restarting : Event
+restarting = sent (0x03 ∷ 0x80 ∷ [])
+
 -- connected, the key of level 0 offered
 abbrev pub authorized : List Event
-authorized = offering 0x11 ∷ connect ∷ []
+authorized = offering 0x11 ∷ connect 0 ∷ []
+
+-- both connected, and on connection 0 the key of level 0 offered
+abbrev pub bothOn : List Event
+bothOn = connect 1 ∷ authorized
 
 -- a device, and a run after which its state is not ours; the newest event first
 pub record Witness : Type 0 where
@@ -256,13 +297,14 @@ wrongs =
     shows storesLate (firstWrite ∷ authorized) ∷
     shows inventsCount (elementWrite 3 ∷ authorized) ∷
     shows leavesJumped (jump ∷ clear ∷ authorized) ∷
-    shows storesFirst (firstWrite ∷ connect ∷ []) ∷
+    shows storesFirst (firstWrite ∷ connect 0 ∷ []) ∷
     shows deniesAndStores (elementWrite 2 ∷ []) ∷
     shows keepsLevel (offering 0x33 ∷ authorized) ∷
-    shows keepsOver (connect ∷ authorized) ∷
-    shows strict (firstWrite ∷ offering 0xFF ∷ connect ∷ []) ∷
+    shows keepsOver (connect 0 ∷ authorized) ∷
+    shows oneLevel bothOn ∷ shows closesOwn (restarting ∷ bothOn) ∷
+    shows strict (firstWrite ∷ offering 0xFF ∷ connect 0 ∷ []) ∷
     shows turned (firstWrite ∷ authorized) ∷
-    shows setsKey0 (newKey0 ∷ offering 0x22 ∷ connect ∷ []) ∷
-    shows losesSecond (bothBytes ∷ authorized) ∷ shows ignoresKey0 (newKey0 ∷ authorized) ∷ shows addressInOne (connect ∷ []) ∷
+    shows setsKey0 (newKey0 ∷ offering 0x22 ∷ connect 0 ∷ []) ∷
+    shows losesSecond (bothBytes ∷ authorized) ∷ shows ignoresKey0 (newKey0 ∷ authorized) ∷ shows addressInOne (connect 0 ∷ []) ∷
     record { device = userFromDevice; first = freshPump; events = userWrite ∷ authorized } ∷
-    record { device = firstRegionDecides; first = freshPump; events = acrossWrite ∷ offering 0x22 ∷ connect ∷ [] } ∷ []
+    record { device = firstRegionDecides; first = freshPump; events = acrossWrite ∷ offering 0x22 ∷ connect 0 ∷ [] } ∷ []

@@ -1,0 +1,47 @@
+-- Wrong devices in which one tool can tell what the other does, each with a short run on which it shows.
+-- Assumes nothing.
+use Prim.Native.Nat.{ℕ, _-_}
+use mathlib.Core.List.{List, [], _∷_, _++_}
+use mathlib.Core.Bool.{Bool, true, false, cond, _&&_}
+use lib.Dec.{eqb}
+use Rattle.device.specs.Sessions.{sessionOf}
+use Rattle.device.specs.Events.{Event, connect, disconnect, button, request, eventOf}
+use Rattle.history.specs.Wish.{Wish, change, offerKey, restart, other, nothing, asks}
+use Rattle.history.specs.Keeps.{Device}
+use Rattle.history.specs.Wrong.{withSessions, levelled, offeringOn}
+
+-- ONE WHOSE ANSWERS SHOW THE LEVEL OF THE OTHER CONNECTION, in one more byte
+abbrev pub showsLevel : Device
+showsLevel f h x (connect c) = eventOf x (connect c)
+showsLevel f h x (disconnect c) = eventOf x (disconnect c)
+showsLevel f h x (button on) = eventOf x (button on)
+showsLevel f h x (request mode c g a out) =
+    let r = eventOf x (request mode c g a out) in
+    record {
+      outcome = r .outcome;
+      answer = r .answer ++ (sessionOf (x .sessions) (1 - c) .level ∷ []);
+      sessions = r .sessions;
+      sheet = r .sheet;
+    }
+
+abbrev pub isOffer : Wish → Bool
+isOffer (change c) = false
+isOffer (offerKey number) = true
+isOffer restart = false
+isOffer (other o) = false
+isOffer nothing = false
+
+-- ONE IN WHICH A WRONG KEY TAKES THE LEVEL OF BOTH CONNECTIONS
+abbrev pub lowersBoth : Device
+lowersBoth f h x (connect c) = eventOf x (connect c)
+lowersBoth f h x (disconnect c) = eventOf x (disconnect c)
+lowersBoth f h x (button on) = eventOf x (button on)
+lowersBoth f h x (request mode c g a out) =
+    let r = eventOf x (request mode c g a out) in
+    withSessions r
+    (cond (isOffer (asks a) && eqb (sessionOf (r .sessions) c .level) 3) (levelled (λ p q. 3) (x .sessions) (r .sessions))
+    (r .sessions))
+
+-- what the tool on connection 1 sends in one of two runs: connected, a key offered
+abbrev pub offeredOn1 : ℕ → List Event → List Event
+offeredOn1 b h = offeringOn 1 b ∷ connect 1 ∷ h
