@@ -22,7 +22,7 @@ use Rattle.values.specs.Value.{sixBits, valueData}
 use Rattle.judge.specs.Session.{multicast}
 use Rattle.device.specs.Octets.{Octets}
 use Rattle.device.specs.Asked.{Asked, quiet}
-use Rattle.device.specs.Events.{freshOf}
+use Rattle.device.specs.Sessions.{closed}
 use Rattle.device.specs.GroupsDue.{Brings}
 use Rattle.device.specs.Demand2.{done}
 use Rattle.device.specs.Marked.{sample}
@@ -33,7 +33,7 @@ use Rattle.delivery.proofs.Deliveries.{unsuited, delivered-ours, told-o
 
 -- a request to the group object, and to one that meets a sheet
 abbrev to : List ℕ → List ℕ → Asked
-to s a = record { room = 16; sheet = s; session = freshOf; mode = multicast; group = 0x0801; apdu = a }
+to s a = record { room = 16; sheet = s; session = closed; mode = multicast; group = 0x0801; apdu = a }
 
 octets : Octets sample
 unfolding sample

@@ -1,11 +1,11 @@
-// The C interface of the device: the calls of include/kelindap.h, those on a session in place.
+// The C interface of the device: the calls of include/kelindap.h, those on the sessions in place.
 ghost use mathlib.Core.Path.{_≡_};
 ghost use Rattle.sheet.specs.Rules.{ruleOf};
 ghost use Rattle.sheet.specs.Lookup.{StandsIn, regionOf, regionFrom, userRegionOf, userRegionFrom, propertyOf, propertyFrom, groupOf, groupFrom};
-ghost use Rattle.device.specs.Events.{freshOf, connectOf, disconnectOf, Pressed};
-ghost use Rattle.device.specs.Step.{Called};
+ghost use Rattle.device.specs.Sessions.{freshOf};
+ghost use Rattle.device.specs.Events.{namedOutcome, connectOf, disconnectOf, Pressed, Called};
 ghost use Rattle.host.specs.Calls.{gave, gaveBack, versionOf};
-use judge::Session;
+use device::Sessions;
 use sheet::Part;
 
 // What a request gave: its outcome, and how many bytes of the answer buffer were filled.
@@ -15,37 +15,39 @@ pub struct Reply {
     pub count: u8,
 }
 
-// The same with the session afterwards.
+// The same with the sessions afterwards.
 pub struct Replied {
     pub outcome: u8,
     pub count: u8,
-    pub session: Session,
+    pub sessions: Sessions,
 }
 
-// A session that nobody has connected to.
+// Sessions that nobody has connected to.
 #[no_mangle]
-pub extern "C" fn kelindap_fresh() -> Session
+pub extern "C" fn kelindap_fresh() -> Sessions
     ensures { λ r. ⌜ r ≡ freshOf ⌝ }
 {
     device::fresh()
 }
 
-// Open at level 3, whatever it was.
+// The session of the connection is open at level 3, whatever it was.
 #[no_mangle]
-pub extern "C" fn kelindap_connect(session: &mut Session) -> u8
-    ensures { λ r. ⌜ (r ≡ 1) × (now (session .exit) ≡ connectOf) ⌝ }
+pub extern "C" fn kelindap_connect(sessions: &mut Sessions, connection: u8) -> u8
+    ensures { λ r. ⌜ (r ≡ namedOutcome connection) × (now (sessions .exit) ≡ connectOf (now (sessions .entry)) connection) ⌝ }
 {
-    *session = device::connect(*session);
-    1
+    let d = device::connect(*sessions, connection);
+    *sessions = d.sessions;
+    d.outcome
 }
 
-// Closed at level 3, whatever it was.
+// The session of the connection is closed at level 3, whatever it was.
 #[no_mangle]
-pub extern "C" fn kelindap_disconnect(session: &mut Session) -> u8
-    ensures { λ r. ⌜ (r ≡ 1) × (now (session .exit) ≡ disconnectOf) ⌝ }
+pub extern "C" fn kelindap_disconnect(sessions: &mut Sessions, connection: u8) -> u8
+    ensures { λ r. ⌜ (r ≡ namedOutcome connection) × (now (sessions .exit) ≡ disconnectOf (now (sessions .entry)) connection) ⌝ }
 {
-    *session = device::disconnect(*session);
-    1
+    let d = device::disconnect(*sessions, connection);
+    *sessions = d.sessions;
+    d.outcome
 }
 
 // The programming button.
@@ -56,40 +58,42 @@ pub extern "C" fn kelindap_button(sheet: &mut [u8], on: bool) -> u8
     device::button(sheet, on)
 }
 
-// A request with the session by value.
+// A request with the sessions by value.
 fn request(
-    session: Session,
+    sessions: Sessions,
     mode: u8,
+    connection: u8,
     group: u16,
     apdu: &[u8],
     sheet: &mut [u8],
     answer: &mut [u8],
 ) -> Replied
-    ensures { λ r. ⌜ Called session mode group (now (apdu .entry)) (now (sheet .entry)) (now (answer .entry)) (gaveBack r) (now (sheet .exit)) (now (answer .exit)) ⌝ }
+    ensures { λ r. ⌜ Called sessions mode connection group (now (apdu .entry)) (now (sheet .entry)) (now (answer .entry)) (gaveBack r) (now (sheet .exit)) (now (answer .exit)) ⌝ }
 {
-    let d = device::request(session, mode, group, apdu, sheet, answer);
-    let next = d.session;
+    let d = device::request(sessions, mode, connection, group, apdu, sheet, answer);
+    let next = d.sessions;
     Replied {
         outcome: d.outcome,
         count: d.count as u8,
-        session: next,
+        sessions: next,
     }
 }
 
-// A request in place: the session becomes what the step makes of it.
+// A request in place: the sessions become what the request makes of them.
 #[no_mangle]
 pub extern "C" fn kelindap_request(
-    session: &mut Session,
+    sessions: &mut Sessions,
     mode: u8,
+    connection: u8,
     group: u16,
     apdu: &[u8],
     sheet: &mut [u8],
     answer: &mut [u8],
 ) -> Reply
-    ensures { λ r. ⌜ Called (now (session .entry)) mode group (now (apdu .entry)) (now (sheet .entry)) (now (answer .entry)) (gave r (now (session .exit))) (now (sheet .exit)) (now (answer .exit)) ⌝ }
+    ensures { λ r. ⌜ Called (now (sessions .entry)) mode connection group (now (apdu .entry)) (now (sheet .entry)) (now (answer .entry)) (gave r (now (sessions .exit))) (now (sheet .exit)) (now (answer .exit)) ⌝ }
 {
-    let d = request(*session, mode, group, apdu, sheet, answer);
-    *session = d.session;
+    let d = request(*sessions, mode, connection, group, apdu, sheet, answer);
+    *sessions = d.sessions;
     Reply {
         outcome: d.outcome,
         count: d.count,
@@ -141,5 +145,5 @@ pub extern "C" fn kelindap_group(sheet: &[u8], address: u16) -> Part
 pub extern "C" fn kelindap_version() -> u32
     ensures { λ r. ⌜ r ≡ versionOf ⌝ }
 {
-    256
+    512
 }
