@@ -2,12 +2,13 @@
 //   sheet HEX HEX ..    the sheet that each case from here on starts from, in any number of pieces
 //   at WORDS : EVENT -> OUTCOME ANSWER CHANGES | SOURCE
 //                       a case on that sheet: the words set it up (setup.rt), the event is played (play.rt), and what it
-//                       gives is compared with what is wanted (want.rt): outcome, answer, session, and every byte of the
+//                       gives is compared with what is wanted (want.rt): outcome, answer, sessions, and every byte of the
 //                       sheet and of the answer buffer
-//   then WORDS : ..     the same on the sheet and in the session that the case before left
+//   then WORDS : ..     the same on the sheet and in the sessions that the case before left
 // Each case is written after `ok`, or after DIFFERENT with what it gave and what was wanted, and in the end how many there were.
 use check::same;
 use device::Done;
+use device::Sessions;
 use libc::STDIN_FILENO;
 use lines::Tally;
 use lines::after;
@@ -25,6 +26,7 @@ use play::is_event;
 use play::play;
 use setup::Setup;
 use setup::found;
+use setup::start;
 use setup::with_words;
 use show::put_state;
 use want::Want;
@@ -37,21 +39,17 @@ mod setup;
 mod show;
 mod want;
 
-// How long the sheet is, the session that the last case left, and the cases so far.
+// How long the sheet is, the sessions that the last case left, and the cases so far.
 struct State {
     len: usize,
-    opened: bool,
-    level: u8,
+    sessions: Sessions,
     tally: Tally,
 }
 
 fn with_tally(t: State, tally: Tally) -> State {
-    State {
-        len: t.len,
-        opened: t.opened,
-        level: t.level,
-        tally: tally,
-    }
+    let mut r = t;
+    r.tally = tally;
+    r
 }
 
 fn unclear(line: &[u8], t: State) -> State {
@@ -78,8 +76,7 @@ fn compared(
     want: Want,
     tally: Tally,
 ) -> Tally {
-    let q = d.session;
-    if is_wanted(want, d.outcome, d.count, q.opened, q.level) {
+    if is_wanted(want, d.outcome, d.count, d.sessions) {
         if same(out, answer) {
             if same(s, w) {
                 return told(tally, line, b"", b"");
@@ -87,17 +84,9 @@ fn compared(
         }
     }
     let mut a = [0u8; 2048];
-    let n = put_state(&mut a, d.outcome, out, q.opened, q.level, base, s);
+    let n = put_state(&mut a, d.outcome, out, d.sessions, base, s);
     let mut b = [0u8; 2048];
-    let m = put_state(
-        &mut b,
-        want.outcome,
-        answer,
-        want.opened,
-        want.level,
-        base,
-        w,
-    );
+    let m = put_state(&mut b, want.outcome, answer, want.sessions, base, w);
     differs(line, part(&a, 0, n), part(&b, 0, m), tally)
 }
 
@@ -126,11 +115,10 @@ fn played(
     let d = play(q, event, s, t.len, &mut out);
     let old = t.tally;
     let tally = compared(line, base, s, &out, d, w, &answer, want, old);
-    let left = d.session;
+    let left = d.sessions;
     State {
         len: t.len,
-        opened: left.opened,
-        level: left.level,
+        sessions: left,
         tally: tally,
     }
 }
@@ -153,19 +141,15 @@ fn with_sheet(line: &[u8], base: &mut [u8], t: State) -> State {
         return unclear(line, t);
     }
     say(b"", line);
-    let tally = t.tally;
-    State {
-        len: n,
-        opened: t.opened,
-        level: t.level,
-        tally: tally,
-    }
+    let mut r = t;
+    r.len = n;
+    r
 }
 
 // A case on the sheet that cases start from.
 fn with_new(line: &[u8], base: &[u8], s: &mut [u8], w: &mut [u8], t: State) -> State {
     put_all(s, 0, base);
-    with_case(line, base, s, w, found(true, 3, false), t)
+    with_case(line, base, s, w, found(start(true), false), t)
 }
 
 // A line by its first word.
@@ -174,7 +158,7 @@ fn by_word(line: &[u8], base: &mut [u8], s: &mut [u8], w: &mut [u8], t: State) -
     match first {
         0 => with_sheet(line, base, t),
         1 => with_new(line, base, s, w, t),
-        2 => with_case(line, base, s, w, found(t.opened, t.level, true), t),
+        2 => with_case(line, base, s, w, found(t.sessions, true), t),
         _ => unclear(line, t),
     }
 }
@@ -190,8 +174,7 @@ fn with_line(line: &[u8], base: &mut [u8], s: &mut [u8], w: &mut [u8], t: State)
 fn with_all(text: &[u8], base: &mut [u8], s: &mut [u8], w: &mut [u8]) -> Tally {
     let mut t = State {
         len: 0,
-        opened: false,
-        level: 3,
+        sessions: start(false),
         tally: begin(),
     };
     let mut at = 0;

@@ -1,11 +1,11 @@
 // The events:
 //   HEX, -                   a request of these bytes, or of none
-//   fresh                    a new session
-//   connect, disconnect
+//   fresh                    new sessions
+//   connect, disconnect      of the connection said
 //   press, release           the programming button on, off
 use crate::setup::Setup;
 use device::Done;
-use judge::Session;
+use device::Sessions;
 use lines::first;
 use lines::is_hex;
 use lines::part;
@@ -24,18 +24,11 @@ pub(crate) fn is_event(event: &[u8]) -> bool {
     is_hex(event)
 }
 
-fn session(q: Setup) -> Session {
-    Session {
-        opened: q.opened,
-        level: q.level,
-    }
-}
-
-fn silent(outcome: u8, session: Session) -> Done {
+fn silent(outcome: u8, sessions: Sessions) -> Done {
     Done {
         outcome: outcome,
         count: 0,
-        session: session,
+        sessions: sessions,
     }
 }
 
@@ -44,8 +37,9 @@ fn request(q: Setup, hex: &[u8], sheet: &mut [u8], out: &mut [u8]) -> Done {
     let mut apdu = [0u8; 64];
     let n = put_unhex(&mut apdu, 0, hex);
     device::request(
-        session(q),
+        q.sessions,
         q.mode,
+        q.connection,
         q.group,
         part(&apdu, 0, n),
         sheet,
@@ -57,10 +51,10 @@ fn event(q: Setup, event: &[u8], sheet: &mut [u8], out: &mut [u8]) -> Done {
     let name = event_named(event);
     match name {
         0 => silent(1, device::fresh()),
-        1 => silent(1, device::connect(session(q))),
-        2 => silent(1, device::disconnect(session(q))),
-        3 => silent(device::button(sheet, true), session(q)),
-        4 => silent(device::button(sheet, false), session(q)),
+        1 => device::connect(q.sessions, q.connection),
+        2 => device::disconnect(q.sessions, q.connection),
+        3 => silent(device::button(sheet, true), q.sessions),
+        4 => silent(device::button(sheet, false), q.sessions),
         _ => request(q, event, sheet, out),
     }
 }

@@ -1,7 +1,9 @@
 // The words that set a case up:
 //   mode=N       3 where nothing is said
-//   open=0, open=1   the session; after `at` it is open in mode 3 and closed in the others
+//   conn=N       the connection that the event names; 0
+//   open=0, open=1   the session of connection 0; after `at` it is open in mode 3 and closed in the others
 //   level=N      its level; after `at` 3
+//   open1=N, level1=N   the same of connection 1; after `at` it is closed at 3
 //   group=N      the group address
 //   buf=N        the length of the answer buffer; 16
 //   button=on, button=off, verify=on, verify=off   the bits of the sheet's byte 14
@@ -9,6 +11,8 @@
 // Numbers are decimal, or hex after 0x.
 use crate::hex::poke;
 use check::same;
+use device::Sessions;
+use judge::Session;
 use lines::after;
 use lines::before;
 use lines::beyond;
@@ -21,20 +25,36 @@ use octets::byte;
 
 // What a request comes with; whether it follows on a case before it, and whether every word was understood.
 pub struct Setup {
-    pub opened: bool,
-    pub level: u8,
+    pub sessions: Sessions,
     pub mode: u8,
+    pub connection: u8,
     pub group: u16,
     pub room: usize,
     pub later: bool,
     pub fine: bool,
 }
 
-pub(crate) fn found(opened: bool, level: u8, later: bool) -> Setup {
-    Setup {
+// The sessions that a case starts from, both at level 3: that of connection 0 open or not, that of connection 1 closed.
+pub(crate) fn start(opened: bool) -> Sessions {
+    let first = Session {
         opened: opened,
-        level: level,
+        level: 3,
+    };
+    let second = Session {
+        opened: false,
+        level: 3,
+    };
+    Sessions {
+        first: first,
+        second: second,
+    }
+}
+
+pub(crate) fn found(sessions: Sessions, later: bool) -> Setup {
+    Setup {
+        sessions: sessions,
         mode: 3,
+        connection: 0,
         group: 0,
         room: 16,
         later: later,
@@ -48,33 +68,75 @@ fn wrong(q: Setup) -> Setup {
     r
 }
 
+// Another session for connection 0, for connection 1.
+fn with_first(q: Setup, s: Session) -> Setup {
+    let mut new = q.sessions;
+    new.first = s;
+    let mut r = q;
+    r.sessions = new;
+    r
+}
+
+fn with_second(q: Setup, s: Session) -> Setup {
+    let mut new = q.sessions;
+    new.second = s;
+    let mut r = q;
+    r.sessions = new;
+    r
+}
+
+fn opened(q: Session, on: bool) -> Session {
+    Session {
+        opened: on,
+        level: q.level,
+    }
+}
+
+fn levelled(q: Session, level: u8) -> Session {
+    Session {
+        opened: q.opened,
+        level: level,
+    }
+}
+
 fn with_mode(q: Setup, x: u64) -> Setup {
     if 255 < x {
         return wrong(q);
     }
     let mut r = q;
     r.mode = x as u8;
-    if !q.later {
-        r.opened = x == 3;
+    if q.later {
+        return r;
     }
-    r
+    with_first(r, opened(q.sessions.first, x == 3))
 }
 
-fn with_open(q: Setup, x: u64) -> Setup {
+fn with_open(q: Setup, x: u64, second: bool) -> Setup {
     if 1 < x {
         return wrong(q);
     }
-    let mut r = q;
-    r.opened = x == 1;
-    r
+    if second {
+        return with_second(q, opened(q.sessions.second, x == 1));
+    }
+    with_first(q, opened(q.sessions.first, x == 1))
 }
 
-fn with_level(q: Setup, x: u64) -> Setup {
+fn with_level(q: Setup, x: u64, second: bool) -> Setup {
+    if 255 < x {
+        return wrong(q);
+    }
+    if second {
+        return with_second(q, levelled(q.sessions.second, x as u8));
+    }
+    with_first(q, levelled(q.sessions.first, x as u8))
+}
+
+fn with_connection(q: Setup, x: u64) -> Setup {
     if 255 < x {
         return wrong(q);
     }
     let mut r = q;
-    r.level = x as u8;
+    r.connection = x as u8;
     r
 }
 
@@ -141,13 +203,16 @@ fn with_sheet(s: &mut [u8], len: usize, q: Setup, name: &[u8], value: &[u8]) -> 
 
 fn with_value(s: &mut [u8], len: usize, q: Setup, name: &[u8], value: &[u8]) -> Setup {
     let x = number(value);
-    let what = which(b"mode open level group buf", name);
+    let what = which(b"mode open level group buf conn open1 level1", name);
     match what {
         0 => with_mode(q, x),
-        1 => with_open(q, x),
-        2 => with_level(q, x),
+        1 => with_open(q, x, false),
+        2 => with_level(q, x, false),
         3 => with_group(q, x),
         4 => with_room(q, x),
+        5 => with_connection(q, x),
+        6 => with_open(q, x, true),
+        7 => with_level(q, x, true),
         _ => with_sheet(s, len, q, name, value),
     }
 }

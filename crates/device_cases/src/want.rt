@@ -1,10 +1,13 @@
 // What a case is to give: ` OUTCOME ANSWER CHANGES `. The answer is hex, or - for none. The changes are words as those that set
-// a case up (setup.rt), of the session and the sheet alone:
-//   open=N, level=N   what is different about the session
-//   PLACE=HEX         what is different in the sheet
+// a case up (setup.rt), of the sessions and the sheet alone:
+//   open=N, level=N     what is different about the session of connection 0
+//   open1=N, level1=N   what is different about that of connection 1
+//   PLACE=HEX           what is different in the sheet
 use crate::setup::Setup;
 use crate::setup::found;
 use crate::setup::with_words;
+use device::Sessions;
+use judge::Session;
 use lines::after;
 use lines::find;
 use lines::is_hex;
@@ -13,29 +16,36 @@ use lines::put_unhex;
 use lines::rest;
 use lines::word;
 
-// The outcome, how many bytes the answer has, the session afterwards, and whether every word was understood.
+// The outcome, how many bytes the answer has, the sessions afterwards, and whether every word was understood.
 pub struct Want {
     pub outcome: u8,
     pub count: usize,
-    pub opened: bool,
-    pub level: u8,
+    pub sessions: Sessions,
     pub fine: bool,
 }
 
-// The session that a case is to leave. It is not fine where a word is not understood, or changes what a request comes with.
-fn left(q: Setup, s: &mut [u8], len: usize, changes: &[u8]) -> Setup {
-    let old = found(q.opened, q.level, true);
-    let mut new = with_words(s, len, old, changes);
+// Not fine where it changes what a request comes with.
+fn unchanged(old: Setup, new: Setup) -> Setup {
+    let mut r = new;
     if new.mode != old.mode {
-        new.fine = false;
+        r.fine = false;
+    }
+    if new.connection != old.connection {
+        r.fine = false;
     }
     if new.group != old.group {
-        new.fine = false;
+        r.fine = false;
     }
     if new.room != old.room {
-        new.fine = false;
+        r.fine = false;
     }
-    new
+    r
+}
+
+// The sessions that a case is to leave. It is not fine where a word is not understood, or changes what a request comes with.
+fn left(q: Setup, s: &mut [u8], len: usize, changes: &[u8]) -> Setup {
+    let old = found(q.sessions, true);
+    unchanged(old, with_words(s, len, old, changes))
 }
 
 fn is_fine(outcome: u64, hex: &[u8], q: Setup) -> bool {
@@ -56,24 +66,31 @@ pub(crate) fn wanted(text: &[u8], q: Setup, s: &mut [u8], len: usize, answer: &m
     let hex = word(text, 2);
     let count = put_unhex(answer, 0, hex);
     let new = left(q, s, len, rest(text, b));
+    let sessions = new.sessions;
     Want {
         outcome: (outcome % 256) as u8,
         count: count,
-        opened: new.opened,
-        level: new.level,
+        sessions: sessions,
         fine: is_fine(outcome, hex, new),
     }
 }
 
-pub(crate) fn is_wanted(w: Want, outcome: u8, count: usize, opened: bool, level: u8) -> bool {
+fn is_same(a: Session, b: Session) -> bool {
+    if a.opened != b.opened {
+        return false;
+    }
+    a.level == b.level
+}
+
+pub(crate) fn is_wanted(w: Want, outcome: u8, count: usize, sessions: Sessions) -> bool {
     if w.outcome != outcome {
         return false;
     }
     if w.count != count {
         return false;
     }
-    if w.opened != opened {
+    if !is_same(w.sessions.first, sessions.first) {
         return false;
     }
-    w.level == level
+    is_same(w.sessions.second, sessions.second)
 }
