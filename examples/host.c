@@ -1,5 +1,6 @@
 /*
- * A small host: one device whose sheet is kept in a file, on the bus of bus.h.
+ * A small host: one device whose sheet is kept in a file, on the bus of bus.h, for two partners at a time. A partner's place
+ * is the number of its connection; a third waits until a place is free.
  *
  *   host SHEET SOCKET
  *
@@ -12,11 +13,12 @@
 #include "kelindap.h"
 
 #include <fcntl.h>
+#include <poll.h>
 #include <signal.h>
 #include <stdio.h>
 #include <stdlib.h>
 
-enum { MOST_SHEET = 16384, MOST_NAME = 4096 };
+enum { MOST_SHEET = 16384, MOST_NAME = 4096, NOBODY = -1 };
 
 typedef struct host {
     const char *file;
@@ -25,7 +27,8 @@ typedef struct host {
     uint8_t sheet[MOST_SHEET + 1];
     uint8_t saved[MOST_SHEET]; /* the sheet as the file has it */
     size_t length;
-    kelindap_session session;
+    kelindap_sessions sessions;
+    int partner[KELINDAP_CONNECTIONS]; /* the socket of each, or NOBODY */
 } host;
 
 static _Noreturn void give_up(const char *what, const char *name)
@@ -95,36 +98,74 @@ static void save(host *h)
 
 /* ---- the bus ---- */
 
-/* Handles a packet and puts the answer into `answer`; the count of its bytes. */
-static size_t handle(host *h, const uint8_t *packet, size_t length, uint8_t answer[16])
+/* Handles a packet of the partner on a connection and puts the answer into `answer`; the count of its bytes. */
+static size_t handle(host *h, uint8_t connection, const uint8_t *packet, size_t length, uint8_t answer[16])
 {
     kelindap_reply reply = { KELINDAP_DONE, 0 };
     if (packet[0] == BUS_CONNECT)
-        kelindap_connect(&h->session);
+        kelindap_connect(&h->sessions, connection);
     else if (packet[0] == BUS_DISCONNECT)
-        kelindap_disconnect(&h->session);
+        kelindap_disconnect(&h->sessions, connection);
     else
-        reply = kelindap_request(&h->session, packet[0], (uint16_t)(packet[1] << 8 | packet[2]), packet + BUS_FRONT,
+        reply = kelindap_request(&h->sessions, packet[0], connection, (uint16_t)(packet[1] << 8 | packet[2]), packet + BUS_FRONT,
                                  length - BUS_FRONT, h->sheet, h->length, answer, 16);
     save(h);
     return reply.count;
 }
 
-/* Serves a partner until it goes, or until a Restart drops it. */
-static void serve(host *h, int partner)
+/* A partner has gone, or is dropped. */
+static void drop(host *h, uint8_t connection)
+{
+    kelindap_disconnect(&h->sessions, connection);
+    close(h->partner[connection]);
+    h->partner[connection] = NOBODY;
+}
+
+/* Drops every partner whose session a request has closed: that was a Restart, its own or another's. */
+static void drop_restarted(host *h, kelindap_sessions before)
+{
+    for (uint8_t c = 0; c < KELINDAP_CONNECTIONS; c++)
+        if (before.of[c].open && !h->sessions.of[c].open)
+            drop(h, c);
+}
+
+/* Serves a partner that has sent a packet, or has gone. */
+static void serve(host *h, uint8_t connection)
 {
     uint8_t packet[BUS_PACKET], answer[1 + 16] = { 0 };
-    ssize_t length;
-    while ((length = recv(partner, packet, sizeof packet, 0)) >= BUS_FRONT) {
-        bool was_open = h->session.open;
-        size_t count = handle(h, packet, (size_t)length, answer + 1);
-        if (send(partner, answer, 1 + count, 0) < 0)
-            break;
-        if (packet[0] != BUS_DISCONNECT && was_open && !h->session.open)
-            break;
+    ssize_t length = recv(h->partner[connection], packet, sizeof packet, 0);
+    if (length < BUS_FRONT) {
+        drop(h, connection);
+        return;
     }
-    kelindap_disconnect(&h->session);
-    close(partner);
+    kelindap_sessions before = h->sessions;
+    size_t count = handle(h, connection, packet, (size_t)length, answer + 1);
+    if (send(h->partner[connection], answer, 1 + count, 0) < 0)
+        drop(h, connection);
+    else if (packet[0] != BUS_DISCONNECT)
+        drop_restarted(h, before);
+}
+
+/* Waits until somebody wants something, and sees to it. */
+static void wait_and_serve(host *h, int bus, const char *name)
+{
+    struct pollfd at[KELINDAP_CONNECTIONS + 1];
+    int place = NOBODY; /* one that is free */
+    for (int c = 0; c < KELINDAP_CONNECTIONS; c++) {
+        at[c] = (struct pollfd){ .fd = h->partner[c], .events = POLLIN }; /* nobody is passed over */
+        place = h->partner[c] == NOBODY ? c : place;
+    }
+    at[KELINDAP_CONNECTIONS] = (struct pollfd){ .fd = place == NOBODY ? NOBODY : bus, .events = POLLIN };
+    if (poll(at, KELINDAP_CONNECTIONS + 1, -1) < 0)
+        give_up("is no bus any more", name);
+    for (uint8_t c = 0; c < KELINDAP_CONNECTIONS; c++)
+        if (at[c].revents != 0 && h->partner[c] != NOBODY) /* the one before may have restarted the device */
+            serve(h, c);
+    if (at[KELINDAP_CONNECTIONS].revents != 0) {
+        h->partner[place] = accept(bus, NULL, NULL);
+        if (h->partner[place] < 0)
+            give_up("is no bus any more", name);
+    }
 }
 
 int main(int count, char **words)
@@ -138,7 +179,9 @@ int main(int count, char **words)
     signal(SIGPIPE, SIG_IGN);
     name_files(&h, words[1]);
     load(&h);
-    h.session = kelindap_fresh();
+    h.sessions = kelindap_fresh();
+    for (int c = 0; c < KELINDAP_CONNECTIONS; c++)
+        h.partner[c] = NOBODY;
     kelindap_button(h.sheet, h.length, false); /* programming mode is not to survive a start */
     save(&h);
 
@@ -148,10 +191,6 @@ int main(int count, char **words)
         give_up("is no bus", words[2]);
     puts("ready");
     fflush(stdout);
-    for (;;) {
-        int partner = accept(bus, NULL, NULL);
-        if (partner < 0)
-            give_up("is no bus any more", words[2]);
-        serve(&h, partner);
-    }
+    for (;;)
+        wait_and_serve(&h, bus, words[2]);
 }

@@ -2,13 +2,14 @@
  * The functions of kelindap.h for a processor of 32 bits, over those of the proved module, whose names here begin with
  * kelindap_module_. What differs is how values are passed, and nothing is decided here:
  *  - a length has 64 bits in the module on every processor, and is widened on the way in;
- *  - a byte, or a pair of them, comes back in a register whose other bits say nothing, and is cut out of it;
+ *  - a byte, or two or four of them, comes back in a register whose other bits say nothing, and is cut out of it;
  *  - a part comes back as two numbers of 64 bits. Each is at most 16,384, the longest sheet, so its lower half is all of it.
  */
 #include "kelindap.h"
 
 _Static_assert(sizeof(size_t) == 4 && sizeof(void *) == 4, "for a processor of 32 bits");
-_Static_assert(sizeof(kelindap_session) == 2 && offsetof(kelindap_session, level) == 1, "as the module has it");
+_Static_assert(sizeof(kelindap_session) == 2 && offsetof(kelindap_session, level) == 1 && sizeof(kelindap_sessions) == 4,
+               "as the module has it");
 
 #if defined(__arm__)
 /* four registers, for which C's only type is a vector */
@@ -27,11 +28,11 @@ typedef struct both {
 #endif
 
 uint32_t kelindap_module_fresh(void);
-uint32_t kelindap_module_connect(kelindap_session *);
-uint32_t kelindap_module_disconnect(kelindap_session *);
+uint32_t kelindap_module_connect(kelindap_sessions *, uint32_t);
+uint32_t kelindap_module_disconnect(kelindap_sessions *, uint32_t);
 uint32_t kelindap_module_button(uint8_t *, uint64_t, uint32_t);
-uint32_t kelindap_module_request(kelindap_session *, uint32_t, uint32_t, const uint8_t *, uint64_t, uint8_t *, uint64_t,
-                                 uint8_t *, uint64_t);
+uint32_t kelindap_module_request(kelindap_sessions *, uint32_t, uint32_t, uint32_t, const uint8_t *, uint64_t, uint8_t *,
+                                 uint64_t, uint8_t *, uint64_t);
 uint32_t kelindap_module_check(const uint8_t *, uint64_t);
 both kelindap_module_property(const uint8_t *, uint64_t, uint32_t, uint32_t);
 both kelindap_module_region(const uint8_t *, uint64_t, uint64_t);
@@ -42,20 +43,20 @@ static uint8_t low(uint32_t r) { return (uint8_t)r; }
 static uint8_t high(uint32_t r) { return (uint8_t)(r >> 8); }
 static kelindap_part part(both p) { return (kelindap_part){ OFFSET(p), LENGTH(p) }; }
 
-kelindap_session kelindap_fresh(void)
+kelindap_sessions kelindap_fresh(void)
 {
     uint32_t r = kelindap_module_fresh();
-    return (kelindap_session){ low(r) != 0, high(r) };
+    return (kelindap_sessions){ { { low(r) != 0, high(r) }, { low(r >> 16) != 0, high(r >> 16) } } };
 }
 
-uint8_t kelindap_connect(kelindap_session *session)
+uint8_t kelindap_connect(kelindap_sessions *sessions, uint8_t connection)
 {
-    return low(kelindap_module_connect(session));
+    return low(kelindap_module_connect(sessions, connection));
 }
 
-uint8_t kelindap_disconnect(kelindap_session *session)
+uint8_t kelindap_disconnect(kelindap_sessions *sessions, uint8_t connection)
 {
-    return low(kelindap_module_disconnect(session));
+    return low(kelindap_module_disconnect(sessions, connection));
 }
 
 uint8_t kelindap_button(uint8_t *sheet, size_t sheet_length, bool on)
@@ -63,11 +64,12 @@ uint8_t kelindap_button(uint8_t *sheet, size_t sheet_length, bool on)
     return low(kelindap_module_button(sheet, sheet_length, on));
 }
 
-kelindap_reply kelindap_request(kelindap_session *session, uint8_t mode, uint16_t group, const uint8_t *apdu,
-                                size_t apdu_length, uint8_t *sheet, size_t sheet_length, uint8_t *answer,
-                                size_t answer_length)
+kelindap_reply kelindap_request(kelindap_sessions *sessions, uint8_t mode, uint8_t connection, uint16_t group,
+                                const uint8_t *apdu, size_t apdu_length, uint8_t *sheet, size_t sheet_length,
+                                uint8_t *answer, size_t answer_length)
 {
-    uint32_t r = kelindap_module_request(session, mode, group, apdu, apdu_length, sheet, sheet_length, answer, answer_length);
+    uint32_t r = kelindap_module_request(sessions, mode, connection, group, apdu, apdu_length, sheet, sheet_length, answer,
+                                         answer_length);
     return (kelindap_reply){ low(r), high(r) };
 }
 

@@ -3,9 +3,10 @@
  * standard output. Bytes are hex digits, - is an empty run, numbers are decimal.
  *
  *   sheet HEX                            sets the sheet                 OK, or S1 .. S9
- *   session OPEN LEVEL                   sets the session as found      session OPEN LEVEL
- *   connect, disconnect, button on|off                                  OUTCOME OPEN LEVEL 0 - SHEETHEX
- *   request MODE GROUP APDUHEX BUFHEX    a request to the device        OUTCOME OPEN LEVEL COUNT BUFHEX SHEETHEX
+ *   session C OPEN LEVEL                 sets a session as found        session C OPEN LEVEL
+ *   connect C, disconnect C                                             OUTCOME SESSIONS 0 - SHEETHEX
+ *   button on, button off                                               OUTCOME SESSIONS 0 - SHEETHEX
+ *   request MODE GROUP APDUHEX BUFHEX C  a request to the device        OUTCOME SESSIONS COUNT BUFHEX SHEETHEX
  *   lookup property OBJECT ID            a value in the sheet           HEX
  *   lookup region K
  *   lookup user K
@@ -17,8 +18,9 @@
  *   frame read HEX                       reads a frame                  OUTCOME, or 0 field=value .. EVENT
  *   frame write field=value .. BUFHEX    writes a frame                 OUTCOME COUNT BUFHEX
  *
- * An empty line, or one that begins with #, is passed over. Any other line that is no command gets one line that
- * begins with ERR and says why, and changes nothing. The unit starts with the sample sheet and a fresh session.
+ * C is the number of a connection, SESSIONS is OPEN0 LEVEL0 OPEN1 LEVEL1. An empty line, or one that begins with #, is
+ * passed over. Any other line that is no command gets one line that begins with ERR and says why, and changes nothing.
+ * The unit starts with the sample sheet and fresh sessions.
  */
 #include "kelindap.h"
 #include "kelindap_frame.h"
@@ -38,7 +40,7 @@ typedef struct run {
 
 typedef struct device {
     run sheet;
-    kelindap_session session;
+    kelindap_sessions sessions;
 } device;
 
 static const uint8_t sample_sheet[] = {
@@ -213,7 +215,10 @@ static void set_sheet(device *d, const uint8_t *bytes, size_t length)
 
 static void put_event(const device *d, kelindap_reply reply, const uint8_t *buffer, size_t length)
 {
-    printf("%d %d %d %d ", reply.outcome, d->session.open, d->session.level, reply.count);
+    printf("%d ", reply.outcome);
+    for (size_t c = 0; c < KELINDAP_CONNECTIONS; c++)
+        printf("%d %d ", d->sessions.of[c].open, d->sessions.of[c].level);
+    printf("%d ", reply.count);
     put_bytes(buffer, length);
     putchar(' ');
     put_bytes(d->sheet.bytes, d->sheet.length);
@@ -237,26 +242,43 @@ static bool do_sheet(device *d, char **words, size_t count)
 
 static bool do_session(device *d, char **words, size_t count)
 {
-    uint64_t open, level;
+    uint64_t c, open, level;
     (void)count;
-    if (!take_up_to("OPEN", words[0], 1, &open) || !take_up_to("LEVEL", words[1], 255, &level))
+    if (!take_up_to("C", words[0], KELINDAP_CONNECTIONS - 1, &c) || !take_up_to("OPEN", words[1], 1, &open) ||
+        !take_up_to("LEVEL", words[2], 255, &level))
         return false;
-    d->session = (kelindap_session){ open != 0, (uint8_t)level };
-    printf("session %d %d\n", d->session.open, d->session.level);
+    d->sessions.of[c] = (kelindap_session){ open != 0, (uint8_t)level };
+    printf("session %d %d %d\n", (int)c, d->sessions.of[c].open, d->sessions.of[c].level);
+    return true;
+}
+
+/* The number of a connection, also one that there is not: what is wrong with that is for the library to say. */
+static bool take_connection(const char *word, uint8_t *connection)
+{
+    uint64_t c;
+    if (!take_up_to("C", word, 255, &c))
+        return false;
+    *connection = (uint8_t)c;
     return true;
 }
 
 static bool do_connect(device *d, char **words, size_t count)
 {
-    (void)words, (void)count;
-    put_event(d, (kelindap_reply){ kelindap_connect(&d->session), 0 }, NULL, 0);
+    uint8_t c;
+    (void)count;
+    if (!take_connection(words[0], &c))
+        return false;
+    put_event(d, (kelindap_reply){ kelindap_connect(&d->sessions, c), 0 }, NULL, 0);
     return true;
 }
 
 static bool do_disconnect(device *d, char **words, size_t count)
 {
-    (void)words, (void)count;
-    put_event(d, (kelindap_reply){ kelindap_disconnect(&d->session), 0 }, NULL, 0);
+    uint8_t c;
+    (void)count;
+    if (!take_connection(words[0], &c))
+        return false;
+    put_event(d, (kelindap_reply){ kelindap_disconnect(&d->sessions, c), 0 }, NULL, 0);
     return true;
 }
 
@@ -273,13 +295,14 @@ static bool do_button(device *d, char **words, size_t count)
 static bool do_request(device *d, char **words, size_t count)
 {
     uint64_t mode, group;
+    uint8_t c;
     run apdu, answer;
     (void)count;
     if (!take_up_to("MODE", words[0], 255, &mode) || !take_up_to("GROUP", words[1], 65535, &group) ||
-        !take_bytes("APDUHEX", words[2], &apdu) || !take_bytes("BUFHEX", words[3], &answer))
+        !take_bytes("APDUHEX", words[2], &apdu) || !take_bytes("BUFHEX", words[3], &answer) || !take_connection(words[4], &c))
         return false;
     kelindap_reply reply =
-        kelindap_request(&d->session, (uint8_t)mode, (uint16_t)group, apdu.bytes, apdu.length, d->sheet.bytes,
+        kelindap_request(&d->sessions, (uint8_t)mode, c, (uint16_t)group, apdu.bytes, apdu.length, d->sheet.bytes,
                          d->sheet.length, answer.bytes, answer.length);
     put_event(d, reply, answer.bytes, answer.length);
     return true;
@@ -743,11 +766,11 @@ static const struct command {
     bool (*obey)(device *d, char **words, size_t count);
 } commands[] = {
     { "sheet", "sheet HEX", 1, 1, do_sheet },
-    { "session", "session OPEN LEVEL", 2, 2, do_session },
-    { "connect", "connect", 0, 0, do_connect },
-    { "disconnect", "disconnect", 0, 0, do_disconnect },
+    { "session", "session C OPEN LEVEL", 3, 3, do_session },
+    { "connect", "connect C", 1, 1, do_connect },
+    { "disconnect", "disconnect C", 1, 1, do_disconnect },
     { "button", "button on, or button off", 1, 1, do_button },
-    { "request", "request MODE GROUP APDUHEX BUFHEX", 4, 4, do_request },
+    { "request", "request MODE GROUP APDUHEX BUFHEX C", 5, 5, do_request },
     { "lookup", lookups, 2, 3, do_lookup },
     { "read", "read APDUHEX", 1, 1, do_read },
     { "write", "write KIND field=value .. BUFHEX", 2, MOST_WORDS - 1, do_write },
@@ -783,7 +806,7 @@ static bool obey(device *d, const line *l)
 
 int main(void)
 {
-    device d = { .session = kelindap_fresh() };
+    device d = { .sessions = kelindap_fresh() };
     line l = { 0 };
     set_sheet(&d, sample_sheet, sizeof sample_sheet);
     while (next_line(&l)) {

@@ -10,23 +10,29 @@
  * in an answer they are 0, and the host's transport sets them when it sends.
  *
  * The host's duties, which no proof covers:
- *  - it begins with a session from kelindap_fresh and a sheet that kelindap_check accepts. No request on another sheet does
+ *  - it begins with the sessions from kelindap_fresh and a sheet that kelindap_check accepts. No request on another sheet does
  *    anything, so a host that skips the check has a device that is silent;
  *  - the buffers of one call do not overlap, and stay lent until the call returns;
  *  - nothing else writes the sheet between calls: the promises about a history hold only then;
  *  - a bool is 0 or 1, and a pointer has as many readable (for answer and sheet, writable) bytes as its length says;
  *  - a length of 0 is allowed everywhere, and its pointer is then never followed: NULL with 0 is an empty run;
- *  - a sheet has one session, which the host keeps and these calls alone change; there is one connection at a time;
+ *  - a sheet has one kelindap_sessions, which the host keeps and these calls alone change. Two partners may be connected at
+ *    once. The host gives each the number of a connection, 0 or 1, whose session is closed, and turns a third away; from the
+ *    connect to the disconnect it names that number in every call for this partner, and in none for another. The rights of a
+ *    request in mode 3 are those of the number that comes with it: a host that takes one partner for the other gives it the
+ *    other's level;
  *  - the mode says how the frame came. The library sees no address of the frame but the group address: in modes 2 and 3 the
- *    host hands over only what is sent to this device, in mode 3 only what comes from the partner of the open connection;
- *  - when a connection opens or ends, transport's time limits included, the host calls connect or disconnect;
- *  - a Restart shows as outcome 1 in mode 2 or 3 with the session closed afterwards, and nothing else does: in mode 2 no other
- *    request gives 1, in mode 3 no other that gives 1 closes the session. If the session was open before the call, the host
- *    then drops the connection, also where it was somebody else who sent the Restart; it needs no disconnect, the session is
- *    closed at level 3 already. After that it restarts what it wants. In mode 2 a Restart is taken only if the sheet names
- *    rules 1, and then from anybody who reaches this device: such a sheet lets every sender end the open connection;
+ *    host hands over only what is sent to this device, in mode 3 only what comes from the partner that has the number. In the
+ *    other modes the number is not read;
+ *  - when a connection opens or ends, transport's time limits included, the host calls connect or disconnect with its number;
+ *  - a Restart closes both sessions, on whichever connection it came. The host sees it by the sessions: one that was open
+ *    before a call of kelindap_request and is closed after it was closed by a Restart, and by nothing else. Each connection
+ *    that this is true of is then dropped, the other partner's too; that needs no disconnect, its session is closed at
+ *    level 3 already. In mode 2 a Restart is taken only if the sheet names rules 1, and then from anybody who reaches this
+ *    device: such a sheet lets every sender end both connections. There it shows as outcome 1, which no other request gets in
+ *    mode 2, also if no session was open. After that the host restarts what it wants;
  *  - calls on one sheet come one after the other, never from two threads at once;
- *  - saving. The sheet is all that has to survive a power cut; a session does not survive one: it begins fresh. A call changes
+ *  - saving. The sheet is all that has to survive a power cut; the sessions do not survive one: they begin fresh. A call changes
  *    the sheet only if it gives 0 or 1, and then perhaps not: a host finds out by comparing the sheet with the copy that it
  *    saved last (memcmp of at most 16,384 bytes). It saves after such a call and before it sends the answer, so that what was
  *    answered is kept, or at times of its own if the loss of the last writes is acceptable;
@@ -70,11 +76,17 @@ enum kelindap_mode {
     KELINDAP_CONNECTED = 3
 };
 
-/* A connection: open or closed, and its level, 0 with most rights; a level above 3 is read as 3. */
+/* The session of a connection: open or closed, and its level, 0 with most rights; a level above 3 is read as 3. */
 typedef struct kelindap_session {
     bool open;
     uint8_t level;
 } kelindap_session;
+
+/* The sessions of connections 0 and 1. There is no other connection: any other number is refused by 7. */
+enum { KELINDAP_CONNECTIONS = 2 };
+typedef struct kelindap_sessions {
+    kelindap_session of[KELINDAP_CONNECTIONS];
+} kelindap_sessions;
 
 /* What a request gave: its outcome, and how many bytes of the answer buffer were filled. */
 typedef struct kelindap_reply {
@@ -91,21 +103,24 @@ typedef struct kelindap_part {
 /* The version of the library, in the form of KELINDAP_VERSION. */
 uint32_t kelindap_version(void);
 
-/* A closed session at level 3. */
-kelindap_session kelindap_fresh(void);
+/* Both closed at level 3. */
+kelindap_sessions kelindap_fresh(void);
 
-/* Open at level 3, also if already open; closed at level 3. Both give 1. */
-uint8_t kelindap_connect(kelindap_session *session);
-uint8_t kelindap_disconnect(kelindap_session *session);
+/*
+ * The session of this connection: open at level 3, also if already open; closed at level 3. Both give 1, or 7 if there is no
+ * such connection, and then change nothing. The other session is never touched.
+ */
+uint8_t kelindap_connect(kelindap_sessions *sessions, uint8_t connection);
+uint8_t kelindap_disconnect(kelindap_sessions *sessions, uint8_t connection);
 
 /* The programming button: 4 and nothing changed if the sheet is not accepted, else 1. */
 uint8_t kelindap_button(uint8_t *sheet, size_t sheet_length, bool on);
 
 /*
- * A request. The group address counts in mode 0 only. The first `count` bytes of the answer buffer are filled, the rest
+ * A request. The connection counts in mode 3 only, the group address in mode 0 only. The first `count` bytes of the answer buffer are filled, the rest
  * stays. The sheet is checked on every request.
  */
-kelindap_reply kelindap_request(kelindap_session *session, uint8_t mode, uint16_t group,
+kelindap_reply kelindap_request(kelindap_sessions *sessions, uint8_t mode, uint8_t connection, uint16_t group,
                                 const uint8_t *apdu, size_t apdu_length,
                                 uint8_t *sheet, size_t sheet_length,
                                 uint8_t *answer, size_t answer_length);

@@ -12,9 +12,9 @@
  * headers than it is linked with.
  */
 #define KELINDAP_VERSION_MAJOR 0
-#define KELINDAP_VERSION_MINOR 1
+#define KELINDAP_VERSION_MINOR 2
 #define KELINDAP_VERSION_PATCH 0
-#define KELINDAP_VERSION_TEXT "0.1.0"
+#define KELINDAP_VERSION_TEXT "0.2.0"
 #define KELINDAP_VERSION (65536 * KELINDAP_VERSION_MAJOR + 256 * KELINDAP_VERSION_MINOR + KELINDAP_VERSION_PATCH)
 
 /* The outcomes, by number; kelindap_names.h has them as text. Not every call gives every one. */
@@ -27,7 +27,7 @@ enum kelindap_outcome {
     KELINDAP_BAD_SHEET = 4,      /* the sheet is not accepted */
     KELINDAP_BAD_LENGTH = 5,     /* the APDU has not 2 to 16 bytes */
     KELINDAP_BAD_MODE = 6,       /* the mode is not 0 to 3 */
-    KELINDAP_NOT_CONNECTED = 7,  /* connected mode on a closed session */
+    KELINDAP_NOT_CONNECTED = 7,  /* the connection is closed, or there is none of that number */
     KELINDAP_UNKNOWN = 8,        /* unknown service */
     KELINDAP_WRONG_MODE = 9,     /* the service is not in this mode */
     KELINDAP_UNFIT = 10,         /* length or value against the service's row (kelindap_pdu.h), or a group value of

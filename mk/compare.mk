@@ -10,6 +10,7 @@ compare: build/bridge
 	cd tests/compare && cargo build --offline --release --quiet
 	$(COMPARE) build/bridge $(EVENTS) $(SEED)
 	$(COMPARE) build/bridge --faults $(SEED)
+	$(COMPARE) build/bridge --apart $$(($(EVENTS) / 10)) $(SEED)
 
 build/bridge: tests/compare/bridge.c mk/compare.mk $(LINKED) | need-gcc
 	mkdir -p build

@@ -7,19 +7,19 @@ unit=$1 sheet=$2 script=$3
 work=$(mktemp -d)
 trap 'rm -rf "$work"' EXIT
 
-# a disconnect in front changes nothing on a fresh session, and tells the sheet as it is at the start
-{ echo disconnect; cat "$script"; } > "$work/script"
+# a disconnect in front changes nothing on fresh sessions, and tells the sheet as it is at the start
+{ echo disconnect 0; cat "$script"; } > "$work/script"
 "$unit" < "$work/script" > "$work/answers"
 
 # every request and every answer, to be told by its fields
 grep -v -e '^#' -e '^$' "$work/script" | paste -d ' ' - "$work/answers" | awk '
-    $1 == "request" { print "read", $4; print "read", ($9 > 0 ? substr($10, 1, 2 * $9) : "-") }
+    $1 == "request" { print "read", $4; print "read", ($12 > 0 ? substr($13, 1, 2 * $12) : "-") }
 ' | "$unit" > "$work/fields"
 
 # for every answer the changes since the one before it, and a line that ends them
 bytes() { printf '%b' "$(sed 's/../\\x&/g' <<< "$1")"; }
 old=
-while read -r _ _ _ _ _ new; do
+while read -r _ _ _ _ _ _ _ new; do
     new=${new:-$old} # what tells of a value tells no sheet
     if [ "${old:-$new}" != "$new" ]; then
         bytes "$old" > "$work/old"
@@ -39,6 +39,7 @@ awk -v answers="$work/answers" -v fields="$work/fields" -v changes="$work/change
     function ask(text) { print "   > " text }
     function answer(text, outcome) { printf "   < %-56s %s (%d)\n", text, meaning[outcome], outcome }
     function change(what) { printf "     %-56s %s\n", "", what }
+    function state(c) { return now[2 + 2 * c] ? "level " now[3 + 2 * c] : "closed" }
     /^#/ { print substr($0, 3); next }
     /^$/ { next }
     {
@@ -51,14 +52,16 @@ awk -v answers="$work/answers" -v fields="$work/fields" -v changes="$work/change
             next
         }
         if ($1 == "request") {
-            ask(told())
+            ask(told() ($2 == 3 ? ", on connection " $6 : ""))
             reply = told()
         } else if (FNR > 1) {
             ask($0)
         }
-        if (FNR > 1) answer(now[4] > 0 ? reply : "no answer", now[1])
-        if (FNR > 1 && now[3] != level) change("level " level " -> " now[3])
+        if (FNR > 1) answer(now[6] > 0 ? reply : "no answer", now[1])
+        for (c = 0; c < 2; c++) {
+            if (FNR > 1 && state(c) != was[c]) change("connection " c ": " was[c] " -> " state(c))
+            was[c] = state(c)
+        }
         while ((getline line < changes) > 0 && line != ".") change(line)
-        level = now[3]
     }
 ' "$work/script"

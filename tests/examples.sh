@@ -1,6 +1,6 @@
 #!/usr/bin/env bash
-# tests/examples.sh HOST HEIGHT SHEET: the example host and tool at work, and the host killed 200 times during writes: what
-# it saved is then an accepted sheet each time, with the height that was answered last or the one after it.
+# tests/examples.sh HOST HEIGHT SHEET: the example host and tool at work, two tools at once, and the host killed 200 times
+# during writes: what it saved is then an accepted sheet each time, with the height that was answered last or the one after it.
 set -euo pipefail
 host=$(realpath "$1") height=$(realpath "$2") sheet=$(realpath "$3")
 inc=$(realpath "$(dirname "$0")/../hosts/sample_sheet.inc")
@@ -55,6 +55,21 @@ cmp -s sheet first || wrong "a refused write has changed the file"
 expect "write 22222222 1250 1251" "1250 1251 0"
 expect read "1251 0"
 expect "write 22222222 65536" "height: a word is no number, or one too big 2"
+
+# two tools at once: one without the key, beside one that has it and goes on writing
+"$height" bus write 22222222 $(seq 3000 22999) > answers 2> /dev/null &
+tool=$!
+for ((waited = 0; waited < 6000; waited++)); do
+    [ ! -s answers ] || break
+    sleep 0.01
+done
+expect "write 33333333 1250" "height: the device refuses 1"
+now=$("$height" bus read)
+{ [ "$now" -ge 3000 ] && [ "$now" -le 22999 ]; } || wrong "beside a tool that writes from 3000 on, the height $now is read"
+kill "$tool" 2> /dev/null || wrong "the tool with the key did not last, or was disturbed"
+wait "$tool" || true
+[ "$(tail -n 1 answers)" -ge "$now" ] || wrong "the tool with the key wrote nothing after the other one was refused"
+expect "write 22222222 1251" "1251 0"
 stop
 changes=$("$sheet" diff first sheet || true)
 [ "$changes" = "property 1/51 element 1: 1000 → 1251" ] || wrong "the file holds another change: $changes"

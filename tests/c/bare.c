@@ -53,10 +53,10 @@ static int device_works(void)
     static const uint8_t apdu[8] = { 0x03, 0xD7, 0x01, 0x33, 0x10, 0x01, 0x03, 0x84 };
     static const uint8_t expected[8] = { 0x03, 0xD6, 0x01, 0x33, 0x10, 0x01, 0x03, 0x84 };
     static uint8_t answer[16];
-    kelindap_session session = kelindap_fresh();
-    kelindap_connect(&session);
-    session.level = 1;
-    kelindap_reply reply = kelindap_request(&session, KELINDAP_CONNECTED, 0, apdu, sizeof apdu, sheet, sizeof sheet,
+    kelindap_sessions sessions = kelindap_fresh();
+    kelindap_connect(&sessions, 1);
+    sessions.of[1].level = 1;
+    kelindap_reply reply = kelindap_request(&sessions, KELINDAP_CONNECTED, 1, 0, apdu, sizeof apdu, sheet, sizeof sheet,
                                             answer, sizeof answer);
     return reply.outcome == KELINDAP_ANSWERED && reply.count == 8 && memcmp(answer, expected, 8) == 0 &&
            sheet[64] == 0x03 && sheet[65] == 0x84;

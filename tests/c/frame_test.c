@@ -31,7 +31,7 @@ static kelindap_frame read_at(enum place place, const uint8_t *bytes, size_t len
 
 static kelindap_framed write_at(enum place place, kelindap_frame f, run info, run apdu, size_t room, uint8_t *now)
 {
-    lent i = lend(SESSION, place, info.bytes, info.length);
+    lent i = lend(SESSIONS, place, info.bytes, info.length);
     lent a = lend(APDU, place, apdu.bytes, apdu.length);
     lent out = lend(ANSWER, place, found, room);
     kelindap_framed r = kelindap_frame_write(f, i.bytes, i.length, a.bytes, a.length, out.bytes, out.length);

@@ -1,7 +1,7 @@
 /*
  * A host in C that trusts the device's library with nothing: the marked cases, all lengths and modes, damaged sheets of
- * both editions, lookups, ranges over two regions, long runs; each request is held to what is promised of any, and no byte
- * beside its buffers is touched.
+ * both editions, two connections and numbers that are none's, lookups, ranges over two regions, long runs; each request is
+ * held to what is promised of any, and no byte beside its buffers is touched.
  */
 #define _DEFAULT_SOURCE
 #include "kelindap.h"
@@ -15,8 +15,8 @@
 enum { MOST_SHEET = 16384 };
 
 typedef struct event {
-    kelindap_session session;
-    uint8_t mode;
+    kelindap_sessions sessions;
+    uint8_t mode, connection;
     uint16_t group;
     run apdu, sheet;
     size_t room;
@@ -24,21 +24,21 @@ typedef struct event {
 
 typedef struct effect {
     kelindap_reply reply;
-    kelindap_session session;
+    kelindap_sessions sessions;
     uint8_t answer[MOST_ROOM];
     uint8_t sheet[MOST_SHEET + 1];
 } effect;
 
 static void request_at(enum place place, const event *e, effect *f)
 {
-    lent session = lend(SESSION, place, &e->session, sizeof e->session);
+    lent sessions = lend(SESSIONS, place, &e->sessions, sizeof e->sessions);
     lent apdu = lend(APDU, place, e->apdu.bytes, e->apdu.length);
     lent sheet = lend(SHEET, place, e->sheet.bytes, e->sheet.length);
     lent answer = lend(ANSWER, place, as_found, e->room);
-    f->reply = kelindap_request((kelindap_session *)session.bytes, e->mode, e->group, apdu.bytes, apdu.length, sheet.bytes,
-                               sheet.length, answer.bytes, answer.length);
+    f->reply = kelindap_request((kelindap_sessions *)sessions.bytes, e->mode, e->connection, e->group, apdu.bytes, apdu.length,
+                                sheet.bytes, sheet.length, answer.bytes, answer.length);
     calls++;
-    take_back(&session, &f->session, "session");
+    take_back(&sessions, &f->sessions, "sessions");
     take_back_same(&apdu, e->apdu.bytes, "APDU");
     take_back(&sheet, f->sheet, "sheet");
     take_back(&answer, f->answer, "answer");
@@ -65,12 +65,37 @@ static int early_outcome(const event *e, uint8_t rule)
         return KELINDAP_BAD_LENGTH;
     if (e->mode > 3)
         return KELINDAP_BAD_MODE;
-    return e->mode == KELINDAP_CONNECTED && !e->session.open ? KELINDAP_NOT_CONNECTED : 0;
+    bool connected = e->connection < KELINDAP_CONNECTIONS && e->sessions.of[e->connection].open;
+    return e->mode == KELINDAP_CONNECTED && !connected ? KELINDAP_NOT_CONNECTED : 0;
 }
 
 static bool same_session(kelindap_session a, kelindap_session b)
 {
     return a.open == b.open && a.level == b.level;
+}
+
+static bool same_sessions(kelindap_sessions a, kelindap_sessions b)
+{
+    return same_session(a.of[0], b.of[0]) && same_session(a.of[1], b.of[1]);
+}
+
+static const kelindap_sessions both_closed = { { { false, 3 }, { false, 3 } } };
+
+/* A request with outcome 0 or 1 changes the level of its own session at most, or has restarted and closed both. */
+static void hold_sessions_to_promises(const event *e, const effect *f)
+{
+    bool restarted = f->reply.outcome == KELINDAP_DONE && (e->apdu.bytes[0] & 3) == 3 && e->apdu.bytes[1] == 0x80;
+    if (restarted) {
+        expect(same_sessions(f->sessions, both_closed), "a Restart in mode %d left a session", e->mode);
+        return;
+    }
+    expect(e->mode != KELINDAP_CONNECTIONLESS || f->reply.outcome != KELINDAP_DONE, "a host would take it for a Restart in mode 2");
+    for (int c = 0; c < KELINDAP_CONNECTIONS; c++) {
+        bool own = e->mode == KELINDAP_CONNECTED && e->connection == c;
+        kelindap_session before = e->sessions.of[c], after = f->sessions.of[c];
+        expect(own ? after.open == before.open : same_session(after, before), "a request in mode %d changed session %d", e->mode,
+               c);
+    }
 }
 
 /* What holds of any request: the early outcomes, and that a refusal leaves every byte. */
@@ -92,20 +117,20 @@ static void hold_to_promises(const event *e, const effect *f)
 #ifndef DEVICE_ALONE
     expect(!answered || kelindap_read(f->answer, count).outcome == 0, "outcome %d: the answer can't be read", outcome);
 #endif
-    bool restart = e->apdu.length >= 2 && (e->apdu.bytes[0] & 3) == 3 && e->apdu.bytes[1] == 0x80;
-    if (outcome == KELINDAP_DONE && e->mode >= KELINDAP_CONNECTIONLESS)
-        expect(f->session.open != restart, "a host would not tell a Restart by the session, mode %d", e->mode);
-    if (carried_out)
+    if (carried_out) {
+        hold_sessions_to_promises(e, f);
         return;
-    expect(same_session(f->session, e->session), "outcome %d changed the session", outcome);
+    }
+    expect(same_sessions(f->sessions, e->sessions), "outcome %d changed a session", outcome);
     expect(e->sheet.length == 0 || memcmp(f->sheet, e->sheet.bytes, e->sheet.length) == 0,
            "outcome %d changed the sheet", outcome);
 }
 
 static bool same_effect(const event *e, const effect *a, const effect *b)
 {
-    return a->reply.outcome == b->reply.outcome && a->reply.count == b->reply.count && same_session(a->session, b->session) &&
-           memcmp(a->answer, b->answer, e->room) == 0 && memcmp(a->sheet, b->sheet, e->sheet.length) == 0;
+    return a->reply.outcome == b->reply.outcome && a->reply.count == b->reply.count &&
+           same_sessions(a->sessions, b->sessions) && memcmp(a->answer, b->answer, e->room) == 0 &&
+           memcmp(a->sheet, b->sheet, e->sheet.length) == 0;
 }
 
 /* A request in one place; what happened stands until the next one there. */
@@ -337,6 +362,14 @@ static size_t unhex(const char *digits, uint8_t *bytes)
     return length;
 }
 
+/* The sessions with this one for a connection, the other being open at level 2. */
+static kelindap_sessions with(uint8_t connection, kelindap_session session)
+{
+    kelindap_sessions sessions = { { { true, 2 }, { true, 2 } } };
+    sessions.of[connection] = session;
+    return sessions;
+}
+
 static const struct marked {
     uint8_t mode, level;
     const char *apdu, *answer;
@@ -357,13 +390,16 @@ static void test_marked_cases(void)
         if (m->changed >= 0)
             unhex(m->to, sheet + m->changed);
         size_t count = unhex(m->answer, answer);
-        event e = { { m->mode == 3, m->level }, m->mode, 0, { apdu, unhex(m->apdu, apdu) }, sample_sheet, 16 };
-        const effect *f = try_everywhere(&e);
-        expect(f->reply.outcome == m->outcome && f->reply.count == count && memcmp(f->answer, answer, count) == 0,
-               "marked case %d: outcome %d, %d bytes", (int)i + 1, f->reply.outcome, f->reply.count);
-        expect(same_session(f->session, (kelindap_session){ m->mode == 3, m->level_after }), "marked case %d: session",
-               (int)i + 1);
-        expect(memcmp(f->sheet, sheet, sizeof sheet) == 0, "marked case %d: sheet", (int)i + 1);
+        for (uint8_t c = 0; c < KELINDAP_CONNECTIONS; c++) {
+            event e = { with(c, (kelindap_session){ m->mode == 3, m->level }), m->mode, c, 0, { apdu, unhex(m->apdu, apdu) },
+                        sample_sheet, 16 };
+            const effect *f = try_everywhere(&e);
+            expect(f->reply.outcome == m->outcome && f->reply.count == count && memcmp(f->answer, answer, count) == 0,
+                   "marked case %d: outcome %d, %d bytes", (int)i + 1, f->reply.outcome, f->reply.count);
+            expect(same_sessions(f->sessions, with(c, (kelindap_session){ m->mode == 3, m->level_after })),
+                   "marked case %d: sessions", (int)i + 1);
+            expect(memcmp(f->sheet, sheet, sizeof sheet) == 0, "marked case %d: sheet", (int)i + 1);
+        }
     }
 }
 
@@ -398,8 +434,8 @@ static void test_lengths(void)
         for (int rules = 0; rules < RULES; rules++)
             for (size_t length = 0; length <= 20; length++)
                 for (size_t room = 0; room <= 20; room += rules == 0 ? 1 : 4)
-                    try_everywhere(&(event){ { true, (uint8_t)(i % 4) }, services[i].mode, 0x801, { apdu, length },
-                                             sheet_for(i, rules), room });
+                    try_everywhere(&(event){ with(length % 2, (kelindap_session){ true, (uint8_t)(i % 4) }), services[i].mode,
+                                             length % 2, 0x801, { apdu, length }, sheet_for(i, rules), room });
     }
 }
 
@@ -411,15 +447,43 @@ static void test_modes(void)
         for (int rules = 0; rules < RULES; rules++)
             for (int mode = 0; mode < 256; mode++)
                 for (int open = 0; open < 2; open++)
-                    try_everywhere(&(event){ { open != 0, (uint8_t)mode }, (uint8_t)mode, 0x801, { apdu, length },
-                                             sheet_for(i, rules), 16 });
+                    try_everywhere(&(event){ with(mode % 2, (kelindap_session){ open != 0, (uint8_t)mode }), (uint8_t)mode,
+                                             mode % 2, 0x801, { apdu, length }, sheet_for(i, rules), 16 });
+    }
+}
+
+/* Numbers of connections, two of them of one that there is. */
+static const uint8_t numbers[] = { 0, 1, 2, 3, 127, 128, 254, 255 };
+enum { NUMBERS = sizeof numbers };
+
+/* One that is none's gives 7 in mode 3, and in the other modes none is read. */
+static void test_connections(void)
+{
+    static effect first;
+    for (size_t i = 0; i < SERVICES; i++) {
+        uint8_t apdu[16];
+        size_t length = unhex(services[i].apdu, apdu);
+        for (int rules = 0; rules < RULES; rules++)
+            for (uint8_t mode = 0; mode < 5; mode++)
+                for (size_t k = 0; k < NUMBERS; k++) {
+                    event e = { { { { true, 1 }, { true, 3 } } }, mode, numbers[k], 0x801, { apdu, length }, sheet_for(i, rules),
+                                16 };
+                    const effect *f = try_everywhere(&e);
+                    if (k == 0)
+                        first = *f;
+                    if (mode == KELINDAP_CONNECTED)
+                        expect((f->reply.outcome == KELINDAP_NOT_CONNECTED) == (numbers[k] > 1), "connection %d gave %d",
+                               numbers[k], f->reply.outcome);
+                    else
+                        expect(same_effect(&e, &first, f), "the number %d was read in mode %d", numbers[k], mode);
+                }
     }
 }
 
 /* ---- the two rules ---- */
 
 /* A request on the sheet with the rules in byte 30 and programming mode on. */
-static const effect *under(uint8_t rules, kelindap_session session, uint8_t mode, uint8_t low)
+static const effect *under(uint8_t rules, kelindap_sessions sessions, uint8_t mode, uint8_t connection, uint8_t low)
 {
     static uint8_t sheet[sizeof pump], apdu[2];
     memcpy(sheet, pump, sizeof sheet);
@@ -427,20 +491,24 @@ static const effect *under(uint8_t rules, kelindap_session session, uint8_t mode
     sheet[14] |= 1;
     apdu[0] = 0x03;
     apdu[1] = low;
-    return try_everywhere(&(event){ session, mode, 0, { apdu, sizeof apdu }, { sheet, sizeof sheet }, 16 });
+    return try_everywhere(&(event){ sessions, mode, connection, 0, { apdu, sizeof apdu }, { sheet, sizeof sheet }, 16 });
 }
 
-/* A Restart in every mode, on a session open or closed at every level: what is due, by the rules. */
+/* A Restart in every mode, on a connection open or closed, beside one open or closed: what is due, by the rules. */
 static void test_restart(uint8_t rules)
 {
-    for (int i = 0; i < 5 * 2 * 256; i++) {
-        kelindap_session found = { i % 2 != 0, (uint8_t)(i / 10) }, shut = { false, 3 };
-        uint8_t mode = (uint8_t)(i / 2 % 5);
-        bool taken = (mode == KELINDAP_CONNECTED && found.open) || (mode == KELINDAP_CONNECTIONLESS && rules == 1);
+    static const uint8_t levels[] = { 0, 1, 2, 3, 4, 255 };
+    for (size_t i = 0; i < 5 * 8 * sizeof levels; i++) {
+        kelindap_session own = { i % 2 != 0, levels[i / 40] };
+        kelindap_sessions found = { { { i / 4 % 2 != 0, 1 }, { i / 4 % 2 != 0, 1 } } };
+        uint8_t connection = (uint8_t)(i / 2 % 2), mode = (uint8_t)(i / 8 % 5);
+        found.of[connection] = own;
+        bool taken = (mode == KELINDAP_CONNECTED && own.open) || (mode == KELINDAP_CONNECTIONLESS && rules == 1);
         int due = taken ? KELINDAP_DONE : mode > 3 ? KELINDAP_BAD_MODE : mode == 3 ? KELINDAP_NOT_CONNECTED : KELINDAP_WRONG_MODE;
-        const effect *f = under(rules, found, mode, 0x80);
+        const effect *f = under(rules, found, mode, connection, 0x80);
         expect(f->reply.outcome == due, "a Restart in mode %d under rules %d gave %d", mode, rules, f->reply.outcome);
-        expect(same_session(f->session, taken ? shut : found), "a Restart in mode %d under rules %d: session", mode, rules);
+        expect(same_sessions(f->sessions, taken ? both_closed : found), "a Restart in mode %d under rules %d: sessions", mode,
+               rules);
         expect((f->sheet[14] & 1) == (taken ? 0 : 1), "a Restart in mode %d under rules %d: programming mode", mode, rules);
         expect(f->sheet[30] == rules, "a Restart in mode %d changed the rules", mode);
     }
@@ -449,18 +517,18 @@ static void test_restart(uint8_t rules)
 /* Each code of a restart with more bits, and each type of descriptor, without and with a connection. */
 static void test_codes_and_types(uint8_t rules)
 {
-    kelindap_session open = { true, 1 };
+    kelindap_sessions open = { { { true, 1 }, { true, 2 } } };
     for (uint8_t mode = KELINDAP_CONNECTIONLESS; mode <= KELINDAP_CONNECTED; mode++) {
         for (uint8_t low = 0x81; low <= 0xBF; low++)
-            expect(under(rules, open, mode, low)->reply.outcome == KELINDAP_UNKNOWN, "code 3%02Xh in mode %d under rules %d", low,
+            expect(under(rules, open, mode, low % 2, low)->reply.outcome == KELINDAP_UNKNOWN, "code 3%02Xh in mode %d under rules %d", low,
                    mode, rules);
         for (uint8_t type = 1; type <= 63; type++) {
-            const effect *f = under(rules, open, mode, type);
+            const effect *f = under(rules, open, mode, type % 2, type);
             bool denied = f->reply.outcome == KELINDAP_DENIED && f->reply.count == 2 && f->answer[0] == 0x03 && f->answer[1] == 0x7F;
             expect(rules == 1 ? denied : f->reply.outcome == KELINDAP_NOT_FOR_US, "type %d in mode %d under rules %d gave %d", type,
                    mode, rules, f->reply.outcome);
         }
-        const effect *f = under(rules, open, mode, 0);
+        const effect *f = under(rules, open, mode, 0, 0);
         expect(f->reply.outcome == KELINDAP_ANSWERED && f->reply.count == 4, "type 0 in mode %d under rules %d", mode, rules);
     }
 }
@@ -502,7 +570,7 @@ static void try_sheet(enum place place, run sheet)
     uint8_t rule = check_at(place, sheet);
     press(place, sheet, true, rule);
     press(place, sheet, false, rule);
-    try_at(place, &(event){ { true, 0 }, 2, 0, { apdu, sizeof apdu }, sheet, 16 });
+    try_at(place, &(event){ with(0, (kelindap_session){ true, 0 }), 2, 0, 0, { apdu, sizeof apdu }, sheet, 16 });
     if (rule == 0)
         return;
     look_up(place, sheet, (question){ BY_PROPERTY, 1, 0x33 }, none);
@@ -604,21 +672,21 @@ static void test_long_run(void)
 {
     static uint8_t sheet[MOST_SHEET], apdu[20];
     unsigned long seen[14] = { 0 };
-    kelindap_session session = kelindap_fresh();
+    kelindap_sessions sessions = kelindap_fresh();
     memcpy(sheet, full, full_length);
     for (int i = 0; i < 30000; i++) {
         sheet[30] = (uint8_t)(i / 15000); /* the second half under the later rules */
         if (any(20) == 0)
-            kelindap_connect(&session);
+            kelindap_connect(&sessions, (uint8_t)any(3));
         if (any(200) == 0)
-            session.level = (uint8_t)any(5);
+            sessions.of[any(2)].level = (uint8_t)any(5);
         if (any(100) == 0)
             kelindap_button(sheet, full_length, any(2) == 0);
-        event e = { session, (uint8_t)any(4), (uint16_t)group_address(any(GROUPS)), { apdu, any_apdu(apdu) },
-                    { sheet, full_length }, 16 + any(5) };
+        event e = { sessions, (uint8_t)any(4), (uint8_t)any(2), (uint16_t)group_address(any(GROUPS)),
+                    { apdu, any_apdu(apdu) }, { sheet, full_length }, 16 + any(5) };
         const effect *f = try_at((enum place)(i % PLACES), &e);
         seen[f->reply.outcome % 14]++;
-        session = f->session;
+        sessions = f->sessions;
         memcpy(sheet, f->sheet, full_length);
         if (i % 100 == 0)
             expect(kelindap_check(sheet, full_length) == 0, "after %d requests the sheet is not accepted", i);
@@ -659,7 +727,7 @@ static void try_border(bool user, size_t k, size_t border, size_t place)
                 bool permitted = (address >= border || level <= (before >> shift & 15)) &&
                                  (address + n <= border || level <= (behind >> shift & 15));
                 uint8_t apdu[16];
-                event e = { { true, (uint8_t)level }, 3, 0, { apdu, memory_apdu(user, write, address, n, data, apdu) },
+                event e = { with(n % 2, (kelindap_session){ true, (uint8_t)level }), 3, n % 2, 0, { apdu, memory_apdu(user, write, address, n, data, apdu) },
                             { full, full_length }, 16 };
                 const effect *f = try_at((enum place)(address % PLACES), &e);
                 size_t at = place + address - border, head = user ? 5 : 4;
@@ -682,22 +750,84 @@ static void test_ranges(void)
 
 /* ---- sessions, and empty runs ---- */
 
+/* A connect, or a disconnect, of this number on sessions as found. */
+static void turn(enum place place, bool opens, kelindap_sessions found, uint8_t number)
+{
+    kelindap_sessions due = found, after;
+    if (number < KELINDAP_CONNECTIONS)
+        due.of[number] = (kelindap_session){ opens, 3 };
+    lent b = lend(SESSIONS, place, &found, sizeof found);
+    kelindap_sessions *sessions = (kelindap_sessions *)b.bytes;
+    uint8_t outcome = opens ? kelindap_connect(sessions, number) : kelindap_disconnect(sessions, number);
+    calls++;
+    take_back(&b, &after, "sessions");
+    expect(outcome == (number < KELINDAP_CONNECTIONS ? KELINDAP_DONE : KELINDAP_NOT_CONNECTED), "%s %d gave %d",
+           opens ? "connect" : "disconnect", number, outcome);
+    expect(same_sessions(after, due), "%s %d left other sessions", opens ? "connect" : "disconnect", number);
+}
+
 static void test_sessions(void)
 {
-    expect(same_session(kelindap_fresh(), (kelindap_session){ false, 3 }), "a fresh session is not closed at 3");
-    for (int i = 0; i < 512 * PLACES; i++) {
-        enum place place = (enum place)(i % PLACES);
-        kelindap_session found = { (i / PLACES) % 2 != 0, (uint8_t)(i / PLACES / 2) }, after;
-        lent b = lend(SESSION, place, &found, sizeof found);
-        expect(kelindap_connect((kelindap_session *)b.bytes) == KELINDAP_DONE, "connect gave another number");
-        take_back(&b, &after, "session");
-        expect(same_session(after, (kelindap_session){ true, 3 }), "connect left another session");
-        b = lend(SESSION, place, &found, sizeof found);
-        expect(kelindap_disconnect((kelindap_session *)b.bytes) == KELINDAP_DONE, "disconnect gave another number");
-        take_back(&b, &after, "session");
-        expect(same_session(after, (kelindap_session){ false, 3 }), "disconnect left another session");
-        calls += 2;
+    expect(same_sessions(kelindap_fresh(), both_closed), "fresh sessions are not closed at 3");
+    for (int i = 0; i < 4 * 256; i++)
+        for (size_t k = 0; k < NUMBERS; k++) {
+            kelindap_session one = { i % 2 != 0, (uint8_t)(i / 4) }, two = { i / 2 % 2 != 0, (uint8_t)(255 - i / 4) };
+            kelindap_sessions found = { { one, two } };
+            turn((enum place)(i % PLACES), true, found, numbers[k]);
+            turn((enum place)(i % PLACES), false, found, numbers[k]);
+        }
+    for (int number = 2; number < 256; number++) {
+        turn(GUARDED, true, (kelindap_sessions){ { { false, 0 }, { true, 1 } } }, (uint8_t)number);
+        turn(GUARDED, false, (kelindap_sessions){ { { true, 0 }, { true, 1 } } }, (uint8_t)number);
     }
+}
+
+/* ---- two tools ---- */
+
+/* A request of a tool in the middle of what both do; what it leaves is found by the next. */
+static void tool_asks(event *e, uint8_t connection, const char *apdu, int outcome, const char *answer)
+{
+    static uint8_t sheet[sizeof pump], bytes[16];
+    uint8_t due[16];
+    size_t count = unhex(answer, due);
+    e->connection = connection;
+    e->apdu = (run){ bytes, unhex(apdu, bytes) };
+    const effect *f = try_everywhere(e);
+    expect(f->reply.outcome == outcome && f->reply.count == count && memcmp(f->answer, due, count) == 0,
+           "tool %d, %s: outcome %d, %d bytes", connection, apdu, f->reply.outcome, f->reply.count);
+    e->sessions = f->sessions;
+    memcpy(sheet, f->sheet, e->sheet.length);
+    e->sheet.bytes = sheet;
+}
+
+static void test_two_tools(void)
+{
+    event e = { kelindap_fresh(), KELINDAP_CONNECTED, 0, 0, { NULL, 0 }, sample_sheet, 16 };
+    kelindap_connect(&e.sessions, 0);
+    kelindap_connect(&e.sessions, 1);
+    /* the key of one is no key of the other, and the other's wrong key takes nothing from it */
+    tool_asks(&e, 0, "03D10022222222", 0, "03D201");
+    tool_asks(&e, 1, "03D7013310010384", 11, "03D601330001");
+    tool_asks(&e, 1, "03D10033333333", 0, "03D203");
+    tool_asks(&e, 0, "03D7013310010384", 0, "03D6013310010384");
+    tool_asks(&e, 1, "03D501331001", 0, "03D6013310010384");
+    kelindap_disconnect(&e.sessions, 1);
+    tool_asks(&e, 1, "03D501331001", 7, "");
+    tool_asks(&e, 0, "03D7013310010385", 0, "03D6013310010385");
+    /* a key counts as it stands, whoever wrote it, and a level stays */
+    kelindap_connect(&e.sessions, 1);
+    tool_asks(&e, 1, "03D10022222222", 0, "03D201");
+    tool_asks(&e, 0, "03D301ABCDEF01", 0, "03D401");
+    tool_asks(&e, 1, "03D7013310010386", 0, "03D6013310010386");
+    tool_asks(&e, 1, "03D10022222222", 0, "03D203");
+    tool_asks(&e, 1, "03D7013310010387", 11, "03D601330001");
+    tool_asks(&e, 1, "03D100ABCDEF01", 0, "03D201");
+    expect(same_sessions(e.sessions, (kelindap_sessions){ { { true, 1 }, { true, 1 } } }), "two tools at level 1");
+    /* a restart ends both */
+    tool_asks(&e, 1, "0380", 1, "");
+    tool_asks(&e, 0, "03D501331001", 7, "");
+    tool_asks(&e, 1, "03D501331001", 7, "");
+    calls += 4;
 }
 
 /* NULL with length 0 is an empty run, everywhere. EXACT lends NULL for it. */
@@ -706,7 +836,7 @@ static void test_nothing(void)
     static const uint8_t apdu[2] = { 0x03, 0x00 };
     run nothing = { NULL, 0 }, some = { apdu, 2 };
     for (int i = 0; i < 8; i++) {
-        event e = { { false, 3 }, 2, 0, i & 1 ? some : nothing, i & 2 ? sample_sheet : nothing, i & 4 ? 16 : 0 };
+        event e = { both_closed, 2, 0, 0, i & 1 ? some : nothing, i & 2 ? sample_sheet : nothing, i & 4 ? 16 : 0 };
         int due = !(i & 4) ? 3 : !(i & 2) ? 4 : !(i & 1) ? 5 : 0;
         expect(try_everywhere(&e)->reply.outcome == due, "empty runs %d gave another outcome than %d", i, due);
     }
@@ -725,6 +855,8 @@ int main(void)
     build_later_sheet();
     test_marked_cases();
     test_sessions();
+    test_connections();
+    test_two_tools();
     test_nothing();
     test_lengths();
     test_modes();

@@ -21,6 +21,10 @@
     SIZE(kelindap_session, 2) \
     FIELD(kelindap_session, open, 1, 0) \
     FIELD(kelindap_session, level, 1, 1) \
+    NUMBER(KELINDAP_CONNECTIONS, 2) \
+    SIZE(kelindap_sessions, 4) \
+    FIELD(kelindap_sessions, of, 4, 0) \
+    FIELD(kelindap_sessions, of[1], 2, 2) \
     SIZE(kelindap_reply, 2) \
     FIELD(kelindap_reply, outcome, 1, 0) \
     FIELD(kelindap_reply, count, 1, 1) \

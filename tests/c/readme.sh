@@ -14,7 +14,7 @@ piece() {
 }
 {
     cat tests/c/readme.inc
-    piece 'static kelindap_session session;'
+    piece 'static kelindap_sessions sessions;'
     echo 'void ask_height(void) {'
     piece 'kelindap_pdu ask = '
     echo '}'

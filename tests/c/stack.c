@@ -23,7 +23,7 @@ static const uint8_t pump[] = {
 #include "../../hosts/pump_sheet.inc"
 };
 static uint8_t sheet[sizeof pump], answer[16], apdu[16];
-static kelindap_session session;
+static kelindap_sessions sessions;
 static volatile unsigned kept; /* so that no call is left out */
 
 /* a byte at random, three of four times one that the sheet knows, so that many requests are carried out */
@@ -47,9 +47,9 @@ static size_t next_apdu(unsigned i)
 }
 
 static void nothing(void) {}
-static void fresh(void) { session = kelindap_fresh(); }
-static void connect(void) { kept += kelindap_connect(&session); }
-static void disconnect(void) { kept += kelindap_disconnect(&session); }
+static void fresh(void) { sessions = kelindap_fresh(); }
+static void connect(void) { kept += kelindap_connect(&sessions, 1); }
+static void disconnect(void) { kept += kelindap_disconnect(&sessions, 1); }
 static void button(void) { kept += kelindap_button(sheet, sizeof sheet, true); }
 static void check(void) { kept += kelindap_check(sheet, sizeof sheet); }
 static void property(void) { kept += (unsigned)kelindap_property(sheet, sizeof sheet, 1, 51).length; }
@@ -62,9 +62,11 @@ static void request(void)
     for (unsigned i = 0; i < ROUNDS * 15 * 1024u; i++) {
         size_t length = next_apdu(i);
         sheet[30] = (uint8_t)(i / (15 * 1024u) % 2); /* each round under the other rules */
+        uint8_t connection = (uint8_t)(i / (30 * 1024u) % 2); /* and the last two on the other connection */
         for (uint8_t mode = 0; mode < 4; mode++) {
-            session = (kelindap_session){.open = true, .level = (uint8_t)(i % 4)};
-            kept += kelindap_request(&session, mode, 0x0801, apdu, length, sheet, sizeof sheet, answer, sizeof answer).count;
+            sessions.of[connection] = (kelindap_session){.open = true, .level = (uint8_t)(i % 4)};
+            kept += kelindap_request(&sessions, mode, connection, 0x0801, apdu, length, sheet, sizeof sheet, answer,
+                                     sizeof answer).count;
         }
     }
 }

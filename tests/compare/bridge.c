@@ -6,20 +6,21 @@
  *   s LENGTH4 BYTES                          sets the sheet                   RULE HASH8
  *   x AT4 BYTE                               changes a byte of the sheet      RULE HASH8
  *   k                                        checks the sheet                 RULE HASH8
- *   f                                        a fresh session                  OPEN LEVEL
- *   v OPEN LEVEL                             sets the session as found        OPEN LEVEL
- *   c, d, b ON                               connect, disconnect, button      OUTCOME OPEN LEVEL HASH8
- *   q MODE GROUP2 APDU BUFFER                a request                        OUTCOME COUNT OPEN LEVEL BUFFER HASH8
+ *   f                                        fresh sessions                   SESSIONS
+ *   v C OPEN LEVEL                           sets a session as found          SESSIONS
+ *   c C, d C, b ON                           connect, disconnect, button      OUTCOME SESSIONS HASH8
+ *   q MODE C GROUP2 APDU BUFFER              a request                        OUTCOME COUNT SESSIONS BUFFER HASH8
  *   p OBJECT ID, r K8, u K8, g ADDRESS2      lookups                          OFFSET8 LENGTH8 HASH8
  *   R APDU                                   reads a PDU                      the flat PDU
  *   W flat PDU, DATA BUFFER                  writes a PDU                     OUTCOME COUNT BUFFER
  *   D                                        shows the sheet                  BYTES
- *   t TIMES4 MODE GROUP2 APDU BUFFER         so many requests, on a board     INSTRUCTIONS8
+ *   t TIMES4 MODE C GROUP2 APDU BUFFER       so many requests, on a board     INSTRUCTIONS8
  *   T TIMES4                                 so many checks, on a board       INSTRUCTIONS8
  *   !                                        goes deeper than the stack, on a board
  *
- * HASH8 is of the whole sheet after the call. Replies are kept until the input runs dry, so a driver may send many
- * commands and then read as many replies. Sheet, session and buffers stand between guard bytes; an empty run is lent as NULL.
+ * C is the number of a connection. SESSIONS is open and level of connection 0, then of 1. HASH8 is of the whole sheet after
+ * the call. Replies are kept until the input runs dry, so a driver may send many
+ * commands and then read as many replies. Sheet, sessions and buffers stand between guard bytes; an empty run is lent as NULL.
  */
 #define _POSIX_C_SOURCE 200809L
 #include "kelindap.h"
@@ -178,10 +179,10 @@ static uint8_t sheet_room[GUARD + SHEET + GUARD], apdu_room[GUARD + RUN + GUARD]
 static lent sheet;
 static struct {
     uint8_t below[GUARD];
-    kelindap_session session;
+    kelindap_sessions sessions;
     uint8_t above[GUARD];
 } session_room;
-#define session (session_room.session)
+#define sessions (session_room.sessions)
 
 /* FNV-1a by words of eight bytes, and each word's upper half brought down, so that no two changes hide each other. */
 static void give_hash(void)
@@ -201,12 +202,12 @@ static void give_hash(void)
     give_number(h, 8);
 }
 
-static void give_session(void)
+static void give_sessions(void)
 {
-    /* as it stands in memory: a bool that is neither 0 nor 1 would be seen */
-    uint8_t raw[sizeof session];
-    guarded((lent){ (uint8_t *)&session_room + GUARD, sizeof session });
-    memcpy(raw, &session, sizeof raw);
+    /* as they stand in memory: a bool that is neither 0 nor 1 would be seen */
+    uint8_t raw[sizeof sessions];
+    guarded((lent){ (uint8_t *)&session_room + GUARD, sizeof sessions });
+    memcpy(raw, &sessions, sizeof raw);
     give(raw, sizeof raw);
 }
 
@@ -219,7 +220,7 @@ static void give_rule(void)
 static void give_outcome(uint8_t outcome)
 {
     give_number(outcome, 1);
-    give_session();
+    give_sessions();
     give_hash();
 }
 
@@ -242,23 +243,34 @@ static void set_byte(void)
     give_rule();
 }
 
+static void set_session(void)
+{
+    uint8_t connection = byte();
+    if (connection > 1)
+        give_up("no such connection");
+    sessions.of[connection].open = byte() != 0;
+    sessions.of[connection].level = byte();
+    give_sessions();
+}
+
 static void request(void)
 {
     uint8_t as_sent[RUN];
     uint8_t mode = byte();
+    uint8_t connection = byte();
     uint16_t group = (uint16_t)number(2);
     lent apdu = take_run(apdu_room, RUN, 2);
     lent answer = take_run(answer_room, RUN, 2);
     memcpy(as_sent, apdu.bytes, apdu.length);
-    kelindap_reply reply = kelindap_request(&session, mode, group, given(apdu), apdu.length, given(sheet), sheet.length,
-                                            given(answer), answer.length);
+    kelindap_reply reply = kelindap_request(&sessions, mode, connection, group, given(apdu), apdu.length, given(sheet),
+                                            sheet.length, given(answer), answer.length);
     guarded(apdu);
     guarded(answer);
     if (memcmp(as_sent, apdu.bytes, apdu.length) != 0)
         give_up("the APDU was written");
     give_number(reply.outcome, 1);
     give_number(reply.count, 1);
-    give_session();
+    give_sessions();
     give(answer.bytes, answer.length);
     give_hash();
 }
@@ -317,14 +329,14 @@ static void write_pdu(void)
 #ifdef BOARD
 /* ---- instructions: of calls through pointers, less those of a call that does nothing ---- */
 
-typedef kelindap_reply request_call(kelindap_session *, uint8_t, uint16_t, const uint8_t *, size_t, uint8_t *, size_t,
-                                    uint8_t *, size_t);
+typedef kelindap_reply request_call(kelindap_sessions *, uint8_t, uint8_t, uint16_t, const uint8_t *, size_t, uint8_t *,
+                                    size_t, uint8_t *, size_t);
 typedef uint8_t check_call(const uint8_t *, size_t);
 
-static kelindap_reply no_request(kelindap_session *s, uint8_t m, uint16_t g, const uint8_t *a, size_t an, uint8_t *b, size_t bn,
-                                 uint8_t *c, size_t cn)
+static kelindap_reply no_request(kelindap_sessions *s, uint8_t m, uint8_t o, uint16_t g, const uint8_t *a, size_t an,
+                                 uint8_t *b, size_t bn, uint8_t *c, size_t cn)
 {
-    (void)s, (void)m, (void)g, (void)a, (void)an, (void)b, (void)bn, (void)c, (void)cn;
+    (void)s, (void)m, (void)o, (void)g, (void)a, (void)an, (void)b, (void)bn, (void)c, (void)cn;
     return (kelindap_reply){ 0, 0 };
 }
 
@@ -334,24 +346,26 @@ static uint8_t no_check(const uint8_t *s, size_t n)
     return 0;
 }
 
-/* Each time session and flags are as at first, which is all that a repetition could find changed. */
+/* Each time sessions and flags are as at first, which is all that a repetition could find changed. */
 static void time_requests(void)
 {
     request_call *const calls[2] = { kelindap_request, no_request };
     uint64_t taken[2];
     uint32_t times = (uint32_t)number(4);
     uint8_t mode = byte();
+    uint8_t connection = byte();
     uint16_t group = (uint16_t)number(2);
     lent apdu = take_run(apdu_room, RUN, 2), answer = take_run(answer_room, RUN, 2);
-    const kelindap_session found = session;
+    const kelindap_sessions found = sessions;
     const uint8_t flags = sheet.bytes[14];
     for (int i = 0; i < 2; i++) {
         request_call *volatile call = calls[i];
         taken[i] = instructions();
         for (uint32_t n = 0; n < times; n++) {
-            session = found;
+            sessions = found;
             sheet.bytes[14] = flags;
-            call(&session, mode, group, apdu.bytes, apdu.length, sheet.bytes, sheet.length, answer.bytes, answer.length);
+            call(&sessions, mode, connection, group, apdu.bytes, apdu.length, sheet.bytes, sheet.length, answer.bytes,
+                 answer.length);
         }
         taken[i] = instructions() - taken[i];
     }
@@ -376,7 +390,7 @@ static void time_checks(void)
 
 static void play(uint8_t command)
 {
-    uint8_t object;
+    uint8_t named; /* a connection, or an object */
     uint64_t k;
     switch (command) {
     case 's':
@@ -390,19 +404,19 @@ static void play(uint8_t command)
         give_rule();
         break;
     case 'f':
-        session = kelindap_fresh();
-        give_session();
+        sessions = kelindap_fresh();
+        give_sessions();
         break;
     case 'v':
-        session.open = byte() != 0;
-        session.level = byte();
-        give_session();
+        set_session();
         break;
     case 'c':
-        give_outcome(kelindap_connect(&session));
+        named = byte();
+        give_outcome(kelindap_connect(&sessions, named));
         break;
     case 'd':
-        give_outcome(kelindap_disconnect(&session));
+        named = byte();
+        give_outcome(kelindap_disconnect(&sessions, named));
         break;
     case 'b':
         give_outcome(kelindap_button(given(sheet), sheet.length, byte() != 0));
@@ -411,8 +425,8 @@ static void play(uint8_t command)
         request();
         break;
     case 'p':
-        object = byte();
-        give_part(kelindap_property(given(sheet), sheet.length, object, byte()));
+        named = byte();
+        give_part(kelindap_property(given(sheet), sheet.length, named, byte()));
         break;
     case 'r':
         k = number(8);
@@ -453,8 +467,8 @@ static void play(uint8_t command)
 int main(void)
 {
     sheet = lend(sheet_room, 0);
-    lend((uint8_t *)&session_room, sizeof session);
-    session = kelindap_fresh();
+    lend((uint8_t *)&session_room, sizeof sessions);
+    sessions = kelindap_fresh();
     while (in_at < in_end || fill())
         play(in[in_at++]);
     return EXIT_SUCCESS;

@@ -1,14 +1,16 @@
 #!/usr/bin/env bash
 # tests/unit/frames.sh UNIT: a host in shell, over the desk unit. Each line of standard input is a frame from the bus. The unit
 # reads it; a connect, a disconnect or data goes to the device; an answer goes back to the sender, or to the group that was
-# asked, with the host's own sequence number, and the unit reads it once more. Frames to another address are left alone. A
-# session that a request closes was closed by a Restart: the partner of the connection is sent a disconnect. A line that begins
-# with sheet sets the sheet.
+# asked, with the host's own sequence number, and the unit reads it once more. Frames to another address are left alone. Two
+# partners may be connected, each under a number of its own; a third is sent a disconnect. A session that a request closes was
+# closed by a Restart: the partner of that connection is sent a disconnect. A line that begins with sheet sets the sheet.
 set -euo pipefail
 coproc unit { exec "$1"; }
 # shellcheck disable=SC2154 # coproc sets it
 pid=$unit_PID
-room=eeeeeeeeeeeeeeeeeeeeeeeeeeeeeeee own=4357 next=0 open=0 partner=
+room=eeeeeeeeeeeeeeeeeeeeeeeeeeeeeeee own=4357
+# by the number of the connection: its partner, none if it is closed, and the host's next sequence number
+partner=('' '') next=(0 0) none=255
 
 ask() { # COMMAND: the unit's answer in $reply
     printf '%s\n' "$1" >&"${unit[1]}"
@@ -36,22 +38,35 @@ answer() { # DESTINATION TRANSPORT APDUHEX
     echo "  > $sent $meaning: $reply"
 }
 
-request() { # MODE GROUP DESTINATION TRANSPORT
-    ask "request $1 $2 ${got[tpdu]} $room"
+request() { # MODE GROUP DESTINATION TRANSPORT CONNECTION
+    ask "request $1 $2 ${got[tpdu]} $room $5"
     local -a words
     read -r -a words <<< "$reply"
-    echo "  outcome ${words[0]}, session ${words[1]} ${words[2]}"
-    [ "${words[3]}" = 0 ] || answer "$3" "$4" "${words[4]:0:2 * words[3]}"
-    [ "$open" = "${words[1]}" ] || drop
+    echo "  outcome ${words[0]}, sessions ${words[*]:1:4}"
+    [ "${words[5]}" = 0 ] || answer "$3" "$4" "${words[6]:0:2 * words[5]}"
+    for c in 0 1; do
+        [ -z "${partner[c]}" ] || [ "${words[1 + 2 * c]}" = 1 ] || { send_away "${partner[c]}" && partner[c]=; }
+    done
 }
 
-drop() {
-    open=0
-    ask "frame write code=17 c1=176 c2=96 source=$own destination=$partner transport=32 info=- apdu=01 $room"
+send_away() { # PARTNER: a disconnect to it
+    ask "frame write code=17 c1=176 c2=96 source=$own destination=$1 transport=32 info=- apdu=01 $room"
     local -a words
     read -r -a words <<< "$reply"
     understand "${words[2]:0:2 * words[1]}"
     echo "  > ${words[2]:0:2 * words[1]} $meaning"
+}
+
+number_of() { # PARTNER, or none for a place that is free: its number in $number
+    number=$none
+    for c in 1 0; do [ "${partner[c]}" != "$1" ] || number=$c; done
+}
+
+turn() { # connect or disconnect
+    ask "$1 $number"
+    local -a words
+    read -r -a words <<< "$reply"
+    echo "  connection $number, outcome ${words[0]}, sessions ${words[*]:1:4}"
 }
 
 declare -A got
@@ -70,17 +85,28 @@ while read -r frame; do
     connect | disconnect | connectionless | connected) [ "${got[destination]}" = "$own" ] || { echo "  for another" && continue; } ;;
     esac
     case $meaning in
-    multicast*) request 0 "${got[destination]}" "${got[destination]}" 0 ;;
-    broadcast) request 1 0 0 0 ;;
-    connectionless) request 2 0 "${got[source]}" 0 ;;
+    multicast*) request 0 "${got[destination]}" "${got[destination]}" 0 $none ;;
+    broadcast) request 1 0 0 0 $none ;;
+    connectionless) request 2 0 "${got[source]}" 0 $none ;;
     connected)
-        request 3 0 "${got[source]}" $((16 + next))
-        next=$(((next + 1) % 16))
+        number_of "${got[source]}"
+        request 3 0 "${got[source]}" $((16 + ${next[number]:-0})) "$number"
+        [ "$number" = $none ] || next[number]=$(((next[number] + 1) % 16))
         ;;
-    connect | disconnect)
-        ask "$meaning"
-        next=0 open=${reply:2:1} partner=${got[source]}
-        echo "  session ${reply:2:3}"
+    connect)
+        number_of "${got[source]}"
+        [ "$number" != $none ] || number_of ''
+        if [ "$number" = $none ]; then
+            send_away "${got[source]}"
+        else
+            turn connect
+            partner[number]=${got[source]} next[number]=0
+        fi
+        ;;
+    disconnect)
+        number_of "${got[source]}"
+        turn disconnect
+        [ "$number" = $none ] || partner[number]=
         ;;
     esac
 done

@@ -10,8 +10,8 @@ sample=$(bytes_of sample_sheet)
 buffer=eeeeeeeeeeeeeeeeeeeeeeeeeeeeeeee
 
 # Each vector of the device, of the sample sheet, the one of edition 2 or the one whose regions touch: the sheet with its
-# button and verify bits and its rules, the session, the request on a buffer of 20 bytes; and once more in upper case on
-# one of 16.
+# button and verify bits and its rules, the session of connection 0, the request on it with a buffer of 20 bytes; and once
+# more in upper case with one of 16.
 device_vectors() { # NAME of the vectors, the sheet
     awk -F '\t' -v sample="$2" -v script="$out/$1-vectors.in" -v expected="$out/$1-vectors.out" '
         function put(text, at, hex) { return substr(text, 1, 2 * at) hex substr(text, 2 * at + length(hex) + 1) }
@@ -24,10 +24,10 @@ device_vectors() { # NAME of the vectors, the sheet
             long = "c3c3c3c3c3c3c3c3c3c3c3c3c3c3c3c3c3c3c3c3"
             short = substr(long, 1, 32)
             print "# " $1 > script
-            setup = "sheet " sheet "\nsession " at["open"] " " at["level"] "\nrequest " at["mode"] " " at["group"] " "
-            print setup $3, long > script
-            print setup toupper($3), short > script
-            ready = "OK\nsession " at["open"] " " at["level"] "\n"
+            setup = "sheet " sheet "\nsession 0 " at["open"] " " at["level"] "\nrequest " at["mode"] " " at["group"] " "
+            print setup $3, long, 0 > script
+            print setup toupper($3), short, 0 > script
+            ready = "OK\nsession 0 " at["open"] " " at["level"] "\n"
             n = split($6, pairs, " ")
             for (i = 1; i <= n; i++) {
                 split(pairs[i], pair, "=")
@@ -36,8 +36,8 @@ device_vectors() { # NAME of the vectors, the sheet
             }
             count = 0
             if ($4 != "-") { long = put(long, 0, $4); short = put(short, 0, $4); count = length($4) / 2 }
-            print ready $5, at["open"], at["level"], count, long, sheet > expected
-            print ready $5, at["open"], at["level"], count, short, sheet > expected
+            print ready $5, at["open"], at["level"], "0 3", count, long, sheet > expected
+            print ready $5, at["open"], at["level"], "0 3", count, short, sheet > expected
         }
     ' "$1.tsv"
 }
@@ -78,11 +78,11 @@ body=$(many 16344 cd)
 full=010100004000$(many 52 0)00003fd800283300$body
 exec 3> "$out/long.in" 4> "$out/long.out"
 line "sheet $zeros" S1
-line "request 2 0 0300 $buffer" "4 0 3 0 $buffer $zeros"
-line connect "1 1 3 0 - $zeros"
+line "request 2 0 0300 $buffer 0" "4 0 3 0 3 0 $buffer $zeros"
+line "connect 0" "1 1 3 0 3 0 - $zeros"
 line "sheet $sample" OK
-line "request 2 0 03d501331001 $abs" "0 1 3 8 03d60133100103e8${abs:16} $sample"
-line "request 3 0 ${abs^^} $buffer" "5 1 3 0 $buffer $sample"
+line "request 2 0 03d501331001 $abs 0" "0 1 3 0 3 8 03d60133100103e8${abs:16} $sample"
+line "request 3 0 ${abs^^} $buffer 0" "5 1 3 0 3 0 $buffer $sample"
 line "read $abs" 5
 line "write restart $abs" "0 2 0380${abs:4}"
 line "write group_write v=0 data=$abs $buffer" "13 0 $buffer"
@@ -92,8 +92,10 @@ line "write memory_bit_write n=80 address=0 and=$abs xor=$abs ${buffer:2}" "3 0 
 line "write serial_read serial=$abs $buffer" "13 0 $buffer"
 line "write memory_read n=$nines address=0 $buffer" "13 0 $buffer"
 line "write memory_read n=${zeros}1 address=0 $buffer" "0 4 02010000${buffer:8}"
-line "session 1 ${zeros}2" "session 1 2"
-line "request $nines 0 0300 $buffer" "ERR MODE is above 255: \"999999999999999999999999\""
+line "session ${zeros}0 1 ${zeros}2" "session 0 1 2"
+line "request $nines 0 0300 $buffer 0" "ERR MODE is above 255: \"999999999999999999999999\""
+line "connect $nines" "ERR C is above 255: \"999999999999999999999999\""
+line "connect ${zeros}2" "7 1 2 0 3 0 - $sample"
 line "lookup region $nines" -
 line "lookup region 0" a0a1a2a3
 line "lookup region 1" -
@@ -103,25 +105,25 @@ line "lookup region 18446744073709551616" -
 line "sheet ${zeros}0" "ERR HEX has an odd number of hex digits"
 line "sheet ${zeros}0x" "ERR HEX has a character that is no hex digit"
 line "$abs" "ERR no command has this name: \"abababababababababababab\""
-line "request 3 0 02040100 $buffer" "0 1 2 8 02440100a0a1a2a3${buffer:16} $sample"
+line "request 3 0 02040100 $buffer 0" "0 1 2 0 3 8 02440100a0a1a2a3${buffer:16} $sample"
 printf '# %s\n' "$abs" >&3
 # the longest sheet that is accepted, and one byte more
 line "sheet $full" OK
 line "lookup region 0" "$body"
-line "request 3 0 02013fd7 $buffer" "0 1 2 5 02413fd7cd${buffer:10} $full"
-line "request 3 0 02013fd8 $buffer" "11 1 2 4 02403fd8${buffer:8} $full"
+line "request 3 0 02013fd7 $buffer 0" "0 1 2 0 3 5 02413fd7cd${buffer:10} $full"
+line "request 3 0 02013fd8 $buffer 0" "11 1 2 0 3 4 02403fd8${buffer:8} $full"
 line "sheet ${full}cd" S1
 line "lookup region 0" -
 exec 3>&- 4>&-
 
 # blanks and tabs between words, CR LF, bytes that no command has; the last line has no newline
-for text in '\tconnect \t \n' 'session\t1   2  \r\n' '\r\n' '\n' '#\n' '# a\0b\n' 'con\0nect\n' '\0\n' 'connect\0\n' \
-    'sheet 0\0\n' 'con\033nect\n' 'h\303\251\n' 'connect\rx\n' 'connect\r\r\n' '\t\n' 'disconnect'; do
+for text in '\tconnect \t 0 \n' 'session\t0 1   2  \r\n' '\r\n' '\n' '#\n' '# a\0b\n' 'con\0nect 0\n' '\0\n' 'connect 0\0\n' \
+    'sheet 0\0\n' 'con\033nect\n' 'h\303\251\n' 'connect\rx\n' 'connect\r\r\n' '\t\n' 'disconnect 0'; do
     printf "$text"
 done > "$out/odd.in"
 cat > "$out/odd.out" << END
-1 1 3 0 - $sample
-session 1 2
+1 1 3 0 3 0 - $sample
+session 0 1 2
 ERR the line has a NUL byte
 ERR the line has a NUL byte
 ERR the line has a NUL byte
@@ -131,7 +133,7 @@ ERR no command has this name: "h??"
 ERR no command has this name: "connect?x"
 ERR no command has this name: "connect?"
 ERR the line has nothing but blanks
-1 0 3 0 - $sample
+1 0 3 0 3 0 - $sample
 END
 
 # no lines at all, and none but comments

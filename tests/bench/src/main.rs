@@ -12,8 +12,12 @@ mod times;
 use std::hint::black_box;
 
 use cases::{benches, Ask, Bench, Case, SESSION};
+use model::device::{Session, Sessions, Way};
 use model::sheet::FLAGS;
 use sides::{Lent, Side};
+
+/// All requests come on connection 0, the other being closed.
+const SESSIONS: Sessions = [SESSION, Session::CLOSED];
 
 /// A case made ready on one side.
 pub struct Ready<'a> {
@@ -29,7 +33,7 @@ impl<'a> Ready<'a> {
         Ready { side, bench, case, sheet: bench.sheet.clone(), answer: [0; 16] }
     }
 
-    /// The case `n` times; each time session and flags are as at first, which
+    /// The case `n` times; each time sessions and flags are as at first, which
     /// is all that a repetition could find changed.
     fn run(&mut self, n: usize) {
         let (side, sheet) = (self.side, &mut self.sheet);
@@ -47,9 +51,8 @@ impl<'a> Ready<'a> {
                 let flags = sheet[FLAGS];
                 for _ in 0..n {
                     let mut lent = Lent {
-                        session: SESSION,
-                        mode,
-                        group: self.bench.group,
+                        sessions: SESSIONS,
+                        way: Way { mode, connection: 0, group: self.bench.group },
                         apdu: black_box(apdu),
                         sheet: black_box(sheet),
                         answer: black_box(&mut self.answer),
@@ -62,28 +65,27 @@ impl<'a> Ready<'a> {
     }
 
     /// What one call gives, in two numbers, and leaves, for comparison.
-    fn effect(&mut self) -> (usize, usize, model::device::Session, [u8; 16], Vec<u8>) {
+    fn effect(&mut self) -> (usize, usize, Sessions, [u8; 16], Vec<u8>) {
         let mut sheet = self.sheet.clone();
         let mut answer = [0; 16];
-        let mut session = SESSION;
+        let mut sessions = SESSIONS;
         let (first, second) = match self.case.ask {
             Ask::Check => (self.side.check(&sheet).into(), 0),
             Ask::Property(object, id) => self.side.property(&sheet, object, id),
             Ask::Group(address) => self.side.group(&sheet, address),
             Ask::Request { mode, ref apdu } => {
                 let (reply, after) = self.side.request(&mut Lent {
-                    session,
-                    mode,
-                    group: self.bench.group,
+                    sessions,
+                    way: Way { mode, connection: 0, group: self.bench.group },
                     apdu,
                     sheet: &mut sheet,
                     answer: &mut answer,
                 });
-                session = after;
+                sessions = after;
                 (reply.outcome.into(), reply.count.into())
             }
         };
-        (first, second, session, answer, sheet)
+        (first, second, sessions, answer, sheet)
     }
 }
 

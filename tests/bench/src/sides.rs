@@ -2,12 +2,18 @@
 //! functions that can't be inlined either, and nothing at all, which shows what
 //! the loop around a call takes.
 
-use model::device::{Reply, Session};
+use model::device::{Reply, Session, Sessions, Way};
 
 #[repr(C)]
+#[derive(Clone, Copy)]
 struct CSession {
     open: bool,
     level: u8,
+}
+
+#[repr(C)]
+struct CSessions {
+    of: [CSession; 2],
 }
 
 #[repr(C)]
@@ -19,8 +25,9 @@ struct CReply {
 extern "C" {
     fn kelindap_check(sheet: *const u8, length: usize) -> u8;
     fn kelindap_request(
-        session: *mut CSession,
+        sessions: *mut CSessions,
         mode: u8,
+        connection: u8,
         group: u16,
         apdu: *const u8,
         apdu_length: usize,
@@ -41,9 +48,8 @@ struct CPart {
 
 /// What a request is made of, its buffers lent.
 pub struct Lent<'a> {
-    pub session: Session,
-    pub mode: u8,
-    pub group: u16,
+    pub sessions: Sessions,
+    pub way: Way,
     pub apdu: &'a [u8],
     pub sheet: &'a mut [u8],
     pub answer: &'a mut [u8],
@@ -88,16 +94,18 @@ impl Side {
         }
     }
 
-    /// Reply and session.
-    pub fn request(self, l: &mut Lent) -> (Reply, Session) {
+    /// Reply and sessions.
+    pub fn request(self, l: &mut Lent) -> (Reply, Sessions) {
         match self {
             Side::Proved => {
-                let mut session = CSession { open: l.session.open, level: l.session.level };
+                let mut sessions =
+                    CSessions { of: l.sessions.map(|s| CSession { open: s.open, level: s.level }) };
                 let reply = unsafe {
                     kelindap_request(
-                        &mut session,
-                        l.mode,
-                        l.group,
+                        &mut sessions,
+                        l.way.mode,
+                        l.way.connection,
+                        l.way.group,
                         l.apdu.as_ptr(),
                         l.apdu.len(),
                         l.sheet.as_mut_ptr(),
@@ -106,18 +114,18 @@ impl Side {
                         l.answer.len(),
                     )
                 };
-                let session = Session { open: session.open, level: session.level };
-                (Reply { outcome: reply.outcome, count: reply.count }, session)
+                let sessions = sessions.of.map(|s| Session { open: s.open, level: s.level });
+                (Reply { outcome: reply.outcome, count: reply.count }, sessions)
             }
             Side::Plain => {
-                let mut session = l.session;
-                let reply = plain_request(&mut session, l.mode, l.group, l.apdu, l.sheet, l.answer);
-                (reply, session)
+                let mut sessions = l.sessions;
+                let reply = plain_request(&mut sessions, l.way, l.apdu, l.sheet, l.answer);
+                (reply, sessions)
             }
             Side::Nothing => {
-                let mut session = l.session;
-                let reply = no_request(&mut session, l.mode, l.group, l.apdu, l.sheet, l.answer);
-                (reply, session)
+                let mut sessions = l.sessions;
+                let reply = no_request(&mut sessions, l.way, l.apdu, l.sheet, l.answer);
+                (reply, sessions)
             }
         }
     }
@@ -145,14 +153,13 @@ fn no_part(sheet: &[u8]) -> (usize, usize) {
 
 #[inline(never)]
 fn plain_request(
-    session: &mut Session,
-    mode: u8,
-    group: u16,
+    sessions: &mut Sessions,
+    way: Way,
     apdu: &[u8],
     sheet: &mut [u8],
     answer: &mut [u8],
 ) -> Reply {
-    model::device::request(session, mode, group, apdu, sheet, answer)
+    model::device::request(sessions, way, apdu, sheet, answer)
 }
 
 #[inline(never)]
@@ -161,13 +168,6 @@ fn no_check(sheet: &[u8]) -> u8 {
 }
 
 #[inline(never)]
-fn no_request(
-    session: &mut Session,
-    mode: u8,
-    _: u16,
-    _: &[u8],
-    _: &mut [u8],
-    _: &mut [u8],
-) -> Reply {
-    Reply { outcome: std::hint::black_box(mode), count: session.level }
+fn no_request(sessions: &mut Sessions, way: Way, _: &[u8], _: &mut [u8], _: &mut [u8]) -> Reply {
+    Reply { outcome: std::hint::black_box(way.mode), count: sessions[0].level }
 }

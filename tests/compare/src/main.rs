@@ -2,15 +2,17 @@
 //!
 //!     compare BRIDGE [EVENTS [SEED]]     plays the events on both sides
 //!     compare BRIDGE --faults [SEED]     the model's faults are each found
+//!     compare BRIDGE --apart [EVENTS [SEED]]   what one tool does is nothing to the other
 //!     compare BRIDGE --scripts NAME..    scripts of the desk unit, NAME.in and NAME.out
 //!     compare --times BRIDGE..           instructions of each request, of boards that count them
 //!
 //! With --device before these no PDU is read or written, for a bridge that has the device alone.
 //! With SHOW in the environment each fault is shown as a difference would be.
 //! BRIDGE is the program of bridge.c. Everything it replies is compared: the
-//! rule of each sheet, outcome, count, session, the whole answer buffer and a
+//! rule of each sheet, outcome, count, both sessions, the whole answer buffer and a
 //! hash of the whole sheet after each event, lookups, PDUs read and written.
 
+mod apart;
 mod flat;
 mod make;
 mod play;
@@ -216,10 +218,12 @@ fn single(bridge: &mut Bridge, before: &World, play: &Play) -> (Vec<u8>, Vec<u8>
     world.play(play, &mut expected);
     let mut wire = Vec::new();
     Play::Sheet(before.sheet.clone()).send(&mut wire);
-    Play::Found(before.session).send(&mut wire);
+    for (c, session) in (0..).zip(before.sessions) {
+        Play::Found(c, session).send(&mut wire);
+    }
     play.send(&mut wire);
     bridge.send(wire);
-    let skip = 9 + 2; // the replies to sheet and session
+    let skip = 9 + 2 * 4; // the replies to sheet and sessions
     let mut got = bridge.receive(skip + expected.len());
     got.drain(..skip.min(got.len()));
     (expected, got, world)
@@ -265,7 +269,9 @@ fn report(program: &str, seed: u64, difference: &Difference) -> usize {
     println!("# event {number} of seed {seed}");
     if !matches!(play, Play::Poke(..) | Play::Sheet(_) | Play::Read(_) | Play::Write(..)) {
         println!("sheet {}", hex(&before.sheet));
-        println!("session {} {}", before.session.open as u8, before.session.level);
+        for (c, session) in (0..).zip(before.sessions) {
+            println!("{}", Play::Found(c, session).line(&[]));
+        }
     }
     println!("{}", play.line(&after.sheet));
     println!("# model:   {}", play.explain(&expected));
@@ -340,6 +346,10 @@ fn main() -> ExitCode {
         [program, word, rest @ ..] if word == "--faults" && rest.len() <= 1 => {
             seed(rest.first()).map(|seed| faults(Side { program, device_alone }, seed))
         }
+        [program, word, rest @ ..] if word == "--apart" && rest.len() <= 2 => {
+            let events = rest.first().map_or(Some(EVENTS / 10), |w| w.parse().ok());
+            events.zip(seed(rest.get(1))).map(|(events, seed)| apart::apart(program, events, seed))
+        }
         [program, rest @ ..] if rest.len() <= 2 => {
             let events = rest.first().map_or(Some(EVENTS), |w| w.parse().ok());
             let side = Side { program, device_alone };
@@ -354,7 +364,7 @@ fn main() -> ExitCode {
             eprintln!(
                 "usage: compare [--device] BRIDGE [EVENTS [SEED]], .. BRIDGE --faults [SEED],"
             );
-            eprintln!("       .. BRIDGE --scripts NAME.., .. --times BRIDGE..");
+            eprintln!("       .. BRIDGE --apart [EVENTS [SEED]], .. BRIDGE --scripts NAME.., .. --times BRIDGE..");
             ExitCode::from(2)
         }
     }

@@ -2,7 +2,7 @@
 
 use std::collections::VecDeque;
 
-use model::gen::{self, Ask, Event, Rng};
+use model::gen::{self, Ask, Event, Rng, Tools};
 use model::matrix;
 use model::sheet::{self, Memory};
 
@@ -12,10 +12,12 @@ use crate::play::{Play, World};
 enum Scene {
     /// Nothing more than what is queued.
     Queued,
-    /// Events of all sorts, the session often set from outside.
+    /// Events of all sorts, the sessions often set from outside.
     Mixed,
-    /// The session is changed by calls alone, so levels come from keys.
+    /// The sessions are changed by calls alone, so levels come from keys.
     History,
+    /// The same by two tools that go by the keys they know.
+    Tools(Tools),
     /// One byte is damaged, a little is played, and the byte is mended.
     Damaged,
     /// PDUs read and written.
@@ -48,10 +50,14 @@ impl Maker {
                 continue;
             }
             self.left -= 1;
-            match self.scene {
+            match &mut self.scene {
                 Scene::Queued => {}
                 Scene::Mixed => self.mixed(world),
                 Scene::History => self.history(world),
+                Scene::Tools(tools) => {
+                    let event = tools.event(&mut self.rng, &world.sheet, &world.sessions);
+                    self.push(Play::of(event));
+                }
                 Scene::Damaged => self.damaged(world),
                 Scene::Pdus => self.pdus(world),
             }
@@ -71,28 +77,34 @@ impl Maker {
                 rng.within(50, 750)
             }
         };
-        let (scene, left) = match rng.below(50) {
+        (self.scene, self.left) = match rng.below(50) {
             0..=3 => (Scene::Mixed, long(rng)),
-            4..=7 => (Scene::History, long(rng)),
+            4 | 5 => (Scene::History, long(rng)),
+            6 | 7 => {
+                let sheet = gen::sheet(rng);
+                let scene = (Scene::Tools(Tools::new(&sheet)), long(rng));
+                self.queue.extend([Play::Sheet(sheet), Play::Fresh]);
+                scene
+            }
             8 => (Scene::Damaged, rng.within(100, 400)),
             9 if !self.device_alone => (Scene::Pdus, rng.within(300, 900)),
             _ => (Scene::Queued, 0),
         };
-        (self.scene, self.left) = (scene, left);
         match self.scene {
             Scene::Queued => self.checks(),
-            Scene::Pdus => {}
+            Scene::Pdus | Scene::Tools(_) => {}
             Scene::History => {
                 let sheet = gen::sheet(&mut self.rng);
-                self.push(Play::Sheet(sheet));
-                self.push(Play::Fresh);
-                self.push(Play::Connect);
+                self.queue.extend([Play::Sheet(sheet), Play::Fresh]);
+                self.queue.extend([Play::Connect(0), Play::Connect(1)]);
             }
             _ => {
                 let sheet = gen::sheet(&mut self.rng);
                 self.push(Play::Sheet(sheet));
-                let session = gen::session(&mut self.rng);
-                self.push(Play::Found(session));
+                for c in 0..2 {
+                    let session = gen::session(&mut self.rng);
+                    self.push(Play::Found(c, session));
+                }
             }
         }
     }
@@ -110,20 +122,14 @@ impl Maker {
     }
 
     fn event(&mut self, sheet: &[u8]) {
-        let play = match gen::event(&mut self.rng, sheet) {
-            Event::Connect => Play::Connect,
-            Event::Disconnect => Play::Disconnect,
-            Event::Button(on) => Play::Button(on),
-            Event::Found(session) => Play::Found(session),
-            Event::Request(mut ask) => {
-                // a bad sheet comes before the mode: any service in any mode
-                if self.rng.chance(60) && sheet::check(sheet) != 0 {
-                    ask.mode = self.rng.below(5) as u8;
-                }
-                Play::Request(ask)
+        let mut event = gen::event(&mut self.rng, sheet);
+        if let Event::Request(ask) = &mut event {
+            // a bad sheet comes before the mode: any service in any mode
+            if self.rng.chance(60) && sheet::check(sheet) != 0 {
+                ask.way.mode = self.rng.below(5) as u8;
             }
-        };
-        self.push(play);
+        }
+        self.push(Play::of(event));
     }
 
     fn mixed(&mut self, world: &World) {
@@ -134,19 +140,21 @@ impl Maker {
     }
 
     fn history(&mut self, world: &World) {
-        if !world.session.open && self.rng.chance(60) {
-            return self.push(Play::Connect);
+        let connection = gen::connection(&mut self.rng);
+        let closed = (0..2).find(|&c| !world.sessions[c as usize].open);
+        if let (Some(c), true) = (closed, self.rng.chance(40)) {
+            return self.push(Play::Connect(c));
         }
         match self.rng.below(200) {
-            0 => self.push(Play::Disconnect),
-            1 | 2 => self.push(Play::Connect),
+            0 => self.push(Play::Disconnect(connection)),
+            1 | 2 => self.push(Play::Connect(connection)),
             3 => self.push(Play::Button(true)),
             4 => self.push(Play::Button(false)),
             5 => self.push(Play::Check),
             6..=12 => self.lookup(&world.sheet),
             _ => {
                 let mut ask = gen::ask(&mut self.rng, &world.sheet);
-                // a restart closes the session: most are drawn again
+                // a restart closes both sessions: most are drawn again
                 while matrix::row(&ask.apdu) == 16 && self.rng.chance(80) {
                     ask = gen::ask(&mut self.rng, &world.sheet);
                 }

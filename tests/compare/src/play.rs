@@ -1,9 +1,9 @@
 //! What is played on both sides: the commands of the bridge, and the model
 //! that says what each of them must bring.
 
-use model::device::{self, Session};
+use model::device::{self, Session, Sessions, Way, FRESH};
 use model::faults::Fault;
-use model::gen::Ask;
+use model::gen::{Ask, Event};
 use model::pdu;
 use model::sheet::{self, Memory};
 
@@ -17,9 +17,10 @@ pub enum Play {
     Poke(usize, u8),
     Check,
     Fresh,
-    Found(Session),
-    Connect,
-    Disconnect,
+    /// The session of a connection, 0 or 1, as it is found.
+    Found(u8, Session),
+    Connect(u8),
+    Disconnect(u8),
     Button(bool),
     Request(Ask),
     Property(u8, u8),
@@ -36,6 +37,16 @@ fn run(out: &mut Vec<u8>, bytes: &[u8]) {
 }
 
 impl Play {
+    pub fn of(event: Event) -> Play {
+        match event {
+            Event::Connect(c) => Play::Connect(c),
+            Event::Disconnect(c) => Play::Disconnect(c),
+            Event::Button(on) => Play::Button(on),
+            Event::Found(c, session) => Play::Found(c, session),
+            Event::Request(ask) => Play::Request(ask),
+        }
+    }
+
     /// The command for the bridge.
     pub fn send(&self, out: &mut Vec<u8>) {
         match self {
@@ -51,13 +62,13 @@ impl Play {
             }
             Play::Check => out.push(b'k'),
             Play::Fresh => out.push(b'f'),
-            Play::Found(session) => out.extend([b'v', session.open as u8, session.level]),
-            Play::Connect => out.push(b'c'),
-            Play::Disconnect => out.push(b'd'),
+            Play::Found(c, session) => out.extend([b'v', *c, session.open as u8, session.level]),
+            Play::Connect(c) => out.extend([b'c', *c]),
+            Play::Disconnect(c) => out.extend([b'd', *c]),
             Play::Button(on) => out.extend([b'b', *on as u8]),
             Play::Request(ask) => {
-                out.extend([b'q', ask.mode]);
-                out.extend(ask.group.to_le_bytes());
+                out.extend([b'q', ask.way.mode, ask.way.connection]);
+                out.extend(ask.way.group.to_le_bytes());
                 run(out, &ask.apdu);
                 run(out, &ask.buffer);
             }
@@ -88,13 +99,14 @@ impl Play {
     pub fn line(&self, after: &[u8]) -> String {
         match self {
             Play::Sheet(_) | Play::Poke(..) | Play::Check => format!("sheet {}", hex(after)),
-            Play::Fresh => "# a fresh session".to_string(),
-            Play::Found(s) => format!("session {} {}", s.open as u8, s.level),
-            Play::Connect => "connect".to_string(),
-            Play::Disconnect => "disconnect".to_string(),
+            Play::Fresh => "# fresh sessions".to_string(),
+            Play::Found(c, s) => format!("session {c} {} {}", s.open as u8, s.level),
+            Play::Connect(c) => format!("connect {c}"),
+            Play::Disconnect(c) => format!("disconnect {c}"),
             Play::Button(on) => format!("button {}", if *on { "on" } else { "off" }),
             Play::Request(a) => {
-                format!("request {} {} {} {}", a.mode, a.group, hex(&a.apdu), hex(&a.buffer))
+                let Way { mode, connection, group } = a.way;
+                format!("request {mode} {group} {} {} {connection}", hex(&a.apdu), hex(&a.buffer))
             }
             Play::Property(object, id) => format!("lookup property {object} {id}"),
             Play::Region(Memory::Device, k) => format!("lookup region {k}"),
@@ -114,21 +126,17 @@ impl Play {
             Play::Sheet(_) | Play::Poke(..) | Play::Check => {
                 format!("rule {}, sheet hash {}", reply[0], tail(8))
             }
-            Play::Fresh | Play::Found(_) => format!("session {} {}", reply[0], reply[1]),
-            Play::Connect | Play::Disconnect | Play::Button(_) => format!(
-                "outcome {}, session {} {}, sheet hash {}",
-                reply[0],
-                reply[1],
-                reply[2],
-                tail(8)
-            ),
+            Play::Fresh | Play::Found(..) => format!("sessions {}", sessions(reply)),
+            Play::Connect(_) | Play::Disconnect(_) | Play::Button(_) => {
+                let sessions = sessions(&reply[1..]);
+                format!("outcome {}, sessions {sessions}, sheet hash {}", reply[0], tail(8))
+            }
             Play::Request(_) => format!(
-                "outcome {}, session {} {}, count {}, buffer {}, sheet hash {}",
+                "outcome {}, sessions {}, count {}, buffer {}, sheet hash {}",
                 reply[0],
-                reply[2],
-                reply[3],
+                sessions(&reply[2..]),
                 reply[1],
-                hex(&reply[4..reply.len() - 8]),
+                hex(&reply[REQUEST..reply.len() - 8]),
                 tail(8)
             ),
             Play::Property(..) | Play::Region(..) | Play::Group(_) => {
@@ -144,6 +152,15 @@ impl Play {
         }
     }
 }
+
+/// Open and level of both connections, as the desk unit has them.
+pub fn sessions(reply: &[u8]) -> String {
+    let [first, its, second, level] = reply[..4] else { unreachable!() };
+    format!("{first} {its} {second} {level}")
+}
+
+/// Where the buffer begins in the reply to a request: after outcome, count and both sessions.
+pub const REQUEST: usize = 2 + 4;
 
 /// The hash of the bridge: FNV-1a by words of eight bytes, with each word's
 /// upper half brought down.
@@ -161,17 +178,22 @@ pub fn hash(bytes: &[u8]) -> u64 {
     h
 }
 
-/// The model's side: a sheet, a session, and perhaps a fault.
+fn flat(sessions: &Sessions) -> [u8; 4] {
+    let [first, second] = sessions;
+    [first.open as u8, first.level, second.open as u8, second.level]
+}
+
+/// The model's side: a sheet, the sessions, and perhaps a fault.
 #[derive(Clone)]
 pub struct World {
     pub sheet: Vec<u8>,
-    pub session: Session,
+    pub sessions: Sessions,
     pub fault: Fault,
 }
 
 impl World {
     pub fn new(fault: Fault) -> World {
-        World { sheet: Vec::new(), session: Session::FRESH, fault }
+        World { sheet: Vec::new(), sessions: FRESH, fault }
     }
 
     /// Plays one command and adds the reply that the bridge must give.
@@ -187,19 +209,19 @@ impl World {
             }
             Play::Check => self.rule(reply),
             Play::Fresh => {
-                self.session = Session::FRESH;
-                self.session(reply);
+                self.sessions = FRESH;
+                self.sessions(reply);
             }
-            Play::Found(session) => {
-                self.session = *session;
-                self.session(reply);
+            Play::Found(c, session) => {
+                self.sessions[*c as usize] = *session;
+                self.sessions(reply);
             }
-            Play::Connect => {
-                let outcome = device::connect_with(self.fault, &mut self.session);
+            Play::Connect(c) => {
+                let outcome = device::connect_with(self.fault, &mut self.sessions, *c);
                 self.outcome(outcome, reply);
             }
-            Play::Disconnect => {
-                let outcome = device::disconnect(&mut self.session);
+            Play::Disconnect(c) => {
+                let outcome = device::disconnect_with(self.fault, &mut self.sessions, *c);
                 self.outcome(outcome, reply);
             }
             Play::Button(on) => {
@@ -207,18 +229,18 @@ impl World {
                 self.outcome(outcome, reply);
             }
             Play::Request(ask) => {
-                let at = reply.len();
-                reply.extend([0; 4]);
+                let (at, buffer) = (reply.len(), reply.len() + REQUEST);
+                reply.extend([0; REQUEST]);
                 reply.extend(&ask.buffer);
-                let (session, sheet) = (&mut self.session, &mut self.sheet);
-                let (head, answer) = reply[at..].split_at_mut(4);
-                let Ask { mode, group, apdu, .. } = ask;
+                let (q, sheet, answer) =
+                    (&mut self.sessions, &mut self.sheet, &mut reply[buffer..]);
                 let got = if self.fault == Fault::None {
-                    device::request(session, *mode, *group, apdu, sheet, answer)
+                    device::request(q, ask.way, &ask.apdu, sheet, answer)
                 } else {
-                    device::request_with(self.fault, session, *mode, *group, apdu, sheet, answer)
+                    device::request_with(self.fault, q, ask.way, &ask.apdu, sheet, answer)
                 };
-                head.copy_from_slice(&[got.outcome, got.count, session.open as u8, session.level]);
+                reply[at..at + 2].copy_from_slice(&[got.outcome, got.count]);
+                reply[at + 2..buffer].copy_from_slice(&flat(&self.sessions));
                 self.hash(reply);
             }
             Play::Property(object, id) => {
@@ -261,8 +283,8 @@ impl World {
         reply.extend(hash(&self.sheet).to_le_bytes());
     }
 
-    fn session(&self, reply: &mut Vec<u8>) {
-        reply.extend([self.session.open as u8, self.session.level]);
+    fn sessions(&self, reply: &mut Vec<u8>) {
+        reply.extend(flat(&self.sessions));
     }
 
     fn rule(&self, reply: &mut Vec<u8>) {
@@ -272,7 +294,7 @@ impl World {
 
     fn outcome(&self, outcome: u8, reply: &mut Vec<u8>) {
         reply.push(outcome);
-        self.session(reply);
+        self.sessions(reply);
         self.hash(reply);
     }
 

@@ -1,12 +1,12 @@
 //! A script of the desk unit, played on a bridge: each answer is held to the
 //! line that the unit must give.
 
-use model::device::Session;
+use model::device::{Session, Way};
 use model::faults::Fault;
 use model::gen::Ask;
 use model::sheet::{Memory, SAMPLE};
 
-use crate::play::{Play, World};
+use crate::play::{sessions, Play, World, REQUEST};
 use crate::{hex, Bridge};
 
 fn bytes(word: &str) -> Option<Vec<u8>> {
@@ -22,15 +22,18 @@ fn command(line: &str) -> Option<Play> {
     let words: Vec<&str> = line.split_whitespace().collect();
     Some(match words[..] {
         ["sheet", sheet] => Play::Sheet(bytes(sheet)?),
-        ["session", open, level] => {
-            Play::Found(Session { open: open == "1", level: level.parse().ok()? })
+        ["session", c, open, level] => {
+            Play::Found(c.parse().ok()?, Session { open: open == "1", level: level.parse().ok()? })
         }
-        ["connect"] => Play::Connect,
-        ["disconnect"] => Play::Disconnect,
+        ["connect", c] => Play::Connect(c.parse().ok()?),
+        ["disconnect", c] => Play::Disconnect(c.parse().ok()?),
         ["button", way] => Play::Button(way == "on"),
-        ["request", mode, group, apdu, buffer] => Play::Request(Ask {
-            mode: mode.parse().ok()?,
-            group: group.parse().ok()?,
+        ["request", mode, group, apdu, buffer, c] => Play::Request(Ask {
+            way: Way {
+                mode: mode.parse().ok()?,
+                connection: c.parse().ok()?,
+                group: group.parse().ok()?,
+            },
             apdu: bytes(apdu)?,
             buffer: bytes(buffer)?,
         }),
@@ -49,11 +52,14 @@ fn said(play: &Play, reply: &[u8], sheet: &[u8]) -> String {
     match play {
         Play::Sheet(_) if reply[0] == 0 => "OK".to_string(),
         Play::Sheet(_) => format!("S{}", reply[0]),
-        Play::Fresh | Play::Found(_) => format!("session {} {}", reply[0], reply[1]),
+        Play::Fresh => String::new(),
+        Play::Found(c, _) => {
+            let own = &reply[2 * *c as usize..];
+            format!("session {c} {} {}", own[0], own[1])
+        }
         Play::Request(_) => {
-            let buffer = &reply[4..reply.len() - 8];
-            let [outcome, count, open, level] = reply[..4] else { unreachable!() };
-            format!("{outcome} {open} {level} {count} {} {}", hex(buffer), hex(sheet))
+            let (buffer, after) = (&reply[REQUEST..reply.len() - 8], sessions(&reply[2..]));
+            format!("{} {after} {} {} {}", reply[0], reply[1], hex(buffer), hex(sheet))
         }
         Play::Property(..) | Play::Region(..) | Play::Group(_) => {
             let number =
@@ -61,7 +67,7 @@ fn said(play: &Play, reply: &[u8], sheet: &[u8]) -> String {
             let (offset, length) = (number(0), number(8));
             sheet.get(offset..offset + length).map_or("outside the sheet".to_string(), hex)
         }
-        _ => format!("{} {} {} 0 - {}", reply[0], reply[1], reply[2], hex(sheet)),
+        _ => format!("{} {} 0 - {}", reply[0], sessions(&reply[1..]), hex(sheet)),
     }
 }
 

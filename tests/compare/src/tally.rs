@@ -18,7 +18,9 @@ pub struct Tally {
     writes: Vec<Counts>,
     /// Without and with a part.
     lookups: [u64; 2],
-    /// Connect, disconnect, button, and sessions as found or fresh.
+    /// Connect and disconnect, by outcome.
+    named: [Counts; 2],
+    /// The button, and sessions as found or fresh.
     others: u64,
     /// The hashes of the blocks of replies so far, in one.
     pub blocks: u64,
@@ -61,7 +63,7 @@ impl Tally {
             Play::Request(ask) => {
                 let requests = &mut self.requests[rules as usize];
                 requests.resize(ROWS.len(), [[0; 256]; 5]);
-                let (row, column) = (matrix::row(&ask.apdu), matrix::column(ask.mode));
+                let (row, column) = (matrix::row(&ask.apdu), matrix::column(ask.way.mode));
                 requests[row][column][reply[0] as usize] += 1;
             }
             Play::Property(..) | Play::Region(..) | Play::Group(_) => {
@@ -78,6 +80,8 @@ impl Tally {
                 let kind = KINDS.len().min(flat.kind as usize);
                 self.writes[kind].0[reply[0] as usize] += 1;
             }
+            Play::Connect(_) => self.named[0].0[reply[0] as usize] += 1,
+            Play::Disconnect(_) => self.named[1].0[reply[0] as usize] += 1,
             _ => self.others += 1,
         }
     }
@@ -92,7 +96,7 @@ impl Tally {
         format!(
             "{} requests, {} other calls, {} sheets ({} accepted), {} lookups, {} PDUs read, {} written{rarest}",
             self.requests.iter().flatten().flatten().flatten().sum::<u64>(),
-            self.others,
+            self.others + self.named.iter().map(Counts::sum).sum::<u64>(),
             self.rules.sum(),
             self.rules.0[0],
             self.lookups.iter().sum::<u64>(),
@@ -129,6 +133,10 @@ impl Tally {
         let mut complaints = Vec::new();
         for (what, seen, can) in self.cells() {
             Counts(*seen).judge(&what, &can, must, &mut complaints);
+        }
+        for (what, seen) in ["connect", "disconnect"].iter().zip(&self.named) {
+            let can: Vec<usize> = (0..16).filter(|k| matrix::NAMED >> k & 1 != 0).collect();
+            seen.judge(&format!("outcome of {what}"), &can, must, &mut complaints);
         }
         let rules: Vec<usize> = (0..=9).collect();
         let kinds: Vec<usize> = (0..KINDS.len()).collect();

@@ -15,12 +15,12 @@ const TIMES: u32 = 1000;
 fn measure(bridge: &mut Bridge, bench: &Bench, ask: &Ask) -> Option<f64> {
     let mut wire = Vec::new();
     Play::Sheet(bench.sheet.clone()).send(&mut wire);
-    Play::Found(SESSION).send(&mut wire);
+    Play::Found(0, SESSION).send(&mut wire);
     let request = matches!(ask, Ask::Request { .. });
     wire.push(if request { b't' } else { b'T' });
     wire.extend(TIMES.to_le_bytes());
     if let Ask::Request { mode, apdu } = ask {
-        wire.push(*mode);
+        wire.extend([*mode, 0]);
         wire.extend(bench.group.to_le_bytes());
         wire.extend((apdu.len() as u16).to_le_bytes());
         wire.extend(apdu);
@@ -28,8 +28,8 @@ fn measure(bridge: &mut Bridge, bench: &Bench, ask: &Ask) -> Option<f64> {
         wire.extend([0; 16]);
     }
     bridge.send(wire);
-    let got = bridge.receive(9 + 2 + 8);
-    let taken = got.get(11..).and_then(|b| b.try_into().ok()).map(u64::from_le_bytes)?;
+    let got = bridge.receive(9 + 4 + 8);
+    let taken = got.get(9 + 4..).and_then(|b| b.try_into().ok()).map(u64::from_le_bytes)?;
     Some(taken as f64 / TIMES as f64)
 }
 

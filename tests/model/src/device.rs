@@ -11,7 +11,28 @@ pub struct Session {
 }
 
 impl Session {
-    pub const FRESH: Session = Session { open: false, level: 3 };
+    pub const CLOSED: Session = Session { open: false, level: 3 };
+    pub const OPEN: Session = Session { open: true, level: 3 };
+}
+
+/// The sessions of connections 0 and 1; there is no other connection.
+pub type Sessions = [Session; 2];
+
+pub const FRESH: Sessions = [Session::CLOSED; 2];
+
+/// How a request came. The connection counts in mode 3 alone, the group address in mode 0.
+#[derive(Clone, Copy, Debug)]
+pub struct Way {
+    pub mode: u8,
+    pub connection: u8,
+    pub group: u16,
+}
+
+impl Way {
+    /// On a connection.
+    pub fn on(connection: u8) -> Way {
+        Way { mode: 3, connection, group: 0 }
+    }
 }
 
 /// The outcome and how many bytes of the answer buffer were filled.
@@ -21,18 +42,34 @@ pub struct Reply {
     pub count: u8,
 }
 
-pub fn connect(session: &mut Session) -> u8 {
-    connect_with(Fault::None, session)
+pub fn connect(sessions: &mut Sessions, connection: u8) -> u8 {
+    connect_with(Fault::None, sessions, connection)
 }
 
-pub fn connect_with(fault: Fault, session: &mut Session) -> u8 {
+pub fn connect_with(fault: Fault, sessions: &mut Sessions, connection: u8) -> u8 {
+    let Some(session) = sessions.get_mut(connection as usize) else {
+        return if fault == Fault::UnknownConnects { 1 } else { 7 };
+    };
     let level = if fault == Fault::ConnectKeepsLevel { session.level } else { 3 };
     *session = Session { open: true, level };
+    if fault == Fault::ConnectResetsBoth {
+        sessions.iter_mut().for_each(|s| s.level = 3);
+    }
     1
 }
 
-pub fn disconnect(session: &mut Session) -> u8 {
-    *session = Session::FRESH;
+pub fn disconnect(sessions: &mut Sessions, connection: u8) -> u8 {
+    disconnect_with(Fault::None, sessions, connection)
+}
+
+pub fn disconnect_with(fault: Fault, sessions: &mut Sessions, connection: u8) -> u8 {
+    let Some(session) = sessions.get_mut(connection as usize) else {
+        return 7;
+    };
+    *session = Session::CLOSED;
+    if fault == Fault::DisconnectEndsBoth {
+        *sessions = FRESH;
+    }
     1
 }
 
@@ -49,26 +86,24 @@ pub fn button(sheet: &mut [u8], on: bool) -> u8 {
 }
 
 pub fn request(
-    session: &mut Session,
-    mode: u8,
-    group: u16,
+    sessions: &mut Sessions,
+    way: Way,
     apdu: &[u8],
     sheet: &mut [u8],
     answer: &mut [u8],
 ) -> Reply {
-    step(Faults::<false>(Fault::None), session, mode, group, apdu, sheet, answer)
+    step(Faults::<false>(Fault::None), sessions, way, apdu, sheet, answer)
 }
 
 pub fn request_with(
     fault: Fault,
-    session: &mut Session,
-    mode: u8,
-    group: u16,
+    sessions: &mut Sessions,
+    way: Way,
     apdu: &[u8],
     sheet: &mut [u8],
     answer: &mut [u8],
 ) -> Reply {
-    step(Faults::<true>(fault), session, mode, group, apdu, sheet, answer)
+    step(Faults::<true>(fault), sessions, way, apdu, sheet, answer)
 }
 
 /// The modes a code is served in by these rules, bit m for mode m; no bit if unknown.
@@ -282,13 +317,13 @@ fn elements<const ON: bool>(
 
 fn step<const ON: bool>(
     faults: Faults<ON>,
-    session: &mut Session,
-    mode: u8,
-    group: u16,
+    sessions: &mut Sessions,
+    way: Way,
     apdu: &[u8],
     sheet: &mut [u8],
     answer: &mut [u8],
 ) -> Reply {
+    let Way { mode, connection, group } = way;
     if answer.len() < 16 {
         return silent(3);
     }
@@ -301,9 +336,20 @@ fn step<const ON: bool>(
     if mode > 3 {
         return silent(6);
     }
-    if mode == 3 && !session.open {
-        return silent(7);
-    }
+    // outside mode 3 the number of the connection is not read
+    let last = if faults.is(Fault::UnknownTakenForSecond) { 1 } else { u8::MAX };
+    let own = connection.min(last) as usize;
+    let level = match (mode, sessions.get(own)) {
+        (3, Some(session)) if session.open => session.level.min(3),
+        (3, _) => return silent(7),
+        (_, None) if faults.is(Fault::NumberAlwaysRead) => return silent(7),
+        _ => 3,
+    };
+    let level = if mode == 3 && faults.is(Fault::BetterLevelCounts) {
+        sessions.iter().filter(|s| s.open).map(|s| s.level).fold(level, u8::min)
+    } else {
+        level
+    };
     let rules = if faults.is(Fault::AlwaysLater) { LATER } else { sheet::rules(sheet) };
     let modes = modes(rules, pdu::code(apdu));
     if modes == 0 {
@@ -316,7 +362,6 @@ fn step<const ON: bool>(
         Ok((pdu, range)) => (pdu, &apdu[range]),
         Err(outcome) => return silent(outcome),
     };
-    let level = if mode == 3 { session.level.min(3) } else { 3 };
     let store_first = faults.is(Fault::StoreFirst);
 
     match pdu {
@@ -505,7 +550,10 @@ fn step<const ON: bool>(
                 None if faults.is(Fault::WrongKeyKeepsLevel) => level,
                 None => 3,
             };
-            session.level = level;
+            sessions[own].level = level;
+            if faults.is(Fault::OneLevel) || level == 3 && faults.is(Fault::WrongKeyLowersBoth) {
+                sessions.iter_mut().for_each(|s| s.level = level);
+            }
             reply(0, Pdu::AuthorizeResponse { level }, &[], answer)
         }
         Pdu::KeyWrite { level: named, key } => {
@@ -522,8 +570,10 @@ fn step<const ON: bool>(
             }
         }
         Pdu::Restart => {
-            if mode == 3 || !faults.is(Fault::RestartLeavesSession) {
-                *session = Session::FRESH;
+            if mode == 3 && faults.is(Fault::RestartLeavesOther) {
+                sessions[own] = Session::CLOSED;
+            } else if mode == 3 || !faults.is(Fault::RestartLeavesSession) {
+                *sessions = FRESH;
             }
             sheet[FLAGS] &= !PROGRAMMING;
             silent(1)

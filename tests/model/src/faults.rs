@@ -31,7 +31,7 @@ pub enum Fault {
     UserFromDeviceMemory,
     /// A read of user memory goes by the four low bits of n alone, as if the others extended the address.
     ExtensionIgnored,
-    /// A connectionless restart leaves the open session as it is.
+    /// A connectionless restart leaves the open sessions as they are.
     RestartLeavesSession,
     /// A descriptor type that the device has not is repeated in the answer.
     RepeatsType,
@@ -51,10 +51,28 @@ pub enum Fault {
     WrapsAtTheTop,
     /// A memory write that is denied stores the bytes that are permitted.
     StoresPermittedBytes,
+    /// A restart on a connection leaves the other as it is.
+    RestartLeavesOther,
+    /// Both connections have one level, that of the key offered last.
+    OneLevel,
+    /// A connect puts both connections to level 3.
+    ConnectResetsBoth,
+    /// A disconnect closes both connections.
+    DisconnectEndsBoth,
+    /// A wrong key takes its rights from the other connection too.
+    WrongKeyLowersBoth,
+    /// A request has the level of the other connection if that is better.
+    BetterLevelCounts,
+    /// A number that is no connection's is taken for connection 1 in a request.
+    UnknownTakenForSecond,
+    /// A connect with a number that is no connection's gives 1.
+    UnknownConnects,
+    /// A number that is no connection's is refused in every mode.
+    NumberAlwaysRead,
 }
 
 impl Fault {
-    pub const ALL: [Fault; 24] = [
+    pub const ALL: [Fault; 33] = [
         Fault::StoreFirst,
         Fault::LevelsReversed,
         Fault::WrongKeyKeepsLevel,
@@ -79,6 +97,24 @@ impl Fault {
         Fault::RunsIntoUserMemory,
         Fault::WrapsAtTheTop,
         Fault::StoresPermittedBytes,
+        Fault::RestartLeavesOther,
+        Fault::OneLevel,
+        Fault::ConnectResetsBoth,
+        Fault::DisconnectEndsBoth,
+        Fault::WrongKeyLowersBoth,
+        Fault::BetterLevelCounts,
+        Fault::UnknownTakenForSecond,
+        Fault::UnknownConnects,
+        Fault::NumberAlwaysRead,
+    ];
+
+    /// Those by which one tool meets what the other did, though that changed no byte and was no restart.
+    pub const MIXING: [Fault; 5] = [
+        Fault::OneLevel,
+        Fault::ConnectResetsBoth,
+        Fault::DisconnectEndsBoth,
+        Fault::WrongKeyLowersBoth,
+        Fault::BetterLevelCounts,
     ];
 }
 

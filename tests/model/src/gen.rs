@@ -2,7 +2,7 @@
 
 use std::collections::BTreeSet;
 
-use crate::device::Session;
+use crate::device::{Session, Sessions, Way};
 use crate::matrix;
 use crate::pdu::Pdu;
 use crate::sheet::{self, Memory, HEAD, KEYS, LATER, LONGEST, RULES, SERIAL, USERS};
@@ -387,20 +387,28 @@ pub fn any_sheet(rng: &mut Rng) -> Vec<u8> {
 /// A request with the answer buffer as the device finds it.
 #[derive(Clone, Debug)]
 pub struct Ask {
-    pub mode: u8,
-    pub group: u16,
+    pub way: Way,
     pub apdu: Vec<u8>,
     pub buffer: Vec<u8>,
 }
 
 #[derive(Clone, Debug)]
 pub enum Event {
-    Connect,
-    Disconnect,
+    Connect(u8),
+    Disconnect(u8),
     Button(bool),
-    /// The session is put into this state from outside.
-    Found(Session),
+    /// The session of a connection, 0 or 1, is put into this state from outside.
+    Found(u8, Session),
     Request(Ask),
+}
+
+/// The number of a connection, sometimes of none.
+pub fn connection(rng: &mut Rng) -> u8 {
+    match rng.below(30) {
+        0 => rng.pick(&[2, 3, 127, 128, 254, 255]),
+        1 => rng.byte(),
+        _ => rng.below(2) as u8,
+    }
 }
 
 pub fn session(rng: &mut Rng) -> Session {
@@ -410,11 +418,11 @@ pub fn session(rng: &mut Rng) -> Session {
 
 pub fn event(rng: &mut Rng, sheet: &[u8]) -> Event {
     match rng.below(100) {
-        0 | 1 => Event::Connect,
-        2 => Event::Disconnect,
+        0 | 1 => Event::Connect(connection(rng)),
+        2 => Event::Disconnect(connection(rng)),
         3 => Event::Button(true),
         4 => Event::Button(false),
-        5..=14 => Event::Found(session(rng)),
+        5..=16 => Event::Found(rng.below(2) as u8, session(rng)),
         _ => Event::Request(ask(rng, sheet)),
     }
 }
@@ -748,7 +756,85 @@ pub fn ask(rng: &mut Rng, sheet: &[u8]) -> Ask {
     };
     let room = if rng.chance(7) { rng.below(16) } else { rng.within(16, 20) };
     let group = if mode != 0 && rng.chance(50) { 0 } else { group };
-    Ask { mode, group, apdu, buffer: rng.bytes(room) }
+    let way = Way { mode, connection: connection(rng), group };
+    Ask { way, apdu, buffer: rng.bytes(room) }
+}
+
+// ---- two tools ----
+
+/// Two installers with a connection each, who go by the keys that they know and
+/// change them behind each other's backs.
+pub struct Tools {
+    known: [[[u8; 4]; 3]; 2],
+}
+
+impl Tools {
+    /// Both know the keys of the sheet.
+    pub fn new(sheet: &[u8]) -> Tools {
+        Tools { known: [keys_of(sheet); 2] }
+    }
+
+    /// An event of one of them.
+    pub fn event(&mut self, rng: &mut Rng, sheet: &[u8], sessions: &Sessions) -> Event {
+        let tool = rng.below(2);
+        self.event_of(tool, rng, sheet, sessions[tool])
+    }
+
+    /// An event of the tool with this connection.
+    pub fn event_of(&mut self, tool: usize, rng: &mut Rng, sheet: &[u8], own: Session) -> Event {
+        let connection = tool as u8;
+        if !own.open && rng.chance(85) {
+            return Event::Connect(connection);
+        }
+        let level = rng.below(3);
+        let known = &mut self.known[tool];
+        match rng.below(100) {
+            0 => Event::Connect(connection),
+            1 => Event::Disconnect(connection),
+            2 => Event::Button(rng.chance(50)),
+            // told by somebody what the keys are now
+            3..=6 => {
+                *known = keys_of(sheet);
+                Event::Request(on(rng, connection, offer(known[level])))
+            }
+            // by what it knows, which may be a key no more
+            7..=26 => Event::Request(on(rng, connection, offer(known[level]))),
+            27..=38 => {
+                let key = match rng.below(4) {
+                    0 => rng.pick(known),
+                    1 => [0xFF; 4],
+                    _ => rng.array(),
+                };
+                known[level] = key;
+                let write = [&[0x03, 0xD3, level as u8][..], &key].concat();
+                Event::Request(on(rng, connection, write))
+            }
+            39 => Event::Request(on(rng, connection, vec![0x03, 0x80])),
+            _ => {
+                let mut ask = ask(rng, sheet);
+                while matrix::row(&ask.apdu) == 16 {
+                    ask = self::ask(rng, sheet);
+                }
+                if rng.chance(97) {
+                    ask.way.connection = connection;
+                }
+                Event::Request(ask)
+            }
+        }
+    }
+}
+
+fn keys_of(sheet: &[u8]) -> [[u8; 4]; 3] {
+    std::array::from_fn(|k| sheet[KEYS + 4 * k..][..4].try_into().unwrap())
+}
+
+fn offer(key: [u8; 4]) -> Vec<u8> {
+    [&[0x03, 0xD1, 0][..], &key].concat()
+}
+
+/// A request on a connection.
+fn on(rng: &mut Rng, connection: u8, apdu: Vec<u8>) -> Ask {
+    Ask { way: Way::on(connection), apdu, buffer: rng.bytes(16) }
 }
 
 // ---- PDUs ----

@@ -5,12 +5,12 @@
 //! ten-bit code alone, whatever its length, mode or fields; a code the device
 //! does not serve, a tool's answer included, is "unknown code".
 //!
-//! A cell holds the outcomes that some sheet of these rules, session, group address and
-//! answer buffer can bring about. Short buffers (3) and bad sheets (4) come
-//! first and so stand in every cell. A bad length (5) hides the mode; a mode
-//! above 3 (6) hides the session and the service; a closed session (7) is
-//! seen in mode 3 alone. 13 never comes from a request. A sheet that is not
-//! accepted counts by `sheet::rules` too.
+//! A cell holds the outcomes that some sheet of these rules, sessions, connection,
+//! group address and answer buffer can bring about. Short buffers (3) and bad
+//! sheets (4) come first and so stand in every cell. A bad length (5) hides the
+//! mode; a mode above 3 (6) hides the connection and the service; a connection
+//! that is closed, or that there is not (7), is seen in mode 3 alone. 13 never
+//! comes from a request. A sheet that is not accepted counts by `sheet::rules` too.
 
 use crate::sheet::LATER;
 
@@ -123,6 +123,9 @@ pub fn row(apdu: &[u8]) -> usize {
 pub fn column(mode: u8) -> usize {
     mode.min(4) as usize
 }
+
+/// The outcomes of a connect and of a disconnect: carried out, or there is no such connection.
+pub const NAMED: Outcomes = set(&[1, 7]);
 
 /// The outcomes that can follow from this APDU's service in this mode.
 pub fn can(rules: u8, apdu: &[u8], mode: u8) -> Outcomes {

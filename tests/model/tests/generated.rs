@@ -2,7 +2,7 @@
 
 use std::collections::BTreeSet;
 
-use model::device::{button, connect_with, disconnect, request_with, Reply, Session};
+use model::device::{button, connect_with, disconnect_with, request_with, Reply, Sessions};
 use model::faults::Fault;
 use model::gen::{self, Event, Rng};
 use model::matrix::{self, ROWS};
@@ -64,7 +64,7 @@ fn damaged_sheets_break_every_rule() {
 #[derive(Clone, PartialEq, Debug)]
 struct State {
     sheet: Vec<u8>,
-    session: Session,
+    sessions: Sessions,
     buffer: Vec<u8>,
     reply: Reply,
 }
@@ -76,26 +76,26 @@ impl State {
             gen::damage(rng, &mut sheet);
         }
         let reply = Reply { outcome: 1, count: 0 };
-        State { sheet, session: gen::session(rng), buffer: Vec::new(), reply }
+        let sessions = [gen::session(rng), gen::session(rng)];
+        State { sheet, sessions, buffer: Vec::new(), reply }
     }
 
     fn step(&mut self, fault: Fault, event: &Event) {
         let done = |outcome| Reply { outcome, count: 0 };
         self.reply = match event {
-            Event::Connect => done(connect_with(fault, &mut self.session)),
-            Event::Disconnect => done(disconnect(&mut self.session)),
+            Event::Connect(c) => done(connect_with(fault, &mut self.sessions, *c)),
+            Event::Disconnect(c) => done(disconnect_with(fault, &mut self.sessions, *c)),
             Event::Button(on) => done(button(&mut self.sheet, *on)),
-            Event::Found(session) => {
-                self.session = *session;
+            Event::Found(c, session) => {
+                self.sessions[*c as usize] = *session;
                 done(1)
             }
             Event::Request(ask) => {
                 self.buffer.clone_from(&ask.buffer);
                 request_with(
                     fault,
-                    &mut self.session,
-                    ask.mode,
-                    ask.group,
+                    &mut self.sessions,
+                    ask.way,
                     &ask.apdu,
                     &mut self.sheet,
                     &mut self.buffer,
@@ -119,9 +119,9 @@ fn every_outcome_that_can_occur_does_and_no_other() {
                 continue;
             };
             let Reply { outcome, count } = state.reply;
-            let (row, column) = (matrix::row(&ask.apdu), matrix::column(ask.mode));
+            let (row, column) = (matrix::row(&ask.apdu), matrix::column(ask.way.mode));
             let rules = sheet::rules(&before.sheet);
-            let can = matrix::can(rules, &ask.apdu, ask.mode);
+            let can = matrix::can(rules, &ask.apdu, ask.way.mode);
             assert!(can >> outcome & 1 == 1, "{event:?} {outcome}");
             seen[rules as usize][row][column] |= 1 << outcome;
 
@@ -130,11 +130,15 @@ fn every_outcome_that_can_occur_does_and_no_other() {
             assert_eq!(count > 0, matches!(outcome, 0 | 11), "{event:?}");
             if !matches!(outcome, 0 | 1) {
                 assert_eq!(state.sheet, before.sheet, "{event:?}");
-                assert_eq!(state.session, before.session, "{event:?}");
+                assert_eq!(state.sessions, before.sessions, "{event:?}");
             }
             // how a host sees a Restart, by kelindap.h
-            if ask.mode >= 2 && outcome == 1 {
-                assert_eq!(!state.session.open, row == 16, "{event:?}");
+            let restarted = row == 16 && outcome == 1;
+            for (before, after) in before.sessions.iter().zip(state.sessions) {
+                assert_eq!(before.open && !after.open, before.open && restarted, "{event:?}");
+            }
+            if ask.way.mode == 2 {
+                assert_eq!(outcome == 1, restarted, "{event:?}");
             }
             if outcome != 4 && outcome != 3 {
                 assert_eq!(sheet::check(&state.sheet), 0, "{event:?}");
@@ -150,6 +154,72 @@ fn every_outcome_that_can_occur_does_and_no_other() {
             assert_eq!(can, *seen, "{name}, rules {rules}: {can:?} {seen:?}");
         }
     }
+}
+
+/// Connects and disconnects give 1, or 7 where there is no such connection, which changes nothing.
+#[test]
+fn connections_there_are_not() {
+    let mut rng = Rng::new(8);
+    let mut seen = [[0; 2]; 2];
+    for _ in 0..200_000 {
+        let mut state = State::new(&mut rng);
+        let event = gen::event(&mut rng, &state.sheet);
+        let before = state.clone();
+        let (which, c) = match event {
+            Event::Connect(c) => (0, c),
+            Event::Disconnect(c) => (1, c),
+            _ => continue,
+        };
+        state.step(Fault::None, &event);
+        assert_eq!(state.sheet, before.sheet);
+        assert!(matrix::NAMED >> state.reply.outcome & 1 == 1);
+        assert_eq!(state.reply.outcome == 7, c > 1);
+        for (k, (after, before)) in (0..).zip(state.sessions.iter().zip(&before.sessions)) {
+            assert!(k == c || after == before, "{event:?}");
+        }
+        seen[which][usize::from(c > 1)] += 1;
+    }
+    assert!(seen.iter().flatten().all(|&n| n > 50), "{seen:?}");
+}
+
+/// What the two installers come to: different rights at once, keys that the other changed and
+/// that open nothing any more, and restarts that end what the other had.
+#[test]
+fn two_tools_get_in_each_others_way() {
+    let mut rng = Rng::new(9);
+    let (mut apart, mut stale, mut ended) = (0, [0; 2], [0; 2]);
+    for _ in 0..200 {
+        let mut state = State::new(&mut rng);
+        if sheet::check(&state.sheet) != 0 {
+            continue;
+        }
+        let mut tools = gen::Tools::new(&state.sheet);
+        // the key by which each got its level
+        let mut key = [None; 2];
+        for _ in 0..300 {
+            let event = tools.event(&mut rng, &state.sheet, &state.sessions);
+            let before = state.sessions;
+            state.step(Fault::None, &event);
+            let [first, second] = state.sessions;
+            apart += usize::from(first.open && second.open && first.level != second.level);
+            let Event::Request(ask) = &event else { continue };
+            let (tool, other) =
+                (ask.way.connection as usize, 1 - ask.way.connection.min(1) as usize);
+            match pdu::read(&ask.apdu) {
+                Ok((Pdu::AuthorizeRequest { key: offered }, _)) if state.reply.outcome == 0 => {
+                    let level = state.sessions[tool].level;
+                    stale[tool] += usize::from(level == 3 && key[tool] == Some(offered));
+                    key[tool] = Some(offered).filter(|_| level < 3);
+                }
+                Ok((Pdu::Restart, _)) if state.reply.outcome == 1 && ask.way.mode == 3 => {
+                    ended[tool] += usize::from(before[other].open);
+                }
+                _ => {}
+            }
+        }
+    }
+    println!("{apart} {stale:?} {ended:?}");
+    assert!(apart > 10_000 && stale.iter().chain(&ended).all(|&n| n > 50));
 }
 
 /// What the rules differ in: the code of Restart in mode 2, whatever the length,
@@ -169,7 +239,7 @@ fn the_rules_differ_in_two_services() {
             first.step(Fault::None, &event);
             later.step(Fault::None, &event);
             let apart = match &event {
-                Event::Request(ask) if ask.mode == 2 && matrix::row(&ask.apdu) == 16 => Some(0),
+                Event::Request(ask) if ask.way.mode == 2 && matrix::row(&ask.apdu) == 16 => Some(0),
                 Event::Request(ask) => match pdu::read(&ask.apdu) {
                     Ok((Pdu::DescriptorRead { t: 1.. }, _)) => Some(1),
                     _ => None,

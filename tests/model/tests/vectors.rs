@@ -1,6 +1,6 @@
 //! Fixed cases: those of tests/vectors, the marked ones among them, further ones, and the PDU layouts.
 
-use model::device::{button, connect, disconnect, request, Reply, Session};
+use model::device::{button, connect, disconnect, request, Reply, Session, Sessions, Way, FRESH};
 use model::gen::{any_sheet, Rng};
 use model::pdu::{self, Pdu};
 use model::sheet::{self, touching, Memory, PUMP, SAMPLE};
@@ -16,8 +16,11 @@ struct After {
     reply: Reply,
     answer: Vec<u8>,
     sheet: Vec<u8>,
-    session: Session,
+    sessions: Sessions,
 }
+
+/// What the fixed cases find on connection 1, while they use connection 0.
+const OTHER: Session = Session { open: true, level: 1 };
 
 /// `at`: "L1" is mode 3 at level 1, "M2" mode 2 (group 0801h), "closed" mode
 /// 3 without connection, "B1" mode 1 after the button, "V1" as L1 without
@@ -42,11 +45,12 @@ fn run(at: &str, apdu: &str) -> After {
         }
         _ => panic!("{at}"),
     }
+    let (mut sessions, way) = ([session, OTHER], Way { mode, connection: 0, group });
     let mut buffer = [0x5A; 20];
-    let reply = request(&mut session, mode, group, &hex(apdu), &mut sheet, &mut buffer);
+    let reply = request(&mut sessions, way, &hex(apdu), &mut sheet, &mut buffer);
     let (answer, rest) = buffer.split_at(reply.count as usize);
     assert!(rest.iter().all(|&b| b == 0x5A), "{at} {apdu}: wrote past the answer");
-    After { reply, answer: answer.to_vec(), sheet, session }
+    After { reply, answer: answer.to_vec(), sheet, sessions }
 }
 
 fn expect(cases: &[(&str, &str, &str, u8)]) {
@@ -88,7 +92,7 @@ fn play_rows(rows: &str, from: &[u8]) -> usize {
         let mut sheet = from.to_vec();
         sheet[14] = (named(at, "button") + 2 * named(at, "verify")) as u8;
         sheet[30] = found(at, "rules").unwrap_or(0) as u8;
-        let mut session = Session { open: named(at, "open") == 1, level: named(at, "level") as u8 };
+        let session = Session { open: named(at, "open") == 1, level: named(at, "level") as u8 };
         let (mut after, mut stored) = (session, sheet.clone());
         for pair in change.split(' ').filter(|&pair| pair != "-") {
             let (name, value) = pair.split_once('=').unwrap();
@@ -104,17 +108,16 @@ fn play_rows(rows: &str, from: &[u8]) -> usize {
         }
         let mut buffer = [0x5A; 20];
         let mode = named(at, "mode") as u8;
-        let reply =
-            request(&mut session, mode, named(at, "group"), &hex(apdu), &mut sheet, &mut buffer);
+        let (mut sessions, group) = ([session, OTHER], named(at, "group"));
+        let way = Way { mode, connection: 0, group };
+        let reply = request(&mut sessions, way, &hex(apdu), &mut sheet, &mut buffer);
+        let restarts = outcome == "1" && pdu::code(&hex(apdu)) == 0x380;
+        let other = if restarts { Session::CLOSED } else { OTHER };
         let due = hex(answer.trim_matches('-'));
         assert_eq!(reply.outcome.to_string(), outcome, "{row}");
         assert_eq!(&buffer[..reply.count as usize], due, "{row}");
         assert!(buffer[due.len()..].iter().all(|&b| b == 0x5A), "{row}: wrote past the answer");
-        assert_eq!(
-            (session.open, session.level, sheet),
-            (after.open, after.level, stored),
-            "{row}"
-        );
+        assert_eq!((sessions, sheet), ([after, other], stored), "{row}");
     }
     marked
 }
@@ -158,10 +161,10 @@ fn ranges_byte_by_byte() {
                 answer[1] += n as u8;
                 answer.extend(bytes.iter().map(|b| b.1));
             }
-            let mut session = Session { open: true, level };
+            let mut sessions = [Session { open: true, level }, OTHER];
             let (mut after, mut buffer) = (sheet.clone(), [0; 16]);
             let apdu = [0x02, n as u8, high, low];
-            let reply = request(&mut session, 3, 0, &apdu, &mut after, &mut buffer);
+            let reply = request(&mut sessions, Way::on(0), &apdu, &mut after, &mut buffer);
             assert_eq!(&buffer[..reply.count as usize], answer, "{address:04x} {n} {level}");
             assert_eq!((reply.outcome == 0, &after), (due.is_some(), &sheet));
 
@@ -171,7 +174,7 @@ fn ranges_byte_by_byte() {
             let due = range.as_ref().filter(|bytes| bytes.iter().all(|b| level <= b.3));
             let data = vec![0x5A; n as usize];
             let apdu = [&[0x02, 0x80 + n as u8, high, low][..], &data].concat();
-            let reply = request(&mut session, 3, 0, &apdu, &mut after, &mut buffer);
+            let reply = request(&mut sessions, Way::on(0), &apdu, &mut after, &mut buffer);
             assert_eq!(reply.outcome == 0, due.is_some(), "{address:04x} {n} {level}");
             let changed = after.iter().zip(&sheet).filter(|(new, old)| new != old).count();
             assert_eq!(changed, due.map_or(0, |bytes| bytes.len()), "{address:04x} {n} {level}");
@@ -297,38 +300,117 @@ fn bit_table() {
 
 #[test]
 fn sessions_and_button() {
-    let mut session = Session { open: true, level: 0 };
-    assert_eq!(connect(&mut session), 1);
-    assert_eq!(session, Session { open: true, level: 3 });
-    assert_eq!(disconnect(&mut session), 1);
-    assert_eq!(session, Session::FRESH);
+    let mut sessions = [Session { open: true, level: 0 }, OTHER];
+    assert_eq!(connect(&mut sessions, 0), 1);
+    assert_eq!(sessions, [Session::OPEN, OTHER]);
+    assert_eq!(disconnect(&mut sessions, 0), 1);
+    assert_eq!(sessions, [Session::CLOSED, OTHER]);
+    assert_eq!(disconnect(&mut sessions, 1), 1);
+    assert_eq!(sessions, FRESH);
+    assert_eq!(connect(&mut sessions, 1), 1);
+    assert_eq!(sessions, [Session::CLOSED, Session::OPEN]);
 
-    assert_eq!(run("L0", "0380").session, Session::FRESH);
-    assert_eq!(run("L0", "03D302AABBCCDD").session, Session { open: true, level: 0 });
+    assert_eq!(run("L0", "0380").sessions, FRESH);
+    assert_eq!(run("L0", "03D302AABBCCDD").sessions, [Session { open: true, level: 0 }, OTHER]);
 
     let mut sheet = SAMPLE;
     assert_eq!((button(&mut sheet, true), sheet[14]), (1, 3));
     let mut buffer = [0; 16];
-    session = Session { open: true, level: 200 };
+    sessions = [Session { open: true, level: 200 }, OTHER];
     let apdu = hex("03D302AABBCCDD");
-    let reply = request(&mut session, 3, 0, &apdu, &mut sheet, &mut buffer);
-    assert_eq!((reply, session.level), (Reply { outcome: 11, count: 3 }, 200));
-    let reply = request(&mut session, 3, 0, &[3, 0x80], &mut sheet, &mut buffer);
+    let reply = request(&mut sessions, Way::on(0), &apdu, &mut sheet, &mut buffer);
+    assert_eq!((reply, sessions[0].level), (Reply { outcome: 11, count: 3 }, 200));
+    let reply = request(&mut sessions, Way::on(0), &[3, 0x80], &mut sheet, &mut buffer);
     assert_eq!((reply, sheet[14]), (Reply { outcome: 1, count: 0 }, 2));
     assert_eq!((button(&mut sheet, false), sheet), (1, SAMPLE));
     sheet[0] = 3;
     assert_eq!((button(&mut sheet, true), sheet[14]), (4, 2));
 }
 
+/// A device and what two tools do with it, each request with outcome and answer.
+struct Desk {
+    sheet: Vec<u8>,
+    sessions: Sessions,
+}
+
+impl Desk {
+    fn ask(&mut self, mode: u8, connection: u8, apdu: &str, outcome: u8, answer: &str) {
+        let mut buffer = [0; 16];
+        let (sessions, sheet) = (&mut self.sessions, &mut self.sheet);
+        let way = Way { mode, connection, group: 0 };
+        let reply = request(sessions, way, &hex(apdu), sheet, &mut buffer);
+        let told = &buffer[..reply.count as usize];
+        assert_eq!((reply.outcome, told), (outcome, &hex(answer)[..]), "{connection} {apdu}");
+    }
+}
+
+#[test]
+fn two_tools() {
+    let at = |level| Session { open: true, level };
+    let mut d = Desk { sheet: SAMPLE.to_vec(), sessions: FRESH };
+    assert_eq!((connect(&mut d.sessions, 0), connect(&mut d.sessions, 1)), (1, 1));
+    // the key that one shows gives the other nothing
+    d.ask(3, 0, "03D10022222222", 0, "03D201");
+    assert_eq!(d.sessions, [at(1), at(3)]);
+    d.ask(3, 1, "03D7013310010384", 11, "03D601330001");
+    d.ask(3, 0, "03D7013310010384", 0, "03D6013310010384");
+    d.ask(3, 1, "03D501331001", 0, "03D6013310010384");
+    // nor does the other's wrong key, connect or disconnect take anything from it
+    d.ask(3, 1, "03D10033333333", 0, "03D203");
+    assert_eq!((connect(&mut d.sessions, 1), d.sessions), (1, [at(1), at(3)]));
+    assert_eq!((disconnect(&mut d.sessions, 1), d.sessions), (1, [at(1), Session::CLOSED]));
+    d.ask(3, 1, "03D501331001", 7, "");
+    assert_eq!(connect(&mut d.sessions, 1), 1);
+    // a key is judged as it stands when it is offered, whoever wrote it
+    d.ask(3, 1, "03D10022222222", 0, "03D201");
+    d.ask(3, 0, "03D301ABCDEF01", 0, "03D401");
+    assert_eq!(d.sessions, [at(1), at(1)]);
+    d.ask(3, 1, "03D7013310010385", 0, "03D6013310010385");
+    d.ask(3, 1, "03D10022222222", 0, "03D203");
+    d.ask(3, 1, "03D7013310010386", 11, "03D601330001");
+    d.ask(3, 1, "03D100ABCDEF01", 0, "03D201");
+    // a restart by either closes both
+    d.ask(3, 1, "0380", 1, "");
+    assert_eq!(d.sessions, FRESH);
+    d.sessions = [at(0), at(2)];
+    d.ask(3, 0, "0380", 1, "");
+    assert_eq!(d.sessions, FRESH);
+    // without a connection under the later rules alone
+    d.sheet = PUMP.to_vec();
+    d.sessions = [at(0), at(2)];
+    d.ask(2, 0, "0380", 9, "");
+    assert_eq!(d.sessions, [at(0), at(2)]);
+    d.sheet[30] = 1;
+    d.ask(2, 77, "0380", 1, "");
+    assert_eq!(d.sessions, FRESH);
+}
+
+#[test]
+fn no_other_connection() {
+    let at = |level| Session { open: true, level };
+    for number in 2..=255 {
+        let mut d = Desk { sheet: SAMPLE.to_vec(), sessions: [at(0), at(1)] };
+        assert_eq!(connect(&mut d.sessions, number), 7);
+        assert_eq!(disconnect(&mut d.sessions, number), 7);
+        for apdu in ["03D501331001", "0380", "03FF", "03D10022222222"] {
+            d.ask(3, number, apdu, 7, "");
+        }
+        d.ask(2, number, "03D501331001", 0, "03D60133100103E8");
+        d.ask(2, number, "03D7013310010384", 11, "03D601330001");
+        assert_eq!((d.sessions, &d.sheet[..]), ([at(0), at(1)], &SAMPLE[..]));
+    }
+}
+
 #[test]
 fn order_of_refusals() {
-    let mut session = Session::FRESH;
+    let mut sessions = [Session::CLOSED, OTHER];
     let mut bad = SAMPLE;
     bad[0] = 3;
     let mut good = SAMPLE;
     let mut ask = |sheet: &mut [u8], room, mode, apdu: &[u8]| {
         let mut buffer = vec![9; room];
-        let reply = request(&mut session, mode, 0, apdu, sheet, &mut buffer);
+        let way = Way { mode, connection: 0, group: 0 };
+        let reply = request(&mut sessions, way, apdu, sheet, &mut buffer);
         assert!(buffer.iter().all(|&b| b == 9) && reply.count == 0);
         reply.outcome
     };

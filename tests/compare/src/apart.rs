@@ -1,0 +1,288 @@
+//! Isolation, on the library: two runs from the same sheet and sessions, in which a
+//! tool and all other traffic do the same, and the other tool sends what it likes in
+//! each, as long as no byte of the sheet changes by it and it restarts nothing.
+//! Then the tool is answered alike: each event that both runs have gets the same
+//! outcome and answer, whatever its buffer held before, and after every event sheet
+//! and the tool's session are the same in both.
+
+use model::device::{Session, Sessions};
+use model::faults::Fault;
+use model::gen::{self, Event, Rng, Tools};
+use model::matrix;
+
+use crate::play::{Play, World, REQUEST};
+use crate::{Bridge, FAULT_EVENTS};
+
+/// What happens in both runs, or in the run of that number alone.
+enum Step {
+    Both([Play; 2]),
+    Alone(usize, Play),
+}
+
+/// Two runs, and what the model says of each event.
+struct Pair {
+    sheet: Vec<u8>,
+    sessions: Sessions,
+    /// The connection of the tool whose answers are looked at.
+    tool: usize,
+    steps: Vec<Step>,
+    replies: [Vec<u8>; 2],
+}
+
+/// What is seen of an event: outcome and answer, the tool's session and the sheet afterwards.
+#[derive(PartialEq)]
+struct Seen {
+    outcome: u8,
+    answer: Vec<u8>,
+    session: [u8; 2],
+    sheet: [u8; 8],
+}
+
+/// Takes the reply to a play off the front; none if there is none, or the buffer is changed
+/// past the answer.
+fn seen(play: &Play, tool: usize, replies: &mut &[u8]) -> Option<Seen> {
+    let found: &[u8] = match play {
+        Play::Request(ask) => &ask.buffer,
+        _ => &[],
+    };
+    let request = matches!(play, Play::Request(_));
+    let front = if request { REQUEST } else { REQUEST - 1 }; // the others tell no count
+    let (reply, rest) = replies.split_at_checked(front + found.len() + 8)?;
+    *replies = rest;
+    let count = if request { reply[1] as usize } else { 0 };
+    let (head, buffer) = reply[..reply.len() - 8].split_at(front);
+    let session = head[front - 4 + 2 * tool..][..2].try_into().unwrap();
+    let (answer, behind) = buffer.split_at_checked(count)?;
+    (behind == &found[count..]).then(|| Seen {
+        outcome: reply[0],
+        answer: answer.to_vec(),
+        session,
+        sheet: reply[reply.len() - 8..].try_into().unwrap(),
+    })
+}
+
+/// Whether an event is the other tool's: it names that connection.
+fn is_of(other: usize, event: &Event) -> bool {
+    let named = match event {
+        Event::Connect(c) | Event::Disconnect(c) => *c,
+        Event::Request(ask) if ask.way.mode == 3 => ask.way.connection,
+        _ => return false,
+    };
+    named as usize == other
+}
+
+/// The event with other bytes in its buffer, of the same number.
+fn alike(rng: &mut Rng, play: &Play) -> Play {
+    let mut other = play.clone();
+    if let Play::Request(ask) = &mut other {
+        ask.buffer = rng.bytes(ask.buffer.len());
+    }
+    other
+}
+
+struct Maker {
+    rng: Rng,
+    fault: Fault,
+}
+
+impl Maker {
+    /// Two runs of up to so many steps.
+    fn pair(&mut self, most: usize) -> Pair {
+        let rng = &mut self.rng;
+        let sheet = gen::sheet(rng);
+        let sessions = [gen::session(rng), gen::session(rng)];
+        let tool = rng.below(2);
+        let world = World { sheet: sheet.clone(), sessions, fault: self.fault };
+        let mut worlds = [world.clone(), world];
+        let mut tools = Tools::new(&sheet);
+        let (steps, replies) = (Vec::new(), [Vec::new(), Vec::new()]);
+        let mut pair = Pair { sheet, sessions, tool, steps, replies };
+        for _ in 0..self.rng.within(10, 120).min(most) {
+            let step = match self.rng.below(4) {
+                0 | 1 => self.shared(tool, &mut tools, &worlds[0]),
+                run => self.alone(1 - tool, run - 2, &mut tools, &worlds[run - 2]),
+            };
+            let Some(step) = step else { continue };
+            for (run, (world, replies)) in worlds.iter_mut().zip(&mut pair.replies).enumerate() {
+                if let Some(play) = step.play(run) {
+                    world.play(play, replies);
+                }
+            }
+            pair.steps.push(step);
+        }
+        pair
+    }
+
+    /// The tool's, or anything but the other tool's.
+    fn shared(&mut self, tool: usize, tools: &mut Tools, world: &World) -> Option<Step> {
+        let event = if self.rng.chance(70) {
+            tools.event_of(tool, &mut self.rng, &world.sheet, world.sessions[tool])
+        } else {
+            gen::event(&mut self.rng, &world.sheet)
+        };
+        if is_of(1 - tool, &event) || matches!(event, Event::Found(..)) {
+            return None;
+        }
+        let play = Play::of(event);
+        let second = alike(&mut self.rng, &play);
+        Some(Step::Both([play, second]))
+    }
+
+    /// The other tool's, by which no byte changes and nothing is restarted.
+    fn alone(
+        &mut self,
+        other: usize,
+        run: usize,
+        tools: &mut Tools,
+        world: &World,
+    ) -> Option<Step> {
+        let own = world.sessions[other];
+        let event = tools.event_of(other, &mut self.rng, &world.sheet, own);
+        if !is_of(other, &event) {
+            return None;
+        }
+        let restart = matches!(&event, Event::Request(ask) if matrix::row(&ask.apdu) == 16);
+        let (play, mut after, mut reply) = (Play::of(event), world.clone(), Vec::new());
+        after.play(&play, &mut reply);
+        let harmless = after.sheet == world.sheet && !(restart && reply[0] <= 1);
+        harmless.then_some(Step::Alone(run, play))
+    }
+}
+
+impl Step {
+    /// What of it is in this run.
+    fn play(&self, run: usize) -> Option<&Play> {
+        match self {
+            Step::Both(plays) => Some(&plays[run]),
+            Step::Alone(alone, play) => (*alone == run).then_some(play),
+        }
+    }
+}
+
+impl Pair {
+    fn start(&self) -> Vec<Play> {
+        let found =
+            (0..).zip(self.sessions).map(|(c, session): (u8, Session)| Play::Found(c, session));
+        std::iter::once(Play::Sheet(self.sheet.clone())).chain(found).collect()
+    }
+
+    fn wire(&self, run: usize) -> Vec<u8> {
+        let mut wire = Vec::new();
+        self.start().iter().for_each(|play| play.send(&mut wire));
+        self.steps.iter().filter_map(|step| step.play(run)).for_each(|play| play.send(&mut wire));
+        wire
+    }
+
+    /// The first step at which the runs are not alike to the tool.
+    fn differs(&self, replies: [&[u8]; 2], tally: &mut Tally) -> Option<usize> {
+        let mut replies = replies;
+        let found = self.sessions[self.tool];
+        let mut session = [found.open as u8, found.level];
+        let mut sheet = crate::play::hash(&self.sheet).to_le_bytes();
+        for (i, step) in self.steps.iter().enumerate() {
+            let mut see = |run: usize, play| seen(play, self.tool, &mut replies[run]);
+            match step {
+                Step::Both([first, second]) => {
+                    let (Some(one), Some(two)) = (see(0, first), see(1, second)) else {
+                        return Some(i);
+                    };
+                    if one != two {
+                        return Some(i);
+                    }
+                    tally.shared += 1;
+                    tally.answered += usize::from(!one.answer.is_empty());
+                    (session, sheet) = (one.session, one.sheet);
+                }
+                Step::Alone(run, play) => {
+                    let Some(seen) = see(*run, play) else { return Some(i) };
+                    if (seen.session, seen.sheet) != (session, sheet) {
+                        return Some(i);
+                    }
+                    tally.alone += 1;
+                    tally.carried_out += usize::from(seen.outcome <= 1);
+                }
+            }
+        }
+        None
+    }
+
+    /// Both runs up to a step, in lines for the desk unit.
+    fn show(&self, at: usize) {
+        for run in 0..2 {
+            println!(
+                "# run {}; connection {} must see what it sees in the other",
+                run + 1,
+                self.tool
+            );
+            for play in self.start() {
+                println!("{}", play.line(&self.sheet));
+            }
+            for play in self.steps[..=at].iter().filter_map(|step| step.play(run)) {
+                println!("{}", play.line(&[]));
+            }
+        }
+    }
+}
+
+#[derive(Default)]
+struct Tally {
+    runs: usize,
+    shared: usize,
+    answered: usize,
+    alone: usize,
+    carried_out: usize,
+}
+
+/// A fault that mixes the sessions is found in the model itself: else all of this says little.
+fn sees(fault: Fault, seed: u64) -> bool {
+    let mut maker = Maker { rng: Rng::new(seed), fault };
+    let mut tally = Tally::default();
+    while tally.shared + tally.alone < FAULT_EVENTS {
+        let pair = maker.pair(usize::MAX);
+        if pair.differs([&pair.replies[0], &pair.replies[1]], &mut tally).is_some() {
+            return true;
+        }
+    }
+    println!("compare: fault {fault:?} not found by two runs");
+    false
+}
+
+/// So many events on two bridges.
+pub fn apart(program: &str, events: usize, seed: u64) -> bool {
+    let mut bridges = [Bridge::start(program), Bridge::start(program)];
+    let mut maker = Maker { rng: Rng::new(seed), fault: Fault::None };
+    let mut tally = Tally::default();
+    while tally.shared + tally.alone < events {
+        let pair = maker.pair(events);
+        for (run, bridge) in bridges.iter().enumerate() {
+            bridge.send(pair.wire(run));
+        }
+        let mut got = [Vec::new(), Vec::new()];
+        for (got, (bridge, due)) in got.iter_mut().zip(bridges.iter_mut().zip(&pair.replies)) {
+            let start = 9 + 2 * 4; // the replies to sheet and sessions
+            *got = bridge.receive(start + due.len());
+            got.drain(..start.min(got.len()));
+        }
+        tally.runs += 1;
+        if let Some(at) = pair.differs([&got[0], &got[1]], &mut tally) {
+            pair.show(at);
+            println!("compare: two runs with other doings of the other tool differ, seed {seed}");
+            return false;
+        }
+    }
+    let found = Fault::MIXING.into_iter().filter(|&fault| sees(fault, seed)).count();
+    println!(
+        "compare: {} times two runs, seed {seed}: {} events of both, {} answered, and {} of the other tool in one, {} carried out: 0 different; {found} of {} faults found",
+        tally.runs,
+        tally.shared,
+        tally.answered,
+        tally.alone,
+        tally.carried_out,
+        Fault::MIXING.len()
+    );
+    let ended = bridges.map(Bridge::finish);
+    found == Fault::MIXING.len()
+        && ended == [true; 2]
+        && tally.answered * 4 > tally.shared
+        && tally.carried_out * 4 > tally.alone
+}
