@@ -1,4 +1,4 @@
--- PROMISES, named in docs/PROMISES.md: Demand1, Called (demand 1); Rightly, Dues, AnswerReads, Unread, Extended, Forbidden, ReadBack, Cases, Stays, NoBody, RulesApart, RunsApart, TwoRules, Append, Refuted (demand 2).
+-- PROMISES, named in docs/PROMISES.md: Demand1, Called (demand 1); Rightly, Dues, Dropped, AnswerReads, Unread, Extended, Forbidden, ReadBack, Cases, Stays, NoBody, RulesApart, RunsApart, TwoRules, Append, Refuted (demand 2).
 -- LAWS behind them and behind the contracts: all other modules. A folder holds the proof of the function whose name it has.
 pub mod Writing
 pub mod Given
@@ -30,6 +30,7 @@ pub mod Forbidden
 pub mod Rightly
 pub mod Shapes
 pub mod Demand1
+pub mod Dropped
 pub mod Typing
 pub mod AnswerReads
 pub mod Unread
