@@ -6,6 +6,8 @@
 //                       sheet and of the answer buffer
 //   then WORDS : ..     the same on the sheet and in the sessions that the case before left
 // Each case is written after `ok`, or after DIFFERENT with what it gave and what was wanted, and in the end how many there were.
+ghost use mathlib.Core.Path.{_≡_};
+ghost use lib.ListN.{length};
 use check::same;
 use device::Done;
 use device::Sessions;
@@ -186,12 +188,19 @@ fn with_all(text: &[u8], base: &mut [u8], s: &mut [u8], w: &mut [u8]) -> Tally {
     t.tally
 }
 
+// Twice what `io::large_buffer` has: the cases are more than 64 KB.
+fn buffer() -> [u8; 131072]
+    ensures { λ r. ⌜ 131072 ≡ length r ⌝ }
+{
+    [0; 131072]
+}
+
 fn main() {
-    let mut text = io::large_buffer();
+    let mut text = buffer();
     let n = io::read_full(STDIN_FILENO, &mut text);
     let mut base = [0u8; 256];
     let mut s = [0u8; 256];
     let mut w = [0u8; 256];
     let tally = with_all(&text[..n], &mut base, &mut s, &mut w);
-    lines::end(tally, n);
+    lines::end(tally, n == text.len());
 }

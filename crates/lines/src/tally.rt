@@ -47,13 +47,13 @@ pub fn unclear(t: Tally, line: &[u8]) -> Tally {
     told(t, line, b"", b"line not understood")
 }
 
-// The counts, after an input of so many bytes: `io::large_buffer` has no room for more.
-pub fn end(t: Tally, read: usize) {
+// The counts, after an input that filled the buffer or did not.
+pub fn end(t: Tally, full: bool) {
     io::print_decimal(STDOUT_FILENO, t.cases);
     io::write_all(STDOUT_FILENO, b" cases, ");
     io::print_decimal(STDOUT_FILENO, t.different);
     io::write_all(STDOUT_FILENO, b" different\n");
-    if read == 65536 {
+    if full {
         say(b"", b"there may be more cases than that");
     }
 }

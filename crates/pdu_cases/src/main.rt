@@ -75,5 +75,5 @@ fn main() {
     let n = io::read_full(STDIN_FILENO, &mut text);
     let tally = with_all(&text[..n]);
     say(b"", b"");
-    lines::end(tally, n);
+    lines::end(tally, n == text.len());
 }

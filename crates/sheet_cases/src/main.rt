@@ -112,5 +112,5 @@ fn main() {
     let mut base = [0u8; 16400];
     let mut s = [0u8; 16400];
     let tally = with_all(&text[..n], &mut base, &mut s);
-    lines::end(tally, n);
+    lines::end(tally, n == text.len());
 }
