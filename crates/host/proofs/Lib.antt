@@ -1,5 +1,6 @@
 -- PROMISES, named in docs/PROMISES.md
 pub mod Demands
+pub mod Whose
 -- laws behind the calls
 pub mod InPlace
 pub mod Replaced
