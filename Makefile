@@ -2,7 +2,7 @@
 SHELL := /bin/bash
 .SHELLFLAGS := -euo pipefail -c
 .DEFAULT_GOAL := help
-.PHONY: help test need-tools documents model sheet-check
+.PHONY: help test need-tools documents model prove sheet-check
 
 help:
 	@sed -n 's/^#: //p' $(MAKEFILE_LIST)
@@ -14,9 +14,17 @@ test: need-tools
 	$(MAKE) --no-print-directory -s lint
 	$(MAKE) --no-print-directory -s documents
 	$(MAKE) --no-print-directory -s model
+	$(MAKE) --no-print-directory -s prove
 	$(MAKE) --no-print-directory -s sheet-check
 	$(MAKE) --no-print-directory -s test-unit test-c points test-frames test-tools compare test-firmware
-	tests/edits/gate.sh tests/edits/refused.tsv
+	tail -n 1 build/ci.log
+
+# every proof from nothing, every edit, every program, once: what the tests after it link and run is what was proved here. The
+# last line of rt ci is the last of all, so it is held back where there is something after it
+prove: need-tools
+	mkdir -p build
+	rt ci 2>&1 | tee build/ci.log | sed -u '$$d' || { tail -n 1 build/ci.log; exit 1; }
+	tests/edits/gate.sh tests/edits/refused.tsv build/ci.log target/must-fail
 
 # every name that a document quotes stands where the document says
 documents: need-tools
@@ -33,7 +41,7 @@ model: need-tools
 	cd tests/model && cargo test --offline --release --quiet
 	cd tests/bench && cargo check --offline --release --quiet
 
-# the checking program on files and pipes; what the other tests link is proved in the same run, several crates at a time
+# the checking program on files and pipes; what the other tests link is proved in the same run, where prove has not done so
 sheet-check: need-tools
 	rt check sheet_check host tool
 	tests/sheet_check.sh target/bin/sheet_check

@@ -121,9 +121,11 @@ impl Tree {
         tops.iter().flat_map(|t| inner.iter().map(move |i| t.join(i).join(word))).find(|p| p.is_file())
     }
 
-    /// Whether the name is that of an edit that must be refused.
-    fn is_edit(&self, name: &str) -> bool {
-        self.crates.iter().any(|c| Path::new("crates").join(c).join("must-fail").join(format!("{name}.edit")).is_file())
+    /// Whether the name is that of a change that must be refused.
+    fn is_edit(&mut self, name: &str) -> bool {
+        let list = Path::new("tests/edits/refused.tsv");
+        let text = self.texts.entry(list.to_path_buf()).or_insert_with(|| fs::read_to_string(list).unwrap_or_default());
+        text.lines().any(|l| l.split('\t').nth(1) == Some(name))
     }
 
     /// Whether each part of a dotted name stands in one of the files, as a word.

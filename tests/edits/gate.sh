@@ -1,29 +1,58 @@
 #!/usr/bin/env bash
-# tests/edits/gate.sh LIST: rt ci, and that each edit which must be refused was refused in the file that LIST names for it.
-# LIST has a line for each edit: crate/edit, file, and in a word the fact that fails. What rt ci prints is passed on as it
-# comes; its last line comes last, once the list has been held against it.
+# tests/edits/gate.sh LIST LOG LOGS: holds what rt ci printed, LOG, and what the prover said of each edit, LOGS/crate/edit/.log
+# (target/must-fail), against LIST. An edit has several changes, each under a line '# change: what must be refused'. LIST has a
+# line for each place at which a change must be refused: crate/edit, change, place, and in a word the fact that fails there. A
+# place is `fn crate::function`, or a file and the law in it. It counts only if the prover refuses it for a reason of its own,
+# and not because of a function that it calls or a law that it cites: so each change is refused as if it were alone.
 set -uo pipefail
-list=$1
-log=build/ci.log
-mkdir -p build
-rt ci 2>&1 | tee "$log" | sed -u '$d'
-status=${PIPESTATUS[0]}
+list=$1 log=$2 logs=$3
+bad=0 places=0
+complain() { echo "edits: $*"; bad=$((bad + 1)); }
+rows() { grep -v -e '^#' -e '^$' "$list"; }
 
-# from the log: crate/edit and the file where the prover first said no
-seen() {
-    sed -n 's|^rt: must-fail \([^:]*\): refused, as it must be (first at \([^:;)]*\).*|\1\t\2|p
-        s|^rt: must-fail \([^:]*\): refused, as it must be ([0-9]* s)$|\1\t-|p' "$log" | sort
+# what the prover said of a function itself: of its proof file, if it has one, or of the proof that it looked for
+own_function() { # FUNCTION LOG
+    local path=${1#*::}
+    path=proofs/${path//:://}/Proof.antt
+    grep -qE "^fn $1: no proof: [^;]*; \`search\` does not close [^;]*$" "$2" ||
+        { grep -qE "^fn $1: not proved$" "$2" && own_error "$path" "" "$2"; }
 }
-listed() { grep -v '^#' "$list" | cut -f 1,2 | sort; }
-wrong=$(diff <(listed) <(seen) | sed -n 's/^</edits: listed, and not seen so:/p; s/^>/edits: seen, and not listed so:/p')
 
-last=$(tail -n 1 "$log")
-if [ -n "$wrong" ]; then
-    printf '%s\n' "$wrong"
-    echo "edits: $(printf '%s\n' "$wrong" | cut -f 1 | sed 's/.*: *//' | sort -u | wc -l) refused elsewhere than in the file that $list names, or not listed"
-    [ "$status" -ne 0 ] || exit 1
-else
-    echo "edits: each of $(seen | wc -l) was refused in the file that $list names"
-fi
-printf '%s\n' "$last"
-exit "$status"
+own_error() { # FILE LAW LOG: any law of the file if LAW is empty
+    awk -v file="/$1:" -v law=": error: \`${2:+$2\`:}" '
+        index($0, file) && index($0, law) && !/was not admitted/ && !/that can be named from here/ { found = 1 }
+        END { exit !found }' "$3"
+}
+
+# each place of the list is refused there
+while IFS=$'\t' read -r edit change place fact; do
+    places=$((places + 1))
+    said=$logs/$edit/.log
+    if [ ! -f "$said" ]; then
+        complain "$edit, $change: was not tried"
+        continue
+    fi
+    case $place in
+    'fn '*) own_function "${place#fn }" "$said" ;;
+    *) own_error "${place% *}" "${place#* }" "$said" ;;
+    esac || complain "$edit, $change: not refused at $place, or only for what stands below it ($fact)"
+done < <(rows)
+
+# one change for a place; the changes of the edits are those of the list; what was tried is what is listed
+twice=$(rows | cut -f 1,3 | sort | uniq -d)
+[ -z "$twice" ] || complain "two changes at one place, so neither is seen for itself: $twice"
+changes() {
+    for f in crates/*/must-fail/*.edit; do
+        e=${f#crates/}
+        e=${e%.edit}
+        sed -n "s|^# \([a-z0-9_-]*\): .*|${e/\/must-fail/}\t\1|p" "$f"
+    done | sort
+}
+while IFS= read -r line; do complain "$line"; done < <(diff <(rows | cut -f 1,2 | sort -u) <(changes) |
+    sed -n 's/^</listed, and in no edit:/p; s/^>/in an edit, and not listed, or twice:/p')
+tried() { sed -n 's|^rt: must-fail \([^:]*\): refused, as it must be.*|\1|p' "$log" | sort; }
+while IFS= read -r line; do complain "$line"; done < <(diff <(rows | cut -f 1 | sort -u) <(tried) |
+    sed -n 's/^</listed, and not tried:/p; s/^>/tried, and not listed:/p')
+
+[ "$bad" -eq 0 ] || exit 1
+echo "edits: $(changes | wc -l) changes in $(tried | wc -l) edits, each refused at its own place, $places in all"
