@@ -2,7 +2,7 @@
 -- Assumes nothing.
 use Prim.Native.Nat.{ℕ, _<_}
 use mathlib.Core.Path.{_≡_, refl, sym, ap, _∙_}
-use mathlib.Core.Bool.{Bool, true, false, cond, _&&_}
+use mathlib.Core.Bool.{Bool, true, false, cond, _&&_, _||_, not}
 use mathlib.Core.List.{List, [], _∷_}
 use lib.Dec.{eqb}
 use lib.ListN.{length}
@@ -22,7 +22,7 @@ use Rattle.device.proofs.Demand1.{restart-only}
 use Rattle.history.specs.History.{First}
 use Rattle.history.specs.Keeps.{Device, stateAfter}
 use Rattle.history.specs.Rightful.{ours}
-use Rattle.history.specs.Isolation.{isOf, Alike, same, asLong, Harmless, Beside, begin, shared, oneMore, otherMore, Seen, Isolated, AllHarmless, without}
+use Rattle.history.specs.Isolation.{isOf, mayBeOf, Alike, same, asLong, Harmless, Beside, begin, shared, oneMore, otherMore, Seen, Isolated, SameFor, Along, AllHarmless, without}
 use Rattle.history.proofs.Hearing.{asks-is}
 use Rattle.history.proofs.Meets.{meets}
 
@@ -145,7 +145,7 @@ module _ (o : ℕ) where
         }
 
     own-requested :
-        (mode c g : ℕ) (a out : List ℕ) → eqb c o ≡ true → Harmless ours f h (request mode c g a out) →
+        (mode c g : ℕ) (a out : List ℕ) → (not (eqb mode 3) || eqb c o) ≡ true → Harmless ours f h (request mode c g a out) →
         Near (afterwards (eventOf X (request mode c g a out))) y
     unfolding eventOf requestOf
     own-requested mode c g a out i m =
@@ -153,7 +153,7 @@ module _ (o : ℕ) where
           sheet = m .0 ∙ n .sheet;
           sessions = λ d k.
               ap (λ (t : Bool). sessionOf (turnedOf (X .sessions) mode c t (R .session)) d) (runs (R .restarts) refl)
-              ∙ turned-other (X .sessions) mode c d (R .session) (λ u z. k (z ∙ eqb-true c o i))
+              ∙ turned-other (X .sessions) mode c d (R .session) (λ u z. k (z ∙ eqb-true c o (rw (eq-eqb mode 3 u) at i)))
               ∙ n .sessions d k;
         }
       where
@@ -166,12 +166,12 @@ module _ (o : ℕ) where
             absurd (m .1 (asks-is a Restart (r .1)) (r .0))
         runs false e = refl
 
-    own : (e : Event) → isOf o e ≡ true → Harmless ours f h e → Near (stateAfter ours f (e ∷ h)) y
+    own : (e : Event) → mayBeOf o e ≡ true → Harmless ours f h e → Near (stateAfter ours f (e ∷ h)) y
     unfolding stateAfter eventOf
     own (connect c) i m = own-named c _ i
     own (disconnect c) i m = own-named c _ i
     own (button on) i m = never i
-    own (request mode c g a out) i m = own-requested mode c g a out (and-is (eqb mode 3) (eqb c o) .0 i .1) m
+    own (request mode c g a out) i m = own-requested mode c g a out i m
 
   -- SO TWO RUNS SIDE BY SIDE LEAVE SUCH STATES
   near : (f : First) (h h′ : List Event) → Beside ours f o h h′ → Near (stateAfter ours f h) (stateAfter ours f h′)
@@ -192,6 +192,29 @@ isolated f t o n h h′ b =
       answer = λ e e′ i a. equal o s e e′ i a .answer;
     }
 
+-- AND ALL THE WAY, of any device that isolates
+module _ (step : Device) (isolates : Isolated step) (f : First) (t o : ℕ) (n : t ≡ o → ⊥) where
+  same-for : {h h′ : List Event} → Beside step f o h h′ → SameFor step f t h h′
+  same-for b = let s = isolates f t o n _ _ b in (s .sheet, s .session)
+
+  pub along : {h h′ : List Event} (b : Beside step f o h h′) → Along step f t o b
+  along begin = tt
+  along (shared {h} {h′} {e} {e′} i a b) =
+      let s = isolates f t o n h h′ b in (s .outcome e e′ i a, s .answer e e′ i a, same-for (shared i a b), along b)
+  along (oneMore i m b) = (same-for (oneMore i m b), along b)
+  along (otherMore i m b) = (same-for (otherMore i m b), along b)
+
+-- and so of ours
+pub isolated-along : (f : First) (t o : ℕ) → (t ≡ o → ⊥) → {h h′ : List Event} (b : Beside ours f o h h′) → Along ours f t o b
+isolated-along = along ours isolated
+
+-- what o sends it may have sent
+may-be : (o : ℕ) (e : Event) → isOf o e ≡ true → mayBeOf o e ≡ true
+may-be o (connect c) i = i
+may-be o (disconnect c) i = i
+may-be o (button on) i = never i
+may-be o (request mode c g a out) i = let b = and-is (eqb mode 3) (eqb c o) .0 i in rw (b .0) (b .1)
+
 -- what o sends, left out
 beside-without : (step : Device) (f : First) (o : ℕ) (h : List Event) → AllHarmless step f o h → Beside step f o h (without o h)
 unfolding without
@@ -199,7 +222,7 @@ beside-without step f o [] m = begin
 beside-without step f o (e ∷ h) m = go (isOf o e) refl (beside-without step f o h (m .1))
   where
     go : (t : Bool) → isOf o e ≡ t → Beside step f o h (without o h) → Beside step f o (e ∷ h) (cond t (without o h) (e ∷ without o h))
-    go true i b = oneMore i (m .0 i) b
+    go true i b = oneMore (may-be o e i) (m .0 i) b
     go false i b = shared i (same e) b
 
 -- OF ONE RUN: all that o sends might be left out, and nobody else would see it

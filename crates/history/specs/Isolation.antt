@@ -3,7 +3,7 @@
 use Prim.Native.Nat.{ℕ}
 use mathlib.Core.Path.{_≡_}
 use mathlib.Core.List.{List, [], _∷_}
-use mathlib.Core.Bool.{Bool, true, false, cond, _&&_}
+use mathlib.Core.Bool.{Bool, true, false, cond, _&&_, _||_, not}
 use lib.ListN.{length}
 use lib.Dec.{eqb}
 use Rattle.device.specs.Sessions.{sessionOf}
@@ -18,6 +18,13 @@ isOf o (connect c) = eqb c o
 isOf o (disconnect c) = eqb c o
 isOf o (button on) = false
 isOf o (request mode c g a out) = eqb mode 3 && eqb c o
+
+-- what that tool may have sent: these, and any request that names no connection
+abbrev pub mayBeOf : ℕ → Event → Bool
+mayBeOf o (connect c) = eqb c o
+mayBeOf o (disconnect c) = eqb c o
+mayBeOf o (button on) = false
+mayBeOf o (request mode c g a out) = not (eqb mode 3) || eqb c o
 
 -- the same event, though its answer buffer may have held other bytes, as many
 pub data Alike : Event → Event → Type 0 where
@@ -34,15 +41,15 @@ Harmless step f h (request mode c g a out) =
     let r = step f h (stateAfter step f h) (request mode c g a out) in
     (r .sheet ≡ stateAfter step f h .sheet) × (asks a ≡ restart → Succeeds (r .outcome) → ⊥)
 
--- TWO RUNS: all that the tool on connection o doesn't send is the same in both, and in the same order
+-- TWO RUNS: what the tool on connection o may have sent may be in one alone, if harmless; all else is the same in both, and in the same order
 pub data Beside (step : Device) (f : First) (o : ℕ) : List Event → List Event → Type 0 where
   begin : Beside step f o [] []
   shared :
       {h h′ : List Event} {e e′ : Event} → isOf o e ≡ false → Alike e e′ → Beside step f o h h′ → Beside step f o (e ∷ h) (e′ ∷ h′)
   oneMore :
-      {h h′ : List Event} {e : Event} → isOf o e ≡ true → Harmless step f h e → Beside step f o h h′ → Beside step f o (e ∷ h) h′
+      {h h′ : List Event} {e : Event} → mayBeOf o e ≡ true → Harmless step f h e → Beside step f o h h′ → Beside step f o (e ∷ h) h′
   otherMore :
-      {h h′ : List Event} {e : Event} → isOf o e ≡ true → Harmless step f h′ e → Beside step f o h h′ → Beside step f o h (e ∷ h′)
+      {h h′ : List Event} {e : Event} → mayBeOf o e ≡ true → Harmless step f h′ e → Beside step f o h h′ → Beside step f o h (e ∷ h′)
 
 -- WHAT IS THEN THE SAME FOR THE TOOL ON CONNECTION t: the sheet, its session, and the outcome and answer of whatever comes next and isn't o's
 pub record Seen (step : Device) (f : First) (t o : ℕ) (h h′ : List Event) : Type 0 where
@@ -59,6 +66,22 @@ pub record Seen (step : Device) (f : First) (t o : ℕ) (h h′ : List Event) : 
 abbrev pub Isolated : Device → Type 0
 Isolated step =
     (f : First) (t o : ℕ) → (t ≡ o → ⊥) → (h h′ : List Event) → Beside step f o h h′ → Seen step f t o h h′
+
+-- the sheet and the session of t are the same after h and after h′
+abbrev pub SameFor : Device → First → ℕ → (h h′ : List Event) → Type 0
+SameFor step f t h h′ =
+    (stateAfter step f h .sheet ≡ stateAfter step f h′ .sheet)
+    × (sessionOf (stateAfter step f h .sessions) t ≡ sessionOf (stateAfter step f h′ .sessions) t)
+
+-- ALONG TWO RUNS: each event that is in both has the same outcome and answer, and after every event sheet and session are so
+abbrev pub Along : (step : Device) (f : First) (t o : ℕ) {h h′ : List Event} → Beside step f o h h′ → Type 0
+Along step f t o begin = Unit {0}
+Along step f t o (shared {h} {h′} {e} {e′} i a b) =
+    (step f h (stateAfter step f h) e .outcome ≡ step f h′ (stateAfter step f h′) e′ .outcome)
+    × (step f h (stateAfter step f h) e .answer ≡ step f h′ (stateAfter step f h′) e′ .answer)
+    × SameFor step f t (e ∷ h) (e′ ∷ h′) × Along step f t o b
+Along step f t o (oneMore {h} {h′} {e} i m b) = SameFor step f t (e ∷ h) h′ × Along step f t o b
+Along step f t o (otherMore {h} {h′} {e} i m b) = SameFor step f t h (e ∷ h′) × Along step f t o b
 
 -- a history in which all that o sends is harmless, and the same without it
 abbrev pub AllHarmless : Device → First → ℕ → List Event → Type 0

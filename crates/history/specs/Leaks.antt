@@ -1,6 +1,6 @@
 -- Wrong devices in which one tool can tell what the other does, each with a short run on which it shows.
 -- Assumes nothing.
-use Prim.Native.Nat.{ℕ, _-_}
+use Prim.Native.Nat.{ℕ, _+_, _-_}
 use mathlib.Core.List.{List, [], _∷_, _++_}
 use mathlib.Core.Bool.{Bool, true, false, cond, _&&_}
 use lib.Dec.{eqb}
@@ -8,7 +8,7 @@ use Rattle.device.specs.Sessions.{sessionOf}
 use Rattle.device.specs.Events.{Event, connect, disconnect, button, request, eventOf}
 use Rattle.history.specs.Wish.{Wish, change, offerKey, restart, other, nothing, asks}
 use Rattle.history.specs.Keeps.{Device}
-use Rattle.history.specs.Wrong.{withSessions, levelled, offeringOn}
+use Rattle.history.specs.Wrong.{withSessions, levelled, buffer, offeringOn}
 
 -- ONE WHOSE ANSWERS SHOW THE LEVEL OF THE OTHER CONNECTION, in one more byte
 abbrev pub showsLevel : Device
@@ -45,3 +45,21 @@ lowersBoth f h x (request mode c g a out) =
 -- what the tool on connection 1 sends in one of two runs: connected, a key offered
 abbrev pub offeredOn1 : ℕ → List Event → List Event
 offeredOn1 b h = offeringOn 1 b ∷ connect 1 ∷ h
+
+-- how many of a history's requests came connectionless
+abbrev pub unconnected : List Event → ℕ
+unconnected [] = 0
+unconnected (connect c ∷ h) = unconnected h
+unconnected (disconnect c ∷ h) = unconnected h
+unconnected (button on ∷ h) = unconnected h
+unconnected (request mode c g a out ∷ h) = cond (eqb mode 2) (unconnected h + 1) (unconnected h)
+
+-- ONE WHOSE ANSWERS SHOW HOW MANY CONNECTIONLESS REQUESTS THERE WERE, whoever sent them, in one more byte
+abbrev pub showsCount : Device
+showsCount f h x e =
+    let r = eventOf x e in
+    record { outcome = r .outcome; answer = r .answer ++ (unconnected h ∷ []); sessions = r .sessions; sheet = r .sheet }
+
+-- what the other tool sends in one of two runs: connectionless, a read of the height
+abbrev pub readUnconnected : Event
+readUnconnected = request 2 0 0 (0x03 ∷ 0xD5 ∷ 0x01 ∷ 0x33 ∷ 0x10 ∷ 0x01 ∷ []) buffer
