@@ -12,3 +12,4 @@ pub mod Shown
 pub mod Isolation
 pub mod Wrong
 pub mod Leaks
+pub mod Calls

@@ -1,0 +1,31 @@
+-- RUNS OF CALLS: what a host sees call by call, by the contracts of the calls alone.
+-- Assumes nothing.
+use Prim.Native.Nat.{ℕ}
+use mathlib.Core.Bool.{Bool}
+use mathlib.Core.List.{List, [], _∷_}
+use Rattle.device.specs.Events.{Event, Effect, State, connect, disconnect, button, request, namedOutcome, connectOf, disconnectOf, Pressed, Called}
+use Rattle.device.specs.Demand2.{effectSeen}
+use Rattle.device.specs.declared.Done.{Done}
+use Rattle.history.specs.History.{First}
+
+-- a call that met state x and gave r: each constructor is the contract of a call of include/kelindap.h
+pub data Call (x : State) : Event → Effect → Type 0 where
+  connects :
+      (c : ℕ) →
+      Call x (connect c) record { outcome = namedOutcome c; answer = []; sessions = connectOf (x .sessions) c; sheet = x .sheet }
+  disconnects :
+      (c : ℕ) →
+      Call x (disconnect c) record { outcome = namedOutcome c; answer = []; sessions = disconnectOf (x .sessions) c; sheet = x .sheet }
+  presses :
+      (on : Bool) (r : ℕ) (s′ : List ℕ) → Pressed (x .sheet) on r s′ →
+      Call x (button on) record { outcome = r; answer = []; sessions = x .sessions; sheet = s′ }
+  requests :
+      (mode c g : ℕ) (a out : List ℕ) (r : Done) (s′ o′ : List ℕ) → Called (x .sessions) mode c g a (x .sheet) out r s′ o′ →
+      Call x (request mode c g a out) (effectSeen r s′ o′)
+
+-- calls one after the other, each on what the one before left, the newest first
+pub data Calls (f : First) : List Event → State → Type 0 where
+  begin : Calls f [] record { sessions = f .sessions; sheet = f .sheet }
+  next :
+      {h : List Event} {x : State} {e : Event} {r : Effect} → Calls f h x → Call x e r →
+      Calls f (e ∷ h) record { sessions = r .sessions; sheet = r .sheet }
