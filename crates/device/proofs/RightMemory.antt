@@ -29,7 +29,7 @@ pub record Look (m : Memory) : Type 0 where
   pub answers : (n address : ℕ) → responseOf m n address ≡ response m n address
   pub most : mostBytes m ≡ mostOf m
 
-look-at : (m : Memory) → Look m
+pub look-at : (m : Memory) → Look m
 look-at Device = record { decides = λ s level group n address d. refl; answers = λ n address. refl; most = refl }
 look-at User = record { decides = λ s level group n address d. refl; answers = λ n address. refl; most = refl }
 

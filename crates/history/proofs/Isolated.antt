@@ -20,11 +20,12 @@ use Rattle.device.specs.declared.Sessions.{Sessions}
 use Rattle.device.proofs.Connections.{unknown-closed, with-own, with-other, turned-other}
 use Rattle.device.proofs.Demand1.{restart-only}
 use Rattle.history.specs.History.{First}
-use Rattle.history.specs.Keeps.{Device, stateAfter}
-use Rattle.history.specs.Rightful.{ours}
+use Rattle.history.specs.Keeps.{Device, stateAfter, Begins, BringsOctets, AllOctets}
+use Rattle.history.specs.Rightful.{Rightful, ours}
 use Rattle.history.specs.Isolation.{isOf, mayBeOf, Alike, same, asLong, Harmless, Beside, begin, shared, oneMore, otherMore, Seen, Isolated, SameFor, Along, AllHarmless, without}
 use Rattle.history.proofs.Hearing.{asks-is}
 use Rattle.history.proofs.Meets.{meets}
+use Rattle.history.proofs.OneDevice.{one-state, one-device}
 
 -- one session of each, put in the same place
 with-alike :
@@ -207,6 +208,36 @@ module _ (step : Device) (isolates : Isolated step) (f : First) (t o : ℕ) (n :
 -- and so of ours
 pub isolated-along : (f : First) (t o : ℕ) → (t ≡ o → ⊥) → {h h′ : List Event} (b : Beside ours f o h h′) → Along ours f t o b
 isolated-along = along ours isolated
+
+-- AND, from an accepted sheet, of any device that does what is due
+module _ (step : Device) (rightful : (f : First) (h : List Event) → Rightful (step f h)) (f : First) (b : Begins f) where
+  harmless-ours : (h : List Event) → AllOctets h → (e : Event) → BringsOctets e → Harmless step f h e → Harmless ours f h e
+  harmless-ours h k (connect c) z m = tt
+  harmless-ours h k (disconnect c) z m = tt
+  harmless-ours h k (button on) z m = tt
+  harmless-ours h k (request mode c g a out) z m =
+      rw (one-device step rightful f b h k (request mode c g a out) z, one-state step rightful f b h k) at m
+
+  beside-ours : {o : ℕ} {h h′ : List Event} → AllOctets h → AllOctets h′ → Beside step f o h h′ → Beside ours f o h h′
+  beside-ours k k′ begin = begin
+  beside-ours k k′ (shared i a r) = shared i a (beside-ours (k .1) (k′ .1) r)
+  beside-ours k k′ (oneMore {h} {h′} {e} i m r) = oneMore i (harmless-ours h (k .1) e (k .0) m) (beside-ours (k .1) k′ r)
+  beside-ours k k′ (otherMore {h} {h′} {e} i m r) = otherMore i (harmless-ours h′ (k′ .1) e (k′ .0) m) (beside-ours k (k′ .1) r)
+
+  module _ (t o : ℕ) (n : t ≡ o → ⊥) where
+    same-any : {h h′ : List Event} → AllOctets h → AllOctets h′ → Beside step f o h h′ → SameFor step f t h h′
+    same-any {h} {h′} k k′ r =
+        rw (one-state step rightful f b h k, one-state step rightful f b h′ k′) (same-for ours isolated f t o n (beside-ours k k′ r))
+
+    pub isolated-any : {h h′ : List Event} → AllOctets h → AllOctets h′ → (r : Beside step f o h h′) → Along step f t o r
+    isolated-any k k′ begin = tt
+    isolated-any k k′ (shared {h} {h′} {e} {e′} i a r) =
+        let s = isolated f t o n h h′ (beside-ours (k .1) (k′ .1) r) in
+        let x = one-device step rightful f b h (k .1) e (k .0) in
+        let y = one-device step rightful f b h′ (k′ .1) e′ (k′ .0) in
+        (rw (x, y) (s .outcome e e′ i a), rw (x, y) (s .answer e e′ i a), same-any k k′ (shared i a r), isolated-any (k .1) (k′ .1) r)
+    isolated-any k k′ (oneMore i m r) = (same-any k k′ (oneMore i m r), isolated-any (k .1) k′ r)
+    isolated-any k k′ (otherMore i m r) = (same-any k k′ (otherMore i m r), isolated-any k (k′ .1) r)
 
 -- what o sends it may have sent
 may-be : (o : ℕ) (e : Event) → isOf o e ≡ true → mayBeOf o e ≡ true

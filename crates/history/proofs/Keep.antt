@@ -123,3 +123,7 @@ ours-rightful =
 -- AND SO OUR DEVICE KEEPS WHAT IT WAS GIVEN
 pub keeps : Keeps ours
 keeps = keeps-any ours (λ f h. ours-rightful)
+
+-- and the invariant holds of it
+pub ours-after : (f : First) → Begins f → (h : List Event) → AllOctets h → Inv f h (stateAfter ours f h)
+ours-after = holds-after ours (λ f h. ours-rightful)

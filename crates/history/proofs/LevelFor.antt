@@ -9,7 +9,7 @@ use Rattle.history.specs.Permit.{levelFor}
 
 module _ (x : Asked) where
   -- the history's definition and judge's
-  level-is : levelIn (x .session) (x .mode) ≡ levelFor (x .mode) (x .session .level)
+  pub level-is : levelIn (x .session) (x .mode) ≡ levelFor (x .mode) (x .session .level)
   unfolding levelIn levelOf levelFor
   level-is = refl
 

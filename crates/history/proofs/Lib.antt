@@ -1,16 +1,17 @@
--- PROMISES, named in docs/PROMISES.md: Keyless (nobody without the key), Height (that, on the sample sheet), Keep (demand 3), Calls (that, of whatever calls), Pinned (one result), OneDevice (one device), RulesStay (the rules are those of the first sheet), Connections (what bears on the level of one), AtOnce, Suffices, Shown (what a read shows was written), Isolated (one tool beside another),
+-- PROMISES, named in docs/PROMISES.md: Keyless (nobody without the key), Height (that, on the sample sheet), Keep (demand 3), Pinned (one result), OneDevice (one device), RulesStay (the rules are those of the first sheet), Connections (what bears on the level of one), AtOnce, Suffices, Shown and MemoryShown (what a read shows), Isolated (one tool beside another), Calls (all of these of the calls),
 -- Permitted (permitted as plain propositions), Places (`place-injective`, `exactly-one`), InOrder (histories and runs), Refuted and LeaksRefuted (wrong devices).
 pub mod Keyless
 pub mod Height
 pub mod Keep
-pub mod Calls
 pub mod Pinned
 pub mod OneDevice
 pub mod RulesStay
 pub mod Connections
 pub mod AtOnce
 pub mod Shown
+pub mod MemoryShown
 pub mod Isolated
+pub mod Calls
 pub mod Suffices
 pub mod Permitted
 pub mod Places

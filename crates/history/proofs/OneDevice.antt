@@ -1,11 +1,9 @@
--- ONE DEVICE: any device that does what is due gives what ours gives, event by event, after every history.
+-- ONE DEVICE: from an accepted sheet any device that does what is due gives what ours gives, event by event.
 -- Assumes nothing.
-use Prim.Native.Nat.{ℕ}
-use mathlib.Core.Path.{_≡_, sym, ap, subst, _∙_}
-use mathlib.Core.Bool.{Bool}
+use mathlib.Core.Path.{_≡_, ap, _∙_}
 use mathlib.Core.List.{List}
 use Rattle.device.specs.Octets.{Octets}
-use Rattle.device.specs.Events.{Event, Effect, State, connect, disconnect, button, request, eventOf}
+use Rattle.device.specs.Events.{Event, State, connect, disconnect, button, request, eventOf}
 use Rattle.device.proofs.Dues.{connect-only, disconnect-only, button-only, request-only}
 use Rattle.history.specs.History.{First}
 use Rattle.history.specs.Keeps.{Device, stateAfter, BringsOctets, AllOctets, Begins}
@@ -26,7 +24,10 @@ module _ (step : Device) (rightful : (f : First) (h : List Event) → Rightful (
       let k : Octets (X .sheet) = keeps-any step rightful f h b o .octets in
       request-only X mode c g a out k z _ (rightful f h .answers X mode c g a out k z)
 
-  -- OUTCOME, ANSWER, SESSIONS AND SHEET
+  -- THE STATE
+  pub one-state : stateAfter step f h ≡ stateAfter ours f h
+  one-state = pinned step ours (keeps-any step rightful) keeps f h b o
+
+  -- OUTCOME, ANSWER, SESSIONS AND SHEET of every event
   pub one-device : (e : Event) → BringsOctets e → step f h (stateAfter step f h) e ≡ eventOf (stateAfter ours f h) e
-  one-device e z =
-      is-ours e z ∙ ap (λ (x : State). eventOf x e) (pinned step ours (keeps-any step rightful) keeps f h b o)
+  one-device e z = is-ours e z ∙ ap (λ (x : State). eventOf x e) one-state

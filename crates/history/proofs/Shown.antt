@@ -1,4 +1,4 @@
--- WHAT A READ SHOWS WAS WRITTEN: of any device that does what is due, and so of ours.
+-- WHAT A READ SHOWS OF A PROPERTY WAS WRITTEN: of ours, and so of any device that does what is due.
 -- Assumes nothing.
 use Prim.Native.Nat.{ℕ, _+_, _*_, _-_, _<_, _≤_}
 use mathlib.Core.Path.{_≡_, refl, sym, ap, subst, _∙_}
@@ -24,14 +24,13 @@ use Rattle.judge.specs.declared.Decision.{Decision}
 use Rattle.judge.proofs.PropertyCases.{Among, property-read-cases}
 use Rattle.device.specs.Octets.{Octets}
 use Rattle.device.specs.Step.{Step, stepBy}
-use Rattle.device.specs.Events.{Event, Effect, State, request}
+use Rattle.device.specs.Events.{Event, Effect, State, request, requestOf, eventOf}
 use Rattle.device.specs.Asked as ask
 use Rattle.device.specs.Asked.{Asked, Reads}
 use Rattle.device.specs.Demand2.{done}
-use Rattle.device.specs.Due.{RequestDue, asked}
+use Rattle.device.specs.Due.{asked}
 use Rattle.device.proofs.Accepted.{count-below, elements-within}
 use Rattle.device.proofs.Properly.{unkeyed, read-id}
-use Rattle.device.proofs.Rightly.{right-only}
 use Rattle.device.proofs.Stepped.{step-read}
 use Rattle.device.proofs.WasReady.{carried}
 use Rattle.history.specs.Location.{body, Place, ofBody}
@@ -43,7 +42,8 @@ use Rattle.history.proofs.CountNow.{count-now}
 use Rattle.history.proofs.Counted.{counted-given}
 use Rattle.history.proofs.Framed.{is-same}
 use Rattle.history.proofs.Invariant.{Inv, fine, now}
-use Rattle.history.proofs.Keep.{holds-after, ours-rightful}
+use Rattle.history.proofs.Keep.{ours-after}
+use Rattle.history.proofs.OneDevice.{one-device}
 use Rattle.history.proofs.PropertyRun.{elements-fit, entry-for}
 
 module _ (f : First) (b : Begins f) (h : List Event) (x : State) (inv : Inv f h x) (object id n s i : ℕ) (low : 1 ≤ s)
@@ -105,52 +105,44 @@ module _ (f : First) (b : Begins f) (h : List Event) (x : State) (inv : Inv f h 
             getD-take (n * Z) (drop O (x .sheet)) k 0 m ∙ getD-drop O (x .sheet) k 0 ∙ stands k m;
       }
 
-module _ (step : Device) (rightful : (f : First) (h : List Event) → Rightful (step f h)) (f : First) (h : List Event) (b : Begins f)
-    (all : AllOctets h) (mode c g : ℕ) (a out : List ℕ) (octets : Octets a) (object id n s : ℕ)
-    (reads : readPdu a ≡ Is (PropertyValueRead object id n s)) (low : 1 ≤ s)
-    (ok : step f h (stateAfter step f h) (request mode c g a out) .outcome ≡ 0) where
+module _ (f : First) (h : List Event) (b : Begins f) (all : AllOctets h) (mode c g : ℕ) (a out : List ℕ) (octets : Octets a)
+    (object id n s : ℕ) (reads : readPdu a ≡ Is (PropertyValueRead object id n s)) (low : 1 ≤ s)
+    (ok : eventOf (stateAfter ours f h) (request mode c g a out) .outcome ≡ 0) where
   abbrev X : State
-  X = stateAfter step f h
+  X = stateAfter ours f h
 
   abbrev R : Asked
   R = asked X mode c g a out
 
-  abbrev Given : Effect
-  Given = step f h X (request mode c g a out)
-
   inv′ : Inv f h X
-  inv′ = holds-after step rightful f b h all
-
-  is-due : RequestDue mode c g a out X Given
-  is-due = rightful f h .answers X mode c g a out (inv′ .means .octets) octets
-
-  is-done : is-due .step ≡ done R
-  is-done = right-only R (inv′ .means .octets) octets (is-due .step) (is-due .due)
+  inv′ = ours-after f b h all
 
   carried-out : done R .outcome ≡ 0
-  carried-out = ap (λ (t : Step). t .outcome) (sym is-done) ∙ sym (is-due .outcome) ∙ ok
+  unfolding eventOf requestOf
+  carried-out = ok
 
   was : Reads R (PropertyValueRead object id n s)
   was = carried R _ reads (omega (arith, carried-out))
 
-  shows : Shows f h object id n s Given
-  unfolding stepBy
+  shows : Shows f h object id n s (eventOf X (request mode c g a out))
+  unfolding eventOf requestOf stepBy
   shows =
       property-read-cases (X .sheet) (levelIn (R .session) mode) object id n s
-      (λ (q : Decision). stepBy (X .sheet) (R .session) (ask.given R (PropertyValueRead object id n s)) q ≡ done R → Shows f h object id n s Given)
+      (λ (q : Decision). stepBy (X .sheet) (R .session) (ask.given R (PropertyValueRead object id n s)) q ≡ done R → Shows f h object id n s (eventOf X (request mode c g a out)))
       (λ i key l z o p. absurd (omega arith))
       (λ i key l m z p.
       let there = unkeyed R object id i (inv′ .means .octets) (read-id a octets object id n s (reading a _ reads)) key in
-      shown f b h X inv′ object id n s i low (is-same (inv′ .means .agree) there) there m Given
-      (is-due .answer ∙ ap (λ (t : Step). t .answer) (is-done ∙ sym p)))
+      shown f b h X inv′ object id n s i low (is-same (inv′ .means .agree) there) there m _ (ap (λ (t : Step). t .answer) (sym p)))
       (λ p. let z : _≡_ {A = ℕ} 11 0 = ap (λ (t : Step). t .outcome) p ∙ carried-out in absurd (omega arith))
       (step-read R _ was _ refl)
+
+-- OURS
+pub ours-shown : ShownWasWritten ours
+ours-shown f h b all mode c g a out octets object id n s reads low ok =
+    shows f h b all mode c g a out octets object id n s reads low ok
 
 -- ANY DEVICE THAT DOES WHAT IS DUE
 pub shown-was-written : (step : Device) → ((f : First) (h : List Event) → Rightful (step f h)) → ShownWasWritten step
 shown-was-written step rightful f h b all mode c g a out octets object id n s reads low ok =
-    shows step rightful f h b all mode c g a out octets object id n s reads low ok
-
--- OURS
-pub ours-shown : ShownWasWritten ours
-ours-shown = shown-was-written ours (λ f h. ours-rightful)
+    let e = one-device step rightful f b h all (request mode c g a out) octets in
+    rw e (shows f h b all mode c g a out octets object id n s reads low (rw e at ok))

@@ -1,4 +1,4 @@
--- WHAT A READ MAY SHOW OF A PROPERTY: by the first sheet, the first sessions and the events alone.
+-- WHAT A READ MAY SHOW, of a property and of memory: by the first sheet, the first sessions and the events alone.
 -- Assumes nothing.
 use Prim.Native.Nat.{ℕ, _+_, _*_, _-_, _<_, _≤_}
 use mathlib.Core.Path.{_≡_}
@@ -8,17 +8,19 @@ use lib.ListN.{length, getD}
 use lib.Dec.{ltb, eqb}
 use Rattle.sheet.specs.Layout.{_of_}
 use Rattle.sheet.specs.Property as property
+use Rattle.sheet.specs.declared.Memory.{Memory}
 use Rattle.pdu.specs.Read.{readPdu}
 use Rattle.pdu.specs.Write.{encoded}
 use Rattle.pdu.specs.declared.Parsed.the-variants.{Is}
 use Rattle.pdu.specs.declared.Pdu.the-variants.{PropertyValueRead, PropertyValueResponse}
 use Rattle.device.specs.Octets.{Octets}
 use Rattle.device.specs.Events.{Event, Effect, request}
-use Rattle.history.specs.Location.{body}
+use Rattle.device.specs.MemoryDue.{reading, response}
+use Rattle.history.specs.Location.{memory, body}
 use Rattle.history.specs.Span.{all, names}
 use Rattle.history.specs.Wish.{Wish, change, writeMemory, writeBits, writeProperty, writeKey, offerKey, restart, other, nothing}
-use Rattle.history.specs.Permit.{entryFor, countIn, spans}
-use Rattle.history.specs.History.{First, firstOf, wished, supplied, content, permitted}
+use Rattle.history.specs.Permit.{levelFor, mayRead, entryFor, countIn, spans}
+use Rattle.history.specs.History.{First, firstOf, wished, supplied, level, content, permitted}
 use Rattle.history.specs.Keeps.{Device, stateAfter, Begins, AllOctets}
 
 -- the bytes of one element
@@ -61,3 +63,19 @@ ShownWasWritten step =
     (object id n s : ℕ) → readPdu a ≡ Is (PropertyValueRead object id n s) → 1 ≤ s →
     step f h (stateAfter step f h) (request mode c g a out) .outcome ≡ 0 →
     Shows f h object id n s (step f h (stateAfter step f h) (request mode c g a out))
+
+-- the answer shows n bytes of a memory from address y on: each is there and may be read at the level that the history gives, and it is what the history says
+pub record MemoryShows (f : First) (h : List Event) (mode c : ℕ) (m : Memory) (n y : ℕ) (r : Effect) : Type 0 where
+  pub bytes : List ℕ
+  pub answer : r .answer ≡ encoded (response m n y) bytes
+  pub long : length bytes ≡ n
+  pub mayBeRead : (k : ℕ) → k < n → mayRead (f .sheet) m (levelFor mode (level f h c)) (y + k) ≡ true
+  pub holds : (k : ℕ) → k < n → getD bytes k 0 ≡ content f h (memory m (y + k))
+
+-- WHAT IS SHOWN OF MEMORY IS WHAT THE HISTORY SAYS: after every history, whenever a read of either memory is carried out
+abbrev pub MemoryShown : Device → Type 0
+MemoryShown step =
+    (f : First) (h : List Event) → Begins f → AllOctets h → (mode c g : ℕ) (a out : List ℕ) → Octets a →
+    (m : Memory) (n y : ℕ) → readPdu a ≡ Is (reading m n y) →
+    step f h (stateAfter step f h) (request mode c g a out) .outcome ≡ 0 →
+    MemoryShows f h mode c m n y (step f h (stateAfter step f h) (request mode c g a out))
