@@ -1,13 +1,14 @@
 //! Isolation, on the library: two runs from the same sheet and sessions, in which a
 //! tool and all other traffic do the same, and the other tool sends what it likes in
-//! each, as long as no byte of the sheet changes by it and it restarts nothing.
+//! each, on its connection or on none, as long as no byte of the sheet changes by it
+//! and it restarts nothing.
 //! Then the tool is answered alike: each event that both runs have gets the same
 //! outcome and answer, whatever its buffer held before, and after every event sheet
 //! and the tool's session are the same in both.
 
 use model::device::{Session, Sessions};
 use model::faults::Fault;
-use model::gen::{self, Event, Rng, Tools};
+use model::gen::{self, Ask, Event, Rng, Tools};
 use model::matrix;
 
 use crate::play::{Play, World, REQUEST};
@@ -69,6 +70,16 @@ fn is_of(other: usize, event: &Event) -> bool {
         _ => return false,
     };
     named as usize == other
+}
+
+/// Whether a request names no connection.
+fn unconnected(ask: &Ask) -> bool {
+    ask.way.mode != 3
+}
+
+/// Whether an event may be the other tool's: it is, or it is a request that names no connection.
+fn may_be_of(other: usize, event: &Event) -> bool {
+    is_of(other, event) || matches!(event, Event::Request(ask) if unconnected(ask))
 }
 
 /// The event with other bytes in its buffer, of the same number.
@@ -137,9 +148,15 @@ impl Maker {
         world: &World,
     ) -> Option<Step> {
         let own = world.sessions[other];
-        let event = tools.event_of(other, &mut self.rng, &world.sheet, own);
-        if !is_of(other, &event) {
+        let mut event = tools.event_of(other, &mut self.rng, &world.sheet, own);
+        if !may_be_of(other, &event) {
             return None;
+        }
+        match &mut event {
+            Event::Request(ask) if unconnected(ask) => {
+                ask.way.connection = self.rng.below(3) as u8; // which isn't read
+            }
+            _ => (),
         }
         let restart = matches!(&event, Event::Request(ask) if matrix::row(&ask.apdu) == 16);
         let (play, mut after, mut reply) = (Play::of(event), world.clone(), Vec::new());
@@ -199,6 +216,8 @@ impl Pair {
                         return Some(i);
                     }
                     tally.alone += 1;
+                    tally.unconnected +=
+                        usize::from(matches!(play, Play::Request(ask) if unconnected(ask)));
                     tally.carried_out += usize::from(seen.outcome <= 1);
                 }
             }
@@ -230,6 +249,7 @@ struct Tally {
     shared: usize,
     answered: usize,
     alone: usize,
+    unconnected: usize,
     carried_out: usize,
 }
 
@@ -272,11 +292,12 @@ pub fn apart(program: &str, events: usize, seed: u64) -> bool {
     }
     let found = Fault::MIXING.into_iter().filter(|&fault| sees(fault, seed)).count();
     println!(
-        "compare: {} times two runs, seed {seed}: {} events of both, {} answered, and {} of the other tool in one, {} carried out: 0 different; {found} of {} faults found",
+        "compare: {} times two runs, seed {seed}: {} events of both, {} answered, and {} of the other tool in one, {} on no connection, {} carried out: 0 different; {found} of {} faults found",
         tally.runs,
         tally.shared,
         tally.answered,
         tally.alone,
+        tally.unconnected,
         tally.carried_out,
         Fault::MIXING.len()
     );
@@ -285,4 +306,5 @@ pub fn apart(program: &str, events: usize, seed: u64) -> bool {
         && ended == [true; 2]
         && tally.answered * 4 > tally.shared
         && tally.carried_out * 4 > tally.alone
+        && tally.unconnected * 20 > tally.alone
 }

@@ -350,6 +350,9 @@ fn step<const ON: bool>(
     } else {
         level
     };
+    if mode == 2 && faults.is(Fault::UnconnectedTakesLevel) {
+        sessions.get_mut(own).into_iter().for_each(|s| s.level = 3);
+    }
     let rules = if faults.is(Fault::AlwaysLater) { LATER } else { sheet::rules(sheet) };
     let modes = modes(rules, pdu::code(apdu));
     if modes == 0 {

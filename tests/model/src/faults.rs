@@ -69,10 +69,12 @@ pub enum Fault {
     UnknownConnects,
     /// A number that is no connection's is refused in every mode.
     NumberAlwaysRead,
+    /// A connectionless request puts the connection that it happens to name to level 3.
+    UnconnectedTakesLevel,
 }
 
 impl Fault {
-    pub const ALL: [Fault; 33] = [
+    pub const ALL: [Fault; 34] = [
         Fault::StoreFirst,
         Fault::LevelsReversed,
         Fault::WrongKeyKeepsLevel,
@@ -106,15 +108,17 @@ impl Fault {
         Fault::UnknownTakenForSecond,
         Fault::UnknownConnects,
         Fault::NumberAlwaysRead,
+        Fault::UnconnectedTakesLevel,
     ];
 
     /// Those by which one tool meets what the other did, though that changed no byte and was no restart.
-    pub const MIXING: [Fault; 5] = [
+    pub const MIXING: [Fault; 6] = [
         Fault::OneLevel,
         Fault::ConnectResetsBoth,
         Fault::DisconnectEndsBoth,
         Fault::WrongKeyLowersBoth,
         Fault::BetterLevelCounts,
+        Fault::UnconnectedTakesLevel,
     ];
 }
 
