@@ -1,7 +1,9 @@
-# What there is to make, which `make` alone tells too; the parts stand in mk/.
+# What there is to make, which `make` alone tells too; the parts stand in mk/, their scripts in mk/bin.
 SHELL := /bin/bash
 .SHELLFLAGS := -euo pipefail -c
 .DEFAULT_GOAL := help
+# where cargo leaves its programs (.cargo/config.toml)
+CARGO_BIN := build/cargo/release
 .PHONY: help test need-tools documents model prove sheet-check
 
 help:
@@ -38,8 +40,8 @@ need-tools:
 
 # the plain Rust model of the rules, against the vectors; and that the benchmark still compiles
 model: need-tools
-	cd tests/model && cargo test --offline --release --quiet
-	cd tests/bench && cargo check --offline --release --quiet
+	cargo test --release --quiet -p model
+	cargo check --release --quiet -p bench
 
 # the checking program on files and pipes; what the other tests link is proved in the same run, where prove has not done so
 sheet-check: need-tools

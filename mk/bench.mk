@@ -4,6 +4,6 @@
 #: make bench      the speed of each request, beside plain Rust
 # nanoseconds and instructions for each request: figures and no verdict, so not among the tests
 bench: build/own/libhost.a build/own/libtool.a
-	cd tests/bench && cargo build --offline --release --quiet
-	tests/bench/target/release/bench
-	tests/bench/target/release/points
+	cargo build --release --quiet -p bench
+	$(CARGO_BIN)/bench
+	$(CARGO_BIN)/point_times

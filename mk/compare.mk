@@ -3,11 +3,11 @@
 
 EVENTS ?= 2000000
 SEED ?=
-COMPARE := tests/compare/target/release/compare
+COMPARE := $(CARGO_BIN)/compare
 
 #: make compare    the libraries against a plain Rust model; EVENTS and SEED may be given
 compare: build/bridge
-	cd tests/compare && cargo build --offline --release --quiet
+	cargo build --release --quiet -p compare
 	$(COMPARE) build/bridge $(EVENTS) $(SEED)
 	$(COMPARE) build/bridge --faults $(SEED)
 	$(COMPARE) build/bridge --apart $$(($(EVENTS) / 10)) $(SEED)
@@ -19,5 +19,5 @@ build/bridge: tests/compare/bridge.c mk/compare.mk $(LINKED) | need-gcc
 
 # group values against the model, through the desk unit
 points: build/unit
-	cd tests/compare && cargo build --offline --release --quiet
-	tests/compare/target/release/points build/unit
+	cargo build --release --quiet -p compare
+	$(CARGO_BIN)/points build/unit

@@ -5,22 +5,22 @@ FIRMWARE := $(PROCESSORS:%=build/firmware/%/libkelindap_device.a)
 
 #: make firmware   the device for the controllers' own processors, with its bytes and the deepest stack of each call
 firmware: $(FIRMWARE)
-	for p in $(PROCESSORS); do mk/sizes $$p; done
+	for p in $(PROCESSORS); do mk/bin/sizes $$p; done
 
-build/firmware/%/libkelindap_device.a: build/module/host.bc firmware/shim.c firmware/aeabi.c $(wildcard include/*.h) mk/firmware | need-gcc
-	mk/firmware $*
+build/firmware/%/libkelindap_device.a: build/module/host.bc firmware/shim.c firmware/aeabi.c $(wildcard include/*.h) mk/bin/firmware | need-gcc
+	mk/bin/firmware $*
 
 #: make test-firmware   the same on models of their boards; FIRMWARE_EVENTS and SEED may be given
 FIRMWARE_EVENTS ?= 100000
 test-firmware: firmware build/bridge
-	cd tests/compare && cargo build --offline --release --quiet
+	cargo build --release --quiet -p compare
 	for p in $(PROCESSORS); do tests/c/symbols.sh include/kelindap.h build/firmware/$$p/libkelindap_device.a; done
 	EVENTS=$(FIRMWARE_EVENTS) SEED=$(SEED) tests/firmware/run.sh $(COMPARE) build/bridge
 
 #: make times      instructions of each request on them, counted by the emulators
 # figures and no verdict, so not among the tests
 times: firmware
-	cd tests/compare && cargo build --offline --release --quiet
-	for p in $(PROCESSORS); do mk/firmware $$p bridge tests/compare/bridge.c tests/firmware/board.c tests/firmware/memory.c; done
+	cargo build --release --quiet -p compare
+	for p in $(PROCESSORS); do mk/bin/firmware $$p bridge tests/compare/bridge.c tests/firmware/board.c tests/firmware/memory.c; done
 	printf '%-31s' "sheet  request"; printf ' %9s' $(PROCESSORS); echo
 	COUNT=1 $(COMPARE) --times $(PROCESSORS:%=build/firmware/%/bridge) 2> /dev/null

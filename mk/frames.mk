@@ -6,8 +6,8 @@ FRAMES ?= 20000
 test-frames: build/unit build/unit_watched build/frame_test
 	$(WATCHED) build/frame_test
 	grep -v '^#' tests/vectors/frame.tsv | cut -f 2 | $(WATCHED) build/unit_watched | cmp - <(grep -v '^#' tests/vectors/frame.tsv | cut -f 3)
-	cd tests/model && cargo build --offline --release --quiet
-	tests/model/target/release/frames build/frames.in build/frames.out $(FRAMES) $(SEED)
+	cargo build --release --quiet -p model
+	$(CARGO_BIN)/frames build/frames.in build/frames.out $(FRAMES) $(SEED)
 	build/unit < build/frames.in | cmp - build/frames.out
 	head -n 2000 build/frames.in | $(WATCHED) build/unit_watched | cmp - <(head -n 2000 build/frames.out)
 	tests/unit/frames.sh build/unit < tests/unit/frames.bus | cmp - tests/unit/frames.expected

@@ -2,10 +2,10 @@
 HOST_A ?= build/libkelindap_device.a
 TOOL_A ?= build/libkelindap_pdu.a
 # the compiler that makes programs for the archives' processor, x86-64
-CC86 ?= mk/cc86
+CC86 ?= mk/bin/cc86
 STRICT := -std=c11 -O2 -Wall -Wextra -Wpedantic -Werror -Iinclude
 # The sanitizers are the machine's own. Where programs for x86-64 are emulated, undefined behaviour traps, guard bytes and
-# walls remain, and the host is watched once more, in full, with the library compiled for this machine (mk/own).
+# walls remain, and the host is watched once more, in full, with the library compiled for this machine (mk/bin/own).
 SANITIZERS := -fsanitize=address,undefined -fno-sanitize-recover=all
 ifeq ($(shell uname -m),x86_64)
 SANITIZE ?= $(SANITIZERS)
@@ -17,7 +17,7 @@ endif
 # leaks are no matter here: the libraries have no heap, and looking for them takes long
 WATCHED := ASAN_OPTIONS=detect_leaks=0
 # what every program here rests on
-LINKED := $(wildcard include/*.h) $(wildcard hosts/*.inc) mk/cc86 mk/hosts.mk $(HOST_A) $(TOOL_A)
+LINKED := $(wildcard include/*.h) $(wildcard hosts/*.inc) mk/bin/cc86 mk/hosts.mk $(HOST_A) $(TOOL_A)
 .PHONY: unit run test-unit test-c need-gcc
 
 #: make unit       the desk unit, build/unit, and the two libraries
@@ -95,11 +95,11 @@ build/libkelindap_pdu.a: target/staticlib/libtool.a
 	@cp $< $@
 
 # the archives are made anew when a source or a proof has changed, and with them the modules for other processors
-target/staticlib/lib%.a build/module/%.bc: mk/module crates.txt $(shell find crates -name '*.rt' -o -name '*.antt')
+target/staticlib/lib%.a build/module/%.bc: mk/bin/module crates.txt $(shell find crates -name '*.rt' -o -name '*.antt')
 	@echo "lib$*.a is proved and built, which takes some minutes at first"
-	@mk/module $*
+	@mk/bin/module $*
 .PRECIOUS: target/staticlib/lib%.a build/module/%.bc
 
 # the same for this machine's own processor, to be watched and timed
-build/own/lib%.a: mk/own target/staticlib/lib%.a build/module/%.bc
-	mk/own $*
+build/own/lib%.a: mk/bin/own target/staticlib/lib%.a build/module/%.bc
+	mk/bin/own $*

@@ -9,13 +9,12 @@ build/host build/height: build/%: examples/%.c examples/bus.h $(LINKED) | need-g
 	gcc $(STRICT) -c $< -o /dev/null
 	$(CC86) -o $@ $(STRICT) $< $(HOST_A) $(TOOL_A)
 
-build/sheet: $(shell find tools/sheet/src -name '*.rs') tools/sheet/Cargo.toml mk/tools.mk
-	cd tools/sheet && cargo build --offline --release --quiet
-	mkdir -p build
-	cp tools/sheet/target/release/sheet build/sheet
+build/sheet: $(shell find tools/sheet/src -name '*.rs') tools/sheet/Cargo.toml Cargo.toml mk/tools.mk
+	cargo build --release --quiet -p sheet
+	cp $(CARGO_BIN)/sheet build/sheet
 
 test-tools: tools build/unit
-	cd tools/sheet && UNIT=$(CURDIR)/build/unit cargo test --offline --release --quiet
+	UNIT=$(CURDIR)/build/unit cargo test --release --quiet -p sheet
 	tests/examples.sh build/host build/height build/sheet
 	CC86="$(CC86)" tests/install.sh
 

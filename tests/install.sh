@@ -32,7 +32,7 @@ if command -v pkg-config > /dev/null; then
     by="pkg-config"
 fi
 read -ra words <<< "$flags"
-"${CC86:-mk/cc86}" -o "$work/host" -std=c11 "$work/host.c" "${words[@]}"
+"${CC86:-mk/bin/cc86}" -o "$work/host" -std=c11 "$work/host.c" "${words[@]}"
 [ "$("$work/host")" = "$version 1 1 no PDU that can be written" ] || { echo "install: $("$work/host")"; exit 1; }
 "$work/at/bin/kelindap-sheet" make /dev/null > "$work/said" 2>&1 || true
 grep -q 'edition is missing' "$work/said" || { echo "install: no sheet program"; exit 1; }

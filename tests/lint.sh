@@ -5,20 +5,16 @@ cd "$(dirname "$0")/.."
 done=()
 
 if cargo fmt --version > /dev/null 2>&1; then
-    for crate in tests/model tests/compare tests/bench tools/sheet; do
-        (cd "$crate" && cargo fmt --check)
-    done
+    cargo fmt --all --check
     done+=("cargo fmt")
 fi
 # the benchmark needs an archive to be linked with, so it is not among these
 if cargo clippy --version > /dev/null 2>&1; then
-    for crate in tests/model tests/compare tools/sheet; do
-        (cd "$crate" && cargo clippy --offline --release --quiet --all-targets -- -D warnings)
-    done
+    cargo clippy --release --quiet --all-targets -- -D warnings
     done+=("clippy")
 fi
 if command -v shellcheck > /dev/null; then
-    mapfile -t scripts < <(grep -rlE --exclude-dir=target '^#!/usr/bin/env bash' .ci mk scripts tests)
+    mapfile -t scripts < <(grep -rlE '^#!/usr/bin/env bash' .ci mk scripts tests)
     shellcheck -S warning "${scripts[@]}"
     done+=("shellcheck")
 fi

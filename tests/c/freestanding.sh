@@ -7,7 +7,7 @@ cd "$(dirname "$0")/../.."
 work=$(mktemp -d)
 trap 'rm -rf "$work"' EXIT
 
-${CC86:-mk/cc86} -o "$work/bare" -std=c11 -O2 -Wall -Wextra -Wpedantic -Werror -Iinclude -ffreestanding \
+${CC86:-mk/bin/cc86} -o "$work/bare" -std=c11 -O2 -Wall -Wextra -Wpedantic -Werror -Iinclude -ffreestanding \
     -fno-stack-protector -nostdlib -static tests/c/bare.c "$host" "$tool"
 status=0
 "$work/bare" || status=$?

@@ -29,7 +29,7 @@ play() {
 # the stack that was touched is no more than the compiler and the listings say
 stack_holds() {
     local processor=$1 painted name
-    mk/stack "$processor" "build/firmware/$processor/bridge-memory.s" > "$work/said"
+    mk/bin/stack "$processor" "build/firmware/$processor/bridge-memory.s" > "$work/said"
     painted=$(grep '^painted ' "$work/err") || fail "$processor told no stack"
     for pair in ${painted#painted }; do
         name=${pair%=*}
@@ -49,7 +49,7 @@ wall_stands() {
 
 # PROCESSOR PROGRAM: makes the program and plays the scripts on it; lines says how many
 play_scripts() {
-    mk/firmware "$1" "$2" tests/compare/bridge.c tests/firmware/board.c tests/firmware/memory.c
+    mk/bin/firmware "$1" "$2" tests/compare/bridge.c tests/firmware/board.c tests/firmware/memory.c
     "${compare[@]}" "build/firmware/$1/$2" --scripts "${scripts[@]}" > "$work/out" 2> "$work/err" ||
         { cat "$work/out" "$work/err"; fail "$1: a script"; }
     lines=$(grep -o '[0-9]* lines' "$work/out")
