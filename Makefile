@@ -4,7 +4,7 @@ SHELL := /bin/bash
 .DEFAULT_GOAL := help
 # where cargo leaves its programs (.cargo/config.toml)
 CARGO_BIN := build/cargo/release
-.PHONY: help test need-tools documents model prove sheet-check
+.PHONY: help test need-tools documents reading model prove sheet-check
 
 help:
 	@sed -n 's/^#: //p' $(MAKEFILE_LIST)
@@ -28,11 +28,18 @@ prove: need-tools
 	rt ci 2>&1 | tee build/ci.log | sed -u '$$d' || { tail -n 1 build/ci.log; exit 1; }
 	tests/edits/gate.sh tests/edits/refused.tsv build/ci.log target/must-fail
 
-# every name that a document quotes stands where the document says
-documents: need-tools
-	mkdir -p build
-	rustc --edition 2021 -O -o build/names tests/docs/names.rs
-	build/names docs/PROMISES.md docs/READING.md docs/CONFORMANCE.md
+# every name that a document quotes stands where the document says; what is to be read is complete, and as long as READING says
+documents: need-tools build/documents/names build/documents/reading
+	build/documents/names docs/PROMISES.md docs/READING.md docs/CONFORMANCE.md
+	build/documents/reading --check docs/READING.md
+
+#: make reading    build/reading.md, the definitions that must be read for each demand, in order, with what is promised
+reading: build/documents/reading
+	build/documents/reading build/reading.md docs/READING.md
+
+build/documents/%: tests/docs/%.rs
+	mkdir -p build/documents
+	rustc --edition 2021 -O -o $@ $<
 
 # a missing tool fails the tests
 need-tools:

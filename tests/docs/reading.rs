@@ -1,0 +1,789 @@
+//! What must be read to believe each demand, written from the sources: the definitions that a theorem's statement rests on,
+//! each before those that use it, and the statement at the end.
+//!
+//! `reading TEXT DOCUMENT` writes the text to TEXT and its counts into the table of DOCUMENT; `reading --check DOCUMENT`
+//! holds the table to the sources. Both fail if a name in a statement or a definition is neither defined in the text, nor
+//! the library's, nor bound where it stands. Modules are found by their paths, so a definition may move.
+
+use std::collections::{BTreeMap, BTreeSet};
+use std::path::{Path, PathBuf};
+use std::{env, fs, process};
+
+/// A demand: its heading, what it says, and its statements: a theorem by its name, with its crate where two have one of
+/// that name, or a call by `fn` and its name.
+struct Part {
+    title: &'static str,
+    says: &'static str,
+    statements: &'static [&'static str],
+}
+
+const PARTS: &[Part] = &[
+    Part {
+        title: "The calls",
+        says: "what each call of include/kelindap.h promises of its result and of every byte lent to it",
+        statements: &[
+            "fn host/kelindap_fresh",
+            "fn host/kelindap_connect",
+            "fn host/kelindap_disconnect",
+            "fn host/kelindap_button",
+            "fn host/kelindap_request",
+            "fn host/kelindap_check",
+        ],
+    },
+    Part {
+        title: "Demand 1",
+        says: "every request gets an outcome, and a refusal changes nothing",
+        statements: &["host/request-leaves"],
+    },
+    Part {
+        title: "Demand 2",
+        says: "read, judged, carried out and answered as the rules say, and nothing else",
+        statements: &[
+            "host/request-due",
+            "host/request-only",
+            "connect-due",
+            "connect-only",
+            "disconnect-due",
+            "disconnect-only",
+            "button-due",
+            "button-only",
+        ],
+    },
+    Part { title: "Demand 3", says: "what any history leaves", statements: &["keeps"] },
+    Part {
+        title: "`keyless`",
+        says: "without the key nobody changes a protected byte",
+        statements: &["history/shut", "keyless", "keyless-run", "locked"],
+    },
+    Part { title: "`isolated`", says: "what one tool sees does not depend on the other", statements: &["isolated"] },
+];
+
+/// Where reading stops: a definition, why it need not be read, and the theorems that are read in its place.
+const STOPS: &[(&str, &str, &[&str])] = &[
+    ("requestOf", "what a request does: contract and theorems meet there", &[]),
+    ("stepOf", "what a request does on its session: contract and theorems meet there", &[]),
+    ("buttonOutcome", "what the button does: contract and theorems meet there", &[]),
+    ("buttonSheet", "what the button does: contract and theorems meet there", &[]),
+    ("ruleIn", "the rules as rows of a table; read as nine propositions", &["sheet/judged", "sheet/judged-only"]),
+];
+
+/// What the language has without a `use` line, in definitions, in statements and in contracts.
+const LANGUAGE: &str =
+    "Type Unit ⊥ × → = : λ λ. let in record data where pub abbrev unfoldable mutual module infix _ | Dec \
+    ⌜ ⌝ now ensures fn extern \"C\" -> & &mut mut u8 u16 u32 u64 usize bool [u8] &[u8]";
+
+/// The words that begin a definition.
+const KEYWORDS: &[&str] = &["pub ", "abbrev ", "unfoldable ", "data ", "record "];
+
+const HEADING: &str = "| To believe | Lines to read | Of these not read above | Promised by |";
+const FENCE: &str = "```";
+
+fn main() {
+    let words: Vec<String> = env::args().skip(1).collect();
+    let mut tree = Tree::default();
+    let text = tree.text();
+    for (path, name) in &tree.unknown {
+        println!("reading: `{name}` in {} is neither defined in the text nor the library's", path.display());
+    }
+    match words.iter().map(String::as_str).collect::<Vec<_>>()[..] {
+        ["--check", document] => {
+            let (old, new) = tabled(document, &tree.table);
+            if old != new {
+                println!("reading: the table of {document} is not what the sources say; `make reading` writes it anew");
+            }
+            println!("reading: {}", tree.said);
+            process::exit(i32::from(old != new || !tree.unknown.is_empty()));
+        }
+        [to, document] => {
+            put(to, &text);
+            put(document, &tabled(document, &tree.table).1);
+            println!("reading: {to}: {}", tree.said);
+            process::exit(i32::from(!tree.unknown.is_empty()));
+        }
+        _ => stop("reading TEXT DOCUMENT, or reading --check DOCUMENT"),
+    }
+}
+
+/// A document as it is, and with this table in place of the one that its text announces.
+fn tabled(document: &str, table: &[String]) -> (String, String) {
+    let old = fs::read_to_string(document).unwrap_or_else(|e| stop(&format!("{document}: {e}")));
+    let head = HEADING;
+    let mut lines: Vec<&str> = old.lines().collect();
+    let Some(from) = lines.iter().position(|l| *l == head) else {
+        stop(&format!("{document}: no table begins with {head}"))
+    };
+    let to = from + lines[from..].iter().take_while(|l| l.starts_with('|')).count();
+    lines.splice(from..to, table.iter().map(String::as_str));
+    let new = lines.join("\n") + "\n";
+    (old, new)
+}
+
+/// A definition, a declared type or a statement.
+#[derive(Clone, Default)]
+struct Item {
+    file: PathBuf,
+    text: Vec<String>,
+    names: BTreeSet<String>,
+    /// Of the names those that a pattern may have.
+    builders: BTreeSet<String>,
+    fields: BTreeSet<String>,
+    /// The words of a signature, of a clause, of a field; and what is bound in all of them.
+    scopes: Vec<Vec<String>>,
+    bound: BTreeSet<String>,
+}
+
+/// What a file uses, by name and by alias, and the items that it has.
+#[derive(Clone, Default)]
+struct Module {
+    uses: BTreeMap<String, (String, String)>,
+    aliases: BTreeMap<String, String>,
+    items: Vec<Item>,
+}
+
+/// An item by its module and its number there.
+type At = (PathBuf, usize);
+
+/// What a name stands for.
+enum Meaning {
+    Item(At),
+    Library(String),
+    Local,
+    Unknown,
+}
+
+#[derive(Default)]
+struct Tree {
+    modules: BTreeMap<PathBuf, Module>,
+    library: BTreeMap<String, BTreeSet<String>>,
+    unknown: BTreeSet<(PathBuf, String)>,
+    table: Vec<String>,
+    said: String,
+}
+
+impl Tree {
+    /// The whole text; leaves the table, and what was not known.
+    fn text(&mut self) -> String {
+        let mut out = vec![
+            "# What must be read".to_string(),
+            String::new(),
+            "Written by `make reading` from the sources. A part has the definitions that are new in it, each after those that it rests on, and ends with what is promised.".to_string(),
+        ];
+        self.table = vec![HEADING.to_string(), "|---|---|---|---|".to_string()];
+        let mut read: BTreeSet<At> = BTreeSet::new();
+        let mut told: BTreeSet<BTreeSet<String>> = BTreeSet::new();
+        let mut total = 0;
+        for part in PARTS {
+            let mut names: Vec<&str> = part.statements.to_vec();
+            let (mut statements, mut items, mut stops) = (Vec::new(), BTreeSet::new(), BTreeSet::new());
+            let mut next = 0;
+            while next < names.len() {
+                let statement = self.statement(names[next]);
+                next += 1;
+                // a call has the types of its crate
+                let code = statement.file.extension().is_some_and(|e| e == "rt");
+                let module = statement.file.parent().filter(|_| code).unwrap_or(&statement.file);
+                let from = self.needs(module, &statement);
+                stops.extend(self.close(from, &mut items));
+                for k in &stops {
+                    names.extend(STOPS[*k].2.iter().filter(|s| !names.contains(s)).collect::<Vec<_>>());
+                }
+                statements.push(statement);
+            }
+            self.project(&items, &statements);
+            let promised = promised(part, &statements);
+            statements.retain(|s| told.insert(s.names.clone()));
+            stops.retain(|k| told.insert([STOPS[*k].0.to_string()].into()));
+            let order = self.order(&items);
+            let new: Vec<At> = order.iter().filter(|at| !read.contains(*at)).cloned().collect();
+            let (all_lines, new_lines) = (self.lines(&order), self.lines(&new));
+            total += new_lines;
+            self.table.push(format!("| {}: {} | {all_lines} | {new_lines} | {promised} |", part.title, part.says));
+            out.extend([String::new(), format!("## {}: {}", part.title, part.says)]);
+            let mut file = PathBuf::new();
+            for at in &new {
+                let item = self.item(at);
+                if item.file != file {
+                    file = item.file.clone();
+                    end(&mut out);
+                    out.extend([String::new(), format!("### {}", file.display()), String::new()]);
+                    out.extend([first_line(&file), String::new(), FENCE.to_string()]);
+                } else {
+                    out.push(String::new());
+                }
+                out.extend(item.text.iter().cloned());
+            }
+            end(&mut out);
+            out.extend([String::new(), format!("### {}: what is promised", part.title)]);
+            for item in &statements {
+                out.extend([String::new(), format!("{}:", item.file.display()), String::new(), FENCE.to_string()]);
+                out.extend(item.text.iter().cloned());
+                out.push(FENCE.to_string());
+            }
+            if !stops.is_empty() {
+                out.extend([String::new(), "Not read:".to_string(), String::new()]);
+                out.extend(stops.iter().map(|&k| format!("- `{}`, {}", STOPS[k].0, STOPS[k].1)));
+            }
+            read.extend(items);
+        }
+        out.extend([String::new(), "## The library's names".to_string(), String::new()]);
+        for (module, names) in &self.library {
+            let names: Vec<String> = names.iter().map(|n| format!("`{n}`")).collect();
+            out.push(format!("- {module}: {}", names.join(", ")));
+        }
+        self.said =
+            format!("{} definitions, {total} lines, {} names without a meaning", read.len(), self.unknown.len());
+        out.join("\n") + "\n"
+    }
+
+    fn item(&self, at: &At) -> &Item {
+        &self.modules[&at.0].items[at.1]
+    }
+
+    fn lines(&self, list: &[At]) -> usize {
+        list.iter().map(|at| self.item(at).text.len()).sum()
+    }
+
+    /// Adds to `items` all that these rest on; gives the stops that were met.
+    fn close(&mut self, from: BTreeSet<At>, items: &mut BTreeSet<At>) -> BTreeSet<usize> {
+        let mut stops = BTreeSet::new();
+        let mut todo: Vec<At> = from.into_iter().collect();
+        while let Some(at) = todo.pop() {
+            let item = self.item(&at).clone();
+            if let Some(k) = STOPS.iter().position(|s| item.names.contains(s.0)) {
+                stops.insert(k);
+            } else if items.insert(at.clone()) {
+                todo.extend(self.needs(&at.0, &item));
+            }
+        }
+        stops
+    }
+
+    /// Every field that is taken or given is one of a record in the text.
+    fn project(&mut self, items: &BTreeSet<At>, statements: &[Item]) {
+        let all: Vec<Item> = items.iter().map(|at| self.item(at).clone()).chain(statements.iter().cloned()).collect();
+        let fields: BTreeSet<String> = all.iter().flat_map(|i| i.fields.iter().cloned()).collect();
+        for item in &all {
+            for word in item.scopes.iter().flatten().filter_map(|w| w.strip_prefix('.')) {
+                let number = word.starts_with(|c: char| c.is_ascii_digit());
+                if !number && !word.is_empty() && !fields.contains(word) && !["entry", "exit"].contains(&word) {
+                    self.unknown.insert((item.file.clone(), format!(".{word}")));
+                }
+            }
+        }
+    }
+
+    /// The items in reading order: each after those that it rests on, those of one file together where that can be.
+    fn order(&mut self, items: &BTreeSet<At>) -> Vec<At> {
+        let needs: BTreeMap<At, BTreeSet<At>> = items
+            .iter()
+            .map(|at| {
+                let item = self.item(at).clone();
+                let rests = self.needs(&at.0, &item).into_iter().filter(|n| n != at && items.contains(n)).collect();
+                (at.clone(), rests)
+            })
+            .collect();
+        // a file comes after the files that its items rest on
+        let mut files: Vec<PathBuf> = Vec::new();
+        fn visit(
+            path: &Path,
+            needs: &BTreeMap<At, BTreeSet<At>>,
+            seen: &mut BTreeSet<PathBuf>,
+            files: &mut Vec<PathBuf>,
+        ) {
+            if seen.insert(path.to_path_buf()) {
+                for (_, rests) in needs.iter().filter(|(at, _)| at.0 == path) {
+                    rests.iter().for_each(|n| visit(&n.0, needs, seen, files));
+                }
+                files.push(path.to_path_buf());
+            }
+        }
+        let mut seen = BTreeSet::new();
+        needs.keys().for_each(|at| visit(&at.0, &needs, &mut seen, &mut files));
+        let order: Vec<At> = files.iter().flat_map(|p| items.iter().filter(move |at| at.0 == *p).cloned()).collect();
+        for (k, at) in order.iter().enumerate() {
+            for late in needs[at].iter().filter(|n| !order[..k].contains(n)) {
+                let (file, names) = (self.item(at).file.clone(), self.item(late).names.clone());
+                self.unknown.extend(names.into_iter().map(|n| (file.clone(), n)));
+            }
+        }
+        order
+    }
+
+    /// The items that an item rests on; a name without a meaning is noted.
+    fn needs(&mut self, path: &Path, item: &Item) -> BTreeSet<At> {
+        let mut needs = BTreeSet::new();
+        for scope in &item.scopes {
+            let bound = binders(scope);
+            for word in scope.iter().filter(|w| is_name(w)) {
+                match self.meaning(path, item, &bound, word) {
+                    Meaning::Item(at) => drop(needs.insert(at)),
+                    Meaning::Library(module) => drop(self.library.entry(module).or_default().insert(word.clone())),
+                    Meaning::Local => {}
+                    Meaning::Unknown => drop(self.unknown.insert((item.file.clone(), word.clone()))),
+                }
+            }
+        }
+        needs
+    }
+
+    fn meaning(&mut self, path: &Path, item: &Item, bound: &Bound, word: &str) -> Meaning {
+        if item.names.contains(word) || [&bound.names, &item.bound, &item.fields].iter().any(|s| s.contains(word)) {
+            return Meaning::Local;
+        }
+        let module = self.module(path).clone();
+        let operator = format!("_{word}_");
+        for name in [word, &operator] {
+            let found = match name.split_once('.') {
+                Some((alias, inner)) => module.aliases.get(alias).map(|m| (m.clone(), inner.to_string())),
+                None if module.items.iter().any(|i| i.names.contains(name)) => Some((String::new(), name.to_string())),
+                None => module.uses.get(name).cloned(),
+            };
+            let Some((from, name)) = found else { continue };
+            let at = if from.is_empty() {
+                self.find(&Home::Module(path.to_path_buf()), &name)
+            } else {
+                self.from(&from, &name)
+            };
+            return match at {
+                Some(at) if bound.patterns.contains(word) && !self.item(&at).builders.contains(&name) => Meaning::Local,
+                Some(at) => Meaning::Item(at),
+                None if home(&from).is_none() => Meaning::Library(from),
+                None => Meaning::Unknown,
+            };
+        }
+        if bound.patterns.contains(word) {
+            Meaning::Local
+        } else {
+            Meaning::Unknown
+        }
+    }
+
+    fn from(&mut self, from: &str, name: &str) -> Option<At> {
+        self.find(&home(from)?, name)
+    }
+
+    /// A name of a module, or of one that this has it from.
+    fn find(&mut self, home: &Home, name: &str) -> Option<At> {
+        let (path, kind) = match home {
+            Home::Module(path) => (path, name),
+            Home::Declared(path, kind) => (path, kind.as_str()),
+        };
+        let module = self.module(path).clone();
+        if let Some(k) = module.items.iter().position(|i| i.names.contains(kind)) {
+            let has = module.items[k].names.contains(name) || module.items[k].builders.contains(name);
+            return has.then(|| (path.clone(), k));
+        }
+        let (from, inner) = module.uses.get(name)?;
+        self.from(from, inner)
+    }
+
+    fn module(&mut self, path: &Path) -> &Module {
+        if !self.modules.contains_key(path) {
+            let module = if path.is_dir() { types(path) } else { definitions(path) };
+            self.modules.insert(path.to_path_buf(), module);
+        }
+        &self.modules[path]
+    }
+
+    /// A theorem's statement with what its modules assume, or a call's contract.
+    fn statement(&mut self, name: &str) -> Item {
+        let (call, name) = name.strip_prefix("fn ").map_or((false, name), |n| (true, n));
+        let (crate_, name) = name.split_once('/').map_or((None, name), |(c, n)| (Some(c), n));
+        let (folder, start) = if call { ("src", format!("fn {name}(")) } else { ("proofs", format!("pub {name} :")) };
+        let mut found = Vec::new();
+        for c in folders("crates").iter().filter(|c| crate_.is_none_or(|n| n == *c)) {
+            for path in files(&Path::new("crates").join(c).join(folder)) {
+                let lines = lines_of(&path);
+                let at = |l: &String| if call { l.contains(&start) } else { l.trim_start().starts_with(&start) };
+                found.extend(lines.iter().position(at).map(|k| (path, lines, k)));
+            }
+        }
+        let [(path, lines, at)] = &found[..] else { stop(&format!("{} statements have the name {name}", found.len())) };
+        if call {
+            contract(path, lines, *at)
+        } else {
+            stated(path, lines, *at, false)
+        }
+    }
+}
+
+/// Where a name is from: a module's file, or a type that code declares, by the folder of the code and its name.
+enum Home {
+    Module(PathBuf),
+    Declared(PathBuf, String),
+}
+
+/// The home that a path of modules names, none if it is the library's: `Rattle.CRATE.specs.A`, of the crate itself
+/// `Rattle.CRATE.specs.A`.
+fn home(from: &str) -> Option<Home> {
+    let (name, rest) = from.strip_prefix("Rattle·")?.split_once('.')?;
+    let folder = Path::new("crates").join(name.split('·').next()?);
+    let parts: Vec<&str> = rest.split('.').collect();
+    if let ["specs", "declared", kind, ..] = parts[..] {
+        return Some(Home::Declared(folder.join("src"), kind.to_string()));
+    }
+    let file = parts.iter().fold(folder, |p, part| p.join(part));
+    Some(Home::Module(file.with_extension("antt")))
+}
+
+/// The uses of a file's lines: by name, and by alias.
+fn uses(lines: &[String]) -> Module {
+    let mut module = Module::default();
+    for line in lines {
+        let line = line.trim_start_matches("pub ").trim_start_matches("ghost ").trim_end_matches(';');
+        let Some(line) = line.strip_prefix("use ") else { continue };
+        if let Some((from, alias)) = line.split_once(" as ").filter(|_| !line.contains('{')) {
+            module.aliases.insert(alias.to_string(), from.to_string());
+        } else if let Some((from, names)) = line.trim_end_matches('}').split_once(".{") {
+            for name in names.split(',').map(str::trim) {
+                let (inner, name) = name.split_once(" as ").unwrap_or((name, name));
+                module.uses.insert(name.to_string(), (from.to_string(), inner.to_string()));
+            }
+        } else if let Some((from, name)) = line.rsplit_once("::") {
+            let from = format!("Rattle.{from}.specs.declared.{name}");
+            module.uses.insert(name.to_string(), (from, name.to_string()));
+        }
+    }
+    module
+}
+
+/// The definitions of a file: an item is a comment, a signature and what follows it.
+fn definitions(path: &Path) -> Module {
+    let lines = lines_of(path);
+    let mut module = uses(&lines);
+    if path.components().any(|c| c.as_os_str() == "proofs") {
+        // among laws, those that are handed on
+        let defines = |l: &str| ["abbrev pub ", "unfoldable pub "].iter().any(|w| l.trim_start().starts_with(w));
+        let at = (0..lines.len()).filter(|&k| defines(&lines[k]));
+        module.items = at.map(|k| stated(path, &lines, k, true)).collect();
+        return module;
+    }
+    let starts = |l: &str| KEYWORDS.iter().any(|k| l.starts_with(k)) || is_signature(l);
+    let mut item: Vec<String> = Vec::new();
+    let mut above: Vec<String> = Vec::new();
+    let mut items = Vec::new();
+    for line in lines.iter().filter(|l| !l.is_empty()) {
+        if line.starts_with("use ") || line.starts_with("pub use ") {
+            above.clear();
+        } else if line.starts_with("--") || line.starts_with("infix") {
+            above.push(line.clone());
+        } else {
+            if starts(line) && !item.is_empty() {
+                items.push(std::mem::take(&mut item));
+            }
+            item.append(&mut above);
+            item.push(line.clone());
+        }
+    }
+    items.push(item);
+    module.items = items.into_iter().map(|text| parsed(path, text)).collect();
+    module
+}
+
+/// An item from its text.
+fn parsed(path: &Path, text: Vec<String>) -> Item {
+    let mut item = Item { file: path.to_path_buf(), ..Item::default() };
+    let code: Vec<&str> =
+        text.iter().map(|l| uncommented(l)).filter(|l| !l.trim().is_empty() && !l.starts_with("infix")).collect();
+    let Some(first) = code.first() else { return item };
+    let built = KEYWORDS[3..].iter().any(|w| first.trim_start_matches("pub ").starts_with(w));
+    let base = if built || first.contains("mutual") { 2 } else { 0 };
+    let mut parts: Vec<Vec<&str>> = Vec::new();
+    for (k, line) in code.iter().enumerate() {
+        if k == 0 || indent(line) <= base && indent(line) + 2 > base {
+            parts.push(Vec::new());
+        }
+        parts.last_mut().expect("the first line opens one").push(line);
+    }
+    let scopes: Vec<Vec<String>> = parts.into_iter().map(scope).collect();
+    for (k, scope) in scopes.iter().enumerate() {
+        let front: Vec<String> = scope.iter().take_while(|w| *w != ":").filter(|w| !is_language(w)).cloned().collect();
+        let signed = scope.contains(&":".to_string()) && !scope.iter().take_while(|w| *w != ":").any(|w| w == "=");
+        if k == 0 && built {
+            // the name, and the parameters, which are bound in all of it
+            item.names.extend(front.first().cloned());
+            item.bound.extend(binders(scope).names);
+        } else if built && first.trim_start_matches("pub ").starts_with("record ") {
+            item.fields.extend(front);
+        } else if built {
+            item.names.extend(front.iter().cloned());
+            item.builders.extend(front);
+        } else if signed {
+            item.names.extend(front.first().cloned());
+            item.bound.extend(front.into_iter().skip(1).filter(|w| is_name(w)));
+        }
+    }
+    item.text = text;
+    item.scopes = scopes;
+    item
+}
+
+/// The types that the code of a crate declares.
+fn types(folder: &Path) -> Module {
+    let mut module = Module::default();
+    for path in files(folder) {
+        let lines = lines_of(&path);
+        module.uses.extend(uses(&lines).uses);
+        for (k, line) in lines.iter().enumerate() {
+            let Some(kind) = ["pub struct ", "pub enum "].iter().find_map(|w| line.strip_prefix(w)) else { continue };
+            let above = lines[..k].iter().rev().take_while(|l| l.starts_with("//") || l.starts_with("#[")).count();
+            let long = lines[k..].iter().take_while(|l| *l != "}").count();
+            let text = lines[k - above..=k + long].to_vec();
+            let mut item = Item { file: path.clone(), ..Item::default() };
+            item.names.insert(kind.split([' ', '{', '(']).next().unwrap_or_default().to_string());
+            for line in &lines[k + 1..k + long] {
+                let words = tokens(line.trim().trim_start_matches("pub "));
+                let inner = words.first().cloned().unwrap_or_default();
+                if words.get(1).is_some_and(|w| w == ":") {
+                    item.fields.insert(inner);
+                } else if is_name(&inner) {
+                    item.builders.insert(inner);
+                }
+                item.scopes.push(words[1.min(words.len())..].to_vec());
+            }
+            item.text = text;
+            module.items.push(item);
+        }
+    }
+    module
+}
+
+/// A theorem's statement, or a definition whole: what the modules around it assume, the definitions of its own file that it
+/// names, and itself.
+fn stated(path: &Path, lines: &[String], at: usize, whole: bool) -> Item {
+    let block = |k: usize, whole: bool| -> Vec<String> {
+        let within = |l: &&String| !l.is_empty() && (whole || indent(l) > indent(&lines[k]));
+        std::iter::once(&lines[k]).chain(lines[k + 1..].iter().take_while(within)).cloned().collect()
+    };
+    let mut item = Item { file: path.to_path_buf(), ..Item::default() };
+    let (mut around, mut local) = (Vec::new(), Vec::new());
+    let mut deep = indent(&lines[at]);
+    for k in (0..at).rev() {
+        if indent(&lines[k]) < deep && lines[k].trim_start().starts_with("module ") {
+            deep = indent(&lines[k]);
+            let more = lines[k..].iter().take_while(|l| !l.ends_with(" where")).count();
+            let head = lines[k..=k + more].to_vec();
+            let words = scope(head.iter().map(String::as_str));
+            item.bound.extend(binders(&words).names);
+            item.scopes.push(words);
+            around.splice(0..0, head);
+        }
+    }
+    let own = block(at, whole);
+    let comments = lines[..at].iter().rev().take_while(|l| l.trim_start().starts_with("--")).count();
+    item.names.insert(defined(&lines[at]));
+    item.scopes.extend(scopes(&own));
+    let mut next = 0;
+    while next < item.scopes.len() {
+        for word in item.scopes[next].clone() {
+            let named = |l: &String| is_name(&word) && defined(l) == word;
+            let Some(k) = lines[..at].iter().position(named).filter(|_| item.names.insert(word.clone())) else {
+                continue;
+            };
+            let text = block(k, true);
+            item.scopes.extend(scopes(&text));
+            local.splice(0..0, text);
+        }
+        next += 1;
+    }
+    item.text = [around, local, lines[at - comments..at].to_vec(), own].concat();
+    item
+}
+
+/// The name that a line gives a type, if it does.
+fn defined(line: &str) -> String {
+    let words = tokens(line);
+    let front: Vec<&String> = words.iter().take_while(|w| *w != ":").filter(|w| !is_language(w)).collect();
+    if front.len() == 1 && words.contains(&":".to_string()) {
+        front[0].clone()
+    } else {
+        String::new()
+    }
+}
+
+/// The scopes of lines: each goes on while lines are further in than the first.
+fn scopes(lines: &[String]) -> Vec<Vec<String>> {
+    let mut parts: Vec<Vec<&str>> = Vec::new();
+    for line in lines {
+        match parts.last_mut() {
+            Some(part) if indent(line) > indent(&lines[0]) => part.push(line),
+            _ => parts.push(vec![line]),
+        }
+    }
+    parts.into_iter().map(scope).collect()
+}
+
+/// A call's contract: its comment, its signature and what it ensures.
+fn contract(path: &Path, lines: &[String], at: usize) -> Item {
+    let above = lines[..at].iter().rev().take_while(|l| l.starts_with("//") || l.starts_with("#[")).count();
+    let long = lines[at..].iter().take_while(|l| *l != "{").count();
+    let words = scope(lines[at..at + long].iter().map(String::as_str));
+    let bound = words.windows(2).filter(|w| w[1] == ":").map(|w| w[0].clone()).collect();
+    let name = words.iter().skip_while(|w| *w != "fn").nth(1).cloned().unwrap_or_default();
+    Item {
+        file: path.to_path_buf(),
+        text: lines[at - above..at + long].to_vec(),
+        names: [name].into(),
+        bound,
+        scopes: vec![words],
+        ..Item::default()
+    }
+}
+
+/// Names that are bound in a scope for certain, and those of a clause's left side, which may be constructors.
+#[derive(Default)]
+struct Bound {
+    names: BTreeSet<String>,
+    patterns: BTreeSet<String>,
+}
+
+fn binders(scope: &[String]) -> Bound {
+    let mut bound = Bound::default();
+    let ahead = |from: usize, ends: &[&str]| -> Vec<String> {
+        scope[from..].iter().take_while(|w| !ends.contains(&w.as_str())).cloned().collect()
+    };
+    for (k, word) in scope.iter().enumerate() {
+        let group = match word.as_str() {
+            "(" | "{" => {
+                let inner = ahead(k + 1, &[":", "(", ")", "{", "}", "=", ";", ","]);
+                if scope.get(k + 1 + inner.len()).is_some_and(|w| w == ":") {
+                    inner
+                } else {
+                    Vec::new()
+                }
+            }
+            "λ" => ahead(k + 1, &["λ.", "("]),
+            "let" => ahead(k + 1, &[":", "="]),
+            _ => Vec::new(),
+        };
+        bound.names.extend(group);
+    }
+    let left: Vec<String> = scope.iter().take_while(|w| !["=", ":"].contains(&w.as_str())).cloned().collect();
+    if scope.get(left.len()).is_some_and(|w| w == "=") {
+        bound.patterns.extend(left);
+    }
+    bound
+}
+
+/// The words of a line, without its comment. Brackets stand alone; a field that is taken begins with a dot; the dot after
+/// what λ binds is `λ.`.
+fn tokens(line: &str) -> Vec<String> {
+    let mut spaced = String::new();
+    for c in uncommented(line).chars() {
+        if "(){};,".contains(c) {
+            spaced.extend([' ', c, ' ']);
+        } else {
+            spaced.push(c);
+        }
+    }
+    let mut words: Vec<String> = Vec::new();
+    for word in spaced.split_whitespace() {
+        let (inner, last) = match word.strip_suffix(['.', ':']) {
+            Some(inner) if word.ends_with('.') => (inner, "λ."),
+            Some(inner) => (inner, ":"),
+            None => (word, ""),
+        };
+        words.extend([inner, last].iter().filter(|w| !w.is_empty()).map(|w| w.to_string()));
+    }
+    words
+}
+
+/// The words of several lines, in which a field that is given in a record begins with a dot too.
+fn scope<'a>(lines: impl IntoIterator<Item = &'a str>) -> Vec<String> {
+    let mut words: Vec<String> = lines.into_iter().flat_map(tokens).collect();
+    for k in 1..words.len().saturating_sub(1) {
+        if ["{", ";"].contains(&words[k - 1].as_str()) && words[k + 1] == "=" {
+            words[k].insert(0, '.');
+        }
+    }
+    words
+}
+
+/// A word that must have a meaning.
+fn is_name(word: &str) -> bool {
+    let first = word.chars().next().unwrap_or('.');
+    !("(){};,.".contains(first) || first.is_ascii_digit() || is_language(word))
+}
+
+fn is_language(word: &str) -> bool {
+    LANGUAGE.split_whitespace().any(|w| w == word)
+}
+
+/// Whether a line is a name, perhaps with levels in braces, and its type.
+fn is_signature(line: &str) -> bool {
+    !line.starts_with(' ') && line.split(" : ").next().is_some_and(|n| n.len() < line.len() && !n.contains(' '))
+}
+
+fn indent(line: &str) -> usize {
+    line.len() - line.trim_start().len()
+}
+
+fn uncommented(line: &str) -> &str {
+    let line = line.split("-- ").next().unwrap_or(line);
+    line.split("// ").next().unwrap_or(line)
+}
+
+/// The theorems of a part with their files.
+fn promised(part: &Part, statements: &[Item]) -> String {
+    let mut by_file: Vec<(String, Vec<String>)> = Vec::new();
+    for (name, item) in part.statements.iter().zip(statements) {
+        let name = name.rsplit(['/', ' ']).next().unwrap_or(name);
+        let file = item.file.strip_prefix("crates").unwrap_or(&item.file).display().to_string();
+        match by_file.iter_mut().find(|(f, _)| *f == file) {
+            Some((_, names)) => names.push(format!("`{name}`")),
+            None => by_file.push((file, vec![format!("`{name}`")])),
+        }
+    }
+    let rows: Vec<String> = by_file.iter().map(|(f, names)| format!("{} in `{f}`", names.join(", "))).collect();
+    rows.join("; ")
+}
+
+/// Ends a block of definitions, where one is open.
+fn end(out: &mut Vec<String>) {
+    if out.iter().filter(|l| *l == FENCE).count() % 2 == 1 {
+        out.push(FENCE.to_string());
+    }
+}
+
+/// What a file says of itself in its first line.
+fn first_line(path: &Path) -> String {
+    let first = lines_of(path).into_iter().next().unwrap_or_default();
+    first.trim_start_matches(['-', '/', ' ']).to_string()
+}
+
+fn lines_of(path: &Path) -> Vec<String> {
+    let text = fs::read_to_string(path).unwrap_or_else(|e| stop(&format!("{}: {e}", path.display())));
+    text.lines().map(|l| l.trim_end().to_string()).collect()
+}
+
+/// The sources in a folder and in the folders in it.
+fn files(folder: &Path) -> Vec<PathBuf> {
+    let mut found = Vec::new();
+    for path in fs::read_dir(folder).into_iter().flatten().flatten().map(|e| e.path()) {
+        if path.is_dir() {
+            found.extend(files(&path));
+        } else if path.extension().is_some_and(|e| e == "antt" || e == "rt") {
+            found.push(path);
+        }
+    }
+    found.sort();
+    found
+}
+
+/// The names of the folders in a folder.
+fn folders(path: &str) -> Vec<String> {
+    let entries = fs::read_dir(path).unwrap_or_else(|e| stop(&format!("{path}: {e}")));
+    let mut names: Vec<String> =
+        entries.flatten().filter(|e| e.path().is_dir()).map(|e| e.file_name().to_string_lossy().into_owned()).collect();
+    names.sort();
+    names
+}
+
+fn put(path: &str, text: &str) {
+    fs::write(path, text).unwrap_or_else(|e| stop(&format!("{path}: {e}")));
+}
+
+fn stop(why: &str) -> ! {
+    eprintln!("reading: {why}");
+    process::exit(2)
+}
