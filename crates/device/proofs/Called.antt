@@ -12,7 +12,7 @@ use Rattle.judge.specs.declared.Session.{Session}
 use Rattle.device.specs.Step.{Step, stepOf}
 use Rattle.device.specs.Asked.{noRoom}
 use Rattle.device.specs.Sessions.{sessionFor, turnedOf}
-use Rattle.device.specs.Events.{State, Effect, request, requestOf, eventOf, Did, Called}
+use Rattle.device.specs.Events.{State, Effect, requesting, requestOf, Did, Called}
 use Rattle.device.specs.Due.{asked, RequestDue}
 use Rattle.device.specs.Replies.{Denial}
 use Rattle.device.specs.Demand1.{Leaves}
@@ -35,7 +35,7 @@ module _ (sessions : Sessions) (mode c group : ℕ) (apdu sheet answer : List �
   step = stepOf (length answer) sheet session mode group apdu
 
   abbrev effect : Effect
-  effect = eventOf x (request mode c group apdu answer)
+  effect = requesting x mode c group apdu answer
 
   -- an answer fits into the buffer
   fits : 0 + length (step .answer) ≤ length answer
@@ -50,30 +50,29 @@ module _ (sessions : Sessions) (mode c group : ℕ) (apdu sheet answer : List �
 
   -- 2 to 12 leave both sessions
   stay : 2 ≤ step .outcome → effect .sessions ≡ sessions
-  unfolding eventOf requestOf
+  unfolding requestOf
   stay h =
       rw (runs-on (length answer) sheet session mode group apdu h)
       (rw (untouched (length answer) sheet session mode group apdu h .1) (own-stays sessions mode c))
 
   module _ (r : Done) (sheet′ answer′ : List ℕ) (call : Called sessions mode c group apdu sheet answer r sheet′ answer′) where
     did : Did effect r answer sheet′ answer′
-    unfolding eventOf
     did = call .did
 
     is-outcome : r .outcome ≡ step .outcome
-    unfolding eventOf requestOf
+    unfolding requestOf
     is-outcome = did .outcome
 
     is-count : r .count ≡ length (step .answer)
-    unfolding eventOf requestOf
+    unfolding requestOf
     is-count = did .count
 
     is-answer : answer′ ≡ splice answer 0 (step .answer)
-    unfolding eventOf requestOf
+    unfolding requestOf
     is-answer = did .answer
 
     is-sheet : sheet′ ≡ step .sheet
-    unfolding eventOf requestOf
+    unfolding requestOf
     is-sheet = did .sheet
 
     -- in front of the buffer stands the step's answer
@@ -84,7 +83,7 @@ module _ (sessions : Sessions) (mode c group : ℕ) (apdu sheet answer : List �
         ∙ splice-read answer 0 (step .answer) fits
 
     seen : effectSeen r sheet′ answer′ ≡ effect
-    unfolding eventOf requestOf
+    unfolding requestOf
     seen =
         ap (λ (n : ℕ). record { outcome = n; answer = take (r .count) answer′; sessions = r .sessions; sheet = sheet′ }) is-outcome
         ∙ ap (λ (b : List ℕ). record { outcome = step .outcome; answer = b; sessions = r .sessions; sheet = sheet′ }) front

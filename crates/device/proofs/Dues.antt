@@ -21,7 +21,7 @@ use Rattle.judge.specs.declared.Session.{Session}
 use Rattle.device.specs.Octets.{Octets}
 use Rattle.device.specs.Step.{Step, stepOf}
 use Rattle.device.specs.Sessions.{sessionOf, withSession}
-use Rattle.device.specs.Events.{State, Effect, connect, disconnect, button, request, namedOutcome, requestOf, eventOf, bit, pressed, buttonOutcome, buttonSheet}
+use Rattle.device.specs.Events.{State, Effect, connecting, disconnecting, pressing, requesting, namedOutcome, requestOf, bit, pressed, buttonOutcome, buttonSheet}
 use Rattle.device.specs.Due.{SessionDue, ConnectDue, DisconnectDue, Switched, ButtonDue, asked, RequestDue}
 use Rattle.device.specs.declared.Sessions.{Sessions}
 use Rattle.device.proofs.Connections.{same-sessions, fresh-closed, with-own, with-other, turned-own, turned-other}
@@ -30,7 +30,7 @@ use Rattle.device.proofs.Flags.{verify-left, bit-small}
 use Rattle.device.proofs.Pressing.{head-room}
 
 -- effects with the same parts are the same
-same-effect :
+pub same-effect :
     (r t : Effect) → r .outcome ≡ t .outcome → r .answer ≡ t .answer → r .sessions ≡ t .sessions → r .sheet ≡ t .sheet → r ≡ t
 same-effect r t n a q s =
     ap₂ (λ (n : ℕ) (a : List ℕ). record { outcome = n; answer = a; sessions = r .sessions; sheet = r .sheet }) n a
@@ -108,25 +108,23 @@ module _ (x : State) (opened : Bool) (c : ℕ) where
 module _ (x : State) where
   -- CONNECT
   module _ (c : ℕ) where
-    pub connect-due : ConnectDue c x (eventOf x (connect c))
-    unfolding eventOf
+    pub connect-due : ConnectDue c x (connecting x c)
     connect-due = named-due x true c
 
-    pub connect-only : (r : Effect) → ConnectDue c x r → r ≡ eventOf x (connect c)
-    connect-only r d = both-named x true c r (eventOf x (connect c)) d connect-due
+    pub connect-only : (r : Effect) → ConnectDue c x r → r ≡ connecting x c
+    connect-only r d = both-named x true c r (connecting x c) d connect-due
 
     -- DISCONNECT
-    pub disconnect-due : DisconnectDue c x (eventOf x (disconnect c))
-    unfolding eventOf
+    pub disconnect-due : DisconnectDue c x (disconnecting x c)
     disconnect-due = named-due x false c
 
-    pub disconnect-only : (r : Effect) → DisconnectDue c x r → r ≡ eventOf x (disconnect c)
-    disconnect-only r d = both-named x false c r (eventOf x (disconnect c)) d disconnect-due
+    pub disconnect-only : (r : Effect) → DisconnectDue c x r → r ≡ disconnecting x c
+    disconnect-only r d = both-named x false c r (disconnecting x c) d disconnect-due
 
   -- THE BUTTON
   module _ (on : Bool) where
-    pub button-due : ButtonDue on x (eventOf x (button on))
-    unfolding eventOf buttonOutcome buttonSheet isAccepted
+    pub button-due : ButtonDue on x (pressing x on)
+    unfolding buttonOutcome buttonSheet isAccepted
     button-due =
         record {
           answer = refl;
@@ -135,19 +133,19 @@ module _ (x : State) where
           accepted = λ ok. let t = eq-eqb (ruleOf (x .sheet)) 0 ok in (rw t, rw t (switched (x .sheet) on ok));
         }
 
-    pub button-only : (r : Effect) → ButtonDue on x r → r ≡ eventOf x (button on)
+    pub button-only : (r : Effect) → ButtonDue on x r → r ≡ pressing x on
     button-only r d = go (ℕ-discrete (ruleOf (x .sheet)) 0)
       where
-        go : Dec (Accepted (x .sheet)) → r ≡ eventOf x (button on)
+        go : Dec (Accepted (x .sheet)) → r ≡ pressing x on
         go (no n) =
             let a = d .badSheet n in
             let b = button-due .badSheet n in
-            same-effect r (eventOf x (button on)) (a .0 ∙ sym (b .0)) (d .answer ∙ sym (button-due .answer)) (d .sessions ∙ sym (button-due .sessions)) (a .1 ∙ sym (b .1))
+            same-effect r (pressing x on) (a .0 ∙ sym (b .0)) (d .answer ∙ sym (button-due .answer)) (d .sessions ∙ sym (button-due .sessions)) (a .1 ∙ sym (b .1))
         go (yes ok) =
             let a = d .accepted ok in
             let b = button-due .accepted ok in
-            same-effect r (eventOf x (button on)) (a .0 ∙ sym (b .0)) (d .answer ∙ sym (button-due .answer)) (d .sessions ∙ sym (button-due .sessions))
-            (both-switched (x .sheet) on ok (r .sheet) (eventOf x (button on) .sheet) (a .1) (b .1))
+            same-effect r (pressing x on) (a .0 ∙ sym (b .0)) (d .answer ∙ sym (button-due .answer)) (d .sessions ∙ sym (button-due .sessions))
+            (both-switched (x .sheet) on ok (r .sheet) (pressing x on .sheet) (a .1) (b .1))
 
   -- A REQUEST
   module _ (mode c group : ℕ) (a out : List ℕ) where
@@ -179,8 +177,8 @@ module _ (x : State) where
       abbrev done : Step
       done = stepOf (length out) (x .sheet) (asked x mode c group a out .session) mode group a
 
-      pub request-due : RequestDue mode c group a out x (eventOf x (request mode c group a out))
-      unfolding eventOf requestOf
+      pub request-due : RequestDue mode c group a out x (requesting x mode c group a out)
+      unfolding requestOf
       request-due =
           record {
             step = done;
@@ -193,8 +191,8 @@ module _ (x : State) where
             others = λ e d n. rw e (turned-other (x .sessions) mode c d (done .session) n);
           }
 
-      pub request-only : (r : Effect) → RequestDue mode c group a out x r → r ≡ eventOf x (request mode c group a out)
-      request-only r d = both-asked r (eventOf x (request mode c group a out)) d request-due (only d ∙ sym (only request-due))
+      pub request-only : (r : Effect) → RequestDue mode c group a out x r → r ≡ requesting x mode c group a out
+      request-only r d = both-asked r (requesting x mode c group a out) d request-due (only d ∙ sym (only request-due))
         where
           only : {t : Effect} (p : RequestDue mode c group a out x t) → p .step ≡ done
           only p = right-only (asked x mode c group a out) hs ha (p .step) (p .due)

@@ -1,4 +1,4 @@
--- PROMISES, named in docs/PROMISES.md: Demand1, Called (demand 1); Rightly, Dues, Dropped, AnswerReads, Unread, Extended, Forbidden, ReadBack, Cases, Stays, NoBody, RulesApart, RunsApart, TwoRules, Append, Refuted (demand 2).
+-- PROMISES, named in docs/PROMISES.md: Demand1, Called (demand 1); Rightly, Dues, Dropped, AnswerReads, Unread, Extended, Forbidden, ReadBack, Cases, Stays, NoBody, RulesApart, TwoRules, Refuted (demand 2).
 -- LAWS behind them and behind the contracts: all other modules. A folder holds the proof of the function whose name it has.
 pub mod Writing
 pub mod Given
@@ -40,7 +40,6 @@ pub mod Called
 pub mod Room
 pub mod Requests
 pub mod Cases
-pub mod Append
 pub mod Jumps
 pub mod Agreeing
 pub mod Keeping
@@ -55,7 +54,6 @@ pub mod Judging
 pub mod NoBody
 pub mod PastHead
 pub mod RulesApart
-pub mod RunsApart
 pub mod TwoRules
 pub mod WrongSteps
 pub mod Refuted

@@ -1,4 +1,4 @@
--- Accepted stays accepted: no event takes a sheet out of the rules.
+-- A request and the button leave all that the rules read.
 -- Assumes nothing.
 use Prim.Native.Nat.{ℕ}
 use mathlib.Core.Path.{sym, subst}
@@ -8,7 +8,6 @@ use native.Mathlib.Omega.{arith}
 use Rattle.sheet.specs.Rules.{Accepted, isAccepted}
 use Rattle.sheet.specs.Frame.{Agree}
 use Rattle.sheet.proofs.Good.{Good, good}
-use Rattle.sheet.proofs.Frames.{both-or-neither}
 use Rattle.pdu.specs.Read.{readPdu}
 use Rattle.pdu.proofs.Readings.{reading}
 use Rattle.pdu.specs.declared.Parsed.{Parsed}
@@ -17,8 +16,7 @@ use Rattle.judge.specs.Judge.{decideOf, dataIn}
 use Rattle.octets.proofs.Walks.{by-test}
 use Rattle.device.specs.Step.{stepBy, stepOf}
 use Rattle.device.specs.Asked.{Asked, given}
-use Rattle.device.specs.Events.{State, Event, connect, disconnect, button, request, pressed, buttonSheet, requestOf, eventOf, after}
-use Rattle.device.specs.Due.{asked}
+use Rattle.device.specs.Events.{pressed, buttonSheet}
 use Rattle.device.proofs.RequestCases.{request-cases}
 use Rattle.device.proofs.Flags.{bit-small}
 use Rattle.device.proofs.Agreeing.{agree-refl}
@@ -38,20 +36,8 @@ request-agrees x ok =
     (λ n r. agree-refl (x .sheet))
 
 -- the button
-button-agrees : (s : List ℕ) (on : Bool) → Accepted s → Agree s (buttonSheet s on)
+pub button-agrees : (s : List ℕ) (on : Bool) → Accepted s → Agree s (buttonSheet s on)
 unfolding buttonSheet pressed
 button-agrees s on ok =
     let g : Good s = good s ok in
     by-test (Agree s) (isAccepted s) _ _ (λ e. flags-new g s _ (omega (arith, g .zeros, bit-small on))) (λ e. agree-refl s)
-
--- AN EVENT LEAVES ALL THAT THE RULES READ
-pub agrees : (x : State) (e : Event) → Accepted (x .sheet) → Agree (x .sheet) (after x e .sheet)
-unfolding after eventOf requestOf
-agrees x (connect c) ok = agree-refl (x .sheet)
-agrees x (disconnect c) ok = agree-refl (x .sheet)
-agrees x (button on) ok = button-agrees (x .sheet) on ok
-agrees x (request mode c group a out) ok = request-agrees (asked x mode c group a out) ok
-
--- ACCEPTED STAYS ACCEPTED
-pub stays : (x : State) (e : Event) → Accepted (x .sheet) → Accepted (after x e .sheet)
-stays x e ok = both-or-neither (agrees x e ok) .0 ok

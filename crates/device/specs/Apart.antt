@@ -2,7 +2,7 @@
 -- Assumes nothing.
 use Prim.Native.Nat.{ℕ, _≤_}
 use mathlib.Core.Path.{_≡_}
-use mathlib.Core.List.{List, [], _∷_}
+use mathlib.Core.List.{List}
 use lib.ListN.{length, getD}
 use Rattle.sheet.specs.Head as head
 use Rattle.sheet.specs.Rules.{Accepted}
@@ -15,7 +15,7 @@ use Rattle.pdu.specs.declared.Pdu.the-variants.{DeviceDescriptorRead}
 use Rattle.pdu.specs.declared.Service.the-variants.{Restart}
 use Rattle.judge.specs.Session.{connectionless}
 use Rattle.device.specs.Step.{Step}
-use Rattle.device.specs.Events.{Event, Effect, State, connect, disconnect, button, request}
+use Rattle.device.specs.Events.{Effect, State}
 
 -- both accepted, and every byte the same but that of the rules
 pub record SameButRules (s s′ : List ℕ) : Type 0 where
@@ -46,17 +46,6 @@ pub record AlikeAfter (r r′ : Effect) : Type 0 where
   pub answer : r′ .answer ≡ r .answer
   pub sessions : r′ .sessions ≡ r .sessions
   pub sheet : SameButRules (r .sheet) (r′ .sheet)
-
--- an event, and a list of them, with no disputed request
-abbrev pub Settled : Event → Type 0
-Settled (connect c) = Unit {0}
-Settled (disconnect c) = Unit {0}
-Settled (button on) = Unit {0}
-Settled (request mode c group a out) = Undisputed mode a
-
-abbrev pub AllSettled : List Event → Type 0
-AllSettled [] = Unit {0}
-AllSettled (e ∷ es) = Settled e × AllSettled es
 
 -- two devices with the same sessions, whose sheets are the same but for that byte
 pub record Together (x x′ : State) : Type 0 where

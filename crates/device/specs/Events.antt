@@ -1,4 +1,4 @@
--- Events, a step over one, and a run over a list of them.
+-- What connects, disconnects, the button and requests give.
 -- Assumes nothing.
 use Prim.Native.Nat.{ℕ, _+_, _-_}
 use mathlib.Core.Path.{_≡_}
@@ -78,30 +78,22 @@ pub record Called (q : Sessions) (mode c group : ℕ) (a s o : List ℕ) (r : Do
   pub sheetBytes : Octets s
   pub apduBytes : Octets a
 
--- a connect and a disconnect come with their connection; a request with its mode, connection, group address, APDU and the answer buffer as found; the button has no connection
-pub data Event : Type 0 where
-  connect disconnect : ℕ → Event
-  button : Bool → Event
-  request : ℕ → ℕ → ℕ → List ℕ → List ℕ → Event
-
 pub record State : Type 0 where
   pub sessions : Sessions
   pub sheet : List ℕ
 
--- ONE EVENT
-unfoldable pub eventOf : State → Event → Effect
-eventOf x (connect c) =
+-- WHAT A CONNECT, A DISCONNECT, THE BUTTON AND A REQUEST GIVE; `out` is the answer buffer as found
+abbrev pub connecting : State → ℕ → Effect
+connecting x c =
     record { outcome = namedOutcome c; answer = []; sessions = connectOf (x .sessions) c; sheet = x .sheet }
-eventOf x (disconnect c) =
+
+abbrev pub disconnecting : State → ℕ → Effect
+disconnecting x c =
     record { outcome = namedOutcome c; answer = []; sessions = disconnectOf (x .sessions) c; sheet = x .sheet }
-eventOf x (button on) =
+
+abbrev pub pressing : State → Bool → Effect
+pressing x on =
     record { outcome = buttonOutcome (x .sheet); answer = []; sessions = x .sessions; sheet = buttonSheet (x .sheet) on }
-eventOf x (request mode c group a out) = requestOf (length out) (x .sheet) (x .sessions) mode c group a
 
-unfoldable pub after : State → Event → State
-after x e = record { sessions = eventOf x e .sessions; sheet = eventOf x e .sheet }
-
--- a run, the first event first
-unfoldable pub run : State → List Event → State
-run x [] = x
-run x (e ∷ es) = run (after x e) es
+abbrev pub requesting : State → ℕ → ℕ → ℕ → List ℕ → List ℕ → Effect
+requesting x mode c group a out = requestOf (length out) (x .sheet) (x .sessions) mode c group a

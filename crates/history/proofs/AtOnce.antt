@@ -5,7 +5,7 @@ use mathlib.Core.Path.{_≡_, ap, _∙_}
 use mathlib.Core.Bool.{Bool, true, cond}
 use mathlib.Core.List.{List, _∷_}
 use lib.ListN.{getD}
-use Rattle.device.specs.Events.{Event}
+use Rattle.events.specs.Events.{Event}
 use Rattle.history.specs.Location.{Location, Place}
 use Rattle.history.specs.Span.{names, gives}
 use Rattle.history.specs.History.{First, content, permitted}

@@ -10,12 +10,14 @@ use Rattle.pdu.specs.Read.{readPdu}
 use Rattle.pdu.specs.declared.Parsed.the-variants.{Is}
 use Rattle.pdu.specs.declared.Pdu.the-variants.{PropertyValueRead}
 use Rattle.device.specs.Sessions.{sessionOf}
-use Rattle.device.specs.Events.{Event, Effect, State, connect, disconnect, button, request, eventOf}
+use Rattle.device.specs.Events.{Effect, State}
+use Rattle.events.specs.Events.{Event, connect, disconnect, button, request, eventOf}
 use Rattle.device.specs.MemoryDue.{reading}
-use Rattle.device.specs.Apart.{AlikeAfter, Settled, AllSettled, Together}
+use Rattle.device.specs.Apart.{AlikeAfter, Together}
+use Rattle.events.specs.Apart.{Settled, AllSettled}
 use Rattle.device.proofs.Called.{call-only}
 use Rattle.device.proofs.Dues.{request-due}
-use Rattle.device.proofs.RunsApart.{event-apart}
+use Rattle.events.proofs.RunsApart.{event-apart}
 use Rattle.history.specs.History.{First, permitted}
 use Rattle.history.specs.Keeps.{stateAfter, CarriedOut, BringsOctets, AllOctets, Begins, Kept}
 use Rattle.history.specs.Keyless.{Locked, Closed, Protected}

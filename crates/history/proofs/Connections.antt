@@ -10,7 +10,7 @@ use Rattle.octets.proofs.Truths.{never}
 use Rattle.sheet.specs.Head.{rulesOf}
 use Rattle.judge.specs.declared.Session.{Session}
 use Rattle.device.specs.Sessions.{closed}
-use Rattle.device.specs.Events.{Event, connect, disconnect, button, request}
+use Rattle.events.specs.Events.{Event, connect, disconnect, button, request}
 use Rattle.device.proofs.Connections.{unknown-closed}
 use Rattle.history.specs.Wish.{Wish, change, offerKey, restart, other, nothing, asks}
 use Rattle.history.specs.Permit.{checks, heard}

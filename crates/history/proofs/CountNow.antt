@@ -13,7 +13,8 @@ use Rattle.sheet.specs.Entries.{place, entry}
 use Rattle.sheet.specs.Places.{PropertyWith}
 use Rattle.sheet.proofs.Sames.{place-same}
 use Rattle.sheet.proofs.Standing.{field-at}
-use Rattle.device.specs.Events.{Event, State}
+use Rattle.device.specs.Events.{State}
+use Rattle.events.specs.Events.{Event}
 use Rattle.history.specs.Location.{counter}
 use Rattle.history.specs.Permit.{countIn}
 use Rattle.history.specs.History.{First, content}

@@ -15,7 +15,7 @@ use Rattle.octets.specs.Bytes.{bytesOf}
 use Rattle.octets.proofs.Truths.{never, or-is}
 use Rattle.sheet.specs.Layout.{_of_}
 use Rattle.sheet.specs.Property as property
-use Rattle.device.specs.Events.{Event}
+use Rattle.events.specs.Events.{Event}
 use Rattle.history.specs.Location.{Location, body, counter}
 use Rattle.history.specs.Span.{Span, has, put, names}
 use Rattle.history.specs.Wish.{Wish, change, writeMemory, writeBits, writeProperty, writeKey, offerKey, restart, other, nothing}

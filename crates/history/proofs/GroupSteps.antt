@@ -22,7 +22,8 @@ use Rattle.sheet.proofs.Keys.{key-once}
 use Rattle.sheet.proofs.Sames.{count-same, group-same}
 use Rattle.pdu.specs.declared.Pdu.{Pdu}
 use Rattle.device.specs.Octets.{Octets}
-use Rattle.device.specs.Events.{Event, State}
+use Rattle.device.specs.Events.{State}
+use Rattle.events.specs.Events.{Event}
 use Rattle.device.specs.Asked.{Asked, Reads, given}
 use Rattle.device.specs.Due.{asked}
 use Rattle.device.specs.GroupsDue.{Group, Brings, write, response, Flag}

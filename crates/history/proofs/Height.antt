@@ -9,7 +9,8 @@ use Rattle.octets.specs.Bytes.{numAt}
 use Rattle.sheet.specs.Head as head
 use Rattle.sheet.specs.Entries.{entry, keyOf, bodyAt}
 use Rattle.sheet.specs.Lookup.{seek, indexOf}
-use Rattle.device.specs.Events.{Event, State, run}
+use Rattle.device.specs.Events.{State}
+use Rattle.events.specs.Events.{Event, run}
 use Rattle.device.specs.Marked.{sample}
 use Rattle.history.specs.Location.{body, counter, key, Place, ofBody, ofCounter, ofKey}
 use Rattle.history.specs.Permit.{indexFor, entryFor}

@@ -2,8 +2,9 @@
 -- Assumes nothing.
 use mathlib.Core.Path.{_≡_, refl, sym, ap, _∙_}
 use mathlib.Core.List.{List, [], _∷_, reverse, reverse-cons, reverse-reverse}
-use Rattle.device.specs.Events.{Event, State, after, run}
-use Rattle.device.proofs.Append.{run-append}
+use Rattle.device.specs.Events.{State}
+use Rattle.events.specs.Events.{Event, after, run}
+use Rattle.events.proofs.Append.{run-append}
 use Rattle.history.specs.History.{First}
 use Rattle.history.specs.Keeps.{stateAfter}
 use Rattle.history.specs.Rightful.{ours}

@@ -17,7 +17,8 @@ use Rattle.sheet.proofs.Good.{Good, good, accepted}
 use Rattle.sheet.proofs.Frames.{kept}
 use Rattle.sheet.proofs.Regions.{covers-stands}
 use Rattle.device.specs.Sessions.{sessionOf}
-use Rattle.device.specs.Events.{Event, Effect, State, connect, disconnect, button, bit, pressed, buttonSheet}
+use Rattle.device.specs.Events.{Effect, State, bit, pressed, buttonSheet}
+use Rattle.events.specs.Events.{Event, connect, disconnect, button}
 use Rattle.device.specs.Due.{SessionDue}
 use Rattle.device.proofs.Connections.{unknown-closed}
 use Rattle.history.specs.Location.{Location, memory, body, counter, key, Place, ofMemory, ofBody, ofCounter, ofKey}

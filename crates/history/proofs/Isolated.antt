@@ -15,7 +15,8 @@ use Rattle.judge.specs.Session.{connected}
 use Rattle.judge.specs.declared.Session.{Session}
 use Rattle.device.specs.Step.{Step, stepOf}
 use Rattle.device.specs.Sessions.{sessionOf, withSession, sessionFor, turnedOf}
-use Rattle.device.specs.Events.{Event, Effect, State, connect, disconnect, button, request, requestOf, eventOf, buttonOutcome, buttonSheet}
+use Rattle.device.specs.Events.{Effect, State, requestOf, buttonOutcome, buttonSheet}
+use Rattle.events.specs.Events.{Event, connect, disconnect, button, request, eventOf}
 use Rattle.device.specs.declared.Sessions.{Sessions}
 use Rattle.device.proofs.Connections.{unknown-closed, with-own, with-other, turned-other}
 use Rattle.device.proofs.Demand1.{restart-only}

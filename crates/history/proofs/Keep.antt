@@ -11,7 +11,8 @@ use Rattle.judge.specs.Session as judge
 use Rattle.judge.specs.declared.Session.{Session}
 use Rattle.device.specs.Octets.{Octets}
 use Rattle.device.specs.Sessions.{sessionOf}
-use Rattle.device.specs.Events.{Event, Effect, State, connect, disconnect, button, request, eventOf}
+use Rattle.device.specs.Events.{Effect, State}
+use Rattle.events.specs.Events.{Event, connect, disconnect, button, request, eventOf}
 use Rattle.device.specs.Due.{RequestDue}
 use Rattle.device.proofs.Connections.{unknown-closed}
 use Rattle.device.proofs.Dues.{connect-due, disconnect-due, button-due, button-only, request-due}

@@ -19,7 +19,8 @@ use Rattle.pdu.specs.declared.Pdu.the-variants.{AuthorizeRequest, KeyWrite}
 use Rattle.octets.proofs.Truths.{never}
 use Rattle.judge.specs.Session.{connected}
 use Rattle.judge.specs.declared.Session.{Session}
-use Rattle.device.specs.Events.{Event, State}
+use Rattle.device.specs.Events.{State}
+use Rattle.events.specs.Events.{Event}
 use Rattle.device.specs.Asked.{Asked, Reads, given}
 use Rattle.device.specs.Due.{asked}
 use Rattle.device.specs.KeysDue.{KeyWritable, Grants, key0, key1, key2, other}

@@ -23,7 +23,7 @@ use Rattle.sheet.proofs.Regions.{covers-stands}
 use Rattle.octets.proofs.Truths.{never, decided, and-is}
 use Rattle.judge.specs.declared.Session.{Session}
 use Rattle.device.specs.Sessions.{sessionOf}
-use Rattle.device.specs.Events.{Event, connect, disconnect, button, request, run}
+use Rattle.events.specs.Events.{Event, connect, disconnect, button, request, run}
 use Rattle.history.specs.Location.{Location, memory, body, counter, key}
 use Rattle.history.specs.Span.{names, gives}
 use Rattle.history.specs.Wish.{Wish, change, offerKey, restart, other, nothing, asks, brings}

@@ -23,7 +23,8 @@ use Rattle.judge.specs.Properties.{readIn, propertyReadOf}
 use Rattle.judge.specs.Keys.{grantOf, authorizeOf}
 use Rattle.judge.specs.Judge.{reachedOf, isShut, judgeOf}
 use Rattle.device.specs.Step.{stepBy, stepOf}
-use Rattle.device.specs.Events.{Event, connect, requestOf, eventOf}
+use Rattle.device.specs.Events.{requestOf}
+use Rattle.events.specs.Events.{Event, connect, eventOf}
 use Rattle.device.specs.Marked.{sample}
 use Rattle.history.specs.Wish.{restart, asks}
 use Rattle.history.specs.History.{wished}

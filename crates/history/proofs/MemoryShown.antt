@@ -24,7 +24,8 @@ use Rattle.judge.specs.declared.Access.the-variants.{Read}
 use Rattle.judge.specs.declared.Decision.{Decision}
 use Rattle.judge.proofs.MemoryCases.{Permits, range-in, memory-read-cases}
 use Rattle.device.specs.Step.{Step, stepBy}
-use Rattle.device.specs.Events.{Event, State, request, requestOf, eventOf}
+use Rattle.device.specs.Events.{State, requestOf}
+use Rattle.events.specs.Events.{Event, request, eventOf}
 use Rattle.device.specs.Asked.{Asked, Reads, given, part}
 use Rattle.device.specs.MemoryDue.{reading, response}
 use Rattle.device.specs.Demand2.{done}

@@ -14,7 +14,8 @@ use Rattle.sheet.proofs.Frames.{agree-sym}
 use Rattle.sheet.proofs.Runs.{range-within, range-store}
 use Rattle.pdu.specs.declared.Pdu.the-variants.{MemoryWrite, MemoryBitWrite, UserMemoryWrite}
 use Rattle.device.specs.Octets.{Octets}
-use Rattle.device.specs.Events.{Event, State}
+use Rattle.device.specs.Events.{State}
+use Rattle.events.specs.Events.{Event}
 use Rattle.device.specs.Asked.{Asked, Reads, given}
 use Rattle.device.specs.Due.{asked}
 use Rattle.device.specs.MemoryDue.{Write, bytes, bits, writing, MemoryWritable, Leaves}

@@ -3,7 +3,8 @@
 use mathlib.Core.Path.{_≡_, ap, _∙_}
 use mathlib.Core.List.{List}
 use Rattle.device.specs.Octets.{Octets}
-use Rattle.device.specs.Events.{Event, State, connect, disconnect, button, request, eventOf}
+use Rattle.device.specs.Events.{State}
+use Rattle.events.specs.Events.{Event, connect, disconnect, button, request, eventOf}
 use Rattle.device.proofs.Dues.{connect-only, disconnect-only, button-only, request-only}
 use Rattle.history.specs.History.{First}
 use Rattle.history.specs.Keeps.{Device, stateAfter, BringsOctets, AllOctets, Begins}

@@ -17,7 +17,8 @@ use Rattle.pdu.specs.declared.Pdu.the-variants.{IndividualAddressWrite, SerialN
 use Rattle.octets.proofs.Truths.{never}
 use Rattle.device.specs.Octets.{Octets}
 use Rattle.device.specs.Sessions.{closed}
-use Rattle.device.specs.Events.{Event, State}
+use Rattle.device.specs.Events.{State}
+use Rattle.events.specs.Events.{Event}
 use Rattle.device.specs.Asked.{Asked, Reads}
 use Rattle.device.specs.Due.{asked}
 use Rattle.device.specs.AddressesDue.{Programming}

@@ -17,7 +17,8 @@ use Rattle.judge.specs.Session.{connected}
 use Rattle.judge.specs.declared.Session.{Session}
 use Rattle.device.specs.Octets.{Octets}
 use Rattle.device.specs.Sessions.{sessionOf}
-use Rattle.device.specs.Events.{State, request}
+use Rattle.device.specs.Events.{State}
+use Rattle.events.specs.Events.{request}
 use Rattle.device.specs.Asked.{Asked, Reads, given}
 use Rattle.device.specs.Due.{asked}
 use Rattle.device.specs.MemoryDue.{Write, bytes, bits, writing, MemoryWritable}

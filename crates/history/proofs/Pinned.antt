@@ -16,7 +16,7 @@ use Rattle.sheet.specs.Entries.{bodyAt, InBody}
 use Rattle.sheet.proofs.Good.{Good, good}
 use Rattle.judge.specs.declared.Session.{Session}
 use Rattle.device.specs.Sessions.{sessionOf}
-use Rattle.device.specs.Events.{Event}
+use Rattle.events.specs.Events.{Event}
 use Rattle.device.specs.declared.Sessions.{Sessions}
 use Rattle.history.specs.Location.{Location, Place}
 use Rattle.history.specs.Sort.{Sort, isLocation, isGroup, isField}

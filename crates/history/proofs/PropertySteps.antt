@@ -27,7 +27,8 @@ use Rattle.sheet.proofs.Stores.{body-store}
 use Rattle.pdu.specs.declared.Pdu.{Pdu}
 use Rattle.pdu.specs.declared.Pdu.the-variants.{PropertyValueWrite}
 use Rattle.device.specs.Octets.{Octets}
-use Rattle.device.specs.Events.{Event, State}
+use Rattle.device.specs.Events.{State}
+use Rattle.events.specs.Events.{Event}
 use Rattle.device.specs.Asked.{Asked, Reads, given}
 use Rattle.device.specs.Due.{asked}
 use Rattle.device.specs.PropertiesDue as properties-due

@@ -25,7 +25,8 @@ use Rattle.judge.specs.Memory.{changeOf, memoryWriteOf}
 use Rattle.judge.specs.Keys.{grantOf, authorizeOf, keyWriteOf, restartOf}
 use Rattle.judge.specs.Judge.{reachedOf, isShut, judgeOf}
 use Rattle.device.specs.Step.{stepBy, stepOf}
-use Rattle.device.specs.Events.{Event, State, connect, disconnect, button, request, requestOf, eventOf, bit}
+use Rattle.device.specs.Events.{State, requestOf, bit}
+use Rattle.events.specs.Events.{Event, connect, disconnect, button, request, eventOf}
 use Rattle.device.specs.Marked.{sample}
 use Rattle.device.specs.Pump.{pump}
 use Rattle.device.proofs.Octet.{isBytes, octets-by}

@@ -15,7 +15,8 @@ use Rattle.octets.proofs.Truths.{never}
 use Rattle.judge.specs.Session.{connected}
 use Rattle.device.specs.Step.{Step}
 use Rattle.device.specs.Sessions.{closed}
-use Rattle.device.specs.Events.{Event, State, request}
+use Rattle.device.specs.Events.{State}
+use Rattle.events.specs.Events.{Event, request}
 use Rattle.device.specs.Asked.{Asked}
 use Rattle.device.specs.Due.{asked}
 use Rattle.history.specs.Location.{Location}

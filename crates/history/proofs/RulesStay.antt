@@ -10,7 +10,7 @@ use Rattle.sheet.specs.Head as head
 use Rattle.sheet.specs.Head.{rulesOf}
 use Rattle.sheet.specs.Rules.{Accepted}
 use Rattle.sheet.proofs.Good.{good}
-use Rattle.device.specs.Events.{Event}
+use Rattle.events.specs.Events.{Event}
 use Rattle.history.specs.History.{First}
 use Rattle.history.specs.Keeps.{Device, stateAfter, Still, Kept, Begins, AllOctets, Keeps}
 use Rattle.history.proofs.Places.{no-head, past-contents}

@@ -24,7 +24,8 @@ use Rattle.judge.specs.declared.Decision.{Decision}
 use Rattle.judge.proofs.PropertyCases.{Among, property-read-cases}
 use Rattle.device.specs.Octets.{Octets}
 use Rattle.device.specs.Step.{Step, stepBy}
-use Rattle.device.specs.Events.{Event, Effect, State, request, requestOf, eventOf}
+use Rattle.device.specs.Events.{Effect, State, requestOf}
+use Rattle.events.specs.Events.{Event, request, eventOf}
 use Rattle.device.specs.Asked as ask
 use Rattle.device.specs.Asked.{Asked, Reads}
 use Rattle.device.specs.Demand2.{done}

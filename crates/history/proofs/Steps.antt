@@ -13,7 +13,8 @@ use Rattle.pdu.specs.declared.Pdu.{Pdu}
 use Rattle.pdu.specs.declared.Pdu.the-variants.{GroupValueRead, IndividualAddressRead, SerialNumberRead, DeviceDescriptorRead, PropertyValueRead, PropertyDescriptionRead, MemoryRead, UserMemoryRead}
 use Rattle.device.specs.Octets.{Octets}
 use Rattle.device.specs.Step.{Step}
-use Rattle.device.specs.Events.{Event, State, request}
+use Rattle.device.specs.Events.{State}
+use Rattle.events.specs.Events.{Event, request}
 use Rattle.device.specs.Asked.{Asked, Reads}
 use Rattle.device.specs.Due.{asked}
 use Rattle.device.specs.Right as right

@@ -6,7 +6,8 @@ use mathlib.Core.Bool.{true}
 use mathlib.Core.List.{List}
 use native.Mathlib.Omega.{arith}
 use Rattle.pdu.specs.declared.Pdu.{Pdu}
-use Rattle.device.specs.Events.{Event, State}
+use Rattle.device.specs.Events.{State}
+use Rattle.events.specs.Events.{Event}
 use Rattle.device.specs.Asked.{Asked, Reads, given}
 use Rattle.device.specs.Due.{asked}
 use Rattle.history.specs.Wish.{Wish, Change, change, nothing, wishOf, asks, brings}

@@ -3,7 +3,8 @@
 use Prim.Native.Nat.{ℕ}
 use mathlib.Core.Bool.{Bool}
 use mathlib.Core.List.{List, [], _∷_}
-use Rattle.device.specs.Events.{Event, Effect, State, connect, disconnect, button, request, namedOutcome, connectOf, disconnectOf, Pressed, Called}
+use Rattle.device.specs.Events.{Effect, State, namedOutcome, connectOf, disconnectOf, Pressed, Called}
+use Rattle.events.specs.Events.{Event, connect, disconnect, button, request}
 use Rattle.device.specs.Demand2.{effectSeen}
 use Rattle.device.specs.declared.Done.{Done}
 use Rattle.history.specs.History.{First}

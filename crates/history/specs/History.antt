@@ -14,7 +14,7 @@ use Rattle.sheet.specs.Property as property
 use Rattle.sheet.specs.Entries.{place}
 use Rattle.sheet.specs.Places.{regionAt}
 use Rattle.device.specs.Sessions.{sessionOf}
-use Rattle.device.specs.Events.{Event, connect, disconnect, button, request}
+use Rattle.events.specs.Events.{Event, connect, disconnect, button, request}
 use Rattle.device.specs.declared.Sessions.{Sessions}
 use Rattle.history.specs.Location.{Location, memory, body, counter, key}
 use Rattle.history.specs.Span.{names, gives}

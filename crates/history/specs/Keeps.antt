@@ -13,7 +13,8 @@ use Rattle.sheet.specs.Rules.{Accepted}
 use Rattle.sheet.specs.Entries.{InBody, bodyAt}
 use Rattle.device.specs.Octets.{Octets}
 use Rattle.device.specs.Sessions.{sessionOf}
-use Rattle.device.specs.Events.{Event, Effect, State, connect, disconnect, button, request}
+use Rattle.device.specs.Events.{Effect, State}
+use Rattle.events.specs.Events.{Event, connect, disconnect, button, request}
 use Rattle.history.specs.Location.{Location, Place}
 use Rattle.history.specs.Span.{names, gives}
 use Rattle.history.specs.Wish.{Wish, change, offerKey, restart, other, nothing}

@@ -12,7 +12,8 @@ use Rattle.sheet.specs.Region as region
 use Rattle.sheet.specs.Property as property
 use Rattle.sheet.specs.Places.{regionAt}
 use Rattle.device.specs.Sessions.{sessionOf}
-use Rattle.device.specs.Events.{Event, State, request}
+use Rattle.device.specs.Events.{State}
+use Rattle.events.specs.Events.{Event, request}
 use Rattle.history.specs.Location.{Location, memory, body, counter, key, Place}
 use Rattle.history.specs.Span.{names}
 use Rattle.history.specs.Wish.{offerKey, asks, brings}

@@ -11,7 +11,8 @@ use Rattle.sheet.specs.Head as head
 use Rattle.sheet.specs.Head.{rulesOf}
 use Rattle.sheet.specs.Group as group
 use Rattle.sheet.specs.Entries.{entry, bodyAt}
-use Rattle.device.specs.Events.{Event, connect, disconnect, button, request, bit}
+use Rattle.device.specs.Events.{bit}
+use Rattle.events.specs.Events.{Event, connect, disconnect, button, request}
 use Rattle.history.specs.Wish as wish
 use Rattle.history.specs.Span.{all}
 use Rattle.history.specs.Permit.{heard}

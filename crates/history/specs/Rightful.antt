@@ -4,7 +4,8 @@ use Prim.Native.Nat.{ℕ}
 use mathlib.Core.Bool.{Bool}
 use mathlib.Core.List.{List}
 use Rattle.device.specs.Octets.{Octets}
-use Rattle.device.specs.Events.{Event, Effect, State, connect, disconnect, button, request, eventOf}
+use Rattle.device.specs.Events.{Effect, State}
+use Rattle.events.specs.Events.{Event, connect, disconnect, button, request, eventOf}
 use Rattle.device.specs.Due.{ConnectDue, DisconnectDue, ButtonDue, RequestDue}
 use Rattle.history.specs.Keeps.{Device}
 

@@ -14,7 +14,8 @@ use Rattle.pdu.specs.Write.{encoded}
 use Rattle.pdu.specs.declared.Parsed.the-variants.{Is}
 use Rattle.pdu.specs.declared.Pdu.the-variants.{PropertyValueRead, PropertyValueResponse}
 use Rattle.device.specs.Octets.{Octets}
-use Rattle.device.specs.Events.{Event, Effect, request}
+use Rattle.device.specs.Events.{Effect}
+use Rattle.events.specs.Events.{Event, request}
 use Rattle.device.specs.MemoryDue.{reading, response}
 use Rattle.history.specs.Location.{memory, body}
 use Rattle.history.specs.Span.{all, names}

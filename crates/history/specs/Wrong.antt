@@ -14,7 +14,8 @@ use Rattle.sheet.specs.Property as property
 use Rattle.sheet.specs.Entries.{place}
 use Rattle.judge.specs.declared.Session.{Session}
 use Rattle.device.specs.Sessions.{closed, freshOf, withSession}
-use Rattle.device.specs.Events.{Event, Effect, State, connect, disconnect, button, request, eventOf}
+use Rattle.device.specs.Events.{Effect, State}
+use Rattle.events.specs.Events.{Event, connect, disconnect, button, request, eventOf}
 use Rattle.device.specs.declared.Sessions.{Sessions}
 use Rattle.device.specs.Marked.{sample}
 use Rattle.device.specs.Pump.{pump}

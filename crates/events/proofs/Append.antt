@@ -2,7 +2,8 @@
 -- Assumes nothing.
 use mathlib.Core.Path.{_≡_, refl}
 use mathlib.Core.List.{List, [], _∷_, _++_}
-use Rattle.device.specs.Events.{Event, State, after, run}
+use Rattle.device.specs.Events.{State}
+use Rattle.events.specs.Events.{Event, after, run}
 
 -- ONE RUN AFTER THE OTHER
 pub run-append : (x : State) (es fs : List Event) → run x (es ++ fs) ≡ run (run x es) fs

@@ -14,12 +14,14 @@ use Rattle.sheet.specs.Head as head
 use Rattle.sheet.proofs.Good.{good}
 use Rattle.judge.specs.Session.{connected}
 use Rattle.judge.specs.declared.Session.{Session}
 use Rattle.device.specs.declared.Sessions.{Sessions}
 use Rattle.device.specs.Sessions.{freshOf, withSession, sessionFor}
-use Rattle.device.specs.Events.{State, Event, connect, disconnect, button, request, bit, pressed, buttonOutcome, buttonSheet, connectOf, disconnectOf, requestOf, eventOf, after, run}
-use Rattle.device.specs.Apart.{SameButRules, AlikeAfter, Settled, AllSettled, Together}
-use Rattle.device.proofs.Stays.{stays}
+use Rattle.device.specs.Events.{State, bit, pressed, buttonOutcome, buttonSheet, connectOf, disconnectOf, requestOf}
+use Rattle.device.specs.Apart.{SameButRules, AlikeAfter, Together}
+use Rattle.events.specs.Events.{Event, connect, disconnect, button, request, eventOf, after, run}
+use Rattle.events.specs.Apart.{Settled, AllSettled}
+use Rattle.events.proofs.Stays.{stays}
 use Rattle.device.proofs.RulesApart.{But, but, splice-but, is-accepted, rules-apart}
 
 -- the button
 module _ {s s′ : List ℕ} (b : SameButRules s s′) (on : Bool) where
