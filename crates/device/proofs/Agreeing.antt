@@ -26,9 +26,9 @@ pub agree-refl : (s : List ℕ) → Agree s s
 agree-refl s =
     record {
       long = refl;
-      front = λ p h. refl;
-      byte15 = refl;
-      rules = refl;
+      front = λ p l h. refl;
+      users = refl;
+      by = record { edition = refl; byte15 = refl; rules = refl };
       zero31 = refl;
       flags = (λ h. h, λ h. h);
       fixed = λ k i j hk hi hj f. refl;

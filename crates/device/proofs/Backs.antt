@@ -22,6 +22,7 @@ use Rattle.sheet.proofs.Standing.{place-in}
 use Rattle.sheet.proofs.Frames.{kept}
 use Rattle.sheet.proofs.Sames.{count-same, place-same, property-same}
 use Rattle.sheet.proofs.Counts.{count-now}
+use Rattle.sheet.proofs.Buts.{part-same}
 use Rattle.judge.specs.Properties.{jumped}
 use Rattle.judge.proofs.PropertyCases.{Keyed, Among, runIn}
 use Rattle.device.specs.Carry.{storeOf}
@@ -29,16 +30,6 @@ use Rattle.device.proofs.Accepted.{count-below, elements-within, counte
 use Rattle.device.proofs.Jumps.{whole, length-run, zeros-and-data}
 use Rattle.device.proofs.Stores.{stored-back}
 use Rattle.device.proofs.Agreeing.{elements-keep}
-
--- a part of two lists that have the same bytes there
-pub part-same :
-    (s s′ : List ℕ) (o n : ℕ) → length s′ ≡ length s → ((i : ℕ) → i < n → getD s′ (o + i) 0 ≡ getD s (o + i) 0) →
-    take n (drop o s′) ≡ take n (drop o s)
-part-same s s′ o n l f =
-    ext-getD 0 (take n (drop o s′)) (take n (drop o s)) (simp (length-take, length-drop, l))
-    (λ i k.
-    let h : i < n = omega (arith, simp length-take at k) in
-    getD-take n (drop o s′) i 0 h ∙ getD-drop o s′ i 0 ∙ f i h ∙ sym (getD-drop o s i 0) ∙ sym (getD-take n (drop o s) i 0 h))
 
 -- a store before a part leaves it
 part-after : (s ds : List ℕ) (p o n : ℕ) → p + length ds ≤ length s → p + length ds ≤ o → take n (drop o (splice s p ds)) ≡ take n (drop o s)

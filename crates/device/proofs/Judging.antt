@@ -17,7 +17,7 @@ use Rattle.sheet.specs.Property as property
 use Rattle.sheet.specs.Entries.{entry}
 use Rattle.sheet.specs.Lookup.{indexOf}
 use Rattle.sheet.specs.Rules.{isAccepted}
-use Rattle.sheet.specs.Frame.{AgreeButRules}
+use Rattle.sheet.specs.Frame.{AgreeInside}
 use Rattle.sheet.proofs.Sames.{count-same, place-same}
 use Rattle.sheet.proofs.SameLookups.{index-same, rank-same, nth-same, range-same}
 use Rattle.sheet.specs.declared.Memory.the-variants.{Device, User}
@@ -72,7 +72,7 @@ restart-alike s q mode group c n false true = rw (ne-eqb mode connectionless n)
 restart-alike s q mode group c n false false = refl
 
 module _ {s s′ : List ℕ} (b : Seen s s′) where
-  a : AgreeButRules s s′
+  a : AgreeInside s s′
   a = unseen b tt
 
   group-read : (address : ℕ) → groupReadOf s′ address ≡ groupReadOf s address

@@ -52,6 +52,8 @@ pub mod ReadBack
 pub mod Unseen
 pub mod Judging
 pub mod NoBody
+pub mod StepBut
+pub mod CarryReads
 pub mod PastHead
 pub mod RulesApart
 pub mod TwoRules

@@ -1,6 +1,6 @@
 -- Judging reads no body of memory or of a property.
 -- Assumes nothing.
-use Prim.Native.Nat.{ℕ}
+use Prim.Native.Nat.{ℕ, _+_, _≤_}
 use mathlib.Core.Path.{_≡_, refl, sym, _∙_}
 use mathlib.Core.Logic.{inl}
 use mathlib.Core.Bool.{Bool, true, false}
@@ -9,10 +9,11 @@ use lib.Dec.{eqb}
 use native.Mathlib.Omega.{arith}
 use borrow.Author.Tests.{eq-eqb, eqb-true}
 use Rattle.octets.proofs.Numbers.{num-same}
+use Rattle.sheet.specs.Layout.{Field, _of_}
 use Rattle.sheet.specs.Head as head
 use Rattle.sheet.specs.Rules.{ruleOf, isAccepted}
 use Rattle.sheet.specs.Frame.{Agree}
-use Rattle.sheet.proofs.Sames.{rules-same}
+use Rattle.sheet.proofs.Sames.{users-alike, rules-same}
 use Rattle.sheet.proofs.Frames.{both-or-neither}
 use Rattle.judge.specs.declared.Session.{Session}
 use Rattle.judge.specs.Judge.{judgeOf}
@@ -21,12 +22,22 @@ use Rattle.device.proofs.Unseen.{Seen, unseen}
 use Rattle.device.proofs.Judging.{judge-same}
 
 module _ {s s′ : List ℕ} (b : SameButBodies s s′) where
+  field : (f : Field) → f .at + f .width ≤ head.size → f of s′ ≡ f of s
+  field f h = num-same s′ s (f .at) (f .at) (f .width) (λ i l. b .before _ (omega arith))
+
   seen : Seen s s′
-  seen = record { long = b .long; before = λ p h n. b .before p h; values = b .values }
+  seen =
+      record {
+        long = b .long;
+        before = λ p l h n. b .before p h;
+        users = users-alike s s′ (field head.edition (omega arith)) (field head.byte15 (omega arith));
+        values = b .values;
+      }
 
   agrees : Agree s s′
   agrees =
-      unseen seen (num-same s′ s (head.rules .at) (head.rules .at) (head.rules .width) (λ i l. b .before _ (omega arith)))
+      unseen seen
+      record { edition = field head.edition (omega arith); byte15 = field head.byte15 (omega arith); rules = field head.rules (omega arith) }
 
   -- a sheet is accepted if the other is
   accepted-same : isAccepted s′ ≡ isAccepted s

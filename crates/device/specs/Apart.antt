@@ -3,9 +3,9 @@
 use Prim.Native.Nat.{ℕ, _≤_}
 use mathlib.Core.Path.{_≡_}
 use mathlib.Core.List.{List}
-use lib.ListN.{length, getD}
 use Rattle.sheet.specs.Head as head
 use Rattle.sheet.specs.Rules.{Accepted}
+use Rattle.sheet.specs.But.{But}
 use Rattle.pdu.specs.Rules.{codeOf}
 use Rattle.pdu.specs.Table.{serviceAt}
 use Rattle.pdu.specs.Read.{readPdu}
@@ -18,11 +18,13 @@ use Rattle.device.specs.Step.{Step}
 use Rattle.device.specs.Events.{Effect, State}
 
 -- both accepted, and every byte the same but that of the rules
+abbrev pub RulesByte : ℕ → Type 0
+RulesByte p = p ≡ head.rules .at
+
 pub record SameButRules (s s′ : List ℕ) : Type 0 where
   pub accepted : Accepted s
   pub accepted′ : Accepted s′
-  pub long : length s′ ≡ length s
-  pub others : (p : ℕ) → (p ≡ head.rules .at → ⊥) → getD s′ p 0 ≡ getD s p 0
+  pub others : But RulesByte s s′
 
 -- the code of a restart, connectionless; a descriptor type other than 0
 pub data Disputed (mode : ℕ) (a : List ℕ) : Type 0 where

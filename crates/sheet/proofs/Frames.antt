@@ -14,10 +14,10 @@ use Rattle.sheet.specs.Group as group
 use Rattle.sheet.specs.Entries.{count, entry, sixBits}
 use Rattle.sheet.specs.Rules.{entryDemands, bodyDemands, Accepted}
 use Rattle.sheet.specs.declared.Memory.the-variants.{Device, User}
-use Rattle.sheet.specs.Frame.{Agree}
+use Rattle.sheet.specs.Frame.{Agree, AgreeBy}
 use Rattle.sheet.proofs.ByKind.{eachKind}
-use Rattle.sheet.proofs.Good.{Good, good, accepted}
-use Rattle.sheet.proofs.Sames.{front-same, count-same, region-same, spare-same, latest-same, property-same, group-same, floor-same, offset-same, at-same, start-same, reached-same}
+use Rattle.sheet.proofs.Good.{GoodIn, good, accepted}
+use Rattle.sheet.proofs.Sames.{front-same, count-same, region-same, property-same, group-same, floor-same, offset-same, at-same, start-same, reached-same}
 use Rattle.sheet.proofs.PlainRows.{six-to, six-from}
 
 module _ {s s′ : List ℕ} (a : Agree s s′) where
@@ -29,9 +29,9 @@ module _ {s s′ : List ℕ} (a : Agree s s′) where
   agree-sym =
       record {
         long = sym (a .long);
-        front = λ p h. sym (a .front p h);
-        byte15 = sym (a .byte15);
-        rules = sym (a .rules);
+        front = λ p l h. sym (a .front p l h);
+        users = sym (a .users);
+        by = record { edition = sym (a .by .edition); byte15 = sym (a .by .byte15); rules = sym (a .by .rules) };
         zero31 = sym (a .zero31);
         flags = (a .flags .1, a .flags .0);
         fixed = λ k i j hk hi hj f. sym (a .fixed k i j hk (below-same k i hi) hj f);
@@ -49,9 +49,14 @@ module _ {s s′ : List ℕ} (a : Agree s s′) where
   agree-trans b =
       record {
         long = b .long ∙ a .long;
-        front = λ p h. b .front p h ∙ a .front p h;
-        byte15 = b .byte15 ∙ a .byte15;
-        rules = b .rules ∙ a .rules;
+        front = λ p l h. b .front p l h ∙ a .front p l h;
+        users = b .users ∙ a .users;
+        by =
+            record {
+              edition = b .by .edition ∙ a .by .edition;
+              byte15 = b .by .byte15 ∙ a .by .byte15;
+              rules = b .by .rules ∙ a .by .rules;
+            };
         zero31 = b .zero31 ∙ a .zero31;
         flags = (λ h. b .flags .0 (a .flags .0 h), λ h. a .flags .1 (b .flags .1 h));
         fixed = λ k i j hk hi hj f. b .fixed k i j hk (rw (count-same a k) hi) hj f ∙ a .fixed k i j hk hi hj f;
@@ -65,7 +70,11 @@ module _ {s s′ : List ℕ} (a : Agree s s′) where
             (λ n. m .0 (a .six i h c .0 n), λ n. a .six i h c .1 (m .1 n));
       }
 
-module _ {s s′ : List ℕ} (g : Good s) (a : Agree s s′) where
+-- what agrees with a sheet whose demands are all met, whatever the edition
+module _ {ed : ℕ} {R : List ℕ → List ℕ → Type 0} {s s′ : List ℕ} (g : GoodIn ed s) (a : AgreeBy R s s′) where
+  fewer : (k i : ℕ) → i < count s′ k → i < count s k
+  fewer k i h = omega (arith, count-same a k)
+
   entries : (i k : ℕ) → k < kinds → i < count s k → Met (entryDemands s′ k i)
   unfolding entryDemands
   entries i =
@@ -100,18 +109,25 @@ module _ {s s′ : List ℕ} (g : Good s) (a : Agree s s′) where
   bodies k i hk hi =
       (offset-same a i k hk hi ∙ g .bodies k i hk hi .0 ∙ sym (reached-same a k i hk hi), (six i k hk hi, tt))
 
-  -- what agrees with a sheet whose demands are all met meets them too
-  pub kept : Good s′
-  kept =
+  -- meets them too, up to an edition that its own is not past, if byte 15 and rules suit its own
+  pub kept-in :
+      (up : ℕ) → 1 ≤ head.edition of s′ → head.edition of s′ ≤ up → head.spare s′ ≡ 0 → head.rules of s′ ≤ head.latest s′ → GoodIn up s′
+  kept-in up lo hi spare rules =
       record {
         framed =
             omega
-            (arith, a .long, g .framed, front-same a head.edition (omega arith), front-same a head.stated (omega arith), count-same a 0, count-same a 1, count-same a 2, count-same a 3);
-        zeros = omega (arith, spare-same a, latest-same a, a .rules, a .zero31, a .flags .0 (g .zeros .0), g .zeros);
-        entries = λ k i hk h. entries i k hk (below-same a k i h);
-        bodies = λ k i hk h. bodies k i hk (below-same a k i h);
+            (arith, lo, hi, a .long, g .framed, front-same a head.stated (omega arith) (omega arith), count-same a 0, count-same a 1, count-same a 2, count-same a 3);
+        zeros = omega (arith, spare, rules, a .zero31, a .flags .0 (g .zeros .0), g .zeros);
+        entries = λ k i hk h. entries i k hk (fewer k i h);
+        bodies = λ k i hk h. bodies k i hk (fewer k i h);
         last = (start-same a kinds (omega arith) ∙ g .last .0 ∙ sym (a .long), tt);
       }
+
+-- what agrees in edition, byte 15 and rules too meets them up to the same edition
+pub kept : {ed : ℕ} {s s′ : List ℕ} → GoodIn ed s → Agree s s′ → GoodIn ed s′
+kept {ed} {s} {s′} g a =
+    kept-in g a ed (omega (arith, g .framed, a .by .edition)) (omega (arith, g .framed, a .by .edition))
+    (rw (a .by .edition, a .by .byte15) (omega (arith, g .zeros))) (rw (a .by .edition, a .by .rules) (omega (arith, g .zeros)))
 
 -- OF TWO THAT AGREE BOTH ARE ACCEPTED OR NEITHER IS
 pub both-or-neither :

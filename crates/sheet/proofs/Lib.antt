@@ -34,6 +34,7 @@ pub mod RankBound
 pub mod Sames
 pub mod Frames
 pub mod SameLookups
+pub mod Buts
 pub mod Sparing
 pub mod Counts
 pub mod Stores

@@ -21,7 +21,7 @@ use Rattle.sheet.proofs.Sames.{count-same, key-same, region-same, prope
 use Rattle.sheet.proofs.FrontSearch.{seek-same}
 use Rattle.sheet.proofs.Runs.{range-suc}
 
-module _ {R : ℕ → ℕ → Type 0} {s s′ : List ℕ} (a : AgreeBy R s s′) where
+module _ {R : List ℕ → List ℕ → Type 0} {s s′ : List ℕ} (a : AgreeBy R s s′) where
   -- the same entry by its first word
   pub index-same : (k x : ℕ) → k < kinds → indexOf s′ k x ≡ indexOf s k x
   unfolding indexOf

@@ -6,7 +6,6 @@ use mathlib.Core.List.{List}
 use lib.ListN.{getD}
 use native.Mathlib.Omega.{arith}
 use Rattle.octets.proofs.Numbers.{num-same}
-use Rattle.sheet.specs.Rules.{edition}
 use Rattle.sheet.specs.Kind.{kinds, regions, properties, groups, users, kindOf}
 use Rattle.sheet.specs.Layout.{Field, _of_}
 use Rattle.sheet.specs.Head as head
@@ -21,17 +20,17 @@ use Rattle.sheet.specs.declared.Memory.{Memory}
 use Rattle.sheet.specs.declared.Memory.the-variants.{Device, User}
 use Rattle.sheet.proofs.ByKind.{eachKind}
 
--- by the first six bytes of the head and byte 15 alone
-module _ (s s′ : List ℕ) (front : (p : ℕ) → p < head.serial .at → getD s′ p 0 ≡ getD s p 0)
-    (fifteen : head.byte15 of s′ ≡ head.byte15 of s) where
-  field-front : (f : Field) → f .at + f .width ≤ head.serial .at → f of s′ ≡ f of s
-  field-front f h = num-same s′ s (f .at) (f .at) (f .width) (λ i l. front (f .at + i) (omega arith))
+-- by the numbers of entries alone
+module _ (s s′ : List ℕ) (front : (p : ℕ) → head.regions .at ≤ p → p < head.serial .at → getD s′ p 0 ≡ getD s p 0)
+    (many : head.users s′ ≡ head.users s) where
+  field-front : (f : Field) → head.regions .at ≤ f .at → f .at + f .width ≤ head.serial .at → f of s′ ≡ f of s
+  field-front f l h = num-same s′ s (f .at) (f .at) (f .width) (λ i k. front (f .at + i) (omega arith) (omega arith))
 
   count-front : (k : ℕ) → count s′ k ≡ count s k
-  count-front zero = field-front head.regions (omega arith)
-  count-front (suc zero) = field-front head.properties (omega arith)
-  count-front (suc (suc zero)) = field-front head.groups (omega arith)
-  count-front (suc (suc (suc k))) = rw (field-front head.edition (omega arith), fifteen)
+  count-front zero = field-front head.regions (omega arith) (omega arith)
+  count-front (suc zero) = field-front head.properties (omega arith) (omega arith)
+  count-front (suc (suc zero)) = field-front head.groups (omega arith) (omega arith)
+  count-front (suc (suc (suc k))) = many
 
   base-front : (k : ℕ) → base s′ k ≡ base s k
   base-front zero = refl
@@ -41,36 +40,32 @@ module _ (s s′ : List ℕ) (front : (p : ℕ) → p < head.serial .at → getD
   pub place-front : (k i : ℕ) → place s′ k i ≡ place s k i
   place-front k i = rw (base-front k)
 
+-- so many user regions by the same edition and byte 15
+pub users-alike : (s s′ : List ℕ) → head.edition of s′ ≡ head.edition of s → head.byte15 of s′ ≡ head.byte15 of s → head.users s′ ≡ head.users s
+users-alike s s′ e f = rw (e, f)
+
 -- the number of the rules
 pub rules-same : {s s′ : List ℕ} → Agree s s′ → rulesOf s′ ≡ rulesOf s
 unfolding rulesOf
-rules-same a = a .rules
+rules-same a = a .by .rules
 
--- all else, whatever that number is
-module _ {R : ℕ → ℕ → Type 0} {s s′ : List ℕ} (a : AgreeBy R s s′) where
-  -- a field of the head before the serial
-  pub front-same : (f : Field) → f .at + f .width ≤ head.serial .at → f of s′ ≡ f of s
-  front-same = field-front s s′ (a .front) (a .byte15)
+-- all else, whatever that number and the edition are
+module _ {R : List ℕ → List ℕ → Type 0} {s s′ : List ℕ} (a : AgreeBy R s s′) where
+  -- a field of the head between edition and serial
+  pub front-same : (f : Field) → head.regions .at ≤ f .at → f .at + f .width ≤ head.serial .at → f of s′ ≡ f of s
+  front-same = field-front s s′ (a .front) (a .users)
 
   -- the number of entries of a kind
   pub count-same : (k : ℕ) → count s′ k ≡ count s k
-  count-same = count-front s s′ (a .front) (a .byte15)
+  count-same = count-front s s′ (a .front) (a .users)
 
   -- where an entry stands
   pub place-same : (k i : ℕ) → place s′ k i ≡ place s k i
-  place-same = place-front s s′ (a .front) (a .byte15)
-
-  -- byte 15 of edition 1
-  pub spare-same : head.spare s′ ≡ head.spare s
-  spare-same = rw (front-same head.edition (omega arith), a .byte15)
-
-  -- the last number of rules that the edition knows
-  pub latest-same : head.latest s′ ≡ head.latest s
-  latest-same = rw (front-same head.edition (omega arith))
+  place-same = place-front s s′ (a .front) (a .users)
 
   -- where the contents end
   pub contents-same : contents s′ ≡ contents s
-  contents-same = base-front s s′ (a .front) (a .byte15) kinds
+  contents-same = base-front s s′ (a .front) (a .users) kinds
 
   -- a field of an entry that is no part of a property's count
   pub field-same :

@@ -6,6 +6,7 @@ use mathlib.Core.List.{List}
 use lib.ListN.{length, getD}
 use native.Mathlib.Omega.{arith}
 use Rattle.octets.specs.Bytes.{numAt}
+use Rattle.octets.proofs.Numbers.{num-same}
 use Rattle.sheet.specs.Kind.{kinds, properties, groups}
 use Rattle.sheet.specs.Layout.{_of_}
 use Rattle.sheet.specs.Head as head
@@ -16,7 +17,7 @@ use Rattle.sheet.specs.Rules.{entryDemands, bodyDemands}
 use Rattle.sheet.specs.Frame.{Agree, Fixed}
 use Rattle.sheet.specs.Stores.{countAt}
 use Rattle.sheet.proofs.Good.{Good}
-use Rattle.sheet.proofs.Sames.{place-front}
+use Rattle.sheet.proofs.Sames.{users-alike, place-front}
 use Rattle.sheet.proofs.Standing.{entry-at, field-at}
 use Rattle.sheet.proofs.PlainRows.{six-to}
 
@@ -55,20 +56,26 @@ module _ {s : List ℕ} (g : Good s) where
   mild {s′} m =
       record {
         long = m .long;
-        front = m .front;
-        byte15 = m .byte15;
-        rules = m .rules;
+        front = λ p l. m .front p;
+        users = many;
+        by = record { edition = first; byte15 = m .byte15; rules = m .rules };
         zero31 = m .zero31;
         flags = (λ h. m .flags, λ h. g .zeros .0);
         fixed = λ k i j hk hi hj f.
             entry-at s′ k i j hj
-            ∙ ap (λ (p : ℕ). getD s′ (p + j) 0) (place-front s s′ (m .front) (m .byte15) k i)
+            ∙ ap (λ (p : ℕ). getD s′ (p + j) 0) (place-front s s′ (λ p l. m .front p) many k i)
             ∙ m .entries k i j hk hi hj f
             ∙ sym (entry-at s k i j hj);
         counts = λ i h. (λ l. new i h, λ l. old-count i h);
         six = λ i h c. (λ l. m .six i h c, λ l. six-stood i h c);
       }
     where
+      first : head.edition of s′ ≡ head.edition of s
+      first = num-same s′ s (head.edition .at) (head.edition .at) (head.edition .width) (λ i l. m .front (head.edition .at + i) (omega arith))
+
+      many : head.users s′ ≡ head.users s
+      many = users-alike s s′ first (m .byte15)
+
       new : (i : ℕ) → i < count s properties → property.count of entry s′ properties i ≤ property.maximum of entry s properties i
       new i h =
-          rw (field-at s′ properties i property.count (omega arith), place-front s s′ (m .front) (m .byte15) properties i) (m .counts i h)
+          rw (field-at s′ properties i property.count (omega arith), place-front s s′ (λ p l. m .front p) many properties i) (m .counts i h)

@@ -16,14 +16,14 @@ use Rattle.sheet.specs.Entries.{count, size, entry, bodyAt}
 abbrev pub Fixed : ℕ → ℕ → Type 0
 Fixed k j = k ≡ properties → property.count .at ≤ j → j < property.count .at + property.count .width → ⊥
 
--- the two agree on all of it, their numbers of the rules standing to each other as R says
-pub record AgreeBy (R : ℕ → ℕ → Type 0) (s s′ : List ℕ) : Type 0 where
+-- the two agree on all of it, standing to each other as R says in edition, byte 15 and number of the rules
+pub record AgreeBy (R : List ℕ → List ℕ → Type 0) (s s′ : List ℕ) : Type 0 where
   pub long : length s′ ≡ length s
-  -- edition, numbers of entries, stated length
-  pub front : (p : ℕ) → p < head.serial .at → getD s′ p 0 ≡ getD s p 0
-  -- byte 15, the number of the rules, the zero byte, and the flags' zero bits
-  pub byte15 : head.byte15 of s′ ≡ head.byte15 of s
-  pub rules : R (head.rules of s′) (head.rules of s)
+  -- numbers of entries, stated length
+  pub front : (p : ℕ) → head.regions .at ≤ p → p < head.serial .at → getD s′ p 0 ≡ getD s p 0
+  pub users : head.users s′ ≡ head.users s
+  pub by : R s s′
+  -- the zero byte, and the flags' zero bits
   pub zero31 : head.zero31 of s′ ≡ head.zero31 of s
   pub flags : (head.flags of s ≤ 3 → head.flags of s′ ≤ 3) × (head.flags of s′ ≤ 3 → head.flags of s ≤ 3)
   -- the entries but for the counts
@@ -39,9 +39,15 @@ pub record AgreeBy (R : ℕ → ℕ → Type 0) (s s′ : List ℕ) : Type 0 whe
       (numAt s (bodyAt s groups i) 1 < 64 → numAt s′ (bodyAt s groups i) 1 < 64)
       × (numAt s′ (bodyAt s groups i) 1 < 64 → numAt s (bodyAt s groups i) 1 < 64)
 
--- THEY AGREE, the number of the rules included, and whatever that number is
-abbrev pub Agree : List ℕ → List ℕ → Type 0
-Agree s s′ = AgreeBy (λ m n. m ≡ n) s s′
+-- the same edition, byte 15 and number of the rules
+pub record Stamped (s s′ : List ℕ) : Type 0 where
+  pub edition : head.edition of s′ ≡ head.edition of s
+  pub byte15 : head.byte15 of s′ ≡ head.byte15 of s
+  pub rules : head.rules of s′ ≡ head.rules of s
 
-abbrev pub AgreeButRules : List ℕ → List ℕ → Type 0
-AgreeButRules s s′ = AgreeBy (λ m n. Unit {0}) s s′
+-- THEY AGREE, these included, and whatever these are
+abbrev pub Agree : List ℕ → List ℕ → Type 0
+Agree s s′ = AgreeBy Stamped s s′
+
+abbrev pub AgreeInside : List ℕ → List ℕ → Type 0
+AgreeInside s s′ = AgreeBy (λ t t′. Unit {0}) s s′

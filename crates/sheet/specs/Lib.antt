@@ -15,4 +15,5 @@ pub mod Lookup
 pub mod Values
 pub mod Places
 pub mod Frame
+pub mod But
 pub mod Stores
