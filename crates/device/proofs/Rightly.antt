@@ -10,6 +10,7 @@ use Rattle.judge.specs.declared.Decision.{Decision}
 use Rattle.judge.specs.Session.{levelIn}
 use Rattle.judge.specs.Judge.{decideOf, dataIn}
 use Rattle.device.specs.Octets.{Octets}
+use Rattle.device.specs.Demand2.{Serves, done}
 use Rattle.device.specs.Step.{Step, stepBy, stepOf}
 use Rattle.device.specs.Asked.{Asked, Reads, given}
 use Rattle.device.specs.Right as due
@@ -118,3 +119,7 @@ module _ (x : Asked) (hs : Octets (x .sheet)) (ha : Octets (x .apdu)) where
   right-only r (due.keys (keys.keyWrite named key h w)) = only-key-write x named key h w
   right-only r (due.keys (keys.noKeyWrite named key h f)) = only-no-key-write x named key h f
   right-only r (due.keys (keys.restart h)) = only-restart x h
+
+-- SO OUR DEVICE MEETS DEMAND 2
+pub serves-ours : Serves done
+serves-ours x hs ha = right x hs ha

@@ -20,4 +20,3 @@ pub mod Pump
 pub mod Next
 pub mod Bodies
 pub mod Apart
-pub mod Wrong

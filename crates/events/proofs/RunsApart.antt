@@ -40,7 +40,7 @@ event-apart x x′ (button on) t u =
           };
     }
 event-apart x x′ (request mode c group a out) t u =
-    let k = rules-apart (length out) (sessionFor (x .sessions) mode c) mode group a (t .sheet) u in
+    let k = rules-apart (length out) (sessionFor (x .sessions) mode c) mode group a (t .sheet) (u mode c group a out refl) in
     rw (t .sessions)
     record {
       outcome = k .outcome;

@@ -7,19 +7,27 @@ use lib.ListN.{getD}
 use native.Mathlib.Omega.{arith}
 use Rattle.octets.specs.Bytes.{numAt}
 use Rattle.sheet.specs.Head as head
-use Rattle.sheet.specs.Entries.{entry, keyOf, bodyAt}
+use Rattle.sheet.specs.Demand.{breach}
+use Rattle.sheet.specs.First.{first}
+use Rattle.sheet.specs.Entries.{entry, keyOf, floor, bodyAt, bodyEnd, startOf, reached, sixBits}
+use Rattle.sheet.specs.Rules.{entryDemands, bodyDemands, entryRule, bodyRule, entriesRule, bodiesRule, walkRule, restRule, ruleIn}
 use Rattle.sheet.specs.Lookup.{seek, indexOf}
 use Rattle.device.specs.Events.{State}
 use Rattle.events.specs.Events.{Event, run}
 use Rattle.device.specs.Marked.{sample}
+use Rattle.device.proofs.Octet.{octets-by}
 use Rattle.history.specs.Location.{body, counter, key, Place, ofBody, ofCounter, ofKey}
 use Rattle.history.specs.Permit.{indexFor, entryFor}
-use Rattle.history.specs.Keeps.{AllOctets}
+use Rattle.history.specs.Keeps.{Begins, AllOctets}
 use Rattle.history.specs.Keyless.{writeLevel, NotOffered, Protected}
-use Rattle.history.specs.Wrong.{fresh}
+use Rattle.history.specs.Samples.{fresh}
 use Rattle.history.proofs.InOrder.{firstState}
 use Rattle.history.proofs.Keyless.{locked, keyless-run}
-use Rattle.history.proofs.Refuted.{begins}
+
+-- the sample is accepted
+pub begins : Begins fresh
+unfolding sample ruleIn walkRule restRule entriesRule bodiesRule entryRule bodyRule bodyDemands entryDemands entry keyOf floor bodyAt bodyEnd startOf reached sixBits first breach numAt
+begins = record { octets = octets-by sample refl; accepted = refl }
 
 -- the four bytes of its two elements stand at 64, its count at 46
 height-at : (j : ℕ) → j < 4 → Place sample (body 1 51 j) (64 + j)

@@ -1,5 +1,5 @@
 -- PROMISES, named in docs/PROMISES.md: Keyless (nobody without the key), Height (that, on the sample sheet), Keep (demand 3), Pinned (one result), OneDevice (one device), RulesStay (the rules are those of the first sheet), Connections (what bears on the level of one), AtOnce, Suffices, Shown and MemoryShown (what a read shows), Isolated (one tool beside another), Calls (all of these of the calls),
--- Permitted (permitted as plain propositions), Places (`place-injective`, `exactly-one`), InOrder (histories and runs), Refuted and LeaksRefuted (wrong devices).
+-- Permitted (permitted as plain propositions), Places (`place-injective`, `exactly-one`), InOrder (histories and runs).
 pub mod Keyless
 pub mod Height
 pub mod Keep
@@ -16,8 +16,8 @@ pub mod Suffices
 pub mod Permitted
 pub mod Places
 pub mod InOrder
-pub mod Refuted
-pub mod LeaksRefuted
+-- TRIALS against them:
+pub mod trials
 -- LAWS BEHIND THEM. Of tests, of spans, of bytes:
 pub mod Bools
 pub mod Spans

@@ -10,6 +10,5 @@ pub mod Keyless
 pub mod Rightful
 pub mod Shown
 pub mod Isolation
-pub mod Wrong
-pub mod Leaks
+pub mod Samples
 pub mod Calls

@@ -1,4 +1,4 @@
--- Demand 2 holds of our device, and not of one that refuses everything, sends one answer, invents the count, stores what it refuses, has the levels turned, or lets level 1 set key 0.
+-- WHAT DEMAND 2 RULES OUT: a device that refuses everything, sends one answer, invents the count, stores what it refuses, has the levels turned, or lets level 1 set key 0.
 -- Assumes nothing.
 use Prim.Native.Nat.{ℕ}
 use mathlib.Core.Path.{_≡_, refl, ap, _∙_}
@@ -11,15 +11,11 @@ use Rattle.device.specs.Step.{Step}
 use Rattle.device.specs.Asked.{Asked}
 use Rattle.device.specs.Demand2.{Serves, done}
 use Rattle.device.specs.Marked.{sample, Case, Result, readElement, readCount, writeElement, cases, asked, found, wanted}
-use Rattle.device.specs.Wrong.{refusesAll, fixedAnswer, inventsCount, inventsStored, storesDenied, levelsTurned, keyOfAnother, keylessWrite, writeKey0}
+use Rattle.device.proofs.trials.Wrong.{refusesAll, fixedAnswer, inventsCount, inventsStored, storesDenied, levelsTurned, keyOfAnother, keylessWrite, writeKey0}
 use Rattle.device.proofs.Octet.{isBytes, octets-by}
-use Rattle.device.proofs.Rightly.{right, right-only}
+use Rattle.device.proofs.Rightly.{right-only}
 use Rattle.device.proofs.Cases.{marked}
-use Rattle.device.proofs.WrongSteps.{invented, invented-stored, stored, denied-stored, turned-stored, element-kept, key-stored, key-kept}
-
--- OURS
-pub serves-ours : Serves done
-serves-ours x hs ha = right x hs ha
+use Rattle.device.proofs.trials.WrongSteps.{invented, invented-stored, stored, denied-stored, turned-stored, element-kept, key-stored, key-kept}
 
 -- what is due for a read of the element, and of the count
 marked-element : found readElement ≡ wanted readElement

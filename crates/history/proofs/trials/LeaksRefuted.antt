@@ -1,4 +1,4 @@
--- What isolation rules out: each of the devices in which one tool can tell what the other does.
+-- WHAT ISOLATION RULES OUT: each of the devices in which one tool can tell what the other does.
 -- Assumes nothing.
 use Prim.Native.Nat.{ℕ}
 use mathlib.Core.Path.{_≡_, refl, ap}
@@ -30,8 +30,9 @@ use Rattle.history.specs.Wish.{restart, asks}
 use Rattle.history.specs.History.{wished}
 use Rattle.history.specs.Keeps.{Device, stateAfter}
 use Rattle.history.specs.Isolation.{Beside, begin, shared, oneMore, same, Isolated}
-use Rattle.history.specs.Wrong.{fresh, offering, offeringOn, authorized}
-use Rattle.history.specs.Leaks.{showsLevel, lowersBoth, offeredOn1, showsCount, readUnconnected}
+use Rattle.history.specs.Samples.{fresh}
+use Rattle.history.proofs.trials.Wrong.{offering, offeringOn, authorized}
+use Rattle.history.proofs.trials.Leaks.{showsLevel, lowersBoth, offeredOn1, showsCount, readUnconnected}
 
 -- what the tool on connection 1 offers is no restart
 offers-only : (b : ℕ) → wished (offeringOn 1 b) ≡ restart → ⊥

@@ -21,7 +21,7 @@ use Rattle.judge.specs.Judge.{reachedOf, isShut, judgeOf}
 use Rattle.device.specs.Step.{stepBy, stepOf}
 use Rattle.device.specs.Demand2.{done}
 use Rattle.device.specs.Marked.{sample, readCount, writeElement, asked}
-use Rattle.device.specs.Wrong.{inflated, inventsCount, raised, inventsStored, storesDenied, actsAt, levelsTurned, keyOfAnother, keylessWrite, writeKey0}
+use Rattle.device.proofs.trials.Wrong.{inflated, inventsCount, raised, inventsStored, storesDenied, actsAt, levelsTurned, keyOfAnother, keylessWrite, writeKey0}
 
 -- THE LAST BYTE IS 2, the maximum, where the count is 1
 pub invented : getD (inventsCount (asked readCount) .answer) 7 0 ≡ 2

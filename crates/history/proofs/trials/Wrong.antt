@@ -1,4 +1,4 @@
--- Wrong devices, each with a short run on which it shows.
+-- WRONG DEVICES, each with a short run on which it shows: trials, to hold against demand 3 (`wrongs-refuted`).
 -- Assumes nothing.
 use Prim.Native.Nat.{ℕ, _+_, _*_, _-_}
 use mathlib.Core.List.{List, [], _∷_}
@@ -13,17 +13,16 @@ use Rattle.sheet.specs.Head as head
 use Rattle.sheet.specs.Property as property
 use Rattle.sheet.specs.Entries.{place}
 use Rattle.judge.specs.declared.Session.{Session}
-use Rattle.device.specs.Sessions.{closed, freshOf, withSession}
-use Rattle.device.specs.Events.{Effect, State}
+use Rattle.device.specs.Sessions.{closed, withSession}
+use Rattle.device.specs.Events.{Effect, State, connecting, requesting}
 use Rattle.events.specs.Events.{Event, connect, disconnect, button, request, eventOf}
 use Rattle.device.specs.declared.Sessions.{Sessions}
-use Rattle.device.specs.Marked.{sample}
-use Rattle.device.specs.Pump.{pump}
 use Rattle.history.specs.Wish.{Wish, change, writeMemory, writeBits, writeProperty, writeKey, offerKey, restart, other, nothing, asks}
 use Rattle.history.specs.Permit.{indexFor, entryFor}
 use Rattle.history.specs.History.{First, wished, isRestart, permitted}
 use Rattle.history.specs.Keeps.{Device, stateAfter}
 use Rattle.history.specs.Rightful.{ours}
+use Rattle.history.specs.Samples.{fresh, freshPump}
 
 -- an effect with another sheet, and with other sessions
 abbrev pub withSheet : Effect → List ℕ → Effect
@@ -45,16 +44,23 @@ abbrev pub at : State → ℕ → State
 at x l =
     let q : Session = record { opened = true; level = l } in record { sessions = record { first = q; second = q }; sheet = x .sheet }
 
--- a device that changes what ours makes of a request, and one that acts on requests as if the levels were others
-abbrev pub onRequests : (State → Event → Effect → Effect) → Device
-onRequests k f h x (connect c) = eventOf x (connect c)
-onRequests k f h x (disconnect c) = eventOf x (disconnect c)
-onRequests k f h x (button on) = eventOf x (button on)
-onRequests k f h x (request mode c g a out) = k x (request mode c g a out) (eventOf x (request mode c g a out))
+-- A DEVICE BY WHAT IT DOES with a connect and with a request; with all else it does what ours does
+abbrev pub doing : (State → ℕ → Effect) → (State → ℕ → ℕ → ℕ → List ℕ → List ℕ → Effect) → Device
+doing connects requests f h x (connect c) = connects x c
+doing connects requests f h x (disconnect c) = eventOf x (disconnect c)
+doing connects requests f h x (button on) = eventOf x (button on)
+doing connects requests f h x (request mode c g a out) = requests x mode c g a out
+
+abbrev pub onRequests : (State → ℕ → ℕ → ℕ → List ℕ → List ℕ → Effect) → Device
+onRequests requests = doing connecting requests
+
+-- one that changes what ours makes of a request, and one that acts on requests as if the levels were others
+abbrev pub changing : (State → Event → Effect → Effect) → Device
+changing k = onRequests (λ x mode c g a out. k x (request mode c g a out) (requesting x mode c g a out))
 
 abbrev pub actsAt : (ℕ → ℕ) → Device
 actsAt taking =
-    onRequests
+    changing
     (λ x e r.
     let w = eventOf record { sessions = levelled (λ p q. taking (q .level)) (x .sessions) (x .sessions); sheet = x .sheet } e in
     record { outcome = w .outcome; answer = w .answer; sessions = r .sessions; sheet = w .sheet })
@@ -62,11 +68,11 @@ actsAt taking =
 -- ONE THAT REFUSES EVERYTHING
 abbrev pub refusesAll : Device
 refusesAll =
-    onRequests (λ x e r. record { outcome = 8; answer = []; sessions = x .sessions; sheet = x .sheet })
+    changing (λ x e r. record { outcome = 8; answer = []; sessions = x .sessions; sheet = x .sheet })
 
 -- ONE THAT ANSWERS AND STORES NOTHING
 abbrev pub storesNothing : Device
-storesNothing = onRequests (λ x e r. withSheet r (x .sheet))
+storesNothing = changing (λ x e r. withSheet r (x .sheet))
 
 -- ONE THAT STORES THE FIRST WRITE AND AFTERWARDS ONLY ANSWERS: it remembers whether there was one
 abbrev pub wrote : First → List Event → Bool
@@ -93,7 +99,7 @@ written c x s nothing = s
 
 abbrev pub onElements : (List ℕ → List ℕ → ℕ → ℕ → ℕ → List ℕ) → Device
 onElements c =
-    onRequests
+    changing
     (λ x e r. withSheet r (cond (leb (r .outcome) 1) (written c (x .sheet) (r .sheet) (wished e)) (r .sheet)))
 
 -- ONE THAT INVENTS THE COUNT: it stores the maximum
@@ -116,35 +122,33 @@ leavesJumped =
 -- ONE THAT STORES BEFORE IT JUDGES: the sheet is stored to as if at level 0, and then judged as ours
 abbrev pub storesFirst : Device
 storesFirst =
-    onRequests
+    changing
     (λ x e r.
     let w = eventOf (at x 0) e in
     withSheet (eventOf record { sessions = x .sessions; sheet = w .sheet } e) (w .sheet))
 
 -- THE ACCIDENT: it answers the refusal, 11, and stores, as if the request had come connected at level 0
 abbrev pub deniesAndStores : Device
-deniesAndStores f h x (connect c) = eventOf x (connect c)
-deniesAndStores f h x (disconnect c) = eventOf x (disconnect c)
-deniesAndStores f h x (button on) = eventOf x (button on)
-deniesAndStores f h x (request mode c g a out) =
-    let r = eventOf x (request mode c g a out) in
-    withSheet r (cond (eqb (r .outcome) 11) (eventOf (at x 0) (request 3 0 g a out) .sheet) (r .sheet))
+deniesAndStores =
+    onRequests
+    (λ x mode c g a out.
+    let r = requesting x mode c g a out in
+    withSheet r (cond (eqb (r .outcome) 11) (requesting (at x 0) 3 0 g a out .sheet) (r .sheet)))
 
 -- ONE THAT KEEPS THE LEVEL AFTER A WRONG KEY: while the session is open, only a wrong key makes the level 3
 abbrev pub keepsLevel : Device
 keepsLevel =
-    onRequests
+    changing
     (λ x e r.
     withSessions r
     (levelled (λ p q. cond (q .opened && eqb (q .level) 3) (p .level) (q .level)) (x .sessions) (r .sessions)))
 
 -- ONE THAT KEEPS THE LEVEL OVER A CONNECT
 abbrev pub keepsOver : Device
-keepsOver f h x (connect c) =
-    let r = eventOf x (connect c) in withSessions r (levelled (λ p q. p .level) (x .sessions) (r .sessions))
-keepsOver f h x (disconnect c) = eventOf x (disconnect c)
-keepsOver f h x (button on) = eventOf x (button on)
-keepsOver f h x (request mode c g a out) = eventOf x (request mode c g a out)
+keepsOver =
+    doing
+    (λ x c. let r = connecting x c in withSessions r (levelled (λ p q. p .level) (x .sessions) (r .sessions)))
+    requesting
 
 -- ONE WITH ONE LEVEL FOR BOTH CONNECTIONS: the second has that of the first
 abbrev pub oneLevel : Device
@@ -153,13 +157,12 @@ oneLevel f h x e =
 
 -- ONE WHOSE RESTART CLOSES ITS OWN CONNECTION ALONE
 abbrev pub closesOwn : Device
-closesOwn f h x (connect c) = eventOf x (connect c)
-closesOwn f h x (disconnect c) = eventOf x (disconnect c)
-closesOwn f h x (button on) = eventOf x (button on)
-closesOwn f h x (request mode c g a out) =
-    let r = eventOf x (request mode c g a out) in
+closesOwn =
+    onRequests
+    (λ x mode c g a out.
+    let r = requesting x mode c g a out in
     withSessions r
-    (cond (isRestart (asks a) && leb (r .outcome) 1) (withSession (x .sessions) c closed) (r .sessions))
+    (cond (isRestart (asks a) && leb (r .outcome) 1) (withSession (x .sessions) c closed) (r .sessions)))
 
 -- ONE WITH < FOR ≤: it acts one level too weak
 abbrev pub strict : Device
@@ -175,12 +178,12 @@ setsKey0 = actsAt (λ l. cond (eqb l 1) 0 l)
 
 -- ONE THAT LOSES THE SECOND OF TWO BYTES: the byte of address 0101, position 61, never changes
 abbrev pub losesSecond : Device
-losesSecond = onRequests (λ x e r. withSheet r (splice (r .sheet) 61 (getD (x .sheet) 61 0 ∷ [])))
+losesSecond = changing (λ x e r. withSheet r (splice (r .sheet) 61 (getD (x .sheet) 61 0 ∷ [])))
 
 -- ONE THAT IGNORES A KEY WRITE OF LEVEL 0: it answers, and puts the old key back
 abbrev pub ignoresKey0 : Device
 ignoresKey0 =
-    onRequests
+    changing
     (λ x e r. withSheet r (splice (r .sheet) ((head.key 0) .at) (bytesOf 4 (head.key 0 of x .sheet))))
 
 -- ONE THAT KEEPS THE ADDRESS IN ONE BYTE: the number is right, but what stands at 17 is no byte
@@ -193,32 +196,24 @@ abbrev pub asMemoryWrite : List ℕ → List ℕ
 asMemoryWrite a = cond (eqb (numAt a 0 2) 0x2C2) (0x02 ∷ (0x80 + getD a 2 0) ∷ drop 3 a) a
 
 abbrev pub userFromDevice : Device
-userFromDevice f h x (connect c) = eventOf x (connect c)
-userFromDevice f h x (disconnect c) = eventOf x (disconnect c)
-userFromDevice f h x (button on) = eventOf x (button on)
-userFromDevice f h x (request mode c g a out) =
-    withSheet (eventOf x (request mode c g a out)) (eventOf x (request mode c g (asMemoryWrite a) out) .sheet)
+userFromDevice =
+    onRequests
+    (λ x mode c g a out.
+    withSheet (requesting x mode c g a out) (requesting x mode c g (asMemoryWrite a) out .sheet))
 
 -- ONE THAT TAKES THE LEVELS OF THE FIRST REGION FOR ALL: a UserMemory_Write is stored whole if one of its first byte alone would be
 abbrev pub firstByte : List ℕ → List ℕ
 firstByte a = cond (eqb (numAt a 0 2) 0x2C2) (0x02 ∷ 0xC2 ∷ 0x01 ∷ take 3 (drop 3 a)) a
 
 abbrev pub firstRegionDecides : Device
-firstRegionDecides f h x (connect c) = eventOf x (connect c)
-firstRegionDecides f h x (disconnect c) = eventOf x (disconnect c)
-firstRegionDecides f h x (button on) = eventOf x (button on)
-firstRegionDecides f h x (request mode c g a out) =
-    let r = eventOf x (request mode c g a out) in
+firstRegionDecides =
+    onRequests
+    (λ x mode c g a out.
+    let r = requesting x mode c g a out in
     withSheet r
-    (cond (leb (eventOf x (request mode c g (firstByte a) out) .outcome) 1) (eventOf (at x 0) (request mode c g a out) .sheet) (r .sheet))
+    (cond (leb (requesting x mode c g (firstByte a) out .outcome) 1) (requesting (at x 0) mode c g a out .sheet) (r .sheet)))
 
--- THE RUNS begin with the sample sheet, or with the pump controller's, and fresh sessions
-abbrev pub fresh : First
-fresh = record { sheet = sample; sessions = freshOf }
-
-abbrev pub freshPump : First
-freshPump = record { sheet = pump; sessions = freshOf }
-
+-- WHAT THE RUNS ARE MADE OF
 abbrev pub buffer : List ℕ
 buffer = replicate 16 0
 

@@ -1,4 +1,4 @@
--- Devices that are wrong, to hold against demand 2.
+-- WRONG DEVICES: trials, to hold against demand 2.
 -- Assumes nothing.
 use Prim.Native.Nat.{ℕ, _+_, _-_}
 use mathlib.Core.List.{List, [], _∷_}

@@ -1,4 +1,4 @@
--- What demand 3 rules out: each of the wrong devices, since after its run its state is not ours.
+-- WHAT DEMAND 3 RULES OUT: each of the wrong devices, since after its run its state is not ours.
 -- Assumes nothing.
 use mathlib.Core.Path.{_≡_, refl, sym, ap, _∙_}
 use mathlib.Core.Bool.{Bool, true, _&&_, not}
@@ -36,10 +36,10 @@ use Rattle.history.specs.Permit.{every, heard, levelFor, regionFor, mayW
 use Rattle.history.specs.History.{First, firstOf, keyIn, opened, level, content, permitted}
 use Rattle.history.specs.Keeps.{Begins, AllOctets, Keeps, stateAfter}
 use Rattle.history.specs.Rightful.{ours}
-use Rattle.history.specs.Wrong.{fresh, Witness, wrongs}
 use Rattle.history.proofs.Keep.{keeps}
 use Rattle.history.proofs.Pinned.{pinned}
 use Rattle.history.proofs.Spans.{same-so}
+use Rattle.history.proofs.trials.Wrong.{Witness, wrongs}
 
 -- bytes, by one test
 abbrev bringsBytes : Event → Bool
@@ -82,11 +82,6 @@ same-state x =
     let r = x .sessions .second in
     and-is (sameSession q q) (sameSession r r && same (x .sheet) (x .sheet)) .1
     (same-session q, and-is (sameSession r r) (same (x .sheet) (x .sheet)) .1 (same-session r, same-so (x .sheet)))
-
--- the sample is accepted
-pub begins : Begins fresh
-unfolding sample ruleIn walkRule restRule entriesRule bodiesRule entryRule bodyRule bodyDemands entryDemands entry keyOf floor bodyAt bodyEnd startOf reached sixBits first breach numAt
-begins = record { octets = octets-by sample refl; accepted = refl }
 
 -- a first sheet of bytes that is accepted, by one test
 abbrev isFirst : First → Bool

@@ -1,28 +1,29 @@
--- Wrong devices in which one tool can tell what the other does, each with a short run on which it shows.
+-- WRONG DEVICES in which one tool can tell what the other does: trials, to hold against isolation (`LeaksRefuted`).
 -- Assumes nothing.
 use Prim.Native.Nat.{ℕ, _+_, _-_}
 use mathlib.Core.List.{List, [], _∷_, _++_}
-use mathlib.Core.Bool.{Bool, true, false, cond, _&&_}
+use mathlib.Core.Bool.{Bool, true, false, cond, _&&_, not}
 use lib.Dec.{eqb}
 use Rattle.device.specs.Sessions.{sessionOf}
-use Rattle.events.specs.Events.{Event, connect, disconnect, button, request, eventOf}
+use Rattle.device.specs.Events.{requesting}
+use Rattle.events.specs.Events.{Event, connect, request, eventOf}
 use Rattle.history.specs.Wish.{Wish, change, offerKey, restart, other, nothing, asks}
 use Rattle.history.specs.Keeps.{Device}
-use Rattle.history.specs.Wrong.{withSessions, levelled, buffer, offeringOn}
+use Rattle.history.specs.Isolation.{isOf, mayBeOf}
+use Rattle.history.proofs.trials.Wrong.{withSessions, levelled, onRequests, buffer, offeringOn}
 
 -- ONE WHOSE ANSWERS SHOW THE LEVEL OF THE OTHER CONNECTION, in one more byte
 abbrev pub showsLevel : Device
-showsLevel f h x (connect c) = eventOf x (connect c)
-showsLevel f h x (disconnect c) = eventOf x (disconnect c)
-showsLevel f h x (button on) = eventOf x (button on)
-showsLevel f h x (request mode c g a out) =
-    let r = eventOf x (request mode c g a out) in
+showsLevel =
+    onRequests
+    (λ x mode c g a out.
+    let r = requesting x mode c g a out in
     record {
       outcome = r .outcome;
       answer = r .answer ++ (sessionOf (x .sessions) (1 - c) .level ∷ []);
       sessions = r .sessions;
       sheet = r .sheet;
-    }
+    })
 
 abbrev pub isOffer : Wish → Bool
 isOffer (change c) = false
@@ -33,28 +34,24 @@ isOffer nothing = false
 
 -- ONE IN WHICH A WRONG KEY TAKES THE LEVEL OF BOTH CONNECTIONS
 abbrev pub lowersBoth : Device
-lowersBoth f h x (connect c) = eventOf x (connect c)
-lowersBoth f h x (disconnect c) = eventOf x (disconnect c)
-lowersBoth f h x (button on) = eventOf x (button on)
-lowersBoth f h x (request mode c g a out) =
-    let r = eventOf x (request mode c g a out) in
+lowersBoth =
+    onRequests
+    (λ x mode c g a out.
+    let r = requesting x mode c g a out in
     withSessions r
     (cond (isOffer (asks a) && eqb (sessionOf (r .sessions) c .level) 3) (levelled (λ p q. 3) (x .sessions) (r .sessions))
-    (r .sessions))
+    (r .sessions)))
 
 -- what the tool on connection 1 sends in one of two runs: connected, a key offered
 abbrev pub offeredOn1 : ℕ → List Event → List Event
 offeredOn1 b h = offeringOn 1 b ∷ connect 1 ∷ h
 
--- how many of a history's requests came connectionless
+-- how many of a history's requests name no connection: what a tool may have sent and is not its own
 abbrev pub unconnected : List Event → ℕ
 unconnected [] = 0
-unconnected (connect c ∷ h) = unconnected h
-unconnected (disconnect c ∷ h) = unconnected h
-unconnected (button on ∷ h) = unconnected h
-unconnected (request mode c g a out ∷ h) = cond (eqb mode 2) (unconnected h + 1) (unconnected h)
+unconnected (e ∷ h) = cond (mayBeOf 0 e && not (isOf 0 e)) (unconnected h + 1) (unconnected h)
 
--- ONE WHOSE ANSWERS SHOW HOW MANY CONNECTIONLESS REQUESTS THERE WERE, whoever sent them, in one more byte
+-- ONE WHOSE ANSWERS SHOW HOW MANY REQUESTS CAME WITHOUT A CONNECTION, whoever sent them, in one more byte
 abbrev pub showsCount : Device
 showsCount f h x e =
     let r = eventOf x e in

@@ -1,0 +1,7 @@
+-- TRIALS: wrong devices, which no promise speaks of, and that the promises rule them out.
+-- of demand 3:
+pub mod Wrong
+pub mod Refuted
+-- of isolation:
+pub mod Leaks
+pub mod LeaksRefuted
