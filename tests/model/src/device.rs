@@ -213,7 +213,7 @@ fn step<const ON: bool>(
         Ok(found) => found,
         Err(outcome) => return silent(outcome),
     };
-    if mode == 2 && faults.is(Fault::UnconnectedTakesLevel) {
+    if way.mode == 2 && faults.is(Fault::UnconnectedTakesLevel) {
         sessions.get_mut(own).into_iter().for_each(|s| s.level = 3);
     }
     let rules = if faults.is(Fault::AlwaysLater) { LATER } else { sheet::rules(sheet) };
