@@ -1,7 +1,7 @@
 /*
  * The reader and writer of cEMI frames, L_Data.req and L_Data.ind of KNX 3/6/3, as a USB interface hands them up.
  *
- * Link with libtool.a; kelindap_pdu.h says what that needs and what the host's duties are. Standard frames only:
+ * Link with libkelindap_pdu.a; kelindap_pdu.h says what that needs and what the host's duties are. Standard frames only:
  *
  *  bytes       what
  *
@@ -51,14 +51,15 @@ enum kelindap_event {
     KELINDAP_EVENT_CONNECT = 4,
     KELINDAP_EVENT_DISCONNECT = 5,
     KELINDAP_EVENT_OTHER = 44,
-    KELINDAP_EVENT_ACKNOWLEDGED = 45
+    KELINDAP_EVENT_ACKNOWLEDGED = 45,
+    KELINDAP_NO_EVENT = 255 /* no frame: the event of what was refused on reading */
 };
 
 /*
  * A frame laid flat.
  * On reading, outcome is 0, or the first of: 40 (under 2 bytes, or under 10 and the additional information), 41 (another
  * message code), 42 (no standard frame), 43 (the length byte above 15, or not one less than the bytes from octet 6 on); and
- * then every other field is 0. The offsets and lengths say where additional information and TPDU stand in the frame read.
+ * then the event is KELINDAP_NO_EVENT and every other field is 0. The offsets and lengths say where additional information and TPDU stand in the frame read.
  * On writing, outcome, event, offsets and lengths are not looked at.
  */
 typedef struct kelindap_frame {

@@ -23,8 +23,8 @@ static kelindap_frame read_at(enum place place, const uint8_t *bytes, size_t len
                    (f.event <= 5 || f.event == 44 || f.event == 45),
                "a frame of %d bytes reads wrong", (int)length);
     else
-        expect(f.source == 0 && f.destination == 0 && f.event == 0 && f.code == 0 && f.control1 == 0 && f.control2 == 0 &&
-                   f.transport == 0 && f.info_offset == 0 && f.info_length == 0 && f.tpdu_offset == 0 && f.tpdu_length == 0,
+        expect(f.event == KELINDAP_NO_EVENT && f.source == 0 && f.destination == 0 && f.code == 0 && f.control1 == 0 &&
+                   f.control2 == 0 && f.transport == 0 && f.info_offset == 0 && f.info_length == 0 && f.tpdu_offset == 0 && f.tpdu_length == 0,
                "a refusal by %d has fields", f.outcome);
     return f;
 }

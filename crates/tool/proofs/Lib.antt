@@ -1,7 +1,8 @@
--- Promises, named in docs/PROMISES.md: Means, Returned, Examples. Arms has the laws behind the contracts.
+-- Promises, named in docs/PROMISES.md: Means, Returned, Examples, NoEvent. Arms has the laws behind the contracts.
 pub mod Arms
 pub mod Means
 pub mod Returned
 pub mod Examples
 pub mod Framing
+pub mod NoEvent
 pub mod PointLaws

@@ -34,14 +34,18 @@ laidFrame f =
       «tpdu_length» = f .stated + 1;
     }
 
--- a refusal: its outcome, and all else 0
+-- no event: the number of what is refused on reading, which no frame that reads has
+abbrev pub noEvent : ℕ
+noEvent = 255
+
+-- a refusal: its outcome, no event, and all else 0
 abbrev pub refusedFrame : ℕ → FlatFrame
 refusedFrame n =
     record {
       source = 0;
       destination = 0;
       outcome = n;
-      event = 0;
+      event = noEvent;
       code = 0;
       control1 = 0;
       control2 = 0;

@@ -54,7 +54,7 @@ fn refused(n: u8) -> FlatFrame
         source: 0,
         destination: 0,
         outcome: n,
-        event: 0,
+        event: 255,
         code: 0,
         control1: 0,
         control2: 0,
