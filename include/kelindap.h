@@ -1,7 +1,8 @@
 /*
  * The device side of the KNX application layer, for one device.
  *
- * Link with libkelindap_device.a. Today it needs memset from outside and nothing else. A freestanding host should provide
+ * Link with libkelindap_device.a. kelindap_unit.h has the same calls with sheet and sessions in one record, and arguments
+ * that can't be exchanged. Today it needs memset from outside and nothing else. A freestanding host should provide
  * memcpy, memset, memmove and memcmp: compiled code may call any of the four (tests/c/bare.c has them). For which processors
  * there are archives README says; nothing here depends on one.
  *
@@ -21,6 +22,9 @@
  *    connect to the disconnect it names that number in every call for this partner, and in none for another. The rights of a
  *    request in mode 3 are those of the number that comes with it: a host that takes one partner for the other gives it the
  *    other's level;
+ *  - a partner that is connected and connects again keeps its number: the host calls kelindap_connect with it once more, and
+ *    the session is open at level 3, so that its key has to be offered anew. It gets no second number: one partner would then
+ *    hold both connections;
  *  - the mode says how the frame came. The library sees no address of the frame but the group address: in modes 2 and 3 the
  *    host hands over only what is sent to this device, in mode 3 only what comes from the partner that has the number. In the
  *    other modes the number is not read;

@@ -1,4 +1,4 @@
-/* What kelindap.h and kelindap_pdu.h share: the version and the outcomes. */
+/* What the headers share: the version, the outcomes, the rules of a sheet, and a record of zeros. */
 #ifndef KELINDAP_COMMON_H
 #define KELINDAP_COMMON_H
 
@@ -34,7 +34,44 @@ enum kelindap_outcome {
                                     another length than its entry's */
     KELINDAP_DENIED = 11,        /* denied, the negative answer is in the buffer */
     KELINDAP_DENIED_SILENT = 12, /* denied, no answer is due */
-    KELINDAP_UNWRITABLE = 13     /* PDU writing only: an unknown kind, or against its row */
+    KELINDAP_UNWRITABLE = 13,    /* PDU writing only: an unknown kind, or against its row */
+
+    /* group values only (kelindap_pdu.h) */
+    KELINDAP_POINT_LENGTH = 20,     /* not as many bytes as the type has */
+    KELINDAP_POINT_SWITCH = 21,     /* type 1: above 1 */
+    KELINDAP_POINT_INVALID = 22,    /* type 9: the code 7FFFh */
+    KELINDAP_POINT_RANGE = 23,      /* type 9: hundredths that no code has */
+    KELINDAP_POINT_NOT_FINITE = 24, /* type 14: an infinity or NaN */
+    KELINDAP_POINT_NO_TYPE = 25,    /* no such type */
+
+    /* frames only (kelindap_frame.h); 44 and 45 are events of a frame that was read */
+    KELINDAP_FRAME_SHORT = 40,     /* under 2 bytes, or under 10 and the additional information */
+    KELINDAP_FRAME_CODE = 41,      /* another message code */
+    KELINDAP_FRAME_FORM = 42,      /* no standard frame */
+    KELINDAP_FRAME_LENGTH = 43,    /* the length byte */
+    KELINDAP_FRAME_NO_ROOM = 46,   /* writing: the buffer is shorter than the frame */
+    KELINDAP_FRAME_UNWRITABLE = 47 /* writing: a field that no frame that reads can have */
 };
+
+/* The rules of a sheet, S1 to S9, by number; kelindap.h tells what breaks each, kelindap_names.h has them as text. */
+enum kelindap_rule {
+    KELINDAP_ACCEPTED = 0,
+    KELINDAP_S1 = 1,
+    KELINDAP_S2 = 2,
+    KELINDAP_S3 = 3,
+    KELINDAP_S4 = 4,
+    KELINDAP_S5 = 5,
+    KELINDAP_S6 = 6,
+    KELINDAP_S7 = 7,
+    KELINDAP_S8 = 8,
+    KELINDAP_S9 = 9
+};
+
+/* A record of which every field is 0: `kelindap_pdu p = KELINDAP_ZERO;` is without a warning in C and in C++. */
+#ifdef __cplusplus
+#define KELINDAP_ZERO {}
+#else
+#define KELINDAP_ZERO { 0 }
+#endif
 
 #endif

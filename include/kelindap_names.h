@@ -1,29 +1,56 @@
 /*
- * Outcomes and kinds of PDUs as text, for logs and people. The only place that has these words: the desk unit, the tests
- * and the demonstration take them from here.
+ * Outcomes, rules of a sheet and kinds of PDUs as text, for logs and people. The only place that has these words: the desk
+ * unit, the tests and the demonstration take them from here.
  */
 #ifndef KELINDAP_NAMES_H
 #define KELINDAP_NAMES_H
 
 #include "kelindap_common.h"
+#include "kelindap_frame.h"
 #include "kelindap_pdu.h"
 
-/* Each outcome by number, with its name in enum kelindap_outcome and its words. */
-#define KELINDAP_OUTCOMES(X)                          \
-    X(0, ANSWERED, "carried out")                     \
-    X(1, DONE, "carried out")                         \
-    X(2, NOT_FOR_US, "not for this device")           \
-    X(3, NO_ROOM, "the answer buffer is too short")   \
-    X(4, BAD_SHEET, "the sheet is not accepted")      \
-    X(5, BAD_LENGTH, "the length is wrong")           \
-    X(6, BAD_MODE, "unknown mode")                    \
-    X(7, NOT_CONNECTED, "not connected")              \
-    X(8, UNKNOWN, "unknown service")                  \
-    X(9, WRONG_MODE, "wrong mode")                    \
-    X(10, UNFIT, "unfit length or value")             \
-    X(11, DENIED, "refused")                          \
-    X(12, DENIED_SILENT, "refused")                   \
-    X(13, UNWRITABLE, "no PDU that can be written")
+/* Each outcome by number, with its name in enum kelindap_outcome, 44 and 45 in enum kelindap_event, and its words. */
+#define KELINDAP_OUTCOMES(X)                                      \
+    X(0, ANSWERED, "carried out")                                 \
+    X(1, DONE, "carried out")                                     \
+    X(2, NOT_FOR_US, "not for this device")                       \
+    X(3, NO_ROOM, "the answer buffer is too short")               \
+    X(4, BAD_SHEET, "the sheet is not accepted")                  \
+    X(5, BAD_LENGTH, "the length is wrong")                       \
+    X(6, BAD_MODE, "unknown mode")                                \
+    X(7, NOT_CONNECTED, "not connected")                          \
+    X(8, UNKNOWN, "unknown service")                              \
+    X(9, WRONG_MODE, "wrong mode")                                \
+    X(10, UNFIT, "unfit length or value")                         \
+    X(11, DENIED, "refused")                                      \
+    X(12, DENIED_SILENT, "refused")                               \
+    X(13, UNWRITABLE, "no PDU that can be written")               \
+    X(20, POINT_LENGTH, "not as many bytes as the type has")      \
+    X(21, POINT_SWITCH, "a switch above 1")                       \
+    X(22, POINT_INVALID, "the code 7FFFh, which is no value")     \
+    X(23, POINT_RANGE, "hundredths that no code has")             \
+    X(24, POINT_NOT_FINITE, "an infinity, or no number")          \
+    X(25, POINT_NO_TYPE, "no such datapoint type")                \
+    X(40, FRAME_SHORT, "too short for a frame")                   \
+    X(41, FRAME_CODE, "another message code")                     \
+    X(42, FRAME_FORM, "no standard frame")                        \
+    X(43, FRAME_LENGTH, "the length byte is wrong")               \
+    X(44, EVENT_OTHER, "neither data nor connect nor disconnect") \
+    X(45, EVENT_ACKNOWLEDGED, "an acknowledgement")               \
+    X(46, FRAME_NO_ROOM, "the buffer is shorter than the frame")  \
+    X(47, FRAME_UNWRITABLE, "no frame that can be written")
+
+/* Each rule of a sheet by number, with its name in enum kelindap_rule and what breaks it. */
+#define KELINDAP_RULES(X)                                                  \
+    X(1, S1, "not 32 to 16,384 bytes")                                     \
+    X(2, S2, "an edition other than 1 and 2")                              \
+    X(3, S3, "too many entries of a kind")                                 \
+    X(4, S4, "another length than it states, or no room for its entries")  \
+    X(5, S5, "a head with a bit that must be 0, or with unknown rules")    \
+    X(6, S6, "a region against its rules")                                 \
+    X(7, S7, "a property against its rules")                               \
+    X(8, S8, "a group object against its rules")                           \
+    X(9, S9, "bodies with a gap, an overlap, or a six-bit value above 63")
 
 /* Each kind by number, with its name in enum kelindap_kind and its name at the desk unit. */
 #define KELINDAP_KINDS(X)                               \
@@ -56,7 +83,7 @@
     X(26, USER_MEMORY_RESPONSE, "user_memory_response") \
     X(27, USER_MEMORY_WRITE, "user_memory_write")
 
-/* The words of a number that is none: "no outcome", "no kind". */
+/* The words of a number that is none: "no outcome", "no rule", "no kind". */
 static inline const char *kelindap_outcome_name(uint8_t outcome)
 {
     switch (outcome) {
@@ -66,6 +93,17 @@ static inline const char *kelindap_outcome_name(uint8_t outcome)
         KELINDAP_OUTCOMES(KELINDAP_CASE)
     default:
         return "no outcome";
+    }
+}
+
+static inline const char *kelindap_rule_name(uint8_t rule)
+{
+    switch (rule) {
+        KELINDAP_RULES(KELINDAP_CASE)
+    case KELINDAP_ACCEPTED:
+        return "accepted";
+    default:
+        return "no rule";
     }
 }
 

@@ -37,7 +37,8 @@ test-c: build/layout build/stack build/host_test build/tool_test build/point_tes
 	build/stack
 	tests/c/symbols.sh include/kelindap.h $(HOST_A)
 	tests/c/symbols.sh include/kelindap_pdu.h include/kelindap_frame.h $(TOOL_A)
-	tests/c/readme.sh
+	CC86="$(CC86)" tests/c/readme.sh $(HOST_A) $(TOOL_A)
+	tests/c/exchanged.sh
 	tests/same.sh
 	CC86="$(CC86)" tests/c/freestanding.sh $(HOST_A) $(TOOL_A)
 	$(WATCHED) build/tool_test

@@ -3,12 +3,18 @@
  * are read, written again and compared, each byte damaged in turn; no byte beside the buffers is touched.
  */
 #define _DEFAULT_SOURCE
-#include "kelindap_frame.h"
+#include "kelindap_names.h"
 #include "lent.h"
 
 enum { MOST_FRAME = 280, FRAME_ROOM = MOST_FRAME + 8 };
 
 static uint8_t found[FRAME_ROOM];
+
+/* Whatever is given has words; of events those that are refusals. */
+static void expect_words(uint8_t number)
+{
+    expect(strcmp(kelindap_outcome_name(number), "no outcome") != 0, "%d has no words", number);
+}
 
 static kelindap_frame read_at(enum place place, const uint8_t *bytes, size_t length)
 {
@@ -17,6 +23,8 @@ static kelindap_frame read_at(enum place place, const uint8_t *bytes, size_t len
     calls++;
     take_back_same(&b, bytes, "frame");
     expect(f.outcome == 0 || (40 <= f.outcome && f.outcome <= 43), "reading gave %d", f.outcome);
+    expect_words(f.outcome);
+    expect_words(f.event == KELINDAP_NO_EVENT ? f.outcome : f.event);
     if (f.outcome == 0)
         expect(f.info_offset == 2 && f.tpdu_offset == 9 + f.info_length && f.tpdu_offset + f.tpdu_length == length &&
                    1 <= f.tpdu_length && f.tpdu_length <= 16 && f.transport == bytes[f.tpdu_offset] >> 2 &&
@@ -40,6 +48,7 @@ static kelindap_framed write_at(enum place place, kelindap_frame f, run info, ru
     take_back_same(&a, apdu.bytes, "APDU");
     take_back(&out, now, "buffer");
     expect(r.outcome == 0 || r.outcome == 46 || r.outcome == 47, "writing gave %d", r.outcome);
+    expect_words(r.outcome);
     expect(r.outcome == 0 ? 10 <= r.count && r.count <= room : r.count == 0, "writing gave %d, %d bytes", r.outcome, r.count);
     expect(memcmp(now + r.count, found + r.count, room - r.count) == 0, "writing changed what is behind the frame");
     return r;

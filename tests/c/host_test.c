@@ -5,6 +5,7 @@
  */
 #define _DEFAULT_SOURCE
 #include "kelindap.h"
+#include "kelindap_names.h"
 #ifndef DEVICE_ALONE /* with it, the answers are not read back by the PDU layer */
 #include "kelindap_pdu.h"
 #endif
@@ -51,6 +52,7 @@ static uint8_t check_at(enum place place, run sheet)
     calls++;
     take_back_same(&b, sheet.bytes, "sheet");
     expect(rule <= 9, "check gave %d", rule);
+    expect(strcmp(kelindap_rule_name(rule), "no rule") != 0, "S%d has no words", rule);
     return rule;
 }
 

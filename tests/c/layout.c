@@ -1,10 +1,11 @@
 /*
  * The layouts that the archives rest on, held to the headers as a C compiler lays them out; and the numbers of the
- * outcomes, modes and kinds. Every line is checked by the compiler; the program only says how many there are.
+ * outcomes, rules, connections, modes and kinds. Every line is checked by the compiler; the program only says how many there are.
  */
 #include "kelindap.h"
 #include "kelindap_frame.h"
 #include "kelindap_pdu.h"
+#include "kelindap_unit.h"
 
 #include <stdio.h>
 
@@ -80,6 +81,7 @@
     NUMBER(KELINDAP_EVENT_DISCONNECT, 5) \
     NUMBER(KELINDAP_EVENT_OTHER, 44) \
     NUMBER(KELINDAP_EVENT_ACKNOWLEDGED, 45) \
+    NUMBER(KELINDAP_NO_EVENT, 255) \
     SIZE(kelindap_point, 12) \
     FIELD(kelindap_point, hundredths, 4, 0) \
     FIELD(kelindap_point, bits, 4, 4) \
@@ -100,6 +102,31 @@
     NUMBER(KELINDAP_DENIED, 11) \
     NUMBER(KELINDAP_DENIED_SILENT, 12) \
     NUMBER(KELINDAP_UNWRITABLE, 13) \
+    NUMBER(KELINDAP_POINT_LENGTH, 20) \
+    NUMBER(KELINDAP_POINT_SWITCH, 21) \
+    NUMBER(KELINDAP_POINT_INVALID, 22) \
+    NUMBER(KELINDAP_POINT_RANGE, 23) \
+    NUMBER(KELINDAP_POINT_NOT_FINITE, 24) \
+    NUMBER(KELINDAP_POINT_NO_TYPE, 25) \
+    NUMBER(KELINDAP_FRAME_SHORT, 40) \
+    NUMBER(KELINDAP_FRAME_CODE, 41) \
+    NUMBER(KELINDAP_FRAME_FORM, 42) \
+    NUMBER(KELINDAP_FRAME_LENGTH, 43) \
+    NUMBER(KELINDAP_FRAME_NO_ROOM, 46) \
+    NUMBER(KELINDAP_FRAME_UNWRITABLE, 47) \
+    NUMBER(KELINDAP_ACCEPTED, 0) \
+    NUMBER(KELINDAP_S1, 1) \
+    NUMBER(KELINDAP_S2, 2) \
+    NUMBER(KELINDAP_S3, 3) \
+    NUMBER(KELINDAP_S4, 4) \
+    NUMBER(KELINDAP_S5, 5) \
+    NUMBER(KELINDAP_S6, 6) \
+    NUMBER(KELINDAP_S7, 7) \
+    NUMBER(KELINDAP_S8, 8) \
+    NUMBER(KELINDAP_S9, 9) \
+    NUMBER(KELINDAP_FIRST, 0) \
+    NUMBER(KELINDAP_SECOND, 1) \
+    NUMBER(KELINDAP_NO_CONNECTION, 255) \
     NUMBER(KELINDAP_MULTICAST, 0) \
     NUMBER(KELINDAP_BROADCAST, 1) \
     NUMBER(KELINDAP_CONNECTIONLESS, 2) \

@@ -4,7 +4,7 @@
  * the buffers is touched.
  */
 #define _DEFAULT_SOURCE
-#include "kelindap_pdu.h"
+#include "kelindap_names.h"
 #include "lent.h"
 
 static size_t width_of(uint8_t type)
@@ -31,6 +31,12 @@ static int refusal_of(const kelindap_point *p, size_t room)
     return p->type == 14 && !finite(p->bits) ? 24 : 0;
 }
 
+/* Whatever is given has words. */
+static void expect_words(uint8_t outcome)
+{
+    expect(strcmp(kelindap_outcome_name(outcome), "no outcome") != 0, "%d has no words", outcome);
+}
+
 static kelindap_point read_at(enum place place, uint8_t type, const uint8_t *bytes, size_t length)
 {
     lent b = lend(APDU, place, bytes, length);
@@ -39,6 +45,7 @@ static kelindap_point read_at(enum place place, uint8_t type, const uint8_t *byt
     take_back_same(&b, bytes, "bytes");
     expect(p.outcome == 0 ? p.type == type : p.type == 0 && p.value == 0 && p.hundredths == 0 && p.bits == 0,
            "reading type %d gave %d with other fields", type, p.outcome);
+    expect_words(p.outcome);
     return p;
 }
 
@@ -49,6 +56,7 @@ static void write_at(enum place place, kelindap_point p, size_t room, uint8_t no
     calls++;
     take_back(&out, now, "part");
     expect(outcome == due, "writing type %d to %d bytes gave %d, due %d", p.type, (int)room, outcome, due);
+    expect_words((uint8_t)outcome);
     expect(outcome == 0 || memcmp(now, as_found, room) == 0, "a refusal (%d) changed the part", outcome);
 }
 

@@ -1,6 +1,8 @@
 #!/usr/bin/env bash
-# tests/c/readme.sh: the pieces of code in README compile, as C11 and, where g++ is installed, as C++20.
+# tests/c/readme.sh HOST_A TOOL_A: the pieces of code in README compile without a warning, as C11 and, where g++ is installed,
+# as C++; and the host that they make does its duties on a bus where it is not alone. CC86 makes programs for the archives.
 set -euo pipefail
+host=$(realpath "$1") tool=$(realpath "$2")
 cd "$(dirname "$0")/../.."
 work=$(mktemp -d)
 trap 'rm -rf "$work"' EXIT
@@ -14,23 +16,27 @@ piece() {
 }
 {
     cat tests/c/readme.inc
-    piece 'static kelindap_sessions sessions;'
-    echo 'void ask_height(void) {'
+    piece 'static kelindap_unit unit;'
+    echo 'static void ask_height(void) {'
     piece 'kelindap_pdu ask = '
     echo '}'
-    echo 'void take_frame(const uint8_t *frame, size_t length) {'
+    echo 'static void take_frame(const uint8_t *frame, size_t length) {'
     piece 'kelindap_frame f = '
     echo '}'
-    echo 'void set_warm(void) {'
+    echo 'static void set_warm(void) {'
     piece 'kelindap_point warm = '
     echo '}'
+    cat tests/c/readme_bus.inc
 } > "$work/readme.c"
-[ "$(grep -c 'kelindap_request\|kelindap_write' "$work/readme.c")" = 3 ] || { echo "readme: a piece is missing"; exit 1; }
+[ "$(grep -c 'kelindap_unit_request(&unit, way\|kelindap_write' "$work/readme.c")" = 3 ] || { echo "readme: a piece is missing"; exit 1; }
 
-gcc -std=c11 -Wall -Wextra -Wpedantic -Werror -Iinclude -I. -c "$work/readme.c" -o "$work/c.o"
+flags=(-Wall -Wextra -Wpedantic -Werror -Iinclude -I.)
+gcc -std=c11 "${flags[@]}" -c "$work/readme.c" -o "$work/c.o"
 languages=C11
 if command -v g++ > /dev/null; then
-    g++ -std=c++20 -Wall -Wextra -Wno-missing-field-initializers -Wpedantic -Werror -Iinclude -I. -x c++ -c "$work/readme.c" -o "$work/cc.o"
-    languages+=" and C++20"
+    for std in c++11 c++20; do g++ -std=$std "${flags[@]}" -x c++ -c "$work/readme.c" -o "$work/cc.o"; done
+    languages+=" and C++"
 fi
-echo "readme: its code compiles as $languages"
+"${CC86:-mk/cc86}" -o "$work/readme" -std=c11 "${flags[@]}" "$work/readme.c" "$host" "$tool"
+"$work/readme"
+echo "readme: its code compiles as $languages; the host that it makes answers for itself and for no neighbour"
