@@ -140,7 +140,8 @@ static void serve(host *h, uint8_t connection)
     }
     kelindap_sessions before = h->sessions;
     size_t count = handle(h, connection, packet, (size_t)length, answer + 1);
-    if (send(h->partner[connection], answer, 1 + count, 0) < 0)
+    /* it doesn't wait for a partner that reads nothing: such a one is dropped, and the other goes on */
+    if (send(h->partner[connection], answer, 1 + count, MSG_DONTWAIT) < 0)
         drop(h, connection);
     else if (packet[0] != BUS_DISCONNECT)
         drop_restarted(h, before);

@@ -17,10 +17,11 @@
  *   point write TYPE VALUE               writes a group value           OUTCOME, or 0 HEX
  *   frame read HEX                       reads a frame                  OUTCOME, or 0 field=value .. EVENT
  *   frame write field=value .. BUFHEX    writes a frame                 OUTCOME COUNT BUFHEX
+ *   help                                 the forms of all these         commands: FORM; FORM; ..
  *
  * C is the number of a connection, SESSIONS is OPEN0 LEVEL0 OPEN1 LEVEL1. An empty line, or one that begins with #, is
  * passed over. Any other line that is no command gets one line that begins with ERR and says why, and changes nothing.
- * The unit starts with the sample sheet and fresh sessions.
+ * The unit starts with the sample sheet and fresh sessions. unit --help shows the forms, one to a line.
  */
 #include "kelindap.h"
 #include "kelindap_frame.h"
@@ -759,6 +760,8 @@ static bool do_frame(device *d, char **words, size_t count)
 
 /* ---- commands ---- */
 
+static bool do_help(device *d, char **words, size_t count);
+
 /* A command's name and form, and how many words follow the name. Its function has these words and their number. */
 static const struct command {
     const char *name, *form;
@@ -776,14 +779,36 @@ static const struct command {
     { "write", "write KIND field=value .. BUFHEX", 2, MOST_WORDS - 1, do_write },
     { "frame", frame_forms, 2, MOST_WORDS - 1, do_frame },
     { "point", points, 3, 3, do_point },
+    { "help", "help", 0, 0, do_help },
 };
+enum { COMMANDS = sizeof commands / sizeof commands[0] };
 
 static const struct command *command_of(const char *name)
 {
-    for (size_t i = 0; i < sizeof commands / sizeof commands[0]; i++)
+    for (size_t i = 0; i < COMMANDS; i++)
         if (strcmp(commands[i].name, name) == 0)
             return &commands[i];
     return NULL;
+}
+
+/* The forms, on one line, as every answer is. */
+static bool do_help(device *d, char **words, size_t count)
+{
+    (void)d, (void)words, (void)count;
+    for (size_t i = 0; i < COMMANDS; i++)
+        printf("%s%s", i == 0 ? "commands: " : "; ", commands[i].form);
+    putchar('\n');
+    return true;
+}
+
+/* The program was called with words. It has none but --help. */
+static int usage(bool asked)
+{
+    FILE *to = asked ? stdout : stderr;
+    fputs("usage: unit < COMMANDS\ncommands, one to a line, each answered by one line:\n", to);
+    for (size_t i = 0; i < COMMANDS; i++)
+        fprintf(to, "  %s\n", commands[i].form);
+    return asked ? EXIT_SUCCESS : 2;
 }
 
 static bool obey(device *d, const line *l)
@@ -804,10 +829,12 @@ static bool obey(device *d, const line *l)
     return command->obey(d, words + 1, count - 1);
 }
 
-int main(void)
+int main(int count, char **words)
 {
     device d = { .sessions = kelindap_fresh() };
     line l = { 0 };
+    if (count > 1)
+        return usage(count == 2 && strcmp(words[1], "--help") == 0);
     set_sheet(&d, sample_sheet, sizeof sample_sheet);
     while (next_line(&l)) {
         obey(&d, &l);

@@ -1,9 +1,10 @@
 #!/usr/bin/env bash
-# tests/examples.sh HOST HEIGHT SHEET: the example host and tool at work, two tools at once, and the host killed 200 times
-# during writes: what it saved is then an accepted sheet each time, with the height that was answered last or the one after it.
+# tests/examples.sh HOST HEIGHT SHEET: the example host and tool at work, two tools at once, one that reads nothing, and the
+# host killed 200 times during writes: what it saved is then an accepted sheet each time, with the height that was answered last or the one after it.
 set -euo pipefail
 host=$(realpath "$1") height=$(realpath "$2") sheet=$(realpath "$3")
-inc=$(realpath "$(dirname "$0")/../hosts/sample_sheet.inc")
+top=$(realpath "$(dirname "$0")/..")
+inc=$top/hosts/sample_sheet.inc
 KILLS=${KILLS:-200}
 work=$(mktemp -d)
 pid=
@@ -70,6 +71,16 @@ kill "$tool" 2> /dev/null || wrong "the tool with the key did not last, or was d
 wait "$tool" || true
 [ "$(tail -n 1 answers)" -ge "$now" ] || wrong "the tool with the key wrote nothing after the other one was refused"
 expect "write 22222222 1251" "1251 0"
+
+# a partner that reads nothing is dropped, and the other is served all the while
+gcc -std=c11 -O2 -Wall -Wextra -Werror -I"$top/examples" -o deaf "$top/tests/c/deaf.c"
+timeout 60 ./deaf bus > deaf-said &
+deaf=$!
+for ((turn = 0; turn < 20; turn++)); do
+    [ "$(timeout 10 "$height" bus read 2>&1)" = 1251 ] || wrong "beside a partner that reads nothing nobody is served"
+done
+wait "$deaf" || wrong "a partner that reads nothing: $(cat deaf-said)"
+[ "$(cat deaf-said)" = dropped ] || wrong "a partner that reads nothing was not dropped"
 stop
 changes=$("$sheet" diff first sheet || true)
 [ "$changes" = "property 1/51 element 1: 1000 → 1251" ] || wrong "the file holds another change: $changes"

@@ -49,6 +49,20 @@ done
 ../../scripts/demo.sh "$unit" "$sheet" ../../scripts/demo.txt > "$work/got" || different=$((different + 1))
 compare demo demo.expected "$work/got"
 
+# the commands that `help` tells, on one line, and `unit --help`, a line each, are those of docs/UNIT.md; another word is refused
+sed -n '/^## Commands/,/^EVENT is/p' ../../docs/UNIT.md | awk -F '|' '/^. `/ { print $2 }' | grep -oE '`[a-z]+' | tr -d '`' |
+    sort -u > "$work/commands"
+echo help | "$unit" > "$work/help"
+[ "$(wc -l < "$work/help")" = 1 ] || { echo "help is not answered by one line"; different=$((different + 1)); }
+sed -n 's/^commands: //p' "$work/help" | sed 's/; /\n/g' > "$work/forms"
+compare help "$work/commands" <(sed 's/ .*//' "$work/forms" | sort -u)
+"$unit" --help > "$work/got" 2> "$work/err" || { echo "--help is refused"; different=$((different + 1)); }
+compare --help "$work/forms" <(sed -n 's/^  //p' "$work/got")
+status=0
+"$unit" --hepl > "$work/got" 2> "$work/err" < /dev/null || status=$?
+[ "$status" = 2 ] && [ ! -s "$work/got" ] && grep -q '^usage: unit' "$work/err" ||
+    { echo "--hepl: status $status"; different=$((different + 1)); }
+
 # an input that can't be read, closed or a folder: nothing is answered, and the status says so
 unreadable() { # HOW it was opened, the unit's status on the lines after
     [ "$1" != 0 ] && [ ! -s "$work/got" ] && [ "$(cat "$work/err")" = "unit: the input can't be read" ] ||
