@@ -14,9 +14,11 @@ pub fn lines(a: &Sheet, b: &Sheet) -> Vec<String> {
     memory(&mut out, "", &a.regions, &b.regions);
     let (pa, pb) =
         (by(&a.properties, |p| (p.object, p.id)), by(&b.properties, |p| (p.object, p.id)));
-    both(&mut out, &pa, &pb, |(object, id)| format!("property {object}/{id}"), property);
+    let named = |(object, id)| format!("property {object}/{id}");
+    both(&mut out, &pa, &pb, named, property, new_property);
     let (ga, gb) = (by(&a.groups, |g| g.address), by(&b.groups, |g| g.address));
-    both(&mut out, &ga, &gb, |address| format!("group object {}", group_address(address)), group);
+    let named = |address| format!("group object {}", group_address(address));
+    both(&mut out, &ga, &gb, named, group, new_group);
     memory(&mut out, "user ", &a.users, &b.users);
     out.0
 }
@@ -62,13 +64,14 @@ fn by<T, K: Ord>(entries: &[T], key: impl Fn(&T) -> K) -> BTreeMap<K, &T> {
     entries.iter().map(|e| (key(e), e)).collect()
 }
 
-/// Entries that only one sheet has, and what differs in those that both have.
+/// Entries that only one sheet has, with what a new one is, and what differs in those that both have.
 fn both<T, K: Ord + Copy>(
     out: &mut Lines,
     a: &BTreeMap<K, &T>,
     b: &BTreeMap<K, &T>,
     name: impl Fn(K) -> String,
     differ: impl Fn(&mut Lines, &str, &T, &T),
+    tell: impl Fn(&mut Lines, &str, &T),
 ) {
     let mut keys: Vec<K> = a.keys().chain(b.keys()).copied().collect();
     keys.sort();
@@ -76,8 +79,8 @@ fn both<T, K: Ord + Copy>(
     for key in keys {
         match (a.get(&key), b.get(&key)) {
             (Some(x), Some(y)) => differ(out, &name(key), x, y),
-            (Some(_), None) => out.say(format!("{} is gone", name(key))),
-            _ => out.say(format!("{} is new", name(key))),
+            (None, Some(y)) => tell(out, &name(key), y),
+            _ => out.say(format!("{} is gone", name(key))),
         }
     }
 }
@@ -91,10 +94,18 @@ fn memory(out: &mut Lines, whose: &str, a: &[Region], b: &[Region]) {
 fn regions(out: &mut Lines, whose: &str, a: &[Region], b: &[Region]) {
     let name = |address: u16| format!("{whose}region {}", memory_address(address.into()));
     let (a, b) = (by(a, |r| r.address), by(b, |r| r.address));
-    both(out, &a, &b, name, |out, name, x, y| {
+    let differ = |out: &mut Lines, name: &str, x: &Region, y: &Region| {
         out.compare(&format!("{name} length"), x.body.len(), y.body.len());
         out.levels(name, x.levels, y.levels);
+    };
+    both(out, &a, &b, name, differ, |out, name, new| {
+        out.say(format!("{name} is new: length {}, {}", new.body.len(), levels(new.levels)));
     });
+}
+
+/// The levels of what is new.
+fn levels(levels: Levels) -> String {
+    format!("read level {}, write level {}", levels.read, levels.write)
 }
 
 /// The bytes of memory by their addresses.
@@ -106,9 +117,11 @@ fn bytes_of(regions: &[Region]) -> BTreeMap<usize, u8> {
     regions.iter().flat_map(bytes).collect()
 }
 
-/// Bytes at addresses that both sheets have, neighbours on one line; and those that are new and not 0.
+/// Neighbours on one line, up to so many.
+const TO_A_LINE: usize = 8;
+
+/// Bytes at addresses that both sheets have; and those that are new and not 0.
 fn bytes(out: &mut Lines, whose: &str, a: &[Region], b: &[Region]) {
-    const TO_A_LINE: usize = 8;
     if a == b {
         return;
     }
@@ -129,13 +142,29 @@ fn bytes(out: &mut Lines, whose: &str, a: &[Region], b: &[Region]) {
             );
         }
     }
-    for (&at, &byte) in b.iter().filter(|(at, byte)| !a.contains_key(at) && **byte != 0) {
-        out.say(format!("{whose}memory {}: new, {byte:02x}", memory_address(at)));
+    let new: Vec<(usize, u8)> = b
+        .iter()
+        .filter(|(at, byte)| !a.contains_key(at) && **byte != 0)
+        .map(|(&at, &byte)| (at, byte))
+        .collect();
+    for run in new.chunk_by(|x, y| x.0 + 1 == y.0) {
+        for line in run.chunks(TO_A_LINE) {
+            let bytes: Vec<u8> = line.iter().map(|&(_, byte)| byte).collect();
+            let at = memory_address(line[0].0);
+            out.say(format!("{whose}memory {at}: new, {}", byte_words(&bytes).join(" ")));
+        }
+    }
+}
+
+fn can(p: &Property) -> &'static str {
+    if p.writable {
+        "writable"
+    } else {
+        "not writable"
     }
 }
 
 fn property(out: &mut Lines, name: &str, a: &Property, b: &Property) {
-    let can = |p: &Property| if p.writable { "writable" } else { "not writable" };
     out.compare(&format!("{name} type"), a.class, b.class);
     out.compare(name, can(a), can(b));
     out.compare(&format!("{name} size"), a.size, b.size);
@@ -156,11 +185,37 @@ fn property(out: &mut Lines, name: &str, a: &Property, b: &Property) {
     }
 }
 
-fn group(out: &mut Lines, name: &str, a: &Group, b: &Group) {
-    let flags = |g: &Group| match flag_words(g.flags) {
+/// A property that is new, and its elements that are not 0.
+fn new_property(out: &mut Lines, name: &str, p: &Property) {
+    out.say(format!(
+        "{name} is new: type {}, {}, size {}, maximum {}, count {}, {}",
+        p.class,
+        can(p),
+        p.size,
+        p.maximum,
+        p.count,
+        levels(p.levels)
+    ));
+    for (i, x) in
+        p.body.chunks(p.size as usize).enumerate().filter(|(_, x)| x.iter().any(|&b| b != 0))
+    {
+        out.say(format!("{name} element {}: new, {}", i + 1, element(x)));
+    }
+}
+
+fn flags(g: &Group) -> String {
+    match flag_words(g.flags) {
         words if words.is_empty() => "none".to_string(),
         words => words.trim_start().to_string(),
-    };
+    }
+}
+
+fn new_group(out: &mut Lines, name: &str, g: &Group) {
+    let value = byte_words(&g.body).join(" ");
+    out.say(format!("{name} is new: length code {}, flags {}, value {value}", g.code, flags(g)));
+}
+
+fn group(out: &mut Lines, name: &str, a: &Group, b: &Group) {
     out.compare(&format!("{name} length code"), a.code, b.code);
     out.compare(&format!("{name} flags"), flags(a), flags(b));
     out.compare(name, byte_words(&a.body).join(" "), byte_words(&b.body).join(" "));

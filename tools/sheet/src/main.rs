@@ -1,5 +1,6 @@
 //! `sheet check|show|make|diff`: the device sheet as text. Exit status 0; 1 if a sheet is not accepted or two differ;
 //! 2 with a line on standard error for anything else: a file that can't be read, a text with a fault, a wrong word.
+//! `--help` and `--version` are asked for, so they go to standard output with status 0.
 
 use std::fs::File;
 use std::io::{self, Read, Write};
@@ -13,7 +14,11 @@ const USAGE: &str = "usage: sheet check FILE
        sheet show [--keys] FILE
        sheet make TEXT
        sheet diff FILE FILE
+       sheet --help | --version
 FILE and TEXT are names of files, - being standard input.";
+
+/// The headers' version, which is the tool's too.
+const COMMON: &str = include_str!("../../../include/kelindap_common.h");
 
 /// The longest text that is read: some twenty times that of the longest sheet.
 const LONGEST_TEXT: u64 = 1 << 22;
@@ -32,9 +37,16 @@ fn main() -> ExitCode {
         ["show", file] => load(file).map(|bytes| shown(&bytes, false)),
         ["make", text] => made(text),
         ["diff", a, b] => differ(a, b),
+        ["--help"] | ["help"] => Ok((line(USAGE), 0)),
+        ["--version"] => Ok((line(format!("sheet of kelindap {}", version())), 0)),
         _ => Err(USAGE.to_string()),
     };
     finish(said)
+}
+
+fn version() -> &'static str {
+    let text = COMMON.split("KELINDAP_VERSION_TEXT \"").nth(1);
+    text.and_then(|text| text.split('"').next()).unwrap_or("of no version")
 }
 
 fn finish(said: Said) -> ExitCode {
@@ -51,7 +63,10 @@ fn finish(said: Said) -> ExitCode {
 
 fn complain(why: &str) -> ExitCode {
     // if standard error is closed too there is nobody to tell
-    let _ = writeln!(io::stderr(), "{}{why}", if why == USAGE { "" } else { "sheet: " });
+    let _ = match why {
+        USAGE => writeln!(io::stderr(), "{USAGE}"),
+        _ => writeln!(io::stderr(), "sheet: {}", show::plain(why)),
+    };
     ExitCode::from(2)
 }
 

@@ -3,8 +3,8 @@
 use std::fmt;
 
 use crate::check::{check, Broken};
-use crate::layout::{name, Group, Kind, Levels, Property, Region, Sheet, KINDS, LATER};
-use crate::show::{GROUP_FLAGS, HIDDEN};
+use crate::layout::{name, Group, Kind, Levels, Property, Region, Sheet, LATER};
+use crate::show::{plain, END, GROUP_FLAGS, HIDDEN};
 
 /// What is wrong with a text, and in which line, from 1.
 #[derive(Clone, Debug, PartialEq, Eq)]
@@ -36,14 +36,15 @@ pub fn bytes(text: &str) -> Result<Vec<u8>, Fault> {
 
 // ---- words ----
 
-/// A word as a message shows it.
+/// A word as a message has it: its first 24 characters, those that can be printed.
+fn short(word: &str) -> String {
+    let more = if word.chars().nth(24).is_some() { ".." } else { "" };
+    plain(word).chars().take(24).chain(more.chars()).collect()
+}
+
+/// The same in quotation marks.
 fn shown(word: &str) -> String {
-    let mut text: String =
-        word.chars().take(24).map(|c| if c.is_control() { '?' } else { c }).collect();
-    if word.chars().count() > 24 {
-        text += "..";
-    }
-    format!("\"{text}\"")
+    format!("\"{}\"", short(word))
 }
 
 /// A number from `least` to `most`: decimal, or hex digits and h.
@@ -137,7 +138,7 @@ struct Fields<'a> {
 impl<'a> Fields<'a> {
     fn new(kind: &str, words: &[&'a str]) -> Read<(Fields<'a>, &'a str)> {
         let (key, rest) = words.split_first().ok_or(format!("{kind} has no name"))?;
-        Ok((Fields { entry: format!("{kind} {}", key), words: rest.to_vec() }, key))
+        Ok((Fields { entry: format!("{kind} {}", short(key)), words: rest.to_vec() }, key))
     }
 
     fn fault(&self, what: impl fmt::Display) -> String {
@@ -213,11 +214,16 @@ struct Draft {
     lines: [Vec<usize>; 4],
     /// The kind of the entry whose body the next lines have.
     last: Option<Kind>,
+    /// The last line was read: what comes before it is the whole text.
+    ended: bool,
 }
 
 impl Draft {
     fn line(&mut self, line: usize, words: &[&str]) -> Read<()> {
         let Some((first, rest)) = words.split_first() else { return Ok(()) };
+        if self.ended {
+            return Err(format!("{} stands behind the {END}", shown(first)));
+        }
         match *first {
             "edition" => {
                 let edition = number("edition", only("edition", rest)?, 1, 2)?;
@@ -243,23 +249,35 @@ impl Draft {
                 once("address", &mut self.address, address)
             }
             "key" => self.key(rest),
-            "region" => region("region", rest).map(|r| {
-                self.regions.push(r);
+            "region" => {
+                self.regions.push(region("region", rest)?);
                 self.begun(Kind::Region, line)
-            }),
-            "property" => self.property(rest).map(|()| self.begun(Kind::Property, line)),
-            "group" => self.group(rest).map(|()| self.begun(Kind::Group, line)),
-            "user" => region("user", rest).map(|r| {
-                self.users.push(r);
+            }
+            "property" => self.property(rest).and_then(|()| self.begun(Kind::Property, line)),
+            "group" => self.group(rest).and_then(|()| self.begun(Kind::Group, line)),
+            "user" => {
+                self.users.push(region("user", rest)?);
                 self.begun(Kind::User, line)
-            }),
+            }
+            END => match rest {
+                [] => {
+                    self.ended = true;
+                    Ok(())
+                }
+                [more, ..] => Err(format!("{END} stands alone, and {} is more", shown(more))),
+            },
             _ => self.body(words),
         }
     }
 
-    fn begun(&mut self, kind: Kind, line: usize) {
+    /// An entry has begun. One too many ends the reading, so that no text takes more room than a sheet's.
+    fn begun(&mut self, kind: Kind, line: usize) -> Read<()> {
         self.lines[kind as usize].push(line);
         self.last = Some(kind);
+        if self.lines[kind as usize].len() > kind.most() {
+            return Err(format!("S3: more than {} {}", kind.most(), kind.plural()));
+        }
+        Ok(())
     }
 
     fn key(&mut self, words: &[&str]) -> Read<()> {
@@ -327,6 +345,10 @@ impl Draft {
 
     /// The bytes, once all lines are read.
     fn whole(mut self, last: usize) -> Result<Vec<u8>, Fault> {
+        if !self.ended {
+            let what = format!("{END} is missing as the last line: the text may have been cut off");
+            return Err(Fault { line: last, what });
+        }
         self.fill()?;
         let (lines, rules) = (self.lines.clone(), self.rules);
         let sheet = self
@@ -338,13 +360,6 @@ impl Draft {
         }
         if let (1, Some((1.., line))) = (sheet.edition, rules) {
             return Err(Fault { line, what: "a sheet of edition 1 has rules 0".to_string() });
-        }
-        let numbers = sheet.numbers();
-        for kind in KINDS {
-            if numbers[kind as usize] > kind.most() {
-                let what = format!("S3: more than {} {}", kind.most(), kind.plural());
-                return Err(Fault { line: lines[kind as usize][kind.most()], what });
-            }
         }
         let bytes = sheet.bytes();
         let at = |b: Broken| Fault {

@@ -7,6 +7,12 @@ use crate::layout::{
 /// What stands for a key that is not shown.
 pub const HIDDEN: &str = "hidden";
 
+/// The key that every tool tries: it hides nothing, and so is shown.
+const PUBLIC: [u8; 4] = [0xFF; 4];
+
+/// The last line of a text, by which `make` sees that all of it is there.
+pub const END: &str = "end";
+
 /// The flags of a group object: their bits and words.
 pub const GROUP_FLAGS: [(u8, &str); 3] = [(1, "read"), (2, "write"), (4, "response")];
 
@@ -29,7 +35,13 @@ pub fn text(sheet: &Sheet, keys: bool) -> String {
     for region in &sheet.users {
         out += &region_text("user", region);
     }
-    out
+    out + "\n" + END + "\n"
+}
+
+/// A text as a message can have it: ? for what can't be printed.
+pub fn plain(text: &str) -> String {
+    let printed = |c: char| "\"'\\".contains(c) || c.escape_debug().len() == 1;
+    text.chars().map(|c| if printed(c) { c } else { '?' }).collect()
 }
 
 pub fn switch(on: bool) -> &'static str {
@@ -51,8 +63,13 @@ fn head(sheet: &Sheet, keys: bool) -> String {
     out += &format!("verify {}\n", switch(sheet.verify));
     out += &format!("address {}\n", individual_address(sheet.address));
     for (level, key) in sheet.keys.iter().enumerate() {
-        let key = if keys { hex(key) } else { HIDDEN.to_string() };
-        out += &format!("key {level} {key}\n");
+        out += &match *key {
+            PUBLIC => {
+                format!("key {level} {}  # public: it opens level {level} to all\n", hex(key))
+            }
+            _ if keys => format!("key {level} {}\n", hex(key)),
+            _ => format!("key {level} {HIDDEN}\n"),
+        };
     }
     out
 }

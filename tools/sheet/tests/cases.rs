@@ -13,7 +13,7 @@ verify on
 address 1.1.5
 key 0 11111111
 key 1 22222222
-key 2 ffffffff
+key 2 ffffffff  # public: it opens level 2 to all
 
 region 0100h r3 w2
     a0 a1 a2 a3
@@ -23,6 +23,8 @@ property 1/51 type 4 writable size 2 maximum 2 count 1 r3 w1
 
 group 1/0/1 code 1 read write
     00
+
+end
 ";
 
 const PUMP_TEXT: &str = "edition 2
@@ -34,7 +36,7 @@ verify on
 address 1.1.6
 key 0 11111111
 key 1 22222222
-key 2 ffffffff
+key 2 ffffffff  # public: it opens level 2 to all
 
 region 0100h r3 w2
     a0 a1 a2 a3
@@ -50,12 +52,20 @@ user 0100h r3 w1
 
 user 0104h r2 w0
     c0 c1 c2 c3 c4 c5 c6 c7 c8 c9 ca cb
+
+end
 ";
 
 #[test]
 fn by_hand() {
     assert_eq!(show::text(&Sheet::read(&SAMPLE).unwrap(), true), TEXT);
     assert_eq!(make::bytes(TEXT).unwrap(), SAMPLE);
+    let document = include_str!("../../../docs/SHEET.md");
+    let indented: Vec<String> = TEXT
+        .lines()
+        .map(|l| if l.is_empty() { String::new() } else { format!("    {l}") })
+        .collect();
+    assert!(document.contains(&indented.join("\n")), "docs/SHEET.md has another text of it");
     assert_eq!(show::text(&Sheet::read(&PUMP).unwrap(), true), PUMP_TEXT);
     assert_eq!(make::bytes(PUMP_TEXT).unwrap(), PUMP);
     let (mut later, text) = (PUMP, PUMP_TEXT.replace("rules 0", "rules 1"));
@@ -70,7 +80,7 @@ fn free_forms() {
     let other = "# a sheet\r\n\r\nkey 2 FFFFFFFF\nverify on # both\nedition 1\nprogramming off\n\tmask 07B0\n
         key 1 22222222\nserial 00C501020304\naddress 1.1.5\nkey 0 11111111
         group 1/0/1 write read code 1\n00\nregion 256 w2 r3\na0 A1\na2 a3
-        property 1/33h r3 w1 count 1 maximum 2 writable size 2 type 04h\n3e8h 0";
+        property 1/33h r3 w1 count 1 maximum 2 writable size 2 type 04h\n3e8h 0\n\tend # of it";
     assert_eq!(make::bytes(other).unwrap(), SAMPLE);
     assert_eq!(make::bytes(&TEXT.replace("edition 1", "rules 0\nedition 1")).unwrap(), SAMPLE);
     assert_eq!(make::bytes(&PUMP_TEXT.replace("rules 0\n", "")).unwrap(), PUMP);
@@ -176,7 +186,7 @@ fn order() {
 fn faults() {
     let cases = [
         ("edition 1", "edition 3", "line 1: edition is \"3\", not 1 to 2"),
-        ("edition 1\n", "", "line 17: edition is missing"),
+        ("edition 1\n", "", "line 19: edition is missing"),
         ("mask 07b0", "mask 7b0", "line 3: mask is not 4 hex digits: \"7b0\""),
         ("mask 07b0", "mask", "line 3: mask has no value"),
         ("verify on", "verify yes", "line 5: verify is on or off: \"yes\""),
@@ -184,7 +194,7 @@ fn faults() {
         ("1.1.5", "1.16.5", "line 6: address is \"16\", not 0 to 15"),
         ("1.1.5", "1.1", "line 6: address has not 3 parts with . between them: \"1.1\""),
         ("key 2", "key 3", "line 9: level of the key is \"3\", not 0 to 2"),
-        ("key 2 ffffffff\n", "", "line 17: key 2 is missing"),
+        ("key 2 ffffffff", "", "line 20: key 2 is missing"),
         ("mask", "rules 1\nmask", "line 3: a sheet of edition 1 has rules 0"),
         ("key 2", "keys 2", "line 9: \"keys\" is no name of a field, and no entry has begun"),
         (
@@ -211,6 +221,13 @@ fn faults() {
         ),
         ("code 1", "code 15", "line 17: group 1/0/1, code is \"15\", not 0 to 14"),
         ("1/0/1 code", "0/0/0 code", "line 17: S8: group object 0/0/0, address 0"),
+        ("\nend", "\nend\nend", "line 21: \"end\" stands behind the end"),
+        ("\nend", "\nend of it", "line 20: end stands alone, and \"of\" is more"),
+        (
+            "1/51",
+            "\u{1b}[31m1/51\u{202e}23456789012345678901",
+            "line 14: property ?[31m1/51?23456789012345.., object/id is no number: \"?[31m1\"",
+        ),
     ];
     for (from, to, what) in cases {
         assert!(TEXT.contains(from));
@@ -233,7 +250,19 @@ fn faults() {
         let fault = make::bytes(&PUMP_TEXT.replacen(from, to, 1)).unwrap_err();
         assert_eq!(fault.to_string(), what);
     }
-    assert_eq!(make::bytes("").unwrap_err().to_string(), "line 1: edition is missing");
+    let missing = "end is missing as the last line: the text may have been cut off";
+    assert_eq!(make::bytes("").unwrap_err().to_string(), format!("line 1: {missing}"));
+}
+
+/// A text that was cut off, wherever, is refused.
+#[test]
+fn cut_off() {
+    for text in [TEXT, PUMP_TEXT] {
+        assert!(make::bytes(text.trim_end()).is_ok());
+        for upto in 0..text.trim_end().len() {
+            assert!(make::bytes(&text[..upto]).is_err(), "cut off behind {:?}", &text[..upto]);
+        }
+    }
 }
 
 /// Too much for a sheet, in number or in length.
@@ -244,10 +273,11 @@ fn too_much() {
         make::bytes(&TEXT.replace("region 0100h r3 w2\n    a0 a1 a2 a3\n", &regions)).unwrap_err();
     assert_eq!(fault.to_string(), "line 43: S3: more than 16 regions");
     let users: String = (0..17).map(|i| format!("user {i} r3 w3\n00\n")).collect();
-    let fault = make::bytes(&(TEXT.replace("edition 1", "edition 2") + &users)).unwrap_err();
-    assert_eq!(fault.to_string(), "line 51: S3: more than 16 user regions");
+    let text = TEXT.replace("edition 1", "edition 2").replace("end\n", &(users + "end\n"));
+    let fault = make::bytes(&text).unwrap_err();
+    assert_eq!(fault.to_string(), "line 52: S3: more than 16 user regions");
     let fault = make::bytes(&TEXT.replace("size 2 maximum 2", "size 10 maximum 4095")).unwrap_err();
-    assert_eq!(fault.to_string(), "line 18: S1: the sheet has more than 16384 bytes");
+    assert_eq!(fault.to_string(), "line 20: S1: the sheet has more than 16384 bytes");
 }
 
 #[test]
@@ -284,7 +314,11 @@ fn differences() {
         ("a0 a1", "a0 55", "memory 0101h: a1 → 55"),
         ("c9 ca cb", "c9 ca", "user region 0104h length: 12 → 11"),
         ("r2 w0", "r3 w0", "user region 0104h read level: 2 → 3"),
-        ("cb\n", "cb\nuser 0200h r3 w3\n00\n", "user region 0200h is new"),
+        (
+            "cb\n",
+            "cb\nuser 0200h r3 w0\n00\n",
+            "user region 0200h is new: length 1, read level 3, write level 0",
+        ),
         ("rules 0", "rules 1", "rules: 0 → 1"),
     ];
     let old = Sheet::read(&PUMP).unwrap();
@@ -296,4 +330,27 @@ fn differences() {
     second[0] = 2;
     let (first, second) = (Sheet::read(&SAMPLE).unwrap(), Sheet::read(&second).unwrap());
     assert_eq!(diff::lines(&first, &second), ["edition: 1 → 2"]);
+}
+
+/// What is new, with its levels and values.
+#[test]
+fn new_entries() {
+    let new = "region 0200h r2 w0\n 00 55 56 00 57\n
+        property 1/52 type 4 size 2 maximum 3 count 2 r3 w0\n 7 0 9\n
+        property 1/53 type 17 writable size 5 maximum 1 count 0 r0 w1\n
+        group 1/0/2 code 2 read\n 00 2a\nend\n";
+    let new = Sheet::read(&make::bytes(&TEXT.replace("end\n", new)).unwrap()).unwrap();
+    assert_eq!(
+        diff::lines(&Sheet::read(&SAMPLE).unwrap(), &new),
+        [
+            "region 0200h is new: length 5, read level 2, write level 0",
+            "memory 0201h: new, 55 56",
+            "memory 0204h: new, 57",
+            "property 1/52 is new: type 4, not writable, size 2, maximum 3, count 2, read level 3, write level 0",
+            "property 1/52 element 1: new, 7",
+            "property 1/52 element 3: new, 9",
+            "property 1/53 is new: type 17, writable, size 5, maximum 1, count 0, read level 0, write level 1",
+            "group object 1/0/2 is new: length code 2, flags read, value 00 2a",
+        ]
+    );
 }

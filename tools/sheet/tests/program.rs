@@ -71,7 +71,9 @@ fn show_and_make() {
     assert_eq!((made.status.code(), made.stdout, made.stderr), (Some(0), SAMPLE.to_vec(), vec![]));
     let hidden = told(&room, &["show", "sample"]).1;
     assert!(
-        hidden.contains("key 0 hidden\nkey 1 hidden\nkey 2 hidden\n") && !hidden.contains("1111")
+        hidden.contains(
+            "key 0 hidden\nkey 1 hidden\nkey 2 ffffffff  # public: it opens level 2 to all\n"
+        ) && !hidden.contains("1111")
     );
     fs::write(room.join("text"), text.replace("count 1", "count x")).unwrap();
     let fault = "sheet: text: line 14: property 1/51, count is no number: \"x\"\n";
@@ -94,6 +96,48 @@ fn diff() {
     let broken = "sheet: bad: S7: property 1/51, count 3 above maximum 2\n";
     assert_eq!(told(&room, &["diff", "sample", "bad"]), said(2, "", broken));
     assert_eq!(told(&room, &["diff", "sample", "nothing"]).0, 2);
+}
+
+/// A text with more entries than a sheet can have is refused before it takes room for them.
+#[test]
+fn hostile_text() {
+    let room = room("hostile");
+    let line = "property 1/51 type 4 size 10 maximum 4095 count 0 r3 w1\n";
+    fs::write(room.join("text"), line.repeat(70_000)).unwrap();
+    let program = env!("CARGO_BIN_EXE_sheet");
+    let got = Command::new("sh")
+        .args(["-c", "ulimit -v 524288 && exec \"$0\" make text", program])
+        .current_dir(&room)
+        .output()
+        .unwrap();
+    let told = (got.status.code(), got.stdout.len(), String::from_utf8(got.stderr).unwrap());
+    let fault = "sheet: text: line 65: S3: more than 64 properties\n";
+    assert_eq!(told, (Some(2), 0, fault.to_string()));
+}
+
+/// What can't be printed stands in no message, be it in a text or in a name.
+#[test]
+fn plain_messages() {
+    let room = room("plain");
+    fs::write(room.join("text"), "property \u{1b}[2J\u{202e}x type 4\n").unwrap();
+    let fault =
+        "sheet: text: line 1: property ?[2J?x, object/id has not 2 parts with / between them: \"?[2J?x\"\n";
+    assert_eq!(told(&room, &["make", "text"]), said(2, "", fault));
+    let missing = "sheet: ?[2J?: No such file or directory (os error 2)\n";
+    assert_eq!(told(&room, &["check", "\u{1b}[2J\n"]), said(2, "", missing));
+}
+
+#[test]
+fn asked_for() {
+    let room = room("asked");
+    let (status, usage, err) = told(&room, &["--help"]);
+    assert_eq!((status, err.as_str()), (0, ""));
+    assert!(usage.starts_with("usage: sheet check FILE\n"), "{usage}");
+    let header = include_str!("../../../include/kelindap_common.h");
+    let (status, version, err) = told(&room, &["--version"]);
+    assert_eq!((status, err.as_str()), (0, ""));
+    let number = version.trim_end().strip_prefix("sheet of kelindap ").unwrap();
+    assert!(header.contains(&format!("KELINDAP_VERSION_TEXT \"{number}\"")), "{version}");
 }
 
 /// Words that are no command, and an output that can't be written.
