@@ -18,7 +18,7 @@ test: need-tools
 	$(MAKE) --no-print-directory -s model
 	$(MAKE) --no-print-directory -s prove
 	$(MAKE) --no-print-directory -s sheet-check
-	$(MAKE) --no-print-directory -s test-unit test-c points test-frames test-tools compare test-firmware
+	$(MAKE) --no-print-directory -s test-unit test-c points test-frames test-tools compare test-firmware figures
 	tail -n 1 build/ci.log
 
 # every proof from nothing, every edit, every program, once: what the tests after it link and run is what was proved here. The
@@ -61,3 +61,4 @@ include mk/frames.mk
 include mk/compare.mk
 include mk/bench.mk
 include mk/firmware.mk
+include mk/figures.mk

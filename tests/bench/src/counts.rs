@@ -1,41 +1,61 @@
-//! Instructions per request, counted by valgrind's callgrind. Each count is that
-//! of a process of its own that plays one case on one side, less that of a
-//! process that plays it on the side that does nothing.
+//! Instructions per request, counted by valgrind's callgrind in one process that
+//! plays every case on every side. Whenever `bench_mark` is entered callgrind
+//! writes its count since the last time; from each count that of the side that
+//! does nothing is taken off.
 
+use std::fs;
+use std::hint::black_box;
+use std::path::Path;
 use std::process::Command;
 
 use crate::cases::Bench;
 use crate::sides::Side;
-use crate::Ready;
+use crate::{for_each_case, Ready};
 
 const TIMES: usize = 1000;
 const SIDES: [Side; 3] = [Side::Proved, Side::Plain, Side::Nothing];
 
-/// Under callgrind: case `k` on the side with this number, `TIMES` times.
-pub fn play(benches: &[Bench], k: usize, side: usize) {
-    let mut cases = benches.iter().flat_map(|b| b.cases.iter().map(move |c| (b, c)));
-    let (bench, case) = cases.nth(k).expect("a case");
-    Ready::new(SIDES[side], bench, case).run(TIMES);
+#[no_mangle]
+#[inline(never)]
+extern "C" fn bench_mark() {
+    black_box(());
+}
+
+/// Under callgrind: every case on every side, `TIMES` times, between two marks.
+pub fn play(benches: &[Bench]) {
+    bench_mark();
+    for_each_case(benches, |bench, case| {
+        for side in SIDES {
+            Ready::new(side, bench, case).run(TIMES);
+            bench_mark();
+        }
+    });
 }
 
 /// `None` if there is no valgrind.
 pub fn measure(benches: &[Bench]) -> Option<Vec<[f64; 2]>> {
+    let room = std::env::temp_dir().join(format!("kelindap-bench-{}", std::process::id()));
+    fs::create_dir_all(&room).ok()?;
     let cases = benches.iter().map(|b| b.cases.len()).sum();
-    (0..cases)
-        .map(|k| {
-            let [ours, plain, nothing] = [0, 1, 2].map(|side| total(k, side));
-            let nothing = nothing?;
-            Some([ours?, plain?].map(|n| (n - nothing) / TIMES as f64))
-        })
-        .collect()
+    let counts = counted(&room, cases);
+    let _ = fs::remove_dir_all(&room);
+    counts
 }
 
-fn total(k: usize, side: usize) -> Option<f64> {
+fn counted(room: &Path, cases: usize) -> Option<Vec<[f64; 2]>> {
+    let out = room.join("out");
     let mut valgrind = Command::new("valgrind");
-    valgrind.args(["--tool=callgrind", "--callgrind-out-file=/dev/null"]);
-    valgrind.arg(std::env::current_exe().ok()?).arg("--play");
-    let done = valgrind.args([k, side].map(|n| format!("{n:02}"))).output().ok()?;
-    let said = String::from_utf8(done.stderr).ok()?;
-    let total = said.lines().find_map(|l| l.split_once("Collected : "))?.1;
-    done.status.success().then(|| total.trim().parse().ok())?
+    valgrind.args(["--tool=callgrind", "--dump-before=bench_mark"]);
+    valgrind.arg(format!("--callgrind-out-file={}", out.display()));
+    let done = valgrind.arg(std::env::current_exe().ok()?).arg("--play").output().ok()?;
+    // the first count is of the start
+    let total = |k: usize| -> Option<f64> {
+        let said = fs::read_to_string(room.join(format!("out.{}", k + 2))).ok()?;
+        said.lines().find_map(|l| l.strip_prefix("totals: "))?.trim().parse().ok()
+    };
+    let row = |k: usize| -> Option<[f64; 2]> {
+        let nothing = total(3 * k + 2)?;
+        Some([total(3 * k)?, total(3 * k + 1)?].map(|n| (n - nothing) / TIMES as f64))
+    };
+    done.status.success().then(|| (0..cases).map(row).collect())?
 }

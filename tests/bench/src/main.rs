@@ -1,8 +1,9 @@
 //! Time and instructions of each request, the proved library beside the plain
 //! model, in one run.
 //!
-//!     bench                 times, then instructions by callgrind if it is there
-//!     bench --play K SIDE   one case on one side, for callgrind to count
+//!     bench                  times, then instructions by callgrind if it is there
+//!     bench --instructions   instructions alone
+//!     bench --play           every case on every side, for callgrind to count
 
 mod cases;
 mod counts;
@@ -115,20 +116,22 @@ fn main() {
             for_each_case(&benches, agree);
             let times = times::measure(&benches);
             let counts = counts::measure(&benches);
-            print(&benches, &times, counts.as_deref());
+            print(&benches, Some(&times), counts.as_deref());
         }
-        ["--play", k, side] => {
-            counts::play(&benches, k.parse().expect("a number"), side.parse().expect("a number"))
+        ["--instructions"] => {
+            for_each_case(&benches, agree);
+            print(&benches, None, counts::measure(&benches).as_deref());
         }
+        ["--play"] => counts::play(&benches),
         _ => {
-            eprintln!("usage: bench");
+            eprintln!("usage: bench [--instructions]");
             std::process::exit(2)
         }
     }
 }
 
-/// One row: sheet and case, then what was measured of each side, and the ratio.
-fn print(benches: &[Bench], times: &[[f64; 2]], counts: Option<&[[f64; 2]]>) {
+/// One row: sheet and case, then what was measured of each side, and the ratio; - for what was not.
+fn print(benches: &[Bench], times: Option<&[[f64; 2]]>, counts: Option<&[[f64; 2]]>) {
     println!(
         "Both sides compiled for {}; the loop around a call is taken off.",
         std::env::consts::ARCH
@@ -144,14 +147,14 @@ fn print(benches: &[Bench], times: &[[f64; 2]], counts: Option<&[[f64; 2]]>) {
                 let check = if case.less_check { figures[first] } else { [0.0; 2] };
                 [0, 1].map(|side| figures[first + k][side] - check[side])
             };
-            let [ours, plain] = row(times);
-            print!("{:6} {:24} {ours:8.1} {plain:8.1} {:6.2}", bench.name, case.name, ours / plain);
-            match counts {
-                Some(counts) => {
-                    let [ours, plain] = row(counts);
-                    println!("   {ours:8.0} {plain:8.0} {:6.2}", ours / plain);
-                }
-                None => println!(),
+            print!("{:6} {:24}", bench.name, case.name);
+            match times.map(row) {
+                Some([ours, plain]) => print!(" {ours:8.1} {plain:8.1} {:6.2}", ours / plain),
+                None => print!(" {:>8} {:>8} {:>6}", "-", "-", "-"),
+            }
+            match counts.map(row) {
+                Some([ours, plain]) => println!("   {ours:8.0} {plain:8.0} {:6.2}", ours / plain),
+                None => println!("   {:>8} {:>8} {:>6}", "-", "-", "-"),
             }
         }
         first += bench.cases.len();

@@ -1,0 +1,170 @@
+//! The figures of sizes, stack and instructions that documents quote are those that were measured.
+//!
+//!     figures check DIR DOCUMENT..   holds every block of figures against the file of its name in DIR
+//!     figures write DIR DOCUMENT..   puts these files into the blocks
+//!
+//! A block begins with a line `<!-- figures NAME: TOLERANCE .. -->` and ends with `<!-- end -->`. Its rows are compared word by
+//! word, without the lines of a table; to the last words of a row the tolerances belong, from the right: a number of units,
+//! so many per cent (`2%`), or `any`. What could not be measured stands in DIR as `?`, and is not held.
+
+use std::{env, fs, process};
+
+fn main() {
+    let words: Vec<String> = env::args().skip(1).collect();
+    let (Some(mode), Some(dir), documents) = (words.first(), words.get(1), words.get(2..).unwrap_or_default()) else {
+        stop("usage: figures check|write DIR DOCUMENT..");
+    };
+    let mut tally = Tally::default();
+    for document in documents {
+        let text = read(document);
+        let blocks = blocks(document, &text);
+        tally.blocks += blocks.len();
+        match mode.as_str() {
+            "check" => blocks.iter().for_each(|b| check(&mut tally, document, b, &read(&format!("{dir}/{}", b.name)))),
+            "write" => write(document, &text, &blocks, dir),
+            _ => stop("check or write"),
+        }
+    }
+    if mode == "check" {
+        println!(
+            "figures: {} of {} blocks in {} documents as measured, {} could not be measured here, {} differ",
+            tally.held,
+            tally.blocks,
+            documents.len(),
+            tally.unknown,
+            tally.different
+        );
+    }
+    process::exit(i32::from(tally.different > 0 || tally.blocks == 0))
+}
+
+#[derive(Default)]
+struct Tally {
+    blocks: usize,
+    held: usize,
+    unknown: usize,
+    different: usize,
+}
+
+/// A block: its name, the tolerances, its lines and where these stand in the document, from 0.
+struct Block {
+    name: String,
+    tolerances: Vec<Tolerance>,
+    lines: Vec<String>,
+    from: usize,
+}
+
+#[derive(Clone, Copy)]
+enum Tolerance {
+    Units(f64),
+    PerCent(f64),
+    Any,
+}
+
+impl Tolerance {
+    fn of(word: &str) -> Option<Tolerance> {
+        match word.strip_suffix('%') {
+            _ if word == "any" => Some(Tolerance::Any),
+            Some(part) => part.parse().ok().map(Tolerance::PerCent),
+            None => word.parse().ok().map(Tolerance::Units),
+        }
+    }
+
+    fn allows(self, quoted: &str, measured: &str) -> bool {
+        let number = |word: &str| word.replace(',', "").parse::<f64>();
+        match (self, number(quoted), number(measured)) {
+            (Tolerance::Any, ..) => true,
+            (Tolerance::Units(most), Ok(a), Ok(b)) => (a - b).abs() <= most,
+            (Tolerance::PerCent(most), Ok(a), Ok(b)) => (a - b).abs() <= b.abs() * most / 100.0 + 0.01,
+            _ => quoted == measured,
+        }
+    }
+}
+
+fn blocks(document: &str, text: &str) -> Vec<Block> {
+    let mut all: Vec<Block> = Vec::new();
+    let mut open = false;
+    for (at, line) in text.lines().enumerate() {
+        if let Some(head) = line.strip_prefix("<!-- figures ").and_then(|l| l.strip_suffix(" -->")) {
+            let block = head.split_once(':').and_then(|(name, words)| {
+                let tolerances = words.split_whitespace().map(Tolerance::of).collect::<Option<Vec<_>>>()?;
+                Some(Block { name: name.to_string(), tolerances, lines: Vec::new(), from: at + 1 })
+            });
+            all.push(block.unwrap_or_else(|| stop(&format!("{document}:{}: no head of figures", at + 1))));
+            open = true;
+        } else if line == "<!-- end -->" {
+            open = false;
+        } else if open {
+            all.last_mut().unwrap().lines.push(line.to_string());
+        }
+    }
+    if open {
+        stop(&format!("{document}: a block of figures has no end"));
+    }
+    all
+}
+
+/// The words of each row; blank lines and the line below a table's head are none.
+fn rows<'a>(lines: impl Iterator<Item = &'a str>) -> Vec<Vec<&'a str>> {
+    lines
+        .map(|l| l.split(|c: char| c.is_whitespace() || c == '|').filter(|w| !w.is_empty()).collect::<Vec<_>>())
+        .filter(|row| row.iter().any(|w| *w != "---"))
+        .collect()
+}
+
+fn check(tally: &mut Tally, document: &str, block: &Block, measured: &str) {
+    let quoted = rows(block.lines.iter().map(String::as_str));
+    let measured = rows(measured.lines());
+    let (mut different, mut unknown) = (0, 0);
+    if quoted.len() != measured.len() {
+        println!("{document}: {} has {} rows, and {} were measured", block.name, quoted.len(), measured.len());
+        different += 1;
+    }
+    for (quoted, measured) in quoted.iter().zip(&measured) {
+        let mut same = quoted.len() == measured.len();
+        for (k, (a, b)) in quoted.iter().rev().zip(measured.iter().rev()).enumerate() {
+            let tolerance = block.tolerances.iter().rev().nth(k);
+            if tolerance.is_some() && *b == "?" {
+                unknown += 1;
+            } else {
+                same &= tolerance.map_or(a == b, |t| t.allows(a, b));
+            }
+        }
+        if !same {
+            println!(
+                "{document}: {}: quoted {}\n{:13}measured {}",
+                block.name,
+                quoted.join(" "),
+                "",
+                measured.join(" ")
+            );
+            different += 1;
+        }
+    }
+    tally.held += usize::from(different == 0);
+    tally.unknown += unknown;
+    tally.different += different;
+}
+
+fn write(document: &str, text: &str, blocks: &[Block], dir: &str) {
+    let mut lines: Vec<String> = text.lines().map(String::from).collect();
+    for block in blocks.iter().rev() {
+        let measured = read(&format!("{dir}/{}", block.name));
+        if rows(measured.lines()).concat().contains(&"?") {
+            println!("{document}: {} is left as it is: not all of it could be measured", block.name);
+            continue;
+        }
+        let new = format!("\n{}\n", measured.trim_end());
+        lines.splice(block.from..block.from + block.lines.len(), new.lines().map(String::from).chain([String::new()]));
+    }
+    fs::write(document, lines.join("\n") + "\n").unwrap_or_else(|e| stop(&format!("{document}: {e}")));
+}
+
+fn read(name: &str) -> String {
+    fs::read_to_string(name).unwrap_or_else(|e| stop(&format!("{name}: {e}")))
+}
+
+fn stop(why: &str) -> ! {
+    eprintln!("{why}");
+    process::exit(2)
+}

@@ -1,0 +1,106 @@
+#!/usr/bin/env bash
+# tests/docs/measure.sh DIR HOST_A TOOL_A STACK BENCH COMPARE [times]: measures what README and docs/SPEED.md quote of sizes,
+# stack and instructions, and leaves in DIR a file for each block of figures there (tests/docs/figures.rs); ? is what can't be
+# measured here: instructions on x86-64 need such a machine and valgrind, those on the boards the emulators. With `times` the
+# benchmark takes its times too, which are quoted as those of one run and are not held.
+set -euo pipefail
+out=$1 host=$2 tool=$3 stack=$4 bench=$5 compare=$6 times=${7-}
+processors=(cortex-m0 cortex-m3 cortex-m4 rv32imac)
+mkdir -p "$out"
+missing=()
+
+# what each tool says, in plain lines: processor, name, number
+{
+    for archive in "$host" "$tool"; do
+        size "$archive" | awk -v name="${archive##*/}" 'NR > 1 { n += $1 + $2 } END { print "x86-64", name, n + 0 }'
+    done
+    "$stack" | sed -n 's/^stack: kelindap_\(.*[a-z]\)  *\([0-9]*\) bytes$/\1=\2/p' | sed 's/, _/+/; s/ //g; s/=/ /' |
+        sed 's/^/x86-64 /'
+    for p in "${processors[@]}"; do
+        mk/bin/sizes "$p" | awk -v p="$p" '{
+            print p, "libkelindap_device.a", $3
+            sub(/.*deepest stack: /, "")
+            for (i = 1; i < NF; i += 2) print p, $i, $(i + 1)
+        }'
+    done
+} > "$out/plain"
+
+# instructions of requests: sheet, request and columns
+if [ "$(uname -m)" = x86_64 ] && command -v valgrind > /dev/null; then
+    if [ -n "$times" ]; then "$bench"; else "$bench" --instructions; fi | sed 1d > "$out/bench.rows"
+else
+    missing+=("instructions on x86-64 (no valgrind, or another machine)")
+    : > "$out/bench.rows"
+fi
+boards=()
+for p in "${processors[@]}"; do
+    case $p in cortex-*) emulator=qemu-system-arm ;; *) emulator=qemu-system-riscv32 ;; esac
+    if command -v "$emulator" > /dev/null; then
+        mk/bin/firmware "$p" bridge tests/compare/bridge.c tests/firmware/board.c tests/firmware/memory.c
+        boards+=("build/firmware/$p/bridge")
+    fi
+done
+if [ "${#boards[@]}" = "${#processors[@]}" ]; then
+    COUNT=1 "$compare" --times "${boards[@]}" 2> /dev/null > "$out/boards.rows"
+else
+    missing+=("instructions on the boards (an emulator is missing)")
+    : > "$out/boards.rows"
+fi
+
+# the blocks. Where a table could not be made its rows are those of the document, with ? for the numbers
+unknown() { # BLOCK COLUMNS
+    awk -v block="$1" -v columns="$2" '
+        /^<!-- figures / { on = $3 == block ":" ; next }
+        /^<!-- end -->/ { on = 0 }
+        on && /^    / { if (seen++) for (i = 0; i < columns; i++) $(NF - i) = "?"; print }' docs/SPEED.md
+}
+if [ -s "$out/bench.rows" ]; then sed 's/^/    /; s/ *$//' "$out/bench.rows"; else unknown bench 6; fi > "$out/bench"
+if [ -s "$out/boards.rows" ]; then
+    { printf '%-31s' "sheet  request"; printf ' %9s' "${processors[@]}"; echo; cat "$out/boards.rows"; } | sed 's/^/    /'
+else
+    unknown boards 4
+fi > "$out/boards"
+
+awk -v out="$out" -v list="${processors[*]}" '
+    function comma(n) { return n == "" ? "–" : n + 0 < 1000 ? n : substr(n, 1, length(n) - 3) "," substr(n, length(n) - 2) }
+    function row(file, title, name,    i, line) {
+        line = "| " title " |"
+        for (i = 1; i <= n; i++) line = line " " comma(of[processor[i], name]) " |"
+        print line > file
+    }
+    function head(file, title,    i, line, under) {
+        line = "| " title " |"
+        under = "|---|"
+        for (i = 1; i <= n; i++) { line = line " " processor[i] " |"; under = under "---|" }
+        print line > file
+        print under > file
+    }
+    # the most instructions of a request on a sheet, by processor; the check of the sheet is none
+    function most(p, sheet, x) { if (x + 0 > top[p, sheet] + 0) top[p, sheet] = x }
+    function told(x) { return x == "" ? "?" : comma(sprintf("%.0f", x)) }
+    BEGIN { n = split("x86-64 " list, processor, " ") }
+    FILENAME ~ /plain$/ { of[$1, $2] = $3 }
+    FILENAME ~ /bench.rows$/ && $1 ~ /^(sample|full)$/ && !/the check of/ { most("x86-64", $1, $(NF - 2)) }
+    FILENAME ~ /boards.rows$/ && !/the check of/ { for (i = 2; i <= n; i++) most(processor[i], $1, $(NF - n + i)) }
+    END {
+        file = out "/sizes"
+        head(file, "Bytes")
+        row(file, "libkelindap_device.a", "libkelindap_device.a")
+        row(file, "libkelindap_pdu.a", "libkelindap_pdu.a")
+        file = out "/stack"
+        head(file, "Call")
+        split("request button check property group region user_region fresh connect disconnect", call, " ")
+        for (i = 1; i in call; i++) row(file, "`kelindap_" call[i] "`", call[i])
+        row(file, "`kelindap_read` with `kelindap_write`", "read+write")
+        row(file, "`kelindap_point_read` with `kelindap_point_write`", "point_read+write")
+        row(file, "`kelindap_frame_read` with `kelindap_frame_write`", "frame_read+write")
+        file = out "/summary"
+        print "| Processor | Code, bytes | Stack of a request, bytes | Instructions of the longest request, sample sheet | full sheet |" > file
+        print "|---|---|---|---|---|" > file
+        for (i = 1; i <= n; i++) {
+            p = processor[i]
+            print "| " p " | " comma(of[p, "libkelindap_device.a"]) " | " comma(of[p, "request"]) " | " told(top[p, "sample"]) " | " \
+                told(top[p, "full"]) " |" > file
+        }
+    }' "$out/plain" "$out/bench.rows" "$out/boards.rows"
+[ ${#missing[@]} = 0 ] || printf 'figures: not measured: %s\n' "${missing[@]}"
