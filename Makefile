@@ -30,7 +30,7 @@ prove: need-tools
 
 # every name that a document quotes stands where the document says; what is to be read is complete, and as long as READING says
 documents: need-tools build/documents/names build/documents/reading
-	build/documents/names docs/PROMISES.md docs/READING.md docs/CONFORMANCE.md
+	build/documents/names docs/PROMISES.md docs/READING.md docs/CONFORMANCE.md docs/RULES.md
 	build/documents/reading --check docs/READING.md
 
 #: make reading    build/reading.md, the definitions that must be read for each demand, in order, with what is promised

@@ -52,11 +52,34 @@ while IFS= read -r line; do
     grep -qxF -- "$line" tests/unit/demo.expected || { echo "same: README shows what the demonstration does not: $line"; bad=1; }
 done < "$work/shown"
 
-# docs/UNIT.md has the kinds of kelindap_names.h; the definitions that docs/RULES.md names are there
+# docs/UNIT.md has the kinds of kelindap_names.h
 names() { sed -n "/define KELINDAP_$1/,/^\$/s/.*\"\(.*\)\".*/\1/p" include/kelindap_names.h | sort; }
 same docs/UNIT.md "$(names KINDS)" "$(sed -n '/^## Kinds/,$p' docs/UNIT.md | awk -F '|' '/^\| `/ { print $2 }' | grep -o '[a-z_]*' | sort)"
-while read -r name; do
-    grep -rqwF -- "$name" crates/*/specs crates/*/proofs || { echo "same: docs/RULES.md names $name, which no definition has"; bad=1; }
-done < <(grep -oE '`[A-Za-z][A-Za-z-]*`' docs/RULES.md | tr -d '`' | sort -u)
+
+# README has every folder and every crate; docs/CHANGING.md has every crate, none before one that it rests on
+folders() { for folder in .c*/ */; do echo "${folder%/}"; done | grep -vxE 'build|target' | sort; }
+named() { grep -oE '`[a-z_.]+`' | tr -d '`' | sort -u; }
+same "README, the folders" "$(folders)" "$(sed -n '/^## The folders/,/^## /p' README.md | awk -F '|' '/^. `/ { print $2 }' | named)"
+crates=$(sed -n 's/^\([a-z_]*\):.*/\1/p' crates.txt | sort)
+layers=$(sed -n '/^## The layers/,/^## /p' README.md)
+for crate in $crates; do
+    grep -qw "$crate" <<< "$layers" || { echo "same: README's layers lack $crate"; bad=1; }
+done
+ordered=$(grep -F 'lowest crate first:' docs/CHANGING.md | sed 's/.*lowest crate first://; s/A crate above.*//' | grep -oE '`[a-z_]+`' | tr -d '`')
+same "docs/CHANGING.md, the order of crates" "$crates" "$(sort <<< "$ordered")"
+sed -n 's/^\([a-z_]*\): */\1 /p' crates.txt | awk -v order="$(tr '\n' ' ' <<< "$ordered")" '
+    BEGIN { n = split(order, list, " "); for (i = 1; i <= n; i++) at[list[i]] = i }
+    { for (i = 2; i <= NF; i++) if ($i in at && at[$i] > at[$1]) { print "same: docs/CHANGING.md has " $1 " before " $i; bad = 1 } }
+    END { exit bad }' || bad=1
+
+# the libraries that the headers name are made
+for library in $(grep -ohE 'lib[a-z_]+\.a' include/*.h | sort -u); do
+    grep -q "^build/$library:" mk/hosts.mk || { echo "same: a header names $library, which is not made"; bad=1; }
+done
+
+# the last version in CHANGELOG.md is that of the headers; a licence that is not there is not there in README either
+version=$(sed -n 's/.*KELINDAP_VERSION_TEXT "\(.*\)"/\1/p' include/kelindap_common.h)
+same CHANGELOG.md "$version" "$(sed -n 's/^## \([0-9].*\)/\1/p' CHANGELOG.md | head -n 1)"
+[ -e LICENSE ] || [ -e LICENCE ] || grep -q '^No licence is given yet' README.md || { echo "same: README says nothing of a licence"; bad=1; }
 [ "$bad" = 0 ]
 echo "same: the sample sheet in 4 places, that of edition 2 in 3, the marked cases in 2"
