@@ -37,6 +37,6 @@ if command -v g++ > /dev/null; then
     for std in c++11 c++20; do g++ -std=$std "${flags[@]}" -x c++ -c "$work/readme.c" -o "$work/cc.o"; done
     languages+=" and C++"
 fi
-"${CC86:-mk/cc86}" -o "$work/readme" -std=c11 "${flags[@]}" "$work/readme.c" "$host" "$tool"
+"${CC86:-mk/bin/cc86}" -o "$work/readme" -std=c11 "${flags[@]}" "$work/readme.c" "$host" "$tool"
 "$work/readme"
 echo "readme: its code compiles as $languages; the host that it makes answers for itself and for no neighbour"
