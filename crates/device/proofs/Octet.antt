@@ -1,53 +1,17 @@
--- Bytes stay below 256: in numbers, in data, in what bit writes give, and in a sheet after a store.
+-- Bytes stay below 256: in data and in what bit writes give; the laws for any list of bytes are passed on.
 -- Assumes nothing.
-use Prim.Native.Nat.{ℕ, zero, suc, _+_, _-_, _/_, _%_, _<_, _≤_}
-use mathlib.Core.Path.{_≡_, ap, _∙_}
-use mathlib.Core.Logic.{inl, inr}
-use mathlib.Core.Bool.{Bool, true, _&&_}
-use mathlib.Core.List.{List, [], _∷_, _++_}
-use lib.ListN.{length, getD, List·getD-eq-default}
-use lib.Dec.{ltb}
+use Prim.Native.Nat.{ℕ, _+_, _<_}
+use mathlib.Core.List.{List}
+use lib.ListN.{getD, List·getD-eq-default}
 use lib.Seq.{getD-drop}
 use lib.Bits.{and-lt, xor-lt}
 use native.Mathlib.Decide.{decLt}
 use native.Mathlib.Omega.{arith}
-use borrow.Author.Tests.{ltb-true}
-use Rattle.octets.specs.Bytes.{bytesOf}
-use Rattle.octets.specs.Splice.{splice}
-use Rattle.octets.proofs.Splices.{splice-in, splice-outside}
-use Rattle.octets.proofs.Truths.{and-is}
 use Rattle.pdu.specs.Read.{dataAt, dataOf}
 use Rattle.pdu.specs.declared.Pdu.{Pdu}
 use Rattle.device.specs.Octets.{Octets}
 use Rattle.device.specs.MemoryDue.{Combined}
-
--- bytes, by one test
-abbrev pub isBytes : List ℕ → Bool
-isBytes [] = true
-isBytes (x ∷ s) = ltb x 256 && isBytes s
-
-pub octets-by : (s : List ℕ) → isBytes s ≡ true → Octets s
-octets-by [] e i = omega arith
-octets-by (x ∷ s) e zero = ltb-true x 256 (and-is (ltb x 256) (isBytes s) .0 e .0)
-octets-by (x ∷ s) e (suc i) = octets-by s (and-is (ltb x 256) (isBytes s) .0 e .1) i
-
-pub octets-none : Octets []
-octets-none i = omega arith
-
-pub octets-one : (x : ℕ) → x < 256 → Octets (x ∷ [])
-octets-one x h zero = h
-octets-one x h (suc i) = omega arith
-
-pub octets-append : (a b : List ℕ) → Octets a → Octets b → Octets (a ++ b)
-octets-append [] b p q i = q i
-octets-append (x ∷ a) b p q zero = p 0
-octets-append (x ∷ a) b p q (suc i) = octets-append a b (λ j. p (suc j)) q i
-
-pub octets-bytes : (w x : ℕ) → Octets (bytesOf w x)
-unfolding bytesOf
-octets-bytes zero x = octets-none
-octets-bytes (suc w) x =
-    octets-append (bytesOf w (x / 256)) (x % 256 ∷ []) (octets-bytes w (x / 256)) (octets-one (x % 256) (omega arith))
+pub use Rattle.octets.proofs.Octet.{isBytes, octets-by, octets-none, octets-one, octets-append, octets-bytes, octets-splice}
 
 pub octets-data : (p : Pdu) (a : List ℕ) → Octets a → Octets (dataOf p a)
 unfolding dataOf
@@ -59,13 +23,3 @@ octets-bits {s} {o} {n} {given} {d} c p q i = go (decLt i n)
     go : Dec (i < n) → getD d i 0 < 256
     go (yes l) = rw (c .each i l) (xor-lt 8 _ _ (and-lt 8 _ _ (p (o + i)) (q i)) (q (n + i)))
     go (no l) = rw (List·getD-eq-default d 0 {n = i} (omega (arith, c .long))) (omega arith)
-
-pub octets-splice : (s : List ℕ) (o : ℕ) (ds : List ℕ) → o + length ds ≤ length s → Octets s → Octets ds → Octets (splice s o ds)
-octets-splice s o ds room a b p = go (decLt p o) (decLt p (o + length ds))
-  where
-    go : Dec (p < o) → Dec (p < o + length ds) → getD (splice s o ds) p 0 < 256
-    go (yes h) d = rw (splice-outside s o ds room p (inl h)) (a p)
-    go (no h) (no l) = rw (splice-outside s o ds room p (inr (omega arith))) (a p)
-    go (no h) (yes l) =
-        let e : p ≡ o + (p - o) = omega arith in
-        rw (ap (λ (i : ℕ). getD (splice s o ds) i 0) e ∙ splice-in s o ds room (p - o) (omega arith)) (b (p - o))

@@ -23,7 +23,7 @@ use Rattle.sheet.proofs.FrontSearch.{seek-same}
 use Rattle.sheet.proofs.SameLookups.{index-same}
 use Rattle.history.specs.Wish.{Wish, change, writeMemory, writeBits, writeProperty, writeKey, offerKey, restart, other, nothing}
 use Rattle.history.specs.Permit.{regionFor, mayRead, mayWrite, mostBytes, inRange, indexFor, entryFor, clears, fills, allowed}
-use Rattle.history.proofs.Bools.{every-same}
+use Rattle.octets.proofs.Everys.{every-same}
 
 module _ {f s : List ℕ} (a : Agree f s) where
   -- an entry of the one is an entry of the other

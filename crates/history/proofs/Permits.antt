@@ -23,6 +23,8 @@ use Rattle.sheet.proofs.Good.{Good}
 use Rattle.sheet.proofs.Regions.{Covered, covers-stands}
 use Rattle.sheet.proofs.Runs.{range-there}
 use Rattle.octets.proofs.Truths.{and-is, or-is}
+use Rattle.octets.specs.Every.{every}
+use Rattle.octets.proofs.Everys.{every-at, every-all}
 use Rattle.device.specs.Octets.{Octets}
 use Rattle.device.specs.Asked.{Asked}
 use Rattle.device.specs.PropertiesDue as properties-due
@@ -32,8 +34,8 @@ use Rattle.device.specs.KeysDue.{KeyWritable}
 use Rattle.device.proofs.Properly.{two-zeros}
 use Rattle.history.specs.Wish.{Change, change, writeMemory, writeBits, writeProperty, writeKey}
 use Rattle.history.specs.Span.{all}
-use Rattle.history.specs.Permit.{every, levelFor, regionFor, mayRead, mayWrite, inRange, indexFor, entryFor, clears, fills, allowed}
-use Rattle.history.proofs.Bools.{all-at, every-at, every-all}
+use Rattle.history.specs.Permit.{levelFor, regionFor, mayRead, mayWrite, inRange, indexFor, entryFor, clears, fills, allowed}
+use Rattle.history.proofs.Bools.{all-at}
 use Rattle.history.proofs.Searches.{region-covers, may-read, may-write, property-hit, property-found}
 use Rattle.history.proofs.LevelFor.{acts-once, acts-so}
 

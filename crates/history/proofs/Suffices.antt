@@ -14,12 +14,14 @@ use Rattle.sheet.specs.Layout.{_of_}
 use Rattle.sheet.specs.Property as property
 use Rattle.sheet.specs.Entries.{count}
 use Rattle.octets.proofs.Truths.{never, and-is, or-is}
+use Rattle.octets.specs.Every.{every}
+use Rattle.octets.proofs.Everys.{every-at}
 use Rattle.history.specs.Location.{Location, memory}
 use Rattle.history.specs.Span.{Span, has, names}
 use Rattle.history.specs.Wish.{Wish, change, writeMemory, writeBits, writeProperty, writeKey, offerKey, restart, other, nothing}
-use Rattle.history.specs.Permit.{every, regionFor, mayRead, mayWrite, mostBytes, inRange, indexFor, entryFor, clears, fills, allowed, spans}
+use Rattle.history.specs.Permit.{regionFor, mayRead, mayWrite, mostBytes, inRange, indexFor, entryFor, clears, fills, allowed, spans}
 use Rattle.history.specs.Keyless.{writeLevel}
-use Rattle.history.proofs.Bools.{all-at, every-at}
+use Rattle.history.proofs.Bools.{all-at}
 use Rattle.history.proofs.Spans.{on, has-only}
 
 -- what holds of each byte of each span holds of what they name

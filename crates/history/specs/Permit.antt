@@ -7,6 +7,7 @@ use lib.ListN.{length, getD}
 use lib.Dec.{ltb, leb, eqb}
 use lib.Bits.{bitAnd, bitXor}
 use Rattle.octets.specs.Bytes.{numAt, bytesOf}
+use Rattle.octets.specs.Every.{every}
 use Rattle.sheet.specs.Kind.{properties, kindOf}
 use Rattle.sheet.specs.Layout.{_of_}
 use Rattle.sheet.specs.Head as head
@@ -20,10 +21,6 @@ use Rattle.sheet.specs.declared.Memory.the-variants.{Device, User}
 use Rattle.history.specs.Location.{Location, memory, body, counter, key}
 use Rattle.history.specs.Span.{all, Span}
 use Rattle.history.specs.Wish.{Wish, change, writeMemory, writeBits, writeProperty, writeKey, offerKey, restart, other, nothing, taken}
-
-unfoldable pub every : ℕ → (ℕ → Bool) → Bool
-every zero f = true
-every (suc n) f = every n f && f n
 
 -- THE CHECKS BEFORE THE RIGHTS: buffer, length, mode, connected only while open, the service in this mode.
 -- That the service is known and its length right is that the APDU reads.

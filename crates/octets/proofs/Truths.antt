@@ -1,7 +1,7 @@
 -- What each test says, and what tests put together say.
 -- Assumes nothing.
 use Prim.Native.Nat.{ℕ, _≤_, _<_}
-use mathlib.Core.Path.{_≡_, refl}
+use mathlib.Core.Path.{_≡_, refl, sym}
 use mathlib.Core.Logic.{_↔_, _⊎_, inl, inr}
 use mathlib.Core.Bool.{Bool, true, false, _&&_, _||_}
 use lib.Dec.{ltb, leb, eqb}
@@ -38,3 +38,14 @@ equal-is x y = (eqb-true x y, eq-eqb x y)
 pub decided : (t : Bool) → (t ≡ true) ⊎ (t ≡ false)
 decided true = inl refl
 decided false = inr refl
+
+-- two tests that hold together are the same
+pub bool-same : (a b : Bool) → (a ≡ true → b ≡ true) → (b ≡ true → a ≡ true) → a ≡ b
+bool-same true b f g = sym (f refl)
+bool-same false true f g = g refl
+bool-same false false f g = refl
+
+-- a test that can't hold
+pub must-fail : (a : Bool) → (a ≡ true → ⊥) → a ≡ false
+must-fail true f = absurd (f refl)
+must-fail false f = refl

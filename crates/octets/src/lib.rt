@@ -1,9 +1,10 @@
-// Bytes, big-endian numbers, and runs of bytes replaced in a lent slice.
+// Bytes, big-endian numbers, and runs of bytes replaced and moved in a lent slice.
 ghost use mathlib.Core.Path.{_≡_};
 ghost use Prim.Native.Nat.{_+_, _≤_, _<_, _^_};
 ghost use lib.ListN.{length, replicate};
 ghost use Rattle.octets.specs.Bytes.{IsNum, bytesOf};
 ghost use Rattle.octets.specs.Splice.{splice as spliced};
+ghost use Rattle.octets.specs.Moved.{moved};
 
 // The byte at a place, and 0 past the end.
 pub fn byte(s: &[u8], at: usize) -> usize
@@ -69,5 +70,41 @@ pub fn put(dst: &mut [u8], at: usize, w: usize, x: u64)
         i -= 1;
         dst[at + i] = (y % 256) as u8;
         y = y / 256;
+    }
+}
+
+// The n bytes at `from` moved down to `to`: the first byte first.
+fn move_down(s: &mut [u8], from: usize, to: usize, n: usize)
+    requires { ⌜ (to ≤ from) × (from + n ≤ length (now s)) ⌝ }
+    ensures { λ _. ⌜ now (s .exit) ≡ moved (now (s .entry)) from to n ⌝ }
+{
+    let mut j = 0;
+    while j < n {
+        s[to + j] = s[from + j];
+        j += 1;
+    }
+}
+
+// The n bytes at `from` moved up to `to`: the last byte first.
+fn move_up(s: &mut [u8], from: usize, to: usize, n: usize)
+    requires { ⌜ (from ≤ to) × (to + n ≤ length (now s)) ⌝ }
+    ensures { λ _. ⌜ now (s .exit) ≡ moved (now (s .entry)) from to n ⌝ }
+{
+    let mut j = n;
+    while 0 < j {
+        j -= 1;
+        s[to + j] = s[from + j];
+    }
+}
+
+// s with the n bytes that stand at `from` also at `to`, up or down, though old and new place may overlap.
+pub fn shift(s: &mut [u8], from: usize, to: usize, n: usize)
+    requires { ⌜ (from + n ≤ length (now s)) × (to + n ≤ length (now s)) ⌝ }
+    ensures { λ _. ⌜ now (s .exit) ≡ moved (now (s .entry)) from to n ⌝ }
+{
+    if to <= from {
+        move_down(s, from, to, n);
+    } else {
+        move_up(s, from, to, n);
     }
 }

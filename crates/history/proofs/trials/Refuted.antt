@@ -6,6 +6,7 @@ use mathlib.Core.List.{List, [], _∷_}
 use lib.Dec.{eqb}
 use borrow.Author.Tests.{eq-eqb, eqb-true}
 use Rattle.octets.specs.Bytes.{numAt, bytesOf}
+use Rattle.octets.specs.Every.{every}
 use Rattle.octets.specs.Splice.{splice}
 use Rattle.sheet.specs.Demand.{breach}
 use Rattle.sheet.specs.First.{first}
@@ -32,7 +33,7 @@ use Rattle.device.specs.Pump.{pump}
 use Rattle.device.proofs.Octet.{isBytes, octets-by}
 use Rattle.history.specs.Span.{same}
 use Rattle.history.specs.Wish.{asks, brings}
-use Rattle.history.specs.Permit.{every, heard, levelFor, regionFor, mayWrite, inRange, indexFor, entryFor, allowed}
+use Rattle.history.specs.Permit.{heard, levelFor, regionFor, mayWrite, inRange, indexFor, entryFor, allowed}
 use Rattle.history.specs.History.{First, firstOf, keyIn, opened, level, content, permitted}
 use Rattle.history.specs.Keeps.{Begins, AllOctets, Keeps, stateAfter}
 use Rattle.history.specs.Rightful.{ours}

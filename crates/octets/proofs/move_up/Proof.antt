@@ -1,0 +1,48 @@
+-- `octets::move_up` meets its contract. The invariant: the bytes from j on have been moved.
+-- Assumes nothing.
+use Prim.Native.Nat.{ℕ, suc, _+_, _≤_, _-_}
+use mathlib.Core.Path.{_≡_, ap, _∙_, refl, sym}
+use mathlib.Core.List.{List}
+use native.Mathlib.Omega.{arith}
+use borrow.Author.Needs.{needs}
+use lib.ListN.{length, length-set, set, getD}
+use Rattle.octets.specs.Moved.{moved}
+use Rattle.octets.proofs.Moves.{up-none, up-more, up-all}
+use Rattle.octets.proofs.move_up.Statement.{statement}
+use Rattle.octets.proofs.move_up.Tie as tie
+
+abbrev Inv-loop : tie.InvT-loop
+Inv-loop s₀ from to n j₀ s j = (j ≤ n) × (s ≡ moved s₀ (from + j) (to + j) (n - j)) × (length s ≡ length s₀)
+
+abbrev μ-loop : tie.MeasureT-loop
+μ-loop s₀ from to n j₀ s j = j
+
+loop-again : tie.Need-loop-again Inv-loop μ-loop
+loop-again c =
+    let i = c .before .before .loop in
+    let a = c .before .before .before .args in (
+      omega arith,
+      ap (λ (l : List ℕ). set l (a .to + (i .j - 1)) (getD l (a .from + (i .j - 1)) 0)) (i .inv .1)
+          ∙ up-more _ _ _ _ (i .j) (omega arith) (omega arith) (omega arith) (omega arith),
+      simp length-set (i .inv .2),
+    )
+
+returns : tie.Need-returns Inv-loop μ-loop
+returns c = c .before .loop .inv .1 ∙ up-all _ _ _ _ _ (omega arith)
+
+pub move-up-spec : {M : Type 1} → statement M
+move-up-spec =
+    tie.close
+    (tie.spec
+    Inv-loop
+    μ-loop
+    (λ c. (omega arith, up-none _ _ _ _ _ (omega arith), refl))
+    (λ c. omega arith)
+    (λ c. omega arith)
+    (λ c. omega arith)
+    (λ c. omega arith)
+    (λ c. omega arith)
+    (λ c. omega arith)
+    loop-again
+    (λ c. search needs)
+    returns)
