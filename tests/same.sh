@@ -19,8 +19,8 @@ shown_below() { sed -n "/^## $1/,/^## /p" docs/SHEET.md | awk -F '|' 'NF == 5 &&
 sample=$(sheet_of sample_sheet) pump=$(sheet_of pump_sheet)
 [ ${#sample} = 138 ] || { echo "same: the sample sheet has not 69 bytes"; bad=1; }
 [ ${#pump} = 202 ] || { echo "same: the sheet of edition 2 has not 101 bytes"; bad=1; }
-marked=crates/device/specs/Marked.antt
-same "$marked" "$sample" "$(sed -n '/^sample =/,/\[\]$/p' $marked | grep -o '0x..' | sed 's/0x//' | digits)"
+defined=crates/sheet/specs/Sample.antt marked=crates/device/specs/Marked.antt
+same "$defined" "$sample" "$(sed -n '/^sample =/,/\[\]$/p' $defined | grep -o '0x..' | sed 's/0x//' | digits)"
 for sheet in "$sample" "$pump"; do
     edition=${sheet:0:2}
     same crates/device_cases/stdin "$sheet" "$(grep -m 1 "^sheet $edition" crates/device_cases/stdin | sed 's/^sheet//' | digits)"

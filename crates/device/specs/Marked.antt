@@ -3,27 +3,12 @@
 use Prim.Native.Nat.{ℕ}
 use mathlib.Core.List.{List, [], _∷_}
 use mathlib.Core.Bool.{true, false}
+unfoldable pub use Rattle.sheet.specs.Sample.{sample}
 use Rattle.judge.specs.Session.{weakest, connectionless, connected}
 use Rattle.judge.specs.declared.Session.{Session}
 use Rattle.device.specs.Step.{Step}
 use Rattle.device.specs.Asked.{Asked}
 use Rattle.device.specs.Demand2.{done}
-
--- THE SAMPLE SHEET, 69 bytes
-unfoldable pub sample : List ℕ
-sample =
-    -- edition; one region, one property, one group object; length
-    0x01 ∷ 0x01 ∷ 0x01 ∷ 0x01 ∷ 0x00 ∷ 0x45 ∷
-    -- serial, mask version, flags, zero, individual address
-    0x00 ∷ 0xC5 ∷ 0x01 ∷ 0x02 ∷ 0x03 ∷ 0x04 ∷ 0x07 ∷ 0xB0 ∷ 0x02 ∷ 0x00 ∷ 0x11 ∷ 0x05 ∷
-    -- keys, zeros
-    0x11 ∷ 0x11 ∷ 0x11 ∷ 0x11 ∷ 0x22 ∷ 0x22 ∷ 0x22 ∷ 0x22 ∷ 0xFF ∷ 0xFF ∷ 0xFF ∷ 0xFF ∷ 0x00 ∷ 0x00 ∷
-    -- the region, the property, the group object
-    0x01 ∷ 0x00 ∷ 0x00 ∷ 0x04 ∷ 0x00 ∷ 0x3C ∷ 0x32 ∷ 0x00 ∷
-    0x01 ∷ 0x33 ∷ 0x84 ∷ 0x02 ∷ 0x00 ∷ 0x02 ∷ 0x00 ∷ 0x01 ∷ 0x00 ∷ 0x40 ∷ 0x31 ∷ 0x00 ∷
-    0x08 ∷ 0x01 ∷ 0x01 ∷ 0x03 ∷ 0x00 ∷ 0x44 ∷ 0x00 ∷ 0x00 ∷
-    -- their bodies
-    0xA0 ∷ 0xA1 ∷ 0xA2 ∷ 0xA3 ∷ 0x03 ∷ 0xE8 ∷ 0x00 ∷ 0x00 ∷ 0x00 ∷ []
 
 -- a case: how the session and the request's mode and group address stand, the request, the answer and the outcome
 pub record Case : Type 0 where

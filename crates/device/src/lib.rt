@@ -7,6 +7,7 @@ pub use session::button;
 pub use session::connect;
 pub use session::disconnect;
 pub use session::fresh;
+pub use session::session_of;
 ghost use Rattle.device.specs.Events.{Called};
 use judge::Request;
 use judge::Session;

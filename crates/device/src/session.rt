@@ -12,7 +12,7 @@ ghost use Rattle.sheet.specs.Head as head;
 ghost use Rattle.judge.specs.Session.{weakest};
 ghost use Rattle.judge.specs.declared.Turn.the-variants.{Level};
 ghost use Rattle.device.specs.Carry.{turnOf, closes};
-ghost use Rattle.device.specs.Sessions.{freshOf, withSession, sessionFor, turnedOf};
+ghost use Rattle.device.specs.Sessions.{freshOf, sessionOf, withSession, sessionFor, turnedOf};
 ghost use Rattle.device.specs.Events.{namedOutcome, connectOf, disconnectOf, named, bit, Pressed};
 
 // The level with the fewest rights.
@@ -35,17 +35,28 @@ pub fn fresh() -> Sessions
     }
 }
 
+// The session of a connection; any other number has a closed one.
+pub fn session_of(q: Sessions, connection: u8) -> Session
+    ensures { λ r. ⌜ r ≡ sessionOf q connection ⌝ }
+{
+    if connection == 0 {
+        return q.first;
+    }
+    if connection == 1 {
+        return q.second;
+    }
+    Session {
+        opened: false,
+        level: WEAKEST,
+    }
+}
+
 // The session that a request meets.
 pub fn session_for(q: Sessions, mode: u8, connection: u8) -> Session
     ensures { λ r. ⌜ r ≡ sessionFor q mode connection ⌝ }
 {
     if mode == CONNECTED {
-        if connection == 0 {
-            return q.first;
-        }
-        if connection == 1 {
-            return q.second;
-        }
+        return session_of(q, connection);
     }
     Session {
         opened: false,

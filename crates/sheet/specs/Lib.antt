@@ -17,3 +17,4 @@ pub mod Places
 pub mod Frame
 pub mod But
 pub mod Stores
+pub mod Sample

@@ -1,5 +1,6 @@
 -- `device::session::session_for` meets its contract.
 -- Assumes nothing.
+use borrow.Author.Needs.{needs}
 use native.Mathlib.Omega.{arith}
 use Rattle.octets.proofs.Tests.{tests}
 use Rattle.device.proofs.session.session_for.Statement.{statement}
@@ -9,7 +10,6 @@ pub session-for-spec : {M : Type 1} → statement M
 session-for-spec =
     tie.close
     (tie.spec
-    (λ c. search (tests, arith))
-    (λ c. search (tests, arith))
+    (λ c κs. search needs)
     (λ c. search (tests, arith))
     (λ c. search (tests, arith)))
