@@ -1,0 +1,113 @@
+-- Version i of a good store: those before it, its own, those after it, and where row and body stand.
+-- Assumes nothing.
+use Prim.Native.Nat.{ℕ, suc, _+_, _-_, _*_, _≤_, _<_}
+use mathlib.Core.Path.{_≡_, sym, ap, ap₂, _∙_}
+use mathlib.Core.List.{List, _∷_, _++_}
+use native.Mathlib.Omega.{arith}
+use lib.ListN.{length, drop, length-append}
+use Rattle.octets.specs.Octets.{Octets}
+use Rattle.sheet.specs.Layout.{_of_}
+use Rattle.versions.specs.Head as head
+use Rattle.versions.specs.Row as row
+use Rattle.versions.specs.Store.{Version, GoodStore, tableEnd, inRow, bodiesOf, laid, versionAt, versionsFrom, kept}
+use Rattle.versions.specs.Ends.{endFrom, endOf}
+use Rattle.versions.specs.Walk.{Chosen, Stands}
+use Rattle.versions.proofs.Laid.{laid-long, bodies-join}
+use Rattle.versions.proofs.Backs.{good-store, length-versions}
+use Rattle.versions.proofs.Keeping.{end-long}
+use Rattle.versions.proofs.Finds.{split}
+use Rattle.versions.proofs.Apart.{offset-is, long-is}
+
+module _ {s : List ℕ} {n i : ℕ} (b : Octets s) (c : Chosen s n i) where
+  abbrev last : ℕ
+  last = head.last of s
+
+  abbrev free : List ℕ
+  free = drop (endOf s) s
+
+  abbrev m : ℕ
+  m = n - (i + 1)
+
+  abbrev before : List Version
+  before = versionsFrom s 8 i
+
+  abbrev own : Version
+  own = versionAt s (8 + 8 * i)
+
+  abbrev after : List Version
+  after = versionsFrom s (8 + 8 * suc i) m
+
+  g : GoodStore s last (kept s) free
+  g = good-store s b (c .good)
+
+  whole-count : n ≡ i + suc m
+  whole-count = omega (arith, c .below)
+
+  which : kept s ≡ before ++ (own ∷ after)
+  unfolding kept
+  which = ap (versionsFrom s 8) (sym (c .all) ∙ whole-count) ∙ split s i m 8
+
+  whole : s ≡ laid last (before ++ (own ∷ after)) ++ free
+  whole = g .is ∙ ap (λ (vs : List Version). laid last vs ++ free) which
+
+  lb : length before ≡ i
+  lb = length-versions s 8 i
+
+  la : length after ≡ m
+  la = length-versions s (8 + 8 * suc i) m
+
+  abbrev n′ : ℕ
+  n′ = length before + suc (length after)
+
+  same-n : n ≡ n′
+  same-n = omega (arith, lb, la, whole-count)
+
+  bodies : length (bodiesOf (before ++ (own ∷ after))) ≡ length (bodiesOf before) + (length (own .body) + length (bodiesOf after))
+  unfolding bodiesOf
+  bodies =
+      ap length (bodies-join before (own ∷ after))
+      ∙ length-append (bodiesOf before) (own .body ++ bodiesOf after)
+      ∙ ap (λ (x : ℕ). length (bodiesOf before) + x) (length-append (own .body) (bodiesOf after))
+
+  all-count : length (before ++ (own ∷ after)) ≡ n′
+  all-count = length-append before (own ∷ after)
+
+  old-long : length (laid last (before ++ (own ∷ after))) ≡ tableEnd n′ + (length (bodiesOf before) + (length (own .body) + length (bodiesOf after)))
+  old-long = laid-long last (before ++ (own ∷ after)) ∙ omega (arith, bodies, all-count)
+
+  short : tableEnd n′ + (length (bodiesOf before) + (length (own .body) + length (bodiesOf after))) ≤ 32768
+  short = omega (arith, g .short, old-long, ap length whole, length-append (laid last (before ++ (own ∷ after))) free)
+
+  abbrev a : ℕ
+  a = tableEnd n′ + length (bodiesOf before)
+
+  abbrev l : ℕ
+  l = length (own .body)
+
+  same-p : tableEnd i ≡ tableEnd (length before)
+  same-p = omega (arith, lb)
+
+  same-a : inRow s (tableEnd i) row.offset ≡ a
+  same-a =
+      ap₂ (λ (t : List ℕ) (p : ℕ). inRow t p row.offset) whole same-p
+      ∙ offset-is last before own after free (omega (arith, short))
+
+  same-l : inRow s (tableEnd i) row.long ≡ l
+  same-l =
+      ap₂ (λ (t : List ℕ) (p : ℕ). inRow t p row.long) whole same-p
+      ∙ long-is last before own after free (omega (arith, short))
+
+  same-end : endFrom s 8 (tableEnd n) n ≡ a + l + length (bodiesOf after)
+  same-end =
+      ap (λ (k : ℕ). endFrom s 8 (tableEnd k) k) (c .all)
+      ∙ end-long s b (c .good)
+      ∙ ap (λ (vs : List Version). length (laid last vs)) which
+      ∙ omega (arith, old-long)
+
+  pub body-stands : Stands s (tableEnd i) (inRow s (tableEnd i) row.offset) (inRow s (tableEnd i) row.long) (endFrom s 8 (tableEnd n) n)
+  body-stands =
+      record {
+        behind = omega (arith, same-a, same-n, c .below);
+        within = omega (arith, same-a, same-l, same-end);
+        room = omega (arith, same-end, ap length whole, length-append (laid last (before ++ (own ∷ after))) free, old-long);
+      }

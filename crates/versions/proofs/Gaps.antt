@@ -1,0 +1,28 @@
+-- Runs replaced, and gaps opened, in a buffer that is taken apart: p, what is replaced, and what follows.
+-- Assumes nothing.
+use Prim.Native.Nat.{ℕ, _+_, _-_, _≤_, _<_}
+use mathlib.Core.Path.{_≡_, refl, sym, ap, _∙_}
+use mathlib.Core.List.{List, [], _∷_, _++_, append-assoc}
+use native.Mathlib.Omega.{arith}
+use lib.ListN.{length, take, drop, length-append, length-take, length-drop, take-append-drop}
+use lib.Seq.{take-append-seam, drop-append-seam, take-append-add, drop-append-add, drop-at, take-at, take-append-le, drop-append-le}
+use Rattle.octets.specs.Splice.{splice}
+use Rattle.octets.specs.Moved.{moved}
+
+-- a run that stands behind p replaced by one as long
+pub splice-mid : (p b d q : List ℕ) (o : ℕ) → o ≡ length p → length d ≡ length b → splice (p ++ (b ++ q)) o d ≡ p ++ (d ++ q)
+unfolding splice
+splice-mid p b d q o e l =
+    rw (e, take-append-seam p (b ++ q), drop-append-add p (b ++ q) (length d), drop-at b q (length d) (sym l))
+    (append-assoc p d q)
+
+-- A GAP OPENED: m moves up by k, over the first k bytes of what follows
+pub open-gap :
+    (p m q : List ℕ) (from to n k : ℕ) → from ≡ length p → to ≡ length p + k → n ≡ length m → k ≤ length q →
+    moved (p ++ (m ++ q)) from to n ≡ p ++ (take k (m ++ q) ++ (m ++ drop k q))
+unfolding moved splice
+open-gap p m q from to n k ef et en h =
+    let run : take n (drop from (p ++ (m ++ q))) ≡ m = rw (ef, drop-append-seam p (m ++ q), en) (take-append-seam m q) in
+    let o : to + length m ≡ length p + (length m + k) = omega arith in
+    rw (run, o, et, take-append-add p (m ++ q) k, drop-append-add p (m ++ q) (length m + k), drop-append-add m q k)
+    (append-assoc (p ++ take k (m ++ q)) m (drop k q) ∙ append-assoc p (take k (m ++ q)) (m ++ drop k q))

@@ -1,0 +1,119 @@
+-- WHAT A VERSION HOLDS OF A SHEET: it can be given back to that sheet, and nothing else of the sheet is in it.
+-- Assumes nothing.
+use Prim.Native.Nat.{ℕ, suc, _+_, _-_, _*_, _≤_, _<_}
+use mathlib.Core.Path.{_≡_, refl, sym, ap, ap₂, subst, _∙_}
+use mathlib.Core.List.{List, [], _∷_, _++_}
+use native.Mathlib.Omega.{arith}
+use lib.ListN.{length, getD, take, drop, length-append, length-drop, List·getD-append}
+use lib.Seq.{getD-take, getD-drop, length-take-le, getD-append-add, ext-getD}
+use Rattle.octets.specs.Bytes.{numAt, bytesOf}
+use Rattle.octets.proofs.Numbers.{length-bytes, num-back, num-same}
+use Rattle.sheet.specs.Kind.{regions, properties, groups, users}
+use Rattle.sheet.specs.Layout.{_of_}
+use Rattle.sheet.specs.Property as property
+use Rattle.sheet.specs.Entries.{base, place, entry, startOf}
+use Rattle.sheet.specs.Frame.{Fixed}
+use Rattle.sheet.specs.Rules.{Accepted}
+use Rattle.sheet.specs.Stores.{countAt}
+use Rattle.sheet.proofs.Good.{Good, good}
+use Rattle.sheet.proofs.BodyPlaces.{start-first, start-up}
+use Rattle.sheet.proofs.Sames.{count-same, start-same}
+use Rattle.sheet.proofs.Sparing.{count-stood}
+use Rattle.versions.specs.Settings.{front, many, entriesLong, bodiesLong, settingsOf, inVersion, SameEntries, LowCounts, SameProperties}
+
+module _ (s : List ℕ) (ok : Accepted s) where
+  g : Good s
+  g = good s ok
+
+  abbrev first : List ℕ
+  first = bytesOf front (many s)
+
+  abbrev table : List ℕ
+  table = take (entriesLong s) (drop (base s properties) s)
+
+  abbrev rest : List ℕ
+  rest = take (bodiesLong s) (drop (startOf s properties) s)
+
+  up₁ : startOf s properties ≤ startOf s groups
+  up₁ = start-up g properties (omega arith)
+
+  far : startOf s groups ≤ length s
+  far = omega (arith, start-up g groups (omega arith), start-up g users (omega arith), g .last)
+
+  near : base s properties + entriesLong s ≤ startOf s properties
+  near = omega (arith, start-first s, start-up g regions (omega arith))
+
+  table-long : length table ≡ entriesLong s
+  table-long = length-take-le (entriesLong s) (drop (base s properties) s) (simp length-drop (omega (arith, near, up₁, far)))
+
+  rest-long : length rest ≡ bodiesLong s
+  rest-long = length-take-le (bodiesLong s) (drop (startOf s properties) s) (simp length-drop (omega (arith, up₁, far)))
+
+  -- a byte of the entries, in the version
+  byte : (j : ℕ) → j < entriesLong s → getD (settingsOf s) (front + j) 0 ≡ getD s (base s properties + j) 0
+  unfolding settingsOf
+  byte j h =
+      ap (λ (k : ℕ). getD (first ++ (table ++ rest)) (k + j) 0) (sym (length-bytes front (many s)))
+      ∙ getD-append-add first (table ++ rest) j 0
+      ∙ List·getD-append table rest 0 j (rw table-long h)
+      ∙ getD-take (entriesLong s) (drop (base s properties) s) j 0 h
+      ∙ getD-drop (base s properties) s j 0
+
+  own-long : length (settingsOf s) ≡ front + entriesLong s + bodiesLong s
+  unfolding settingsOf
+  own-long = length-append first (table ++ rest) ∙ omega (arith, length-bytes front (many s), length-append table rest, table-long, rest-long)
+
+  own-number : numAt (settingsOf s) 0 front ≡ many s
+  unfolding settingsOf
+  own-number = num-back front (many s) [] (table ++ rest) (omega (arith, g .framed))
+
+  pub own-entries : SameEntries s (settingsOf s)
+  own-entries =
+      record {
+        long = own-long;
+        number = own-number;
+        entries = λ i j hi hj f.
+            let u : inVersion i j ≡ front + (property.size * i + j) = omega arith in
+            let v : base s properties + (property.size * i + j) ≡ place s properties i + j = omega arith in
+            ap (λ (o : ℕ). getD (settingsOf s) o 0) u ∙ byte (property.size * i + j) (omega arith) ∙ ap (λ (o : ℕ). getD s o 0) v;
+      }
+
+  pub own-counts : LowCounts s (settingsOf s)
+  own-counts =
+      record {
+        low = λ i hi.
+            let e : numAt (settingsOf s) (inVersion i (property.count .at)) 2 ≡ numAt s (countAt s i) 2 =
+            num-same (settingsOf s) s (inVersion i (property.count .at)) (countAt s i) 2
+            (λ j l.
+            let u : inVersion i (property.count .at) + j ≡ front + (property.size * i + (property.count .at + j)) = omega arith in
+            let v : base s properties + (property.size * i + (property.count .at + j)) ≡ countAt s i + j = omega arith in
+            ap (λ (o : ℕ). getD (settingsOf s) o 0) u ∙ byte (property.size * i + (property.count .at + j)) (omega arith) ∙ ap (λ (o : ℕ). getD s o 0) v)
+            in
+            rw e (count-stood g i hi);
+      }
+
+-- the same bytes from the same place on
+same-run :
+    (s t : List ℕ) (o n : ℕ) → length t ≡ length s → o + n ≤ length s → ((j : ℕ) → j < n → getD t (o + j) 0 ≡ getD s (o + j) 0) →
+    take n (drop o t) ≡ take n (drop o s)
+same-run s t o n e h f =
+    let l : length (take n (drop o s)) ≡ n = length-take-le n (drop o s) (simp length-drop (omega arith)) in
+    let m : length (take n (drop o t)) ≡ n = length-take-le n (drop o t) (simp length-drop (omega arith)) in
+    ext-getD 0 _ _ (m ∙ sym l)
+    (λ j k.
+    let i : j < n = omega (arith, m) in
+    getD-take n (drop o t) j 0 i ∙ getD-drop o t j 0 ∙ f j i ∙ sym (getD-take n (drop o s) j 0 i ∙ getD-drop o s j 0))
+
+-- SETTINGS ONLY: sheets that have the same properties are saved as the same version, whatever their keys, memory, addresses and group values are
+pub settings-only : (s t : List ℕ) → Accepted s → SameProperties s t → settingsOf t ≡ settingsOf s
+unfolding settingsOf
+settings-only s t ok h =
+    let m : many t ≡ many s = count-same (h .agree) properties in
+    let long : entriesLong t ≡ entriesLong s = omega (arith, m) in
+    let at : base t properties ≡ base s properties = omega (arith, count-same (h .agree) regions) in
+    let from : startOf t properties ≡ startOf s properties = start-same (h .agree) properties (omega arith) in
+    let b : bodiesLong t ≡ bodiesLong s = ap₂ (λ (x y : ℕ). x - y) (start-same (h .agree) groups (omega arith)) from in
+    ap₂ _++_ (ap (bytesOf front) m)
+    (ap₂ _++_
+    (ap₂ (λ (x y : ℕ). take x (drop y t)) long at ∙ same-run s t (base s properties) (entriesLong s) (h .agree .long) (omega (arith, near s ok, up₁ s ok, far s ok)) (h .entries))
+    (ap₂ (λ (x y : ℕ). take x (drop y t)) b from ∙ same-run s t (startOf s properties) (bodiesLong s) (h .agree .long) (omega (arith, up₁ s ok, far s ok)) (h .bodies)))

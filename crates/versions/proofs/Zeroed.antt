@@ -1,0 +1,28 @@
+-- A ZEROED BUFFER WITH ROOM FOR THE EMPTY TABLE IS A GOOD STORE THAT KEEPS NOTHING.
+-- Assumes nothing.
+use Prim.Native.Nat.{ℕ, _+_, _-_, _≤_}
+use mathlib.Core.Path.{_≡_, refl, sym, ap, _∙_}
+use mathlib.Core.List.{List, [], _++_}
+use native.Mathlib.Omega.{arith}
+use lib.ListN.{length, replicate, replicate-append-replicate, length-replicate}
+use Rattle.octets.specs.Bytes.{bytesOf}
+use Rattle.versions.specs.Store.{none, GoodStore, headOf, tableOf, bodiesOf, laid, kept}
+use Rattle.versions.specs.Rules.{Passes}
+use Rattle.versions.proofs.Forths.{good-passes, good-kept}
+
+zeroed : (n : ℕ) → 8 ≤ n → n ≤ 32768 → GoodStore (replicate n 0) 0 [] (replicate (n - 8) 0)
+unfolding laid headOf tableOf bodiesOf bytesOf
+zeroed n h k =
+    let e : 8 + (n - 8) ≡ n = omega arith in
+    let z : List ℕ = replicate n 0 in
+    let l : length z ≡ n = length-replicate n 0 in
+    record {
+      is = sym (replicate-append-replicate 8 (n - 8) 0 ∙ ap (λ (m : ℕ). replicate m 0) e);
+      few = omega arith;
+      rising = none {floor = 1} (omega arith);
+      given = omega arith;
+      short = omega arith;
+    }
+
+pub zeroed-good : (n : ℕ) → 8 ≤ n → n ≤ 32768 → Passes (replicate n 0) × (kept (replicate n 0) ≡ [])
+zeroed-good n h k = (good-passes (zeroed n h k), good-kept (zeroed n h k))

@@ -1,0 +1,27 @@
+-- `versions::table::version` meets its contract.
+-- Assumes nothing.
+use borrow.Author.Needs.{needs}
+use Rattle.octets.specs.Octets.{Octets}
+use Rattle.versions.proofs.Restorer.{table-there, count-there, no-version, offset-there, long-there, some-version}
+use Rattle.versions.proofs.table.version.Statement.{statement}
+use Rattle.versions.proofs.table.version.Tie as tie
+
+returns-2 : tie.Need-returns-2
+returns-2 c =
+    let b : Octets (c .before .before .before .before .before .before .args .store .now) = λ i. c .before .before .before .before .before .shared-slice-known .given i .fits in
+    search some-version
+
+pub version-spec : {M : Type 1} → statement M
+version-spec =
+    tie.close
+    (tie.spec
+    (λ c κs. search count-there)
+    (λ c κs. search table-there)
+    (λ c. search no-version)
+    (λ c. search needs)
+    (λ c. search needs)
+    (λ c. search needs)
+    (λ c κs. search offset-there)
+    (λ c. search needs)
+    (λ c κs. search long-there)
+    returns-2)

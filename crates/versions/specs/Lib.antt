@@ -1,0 +1,14 @@
+pub mod Head
+pub mod Row
+pub mod Store
+pub mod Rules
+pub mod Linked
+pub mod Ends
+pub mod Settings
+pub mod Saving
+pub mod Restoring
+pub mod Steps
+pub mod Walk
+pub mod Due
+pub mod Sequence
+pub mod Example

@@ -1,0 +1,13 @@
+// Versions of the settings, kept in a lent buffer.
+mod layout;
+mod link;
+mod restoring;
+mod rules;
+mod saving;
+mod settings;
+mod table;
+
+pub use restoring::restore;
+pub use rules::check;
+pub use saving::Saved;
+pub use saving::save;
