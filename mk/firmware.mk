@@ -14,7 +14,7 @@ build/firmware/%/libkelindap_device.a: build/module/host.bc firmware/shim.c firm
 FIRMWARE_EVENTS ?= 100000
 test-firmware: firmware build/bridge
 	cargo build --release --quiet -p compare
-	for p in $(PROCESSORS); do tests/c/symbols.sh include/kelindap.h build/firmware/$$p/libkelindap_device.a; done
+	for p in $(PROCESSORS); do tests/c/symbols.sh include/kelindap.h include/kelindap_store.h build/firmware/$$p/libkelindap_device.a; done
 	tests/firmware/attributes.sh $(filter build/firmware/cortex-%,$(FIRMWARE))
 	EVENTS=$(FIRMWARE_EVENTS) SEED=$(SEED) tests/firmware/run.sh $(COMPARE) build/bridge
 

@@ -12,7 +12,7 @@ SANITIZE ?= $(SANITIZERS)
 OWN_TESTS :=
 else
 SANITIZE ?= -fsanitize=undefined -fsanitize-undefined-trap-on-error
-OWN_TESTS := build/host_test_own
+OWN_TESTS := build/host_test_own build/store_test_own
 endif
 # leaks are no matter here: the libraries have no heap, and looking for them takes long
 WATCHED := ASAN_OPTIONS=detect_leaks=0
@@ -32,10 +32,10 @@ test-unit: build/unit build/unit_watched build/sheet
 	tests/unit/run.sh build/unit build/sheet
 	$(WATCHED) tests/unit/run.sh build/unit_watched build/sheet
 
-test-c: build/layout build/stack build/host_test build/tool_test build/point_test $(OWN_TESTS)
+test-c: build/layout build/stack build/host_test build/store_test build/tool_test build/point_test $(OWN_TESTS)
 	$(WATCHED) build/layout
 	build/stack
-	tests/c/symbols.sh include/kelindap.h $(HOST_A)
+	tests/c/symbols.sh include/kelindap.h include/kelindap_store.h $(HOST_A)
 	tests/c/symbols.sh include/kelindap_pdu.h include/kelindap_frame.h $(TOOL_A)
 	CC86="$(CC86)" tests/c/readme.sh $(HOST_A) $(TOOL_A)
 	tests/c/exchanged.sh
@@ -44,6 +44,7 @@ test-c: build/layout build/stack build/host_test build/tool_test build/point_tes
 	$(WATCHED) build/tool_test
 	$(WATCHED) build/point_test
 	$(WATCHED) build/host_test
+	$(WATCHED) build/store_test
 	for t in $(OWN_TESTS); do $(WATCHED) $$t; done
 
 # gcc judges every program, also where another compiler makes it
@@ -56,7 +57,7 @@ build/unit_watched: hosts/unit.c hosts/unit_frames.h $(LINKED) | need-gcc
 	mkdir -p build
 	$(CC86) -o $@ $(STRICT) -g $(SANITIZE) $< $(HOST_A) $(TOOL_A)
 
-build/layout build/host_test build/tool_test build/point_test: build/%: tests/c/%.c tests/c/lent.h build/marked.inc $(LINKED) | need-gcc
+build/layout build/host_test build/store_test build/tool_test build/point_test: build/%: tests/c/%.c tests/c/lent.h build/marked.inc $(LINKED) | need-gcc
 	mkdir -p build
 	gcc $(STRICT) -Ibuild -c $< -o /dev/null
 	$(CC86) -o $@ $(STRICT) -Ibuild -g $(SANITIZE) $< $(HOST_A) $(TOOL_A)
@@ -80,7 +81,7 @@ build/marked.inc: tests/vectors/device.tsv mk/hosts.mk
 	    printf "{ %d, %d, \"%s\", \"%s\", %d, %d, %d, \"%s\" },\n", mode, level, $$3, $$4 == "-" ? "" : $$4, $$5, after, at, to \
 	}' $< > $@
 
-build/host_test_own: tests/c/host_test.c tests/c/lent.h build/marked.inc $(wildcard hosts/*.inc) include/kelindap.h build/own/libhost.a | need-gcc
+build/host_test_own build/store_test_own: build/%_own: tests/c/%.c tests/c/lent.h build/marked.inc $(wildcard hosts/*.inc) $(wildcard include/*.h) build/own/libhost.a | need-gcc
 	gcc -o $@ $(STRICT) -Ibuild -g $(SANITIZERS) -DDEVICE_ALONE $< build/own/libhost.a
 
 need-gcc:

@@ -5,6 +5,7 @@
 #include "kelindap.h"
 #include "kelindap_frame.h"
 #include "kelindap_pdu.h"
+#include "kelindap_store.h"
 #include "kelindap_unit.h"
 
 #include <stdio.h>
@@ -32,6 +33,21 @@
     SIZE(kelindap_part, 16) \
     FIELD(kelindap_part, offset, 8, 0) \
     FIELD(kelindap_part, length, 8, 8) \
+    SIZE(kelindap_saved, 4) \
+    FIELD(kelindap_saved, outcome, 1, 0) \
+    FIELD(kelindap_saved, number, 2, 2) \
+    NUMBER(KELINDAP_STORE_LEAST, 8) \
+    NUMBER(KELINDAP_STORE_MOST, 32768) \
+    NUMBER(KELINDAP_STORE_VERSIONS, 8) \
+    NUMBER(KELINDAP_STORE_LAST, 65535) \
+    NUMBER(KELINDAP_STORE_BAD, 30) \
+    NUMBER(KELINDAP_STORE_NO_NUMBER, 31) \
+    NUMBER(KELINDAP_STORE_NO_PLACE, 32) \
+    NUMBER(KELINDAP_STORE_NO_ROOM, 33) \
+    NUMBER(KELINDAP_STORE_NOT_KEPT, 34) \
+    NUMBER(KELINDAP_STORE_NOT_AT_ZERO, 35) \
+    NUMBER(KELINDAP_STORE_OTHER, 36) \
+    NUMBER(KELINDAP_STORE_HIGH_COUNT, 37) \
     SIZE(kelindap_written, 2) \
     FIELD(kelindap_written, outcome, 1, 0) \
     FIELD(kelindap_written, count, 1, 1) \

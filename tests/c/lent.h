@@ -76,9 +76,9 @@ static uint32_t any(uint32_t below)
 
 /* ---- lent buffers ---- */
 
-enum { GUARD = 64, WALLED = 8 * 4096, MOST_ROOM = 32 };
+enum { GUARD = 64, WALLED = 9 * 4096, MOST_ROOM = 32 };
 enum place { EXACT, GUARDED, BEFORE_WALL, AFTER_WALL, PLACES };
-enum role { SESSIONS, APDU, SHEET, ANSWER, ROLES };
+enum role { SESSIONS, APDU, SHEET, ANSWER, STORE, ROLES };
 
 typedef struct run {
     const uint8_t *bytes;

@@ -5,3 +5,4 @@ pub mod Whose
 pub mod InPlace
 pub mod Replaced
 pub mod Replies
+pub mod Restored

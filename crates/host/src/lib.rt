@@ -1,4 +1,7 @@
-// The C interface of the device: the calls of include/kelindap.h, those on the sessions in place.
+// The C interface of the device: the calls of include/kelindap.h, those on the sessions in place; those of
+// include/kelindap_store.h stand in `store`.
+mod store;
+
 ghost use mathlib.Core.Path.{_≡_};
 ghost use Rattle.sheet.specs.Rules.{ruleOf};
 ghost use Rattle.sheet.specs.Lookup.{StandsIn, regionOf, regionFrom, userRegionOf, userRegionFrom, propertyOf, propertyFrom, groupOf, groupFrom};

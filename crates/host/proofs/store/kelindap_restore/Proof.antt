@@ -1,0 +1,10 @@
+-- `host::store::kelindap_restore` meets its contract.
+-- Assumes nothing.
+use borrow.Author.Needs.{needs}
+use Rattle.host.proofs.Restored.{restored-for}
+use Rattle.host.proofs.store.kelindap_restore.Statement.{statement}
+use Rattle.host.proofs.store.kelindap_restore.Tie as tie
+
+pub kelindap-restore-spec : {M : Type 1} → statement M
+kelindap-restore-spec =
+    tie.close (tie.spec (λ c κs. search needs) (λ c κs. search needs) (λ c. search needs) (λ c. search restored-for))

@@ -1,0 +1,39 @@
+// The C interface of the store of versions: the calls of include/kelindap_store.h.
+ghost use mathlib.Core.Path.{_≡_};
+ghost use Rattle.device.specs.Sessions.{sessionOf};
+ghost use Rattle.versions.specs.Rules.{storeRule};
+ghost use Rattle.versions.specs.Saving.{SavedAs};
+ghost use Rattle.versions.specs.Restoring.{RestoredAs};
+use device::Sessions;
+use versions::Saved;
+
+// 0 for a good store, else 30.
+#[no_mangle]
+pub extern "C" fn kelindap_store_check(store: &[u8]) -> u8
+    ensures { λ r. ⌜ r ≡ storeRule (now (store .entry)) ⌝ }
+{
+    versions::check(store)
+}
+
+// The sheet's properties saved under the next number.
+#[no_mangle]
+pub extern "C" fn kelindap_save(sheet: &[u8], store: &mut [u8]) -> Saved
+    ensures { λ r. ⌜ SavedAs (now (sheet .entry)) (now (store .entry)) r (now (store .exit)) ⌝ }
+{
+    versions::save(sheet, store)
+}
+
+// The version with a number restored, on behalf of a connection.
+#[no_mangle]
+pub extern "C" fn kelindap_restore(
+    sessions: Sessions,
+    connection: u8,
+    sheet: &mut [u8],
+    store: &[u8],
+    number: usize,
+) -> u8
+    ensures { λ r. ⌜ RestoredAs (sessionOf sessions connection) (now (sheet .entry)) (now (store .entry)) number r (now (sheet .exit)) ⌝ }
+{
+    let session = device::session_of(sessions, connection);
+    versions::restore(session, sheet, store, number)
+}
