@@ -49,7 +49,7 @@ const PARTS: &[Part] = &[
             "button-only",
         ],
     },
-    Part { title: "Demand 3", says: "what any history leaves", statements: &["keeps"] },
+    Part { title: "Demand 3", says: "what any history leaves", statements: &["history/keeps"] },
     Part {
         title: "`keyless`",
         says: "without the key nobody changes a protected byte",
