@@ -10,8 +10,9 @@ use lib.ListN.{length, getD, take, drop, length-take, length-drop, take-append-d
 use lib.Seq.{drop-drop, getD-drop, take-all}
 use borrow.Author.Tests.{le-leb}
 use Rattle.octets.specs.Bytes.{numAt}
+use Rattle.octets.specs.Octets.{Octets, ReadFrom}
 use Rattle.octets.proofs.Numbers.{num-one}
-use Rattle.cemi.specs.Layout.{table, infoLength, octet6, stated, _of_, bytesIn, Octets}
+use Rattle.cemi.specs.Layout.{table, infoLength, octet6, stated, _of_, bytesIn}
 use Rattle.cemi.specs.Read.{fieldsIn, frameIn, readFrame}
 use Rattle.cemi.specs.Parts.{infoOf, tpduOf}
 use Rattle.cemi.specs.Write.{numbersOf, under, frontBytes, encoded, writable}
@@ -85,13 +86,13 @@ module _ (b : List ℕ) (small : Octets b) (s : IsStandard b) where
       let t : numAt b (octet6 l) 1 < 256 = rw (num-one b (octet6 l)) (small (octet6 l)) in
       rw (length-info, length-tpdu, y, le-leb l 255 (omega arith), le-leb (fieldsIn b .transport) 63 (omega arith), le-leb 1 (x + 1) (omega arith), le-leb (x + 1) 16 (omega (arith, s .short)), s .stated, accepts (length b) l (fieldsIn b) x s)
 
-module _ (b : List ℕ) (f : Frame) (small : Octets b) (e : readFrame b ≡ Is f) where
+module _ (b : List ℕ) (f : Frame) (call : ReadFrom b (Is f) (readFrame b)) where
   pub write-back : encoded (f .fields) (infoOf f b) (tpduOf f b) ≡ b
   write-back =
-      let r = reads-standard b f e in
-      subst (λ (g : Frame). encoded (g .fields) (infoOf g b) (tpduOf g b) ≡ b) (r .1) (same b small (r .0))
+      let r = reads-standard b f (sym (call .is)) in
+      subst (λ (g : Frame). encoded (g .fields) (infoOf g b) (tpduOf g b) ≡ b) (r .1) (same b (call .bytes) (r .0))
 
   pub writes-again : writable (f .fields) (length (infoOf f b)) (length (tpduOf f b)) ≡ true
   writes-again =
-      let r = reads-standard b f e in
-      subst (λ (g : Frame). writable (g .fields) (length (infoOf g b)) (length (tpduOf g b)) ≡ true) (r .1) (may b small (r .0))
+      let r = reads-standard b f (sym (call .is)) in
+      subst (λ (g : Frame). writable (g .fields) (length (infoOf g b)) (length (tpduOf g b)) ≡ true) (r .1) (may b (call .bytes) (r .0))

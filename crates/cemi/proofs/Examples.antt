@@ -1,15 +1,18 @@
 -- Worked examples: what frames read as and mean, and the bytes of one, by computation. Fields exchanged in table, reader and writer at once would show here.
 -- Assumes nothing.
 use mathlib.Core.Path.{_≡_, refl}
-use mathlib.Core.List.{List, [], _∷_}
+use mathlib.Core.List.{List, [], _∷_, map}
 use Prim.Native.Nat.{ℕ}
 use Rattle.octets.specs.Bytes.{numAt, bytesOf}
 use Rattle.cemi.specs.Layout.{bytesIn}
 use Rattle.cemi.specs.Read.{standardOf, refusalOf, readFrame}
-use Rattle.cemi.specs.Meaning.{toGroup, numbered, toOne, meaningOf, multicast, connected}
+use Rattle.cemi.specs.Meaning.{toGroup, numbered, toOne, control, meaningOf, meaningNumber, multicast, broadcast, connectionless, connected}
 use Rattle.cemi.specs.Write.{under, encoded}
+use Rattle.cemi.specs.Answering.{answering}
+use Rattle.cemi.specs.declared.Fields.{Fields}
 use Rattle.cemi.specs.declared.Frame.{Frame}
-use Rattle.cemi.specs.declared.Got.the-variants.{Is}
+use Rattle.cemi.specs.declared.Got.{Got}
+use Rattle.cemi.specs.declared.Got.the-variants.{Is, Refused}
 use Rattle.cemi.specs.declared.Meaning.the-variants.{Data}
 
 -- L_Data.ind from 1105h to group 0801h: a group value write
@@ -54,3 +57,45 @@ numbered-means = refl
 numbered-written : encoded (numbered-one .fields) (0xAA ∷ 0xBB ∷ []) (0x02 ∷ 0x04 ∷ 0x01 ∷ 0x00 ∷ []) ≡ numbered-bytes
 unfolding numbered-one numbered-bytes encoded bytesIn bytesOf under
 numbered-written = refl
+
+-- BY NUMBER, as the device numbers its modes: multicast, broadcast, connectionless, connected, connect, disconnect, acknowledged twice, all else; and each refusal of reading
+abbrev event : Got → ℕ
+event (Is f) = meaningNumber (meaningOf f)
+event (Refused n) = n
+
+pub events :
+    map (λ (b : List ℕ). event (readFrame b))
+    ((0x29 ∷ 0 ∷ 0xBC ∷ 0xE0 ∷ 0x11 ∷ 0x05 ∷ 0x08 ∷ 0x01 ∷ 1 ∷ 0x00 ∷ 0x81 ∷ []) ∷
+    (0x29 ∷ 0 ∷ 0xB0 ∷ 0xE0 ∷ 0x11 ∷ 0xFF ∷ 0x00 ∷ 0x00 ∷ 1 ∷ 0x01 ∷ 0x00 ∷ []) ∷
+    (0x29 ∷ 0 ∷ 0xB0 ∷ 0x60 ∷ 0x11 ∷ 0xFF ∷ 0x11 ∷ 0x05 ∷ 1 ∷ 0x03 ∷ 0x00 ∷ []) ∷
+    (0x29 ∷ 0 ∷ 0xB0 ∷ 0x60 ∷ 0x11 ∷ 0xFF ∷ 0x11 ∷ 0x05 ∷ 1 ∷ 0x7F ∷ 0x80 ∷ []) ∷
+    (0x29 ∷ 0 ∷ 0xB0 ∷ 0x60 ∷ 0x11 ∷ 0xFF ∷ 0x11 ∷ 0x05 ∷ 0 ∷ 0x80 ∷ []) ∷
+    (0x29 ∷ 0 ∷ 0xB0 ∷ 0x60 ∷ 0x11 ∷ 0xFF ∷ 0x11 ∷ 0x05 ∷ 0 ∷ 0x81 ∷ []) ∷
+    (0x29 ∷ 0 ∷ 0xB0 ∷ 0x60 ∷ 0x11 ∷ 0xFF ∷ 0x11 ∷ 0x05 ∷ 0 ∷ 0xC2 ∷ []) ∷
+    (0x29 ∷ 0 ∷ 0xB0 ∷ 0x60 ∷ 0x11 ∷ 0xFF ∷ 0x11 ∷ 0x05 ∷ 0 ∷ 0xFF ∷ []) ∷
+    (0x29 ∷ 0 ∷ 0xB0 ∷ 0xE0 ∷ 0x11 ∷ 0xFF ∷ 0x08 ∷ 0x01 ∷ 0 ∷ 0x80 ∷ []) ∷
+    (0x29 ∷ 0 ∷ 0xB0 ∷ 0x60 ∷ 0x11 ∷ 0xFF ∷ 0x11 ∷ 0x05 ∷ 1 ∷ 0x80 ∷ 0x00 ∷ []) ∷
+    (0x10 ∷ 0 ∷ []) ∷
+    (0x2E ∷ 0 ∷ 0x3C ∷ 0xE0 ∷ 0x11 ∷ 0x05 ∷ 0x08 ∷ 0x01 ∷ 1 ∷ 0x00 ∷ 0x81 ∷ []) ∷
+    (0x29 ∷ 0 ∷ 0x3C ∷ 0xE0 ∷ 0x11 ∷ 0x05 ∷ 0x08 ∷ 0x01 ∷ 2 ∷ 0x00 ∷ 0x81 ∷ []) ∷
+    (0x29 ∷ 0 ∷ 0xBC ∷ 0xE0 ∷ 0x11 ∷ 0x05 ∷ 0x08 ∷ 0x01 ∷ 2 ∷ 0x00 ∷ 0x81 ∷ []) ∷ [])
+    ≡ 0 ∷ 1 ∷ 2 ∷ 3 ∷ 4 ∷ 5 ∷ 45 ∷ 45 ∷ 44 ∷ 44 ∷ 40 ∷ 41 ∷ 42 ∷ 43 ∷ []
+unfolding readFrame refusalOf standardOf numAt meaningOf toGroup toOne numbered control
+events = refl
+
+-- WHO ANSWERS WHOM, 11FFh having asked and 1105h being the device's own address: a group, repeated and with five hops left; all; one device; one device connected, with the number 18 for the answer
+abbrev asked : ℕ → ℕ → ℕ → ℕ → Fields
+asked c₁ c₂ d t = record { code = 0x29; control1 = c₁; control2 = c₂; source = 0x11FF; destination = d; transport = t }
+
+abbrev answer : ℕ → ℕ → ℕ → ℕ → Fields
+answer c₁ c₂ d t = record { code = 0x11; control1 = c₁; control2 = c₂; source = 0x1105; destination = d; transport = t }
+
+pub answers :
+    answering (asked 0x9C 0xD0 0x0801 0) 0x1105 multicast 7 ∷
+    answering (asked 0xB8 0xE0 0 0) 0x1105 broadcast 7 ∷
+    answering (asked 0xB4 0x60 0x1105 0) 0x1105 connectionless 7 ∷
+    answering (asked 0x90 0x50 0x1105 17) 0x1105 connected 18 ∷
+    []
+    ≡ answer 0xBC 0xE0 0x0801 0 ∷ answer 0xB8 0xE0 0 0 ∷ answer 0xB4 0x60 0x11FF 0 ∷ answer 0xB0 0x60 0x11FF 18 ∷ []
+unfolding answering
+answers = refl

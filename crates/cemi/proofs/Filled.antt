@@ -9,6 +9,7 @@ use native.Mathlib.Omega.{arith}
 use lib.ListN.{length, take, drop}
 use lib.Seq.{take-at}
 use lib.Dec.{ltb}
+use borrow.Author.Tests.{le-ltb}
 use Rattle.octets.proofs.Splices.{splice-front}
 use Rattle.cemi.specs.Layout.{table, Fit}
 use Rattle.cemi.specs.Read.{readFrame}
@@ -43,6 +44,11 @@ writes-one f l k room = go (writeOf f l k room) (went f l k room)
     go w (wrong e) = inr (inr refl)
     go w (narrow e d) = inr (inl refl)
     go w (done e d) = inl refl
+
+-- what may be written is, where there is room
+pub writes-0 : (f : Fields) (l k room : ℕ) → writable f l k ≡ true → countOf l k ≤ room → writeOutcome (writeOf f l k room) ≡ 0
+unfolding writeOf
+writes-0 f l k room w h = simp (w, le-ltb room (countOf l k) h)
 
 -- AT MOST 280 BYTES
 pub count-few : (f : Fields) (l k room : ℕ) → writeCount (writeOf f l k room) ≤ 280
@@ -83,7 +89,7 @@ module _ (f : Fields) (i a o e : List ℕ) (r : Written) (w : Wrote f i a o r e)
       go v (done t u) y b = absurd (y refl)
 
   -- what went in was a frame's
-  went-well : writeOutcome r ≡ 0 → writable f (length i) (length a) ≡ true
+  pub went-well : writeOutcome r ≡ 0 → writable f (length i) (length a) ≡ true
   went-well z = go r given z
     where
       go : (v : Written) → Went f (length i) (length a) (length o) v → writeOutcome v ≡ 0 → writable f (length i) (length a) ≡ true

@@ -1,4 +1,4 @@
--- Promises, named in docs/PROMISES.md: Tables, Standards, Agains, Understood, Backs, Filled, Examples, Dues. All others are laws behind them or behind the contracts.
+-- Promises, named in docs/PROMISES.md: Tables, Standards, Agains, Understood, Backs, Filled, Examples, Dues, Answers. All others are laws behind them or behind the contracts.
 pub mod Judging
 pub mod Taken
 pub mod Cut
@@ -12,3 +12,4 @@ pub mod Backs
 pub mod Filled
 pub mod Examples
 pub mod Dues
+pub mod Answers

@@ -1,17 +1,18 @@
 -- The number of the refusal is 0 exactly of a standard frame; what that says of its length.
 -- Assumes nothing.
 use Prim.Native.Nat.{ℕ, _+_, _%_, _≤_, _<_}
-use mathlib.Core.Path.{_≡_, refl, sym}
+use mathlib.Core.Path.{_≡_, refl, sym, _∙_}
 use mathlib.Core.Bool.{Bool, true, false, cond, _||_}
 use mathlib.Core.Logic.{inl, inr, ⊎-elim}
 use mathlib.Core.List.{List}
 use native.Mathlib.Omega.{arith}
 use lib.ListN.{length}
 use lib.Dec.{ltb, eqb}
-use borrow.Author.Tests.{le-ltb, eq-eqb, ltb-false, eqb-true}
+use borrow.Author.Tests.{le-ltb, eq-eqb, ltb-false, eqb-true, eqb-false}
+use Rattle.octets.specs.Octets.{ReadFrom}
 use Rattle.octets.proofs.Truths.{or-is}
 use Rattle.octets.proofs.Numbers.{num-one}
-use Rattle.cemi.specs.Layout.{request, indication, octet6, infoLength, stated, _of_, Octets}
+use Rattle.cemi.specs.Layout.{request, indication, octet6, infoLength, stated, _of_}
 use Rattle.cemi.specs.Read.{standardOf, refusalOf, gotBy, fieldsIn, frameIn, readFrame}
 use Rattle.cemi.specs.Standard.{Standard}
 use Rattle.cemi.proofs.Judging.{of-request, of-indication}
@@ -91,9 +92,18 @@ module _ (b : List ℕ) where
   unfolding readFrame
   standard-reads s = rw (accepts (length b) (infoLength b) (fieldsIn b) (stated of b) s)
 
+  -- a refusal has a number
+  pub refused-some : (n : ℕ) → readFrame b ≡ Refused n → n ≡ 0 → ⊥
+  unfolding readFrame
+  refused-some n e z = by (eqb number 0) (eqb-false number 0) e
+    where
+      by : (t : Bool) → (t ≡ false → number ≡ 0 → ⊥) → cond t (Is (frameIn b)) (Refused number) ≡ Refused n → ⊥
+      by true h q = let y : _≡_ {A = ℕ} 0 1 = cc in omega arith
+      by false h q = let m : number ≡ n = cc in h refl (m ∙ z)
+
   -- A FRAME THAT READS HAS 10 TO 280 BYTES
-  pub sized : (f : Frame) → Octets b → readFrame b ≡ Is f → (10 ≤ length b) × (length b ≤ 280)
-  sized f small e =
-      let s = reads-standard f e .0 in
-      let l : infoLength b < 256 = rw (num-one b 1) (small 1) in
+  pub sized : (f : Frame) → ReadFrom b (Is f) (readFrame b) → (10 ≤ length b) × (length b ≤ 280)
+  sized f call =
+      let s = reads-standard f (sym (call .is)) .0 in
+      let l : infoLength b < 256 = rw (num-one b 1) (call .bytes 1) in
       omega arith

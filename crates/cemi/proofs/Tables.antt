@@ -7,8 +7,9 @@ use native.Mathlib.Omega.{arith}
 use lib.ListN.{length, take, drop, length-append, length-take, length-drop, take-append-drop}
 use lib.Seq.{ext-getD, getD-take, getD-drop, drop-drop}
 use Rattle.octets.specs.Bytes.{numAt, bytesOf}
+use Rattle.octets.specs.Octets.{Octets}
 use Rattle.octets.proofs.Numbers.{num-back, bytes-back, length-bytes}
-use Rattle.cemi.specs.Layout.{Field, bytesIn, Fit, Octets}
+use Rattle.cemi.specs.Layout.{Field, bytesIn, Fit}
 
 -- each field starts where the one before ends, the first at a place
 abbrev pub Chained : ℕ → List Field → Type 0

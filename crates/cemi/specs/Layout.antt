@@ -2,7 +2,6 @@
 -- Assumes nothing.
 use Prim.Native.Nat.{ℕ, _+_, _^_, _<_}
 use mathlib.Core.List.{List, [], _∷_, _++_}
-use lib.ListN.{getD}
 use Rattle.octets.specs.Bytes.{numAt, bytesOf}
 
 -- the message codes that are read and written: L_Data.req and L_Data.ind
@@ -71,7 +70,3 @@ Fit [] [] = Unit {0}
 Fit [] (n ∷ x) = ⊥
 Fit (f ∷ fs) [] = ⊥
 Fit (f ∷ fs) (n ∷ x) = (n < 256 ^ f .width) × Fit fs x
-
--- a list of bytes, which every lent slice is
-abbrev pub Octets : List ℕ → Type 0
-Octets b = (i : ℕ) → getD b i 0 < 256

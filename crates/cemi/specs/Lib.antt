@@ -5,3 +5,4 @@ pub mod Meaning
 pub mod Means
 pub mod Write
 pub mod Standard
+pub mod Answering

@@ -1,6 +1,7 @@
 // A frame read from bytes.
 ghost use mathlib.Core.Path.{_≡_};
 ghost use Prim.Native.Nat.{_<_};
+ghost use Rattle.octets.specs.Octets.{ReadFrom};
 ghost use Rattle.cemi.specs.Layout.{tableAt, infoLength};
 ghost use Rattle.cemi.specs.Read.{fieldsIn, frameIn, standardOf, refusalOf, readFrame};
 use crate::Fields;
@@ -86,7 +87,7 @@ pub fn refusal(n: usize, info: u8, f: Fields, stated: u8) -> u8
 
 // The frame in the bytes, or the number of the refusal.
 pub fn read(frame: &[u8]) -> Got
-    ensures { λ r. ⌜ r ≡ readFrame (now (frame .entry)) ⌝ }
+    ensures { λ r. ⌜ ReadFrom (now (frame .entry)) r (readFrame (now (frame .entry))) ⌝ }
 {
     let f = frame_in(frame);
     let fields = f.fields;

@@ -17,7 +17,7 @@ use Rattle.pdu.specs.Pdus.{serviceOf, valuesOf}
 use Rattle.pdu.specs.Read.{readPdu}
 use Rattle.pdu.specs.Allows.{Typed}
 use Rattle.pdu.proofs.Allowed.{wide}
-use Rattle.pdu.proofs.Outcomes.{reads-pdu}
+use Rattle.pdu.proofs.Outcomes.{read-carries}
 use Rattle.pdu.specs.declared.Pdu.{Pdu}
 use Rattle.pdu.specs.declared.Pdu.the-variants.{GroupValueRead, GroupValueResponse, GroupValueWrite, IndividualAddressWrite, IndividualAddressRead, SerialNumberRead, SerialNumberWrite, DeviceDescriptorRead, PropertyValueRead, PropertyValueWrite, PropertyDescriptionRead, MemoryRead, MemoryWrite, MemoryBitWrite, AuthorizeRequest, KeyWrite, Restart, IndividualAddressResponse, SerialNumberResponse, DeviceDescriptorResponse, PropertyValueResponse, PropertyDescriptionResponse, MemoryResponse, AuthorizeResponse, KeyResponse, UserMemoryRead, UserMemoryResponse, UserMemoryWrite}
 use Rattle.pdu.specs.declared.Parsed.the-variants.{Is}
@@ -54,7 +54,7 @@ Fits k = AnswerTyped (k .answer)
 
 -- the fields of a request that reads fit theirs
 request-typed : (a : List ℕ) (p : Pdu) → Octets a → readPdu a ≡ Is p → Typed p
-request-typed a p h e = wide (rowOf (serviceOf p) .items) (valuesOf p) (reads-pdu a p h .0 e .allowed .fields)
+request-typed a p h e = wide (rowOf (serviceOf p) .items) (valuesOf p) (read-carries a p h e .allowed .fields)
 
 -- a level that is granted is 0 to 3
 granted : (s : List ℕ) (key : ℕ) → grantOf s key ≤ 3

@@ -7,7 +7,7 @@ use lib.ListN.{length, length-drop}
 use native.Mathlib.Omega.{arith}
 use Rattle.pdu.specs.Read.{readPdu, dataOf}
 use Rattle.pdu.specs.Allows.{Carries}
-use Rattle.pdu.proofs.Outcomes.{reads-pdu}
+use Rattle.pdu.proofs.Outcomes.{read-carries}
 use Rattle.pdu.specs.declared.Parsed.the-variants.{Is}
 use Rattle.pdu.specs.declared.Pdu.{Pdu}
 use Rattle.pdu.specs.declared.Pdu.the-variants.{GroupValueResponse, GroupValueWrite, IndividualAddressWrite, SerialNumberWrite, PropertyValueWrite, MemoryWrite, UserMemoryWrite}
@@ -15,7 +15,7 @@ use Rattle.device.specs.Octets.{Octets}
 
 module _ (a : List ℕ) (small : Octets a) where
   carries : {p : Pdu} → readPdu a ≡ Is p → Carries a p
-  carries {p} e = reads-pdu a p small .0 e
+  carries {p} e = read-carries a p small e
 
   pub property-id : {object id n s : ℕ} → readPdu a ≡ Is (PropertyValueWrite object id n s) → id < 256
   property-id e = carries e .allowed .fields .1 .0

@@ -9,6 +9,7 @@ use native.Mathlib.Omega.{arith}
 use lib.ListN.{getD, length, length-append, List·getD-append, replicate, replicate-append-replicate}
 use lib.Seq.{getD-append-add}
 use Rattle.octets.specs.Bytes.{numAt, bytesOf, IsNum}
+use Rattle.octets.specs.Octets.{Octets}
 
 -- a number of one byte is that byte, one of two is what the pair says
 pub num-one : (s : List ℕ) (at : ℕ) → numAt s at 1 ≡ getD s at 0
@@ -41,7 +42,7 @@ pub num-small : (i x : ℕ) → x < 256 ^ i → i < 6 → x < 256 ^ 5
 num-small i x h k = omega (arith, pow-le-pow-right {n = 256} (omega arith) {i = i} {j = 5} (omega arith))
 
 -- bytes are below 256; then a number of w bytes is below 256 ^ w
-pub num-below : (s : List ℕ) (at w : ℕ) → ((i : ℕ) → getD s i 0 < 256) → numAt s at w < 256 ^ w
+pub num-below : (s : List ℕ) (at w : ℕ) → Octets s → numAt s at w < 256 ^ w
 unfolding numAt
 num-below s at zero h = omega arith
 num-below s at (suc w) h = omega (arith, num-below s at w h, h (at + w), pow-suc 256 w)
@@ -79,7 +80,7 @@ num-back (suc w) x a b h =
 
 -- and its bytes are those that stand there, if each is below 256
 pub bytes-back :
-    (s : List ℕ) (at w : ℕ) → ((i : ℕ) → getD s i 0 < 256) → (j : ℕ) → j < w → getD (bytesOf w (numAt s at w)) j 0 ≡ getD s (at + j) 0
+    (s : List ℕ) (at w : ℕ) → Octets s → (j : ℕ) → j < w → getD (bytesOf w (numAt s at w)) j 0 ≡ getD s (at + j) 0
 unfolding numAt bytesOf
 bytes-back s at zero h j k = absurd (omega arith)
 bytes-back s at (suc w) h j k = go (native.Mathlib.Decide.decLt j w) (λ l. bytes-back s at w h j l)

@@ -1,12 +1,13 @@
 -- An APDU that reads, written again from its fields and its data, is the same but for what the table ignores.
 -- Assumes nothing.
 use Prim.Native.Nat.{ℕ, _+_, _≤_, _<_}
-use mathlib.Core.Path.{_≡_, _∙_}
+use mathlib.Core.Path.{_≡_, refl, _∙_}
 use mathlib.Core.Bool.{true}
 use mathlib.Core.List.{List}
 use native.Mathlib.Omega.{arith}
-use lib.ListN.{length, getD, drop, length-drop}
+use lib.ListN.{length, drop, length-drop}
 use Rattle.octets.specs.Bytes.{numAt}
+use Rattle.octets.specs.Octets.{Octets, ReadFrom}
 use Rattle.pdu.specs.Item.{Row, Value}
 use Rattle.pdu.specs.Table.{rowOf}
 use Rattle.pdu.specs.Pdus.{serviceOf, valuesOf}
@@ -25,15 +26,16 @@ use Rattle.pdu.proofs.Kept.{cleared}
 use Rattle.pdu.specs.declared.Pdu.{Pdu}
 use Rattle.pdu.specs.declared.Parsed.the-variants.{Is}
 
--- WRITE-BACK: what reads may be written again, and is then the same but for what the table ignores
+-- WRITE-BACK: what a call read may be written again, and is then the same but for what the table ignores
 pub write-back :
-    (b : List ℕ) (p : Pdu) → ((i : ℕ) → getD b i 0 < 256) → readPdu b ≡ Is p →
+    (b : List ℕ) (p : Pdu) → ReadFrom b (Is p) (readPdu b) →
     Cleared (rowOf (serviceOf p)) b (encoded p (dataOf p b)) × (writable p (dataOf p b) ≡ true) × Typed p
 unfolding encoded dataOf
-write-back b p small e =
+write-back b p call =
+    let small : Octets b = call .bytes in
     let r : Row = rowOf (serviceOf p) in
     let x : List Value = valuesOf p in
-    let c : Carries b p = reads-pdu b p small .0 e in
+    let c : Carries b p = reads-pdu b (Is p) call p .0 refl in
     let f : Formed r = formed-says r (sound (serviceOf p) .form) in
     let s : Stands (r .items) x 2 b = stands (r .items) x 2 b (shown p ∙ c .fields) in
     let t : Typed p = stands-wide (r .items) x 2 b small s in

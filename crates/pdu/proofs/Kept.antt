@@ -9,6 +9,7 @@ use native.Mathlib.Decide.{decLt}
 use lib.ListN.{length, getD, drop, length-append, length-drop, List·getD-append, getD-replicate}
 use lib.Seq.{getD-drop, getD-append-add}
 use Rattle.octets.specs.Bytes.{numAt, bytesOf}
+use Rattle.octets.specs.Octets.{Octets}
 use Rattle.octets.proofs.Numbers.{length-bytes, bytes-back, bytes-zero, bytes-two, num-two}
 use Rattle.pdu.specs.Item.{Item, low, num, cap, duo, skip, Row, Value, the}
 use Rattle.pdu.specs.Rules.{codeOf, endOf, headOf, codeFor, fourAt, twelveAt, pairOf, ignored, itemBytes, headBytes}
@@ -48,7 +49,7 @@ kept-behind S b at w v l j h k =
 -- a number that stands there, and bytes of no meaning
 kept-number :
     (S : ℕ → Type 0) (b : List ℕ) (at w v : ℕ) (l : List ℕ) →
-    ((i : ℕ) → getD b i 0 < 256) → v ≡ numAt b at w → ((j : ℕ) → S j → at + w ≤ j) → ((j : ℕ) → Kept S b (at + w) l j) → (j : ℕ) → Kept S b at (bytesOf w v ++ l) j
+    Octets b → v ≡ numAt b at w → ((j : ℕ) → S j → at + w ≤ j) → ((j : ℕ) → Kept S b (at + w) l j) → (j : ℕ) → Kept S b at (bytesOf w v ++ l) j
 kept-number S b at w v l small e after k j = go (decLt j w)
   where
     go : Dec (j < w) → Kept S b at (bytesOf w v ++ l) j
@@ -81,7 +82,7 @@ duo-kept b at = omega arith
 
 -- THE LAW OF THE ITEMS: their bytes and what follows are those that stood there, but for those of no meaning
 kept-items :
-    (is : List Item) (x : List Value) (at : ℕ) (b : List ℕ) → ((i : ℕ) → getD b i 0 < 256) → Stands is x at b → (j : ℕ) → Kept (Skipped is at) b at (itemBytes is x ++ drop (endOf at is) b) j
+    (is : List Item) (x : List Value) (at : ℕ) (b : List ℕ) → Octets b → Stands is x at b → (j : ℕ) → Kept (Skipped is at) b at (itemBytes is x ++ drop (endOf at is) b) j
 kept-items [] x at b small s j = (λ h. absurd h, λ h. getD-drop at b j 0)
 kept-items (low f m ∷ is) x at b small s j = kept-items is x at b small (s .1) j
 kept-items (num f w ∷ is) x at b small s j =
@@ -99,12 +100,12 @@ kept-items (skip w ∷ is) x at b small s j =
     (kept-skip (Skipped is (at + w)) b at w (itemBytes is x ++ drop (endOf (at + w) is) b) (kept-items is x (at + w) b small s) j)
 
 -- the two bytes of a code
-code-bytes : (b : List ℕ) → ((i : ℕ) → getD b i 0 < 256) → (codeOf b / 256 % 256 ≡ getD b 0 0 % 4) × (codeOf b % 256 ≡ getD b 1 0)
+code-bytes : (b : List ℕ) → Octets b → (codeOf b / 256 % 256 ≡ getD b 0 0 % 4) × (codeOf b % 256 ≡ getD b 1 0)
 code-bytes b small = omega (arith, num-two b 0, small 0, small 1)
 
 -- THE LAW OF THE ROW: the same of code, items and data
 pub cleared :
-    (r : Row) (x : List Value) (b : List ℕ) → ((i : ℕ) → getD b i 0 < 256) → Stands (r .items) x 2 b → codeFor r x ≡ codeOf b → headOf r ≤ length b →
+    (r : Row) (x : List Value) (b : List ℕ) → Octets b → Stands (r .items) x 2 b → codeFor r x ≡ codeOf b → headOf r ≤ length b →
     Cleared r b (headBytes r x ++ drop (headOf r) b)
 unfolding headBytes
 cleared r x b small s e h =

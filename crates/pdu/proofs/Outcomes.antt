@@ -7,7 +7,7 @@ use mathlib.Core.Bool.{Bool, true, false, cond}
 use mathlib.Core.List.{List}
 use native.Mathlib.Omega.{arith}
 use lib.Dec.{ltb}
-use lib.ListN.{length, getD}
+use lib.ListN.{length}
 use borrow.Author.Tests.{ltb-true, ltb-false, lt-ltb, le-ltb}
 use Rattle.pdu.specs.Item.{Value}
 use Rattle.pdu.specs.Table.{rowOf, has, serviceAt}
@@ -15,6 +15,7 @@ use Rattle.pdu.specs.Pdus.{serviceOf, valuesOf, pduOf}
 use Rattle.pdu.specs.Rules.{codeOf, valuesAt, fits}
 use Rattle.pdu.specs.Read.{builtOf, readFound, readPdu, readOutcome}
 use Rattle.pdu.specs.Allows.{Allows, Carries}
+use Rattle.octets.specs.Octets.{Octets, ReadFrom}
 use Rattle.octets.proofs.Truths.{never, decided}
 use Rattle.pdu.proofs.Allowed.{fits-is, wide}
 use Rattle.pdu.proofs.Sound.{sound, again}
@@ -36,7 +37,7 @@ record Sized (b : List ℕ) : Type 0 where
 abbrev fitsAt : Service → List ℕ → Bool
 fitsAt k b = fits (rowOf k) (valuesAt (rowOf k .items) 2 b) (length b)
 
-fits-at-is : (b : List ℕ) (k : Service) → ((i : ℕ) → getD b i 0 < 256) → length b ≤ 16 → (fitsAt k b ≡ true) ↔ Allows (rowOf k) (valuesAt (rowOf k .items) 2 b) (length b)
+fits-at-is : (b : List ℕ) (k : Service) → Octets b → length b ≤ 16 → (fitsAt k b ≡ true) ↔ Allows (rowOf k) (valuesAt (rowOf k .items) 2 b) (length b)
 fits-at-is b k small m =
     let is = rowOf k .items in
     let x = valuesAt is 2 b in
@@ -110,11 +111,10 @@ reads-8 b = (λ e. from (due b) (sym (told b) ∙ e), λ h. ap readOutcome (give
     from (one s k true h f) e = absurd (omega arith)
     from (one s k false h f) e = absurd (omega arith)
 
--- 10: EXACTLY IF IT IS, A ROW HAS THE CODE, AND THAT ROW DOES NOT ALLOW THE FIELDS IN SO MANY BYTES
-pub reads-10 :
-    (b : List ℕ) → ((i : ℕ) → getD b i 0 < 256) →
+told-10 :
+    (b : List ℕ) → Octets b →
     (readOutcome (readPdu b) ≡ 10) ↔ ((2 ≤ length b) × (length b ≤ 16) × ((k : Service) × (has (rowOf k) (codeOf b) ≡ true) × (Allows (rowOf k) (valuesAt (rowOf k .items) 2 b) (length b) → ⊥)))
-reads-10 b small = (
+told-10 b small = (
   λ e. from (due b) (sym (told b) ∙ e),
   λ h. ap readOutcome (gives b (one (record { least = h .0; most = h .1 }) (h .2 .0) false (h .2 .1) (⊎-elim (λ f. absurd (h .2 .2 (fits-at-is b (h .2 .0) small (h .1) .0 f))) (λ f. f) (decided (fitsAt (h .2 .0) b))))),
 )
@@ -135,9 +135,9 @@ carried b p c =
     let g : builtOf k b ≡ p = ap (pduOf k) (sym (c .fields)) ∙ again p in
     e ∙ ap Is g
 
--- WHICH PDU: THE ONE THAT THE BYTES CARRY
-pub reads-pdu : (b : List ℕ) (p : Pdu) → ((i : ℕ) → getD b i 0 < 256) → (readPdu b ≡ Is p) ↔ Carries b p
-reads-pdu b p small = (λ e. from (due b) (sym (told b) ∙ ap readOutcome e) e, carried b p)
+-- and what reads as a PDU is its bytes
+pub read-carries : (b : List ℕ) (p : Pdu) → Octets b → readPdu b ≡ Is p → Carries b p
+read-carries b p small e = from (due b) (sym (told b) ∙ ap readOutcome e) e
   where
     built : (k : Service) → 2 ≤ length b → has (rowOf k) (codeOf b) ≡ true → Allows (rowOf k) (valuesAt (rowOf k .items) 2 b) (length b) → Carries b (builtOf k b)
     built k l h a =
@@ -160,12 +160,26 @@ reads-pdu b p small = (λ e. from (due b) (sym (told b) ∙ ap readOutcome e) e,
         subst (Carries b) q (built k (s .least) h (fits-at-is b k small (s .most) .0 f))
     from (one s k false h f) n e = absurd (omega arith)
 
--- 0: EXACTLY IF THE BYTES CARRY A PDU
-pub reads-0 : (b : List ℕ) → ((i : ℕ) → getD b i 0 < 256) → (readOutcome (readPdu b) ≡ 0) ↔ ((p : Pdu) × Carries b p)
-reads-0 b small = (λ e. from (due b) (sym (told b) ∙ e), λ h. ap readOutcome (carried b (h .0) (h .1)))
+told-0 : (b : List ℕ) → Octets b → (readOutcome (readPdu b) ≡ 0) ↔ ((p : Pdu) × Carries b p)
+told-0 b small = (λ e. from (due b) (sym (told b) ∙ e), λ h. ap readOutcome (carried b (h .0) (h .1)))
   where
     from : (d : Due b) → readOutcome (given d) ≡ 0 → (p : Pdu) × Carries b p
     from (size h) e = absurd (omega arith)
     from (none s h) e = absurd (omega arith)
-    from (one s k true h f) e = (builtOf k b, reads-pdu b (builtOf k b) small .0 (gives b (one s k true h f)))
+    from (one s k true h f) e = (builtOf k b, read-carries b (builtOf k b) small (gives b (one s k true h f)))
     from (one s k false h f) e = absurd (omega arith)
+
+-- OF A CALL, which gave r for the bytes b
+module _ (b : List ℕ) (r : Parsed) (call : ReadFrom b r (readPdu b)) where
+  -- 10: EXACTLY IF A ROW HAS THE CODE OF 2 TO 16 BYTES, AND THAT ROW DOES NOT ALLOW THE FIELDS IN SO MANY
+  pub reads-10 :
+      (readOutcome r ≡ 10) ↔ ((2 ≤ length b) × (length b ≤ 16) × ((k : Service) × (has (rowOf k) (codeOf b) ≡ true) × (Allows (rowOf k) (valuesAt (rowOf k .items) 2 b) (length b) → ⊥)))
+  reads-10 = rw (call .is) (told-10 b (call .bytes))
+
+  -- WHICH PDU: THE ONE THAT THE BYTES CARRY
+  pub reads-pdu : (p : Pdu) → (r ≡ Is p) ↔ Carries b p
+  reads-pdu p = (λ e. read-carries b p (call .bytes) (sym (call .is) ∙ e), λ c. call .is ∙ carried b p c)
+
+  -- 0: EXACTLY IF THE BYTES CARRY A PDU
+  pub reads-0 : (readOutcome r ≡ 0) ↔ ((p : Pdu) × Carries b p)
+  reads-0 = rw (call .is) (told-0 b (call .bytes))

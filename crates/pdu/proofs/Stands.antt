@@ -4,8 +4,8 @@ use Prim.Native.Nat.{ℕ, _+_, _%_, _<_}
 use mathlib.Core.Path.{_≡_, ap}
 use mathlib.Core.List.{List, [], _∷_}
 use native.Mathlib.Omega.{arith}
-use lib.ListN.{getD}
 use Rattle.octets.specs.Bytes.{numAt}
+use Rattle.octets.specs.Octets.{Octets}
 use Rattle.octets.proofs.Numbers.{num-below}
 use Rattle.pdu.specs.Item.{Name, Item, low, num, cap, duo, skip, Value, _≔_, the}
 use Rattle.pdu.specs.Rules.{lowAt, fourAt, twelveAt, valuesAt}
@@ -54,7 +54,7 @@ stands (duo f g ∷ is) x at b e =
 stands (skip w ∷ is) x at b e = stands is x (at + w) b e
 
 -- THEY KEEP THEIR WIDTHS, the bytes being below 256
-pub stands-wide : (is : List Item) (x : List Value) (at : ℕ) (b : List ℕ) → ((i : ℕ) → getD b i 0 < 256) → Stands is x at b → AllWide is x
+pub stands-wide : (is : List Item) (x : List Value) (at : ℕ) (b : List ℕ) → Octets b → Stands is x at b → AllWide is x
 stands-wide [] x at b h s = tt
 stands-wide (low f m ∷ is) x at b h s = (tt, stands-wide is x at b h (s .1))
 stands-wide (num f w ∷ is) x at b h s = (let e : the x f ≡ numAt b at w = s .0 in omega (arith, num-below b at w h), stands-wide is x (at + w) b h (s .1))

@@ -2,6 +2,7 @@
 ghost use mathlib.Core.Path.{_≡_};
 ghost use Prim.Native.Nat.{_+_, _≤_};
 ghost use lib.ListN.{length};
+ghost use Rattle.octets.specs.Octets.{ReadFrom};
 ghost use Rattle.octets.specs.Splice.{splice};
 ghost use Rattle.pdu.specs.Table.{serviceAt};
 ghost use Rattle.pdu.specs.Rules.{codeOf};
@@ -237,7 +238,7 @@ pub fn read_found(found: Found, apdu: &[u8]) -> Parsed
 
 // The PDU in the bytes, or the number of the refusal.
 pub fn read(apdu: &[u8]) -> Parsed
-    ensures { λ r. ⌜ r ≡ readPdu (now (apdu .entry)) ⌝ }
+    ensures { λ r. ⌜ ReadFrom (now (apdu .entry)) r (readPdu (now (apdu .entry))) ⌝ }
 {
     read_found(service_of(code(apdu)), apdu)
 }

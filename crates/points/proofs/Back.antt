@@ -14,6 +14,7 @@ use lib.Ieee.{Float, binary32, toBits, ofBits, isNan, fits}
 use lib.Ieee.Bits.{ofBits-toBits, toBits-ofBits, toBits-lt, nanBits-is}
 use borrow.Author.Tests.{le-leb, ne-eqb, ltb-true, ltb-false, eqb-true, eqb-false}
 use Rattle.octets.specs.Bytes.{numAt, bytesOf}
+use Rattle.octets.specs.Octets.{Octets, ReadFrom}
 use Rattle.octets.proofs.Numbers.{num-back, length-bytes, bytes-back, num-below}
 use Rattle.points.specs.Nine.{exponentAt, res, Valid, inRange}
 use Rattle.points.specs.Code.{codeOf}
@@ -152,15 +153,18 @@ valueOf (Refused n) = Switch false
 no-nan-is : (n : ℕ) → finiteBits n ≡ true → T (not (isNan (ofBits binary32 n)))
 no-nan-is n f = subst (λ (b : Bool). T (not b)) (nanBits-is binary32 n) (no-nan n (ltb-true (n / 8388608 % 256) 255 f))
 
-same-bytes : (b : List ℕ) → length b ≡ 4 → ((i : ℕ) → getD b i 0 < 256) → bytesOf 4 (numAt b 0 4) ≡ b
+same-bytes : (b : List ℕ) → length b ≡ 4 → Octets b → bytesOf 4 (numAt b 0 4) ≡ b
 same-bytes b l h =
     ext-getD 0 (bytesOf 4 (numAt b 0 4)) b (length-bytes 4 (numAt b 0 4) ∙ sym l)
     (λ i k. bytes-back b 0 4 h i (omega (arith, k, length-bytes 4 (numAt b 0 4))) ∙ ap (λ (j : ℕ). getD b j 0) (omega arith))
 
-pub bits-kept : (b : List ℕ) (d : Datapoint) → ((i : ℕ) → getD b i 0 < 256) → readPoint 14 b ≡ Is d → pointBytes d ≡ b
+pub bits-kept : (b : List ℕ) (d : Datapoint) → ReadFrom b (Is d) (readPoint 14 b) → pointBytes d ≡ b
 unfolding readPoint pointBytes
-bits-kept b d h e = long (eqb (length b) 4) refl e
+bits-kept b d call = long (eqb (length b) 4) refl (sym (call .is))
   where
+    h : Octets b
+    h = call .bytes
+
     bits : (t : Bool) → finiteBits (numAt b 0 4) ≡ t → length b ≡ 4 → cond t (Is (Single (ofBits binary32 (numAt b 0 4)))) (Refused 24) ≡ Is d → pointBytes d ≡ b
     bits true f l g =
         ap pointBytes (sym (ap valueOf g))

@@ -1,4 +1,4 @@
--- Promises, named in docs/PROMISES.md: Choice, Unique, Back. All others are laws behind them or behind the contracts.
+-- Promises, named in docs/PROMISES.md: Choice, Unique, Back, Dues, Examples. All others are laws behind them or behind the contracts.
 pub mod Floats
 pub mod Laws
 pub mod Casts
@@ -9,3 +9,5 @@ pub mod Choice
 pub mod Writes
 pub mod Unique
 pub mod Back
+pub mod Dues
+pub mod Examples

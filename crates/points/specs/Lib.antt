@@ -1,3 +1,4 @@
 pub mod Nine
 pub mod Code
 pub mod Point
+pub mod Due

@@ -1,5 +1,6 @@
 // Readable group values: datapoint types 1, 5, 9 and 14, read from their bytes and written to them.
 ghost use mathlib.Core.Path.{_≡_};
+ghost use Rattle.octets.specs.Octets.{ReadFrom};
 ghost use Rattle.points.specs.Point.{typeOf, widthAt, pointAt, Narrow, readPoint, Put};
 
 mod float;
@@ -61,7 +62,7 @@ pub fn point(kind: u8, n: u32) -> Reading
 
 // The value of a type in the bytes, or the number of the refusal.
 pub fn read(kind: u8, bytes: &[u8]) -> Reading
-    ensures { λ r. ⌜ r ≡ readPoint kind (now (bytes .entry)) ⌝ }
+    ensures { λ r. ⌜ ReadFrom (now (bytes .entry)) r (readPoint kind (now (bytes .entry))) ⌝ }
 {
     let w = width(kind);
     if w == 0 {

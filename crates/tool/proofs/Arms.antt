@@ -7,7 +7,8 @@ use mathlib.Core.Bool.{Bool, true, false, cond, _&&_}
 use mathlib.Core.Option.{none}
 use lib.Dec.{leb, ltb}
 use native.Mathlib.Omega.{arith}
-use lib.ListN.{length, getD, getElem?, length-drop}
+use lib.ListN.{length, getElem?, length-drop}
+use Rattle.octets.specs.Octets.{Octets, ReadFrom}
 use Rattle.pdu.specs.Item.{Value}
 use Rattle.pdu.specs.Table.{rowOf, services}
 use Rattle.pdu.specs.Read.{readPdu, dataAt, dataOf}
@@ -22,7 +23,7 @@ use borrow.Author.Tests.{lt-ltb, le-ltb}
 use Rattle.pdu.proofs.Find.{NoneOf}
 use Rattle.pdu.proofs.Formed.{formed-says, long-enough}
 use Rattle.pdu.proofs.Sound.{sound}
-use Rattle.pdu.proofs.Outcomes.{reads-pdu}
+use Rattle.pdu.proofs.Outcomes.{read-carries}
 use Rattle.octets.proofs.Truths.{and-is, at-most-is}
 use Rattle.pdu.specs.Pdus.{serviceOf, valuesOf}
 use Rattle.pdu.specs.declared.Pdu.{Pdu}
@@ -38,14 +39,14 @@ pub via-laid :
 via-laid p q r e h = subst (λ (x : Pdu). r ≡ laid (kindOf (serviceOf x)) (valuesOf x) 0 0) (sym e) h
 
 -- the data of a PDU that reads lies in the bytes
-pub starts : (b : List ℕ) (p : Pdu) → ((i : ℕ) → getD b i 0 < 256) → readPdu b ≡ Is p → dataAt p ≤ length b
+pub starts : (b : List ℕ) (p : Pdu) → Octets b → readPdu b ≡ Is p → dataAt p ≤ length b
 starts b p small e =
-    let c = reads-pdu b p small .0 e in
+    let c = read-carries b p small e in
     let f = formed-says (rowOf (serviceOf p)) (sound (serviceOf p) .form) in
     long-enough (rowOf (serviceOf p) .tail) (headOf (rowOf (serviceOf p))) (valuesOf p) (length b) (f .tail-ok) (c .least) (c .allowed .suited)
 
 pub spans :
-    (b : List ℕ) (p : Pdu) → ((i : ℕ) → getD b i 0 < 256) → readPdu b ≡ Is p →
+    (b : List ℕ) (p : Pdu) → Octets b → readPdu b ≡ Is p →
     (length b - length (dataOf p b) ≡ dataAt p) × (length (dataOf p b) ≡ length b - dataAt p)
 unfolding dataOf
 spans b p small e =
@@ -61,9 +62,9 @@ pub laid-at : (k : ℕ) (x : List Value) (a b m n : ℕ) → a ≡ b → m ≡ n
 laid-at k x a b m n e f = ap (λ (i : ℕ). laid k x i m) e ∙ ap (λ (i : ℕ). laid k x b i) f
 
 -- what reading gives, by what was parsed
-pub via-read : (b : List ℕ) (g h : Parsed) (r : FlatPdu) → g ≡ readPdu b → g ≡ h → r ≡ flatBy b h → r ≡ flatRead b
+pub via-read : (b : List ℕ) (g h : Parsed) (r : FlatPdu) → ReadFrom b g (readPdu b) → g ≡ h → r ≡ flatBy b h → ReadFrom b r (flatRead b)
 unfolding flatRead
-via-read b g h r e f k = k ∙ ap (flatBy b) (sym f ∙ e)
+via-read b g h r e f k = record { is = k ∙ ap (flatBy b) (sym f ∙ e .is); bytes = e .bytes }
 
 -- in an arm the kind is known
 pub via-meant : (f : FlatPdu) (k : ℕ) (r : Meant) → f .kind ≡ k → r ≡ meantAs (getElem? services k) f → r ≡ meantBy f
@@ -127,5 +128,5 @@ pub via-nothing :
     m ≡ meantBy f → m ≡ Nothing → r ≡ flatWritten (unknownKind (length o)) → FlatWrote (meantBy f) d o r o
 via-nothing f m d o r g h k = subst (λ (x : Meant). FlatWrote x d o r o) (sym h ∙ g) (record { result = k; buffer = refl })
 
-pub reads-as : (b : List ℕ) (g : Parsed) (p : Pdu) → g ≡ readPdu b → g ≡ Is p → readPdu b ≡ Is p
-reads-as b g p e f = sym e ∙ f
+pub reads-as : (b : List ℕ) (g : Parsed) (p : Pdu) → ReadFrom b g (readPdu b) → g ≡ Is p → readPdu b ≡ Is p
+reads-as b g p e f = sym (e .is) ∙ f

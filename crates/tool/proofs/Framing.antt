@@ -4,6 +4,7 @@ use Prim.Native.Nat.{ℕ, _+_, _≤_}
 use mathlib.Core.Path.{_≡_, sym, ap, _∙_}
 use mathlib.Core.List.{List}
 use lib.ListN.{length}
+use Rattle.octets.specs.Octets.{ReadFrom}
 use Rattle.cemi.specs.Read.{readFrame}
 use Rattle.cemi.specs.Meaning.{meaningOf, meaningNumber}
 use Rattle.cemi.specs.Write.{writeOf, writeCount, bufferOf, Wrote}
@@ -22,9 +23,9 @@ use Rattle.tool.specs.declared.Framed.{Framed}
 pub via-event : (m n : Meaning) (r : ℕ) → m ≡ n → r ≡ meaningNumber n → r ≡ meaningNumber m
 via-event m n r e h = h ∙ ap meaningNumber (sym e)
 
-pub via-got : (b : List ℕ) (g h : Got) (r : FlatFrame) → g ≡ readFrame b → g ≡ h → r ≡ flatGot h → r ≡ flatFrame b
+pub via-got : (b : List ℕ) (g h : Got) (r : FlatFrame) → ReadFrom b g (readFrame b) → g ≡ h → r ≡ flatGot h → ReadFrom b r (flatFrame b)
 unfolding flatFrame
-via-got b g h r e f k = k ∙ ap flatGot (sym f ∙ e)
+via-got b g h r e f k = record { is = k ∙ ap flatGot (sym f ∙ e .is); bytes = e .bytes }
 
 pub via-framed : (w v : Written) (r : Framed) → w ≡ v → r ≡ framed v → r ≡ framed w
 via-framed w v r e h = h ∙ ap framed (sym e)

@@ -1,4 +1,4 @@
--- Promises, named in docs/PROMISES.md: Means, Returned, Examples, NoEvent. Arms has the laws behind the contracts.
+-- Promises, named in docs/PROMISES.md: Means, Returned, Examples, NoEvent, FrameBack, FrameExamples. Arms, Framing and PointLaws have the laws behind the contracts.
 pub mod Arms
 pub mod Means
 pub mod Returned
@@ -6,3 +6,5 @@ pub mod Examples
 pub mod Framing
 pub mod NoEvent
 pub mod PointLaws
+pub mod FrameBack
+pub mod FrameExamples

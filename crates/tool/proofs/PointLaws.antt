@@ -10,6 +10,7 @@ use lib.IntN.{ℤ, pos}
 use mir.Val.{boolByte}
 use borrow.Author.Tests.{eq-eqb, ne-eqb}
 use Rattle.octets.specs.Bytes.{numAt, IsNum}
+use Rattle.octets.specs.Octets.{ReadFrom}
 use Rattle.points.specs.Point.{widthAt, pointAt, readPoint, Put}
 use Rattle.points.specs.declared.Datapoint.{Datapoint}
 use Rattle.points.specs.declared.Datapoint.the-variants.{Switch, Hundredths}
@@ -30,13 +31,13 @@ laid-switch s d true r e h = laid-by s d (Switch true) r e h
 laid-switch s d false r e h = laid-by s d (Switch false) r e h
 
 -- what reading gives
-pub read-yes : (k : ℕ) (b : List ℕ) (g : Reading) (d : Datapoint) (r : FlatPoint) → g ≡ readPoint k b → g ≡ Is d → r ≡ pointLaid b (Is d) → r ≡ flatPointRead k b
+pub read-yes : (k : ℕ) (b : List ℕ) (g : Reading) (d : Datapoint) (r : FlatPoint) → ReadFrom b g (readPoint k b) → g ≡ Is d → r ≡ pointLaid b (Is d) → ReadFrom b r (flatPointRead k b)
 unfolding flatPointRead
-read-yes k b g d r e f h = h ∙ ap (pointLaid b) (sym f ∙ e)
+read-yes k b g d r e f h = record { is = h ∙ ap (pointLaid b) (sym f ∙ e .is); bytes = e .bytes }
 
-pub read-no : (k n : ℕ) (b : List ℕ) (g : Reading) (r : FlatPoint) → g ≡ readPoint k b → g ≡ Refused n → r ≡ flatPoint 0 0 (pos 0) 0 n → r ≡ flatPointRead k b
+pub read-no : (k n : ℕ) (b : List ℕ) (g : Reading) (r : FlatPoint) → ReadFrom b g (readPoint k b) → g ≡ Refused n → r ≡ flatPoint 0 0 (pos 0) 0 n → ReadFrom b r (flatPointRead k b)
 unfolding flatPointRead
-read-no k n b g r e f h = h ∙ ap (pointLaid b) (sym f ∙ e)
+read-no k n b g r e f h = record { is = h ∙ ap (pointLaid b) (sym f ∙ e .is); bytes = e .bytes }
 
 -- the datapoint meant
 pub meant-9 : (f : FlatPoint) (z : ℤ) → f .kind ≡ 9 → z ≡ f .hundredths → Is (Hundredths z) ≡ pointMeant f

@@ -2,3 +2,4 @@ pub mod Flat
 pub mod Back
 pub mod FlatFrame
 pub mod Points
+pub mod FrameBack

@@ -2,6 +2,7 @@
 ghost use mathlib.Core.Path.{_≡_};
 ghost use lib.IntN.{pos};
 ghost use Rattle.octets.specs.Bytes.{numAt};
+ghost use Rattle.octets.specs.Octets.{ReadFrom};
 ghost use Rattle.points.specs.declared.Reading.the-variants.{Is};
 ghost use Rattle.tool.specs.Points.{flatPoint, pointLaid, flatPointRead, pointMeant, FlatPut};
 use crate::FlatPoint;
@@ -62,7 +63,7 @@ fn laid(d: Datapoint, s: &[u8]) -> FlatPoint
 // The value of a type in the bytes, laid flat; or the outcome alone.
 #[no_mangle]
 pub extern "C" fn kelindap_point_read(kind: u8, bytes: &[u8]) -> FlatPoint
-    ensures { λ r. ⌜ r ≡ flatPointRead kind (now (bytes .entry)) ⌝ }
+    ensures { λ r. ⌜ ReadFrom (now (bytes .entry)) r (flatPointRead kind (now (bytes .entry))) ⌝ }
 {
     let got = points::read(kind, bytes);
     match got {

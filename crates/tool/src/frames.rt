@@ -1,6 +1,7 @@
 // Frames for C: a frame laid flat, read from bytes with where its parts stand, and written to bytes.
 ghost use mathlib.Core.Path.{_≡_};
 ghost use Prim.Native.Nat.{_≤_};
+ghost use Rattle.octets.specs.Octets.{ReadFrom};
 ghost use Rattle.cemi.specs.Meaning.{meaningNumber};
 ghost use Rattle.cemi.specs.Write.{writeCount};
 ghost use Rattle.tool.specs.FlatFrame.{laidFrame, refusedFrame, flatFrame, fieldsOf, framed, FrameWrote};
@@ -68,7 +69,7 @@ fn refused(n: u8) -> FlatFrame
 
 // The frame in the bytes, laid flat; or the outcome alone.
 pub fn read(frame: &[u8]) -> FlatFrame
-    ensures { λ r. ⌜ r ≡ flatFrame (now (frame .entry)) ⌝ }
+    ensures { λ r. ⌜ ReadFrom (now (frame .entry)) r (flatFrame (now (frame .entry))) ⌝ }
 {
     let got = cemi::read(frame);
     match got {

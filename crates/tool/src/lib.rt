@@ -1,6 +1,7 @@
 // The PDU layer for C: a PDU laid flat, read from bytes and written to bytes.
 ghost use mathlib.Core.Path.{_≡_};
 ghost use Prim.Native.Nat.{_≤_};
+ghost use Rattle.octets.specs.Octets.{ReadFrom};
 ghost use Rattle.pdu.specs.Write.{writeCount};
 ghost use Rattle.tool.specs.FlatFrame.{flatFrame, FrameWrote};
 ghost use Rattle.tool.specs.Flat.{flatRead, meantBy, unknownKind, flatWritten, FlatWrote, versionOf};
@@ -88,7 +89,7 @@ pub enum Meant {
 // The PDU in the bytes, laid flat, with where its data stands; or the outcome alone.
 #[no_mangle]
 pub extern "C" fn kelindap_read(apdu: &[u8]) -> FlatPdu
-    ensures { λ r. ⌜ r ≡ flatRead (now (apdu .entry)) ⌝ }
+    ensures { λ r. ⌜ ReadFrom (now (apdu .entry)) r (flatRead (now (apdu .entry))) ⌝ }
 {
     let got = pdu::read(apdu);
     match got {
@@ -161,7 +162,7 @@ pub extern "C" fn kelindap_pdu_version() -> u32
 // The frame in the bytes, laid flat, with where its parts stand; or the outcome alone.
 #[no_mangle]
 pub extern "C" fn kelindap_frame_read(frame: &[u8]) -> FlatFrame
-    ensures { λ r. ⌜ r ≡ flatFrame (now (frame .entry)) ⌝ }
+    ensures { λ r. ⌜ ReadFrom (now (frame .entry)) r (flatFrame (now (frame .entry))) ⌝ }
 {
     frames::read(frame)
 }

@@ -10,6 +10,7 @@ use lib.IntN.{ℤ}
 use lib.Ieee.{Float}
 use mir.Val.{boolByte}
 use borrow.Author.Tests.{eq-eqb, ne-eqb}
+use Rattle.octets.specs.Octets.{ReadFrom}
 use Rattle.points.specs.Point.{pointAt, readPoint}
 use Rattle.pdu.specs.declared.Pdu.the-variants.{GroupValueWrite}
 use Rattle.points.specs.declared.Datapoint.{Datapoint}
@@ -18,9 +19,9 @@ use Rattle.points.specs.declared.Reading.{Reading}
 use Rattle.points.specs.declared.Reading.the-variants.{Refused}
 use Rattle.values.specs.Value.{readValue, sixBits, valuePdu}
 
-pub by-data : (t v : ℕ) (s : List ℕ) (r : Reading) → (t ≡ 1 → ⊥) → r ≡ readPoint t s → r ≡ readValue t v s
+pub by-data : (t v : ℕ) (s : List ℕ) (r : Reading) → (t ≡ 1 → ⊥) → ReadFrom s r (readPoint t s) → r ≡ readValue t v s
 unfolding readValue
-by-data t v s r h e = e ∙ sym (ap (λ (b : Bool). cond b (cond (eqb (length s) 0) (pointAt 1 v) (Refused 20)) (readPoint t s)) (ne-eqb t 1 h))
+by-data t v s r h e = e .is ∙ sym (ap (λ (b : Bool). cond b (cond (eqb (length s) 0) (pointAt 1 v) (Refused 20)) (readPoint t s)) (ne-eqb t 1 h))
 
 shorter : (t v : ℕ) (s : List ℕ) → t ≡ 1 → readValue t v s ≡ cond (eqb (length s) 0) (pointAt 1 v) (Refused 20)
 unfolding readValue

@@ -12,4 +12,4 @@ read-spec =
     (λ c κs. search needs)
     (λ c κs. search needs)
     (λ c κs. search named)
-    (λ c. search needs))
+    (λ c. record { is = c .read-found .ensures; bytes = λ i. c .before .before .before .shared-slice-known .given i .fits }))

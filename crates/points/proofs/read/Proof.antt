@@ -10,10 +10,10 @@ width-requires : tie.Need-width-requires
 width-requires c κs = search needs
 
 returns : tie.Need-returns
-returns c = search read-25
+returns c = record { is = search read-25; bytes = λ i. c .before .before .shared-slice-known .given i .fits }
 
 returns-2 : tie.Need-returns-2
-returns-2 c = search read-20
+returns-2 c = record { is = search read-20; bytes = λ i. c .before .before .before .shared-slice-known .given i .fits }
 
 number-requires : tie.Need-number-requires
 number-requires c κs = (omega arith, omega (arith, width-small (c .before .before .before .before .args .kind) _ (c .before .before .width .ensures)))
@@ -25,7 +25,7 @@ point-requires : tie.Need-point-requires
 point-requires c κs = search num-by
 
 returns-3 : tie.Need-returns-3
-returns-3 c = search read-is
+returns-3 c = record { is = search read-is; bytes = λ i. c .before .before .before .before .before .shared-slice-known .given i .fits }
 
 pub read-spec : {M : Type 1} → statement M
 read-spec =
