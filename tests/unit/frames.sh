@@ -27,8 +27,8 @@ understand() { # FRAMEHEX: its fields in $got, what it means in $meaning
     meaning="${words[*]:9}"
 }
 
-answer() { # DESTINATION TRANSPORT APDUHEX
-    ask "frame write code=17 c1=${got[c1]} c2=${got[c2]} source=$own destination=$1 transport=$2 info=- apdu=$3 $room$room"
+answer() { # DESTINATION TRANSPORT APDUHEX; priority and address type are those of what was asked, hop count and repeat bit are not
+    ask "frame write code=17 c1=$((176 | got[c1] & 12)) c2=$((96 | got[c2] & 128)) source=$own destination=$1 transport=$2 info=- apdu=$3 $room$room"
     local -a words
     read -r -a words <<< "$reply"
     local sent=${words[2]:0:2 * words[1]}

@@ -1,16 +1,21 @@
 -- THE DEVICE'S ANSWER, WRITTEN INTO AN ANSWERING FRAME, READS BACK AS THAT PDU.
 -- Assumes nothing.
-use Prim.Native.Nat.{ℕ, _-_}
-use mathlib.Core.Path.{_≡_, ap, _∙_}
+use Prim.Native.Nat.{ℕ, _-_, _≤_, _<_}
+use mathlib.Core.Path.{_≡_, sym, ap, subst, _∙_}
 use mathlib.Core.Bool.{true}
 use mathlib.Core.Logic.{_⊎_, inl, inr, ⊎-elim}
 use mathlib.Core.List.{List, []}
 use lib.ListN.{length}
+use native.Mathlib.Omega.{arith}
+use Rattle.octets.specs.Bytes.{Octets, ReadFrom}
+use Rattle.octets.proofs.Numbers.{num-below}
+use Rattle.sheet.specs.Layout.{_of_}
+use Rattle.sheet.specs.Head as head
 use Rattle.pdu.specs.Read.{readPdu, dataOf}
 use Rattle.pdu.specs.declared.Pdu.{Pdu}
 use Rattle.pdu.specs.declared.Parsed.the-variants as parsed
 use Rattle.judge.specs.declared.Session.{Session}
-use Rattle.device.specs.Octets.{Octets}
+use Rattle.pdu.proofs.Readings.{reading}
 use Rattle.device.specs.Asked.{Asked}
 use Rattle.device.specs.Step.{stepOf}
 use Rattle.device.proofs.AnswerReads.{answer-reads}
@@ -18,10 +23,14 @@ use Rattle.cemi.specs.Layout.{table, Fit}
 use Rattle.cemi.specs.Parts.{tpduOf}
 use Rattle.cemi.specs.Write.{numbersOf, under, encoded, frameOf, writable}
 use Rattle.cemi.proofs.Backs.{read-back, info-part, tpdu-part}
+use Rattle.cemi.specs.Read.{readFrame}
 use Rattle.cemi.proofs.Wrote.{bounds}
+use Rattle.cemi.proofs.Standards.{reads-standard}
+use Rattle.cemi.proofs.Answers.{answer-writable, answer-fits}
 use Rattle.cemi.specs.declared.Fields.{Fields}
+use Rattle.cemi.specs.declared.Frame.{Frame}
 use Rattle.cemi.specs.declared.Got.the-variants as got
-use Rattle.frames.specs.Answering.{answering, Brings}
+use Rattle.frames.specs.Answering.{answerTo, Brings}
 use Rattle.frames.proofs.Alike.{read-alike, data-alike}
 use Rattle.frames.proofs.Heard.{under-alike, as-it-is}
 
@@ -40,16 +49,33 @@ brought g i a p d fit w e f =
       bytes = ap (dataOf p) t ∙ data-alike (under (g .transport) a) a h p ∙ f;
     }
 
--- THE ANSWER TO A REQUEST x, in a frame that answers one with the fields f: none, or a PDU that the frame brings
-pub answered :
-    (x : Asked) (f : Fields) (code t : ℕ) (i : List ℕ) → Octets (x .sheet) → Octets (x .apdu) →
-    let a : List ℕ = stepOf (x .room) (x .sheet) (x .session) (x .mode) (x .group) (x .apdu) .answer in
-    Fit table (numbersOf (answering f code t) (length a - 1)) → writable (answering f code t) (length i) (length a) ≡ true →
-    (a ≡ []) ⊎ ((p : Pdu) × (d : List ℕ) × Brings (encoded (answering f code t) i a) (answering f code t) i a p d)
-answered x f code t i hs ha fit w =
-    ⊎-elim (λ e. inl e)
-    (λ r. inr (r .pdu, r .bytes, brought (answering f code t) i _ (r .pdu) (r .bytes) fit w (r .reads) (r .gives)))
-    (answer-reads x hs ha)
+-- the addresses of a frame that reads, and the device's own
+module _ (b : List ℕ) (f : Frame) (call : ReadFrom b (got.Is f) (readFrame b)) where
+  addresses : (f .fields .source < 65536) × (f .fields .destination < 65536)
+  addresses =
+      subst (λ (g : Frame). (g .fields .source < 65536) × (g .fields .destination < 65536)) (reads-standard b f (sym (call .is)) .1)
+      (num-below b _ 2 (call .bytes), num-below b _ 2 (call .bytes))
+
+  -- THE ANSWER TO A REQUEST x THAT CAME IN THE FRAME: none, or a PDU that the answering frame brings
+  pub answered :
+      (x : Asked) (sequence : ℕ) → Octets (x .sheet) → Octets (x .apdu) →
+      let a : List ℕ = stepOf (x .room) (x .sheet) (x .session) (x .mode) (x .group) (x .apdu) .answer in
+      (a ≡ []) ⊎ ((p : Pdu) × (d : List ℕ) × Brings (encoded (answerTo f x sequence) [] a) (answerTo f x sequence) [] a p d)
+  answered x sequence hs ha =
+      ⊎-elim (λ e. inl e)
+      (λ r.
+      let a : List ℕ = stepOf (x .room) (x .sheet) (x .session) (x .mode) (x .group) (x .apdu) .answer in
+      let k = reading a (r .pdu) (r .reads) in
+      let some : 1 ≤ length a = omega (arith, k .least) in
+      let own : head.address of x .sheet < 65536 = num-below (x .sheet) _ 2 hs in
+      inr (
+        r .pdu,
+        r .bytes,
+        brought (answerTo f x sequence) [] a (r .pdu) (r .bytes)
+            (answer-fits (f .fields) (head.address of x .sheet) (x .mode) sequence (length a) some (k .most) own (addresses .0) (addresses .1))
+            (answer-writable (f .fields) (head.address of x .sheet) (x .mode) sequence (length a) some (k .most)) (r .reads) (r .gives),
+      ))
+      (answer-reads x hs ha)
 
 -- A REQUEST THAT CAME IN A FRAME is dealt with as the APDU that was written into it
 pub heard :

@@ -3,3 +3,4 @@ pub mod Alike
 pub mod Examples
 pub mod Heard
 pub mod Joined
+pub mod Modes
