@@ -1,4 +1,4 @@
--- PROMISES, named in docs/PROMISES.md: Demand1, Called (demand 1); Rightly, Dues, Dropped, AnswerReads, Unread, Extended, Forbidden, ReadBack, Cases, Stays, NoBody, RulesApart, TwoRules (demand 2); trials has wrong devices that demand 2 rules out.
+-- PROMISES, named in docs/PROMISES.md: Demand1, Called (demand 1); Rightly, Dues, Dropped, AnswerReads, Unread, Extended, Forbidden, ReadBack, Cases, Worked, Limits, Stays, NoBody, RulesApart, TwoRules (demand 2); trials has wrong devices that demand 2 rules out.
 -- LAWS behind them and behind the contracts: all other modules. A folder holds the proof of the function whose name it has.
 pub mod Writing
 pub mod Given
@@ -57,4 +57,6 @@ pub mod CarryReads
 pub mod PastHead
 pub mod RulesApart
 pub mod TwoRules
+pub mod Worked
+pub mod Limits
 pub mod trials

@@ -7,7 +7,7 @@ use mathlib.Core.Logic.{_⊎_, inl, inr, ⊎-elim}
 use mathlib.Core.List.{List, []}
 use lib.ListN.{length}
 use native.Mathlib.Omega.{arith}
-use Rattle.octets.specs.Bytes.{Octets, ReadFrom}
+use Rattle.octets.specs.Octets.{Octets, ReadFrom}
 use Rattle.octets.proofs.Numbers.{num-below}
 use Rattle.sheet.specs.Layout.{_of_}
 use Rattle.sheet.specs.Head as head

@@ -18,7 +18,7 @@ use Rattle.judge.specs.declared.Store.the-variants as store
 use Rattle.judge.specs.declared.Answer.the-variants as answer
 use Rattle.judge.specs.declared.Decision.{Decision}
 use Rattle.judge.specs.Decisions.{refused, answered, stored}
-use Rattle.judge.specs.Groups.{valueOf, putValue, flagsAt, groupReadOf, groupPutOf}
+use Rattle.judge.specs.Groups.{read, valueOf, putValue, flagsAt, groupReadOf, groupPutOf}
 use Rattle.octets.proofs.Walks.{by-lt, by-eq}
 
 -- group object i has the address, and the flag w
@@ -37,17 +37,17 @@ module _ (s : List ℕ) (address : ℕ) where
 
   module _ (P : Decision → Type 0) where
     pub group-read-cases :
-        ((i : ℕ) → Lets s 1 address i → group.code of entry s groups i ≡ 0 →
+        ((i : ℕ) → Lets s read address i → group.code of entry s groups i ≡ 0 →
         P (answered (answer.Plain (GroupValueResponse (numAt s (group.offset of entry s groups i) 1))))) →
-        ((i : ℕ) → Lets s 1 address i → 1 ≤ group.code of entry s groups i →
+        ((i : ℕ) → Lets s read address i → 1 ≤ group.code of entry s groups i →
         P (answered (answer.Sheet (GroupValueResponse 0) (group.offset of entry s groups i) (group.code of entry s groups i)))) →
         P (refused 2) → P (groupReadOf s address)
     unfolding groupReadOf valueOf flagsAt at
     group-read-cases f g h =
         by-lt P at (count s groups) _ _
-        (λ l. by-eq P (group.flags of entry s groups at / 1 % 2) 1 _ _
+        (λ l. by-eq P (group.flags of entry s groups at / read % 2) 1 _ _
         (λ m.
-        let t : Lets s 1 address at = record { there = l; named = found l; flag = m } in
+        let t : Lets s read address at = record { there = l; named = found l; flag = m } in
         by-eq P (group.code of entry s groups at) 0 _ _ (λ z. f at t z) (λ z. g at t (omega arith)))
         (λ m. h))
         (λ l. h)
@@ -78,9 +78,9 @@ module _ {s : List ℕ} (ok : Good s) (address i : ℕ) where
   unfolding keyOf
   here w t = index-hit s (accepted ok) groups (omega arith) i address (t .there) (t .named)
 
-  reads : Lets s 1 address i → groupReadOf s address ≡ valueOf s (group.code of entry s groups i) (group.offset of entry s groups i)
+  reads : Lets s read address i → groupReadOf s address ≡ valueOf s (group.code of entry s groups i) (group.offset of entry s groups i)
   unfolding groupReadOf flagsAt
-  reads t = simp (here 1 t, lt-ltb i (count s groups) (t .there), eq-eqb _ 1 (t .flag))
+  reads t = simp (here read t, lt-ltb i (count s groups) (t .there), eq-eqb _ 1 (t .flag))
 
   puts :
       (w v d : ℕ) → Lets s w address i → groupPutOf w s address v d ≡ putValue (group.code of entry s groups i) (group.offset of entry s groups i) v d
@@ -88,13 +88,13 @@ module _ {s : List ℕ} (ok : Good s) (address i : ℕ) where
   puts w v d t = simp (here w t, lt-ltb i (count s groups) (t .there), eq-eqb _ 1 (t .flag))
 
   pub group-read-six :
-      Lets s 1 address i → group.code of entry s groups i ≡ 0 →
+      Lets s read address i → group.code of entry s groups i ≡ 0 →
       groupReadOf s address ≡ answered (answer.Plain (GroupValueResponse (numAt s (group.offset of entry s groups i) 1)))
   unfolding valueOf
   group-read-six t z = reads t ∙ simp (eq-eqb (group.code of entry s groups i) 0 z)
 
   pub group-read-bytes :
-      Lets s 1 address i → 1 ≤ group.code of entry s groups i →
+      Lets s read address i → 1 ≤ group.code of entry s groups i →
       groupReadOf s address ≡ answered (answer.Sheet (GroupValueResponse 0) (group.offset of entry s groups i) (group.code of entry s groups i))
   unfolding valueOf
   group-read-bytes t z = reads t ∙ simp (ne-eqb (group.code of entry s groups i) 0 (omega arith))
@@ -119,7 +119,7 @@ module _ {s : List ℕ} (ok : Good s) (address i : ℕ) where
     group-put-unfit e = puts w v d t ∙ simp (ne-eqb d (group.code of entry s groups i) e)
 
   -- so it isn't for nobody
-  pub group-read-for-us : Lets s 1 address i → groupReadOf s address ≡ refused 2 → ⊥
+  pub group-read-for-us : Lets s read address i → groupReadOf s address ≡ refused 2 → ⊥
   unfolding valueOf
   group-read-for-us t e =
       let z : valueOf s (group.code of entry s groups i) (group.offset of entry s groups i) .outcome ≡ 2 = ap (λ (k : Decision). k .outcome) (sym (reads t) ∙ e) in

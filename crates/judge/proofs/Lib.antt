@@ -1,4 +1,5 @@
 -- This crate's promise is the contract of `judge::judge`; its theorems are LAWS behind it and behind the device's.
+-- A worked example: Examples.
 -- What is decided, case by case, which the device cites: GroupCases, DescriptorCases, PropertyCases, MemoryCases, KeyCases.
 -- From what the parts of a function ensure to what it ensures: all other modules. A folder holds the proof of the function whose name it has.
 pub mod GroupCases
@@ -13,3 +14,4 @@ pub mod Fields
 pub mod Memories
 pub mod Heads
 pub mod Judgement
+pub mod Examples
