@@ -104,7 +104,7 @@ module _ (s d : List ℕ) where
       (λ i h. le-leb (numAt d (entryIn i + 6) 2) (numAt s (place s properties i + 4) 2) (rw (← field-at s properties i property.maximum (omega arith)) (r .low i h)))
 
 -- what is so of a sheet is so of another that agrees with it on what the rules read, whatever the number of the rules
-module _ {R : ℕ → ℕ → Type 0} {s t : List ℕ} (a : AgreeBy R s t) (d : List ℕ) where
+module _ {R : List ℕ → List ℕ → Type 0} {s t : List ℕ} (a : AgreeBy R s t) (d : List ℕ) where
   same-many : many t ≡ many s
   same-many = count-same a properties
 
