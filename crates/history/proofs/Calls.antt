@@ -24,7 +24,7 @@ use Rattle.history.specs.Keyless.{Locked, Closed, Protected}
 use Rattle.history.specs.Shown.{Shows, MemoryShows}
 use Rattle.history.specs.Isolation.{isOf, Alike, Beside}
 use Rattle.history.specs.Rightful.{ours}
-use Rattle.history.specs.Calls.{Call, connects, disconnects, presses, requests, Calls, begin, next}
+use Rattle.history.specs.Calls.{Call, connects, disconnects, presses, requests, Calls, begin, next, restores}
 use Rattle.history.proofs.InOrder.{firstState}
 use Rattle.history.proofs.Isolated.{isolated}
 use Rattle.history.proofs.Keep.{keeps}
@@ -46,6 +46,8 @@ call-is {x} (requests mode c g a out r s′ o′ k) = (
       (request-due x mode c g a out (k .sheetBytes) (k .apduBytes))),
   k .apduBytes,
 )
+call-is {x} (restores c n st r s′ small p) =
+    (ap₂ (λ (n : ℕ) (s : List ℕ). record { outcome = n; answer = []; sessions = x .sessions; sheet = s }) (p .outcome) (p .after), small)
 
 -- THE STATE AFTER CALLS is that after their events
 pub calls-after : {f : First} {h : List Event} {x : State} → Calls f h x → (x ≡ stateAfter ours f h) × AllOctets h

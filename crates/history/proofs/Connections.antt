@@ -10,7 +10,7 @@ use Rattle.octets.proofs.Truths.{never}
 use Rattle.sheet.specs.Head.{rulesOf}
 use Rattle.judge.specs.declared.Session.{Session}
 use Rattle.device.specs.Sessions.{closed}
-use Rattle.events.specs.Events.{Event, connect, disconnect, button, request}
+use Rattle.events.specs.Events.{Event, connect, disconnect, button, request, restore}
 use Rattle.device.proofs.Connections.{unknown-closed}
 use Rattle.history.specs.Wish.{Wish, change, offerKey, restart, other, nothing, asks}
 use Rattle.history.specs.Permit.{checks, heard}
@@ -47,6 +47,7 @@ module _ (f : First) (h : List Event) (c : ℕ) where
   other-connection (connect d) n r = rw (ne-eqb c d (λ q. never (sym n ∙ eq-eqb d c (sym q))))
   other-connection (disconnect d) n r = rw (ne-eqb c d (λ q. never (sym n ∙ eq-eqb d c (sym q))))
   other-connection (button on) n r = refl
+  other-connection (restore d k st) n r = refl
   other-connection (request mode d g a out) n r = go (asks a) (Heard mode d a out (asks a)) refl r
     where
       go : (w : Wish) (t : Bool) → Heard mode d a out w ≡ t → (w ≡ restart → ⊥) → Left d t w ≡ said f h c
@@ -75,6 +76,7 @@ no-connection f (e ∷ h) c l = next e (no-connection f h c l)
         simp (shut s, weakest s, le-ltb c 2 l, and-false (eqb c d), cond-same {A = ℕ} (eqb c d) 3)
     next (disconnect d) s = simp (shut s, weakest s, cond-same (eqb c d) false, cond-same {A = ℕ} (eqb c d) 3)
     next (button on) s = s
+    next (restore d k st) s = s
     next (request mode d g a out) s = go (asks a) (Heard f h c mode d a out (asks a)) refl
       where
         go : (w : Wish) (t : Bool) → Heard f h c mode d a out w ≡ t → Left f h c d t w ≡ closed

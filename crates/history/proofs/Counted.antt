@@ -18,10 +18,10 @@ use Rattle.sheet.specs.Property as property
 use Rattle.events.specs.Events.{Event}
 use Rattle.history.specs.Location.{Location, body, counter}
 use Rattle.history.specs.Span.{Span, has, put, names}
-use Rattle.history.specs.Wish.{Wish, change, writeMemory, writeBits, writeProperty, writeKey, offerKey, restart, other, nothing}
+use Rattle.history.specs.Wish.{Wish, change, writeMemory, writeBits, writeProperty, writeKey, restoreAll, offerKey, restart, other, nothing}
 use Rattle.history.specs.Permit.{entryFor, countIn, countTo, spans}
 use Rattle.history.specs.History.{First, wished, supplied, content, permitted}
-use Rattle.history.specs.Shown.{elementOf, clearing, given}
+use Rattle.history.specs.Shown.{elementOf, clearing, restoring, given}
 use Rattle.history.proofs.Bools.{all-at}
 use Rattle.history.proofs.Requests.{Spans, contents-new, contents-same}
 use Rattle.history.proofs.Spans.{has-on, laid, laid-is}
@@ -71,6 +71,7 @@ module _ (s : List ℕ) (before : Location → ℕ) (d : List ℕ) (object id : 
       let ts : List Bool = eqb o object ∷ eqb i id ∷ eqb t 0 ∷ [] in
       rw (all-at ts e 2) (new-count o i object id 0 [] before (all-at ts e 0) (all-at ts e 1))
   cleared (change (writeKey l k)) e = never e
+  cleared (change restoreAll) e = never e
   cleared (offerKey k) e = never e
   cleared restart e = never e
   cleared (other o) e = never e
@@ -152,13 +153,13 @@ module _ (s : List ℕ) (before : Location → ℕ) (d : List ℕ) (object id : 
       go true z = simp (z, at 0)
       go false z = simp (z, at (max (countIn before o i) (t + n - 1)))
 
-  -- ANY WRITE BUT A CLEARING
+  -- ANY WRITE BUT A CLEARING AND A RESTORE
   counts :
-      (j : ℕ) (w : Wish) → clearing object id w ≡ false → j < left w * Z → Named w j ⊎ (j < C * Z)
+      (j : ℕ) (w : Wish) → restoring w ≡ false → clearing object id w ≡ false → j < left w * Z → Named w j ⊎ (j < C * Z)
   unfolding spans countIn has
-  counts j (change (writeMemory m n a)) e h = inr h
-  counts j (change (writeBits n a)) e h = inr h
-  counts j (change (writeProperty o i n t)) e h = go (eqb o object) (eqb i id) (eqb t 0) refl refl refl e
+  counts j (change (writeMemory m n a)) v e h = inr h
+  counts j (change (writeBits n a)) v e h = inr h
+  counts j (change (writeProperty o i n t)) v e h = go (eqb o object) (eqb i id) (eqb t 0) refl refl refl e
     where
       go : (p q r : Bool) → eqb o object ≡ p → eqb i id ≡ q → eqb t 0 ≡ r → (p && (q && (r && true))) ≡ false →
           Named (change (writeProperty o i n t)) j ⊎ (j < C * Z)
@@ -178,11 +179,12 @@ module _ (s : List ℕ) (before : Location → ℕ) (d : List ℕ) (object id : 
               side (no l) = let z : t ≡ 0 = omega arith in never (sym g ∙ eq-eqb t 0 z)
       go true false r a b c f = inr (subst (λ (m : ℕ). j < m * Z) (apart o i n t (rw (a, b))) h)
       go false q r a b c f = inr (subst (λ (m : ℕ). j < m * Z) (apart o i n t (rw a)) h)
-  counts j (change (writeKey l k)) e h = inr h
-  counts j (offerKey k) e h = inr h
-  counts j restart e h = inr h
-  counts j (other o) e h = inr h
-  counts j nothing e h = inr h
+  counts j (change (writeKey l k)) v e h = inr h
+  counts j (change restoreAll) v e h = never (sym v)
+  counts j (offerKey k) v e h = inr h
+  counts j restart v e h = inr h
+  counts j (other o) v e h = inr h
+  counts j nothing v e h = inr h
 
 -- AND SO AFTER EVERY HISTORY
 module _ (f : First) (object id j : ℕ) where
@@ -190,7 +192,7 @@ module _ (f : First) (object id j : ℕ) where
       (h : List Event) → j < countIn (content f h) object id * elementOf f object id → given f object id j h ≡ true
   unfolding given content countIn
   counted-given [] l = lt-ltb _ _ l
-  counted-given (e ∷ h) l = go (permitted f h e) refl (clearing object id (wished e)) refl (counted-given h)
+  counted-given (e ∷ h) l = go (permitted f h e) refl (restoring (wished e)) refl (clearing object id (wished e)) refl (counted-given h)
     where
       after : permitted f h e ≡ true →
           countIn (content f (e ∷ h)) object id ≡ countIn (laid (Spans f h e) (content f h)) object id
@@ -202,19 +204,20 @@ module _ (f : First) (object id j : ℕ) where
       same : permitted f h e ≡ false → countIn (content f (e ∷ h)) object id ≡ countIn (content f h) object id
       same p = rw (contents-same f h e p (counter object id 0), contents-same f h e p (counter object id 1))
 
-      go : (t : Bool) → permitted f h e ≡ t → (u : Bool) → clearing object id (wished e) ≡ u →
+      go : (t : Bool) → permitted f h e ≡ t → (v : Bool) → restoring (wished e) ≡ v → (u : Bool) → clearing object id (wished e) ≡ u →
           (j < countIn (content f h) object id * elementOf f object id → given f object id j h ≡ true) →
-          cond (t && u) false ((t && names (Spans f h e) (body object id j)) || given f object id j h) ≡ true
-      go false p u q r = r (subst (λ (m : ℕ). j < m * elementOf f object id) (same p) l)
-      go true p true q r =
+          cond (t && v) (ltb j (countIn (content f (e ∷ h)) object id * elementOf f object id)) (cond (t && u) false ((t && names (Spans f h e) (body object id j)) || given f object id j h)) ≡ true
+      go false p v o u q r = r (subst (λ (m : ℕ). j < m * elementOf f object id) (same p) l)
+      go true p true o u q r = lt-ltb _ _ l
+      go true p false o true q r =
           let k : j < countIn (laid (Spans f h e) (content f h)) object id * elementOf f object id =
           subst (λ (m : ℕ). j < m * elementOf f object id) (after p) l in
           absurd (omega (arith, mul-le-mul-right (elementOf f object id) (cleared (f .sheet) (content f h) (supplied e) object id (wished e) q)))
-      go true p false q r =
+      go true p false o false q r =
           let k : j < countIn (laid (Spans f h e) (content f h)) object id * elementOf f object id =
           subst (λ (m : ℕ). j < m * elementOf f object id) (after p) l in
           or-is (names (Spans f h e) (body object id j)) (given f object id j h) .1
-          (either (counts (f .sheet) (content f h) (supplied e) object id j (wished e) q k))
+          (either (counts (f .sheet) (content f h) (supplied e) object id j (wished e) o q k))
         where
           either : (names (Spans f h e) (body object id j) ≡ true) ⊎ (j < countIn (content f h) object id * elementOf f object id) →
               (names (Spans f h e) (body object id j) ≡ true) ⊎ (given f object id j h ≡ true)

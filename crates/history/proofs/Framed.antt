@@ -21,7 +21,8 @@ use Rattle.sheet.specs.Places.{regionAt, PropertyWith}
 use Rattle.sheet.proofs.Sames.{count-same, region-same, property-same}
 use Rattle.sheet.proofs.FrontSearch.{seek-same}
 use Rattle.sheet.proofs.SameLookups.{index-same}
-use Rattle.history.specs.Wish.{Wish, change, writeMemory, writeBits, writeProperty, writeKey, offerKey, restart, other, nothing}
+use Rattle.versions.proofs.Agreeing.{same-entries-same, low-counts-same}
+use Rattle.history.specs.Wish.{Wish, change, writeMemory, writeBits, writeProperty, writeKey, restoreAll, offerKey, restart, other, nothing}
 use Rattle.history.specs.Permit.{regionFor, mayRead, mayWrite, mostBytes, inRange, indexFor, entryFor, clears, fills, allowed}
 use Rattle.octets.proofs.Everys.{every-same}
 
@@ -99,6 +100,7 @@ module _ {f s : List ℕ} (a : Agree f s) where
           rw (property-same a i property.typ h (omega arith) (omega arith), property-same a i property.maximum h (omega arith) (omega arith), property-same a i property.element h (omega arith) (omega arith), property-same a i property.levels h (omega arith) (omega arith))
       go i (no h) = rw (le-ltb i (count f properties) (omega arith))
   allowed-same level d (change (writeKey named number)) = refl
+  allowed-same level d (change restoreAll) = rw (same-entries-same a d, low-counts-same a d)
   allowed-same level d (offerKey number) = refl
   allowed-same level d restart = refl
   allowed-same level d (other o) = refl

@@ -1,7 +1,7 @@
 -- ISOLATION: what one tool sees of our device does not depend on what the other sends, as long as that changes nothing. From any sheet and any sessions.
 -- Assumes nothing.
 use Prim.Native.Nat.{ℕ, _<_}
-use mathlib.Core.Path.{_≡_, refl, sym, ap, _∙_}
+use mathlib.Core.Path.{_≡_, refl, sym, ap, _∙_, ap₂}
 use mathlib.Core.Bool.{Bool, true, false, cond, _&&_, _||_, not}
 use mathlib.Core.List.{List, [], _∷_}
 use lib.Dec.{eqb}
@@ -16,10 +16,11 @@ use Rattle.judge.specs.declared.Session.{Session}
 use Rattle.device.specs.Step.{Step, stepOf}
 use Rattle.device.specs.Sessions.{sessionOf, withSession, sessionFor, turnedOf}
 use Rattle.device.specs.Events.{Effect, State, requestOf, buttonOutcome, buttonSheet}
-use Rattle.events.specs.Events.{Event, connect, disconnect, button, request, eventOf}
+use Rattle.events.specs.Events.{Event, connect, disconnect, button, request, eventOf, restore}
 use Rattle.device.specs.declared.Sessions.{Sessions}
 use Rattle.device.proofs.Connections.{unknown-closed, with-own, with-other, turned-other}
 use Rattle.device.proofs.Demand1.{restart-only}
+use Rattle.versions.specs.Restoring.{restoreOutcome, restoreSheet}
 use Rattle.history.specs.History.{First}
 use Rattle.history.specs.Keeps.{Device, stateAfter, Begins, BringsOctets, AllOctets}
 use Rattle.history.specs.Rightful.{Rightful, ours}
@@ -129,6 +130,17 @@ module _ (o : ℕ) where
           left = record { sheet = ap (λ (s : List ℕ). buttonSheet s on) (n .sheet); sessions = n .sessions };
         }
     equal-same (request mode c g a out) e = requested mode c g a out out e refl
+    equal-same (restore c k st) e =
+        let s = n .sessions c (λ z. never (sym e ∙ eq-eqb c o z)) in
+        record {
+          outcome = ap₂ (λ (q : Session) (s : List ℕ). restoreOutcome q s st k) s (n .sheet);
+          answer = refl;
+          left =
+              record {
+                sheet = ap₂ (λ (q : Session) (s : List ℕ). restoreSheet q s st k) s (n .sheet);
+                sessions = n .sessions;
+              };
+        }
 
     equal : (e e′ : Event) → isOf o e ≡ false → Alike e e′ → Equal (eventOf x e) (eventOf y e′)
     equal _ _ i (same e) = equal-same e i
@@ -173,6 +185,7 @@ module _ (o : ℕ) where
     own (connect c) i m = own-named c _ i
     own (disconnect c) i m = own-named c _ i
     own (button on) i m = never i
+    own (restore c k st) i m = record { sheet = m ∙ n .sheet; sessions = n .sessions }
     own (request mode c g a out) i m = own-requested mode c g a out i m
 
   -- SO TWO RUNS SIDE BY SIDE LEAVE SUCH STATES
@@ -218,6 +231,8 @@ module _ (step : Device) (rightful : (f : First) (h : List Event) → Rightful (
   harmless-ours h k (button on) z m = tt
   harmless-ours h k (request mode c g a out) z m =
       rw (one-device step rightful f b h k (request mode c g a out) z, one-state step rightful f b h k) at m
+  harmless-ours h k (restore c n st) z m =
+      rw (one-device step rightful f b h k (restore c n st) z, one-state step rightful f b h k) at m
 
   beside-ours : {o : ℕ} {h h′ : List Event} → AllOctets h → AllOctets h′ → Beside step f o h h′ → Beside ours f o h h′
   beside-ours k k′ begin = begin
@@ -245,6 +260,7 @@ may-be : (o : ℕ) (e : Event) → isOf o e ≡ true → mayBeOf o e ≡ true
 may-be o (connect c) i = i
 may-be o (disconnect c) i = i
 may-be o (button on) i = never i
+may-be o (restore c k st) i = i
 may-be o (request mode c g a out) i = let b = and-is (eqb mode 3) (eqb c o) .0 i in rw (b .0) (b .1)
 
 -- what o sends, left out

@@ -12,10 +12,11 @@ use Rattle.judge.specs.declared.Session.{Session}
 use Rattle.device.specs.Octets.{Octets}
 use Rattle.device.specs.Sessions.{sessionOf}
 use Rattle.device.specs.Events.{Effect, State}
-use Rattle.events.specs.Events.{Event, connect, disconnect, button, request, eventOf}
+use Rattle.events.specs.Events.{Event, connect, disconnect, button, request, eventOf, restore}
 use Rattle.device.specs.Due.{RequestDue}
 use Rattle.device.proofs.Connections.{unknown-closed}
 use Rattle.device.proofs.Dues.{connect-due, disconnect-due, button-due, button-only, request-due}
+use Rattle.events.proofs.Dues.{restore-due}
 use Rattle.history.specs.History.{First, permitted}
 use Rattle.history.specs.Keeps.{Device, stateAfter, CarriedOut, Kept, Begins, BringsOctets, AllOctets, Keeps}
 use Rattle.history.specs.Rightful.{Rightful, ours}
@@ -23,6 +24,7 @@ use Rattle.history.proofs.Connections.{said, no-connection}
 use Rattle.history.proofs.Invariant.{Inv, begin, connected, disconnected, button-pressed, now, now-accepted}
 use Rattle.history.proofs.Requests.{Done}
 use Rattle.history.proofs.Steps.{due}
+use Rattle.history.proofs.RestoreSteps.{restore-inv, restore-only, restore-all}
 use Rattle.history.proofs.AtOnce.{at-once}
 
 module _ (step : Device) (rightful : (f : First) (h : List Event) → Rightful (step f h)) (f : First) (b : Begins f) where
@@ -68,11 +70,16 @@ module _ (step : Device) (rightful : (f : First) (h : List Event) → Rightful (
     after (button on) o = rw (button-only X on (step f h X (button on)) (rightful f h .presses X on)) (button-pressed inv b on)
     after (request mode c g a out) o =
         record { session = session mode c g a out o; means = rw (is-due mode c g a out o .sheet) (requested mode c g a out o .means) }
+    after (restore c n st) o =
+        let d = rightful f h .restores X c n st in
+        let i = restore-inv f b h X inv c n st o (d .step) in
+        record { session = rw (d .sessions) (i .session); means = i .means }
 
     only : (e : Event) → BringsOctets e → CarriedOut e (step f h X e .outcome) → permitted f h e ≡ true
     only (connect c) o z = absurd (z .writing)
     only (disconnect c) o z = absurd (z .writing)
     only (button on) o z = absurd (z .writing)
+    only (restore c n st) o z = restore-only f b h X inv c n st o (rightful f h .restores X c n st .step) z
     only (request mode c g a out) o z = requested mode c g a out o .only (subst (CarriedOut _) (is-due mode c g a out o .outcome) z)
 
     all : (e : Event) → BringsOctets e → permitted f h e ≡ true → CarriedOut e (step f h X e .outcome)
@@ -80,6 +87,7 @@ module _ (step : Device) (rightful : (f : First) (h : List Event) → Rightful (
     all (connect c) o p = never p
     all (disconnect c) o p = never p
     all (button on) o p = never p
+    all (restore c n st) o p = restore-all f b h X inv c n st o (rightful f h .restores X c n st .step) p
     all (request mode c g a out) o p = subst (CarriedOut _) (sym (is-due mode c g a out o .outcome)) (requested mode c g a out o .all p)
 
   -- THE INVARIANT AFTER EVERY HISTORY
@@ -119,6 +127,7 @@ ours-rightful =
       disconnects = disconnect-due;
       presses = button-due;
       answers = request-due;
+      restores = restore-due;
     }
 
 -- AND SO OUR DEVICE KEEPS WHAT IT WAS GIVEN

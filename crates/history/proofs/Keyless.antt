@@ -23,7 +23,7 @@ use Rattle.sheet.proofs.Regions.{covers-stands}
 use Rattle.octets.proofs.Truths.{never, decided, and-is}
 use Rattle.judge.specs.declared.Session.{Session}
 use Rattle.device.specs.Sessions.{sessionOf}
-use Rattle.events.specs.Events.{Event, connect, disconnect, button, request, run}
+use Rattle.events.specs.Events.{Event, connect, disconnect, button, request, run, restore}
 use Rattle.history.specs.Location.{Location, memory, body, counter, key}
 use Rattle.history.specs.Span.{names, gives}
 use Rattle.history.specs.Wish.{Wish, change, offerKey, restart, other, nothing, asks, brings}
@@ -39,6 +39,7 @@ use Rattle.history.proofs.InOrder.{firstState, after-is-run}
 use Rattle.history.proofs.Invariant.{first-holds}
 use Rattle.history.proofs.Keep.{keeps}
 use Rattle.history.proofs.Requests.{Spans}
+use Rattle.history.proofs.Restores.{restore-needs}
 use Rattle.history.proofs.Suffices.{suffices}
 
 -- the write level is the one that the entry says: of the region where an address stands, of the property with an object and id
@@ -112,6 +113,7 @@ module _ (l : ℕ) (low : l < 3) where
     moved (connect d) none = named (eqb c d) (λ t. cond (t && ltb c 2) true (opened f h c)) refl
     moved (disconnect d) none = named (eqb c d) (λ t. cond t false (opened f h c)) refl
     moved (button on) none = inr (refl, λ o. o)
+    moved (restore d n st) none = inr (refl, λ o. o)
     moved (request mode d g a out) none =
         asked (keys f h) (level f h c) (opened f h c) (heard (rulesOf (f .sheet)) (opened f h d) mode a out (asks a)) (eqb c d) (asks a)
         (λ e own n w k m q.
@@ -131,6 +133,10 @@ module _ (l : ℕ) (low : l < 3) where
         let m = acts-above mode (level f h c) (opened f h c) (all-at (checks (rulesOf (f .sheet)) (opened f h c) mode a out (asks a)) (b .0) 4) above in
         omega arith
 
+    -- and no restore of it is permitted
+    unrestored : (opened f h c ≡ true → l < level f h c) → (n : ℕ) (st : List ℕ) → permitted f h (restore c n st) ≡ true → ⊥
+    unrestored above n st p = let q = restore-needs f h c n st p in omega (arith, above (q .live), q .level)
+
   -- ONE CONNECTION
   module _ (f : First) (c : ℕ) (closed : sessionOf (f .sessions) c .opened ≡ false) where
     above : (h : List Event) → Locked f l c h → (opened f h c ≡ true → l < level f h c) × (l < sessionOf (f .sessions) c .level → l < level f h c)
@@ -144,7 +150,7 @@ module _ (l : ℕ) (low : l < 3) where
         next s (inr q) = (λ o. rw (q .0) (s .0 (q .1 o)), λ z. rw (q .0) (s .1 z))
 
     pub shut : (h : List Event) → Locked f l c h → Shut f l c h
-    shut h k = record { rights = above h k .0; always = above h k .1; writes = unnamed f h c (above h k .0) }
+    shut h k = record { rights = above h k .0; always = above h k .1; writes = unnamed f h c (above h k .0); restores = unrestored f h c (above h k .0) }
 
   -- a number that is no connection's
   none-shut : (f : First) (h : List Event) (c : ℕ) → 2 ≤ c → Shut f l c h
@@ -155,6 +161,7 @@ module _ (l : ℕ) (low : l < 3) where
         rights = r;
         always = λ a. rw (ap (λ (t : Session). t .level) q) low;
         writes = unnamed f h c r;
+        restores = unrestored f h c r;
       }
 
   module _ (f : First) (closed : Closed f) where
@@ -180,6 +187,7 @@ module _ (l : ℕ) (low : l < 3) where
         by (connect c) p n = never p
         by (disconnect c) p n = never p
         by (button on) p n = never p
+        by (restore c k st) p n = s c .restores k st p
         by (request mode c g a out) p n = s c .writes mode g a out p x w n
 
     -- THE BYTES

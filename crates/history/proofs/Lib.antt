@@ -11,6 +11,7 @@ pub mod AtOnce
 pub mod Shown
 pub mod MemoryShown
 pub mod Isolated
+pub mod Acts
 pub mod Calls
 pub mod Suffices
 pub mod Permitted
@@ -49,3 +50,6 @@ pub mod PropertySteps
 pub mod OtherSteps
 pub mod GroupSteps
 pub mod Steps
+pub mod Restores
+pub mod RestoreRun
+pub mod RestoreSteps

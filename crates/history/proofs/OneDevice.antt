@@ -4,8 +4,9 @@ use mathlib.Core.Path.{_≡_, ap, _∙_}
 use mathlib.Core.List.{List}
 use Rattle.device.specs.Octets.{Octets}
 use Rattle.device.specs.Events.{State}
-use Rattle.events.specs.Events.{Event, connect, disconnect, button, request, eventOf}
+use Rattle.events.specs.Events.{Event, connect, disconnect, button, request, eventOf, restore}
 use Rattle.device.proofs.Dues.{connect-only, disconnect-only, button-only, request-only}
+use Rattle.events.proofs.Dues.{restore-only}
 use Rattle.history.specs.History.{First}
 use Rattle.history.specs.Keeps.{Device, stateAfter, BringsOctets, AllOctets, Begins}
 use Rattle.history.specs.Rightful.{Rightful, ours}
@@ -20,6 +21,7 @@ module _ (step : Device) (rightful : (f : First) (h : List Event) → Rightful (
   unfolding eventOf
   is-ours (connect c) z = connect-only X c _ (rightful f h .connects X c)
   is-ours (disconnect c) z = disconnect-only X c _ (rightful f h .disconnects X c)
+  is-ours (restore c n st) z = restore-only X c n st _ (rightful f h .restores X c n st)
   is-ours (button on) z = button-only X on _ (rightful f h .presses X on)
   is-ours (request mode c g a out) z =
       let k : Octets (X .sheet) = keeps-any step rightful f h b o .octets in

@@ -6,7 +6,8 @@ use mathlib.Core.Logic.{_⊎_, inl, inr}
 use mathlib.Core.Bool.{Bool, true, false, cond, _&&_, _||_}
 use mathlib.Core.List.{List, [], _∷_}
 use lib.Dec.{ltb, leb, eqb}
-use borrow.Author.Tests.{leb-true}
+use native.Mathlib.Omega.{arith}
+use borrow.Author.Tests.{leb-true, eqb-true}
 use Rattle.sheet.specs.Kind.{properties, kindOf}
 use Rattle.sheet.specs.declared.Memory.{Memory}
 use Rattle.sheet.specs.declared.Memory.the-variants.{Device}
@@ -18,7 +19,7 @@ use Rattle.octets.specs.Every.{every}
 use Rattle.octets.proofs.Everys.{every-at}
 use Rattle.history.specs.Location.{Location, memory}
 use Rattle.history.specs.Span.{Span, has, names}
-use Rattle.history.specs.Wish.{Wish, change, writeMemory, writeBits, writeProperty, writeKey, offerKey, restart, other, nothing}
+use Rattle.history.specs.Wish.{Wish, change, writeMemory, writeBits, writeProperty, writeKey, offerKey, restart, other, nothing, restoreAll}
 use Rattle.history.specs.Permit.{regionFor, mayRead, mayWrite, mostBytes, inRange, indexFor, entryFor, clears, fills, allowed, spans}
 use Rattle.history.specs.Keyless.{writeLevel}
 use Rattle.history.proofs.Bools.{all-at}
@@ -41,6 +42,10 @@ named-each P (p ∷ ps) a x e = go (or-is (has p x) (names ps x) .0 e) (λ n. na
 each-cond : (P : Location → Type 0) (t : Bool) (ps qs : List Span) → Each P ps → Each P qs → Each P (cond t ps qs)
 each-cond P true ps qs a b = a
 each-cond P false ps qs a b = b
+
+each-any : (P : Location → Type 0) → ((x : Location) → P x) → (ps : List Span) → Each P ps
+each-any P a [] = tt
+each-any P a (p ∷ ps) = ((λ j h. a _), each-any P a ps)
 
 module _ (s : List ℕ) (level : ℕ) where
   -- a byte that may be written
@@ -81,6 +86,10 @@ module _ (s : List ℕ) (level : ℕ) where
         enough : level ≤ property.levels of entryFor s object id % 16
         enough = leb-true _ _ (all-at Ts e 3)
     each (change (writeKey named number)) e = (λ j h. leb-true _ _ (and-is (ltb named 3) (leb level named) .0 e .1), tt)
+    each (change restoreAll) e = each-any (λ x. level ≤ writeLevel s x) (λ x. omega (arith, zero)) (spans s before d (change restoreAll))
+      where
+        zero : level ≡ 0
+        zero = eqb-true level 0 (and-is (eqb level 0) _ .0 e .0)
     each (offerKey number) e = tt
     each restart e = tt
     each (other o) e = tt

@@ -4,8 +4,11 @@ use Prim.Native.Nat.{ℕ}
 use mathlib.Core.Bool.{Bool}
 use mathlib.Core.List.{List, [], _∷_}
 use Rattle.device.specs.Events.{Effect, State, namedOutcome, connectOf, disconnectOf, Pressed, Called}
-use Rattle.events.specs.Events.{Event, connect, disconnect, button, request}
+use Rattle.events.specs.Events.{Event, connect, disconnect, button, request, restore}
+use Rattle.device.specs.Octets.{Octets}
+use Rattle.device.specs.Sessions.{sessionOf}
 use Rattle.device.specs.Demand2.{effectSeen}
+use Rattle.versions.specs.Restoring.{RestoredAs}
 use Rattle.device.specs.declared.Done.{Done}
 use Rattle.history.specs.History.{First}
 
@@ -23,6 +26,9 @@ pub data Call (x : State) : Event → Effect → Type 0 where
   requests :
       (mode c g : ℕ) (a out : List ℕ) (r : Done) (s′ o′ : List ℕ) → Called (x .sessions) mode c g a (x .sheet) out r s′ o′ →
       Call x (request mode c g a out) (effectSeen r s′ o′)
+  restores :
+      (c n : ℕ) (st : List ℕ) (r : ℕ) (s′ : List ℕ) → Octets st → RestoredAs (sessionOf (x .sessions) c) (x .sheet) st n r s′ →
+      Call x (restore c n st) record { outcome = r; answer = []; sessions = x .sessions; sheet = s′ }
 
 -- calls one after the other, each on what the one before left, the newest first
 pub data Calls (f : First) : List Event → State → Type 0 where

@@ -14,11 +14,13 @@ use Rattle.sheet.specs.Property as property
 use Rattle.sheet.specs.Entries.{place}
 use Rattle.sheet.specs.Places.{regionAt}
 use Rattle.device.specs.Sessions.{sessionOf}
-use Rattle.events.specs.Events.{Event, connect, disconnect, button, request}
+use Rattle.events.specs.Events.{Event, connect, disconnect, button, request, restore}
 use Rattle.device.specs.declared.Sessions.{Sessions}
+use Rattle.versions.specs.Rules.{isStore}
+use Rattle.versions.specs.Store.{isKept, versionIn}
 use Rattle.history.specs.Location.{Location, memory, body, counter, key}
-use Rattle.history.specs.Span.{names, gives}
-use Rattle.history.specs.Wish.{Wish, change, offerKey, restart, other, nothing, asks, brings}
+use Rattle.history.specs.Span.{all, names, gives}
+use Rattle.history.specs.Wish.{Wish, change, restoreAll, offerKey, restart, other, nothing, asks, brings}
 use Rattle.history.specs.Permit.{heard, levelFor, regionFor, indexFor, entryFor, allowed, spans}
 
 pub record First : Type 0 where
@@ -33,18 +35,20 @@ firstOf s (body o i j) = getD s (property.offset of entryFor s o i + j) 0
 firstOf s (counter o i j) = getD s (place s properties (indexFor s o i) + property.count .at + j) 0
 firstOf s (key l j) = getD s ((head.key l) .at + j) 0
 
--- what an event asks for, and the data that it brings: a request alone does
+-- what an event asks for, and the data that it brings: a request does, and a restore, whose data is the version
 abbrev pub wished : Event → Wish
 wished (connect c) = nothing
 wished (disconnect c) = nothing
 wished (button on) = nothing
 wished (request mode c g a out) = asks a
+wished (restore c n st) = change restoreAll
 
 abbrev pub supplied : Event → List ℕ
 supplied (connect c) = []
 supplied (disconnect c) = []
 supplied (button on) = []
 supplied (request mode c g a out) = brings a
+supplied (restore c n st) = versionIn st n
 
 -- a restart
 abbrev pub isRestart : Wish → Bool
@@ -74,6 +78,7 @@ openedBy rules live c (disconnect d) = cond (eqb c d) false (live c)
 openedBy rules live c (button on) = live c
 openedBy rules live c (request mode d g a out) =
     cond (heard rules (live d) mode a out (asks a) && isRestart (asks a)) false (live c)
+openedBy rules live c (restore d n st) = live c
 
 -- what one event makes of the level of connection c, `keys` being the keys before it
 abbrev pub levelBy : ℕ → (ℕ → Bool) → (ℕ → ℕ) → ℕ → ℕ → Event → ℕ
@@ -82,14 +87,17 @@ levelBy rules live keys c before (disconnect d) = cond (eqb c d) 3 before
 levelBy rules live keys c before (button on) = before
 levelBy rules live keys c before (request mode d g a out) =
     cond (heard rules (live d) mode a out (asks a)) (offered keys (eqb c d) before (asks a)) before
+levelBy rules live keys c before (restore d n st) = before
 
--- A PERMITTED WRITE: heard while its connection is so, and allowed at the level of that connection
+-- A PERMITTED WRITE: heard while its connection is so, and allowed at the level of that connection; of a restore, the version kept in a good store, and the connection open
 abbrev pub permits : List ℕ → (ℕ → Bool) → (ℕ → ℕ) → Event → Bool
 permits s live level (connect c) = false
 permits s live level (disconnect c) = false
 permits s live level (button on) = false
 permits s live level (request mode c g a out) =
     heard (rulesOf s) (live c) mode a out (asks a) && allowed s (levelFor mode (level c)) (brings a) (asks a)
+permits s live level (restore c n st) =
+    all (isStore st ∷ isKept st n ∷ live c ∷ allowed s (levelFor 3 (level c)) (versionIn st n) (change restoreAll) ∷ [])
 
 -- what a permitted write gives to a location that it names; all else stays
 abbrev pub contentBy : List ℕ → Bool → (Location → ℕ) → Event → Location → ℕ

@@ -7,17 +7,18 @@ use mathlib.Core.Bool.{Bool, true, false, cond, _&&_, _||_, not}
 use lib.ListN.{length}
 use lib.Dec.{eqb}
 use Rattle.device.specs.Sessions.{sessionOf}
-use Rattle.events.specs.Events.{Event, connect, disconnect, button, request}
+use Rattle.events.specs.Events.{Event, connect, disconnect, button, request, restore}
 use Rattle.history.specs.Wish.{restart, asks}
 use Rattle.history.specs.History.{First}
 use Rattle.history.specs.Keeps.{Device, stateAfter, Succeeds}
 
--- an event of the tool on connection o: its connects, its disconnects, its connected requests
+-- an event of the tool on connection o: its connects, its disconnects, its connected requests, its restores
 abbrev pub isOf : ℕ → Event → Bool
 isOf o (connect c) = eqb c o
 isOf o (disconnect c) = eqb c o
 isOf o (button on) = false
 isOf o (request mode c g a out) = eqb mode 3 && eqb c o
+isOf o (restore c n st) = eqb c o
 
 -- what that tool may have sent: these, and any request that names no connection
 abbrev pub mayBeOf : ℕ → Event → Bool
@@ -25,6 +26,7 @@ mayBeOf o (connect c) = eqb c o
 mayBeOf o (disconnect c) = eqb c o
 mayBeOf o (button on) = false
 mayBeOf o (request mode c g a out) = not (eqb mode 3) || eqb c o
+mayBeOf o (restore c n st) = eqb c o
 
 -- the same event, though its answer buffer may have held other bytes, as many
 pub data Alike : Event → Event → Type 0 where
@@ -32,7 +34,7 @@ pub data Alike : Event → Event → Type 0 where
   asLong :
       {mode c g : ℕ} {a out out′ : List ℕ} → length out ≡ length out′ → Alike (request mode c g a out) (request mode c g a out′)
 
--- what the other tool may send after h: any connect and disconnect; a request that changes no sheet byte and is no restart that is carried out
+-- what the other tool may send after h: any connect and disconnect; a request that changes no sheet byte and is no restart that is carried out; a restore that changes none
 abbrev pub Harmless : Device → First → List Event → Event → Type 0
 Harmless step f h (connect c) = Unit {0}
 Harmless step f h (disconnect c) = Unit {0}
@@ -40,6 +42,7 @@ Harmless step f h (button on) = Unit {0}
 Harmless step f h (request mode c g a out) =
     let r = step f h (stateAfter step f h) (request mode c g a out) in
     (r .sheet ≡ stateAfter step f h .sheet) × (asks a ≡ restart → Succeeds (r .outcome) → ⊥)
+Harmless step f h (restore c n st) = step f h (stateAfter step f h) (restore c n st) .sheet ≡ stateAfter step f h .sheet
 
 -- TWO RUNS: what the tool on connection o may have sent may be in one alone, if harmless; all else is the same in both, and in the same order
 pub data Beside (step : Device) (f : First) (o : ℕ) : List Event → List Event → Type 0 where

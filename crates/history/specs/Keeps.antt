@@ -14,7 +14,7 @@ use Rattle.sheet.specs.Entries.{InBody, bodyAt}
 use Rattle.device.specs.Octets.{Octets}
 use Rattle.device.specs.Sessions.{sessionOf}
 use Rattle.device.specs.Events.{Effect, State}
-use Rattle.events.specs.Events.{Event, connect, disconnect, button, request}
+use Rattle.events.specs.Events.{Event, connect, disconnect, button, request, restore}
 use Rattle.history.specs.Location.{Location, Place}
 use Rattle.history.specs.Span.{names, gives}
 use Rattle.history.specs.Wish.{Wish, change, offerKey, restart, other, nothing}
@@ -57,12 +57,13 @@ pub record Still (s : List ℕ) (p : ℕ) : Type 0 where
   pub address : (p < head.address .at) ⊎ (head.address .at + head.address .width ≤ p)
   pub flags : p ≡ head.flags .at → ⊥
 
--- every APDU is a list of bytes, whether it passes any check or not
+-- every APDU and every store is a list of bytes, whether it passes any check or not
 abbrev pub BringsOctets : Event → Type 0
 BringsOctets (connect c) = Unit {0}
 BringsOctets (disconnect c) = Unit {0}
 BringsOctets (button on) = Unit {0}
 BringsOctets (request mode c g a out) = Octets a
+BringsOctets (restore c n st) = Octets st
 
 abbrev pub AllOctets : List Event → Type 0
 AllOctets [] = Unit {0}

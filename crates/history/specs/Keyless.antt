@@ -13,7 +13,7 @@ use Rattle.sheet.specs.Property as property
 use Rattle.sheet.specs.Places.{regionAt}
 use Rattle.device.specs.Sessions.{sessionOf}
 use Rattle.device.specs.Events.{State}
-use Rattle.events.specs.Events.{Event, request}
+use Rattle.events.specs.Events.{Event, request, restore}
 use Rattle.history.specs.Location.{Location, memory, body, counter, key, Place}
 use Rattle.history.specs.Span.{names}
 use Rattle.history.specs.Wish.{offerKey, asks, brings}
@@ -57,6 +57,8 @@ pub record Shut (f : First) (l c : ℕ) (h : List Event) : Type 0 where
   pub writes :
       (mode g : ℕ) (a out : List ℕ) → permitted f h (request mode c g a out) ≡ true → (x : Location) → writeLevel (f .sheet) x ≤ l →
       names (spans (f .sheet) (content f h) (brings a) (asks a)) x ≡ true → ⊥
+  -- and no restore
+  pub restores : (n : ℕ) (st : List ℕ) → permitted f h (restore c n st) ≡ true → ⊥
 
 -- AND OF THE BYTES, where neither connection has offered one
 pub record Untouched (f : First) (l : ℕ) (h : List Event) : Type 0 where

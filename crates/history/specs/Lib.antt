@@ -12,3 +12,4 @@ pub mod Shown
 pub mod Isolation
 pub mod Samples
 pub mod Calls
+pub mod Acts

@@ -12,7 +12,7 @@ use Rattle.sheet.specs.Head.{rulesOf}
 use Rattle.sheet.specs.Group as group
 use Rattle.sheet.specs.Entries.{entry, bodyAt}
 use Rattle.device.specs.Events.{bit}
-use Rattle.events.specs.Events.{Event, connect, disconnect, button, request}
+use Rattle.events.specs.Events.{Event, connect, disconnect, button, request, restore}
 use Rattle.history.specs.Wish as wish
 use Rattle.history.specs.Span.{all}
 use Rattle.history.specs.Permit.{heard}
@@ -26,6 +26,7 @@ programming f (disconnect c ∷ h) = programming f h
 programming f (button on ∷ h) = bit on
 programming f (request mode c g a out ∷ h) =
     cond (heard (rulesOf (f .sheet)) (opened f h c) mode a out (wish.asks a) && isRestart (wish.asks a)) 0 (programming f h)
+programming f (restore c n st ∷ h) = programming f h
 
 -- the new address that a request brings: in programming mode (`inProgramming` is 1), or by the serial number
 abbrev pub newAddress : ℕ → ℕ → ℕ → wish.Wish → ℕ
@@ -46,6 +47,7 @@ individual f (button on ∷ h) = individual f h
 individual f (request mode c g a out ∷ h) =
     cond (heard (rulesOf (f .sheet)) (opened f h c) mode a out (wish.asks a))
     (newAddress (programming f h) (head.serial of f .sheet) (individual f h) (wish.asks a)) (individual f h)
+individual f (restore c n st ∷ h) = individual f h
 
 -- byte j of what a group value brings to the object of entry e: the six bits, or the data
 abbrev pub newValue : List ℕ → ℕ → List ℕ → ℕ → ℕ → wish.Wish → ℕ
@@ -70,3 +72,4 @@ groupByte f (button on ∷ h) i j = groupByte f h i j
 groupByte f (request mode c g a out ∷ h) i j =
     cond (heard (rulesOf (f .sheet)) (opened f h c) mode a out (wish.asks a))
     (newValue (entry (f .sheet) groups i) g (wish.brings a) j (groupByte f h i j) (wish.asks a)) (groupByte f h i j)
+groupByte f (restore c n st ∷ h) i j = groupByte f h i j

@@ -1,7 +1,7 @@
 -- Which requests are heard, which writes are allowed, which bytes they name, and what they give to each.
 -- Assumes nothing.
 use Prim.Native.Nat.{ℕ, zero, suc, _+_, _*_, _-_, _/_, _%_, max}
-use mathlib.Core.List.{List, [], _∷_}
+use mathlib.Core.List.{List, [], _∷_, _++_}
 use mathlib.Core.Bool.{Bool, true, false, cond, _&&_, _||_, not}
 use lib.ListN.{length, getD}
 use lib.Dec.{ltb, leb, eqb}
@@ -18,9 +18,12 @@ use Rattle.sheet.specs.Lookup.{seek, covers, indexOf}
 use Rattle.sheet.specs.Places.{regionAt}
 use Rattle.sheet.specs.declared.Memory.{Memory}
 use Rattle.sheet.specs.declared.Memory.the-variants.{Device, User}
+use Rattle.versions.specs.Settings.{inVersion}
+use Rattle.versions.specs.Settings.{bodyInVersion}
+use Rattle.versions.specs.Restoring.{sameEntries, lowCounts}
 use Rattle.history.specs.Location.{Location, memory, body, counter, key}
 use Rattle.history.specs.Span.{all, Span}
-use Rattle.history.specs.Wish.{Wish, change, writeMemory, writeBits, writeProperty, writeKey, offerKey, restart, other, nothing, taken}
+use Rattle.history.specs.Wish.{Wish, change, writeMemory, writeBits, writeProperty, writeKey, restoreAll, offerKey, restart, other, nothing, taken}
 
 -- THE CHECKS BEFORE THE RIGHTS: buffer, length, mode, connected only while open, the service in this mode.
 -- That the service is known and its length right is that the APDU reads.
@@ -86,6 +89,8 @@ allowed sheet level d (change (writeProperty object id n s)) =
     (ltb (indexFor sheet object id) (count sheet properties) ∷
     eqb (property.typ of e / 128) 1 ∷ (clears n s d || fills e n s d) ∷ leb level (property.levels of e % 16) ∷ [])
 allowed s level d (change (writeKey named number)) = ltb named 3 && leb level named
+-- d is the version: level 0 alone suffices, whatever the entries say
+allowed s level d (change restoreAll) = all (eqb level 0 ∷ sameEntries s d ∷ lowCounts s d ∷ [])
 allowed s level d (offerKey number) = false
 allowed s level d restart = false
 allowed s level d (other o) = false
@@ -99,6 +104,30 @@ countIn before o i = before (counter o i 0) * 256 + before (counter o i 1)
 abbrev pub countTo : ℕ → ℕ → ℕ → Span
 countTo object id c =
     record { from = counter object id 0; long = property.count .width; give = λ j. getD (bytesOf 2 c) j 0 }
+
+-- a span for each number below n
+unfoldable pub over : ℕ → (ℕ → Span) → List Span
+over zero p = []
+over (suc n) p = p n ∷ over n p
+
+-- the count of property i of a sheet, and its body, become those of a version
+abbrev pub countFrom : List ℕ → List ℕ → ℕ → Span
+countFrom s version i =
+    let e = entry s properties i in
+    record {
+      from = counter (property.object of e) (property.id of e) 0;
+      long = property.count .width;
+      give = λ j. getD version (inVersion i (property.count .at + j)) 0;
+    }
+
+abbrev pub bodyFrom : List ℕ → List ℕ → ℕ → Span
+bodyFrom s version i =
+    let e = entry s properties i in
+    record {
+      from = body (property.object of e) (property.id of e) 0;
+      long = property.element of e * property.maximum of e;
+      give = λ j. getD version (bodyInVersion s i + j) 0;
+    }
 
 -- THE BYTES THAT A WRITE NAMES, AND WHAT IT GIVES TO EACH, d being its data and `before` the contents before it
 unfoldable pub spans : List ℕ → (Location → ℕ) → List ℕ → Wish → List Span
@@ -120,6 +149,9 @@ spans sheet before d (change (writeProperty object id n s)) =
     record { from = body object id (c * z); long = (s - 1 - c) * z; give = λ j. 0 } ∷ [])
 spans s before d (change (writeKey named number)) =
     record { from = key named 0; long = (head.key named) .width; give = λ j. getD (bytesOf 4 number) j 0 } ∷ []
+-- every byte of every property
+spans s before d (change restoreAll) =
+    over (count s properties) (countFrom s d) ++ over (count s properties) (bodyFrom s d)
 spans s before d (offerKey number) = []
 spans s before d restart = []
 spans s before d (other o) = []

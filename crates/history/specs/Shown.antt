@@ -19,7 +19,7 @@ use Rattle.events.specs.Events.{Event, request}
 use Rattle.device.specs.MemoryDue.{reading, response}
 use Rattle.history.specs.Location.{memory, body}
 use Rattle.history.specs.Span.{all, names}
-use Rattle.history.specs.Wish.{Wish, change, writeMemory, writeBits, writeProperty, writeKey, offerKey, restart, other, nothing}
+use Rattle.history.specs.Wish.{Wish, change, writeMemory, writeBits, writeProperty, writeKey, offerKey, restart, other, nothing, restoreAll}
 use Rattle.history.specs.Permit.{levelFor, mayRead, entryFor, countIn, spans}
 use Rattle.history.specs.History.{First, firstOf, wished, supplied, level, content, permitted}
 use Rattle.history.specs.Keeps.{Device, stateAfter, Begins, AllOctets}
@@ -34,19 +34,33 @@ clearing object id (change (writeMemory m n a)) = false
 clearing object id (change (writeBits n a)) = false
 clearing object id (change (writeProperty o i n s)) = all (eqb o object ∷ eqb i id ∷ eqb s 0 ∷ [])
 clearing object id (change (writeKey level number)) = false
+clearing object id (change restoreAll) = false
 clearing object id (offerKey number) = false
 clearing object id restart = false
 clearing object id (other o) = false
 clearing object id nothing = false
 
--- BYTE j OF ITS BODY IS GIVEN: the first sheet counted it, or a permitted write has named it, with its data or with the zeros
+-- all properties are restored
+abbrev pub restoring : Wish → Bool
+restoring (change (writeMemory m n a)) = false
+restoring (change (writeBits n a)) = false
+restoring (change (writeProperty o i n s)) = false
+restoring (change (writeKey level number)) = false
+restoring (change restoreAll) = true
+restoring (offerKey number) = false
+restoring restart = false
+restoring (other o) = false
+restoring nothing = false
+
+-- BYTE j OF ITS BODY IS GIVEN: the first sheet counted it, or the version that was restored last, or a permitted write has named it since, with its data or with the zeros
 -- of an element that it jumped; and the count has not been cleared since
 unfoldable pub given : First → ℕ → ℕ → ℕ → List Event → Bool
 given f object id j [] = ltb j (countIn (firstOf (f .sheet)) object id * elementOf f object id)
 given f object id j (e ∷ h) =
-    cond (permitted f h e && clearing object id (wished e)) false
+    cond (permitted f h e && restoring (wished e)) (ltb j (countIn (content f (e ∷ h)) object id * elementOf f object id))
+    (cond (permitted f h e && clearing object id (wished e)) false
     ((permitted f h e && names (spans (f .sheet) (content f h) (supplied e) (wished e)) (body object id j)) ||
-    given f object id j h)
+    given f object id j h))
 
 -- the answer shows n elements from element s on, each byte of them given, and it is what the history says
 pub record Shows (f : First) (h : List Event) (object id n s : ℕ) (r : Effect) : Type 0 where

@@ -13,12 +13,13 @@ use Rattle.pdu.specs.declared.Parsed.the-variants.{Is, Refused}
 use Rattle.pdu.specs.declared.Pdu.{Pdu}
 use Rattle.pdu.specs.declared.Pdu.the-variants.{GroupValueRead, GroupValueResponse, GroupValueWrite, IndividualAddressWrite, IndividualAddressRead, SerialNumberRead, SerialNumberWrite, DeviceDescriptorRead, PropertyValueRead, PropertyValueWrite, PropertyDescriptionRead, MemoryRead, MemoryWrite, MemoryBitWrite, AuthorizeRequest, KeyWrite, Restart, IndividualAddressResponse, SerialNumberResponse, DeviceDescriptorResponse, PropertyValueResponse, PropertyDescriptionResponse, MemoryResponse, AuthorizeResponse, KeyResponse, UserMemoryRead, UserMemoryResponse, UserMemoryWrite}
 
--- a write to locations: bytes of a memory, bits of the device's memory, a property, a key
+-- a write to locations: bytes of a memory, bits of the device's memory, a property, a key; and what no request asks for, all properties restored
 pub data Change : Type 0 where
   writeMemory : Memory → (n address : ℕ) → Change
   writeBits : (n address : ℕ) → Change
   writeProperty : (object id n s : ℕ) → Change
   writeKey : (level number : ℕ) → Change
+  restoreAll : Change
 
 -- what changes other bytes: the address in programming mode, and by serial; a group value for objects that have a flag
 pub data Other : Type 0 where
@@ -86,6 +87,7 @@ taken rules (change (writeMemory m n a)) mode = eqb mode 3
 taken rules (change (writeBits n a)) mode = eqb mode 3
 taken rules (change (writeProperty object id n s)) mode = eqb mode 2 || eqb mode 3
 taken rules (change (writeKey level number)) mode = eqb mode 3
+taken rules (change restoreAll) mode = false
 taken rules (offerKey number) mode = eqb mode 3
 taken rules restart mode = eqb mode 3 || (eqb rules later && eqb mode 2)
 taken rules (other (address new)) mode = eqb mode 1

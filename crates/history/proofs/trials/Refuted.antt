@@ -27,9 +27,14 @@ use Rattle.judge.specs.Keys.{grantOf, authorizeOf, keyWriteOf, restartOf}
 use Rattle.judge.specs.Judge.{reachedOf, isShut, judgeOf}
 use Rattle.device.specs.Step.{stepBy, stepOf}
 use Rattle.device.specs.Events.{State, requestOf, bit}
-use Rattle.events.specs.Events.{Event, connect, disconnect, button, request, eventOf}
+use Rattle.events.specs.Events.{Event, connect, disconnect, button, request, restore, eventOf}
 use Rattle.device.specs.Marked.{sample}
 use Rattle.device.specs.Pump.{pump}
+use Rattle.versions.specs.Store.{versionAt, versionsFrom, kept, has, bodyOf, isKept, versionIn}
+use Rattle.versions.specs.Rules.{rowsRule, allRows, storeRule, isStore}
+use Rattle.versions.specs.Settings.{restored}
+use Rattle.versions.specs.Restoring.{sameEntry, lowCount, sameEntries, lowCounts, givesBack, atZero, restoreOutcome, restoreSheet}
+use Rattle.versions.specs.Example.{once}
 use Rattle.device.proofs.Octet.{isBytes, octets-by}
 use Rattle.history.specs.Span.{same}
 use Rattle.history.specs.Wish.{asks, brings}
@@ -48,6 +53,7 @@ bringsBytes (connect c) = true
 bringsBytes (disconnect c) = true
 bringsBytes (button on) = true
 bringsBytes (request mode c g a out) = isBytes a
+bringsBytes (restore c n st) = isBytes st
 
 abbrev allBytes : List Event → Bool
 allBytes [] = true
@@ -61,6 +67,9 @@ octets-all (button on ∷ h) e = (tt, octets-all h e)
 octets-all (request mode c g a out ∷ h) e =
     let b = and-is (isBytes a) (allBytes h) .0 e in
     (octets-by a (b .0), octets-all h (b .1))
+octets-all (restore c n st ∷ h) e =
+    let b = and-is (isBytes st) (allBytes h) .0 e in
+    (octets-by st (b .0), octets-all h (b .1))
 
 -- one session, one state, by one test
 abbrev sameSession : Session → Session → Bool
@@ -130,6 +139,8 @@ unfolding stateAfter eventOf requestOf stepOf stepBy judgeOf isAccepted isShut r
     permitted opened level content firstOf keyIn heard levelFor allowed every regionFor mayWrite inRange indexFor entryFor
     asks brings readPdu find dataOf encoded headBytes lowAt fourAt twelveAt seek indexOf covers placeOf common rangeOf splice
     ruleIn walkRule restRule entriesRule bodiesRule entryRule bodyRule bodyDemands entryDemands entry keyOf floor bodyAt bodyEnd startOf reached sixBits first breach numAt bytesOf sample pump
+    restoreOutcome restoreSheet restored bodyOf has isKept versionIn sameEntry lowCount sameEntries lowCounts givesBack atZero versionAt versionsFrom kept
+    rowsRule allRows storeRule isStore once
 told = refl
 
 pub wrongs-refuted : Each wrongs

@@ -1,6 +1,6 @@
 -- WRONG DEVICES, each with a short run on which it shows: trials, to hold against demand 3 (`wrongs-refuted`).
 -- Assumes nothing.
-use Prim.Native.Nat.{ℕ, _+_, _*_, _-_}
+use Prim.Native.Nat.{ℕ, _+_, _*_, _-_, _/_}
 use mathlib.Core.List.{List, [], _∷_}
 use mathlib.Core.Bool.{Bool, true, false, cond, _&&_, _||_}
 use lib.ListN.{getD, take, drop, replicate}
@@ -11,13 +11,20 @@ use Rattle.sheet.specs.Kind.{properties}
 use Rattle.sheet.specs.Layout.{_of_}
 use Rattle.sheet.specs.Head as head
 use Rattle.sheet.specs.Property as property
-use Rattle.sheet.specs.Entries.{place}
+use Rattle.sheet.specs.Entries.{place, entry}
 use Rattle.judge.specs.declared.Session.{Session}
-use Rattle.device.specs.Sessions.{closed, withSession}
+use Rattle.device.specs.Sessions.{closed, withSession, sessionOf}
 use Rattle.device.specs.Events.{Effect, State, connecting, requesting}
-use Rattle.events.specs.Events.{Event, connect, disconnect, button, request, eventOf}
+use Rattle.events.specs.Events.{Event, connect, disconnect, button, request, restore, restoring, eventOf}
 use Rattle.device.specs.declared.Sessions.{Sessions}
-use Rattle.history.specs.Wish.{Wish, change, writeMemory, writeBits, writeProperty, writeKey, offerKey, restart, other, nothing, asks}
+use Rattle.device.specs.Sessions.{freshOf}
+use Rattle.device.specs.Marked.{sample}
+use Rattle.versions.specs.Store.{isKept, versionIn}
+use Rattle.versions.specs.Rules.{isStore}
+use Rattle.versions.specs.Settings.{restored}
+use Rattle.versions.specs.Restoring.{atZero}
+use Rattle.versions.specs.Example.{once}
+use Rattle.history.specs.Wish.{Wish, change, writeMemory, writeBits, writeProperty, writeKey, restoreAll, offerKey, restart, other, nothing, asks}
 use Rattle.history.specs.Permit.{indexFor, entryFor}
 use Rattle.history.specs.History.{First, wished, isRestart, permitted}
 use Rattle.history.specs.Keeps.{Device, stateAfter}
@@ -44,15 +51,20 @@ abbrev pub at : State → ℕ → State
 at x l =
     let q : Session = record { opened = true; level = l } in record { sessions = record { first = q; second = q }; sheet = x .sheet }
 
--- A DEVICE BY WHAT IT DOES with a connect and with a request; with all else it does what ours does
-abbrev pub doing : (State → ℕ → Effect) → (State → ℕ → ℕ → ℕ → List ℕ → List ℕ → Effect) → Device
-doing connects requests f h x (connect c) = connects x c
-doing connects requests f h x (disconnect c) = eventOf x (disconnect c)
-doing connects requests f h x (button on) = eventOf x (button on)
-doing connects requests f h x (request mode c g a out) = requests x mode c g a out
+-- A DEVICE BY WHAT IT DOES with a connect, with a request and with a restore; with all else it does what ours does
+abbrev pub doing :
+    (State → ℕ → Effect) → (State → ℕ → ℕ → ℕ → List ℕ → List ℕ → Effect) → (State → ℕ → ℕ → List ℕ → Effect) → Device
+doing connects requests restores f h x (connect c) = connects x c
+doing connects requests restores f h x (disconnect c) = eventOf x (disconnect c)
+doing connects requests restores f h x (button on) = eventOf x (button on)
+doing connects requests restores f h x (request mode c g a out) = requests x mode c g a out
+doing connects requests restores f h x (restore c n st) = restores x c n st
 
 abbrev pub onRequests : (State → ℕ → ℕ → ℕ → List ℕ → List ℕ → Effect) → Device
-onRequests requests = doing connecting requests
+onRequests requests = doing connecting requests restoring
+
+abbrev pub onRestores : (State → ℕ → ℕ → List ℕ → Effect) → Device
+onRestores restores = doing connecting requesting restores
 
 -- one that changes what ours makes of a request, and one that acts on requests as if the levels were others
 abbrev pub changing : (State → Event → Effect → Effect) → Device
@@ -92,6 +104,7 @@ written c x s (change (writeMemory m n a)) = s
 written c x s (change (writeBits n a)) = s
 written c x s (change (writeProperty object id n z)) = c x s object id z
 written c x s (change (writeKey level number)) = s
+written c x s (change restoreAll) = s
 written c x s (offerKey number) = s
 written c x s restart = s
 written c x s (other o) = s
@@ -148,7 +161,7 @@ abbrev pub keepsOver : Device
 keepsOver =
     doing
     (λ x c. let r = connecting x c in withSessions r (levelled (λ p q. p .level) (x .sessions) (r .sessions)))
-    requesting
+    requesting restoring
 
 -- ONE WITH ONE LEVEL FOR BOTH CONNECTIONS: the second has that of the first
 abbrev pub oneLevel : Device
@@ -213,6 +226,40 @@ firstRegionDecides =
     withSheet r
     (cond (leb (requesting x mode c g (firstByte a) out .outcome) 1) (requesting (at x 0) mode c g a out .sheet) (r .sheet)))
 
+-- ONE THAT RESTORES AT LEVEL 1 TOO
+abbrev pub restoresAtOne : Device
+restoresAtOne =
+    onRestores
+    (λ x c n st.
+    let q = levelled (λ p q. cond (leb (q .level) 1) 0 (q .level)) (x .sessions) (x .sessions) in
+    withSessions (restoring record { sessions = q; sheet = x .sheet } c n st) (x .sessions))
+
+-- ONE WHOSE RESTORE LEAVES THE COUNT of the first property
+abbrev pub leavesCount : Device
+leavesCount =
+    onRestores
+    (λ x c n st.
+    let r = restoring x c n st in
+    withSheet r
+    (splice (r .sheet) (place (x .sheet) properties 0 + property.count .at) (bytesOf 2 (property.count of entry (x .sheet) properties 0))))
+
+-- ONE THAT RESTORES WHAT COULD BE WRITTEN ALONE: nothing if the first property is not writable
+abbrev pub restoresWritable : Device
+restoresWritable =
+    onRestores
+    (λ x c n st.
+    let r = restoring x c n st in
+    withSheet r (cond (eqb (property.typ of entry (x .sheet) properties 0 / 128) 1) (r .sheet) (x .sheet)))
+
+-- ONE THAT STORES BEFORE IT JUDGES THE ENTRIES
+abbrev pub restoresFirst : Device
+restoresFirst =
+    onRestores
+    (λ x c n st.
+    let r = restoring x c n st in
+    withSheet r
+    (cond (isStore st && (isKept st n && atZero (sessionOf (x .sessions) c))) (restored (x .sheet) (versionIn st n)) (r .sheet)))
+
 -- WHAT THE RUNS ARE MADE OF
 abbrev pub buffer : List ℕ
 buffer = replicate 16 0
@@ -267,6 +314,19 @@ jump = sent (0x03 ∷ 0xD7 ∷ 0x01 ∷ 0x33 ∷ 0x10 ∷ 0x02 ∷ 0x03 ∷ 0x84
 abbrev pub restarting : Event
 restarting = sent (0x03 ∷ 0x80 ∷ [])
 
+-- version 1 restored on connection 0, from a store that keeps the sample's properties: as they are, with another write level, and with a property that is not writable, of another value
+abbrev pub given : List ℕ → Event
+given st = restore 0 1 st
+
+abbrev pub otherLevels : List ℕ
+otherLevels = splice once 28 (0x30 ∷ [])
+
+abbrev pub readOnly : List ℕ
+readOnly = splice (splice once 20 (0x04 ∷ [])) 30 (0x07 ∷ 0xD0 ∷ [])
+
+abbrev pub freshReadOnly : First
+freshReadOnly = record { sheet = splice sample 42 (0x04 ∷ []); sessions = freshOf }
+
 -- connected, the key of level 0 offered
 abbrev pub authorized : List Event
 authorized = offering 0x11 ∷ connect 0 ∷ []
@@ -303,4 +363,8 @@ wrongs =
     shows setsKey0 (newKey0 ∷ offering 0x22 ∷ connect 0 ∷ []) ∷
     shows losesSecond (bothBytes ∷ authorized) ∷ shows ignoresKey0 (newKey0 ∷ authorized) ∷ shows addressInOne (connect 0 ∷ []) ∷
     record { device = userFromDevice; first = freshPump; events = userWrite ∷ authorized } ∷
-    record { device = firstRegionDecides; first = freshPump; events = acrossWrite ∷ offering 0x22 ∷ connect 0 ∷ [] } ∷ []
+    record { device = firstRegionDecides; first = freshPump; events = acrossWrite ∷ offering 0x22 ∷ connect 0 ∷ [] } ∷
+    shows restoresAtOne (given once ∷ elementWrite 3 ∷ offering 0x22 ∷ connect 0 ∷ []) ∷
+    shows leavesCount (given once ∷ clear ∷ authorized) ∷
+    record { device = restoresWritable; first = freshReadOnly; events = given readOnly ∷ authorized } ∷
+    shows restoresFirst (given otherLevels ∷ authorized) ∷ []
