@@ -47,6 +47,8 @@ const PARTS: &[Part] = &[
             "disconnect-only",
             "button-due",
             "button-only",
+            "events/restore-due",
+            "events/restore-only",
         ],
     },
     Part { title: "Demand 3", says: "what any history leaves", statements: &["history/keeps"] },
@@ -64,6 +66,8 @@ const STOPS: &[(&str, &str, &[&str])] = &[
     ("stepOf", "what a request does on its session: contract and theorems meet there", &[]),
     ("buttonOutcome", "what the button does: contract and theorems meet there", &[]),
     ("buttonSheet", "what the button does: contract and theorems meet there", &[]),
+    ("restoreOutcome", "what a restore does: contract and theorems meet there", &[]),
+    ("restoreSheet", "what a restore does: contract and theorems meet there", &[]),
     ("ruleIn", "the rules as rows of a table; read as nine propositions", &["sheet/judged", "sheet/judged-only"]),
 ];
 
