@@ -1,22 +1,29 @@
--- Version i of a good store: those before it, its own, those after it, and where row and body stand.
+-- Version i of a good store: those before it, its own, those after it, where row and body stand, and the store without it.
 -- Assumes nothing.
 use Prim.Native.Nat.{ℕ, suc, _+_, _-_, _*_, _≤_, _<_}
-use mathlib.Core.Path.{_≡_, sym, ap, ap₂, _∙_}
+use mathlib.Core.Path.{_≡_, sym, ap, ap₂, subst, _∙_}
+use mathlib.Core.Bool.{true}
 use mathlib.Core.List.{List, _∷_, _++_}
 use native.Mathlib.Omega.{arith}
-use lib.ListN.{length, drop, length-append}
+use lib.ListN.{length, drop, replicate, length-append}
 use Rattle.octets.specs.Octets.{Octets}
 use Rattle.sheet.specs.Layout.{_of_}
 use Rattle.versions.specs.Head as head
 use Rattle.versions.specs.Row as row
-use Rattle.versions.specs.Store.{Version, GoodStore, tableEnd, inRow, bodiesOf, laid, versionAt, versionsFrom, kept}
+use Rattle.versions.specs.Store.{Version, GoodStore, tableEnd, inRow, bodiesOf, laid, versionAt, versionsFrom, kept, has, isKept}
+use Rattle.versions.specs.Removing.{without, removed}
+use Rattle.versions.specs.Steps.{closed, takenOut}
 use Rattle.versions.specs.Ends.{endFrom, endOf}
-use Rattle.versions.specs.Walk.{Chosen, Stands}
+use Rattle.versions.specs.Walk.{Chosen, Found, Stands}
 use Rattle.versions.proofs.Laid.{laid-long, bodies-join}
 use Rattle.versions.proofs.Backs.{good-store, length-versions}
 use Rattle.versions.proofs.Keeping.{end-long}
-use Rattle.versions.proofs.Finds.{split}
-use Rattle.versions.proofs.Apart.{offset-is, long-is}
+use Rattle.versions.proofs.Finds.{split, found, left-found}
+use Rattle.versions.proofs.Apart.{offset-is, long-is, taken-out}
+
+closed-same :
+    (s t : List ℕ) (n k p q a d l m e f : ℕ) → s ≡ t → n ≡ k → p ≡ q → a ≡ d → l ≡ m → e ≡ f → closed s n p a l e ≡ closed t k q d m f
+closed-same s t n k p q a d l m e f h₁ h₂ h₃ h₄ h₅ h₆ = cc
 
 module _ {s : List ℕ} {n i : ℕ} (b : Octets s) (c : Chosen s n i) where
   abbrev last : ℕ
@@ -111,3 +118,36 @@ module _ {s : List ℕ} {n i : ℕ} (b : Octets s) (c : Chosen s n i) where
         within = omega (arith, same-a, same-l, same-end);
         room = omega (arith, same-end, ap length whole, length-append (laid last (before ++ (own ∷ after))) free, old-long);
       }
+
+  taken : takenOut s n i ≡ laid last (before ++ after) ++ (replicate (8 + l) 0 ++ free)
+  unfolding takenOut closed
+  taken =
+      closed-same s (laid last (before ++ (own ∷ after)) ++ free) n n′ (tableEnd i) (tableEnd (length before)) _ a _ l _ (a + l + length (bodiesOf after)) whole same-n same-p same-a same-l same-end
+      ∙ taken-out last before own after free (omega (arith, short)) (omega (arith, short))
+
+  -- AS THE STORE WITHOUT IT
+  module _ (x : ℕ) (f : Found s n x i) where
+    pub was-kept : isKept s x ≡ true
+    unfolding kept isKept
+    was-kept =
+        let e : i + suc m ≡ head.count of s = sym whole-count ∙ c .all in
+        subst (λ (k : ℕ). has x (versionsFrom s 8 k) ≡ true) e (found s x i m 8 (λ j h q. f .before j h q) (f .here (c .below)))
+
+    left-is : without x (kept s) ≡ before ++ after
+    unfolding kept
+    left-is =
+        let e : i + suc m ≡ head.count of s = sym whole-count ∙ c .all in
+        subst (λ (k : ℕ). without x (versionsFrom s 8 k) ≡ before ++ after) e (left-found s x i m 8 (λ j h q. f .before j h q) (f .here (c .below)))
+
+    pub taken-is : takenOut s n i ≡ removed s x
+    unfolding removed
+    taken-is =
+        let e : length (laid last (kept s)) ≡ endOf s = sym (end-long s b (c .good)) in
+        let new : length (laid last (before ++ after)) ≡ tableEnd (length before + length after) + (length (bodiesOf before) + length (bodiesOf after)) =
+        laid-long last (before ++ after) ∙ omega (arith, length-append before after, ap length (bodies-join before after), length-append (bodiesOf before) (bodiesOf after))
+        in
+        let old : endOf s ≡ tableEnd n′ + (length (bodiesOf before) + (length (own .body) + length (bodiesOf after))) =
+        end-long s b (c .good) ∙ ap (λ (vs : List Version). length (laid last vs)) which ∙ old-long
+        in
+        let k : endOf s - length (laid last (before ++ after)) ≡ 8 + l = omega (arith, new, old) in
+        rw (left-is, e, k) taken

@@ -20,7 +20,8 @@ use Rattle.versions.specs.Rules.{storeRule, Passes, isStore}
 use Rattle.versions.specs.Saving.{needed, lastNumber, nextNumber, saved, saveOutcome, saveNumber, saveStore, noRoom, noPlace, noNumber}
 use Rattle.versions.specs.Settings.{settingsOf, restored, SameEntries, LowCounts}
 use Rattle.versions.specs.Restoring.{sameEntries, lowCounts, givesBack, atZero, restoreOutcome, restoreSheet, notAtZero, otherEntries, highCount}
-use Rattle.versions.specs.Due.{Ready, SaveDue, noSheet, noStore, lastGiven, allTaken, tooLong, isSaved, AtZero, Known, RestoreDue, sheetRefused, storeRefused, unknownNumber, notOpen, differs, tooHigh, isRestored}
+use Rattle.versions.specs.Removing.{removed, removeOutcome, removeStore}
+use Rattle.versions.specs.Due.{Ready, SaveDue, noSheet, noStore, lastGiven, allTaken, tooLong, isSaved, AtZero, Known, RestoreDue, sheetRefused, storeRefused, unknownNumber, notOpen, differs, tooHigh, isRestored, RemoveDue, badOne, unknown, isRemoved}
 use Rattle.versions.proofs.Agreeing.{same-entries, entries-same, low-counts, counts-low}
 
 module _ (sheet s : List ℕ) where
@@ -92,6 +93,24 @@ module _ (sheet s : List ℕ) where
       (λ bad z. absurd (omega arith)))
       (λ f z. absurd (omega arith))
 
+  -- what outcome 33 says
+  pub save-tight : saveOutcome sheet s ≡ noRoom → length s < needed (kept s) d
+  unfolding saveOutcome isAccepted isStore
+  save-tight =
+      let P : ℕ → Type 0 = λ r. r ≡ noRoom → length s < needed (kept s) d in
+      by-eq P (ruleOf sheet) 0 _ _
+      (λ ok.
+      by-eq P (storeRule s) 0 _ _
+      (λ sound.
+      by-eq P (head.last of s) lastNumber _ _
+      (λ e z. absurd (omega arith))
+      (λ n.
+      by-eq P (length (kept s)) places _ _
+      (λ e z. absurd (omega arith))
+      (λ m. by-lt P (length s) (needed (kept s) d) _ _ (λ l z. l) (λ l z. absurd (omega arith)))))
+      (λ bad z. absurd (omega arith)))
+      (λ f z. absurd (omega arith))
+
   -- NUMBERS: refused for them exactly if the last one has been given
   module _ (h : Ready sheet s) where
     then : (x : ℕ) → cond (eqb (ruleOf sheet) 0) (cond (eqb (storeRule s) 0) x 30) 4 ≡ x
@@ -111,6 +130,56 @@ module _ (sheet s : List ℕ) where
               (sym (then _) ∙ e),
           λ e. rw (accept (h .accepted), pass h, eq-eqb (head.last of s) lastNumber e),
         )
+
+    module _ (l : head.last of s ≡ lastNumber → ⊥) where
+      -- PLACES: refused for them exactly if eight are kept
+      pub places-exactly : (saveOutcome sheet s ≡ noPlace) ↔ (length (kept s) ≡ places)
+      unfolding saveOutcome isAccepted isStore
+      places-exactly =
+          let P : ℕ → Type 0 = λ r. r ≡ noPlace → length (kept s) ≡ places in (
+            λ e.
+                by-eq P (length (kept s)) places noPlace (cond (ltb (length s) (needed (kept s) d)) noRoom 0)
+                (λ q z. q)
+                (λ m. by-lt P (length s) (needed (kept s) d) noRoom 0 (λ k z. absurd (omega arith)) (λ k z. absurd (omega arith)))
+                (sym (then _ ∙ rw (ne-eqb (head.last of s) lastNumber l)) ∙ e),
+            λ e. rw (accept (h .accepted), pass h, ne-eqb (head.last of s) lastNumber l, eq-eqb (length (kept s)) places e),
+          )
+
+      -- ROOM: refused for it exactly if all together exceed the buffer
+      pub room-exactly : (length (kept s) ≡ places → ⊥) → (saveOutcome sheet s ≡ noRoom) ↔ (length s < needed (kept s) d)
+      unfolding saveOutcome isAccepted isStore
+      room-exactly m =
+          let P : ℕ → Type 0 = λ r. r ≡ noRoom → length s < needed (kept s) d in (
+            λ e.
+                by-lt P (length s) (needed (kept s) d) noRoom 0 (λ k z. k) (λ k z. absurd (omega arith))
+                (sym (then _ ∙ rw (ne-eqb (head.last of s) lastNumber l, ne-eqb (length (kept s)) places m)) ∙ e),
+            λ e. rw (accept (h .accepted), pass h, ne-eqb (head.last of s) lastNumber l, ne-eqb (length (kept s)) places m, lt-ltb (length s) (needed (kept s) d) e),
+          )
+
+-- REMOVING
+module _ (s : List ℕ) (x : ℕ) where
+  pub remove-due : RemoveDue s x (removeOutcome s x) (removeStore s x)
+  unfolding removeOutcome removeStore isStore
+  remove-due =
+      let P : ℕ → Type 0 = λ r. RemoveDue s x r (cond (eqb r 1) (removed s x) s) in
+      by-eq P (storeRule s) 0 _ _
+      (λ ok. by-test P (isKept s x) _ _ (λ e. isRemoved ok e) (λ e. unknown ok e))
+      (λ bad. badOne bad)
+
+  pub remove-only : (r : ℕ) (t : List ℕ) → RemoveDue s x r t → (r ≡ removeOutcome s x) × (t ≡ removeStore s x)
+  unfolding removeOutcome removeStore isStore
+  remove-only r t (badOne bad) = rw (ne-eqb (storeRule s) 0 bad) (refl, refl)
+  remove-only r t (unknown ok e) = rw (eq-eqb (storeRule s) 0 ok, e) (refl, refl)
+  remove-only r t (isRemoved ok e) = rw (eq-eqb (storeRule s) 0 ok, e) (refl, refl)
+
+  -- what outcome 1 says
+  pub remove-told : removeOutcome s x ≡ 1 → Passes s × (isKept s x ≡ true)
+  unfolding removeOutcome isStore
+  remove-told =
+      let P : ℕ → Type 0 = λ r. r ≡ 1 → Passes s × (isKept s x ≡ true) in
+      by-eq P (storeRule s) 0 _ _
+      (λ ok. by-test P (isKept s x) _ _ (λ h e. (ok, h)) (λ h e. absurd (omega arith)))
+      (λ bad e. absurd (omega arith))
 
 -- a session open at level 0
 module _ (q : Session) where

@@ -14,8 +14,9 @@ use Rattle.versions.specs.Store.{headOf, rowOf, tableOf, bodiesOf, laid,
 use Rattle.versions.specs.Rules.{rowsRule, allRows, storeRule, isStore}
 use Rattle.versions.specs.Settings.{settingsOf, restored}
 use Rattle.versions.specs.Saving.{saved, saveOutcome, saveNumber, saveStore}
+use Rattle.versions.specs.Removing.{without, removed, removeOutcome, removeStore}
 use Rattle.versions.specs.Restoring.{sameEntry, lowCount, sameEntries, lowCounts, givesBack, atZero, restoreOutcome, restoreSheet}
-use Rattle.versions.specs.Example.{empty, once, later, twice, tool, other}
+use Rattle.versions.specs.Example.{empty, once, later, twice, left, tool, other}
 
 -- SAVED ONCE
 pub first-save : (saveOutcome sample empty ≡ 0) × (saveNumber sample empty ≡ 1) × (saveStore sample empty ≡ once)
@@ -49,3 +50,9 @@ unfolding later twice restoreOutcome bodyOf has isKept versionIn every sameEntry
     rowsRule allRows storeRule isStore isAccepted ruleIn walkRule restRule entriesRule bodiesRule entryRule bodyRule bodyDemands entryDemands
     entry keyOf floor bodyAt bodyEnd startOf reached sixBits first breach splice numAt bytesOf
 not-restored = (refl, refl)
+
+-- THE FIRST REMOVED: what it took is zero
+pub first-removed : (removeOutcome twice 1 ≡ 1) × (removeStore twice 1 ≡ left)
+unfolding twice left removeOutcome removeStore removed has isKept without laid headOf rowOf tableOf bodiesOf versionAt versionsFrom kept
+    rowsRule allRows storeRule isStore first breach splice numAt bytesOf
+first-removed = (refl, refl)

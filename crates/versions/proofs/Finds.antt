@@ -10,6 +10,7 @@ use lib.ListN.{length}
 use borrow.Author.Tests.{eq-eqb, ne-eqb}
 use Rattle.versions.specs.Row as row
 use Rattle.versions.specs.Store.{Version, inRow, versionAt, versionsFrom, has, bodyOf}
+use Rattle.versions.specs.Removing.{without}
 
 module _ (s : List ℕ) where
   -- THE VERSIONS BEFORE ROW i, ITS OWN, AND THOSE AFTER
@@ -43,6 +44,24 @@ module _ (s : List ℕ) where
         let f : p + 8 * suc i ≡ p + 8 + 8 * i = omega arith in
         let t : eqb (num p) x ≡ false = ne-eqb (num p) x (rw z at (h zero (omega arith))) in
         rw (o, t) (found i m (p + 8) (λ j l q. h (suc j) (omega arith) (ap num (omega arith) ∙ q)) (rw f at e))
+
+    pub left-found : (i m p : ℕ) → ((j : ℕ) → j < i → num (p + 8 * j) ≡ x → ⊥) → num (p + 8 * i) ≡ x →
+        without x (versionsFrom s p (i + suc m)) ≡ versionsFrom s p i ++ versionsFrom s (p + 8 * suc i) m
+    unfolding versionsFrom without versionAt
+    left-found zero m p h e =
+        let o : zero + suc m ≡ suc m = omega arith in
+        let f : p + 8 * zero ≡ p = omega arith in
+        let g : p + 8 * suc zero ≡ p + 8 = omega arith in
+        let t : eqb (num p) x ≡ true = eq-eqb (num p) x (rw f at e) in
+        rw (o, g, t)
+    left-found (suc i) m p h e =
+        let o : suc i + suc m ≡ suc (i + suc m) = omega arith in
+        let z : p + 8 * zero ≡ p = omega arith in
+        let f : p + 8 * suc i ≡ p + 8 + 8 * i = omega arith in
+        let g : p + 8 * suc (suc i) ≡ p + 8 + 8 * suc i = omega arith in
+        let t : eqb (num p) x ≡ false = ne-eqb (num p) x (rw z at (h zero (omega arith))) in
+        let ih = left-found i m (p + 8) (λ j l q. h (suc j) (omega arith) (ap num (omega arith) ∙ q)) (rw f at e) in
+        rw (o, t, g) (ap (λ (l : List Version). versionAt s p ∷ l) ih)
 
     pub body-found : (i m p : ℕ) → ((j : ℕ) → j < i → num (p + 8 * j) ≡ x → ⊥) → num (p + 8 * i) ≡ x →
         bodyOf x (versionsFrom s p (i + suc m)) ≡ versionAt s (p + 8 * i) .body

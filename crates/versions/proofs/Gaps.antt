@@ -1,4 +1,4 @@
--- Runs replaced, and gaps opened, in a buffer that is taken apart: p, what is replaced, and what follows.
+-- Runs replaced, and gaps opened and closed, in a buffer that is taken apart: p, what is replaced, and what follows.
 -- Assumes nothing.
 use Prim.Native.Nat.{ℕ, _+_, _-_, _≤_, _<_}
 use mathlib.Core.Path.{_≡_, refl, sym, ap, _∙_}
@@ -15,6 +15,23 @@ unfolding splice
 splice-mid p b d q o e l =
     rw (e, take-append-seam p (b ++ q), drop-append-add p (b ++ q) (length d), drop-at b q (length d) (sym l))
     (append-assoc p d q)
+
+-- the run m behind p and r, and what stands there
+pub run-at : (p r m q : List ℕ) (o n : ℕ) → o ≡ length p + length r → n ≡ length m → take n (drop o (p ++ (r ++ (m ++ q)))) ≡ m
+run-at p r m q o n e l =
+    rw (e, drop-append-add p (r ++ (m ++ q)) (length r), drop-at r (m ++ q) (length r) refl, l) (take-append-seam m q)
+
+-- A GAP CLOSED: m moves down over r; as many bytes as r had are left over behind it
+pub close-gap :
+    (p r m q : List ℕ) (from to n : ℕ) → from ≡ length p + length r → to ≡ length p → n ≡ length m →
+    moved (p ++ (r ++ (m ++ q))) from to n ≡ p ++ (m ++ (drop (length m) (r ++ m) ++ q))
+unfolding moved splice
+close-gap p r m q from to n ef et en =
+    rw (run-at p r m q from n ef en, et, take-append-seam p (r ++ (m ++ q)), drop-append-add p (r ++ (m ++ q)) (length m))
+    (append-assoc p m _ ∙ ap (λ (x : List ℕ). p ++ (m ++ x)) (ap (drop (length m)) (sym (append-assoc r m q)) ∙ drop-append-le (length m) (r ++ m) q (omega (arith, length-append r m))))
+
+pub left-over : (r m : List ℕ) → length (drop (length m) (r ++ m)) ≡ length r
+left-over r m = simp (length-drop, length-append) (omega arith)
 
 -- A GAP OPENED: m moves up by k, over the first k bytes of what follows
 pub open-gap :

@@ -25,7 +25,7 @@ use Rattle.versions.specs.Settings.{front, many, entriesLong, bodiesLong
 use Rattle.versions.specs.Saving.{saveOutcome, saveNumber, saveStore}
 use Rattle.versions.specs.Restoring.{restoreOutcome, restoreSheet}
 use Rattle.versions.specs.Due.{AtZero, isRestored}
-use Rattle.versions.specs.Sequence.{Change, changedAll}
+use Rattle.versions.specs.Sequence.{Change, changedAll, AllSpare}
 use Rattle.versions.proofs.Agreeing.{entries-to, low-to}
 use Rattle.versions.proofs.OwnVersion.{own-entries, own-counts}
 use Rattle.versions.proofs.Restores as re
@@ -61,8 +61,8 @@ restore-gives : (q : Session) (sheet s : List ℕ) (x : ℕ) → restoreOutcome 
 unfolding restoreSheet
 restore-gives q sheet s x e = let t : eqb (restoreOutcome q sheet s x) 1 ≡ true = eq-eqb (restoreOutcome q sheet s x) 1 e in rw t
 
--- A sheet saved in s; then whatever else is done to the store
-module _ (s : List ℕ) (b : Octets s) (sheet : List ℕ) (e : saveOutcome sheet s ≡ 0) (cs : List Change) where
+-- A sheet saved in s; then whatever else is done to the store, but for a removal of this version
+module _ (s : List ℕ) (b : Octets s) (sheet : List ℕ) (e : saveOutcome sheet s ≡ 0) (cs : List Change) (spared : AllSpare (saveNumber sheet s) cs) where
   abbrev number : ℕ
   number = saveNumber sheet s
 
@@ -78,7 +78,7 @@ module _ (s : List ℕ) (b : Octets s) (sheet : List ℕ) (e : saveOutcome sheet
       let h : Stays (last + 1) (settingsOf sheet) (saveStore sheet s) =
       record { last = last + 1; versions = and (kept s) (last + 1) (settingsOf sheet); keeps = r .store; there = n .0; body = n .1 }
       in
-      kept-stays number (settingsOf sheet) cs (saveStore sheet s) (rw (r .number) h)
+      kept-stays number (settingsOf sheet) cs (saveStore sheet s) spared (rw (r .number) h)
 
   there : isKept later number ≡ true
   unfolding isKept

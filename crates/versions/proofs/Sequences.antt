@@ -8,21 +8,25 @@ use native.Mathlib.Decide.{ℕ-discrete}
 use native.Mathlib.Omega.{arith}
 use lib.Dec.{eqb}
 use lib.ListN.{length}
-use borrow.Author.Tests.{eq-eqb, ne-eqb}
+use borrow.Author.Tests.{eq-eqb, ne-eqb, eqb-true}
 use Rattle.octets.specs.Octets.{Octets}
 use Rattle.octets.proofs.Truths.{never}
+use Rattle.octets.proofs.Walks.{by-test}
 use Rattle.sheet.specs.Layout.{_of_}
 use Rattle.sheet.specs.Rules.{Accepted}
 use Rattle.versions.specs.Head as head
-use Rattle.versions.specs.Store.{Version, Rising, next, none, Keeps, kept, has, bodyOf}
+use Rattle.versions.specs.Store.{Version, Rising, next, none, Keeps, kept, has, bodyOf, isKept}
 use Rattle.versions.specs.Rules.{Passes}
 use Rattle.versions.specs.Saving.{saveOutcome, saveNumber, saveStore}
 use Rattle.versions.specs.Settings.{settingsOf}
-use Rattle.versions.specs.Sequence.{Change, saves, changed, changedAll}
+use Rattle.versions.specs.Removing.{without, removeOutcome, removeStore}
+use Rattle.versions.specs.Due.{isRemoved}
+use Rattle.versions.specs.Sequence.{Change, saves, removes, changed, changedAll, Spares, AllSpare}
 use Rattle.versions.proofs.Forths.{rising-low}
 use Rattle.versions.proofs.Keeping.{it-keeps, passes, keeps-these, keeps-last}
 use Rattle.versions.proofs.Grows.{and, grown}
-use Rattle.versions.proofs.Dues.{save-free}
+use Rattle.versions.proofs.Shrinks.{shrunk}
+use Rattle.versions.proofs.Dues.{save-free, remove-only, remove-told}
 use Rattle.versions.proofs.Untouched.{refused-untouched}
 
 -- a save that is carried out
@@ -45,6 +49,23 @@ module _ {s : List ℕ} {last : ℕ} {vs : List Version} (k : Keeps s last vs) w
         number = rw (t, keeps-last k);
         store = rw t (grown k (settingsOf sheet) (rw (keeps-these k) at (f .room)) low few);
       }
+
+-- a remove that is carried out
+pub record Taken (s : List ℕ) (x last : ℕ) (vs : List Version) : Type 0 where
+  pub there : has x vs ≡ true
+  pub store : Keeps (removeStore s x) last (without x vs)
+
+module _ {s : List ℕ} {last : ℕ} {vs : List Version} (k : Keeps s last vs) (x : ℕ) where
+  pub taken : removeOutcome s x ≡ 1 → Taken s x last vs
+  unfolding removeStore isKept
+  taken e =
+      let t : eqb (removeOutcome s x) 1 ≡ true = eq-eqb (removeOutcome s x) 1 e in
+      record { there = ap (has x) (sym (keeps-these k)) ∙ remove-told s x e .1; store = rw t (shrunk k x) }
+
+  -- what is kept can be removed
+  pub can-take : has x vs ≡ true → removeOutcome s x ≡ 1
+  unfolding isKept
+  can-take h = sym (remove-only s x 1 _ (isRemoved (passes k) (ap (has x) (keeps-these k) ∙ h)) .0)
 
 -- KEPT AFTER SAVE: every kept version keeps number and content, and the new one stands behind them with what the sheet's properties are
 pub kept-after-save :
@@ -69,6 +90,11 @@ one-given n (saves sheet) s h = go (ℕ-discrete (saveOutcome sheet s) 0)
         let r = carried (h .keeps) sheet e in
         record { last = h .last + 1; versions = and (h .versions) (h .last + 1) (settingsOf sheet); keeps = r .store; least = omega (arith, h .least) }
     go (no e) = subst (Given n) (sym (refused-untouched sheet s .store e)) h
+one-given n (removes x) s h = go (ℕ-discrete (removeOutcome s x) 1)
+  where
+    go : Dec (removeOutcome s x ≡ 1) → Given n (removeStore s x)
+    go (yes e) = record { last = h .last; versions = without x (h .versions); keeps = taken (h .keeps) x e .store; least = h .least }
+    go (no e) = subst (Given n) (sym (refused-untouched [] s .left x e)) h
 
 pub all-given : (n : ℕ) (cs : List Change) (s : List ℕ) → Given n s → Given n (changedAll cs s)
 unfolding changedAll
@@ -91,7 +117,7 @@ never-again s b sheet e cs sheet′ f =
     let q = carried (g .keeps) sheet′ f in
     omega (arith, r .number, q .number, g .least)
 
--- what a list of versions has and holds, after one more
+-- what a list of versions has and holds, after one more and after one less
 module _ (x : ℕ) where
   pub has-more : (vs : List Version) (y : ℕ) (d : List ℕ) → has x vs ≡ true → (has x (and vs y d) ≡ true) × (bodyOf x (and vs y d) ≡ bodyOf x vs)
   unfolding has bodyOf
@@ -122,6 +148,16 @@ module _ (x : ℕ) where
       let t : eqb (v .number) x ≡ false = ne-eqb (v .number) x (λ e. omega arith) in
       rw t (has-none vs h r)
 
+  pub has-less : (vs : List Version) (y : ℕ) → (y ≡ x → ⊥) → (has x (without y vs) ≡ has x vs) × (bodyOf x (without y vs) ≡ bodyOf x vs)
+  unfolding has bodyOf without
+  has-less [] y n = (refl, refl)
+  has-less (v ∷ vs) y n =
+      by-test (λ (ws : List Version). (has x ws ≡ has x (v ∷ vs)) × (bodyOf x ws ≡ bodyOf x (v ∷ vs))) (eqb (v .number) y) vs (v ∷ without y vs)
+      (λ e.
+      let t : eqb (v .number) x ≡ false = ne-eqb (v .number) x (λ q. n (sym (eqb-true (v .number) y e) ∙ q)) in
+      rw t (refl, refl))
+      (λ e. let ih = has-less vs y n in rw (ih .0, ih .1) (refl, refl))
+
 -- a version is kept, with this body
 pub record Stays (x : ℕ) (d : List ℕ) (s : List ℕ) : Type 0 where
   pub last : ℕ
@@ -130,9 +166,9 @@ pub record Stays (x : ℕ) (d : List ℕ) (s : List ℕ) : Type 0 where
   pub there : has x versions ≡ true
   pub body : bodyOf x versions ≡ d
 
-one-stays : (x : ℕ) (d : List ℕ) (c : Change) (s : List ℕ) → Stays x d s → Stays x d (changed c s)
+one-stays : (x : ℕ) (d : List ℕ) (c : Change) (s : List ℕ) → Spares x c → Stays x d s → Stays x d (changed c s)
 unfolding changed
-one-stays x d (saves sheet) s h = go (ℕ-discrete (saveOutcome sheet s) 0)
+one-stays x d (saves sheet) s p h = go (ℕ-discrete (saveOutcome sheet s) 0)
   where
     go : Dec (saveOutcome sheet s ≡ 0) → Stays x d (saveStore sheet s)
     go (yes e) =
@@ -140,9 +176,16 @@ one-stays x d (saves sheet) s h = go (ℕ-discrete (saveOutcome sheet s) 0)
         let m = has-more x (h .versions) (h .last + 1) (settingsOf sheet) (h .there) in
         record { last = h .last + 1; versions = and (h .versions) (h .last + 1) (settingsOf sheet); keeps = r .store; there = m .0; body = m .1 ∙ h .body }
     go (no e) = subst (Stays x d) (sym (refused-untouched sheet s .store e)) h
+one-stays x d (removes y) s n h = go (ℕ-discrete (removeOutcome s y) 1)
+  where
+    go : Dec (removeOutcome s y ≡ 1) → Stays x d (removeStore s y)
+    go (yes e) =
+        let m = has-less x (h .versions) y n in
+        record { last = h .last; versions = without y (h .versions); keeps = taken (h .keeps) y e .store; there = m .0 ∙ h .there; body = m .1 ∙ h .body }
+    go (no e) = subst (Stays x d) (sym (refused-untouched [] s .left y e)) h
 
--- WHAT IS KEPT STAYS
-pub kept-stays : (x : ℕ) (d : List ℕ) (cs : List Change) (s : List ℕ) → Stays x d s → Stays x d (changedAll cs s)
-unfolding changedAll
-kept-stays x d [] s h = h
-kept-stays x d (c ∷ cs) s h = kept-stays x d cs (changed c s) (one-stays x d c s h)
+-- WHAT IS KEPT STAYS until it is removed
+pub kept-stays : (x : ℕ) (d : List ℕ) (cs : List Change) (s : List ℕ) → AllSpare x cs → Stays x d s → Stays x d (changedAll cs s)
+unfolding changedAll AllSpare
+kept-stays x d [] s p h = h
+kept-stays x d (c ∷ cs) s p h = kept-stays x d cs (changed c s) (p .1) (one-stays x d c s (p .0) h)

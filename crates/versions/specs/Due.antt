@@ -14,6 +14,7 @@ use Rattle.versions.specs.Rules.{Passes, badSheet, badStore, notKept}
 use Rattle.versions.specs.Settings.{settingsOf, restored, SameEntries, LowCounts}
 use Rattle.versions.specs.Saving.{noNumber, noPlace, noRoom, lastNumber, nextNumber, needed, saved}
 use Rattle.versions.specs.Restoring.{notAtZero, otherEntries, highCount}
+use Rattle.versions.specs.Removing.{removed}
 
 -- the sheet is accepted and the store good
 pub record Ready (sheet s : List ℕ) : Type 0 where
@@ -56,3 +57,9 @@ pub data RestoreDue (q : Session) (sheet s : List ℕ) (x : ℕ) : ℕ → List 
   isRestored :
       Known sheet s x → AtZero q → SameEntries sheet (versionIn s x) → LowCounts sheet (versionIn s x) →
       RestoreDue q sheet s x 1 (restored sheet (versionIn s x))
+
+-- REMOVING: the outcome and the store afterwards
+pub data RemoveDue (s : List ℕ) (x : ℕ) : ℕ → List ℕ → Type 0 where
+  badOne : (Passes s → ⊥) → RemoveDue s x badStore s
+  unknown : Passes s → isKept s x ≡ false → RemoveDue s x notKept s
+  isRemoved : Passes s → isKept s x ≡ true → RemoveDue s x 1 (removed s x)

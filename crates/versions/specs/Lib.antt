@@ -7,6 +7,7 @@ pub mod Ends
 pub mod Settings
 pub mod Saving
 pub mod Restoring
+pub mod Removing
 pub mod Steps
 pub mod Walk
 pub mod Due

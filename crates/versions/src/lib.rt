@@ -1,12 +1,14 @@
 // Versions of the settings, kept in a lent buffer.
 mod layout;
 mod link;
+mod removing;
 mod restoring;
 mod rules;
 mod saving;
 mod settings;
 mod table;
 
+pub use removing::remove;
 pub use restoring::restore;
 pub use rules::check;
 pub use saving::Saved;
