@@ -43,6 +43,7 @@ both kelindap_module_user_region(const uint8_t *, uint64_t, uint64_t);
 uint32_t kelindap_module_store_check(const uint8_t *, uint64_t);
 uint32_t kelindap_module_save(const uint8_t *, uint64_t, uint8_t *, uint64_t);
 uint32_t kelindap_module_restore(uint32_t, uint32_t, uint8_t *, uint64_t, const uint8_t *, uint64_t, uint64_t);
+uint32_t kelindap_module_remove(uint8_t *, uint64_t, uint64_t);
 
 static uint8_t low(uint32_t r) { return (uint8_t)r; }
 static uint8_t high(uint32_t r) { return (uint8_t)(r >> 8); }
@@ -124,6 +125,11 @@ uint8_t kelindap_restore(kelindap_sessions sessions, uint8_t connection, uint8_t
                          size_t store_length, size_t number)
 {
     return low(kelindap_module_restore(packed(sessions), connection, sheet, sheet_length, store, store_length, number));
+}
+
+uint8_t kelindap_remove(uint8_t *store, size_t store_length, size_t number)
+{
+    return low(kelindap_module_remove(store, store_length, number));
 }
 
 uint32_t kelindap_module_version(void);

@@ -7,8 +7,8 @@
  * The host's duties, which no proof covers, beside those of kelindap.h:
  *  - nothing but these calls writes the store, and calls on one store come one after the other;
  *  - saving. The store has to survive a power cut as the sheet has. A save of a version changes the store only if it gives 0, a
- *    restore changes the sheet only, and only if it gives 1: the host then keeps a new copy of what was changed before it tells
- *    anybody so;
+ *    remove only if it gives 1, a restore changes the sheet only, and only if it gives 1: the host then keeps a new copy of what
+ *    was changed before it tells anybody so;
  *  - a power cut during a call leaves a store in memory of which no promise speaks: the host starts from the copy that it kept
  *    last, and never from memory that lay open to a call. Keeping a copy must leave the old one or the new one, whole: two
  *    places with a mark of the newer, or a new file renamed over the old one. Sheet and store need not be of one moment: every
@@ -16,8 +16,8 @@
  *    version is not there and its number is given again, so nobody is told of it before;
  *  - at start kelindap_store_check tells whether what was kept is a good store. It judges the form and is no checksum, and says
  *    nothing of what a version holds: that is judged when it is restored;
- *  - who may save is the host's to say: a save asks for no level, since it changes neither sheet nor sessions. A restore asks
- *    for level 0, whatever the write levels of the properties are;
+ *  - who may save and remove is the host's to say: these two ask for no level, since they change neither sheet nor sessions.
+ *    A restore asks for level 0, whatever the write levels of the properties are;
  *  - a version holds no key, no memory and no address, but all that the properties hold: whoever reads the store has that.
  */
 #ifndef KELINDAP_STORE_H
@@ -69,6 +69,12 @@ kelindap_saved kelindap_save(const uint8_t *sheet, size_t sheet_length, uint8_t 
 uint8_t kelindap_restore(kelindap_sessions sessions, uint8_t connection,
                          uint8_t *sheet, size_t sheet_length,
                          const uint8_t *store, size_t store_length, size_t number);
+
+/*
+ * The version with a number removed: 30, 34, tested in this order, or 1; then its room is free again and zero, the others are as they
+ * were, and its number is never given again. No sheet is looked at.
+ */
+uint8_t kelindap_remove(uint8_t *store, size_t store_length, size_t number);
 
 #ifdef __cplusplus
 }

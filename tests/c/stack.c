@@ -8,6 +8,7 @@
 #include "kelindap.h"
 #include "kelindap_frame.h"
 #include "kelindap_pdu.h"
+#include "kelindap_store.h"
 
 #include <stdint.h>
 #include <stdio.h>
@@ -71,6 +72,21 @@ static void request(void)
     }
 }
 
+static uint8_t store[512];
+static void store_check(void) { kept += kelindap_store_check(store, sizeof store); }
+static void save(void) { kept += kelindap_save(sheet, sizeof sheet, store, sizeof store).number; }
+static void restore(void) { kept += kelindap_restore(sessions, 0, sheet, sizeof sheet, store, sizeof store, 1); }
+static void remove_first(void) { kept += kelindap_remove(store, sizeof store, 1); }
+
+/* a store with two versions, and connection 0 open at level 0, so that each of them is carried out */
+static void fill_store(void)
+{
+    memset(store, 0, sizeof store);
+    sessions.of[0] = (kelindap_session){ .open = true, .level = 0 };
+    for (int i = 0; i < 2; i++)
+        kept += kelindap_save(pump, sizeof pump, store, sizeof store).number;
+}
+
 static void read_and_write(void)
 {
     for (unsigned i = 0; i < ROUNDS * 15 * 1024u; i++) {
@@ -117,6 +133,7 @@ static size_t depth_of(void (*function)(void))
     memcpy(sheet, pump, sizeof sheet);
     sheet[14] |= 1; /* programming mode */
     sheet[55] = 7;  /* the group object takes a Response too */
+    fill_store();
     getcontext(&there);
     there.uc_stack.ss_sp = stack;
     there.uc_stack.ss_size = sizeof stack;
@@ -145,6 +162,10 @@ int main(void)
         {"kelindap_group", group},
         {"kelindap_user_region", user_region},
         {"kelindap_request", request},
+        {"kelindap_store_check", store_check},
+        {"kelindap_save", save},
+        {"kelindap_restore", restore},
+        {"kelindap_remove", remove_first},
         {"kelindap_read, _write", read_and_write},
         {"kelindap_point_read, _write", points},
         {"kelindap_frame_read, _write", frames},

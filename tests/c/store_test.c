@@ -180,6 +180,25 @@ static uint8_t plain_restore(kelindap_sessions q, uint8_t c, uint8_t *sheet, siz
     return r;
 }
 
+static uint8_t plain_remove(uint8_t *store, size_t length, size_t number)
+{
+    versions v = take_apart(store, length);
+    uint8_t r = v.good ? 34 : 30;
+    for (size_t i = 0; v.good && i < v.count; i++) {
+        if (v.of[i].number != number)
+            continue;
+        free(v.of[i].body);
+        v.count--;
+        for (; i < v.count; i++)
+            v.of[i] = v.of[i + 1];
+        size_t end = put_together(store, &v);
+        memset(store + end, 0, v.end - end);
+        r = 1;
+    }
+    let_go(&v);
+    return r;
+}
+
 /* ---- the calls, in every place ---- */
 
 static uint8_t now_store[MOST_STORE + 1], now_sheet[MOST_SHEET + 1];
@@ -233,6 +252,20 @@ static uint8_t try_restore(enum place place, kelindap_sessions q, uint8_t c, uin
     uint8_t due = plain_restore(q, c, sheet, sheet_length, store.bytes, store.length, number);
     expect(r == due, "restore gave %d, due %d", r, due);
     same((run){ sheet, sheet_length }, now_sheet, "sheet after a restore");
+    return r;
+}
+
+/* Removes from `store` itself. */
+static uint8_t try_remove(enum place place, uint8_t *store, size_t length, size_t number)
+{
+    lent b = lend(STORE, place, store, length);
+    uint8_t r = kelindap_remove(b.bytes, b.length, number);
+    calls++;
+    outcomes[r]++;
+    take_back(&b, now_store, "store");
+    uint8_t due = plain_remove(store, length, number);
+    expect(r == due, "remove gave %d, due %d", r, due);
+    same((run){ store, length }, now_store, "store after a remove");
     return r;
 }
 
@@ -315,6 +348,11 @@ static void test_example(void)
         0, 1, 0, 0x40, 0x31, 0, 0x03, 0xE8, 0, 0, 0, 1, 0x01, 0x33, 0x84, 0x02, 0, 2, 0, 2, 0, 0x40, 0x31, 0, 0x03, 0xE8, 0xBE, 0xEF,
         0xEE, 0xEE, 0xEE, 0xEE
     };
+    static const uint8_t left[64] = {
+        0, 1, 0, 2, 0, 0, 0, 0, 0, 2, 0, 1, 0, 16, 0, 18, 0, 1, 0x01, 0x33, 0x84, 0x02, 0, 2, 0, 2, 0, 0x40, 0x31, 0, 0x03, 0xE8,
+        0xBE, 0xEF, 0, 0, 0, 0, 0, 0, 0, 0, 0, 0, 0, 0, 0, 0, 0, 0, 0, 0, 0, 0, 0, 0, 0, 0, 0, 0,
+        0xEE, 0xEE, 0xEE, 0xEE
+    };
     for (enum place place = EXACT; place < PLACES; place++) {
         memset(store, 0xEE, 64);
         memset(store, 0, 8);
@@ -330,6 +368,10 @@ static void test_example(void)
         expect(memcmp(sheet, sample, sizeof sample) == 0, "the restored sheet is not the sample sheet");
         expect(try_restore(place, at_zero, 0, sheet, sizeof sample, (run){ store, 64 }, 3) == 34, "version 3 is kept");
         expect(try_restore(place, at_zero, 1, sheet, sizeof sample, (run){ store, 64 }, 1) == 35, "connection 1 is let in");
+        expect(try_remove(place, store, 64, 3) == 34, "version 3 is kept");
+        expect(try_remove(place, store, 64, 1) == 1, "the first is not removed");
+        expect(memcmp(store, left, 64) == 0, "what is left has other bytes");
+        expect(try_save(place, (run){ sheet, sizeof sample }, store, 64).number == 3, "a number is given again");
     }
 }
 
@@ -365,7 +407,7 @@ static void test_runs(void)
         versions v = take_apart(store, length);
         size_t number = v.good && v.count > 0 && any(5) ? v.of[any((uint32_t)v.count)].number : any(3) ? any(10) : SIZE_MAX - any(4);
         let_go(&v);
-        switch (any(8)) {
+        switch (any(9)) {
         case 0:
             try_check(any_place(), (run){ store, length });
             break;
@@ -381,13 +423,18 @@ static void test_runs(void)
             try_restore(any_place(), any_sessions(), (uint8_t)(any(6) ? any(2) : any(256)), sheet, sheet_length, (run){ store, length },
                         number);
             break;
-        case 6: { /* damage, on copies */
+        case 6:
+            try_remove(any_place(), store, length, number);
+            break;
+        case 7: { /* damage, on copies */
             static uint8_t damaged[MOST_STORE + 1];
             memcpy(damaged, store, length);
             damaged[any((uint32_t)(any(4) ? (length < 80 ? length : 80) : length))] ^= (uint8_t)(1u << any(8));
             try_check(any_place(), (run){ damaged, length });
             memcpy(other, sheet, sheet_length);
             try_restore(any_place(), at_zero, 0, other, sheet_length, (run){ damaged, length }, number);
+            if (any(2))
+                try_remove(any_place(), damaged, length, number);
             try_save(any_place(), (run){ sheet, sheet_length }, damaged, length);
             break;
         }

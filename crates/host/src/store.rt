@@ -4,6 +4,7 @@ ghost use Rattle.device.specs.Sessions.{sessionOf};
 ghost use Rattle.versions.specs.Rules.{storeRule};
 ghost use Rattle.versions.specs.Saving.{SavedAs};
 ghost use Rattle.versions.specs.Restoring.{RestoredAs};
+ghost use Rattle.versions.specs.Removing.{Removed};
 use device::Sessions;
 use versions::Saved;
 
@@ -36,4 +37,12 @@ pub extern "C" fn kelindap_restore(
 {
     let session = device::session_of(sessions, connection);
     versions::restore(session, sheet, store, number)
+}
+
+// The version with a number removed.
+#[no_mangle]
+pub extern "C" fn kelindap_remove(store: &mut [u8], number: usize) -> u8
+    ensures { λ r. ⌜ Removed (now (store .entry)) number r (now (store .exit)) ⌝ }
+{
+    versions::remove(store, number)
 }
