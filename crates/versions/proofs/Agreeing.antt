@@ -1,13 +1,13 @@
 -- The tests of restoring are the propositions, stay the same while a sheet changes within the rules, and bytes stay bytes.
 -- Assumes nothing.
-use Prim.Native.Nat.{ℕ, zero, suc, _+_, _-_, _*_, _≤_, _<_}
-use mathlib.Core.Path.{_≡_, refl, sym, ap, ap₂, subst, _∙_}
-use mathlib.Core.List.{List, [], _∷_}
+use Prim.Native.Nat.{ℕ, zero, suc, _+_, _-_, _<_}
+use mathlib.Core.Path.{_≡_, refl, sym, ap₂, _∙_}
+use mathlib.Core.List.{List}
 use mathlib.Core.Logic.{_⊎_, inl, inr}
-use mathlib.Core.Bool.{Bool, true, false, cond, _&&_, _||_}
+use mathlib.Core.Bool.{Bool, true, false, cond, _&&_}
 use native.Mathlib.Omega.{arith}
 use lib.Dec.{eqb, ltb, leb}
-use lib.ListN.{length, take, drop, getD}
+use lib.ListN.{length, drop, getD}
 use borrow.Author.Tests.{ltb-true, lt-ltb, leb-true, le-leb, eqb-true, eq-eqb}
 use Rattle.octets.specs.Bytes.{numAt}
 use Rattle.octets.specs.Every.{every}
@@ -19,7 +19,7 @@ use Rattle.sheet.specs.Property as property
 use Rattle.sheet.specs.Entries.{count, place, entry, startOf}
 use Rattle.sheet.specs.Frame.{AgreeBy, Fixed}
 use Rattle.sheet.specs.Rules.{Accepted}
-use Rattle.sheet.proofs.Sames.{count-same, place-same, property-same, start-same}
+use Rattle.sheet.proofs.Sames.{count-same, property-same, start-same}
 use Rattle.sheet.proofs.Standing.{entry-at, field-at}
 use Rattle.octets.specs.Octets.{Octets}
 use Rattle.octets.proofs.Octet.{octets-none, octets-take, octets-drop, octets-splice}

@@ -1,7 +1,7 @@
 -- A store taken apart at one of its versions: what stands in its row, and what is left when row and body are cut out.
 -- Assumes nothing.
 use Prim.Native.Nat.{ℕ, suc, _+_, _-_, _*_, _<_}
-use mathlib.Core.Path.{_≡_, refl, sym, ap, ap₂, _∙_}
+use mathlib.Core.Path.{_≡_, refl, sym, ap, _∙_}
 use mathlib.Core.List.{List, [], _∷_, _++_, append-assoc}
 use native.Mathlib.Omega.{arith}
 use lib.ListN.{length, drop, replicate, length-append, length-replicate}
@@ -9,7 +9,6 @@ use Rattle.octets.specs.Bytes.{bytesOf}
 use Rattle.octets.specs.Moved.{moved}
 use Rattle.octets.specs.Splice.{splice}
 use Rattle.octets.proofs.Numbers.{length-bytes}
-use Rattle.versions.specs.Head as head
 use Rattle.versions.specs.Row as row
 use Rattle.versions.specs.Store.{Version, tableEnd, inRow, headOf, rowOf, tableOf, bodiesOf, laid}
 use Rattle.versions.specs.Linked.{linked}

@@ -1,11 +1,11 @@
 -- A version appended to a store: room made for its row, row and body written, head and offsets written anew.
 -- Assumes nothing.
-use Prim.Native.Nat.{ℕ, zero, suc, _+_, _-_, _*_, _≤_, _<_}
-use mathlib.Core.Path.{_≡_, refl, sym, ap, ap₂, _∙_}
+use Prim.Native.Nat.{ℕ, _+_, _-_, _≤_, _<_}
+use mathlib.Core.Path.{_≡_, refl, sym, ap, _∙_}
 use mathlib.Core.List.{List, [], _∷_, _++_, append-assoc, append-nil}
 use native.Mathlib.Omega.{arith}
-use lib.ListN.{length, take, drop, replicate, length-append, length-replicate, length-drop, take-append-drop}
-use lib.Seq.{length-take-le, drop-drop, drop-append-add}
+use lib.ListN.{length, take, drop, replicate, length-append, length-drop, take-append-drop}
+use lib.Seq.{length-take-le, drop-drop}
 use Rattle.octets.specs.Bytes.{bytesOf}
 use Rattle.octets.specs.Splice.{splice}
 use Rattle.octets.proofs.Numbers.{length-bytes}
@@ -14,7 +14,7 @@ use Rattle.versions.specs.Store.{Version, tableEnd, headOf, rowOf, table
 use Rattle.versions.specs.Linked.{linked}
 use Rattle.versions.specs.Steps.{appended}
 use Rattle.versions.proofs.Gaps.{splice-mid, open-gap}
-use Rattle.versions.proofs.Laid.{length-row, length-head, length-table, laid-long, bodies-join, table-join, Rows, none, next, table-rows, rows-join, link-rows}
+use Rattle.versions.proofs.Laid.{length-row, length-head, length-table, bodies-join, Rows, none, next, table-rows, rows-join, link-rows}
 
 module _ (last : ℕ) (vs : List Version) (free : List ℕ) (x : ℕ) (d : List ℕ) (fits : 8 + length d ≤ length free) where
   abbrev n : ℕ

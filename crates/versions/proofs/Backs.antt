@@ -2,24 +2,22 @@
 -- Assumes nothing.
 use Prim.Native.Nat.{ℕ, zero, suc, _+_, _-_, _*_, _≤_, _<_}
 use mathlib.Core.Path.{_≡_, refl, sym, ap, ap₂, _∙_}
-use mathlib.Core.List.{List, [], _∷_, _++_, append-assoc}
+use mathlib.Core.List.{List, _++_, append-assoc}
 use native.Mathlib.Omega.{arith}
-use lib.ListN.{length, take, drop, getD, replicate, length-append, length-take, length-drop, take-append-drop}
+use lib.ListN.{length, take, drop, replicate, length-drop, take-append-drop}
 use lib.Seq.{take-add, drop-drop, getD-take, getD-drop, length-take-le, ext-getD}
 use Rattle.octets.specs.Bytes.{numAt, bytesOf}
 use Rattle.octets.proofs.Numbers.{length-bytes, bytes-back, bytes-zero, num-below}
 use Rattle.octets.specs.Octets.{Octets}
 use Rattle.sheet.specs.Demand.{breach, Met}
 use Rattle.sheet.specs.Layout.{_of_}
-use Rattle.sheet.specs.First.{orElse}
 use Rattle.sheet.proofs.Demands.{met}
 use Rattle.sheet.proofs.First.{orElse-left, orElse-right}
 use Rattle.versions.specs.Head as head
 use Rattle.versions.specs.Row as row
-use Rattle.versions.specs.Store.{Version, Rising, none, next, GoodStore, settings, tableEnd, headOf, rowOf, tableOf, bodiesOf, laid, inRow, versionAt, versionsFrom, kept}
+use Rattle.versions.specs.Store.{Rising, none, next, GoodStore, settings, tableEnd, headOf, rowOf, tableOf, bodiesOf, laid, inRow, versionAt, versionsFrom, kept}
 use Rattle.versions.specs.Rules.{headDemands, rowDemands, endDemands, rowsRule, allRows, storeRule}
 use Rattle.versions.specs.Ends.{endFrom, endOf}
-use Rattle.versions.proofs.Laid.{length-table, length-head}
 
 -- the head of a store that passes
 pub heads : (s : List ℕ) → storeRule s ≡ 0 → Met (headDemands s)

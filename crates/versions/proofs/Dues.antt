@@ -2,7 +2,7 @@
 -- Assumes nothing.
 use Prim.Native.Nat.{ℕ, _≤_, _<_}
 use mathlib.Core.Path.{_≡_, refl, sym, _∙_}
-use mathlib.Core.Bool.{Bool, true, false, cond, _&&_}
+use mathlib.Core.Bool.{true, cond}
 use mathlib.Core.List.{List}
 use mathlib.Core.Logic.{_↔_}
 use native.Mathlib.Omega.{arith}
@@ -19,7 +19,7 @@ use Rattle.versions.specs.Store.{kept, places, isKept, versionIn}
 use Rattle.versions.specs.Rules.{storeRule, Passes, isStore}
 use Rattle.versions.specs.Saving.{needed, lastNumber, nextNumber, saved, saveOutcome, saveNumber, saveStore, noRoom, noPlace, noNumber}
 use Rattle.versions.specs.Settings.{settingsOf, restored, SameEntries, LowCounts}
-use Rattle.versions.specs.Restoring.{sameEntries, lowCounts, givesBack, atZero, restoreOutcome, restoreSheet, notAtZero, otherEntries, highCount}
+use Rattle.versions.specs.Restoring.{sameEntries, lowCounts, givesBack, atZero, restoreOutcome, restoreSheet}
 use Rattle.versions.specs.Removing.{removed, removeOutcome, removeStore}
 use Rattle.versions.specs.Due.{Ready, SaveDue, noSheet, noStore, lastGiven, allTaken, tooLong, isSaved, AtZero, Known, RestoreDue, sheetRefused, storeRefused, unknownNumber, notOpen, differs, tooHigh, isRestored, RemoveDue, badOne, unknown, isRemoved}
 use Rattle.versions.proofs.Agreeing.{same-entries, entries-same, low-counts, counts-low}
@@ -74,87 +74,57 @@ module _ (sheet s : List ℕ) where
     pub room : needed (kept s) d ≤ length s
 
   pub save-free : saveOutcome sheet s ≡ 0 → Free
-  unfolding saveOutcome isAccepted isStore
-  save-free =
-      let P : ℕ → Type 0 = λ r. r ≡ 0 → Free in
-      by-eq P (ruleOf sheet) 0 _ _
-      (λ ok.
-      by-eq P (storeRule s) 0 _ _
-      (λ sound.
-      by-eq P (head.last of s) lastNumber _ _
-      (λ e z. absurd (omega arith))
-      (λ n.
-      by-eq P (length (kept s)) places _ _
-      (λ e z. absurd (omega arith))
-      (λ m.
-      by-lt P (length s) (needed (kept s) d) _ _
-      (λ l z. absurd (omega arith))
-      (λ l z. record { ready = record { accepted = ok; good = sound }; number = n; place = m; room = l }))))
-      (λ bad z. absurd (omega arith)))
-      (λ f z. absurd (omega arith))
-
-  -- what outcome 33 says
-  pub save-tight : saveOutcome sheet s ≡ noRoom → length s < needed (kept s) d
-  unfolding saveOutcome isAccepted isStore
-  save-tight =
-      let P : ℕ → Type 0 = λ r. r ≡ noRoom → length s < needed (kept s) d in
-      by-eq P (ruleOf sheet) 0 _ _
-      (λ ok.
-      by-eq P (storeRule s) 0 _ _
-      (λ sound.
-      by-eq P (head.last of s) lastNumber _ _
-      (λ e z. absurd (omega arith))
-      (λ n.
-      by-eq P (length (kept s)) places _ _
-      (λ e z. absurd (omega arith))
-      (λ m. by-lt P (length s) (needed (kept s) d) _ _ (λ l z. l) (λ l z. absurd (omega arith)))))
-      (λ bad z. absurd (omega arith)))
-      (λ f z. absurd (omega arith))
+  save-free = told save-due
+    where
+      told : {r n : ℕ} {t : List ℕ} → SaveDue sheet s r n t → r ≡ 0 → Free
+      told (noSheet f) e = absurd (omega arith)
+      told (noStore ok bad) e = absurd (omega arith)
+      told (lastGiven h q) e = absurd (omega arith)
+      told (allTaken h l q) e = absurd (omega arith)
+      told (tooLong h l m k) e = absurd (omega arith)
+      told (isSaved h l m k) e = record { ready = h; number = l; place = m; room = k }
 
   -- NUMBERS: refused for them exactly if the last one has been given
-  module _ (h : Ready sheet s) where
-    then : (x : ℕ) → cond (eqb (ruleOf sheet) 0) (cond (eqb (storeRule s) 0) x 30) 4 ≡ x
-    then x = rw (accept (h .accepted), pass h)
+  pub numbers-exactly : Ready sheet s → (saveOutcome sheet s ≡ noNumber) ↔ (head.last of s ≡ lastNumber)
+  numbers-exactly h = (told save-due, λ e. sym (save-only noNumber 0 s (lastGiven h e) .0))
+    where
+      told : {r n : ℕ} {t : List ℕ} → SaveDue sheet s r n t → r ≡ noNumber → head.last of s ≡ lastNumber
+      told (noSheet f) e = absurd (omega arith)
+      told (noStore ok bad) e = absurd (omega arith)
+      told (lastGiven h q) e = q
+      told (allTaken h l q) e = absurd (omega arith)
+      told (tooLong h l m k) e = absurd (omega arith)
+      told (isSaved h l m k) e = absurd (omega arith)
 
-    pub numbers-exactly : (saveOutcome sheet s ≡ noNumber) ↔ (head.last of s ≡ lastNumber)
-    unfolding saveOutcome isAccepted isStore
-    numbers-exactly =
-        let P : ℕ → Type 0 = λ r. r ≡ noNumber → head.last of s ≡ lastNumber in (
-          λ e.
-              by-eq P (head.last of s) lastNumber _ _
-              (λ q z. q)
-              (λ n.
-              by-eq P (length (kept s)) places _ _
-              (λ q z. absurd (omega arith))
-              (λ m. by-lt P (length s) (needed (kept s) d) _ _ (λ l z. absurd (omega arith)) (λ l z. absurd (omega arith))))
-              (sym (then _) ∙ e),
-          λ e. rw (accept (h .accepted), pass h, eq-eqb (head.last of s) lastNumber e),
-        )
+  -- PLACES: refused for them exactly if eight are kept
+  pub places-exactly :
+      Ready sheet s → (head.last of s ≡ lastNumber → ⊥) → (saveOutcome sheet s ≡ noPlace) ↔ (length (kept s) ≡ places)
+  places-exactly h l = (told save-due, λ e. sym (save-only noPlace 0 s (allTaken h l e) .0))
+    where
+      told : {r n : ℕ} {t : List ℕ} → SaveDue sheet s r n t → r ≡ noPlace → length (kept s) ≡ places
+      told (noSheet f) e = absurd (omega arith)
+      told (noStore ok bad) e = absurd (omega arith)
+      told (lastGiven h q) e = absurd (omega arith)
+      told (allTaken h l q) e = q
+      told (tooLong h l m k) e = absurd (omega arith)
+      told (isSaved h l m k) e = absurd (omega arith)
 
-    module _ (l : head.last of s ≡ lastNumber → ⊥) where
-      -- PLACES: refused for them exactly if eight are kept
-      pub places-exactly : (saveOutcome sheet s ≡ noPlace) ↔ (length (kept s) ≡ places)
-      unfolding saveOutcome isAccepted isStore
-      places-exactly =
-          let P : ℕ → Type 0 = λ r. r ≡ noPlace → length (kept s) ≡ places in (
-            λ e.
-                by-eq P (length (kept s)) places noPlace (cond (ltb (length s) (needed (kept s) d)) noRoom 0)
-                (λ q z. q)
-                (λ m. by-lt P (length s) (needed (kept s) d) noRoom 0 (λ k z. absurd (omega arith)) (λ k z. absurd (omega arith)))
-                (sym (then _ ∙ rw (ne-eqb (head.last of s) lastNumber l)) ∙ e),
-            λ e. rw (accept (h .accepted), pass h, ne-eqb (head.last of s) lastNumber l, eq-eqb (length (kept s)) places e),
-          )
+  -- ROOM: refused for it exactly if all together exceed the buffer
+  pub save-tight : saveOutcome sheet s ≡ noRoom → length s < needed (kept s) d
+  save-tight = told save-due
+    where
+      told : {r n : ℕ} {t : List ℕ} → SaveDue sheet s r n t → r ≡ noRoom → length s < needed (kept s) d
+      told (noSheet f) e = absurd (omega arith)
+      told (noStore ok bad) e = absurd (omega arith)
+      told (lastGiven h q) e = absurd (omega arith)
+      told (allTaken h l q) e = absurd (omega arith)
+      told (tooLong h l m k) e = k
+      told (isSaved h l m k) e = absurd (omega arith)
 
-      -- ROOM: refused for it exactly if all together exceed the buffer
-      pub room-exactly : (length (kept s) ≡ places → ⊥) → (saveOutcome sheet s ≡ noRoom) ↔ (length s < needed (kept s) d)
-      unfolding saveOutcome isAccepted isStore
-      room-exactly m =
-          let P : ℕ → Type 0 = λ r. r ≡ noRoom → length s < needed (kept s) d in (
-            λ e.
-                by-lt P (length s) (needed (kept s) d) noRoom 0 (λ k z. k) (λ k z. absurd (omega arith))
-                (sym (then _ ∙ rw (ne-eqb (head.last of s) lastNumber l, ne-eqb (length (kept s)) places m)) ∙ e),
-            λ e. rw (accept (h .accepted), pass h, ne-eqb (head.last of s) lastNumber l, ne-eqb (length (kept s)) places m, lt-ltb (length s) (needed (kept s) d) e),
-          )
+  pub room-exactly :
+      Ready sheet s → (head.last of s ≡ lastNumber → ⊥) → (length (kept s) ≡ places → ⊥) →
+      (saveOutcome sheet s ≡ noRoom) ↔ (length s < needed (kept s) d)
+  room-exactly h l m = (save-tight, λ e. sym (save-only noRoom 0 s (tooLong h l m e) .0))
 
 -- REMOVING
 module _ (s : List ℕ) (x : ℕ) where
@@ -174,12 +144,12 @@ module _ (s : List ℕ) (x : ℕ) where
 
   -- what outcome 1 says
   pub remove-told : removeOutcome s x ≡ 1 → Passes s × (isKept s x ≡ true)
-  unfolding removeOutcome isStore
-  remove-told =
-      let P : ℕ → Type 0 = λ r. r ≡ 1 → Passes s × (isKept s x ≡ true) in
-      by-eq P (storeRule s) 0 _ _
-      (λ ok. by-test P (isKept s x) _ _ (λ h e. (ok, h)) (λ h e. absurd (omega arith)))
-      (λ bad e. absurd (omega arith))
+  remove-told = told remove-due
+    where
+      told : {r : ℕ} {t : List ℕ} → RemoveDue s x r t → r ≡ 1 → Passes s × (isKept s x ≡ true)
+      told (badOne bad) e = absurd (omega arith)
+      told (unknown ok h) e = absurd (omega arith)
+      told (isRemoved ok h) e = (ok, h)
 
 -- a session open at level 0
 module _ (q : Session) where
@@ -243,25 +213,13 @@ module _ (q : Session) where
       pub low : LowCounts sheet v
 
     pub allowed : restoreOutcome q sheet s x ≡ 1 → Allowed
-    unfolding restoreOutcome isAccepted isStore givesBack
-    allowed =
-        let P : ℕ → Type 0 = λ r. r ≡ 1 → Allowed in
-        by-eq P (ruleOf sheet) 0 _ _
-        (λ ok.
-        by-eq P (storeRule s) 0 _ _
-        (λ sound.
-        by-test P (isKept s x) _ _
-        (λ h.
-        by-test P (atZero q) _ _
-        (λ z.
-        by-test P (sameEntries sheet v) _ _
-        (λ f.
-        by-test P (lowCounts sheet v) _ _
-        (λ l e.
-        record { known = record { ready = record { accepted = ok; good = sound }; there = h }; zero = zero-told z; same = same-entries sheet v f; low = low-counts sheet v l })
-        (λ l e. absurd (omega arith)))
-        (λ f e. absurd (omega arith)))
-        (λ z e. absurd (omega arith)))
-        (λ h e. absurd (omega arith)))
-        (λ bad e. absurd (omega arith)))
-        (λ f e. absurd (omega arith))
+    allowed = told restore-due
+      where
+        told : {r : ℕ} {t : List ℕ} → RestoreDue q sheet s x r t → r ≡ 1 → Allowed
+        told (sheetRefused f) e = absurd (omega arith)
+        told (storeRefused ok bad) e = absurd (omega arith)
+        told (unknownNumber h f) e = absurd (omega arith)
+        told (notOpen k n) e = absurd (omega arith)
+        told (differs k z n) e = absurd (omega arith)
+        told (tooHigh k z f n) e = absurd (omega arith)
+        told (isRestored k z f l) e = record { known = k; zero = z; same = f; low = l }

@@ -1,12 +1,11 @@
 -- The full example, by computation.
 -- Assumes nothing.
-use Prim.Native.Nat.{ℕ}
 use mathlib.Core.Path.{_≡_, refl}
 use Rattle.octets.specs.Bytes.{numAt, bytesOf}
 use Rattle.octets.specs.Every.{every}
 use Rattle.octets.specs.Splice.{splice}
 use Rattle.sheet.specs.Demand.{breach}
-use Rattle.sheet.specs.First.{first, orElse}
+use Rattle.sheet.specs.First.{first}
 use Rattle.sheet.specs.Entries.{entry, keyOf, floor, bodyAt, bodyEnd, startOf, reached, sixBits}
 use Rattle.sheet.specs.Rules.{entryDemands, bodyDemands, entryRule, bodyRule, entriesRule, bodiesRule, walkRule, restRule, ruleIn, isAccepted}
 use Rattle.sheet.specs.Sample.{sample}

@@ -1,6 +1,6 @@
 -- THE BYTES OF VERSIONS WHOSE NUMBERS RISE, AND THEN ANYTHING, ARE A STORE THAT PASSES AND KEEPS THEM.
 -- Assumes nothing.
-use Prim.Native.Nat.{ℕ, zero, suc, _+_, _-_, _*_, _≤_, _<_}
+use Prim.Native.Nat.{ℕ, _+_, _-_, _≤_, _<_}
 use mathlib.Core.Path.{_≡_, refl, sym, ap, ap₂, subst, _∙_}
 use mathlib.Core.List.{List, [], _∷_, _++_, append-assoc}
 use native.Mathlib.Omega.{arith}
@@ -9,7 +9,7 @@ use lib.Seq.{take-append-seam, drop-append-seam, drop-at, drop-drop}
 use Rattle.octets.specs.Bytes.{numAt, bytesOf}
 use Rattle.octets.proofs.Numbers.{length-bytes, num-back, bytes-zero}
 use Rattle.sheet.specs.Layout.{_of_}
-use Rattle.sheet.specs.Demand.{breach, Met}
+use Rattle.sheet.specs.Demand.{breach}
 use Rattle.sheet.proofs.Demands.{unbroken}
 use Rattle.versions.specs.Head as head
 use Rattle.versions.specs.Row as row

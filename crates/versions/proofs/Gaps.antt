@@ -1,11 +1,11 @@
 -- Runs replaced, and gaps opened and closed, in a buffer that is taken apart: p, what is replaced, and what follows.
 -- Assumes nothing.
-use Prim.Native.Nat.{ℕ, _+_, _-_, _≤_, _<_}
+use Prim.Native.Nat.{ℕ, _+_, _-_, _≤_}
 use mathlib.Core.Path.{_≡_, refl, sym, ap, _∙_}
-use mathlib.Core.List.{List, [], _∷_, _++_, append-assoc}
+use mathlib.Core.List.{List, _++_, append-assoc}
 use native.Mathlib.Omega.{arith}
-use lib.ListN.{length, take, drop, length-append, length-take, length-drop, take-append-drop}
-use lib.Seq.{take-append-seam, drop-append-seam, take-append-add, drop-append-add, drop-at, take-at, take-append-le, drop-append-le}
+use lib.ListN.{length, take, drop, length-append, length-drop}
+use lib.Seq.{take-append-seam, drop-append-seam, take-append-add, drop-append-add, drop-at, drop-append-le}
 use Rattle.octets.specs.Splice.{splice}
 use Rattle.octets.specs.Moved.{moved}
 

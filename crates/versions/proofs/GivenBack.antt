@@ -1,20 +1,19 @@
 -- A sheet that was given a version's entries and bodies would be saved as that version.
 -- Assumes nothing.
-use Prim.Native.Nat.{ℕ, suc, _+_, _-_, _*_, _≤_, _<_}
-use mathlib.Core.Path.{_≡_, refl, sym, ap, ap₂, _∙_}
+use Prim.Native.Nat.{ℕ, _+_, _-_, _<_}
+use mathlib.Core.Path.{_≡_, sym, ap, ap₂, _∙_}
 use mathlib.Core.List.{List, _++_}
 use native.Mathlib.Omega.{arith}
-use lib.ListN.{length, take, drop, getD, take-append-drop, length-drop, length-take}
+use lib.ListN.{length, take, drop, take-append-drop, length-drop}
 use lib.Seq.{length-take-le, getD-take, getD-drop, ext-getD, drop-drop}
-use Rattle.octets.specs.Bytes.{numAt, bytesOf}
-use Rattle.octets.specs.Splice.{splice}
+use Rattle.octets.specs.Bytes.{bytesOf}
 use Rattle.octets.proofs.Splices.{splice-read, length-splice}
 use Rattle.octets.specs.Octets.{Octets}
 use Rattle.sheet.specs.Kind.{properties, groups}
-use Rattle.sheet.specs.Entries.{count, base, place, startOf}
+use Rattle.sheet.specs.Entries.{base, startOf}
 use Rattle.sheet.specs.Rules.{Accepted}
 use Rattle.sheet.specs.Frame.{Agree}
-use Rattle.sheet.proofs.Sames.{count-same, place-same, start-same}
+use Rattle.sheet.proofs.Sames.{count-same, start-same}
 use Rattle.versions.specs.Settings.{front, many, entriesLong, bodiesLong, settingsOf, restored, SameEntries, LowCounts}
 use Rattle.versions.proofs.Backs.{num-bytes}
 use Rattle.versions.proofs.Restores as re

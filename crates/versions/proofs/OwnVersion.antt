@@ -1,8 +1,8 @@
 -- WHAT A VERSION HOLDS OF A SHEET: it can be given back to that sheet, and nothing else of the sheet is in it.
 -- Assumes nothing.
-use Prim.Native.Nat.{ℕ, suc, _+_, _-_, _*_, _≤_, _<_}
-use mathlib.Core.Path.{_≡_, refl, sym, ap, ap₂, subst, _∙_}
-use mathlib.Core.List.{List, [], _∷_, _++_}
+use Prim.Native.Nat.{ℕ, _+_, _-_, _*_, _≤_, _<_}
+use mathlib.Core.Path.{_≡_, sym, ap, ap₂, _∙_}
+use mathlib.Core.List.{List, [], _++_}
 use native.Mathlib.Omega.{arith}
 use lib.ListN.{length, getD, take, drop, length-append, length-drop, List·getD-append}
 use lib.Seq.{getD-take, getD-drop, length-take-le, getD-append-add, ext-getD}
@@ -11,8 +11,7 @@ use Rattle.octets.proofs.Numbers.{length-bytes, num-back, num-same}
 use Rattle.sheet.specs.Kind.{regions, properties, groups, users}
 use Rattle.sheet.specs.Layout.{_of_}
 use Rattle.sheet.specs.Property as property
-use Rattle.sheet.specs.Entries.{base, place, entry, startOf}
-use Rattle.sheet.specs.Frame.{Fixed}
+use Rattle.sheet.specs.Entries.{base, place, startOf}
 use Rattle.sheet.specs.Rules.{Accepted}
 use Rattle.sheet.specs.Stores.{countAt}
 use Rattle.sheet.proofs.Good.{Good, good}

@@ -1,20 +1,20 @@
 -- RESTORED IS SAVED, end to end.
 -- Assumes nothing.
-use Prim.Native.Nat.{ℕ, _+_, _≤_, _<_}
-use mathlib.Core.Path.{_≡_, refl, sym, ap, subst, _∙_}
+use Prim.Native.Nat.{ℕ, _+_, _<_}
+use mathlib.Core.Path.{_≡_, sym, ap, subst, _∙_}
 use mathlib.Core.Bool.{true}
 use mathlib.Core.List.{List}
 use native.Mathlib.Decide.{decLt}
 use native.Mathlib.Omega.{arith}
 use lib.Dec.{eqb}
-use lib.ListN.{length, getD, take, drop}
+use lib.ListN.{getD, take, drop}
 use borrow.Author.Tests.{eq-eqb}
 use Rattle.octets.specs.Bytes.{bytesOf}
 use Rattle.octets.specs.Octets.{Octets}
 use Rattle.octets.proofs.Octet.{octets-append, octets-bytes, octets-take, octets-drop}
 use Rattle.sheet.specs.Kind.{properties, groups}
 use Rattle.sheet.specs.Layout.{_of_}
-use Rattle.sheet.specs.Rules.{ruleOf, Accepted, isAccepted}
+use Rattle.sheet.specs.Rules.{Accepted}
 use Rattle.sheet.specs.Entries.{base, startOf}
 use Rattle.sheet.specs.Frame.{Agree}
 use Rattle.sheet.proofs.Frames.{both-or-neither}

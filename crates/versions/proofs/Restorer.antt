@@ -1,9 +1,9 @@
 -- What the calls of `restore` return, case by case.
 -- Assumes nothing.
-use Prim.Native.Nat.{ℕ, zero, suc, _+_, _-_, _*_, _^_, _≤_, _<_}
-use mathlib.Core.Path.{_≡_, refl, sym, ap, ap₂, subst, _∙_}
-use mathlib.Core.Bool.{Bool, true, false, cond, not, _&&_}
-use mathlib.Core.List.{List, [], _∷_, _++_}
+use Prim.Native.Nat.{ℕ, zero, suc, _+_, _-_, _*_, _≤_, _<_}
+use mathlib.Core.Path.{_≡_, refl, sym, ap, ap₂, _∙_}
+use mathlib.Core.Bool.{Bool, true, false, cond, not}
+use mathlib.Core.List.{List, [], _∷_}
 use native.Mathlib.Omega.{arith}
 use lib.Dec.{eqb, leb, ltb}
 use lib.ListN.{length, take, drop, length-drop}
@@ -18,15 +18,15 @@ use Rattle.octets.proofs.Truths.{never, and-is}
 use Rattle.octets.specs.Every.{every}
 use Rattle.octets.specs.Octets.{Octets}
 use Rattle.judge.specs.declared.Session.{Session}
-use Rattle.sheet.specs.Kind.{properties, groups}
+use Rattle.sheet.specs.Kind.{properties}
 use Rattle.sheet.specs.Layout.{_of_}
 use Rattle.sheet.specs.Entries.{base, place, startOf, endFrom}
 use Rattle.sheet.specs.Rules.{ruleOf, isAccepted}
 use Rattle.versions.specs.Head as head
 use Rattle.versions.specs.Row as row
-use Rattle.versions.specs.Store.{Version, tableEnd, inRow, versionAt, versionsFrom, kept, has, bodyOf, isKept, versionIn}
+use Rattle.versions.specs.Store.{tableEnd, versionAt, versionsFrom, kept, has, bodyOf, isKept, versionIn}
 use Rattle.versions.specs.Rules.{storeRule, isStore, badSheet, badStore, notKept}
-use Rattle.versions.specs.Walk.{Tabled, Found, Chosen, Extents, Placed, numberIn}
+use Rattle.versions.specs.Walk.{Tabled, Found, Chosen, Extents, Placed}
 use Rattle.versions.specs.Settings.{front, many, entriesLong, bodiesLong, restored}
 use Rattle.versions.specs.Restoring.{isCount, sameByte, sameEntry, lowCount, entryIn, sameEntries, lowCounts, givesBack, atZero, notAtZero, otherEntries, highCount, restoreOutcome, restoreSheet, RestoredAs}
 use Rattle.versions.specs.declared.settings.Extent.{Extent}

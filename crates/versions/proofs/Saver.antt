@@ -1,8 +1,8 @@
 -- What `save` returns, case by case.
 -- Assumes nothing.
 use Prim.Native.Nat.{ℕ, _+_, _-_, _*_, _≤_, _<_}
-use mathlib.Core.Path.{_≡_, refl, sym, ap, ap₂, _∙_}
-use mathlib.Core.Bool.{Bool, true, false, cond}
+use mathlib.Core.Path.{_≡_, sym, ap, _∙_}
+use mathlib.Core.Bool.{true, false}
 use mathlib.Core.List.{List}
 use native.Mathlib.Omega.{arith}
 use lib.Dec.{eqb, ltb}
@@ -18,7 +18,7 @@ use Rattle.versions.specs.Rules.{storeRule, isStore, badSheet, badStore}
 use Rattle.versions.specs.Ends.{endOf, endFrom}
 use Rattle.versions.specs.Walk.{Tabled, Ended, Extents, Appendable}
 use Rattle.versions.specs.Settings.{settingsOf}
-use Rattle.versions.specs.Saving.{noNumber, noPlace, noRoom, lastNumber, nextNumber, needed, saved, saveOutcome, saveNumber, saveStore, SavedAs}
+use Rattle.versions.specs.Saving.{noNumber, noPlace, noRoom, lastNumber, nextNumber, needed, saveOutcome, saveNumber, saveStore, SavedAs}
 use Rattle.versions.specs.Steps.{appended}
 use Rattle.versions.specs.declared.saving.Saved.{Saved}
 use Rattle.versions.specs.declared.settings.Extent.{Extent}

@@ -1,6 +1,6 @@
 -- The steps of saving, as their needs ask.
 -- Assumes nothing.
-use Prim.Native.Nat.{ℕ, _+_, _-_, _*_, _/_, _%_, _≤_, _<_}
+use Prim.Native.Nat.{ℕ, _+_, _-_, _*_, _/_, _%_, _≤_}
 use mathlib.Core.Path.{_≡_, refl, sym, ap, ap₂, _∙_}
 use mathlib.Core.List.{List, [], _∷_, _++_, append-assoc}
 use native.Mathlib.Omega.{arith}
@@ -9,17 +9,16 @@ use lib.Seq.{length-take-le}
 use Rattle.octets.specs.Bytes.{bytesOf}
 use Rattle.octets.specs.Splice.{splice}
 use Rattle.octets.proofs.Numbers.{length-bytes}
-use Rattle.octets.proofs.Splices.{splice-more, length-splice}
+use Rattle.octets.proofs.Splices.{splice-more}
 use Rattle.octets.specs.Moved.{moved}
 use Rattle.versions.specs.Store.{tableEnd, rowOf}
-use Rattle.versions.specs.Settings.{front, many, entriesLong, bodiesLong, settingsOf}
+use Rattle.versions.specs.Settings.{entriesLong, bodiesLong, settingsOf}
 use Rattle.versions.specs.Linked.{linked}
 use Rattle.versions.specs.Steps.{appended}
 use Rattle.versions.specs.Walk.{Extents}
 use Rattle.sheet.specs.Kind.{properties, groups}
 use Rattle.sheet.specs.Layout.{_of_}
-use Rattle.sheet.specs.Property as property
-use Rattle.sheet.specs.Entries.{count, base, entry, startOf, reached, bodyAt, bodyEnd, endFrom}
+use Rattle.sheet.specs.Entries.{count, base, startOf, reached, bodyAt, bodyEnd, endFrom}
 use Rattle.sheet.specs.Rules.{Accepted}
 use Rattle.sheet.specs.Walk.{Counted}
 use Rattle.sheet.specs.Places.{PropertyIn}

@@ -1,9 +1,9 @@
 -- A STORE OVER TIME: it stays good, what is kept stays, and no number is given twice.
 -- Assumes nothing.
-use Prim.Native.Nat.{ℕ, suc, _+_, _≤_, _<_}
+use Prim.Native.Nat.{ℕ, _+_, _≤_, _<_}
 use mathlib.Core.Path.{_≡_, refl, sym, ap, subst, _∙_}
 use mathlib.Core.Bool.{Bool, true, false, cond}
-use mathlib.Core.List.{List, [], _∷_, _++_}
+use mathlib.Core.List.{List, [], _∷_}
 use native.Mathlib.Decide.{ℕ-discrete}
 use native.Mathlib.Omega.{arith}
 use lib.Dec.{eqb}
@@ -15,7 +15,7 @@ use Rattle.octets.proofs.Walks.{by-test}
 use Rattle.sheet.specs.Layout.{_of_}
 use Rattle.sheet.specs.Rules.{Accepted}
 use Rattle.versions.specs.Head as head
-use Rattle.versions.specs.Store.{Version, Rising, next, none, Keeps, kept, has, bodyOf, isKept}
+use Rattle.versions.specs.Store.{Version, Rising, next, Keeps, kept, has, bodyOf, isKept}
 use Rattle.versions.specs.Rules.{Passes}
 use Rattle.versions.specs.Saving.{saveOutcome, saveNumber, saveStore}
 use Rattle.versions.specs.Settings.{settingsOf}

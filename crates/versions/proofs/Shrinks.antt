@@ -1,16 +1,13 @@
 -- ONE VERSION LESS: the numbers still rise, it takes less, and that store is good.
 -- Assumes nothing.
 use Prim.Native.Nat.{ℕ, suc, _+_, _-_, _≤_}
-use mathlib.Core.Path.{_≡_, refl, sym, _∙_}
-use mathlib.Core.Bool.{Bool, true, false, cond}
+use mathlib.Core.Path.{_≡_, refl, _∙_}
 use mathlib.Core.List.{List, [], _∷_, _++_}
 use native.Mathlib.Omega.{arith}
 use lib.Dec.{eqb}
 use lib.ListN.{length, drop, replicate, length-append, length-drop, length-replicate}
-use borrow.Author.Tests.{ne-eqb, eqb-true}
-use Rattle.octets.proofs.Truths.{never}
 use Rattle.octets.proofs.Walks.{by-test}
-use Rattle.versions.specs.Store.{Version, Rising, none, next, Keeps, bodiesOf, laid, has, bodyOf}
+use Rattle.versions.specs.Store.{Version, Rising, none, next, Keeps, bodiesOf, laid}
 use Rattle.versions.specs.Removing.{without, removed}
 use Rattle.versions.proofs.Laid.{laid-long}
 use Rattle.versions.proofs.Keeping.{keeps-these, keeps-last, whole}

@@ -1,8 +1,8 @@
 -- A ZEROED BUFFER WITH ROOM FOR THE EMPTY TABLE IS A GOOD STORE THAT KEEPS NOTHING.
 -- Assumes nothing.
 use Prim.Native.Nat.{ℕ, _+_, _-_, _≤_}
-use mathlib.Core.Path.{_≡_, refl, sym, ap, _∙_}
-use mathlib.Core.List.{List, [], _++_}
+use mathlib.Core.Path.{_≡_, sym, ap, _∙_}
+use mathlib.Core.List.{List, []}
 use native.Mathlib.Omega.{arith}
 use lib.ListN.{length, replicate, replicate-append-replicate, length-replicate}
 use Rattle.octets.specs.Bytes.{bytesOf}

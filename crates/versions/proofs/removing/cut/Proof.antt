@@ -1,7 +1,6 @@
 -- `versions::removing::cut` meets its contract.
 -- Assumes nothing.
 use borrow.Author.Needs.{needs}
-use native.Mathlib.Omega.{arith}
 use Rattle.versions.proofs.Removals.{cut-steps}
 use Rattle.versions.proofs.removing.cut.Statement.{statement}
 use Rattle.versions.proofs.removing.cut.Tie as tie

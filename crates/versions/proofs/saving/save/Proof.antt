@@ -1,6 +1,5 @@
 -- `versions::saving::save` meets its contract.
 -- Assumes nothing.
-use native.Mathlib.Omega.{arith}
 use borrow.Author.Needs.{needs}
 use Rattle.octets.specs.Octets.{Octets}
 use Rattle.versions.proofs.Saver.{bad-sheet, bad-store, room-count, room-last, no-number, no-place, is-tabled, no-room, can-append, was-saved}
