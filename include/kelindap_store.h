@@ -6,8 +6,8 @@
  *
  * The host's duties, which no proof covers, beside those of kelindap.h:
  *  - nothing but these calls writes the store, and calls on one store come one after the other;
- *  - saving. The store has to survive a power cut as the sheet has. A save of a version changes the store only if it gives 0, a
- *    remove only if it gives 1, a restore changes the sheet only, and only if it gives 1: the host then keeps a new copy of what
+ *  - saving. The store has to survive a power cut as the sheet has. A save of a version changes the store only if it gives 0,
+ *    a remove only if it gives 1; a restore changes the sheet, and only if it gives 1. The host then keeps a new copy of what
  *    was changed before it tells anybody so;
  *  - a power cut during a call leaves a store in memory of which no promise speaks: the host starts from the copy that it kept
  *    last, and never from memory that lay open to a call. Keeping a copy must leave the old one or the new one, whole: two
@@ -37,16 +37,18 @@ enum {
     KELINDAP_STORE_LAST = 65535   /* the last number that is given */
 };
 
-/* The outcomes of these calls beside KELINDAP_OK, KELINDAP_DONE and KELINDAP_BAD_SHEET. Each is a refusal, and changes nothing. */
+/*
+ * The outcomes of these calls beside KELINDAP_OK, KELINDAP_DONE and KELINDAP_BAD_SHEET. Each is a refusal, and changes nothing.
+ */
 enum kelindap_store_outcome {
-    KELINDAP_STORE_BAD = 30,        /* the store is not a good one */
-    KELINDAP_STORE_NO_NUMBER = 31,  /* 65,535 has been given */
-    KELINDAP_STORE_NO_PLACE = 32,   /* eight versions are kept */
-    KELINDAP_STORE_NO_ROOM = 33,    /* head, table with the new entry, kept bodies and the new one exceed the buffer */
-    KELINDAP_STORE_NOT_KEPT = 34,   /* no version of that number is kept */
+    KELINDAP_STORE_BAD = 30,         /* the store is not a good one */
+    KELINDAP_STORE_NO_NUMBER = 31,   /* 65,535 has been given */
+    KELINDAP_STORE_NO_PLACE = 32,    /* eight versions are kept */
+    KELINDAP_STORE_NO_ROOM = 33,     /* head, table with the new entry, kept bodies and the new one exceed the buffer */
+    KELINDAP_STORE_NOT_KEPT = 34,    /* no version of that number is kept */
     KELINDAP_STORE_NOT_AT_ZERO = 35, /* the connection is not open at level 0 */
-    KELINDAP_STORE_OTHER = 36,      /* the version's property entries are not the sheet's, counts apart */
-    KELINDAP_STORE_HIGH_COUNT = 37  /* a count of the version is above the property's maximum */
+    KELINDAP_STORE_OTHER = 36,       /* the version's property entries are not the sheet's, counts apart */
+    KELINDAP_STORE_HIGH_COUNT = 37   /* a count of the version is above the property's maximum */
 };
 
 /* What a save gave: 0 and the number of the version, or the refusal and 0. */
@@ -58,21 +60,24 @@ typedef struct kelindap_saved {
 /* 0 for a good store, else 30. */
 uint8_t kelindap_store_check(const uint8_t *store, size_t store_length);
 
-/* The sheet's properties kept as a version of the next number: 4, 30, 31, 32, 33, tested in this order, or 0. The sheet stays. */
+/*
+ * The sheet's properties kept as a version of the next number: 4, 30, 31, 32, 33, tested in this order, or 0. The sheet stays.
+ */
 kelindap_saved kelindap_save(const uint8_t *sheet, size_t sheet_length, uint8_t *store, size_t store_length);
 
 /*
- * The version with a number given back, on behalf of a connection: 4, 30, 34, 35, 36, 37, tested in this order, or 1; then counts and
- * bodies of all properties are the version's, and no other byte of the sheet has changed. Sessions and store stay. A number above
- * 65,535 is kept by nobody, and a connection other than 0 and 1 is not open. The sessions are handed over as they are, by value.
+ * The version with a number given back, on behalf of a connection: 4, 30, 34, 35, 36, 37, tested in this order, or 1; then
+ * counts and bodies of all properties are the version's, and no other byte of the sheet has changed. Sessions and store stay. A
+ * number above 65,535 is kept by nobody, and a connection other than 0 and 1 is not open. The sessions are handed over as they
+ * are, by value.
  */
 uint8_t kelindap_restore(kelindap_sessions sessions, uint8_t connection,
                          uint8_t *sheet, size_t sheet_length,
                          const uint8_t *store, size_t store_length, size_t number);
 
 /*
- * The version with a number removed: 30, 34, tested in this order, or 1; then its room is free again and zero, the others are as they
- * were, and its number is never given again. No sheet is looked at.
+ * The version with a number removed: 30, 34, tested in this order, or 1; then its room is free again and zero, the others are
+ * as they were, and its number is never given again. No sheet is looked at.
  */
 uint8_t kelindap_remove(uint8_t *store, size_t store_length, size_t number);
 
