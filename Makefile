@@ -18,7 +18,8 @@ test: need-tools
 	$(MAKE) --no-print-directory -s model
 	$(MAKE) --no-print-directory -s prove
 	$(MAKE) --no-print-directory -s sheet-check
-	$(MAKE) --no-print-directory -s test-unit test-c points test-frames test-tools compare test-firmware figures
+	$(MAKE) --no-print-directory -s test-unit test-text test-c points test-frames test-tools compare test-firmware figures
+	$(MAKE) --no-print-directory -s test-deb test-shims test-others
 	tail -n 1 build/ci.log
 
 # every proof from nothing, every edit, every program, once: what the tests after it link and run is what was proved here. The
@@ -55,8 +56,10 @@ sheet-check: need-tools
 	rt check sheet_check host tool
 	tests/sheet_check.sh target/bin/sheet_check
 
+include mk/native.mk
 include mk/hosts.mk
 include mk/tools.mk
+include mk/install.mk
 include mk/frames.mk
 include mk/compare.mk
 include mk/bench.mk

@@ -1,27 +1,6 @@
 /*
- * The desk unit: plays one device. Commands come on standard input, one to a line, and each gets one line on
- * standard output. Bytes are hex digits, - is an empty run, numbers are decimal.
- *
- *   sheet HEX                            sets the sheet                 OK, or S1 .. S9
- *   session C OPEN LEVEL                 sets a session as found        session C OPEN LEVEL
- *   connect C, disconnect C                                             OUTCOME SESSIONS 0 - SHEETHEX
- *   button on, button off                                               OUTCOME SESSIONS 0 - SHEETHEX
- *   request MODE GROUP APDUHEX BUFHEX C  a request to the device        OUTCOME SESSIONS COUNT BUFHEX SHEETHEX
- *   lookup property OBJECT ID            a value in the sheet           HEX
- *   lookup region K
- *   lookup user K
- *   lookup group ADDRESS
- *   read APDUHEX                         reads a PDU                    OUTCOME, or 0 KIND field=value ..
- *   write KIND field=value .. BUFHEX     writes a PDU                   OUTCOME COUNT BUFHEX
- *   point read TYPE HEX                  reads a group value            OUTCOME, or 0 VALUE
- *   point write TYPE VALUE               writes a group value           OUTCOME, or 0 HEX
- *   frame read HEX                       reads a frame                  OUTCOME, or 0 field=value .. EVENT
- *   frame write field=value .. BUFHEX    writes a frame                 OUTCOME COUNT BUFHEX
- *   help                                 the forms of all these         commands: FORM; FORM; ..
- *
- * C is the number of a connection, SESSIONS is OPEN0 LEVEL0 OPEN1 LEVEL1. An empty line, or one that begins with #, is
- * passed over. Any other line that is no command gets one line that begins with ERR and says why, and changes nothing.
- * The unit starts with the sample sheet and fresh sessions. unit --help shows the forms, one to a line.
+ * The desk unit: plays one device. Commands come on standard input, one to a line, and each gets one line on standard
+ * output. kelindap-unit.txt, which it shows for --help, has them all; docs/UNIT.md tells more.
  */
 #include "kelindap.h"
 #include "kelindap_frame.h"
@@ -801,16 +780,6 @@ static bool do_help(device *d, char **words, size_t count)
     return true;
 }
 
-/* The program was called with words. It has none but --help. */
-static int usage(bool asked)
-{
-    FILE *to = asked ? stdout : stderr;
-    fputs("usage: unit < COMMANDS\ncommands, one to a line, each answered by one line:\n", to);
-    for (size_t i = 0; i < COMMANDS; i++)
-        fprintf(to, "  %s\n", commands[i].form);
-    return asked ? EXIT_SUCCESS : 2;
-}
-
 static bool obey(device *d, const line *l)
 {
     char *words[MOST_WORDS + 1];
@@ -829,12 +798,32 @@ static bool obey(device *d, const line *l)
     return command->obey(d, words + 1, count - 1);
 }
 
-int main(int count, char **words)
+/* ---- the program ---- */
+
+static const char *const help[] = {
+#include "unit_help.inc"
+};
+
+/* Any word on the command line asks for help, or is not understood. */
+static int tell(int count, char **words)
 {
+    if (count != 1 || strcmp(words[0], "--help") != 0) {
+        fprintf(stderr, "unit: a word that is not understood: \"%s\"; --help says more\n", shown(words[0]));
+        return 2;
+    }
+    for (size_t i = 0; i < sizeof help / sizeof help[0]; i++)
+        puts(help[i]);
+    if (fflush(stdout) != 0)
+        give_up("the output can't be written");
+    return EXIT_SUCCESS;
+}
+
+int main(int argc, char **argv)
+{
+    if (argc > 1)
+        return tell(argc - 1, argv + 1);
     device d = { .sessions = kelindap_fresh() };
     line l = { 0 };
-    if (count > 1)
-        return usage(count == 2 && strcmp(words[1], "--help") == 0);
     set_sheet(&d, sample_sheet, sizeof sample_sheet);
     while (next_line(&l)) {
         obey(&d, &l);

@@ -1,9 +1,9 @@
-# The library beside the plain Rust model, both compiled for this machine's own processor. Comes after hosts.mk.
+# The library beside the plain Rust model, both compiled for this machine's own processor. Comes after native.mk.
 .PHONY: bench
 
 #: make bench      the speed of each request, beside plain Rust
 # nanoseconds and instructions for each request: figures and no verdict, so not among the tests
-bench: build/own/libhost.a build/own/libtool.a
+bench: build/libkelindap_device.a build/libkelindap_pdu.a
 	cargo build --release --quiet -p bench
 	$(CARGO_BIN)/bench
 	$(CARGO_BIN)/point_times

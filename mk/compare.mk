@@ -6,18 +6,19 @@ SEED ?=
 COMPARE := $(CARGO_BIN)/compare
 
 #: make compare    the libraries against a plain Rust model; EVENTS and SEED may be given
-compare: build/bridge
+compare: $(BUILD)/bridge
 	cargo build --release --quiet -p compare
-	$(COMPARE) build/bridge $(EVENTS) $(SEED)
-	$(COMPARE) build/bridge --faults $(SEED)
-	$(COMPARE) build/bridge --apart $$(($(EVENTS) / 10)) $(SEED)
+	$(COMPARE) $(BUILD)/bridge $(EVENTS) $(SEED)
+	$(COMPARE) $(BUILD)/bridge --faults $(SEED)
+	$(COMPARE) $(BUILD)/bridge --apart $$(($(EVENTS) / 10)) $(SEED)
 
-build/bridge: tests/compare/bridge.c mk/compare.mk $(LINKED) | need-gcc
-	mkdir -p build
+$(BUILD)/bridge: tests/compare/bridge.c mk/compare.mk $(LINKED) | need-gcc
+	mkdir -p $(BUILD)
 	gcc $(STRICT) -c $< -o /dev/null
-	$(CC86) -o $@ $(STRICT) $< $(HOST_A) $(TOOL_A)
+	$(CC_FOR) -o $@ $(STRICT) $< $(HOST_A) $(TOOL_A)
 
-# group values against the model, through the desk unit
-points: build/unit
+# group values against the model, through the desk unit; so many of them at random
+POINTS ?= 1000000
+points: $(BUILD)/unit
 	cargo build --release --quiet -p compare
-	$(CARGO_BIN)/points build/unit
+	$(CARGO_BIN)/points $(BUILD)/unit $(POINTS)

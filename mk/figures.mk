@@ -2,7 +2,9 @@
 .PHONY: figures write-figures measured
 
 QUOTING := README.md docs/SPEED.md
-MEASURE = tests/docs/measure.sh build/figures $(HOST_A) $(TOOL_A) build/stack $(CARGO_BIN)/bench $(COMPARE)
+# x86-64's are quoted, also where the machine is another
+X86 := build$(if $(filter x86_64,$(HERE)),,/x86_64)
+MEASURE = tests/docs/measure.sh build/figures $(X86)/libkelindap_device.a $(X86)/libkelindap_pdu.a $(X86)/stack $(CARGO_BIN)/bench $(COMPARE)
 
 #: make figures    sizes, stack and instructions, held to what README and SPEED quote; make write-figures puts them there
 figures: measured
@@ -13,5 +15,6 @@ write-figures: measured
 	$(MEASURE) times
 	build/documents/figures write build/figures $(QUOTING)
 
-measured: build/documents/figures build/stack build/bridge build/own/libhost.a build/own/libtool.a $(FIRMWARE) | need-tools
+measured: build/documents/figures build/libkelindap_device.a build/libkelindap_pdu.a $(FIRMWARE) | need-tools
+	$(MAKE) --no-print-directory -s PROCESSOR=x86_64 $(X86)/libkelindap_device.a $(X86)/libkelindap_pdu.a $(X86)/stack
 	cargo build --release --quiet -p bench -p compare

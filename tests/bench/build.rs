@@ -1,9 +1,9 @@
-//! Links the archives for this machine's own processor, which mk/bin/own leaves.
+//! Links the archives for this machine's own processor, which `make native` leaves.
 
 fn main() {
-    let own = concat!(env!("CARGO_MANIFEST_DIR"), "/../../build/own");
-    println!("cargo:rustc-link-arg-bin=bench={own}/libhost.a");
-    println!("cargo:rustc-link-arg-bin=point_times={own}/libtool.a");
-    println!("cargo:rerun-if-changed={own}/libhost.a");
-    println!("cargo:rerun-if-changed={own}/libtool.a");
+    let build = concat!(env!("CARGO_MANIFEST_DIR"), "/../../build");
+    println!("cargo:rustc-link-arg-bin=bench={build}/libkelindap_device.a");
+    println!("cargo:rustc-link-arg-bin=point_times={build}/libkelindap_pdu.a");
+    println!("cargo:rerun-if-changed={build}/libkelindap_device.a");
+    println!("cargo:rerun-if-changed={build}/libkelindap_pdu.a");
 }

@@ -93,6 +93,18 @@ int run(void)
 __asm__(".globl _start\n_start:\n\txorl %ebp, %ebp\n\tcall run\n\tmovl %eax, %edi\n\tmovl $60, %eax\n\tsyscall\n");
 #elif defined(__aarch64__)
 __asm__(".globl _start\n_start:\n\tbl run\n\tmov x8, #93\n\tsvc #0\n");
+#elif defined(__arm__)
+__asm__(".arm\n.globl _start\n_start:\n\tbl run\n\tmov r7, #1\n\tsvc #0\n");
+/* a quotient of the compiler's own library calls it if the divisor is 0 */
+int raise(int number);
+int raise(int number)
+{
+    (void)number;
+    for (;;)
+        ;
+}
+#elif defined(__riscv)
+__asm__(".globl _start\n_start:\n.option push\n.option norelax\n\tla gp, __global_pointer$\n.option pop\n\tcall run\n\tli a7, 93\n\tecall\n");
 #else
 #error "no start for this processor"
 #endif

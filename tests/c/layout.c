@@ -1,6 +1,7 @@
 /*
  * The layouts that the archives rest on, held to the headers as a C compiler lays them out; and the numbers of the
- * outcomes, rules, connections, modes and kinds. Every line is checked by the compiler; the program only says how many there are.
+ * outcomes, rules, connections, modes and kinds. Every line is checked by the compiler; the program only says how many there
+ * are. A size has 8 bytes, or 4 on a processor of 32 bits: W, and a structure that ends in sizes is the shorter there.
  */
 #include "kelindap.h"
 #include "kelindap_frame.h"
@@ -8,8 +9,12 @@
 #include "kelindap_store.h"
 #include "kelindap_unit.h"
 
+#ifndef BOARD /* where there is no C library, compiling is all of the test */
 #include <stdio.h>
+#endif
 
+#define W (sizeof(void *))
+#define F (W == 8 ? 16 : 12) /* where the sizes of a frame begin */
 #define HOLDS(fact) _Static_assert(fact, #fact);
 #define SIZE(type, size) HOLDS(sizeof(type) == (size))
 #define FIELD(type, field, size, offset) \
@@ -18,8 +23,8 @@
 
 #define FACTS \
     SIZE(bool, 1) \
-    SIZE(size_t, 8) \
-    SIZE(void *, 8) \
+    SIZE(size_t, W) \
+    HOLDS(W == 8 || W == 4) \
     SIZE(kelindap_session, 2) \
     FIELD(kelindap_session, open, 1, 0) \
     FIELD(kelindap_session, level, 1, 1) \
@@ -30,9 +35,9 @@
     SIZE(kelindap_reply, 2) \
     FIELD(kelindap_reply, outcome, 1, 0) \
     FIELD(kelindap_reply, count, 1, 1) \
-    SIZE(kelindap_part, 16) \
-    FIELD(kelindap_part, offset, 8, 0) \
-    FIELD(kelindap_part, length, 8, 8) \
+    SIZE(kelindap_part, 2 * W) \
+    FIELD(kelindap_part, offset, W, 0) \
+    FIELD(kelindap_part, length, W, W) \
     SIZE(kelindap_saved, 4) \
     FIELD(kelindap_saved, outcome, 1, 0) \
     FIELD(kelindap_saved, number, 2, 2) \
@@ -51,7 +56,7 @@
     SIZE(kelindap_written, 2) \
     FIELD(kelindap_written, outcome, 1, 0) \
     FIELD(kelindap_written, count, 1, 1) \
-    SIZE(kelindap_pdu, 48) \
+    SIZE(kelindap_pdu, 32 + 2 * W) \
     FIELD(kelindap_pdu, serial, 8, 0) \
     FIELD(kelindap_pdu, key, 4, 8) \
     FIELD(kelindap_pdu, address, 2, 12) \
@@ -69,9 +74,9 @@
     FIELD(kelindap_pdu, type, 1, 28) \
     FIELD(kelindap_pdu, access, 1, 29) \
     FIELD(kelindap_pdu, level, 1, 30) \
-    FIELD(kelindap_pdu, data_offset, 8, 32) \
-    FIELD(kelindap_pdu, data_length, 8, 40) \
-    SIZE(kelindap_frame, 48) \
+    FIELD(kelindap_pdu, data_offset, W, 32) \
+    FIELD(kelindap_pdu, data_length, W, 32 + W) \
+    SIZE(kelindap_frame, F + 4 * W) \
     FIELD(kelindap_frame, source, 2, 0) \
     FIELD(kelindap_frame, destination, 2, 2) \
     FIELD(kelindap_frame, outcome, 1, 4) \
@@ -80,10 +85,10 @@
     FIELD(kelindap_frame, control1, 1, 7) \
     FIELD(kelindap_frame, control2, 1, 8) \
     FIELD(kelindap_frame, transport, 1, 9) \
-    FIELD(kelindap_frame, info_offset, 8, 16) \
-    FIELD(kelindap_frame, info_length, 8, 24) \
-    FIELD(kelindap_frame, tpdu_offset, 8, 32) \
-    FIELD(kelindap_frame, tpdu_length, 8, 40) \
+    FIELD(kelindap_frame, info_offset, W, F) \
+    FIELD(kelindap_frame, info_length, W, F + W) \
+    FIELD(kelindap_frame, tpdu_offset, W, F + 2 * W) \
+    FIELD(kelindap_frame, tpdu_length, W, F + 3 * W) \
     SIZE(kelindap_framed, 4) \
     FIELD(kelindap_framed, count, 2, 0) \
     FIELD(kelindap_framed, outcome, 1, 2) \
@@ -178,6 +183,7 @@
 
 FACTS
 
+#ifndef BOARD
 /* the same list again, to count it */
 #undef HOLDS
 #define HOLDS(fact) +((fact) ? 1 : 0)
@@ -187,3 +193,4 @@ int main(void)
     printf("layout: %d facts hold\n", 0 FACTS);
     return 0;
 }
+#endif

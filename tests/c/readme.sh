@@ -1,6 +1,6 @@
 #!/usr/bin/env bash
 # tests/c/readme.sh HOST_A TOOL_A: the pieces of code in README compile without a warning, as C11 and, where g++ is installed,
-# as C++; and the host that they make does its duties on a bus where it is not alone. CC86 makes programs for the archives.
+# as C++; and the host that they make does its duties on a bus where it is not alone. CC_FOR makes programs for the archives.
 set -euo pipefail
 host=$(realpath "$1") tool=$(realpath "$2")
 cd "$(dirname "$0")/../.."
@@ -37,6 +37,6 @@ if command -v g++ > /dev/null; then
     for std in c++11 c++20; do g++ -std=$std "${flags[@]}" -x c++ -c "$work/readme.c" -o "$work/cc.o"; done
     languages+=" and C++"
 fi
-"${CC86:-mk/bin/cc86}" -o "$work/readme" -std=c11 "${flags[@]}" "$work/readme.c" "$host" "$tool"
+$CC_FOR -o "$work/readme" -std=c11 "${flags[@]}" "$work/readme.c" "$host" "$tool"
 "$work/readme"
 echo "readme: its code compiles as $languages; the host that it makes answers for itself and for no neighbour"

@@ -126,9 +126,21 @@ static void frames(void)
     }
 }
 
-/* the depth of what a function does, in bytes */
-static size_t depth_of(void (*function)(void))
+static void (*function)(void);
+static size_t low; /* the deepest byte that is no longer painted */
+
+/* what is measured; looked at before the context is left, which takes a stack of its own on some processors */
+static void measured(void)
 {
+    function();
+    for (low = 0; low < sizeof stack && stack[low] == PAINT;)
+        low++;
+}
+
+/* the depth of what a function does, in bytes */
+static size_t depth_of(void (*what)(void))
+{
+    function = what;
     memset(stack, PAINT, sizeof stack);
     memcpy(sheet, pump, sizeof sheet);
     sheet[14] |= 1; /* programming mode */
@@ -138,11 +150,8 @@ static size_t depth_of(void (*function)(void))
     there.uc_stack.ss_sp = stack;
     there.uc_stack.ss_size = sizeof stack;
     there.uc_link = &here;
-    makecontext(&there, function, 0);
+    makecontext(&there, measured, 0);
     swapcontext(&here, &there);
-    size_t low = 0;
-    while (low < sizeof stack && stack[low] == PAINT)
-        low++;
     return sizeof stack - low;
 }
 

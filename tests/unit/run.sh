@@ -49,18 +49,21 @@ done
 ../../scripts/demo.sh "$unit" "$sheet" ../../scripts/demo.txt > "$work/got" || different=$((different + 1))
 compare demo demo.expected "$work/got"
 
-# the commands that `help` tells, on one line, and `unit --help`, a line each, are those of docs/UNIT.md; another word is refused
+# the commands that `help` tells, on one line, are those of docs/UNIT.md, and their forms those of the text that --help shows;
+# another word is refused
 sed -n '/^## Commands/,/^EVENT is/p' ../../docs/UNIT.md | awk -F '|' '/^. `/ { print $2 }' | grep -oE '`[a-z]+' | tr -d '`' |
     sort -u > "$work/commands"
 echo help | "$unit" > "$work/help"
 [ "$(wc -l < "$work/help")" = 1 ] || { echo "help is not answered by one line"; different=$((different + 1)); }
-sed -n 's/^commands: //p' "$work/help" | sed 's/; /\n/g' > "$work/forms"
+sed -n 's/^commands: //p' "$work/help" | sed 's/; /\n/g; s/, or /\n/g; s/, /\n/g' | sort > "$work/forms"
 compare help "$work/commands" <(sed 's/ .*//' "$work/forms" | sort -u)
-"$unit" --help > "$work/got" 2> "$work/err" || { echo "--help is refused"; different=$((different + 1)); }
-compare --help "$work/forms" <(sed -n 's/^  //p' "$work/got")
+text=../../hosts/kelindap-unit.txt
+compare "the forms in $text" "$work/forms" <(sed -n '/^COMMANDS/,/^    EVENT is/s/^    \([a-z].*\)/\1/p' "$text" | sort)
+"$unit" --help > "$work/got" || { echo "--help is refused"; different=$((different + 1)); }
+compare --help "$text" "$work/got"
 status=0
 "$unit" --hepl > "$work/got" 2> "$work/err" < /dev/null || status=$?
-[ "$status" = 2 ] && [ ! -s "$work/got" ] && grep -q '^usage: unit' "$work/err" ||
+[ "$status" = 2 ] && [ ! -s "$work/got" ] && grep -q -e '--hepl' "$work/err" ||
     { echo "--hepl: status $status"; different=$((different + 1)); }
 
 # an input that can't be read, closed or a folder: nothing is answered, and the status says so

@@ -10,12 +10,8 @@ use sheet::check::{check, Broken};
 use sheet::layout::{Sheet, LONGEST};
 use sheet::{diff, make, show};
 
-const USAGE: &str = "usage: sheet check FILE
-       sheet show [--keys] FILE
-       sheet make TEXT
-       sheet diff FILE FILE
-       sheet --help | --version
-FILE and TEXT are names of files, - being standard input.";
+/// What `--help` shows, and of which the man page is made.
+const HELP: &str = include_str!("../kelindap-sheet.txt");
 
 /// The headers' version, which is the tool's too.
 const COMMON: &str = include_str!("../../../include/kelindap_common.h");
@@ -37,9 +33,9 @@ fn main() -> ExitCode {
         ["show", file] => load(file).map(|bytes| shown(&bytes, false)),
         ["make", text] => made(text),
         ["diff", a, b] => differ(a, b),
-        ["--help"] | ["help"] => Ok((line(USAGE), 0)),
+        ["--help"] | ["help"] => Ok((HELP.into(), 0)),
         ["--version"] => Ok((line(format!("sheet of kelindap {}", version())), 0)),
-        _ => Err(USAGE.to_string()),
+        _ => Err(usage()),
     };
     finish(said)
 }
@@ -47,6 +43,13 @@ fn main() -> ExitCode {
 fn version() -> &'static str {
     let text = COMMON.split("KELINDAP_VERSION_TEXT \"").nth(1);
     text.and_then(|text| text.split('"').next()).unwrap_or("of no version")
+}
+
+/// The synopsis.
+fn usage() -> String {
+    let forms = HELP.lines().skip_while(|&line| line != "SYNOPSIS").skip(1);
+    let forms: Vec<_> = forms.take_while(|line| !line.is_empty()).map(str::trim).collect();
+    format!("usage: {}", forms.join("\n       "))
 }
 
 fn finish(said: Said) -> ExitCode {
@@ -63,9 +66,11 @@ fn finish(said: Said) -> ExitCode {
 
 fn complain(why: &str) -> ExitCode {
     // if standard error is closed too there is nobody to tell
-    let _ = match why {
-        USAGE => writeln!(io::stderr(), "{USAGE}"),
-        _ => writeln!(io::stderr(), "sheet: {}", show::plain(why)),
+    let usage = usage();
+    let _ = if why == usage {
+        writeln!(io::stderr(), "{usage}")
+    } else {
+        writeln!(io::stderr(), "sheet: {}", show::plain(why))
     };
     ExitCode::from(2)
 }

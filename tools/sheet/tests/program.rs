@@ -130,9 +130,8 @@ fn plain_messages() {
 #[test]
 fn asked_for() {
     let room = room("asked");
-    let (status, usage, err) = told(&room, &["--help"]);
-    assert_eq!((status, err.as_str()), (0, ""));
-    assert!(usage.starts_with("usage: sheet check FILE\n"), "{usage}");
+    let text = include_str!("../kelindap-sheet.txt");
+    assert_eq!(told(&room, &["--help"]), said(0, text, ""));
     let header = include_str!("../../../include/kelindap_common.h");
     let (status, version, err) = told(&room, &["--version"]);
     assert_eq!((status, err.as_str()), (0, ""));
@@ -154,7 +153,7 @@ fn wrong_use() {
     ] {
         let (status, out, err) = told(&room, words);
         assert_eq!(
-            (status, out.as_str(), err.starts_with("usage: sheet check FILE\n")),
+            (status, out.as_str(), err.starts_with("usage: kelindap-sheet check FILE\n")),
             (2, "", true)
         );
     }

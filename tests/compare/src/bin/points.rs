@@ -1,6 +1,7 @@
-//! points UNIT: the desk unit's group values against the model. Every code of
-//! type 9 is read; every number that is a result, a middle between two
-//! results, or beside one of these is written, and a million others.
+//! points UNIT [OTHERS]: the desk unit's group values against the model. Every code
+//! of type 9 is read; every number that is a result, a middle between two
+//! results, or beside one of these is written, and so many others, a million if
+//! not given.
 
 use model::gen::Rng;
 use model::points::{read, Codes, Point, GREATEST, LEAST};
@@ -54,7 +55,7 @@ impl Script {
     }
 }
 
-fn numbers(script: &mut Script, random: &mut Rng) {
+fn numbers(script: &mut Script, random: &mut Rng, others: usize) {
     let results: Vec<i64> = script.codes.results().map(i64::from).collect();
     for pair in results.windows(2) {
         script.around(pair[0]);
@@ -66,12 +67,12 @@ fn numbers(script: &mut Script, random: &mut Rng) {
         script.around(x);
     }
     let span = GREATEST as i64 - LEAST as i64 + 1;
-    for _ in 0..800_000 {
+    for _ in 0..others / 5 * 4 {
         let x = LEAST as i64 + (random.draw() % span as u64) as i64;
         script.write(Point::Hundredths(x as i32));
     }
     // smaller numbers, by their size in bits
-    for _ in 0..200_000 {
+    for _ in 0..others / 5 {
         let r = random.draw();
         script.write(Point::Hundredths(r as i32 >> (r >> 32 & 31)));
     }
@@ -137,8 +138,11 @@ fn play(unit: &str, lines: &[(String, String)]) -> std::io::Result<usize> {
 }
 
 fn main() -> ExitCode {
-    let Some(unit) = std::env::args().nth(1) else {
-        eprintln!("usage: points UNIT");
+    let mut words = std::env::args().skip(1);
+    let unit = words.next();
+    let count = words.next().map_or(Ok(1_000_000), |word| word.parse());
+    let (Some(unit), Ok(count)) = (unit, count) else {
+        eprintln!("usage: points UNIT [OTHERS]");
         return ExitCode::from(2);
     };
     let mut script = Script { codes: Codes::default(), lines: Vec::new() };
@@ -147,7 +151,7 @@ fn main() -> ExitCode {
         script.read(9, &code.to_be_bytes());
     }
     others(&mut script, &mut random);
-    numbers(&mut script, &mut random);
+    numbers(&mut script, &mut random, count);
     match play(&unit, &script.lines) {
         Ok(different) => {
             println!("points: {} values, {different} different", script.lines.len());

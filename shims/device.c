@@ -1,0 +1,43 @@
+/* The calls of kelindap.h and kelindap_store.h over those of the proved module, a line each; passing.h says what a line becomes. */
+#include "kelindap.h"
+#include "kelindap_store.h"
+#include "passing.h"
+
+_Static_assert(sizeof(kelindap_session) == 2 && offsetof(kelindap_session, level) == 1 && sizeof(kelindap_sessions) == 4,
+               "as the module has it");
+_Static_assert(sizeof(kelindap_saved) == 4 && offsetof(kelindap_saved, number) == 2, "as the module has it");
+
+/* the sessions by value: their four bytes as one number, the first the lowest */
+#define HEADER_SESSIONS(name) kelindap_sessions name
+#define MODULE_SESSIONS(name) word
+#define GIVEN_SESSIONS(name) \
+    (word)name.of[0].open | (word)name.of[0].level << 8 | (word)name.of[1].open << 16 | (word)name.of[1].level << 24
+
+typedef word raw_kelindap_sessions, raw_kelindap_reply, raw_kelindap_saved;
+static kelindap_sessions made_kelindap_sessions(word r)
+{
+    return (kelindap_sessions){ { { low(r), high(r) }, { low(r >> 16), high(r >> 16) } } };
+}
+static kelindap_reply made_kelindap_reply(word r) { return (kelindap_reply){ low(r), high(r) }; }
+static kelindap_saved made_kelindap_saved(word r) { return (kelindap_saved){ low(r), (uint16_t)(r >> 16) }; }
+
+/* Two numbers of 64 bits. Each is at most 16,384, the longest sheet, so its lower half is all of it. */
+typedef quad raw_kelindap_part;
+static kelindap_part made_kelindap_part(quad q) { return (kelindap_part){ QUAD(q, 0), QUAD(q, 2) }; }
+
+CALL(number, version, NONE)
+CALL(kelindap_sessions, fresh, NONE)
+CALL(byte, connect, AT(kelindap_sessions, sessions), NUMBER(uint8_t, connection))
+CALL(byte, disconnect, AT(kelindap_sessions, sessions), NUMBER(uint8_t, connection))
+CALL(byte, button, WRITE(sheet), NUMBER(bool, on))
+CALL(kelindap_reply, request, AT(kelindap_sessions, sessions), NUMBER(uint8_t, mode), NUMBER(uint8_t, connection),
+     NUMBER(uint16_t, group), READ(apdu), WRITE(sheet), WRITE(answer))
+CALL(byte, check, READ(sheet))
+CALL(kelindap_part, property, READ(sheet), NUMBER(uint8_t, object), NUMBER(uint8_t, id))
+CALL(kelindap_part, region, READ(sheet), SIZE(k))
+CALL(kelindap_part, group, READ(sheet), NUMBER(uint16_t, address))
+CALL(kelindap_part, user_region, READ(sheet), SIZE(k))
+CALL(byte, store_check, READ(store))
+CALL(kelindap_saved, save, READ(sheet), WRITE(store))
+CALL(byte, restore, SESSIONS(sessions), NUMBER(uint8_t, connection), WRITE(sheet), READ(store), SIZE(number))
+CALL(byte, remove, WRITE(store), SIZE(number))

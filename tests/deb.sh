@@ -1,0 +1,84 @@
+#!/usr/bin/env bash
+# tests/deb.sh: Debian's packages. Those for this machine are installed by dpkg in an empty root of their own: a host is built from what
+# stands there alone, the programs run from there, each man page shows the words of --help, and after a purge nothing is left. Of
+# the packages for other processors the fields and the libraries are looked at. What is missing here is said.
+set -euo pipefail
+cd "$(dirname "$0")/.."
+command -v dpkg-deb > /dev/null && command -v dpkg > /dev/null || { echo "deb: left out: there is no dpkg here"; exit 0; }
+work=$(mktemp -d)
+trap 'rm -rf "$work"' EXIT
+root=$work/root
+fail() { echo "deb: $1"; exit 1; }
+version=$(sed -n 's/.*KELINDAP_VERSION_TEXT "\(.*\)"/\1/p' include/kelindap_common.h)
+own=$(mk/bin/processor)
+left_out=()
+
+# the libraries' package of each, made anew
+rm -rf build/deb
+while read -r processor debian triple _; do
+    make --no-print-directory -s deb PROCESSOR="$processor" > "$work/said" 2>&1 || { cat "$work/said"; fail "make deb for $processor failed"; }
+    package=build/deb/libkelindap-dev_${version}_$debian.deb
+    [ "$(dpkg-deb -f "$package" Package Version Architecture Multi-Arch | paste -sd ' ')" = \
+        "Package: libkelindap-dev Version: $version Architecture: $debian Multi-Arch: same" ] || fail "$package has other fields"
+    rm -rf "$work/of"
+    dpkg-deb -x "$package" "$work/of"
+    for archive in libkelindap_device.a libkelindap_pdu.a; do
+        folder=build/$processor
+        [ "$processor" != "$own" ] || folder=build
+        cmp "$folder/$archive" "$work/of/usr/lib/$triple/$archive" || fail "$package has another $archive"
+    done
+    for header in include/*.h; do cmp "$header" "$work/of/usr/$header" || fail "$package has another $header"; done
+    grep -qx "processor=$processor" "$work/of/usr/lib/$triple/pkgconfig/kelindap.pc" || fail "$package does not name $processor"
+    [ "$(find "$work/of" -type f | wc -l)" = $(($(find include -name '*.h' | wc -l) + 3)) ] || fail "$package has other files"
+done < <(grep '^[a-z]' mk/processors)
+
+# this machine's two, in an empty root
+read -r _ debian triple _ < <(grep "^$own " mk/processors)
+in_root() {
+    dpkg --root="$root" --log=/dev/null --force-not-root --force-bad-path --force-script-chrootless "$@" > "$work/said" 2>&1 ||
+        { cat "$work/said"; fail "dpkg $*"; }
+}
+mkdir -p "$root/var/lib/dpkg"/{info,updates,triggers}
+: > "$root/var/lib/dpkg/status"
+: > "$root/var/lib/dpkg/available"
+# a root that holds nothing has no C library either, for which the package asks
+dpkg-deb -f "build/deb/kelindap-tools_${version}_$debian.deb" Depends | grep -q '^libc6 (>= [0-9.]*), libgcc-s1$' || fail "kelindap-tools asks for other packages"
+needed=$(objdump -p build/sheet build/unit | awk '$1 == "NEEDED" && $2 !~ /^ld-linux/ { print $2 }' | sort -u | paste -sd ' ')
+[ "$needed" = "libc.so.6 libgcc_s.so.1" ] || fail "the programs need $needed"
+in_root --force-depends -i "build/deb/libkelindap-dev_${version}_$debian.deb" "build/deb/kelindap-tools_${version}_$debian.deb"
+files=$(find "$root/usr" -type f | wc -l)
+
+by="its own words"
+flags="-I$root/usr/include -L$root/usr/lib/$triple -lkelindap_device -lkelindap_pdu"
+if command -v pkg-config > /dev/null; then
+    by=pkg-config
+    flags=$(PKG_CONFIG_SYSROOT_DIR=$root PKG_CONFIG_LIBDIR=$root/usr/lib/$triple/pkgconfig PKG_CONFIG_ALLOW_SYSTEM_CFLAGS=1 \
+        PKG_CONFIG_ALLOW_SYSTEM_LIBS=1 pkg-config --cflags --libs kelindap)
+fi
+read -ra words <<< "$flags"
+gcc -o "$work/host" -std=c11 tests/c/installed.c "${words[@]}"
+[ "$("$work/host")" = "$version 1 1 no PDU that can be written, not 32 to 16,384 bytes" ] || fail "the host said $("$work/host")"
+
+"$root/usr/bin/kelindap-unit" < tests/unit/story.in | cmp - tests/unit/story.out || fail "kelindap-unit plays another story"
+grep -o '0x..' hosts/sample_sheet.inc | sed 's/0x/\\x/' | paste -sd '' > "$work/list"
+printf '%b' "$(cat "$work/list")" > "$work/sheet"
+[ "$("$root/usr/bin/kelindap-sheet" check "$work/sheet")" = OK ] || fail "kelindap-sheet does not accept the sample sheet"
+
+words_of() { grep -o '[^[:space:]]*'; }
+# a page has the words of --help, but for those of its head and foot
+for program in kelindap-sheet:tools/sheet kelindap-unit:hosts; do
+    text=${program#*:}/${program%%:*}.txt name=${program%%:*}
+    "$root/usr/bin/$name" --help | cmp - "$text" || fail "$name --help says something else"
+    if command -v man > /dev/null && command -v groff > /dev/null; then
+        MANWIDTH=200 man --warnings --nh --nj -E UTF-8 -l "$root/usr/share/man/man1/$name.1.gz" > "$work/page" 2> "$work/err" || fail "man shows no $name"
+        [ ! -s "$work/err" ] || { cat "$work/err"; fail "the page of $name has faults"; }
+        sed -e '1,/^NAME/{/^NAME/!d}' -e '$d' "$work/page" | words_of | cmp - <(words_of < "$text") || fail "the page of $name has other words than --help"
+    else
+        left_out+=("the page of $name (no man)")
+    fi
+done
+
+in_root -P kelindap-tools libkelindap-dev
+[ -z "$(find "$root" -path "$root/var" -prune -o -type f -print)" ] || fail "a purge leaves files"
+echo "deb: libkelindap-dev for $(grep -c '^[a-z]' mk/processors) processors; on $own $files files of two packages in an empty root, a host is built by $by, the programs run, nothing is left"
+[ ${#left_out[@]} = 0 ] || echo "deb: left out: ${left_out[*]}"

@@ -1,0 +1,106 @@
+#!/usr/bin/env bash
+# tests/shims.sh PROCESSOR: a fault planted in a shim is found. The shims are changed at one place at a time, in the text that the
+# compiler sees once a line is expanded: any two arguments of one kind exchanged in a call of the module, any length given a
+# byte short, and what is made of a result changed. With each fault the desk unit, linked for PROCESSOR, plays its scripts and
+# the frames of the vectors until an answer differs or it ends; without one, nothing differs.
+set -euo pipefail
+processor=$1
+cd "$(dirname "$0")/.."
+work=$(mktemp -d)
+trap 'rm -rf "$work"' EXIT
+fail() { echo "shims: $processor: $1"; exit 1; }
+
+# what is played, as NAME.in and NAME.out
+mkdir "$work/play"
+cp tests/unit/{events,fields,lookups,points,ranges,read,tools,user_memory}.{in,out} "$work/play"
+grep -v '^#' tests/vectors/frame.tsv | cut -f 2 > "$work/play/frames.in"
+grep -v '^#' tests/vectors/frame.tsv | cut -f 3 > "$work/play/frames.out"
+
+for name in host tool; do
+    mk/bin/native "$processor" "$name" -E > "$work/$name.c"
+    mk/bin/native "$processor" "$name" "$work/lib$name.a"
+done
+mk/bin/cc "$processor" -c -o "$work/unit.o" -std=c11 -O2 -Iinclude -Ibuild hosts/unit.c
+
+# HOST_A TOOL_A: whether the unit with these answers as it should
+plays() {
+    local script
+    mk/bin/cc "$processor" -o "$work/unit" "$work/unit.o" "$1" "$2"
+    for script in "$work"/play/*.in; do
+        timeout 60 "$work/unit" < "$script" 2> /dev/null | cmp -s - "${script%.in}.out" || return 1
+    done
+}
+plays "$work/libhost.a" "$work/libtool.a" || fail "the scripts differ without a fault"
+
+# the faults as NAME, a tab, the number of a line, a tab, and what stands there: exchanges and lengths by the calls' own text
+faults_of() {
+    awk -v file="$1" -v OFS='\t' '
+        function integer(type) { return type == "word" || type == "uint64_t" }
+        {
+            if (!match($0, /kelindap_module_[a-z_]*\([^()]*\);/)) next
+            call = substr($0, RSTART, RLENGTH); after = substr($0, RSTART + RLENGTH); before = substr($0, 1, RSTART + RLENGTH - 1)
+            name = call; sub(/\(.*/, "", name)
+            sub(/^[^(]*\(/, "", call); sub(/\);$/, "", call)
+            types = split(call, type, ", ")
+            at = index(after, name "(") + length(name) + 1
+            head = before substr(after, 1, at - 1); rest = substr(after, at)
+            for (depth = end = 1; depth > 0; end++) {
+                c = substr(rest, end, 1)
+                if (c == "(") depth++
+                if (c == ")") depth--
+            }
+            tail = substr(rest, end - 1)
+            count = split(substr(rest, 1, end - 2), given, ", ")
+            if (count != types && call != "void") { print "shims: " name " is not understood" > "/dev/stderr"; exit 1 }
+            short = name; sub(/kelindap_module_/, "", short)
+            for (i = 1; i <= count; i++) {
+                if (given[i] ~ /_length$/) planted(short ": " given[i] " a byte short", i, given[i] " - 1", 0, "")
+                for (j = i + 1; j <= count; j++)
+                    if (type[i] == type[j] || integer(type[i]) && integer(type[j]))
+                        planted(short ": arguments " i " and " j " exchanged", i, given[j], j, given[i])
+            }
+        }
+        function planted(what, i, a, j, b,    k, text) {
+            for (k = 1; k <= count; k++) text = text (k > 1 ? ", " : "") (k == i ? a : k == j ? b : given[k])
+            print what, NR, head text tail
+        }' "$work/$1.c"
+}
+# the same of a result, by a piece of its text: where it stands last in its line, which is of reading if there are both
+changed() { # LIBRARY NAME FROM TO
+    awk -v name="$2" -v from="$3" -v to="$4" -v OFS='\t' '
+        !done && index($0, from) {
+            for (at = length($0); substr($0, at, length(from)) != from; at--);
+            print name, NR, substr($0, 1, at - 1) to substr($0, at + length(from))
+            done = 1
+        }' "$work/$1.c" >> "$work/$1.faults"
+}
+for name in host tool; do faults_of "$name" > "$work/$name.faults"; done
+changed host "fresh: a byte beside the level" 'high(r >> 16)' 'high(r >> 8)'
+changed host "reply: outcome and count exchanged" '(kelindap_reply){ low(r), high(r) }' '(kelindap_reply){ high(r), low(r) }'
+changed host "reply: a byte further on" '(kelindap_reply){ low(r), high(r) }' '(kelindap_reply){ low(r >> 8), high(r >> 8) }'
+changed tool "written: outcome and count exchanged" '(kelindap_written){ low(r), high(r) }' '(kelindap_written){ high(r), low(r) }'
+changed tool "framed: the count a byte short" '{ (uint16_t)r,' '{ low(r),'
+changed tool "framed: the count for the outcome" 'low(r >> 16) }; }' 'low(r >> 8) }; }'
+changed tool "point: type and value exchanged" 'low(last), high(last)' 'high(last), low(last)'
+changed tool "point: bits and hundredths exchanged" 'point.bits << 32 | (uint32_t)point.hundredths' '(uint32_t)point.hundredths << 32 | point.bits'
+changed tool "PDU: a field for its neighbour" '.s = from.s,' '.s = from.maximum,'
+changed tool "PDU: a field left out" '.level = from.level,' ''
+changed tool "PDU: the serial number a byte short" '.serial = from.serial,' '.serial = from.serial & 0xFFFFFFFFFF,'
+changed tool "PDU: the data a byte on" '.data_offset = from.data_offset,' '.data_offset = from.data_offset + 1,'
+changed tool "frame: source and destination exchanged" '.source = from.source, .destination = from.destination,' '.source = from.destination, .destination = from.source,'
+changed tool "frame: the TPDU a byte short" '.tpdu_length = from.tpdu_length,' '.tpdu_length = from.tpdu_length - 1,'
+[ "$(cat "$work"/*.faults | wc -l)" -ge 60 ] || fail "only $(cat "$work"/*.faults | wc -l) faults are planted"
+
+planted=0 missed=0
+for name in host tool; do
+    libraries=("$work/libhost.a" "$work/libtool.a")
+    [ "$name" = host ] && libraries[0]=$work/faulty.a || libraries[1]=$work/faulty.a
+    while IFS=$'\t' read -r what at text; do
+        LINE=$text awk -v at="$at" 'NR == at { print ENVIRON["LINE"]; next } { print }' "$work/$name.c" > "$work/faulty.c"
+        mk/bin/native "$processor" "$name" "$work/faulty.a" "$work/faulty.c" 2> "$work/err" || { cat "$work/err"; fail "$what: does not compile"; }
+        planted=$((planted + 1))
+        ! plays "${libraries[@]}" || { echo "shims: $processor: not found: $what" && missed=$((missed + 1)); }
+    done < "$work/$name.faults"
+done
+echo "shims: $processor: $((planted - missed)) of $planted planted faults found"
+[ "$missed" = 0 ]
