@@ -19,7 +19,7 @@ test: need-tools
 	$(MAKE) --no-print-directory -s prove
 	$(MAKE) --no-print-directory -s sheet-check
 	$(MAKE) --no-print-directory -s test-unit test-text test-c points test-frames test-tools compare test-firmware figures
-	$(MAKE) --no-print-directory -s test-deb test-shims test-others
+	$(MAKE) --no-print-directory -s test-deb test-python test-shims test-others
 	tail -n 1 build/ci.log
 
 # every proof from nothing, every edit, every program, once: what the tests after it link and run is what was proved here. The
@@ -60,6 +60,7 @@ include mk/native.mk
 include mk/hosts.mk
 include mk/tools.mk
 include mk/install.mk
+include mk/python.mk
 include mk/frames.mk
 include mk/compare.mk
 include mk/bench.mk

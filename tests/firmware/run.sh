@@ -1,16 +1,17 @@
 #!/usr/bin/env bash
 # tests/firmware/run.sh COMPARE BRIDGE: the device on models of the controllers' own boards, against the plain Rust model and
-# against x86-64, for which BRIDGE is. On each board: the unit's scripts and the vectors with the marked cases, EVENTS events
-# of COMPARE, whose replies have the hash that they have on x86-64, and how deep each call goes into the stack; on one board
-# of each family the planted faults too. A board whose emulator is missing is named and passed over.
+# against this machine's own processor, for which BRIDGE is. On each board: the unit's scripts and the vectors with the marked
+# cases, EVENTS events of COMPARE, whose replies have the hash that they have here, and how deep each call goes into the
+# stack; on one board of each family the planted faults too. A board whose emulator is missing is named and passed over.
 set -euo pipefail
-compare=(timeout 1800 "$(realpath "$1")") x86=$(realpath "$2")
+compare=(timeout 1800 "$(realpath "$1")") here=$(realpath "$2")
 cd "$(dirname "$0")/../.."
 events=${EVENTS:-100000} seed=${SEED:-$((10#$(date +%N)))}
 work=$(mktemp -d)
 trap 'rm -rf "$work"' EXIT
 fail() { echo "firmware: $1"; exit 1; }
 missing=() packages=()
+own=$(mk/bin/processor)
 
 # the scripts without the PDU layer's; the vectors as a script
 mkdir "$work/made"
@@ -59,12 +60,12 @@ test_on() { # PROCESSOR EVENTS FAULTS
     local processor=$1 events=$2 faults=$3 bridge=build/firmware/$1/bridge hash
     play_scripts "$processor" bridge
     wall_stands "$bridge"
-    play "$x86" "$events"
+    play "$here" "$events"
     hash=$(< "$work/hash")
     play "$bridge" "$events"
-    [ "$(< "$work/hash")" = "$hash" ] || fail "$processor: other replies than on x86-64, seed $seed"
+    [ "$(< "$work/hash")" = "$hash" ] || fail "$processor: other replies than on $own, seed $seed"
     stack_holds "$processor"
-    echo "firmware: $processor: $lines of scripts, $events events, seed $seed, 0 different, as on x86-64;" \
+    echo "firmware: $processor: $lines of scripts, $events events, seed $seed, 0 different, as on $own;" \
         "a request took $deepest bytes of stack"
     [ "$faults" = no ] || "${compare[@]}" --device "$bridge" --faults "$seed" > "$work/out" 2> "$work/err" ||
         { cat "$work/out"; fail "$processor: a planted fault is not found"; }

@@ -1,0 +1,148 @@
+"""play.py SCRIPT..: the desk unit's scripts, played through the Python module. SCRIPT.in has the commands, SCRIPT.out the answers.
+
+What the module answers is put into the unit's words and held to the expected line. A line that the unit answers by ERR is about
+its own language and is left out, and so is a command that is not among those below; both are counted.
+"""
+
+import sys
+
+import kelindap
+from kelindap import Refused
+
+SAMPLE = None  # the sample sheet, with which every script starts
+
+
+def from_hex(word):
+    return b"" if word == "-" else bytes.fromhex(word)
+
+
+def to_hex(run):
+    return run.hex() or "-"
+
+
+class Player:
+    def __init__(self):
+        self.unit = kelindap.Unit(SAMPLE)
+
+    def event(self, outcome, count=0, buffer=b""):
+        sessions = " ".join(f"{open:d} {level}" for open, level in self.unit.sessions)
+        return f"{outcome} {sessions} {count} {to_hex(buffer)} {to_hex(self.unit.sheet)}"
+
+    def sheet(self, word):
+        self.unit.sheet = bytearray(from_hex(word))
+        rule = kelindap.check(self.unit.sheet)
+        return f"S{rule}" if rule else "OK"
+
+    def session(self, connection, open, level):
+        self.unit.set_session(int(connection), open == "1", int(level))
+        return f"session {int(connection)} {open} {int(level)}"
+
+    def connect(self, connection):
+        return self.event(self.unit.connect(int(connection)))
+
+    def disconnect(self, connection):
+        return self.event(self.unit.disconnect(int(connection)))
+
+    def button(self, word):
+        return self.event(self.unit.button(word == "on"))
+
+    def request(self, mode, group, apdu, buffer, connection):
+        buffer = bytearray(from_hex(buffer))
+        reply = self.unit.request(from_hex(apdu), buffer, int(mode), int(connection), int(group))
+        return self.event(*reply, buffer)
+
+    def lookup(self, what, *words):
+        find = {"property": kelindap.find_property, "region": kelindap.find_region, "group": kelindap.find_group}
+        find["user"] = kelindap.find_user_region
+        return to_hex(find[what](self.unit.sheet, *map(int, words)))
+
+    # ---- PDUs: serial and key are hex of their own length; one of another length fits no place ----
+
+    HEX = {"serial": 6, "key": 4}
+
+    def shown(self, name, value):
+        if name in self.HEX:
+            return value.to_bytes(self.HEX[name], "big").hex()
+        return to_hex(value) if isinstance(value, bytes) else value
+
+    def field(self, word):
+        name, value = word.split("=")
+        if name in self.HEX:
+            run = from_hex(value)
+            return name, int.from_bytes(run, "big") if len(run) == self.HEX[name] else 1 << 64
+        return name, from_hex(value) if name in ("data", "and", "xor", "info", "apdu") else int(value)
+
+    def read(self, apdu):
+        pdu = kelindap.read(from_hex(apdu))
+        return " ".join(["0", pdu.kind] + [f"{name}={self.shown(name, value)}" for name, value in pdu.fields.items()])
+
+    def write(self, kind, *words):
+        buffer = bytearray(from_hex(words[-1]))
+        outcome, count = kelindap.write_into(buffer, kind, dict(map(self.field, words[:-1])))
+        return f"{outcome} {count} {to_hex(buffer)}"
+
+    def point(self, what, type, word):
+        type = int(type) if int(type) < 256 else 0
+        if what == "read":
+            value = kelindap.point_read(type, from_hex(word))
+            return f"0 {value:08x}" if type == 14 else f"0 {value}"
+        value = int(word, 16) if type == 14 else int(word) if type in (1, 5, 9) else 0
+        return f"0 {to_hex(kelindap.point_write(type, value))}"
+
+    # ---- frames: two fields have shorter names here, and the lower events have words ----
+
+    EVENTS = "multicast broadcast connectionless connected connect disconnect".split()
+
+    def frame(self, what, *words):
+        if what == "read":
+            f = kelindap.frame_read(from_hex(words[0]))
+            means = self.EVENTS[f.event] if f.event < len(self.EVENTS) else f.event
+            means = f"{means} {f.destination}" if means == "multicast" else means
+            numbers = f"code={f.code} c1={f.control1} c2={f.control2} source={f.source} destination={f.destination}"
+            return f"0 {numbers} transport={f.transport} info={to_hex(f.info)} tpdu={to_hex(f.tpdu)} {means}"
+        fields = dict(map(self.field, words[:-1]))
+        fields["control1"], fields["control2"] = fields.pop("c1"), fields.pop("c2")
+        buffer = bytearray(from_hex(words[-1]))
+        outcome, count = kelindap.frame_write_into(buffer, fields.pop("info"), fields.pop("apdu"), **fields)
+        return f"{outcome} {count} {to_hex(buffer)}"
+
+    COMMANDS = "sheet session connect disconnect button request lookup read write point frame".split()
+
+    def obey(self, line):
+        """The answer, or None to a command that is not known here."""
+        name, *words = line.split()
+        if name not in self.COMMANDS:
+            return None
+        try:
+            return getattr(self, name)(*words)
+        except Refused as refused:
+            return str(refused.outcome)
+
+
+def play(script, tally):
+    player = Player()
+    with open(script + ".in", encoding="latin-1", newline="\n") as commands, open(script + ".out") as answers:
+        lines = [line for line in commands.read().split("\n") if line.rstrip("\r") and not line.startswith("#")]
+        expected = answers.read().splitlines()
+        assert len(lines) == len(expected), script
+        for line, due in zip(lines, expected):
+            got = due if due.startswith("ERR") else player.obey(line)
+            tally["unknown" if got is None else "ERR" if got.startswith("ERR") else "same" if got == due else "different"] += 1
+            if got not in (None, due) and tally["different"] <= 10:
+                print(f"python: {script}: {line[:200]}\n  expected {due[:200]}\n  got      {got[:200]}")
+
+
+def main():
+    global SAMPLE
+    if hasattr(sys, "set_int_max_str_digits"):
+        sys.set_int_max_str_digits(0)  # the scripts have numbers of any length
+    SAMPLE = from_hex(sys.argv[1])
+    tally = {"same": 0, "different": 0, "ERR": 0, "unknown": 0}
+    for script in sys.argv[2:]:
+        play(script, tally)
+    print(f"python: {tally['same'] + tally['different']} lines of scripts, {tally['different']} different; left out: "
+          f"{tally['ERR']} about the unit's own language, {tally['unknown']} of commands that the module has not")
+    sys.exit(tally["different"] > 0 or tally["same"] == 0)
+
+
+main()
