@@ -56,7 +56,7 @@ OTHER_EVENTS ?= 50000
 FEWER := EVENTS=$(OTHER_EVENTS) POINTS=$(OTHER_EVENTS) FRAMES=5000
 test-others:
 	for p in $(OTHERS); do \
-	    if ! why=$$(mk/bin/can $$p); then echo "others: $$p is left out: $$why"; continue; fi; \
-	    echo "others: $$p, in an emulator or by itself"; \
+	    if ! how=$$(mk/bin/can $$p); then echo "others: $$p is left out: $$how"; continue; fi; \
+	    echo "others: $$p, $$how, with fewer events"; \
 	    $(MAKE) --no-print-directory -s PROCESSOR=$$p $(FEWER) test-unit test-c points test-frames compare; \
 	done
