@@ -8,6 +8,7 @@ CARGO_BIN := build/cargo/release
 
 help:
 	@sed -n 's/^#: //p' $(MAKEFILE_LIST)
+	@echo "all for Linux on $(PROCESSOR), which is $(if $(OWN),this machine's,another than this machine's $(HERE))"
 
 #: make run        the device at work on the sample sheet, for a person to read
 #: make test       every test, every proof, every edit that must be refused, every program

@@ -34,9 +34,14 @@ done < <(grep '^[a-z]' mk/processors)
 
 # this machine's two, in an empty root
 read -r _ debian triple _ < <(grep "^$own " mk/processors)
+as_root=()
+[ "$(id -u)" = 0 ] || as_root=(fakeroot)
+[ ${#as_root[@]} = 0 ] || command -v fakeroot > /dev/null ||
+    { echo "deb: libkelindap-dev for $(grep -c '^[a-z]' mk/processors) processors; left out: installing, which takes root or fakeroot"; exit 0; }
+# also where the machine's own dpkg leaves man pages out
 in_root() {
-    dpkg --root="$root" --log=/dev/null --force-not-root --force-bad-path --force-script-chrootless "$@" > "$work/said" 2>&1 ||
-        { cat "$work/said"; fail "dpkg $*"; }
+    "${as_root[@]}" dpkg --root="$root" --log=/dev/null --force-not-root --force-bad-path --force-script-chrootless \
+        --path-include='/usr/share/man/*' "$@" > "$work/said" 2>&1 || { cat "$work/said"; fail "dpkg $*"; }
 }
 mkdir -p "$root/var/lib/dpkg"/{info,updates,triggers}
 : > "$root/var/lib/dpkg/status"
