@@ -71,9 +71,40 @@ pub enum Fault {
     NumberAlwaysRead,
     /// A connectionless request puts the connection that it happens to name to level 3.
     UnconnectedTakesLevel,
+    /// A save gives the last number once more, so the first is 0.
+    NumbersFromZero,
+    /// A save counts its room without the new entry.
+    RoomWithoutEntry,
+    /// A save is refused for places before numbers.
+    PlacesBeforeNumbers,
+    /// A save is refused for room before places.
+    RoomBeforePlaces,
+    /// A restore asks for level 1 where level 0 is needed.
+    RestoresAtLevelOne,
+    /// A restore leaves the counts as they are.
+    RestoreLeavesCounts,
+    /// A restore gives back what the writable bits let be written, and no more.
+    RestoresByLevels,
+    /// A restore stores before it judges entries and counts.
+    RestoresFirst,
+    /// A restore does not look at the counts of the version.
+    CountsUntested,
+    /// A restore is refused for its level before its number.
+    LevelBeforeNumber,
+    /// Bodies move with the table, but the offsets stay.
+    OffsetsNotMoved,
+    /// A remove leaves the bodies where they are.
+    HoleLeft,
+    /// A remove leaves what stood between the new end of the bodies and the old one.
+    BytesNotZeroed,
+    /// A remove zeroes what stands behind the bodies.
+    TouchesBehind,
+    /// A remove gives the last number back.
+    NumberReused,
 }
 
 impl Fault {
+    /// Those of the device.
     pub const ALL: [Fault; 34] = [
         Fault::StoreFirst,
         Fault::LevelsReversed,
@@ -109,6 +140,25 @@ impl Fault {
         Fault::UnknownConnects,
         Fault::NumberAlwaysRead,
         Fault::UnconnectedTakesLevel,
+    ];
+
+    /// Those of the calls on a store of versions.
+    pub const STORE: [Fault; 15] = [
+        Fault::NumbersFromZero,
+        Fault::RoomWithoutEntry,
+        Fault::PlacesBeforeNumbers,
+        Fault::RoomBeforePlaces,
+        Fault::RestoresAtLevelOne,
+        Fault::RestoreLeavesCounts,
+        Fault::RestoresByLevels,
+        Fault::RestoresFirst,
+        Fault::CountsUntested,
+        Fault::LevelBeforeNumber,
+        Fault::OffsetsNotMoved,
+        Fault::HoleLeft,
+        Fault::BytesNotZeroed,
+        Fault::TouchesBehind,
+        Fault::NumberReused,
     ];
 
     /// Those by which one tool meets what the other did, though that changed no byte and was no restart.

@@ -1,4 +1,6 @@
-//! Deterministic random sheets, requests, events and PDUs.
+//! Deterministic random sheets, requests, events and PDUs; stores of versions stand in a file of their own.
+
+pub mod stores;
 
 use std::collections::BTreeSet;
 

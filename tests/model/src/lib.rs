@@ -10,3 +10,4 @@ pub mod matrix;
 pub mod pdu;
 pub mod points;
 pub mod sheet;
+pub mod store;

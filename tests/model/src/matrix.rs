@@ -131,3 +131,11 @@ pub const NAMED: Outcomes = set(&[1, 7]);
 pub fn can(rules: u8, apdu: &[u8], mode: u8) -> Outcomes {
     cells(rules, row(apdu))[column(mode)]
 }
+
+/// The calls on a store of versions, and the outcomes that each can have.
+pub const STORE: [(&str, &[usize]); 4] = [
+    ("check of a store", &[0, 30]),
+    ("save", &[0, 4, 30, 31, 32, 33]),
+    ("restore", &[1, 4, 30, 34, 35, 36, 37]),
+    ("remove", &[1, 30, 34]),
+];
