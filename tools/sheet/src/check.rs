@@ -116,17 +116,21 @@ fn regions(s: &[u8], kind: Kind) -> Result<(), Broken> {
 fn properties(s: &[u8]) -> Result<(), Broken> {
     let mut before = None;
     for (i, e) in entries(s, Kind::Property).enumerate() {
-        let rising = match before {
-            Some((object, id)) if (e[0], e[1]) <= (object, id) => {
-                Some(format!("object and id not above the property before, {object}/{id}"))
-            }
-            _ => None,
-        };
-        let fault = (e[1] == 0).then(|| "id 0".to_string()).or(rising).or_else(|| shape(e));
-        of_entry(7, Kind::Property, i, e, fault)?;
+        of_entry(7, Kind::Property, i, e, property_fault(before, e))?;
         before = Some((e[0], e[1]));
     }
     Ok(())
+}
+
+/// What S7 says of a property behind the one of that object and id, if there is one.
+pub fn property_fault(before: Option<(u8, u8)>, e: &[u8]) -> Option<String> {
+    let rising = match before {
+        Some((object, id)) if (e[0], e[1]) <= (object, id) => {
+            Some(format!("object and id not above the property before, {object}/{id}"))
+        }
+        _ => None,
+    };
+    (e[1] == 0).then(|| "id 0".to_string()).or(rising).or_else(|| shape(e))
 }
 
 /// What S7 says of one property alone, after object and id.

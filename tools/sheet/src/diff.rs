@@ -12,14 +12,20 @@ pub fn lines(a: &Sheet, b: &Sheet) -> Vec<String> {
     let mut out = Lines(Vec::new());
     head(&mut out, a, b);
     memory(&mut out, "", &a.regions, &b.regions);
-    let (pa, pb) =
-        (by(&a.properties, |p| (p.object, p.id)), by(&b.properties, |p| (p.object, p.id)));
-    let named = |(object, id)| format!("property {object}/{id}");
-    both(&mut out, &pa, &pb, named, property, new_property);
+    out.0.extend(properties(&a.properties, &b.properties));
     let (ga, gb) = (by(&a.groups, |g| g.address), by(&b.groups, |g| g.address));
     let named = |address| format!("group object {}", group_address(address));
     both(&mut out, &ga, &gb, named, group, new_group);
     memory(&mut out, "user ", &a.users, &b.users);
+    out.0
+}
+
+/// The lines of the properties alone.
+pub fn properties(a: &[Property], b: &[Property]) -> Vec<String> {
+    let mut out = Lines(Vec::new());
+    let (a, b) = (by(a, |p| (p.object, p.id)), by(b, |p| (p.object, p.id)));
+    let named = |(object, id)| format!("property {object}/{id}");
+    both(&mut out, &a, &b, named, property, new_property);
     out.0
 }
 

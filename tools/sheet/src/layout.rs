@@ -197,6 +197,23 @@ fn regions(s: &[u8], kind: Kind) -> Vec<Region> {
         .collect()
 }
 
+/// The properties of entries and their bodies.
+pub fn properties<'a>(pairs: impl Iterator<Item = (&'a [u8], Vec<u8>)>) -> Vec<Property> {
+    pairs
+        .map(|(e, body)| Property {
+            object: e[0],
+            id: e[1],
+            class: e[2] & 0x3F,
+            writable: e[2] & WRITABLE != 0,
+            size: e[3],
+            maximum: word(e, 4),
+            count: word(e, 6),
+            levels: Levels::of(e[10]),
+            body,
+        })
+        .collect()
+}
+
 impl Sheet {
     /// The values of a sheet, if it is accepted.
     pub fn read(s: &[u8]) -> Result<Sheet, Broken> {
@@ -211,19 +228,7 @@ impl Sheet {
             address: word(s, 16),
             keys: [array(s, 18), array(s, 22), array(s, 26)],
             regions: regions(s, Kind::Region),
-            properties: with_bodies(s, Kind::Property)
-                .map(|(e, body)| Property {
-                    object: e[0],
-                    id: e[1],
-                    class: e[2] & 0x3F,
-                    writable: e[2] & WRITABLE != 0,
-                    size: e[3],
-                    maximum: word(e, 4),
-                    count: word(e, 6),
-                    levels: Levels::of(e[10]),
-                    body,
-                })
-                .collect(),
+            properties: properties(with_bodies(s, Kind::Property)),
             groups: with_bodies(s, Kind::Group)
                 .map(|(e, body)| Group { address: word(e, 0), code: e[2], flags: e[3], body })
                 .collect(),

@@ -6,3 +6,4 @@ pub mod diff;
 pub mod layout;
 pub mod make;
 pub mod show;
+pub mod versions;

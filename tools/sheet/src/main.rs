@@ -1,4 +1,5 @@
-//! `sheet check|show|make|diff`: the device sheet as text. Exit status 0; 1 if a sheet is not accepted or two differ;
+//! `sheet check|show|make|diff`: the device sheet as text; `sheet versions`: its store of versions. Exit status 0; 1 if a
+//! sheet is not accepted, a store not good, or two differ;
 //! 2 with a line on standard error for anything else: a file that can't be read, a text with a fault, a wrong word.
 //! `--help` and `--version` are asked for, so they go to standard output with status 0.
 
@@ -8,6 +9,7 @@ use std::process::ExitCode;
 
 use sheet::check::{check, Broken};
 use sheet::layout::{Sheet, LONGEST};
+use sheet::versions::{self, Store};
 use sheet::{diff, make, show};
 
 /// What `--help` shows, and of which the man page is made.
@@ -35,6 +37,8 @@ fn main() -> ExitCode {
         ["diff", a, b] => differ(a, b),
         ["--help"] | ["help"] => Ok((HELP.into(), 0)),
         ["--version"] => Ok((line(format!("sheet of kelindap {}", version())), 0)),
+        ["versions", store] => listed(store),
+        ["versions", "diff", store, number, file] => since(store, number, file),
         _ => Err(usage()),
     };
     finish(said)
@@ -128,6 +132,32 @@ fn differ(a: &str, b: &str) -> Said {
         load(name).and_then(|bytes| Sheet::read(&bytes).map_err(broken))
     };
     let lines = diff::lines(&accepted(a)?, &accepted(b)?);
+    let status = u8::from(!lines.is_empty());
+    Ok((lines.iter().flat_map(line).collect(), status))
+}
+
+/// The bytes of a store; of one that is too long, a byte more than it may have.
+fn stored(name: &str) -> Result<Result<Store, String>, String> {
+    let bytes = read(name, versions::LONGEST as u64 + 1)?;
+    Ok(Store::read(&bytes).map_err(|why| format!("30: {why}")))
+}
+
+fn listed(name: &str) -> Said {
+    Ok(match stored(name)? {
+        Ok(store) => (versions::text(&store).into_bytes(), 0),
+        Err(why) => (line(why), 1),
+    })
+}
+
+/// What has changed in a sheet since a version was saved.
+fn since(store: &str, number: &str, file: &str) -> Said {
+    let kept = stored(store)?.map_err(|why| format!("{store}: {why}"))?;
+    let n = number.parse().map_err(|_| format!("no number of a version: \"{number}\""))?;
+    let version =
+        kept.version(n).ok_or_else(|| format!("{store}: no version has the number {n}"))?;
+    let bytes = load(file)?;
+    check(&bytes).map_err(|broken| format!("{file}: {broken}"))?;
+    let lines = versions::lines(version, &bytes).map_err(|why| format!("{store}: {why}"))?;
     let status = u8::from(!lines.is_empty());
     Ok((lines.iter().flat_map(line).collect(), status))
 }

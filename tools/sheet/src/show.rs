@@ -113,7 +113,7 @@ pub fn element(bytes: &[u8]) -> String {
 }
 
 /// The elements up to the count and up to the last that is not 0; those after them are 0.
-fn property_text(p: &Property) -> String {
+pub fn property_text(p: &Property) -> String {
     let size = p.size as usize;
     let used = p.body.iter().rposition(|&b| b != 0).map_or(0, |last| last / size + 1);
     let shown = used.max(p.count as usize);
