@@ -6,6 +6,7 @@
 #include "kelindap_frame.h"
 #include "kelindap_names.h"
 #include "kelindap_pdu.h"
+#include "kelindap_store.h"
 
 #include <inttypes.h>
 #include <stdarg.h>
@@ -20,10 +21,11 @@ typedef struct run {
 
 typedef struct device {
     run sheet;
+    run store;
     kelindap_sessions sessions;
 } device;
 
-static const uint8_t sample_sheet[] = {
+static uint8_t sample_sheet[] = {
 #include "sample_sheet.inc"
 };
 
@@ -180,17 +182,18 @@ static void put_bytes(const uint8_t *bytes, size_t length)
 
 /* ---- the device ---- */
 
-static void set_sheet(device *d, const uint8_t *bytes, size_t length)
+/* Puts a copy of a run in the place of another, which is freed. */
+static void set_run(run *place, run r)
 {
     uint8_t *copy = NULL;
-    if (length > 0) {
-        copy = malloc(length);
+    if (r.length > 0) {
+        copy = malloc(r.length);
         if (copy == NULL)
-            give_up("no memory for the sheet");
-        memcpy(copy, bytes, length);
+            give_up("no memory for sheet and store");
+        memcpy(copy, r.bytes, r.length);
     }
-    free(d->sheet.bytes);
-    d->sheet = (run){ copy, length };
+    free(place->bytes);
+    *place = (run){ copy, r.length };
 }
 
 static void put_event(const device *d, kelindap_reply reply, const uint8_t *buffer, size_t length)
@@ -211,7 +214,7 @@ static bool do_sheet(device *d, char **words, size_t count)
     (void)count;
     if (!take_bytes("HEX", words[0], &sheet))
         return false;
-    set_sheet(d, sheet.bytes, sheet.length);
+    set_run(&d->sheet, sheet);
     uint8_t rule = kelindap_check(d->sheet.bytes, d->sheet.length);
     if (rule == 0)
         puts("OK");
@@ -287,6 +290,10 @@ static bool do_request(device *d, char **words, size_t count)
     put_event(d, reply, answer.bytes, answer.length);
     return true;
 }
+
+/* ---- versions ---- */
+
+#include "unit_store.h"
 
 /* ---- lookups ---- */
 
@@ -753,6 +760,10 @@ static const struct command {
     { "disconnect", "disconnect C", 1, 1, do_disconnect },
     { "button", "button on, or button off", 1, 1, do_button },
     { "request", "request MODE GROUP APDUHEX BUFHEX C", 5, 5, do_request },
+    { "store", "store HEX", 1, 1, do_store },
+    { "save", "save", 0, 0, do_save },
+    { "restore", "restore C NUMBER", 2, 2, do_restore },
+    { "remove", "remove NUMBER", 1, 1, do_remove },
     { "lookup", lookups, 2, 3, do_lookup },
     { "read", "read APDUHEX", 1, 1, do_read },
     { "write", "write KIND field=value .. BUFHEX", 2, MOST_WORDS - 1, do_write },
@@ -824,7 +835,7 @@ int main(int argc, char **argv)
         return tell(argc - 1, argv + 1);
     device d = { .sessions = kelindap_fresh() };
     line l = { 0 };
-    set_sheet(&d, sample_sheet, sizeof sample_sheet);
+    set_run(&d.sheet, (run){ sample_sheet, sizeof sample_sheet });
     while (next_line(&l)) {
         obey(&d, &l);
         if (fflush(stdout) != 0)
@@ -832,5 +843,6 @@ int main(int argc, char **argv)
     }
     free(l.text);
     free(d.sheet.bytes);
+    free(d.store.bytes);
     return EXIT_SUCCESS;
 }

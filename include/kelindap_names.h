@@ -8,6 +8,7 @@
 #include "kelindap_common.h"
 #include "kelindap_frame.h"
 #include "kelindap_pdu.h"
+#include "kelindap_store.h"
 
 /* Each outcome by number, with its name in enum kelindap_outcome, 44 and 45 in enum kelindap_event, and its words. */
 #define KELINDAP_OUTCOMES(X)                                      \
@@ -52,6 +53,17 @@
     X(8, S8, "a group object against its rules")                           \
     X(9, S9, "bodies with a gap, an overlap, or a six-bit value above 63")
 
+/* Each outcome that the calls on a store of versions alone have, with its name in enum kelindap_store_outcome. */
+#define KELINDAP_STORE_OUTCOMES(X)                                \
+    X(30, STORE_BAD, "the store is not a good one")               \
+    X(31, STORE_NO_NUMBER, "the last number has been given")      \
+    X(32, STORE_NO_PLACE, "as many versions are kept as can be")  \
+    X(33, STORE_NO_ROOM, "no room in the store")                  \
+    X(34, STORE_NOT_KEPT, "no such version is kept")              \
+    X(35, STORE_NOT_AT_ZERO, "not open at level 0")               \
+    X(36, STORE_OTHER, "the version is of another sheet")         \
+    X(37, STORE_HIGH_COUNT, "the version has too high a count")
+
 /* Each kind by number, with its name in enum kelindap_kind and its name at the desk unit. */
 #define KELINDAP_KINDS(X)                               \
     X(0, GROUP_READ, "group_read")                      \
@@ -91,6 +103,7 @@ static inline const char *kelindap_outcome_name(uint8_t outcome)
     case KELINDAP_##name:                 \
         return text;
         KELINDAP_OUTCOMES(KELINDAP_CASE)
+        KELINDAP_STORE_OUTCOMES(KELINDAP_CASE)
     default:
         return "no outcome";
     }

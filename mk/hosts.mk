@@ -46,12 +46,12 @@ test-c: $(BUILD)/layout $(BUILD)/stack $(IN_C)
 	for t in $(IN_C); do $(WATCHED) $$t; done
 
 # gcc judges every program, also where another compiler makes it
-$(BUILD)/unit: hosts/unit.c hosts/unit_frames.h build/unit_help.inc $(LINKED) | need-gcc
+$(BUILD)/unit: hosts/unit.c $(wildcard hosts/unit_*.h) build/unit_help.inc $(LINKED) | need-gcc
 	mkdir -p $(BUILD)
 	gcc $(STRICT) -Ibuild -c $< -o /dev/null
 	$(CC_FOR) -o $@ $(STRICT) -Ibuild $< $(HOST_A) $(TOOL_A)
 
-$(BUILD)/unit_watched: hosts/unit.c hosts/unit_frames.h build/unit_help.inc $(LINKED) | need-gcc
+$(BUILD)/unit_watched: hosts/unit.c $(wildcard hosts/unit_*.h) build/unit_help.inc $(LINKED) | need-gcc
 	mkdir -p $(BUILD)
 	$(CC_FOR) -o $@ $(STRICT) -Ibuild -g $(SANITIZE) $< $(HOST_A) $(TOOL_A)
 

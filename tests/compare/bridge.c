@@ -13,7 +13,11 @@
  *   p OBJECT ID, r K8, u K8, g ADDRESS2      lookups                          OFFSET8 LENGTH8 HASH8
  *   R APDU                                   reads a PDU                      the flat PDU
  *   W flat PDU, DATA BUFFER                  writes a PDU                     OUTCOME COUNT BUFFER
- *   D                                        shows the sheet                  BYTES
+ *   S LENGTH4 BYTES                          sets the store of versions       OUTCOME STOREHASH8
+ *   a                                        saves a version                  OUTCOME NUMBER2 HASH8 STOREHASH8
+ *   o C NUMBER8                              restores one                     OUTCOME SESSIONS HASH8 STOREHASH8
+ *   e NUMBER8                                removes one                      OUTCOME STOREHASH8
+ *   D, E                                     shows the sheet, the store       BYTES
  *   t TIMES4 MODE C GROUP2 APDU BUFFER       so many requests, on a board     INSTRUCTIONS8
  *   T TIMES4                                 so many checks, on a board       INSTRUCTIONS8
  *   !                                        goes deeper than the stack, on a board
@@ -24,6 +28,7 @@
  */
 #define _POSIX_C_SOURCE 200809L
 #include "kelindap.h"
+#include "kelindap_store.h"
 
 #ifdef BOARD /* a controller's processor alone: no C library but the little of it that is used here, no PDU layer */
 #include "board.h"
@@ -38,9 +43,9 @@
 /* ---- the pipes ---- */
 
 #ifdef SMALL /* a board with 16 KB of memory */
-enum { PIPE = 1 << 11, SHEET = 1 << 11, RUN = 63 };
+enum { PIPE = 1 << 11, SHEET = 1 << 11, STORE = 1 << 9, RUN = 63 };
 #else
-enum { PIPE = 1 << 16, SHEET = 1 << 17, RUN = 1023 };
+enum { PIPE = 1 << 16, SHEET = 1 << 17, STORE = 1 << 16, RUN = 1023 };
 #endif
 static uint8_t in[PIPE];
 static size_t in_at, in_end;
@@ -176,7 +181,8 @@ static lent take_run(uint8_t *room, size_t most, size_t bytes)
 }
 
 static uint8_t sheet_room[GUARD + SHEET + GUARD], apdu_room[GUARD + RUN + GUARD], answer_room[GUARD + RUN + GUARD];
-static lent sheet;
+static uint8_t store_room[GUARD + STORE + GUARD];
+static lent sheet, store;
 static struct {
     uint8_t below[GUARD];
     kelindap_sessions sessions;
@@ -185,21 +191,26 @@ static struct {
 #define sessions (session_room.sessions)
 
 /* FNV-1a by words of eight bytes, and each word's upper half brought down, so that no two changes hide each other. */
-static void give_hash(void)
+static void give_hash_of(lent l)
 {
     const uint64_t prime = 0x100000001B3;
-    uint64_t h = 0xCBF29CE484222325 ^ sheet.length;
+    uint64_t h = 0xCBF29CE484222325 ^ l.length;
     size_t i = 0;
-    for (; i + 8 <= sheet.length; i += 8) {
+    for (; i + 8 <= l.length; i += 8) {
         uint64_t word;
-        memcpy(&word, sheet.bytes + i, 8);
+        memcpy(&word, l.bytes + i, 8);
         h = (h ^ word) * prime;
         h ^= h >> 32;
     }
-    for (; i < sheet.length; i++)
-        h = (h ^ sheet.bytes[i]) * prime;
-    guarded(sheet);
+    for (; i < l.length; i++)
+        h = (h ^ l.bytes[i]) * prime;
+    guarded(l);
     give_number(h, 8);
+}
+
+static void give_hash(void)
+{
+    give_hash_of(sheet);
 }
 
 static void give_sessions(void)
@@ -273,6 +284,44 @@ static void request(void)
     give_sessions();
     give(answer.bytes, answer.length);
     give_hash();
+}
+
+/* ---- versions ---- */
+
+/* A number that a size can't hold counts as the largest it can, which nobody keeps. */
+static size_t version(void)
+{
+    uint64_t k = number(8);
+    return k < SIZE_MAX ? (size_t)k : SIZE_MAX;
+}
+
+static void set_store(void)
+{
+    store = take_run(store_room, STORE, 4);
+    give_number(kelindap_store_check(given(store), store.length), 1);
+    give_hash_of(store);
+}
+
+static void save(void)
+{
+    kelindap_saved saved = kelindap_save(given(sheet), sheet.length, given(store), store.length);
+    give_number(saved.outcome, 1);
+    give_number(saved.number, 2);
+    give_hash();
+    give_hash_of(store);
+}
+
+static void restore(void)
+{
+    uint8_t connection = byte();
+    give_outcome(kelindap_restore(sessions, connection, given(sheet), sheet.length, given(store), store.length, version()));
+    give_hash_of(store);
+}
+
+static void take_out(void)
+{
+    give_number(kelindap_remove(given(store), store.length, version()), 1);
+    give_hash_of(store);
 }
 
 #ifndef BOARD
@@ -456,6 +505,21 @@ static void play(uint8_t command)
     case '!':
         run_out_of_stack();
 #endif
+    case 'S':
+        set_store();
+        break;
+    case 'a':
+        save();
+        break;
+    case 'o':
+        restore();
+        break;
+    case 'e':
+        take_out();
+        break;
+    case 'E':
+        give(store.bytes, store.length);
+        break;
     case 'D':
         give(sheet.bytes, sheet.length);
         break;
@@ -467,6 +531,7 @@ static void play(uint8_t command)
 int main(void)
 {
     sheet = lend(sheet_room, 0);
+    store = lend(store_room, 0);
     lend((uint8_t *)&session_room, sizeof sessions);
     sessions = kelindap_fresh();
     while (in_at < in_end || fill())

@@ -39,6 +39,10 @@ enum call {
     CALL_region,
     CALL_group,
     CALL_user_region,
+    CALL_store_check,
+    CALL_save,
+    CALL_restore,
+    CALL_remove,
     CALLS
 };
 
@@ -101,6 +105,10 @@ static inline __attribute__((always_inline)) void measure_below(enum call call)
 #define kelindap_region(...) MEASURED(region, __VA_ARGS__)
 #define kelindap_group(...) MEASURED(group, __VA_ARGS__)
 #define kelindap_user_region(...) MEASURED(user_region, __VA_ARGS__)
+#define kelindap_store_check(...) MEASURED(store_check, __VA_ARGS__)
+#define kelindap_save(...) MEASURED(save, __VA_ARGS__)
+#define kelindap_restore(...) MEASURED(restore, __VA_ARGS__)
+#define kelindap_remove(...) MEASURED(remove, __VA_ARGS__)
 
 /* ---- how many instructions it takes ---- */
 

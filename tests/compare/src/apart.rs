@@ -1,14 +1,15 @@
 //! Isolation, on the library: two runs from the same sheet and sessions, in which a
 //! tool and all other traffic do the same, and the other tool sends what it likes in
 //! each, on its connection or on none, as long as no byte of the sheet changes by it
-//! and it restarts nothing.
+//! and it restarts nothing. A restore is its connection's; what changes the store is
+//! the same in both.
 //! Then the tool is answered alike: each event that both runs have gets the same
 //! outcome and answer, whatever its buffer held before, and after every event sheet
 //! and the tool's session are the same in both.
 
 use model::device::{Session, Sessions};
 use model::faults::Fault;
-use model::gen::{self, Ask, Event, Rng, Tools};
+use model::gen::{self, stores, Ask, Event, Rng, Tools};
 use model::matrix;
 
 use crate::play::{Play, World, REQUEST};
@@ -23,6 +24,7 @@ enum Step {
 /// Two runs, and what the model says of each event.
 struct Pair {
     sheet: Vec<u8>,
+    store: Vec<u8>,
     sessions: Sessions,
     /// The connection of the tool whose answers are looked at.
     tool: usize,
@@ -30,18 +32,41 @@ struct Pair {
     replies: [Vec<u8>; 2],
 }
 
-/// What is seen of an event: outcome and answer, the tool's session and the sheet afterwards.
+/// What is seen of an event: outcome and answer, the tool's session and the sheet afterwards,
+/// if the reply tells them.
 #[derive(PartialEq)]
 struct Seen {
     outcome: u8,
     answer: Vec<u8>,
-    session: [u8; 2],
-    sheet: [u8; 8],
+    session: Option<[u8; 2]>,
+    sheet: Option<[u8; 8]>,
+}
+
+/// The same of a call on the store, whose number and bytes count as its answer.
+fn seen_of_store(play: &Play, tool: usize, replies: &mut &[u8]) -> Option<Seen> {
+    let front = match play {
+        Play::Save => 3,
+        Play::Restore(..) => 5,
+        _ => 1,
+    };
+    let sheet = if matches!(play, Play::Remove(_)) { 0 } else { 8 };
+    let (reply, rest) = replies.split_at_checked(front + sheet + 8)?;
+    *replies = rest;
+    let session = (front == 5).then(|| [reply[1 + 2 * tool], reply[2 + 2 * tool]]);
+    let mut answer = reply[front + sheet..].to_vec();
+    if front == 3 {
+        answer.extend(&reply[1..3]);
+    }
+    let sheet = reply[front..front + sheet].try_into().ok();
+    Some(Seen { outcome: reply[0], answer, session, sheet })
 }
 
 /// Takes the reply to a play off the front; none if there is none, or the buffer is changed
 /// past the answer.
 fn seen(play: &Play, tool: usize, replies: &mut &[u8]) -> Option<Seen> {
+    if play.on_store() {
+        return seen_of_store(play, tool, replies);
+    }
     let found: &[u8] = match play {
         Play::Request(ask) => &ask.buffer,
         _ => &[],
@@ -57,8 +82,8 @@ fn seen(play: &Play, tool: usize, replies: &mut &[u8]) -> Option<Seen> {
     (behind == &found[count..]).then(|| Seen {
         outcome: reply[0],
         answer: answer.to_vec(),
-        session,
-        sheet: reply[reply.len() - 8..].try_into().unwrap(),
+        session: Some(session),
+        sheet: reply[reply.len() - 8..].try_into().ok(),
     })
 }
 
@@ -103,11 +128,13 @@ impl Maker {
         let sheet = gen::sheet(rng);
         let sessions = [gen::session(rng), gen::session(rng)];
         let tool = rng.below(2);
-        let world = World { sheet: sheet.clone(), sessions, fault: self.fault };
+        let store = stores::store(rng, &sheet);
+        let fault = self.fault;
+        let world = World { sheet: sheet.clone(), store: store.clone(), sessions, fault };
         let mut worlds = [world.clone(), world];
         let mut tools = Tools::new(&sheet);
         let (steps, replies) = (Vec::new(), [Vec::new(), Vec::new()]);
-        let mut pair = Pair { sheet, sessions, tool, steps, replies };
+        let mut pair = Pair { sheet, store, sessions, tool, steps, replies };
         for _ in 0..self.rng.within(10, 120).min(most) {
             let step = match self.rng.below(4) {
                 0 | 1 => self.shared(tool, &mut tools, &worlds[0]),
@@ -126,6 +153,15 @@ impl Maker {
 
     /// The tool's, or anything but the other tool's.
     fn shared(&mut self, tool: usize, tools: &mut Tools, world: &World) -> Option<Step> {
+        if self.rng.chance(12) {
+            let number = stores::number(&mut self.rng, &world.store);
+            let play = match self.rng.below(5) {
+                0 => Play::Save,
+                1 => Play::Remove(number),
+                _ => Play::Restore(tool as u8, number),
+            };
+            return Some(Step::Both([play.clone(), play]));
+        }
         let event = if self.rng.chance(70) {
             tools.event_of(tool, &mut self.rng, &world.sheet, world.sessions[tool])
         } else {
@@ -148,6 +184,12 @@ impl Maker {
         world: &World,
     ) -> Option<Step> {
         let own = world.sessions[other];
+        if self.rng.chance(6) {
+            let number = stores::number(&mut self.rng, &world.store);
+            let (play, mut after) = (Play::Restore(other as u8, number), world.clone());
+            after.play(&play, &mut Vec::new());
+            return (after.sheet == world.sheet).then_some(Step::Alone(run, play));
+        }
         let mut event = tools.event_of(other, &mut self.rng, &world.sheet, own);
         if !may_be_of(other, &event) {
             return None;
@@ -180,7 +222,8 @@ impl Pair {
     fn start(&self) -> Vec<Play> {
         let found =
             (0..).zip(self.sessions).map(|(c, session): (u8, Session)| Play::Found(c, session));
-        std::iter::once(Play::Sheet(self.sheet.clone())).chain(found).collect()
+        let lent = [Play::Sheet(self.sheet.clone()), Play::Store(self.store.clone())];
+        lent.into_iter().chain(found).collect()
     }
 
     fn wire(&self, run: usize) -> Vec<u8> {
@@ -208,11 +251,13 @@ impl Pair {
                     }
                     tally.shared += 1;
                     tally.answered += usize::from(!one.answer.is_empty());
-                    (session, sheet) = (one.session, one.sheet);
+                    tally.versions += usize::from(first.on_store());
+                    session = one.session.unwrap_or(session);
+                    sheet = one.sheet.unwrap_or(sheet);
                 }
                 Step::Alone(run, play) => {
                     let Some(seen) = see(*run, play) else { return Some(i) };
-                    if (seen.session, seen.sheet) != (session, sheet) {
+                    if (seen.session, seen.sheet) != (Some(session), Some(sheet)) {
                         return Some(i);
                     }
                     tally.alone += 1;
@@ -248,6 +293,7 @@ struct Tally {
     runs: usize,
     shared: usize,
     answered: usize,
+    versions: usize,
     alone: usize,
     unconnected: usize,
     carried_out: usize,
@@ -279,7 +325,7 @@ pub fn apart(program: &str, events: usize, seed: u64) -> bool {
         }
         let mut got = [Vec::new(), Vec::new()];
         for (got, (bridge, due)) in got.iter_mut().zip(bridges.iter_mut().zip(&pair.replies)) {
-            let start = 9 + 2 * 4; // the replies to sheet and sessions
+            let start = 9 + 9 + 2 * 4; // the replies to sheet, store and sessions
             *got = bridge.receive(start + due.len());
             got.drain(..start.min(got.len()));
         }
@@ -292,10 +338,11 @@ pub fn apart(program: &str, events: usize, seed: u64) -> bool {
     }
     let found = Fault::MIXING.into_iter().filter(|&fault| sees(fault, seed)).count();
     println!(
-        "compare: {} times two runs, seed {seed}: {} events of both, {} answered, and {} of the other tool in one, {} on no connection, {} carried out: 0 different; {found} of {} faults found",
+        "compare: {} times two runs, seed {seed}: {} events of both, {} answered, {} about versions, and {} of the other tool in one, {} on no connection, {} carried out: 0 different; {found} of {} faults found",
         tally.runs,
         tally.shared,
         tally.answered,
+        tally.versions,
         tally.alone,
         tally.unconnected,
         tally.carried_out,
@@ -305,6 +352,7 @@ pub fn apart(program: &str, events: usize, seed: u64) -> bool {
     found == Fault::MIXING.len()
         && ended == [true; 2]
         && tally.answered * 4 > tally.shared
+        && tally.versions * 20 > tally.shared
         && tally.carried_out * 4 > tally.alone
         && tally.unconnected * 20 > tally.alone
 }

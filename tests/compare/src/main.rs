@@ -10,7 +10,8 @@
 //! With SHOW in the environment each fault is shown as a difference would be.
 //! BRIDGE is the program of bridge.c. Everything it replies is compared: the
 //! rule of each sheet, outcome, count, both sessions, the whole answer buffer and a
-//! hash of the whole sheet after each event, lookups, PDUs read and written.
+//! hash of the whole sheet after each event, lookups, PDUs read and written, and of
+//! the calls on a store of versions a hash of the whole store as well.
 
 mod apart;
 mod flat;
@@ -218,12 +219,13 @@ fn single(bridge: &mut Bridge, before: &World, play: &Play) -> (Vec<u8>, Vec<u8>
     world.play(play, &mut expected);
     let mut wire = Vec::new();
     Play::Sheet(before.sheet.clone()).send(&mut wire);
+    Play::Store(before.store.clone()).send(&mut wire);
     for (c, session) in (0..).zip(before.sessions) {
         Play::Found(c, session).send(&mut wire);
     }
     play.send(&mut wire);
     bridge.send(wire);
-    let skip = 9 + 2 * 4; // the replies to sheet and sessions
+    let skip = 9 + 9 + 2 * 4; // the replies to sheet, store and sessions
     let mut got = bridge.receive(skip + expected.len());
     got.drain(..skip.min(got.len()));
     (expected, got, world)
@@ -273,6 +275,9 @@ fn report(program: &str, seed: u64, difference: &Difference) -> usize {
             println!("{}", Play::Found(c, session).line(&[]));
         }
     }
+    if play.on_store() {
+        println!("{}", Play::Store(before.store.clone()).line(&[]));
+    }
     println!("{}", play.line(&after.sheet));
     println!("# model:   {}", play.explain(&expected));
     if got.len() < expected.len() {
@@ -285,6 +290,12 @@ fn report(program: &str, seed: u64, difference: &Difference) -> usize {
     let pairs = sheet.iter().zip(&after.sheet).enumerate();
     for (k, (l, m)) in pairs.filter(|(_, (l, m))| l != m).take(12) {
         println!("# byte {k} of the sheet: model {m:02x}, library {l:02x}");
+    }
+    bridge.send(b"E".to_vec());
+    let store = bridge.receive(after.store.len());
+    let pairs = store.iter().zip(&after.store).enumerate();
+    for (k, (l, m)) in pairs.filter(|(_, (l, m))| l != m).take(12) {
+        println!("# byte {k} of the store: model {m:02x}, library {l:02x}");
     }
     number
 }
@@ -315,7 +326,8 @@ fn compare(side: Side, events: usize, seed: u64) -> bool {
 fn faults(side: Side, seed: u64) -> bool {
     let mut found = 0;
     let show = std::env::var_os("SHOW").is_some();
-    for fault in Fault::ALL {
+    let all: Vec<Fault> = Fault::ALL.into_iter().chain(Fault::STORE).collect();
+    for &fault in &all {
         match run(side, FAULT_EVENTS, seed, fault, &mut Tally::default()) {
             Some(difference) => {
                 found += 1;
@@ -327,8 +339,8 @@ fn faults(side: Side, seed: u64) -> bool {
             None => println!("compare: fault {fault:?} not found in {FAULT_EVENTS} events"),
         }
     }
-    println!("compare: {found} of {} faults found, seed {seed}", Fault::ALL.len());
-    found == Fault::ALL.len()
+    println!("compare: {found} of {} faults found, seed {seed}", all.len());
+    found == all.len()
 }
 
 fn main() -> ExitCode {

@@ -1,8 +1,9 @@
-//! What is played next: scenes of random sheets, runs of events, and PDUs.
+//! What is played next: scenes of random sheets, runs of events, PDUs, and versions.
 
 use std::collections::VecDeque;
 
-use model::gen::{self, Ask, Event, Rng, Tools};
+use model::device::Session;
+use model::gen::{self, stores, Ask, Event, Rng, Tools};
 use model::matrix;
 use model::sheet::{self, Memory};
 
@@ -22,6 +23,8 @@ enum Scene {
     Damaged,
     /// PDUs read and written.
     Pdus,
+    /// Versions saved, restored and removed while the settings change.
+    Versions,
 }
 
 pub struct Maker {
@@ -60,6 +63,7 @@ impl Maker {
                 }
                 Scene::Damaged => self.damaged(world),
                 Scene::Pdus => self.pdus(world),
+                Scene::Versions => self.versions(world),
             }
         }
     }
@@ -88,11 +92,13 @@ impl Maker {
             }
             8 => (Scene::Damaged, rng.within(100, 400)),
             9 if !self.device_alone => (Scene::Pdus, rng.within(300, 900)),
+            10..=13 => (Scene::Versions, rng.within(100, 300)),
             _ => (Scene::Queued, 0),
         };
         match self.scene {
             Scene::Queued => self.checks(),
             Scene::Pdus | Scene::Tools(_) => {}
+            Scene::Versions => self.open_versions(),
             Scene::History => {
                 let sheet = gen::sheet(&mut self.rng);
                 self.queue.extend([Play::Sheet(sheet), Play::Fresh]);
@@ -212,6 +218,75 @@ impl Maker {
                 } else {
                     Play::Group(rng.pick(&all).address.wrapping_add(rng.pick(&[0, 0, 0, 0, 1])))
                 }
+            }
+        };
+        self.push(play);
+    }
+
+    /// A sheet with a store, and mostly one connection at level 0.
+    fn open_versions(&mut self) {
+        let sheet = if self.rng.chance(90) {
+            gen::sheet(&mut self.rng)
+        } else {
+            gen::any_sheet(&mut self.rng)
+        };
+        let store = stores::store(&mut self.rng, &sheet);
+        self.queue.extend([Play::Sheet(sheet), Play::Store(store), Play::Fresh]);
+        self.installer();
+    }
+
+    /// One connection mostly at level 0, the other often beside it at level 1.
+    fn installer(&mut self) {
+        let c = self.rng.below(2) as u8;
+        let own = match self.rng.below(10) {
+            0 => gen::session(&mut self.rng),
+            _ => Session { open: true, level: 0 },
+        };
+        let other = match self.rng.below(3) {
+            0 => Session { open: true, level: 1 },
+            1 => Session { open: false, level: 0 },
+            _ => gen::session(&mut self.rng),
+        };
+        self.queue.extend([Play::Found(c, own), Play::Found(1 - c, other)]);
+    }
+
+    fn versions(&mut self, world: &World) {
+        let rng = &mut self.rng;
+        let number = stores::number(rng, &world.store);
+        let play = match rng.below(100) {
+            0..=21 => Play::Save,
+            22..=44 => {
+                let at_zero = |c: &u8| {
+                    let session = world.sessions[*c as usize];
+                    session.open && session.level == 0
+                };
+                let c = (0..2).find(at_zero).filter(|_| rng.chance(75));
+                Play::Restore(c.unwrap_or_else(|| gen::connection(rng)), number)
+            }
+            45..=58 => Play::Remove(number),
+            59..=63 => {
+                let store = stores::store(rng, &world.sheet);
+                self.push(Play::Store(store));
+                Play::Save
+            }
+            64..=67 => {
+                let store = stores::bad_store(rng, &world.sheet);
+                Play::Store(store)
+            }
+            68..=72 => return self.installer(),
+            73 => {
+                // another sheet under the same store
+                let sheet = gen::any_sheet(rng);
+                Play::Sheet(sheet)
+            }
+            74 => Play::Check,
+            75..=77 => return self.damaged(world),
+            _ => {
+                let mut ask = gen::ask(rng, &world.sheet);
+                while matrix::row(&ask.apdu) == 16 {
+                    ask = gen::ask(rng, &world.sheet);
+                }
+                Play::Request(ask)
             }
         };
         self.push(play);

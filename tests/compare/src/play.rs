@@ -6,6 +6,7 @@ use model::faults::Fault;
 use model::gen::{Ask, Event};
 use model::pdu;
 use model::sheet::{self, Memory};
+use model::store;
 
 use crate::flat::{Flat, NO_KIND};
 use crate::hex;
@@ -29,6 +30,11 @@ pub enum Play {
     Read(Vec<u8>),
     /// A flat PDU, its data, and the buffer as found.
     Write(Flat, Vec<u8>, Vec<u8>),
+    Store(Vec<u8>),
+    Save,
+    /// On a connection, the version of a number.
+    Restore(u8, u64),
+    Remove(u64),
 }
 
 fn run(out: &mut Vec<u8>, bytes: &[u8]) {
@@ -45,6 +51,11 @@ impl Play {
             Event::Found(c, session) => Play::Found(c, session),
             Event::Request(ask) => Play::Request(ask),
         }
+    }
+
+    /// A call on the store, beside which nothing else looks at it.
+    pub fn on_store(&self) -> bool {
+        matches!(self, Play::Save | Play::Restore(..) | Play::Remove(_))
     }
 
     /// The command for the bridge.
@@ -91,6 +102,20 @@ impl Play {
                 run(out, data);
                 run(out, buffer);
             }
+            Play::Store(store) => {
+                out.push(b'S');
+                out.extend((store.len() as u32).to_le_bytes());
+                out.extend(store);
+            }
+            Play::Save => out.push(b'a'),
+            Play::Restore(c, number) => {
+                out.extend([b'o', *c]);
+                out.extend(number.to_le_bytes());
+            }
+            Play::Remove(number) => {
+                out.push(b'e');
+                out.extend(number.to_le_bytes());
+            }
         }
     }
 
@@ -116,6 +141,10 @@ impl Play {
             Play::Write(flat, data, buffer) => {
                 format!("write {} {}", flat.words(data), hex(buffer))
             }
+            Play::Store(store) => format!("store {}", hex(store)),
+            Play::Save => "save".to_string(),
+            Play::Restore(c, number) => format!("restore {c} {number}"),
+            Play::Remove(number) => format!("remove {number}"),
         }
     }
 
@@ -148,6 +177,17 @@ impl Play {
             }
             Play::Write(..) => {
                 format!("outcome {}, count {}, buffer {}", reply[0], reply[1], hex(&reply[2..]))
+            }
+            Play::Store(_) | Play::Remove(_) => {
+                format!("outcome {}, store hash {}", reply[0], tail(8))
+            }
+            Play::Save => {
+                let number = u16::from_le_bytes([reply[1], reply[2]]);
+                format!("outcome {}, number {number}, hashes {}", reply[0], tail(16))
+            }
+            Play::Restore(..) => {
+                let sessions = sessions(&reply[1..]);
+                format!("outcome {}, sessions {sessions}, hashes {}", reply[0], tail(16))
             }
         }
     }
@@ -183,17 +223,18 @@ fn flat(sessions: &Sessions) -> [u8; 4] {
     [first.open as u8, first.level, second.open as u8, second.level]
 }
 
-/// The model's side: a sheet, the sessions, and perhaps a fault.
+/// The model's side: a sheet, a store, the sessions, and perhaps a fault.
 #[derive(Clone)]
 pub struct World {
     pub sheet: Vec<u8>,
+    pub store: Vec<u8>,
     pub sessions: Sessions,
     pub fault: Fault,
 }
 
 impl World {
     pub fn new(fault: Fault) -> World {
-        World { sheet: Vec::new(), sessions: FRESH, fault }
+        World { sheet: Vec::new(), store: Vec::new(), sessions: FRESH, fault }
     }
 
     /// Plays one command and adds the reply that the bridge must give.
@@ -276,7 +317,33 @@ impl World {
                 };
                 reply[at - 2..at].copy_from_slice(&[outcome, count]);
             }
+            Play::Store(store) => {
+                self.store.clone_from(store);
+                reply.push(store::check(store));
+                self.hash_store(reply);
+            }
+            Play::Save => {
+                let (outcome, number) = store::save(self.fault, &self.sheet, &mut self.store);
+                reply.push(outcome);
+                reply.extend(number.to_le_bytes());
+                self.hash(reply);
+                self.hash_store(reply);
+            }
+            Play::Restore(c, number) => {
+                let (q, sheet) = (&self.sessions, &mut self.sheet);
+                let outcome = store::restore(self.fault, q, *c, sheet, &self.store, *number);
+                self.outcome(outcome, reply);
+                self.hash_store(reply);
+            }
+            Play::Remove(number) => {
+                reply.push(store::remove(self.fault, &mut self.store, *number));
+                self.hash_store(reply);
+            }
         }
+    }
+
+    fn hash_store(&self, reply: &mut Vec<u8>) {
+        reply.extend(hash(&self.store).to_le_bytes());
     }
 
     fn hash(&self, reply: &mut Vec<u8>) {

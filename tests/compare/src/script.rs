@@ -43,13 +43,25 @@ fn command(line: &str) -> Option<Play> {
         ["lookup", "region", k] => Play::Region(Memory::Device, k.parse().ok()?),
         ["lookup", "user", k] => Play::Region(Memory::User, k.parse().ok()?),
         ["lookup", "group", address] => Play::Group(address.parse().ok()?),
+        ["store", store] => Play::Store(bytes(store)?),
+        ["save"] => Play::Save,
+        ["restore", c, number] => Play::Restore(c.parse().ok()?, number.parse().ok()?),
+        ["remove", number] => Play::Remove(number.parse().ok()?),
         _ => return None,
     })
 }
 
-/// A reply and the sheet afterwards as the unit says it.
-fn said(play: &Play, reply: &[u8], sheet: &[u8]) -> String {
+/// A reply, and sheet and store afterwards, as the unit says it.
+fn said(play: &Play, reply: &[u8], sheet: &[u8], store: &[u8]) -> String {
     match play {
+        Play::Store(_) if reply[0] == 0 => "OK".to_string(),
+        Play::Store(_) => reply[0].to_string(),
+        Play::Save => {
+            let number = u16::from_le_bytes([reply[1], reply[2]]);
+            format!("{} {number} {}", reply[0], hex(store))
+        }
+        Play::Restore(..) => format!("{} {}", reply[0], hex(sheet)),
+        Play::Remove(_) => format!("{} {}", reply[0], hex(store)),
         Play::Sheet(_) if reply[0] == 0 => "OK".to_string(),
         Play::Sheet(_) => format!("S{}", reply[0]),
         Play::Fresh => String::new(),
@@ -82,12 +94,12 @@ fn play(program: &str, script: &str, answers: &str) -> Result<usize, String> {
         let (mut wire, mut expected) = (Vec::new(), Vec::new());
         world.play(play, &mut expected); // for the lengths alone
         play.send(&mut wire);
-        wire.push(b'D');
+        wire.extend(b"DE");
         bridge.send(wire);
-        let length = expected.len();
-        let got = bridge.receive(length + world.sheet.len());
-        (got.len() == length + world.sheet.len())
-            .then(|| said(play, &got[..length], &got[length..]))
+        let (sheet, store) = (expected.len(), expected.len() + world.sheet.len());
+        let got = bridge.receive(store + world.store.len());
+        (got.len() == store + world.store.len())
+            .then(|| said(play, &got[..sheet], &got[sheet..store], &got[store..]))
     };
     ask(&Play::Sheet(SAMPLE.to_vec()));
     ask(&Play::Fresh);

@@ -20,6 +20,8 @@ pub struct Tally {
     lookups: [u64; 2],
     /// Connect and disconnect, by outcome.
     named: [Counts; 2],
+    /// The calls on a store, in the order of `matrix::STORE`.
+    store: [Counts; 4],
     /// The button, and sessions as found or fresh.
     others: u64,
     /// The hashes of the blocks of replies so far, in one.
@@ -82,6 +84,10 @@ impl Tally {
             }
             Play::Connect(_) => self.named[0].0[reply[0] as usize] += 1,
             Play::Disconnect(_) => self.named[1].0[reply[0] as usize] += 1,
+            Play::Store(_) => self.store[0].0[reply[0] as usize] += 1,
+            Play::Save => self.store[1].0[reply[0] as usize] += 1,
+            Play::Restore(..) => self.store[2].0[reply[0] as usize] += 1,
+            Play::Remove(_) => self.store[3].0[reply[0] as usize] += 1,
             _ => self.others += 1,
         }
     }
@@ -94,7 +100,7 @@ impl Tally {
         let rarest =
             self.rarest().map_or(String::new(), |(n, what)| format!("; rarest: {what}, {n} times"));
         format!(
-            "{} requests, {} other calls, {} sheets ({} accepted), {} lookups, {} PDUs read, {} written{rarest}",
+            "{} requests, {} other calls, {} sheets ({} accepted), {} lookups, {} PDUs read, {} written, {} saves, {} restores, {} removes{rarest}",
             self.requests.iter().flatten().flatten().flatten().sum::<u64>(),
             self.others + self.named.iter().map(Counts::sum).sum::<u64>(),
             self.rules.sum(),
@@ -102,6 +108,9 @@ impl Tally {
             self.lookups.iter().sum::<u64>(),
             self.reads.sum(),
             self.writes.iter().map(Counts::sum).sum::<u64>(),
+            self.store[1].sum(),
+            self.store[2].sum(),
+            self.store[3].sum(),
         )
     }
 
@@ -137,6 +146,9 @@ impl Tally {
         for (what, seen) in ["connect", "disconnect"].iter().zip(&self.named) {
             let can: Vec<usize> = (0..16).filter(|k| matrix::NAMED >> k & 1 != 0).collect();
             seen.judge(&format!("outcome of {what}"), &can, must, &mut complaints);
+        }
+        for ((what, can), seen) in matrix::STORE.iter().zip(&self.store) {
+            seen.judge(&format!("outcome of {what}"), can, must, &mut complaints);
         }
         let rules: Vec<usize> = (0..=9).collect();
         let kinds: Vec<usize> = (0..KINDS.len()).collect();

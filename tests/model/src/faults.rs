@@ -81,6 +81,8 @@ pub enum Fault {
     RoomBeforePlaces,
     /// A restore asks for level 1 where level 0 is needed.
     RestoresAtLevelOne,
+    /// A restore goes by the better of both levels.
+    RestoresByEither,
     /// A restore leaves the counts as they are.
     RestoreLeavesCounts,
     /// A restore gives back what the writable bits let be written, and no more.
@@ -143,12 +145,13 @@ impl Fault {
     ];
 
     /// Those of the calls on a store of versions.
-    pub const STORE: [Fault; 15] = [
+    pub const STORE: [Fault; 16] = [
         Fault::NumbersFromZero,
         Fault::RoomWithoutEntry,
         Fault::PlacesBeforeNumbers,
         Fault::RoomBeforePlaces,
         Fault::RestoresAtLevelOne,
+        Fault::RestoresByEither,
         Fault::RestoreLeavesCounts,
         Fault::RestoresByLevels,
         Fault::RestoresFirst,
@@ -162,13 +165,14 @@ impl Fault {
     ];
 
     /// Those by which one tool meets what the other did, though that changed no byte and was no restart.
-    pub const MIXING: [Fault; 6] = [
+    pub const MIXING: [Fault; 7] = [
         Fault::OneLevel,
         Fault::ConnectResetsBoth,
         Fault::DisconnectEndsBoth,
         Fault::WrongKeyLowersBoth,
         Fault::BetterLevelCounts,
         Fault::UnconnectedTakesLevel,
+        Fault::RestoresByEither,
     ];
 }
 

@@ -195,11 +195,12 @@ pub fn restore(
     let Some(store) = Store::read(store) else {
         return 30;
     };
-    let may = |needed: u8| {
-        let session = sessions.get(connection as usize);
-        session.is_some_and(|s| s.open && s.level <= needed)
-    };
-    let allowed = may(if fault == Fault::RestoresAtLevelOne { 1 } else { 0 });
+    let needed = if fault == Fault::RestoresAtLevelOne { 1 } else { 0 };
+    let either = fault == Fault::RestoresByEither;
+    let allowed = sessions
+        .iter()
+        .zip(0u8..)
+        .any(|(s, c)| (c == connection || either) && s.open && s.level <= needed);
     if fault == Fault::LevelBeforeNumber && !allowed {
         return 35;
     }

@@ -91,7 +91,9 @@ pub fn store(rng: &mut Rng, sheet: &[u8]) -> Vec<u8> {
         number = next;
         store.versions.push(version);
     }
-    store.last = match rng.below(5) {
+    // a full store is often refused for numbers too, which come first
+    let ends = if store.versions.len() == MOST { 3 } else { 5 };
+    store.last = match rng.below(ends) {
         0 => u16::MAX,
         1 => u16::MAX - 1,
         2 => number.saturating_add(rng.below(5) as u16),
