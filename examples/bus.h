@@ -2,7 +2,8 @@
  * A bus on one machine, for the two examples: a socket in the file system that takes one packet for each frame.
  *
  * A packet to the device is a byte that says what it is, two bytes of group address, and an APDU; a packet back is a byte 0
- * and the APDU of the answer, if there is one. In a real host this file is the transport layer.
+ * and the APDU of the answer, if there is one. What asks for a version has its number in the place of the group address, and
+ * gets a byte 0, the outcome and the number. In a real host this file is the transport layer.
  */
 #ifndef BUS_H
 #define BUS_H
@@ -15,7 +16,7 @@
 #include <unistd.h>
 
 /* What a packet is: 0 to 3 a request in that mode, or one of these. */
-enum { BUS_CONNECT = 16, BUS_DISCONNECT = 17 };
+enum { BUS_CONNECT = 16, BUS_DISCONNECT = 17, BUS_SAVE = 18, BUS_RESTORE = 19, BUS_REMOVE = 20 };
 
 /* The longest packet, a byte more than any that is right. */
 enum { BUS_FRONT = 3, BUS_PACKET = BUS_FRONT + 16 + 1 };

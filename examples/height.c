@@ -4,6 +4,8 @@
  *
  *   height SOCKET read                    shows the height
  *   height SOCKET write KEY HEIGHT ..     offers the key, eight hex digits, and sets the height, shown once it is set
+ *   height SOCKET versions KEY WORD ..    offers the key, and goes through the words: save, restore=N, remove=N, each told
+ *                                         once it is done, with the number of the version
  *
  * Exit status 0; 1 if the device refuses, 2 if it can't be reached or a word is wrong.
  */
@@ -91,14 +93,57 @@ static void set(int bus, unsigned long value)
     fflush(stdout);
 }
 
-static void write_heights(int bus, const char *key, char **heights)
+static void connect_with(int bus, const char *key)
 {
     uint8_t apdu[16];
     kelindap_pdu offer = { .key = (uint32_t)number(key, 16, UINT32_MAX), .kind = KELINDAP_AUTHORIZE_REQUEST };
     exchange(bus, BUS_CONNECT, 0, apdu);
     ask(bus, CONNECTED, offer, NULL, 0, KELINDAP_AUTHORIZE_RESPONSE, apdu);
+}
+
+static void write_heights(int bus, const char *key, char **heights)
+{
+    uint8_t apdu[16];
+    connect_with(bus, key);
     for (; *heights != NULL; heights++)
         set(bus, number(*heights, 10, UINT16_MAX));
+    exchange(bus, BUS_DISCONNECT, 0, apdu);
+}
+
+/* One word about versions. */
+static void keep(int bus, const char *word)
+{
+    static const struct {
+        const char *word;
+        uint8_t what;
+        uint8_t done; /* the outcome if it is carried out */
+    } calls[] = {
+        { "save", BUS_SAVE, KELINDAP_OK },
+        { "restore=", BUS_RESTORE, KELINDAP_DONE },
+        { "remove=", BUS_REMOVE, KELINDAP_DONE },
+    };
+    size_t k = 0;
+    while (k < 3 && strncmp(word, calls[k].word, strlen(calls[k].word)) != 0)
+        k++;
+    if (k == 3)
+        end(TROUBLE, "a word is none of save, restore=N, remove=N");
+    const char *rest = word + strlen(calls[k].word);
+    uint16_t version = *rest == '\0' && calls[k].what == BUS_SAVE ? 0 : (uint16_t)number(rest, 10, UINT16_MAX);
+    uint8_t packet[BUS_PACKET] = { calls[k].what, (uint8_t)(version >> 8), (uint8_t)version };
+    if (send(bus, packet, BUS_FRONT, 0) < 0 || recv(bus, packet, sizeof packet, 0) != 4)
+        end(TROUBLE, "the device is gone");
+    if (packet[1] != calls[k].done)
+        end(REFUSED, kelindap_outcome_name(packet[1]));
+    printf("%.*s %d\n", (int)strcspn(word, "="), word, packet[2] << 8 | packet[3]);
+    fflush(stdout);
+}
+
+static void keep_versions(int bus, const char *key, char **steps)
+{
+    uint8_t apdu[16];
+    connect_with(bus, key);
+    for (; *steps != NULL; steps++)
+        keep(bus, *steps);
     exchange(bus, BUS_DISCONNECT, 0, apdu);
 }
 
@@ -106,14 +151,17 @@ int main(int count, char **words)
 {
     struct sockaddr_un at;
     bool reads = count == 3 && strcmp(words[2], "read") == 0;
-    if (!reads && (count < 5 || strcmp(words[2], "write") != 0))
-        end(TROUBLE, "usage: height SOCKET read, or height SOCKET write KEY HEIGHT ..");
+    bool versions = count >= 5 && strcmp(words[2], "versions") == 0;
+    if (!reads && !versions && (count < 5 || strcmp(words[2], "write") != 0))
+        end(TROUBLE, "usage: height SOCKET read, height SOCKET write KEY HEIGHT .., or height SOCKET versions KEY WORD ..");
     signal(SIGPIPE, SIG_IGN);
     int bus = bus_socket(words[1], &at);
     if (bus < 0 || connect(bus, (struct sockaddr *)&at, sizeof at) != 0)
         end(TROUBLE, "there is no such bus");
     if (reads)
         show(bus);
+    else if (versions)
+        keep_versions(bus, words[3], words + 4);
     else
         write_heights(bus, words[3], words + 4);
     return fflush(stdout) == 0 ? EXIT_SUCCESS : TROUBLE;

@@ -1,32 +1,41 @@
 /*
- * A small host: one device whose sheet is kept in a file, on the bus of bus.h, for two partners at a time. A partner's place
- * is the number of its connection; a third waits until a place is free.
+ * A small host: one device whose sheet is kept in a file, and beside it in SHEET.store the versions of its settings, on the
+ * bus of bus.h, for two partners at a time. A partner's place is the number of its connection; a third waits until a place
+ * is free. Versions are saved and removed for a partner at level 0 or 1, which is this host's rule; restoring needs level 0,
+ * which is the library's.
  *
  *   host SHEET SOCKET
  *
- * It may be killed at any moment, or lose its power: the file holds the sheet before a change or after it, whole, and what
- * was answered is in it. For that a changed sheet is written to a new file beside the old one, brought to the disk, and
- * renamed over it, before the answer is sent. tests/examples.sh kills it to see.
+ * It may be killed at any moment, or lose its power: each file holds the sheet, or the store, before a change or after it,
+ * whole, and what was answered is in it. For that what was changed is written to a new file beside the old one, brought to
+ * the disk, and renamed over it, before the answer is sent. tests/examples.sh kills it to see.
  */
 #define _POSIX_C_SOURCE 200809L
 #include "bus.h"
 #include "kelindap.h"
+#include "kelindap_store.h"
 
+#include <errno.h>
 #include <fcntl.h>
 #include <poll.h>
 #include <signal.h>
 #include <stdio.h>
 #include <stdlib.h>
 
-enum { MOST_SHEET = 16384, MOST_NAME = 4096, NOBODY = -1 };
+enum { MOST_NAME = 4096, MOST_BYTES = KELINDAP_STORE_MOST, NEW_STORE = 4096, NOBODY = -1 };
+
+/* What is kept in a file: the sheet, or the store. */
+typedef struct kept {
+    char file[MOST_NAME];
+    char fresh_file[MOST_NAME]; /* where it is written first once it has changed */
+    char folder[MOST_NAME];     /* of both */
+    uint8_t bytes[MOST_BYTES + 1];
+    uint8_t saved[MOST_BYTES]; /* as the file has it */
+    size_t length;
+} kept;
 
 typedef struct host {
-    const char *file;
-    char fresh_file[MOST_NAME]; /* where a changed sheet is written first */
-    char folder[MOST_NAME];     /* of both */
-    uint8_t sheet[MOST_SHEET + 1];
-    uint8_t saved[MOST_SHEET]; /* the sheet as the file has it */
-    size_t length;
+    kept sheet, store;
     kelindap_sessions sessions;
     int partner[KELINDAP_CONNECTIONS]; /* the socket of each, or NOBODY */
 } host;
@@ -38,36 +47,34 @@ static _Noreturn void give_up(const char *what, const char *name)
     exit(EXIT_FAILURE);
 }
 
-/* ---- the sheet and its file ---- */
+/* ---- sheet and store, and their files ---- */
 
-static void name_files(host *h, const char *file)
+static void name_files(kept *k, const char *file, const char *ending)
 {
     const char *slash = strrchr(file, '/');
     size_t folder = slash == NULL ? 0 : (size_t)(slash - file) + 1;
-    if (strlen(file) + sizeof ".new" > MOST_NAME) {
+    if (strlen(file) + sizeof ".store.new" > MOST_NAME) {
         fputs("host: the name of the sheet is too long\n", stderr);
         exit(EXIT_FAILURE);
     }
-    h->file = file;
-    snprintf(h->fresh_file, sizeof h->fresh_file, "%s.new", file);
-    snprintf(h->folder, sizeof h->folder, "%.*s", (int)(folder == 0 ? 1 : folder), folder == 0 ? "." : file);
+    snprintf(k->file, sizeof k->file, "%s%s", file, ending);
+    snprintf(k->fresh_file, sizeof k->fresh_file, "%s%s.new", file, ending);
+    snprintf(k->folder, sizeof k->folder, "%.*s", (int)(folder == 0 ? 1 : folder), folder == 0 ? "." : file);
 }
 
-static void load(host *h)
+/* Reads the file; false if there is none. */
+static bool load(kept *k)
 {
-    FILE *from = fopen(h->file, "rb");
+    FILE *from = fopen(k->file, "rb");
+    if (from == NULL && errno == ENOENT)
+        return false;
     if (from == NULL)
-        give_up("can't be read", h->file);
-    h->length = fread(h->sheet, 1, sizeof h->sheet, from);
+        give_up("can't be read", k->file);
+    k->length = fread(k->bytes, 1, sizeof k->bytes, from);
     if (ferror(from))
-        give_up("can't be read", h->file);
+        give_up("can't be read", k->file);
     fclose(from);
-    uint8_t rule = kelindap_check(h->sheet, h->length);
-    if (rule != 0) {
-        fprintf(stderr, "host: %s breaks S%d: \"sheet check\" tells more\n", h->file, rule);
-        exit(EXIT_FAILURE);
-    }
-    memcpy(h->saved, h->sheet, h->length);
+    return true;
 }
 
 /* Brings what was written to the disk. */
@@ -77,40 +84,95 @@ static void settle(int fd, const char *name)
         give_up("can't be saved", name);
 }
 
-/* Saves the sheet if it has changed. A host that can't save stops: what it then starts with is what the file has. */
-static void save(host *h)
+static void write_out(kept *k)
 {
-    if (memcmp(h->sheet, h->saved, h->length) == 0)
-        return;
-    int to = open(h->fresh_file, O_WRONLY | O_CREAT | O_TRUNC, 0600); /* the keys are in it */
-    for (size_t at = 0; at < h->length;) {
-        ssize_t n = write(to, h->sheet + at, h->length - at);
+    int to = open(k->fresh_file, O_WRONLY | O_CREAT | O_TRUNC, 0600); /* the keys are in it, and the settings */
+    for (size_t at = 0; at < k->length;) {
+        ssize_t n = write(to, k->bytes + at, k->length - at);
         if (n <= 0)
-            give_up("can't be saved", h->fresh_file);
+            give_up("can't be saved", k->fresh_file);
         at += (size_t)n;
     }
-    settle(to, h->fresh_file);
-    if (rename(h->fresh_file, h->file) != 0)
-        give_up("can't be saved", h->file);
-    settle(open(h->folder, O_RDONLY), h->folder);
-    memcpy(h->saved, h->sheet, h->length);
+    settle(to, k->fresh_file);
+    if (rename(k->fresh_file, k->file) != 0)
+        give_up("can't be saved", k->file);
+    settle(open(k->folder, O_RDONLY), k->folder);
+    memcpy(k->saved, k->bytes, k->length);
+}
+
+/* Saves what has changed. A host that can't save stops: what it then starts with is what the file has. */
+static void save(kept *k)
+{
+    if (memcmp(k->bytes, k->saved, k->length) != 0)
+        write_out(k);
+}
+
+static void load_sheet(kept *sheet)
+{
+    if (!load(sheet))
+        give_up("can't be read", sheet->file);
+    uint8_t rule = kelindap_check(sheet->bytes, sheet->length);
+    if (rule != 0) {
+        fprintf(stderr, "host: %s breaks S%d: \"sheet check\" tells more\n", sheet->file, rule);
+        exit(EXIT_FAILURE);
+    }
+    memcpy(sheet->saved, sheet->bytes, sheet->length);
+}
+
+/* The store, or an empty one at the first start. */
+static void load_store(kept *store)
+{
+    if (!load(store)) {
+        store->length = NEW_STORE; /* and zeroed */
+        write_out(store);
+    }
+    if (kelindap_store_check(store->bytes, store->length) != 0) {
+        fprintf(stderr, "host: %s is no good store: \"sheet versions\" tells more\n", store->file);
+        exit(EXIT_FAILURE);
+    }
+    memcpy(store->saved, store->bytes, store->length);
 }
 
 /* ---- the bus ---- */
 
+/* A version saved, restored or removed: outcome and number into `answer`. */
+static size_t handle_version(host *h, uint8_t connection, uint8_t what, uint16_t number, uint8_t answer[16])
+{
+    kept *sheet = &h->sheet, *store = &h->store;
+    kelindap_session own = h->sessions.of[connection];
+    kelindap_saved saved = { KELINDAP_DENIED, 0 };
+    if (what == BUS_RESTORE) {
+        saved.outcome = kelindap_restore(h->sessions, connection, sheet->bytes, sheet->length, store->bytes, store->length, number);
+        saved.number = number;
+    } else if (own.open && own.level <= 1 && what == BUS_SAVE) {
+        saved = kelindap_save(sheet->bytes, sheet->length, store->bytes, store->length);
+    } else if (own.open && own.level <= 1) {
+        saved.outcome = kelindap_remove(store->bytes, store->length, number);
+        saved.number = number;
+    }
+    answer[0] = saved.outcome;
+    answer[1] = (uint8_t)(saved.number >> 8);
+    answer[2] = (uint8_t)saved.number;
+    return 3;
+}
+
 /* Handles a packet of the partner on a connection and puts the answer into `answer`; the count of its bytes. */
 static size_t handle(host *h, uint8_t connection, const uint8_t *packet, size_t length, uint8_t answer[16])
 {
-    kelindap_reply reply = { KELINDAP_DONE, 0 };
+    uint16_t group = (uint16_t)(packet[1] << 8 | packet[2]);
+    size_t count = 0;
     if (packet[0] == BUS_CONNECT)
         kelindap_connect(&h->sessions, connection);
     else if (packet[0] == BUS_DISCONNECT)
         kelindap_disconnect(&h->sessions, connection);
+    else if (packet[0] == BUS_SAVE || packet[0] == BUS_RESTORE || packet[0] == BUS_REMOVE)
+        count = handle_version(h, connection, packet[0], group, answer);
     else
-        reply = kelindap_request(&h->sessions, packet[0], connection, (uint16_t)(packet[1] << 8 | packet[2]), packet + BUS_FRONT,
-                                 length - BUS_FRONT, h->sheet, h->length, answer, 16);
-    save(h);
-    return reply.count;
+        count = kelindap_request(&h->sessions, packet[0], connection, group, packet + BUS_FRONT, length - BUS_FRONT,
+                                 h->sheet.bytes, h->sheet.length, answer, 16).count;
+    save(&h->sheet);
+    save(&h->store);
+    return count;
 }
 
 /* A partner has gone, or is dropped. */
@@ -178,13 +240,15 @@ int main(int count, char **words)
         return EXIT_FAILURE;
     }
     signal(SIGPIPE, SIG_IGN);
-    name_files(&h, words[1]);
-    load(&h);
+    name_files(&h.sheet, words[1], "");
+    name_files(&h.store, words[1], ".store");
+    load_sheet(&h.sheet);
+    load_store(&h.store);
     h.sessions = kelindap_fresh();
     for (int c = 0; c < KELINDAP_CONNECTIONS; c++)
         h.partner[c] = NOBODY;
-    kelindap_button(h.sheet, h.length, false); /* programming mode is not to survive a start */
-    save(&h);
+    kelindap_button(h.sheet.bytes, h.sheet.length, false); /* programming mode is not to survive a start */
+    save(&h.sheet);
 
     int bus = bus_socket(words[2], &at);
     unlink(words[2]); /* of a host that was killed */

@@ -11,16 +11,18 @@ trap 'rm -rf "$work"' EXIT
 { echo disconnect 0; cat "$script"; } > "$work/script"
 "$unit" < "$work/script" > "$work/answers"
 
+# every command with its answer
+grep -v -e '^#' -e '^$' "$work/script" | paste -d ' ' - "$work/answers" > "$work/both"
+
 # every request and every answer, to be told by its fields
-grep -v -e '^#' -e '^$' "$work/script" | paste -d ' ' - "$work/answers" | awk '
-    $1 == "request" { print "read", $4; print "read", ($12 > 0 ? substr($13, 1, 2 * $12) : "-") }
-' | "$unit" > "$work/fields"
+awk '$1 == "request" { print "read", $4; print "read", ($12 > 0 ? substr($13, 1, 2 * $12) : "-") }' "$work/both" |
+    "$unit" > "$work/fields"
 
 # for every answer the changes since the one before it, and a line that ends them
 bytes() { printf '%b' "$(sed 's/../\\x&/g' <<< "$1")"; }
 old=
-while read -r _ _ _ _ _ _ _ new; do
-    new=${new:-$old} # what tells of a value tells no sheet
+while read -r new; do
+    new=${new:-$old} # what tells of a value or a store tells no sheet
     if [ "${old:-$new}" != "$new" ]; then
         bytes "$old" > "$work/old"
         bytes "$new" > "$work/new"
@@ -28,10 +30,10 @@ while read -r _ _ _ _ _ _ _ new; do
     fi
     echo .
     old=$new
-done < "$work/answers" > "$work/changes"
+done < <(awk '{ print ($1 ~ /^(request|connect|disconnect|button|restore)$/ ? $NF : "") }' "$work/both") > "$work/changes"
 
 # the outcomes by number, in words
-sed -n '/define KELINDAP_OUTCOMES/,/^$/s/.*X(\([0-9]*\), .*"\(.*\)").*/\1 \2/p' "${0%/*}/../include/kelindap_names.h" > "$work/words"
+sed -n '/define KELINDAP_.*OUTCOMES/,/^$/s/.*X(\([0-9]*\), .*"\(.*\)").*/\1 \2/p' "${0%/*}/../include/kelindap_names.h" > "$work/words"
 
 awk -v answers="$work/answers" -v fields="$work/fields" -v changes="$work/changes" -v words="$work/words" '
     BEGIN { while ((getline line < words) > 0) meaning[line + 0] = substr(line, index(line, " ") + 1) }
@@ -48,7 +50,18 @@ awk -v answers="$work/answers" -v fields="$work/fields" -v changes="$work/change
         if ($1 == "point") {
             ask($0)
             answer($3 == 9 ? sprintf("%.2f", now[2] / 100) : now[2], now[1])
-            getline line < changes
+        } else if ($1 == "store") {
+            ask("a store of " length($2) / 2 " bytes")
+            print "   < " (now[1] == "OK" ? "good" : "not good")
+        } else if ($1 == "save") {
+            ask($0)
+            answer(now[1] == 0 ? "version " now[2] : "nothing", now[1])
+        } else if ($1 == "restore" || $1 == "remove") {
+            ask($1 " version " $NF ($1 == "restore" ? ", on connection " $2 : ""))
+            answer(now[1] == 1 ? "done" : "nothing", now[1])
+        }
+        if ($1 ~ /^(point|store|save|restore|remove)$/) {
+            while ((getline line < changes) > 0 && line != ".") change(line)
             next
         }
         if ($1 == "request") {

@@ -1,6 +1,8 @@
 #!/usr/bin/env bash
-# tests/examples.sh HOST HEIGHT SHEET: the example host and tool at work, two tools at once, one that reads nothing, and the
-# host killed 200 times during writes: what it saved is then an accepted sheet each time, with the height that was answered last or the one after it.
+# tests/examples.sh HOST HEIGHT SHEET: the example host and tool at work, two tools at once, one that reads nothing, versions of the
+# settings, and the host killed 200 times during writes: what it saved is then an accepted sheet each time, with the height that was answered
+# last or the one after it; and as often while versions are saved and removed: the store is then a good one, as it was after
+# what was answered last or after the next.
 set -euo pipefail
 host=$(realpath "$1") height=$(realpath "$2") sheet=$(realpath "$3")
 top=$(realpath "$(dirname "$0")/..")
@@ -96,6 +98,30 @@ start
 stop
 "$sheet" show sheet | grep -q '^programming off' || wrong "the host starts in programming mode"
 
+# versions: a wrong height is undone by who has key 0, and by nobody else; what was answered is in the file
+start
+expect "versions 33333333 save" "height: refused 1"
+expect "versions 22222222 save" "save 1 0"
+expect "write 22222222 9000" "9000 0"
+expect "versions 22222222 restore=1" "height: not open at level 0 1"
+expect "versions 33333333 restore=1 remove=1" "height: not open at level 0 1"
+expect read "9000 0"
+stop
+since=$("$sheet" versions diff sheet.store 1 sheet || true)
+[ "$since" = "property 1/51 element 1: 1251 → 9000" ] || wrong "another change since version 1: $since"
+start
+expect "versions 11111111 restore=2" "height: no such version is kept 1"
+expect "versions 11111111 restore=1" "restore 1 0"
+stop
+"$sheet" versions diff sheet.store 1 sheet || wrong "what was restored is not in the file"
+start
+expect read "1251 0"
+expect "versions 11111111 save remove=2 save" "save 2 remove 2 save 3 0"
+expect "versions 11111111 remove=3 remove=3" "remove 3 height: no such version is kept 1"
+stop
+"$sheet" versions sheet.store | head -n 1 > list
+[ "$(cat list)" = "1 version, last number 3, 4096 bytes, 4062 free" ] || wrong "another store: $(cat list)"
+
 # killed at any moment
 during=0
 for ((i = 0; i < KILLS; i++)); do
@@ -121,3 +147,40 @@ for ((i = 0; i < KILLS; i++)); do
 done
 [ "$during" -ge $((KILLS / 2)) ] || wrong "only $during of $KILLS kills fell into writes"
 echo "examples: killed $KILLS times, $during of them during writes; each time the sheet saved was the old or the new one"
+
+# the same while versions are saved and removed: the store tells how many of the words were carried out
+words=() during=0
+carried() { # FIRST: how many words since the last number given was FIRST
+    "$sheet" versions sheet.store > list || wrong "a store that is not good: $(cat list)"
+    local last kept=0
+    last=$(sed -n '1s/.*last number \([0-9]*\),.*/\1/p' list)
+    ! grep -q "^version $last:" list || [ "$last" = "$1" ] || kept=1
+    echo $((2 * (last - $1) - kept))
+}
+for ((i = 0; i < KILLS; i++)); do
+    "$sheet" versions sheet.store > list
+    first=$(sed -n '1s/.*last number \([0-9]*\),.*/\1/p' list)
+    # a version that the last kill left is no part of this
+    start
+    ! grep -q "^version $first:" list || [ "$first" = 1 ] || expect "versions 11111111 remove=$first" "remove $first 0"
+    [ "$first" -lt 60000 ] || wrong "more numbers are given than the test has"
+    words=()
+    for ((n = first + 1; n <= first + 200; n++)); do words+=(save "remove=$n"); done
+    : > answers
+    "$height" bus versions 22222222 "${words[@]}" > answers 2> /dev/null &
+    tool=$!
+    for ((waited = 0; waited < 6000; waited++)); do
+        [ ! -s answers ] || break
+        sleep 0.01
+    done
+    sleep "0.00$((RANDOM % 10))$((RANDOM % 10))"
+    stop
+    wait "$tool" || true
+    told=$(wc -l < answers)
+    { [ "$told" = 0 ] || [ "$told" = 400 ]; } || during=$((during + 1))
+    now=$(carried "$first")
+    [ "$now" = "$told" ] || [ "$now" = $((told + 1)) ] || wrong "kill $i left a store after $now words, where $told were answered"
+    grep -q '^version 1: 1 property, 18 bytes' list || wrong "kill $i left a store without version 1"
+done
+[ "$during" -ge $((KILLS / 2)) ] || wrong "only $during of $KILLS kills fell into saves and removes"
+echo "examples: killed $KILLS times, $during of them during saves and removes; each time the store was the old or the new one"
