@@ -1,11 +1,13 @@
-/* The calls of kelindap.h and kelindap_store.h over those of the proved module, a line each; passing.h says what a line becomes. */
+/* The calls of the device's headers over those of the proved module, a line each; passing.h says what a line becomes. */
 #include "kelindap.h"
 #include "kelindap_store.h"
+#include "kelindap_trace.h"
 #include "passing.h"
 
 _Static_assert(sizeof(kelindap_session) == 2 && offsetof(kelindap_session, level) == 1 && sizeof(kelindap_sessions) == 4,
                "as the module has it");
 _Static_assert(sizeof(kelindap_saved) == 4 && offsetof(kelindap_saved, number) == 2, "as the module has it");
+_Static_assert(sizeof(kelindap_played) == 4 && offsetof(kelindap_played, handled) == 2, "as the module has it");
 
 /* the sessions by value: their four bytes as one number, the first the lowest */
 #define HEADER_SESSIONS(name) kelindap_sessions name
@@ -13,13 +15,14 @@ _Static_assert(sizeof(kelindap_saved) == 4 && offsetof(kelindap_saved, number) =
 #define GIVEN_SESSIONS(name) \
     (word)name.of[0].open | (word)name.of[0].level << 8 | (word)name.of[1].open << 16 | (word)name.of[1].level << 24
 
-typedef word raw_kelindap_sessions, raw_kelindap_reply, raw_kelindap_saved;
+typedef word raw_kelindap_sessions, raw_kelindap_reply, raw_kelindap_saved, raw_kelindap_played;
 static kelindap_sessions made_kelindap_sessions(word r)
 {
     return (kelindap_sessions){ { { low(r), high(r) }, { low(r >> 16), high(r >> 16) } } };
 }
 static kelindap_reply made_kelindap_reply(word r) { return (kelindap_reply){ low(r), high(r) }; }
 static kelindap_saved made_kelindap_saved(word r) { return (kelindap_saved){ low(r), (uint16_t)(r >> 16) }; }
+static kelindap_played made_kelindap_played(word r) { return (kelindap_played){ low(r), (uint16_t)(r >> 16) }; }
 
 /* Two numbers of 64 bits. Each is at most 16,384, the longest sheet, so its lower half is all of it. */
 typedef quad raw_kelindap_part;
@@ -41,3 +44,5 @@ CALL(byte, store_check, READ(store))
 CALL(kelindap_saved, save, READ(sheet), WRITE(store))
 CALL(byte, restore, SESSIONS(sessions), NUMBER(uint8_t, connection), WRITE(sheet), READ(store), SIZE(number))
 CALL(byte, remove, WRITE(store), SIZE(number))
+CALL(byte, trace_check, READ(trace))
+CALL(kelindap_played, play, AT(kelindap_sessions, sessions), WRITE(sheet), READ(trace), SIZE(from), SIZE(limit), WRITE(log))

@@ -7,6 +7,7 @@
 #include "kelindap_frame.h"
 #include "kelindap_pdu.h"
 #include "kelindap_store.h"
+#include "kelindap_trace.h"
 #include "kelindap_unit.h"
 
 #ifndef BOARD /* where there is no C library, compiling is all of the test */
@@ -53,6 +54,9 @@
     NUMBER(KELINDAP_STORE_NOT_AT_ZERO, 35) \
     NUMBER(KELINDAP_STORE_OTHER, 36) \
     NUMBER(KELINDAP_STORE_HIGH_COUNT, 37) \
+    SIZE(kelindap_played, 4) \
+    FIELD(kelindap_played, refusal, 1, 0) \
+    FIELD(kelindap_played, handled, 2, 2) \
     SIZE(kelindap_written, 2) \
     FIELD(kelindap_written, outcome, 1, 0) \
     FIELD(kelindap_written, count, 1, 1) \
@@ -92,6 +96,27 @@
     SIZE(kelindap_framed, 4) \
     FIELD(kelindap_framed, count, 2, 0) \
     FIELD(kelindap_framed, outcome, 1, 2) \
+    NUMBER(KELINDAP_TRACE_EVENTS, 512) \
+    NUMBER(KELINDAP_TRACE_ENTRY, 8) \
+    NUMBER(KELINDAP_TRACE_REQUEST, 0) \
+    NUMBER(KELINDAP_TRACE_CONNECT, 1) \
+    NUMBER(KELINDAP_TRACE_DISCONNECT, 2) \
+    NUMBER(KELINDAP_TRACE_BUTTON_ON, 3) \
+    NUMBER(KELINDAP_TRACE_BUTTON_OFF, 4) \
+    NUMBER(KELINDAP_TRACE_SHORT, 50) \
+    NUMBER(KELINDAP_TRACE_MANY, 51) \
+    NUMBER(KELINDAP_TRACE_TABLE, 52) \
+    NUMBER(KELINDAP_TRACE_KIND, 53) \
+    NUMBER(KELINDAP_TRACE_STRAY, 54) \
+    NUMBER(KELINDAP_TRACE_ZERO, 55) \
+    NUMBER(KELINDAP_TRACE_OFFSET, 56) \
+    NUMBER(KELINDAP_TRACE_PAST_END, 57) \
+    NUMBER(KELINDAP_TRACE_LEFT_OVER, 58) \
+    NUMBER(KELINDAP_TRACE_LOG, 59) \
+    NUMBER(KELINDAP_LOG_OUTCOME, 0) \
+    NUMBER(KELINDAP_LOG_COUNT, 1) \
+    NUMBER(KELINDAP_LOG_ANSWER, 2) \
+    NUMBER(KELINDAP_LOG_LINE, 18) \
     NUMBER(KELINDAP_L_DATA_REQ, 17) \
     NUMBER(KELINDAP_L_DATA_IND, 41) \
     NUMBER(KELINDAP_EVENT_MULTICAST, 0) \

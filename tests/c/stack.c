@@ -9,13 +9,14 @@
 #include "kelindap_frame.h"
 #include "kelindap_pdu.h"
 #include "kelindap_store.h"
+#include "kelindap_trace.h"
 
 #include <stdint.h>
 #include <stdio.h>
 #include <string.h>
 #include <ucontext.h>
 
-enum { LIMIT = 1024, ROOM = 1 << 16, PAINT = 0xA5, ROUNDS = 4 };
+enum { LIMIT = 1280, ROOM = 1 << 16, PAINT = 0xA5, ROUNDS = 4 };
 
 static _Alignas(64) uint8_t stack[ROOM];
 static ucontext_t here, there;
@@ -85,6 +86,29 @@ static void fill_store(void)
     sessions.of[0] = (kelindap_session){ .open = true, .level = 0 };
     for (int i = 0; i < 2; i++)
         kept += kelindap_save(pump, sizeof pump, store, sizeof store).number;
+}
+
+/* the same requests as traces of one event */
+static void play(void)
+{
+    static uint8_t trace[2 + KELINDAP_TRACE_ENTRY + sizeof apdu], log[KELINDAP_LOG_LINE];
+    for (unsigned i = 0; i < ROUNDS * 15 * 1024u; i++) {
+        size_t length = next_apdu(i);
+        sheet[30] = (uint8_t)(i / (15 * 1024u) % 2);
+        trace[1] = 1;
+        trace[2] = i % 61 < 5 ? (uint8_t)(i % 61) : 0;
+        trace[4] = 0x08;
+        trace[5] = 0x01;
+        trace[7] = 10;
+        trace[8] = trace[2] == 0 ? (uint8_t)length : 0;
+        memcpy(trace + 10, apdu, sizeof apdu);
+        for (uint8_t mode = 0; mode < 4; mode++) {
+            trace[3] = mode;
+            sessions.of[0] = (kelindap_session){.open = true, .level = (uint8_t)(i % 4)};
+            kept += kelindap_trace_check(trace, 10u + trace[8]);
+            kept += kelindap_play(&sessions, sheet, sizeof sheet, trace, 10u + trace[8], 0, 1, log, sizeof log).handled;
+        }
+    }
 }
 
 static void read_and_write(void)
@@ -175,6 +199,7 @@ int main(void)
         {"kelindap_save", save},
         {"kelindap_restore", restore},
         {"kelindap_remove", remove_first},
+        {"kelindap_trace_check, _play", play},
         {"kelindap_read, _write", read_and_write},
         {"kelindap_point_read, _write", points},
         {"kelindap_frame_read, _write", frames},

@@ -1,5 +1,5 @@
-// The C interface of the device: the calls of include/kelindap.h, those on the sessions in place; those of
-// include/kelindap_store.h stand in `store`.
+// The C interface of the device: the calls of include/kelindap.h and include/kelindap_trace.h, those on the sessions in place;
+// those of include/kelindap_store.h stand in `store`.
 mod store;
 
 ghost use mathlib.Core.Path.{_≡_};
@@ -7,7 +7,9 @@ ghost use Rattle.sheet.specs.Rules.{ruleOf};
 ghost use Rattle.sheet.specs.Lookup.{StandsIn, regionOf, regionFrom, userRegionOf, userRegionFrom, propertyOf, propertyFrom, groupOf, groupFrom};
 ghost use Rattle.device.specs.Sessions.{freshOf};
 ghost use Rattle.device.specs.Events.{namedOutcome, connectOf, disconnectOf, Pressed, Called};
-ghost use Rattle.host.specs.Calls.{gave, gaveBack, versionOf};
+ghost use Rattle.playback.specs.Rules.{refusalOf};
+ghost use Rattle.playback.specs.Playing.{Plays};
+ghost use Rattle.host.specs.Calls.{gave, gaveBack, gavePlayed, versionOf};
 use device::Sessions;
 use sheet::Part;
 
@@ -23,6 +25,13 @@ pub struct Replied {
     pub outcome: u8,
     pub count: u8,
     pub sessions: Sessions,
+}
+
+// What playing gave: its refusal or 0, and how many events were handled.
+#[repr(C)]
+pub struct Handled {
+    pub refusal: u8,
+    pub handled: u16,
 }
 
 // Sessions that nobody has connected to.
@@ -141,6 +150,34 @@ pub extern "C" fn kelindap_group(sheet: &[u8], address: u16) -> Part
     ensures { λ r. ⌜ StandsIn (now (sheet .entry)) r (groupOf (now (sheet .entry)) address) (groupFrom (now (sheet .entry)) address) ⌝ }
 {
     sheet::group_part(sheet, address)
+}
+
+// The first rule that the trace breaks, 50 to 58, or 0.
+#[no_mangle]
+pub extern "C" fn kelindap_trace_check(trace: &[u8]) -> u8
+    ensures { λ r. ⌜ r ≡ refusalOf (now (trace .entry)) ⌝ }
+{
+    playback::check(trace)
+}
+
+// At most `limit` events of the trace, `from` having been played, in place: the sessions become what these make of them.
+#[no_mangle]
+pub extern "C" fn kelindap_play(
+    sessions: &mut Sessions,
+    sheet: &mut [u8],
+    trace: &[u8],
+    from: usize,
+    limit: usize,
+    log: &mut [u8],
+) -> Handled
+    ensures { λ r. ⌜ Plays (now (sessions .entry)) (now (sheet .entry)) (now (trace .entry)) from limit (now (log .entry)) (gavePlayed r (now (sessions .exit))) (now (sheet .exit)) (now (log .exit)) ⌝ }
+{
+    let d = playback::play(*sessions, sheet, trace, from, limit, log);
+    *sessions = d.sessions;
+    Handled {
+        refusal: d.refusal,
+        handled: d.handled,
+    }
 }
 
 // The version of this library.

@@ -7,7 +7,7 @@ use lib.ListN.{take, drop}
 use Rattle.sheet.specs.Layout.{_of_}
 use Rattle.sheet.specs.Rules.{Accepted}
 use Rattle.device.specs.Octets.{Octets}
-use Rattle.device.specs.Events.{Event, connect, disconnect, button, request}
+use Rattle.events.specs.Events.{Event, connect, disconnect, button, request}
 use Rattle.device.specs.declared.Sessions.{Sessions}
 use Rattle.history.specs.History.{First}
 use Rattle.history.specs.Keeps.{stateAfter, BringsOctets, AllOctets, Kept}

@@ -3,7 +3,7 @@
 use Prim.Native.Nat.{ℕ, suc, _+_, _-_, _*_, _≤_, _<_, min}
 use mathlib.Core.Path.{_≡_, refl, sym, _∙_, ap, ap₂, subst}
 use mathlib.Core.List.{List, [], _∷_, _++_, append-assoc}
-use lib.ListN.{length, take, drop, length-drop}
+use lib.ListN.{length, take, drop, length-append, length-drop}
 use lib.Seq.{take-at, drop-at, drop-drop}
 use native.Mathlib.Nat.{zero-add}
 use native.Mathlib.Omega.{arith}
@@ -193,3 +193,28 @@ module _ (q : Sessions) (s t : List ℕ) (from m n : ℕ) (log : List ℕ) (r₁
           state = state-pieces (at q s) (at (r₁ .sessions) s₁) (at (r₂ .sessions) s₂) t from a b log log₁ log₂ st₁ st₂ ∙ ap (run (at q s)) es;
           logged = log-pieces (at q s) (at (r₁ .sessions) s₁) (at (r₂ .sessions) s₂) t from a b log log₁ log₂ st₁ lg₁ lg₂ ∙ ap (λ (l : List Event). splice log 0 (logOf (at q s) l)) es;
         }
+
+-- and what one call would play is refused in no piece
+module _ (q : Sessions) (s t : List ℕ) (from m n : ℕ) (log : List ℕ) (ok : refusalIn t from (m + n) log ≡ 0) where
+  first-goes : refusalIn t from m log ≡ 0
+  first-goes = no-refusal t from m log (is-playable t from (m + n) log ok) (omega (arith, has-room t from (m + n) log ok))
+
+  second-goes : (a : ℕ) (l : List ℕ) → a ≡ dueOf t from m → length l ≡ length log → refusalIn t (from + a) n (drop (line * a) l) ≡ 0
+  second-goes a l e k =
+      no-refusal t (from + a) n (drop (line * a) l) (is-playable t from (m + n) log ok)
+      (omega (arith, has-room t from (m + n) log ok, length-drop (line * a) l))
+
+  pub pieces-go :
+      (r₁ : Played) (s₁ log₁ : List ℕ) → Playing q s t from m log r₁ s₁ log₁ → (r₂ : Played) (s₂ log₂ : List ℕ) →
+      Playing (r₁ .sessions) s₁ t (from + r₁ .handled) n (drop (line * r₁ .handled) log₁) r₂ s₂ log₂ →
+      (r₁ .refusal ≡ 0) × (r₂ .refusal ≡ 0)
+  pieces-go r₁ s₁ log₁ p₁ r₂ s₂ log₂ p₂ =
+      let k : r₁ .refusal ≡ 0 = p₁ .refusal ∙ first-goes in
+      let d : ℕ = dueOf t from m in
+      let e : r₁ .handled ≡ d = handles q s t from m log r₁ s₁ log₁ p₁ k in
+      let l : length log₁ ≡ length log =
+      ap length (logs q s t from m log r₁ s₁ log₁ p₁ k)
+      ∙ length-append (logOf (at q s) (eventsFrom t from d)) (drop (line * d) log)
+      ∙ omega (arith, length-log (at q s) (eventsFrom t from d), length-events t from d, length-drop (line * d) log, has-room t from m log first-goes)
+      in
+      (k, p₂ .refusal ∙ second-goes (r₁ .handled) log₁ e l)

@@ -20,7 +20,7 @@ use Rattle.sheet.specs.Layout.{_of_}
 use Rattle.sheet.proofs.Demands.{unbroken}
 use Rattle.sheet.proofs.First.{first-none, first-more}
 use Rattle.device.specs.Octets.{Octets}
-use Rattle.device.specs.Events.{Event, connect, disconnect, button, request}
+use Rattle.events.specs.Events.{Event, connect, disconnect, button, request}
 use Rattle.playback.specs.Entry as entry
 use Rattle.playback.specs.Trace.{head, events, count, place, blank, entryOf, eventBy, eventIn, eventAt, eventsFrom, traceOf}
 use Rattle.playback.specs.Rules.{reached, headDemands, stray, eventDemands, endDemands, headRule, eventRule, walkRule, refusalOf, Playable}
