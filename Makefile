@@ -52,10 +52,11 @@ model: need-tools
 	cargo test --release --quiet -p model
 	cargo check --release --quiet -p bench
 
-# the checking program on files and pipes; what the other tests link is proved in the same run, where prove has not done so
+# the checking and the playing program on files and pipes; what the other tests link is proved in the same run, where prove has not done so
 sheet-check: need-tools
-	rt check sheet_check host tool
+	rt check sheet_check trace_play host tool
 	tests/sheet_check.sh target/bin/sheet_check
+	tests/trace_play.sh target/bin/trace_play
 
 include mk/native.mk
 include mk/hosts.mk
