@@ -34,7 +34,8 @@ module _ {s s′ : List ℕ} (b : SameButBodies s s′) where
         values = b .values;
       }
 
-  agrees : Agree s s′
+  -- the rules of the sheet read no more
+  pub agrees : Agree s s′
   agrees =
       unseen seen
       record { edition = field head.edition (omega arith); byte15 = field head.byte15 (omega arith); rules = field head.rules (omega arith) }

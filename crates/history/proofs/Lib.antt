@@ -1,4 +1,4 @@
--- PROMISES, named in docs/PROMISES.md: Keyless (nobody without the key), Height (that, on the sample sheet), Keep (demand 3), Pinned (one result), OneDevice (one device), RulesStay (the rules are those of the first sheet), Connections (what bears on the level of one), AtOnce, Suffices, Shown and MemoryShown (what a read shows), Isolated (one tool beside another), Calls (all of these of the calls),
+-- PROMISES, named in docs/PROMISES.md: Keyless (nobody without the key), Height (that, on the sample sheet), Keep (demand 3), Pinned (one result), OneDevice (one device), RulesStay (the rules are those of the first sheet), Connections (what bears on the level of one), AtOnce, Suffices, Shown and MemoryShown (what a read shows), Isolated (one tool beside another), Calls (all of these of the calls), NothingShown and Unlearned (what a tool without the key can learn),
 -- Permitted (permitted as plain propositions), Places (`place-injective`, `exactly-one`), InOrder (histories and runs).
 pub mod Keyless
 pub mod Height
@@ -13,6 +13,8 @@ pub mod MemoryShown
 pub mod Isolated
 pub mod Acts
 pub mod Calls
+pub mod NothingShown
+pub mod Unlearned
 pub mod Suffices
 pub mod Permitted
 pub mod Places

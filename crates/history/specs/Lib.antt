@@ -13,3 +13,4 @@ pub mod Isolation
 pub mod Samples
 pub mod Calls
 pub mod Acts
+pub mod Secret
