@@ -3,7 +3,7 @@
 use Prim.Native.Nat.{ℕ, _<_, _≤_}
 use mathlib.Core.Path.{_≡_, refl, sym, ap, ap₂, _∙_}
 use mathlib.Core.Bool.{true, false}
-use mathlib.Core.List.{List, [], _∷_}
+use mathlib.Core.List.{List, []}
 use Rattle.sheet.specs.Head.{rulesOf}
 use Rattle.sheet.specs.declared.Memory.{Memory}
 use Rattle.pdu.specs.Read.{readPdu}
@@ -11,7 +11,7 @@ use Rattle.pdu.specs.declared.Parsed.the-variants.{Is}
 use Rattle.pdu.specs.declared.Pdu.the-variants.{PropertyValueRead}
 use Rattle.device.specs.Sessions.{sessionOf}
 use Rattle.device.specs.Events.{Effect, State}
-use Rattle.events.specs.Events.{Event, connect, disconnect, button, request, eventOf}
+use Rattle.events.specs.Events.{Event, request, eventOf}
 use Rattle.device.specs.MemoryDue.{reading}
 use Rattle.device.specs.Apart.{AlikeAfter, Together}
 use Rattle.events.specs.Apart.{Settled, AllSettled}

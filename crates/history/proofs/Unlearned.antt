@@ -11,7 +11,6 @@ use Rattle.sheet.specs.Frame.{Agree}
 use Rattle.sheet.specs.But.{But}
 use Rattle.sheet.proofs.Good.{good}
 use Rattle.sheet.proofs.Frames.{both-or-neither}
-use Rattle.judge.specs.Session.{connected}
 use Rattle.judge.specs.declared.Session.{Session}
 use Rattle.device.specs.declared.Sessions.{Sessions}
 use Rattle.device.specs.Sessions.{sessionOf, sessionFor, turnedOf}

@@ -5,3 +5,6 @@ pub mod Refuted
 -- of isolation:
 pub mod Leaks
 pub mod LeaksRefuted
+-- of what a tool without the key can learn:
+pub mod Tellers
+pub mod TellersRefuted
