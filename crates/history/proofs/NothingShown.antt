@@ -1,6 +1,6 @@
 -- ONE REQUEST SHOWS NO SECRET BYTE to a tool whose level is q or above.
 -- Assumes nothing.
-use Prim.Native.Nat.{ℕ, _/_, _<_, _≤_}
+use Prim.Native.Nat.{ℕ, _<_, _≤_}
 use mathlib.Core.Path.{_≡_, refl, subst}
 use mathlib.Core.Logic.{_↔_, inl, inr}
 use mathlib.Core.Bool.{true}
@@ -13,7 +13,6 @@ use Rattle.sheet.specs.Layout.{_of_}
 use Rattle.sheet.specs.Region as region
 use Rattle.sheet.specs.Property as property
 use Rattle.sheet.specs.Entries.{entry, contents, InBody}
-use Rattle.sheet.specs.Places.{regionAt}
 use Rattle.sheet.specs.Frame.{Agree}
 use Rattle.sheet.specs.declared.Memory.{Memory}
 use Rattle.sheet.specs.declared.Memory.the-variants.{Device, User}
@@ -33,7 +32,7 @@ use Rattle.device.proofs.CarryReads.{readLevel, Unread, spares}
 use Rattle.device.proofs.NoBody.{agrees, no-body}
 use Rattle.device.proofs.Safe.{safe}
 use Rattle.device.proofs.StepBut.{AlikeBut, step-but}
-use Rattle.history.specs.Secret.{Secret, ofMemory, ofProperty, Hide}
+use Rattle.history.specs.Secret.{regionReadLevel, propertyReadLevel, Secret, ofMemory, ofProperty, Hide}
 
 -- a secret byte lies in a body
 pub in-body : {s : List ℕ} {q p : ℕ} → Secret s q p → (k : ℕ) × (i : ℕ) × InBody s k i p
@@ -49,11 +48,11 @@ module _ {s : List ℕ} (ok : Good s) (q : ℕ) where
 
   -- the body of entry i of kind k has a secret byte of a region or a property only if the entry is that, so it is no group object's, and its read level is below q
   module _ (k i p : ℕ) (b : InBody s k i p) where
-    memory-below : (m : Memory) (j : ℕ) → InBody s (kindOf m) j p → region.levels of regionAt s m j / 16 < q → (k ≡ groups → ⊥) × (readLevel s k i < q)
+    memory-below : (m : Memory) (j : ℕ) → InBody s (kindOf m) j p → regionReadLevel s m j < q → (k ≡ groups → ⊥) × (readLevel s k i < q)
     memory-below Device j c l = let e = disjoint ok k i _ j p b c in (λ g. omega (arith, e .0), rw (e .0, e .1) l)
     memory-below User j c l = let e = disjoint ok k i _ j p b c in (λ g. omega (arith, e .0), rw (e .0, e .1) l)
 
-    property-below : (j : ℕ) → InBody s properties j p → property.levels of entry s properties j / 16 < q → (k ≡ groups → ⊥) × (readLevel s k i < q)
+    property-below : (j : ℕ) → InBody s properties j p → propertyReadLevel s j < q → (k ≡ groups → ⊥) × (readLevel s k i < q)
     property-below j c l = let e = disjoint ok k i _ j p b c in (λ g. omega (arith, e .0), rw (e .0, e .1) l)
 
     below : Secret s q p → (k ≡ groups → ⊥) × (readLevel s k i < q)

@@ -19,10 +19,17 @@ use Rattle.history.specs.History.{First, opened, level}
 use Rattle.history.specs.Keeps.{Device, stateAfter, Begins, AllOctets}
 use Rattle.history.specs.Isolation.{Alike}
 
+-- the read level of a region of memory, of a property
+abbrev pub regionReadLevel : List ℕ → Memory → ℕ → ℕ
+regionReadLevel s m i = region.levels of regionAt s m i / 16
+
+abbrev pub propertyReadLevel : List ℕ → ℕ → ℕ
+propertyReadLevel s i = property.levels of entry s properties i / 16
+
 -- A SECRET BYTE: of the body of a region of either memory, or of a property, whose read level is below q
 pub data Secret (s : List ℕ) (q p : ℕ) : Type 0 where
-  ofMemory : (m : Memory) (i : ℕ) → InBody s (kindOf m) i p → region.levels of regionAt s m i / 16 < q → Secret s q p
-  ofProperty : (i : ℕ) → InBody s properties i p → property.levels of entry s properties i / 16 < q → Secret s q p
+  ofMemory : (m : Memory) (i : ℕ) → InBody s (kindOf m) i p → regionReadLevel s m i < q → Secret s q p
+  ofProperty : (i : ℕ) → InBody s properties i p → propertyReadLevel s i < q → Secret s q p
 
 -- TWO SHEETS THAT HIDE q: both accepted, as long as each other, and every byte the same but secret ones
 pub record Hide (q : ℕ) (s s′ : List ℕ) : Type 0 where
