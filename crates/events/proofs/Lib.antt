@@ -1,5 +1,6 @@
--- PROMISES, named in docs/PROMISES.md: Dues (a restore), Stays (accepted stays accepted), RunsApart (both rules), Append (one run after the other).
+-- PROMISES, named in docs/PROMISES.md: Dues (a restore), Stays (accepted stays accepted), RunsApart (both rules), Append (one run after the other). RestoreBut has the law behind RunsApart and what no tool learns of a restore.
 pub mod Dues
 pub mod Stays
+pub mod RestoreBut
 pub mod RunsApart
 pub mod Append

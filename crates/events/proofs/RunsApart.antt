@@ -2,71 +2,39 @@
 -- Assumes nothing.
 use Prim.Native.Nat.{ℕ}
 use mathlib.Core.Path.{_≡_, refl, ap, ap₂}
-use mathlib.Core.Bool.{Bool, true, false, cond}
+use mathlib.Core.Bool.{Bool, cond}
 use mathlib.Core.List.{List, [], _∷_}
 use lib.Dec.{eqb}
 use lib.ListN.{length}
 use native.Mathlib.Omega.{arith}
-use borrow.Author.Tests.{eqb-true}
-use Rattle.sheet.specs.Kind.{properties}
-use Rattle.sheet.specs.Entries.{base}
 use Rattle.sheet.specs.Frame.{AgreeInside}
-use Rattle.sheet.proofs.Buts.{splice-but}
-use Rattle.sheet.proofs.Sames.{count-same, place-same, start-same}
 use Rattle.judge.specs.Session.{connected}
 use Rattle.judge.specs.declared.Session.{Session}
 use Rattle.device.specs.declared.Sessions.{Sessions}
 use Rattle.device.specs.Sessions.{freshOf, withSession, sessionOf, sessionFor}
 use Rattle.device.specs.Events.{State, connectOf, disconnectOf, requestOf}
-use Rattle.device.specs.Apart.{SameButRules, AlikeAfter, Together}
-use Rattle.versions.specs.Store.{versionIn}
-use Rattle.versions.specs.Settings.{entriesLong, restored, SameEntries, LowCounts}
-use Rattle.versions.specs.Restoring.{givesBack, restoreOutcome, restoreSheet}
-use Rattle.versions.proofs.Agreeing.{entries-to, low-to, same-entries-same, low-counts-same}
-use Rattle.versions.proofs.Dues.{allowed}
-use Rattle.versions.proofs.Restores as re
+use Rattle.device.specs.Apart.{RulesByte, SameButRules, AlikeAfter, Together}
+use Rattle.versions.specs.Restoring.{restoreSheet}
 use Rattle.events.specs.Events.{Event, connect, disconnect, button, request, restore, eventOf, after, run}
 use Rattle.events.specs.Apart.{Settled, AllSettled}
 use Rattle.events.proofs.Stays.{stays}
-use Rattle.device.proofs.StepBut.{is-accepted, press-outcome, press-but}
+use Rattle.events.proofs.RestoreBut.{BothBut, restore-outcome, restore-but}
+use Rattle.device.proofs.StepBut.{press-outcome, press-but}
 use Rattle.device.proofs.Unseen.{unseen}
 use Rattle.device.proofs.RulesApart.{seen, rules-apart}
 
--- a restore
-module _ {s s′ : List ℕ} (b : SameButRules s s′) where
-  agree : AgreeInside s s′
-  agree = unseen (seen b) tt
+-- they agree on what the rules read, the number of the rules apart
+agree : {s s′ : List ℕ} → SameButRules s s′ → AgreeInside s s′
+agree b = unseen (seen b) tt
 
-  restored-but : (d : List ℕ) → SameEntries s d → LowCounts s d → SameButRules (restored s d) (restored s′ d)
-  unfolding restored
-  restored-but d same low =
-      record {
-        accepted = re.restored-accepted (b .accepted) same low;
-        accepted′ = re.restored-accepted (b .accepted′) (entries-to agree d same) (low-to agree d low);
-        others =
-            rw (long-same, base-same, start-same agree properties (omega arith))
-            (splice-but (splice-but (b .others) _ _ (re.fits₁ (b .accepted) same)) _ _ (re.fits₂ (b .accepted) same));
-      }
-    where
-      long-same : entriesLong s′ ≡ entriesLong s
-      long-same = omega (arith, count-same agree properties)
+both : {s s′ : List ℕ} → SameButRules s s′ → BothBut RulesByte s s′
+both b = record { accepted = b .accepted; accepted′ = b .accepted′; others = b .others }
 
-      base-same : base s′ properties ≡ base s properties
-      base-same = omega (arith, place-same agree properties 0)
-
-  module _ (q : Session) (st : List ℕ) (n : ℕ) where
-    restore-outcome : restoreOutcome q s′ st n ≡ restoreOutcome q s st n
-    unfolding restoreOutcome givesBack
-    restore-outcome =
-        rw (is-accepted s (b .accepted), is-accepted s′ (b .accepted′), same-entries-same agree (versionIn st n), low-counts-same agree (versionIn st n))
-
-    restore-but : SameButRules (restoreSheet q s st n) (restoreSheet q s′ st n)
-    unfolding restoreSheet
-    restore-but = rw restore-outcome (go (eqb (restoreOutcome q s st n) 1) refl)
-      where
-        go : (t : Bool) → eqb (restoreOutcome q s st n) 1 ≡ t → SameButRules (cond t (restored s (versionIn st n)) s) (cond t (restored s′ (versionIn st n)) s′)
-        go true e = let k = allowed q s st n (eqb-true _ 1 e) in restored-but (versionIn st n) (k .same) (k .low)
-        go false e = b
+-- what a restore on them leaves
+apart-restored : {s s′ : List ℕ} → SameButRules s s′ → (q : Session) (st : List ℕ) (n : ℕ) → SameButRules (restoreSheet q s st n) (restoreSheet q s′ st n)
+apart-restored b q st n =
+    let k = restore-but (agree b) (both b) q st n in
+    record { accepted = k .accepted; accepted′ = k .accepted′; others = k .others }
 
 -- AN EVENT THAT IS NO DISPUTED REQUEST
 pub event-apart : (x x′ : State) (e : Event) → Together x x′ → Settled e → AlikeAfter (eventOf x e) (eventOf x′ e)
@@ -98,13 +66,14 @@ event-apart x x′ (request mode c group a out) t u =
       sheet = k .sheet;
     }
 event-apart x x′ (restore c n st) t u =
+    let b = t .sheet in
     let q : Session = sessionOf (x .sessions) c in
     rw (t .sessions)
     record {
-      outcome = restore-outcome (t .sheet) q st n;
+      outcome = restore-outcome (agree b) (both b) q st n;
       answer = refl;
       sessions = refl;
-      sheet = restore-but (t .sheet) q st n;
+      sheet = apart-restored b q st n;
     }
 
 -- THE STATES AFTER A RUN

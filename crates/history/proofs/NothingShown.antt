@@ -102,9 +102,12 @@ module _ {q : ℕ} {s s′ : List ℕ} (b : Hide q s s′) where
         values = λ i p h. b .others .others p (λ x. below ok q groups i p h x .0 refl);
       }
 
+  pub hidden-agree : Agree s s′
+  hidden-agree = agrees bodies
+
   -- THE SAME BYTES ARE SECRET IN BOTH
   pub hidden-both : (p : ℕ) → Secret s q p ↔ Secret s′ q p
-  hidden-both p = (secret-same (agrees bodies) q p, secret-same (agree-sym (agrees bodies)) q p)
+  hidden-both p = (secret-same hidden-agree q p, secret-same (agree-sym hidden-agree) q p)
 
   -- NOTHING IS SHOWN: the same outcome, answer and session, and every byte left the same but secret ones, if a connected request has a session of level q or above
   pub nothing-shown :

@@ -16,8 +16,9 @@ use Rattle.device.specs.declared.Sessions.{Sessions}
 use Rattle.device.specs.Sessions.{sessionOf, sessionFor, turnedOf}
 use Rattle.device.specs.Events.{State, Effect, connectOf, disconnectOf, requestOf}
 use Rattle.device.proofs.StepBut.{press-outcome, press-but}
-use Rattle.events.specs.Events.{Event, connect, disconnect, button, request, eventOf, after}
+use Rattle.events.specs.Events.{Event, connect, disconnect, button, request, restore, eventOf, after}
 use Rattle.events.proofs.Stays.{agrees}
+use Rattle.events.proofs.RestoreBut.{BothBut, restore-outcome, restore-but}
 use Rattle.history.specs.History.{First, opened, level}
 use Rattle.history.specs.Keeps.{Device, stateAfter, Begins, BringsOctets, AllOctets}
 use Rattle.history.specs.Keyless.{Locked, NotOffered, Closed}
@@ -29,7 +30,7 @@ use Rattle.history.proofs.Calls.{call-is, calls-after}
 use Rattle.history.proofs.Keep.{keeps}
 use Rattle.history.proofs.Keyless.{all-shut, locked}
 use Rattle.history.proofs.Meets.{meets}
-use Rattle.history.proofs.NothingShown.{secret-after, secret-same, nothing-shown}
+use Rattle.history.proofs.NothingShown.{secret-after, secret-same, hidden-agree, nothing-shown}
 use Rattle.history.proofs.OneDevice.{one-device}
 
 -- the sheets after an event still hide q
@@ -80,6 +81,15 @@ module _ (q : ℕ) (few : q ≤ 3) (x x′ : State) (t : x′ .sessions ≡ x .s
             (λ j l y. omega (arith, secret-after (good (x .sheet) (b .accepted)) q (head.flags .at + j) y)));
       }
   told-same (request mode c g a out) = requested mode c g a out out refl
+  told-same (restore c n st) =
+      let v : BothBut (Secret (x .sheet) q) (x .sheet) (x′ .sheet) = record { accepted = b .accepted; accepted′ = b .accepted′; others = b .others } in
+      let k : Session = sessionOf (x .sessions) c in
+      record {
+        outcome = rw t (restore-outcome (hidden-agree b) v k st n);
+        answer = refl;
+        sessions = t;
+        sheet = hides (restore c n st) (restore c n st) (rw t (restore-but (hidden-agree b) v k st n .others));
+      }
 
   pub told : (e e′ : Event) → Alike e e′ → NothingTold q (eventOf x e) (eventOf x′ e′)
   told _ _ (same e) = told-same e

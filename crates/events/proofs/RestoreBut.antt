@@ -1,0 +1,62 @@
+-- A restore on two accepted sheets that are the same but at some positions, and agree on what the rules read: the same outcome, and what it leaves is accepted and differs there alone.
+-- Assumes nothing.
+use Prim.Native.Nat.{ℕ}
+use mathlib.Core.Path.{_≡_, refl}
+use mathlib.Core.Bool.{Bool, true, false, cond}
+use mathlib.Core.List.{List}
+use lib.Dec.{eqb}
+use native.Mathlib.Omega.{arith}
+use borrow.Author.Tests.{eqb-true}
+use Rattle.sheet.specs.Kind.{properties}
+use Rattle.sheet.specs.Entries.{base}
+use Rattle.sheet.specs.Frame.{AgreeBy}
+use Rattle.sheet.specs.Rules.{Accepted}
+use Rattle.sheet.specs.But.{But}
+use Rattle.sheet.proofs.Buts.{splice-but}
+use Rattle.sheet.proofs.Sames.{count-same, place-same, start-same}
+use Rattle.judge.specs.declared.Session.{Session}
+use Rattle.device.proofs.StepBut.{is-accepted}
+use Rattle.versions.specs.Store.{versionIn}
+use Rattle.versions.specs.Settings.{entriesLong, restored, SameEntries, LowCounts}
+use Rattle.versions.specs.Restoring.{givesBack, restoreOutcome, restoreSheet}
+use Rattle.versions.proofs.Agreeing.{entries-to, low-to, same-entries-same, low-counts-same}
+use Rattle.versions.proofs.Dues.{allowed}
+use Rattle.versions.proofs.Restores as re
+
+-- both are accepted, and the same but at H
+pub record BothBut (H : ℕ → Type 0) (s s′ : List ℕ) : Type 0 where
+  pub accepted : Accepted s
+  pub accepted′ : Accepted s′
+  pub others : But H s s′
+
+module _ {R : List ℕ → List ℕ → Type 0} {H : ℕ → Type 0} {s s′ : List ℕ} (agree : AgreeBy R s s′) (b : BothBut H s s′) where
+  restored-but : (d : List ℕ) → SameEntries s d → LowCounts s d → BothBut H (restored s d) (restored s′ d)
+  unfolding restored
+  restored-but d same low =
+      record {
+        accepted = re.restored-accepted (b .accepted) same low;
+        accepted′ = re.restored-accepted (b .accepted′) (entries-to agree d same) (low-to agree d low);
+        others =
+            rw (long-same, base-same, start-same agree properties (omega arith))
+            (splice-but (splice-but (b .others) _ _ (re.fits₁ (b .accepted) same)) _ _ (re.fits₂ (b .accepted) same));
+      }
+    where
+      long-same : entriesLong s′ ≡ entriesLong s
+      long-same = omega (arith, count-same agree properties)
+
+      base-same : base s′ properties ≡ base s properties
+      base-same = omega (arith, place-same agree properties 0)
+
+  module _ (q : Session) (st : List ℕ) (n : ℕ) where
+    pub restore-outcome : restoreOutcome q s′ st n ≡ restoreOutcome q s st n
+    unfolding restoreOutcome givesBack
+    restore-outcome =
+        rw (is-accepted s (b .accepted), is-accepted s′ (b .accepted′), same-entries-same agree (versionIn st n), low-counts-same agree (versionIn st n))
+
+    pub restore-but : BothBut H (restoreSheet q s st n) (restoreSheet q s′ st n)
+    unfolding restoreSheet
+    restore-but = rw restore-outcome (go (eqb (restoreOutcome q s st n) 1) refl)
+      where
+        go : (t : Bool) → eqb (restoreOutcome q s st n) 1 ≡ t → BothBut H (cond t (restored s (versionIn st n)) s) (cond t (restored s′ (versionIn st n)) s′)
+        go true e = let k = allowed q s st n (eqb-true _ 1 e) in restored-but (versionIn st n) (k .same) (k .low)
+        go false e = b
