@@ -41,6 +41,17 @@
     X(46, FRAME_NO_ROOM, "the buffer is shorter than the frame")  \
     X(47, FRAME_UNWRITABLE, "no frame that can be written")
 
+/* Each outcome that the calls on a store of versions alone have, with its name in enum kelindap_store_outcome. */
+#define KELINDAP_STORE_OUTCOMES(X)                                \
+    X(30, STORE_BAD, "the store is not a good one")               \
+    X(31, STORE_NO_NUMBER, "the last number has been given")      \
+    X(32, STORE_NO_PLACE, "as many versions are kept as can be")  \
+    X(33, STORE_NO_ROOM, "no room in the store")                  \
+    X(34, STORE_NOT_KEPT, "no such version is kept")              \
+    X(35, STORE_NOT_AT_ZERO, "not open at level 0")               \
+    X(36, STORE_OTHER, "the version is of another sheet")         \
+    X(37, STORE_HIGH_COUNT, "the version has too high a count")
+
 /* Each rule of a sheet by number, with its name in enum kelindap_rule and what breaks it. */
 #define KELINDAP_RULES(X)                                                  \
     X(1, S1, "not 32 to 16,384 bytes")                                     \

@@ -79,7 +79,10 @@ awk -v out="$out" -v list="${processors[*]}" '
     function most(p, sheet, x) { if (x + 0 > top[p, sheet] + 0) top[p, sheet] = x }
     function told(x) { return x == "" ? "?" : comma(sprintf("%.0f", x)) }
     BEGIN { n = split("x86-64 " list, processor, " ") }
-    FILENAME ~ /plain$/ { of[$1, $2] = $3 }
+    FILENAME ~ /plain$/ {
+        of[$1, $2] = $3
+        if ($1 == processor[2] && $2 !~ /\.a$|^version$/) call[++calls] = $2
+    }
     FILENAME ~ /bench.rows$/ && $1 ~ /^(sample|full)$/ && !/the check of/ { most("x86-64", $1, $(NF - 2)) }
     FILENAME ~ /boards.rows$/ && !/the check of/ { for (i = 2; i <= n; i++) most(processor[i], $1, $(NF - n + i)) }
     END {
@@ -89,8 +92,7 @@ awk -v out="$out" -v list="${processors[*]}" '
         row(file, "libkelindap_pdu.a", "libkelindap_pdu.a")
         file = out "/stack"
         head(file, "Call")
-        split("request button check property group region user_region fresh connect disconnect", call, " ")
-        for (i = 1; i in call; i++) row(file, "`kelindap_" call[i] "`", call[i])
+        for (i = 1; i <= calls; i++) row(file, "`kelindap_" call[i] "`", call[i])
         row(file, "`kelindap_read` with `kelindap_write`", "read+write")
         row(file, "`kelindap_point_read` with `kelindap_point_write`", "point_read+write")
         row(file, "`kelindap_frame_read` with `kelindap_frame_write`", "frame_read+write")
