@@ -2,7 +2,8 @@
 # tests/shims.sh PROCESSOR: a fault planted in a shim is found. The shims are changed at one place at a time, in the text that the
 # compiler sees once a line is expanded: any two arguments of one kind exchanged in a call of the module, any length given a
 # byte short, and what is made of a result changed. With each fault the desk unit, linked for PROCESSOR, plays its scripts and
-# the frames of the vectors until an answer differs or it ends; without one, nothing differs.
+# the frames of the vectors until an answer differs or it ends; if none does, the calls that it has no command for are tried by
+# their own tests in C. Without a fault nothing differs.
 set -euo pipefail
 processor=$1
 cd "$(dirname "$0")/.."
@@ -20,14 +21,21 @@ for name in host tool; do
     mk/bin/native "$processor" "$name" -E > "$work/$name.c"
     mk/bin/native "$processor" "$name" "$work/lib$name.a"
 done
-mk/bin/cc "$processor" -c -o "$work/unit.o" -std=c11 -O2 -Iinclude -Ibuild hosts/unit.c
+c=(-std=c11 -O2 -Iinclude -Ibuild)
+mk/bin/cc "$processor" -c -o "$work/unit.o" "${c[@]}" hosts/unit.c
+in_c=(store_test)
+for test in "${in_c[@]}"; do mk/bin/cc "$processor" -c -o "$work/$test.o" "${c[@]}" -DROUNDS=4000 "tests/c/$test.c"; done
 
 # HOST_A TOOL_A: whether the unit with these answers as it should
 plays() {
-    local script
+    local script test
     mk/bin/cc "$processor" -o "$work/unit" "$work/unit.o" "$1" "$2"
     for script in "$work"/play/*.in; do
         timeout 60 "$work/unit" < "$script" 2> /dev/null | cmp -s - "${script%.in}.out" || return 1
+    done
+    for test in "${in_c[@]}"; do
+        mk/bin/cc "$processor" -o "$work/$test" "$work/$test.o" "$1" "$2"
+        timeout 60 "$work/$test" > /dev/null 2>&1 || return 1
     done
 }
 plays "$work/libhost.a" "$work/libtool.a" || fail "the scripts differ without a fault"
@@ -78,6 +86,9 @@ for name in host tool; do faults_of "$name" > "$work/$name.faults"; done
 changed host "fresh: a byte beside the level" 'high(r >> 16)' 'high(r >> 8)'
 changed host "reply: outcome and count exchanged" '(kelindap_reply){ low(r), high(r) }' '(kelindap_reply){ high(r), low(r) }'
 changed host "reply: a byte further on" '(kelindap_reply){ low(r), high(r) }' '(kelindap_reply){ low(r >> 8), high(r >> 8) }'
+changed host "saved: the number a byte short" '(uint16_t)(r >> 16)' 'low(r >> 16)'
+changed host "saved: the number for the outcome" '(kelindap_saved){ low(r),' '(kelindap_saved){ low(r >> 16),'
+changed host "sessions by value: levels exchanged" 'of[0].level << 8 |' 'of[1].level << 8 |'
 changed tool "written: outcome and count exchanged" '(kelindap_written){ low(r), high(r) }' '(kelindap_written){ high(r), low(r) }'
 changed tool "framed: the count a byte short" '{ (uint16_t)r,' '{ low(r),'
 changed tool "framed: the count for the outcome" 'low(r >> 16) }; }' 'low(r >> 8) }; }'

@@ -45,6 +45,10 @@ class _Part(Structure):
     _fields_ = [("offset", c_size_t), ("length", c_size_t)]
 
 
+class _Saved(Structure):
+    _fields_ = [("outcome", c_uint8), ("number", c_uint16)]
+
+
 class _Written(Structure):
     _fields_ = [("outcome", c_uint8), ("count", c_uint8)]
 
@@ -88,6 +92,9 @@ _CALLS = {
     "region": (_Part, _RUN + [c_size_t]),
     "group": (_Part, _RUN + [c_uint16]),
     "user_region": (_Part, _RUN + [c_size_t]),
+    "store_check": (c_uint8, _RUN),
+    "save": (_Saved, 2 * _RUN),
+    "restore": (c_uint8, [_Sessions, c_uint8] + 2 * _RUN + [c_size_t]),
     "pdu_version": (c_uint32, []),
     "read": (_Pdu, _RUN),
     "write": (_Written, [_Pdu] + 2 * _RUN),
@@ -154,6 +161,11 @@ def _size(number):
 def check(sheet):
     """0 if the sheet is accepted, else the number of the first rule that it breaks."""
     return _call.check(*_lent(sheet))
+
+
+def store_check(store):
+    """0 for a good store of versions, else 30."""
+    return _call.store_check(*_lent(store))
 
 
 def _body(sheet, part):
@@ -325,6 +337,7 @@ def frame_write(info, apdu, **fields):
 # ---- a device ----
 
 Reply = namedtuple("Reply", "outcome count")
+Saved = namedtuple("Saved", "outcome number")
 
 
 class Unit:
@@ -357,6 +370,16 @@ class Unit:
         how = _bits(mode, 8), _bits(connection, 8), _bits(group, 16)
         reply = _call.request(byref(self._sessions), *how, *_lent(apdu), *_lent(self.sheet), *_lent(buffer))
         return Reply(reply.outcome, reply.count)
+
+    def save(self, store):
+        """Keeps the properties as a version in the store, a bytearray: outcome, and the version's number."""
+        saved = _call.save(*_lent(bytes(self.sheet)), *_lent(store))
+        return Saved(saved.outcome, saved.number)
+
+    def restore(self, store, number, connection):
+        """Gives a version back on behalf of a connection."""
+        lent = *_lent(self.sheet), *_lent(bytes(store))
+        return _call.restore(self._sessions, _bits(connection, 8), *lent, _size(number))
 
     def ask(self, kind, connection=None, group=None, mode=None, **fields):
         """A PDU as a request, on a connection, to a group, or with neither connectionless: the reply, and the answer's PDU or None."""

@@ -7,7 +7,10 @@
 #include "kelindap_store.h"
 #include "lent.h"
 
-enum { MOST_SHEET = 16384, MOST_STORE = KELINDAP_STORE_MOST, ROUNDS = 200000 };
+#ifndef ROUNDS
+#define ROUNDS 200000
+#endif
+enum { MOST_SHEET = 16384, MOST_STORE = KELINDAP_STORE_MOST };
 
 /* ---- plain versions of the calls ---- */
 

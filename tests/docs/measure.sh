@@ -25,6 +25,29 @@ missing=()
     done
 } > "$out/plain"
 
+# Linux's processors: their libraries, and the stack where their programs run here
+of() { make --no-print-directory -s PROCESSOR="$processor" "$@" > /dev/null; }
+{
+    echo "| Processor | libkelindap_device.a | libkelindap_pdu.a | Stack of a request |"
+    echo "|---|---|---|---|"
+    while read -r processor _; do
+        folder=build/$processor
+        [ "$processor" != "$(mk/bin/processor)" ] || folder=build
+        of native
+        taken='?'
+        if mk/bin/can "$processor" > /dev/null; then
+            of "$folder/stack"
+            taken=$("$folder/stack" | sed -n 's/.*kelindap_request *\([0-9]*\) bytes$/\1/p')
+        fi
+        # shellcheck disable=SC2016 # the marks are the document's
+        printf '| `%s` |' "$processor"
+        for archive in libkelindap_device.a libkelindap_pdu.a; do
+            size "$folder/$archive" | awk 'NR > 1 { n += $1 + $2 } END { n = n + 0; printf " %s |", n < 1000 ? n : int(n / 1000) sprintf(",%03d", n % 1000) }'
+        done
+        echo " $taken |"
+    done < <(grep '^[a-z]' mk/processors)
+} > "$out/linux"
+
 # instructions of requests: sheet, request and columns
 if [ "$(uname -m)" = x86_64 ] && command -v valgrind > /dev/null; then
     if [ -n "$times" ]; then "$bench"; else "$bench" --instructions; fi | sed 1d > "$out/bench.rows"

@@ -23,7 +23,9 @@ def hold(what, got, due):
         wrong.append(f"{what} is {got}, not {due}")
 
 
-for name, size in re.findall(r"SIZE\((kelindap_\w+), (.*?)\) \\", facts):
+sizes = re.findall(r"SIZE\((kelindap_\w+), (.*?)\) \\", facts)
+hold("structures", sorted(structures), sorted(name for name, _ in sizes))
+for name, size in sizes:
     hold(name, ctypes.sizeof(structures[name]), eval(size, places))
 for name, field, size, offset in re.findall(r"FIELD\((kelindap_\w+), (\w+), (.*?), (.*?)\) \\", facts):
     place = getattr(structures[name], field)
