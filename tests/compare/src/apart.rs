@@ -7,12 +7,13 @@
 //! outcome and answer, whatever its buffer held before, and after every event sheet
 //! and the tool's session are the same in both.
 
-use model::device::{Session, Sessions};
+use model::device::Sessions;
 use model::faults::Fault;
 use model::gen::{self, stores, Ask, Event, Rng, Tools};
 use model::matrix;
 
-use crate::play::{Play, World, REQUEST};
+use crate::pairs::{alike, received, seen, start, Seen};
+use crate::play::{Play, World};
 use crate::{Bridge, FAULT_EVENTS};
 
 /// What happens in both runs, or in the run of that number alone.
@@ -30,61 +31,6 @@ struct Pair {
     tool: usize,
     steps: Vec<Step>,
     replies: [Vec<u8>; 2],
-}
-
-/// What is seen of an event: outcome and answer, the tool's session and the sheet afterwards,
-/// if the reply tells them.
-#[derive(PartialEq)]
-struct Seen {
-    outcome: u8,
-    answer: Vec<u8>,
-    session: Option<[u8; 2]>,
-    sheet: Option<[u8; 8]>,
-}
-
-/// The same of a call on the store, whose number and bytes count as its answer.
-fn seen_of_store(play: &Play, tool: usize, replies: &mut &[u8]) -> Option<Seen> {
-    let front = match play {
-        Play::Save => 3,
-        Play::Restore(..) => 5,
-        _ => 1,
-    };
-    let sheet = if matches!(play, Play::Remove(_)) { 0 } else { 8 };
-    let (reply, rest) = replies.split_at_checked(front + sheet + 8)?;
-    *replies = rest;
-    let session = (front == 5).then(|| [reply[1 + 2 * tool], reply[2 + 2 * tool]]);
-    let mut answer = reply[front + sheet..].to_vec();
-    if front == 3 {
-        answer.extend(&reply[1..3]);
-    }
-    let sheet = reply[front..front + sheet].try_into().ok();
-    Some(Seen { outcome: reply[0], answer, session, sheet })
-}
-
-/// Takes the reply to a play off the front; none if there is none, or the buffer is changed
-/// past the answer.
-fn seen(play: &Play, tool: usize, replies: &mut &[u8]) -> Option<Seen> {
-    if play.on_store() {
-        return seen_of_store(play, tool, replies);
-    }
-    let found: &[u8] = match play {
-        Play::Request(ask) => &ask.buffer,
-        _ => &[],
-    };
-    let request = matches!(play, Play::Request(_));
-    let front = if request { REQUEST } else { REQUEST - 1 }; // the others tell no count
-    let (reply, rest) = replies.split_at_checked(front + found.len() + 8)?;
-    *replies = rest;
-    let count = if request { reply[1] as usize } else { 0 };
-    let (head, buffer) = reply[..reply.len() - 8].split_at(front);
-    let session = head[front - 4 + 2 * tool..][..2].try_into().unwrap();
-    let (answer, behind) = buffer.split_at_checked(count)?;
-    (behind == &found[count..]).then(|| Seen {
-        outcome: reply[0],
-        answer: answer.to_vec(),
-        session: Some(session),
-        sheet: reply[reply.len() - 8..].try_into().ok(),
-    })
 }
 
 /// Whether an event is the other tool's: it names that connection.
@@ -105,15 +51,6 @@ fn unconnected(ask: &Ask) -> bool {
 /// Whether an event may be the other tool's: it is, or it is a request that names no connection.
 fn may_be_of(other: usize, event: &Event) -> bool {
     is_of(other, event) || matches!(event, Event::Request(ask) if unconnected(ask))
-}
-
-/// The event with other bytes in its buffer, of the same number.
-fn alike(rng: &mut Rng, play: &Play) -> Play {
-    let mut other = play.clone();
-    if let Play::Request(ask) = &mut other {
-        ask.buffer = rng.bytes(ask.buffer.len());
-    }
-    other
 }
 
 struct Maker {
@@ -220,10 +157,7 @@ impl Step {
 
 impl Pair {
     fn start(&self) -> Vec<Play> {
-        let found =
-            (0..).zip(self.sessions).map(|(c, session): (u8, Session)| Play::Found(c, session));
-        let lent = [Play::Sheet(self.sheet.clone()), Play::Store(self.store.clone())];
-        lent.into_iter().chain(found).collect()
+        start(&self.sheet, &self.store, self.sessions)
     }
 
     fn wire(&self, run: usize) -> Vec<u8> {
@@ -240,24 +174,25 @@ impl Pair {
         let mut session = [found.open as u8, found.level];
         let mut sheet = crate::play::hash(&self.sheet).to_le_bytes();
         for (i, step) in self.steps.iter().enumerate() {
-            let mut see = |run: usize, play| seen(play, self.tool, &mut replies[run]);
+            let mut see = |run: usize, play| seen(play, &mut replies[run]);
             match step {
                 Step::Both([first, second]) => {
                     let (Some(one), Some(two)) = (see(0, first), see(1, second)) else {
                         return Some(i);
                     };
-                    if one != two {
+                    let left = |seen: &Seen| (seen.session(self.tool), seen.sheet);
+                    if !one.told_as(&two) || left(&one) != left(&two) {
                         return Some(i);
                     }
                     tally.shared += 1;
                     tally.answered += usize::from(!one.answer.is_empty());
                     tally.versions += usize::from(first.on_store());
-                    session = one.session.unwrap_or(session);
+                    session = one.session(self.tool).unwrap_or(session);
                     sheet = one.sheet.unwrap_or(sheet);
                 }
                 Step::Alone(run, play) => {
                     let Some(seen) = see(*run, play) else { return Some(i) };
-                    if (seen.session, seen.sheet) != (Some(session), Some(sheet)) {
+                    if (seen.session(self.tool), seen.sheet) != (Some(session), Some(sheet)) {
                         return Some(i);
                     }
                     tally.alone += 1;
@@ -323,12 +258,8 @@ pub fn apart(program: &str, events: usize, seed: u64) -> bool {
         for (run, bridge) in bridges.iter().enumerate() {
             bridge.send(pair.wire(run));
         }
-        let mut got = [Vec::new(), Vec::new()];
-        for (got, (bridge, due)) in got.iter_mut().zip(bridges.iter_mut().zip(&pair.replies)) {
-            let start = 9 + 9 + 2 * 4; // the replies to sheet, store and sessions
-            *got = bridge.receive(start + due.len());
-            got.drain(..start.min(got.len()));
-        }
+        let due = pair.replies.each_ref().map(Vec::len);
+        let got: [Vec<u8>; 2] = std::array::from_fn(|run| received(&mut bridges[run], due[run]));
         tally.runs += 1;
         if let Some(at) = pair.differs([&got[0], &got[1]], &mut tally) {
             pair.show(at);

@@ -3,6 +3,7 @@
 //!     compare BRIDGE [EVENTS [SEED]]     plays the events on both sides
 //!     compare BRIDGE --faults [SEED]     the model's faults are each found
 //!     compare BRIDGE --apart [EVENTS [SEED]]   what one tool does is nothing to the other
+//!     compare BRIDGE --learn [EVENTS [SEED]]   secret bytes are told by nothing
 //!     compare BRIDGE --scripts NAME..    scripts of the desk unit, NAME.in and NAME.out
 //!     compare --times BRIDGE..           instructions of each request, of boards that count them
 //!
@@ -15,7 +16,9 @@
 
 mod apart;
 mod flat;
+mod learn;
 mod make;
+mod pairs;
 mod play;
 mod script;
 mod shrink;
@@ -358,9 +361,12 @@ fn main() -> ExitCode {
         [program, word, rest @ ..] if word == "--faults" && rest.len() <= 1 => {
             seed(rest.first()).map(|seed| faults(Side { program, device_alone }, seed))
         }
-        [program, word, rest @ ..] if word == "--apart" && rest.len() <= 2 => {
+        [program, word, rest @ ..]
+            if (word == "--apart" || word == "--learn") && rest.len() <= 2 =>
+        {
+            let play = if word == "--apart" { apart::apart } else { learn::learn };
             let events = rest.first().map_or(Some(EVENTS / 10), |w| w.parse().ok());
-            events.zip(seed(rest.get(1))).map(|(events, seed)| apart::apart(program, events, seed))
+            events.zip(seed(rest.get(1))).map(|(events, seed)| play(program, events, seed))
         }
         [program, rest @ ..] if rest.len() <= 2 => {
             let events = rest.first().map_or(Some(EVENTS), |w| w.parse().ok());
@@ -376,7 +382,10 @@ fn main() -> ExitCode {
             eprintln!(
                 "usage: compare [--device] BRIDGE [EVENTS [SEED]], .. BRIDGE --faults [SEED],"
             );
-            eprintln!("       .. BRIDGE --apart [EVENTS [SEED]], .. BRIDGE --scripts NAME.., .. --times BRIDGE..");
+            eprintln!(
+                "       .. BRIDGE --apart [EVENTS [SEED]], .. BRIDGE --learn [EVENTS [SEED]],"
+            );
+            eprintln!("       .. BRIDGE --scripts NAME.., .. --times BRIDGE..");
             ExitCode::from(2)
         }
     }

@@ -71,6 +71,16 @@ pub enum Fault {
     NumberAlwaysRead,
     /// A connectionless request puts the connection that it happens to name to level 3.
     UnconnectedTakesLevel,
+    /// A denied read of memory has the byte in place of the address's low byte.
+    DenialTellsByte,
+    /// A read of memory is denied with 12 and no answer where the byte is below 64.
+    DeniesLowOtherwise,
+    /// A property write is answered with what stood there before.
+    WriteTellsOld,
+    /// A description has a byte of the body in place of the levels.
+    DescriptionTellsByte,
+    /// A count stored leaves off the last element if its first byte is below 64.
+    CountFollowsBody,
     /// A save gives the last number once more, so the first is 0.
     NumbersFromZero,
     /// A save counts its room without the new entry.
@@ -107,7 +117,7 @@ pub enum Fault {
 
 impl Fault {
     /// Those of the device.
-    pub const ALL: [Fault; 34] = [
+    pub const ALL: [Fault; 39] = [
         Fault::StoreFirst,
         Fault::LevelsReversed,
         Fault::WrongKeyKeepsLevel,
@@ -142,6 +152,11 @@ impl Fault {
         Fault::UnknownConnects,
         Fault::NumberAlwaysRead,
         Fault::UnconnectedTakesLevel,
+        Fault::DenialTellsByte,
+        Fault::DeniesLowOtherwise,
+        Fault::WriteTellsOld,
+        Fault::DescriptionTellsByte,
+        Fault::CountFollowsBody,
     ];
 
     /// Those of the calls on a store of versions.
@@ -173,6 +188,16 @@ impl Fault {
         Fault::BetterLevelCounts,
         Fault::UnconnectedTakesLevel,
         Fault::RestoresByEither,
+    ];
+
+    /// Those by which a tool learns of a byte that it may not read.
+    pub const TELLING: [Fault; 6] = [
+        Fault::BitWriteWithoutRead,
+        Fault::DenialTellsByte,
+        Fault::DeniesLowOtherwise,
+        Fault::WriteTellsOld,
+        Fault::DescriptionTellsByte,
+        Fault::CountFollowsBody,
     ];
 }
 

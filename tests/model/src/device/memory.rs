@@ -152,9 +152,16 @@ impl<const ON: bool> Asked<'_, ON> {
 
     pub(super) fn memory_read(self, memory: Memory, n: u8, address: u16) -> Reply {
         let n = if self.is(Fault::ExtensionIgnored) { n & 15 } else { n };
-        match self.range(memory, n, address).filter(|range| self.readable(range)) {
-            Some(range) => range.told(self.sheet, memory, address, self.answer),
-            None => reply(11, response(memory, 0, address), &[], self.answer),
+        if let Some(range) = self.range(memory, n, address).filter(|range| self.readable(range)) {
+            return range.told(self.sheet, memory, address, self.answer);
+        }
+        let held = byte(self.sheet, memory, address.into()).map(|b| self.sheet[b.at as usize]);
+        match held {
+            Some(b) if b < 64 && self.is(Fault::DeniesLowOtherwise) => silent(12),
+            Some(b) if self.is(Fault::DenialTellsByte) => {
+                reply(11, response(memory, 0, address & 0xFF00 | u16::from(b)), &[], self.answer)
+            }
+            _ => reply(11, response(memory, 0, address), &[], self.answer),
         }
     }
 

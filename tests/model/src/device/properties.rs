@@ -55,6 +55,12 @@ impl<const ON: bool> Asked<'_, ON> {
             }
         });
         let allowed = plan.as_ref().is_some_and(|(p, ..)| p.writable() && self.may(p.write()));
+        let told = match &plan {
+            Some((_, Some(part))) if self.is(Fault::WriteTellsOld) => {
+                self.sheet[part.clone()].to_vec()
+            }
+            _ => self.data.to_vec(),
+        };
         if let Some((p, part)) = plan {
             if (allowed || self.is(Fault::StoreFirst)) && !self.is(Fault::AnswersOnly) {
                 let count = if self.is(Fault::InventsCount) {
@@ -73,10 +79,15 @@ impl<const ON: bool> Asked<'_, ON> {
                     }
                     self.sheet[part].copy_from_slice(self.data);
                 }
+                if self.is(Fault::CountFollowsBody) && count > 0 {
+                    let last = p.body + (count as usize - 1) * p.size;
+                    let count = count - u16::from(self.sheet[last] < 64);
+                    self.sheet[p.entry + 6..p.entry + 8].copy_from_slice(&count.to_be_bytes());
+                }
             }
         }
-        let (outcome, n, stored) = if allowed { (0, n, self.data) } else { (11, 0, &[][..]) };
-        reply(outcome, Pdu::PropertyResponse { object, id, n, s }, stored, self.answer)
+        let (outcome, n, told) = if allowed { (0, n, &told[..]) } else { (11, 0, &[][..]) };
+        reply(outcome, Pdu::PropertyResponse { object, id, n, s }, told, self.answer)
     }
 
     pub(super) fn description_read(self, object: u8, id: u8, index: u8) -> Reply {
@@ -93,7 +104,11 @@ impl<const ON: bool> Asked<'_, ON> {
                     index: i,
                     kind: p.kind,
                     maximum: p.maximum,
-                    access: p.levels,
+                    access: if self.is(Fault::DescriptionTellsByte) {
+                        self.sheet[p.body]
+                    } else {
+                        p.levels
+                    },
                 },
             ),
             None => {
