@@ -64,6 +64,11 @@ awk -v answers="$work/answers" -v fields="$work/fields" -v changes="$work/change
             while ((getline line < changes) > 0 && line != ".") change(line)
             next
         }
+        if ($1 == "sheet") {
+            ask("a sheet of " length($2) / 2 " bytes")
+            getline line < changes
+            next
+        }
         if ($1 == "request") {
             ask(told() ($2 == 3 ? ", on connection " $6 : ""))
             reply = told()

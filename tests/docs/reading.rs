@@ -58,6 +58,11 @@ const PARTS: &[Part] = &[
         statements: &["history/shut", "keyless", "keyless-run", "locked"],
     },
     Part { title: "`isolated`", says: "what one tool sees does not depend on the other", statements: &["isolated"] },
+    Part {
+        title: "`unlearned`",
+        says: "without the key nobody learns a protected byte",
+        statements: &["unlearned", "keyless-blind"],
+    },
 ];
 
 /// Where reading stops: a definition, why it need not be read, and the theorems that are read in its place.
