@@ -12,7 +12,7 @@ use Rattle.octets.specs.Splice.{splice}
 use Rattle.octets.proofs.Splices.{splice-front, splice-more, splice-none, length-splice}
 use Rattle.sheet.specs.Layout.{_of_}
 use Rattle.device.specs.Events.{Effect, State, requestOf}
-use Rattle.events.specs.Events.{Event, connect, disconnect, button, request, eventOf, after, run}
+use Rattle.events.specs.Events.{Event, connect, disconnect, button, request, restore, eventOf, after, run}
 use Rattle.device.specs.Sessions.{sessionFor}
 use Rattle.device.specs.declared.Sessions.{Sessions}
 use Rattle.device.specs.declared.Done.{Done}
@@ -40,6 +40,7 @@ short x (connect c) = omega arith
 short x (disconnect c) = omega arith
 short x (button on) = omega arith
 short x (request mode c group a out) = at-most-16 (length out) (x .sheet) (sessionFor (x .sessions) mode c) mode group a
+short x (restore c n st) = omega arith
 
 abbrev zeros : ℕ → List ℕ
 zeros n = replicate n 0

@@ -20,7 +20,7 @@ use Rattle.sheet.specs.Layout.{_of_}
 use Rattle.sheet.proofs.Demands.{unbroken}
 use Rattle.sheet.proofs.First.{first-none, first-more}
 use Rattle.device.specs.Octets.{Octets}
-use Rattle.events.specs.Events.{Event, connect, disconnect, button, request}
+use Rattle.events.specs.Events.{Event, connect, disconnect, button, request, restore}
 use Rattle.playback.specs.Entry as entry
 use Rattle.playback.specs.Trace.{head, events, count, place, blank, entryOf, eventBy, eventIn, eventAt, eventsFrom, traceOf}
 use Rattle.playback.specs.Rules.{reached, headDemands, stray, eventDemands, endDemands, headRule, eventRule, walkRule, refusalOf, Playable}
@@ -63,6 +63,7 @@ eight z (disconnect c) = refl
 eight z (button true) = refl
 eight z (button false) = refl
 eight z (request mode c group a out) = refl
+eight z (restore c n st) = refl
 
 -- which say it, and keep the rules, if it is one that an entry can say
 record Said (t : List ℕ) (z : ℕ) (e : Event) (x : List ℕ) : Type 0 where
@@ -83,6 +84,7 @@ module _ (t : List ℕ) (z : ℕ) (small : z < 65536) where
   said (disconnect c) h w a = silent (disconnect c) 2 (c * 16) (omega arith) (omega arith) (omega arith) (omega arith) (ap disconnect (omega arith)) refl
   said (button true) h w a = silent (button true) 3 0 (omega arith) (omega arith) (omega arith) (omega arith) refl refl
   said (button false) h w a = silent (button false) 4 0 (omega arith) (omega arith) (omega arith) (omega arith) refl refl
+  said (restore c n st) h w e = absurd h
   said (request mode c group a out) h w e =
       let f = fields-back 0 (c * 16 + mode) group z (length a) (omega arith) (omega (arith, h .0, h .1)) (h .2) small (h .3) in
       let m : (c * 16 + mode) % 16 ≡ mode = omega (arith, h .0) in

@@ -7,7 +7,7 @@ use mathlib.Core.List.{List, [], _∷_, _++_}
 use lib.ListN.{length}
 use Rattle.octets.specs.Bytes.{bytesOf}
 use Rattle.sheet.specs.Layout.{Field}
-use Rattle.events.specs.Events.{Event, connect, disconnect, button, request}
+use Rattle.events.specs.Events.{Event, connect, disconnect, button, request, restore}
 use Rattle.playback.specs.Entry as entry
 use Rattle.playback.specs.Trace.{events, place, blank}
 
@@ -23,14 +23,16 @@ apdu (connect c) = []
 apdu (disconnect c) = []
 apdu (button on) = []
 apdu (request mode c group a out) = a
+apdu (restore c n st) = []
 
--- the numbers of an event's entry in the order of its table, the APDU beginning at z
+-- the numbers of an event's entry in the order of its table, the APDU beginning at z; no entry says a restore
 abbrev pub numbersOf : ℕ → Event → List ℕ
 numbersOf z (connect c) = 1 ∷ (c * 16) ∷ 0 ∷ z ∷ 0 ∷ 0 ∷ []
 numbersOf z (disconnect c) = 2 ∷ (c * 16) ∷ 0 ∷ z ∷ 0 ∷ 0 ∷ []
 numbersOf z (button true) = 3 ∷ 0 ∷ 0 ∷ z ∷ 0 ∷ 0 ∷ []
 numbersOf z (button false) = 4 ∷ 0 ∷ 0 ∷ z ∷ 0 ∷ 0 ∷ []
 numbersOf z (request mode c group a out) = 0 ∷ (c * 16 + mode) ∷ group ∷ z ∷ length a ∷ 0 ∷ []
+numbersOf z (restore c n st) = 0 ∷ 0 ∷ 0 ∷ z ∷ 0 ∷ 0 ∷ []
 
 unfoldable pub entriesFor : ℕ → List Event → List ℕ
 entriesFor z [] = []
@@ -50,6 +52,7 @@ CanSay (connect c) = c < 16
 CanSay (disconnect c) = c < 16
 CanSay (button on) = Unit {0}
 CanSay (request mode c group a out) = (mode < 16) × (c < 16) × (group < 65536) × (length a < 256) × (out ≡ blank)
+CanSay (restore c n st) = ⊥
 
 -- and each APDU begins at a number of two bytes, the first at z
 abbrev pub CanSayAll : ℕ → List Event → Type 0
