@@ -9,6 +9,7 @@
 #include "kelindap_frame.h"
 #include "kelindap_pdu.h"
 #include "kelindap_store.h"
+#include "kelindap_trace.h"
 
 /* Each outcome by number, with its name in enum kelindap_outcome, 44 and 45 in enum kelindap_event, and its words. */
 #define KELINDAP_OUTCOMES(X)                                      \
@@ -52,6 +53,19 @@
     X(36, STORE_OTHER, "the version is of another sheet")         \
     X(37, STORE_HIGH_COUNT, "the version has too high a count")
 
+/* Each refusal of a trace, with its name in enum kelindap_trace_refusal. */
+#define KELINDAP_TRACE_REFUSALS(X)                              \
+    X(50, TRACE_SHORT, "too short for a trace")                 \
+    X(51, TRACE_MANY, "too many events")                        \
+    X(52, TRACE_TABLE, "the table does not fit")                \
+    X(53, TRACE_KIND, "an unknown kind of event")               \
+    X(54, TRACE_STRAY, "a length of an event that has none")    \
+    X(55, TRACE_ZERO, "an entry's last byte is not zero")       \
+    X(56, TRACE_OFFSET, "an offset other than the end before")  \
+    X(57, TRACE_PAST_END, "an APDU past the end of the trace")  \
+    X(58, TRACE_LEFT_OVER, "bytes behind the last APDU")        \
+    X(59, TRACE_LOG, "the log is too short")
+
 /* Each rule of a sheet by number, with its name in enum kelindap_rule and what breaks it. */
 #define KELINDAP_RULES(X)                                                  \
     X(1, S1, "not 32 to 16,384 bytes")                                     \
@@ -63,17 +77,6 @@
     X(7, S7, "a property against its rules")                               \
     X(8, S8, "a group object against its rules")                           \
     X(9, S9, "bodies with a gap, an overlap, or a six-bit value above 63")
-
-/* Each outcome that the calls on a store of versions alone have, with its name in enum kelindap_store_outcome. */
-#define KELINDAP_STORE_OUTCOMES(X)                                \
-    X(30, STORE_BAD, "the store is not a good one")               \
-    X(31, STORE_NO_NUMBER, "the last number has been given")      \
-    X(32, STORE_NO_PLACE, "as many versions are kept as can be")  \
-    X(33, STORE_NO_ROOM, "no room in the store")                  \
-    X(34, STORE_NOT_KEPT, "no such version is kept")              \
-    X(35, STORE_NOT_AT_ZERO, "not open at level 0")               \
-    X(36, STORE_OTHER, "the version is of another sheet")         \
-    X(37, STORE_HIGH_COUNT, "the version has too high a count")
 
 /* Each kind by number, with its name in enum kelindap_kind and its name at the desk unit. */
 #define KELINDAP_KINDS(X)                               \
@@ -115,6 +118,7 @@ static inline const char *kelindap_outcome_name(uint8_t outcome)
         return text;
         KELINDAP_OUTCOMES(KELINDAP_CASE)
         KELINDAP_STORE_OUTCOMES(KELINDAP_CASE)
+        KELINDAP_TRACE_REFUSALS(KELINDAP_CASE)
     default:
         return "no outcome";
     }

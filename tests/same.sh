@@ -73,14 +73,14 @@ sed -n 's/^\([a-z_]*\): */\1 /p' crates.txt | awk -v order="$(tr '\n' ' ' <<< "$
     END { exit bad }' || bad=1
 
 # every outcome that a header has by name has words in kelindap_names.h
-for name in $(awk '/^enum kelindap_[a-z_]*outcome/ { on = 1; next } /^}/ { on = 0 } on && /^ *KELINDAP_/ { print $1 }' include/*.h |
+for name in $(awk '/^enum kelindap_[a-z_]*(outcome|refusal)/ { on = 1; next } /^}/ { on = 0 } on && /^ *KELINDAP_/ { print $1 }' include/*.h |
     grep -vx KELINDAP_OK); do
     grep -q " ${name#KELINDAP_}, \"" include/kelindap_names.h || { echo "same: $name has no words in kelindap_names.h"; bad=1; }
 done
 
 # the libraries that the headers name are made
 for library in $(grep -ohE 'lib[a-z_]+\.a' include/*.h | sort -u); do
-    grep -q "^build/$library:" mk/hosts.mk || { echo "same: a header names $library, which is not made"; bad=1; }
+    grep -q "^[A-Z_]* := \$(BUILD)/$library\$" mk/native.mk || { echo "same: a header names $library, which is not made"; bad=1; }
 done
 
 # the last version in CHANGELOG.md is that of the headers; a licence that is not there is not there in README either
