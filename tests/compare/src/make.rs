@@ -6,6 +6,7 @@ use model::device::Session;
 use model::gen::{self, stores, Ask, Event, Rng, Tools};
 use model::matrix;
 use model::sheet::{self, Memory};
+use model::store;
 
 use crate::flat::Flat;
 use crate::play::{Play, World};
@@ -251,7 +252,15 @@ impl Maker {
     }
 
     fn versions(&mut self, world: &World) {
+        // what is refused for sheet or store alone is not played for long
+        if sheet::check(&world.sheet) != 0 && self.rng.chance(30) {
+            return self.open_versions();
+        }
         let rng = &mut self.rng;
+        if store::check(&world.store) != 0 && rng.chance(40) {
+            let store = stores::store(rng, &world.sheet);
+            return self.push(Play::Store(store));
+        }
         let number = stores::number(rng, &world.store);
         let play = match rng.below(100) {
             0..=21 => Play::Save,

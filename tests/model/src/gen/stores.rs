@@ -55,16 +55,16 @@ fn body(rng: &mut Rng, sheet: &[u8]) -> Vec<u8> {
     }
     let mut body = if rng.chance(25) { store::settings(sheet) } else { varied(rng, sheet) };
     match rng.below(16) {
-        0 | 1 => raise_count(rng, &mut body),
-        2 | 3 => turn_bit(rng, &mut body),
-        4 => {
+        0..=2 => raise_count(rng, &mut body),
+        3 | 4 => turn_bit(rng, &mut body),
+        5 => {
             // both faults: the entries are judged first
             raise_count(rng, &mut body);
             turn_bit(rng, &mut body);
         }
-        5 => body.push(rng.byte()),
-        6 => drop(body.pop()),
-        7 => body[rng.below(2)] ^= 1,
+        6 => body.push(rng.byte()),
+        7 => drop(body.pop()),
+        8 => body[rng.below(2)] ^= 1,
         _ => {}
     }
     body
