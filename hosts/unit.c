@@ -7,6 +7,7 @@
 #include "kelindap_names.h"
 #include "kelindap_pdu.h"
 #include "kelindap_store.h"
+#include "kelindap_trace.h"
 
 #include <inttypes.h>
 #include <stdarg.h>
@@ -22,6 +23,8 @@ typedef struct run {
 typedef struct device {
     run sheet;
     run store;
+    run trace;
+    size_t played; /* events of the trace */
     kelindap_sessions sessions;
 } device;
 
@@ -189,7 +192,7 @@ static void set_run(run *place, run r)
     if (r.length > 0) {
         copy = malloc(r.length);
         if (copy == NULL)
-            give_up("no memory for sheet and store");
+            give_up("no memory for the bytes");
         memcpy(copy, r.bytes, r.length);
     }
     free(place->bytes);
@@ -294,6 +297,10 @@ static bool do_request(device *d, char **words, size_t count)
 /* ---- versions ---- */
 
 #include "unit_store.h"
+
+/* ---- traces ---- */
+
+#include "unit_trace.h"
 
 /* ---- lookups ---- */
 
@@ -764,6 +771,8 @@ static const struct command {
     { "save", "save", 0, 0, do_save },
     { "restore", "restore C NUMBER", 2, 2, do_restore },
     { "remove", "remove NUMBER", 1, 1, do_remove },
+    { "trace", "trace HEX", 1, 1, do_trace },
+    { "play", "play LIMIT", 1, 1, do_play },
     { "lookup", lookups, 2, 3, do_lookup },
     { "read", "read APDUHEX", 1, 1, do_read },
     { "write", "write KIND field=value .. BUFHEX", 2, MOST_WORDS - 1, do_write },
@@ -844,5 +853,6 @@ int main(int argc, char **argv)
     free(l.text);
     free(d.sheet.bytes);
     free(d.store.bytes);
+    free(d.trace.bytes);
     return EXIT_SUCCESS;
 }

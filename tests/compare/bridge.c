@@ -17,6 +17,8 @@
  *   a                                        saves a version                  OUTCOME NUMBER2 HASH8 STOREHASH8
  *   o C NUMBER8                              restores one                     OUTCOME SESSIONS HASH8 STOREHASH8
  *   e NUMBER8                                removes one                      OUTCOME STOREHASH8
+ *   Y LENGTH4 BYTES                          sets the trace                   REFUSAL
+ *   y FROM8 LIMIT8 LENGTH4 LOG               plays events of it               REFUSAL HANDLED2 SESSIONS LOG HASH8
  *   D, E                                     shows the sheet, the store       BYTES
  *   t TIMES4 MODE C GROUP2 APDU BUFFER       so many requests, on a board     INSTRUCTIONS8
  *   T TIMES4                                 so many checks, on a board       INSTRUCTIONS8
@@ -29,6 +31,7 @@
 #define _POSIX_C_SOURCE 200809L
 #include "kelindap.h"
 #include "kelindap_store.h"
+#include "kelindap_trace.h"
 
 #ifdef BOARD /* a controller's processor alone: no C library but the little of it that is used here, no PDU layer */
 #include "board.h"
@@ -43,9 +46,9 @@
 /* ---- the pipes ---- */
 
 #ifdef SMALL /* a board with 16 KB of memory */
-enum { PIPE = 1 << 11, SHEET = 1 << 11, STORE = 1 << 9, RUN = 63 };
+enum { PIPE = 1 << 11, SHEET = 1 << 11, STORE = 1 << 9, TRACE = 1 << 10, LOG = 1 << 10, RUN = 63 };
 #else
-enum { PIPE = 1 << 16, SHEET = 1 << 17, STORE = 1 << 16, RUN = 1023 };
+enum { PIPE = 1 << 16, SHEET = 1 << 17, STORE = 1 << 16, TRACE = 1 << 18, LOG = 1 << 14, RUN = 1023 };
 #endif
 static uint8_t in[PIPE];
 static size_t in_at, in_end;
@@ -181,8 +184,8 @@ static lent take_run(uint8_t *room, size_t most, size_t bytes)
 }
 
 static uint8_t sheet_room[GUARD + SHEET + GUARD], apdu_room[GUARD + RUN + GUARD], answer_room[GUARD + RUN + GUARD];
-static uint8_t store_room[GUARD + STORE + GUARD];
-static lent sheet, store;
+static uint8_t store_room[GUARD + STORE + GUARD], trace_room[GUARD + TRACE + GUARD], log_room[GUARD + LOG + GUARD];
+static lent sheet, store, trace;
 static struct {
     uint8_t below[GUARD];
     kelindap_sessions sessions;
@@ -288,8 +291,8 @@ static void request(void)
 
 /* ---- versions ---- */
 
-/* A number that a size can't hold counts as the largest it can, which nobody keeps. */
-static size_t version(void)
+/* A number that a size can't hold counts as the largest it can: no version has it, no trace so many events. */
+static size_t whole(void)
 {
     uint64_t k = number(8);
     return k < SIZE_MAX ? (size_t)k : SIZE_MAX;
@@ -314,14 +317,32 @@ static void save(void)
 static void restore(void)
 {
     uint8_t connection = byte();
-    give_outcome(kelindap_restore(sessions, connection, given(sheet), sheet.length, given(store), store.length, version()));
+    give_outcome(kelindap_restore(sessions, connection, given(sheet), sheet.length, given(store), store.length, whole()));
     give_hash_of(store);
 }
 
 static void take_out(void)
 {
-    give_number(kelindap_remove(given(store), store.length, version()), 1);
+    give_number(kelindap_remove(given(store), store.length, whole()), 1);
     give_hash_of(store);
+}
+
+/* ---- traces ---- */
+
+static void play_trace(void)
+{
+    size_t from = whole();
+    size_t limit = whole();
+    lent log = take_run(log_room, LOG, 4);
+    kelindap_played played = kelindap_play(&sessions, given(sheet), sheet.length, given(trace), trace.length, from, limit,
+                                           given(log), log.length);
+    guarded(trace);
+    guarded(log);
+    give_number(played.refusal, 1);
+    give_number(played.handled, 2);
+    give_sessions();
+    give(log.bytes, log.length);
+    give_hash();
 }
 
 #ifndef BOARD
@@ -517,6 +538,13 @@ static void play(uint8_t command)
     case 'e':
         take_out();
         break;
+    case 'Y':
+        trace = take_run(trace_room, TRACE, 4);
+        give_number(kelindap_trace_check(given(trace), trace.length), 1);
+        break;
+    case 'y':
+        play_trace();
+        break;
     case 'E':
         give(store.bytes, store.length);
         break;
@@ -532,6 +560,7 @@ int main(void)
 {
     sheet = lend(sheet_room, 0);
     store = lend(store_room, 0);
+    trace = lend(trace_room, 0);
     lend((uint8_t *)&session_room, sizeof sessions);
     sessions = kelindap_fresh();
     while (in_at < in_end || fill())

@@ -93,8 +93,10 @@ static void say_number(uint32_t n)
 
 void tell_deepest(void)
 {
-    static const char *const names[CALLS] = { "fresh",  "connect", "disconnect",  "button",      "request", "check",   "property",
-                                              "region", "group",   "user_region", "store_check", "save",    "restore", "remove" };
+    static const char *const names[CALLS] = {
+        "fresh", "connect",     "disconnect",  "button", "request", "check",  "property",    "region",
+        "group", "user_region", "store_check", "save",   "restore", "remove", "trace_check", "play",
+    };
     say("painted");
     for (int i = 0; i < CALLS; i++) {
         say(" ");

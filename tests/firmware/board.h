@@ -43,6 +43,8 @@ enum call {
     CALL_save,
     CALL_restore,
     CALL_remove,
+    CALL_trace_check,
+    CALL_play,
     CALLS
 };
 
@@ -109,6 +111,8 @@ static inline __attribute__((always_inline)) void measure_below(enum call call)
 #define kelindap_save(...) MEASURED(save, __VA_ARGS__)
 #define kelindap_restore(...) MEASURED(restore, __VA_ARGS__)
 #define kelindap_remove(...) MEASURED(remove, __VA_ARGS__)
+#define kelindap_trace_check(...) MEASURED(trace_check, __VA_ARGS__)
+#define kelindap_play(...) MEASURED(play, __VA_ARGS__)
 
 /* ---- how many instructions it takes ---- */
 

@@ -67,7 +67,8 @@ impl Maker {
         let tool = rng.below(2);
         let store = stores::store(rng, &sheet);
         let fault = self.fault;
-        let world = World { sheet: sheet.clone(), store: store.clone(), sessions, fault };
+        let (lent, trace) = ((sheet.clone(), store.clone()), Vec::new());
+        let world = World { sheet: lent.0, store: lent.1, trace, sessions, fault };
         let mut worlds = [world.clone(), world];
         let mut tools = Tools::new(&sheet);
         let (steps, replies) = (Vec::new(), [Vec::new(), Vec::new()]);

@@ -12,7 +12,8 @@
 //! BRIDGE is the program of bridge.c. Everything it replies is compared: the
 //! rule of each sheet, outcome, count, both sessions, the whole answer buffer and a
 //! hash of the whole sheet after each event, lookups, PDUs read and written, and of
-//! the calls on a store of versions a hash of the whole store as well.
+//! the calls on a store of versions a hash of the whole store as well; of a trace that
+//! is played in pieces the whole log.
 
 mod apart;
 mod flat;
@@ -223,12 +224,13 @@ fn single(bridge: &mut Bridge, before: &World, play: &Play) -> (Vec<u8>, Vec<u8>
     let mut wire = Vec::new();
     Play::Sheet(before.sheet.clone()).send(&mut wire);
     Play::Store(before.store.clone()).send(&mut wire);
+    Play::Trace(before.trace.clone()).send(&mut wire);
     for (c, session) in (0..).zip(before.sessions) {
         Play::Found(c, session).send(&mut wire);
     }
     play.send(&mut wire);
     bridge.send(wire);
-    let skip = 9 + 9 + 2 * 4; // the replies to sheet, store and sessions
+    let skip = 9 + 9 + 1 + 2 * 4; // the replies to sheet, store, trace and sessions
     let mut got = bridge.receive(skip + expected.len());
     got.drain(..skip.min(got.len()));
     (expected, got, world)
@@ -281,6 +283,9 @@ fn report(program: &str, seed: u64, difference: &Difference) -> usize {
     if play.on_store() {
         println!("{}", Play::Store(before.store.clone()).line(&[]));
     }
+    if matches!(play, Play::Pieces(..)) {
+        println!("{}", Play::Trace(before.trace.clone()).line(&[]));
+    }
     println!("{}", play.line(&after.sheet));
     println!("# model:   {}", play.explain(&expected));
     if got.len() < expected.len() {
@@ -329,7 +334,7 @@ fn compare(side: Side, events: usize, seed: u64) -> bool {
 fn faults(side: Side, seed: u64) -> bool {
     let mut found = 0;
     let show = std::env::var_os("SHOW").is_some();
-    let all: Vec<Fault> = Fault::ALL.into_iter().chain(Fault::STORE).collect();
+    let all: Vec<Fault> = Fault::ALL.into_iter().chain(Fault::STORE).chain(Fault::TRACE).collect();
     for &fault in &all {
         match run(side, FAULT_EVENTS, seed, fault, &mut Tally::default()) {
             Some(difference) => {

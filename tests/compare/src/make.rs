@@ -1,12 +1,13 @@
-//! What is played next: scenes of random sheets, runs of events, PDUs, and versions.
+//! What is played next: scenes of random sheets, runs of events, PDUs, versions, and traces.
 
 use std::collections::VecDeque;
 
 use model::device::Session;
-use model::gen::{self, stores, Ask, Event, Rng, Tools};
+use model::faults::Fault;
+use model::gen::{self, stores, traces, Ask, Event, Rng, Tools};
 use model::matrix;
 use model::sheet::{self, Memory};
-use model::store;
+use model::{store, trace};
 
 use crate::flat::Flat;
 use crate::play::{Play, World};
@@ -26,6 +27,8 @@ enum Scene {
     Pdus,
     /// Versions saved, restored and removed while the settings change.
     Versions,
+    /// Traces played in pieces, so many events of the one at hand having been played.
+    Traces(u64),
 }
 
 pub struct Maker {
@@ -65,6 +68,10 @@ impl Maker {
                 Scene::Damaged => self.damaged(world),
                 Scene::Pdus => self.pdus(world),
                 Scene::Versions => self.versions(world),
+                Scene::Traces(place) => {
+                    let place = *place;
+                    self.traces(world, place);
+                }
             }
         }
     }
@@ -94,12 +101,21 @@ impl Maker {
             8 => (Scene::Damaged, rng.within(100, 400)),
             9 if !self.device_alone => (Scene::Pdus, rng.within(300, 900)),
             10..=13 => (Scene::Versions, rng.within(100, 300)),
+            14..=16 => (Scene::Traces(0), rng.within(20, 60)),
             _ => (Scene::Queued, 0),
         };
         match self.scene {
             Scene::Queued => self.checks(),
             Scene::Pdus | Scene::Tools(_) => {}
             Scene::Versions => self.open_versions(),
+            Scene::Traces(_) => {
+                let sheet = if self.rng.chance(85) {
+                    gen::sheet(&mut self.rng)
+                } else {
+                    gen::any_sheet(&mut self.rng)
+                };
+                self.queue.extend([Play::Sheet(sheet), Play::Trace(Vec::new())]);
+            }
             Scene::History => {
                 let sheet = gen::sheet(&mut self.rng);
                 self.queue.extend([Play::Sheet(sheet), Play::Fresh]);
@@ -299,6 +315,60 @@ impl Maker {
             }
         };
         self.push(play);
+    }
+
+    /// A piece of the trace at hand, or another trace, now and then one that is refused; a session from outside.
+    fn traces(&mut self, world: &World, place: u64) {
+        let rng = &mut self.rng;
+        let playable = trace::check(Fault::None, &world.trace) == 0;
+        let all = if playable { trace::events(Fault::None, &world.trace).len() as u64 } else { 0 };
+        let left = all.saturating_sub(place);
+        match rng.below(20) {
+            0 => {
+                let (c, session) = (rng.below(2) as u8, gen::session(rng));
+                return self.push(Play::Found(c, session));
+            }
+            1..=3 if left == 0 || rng.chance(30) => {
+                let trace = traces::bad_trace(rng, &world.sheet, &world.sessions);
+                let log = rng.bytes(2 * trace::LINE);
+                self.scene = Scene::Traces(0);
+                return self.queue.extend([Play::Trace(trace), Play::Pieces(0, 2, log)]);
+            }
+            _ if left == 0 && rng.chance(85) => {
+                let trace = traces::trace(rng, &world.sheet, &world.sessions);
+                self.scene = Scene::Traces(0);
+                return self.push(Play::Trace(trace));
+            }
+            _ => {}
+        }
+        let limit = match rng.below(10) {
+            0 => 0,
+            1 => 1,
+            2 => left,
+            3 => left + 1,
+            4 => rng.pick(&[512, 65_535, 65_536, u64::MAX]),
+            _ => rng.below(12) as u64,
+        };
+        let from = match rng.below(30) {
+            0 => all,
+            1 => all + rng.below(3) as u64,
+            2 => rng.pick(&[65_536, 1 << 32, u64::MAX]),
+            3 => rng.below(all as usize + 1) as u64,
+            _ => place,
+        };
+        let handled = limit.min(all.saturating_sub(from));
+        let need = trace::LINE * handled as usize;
+        let long = match rng.below(12) {
+            0 => need.saturating_sub(1),
+            1 => need.saturating_sub(rng.within(1, 40)),
+            2 => need + rng.within(1, 40),
+            _ => need,
+        };
+        if long >= need && from == place {
+            self.scene = Scene::Traces(place + handled);
+        }
+        let log = self.rng.bytes(long);
+        self.push(Play::Pieces(from, limit, log));
     }
 
     fn pdus(&mut self, world: &World) {

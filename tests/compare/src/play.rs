@@ -6,7 +6,7 @@ use model::faults::Fault;
 use model::gen::{Ask, Event};
 use model::pdu;
 use model::sheet::{self, Memory};
-use model::store;
+use model::{store, trace};
 
 use crate::flat::{Flat, NO_KIND};
 use crate::hex;
@@ -35,6 +35,9 @@ pub enum Play {
     /// On a connection, the version of a number.
     Restore(u8, u64),
     Remove(u64),
+    Trace(Vec<u8>),
+    /// From so many events on, at most so many, into a log as found.
+    Pieces(u64, u64, Vec<u8>),
 }
 
 fn run(out: &mut Vec<u8>, bytes: &[u8]) {
@@ -116,6 +119,18 @@ impl Play {
                 out.push(b'e');
                 out.extend(number.to_le_bytes());
             }
+            Play::Trace(trace) => {
+                out.push(b'Y');
+                out.extend((trace.len() as u32).to_le_bytes());
+                out.extend(trace);
+            }
+            Play::Pieces(from, limit, log) => {
+                out.push(b'y');
+                out.extend(from.to_le_bytes());
+                out.extend(limit.to_le_bytes());
+                out.extend((log.len() as u32).to_le_bytes());
+                out.extend(log);
+            }
         }
     }
 
@@ -145,6 +160,11 @@ impl Play {
             Play::Save => "save".to_string(),
             Play::Restore(c, number) => format!("restore {c} {number}"),
             Play::Remove(number) => format!("remove {number}"),
+            Play::Trace(trace) => format!("trace {}", hex(trace)),
+            Play::Pieces(from, limit, log) => {
+                let limit = (*limit).min(65_535);
+                format!("# {from} played, a log of {} bytes\nplay {limit}", log.len())
+            }
         }
     }
 
@@ -189,6 +209,13 @@ impl Play {
                 let sessions = sessions(&reply[1..]);
                 format!("outcome {}, sessions {sessions}, hashes {}", reply[0], tail(16))
             }
+            Play::Trace(_) => format!("refusal {}", reply[0]),
+            Play::Pieces(..) => {
+                let (handled, after) =
+                    (u16::from_le_bytes([reply[1], reply[2]]), sessions(&reply[3..]));
+                let log = hex(&reply[PIECES..reply.len() - 8]);
+                format!("refusal {}, {handled} handled, sessions {after}, log {log}", reply[0])
+            }
         }
     }
 }
@@ -201,6 +228,9 @@ pub fn sessions(reply: &[u8]) -> String {
 
 /// Where the buffer begins in the reply to a request: after outcome, count and both sessions.
 pub const REQUEST: usize = 2 + 4;
+
+/// Where the log begins in the reply to playing: after refusal, number handled and both sessions.
+pub const PIECES: usize = 3 + 4;
 
 /// The hash of the bridge: FNV-1a by words of eight bytes, with each word's
 /// upper half brought down.
@@ -223,18 +253,20 @@ fn flat(sessions: &Sessions) -> [u8; 4] {
     [first.open as u8, first.level, second.open as u8, second.level]
 }
 
-/// The model's side: a sheet, a store, the sessions, and perhaps a fault.
+/// The model's side: a sheet, a store, a trace, the sessions, and perhaps a fault.
 #[derive(Clone)]
 pub struct World {
     pub sheet: Vec<u8>,
     pub store: Vec<u8>,
+    pub trace: Vec<u8>,
     pub sessions: Sessions,
     pub fault: Fault,
 }
 
 impl World {
     pub fn new(fault: Fault) -> World {
-        World { sheet: Vec::new(), store: Vec::new(), sessions: FRESH, fault }
+        let (sheet, store, trace) = (Vec::new(), Vec::new(), Vec::new());
+        World { sheet, store, trace, sessions: FRESH, fault }
     }
 
     /// Plays one command and adds the reply that the bridge must give.
@@ -338,6 +370,22 @@ impl World {
             Play::Remove(number) => {
                 reply.push(store::remove(self.fault, &mut self.store, *number));
                 self.hash_store(reply);
+            }
+            Play::Trace(trace) => {
+                self.trace.clone_from(trace);
+                reply.push(trace::check(self.fault, trace));
+            }
+            Play::Pieces(from, limit, log) => {
+                let (at, start) = (reply.len(), reply.len() + PIECES);
+                reply.extend([0; PIECES]);
+                reply.extend(log);
+                let (q, sheet, log) = (&mut self.sessions, &mut self.sheet, &mut reply[start..]);
+                let place = (*from, *limit);
+                let (why, handled) = trace::play(self.fault, q, sheet, &self.trace, place, log);
+                reply[at] = why;
+                reply[at + 1..at + 3].copy_from_slice(&handled.to_le_bytes());
+                reply[at + 3..start].copy_from_slice(&flat(&self.sessions));
+                self.hash(reply);
             }
         }
     }

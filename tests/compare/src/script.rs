@@ -5,8 +5,9 @@ use model::device::{Session, Way};
 use model::faults::Fault;
 use model::gen::Ask;
 use model::sheet::{Memory, SAMPLE};
+use model::trace;
 
-use crate::play::{sessions, Play, World, REQUEST};
+use crate::play::{sessions, Play, World, PIECES, REQUEST};
 use crate::{hex, Bridge};
 
 fn bytes(word: &str) -> Option<Vec<u8>> {
@@ -17,8 +18,9 @@ fn bytes(word: &str) -> Option<Vec<u8>> {
         .collect()
 }
 
-/// The command of a line; none if it is the PDU layer's, or no command.
-fn command(line: &str) -> Option<Play> {
+/// The command of a line, after which so many events of the trace have been played; none if it is the PDU layer's, or no
+/// command.
+fn command(line: &str, world: &World, place: usize) -> Option<Play> {
     let words: Vec<&str> = line.split_whitespace().collect();
     Some(match words[..] {
         ["sheet", sheet] => Play::Sheet(bytes(sheet)?),
@@ -47,6 +49,16 @@ fn command(line: &str) -> Option<Play> {
         ["save"] => Play::Save,
         ["restore", c, number] => Play::Restore(c.parse().ok()?, number.parse().ok()?),
         ["remove", number] => Play::Remove(number.parse().ok()?),
+        ["trace", trace] => Play::Trace(bytes(trace)?),
+        ["play", limit] => {
+            let limit: u64 = limit.parse().ok()?;
+            let all = match trace::check(Fault::None, &world.trace) {
+                0 => trace::events(Fault::None, &world.trace).len(),
+                _ => 0,
+            };
+            let lines = limit.min((all - place.min(all)) as u64) as usize;
+            Play::Pieces(place as u64, limit, vec![0xEE; trace::LINE * lines])
+        }
         _ => return None,
     })
 }
@@ -62,6 +74,16 @@ fn said(play: &Play, reply: &[u8], sheet: &[u8], store: &[u8]) -> String {
         }
         Play::Restore(..) => format!("{} {}", reply[0], hex(sheet)),
         Play::Remove(_) => format!("{} {}", reply[0], hex(store)),
+        Play::Trace(_) if reply[0] == 0 => "OK".to_string(),
+        Play::Trace(_) => reply[0].to_string(),
+        Play::Pieces(..) if reply[0] != 0 => reply[0].to_string(),
+        Play::Pieces(..) => {
+            let log = &reply[PIECES..reply.len() - 8];
+            let line = |l: &[u8]| format!(" {}:{}", l[0], hex(&l[2..2 + l[1] as usize]));
+            let lines: String = log.chunks(trace::LINE).map(line).collect();
+            let handled = u16::from_le_bytes([reply[1], reply[2]]);
+            format!("{handled}{lines} {} {}", sessions(&reply[3..]), hex(sheet))
+        }
         Play::Sheet(_) if reply[0] == 0 => "OK".to_string(),
         Play::Sheet(_) => format!("S{}", reply[0]),
         Play::Fresh => String::new(),
@@ -83,30 +105,48 @@ fn said(play: &Play, reply: &[u8], sheet: &[u8], store: &[u8]) -> String {
     }
 }
 
+/// A bridge with the model beside it, which tells how long each reply is.
+struct Player {
+    bridge: Bridge,
+    world: World,
+    /// So many events of the trace have been played.
+    place: usize,
+}
+
+impl Player {
+    /// What the unit says to a command, by the bridge's reply; none if there is none.
+    fn ask(&mut self, play: &Play) -> Option<String> {
+        let (mut wire, mut expected) = (Vec::new(), Vec::new());
+        self.world.play(play, &mut expected);
+        play.send(&mut wire);
+        wire.extend(b"DE");
+        self.bridge.send(wire);
+        let (sheet, store) = (expected.len(), expected.len() + self.world.sheet.len());
+        let got = self.bridge.receive(store + self.world.store.len());
+        match play {
+            Play::Trace(_) => self.place = 0,
+            Play::Pieces(_, _, log) => self.place += log.len() / trace::LINE,
+            _ => {}
+        }
+        (got.len() == store + self.world.store.len())
+            .then(|| said(play, &got[..sheet], &got[sheet..store], &got[store..]))
+    }
+}
+
 /// Plays a script and gives the number of its answers, or says what differs.
 fn play(program: &str, script: &str, answers: &str) -> Result<usize, String> {
     let file = |name: &str| std::fs::read_to_string(name).map_err(|e| format!("{name}: {e}"));
     let (script_text, answers_text) = (file(script)?, file(answers)?);
     let lines = script_text.lines().filter(|line| !line.is_empty() && !line.starts_with('#'));
-    let mut bridge = Bridge::start(program);
-    let mut world = World::new(Fault::None);
-    let mut ask = |play: &Play| {
-        let (mut wire, mut expected) = (Vec::new(), Vec::new());
-        world.play(play, &mut expected); // for the lengths alone
-        play.send(&mut wire);
-        wire.extend(b"DE");
-        bridge.send(wire);
-        let (sheet, store) = (expected.len(), expected.len() + world.sheet.len());
-        let got = bridge.receive(store + world.store.len());
-        (got.len() == store + world.store.len())
-            .then(|| said(play, &got[..sheet], &got[sheet..store], &got[store..]))
-    };
-    ask(&Play::Sheet(SAMPLE.to_vec()));
-    ask(&Play::Fresh);
+    let (bridge, world) = (Bridge::start(program), World::new(Fault::None));
+    let mut player = Player { bridge, world, place: 0 };
+    player.ask(&Play::Sheet(SAMPLE.to_vec()));
+    player.ask(&Play::Fresh);
     let mut played = 0;
     for (line, wanted) in lines.zip(answers_text.lines()) {
-        let Some(play) = command(line).filter(|_| !wanted.starts_with("ERR")) else { continue };
-        let got = ask(&play).unwrap_or("no reply".to_string());
+        let command = command(line, &player.world, player.place);
+        let Some(play) = command.filter(|_| !wanted.starts_with("ERR")) else { continue };
+        let got = player.ask(&play).unwrap_or("no reply".to_string());
         if got != wanted {
             return Err(format!("{script}: {line}\n  expected {wanted}\n  got      {got}"));
         }

@@ -22,6 +22,9 @@ pub struct Tally {
     named: [Counts; 2],
     /// The calls on a store, in the order of `matrix::STORE`.
     store: [Counts; 4],
+    /// Traces checked, and played, in the order of `matrix::TRACE`; and the events handled.
+    trace: [Counts; 2],
+    handled: u64,
     /// The button, and sessions as found or fresh.
     others: u64,
     /// The hashes of the blocks of replies so far, in one.
@@ -88,6 +91,11 @@ impl Tally {
             Play::Save => self.store[1].0[reply[0] as usize] += 1,
             Play::Restore(..) => self.store[2].0[reply[0] as usize] += 1,
             Play::Remove(_) => self.store[3].0[reply[0] as usize] += 1,
+            Play::Trace(_) => self.trace[0].0[reply[0] as usize] += 1,
+            Play::Pieces(..) => {
+                self.trace[1].0[reply[0] as usize] += 1;
+                self.handled += u64::from(u16::from_le_bytes([reply[1], reply[2]]));
+            }
             _ => self.others += 1,
         }
     }
@@ -100,7 +108,7 @@ impl Tally {
         let rarest =
             self.rarest().map_or(String::new(), |(n, what)| format!("; rarest: {what}, {n} times"));
         format!(
-            "{} requests, {} other calls, {} sheets ({} accepted), {} lookups, {} PDUs read, {} written, {} saves, {} restores, {} removes{rarest}",
+            "{} requests, {} other calls, {} sheets ({} accepted), {} lookups, {} PDUs read, {} written, {} saves, {} restores, {} removes, {} traces of which {} events were played in {} pieces{rarest}",
             self.requests.iter().flatten().flatten().flatten().sum::<u64>(),
             self.others + self.named.iter().map(Counts::sum).sum::<u64>(),
             self.rules.sum(),
@@ -111,6 +119,9 @@ impl Tally {
             self.store[1].sum(),
             self.store[2].sum(),
             self.store[3].sum(),
+            self.trace[0].sum(),
+            self.handled,
+            self.trace[1].sum(),
         )
     }
 
@@ -147,7 +158,8 @@ impl Tally {
             let can: Vec<usize> = (0..16).filter(|k| matrix::NAMED >> k & 1 != 0).collect();
             seen.judge(&format!("outcome of {what}"), &can, must, &mut complaints);
         }
-        for ((what, can), seen) in matrix::STORE.iter().zip(&self.store) {
+        let calls = matrix::STORE.iter().chain(&matrix::TRACE);
+        for ((what, can), seen) in calls.zip(self.store.iter().chain(&self.trace)) {
             seen.judge(&format!("outcome of {what}"), can, must, &mut complaints);
         }
         let rules: Vec<usize> = (0..=9).collect();

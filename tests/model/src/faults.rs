@@ -113,6 +113,20 @@ pub enum Fault {
     TouchesBehind,
     /// A remove gives the last number back.
     NumberReused,
+    /// One event more is played than the limit says.
+    LimitOffByOne,
+    /// Playing begins with the first event, however many have been played.
+    PlaceNotKept,
+    /// The event after a refused request is left out.
+    PassesAfterRefused,
+    /// A refused request is not counted.
+    RefusedUncounted,
+    /// The connection of a trace's event is taken from the low four bits.
+    ConnectionFromLowBits,
+    /// The offsets of a trace are not judged.
+    OffsetsUnjudged,
+    /// A log that is too short is filled as far as it goes.
+    LogUnjudged,
 }
 
 impl Fault {
@@ -177,6 +191,17 @@ impl Fault {
         Fault::BytesNotZeroed,
         Fault::TouchesBehind,
         Fault::NumberReused,
+    ];
+
+    /// Those of playing a trace.
+    pub const TRACE: [Fault; 7] = [
+        Fault::LimitOffByOne,
+        Fault::PlaceNotKept,
+        Fault::PassesAfterRefused,
+        Fault::RefusedUncounted,
+        Fault::ConnectionFromLowBits,
+        Fault::OffsetsUnjudged,
+        Fault::LogUnjudged,
     ];
 
     /// Those by which one tool meets what the other did, though that changed no byte and was no restart.

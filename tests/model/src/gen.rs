@@ -1,6 +1,7 @@
-//! Deterministic random sheets, requests, events and PDUs; stores of versions stand in a file of their own.
+//! Deterministic random sheets, requests, events and PDUs; stores of versions and traces have files of their own.
 
 pub mod stores;
+pub mod traces;
 
 use std::collections::BTreeSet;
 

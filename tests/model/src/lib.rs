@@ -11,3 +11,4 @@ pub mod pdu;
 pub mod points;
 pub mod sheet;
 pub mod store;
+pub mod trace;

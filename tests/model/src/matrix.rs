@@ -139,3 +139,9 @@ pub const STORE: [(&str, &[usize]); 4] = [
     ("restore", &[1, 4, 30, 34, 35, 36, 37]),
     ("remove", &[1, 30, 34]),
 ];
+
+/// Why a trace is refused, and why it is not played; 0 if it is not.
+pub const TRACE: [(&str, &[usize]); 2] = [
+    ("check of a trace", &[0, 50, 51, 52, 53, 54, 55, 56, 57, 58]),
+    ("playing", &[0, 50, 51, 52, 53, 54, 55, 56, 57, 58, 59]),
+];
