@@ -63,7 +63,8 @@ impl Maker {
         let mut sessions = [gen::session(rng), gen::session(rng)];
         sessions.iter_mut().filter(|s| s.open).for_each(|s| s.level = s.level.max(q));
         let sheets = [sheet, other];
-        let mut worlds = sheets.clone().map(|sheet| World { sheet, store: Vec::new(), sessions, fault: self.fault });
+        let mut worlds =
+            sheets.clone().map(|sheet| World { sheet, sessions, ..World::new(self.fault) });
         let mut tools = Tools::new(&sheets[0]);
         let (plays, replies) = (Vec::new(), [Vec::new(), Vec::new()]);
         let left = sheets.clone();
@@ -134,7 +135,9 @@ impl Pair {
                 self.q
             );
             let sheet = &self.sheets[run];
-            start(sheet, &[], self.sessions).iter().for_each(|play| println!("{}", play.line(sheet)));
+            start(sheet, &[], self.sessions)
+                .iter()
+                .for_each(|play| println!("{}", play.line(sheet)));
             let plays = self.plays.iter().take(at + 1);
             plays.for_each(|plays| println!("{}", plays[run].line(&[])));
         }
