@@ -5,7 +5,7 @@ use mathlib.Core.List.{List, [], _∷_, map}
 use Prim.Native.Nat.{ℕ}
 use Rattle.octets.specs.Bytes.{numAt, bytesOf}
 use Rattle.cemi.specs.Layout.{bytesIn}
-use Rattle.cemi.specs.Read.{standardOf, refusalOf, readFrame}
+use Rattle.cemi.specs.Read.{frameIn, standardOf, refusalOf, readFrame}
 use Rattle.cemi.specs.Meaning.{toGroup, numbered, toOne, control, meaningOf, meaningNumber, multicast, broadcast, connectionless, connected}
 use Rattle.cemi.specs.Write.{under, encoded}
 use Rattle.cemi.specs.Answering.{answering}
@@ -13,7 +13,7 @@ use Rattle.cemi.specs.declared.Fields.{Fields}
 use Rattle.cemi.specs.declared.Frame.{Frame}
 use Rattle.cemi.specs.declared.Got.{Got}
 use Rattle.cemi.specs.declared.Got.the-variants.{Is, Refused}
-use Rattle.cemi.specs.declared.Meaning.the-variants.{Data}
+use Rattle.cemi.specs.declared.Meaning.the-variants.{Data, Connect, Disconnect}
 
 -- L_Data.ind from 1105h to group 0801h: a group value write
 group : Frame
@@ -82,6 +82,13 @@ pub events :
     ≡ 0 ∷ 1 ∷ 2 ∷ 3 ∷ 4 ∷ 5 ∷ 45 ∷ 45 ∷ 44 ∷ 44 ∷ 40 ∷ 41 ∷ 42 ∷ 43 ∷ []
 unfolding readFrame refusalOf standardOf numAt meaningOf toGroup toOne numbered control
 events = refl
+
+-- connect and disconnect by their names
+pub controls :
+    meaningOf (frameIn (0x29 ∷ 0 ∷ 0xB0 ∷ 0x60 ∷ 0x11 ∷ 0xFF ∷ 0x11 ∷ 0x05 ∷ 0 ∷ 0x80 ∷ [])) ∷ meaningOf (frameIn (0x29 ∷ 0 ∷ 0xB0 ∷ 0x60 ∷ 0x11 ∷ 0xFF ∷ 0x11 ∷ 0x05 ∷ 0 ∷ 0x81 ∷ [])) ∷ []
+    ≡ Connect ∷ Disconnect ∷ []
+unfolding numAt meaningOf toOne numbered control
+controls = refl
 
 -- WHO ANSWERS WHOM, 11FFh having asked and 1105h being the device's own address: a group, repeated and with five hops left; all; one device; one device connected, with the number 18 for the answer
 abbrev asked : ℕ → ℕ → ℕ → ℕ → Fields
