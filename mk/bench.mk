@@ -7,3 +7,4 @@ bench: build/libkelindap_device.a build/libkelindap_pdu.a
 	cargo build --release --quiet -p bench
 	$(CARGO_BIN)/bench
 	$(CARGO_BIN)/point_times
+	$(CARGO_BIN)/trace_times
