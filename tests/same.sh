@@ -28,6 +28,8 @@ for sheet in "$sample" "$pump"; do
 done
 same docs/SHEET.md "$sample" "$(shown_below 'The sample sheet')"
 same docs/SHEET.md "$pump" "$(shown_below 'A sheet of edition 2')"
+worked=$(sed -n '/^trace =/,/\[\]$/p' crates/playback/proofs/Example.antt | grep -o '0x..' | sed 's/0x//' | digits)
+same docs/TRACE.md "$worked" "$(sed -n '/^## A worked trace/,/^On the sample/p' docs/TRACE.md | awk -F '|' 'NF == 5 && /^\| [0-9]/ { print $3 }' | grep -o '`[^`]*`' | digits)"
 
 # level (or loose), request, answer, outcome of each marked case
 awk -F '\t' '/^01 marked case/ {
