@@ -60,6 +60,10 @@ module _ (t : List ℕ) (octets : Octets t) where
   unfolding playedOf traceOf
   all-played from limit log = all-take (handledOf t from limit log) (drop from (eventsFrom t 0 (count t))) (all-drop from (eventsFrom t 0 (count t)) (all-from (count t) 0))
 
+  -- and of their history
+  pub all-history : (from limit : ℕ) (log : List ℕ) → AllOctets (reverse (playedOf t from limit log))
+  all-history from limit log = all-reverse (playedOf t from limit log) (all-played from limit log)
+
 -- the newest first
 module _ (q : Sessions) (s t : List ℕ) (from limit : ℕ) (log : List ℕ) where
   abbrev first : First
@@ -74,5 +78,5 @@ module _ (q : Sessions) (s t : List ℕ) (from limit : ℕ) (log : List ℕ) whe
       (at (r .sessions) s′ ≡ stateAfter ours first history) × Kept ours first history
   play-keeps r s′ log′ p a = (
     p .did .state ∙ run-is-after first (playedOf t from limit log),
-    keep.keeps first history record { octets = p .sheetBytes; accepted = a } (all-reverse (playedOf t from limit log) (all-played t (p .traceBytes) from limit log)),
+    keep.keeps first history record { octets = p .sheetBytes; accepted = a } (all-history t (p .traceBytes) from limit log),
   )
