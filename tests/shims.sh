@@ -2,8 +2,8 @@
 # tests/shims.sh PROCESSOR: a fault planted in a shim is found. The shims are changed at one place at a time, in the text that the
 # compiler sees once a line is expanded: any two arguments of one kind exchanged in a call of the module, any length given a
 # byte short, and what is made of a result changed. With each fault the desk unit, linked for PROCESSOR, plays its scripts and
-# the frames of the vectors until an answer differs or it ends; if none does, the calls that it has no command for are tried by
-# their own tests in C. Without a fault nothing differs.
+# the frames of the vectors until an answer differs or it ends; if none does, the tests in C of store and trace are tried,
+# which have numbers above 255. Without a fault nothing differs.
 set -euo pipefail
 processor=$1
 cd "$(dirname "$0")/.."
@@ -13,7 +13,7 @@ fail() { echo "shims: $processor: $1"; exit 1; }
 
 # what is played, as NAME.in and NAME.out
 mkdir "$work/play"
-cp tests/unit/{events,fields,lookups,points,ranges,read,tools,user_memory}.{in,out} "$work/play"
+cp tests/unit/{events,fields,lookups,points,ranges,read,tools,traces,user_memory,versions}.{in,out} "$work/play"
 grep -v '^#' tests/vectors/frame.tsv | cut -f 2 > "$work/play/frames.in"
 grep -v '^#' tests/vectors/frame.tsv | cut -f 3 > "$work/play/frames.out"
 
@@ -23,7 +23,7 @@ for name in host tool; do
 done
 c=(-std=c11 -O2 -Iinclude -Ibuild)
 mk/bin/cc "$processor" -c -o "$work/unit.o" "${c[@]}" hosts/unit.c
-in_c=(store_test)
+in_c=(store_test trace_test)
 for test in "${in_c[@]}"; do mk/bin/cc "$processor" -c -o "$work/$test.o" "${c[@]}" -DROUNDS=4000 "tests/c/$test.c"; done
 
 # HOST_A TOOL_A: whether the unit with these answers as it should
@@ -88,6 +88,8 @@ changed host "reply: outcome and count exchanged" '(kelindap_reply){ low(r), hig
 changed host "reply: a byte further on" '(kelindap_reply){ low(r), high(r) }' '(kelindap_reply){ low(r >> 8), high(r >> 8) }'
 changed host "saved: the number a byte short" '(uint16_t)(r >> 16)' 'low(r >> 16)'
 changed host "saved: the number for the outcome" '(kelindap_saved){ low(r),' '(kelindap_saved){ low(r >> 16),'
+changed host "played: how many for the refusal" '(kelindap_played){ low(r),' '(kelindap_played){ low(r >> 16),'
+changed host "played: how many, a byte short" '(kelindap_played){ low(r), (uint16_t)(r >> 16)' '(kelindap_played){ low(r), low(r >> 16)'
 changed host "sessions by value: levels exchanged" 'of[0].level << 8 |' 'of[1].level << 8 |'
 changed tool "written: outcome and count exchanged" '(kelindap_written){ low(r), high(r) }' '(kelindap_written){ high(r), low(r) }'
 changed tool "framed: the count a byte short" '{ (uint16_t)r,' '{ low(r),'

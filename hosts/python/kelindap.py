@@ -1,4 +1,5 @@
-"""Kelindap from Python: sheets, PDUs, group values, frames, and a device for two partners, over the proved libraries.
+"""Kelindap from Python: sheets, versions of them, PDUs, group values, frames, and a device for two partners, which also plays traces,
+over the proved libraries.
 
 Needs nothing but the standard library. `make python` leaves this module in build/python, and beside it the two archives as one
 shared object, libkelindap.so, which is looked for there, or where KELINDAP_LIBRARY says. Nothing is decided here: every verdict,
@@ -49,6 +50,10 @@ class _Saved(Structure):
     _fields_ = [("outcome", c_uint8), ("number", c_uint16)]
 
 
+class _Played(Structure):
+    _fields_ = [("refusal", c_uint8), ("handled", c_uint16)]
+
+
 class _Written(Structure):
     _fields_ = [("outcome", c_uint8), ("count", c_uint8)]
 
@@ -95,6 +100,9 @@ _CALLS = {
     "store_check": (c_uint8, _RUN),
     "save": (_Saved, 2 * _RUN),
     "restore": (c_uint8, [_Sessions, c_uint8] + 2 * _RUN + [c_size_t]),
+    "remove": (c_uint8, _RUN + [c_size_t]),
+    "trace_check": (c_uint8, _RUN),
+    "play": (_Played, _SESSIONS + 2 * _RUN + [c_size_t, c_size_t] + _RUN),
     "pdu_version": (c_uint32, []),
     "read": (_Pdu, _RUN),
     "write": (_Written, [_Pdu] + 2 * _RUN),
@@ -166,6 +174,16 @@ def check(sheet):
 def store_check(store):
     """0 for a good store of versions, else 30."""
     return _call.store_check(*_lent(store))
+
+
+def remove(store, number):
+    """Takes a version out of the store, a bytearray."""
+    return _call.remove(*_lent(store), _size(number))
+
+
+def trace_check(trace):
+    """0 if the trace can be played, else why not, 50 to 58."""
+    return _call.trace_check(*_lent(trace))
 
 
 def _body(sheet, part):
@@ -338,6 +356,8 @@ def frame_write(info, apdu, **fields):
 
 Reply = namedtuple("Reply", "outcome count")
 Saved = namedtuple("Saved", "outcome number")
+LOG_LINE = 18  # bytes of the log for an event: outcome, count, 16 of the answer
+MOST_EVENTS = 512
 
 
 class Unit:
@@ -380,6 +400,16 @@ class Unit:
         """Gives a version back on behalf of a connection."""
         lent = *_lent(self.sheet), *_lent(bytes(store))
         return _call.restore(self._sessions, _bits(connection, 8), *lent, _size(number))
+
+    def play(self, trace, played=0, limit=MOST_EVENTS):
+        """Plays events of a trace of which so many were played, at most limit: of each its outcome and its answer. Raises Refused."""
+        log = bytearray(MOST_EVENTS * LOG_LINE)
+        lent = *_lent(self.sheet), *_lent(bytes(trace)), _size(played), _size(limit), *_lent(log)
+        done = _call.play(byref(self._sessions), *lent)
+        if done.refusal != 0:
+            raise Refused(done.refusal)
+        lines = [log[LOG_LINE * i : LOG_LINE * (i + 1)] for i in range(done.handled)]
+        return [(outcome, bytes(answer[:count])) for outcome, count, *answer in lines]
 
     def ask(self, kind, connection=None, group=None, mode=None, **fields):
         """A PDU as a request, on a connection, to a group, or with neither connectionless: the reply, and the answer's PDU or None."""

@@ -23,10 +23,13 @@ def to_hex(run):
 class Player:
     def __init__(self):
         self.unit = kelindap.Unit(SAMPLE)
+        self.versions, self.events, self.played = bytearray(), b"", 0
+
+    def sessions(self):
+        return " ".join(f"{open:d} {level}" for open, level in self.unit.sessions)
 
     def event(self, outcome, count=0, buffer=b""):
-        sessions = " ".join(f"{open:d} {level}" for open, level in self.unit.sessions)
-        return f"{outcome} {sessions} {count} {to_hex(buffer)} {to_hex(self.unit.sheet)}"
+        return f"{outcome} {self.sessions()} {count} {to_hex(buffer)} {to_hex(self.unit.sheet)}"
 
     def sheet(self, word):
         self.unit.sheet = bytearray(from_hex(word))
@@ -89,6 +92,32 @@ class Player:
         value = int(word, 16) if type == 14 else int(word) if type in (1, 5, 9) else 0
         return f"0 {to_hex(kelindap.point_write(type, value))}"
 
+    # ---- versions and traces ----
+
+    def store(self, word):
+        self.versions = bytearray(from_hex(word))
+        return str(kelindap.store_check(self.versions) or "OK")
+
+    def save(self):
+        outcome, number = self.unit.save(self.versions)
+        return f"{outcome} {number} {to_hex(self.versions)}"
+
+    def restore(self, connection, number):
+        return f"{self.unit.restore(self.versions, int(number), int(connection))} {to_hex(self.unit.sheet)}"
+
+    def remove(self, number):
+        return f"{kelindap.remove(self.versions, int(number))} {to_hex(self.versions)}"
+
+    def trace(self, word):
+        self.events, self.played = from_hex(word), 0
+        return str(kelindap.trace_check(self.events) or "OK")
+
+    def play(self, limit):
+        log = self.unit.play(self.events, self.played, int(limit))
+        self.played += len(log)
+        told = "".join(f" {outcome}:{to_hex(answer)}" for outcome, answer in log)
+        return f"{len(log)}{told} {self.sessions()} {to_hex(self.unit.sheet)}"
+
     # ---- frames: two fields have shorter names here, and the lower events have words ----
 
     EVENTS = "multicast broadcast connectionless connected connect disconnect".split()
@@ -107,6 +136,7 @@ class Player:
         return f"{outcome} {count} {to_hex(buffer)}"
 
     COMMANDS = "sheet session connect disconnect button request lookup read write point frame".split()
+    COMMANDS += "store save restore remove trace play".split()
 
     def obey(self, line):
         """The answer, or None to a command that is not known here."""

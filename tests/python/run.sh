@@ -16,8 +16,6 @@ mapfile -t scripts < <(printf '%s\n' tests/unit/*.in "$work"/*.in)
 sample=$(grep -o '0x..' hosts/sample_sheet.inc | sed 's/0x//' | paste -sd '')
 python3 tests/python/play.py "$sample" "${scripts[@]%.in}"
 
-python3 tests/python/store.py "$sample"
-
 # README's lines
 sed -n '/^    import kelindap$/,/^$/s/^    //p' README.md > "$work/readme.py"
 [ -s "$work/readme.py" ] || { echo "python: README shows no lines"; exit 1; }
