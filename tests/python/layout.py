@@ -26,10 +26,12 @@ def hold(what, got, due):
 sizes = re.findall(r"SIZE\((kelindap_\w+), (.*?)\) \\", facts)
 hold("structures", sorted(structures), sorted(name for name, _ in sizes))
 for name, size in sizes:
-    hold(name, ctypes.sizeof(structures[name]), eval(size, places))
+    if name in structures:
+        hold(name, ctypes.sizeof(structures[name]), eval(size, places))
 for name, field, size, offset in re.findall(r"FIELD\((kelindap_\w+), (\w+), (.*?), (.*?)\) \\", facts):
-    place = getattr(structures[name], field)
-    hold(f"{name}.{field}", (place.size, place.offset), (eval(size, places), eval(offset, places)))
+    if hasattr(structures.get(name), field):
+        place = getattr(structures[name], field)
+        hold(f"{name}.{field}", (place.size, place.offset), (eval(size, places), eval(offset, places)))
 for name, structure in structures.items():
     hold(f"fields of {name}", [field for field, *_ in structure._fields_],
          [field for owner, field in re.findall(r"FIELD\((kelindap_\w+), (\w+),", facts) if owner == name])
