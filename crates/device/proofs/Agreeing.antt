@@ -13,10 +13,10 @@ use Rattle.sheet.specs.Layout.{_of_}
 use Rattle.sheet.specs.Property as property
 use Rattle.sheet.specs.Group as group
 use Rattle.sheet.specs.Entries.{count, place, entry, bodyAt, bodyEnd}
-use Rattle.sheet.specs.Frame.{Agree}
+use Rattle.sheet.specs.Agree.{Agree}
 use Rattle.sheet.proofs.Good.{Good, accepted}
 use Rattle.sheet.proofs.Sames.{count-same, place-same, property-same}
-use Rattle.sheet.proofs.Frames.{agree-trans, kept}
+use Rattle.sheet.proofs.Agrees.{agree-trans, kept}
 use Rattle.sheet.proofs.Stores.{body-store}
 use Rattle.sheet.proofs.Counts.{count-store}
 use Rattle.judge.proofs.PropertyCases.{Among}

@@ -14,12 +14,12 @@ use Rattle.sheet.specs.Kind.{properties}
 use Rattle.sheet.specs.Layout.{_of_}
 use Rattle.sheet.specs.Property as property
 use Rattle.sheet.specs.Entries.{count, place, entry, keyOf, bodyAt}
-use Rattle.sheet.specs.Frame.{Agree}
+use Rattle.sheet.specs.Agree.{Agree}
 use Rattle.sheet.proofs.Good.{Good, accepted}
 use Rattle.sheet.proofs.Keys.{key-once}
 use Rattle.sheet.proofs.BodyPlaces.{after-contents}
 use Rattle.sheet.proofs.Standing.{place-in}
-use Rattle.sheet.proofs.Frames.{kept}
+use Rattle.sheet.proofs.Agrees.{kept}
 use Rattle.sheet.proofs.Sames.{count-same, place-same, property-same}
 use Rattle.sheet.proofs.Counts.{count-now}
 use Rattle.sheet.proofs.Buts.{part-same}

@@ -17,7 +17,7 @@ use Rattle.sheet.specs.Property as property
 use Rattle.sheet.specs.Entries.{entry}
 use Rattle.sheet.specs.Lookup.{indexOf}
 use Rattle.sheet.specs.Rules.{isAccepted}
-use Rattle.sheet.specs.Frame.{AgreeInside}
+use Rattle.sheet.specs.Agree.{AgreeInside}
 use Rattle.sheet.proofs.Sames.{count-same, place-same}
 use Rattle.sheet.proofs.SameLookups.{index-same, rank-same, nth-same, range-same}
 use Rattle.sheet.specs.declared.Memory.the-variants.{Device, User}
@@ -46,7 +46,7 @@ use Rattle.judge.specs.Keys.{grantOf, authorizeOf, restartOf}
 use Rattle.judge.specs.Judge.{decideOf, readOf, reachedOf, foundOf, judgeOf}
 use Rattle.device.specs.Apart.{Undisputed, restarts, describes}
 use Rattle.device.proofs.Taking.{same-reach}
-use Rattle.device.proofs.Unseen.{Seen, head-same, entry-same, value-same, unseen}
+use Rattle.device.proofs.Unseen.{SameThere, head-same, entry-same, value-same, unseen}
 
 -- what is decided about entry i is the same if it is where there is such an entry
 if-below : (i n : ℕ) (x y z : Decision) → (i < n → x ≡ y) → cond (ltb i n) x z ≡ cond (ltb i n) y z
@@ -71,7 +71,7 @@ restart-alike s q mode group c n true false = rw (ne-eqb mode connectionless n)
 restart-alike s q mode group c n false true = rw (ne-eqb mode connectionless n)
 restart-alike s q mode group c n false false = refl
 
-module _ {s s′ : List ℕ} (b : Seen s s′) where
+module _ {s s′ : List ℕ} (b : SameThere s s′) where
   a : AgreeInside s s′
   a = unseen b tt
 

@@ -12,20 +12,20 @@ use Rattle.octets.proofs.Numbers.{num-same}
 use Rattle.sheet.specs.Layout.{Field, _of_}
 use Rattle.sheet.specs.Head as head
 use Rattle.sheet.specs.Rules.{ruleOf, isAccepted}
-use Rattle.sheet.specs.Frame.{Agree}
+use Rattle.sheet.specs.Agree.{Agree}
 use Rattle.sheet.proofs.Sames.{users-alike, rules-same}
-use Rattle.sheet.proofs.Frames.{both-or-neither}
+use Rattle.sheet.proofs.Agrees.{both-or-neither}
 use Rattle.judge.specs.declared.Session.{Session}
 use Rattle.judge.specs.Judge.{judgeOf}
 use Rattle.device.specs.Bodies.{SameButBodies}
-use Rattle.device.proofs.Unseen.{Seen, unseen}
+use Rattle.device.proofs.Unseen.{SameThere, unseen}
 use Rattle.device.proofs.Judging.{judge-same}
 
 module _ {s s′ : List ℕ} (b : SameButBodies s s′) where
   field : (f : Field) → f .at + f .width ≤ head.size → f of s′ ≡ f of s
   field f h = num-same s′ s (f .at) (f .at) (f .width) (λ i l. b .before _ (omega arith))
 
-  seen : Seen s s′
+  seen : SameThere s s′
   seen =
       record {
         long = b .long;

@@ -5,10 +5,10 @@ use mathlib.Core.Path.{_≡_, sym, ap, _∙_}
 use native.Mathlib.Omega.{arith}
 use Rattle.octets.specs.Splice.{splice}
 use Rattle.sheet.specs.Head as head
-use Rattle.sheet.specs.Frame.{Agree}
+use Rattle.sheet.specs.Agree.{Agree}
 use Rattle.sheet.proofs.Good.{Good, good}
 use Rattle.sheet.proofs.SameLookups.{ranged-same}
-use Rattle.sheet.proofs.Frames.{agree-sym}
+use Rattle.sheet.proofs.Agrees.{agree-sym}
 use Rattle.sheet.proofs.Runs.{range-once, range-within}
 use Rattle.pdu.specs.Write.{encoded}
 use Rattle.judge.specs.declared.Decision.{Decision}

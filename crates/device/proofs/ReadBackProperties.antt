@@ -12,7 +12,7 @@ use Rattle.sheet.specs.Kind.{properties}
 use Rattle.sheet.specs.Layout.{Field, _of_}
 use Rattle.sheet.specs.Property as property
 use Rattle.sheet.specs.Entries.{count, place, entry}
-use Rattle.sheet.specs.Frame.{Agree, Fixed}
+use Rattle.sheet.specs.Agree.{Agree, Fixed}
 use Rattle.sheet.specs.Rules.{entryDemands}
 use Rattle.sheet.proofs.Good.{Good, good}
 use Rattle.sheet.proofs.Sames.{property-same}

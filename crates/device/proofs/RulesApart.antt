@@ -11,23 +11,23 @@ use Rattle.sheet.proofs.Good.{good}
 use Rattle.sheet.proofs.BodyPlaces.{after-contents}
 use Rattle.sheet.proofs.Sames.{users-alike}
 use Rattle.sheet.proofs.Buts.{field-but}
-use Rattle.sheet.proofs.Frames.{both-or-neither}
+use Rattle.sheet.proofs.Agrees.{both-or-neither}
 use Rattle.pdu.specs.Read.{readPdu}
 use Rattle.judge.specs.declared.Session.{Session}
 use Rattle.judge.specs.declared.Decision.{Decision}
 use Rattle.judge.specs.Judge.{judgeOf, dataIn}
 use Rattle.device.specs.Asked.{Asked}
 use Rattle.device.specs.Step.{Step, stepBy, stepOf}
-use Rattle.device.specs.Apart.{RulesByte, SameButRules, Undisputed, Alike}
+use Rattle.device.specs.Apart.{RulesByte, SameButRules, Undisputed, SameStep}
 use Rattle.device.proofs.Safe.{safe}
 use Rattle.device.proofs.Stays.{request-agrees}
 use Rattle.device.proofs.StepBut.{AlikeBut, is-accepted, spares-fewer, step-but}
 use Rattle.device.proofs.PastHead.{past-head}
-use Rattle.device.proofs.Unseen.{Seen}
+use Rattle.device.proofs.Unseen.{SameThere}
 use Rattle.device.proofs.Judging.{judge-same}
 
 -- what judging reads but for the number of the rules is the same
-pub seen : {s s′ : List ℕ} → SameButRules s s′ → Seen s s′
+pub seen : {s s′ : List ℕ} → SameButRules s s′ → SameThere s s′
 seen {s} {s′} b =
     record {
       long = b .others .long;
@@ -59,7 +59,7 @@ module _ (room : ℕ) {s s′ : List ℕ} (q : Session) (mode group : ℕ) (a : 
       (step-but (b .others) q d k (safe room s q mode group a) (spares-fewer (λ p e. omega arith) d k (past-head room s q mode group a)))
 
   -- THE RULES ARE AT ODDS ABOUT NO OTHER REQUEST
-  pub rules-apart : Alike (stepOf room s q mode group a) (stepOf room s′ q mode group a)
+  pub rules-apart : SameStep (stepOf room s q mode group a) (stepOf room s′ q mode group a)
   rules-apart =
       record {
         outcome = both .outcome;

@@ -6,7 +6,7 @@ use mathlib.Core.Bool.{Bool}
 use mathlib.Core.List.{List}
 use native.Mathlib.Omega.{arith}
 use Rattle.sheet.specs.Rules.{Accepted, isAccepted}
-use Rattle.sheet.specs.Frame.{Agree}
+use Rattle.sheet.specs.Agree.{Agree}
 use Rattle.sheet.proofs.Good.{Good, good}
 use Rattle.pdu.specs.Read.{readPdu}
 use Rattle.pdu.proofs.Readings.{reading}

@@ -9,6 +9,7 @@ use lib.ListN.{length}
 use lib.Dec.{eqb}
 use native.Mathlib.Omega.{arith}
 use borrow.Author.Tests.{lt-ltb, le-ltb, eq-eqb, ne-eqb, eqb-true}
+use Rattle.octets.proofs.Truths.{must-fail}
 use Rattle.sheet.specs.Head.{rulesOf}
 use Rattle.sheet.specs.Rules.{ruleOf, isAccepted}
 use Rattle.pdu.specs.Table.{serviceAt}
@@ -31,11 +32,6 @@ use Rattle.device.specs.Step.{Step, stepBy, stepOf}
 use Rattle.device.specs.Asked.{Asked, quiet, Takes, Names, Served, Refusal, noRoom, badSheet, badLength, badMode, noSession, Ready, Reads, given}
 use Rattle.device.proofs.Taking.{takes-is, served-is}
 use Rattle.device.proofs.RequestCases.{names-found, found-names}
-
--- a test that can't pass fails
-fails : (t : Bool) → (t ≡ true → ⊥) → t ≡ false
-fails true f = absurd (f refl)
-fails false f = refl
 
 module _ (x : Asked) where
   abbrev rules : ℕ
@@ -90,7 +86,7 @@ module _ (x : Asked) where
           foundOf (x .sheet) (x .session) (x .mode) (x .group) (x .apdu) z ≡ decisions.refused 8
       go Unknown e = refl
       go (Listed k) e =
-          simp (fails (reaches (reachOf rules k)) (λ h. f k (found-names x k e) (served-is rules k .0 h)))
+          simp (must-fail (reaches (reachOf rules k)) (λ h. f k (found-names x k e) (served-is rules k .0 h)))
 
   module _ (k : Service) (r : Ready x) (n : Names x k) where
     named-judged : judgement ≡ reachedOf (x .sheet) (x .session) (x .mode) (x .group) (x .apdu) (reachOf rules k)
@@ -103,7 +99,7 @@ module _ (x : Asked) where
         quietly 9
         (named-judged
         ∙ simp
-        (served-is rules k .1 v, fails (takes (reachOf rules k) (x .mode)) (λ h. t (takes-is rules (x .mode) k .0 h))))
+        (served-is rules k .1 v, must-fail (takes (reachOf rules k) (x .mode)) (λ h. t (takes-is rules (x .mode) k .0 h))))
 
     taken-judged : Takes rules k (x .mode) → judgement ≡ readOf (x .sheet) (levelIn (x .session) (x .mode)) (x .group) (x .apdu) (readPdu (x .apdu))
     unfolding reachedOf

@@ -12,19 +12,19 @@ use Rattle.sheet.specs.Layout.{Field, _of_}
 use Rattle.sheet.specs.Head as head
 use Rattle.sheet.specs.Group as group
 use Rattle.sheet.specs.Entries.{count, size, place, contents, entry, bodyAt, bodyEnd, InBody}
-use Rattle.sheet.specs.Frame.{AgreeBy}
+use Rattle.sheet.specs.Agree.{AgreeBy}
 use Rattle.sheet.proofs.Sames.{place-front}
 use Rattle.sheet.proofs.Standing.{after-head, place-in}
 use Rattle.sheet.proofs.Buts.{part-same}
 
 -- two sheets that are the same there
-pub record Seen (s s′ : List ℕ) : Type 0 where
+pub record SameThere (s s′ : List ℕ) : Type 0 where
   pub long : length s′ ≡ length s
   pub before : (p : ℕ) → head.regions .at ≤ p → p < contents s → (p ≡ head.rules .at → ⊥) → getD s′ p 0 ≡ getD s p 0
   pub users : head.users s′ ≡ head.users s
   pub values : (i p : ℕ) → InBody s groups i p → getD s′ p 0 ≡ getD s p 0
 
-module _ {s s′ : List ℕ} (b : Seen s s′) where
+module _ {s s′ : List ℕ} (b : SameThere s s′) where
   -- a field of the head between these
   pub head-same : (f : Field) → (head.regions .at ≤ f .at) × (f .at + f .width ≤ head.rules .at) → f of s′ ≡ f of s
   head-same f h =

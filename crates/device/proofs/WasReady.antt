@@ -4,7 +4,7 @@ use Prim.Native.Nat.{ℕ, _≤_}
 use mathlib.Core.Path.{_≡_, subst}
 use native.Mathlib.Omega.{arith}
 use Rattle.sheet.specs.Rules.{Accepted}
-use Rattle.sheet.proofs.Frames.{both-or-neither}
+use Rattle.sheet.proofs.Agrees.{both-or-neither}
 use Rattle.pdu.specs.Read.{readPdu}
 use Rattle.pdu.proofs.Readings.{reading}
 use Rattle.pdu.specs.declared.Pdu.{Pdu}

@@ -35,7 +35,7 @@ abbrev pub Undisputed : ℕ → List ℕ → Type 0
 Undisputed mode a = Disputed mode a → ⊥
 
 -- the same outcome, answer and session, and the sheets still the same but for that byte
-pub record Alike (r r′ : Step) : Type 0 where
+pub record SameStep (r r′ : Step) : Type 0 where
   pub outcome : r′ .outcome ≡ r .outcome
   pub answer : r′ .answer ≡ r .answer
   pub session : r′ .session ≡ r .session
@@ -43,7 +43,7 @@ pub record Alike (r r′ : Step) : Type 0 where
   pub restarts : r′ .restarts ≡ r .restarts
 
 -- the same of what an event gives
-pub record AlikeAfter (r r′ : Effect) : Type 0 where
+pub record SameEffect (r r′ : Effect) : Type 0 where
   pub outcome : r′ .outcome ≡ r .outcome
   pub answer : r′ .answer ≡ r .answer
   pub sessions : r′ .sessions ≡ r .sessions

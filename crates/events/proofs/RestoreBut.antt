@@ -9,7 +9,7 @@ use native.Mathlib.Omega.{arith}
 use borrow.Author.Tests.{eqb-true}
 use Rattle.sheet.specs.Kind.{properties}
 use Rattle.sheet.specs.Entries.{base}
-use Rattle.sheet.specs.Frame.{AgreeBy}
+use Rattle.sheet.specs.Agree.{AgreeBy}
 use Rattle.sheet.specs.Rules.{Accepted}
 use Rattle.sheet.specs.But.{But}
 use Rattle.sheet.proofs.Buts.{splice-but}

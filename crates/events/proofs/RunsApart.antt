@@ -7,13 +7,13 @@ use mathlib.Core.List.{List, [], _∷_}
 use lib.Dec.{eqb}
 use lib.ListN.{length}
 use native.Mathlib.Omega.{arith}
-use Rattle.sheet.specs.Frame.{AgreeInside}
+use Rattle.sheet.specs.Agree.{AgreeInside}
 use Rattle.judge.specs.Session.{connected}
 use Rattle.judge.specs.declared.Session.{Session}
 use Rattle.device.specs.declared.Sessions.{Sessions}
 use Rattle.device.specs.Sessions.{freshOf, withSession, sessionOf, sessionFor}
 use Rattle.device.specs.Events.{State, connectOf, disconnectOf, requestOf}
-use Rattle.device.specs.Apart.{RulesByte, SameButRules, AlikeAfter, Together}
+use Rattle.device.specs.Apart.{RulesByte, SameButRules, SameEffect, Together}
 use Rattle.versions.specs.Restoring.{restoreSheet}
 use Rattle.events.specs.Events.{Event, connect, disconnect, button, request, restore, eventOf, after, run}
 use Rattle.events.specs.Apart.{Settled, AllSettled}
@@ -37,7 +37,7 @@ apart-restored b q st n =
     record { accepted = k .accepted; accepted′ = k .accepted′; others = k .others }
 
 -- AN EVENT THAT IS NO DISPUTED REQUEST
-pub event-apart : (x x′ : State) (e : Event) → Together x x′ → Settled e → AlikeAfter (eventOf x e) (eventOf x′ e)
+pub event-apart : (x x′ : State) (e : Event) → Together x x′ → Settled e → SameEffect (eventOf x e) (eventOf x′ e)
 unfolding eventOf requestOf
 event-apart x x′ (connect c) t u =
     record { outcome = refl; answer = refl; sessions = ap (λ (q : Sessions). connectOf q c) (t .sessions); sheet = t .sheet }
@@ -86,5 +86,5 @@ runs-apart x x′ (e ∷ es) t c =
 
 -- AND EVERY EVENT'S OUTCOME AND ANSWER, whatever went before
 pub steps-apart :
-    (x x′ : State) (es : List Event) (e : Event) → Together x x′ → AllSettled es → Settled e → AlikeAfter (eventOf (run x es) e) (eventOf (run x′ es) e)
+    (x x′ : State) (es : List Event) (e : Event) → Together x x′ → AllSettled es → Settled e → SameEffect (eventOf (run x es) e) (eventOf (run x′ es) e)
 steps-apart x x′ es e t c d = event-apart (run x es) (run x′ es) e (runs-apart x x′ es t c) d

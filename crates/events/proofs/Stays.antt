@@ -3,8 +3,8 @@
 use Prim.Native.Nat.{ℕ}
 use mathlib.Core.List.{List}
 use Rattle.sheet.specs.Rules.{Accepted}
-use Rattle.sheet.specs.Frame.{Agree}
-use Rattle.sheet.proofs.Frames.{both-or-neither}
+use Rattle.sheet.specs.Agree.{Agree}
+use Rattle.sheet.proofs.Agrees.{both-or-neither}
 use Rattle.device.proofs.Agreeing.{agree-refl}
 use Rattle.device.specs.Events.{State, requestOf}
 use Rattle.device.specs.Due.{asked}

@@ -24,15 +24,15 @@ use Rattle.judge.specs.declared.Reach.{Reach}
 use Rattle.judge.specs.declared.Decision.{Decision}
 use Rattle.device.specs.Step.{stepBy, stepOf}
 use Rattle.cemi.specs.Write.{under}
-use Rattle.frames.proofs.Alike.{Alike, code-alike, read-alike, data-alike}
+use Rattle.frames.proofs.SameApdu.{SameApdu, code-alike, read-alike, data-alike}
 
 -- an APDU, and the same with other bits of transport
-pub under-alike : (t : ℕ) (a : List ℕ) → Alike (under t a) a
+pub under-alike : (t : ℕ) (a : List ℕ) → SameApdu (under t a) a
 unfolding under
 under-alike t [] = record { long = refl; first = refl; rest = λ j. refl }
 under-alike t (x ∷ a) = record { long = refl; first = omega arith; rest = λ j. refl }
 
-module _ (a b : List ℕ) (h : Alike a b) where
+module _ (a b : List ℕ) (h : SameApdu a b) where
   data-in : (r : Parsed) → dataIn r a ≡ dataIn r b
   data-in (Is p) = data-alike a b h p
   data-in (Refused n) = refl

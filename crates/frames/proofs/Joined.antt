@@ -31,7 +31,7 @@ use Rattle.cemi.specs.declared.Fields.{Fields}
 use Rattle.cemi.specs.declared.Frame.{Frame}
 use Rattle.cemi.specs.declared.Got.the-variants as got
 use Rattle.frames.specs.Answering.{answerTo, Brings}
-use Rattle.frames.proofs.Alike.{read-alike, data-alike}
+use Rattle.frames.proofs.SameApdu.{read-alike, data-alike}
 use Rattle.frames.proofs.Heard.{under-alike, as-it-is}
 
 -- any PDU in any frame that can be written

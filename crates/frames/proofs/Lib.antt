@@ -1,5 +1,5 @@
 -- All are promises, named in docs/PROMISES.md.
-pub mod Alike
+pub mod SameApdu
 pub mod Examples
 pub mod Heard
 pub mod Joined

@@ -13,7 +13,7 @@ use Rattle.device.specs.Sessions.{sessionOf}
 use Rattle.device.specs.Events.{Effect, State}
 use Rattle.events.specs.Events.{Event, request, eventOf}
 use Rattle.device.specs.MemoryDue.{reading}
-use Rattle.device.specs.Apart.{AlikeAfter, Together}
+use Rattle.device.specs.Apart.{SameEffect, Together}
 use Rattle.events.specs.Apart.{Settled, AllSettled}
 use Rattle.device.proofs.Called.{call-only}
 use Rattle.device.proofs.Dues.{request-due}
@@ -112,7 +112,7 @@ module _ (f : First) (t o : ℕ) (n : t ≡ o → ⊥) {h h′ : List Event} (b 
       rw (call-is d .0, call-is d′ .0, calls-after k .0, calls-after k′ .0) (s .outcome e e′ u a, s .answer e e′ u a)
 
 -- SHEETS THAT DIFFER IN THE NUMBER OF THE RULES ALONE: one call that is not disputed
-pub apart-call : {x x′ : State} {e : Event} {r r′ : Effect} → Together x x′ → Settled e → Call x e r → Call x′ e r′ → AlikeAfter r r′
+pub apart-call : {x x′ : State} {e : Event} {r r′ : Effect} → Together x x′ → Settled e → Call x e r → Call x′ e r′ → SameEffect r r′
 apart-call {x} {x′} {e} t s d d′ = rw (call-is d .0, call-is d′ .0) (event-apart x x′ e t s)
 
 -- and runs of such calls

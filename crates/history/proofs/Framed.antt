@@ -16,7 +16,7 @@ use Rattle.sheet.specs.Region as region
 use Rattle.sheet.specs.Property as property
 use Rattle.sheet.specs.Entries.{count, entry}
 use Rattle.sheet.specs.Lookup.{seek, covers}
-use Rattle.sheet.specs.Frame.{Agree}
+use Rattle.sheet.specs.Agree.{Agree}
 use Rattle.sheet.specs.Places.{regionAt, PropertyWith}
 use Rattle.sheet.proofs.Sames.{count-same, region-same, property-same}
 use Rattle.sheet.proofs.FrontSearch.{seek-same}

@@ -14,7 +14,7 @@ use Rattle.sheet.specs.Head as head
 use Rattle.sheet.specs.Entries.{count, bodyAt}
 use Rattle.sheet.specs.Rules.{ruleOf, Accepted, isAccepted}
 use Rattle.sheet.proofs.Good.{Good, good, accepted}
-use Rattle.sheet.proofs.Frames.{kept}
+use Rattle.sheet.proofs.Agrees.{kept}
 use Rattle.sheet.proofs.Regions.{covers-stands}
 use Rattle.device.specs.Sessions.{sessionOf}
 use Rattle.device.specs.Events.{Effect, State, bit, pressed, buttonSheet}
@@ -26,7 +26,7 @@ use Rattle.history.specs.Permit.{entryFor}
 use Rattle.history.specs.History.{First, firstOf, opened, level, content}
 use Rattle.history.specs.Others.{programming, individual, groupByte}
 use Rattle.history.specs.Keeps.{Begins}
-use Rattle.history.proofs.Connections.{said, no-connection}
+use Rattle.history.proofs.Said.{said, no-connection}
 use Rattle.history.proofs.Searches.{region-hit, property-hit}
 use Rattle.device.proofs.Agreeing.{agree-refl}
 use Rattle.history.proofs.Means.{Means, store-flags}

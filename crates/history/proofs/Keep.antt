@@ -20,7 +20,7 @@ use Rattle.events.proofs.Dues.{restore-due}
 use Rattle.history.specs.History.{First, permitted}
 use Rattle.history.specs.Keeps.{Device, stateAfter, CarriedOut, Kept, Begins, BringsOctets, AllOctets, Keeps}
 use Rattle.history.specs.Rightful.{Rightful, ours}
-use Rattle.history.proofs.Connections.{said, no-connection}
+use Rattle.history.proofs.Said.{said, no-connection}
 use Rattle.history.proofs.Invariant.{Inv, begin, connected, disconnected, button-pressed, now, now-accepted}
 use Rattle.history.proofs.Requests.{Done}
 use Rattle.history.proofs.Steps.{due}

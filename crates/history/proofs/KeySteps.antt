@@ -30,7 +30,7 @@ use Rattle.history.specs.Permit.{spans}
 use Rattle.history.specs.History.{First, keyIn, offered, opened, level, keys, content}
 use Rattle.history.specs.Keeps.{Begins, Succeeds}
 use Rattle.history.proofs.Hearing.{asks-is}
-use Rattle.history.proofs.Connections.{said}
+use Rattle.history.proofs.Said.{said}
 use Rattle.history.proofs.Invariant.{Inv, fine, now}
 use Rattle.history.proofs.KeyRun.{key-place, key-run}
 use Rattle.history.proofs.Means.{long, store-span}

@@ -33,7 +33,7 @@ use Rattle.history.specs.Keeps.{Device, stateAfter, Begins, AllOctets, K
 use Rattle.history.specs.Keyless.{writeLevel, Unlocks, offers, Locked, NotOffered, Closed, Shut, Untouched, Protected}
 use Rattle.history.specs.Rightful.{ours}
 use Rattle.history.proofs.Bools.{all-at, must-fail}
-use Rattle.history.proofs.Connections.{no-connection}
+use Rattle.history.proofs.Said.{no-connection}
 use Rattle.history.proofs.Searches.{region-hit, property-hit}
 use Rattle.history.proofs.InOrder.{firstState, after-is-run}
 use Rattle.history.proofs.Invariant.{first-holds}

@@ -1,4 +1,4 @@
--- PROMISES, named in docs/PROMISES.md: Keyless (nobody without the key), Height (that, on the sample sheet), Keep (demand 3), Pinned (one result), OneDevice (one device), RulesStay (the rules are those of the first sheet), Connections (what bears on the level of one), AtOnce, Suffices, Shown and MemoryShown (what a read shows), Isolated (one tool beside another), Calls (all of these of the calls), NothingShown and Unlearned (what a tool without the key can learn),
+-- PROMISES, named in docs/PROMISES.md: Keyless (nobody without the key), Height (that, on the sample sheet), Keep (demand 3), Pinned (one result), OneDevice (one device), RulesStay (the rules are those of the first sheet), Said (what bears on the level of one), AtOnce, Suffices, Shown and MemoryShown (what a read shows), Isolated (one tool beside another), Calls (all of these of the calls), NothingShown and Unlearned (what a tool without the key can learn),
 -- Permitted (permitted as plain propositions), Places (`place-injective`, `exactly-one`), InOrder (histories and runs).
 pub mod Keyless
 pub mod Height
@@ -6,7 +6,7 @@ pub mod Keep
 pub mod Pinned
 pub mod OneDevice
 pub mod RulesStay
-pub mod Connections
+pub mod Said
 pub mod AtOnce
 pub mod Shown
 pub mod MemoryShown

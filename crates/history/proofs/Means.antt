@@ -16,10 +16,10 @@ use Rattle.sheet.specs.Kind.{groups}
 use Rattle.sheet.specs.Layout.{Field, _of_}
 use Rattle.sheet.specs.Head as head
 use Rattle.sheet.specs.Entries.{count, bodyAt, bodyEnd, InBody}
-use Rattle.sheet.specs.Frame.{Agree}
+use Rattle.sheet.specs.Agree.{Agree}
 use Rattle.sheet.specs.Stores.{Inside, Fit}
 use Rattle.sheet.proofs.Good.{Good, accepted}
-use Rattle.sheet.proofs.Frames.{agree-trans, kept}
+use Rattle.sheet.proofs.Agrees.{agree-trans, kept}
 use Rattle.sheet.proofs.Stores.{body-store, address-store, flags-store}
 use Rattle.sheet.proofs.BodyPlaces.{within, disjoint}
 use Rattle.sheet.proofs.Sames.{count-same, at-same, end-same}

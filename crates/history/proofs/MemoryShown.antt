@@ -13,7 +13,7 @@ use Rattle.sheet.specs.declared.Memory.{Memory}
 use Rattle.sheet.proofs.Regions.{covers-stands}
 use Rattle.sheet.proofs.Runs.{range-within}
 use Rattle.sheet.proofs.SameLookups.{ranged-same}
-use Rattle.sheet.proofs.Frames.{agree-sym}
+use Rattle.sheet.proofs.Agrees.{agree-sym}
 use Rattle.pdu.specs.Read.{readPdu}
 use Rattle.pdu.specs.Write.{encoded}
 use Rattle.pdu.specs.declared.Pdu.{Pdu}
@@ -38,7 +38,7 @@ use Rattle.history.specs.History.{First, level}
 use Rattle.history.specs.Keeps.{Device, stateAfter, Begins, AllOctets}
 use Rattle.history.specs.Rightful.{Rightful, ours}
 use Rattle.history.specs.Shown.{MemoryShows, MemoryShown}
-use Rattle.history.proofs.Connections.{said}
+use Rattle.history.proofs.Said.{said}
 use Rattle.history.proofs.Invariant.{Inv, fine, now}
 use Rattle.history.proofs.Keep.{ours-after}
 use Rattle.history.proofs.LevelFor.{level-is}

@@ -10,7 +10,7 @@ use Rattle.sheet.specs.Places.{Ranged}
 use Rattle.sheet.specs.declared.Memory.{Memory}
 use Rattle.sheet.specs.declared.Memory.the-variants.{Device, User}
 use Rattle.sheet.proofs.SameLookups.{ranged-same}
-use Rattle.sheet.proofs.Frames.{agree-sym}
+use Rattle.sheet.proofs.Agrees.{agree-sym}
 use Rattle.sheet.proofs.Runs.{range-within, range-store}
 use Rattle.pdu.specs.declared.Pdu.the-variants.{MemoryWrite, MemoryBitWrite, UserMemoryWrite}
 use Rattle.device.specs.Octets.{Octets}
@@ -25,11 +25,12 @@ use Rattle.history.specs.Permit.{spans}
 use Rattle.history.specs.History.{First, content}
 use Rattle.history.specs.Others.{programming, individual, groupByte}
 use Rattle.history.specs.Keeps.{Begins, Succeeds}
-use Rattle.history.proofs.RequestFields.{memory-data, user-data}
 use Rattle.history.proofs.Invariant.{Inv, fine, now}
 use Rattle.history.proofs.Means.{Means, store-span}
 use Rattle.history.proofs.MemoryRun.{memory-place, memory-run}
 use Rattle.device.proofs.Octet.{octets-data, octets-bits}
+use Rattle.pdu.proofs.Readings.{reading}
+use Rattle.device.proofs.Given.{memory-data, user-data}
 use Rattle.history.proofs.Permits.{wish, memory-is}
 use Rattle.history.proofs.Requests.{ends, Done}
 use Rattle.history.proofs.Spans.{laid}
@@ -71,11 +72,11 @@ module _ (f : First) (b : Begins f) (h : List Event) (x : State) (inv : Inv f h 
       Means (f .sheet) (laid (spans (f .sheet) (content f h) (given R (writing w n y)) (change (wish w n y))) (content f h)) (individual f h) (programming f h) (groupByte f h) (splice (x .sheet) o d)
   unfolding spans
   stored (bytes Device) n y o d r w e =
-      range-stored (w .range) (λ j. getD (given R (MemoryWrite n y)) j 0) d (ap length e ∙ memory-data a octets (r .reads))
+      range-stored (w .range) (λ j. getD (given R (MemoryWrite n y)) j 0) d (ap length e ∙ memory-data a n y (reading a _ (r .reads)))
       (rw e (octets-data (MemoryWrite n y) a octets))
       (λ j k. ap (λ (c : List ℕ). getD c j 0) (sym e))
   stored (bytes User) n y o d r w e =
-      range-stored (w .range) (λ j. getD (given R (UserMemoryWrite n y)) j 0) d (ap length e ∙ user-data a octets (r .reads))
+      range-stored (w .range) (λ j. getD (given R (UserMemoryWrite n y)) j 0) d (ap length e ∙ user-data a n y (reading a _ (r .reads)))
       (rw e (octets-data (UserMemoryWrite n y) a octets))
       (λ j k. ap (λ (c : List ℕ). getD c j 0) (sym e))
   stored bits n y o d r w e =

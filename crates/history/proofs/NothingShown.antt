@@ -13,12 +13,12 @@ use Rattle.sheet.specs.Layout.{_of_}
 use Rattle.sheet.specs.Region as region
 use Rattle.sheet.specs.Property as property
 use Rattle.sheet.specs.Entries.{entry, contents, InBody}
-use Rattle.sheet.specs.Frame.{Agree}
+use Rattle.sheet.specs.Agree.{Agree}
 use Rattle.sheet.specs.declared.Memory.{Memory}
 use Rattle.sheet.specs.declared.Memory.the-variants.{Device, User}
 use Rattle.sheet.proofs.Good.{Good, good}
 use Rattle.sheet.proofs.BodyPlaces.{after-contents, disjoint}
-use Rattle.sheet.proofs.Frames.{agree-sym}
+use Rattle.sheet.proofs.Agrees.{agree-sym}
 use Rattle.sheet.proofs.Sames.{count-same, at-same, end-same, region-same, property-same}
 use Rattle.pdu.specs.Read.{readPdu}
 use Rattle.judge.specs.Session.{levelOf, levelIn, connected}

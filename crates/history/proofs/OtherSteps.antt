@@ -28,7 +28,7 @@ use Rattle.history.specs.Others.{programming, individual, newAddress, ne
 use Rattle.history.specs.Keeps.{Begins, Still}
 use Rattle.history.proofs.RequestFields.{address-field, serial-address}
 use Rattle.history.proofs.Hearing.{asks-is}
-use Rattle.history.proofs.Connections.{said}
+use Rattle.history.proofs.Said.{said}
 use Rattle.history.proofs.Invariant.{Inv, fine}
 use Rattle.history.proofs.Means.{store-flags, store-address}
 use Rattle.history.proofs.Places.{no-head, past-contents}

@@ -14,7 +14,7 @@ use Rattle.sheet.specs.Region as region
 use Rattle.sheet.specs.Property as property
 use Rattle.sheet.specs.Entries.{count, place, contents, entry, keyOf, bodyAt, bodyEnd, InBody}
 use Rattle.sheet.specs.Places.{Position, inHead, inEntry, inBody, regionAt, Stands, PropertyWith}
-use Rattle.sheet.specs.Frame.{Fixed}
+use Rattle.sheet.specs.Agree.{Fixed}
 use Rattle.sheet.specs.Rules.{Accepted}
 use Rattle.sheet.proofs.Good.{Good, good, accepted}
 use Rattle.sheet.proofs.BodyPlaces.{within, after-contents, disjoint}

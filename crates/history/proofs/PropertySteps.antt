@@ -13,12 +13,12 @@ use Rattle.sheet.specs.Kind.{properties}
 use Rattle.sheet.specs.Layout.{_of_}
 use Rattle.sheet.specs.Property as property
 use Rattle.sheet.specs.Entries.{count, place, entry, bodyAt, bodyEnd}
-use Rattle.sheet.specs.Frame.{Agree}
+use Rattle.sheet.specs.Agree.{Agree}
 use Rattle.sheet.specs.Rules.{entryDemands}
 use Rattle.sheet.specs.Places.{PropertyWith}
 use Rattle.sheet.specs.Stores.{Inside}
 use Rattle.sheet.proofs.Good.{accepted}
-use Rattle.sheet.proofs.Frames.{kept}
+use Rattle.sheet.proofs.Agrees.{kept}
 use Rattle.sheet.proofs.BodyPlaces.{inside-within}
 use Rattle.sheet.proofs.Sames.{count-same, place-same, property-same, at-same, end-same}
 use Rattle.sheet.proofs.Standing.{place-in}

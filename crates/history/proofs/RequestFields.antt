@@ -1,16 +1,14 @@
 -- What is known of the fields and the data of a request that reads, its bytes being below 256.
 -- Assumes nothing.
-use Prim.Native.Nat.{ℕ, _+_, _<_}
+use Prim.Native.Nat.{ℕ, _<_}
 use mathlib.Core.Path.{_≡_}
 use mathlib.Core.List.{List}
-use lib.ListN.{length, length-drop}
-use native.Mathlib.Omega.{arith}
-use Rattle.pdu.specs.Read.{readPdu, dataOf}
+use Rattle.pdu.specs.Read.{readPdu}
 use Rattle.pdu.specs.Allows.{Carries}
 use Rattle.pdu.proofs.Outcomes.{read-carries}
 use Rattle.pdu.specs.declared.Parsed.the-variants.{Is}
 use Rattle.pdu.specs.declared.Pdu.{Pdu}
-use Rattle.pdu.specs.declared.Pdu.the-variants.{GroupValueResponse, GroupValueWrite, IndividualAddressWrite, SerialNumberWrite, PropertyValueWrite, MemoryWrite, UserMemoryWrite}
+use Rattle.pdu.specs.declared.Pdu.the-variants.{GroupValueResponse, GroupValueWrite, IndividualAddressWrite, SerialNumberWrite, PropertyValueWrite}
 use Rattle.device.specs.Octets.{Octets}
 
 module _ (a : List ℕ) (small : Octets a) where
@@ -31,16 +29,3 @@ module _ (a : List ℕ) (small : Octets a) where
 
   pub serial-address : {n v : ℕ} → readPdu a ≡ Is (SerialNumberWrite n v) → v < 65536
   serial-address e = carries e .allowed .fields .1 .0
-
-  -- a memory write brings as many bytes as it says
-  pub user-data : {n y : ℕ} → readPdu a ≡ Is (UserMemoryWrite n y) → length (dataOf (UserMemoryWrite n y) a) ≡ n
-  unfolding dataOf
-  user-data {n} {y} e =
-      let l : length a ≡ 5 + n = carries e .allowed .suited in
-      rw (length-drop 5 a) (omega arith)
-
-  pub memory-data : {n y : ℕ} → readPdu a ≡ Is (MemoryWrite n y) → length (dataOf (MemoryWrite n y) a) ≡ n
-  unfolding dataOf
-  memory-data {n} {y} e =
-      let l : length a ≡ 4 + n = carries e .allowed .suited in
-      rw (length-drop 4 a) (omega arith)

@@ -27,7 +27,7 @@ use Rattle.history.specs.History.{First, wished, supplied, isRestart, of
 use Rattle.history.specs.Others.{programming, individual, groupByte, newAddress, newValue}
 use Rattle.history.specs.Keeps.{Writing, CarriedOut}
 use Rattle.history.proofs.Bools.{and-false, cond-same}
-use Rattle.history.proofs.Connections.{said}
+use Rattle.history.proofs.Said.{said}
 use Rattle.history.proofs.Invariant.{Inv, means-as}
 use Rattle.history.proofs.Means.{Means}
 use Rattle.history.proofs.Meets.{meets, heard-met}

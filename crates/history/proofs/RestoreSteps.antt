@@ -14,11 +14,11 @@ use Rattle.sheet.specs.Layout.{_of_}
 use Rattle.sheet.specs.Head as head
 use Rattle.sheet.specs.Property as property
 use Rattle.sheet.specs.Entries.{count, size, base, place, contents, entry, startOf, bodyAt, InBody}
-use Rattle.sheet.specs.Frame.{Agree, Fixed}
+use Rattle.sheet.specs.Agree.{Agree, Fixed}
 use Rattle.sheet.specs.Places.{Position, inHead, inEntry, inBody, PropertyWith}
 use Rattle.sheet.specs.Rules.{Accepted}
 use Rattle.sheet.proofs.Good.{Good}
-use Rattle.sheet.proofs.Frames.{agree-trans}
+use Rattle.sheet.proofs.Agrees.{agree-trans}
 use Rattle.sheet.proofs.Positions.{position}
 use Rattle.sheet.proofs.Sames.{count-same, place-same, contents-same, start-same}
 use Rattle.sheet.proofs.BodyPlaces.{end-is, start-up, from-start, to-next}

@@ -7,10 +7,10 @@ use mathlib.Core.List.{List, [], _∷_}
 use lib.ListN.{length}
 use native.Mathlib.Omega.{arith}
 use Rattle.sheet.specs.Head as head
-use Rattle.sheet.specs.Frame.{Agree}
+use Rattle.sheet.specs.Agree.{Agree}
 use Rattle.sheet.specs.But.{But}
 use Rattle.sheet.proofs.Good.{good}
-use Rattle.sheet.proofs.Frames.{both-or-neither}
+use Rattle.sheet.proofs.Agrees.{both-or-neither}
 use Rattle.judge.specs.declared.Session.{Session}
 use Rattle.device.specs.declared.Sessions.{Sessions}
 use Rattle.device.specs.Sessions.{sessionOf, sessionFor, turnedOf}

@@ -16,7 +16,7 @@ use Rattle.history.specs.History.{First, level, content}
 use Rattle.history.specs.Others.{programming, individual, groupByte}
 use Rattle.history.specs.Keeps.{Begins, Succeeds}
 use Rattle.history.proofs.Bools.{must-fail}
-use Rattle.history.proofs.Connections.{said}
+use Rattle.history.proofs.Said.{said}
 use Rattle.history.proofs.Framed.{allowed-same}
 use Rattle.history.proofs.Hearing.{asks-is, brings-is, reads-heard}
 use Rattle.history.proofs.Invariant.{Inv, now-accepted}

@@ -17,7 +17,7 @@ use Rattle.sheet.specs.Head as head
 use Rattle.sheet.specs.Property as property
 use Rattle.sheet.specs.Entries.{count, size, place, contents, entry, bodyAt}
 use Rattle.sheet.specs.Rules.{entryDemands, Accepted}
-use Rattle.sheet.specs.Frame.{Agree, Fixed}
+use Rattle.sheet.specs.Agree.{Agree, Fixed}
 use Rattle.sheet.specs.Stores.{countAt, NoCount}
 use Rattle.sheet.proofs.Good.{Good, good, accepted}
 use Rattle.sheet.proofs.BodyPlaces.{after-contents}

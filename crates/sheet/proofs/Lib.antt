@@ -1,4 +1,4 @@
--- Promises, named in docs/PROMISES.md: Plains, Nine, RulesKnown, Values, Examples, TwoMemories, Touching, Positions, Keys, Ranks, Runs, Frames, Stores, Counts.
+-- Promises, named in docs/PROMISES.md: Plains, Nine, RulesKnown, Values, Examples, TwoMemories, Touching, Positions, Keys, Ranks, Runs, Agrees, Stores, Counts.
 -- All others are laws behind them or behind the contracts.
 pub mod First
 pub mod ByKind
@@ -32,7 +32,7 @@ pub mod Runs
 pub mod Loops
 pub mod RankBound
 pub mod Sames
-pub mod Frames
+pub mod Agrees
 pub mod SameLookups
 pub mod Buts
 pub mod Sparing

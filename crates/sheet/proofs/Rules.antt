@@ -124,7 +124,7 @@ broken-ninth unbroken h = absurd (h refl)
 broken-ninth ninth h = refl
 
 -- late is 0 exactly if r is
-pub record Alike (late r : ℕ) : Type 0 where
+pub record ZeroTogether (late r : ℕ) : Type 0 where
   pub whole : late ≡ 0 → r ≡ 0
   pub even : r ≡ 0 → late ≡ 0
 
@@ -134,7 +134,7 @@ pub record Walked (s : List ℕ) (k a z late : ℕ) : Type 0 where
   pub within : k ≤ kinds
   pub at : a ≡ base s k
   pub clean : first (entriesRule s) k ≡ 0
-  pub broken : Alike late (first (bodiesRule s) k)
+  pub broken : ZeroTogether late (first (bodiesRule s) k)
   pub ends : late ≡ 0 → z ≡ startOf s k
   pub near : z ≤ long * (64 * k + 1)
 
@@ -144,7 +144,7 @@ pub record Passed (s : List ℕ) (k n a l z late i : ℕ) : Type 0 where
   pub few : n ≤ 64
   pub at : a ≡ place s k i
   pub clean : first (entryRule s k) i ≡ 0
-  pub broken : Alike late (orElse (first (bodiesRule s) k) (first (bodyRule s k) i))
+  pub broken : ZeroTogether late (orElse (first (bodiesRule s) k) (first (bodyRule s k) i))
   pub last : l ≡ lastOf k (floor s k i)
   pub ends : late ≡ 0 → z ≡ reached s k i
   pub near : z ≤ long * (64 * k + i + 1)
@@ -199,7 +199,7 @@ module _ (s : List ℕ) where
         after = u .is .next q
 
         -- the body is judged against where the one before ended, as long as nothing is late
-        now-late : Alike (e .late) (orElse (orElse (first (bodiesRule s) k) (first (bodyRule s k) i)) (bodyRule s k i))
+        now-late : ZeroTogether (e .late) (orElse (orElse (first (bodiesRule s) k) (first (bodyRule s k) i)) (bodyRule s k i))
         unfolding bodyRule bodyDemands
         now-late =
             record {
@@ -286,7 +286,7 @@ module _ (s : List ℕ) (r : ℕ) where
       none : orElse (first (entriesRule s) users) (entriesRule s users) ≡ 0
       none = sym (all-kinds s) ∙ (rw q at (w .clean))
 
-      b : Alike late (first (bodiesRule s) kinds)
+      b : ZeroTogether late (first (bodiesRule s) kinds)
       b = rw q at (w .broken)
 
       go : Dec (0 < late) → r ≡ orElse (first (bodiesRule s) kinds) (breach (endDemands s))

@@ -17,7 +17,7 @@ use Rattle.sheet.specs.Region as region
 use Rattle.sheet.specs.Entries.{count, contents, bodyAt, bodyEnd, InBody}
 use Rattle.sheet.specs.Lookup.{common, placeOf, joined, rangeOf}
 use Rattle.sheet.specs.Places.{regionAt, Stands, Ranged}
-use Rattle.sheet.specs.Frame.{Agree}
+use Rattle.sheet.specs.Agree.{Agree}
 use Rattle.sheet.specs.Rules.{Accepted}
 use Rattle.sheet.specs.declared.Memory.{Memory}
 use Rattle.sheet.specs.declared.Memory.the-variants.{Device, User}

@@ -13,7 +13,7 @@ use Rattle.sheet.specs.Region as region
 use Rattle.sheet.specs.Property as property
 use Rattle.sheet.specs.Entries.{count, keyOf}
 use Rattle.sheet.specs.Lookup.{seek, indexOf, objectAt, rank, nthOf, covers, runIn, placeOf, rangeOf}
-use Rattle.sheet.specs.Frame.{AgreeBy}
+use Rattle.sheet.specs.Agree.{AgreeBy}
 use Rattle.sheet.specs.Places.{regionAt, Stands, Ranged}
 use Rattle.sheet.specs.declared.Memory.{Memory}
 use Rattle.sheet.specs.declared.Run.the-variants.{Nowhere}

@@ -14,7 +14,7 @@ use Rattle.sheet.specs.Region as region
 use Rattle.sheet.specs.Property as property
 use Rattle.sheet.specs.Group as group
 use Rattle.sheet.specs.Entries.{count, size, base, place, contents, entry, keyOf, floorAfter, floor, offsetOf, lengthOf, bodyAt, bodyEnd, endFrom, startOf, reached}
-use Rattle.sheet.specs.Frame.{Agree, AgreeBy, Fixed}
+use Rattle.sheet.specs.Agree.{Agree, AgreeBy, Fixed}
 use Rattle.sheet.specs.Places.{regionAt}
 use Rattle.sheet.specs.declared.Memory.{Memory}
 use Rattle.sheet.specs.declared.Memory.the-variants.{Device, User}

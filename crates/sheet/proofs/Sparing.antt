@@ -14,7 +14,7 @@ use Rattle.sheet.specs.Property as property
 use Rattle.sheet.specs.Group as group
 use Rattle.sheet.specs.Entries.{count, size, place, entry, bodyAt}
 use Rattle.sheet.specs.Rules.{entryDemands, bodyDemands}
-use Rattle.sheet.specs.Frame.{Agree, Fixed}
+use Rattle.sheet.specs.Agree.{Agree, Fixed}
 use Rattle.sheet.specs.Stores.{countAt}
 use Rattle.sheet.proofs.Good.{Good}
 use Rattle.sheet.proofs.Sames.{users-alike, place-front}

@@ -17,7 +17,7 @@ use Rattle.sheet.specs.Head as head
 use Rattle.sheet.specs.Property as property
 use Rattle.sheet.specs.Group as group
 use Rattle.sheet.specs.Entries.{count, place, contents, entry, bodyAt, InBody}
-use Rattle.sheet.specs.Frame.{Agree}
+use Rattle.sheet.specs.Agree.{Agree}
 use Rattle.sheet.specs.Rules.{Accepted}
 use Rattle.sheet.specs.Stores.{Inside, Fit, countAt}
 use Rattle.sheet.proofs.Good.{Good, good}

@@ -14,7 +14,7 @@ pub mod Plain
 pub mod Lookup
 pub mod Values
 pub mod Places
-pub mod Frame
+pub mod Agree
 pub mod But
 pub mod Stores
 pub mod Sample

@@ -17,7 +17,7 @@ use Rattle.sheet.specs.Kind.{properties, groups}
 use Rattle.sheet.specs.Layout.{_of_}
 use Rattle.sheet.specs.Property as property
 use Rattle.sheet.specs.Entries.{count, place, entry, startOf}
-use Rattle.sheet.specs.Frame.{AgreeBy, Fixed}
+use Rattle.sheet.specs.Agree.{AgreeBy, Fixed}
 use Rattle.sheet.specs.Rules.{Accepted}
 use Rattle.sheet.proofs.Sames.{count-same, property-same, start-same}
 use Rattle.sheet.proofs.Standing.{entry-at, field-at}

@@ -10,7 +10,7 @@ use Rattle.sheet.specs.Kind.{properties, groups}
 use Rattle.sheet.specs.Layout.{_of_}
 use Rattle.sheet.specs.Property as property
 use Rattle.sheet.specs.Entries.{count, base, place, entry, bodyAt, startOf}
-use Rattle.sheet.specs.Frame.{Agree, Fixed}
+use Rattle.sheet.specs.Agree.{Agree, Fixed}
 
 -- the bytes before the entries: the number of properties
 abbrev pub front : ℕ

@@ -28,12 +28,12 @@ use Rattle.pdu.specs.declared.Pdu.{Pdu}
 use Rattle.pdu.specs.declared.Parsed.{Parsed}
 use Rattle.pdu.specs.declared.Parsed.the-variants.{Is, Refused}
 
-pub record Alike (a b : List ℕ) : Type 0 where
+pub record SameApdu (a b : List ℕ) : Type 0 where
   pub long : length a ≡ length b
   pub first : getD a 0 0 % 4 ≡ getD b 0 0 % 4
   pub rest : (j : ℕ) → getD a (suc j) 0 ≡ getD b (suc j) 0
 
-module _ (a b : List ℕ) (h : Alike a b) where
+module _ (a b : List ℕ) (h : SameApdu a b) where
   later : (j : ℕ) → 1 ≤ j → getD a j 0 ≡ getD b j 0
   later zero k = absurd (omega arith)
   later (suc j) k = h .rest j

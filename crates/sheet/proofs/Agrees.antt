@@ -14,7 +14,7 @@ use Rattle.sheet.specs.Group as group
 use Rattle.sheet.specs.Entries.{count, entry, sixBits}
 use Rattle.sheet.specs.Rules.{entryDemands, bodyDemands, Accepted}
 use Rattle.sheet.specs.declared.Memory.the-variants.{Device, User}
-use Rattle.sheet.specs.Frame.{Agree, AgreeBy}
+use Rattle.sheet.specs.Agree.{Agree, AgreeBy}
 use Rattle.sheet.proofs.ByKind.{eachKind}
 use Rattle.sheet.proofs.Good.{GoodIn, good, accepted}
 use Rattle.sheet.proofs.Sames.{front-same, count-same, region-same, property-same, group-same, floor-same, offset-same, at-same, start-same, reached-same}
