@@ -117,7 +117,7 @@ impl Tree {
         for path in place.last.iter().chain(&place.heading) {
             tops.extend(path.ancestors().map(Path::to_path_buf));
         }
-        let inner = ["", "specs", "proofs", "src"];
+        let inner = ["", "specs", "proofs", "proofs/promises", "proofs/trials", "src"];
         tops.iter().flat_map(|t| inner.iter().map(move |i| t.join(i).join(word))).find(|p| p.is_file())
     }
 

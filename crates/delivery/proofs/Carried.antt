@@ -19,7 +19,7 @@ use Rattle.device.specs.Step.{Step}
 use Rattle.device.specs.Asked.{Asked, says, stores, Reads, given, part}
 use Rattle.device.specs.GroupsDue.{Group, Brings, Flag, groupEntry}
 use Rattle.device.specs.Demand2.{done}
-use Rattle.device.proofs.RightGroups.{only-group-put0, only-group-put, only-group-read0, only-group-read}
+use Rattle.device.proofs.due.RightGroups.{only-group-put0, only-group-put, only-group-read0, only-group-read}
 use Rattle.delivery.specs.Delivery.{lengthCode}
 use Rattle.delivery.proofs.Received.{length-point}
 

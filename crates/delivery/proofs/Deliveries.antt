@@ -13,7 +13,7 @@ use Rattle.sheet.specs.Layout.{Field, _of_}
 use Rattle.sheet.specs.Group as group
 use Rattle.sheet.specs.Entries.{count, entry}
 use Rattle.sheet.specs.Agree.{Agree}
-use Rattle.sheet.proofs.Sames.{count-same, group-same}
+use Rattle.sheet.proofs.alike.Sames.{count-same, group-same}
 use Rattle.pdu.specs.declared.Pdu.{Pdu}
 use Rattle.pdu.specs.declared.Pdu.the-variants.{GroupValueRead, GroupValueResponse}
 use Rattle.points.specs.Point.{typeOf, widthAt, readPoint, numberOf, pointBytes}
@@ -27,10 +27,10 @@ use Rattle.device.specs.Asked.{Asked, quiet, says, stores, Reads, part}
 use Rattle.device.specs.GroupsDue.{Group, Brings, Flag, groupEntry}
 use Rattle.device.specs.Right.{Right}
 use Rattle.device.specs.Demand2.{done}
-use Rattle.device.proofs.Octet.{octets-splice}
-use Rattle.device.proofs.RightGroups.{only-group-length}
-use Rattle.device.proofs.Rightly.{right, right-only}
-use Rattle.device.proofs.Stays.{request-agrees}
+use Rattle.device.proofs.leaves.Octet.{octets-splice}
+use Rattle.device.proofs.due.RightGroups.{only-group-length}
+use Rattle.device.proofs.promises.Rightly.{right, right-only}
+use Rattle.device.proofs.leaves.Stays.{request-agrees}
 use Rattle.delivery.specs.Delivery.{lengthCode, Sends, Flagged, Suits, Delivered, Asks, Told}
 use Rattle.delivery.proofs.Received.{group-back, octets-point, length-point, length-data, length-body, received, sent-reads, sent-data, sent-octets}
 use Rattle.delivery.proofs.Stored.{room, still, handed}

@@ -26,8 +26,8 @@ use Rattle.device.specs.Sessions.{closed}
 use Rattle.device.specs.GroupsDue.{Brings}
 use Rattle.device.specs.Demand2.{done}
 use Rattle.device.specs.Marked.{sample}
-use Rattle.device.proofs.Octet.{octets-by}
-use Rattle.device.proofs.Rightly.{right}
+use Rattle.device.proofs.leaves.Octet.{octets-by}
+use Rattle.device.proofs.promises.Rightly.{right}
 use Rattle.delivery.specs.Delivery.{Sends, Flagged, Suits, Delivered, Asks, Told}
 use Rattle.delivery.proofs.Deliveries.{unsuited, delivered-ours, told-ours}
 

@@ -29,7 +29,7 @@ use Rattle.judge.specs.Session.{multicast}
 use Rattle.device.specs.Octets.{Octets}
 use Rattle.device.specs.Asked.{Asked, Takes, Reads, given}
 use Rattle.device.specs.GroupsDue.{Brings}
-use Rattle.device.proofs.Octet.{octets-none, octets-append, octets-bytes}
+use Rattle.device.proofs.leaves.Octet.{octets-none, octets-append, octets-bytes}
 use Rattle.delivery.specs.Delivery.{lengthCode, Sends}
 
 -- a group value is read back from its bytes, be it a Write or a Response

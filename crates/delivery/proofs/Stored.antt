@@ -15,11 +15,11 @@ use Rattle.sheet.specs.Entries.{count, entry, keyOf, offsetOf, lengthOf, bodyEn
 use Rattle.sheet.specs.Rules.{ruleOf, Accepted, isAccepted}
 use Rattle.sheet.specs.Lookup.{bodyOf, lookup, groupOf}
 use Rattle.sheet.specs.Agree.{Agree}
-use Rattle.sheet.proofs.Good.{good}
-use Rattle.sheet.proofs.Keys.{index-hit}
-use Rattle.sheet.proofs.BodyPlaces.{within}
-use Rattle.sheet.proofs.Sames.{count-same, group-same, offset-same, length-same}
-use Rattle.sheet.proofs.Agrees.{both-or-neither}
+use Rattle.sheet.proofs.rules.Good.{good}
+use Rattle.sheet.proofs.promises.Keys.{index-hit}
+use Rattle.sheet.proofs.places.BodyPlaces.{within}
+use Rattle.sheet.proofs.alike.Sames.{count-same, group-same, offset-same, length-same}
+use Rattle.sheet.proofs.promises.Agrees.{both-or-neither}
 
 module _ (s : List ℕ) (ok : Accepted s) (i : ℕ) (there : i < count s groups) (ds : List ℕ) (long : length ds ≡ max 1 (group.code of entry s groups i)) where
   abbrev pub stored : List ℕ

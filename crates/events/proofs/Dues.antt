@@ -5,7 +5,7 @@ use mathlib.Core.Path.{_≡_, refl}
 use mathlib.Core.List.{List}
 use Rattle.device.specs.Sessions.{sessionOf}
 use Rattle.device.specs.Events.{State, Effect}
-use Rattle.device.proofs.Dues.{same-effect}
+use Rattle.device.proofs.promises.Dues.{same-effect}
 use Rattle.versions.proofs.Dues as versions
 use Rattle.events.specs.Events.{restoring}
 use Rattle.events.specs.Due.{RestoreDue}

@@ -12,10 +12,10 @@ use Rattle.sheet.specs.Entries.{base}
 use Rattle.sheet.specs.Agree.{AgreeBy}
 use Rattle.sheet.specs.Rules.{Accepted}
 use Rattle.sheet.specs.But.{But}
-use Rattle.sheet.proofs.Buts.{splice-but}
-use Rattle.sheet.proofs.Sames.{count-same, place-same, start-same}
+use Rattle.sheet.proofs.alike.Buts.{splice-but}
+use Rattle.sheet.proofs.alike.Sames.{count-same, place-same, start-same}
 use Rattle.judge.specs.declared.Session.{Session}
-use Rattle.device.proofs.StepBut.{is-accepted}
+use Rattle.device.proofs.apart.StepBut.{is-accepted}
 use Rattle.versions.specs.Store.{versionIn}
 use Rattle.versions.specs.Settings.{entriesLong, restored, SameEntries, LowCounts}
 use Rattle.versions.specs.Restoring.{givesBack, restoreOutcome, restoreSheet}

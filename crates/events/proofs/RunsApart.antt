@@ -19,9 +19,9 @@ use Rattle.events.specs.Events.{Event, connect, disconnect, button, requ
 use Rattle.events.specs.Apart.{Settled, AllSettled}
 use Rattle.events.proofs.Stays.{stays}
 use Rattle.events.proofs.RestoreBut.{BothBut, restore-outcome, restore-but}
-use Rattle.device.proofs.StepBut.{press-outcome, press-but}
-use Rattle.device.proofs.Unseen.{unseen}
-use Rattle.device.proofs.RulesApart.{seen, rules-apart}
+use Rattle.device.proofs.apart.StepBut.{press-outcome, press-but}
+use Rattle.device.proofs.apart.Unseen.{unseen}
+use Rattle.device.proofs.promises.RulesApart.{seen, rules-apart}
 
 -- they agree on what the rules read, the number of the rules apart
 agree : {s s′ : List ℕ} → SameButRules s s′ → AgreeInside s s′

@@ -4,11 +4,11 @@ use Prim.Native.Nat.{ℕ}
 use mathlib.Core.List.{List}
 use Rattle.sheet.specs.Rules.{Accepted}
 use Rattle.sheet.specs.Agree.{Agree}
-use Rattle.sheet.proofs.Agrees.{both-or-neither}
-use Rattle.device.proofs.Agreeing.{agree-refl}
+use Rattle.sheet.proofs.promises.Agrees.{both-or-neither}
+use Rattle.device.proofs.leaves.Agreeing.{agree-refl}
 use Rattle.device.specs.Events.{State, requestOf}
 use Rattle.device.specs.Due.{asked}
-use Rattle.device.proofs.Stays.{request-agrees, button-agrees}
+use Rattle.device.proofs.leaves.Stays.{request-agrees, button-agrees}
 use Rattle.judge.specs.declared.Session.{Session}
 use Rattle.device.specs.Sessions.{sessionOf}
 use Rattle.versions.specs.Due.{RestoreDue, sheetRefused, storeRefused, unknownNumber, notOpen, differs, tooHigh, isRestored}

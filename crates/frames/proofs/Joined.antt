@@ -18,7 +18,7 @@ use Rattle.judge.specs.declared.Session.{Session}
 use Rattle.pdu.proofs.Readings.{reading}
 use Rattle.device.specs.Asked.{Asked}
 use Rattle.device.specs.Step.{stepOf}
-use Rattle.device.proofs.AnswerReads.{answer-reads}
+use Rattle.device.proofs.promises.AnswerReads.{answer-reads}
 use Rattle.cemi.specs.Layout.{table, Fit}
 use Rattle.cemi.specs.Parts.{tpduOf}
 use Rattle.cemi.specs.Write.{numbersOf, under, encoded, frameOf, writable}

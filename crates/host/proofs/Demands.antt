@@ -8,7 +8,7 @@ use Rattle.device.specs.Due.{RequestDue}
 use Rattle.device.specs.Demand1.{Leaves}
 use Rattle.device.specs.Demand2.{effectSeen}
 use Rattle.device.specs.declared.Sessions.{Sessions}
-use Rattle.device.proofs.Called.{call-leaves, call-due, call-only}
+use Rattle.device.proofs.promises.Called.{call-leaves, call-due, call-only}
 use Rattle.host.specs.Calls.{gave}
 use Rattle.host.specs.declared.Reply.{Reply}
 

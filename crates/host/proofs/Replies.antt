@@ -5,7 +5,7 @@ use mathlib.Core.List.{List}
 use Rattle.device.specs.Events.{Called}
 use Rattle.device.specs.declared.Sessions.{Sessions}
 use Rattle.device.specs.declared.Done.{Done}
-use Rattle.device.proofs.Called.{call-leaves}
+use Rattle.device.proofs.promises.Called.{call-leaves}
 
 module _ (q : Sessions) (mode n group : ℕ) (a s o : List ℕ) (d : Done) (s′ o′ : List ℕ) (c : Called q mode n group a s o d s′ o′) where
   pub few : d .count ≤ 16

@@ -10,7 +10,7 @@ use Rattle.sheet.specs.Rules.{Accepted}
 use Rattle.sheet.specs.Lookup.{objectAt, rank}
 use Rattle.sheet.specs.Places.{PropertyIn}
 use Rattle.sheet.specs.declared.PropertyEntry.{PropertyEntry}
-use Rattle.sheet.proofs.Good.{good}
+use Rattle.sheet.proofs.rules.Good.{good}
 
 module _ (s : List ℕ) (ok : Accepted s) (i : ℕ) (e : PropertyEntry) (p : PropertyIn s i e) where
   pub small-offset : e .offset ≤ 16384

@@ -11,8 +11,8 @@ use Rattle.sheet.specs.Layout.{_of_}
 use Rattle.sheet.specs.Group as group
 use Rattle.sheet.specs.Entries.{count, entry, keyOf}
 use Rattle.sheet.specs.Lookup.{indexOf}
-use Rattle.sheet.proofs.Good.{Good, accepted}
-use Rattle.sheet.proofs.Keys.{index-hit, index-key}
+use Rattle.sheet.proofs.rules.Good.{Good, accepted}
+use Rattle.sheet.proofs.promises.Keys.{index-hit, index-key}
 use Rattle.pdu.specs.declared.Pdu.the-variants.{GroupValueResponse}
 use Rattle.judge.specs.declared.Store.the-variants as store
 use Rattle.judge.specs.declared.Answer.the-variants as answer

@@ -14,8 +14,8 @@ use Rattle.sheet.specs.declared.Memory.{Memory}
 use Rattle.sheet.specs.declared.Memory.the-variants.{Device}
 use Rattle.sheet.specs.declared.Run.{Run}
 use Rattle.sheet.specs.declared.Run.the-variants.{At, Nowhere}
-use Rattle.sheet.proofs.Good.{Good}
-use Rattle.sheet.proofs.Runs.{ranged}
+use Rattle.sheet.proofs.rules.Good.{Good}
+use Rattle.sheet.proofs.promises.Runs.{ranged}
 use Rattle.octets.proofs.Truths.{and-is, never}
 use Rattle.octets.proofs.Walks.{by-test, by-eq}
 use Rattle.judge.specs.declared.Access.{Access}

@@ -14,9 +14,9 @@ use Rattle.sheet.specs.Layout.{_of_}
 use Rattle.sheet.specs.Property as property
 use Rattle.sheet.specs.Entries.{count, place, entry, keyOf}
 use Rattle.sheet.specs.Lookup.{nthOf, rank, objectAt}
-use Rattle.sheet.proofs.Good.{Good, accepted}
-use Rattle.sheet.proofs.Keys.{index-hit, index-key}
-use Rattle.sheet.proofs.Ranks.{nth-hit, nth-is}
+use Rattle.sheet.proofs.rules.Good.{Good, accepted}
+use Rattle.sheet.proofs.promises.Keys.{index-hit, index-key}
+use Rattle.sheet.proofs.promises.Ranks.{nth-hit, nth-is}
 use Rattle.octets.proofs.Truths.{and-is}
 use Rattle.pdu.specs.declared.Pdu.the-variants.{PropertyValueResponse, PropertyDescriptionResponse}
 use Rattle.judge.specs.declared.Store.{Store}

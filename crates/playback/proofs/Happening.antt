@@ -14,7 +14,7 @@ use Rattle.device.specs.Events.{Effect, Did, Called, named, connectOf, disconne
 use Rattle.events.specs.Events.{Event, connect, disconnect, button, request, eventOf}
 use Rattle.device.specs.declared.Sessions.{Sessions}
 use Rattle.device.specs.declared.Done.{Done}
-use Rattle.device.proofs.Called.{call-leaves}
+use Rattle.device.proofs.promises.Called.{call-leaves}
 use Rattle.playback.specs.Entry as entry
 use Rattle.playback.specs.Trace.{room, blank, eventBy, eventIn}
 use Rattle.playback.specs.Playing.{at}

@@ -11,8 +11,8 @@ use borrow.Author.Tests.{eq-eqb, ne-eqb}
 use Rattle.sheet.specs.Demand.{Demand, test, Holds, Fails, breach, Met, Tells}
 use Rattle.sheet.specs.First.{first, orElse}
 use Rattle.sheet.specs.Layout.{_of_}
-use Rattle.sheet.proofs.Demands.{passed, failed, told, met, unbroken}
-use Rattle.sheet.proofs.First.{orElse-some, first-each, first-all, first-stop}
+use Rattle.sheet.proofs.rules.Demands.{passed, failed, told, met, unbroken}
+use Rattle.sheet.proofs.rules.First.{orElse-some, first-each, first-all, first-stop}
 use Rattle.playback.specs.Entry as entry
 use Rattle.playback.specs.Trace.{count, entryOf}
 use Rattle.playback.specs.Rules.{reached, headDemands, stray, eventDemands, endDemands, headRule, eventRule, walkRule, refusalOf}

@@ -12,8 +12,8 @@ use Rattle.device.specs.declared.Sessions.{Sessions}
 use Rattle.history.specs.History.{First}
 use Rattle.history.specs.Keeps.{stateAfter, BringsOctets, AllOctets, Kept}
 use Rattle.history.specs.Rightful.{ours}
-use Rattle.history.proofs.Keep as keep
-use Rattle.history.proofs.InOrder.{run-is-after}
+use Rattle.history.proofs.promises.Keep as keep
+use Rattle.history.proofs.promises.InOrder.{run-is-after}
 use Rattle.playback.specs.Entry as entry
 use Rattle.playback.specs.Trace.{count, entryOf, eventIn, eventAt, eventsFrom, traceOf}
 use Rattle.playback.specs.Playing.{at, handledOf, playedOf, Plays}

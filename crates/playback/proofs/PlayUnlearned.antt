@@ -20,8 +20,8 @@ use Rattle.history.specs.Keeps.{stateAfter}
 use Rattle.history.specs.Isolation.{same}
 use Rattle.history.specs.Rightful.{ours}
 use Rattle.history.specs.Secret.{Hide, NoneBelow, AllAlike, none, more, NothingToldAlong}
-use Rattle.history.proofs.InOrder.{firstState, after-is-run}
-use Rattle.history.proofs.Unlearned.{unlearned}
+use Rattle.history.proofs.promises.InOrder.{firstState, after-is-run}
+use Rattle.history.proofs.promises.Unlearned.{unlearned}
 use Rattle.playback.specs.Trace.{count, room, eventsFrom, traceOf}
 use Rattle.playback.specs.Rules.{refusalOf}
 use Rattle.playback.specs.Playing.{at, line, lineOf, logOf, dueOf, refusalIn, handledOf, playedOf, Plays}

@@ -15,8 +15,8 @@ use Rattle.octets.specs.Splice.{splice}
 use Rattle.octets.proofs.Splices.{splice-none}
 use Rattle.sheet.specs.Demand.{Tells, breach}
 use Rattle.sheet.specs.First.{orElse}
-use Rattle.sheet.proofs.Demands.{told, unbroken}
-use Rattle.sheet.proofs.First.{orElse-some}
+use Rattle.sheet.proofs.rules.Demands.{told, unbroken}
+use Rattle.sheet.proofs.rules.First.{orElse-some}
 use Rattle.device.specs.Events.{State}
 use Rattle.events.specs.Events.{Event, run}
 use Rattle.device.specs.declared.Sessions.{Sessions}

@@ -11,8 +11,8 @@ use Rattle.octets.specs.Splice.{splice}
 use Rattle.octets.proofs.Splices.{splice-front, splice-none, length-splice}
 use Rattle.sheet.specs.Demand.{breach}
 use Rattle.sheet.specs.First.{orElse}
-use Rattle.sheet.proofs.Demands.{met, unbroken}
-use Rattle.sheet.proofs.First.{orElse-left, orElse-right}
+use Rattle.sheet.proofs.rules.Demands.{met, unbroken}
+use Rattle.sheet.proofs.rules.First.{orElse-left, orElse-right}
 use Rattle.device.specs.Events.{State}
 use Rattle.events.specs.Events.{Event, eventOf, after, run}
 use Rattle.device.specs.declared.Sessions.{Sessions}

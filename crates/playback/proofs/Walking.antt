@@ -11,8 +11,8 @@ use borrow.Author.Tests.{eq-eqb, ne-eqb}
 use Rattle.sheet.specs.Demand.{Tells, Met, breach}
 use Rattle.sheet.specs.First.{first, orElse}
 use Rattle.sheet.specs.Layout.{_of_}
-use Rattle.sheet.proofs.Demands.{told, met}
-use Rattle.sheet.proofs.First.{orElse-some, orElse-left, orElse-right, first-none, first-more, first-stop, first-each}
+use Rattle.sheet.proofs.rules.Demands.{told, met}
+use Rattle.sheet.proofs.rules.First.{orElse-some, orElse-left, orElse-right, first-none, first-more, first-stop, first-each}
 use Rattle.playback.specs.Entry as entry
 use Rattle.playback.specs.Trace.{head, count, place, entryOf}
 use Rattle.playback.specs.Rules.{reached, headDemands, stray, eventDemands, endDemands, headRule, eventRule, walkRule, refusalOf, Playable}

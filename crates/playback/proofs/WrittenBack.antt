@@ -17,8 +17,8 @@ use Rattle.octets.proofs.Numbers.{num-back, num-below, length-bytes}
 use Rattle.sheet.specs.Demand.{breach, Met}
 use Rattle.sheet.specs.First.{first, orElse}
 use Rattle.sheet.specs.Layout.{_of_}
-use Rattle.sheet.proofs.Demands.{unbroken}
-use Rattle.sheet.proofs.First.{first-none, first-more}
+use Rattle.sheet.proofs.rules.Demands.{unbroken}
+use Rattle.sheet.proofs.rules.First.{first-none, first-more}
 use Rattle.device.specs.Octets.{Octets}
 use Rattle.events.specs.Events.{Event, connect, disconnect, button, request, restore}
 use Rattle.playback.specs.Entry as entry

@@ -1,45 +1,7 @@
--- Promises, named in docs/PROMISES.md: Plains, Nine, RulesKnown, Values, Examples, TwoMemories, Touching, Positions, Keys, Ranks, Runs, Agrees, Stores, Counts.
--- All others are laws behind them or behind the contracts.
-pub mod First
-pub mod ByKind
-pub mod Editions
-pub mod Before
-pub mod Demands
-pub mod Entries
-pub mod Bodies
-pub mod Rules
-pub mod Good
-pub mod RulesKnown
-pub mod Rising
-pub mod BodyPlaces
-pub mod Telling
-pub mod Untils
-pub mod PlainRows
-pub mod Plains
-pub mod Nine
-pub mod Standing
-pub mod Positions
-pub mod FrontSearch
-pub mod Keys
-pub mod Ranks
-pub mod SearchLoops
-pub mod Halves
-pub mod Objects
-pub mod Fields
-pub mod Levels
-pub mod Regions
-pub mod Runs
-pub mod Loops
-pub mod RankBound
-pub mod Sames
-pub mod Agrees
-pub mod SameLookups
-pub mod Buts
-pub mod Sparing
-pub mod Counts
-pub mod Stores
-pub mod Parts
-pub mod Values
-pub mod Examples
-pub mod TwoMemories
-pub mod Touching
+-- promises has what docs/PROMISES.md names; all else are laws behind them and behind the contracts.
+-- A folder of one function's name holds the proof of that function.
+pub mod promises
+pub mod rules
+pub mod places
+pub mod searches
+pub mod alike

@@ -5,7 +5,7 @@ use mathlib.Core.Path.{_≡_, refl}
 use mathlib.Core.List.{List, [], _∷_}
 use native.Mathlib.Omega.{arith}
 use Rattle.sheet.specs.Rules.{ruleOf, edition}
-use Rattle.sheet.proofs.Nine.{at-most-nine}
+use Rattle.sheet.proofs.promises.Nine.{at-most-nine}
 use Rattle.sheet_check.specs.Line.{lineOf, saidOf}
 
 pub fine : (r : ℕ) → r ≡ 0 → 0x4F ∷ 0x4B ∷ 0x0A ∷ [] ≡ lineOf r

@@ -19,8 +19,8 @@ use Rattle.sheet.specs.Property as property
 use Rattle.sheet.specs.Entries.{count, place, entry, startOf}
 use Rattle.sheet.specs.Agree.{AgreeBy, Fixed}
 use Rattle.sheet.specs.Rules.{Accepted}
-use Rattle.sheet.proofs.Sames.{count-same, property-same, start-same}
-use Rattle.sheet.proofs.Standing.{entry-at, field-at}
+use Rattle.sheet.proofs.alike.Sames.{count-same, property-same, start-same}
+use Rattle.sheet.proofs.places.Standing.{entry-at, field-at}
 use Rattle.octets.specs.Octets.{Octets}
 use Rattle.octets.proofs.Octet.{octets-none, octets-take, octets-drop, octets-splice}
 use Rattle.versions.specs.Row as row

@@ -11,8 +11,8 @@ use Rattle.octets.proofs.Numbers.{length-bytes, bytes-back, bytes-zero, num-bel
 use Rattle.octets.specs.Octets.{Octets}
 use Rattle.sheet.specs.Demand.{breach, Met}
 use Rattle.sheet.specs.Layout.{_of_}
-use Rattle.sheet.proofs.Demands.{met}
-use Rattle.sheet.proofs.First.{orElse-left, orElse-right}
+use Rattle.sheet.proofs.rules.Demands.{met}
+use Rattle.sheet.proofs.rules.First.{orElse-left, orElse-right}
 use Rattle.versions.specs.Head as head
 use Rattle.versions.specs.Row as row
 use Rattle.versions.specs.Store.{Rising, none, next, GoodStore, settings, tableEnd, headOf, rowOf, tableOf, bodiesOf, laid, inRow, versionAt, versionsFrom, kept}

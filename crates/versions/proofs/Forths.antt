@@ -10,7 +10,7 @@ use Rattle.octets.specs.Bytes.{numAt, bytesOf}
 use Rattle.octets.proofs.Numbers.{length-bytes, num-back, bytes-zero}
 use Rattle.sheet.specs.Layout.{_of_}
 use Rattle.sheet.specs.Demand.{breach}
-use Rattle.sheet.proofs.Demands.{unbroken}
+use Rattle.sheet.proofs.rules.Demands.{unbroken}
 use Rattle.versions.specs.Head as head
 use Rattle.versions.specs.Row as row
 use Rattle.versions.specs.Store.{Version, Rising, none, next, GoodStore, settings, tableEnd, headOf, rowOf, tableOf, bodiesOf, laid, inRow, versionAt, versionsFrom, kept}

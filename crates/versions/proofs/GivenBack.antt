@@ -13,7 +13,7 @@ use Rattle.sheet.specs.Kind.{properties, groups}
 use Rattle.sheet.specs.Entries.{base, startOf}
 use Rattle.sheet.specs.Rules.{Accepted}
 use Rattle.sheet.specs.Agree.{Agree}
-use Rattle.sheet.proofs.Sames.{count-same, start-same}
+use Rattle.sheet.proofs.alike.Sames.{count-same, start-same}
 use Rattle.versions.specs.Settings.{front, many, entriesLong, bodiesLong, settingsOf, restored, SameEntries, LowCounts}
 use Rattle.versions.proofs.Backs.{num-bytes}
 use Rattle.versions.proofs.Restores as re

@@ -14,10 +14,10 @@ use Rattle.sheet.specs.Property as property
 use Rattle.sheet.specs.Entries.{base, place, startOf}
 use Rattle.sheet.specs.Rules.{Accepted}
 use Rattle.sheet.specs.Stores.{countAt}
-use Rattle.sheet.proofs.Good.{Good, good}
-use Rattle.sheet.proofs.BodyPlaces.{start-first, start-up}
-use Rattle.sheet.proofs.Sames.{count-same, start-same}
-use Rattle.sheet.proofs.Sparing.{count-stood}
+use Rattle.sheet.proofs.rules.Good.{Good, good}
+use Rattle.sheet.proofs.places.BodyPlaces.{start-first, start-up}
+use Rattle.sheet.proofs.alike.Sames.{count-same, start-same}
+use Rattle.sheet.proofs.alike.Sparing.{count-stood}
 use Rattle.versions.specs.Settings.{front, many, entriesLong, bodiesLong, settingsOf, inVersion, SameEntries, LowCounts, SameProperties}
 
 module _ (s : List ℕ) (ok : Accepted s) where

@@ -17,7 +17,7 @@ use Rattle.sheet.specs.Layout.{_of_}
 use Rattle.sheet.specs.Rules.{Accepted}
 use Rattle.sheet.specs.Entries.{base, startOf}
 use Rattle.sheet.specs.Agree.{Agree}
-use Rattle.sheet.proofs.Agrees.{both-or-neither}
+use Rattle.sheet.proofs.promises.Agrees.{both-or-neither}
 use Rattle.judge.specs.declared.Session.{Session}
 use Rattle.versions.specs.Head as head
 use Rattle.versions.specs.Store.{kept, isKept, versionIn, has, bodyOf}

@@ -23,8 +23,8 @@ use Rattle.sheet.specs.Rules.{Accepted}
 use Rattle.sheet.specs.Walk.{Counted}
 use Rattle.sheet.specs.Places.{PropertyIn}
 use Rattle.sheet.specs.declared.PropertyEntry.{PropertyEntry}
-use Rattle.sheet.proofs.Good.{Good, good}
-use Rattle.sheet.proofs.BodyPlaces.{starts, reached-first, reached-next, reached-last, start-up, start-first}
+use Rattle.sheet.proofs.rules.Good.{Good, good}
+use Rattle.sheet.proofs.places.BodyPlaces.{starts, reached-first, reached-next, reached-last, start-up, start-first}
 use Rattle.versions.specs.declared.settings.Extent.{Extent}
 
 -- a row whose offset is not set yet

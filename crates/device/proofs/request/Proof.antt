@@ -2,7 +2,7 @@
 -- Assumes nothing.
 use borrow.Author.Needs.{needs}
 use Rattle.pdu.proofs.Reading.{named}
-use Rattle.device.proofs.Requests.{carry-needs, answer-needs, did}
+use Rattle.device.proofs.calls.Requests.{carry-needs, answer-needs, did}
 use Rattle.device.proofs.request.Statement.{statement}
 use Rattle.device.proofs.request.Tie as tie
 

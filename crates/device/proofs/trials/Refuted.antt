@@ -12,9 +12,9 @@ use Rattle.device.specs.Asked.{Asked}
 use Rattle.device.specs.Demand2.{Serves, done}
 use Rattle.device.specs.Marked.{sample, Case, Result, readElement, readCount, writeElement, cases, asked, found, wanted}
 use Rattle.device.proofs.trials.Wrong.{refusesAll, fixedAnswer, inventsCount, inventsStored, storesDenied, levelsTurned, keyOfAnother, keylessWrite, writeKey0}
-use Rattle.device.proofs.Octet.{isBytes, octets-by}
-use Rattle.device.proofs.Rightly.{right-only}
-use Rattle.device.proofs.Cases.{marked}
+use Rattle.device.proofs.leaves.Octet.{isBytes, octets-by}
+use Rattle.device.proofs.promises.Rightly.{right-only}
+use Rattle.device.proofs.promises.Cases.{marked}
 use Rattle.device.proofs.trials.WrongSteps.{invented, invented-stored, stored, denied-stored, turned-stored, element-kept, key-stored, key-kept}
 
 -- what is due for a read of the element, and of the count

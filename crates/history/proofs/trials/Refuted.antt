@@ -35,16 +35,16 @@ use Rattle.versions.specs.Rules.{rowsRule, allRows, storeRule, isStore}
 use Rattle.versions.specs.Settings.{restored}
 use Rattle.versions.specs.Restoring.{sameEntry, lowCount, sameEntries, lowCounts, givesBack, atZero, restoreOutcome, restoreSheet}
 use Rattle.versions.specs.Example.{once}
-use Rattle.device.proofs.Octet.{isBytes, octets-by}
+use Rattle.device.proofs.leaves.Octet.{isBytes, octets-by}
 use Rattle.history.specs.Span.{same}
 use Rattle.history.specs.Wish.{asks, brings}
 use Rattle.history.specs.Permit.{heard, levelFor, regionFor, mayWrite, inRange, indexFor, entryFor, allowed}
 use Rattle.history.specs.History.{First, firstOf, keyIn, opened, level, content, permitted}
 use Rattle.history.specs.Keeps.{Begins, AllOctets, Keeps, stateAfter}
 use Rattle.history.specs.Rightful.{ours}
-use Rattle.history.proofs.Keep.{keeps}
-use Rattle.history.proofs.Pinned.{pinned}
-use Rattle.history.proofs.Spans.{same-so}
+use Rattle.history.proofs.promises.Keep.{keeps}
+use Rattle.history.proofs.promises.Pinned.{pinned}
+use Rattle.history.proofs.spans.Spans.{same-so}
 use Rattle.history.proofs.trials.Wrong.{Witness, wrongs}
 
 -- bytes, by one test

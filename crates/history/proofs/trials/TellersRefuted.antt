@@ -20,8 +20,8 @@ use Rattle.sheet.specs.Entries.{entry, contents, keyOf, floor, bodyAt, bodyEnd,
 use Rattle.sheet.specs.Rules.{entryDemands, bodyDemands, entryRule, bodyRule, entriesRule, bodiesRule, walkRule, restRule, ruleIn, isAccepted}
 use Rattle.sheet.specs.Lookup.{seek, indexOf, covers, placeOf, common, rangeOf, objectAt, rank, nthOf}
 use Rattle.sheet.specs.declared.Memory.the-variants.{Device}
-use Rattle.sheet.proofs.Good.{good}
-use Rattle.sheet.proofs.Buts.{part-but}
+use Rattle.sheet.proofs.rules.Good.{good}
+use Rattle.sheet.proofs.alike.Buts.{part-but}
 use Rattle.pdu.specs.Table.{find}
 use Rattle.pdu.specs.Rules.{lowAt, fourAt, twelveAt, headBytes}
 use Rattle.pdu.specs.Read.{readPdu, dataOf}
@@ -33,7 +33,7 @@ use Rattle.judge.specs.Judge.{reachedOf, isShut, judgeOf}
 use Rattle.device.specs.Carry.{build, bitAt}
 use Rattle.device.specs.Step.{stepBy, stepOf}
 use Rattle.device.specs.Events.{Effect, requestOf}
-use Rattle.device.proofs.Octet.{isBytes, octets-by}
+use Rattle.device.proofs.leaves.Octet.{isBytes, octets-by}
 use Rattle.events.specs.Events.{Event, connect, request, eventOf}
 use Rattle.history.specs.Span.{same}
 use Rattle.history.specs.Wish.{asks}
@@ -43,9 +43,9 @@ use Rattle.history.specs.Keeps.{stateAfter, Begins}
 use Rattle.history.specs.Keyless.{Unlocks, offers, Locked}
 use Rattle.history.specs.Isolation as isolation
 use Rattle.history.specs.Secret.{Secret, ofMemory, ofProperty, Hide, NoneBelow, none, more, NothingTold, Unlearned}
-use Rattle.history.proofs.Keyless.{all-shut}
-use Rattle.history.proofs.NothingShown.{secret-after}
-use Rattle.history.proofs.Spans.{same-so}
+use Rattle.history.proofs.promises.Keyless.{all-shut}
+use Rattle.history.proofs.promises.NothingShown.{secret-after}
+use Rattle.history.proofs.spans.Spans.{same-so}
 use Rattle.history.proofs.trials.Wrong.{sent}
 use Rattle.history.proofs.trials.Tellers.{guarded, otherSecrets, Teller, tellers, one, two}
 

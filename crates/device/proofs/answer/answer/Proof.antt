@@ -2,7 +2,7 @@
 -- Assumes nothing.
 use borrow.Author.Needs.{needs}
 use native.Mathlib.Omega.{arith}
-use Rattle.device.proofs.Sent.{via-room, via-answer-safe, via-answer, silence, sheet-allowed, via-sheet}
+use Rattle.device.proofs.due.Sent.{via-room, via-answer-safe, via-answer, silence, sheet-allowed, via-sheet}
 use Rattle.device.proofs.answer.answer.Statement.{statement}
 use Rattle.device.proofs.answer.answer.Tie as tie
 

@@ -2,7 +2,7 @@
 -- Assumes nothing.
 use borrow.Author.Needs.{needs}
 use Rattle.pdu.proofs.Writing.{has-room, same-room}
-use Rattle.device.proofs.Sent.{sent}
+use Rattle.device.proofs.due.Sent.{sent}
 use Rattle.device.proofs.answer.send.Statement.{statement}
 use Rattle.device.proofs.answer.send.Tie as tie
 

@@ -2,7 +2,7 @@
 -- Assumes nothing.
 use borrow.Author.Needs.{needs}
 use native.Mathlib.Omega.{arith}
-use Rattle.device.proofs.Sent.{number-room, number-allowed, number-sent}
+use Rattle.device.proofs.due.Sent.{number-room, number-allowed, number-sent}
 use Rattle.device.proofs.answer.send_number.Statement.{statement}
 use Rattle.device.proofs.answer.send_number.Tie as tie
 

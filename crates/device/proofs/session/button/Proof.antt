@@ -2,7 +2,7 @@
 -- Assumes nothing.
 use borrow.Author.Needs.{needs}
 use native.Mathlib.Omega.{arith}
-use Rattle.device.proofs.Pressing.{put-room, not-pressed, was-pressed}
+use Rattle.device.proofs.calls.Pressing.{put-room, not-pressed, was-pressed}
 use Rattle.device.proofs.session.button.Statement.{statement}
 use Rattle.device.proofs.session.button.Tie as tie
 

@@ -1,7 +1,7 @@
 -- `device::session::disconnect` meets its contract.
 -- Assumes nothing.
 use borrow.Author.Needs.{needs}
-use Rattle.device.proofs.Turns.{named-both}
+use Rattle.device.proofs.calls.Turns.{named-both}
 use Rattle.device.proofs.session.disconnect.Statement.{statement}
 use Rattle.device.proofs.session.disconnect.Tie as tie
 

@@ -3,7 +3,7 @@
 use borrow.Author.Needs.{needs}
 use native.Mathlib.Omega.{arith}
 use Rattle.octets.proofs.Tests.{tests}
-use Rattle.device.proofs.Turns.{levelled}
+use Rattle.device.proofs.calls.Turns.{levelled}
 use Rattle.device.proofs.session.with_level.Statement.{statement}
 use Rattle.device.proofs.session.with_level.Tie as tie
 

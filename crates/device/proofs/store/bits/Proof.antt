@@ -7,7 +7,7 @@ use native.Mathlib.Omega.{arith}
 use lib.ListN.{length, length-set}
 use Rattle.octets.specs.Splice.{splice}
 use Rattle.device.specs.Carry.{build, bitAt}
-use Rattle.device.proofs.Bits.{bits-none, bits-more}
+use Rattle.device.proofs.leaves.Bits.{bits-none, bits-more}
 use Rattle.device.proofs.store.bits.Statement.{statement}
 use Rattle.device.proofs.store.bits.Tie as tie
 

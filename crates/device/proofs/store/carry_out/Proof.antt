@@ -1,7 +1,7 @@
 -- `device::store::carry_out` meets its contract.
 -- Assumes nothing.
 use borrow.Author.Needs.{needs}
-use Rattle.device.proofs.Runs.{second-safe, both-stored}
+use Rattle.device.proofs.due.Runs.{second-safe, both-stored}
 use Rattle.device.proofs.store.carry_out.Statement.{statement}
 use Rattle.device.proofs.store.carry_out.Tie as tie
 

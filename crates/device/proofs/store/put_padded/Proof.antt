@@ -1,7 +1,7 @@
 -- `device::store::put_padded` meets its contract.
 -- Assumes nothing.
 use borrow.Author.Needs.{needs}
-use Rattle.device.proofs.Stores.{zeros-first}
+use Rattle.device.proofs.leaves.Stores.{zeros-first}
 use Rattle.device.proofs.store.put_padded.Statement.{statement}
 use Rattle.device.proofs.store.put_padded.Tie as tie
 

@@ -1,7 +1,7 @@
 -- `device::store::store` meets its contract: each arm knows the run, and what the function that it calls stores.
 -- Assumes nothing.
 use borrow.Author.Needs.{needs}
-use Rattle.device.proofs.Runs.{via-safe, via-padded, via-store}
+use Rattle.device.proofs.due.Runs.{via-safe, via-padded, via-store}
 use Rattle.device.proofs.store.store.Statement.{statement}
 use Rattle.device.proofs.store.store.Tie as tie
 

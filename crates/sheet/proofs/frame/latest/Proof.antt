@@ -1,7 +1,7 @@
 -- `sheet::frame::latest` meets its contract.
 -- Assumes nothing.
 use borrow.Author.Needs.{needs}
-use Rattle.sheet.proofs.Editions.{latest-second, latest-first}
+use Rattle.sheet.proofs.rules.Editions.{latest-second, latest-first}
 use Rattle.sheet.proofs.frame.latest.Statement.{statement}
 use Rattle.sheet.proofs.frame.latest.Tie as tie
 

@@ -1,7 +1,7 @@
 -- `sheet::frame::spare` meets its contract.
 -- Assumes nothing.
 use borrow.Author.Needs.{needs}
-use Rattle.sheet.proofs.Editions.{spare-second, spare-first}
+use Rattle.sheet.proofs.rules.Editions.{spare-second, spare-first}
 use Rattle.sheet.proofs.frame.spare.Statement.{statement}
 use Rattle.sheet.proofs.frame.spare.Tie as tie
 

@@ -1,7 +1,7 @@
 -- `sheet::head::flags` meets its contract.
 -- Assumes nothing.
 use borrow.Author.Needs.{needs}
-use Rattle.sheet.proofs.Fields.{flags-low}
+use Rattle.sheet.proofs.places.Fields.{flags-low}
 use Rattle.sheet.proofs.head.flags.Statement.{statement}
 use Rattle.sheet.proofs.head.flags.Tie as tie
 

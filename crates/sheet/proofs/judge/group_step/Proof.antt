@@ -1,7 +1,7 @@
 -- `sheet::judge::group_step` meets its contract.
 -- Assumes nothing.
 use borrow.Author.Needs.{needs}
-use Rattle.sheet.proofs.Bodies.{behind, six-long, six-short}
+use Rattle.sheet.proofs.rules.Bodies.{behind, six-long, six-short}
 use Rattle.sheet.proofs.judge.group_step.Statement.{statement}
 use Rattle.sheet.proofs.judge.group_step.Tie as tie
 

@@ -1,7 +1,7 @@
 -- `sheet::judge::late_of` meets its contract.
 -- Assumes nothing.
 use native.Mathlib.Omega.{arith}
-use Rattle.sheet.proofs.Bodies.{none-late, not-late}
+use Rattle.sheet.proofs.rules.Bodies.{none-late, not-late}
 use Rattle.sheet.proofs.judge.late_of.Statement.{statement}
 use Rattle.sheet.proofs.judge.late_of.Tie as tie
 

@@ -1,7 +1,7 @@
 -- `sheet::judge::property_step` meets its contract.
 -- Assumes nothing.
 use borrow.Author.Needs.{needs}
-use Rattle.sheet.proofs.Bodies.{behind}
+use Rattle.sheet.proofs.rules.Bodies.{behind}
 use Rattle.sheet.proofs.judge.property_step.Statement.{statement}
 use Rattle.sheet.proofs.judge.property_step.Tie as tie
 

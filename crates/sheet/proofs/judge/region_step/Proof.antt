@@ -1,7 +1,7 @@
 -- `sheet::judge::region_step` meets its contract.
 -- Assumes nothing.
 use borrow.Author.Needs.{needs}
-use Rattle.sheet.proofs.Bodies.{behind}
+use Rattle.sheet.proofs.rules.Bodies.{behind}
 use Rattle.sheet.proofs.judge.region_step.Statement.{statement}
 use Rattle.sheet.proofs.judge.region_step.Tie as tie
 

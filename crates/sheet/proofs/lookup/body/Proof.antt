@@ -1,8 +1,8 @@
 -- `sheet::lookup::body` meets its contract.
 -- Assumes nothing.
 use borrow.Author.Needs.{needs}
-use Rattle.sheet.proofs.SearchLoops.{ok-framed, ok-entry}
-use Rattle.sheet.proofs.Parts.{no-part, the-part}
+use Rattle.sheet.proofs.searches.SearchLoops.{ok-framed, ok-entry}
+use Rattle.sheet.proofs.places.Parts.{no-part, the-part}
 use Rattle.sheet.proofs.lookup.body.Statement.{statement}
 use Rattle.sheet.proofs.lookup.body.Tie as tie
 

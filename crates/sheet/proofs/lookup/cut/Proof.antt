@@ -1,7 +1,7 @@
 -- `sheet::lookup::cut` meets its contract.
 -- Assumes nothing.
 use borrow.Author.Needs.{needs}
-use Rattle.sheet.proofs.Parts.{cut-out}
+use Rattle.sheet.proofs.places.Parts.{cut-out}
 use Rattle.sheet.proofs.lookup.cut.Statement.{statement}
 use Rattle.sheet.proofs.lookup.cut.Tie as tie
 

@@ -2,8 +2,8 @@
 -- Assumes nothing.
 use borrow.Author.Needs.{needs}
 use native.Mathlib.Omega.{arith}
-use Rattle.sheet.proofs.SearchLoops.{ok-framed, ok-entry}
-use Rattle.sheet.proofs.Halves.{half-past, half-missed, half-found}
+use Rattle.sheet.proofs.searches.SearchLoops.{ok-framed, ok-entry}
+use Rattle.sheet.proofs.searches.Halves.{half-past, half-missed, half-found}
 use Rattle.sheet.proofs.lookup.find.Statement.{statement}
 use Rattle.sheet.proofs.lookup.find.Tie as tie
 

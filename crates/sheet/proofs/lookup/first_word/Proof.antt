@@ -1,7 +1,7 @@
 -- `sheet::lookup::first_word` meets its contract.
 -- Assumes nothing.
 use borrow.Author.Needs.{needs}
-use Rattle.sheet.proofs.SearchLoops.{key-of}
+use Rattle.sheet.proofs.searches.SearchLoops.{key-of}
 use Rattle.sheet.proofs.lookup.first_word.Statement.{statement}
 use Rattle.sheet.proofs.lookup.first_word.Tie as tie
 

@@ -1,7 +1,7 @@
 -- `sheet::lookup::group` meets its contract.
 -- Assumes nothing.
 use borrow.Author.Needs.{needs}
-use Rattle.sheet.proofs.Parts.{part-in, part-of}
+use Rattle.sheet.proofs.places.Parts.{part-in, part-of}
 use Rattle.sheet.proofs.lookup.group.Statement.{statement}
 use Rattle.sheet.proofs.lookup.group.Tie as tie
 

@@ -3,8 +3,8 @@
 use Prim.Native.Nat.{_-_}
 use borrow.Author.Needs.{needs}
 use native.Mathlib.Omega.{arith}
-use Rattle.sheet.proofs.SearchLoops.{ok-framed}
-use Rattle.sheet.proofs.Halves.{Halved, halves-begin, half-there, upper-half, lower-half, halves-end}
+use Rattle.sheet.proofs.searches.SearchLoops.{ok-framed}
+use Rattle.sheet.proofs.searches.Halves.{Halved, halves-begin, half-there, upper-half, lower-half, halves-end}
 use Rattle.sheet.proofs.lookup.lower.Statement.{statement}
 use Rattle.sheet.proofs.lookup.lower.Tie as tie
 

@@ -1,7 +1,7 @@
 -- `sheet::lookup::user_region` meets its contract.
 -- Assumes nothing.
 use borrow.Author.Needs.{needs}
-use Rattle.sheet.proofs.Parts.{part-in, part-of}
+use Rattle.sheet.proofs.places.Parts.{part-in, part-of}
 use Rattle.sheet.proofs.lookup.user_region.Statement.{statement}
 use Rattle.sheet.proofs.lookup.user_region.Tie as tie
 

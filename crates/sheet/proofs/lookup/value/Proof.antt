@@ -1,7 +1,7 @@
 -- `sheet::lookup::value` meets its contract.
 -- Assumes nothing.
 use borrow.Author.Needs.{needs}
-use Rattle.sheet.proofs.Parts.{no-sheet, in-sheet}
+use Rattle.sheet.proofs.places.Parts.{no-sheet, in-sheet}
 use Rattle.sheet.proofs.lookup.value.Statement.{statement}
 use Rattle.sheet.proofs.lookup.value.Tie as tie
 

@@ -2,8 +2,8 @@
 -- Assumes nothing.
 use mathlib.Core.Path.{sym}
 use borrow.Author.Needs.{needs}
-use Rattle.sheet.proofs.SearchLoops.{ok-framed, ok-entry}
-use Rattle.sheet.proofs.Loops.{none-left, flip, gap, touching}
+use Rattle.sheet.proofs.searches.SearchLoops.{ok-framed, ok-entry}
+use Rattle.sheet.proofs.searches.Loops.{none-left, flip, gap, touching}
 use Rattle.sheet.proofs.ranges.next.Statement.{statement}
 use Rattle.sheet.proofs.ranges.next.Tie as tie
 

@@ -3,7 +3,7 @@
 use Prim.Native.Nat.{_-_}
 use borrow.Author.Needs.{needs}
 use Rattle.sheet.specs.Entries.{count}
-use Rattle.sheet.proofs.Loops.{Going, range-empty, none-begins, none-reaches, first-there, first-from, range-begins, no-next, less-left, goes-on, all-found}
+use Rattle.sheet.proofs.searches.Loops.{Going, range-empty, none-begins, none-reaches, first-there, first-from, range-begins, no-next, less-left, goes-on, all-found}
 use Rattle.sheet.proofs.ranges.range.Statement.{statement}
 use Rattle.sheet.proofs.ranges.range.Tie as tie
 

@@ -1,7 +1,7 @@
 -- `sheet::records::count` meets its contract.
 -- Assumes nothing.
 use borrow.Author.Needs.{needs}
-use Rattle.sheet.proofs.SearchLoops.{ok-framed}
+use Rattle.sheet.proofs.searches.SearchLoops.{ok-framed}
 use Rattle.sheet.proofs.records.count.Statement.{statement}
 use Rattle.sheet.proofs.records.count.Tie as tie
 

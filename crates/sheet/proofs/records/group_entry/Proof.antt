@@ -1,7 +1,7 @@
 -- `sheet::records::group_entry` meets its contract.
 -- Assumes nothing.
 use borrow.Author.Needs.{needs}
-use Rattle.sheet.proofs.Fields.{group-there, group-in}
+use Rattle.sheet.proofs.places.Fields.{group-there, group-in}
 use Rattle.sheet.proofs.records.group_entry.Statement.{statement}
 use Rattle.sheet.proofs.records.group_entry.Tie as tie
 

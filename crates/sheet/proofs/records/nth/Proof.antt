@@ -3,8 +3,8 @@
 use mathlib.Core.Path.{refl}
 use borrow.Author.Needs.{needs}
 use native.Mathlib.Omega.{arith}
-use Rattle.sheet.proofs.SearchLoops.{ok-framed, ok-entry}
-use Rattle.sheet.proofs.Objects.{nth-there, nth-short, nth-other}
+use Rattle.sheet.proofs.searches.SearchLoops.{ok-framed, ok-entry}
+use Rattle.sheet.proofs.searches.Objects.{nth-there, nth-short, nth-other}
 use Rattle.sheet.proofs.records.nth.Statement.{statement}
 use Rattle.sheet.proofs.records.nth.Tie as tie
 

@@ -1,7 +1,7 @@
 -- `sheet::records::object_at` meets its contract.
 -- Assumes nothing.
 use borrow.Author.Needs.{needs}
-use Rattle.sheet.proofs.Loops.{object-of}
+use Rattle.sheet.proofs.searches.Loops.{object-of}
 use Rattle.sheet.proofs.records.object_at.Statement.{statement}
 use Rattle.sheet.proofs.records.object_at.Tie as tie
 

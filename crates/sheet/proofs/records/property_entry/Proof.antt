@@ -1,8 +1,8 @@
 -- `sheet::records::property_entry` meets its contract.
 -- Assumes nothing.
 use borrow.Author.Needs.{needs}
-use Rattle.sheet.proofs.SearchLoops.{ok-framed}
-use Rattle.sheet.proofs.Fields.{property-there, property-few, property-in}
+use Rattle.sheet.proofs.searches.SearchLoops.{ok-framed}
+use Rattle.sheet.proofs.places.Fields.{property-there, property-few, property-in}
 use Rattle.sheet.proofs.records.property_entry.Statement.{statement}
 use Rattle.sheet.proofs.records.property_entry.Tie as tie
 

@@ -2,8 +2,8 @@
 -- Assumes nothing.
 use borrow.Author.Needs.{needs}
 use native.Mathlib.Omega.{arith}
-use Rattle.sheet.proofs.Fields.{property-there}
-use Rattle.sheet.proofs.Objects.{index-none, index-within, first-last, index-past}
+use Rattle.sheet.proofs.places.Fields.{property-there}
+use Rattle.sheet.proofs.searches.Objects.{index-none, index-within, first-last, index-past}
 use Rattle.sheet.proofs.records.rank.Statement.{statement}
 use Rattle.sheet.proofs.records.rank.Tie as tie
 

@@ -2,7 +2,7 @@
 -- Assumes nothing.
 use borrow.Author.Needs.{needs}
 use native.Mathlib.Omega.{arith}
-use Rattle.sheet.proofs.Entries.{few, at-place}
+use Rattle.sheet.proofs.rules.Entries.{few, at-place}
 use Rattle.sheet.proofs.table.entry.Statement.{statement}
 use Rattle.sheet.proofs.table.entry.Tie as tie
 

@@ -1,7 +1,7 @@
 -- `sheet::table::many` meets its contract.
 -- Assumes nothing.
 use borrow.Author.Needs.{needs}
-use Rattle.sheet.proofs.Entries.{counted, users-counted}
+use Rattle.sheet.proofs.rules.Entries.{counted, users-counted}
 use Rattle.sheet.proofs.table.many.Statement.{statement}
 use Rattle.sheet.proofs.table.many.Tie as tie
 

@@ -4,7 +4,7 @@ use mathlib.Core.Path.{_∙_, ap}
 use borrow.Author.Needs.{needs}
 use native.Mathlib.Omega.{arith}
 use Rattle.sheet.specs.Entries.{size}
-use Rattle.sheet.proofs.Entries.{starts}
+use Rattle.sheet.proofs.rules.Entries.{starts}
 use Rattle.sheet.proofs.table.offset.Statement.{statement}
 use Rattle.sheet.proofs.table.offset.Tie as tie
 

@@ -2,7 +2,7 @@
 -- Assumes nothing.
 use borrow.Author.Needs.{needs}
 use native.Mathlib.Omega.{arith}
-use Rattle.sheet.proofs.Entries.{part-end, part}
+use Rattle.sheet.proofs.rules.Entries.{part-end, part}
 use Rattle.sheet.proofs.table.part.Statement.{statement}
 use Rattle.sheet.proofs.table.part.Tie as tie
 

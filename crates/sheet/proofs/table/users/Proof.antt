@@ -1,7 +1,7 @@
 -- `sheet::table::users` meets its contract.
 -- Assumes nothing.
 use borrow.Author.Needs.{needs}
-use Rattle.sheet.proofs.Editions.{users-second, users-first}
+use Rattle.sheet.proofs.rules.Editions.{users-second, users-first}
 use Rattle.sheet.proofs.table.users.Statement.{statement}
 use Rattle.sheet.proofs.table.users.Tie as tie
 

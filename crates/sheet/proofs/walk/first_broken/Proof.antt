@@ -1,7 +1,7 @@
 -- `sheet::walk::first_broken` meets its contract.
 -- Assumes nothing.
 use borrow.Author.Needs.{needs}
-use Rattle.sheet.proofs.Rules.{framed, in-frame, in-zeros, in-walk}
+use Rattle.sheet.proofs.rules.Rules.{framed, in-frame, in-zeros, in-walk}
 use Rattle.sheet.proofs.walk.first_broken.Statement.{statement}
 use Rattle.sheet.proofs.walk.first_broken.Tie as tie
 

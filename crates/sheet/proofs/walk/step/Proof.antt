@@ -3,8 +3,8 @@
 use mathlib.Core.Path.{_≡_}
 use borrow.Author.Needs.{needs}
 use native.Mathlib.Omega.{arith}
-use Rattle.sheet.proofs.Entries.{place-near}
-use Rattle.sheet.proofs.Rules.{entry-there, place-there, says-region, says-property, says-group, says-user}
+use Rattle.sheet.proofs.rules.Entries.{place-near}
+use Rattle.sheet.proofs.rules.Rules.{entry-there, place-there, says-region, says-property, says-group, says-user}
 use Rattle.sheet.proofs.walk.step.Statement.{statement}
 use Rattle.sheet.proofs.walk.step.Tie as tie
 

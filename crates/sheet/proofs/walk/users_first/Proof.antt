@@ -1,7 +1,7 @@
 -- `sheet::walk::users_first` meets its contract.
 -- Assumes nothing.
 use borrow.Author.Needs.{needs}
-use Rattle.sheet.proofs.Rules.{users-first, users-passed}
+use Rattle.sheet.proofs.rules.Rules.{users-first, users-passed}
 use Rattle.sheet.proofs.walk.users_first.Statement.{statement}
 use Rattle.sheet.proofs.walk.users_first.Tie as tie
 

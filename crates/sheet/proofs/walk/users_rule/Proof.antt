@@ -2,7 +2,7 @@
 -- Assumes nothing.
 use Prim.Native.Nat.{_-_}
 use borrow.Author.Needs.{needs}
-use Rattle.sheet.proofs.Rules.{Ordered, users-begin, users-entry, users-go, users-left, users-end}
+use Rattle.sheet.proofs.rules.Rules.{Ordered, users-begin, users-entry, users-go, users-left, users-end}
 use Rattle.sheet.proofs.walk.users_rule.Statement.{statement}
 use Rattle.sheet.proofs.walk.users_rule.Tie as tie
 

@@ -3,7 +3,7 @@
 use Prim.Native.Nat.{_-_}
 use borrow.Author.Needs.{needs}
 use Rattle.sheet.specs.Kind.{kinds}
-use Rattle.sheet.proofs.Rules.{Walked, Passed, walk-begins, pass-begins, pass-entry, pass-near, pass-goes, walk-goes, left-at, at-end}
+use Rattle.sheet.proofs.rules.Rules.{Walked, Passed, walk-begins, pass-begins, pass-entry, pass-near, pass-goes, walk-goes, left-at, at-end}
 use Rattle.sheet.proofs.walk.walk.Statement.{statement}
 use Rattle.sheet.proofs.walk.walk.Tie as tie
 

@@ -1,0 +1,8 @@
+-- LAWS behind the contracts of the code.
+pub mod Writing
+pub mod SafeEach
+pub mod Safe
+pub mod Turns
+pub mod Pressing
+pub mod Room
+pub mod Requests

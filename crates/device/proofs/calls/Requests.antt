@@ -1,0 +1,76 @@
+-- From what the parts of a request ensure to what it does.
+-- Assumes nothing.
+use Prim.Native.Nat.{ℕ}
+use mathlib.Core.Path.{_≡_, refl, ap, sym, subst, _∙_}
+use mathlib.Core.List.{List}
+use Rattle.pdu.specs.Read.{readPdu}
+use Rattle.pdu.specs.declared.Parsed.{Parsed}
+use Rattle.judge.specs.Judge.{dataIn, judgeOf}
+use Rattle.judge.specs.declared.Session.{Session}
+use Rattle.judge.specs.declared.Decision.{Decision}
+use Rattle.device.specs.Carry.{storeOf, turnOf, closes, answerOf, Filled}
+use Rattle.device.specs.Safe.{StoreSafe, AnswerSafe, Roomy, Safe}
+use Rattle.device.specs.Step.{Step, stepBy, stepOf}
+use Rattle.device.specs.Sessions.{sessionFor, turnedOf, sessionsAfter}
+use Rattle.device.specs.Events.{Effect, requestOf, Did}
+use Rattle.device.specs.declared.Sessions.{Sessions}
+use Rattle.device.specs.declared.Done.{Done}
+use Rattle.device.proofs.calls.Safe.{safe}
+use Rattle.device.proofs.calls.Room.{roomy}
+
+module _ (room : ℕ) (s : List ℕ) (q : Session) (mode group : ℕ) (a d : List ℕ) (got : Parsed) (k : Decision) (read : got ≡ readPdu a)
+    (given : d ≡ dataIn got a) (judged : k ≡ judgeOf room s q mode group a) where
+  whose : d ≡ dataIn (readPdu a) a
+  whose = given ∙ ap (λ (x : Parsed). dataIn x a) read
+
+  is-safe : Safe s d k
+  is-safe =
+      subst (λ (x : List ℕ). Safe s x k) (sym whose)
+      (subst (λ (x : Decision). Safe s (dataIn (readPdu a) a) x) (sym judged) (safe room s q mode group a))
+
+  pub carry-needs : (StoreSafe s d (k .first)) × (StoreSafe (storeOf s d (k .first)) d (k .second))
+  carry-needs = (is-safe .first, is-safe .second)
+
+  module _ (s′ : List ℕ) (carried : s′ ≡ storeOf (storeOf s d (k .first)) d (k .second)) where
+    pub answer-needs : Roomy room (k .answer) × AnswerSafe s′ d (k .answer)
+    answer-needs = (
+      subst (λ (x : Decision). Roomy room (x .answer)) (sym judged) (roomy room s q mode group a),
+      subst (λ (x : List ℕ). AnswerSafe x d (k .answer)) (sym carried) (is-safe .answer),
+    )
+
+    module _ (out out′ : List ℕ) (n : ℕ) (qs new : Sessions) (c : ℕ) (sent : Filled (answerOf s′ d (k .answer)) n out out′)
+        (met : q ≡ sessionFor qs mode c) (turned : new ≡ turnedOf qs mode c (closes (k .turn)) (turnOf (sessionFor qs mode c) (k .turn))) where
+      -- the step that was carried out
+      abbrev after : Step
+      after =
+          record {
+            outcome = k .outcome;
+            answer = answerOf s′ d (k .answer);
+            session = turnOf q (k .turn);
+            sheet = s′;
+            restarts = closes (k .turn);
+          }
+
+      is-step : after ≡ stepOf room s (sessionFor qs mode c) mode group a
+      unfolding stepOf stepBy
+      is-step =
+          ap (λ (x : List ℕ). record { outcome = k .outcome; answer = answerOf x d (k .answer); session = turnOf q (k .turn); sheet = x; restarts = closes (k .turn) }) carried
+          ∙ ap (stepBy s q d) judged
+          ∙ ap (λ (x : List ℕ). stepBy s q x (judgeOf room s q mode group a)) whose
+          ∙ ap (λ (x : Session). stepOf room s x mode group a) met
+
+      abbrev result : Done
+      result = record { outcome = k .outcome; count = n; sessions = new }
+
+      pub did : Did (requestOf room s qs mode c group a) result out s′ out′
+      unfolding requestOf
+      did =
+          subst
+          (λ (r : Step). Did (record { outcome = r .outcome; answer = r .answer; sessions = sessionsAfter qs mode c r; sheet = r .sheet }) result out s′ out′) is-step
+          (record {
+            outcome = refl;
+            count = sent .count;
+            sessions = turned ∙ ap (λ (x : Session). turnedOf qs mode c (closes (k .turn)) (turnOf x (k .turn))) (sym met);
+            sheet = refl;
+            answer = sent .holds;
+          })

@@ -1,0 +1,19 @@
+-- LAWS: that what is done for each service is what is due.
+pub mod Given
+pub mod Taking
+pub mod Acts
+pub mod RequestCases
+pub mod WasReady
+pub mod Sent
+pub mod Stepped
+pub mod Shapes
+pub mod Typing
+pub mod Runs
+pub mod Properly
+pub mod RightGroups
+pub mod RightAddresses
+pub mod RightKeys
+pub mod RightProperties
+pub mod RightDescriptions
+pub mod Changes
+pub mod RightMemory

@@ -1,0 +1,48 @@
+-- A request that is carried out, and one that comes after it, were ready and read.
+-- Assumes nothing.
+use Prim.Native.Nat.{ℕ, _≤_}
+use mathlib.Core.Path.{_≡_, subst}
+use native.Mathlib.Omega.{arith}
+use Rattle.sheet.specs.Rules.{Accepted}
+use Rattle.sheet.proofs.promises.Agrees.{both-or-neither}
+use Rattle.pdu.specs.Read.{readPdu}
+use Rattle.pdu.proofs.Readings.{reading}
+use Rattle.pdu.specs.declared.Pdu.{Pdu}
+use Rattle.pdu.specs.declared.Parsed.the-variants.{Is}
+use Rattle.judge.specs.declared.Decision.{Decision}
+use Rattle.device.specs.Step.{stepBy, stepOf}
+use Rattle.device.specs.Asked.{Asked, Refusal, noRoom, badSheet, badLength, badMode, noSession, Reads}
+use Rattle.device.specs.Demand2.{done}
+use Rattle.device.specs.Next.{Next}
+use Rattle.device.proofs.due.RequestCases.{request-cases}
+use Rattle.device.proofs.leaves.Stays.{request-agrees}
+
+-- a refusal before the service gives 3 or more
+pub late : {x : Asked} {n : ℕ} → Refusal x n → 3 ≤ n
+late (noRoom b) = omega arith
+late (badSheet b s) = omega arith
+late (badLength b s l) = omega arith
+late (badMode b s l m h) = omega arith
+late (noSession b s l m c o) = omega arith
+
+module _ (x : Asked) (p : Pdu) (e : readPdu (x .apdu) ≡ Is p) where
+  -- WHAT IS CARRIED OUT WAS READY, in a mode that takes it
+  pub carried : done x .outcome ≤ 1 → Reads x p
+  unfolding stepOf stepBy
+  carried =
+      request-cases x (λ (k : Decision). k .outcome ≤ 1 → Reads x p)
+      (λ k r n v t h. absurd (omega arith)) (λ r f h. absurd (omega arith)) (λ k r n t u h. absurd (omega arith))
+      (λ q r h. let u = r .reads in let z : q ≡ p = cc in subst (Reads x) z r)
+      (λ n r h. absurd (omega (arith, late r)))
+
+-- the sheet that a request left is accepted if it was
+module _ (x y : Asked) (p q : Pdu) (r : Reads x p) (next : Next x y q) (low : y .mode ≤ 3) where
+  pub ready-next : Reads y q
+  ready-next =
+      let a = reading (y .apdu) q (next .reads) in
+      let s : Accepted (y .sheet) = rw (next .sheet) (both-or-neither (request-agrees x (r .ready .sheet)) .0 (r .ready .sheet)) in
+      record {
+        ready = record { buffer = next .buffer; sheet = s; least = a .least; most = a .most; mode = low; session = next .session };
+        takes = next .takes;
+        reads = next .reads;
+      }

@@ -1,0 +1,21 @@
+-- PROMISES: the statements that docs/PROMISES.md names. Each file opens with what it says.
+pub mod Keyless
+pub mod Height
+pub mod Keep
+pub mod Calls
+pub mod Pinned
+pub mod OneDevice
+pub mod RulesStay
+pub mod Said
+pub mod AtOnce
+pub mod Suffices
+pub mod Shown
+pub mod MemoryShown
+pub mod Isolated
+pub mod Permitted
+pub mod Places
+pub mod InOrder
+pub mod Counted
+pub mod NothingShown
+pub mod Unlearned
+pub mod Acts

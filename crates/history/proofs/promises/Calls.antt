@@ -1,0 +1,123 @@
+-- THE CALLS: whatever calls a host makes, demand 3 and what goes with it hold of what the last one left, and of what the next one gives.
+-- Assumes nothing.
+use Prim.Native.Nat.{ℕ, _<_, _≤_}
+use mathlib.Core.Path.{_≡_, refl, sym, ap, ap₂, _∙_}
+use mathlib.Core.Bool.{true, false}
+use mathlib.Core.List.{List, []}
+use Rattle.sheet.specs.Head.{rulesOf}
+use Rattle.sheet.specs.declared.Memory.{Memory}
+use Rattle.pdu.specs.Read.{readPdu}
+use Rattle.pdu.specs.declared.Parsed.the-variants.{Is}
+use Rattle.pdu.specs.declared.Pdu.the-variants.{PropertyValueRead}
+use Rattle.device.specs.Sessions.{sessionOf}
+use Rattle.device.specs.Events.{Effect, State}
+use Rattle.events.specs.Events.{Event, request, eventOf}
+use Rattle.device.specs.MemoryDue.{reading}
+use Rattle.device.specs.Apart.{SameEffect, Together}
+use Rattle.events.specs.Apart.{Settled, AllSettled}
+use Rattle.device.proofs.promises.Called.{call-only}
+use Rattle.device.proofs.promises.Dues.{request-due}
+use Rattle.events.proofs.RunsApart.{event-apart}
+use Rattle.history.specs.History.{First, permitted}
+use Rattle.history.specs.Keeps.{stateAfter, CarriedOut, BringsOctets, AllOctets, Begins, Kept}
+use Rattle.history.specs.Keyless.{Locked, Closed, Protected}
+use Rattle.history.specs.Shown.{Shows, MemoryShows}
+use Rattle.history.specs.Isolation.{isOf, Alike, Beside}
+use Rattle.history.specs.Rightful.{ours}
+use Rattle.history.specs.Calls.{Call, connects, disconnects, presses, requests, Calls, begin, next, restores}
+use Rattle.history.proofs.promises.InOrder.{firstState}
+use Rattle.history.proofs.promises.Isolated.{isolated}
+use Rattle.history.proofs.promises.Keep.{keeps}
+use Rattle.history.proofs.promises.Keyless.{shut-device, keyless-device}
+use Rattle.history.proofs.promises.MemoryShown.{ours-memory-shown}
+use Rattle.history.proofs.promises.RulesStay.{rules-stay}
+use Rattle.history.proofs.promises.Shown.{ours-shown}
+
+-- A CALL GIVES WHAT ITS EVENT GIVES, and it brought bytes
+pub call-is : {x : State} {e : Event} {r : Effect} → Call x e r → (r ≡ eventOf x e) × BringsOctets e
+unfolding eventOf
+call-is (connects c) = (refl, tt)
+call-is (disconnects c) = (refl, tt)
+call-is {x} (presses on r s′ p) =
+    (ap₂ (λ (n : ℕ) (s : List ℕ). record { outcome = n; answer = []; sessions = x .sessions; sheet = s }) (p .outcome) (p .sheet), tt)
+call-is {x} (requests mode c g a out r s′ o′ k) = (
+  sym
+      (call-only (x .sessions) mode c g a (x .sheet) out r s′ o′ k (eventOf x (request mode c g a out))
+      (request-due x mode c g a out (k .sheetBytes) (k .apduBytes))),
+  k .apduBytes,
+)
+call-is {x} (restores c n st r s′ small p) =
+    (ap₂ (λ (n : ℕ) (s : List ℕ). record { outcome = n; answer = []; sessions = x .sessions; sheet = s }) (p .outcome) (p .after), small)
+
+-- THE STATE AFTER CALLS is that after their events
+pub calls-after : {f : First} {h : List Event} {x : State} → Calls f h x → (x ≡ stateAfter ours f h) × AllOctets h
+unfolding stateAfter
+calls-after begin = (refl, tt)
+calls-after (next {e = e} k c) =
+    let i = calls-after k in
+    let z = call-is c in
+    (ap (λ (t : Effect). record { sessions = t .sessions; sheet = t .sheet }) (z .0 ∙ ap (λ (y : State). eventOf y e) (i .0)), (z .1, i .1))
+
+module _ {f : First} (b : Begins f) {h : List Event} {x : State} (k : Calls f h x) where
+  -- DEMAND 3
+  pub calls-keep : Kept ours f h × (x ≡ stateAfter ours f h)
+  calls-keep = let i = calls-after k in (keeps f h b (i .1), i .0)
+
+  -- THE RULES
+  pub rules-calls : rulesOf (x .sheet) ≡ rulesOf (f .sheet)
+  rules-calls = let i = calls-after k in rw (i .0) (rules-stay ours keeps f h b (i .1))
+
+  -- NOBODY WITHOUT THE KEY
+  module _ (l : ℕ) (low : l < 3) where
+    pub shut-calls :
+        (c : ℕ) → sessionOf (f .sessions) c .opened ≡ false → Locked f l c h → sessionOf (x .sessions) c .opened ≡ true → l < sessionOf (x .sessions) c .level
+    shut-calls c closed locked = let i = calls-after k in rw (i .0) (shut-device l low ours keeps f b h (i .1) c closed locked)
+
+    pub keyless-calls : Closed f → Locked f l 0 h → Locked f l 1 h → Protected f l x
+    keyless-calls closed p q = let i = calls-after k in rw (i .0) (keyless-device l low ours keeps f b h (i .1) closed p q)
+
+  -- THE NEXT CALL
+  module _ {e : Event} {r : Effect} (d : Call x e r) where
+    gives : r ≡ eventOf (stateAfter ours f h) e
+    gives = call-is d .0 ∙ ap (λ (y : State). eventOf y e) (calls-after k .0)
+
+    -- a write is carried out exactly if it is permitted
+    pub calls-permit : (CarriedOut e (r .outcome) → permitted f h e ≡ true) × (permitted f h e ≡ true → CarriedOut e (r .outcome))
+    calls-permit =
+        let z = calls-keep .0 in
+        rw gives (z .onlyPermitted e (call-is d .1), z .allPermitted e (call-is d .1))
+
+  module _ {mode c g : ℕ} {a out : List ℕ} {r : Effect} (d : Call x (request mode c g a out) r) (ok : r .outcome ≡ 0) where
+    -- WHAT A READ SHOWS
+    pub shown-calls : (object id n s : ℕ) → readPdu a ≡ Is (PropertyValueRead object id n s) → 1 ≤ s → Shows f h object id n s r
+    shown-calls object id n s reads low =
+        rw (gives d) (ours-shown f h b (calls-after k .1) mode c g a out (call-is d .1) object id n s reads low (rw (gives d) at ok))
+
+    pub memory-calls : (m : Memory) (n y : ℕ) → readPdu a ≡ Is (reading m n y) → MemoryShows f h mode c m n y r
+    memory-calls m n y reads =
+        rw (gives d) (ours-memory-shown f h b (calls-after k .1) mode c g a out (call-is d .1) m n y reads (rw (gives d) at ok))
+
+-- TWO TOOLS AT ONCE: two runs of calls
+module _ (f : First) (t o : ℕ) (n : t ≡ o → ⊥) {h h′ : List Event} (b : Beside ours f o h h′) {x x′ : State} (k : Calls f h x) (k′ : Calls f h′ x′) where
+  -- what they leave
+  pub isolated-calls : (x .sheet ≡ x′ .sheet) × (sessionOf (x .sessions) t ≡ sessionOf (x′ .sessions) t)
+  isolated-calls =
+      let s = isolated f t o n h h′ b in rw (calls-after k .0, calls-after k′ .0) (s .sheet, s .session)
+
+  -- and what the next calls give
+  pub isolated-next :
+      {e e′ : Event} {r r′ : Effect} → isOf o e ≡ false → Alike e e′ → Call x e r → Call x′ e′ r′ → (r .outcome ≡ r′ .outcome) × (r .answer ≡ r′ .answer)
+  isolated-next {e} {e′} u a d d′ =
+      let s = isolated f t o n h h′ b in
+      rw (call-is d .0, call-is d′ .0, calls-after k .0, calls-after k′ .0) (s .outcome e e′ u a, s .answer e e′ u a)
+
+-- SHEETS THAT DIFFER IN THE NUMBER OF THE RULES ALONE: one call that is not disputed
+pub apart-call : {x x′ : State} {e : Event} {r r′ : Effect} → Together x x′ → Settled e → Call x e r → Call x′ e r′ → SameEffect r r′
+apart-call {x} {x′} {e} t s d d′ = rw (call-is d .0, call-is d′ .0) (event-apart x x′ e t s)
+
+-- and runs of such calls
+pub apart-calls :
+    {f f′ : First} {h : List Event} {x x′ : State} → Together (firstState f) (firstState f′) → AllSettled h → Calls f h x → Calls f′ h x′ → Together x x′
+apart-calls t c begin begin = t
+apart-calls t c (next k d) (next k′ d′) =
+    let z = apart-call (apart-calls t (c .1) k k′) (c .0) d d′ in record { sessions = z .sessions; sheet = z .sheet }

@@ -1,0 +1,4 @@
+-- LAWS of tests, of spans and of bytes.
+pub mod Bools
+pub mod Spans
+pub mod RequestFields

@@ -1,0 +1,106 @@
+-- Writes to memory, of bytes and of bits, carried out and denied.
+-- Assumes nothing.
+use Prim.Native.Nat.{ℕ, _+_, _<_}
+use mathlib.Core.Path.{_≡_, refl, sym, ap, _∙_}
+use mathlib.Core.List.{List, [], _∷_}
+use lib.ListN.{length, getD}
+use lib.Bits.{bitAnd, bitXor}
+use Rattle.octets.specs.Splice.{splice}
+use Rattle.sheet.specs.Places.{Ranged}
+use Rattle.sheet.specs.declared.Memory.{Memory}
+use Rattle.sheet.specs.declared.Memory.the-variants.{Device, User}
+use Rattle.sheet.proofs.alike.SameLookups.{ranged-same}
+use Rattle.sheet.proofs.promises.Agrees.{agree-sym}
+use Rattle.sheet.proofs.promises.Runs.{range-within, range-store}
+use Rattle.pdu.specs.declared.Pdu.the-variants.{MemoryWrite, MemoryBitWrite, UserMemoryWrite}
+use Rattle.device.specs.Octets.{Octets}
+use Rattle.device.specs.Events.{State}
+use Rattle.events.specs.Events.{Event}
+use Rattle.device.specs.Asked.{Asked, Reads, given}
+use Rattle.device.specs.Due.{asked}
+use Rattle.device.specs.MemoryDue.{Write, bytes, bits, writing, MemoryWritable, Leaves}
+use Rattle.history.specs.Location.{memory}
+use Rattle.history.specs.Wish.{change, wishOf}
+use Rattle.history.specs.Permit.{spans}
+use Rattle.history.specs.History.{First, content}
+use Rattle.history.specs.Others.{programming, individual, groupByte}
+use Rattle.history.specs.Keeps.{Begins, Succeeds}
+use Rattle.history.proofs.steps.Invariant.{Inv, fine, now}
+use Rattle.history.proofs.stored.Means.{Means, store-span}
+use Rattle.history.proofs.stored.MemoryRun.{memory-place, memory-run}
+use Rattle.device.proofs.leaves.Octet.{octets-data, octets-bits}
+use Rattle.pdu.proofs.Readings.{reading}
+use Rattle.device.proofs.due.Given.{memory-data, user-data}
+use Rattle.history.proofs.heard.Permits.{wish, memory-is}
+use Rattle.history.proofs.steps.Requests.{ends, Done}
+use Rattle.history.proofs.spans.Spans.{laid}
+use Rattle.history.proofs.steps.Writes.{carried-out, denied}
+
+-- what a write to memory asks for
+pub wish-is : (w : Write) (n y : ℕ) → wishOf (writing w n y) ≡ change (wish w n y)
+wish-is (bytes Device) n y = refl
+wish-is (bytes User) n y = refl
+wish-is bits n y = refl
+
+module _ (f : First) (b : Begins f) (h : List Event) (x : State) (inv : Inv f h x) (mode c g : ℕ) (a out : List ℕ) (octets : Octets a) where
+  abbrev R : Asked
+  R = asked x mode c g a out
+
+  module _ {m : Memory} {n y o l : ℕ} (r : Ranged (x .sheet) m y n o l) where
+    -- the range stands where it stood
+    first : Ranged (f .sheet) m y n o l
+    first = ranged-same (agree-sym (inv .means .agree)) r
+
+    -- A STORE TO A RANGE
+    range-stored :
+        (give : ℕ → ℕ) (ds : List ℕ) → length ds ≡ n → Octets ds → ((j : ℕ) → j < n → give j ≡ getD ds j 0) →
+        Means (f .sheet) (laid (record { from = memory m y; long = n; give = give } ∷ []) (content f h)) (individual f h) (programming f h) (groupByte f h) (splice (x .sheet) o ds)
+    range-stored give ds size small equal =
+        store-span (fine inv b) (inv .means) (record { from = memory m y; long = n; give = give }) o ds
+        (rw size (range-within (now inv b) r))
+        (memory-run first give ds size equal)
+        (range-store (now inv b) r ds size)
+        small
+
+    -- what an address of the range holds
+    held : (j : ℕ) → j < n → content f h (memory m (y + j)) ≡ getD (x .sheet) (o + j) 0
+    held j e = sym (inv .means .holds (memory m (y + j)) _ (memory-place first j e))
+
+  -- what it leaves is what its span gives
+  stored :
+      (w : Write) (n y o : ℕ) (d : List ℕ) → Reads R (writing w n y) → MemoryWritable R w n y o → Leaves R w n y o d →
+      Means (f .sheet) (laid (spans (f .sheet) (content f h) (given R (writing w n y)) (change (wish w n y))) (content f h)) (individual f h) (programming f h) (groupByte f h) (splice (x .sheet) o d)
+  unfolding spans
+  stored (bytes Device) n y o d r w e =
+      range-stored (w .range) (λ j. getD (given R (MemoryWrite n y)) j 0) d (ap length e ∙ memory-data a n y (reading a _ (r .reads)))
+      (rw e (octets-data (MemoryWrite n y) a octets))
+      (λ j k. ap (λ (c : List ℕ). getD c j 0) (sym e))
+  stored (bytes User) n y o d r w e =
+      range-stored (w .range) (λ j. getD (given R (UserMemoryWrite n y)) j 0) d (ap length e ∙ user-data a n y (reading a _ (r .reads)))
+      (rw e (octets-data (UserMemoryWrite n y) a octets))
+      (λ j k. ap (λ (c : List ℕ). getD c j 0) (sym e))
+  stored bits n y o d r w e =
+      let given : List ℕ = given R (MemoryBitWrite n y) in
+      range-stored (w .range) (λ j. bitXor (bitAnd (content f h (memory Device (y + j))) (getD given j 0)) (getD given (n + j) 0)) d
+      (e .long)
+      (octets-bits e (inv .means .octets) (octets-data (MemoryBitWrite n y) a octets))
+      (λ j k. rw (e .each j k, held (w .range) j k))
+
+  -- A WRITE, carried out
+  pub memory-written :
+      (w : Write) (n y o : ℕ) (d : List ℕ) → Reads R (writing w n y) → MemoryWritable R w n y o → Leaves R w n y o d →
+      (k : ℕ) (answer : List ℕ) → Succeeds k →
+      Done f h mode c g a out (ends R k answer (splice (x .sheet) o d))
+  memory-written w n y o d r q e k answer low =
+      carried-out f b h x inv mode c g a out (writing w n y) (wish w n y) (wish-is w n y) r
+      (memory-is R (now inv b) w n y _ .1 (o, q))
+      k answer _ low (stored w n y o d r q e)
+
+  -- and denied
+  pub memory-denied :
+      (w : Write) (n y : ℕ) → Reads R (writing w n y) → ((o : ℕ) → MemoryWritable R w n y o → ⊥) → (k : ℕ) (answer : List ℕ) → (Succeeds k → ⊥) →
+      Done f h mode c g a out (ends R k answer (x .sheet))
+  memory-denied w n y r none k answer high =
+      denied f b h x inv mode c g a out (writing w n y) (wish w n y) (wish-is w n y) r
+      (λ e. let q = memory-is R (now inv b) w n y _ .0 e in none (q .0) (q .1))
+      k answer high

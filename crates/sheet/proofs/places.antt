@@ -1,0 +1,7 @@
+-- LAWS of where entries, bodies and their fields stand.
+pub mod Rising
+pub mod BodyPlaces
+pub mod Standing
+pub mod Fields
+pub mod Levels
+pub mod Parts

@@ -1,0 +1,135 @@
+-- Two sheets that agree on what the rules read are both accepted or both not.
+-- Assumes nothing.
+use Prim.Native.Nat.{ℕ, _<_, _≤_}
+use mathlib.Core.Path.{_≡_, sym, _∙_}
+use mathlib.Core.List.{List}
+use native.Mathlib.Omega.{arith}
+use Rattle.sheet.specs.Demand.{Met}
+use Rattle.sheet.specs.Kind.{kinds, regions, properties, groups, users}
+use Rattle.sheet.specs.Layout.{_of_}
+use Rattle.sheet.specs.Head as head
+use Rattle.sheet.specs.Region as region
+use Rattle.sheet.specs.Property as property
+use Rattle.sheet.specs.Group as group
+use Rattle.sheet.specs.Entries.{count, entry, sixBits}
+use Rattle.sheet.specs.Rules.{entryDemands, bodyDemands, Accepted}
+use Rattle.sheet.specs.declared.Memory.the-variants.{Device, User}
+use Rattle.sheet.specs.Agree.{Agree, AgreeBy}
+use Rattle.sheet.proofs.rules.ByKind.{eachKind}
+use Rattle.sheet.proofs.rules.Good.{GoodIn, good, accepted}
+use Rattle.sheet.proofs.alike.Sames.{front-same, count-same, region-same, property-same, group-same, floor-same, offset-same, at-same, start-same, reached-same}
+use Rattle.sheet.proofs.rules.PlainRows.{six-to, six-from}
+
+module _ {s s′ : List ℕ} (a : Agree s s′) where
+  below-same : (k i : ℕ) → i < count s′ k → i < count s k
+  below-same k i h = omega (arith, count-same a k)
+
+  -- AGREEMENT IS MUTUAL
+  pub agree-sym : Agree s′ s
+  agree-sym =
+      record {
+        long = sym (a .long);
+        front = λ p l h. sym (a .front p l h);
+        users = sym (a .users);
+        by = record { edition = sym (a .by .edition); byte15 = sym (a .by .byte15); rules = sym (a .by .rules) };
+        zero31 = sym (a .zero31);
+        flags = (a .flags .1, a .flags .0);
+        fixed = λ k i j hk hi hj f. sym (a .fixed k i j hk (below-same k i hi) hj f);
+        counts = λ i h.
+            let l = below-same properties i h in
+            rw (property-same a i property.maximum l (omega arith) (omega arith)) (a .counts i l .1, a .counts i l .0);
+        six = λ i h c.
+            let l = below-same groups i h in
+            let d : group.code of entry s groups i ≡ 0 = sym (group-same a i group.code l (omega arith)) ∙ c in
+            rw (at-same a groups i (omega arith) l) (a .six i l d .1, a .six i l d .0);
+      }
+
+  -- AGREEMENT GOES ON
+  pub agree-trans : {s″ : List ℕ} → Agree s′ s″ → Agree s s″
+  agree-trans b =
+      record {
+        long = b .long ∙ a .long;
+        front = λ p l h. b .front p l h ∙ a .front p l h;
+        users = b .users ∙ a .users;
+        by =
+            record {
+              edition = b .by .edition ∙ a .by .edition;
+              byte15 = b .by .byte15 ∙ a .by .byte15;
+              rules = b .by .rules ∙ a .by .rules;
+            };
+        zero31 = b .zero31 ∙ a .zero31;
+        flags = (λ h. b .flags .0 (a .flags .0 h), λ h. a .flags .1 (b .flags .1 h));
+        fixed = λ k i j hk hi hj f. b .fixed k i j hk (rw (count-same a k) hi) hj f ∙ a .fixed k i j hk hi hj f;
+        counts = λ i h.
+            let l = b .counts i (rw (count-same a properties) h) in
+            let m = rw (property-same a i property.maximum h (omega arith) (omega arith)) at l in
+            (λ n. m .0 (a .counts i h .0 n), λ n. a .counts i h .1 (m .1 n));
+        six = λ i h c.
+            let l = b .six i (rw (count-same a groups) h) (group-same a i group.code h (omega arith) ∙ c) in
+            let m = rw (at-same a groups i (omega arith) h) at l in
+            (λ n. m .0 (a .six i h c .0 n), λ n. a .six i h c .1 (m .1 n));
+      }
+
+-- what agrees with a sheet whose demands are all met, whatever the edition
+module _ {ed : ℕ} {R : List ℕ → List ℕ → Type 0} {s s′ : List ℕ} (g : GoodIn ed s) (a : AgreeBy R s s′) where
+  fewer : (k i : ℕ) → i < count s′ k → i < count s k
+  fewer k i h = omega (arith, count-same a k)
+
+  entries : (i k : ℕ) → k < kinds → i < count s k → Met (entryDemands s′ k i)
+  unfolding entryDemands
+  entries i =
+      eachKind (λ (k : ℕ). i < count s k → Met (entryDemands s′ k i))
+      (λ h.
+      rw (floor-same a regions i (omega arith) h, region-same a Device i region.address h (omega arith), region-same a Device i region.length h (omega arith), region-same a Device i region.levels h (omega arith), region-same a Device i region.zero h (omega arith))
+      (g .entries regions i (omega arith) h))
+      (λ h.
+      let m = g .entries properties i (omega arith) h in
+      let c : property.count of entry s properties i ≤ property.maximum of entry s properties i = omega (arith, m) in
+      rw (floor-same a properties i (omega arith) h, property-same a i property.id h (omega arith) (omega arith), property-same a i property.objectId h (omega arith) (omega arith), property-same a i property.typ h (omega arith) (omega arith), property-same a i property.element h (omega arith) (omega arith), property-same a i property.maximum h (omega arith) (omega arith), property-same a i property.levels h (omega arith) (omega arith), property-same a i property.zero h (omega arith) (omega arith))
+      (omega (arith, m, a .counts i h .0 c)))
+      (λ h.
+      rw (floor-same a groups i (omega arith) h, group-same a i group.address h (omega arith), group-same a i group.code h (omega arith), group-same a i group.flags h (omega arith), group-same a i group.zeros h (omega arith))
+      (g .entries groups i (omega arith) h))
+      (λ h.
+      rw (floor-same a users i (omega arith) h, region-same a User i region.address h (omega arith), region-same a User i region.length h (omega arith), region-same a User i region.levels h (omega arith), region-same a User i region.zero h (omega arith))
+      (g .entries users i (omega arith) h))
+
+  six : (i k : ℕ) → k < kinds → i < count s k → sixBits s′ k (entry s′ k i) ≤ 63
+  six i =
+      eachKind (λ (k : ℕ). i < count s k → sixBits s′ k (entry s′ k i) ≤ 63)
+      (λ h. unfold sixBits in omega arith)
+      (λ h. unfold sixBits in omega arith)
+      (λ h. six-from s′ i (λ c.
+      let d : group.code of entry s groups i ≡ 0 = sym (group-same a i group.code h (omega arith)) ∙ c in
+      rw (at-same a groups i (omega arith) h) (a .six i h d .0 (six-to s i (unfold bodyDemands in g .bodies groups i (omega arith) h .1 .0) d))))
+      (λ h. unfold sixBits in omega arith)
+
+  bodies : (k i : ℕ) → k < kinds → i < count s k → Met (bodyDemands s′ k i)
+  unfolding bodyDemands
+  bodies k i hk hi =
+      (offset-same a i k hk hi ∙ g .bodies k i hk hi .0 ∙ sym (reached-same a k i hk hi), (six i k hk hi, tt))
+
+  -- meets them too, up to an edition that its own is not past, if byte 15 and rules suit its own
+  pub kept-in :
+      (up : ℕ) → 1 ≤ head.edition of s′ → head.edition of s′ ≤ up → head.spare s′ ≡ 0 → head.rules of s′ ≤ head.latest s′ → GoodIn up s′
+  kept-in up lo hi spare rules =
+      record {
+        framed =
+            omega
+            (arith, lo, hi, a .long, g .framed, front-same a head.stated (omega arith) (omega arith), count-same a 0, count-same a 1, count-same a 2, count-same a 3);
+        zeros = omega (arith, spare, rules, a .zero31, a .flags .0 (g .zeros .0), g .zeros);
+        entries = λ k i hk h. entries i k hk (fewer k i h);
+        bodies = λ k i hk h. bodies k i hk (fewer k i h);
+        last = (start-same a kinds (omega arith) ∙ g .last .0 ∙ sym (a .long), tt);
+      }
+
+-- what agrees in edition, byte 15 and rules too meets them up to the same edition
+pub kept : {ed : ℕ} {s s′ : List ℕ} → GoodIn ed s → Agree s s′ → GoodIn ed s′
+kept {ed} {s} {s′} g a =
+    kept-in g a ed (omega (arith, g .framed, a .by .edition)) (omega (arith, g .framed, a .by .edition))
+    (rw (a .by .edition, a .by .byte15) (omega (arith, g .zeros))) (rw (a .by .edition, a .by .rules) (omega (arith, g .zeros)))
+
+-- OF TWO THAT AGREE BOTH ARE ACCEPTED OR NEITHER IS
+pub both-or-neither :
+    {s s′ : List ℕ} → Agree s s′ → (Accepted s → Accepted s′) × (Accepted s′ → Accepted s)
+both-or-neither {s} {s′} a = (λ e. accepted (kept (good s e) a), λ e. accepted (kept (good s′ e) (agree-sym a)))
