@@ -85,6 +85,15 @@ for library in $(grep -ohE 'lib[a-z_]+\.a' include/*.h | sort -u); do
     grep -q "^[A-Z_]* := \$(BUILD)/$library\$" mk/native.mk || { echo "same: a header names $library, which is not made"; bad=1; }
 done
 
+# a name that was once two things in two crates is one thing in one
+for name in Alike Seen Connections; do
+    having=$({ find crates -name "$name.antt"; grep -rlE "(record|data) $name( |\$)" crates --include='*.antt' || true; } | cut -d / -f 2 | sort -u | wc -l)
+    [ "$having" -le 1 ] || { echo "same: $name is a name in $having crates"; bad=1; }
+done
+
+# the header tells a host what to do with a partner that connects again
+grep -q 'connected and connects again keeps its number' include/kelindap.h || { echo "same: kelindap.h is silent on a second connect"; bad=1; }
+
 # the last version in CHANGELOG.md is that of the headers; a licence that is not there is not there in README either
 version=$(sed -n 's/.*KELINDAP_VERSION_TEXT "\(.*\)"/\1/p' include/kelindap_common.h)
 same CHANGELOG.md "$version" "$(sed -n 's/^## \([0-9].*\)/\1/p' CHANGELOG.md | head -n 1)"
