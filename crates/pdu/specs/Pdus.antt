@@ -7,67 +7,51 @@ use Rattle.pdu.specs.declared.Service.the-variants as svc
 use Rattle.pdu.specs.declared.Pdu.{Pdu}
 use Rattle.pdu.specs.declared.Pdu.the-variants.{GroupValueRead, GroupValueResponse, GroupValueWrite, IndividualAddressWrite, IndividualAddressRead, SerialNumberRead, SerialNumberWrite, DeviceDescriptorRead, PropertyValueRead, PropertyValueWrite, PropertyDescriptionRead, MemoryRead, MemoryWrite, MemoryBitWrite, AuthorizeRequest, KeyWrite, Restart, IndividualAddressResponse, SerialNumberResponse, DeviceDescriptorResponse, PropertyValueResponse, PropertyDescriptionResponse, MemoryResponse, AuthorizeResponse, KeyResponse, UserMemoryRead, UserMemoryResponse, UserMemoryWrite}
 
-abbrev pub serviceOf : Pdu → Service
-serviceOf GroupValueRead = svc.GroupValueRead
-serviceOf (GroupValueResponse v) = svc.GroupValueResponse
-serviceOf (GroupValueWrite v) = svc.GroupValueWrite
-serviceOf (IndividualAddressWrite address) = svc.IndividualAddressWrite
-serviceOf IndividualAddressRead = svc.IndividualAddressRead
-serviceOf (SerialNumberRead serial) = svc.SerialNumberRead
-serviceOf (SerialNumberWrite serial address) = svc.SerialNumberWrite
-serviceOf (DeviceDescriptorRead t) = svc.DeviceDescriptorRead
-serviceOf (PropertyValueRead object id n s) = svc.PropertyValueRead
-serviceOf (PropertyValueWrite object id n s) = svc.PropertyValueWrite
-serviceOf (PropertyDescriptionRead object id index) = svc.PropertyDescriptionRead
-serviceOf (MemoryRead n address) = svc.MemoryRead
-serviceOf (MemoryWrite n address) = svc.MemoryWrite
-serviceOf (MemoryBitWrite n address) = svc.MemoryBitWrite
-serviceOf (AuthorizeRequest key) = svc.AuthorizeRequest
-serviceOf (KeyWrite level key) = svc.KeyWrite
-serviceOf Restart = svc.Restart
-serviceOf IndividualAddressResponse = svc.IndividualAddressResponse
-serviceOf (SerialNumberResponse serial domain) = svc.SerialNumberResponse
-serviceOf (DeviceDescriptorResponse t) = svc.DeviceDescriptorResponse
-serviceOf (PropertyValueResponse object id n s) = svc.PropertyValueResponse
-serviceOf (PropertyDescriptionResponse object id index typ maximum access) = svc.PropertyDescriptionResponse
-serviceOf (MemoryResponse n address) = svc.MemoryResponse
-serviceOf (AuthorizeResponse level) = svc.AuthorizeResponse
-serviceOf (KeyResponse level) = svc.KeyResponse
-serviceOf (UserMemoryRead n address) = svc.UserMemoryRead
-serviceOf (UserMemoryResponse n address) = svc.UserMemoryResponse
-serviceOf (UserMemoryWrite n address) = svc.UserMemoryWrite
+pub record Content : Type 0 where
+  pub service : Service
+  pub values : List Value
 
--- the fields that it has, by name
+infix 20 _having_
+abbrev pub _having_ : Service → List Value → Content
+k having x = record { service = k; values = x }
+
+-- THE SERVICE OF A PDU, and the fields that it has, by name
+abbrev pub contentOf : Pdu → Content
+contentOf GroupValueRead = svc.GroupValueRead having []
+contentOf (GroupValueResponse v) = svc.GroupValueResponse having V6 ≔ v ∷ []
+contentOf (GroupValueWrite v) = svc.GroupValueWrite having V6 ≔ v ∷ []
+contentOf (IndividualAddressWrite address) = svc.IndividualAddressWrite having Address ≔ address ∷ []
+contentOf IndividualAddressRead = svc.IndividualAddressRead having []
+contentOf (SerialNumberRead serial) = svc.SerialNumberRead having Serial ≔ serial ∷ []
+contentOf (SerialNumberWrite serial address) = svc.SerialNumberWrite having Serial ≔ serial ∷ Address ≔ address ∷ []
+contentOf (DeviceDescriptorRead t) = svc.DeviceDescriptorRead having T ≔ t ∷ []
+contentOf (PropertyValueRead object id n s) = svc.PropertyValueRead having Object ≔ object ∷ Id ≔ id ∷ N ≔ n ∷ S ≔ s ∷ []
+contentOf (PropertyValueWrite object id n s) = svc.PropertyValueWrite having Object ≔ object ∷ Id ≔ id ∷ N ≔ n ∷ S ≔ s ∷ []
+contentOf (PropertyDescriptionRead object id index) = svc.PropertyDescriptionRead having Object ≔ object ∷ Id ≔ id ∷ Index ≔ index ∷ []
+contentOf (MemoryRead n address) = svc.MemoryRead having N ≔ n ∷ Address ≔ address ∷ []
+contentOf (MemoryWrite n address) = svc.MemoryWrite having N ≔ n ∷ Address ≔ address ∷ []
+contentOf (MemoryBitWrite n address) = svc.MemoryBitWrite having N ≔ n ∷ Address ≔ address ∷ []
+contentOf (AuthorizeRequest key) = svc.AuthorizeRequest having Key ≔ key ∷ []
+contentOf (KeyWrite level key) = svc.KeyWrite having Level ≔ level ∷ Key ≔ key ∷ []
+contentOf Restart = svc.Restart having []
+contentOf IndividualAddressResponse = svc.IndividualAddressResponse having []
+contentOf (SerialNumberResponse serial domain) = svc.SerialNumberResponse having Serial ≔ serial ∷ Domain ≔ domain ∷ []
+contentOf (DeviceDescriptorResponse t) = svc.DeviceDescriptorResponse having T ≔ t ∷ []
+contentOf (PropertyValueResponse object id n s) = svc.PropertyValueResponse having Object ≔ object ∷ Id ≔ id ∷ N ≔ n ∷ S ≔ s ∷ []
+contentOf (PropertyDescriptionResponse object id index typ maximum access) =
+    svc.PropertyDescriptionResponse having Object ≔ object ∷ Id ≔ id ∷ Index ≔ index ∷ Typ ≔ typ ∷ Maximum ≔ maximum ∷ Access ≔ access ∷ []
+contentOf (MemoryResponse n address) = svc.MemoryResponse having N ≔ n ∷ Address ≔ address ∷ []
+contentOf (AuthorizeResponse level) = svc.AuthorizeResponse having Level ≔ level ∷ []
+contentOf (KeyResponse level) = svc.KeyResponse having Level ≔ level ∷ []
+contentOf (UserMemoryRead n address) = svc.UserMemoryRead having N ≔ n ∷ Address ≔ address ∷ []
+contentOf (UserMemoryResponse n address) = svc.UserMemoryResponse having N ≔ n ∷ Address ≔ address ∷ []
+contentOf (UserMemoryWrite n address) = svc.UserMemoryWrite having N ≔ n ∷ Address ≔ address ∷ []
+
+abbrev pub serviceOf : Pdu → Service
+serviceOf p = contentOf p .service
+
 abbrev pub valuesOf : Pdu → List Value
-valuesOf GroupValueRead = []
-valuesOf (GroupValueResponse v) = V6 ≔ v ∷ []
-valuesOf (GroupValueWrite v) = V6 ≔ v ∷ []
-valuesOf (IndividualAddressWrite address) = Address ≔ address ∷ []
-valuesOf IndividualAddressRead = []
-valuesOf (SerialNumberRead serial) = Serial ≔ serial ∷ []
-valuesOf (SerialNumberWrite serial address) = Serial ≔ serial ∷ Address ≔ address ∷ []
-valuesOf (DeviceDescriptorRead t) = T ≔ t ∷ []
-valuesOf (PropertyValueRead object id n s) = Object ≔ object ∷ Id ≔ id ∷ N ≔ n ∷ S ≔ s ∷ []
-valuesOf (PropertyValueWrite object id n s) = Object ≔ object ∷ Id ≔ id ∷ N ≔ n ∷ S ≔ s ∷ []
-valuesOf (PropertyDescriptionRead object id index) = Object ≔ object ∷ Id ≔ id ∷ Index ≔ index ∷ []
-valuesOf (MemoryRead n address) = N ≔ n ∷ Address ≔ address ∷ []
-valuesOf (MemoryWrite n address) = N ≔ n ∷ Address ≔ address ∷ []
-valuesOf (MemoryBitWrite n address) = N ≔ n ∷ Address ≔ address ∷ []
-valuesOf (AuthorizeRequest key) = Key ≔ key ∷ []
-valuesOf (KeyWrite level key) = Level ≔ level ∷ Key ≔ key ∷ []
-valuesOf Restart = []
-valuesOf IndividualAddressResponse = []
-valuesOf (SerialNumberResponse serial domain) = Serial ≔ serial ∷ Domain ≔ domain ∷ []
-valuesOf (DeviceDescriptorResponse t) = T ≔ t ∷ []
-valuesOf (PropertyValueResponse object id n s) = Object ≔ object ∷ Id ≔ id ∷ N ≔ n ∷ S ≔ s ∷ []
-valuesOf (PropertyDescriptionResponse object id index typ maximum access) =
-    Object ≔ object ∷ Id ≔ id ∷ Index ≔ index ∷ Typ ≔ typ ∷ Maximum ≔ maximum ∷ Access ≔ access ∷ []
-valuesOf (MemoryResponse n address) = N ≔ n ∷ Address ≔ address ∷ []
-valuesOf (AuthorizeResponse level) = Level ≔ level ∷ []
-valuesOf (KeyResponse level) = Level ≔ level ∷ []
-valuesOf (UserMemoryRead n address) = N ≔ n ∷ Address ≔ address ∷ []
-valuesOf (UserMemoryResponse n address) = N ≔ n ∷ Address ≔ address ∷ []
-valuesOf (UserMemoryWrite n address) = N ≔ n ∷ Address ≔ address ∷ []
+valuesOf p = contentOf p .values
 
 -- the PDU of a service with these fields
 abbrev pub pduOf : Service → List Value → Pdu

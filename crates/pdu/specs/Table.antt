@@ -46,35 +46,11 @@ rowOf UserMemoryWrite = row 0x2C2 1 (num N 1 ∷ num Address 2 ∷ []) (by N)
 -- all of them, in the table's order
 abbrev pub services : List Service
 services =
-    GroupValueRead ∷
-    GroupValueResponse ∷
-    GroupValueWrite ∷
-    IndividualAddressWrite ∷
-    IndividualAddressRead ∷
-    SerialNumberRead ∷
-    SerialNumberWrite ∷
-    DeviceDescriptorRead ∷
-    PropertyValueRead ∷
-    PropertyValueWrite ∷
-    PropertyDescriptionRead ∷
-    MemoryRead ∷
-    MemoryWrite ∷
-    MemoryBitWrite ∷
-    AuthorizeRequest ∷
-    KeyWrite ∷
-    Restart ∷
-    IndividualAddressResponse ∷
-    SerialNumberResponse ∷
-    DeviceDescriptorResponse ∷
-    PropertyValueResponse ∷
-    PropertyDescriptionResponse ∷
-    MemoryResponse ∷
-    AuthorizeResponse ∷
-    KeyResponse ∷
-    UserMemoryRead ∷
-    UserMemoryResponse ∷
-    UserMemoryWrite ∷
-    []
+    GroupValueRead ∷ GroupValueResponse ∷ GroupValueWrite ∷ IndividualAddressWrite ∷ IndividualAddressRead ∷ SerialNumberRead ∷
+    SerialNumberWrite ∷ DeviceDescriptorRead ∷ PropertyValueRead ∷ PropertyValueWrite ∷ PropertyDescriptionRead ∷ MemoryRead ∷
+    MemoryWrite ∷ MemoryBitWrite ∷ AuthorizeRequest ∷ KeyWrite ∷ Restart ∷ IndividualAddressResponse ∷ SerialNumberResponse ∷
+    DeviceDescriptorResponse ∷ PropertyValueResponse ∷ PropertyDescriptionResponse ∷ MemoryResponse ∷ AuthorizeResponse ∷ KeyResponse ∷
+    UserMemoryRead ∷ UserMemoryResponse ∷ UserMemoryWrite ∷ []
 
 -- the code is one of the row's
 abbrev pub has : Row → ℕ → Bool
