@@ -14,8 +14,7 @@ word-spec =
     (λ c. search needs)
     (λ c. omega (arith, c .shared-slice-known .given (c .before .args .at)))
     (λ c. omega (arith, c .shared-slice-known .given (c .before .args .at)))
-    (λ c. search needs)
-    (λ c. search needs)
+    (λ c. search needs) (λ c. search needs)
     (λ c. omega (arith, c .before .shared-slice-known .given (c .before .before .args .at + 1)))
     (λ c.
     let g = c .before .shared-slice-known .given in

@@ -11,8 +11,6 @@ read-found-spec =
     (tie.spec
     (λ c. search too-short)
     (λ c. search too-long)
-    (λ c. search needs)
-    (λ c κs. search needs)
-    (λ c. search needs)
+    (λ c. search needs) (λ c κs. search needs) (λ c. search needs)
     (λ c. search by-code)
     (λ c. search no-code))

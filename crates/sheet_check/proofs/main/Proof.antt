@@ -11,9 +11,7 @@ pub main-spec : {M : Type 1} → statement M
 main-spec =
     tie.close
     (tie.spec
-    (λ c. search needs)
-    (λ c κs. search needs)
-    (λ c. search needs)
+    (λ c. search needs) (λ c κs. search needs) (λ c. search needs)
     (λ c. let fits = rw (c .before .input .given .1) at (c .before .before .before .before .read-all .ensures) in omega arith)
     (λ c. let fits = rw (c .before .before .input .given .1) at (c .before .before .before .before .before .read-all .ensures) in sym (length-take-le _ _ fits))
     (λ c κs. search needs)

@@ -9,10 +9,8 @@ pub kelindap-read-spec : {M : Type 1} → statement M
 kelindap-read-spec =
     tie.close
     (tie.spec
-    (λ c κs. search needs)
-    (λ c. search needs)
+    (λ c κs. search needs) (λ c. search needs)
     (λ c κs. search reads-as)
-    (λ c. search needs)
-    (λ c κs. search needs)
+    (λ c. search needs) (λ c κs. search needs)
     (λ c. search via-read)
     (λ c. search via-read))

@@ -9,11 +9,7 @@ pub kelindap-write-spec : {M : Type 1} → statement M
 kelindap-write-spec =
     tie.close
     (tie.spec
-    (λ c κs. search needs)
-    (λ c. search needs)
-    (λ c κs. search needs)
-    (λ c. search needs)
-    (λ c κs. search needs)
+    (λ c κs. search needs) (λ c. search needs) (λ c κs. search needs) (λ c. search needs) (λ c κs. search needs)
     (λ c. search needs)
     (λ c. search via-known)
     (λ c. search via-nothing))

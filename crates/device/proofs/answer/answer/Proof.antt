@@ -10,16 +10,13 @@ pub answer-spec : {M : Type 1} → statement M
 answer-spec =
     tie.close
     (tie.spec
-    (λ c. search needs)
-    (λ c. search needs)
-    (λ c. search needs)
+    (λ c. search needs) (λ c. search needs) (λ c. search needs)
     (λ c κs. (via-room _ _ _ (c .before .before .before .before .before .before .before .before .pre .0) (c .before .before .before .a .given .1), via-answer-safe _ _ _ _ (c .before .before .before .before .before .before .before .before .pre .1) (c .before .before .before .a .given .1)))
     (λ c. search needs)
     (λ c κs. let h = via-answer-safe _ _ _ _ (c .before .before .before .before .before .before .before .pre .1) (c .before .before .a2 .given .1) in (via-room _ _ _ (c .before .before .before .before .before .before .before .pre .0) (c .before .before .a2 .given .1), h .0, h .1))
     (λ c. search needs)
     (λ c. let h = via-answer-safe _ _ _ _ (c .before .before .before .before .before .before .before .pre .1) (c .before .before .a3 .given .1) in omega arith)
-    (λ c. search needs)
-    (λ c. search needs)
+    (λ c. search needs) (λ c. search needs)
     (λ c. let h = via-answer-safe _ _ _ _ (c .before .before .before .before .before .before .before .pre .1) (c .before .before .a3 .given .1) in omega arith)
     (λ c κs. (via-room _ _ _ (c .before .before .before .before .before .before .before .before .pre .0) (c .before .before .before .a3 .given .1), sheet-allowed (c .before .before .before .a3 .given .0 .0) (c .before .before .before .before .before .before .before .before .args .s .now) (c .before .before .before .a3 .given .0 .1 .0) (c .before .before .before .a3 .given .0 .1 .1 .0) (via-answer-safe _ _ _ _ (c .before .before .before .before .before .before .before .before .pre .1) (c .before .before .before .a3 .given .1) .2)))
     (λ c. search needs)

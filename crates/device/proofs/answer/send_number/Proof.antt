@@ -10,9 +10,7 @@ pub send-number-spec : {M : Type 1} → statement M
 send-number-spec =
     tie.close
     (tie.spec
-    (λ c. search needs)
-    (λ c κs. search needs)
-    (λ c. search needs)
+    (λ c. search needs) (λ c κs. search needs) (λ c. search needs)
     (λ c. number-room _ _ _ _ (c .before .before .before .put .ensures))
     (λ c κs.
     (omega arith, number-allowed _ _ _ _ _ (c .before .before .before .put .ensures) (c .before .before .before .before .before .before .pre .2)))

@@ -19,8 +19,7 @@ pub button-spec : {M : Type 1} → statement M
 button-spec =
     tie.close
     (tie.spec
-    (λ c κs. search needs)
-    (λ c. search needs)
+    (λ c κs. search needs) (λ c. search needs)
     returns
     (λ c κs. search needs)
     (λ c κs. search needs)

@@ -12,6 +12,5 @@ with-level-spec =
     tie.close
     (tie.spec
     (λ c. search (tests, arith))
-    (λ c κs. search needs)
-    (λ c κs. search needs)
+    (λ c κs. search needs) (λ c κs. search needs)
     (λ c. search levelled))

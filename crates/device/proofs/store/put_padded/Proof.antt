@@ -9,8 +9,5 @@ pub put-padded-spec : {M : Type 1} → statement M
 put-padded-spec =
     tie.close
     (tie.spec
-    (λ c κs. search needs)
-    (λ c. search needs)
-    (λ c κs. search needs)
-    (λ c. search needs)
+    (λ c κs. search needs) (λ c. search needs) (λ c κs. search needs) (λ c. search needs)
     (λ c. search zeros-first))

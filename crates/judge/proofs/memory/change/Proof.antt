@@ -9,13 +9,11 @@ pub change-spec : {M : Type 1} → statement M
 change-spec =
     tie.close
     (tie.spec
-    (λ c κs. search needs)
-    (λ c κs. search needs)
+    (λ c κs. search needs) (λ c κs. search needs)
     (λ c. search change-answered)
     (λ c κs. search needs)
     (λ c. search change-stored)
-    (λ c κs. search needs)
-    (λ c κs. search needs)
+    (λ c κs. search needs) (λ c κs. search needs)
     (λ c. search change-denied)
     (λ c κs. search needs)
     (λ c. search change-refused))

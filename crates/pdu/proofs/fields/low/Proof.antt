@@ -14,7 +14,6 @@ unfolding lowAt
 low-spec =
     tie.close
     (tie.spec
-    (λ c κs. search needs)
-    (λ c. search needs)
+    (λ c κs. search needs) (λ c. search needs)
     (λ c. omega (arith, mod-lt (c .number .result) (c .before .before .pre .0)))
     (λ c. ap (λ (x : ℕ). x % c .before .before .args .m) (c .number .ensures .value)))

@@ -28,6 +28,5 @@ play-spec =
     returns-no-room
     (λ c κs. search ready)
     (λ c. search due-fits)
-    (λ c. search needs)
-    (λ c. search needs)
+    (λ c. search needs) (λ c. search needs)
     returns-all)

@@ -9,7 +9,6 @@ pub latest-spec : {M : Type 1} → statement M
 latest-spec =
     tie.close
     (tie.spec
-    (λ c κs. search needs)
-    (λ c. search needs)
+    (λ c κs. search needs) (λ c. search needs)
     (λ c. search (latest-second, needs))
     (λ c. search (latest-first, needs)))

@@ -9,12 +9,6 @@ pub property-step-spec : {M : Type 1} → statement M
 property-step-spec =
     tie.close
     (tie.spec
-    (λ c κs. search needs)
-    (λ c. search needs)
-    (λ c κs. search needs)
-    (λ c. search needs)
-    (λ c κs. search needs)
-    (λ c κs. search needs)
-    (λ c κs. search needs)
-    (λ c. search needs)
+    (λ c κs. search needs) (λ c. search needs) (λ c κs. search needs) (λ c. search needs) (λ c κs. search needs)
+    (λ c κs. search needs) (λ c κs. search needs) (λ c. search needs)
     (λ c. behind _ _ _ _ _ _ _ _ _ _ _ (search needs) (search needs) (search needs) (c .late-of .ensures) (search needs) (search needs) (search needs) (search needs)))

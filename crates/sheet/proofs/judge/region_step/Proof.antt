@@ -9,13 +9,6 @@ pub region-step-spec : {M : Type 1} → statement M
 region-step-spec =
     tie.close
     (tie.spec
-    (λ c κs. search needs)
-    (λ c. search needs)
-    (λ c κs. search needs)
-    (λ c κs. search needs)
-    (λ c. search needs)
-    (λ c. search needs)
-    (λ c κs. search needs)
-    (λ c κs. search needs)
-    (λ c. search needs)
+    (λ c κs. search needs) (λ c. search needs) (λ c κs. search needs) (λ c κs. search needs) (λ c. search needs)
+    (λ c. search needs) (λ c κs. search needs) (λ c κs. search needs) (λ c. search needs)
     (λ c. behind _ _ _ _ _ _ _ _ _ _ _ (search needs) (search needs) (search needs) (c .late-of .ensures) (search needs) (search needs) (search needs) (search needs)))

@@ -13,6 +13,5 @@ body-spec =
     (λ c κs. search (ok-framed, needs))
     (λ c. search no-part)
     (λ c κs. search ok-entry)
-    (λ c κs. search needs)
-    (λ c κs. search needs)
+    (λ c κs. search needs) (λ c κs. search needs)
     (λ c. search the-part))

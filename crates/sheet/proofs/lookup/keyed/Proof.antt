@@ -11,6 +11,5 @@ keyed-spec =
     (tie.spec
     (λ c κs. search needs)
     (λ c. search no-sheet)
-    (λ c κs. search needs)
-    (λ c κs. search needs)
+    (λ c κs. search needs) (λ c κs. search needs)
     (λ c. rw (← c .before .find .ensures) (search in-sheet)))

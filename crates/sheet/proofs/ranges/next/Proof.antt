@@ -16,7 +16,5 @@ next-spec =
     (λ c κs. search ok-entry)
     (λ c κs. search needs)
     (λ c. search (gap, flip))
-    (λ c κs. search needs)
-    (λ c κs. search needs)
-    (λ c κs. search needs)
+    (λ c κs. search needs) (λ c κs. search needs) (λ c κs. search needs)
     (λ c. search (touching, sym)))

@@ -20,9 +20,7 @@ range-spec =
     Inv-loop
     μ-loop
     (λ c. search range-empty)
-    (λ c κs. search needs)
-    (λ c. search needs)
-    (λ c κs. search needs)
+    (λ c κs. search needs) (λ c. search needs) (λ c κs. search needs)
     (λ c. search none-begins)
     (λ c. search needs)
     (λ c κs. search first-there)
@@ -31,8 +29,7 @@ range-spec =
     (λ c κs. search (first-from, needs))
     (λ c κs. search needs)
     (λ c. search range-begins)
-    (λ c. search needs)
-    (λ c κs. search needs)
+    (λ c. search needs) (λ c κs. search needs)
     (λ c. search no-next)
     (λ c. search needs)
     (λ c. less-left _ _ _ _ _ _ (c .before .before .next .ensures) (c .if4 .left))

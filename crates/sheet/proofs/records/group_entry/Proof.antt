@@ -10,8 +10,5 @@ group-entry-spec =
     tie.close
     (tie.spec
     (λ c κs. search group-there)
-    (λ c κs. search needs)
-    (λ c κs. search needs)
-    (λ c. search needs)
-    (λ c κs. search needs)
+    (λ c κs. search needs) (λ c κs. search needs) (λ c. search needs) (λ c κs. search needs)
     (λ c. search group-in))

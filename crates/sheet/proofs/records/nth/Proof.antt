@@ -13,9 +13,7 @@ nth-spec =
     tie.close
     (tie.spec
     (λ c κs. search (ok-framed, needs))
-    (λ c. search needs)
-    (λ c κs. search needs)
-    (λ c. search needs)
+    (λ c. search needs) (λ c κs. search needs) (λ c. search needs)
     (λ c.
     nth-short _ (c .before .before .before .before .pre) (λ j. omega (arith, c .before .before .before .shared-slice-known .given j)) _ _ (c .before .lower .ensures) _ _ _
     (c .before .before .many .ensures) refl (omega arith))

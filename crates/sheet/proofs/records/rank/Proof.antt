@@ -11,8 +11,7 @@ pub rank-spec : {M : Type 1} → statement M
 rank-spec =
     tie.close
     (tie.spec
-    (λ c. search needs)
-    (λ c κs. search needs)
+    (λ c. search needs) (λ c κs. search needs)
     (λ c. index-none _ (c .before .before .before .pre .0) (λ j. omega (arith, c .before .before .shared-slice-known .given j)) _ _ (c .before .lower .ensures) _ (omega arith))
     (λ c. search needs)
     (λ c κs. property-there _ (c .before .before .before .pre .0) _ (omega arith))
@@ -20,9 +19,7 @@ rank-spec =
     (λ c.
     index-within _ (c .before .before .before .before .before .pre .0) (λ j. omega (arith, c .before .before .before .before .shared-slice-known .given j)) _ _ (c .before .before .before .lower .ensures) _ _
     (omega arith) (c .before .before .before .before .before .pre .1) (c .before .object-at .ensures) (omega arith))
-    (λ c. search needs)
-    (λ c. search needs)
-    (λ c κs. search needs)
+    (λ c. search needs) (λ c. search needs) (λ c κs. search needs)
     (λ c.
     omega
     (arith, first-last _ (c .before .before .before .before .before .before .pre .0) (λ j. omega (arith, c .before .before .before .before .before .shared-slice-known .given j)) _ _ (c .before .before .before .before .lower .ensures) _ (c .lower2 .ensures)))

@@ -15,8 +15,7 @@ pub elements-spec : {M : Type 1} → statement M
 elements-spec =
     tie.close
     (tie.spec
-    (λ c κs. search needs)
-    (λ c κs. search needs)
+    (λ c κs. search needs) (λ c κs. search needs)
     (λ c. omega (arith, small (c .before .byte .result) (c .word .result) (omega arith) (omega arith)))
     (λ c. (
       ap₂ _*_ (c .before .byte .ensures .value) (c .word .ensures .value),

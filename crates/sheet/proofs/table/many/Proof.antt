@@ -11,6 +11,5 @@ many-spec =
     (tie.spec
     (λ c κs. search needs)
     (λ c. search users-counted)
-    (λ c. search needs)
-    (λ c κs. search needs)
+    (λ c. search needs) (λ c κs. search needs)
     (λ c. search counted))

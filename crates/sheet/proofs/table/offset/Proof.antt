@@ -14,8 +14,7 @@ offset-spec =
     (tie.spec
     (λ c κs. search needs)
     (λ c κs. omega (arith, c .before .before .pre .long ∙ ap size (c .match .keys2)))
-    (λ c κs. search needs)
-    (λ c κs. search needs)
+    (λ c κs. search needs) (λ c κs. search needs)
     (λ c. starts (search needs) (search needs))
     (λ c. starts (search needs) (search needs))
     (λ c. starts (search needs) (search needs))

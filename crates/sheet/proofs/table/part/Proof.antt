@@ -12,7 +12,6 @@ part-spec =
     (tie.spec
     (λ c κs. search needs)
     (λ c. omega (arith, part-end (c .before .before .pre .0) (c .before .before .pre .1) (c .size .ensures)))
-    (λ c. search needs)
-    (λ c. search needs)
+    (λ c. search needs) (λ c. search needs)
     (λ c. part-end (c .before .before .pre .0) (c .before .before .pre .1) (c .size .ensures))
     (λ c. part (c .before .before .before .pre .0) (c .before .before .before .pre .1) (c .before .size .ensures)))

@@ -9,7 +9,6 @@ pub users-spec : {M : Type 1} → statement M
 users-spec =
     tie.close
     (tie.spec
-    (λ c κs. search needs)
-    (λ c κs. search needs)
+    (λ c κs. search needs) (λ c κs. search needs)
     (λ c. search (users-second, needs))
     (λ c. search (users-first, needs)))

@@ -18,12 +18,10 @@ users-rule-spec =
     (tie.spec
     Inv-loop
     μ-loop
-    (λ c κs. search needs)
-    (λ c κs. search needs)
+    (λ c κs. search needs) (λ c κs. search needs)
     (λ c. search users-begin)
     (λ c κs. search (users-entry, needs))
     (λ c. search users-left)
-    (λ c. search needs)
-    (λ c. search needs)
+    (λ c. search needs) (λ c. search needs)
     (λ c. search users-go)
     (λ c. search users-end))

@@ -12,8 +12,7 @@ pub read-as-spec : {M : Type 1} → statement M
 read-as-spec =
     tie.close
     (tie.spec
-    (λ c κs. search needs)
-    (λ c κs. search needs)
+    (λ c κs. search needs) (λ c κs. search needs)
     (λ c. search shorter)
     (λ c.
     let p = c .before .before .before .args .p in
