@@ -6,3 +6,4 @@ pub mod due
 pub mod leaves
 pub mod apart
 pub mod calls
+pub mod unread

@@ -6,3 +6,4 @@ pub mod Searches
 pub mod Framed
 pub mod LevelFor
 pub mod Permits
+pub mod Moves

@@ -5,3 +5,5 @@ pub mod Standing
 pub mod Fields
 pub mod Levels
 pub mod Parts
+pub mod RegionBodies
+pub mod Longer

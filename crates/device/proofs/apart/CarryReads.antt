@@ -19,7 +19,7 @@ use Rattle.sheet.specs.declared.Memory.{Memory}
 use Rattle.sheet.specs.declared.Memory.the-variants.{Device, User}
 use Rattle.sheet.proofs.rules.Good.{Good, good}
 use Rattle.sheet.proofs.alike.Buts.{Misses}
-use Rattle.sheet.proofs.promises.Runs.{stands-in}
+use Rattle.sheet.proofs.places.RegionBodies.{stands-in}
 use Rattle.pdu.specs.Read.{readPdu, dataOf}
 use Rattle.pdu.proofs.Readings.{Reading, reading}
 use Rattle.pdu.specs.declared.Parsed.{Parsed}

@@ -22,7 +22,7 @@ use Rattle.history.specs.Location.{Location, Place}
 use Rattle.history.specs.Sort.{Sort, isLocation, isGroup, isField}
 use Rattle.history.specs.History.{First}
 use Rattle.history.specs.Keeps.{Device, stateAfter, Still, Kept, Begins, AllOctets, Keeps}
-use Rattle.history.proofs.promises.Places.{sort, past-contents}
+use Rattle.history.proofs.places.Standing.{sort, past-contents}
 
 module _ (f : First) (b : Begins f) (h : List Event) (step step′ : Device) (k : Kept step f h) (k′ : Kept step′ f h) where
   abbrev S : List ℕ

@@ -13,7 +13,7 @@ use Rattle.sheet.proofs.rules.Good.{good}
 use Rattle.events.specs.Events.{Event}
 use Rattle.history.specs.History.{First}
 use Rattle.history.specs.Keeps.{Device, stateAfter, Still, Kept, Begins, AllOctets, Keeps}
-use Rattle.history.proofs.promises.Places.{no-head, past-contents}
+use Rattle.history.proofs.places.Standing.{no-head, past-contents}
 
 -- its byte is no location, and none of the others that events change
 pub rules-still : (s : List ℕ) → Accepted s → Still s (head.rules .at)

@@ -31,7 +31,7 @@ use Rattle.history.proofs.heard.Hearing.{asks-is}
 use Rattle.history.proofs.promises.Said.{said}
 use Rattle.history.proofs.steps.Invariant.{Inv, fine}
 use Rattle.history.proofs.stored.Means.{store-flags, store-address}
-use Rattle.history.proofs.promises.Places.{no-head, past-contents}
+use Rattle.history.proofs.places.Standing.{no-head, past-contents}
 use Rattle.history.proofs.steps.Requests.{ends, E, Ok, Done, opens-new, levels-new, sessions-same, programs-same, programs-new, addresses-same, addresses-new, values-same, unwritten, stayed, left, aside}
 use Rattle.history.proofs.steps.Writes.{heard-now}
 

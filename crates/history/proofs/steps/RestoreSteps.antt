@@ -46,7 +46,7 @@ use Rattle.history.specs.Keeps.{Begins, CarriedOut}
 use Rattle.history.proofs.spans.Bools.{must-fail}
 use Rattle.history.proofs.steps.Invariant.{Inv, fine, now-accepted, means-as}
 use Rattle.history.proofs.stored.Means.{Means}
-use Rattle.history.proofs.promises.Places.{body-in, location-once, place-within, past-contents, no-group}
+use Rattle.history.proofs.places.Standing.{body-in, location-once, place-within, past-contents, no-group}
 use Rattle.history.proofs.steps.Requests as request
 use Rattle.history.proofs.stored.RestoreRun.{counter-laid, body-laid, memory-laid, key-laid}
 use Rattle.history.proofs.steps.Restores.{Needs, restore-needs, needs-restore}

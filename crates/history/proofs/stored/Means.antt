@@ -27,7 +27,7 @@ use Rattle.history.specs.Location.{Location, Place}
 use Rattle.history.specs.Span.{Span, has, put}
 use Rattle.device.specs.Octets.{Octets}
 use Rattle.history.specs.Keeps.{Still}
-use Rattle.history.proofs.promises.Places.{no-group, place-after, past-contents}
+use Rattle.history.proofs.places.Standing.{no-group, place-after, past-contents}
 use Rattle.device.proofs.leaves.Octet.{octets-bytes, octets-splice}
 use Rattle.history.proofs.spans.Spans.{laid}
 use Rattle.history.proofs.stored.Stored.{Run, away, stored, spared}

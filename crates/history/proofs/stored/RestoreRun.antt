@@ -24,7 +24,7 @@ use Rattle.history.specs.Span.{Span, has, put}
 use Rattle.history.specs.Wish.{change, restoreAll}
 use Rattle.history.specs.Permit.{over, countFrom, bodyFrom, spans}
 use Rattle.history.proofs.spans.Bools.{must-fail}
-use Rattle.history.proofs.promises.Places.{property-once}
+use Rattle.history.proofs.places.Standing.{property-once}
 use Rattle.history.proofs.spans.Spans.{has-on, laid}
 
 -- spans one after the other

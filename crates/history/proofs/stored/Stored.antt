@@ -14,7 +14,7 @@ use Rattle.sheet.proofs.rules.Good.{Good}
 use Rattle.history.specs.Location.{Location, Place}
 use Rattle.octets.proofs.Truths.{never}
 use Rattle.history.specs.Span.{byte, Span, has, put}
-use Rattle.history.proofs.promises.Places.{location-once, place-once}
+use Rattle.history.proofs.places.Standing.{location-once, place-once}
 use Rattle.history.proofs.spans.Spans.{on, has-only, has-on}
 
 -- the bytes ds from o on are those of a span, in a sheet with the places of s

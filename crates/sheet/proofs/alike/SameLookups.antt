@@ -19,7 +19,7 @@ use Rattle.sheet.specs.declared.Memory.{Memory}
 use Rattle.sheet.specs.declared.Run.the-variants.{Nowhere}
 use Rattle.sheet.proofs.alike.Sames.{count-same, key-same, region-same, property-same}
 use Rattle.sheet.proofs.searches.FrontSearch.{seek-same}
-use Rattle.sheet.proofs.promises.Runs.{range-suc}
+use Rattle.sheet.proofs.places.Longer.{range-suc}
 
 module _ {R : List ℕ → List ℕ → Type 0} {s s′ : List ℕ} (a : AgreeBy R s s′) where
   -- the same entry by its first word

@@ -4,53 +4,27 @@ use Prim.Native.Nat.{ℕ, zero, suc, _+_, _-_, _/_, _%_, _<_, _≤_}
 use mathlib.Core.Path.{_≡_, refl, sym, _∙_, ap, subst}
 use mathlib.Core.List.{List}
 use mathlib.Core.Logic.{_⊎_, _↔_}
-use mathlib.Core.Bool.{cond}
-use lib.Dec.{ltb}
 use lib.ListN.{length}
 use native.Mathlib.Decide.{decLt}
 use native.Mathlib.Omega.{arith}
-use borrow.Author.Tests.{lt-ltb, le-ltb}
 use Rattle.octets.specs.Splice.{splice}
-use Rattle.sheet.specs.Kind.{properties, groups, kindOf}
+use Rattle.sheet.specs.Kind.{groups, kindOf}
 use Rattle.sheet.specs.Layout.{_of_}
-use Rattle.sheet.specs.Region as region
-use Rattle.sheet.specs.Entries.{count, contents, bodyAt, bodyEnd, InBody}
+use Rattle.sheet.specs.Entries.{contents, InBody}
 use Rattle.sheet.specs.Lookup.{common, placeOf, joined, rangeOf}
-use Rattle.sheet.specs.Places.{regionAt, Stands, Ranged}
+use Rattle.sheet.specs.Places.{Stands, Ranged}
 use Rattle.sheet.specs.Agree.{Agree}
 use Rattle.sheet.specs.Rules.{Accepted}
 use Rattle.sheet.specs.declared.Memory.{Memory}
-use Rattle.sheet.specs.declared.Memory.the-variants.{Device, User}
 use Rattle.sheet.specs.declared.Run.{Run}
 use Rattle.sheet.specs.declared.Run.the-variants.{At, Nowhere}
 use Rattle.sheet.proofs.rules.Good.{Good, good, accepted}
 use Rattle.sheet.proofs.places.BodyPlaces.{within, after-contents, disjoint}
-use Rattle.sheet.proofs.places.Levels.{common-reading, common-writing, levels-once, below-suc}
-use Rattle.sheet.proofs.searches.Regions.{Covered, covers-stands, in-region, not-both, place-stands, place-none, place-hit, below-top, Follows, neighbours, stands-next}
+use Rattle.sheet.proofs.places.Levels.{levels-once}
+use Rattle.sheet.proofs.searches.Regions.{Covered, covers-stands, in-region, not-both, place-stands, place-hit, below-top, Follows, neighbours}
 use Rattle.sheet.proofs.promises.Stores.{bodies-store}
-
--- memories have kinds of their own, and a region is no property and no group object
-pub kind-once : (m m′ : Memory) → kindOf m ≡ kindOf m′ → m ≡ m′
-kind-once Device Device e = refl
-kind-once Device User e = absurd (omega arith)
-kind-once User Device e = absurd (omega arith)
-kind-once User User e = refl
-
-pub no-property : (m : Memory) → kindOf m ≡ properties → ⊥
-no-property Device e = omega arith
-no-property User e = omega arith
-
-pub no-group : (m : Memory) → kindOf m ≡ groups → ⊥
-no-group Device e = omega arith
-no-group User e = omega arith
-
--- a position of a region's body
-in-body :
-    (s : List ℕ) (m : Memory) (i p : ℕ) → i < count s (kindOf m) → region.offset of regionAt s m i ≤ p →
-    p < region.offset of regionAt s m i + region.length of regionAt s m i → InBody s (kindOf m) i p
-unfolding bodyAt bodyEnd
-in-body s Device i p h f t = record { kind = omega arith; below = h; from = f; to = t }
-in-body s User i p h f t = record { kind = omega arith; below = h; from = f; to = t }
+use Rattle.sheet.proofs.places.RegionBodies.{no-group, stands-in}
+use Rattle.sheet.proofs.places.Longer.{none-at, range-suc, one, longer}
 
 -- AN ADDRESS OF A MEMORY STANDS AT ONE PLACE AT MOST
 pub stands-once :
@@ -58,32 +32,9 @@ pub stands-once :
 stands-once {s} ok {m} {y} {p} {p′} {l} {l′} a b =
     let e : At p l ≡ At p′ l′ = sym (place-hit (good s ok) a) ∙ place-hit (good s ok) b in (cc, cc)
 
-module _ {s : List ℕ} (g : Good s) where
-  -- an address that stands somewhere stands in a body
-  pub stands-in : {m : Memory} {y p l : ℕ} (h : Stands s m y p l) → InBody s (kindOf m) (h .index) p
-  stands-in {m} {y} {p} h =
-      in-body s m (h .index) p (h .below) (omega (arith, h .here)) (omega (arith, h .from, h .to, h .here))
-
-  -- no two addresses of a memory stand at one place
-  pub stands-back : {m : Memory} {y y′ p l l′ : ℕ} → Stands s m y p l → Stands s m y′ p l′ → y ≡ y′
-  stands-back {m} {y} {y′} {p} a b =
-      let e = disjoint g (kindOf m) (a .index) (kindOf m) (b .index) p (stands-in a) (stands-in b) .1 in
-      let q : region.offset of regionAt s m (a .index) ≡ region.offset of regionAt s m (b .index) = ap (λ (i : ℕ). region.offset of regionAt s m i) e in
-      let r : region.address of regionAt s m (a .index) ≡ region.address of regionAt s m (b .index) = ap (λ (i : ℕ). region.address of regionAt s m i) e in
-      omega (arith, a .from, b .from, a .here, b .here)
-
 -- one of the n addresses from a on stands nowhere
 abbrev pub Missing : List ℕ → Memory → ℕ → ℕ → Type 0
 Missing s m a n = (i : ℕ) × (i < n) × ((p l : ℕ) → Stands s m (a + i) p l → ⊥)
-
-none-at : (s : List ℕ) (m : Memory) (y z : ℕ) → y ≡ z → ((p l : ℕ) → Stands s m y p l → ⊥) → placeOf s m z ≡ Nowhere
-none-at s m y z e f = place-none s m z (λ j c. let b : Covered s m j y = rw e c in f _ _ (in-region b))
-
--- a range is the one before, and one address more
-pub range-suc :
-    (s : List ℕ) (m : Memory) (a n : ℕ) → rangeOf s m a (suc (suc n)) ≡ joined (rangeOf s m a (suc n)) (placeOf s m (a + suc n))
-unfolding rangeOf
-range-suc s m a n = ap (λ (y : ℕ). joined (rangeOf s m a (suc n)) (placeOf s m y)) (omega arith)
 
 -- A RANGE WITH AN ADDRESS THAT STANDS NOWHERE IS NOWHERE
 pub range-none : (s : List ℕ) (m : Memory) (a n : ℕ) → Missing s m a n → rangeOf s m a n ≡ Nowhere
@@ -100,59 +51,6 @@ range-none s m a (suc (suc n)) w = range-suc s m a n ∙ go (decLt (w .0) (suc n
     go (yes l) ih = rw (ih l)
     go (no l) ih =
         rw (none-at s m (a + w .0) (a + suc n) (omega (arith, w .1)) (w .2)) (join-nowhere (rangeOf s m a (suc n)))
-
--- one address is a range, and a range goes on with the address after it
-one : {s : List ℕ} {m : Memory} {a o l : ℕ} → Stands s m a o l → Ranged s m a 1 o l
-one {s} {m} {a} {o} {l} h =
-    record {
-      some = omega arith;
-      at = λ i. l;
-      each = λ i k. let e : a + i ≡ a = omega arith in let q : o + i ≡ o = omega arith in rw (e, q) h;
-      reading = λ level. (λ b i k. b, λ b. b 0 (omega arith));
-      writing = λ level. (λ b i k. b, λ b. b 0 (omega arith));
-    }
-
-abbrev then : (ℕ → ℕ) → ℕ → ℕ → ℕ → ℕ
-then f n k i = cond (ltb i n) (f i) k
-
-module _ (f : ℕ → ℕ) (n k : ℕ) where
-  then-before : (i : ℕ) → i < n → then f n k i ≡ f i
-  then-before i h = rw (lt-ltb i n h)
-
-  then-last : then f n k n ≡ k
-  then-last = rw (le-ltb n n (omega arith))
-
-  -- a level that suffices under what they have in common suffices for all of them, by either half
-  then-each :
-      (half : ℕ → ℕ) (l level : ℕ) → (level ≤ half (common l k)) ↔ ((level ≤ half l) × (level ≤ half k)) →
-      (level ≤ half l) ↔ ((i : ℕ) → i < n → level ≤ half (f i)) →
-      (level ≤ half (common l k)) ↔ ((i : ℕ) → i < suc n → level ≤ half (then f n k i))
-  then-each half l level c e = (
-    λ h. below-suc (λ i. level ≤ half (then f n k i)) n .0 (λ i b. rw (then-before i b) (e .0 (c .0 h .0) i b), rw then-last (c .0 h .1)),
-    λ h.
-        let b = below-suc (λ i. level ≤ half (then f n k i)) n .1 h in
-        c .1 (e .1 (λ i d. rw (then-before i d) at (b .0 i d)), rw then-last at (b .1)),
-  )
-
-module _ {s : List ℕ} (g : Good s) {m : Memory} {a : ℕ} where
-  longer : {n o l p k : ℕ} → Ranged s m a n o l → Stands s m (a + n) p k → Ranged s m a (suc n) o (common l k)
-  longer {n} {o} {l} {p} {k} r h =
-      record {
-        some = omega arith;
-        at = then (r .at) n k;
-        each = below-suc (λ i. Stands s m (a + i) (o + i) (then (r .at) n k i)) n .0
-            (λ i b. rw (then-before (r .at) n k i b) (r .each i b), rw (then-last (r .at) n k) last);
-        reading = λ level. then-each (r .at) n k (λ x. x / 16) l level (common-reading l k level) (r .reading level);
-        writing = λ level. then-each (r .at) n k (λ x. x % 16) l level (common-writing l k level) (r .writing level);
-      }
-    where
-      last : Stands s m (a + n) (o + n) k
-      last =
-          let b : Stands s m (a + (n - 1)) (o + (n - 1)) _ = r .each (n - 1) (omega (arith, r .some)) in
-          let c : a + n ≡ suc (a + (n - 1)) = omega (arith, r .some) in
-          let e : p ≡ suc (o + (n - 1)) = stands-next g b (rw c at h) in
-          let d : p ≡ o + n = omega (arith, r .some) in
-          rw d at h
 
 module _ {s : List ℕ} (g : Good s) (m : Memory) (a : ℕ) where
   -- A RUN THAT IS FOUND IS A RANGE

@@ -21,7 +21,8 @@ use Rattle.sheet.proofs.rules.Good.{Good, good}
 use Rattle.sheet.proofs.rules.Entries.{few as few-entries}
 use Rattle.sheet.proofs.places.Levels.{common-self, common-again}
 use Rattle.sheet.proofs.searches.Regions.{startsAt, endsAt, Covered, covers-stands, in-region, regions-apart, region-rows, place-hit}
-use Rattle.sheet.proofs.promises.Runs.{range-suc, range-none}
+use Rattle.sheet.proofs.places.Longer.{range-suc}
+use Rattle.sheet.proofs.promises.Runs.{range-none}
 use Rattle.sheet.proofs.searches.SearchLoops.{ok-framed, key-word}
 
 -- the object of a property

@@ -1,0 +1,3 @@
+-- LAWS of what a request is not asked for.
+pub mod Group
+pub mod TopBits

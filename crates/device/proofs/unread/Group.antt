@@ -1,0 +1,86 @@
+-- No service that another mode than multicast takes asks for the group address.
+-- Assumes nothing.
+use Prim.Native.Nat.{ℕ}
+use mathlib.Core.Path.{_≡_, refl, subst}
+use mathlib.Core.Bool.{Bool, true, false, cond, not}
+use mathlib.Core.List.{List}
+use Rattle.sheet.specs.Head.{rulesOf}
+use Rattle.pdu.specs.Table.{serviceAt}
+use Rattle.pdu.specs.Rules.{codeOf}
+use Rattle.pdu.specs.Pdus.{serviceOf}
+use Rattle.pdu.specs.Read.{readPdu, dataOf}
+use Rattle.pdu.proofs.Readings.{reading}
+use Rattle.pdu.specs.declared.Service.{Service}
+use Rattle.pdu.specs.declared.Found.{Found}
+use Rattle.pdu.specs.declared.Found.the-variants.{Listed, Unknown}
+use Rattle.pdu.specs.declared.Parsed.{Parsed}
+use Rattle.pdu.specs.declared.Parsed.the-variants.{Is, Refused}
+use Rattle.pdu.specs.declared.Pdu.{Pdu}
+use Rattle.pdu.specs.declared.Pdu.the-variants.{GroupValueRead, GroupValueResponse, GroupValueWrite, IndividualAddressWrite, IndividualAddressRead, SerialNumberRead, SerialNumberWrite, DeviceDescriptorRead, PropertyValueRead, PropertyValueWrite, PropertyDescriptionRead, MemoryRead, MemoryWrite, MemoryBitWrite, AuthorizeRequest, KeyWrite, Restart, IndividualAddressResponse, SerialNumberResponse, DeviceDescriptorResponse, PropertyValueResponse, PropertyDescriptionResponse, MemoryResponse, AuthorizeResponse, KeyResponse, UserMemoryRead, UserMemoryResponse, UserMemoryWrite}
+use Rattle.judge.specs.declared.Session.{Session}
+use Rattle.judge.specs.declared.Decision.{Decision}
+use Rattle.judge.specs.Session.{multicast, levelIn}
+use Rattle.judge.specs.Modes.{reachOf, reaches, takes}
+use Rattle.judge.specs.Judge.{decideOf, readOf, reachedOf, foundOf, judgeOf}
+use Rattle.device.specs.Asked.{Takes}
+use Rattle.device.proofs.due.Taking.{takes-is}
+
+-- what is decided where a test holds is the same if it is under that test
+if-holds : (t : Bool) (x y z : Decision) → (t ≡ true → x ≡ y) → cond (not t) z x ≡ cond (not t) z y
+if-holds true x y z f = f refl
+if-holds false x y z f = refl
+
+module _ (room : ℕ) (s : List ℕ) (q : Session) (mode : ℕ) (a : List ℕ) (g g′ : ℕ) (other : mode ≡ multicast → ⊥) where
+  -- no service that another mode takes asks for the group address
+  decide-other : (l : ℕ) (d : List ℕ) (p : Pdu) → Takes (rulesOf s) (serviceOf p) mode → decideOf s l g d p ≡ decideOf s l g′ d p
+  decide-other l d GroupValueRead t = absurd (other t)
+  decide-other l d (GroupValueResponse v) t = absurd (other t)
+  decide-other l d (GroupValueWrite v) t = absurd (other t)
+  decide-other l d (IndividualAddressWrite address) t = refl
+  decide-other l d IndividualAddressRead t = refl
+  decide-other l d (SerialNumberRead serial) t = refl
+  decide-other l d (SerialNumberWrite serial address) t = refl
+  decide-other l d (DeviceDescriptorRead n) t = refl
+  decide-other l d (PropertyValueRead object id n z) t = refl
+  decide-other l d (PropertyValueWrite object id n z) t = refl
+  decide-other l d (PropertyDescriptionRead object id index) t = refl
+  decide-other l d (MemoryRead n address) t = refl
+  decide-other l d (MemoryWrite n address) t = refl
+  decide-other l d (MemoryBitWrite n address) t = refl
+  decide-other l d (AuthorizeRequest key) t = refl
+  decide-other l d (KeyWrite named key) t = refl
+  decide-other l d Restart t = refl
+  decide-other l d IndividualAddressResponse t = refl
+  decide-other l d (SerialNumberResponse serial domain) t = refl
+  decide-other l d (DeviceDescriptorResponse n) t = refl
+  decide-other l d (PropertyValueResponse object id n z) t = refl
+  decide-other l d (PropertyDescriptionResponse object id index kind maximum access) t = refl
+  decide-other l d (MemoryResponse n address) t = refl
+  decide-other l d (AuthorizeResponse named) t = refl
+  decide-other l d (KeyResponse named) t = refl
+  decide-other l d (UserMemoryRead n address) t = refl
+  decide-other l d (UserMemoryResponse n address) t = refl
+  decide-other l d (UserMemoryWrite n address) t = refl
+
+  read-other :
+      (l : ℕ) (k : Service) → serviceAt (codeOf a) ≡ Listed k → Takes (rulesOf s) k mode → (z : Parsed) → readPdu a ≡ z →
+      readOf s l g a z ≡ readOf s l g′ a z
+  read-other l k e t (Is p) r =
+      let n = reading a p r .names in
+      let i : k ≡ serviceOf p = cc in
+      decide-other l (dataOf p a) p (subst (λ (j : Service). Takes (rulesOf s) j mode) i t)
+  read-other l k e t (Refused n) r = refl
+
+  found-other : (f : Found) → serviceAt (codeOf a) ≡ f → foundOf s q mode g a f ≡ foundOf s q mode g′ a f
+  unfolding reachedOf
+  found-other Unknown e = refl
+  found-other (Listed k) e =
+      let rules = rulesOf s in
+      if-holds (reaches (reachOf rules k)) _ _ _
+      (λ h.
+      if-holds (takes (reachOf rules k) mode) _ _ _
+      (λ t. read-other (levelIn q mode) k e (takes-is rules mode k .0 t) (readPdu a) refl))
+
+  pub judge-other : judgeOf room s q mode g a ≡ judgeOf room s q mode g′ a
+  unfolding judgeOf
+  judge-other = rw (found-other (serviceAt (codeOf a)) refl)

@@ -1,0 +1,3 @@
+-- LAWS of two runs side by side.
+pub mod Near
+pub mod Besides

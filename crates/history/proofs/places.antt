@@ -1,0 +1,2 @@
+-- LAWS of where locations stand.
+pub mod Standing
