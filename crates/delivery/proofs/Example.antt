@@ -10,7 +10,7 @@ use Rattle.sheet.specs.Demand.{breach}
 use Rattle.sheet.specs.First.{first}
 use Rattle.sheet.specs.Entries.{entry, keyOf, floor, bodyEnd, startOf, reached}
 use Rattle.sheet.specs.Entries as entries
-use Rattle.sheet.specs.Rules.{entryDemands, bodyDemands, entryRule, bodyRule, entriesRule, bodiesRule, walkRule, restRule, ruleIn, Accepted}
+use Rattle.sheet.specs.Rules.{entryDemands, bodyDemands, entryRule, bodyRule, entriesRule, bodiesRule, walkRule, restRule, ruleIn, verdictOf, Accepted}
 use Rattle.pdu.specs.Table.{find}
 use Rattle.pdu.specs.Rules.{lowAt, headBytes}
 use Rattle.pdu.specs.Read.{readPdu}
@@ -40,7 +40,7 @@ unfolding sample
 octets = octets-by sample refl
 
 accepted : Accepted sample
-unfolding sample ruleIn walkRule restRule entriesRule bodiesRule entryRule bodyRule bodyDemands entryDemands entry keyOf floor bodyEnd startOf reached entries.sixBits first breach numAt
+unfolding sample verdictOf ruleIn walkRule restRule entriesRule bodiesRule entryRule bodyRule bodyDemands entryDemands entry keyOf floor bodyEnd startOf reached entries.sixBits first breach numAt
 accepted = refl
 
 -- it may be read and written

@@ -12,7 +12,7 @@ use Rattle.sheet.specs.Kind.{groups}
 use Rattle.sheet.specs.Layout.{_of_}
 use Rattle.sheet.specs.Group as group
 use Rattle.sheet.specs.Entries.{count, entry, keyOf, offsetOf, lengthOf, bodyEnd}
-use Rattle.sheet.specs.Rules.{ruleOf, Accepted, isAccepted}
+use Rattle.sheet.specs.Rules.{verdictOf, Accepted, isAccepted}
 use Rattle.sheet.specs.Lookup.{bodyOf, lookup, groupOf}
 use Rattle.sheet.specs.Agree.{Agree}
 use Rattle.sheet.proofs.rules.Good.{good}
@@ -38,7 +38,7 @@ module _ (s : List ℕ) (ok : Accepted s) (i : ℕ) (there : i < count s groups)
 
     looked-up : lookup stored groups i ≡ take (lengthOf groups (entry stored groups i)) (drop (offsetOf groups (entry stored groups i)) stored)
     unfolding lookup isAccepted bodyOf
-    looked-up = simp (eq-eqb (ruleOf stored) 0 still, lt-ltb i (count stored groups) there-still)
+    looked-up = simp (eq-eqb (verdictOf stored) 0 still, lt-ltb i (count stored groups) there-still)
 
     pub handed : (address : ℕ) → group.address of entry s groups i ≡ address → groupOf stored address ≡ ds
     unfolding keyOf

@@ -4,3 +4,4 @@ pub mod Judging
 pub mod StepBut
 pub mod CarryReads
 pub mod PastHead
+pub mod Renewing

@@ -7,7 +7,7 @@ use mathlib.Core.Logic.{_⊎_}
 use mathlib.Core.List.{List, []}
 use lib.ListN.{length, take, drop}
 use Rattle.sheet.specs.Head.{rulesOf, later}
-use Rattle.sheet.specs.Rules.{Accepted}
+use Rattle.sheet.specs.Rules.{Accepted, Old, Bad}
 use Rattle.pdu.specs.Table.{rowOf}
 use Rattle.pdu.specs.Pdus.{serviceOf}
 use Rattle.pdu.specs.Rules.{codeOf}
@@ -88,7 +88,8 @@ pub record Served (rules : ℕ) (k : Service) : Type 0 where
 -- THE REFUSALS BEFORE THE SERVICE, in order; each is due only where none before it is
 pub data Refusal (x : Asked) : ℕ → Type 0 where
   noRoom : x .room < 16 → Refusal x 3
-  badSheet : 16 ≤ x .room → (Accepted (x .sheet) → ⊥) → Refusal x 4
+  badSheet : 16 ≤ x .room → Bad (x .sheet) → Refusal x 4
+  oldSheet : 16 ≤ x .room → Old (x .sheet) → Refusal x 14
   badLength : 16 ≤ x .room → Accepted (x .sheet) → (length (x .apdu) < 2) ⊎ (16 < length (x .apdu)) → Refusal x 5
   badMode : 16 ≤ x .room → Accepted (x .sheet) → 2 ≤ length (x .apdu) → length (x .apdu) ≤ 16 → 3 < x .mode → Refusal x 6
   noSession :

@@ -7,7 +7,7 @@ use mathlib.Core.List.{List, []}
 use lib.ListN.{length, getD}
 use Rattle.sheet.specs.Layout.{_of_}
 use Rattle.sheet.specs.Head as head
-use Rattle.sheet.specs.Rules.{Accepted}
+use Rattle.sheet.specs.Rules.{Accepted, Old, Bad}
 use Rattle.judge.specs.Session.{connected}
 use Rattle.device.specs.Step.{Step}
 use Rattle.device.specs.Asked.{Asked}
@@ -35,11 +35,12 @@ pub record Switched (s : List ℕ) (on : Bool) (s′ : List ℕ) : Type 0 where
   pub flags : head.flags of s′ ≡ head.verify s * 2 + bit on
   pub others : (p : ℕ) → (p ≡ head.flags .at → ⊥) → getD s′ p 0 ≡ getD s p 0
 
--- outcome 4 and the sheet as found if it is not accepted, else outcome 1 and programming mode switched
+-- outcome 4 and the sheet as found if it is bad, 14 if it is old; if it is accepted, outcome 1 and programming mode switched
 pub record ButtonDue (on : Bool) (x : State) (r : Effect) : Type 0 where
   pub answer : r .answer ≡ []
   pub sessions : r .sessions ≡ x .sessions
-  pub badSheet : (Accepted (x .sheet) → ⊥) → (r .outcome ≡ 4) × (r .sheet ≡ x .sheet)
+  pub badSheet : Bad (x .sheet) → (r .outcome ≡ 4) × (r .sheet ≡ x .sheet)
+  pub oldSheet : Old (x .sheet) → (r .outcome ≡ 14) × (r .sheet ≡ x .sheet)
   pub accepted : Accepted (x .sheet) → (r .outcome ≡ 1) × Switched (x .sheet) on (r .sheet)
 
 -- a request as it meets a state

@@ -4,14 +4,15 @@ use Prim.Native.Nat.{ℕ, _+_, _-_}
 use mathlib.Core.Path.{_≡_}
 use mathlib.Core.List.{List, [], _∷_}
 use mathlib.Core.Bool.{Bool, true, false, cond}
+use lib.Dec.{eqb}
 use lib.ListN.{length}
 use Rattle.octets.specs.Bytes.{bytesOf}
 use Rattle.octets.specs.Splice.{splice}
-use Rattle.sheet.specs.Rules.{isAccepted}
+use Rattle.sheet.specs.Rules.{refusalOf}
 use Rattle.sheet.specs.Layout.{_of_}
 use Rattle.sheet.specs.Head as head
 use Rattle.device.specs.Octets.{Octets}
-use Rattle.device.specs.Step.{stepOf}
+use Rattle.device.specs.Step.{Step, stepOf}
 use Rattle.device.specs.Sessions.{newlyOpen, closed, known, withSession, sessionFor, sessionsAfter}
 use Rattle.device.specs.declared.Sessions.{Sessions}
 use Rattle.device.specs.declared.Done.{Done}
@@ -46,23 +47,32 @@ unfoldable pub pressed : List ℕ → Bool → List ℕ
 pressed s on =
     splice s (head.flags .at) (bytesOf (head.flags .width) (head.flags of s - head.programming s + bit on))
 
--- the button: 4 on a sheet that is not accepted, else 1
+-- the button on a sheet that is refused by n, and if n is 0 by nothing
+abbrev pub pressOutcome : ℕ → ℕ
+pressOutcome n = cond (eqb n 0) 1 n
+
+abbrev pub pressSheet : ℕ → List ℕ → Bool → List ℕ
+pressSheet n s on = cond (eqb n 0) (pressed s on) s
+
+-- THE BUTTON: 14 on an old sheet, 4 on a bad one, else 1
 unfoldable pub buttonOutcome : List ℕ → ℕ
-buttonOutcome s = cond (isAccepted s) 1 4
+buttonOutcome s = pressOutcome (refusalOf s)
 
 unfoldable pub buttonSheet : List ℕ → Bool → List ℕ
-buttonSheet s on = cond (isAccepted s) (pressed s on) s
+buttonSheet s on = pressSheet (refusalOf s) s on
 
 -- what the button did
 pub record Pressed (s : List ℕ) (on : Bool) (r : ℕ) (s′ : List ℕ) : Type 0 where
   pub outcome : r ≡ buttonOutcome s
   pub sheet : s′ ≡ buttonSheet s on
 
--- WHAT A REQUEST GIVES: the step on the session that it meets; room is the length of the answer buffer
+-- what a step gives on the session that it meets
+abbrev pub effectOf : Sessions → ℕ → ℕ → Step → Effect
+effectOf q mode c r = record { outcome = r .outcome; answer = r .answer; sessions = sessionsAfter q mode c r; sheet = r .sheet }
+
+-- WHAT A REQUEST GIVES; room is the length of the answer buffer
 unfoldable pub requestOf : ℕ → List ℕ → Sessions → ℕ → ℕ → ℕ → List ℕ → Effect
-requestOf room s q mode c group a =
-    let r = stepOf room s (sessionFor q mode c) mode group a in
-    record { outcome = r .outcome; answer = r .answer; sessions = sessionsAfter q mode c r; sheet = r .sheet }
+requestOf room s q mode c group a = effectOf q mode c (stepOf room s (sessionFor q mode c) mode group a)
 
 -- an effect as a call gives it: its result, the sheet and the buffer afterwards, the buffer having been `out`
 pub record Did (x : Effect) (r : Done) (out sheet′ out′ : List ℕ) : Type 0 where

@@ -4,7 +4,7 @@ use Prim.Native.Nat.{ℕ}
 use mathlib.Core.Bool.{Bool}
 use mathlib.Core.List.{List}
 use Rattle.pdu.specs.Read.{readPdu}
-use Rattle.judge.specs.Judge.{dataIn, judgeOf}
+use Rattle.judge.specs.Judge.{dataIn, judgeBy, judgeOf}
 use Rattle.judge.specs.declared.Session.{Session}
 use Rattle.judge.specs.declared.Decision.{Decision}
 use Rattle.device.specs.Carry.{storeOf, turnOf, closes, answerOf}
@@ -29,6 +29,10 @@ stepBy s q d k =
       restarts = closes (k .turn);
     }
 
--- THE STEP: room is the length of the answer buffer
+-- n is what the sheet is refused by, 0 if it is not; room is the length of the answer buffer
+abbrev pub stepWith : ℕ → ℕ → List ℕ → Session → ℕ → ℕ → List ℕ → Step
+stepWith n room s q mode group a = stepBy s q (dataIn (readPdu a) a) (judgeBy n room s q mode group a)
+
+-- THE STEP
 unfoldable pub stepOf : ℕ → List ℕ → Session → ℕ → ℕ → List ℕ → Step
 stepOf room s q mode group a = stepBy s q (dataIn (readPdu a) a) (judgeOf room s q mode group a)

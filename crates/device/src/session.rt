@@ -168,12 +168,13 @@ fn flags_with(s: &[u8], on: bool) -> u8
     f - f % 2 + bit_of(on)
 }
 
-// The programming button: 4 on a sheet that is not accepted, else 1.
+// The programming button: 14 on an old sheet, 4 on a bad one, else 1.
 pub fn button(sheet: &mut [u8], on: bool) -> u8
     ensures { λ r. ⌜ Pressed (now (sheet .entry)) on r (now (sheet .exit)) ⌝ }
 {
-    if sheet::check(&sheet[..]) != 0 {
-        return 4;
+    let n = sheet::refusal(&sheet[..]);
+    if n != 0 {
+        return n;
     }
     let new = flags_with(&sheet[..], on);
     octets::put(sheet, sheet::flags_at(), 1, new as u64);

@@ -3,10 +3,10 @@
 use mathlib.Core.Path.{_≡_, refl}
 use mathlib.Core.List.{List, [], _∷_, _++_}
 use Rattle.device.specs.Events.{State}
-use Rattle.events.specs.Events.{Event, after, run}
+use Rattle.events.specs.Events.{Event, after, runBy, run}
 
 -- ONE RUN AFTER THE OTHER
 pub run-append : (x : State) (es fs : List Event) → run x (es ++ fs) ≡ run (run x es) fs
-unfolding run
+unfolding runBy
 run-append x [] fs = refl
 run-append x (e ∷ es) fs = run-append (after x e) es fs

@@ -1,4 +1,4 @@
--- A restore on two accepted sheets that are the same but at some positions, and agree on what the rules read: the same outcome, and what it leaves is accepted and differs there alone.
+-- A restore on two sheets that are the same but at some positions, and agree on what the rules read: the same outcome, and what it leaves differs there alone.
 -- Assumes nothing.
 use Prim.Native.Nat.{ℕ}
 use mathlib.Core.Path.{_≡_, refl}
@@ -15,10 +15,9 @@ use Rattle.sheet.specs.But.{But}
 use Rattle.sheet.proofs.alike.Buts.{splice-but}
 use Rattle.sheet.proofs.alike.Sames.{count-same, place-same, start-same}
 use Rattle.judge.specs.declared.Session.{Session}
-use Rattle.device.proofs.apart.StepBut.{is-accepted}
 use Rattle.versions.specs.Store.{versionIn}
 use Rattle.versions.specs.Settings.{entriesLong, restored, SameEntries, LowCounts}
-use Rattle.versions.specs.Restoring.{givesBack, restoreOutcome, restoreSheet}
+use Rattle.versions.specs.Restoring.{givesBack, restoreBy, restoreOutcome, restoreSheet}
 use Rattle.versions.proofs.Agreeing.{entries-to, low-to, same-entries-same, low-counts-same}
 use Rattle.versions.proofs.Dues.{allowed}
 use Rattle.versions.proofs.Restores as re
@@ -29,6 +28,19 @@ pub record BothBut (H : ℕ → Type 0) (s s′ : List ℕ) : Type 0 where
   pub accepted′ : Accepted s′
   pub others : But H s s′
 
+module _ {R : List ℕ → List ℕ → Type 0} {s s′ : List ℕ} (agree : AgreeBy R s s′) where
+  -- where a version is given back
+  pub long-same : entriesLong s′ ≡ entriesLong s
+  long-same = omega (arith, count-same agree properties)
+
+  pub base-same : base s′ properties ≡ base s properties
+  base-same = omega (arith, place-same agree properties 0)
+
+  -- THE SAME OUTCOME of two that are refused by the same number, or by none
+  pub restored-alike : (q : Session) (st : List ℕ) (n m : ℕ) → restoreBy m q s′ st n ≡ restoreBy m q s st n
+  unfolding givesBack
+  restored-alike q st n m = rw (same-entries-same agree (versionIn st n), low-counts-same agree (versionIn st n))
+
 module _ {R : List ℕ → List ℕ → Type 0} {H : ℕ → Type 0} {s s′ : List ℕ} (agree : AgreeBy R s s′) (b : BothBut H s s′) where
   restored-but : (d : List ℕ) → SameEntries s d → LowCounts s d → BothBut H (restored s d) (restored s′ d)
   unfolding restored
@@ -37,21 +49,14 @@ module _ {R : List ℕ → List ℕ → Type 0} {H : ℕ → Type 0} {s s′ : L
         accepted = re.restored-accepted (b .accepted) same low;
         accepted′ = re.restored-accepted (b .accepted′) (entries-to agree d same) (low-to agree d low);
         others =
-            rw (long-same, base-same, start-same agree properties (omega arith))
+            rw (long-same agree, base-same agree, start-same agree properties (omega arith))
             (splice-but (splice-but (b .others) _ _ (re.fits₁ (b .accepted) same)) _ _ (re.fits₂ (b .accepted) same));
       }
-    where
-      long-same : entriesLong s′ ≡ entriesLong s
-      long-same = omega (arith, count-same agree properties)
-
-      base-same : base s′ properties ≡ base s properties
-      base-same = omega (arith, place-same agree properties 0)
 
   module _ (q : Session) (st : List ℕ) (n : ℕ) where
     pub restore-outcome : restoreOutcome q s′ st n ≡ restoreOutcome q s st n
-    unfolding restoreOutcome givesBack
-    restore-outcome =
-        rw (is-accepted s (b .accepted), is-accepted s′ (b .accepted′), same-entries-same agree (versionIn st n), low-counts-same agree (versionIn st n))
+    unfolding restoreOutcome
+    restore-outcome = rw (b .accepted, b .accepted′) (restored-alike agree q st n 0)
 
     pub restore-but : BothBut H (restoreSheet q s st n) (restoreSheet q s′ st n)
     unfolding restoreSheet

@@ -15,7 +15,7 @@ use Rattle.device.specs.Sessions.{freshOf, withSession, sessionOf, sessionFor}
 use Rattle.device.specs.Events.{State, connectOf, disconnectOf, requestOf}
 use Rattle.device.specs.Apart.{RulesByte, SameButRules, SameEffect, Together}
 use Rattle.versions.specs.Restoring.{restoreSheet}
-use Rattle.events.specs.Events.{Event, connect, disconnect, button, request, restore, eventOf, after, run}
+use Rattle.events.specs.Events.{Event, connect, disconnect, button, request, restore, eventOf, after, runBy, run}
 use Rattle.events.specs.Apart.{Settled, AllSettled}
 use Rattle.events.proofs.Stays.{stays}
 use Rattle.events.proofs.RestoreBut.{BothBut, restore-outcome, restore-but}
@@ -78,7 +78,7 @@ event-apart x x′ (restore c n st) t u =
 
 -- THE STATES AFTER A RUN
 pub runs-apart : (x x′ : State) (es : List Event) → Together x x′ → AllSettled es → Together (run x es) (run x′ es)
-unfolding run after
+unfolding runBy after
 runs-apart x x′ [] t c = t
 runs-apart x x′ (e ∷ es) t c =
     let k = event-apart x x′ e t (c .0) in

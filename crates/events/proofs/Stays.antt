@@ -11,7 +11,7 @@ use Rattle.device.specs.Due.{asked}
 use Rattle.device.proofs.leaves.Stays.{request-agrees, button-agrees}
 use Rattle.judge.specs.declared.Session.{Session}
 use Rattle.device.specs.Sessions.{sessionOf}
-use Rattle.versions.specs.Due.{RestoreDue, sheetRefused, storeRefused, unknownNumber, notOpen, differs, tooHigh, isRestored}
+use Rattle.versions.specs.Due.{RestoreDue, sheetRefused, sheetOld, storeRefused, unknownNumber, notOpen, differs, tooHigh, isRestored}
 use Rattle.versions.proofs.Dues.{restore-due}
 use Rattle.versions.proofs.Restores.{restored-agrees}
 use Rattle.events.specs.Events.{Event, connect, disconnect, button, request, restore, eventOf, after}
@@ -19,6 +19,7 @@ use Rattle.events.specs.Events.{Event, connect, disconnect, button, requ
 -- a restore
 restore-agrees : {q : Session} {s st : List ℕ} {n k : ℕ} {t : List ℕ} → Accepted s → RestoreDue q s st n k t → Agree s t
 restore-agrees {s = s} ok (sheetRefused f) = agree-refl s
+restore-agrees {s = s} ok (sheetOld f) = agree-refl s
 restore-agrees {s = s} ok (storeRefused a f) = agree-refl s
 restore-agrees {s = s} ok (unknownNumber a f) = agree-refl s
 restore-agrees {s = s} ok (notOpen a f) = agree-refl s

@@ -21,18 +21,35 @@ restoring x c n st =
     let q = sessionOf (x .sessions) c in
     record { outcome = restoreOutcome q (x .sheet) st n; answer = []; sessions = x .sessions; sheet = restoreSheet q (x .sheet) st n }
 
--- ONE EVENT
+-- a release: what the button, a request and a restore give
+pub record Release : Type 0 where
+  pub press : State → Bool → Effect
+  pub ask : State → ℕ → ℕ → ℕ → List ℕ → List ℕ → Effect
+  pub give : State → ℕ → ℕ → List ℕ → Effect
+
+-- an event in a release
+abbrev pub eventWith : Release → State → Event → Effect
+eventWith r x (connect c) = connecting x c
+eventWith r x (disconnect c) = disconnecting x c
+eventWith r x (button on) = r .press x on
+eventWith r x (request mode c group a out) = r .ask x mode c group a out
+eventWith r x (restore c n st) = r .give x c n st
+
+-- what an effect leaves
+abbrev pub leaves : Effect → State
+leaves r = record { sessions = r .sessions; sheet = r .sheet }
+
+-- a run, the first event first, `next` being what an event leaves
+unfoldable pub runBy : (State → Event → State) → State → List Event → State
+runBy next x [] = x
+runBy next x (e ∷ es) = runBy next (next x e) es
+
+-- ONE EVENT, WHAT IT LEAVES, AND A RUN in this release
 unfoldable pub eventOf : State → Event → Effect
-eventOf x (connect c) = connecting x c
-eventOf x (disconnect c) = disconnecting x c
-eventOf x (button on) = pressing x on
-eventOf x (request mode c group a out) = requesting x mode c group a out
-eventOf x (restore c n st) = restoring x c n st
+eventOf x e = eventWith record { press = pressing; ask = requesting; give = restoring } x e
 
 unfoldable pub after : State → Event → State
-after x e = record { sessions = eventOf x e .sessions; sheet = eventOf x e .sheet }
+after x e = leaves (eventOf x e)
 
--- a run, the first event first
-unfoldable pub run : State → List Event → State
-run x [] = x
-run x (e ∷ es) = run (after x e) es
+abbrev pub run : State → List Event → State
+run = runBy after

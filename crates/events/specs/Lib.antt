@@ -1,3 +1,4 @@
 pub mod Events
+pub mod Before
 pub mod Due
 pub mod Apart

@@ -10,7 +10,7 @@ use Rattle.sheet.specs.Demand.{breach}
 use Rattle.sheet.specs.First.{first}
 use Rattle.sheet.specs.Head.{rulesOf}
 use Rattle.sheet.specs.Entries.{entry, keyOf, floor, bodyEnd, startOf, reached, sixBits}
-use Rattle.sheet.specs.Rules.{entryDemands, bodyDemands, entryRule, bodyRule, entriesRule, bodiesRule, walkRule, restRule, ruleIn, isAccepted}
+use Rattle.sheet.specs.Rules.{entryDemands, bodyDemands, entryRule, bodyRule, entriesRule, bodiesRule, walkRule, restRule, ruleIn, verdictOf}
 use Rattle.sheet.specs.Lookup.{seek, indexOf, covers, placeOf, common, rangeOf}
 use Rattle.pdu.specs.Table.{find}
 use Rattle.pdu.specs.Rules.{lowAt, headBytes}
@@ -57,7 +57,7 @@ answer q sequence b =
 pub group-answered :
     answer record { opened = false; level = 3 } 7 (0x29 ∷ 0 ∷ 0x9C ∷ 0xD0 ∷ 0x11 ∷ 0xFF ∷ 0x08 ∷ 0x01 ∷ 1 ∷ 0x00 ∷ 0x00 ∷ [])
     ≡ 0x11 ∷ 0 ∷ 0xBC ∷ 0xE0 ∷ 0x11 ∷ 0x05 ∷ 0x08 ∷ 0x01 ∷ 2 ∷ 0x00 ∷ 0x40 ∷ 0x15 ∷ []
-unfolding answer sheet sample answering meaningOf toGroup encoded bytesIn under stepOf stepBy judgeOf isAccepted isShut reachedOf rulesOf levelIn levelOf groupReadOf valueOf flagsAt
+unfolding answer sheet sample answering meaningOf toGroup encoded bytesIn under stepOf stepBy judgeOf verdictOf isShut reachedOf rulesOf levelIn levelOf groupReadOf valueOf flagsAt
     readPdu find dataOf pduBytes headBytes lowAt seek indexOf ruleIn walkRule restRule entriesRule bodiesRule entryRule bodyRule bodyDemands entryDemands
     entry keyOf floor bodyEnd startOf reached sixBits first breach splice numAt bytesOf
 group-answered = refl
@@ -66,7 +66,7 @@ group-answered = refl
 pub connected-answered :
     answer record { opened = true; level = 3 } 18 (0x29 ∷ 2 ∷ 0xAA ∷ 0xBB ∷ 0xB4 ∷ 0x50 ∷ 0x11 ∷ 0xFF ∷ 0x11 ∷ 0x05 ∷ 3 ∷ 0x46 ∷ 0x04 ∷ 0x01 ∷ 0x00 ∷ [])
     ≡ 0x11 ∷ 0 ∷ 0xB4 ∷ 0x60 ∷ 0x11 ∷ 0x05 ∷ 0x11 ∷ 0xFF ∷ 7 ∷ 0x4A ∷ 0x44 ∷ 0x01 ∷ 0x00 ∷ 0xA0 ∷ 0xA1 ∷ 0xA2 ∷ 0xA3 ∷ []
-unfolding answer sheet sample answering meaningOf toOne numbered encoded bytesIn under stepOf stepBy judgeOf isAccepted isShut reachedOf rulesOf levelIn levelOf memoryReadOf
+unfolding answer sheet sample answering meaningOf toOne numbered encoded bytesIn under stepOf stepBy judgeOf verdictOf isShut reachedOf rulesOf levelIn levelOf memoryReadOf
     readPdu find dataOf pduBytes headBytes lowAt seek covers placeOf common rangeOf ruleIn walkRule restRule entriesRule bodiesRule entryRule bodyRule bodyDemands entryDemands
     entry keyOf floor bodyEnd startOf reached sixBits first breach splice numAt bytesOf
 connected-answered = refl

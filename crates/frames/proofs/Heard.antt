@@ -1,12 +1,12 @@
 -- THE DEVICE DOES WITH THE BYTES FROM OCTET 6 ON WHAT IT DOES WITH THE APDU, whatever transport's bits are.
 -- Assumes nothing.
-use Rattle.sheet.specs.Rules.{isAccepted}
+use Rattle.sheet.specs.Rules.{refusalOf}
 use Prim.Native.Nat.{ℕ}
 use mathlib.Core.Path.{_≡_, refl, ap, ap₂, _∙_}
 use mathlib.Core.Bool.{cond, not}
 use mathlib.Core.List.{List, [], _∷_}
 use native.Mathlib.Omega.{arith}
-use lib.Dec.{ltb}
+use lib.Dec.{ltb, eqb}
 use Rattle.sheet.specs.Head.{rulesOf}
 use Rattle.pdu.specs.Table.{serviceAt}
 use Rattle.pdu.specs.Rules.{codeOf}
@@ -58,7 +58,7 @@ module _ (a b : List ℕ) (h : SameApdu a b) where
         ap₂
         (λ (n : ℕ) (d : Decision).
         cond (ltb room 16) (refused 3)
-        (cond (not (isAccepted s)) (refused 4)
+        (cond (not (eqb (refusalOf s) 0)) (refused (refusalOf s))
         (cond (ltb n 2) (refused 5) (cond (ltb 16 n) (refused 5) (cond (ltb 3 mode) (refused 6) (cond (isShut q mode) (refused 7) d))))))
         (h .long)
         (ap (λ (c : ℕ). foundOf s q mode group a (serviceAt c)) (code-alike a b h) ∙ found-of (serviceAt (codeOf b)))

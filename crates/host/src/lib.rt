@@ -3,7 +3,8 @@
 mod store;
 
 ghost use mathlib.Core.Path.{_≡_};
-ghost use Rattle.sheet.specs.Rules.{ruleOf};
+ghost use Rattle.sheet.specs.Rules.{verdictOf};
+ghost use Rattle.sheet.specs.Convert.{Converts};
 ghost use Rattle.sheet.specs.Lookup.{StandsIn, regionOf, regionFrom, userRegionOf, userRegionFrom, propertyOf, propertyFrom, groupOf, groupFrom};
 ghost use Rattle.device.specs.Sessions.{freshOf};
 ghost use Rattle.device.specs.Events.{namedOutcome, connectOf, disconnectOf, Pressed, Called};
@@ -112,12 +113,20 @@ pub extern "C" fn kelindap_request(
     }
 }
 
-// The first rule that the sheet breaks, or 0.
+// What is said of a sheet: the first rule that it breaks, 14 if it is old, or 0.
 #[no_mangle]
 pub extern "C" fn kelindap_check(sheet: &[u8]) -> u8
-    ensures { λ r. ⌜ r ≡ ruleOf (now (sheet .entry)) ⌝ }
+    ensures { λ r. ⌜ r ≡ verdictOf (now (sheet .entry)) ⌝ }
 {
     sheet::check(sheet)
+}
+
+// An old sheet becomes one of edition 2: 1. Any other stays as found: 4.
+#[no_mangle]
+pub extern "C" fn kelindap_convert(sheet: &mut [u8]) -> u8
+    ensures { λ r. ⌜ Converts (now (sheet .entry)) r (now (sheet .exit)) ⌝ }
+{
+    sheet::convert(sheet)
 }
 
 // Where the body of a property stands.

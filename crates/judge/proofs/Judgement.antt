@@ -5,9 +5,9 @@ use mathlib.Core.Path.{_≡_, sym, ap, _∙_}
 use mathlib.Core.List.{List}
 use mathlib.Core.Bool.{Bool, true, false, not}
 use lib.ListN.{length}
-use borrow.Author.Tests.{lt-ltb, le-ltb, eqb-true, not-false}
+use borrow.Author.Tests.{lt-ltb, le-ltb, ne-eqb}
 use Rattle.sheet.specs.Head.{rulesOf}
-use Rattle.sheet.specs.Rules.{ruleOf, Accepted, isAccepted}
+use Rattle.sheet.specs.Rules.{refusalOf}
 use Rattle.pdu.specs.Rules.{codeOf}
 use Rattle.pdu.specs.Table.{serviceAt}
 use Rattle.pdu.specs.Read.{readPdu, readOutcome, dataOf}
@@ -32,10 +32,6 @@ pub via-decide :
     (s : List ℕ) (level group : ℕ) (d : List ℕ) (p j : Pdu) (r : Decision) →
     p ≡ j → r ≡ decideOf s level group d j → r ≡ decideOf s level group d p
 via-decide s level group d p j r e h = h ∙ ap (decideOf s level group d) (sym e)
-
-pub accepted : (s : List ℕ) (b : Bool) → b ≡ isAccepted s → not b ≡ false → Accepted s
-unfolding isAccepted
-accepted s b e h = eqb-true (ruleOf s) 0 (sym e ∙ not-false b h)
 
 module _ (s : List ℕ) (q : Session) (mode group : ℕ) (a : List ℕ) (r : Decision) where
   -- by the reach of the service
@@ -79,36 +75,39 @@ module _ (s : List ℕ) (q : Session) (mode group : ℕ) (a : List ℕ) (r : Dec
     unfolding judgeOf
     no-room h g = simp (lt-ltb _ _ h) g
 
-    module _ (roomy : 16 ≤ room) (b : Bool) (b-is : b ≡ isAccepted s) where
-      pub not-accepted : not b ≡ true → r ≡ refused 4 → r ≡ judgeOf room s q mode group a
+    module _ (roomy : 16 ≤ room) (n : ℕ) (n-is : n ≡ refusalOf s) where
+      pub not-accepted : (n ≡ 0 → ⊥) → r ≡ refused n → r ≡ judgeOf room s q mode group a
       unfolding judgeOf
-      not-accepted h g = simp (le-ltb _ _ roomy, ← b-is, h) g
+      not-accepted h g = rw (← n-is) (simp (le-ltb _ _ roomy, ne-eqb n 0 h) g)
 
-      module _ (good : not b ≡ false) where
+      module _ (good : n ≡ 0) where
+        ok : refusalOf s ≡ 0
+        ok = sym n-is ∙ good
+
         pub too-short : length a < 2 → r ≡ refused 5 → r ≡ judgeOf room s q mode group a
         unfolding judgeOf
-        too-short h g = simp (le-ltb _ _ roomy, ← b-is, good, lt-ltb _ _ h) g
+        too-short h g = simp (le-ltb _ _ roomy, ok, lt-ltb _ _ h) g
 
         module _ (two : 2 ≤ length a) where
           pub too-long : 16 < length a → r ≡ refused 5 → r ≡ judgeOf room s q mode group a
           unfolding judgeOf
-          too-long h g = simp (le-ltb _ _ roomy, ← b-is, good, le-ltb _ _ two, lt-ltb _ _ h) g
+          too-long h g = simp (le-ltb _ _ roomy, ok, le-ltb _ _ two, lt-ltb _ _ h) g
 
           module _ (most : length a ≤ 16) where
             pub no-mode : 3 < mode → r ≡ refused 6 → r ≡ judgeOf room s q mode group a
             unfolding judgeOf
-            no-mode h g = simp (le-ltb _ _ roomy, ← b-is, good, le-ltb _ _ two, le-ltb _ _ most, lt-ltb _ _ h) g
+            no-mode h g = simp (le-ltb _ _ roomy, ok, le-ltb _ _ two, le-ltb _ _ most, lt-ltb _ _ h) g
 
             module _ (known : mode ≤ 3) (c : Bool) (c-is : c ≡ isShut q mode) where
               pub shut : c ≡ true → r ≡ refused 7 → r ≡ judgeOf room s q mode group a
               unfolding judgeOf
               shut h g =
-                  simp (le-ltb _ _ roomy, ← b-is, good, le-ltb _ _ two, le-ltb _ _ most, le-ltb _ _ known, ← c-is, h) g
+                  simp (le-ltb _ _ roomy, ok, le-ltb _ _ two, le-ltb _ _ most, le-ltb _ _ known, ← c-is, h) g
 
               pub by-code :
                   c ≡ false → (f : Found) (x : Parsed) (d : List ℕ) → f ≡ serviceAt (codeOf a) → x ≡ readPdu a → d ≡ dataIn x a →
                   ((a : List ℕ) → x ≡ readPdu a → d ≡ dataIn x a → r ≡ foundOf s q mode group a f) → r ≡ judgeOf room s q mode group a
               unfolding judgeOf
               by-code h f x d f-is x-is d-is g =
-                  simp (le-ltb _ _ roomy, ← b-is, good, le-ltb _ _ two, le-ltb _ _ most, le-ltb _ _ known, ← c-is, h, ← f-is)
+                  simp (le-ltb _ _ roomy, ok, le-ltb _ _ two, le-ltb _ _ most, le-ltb _ _ known, ← c-is, h, ← f-is)
                   (g a x-is d-is)

@@ -7,7 +7,7 @@ use lib.ListN.{length}
 use lib.Dec.{ltb, eqb}
 use Rattle.sheet.specs.Head.{rulesOf}
 use Rattle.sheet.specs.declared.Memory.the-variants.{Device, User}
-use Rattle.sheet.specs.Rules.{isAccepted}
+use Rattle.sheet.specs.Rules.{refusalOf}
 use Rattle.pdu.specs.Rules.{codeOf}
 use Rattle.pdu.specs.Table.{serviceAt}
 use Rattle.pdu.specs.Read.{readPdu, dataOf}
@@ -84,13 +84,21 @@ foundOf s q mode group a (Listed k) = reachedOf s q mode group a (reachOf (rules
 unfoldable pub isShut : Session → ℕ → Bool
 isShut q mode = eqb mode connected && not (q .opened)
 
--- THE JUDGEMENT: room is the length of the answer buffer
-unfoldable pub judgeOf : ℕ → List ℕ → Session → ℕ → ℕ → List ℕ → Decision
-judgeOf room s q mode group a =
-    cond (ltb room 16) (refused 3)
-    (cond (not (isAccepted s)) (refused 4)
-    (cond (ltb (length a) 2) (refused 5)
+-- on a sheet that is not refused: 5, 6 and 7, then by what the code names
+abbrev pub checkedOf : List ℕ → Session → ℕ → ℕ → List ℕ → Decision
+checkedOf s q mode group a =
+    cond (ltb (length a) 2) (refused 5)
     (cond (ltb 16 (length a)) (refused 5)
     (cond (ltb 3 mode) (refused 6)
     (cond (isShut q mode) (refused 7)
-    (foundOf s q mode group a (serviceAt (codeOf a))))))))
+    (foundOf s q mode group a (serviceAt (codeOf a))))))
+
+-- n is what the sheet is refused by, 0 if it is not; room is the length of the answer buffer
+abbrev pub judgeBy : ℕ → ℕ → List ℕ → Session → ℕ → ℕ → List ℕ → Decision
+judgeBy n room s q mode group a =
+    cond (ltb room 16) (refused 3)
+    (cond (not (eqb n 0)) (refused n) (checkedOf s q mode group a))
+
+-- THE JUDGEMENT: 14 on an old sheet, 4 on a bad one
+unfoldable pub judgeOf : ℕ → List ℕ → Session → ℕ → ℕ → List ℕ → Decision
+judgeOf room s q mode group a = judgeBy (refusalOf s) room s q mode group a

@@ -13,7 +13,7 @@ mod services;
 ghost use mathlib.Core.Path.{_≡_};
 ghost use Prim.Native.Nat.{ℕ};
 ghost use mathlib.Core.List.{List};
-ghost use Rattle.sheet.specs.Rules.{Accepted, isAccepted};
+ghost use Rattle.sheet.specs.Rules.{Accepted};
 ghost use Rattle.pdu.specs.Rules.{codeOf};
 ghost use Rattle.pdu.specs.Table.{serviceAt};
 ghost use Rattle.pdu.specs.Read.{readPdu};
@@ -124,13 +124,6 @@ fn is_shut(q: Session, mode: u8) -> bool
     !q.opened
 }
 
-// The sheet is one that the device works with.
-fn is_accepted(s: &[u8]) -> bool
-    ensures { λ r. ⌜ r ≡ isAccepted (now (s .entry)) ⌝ }
-{
-    sheet::check(s) == 0
-}
-
 // 8, then 9, then the reading: what a request of a service with that reach and with data d gets.
 fn reached(s: &[u8], x: Request, d: &[u8], r: Reach) -> Decision
     requires { ⌜ Accepted (now s) ⌝ }
@@ -170,8 +163,9 @@ pub fn judge(room: usize, s: &[u8], x: Request, apdu: &[u8], d: &[u8]) -> Decisi
     if room < 16 {
         return refused(3);
     }
-    if !is_accepted(s) {
-        return refused(4);
+    let n = sheet::refusal(s);
+    if n != 0 {
+        return refused(n);
     }
     if apdu.len() < 2 {
         return refused(5);

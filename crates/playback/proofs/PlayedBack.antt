@@ -18,7 +18,7 @@ use Rattle.sheet.specs.First.{orElse}
 use Rattle.sheet.proofs.rules.Demands.{told, unbroken}
 use Rattle.sheet.proofs.rules.First.{orElse-some}
 use Rattle.device.specs.Events.{State}
-use Rattle.events.specs.Events.{Event, run}
+use Rattle.events.specs.Events.{Event, runBy, run}
 use Rattle.device.specs.declared.Sessions.{Sessions}
 use Rattle.playback.specs.Trace.{head, count, eventsFrom, traceOf}
 use Rattle.playback.specs.Rules.{refusalOf, Playable}
@@ -91,7 +91,7 @@ module _ (t : List ℕ) (from limit : ℕ) (log : List ℕ) where
     -- WHATEVER IS REFUSED LEAVES ALL AS IT WAS
     untouched : (r : Played) → r .refusal ≡ refusalIn t from limit log → (r .refusal ≡ 0 → ⊥) → r .handled ≡ 0 → r .sessions ≡ q →
         Playing q s t from limit log r s log
-    unfolding run logOf
+    unfolding runBy logOf
     untouched r e n h k =
         let no = none-played (λ z. n (e ∙ z)) in
         record {

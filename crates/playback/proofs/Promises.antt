@@ -14,7 +14,7 @@ use Rattle.sheet.specs.First.{orElse}
 use Rattle.sheet.proofs.rules.Demands.{met, unbroken}
 use Rattle.sheet.proofs.rules.First.{orElse-left, orElse-right}
 use Rattle.device.specs.Events.{State}
-use Rattle.events.specs.Events.{Event, eventOf, after, run}
+use Rattle.events.specs.Events.{Event, eventOf, after, runBy, run}
 use Rattle.device.specs.declared.Sessions.{Sessions}
 use Rattle.events.proofs.Append.{run-append}
 use Rattle.playback.specs.Trace.{count, eventAt, eventsFrom}
@@ -35,7 +35,7 @@ log-cons t y i k =
 pub refused-untouched :
     (q : Sessions) (s t : List ℕ) (from limit : ℕ) (log : List ℕ) (r : Played) (s′ log′ : List ℕ) →
     Playing q s t from limit log r s′ log′ → (r .refusal ≡ 0 → ⊥) → (at (r .sessions) s′ ≡ at q s) × (log′ ≡ log)
-unfolding run logOf
+unfolding runBy logOf
 refused-untouched q s t from limit log r s′ log′ p n =
     let no = none-played t from limit log (λ z. n (p .refusal ∙ z)) in (
       p .state ∙ ap (run (at q s)) no,

@@ -11,7 +11,7 @@ use native.Mathlib.Omega.{arith}
 use Rattle.octets.specs.Splice.{splice}
 use Rattle.octets.proofs.Splices.{splice-front, splice-more, splice-none, length-splice}
 use Rattle.device.specs.Events.{State}
-use Rattle.events.specs.Events.{Event, eventOf, after, run}
+use Rattle.events.specs.Events.{Event, eventOf, after, runBy, run}
 use Rattle.device.specs.declared.Sessions.{Sessions}
 use Rattle.events.proofs.Append.{run-append}
 use Rattle.playback.specs.Trace.{count, eventAt, eventsFrom, traceOf}
@@ -41,7 +41,7 @@ length-events t i (suc n) = omega (arith, length-events t (i + 1) n)
 
 -- the log of two lists of events is one log after the other
 pub log-append : (x : State) (es fs : List Event) → logOf x (es ++ fs) ≡ logOf x es ++ logOf (run x es) fs
-unfolding logOf run
+unfolding logOf runBy
 log-append x [] fs = refl
 log-append x (e ∷ es) fs =
     ap (λ (l : List ℕ). lineOf (eventOf x e) ++ l) (log-append (after x e) es fs)
@@ -63,7 +63,7 @@ pub record Going (q : Sessions) (s t : List ℕ) (from n : ℕ) (log : List ℕ)
 
 module _ (q : Sessions) (s t : List ℕ) (from n : ℕ) (log : List ℕ) where
   pub goes-begin : Going q s t from n log 0 q s log
-  unfolding eventsFrom run logOf
+  unfolding eventsFrom runBy logOf
   goes-begin = record { within = omega arith; state = refl; logged = sym (splice-none log 0); long = refl; same = refl }
 
   module _ (ready : Ready t from n log) (j : ℕ) (r : Sessions) (s₁ log₁ : List ℕ) (g : Going q s t from n log j r s₁ log₁) where
@@ -81,7 +81,7 @@ module _ (q : Sessions) (s t : List ℕ) (from n : ℕ) (log : List ℕ) where
 
     module _ (r′ : Sessions) (s₂ l : List ℕ) (b : j < n) (h : Logged r s₁ t (from + j) r′ s₂ l) (u : length s₂ ≡ length s₁) where
       st : at r′ s₂ ≡ run x (eventsFrom t from (j + 1))
-      unfolding run
+      unfolding runBy
       st =
           h .state
           ∙ ap (λ (y : State). after y (eventAt t (from + j))) (g .state)

@@ -3,3 +3,4 @@ pub mod Sames
 pub mod SameLookups
 pub mod Buts
 pub mod Sparing
+pub mod EditionApart

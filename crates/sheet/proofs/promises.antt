@@ -2,7 +2,6 @@
 pub mod Plains
 pub mod Nine
 pub mod RulesKnown
-pub mod Before
 pub mod Values
 pub mod Examples
 pub mod TwoMemories
@@ -12,5 +11,7 @@ pub mod Keys
 pub mod Ranks
 pub mod Runs
 pub mod Agrees
+pub mod Verdicts
+pub mod Converting
 pub mod Stores
 pub mod Counts

@@ -8,7 +8,6 @@ pub mod Property
 pub mod Group
 pub mod Entries
 pub mod Rules
-pub mod Before
 pub mod Walk
 pub mod Plain
 pub mod Lookup
@@ -16,5 +15,6 @@ pub mod Values
 pub mod Places
 pub mod Agree
 pub mod But
+pub mod Convert
 pub mod Stores
 pub mod Sample

@@ -2,7 +2,7 @@
 -- Assumes nothing.
 use Prim.Native.Nat.{ℕ, _+_, _/_, _%_}
 use mathlib.Core.Path.{_≡_}
-use mathlib.Core.Bool.{Bool}
+use mathlib.Core.Bool.{Bool, cond}
 use mathlib.Core.List.{List, [], _∷_}
 use lib.Dec.{eqb}
 use lib.ListN.{length}
@@ -117,17 +117,45 @@ walkRule s = orElse (entriesRule s users) (restRule s)
 unfoldable pub ruleIn : ℕ → List ℕ → ℕ
 ruleIn ed s = orElse (breach (frameDemands ed s)) (orElse (breach (zeroDemands s)) (walkRule s))
 
--- the latest edition that sheets have: those before it are accepted too
+-- the edition that sheets have, and the one before it, which is retired
 abbrev pub edition : ℕ
 edition = 2
 
--- THE FIRST RULE BROKEN, and 0 for an accepted sheet
+abbrev pub retired : ℕ
+retired = 1
+
+-- THE FIRST RULE BROKEN, of the sheet's own edition, and 0 if none is
 abbrev pub ruleOf : List ℕ → ℕ
 ruleOf s = ruleIn edition s
 
--- AN ACCEPTED SHEET, and the test for it
+-- the number that tells an old sheet
+abbrev pub old : ℕ
+old = 14
+
+-- WHAT IS SAID OF A SHEET: the first rule that it breaks, 1 to 9; if it breaks none, 14 of the retired edition and 0 of the other
+unfoldable pub verdictOf : List ℕ → ℕ
+verdictOf s = orElse (ruleOf s) (cond (eqb (head.edition of s) retired) old 0)
+
+-- AN ACCEPTED SHEET, AN OLD ONE, A BAD ONE; and the test for the first
 abbrev pub Accepted : List ℕ → Type 0
-Accepted s = ruleOf s ≡ 0
+Accepted s = verdictOf s ≡ 0
+
+abbrev pub Old : List ℕ → Type 0
+Old s = verdictOf s ≡ old
+
+abbrev pub Bad : List ℕ → Type 0
+Bad s = ruleOf s ≡ 0 → ⊥
 
 unfoldable pub isAccepted : List ℕ → Bool
-isAccepted s = eqb (ruleOf s) 0
+isAccepted s = eqb (verdictOf s) 0
+
+-- WHAT A CALL IS REFUSED BY, by what is said of its sheet: 14 on an old sheet, 4 on a bad one; 0 on an accepted one, where it is not
+abbrev pub refusal : ℕ → ℕ
+refusal v = cond (eqb v 0) 0 (cond (eqb v old) old 4)
+
+abbrev pub refusalOf : List ℕ → ℕ
+refusalOf s = refusal (verdictOf s)
+
+-- in the release before, which knew no old sheets
+abbrev pub refusalBefore : List ℕ → ℕ
+refusalBefore s = refusal (ruleOf s)

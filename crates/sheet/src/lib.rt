@@ -4,6 +4,7 @@ mod head;
 mod judge;
 mod layout;
 mod lookup;
+mod old;
 mod ranges;
 mod records;
 mod table;
@@ -27,6 +28,8 @@ pub use lookup::region;
 pub use lookup::region_part;
 pub use lookup::user_region;
 pub use lookup::user_region_part;
+pub use old::convert;
+pub use old::refusal;
 pub use ranges::range;
 pub use records::count;
 pub use records::count_at;
@@ -34,6 +37,7 @@ pub use records::group_entry;
 pub use records::nth;
 pub use records::property_entry;
 pub use records::rank;
+pub use walk::OLD;
 pub use walk::check;
 
 // Where a value stands in the sheet, in numbers: 0 and 0 if there is none.

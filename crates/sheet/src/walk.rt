@@ -5,7 +5,7 @@ ghost use Rattle.sheet.specs.Demand.{Tells};
 ghost use Rattle.sheet.specs.Kind.{kinds, users};
 ghost use Rattle.sheet.specs.Entries.{place as placeOf, floor, startOf};
 ghost use Rattle.sheet.specs.First.{orElse};
-ghost use Rattle.sheet.specs.Rules.{endDemands, entriesRule, walkRule, ruleOf, edition};
+ghost use Rattle.sheet.specs.Rules.{endDemands, entriesRule, walkRule, ruleOf, verdictOf, edition};
 ghost use Rattle.sheet.specs.Walk.{Framed, Entry, Steps, lastOf, far};
 use crate::frame::frame_rule;
 use crate::frame::zero_rule;
@@ -19,6 +19,7 @@ use crate::table::contents;
 use crate::table::many;
 use crate::table::part;
 use crate::table::place;
+use octets::byte;
 
 // S6, S7 or S8 of entry i of a kind, and S9 of its body. An arm for each kind, so that each is compiled by itself.
 fn step(s: &[u8], k: usize, i: usize, at: usize, last: usize, z: usize, late: usize) -> Verdict
@@ -125,10 +126,20 @@ fn first_broken(s: &[u8]) -> u8
     walk(s)
 }
 
-// The number of the first rule that the sheet breaks, S1 to S9, and 0 if it breaks none. Taken as a part of itself, the sheet is
-// handed over in registers.
+// The number that tells an old sheet.
+pub const OLD: u8 = 14;
+
+// What is said of a sheet: the number of the first rule that it breaks, S1 to S9; 14 if it breaks none and is of edition 1, and 0
+// if it is accepted. Taken as a part of itself, the sheet is handed over in registers.
 pub fn check(sheet: &[u8]) -> u8
-    ensures { λ r. ⌜ r ≡ ruleOf (now (sheet .entry)) ⌝ }
+    ensures { λ r. ⌜ r ≡ verdictOf (now (sheet .entry)) ⌝ }
 {
-    first_broken(&sheet[..])
+    let rule = first_broken(&sheet[..]);
+    if rule != 0 {
+        return rule;
+    }
+    if byte(sheet, head::EDITION) == 1 {
+        return OLD;
+    }
+    0
 }

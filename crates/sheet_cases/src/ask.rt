@@ -1,5 +1,5 @@
 // What the crate `sheet` says of a sheet, as text:
-//   nothing asked        OK, or the rule that it breaks
+//   nothing asked        OK, OLD, or the rule that it breaks
 //   region K             the bytes of the body that is found, as hex digits; - for none
 //   property OBJECT ID
 //   group ADDRESS
@@ -16,11 +16,14 @@ use sheet::Memory;
 use sheet::Run;
 
 fn rule(sheet: &[u8], out: &mut [u8]) -> usize {
-    let broken = sheet::check(sheet);
-    if broken == 0 {
+    let verdict = sheet::check(sheet);
+    if verdict == 0 {
         return put_all(out, 0, b"OK");
     }
-    put_all(out, 0, &[b'S', b'0' + broken % 10])
+    if verdict == sheet::OLD {
+        return put_all(out, 0, b"OLD");
+    }
+    put_all(out, 0, &[b'S', b'0' + verdict % 10])
 }
 
 fn region(sheet: &[u8], k: u64, out: &mut [u8]) -> usize {

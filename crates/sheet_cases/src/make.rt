@@ -14,7 +14,7 @@ use lines::put_all;
 // The fields that no rule reads are FFh.
 fn head(s: &mut [u8], regions: u8, properties: u8, groups: u8) {
     put_all(s, 0, &[0xff; 32]);
-    put_all(s, 0, &[1, regions, properties, groups]);
+    put_all(s, 0, &[2, regions, properties, groups]);
     put_all(s, 14, &[3, 0]);
     put_all(s, 30, &[0, 0]);
 }

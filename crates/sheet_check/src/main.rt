@@ -1,11 +1,12 @@
-// Reads a sheet from standard input, and writes OK or the rule that it breaks.
+// Reads a sheet from standard input, and writes OK, OLD or the rule that it breaks.
 ghost use mathlib.Core.Path.{_≡_};
 ghost use Prim.Native.Nat.{_≤_};
 ghost use lib.ListN.{length};
 ghost use Rattle.sheet_check.specs.Input.{Within};
-ghost use Rattle.sheet_check.specs.Line.{lineOf, saidOf};
+ghost use Rattle.sheet_check.specs.Line.{lineOf, saidOf, Fronts};
 use libc::STDIN_FILENO;
 use libc::STDOUT_FILENO;
+use octets::splice;
 
 // How many bytes came before the input ended or the buffer was full, or that a read failed.
 pub enum Input {
@@ -31,22 +32,29 @@ fn read_all(buf: &mut [u8]) -> Input
     Input::Bytes(n)
 }
 
-// The line of a rule.
-fn line(rule: u8) -> [u8; 3]
-    requires { ⌜ rule ≤ 9 ⌝ }
-    ensures { λ r. ⌜ r ≡ lineOf rule ⌝ }
+// The line of a verdict, in front of a buffer: how many bytes it has.
+fn line(verdict: u8, out: &mut [u8]) -> usize
+    requires { ⌜ (verdict ≤ 14) × (length (now out) ≡ 4) ⌝ }
+    ensures { λ r. ⌜ Fronts (lineOf verdict) r (now (out .exit)) ⌝ }
 {
-    if rule == 0 {
-        return *b"OK\n";
+    if verdict == 0 {
+        splice(out, 0, b"OK\n");
+        return 3;
     }
-    [b'S', b'0' + rule, b'\n']
+    if verdict == sheet::OLD {
+        splice(out, 0, b"OLD\n");
+        return 4;
+    }
+    splice(out, 0, &[b'S', b'0' + verdict, b'\n']);
+    3
 }
 
-// What is said of a sheet.
-fn said(sheet: &[u8]) -> [u8; 3]
-    ensures { λ r. ⌜ r ≡ saidOf (now (sheet .entry)) ⌝ }
+// What is said of a sheet, in front of a buffer.
+fn said(sheet: &[u8], out: &mut [u8]) -> usize
+    requires { ⌜ length (now out) ≡ 4 ⌝ }
+    ensures { λ r. ⌜ Fronts (saidOf (now (sheet .entry))) r (now (out .exit)) ⌝ }
 {
-    line(sheet::check(sheet))
+    line(sheet::check(sheet), out)
 }
 
 fn say(line: &[u8]) {
@@ -58,9 +66,13 @@ fn say(line: &[u8]) {
 // There is room for one byte more than the longest sheet has, so that one that is too long shows.
 fn main() {
     let mut buf = [0u8; 16385];
+    let mut out = [0u8; 4];
     let input = read_all(&mut buf);
     match input {
-        Input::Bytes(n) => say(&said(&buf[..n])),
+        Input::Bytes(n) => {
+            let many = said(&buf[..n], &mut out);
+            say(&out[..many]);
+        }
         Input::Failed => os::fail(b"sheet_check: standard input"),
     }
 }

@@ -72,9 +72,13 @@ fn play(sheet: &[u8], trace: &[u8]) {
 
 // The trace played, if neither is refused.
 fn judged(sheet: &[u8], trace: &[u8]) {
-    let rule = sheet::check(sheet);
-    if rule != 0 {
-        say_number(b"sheet refused: S", rule);
+    let verdict = sheet::check(sheet);
+    if verdict == sheet::OLD {
+        say(b"sheet refused: ", b"OLD");
+        return;
+    }
+    if verdict != 0 {
+        say_number(b"sheet refused: S", verdict);
         return;
     }
     let refusal = playback::check(trace);

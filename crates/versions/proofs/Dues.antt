@@ -1,10 +1,10 @@
 -- WHAT IS DONE IS WHAT IS DUE, and nothing else is due.
 -- Assumes nothing.
 use Prim.Native.Nat.{ℕ, _≤_, _<_}
-use mathlib.Core.Path.{_≡_, refl, sym, _∙_}
+use mathlib.Core.Path.{_≡_, refl, sym, subst⁻¹, _∙_}
 use mathlib.Core.Bool.{true, cond}
 use mathlib.Core.List.{List}
-use mathlib.Core.Logic.{_↔_}
+use mathlib.Core.Logic.{_↔_, _⊎_, inl, inr}
 use native.Mathlib.Omega.{arith}
 use lib.Dec.{eqb, ltb}
 use lib.ListN.{length}
@@ -12,7 +12,8 @@ use borrow.Author.Tests.{eq-eqb, ne-eqb, lt-ltb, le-ltb, eqb-true}
 use Rattle.octets.proofs.Truths.{never, and-is, must-fail}
 use Rattle.octets.proofs.Walks.{by-test, by-eq, by-lt}
 use Rattle.sheet.specs.Layout.{_of_}
-use Rattle.sheet.specs.Rules.{ruleOf, Accepted, isAccepted}
+use Rattle.sheet.specs.Rules.{refusalOf, Accepted, Old, Bad}
+use Rattle.sheet.proofs.promises.Verdicts.{one-of-three, refused-none, refused-old, refused-bad, unrefused}
 use Rattle.judge.specs.declared.Session.{Session}
 use Rattle.versions.specs.Head as head
 use Rattle.versions.specs.Store.{kept, places, isKept, versionIn}
@@ -21,12 +22,21 @@ use Rattle.versions.specs.Saving.{needed, lastNumber, nextNumber, saved,
 use Rattle.versions.specs.Settings.{settingsOf, restored, SameEntries, LowCounts}
 use Rattle.versions.specs.Restoring.{sameEntries, lowCounts, givesBack, atZero, restoreOutcome, restoreSheet}
 use Rattle.versions.specs.Removing.{removed, removeOutcome, removeStore}
-use Rattle.versions.specs.Due.{Ready, SaveDue, noSheet, noStore, lastGiven, allTaken, tooLong, isSaved, AtZero, Known, RestoreDue, sheetRefused, storeRefused, unknownNumber, notOpen, differs, tooHigh, isRestored, RemoveDue, badOne, unknown, isRemoved}
+use Rattle.versions.specs.Due.{Ready, SaveDue, noSheet, oldSheet, noStore, lastGiven, allTaken, tooLong, isSaved, AtZero, Known, RestoreDue, sheetRefused, sheetOld, storeRefused, unknownNumber, notOpen, differs, tooHigh, isRestored, RemoveDue, badOne, unknown, isRemoved}
 use Rattle.versions.proofs.Agreeing.{same-entries, entries-same, low-counts, counts-low}
 
+-- what holds of 14 on an old sheet and of 4 on a bad one holds of what refuses it
+by-refusal : (P : ℕ → Type 0) (sheet : List ℕ) → (Old sheet → P 14) → (Bad sheet → P 4) → (refusalOf sheet ≡ 0 → ⊥) → P (refusalOf sheet)
+by-refusal P sheet o b n = go (one-of-three sheet)
+  where
+    go : Accepted sheet ⊎ (Old sheet ⊎ Bad sheet) → P (refusalOf sheet)
+    go (inl a) = absurd (n (refused-none sheet a))
+    go (inr (inl h)) = subst⁻¹ P (refused-old sheet h) (o h)
+    go (inr (inr h)) = subst⁻¹ P (refused-bad sheet h) (b h)
+
 module _ (sheet s : List ℕ) where
-  accept : Accepted sheet → eqb (ruleOf sheet) 0 ≡ true
-  accept ok = eq-eqb (ruleOf sheet) 0 ok
+  accept : Accepted sheet → eqb (refusalOf sheet) 0 ≡ true
+  accept ok = eq-eqb (refusalOf sheet) 0 (refused-none sheet ok)
 
   pass : Ready sheet s → eqb (storeRule s) 0 ≡ true
   pass h = eq-eqb (storeRule s) 0 (h .good)
@@ -36,27 +46,28 @@ module _ (sheet s : List ℕ) where
 
   -- SAVING
   pub save-due : SaveDue sheet s (saveOutcome sheet s) (saveNumber sheet s) (saveStore sheet s)
-  unfolding saveOutcome saveNumber saveStore isAccepted isStore
+  unfolding saveOutcome saveNumber saveStore isStore
   save-due =
       let P : ℕ → Type 0 = λ r. SaveDue sheet s r (cond (eqb r 0) (nextNumber s) 0) (cond (eqb r 0) (saved s d) s) in
-      by-eq P (ruleOf sheet) 0 _ _
+      by-eq P (refusalOf sheet) 0 _ _
       (λ ok.
       by-eq P (storeRule s) 0 _ _
       (λ sound.
-      let h : Ready sheet s = record { accepted = ok; good = sound } in
+      let h : Ready sheet s = record { accepted = unrefused sheet ok; good = sound } in
       by-eq P (head.last of s) lastNumber _ _
       (λ e. lastGiven h e)
       (λ n.
       by-eq P (length (kept s)) places _ _
       (λ e. allTaken h n e)
       (λ m. by-lt P (length s) (needed (kept s) d) _ _ (λ l. tooLong h n m l) (λ l. isSaved h n m l))))
-      (λ bad. noStore ok bad))
-      (λ no. noSheet no)
+      (λ bad. noStore (unrefused sheet ok) bad))
+      (by-refusal P sheet (λ o. oldSheet o) (λ b. noSheet b))
 
   pub save-only :
       (r n : ℕ) (t : List ℕ) → SaveDue sheet s r n t → (r ≡ saveOutcome sheet s) × (n ≡ saveNumber sheet s) × (t ≡ saveStore sheet s)
-  unfolding saveOutcome saveNumber saveStore isAccepted isStore
-  save-only r n t (noSheet f) = rw (ne-eqb (ruleOf sheet) 0 f) (refl, refl, refl)
+  unfolding saveOutcome saveNumber saveStore isStore
+  save-only r n t (noSheet f) = rw (refused-bad sheet f) (refl, refl, refl)
+  save-only r n t (oldSheet f) = rw (refused-old sheet f) (refl, refl, refl)
   save-only r n t (noStore ok bad) = rw (accept ok, ne-eqb (storeRule s) 0 bad) (refl, refl, refl)
   save-only r n t (lastGiven h e) = rw (accept (h .accepted), pass h, eq-eqb (head.last of s) lastNumber e) (refl, refl, refl)
   save-only r n t (allTaken h l e) =
@@ -78,6 +89,7 @@ module _ (sheet s : List ℕ) where
     where
       told : {r n : ℕ} {t : List ℕ} → SaveDue sheet s r n t → r ≡ 0 → Free
       told (noSheet f) e = absurd (omega arith)
+      told (oldSheet f) e = absurd (omega arith)
       told (noStore ok bad) e = absurd (omega arith)
       told (lastGiven h q) e = absurd (omega arith)
       told (allTaken h l q) e = absurd (omega arith)
@@ -90,6 +102,7 @@ module _ (sheet s : List ℕ) where
     where
       told : {r n : ℕ} {t : List ℕ} → SaveDue sheet s r n t → r ≡ noNumber → head.last of s ≡ lastNumber
       told (noSheet f) e = absurd (omega arith)
+      told (oldSheet f) e = absurd (omega arith)
       told (noStore ok bad) e = absurd (omega arith)
       told (lastGiven h q) e = q
       told (allTaken h l q) e = absurd (omega arith)
@@ -103,6 +116,7 @@ module _ (sheet s : List ℕ) where
     where
       told : {r n : ℕ} {t : List ℕ} → SaveDue sheet s r n t → r ≡ noPlace → length (kept s) ≡ places
       told (noSheet f) e = absurd (omega arith)
+      told (oldSheet f) e = absurd (omega arith)
       told (noStore ok bad) e = absurd (omega arith)
       told (lastGiven h q) e = absurd (omega arith)
       told (allTaken h l q) e = q
@@ -115,6 +129,7 @@ module _ (sheet s : List ℕ) where
     where
       told : {r n : ℕ} {t : List ℕ} → SaveDue sheet s r n t → r ≡ noRoom → length s < needed (kept s) d
       told (noSheet f) e = absurd (omega arith)
+      told (oldSheet f) e = absurd (omega arith)
       told (noStore ok bad) e = absurd (omega arith)
       told (lastGiven h q) e = absurd (omega arith)
       told (allTaken h l q) e = absurd (omega arith)
@@ -167,14 +182,14 @@ module _ (q : Session) where
     v = versionIn s x
 
     pub restore-due : RestoreDue q sheet s x (restoreOutcome q sheet s x) (restoreSheet q sheet s x)
-    unfolding restoreOutcome restoreSheet isAccepted isStore givesBack
+    unfolding restoreOutcome restoreSheet isStore givesBack
     restore-due =
         let P : ℕ → Type 0 = λ r. RestoreDue q sheet s x r (cond (eqb r 1) (restored sheet v) sheet) in
-        by-eq P (ruleOf sheet) 0 _ _
+        by-eq P (refusalOf sheet) 0 _ _
         (λ ok.
         by-eq P (storeRule s) 0 _ _
         (λ sound.
-        let h : Ready sheet s = record { accepted = ok; good = sound } in
+        let h : Ready sheet s = record { accepted = unrefused sheet ok; good = sound } in
         by-test P (isKept s x) _ _
         (λ e.
         let k : Known sheet s x = record { ready = h; there = e } in
@@ -188,12 +203,13 @@ module _ (q : Session) where
         (λ f. differs k (zero-told z) (λ i. never (sym f ∙ entries-same sheet v i))))
         (λ z. notOpen k (λ i. never (sym z ∙ zero-test i))))
         (λ e. unknownNumber h e))
-        (λ bad. storeRefused ok bad))
-        (λ no. sheetRefused no)
+        (λ bad. storeRefused (unrefused sheet ok) bad))
+        (by-refusal P sheet (λ o. sheetOld o) (λ b. sheetRefused b))
 
     pub restore-only : (r : ℕ) (t : List ℕ) → RestoreDue q sheet s x r t → (r ≡ restoreOutcome q sheet s x) × (t ≡ restoreSheet q sheet s x)
-    unfolding restoreOutcome restoreSheet isAccepted isStore givesBack
-    restore-only r t (sheetRefused f) = rw (ne-eqb (ruleOf sheet) 0 f) (refl, refl)
+    unfolding restoreOutcome restoreSheet isStore givesBack
+    restore-only r t (sheetRefused f) = rw (refused-bad sheet f) (refl, refl)
+    restore-only r t (sheetOld f) = rw (refused-old sheet f) (refl, refl)
     restore-only r t (storeRefused ok bad) = rw (accept sheet s ok, ne-eqb (storeRule s) 0 bad) (refl, refl)
     restore-only r t (unknownNumber h e) = rw (accept sheet s (h .accepted), pass sheet s h, e) (refl, refl)
     restore-only r t (notOpen k n) =
@@ -217,6 +233,7 @@ module _ (q : Session) where
       where
         told : {r : ℕ} {t : List ℕ} → RestoreDue q sheet s x r t → r ≡ 1 → Allowed
         told (sheetRefused f) e = absurd (omega arith)
+        told (sheetOld f) e = absurd (omega arith)
         told (storeRefused ok bad) e = absurd (omega arith)
         told (unknownNumber h f) e = absurd (omega arith)
         told (notOpen k n) e = absurd (omega arith)

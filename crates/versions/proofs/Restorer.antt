@@ -2,6 +2,7 @@
 -- Assumes nothing.
 use Prim.Native.Nat.{ℕ, zero, suc, _+_, _-_, _*_, _≤_, _<_}
 use mathlib.Core.Path.{_≡_, refl, sym, ap, ap₂, _∙_}
+use mathlib.Core.Logic.{_⊎_, inl, inr}
 use mathlib.Core.Bool.{Bool, true, false, cond, not}
 use mathlib.Core.List.{List, [], _∷_}
 use native.Mathlib.Omega.{arith}
@@ -21,14 +22,15 @@ use Rattle.judge.specs.declared.Session.{Session}
 use Rattle.sheet.specs.Kind.{properties}
 use Rattle.sheet.specs.Layout.{_of_}
 use Rattle.sheet.specs.Entries.{base, place, startOf, endFrom}
-use Rattle.sheet.specs.Rules.{ruleOf, isAccepted}
+use Rattle.sheet.specs.Rules.{refusalOf}
+use Rattle.sheet.proofs.promises.Verdicts.{refusals}
 use Rattle.versions.specs.Head as head
 use Rattle.versions.specs.Row as row
 use Rattle.versions.specs.Store.{tableEnd, versionAt, versionsFrom, kept, has, bodyOf, isKept, versionIn}
-use Rattle.versions.specs.Rules.{storeRule, isStore, badSheet, badStore, notKept}
+use Rattle.versions.specs.Rules.{storeRule, isStore, badStore, notKept}
 use Rattle.versions.specs.Walk.{Tabled, Found, Chosen, Extents, Placed}
 use Rattle.versions.specs.Settings.{front, many, entriesLong, bodiesLong, restored}
-use Rattle.versions.specs.Restoring.{isCount, sameByte, sameEntry, lowCount, entryIn, sameEntries, lowCounts, givesBack, atZero, notAtZero, otherEntries, highCount, restoreOutcome, restoreSheet, RestoredAs}
+use Rattle.versions.specs.Restoring.{isCount, sameByte, sameEntry, lowCount, entryIn, sameEntries, lowCounts, givesBack, atZero, notAtZero, otherEntries, highCount, restoreBy, restoreOutcome, restoreSheet, RestoredAs}
 use Rattle.versions.specs.declared.settings.Extent.{Extent}
 use Rattle.versions.specs.declared.table.Place.{Place}
 use Rattle.versions.proofs.Backs.{heads}
@@ -226,6 +228,15 @@ module _ (s : List ℕ) (x n i : ℕ) (ok : storeRule s ≡ 0) (hn : IsNum s 0 2
         body = λ t. ap₂ (λ (j o : ℕ). take j (drop o s)) (hl .value) (ha .value) ∙ sym (ap (λ (j : ℕ). bodyOf x (versionsFrom s 8 j)) (sym e) ∙ k);
       }
 
+-- no refusal of a sheet is 1
+never-one : (s : List ℕ) → refusalOf s ≡ 1 → ⊥
+never-one s e = go (refusals s)
+  where
+    go : (refusalOf s ≡ 0) ⊎ ((refusalOf s ≡ 14) ⊎ (refusalOf s ≡ 4)) → ⊥
+    go (inl z) = omega (arith, e, z)
+    go (inr (inl o)) = omega (arith, e, o)
+    go (inr (inr b)) = omega (arith, e, b)
+
 -- the whole call
 module _ (q : Session) (sheet s : List ℕ) (x : ℕ) where
   no : (o : ℕ) → o ≡ restoreOutcome q sheet s x → (o ≡ 1 → ⊥) → RestoredAs q sheet s x o sheet
@@ -234,17 +245,19 @@ module _ (q : Session) (sheet s : List ℕ) (x : ℕ) where
       let t : eqb (restoreOutcome q sheet s x) 1 ≡ false = ne-eqb (restoreOutcome q sheet s x) 1 (λ k. n (e ∙ k)) in
       record { outcome = e; after = rw t }
 
-  module _ (r : ℕ) (h : r ≡ ruleOf sheet) where
-    pub bad-sheet : (r ≡ 0 → ⊥) → RestoredAs q sheet s x badSheet sheet
-    unfolding restoreOutcome isAccepted isStore
-    bad-sheet n = no badSheet (rw (ne-eqb (ruleOf sheet) 0 (λ e. n (h ∙ e)))) (λ e. omega arith)
+  module _ (r : ℕ) (h : r ≡ refusalOf sheet) where
+    pub bad-sheet : (r ≡ 0 → ⊥) → RestoredAs q sheet s x r sheet
+    unfolding restoreOutcome isStore
+    bad-sheet n =
+        no r (sym (ap (λ (i : ℕ). restoreBy i q sheet s x) (sym h) ∙ rw (ne-eqb r 0 n)))
+        (λ e. never-one sheet (sym h ∙ e))
 
     module _ (r0 : r ≡ 0) (k : ℕ) (hk : k ≡ storeRule s) where
-      t₁ : eqb (ruleOf sheet) 0 ≡ true
-      t₁ = eq-eqb (ruleOf sheet) 0 (sym h ∙ r0)
+      t₁ : eqb (refusalOf sheet) 0 ≡ true
+      t₁ = eq-eqb (refusalOf sheet) 0 (sym h ∙ r0)
 
       pub bad-store : (k ≡ 0 → ⊥) → RestoredAs q sheet s x badStore sheet
-      unfolding restoreOutcome isAccepted isStore
+      unfolding restoreOutcome isStore
       bad-store n = no badStore (rw (t₁, ne-eqb (storeRule s) 0 (λ e. n (hk ∙ e)))) (λ e. omega arith)
 
       module _ (k0 : k ≡ 0) (v : Place) (hv : Placed s x v) where
@@ -252,7 +265,7 @@ module _ (q : Session) (sheet s : List ℕ) (x : ℕ) where
         t₂ = eq-eqb (storeRule s) 0 (sym hk ∙ k0)
 
         pub not-kept : not (v .kept) ≡ true → RestoredAs q sheet s x notKept sheet
-        unfolding restoreOutcome isAccepted isStore
+        unfolding restoreOutcome isStore
         not-kept n = no notKept (rw (t₁, t₂, ← hv .known, not-true (v .kept) n)) (λ e. omega arith)
 
         module _ (v0 : not (v .kept) ≡ false) (z : Bool) (hz : z ≡ atZero q) where
@@ -263,7 +276,7 @@ module _ (q : Session) (sheet s : List ℕ) (x : ℕ) where
           t₃ = sym (hv .known) ∙ kept-is
 
           pub not-zero : not z ≡ true → RestoredAs q sheet s x notAtZero sheet
-          unfolding restoreOutcome isAccepted isStore
+          unfolding restoreOutcome isStore
           not-zero n = no notAtZero (rw (t₁, t₂, t₃, ← hz, not-true z n)) (λ e. omega arith)
 
           module _ (z0 : not z ≡ false) (o : ℕ) (ho : o ≡ givesBack sheet (take (v .at + v .long - v .at) (drop (v .at) s))) where
@@ -273,7 +286,7 @@ module _ (q : Session) (sheet s : List ℕ) (x : ℕ) where
                 ap (λ (i : ℕ). take i (drop (v .at) s)) e ∙ hv .body kept-is
 
             outcome-is : o ≡ restoreOutcome q sheet s x
-            unfolding restoreOutcome isAccepted isStore
+            unfolding restoreOutcome isStore
             outcome-is = rw (t₁, t₂, t₃, ← hz, not-false z z0) (ho ∙ ap (givesBack sheet) same-d)
 
             pub not-given : (o ≡ 1 → ⊥) → RestoredAs q sheet s x o sheet

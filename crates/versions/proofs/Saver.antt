@@ -11,14 +11,14 @@ use borrow.Author.Tests.{eq-eqb, ne-eqb, lt-ltb, le-ltb}
 use Rattle.octets.specs.Bytes.{IsNum}
 use Rattle.octets.specs.Octets.{Octets}
 use Rattle.sheet.specs.Layout.{_of_}
-use Rattle.sheet.specs.Rules.{ruleOf, isAccepted}
+use Rattle.sheet.specs.Rules.{refusalOf}
 use Rattle.versions.specs.Head as head
 use Rattle.versions.specs.Store.{tableEnd, bodiesOf, kept}
-use Rattle.versions.specs.Rules.{storeRule, isStore, badSheet, badStore}
+use Rattle.versions.specs.Rules.{storeRule, isStore, badStore}
 use Rattle.versions.specs.Ends.{endOf, endFrom}
 use Rattle.versions.specs.Walk.{Tabled, Ended, Extents, Appendable}
 use Rattle.versions.specs.Settings.{settingsOf}
-use Rattle.versions.specs.Saving.{noNumber, noPlace, noRoom, lastNumber, nextNumber, needed, saveOutcome, saveNumber, saveStore, SavedAs}
+use Rattle.versions.specs.Saving.{noNumber, noPlace, noRoom, lastNumber, nextNumber, needed, saveBy, saveOutcome, saveNumber, saveStore, SavedAs}
 use Rattle.versions.specs.Steps.{appended}
 use Rattle.versions.specs.declared.saving.Saved.{Saved}
 use Rattle.versions.specs.declared.settings.Extent.{Extent}
@@ -47,19 +47,17 @@ module _ (sheet s : List ℕ) where
       let t : eqb (saveOutcome sheet s) 0 ≡ false = ne-eqb (saveOutcome sheet s) 0 (λ k. n (sym e ∙ k)) in
       record { outcome = f .0 ∙ sym e; number = rw t (f .1); store = rw t }
 
-  module _ (r : ℕ) (h : r ≡ ruleOf sheet) where
-    pub bad-sheet : (z : Saved) → (r ≡ 0 → ⊥) → (z .outcome ≡ badSheet) × (z .number ≡ 0) → SavedAs sheet s z s
-    unfolding saveOutcome isAccepted isStore
-    bad-sheet z n =
-        let t : eqb (ruleOf sheet) 0 ≡ false = ne-eqb (ruleOf sheet) 0 (λ e. n (h ∙ e)) in
-        no z badSheet (rw t) (λ e. omega arith)
+  module _ (r : ℕ) (h : r ≡ refusalOf sheet) where
+    pub bad-sheet : (z : Saved) → (r ≡ 0 → ⊥) → (z .outcome ≡ r) × (z .number ≡ 0) → SavedAs sheet s z s
+    unfolding saveOutcome isStore
+    bad-sheet z n = no z r (ap (λ (i : ℕ). saveBy i sheet s) (sym h) ∙ rw (ne-eqb r 0 n)) n
 
     module _ (r0 : r ≡ 0) (q : ℕ) (k : q ≡ storeRule s) where
-      t₁ : eqb (ruleOf sheet) 0 ≡ true
-      t₁ = eq-eqb (ruleOf sheet) 0 (sym h ∙ r0)
+      t₁ : eqb (refusalOf sheet) 0 ≡ true
+      t₁ = eq-eqb (refusalOf sheet) 0 (sym h ∙ r0)
 
       pub bad-store : (z : Saved) → (q ≡ 0 → ⊥) → (z .outcome ≡ badStore) × (z .number ≡ 0) → SavedAs sheet s z s
-      unfolding saveOutcome isAccepted isStore
+      unfolding saveOutcome isStore
       bad-store z n =
           let t : eqb (storeRule s) 0 ≡ false = ne-eqb (storeRule s) 0 (λ e. n (k ∙ e)) in
           no z badStore (rw (t₁, t)) (λ e. omega arith)
@@ -73,7 +71,7 @@ module _ (sheet s : List ℕ) where
 
         module _ (last : ℕ) (hl : IsNum s 2 2 65536 last) where
           pub no-number : (z : Saved) → last ≡ lastNumber → (z .outcome ≡ noNumber) × (z .number ≡ 0) → SavedAs sheet s z s
-          unfolding saveOutcome isAccepted isStore
+          unfolding saveOutcome isStore
           no-number z e =
               let t : eqb (head.last of s) lastNumber ≡ true = eq-eqb (head.last of s) lastNumber (sym (hl .value) ∙ e) in
               no z noNumber (rw (t₁, t₂, t)) (λ e. omega arith)
@@ -83,7 +81,7 @@ module _ (sheet s : List ℕ) where
             t₃ = ne-eqb (head.last of s) lastNumber (λ e. l0 (hl .value ∙ e))
 
             pub no-place : (z : Saved) → n ≡ 8 → (z .outcome ≡ noPlace) × (z .number ≡ 0) → SavedAs sheet s z s
-            unfolding saveOutcome isAccepted isStore
+            unfolding saveOutcome isStore
             no-place z e =
                 let t : eqb (length (kept s)) 8 ≡ true = eq-eqb (length (kept s)) 8 (sym (hn .value ∙ kept-count s) ∙ e) in
                 no z noPlace (rw (t₁, t₂, t₃, t)) (λ e. omega arith)
@@ -110,7 +108,7 @@ module _ (sheet s : List ℕ) where
               room-is = omega (arith, end-far, size, count-long)
 
               pub no-room : (z : Saved) → length s < end + 8 + long → (z .outcome ≡ noRoom) × (z .number ≡ 0) → SavedAs sheet s z s
-              unfolding saveOutcome isAccepted isStore
+              unfolding saveOutcome isStore
               no-room z e =
                   let t : ltb (length s) (needed (kept s) (settingsOf sheet)) ≡ true = lt-ltb (length s) (needed (kept s) (settingsOf sheet)) (rw room-is e) in
                   no z noRoom (rw (t₁, t₂, t₃, t₄, t)) (λ e. omega arith)
@@ -122,7 +120,7 @@ module _ (sheet s : List ℕ) where
                     record { extents = hx; few = omega (arith, m, hn .value); table = omega (arith, end-far); size = size; room = omega (arith, size) }
 
                 pub was-saved : (t : List ℕ) → t ≡ appended s n end (last + 1) (settingsOf sheet) → SavedAs sheet s record { outcome = 0; number = last + 1 } t
-                unfolding saveNumber saveStore saveOutcome isAccepted isStore
+                unfolding saveNumber saveStore saveOutcome isStore
                 was-saved t e =
                     let t₅ : ltb (length s) (needed (kept s) (settingsOf sheet)) ≡ false = le-ltb (length s) (needed (kept s) (settingsOf sheet)) (rw room-is fits) in
                     let o : needed (kept s) (settingsOf sheet) ≤ length s = rw room-is fits in

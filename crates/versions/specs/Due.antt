@@ -6,7 +6,7 @@ use mathlib.Core.Bool.{true, false}
 use mathlib.Core.List.{List}
 use lib.ListN.{length}
 use Rattle.sheet.specs.Layout.{_of_}
-use Rattle.sheet.specs.Rules.{Accepted}
+use Rattle.sheet.specs.Rules.{Accepted, Old, Bad, old}
 use Rattle.judge.specs.declared.Session.{Session}
 use Rattle.versions.specs.Head as head
 use Rattle.versions.specs.Store.{places, kept, isKept, versionIn}
@@ -23,7 +23,8 @@ pub record Ready (sheet s : List ℕ) : Type 0 where
 
 -- SAVING: the outcome, the number given and the store afterwards
 pub data SaveDue (sheet s : List ℕ) : ℕ → ℕ → List ℕ → Type 0 where
-  noSheet : (Accepted sheet → ⊥) → SaveDue sheet s badSheet 0 s
+  noSheet : Bad sheet → SaveDue sheet s badSheet 0 s
+  oldSheet : Old sheet → SaveDue sheet s old 0 s
   noStore : Accepted sheet → (Passes s → ⊥) → SaveDue sheet s badStore 0 s
   lastGiven : Ready sheet s → head.last of s ≡ lastNumber → SaveDue sheet s noNumber 0 s
   allTaken : Ready sheet s → (head.last of s ≡ lastNumber → ⊥) → length (kept s) ≡ places → SaveDue sheet s noPlace 0 s
@@ -46,7 +47,8 @@ pub record Known (sheet s : List ℕ) (x : ℕ) : Type 0 where
 
 -- RESTORING: the outcome and the sheet afterwards
 pub data RestoreDue (q : Session) (sheet s : List ℕ) (x : ℕ) : ℕ → List ℕ → Type 0 where
-  sheetRefused : (Accepted sheet → ⊥) → RestoreDue q sheet s x badSheet sheet
+  sheetRefused : Bad sheet → RestoreDue q sheet s x badSheet sheet
+  sheetOld : Old sheet → RestoreDue q sheet s x old sheet
   storeRefused : Accepted sheet → (Passes s → ⊥) → RestoreDue q sheet s x badStore sheet
   unknownNumber : Ready sheet s → isKept s x ≡ false → RestoreDue q sheet s x notKept sheet
   notOpen : Known sheet s x → (AtZero q → ⊥) → RestoreDue q sheet s x notAtZero sheet

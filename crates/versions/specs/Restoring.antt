@@ -11,10 +11,10 @@ use Rattle.octets.specs.Every.{every}
 use Rattle.sheet.specs.Kind.{properties}
 use Rattle.sheet.specs.Property as property
 use Rattle.sheet.specs.Entries.{place}
-use Rattle.sheet.specs.Rules.{isAccepted}
+use Rattle.sheet.specs.Rules.{refusalOf}
 use Rattle.judge.specs.declared.Session.{Session}
 use Rattle.versions.specs.Store.{isKept, versionIn}
-use Rattle.versions.specs.Rules.{isStore, badSheet, badStore, notKept}
+use Rattle.versions.specs.Rules.{isStore, badStore, notKept}
 use Rattle.versions.specs.Settings.{front, many, entriesLong, bodiesLong, restored}
 
 -- the numbers of the refusals: no session at level 0, other entries, a count above its maximum
@@ -64,18 +64,26 @@ lowCounts s d = every (many s) (λ i. lowCount s (place s properties i) d (entry
 unfoldable pub givesBack : List ℕ → List ℕ → ℕ
 givesBack s d = cond (sameEntries s d) (cond (lowCounts s d) 1 highCount) otherEntries
 
--- THE OUTCOME of restoring number x for a session q: 4 for a sheet that is not accepted, 30 for a bad store, 34 for a number that is not kept,
+-- restoring number x for a session q, by what the sheet is refused by, 0 if it is not: that, 30 for a bad store, 34 for a number that is not kept,
 -- 35 unless the session is open at level 0, 36 for other entries, 37 for a count above its maximum, else 1
-unfoldable pub restoreOutcome : Session → List ℕ → List ℕ → ℕ → ℕ
-restoreOutcome q sheet s x =
-    cond (isAccepted sheet)
+abbrev pub restoreBy : ℕ → Session → List ℕ → List ℕ → ℕ → ℕ
+restoreBy n q sheet s x =
+    cond (eqb n 0)
     (cond (isStore s)
     (cond (isKept s x) (cond (atZero q) (givesBack sheet (versionIn s x)) notAtZero) notKept)
-    badStore) badSheet
+    badStore) n
 
--- and the sheet afterwards
+-- and the sheet after that outcome
+abbrev pub leftBy : ℕ → List ℕ → List ℕ → ℕ → List ℕ
+leftBy r sheet s x = cond (eqb r 1) (restored sheet (versionIn s x)) sheet
+
+-- THE OUTCOME: 14 for an old sheet, 4 for a bad one, and so on
+unfoldable pub restoreOutcome : Session → List ℕ → List ℕ → ℕ → ℕ
+restoreOutcome q sheet s x = restoreBy (refusalOf sheet) q sheet s x
+
+-- AND THE SHEET AFTERWARDS
 unfoldable pub restoreSheet : Session → List ℕ → List ℕ → ℕ → List ℕ
-restoreSheet q sheet s x = cond (eqb (restoreOutcome q sheet s x) 1) (restored sheet (versionIn s x)) sheet
+restoreSheet q sheet s x = leftBy (restoreOutcome q sheet s x) sheet s x
 
 pub record RestoredAs (q : Session) (sheet s : List ℕ) (x r : ℕ) (sheet′ : List ℕ) : Type 0 where
   pub outcome : r ≡ restoreOutcome q sheet s x

@@ -7,10 +7,10 @@ use mathlib.Core.List.{List, [], _∷_, _++_}
 use lib.Dec.{eqb, ltb}
 use lib.ListN.{length, drop}
 use Rattle.sheet.specs.Layout.{_of_}
-use Rattle.sheet.specs.Rules.{isAccepted}
+use Rattle.sheet.specs.Rules.{refusalOf}
 use Rattle.versions.specs.Head as head
 use Rattle.versions.specs.Store.{Version, places, tableEnd, laid, kept, bodiesOf}
-use Rattle.versions.specs.Rules.{isStore, badSheet, badStore}
+use Rattle.versions.specs.Rules.{isStore, badStore}
 use Rattle.versions.specs.Settings.{settingsOf}
 use Rattle.versions.specs.declared.saving.Saved.{Saved}
 
@@ -43,14 +43,18 @@ saved s d = laid (nextNumber s) (with s d) ++ drop (length (laid (nextNumber s) 
 abbrev pub needed : List Version → List ℕ → ℕ
 needed vs d = tableEnd (length vs + 1) + length (bodiesOf vs) + length d
 
--- THE OUTCOME: 4 for a sheet that is not accepted, 30 for a bad store, 31 if the last number is given, 32 if all places are taken, 33 for want of room, else 0
-unfoldable pub saveOutcome : List ℕ → List ℕ → ℕ
-saveOutcome sheet s =
-    cond (isAccepted sheet)
+-- by what the sheet is refused by, 0 if it is not: that, 30 for a bad store, 31 if the last number is given, 32 if all places are taken, 33 for want of room, else 0
+abbrev pub saveBy : ℕ → List ℕ → List ℕ → ℕ
+saveBy n sheet s =
+    cond (eqb n 0)
     (cond (isStore s)
     (cond (eqb (head.last of s) lastNumber) noNumber
     (cond (eqb (length (kept s)) places) noPlace (cond (ltb (length s) (needed (kept s) (settingsOf sheet))) noRoom 0)))
-    badStore) badSheet
+    badStore) n
+
+-- THE OUTCOME: 14 for an old sheet, 4 for a bad one, and so on
+unfoldable pub saveOutcome : List ℕ → List ℕ → ℕ
+saveOutcome sheet s = saveBy (refusalOf sheet) sheet s
 
 -- the number given, 0 on a refusal, and the store afterwards
 unfoldable pub saveNumber : List ℕ → List ℕ → ℕ

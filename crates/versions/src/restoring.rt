@@ -5,7 +5,6 @@ ghost use lib.ListN.{length};
 ghost use Rattle.octets.specs.Every.{every};
 ghost use Rattle.versions.specs.Restoring.{atZero, sameByte, sameEntry, lowCount, givesBack, RestoredAs};
 ghost use Rattle.versions.specs.Walk.{Extents};
-use crate::rules::BAD_SHEET;
 use crate::rules::BAD_STORE;
 use crate::rules::NOT_KEPT;
 use crate::rules::check;
@@ -124,14 +123,15 @@ fn judge_version(sheet: &[u8], x: Extent, d: &[u8]) -> u8
     1
 }
 
-// Restores the version with a number for a session: 4 for a sheet that is not accepted, 30 for a bad store, 34 for a
+// Restores the version with a number for a session: 4 for a bad sheet, 14 for an old one, 30 for a bad store, 34 for a
 // number that is not kept, 35 unless the session is open at level 0, 36 for other entries, 37 for a count above its maximum, else 1.
 // A refusal changes nothing.
 pub fn restore(session: Session, sheet: &mut [u8], store: &[u8], number: usize) -> u8
     ensures { λ r. ⌜ RestoredAs session (now (sheet .entry)) (now (store .entry)) number r (now (sheet .exit)) ⌝ }
 {
-    if sheet::check(&sheet[..]) != 0 {
-        return BAD_SHEET;
+    let refusal = sheet::refusal(&sheet[..]);
+    if refusal != 0 {
+        return refusal;
     }
     if check(store) != 0 {
         return BAD_STORE;

@@ -11,9 +11,7 @@ use crate::layout::row;
 use octets::number;
 use octets::word;
 
-// The numbers of the refusals that several calls give: a sheet that is not accepted, a bad store, a number that is not kept.
-pub const BAD_SHEET: u8 = 4;
-
+// The numbers of the refusals that several calls give: a bad store, a number that is not kept.
 pub const BAD_STORE: u8 = 30;
 
 pub const NOT_KEPT: u8 = 34;

@@ -12,7 +12,6 @@ ghost use Rattle.versions.specs.Walk.{Appendable};
 use crate::layout::head;
 use crate::layout::row;
 use crate::link::link;
-use crate::rules::BAD_SHEET;
 use crate::rules::BAD_STORE;
 use crate::rules::check;
 use crate::settings::Extent;
@@ -88,13 +87,14 @@ fn refused(outcome: u8) -> Saved
     Saved { outcome, number: 0 }
 }
 
-// Saves the properties of the sheet under the next number: 4 for a sheet that is not accepted, 30 for a bad store, 31 if
+// Saves the properties of the sheet under the next number: 4 for a bad sheet, 14 for an old one, 30 for a bad store, 31 if
 // the last number is given, 32 if all places are taken, 33 for want of room, else 0. A refusal changes nothing.
 pub fn save(sheet: &[u8], store: &mut [u8]) -> Saved
     ensures { λ r. ⌜ SavedAs (now (sheet .entry)) (now (store .entry)) r (now (store .exit)) ⌝ }
 {
-    if sheet::check(sheet) != 0 {
-        return refused(BAD_SHEET);
+    let refusal = sheet::refusal(sheet);
+    if refusal != 0 {
+        return refused(refusal);
     }
     if check(&store[..]) != 0 {
         return refused(BAD_STORE);

@@ -16,7 +16,7 @@ use Rattle.sheet.specs.Head.{rulesOf}
 use Rattle.sheet.specs.Property as property
 use Rattle.sheet.specs.Entries.{entry}
 use Rattle.sheet.specs.Lookup.{indexOf}
-use Rattle.sheet.specs.Rules.{isAccepted}
+use Rattle.sheet.specs.Rules.{refusalOf}
 use Rattle.sheet.specs.Agree.{AgreeInside}
 use Rattle.sheet.proofs.alike.Sames.{count-same, place-same}
 use Rattle.sheet.proofs.alike.SameLookups.{index-same, rank-same, nth-same, range-same}
@@ -43,7 +43,7 @@ use Rattle.judge.specs.Addresses.{addressWriteOf, addressReadOf, serialReadOf, 
 use Rattle.judge.specs.Properties.{propertyAt, propertyReadOf, propertyWriteOf, describedAt, descriptionOf}
 use Rattle.judge.specs.Memory.{memoryReadOf, memoryWriteOf, bitWriteOf}
 use Rattle.judge.specs.Keys.{grantOf, authorizeOf, restartOf}
-use Rattle.judge.specs.Judge.{decideOf, readOf, reachedOf, foundOf, judgeOf}
+use Rattle.judge.specs.Judge.{decideOf, readOf, reachedOf, foundOf, judgeBy, judgeOf}
 use Rattle.device.specs.Apart.{Undisputed, restarts, describes}
 use Rattle.device.proofs.due.Taking.{same-reach}
 use Rattle.device.proofs.apart.Unseen.{SameThere, head-same, entry-same, value-same, unseen}
@@ -192,7 +192,10 @@ module _ {s s′ : List ℕ} (b : SameThere s s′) where
     found-same Unknown e = refl
     found-same (Listed k) e = reached-same (reachOf (rulesOf s′) k) ∙ reach-same k e
 
-    -- THE SAME JUDGEMENT, of two sheets that are both accepted or both not
-    pub judge-same : (room : ℕ) → isAccepted s′ ≡ isAccepted s → judgeOf room s′ q mode group c ≡ judgeOf room s q mode group c
+    -- THE SAME JUDGEMENT, of two sheets that are refused by the same number, or by none
+    pub judge-by : (n room : ℕ) → judgeBy n room s′ q mode group c ≡ judgeBy n room s q mode group c
+    judge-by n room = rw (found-same (serviceAt (codeOf c)) refl)
+
+    pub judge-same : (room : ℕ) → refusalOf s′ ≡ refusalOf s → judgeOf room s′ q mode group c ≡ judgeOf room s q mode group c
     unfolding judgeOf
-    judge-same room e = rw (e, found-same (serviceAt (codeOf c)) refl)
+    judge-same room e = ap (λ (n : ℕ). judgeBy n room s′ q mode group c) e ∙ judge-by (refusalOf s) room

@@ -3,17 +3,16 @@
 use Prim.Native.Nat.{ℕ, zero, suc, _+_, _-_, _<_, _≤_}
 use mathlib.Core.Path.{_≡_, refl, sym, ap, ap₂, subst, _∙_}
 use mathlib.Core.Logic.{_⊎_, inl, inr}
-use mathlib.Core.Bool.{Bool, true}
+use mathlib.Core.Bool.{Bool}
 use mathlib.Core.List.{List, [], _∷_, _++_}
 use lib.ListN.{length, getD, replicate, length-replicate}
 use native.Mathlib.Omega.{arith}
-use borrow.Author.Tests.{eq-eqb}
 use Rattle.octets.specs.Bytes.{bytesOf}
 use Rattle.octets.specs.Splice.{splice}
 use Rattle.octets.proofs.Numbers.{length-bytes}
 use Rattle.sheet.specs.Layout.{_of_}
 use Rattle.sheet.specs.Head as head
-use Rattle.sheet.specs.Rules.{ruleOf, Accepted, isAccepted}
+use Rattle.sheet.specs.Rules.{Accepted}
 use Rattle.sheet.specs.But.{But}
 use Rattle.sheet.proofs.rules.Good.{good}
 use Rattle.sheet.proofs.alike.Buts.{Misses, part-same, run-byte, part-but, field-but, splice-but}
@@ -78,6 +77,10 @@ build-same (suc n) f g h =
     ap₂ (λ (x : List ℕ) (y : ℕ). x ++ (y ∷ [])) (build-same n f g (λ i l. h i (omega arith))) (h n (omega arith))
 
 module _ {H : ℕ → Type 0} {s s′ : List ℕ} (b : But H s s′) (d : List ℕ) where
+  -- the bytes of a bit write
+  pub bits-same : (at n : ℕ) → Misses H at n → build n (bitAt s′ at n d) ≡ build n (bitAt s at n d)
+  bits-same at n m = build-same n _ _ (λ i l. unfold bitAt in rw (b .others (at + i) (m i l)))
+
   -- a store
   pub store-but : (k : Store) → StoreSafe s d k → StoreSpares H k → But H (storeOf s d k) (storeOf s′ d k)
   store-but store.Nothing h p = b
@@ -85,11 +88,8 @@ module _ {H : ℕ → Type 0} {s s′ : List ℕ} (b : But H s s′) (d : List �
   store-but (store.Data z at) h p = splice-but b at (padded z d) h
   store-but (store.Fill at n x) h p = splice-but b at (replicate n x) (omega (arith, length-replicate n x))
   store-but (store.Bits at n) h p =
-      subst (λ (ds : List ℕ). But H (splice s at (build n (bitAt s at n d))) (splice s′ at ds)) (sym bits)
+      subst (λ (ds : List ℕ). But H (splice s at (build n (bitAt s at n d))) (splice s′ at ds)) (sym (bits-same at n p))
       (splice-but b at (build n (bitAt s at n d)) (omega (arith, length-build n (bitAt s at n d))))
-    where
-      bits : build n (bitAt s′ at n d) ≡ build n (bitAt s at n d)
-      bits = build-same n _ _ (λ i l. unfold bitAt in rw (b .others (at + i) (p i l)))
 
   -- the answer after the stores
   module _ (k l : Store) (h : StoreSafe s d k) (c : But H (storeOf (storeOf s d k) d l) (storeOf (storeOf s′ d k) d l)) where
@@ -139,16 +139,11 @@ step-but {H} {s} {s′} b q d k ok p =
     left : But H (storeOf (storeOf s d (k .first)) d (k .second)) (storeOf (storeOf s′ d (k .first)) d (k .second))
     left = store-but (store-but b d (k .first) (ok .first) (p .0)) d (k .second) (ok .second) (p .1)
 
--- the test says so of an accepted sheet
-pub is-accepted : (s : List ℕ) → Accepted s → isAccepted s ≡ true
-unfolding isAccepted
-is-accepted s ok = eq-eqb (ruleOf s) 0 ok
-
 -- THE BUTTON ON BOTH, the flags being none of these positions
 module _ {H : ℕ → Type 0} {s s′ : List ℕ} (b : But H s s′) (ok : Accepted s) (ok′ : Accepted s′) (on : Bool) where
   pub press-outcome : buttonOutcome s′ ≡ buttonOutcome s
   unfolding buttonOutcome
-  press-outcome = rw (is-accepted s ok, is-accepted s′ ok′)
+  press-outcome = rw (ok, ok′)
 
   abbrev new : List ℕ
   new = bytesOf 1 (head.flags of s - head.programming s + bit on)
@@ -156,5 +151,5 @@ module _ {H : ℕ → Type 0} {s s′ : List ℕ} (b : But H s s′) (ok : Accep
   pub press-but : Misses H (head.flags .at) (head.flags .width) → But H (buttonSheet s on) (buttonSheet s′ on)
   unfolding buttonSheet pressed
   press-but m =
-      rw (is-accepted s ok, is-accepted s′ ok′, field-but b head.flags m)
+      rw (ok, ok′, field-but b head.flags m)
       (splice-but b (head.flags .at) new (omega (arith, length-bytes 1 (head.flags of s - head.programming s + bit on), good s ok .framed)))

@@ -1,14 +1,15 @@
 -- What is decided about a request, case by case: refused before its service, or as its service decides.
 -- Assumes nothing.
-use Prim.Native.Nat.{ℕ}
-use mathlib.Core.Path.{_≡_, refl, sym, subst, _∙_}
-use mathlib.Core.Logic.{inl, inr}
+use Prim.Native.Nat.{ℕ, _≤_}
+use mathlib.Core.Path.{_≡_, refl, sym, subst, subst⁻¹, _∙_}
+use mathlib.Core.Logic.{_⊎_, inl, inr}
 use mathlib.Core.Bool.{Bool, true, false, not, _&&_}
 use lib.ListN.{length}
 use lib.Dec.{eqb}
 use borrow.Author.Tests.{eq-eqb, eqb-true, eqb-false, not-true, not-false}
 use Rattle.sheet.specs.Head.{rulesOf}
-use Rattle.sheet.specs.Rules.{ruleOf, Accepted, isAccepted}
+use Rattle.sheet.specs.Rules.{Accepted, Old, Bad, refusalOf}
+use Rattle.sheet.proofs.promises.Verdicts.{one-of-three, refused-old, refused-bad, refused-none, unrefused}
 use Rattle.pdu.specs.Table.{rowOf, serviceAt}
 use Rattle.pdu.specs.Pdus.{serviceOf}
 use Rattle.pdu.specs.Rules.{codeOf}
@@ -28,7 +29,7 @@ use Rattle.judge.specs.Session.{levelIn}
 use Rattle.judge.specs.Modes.{reachOf, reaches, takes}
 use Rattle.judge.specs.Judge.{decideOf, readOf, reachedOf, foundOf, isShut, judgeOf}
 use Rattle.octets.proofs.Walks.{by-test, by-not, by-lt}
-use Rattle.device.specs.Asked.{Asked, Takes, Names, Served, Refusal, noRoom, badSheet, badLength, badMode, noSession, Ready, Reads, given}
+use Rattle.device.specs.Asked.{Asked, Takes, Names, Served, Refusal, noRoom, badSheet, oldSheet, badLength, badMode, noSession, Ready, Reads, given}
 use Rattle.device.proofs.due.Taking.{takes-is, served-is}
 
 -- a connection is needed and there
@@ -86,12 +87,12 @@ module _ (x : Asked) where
     pub request-cases :
         ((n : ℕ) → Refusal x n → P (refused n)) →
         P (judgeOf (x .room) (x .sheet) (x .session) (x .mode) (x .group) (x .apdu))
-    unfolding judgeOf isAccepted isShut
+    unfolding judgeOf isShut
     request-cases refuse =
         by-lt P (x .room) 16 _ _ (λ b. refuse 3 (noRoom b))
-        (λ b. by-not P (eqb (ruleOf (x .sheet)) 0) _ _ (λ e. refuse 4 (badSheet b (eqb-false _ 0 e)))
+        (λ b. by-not P (eqb (refusalOf (x .sheet)) 0) _ _ (λ e. by-sheet b (eqb-false _ 0 e) (one-of-three (x .sheet)))
         (λ e.
-        let s : Accepted (x .sheet) = eqb-true _ 0 e in
+        let s : Accepted (x .sheet) = unrefused (x .sheet) (eqb-true _ 0 e) in
         by-lt P (length (x .apdu)) 2 _ _ (λ l. refuse 5 (badLength b s (inl l)))
         (λ l. by-lt P 16 (length (x .apdu)) _ _ (λ m. refuse 5 (badLength b s (inr m)))
         (λ m. by-lt P 3 (x .mode) _ _ (λ h. refuse 6 (badMode b s l m h))
@@ -101,3 +102,9 @@ module _ (x : Asked) where
         by-code
         (record { buffer = b; sheet = s; least = l; most = m; mode = h; session = λ c. open-then _ (x .session .opened) o (eq-eqb _ 3 c) })
         (serviceAt (codeOf (x .apdu))) refl))))))
+      where
+        by-sheet :
+            16 ≤ x .room → (refusalOf (x .sheet) ≡ 0 → ⊥) → Accepted (x .sheet) ⊎ (Old (x .sheet) ⊎ Bad (x .sheet)) → P (refused (refusalOf (x .sheet)))
+        by-sheet b n (inl a) = absurd (n (refused-none (x .sheet) a))
+        by-sheet b n (inr (inl o)) = subst⁻¹ (λ (k : ℕ). P (refused k)) (refused-old (x .sheet) o) (refuse 14 (oldSheet b o))
+        by-sheet b n (inr (inr h)) = subst⁻¹ (λ (k : ℕ). P (refused k)) (refused-bad (x .sheet) h) (refuse 4 (badSheet b h))

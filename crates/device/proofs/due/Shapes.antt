@@ -2,6 +2,7 @@
 -- Assumes nothing.
 use Prim.Native.Nat.{ℕ, _≤_}
 use mathlib.Core.Path.{_≡_, refl}
+use mathlib.Core.Logic.{inl, inr}
 use mathlib.Core.Bool.{false}
 use mathlib.Core.List.{List}
 use lib.ListN.{length}
@@ -33,29 +34,30 @@ use Rattle.judge.proofs.PropertyCases.{property-read-cases, property-write-case
 use Rattle.judge.proofs.MemoryCases.{memory-read-cases, change-cases}
 use Rattle.judge.proofs.KeyCases.{key-write-cases}
 use Rattle.device.specs.Carry.{closes}
-use Rattle.device.specs.Asked.{Asked, Refusal, noRoom, badSheet, badLength, badMode, noSession}
+use Rattle.device.specs.Asked.{Asked, Refusal, noRoom, badSheet, oldSheet, badLength, badMode, noSession}
+use Rattle.device.specs.Demand1.{OneOf}
 use Rattle.device.specs.Replies.{Negative, ofRead, ofWrite, ofDescription, ofMemoryRead, ofMemoryWrite, ofUserRead, ofUserWrite, ofBitWrite, ofDescriptor, ofKeyWrite}
 use Rattle.device.proofs.due.RequestCases.{request-cases}
 
 -- about a request a
 pub data Shape (a : List ℕ) : Decision → Type 0 where
-  refuse : (n : ℕ) → 2 ≤ n → n ≤ 12 → (n ≡ 11 → ⊥) → Shape a (refused n)
+  refuse : (n : ℕ) → 2 ≤ n → OneOf n → (n ≡ 11 → ⊥) → Shape a (refused n)
   deny : (p m : Pdu) → readPdu a ≡ Is p → Negative p m → Shape a (denied m)
   reply : (f g : Store) (t : Turn) (r : Answer) → closes t ≡ false → Shape a (decision 0 f g t r)
   done : (f : Store) → Shape a (decision 1 f store.Nothing Stays answer.Silence)
   restart : (f : Store) → readPdu a ≡ Is Restart → Shape a (decision 1 f store.Nothing Closes answer.Silence)
 
 not-ours : (a : List ℕ) → Shape a (refused 2)
-not-ours a = refuse 2 (omega arith) (omega arith) (λ e. omega arith)
+not-ours a = refuse 2 (omega arith) (inl (omega arith)) (λ e. omega arith)
 
 unfit : (a : List ℕ) → Shape a (refused 10)
-unfit a = refuse 10 (omega arith) (omega arith) (λ e. omega arith)
+unfit a = refuse 10 (omega arith) (inl (omega arith)) (λ e. omega arith)
 
 unknown : (a : List ℕ) → Shape a (refused 8)
-unknown a = refuse 8 (omega arith) (omega arith) (λ e. omega arith)
+unknown a = refuse 8 (omega arith) (inl (omega arith)) (λ e. omega arith)
 
 unanswered : (a : List ℕ) → Shape a (refused 12)
-unanswered a = refuse 12 (omega arith) (omega arith) (λ e. omega arith)
+unanswered a = refuse 12 (omega arith) (inl (omega arith)) (λ e. omega arith)
 
 module _ (a s : List ℕ) (level group : ℕ) (d : List ℕ) where
   shaped : (p : Pdu) → readPdu a ≡ Is p → Shape a (decideOf s level group d p)
@@ -110,14 +112,15 @@ module _ (a s : List ℕ) (level group : ℕ) (d : List ℕ) where
       (λ v. deny _ _ e (ofUserWrite n address)) (λ v. unanswered a)
 
 early : {x : Asked} (n : ℕ) → Refusal x n → Shape (x .apdu) (refused n)
-early n (noRoom b) = refuse 3 (omega arith) (omega arith) (λ e. omega arith)
-early n (badSheet b s) = refuse 4 (omega arith) (omega arith) (λ e. omega arith)
-early n (badLength b s l) = refuse 5 (omega arith) (omega arith) (λ e. omega arith)
-early n (badMode b s l m h) = refuse 6 (omega arith) (omega arith) (λ e. omega arith)
-early n (noSession b s l m c o) = refuse 7 (omega arith) (omega arith) (λ e. omega arith)
+early n (noRoom b) = refuse 3 (omega arith) (inl (omega arith)) (λ e. omega arith)
+early n (badSheet b s) = refuse 4 (omega arith) (inl (omega arith)) (λ e. omega arith)
+early n (oldSheet b s) = refuse 14 (omega arith) (inr refl) (λ e. omega arith)
+early n (badLength b s l) = refuse 5 (omega arith) (inl (omega arith)) (λ e. omega arith)
+early n (badMode b s l m h) = refuse 6 (omega arith) (inl (omega arith)) (λ e. omega arith)
+early n (noSession b s l m c o) = refuse 7 (omega arith) (inl (omega arith)) (λ e. omega arith)
 
 -- EVERY DECISION HAS ONE OF THEM
 pub shape : (x : Asked) → Shape (x .apdu) (judgeOf (x .room) (x .sheet) (x .session) (x .mode) (x .group) (x .apdu))
 shape x =
-    request-cases x (Shape (x .apdu)) (λ k r n v t. refuse 9 (omega arith) (omega arith) (λ e. omega arith)) (λ r f. unknown (x .apdu))
+    request-cases x (Shape (x .apdu)) (λ k r n v t. refuse 9 (omega arith) (inl (omega arith)) (λ e. omega arith)) (λ r f. unknown (x .apdu))
     (λ k r n t e. unfit (x .apdu)) (λ p r. shaped (x .apdu) (x .sheet) _ (x .group) _ p (r .reads)) early

@@ -11,7 +11,8 @@ use native.Mathlib.Omega.{arith}
 use borrow.Author.Tests.{lt-ltb, le-ltb, eq-eqb, ne-eqb, eqb-true}
 use Rattle.octets.proofs.Truths.{must-fail}
 use Rattle.sheet.specs.Head.{rulesOf}
-use Rattle.sheet.specs.Rules.{ruleOf, isAccepted}
+use Rattle.sheet.specs.Rules.{verdictOf}
+use Rattle.sheet.proofs.promises.Verdicts.{refused-bad}
 use Rattle.pdu.specs.Table.{serviceAt}
 use Rattle.pdu.specs.Pdus.{serviceOf}
 use Rattle.pdu.specs.Rules.{codeOf}
@@ -29,7 +30,7 @@ use Rattle.judge.specs.Session.{levelIn}
 use Rattle.judge.specs.Modes.{reachOf, reaches, takes}
 use Rattle.judge.specs.Judge.{decideOf, readOf, reachedOf, foundOf, isShut, judgeOf, dataIn}
 use Rattle.device.specs.Step.{Step, stepBy, stepOf}
-use Rattle.device.specs.Asked.{Asked, quiet, Takes, Names, Served, Refusal, noRoom, badSheet, badLength, badMode, noSession, Ready, Reads, given}
+use Rattle.device.specs.Asked.{Asked, quiet, Takes, Names, Served, Refusal, noRoom, badSheet, oldSheet, badLength, badMode, noSession, Ready, Reads, given}
 use Rattle.device.proofs.due.Taking.{takes-is, served-is}
 use Rattle.device.proofs.due.RequestCases.{names-found, found-names}
 
@@ -49,20 +50,21 @@ module _ (x : Asked) where
 
   -- 3 to 7
   pub step-refused : {n : ℕ} → Refusal x n → quiet x n ≡ step
-  unfolding judgeOf isAccepted isShut
+  unfolding judgeOf isShut
   step-refused (noRoom h) = quietly 3 (simp (lt-ltb (x .room) 16 h))
-  step-refused (badSheet b h) = quietly 4 (simp (le-ltb (x .room) 16 b, ne-eqb (ruleOf (x .sheet)) 0 h))
+  step-refused (badSheet b h) = quietly 4 (simp (le-ltb (x .room) 16 b, refused-bad (x .sheet) h))
+  step-refused (oldSheet b h) = quietly 14 (simp (le-ltb (x .room) 16 b, h))
   step-refused (badLength b s (inl h)) =
-      quietly 5 (simp (le-ltb (x .room) 16 b, eq-eqb (ruleOf (x .sheet)) 0 s, lt-ltb (length (x .apdu)) 2 h))
+      quietly 5 (simp (le-ltb (x .room) 16 b, eq-eqb (verdictOf (x .sheet)) 0 s, lt-ltb (length (x .apdu)) 2 h))
   step-refused (badLength b s (inr h)) =
       quietly 5
-      (simp (le-ltb (x .room) 16 b, eq-eqb (ruleOf (x .sheet)) 0 s, le-ltb (length (x .apdu)) 2 (omega arith), lt-ltb 16 (length (x .apdu)) h))
+      (simp (le-ltb (x .room) 16 b, eq-eqb (verdictOf (x .sheet)) 0 s, le-ltb (length (x .apdu)) 2 (omega arith), lt-ltb 16 (length (x .apdu)) h))
   step-refused (badMode b s l m h) =
       quietly 6
-      (simp (le-ltb (x .room) 16 b, eq-eqb (ruleOf (x .sheet)) 0 s, le-ltb (length (x .apdu)) 2 l, le-ltb 16 (length (x .apdu)) m, lt-ltb 3 (x .mode) h))
+      (simp (le-ltb (x .room) 16 b, eq-eqb (verdictOf (x .sheet)) 0 s, le-ltb (length (x .apdu)) 2 l, le-ltb 16 (length (x .apdu)) m, lt-ltb 3 (x .mode) h))
   step-refused (noSession b s l m c o) =
       quietly 7
-      (simp (le-ltb (x .room) 16 b, eq-eqb (ruleOf (x .sheet)) 0 s, le-ltb (length (x .apdu)) 2 l, le-ltb 16 (length (x .apdu)) m, le-ltb 3 (x .mode) (omega arith), eq-eqb (x .mode) 3 c, o))
+      (simp (le-ltb (x .room) 16 b, eq-eqb (verdictOf (x .sheet)) 0 s, le-ltb (length (x .apdu)) 2 l, le-ltb 16 (length (x .apdu)) m, le-ltb 3 (x .mode) (omega arith), eq-eqb (x .mode) 3 c, o))
 
   not-shut : Ready x → eqb (x .mode) 3 && not (x .session .opened) ≡ false
   not-shut r = go (eqb (x .mode) 3) refl
@@ -72,10 +74,10 @@ module _ (x : Asked) where
       go false e = refl
 
   ready-judged : Ready x → judgement ≡ foundOf (x .sheet) (x .session) (x .mode) (x .group) (x .apdu) (serviceAt (codeOf (x .apdu)))
-  unfolding judgeOf isAccepted isShut
+  unfolding judgeOf isShut
   ready-judged r =
       simp
-      (le-ltb (x .room) 16 (r .buffer), eq-eqb (ruleOf (x .sheet)) 0 (r .sheet), le-ltb (length (x .apdu)) 2 (r .least), le-ltb 16 (length (x .apdu)) (r .most), le-ltb 3 (x .mode) (r .mode), not-shut r)
+      (le-ltb (x .room) 16 (r .buffer), eq-eqb (verdictOf (x .sheet)) 0 (r .sheet), le-ltb (length (x .apdu)) 2 (r .least), le-ltb 16 (length (x .apdu)) (r .most), le-ltb 3 (x .mode) (r .mode), not-shut r)
 
   -- 8
   pub step-unknown : Ready x → ((k : Service) → Names x k → Served rules k → ⊥) → quiet x 8 ≡ step

@@ -11,7 +11,7 @@ use Rattle.pdu.specs.declared.Pdu.{Pdu}
 use Rattle.pdu.specs.declared.Parsed.the-variants.{Is}
 use Rattle.judge.specs.declared.Decision.{Decision}
 use Rattle.device.specs.Step.{stepBy, stepOf}
-use Rattle.device.specs.Asked.{Asked, Refusal, noRoom, badSheet, badLength, badMode, noSession, Reads}
+use Rattle.device.specs.Asked.{Asked, Refusal, noRoom, badSheet, oldSheet, badLength, badMode, noSession, Reads}
 use Rattle.device.specs.Demand2.{done}
 use Rattle.device.specs.Next.{Next}
 use Rattle.device.proofs.due.RequestCases.{request-cases}
@@ -21,6 +21,7 @@ use Rattle.device.proofs.leaves.Stays.{request-agrees}
 pub late : {x : Asked} {n : ℕ} → Refusal x n → 3 ≤ n
 late (noRoom b) = omega arith
 late (badSheet b s) = omega arith
+late (oldSheet b s) = omega arith
 late (badLength b s l) = omega arith
 late (badMode b s l m h) = omega arith
 late (noSession b s l m c o) = omega arith

@@ -4,8 +4,9 @@ use Prim.Native.Nat.{ℕ}
 use mathlib.Core.Path.{sym, subst}
 use mathlib.Core.Bool.{Bool}
 use mathlib.Core.List.{List}
+use lib.Dec.{eqb}
 use native.Mathlib.Omega.{arith}
-use Rattle.sheet.specs.Rules.{Accepted, isAccepted}
+use Rattle.sheet.specs.Rules.{Accepted, refusalOf}
 use Rattle.sheet.specs.Agree.{Agree}
 use Rattle.sheet.proofs.rules.Good.{Good, good}
 use Rattle.pdu.specs.Read.{readPdu}
@@ -40,4 +41,4 @@ pub button-agrees : (s : List ℕ) (on : Bool) → Accepted s → Agree s (butto
 unfolding buttonSheet pressed
 button-agrees s on ok =
     let g : Good s = good s ok in
-    by-test (Agree s) (isAccepted s) _ _ (λ e. flags-new g s _ (omega (arith, g .zeros, bit-small on))) (λ e. agree-refl s)
+    by-test (Agree s) (eqb (refusalOf s) 0) _ _ (λ e. flags-new g s _ (omega (arith, g .zeros, bit-small on))) (λ e. agree-refl s)

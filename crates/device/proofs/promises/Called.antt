@@ -15,7 +15,7 @@ use Rattle.device.specs.Sessions.{sessionFor, turnedOf}
 use Rattle.device.specs.Events.{State, Effect, requesting, requestOf, Did, Called}
 use Rattle.device.specs.Due.{asked, RequestDue}
 use Rattle.device.specs.Replies.{Denial}
-use Rattle.device.specs.Demand1.{Leaves}
+use Rattle.device.specs.Demand1.{OneOf, Leaves}
 use Rattle.device.specs.Demand2.{effectSeen}
 use Rattle.device.specs.declared.Sessions.{Sessions}
 use Rattle.device.specs.declared.Done.{Done}
@@ -97,7 +97,7 @@ module _ (sessions : Sessions) (mode c group : ℕ) (apdu sheet answer : List �
     pub call-leaves : Leaves sessions apdu sheet answer r sheet′ answer′
     call-leaves =
         record {
-          outcome = omega (arith, is-outcome, one-of (length answer) sheet session mode group apdu);
+          outcome = subst OneOf (sym is-outcome) (one-of (length answer) sheet session mode group apdu);
           kept =
               λ h.
               let m : 2 ≤ step .outcome = omega (arith, is-outcome) in

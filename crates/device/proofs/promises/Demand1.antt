@@ -3,6 +3,7 @@
 use Prim.Native.Nat.{ℕ, _+_, _≤_}
 use mathlib.Core.Path.{_≡_, refl, sym, _∙_}
 use mathlib.Core.Bool.{Bool, true, false}
+use mathlib.Core.Logic.{inl}
 use mathlib.Core.List.{List, []}
 use lib.Dec.{leb}
 use lib.ListN.{length}
@@ -23,13 +24,14 @@ use Rattle.judge.specs.Judge.{judgeOf, dataIn}
 use Rattle.device.specs.Carry.{storeOf, answerOf}
 use Rattle.device.specs.Step.{Step, stepBy, stepOf}
 use Rattle.device.specs.Safe.{AnswerSafe}
+use Rattle.device.specs.Demand1.{OneOf}
 use Rattle.device.specs.Replies.{Denial}
 use Rattle.device.proofs.calls.Safe.{safe}
 use Rattle.device.proofs.due.Shapes.{Shape, refuse, deny, reply, done, restart, shape}
 
 -- how a step ends
 record Ends (s : List ℕ) (q : Session) (a : List ℕ) (r : Step) : Type 0 where
-  most : r .outcome ≤ 12
+  most : OneOf (r .outcome)
   kept : 2 ≤ r .outcome → (r .sheet ≡ s) × (r .session ≡ q)
   restarts : r .restarts ≡ true → (r .outcome ≤ 1) × (readPdu a ≡ Is Restart)
   silent : 1 ≤ r .outcome → (r .outcome ≡ 11 → ⊥) → r .answer ≡ []
@@ -41,7 +43,7 @@ ends s q a d k (refuse n l m e) =
     record { most = m; kept = λ h. (refl, refl); restarts = λ h. never h; silent = λ h f. refl; denial = λ h. absurd (e h) }
 ends s q a d k (deny p m e n) =
     record {
-      most = omega arith;
+      most = inl (omega arith);
       kept = λ h. (refl, refl);
       restarts = λ h. never h;
       silent = λ h f. absurd (f refl);
@@ -49,7 +51,7 @@ ends s q a d k (deny p m e n) =
     }
 ends s q a d k (reply f g t r c) =
     record {
-      most = omega arith;
+      most = inl (omega arith);
       kept = λ h. absurd (omega arith);
       restarts = λ h. never (sym c ∙ h);
       silent = λ h f. absurd (omega arith);
@@ -57,7 +59,7 @@ ends s q a d k (reply f g t r c) =
     }
 ends s q a d k (done f) =
     record {
-      most = omega arith;
+      most = inl (omega arith);
       kept = λ h. absurd (omega arith);
       restarts = λ h. never h;
       silent = λ h f. refl;
@@ -65,7 +67,7 @@ ends s q a d k (done f) =
     }
 ends s q a d k (restart f e) =
     record {
-      most = omega arith;
+      most = inl (omega arith);
       kept = λ h. absurd (omega arith);
       restarts = λ h. (omega arith, e);
       silent = λ h f. refl;
@@ -93,11 +95,11 @@ module _ (room : ℕ) (s : List ℕ) (q : Session) (mode group : ℕ) (a : List 
       ends s q a (dataIn (readPdu a) a) (judgeOf room s q mode group a)
       (shape (record { room = room; sheet = s; session = q; mode = mode; group = group; apdu = a }))
 
-  -- THE OUTCOME IS ONE OF 0 TO 12
-  pub one-of : stepOf room s q mode group a .outcome ≤ 12
+  -- THE OUTCOME IS ONE OF 0 TO 12, OR 14
+  pub one-of : OneOf (stepOf room s q mode group a .outcome)
   one-of = ended .most
 
-  -- 2 TO 12 LEAVE SHEET AND SESSION AS FOUND
+  -- 2 TO 12 AND 14 LEAVE SHEET AND SESSION AS FOUND
   pub untouched :
       2 ≤ stepOf room s q mode group a .outcome →
       (stepOf room s q mode group a .sheet ≡ s) × (stepOf room s q mode group a .session ≡ q)
@@ -107,7 +109,7 @@ module _ (room : ℕ) (s : List ℕ) (q : Session) (mode group : ℕ) (a : List 
   pub restart-only : stepOf room s q mode group a .restarts ≡ true → (stepOf room s q mode group a .outcome ≤ 1) × (readPdu a ≡ Is Restart)
   restart-only = ended .restarts
 
-  -- SO 2 TO 12 ARE NONE
+  -- SO 2 TO 12 AND 14 ARE NONE
   pub runs-on : 2 ≤ stepOf room s q mode group a .outcome → stepOf room s q mode group a .restarts ≡ false
   runs-on h = go (stepOf room s q mode group a .restarts) refl
     where
@@ -115,7 +117,7 @@ module _ (room : ℕ) (s : List ℕ) (q : Session) (mode group : ℕ) (a : List 
       go true e = absurd (omega (arith, restart-only e .0))
       go false e = refl
 
-  -- 1 TO 10 AND 12 ANSWER NOTHING
+  -- 1 TO 10, 12 AND 14 ANSWER NOTHING
   pub silent :
       1 ≤ stepOf room s q mode group a .outcome → (stepOf room s q mode group a .outcome ≡ 11 → ⊥) →
       stepOf room s q mode group a .answer ≡ []

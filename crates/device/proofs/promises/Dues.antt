@@ -15,7 +15,8 @@ use Rattle.octets.specs.Splice.{splice}
 use Rattle.octets.proofs.Numbers.{length-bytes}
 use Rattle.octets.proofs.Splices.{length-splice, splice-outside, splice-num}
 use Rattle.sheet.specs.Head as head
-use Rattle.sheet.specs.Rules.{ruleOf, Accepted, isAccepted}
+use Rattle.sheet.specs.Rules.{Accepted, Old, Bad}
+use Rattle.sheet.proofs.promises.Verdicts.{one-of-three, refused-none, refused-old, refused-bad}
 use Rattle.judge.specs.Session.{connected}
 use Rattle.judge.specs.declared.Session.{Session}
 use Rattle.device.specs.Octets.{Octets}
@@ -45,7 +46,7 @@ module _ (s : List ℕ) (on : Bool) (ok : Accepted s) where
   small = omega (arith, bit-small on)
 
   room : head.flags .at + length (bytesOf 1 new) ≤ length s
-  room = omega (arith, head-room s 0 (sym ok) refl, length-bytes 1 new)
+  room = omega (arith, head-room s 0 (sym (refused-none s ok)) refl, length-bytes 1 new)
 
   pressed-is : pressed s on ≡ splice s (head.flags .at) (bytesOf 1 new)
   unfolding pressed
@@ -55,7 +56,7 @@ module _ (s : List ℕ) (on : Bool) (ok : Accepted s) where
   spliced =
       record {
         long = length-splice s (head.flags .at) (bytesOf 1 new) room;
-        flags = splice-num s (head.flags .at) 1 new (omega (arith, head-room s 0 (sym ok) refl)) small;
+        flags = splice-num s (head.flags .at) 1 new (omega (arith, head-room s 0 (sym (refused-none s ok)) refl)) small;
         others = λ p n. splice-outside s (head.flags .at) (bytesOf 1 new) room p (side p n (decLt p (head.flags .at)));
       }
     where
@@ -124,24 +125,27 @@ module _ (x : State) where
   -- THE BUTTON
   module _ (on : Bool) where
     pub button-due : ButtonDue on x (pressing x on)
-    unfolding buttonOutcome buttonSheet isAccepted
+    unfolding buttonOutcome buttonSheet
     button-due =
         record {
           answer = refl;
           sessions = refl;
-          badSheet = λ n. let t = ne-eqb (ruleOf (x .sheet)) 0 n in (rw t, rw t);
-          accepted = λ ok. let t = eq-eqb (ruleOf (x .sheet)) 0 ok in (rw t, rw t (switched (x .sheet) on ok));
+          badSheet = λ b. let t = refused-bad (x .sheet) b in (rw t, rw t);
+          oldSheet = λ o. (rw o, rw o);
+          accepted = λ ok. (rw ok, rw ok (switched (x .sheet) on ok));
         }
 
     pub button-only : (r : Effect) → ButtonDue on x r → r ≡ pressing x on
-    button-only r d = go (ℕ-discrete (ruleOf (x .sheet)) 0)
+    button-only r d = go (one-of-three (x .sheet))
       where
-        go : Dec (Accepted (x .sheet)) → r ≡ pressing x on
-        go (no n) =
-            let a = d .badSheet n in
-            let b = button-due .badSheet n in
+        unmoved : {n : ℕ} → (r .outcome ≡ n) × (r .sheet ≡ x .sheet) → (pressing x on .outcome ≡ n) × (pressing x on .sheet ≡ x .sheet) → r ≡ pressing x on
+        unmoved a b =
             same-effect r (pressing x on) (a .0 ∙ sym (b .0)) (d .answer ∙ sym (button-due .answer)) (d .sessions ∙ sym (button-due .sessions)) (a .1 ∙ sym (b .1))
-        go (yes ok) =
+
+        go : Accepted (x .sheet) ⊎ (Old (x .sheet) ⊎ Bad (x .sheet)) → r ≡ pressing x on
+        go (inr (inr b)) = unmoved (d .badSheet b) (button-due .badSheet b)
+        go (inr (inl o)) = unmoved (d .oldSheet o) (button-due .oldSheet o)
+        go (inl ok) =
             let a = d .accepted ok in
             let b = button-due .accepted ok in
             same-effect r (pressing x on) (a .0 ∙ sym (b .0)) (d .answer ∙ sym (button-due .answer)) (d .sessions ∙ sym (button-due .sessions))

@@ -11,7 +11,7 @@ use Rattle.sheet.specs.Demand.{breach}
 use Rattle.sheet.specs.First.{first}
 use Rattle.sheet.specs.Head.{rulesOf}
 use Rattle.sheet.specs.Entries.{entry, keyOf, floor, bodyEnd, startOf, reached, sixBits}
-use Rattle.sheet.specs.Rules.{entryDemands, bodyDemands, entryRule, bodyRule, entriesRule, bodiesRule, walkRule, restRule, ruleIn, isAccepted}
+use Rattle.sheet.specs.Rules.{entryDemands, bodyDemands, entryRule, bodyRule, entriesRule, bodiesRule, walkRule, restRule, ruleIn, verdictOf}
 use Rattle.sheet.specs.Lookup.{seek, indexOf, covers, placeOf, common, rangeOf}
 use Rattle.pdu.specs.Table.{find}
 use Rattle.pdu.specs.Rules.{lowAt, fourAt, twelveAt, headBytes}
@@ -59,7 +59,7 @@ pub limits-worked :
     (0x03 ∷ 0xD7 ∷ 0x01 ∷ 0x33 ∷ 0xA0 ∷ 0x01 ∷ replicate 10 0) ∷
     [])
     ≡ 0 ∷ 11 ∷ 0 ∷ 0 ∷ 11 ∷ 0 ∷ 0 ∷ 0 ∷ 11 ∷ 0 ∷ []
-unfolding outcome roomy stepOf stepBy build bitAt judgeOf isAccepted isShut reachedOf rulesOf levelIn levelOf
+unfolding outcome roomy stepOf stepBy build bitAt judgeOf verdictOf isShut reachedOf rulesOf levelIn levelOf
     readIn propertyReadOf writeIn propertyWriteOf memoryReadOf changeOf memoryWriteOf bitWriteOf
     readPdu find dataOf encoded headBytes lowAt fourAt twelveAt seek indexOf covers placeOf common rangeOf
     ruleIn walkRule restRule entriesRule bodiesRule entryRule bodyRule bodyDemands entryDemands

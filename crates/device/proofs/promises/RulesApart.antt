@@ -12,6 +12,7 @@ use Rattle.sheet.proofs.places.BodyPlaces.{after-contents}
 use Rattle.sheet.proofs.alike.Sames.{users-alike}
 use Rattle.sheet.proofs.alike.Buts.{field-but}
 use Rattle.sheet.proofs.promises.Agrees.{both-or-neither}
+use Rattle.sheet.proofs.promises.Verdicts.{refused-none}
 use Rattle.pdu.specs.Read.{readPdu}
 use Rattle.judge.specs.declared.Session.{Session}
 use Rattle.judge.specs.declared.Decision.{Decision}
@@ -21,7 +22,7 @@ use Rattle.device.specs.Step.{Step, stepBy, stepOf}
 use Rattle.device.specs.Apart.{RulesByte, SameButRules, Undisputed, SameStep}
 use Rattle.device.proofs.calls.Safe.{safe}
 use Rattle.device.proofs.leaves.Stays.{request-agrees}
-use Rattle.device.proofs.apart.StepBut.{AlikeBut, is-accepted, spares-fewer, step-but}
+use Rattle.device.proofs.apart.StepBut.{AlikeBut, spares-fewer, step-but}
 use Rattle.device.proofs.apart.PastHead.{past-head}
 use Rattle.device.proofs.apart.Unseen.{SameThere}
 use Rattle.device.proofs.apart.Judging.{judge-same}
@@ -41,7 +42,7 @@ seen {s} {s′} b =
 module _ (room : ℕ) {s s′ : List ℕ} (q : Session) (mode group : ℕ) (a : List ℕ) (b : SameButRules s s′) (u : Undisputed mode a) where
   judged : judgeOf room s′ q mode group a ≡ judgeOf room s q mode group a
   judged =
-      judge-same (seen b) q mode group a (inr u) room (is-accepted s′ (b .accepted′) ∙ sym (is-accepted s (b .accepted)))
+      judge-same (seen b) q mode group a (inr u) room (refused-none s′ (b .accepted′) ∙ sym (refused-none s (b .accepted)))
 
   -- an accepted sheet after the request
   stays : (t : List ℕ) → Accepted t → Accepted (stepOf room t q mode group a .sheet)

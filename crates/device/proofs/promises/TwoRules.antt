@@ -11,7 +11,7 @@ use Rattle.sheet.specs.First.{first}
 use Rattle.sheet.specs.Head as head
 use Rattle.sheet.specs.Head.{rulesOf}
 use Rattle.sheet.specs.Entries.{entry, keyOf, floor, bodyEnd, startOf, reached, sixBits}
-use Rattle.sheet.specs.Rules.{entryDemands, bodyDemands, entryRule, bodyRule, entriesRule, bodiesRule, walkRule, restRule, ruleIn, isAccepted}
+use Rattle.sheet.specs.Rules.{entryDemands, bodyDemands, entryRule, bodyRule, entriesRule, bodiesRule, walkRule, restRule, ruleIn, verdictOf}
 use Rattle.pdu.specs.Table.{find}
 use Rattle.pdu.specs.Rules.{lowAt, headBytes}
 use Rattle.pdu.specs.Read.{readPdu, dataOf}
@@ -27,7 +27,7 @@ use Rattle.device.specs.Marked.{sample, seen}
 -- the sheet under rules n, with those flags
 unfoldable pub ruled : ℕ → ℕ → List ℕ
 ruled n flags =
-    splice (splice (splice sample (head.edition .at) (2 ∷ [])) (head.flags .at) (flags ∷ [])) (head.rules .at) (n ∷ [])
+    splice (splice sample (head.flags .at) (flags ∷ [])) (head.rules .at) (n ∷ [])
 
 -- a connection open at level 0, and none
 abbrev pub holder : Session
@@ -44,7 +44,7 @@ asks n mode b0 b1 = stepOf 16 (ruled n 3) holder mode 0 (b0 ∷ b1 ∷ [])
 pub restarted :
     (asks 0 2 0x03 0x80 ≡ record { outcome = 9; answer = []; session = holder; sheet = ruled 0 3; restarts = false })
     × (asks 1 2 0x03 0x80 ≡ record { outcome = 1; answer = []; session = nobody; sheet = ruled 1 2; restarts = true })
-unfolding ruled sample stepOf stepBy judgeOf isAccepted isShut reachedOf rulesOf levelIn levelOf restartOf
+unfolding ruled sample stepOf stepBy judgeOf verdictOf isShut reachedOf rulesOf levelIn levelOf restartOf
     readPdu find dataOf ruleIn walkRule restRule entriesRule bodiesRule entryRule bodyRule bodyDemands entryDemands
     entry keyOf floor bodyEnd startOf reached sixBits first breach splice numAt bytesOf
 restarted = (refl, refl)
@@ -53,7 +53,7 @@ restarted = (refl, refl)
 pub restarted-else :
     map (λ (n : ℕ). seen (asks n 0 0x03 0x80) ∷ seen (asks n 1 0x03 0x80) ∷ seen (asks n 3 0x03 0x80) ∷ seen (asks n 2 0x03 0x81) ∷ []) (0 ∷ 1 ∷ [])
     ≡ map (λ (n : ℕ). map (λ (m : ℕ). record { answer = []; number = m }) (9 ∷ 9 ∷ 1 ∷ 8 ∷ [])) (0 ∷ 1 ∷ [])
-unfolding ruled sample stepOf stepBy judgeOf isAccepted isShut reachedOf rulesOf levelIn levelOf restartOf
+unfolding ruled sample stepOf stepBy judgeOf verdictOf isShut reachedOf rulesOf levelIn levelOf restartOf
     readPdu find dataOf ruleIn walkRule restRule entriesRule bodiesRule entryRule bodyRule bodyDemands entryDemands
     entry keyOf floor bodyEnd startOf reached sixBits first breach splice numAt bytesOf
 restarted-else = refl
@@ -64,7 +64,7 @@ pub described :
     ≡ record { answer = 0x03 ∷ 0x40 ∷ 0x07 ∷ 0xB0 ∷ []; number = 0 } ∷ record { answer = []; number = 2 } ∷ record { answer = []; number = 2 } ∷ [])
     × (map (λ (t : ℕ). seen (asks 1 2 0x03 t)) (0 ∷ 2 ∷ 63 ∷ [])
     ≡ record { answer = 0x03 ∷ 0x40 ∷ 0x07 ∷ 0xB0 ∷ []; number = 0 } ∷ record { answer = 0x03 ∷ 0x7F ∷ []; number = 11 } ∷ record { answer = 0x03 ∷ 0x7F ∷ []; number = 11 } ∷ [])
-unfolding ruled sample stepOf stepBy judgeOf isAccepted isShut reachedOf rulesOf levelIn levelOf descriptorOf
+unfolding ruled sample stepOf stepBy judgeOf verdictOf isShut reachedOf rulesOf levelIn levelOf descriptorOf
     readPdu find dataOf encoded headBytes lowAt ruleIn walkRule restRule entriesRule bodiesRule entryRule bodyRule bodyDemands entryDemands
     entry keyOf floor bodyEnd startOf reached sixBits first breach splice numAt bytesOf
 described = (refl, refl)

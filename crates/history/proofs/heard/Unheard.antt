@@ -8,6 +8,7 @@ use mathlib.Core.List.{List}
 use native.Mathlib.Omega.{arith}
 use Rattle.sheet.specs.Head.{rulesOf}
 use Rattle.sheet.specs.Rules.{Accepted}
+use Rattle.sheet.proofs.rules.Good.{no-rule}
 use Rattle.pdu.specs.Pdus.{serviceOf}
 use Rattle.pdu.specs.Read.{readPdu}
 use Rattle.pdu.proofs.Readings.{reading}
@@ -16,7 +17,7 @@ use Rattle.pdu.specs.declared.Pdu.{Pdu}
 use Rattle.pdu.specs.declared.Parsed.the-variants.{Refused}
 use Rattle.octets.proofs.Truths.{never}
 use Rattle.device.specs.Events.{State}
-use Rattle.device.specs.Asked.{Asked, Takes, Names, Served, Refusal, noRoom, badSheet, badLength, badMode, noSession, Ready, Reads}
+use Rattle.device.specs.Asked.{Asked, Takes, Names, Served, Refusal, noRoom, badSheet, oldSheet, badLength, badMode, noSession, Ready, Reads}
 use Rattle.device.specs.Due.{asked}
 use Rattle.device.proofs.due.RequestCases.{found-names, names-once}
 use Rattle.history.specs.Wish.{nothing, asks}
@@ -27,7 +28,8 @@ use Rattle.history.proofs.heard.Hearing.{ready-is, heard-reads, refused
 -- a refusal is not due where the request is ready
 refusal-ready : {x : Asked} {n : ℕ} → Refusal x n → Ready x → ⊥
 refusal-ready (noRoom p) r = omega (arith, r .buffer)
-refusal-ready (badSheet p q) r = q (r .sheet)
+refusal-ready {x} (badSheet p q) r = q (no-rule (x .sheet) (r .sheet))
+refusal-ready (oldSheet p q) r = omega (arith, q, r .sheet)
 refusal-ready (badLength p q (inl l)) r = omega (arith, r .least)
 refusal-ready (badLength p q (inr l)) r = omega (arith, r .most)
 refusal-ready (badMode p q l m t) r = omega (arith, r .mode)

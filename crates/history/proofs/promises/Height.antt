@@ -10,7 +10,7 @@ use Rattle.sheet.specs.Head as head
 use Rattle.sheet.specs.Demand.{breach}
 use Rattle.sheet.specs.First.{first}
 use Rattle.sheet.specs.Entries.{entry, keyOf, floor, bodyAt, bodyEnd, startOf, reached, sixBits}
-use Rattle.sheet.specs.Rules.{entryDemands, bodyDemands, entryRule, bodyRule, entriesRule, bodiesRule, walkRule, restRule, ruleIn}
+use Rattle.sheet.specs.Rules.{entryDemands, bodyDemands, entryRule, bodyRule, entriesRule, bodiesRule, walkRule, restRule, ruleIn, verdictOf}
 use Rattle.sheet.specs.Lookup.{seek, indexOf}
 use Rattle.device.specs.Events.{State}
 use Rattle.events.specs.Events.{Event, run}
@@ -26,7 +26,7 @@ use Rattle.history.proofs.promises.Keyless.{locked, keyless-run}
 
 -- the sample is accepted
 pub begins : Begins fresh
-unfolding sample ruleIn walkRule restRule entriesRule bodiesRule entryRule bodyRule bodyDemands entryDemands entry keyOf floor bodyAt bodyEnd startOf reached sixBits first breach numAt
+unfolding sample verdictOf ruleIn walkRule restRule entriesRule bodiesRule entryRule bodyRule bodyDemands entryDemands entry keyOf floor bodyAt bodyEnd startOf reached sixBits first breach numAt
 begins = record { octets = octets-by sample refl; accepted = refl }
 
 -- the four bytes of its two elements stand at 64, its count at 46

@@ -3,7 +3,7 @@
 use mathlib.Core.Path.{_≡_, refl, sym, ap, _∙_}
 use mathlib.Core.List.{List, [], _∷_, reverse, reverse-cons, reverse-reverse}
 use Rattle.device.specs.Events.{State}
-use Rattle.events.specs.Events.{Event, after, run}
+use Rattle.events.specs.Events.{Event, after, runBy, run}
 use Rattle.events.proofs.Append.{run-append}
 use Rattle.history.specs.History.{First}
 use Rattle.history.specs.Keeps.{stateAfter}
@@ -15,7 +15,7 @@ module _ (f : First) where
 
   -- AFTER A HISTORY IS AFTER THE RUN OF ITS EVENTS
   pub after-is-run : (h : List Event) → stateAfter ours f h ≡ run firstState (reverse h)
-  unfolding stateAfter run after
+  unfolding stateAfter runBy after
   after-is-run [] = refl
   after-is-run (e ∷ h) =
       ap (λ (x : State). after x e) (after-is-run h)

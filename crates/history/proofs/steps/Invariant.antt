@@ -12,7 +12,7 @@ use Rattle.sheet.specs.Kind.{groups}
 use Rattle.sheet.specs.Layout.{_of_}
 use Rattle.sheet.specs.Head as head
 use Rattle.sheet.specs.Entries.{count, bodyAt}
-use Rattle.sheet.specs.Rules.{ruleOf, Accepted, isAccepted}
+use Rattle.sheet.specs.Rules.{Accepted}
 use Rattle.sheet.proofs.rules.Good.{Good, good, accepted}
 use Rattle.sheet.proofs.promises.Agrees.{kept}
 use Rattle.sheet.proofs.searches.Regions.{covers-stands}
@@ -123,12 +123,12 @@ module _ {f : First} {h : List Event} {x : State} (inv : Inv f h x) where
 
     -- THE BUTTON
     pub button-pressed : (on : Bool) → Inv f (button on ∷ h) (record { sessions = x .sessions; sheet = buttonSheet (x .sheet) on })
-    unfolding opened level content individual programming groupByte buttonSheet pressed isAccepted
+    unfolding opened level content individual programming groupByte buttonSheet pressed
     button-pressed on =
         record {
           session = inv .session;
           means =
-              rw (eq-eqb (ruleOf (x .sheet)) 0 now-accepted)
+              rw now-accepted
               (means-as (store-flags fine (inv .means) new low verify) (λ y. refl) refl (odd on) (λ i j l. refl));
         }
       where

@@ -17,7 +17,7 @@ use Rattle.sheet.specs.Entries.{count, size, base, place, contents, entry, star
 use Rattle.sheet.specs.Agree.{Agree, Fixed}
 use Rattle.sheet.specs.Places.{Position, inHead, inEntry, inBody, PropertyWith}
 use Rattle.sheet.specs.Rules.{Accepted}
-use Rattle.sheet.proofs.rules.Good.{Good}
+use Rattle.sheet.proofs.rules.Good.{Good, no-rule}
 use Rattle.sheet.proofs.promises.Agrees.{agree-trans}
 use Rattle.sheet.proofs.promises.Positions.{position}
 use Rattle.sheet.proofs.alike.Sames.{count-same, place-same, contents-same, start-same}
@@ -32,7 +32,7 @@ use Rattle.versions.specs.Settings.{bodyInVersion}
 use Rattle.versions.proofs.Restores as re
 use Rattle.versions.proofs.Agreeing.{entries-to, entries-from, low-to, low-from, version-octets, restored-octets}
 use Rattle.events.specs.Events.{Event, restore}
-use Rattle.versions.specs.Due.{Known, AtZero, RestoreDue, sheetRefused, storeRefused, unknownNumber, notOpen, differs, tooHigh, isRestored}
+use Rattle.versions.specs.Due.{Known, AtZero, RestoreDue, sheetRefused, sheetOld, storeRefused, unknownNumber, notOpen, differs, tooHigh, isRestored}
 use Rattle.versions.specs.Rules.{isStore, storeRule}
 use borrow.Author.Tests.{eq-eqb, eqb-true}
 use Rattle.octets.proofs.Truths.{never}
@@ -253,7 +253,8 @@ module _ (f : First) (b : Begins f) (h : List Event) (x : State) (inv : Inv f h 
       }
 
   pub restore-inv : {k : ℕ} {s : List ℕ} → RestoreDue (sessionOf (x .sessions) c) S st n k s → Inv f (E ∷ h) (record { sessions = x .sessions; sheet = s })
-  restore-inv (sheetRefused a) = refused (λ p. a ok)
+  restore-inv (sheetRefused a) = refused (λ p. a (no-rule S ok))
+  restore-inv (sheetOld a) = refused (λ p. omega (arith, a, ok))
   restore-inv (storeRefused a q) = refused (λ p. q (fits p .found .ready .good))
   restore-inv (unknownNumber a q) = refused (λ p. never (sym q ∙ fits p .found .there))
   restore-inv (notOpen a q) = refused (λ p. q (fits p .entitled))
@@ -264,6 +265,7 @@ module _ (f : First) (b : Begins f) (h : List Event) (x : State) (inv : Inv f h 
   -- CARRIED OUT EXACTLY IF PERMITTED
   pub restore-only : {k : ℕ} {s : List ℕ} → RestoreDue (sessionOf (x .sessions) c) S st n k s → CarriedOut E k → permitted f h E ≡ true
   restore-only (sheetRefused a) z = absurd (omega (arith, z .outcome))
+  restore-only (sheetOld a) z = absurd (omega (arith, z .outcome))
   restore-only (storeRefused a q) z = absurd (omega (arith, z .outcome))
   restore-only (unknownNumber a q) z = absurd (omega (arith, z .outcome))
   restore-only (notOpen a q) z = absurd (omega (arith, z .outcome))
@@ -272,7 +274,8 @@ module _ (f : First) (b : Begins f) (h : List Event) (x : State) (inv : Inv f h 
   restore-only (isRestored a q u v) z = fitting a q u v
 
   pub restore-all : {k : ℕ} {s : List ℕ} → RestoreDue (sessionOf (x .sessions) c) S st n k s → permitted f h E ≡ true → CarriedOut E k
-  restore-all (sheetRefused a) p = absurd (a ok)
+  restore-all (sheetRefused a) p = absurd (a (no-rule S ok))
+  restore-all (sheetOld a) p = absurd (omega (arith, a, ok))
   restore-all (storeRefused a q) p = absurd (q (fits p .found .ready .good))
   restore-all (unknownNumber a q) p = never (sym q ∙ fits p .found .there)
   restore-all (notOpen a q) p = absurd (q (fits p .entitled))

@@ -11,7 +11,7 @@ use Rattle.sheet.specs.Demand.{breach}
 use Rattle.sheet.specs.First.{first}
 use Rattle.sheet.specs.Head.{rulesOf}
 use Rattle.sheet.specs.Entries.{entry, keyOf, floor, bodyAt, bodyEnd, startOf, reached, sixBits}
-use Rattle.sheet.specs.Rules.{entryDemands, bodyDemands, entryRule, bodyRule, entriesRule, bodiesRule, walkRule, restRule, ruleIn, isAccepted}
+use Rattle.sheet.specs.Rules.{entryDemands, bodyDemands, entryRule, bodyRule, entriesRule, bodiesRule, walkRule, restRule, ruleIn, verdictOf}
 use Rattle.sheet.specs.Lookup.{seek, indexOf}
 use Rattle.pdu.specs.Table.{find}
 use Rattle.pdu.specs.Rules.{lowAt, fourAt, twelveAt, headBytes}
@@ -49,7 +49,7 @@ more step b h s e =
 
 -- THE KEY OF LEVEL 0 OFFERED, and the answer to the next key of the tool on connection 0 has another last byte
 pub level-shown : Isolated showsLevel → ⊥
-unfolding stateAfter eventOf requestOf stepOf stepBy judgeOf isAccepted isShut reachedOf rulesOf levelIn levelOf grantOf authorizeOf
+unfolding stateAfter eventOf requestOf stepOf stepBy judgeOf verdictOf isShut reachedOf rulesOf levelIn levelOf grantOf authorizeOf
     asks readPdu find dataOf encoded headBytes lowAt splice
     ruleIn walkRule restRule entriesRule bodiesRule entryRule bodyRule bodyDemands entryDemands entry keyOf floor bodyAt bodyEnd startOf reached sixBits first breach numAt bytesOf sample
 level-shown i =
@@ -59,7 +59,7 @@ level-shown i =
 
 -- WHAT IS NO KEY OFFERED, and the tool on connection 0 has lost its level
 pub level-lost : Isolated lowersBoth → ⊥
-unfolding stateAfter eventOf requestOf stepOf stepBy judgeOf isAccepted isShut reachedOf rulesOf levelIn levelOf grantOf authorizeOf
+unfolding stateAfter eventOf requestOf stepOf stepBy judgeOf verdictOf isShut reachedOf rulesOf levelIn levelOf grantOf authorizeOf
     asks readPdu find dataOf encoded headBytes lowAt splice
     ruleIn walkRule restRule entriesRule bodiesRule entryRule bodyRule bodyDemands entryDemands entry keyOf floor bodyAt bodyEnd startOf reached sixBits first breach numAt bytesOf sample
 level-lost i =
@@ -74,7 +74,7 @@ reads-only e = let z : _≡_ {A = ℕ} 0 1 = cc in omega arith
 
 -- A CONNECTIONLESS READ, and the answer to the next key of the tool on connection 0 has another last byte
 pub count-shown : Isolated showsCount → ⊥
-unfolding stateAfter eventOf requestOf stepOf stepBy judgeOf isAccepted isShut reachedOf rulesOf levelIn levelOf grantOf authorizeOf
+unfolding stateAfter eventOf requestOf stepOf stepBy judgeOf verdictOf isShut reachedOf rulesOf levelIn levelOf grantOf authorizeOf
     propertyReadOf readIn seek indexOf
     asks readPdu find dataOf encoded headBytes lowAt fourAt twelveAt splice
     ruleIn walkRule restRule entriesRule bodiesRule entryRule bodyRule bodyDemands entryDemands entry keyOf floor bodyAt bodyEnd startOf reached sixBits first breach numAt bytesOf sample

@@ -11,7 +11,7 @@ use Rattle.octets.specs.Splice.{splice}
 use Rattle.sheet.specs.Demand.{breach}
 use Rattle.sheet.specs.First.{first}
 use Rattle.sheet.specs.Entries.{entry, keyOf, floor, bodyAt, bodyEnd, startOf, reached, sixBits}
-use Rattle.sheet.specs.Rules.{entryDemands, bodyDemands, entryRule, bodyRule, entriesRule, bodiesRule, walkRule, restRule, ruleIn, ruleOf, isAccepted}
+use Rattle.sheet.specs.Rules.{entryDemands, bodyDemands, entryRule, bodyRule, entriesRule, bodiesRule, walkRule, restRule, ruleIn, verdictOf, isAccepted}
 use Rattle.sheet.specs.Lookup.{seek, indexOf, covers, placeOf, common, rangeOf}
 use Rattle.pdu.specs.Table.{find}
 use Rattle.pdu.specs.Rules.{lowAt, fourAt, twelveAt, headBytes}
@@ -101,7 +101,7 @@ begins-by : (f : First) → isFirst f ≡ true → Begins f
 unfolding isAccepted
 begins-by f e =
     let b = and-is (isBytes (f .sheet)) (isAccepted (f .sheet)) .0 e in
-    record { octets = octets-by (f .sheet) (b .0); accepted = eqb-true (ruleOf (f .sheet)) 0 (b .1) }
+    record { octets = octets-by (f .sheet) (b .0); accepted = eqb-true (verdictOf (f .sheet)) 0 (b .1) }
 
 -- A WITNESS begins so, brings bytes and leaves another state than ours
 abbrev tells : Witness → Bool
@@ -135,7 +135,7 @@ each (w ∷ ws) e = let b = and-is (tells w) (tellAll ws) .0 e in (refuted w (b 
 
 -- by computation
 told : tellAll wrongs ≡ true
-unfolding stateAfter eventOf requestOf stepOf stepBy judgeOf isAccepted isShut reachedOf rulesOf levelIn levelOf grantOf authorizeOf keyWriteOf restartOf changeOf memoryWriteOf writeIn propertyWriteOf
+unfolding stateAfter eventOf requestOf stepOf stepBy judgeOf verdictOf isAccepted isShut reachedOf rulesOf levelIn levelOf grantOf authorizeOf keyWriteOf restartOf changeOf memoryWriteOf writeIn propertyWriteOf
     permitted opened level content firstOf keyIn heard levelFor allowed every regionFor mayWrite inRange indexFor entryFor
     asks brings readPdu find dataOf encoded headBytes lowAt fourAt twelveAt seek indexOf covers placeOf common rangeOf splice
     ruleIn walkRule restRule entriesRule bodiesRule entryRule bodyRule bodyDemands entryDemands entry keyOf floor bodyAt bodyEnd startOf reached sixBits first breach numAt bytesOf sample pump

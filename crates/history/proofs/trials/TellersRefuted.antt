@@ -17,7 +17,7 @@ use Rattle.sheet.specs.Demand.{breach}
 use Rattle.sheet.specs.First.{first}
 use Rattle.sheet.specs.Head.{rulesOf}
 use Rattle.sheet.specs.Entries.{entry, contents, keyOf, floor, bodyAt, bodyEnd, startOf, reached, sixBits}
-use Rattle.sheet.specs.Rules.{entryDemands, bodyDemands, entryRule, bodyRule, entriesRule, bodiesRule, walkRule, restRule, ruleIn, isAccepted}
+use Rattle.sheet.specs.Rules.{entryDemands, bodyDemands, entryRule, bodyRule, entriesRule, bodiesRule, walkRule, restRule, ruleIn, verdictOf}
 use Rattle.sheet.specs.Lookup.{seek, indexOf, covers, placeOf, common, rangeOf, objectAt, rank, nthOf}
 use Rattle.sheet.specs.declared.Memory.the-variants.{Device}
 use Rattle.sheet.proofs.rules.Good.{good}
@@ -51,11 +51,11 @@ use Rattle.history.proofs.trials.Tellers.{guarded, otherSecrets, Teller
 
 -- both are accepted
 begins-one : Begins one
-unfolding guarded ruleIn walkRule restRule entriesRule bodiesRule entryRule bodyRule bodyDemands entryDemands entry keyOf floor bodyAt bodyEnd startOf reached sixBits first breach numAt
+unfolding guarded verdictOf ruleIn walkRule restRule entriesRule bodiesRule entryRule bodyRule bodyDemands entryDemands entry keyOf floor bodyAt bodyEnd startOf reached sixBits first breach numAt
 begins-one = record { octets = octets-by guarded refl; accepted = refl }
 
 begins-two : Begins two
-unfolding guarded splice ruleIn walkRule restRule entriesRule bodiesRule entryRule bodyRule bodyDemands entryDemands entry keyOf floor bodyAt bodyEnd startOf reached sixBits first breach numAt
+unfolding guarded splice verdictOf ruleIn walkRule restRule entriesRule bodiesRule entryRule bodyRule bodyDemands entryDemands entry keyOf floor bodyAt bodyEnd startOf reached sixBits first breach numAt
 begins-two = record { octets = octets-by otherSecrets refl; accepted = refl }
 
 -- the three bytes are secret to every level but 0
@@ -145,7 +145,7 @@ each (w ∷ ws) e = let b = and-is (tells w) (tellAll ws) .0 e in (refuted w (b 
 
 -- by computation
 told : tellAll tellers ≡ true
-unfolding stateAfter eventOf requestOf stepOf stepBy judgeOf isAccepted isShut reachedOf rulesOf levelIn levelOf
+unfolding stateAfter eventOf requestOf stepOf stepBy judgeOf verdictOf isShut reachedOf rulesOf levelIn levelOf
     memoryReadOf changeOf memoryWriteOf bitWriteOf build bitAt readIn propertyReadOf writeIn propertyWriteOf describedAt descriptionOf
     indexFor entryFor asks readPdu find dataOf encoded headBytes lowAt fourAt twelveAt seek indexOf objectAt rank nthOf covers placeOf common rangeOf splice
     ruleIn walkRule restRule entriesRule bodiesRule entryRule bodyRule bodyDemands entryDemands entry keyOf floor bodyAt bodyEnd startOf reached sixBits first breach numAt bytesOf guarded

@@ -34,6 +34,10 @@ abbrev pub Misses : (ℕ → Type 0) → ℕ → ℕ → Type 0
 Misses H o n = (j : ℕ) → j < n → H (o + j) → ⊥
 
 module _ {H : ℕ → Type 0} {s s′ : List ℕ} (b : But H s s′) where
+  -- the other way round
+  pub but-sym : But H s′ s
+  but-sym = record { long = sym (b .long); others = λ p n. sym (b .others p n) }
+
   -- a part, and a field of the head, that miss them
   pub part-but : (o n : ℕ) → Misses H o n → take n (drop o s′) ≡ take n (drop o s)
   part-but o n m = part-same s s′ o n (b .long) (λ j l. b .others (o + j) (m j l))

@@ -1,4 +1,4 @@
--- Where the bodies of an accepted sheet lie: one after the other, from the contents to the end.
+-- Where the bodies of a sheet that breaks no rule lie: one after the other, from the contents to the end.
 -- Assumes nothing.
 use Prim.Native.Nat.{ℕ, suc, _+_, _<_, _≤_}
 use mathlib.Core.Path.{_≡_, refl, subst⁻¹}
@@ -9,7 +9,7 @@ use Rattle.sheet.specs.Kind.{kinds}
 use Rattle.sheet.specs.Entries.{count, contents, entry, lengthOf, bodyAt, bodyEnd, startOf, reached, InBody}
 use Rattle.sheet.specs.Rules.{bodyDemands}
 use Rattle.sheet.specs.Stores.{Inside}
-use Rattle.sheet.proofs.rules.Good.{Good}
+use Rattle.sheet.proofs.rules.Good.{GoodIn}
 use Rattle.sheet.proofs.places.Rising.{Step, between, rising, once}
 
 -- each position of a run inside a body lies in that body
@@ -40,7 +40,7 @@ pub start-first : (s : List ℕ) → startOf s 0 ≡ contents s
 unfolding startOf
 start-first s = refl
 
-module _ {s : List ℕ} (g : Good s) where
+module _ {ed : ℕ} {s : List ℕ} (g : GoodIn ed s) where
   -- a body starts where the one before ended
   pub starts : (k i : ℕ) → k < kinds → i < count s k → bodyAt s k i ≡ reached s k i
   unfolding bodyDemands bodyAt

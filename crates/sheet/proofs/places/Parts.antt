@@ -12,7 +12,7 @@ use native.Mathlib.Nat.{add-sub-cancel-left}
 use native.Mathlib.Omega.{arith}
 use Rattle.sheet.specs.Kind.{kinds, OfKind}
 use Rattle.sheet.specs.Entries.{count, entry, offsetOf, lengthOf, bodyEnd}
-use Rattle.sheet.specs.Rules.{ruleOf, Accepted, isAccepted}
+use Rattle.sheet.specs.Rules.{verdictOf, Accepted, isAccepted}
 use Rattle.sheet.specs.Lookup.{PartOf, StandsIn, bodyOf, bodyFrom, lookup, lookupFrom}
 use Rattle.sheet.specs.Walk.{Counted}
 use Rattle.sheet.proofs.rules.ByKind.{kinded}
@@ -46,14 +46,14 @@ module _ (s : List ℕ) where
         (cut a z _ _ (body-end s k i n e a z ok hk c h ee ea ez) (rw (ea, kinded ez)) ea)
 
   -- of a sheet that is not accepted, and of one that is
-  module _ (k i r : ℕ) (e : r ≡ ruleOf s) where
+  module _ (k i r : ℕ) (e : r ≡ verdictOf s) where
     pub no-sheet : (r ≡ 0 → ⊥) → StandsIn s (record { offset = 0; length = 0 }) (lookup s k i) (lookupFrom s k i)
     unfolding lookup lookupFrom isAccepted
-    no-sheet h = rw (ne-eqb (ruleOf s) 0 (λ z. h (e ∙ z))) no-bytes
+    no-sheet h = rw (ne-eqb (verdictOf s) 0 (λ z. h (e ∙ z))) no-bytes
 
     pub in-sheet : (p : Part) → r ≡ 0 → StandsIn s p (bodyOf s k i) (bodyFrom s k i) → StandsIn s p (lookup s k i) (lookupFrom s k i)
     unfolding lookup lookupFrom isAccepted
-    in-sheet p h b = rw (eq-eqb (ruleOf s) 0 (sym e ∙ h)) b
+    in-sheet p h b = rw (eq-eqb (verdictOf s) 0 (sym e ∙ h)) b
 
 -- what is cut out of a sheet from a to a + z is the part of that offset and length
 pub cut-out :
@@ -65,7 +65,7 @@ cut-out s r a z e b p = record { is = e ∙ rw (add-sub-cancel-left); block = b;
 pub part-in : (s : List ℕ) (k i : ℕ) (p : Part) → k < kinds → StandsIn s p (lookup s k i) (lookupFrom s k i) → p .offset + p .length ≤ length s
 unfolding lookupFrom isAccepted bodyFrom bodyEnd
 part-in s k i p hk h =
-    let f = from (eqb (ruleOf s) 0) (ltb i (count s k)) (eqb-true (ruleOf s) 0) (ltb-true i (count s k)) in
+    let f = from (eqb (verdictOf s) 0) (ltb i (count s k)) (eqb-true (verdictOf s) 0) (ltb-true i (count s k)) in
     let l : p .length ≡ length (take (p .length) (drop (p .offset) s)) = h .long ∙ sym (ap length (h .is)) in
     omega (arith, h .place, simp (length-take, length-drop) at l)
   where

@@ -109,24 +109,25 @@ module _ {ed : ℕ} {R : List ℕ → List ℕ → Type 0} {s s′ : List ℕ} (
   bodies k i hk hi =
       (offset-same a i k hk hi ∙ g .bodies k i hk hi .0 ∙ sym (reached-same a k i hk hi), (six i k hk hi, tt))
 
-  -- meets them too, up to an edition that its own is not past, if byte 15 and rules suit its own
+  -- meets those of its own edition, if byte 15 and rules suit that
   pub kept-in :
-      (up : ℕ) → 1 ≤ head.edition of s′ → head.edition of s′ ≤ up → head.spare s′ ≡ 0 → head.rules of s′ ≤ head.latest s′ → GoodIn up s′
-  kept-in up lo hi spare rules =
+      (ed′ : ℕ) → 1 ≤ ed′ → head.edition of s′ ≡ ed′ → head.spare s′ ≡ 0 → head.rules of s′ ≤ head.latest s′ → GoodIn ed′ s′
+  kept-in ed′ lo own spare rules =
       record {
         framed =
             omega
-            (arith, lo, hi, a .long, g .framed, front-same a head.stated (omega arith) (omega arith), count-same a 0, count-same a 1, count-same a 2, count-same a 3);
+            (arith, own, lo, a .long, g .framed, front-same a head.stated (omega arith) (omega arith), count-same a 0, count-same a 1, count-same a 2, count-same a 3);
+        own = own;
         zeros = omega (arith, spare, rules, a .zero31, a .flags .0 (g .zeros .0), g .zeros);
         entries = λ k i hk h. entries i k hk (fewer k i h);
         bodies = λ k i hk h. bodies k i hk (fewer k i h);
         last = (start-same a kinds (omega arith) ∙ g .last .0 ∙ sym (a .long), tt);
       }
 
--- what agrees in edition, byte 15 and rules too meets them up to the same edition
+-- what agrees in edition, byte 15 and rules too meets the same
 pub kept : {ed : ℕ} {s s′ : List ℕ} → GoodIn ed s → Agree s s′ → GoodIn ed s′
 kept {ed} {s} {s′} g a =
-    kept-in g a ed (omega (arith, g .framed, a .by .edition)) (omega (arith, g .framed, a .by .edition))
+    kept-in g a ed (omega (arith, g .framed, g .own)) (a .by .edition ∙ g .own)
     (rw (a .by .edition, a .by .byte15) (omega (arith, g .zeros))) (rw (a .by .edition, a .by .rules) (omega (arith, g .zeros)))
 
 -- OF TWO THAT AGREE BOTH ARE ACCEPTED OR NEITHER IS

@@ -15,14 +15,14 @@ use Rattle.sheet.specs.Region as region
 use Rattle.sheet.specs.Property as property
 use Rattle.sheet.specs.Group as group
 use Rattle.sheet.specs.Entries.{count, contents, entry, keyOf, floor, bodyEnd, startOf, reached, sixBits}
-use Rattle.sheet.specs.Rules.{entryDemands, bodyDemands, entryRule, bodyRule, entriesRule, bodiesRule, restRule, walkRule, ruleIn, ruleOf, Accepted, edition, isAccepted}
+use Rattle.sheet.specs.Rules.{entryDemands, bodyDemands, entryRule, bodyRule, entriesRule, bodiesRule, restRule, walkRule, ruleIn, verdictOf, ruleOf, Accepted, edition, isAccepted}
 use Rattle.sheet.specs.Lookup.{seek, indexOf, bodyOf, lookup, regionOf, propertyOf, groupOf, objectAt, rank, nthOf}
 
 -- THE SHEET, 109 bytes: no two of its numbers that could be taken for one another are the same
 unfoldable pub example : List ℕ
 example =
     -- edition; two regions, three properties, one group object; length
-    0x01 ∷ 0x02 ∷ 0x03 ∷ 0x01 ∷ 0x00 ∷ 0x6D ∷
+    0x02 ∷ 0x02 ∷ 0x03 ∷ 0x01 ∷ 0x00 ∷ 0x6D ∷
     -- serial, mask version, flags, zero, individual address
     0x00 ∷ 0xC5 ∷ 0x01 ∷ 0x02 ∷ 0x03 ∷ 0x04 ∷ 0x07 ∷ 0xB0 ∷ 0x02 ∷ 0x00 ∷ 0x11 ∷ 0x05 ∷
     -- keys, zeros
@@ -43,13 +43,13 @@ example =
 
 -- IT IS ACCEPTED
 pub example-accepted : Accepted example
-unfolding example ruleIn walkRule restRule entriesRule bodiesRule entryRule bodyRule entryDemands bodyDemands breach first entry floor bodyEnd startOf reached sixBits numAt
+unfolding example verdictOf ruleIn walkRule restRule entriesRule bodiesRule entryRule bodyRule entryDemands bodyDemands breach first entry floor bodyEnd startOf reached sixBits numAt
 example-accepted = refl
 
 -- THE NUMBERS IN ITS HEAD
 pub example-head :
     map (λ (f : Field). f of example) (head.edition ∷ head.regions ∷ head.properties ∷ head.groups ∷ head.stated ∷ head.serial ∷ head.mask ∷ head.flags ∷ head.byte15 ∷ head.address ∷ head.key 0 ∷ head.key 1 ∷ head.key 2 ∷ head.rules ∷ head.zero31 ∷ [])
-    ≡ 1 ∷ 2 ∷ 3 ∷ 1 ∷ 109 ∷ 0x00C501020304 ∷ 0x07B0 ∷ 2 ∷ 0 ∷ 0x1105 ∷ 0x0A0B0C0D ∷ 0x1A1B1C1D ∷ 0x2A2B2C2D ∷ 0 ∷ 0 ∷ []
+    ≡ 2 ∷ 2 ∷ 3 ∷ 1 ∷ 109 ∷ 0x00C501020304 ∷ 0x07B0 ∷ 2 ∷ 0 ∷ 0x1105 ∷ 0x0A0B0C0D ∷ 0x1A1B1C1D ∷ 0x2A2B2C2D ∷ 0 ∷ 0 ∷ []
 unfolding example numAt
 example-head = refl
 
@@ -58,15 +58,15 @@ pub example-flags : (head.programming example ≡ 0) × (head.verify example ≡
 unfolding example numAt
 example-flags = (refl, refl)
 
--- THE NUMBER OF THE RULES: in edition 2 it may be 0 or 1 and no other, in edition 1 it is 0
+-- THE NUMBER OF THE RULES: in edition 2 it may be 0 or 1 and no other, in edition 1, which is old, it is 0
 unfoldable pub named : ℕ → ℕ → List ℕ
 named ed n = splice (splice example 0 (ed ∷ [])) 30 (n ∷ [])
 
 pub example-rules :
-    (map (λ (n : ℕ). ruleOf (named 2 n)) (0 ∷ 1 ∷ 2 ∷ 255 ∷ []) ≡ 0 ∷ 0 ∷ 5 ∷ 5 ∷ [])
-    × (map (λ (n : ℕ). ruleOf (named 1 n)) (0 ∷ 1 ∷ []) ≡ 0 ∷ 5 ∷ [])
+    (map (λ (n : ℕ). verdictOf (named 2 n)) (0 ∷ 1 ∷ 2 ∷ 255 ∷ []) ≡ 0 ∷ 0 ∷ 5 ∷ 5 ∷ [])
+    × (map (λ (n : ℕ). verdictOf (named 1 n)) (0 ∷ 1 ∷ []) ≡ 14 ∷ 5 ∷ [])
     × (map (λ (n : ℕ). rulesOf (named 2 n)) (0 ∷ 1 ∷ []) ≡ 0 ∷ 1 ∷ [])
-unfolding example named splice rulesOf ruleIn walkRule restRule entriesRule bodiesRule entryRule bodyRule entryDemands bodyDemands breach first entry floor bodyEnd startOf reached sixBits numAt
+unfolding example named splice rulesOf verdictOf ruleIn walkRule restRule entriesRule bodiesRule entryRule bodyRule entryDemands bodyDemands breach first entry floor bodyEnd startOf reached sixBits numAt
 example-rules = (refl, refl, refl)
 
 -- THE NUMBERS OF ENTRIES, AND WHERE THE CONTENTS END
@@ -96,17 +96,17 @@ example-group = refl
 -- THE VALUE LOOKUPS: by region number, by object and id, by group address
 pub example-regions :
     map (regionOf example) (0 ∷ 1 ∷ 2 ∷ []) ≡ (0xA0 ∷ 0xA1 ∷ []) ∷ (0xA2 ∷ 0xA3 ∷ 0xA4 ∷ []) ∷ [] ∷ []
-unfolding example lookup isAccepted bodyOf ruleIn walkRule restRule entriesRule bodiesRule entryRule bodyRule entryDemands bodyDemands breach first entry floor bodyEnd startOf reached sixBits numAt
+unfolding example lookup isAccepted bodyOf verdictOf ruleIn walkRule restRule entriesRule bodiesRule entryRule bodyRule entryDemands bodyDemands breach first entry floor bodyEnd startOf reached sixBits numAt
 example-regions = refl
 
 pub example-properties :
     propertyOf example 1 2 ∷ propertyOf example 2 1 ∷ propertyOf example 2 3 ∷ propertyOf example 3 2 ∷ []
     ≡ (0xB0 ∷ 0xB1 ∷ 0xB2 ∷ 0xB3 ∷ []) ∷ (0xB4 ∷ 0xB5 ∷ 0xB6 ∷ []) ∷ (0xB7 ∷ 0xB8 ∷ 0xB9 ∷ []) ∷ [] ∷ []
-unfolding example lookup isAccepted bodyOf indexOf seek keyOf ruleIn walkRule restRule entriesRule bodiesRule entryRule bodyRule entryDemands bodyDemands breach first entry floor bodyEnd startOf reached sixBits numAt
+unfolding example lookup isAccepted bodyOf indexOf seek keyOf verdictOf ruleIn walkRule restRule entriesRule bodiesRule entryRule bodyRule entryDemands bodyDemands breach first entry floor bodyEnd startOf reached sixBits numAt
 example-properties = refl
 
 pub example-groups : map (groupOf example) (0x0801 ∷ 0x0108 ∷ []) ≡ (0xC0 ∷ 0xC1 ∷ []) ∷ [] ∷ []
-unfolding example lookup isAccepted bodyOf indexOf seek keyOf ruleIn walkRule restRule entriesRule bodiesRule entryRule bodyRule entryDemands bodyDemands breach first entry floor bodyEnd startOf reached sixBits numAt
+unfolding example lookup isAccepted bodyOf indexOf seek keyOf verdictOf ruleIn walkRule restRule entriesRule bodiesRule entryRule bodyRule entryDemands bodyDemands breach first entry floor bodyEnd startOf reached sixBits numAt
 example-groups = refl
 
 -- THE INDEX WITHIN AN OBJECT: of each property, and the property of an index

@@ -7,7 +7,7 @@ use Rattle.octets.specs.Bytes.{numAt}
 use Rattle.sheet.specs.Demand.{breach}
 use Rattle.sheet.specs.First.{first}
 use Rattle.sheet.specs.Entries.{entry, floor, bodyEnd, startOf, reached, sixBits}
-use Rattle.sheet.specs.Rules.{entryDemands, bodyDemands, entryRule, bodyRule, entriesRule, bodiesRule, restRule, walkRule, ruleIn, Accepted}
+use Rattle.sheet.specs.Rules.{entryDemands, bodyDemands, entryRule, bodyRule, entriesRule, bodiesRule, restRule, walkRule, ruleIn, verdictOf, Accepted}
 use Rattle.sheet.specs.Lookup.{seek, covers, placeOf, common, rangeOf}
 use Rattle.sheet.specs.declared.Memory.the-variants.{Device, User}
 use Rattle.sheet.specs.declared.Run.the-variants.{At, Nowhere}
@@ -35,7 +35,7 @@ touching =
 
 -- IT IS ACCEPTED
 pub touching-accepted : Accepted touching
-unfolding touching ruleIn walkRule restRule entriesRule bodiesRule entryRule bodyRule entryDemands bodyDemands breach first entry floor bodyEnd startOf reached sixBits numAt
+unfolding touching verdictOf ruleIn walkRule restRule entriesRule bodiesRule entryRule bodyRule entryDemands bodyDemands breach first entry floor bodyEnd startOf reached sixBits numAt
 touching-accepted = refl
 
 -- OVER TWO REGIONS AND OVER THREE, with the rights of all; past the gap, whether or not it goes on behind it

@@ -10,7 +10,7 @@ use Rattle.sheet.specs.Kind.{regions, properties, groups, users}
 use Rattle.sheet.specs.Layout.{Field, _of_}
 use Rattle.sheet.specs.Region as region
 use Rattle.sheet.specs.Entries.{count, contents, entry, floor, bodyEnd, startOf, reached, sixBits}
-use Rattle.sheet.specs.Rules.{entryDemands, bodyDemands, entryRule, bodyRule, entriesRule, bodiesRule, restRule, walkRule, ruleIn, ruleOf, Accepted, isAccepted}
+use Rattle.sheet.specs.Rules.{entryDemands, bodyDemands, entryRule, bodyRule, entriesRule, bodiesRule, restRule, walkRule, ruleIn, verdictOf, ruleOf, Accepted, isAccepted}
 use Rattle.sheet.specs.Lookup.{seek, covers, bodyOf, lookup, regionOf, userRegionOf, placeOf, common, rangeOf}
 use Rattle.sheet.specs.declared.Memory.the-variants.{Device, User}
 use Rattle.sheet.specs.declared.Run.the-variants.{At, Nowhere}
@@ -40,12 +40,12 @@ second = 2 ∷ after
 
 -- IT IS ACCEPTED
 pub second-accepted : Accepted second
-unfolding second after ruleIn walkRule restRule entriesRule bodiesRule entryRule bodyRule entryDemands bodyDemands breach first entry floor bodyEnd startOf reached sixBits numAt
+unfolding second after verdictOf ruleIn walkRule restRule entriesRule bodiesRule entryRule bodyRule entryDemands bodyDemands breach first entry floor bodyEnd startOf reached sixBits numAt
 second-accepted = refl
 
 -- of edition 1 the same bytes break S5, of edition 3 they break S2
 pub second-editions : (ruleOf (1 ∷ after) ≡ 5) × (ruleOf (3 ∷ after) ≡ 2)
-unfolding after ruleIn breach numAt
+unfolding after verdictOf ruleIn breach numAt
 second-editions = (refl, refl)
 
 -- THE NUMBERS OF ENTRIES, AND WHERE THE CONTENTS END
@@ -64,7 +64,7 @@ second-user = refl
 pub second-regions :
     (map (regionOf second) (0 ∷ 1 ∷ []) ≡ (0xA0 ∷ 0xA1 ∷ []) ∷ [] ∷ [])
     × (map (userRegionOf second) (0 ∷ 1 ∷ 2 ∷ []) ≡ (0xD0 ∷ 0xD1 ∷ 0xD2 ∷ []) ∷ (0xD3 ∷ []) ∷ [] ∷ [])
-unfolding second after lookup isAccepted bodyOf ruleIn walkRule restRule entriesRule bodiesRule entryRule bodyRule entryDemands bodyDemands breach first entry floor bodyEnd startOf reached sixBits numAt
+unfolding second after lookup isAccepted bodyOf verdictOf ruleIn walkRule restRule entriesRule bodiesRule entryRule bodyRule entryDemands bodyDemands breach first entry floor bodyEnd startOf reached sixBits numAt
 second-regions = (refl, refl)
 
 -- ONE ADDRESS IN EITHER MEMORY, and one that user memory alone has

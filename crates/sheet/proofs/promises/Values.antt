@@ -12,7 +12,7 @@ use Rattle.octets.proofs.Numbers.{num-below}
 use Rattle.sheet.specs.Kind.{kinds, regions, properties, groups, users, kindOf}
 use Rattle.sheet.specs.Property as property
 use Rattle.sheet.specs.Entries.{count, place, entry, keyOf, offsetOf, lengthOf, bodyAt, bodyEnd}
-use Rattle.sheet.specs.Rules.{ruleOf, Accepted, isAccepted}
+use Rattle.sheet.specs.Rules.{verdictOf, Accepted, isAccepted}
 use Rattle.sheet.specs.Lookup.{indexOf, bodyOf, bodyFrom, lookup, lookupFrom, regionOf, regionFrom, userRegionOf, userRegionFrom, propertyOf, propertyFrom, groupOf, groupFrom}
 use Rattle.sheet.specs.Places.{PropertyWith}
 use Rattle.sheet.specs.declared.Memory.{Memory}
@@ -39,24 +39,24 @@ module _ (s : List ℕ) (k i : ℕ) where
   -- that, and from there, if the entry is there
   there : Accepted s → i < count s k → (lookup s k i ≡ cut) × (lookupFrom s k i ≡ bodyAt s k i)
   unfolding cut lookup lookupFrom isAccepted bodyOf bodyFrom bodyAt
-  there ok h = (simp (eq-eqb (ruleOf s) 0 ok, lt-ltb i (count s k) h), simp (eq-eqb (ruleOf s) 0 ok, lt-ltb i (count s k) h))
+  there ok h = (simp (eq-eqb (verdictOf s) 0 ok, lt-ltb i (count s k) h), simp (eq-eqb (verdictOf s) 0 ok, lt-ltb i (count s k) h))
 
   -- nothing if not, and nothing of a sheet that is not accepted
   missing : Accepted s → count s k ≤ i → (lookup s k i ≡ []) × (lookupFrom s k i ≡ 0)
   unfolding lookup lookupFrom isAccepted bodyOf bodyFrom
-  missing ok h = (simp (eq-eqb (ruleOf s) 0 ok, le-ltb i (count s k) h), simp (eq-eqb (ruleOf s) 0 ok, le-ltb i (count s k) h))
+  missing ok h = (simp (eq-eqb (verdictOf s) 0 ok, le-ltb i (count s k) h), simp (eq-eqb (verdictOf s) 0 ok, le-ltb i (count s k) h))
 
   rejected : (Accepted s → ⊥) → (lookup s k i ≡ []) × (lookupFrom s k i ≡ 0)
   unfolding lookup lookupFrom isAccepted
-  rejected n = (simp (ne-eqb (ruleOf s) 0 n), simp (ne-eqb (ruleOf s) 0 n))
+  rejected n = (simp (ne-eqb (verdictOf s) 0 n), simp (ne-eqb (verdictOf s) 0 n))
 
   -- OF ANY KIND, i being the one entry that is asked for, or none
   handed :
       (Asked : ℕ → Type 0) → k < kinds → (Accepted s → i < count s k → Asked i) →
       (Accepted s → (j : ℕ) → Asked j → (j < count s k) × (j ≡ i)) → Handed s k Asked (lookup s k i) (lookupFrom s k i)
-  handed Asked hk is only = go (decLt 0 (ruleOf s)) (decLt i (count s k))
+  handed Asked hk is only = go (decLt 0 (verdictOf s)) (decLt i (count s k))
     where
-      go : Dec (0 < ruleOf s) → Dec (i < count s k) → Handed s k Asked (lookup s k i) (lookupFrom s k i)
+      go : Dec (0 < verdictOf s) → Dec (i < count s k) → Handed s k Asked (lookup s k i) (lookupFrom s k i)
       go (yes h) d = let e = rejected (λ z. omega arith) in rw (e .0, e .1) (unaccepted (λ z. omega arith))
       go (no h) (yes l) =
           let ok : Accepted s = omega arith in

@@ -1,22 +1,28 @@
--- A sheet breaks no rule exactly if all its demands are met; it is accepted if those up to the latest edition are.
+-- A sheet breaks no rule exactly if all its demands are met; it is accepted if it is of edition 2 then.
 -- Assumes nothing.
-use Prim.Native.Nat.{ℕ, _<_}
+use Prim.Native.Nat.{ℕ, _<_, _≤_}
 use mathlib.Core.Path.{_≡_, sym, _∙_}
 use mathlib.Core.List.{List}
-use lib.Dec.{T}
+use lib.Dec.{T, eqb}
+use mathlib.Core.Bool.{cond}
+use native.Mathlib.Decide.{ℕ-discrete}
 use native.Mathlib.Omega.{arith}
+use borrow.Author.Tests.{ne-eqb}
 use Rattle.sheet.specs.Demand.{breach, Met}
 use Rattle.sheet.specs.First.{first}
 use Rattle.sheet.specs.Kind.{kinds, users}
+use Rattle.sheet.specs.Layout.{_of_}
+use Rattle.sheet.specs.Head as head
 use Rattle.sheet.specs.Entries.{count}
-use Rattle.sheet.specs.Rules.{frameDemands, zeroDemands, entryDemands, bodyDemands, endDemands, entryRule, bodyRule, entriesRule, bodiesRule, restRule, walkRule, ruleIn, edition, Accepted}
+use Rattle.sheet.specs.Rules.{frameDemands, zeroDemands, entryDemands, bodyDemands, endDemands, entryRule, bodyRule, entriesRule, bodiesRule, restRule, walkRule, ruleIn, ruleOf, verdictOf, edition, retired, old, Accepted}
 use Rattle.sheet.proofs.rules.ByKind.{eachKind}
 use Rattle.sheet.proofs.rules.Demands.{met, unbroken, named}
 use Rattle.sheet.proofs.rules.First.{orElse-left, orElse-right, first-each, first-all, first-more, first-suc}
 
--- a sheet whose demands are all met, part by part, being of an edition up to this one
+-- a sheet of an edition whose demands are all met, part by part
 pub record GoodIn (ed : ℕ) (s : List ℕ) : Type 0 where
   pub framed : Met (frameDemands ed s)
+  pub own : head.edition of s ≡ ed
   pub zeros : Met (zeroDemands s)
   pub entries : (k i : ℕ) → k < kinds → i < count s k → Met (entryDemands s k i)
   pub bodies : (k i : ℕ) → k < kinds → i < count s k → Met (bodyDemands s k i)
@@ -48,12 +54,16 @@ module _ (s : List ℕ) (rule : ℕ → ℕ → ℕ) where
   unfolding AllOf
   all h = first-all (λ k. first (rule k) (count s k)) kinds (λ k hk. first-all (rule k) (count s k) (λ i hi. h k i hk hi))
 
--- A SHEET THAT BREAKS NO RULE MEETS ALL DEMANDS
-pub passing : (ed : ℕ) (s : List ℕ) → ruleIn ed s ≡ 0 → GoodIn ed s
+-- S1 to S4 of one that breaks no rule
+pub frame-met : (up : ℕ) (s : List ℕ) → ruleIn up s ≡ 0 → Met (frameDemands up s)
+unfolding ruleIn
+frame-met up s e = met (frameDemands up s) tt (orElse-left (breach (frameDemands up s)) _ e)
+
+-- A SHEET THAT BREAKS NO RULE OF EDITIONS UP TO ONE MEETS ALL DEMANDS of its own
+pub passing : (up ed : ℕ) (s : List ℕ) → ruleIn up s ≡ 0 → head.edition of s ≡ ed → GoodIn ed s
 unfolding ruleIn walkRule restRule entriesRule bodiesRule entryRule bodyRule AllOf
-passing ed s e =
-    let f = orElse-left (breach (frameDemands ed s)) _ e in
-    let e₁ = orElse-right (breach (frameDemands ed s)) _ e in
+passing up ed s e own =
+    let e₁ = orElse-right (breach (frameDemands up s)) _ e in
     let z = orElse-left (breach (zeroDemands s)) _ e₁ in
     let e₂ = orElse-right (breach (zeroDemands s)) _ e₁ in
     let e₄ = orElse-right (entriesRule s users) _ e₂ in
@@ -62,18 +72,19 @@ passing ed s e =
     let b = orElse-left (first (bodiesRule s) kinds) _ e₃ in
     let l = orElse-right (first (bodiesRule s) kinds) _ e₃ in
     record {
-      framed = met (frameDemands ed s) tt f;
+      framed = let m = frame-met up s e in omega (arith, m, own);
+      own = own;
       zeros = met (zeroDemands s) tt z;
       entries = λ k i hk hi. met (entryDemands s k i) (entry-named s i k hk) (each s (entryRule s) w k i hk hi);
       bodies = λ k i hk hi. met (bodyDemands s k i) (body-named s i k) (each s (bodyRule s) b k i hk hi);
       last = met (endDemands s) tt l;
     }
 
--- A SHEET THAT MEETS ALL DEMANDS BREAKS NO RULE
-pub passes : {ed : ℕ} {s : List ℕ} → GoodIn ed s → ruleIn ed s ≡ 0
+-- A SHEET THAT MEETS ALL DEMANDS BREAKS NO RULE of editions up to that or a later one
+pub passes : {ed : ℕ} {s : List ℕ} (up : ℕ) → ed ≤ up → GoodIn ed s → ruleIn up s ≡ 0
 unfolding ruleIn walkRule restRule entriesRule bodiesRule entryRule bodyRule AllOf
-passes {ed} {s} g =
-    rw (unbroken (frameDemands ed s) (g .framed), unbroken (zeroDemands s) (g .zeros), early, entries, bodies) (unbroken (endDemands s) (g .last))
+passes {ed} {s} up h g =
+    rw (unbroken (frameDemands up s) (omega (arith, h, g .framed)), unbroken (zeroDemands s) (g .zeros), early, entries, bodies) (unbroken (endDemands s) (g .last))
   where
     entries : first (entriesRule s) users ≡ 0
     entries = orElse-left (first (entriesRule s) users) _ (sym (first-suc (entriesRule s) users) ∙ all s (entryRule s) (λ k i hk hi. unbroken (entryDemands s k i) (g .entries k i hk hi)))
@@ -84,9 +95,26 @@ passes {ed} {s} g =
     bodies : first (bodiesRule s) kinds ≡ 0
     bodies = all s (bodyRule s) (λ k i hk hi. unbroken (bodyDemands s k i) (g .bodies k i hk hi))
 
--- SO AN ACCEPTED SHEET MEETS THEM, AND ONE THAT MEETS THEM IS ACCEPTED
+-- AN ACCEPTED SHEET BREAKS NO RULE AND IS OF EDITION 2
+pub no-rule : (s : List ℕ) → Accepted s → ruleOf s ≡ 0
+unfolding verdictOf
+no-rule s ok = orElse-left (ruleOf s) _ ok
+
+pub second : (s : List ℕ) → Accepted s → head.edition of s ≡ edition
+unfolding verdictOf
+second s ok = go (ℕ-discrete (head.edition of s) retired)
+  where
+    not-old : (n : ℕ) → n ≡ 1 → cond (eqb n 1) old 0 ≡ 0 → ⊥
+    not-old n e h = let z : _≡_ {A = ℕ} 14 0 = rw e at h in omega arith
+
+    go : Dec (head.edition of s ≡ 1) → head.edition of s ≡ 2
+    go (yes e) = absurd (not-old (head.edition of s) e (orElse-right (ruleOf s) _ ok))
+    go (no n) = let m = frame-met edition s (no-rule s ok) in omega (arith, m)
+
+-- SO IT MEETS ALL DEMANDS, AND ONE OF EDITION 2 THAT MEETS THEM IS ACCEPTED
 pub good : (s : List ℕ) → Accepted s → Good s
-good = passing edition
+good s ok = passing edition edition s (no-rule s ok) (second s ok)
 
 pub accepted : {s : List ℕ} → Good s → Accepted s
-accepted g = passes g
+unfolding verdictOf
+accepted {s} g = rw (passes edition (omega arith) g, ne-eqb (head.edition of s) 1 (λ e. omega (arith, g .own)))

@@ -1,9 +1,17 @@
 -- `sheet_check::line` meets its contract.
 -- Assumes nothing.
 use borrow.Author.Needs.{needs}
-use Rattle.sheet_check.proofs.Lines.{fine, broken}
+use Rattle.sheet_check.proofs.Lines.{fine, outdated, broken}
 use Rattle.sheet_check.proofs.line.Statement.{statement}
 use Rattle.sheet_check.proofs.line.Tie as tie
 
 pub line-spec : {M : Type 1} → statement M
-line-spec = tie.close (tie.spec (λ c. search fine) (λ c. search needs) (λ c. search broken))
+line-spec =
+    tie.close
+    (tie.spec
+    (λ c. search needs) (λ c κs. search needs) (λ c. search needs)
+    (λ c. search fine)
+    (λ c. search needs) (λ c κs. search needs) (λ c. search needs)
+    (λ c. search outdated)
+    (λ c. search needs) (λ c. search needs) (λ c κs. search needs) (λ c. search needs)
+    (λ c. search broken))

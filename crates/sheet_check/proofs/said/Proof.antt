@@ -1,9 +1,15 @@
 -- `sheet_check::said` meets its contract.
 -- Assumes nothing.
 use borrow.Author.Needs.{needs}
-use Rattle.sheet_check.proofs.Lines.{one-digit, via-said}
+use Rattle.sheet_check.proofs.Lines.{at-most-14, via-said}
 use Rattle.sheet_check.proofs.said.Statement.{statement}
 use Rattle.sheet_check.proofs.said.Tie as tie
 
 pub said-spec : {M : Type 1} → statement M
-said-spec = tie.close (tie.spec (λ c κs. search needs) (λ c κs. search one-digit) (λ c. search via-said))
+said-spec =
+    tie.close
+    (tie.spec
+    (λ c κs. search needs)
+    (λ c κs. search (at-most-14, needs))
+    (λ c. search needs)
+    (λ c. search via-said))

@@ -2,6 +2,7 @@
 -- Assumes nothing.
 use borrow.Author.Needs.{needs}
 use native.Mathlib.Omega.{arith}
+use Rattle.sheet.proofs.promises.Verdicts.{not-refused}
 use Rattle.device.proofs.calls.Pressing.{put-room, not-pressed, was-pressed}
 use Rattle.device.proofs.session.button.Statement.{statement}
 use Rattle.device.proofs.session.button.Tie as tie
@@ -21,9 +22,8 @@ button-spec =
     (tie.spec
     (λ c κs. search needs) (λ c. search needs)
     returns
-    (λ c κs. search needs)
-    (λ c κs. search needs)
-    (λ c. search needs)
+    (λ c κs. search (not-refused, needs))
+    (λ c κs. search needs) (λ c. search needs)
     put-requires
     (λ c. search needs)
     returns-2)

@@ -2,6 +2,7 @@
 -- Assumes nothing.
 use mathlib.Core.Path.{sym, _∙_}
 use borrow.Author.Needs.{needs}
+use Rattle.sheet.proofs.promises.Verdicts.{not-refused}
 use Rattle.versions.proofs.Restorer.{bad-sheet, bad-store, not-kept, not-zero, not-given, gives-long, was-restored}
 use Rattle.versions.proofs.restoring.restore.Statement.{statement}
 use Rattle.versions.proofs.restoring.restore.Tie as tie
@@ -30,13 +31,8 @@ restore-spec =
     (λ c. search not-kept)
     (λ c κs. search needs) (λ c. search needs)
     returns-4
-    (λ c κs. search needs)
-    (λ c. search needs)
-    (λ c. search needs)
-    (λ c. search needs)
-    (λ c. search needs)
-    (λ c κs. search needs)
-    (λ c. search needs)
+    (λ c κs. search (not-refused, needs))
+    (λ c. search needs) (λ c. search needs) (λ c. search needs) (λ c. search needs) (λ c κs. search needs) (λ c. search needs)
     returns-5
     (λ c. search needs) (λ c. search needs) (λ c. search needs)
     give-back-requires
