@@ -6,6 +6,9 @@
  *
  *   host SHEET SOCKET
  *
+ * An old sheet, of edition 1, is converted at the first start: saved before anybody is served, and told on standard error, since
+ * whoever has a copy of the file should know that it is old too.
+ *
  * It may be killed at any moment, or lose its power: each file holds the sheet, or the store, before a change or after it,
  * whole, and what was answered is in it. For that what was changed is written to a new file beside the old one, brought to
  * the disk, and renamed over it, before the answer is sent. tests/examples.sh kills it to see.
@@ -100,6 +103,14 @@ static void write_out(kept *k)
     memcpy(k->saved, k->bytes, k->length);
 }
 
+/* Makes an old sheet one of edition 2, in the file too, and says so. */
+static void renew(kept *sheet)
+{
+    if (kelindap_convert(sheet->bytes, sheet->length) == KELINDAP_DONE)
+        write_out(sheet);
+    fprintf(stderr, "host: %s was of edition 1: it is converted, its first byte is 2 and all else as it was\n", sheet->file);
+}
+
 /* Saves what has changed. A host that can't save stops: what it then starts with is what the file has. */
 static void save(kept *k)
 {
@@ -111,8 +122,10 @@ static void load_sheet(kept *sheet)
 {
     if (!load(sheet))
         give_up("can't be read", sheet->file);
+    if (kelindap_check(sheet->bytes, sheet->length) == KELINDAP_OLD)
+        renew(sheet);
     uint8_t rule = kelindap_check(sheet->bytes, sheet->length);
-    if (rule != 0) {
+    if (rule != KELINDAP_ACCEPTED) {
         fprintf(stderr, "host: %s breaks S%d: \"sheet check\" tells more\n", sheet->file, rule);
         exit(EXIT_FAILURE);
     }

@@ -183,6 +183,14 @@ static void put_bytes(const uint8_t *bytes, size_t length)
     }
 }
 
+/* What ends an answer: a run of bytes. */
+static void put_rest(run r)
+{
+    putchar(' ');
+    put_bytes(r.bytes, r.length);
+    putchar('\n');
+}
+
 /* ---- the device ---- */
 
 /* Puts a copy of a run in the place of another, which is freed. */
@@ -206,9 +214,7 @@ static void put_event(const device *d, kelindap_reply reply, const uint8_t *buff
         printf("%d %d ", d->sessions.of[c].open, d->sessions.of[c].level);
     printf("%d ", reply.count);
     put_bytes(buffer, length);
-    putchar(' ');
-    put_bytes(d->sheet.bytes, d->sheet.length);
-    putchar('\n');
+    put_rest(d->sheet);
 }
 
 static bool do_sheet(device *d, char **words, size_t count)
@@ -219,10 +225,20 @@ static bool do_sheet(device *d, char **words, size_t count)
         return false;
     set_run(&d->sheet, sheet);
     uint8_t rule = kelindap_check(d->sheet.bytes, d->sheet.length);
-    if (rule == 0)
+    if (rule == KELINDAP_ACCEPTED)
         puts("OK");
+    else if (rule == KELINDAP_OLD)
+        puts("OLD");
     else
         printf("S%d\n", rule);
+    return true;
+}
+
+static bool do_convert(device *d, char **words, size_t count)
+{
+    (void)words, (void)count;
+    printf("%d", kelindap_convert(d->sheet.bytes, d->sheet.length));
+    put_rest(d->sheet);
     return true;
 }
 
@@ -762,6 +778,7 @@ static const struct command {
     bool (*obey)(device *d, char **words, size_t count);
 } commands[] = {
     { "sheet", "sheet HEX", 1, 1, do_sheet },
+    { "convert", "convert", 0, 0, do_convert },
     { "session", "session C OPEN LEVEL", 3, 3, do_session },
     { "connect", "connect C", 1, 1, do_connect },
     { "disconnect", "disconnect C", 1, 1, do_disconnect },

@@ -15,13 +15,6 @@ static bool take_version(const char *word, size_t *version)
     return true;
 }
 
-static void put_rest(run r)
-{
-    putchar(' ');
-    put_bytes(r.bytes, r.length);
-    putchar('\n');
-}
-
 static bool do_store(device *d, char **words, size_t count)
 {
     run store;

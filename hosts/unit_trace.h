@@ -45,9 +45,7 @@ static bool do_play(device *d, char **words, size_t count)
         put_log_line(log + i * KELINDAP_LOG_LINE);
     for (size_t c = 0; c < KELINDAP_CONNECTIONS; c++)
         printf(" %d %d", d->sessions.of[c].open, d->sessions.of[c].level);
-    putchar(' ');
-    put_bytes(d->sheet.bytes, d->sheet.length);
-    putchar('\n');
+    put_rest(d->sheet);
     return true;
 }
 

@@ -13,6 +13,9 @@
  * The host's duties, which no proof covers:
  *  - it begins with the sessions from kelindap_fresh and a sheet that kelindap_check accepts. No request on another sheet does
  *    anything, so a host that skips the check has a device that is silent;
+ *  - a sheet of edition 1 is old: outcome 14 where a bad one gets 4. The host, or whoever keeps the sheet, converts it once with
+ *    kelindap_convert and saves it before the first request; no event and no tool on the bus does. Versions and traces that were
+ *    made with the old sheet stay good for the converted one;
  *  - the buffers of one call do not overlap, and stay lent until the call returns;
  *  - nothing else writes the sheet between calls: the promises about a history hold only then;
  *  - a bool is 0 or 1, and a pointer has as many readable (for answer and sheet, writable) bytes as its length says;
@@ -117,7 +120,8 @@ kelindap_sessions kelindap_fresh(void);
 uint8_t kelindap_connect(kelindap_sessions *sessions, uint8_t connection);
 uint8_t kelindap_disconnect(kelindap_sessions *sessions, uint8_t connection);
 
-/* The programming button: 4 and nothing changed if the sheet is not accepted, else 1. */
+/* The programming button: 4 if the sheet breaks a rule, 14 if it is old, and then nothing has changed; else 1, and no byte but
+   byte 14 is another. */
 uint8_t kelindap_button(uint8_t *sheet, size_t sheet_length, bool on);
 
 /*
@@ -130,8 +134,8 @@ kelindap_reply kelindap_request(kelindap_sessions *sessions, uint8_t mode, uint8
                                 uint8_t *answer, size_t answer_length);
 
 /*
- * 0 if the sheet is accepted, else the number of the first rule it breaks, S1 to S9. docs/SHEET.md has the layout of a sheet
- * and the rules in full; in short, a sheet breaks
+ * 0 if the sheet is accepted; else the number of the first rule it breaks, S1 to S9, or, if it breaks none but is of edition 1,
+ * 14 (KELINDAP_OLD). docs/SHEET.md has the layout of a sheet and the rules in full; in short, a sheet breaks
  *  1  if its length is not 32 to 16,384 bytes;
  *  2  if its edition is not 1 or 2;
  *  3  if it has more than 16 regions, 64 properties, 64 group objects or, in edition 2, 16 user regions;
@@ -145,6 +149,12 @@ kelindap_reply kelindap_request(kelindap_sessions *sessions, uint8_t mode, uint8
  *  9  by the bodies: a gap or an overlap between contents, bodies and the end of the sheet, a six-bit value above 63.
  */
 uint8_t kelindap_check(const uint8_t *sheet, size_t sheet_length);
+
+/*
+ * Converts an old sheet, one that gets 14 from the check: 1, and it is of edition 2, accepted, of the same length, with no user
+ * region and rules 0; byte 0 alone has changed. Any other sheet, an accepted one too, gets 4 and stays as found.
+ */
+uint8_t kelindap_convert(uint8_t *sheet, size_t sheet_length);
 
 /* Where a body stands in the sheet: that of a property, of region k (the first is 0), of a group object, of user region k. */
 kelindap_part kelindap_property(const uint8_t *sheet, size_t sheet_length, uint8_t object, uint8_t id);

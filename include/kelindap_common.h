@@ -24,7 +24,7 @@ enum kelindap_outcome {
     KELINDAP_DONE = 1,           /* carried out, no answer is due */
     KELINDAP_NOT_FOR_US = 2,     /* not for this device: see kelindap.h */
     KELINDAP_NO_ROOM = 3,        /* the buffer to be filled has under 16 bytes */
-    KELINDAP_BAD_SHEET = 4,      /* the sheet is not accepted */
+    KELINDAP_BAD_SHEET = 4,      /* the sheet breaks a rule */
     KELINDAP_BAD_LENGTH = 5,     /* the APDU has not 2 to 16 bytes */
     KELINDAP_BAD_MODE = 6,       /* the mode is not 0 to 3 */
     KELINDAP_NOT_CONNECTED = 7,  /* the connection is closed, or there is none of that number */
@@ -35,6 +35,7 @@ enum kelindap_outcome {
     KELINDAP_DENIED = 11,        /* denied, the negative answer is in the buffer */
     KELINDAP_DENIED_SILENT = 12, /* denied, no answer is due */
     KELINDAP_UNWRITABLE = 13,    /* PDU writing only: an unknown kind, or against its row */
+    KELINDAP_OLD_SHEET = 14,     /* tested right after 4: the sheet breaks no rule, but is of edition 1 */
 
     /* group values only (kelindap_pdu.h) */
     KELINDAP_POINT_LENGTH = 20,     /* not as many bytes as the type has */
@@ -53,7 +54,10 @@ enum kelindap_outcome {
     KELINDAP_FRAME_UNWRITABLE = 47 /* writing: a field that no frame that reads can have */
 };
 
-/* The rules of a sheet, S1 to S9, by number; kelindap.h tells what breaks each, kelindap_names.h has them as text. */
+/*
+ * What the check of a sheet gives: accepted, the first rule broken, S1 to S9, or old. kelindap.h tells what breaks each rule,
+ * kelindap_names.h has them as text.
+ */
 enum kelindap_rule {
     KELINDAP_ACCEPTED = 0,
     KELINDAP_S1 = 1,
@@ -64,7 +68,8 @@ enum kelindap_rule {
     KELINDAP_S6 = 6,
     KELINDAP_S7 = 7,
     KELINDAP_S8 = 8,
-    KELINDAP_S9 = 9
+    KELINDAP_S9 = 9,
+    KELINDAP_OLD = 14 /* breaks no rule, but is of edition 1: kelindap_convert makes an accepted sheet of it */
 };
 
 /* A record of which every field is 0: `kelindap_pdu p = KELINDAP_ZERO;` is without a warning in C and in C++. */

@@ -17,7 +17,7 @@
     X(1, DONE, "carried out")                                     \
     X(2, NOT_FOR_US, "not for this device")                       \
     X(3, NO_ROOM, "the answer buffer is too short")               \
-    X(4, BAD_SHEET, "the sheet is not accepted")                  \
+    X(4, BAD_SHEET, "the sheet breaks a rule")                    \
     X(5, BAD_LENGTH, "the length is wrong")                       \
     X(6, BAD_MODE, "unknown mode")                                \
     X(7, NOT_CONNECTED, "not connected")                          \
@@ -27,6 +27,7 @@
     X(11, DENIED, "refused")                                      \
     X(12, DENIED_SILENT, "refused")                               \
     X(13, UNWRITABLE, "no PDU that can be written")               \
+    X(14, OLD_SHEET, "the sheet is old: convert it")              \
     X(20, POINT_LENGTH, "not as many bytes as the type has")      \
     X(21, POINT_SWITCH, "a switch above 1")                       \
     X(22, POINT_INVALID, "the code 7FFFh, which is no value")     \
@@ -66,7 +67,7 @@
     X(58, TRACE_LEFT_OVER, "bytes behind the last APDU")        \
     X(59, TRACE_LOG, "the log is too short")
 
-/* Each rule of a sheet by number, with its name in enum kelindap_rule and what breaks it. */
+/* Each rule of a sheet by number, with its name in enum kelindap_rule and what breaks it; 0 and 14 have their words below. */
 #define KELINDAP_RULES(X)                                                  \
     X(1, S1, "not 32 to 16,384 bytes")                                     \
     X(2, S2, "an edition other than 1 and 2")                              \
@@ -130,6 +131,8 @@ static inline const char *kelindap_rule_name(uint8_t rule)
         KELINDAP_RULES(KELINDAP_CASE)
     case KELINDAP_ACCEPTED:
         return "accepted";
+    case KELINDAP_OLD:
+        return "old: convert it";
     default:
         return "no rule";
     }

@@ -38,7 +38,8 @@ enum {
 };
 
 /*
- * The outcomes of these calls beside KELINDAP_OK, KELINDAP_DONE and KELINDAP_BAD_SHEET. Each is a refusal, and changes nothing.
+ * The outcomes of these calls beside KELINDAP_OK, KELINDAP_DONE, KELINDAP_BAD_SHEET and KELINDAP_OLD_SHEET. Each is a refusal,
+ * and changes nothing.
  */
 enum kelindap_store_outcome {
     KELINDAP_STORE_BAD = 30,         /* the store is not a good one */
@@ -61,12 +62,13 @@ typedef struct kelindap_saved {
 uint8_t kelindap_store_check(const uint8_t *store, size_t store_length);
 
 /*
- * The sheet's properties kept as a version of the next number: 4, 30, 31, 32, 33, tested in this order, or 0. The sheet stays.
+ * The sheet's properties kept as a version of the next number: 4, 14, 30, 31, 32, 33, tested in this order, or 0. The sheet
+ * stays.
  */
 kelindap_saved kelindap_save(const uint8_t *sheet, size_t sheet_length, uint8_t *store, size_t store_length);
 
 /*
- * The version with a number given back, on behalf of a connection: 4, 30, 34, 35, 36, 37, tested in this order, or 1; then
+ * The version with a number given back, on behalf of a connection: 4, 14, 30, 34, 35, 36, 37, tested in this order, or 1; then
  * counts and bodies of all properties are the version's, and no other byte of the sheet has changed. Sessions and store stay. A
  * number above 65,535 is kept by nobody, and a connection other than 0 and 1 is not open. The sessions are handed over as they
  * are, by value.

@@ -74,6 +74,11 @@ static inline enum kelindap_rule kelindap_unit_check(const kelindap_unit *unit)
     return (enum kelindap_rule)kelindap_check(unit->sheet, unit->length);
 }
 
+static inline enum kelindap_outcome kelindap_unit_convert(kelindap_unit *unit)
+{
+    return (enum kelindap_outcome)kelindap_convert(unit->sheet, unit->length);
+}
+
 static inline enum kelindap_outcome kelindap_unit_connect(kelindap_unit *unit, enum kelindap_connection connection)
 {
     return (enum kelindap_outcome)kelindap_connect(&unit->sessions, (uint8_t)connection);

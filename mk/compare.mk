@@ -12,6 +12,7 @@ compare: $(BUILD)/bridge
 	$(COMPARE) $(BUILD)/bridge --faults $(SEED)
 	$(COMPARE) $(BUILD)/bridge --apart $$(($(EVENTS) / 10)) $(SEED)
 	$(COMPARE) $(BUILD)/bridge --learn $$(($(EVENTS) / 10)) $(SEED)
+	$(COMPARE) $(BUILD)/bridge --before $$(($(EVENTS) / 10)) $(SEED)
 
 $(BUILD)/bridge: tests/compare/bridge.c mk/compare.mk $(LINKED) | need-gcc
 	mkdir -p $(BUILD)

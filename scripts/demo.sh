@@ -30,7 +30,8 @@ while read -r new; do
     fi
     echo .
     old=$new
-done < <(awk '{ print ($1 ~ /^(request|connect|disconnect|button|restore)$/ ? $NF : "") }' "$work/both") > "$work/changes"
+done < <(awk '{ print ($1 == "sheet" ? $2 : $1 ~ /^(request|connect|disconnect|button|restore|convert)$/ ? $NF : "") }' "$work/both") \
+    > "$work/changes"
 
 # the outcomes by number, in words
 sed -n '/define KELINDAP_.*OUTCOMES/,/^$/s/.*X(\([0-9]*\), .*"\(.*\)").*/\1 \2/p' "${0%/*}/../include/kelindap_names.h" > "$work/words"
@@ -56,17 +57,18 @@ awk -v answers="$work/answers" -v fields="$work/fields" -v changes="$work/change
         } else if ($1 == "save") {
             ask($0)
             answer(now[1] == 0 ? "version " now[2] : "nothing", now[1])
+        } else if ($1 == "sheet") {
+            ask("a sheet of " length($2) / 2 " bytes")
+            print "   < " (now[1] == "OK" ? "accepted" : now[1] == "OLD" ? "old: convert it" : "not accepted: " now[1])
+        } else if ($1 == "convert") {
+            ask($0)
+            answer(now[1] == 1 ? "done" : "nothing", now[1])
         } else if ($1 == "restore" || $1 == "remove") {
             ask($1 " version " $NF ($1 == "restore" ? ", on connection " $2 : ""))
             answer(now[1] == 1 ? "done" : "nothing", now[1])
         }
-        if ($1 ~ /^(point|store|save|restore|remove)$/) {
+        if ($1 ~ /^(point|store|save|restore|remove|sheet|convert)$/) {
             while ((getline line < changes) > 0 && line != ".") change(line)
-            next
-        }
-        if ($1 == "sheet") {
-            ask("a sheet of " length($2) / 2 " bytes")
-            getline line < changes
             next
         }
         if ($1 == "request") {

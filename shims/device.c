@@ -36,6 +36,7 @@ CALL(byte, button, WRITE(sheet), NUMBER(bool, on))
 CALL(kelindap_reply, request, AT(kelindap_sessions, sessions), NUMBER(uint8_t, mode), NUMBER(uint8_t, connection),
      NUMBER(uint16_t, group), READ(apdu), WRITE(sheet), WRITE(answer))
 CALL(byte, check, READ(sheet))
+CALL(byte, convert, WRITE(sheet))
 CALL(kelindap_part, property, READ(sheet), NUMBER(uint8_t, object), NUMBER(uint8_t, id))
 CALL(kelindap_part, region, READ(sheet), SIZE(k))
 CALL(kelindap_part, group, READ(sheet), NUMBER(uint16_t, address))

@@ -1,6 +1,6 @@
 #!/usr/bin/env bash
-# tests/examples.sh HOST HEIGHT SHEET: the example host and tool at work, two tools at once, one that reads nothing, versions of the
-# settings, and the host killed 200 times during writes: what it saved is then an accepted sheet each time, with the height that was answered
+# tests/examples.sh HOST HEIGHT SHEET: the example host and tool at work, an old sheet, two tools at once, one that reads nothing, versions
+# of the settings, and the host killed 200 times during writes: what it saved is then an accepted sheet each time, with the height that was answered
 # last or the one after it; and as often while versions are saved and removed: the store is then a good one, as it was after
 # what was answered last or after the next.
 set -euo pipefail
@@ -18,10 +18,10 @@ wrong() { echo "examples: $*"; exit 1; }
 # starts the host, and waits until it is ready
 start() {
     local line=
-    exec 6< <(exec "$host" sheet bus)
+    exec 6< <(exec "$host" sheet bus 2> complaints)
     pid=$!
     read -r -t 60 line <&6 || true
-    [ "$line" = ready ] || wrong "the host does not start"
+    [ "$line" = ready ] || wrong "the host does not start: $(cat complaints)"
 }
 
 # ends it as a power cut would, and waits for its end
@@ -49,6 +49,21 @@ grep -o '0x..' "$inc" | sed 's/0x/\\x/' | paste -sd '' > list
 printf '%b' "$(cat list)" > sheet
 cp sheet first
 "$sheet" check sheet > /dev/null || wrong "the sample sheet is not accepted"
+
+# an old sheet is converted at the first start, and whoever runs the host is told; what is bad is refused
+{ printf '\x01' && tail -c +2 first; } > sheet
+[ "$("$sheet" check sheet || true)" = "old: convert it" ] || wrong "the sample of edition 1 is not old"
+start
+expect read "1000 0"
+stop
+cmp -s sheet first || wrong "an old sheet was not converted, or more was changed"
+grep -q '^host: sheet was of edition 1: it is converted' complaints || wrong "nobody is told that a sheet was converted"
+start
+stop
+[ ! -s complaints ] || wrong "the converted sheet: $(cat complaints)"
+{ printf '\x01' && tail -c +2 first | head -c 67; } > bad
+! "$host" bad bus2 2> complaints || wrong "a bad sheet is served"
+grep -q '^host: bad breaks S4' complaints || wrong "a bad sheet: $(cat complaints)"
 
 start
 expect read "1000 0"

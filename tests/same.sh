@@ -18,16 +18,24 @@ sheet_of() { grep -o '0x..' "hosts/$1.inc" | sed 's/0x//' | digits; }
 shown_below() { sed -n "/^## $1/,/^## /p" docs/SHEET.md | awk -F '|' 'NF == 5 && /^\| [0-9]/ { print $3 }' | grep -o '`[^`]*`' | digits; }
 sample=$(sheet_of sample_sheet) pump=$(sheet_of pump_sheet)
 [ ${#sample} = 138 ] || { echo "same: the sample sheet has not 69 bytes"; bad=1; }
-[ ${#pump} = 202 ] || { echo "same: the sheet of edition 2 has not 101 bytes"; bad=1; }
+[ ${#pump} = 202 ] || { echo "same: the sheet with user memory has not 101 bytes"; bad=1; }
 defined=crates/sheet/specs/Sample.antt marked=crates/device/specs/Marked.antt
 same "$defined" "$sample" "$(sed -n '/^sample =/,/\[\]$/p' $defined | grep -o '0x..' | sed 's/0x//' | digits)"
+# the first line of a file that begins so and goes on with the first six bytes of a sheet
+line_with() { # FILE BEGINNING SHEET
+    awk -v begin="$2" -v head="${3:0:12}" 'index($0, begin) == 1 {
+        text = tolower(substr($0, length(begin) + 1)); gsub(/[ +]/, "", text)
+        if (index(text, head) == 1) { print text; exit }
+    }' "$1"
+}
 for sheet in "$sample" "$pump"; do
-    edition=${sheet:0:2}
-    same crates/device_cases/stdin "$sheet" "$(grep -m 1 "^sheet $edition" crates/device_cases/stdin | sed 's/^sheet//' | digits)"
-    same crates/sheet_cases/stdin "$sheet" "$(grep -m 1 "^base new +$edition" crates/sheet_cases/stdin | grep -o '+[0-9A-Fa-f]*' | digits)"
+    for place in "device_cases sheet" "sheet_cases base new"; do
+        copy=crates/${place%% *}/stdin
+        same "$copy" "$sheet" "$(line_with "$copy" "${place#* } " "$sheet" | digits)"
+    done
 done
 same docs/SHEET.md "$sample" "$(shown_below 'The sample sheet')"
-same docs/SHEET.md "$pump" "$(shown_below 'A sheet of edition 2')"
+same docs/SHEET.md "$pump" "$(shown_below 'A sheet with user memory')"
 worked=$(sed -n '/^trace =/,/\[\]$/p' crates/playback/proofs/Example.antt | grep -o '0x..' | sed 's/0x//' | digits)
 same docs/TRACE.md "$worked" "$(sed -n '/^## A worked trace/,/^On the sample/p' docs/TRACE.md | awk -F '|' 'NF == 5 && /^\| [0-9]/ { print $3 }' | grep -o '`[^`]*`' | digits)"
 
@@ -99,4 +107,4 @@ version=$(sed -n 's/.*KELINDAP_VERSION_TEXT "\(.*\)"/\1/p' include/kelindap_comm
 same CHANGELOG.md "$version" "$(sed -n 's/^## \([0-9].*\)/\1/p' CHANGELOG.md | head -n 1)"
 [ -e LICENSE ] || [ -e LICENCE ] || grep -q '^No licence is given yet' README.md || { echo "same: README says nothing of a licence"; bad=1; }
 [ "$bad" = 0 ]
-echo "same: the sample sheet in 4 places, that of edition 2 in 3, the marked cases in 2"
+echo "same: the sample sheet in 4 places, that with user memory in 3, the marked cases in 2"

@@ -60,20 +60,24 @@ cd "$room" || exit 1
 hex "$sample" > sample
 hex "$pump" > pump
 : > empty
-{ hex 01000000 0020 && zeros 26; } > least
-{ hex 01010000 4000 && zeros 26 && hex 0000 3FD8 0028 00 00 && zeros 16344; } > most
+{ hex 02000000 0020 && zeros 26; } > least
+{ hex 02010000 4000 && zeros 26 && hex 0000 3FD8 0028 00 00 && zeros 16344; } > most
 
 sheet 'the sample' sample OK
-sheet 'edition 2, both memories' pump OK
+sheet 'both memories' pump OK
+hex "01${sample:2}" > old
+sheet 'the sample of edition 1' old OLD
+{ hex 01 && tail -c +2 least; } > piece
+sheet '32 bytes, edition 1' piece OLD
 hex "${pump:0:30}11${pump:32}" > piece
 sheet '17 user regions' piece S3
 hex "01${pump:2}" > piece
 sheet 'user regions in edition 1' piece S5
 hex "${pump:0:60}01${pump:62}" > piece
-sheet 'edition 2, rules 1' piece OK
+sheet 'rules 1' piece OK
 hex "${pump:0:60}02${pump:62}" > piece
-sheet 'edition 2, rules 2' piece S5
-hex "${sample:0:60}01${sample:62}" > piece
+sheet 'rules 2' piece S5
+hex "01${sample:2:58}01${sample:62}" > piece
 sheet 'edition 1, rules 1' piece S5
 sheet 'no bytes' empty S1
 sheet '/dev/null' /dev/null S1
@@ -93,8 +97,8 @@ sheet 'the sample less a byte' piece S4
 head -c 16383 most > piece
 sheet '16,383 bytes' piece S4
 sheet '16,384 bytes, accepted' most OK
-{ hex 02 && tail -c +2 most; } > piece
-sheet '16,384 bytes, edition 2' piece OK
+{ hex 01 && tail -c +2 most; } > piece
+sheet '16,384 bytes, edition 1' piece OLD
 { hex 03 && tail -c +2 most; } > piece
 sheet '16,384 bytes, edition 3' piece S2
 { cat most && zeros 1; } > over
@@ -103,6 +107,7 @@ sheet '16,385 bytes' over S1
 sheet '116,384 bytes' piece S1
 
 slow 'the sample' sample 10 OK
+slow 'the sample of edition 1' old 10 OLD
 slow '32 bytes, accepted' least 31 OK
 slow '16,384 bytes' most 4095 OK
 slow '16,385 bytes' over 8192 S1

@@ -13,7 +13,7 @@ fail() { echo "shims: $processor: $1"; exit 1; }
 
 # what is played, as NAME.in and NAME.out
 mkdir "$work/play"
-cp tests/unit/{events,fields,lookups,points,ranges,read,tools,traces,user_memory,versions}.{in,out} "$work/play"
+cp tests/unit/{events,fields,lookups,old,points,ranges,read,tools,traces,user_memory,versions}.{in,out} "$work/play"
 grep -v '^#' tests/vectors/frame.tsv | cut -f 2 > "$work/play/frames.in"
 grep -v '^#' tests/vectors/frame.tsv | cut -f 3 > "$work/play/frames.out"
 

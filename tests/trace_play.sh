@@ -64,6 +64,7 @@ told() {
 
 sheet=$(grep -o '0x..' hosts/pump_sheet.inc | sed 's/0x//' | paste -sd '' | tr A-F a-f)
 sheet=${sheet:0:28}00${sheet:30} # verify is off, so that writes of memory without answer are seen
+sample=$(grep -o '0x..' hosts/sample_sheet.inc | sed 's/0x//' | paste -sd '' | tr A-F a-f)
 trace=$(trace_of < $stored/stdout)
 bytes "$sheet$trace" > "$room/made"
 if cmp -s "$room/made" $stored/stdin; then
@@ -79,6 +80,8 @@ told "nothing" "" 1 "sheet refused: S1"
 told "five bytes" "0201010100" 1 "sheet refused: S1"
 told "no trace" "$sheet" 1 "trace refused: 50"
 told "a sheet of another edition" "03${sheet:2}$trace" 1 "sheet refused: S2"
+told "an old sheet" "01${sample:2}$trace" 1 "sheet refused: OLD"
+told "a sheet of edition 1 with user regions" "01${sheet:2}$trace" 1 "sheet refused: S5"
 told "a sheet that states one byte too many" "${sheet:0:8}0066${sheet:12}$trace" 1 "sheet refused: S9"
 told "a sheet that the input ends in" "${sheet:0:100}" 1 "sheet refused: S4"
 told "one byte" "${sheet}00" 1 "trace refused: 50"

@@ -26,6 +26,7 @@ VERSION = "0.2.0"
 MULTICAST, BROADCAST, CONNECTIONLESS, CONNECTED = range(4)
 CONNECTIONS = 2
 NO_KIND = 255
+OLD = 14  # what the check gives a sheet of edition 1 that breaks no rule
 
 # ---- structures and calls, as the headers have them; a call is one line ----
 
@@ -93,6 +94,7 @@ _CALLS = {
     "button": (c_uint8, _RUN + [c_bool]),
     "request": (_Reply, _SESSIONS + [c_uint8, c_uint8, c_uint16] + 3 * _RUN),
     "check": (c_uint8, _RUN),
+    "convert": (c_uint8, _RUN),
     "property": (_Part, _RUN + [c_uint8, c_uint8]),
     "region": (_Part, _RUN + [c_size_t]),
     "group": (_Part, _RUN + [c_uint16]),
@@ -167,8 +169,13 @@ def _size(number):
 
 
 def check(sheet):
-    """0 if the sheet is accepted, else the number of the first rule that it breaks."""
+    """0 if the sheet is accepted; else the number of the first rule that it breaks, or OLD."""
     return _call.check(*_lent(sheet))
+
+
+def convert(sheet):
+    """Makes an old sheet, a bytearray, one of edition 2, and gives 1; any other stays as it is: 4."""
+    return _call.convert(*_lent(sheet))
 
 
 def store_check(store):

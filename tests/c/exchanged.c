@@ -12,6 +12,7 @@ void played(uint8_t *sheet, size_t length, const uint8_t *apdu, size_t count)
     uint16_t group = 0x0801;
     (void)mode, (void)group, (void)apdu, (void)count;
 #if !defined WRONG
+    kelindap_unit_convert(&unit);
     kelindap_unit_connect(&unit, KELINDAP_SECOND);
     kelindap_unit_disconnect(&unit, KELINDAP_FIRST);
     kelindap_unit_button(&unit, true);
@@ -42,6 +43,9 @@ void played(uint8_t *sheet, size_t length, const uint8_t *apdu, size_t count)
 #elif WRONG == 12 /* a rule as an outcome */
     enum kelindap_outcome outcome = kelindap_unit_check(&unit);
     (void)outcome;
+#elif WRONG == 13 /* an outcome as a rule */
+    enum kelindap_rule rule = kelindap_unit_convert(&unit);
+    (void)rule;
 #else
 #error "no case of this number"
 #endif

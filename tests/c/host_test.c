@@ -1,7 +1,7 @@
 /*
  * A host in C that trusts the device's library with nothing: the marked cases, all lengths and modes, damaged sheets of
- * both editions, two connections and numbers that are none's, lookups, ranges over two regions, long runs; each request is
- * held to what is promised of any, and no byte beside its buffers is touched.
+ * both editions, old ones and their conversion, two connections and numbers that are none's, lookups, ranges over two regions,
+ * long runs; each request is held to what is promised of any, and no byte beside its buffers is touched.
  */
 #define _DEFAULT_SOURCE
 #include "kelindap.h"
@@ -49,18 +49,24 @@ static uint8_t check_at(enum place place, run sheet)
     uint8_t rule = kelindap_check(b.bytes, b.length);
     calls++;
     take_back_same(&b, sheet.bytes, "sheet");
-    expect(rule <= 9, "check gave %d", rule);
-    expect(strcmp(kelindap_rule_name(rule), "no rule") != 0, "S%d has no words", rule);
+    expect(rule <= KELINDAP_S9 || rule == KELINDAP_OLD, "check gave %d", rule);
+    expect(strcmp(kelindap_rule_name(rule), "no rule") != 0, "verdict %d has no words", rule);
     return rule;
 }
 
-/* The first of the outcomes 3 to 7 that is due, or 0. */
+/* What is due on a sheet by the verdict of its check: 4, 14, or the third. */
+static int sheet_outcome(uint8_t rule, int on_accepted)
+{
+    return rule == KELINDAP_ACCEPTED ? on_accepted : rule == KELINDAP_OLD ? KELINDAP_OLD_SHEET : KELINDAP_BAD_SHEET;
+}
+
+/* The first of the outcomes 3, 4, 14, 5, 6, 7 that is due, or 0. */
 static int early_outcome(const event *e, uint8_t rule)
 {
     if (e->room < 16)
         return KELINDAP_NO_ROOM;
-    if (rule != 0)
-        return KELINDAP_BAD_SHEET;
+    if (rule != KELINDAP_ACCEPTED)
+        return sheet_outcome(rule, 0);
     if (e->apdu.length < 2 || 16 < e->apdu.length)
         return KELINDAP_BAD_LENGTH;
     if (e->mode > 3)
@@ -106,11 +112,11 @@ static void hold_to_promises(const event *e, const effect *f)
     bool answered = outcome == KELINDAP_ANSWERED || outcome == KELINDAP_DENIED;
     bool carried_out = outcome == KELINDAP_ANSWERED || outcome == KELINDAP_DONE;
     int early = early_outcome(e, kelindap_check(e->sheet.bytes, e->sheet.length));
-    expect(outcome <= KELINDAP_DENIED_SILENT, "a request gave %d", outcome);
     if (early != 0)
         expect(outcome == early, "a request gave %d, %d was due", outcome, early);
     else
-        expect(outcome < KELINDAP_NO_ROOM || KELINDAP_NOT_CONNECTED < outcome, "a request gave %d too soon", outcome);
+        expect(outcome < KELINDAP_NO_ROOM || (KELINDAP_NOT_CONNECTED < outcome && outcome <= KELINDAP_DENIED_SILENT),
+               "a request gave %d", outcome);
     expect(answered ? 2 <= count && count <= 16 : count == 0, "outcome %d came with %d bytes", outcome, (int)count);
     expect(count > e->room || memcmp(f->answer + count, as_found + count, e->room - count) == 0,
            "outcome %d: the answer buffer changed after byte %d", outcome, (int)count);
@@ -157,7 +163,11 @@ static const uint8_t sample[69] = {
 };
 static const run sample_sheet = { sample, sizeof sample };
 
-/* Edition 2: both memories. */
+/* The same as it was in edition 1. */
+static uint8_t old[sizeof sample];
+static const run old_sheet = { old, sizeof old };
+
+/* Both memories. */
 static const uint8_t pump[101] = {
 #include "../../hosts/pump_sheet.inc"
 };
@@ -167,10 +177,12 @@ static const run pump_sheet = { pump, sizeof pump };
 static uint8_t later[sizeof pump];
 static const run later_sheet = { later, sizeof later };
 
-static void build_later_sheet(void)
+static void build_other_sheets(void)
 {
     memcpy(later, pump, sizeof later);
     later[30] = 1;
+    memcpy(old, sample, sizeof old);
+    old[0] = 1;
 }
 
 static void put_word(uint8_t *at, size_t value)
@@ -531,7 +543,7 @@ static void test_codes_and_types(uint8_t rules)
     }
 }
 
-/* Byte 30 by edition: 0, and in edition 2 also 1. */
+/* Byte 30 by edition: 0, which is old in edition 1, and in edition 2 also 1. */
 static void test_rules_byte(void)
 {
     static uint8_t sheet[sizeof sample];
@@ -540,7 +552,8 @@ static void test_rules_byte(void)
         for (int rules = 0; rules < 256; rules++) {
             sheet[0] = (uint8_t)edition;
             sheet[30] = (uint8_t)rules;
-            uint8_t due = rules == 0 || (rules == 1 && edition == 2) ? 0 : 5;
+            bool known = rules == 0 || (rules == 1 && edition == 2);
+            uint8_t due = !known ? KELINDAP_S5 : edition == 1 ? KELINDAP_OLD : KELINDAP_ACCEPTED;
             expect(check_at(EXACT, (run){ sheet, sizeof sheet }) == due, "edition %d with rules %d", edition, rules);
         }
 }
@@ -557,17 +570,37 @@ static void press(enum place place, run sheet, bool on, uint8_t rule)
     if (rule == 0)
         due[14] = (uint8_t)((due[14] & ~1) | on);
     take_back(&b, now, "sheet");
-    expect(outcome == (rule == 0 ? KELINDAP_DONE : KELINDAP_BAD_SHEET), "the button gave %d under rule %d", outcome, rule);
+    expect(outcome == sheet_outcome(rule, KELINDAP_DONE), "the button gave %d under verdict %d", outcome, rule);
     expect(memcmp(now, due, sheet.length) == 0, "the button left another sheet");
 }
 
-/* Every call on a sheet that may be bad: they agree on whether it is, and a bad one is left alone. */
+/* A conversion makes byte 0 of an old sheet 2, and the sheet is accepted then; it touches nothing else, and no other sheet. */
+static void convert(enum place place, run sheet, uint8_t rule)
+{
+    static uint8_t due[MOST_SHEET + 1], now[MOST_SHEET + 1];
+    lent b = lend(SHEET, place, sheet.bytes, sheet.length);
+    uint8_t outcome = kelindap_convert(b.bytes, b.length);
+    calls++;
+    if (sheet.length > 0)
+        memcpy(due, sheet.bytes, sheet.length);
+    if (rule == KELINDAP_OLD)
+        due[0] = 2;
+    take_back(&b, now, "sheet");
+    expect(outcome == (rule == KELINDAP_OLD ? KELINDAP_DONE : KELINDAP_BAD_SHEET), "a conversion gave %d under verdict %d", outcome,
+           rule);
+    expect(memcmp(now, due, sheet.length) == 0, "a conversion under verdict %d left another sheet", rule);
+    if (rule == KELINDAP_OLD)
+        expect(kelindap_check(now, sheet.length) == KELINDAP_ACCEPTED, "a converted sheet is not accepted");
+}
+
+/* Every call on a sheet that may be bad or old: they agree on whether it is, and such a one is left alone, but for a conversion. */
 static void try_sheet(enum place place, run sheet)
 {
     static const uint8_t apdu[6] = { 0x03, 0xD5, 0x01, 0x33, 0x10, 0x01 };
     uint8_t rule = check_at(place, sheet);
     press(place, sheet, true, rule);
     press(place, sheet, false, rule);
+    convert(place, sheet, rule);
     try_at(place, &(event){ with(0, (kelindap_session){ true, 0 }), 2, 0, 0, { apdu, sizeof apdu }, sheet, 16 });
     if (rule == 0)
         return;
@@ -575,6 +608,30 @@ static void try_sheet(enum place place, run sheet)
     look_up(place, sheet, (question){ BY_REGION, 0, 0 }, none);
     look_up(place, sheet, (question){ BY_GROUP, 0x801, 0 }, none);
     look_up(place, sheet, (question){ BY_USER, 0, 0 }, none);
+}
+
+/* On an old sheet every service in every mode gets 14, or 3, whatever else is wrong with it; converted, the sheet is the sample. */
+static void test_old(void)
+{
+    static uint8_t converted[sizeof old];
+    for (size_t i = 0; i < SERVICES; i++) {
+        uint8_t apdu[20] = { 0 };
+        unhex(services[i].apdu, apdu);
+        for (size_t length = 0; length <= 20; length++)
+            for (uint8_t mode = 0; mode < 5; mode++) {
+                size_t room = length % 5 == 0 ? 15 : 16 + length % 5;
+                event e = { with(mode % 2, (kelindap_session){ true, 0 }), mode, numbers[length % NUMBERS], 0x801, { apdu, length },
+                            old_sheet, room };
+                int due = room < 16 ? KELINDAP_NO_ROOM : KELINDAP_OLD_SHEET;
+                expect(try_everywhere(&e)->reply.outcome == due, "an old sheet, mode %d, %d bytes", mode, (int)length);
+            }
+    }
+    memcpy(converted, old, sizeof old);
+    expect(kelindap_check(converted, sizeof converted) == KELINDAP_OLD, "the sample of edition 1 is not old");
+    expect(kelindap_convert(converted, sizeof converted) == KELINDAP_DONE, "it is not converted");
+    expect(memcmp(converted, sample, sizeof sample) == 0, "converted it is not the sample");
+    expect(kelindap_convert(converted, sizeof converted) == KELINDAP_BAD_SHEET, "it is converted twice");
+    calls += 4;
 }
 
 static void test_damaged(run good)
@@ -669,7 +726,7 @@ static size_t any_apdu(uint8_t apdu[20])
 static void test_long_run(void)
 {
     static uint8_t sheet[MOST_SHEET], apdu[20];
-    unsigned long seen[14] = { 0 };
+    unsigned long seen[16] = { 0 };
     kelindap_sessions sessions = kelindap_fresh();
     memcpy(sheet, full, full_length);
     for (int i = 0; i < 30000; i++) {
@@ -683,7 +740,7 @@ static void test_long_run(void)
         event e = { sessions, (uint8_t)any(4), (uint8_t)any(2), (uint16_t)group_address(any(GROUPS)),
                     { apdu, any_apdu(apdu) }, { sheet, full_length }, 16 + any(5) };
         const effect *f = try_at((enum place)(i % PLACES), &e);
-        seen[f->reply.outcome % 14]++;
+        seen[f->reply.outcome % 16]++;
         sessions = f->sessions;
         memcpy(sheet, f->sheet, full_length);
         if (i % 100 == 0)
@@ -841,7 +898,8 @@ static void test_nothing(void)
     try_sheet(EXACT, nothing);
     expect(kelindap_check(NULL, 0) == 1, "an empty sheet breaks rule 1");
     expect(kelindap_button(NULL, 0, true) == KELINDAP_BAD_SHEET, "the button on an empty sheet");
-    calls += 2;
+    expect(kelindap_convert(NULL, 0) == KELINDAP_BAD_SHEET, "the conversion of an empty sheet");
+    calls += 3;
 }
 
 int main(void)
@@ -850,7 +908,7 @@ int main(void)
     expect(kelindap_version() == KELINDAP_VERSION, "the library has another version than its header");
     build_full_sheet();
     build_longest_sheet();
-    build_later_sheet();
+    build_other_sheets();
     test_marked_cases();
     test_sessions();
     test_connections();
@@ -863,11 +921,14 @@ int main(void)
         test_codes_and_types(rules);
     }
     test_rules_byte();
+    test_old();
     test_lookups_in_small_sheets();
     test_lookups_in_full_sheet();
     test_damaged(sample_sheet);
+    test_damaged(old_sheet);
     test_damaged(pump_sheet);
     test_cut_sheets(sample_sheet);
+    test_cut_sheets(old_sheet);
     test_cut_sheets(pump_sheet);
     test_damaged_full_sheet();
     test_ranges();

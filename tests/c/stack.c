@@ -24,7 +24,10 @@ static ucontext_t here, there;
 static const uint8_t pump[] = {
 #include "../../hosts/pump_sheet.inc"
 };
-static uint8_t sheet[sizeof pump], answer[16], apdu[16];
+static const uint8_t sample[] = {
+#include "../../hosts/sample_sheet.inc"
+};
+static uint8_t sheet[sizeof pump], old[sizeof sample], answer[16], apdu[16];
 static kelindap_sessions sessions;
 static volatile unsigned kept; /* so that no call is left out */
 
@@ -54,6 +57,14 @@ static void connect(void) { kept += kelindap_connect(&sessions, 1); }
 static void disconnect(void) { kept += kelindap_disconnect(&sessions, 1); }
 static void button(void) { kept += kelindap_button(sheet, sizeof sheet, true); }
 static void check(void) { kept += kelindap_check(sheet, sizeof sheet); }
+
+static void convert(void)
+{
+    old[0] = 1; /* the sample as it was in edition 1 */
+    kept += kelindap_convert(old, sizeof old);
+    kept += kelindap_convert(sheet, sizeof sheet);
+}
+
 static void property(void) { kept += (unsigned)kelindap_property(sheet, sizeof sheet, 1, 51).length; }
 static void region(void) { kept += (unsigned)kelindap_region(sheet, sizeof sheet, 0).length; }
 static void user_region(void) { kept += (unsigned)kelindap_user_region(sheet, sizeof sheet, 0).length; }
@@ -167,6 +178,7 @@ static size_t depth_of(void (*what)(void))
     function = what;
     memset(stack, PAINT, sizeof stack);
     memcpy(sheet, pump, sizeof sheet);
+    memcpy(old, sample, sizeof old);
     sheet[14] |= 1; /* programming mode */
     sheet[55] = 7;  /* the group object takes a Response too */
     fill_store();
@@ -190,6 +202,7 @@ int main(void)
         {"kelindap_disconnect", disconnect},
         {"kelindap_button", button},
         {"kelindap_check", check},
+        {"kelindap_convert", convert},
         {"kelindap_property", property},
         {"kelindap_region", region},
         {"kelindap_group", group},

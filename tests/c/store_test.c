@@ -124,10 +124,17 @@ static void add(versions *v, const uint8_t *sheet)
     memcpy(k->body + 2 + 12 * x.count, sheet + x.bodies, x.length);
 }
 
+/* What is due for the sheet alone: 4, 14, or 0. */
+static uint8_t refused(const uint8_t *sheet, size_t length)
+{
+    uint8_t rule = kelindap_check(sheet, length);
+    return rule == KELINDAP_ACCEPTED || rule == KELINDAP_OLD ? rule : 4;
+}
+
 static kelindap_saved plain_save(const uint8_t *sheet, size_t sheet_length, uint8_t *store, size_t length)
 {
-    if (kelindap_check(sheet, sheet_length) != 0)
-        return (kelindap_saved){ 4, 0 };
+    if (refused(sheet, sheet_length) != 0)
+        return (kelindap_saved){ refused(sheet, sheet_length), 0 };
     versions v = take_apart(store, length);
     kelindap_saved r = { 0, 0 };
     extent x = extent_of(sheet);
@@ -164,8 +171,8 @@ static uint8_t judge_version(const uint8_t *sheet, extent x, const kept *k)
 static uint8_t plain_restore(kelindap_sessions q, uint8_t c, uint8_t *sheet, size_t sheet_length, const uint8_t *store,
                              size_t length, size_t number)
 {
-    if (kelindap_check(sheet, sheet_length) != 0)
-        return 4;
+    if (refused(sheet, sheet_length) != 0)
+        return refused(sheet, sheet_length);
     versions v = take_apart(store, length);
     uint8_t r = v.good ? 34 : 30;
     for (size_t i = 0; v.good && i < v.count; i++) {
@@ -274,12 +281,12 @@ static uint8_t try_remove(enum place place, uint8_t *store, size_t length, size_
 
 /* ---- sheets ---- */
 
-/* A sheet of edition 1 with these many properties and two regions' worth of other bytes; an accepted one. */
+/* A sheet with these many properties and two regions' worth of other bytes; an accepted one. */
 static size_t make_sheet(uint8_t *s, size_t properties, size_t room)
 {
     size_t regions = any(3), at = 32 + 8 * regions + 12 * properties;
     memset(s, 0, 32);
-    s[0] = 1;
+    s[0] = 2;
     s[1] = (uint8_t)regions;
     s[2] = (uint8_t)properties;
     for (size_t i = 6; i < 12; i++)
@@ -410,7 +417,7 @@ static void test_runs(void)
         versions v = take_apart(store, length);
         size_t number = v.good && v.count > 0 && any(5) ? v.of[any((uint32_t)v.count)].number : any(3) ? any(10) : SIZE_MAX - any(4);
         let_go(&v);
-        switch (any(9)) {
+        switch (any(10)) {
         case 0:
             try_check(any_place(), (run){ store, length });
             break;
@@ -441,11 +448,20 @@ static void test_runs(void)
             try_save(any_place(), (run){ sheet, sheet_length }, damaged, length);
             break;
         }
-        default: { /* a sheet that is not accepted, or one with other entries */
+        case 8: { /* a sheet that is not accepted, or one with other entries */
             memcpy(other, sheet, sheet_length);
             other[any((uint32_t)sheet_length)] ^= (uint8_t)(1u << any(8));
             try_restore(any_place(), at_zero, 0, other, sheet_length, (run){ store, length }, number);
+            break;
         }
+        default: /* the sheet as it was in edition 1: old, and after a conversion what it is */
+            memcpy(other, sheet, sheet_length);
+            other[0] = 1;
+            try_save(any_place(), (run){ other, sheet_length }, store, length);
+            try_restore(any_place(), at_zero, 0, other, sheet_length, (run){ store, length }, number);
+            expect(kelindap_convert(other, sheet_length) == KELINDAP_DONE, "an old sheet is not converted");
+            calls++;
+            same((run){ other, sheet_length }, sheet, "sheet after a conversion");
         }
     }
 }
@@ -456,6 +472,7 @@ int main(void)
     test_lengths();
     test_example();
     test_runs();
+    expect(outcomes[14] > 0, "outcome 14 was never given");
     for (int r = 30; r <= 37; r++)
         expect(outcomes[r] > 0, "outcome %d was never given", r);
     return tell();

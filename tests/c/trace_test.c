@@ -15,6 +15,7 @@ static const uint8_t sample[] = {
 static const uint8_t pump[] = {
 #include "../../hosts/pump_sheet.inc"
 };
+static uint8_t old[sizeof sample]; /* the sample as it was in edition 1 */
 
 /* ---- making traces ---- */
 
@@ -289,12 +290,15 @@ static event any_event(void)
 int main(void)
 {
     begin("trace_test");
+    memcpy(old, sample, sizeof old);
+    old[0] = 1;
     test_rules();
     for (enum place place = EXACT; place < PLACES; place++) {
         test_play(sample, sizeof sample, story, STORY, place, 1);
         test_play(pump, sizeof pump, story, STORY, place, 1);
         test_play(sample, sizeof sample - 1, story, STORY, place, 1); /* not accepted */
         test_play(sample, 0, story, STORY, place, 1);
+        test_play(old, sizeof old, story, STORY, place, 1);
     }
     test_refused();
     static event events[KELINDAP_TRACE_EVENTS];

@@ -473,6 +473,9 @@ static void play(uint8_t command)
     case 'k':
         give_rule();
         break;
+    case 'n':
+        give_outcome(kelindap_convert(given(sheet), sheet.length));
+        break;
     case 'f':
         sessions = kelindap_fresh();
         give_sessions();

@@ -5,7 +5,8 @@
 //!
 //! A block begins with a line `<!-- figures NAME: TOLERANCE .. -->` and ends with `<!-- end -->`. Its rows are compared word by
 //! word, without the lines of a table; to the last words of a row the tolerances belong, from the right: a number of units,
-//! so many per cent (`2%`), or `any`. What could not be measured stands in DIR as `?`, and is not held.
+//! so many per cent (`2%`), or `any`. What could not be measured stands in DIR as `?`, and is not held; nor is what a document
+//! quotes as `?`, for want of a machine when the code last changed.
 
 use std::{env, fs, process};
 
@@ -124,7 +125,7 @@ fn check(tally: &mut Tally, document: &str, block: &Block, measured: &str) {
         let mut same = quoted.len() == measured.len();
         for (k, (a, b)) in quoted.iter().rev().zip(measured.iter().rev()).enumerate() {
             let tolerance = block.tolerances.iter().rev().nth(k);
-            if tolerance.is_some() && *b == "?" {
+            if tolerance.is_some() && (*b == "?" || *a == "?") {
                 unknown += 1;
             } else {
                 same &= tolerance.map_or(a == b, |t| t.allows(a, b));
@@ -150,8 +151,8 @@ fn write(document: &str, text: &str, blocks: &[Block], dir: &str) {
     let mut lines: Vec<String> = text.lines().map(String::from).collect();
     for block in blocks.iter().rev() {
         let measured = read(&format!("{dir}/{}", block.name));
-        if rows(measured.lines()).concat().contains(&"?") {
-            println!("{document}: {} is left as it is: not all of it could be measured", block.name);
+        if rows(measured.lines()).iter().skip(1).all(|row| row.contains(&"?")) {
+            println!("{document}: {} is left as it is: it could not be measured", block.name);
             continue;
         }
         let new = format!("\n{}\n", measured.trim_end());

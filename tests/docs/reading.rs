@@ -28,6 +28,7 @@ const PARTS: &[Part] = &[
             "fn host/kelindap_button",
             "fn host/kelindap_request",
             "fn host/kelindap_check",
+            "fn host/kelindap_convert",
         ],
     },
     Part {
@@ -63,6 +64,11 @@ const PARTS: &[Part] = &[
         says: "without the key nobody learns a protected byte",
         statements: &["unlearned", "keyless-blind"],
     },
+    Part {
+        title: "`converted`",
+        says: "the conversion of an old sheet, and that it answers as the old sheet did",
+        statements: &["sheet/converted", "by-refusal", "answers-as-before"],
+    },
 ];
 
 /// Where reading stops: a definition, why it need not be read, and the theorems that are read in its place.
@@ -73,6 +79,8 @@ const STOPS: &[(&str, &str, &[&str])] = &[
     ("buttonSheet", "what the button does: contract and theorems meet there", &[]),
     ("restoreOutcome", "what a restore does: contract and theorems meet there", &[]),
     ("restoreSheet", "what a restore does: contract and theorems meet there", &[]),
+    ("stepWith", "what a request does, the refusal of its sheet being given: `by-refusal` ties it to `stepOf`", &[]),
+    ("restoreBy", "what a restore does, the refusal of its sheet being given: `by-refusal` ties it to `restoreOutcome`", &[]),
     ("ruleIn", "the rules as rows of a table; read as nine propositions", &["sheet/judged", "sheet/judged-only"]),
 ];
 

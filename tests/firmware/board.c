@@ -94,7 +94,7 @@ static void say_number(uint32_t n)
 void tell_deepest(void)
 {
     static const char *const names[CALLS] = {
-        "fresh", "connect",     "disconnect",  "button", "request", "check",  "property",    "region",
+        "fresh", "connect",     "disconnect",  "button", "request", "check",  "convert",     "property", "region",
         "group", "user_region", "store_check", "save",   "restore", "remove", "trace_check", "play",
     };
     say("painted");

@@ -35,6 +35,7 @@ enum call {
     CALL_button,
     CALL_request,
     CALL_check,
+    CALL_convert,
     CALL_property,
     CALL_region,
     CALL_group,
@@ -103,6 +104,7 @@ static inline __attribute__((always_inline)) void measure_below(enum call call)
 #define kelindap_button(...) MEASURED(button, __VA_ARGS__)
 #define kelindap_request(...) MEASURED(request, __VA_ARGS__)
 #define kelindap_check(...) MEASURED(check, __VA_ARGS__)
+#define kelindap_convert(...) MEASURED(convert, __VA_ARGS__)
 #define kelindap_property(...) MEASURED(property, __VA_ARGS__)
 #define kelindap_region(...) MEASURED(region, __VA_ARGS__)
 #define kelindap_group(...) MEASURED(group, __VA_ARGS__)

@@ -34,7 +34,10 @@ class Player:
     def sheet(self, word):
         self.unit.sheet = bytearray(from_hex(word))
         rule = kelindap.check(self.unit.sheet)
-        return f"S{rule}" if rule else "OK"
+        return "OLD" if rule == kelindap.OLD else f"S{rule}" if rule else "OK"
+
+    def convert(self):
+        return f"{kelindap.convert(self.unit.sheet)} {to_hex(self.unit.sheet)}"
 
     def session(self, connection, open, level):
         self.unit.set_session(int(connection), open == "1", int(level))
@@ -135,7 +138,7 @@ class Player:
         outcome, count = kelindap.frame_write_into(buffer, fields.pop("info"), fields.pop("apdu"), **fields)
         return f"{outcome} {count} {to_hex(buffer)}"
 
-    COMMANDS = "sheet session connect disconnect button request lookup read write point frame".split()
+    COMMANDS = "sheet convert session connect disconnect button request lookup read write point frame".split()
     COMMANDS += "store save restore remove trace play".split()
 
     def obey(self, line):

@@ -9,7 +9,7 @@ bytes_of() { grep -o '0x..' "../../hosts/$1.inc" | cut -c 3-4 | paste -sd '' | t
 sample=$(bytes_of sample_sheet)
 buffer=eeeeeeeeeeeeeeeeeeeeeeeeeeeeeeee
 
-# Each vector of the device, of the sample sheet, the one of edition 2 or the one whose regions touch: the sheet with its
+# Each vector of the device, of the sample sheet, the one with user memory or the one whose regions touch: the sheet with its
 # button and verify bits and its rules, the session of connection 0, the request on it with a buffer of 20 bytes; and once
 # more in upper case with one of 16.
 device_vectors() { # NAME of the vectors, the sheet
@@ -75,7 +75,7 @@ line() { printf '%s\n' "$1" >&3; printf '%s\n' "$2" >&4; }
 
 zeros=$(many 100000 0) abs=$(many 50000 ab) nines=$(many 100000 9)
 body=$(many 16344 cd)
-full=010100004000$(many 52 0)00003fd800283300$body
+full=020100004000$(many 52 0)00003fd800283300$body
 exec 3> "$out/long.in" 4> "$out/long.out"
 line "sheet $zeros" S1
 line "request 2 0 0300 $buffer 0" "4 0 3 0 3 0 $buffer $zeros"

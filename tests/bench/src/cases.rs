@@ -1,5 +1,5 @@
 //! What is measured: every service, carried out, and some that are refused, on
-//! the sample sheet and on a full one; user memory on the sheet of edition 2; the
+//! the sample sheet and on a full one; user memory on the sheet that has it; the
 //! lookups of entries, on sheets with 1, 8 and 64 properties and groups; and ranges
 //! over regions that touch.
 

@@ -3,6 +3,7 @@
 //! the loop around a call takes.
 
 use model::device::{Reply, Session, Sessions, Way};
+use model::faults::Fault;
 
 #[repr(C)]
 #[derive(Clone, Copy)]
@@ -138,12 +139,12 @@ fn plain_check(sheet: &[u8]) -> u8 {
 
 #[inline(never)]
 fn plain_property(sheet: &[u8], object: u8, id: u8) -> (usize, usize) {
-    model::sheet::property(sheet, object, id)
+    model::sheet::property(Fault::None, sheet, object, id)
 }
 
 #[inline(never)]
 fn plain_group(sheet: &[u8], address: u16) -> (usize, usize) {
-    model::sheet::group(sheet, address)
+    model::sheet::group(Fault::None, sheet, address)
 }
 
 #[inline(never)]

@@ -4,6 +4,7 @@
 //!     compare BRIDGE --faults [SEED]     the model's faults are each found
 //!     compare BRIDGE --apart [EVENTS [SEED]]   what one tool does is nothing to the other
 //!     compare BRIDGE --learn [EVENTS [SEED]]   secret bytes are told by nothing
+//!     compare BRIDGE --before [EVENTS [SEED]]  a converted sheet is what the old one was in the release before
 //!     compare BRIDGE --scripts NAME..    scripts of the desk unit, NAME.in and NAME.out
 //!     compare --times BRIDGE..           instructions of each request, of boards that count them
 //!
@@ -16,6 +17,7 @@
 //! is played in pieces the whole log.
 
 mod apart;
+mod before;
 mod flat;
 mod learn;
 mod make;
@@ -334,7 +336,7 @@ fn compare(side: Side, events: usize, seed: u64) -> bool {
 fn faults(side: Side, seed: u64) -> bool {
     let mut found = 0;
     let show = std::env::var_os("SHOW").is_some();
-    let all: Vec<Fault> = Fault::ALL.into_iter().chain(Fault::STORE).chain(Fault::TRACE).collect();
+    let all = [&Fault::ALL[..], &Fault::OLD, &Fault::STORE, &Fault::TRACE].concat();
     for &fault in &all {
         match run(side, FAULT_EVENTS, seed, fault, &mut Tally::default()) {
             Some(difference) => {
@@ -367,9 +369,13 @@ fn main() -> ExitCode {
             seed(rest.first()).map(|seed| faults(Side { program, device_alone }, seed))
         }
         [program, word, rest @ ..]
-            if (word == "--apart" || word == "--learn") && rest.len() <= 2 =>
+            if ["--apart", "--learn", "--before"].contains(&word.as_str()) && rest.len() <= 2 =>
         {
-            let play = if word == "--apart" { apart::apart } else { learn::learn };
+            let play = match word.as_str() {
+                "--apart" => apart::apart,
+                "--learn" => learn::learn,
+                _ => before::before,
+            };
             let events = rest.first().map_or(Some(EVENTS / 10), |w| w.parse().ok());
             events.zip(seed(rest.get(1))).map(|(events, seed)| play(program, events, seed))
         }
@@ -390,7 +396,8 @@ fn main() -> ExitCode {
             eprintln!(
                 "       .. BRIDGE --apart [EVENTS [SEED]], .. BRIDGE --learn [EVENTS [SEED]],"
             );
-            eprintln!("       .. BRIDGE --scripts NAME.., .. --times BRIDGE..");
+            eprintln!("       .. BRIDGE --before [EVENTS [SEED]], .. BRIDGE --scripts NAME..,");
+            eprintln!("       .. --times BRIDGE..");
             ExitCode::from(2)
         }
     }

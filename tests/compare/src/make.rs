@@ -6,7 +6,7 @@ use model::device::Session;
 use model::faults::Fault;
 use model::gen::{self, stores, traces, Ask, Event, Rng, Tools};
 use model::matrix;
-use model::sheet::{self, Memory};
+use model::sheet::{self, Memory, OLD};
 use model::{store, trace};
 
 use crate::flat::Flat;
@@ -93,10 +93,10 @@ impl Maker {
             0..=3 => (Scene::Mixed, long(rng)),
             4 | 5 => (Scene::History, long(rng)),
             6 | 7 => {
-                let sheet = gen::sheet(rng);
-                let scene = (Scene::Tools(Tools::new(&sheet)), long(rng));
-                self.queue.extend([Play::Sheet(sheet), Play::Fresh]);
-                scene
+                let left = long(rng);
+                let sheet = self.lend();
+                self.push(Play::Fresh);
+                (Scene::Tools(Tools::new(&sheet)), left)
             }
             8 => (Scene::Damaged, rng.within(100, 400)),
             9 if !self.device_alone => (Scene::Pdus, rng.within(300, 900)),
@@ -109,21 +109,20 @@ impl Maker {
             Scene::Pdus | Scene::Tools(_) => {}
             Scene::Versions => self.open_versions(),
             Scene::Traces(_) => {
-                let sheet = if self.rng.chance(85) {
-                    gen::sheet(&mut self.rng)
+                if self.rng.chance(85) {
+                    self.lend();
                 } else {
-                    gen::any_sheet(&mut self.rng)
-                };
-                self.queue.extend([Play::Sheet(sheet), Play::Trace(Vec::new())]);
+                    let sheet = gen::any_sheet(&mut self.rng);
+                    self.push(Play::Sheet(sheet));
+                }
+                self.push(Play::Trace(Vec::new()));
             }
             Scene::History => {
-                let sheet = gen::sheet(&mut self.rng);
-                self.queue.extend([Play::Sheet(sheet), Play::Fresh]);
-                self.queue.extend([Play::Connect(0), Play::Connect(1)]);
+                self.lend();
+                self.queue.extend([Play::Fresh, Play::Connect(0), Play::Connect(1)]);
             }
             _ => {
-                let sheet = gen::sheet(&mut self.rng);
-                self.push(Play::Sheet(sheet));
+                self.lend();
                 for c in 0..2 {
                     let session = gen::session(&mut self.rng);
                     self.push(Play::Found(c, session));
@@ -132,22 +131,44 @@ impl Maker {
         }
     }
 
-    /// A sheet of any sort, and a few events that must respect its rule.
-    fn checks(&mut self) {
-        let sheet = gen::any_sheet(&mut self.rng);
+    /// A sheet to play on. A third are old: they refuse a few events, and most are then converted.
+    fn lend(&mut self) -> Vec<u8> {
+        let sheet = gen::whole_sheet(&mut self.rng);
+        self.push(Play::Sheet(sheet.clone()));
+        if sheet::check(&sheet) == OLD {
+            self.few(&sheet);
+            if self.rng.chance(90) {
+                self.push(Play::Convert);
+            }
+        }
+        sheet
+    }
+
+    /// A few lookups and events.
+    fn few(&mut self, sheet: &[u8]) {
         for _ in 0..self.rng.below(3) {
-            self.lookup(&sheet);
+            self.lookup(sheet);
         }
         for _ in 0..self.rng.below(6) {
-            self.event(&sheet);
+            self.event(sheet);
         }
-        self.queue.push_front(Play::Sheet(sheet));
+    }
+
+    /// A sheet of any sort, and a few events that must respect its rule, perhaps once more after a conversion.
+    fn checks(&mut self) {
+        let sheet = gen::any_sheet(&mut self.rng);
+        self.push(Play::Sheet(sheet.clone()));
+        self.few(&sheet);
+        if self.rng.chance(30) {
+            self.push(Play::Convert);
+            self.few(&sheet);
+        }
     }
 
     fn event(&mut self, sheet: &[u8]) {
         let mut event = gen::event(&mut self.rng, sheet);
         if let Event::Request(ask) = &mut event {
-            // a bad sheet comes before the mode: any service in any mode
+            // a bad sheet or an old one comes before the mode: any service in any mode
             if self.rng.chance(60) && sheet::check(sheet) != 0 {
                 ask.way.mode = self.rng.below(5) as u8;
             }
@@ -207,49 +228,25 @@ impl Maker {
     }
 
     fn lookup(&mut self, sheet: &[u8]) {
-        let rng = &mut self.rng;
-        let good = sheet::check(sheet) == 0;
-        let play = match rng.below(3) {
-            0 => {
-                let all: Vec<_> = if good { sheet::properties(sheet).collect() } else { vec![] };
-                if all.is_empty() || rng.chance(10) {
-                    Play::Property(rng.byte(), rng.byte())
-                } else {
-                    let p = rng.pick(&all);
-                    let id = if rng.chance(20) { p.id.wrapping_add(1) } else { p.id };
-                    Play::Property(p.object, id)
-                }
-            }
-            1 => Play::Region(
-                rng.pick(&[Memory::Device, Memory::User]),
-                match rng.below(10) {
-                    0 => rng.draw(),
-                    1 => rng.pick(&[15, 16, 255, 256, 1 << 32, u64::MAX]),
-                    _ => rng.below(17) as u64,
-                },
-            ),
-            _ => {
-                let all: Vec<_> = if good { sheet::groups(sheet).collect() } else { vec![] };
-                if all.is_empty() || rng.chance(10) {
-                    Play::Group(rng.word())
-                } else {
-                    Play::Group(rng.pick(&all).address.wrapping_add(rng.pick(&[0, 0, 0, 0, 1])))
-                }
-            }
-        };
+        let play = lookup(&mut self.rng, sheet);
         self.push(play);
     }
 
     /// A sheet with a store, and mostly one connection at level 0.
     fn open_versions(&mut self) {
         let sheet = if self.rng.chance(90) {
-            gen::sheet(&mut self.rng)
+            gen::whole_sheet(&mut self.rng)
         } else {
             gen::any_sheet(&mut self.rng)
         };
         let store = stores::store(&mut self.rng, &sheet);
+        let old = sheet::check(&sheet) == OLD;
         self.queue.extend([Play::Sheet(sheet), Play::Store(store), Play::Fresh]);
         self.installer();
+        if old && self.rng.chance(80) {
+            // refused as it is, in both ways
+            self.queue.extend([Play::Save, Play::Restore(0, 1), Play::Convert]);
+        }
     }
 
     /// One connection mostly at level 0, the other often beside it at level 1.
@@ -416,6 +413,39 @@ impl Maker {
                     }
                     self.push(Play::Read(apdu));
                 }
+            }
+        }
+    }
+}
+
+/// A lookup of what the sheet has, or has not.
+pub fn lookup(rng: &mut Rng, sheet: &[u8]) -> Play {
+    let good = sheet::rule(sheet) == 0;
+    match rng.below(3) {
+        0 => {
+            let all: Vec<_> = if good { sheet::properties(sheet).collect() } else { vec![] };
+            if all.is_empty() || rng.chance(10) {
+                Play::Property(rng.byte(), rng.byte())
+            } else {
+                let p = rng.pick(&all);
+                let id = if rng.chance(20) { p.id.wrapping_add(1) } else { p.id };
+                Play::Property(p.object, id)
+            }
+        }
+        1 => Play::Region(
+            rng.pick(&[Memory::Device, Memory::User]),
+            match rng.below(10) {
+                0 => rng.draw(),
+                1 => rng.pick(&[15, 16, 255, 256, 1 << 32, u64::MAX]),
+                _ => rng.below(17) as u64,
+            },
+        ),
+        _ => {
+            let all: Vec<_> = if good { sheet::groups(sheet).collect() } else { vec![] };
+            if all.is_empty() || rng.chance(10) {
+                Play::Group(rng.word())
+            } else {
+                Play::Group(rng.pick(&all).address.wrapping_add(rng.pick(&[0, 0, 0, 0, 1])))
             }
         }
     }

@@ -17,6 +17,7 @@ pub enum Play {
     /// One byte of the sheet becomes another.
     Poke(usize, u8),
     Check,
+    Convert,
     Fresh,
     /// The session of a connection, 0 or 1, as it is found.
     Found(u8, Session),
@@ -75,6 +76,7 @@ impl Play {
                 out.push(*value);
             }
             Play::Check => out.push(b'k'),
+            Play::Convert => out.push(b'n'),
             Play::Fresh => out.push(b'f'),
             Play::Found(c, session) => out.extend([b'v', *c, session.open as u8, session.level]),
             Play::Connect(c) => out.extend([b'c', *c]),
@@ -139,6 +141,7 @@ impl Play {
     pub fn line(&self, after: &[u8]) -> String {
         match self {
             Play::Sheet(_) | Play::Poke(..) | Play::Check => format!("sheet {}", hex(after)),
+            Play::Convert => "convert".to_string(),
             Play::Fresh => "# fresh sessions".to_string(),
             Play::Found(c, s) => format!("session {c} {} {}", s.open as u8, s.level),
             Play::Connect(c) => format!("connect {c}"),
@@ -176,7 +179,7 @@ impl Play {
                 format!("rule {}, sheet hash {}", reply[0], tail(8))
             }
             Play::Fresh | Play::Found(..) => format!("sessions {}", sessions(reply)),
-            Play::Connect(_) | Play::Disconnect(_) | Play::Button(_) => {
+            Play::Convert | Play::Connect(_) | Play::Disconnect(_) | Play::Button(_) => {
                 let sessions = sessions(&reply[1..]);
                 format!("outcome {}, sessions {sessions}, sheet hash {}", reply[0], tail(8))
             }
@@ -256,6 +259,8 @@ fn flat(sessions: &Sessions) -> [u8; 4] {
 /// The model's side: a sheet, a store, a trace, the sessions, and perhaps a fault.
 #[derive(Clone)]
 pub struct World {
+    /// The edition that the sheet has on the bridge, where that is another.
+    pub told: Option<u8>,
     pub sheet: Vec<u8>,
     pub store: Vec<u8>,
     pub trace: Vec<u8>,
@@ -266,7 +271,7 @@ pub struct World {
 impl World {
     pub fn new(fault: Fault) -> World {
         let (sheet, store, trace) = (Vec::new(), Vec::new(), Vec::new());
-        World { sheet, store, trace, sessions: FRESH, fault }
+        World { told: None, sheet, store, trace, sessions: FRESH, fault }
     }
 
     /// Plays one command and adds the reply that the bridge must give.
@@ -281,6 +286,10 @@ impl World {
                 self.rule(reply);
             }
             Play::Check => self.rule(reply),
+            Play::Convert => {
+                let outcome = sheet::convert(self.fault, &mut self.sheet);
+                self.outcome(outcome, reply);
+            }
             Play::Fresh => {
                 self.sessions = FRESH;
                 self.sessions(reply);
@@ -298,7 +307,7 @@ impl World {
                 self.outcome(outcome, reply);
             }
             Play::Button(on) => {
-                let outcome = device::button(&mut self.sheet, *on);
+                let outcome = device::button_with(self.fault, &mut self.sheet, *on);
                 self.outcome(outcome, reply);
             }
             Play::Request(ask) => {
@@ -317,12 +326,14 @@ impl World {
                 self.hash(reply);
             }
             Play::Property(object, id) => {
-                self.part(sheet::property(&self.sheet, *object, *id), reply);
+                self.part(sheet::property(self.fault, &self.sheet, *object, *id), reply);
             }
             Play::Region(memory, k) => {
-                self.part(sheet::region(&self.sheet, *memory, *k as usize), reply);
+                self.part(sheet::region(self.fault, &self.sheet, *memory, *k as usize), reply);
             }
-            Play::Group(address) => self.part(sheet::group(&self.sheet, *address), reply),
+            Play::Group(address) => {
+                self.part(sheet::group(self.fault, &self.sheet, *address), reply);
+            }
             Play::Read(apdu) => {
                 let flat = match pdu::read(apdu) {
                     Ok((pdu, data)) => Flat {
@@ -394,26 +405,33 @@ impl World {
         reply.extend(hash(&self.store).to_le_bytes());
     }
 
-    fn hash(&self, reply: &mut Vec<u8>) {
+    fn hash(&mut self, reply: &mut Vec<u8>) {
+        let edition = self.sheet.first().copied();
+        if let (Some(first), Some(told)) = (self.sheet.first_mut(), self.told) {
+            *first = told;
+        }
         reply.extend(hash(&self.sheet).to_le_bytes());
+        if let (Some(first), Some(edition)) = (self.sheet.first_mut(), edition) {
+            *first = edition;
+        }
     }
 
     fn sessions(&self, reply: &mut Vec<u8>) {
         reply.extend(flat(&self.sessions));
     }
 
-    fn rule(&self, reply: &mut Vec<u8>) {
+    fn rule(&mut self, reply: &mut Vec<u8>) {
         reply.push(sheet::check(&self.sheet));
         self.hash(reply);
     }
 
-    fn outcome(&self, outcome: u8, reply: &mut Vec<u8>) {
+    fn outcome(&mut self, outcome: u8, reply: &mut Vec<u8>) {
         reply.push(outcome);
         self.sessions(reply);
         self.hash(reply);
     }
 
-    fn part(&self, (offset, length): (usize, usize), reply: &mut Vec<u8>) {
+    fn part(&mut self, (offset, length): (usize, usize), reply: &mut Vec<u8>) {
         reply.extend((offset as u64).to_le_bytes());
         reply.extend((length as u64).to_le_bytes());
         self.hash(reply);

@@ -4,7 +4,7 @@
 use model::device::{Session, Way};
 use model::faults::Fault;
 use model::gen::Ask;
-use model::sheet::{Memory, SAMPLE};
+use model::sheet::{Memory, OLD, SAMPLE};
 use model::trace;
 
 use crate::play::{sessions, Play, World, PIECES, REQUEST};
@@ -24,6 +24,7 @@ fn command(line: &str, world: &World, place: usize) -> Option<Play> {
     let words: Vec<&str> = line.split_whitespace().collect();
     Some(match words[..] {
         ["sheet", sheet] => Play::Sheet(bytes(sheet)?),
+        ["convert"] => Play::Convert,
         ["session", c, open, level] => {
             Play::Found(c.parse().ok()?, Session { open: open == "1", level: level.parse().ok()? })
         }
@@ -72,7 +73,7 @@ fn said(play: &Play, reply: &[u8], sheet: &[u8], store: &[u8]) -> String {
             let number = u16::from_le_bytes([reply[1], reply[2]]);
             format!("{} {number} {}", reply[0], hex(store))
         }
-        Play::Restore(..) => format!("{} {}", reply[0], hex(sheet)),
+        Play::Convert | Play::Restore(..) => format!("{} {}", reply[0], hex(sheet)),
         Play::Remove(_) => format!("{} {}", reply[0], hex(store)),
         Play::Trace(_) if reply[0] == 0 => "OK".to_string(),
         Play::Trace(_) => reply[0].to_string(),
@@ -85,6 +86,7 @@ fn said(play: &Play, reply: &[u8], sheet: &[u8], store: &[u8]) -> String {
             format!("{handled}{lines} {} {}", sessions(&reply[3..]), hex(sheet))
         }
         Play::Sheet(_) if reply[0] == 0 => "OK".to_string(),
+        Play::Sheet(_) if reply[0] == OLD => "OLD".to_string(),
         Play::Sheet(_) => format!("S{}", reply[0]),
         Play::Fresh => String::new(),
         Play::Found(c, _) => {

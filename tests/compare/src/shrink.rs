@@ -11,7 +11,7 @@ struct Part {
     body: Vec<u8>,
 }
 
-/// An accepted sheet taken apart: its head, regions, properties, groups and user regions.
+/// A sheet that breaks no rule, taken apart: its head, regions, properties, groups and user regions.
 #[derive(Clone)]
 struct Parts {
     head: Vec<u8>,
@@ -23,7 +23,7 @@ const NUMBERS: [usize; 4] = [1, 2, 3, USERS];
 
 impl Parts {
     fn of(sheet: &[u8]) -> Option<Parts> {
-        if sheet::check(sheet) != 0 {
+        if sheet::rule(sheet) != 0 {
             return None;
         }
         let regions = |memory| {

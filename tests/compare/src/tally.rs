@@ -1,6 +1,7 @@
 //! What has been seen, held against what can be.
 
 use model::matrix::{self, ROWS};
+use model::sheet::OLD;
 
 use crate::flat::{kind_name, KINDS};
 use crate::play::Play;
@@ -10,7 +11,8 @@ use crate::play::Play;
 pub struct Tally {
     /// By rules, service, column of the mode, and outcome.
     requests: [Vec<[[u64; 256]; 5]>; 2],
-    rules: Counts,
+    /// The calls on the sheet alone, in the order of `matrix::SHEET`.
+    sheet: [Counts; 3],
     /// By outcome; a kind that reads well is counted in `kinds`.
     reads: Counts,
     kinds: Counts,
@@ -25,7 +27,7 @@ pub struct Tally {
     /// Traces checked, and played, in the order of `matrix::TRACE`; and the events handled.
     trace: [Counts; 2],
     handled: u64,
-    /// The button, and sessions as found or fresh.
+    /// Sessions as found or fresh.
     others: u64,
     /// The hashes of the blocks of replies so far, in one.
     pub blocks: u64,
@@ -64,7 +66,11 @@ impl Tally {
     /// A reply to a play on a sheet of these rules.
     pub fn count(&mut self, rules: u8, play: &Play, reply: &[u8]) {
         match play {
-            Play::Sheet(_) | Play::Poke(..) | Play::Check => self.rules.0[reply[0] as usize] += 1,
+            Play::Sheet(_) | Play::Poke(..) | Play::Check => {
+                self.sheet[0].0[reply[0] as usize] += 1;
+            }
+            Play::Button(_) => self.sheet[1].0[reply[0] as usize] += 1,
+            Play::Convert => self.sheet[2].0[reply[0] as usize] += 1,
             Play::Request(ask) => {
                 let requests = &mut self.requests[rules as usize];
                 requests.resize(ROWS.len(), [[0; 256]; 5]);
@@ -108,11 +114,13 @@ impl Tally {
         let rarest =
             self.rarest().map_or(String::new(), |(n, what)| format!("; rarest: {what}, {n} times"));
         format!(
-            "{} requests, {} other calls, {} sheets ({} accepted), {} lookups, {} PDUs read, {} written, {} saves, {} restores, {} removes, {} traces of which {} events were played in {} pieces{rarest}",
+            "{} requests, {} other calls, {} sheets ({} accepted, {} old), {} conversions, {} lookups, {} PDUs read, {} written, {} saves, {} restores, {} removes, {} traces of which {} events were played in {} pieces{rarest}",
             self.requests.iter().flatten().flatten().flatten().sum::<u64>(),
-            self.others + self.named.iter().map(Counts::sum).sum::<u64>(),
-            self.rules.sum(),
-            self.rules.0[0],
+            self.others + self.sheet[1].sum() + self.named.iter().map(Counts::sum).sum::<u64>(),
+            self.sheet[0].sum(),
+            self.sheet[0].0[0],
+            self.sheet[0].0[OLD as usize],
+            self.sheet[2].sum(),
             self.lookups.iter().sum::<u64>(),
             self.reads.sum(),
             self.writes.iter().map(Counts::sum).sum::<u64>(),
@@ -158,13 +166,12 @@ impl Tally {
             let can: Vec<usize> = (0..16).filter(|k| matrix::NAMED >> k & 1 != 0).collect();
             seen.judge(&format!("outcome of {what}"), &can, must, &mut complaints);
         }
-        let calls = matrix::STORE.iter().chain(&matrix::TRACE);
-        for ((what, can), seen) in calls.zip(self.store.iter().chain(&self.trace)) {
+        let calls = matrix::SHEET.iter().chain(&matrix::STORE).chain(&matrix::TRACE);
+        let seen = self.sheet.iter().chain(&self.store).chain(&self.trace);
+        for ((what, can), seen) in calls.zip(seen) {
             seen.judge(&format!("outcome of {what}"), can, must, &mut complaints);
         }
-        let rules: Vec<usize> = (0..=9).collect();
         let kinds: Vec<usize> = (0..KINDS.len()).collect();
-        self.rules.judge("rule of a sheet", &rules, must, &mut complaints);
         self.reads.judge("outcome of reading", &[0, 5, 8, 10], must, &mut complaints);
         self.kinds.judge("kind that was read", &kinds, must, &mut complaints);
         for (k, seen) in self.writes.iter().enumerate() {

@@ -81,8 +81,13 @@ pub fn disconnect_with(fault: Fault, sessions: &mut Sessions, connection: u8) ->
 }
 
 pub fn button(sheet: &mut [u8], on: bool) -> u8 {
-    if sheet::check(sheet) != 0 {
-        return 4;
+    button_with(Fault::None, sheet, on)
+}
+
+pub fn button_with(fault: Fault, sheet: &mut [u8], on: bool) -> u8 {
+    let refusal = sheet::refusal(fault, sheet);
+    if refusal != 0 {
+        return refusal;
     }
     if on {
         sheet[FLAGS] |= PROGRAMMING;
@@ -200,8 +205,9 @@ fn step<const ON: bool>(
     if answer.len() < 16 {
         return silent(3);
     }
-    if sheet::check(sheet) != 0 {
-        return silent(4);
+    let refusal = sheet::refusal(faults.which(), sheet);
+    if refusal != 0 {
+        return silent(refusal);
     }
     if !(2..=16).contains(&apdu.len()) {
         return silent(5);

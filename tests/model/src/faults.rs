@@ -3,6 +3,20 @@
 #[derive(Clone, Copy, Debug, PartialEq, Eq)]
 pub enum Fault {
     None,
+    /// A sheet of edition 1 is called old, whether it breaks a rule or not.
+    OldBeforeBad,
+    /// An old sheet is served as an accepted one: so did the release before.
+    OldServed,
+    /// A conversion goes by the edition alone.
+    ConvertsBad,
+    /// The conversion of a sheet of edition 2 is said to be carried out.
+    ConvertsAgain,
+    /// A conversion names the later rules.
+    ConvertsToLater,
+    /// A conversion gives the sheet a user region.
+    ConvertClaimsUser,
+    /// A conversion ends programming mode.
+    ConvertEndsProgramming,
     /// A write takes place before the rights are looked at.
     StoreFirst,
     /// Level comparison turned round.
@@ -173,6 +187,21 @@ impl Fault {
         Fault::CountFollowsBody,
     ];
 
+    /// Those of old sheets and their conversion.
+    pub const OLD: [Fault; 7] = [
+        Fault::OldBeforeBad,
+        Fault::OldServed,
+        Fault::ConvertsBad,
+        Fault::ConvertsAgain,
+        Fault::ConvertsToLater,
+        Fault::ConvertClaimsUser,
+        Fault::ConvertEndsProgramming,
+    ];
+
+    /// Those by which a converted sheet is another than the old one was.
+    pub const CONVERTING: [Fault; 3] =
+        [Fault::ConvertsToLater, Fault::ConvertClaimsUser, Fault::ConvertEndsProgramming];
+
     /// Those of the calls on a store of versions.
     pub const STORE: [Fault; 16] = [
         Fault::NumbersFromZero,
@@ -235,5 +264,15 @@ impl<const ON: bool> Faults<ON> {
     #[inline(always)]
     pub fn is(self, fault: Fault) -> bool {
         ON && self.0 == fault
+    }
+
+    /// The fault itself.
+    #[inline(always)]
+    pub fn which(self) -> Fault {
+        if ON {
+            self.0
+        } else {
+            Fault::None
+        }
     }
 }

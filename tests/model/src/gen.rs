@@ -234,11 +234,24 @@ fn edges(entries: &[u8]) -> Vec<usize> {
     edges
 }
 
-/// An accepted sheet of either edition; in the second, of either rules, and user
-/// memory often has addresses that the device's memory has too, and often begins
-/// where that ends.
+/// An accepted sheet, of either rules; user memory often has addresses that the
+/// device's memory has too, and often begins where that ends.
 pub fn sheet(rng: &mut Rng) -> Vec<u8> {
+    of_edition(rng, 2)
+}
+
+/// An old sheet.
+pub fn old_sheet(rng: &mut Rng) -> Vec<u8> {
+    of_edition(rng, 1)
+}
+
+/// A sheet that breaks no rule: a third are old.
+pub fn whole_sheet(rng: &mut Rng) -> Vec<u8> {
     let edition = rng.pick(&[1, 2, 2]);
+    of_edition(rng, edition)
+}
+
+fn of_edition(rng: &mut Rng, edition: u8) -> Vec<u8> {
     let most_users = if edition == 2 { 16 } else { 0 };
     let (r, p, g, u) = match rng.below(12) {
         0 => (16, 64, 64, most_users),
@@ -328,7 +341,7 @@ pub fn sheet(rng: &mut Rng) -> Vec<u8> {
     s
 }
 
-/// Changes one byte, mostly of the contents; the sheet may stay acceptable.
+/// Changes one byte, mostly of the contents; the sheet may stay as good as it was.
 pub fn damage(rng: &mut Rng, sheet: &mut [u8]) {
     if sheet.is_empty() {
         return;
@@ -351,9 +364,9 @@ pub fn damage(rng: &mut Rng, sheet: &mut [u8]) {
     }
 }
 
-/// A sheet for a check: accepted, damaged, too long, too short, or noise.
+/// A sheet for a check: accepted, old, damaged, too long, too short, or noise.
 pub fn any_sheet(rng: &mut Rng) -> Vec<u8> {
-    let mut s = sheet(rng);
+    let mut s = whole_sheet(rng);
     match rng.below(20) {
         0..=4 => {}
         5..=14 => damage(rng, &mut s),
@@ -716,7 +729,7 @@ fn apdu(rng: &mut Rng, sheet: &[u8], good: bool, row: usize) -> (Vec<u8>, u16) {
 
 /// A request aimed at the sheet, good or bad, with all its surroundings.
 pub fn ask(rng: &mut Rng, sheet: &[u8]) -> Ask {
-    let good = sheet::check(sheet) == 0;
+    let good = sheet::rule(sheet) == 0;
     let row = match rng.below(90) {
         0..=2 => matrix::UNKNOWN,
         3 => matrix::MALFORMED,

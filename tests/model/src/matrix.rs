@@ -7,17 +7,18 @@
 //!
 //! A cell holds the outcomes that some sheet of these rules, sessions, connection,
 //! group address and answer buffer can bring about. Short buffers (3) and bad
-//! sheets (4) come first and so stand in every cell. A bad length (5) hides the
+//! sheets (4) come first and so stand in every cell, and so do old sheets (14)
+//! under rules 0, the only ones that they have. A bad length (5) hides the
 //! mode; a mode above 3 (6) hides the connection and the service; a connection
 //! that is closed, or that there is not (7), is seen in mode 3 alone. 13 never
-//! comes from a request. A sheet that is not accepted counts by `sheet::rules` too.
+//! comes from a request. A sheet that breaks a rule counts by `sheet::rules` too.
 
-use crate::sheet::LATER;
+use crate::sheet::{LATER, OLD};
 
 /// Bit k stands for outcome k.
 pub type Outcomes = u16;
 
-/// A row's name and its cells under rules 0 for modes 0, 1, 2, 3 and any above.
+/// A row's name and its cells under rules 0 for modes 0, 1, 2, 3 and any above, old sheets apart.
 pub type Row = (&'static str, [Outcomes; 5]);
 
 pub const UNKNOWN: usize = 19;
@@ -86,7 +87,10 @@ const CHANGED: [(usize, [Outcomes; 5]); 2] =
 
 /// The cells of a row under the rules of this number.
 pub fn cells(rules: u8, row: usize) -> [Outcomes; 5] {
-    let changed = CHANGED.iter().find(|&&(k, _)| k == row && rules == LATER);
+    if rules != LATER {
+        return ROWS[row].1.map(|cell| cell | 1 << OLD);
+    }
+    let changed = CHANGED.iter().find(|&&(k, _)| k == row);
     changed.map_or(ROWS[row].1, |&(_, cells)| cells)
 }
 
@@ -132,11 +136,18 @@ pub fn can(rules: u8, apdu: &[u8], mode: u8) -> Outcomes {
     cells(rules, row(apdu))[column(mode)]
 }
 
+/// The calls on the sheet alone, and what each can give.
+pub const SHEET: [(&str, &[usize]); 3] = [
+    ("check of a sheet", &[0, 1, 2, 3, 4, 5, 6, 7, 8, 9, 14]),
+    ("button", &[1, 4, 14]),
+    ("conversion", &[1, 4]),
+];
+
 /// The calls on a store of versions, and the outcomes that each can have.
 pub const STORE: [(&str, &[usize]); 4] = [
     ("check of a store", &[0, 30]),
-    ("save", &[0, 4, 30, 31, 32, 33]),
-    ("restore", &[1, 4, 30, 34, 35, 36, 37]),
+    ("save", &[0, 4, 14, 30, 31, 32, 33]),
+    ("restore", &[1, 4, 14, 30, 34, 35, 36, 37]),
     ("remove", &[1, 30, 34]),
 ];
 

@@ -1,4 +1,6 @@
-//! The device sheet: its check, views of its entries, and the lookups.
+//! The device sheet: its check, views of its entries, the lookups, and the conversion of an old one.
+
+use crate::faults::Fault;
 
 pub const FLAGS: usize = 14;
 pub const USERS: usize = 15;
@@ -9,14 +11,22 @@ pub const MASK: usize = 12;
 pub const ADDRESS: usize = 16;
 pub const KEYS: usize = 18;
 pub const RULES: usize = 30;
+/// The verdict on a sheet of edition 1 that breaks no rule, and the outcome of what is asked of it.
+pub const OLD: u8 = 14;
 /// The number of the later rules, which edition 2 alone may name.
 pub const LATER: u8 = 1;
 pub const HEAD: usize = 32;
 pub const LONGEST: usize = 16_384;
 
-/// The sample sheet of the rules, from the one file that has it.
+/// The sample sheet, from the one file that has it.
 pub const SAMPLE: [u8; 69] = listed(include_bytes!("../../../hosts/sample_sheet.inc"));
-/// A sheet of edition 2 with both memories, likewise.
+/// The same as it was in edition 1.
+pub const OLD_SAMPLE: [u8; 69] = {
+    let mut old = SAMPLE;
+    old[0] = 1;
+    old
+};
+/// A sheet with both memories, likewise.
 pub const PUMP: [u8; 101] = listed(include_bytes!("../../../hosts/pump_sheet.inc"));
 
 /// The sheet whose regions touch: what follows "# sheet" at the head of its cases.
@@ -123,12 +133,12 @@ fn regions_chained(entries: &[[u8; 8]], next: &mut usize) -> bool {
     chained
 }
 
-/// 0 if the sheet is accepted, else the number of the first rule broken.
+/// 0 if the sheet breaks no rule of its own edition, else the number of the first broken.
 ///
 /// One pass over the entries, but for the two memories' regions, of which rule
 /// 6 comes first. A misplaced body (rule 9) only counts once all entries have
 /// passed 6 to 8, so it is remembered in `chained` until the end.
-pub fn check(sheet: &[u8]) -> u8 {
+pub fn rule(sheet: &[u8]) -> u8 {
     let len = sheet.len();
     if !(HEAD..=LONGEST).contains(&len) {
         return 1;
@@ -204,6 +214,45 @@ pub fn check(sheet: &[u8]) -> u8 {
     }
 }
 
+/// 0 if the sheet is accepted, else the number of the first rule broken, or `OLD`.
+pub fn check(sheet: &[u8]) -> u8 {
+    match rule(sheet) {
+        0 if sheet[0] == 1 => OLD,
+        rule => rule,
+    }
+}
+
+/// Why nothing is asked of a sheet: 4 if it breaks a rule, `OLD` if it is old; 0 if it is accepted.
+pub fn refusal(fault: Fault, sheet: &[u8]) -> u8 {
+    if fault == Fault::OldBeforeBad && sheet.first() == Some(&1) {
+        return OLD;
+    }
+    match check(sheet) {
+        OLD if fault == Fault::OldServed => 0,
+        OLD => OLD,
+        0 => 0,
+        _ => 4,
+    }
+}
+
+/// Makes an old sheet one of edition 2, and gives 1; any other stays, and gets 4.
+pub fn convert(fault: Fault, sheet: &mut [u8]) -> u8 {
+    match check(sheet) {
+        OLD => {}
+        0 if fault == Fault::ConvertsAgain => return 1,
+        1..=9 if fault == Fault::ConvertsBad && sheet.first() == Some(&1) => {}
+        _ => return 4,
+    }
+    sheet[0] = 2;
+    match fault {
+        Fault::ConvertsToLater => sheet[RULES] = LATER,
+        Fault::ConvertClaimsUser => sheet[USERS] = 1,
+        Fault::ConvertEndsProgramming => sheet[FLAGS] &= !PROGRAMMING,
+        _ => {}
+    }
+    1
+}
+
 /// The number of the rules that a sheet names, 0 if it is none that can: 0 as
 /// in 01, 1 the later ones.
 pub fn rules(sheet: &[u8]) -> u8 {
@@ -261,7 +310,7 @@ impl Group {
     }
 }
 
-// The three walks below expect an accepted sheet.
+// The three walks below expect a sheet that breaks no rule.
 
 /// The two memories: the device's, and user memory, which edition 2 has.
 #[derive(Clone, Copy, Debug, PartialEq, Eq)]
@@ -308,25 +357,25 @@ pub fn groups(sheet: &[u8]) -> impl Iterator<Item = Group> + '_ {
     })
 }
 
-// Lookups: offset and length of a body, (0, 0) if there is none.
+// Lookups: offset and length of a body, (0, 0) if there is none or the sheet is not accepted.
 
-pub fn property(sheet: &[u8], object: u8, id: u8) -> (usize, usize) {
-    if check(sheet) != 0 {
+pub fn property(fault: Fault, sheet: &[u8], object: u8, id: u8) -> (usize, usize) {
+    if refusal(fault, sheet) != 0 {
         return (0, 0);
     }
     let found = properties(sheet).find(|p| (p.object, p.id) == (object, id));
     found.map_or((0, 0), |p| (p.body, p.size * p.maximum as usize))
 }
 
-pub fn region(sheet: &[u8], memory: Memory, k: usize) -> (usize, usize) {
-    if check(sheet) != 0 {
+pub fn region(fault: Fault, sheet: &[u8], memory: Memory, k: usize) -> (usize, usize) {
+    if refusal(fault, sheet) != 0 {
         return (0, 0);
     }
     regions(sheet, memory).nth(k).map_or((0, 0), |r| (r.body, r.length as usize))
 }
 
-pub fn group(sheet: &[u8], address: u16) -> (usize, usize) {
-    if check(sheet) != 0 {
+pub fn group(fault: Fault, sheet: &[u8], address: u16) -> (usize, usize) {
+    if refusal(fault, sheet) != 0 {
         return (0, 0);
     }
     let found = groups(sheet).find(|g| g.address == address);

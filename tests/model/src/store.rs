@@ -101,7 +101,7 @@ pub fn check(store: &[u8]) -> u8 {
     }
 }
 
-/// What a version of an accepted sheet holds.
+/// What a version of a sheet that breaks no rule holds.
 pub fn settings(sheet: &[u8]) -> Vec<u8> {
     let mut body = u16::from(sheet[2]).to_be_bytes().to_vec();
     for p in sheet::properties(sheet) {
@@ -115,8 +115,9 @@ pub fn settings(sheet: &[u8]) -> Vec<u8> {
 
 /// Outcome and number, which is 0 on a refusal.
 pub fn save(fault: Fault, sheet: &[u8], buffer: &mut [u8]) -> (u8, u16) {
-    if sheet::check(sheet) != 0 {
-        return (4, 0);
+    let refusal = sheet::refusal(fault, sheet);
+    if refusal != 0 {
+        return (refusal, 0);
     }
     let Some(mut store) = Store::read(buffer) else {
         return (30, 0);
@@ -189,8 +190,9 @@ pub fn restore(
     store: &[u8],
     number: u64,
 ) -> u8 {
-    if sheet::check(sheet) != 0 {
-        return 4;
+    let refusal = sheet::refusal(fault, sheet);
+    if refusal != 0 {
+        return refusal;
     }
     let Some(store) = Store::read(store) else {
         return 30;

@@ -117,7 +117,7 @@ fn line(fault: Fault, sessions: &mut Sessions, sheet: &mut [u8], event: &Event) 
         }
         Event::Connect(c) => device::connect_with(fault, sessions, *c),
         Event::Disconnect(c) => device::disconnect_with(fault, sessions, *c),
-        Event::Button(on) => device::button(sheet, *on),
+        Event::Button(on) => device::button_with(fault, sheet, *on),
     };
     line
 }

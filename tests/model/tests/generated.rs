@@ -2,23 +2,23 @@
 
 use std::collections::BTreeSet;
 
-use model::device::{button, connect_with, disconnect_with, request_with, Reply, Sessions};
+use model::device::{button_with, connect_with, disconnect_with, request_with, Reply, Sessions};
 use model::faults::Fault;
 use model::gen::{self, Event, Rng};
 use model::matrix::{self, ROWS};
 use model::pdu::{self, Pdu};
-use model::sheet::{self, Memory, LATER, RULES, USERS};
+use model::sheet::{self, Memory, LATER, OLD, RULES, USERS};
 
 #[test]
-fn sheets_are_accepted_and_of_many_sizes() {
+fn sheets_break_no_rule_and_are_of_many_sizes() {
     let mut rng = Rng::new(1);
     let mut lengths = BTreeSet::new();
     let mut seen = [[false; 65]; 4];
     let (mut touching, mut code_0, mut verify) = ([0; 2], 0, [0; 2]);
     let (mut editions, mut rules, mut shared) = ([0; 3], [0; 2], 0);
     for _ in 0..4000 {
-        let s = gen::sheet(&mut rng);
-        assert_eq!(sheet::check(&s), 0);
+        let s = gen::whole_sheet(&mut rng);
+        assert_eq!((sheet::rule(&s), sheet::check(&s) == OLD), (0, s[0] == 1));
         lengths.insert(s.len());
         editions[s[0] as usize] += 1;
         rules[s[RULES] as usize] += usize::from(s[0] == 2);
@@ -52,12 +52,12 @@ fn sheets_are_accepted_and_of_many_sizes() {
 #[test]
 fn damaged_sheets_break_every_rule() {
     let mut rng = Rng::new(2);
-    let mut seen = [0; 10];
+    let mut seen = [0; 15];
     for _ in 0..20_000 {
         let s = gen::any_sheet(&mut rng);
         seen[sheet::check(&s) as usize] += 1;
     }
-    assert!(seen.iter().all(|&n| n > 100), "{seen:?}");
+    assert!((0..10).chain([14]).all(|k| seen[k] > 100), "{seen:?}");
 }
 
 /// A device as the events find and leave it.
@@ -71,7 +71,7 @@ struct State {
 
 impl State {
     fn new(rng: &mut Rng) -> State {
-        let mut sheet = gen::sheet(rng);
+        let mut sheet = if rng.chance(10) { gen::old_sheet(rng) } else { gen::sheet(rng) };
         if rng.chance(8) {
             gen::damage(rng, &mut sheet);
         }
@@ -85,7 +85,7 @@ impl State {
         self.reply = match event {
             Event::Connect(c) => done(connect_with(fault, &mut self.sessions, *c)),
             Event::Disconnect(c) => done(disconnect_with(fault, &mut self.sessions, *c)),
-            Event::Button(on) => done(button(&mut self.sheet, *on)),
+            Event::Button(on) => done(button_with(fault, &mut self.sheet, *on)),
             Event::Found(c, session) => {
                 self.sessions[*c as usize] = *session;
                 done(1)
@@ -140,7 +140,7 @@ fn every_outcome_that_can_occur_does_and_no_other() {
             if ask.way.mode == 2 {
                 assert_eq!(outcome == 1, restarted, "{event:?}");
             }
-            if outcome != 4 && outcome != 3 {
+            if !matches!(outcome, 3 | 4 | OLD) {
                 assert_eq!(sheet::check(&state.sheet), 0, "{event:?}");
             }
             if count > 0 {
@@ -153,6 +153,64 @@ fn every_outcome_that_can_occur_does_and_no_other() {
             let (name, can) = (ROWS[row].0, matrix::cells(rules as u8, row));
             assert_eq!(can, *seen, "{name}, rules {rules}: {can:?} {seen:?}");
         }
+    }
+}
+
+/// What the release before made of an old sheet is what this one makes of the converted sheet, but for byte 0; as it is, the
+/// old one gets 14 and stays.
+#[test]
+fn old_sheets_are_converted() {
+    let mut rng = Rng::new(112);
+    let (mut refused, mut served) = (0, 0);
+    for _ in 0..2000 {
+        let mut old = State::new(&mut rng);
+        old.sheet = gen::old_sheet(&mut rng);
+        let mut new = old.clone();
+        assert_eq!(sheet::convert(Fault::None, &mut new.sheet), 1);
+        assert_eq!((new.sheet[0], &new.sheet[1..]), (2, &old.sheet[1..]));
+        assert_eq!((sheet::check(&new.sheet), sheet::rules(&new.sheet)), (0, 0));
+        assert_eq!(sheet::convert(Fault::None, &mut new.sheet), 4);
+        for _ in 0..40 {
+            let event = gen::event(&mut rng, &new.sheet);
+            let mut now = old.clone();
+            now.step(Fault::None, &event);
+            old.step(Fault::OldServed, &event);
+            new.step(Fault::None, &event);
+            let edition = std::mem::replace(&mut new.sheet[0], 1);
+            assert_eq!((edition, &new), (2, &old), "{event:?}");
+            new.sheet[0] = edition;
+            match &event {
+                Event::Request(ask) => {
+                    assert_eq!(now.reply.outcome, if ask.buffer.len() < 16 { 3 } else { OLD });
+                    assert_eq!(now.buffer, ask.buffer);
+                    refused += 1;
+                    served += usize::from(new.reply.outcome <= 1);
+                }
+                Event::Button(_) => assert_eq!(now.reply.outcome, OLD),
+                _ => assert_eq!(now.reply, new.reply),
+            }
+        }
+    }
+    assert!(served > 10_000 && refused > 2 * served, "{served} {refused}");
+}
+
+/// Each fault of old sheets shows in the verdict of what is asked, or in a conversion.
+#[test]
+fn faults_of_old_sheets_show() {
+    for fault in Fault::OLD {
+        let mut rng = Rng::new(113);
+        let mut found = 0;
+        for _ in 0..2000 {
+            let right = gen::any_sheet(&mut rng);
+            let (mut one, mut two) = (right.clone(), right.clone());
+            let convert =
+                |fault, sheet: &mut Vec<u8>| (sheet::convert(fault, sheet), sheet.clone());
+            let differs = convert(Fault::None, &mut one) != convert(fault, &mut two)
+                || sheet::refusal(Fault::None, &right) != sheet::refusal(fault, &right);
+            found += usize::from(differs);
+        }
+        println!("{fault:?}: {found} of 2000 sheets");
+        assert!(found >= 20, "{fault:?} {found}");
     }
 }
 

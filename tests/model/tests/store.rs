@@ -3,7 +3,7 @@
 use model::device::{Session, Sessions, FRESH};
 use model::faults::Fault;
 use model::gen::{self, stores, Rng};
-use model::sheet::{self, SAMPLE};
+use model::sheet::{self, OLD_SAMPLE, SAMPLE};
 use model::store::{self, Store, Version};
 
 const INSTALLER: Sessions = [Session { open: true, level: 0 }, Session::CLOSED];
@@ -169,6 +169,32 @@ fn refused_in_order() {
     bytes.push(0xEE);
     assert_eq!(save(&SAMPLE, &mut bytes), (0, 9));
     assert_eq!(save(&[], &mut [0; 8]), (4, 0));
+    // an old sheet right after a bad one, and before the store
+    assert_eq!((save(&OLD_SAMPLE, &mut []), save(&[], &mut [])), ((14, 0), (4, 0)));
+    assert_eq!(restore(&FRESH, 0, &mut OLD_SAMPLE.to_vec(), &[], 1), 14);
+}
+
+/// A version that the release before saved from an old sheet is restored on the converted one, as it would have been then.
+#[test]
+fn versions_survive() {
+    let mut rng = Rng::new(112);
+    let mut seen = std::collections::BTreeMap::new();
+    for _ in 0..2000 {
+        let old = gen::old_sheet(&mut rng);
+        let mut buffer = stores::store(&mut rng, &old);
+        store::save(Fault::OldServed, &old, &mut buffer);
+        let number = stores::number(&mut rng, &buffer);
+        let (mut before, mut now) = (old.clone(), old.clone());
+        assert_eq!(restore(&INSTALLER, 0, &mut now, &buffer, number), 14);
+        assert_eq!((sheet::convert(Fault::None, &mut now), &now[1..]), (1, &old[1..]));
+        let then = store::restore(Fault::OldServed, &INSTALLER, 0, &mut before, &buffer, number);
+        assert_eq!(restore(&INSTALLER, 0, &mut now, &buffer, number), then);
+        assert_eq!((now[0], &now[1..]), (2, &before[1..]));
+        *seen.entry(then).or_insert(0) += 1;
+    }
+    for outcome in [1, 34, 36, 37] {
+        assert!(seen.get(&outcome).is_some_and(|&n| n > 50), "{seen:?}");
+    }
 }
 
 /// What holds of any run of calls: good stays good, kept versions keep their bytes, no number is given twice, a refusal

@@ -1,9 +1,10 @@
 //! Fixed cases: those of tests/vectors, the marked ones among them, further ones, and the PDU layouts.
 
 use model::device::{button, connect, disconnect, request, Reply, Session, Sessions, Way, FRESH};
+use model::faults::Fault;
 use model::gen::{any_sheet, Rng};
 use model::pdu::{self, Pdu};
-use model::sheet::{self, touching, Memory, PUMP, SAMPLE};
+use model::sheet::{self, touching, Memory, OLD, OLD_SAMPLE, PUMP, SAMPLE};
 
 fn hex(text: &str) -> Vec<u8> {
     let digits: Vec<u8> = text.chars().filter_map(|c| c.to_digit(16)).map(|d| d as u8).collect();
@@ -325,6 +326,24 @@ fn sessions_and_button() {
     assert_eq!((button(&mut sheet, false), sheet), (1, SAMPLE));
     sheet[0] = 3;
     assert_eq!((button(&mut sheet, true), sheet[14]), (4, 2));
+    sheet[0] = 1;
+    assert_eq!((button(&mut sheet, true), sheet), (OLD, OLD_SAMPLE));
+}
+
+#[test]
+fn conversion() {
+    let mut sheet = OLD_SAMPLE;
+    assert_eq!((sheet::convert(Fault::None, &mut sheet), sheet), (1, SAMPLE));
+    assert_eq!((sheet::convert(Fault::None, &mut sheet), sheet), (4, SAMPLE));
+    let mut pump = PUMP;
+    assert_eq!((sheet::convert(Fault::None, &mut pump), pump), (4, PUMP));
+    for (at, byte) in [(0, 0), (0, 3), (5, 0x44), (14, 4), (15, 1), (30, 1), (39, 1)] {
+        let mut bad = OLD_SAMPLE;
+        bad[at] = byte;
+        let found = bad;
+        assert_eq!((sheet::convert(Fault::None, &mut bad), bad), (4, found), "byte {at} = {byte}");
+    }
+    assert_eq!(sheet::convert(Fault::None, &mut []), 4);
 }
 
 /// A device and what two tools do with it, each request with outcome and answer.
@@ -406,7 +425,10 @@ fn order_of_refusals() {
     let mut sessions = [Session::CLOSED, OTHER];
     let mut bad = SAMPLE;
     bad[0] = 3;
-    let mut good = SAMPLE;
+    let (mut good, mut old) = (SAMPLE, OLD_SAMPLE);
+    // of edition 1, but no old sheet
+    let mut worse = OLD_SAMPLE;
+    worse[30] = 1;
     let mut ask = |sheet: &mut [u8], room, mode, apdu: &[u8]| {
         let mut buffer = vec![9; room];
         let way = Way { mode, connection: 0, group: 0 };
@@ -416,6 +438,10 @@ fn order_of_refusals() {
     };
     assert_eq!(ask(&mut bad, 15, 4, &[]), 3);
     assert_eq!(ask(&mut bad, 16, 4, &[]), 4);
+    assert_eq!(ask(&mut worse, 16, 4, &[]), 4);
+    assert_eq!(ask(&mut old, 15, 4, &[]), 3);
+    assert_eq!(ask(&mut old, 16, 4, &[]), OLD);
+    assert_eq!(ask(&mut old, 16, 2, &[3, 0]), OLD);
     assert_eq!(ask(&mut good, 16, 4, &[]), 5);
     assert_eq!(ask(&mut good, 16, 4, &[0; 17]), 5);
     assert_eq!(ask(&mut good, 16, 4, &[1, 0x40]), 6);
@@ -598,7 +624,7 @@ fn writing_refused() {
 
 #[test]
 fn rules_of_the_sheet() {
-    assert_eq!(sheet::check(&SAMPLE), 0);
+    assert_eq!((sheet::check(&SAMPLE), sheet::check(&OLD_SAMPLE)), (0, OLD));
     assert_eq!(sheet::check(&[]), 1);
     assert_eq!(sheet::check(&SAMPLE[..31]), 1);
     assert_eq!(sheet::check(&SAMPLE[..68]), 4);
@@ -606,8 +632,8 @@ fn rules_of_the_sheet() {
     // position, new byte, rule
     #[rustfmt::skip]
     let cases = [
-        (0, 0, 2), (0, 3, 2), (0, 2, 0), (1, 17, 3), (2, 65, 3), (3, 65, 3), (1, 6, 4), (5, 0x44, 4), (14, 4, 5),
-        (15, 1, 5), (30, 1, 5), (31, 1, 5), (35, 0, 6), (34, 0xFF, 6), (38, 0x42, 6),
+        (0, 0, 2), (0, 3, 2), (0, 2, 0), (0, 1, OLD), (1, 17, 3), (2, 65, 3), (3, 65, 3), (1, 6, 4), (5, 0x44, 4), (14, 4, 5),
+        (15, 1, 6), (30, 1, 0), (30, 2, 5), (31, 1, 5), (35, 0, 6), (34, 0xFF, 6), (38, 0x42, 6),
         (38, 0x34, 6), (39, 1, 6), (41, 0, 7), (42, 0xC4, 7), (43, 0, 7), (43, 11, 7),
         (45, 0, 7), (44, 16, 7), (47, 3, 7), (50, 0x41, 7), (50, 0x34, 7), (51, 1, 7),
         (54, 15, 8), (55, 8, 8), (58, 1, 8), (59, 1, 8), (35, 5, 9), (37, 0x3D, 9), (43, 3, 9),
@@ -618,6 +644,12 @@ fn rules_of_the_sheet() {
         let mut sheet = SAMPLE;
         sheet[at] = byte;
         assert_eq!(sheet::check(&sheet), rule, "byte {at} = {byte}");
+        // in edition 1 bytes 15 and 30 are 0, and what breaks no rule is old
+        let mut sheet = OLD_SAMPLE;
+        sheet[at] = byte;
+        let rule = if matches!(at, 15 | 30) { 5 } else { rule };
+        let old = rule == 0 && at > 0;
+        assert_eq!(sheet::check(&sheet), if old { OLD } else { rule }, "old, byte {at} = {byte}");
     }
     // A six-bit value of 64; a misplaced body yields to a bad entry further on.
     let mut sheet = SAMPLE;
@@ -629,6 +661,8 @@ fn rules_of_the_sheet() {
     // The bare head, and a full address space behind one region.
     let mut bare = [0; 32];
     (bare[0], bare[5]) = (1, 32);
+    assert_eq!(sheet::check(&bare), OLD);
+    bare[0] = 2;
     assert_eq!(sheet::check(&bare), 0);
     let mut sheet = SAMPLE;
     (sheet[32], sheet[33]) = (0xFF, 0xFC);
@@ -678,7 +712,7 @@ fn rules_of_edition_2() {
         sheet[15] = 0;
         let [first, second] = [1, 2].map(|edition| {
             sheet[0] = edition;
-            sheet::check(&sheet)
+            sheet::rule(&sheet)
         });
         let later = sheet[30] == 1 && (second == 0 || second > 5);
         assert_eq!(first, if later { 5 } else { second });
@@ -687,23 +721,24 @@ fn rules_of_edition_2() {
 
 #[test]
 fn lookups() {
-    assert_eq!(sheet::region(&SAMPLE, Memory::Device, 0), (60, 4));
-    assert_eq!(sheet::property(&SAMPLE, 1, 0x33), (64, 4));
-    assert_eq!(sheet::group(&SAMPLE, 0x0801), (68, 1));
-    assert_eq!(sheet::region(&SAMPLE, Memory::Device, 1), (0, 0));
-    assert_eq!(sheet::property(&SAMPLE, 1, 0), (0, 0));
-    assert_eq!(sheet::group(&SAMPLE, 0), (0, 0));
-    assert_eq!(sheet::region(&SAMPLE, Memory::User, 0), (0, 0));
-    assert_eq!(sheet::region(&PUMP, Memory::Device, 0), (76, 4));
-    assert_eq!(sheet::region(&PUMP, Memory::Device, 1), (0, 0));
-    assert_eq!(sheet::region(&PUMP, Memory::User, 0), (85, 4));
-    assert_eq!(sheet::region(&PUMP, Memory::User, 1), (89, 12));
-    assert_eq!(sheet::region(&PUMP, Memory::User, 2), (0, 0));
-    assert_eq!(sheet::region(&PUMP[..100], Memory::User, 0), (0, 0));
-    let bad = &SAMPLE[..68];
-    assert_eq!(
-        (sheet::region(bad, Memory::Device, 0), sheet::property(bad, 1, 0x33)),
-        ((0, 0), (0, 0))
-    );
-    assert_eq!(sheet::group(bad, 0x0801), (0, 0));
+    let region = |sheet: &[u8], memory, k| sheet::region(Fault::None, sheet, memory, k);
+    let property = |sheet: &[u8], object, id| sheet::property(Fault::None, sheet, object, id);
+    let group = |sheet: &[u8], address| sheet::group(Fault::None, sheet, address);
+    assert_eq!(region(&SAMPLE, Memory::Device, 0), (60, 4));
+    assert_eq!(property(&SAMPLE, 1, 0x33), (64, 4));
+    assert_eq!(group(&SAMPLE, 0x0801), (68, 1));
+    assert_eq!(region(&SAMPLE, Memory::Device, 1), (0, 0));
+    assert_eq!(property(&SAMPLE, 1, 0), (0, 0));
+    assert_eq!(group(&SAMPLE, 0), (0, 0));
+    assert_eq!(region(&SAMPLE, Memory::User, 0), (0, 0));
+    assert_eq!(region(&PUMP, Memory::Device, 0), (76, 4));
+    assert_eq!(region(&PUMP, Memory::Device, 1), (0, 0));
+    assert_eq!(region(&PUMP, Memory::User, 0), (85, 4));
+    assert_eq!(region(&PUMP, Memory::User, 1), (89, 12));
+    assert_eq!(region(&PUMP, Memory::User, 2), (0, 0));
+    assert_eq!(region(&PUMP[..100], Memory::User, 0), (0, 0));
+    for bad in [&SAMPLE[..68], &OLD_SAMPLE] {
+        assert_eq!(region(bad, Memory::Device, 0), (0, 0));
+        assert_eq!((property(bad, 1, 0x33), group(bad, 0x0801)), ((0, 0), (0, 0)));
+    }
 }

@@ -1,4 +1,4 @@
-//! The rules S1 to S9, each broken one with the field and the entry that break it.
+//! The rules S1 to S9, each broken one with the field and the entry that break it; and old sheets, which break none.
 
 use std::fmt;
 
@@ -7,7 +7,10 @@ use crate::layout::{
     Kind, HEAD, KINDS, LATER, LONGEST,
 };
 
-/// The first rule that a sheet breaks.
+/// What stands in the place of a rule where a sheet is old.
+pub const OLD: u8 = 14;
+
+/// Why a sheet is not accepted: the first rule that it breaks, or that it is old.
 #[derive(Clone, Debug, PartialEq, Eq)]
 pub struct Broken {
     pub rule: u8,
@@ -18,7 +21,10 @@ pub struct Broken {
 
 impl fmt::Display for Broken {
     fn fmt(&self, f: &mut fmt::Formatter<'_>) -> fmt::Result {
-        write!(f, "S{}: {}", self.rule, self.why)
+        match self.rule {
+            OLD => write!(f, "old: {}", self.why),
+            rule => write!(f, "S{rule}: {}", self.why),
+        }
     }
 }
 
@@ -30,8 +36,14 @@ fn whole(rule: u8, broken: bool, why: impl FnOnce() -> String) -> Result<(), Bro
     Ok(())
 }
 
-/// Accepted, or the first rule broken: S1 to S5, then S6 of all regions of both memories, S7, S8, S9.
+/// Accepted, or why not: the first rule broken, and after all of them that it is old.
 pub fn check(s: &[u8]) -> Result<(), Broken> {
+    rules(s)?;
+    whole(OLD, s[0] == 1, || "convert it".to_string())
+}
+
+/// The first rule broken, if there is one: S1 to S5, then S6 of all regions of both memories, S7, S8, S9.
+pub fn rules(s: &[u8]) -> Result<(), Broken> {
     head(s)?;
     regions(s, Kind::Region)?;
     regions(s, Kind::User)?;

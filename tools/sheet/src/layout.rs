@@ -1,6 +1,6 @@
-//! The places of a sheet: what stands where, and the values of an accepted sheet taken apart and put together again.
+//! The places of a sheet: what stands where, and the values of a sheet, accepted or old, taken apart and put together again.
 
-use crate::check::{check, Broken};
+use crate::check::{rules, Broken};
 
 pub const HEAD: usize = 32;
 pub const LONGEST: usize = 16_384;
@@ -112,7 +112,7 @@ pub fn hex(bytes: &[u8]) -> String {
 
 // ---- values ----
 
-/// All that an accepted sheet says; places and lengths follow from it.
+/// All that a sheet says, accepted or old; places and lengths follow from it.
 #[derive(Clone, Debug, PartialEq, Eq)]
 pub struct Sheet {
     pub edition: u8,
@@ -215,9 +215,9 @@ pub fn properties<'a>(pairs: impl Iterator<Item = (&'a [u8], Vec<u8>)>) -> Vec<P
 }
 
 impl Sheet {
-    /// The values of a sheet, if it is accepted.
+    /// The values of a sheet, if it breaks no rule.
     pub fn read(s: &[u8]) -> Result<Sheet, Broken> {
-        check(s)?;
+        rules(s)?;
         Ok(Sheet {
             edition: s[0],
             rules: s[30],

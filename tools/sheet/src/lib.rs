@@ -2,6 +2,7 @@
 //! docs/SHEET.md has the layout, the rules and the form of the text.
 
 pub mod check;
+pub mod convert;
 pub mod diff;
 pub mod layout;
 pub mod make;

@@ -1,13 +1,14 @@
-//! `sheet check|show|make|diff`: the device sheet as text; `sheet versions`: its store of versions. Exit status 0; 1 if a
-//! sheet is not accepted, a store not good, or two differ;
+//! `sheet check|show|make|diff`: the device sheet as text; `sheet convert`: an old one made new; `sheet versions`: its store of
+//! versions. Exit status 0; 1 if a sheet is not accepted, or not old where that is asked for, a store not good, or two differ;
 //! 2 with a line on standard error for anything else: a file that can't be read, a text with a fault, a wrong word.
 //! `--help` and `--version` are asked for, so they go to standard output with status 0.
 
-use std::fs::File;
+use std::fs::{self, File};
 use std::io::{self, Read, Write};
 use std::process::ExitCode;
 
-use sheet::check::{check, Broken};
+use sheet::check::{check, rules, Broken};
+use sheet::convert::converted;
 use sheet::layout::{Sheet, LONGEST};
 use sheet::versions::{self, Store};
 use sheet::{diff, make, show};
@@ -35,6 +36,10 @@ fn main() -> ExitCode {
         ["show", file] => load(file).map(|bytes| shown(&bytes, false)),
         ["make", text] => made(text),
         ["diff", a, b] => differ(a, b),
+        ["convert", "--force", old, new] | ["convert", old, new, "--force"] => {
+            convert(old, new, true)
+        }
+        ["convert", old, new] => convert(old, new, false),
         ["--help"] | ["help"] => Ok((HELP.into(), 0)),
         ["--version"] => Ok((line(format!("sheet of kelindap {}", version())), 0)),
         ["versions", store] => listed(store),
@@ -126,12 +131,44 @@ fn made(name: &str) -> Said {
     make::bytes(&text).map(|sheet| (sheet, 0)).map_err(|fault| format!("{name}: {fault}"))
 }
 
+/// Converts a sheet into a file, which is not there yet unless it may be replaced; what has changed.
+fn convert(old: &str, new: &str, force: bool) -> Said {
+    if new == "-" {
+        return Err("a sheet is converted into a file, and - is none".to_string());
+    }
+    let bytes = load(old)?;
+    let made = match converted(&bytes) {
+        Ok(made) => made,
+        Err(why) => return Ok((line(why), 1)),
+    };
+    keep(new, &made, force).map_err(|why| match why.kind() {
+        io::ErrorKind::AlreadyExists => format!("{new} is there already: --force replaces it"),
+        _ => format!("{new}: {why}"),
+    })?;
+    let lines = Sheet::read(&bytes).and_then(|old| Ok(diff::lines(&old, &Sheet::read(&made)?)));
+    Ok((lines.map_err(|broken| broken.to_string())?.iter().flat_map(line).collect(), 0))
+}
+
+/// Writes a file that is not there yet. To replace one, it is written beside it under another name and then renamed, so that at
+/// any moment the old one or the new one is there, whole.
+fn keep(name: &str, bytes: &[u8], replace: bool) -> io::Result<()> {
+    let beside = format!("{name}.{}", std::process::id());
+    let first = if replace { &beside } else { name };
+    let mut file = File::create_new(first)?;
+    let written = file.write_all(bytes).and_then(|()| file.sync_all());
+    let done = written.and_then(|()| if replace { fs::rename(first, name) } else { Ok(()) });
+    if done.is_err() {
+        let _ = fs::remove_file(first); // a part of a sheet is none
+    }
+    done
+}
+
 fn differ(a: &str, b: &str) -> Said {
-    let accepted = |name: &str| {
+    let whole = |name: &str| {
         let broken = |broken: Broken| format!("{name}: {broken}");
         load(name).and_then(|bytes| Sheet::read(&bytes).map_err(broken))
     };
-    let lines = diff::lines(&accepted(a)?, &accepted(b)?);
+    let lines = diff::lines(&whole(a)?, &whole(b)?);
     let status = u8::from(!lines.is_empty());
     Ok((lines.iter().flat_map(line).collect(), status))
 }
@@ -156,7 +193,7 @@ fn since(store: &str, number: &str, file: &str) -> Said {
     let version =
         kept.version(n).ok_or_else(|| format!("{store}: no version has the number {n}"))?;
     let bytes = load(file)?;
-    check(&bytes).map_err(|broken| format!("{file}: {broken}"))?;
+    rules(&bytes).map_err(|broken| format!("{file}: {broken}"))?;
     let lines = versions::lines(version, &bytes).map_err(|why| format!("{store}: {why}"))?;
     let status = u8::from(!lines.is_empty());
     Ok((lines.iter().flat_map(line).collect(), status))

@@ -197,9 +197,10 @@ impl<'a> Fields<'a> {
 
 #[derive(Default)]
 struct Draft {
+    /// The edition, 2 if it is not given.
     edition: Option<u8>,
-    /// The rules, 0 if they are not given, and their line.
-    rules: Option<(u8, usize)>,
+    /// The rules, 0 if they are not given.
+    rules: Option<u8>,
     serial: Option<[u8; 6]>,
     mask: Option<[u8; 2]>,
     programming: Option<bool>,
@@ -227,11 +228,14 @@ impl Draft {
         match *first {
             "edition" => {
                 let edition = number("edition", only("edition", rest)?, 1, 2)?;
+                if edition == 1 {
+                    return Err("edition 1 is old: write 2".to_string());
+                }
                 once("edition", &mut self.edition, edition as u8)
             }
             "rules" => {
                 let rules = byte("rules", only("rules", rest)?, LATER)?;
-                once("rules", &mut self.rules, (rules, line))
+                once("rules", &mut self.rules, rules)
             }
             "serial" => {
                 once("serial", &mut self.serial, hex_bytes("serial", only("serial", rest)?)?)
@@ -350,17 +354,10 @@ impl Draft {
             return Err(Fault { line: last, what });
         }
         self.fill()?;
-        let (lines, rules) = (self.lines.clone(), self.rules);
+        let lines = self.lines.clone();
         let sheet = self
             .sheet()
             .map_err(|field| Fault { line: last, what: format!("{field} is missing") })?;
-        if let (1, Some(&line)) = (sheet.edition, lines[Kind::User as usize].first()) {
-            let what = "a sheet of edition 1 has no user regions".to_string();
-            return Err(Fault { line, what });
-        }
-        if let (1, Some((1.., line))) = (sheet.edition, rules) {
-            return Err(Fault { line, what: "a sheet of edition 1 has rules 0".to_string() });
-        }
         let bytes = sheet.bytes();
         let at = |b: Broken| Fault {
             line: b.entry.map_or(last, |(kind, i)| lines[kind as usize][i]),
@@ -394,8 +391,8 @@ impl Draft {
     /// The values, or the first field of the head that is missing.
     fn sheet(self) -> Result<Sheet, &'static str> {
         Ok(Sheet {
-            edition: self.edition.ok_or("edition")?,
-            rules: self.rules.map_or(0, |(rules, _)| rules),
+            edition: self.edition.unwrap_or(2),
+            rules: self.rules.unwrap_or(0),
             serial: self.serial.ok_or("serial")?,
             mask: self.mask.ok_or("mask")?,
             programming: self.programming.ok_or("programming")?,

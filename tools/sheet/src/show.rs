@@ -53,10 +53,10 @@ pub fn switch(on: bool) -> &'static str {
 }
 
 fn head(sheet: &Sheet, keys: bool) -> String {
-    let mut out = format!("edition {}\n", sheet.edition);
-    if sheet.edition == 2 {
-        out += &format!("rules {}\n", sheet.rules);
-    }
+    let mut out = match sheet.edition {
+        1 => "edition 1  # old: convert it\n".to_string(),
+        edition => format!("edition {edition}\nrules {}\n", sheet.rules),
+    };
     out += &format!("serial {}\n", hex(&sheet.serial));
     out += &format!("mask {}\n", hex(&sheet.mask));
     out += &format!("programming {}\n", switch(sheet.programming));

@@ -1,6 +1,6 @@
 //! A store of versions for people: what it keeps, and what tells a version from a sheet. docs/STORE.md has the layout.
 
-use crate::check::property_fault;
+use crate::check::{check, property_fault};
 use crate::diff;
 use crate::layout::{body_length, entries, name, properties, word, Kind, Property};
 use crate::show::property_text;
@@ -116,7 +116,7 @@ impl Settings {
         Ok(Settings { properties: properties(pairs.into_iter()), offsets })
     }
 
-    /// Of an accepted sheet.
+    /// Of a sheet that breaks no rule.
     fn of(sheet: &[u8]) -> Settings {
         let all = entries(sheet, Kind::Property);
         let pairs = all.map(|e| {
@@ -157,8 +157,8 @@ pub fn text(store: &Store) -> String {
     out
 }
 
-/// What tells an accepted sheet from a version, by meaning: none exactly if it has the version's settings. The last line
-/// says so if a restore would be refused for what the version holds. Else what is wrong with the version.
+/// What tells a sheet that breaks no rule from a version, by meaning: none exactly if it is accepted and has the version's
+/// settings. The last line says so if a restore would be refused for sheet or version. Else what is wrong with the version.
 pub fn lines(version: &Version, sheet: &[u8]) -> Result<Vec<String>, String> {
     let held = Settings::read(&version.body)
         .map_err(|why| format!("version {} holds no settings: {why}", version.number))?;
@@ -171,7 +171,9 @@ pub fn lines(version: &Version, sheet: &[u8]) -> Result<Vec<String>, String> {
             lines.push(format!("property {}/{} offset: {offset} → {at}", p.object, p.id));
         }
     }
-    if !alike(&held, &now) {
+    if check(sheet).is_err() {
+        lines.push("a restore is refused by 14: the sheet is old, convert it".to_string());
+    } else if !alike(&held, &now) {
         lines.push(
             "a restore is refused by 36: entries differ in more than their counts".to_string(),
         );

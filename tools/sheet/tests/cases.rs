@@ -1,11 +1,13 @@
 //! The sample sheet by hand, each rule's words, each fault's words.
 
-use model::sheet::{PUMP, SAMPLE};
+use model::sheet::{OLD_SAMPLE, PUMP, SAMPLE};
 use sheet::check::check;
+use sheet::convert::converted;
 use sheet::layout::Sheet;
 use sheet::{diff, make, show};
 
-const TEXT: &str = "edition 1
+const TEXT: &str = "edition 2
+rules 0
 serial 00c501020304
 mask 07b0
 programming off
@@ -77,12 +79,12 @@ fn by_hand() {
 /// Other ways to write the same.
 #[test]
 fn free_forms() {
-    let other = "# a sheet\r\n\r\nkey 2 FFFFFFFF\nverify on # both\nedition 1\nprogramming off\n\tmask 07B0\n
+    let other = "# a sheet\r\n\r\nkey 2 FFFFFFFF\nverify on # both\nedition 2\nprogramming off\n\tmask 07B0\n
         key 1 22222222\nserial 00C501020304\naddress 1.1.5\nkey 0 11111111
         group 1/0/1 write read code 1\n00\nregion 256 w2 r3\na0 A1\na2 a3
         property 1/33h r3 w1 count 1 maximum 2 writable size 2 type 04h\n3e8h 0\n\tend # of it";
     assert_eq!(make::bytes(other).unwrap(), SAMPLE);
-    assert_eq!(make::bytes(&TEXT.replace("edition 1", "rules 0\nedition 1")).unwrap(), SAMPLE);
+    assert_eq!(make::bytes(&TEXT.replace("edition 2\nrules 0\n", "")).unwrap(), SAMPLE);
     assert_eq!(make::bytes(&PUMP_TEXT.replace("rules 0\n", "")).unwrap(), PUMP);
 }
 
@@ -111,7 +113,9 @@ fn rules() {
     assert_eq!(told(&[(3, 65)]), "S3: 65 group objects, more than 64");
     assert_eq!(told(&[(5, 70)]), "S4: the head states 70 bytes, the sheet has 69");
     assert_eq!(told(&[(3, 3)]), "S4: head and entries take 76 bytes, the sheet has 69");
-    assert_eq!(told(&[(30, 9)]), "S5: byte 30 of the head is 9, not 0");
+    assert_eq!(told(&[(30, 9)]), "S5: rules 9, not 0 or 1");
+    assert_eq!(told(&[(0, 1), (30, 9)]), "S5: byte 30 of the head is 9, not 0");
+    assert_eq!(told(&[(0, 1)]), "old: convert it");
     assert_eq!(told(&[(14, 4)]), "S5: flags 4, of which only 1 and 2 may be set");
     assert_eq!(told(&[(35, 0)]), "S6: region 0100h, length 0");
     assert_eq!(
@@ -170,63 +174,64 @@ fn order() {
         |from: &str, to: &str| make::bytes(&TEXT.replace(from, to)).unwrap_err().to_string();
     assert_eq!(
         twice("\nproperty", "\nregion 0102h r3 w3\n 00\nproperty"),
-        "line 14: S6: region 0102h, first address below the end of the region before, 0104h"
+        "line 15: S6: region 0102h, first address below the end of the region before, 0104h"
     );
     assert_eq!(
         twice("\ngroup", "\nproperty 1/51 type 1 size 1 maximum 1 count 0 r3 w3\ngroup"),
-        "line 17: S7: property 1/51, object and id not above the property before, 1/51"
+        "line 18: S7: property 1/51, object and id not above the property before, 1/51"
     );
     assert_eq!(
         twice("    00\n", "    00\ngroup 1/0/0 code 1\n 00"),
-        "line 19: S8: group object 1/0/0, address not above the group object before, 1/0/1"
+        "line 20: S8: group object 1/0/0, address not above the group object before, 1/0/1"
     );
 }
 
 #[test]
 fn faults() {
     let cases = [
-        ("edition 1", "edition 3", "line 1: edition is \"3\", not 1 to 2"),
-        ("edition 1\n", "", "line 19: edition is missing"),
-        ("mask 07b0", "mask 7b0", "line 3: mask is not 4 hex digits: \"7b0\""),
-        ("mask 07b0", "mask", "line 3: mask has no value"),
-        ("verify on", "verify yes", "line 5: verify is on or off: \"yes\""),
-        ("verify on", "verify on\nverify on", "line 6: verify is given twice"),
-        ("1.1.5", "1.16.5", "line 6: address is \"16\", not 0 to 15"),
-        ("1.1.5", "1.1", "line 6: address has not 3 parts with . between them: \"1.1\""),
-        ("key 2", "key 3", "line 9: level of the key is \"3\", not 0 to 2"),
-        ("key 2 ffffffff", "", "line 20: key 2 is missing"),
-        ("mask", "rules 1\nmask", "line 3: a sheet of edition 1 has rules 0"),
-        ("key 2", "keys 2", "line 9: \"keys\" is no name of a field, and no entry has begun"),
+        ("edition 2", "edition 3", "line 1: edition is \"3\", not 1 to 2"),
+        ("edition 2", "edition 1", "line 1: edition 1 is old: write 2"),
+        ("serial 00c501020304\n", "", "line 20: serial is missing"),
+        ("mask 07b0", "mask 7b0", "line 4: mask is not 4 hex digits: \"7b0\""),
+        ("mask 07b0", "mask", "line 4: mask has no value"),
+        ("verify on", "verify yes", "line 6: verify is on or off: \"yes\""),
+        ("verify on", "verify on\nverify on", "line 7: verify is given twice"),
+        ("1.1.5", "1.16.5", "line 7: address is \"16\", not 0 to 15"),
+        ("1.1.5", "1.1", "line 7: address has not 3 parts with . between them: \"1.1\""),
+        ("key 2", "key 3", "line 10: level of the key is \"3\", not 0 to 2"),
+        ("key 2 ffffffff", "", "line 21: key 2 is missing"),
+        ("mask", "rules 1\nmask", "line 4: rules is given twice"),
+        ("key 2", "keys 2", "line 10: \"keys\" is no name of a field, and no entry has begun"),
         (
             "0100h r3",
             "10000h r3",
-            "line 11: region 10000h, first address is \"10000h\", not 0 to 65535",
+            "line 12: region 10000h, first address is \"10000h\", not 0 to 65535",
         ),
-        ("r3 w2", "r3", "line 11: region 0100h, write level is missing: w0 to w3"),
-        ("r3 w2", "r4 w2", "line 11: region 0100h, read level is \"4\", not 0 to 3"),
-        ("a1 a2", "a1 2", "line 12: byte 2 of the region is not 2 hex digits: \"2\""),
-        ("    a0 a1 a2 a3\n", "", "line 11: S6: region 0100h, length 0"),
-        ("type 4 ", "", "line 14: property 1/51, type is missing"),
-        ("type 4 ", "type 64 ", "line 14: property 1/51, type is \"64\", not 0 to 63"),
-        ("size 2", "size 11", "line 14: property 1/51, size is \"11\", not 1 to 10"),
-        ("count 1", "count 3", "line 14: S7: property 1/51, count 3 above maximum 2"),
-        ("w1", "w1 open", "line 14: property 1/51, \"open\" is no field of it, or one too many"),
-        ("1000", "65536", "line 15: property 1/51, element 1 is \"65536\", not 0 to 65535"),
-        ("1000", "1 2 3", "line 15: property 1/51, element 3 is one too many: maximum 2"),
-        ("1000", "x", "line 15: property 1/51, element 1 is no number: \"x\""),
+        ("r3 w2", "r3", "line 12: region 0100h, write level is missing: w0 to w3"),
+        ("r3 w2", "r4 w2", "line 12: region 0100h, read level is \"4\", not 0 to 3"),
+        ("a1 a2", "a1 2", "line 13: byte 2 of the region is not 2 hex digits: \"2\""),
+        ("    a0 a1 a2 a3\n", "", "line 12: S6: region 0100h, length 0"),
+        ("type 4 ", "", "line 15: property 1/51, type is missing"),
+        ("type 4 ", "type 64 ", "line 15: property 1/51, type is \"64\", not 0 to 63"),
+        ("size 2", "size 11", "line 15: property 1/51, size is \"11\", not 1 to 10"),
+        ("count 1", "count 3", "line 15: S7: property 1/51, count 3 above maximum 2"),
+        ("w1", "w1 open", "line 15: property 1/51, \"open\" is no field of it, or one too many"),
+        ("1000", "65536", "line 16: property 1/51, element 1 is \"65536\", not 0 to 65535"),
+        ("1000", "1 2 3", "line 16: property 1/51, element 3 is one too many: maximum 2"),
+        ("1000", "x", "line 16: property 1/51, element 1 is no number: \"x\""),
         (
             "code 1",
             "code 2",
-            "line 17: group object 1/0/1, its body has 1 bytes, and code 2 wants 2",
+            "line 18: group object 1/0/1, its body has 1 bytes, and code 2 wants 2",
         ),
-        ("code 1", "code 15", "line 17: group 1/0/1, code is \"15\", not 0 to 14"),
-        ("1/0/1 code", "0/0/0 code", "line 17: S8: group object 0/0/0, address 0"),
-        ("\nend", "\nend\nend", "line 21: \"end\" stands behind the end"),
-        ("\nend", "\nend of it", "line 20: end stands alone, and \"of\" is more"),
+        ("code 1", "code 15", "line 18: group 1/0/1, code is \"15\", not 0 to 14"),
+        ("1/0/1 code", "0/0/0 code", "line 18: S8: group object 0/0/0, address 0"),
+        ("\nend", "\nend\nend", "line 22: \"end\" stands behind the end"),
+        ("\nend", "\nend of it", "line 21: end stands alone, and \"of\" is more"),
         (
             "1/51",
             "\u{1b}[31m1/51\u{202e}23456789012345678901",
-            "line 14: property ?[31m1/51?23456789012345.., object/id is no number: \"?[31m1\"",
+            "line 15: property ?[31m1/51?23456789012345.., object/id is no number: \"?[31m1\"",
         ),
     ];
     for (from, to, what) in cases {
@@ -235,7 +240,6 @@ fn faults() {
         assert_eq!(fault.to_string(), what);
     }
     let cases = [
-        ("edition 2", "edition 1", "line 21: a sheet of edition 1 has no user regions"),
         ("    b0 b1 b2 b3\n", "", "line 21: S6: user region 0100h, length 0"),
         ("r2 w0", "r2", "line 24: user 0104h, write level is missing: w0 to w3"),
         ("b1 b2", "b1 2", "line 22: byte 2 of the user region is not 2 hex digits: \"2\""),
@@ -271,13 +275,13 @@ fn too_much() {
     let regions: String = (0..17).map(|i| format!("region {i} r3 w3\n00\n")).collect();
     let fault =
         make::bytes(&TEXT.replace("region 0100h r3 w2\n    a0 a1 a2 a3\n", &regions)).unwrap_err();
-    assert_eq!(fault.to_string(), "line 43: S3: more than 16 regions");
+    assert_eq!(fault.to_string(), "line 44: S3: more than 16 regions");
     let users: String = (0..17).map(|i| format!("user {i} r3 w3\n00\n")).collect();
-    let text = TEXT.replace("edition 1", "edition 2").replace("end\n", &(users + "end\n"));
+    let text = TEXT.replace("end\n", &(users + "end\n"));
     let fault = make::bytes(&text).unwrap_err();
-    assert_eq!(fault.to_string(), "line 52: S3: more than 16 user regions");
+    assert_eq!(fault.to_string(), "line 53: S3: more than 16 user regions");
     let fault = make::bytes(&TEXT.replace("size 2 maximum 2", "size 10 maximum 4095")).unwrap_err();
-    assert_eq!(fault.to_string(), "line 20: S1: the sheet has more than 16384 bytes");
+    assert_eq!(fault.to_string(), "line 21: S1: the sheet has more than 16384 bytes");
 }
 
 #[test]
@@ -326,10 +330,27 @@ fn differences() {
         let new = Sheet::read(&make::bytes(&PUMP_TEXT.replacen(from, to, 1)).unwrap()).unwrap();
         assert_eq!(diff::lines(&old, &new), [line]);
     }
-    let mut second = SAMPLE;
-    second[0] = 2;
-    let (first, second) = (Sheet::read(&SAMPLE).unwrap(), Sheet::read(&second).unwrap());
+    let (first, second) = (Sheet::read(&OLD_SAMPLE).unwrap(), Sheet::read(&SAMPLE).unwrap());
     assert_eq!(diff::lines(&first, &second), ["edition: 1 → 2"]);
+}
+
+/// An old sheet is shown, and converted; no other is.
+#[test]
+fn old() {
+    let text = TEXT.replace("edition 2\nrules 0\n", "edition 1  # old: convert it\n");
+    assert_eq!(show::text(&Sheet::read(&OLD_SAMPLE).unwrap(), true), text);
+    assert_eq!(Sheet::read(&OLD_SAMPLE).unwrap().bytes(), OLD_SAMPLE);
+    assert_eq!(make::bytes(&text).unwrap_err().to_string(), "line 1: edition 1 is old: write 2");
+    assert_eq!(make::bytes(&text.replace("edition 1", "edition 2")).unwrap(), SAMPLE);
+    assert_eq!(converted(&OLD_SAMPLE).unwrap(), SAMPLE);
+    let none = "OK, and not old: nothing is converted";
+    assert_eq!([converted(&SAMPLE), converted(&PUMP)], [Err(none.into()), Err(none.into())]);
+    let mut bad = OLD_SAMPLE;
+    bad[47] = 3;
+    let broken = "S7: property 1/51, count 3 above maximum 2".to_string();
+    assert_eq!(converted(&bad), Err(broken));
+    let empty = "S1: the sheet has 0 bytes, fewer than 32".to_string();
+    assert_eq!(converted(&[]), Err(empty));
 }
 
 /// What is new, with its levels and values.

@@ -1,11 +1,12 @@
-//! The library's verdict, asked of the desk unit whose path the environment has as UNIT: on the same random sheets the
-//! same. `make test-tools` gives the path; without one this test has nothing to say.
+//! The library's verdict and its conversion, asked of the desk unit whose path the environment has as UNIT: on the same random
+//! sheets the same. `make test-tools` gives the path; without one this test has nothing to say.
 
 use std::io::{BufRead, BufReader, Write};
 use std::process::{Command, Stdio};
 
 use model::gen::{any_sheet, Rng};
-use sheet::check::check;
+use sheet::check::{check, OLD};
+use sheet::convert::converted;
 use sheet::layout::hex;
 
 const SHEETS: u64 = 12_000;
@@ -22,15 +23,22 @@ fn same_verdict() {
     let writer = std::thread::spawn(move || {
         for sheet in sheets() {
             let digits = if sheet.is_empty() { "-".to_string() } else { hex(&sheet) };
-            writeln!(lines, "sheet {digits}").unwrap();
+            writeln!(lines, "sheet {digits}\nconvert").unwrap();
         }
     });
-    let answers = BufReader::new(unit.stdout.take().unwrap()).lines();
+    let mut answers = BufReader::new(unit.stdout.take().unwrap()).lines();
     let mut compared = 0;
-    for (sheet, answer) in sheets().zip(answers) {
-        let own =
-            check(&sheet).map_or_else(|broken| format!("S{}", broken.rule), |()| "OK".to_string());
-        assert_eq!(own, answer.unwrap(), "sheet {}", hex(&sheet));
+    for sheet in sheets() {
+        let own = match check(&sheet) {
+            Ok(()) => "OK".to_string(),
+            Err(old) if old.rule == OLD => "OLD".to_string(),
+            Err(broken) => format!("S{}", broken.rule),
+        };
+        assert_eq!(own, answers.next().unwrap().unwrap(), "sheet {}", hex(&sheet));
+        let digits = |sheet: &[u8]| if sheet.is_empty() { "-".to_string() } else { hex(sheet) };
+        let own = converted(&sheet)
+            .map_or_else(|_| format!("4 {}", digits(&sheet)), |new| format!("1 {}", digits(&new)));
+        assert_eq!(own, answers.next().unwrap().unwrap(), "convert {}", hex(&sheet));
         compared += 1;
     }
     writer.join().unwrap();

@@ -4,7 +4,7 @@ use std::fs;
 use std::path::PathBuf;
 use std::process::{Command, Output, Stdio};
 
-use model::sheet::SAMPLE;
+use model::sheet::{OLD_SAMPLE, SAMPLE};
 
 /// A folder of the test's own, with the sample sheet in it, another, a damaged one and texts.
 fn room(name: &str) -> PathBuf {
@@ -12,6 +12,7 @@ fn room(name: &str) -> PathBuf {
     fs::create_dir_all(&room).unwrap();
     let write = |name: &str, bytes: &[u8]| fs::write(room.join(name), bytes).unwrap();
     write("sample", &SAMPLE);
+    write("old", &OLD_SAMPLE);
     let mut other = SAMPLE;
     other[64..66].copy_from_slice(&[0x04, 0xE2]);
     write("other", &other);
@@ -42,6 +43,7 @@ fn said(status: i32, out: &str, err: &str) -> (i32, String, String) {
 fn check() {
     let room = room("check");
     assert_eq!(told(&room, &["check", "sample"]), said(0, "OK\n", ""));
+    assert_eq!(told(&room, &["check", "old"]), said(1, "old: convert it\n", ""));
     let broken = "S7: property 1/51, count 3 above maximum 2\n";
     assert_eq!(told(&room, &["check", "bad"]), said(1, broken, ""));
     assert_eq!(told(&room, &["show", "bad"]), said(1, broken, ""));
@@ -76,7 +78,7 @@ fn show_and_make() {
         ) && !hidden.contains("1111")
     );
     fs::write(room.join("text"), text.replace("count 1", "count x")).unwrap();
-    let fault = "sheet: text: line 14: property 1/51, count is no number: \"x\"\n";
+    let fault = "sheet: text: line 15: property 1/51, count is no number: \"x\"\n";
     assert_eq!(told(&room, &["make", "text"]), said(2, "", fault));
     assert_eq!(
         told(&room, &["make", "noise"]),
@@ -93,9 +95,57 @@ fn diff() {
     assert_eq!(told(&room, &["diff", "sample", "sample"]), said(0, "", ""));
     let line = "property 1/51 element 1: 1000 → 1250\n";
     assert_eq!(told(&room, &["diff", "sample", "other"]), said(1, line, ""));
+    assert_eq!(told(&room, &["diff", "old", "sample"]), said(1, "edition: 1 → 2\n", ""));
     let broken = "sheet: bad: S7: property 1/51, count 3 above maximum 2\n";
     assert_eq!(told(&room, &["diff", "sample", "bad"]), said(2, "", broken));
     assert_eq!(told(&room, &["diff", "sample", "nothing"]).0, 2);
+}
+
+/// An old sheet goes into a file that is not there yet, or that may be replaced; what is not old goes nowhere.
+#[test]
+fn convert() {
+    let room = room("convert");
+    let holds = |name: &str, bytes: &[u8]| assert_eq!(fs::read(room.join(name)).unwrap(), bytes);
+    let gone = |name: &str| assert!(!room.join(name).exists(), "{name}");
+    let _ = fs::remove_file(room.join("new"));
+    let done = said(0, "edition: 1 → 2\n", "");
+    assert_eq!(told(&room, &["convert", "old", "new"]), done);
+    holds("new", &SAMPLE);
+    holds("old", &OLD_SAMPLE);
+    // what is there stays
+    let there = |name: &str| format!("sheet: {name} is there already: --force replaces it\n");
+    for name in ["new", "other", "old"] {
+        let before = fs::read(room.join(name)).unwrap();
+        assert_eq!(told(&room, &["convert", "old", name]), said(2, "", &there(name)));
+        holds(name, &before);
+    }
+    assert_eq!(told(&room, &["convert", "old", "."]), said(2, "", &there(".")));
+    // unless it is told to go
+    assert_eq!(told(&room, &["convert", "--force", "old", "other"]), done);
+    holds("other", &SAMPLE);
+    assert_eq!(told(&room, &["convert", "old", "old", "--force"]), done);
+    holds("old", &SAMPLE);
+    assert_eq!(fs::read_dir(&room).unwrap().count(), 7, "something is left over");
+    // what is not old
+    let none = "OK, and not old: nothing is converted\n";
+    assert_eq!(told(&room, &["convert", "old", "another"]), said(1, none, ""));
+    assert_eq!(told(&room, &["convert", "--force", "sample", "another"]), said(1, none, ""));
+    let broken = "S7: property 1/51, count 3 above maximum 2\n";
+    assert_eq!(told(&room, &["convert", "bad", "another"]), said(1, broken, ""));
+    gone("another");
+    assert_eq!(told(&room, &["convert", "--force", "bad", "other"]).0, 1);
+    holds("other", &SAMPLE);
+    // what can't be read or written
+    assert_eq!(told(&room, &["convert", "nothing", "another"]).0, 2);
+    fs::write(room.join("old"), OLD_SAMPLE).unwrap();
+    for words in
+        [["convert", "old", "no/folder"].as_slice(), &["convert", "--force", "old", "no/x"]]
+    {
+        let (status, out, err) = told(&room, words);
+        assert!((status, out.as_str()) == (2, "") && err.starts_with("sheet: no/"), "{err}");
+    }
+    let dash = "sheet: a sheet is converted into a file, and - is none\n";
+    assert_eq!(told(&room, &["convert", "old", "-"]), said(2, "", dash));
 }
 
 /// A text with more entries than a sheet can have is refused before it takes room for them.
@@ -150,6 +200,8 @@ fn wrong_use() {
         &["shew", "a"],
         &["show", "--key", "a"],
         &["diff", "a"],
+        &["convert", "old"],
+        &["convert", "--forse", "old", "new"],
     ] {
         let (status, out, err) = told(&room, words);
         assert_eq!(

@@ -1,7 +1,9 @@
 //! Random sheets, accepted and damaged: the verdict, there and back as text, and what differs.
 
-use model::gen::{any_sheet, damage, sheet, Rng};
-use sheet::check::check;
+use model::faults::Fault;
+use model::gen::{any_sheet, damage, old_sheet, sheet, whole_sheet, Rng};
+use sheet::check::{check, rules};
+use sheet::convert::converted;
 use sheet::diff;
 use sheet::layout::Sheet;
 use sheet::{make, show};
@@ -41,22 +43,25 @@ fn hidden_keys() {
         let fault = make::bytes(&text).unwrap_err();
         assert_eq!(
             (fault.line, fault.what.as_str()),
-            (6 + values.edition as usize, "key 0 is hidden: show the sheet with --keys")
+            (8, "key 0 is hidden: show the sheet with --keys")
         );
     }
 }
 
-/// The model, written from the rules alone, gives the same verdict; every rule is met.
+/// The model, written from the rules alone, gives the same verdict and converts alike; every rule is met.
 #[test]
 fn verdicts() {
-    let mut seen = [0; 10];
+    let mut seen = [0; 15];
     for seed in 0..60_000 {
         let bytes = any_sheet(&mut Rng::new(seed));
         let rule = verdict(&bytes);
         assert_eq!(rule, model::sheet::check(&bytes), "seed {seed}");
         seen[rule as usize] += 1;
+        let mut other = bytes.clone();
+        let outcome = model::sheet::convert(Fault::None, &mut other);
+        assert_eq!(converted(&bytes).ok(), (outcome == 1).then_some(other), "seed {seed}");
     }
-    assert!(seen.iter().all(|&n| n > 50), "{seen:?}");
+    assert!((0..10).chain([14]).all(|k| seen[k] > 50), "{seen:?}");
 }
 
 /// A rule broken by an entry names one that is there; one broken by the head names none.
@@ -66,7 +71,7 @@ fn named_entries() {
         let bytes = any_sheet(&mut Rng::new(seed));
         let Err(broken) = check(&bytes) else { continue };
         match broken.entry {
-            None => assert!(broken.rule <= 5 || broken.rule == 9, "seed {seed}: {broken}"),
+            None => assert!(matches!(broken.rule, 1..=5 | 9 | 14), "seed {seed}: {broken}"),
             Some((kind, i)) => {
                 assert!(i < sheet::layout::count(&bytes, kind), "seed {seed}: {broken}");
                 let rule = [6, 7, 8, 6][kind as usize];
@@ -82,7 +87,8 @@ fn differences() {
     let mut different = 0;
     for seed in 0..3000 {
         let rng = &mut Rng::new(seed);
-        let old = sheet(rng);
+        let verdict = |bytes: &[u8]| rules(bytes).map_or_else(|broken| broken.rule, |()| 0);
+        let old = whole_sheet(rng);
         let mut new = old.clone();
         for _ in 0..rng.below(3) {
             let before = new.clone();
@@ -101,6 +107,23 @@ fn differences() {
         different += usize::from(old != new);
     }
     assert!(different > 1000, "only {different} pairs differ");
+}
+
+/// A converted sheet differs from the old one in its edition, and in nothing else that is said; as text it is what the old one
+/// is with another edition in it.
+#[test]
+fn conversions() {
+    for seed in 0..1000 {
+        let old = old_sheet(&mut Rng::new(seed));
+        let new = converted(&old).unwrap();
+        assert_eq!((verdict(&new), new[0], &new[1..]), (0, 2, &old[1..]), "seed {seed}");
+        let (old, new) = (Sheet::read(&old).unwrap(), Sheet::read(&new).unwrap());
+        assert_eq!(diff::lines(&old, &new), ["edition: 1 → 2"], "seed {seed}");
+        let text = show::text(&old, true);
+        assert!(make::bytes(&text).is_err());
+        let text = text.replacen("edition 1", "edition 2", 1);
+        assert_eq!(make::bytes(&text).unwrap(), new.bytes(), "seed {seed}");
+    }
 }
 
 /// So do any two sheets; no key is told.

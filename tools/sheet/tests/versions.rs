@@ -6,7 +6,7 @@ use std::process::Command;
 use model::device::{Session, Sessions};
 use model::faults::Fault;
 use model::gen::{self, stores, Rng};
-use model::sheet::{PUMP, SAMPLE};
+use model::sheet::{OLD_SAMPLE, PUMP, SAMPLE};
 use model::store;
 use sheet::versions::{lines, text, Store, Version};
 
@@ -55,6 +55,7 @@ fn by_hand() {
     other[17..30].fill(9);
     other[60] = 0;
     assert!(since(1, &other).is_empty());
+    assert_eq!(since(1, &OLD_SAMPLE), ["a restore is refused by 14: the sheet is old, convert it"]);
     let refused = "a restore is refused by 36: entries differ in more than their counts";
     assert_eq!(since(1, &PUMP), ["property 1/51 offset: 64 → 80", refused]);
     let mut open = SAMPLE;
@@ -125,7 +126,8 @@ fn random() {
     let mut seen = std::collections::BTreeMap::new();
     for seed in 0..6000 {
         let rng = &mut Rng::new(seed);
-        let sheet = gen::sheet(rng);
+        let sheet = gen::whole_sheet(rng);
+        let old = sheet[0] == 1;
         let bad = seed % 3 == 0;
         let bytes = if bad { stores::bad_store(rng, &sheet) } else { stores::store(rng, &sheet) };
         let read = Store::read(&bytes);
@@ -139,17 +141,18 @@ fn random() {
             let outcome =
                 store::restore(Fault::None, &INSTALLER, 0, &mut sheet.clone(), &bytes, number);
             let Ok(lines) = lines(version, &sheet) else {
-                assert_eq!(outcome, 36, "seed {seed}");
+                assert_eq!(outcome, if old { 14 } else { 36 }, "seed {seed}");
                 continue;
             };
             let last = lines.last().and_then(|l| l.strip_prefix("a restore is refused by "));
             let said = last.map_or(1, |l| l[..2].parse().unwrap());
             assert_eq!(said, outcome, "seed {seed}, version {number}");
-            assert_eq!(lines.is_empty(), version.body == store::settings(&sheet), "seed {seed}");
+            let same = version.body == store::settings(&sheet);
+            assert_eq!(lines.is_empty(), same && !old, "seed {seed}");
             *seen.entry(outcome).or_insert(0) += 1;
         }
     }
-    for outcome in [1, 36, 37] {
+    for outcome in [1, 14, 36, 37] {
         assert!(seen.get(&outcome).is_some_and(|&n| n > 100), "{seen:?}");
     }
 }

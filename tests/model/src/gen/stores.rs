@@ -4,7 +4,7 @@ use super::Rng;
 use crate::sheet;
 use crate::store::{self, Store, Version, ENTRY, HEAD, LONGEST, MOST};
 
-/// The settings of an accepted sheet with other bytes in the bodies, and other counts up to their maximum.
+/// The settings of a sheet that breaks no rule, with other bytes in the bodies, and other counts up to their maximum.
 fn varied(rng: &mut Rng, sheet: &[u8]) -> Vec<u8> {
     let mut body = store::settings(sheet);
     let n = body[1] as usize;
@@ -45,7 +45,7 @@ fn turn_bit(rng: &mut Rng, body: &mut [u8]) {
 
 /// What a version may hold: settings of this sheet, nearly such, those of another sheet, or anything.
 fn body(rng: &mut Rng, sheet: &[u8]) -> Vec<u8> {
-    if sheet::check(sheet) != 0 || rng.chance(12) {
+    if sheet::rule(sheet) != 0 || rng.chance(12) {
         let length = rng.pick(&[0, 1, 2, 3, 14, 100]);
         return if rng.chance(50) {
             rng.bytes(length)
@@ -100,7 +100,7 @@ pub fn store(rng: &mut Rng, sheet: &[u8]) -> Vec<u8> {
         _ => number,
     }
     .max(number);
-    let need = if sheet::check(sheet) == 0 { ENTRY + store::settings(sheet).len() } else { 50 };
+    let need = if sheet::rule(sheet) == 0 { ENTRY + store::settings(sheet).len() } else { 50 };
     let free = match rng.below(6) {
         0 => 0,
         1 => need,

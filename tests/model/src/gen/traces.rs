@@ -37,7 +37,10 @@ fn follow(asked: &mut Asked, sheet: &mut [u8], sessions: &mut Sessions) {
 /// So many events on a sheet: of two tools, or of anybody.
 fn events(rng: &mut Rng, sheet: &[u8], sessions: &Sessions, n: usize) -> Vec<Event> {
     let (mut sheet, mut sessions) = (sheet.to_vec(), *sessions);
-    let good = sheet::check(&sheet) == 0;
+    let good = sheet::rule(&sheet) == 0;
+    if good {
+        sheet[0] = 2; // what happens to an old one is drawn as for the converted one
+    }
     let mut tools = (good && rng.chance(60)).then(|| Tools::new(&sheet));
     let mut all = Vec::new();
     while all.len() < n {
