@@ -1,6 +1,7 @@
 -- PROMISES: the statements that docs/PROMISES.md names. Each file opens with what it says.
 pub mod Demand1
 pub mod Called
+pub mod Parts
 pub mod Rightly
 pub mod Dues
 pub mod Dropped

@@ -3,6 +3,7 @@ pub mod Carry
 pub mod Step
 pub mod Sessions
 pub mod Events
+pub mod Changed
 pub mod Asked
 pub mod GroupsDue
 pub mod AddressesDue

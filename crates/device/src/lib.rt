@@ -8,9 +8,10 @@ pub use session::connect;
 pub use session::disconnect;
 pub use session::fresh;
 pub use session::session_of;
-ghost use Rattle.device.specs.Events.{Called};
+ghost use Rattle.device.specs.Changed.{Requested};
 use judge::Request;
 use judge::Session;
+use sheet::Part;
 
 // The sessions of connections 0 and 1.
 #[repr(C)]
@@ -26,6 +27,19 @@ pub struct Done {
     pub sessions: Sessions,
 }
 
+// The runs of sheet bytes that a request stored, at most two; 0 and 0 for one that there is not.
+#[repr(C)]
+pub struct Changed {
+    pub first: Part,
+    pub second: Part,
+}
+
+// What a request gave, and what it stored.
+pub struct Made {
+    pub done: Done,
+    pub changed: Changed,
+}
+
 // A request: read, judged on the session that it meets, carried out, answered. Whatever is refused leaves sheet, sessions and
 // answer buffer as they were.
 pub fn request(
@@ -36,8 +50,8 @@ pub fn request(
     apdu: &[u8],
     sheet: &mut [u8],
     answer: &mut [u8],
-) -> Done
-    ensures { λ r. ⌜ Called sessions mode connection group (now (apdu .entry)) (now (sheet .entry)) (now (answer .entry)) r (now (sheet .exit)) (now (answer .exit)) ⌝ }
+) -> Made
+    ensures { λ r. ⌜ Requested sessions mode connection group (now (apdu .entry)) (now (sheet .entry)) (now (answer .entry)) r (now (sheet .exit)) (now (answer .exit)) ⌝ }
 {
     let found = pdu::service_of(pdu::code(apdu));
     let parsed = pdu::read_found(found, apdu);
@@ -51,13 +65,14 @@ pub fn request(
         parsed,
     };
     let k = judge::judge(answer.len(), &sheet[..], x, apdu, d);
-    store::carry_out(sheet, k, d);
+    let changed = store::carry_out(sheet, k, d);
     let reply = k.answer;
     let count = answer::answer(answer, reply, &sheet[..], d);
     let turn = k.turn;
-    Done {
+    let done = Done {
         outcome: k.outcome,
         count,
         sessions: session::turned(sessions, mode, connection, turn),
-    }
+    };
+    Made { done, changed }
 }

@@ -1,12 +1,15 @@
 // Carrying out: what a decision stores, and nothing is judged.
+use crate::Changed;
 use judge::Decision;
 use judge::Store;
+use sheet::Part;
 ghost use mathlib.Core.Path.{_≡_};
 ghost use Prim.Native.Nat.{_+_, _≤_};
 ghost use lib.ListN.{length};
 ghost use Rattle.octets.specs.Splice.{splice};
 ghost use Rattle.device.specs.Carry.{padded, build, bitAt, storeOf};
 ghost use Rattle.device.specs.Safe.{StoreSafe};
+ghost use Rattle.device.specs.Changed.{partOf, changesOf};
 
 // n bytes from a place on changed by n AND bytes and then n XOR bytes.
 pub fn bits(s: &mut [u8], at: usize, n: usize, d: &[u8])
@@ -51,13 +54,45 @@ pub fn store(s: &mut [u8], run: Store, d: &[u8])
     }
 }
 
-// At most two runs.
-pub fn carry_out(s: &mut [u8], k: Decision, d: &[u8])
-    requires { ⌜ (StoreSafe (now s) (now d) (k .first)) × (StoreSafe (storeOf (now s) (now d) (k .first)) (now d) (k .second)) ⌝ }
-    ensures { λ _. ⌜ now (s .exit) ≡ storeOf (storeOf (now (s .entry)) (now (d .entry)) (k .first)) (now (d .entry)) (k .second) ⌝ }
+// Where a run stands in the sheet, and how many bytes it has: 0 and 0 if nothing is stored.
+fn part(s: &[u8], run: Store, d: &[u8]) -> Part
+    requires { ⌜ StoreSafe (now s) (now d) run ⌝ }
+    ensures { λ r. ⌜ r ≡ partOf (now (d .entry)) run ⌝ }
 {
-    let first = k.first;
-    let second = k.second;
-    store(s, first, d);
-    store(s, second, d);
+    match run {
+        Store::Nothing => Part {
+            offset: 0,
+            length: 0,
+        },
+        Store::Number { at, width, .. } => Part {
+            offset: at,
+            length: width,
+        },
+        Store::Data { zeros, at } => Part {
+            offset: at,
+            length: zeros + d.len(),
+        },
+        Store::Bits { at, n } => Part {
+            offset: at,
+            length: n,
+        },
+        Store::Fill { at, n, .. } => Part {
+            offset: at,
+            length: n,
+        },
+    }
+}
+
+// At most two runs, and where they stand.
+pub fn carry_out(s: &mut [u8], k: Decision, d: &[u8]) -> Changed
+    requires { ⌜ (StoreSafe (now s) (now d) (k .first)) × (StoreSafe (storeOf (now s) (now d) (k .first)) (now d) (k .second)) ⌝ }
+    ensures { λ r. ⌜ (now (s .exit) ≡ storeOf (storeOf (now (s .entry)) (now (d .entry)) (k .first)) (now (d .entry)) (k .second)) × (r ≡ changesOf (now (d .entry)) k) ⌝ }
+{
+    let one = k.first;
+    let two = k.second;
+    let first = part(&s[..], one, d);
+    store(s, one, d);
+    let second = part(&s[..], two, d);
+    store(s, two, d);
+    Changed { first, second }
 }

@@ -36,7 +36,7 @@ fn silent(outcome: u8, sessions: Sessions) -> Done {
 fn request(q: Setup, hex: &[u8], sheet: &mut [u8], out: &mut [u8]) -> Done {
     let mut apdu = [0u8; 64];
     let n = put_unhex(&mut apdu, 0, hex);
-    device::request(
+    let made = device::request(
         q.sessions,
         q.mode,
         q.connection,
@@ -44,7 +44,8 @@ fn request(q: Setup, hex: &[u8], sheet: &mut [u8], out: &mut [u8]) -> Done {
         part(&apdu, 0, n),
         sheet,
         first(out, q.room),
-    )
+    );
+    made.done
 }
 
 fn event(q: Setup, event: &[u8], sheet: &mut [u8], out: &mut [u8]) -> Done {

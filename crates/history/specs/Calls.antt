@@ -12,7 +12,7 @@ use Rattle.versions.specs.Restoring.{RestoredAs}
 use Rattle.device.specs.declared.Done.{Done}
 use Rattle.history.specs.History.{First}
 
--- a call that met state x and gave r: each constructor is the contract of a call of include/kelindap.h
+-- a call that met state x and gave r: each constructor is the contract of a call of include/kelindap.h, of a request without the parts that it names
 pub data Call (x : State) : Event → Effect → Type 0 where
   connects :
       (c : ℕ) →

@@ -2,26 +2,32 @@
 -- Assumes nothing.
 use Prim.Native.Nat.{ℕ, _≤_}
 use mathlib.Core.List.{List}
-use Rattle.device.specs.Events.{Called}
+use Rattle.device.specs.Changed.{Requested}
 use Rattle.device.specs.declared.Sessions.{Sessions}
-use Rattle.device.specs.declared.Done.{Done}
+use Rattle.device.specs.declared.Made.{Made}
 use Rattle.device.proofs.promises.Called.{call-leaves}
 
-module _ (q : Sessions) (mode n group : ℕ) (a s o : List ℕ) (d : Done) (s′ o′ : List ℕ) (c : Called q mode n group a s o d s′ o′) where
-  pub few : d .count ≤ 16
-  few = call-leaves q mode n group a s o d s′ o′ c .most
+module _ (q : Sessions) (mode n group : ℕ) (a s o : List ℕ) (d : Made) (s′ o′ : List ℕ) (c : Requested q mode n group a s o d s′ o′) where
+  pub few : d .done .count ≤ 16
+  few = call-leaves q mode n group a s o (d .done) s′ o′ (c .call) .most
 
-  pub as-given : Called q mode n group a s o (record { outcome = d .outcome; count = d .count; sessions = d .sessions }) s′ o′
+  pub as-given :
+      Requested q mode n group a s o
+      (record { done = record { outcome = d .done .outcome; count = d .done .count; sessions = d .done .sessions }; changed = d .changed }) s′ o′
   as-given =
       record {
-        did =
+        call =
             record {
-              outcome = c .did .outcome;
-              count = c .did .count;
-              sessions = c .did .sessions;
-              sheet = c .did .sheet;
-              answer = c .did .answer;
+              did =
+                  record {
+                    outcome = c .call .did .outcome;
+                    count = c .call .did .count;
+                    sessions = c .call .did .sessions;
+                    sheet = c .call .did .sheet;
+                    answer = c .call .did .answer;
+                  };
+              sheetBytes = c .call .sheetBytes;
+              apduBytes = c .call .apduBytes;
             };
-        sheetBytes = c .sheetBytes;
-        apduBytes = c .apduBytes;
+        changed = c .changed;
       }

@@ -7,18 +7,22 @@ ghost use Rattle.sheet.specs.Rules.{verdictOf};
 ghost use Rattle.sheet.specs.Convert.{Converts};
 ghost use Rattle.sheet.specs.Lookup.{StandsIn, regionOf, regionFrom, userRegionOf, userRegionFrom, propertyOf, propertyFrom, groupOf, groupFrom};
 ghost use Rattle.device.specs.Sessions.{freshOf};
-ghost use Rattle.device.specs.Events.{namedOutcome, connectOf, disconnectOf, Pressed, Called};
+ghost use Rattle.device.specs.Events.{namedOutcome, connectOf, disconnectOf, Pressed};
+ghost use Rattle.device.specs.Changed.{Requested};
 ghost use Rattle.playback.specs.Rules.{refusalOf};
 ghost use Rattle.playback.specs.Playing.{Plays};
+ghost use Rattle.playback.specs.Marking.{Marks};
 ghost use Rattle.host.specs.Calls.{gave, gaveBack, gavePlayed, versionOf};
+use device::Changed;
 use device::Sessions;
 use sheet::Part;
 
-// What a request gave: its outcome, and how many bytes of the answer buffer were filled.
+// What a request gave: its outcome, how many bytes of the answer buffer were filled, and which parts of the sheet were stored.
 #[repr(C)]
 pub struct Reply {
     pub outcome: u8,
     pub count: u8,
+    pub changed: Changed,
 }
 
 // The same with the sessions afterwards.
@@ -26,6 +30,7 @@ pub struct Replied {
     pub outcome: u8,
     pub count: u8,
     pub sessions: Sessions,
+    pub changed: Changed,
 }
 
 // What playing gave: its refusal or 0, and how many events were handled.
@@ -81,14 +86,17 @@ fn request(
     sheet: &mut [u8],
     answer: &mut [u8],
 ) -> Replied
-    ensures { λ r. ⌜ Called sessions mode connection group (now (apdu .entry)) (now (sheet .entry)) (now (answer .entry)) (gaveBack r) (now (sheet .exit)) (now (answer .exit)) ⌝ }
+    ensures { λ r. ⌜ Requested sessions mode connection group (now (apdu .entry)) (now (sheet .entry)) (now (answer .entry)) (gaveBack r) (now (sheet .exit)) (now (answer .exit)) ⌝ }
 {
-    let d = device::request(sessions, mode, connection, group, apdu, sheet, answer);
+    let made = device::request(sessions, mode, connection, group, apdu, sheet, answer);
+    let d = made.done;
     let next = d.sessions;
+    let changed = made.changed;
     Replied {
         outcome: d.outcome,
         count: d.count as u8,
         sessions: next,
+        changed,
     }
 }
 
@@ -103,13 +111,14 @@ pub extern "C" fn kelindap_request(
     sheet: &mut [u8],
     answer: &mut [u8],
 ) -> Reply
-    ensures { λ r. ⌜ Called (now (sessions .entry)) mode connection group (now (apdu .entry)) (now (sheet .entry)) (now (answer .entry)) (gave r (now (sessions .exit))) (now (sheet .exit)) (now (answer .exit)) ⌝ }
+    ensures { λ r. ⌜ Requested (now (sessions .entry)) mode connection group (now (apdu .entry)) (now (sheet .entry)) (now (answer .entry)) (gave r (now (sessions .exit))) (now (sheet .exit)) (now (answer .exit)) ⌝ }
 {
     let d = request(*sessions, mode, connection, group, apdu, sheet, answer);
     *sessions = d.sessions;
     Reply {
         outcome: d.outcome,
         count: d.count,
+        changed: d.changed,
     }
 }
 
@@ -189,10 +198,43 @@ pub extern "C" fn kelindap_play(
     }
 }
 
+// The same with marks, `played` events having been marked before.
+#[no_mangle]
+pub extern "C" fn kelindap_play_marked(
+    sessions: &mut Sessions,
+    sheet: &mut [u8],
+    trace: &[u8],
+    from: usize,
+    limit: usize,
+    log: &mut [u8],
+    before: &mut [u8],
+    marks: &mut [u32],
+    played: u32,
+) -> Handled
+    ensures { λ r. ⌜ Marks (now (sessions .entry)) (now (sheet .entry)) (now (trace .entry)) from limit (now (log .entry)) played (now (before .entry)) (now (marks .entry)) (gavePlayed r (now (sessions .exit))) (now (sheet .exit)) (now (log .exit)) (now (before .exit)) (now (marks .exit)) ⌝ }
+{
+    let d = playback::play_marked(
+        *sessions,
+        sheet,
+        trace,
+        from,
+        limit,
+        log,
+        before,
+        marks,
+        played,
+    );
+    *sessions = d.sessions;
+    Handled {
+        refusal: d.refusal,
+        handled: d.handled,
+    }
+}
+
 // The version of this library.
 #[no_mangle]
 pub extern "C" fn kelindap_version() -> u32
     ensures { λ r. ⌜ r ≡ versionOf ⌝ }
 {
-    512
+    768
 }

@@ -15,7 +15,7 @@ use Rattle.device.specs.Events.{Effect, State, requestOf}
 use Rattle.events.specs.Events.{Event, connect, disconnect, button, request, restore, eventOf, after, run}
 use Rattle.device.specs.Sessions.{sessionFor}
 use Rattle.device.specs.declared.Sessions.{Sessions}
-use Rattle.device.specs.declared.Done.{Done}
+use Rattle.device.specs.declared.Made.{Made}
 use Rattle.device.proofs.promises.Demand1.{at-most-16}
 use Rattle.events.proofs.Append.{run-append}
 use Rattle.playback.specs.Entry as entry
@@ -79,6 +79,10 @@ module _ (l l₁ : List ℕ) (h : length l ≡ line) (e₁ : l₁ ≡ splice l 2
   long₁ : length l₁ ≡ line
   long₁ = ap length cleared ∙ length-append (take 2 l) blank ∙ omega (arith, two, length-zeros 16)
 
+  -- outcome and count have their place in front, whatever stands behind
+  pub front-fits : (o : List ℕ) → 2 ≤ length (take 2 l₁ ++ o)
+  front-fits o = omega (arith, length-append (take 2 l₁) o, length-take-le 2 l₁ (omega (arith, long₁)))
+
   -- the answer buffer is all zeros
   buffer : take (length l₁ - 2) (drop 2 l₁) ≡ blank
   buffer =
@@ -89,7 +93,7 @@ module _ (l l₁ : List ℕ) (h : length l ≡ line) (e₁ : l₁ ≡ splice l 2
   buffer-long = ap length buffer ∙ length-zeros 16
 
   -- THE LINE of an event
-  module _ (q : Sessions) (s t e : List ℕ) (i : ℕ) (r : Done) (s′ o′ : List ℕ) (is : Shown t i e) (did : Happens q s (eventIn t e) r (take (length l₁ - 2) (drop 2 l₁)) s′ o′) where
+  module _ (q : Sessions) (s t e : List ℕ) (i : ℕ) (r : Made) (s′ o′ : List ℕ) (is : Shown t i e) (did : Happens q s (eventIn t e) r (take (length l₁ - 2) (drop 2 l₁)) s′ o′) where
     x : Effect
     x = eventOf (at q s) (eventAt t i)
 
@@ -111,15 +115,16 @@ module _ (l l₁ : List ℕ) (h : length l ≡ line) (e₁ : l₁ ≡ splice l 2
         ∙ ap (λ (y : List ℕ). o′ ++ y) (drop-drop (length l₁ - 2) 2 l₁ ∙ ap (λ (j : ℕ). drop j l₁) n ∙ drop-length l₁)
         ∙ append-nil o′
 
-    pub logged : (l₃ : List ℕ) → l₃ ≡ splice (take 2 l₁ ++ (o′ ++ drop (length l₁ - 2) (drop 2 l₁))) 0 (r .outcome ∷ r .count ∷ [])
-        → Logged q s t i (r .sessions) s′ l₃
+    pub logged : (l₃ : List ℕ) → l₃ ≡ splice (take 2 l₁ ++ (o′ ++ drop (length l₁ - 2) (drop 2 l₁))) 0 (r .done .outcome ∷ r .done .count ∷ [])
+        → Logged q s t i r s′ l₃
     unfolding x after lineOf
     logged l₃ k =
         record {
           state = ap₂ (λ (a : Sessions) (b : List ℕ). at a b) (did .did .sessions ∙ ap (λ (y : Effect). y .sessions) same) (did .did .sheet ∙ ap (λ (y : Effect). y .sheet) same);
+          named = did .named;
           line =
               k
-              ∙ splice-front _ (r .outcome ∷ r .count ∷ [])
-              ∙ ap (λ (y : List ℕ). r .outcome ∷ r .count ∷ y) (front (take 2 l₁) (length-take-le 2 l₁ (omega (arith, long₁))) ∙ tail)
+              ∙ splice-front _ (r .done .outcome ∷ r .done .count ∷ [])
+              ∙ ap (λ (y : List ℕ). r .done .outcome ∷ r .done .count ∷ y) (front (take 2 l₁) (length-take-le 2 l₁ (omega (arith, long₁))) ∙ tail)
               ∙ ap₂ (λ (a b : ℕ). a ∷ b ∷ (x .answer ++ zeros (room - length (x .answer)))) (did .did .outcome ∙ ap (λ (y : Effect). y .outcome) same) (did .did .count ∙ ap (λ (y : Effect). length (y .answer)) same);
         }

@@ -21,21 +21,21 @@ use Rattle.playback.specs.declared.Played.{Played}
 use Rattle.playback.proofs.WrittenBack.{by-kind, octets-part}
 
 -- bytes in front, behind, and in order
-all-take : (n : ℕ) (es : List Event) → AllOctets es → AllOctets (take n es)
+pub all-take : (n : ℕ) (es : List Event) → AllOctets es → AllOctets (take n es)
 all-take zero es h = tt
 all-take (suc n) [] h = tt
 all-take (suc n) (e ∷ es) h = (h .0, all-take n es (h .1))
 
-all-drop : (n : ℕ) (es : List Event) → AllOctets es → AllOctets (drop n es)
+pub all-drop : (n : ℕ) (es : List Event) → AllOctets es → AllOctets (drop n es)
 all-drop zero es h = h
 all-drop (suc n) [] h = tt
 all-drop (suc n) (e ∷ es) h = all-drop n es (h .1)
 
-all-append : (es fs : List Event) → AllOctets es → AllOctets fs → AllOctets (es ++ fs)
+pub all-append : (es fs : List Event) → AllOctets es → AllOctets fs → AllOctets (es ++ fs)
 all-append [] fs h k = k
 all-append (e ∷ es) fs h k = (h .0, all-append es fs (h .1) k)
 
-all-reverse : (es : List Event) → AllOctets es → AllOctets (reverse es)
+pub all-reverse : (es : List Event) → AllOctets es → AllOctets (reverse es)
 all-reverse [] h = tt
 all-reverse (e ∷ es) h =
     subst AllOctets (sym (reverse-cons e es)) (all-append (reverse es) (e ∷ []) (all-reverse es (h .1)) (h .0, tt))
@@ -50,7 +50,7 @@ module _ (t : List ℕ) (octets : Octets t) where
       (λ k. tt)
       (λ k on. tt)
 
-  all-from : (n i : ℕ) → AllOctets (eventsFrom t i n)
+  pub all-from : (n i : ℕ) → AllOctets (eventsFrom t i n)
   unfolding eventsFrom
   all-from zero i = tt
   all-from (suc n) i = (brings (entryOf t i), all-from n (i + 1))

@@ -17,7 +17,7 @@ use Rattle.events.proofs.Append.{run-append}
 use Rattle.playback.specs.Trace.{count, eventAt, eventsFrom, traceOf}
 use Rattle.playback.specs.Rules.{Playable}
 use Rattle.playback.specs.Playing.{at, line, lineOf, logOf}
-use Rattle.playback.specs.Event.{Logged, Ready, Ran}
+use Rattle.playback.specs.Event.{Ready, Ran}
 use Rattle.playback.proofs.Walking.{good-rows}
 use Rattle.playback.proofs.Logging.{length-line}
 
@@ -79,11 +79,12 @@ module _ (q : Sessions) (s t : List ℕ) (from n : ℕ) (log : List ℕ) where
     next : eventsFrom t from (j + 1) ≡ es ++ (eventAt t (from + j) ∷ [])
     next = events-append t from j 1 ∙ ap (λ (l : List Event). es ++ l) (events-one t (from + j))
 
-    module _ (r′ : Sessions) (s₂ l : List ℕ) (b : j < n) (h : Logged r s₁ t (from + j) r′ s₂ l) (u : length s₂ ≡ length s₁) where
+    module _ (r′ : Sessions) (s₂ l : List ℕ) (b : j < n) (went : at r′ s₂ ≡ after (at r s₁) (eventAt t (from + j)))
+        (told : l ≡ lineOf (eventOf (at r s₁) (eventAt t (from + j)))) (u : length s₂ ≡ length s₁) where
       st : at r′ s₂ ≡ run x (eventsFrom t from (j + 1))
       unfolding runBy
       st =
-          h .state
+          went
           ∙ ap (λ (y : State). after y (eventAt t (from + j))) (g .state)
           ∙ sym (ap (run (at q s)) next ∙ run-append (at q s) (eventsFrom t from j) (eventAt t (from + j) ∷ []))
 
@@ -92,10 +93,10 @@ module _ (q : Sessions) (s t : List ℕ) (from n : ℕ) (log : List ℕ) where
 
       here : l ≡ logOf (run x es) (eventAt t (from + j) ∷ [])
       unfolding logOf
-      here = h .line ∙ ap (λ (y : State). lineOf (eventOf y (eventAt t (from + j)))) (g .state) ∙ sym (append-nil _)
+      here = told ∙ ap (λ (y : State). lineOf (eventOf y (eventAt t (from + j)))) (g .state) ∙ sym (append-nil _)
 
       size : length l ≡ line
-      size = ap length (h .line) ∙ length-line (at r s₁) (eventAt t (from + j))
+      size = ap length told ∙ length-line (at r s₁) (eventAt t (from + j))
 
       lg : take (line * j) log₁ ++ (l ++ drop (line * j + line - line * j) (drop (line * j) log₁)) ≡ splice log 0 (logOf x (eventsFrom t from (j + 1)))
       unfolding splice

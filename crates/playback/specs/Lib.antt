@@ -5,6 +5,7 @@ pub mod Rules
 pub mod Plain
 pub mod Written
 pub mod Playing
+pub mod Marking
 -- what functions below the two public ones are told and tell
 pub mod Walk
 pub mod Event

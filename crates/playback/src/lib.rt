@@ -1,11 +1,13 @@
 // A recorded trace of events: judged, and played back on a device.
 mod event;
 mod layout;
+mod marking;
 mod playing;
 mod rules;
 mod table;
 
 use device::Sessions;
+pub use marking::play_marked;
 pub use playing::play;
 pub use rules::check;
 

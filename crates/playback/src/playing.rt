@@ -13,7 +13,7 @@ use crate::table::count;
 use device::Sessions;
 
 // How many events are to be played.
-fn due(t: &[u8], from: usize, limit: usize) -> usize
+pub fn due(t: &[u8], from: usize, limit: usize) -> usize
     requires { ⌜ head ≤ length (now t) ⌝ }
     ensures { λ r. ⌜ r ≡ dueOf (now (t .entry)) from limit ⌝ }
 {
@@ -42,7 +42,9 @@ fn play_events(
     while j < n {
         let a = line::SIZE * j;
         let z = a + line::SIZE;
-        sessions = play_event(sessions, trace, from + j, sheet, &mut log[a..z]);
+        let made = play_event(sessions, trace, from + j, sheet, &mut log[a..z]);
+        let done = made.done;
+        sessions = done.sessions;
         j += 1;
     }
     sessions

@@ -13,8 +13,10 @@ use Rattle.device.specs.Safe.{StoreSafe, AnswerSafe, Roomy, Safe}
 use Rattle.device.specs.Step.{Step, stepBy, stepOf}
 use Rattle.device.specs.Sessions.{sessionFor, turnedOf, sessionsAfter}
 use Rattle.device.specs.Events.{Effect, requestOf, Did}
+use Rattle.device.specs.Changed.{changesOf, changedOf}
 use Rattle.device.specs.declared.Sessions.{Sessions}
 use Rattle.device.specs.declared.Done.{Done}
+use Rattle.device.specs.declared.Changed.{Changed}
 use Rattle.device.proofs.calls.Safe.{safe}
 use Rattle.device.proofs.calls.Room.{roomy}
 
@@ -30,6 +32,15 @@ module _ (room : ℕ) (s : List ℕ) (q : Session) (mode group : ℕ) (a d : Lis
 
   pub carry-needs : (StoreSafe s d (k .first)) × (StoreSafe (storeOf s d (k .first)) d (k .second))
   carry-needs = (is-safe .first, is-safe .second)
+
+  -- what was carried out is what is said to have changed
+  pub changes : (x : Changed) (qs : Sessions) (c : ℕ) → x ≡ changesOf d k → q ≡ sessionFor qs mode c → x ≡ changedOf room s qs mode c group a
+  unfolding changedOf
+  changes x qs c e met =
+      e
+      ∙ ap (changesOf d) judged
+      ∙ ap (λ (y : List ℕ). changesOf y (judgeOf room s q mode group a)) whose
+      ∙ ap (λ (y : Session). changesOf (dataIn (readPdu a) a) (judgeOf room s y mode group a)) met
 
   module _ (s′ : List ℕ) (carried : s′ ≡ storeOf (storeOf s d (k .first)) d (k .second)) where
     pub answer-needs : Roomy room (k .answer) × AnswerSafe s′ d (k .answer)

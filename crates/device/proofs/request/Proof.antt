@@ -2,7 +2,7 @@
 -- Assumes nothing.
 use borrow.Author.Needs.{needs}
 use Rattle.pdu.proofs.Reading.{named}
-use Rattle.device.proofs.calls.Requests.{carry-needs, answer-needs, did}
+use Rattle.device.proofs.calls.Requests.{carry-needs, answer-needs, did, changes}
 use Rattle.device.proofs.request.Statement.{statement}
 use Rattle.device.proofs.request.Tie as tie
 
@@ -12,15 +12,20 @@ carry-out-requires c κs =
 
 answer-requires : tie.Need-answer-requires
 answer-requires c κs =
-    answer-needs _ _ _ _ _ _ _ _ _ (c .before .before .before .before .before .before .before .before .before .before .read-found .ensures) (c .before .before .before .before .before .before .before .before .before .data-in .ensures) (c .before .before .before .before .before .before .judge .ensures) _ (c .before .before .before .before .carry-out .ensures)
+    answer-needs _ _ _ _ _ _ _ _ _ (c .before .before .before .before .before .before .before .before .before .before .read-found .ensures) (c .before .before .before .before .before .before .before .before .before .data-in .ensures) (c .before .before .before .before .before .before .judge .ensures) _ (c .before .before .before .before .carry-out .ensures .0)
 
 returns : tie.Need-returns
 returns c =
     record {
-      did =
-          did _ _ _ _ _ _ _ _ _ (c .before .before .before .before .before .before .before .before .before .before .before .before .before .before .read-found .ensures) (c .before .before .before .before .before .before .before .before .before .before .before .before .before .data-in .ensures) (c .before .before .before .before .before .before .before .before .before .before .judge .ensures) _ (c .before .before .before .before .before .before .before .before .carry-out .ensures) _ _ _ _ _ _ (c .before .before .before .answer .ensures) (c .before .before .before .before .before .before .before .before .before .before .before .before .session-for .ensures) (c .turned .ensures);
-      sheetBytes = λ i. c .before .before .before .before .before .before .before .before .before .before .before .before .before .before .before .before .before .before .slice-known .given i .fits;
-      apduBytes = λ i. c .before .before .before .before .before .before .before .before .before .before .before .before .before .before .before .before .before .before .before .shared-slice-known .given i .fits;
+      call =
+          record {
+            did =
+                did _ _ _ _ _ _ _ _ _ (c .before .before .before .before .before .before .before .before .before .before .before .before .before .before .read-found .ensures) (c .before .before .before .before .before .before .before .before .before .before .before .before .before .data-in .ensures) (c .before .before .before .before .before .before .before .before .before .before .judge .ensures) _ (c .before .before .before .before .before .before .before .before .carry-out .ensures .0) _ _ _ _ _ _ (c .before .before .before .answer .ensures) (c .before .before .before .before .before .before .before .before .before .before .before .before .session-for .ensures) (c .turned .ensures);
+            sheetBytes = λ i. c .before .before .before .before .before .before .before .before .before .before .before .before .before .before .before .before .before .before .slice-known .given i .fits;
+            apduBytes = λ i. c .before .before .before .before .before .before .before .before .before .before .before .before .before .before .before .before .before .before .before .shared-slice-known .given i .fits;
+          };
+      changed =
+          changes _ _ _ _ _ _ _ _ _ (c .before .before .before .before .before .before .before .before .before .before .before .before .before .before .read-found .ensures) (c .before .before .before .before .before .before .before .before .before .before .before .before .before .data-in .ensures) (c .before .before .before .before .before .before .before .before .before .before .judge .ensures) _ _ _ (c .before .before .before .before .before .before .before .before .carry-out .ensures .1) (c .before .before .before .before .before .before .before .before .before .before .before .before .session-for .ensures);
     }
 
 pub request-spec : {M : Type 1} → statement M

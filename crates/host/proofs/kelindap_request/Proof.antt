@@ -42,7 +42,7 @@ use denote.Exit.{yes}
 use Rattle.device.specs.declared.Sessions.{Sessions}
 use Rattle.host.specs.declared.Replied.{Replied}
 use Rattle.host.specs.declared.Reply.{Reply}
-use Rattle.device.specs.Events.{Called}
+use Rattle.device.specs.Changed.{Requested}
 use Rattle.host.specs.Calls.{gaveBack}
 use Rattle.host.proofs.InPlace.{opened, closed-at, finish}
 use Rattle.device.proofs.Sessions as T
@@ -125,17 +125,17 @@ module _ {M : Type 1} (𝓤 : URA M) (H : Heap 𝓤) (A : Atoms 𝓤) (W : Given
 
   -- what `request` ensures
   abbrev Ensures : Replied → List ℕ → List ℕ → Type 0
-  Ensures r ys zs = Called h m c n (x₁ .now) (x₂ .now) (x₃ .now) (gaveBack r) ys zs
+  Ensures r ys zs = Requested h m c n (x₁ .now) (x₂ .now) (x₃ .now) (gaveBack r) ys zs
 
   -- the answer, and what is known of the fields of what `request` returns
   abbrev ans : Replied → Reply
-  ans r = record { outcome = r .outcome; count = r .count }
+  ans r = record { outcome = r .outcome; count = r .count; changed = r .changed }
 
   inner : (r : Replied) (w : Val) → Is D.the-row r (w ∷ []) → Is T.the-row (r .sessions) (vals (r .sessions))
   inner r w is = LL.owed D.the-type D′.the-laws r _ is .1 .1 .0
 
   made : (r : Replied) (w : Val) → Is D.the-row r (w ∷ []) → Is R.the-row (ans r) (LL.vals R.the-type R′.the-laws (ans r))
-  made r w is = LL.owes R.the-type R′.the-laws (ans r) (LL.owed D.the-type D′.the-laws r _ is .0, (LL.owed D.the-type D′.the-laws r _ is .1 .0, tt))
+  made r w is = LL.owes R.the-type R′.the-laws (ans r) (LL.owed D.the-type D′.the-laws r _ is .0, (LL.owed D.the-type D′.the-laws r _ is .1 .0, (LL.owed D.the-type D′.the-laws r _ is .1 .1 .1 .0, tt)))
 
   exits : (r : Replied) (w : Val) (ys zs : List ℕ) → Is D.the-row r (w ∷ []) → Ensures r ys zs → length ys ≡ length (x₂ .now) → length zs ≡ length (x₃ .now)
       → ent 𝓤 (⋆ 𝓤 H A (‵ (fobs γ (T.the-row .coded .code (r .sessions))) ∷ ‵ (fbor κ (Body (mem T.the-row) b o γ)) ∷ ‵ (flft κ q) ∷ tokens ∷ ‵ (finally u8 (x₂ .name) ys) ∷ ‵ (finally u8 (x₃ .name) zs) ∷ [])) (Post (R′.lowered (ans r)))
@@ -179,7 +179,7 @@ module _ {M : Type 1} (𝓤 : URA M) (H : Heap 𝓤) (A : Atoms 𝓤) (W : Given
         -- [the result; the tokens; out's last list; true; the sheet's last list; the cell; the open borrow; obs; auth; _13; …]
         land ! (from ! (stop !)) (init ! 19 refl (LL.lawful D.the-type D′.the-laws 𝓤 H A W .typed r _ is .0)) $ rewrite ! 19 (λ (u : Val). ‵ (fat fullShare D′.mir l₈ 0 u)) (ap only (LL.tells D.the-type D′.the-laws r _ is)) refl $
         assigns ! (of-opd ! (load ! (from ! (fld ! refl (stop !))) (look-in ! 19 (sub ! 2 refl (whole !))))) (from ! (hop ! (look ! 33 refl) (stop !))) (store-raw ! 5 refl (LL.lawful T.the-type T′.the-laws 𝓤 H A W .typed (r .sessions) _ (inner r w is) .0)) $
-        assigns ! (agg ! (and-then ! (load ! (from ! (fld ! refl (stop !))) (look-in ! 19 (sub ! 0 refl (whole !)))) (and-then ! (load ! (from ! (fld ! refl (stop !))) (look-in ! 19 (sub ! 1 refl (whole !)))) (no-more !)))) (from ! (stop !))
+        assigns ! (agg ! (and-then ! (load ! (from ! (fld ! refl (stop !))) (look-in ! 19 (sub ! 0 refl (whole !)))) (and-then ! (load ! (from ! (fld ! refl (stop !))) (look-in ! 19 (sub ! 1 refl (whole !)))) (and-then ! (load ! (from ! (fld ! refl (stop !))) (look-in ! 19 (sub ! 3 refl (whole !)))) (no-more !))))) (from ! (stop !))
         (init ! 35 refl (LL.lawful R.the-type R′.the-laws 𝓤 H A W .typed (ans r) _ (made r w is) .0)) $
         -- the borrow is closed at the new sessions
         move ! (5 ∷ 6 ∷ 7 ∷ 8 ∷ []) $ closed-at ! tt T.the-type T′.the-laws T′.the-plain (r .sessions) b o (inner r w is) $

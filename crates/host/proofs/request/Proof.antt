@@ -11,7 +11,6 @@ request-spec =
     tie.close
     (tie.spec
     (λ c κs. search needs)
-    (λ c. omega (arith, few _ _ _ _ _ _ _ _ _ _ (c .before .before .before .before .before .before .request .ensures)))
-    (λ c. search needs)
-    (λ c. search needs)
-    (λ c. as-given _ _ _ _ _ _ _ _ _ _ (c .before .before .before .before .before .before .request .ensures)))
+    (λ c. omega (arith, few _ _ _ _ _ _ _ _ _ _ (c .before .before .before .before .before .before .before .before .request .ensures)))
+    (λ c. search needs) (λ c. search needs)
+    (λ c. as-given _ _ _ _ _ _ _ _ _ _ (c .before .before .before .before .before .before .before .before .request .ensures)))

@@ -1,0 +1,72 @@
+-- The last event after which something was another: it is one of the history, or there is none and it is as at first.
+-- Assumes nothing.
+use Prim.Native.Nat.{ℕ, zero, suc}
+use mathlib.Core.Path.{_≡_, refl, sym, ap, subst, _∙_}
+use mathlib.Core.Logic.{_⊎_, inl, inr}
+use mathlib.Core.Bool.{Bool, true, false, cond}
+use mathlib.Core.List.{List, [], _∷_}
+use lib.ListN.{drop}
+use lib.Dec.{eqb}
+use borrow.Author.Tests.{eqb-true, eqb-false}
+use Rattle.octets.proofs.Truths.{never, decided}
+use Rattle.device.specs.Events.{State}
+use Rattle.events.specs.Events.{Event, button}
+use Rattle.history.specs.History.{First}
+use Rattle.history.specs.Keeps.{Device, stateAfter, AllOctets}
+use Rattle.account.specs.Account as account
+use Rattle.account.specs.Account.{Origin, at, lastOther, Last}
+
+-- an origin taken apart
+abbrev pub isAt : Origin → Bool
+isAt account.never = false
+isAt (at h e) = true
+
+abbrev pub beforeIt : Origin → List Event
+beforeIt account.never = []
+beforeIt (at h e) = h
+
+abbrev pub eventIn : Origin → Event
+eventIn account.never = button false
+eventIn (at h e) = e
+
+-- events before one of bytes are of bytes
+pub all-dropped : (n : ℕ) (h : List Event) → AllOctets h → AllOctets (drop n h)
+all-dropped zero h k = k
+all-dropped (suc n) [] k = tt
+all-dropped (suc n) (e ∷ h) k = all-dropped n h (k .1)
+
+module _ (step : Device) (f : First) (look : State → ℕ) where
+  abbrev After : List Event → ℕ
+  After h = look (stateAfter step f h)
+
+  pub is-last :
+      (h before : List Event) (e : Event) → lastOther step f look h ≡ at before e → Last step f look h before e
+  unfolding lastOther
+  is-last [] before e o = never (ap isAt o)
+  is-last (d ∷ h) before e o = go (decided (eqb (After (d ∷ h)) (After h))) (is-last h before e)
+    where
+      go : (eqb (After (d ∷ h)) (After h) ≡ true) ⊎ (eqb (After (d ∷ h)) (After h) ≡ false) →
+          (lastOther step f look h ≡ at before e → Last step f look h before e) → Last step f look (d ∷ h) before e
+      go (inl t) r =
+          let l = r (sym (ap (λ (u : Bool). cond u (lastOther step f look h) (at h d)) t) ∙ o) in
+          record { later = suc (l .later); within = l .within; another = l .another; since = eqb-true _ _ t ∙ l .since }
+      go (inr n) r =
+          let w = sym (ap (λ (u : Bool). cond u (lastOther step f look h) (at h d)) n) ∙ o in
+          subst (λ (u : Event). Last step f look (d ∷ h) before u) (ap eventIn w)
+          (subst (λ (u : List Event). Last step f look (d ∷ h) u d) (ap beforeIt w)
+          record { later = 0; within = refl; another = eqb-false _ _ n; since = refl })
+
+  pub as-at-first : (h : List Event) → lastOther step f look h ≡ account.never → After h ≡ After []
+  unfolding lastOther
+  as-at-first [] o = refl
+  as-at-first (d ∷ h) o = go (decided (eqb (After (d ∷ h)) (After h))) (as-at-first h)
+    where
+      go : (eqb (After (d ∷ h)) (After h) ≡ true) ⊎ (eqb (After (d ∷ h)) (After h) ≡ false) →
+          (lastOther step f look h ≡ account.never → After h ≡ After []) → After (d ∷ h) ≡ After []
+      go (inl t) r = eqb-true _ _ t ∙ r (sym (ap (λ (u : Bool). cond u (lastOther step f look h) (at h d)) t) ∙ o)
+      go (inr n) r = never (sym (ap isAt o) ∙ ap (λ (u : Bool). isAt (cond u (lastOther step f look h) (at h d))) n)
+
+  -- there is one, or none
+  pub either : (o : Origin) → (o ≡ account.never) ⊎ (o ≡ at (beforeIt o) (eventIn o))
+  either account.never = inl refl
+  either (at h e) = inr refl
