@@ -270,7 +270,7 @@ static bool do_connect(device *d, char **words, size_t count)
     (void)count;
     if (!take_connection(words[0], &c))
         return false;
-    put_event(d, (kelindap_reply){ kelindap_connect(&d->sessions, c), 0 }, NULL, 0);
+    put_event(d, (kelindap_reply){ .outcome = kelindap_connect(&d->sessions, c) }, NULL, 0);
     return true;
 }
 
@@ -280,7 +280,7 @@ static bool do_disconnect(device *d, char **words, size_t count)
     (void)count;
     if (!take_connection(words[0], &c))
         return false;
-    put_event(d, (kelindap_reply){ kelindap_disconnect(&d->sessions, c), 0 }, NULL, 0);
+    put_event(d, (kelindap_reply){ .outcome = kelindap_disconnect(&d->sessions, c) }, NULL, 0);
     return true;
 }
 
@@ -290,7 +290,7 @@ static bool do_button(device *d, char **words, size_t count)
     (void)count;
     if (!on && strcmp(words[0], "off") != 0)
         return err("the button goes on or off: \"%s\"", shown(words[0]));
-    put_event(d, (kelindap_reply){ kelindap_button(d->sheet.bytes, d->sheet.length, on), 0 }, NULL, 0);
+    put_event(d, (kelindap_reply){ .outcome = kelindap_button(d->sheet.bytes, d->sheet.length, on) }, NULL, 0);
     return true;
 }
 

@@ -39,10 +39,12 @@
  *    device: such a sheet lets every sender end both connections. There it shows as outcome 1, which no other request gets in
  *    mode 2, also if no session was open. After that the host restarts what it wants;
  *  - calls on one sheet come one after the other, never from two threads at once;
- *  - saving. The sheet is all that has to survive a power cut; the sessions do not survive one: they begin fresh. A call changes
- *    the sheet only if it gives 0 or 1, and then perhaps not: a host finds out by comparing the sheet with the copy that it
- *    saved last (memcmp of at most 16,384 bytes). It saves after such a call and before it sends the answer, so that what was
- *    answered is kept, or at times of its own if the loss of the last writes is acceptable;
+ *  - saving. The sheet is all that has to survive a power cut; the sessions do not survive one: they begin fresh. A request
+ *    tells which parts of the sheet it stored; a button that gives 1 stored byte 14, a restore that gives 1 counts and bodies
+ *    of properties (kelindap_store.h), and no other call changes the sheet but kelindap_convert and playing
+ *    (kelindap_trace.h). So a host needs no second copy in memory to know whether to save. It saves after such a call and
+ *    before it sends the answer, so that what was answered is kept, or at times of its own if the loss of the last writes is
+ *    acceptable;
  *  - a power cut during a call leaves a sheet in memory that may hold a part of a write, and no promise speaks of it: so what
  *    the host starts from is the saved copy, and never memory that lay open to a call. A save must leave the old copy or the
  *    new one, whole: two places with a mark of the newer, or a new file renamed over the old one (examples/host.c). At start
@@ -95,17 +97,23 @@ typedef struct kelindap_sessions {
     kelindap_session of[KELINDAP_CONNECTIONS];
 } kelindap_sessions;
 
-/* What a request gave: its outcome, and how many bytes of the answer buffer were filled. */
-typedef struct kelindap_reply {
-    uint8_t outcome;
-    uint8_t count;
-} kelindap_reply;
-
-/* A part of a sheet; 0 and 0 if the sheet is not accepted or has no such entry. */
+/* A part of a sheet; 0 and 0 if the sheet is not accepted, an old one included, or has no such entry, or if nothing was stored. */
 typedef struct kelindap_part {
     size_t offset;
     size_t length;
 } kelindap_part;
+
+/*
+ * What a request gave: its outcome, how many bytes of the answer buffer were filled, and the parts of the sheet that were
+ * stored, at most two. Every byte outside both is as found, and both lie in the sheet; if the outcome is 2 or more, both are 0
+ * and 0. What was stored may be what stood there. A host saves if one of them has a length, or saves these bytes alone.
+ */
+enum { KELINDAP_CHANGED = 2 };
+typedef struct kelindap_reply {
+    uint8_t outcome;
+    uint8_t count;
+    kelindap_part changed[KELINDAP_CHANGED];
+} kelindap_reply;
 
 /* The version of the library, in the form of KELINDAP_VERSION. */
 uint32_t kelindap_version(void);

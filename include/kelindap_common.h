@@ -12,9 +12,9 @@
  * headers than it is linked with.
  */
 #define KELINDAP_VERSION_MAJOR 0
-#define KELINDAP_VERSION_MINOR 2
+#define KELINDAP_VERSION_MINOR 3
 #define KELINDAP_VERSION_PATCH 0
-#define KELINDAP_VERSION_TEXT "0.2.0"
+#define KELINDAP_VERSION_TEXT "0.3.0"
 #define KELINDAP_VERSION (65536 * KELINDAP_VERSION_MAJOR + 256 * KELINDAP_VERSION_MINOR + KELINDAP_VERSION_PATCH)
 
 /* The outcomes, by number; kelindap_names.h has them as text. Not every call gives every one. */

@@ -65,7 +65,9 @@
     X(56, TRACE_OFFSET, "an offset other than the end before")  \
     X(57, TRACE_PAST_END, "an APDU past the end of the trace")  \
     X(58, TRACE_LEFT_OVER, "bytes behind the last APDU")        \
-    X(59, TRACE_LOG, "the log is too short")
+    X(59, TRACE_LOG, "the log is too short")                    \
+    X(70, TRACE_MARKS, "marks of another length")               \
+    X(71, TRACE_NUMBERS, "the numbers of events run out")
 
 /* Each rule of a sheet by number, with its name in enum kelindap_rule and what breaks it; 0 and 14 have their words below. */
 #define KELINDAP_RULES(X)                                                  \

@@ -46,7 +46,9 @@ enum kelindap_trace_refusal {
     KELINDAP_TRACE_OFFSET = 56,    /* an offset is not where the APDU before ended */
     KELINDAP_TRACE_PAST_END = 57,  /* an APDU runs past the trace's end */
     KELINDAP_TRACE_LEFT_OVER = 58, /* bytes behind the last APDU */
-    KELINDAP_TRACE_LOG = 59        /* playing only, and after all others: the log is too short for what would be handled */
+    KELINDAP_TRACE_LOG = 59,       /* playing only, and after all others: the log is too short for what would be handled */
+    KELINDAP_TRACE_MARKS = 70,     /* playing with marks only, after that: marks, or the room for the sheet, of another length */
+    KELINDAP_TRACE_NUMBERS = 71    /* and after that: the numbers of the events would run out */
 };
 
 /* 0 if the trace can be played, else the number of why not, 50 to 58. */
@@ -71,6 +73,30 @@ typedef struct kelindap_played {
 kelindap_played kelindap_play(kelindap_sessions *sessions, uint8_t *sheet, size_t sheet_length,
                               const uint8_t *trace, size_t trace_length, size_t from, size_t limit,
                               uint8_t *log, size_t log_length);
+
+/*
+ * Playing with marks: sessions, sheet and log become what kelindap_play makes of them, and beside it `marks` tells who changed
+ * what. It has a number for each byte of the sheet, and behind them one for the level of each connection: marks_length counts
+ * these numbers, and is sheet_length + KELINDAP_CONNECTIONS. All are 0 at first. After the call
+ *  - marks[p] is the number of the last event after which byte p of the sheet was another than before it; it is as it was if
+ *    no event of the call was such, and so 0 if none ever was;
+ *  - marks[sheet_length + c] is the same of the level of connection c.
+ * The events of a call are numbered played + 1, played + 2 and so on: `played` says how many were played with these marks
+ * before, in earlier calls and of earlier traces, so that the marks go on. There are at most 4,294,967,295 in all.
+ * `before` is room for a copy of the sheet, and as long; what it holds counts for nothing, and afterwards it is the sheet.
+ * What is refused leaves marks and before as found too.
+ *
+ * What a mark proves, from an accepted sheet and marks of 0: where a byte of a region, of a property's body or count, or of a
+ * key stands, the event was a permitted write that named it, at a level that suffices, and gave it what it holds. The flags
+ * (byte 14), the address (bytes 16 and 17) and the group values have an event and no right: the button, programming mode or
+ * the group address was enough. A level below 3 is marked with the event that offered the key of that level, and with 0 only
+ * if the sessions had it at first. To know level and offer of each event, play one at a time (limit 1): before a request in
+ * mode 3 they stand in the session and in the mark of its connection; in other modes the level is 3.
+ */
+kelindap_played kelindap_play_marked(kelindap_sessions *sessions, uint8_t *sheet, size_t sheet_length,
+                                     const uint8_t *trace, size_t trace_length, size_t from, size_t limit,
+                                     uint8_t *log, size_t log_length, uint8_t *before, size_t before_length,
+                                     uint32_t *marks, size_t marks_length, uint32_t played);
 
 #ifdef __cplusplus
 }

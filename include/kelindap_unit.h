@@ -30,12 +30,14 @@ typedef struct kelindap_way {
     uint16_t group;
 } kelindap_way;
 
-/* What a request gave: its outcome, the first `count` bytes as the answer, and which sessions a Restart has closed. */
+/* What a request gave: its outcome, the first `count` bytes as the answer, which sessions a Restart has closed, and the parts of
+   the sheet that were stored, as in kelindap_reply. */
 typedef struct kelindap_answer {
     enum kelindap_outcome outcome;
     uint8_t count;
     uint8_t bytes[16];
     bool closed[KELINDAP_CONNECTIONS];
+    kelindap_part changed[KELINDAP_CHANGED];
 } kelindap_answer;
 
 static inline kelindap_way kelindap_multicast(uint16_t group)
@@ -104,6 +106,8 @@ static inline kelindap_answer kelindap_unit_request(kelindap_unit *unit, kelinda
     answer.count = reply.count;
     for (size_t c = 0; c < KELINDAP_CONNECTIONS; c++)
         answer.closed[c] = before.of[c].open && !unit->sessions.of[c].open;
+    for (size_t k = 0; k < KELINDAP_CHANGED; k++)
+        answer.changed[k] = reply.changed[k];
     return answer;
 }
 

@@ -15,12 +15,11 @@ _Static_assert(sizeof(kelindap_played) == 4 && offsetof(kelindap_played, handled
 #define GIVEN_SESSIONS(name) \
     (word)name.of[0].open | (word)name.of[0].level << 8 | (word)name.of[1].open << 16 | (word)name.of[1].level << 24
 
-typedef word raw_kelindap_sessions, raw_kelindap_reply, raw_kelindap_saved, raw_kelindap_played;
+typedef word raw_kelindap_sessions, raw_kelindap_saved, raw_kelindap_played;
 static kelindap_sessions made_kelindap_sessions(word r)
 {
     return (kelindap_sessions){ { { low(r), high(r) }, { low(r >> 16), high(r >> 16) } } };
 }
-static kelindap_reply made_kelindap_reply(word r) { return (kelindap_reply){ low(r), high(r) }; }
 static kelindap_saved made_kelindap_saved(word r) { return (kelindap_saved){ low(r), (uint16_t)(r >> 16) }; }
 static kelindap_played made_kelindap_played(word r) { return (kelindap_played){ low(r), (uint16_t)(r >> 16) }; }
 
@@ -28,13 +27,27 @@ static kelindap_played made_kelindap_played(word r) { return (kelindap_played){ 
 typedef quad raw_kelindap_part;
 static kelindap_part made_kelindap_part(quad q) { return (kelindap_part){ QUAD(q, 0), QUAD(q, 2) }; }
 
+/* offset and length of the one part that was stored and of the other */
+#define PARTS(p) { { (size_t)p[0], (size_t)p[1] }, { (size_t)p[2], (size_t)p[3] } }
+
+/* a reply, flat */
+typedef struct flat_kelindap_reply {
+    uint8_t outcome, count;
+    uint64_t part[4];
+} flat_kelindap_reply;
+_Static_assert(sizeof(flat_kelindap_reply) == 40 && offsetof(flat_kelindap_reply, part) == 8, "as the module has it");
+static kelindap_reply of_flat_kelindap_reply(flat_kelindap_reply from)
+{
+    return (kelindap_reply){ from.outcome, from.count, PARTS(from.part) };
+}
+
 CALL(number, version, NONE)
 CALL(kelindap_sessions, fresh, NONE)
 CALL(byte, connect, AT(kelindap_sessions, sessions), NUMBER(uint8_t, connection))
 CALL(byte, disconnect, AT(kelindap_sessions, sessions), NUMBER(uint8_t, connection))
 CALL(byte, button, WRITE(sheet), NUMBER(bool, on))
-CALL(kelindap_reply, request, AT(kelindap_sessions, sessions), NUMBER(uint8_t, mode), NUMBER(uint8_t, connection),
-     NUMBER(uint16_t, group), READ(apdu), WRITE(sheet), WRITE(answer))
+CALL_LONG(kelindap_reply, request, AT(kelindap_sessions, sessions), NUMBER(uint8_t, mode), NUMBER(uint8_t, connection),
+          NUMBER(uint16_t, group), READ(apdu), WRITE(sheet), WRITE(answer))
 CALL(byte, check, READ(sheet))
 CALL(byte, convert, WRITE(sheet))
 CALL(kelindap_part, property, READ(sheet), NUMBER(uint8_t, object), NUMBER(uint8_t, id))
@@ -47,3 +60,5 @@ CALL(byte, restore, SESSIONS(sessions), NUMBER(uint8_t, connection), WRITE(sheet
 CALL(byte, remove, WRITE(store), SIZE(number))
 CALL(byte, trace_check, READ(trace))
 CALL(kelindap_played, play, AT(kelindap_sessions, sessions), WRITE(sheet), READ(trace), SIZE(from), SIZE(limit), WRITE(log))
+CALL(kelindap_played, play_marked, AT(kelindap_sessions, sessions), WRITE(sheet), READ(trace), SIZE(from), SIZE(limit), WRITE(log),
+     WRITE(before), NUMBERS(marks), NUMBER(uint32_t, played))

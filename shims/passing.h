@@ -6,7 +6,7 @@
  *  - a number is widened to a register on the way in; a length has 64 bits in the module on every processor;
  *  - a number, or a structure of up to four bytes, comes back in a register whose other bits say nothing, and is cut out of it;
  *  - a structure of up to 16 bytes comes back in registers, where C does it otherwise by the type that says so;
- *  - a longer one is filled, or read, at an address (pdu.c).
+ *  - a longer one is filled at an address, which comes first, or read at one (pdu.c).
  * Arguments can't be exchanged in a line: it says each once, for the header's function and for the module's.
  */
 #ifndef KELINDAP_PASSING_H
@@ -45,6 +45,11 @@ _Static_assert(sizeof(word) == sizeof(void *), "an address fills a register");
 #define HEADER_WRITE(name) uint8_t *name, size_t name##_length
 #define MODULE_WRITE(name) uint8_t *, uint64_t
 #define GIVEN_WRITE(name) name, name##_length
+
+/* and a run of numbers of 32 bits, its length being how many they are */
+#define HEADER_NUMBERS(name) uint32_t *name, size_t name##_length
+#define MODULE_NUMBERS(name) uint32_t *, uint64_t
+#define GIVEN_NUMBERS(name) name, name##_length
 
 /* ---- results: what comes back, and what is made of it ---- */
 
@@ -93,6 +98,16 @@ static inline number made_number(word r) { return (uint32_t)r; }
     result kelindap_##name(EACH(HEADER, __VA_ARGS__)) \
     { \
         return made_##result(kelindap_module_##name(EACH(GIVEN, __VA_ARGS__))); \
+    }
+
+/* of a long structure, for which there is a flat_ type, as the module has it, and an of_flat_ function */
+#define CALL_LONG(type, name, ...) \
+    void *kelindap_module_##name(flat_##type *, EACH(MODULE, __VA_ARGS__)); \
+    type kelindap_##name(EACH(HEADER, __VA_ARGS__)) \
+    { \
+        flat_##type flat; \
+        kelindap_module_##name(&flat, EACH(GIVEN, __VA_ARGS__)); \
+        return of_flat_##type(flat); \
     }
 
 #endif

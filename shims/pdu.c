@@ -28,18 +28,10 @@
 FLAT(PDU, kelindap_pdu)
 FLAT(FRAME, kelindap_frame)
 
-/* a long structure as an argument is read at an address; as a result it is filled at one, which comes first */
+/* a long structure as an argument is read at an address */
 #define HEADER_LONG(type, name) type name
 #define MODULE_LONG(type, name) const flat_##type *
 #define GIVEN_LONG(type, name) (flat_##type[]){ flat_of_##type(name) }
-#define CALL_LONG(type, name, ...) \
-    void *kelindap_module_##name(flat_##type *, EACH(MODULE, __VA_ARGS__)); \
-    type kelindap_##name(EACH(HEADER, __VA_ARGS__)) \
-    { \
-        flat_##type flat; \
-        kelindap_module_##name(&flat, EACH(GIVEN, __VA_ARGS__)); \
-        return of_flat_##type(flat); \
-    }
 
 /* ---- the short ones: three words of a group value, what writing gave ---- */
 

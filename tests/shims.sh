@@ -84,8 +84,9 @@ changed() { # LIBRARY NAME FROM TO
 }
 for name in host tool; do faults_of "$name" > "$work/$name.faults"; done
 changed host "fresh: a byte beside the level" 'high(r >> 16)' 'high(r >> 8)'
-changed host "reply: outcome and count exchanged" '(kelindap_reply){ low(r), high(r) }' '(kelindap_reply){ high(r), low(r) }'
-changed host "reply: a byte further on" '(kelindap_reply){ low(r), high(r) }' '(kelindap_reply){ low(r >> 8), high(r >> 8) }'
+changed host "reply: outcome and count exchanged" '(kelindap_reply){ from.outcome, from.count,' '(kelindap_reply){ from.count, from.outcome,'
+changed host "reply: a part's length for its offset" 'from.count, { { (size_t)from.part[0],' 'from.count, { { (size_t)from.part[1],'
+changed host "reply: the first part twice" '(size_t)from.part[2], (size_t)from.part[3]' '(size_t)from.part[0], (size_t)from.part[1]'
 changed host "saved: the number a byte short" '(uint16_t)(r >> 16)' 'low(r >> 16)'
 changed host "saved: the number for the outcome" '(kelindap_saved){ low(r),' '(kelindap_saved){ low(r >> 16),'
 changed host "played: how many for the refusal" '(kelindap_played){ low(r),' '(kelindap_played){ low(r >> 16),'

@@ -21,7 +21,7 @@ from collections import namedtuple
 from ctypes import POINTER, Structure, byref, c_bool, c_int32, c_size_t, c_uint8, c_uint16, c_uint32, c_uint64
 
 # the version of the headers whose structures these are
-VERSION = "0.2.0"
+VERSION = "0.3.0"
 
 MULTICAST, BROADCAST, CONNECTIONLESS, CONNECTED = range(4)
 CONNECTIONS = 2
@@ -39,12 +39,12 @@ class _Sessions(Structure):
     _fields_ = [("of", _Session * CONNECTIONS)]
 
 
-class _Reply(Structure):
-    _fields_ = [("outcome", c_uint8), ("count", c_uint8)]
-
-
 class _Part(Structure):
     _fields_ = [("offset", c_size_t), ("length", c_size_t)]
+
+
+class _Reply(Structure):
+    _fields_ = [("outcome", c_uint8), ("count", c_uint8), ("changed", _Part * 2)]
 
 
 class _Saved(Structure):
@@ -105,6 +105,7 @@ _CALLS = {
     "remove": (c_uint8, _RUN + [c_size_t]),
     "trace_check": (c_uint8, _RUN),
     "play": (_Played, _SESSIONS + 2 * _RUN + [c_size_t, c_size_t] + _RUN),
+    "play_marked": (_Played, _SESSIONS + 2 * _RUN + [c_size_t, c_size_t] + 2 * _RUN + [POINTER(c_uint32), c_size_t, c_uint32]),
     "pdu_version": (c_uint32, []),
     "read": (_Pdu, _RUN),
     "write": (_Written, [_Pdu] + 2 * _RUN),
@@ -361,10 +362,14 @@ def frame_write(info, apdu, **fields):
 
 # ---- a device ----
 
-Reply = namedtuple("Reply", "outcome count")
+Reply = namedtuple("Reply", "outcome count changed")
 Saved = namedtuple("Saved", "outcome number")
 LOG_LINE = 18  # bytes of the log for an event: outcome, count, 16 of the answer
 MOST_EVENTS = 512
+
+
+def _parts(changed):
+    return [(part.offset, part.length) for part in changed if part.length]
 
 
 class Unit:
@@ -393,10 +398,10 @@ class Unit:
         return _call.button(*_lent(self.sheet), on)
 
     def request(self, apdu, buffer, mode=CONNECTIONLESS, connection=0, group=0):
-        """A request: outcome, and how many bytes of the buffer, a bytearray, are the answer."""
+        """A request: outcome, how many bytes of the buffer, a bytearray, are the answer, and offset and length of each part stored."""
         how = _bits(mode, 8), _bits(connection, 8), _bits(group, 16)
         reply = _call.request(byref(self._sessions), *how, *_lent(apdu), *_lent(self.sheet), *_lent(buffer))
-        return Reply(reply.outcome, reply.count)
+        return Reply(reply.outcome, reply.count, _parts(reply.changed))
 
     def save(self, store):
         """Keeps the properties as a version in the store, a bytearray: outcome, and the version's number."""
@@ -417,6 +422,20 @@ class Unit:
             raise Refused(done.refusal)
         lines = [log[LOG_LINE * i : LOG_LINE * (i + 1)] for i in range(done.handled)]
         return [(outcome, bytes(answer[:count])) for outcome, count, *answer in lines]
+
+    def play_marked(self, trace, marks, marked, played=0, limit=MOST_EVENTS):
+        """The same with marks: marks() at first, and so many events were marked before. Raises Refused."""
+        log, before = bytearray(MOST_EVENTS * LOG_LINE), bytearray(len(self.sheet))
+        lent = *_lent(self.sheet), *_lent(bytes(trace)), _size(played), _size(limit), *_lent(log), *_lent(before)
+        done = _call.play_marked(byref(self._sessions), *lent, marks, len(marks), _bits(marked, 32))
+        if done.refusal != 0:
+            raise Refused(done.refusal)
+        lines = [log[LOG_LINE * i : LOG_LINE * (i + 1)] for i in range(done.handled)]
+        return [(outcome, bytes(answer[:count])) for outcome, count, *answer in lines]
+
+    def marks(self):
+        """Marks of 0: a number for each byte of the sheet, and one for the level of each connection."""
+        return (c_uint32 * (len(self.sheet) + CONNECTIONS))()
 
     def ask(self, kind, connection=None, group=None, mode=None, **fields):
         """A PDU as a request, on a connection, to a group, or with neither connectionless: the reply, and the answer's PDU or None."""

@@ -41,6 +41,7 @@ static void request_at(enum place place, const event *e, effect *f)
     take_back_same(&apdu, e->apdu.bytes, "APDU");
     take_back(&sheet, f->sheet, "sheet");
     take_back(&answer, f->answer, "answer");
+    expect_named(f->reply.outcome, f->reply.changed, e->sheet.bytes, f->sheet, e->sheet.length);
 }
 
 static uint8_t check_at(enum place place, run sheet)

@@ -33,9 +33,12 @@
     SIZE(kelindap_sessions, 4) \
     FIELD(kelindap_sessions, of, 4, 0) \
     FIELD(kelindap_sessions, of[1], 2, 2) \
-    SIZE(kelindap_reply, 2) \
+    NUMBER(KELINDAP_CHANGED, 2) \
+    SIZE(kelindap_reply, 5 * W) \
     FIELD(kelindap_reply, outcome, 1, 0) \
     FIELD(kelindap_reply, count, 1, 1) \
+    FIELD(kelindap_reply, changed, 4 * W, W) \
+    FIELD(kelindap_reply, changed[1], 2 * W, 3 * W) \
     SIZE(kelindap_part, 2 * W) \
     FIELD(kelindap_part, offset, W, 0) \
     FIELD(kelindap_part, length, W, W) \

@@ -78,7 +78,7 @@ static uint32_t any(uint32_t below)
 
 enum { GUARD = 64, WALLED = 9 * 4096, MOST_ROOM = 32 };
 enum place { EXACT, GUARDED, BEFORE_WALL, AFTER_WALL, PLACES };
-enum role { SESSIONS, APDU, SHEET, ANSWER, STORE, ROLES };
+enum role { SESSIONS, APDU, SHEET, ANSWER, STORE, MARKS, ROLES };
 
 typedef struct run {
     const uint8_t *bytes;
@@ -253,5 +253,24 @@ static int tell(void)
     printf("%s: %lu calls, %lu failures (%s)\n", test_name, calls, failures, watch);
     return failures == 0 ? EXIT_SUCCESS : EXIT_FAILURE;
 }
+
+/* ---- what a request, or a frame, says that it stored ---- */
+
+#ifdef KELINDAP_H
+/* Both parts lie in the sheet, every byte outside them is as found, and a refusal has none. */
+static inline void expect_named(uint8_t outcome, const kelindap_part p[KELINDAP_CHANGED], const uint8_t *before,
+                                const uint8_t *after, size_t length)
+{
+    bool none = p[0].offset + p[0].length + p[1].offset + p[1].length == 0;
+    expect(outcome <= KELINDAP_DONE || none, "outcome %d names a part", outcome);
+    for (int k = 0; k < KELINDAP_CHANGED; k++)
+        expect(p[k].offset + p[k].length <= length, "part %d runs past the sheet", k);
+    if (length == 0 || memcmp(before, after, length) == 0)
+        return;
+    for (size_t i = 0; i < length; i++)
+        expect(i - p[0].offset < p[0].length || i - p[1].offset < p[1].length || after[i] == before[i],
+               "byte %d changed, which no part has", (int)i);
+}
+#endif
 
 #endif

@@ -100,6 +100,8 @@ static void fill_store(void)
 }
 
 /* the same requests as traces of one event */
+static uint8_t before[sizeof pump];
+static uint32_t marks[sizeof pump + KELINDAP_CONNECTIONS];
 static void play(void)
 {
     static uint8_t trace[2 + KELINDAP_TRACE_ENTRY + sizeof apdu], log[KELINDAP_LOG_LINE];
@@ -118,6 +120,8 @@ static void play(void)
             sessions.of[0] = (kelindap_session){.open = true, .level = (uint8_t)(i % 4)};
             kept += kelindap_trace_check(trace, 10u + trace[8]);
             kept += kelindap_play(&sessions, sheet, sizeof sheet, trace, 10u + trace[8], 0, 1, log, sizeof log).handled;
+            kept += kelindap_play_marked(&sessions, sheet, sizeof sheet, trace, 10u + trace[8], 0, 1, log, sizeof log, before,
+                                         sizeof before, marks, sizeof marks / sizeof *marks, 0).handled;
         }
     }
 }

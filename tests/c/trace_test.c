@@ -116,13 +116,16 @@ static kelindap_played play_at(enum place place, state *s, const uint8_t *trace,
 /* One event by the other calls, and its line. */
 static void happen(state *s, const event *e, uint8_t *line)
 {
+    static uint8_t before[MOST_SHEET];
     uint8_t answer[16] = { 0 };
-    kelindap_reply r = { 0, 0 };
+    kelindap_reply r = { .outcome = 0 };
     uint8_t connection = e->mode >> 4;
     switch (e->kind) {
     case KELINDAP_TRACE_REQUEST:
+        memcpy(before, s->sheet, s->length);
         r = kelindap_request(&s->sessions, e->mode & 15, connection, e->group, e->apdu, e->length, s->sheet, s->length, answer,
                              sizeof answer);
+        expect_named(r.outcome, r.changed, before, s->sheet, s->length);
         break;
     case KELINDAP_TRACE_CONNECT:
         r.outcome = kelindap_connect(&s->sessions, connection);
@@ -136,6 +139,50 @@ static void happen(state *s, const event *e, uint8_t *line)
     line[KELINDAP_LOG_OUTCOME] = r.outcome;
     line[KELINDAP_LOG_COUNT] = r.count;
     memcpy(line + KELINDAP_LOG_ANSWER, answer, sizeof answer);
+}
+
+/* ---- marks ---- */
+
+/* Marks and the room for the sheet; `played` events were marked. */
+typedef struct book {
+    uint8_t before[MOST_SHEET];
+    uint32_t marks[MOST_SHEET + KELINDAP_CONNECTIONS];
+    uint32_t played;
+} book;
+
+static kelindap_played mark_at(enum place place, state *s, book *b, const uint8_t *trace, size_t length, size_t from, size_t limit,
+                               uint8_t *log, size_t log_length, size_t room, size_t marks)
+{
+    lent sessions = lend(SESSIONS, place, &s->sessions, sizeof s->sessions);
+    lent sheet = lend(SHEET, place, s->sheet, s->length);
+    lent t = lend(APDU, place, trace, length);
+    lent lines = lend(ANSWER, place, log, log_length);
+    lent before = lend(STORE, place, b->before, room);
+    lent numbers = lend(MARKS, place, b->marks, marks * sizeof *b->marks);
+    kelindap_played p = kelindap_play_marked((kelindap_sessions *)sessions.bytes, sheet.bytes, sheet.length, t.bytes, t.length,
+                                             from, limit, lines.bytes, lines.length, before.bytes, before.length,
+                                             (uint32_t *)(void *)numbers.bytes, marks, b->played);
+    calls++;
+    take_back(&sessions, &s->sessions, "sessions");
+    take_back(&sheet, s->sheet, "sheet");
+    take_back_same(&t, trace, "trace");
+    take_back(&lines, log, "log");
+    take_back(&before, b->before, "room for the sheet");
+    take_back(&numbers, b->marks, "marks");
+    b->played += p.handled;
+    return p;
+}
+
+/* What an event that has happened changed, marked by comparing. */
+static void mark(book *b, const state *was, const state *is)
+{
+    b->played++;
+    for (size_t i = 0; i < is->length; i++)
+        if (was->sheet[i] != is->sheet[i])
+            b->marks[i] = b->played;
+    for (size_t c = 0; c < KELINDAP_CONNECTIONS; c++)
+        if (was->sessions.of[c].level != is->sessions.of[c].level)
+            b->marks[is->length + c] = b->played;
 }
 
 static bool same_device(const state *a, const state *b)
@@ -236,6 +283,82 @@ static void test_play(const uint8_t *sheet, size_t sheet_length, const event *ev
     }
 }
 
+/* The same with marks, in pieces and over two traces, the marks going on; each call is held to marks made by comparing. */
+static void test_marks(const uint8_t *sheet, size_t sheet_length, const event *events, size_t n, enum place place)
+{
+    static uint8_t trace[MOST_TRACE];
+    static state single, was, pieces;
+    static book due, told;
+    size_t length = make_trace(trace, events, n);
+    start(&single, sheet, sheet_length);
+    start(&pieces, sheet, sheet_length);
+    memset(&due, 0, sizeof due);
+    memset(&told, 0, sizeof told);
+    due.played = told.played = any(2) ? 0 : (uint32_t)any(3) << 24;
+    for (int times = 0; times < 2; times++)
+        for (size_t from = 0; from < n;) {
+            size_t piece = 1 + any(n - from);
+            for (size_t i = from; i < from + piece; i++) {
+                was = single;
+                happen(&single, &events[i], single.log + KELINDAP_LOG_LINE * i);
+                mark(&due, &was, &single);
+            }
+            kelindap_played p = mark_at(place, &pieces, &told, trace, length, from, piece, pieces.log + KELINDAP_LOG_LINE * from,
+                                        KELINDAP_LOG_LINE * piece, sheet_length, sheet_length + KELINDAP_CONNECTIONS);
+            expect(p.refusal == 0 && p.handled == piece, "%zu events with marks: %d, %d handled", piece, p.refusal, p.handled);
+            expect(same_device(&single, &pieces) && memcmp(single.log, pieces.log, MOST_LOG) == 0, "marks change what is played");
+            expect(memcmp(due.marks, told.marks, sizeof due.marks) == 0 && due.played == told.played, "the marks of %zu differ", piece);
+            expect(memcmp(told.before, pieces.sheet, sheet_length) == 0, "the room for the sheet is not the sheet");
+            if (p.handled == 0)
+                return;
+            from += piece;
+        }
+}
+
+/* Marks, room or numbers that do not fit are refused, after all that playing refuses. */
+static void test_marks_refused(void)
+{
+    static uint8_t trace[MOST_TRACE];
+    static state s, before;
+    static book b, blank;
+    size_t length = make_trace(trace, story, STORY), bytes = sizeof sample, all = bytes + KELINDAP_CONNECTIONS;
+    const struct {
+        size_t length, log, room, marks;
+        uint32_t played;
+        int due;
+    } cases[] = {
+        { length, MOST_LOG, bytes, all, UINT32_MAX - STORY, 0 },
+        { length, MOST_LOG, bytes, all, UINT32_MAX - STORY + 1, KELINDAP_TRACE_NUMBERS },
+        { length, MOST_LOG, bytes, all, UINT32_MAX, KELINDAP_TRACE_NUMBERS },
+        { length, MOST_LOG, bytes - 1, all, UINT32_MAX, KELINDAP_TRACE_MARKS },
+        { length, MOST_LOG, bytes + 1, all, 0, KELINDAP_TRACE_MARKS },
+        { length, MOST_LOG, 0, all, 0, KELINDAP_TRACE_MARKS },
+        { length, MOST_LOG, bytes, all - 1, UINT32_MAX, KELINDAP_TRACE_MARKS },
+        { length, MOST_LOG, bytes, all + 1, 0, KELINDAP_TRACE_MARKS },
+        { length, MOST_LOG, bytes, bytes, 0, KELINDAP_TRACE_MARKS },
+        { length, MOST_LOG, bytes, 0, 0, KELINDAP_TRACE_MARKS },
+        { length, 17, 0, 0, UINT32_MAX, KELINDAP_TRACE_LOG },
+        { 1, 0, 0, 0, UINT32_MAX, KELINDAP_TRACE_SHORT },
+    };
+    start(&before, sample, sizeof sample);
+    for (size_t i = 0; i < sizeof blank.before; i++)
+        blank.before[i] = (uint8_t)(3 * i);
+    for (size_t i = 0; i < sizeof cases / sizeof *cases; i++)
+        for (enum place place = EXACT; place < PLACES; place++) {
+            s = before;
+            b = blank;
+            b.played = cases[i].played;
+            kelindap_played p = mark_at(place, &s, &b, trace, cases[i].length, 0, SIZE_MAX, s.log, cases[i].log, cases[i].room,
+                                        cases[i].marks);
+            expect(p.refusal == cases[i].due, "case %zu of marks: %d for %d", i, p.refusal, cases[i].due);
+            if (p.refusal == 0)
+                continue;
+            expect(p.handled == 0 && same_device(&s, &before) && memcmp(s.log, before.log, MOST_LOG) == 0, "case %zu of marks was played", i);
+            expect(memcmp(b.marks, blank.marks, sizeof b.marks) == 0 && memcmp(b.before, blank.before, sizeof b.before) == 0,
+                   "case %zu of marks was not left alone", i);
+        }
+}
+
 /* What is refused leaves all as found; nothing is left behind the end. */
 static void test_refused(void)
 {
@@ -299,8 +422,14 @@ int main(void)
         test_play(sample, sizeof sample - 1, story, STORY, place, 1); /* not accepted */
         test_play(sample, 0, story, STORY, place, 1);
         test_play(old, sizeof old, story, STORY, place, 1);
+        test_marks(sample, sizeof sample, story, STORY, place);
+        test_marks(pump, sizeof pump, story, STORY, place);
+        test_marks(sample, sizeof sample - 1, story, STORY, place);
+        test_marks(sample, 0, story, STORY, place);
+        test_marks(old, sizeof old, story, STORY, place);
     }
     test_refused();
+    test_marks_refused();
     static event events[KELINDAP_TRACE_EVENTS];
     for (int round = 0; round < 300; round++) {
         size_t n = any(round % 20 ? 40 : KELINDAP_TRACE_EVENTS + 1);
@@ -308,6 +437,7 @@ int main(void)
             events[i] = any_event();
         const bool first = any(2);
         test_play(first ? sample : pump, first ? sizeof sample : sizeof pump, events, n, any(PLACES), 1 + any(n + 1));
+        test_marks(first ? sample : pump, first ? sizeof sample : sizeof pump, events, n, any(PLACES));
     }
     return tell();
 }

@@ -9,7 +9,7 @@
  *   f                                        fresh sessions                   SESSIONS
  *   v C OPEN LEVEL                           sets a session as found          SESSIONS
  *   c C, d C, b ON                           connect, disconnect, button      OUTCOME SESSIONS HASH8
- *   q MODE C GROUP2 APDU BUFFER              a request                        OUTCOME COUNT SESSIONS BUFFER HASH8
+ *   q MODE C GROUP2 APDU BUFFER              a request                        OUTCOME COUNT SESSIONS PARTS BUFFER HASH8
  *   p OBJECT ID, r K8, u K8, g ADDRESS2      lookups                          OFFSET8 LENGTH8 HASH8
  *   R APDU                                   reads a PDU                      the flat PDU
  *   W flat PDU, DATA BUFFER                  writes a PDU                     OUTCOME COUNT BUFFER
@@ -19,13 +19,15 @@
  *   e NUMBER8                                removes one                      OUTCOME STOREHASH8
  *   Y LENGTH4 BYTES                          sets the trace                   REFUSAL
  *   y FROM8 LIMIT8 LENGTH4 LOG               plays events of it               REFUSAL HANDLED2 SESSIONS LOG HASH8
+ *   m FROM8 LIMIT8 PLAYED4 LENGTH4 LOG       plays with marks, not on boards  REFUSAL HANDLED2 SESSIONS LOG HASH8 MARKHASH8
  *   D, E                                     shows the sheet, the store       BYTES
  *   t TIMES4 MODE C GROUP2 APDU BUFFER       so many requests, on a board     INSTRUCTIONS8
  *   T TIMES4                                 so many checks, on a board       INSTRUCTIONS8
  *   !                                        goes deeper than the stack, on a board
  *
- * C is the number of a connection. SESSIONS is open and level of connection 0, then of 1. HASH8 is of the whole sheet after
- * the call. Replies are kept until the input runs dry, so a driver may send many
+ * C is the number of a connection. SESSIONS is open and level of connection 0, then of 1. PARTS is OFFSET4 LENGTH4 of each of
+ * the two parts stored. HASH8 is of the whole sheet after the call. Marks are 0 when a sheet is set.
+ * Replies are kept until the input runs dry, so a driver may send many
  * commands and then read as many replies. Sheet, sessions and buffers stand between guard bytes; an empty run is lent as NULL.
  */
 #define _POSIX_C_SOURCE 200809L
@@ -267,6 +269,14 @@ static void set_session(void)
     give_sessions();
 }
 
+static void give_parts(const kelindap_part changed[KELINDAP_CHANGED])
+{
+    for (int k = 0; k < KELINDAP_CHANGED; k++) {
+        give_number(changed[k].offset, 4);
+        give_number(changed[k].length, 4);
+    }
+}
+
 static void request(void)
 {
     uint8_t as_sent[RUN];
@@ -285,6 +295,7 @@ static void request(void)
     give_number(reply.outcome, 1);
     give_number(reply.count, 1);
     give_sessions();
+    give_parts(reply.changed);
     give(answer.bytes, answer.length);
     give_hash();
 }
@@ -346,6 +357,38 @@ static void play_trace(void)
 }
 
 #ifndef BOARD
+/* ---- marks ---- */
+
+static uint8_t before_room[GUARD + SHEET + GUARD];
+static _Alignas(8) uint8_t marks_room[GUARD + 4 * (SHEET + KELINDAP_CONNECTIONS) + GUARD];
+static lent marks;
+
+static void clear_marks(void)
+{
+    marks = lend(marks_room, 4 * (sheet.length + KELINDAP_CONNECTIONS));
+    memset(marks.bytes, 0, marks.length);
+}
+
+static void play_marked(void)
+{
+    size_t from = whole();
+    size_t limit = whole();
+    uint32_t so_far = (uint32_t)number(4);
+    lent log = take_run(log_room, LOG, 4), before = lend(before_room, sheet.length);
+    kelindap_played played = kelindap_play_marked(&sessions, given(sheet), sheet.length, given(trace), trace.length, from, limit,
+                                                  given(log), log.length, given(before), before.length,
+                                                  (uint32_t *)(void *)marks.bytes, marks.length / 4, so_far);
+    guarded(trace);
+    guarded(log);
+    guarded(before);
+    give_number(played.refusal, 1);
+    give_number(played.handled, 2);
+    give_sessions();
+    give(log.bytes, log.length);
+    give_hash();
+    give_hash_of(marks);
+}
+
 static void read_pdu(void)
 {
     lent apdu = take_run(apdu_room, RUN, 2);
@@ -407,7 +450,7 @@ static kelindap_reply no_request(kelindap_sessions *s, uint8_t m, uint8_t o, uin
                                  uint8_t *b, size_t bn, uint8_t *c, size_t cn)
 {
     (void)s, (void)m, (void)o, (void)g, (void)a, (void)an, (void)b, (void)bn, (void)c, (void)cn;
-    return (kelindap_reply){ 0, 0 };
+    return (kelindap_reply){ .outcome = 0 };
 }
 
 static uint8_t no_check(const uint8_t *s, size_t n)
@@ -465,6 +508,9 @@ static void play(uint8_t command)
     switch (command) {
     case 's':
         sheet = take_run(sheet_room, SHEET, 4);
+#ifndef BOARD
+        clear_marks();
+#endif
         give_rule();
         break;
     case 'x':
@@ -513,6 +559,9 @@ static void play(uint8_t command)
         give_part(kelindap_group(given(sheet), sheet.length, (uint16_t)number(2)));
         break;
 #ifndef BOARD
+    case 'm':
+        play_marked();
+        break;
     case 'R':
         read_pdu();
         break;
@@ -564,6 +613,9 @@ int main(void)
     sheet = lend(sheet_room, 0);
     store = lend(store_room, 0);
     trace = lend(trace_room, 0);
+#ifndef BOARD
+    clear_marks();
+#endif
     lend((uint8_t *)&session_room, sizeof sessions);
     sessions = kelindap_fresh();
     while (in_at < in_end || fill())

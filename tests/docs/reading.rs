@@ -52,11 +52,21 @@ const PARTS: &[Part] = &[
             "events/restore-only",
         ],
     },
+    Part {
+        title: "What a request changed",
+        says: "every byte outside the parts that a request names is as found, and a refusal names none",
+        statements: &["request-outside", "request-none", "request-first", "request-second"],
+    },
     Part { title: "Demand 3", says: "what any history leaves", statements: &["history/keeps"] },
     Part {
         title: "`keyless`",
         says: "without the key nobody changes a protected byte",
         statements: &["history/shut", "keyless", "keyless-run", "locked"],
+    },
+    Part {
+        title: "`accounts`",
+        says: "who changed each byte, and by what right; who gave each level",
+        statements: &["accounts", "entitled", "play-accounts"],
     },
     Part { title: "`isolated`", says: "what one tool sees does not depend on the other", statements: &["isolated"] },
     Part {
@@ -75,6 +85,7 @@ const PARTS: &[Part] = &[
 const STOPS: &[(&str, &str, &[&str])] = &[
     ("requestOf", "what a request does: contract and theorems meet there", &[]),
     ("stepOf", "what a request does on its session: contract and theorems meet there", &[]),
+    ("changedOf", "which parts a request names: contract and theorems meet there", &[]),
     ("buttonOutcome", "what the button does: contract and theorems meet there", &[]),
     ("buttonSheet", "what the button does: contract and theorems meet there", &[]),
     ("restoreOutcome", "what a restore does: contract and theorems meet there", &[]),

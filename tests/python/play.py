@@ -54,8 +54,17 @@ class Player:
 
     def request(self, mode, group, apdu, buffer, connection):
         buffer = bytearray(from_hex(buffer))
+        before = bytes(self.unit.sheet)
         reply = self.unit.request(from_hex(apdu), buffer, int(mode), int(connection), int(group))
-        return self.event(*reply, buffer)
+        return self.told(before, reply) or self.event(reply.outcome, reply.count, buffer)
+
+    def told(self, before, reply):
+        """A line if a byte changed outside the parts that the reply names, or a refusal names one."""
+        for offset, length in reply.changed:
+            before = before[:offset] + self.unit.sheet[offset : offset + length] + before[offset + length :]
+        if before != self.unit.sheet or reply.changed and reply.outcome > 1:
+            return f"the parts {reply.changed} are not what changed"
+        return ""
 
     def lookup(self, what, *words):
         find = {"property": kelindap.find_property, "region": kelindap.find_region, "group": kelindap.find_group}

@@ -21,6 +21,7 @@ struct CSessions {
 struct CReply {
     outcome: u8,
     count: u8,
+    changed: [CPart; 2],
 }
 
 extern "C" {
@@ -116,7 +117,8 @@ impl Side {
                     )
                 };
                 let sessions = sessions.of.map(|s| Session { open: s.open, level: s.level });
-                (Reply { outcome: reply.outcome, count: reply.count }, sessions)
+                let changed = reply.changed.map(|part| (part.offset, part.length));
+                (Reply { outcome: reply.outcome, count: reply.count, changed }, sessions)
             }
             Side::Plain => {
                 let mut sessions = l.sessions;
@@ -170,5 +172,6 @@ fn no_check(sheet: &[u8]) -> u8 {
 
 #[inline(never)]
 fn no_request(sessions: &mut Sessions, way: Way, _: &[u8], _: &mut [u8], _: &mut [u8]) -> Reply {
-    Reply { outcome: std::hint::black_box(way.mode), count: sessions[0].level }
+    let changed = [(0, 0); 2];
+    Reply { outcome: std::hint::black_box(way.mode), count: sessions[0].level, changed }
 }

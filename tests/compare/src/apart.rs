@@ -68,7 +68,9 @@ impl Maker {
         let store = stores::store(rng, &sheet);
         let fault = self.fault;
         let (lent, trace) = ((sheet.clone(), store.clone()), Vec::new());
-        let world = World { told: None, sheet: lent.0, store: lent.1, trace, sessions, fault };
+        let marks = vec![0; lent.0.len() + 2];
+        let world =
+            World { told: None, sheet: lent.0, store: lent.1, trace, sessions, marks, fault };
         let mut worlds = [world.clone(), world];
         let mut tools = Tools::new(&sheet);
         let (steps, replies) = (Vec::new(), [Vec::new(), Vec::new()]);

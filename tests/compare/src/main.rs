@@ -285,7 +285,7 @@ fn report(program: &str, seed: u64, difference: &Difference) -> usize {
     if play.on_store() {
         println!("{}", Play::Store(before.store.clone()).line(&[]));
     }
-    if matches!(play, Play::Pieces(..)) {
+    if matches!(play, Play::Pieces(..) | Play::Marked(..)) {
         println!("{}", Play::Trace(before.trace.clone()).line(&[]));
     }
     println!("{}", play.line(&after.sheet));

@@ -38,12 +38,14 @@ pub struct Maker {
     scene: Scene,
     left: usize,
     queue: VecDeque<Play>,
+    /// How many events were played with marks.
+    marked: u32,
 }
 
 impl Maker {
     pub fn new(seed: u64, device_alone: bool) -> Maker {
         let (rng, scene, queue) = (Rng::new(seed), Scene::Queued, VecDeque::new());
-        Maker { rng, device_alone, scene, left: 0, queue }
+        Maker { rng, device_alone, scene, left: 0, queue, marked: 0 }
     }
 
     /// The next command, for the state that the last one left.
@@ -365,7 +367,16 @@ impl Maker {
             self.scene = Scene::Traces(place + handled);
         }
         let log = self.rng.bytes(long);
-        self.push(Play::Pieces(from, limit, log));
+        if self.device_alone || self.rng.chance(50) {
+            return self.push(Play::Pieces(from, limit, log));
+        }
+        let played = match self.rng.below(12) {
+            0 => u32::MAX - self.rng.below(12) as u32,
+            1 => self.rng.below(1 << 20) as u32,
+            _ => self.marked,
+        };
+        self.marked = self.marked.saturating_add(handled as u32) % (1 << 31);
+        self.push(Play::Marked(from, limit, played, log));
     }
 
     fn pdus(&mut self, world: &World) {

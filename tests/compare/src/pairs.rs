@@ -72,16 +72,17 @@ pub fn seen(play: &Play, replies: &mut &[u8]) -> Option<Seen> {
         _ => &[],
     };
     let request = matches!(play, Play::Request(_));
-    let front = if request { REQUEST } else { REQUEST - 1 }; // the others tell no count
+    let front = if request { REQUEST } else { 1 + 4 }; // the others tell no count and no parts
+    let at = if request { 2 } else { 1 };
     let (reply, rest) = replies.split_at_checked(front + found.len() + 8)?;
     *replies = rest;
     let count = if request { reply[1] as usize } else { 0 };
-    let (head, buffer) = reply[..reply.len() - 8].split_at(front);
+    let buffer = &reply[front..reply.len() - 8];
     let (answer, behind) = buffer.split_at_checked(count)?;
     (behind == &found[count..]).then(|| Seen {
         outcome: reply[0],
         answer: answer.to_vec(),
-        sessions: head[front - 4..].try_into().ok(),
+        sessions: reply[at..at + 4].try_into().ok(),
         sheet: reply[reply.len() - 8..].try_into().ok(),
     })
 }

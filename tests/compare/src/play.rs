@@ -39,6 +39,8 @@ pub enum Play {
     Trace(Vec<u8>),
     /// From so many events on, at most so many, into a log as found.
     Pieces(u64, u64, Vec<u8>),
+    /// The same with marks, so many events having been marked before.
+    Marked(u64, u64, u32, Vec<u8>),
 }
 
 fn run(out: &mut Vec<u8>, bytes: &[u8]) {
@@ -133,6 +135,14 @@ impl Play {
                 out.extend((log.len() as u32).to_le_bytes());
                 out.extend(log);
             }
+            Play::Marked(from, limit, played, log) => {
+                out.push(b'm');
+                out.extend(from.to_le_bytes());
+                out.extend(limit.to_le_bytes());
+                out.extend(played.to_le_bytes());
+                out.extend((log.len() as u32).to_le_bytes());
+                out.extend(log);
+            }
         }
     }
 
@@ -168,6 +178,9 @@ impl Play {
                 let limit = (*limit).min(65_535);
                 format!("# {from} played, a log of {} bytes\nplay {limit}", log.len())
             }
+            Play::Marked(from, limit, played, log) => {
+                format!("# {from} played, {played} marked, at most {limit}, a log of {}", log.len())
+            }
         }
     }
 
@@ -184,10 +197,11 @@ impl Play {
                 format!("outcome {}, sessions {sessions}, sheet hash {}", reply[0], tail(8))
             }
             Play::Request(_) => format!(
-                "outcome {}, sessions {}, count {}, buffer {}, sheet hash {}",
+                "outcome {}, sessions {}, count {}, parts {}, buffer {}, sheet hash {}",
                 reply[0],
                 sessions(&reply[2..]),
                 reply[1],
+                parts(&reply[2 + 4..REQUEST]),
                 hex(&reply[REQUEST..reply.len() - 8]),
                 tail(8)
             ),
@@ -219,6 +233,16 @@ impl Play {
                 let log = hex(&reply[PIECES..reply.len() - 8]);
                 format!("refusal {}, {handled} handled, sessions {after}, log {log}", reply[0])
             }
+            Play::Marked(..) => {
+                let (handled, after) =
+                    (u16::from_le_bytes([reply[1], reply[2]]), sessions(&reply[3..]));
+                let log = hex(&reply[PIECES..reply.len() - 16]);
+                let hashes = tail(16);
+                format!(
+                    "refusal {}, {handled} handled, sessions {after}, log {log}, hashes {hashes}",
+                    reply[0]
+                )
+            }
         }
     }
 }
@@ -229,8 +253,26 @@ pub fn sessions(reply: &[u8]) -> String {
     format!("{first} {its} {second} {level}")
 }
 
-/// Where the buffer begins in the reply to a request: after outcome, count and both sessions.
-pub const REQUEST: usize = 2 + 4;
+/// Offset and length of both parts that a request stored, as the bridge tells them.
+fn flat_parts(changed: &[(usize, usize); 2]) -> [u8; 16] {
+    let mut flat = [0; 16];
+    let numbers = changed.iter().flat_map(|&(offset, length)| [offset, length]);
+    for (place, n) in flat.chunks_mut(4).zip(numbers) {
+        place.copy_from_slice(&(n as u32).to_le_bytes());
+    }
+    flat
+}
+
+/// And in words.
+fn parts(reply: &[u8]) -> String {
+    let (numbers, _) = reply.as_chunks();
+    let text: Vec<String> = numbers.iter().map(|n| u32::from_le_bytes(*n).to_string()).collect();
+    text.join(" ")
+}
+
+/// Where the buffer begins in the reply to a request: after outcome, count, both sessions and the
+/// parts stored.
+pub const REQUEST: usize = 2 + 4 + 16;
 
 /// Where the log begins in the reply to playing: after refusal, number handled and both sessions.
 pub const PIECES: usize = 3 + 4;
@@ -265,13 +307,16 @@ pub struct World {
     pub store: Vec<u8>,
     pub trace: Vec<u8>,
     pub sessions: Sessions,
+    /// A number for each byte of the sheet, and one for each level.
+    pub marks: Vec<u32>,
     pub fault: Fault,
 }
 
 impl World {
     pub fn new(fault: Fault) -> World {
         let (sheet, store, trace) = (Vec::new(), Vec::new(), Vec::new());
-        World { told: None, sheet, store, trace, sessions: FRESH, fault }
+        let marks = vec![0; 2];
+        World { told: None, sheet, store, trace, sessions: FRESH, marks, fault }
     }
 
     /// Plays one command and adds the reply that the bridge must give.
@@ -279,6 +324,7 @@ impl World {
         match play {
             Play::Sheet(sheet) => {
                 self.sheet.clone_from(sheet);
+                self.marks = vec![0; sheet.len() + 2];
                 self.rule(reply);
             }
             Play::Poke(at, value) => {
@@ -322,7 +368,8 @@ impl World {
                     device::request_with(self.fault, q, ask.way, &ask.apdu, sheet, answer)
                 };
                 reply[at..at + 2].copy_from_slice(&[got.outcome, got.count]);
-                reply[at + 2..buffer].copy_from_slice(&flat(&self.sessions));
+                reply[at + 2..at + 6].copy_from_slice(&flat(&self.sessions));
+                reply[at + 6..buffer].copy_from_slice(&flat_parts(&got.changed));
                 self.hash(reply);
             }
             Play::Property(object, id) => {
@@ -397,6 +444,22 @@ impl World {
                 reply[at + 1..at + 3].copy_from_slice(&handled.to_le_bytes());
                 reply[at + 3..start].copy_from_slice(&flat(&self.sessions));
                 self.hash(reply);
+            }
+            Play::Marked(from, limit, played, log) => {
+                let (at, start) = (reply.len(), reply.len() + PIECES);
+                reply.extend([0; PIECES]);
+                reply.extend(log);
+                let (q, sheet, log) = (&mut self.sessions, &mut self.sheet, &mut reply[start..]);
+                let marks = Some(trace::Marks { of: &mut self.marks, played: *played });
+                let place = (*from, *limit);
+                let (why, handled) =
+                    trace::play_marked(self.fault, q, sheet, &self.trace, place, log, marks);
+                reply[at] = why;
+                reply[at + 1..at + 3].copy_from_slice(&handled.to_le_bytes());
+                reply[at + 3..start].copy_from_slice(&flat(&self.sessions));
+                self.hash(reply);
+                let bytes: Vec<u8> = self.marks.iter().flat_map(|m| m.to_le_bytes()).collect();
+                reply.extend(hash(&bytes).to_le_bytes());
             }
         }
     }

@@ -27,6 +27,7 @@ pub struct Tally {
     /// Traces checked, and played, in the order of `matrix::TRACE`; and the events handled.
     trace: [Counts; 2],
     handled: u64,
+    marked: u64,
     /// Sessions as found or fresh.
     others: u64,
     /// The hashes of the blocks of replies so far, in one.
@@ -102,6 +103,10 @@ impl Tally {
                 self.trace[1].0[reply[0] as usize] += 1;
                 self.handled += u64::from(u16::from_le_bytes([reply[1], reply[2]]));
             }
+            Play::Marked(..) => {
+                self.marked += 1;
+                self.handled += u64::from(u16::from_le_bytes([reply[1], reply[2]]));
+            }
             _ => self.others += 1,
         }
     }
@@ -114,7 +119,7 @@ impl Tally {
         let rarest =
             self.rarest().map_or(String::new(), |(n, what)| format!("; rarest: {what}, {n} times"));
         format!(
-            "{} requests, {} other calls, {} sheets ({} accepted, {} old), {} conversions, {} lookups, {} PDUs read, {} written, {} saves, {} restores, {} removes, {} traces of which {} events were played in {} pieces{rarest}",
+            "{} requests, {} other calls, {} sheets ({} accepted, {} old), {} conversions, {} lookups, {} PDUs read, {} written, {} saves, {} restores, {} removes, {} traces of which {} events were played in {} pieces, {} of them with marks{rarest}",
             self.requests.iter().flatten().flatten().flatten().sum::<u64>(),
             self.others + self.sheet[1].sum() + self.named.iter().map(Counts::sum).sum::<u64>(),
             self.sheet[0].sum(),
@@ -129,7 +134,8 @@ impl Tally {
             self.store[3].sum(),
             self.trace[0].sum(),
             self.handled,
-            self.trace[1].sum(),
+            self.trace[1].sum() + self.marked,
+            self.marked,
         )
     }
 

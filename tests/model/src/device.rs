@@ -42,12 +42,26 @@ impl Way {
     }
 }
 
-/// The outcome and how many bytes of the answer buffer were filled.
+/// Offset and length of a part of the sheet.
+pub type Part = (usize, usize);
+
+/// The outcome, how many bytes of the answer buffer were filled, and what was stored.
 #[derive(Clone, Copy, Debug, PartialEq, Eq)]
 pub struct Reply {
     pub outcome: u8,
     pub count: u8,
+    pub changed: [Part; 2],
 }
+
+impl Reply {
+    /// With the parts that were stored; the second is (0, 0) if there is one alone.
+    fn storing(self, first: Part, second: Part) -> Reply {
+        Reply { changed: [first, second], ..self }
+    }
+}
+
+/// No part.
+const NONE: Part = (0, 0);
 
 pub fn connect(sessions: &mut Sessions, connection: u8) -> u8 {
     connect_with(Fault::None, sessions, connection)
@@ -131,12 +145,12 @@ fn modes(rules: u8, code: u16) -> u8 {
 }
 
 fn silent(outcome: u8) -> Reply {
-    Reply { outcome, count: 0 }
+    Reply { outcome, count: 0, changed: [NONE; 2] }
 }
 
 fn reply(outcome: u8, pdu: Pdu, data: &[u8], answer: &mut [u8]) -> Reply {
     let count = pdu::write(&pdu, data, answer).expect("the device's answers can be written");
-    Reply { outcome, count: count as u8 }
+    Reply { outcome, count: count as u8, changed: [NONE; 2] }
 }
 
 fn permits<const ON: bool>(faults: Faults<ON>, level: u8, needed: u8) -> bool {

@@ -95,6 +95,8 @@ pub enum Fault {
     DescriptionTellsByte,
     /// A count stored leaves off the last element if its first byte is below 64.
     CountFollowsBody,
+    /// A property write names the part with its elements twice, and not its count.
+    CountUnnamed,
     /// A save gives the last number once more, so the first is 0.
     NumbersFromZero,
     /// A save counts its room without the new entry.
@@ -141,11 +143,17 @@ pub enum Fault {
     OffsetsUnjudged,
     /// A log that is too short is filled as far as it goes.
     LogUnjudged,
+    /// A byte keeps the mark of the event that changed it first.
+    FirstMarkStays,
+    /// The events of every call are numbered from 1.
+    NumbersBeginAnew,
+    /// Levels have no marks.
+    LevelsUnmarked,
 }
 
 impl Fault {
     /// Those of the device.
-    pub const ALL: [Fault; 39] = [
+    pub const ALL: [Fault; 40] = [
         Fault::StoreFirst,
         Fault::LevelsReversed,
         Fault::WrongKeyKeepsLevel,
@@ -185,6 +193,7 @@ impl Fault {
         Fault::WriteTellsOld,
         Fault::DescriptionTellsByte,
         Fault::CountFollowsBody,
+        Fault::CountUnnamed,
     ];
 
     /// Those of old sheets and their conversion.
@@ -223,7 +232,7 @@ impl Fault {
     ];
 
     /// Those of playing a trace.
-    pub const TRACE: [Fault; 7] = [
+    pub const TRACE: [Fault; 10] = [
         Fault::LimitOffByOne,
         Fault::PlaceNotKept,
         Fault::PassesAfterRefused,
@@ -231,6 +240,9 @@ impl Fault {
         Fault::ConnectionFromLowBits,
         Fault::OffsetsUnjudged,
         Fault::LogUnjudged,
+        Fault::FirstMarkStays,
+        Fault::NumbersBeginAnew,
+        Fault::LevelsUnmarked,
     ];
 
     /// Those by which one tool meets what the other did, though that changed no byte and was no restart.

@@ -122,14 +122,53 @@ fn line(fault: Fault, sessions: &mut Sessions, sheet: &mut [u8], event: &Event) 
     line
 }
 
+/// The marks of a sheet's bytes and of both levels, and how many events were marked before.
+pub struct Marks<'a> {
+    pub of: &'a mut [u32],
+    pub played: u32,
+}
+
+impl Marks<'_> {
+    /// What is another after event k of a call than it was.
+    fn note(&mut self, fault: Fault, k: usize, was: (&[u8], &Sessions), is: (&[u8], &Sessions)) {
+        let played = if fault == Fault::NumbersBeginAnew { 0 } else { self.played };
+        let number = played + k as u32 + 1;
+        let stays = |mark: u32| fault == Fault::FirstMarkStays && mark != 0;
+        let (bytes, levels) = self.of.split_at_mut(is.0.len());
+        for (mark, (b, a)) in bytes.iter_mut().zip(was.0.iter().zip(is.0)) {
+            if b != a && !stays(*mark) {
+                *mark = number;
+            }
+        }
+        for (mark, (b, a)) in levels.iter_mut().zip(was.1.iter().zip(is.1)) {
+            if b.level != a.level && fault != Fault::LevelsUnmarked {
+                *mark = number;
+            }
+        }
+    }
+}
+
 /// Plays at most `limit` events from the place on: why not, or 0, and how many were handled.
 pub fn play(
     fault: Fault,
     sessions: &mut Sessions,
     sheet: &mut [u8],
     trace: &[u8],
+    place: (u64, u64),
+    log: &mut [u8],
+) -> (u8, u16) {
+    play_marked(fault, sessions, sheet, trace, place, log, None)
+}
+
+/// The same with marks, if there are any.
+pub fn play_marked(
+    fault: Fault,
+    sessions: &mut Sessions,
+    sheet: &mut [u8],
+    trace: &[u8],
     (from, limit): (u64, u64),
     log: &mut [u8],
+    mut marks: Option<Marks>,
 ) -> (u8, u16) {
     let refusal = check(fault, trace);
     if refusal != 0 {
@@ -142,6 +181,14 @@ pub fn play(
     if LINE * handled > log.len() && fault != Fault::LogUnjudged {
         return (59, 0);
     }
+    if let Some(marks) = &marks {
+        if marks.of.len() != sheet.len() + sessions.len() {
+            return (70, 0);
+        }
+        if marks.played.checked_add(handled as u32).is_none() {
+            return (71, 0);
+        }
+    }
     let (mut counted, mut passed) = (0, false);
     for (k, event) in all[from..from + handled].iter().enumerate() {
         // by the fault, what follows a refused request is passed over
@@ -149,7 +196,11 @@ pub fn play(
             counted += 1;
             continue;
         }
+        let was = (sheet.to_vec(), *sessions);
         let line = line(fault, sessions, sheet, event);
+        if let Some(marks) = &mut marks {
+            marks.note(fault, k, (&was.0, &was.1), (sheet, sessions));
+        }
         if let Some(place) = log.get_mut(LINE * k..LINE * (k + 1)) {
             place.copy_from_slice(&line);
         }

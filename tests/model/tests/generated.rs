@@ -75,13 +75,13 @@ impl State {
         if rng.chance(8) {
             gen::damage(rng, &mut sheet);
         }
-        let reply = Reply { outcome: 1, count: 0 };
+        let reply = Reply { outcome: 1, count: 0, changed: [(0, 0); 2] };
         let sessions = [gen::session(rng), gen::session(rng)];
         State { sheet, sessions, buffer: Vec::new(), reply }
     }
 
     fn step(&mut self, fault: Fault, event: &Event) {
-        let done = |outcome| Reply { outcome, count: 0 };
+        let done = |outcome| Reply { outcome, count: 0, changed: [(0, 0); 2] };
         self.reply = match event {
             Event::Connect(c) => done(connect_with(fault, &mut self.sessions, *c)),
             Event::Disconnect(c) => done(disconnect_with(fault, &mut self.sessions, *c)),
@@ -118,7 +118,7 @@ fn every_outcome_that_can_occur_does_and_no_other() {
             let Event::Request(ask) = &event else {
                 continue;
             };
-            let Reply { outcome, count } = state.reply;
+            let Reply { outcome, count, changed } = state.reply;
             let (row, column) = (matrix::row(&ask.apdu), matrix::column(ask.way.mode));
             let rules = sheet::rules(&before.sheet);
             let can = matrix::can(rules, &ask.apdu, ask.way.mode);
@@ -128,7 +128,12 @@ fn every_outcome_that_can_occur_does_and_no_other() {
             let count = count as usize;
             assert!(count <= 16 && state.buffer[count..] == ask.buffer[count..], "{event:?}");
             assert_eq!(count > 0, matches!(outcome, 0 | 11), "{event:?}");
+            // every byte outside the parts named is as found
+            let named = |i| changed.iter().any(|&(at, n)| (at..at + n).contains(&i));
+            let bytes = before.sheet.iter().zip(&state.sheet).enumerate();
+            assert!(bytes.into_iter().all(|(i, (b, a))| b == a || named(i)), "{event:?}");
             if !matches!(outcome, 0 | 1) {
+                assert_eq!(changed, [(0, 0); 2], "{event:?}");
                 assert_eq!(state.sheet, before.sheet, "{event:?}");
                 assert_eq!(state.sessions, before.sessions, "{event:?}");
             }

@@ -320,9 +320,12 @@ fn sessions_and_button() {
     sessions = [Session { open: true, level: 200 }, OTHER];
     let apdu = hex("03D302AABBCCDD");
     let reply = request(&mut sessions, Way::on(0), &apdu, &mut sheet, &mut buffer);
-    assert_eq!((reply, sessions[0].level), (Reply { outcome: 11, count: 3 }, 200));
+    assert_eq!(
+        (reply, sessions[0].level),
+        (Reply { outcome: 11, count: 3, changed: [(0, 0); 2] }, 200)
+    );
     let reply = request(&mut sessions, Way::on(0), &[3, 0x80], &mut sheet, &mut buffer);
-    assert_eq!((reply, sheet[14]), (Reply { outcome: 1, count: 0 }, 2));
+    assert_eq!((reply, sheet[14]), (Reply { outcome: 1, count: 0, changed: [(14, 1), (0, 0)] }, 2));
     assert_eq!((button(&mut sheet, false), sheet), (1, SAMPLE));
     sheet[0] = 3;
     assert_eq!((button(&mut sheet, true), sheet[14]), (4, 2));

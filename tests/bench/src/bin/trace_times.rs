@@ -1,6 +1,6 @@
 //! Microseconds of playing a trace of 512 events on a full sheet: the proved
 //! library beside the plain model, which plays the same events one by one. Both
-//! judge the trace first, and check the sheet at every request.
+//! judge the trace first, and check the sheet at every request. Then the library with marks, whole and event by event.
 
 #[allow(dead_code)]
 #[path = "../cases.rs"]
@@ -40,6 +40,22 @@ extern "C" {
         log: *mut u8,
         log_length: usize,
     ) -> CPlayed;
+    fn kelindap_play_marked(
+        sessions: *mut [CSession; 2],
+        sheet: *mut u8,
+        sheet_length: usize,
+        trace: *const u8,
+        trace_length: usize,
+        from: usize,
+        limit: usize,
+        log: *mut u8,
+        log_length: usize,
+        before: *mut u8,
+        before_length: usize,
+        marks: *mut u32,
+        marks_length: usize,
+        played: u32,
+    ) -> CPlayed;
 }
 
 /// What is played on.
@@ -68,6 +84,46 @@ fn proved(trace: &[u8], s: &mut State) -> usize {
     assert_eq!(played.refusal, 0);
     s.sessions = sessions.map(|q| Session { open: q.open, level: q.level });
     played.handled.into()
+}
+
+/// With marks, in pieces of so many events; the marks are no part of the state that is compared.
+fn marked(trace: &[u8], s: &mut State, piece: usize) -> usize {
+    let mut sessions = s.sessions.map(|q| CSession { open: q.open, level: q.level });
+    let (mut before, mut marks) = (vec![0; s.sheet.len()], vec![0; s.sheet.len() + 2]);
+    let mut from = 0;
+    while from < EVENTS {
+        let log = &mut s.log[LINE * from..];
+        let played = unsafe {
+            kelindap_play_marked(
+                &mut sessions,
+                s.sheet.as_mut_ptr(),
+                s.sheet.len(),
+                trace.as_ptr(),
+                trace.len(),
+                from,
+                piece,
+                log.as_mut_ptr(),
+                log.len(),
+                before.as_mut_ptr(),
+                before.len(),
+                marks.as_mut_ptr(),
+                marks.len(),
+                from as u32,
+            )
+        };
+        assert_eq!(played.refusal, 0);
+        from += usize::from(played.handled);
+    }
+    s.sessions = sessions.map(|q| Session { open: q.open, level: q.level });
+    from
+}
+
+fn marked_whole(trace: &[u8], s: &mut State) -> usize {
+    marked(trace, s, EVENTS)
+}
+
+fn marked_singly(trace: &[u8], s: &mut State) -> usize {
+    marked(trace, s, 1)
 }
 
 fn word(b: &[u8]) -> usize {
@@ -159,14 +215,14 @@ fn main() {
         sheet: bench.sheet.clone(),
         log: vec![0; LINE * EVENTS],
     };
-    let sides: [fn(&[u8], &mut State) -> usize; 2] = [proved, plain];
-    let [ours, theirs] = sides.map(|side| {
+    let sides: [fn(&[u8], &mut State) -> usize; 4] = [proved, plain, marked_whole, marked_singly];
+    let [ours, theirs, whole, singly] = sides.map(|side| {
         let mut s = start.clone();
         assert_eq!(side(&trace, &mut s), EVENTS);
         s
     });
-    assert!(ours == theirs, "the sides differ");
-    let mut best = [f64::MAX; 2];
+    assert!(ours == theirs && ours == whole && ours == singly, "the sides differ");
+    let mut best = [f64::MAX; 4];
     for _ in 0..300 {
         for (side, best) in sides.iter().zip(&mut best) {
             let mut s = start.clone();
@@ -176,10 +232,12 @@ fn main() {
         }
     }
     println!(
-        "a trace of {EVENTS} requests on a sheet of {} bytes: {:.0} us, plain {:.0}, ratio {:.2}",
+        "a trace of {EVENTS} requests on a sheet of {} bytes: {:.0} us, plain {:.0}, ratio {:.2}; with marks {:.0}, event by event {:.0}",
         bench.sheet.len(),
         best[0],
         best[1],
-        best[0] / best[1]
+        best[0] / best[1],
+        best[2],
+        best[3]
     );
 }

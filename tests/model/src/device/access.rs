@@ -1,6 +1,6 @@
 //! Keys and levels, and the restart that ends every session.
 
-use super::{reply, silent, Asked, Reply, Session, FRESH};
+use super::{reply, silent, Asked, Reply, Session, FRESH, NONE};
 use crate::faults::Fault;
 use crate::pdu::Pdu;
 use crate::sheet::{FLAGS, KEYS, PROGRAMMING};
@@ -23,12 +23,12 @@ impl<const ON: bool> Asked<'_, ON> {
     pub(super) fn key_write(self, level: u8, key: [u8; 4]) -> Reply {
         let slip = self.is(Fault::LevelOneSetsKeyZero) && self.level == 1 && level == 0;
         let allowed = level <= 2 && (self.may(level) || slip);
+        let at = KEYS + 4 * level as usize;
         if allowed || self.is(Fault::StoreFirst) && level <= 2 {
-            let at = KEYS + 4 * level as usize;
             self.sheet[at..at + 4].copy_from_slice(&key);
         }
         if allowed {
-            reply(0, Pdu::KeyResponse { level }, &[], self.answer)
+            reply(0, Pdu::KeyResponse { level }, &[], self.answer).storing((at, 4), NONE)
         } else {
             reply(11, Pdu::KeyResponse { level: 0xFF }, &[], self.answer)
         }
@@ -42,6 +42,6 @@ impl<const ON: bool> Asked<'_, ON> {
             *self.sessions = FRESH;
         }
         self.sheet[FLAGS] &= !PROGRAMMING;
-        silent(1)
+        silent(1).storing((FLAGS, 1), NONE)
     }
 }

@@ -1,6 +1,6 @@
 //! Group objects: read, response, write.
 
-use super::{reply, silent, Asked, Reply};
+use super::{reply, silent, Asked, Reply, NONE};
 use crate::pdu::Pdu;
 use crate::sheet::{self, Group};
 
@@ -35,6 +35,6 @@ impl<const ON: bool> Asked<'_, ON> {
         } else {
             self.sheet[g.body..g.body + g.length()].copy_from_slice(self.data);
         }
-        silent(1)
+        silent(1).storing((g.body, g.length()), NONE)
     }
 }

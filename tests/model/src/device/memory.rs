@@ -1,6 +1,6 @@
 //! Device memory and user memory, whose ranges may go over regions that touch.
 
-use super::{reply, silent, Asked, Reply};
+use super::{reply, silent, Asked, Part, Reply, NONE};
 use crate::faults::{Fault, Faults};
 use crate::pdu::Pdu;
 use crate::sheet::{self, Memory, FLAGS, VERIFY};
@@ -103,6 +103,11 @@ impl Range {
         &self.bytes[..self.n]
     }
 
+    /// Where its bytes stand, which is one after the other.
+    fn part(&self) -> Part {
+        (self.bytes[0].at.into(), self.n)
+    }
+
     /// The answer with what the bytes hold.
     fn told(&self, sheet: &[u8], memory: Memory, address: u16, answer: &mut [u8]) -> Reply {
         let mut held = [0; 12];
@@ -143,8 +148,13 @@ impl<const ON: bool> Asked<'_, ON> {
     fn written(self, memory: Memory, stored: Option<Range>, address: u16) -> Reply {
         let verify = self.sheet[FLAGS] & VERIFY != 0;
         match stored {
-            Some(range) if verify => range.told(self.sheet, memory, address, self.answer),
-            Some(_) => silent(1),
+            Some(range) => {
+                let reply = match verify {
+                    true => range.told(self.sheet, memory, address, self.answer),
+                    false => silent(1),
+                };
+                reply.storing(range.part(), NONE)
+            }
             None if verify => reply(11, response(memory, 0, address), &[], self.answer),
             None => silent(12),
         }

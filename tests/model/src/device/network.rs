@@ -1,6 +1,6 @@
 //! The device in its network: individual address, serial number, descriptor.
 
-use super::{reply, silent, Asked, Reply};
+use super::{reply, silent, Asked, Reply, NONE};
 use crate::faults::Fault;
 use crate::pdu::Pdu;
 use crate::sheet::{ADDRESS, FLAGS, LATER, MASK, PROGRAMMING, SERIAL};
@@ -16,7 +16,7 @@ impl<const ON: bool> Asked<'_, ON> {
 
     fn take_address(self, address: u16) -> Reply {
         self.sheet[ADDRESS..ADDRESS + 2].copy_from_slice(&address.to_be_bytes());
-        silent(1)
+        silent(1).storing((ADDRESS, 2), NONE)
     }
 
     pub(super) fn address_write(self, address: u16) -> Reply {

@@ -1,6 +1,6 @@
 //! Properties: read, write, description.
 
-use super::{reply, Asked, Reply};
+use super::{reply, Asked, Reply, NONE};
 use crate::faults::{Fault, Faults};
 use crate::pdu::Pdu;
 use crate::sheet;
@@ -61,7 +61,20 @@ impl<const ON: bool> Asked<'_, ON> {
             }
             _ => self.data.to_vec(),
         };
+        let mut changed = [NONE; 2];
         if let Some((p, part)) = plan {
+            // The elements that are given, behind those that are jumped, and the count.
+            let counter = (p.entry + 6, 2);
+            changed = match &part {
+                Some(part) => {
+                    let from = part.start.min(p.body + p.count as usize * p.size);
+                    [(from, part.end - from), counter]
+                }
+                None => [counter, NONE],
+            };
+            if self.is(Fault::CountUnnamed) {
+                changed[1] = changed[0];
+            }
             if (allowed || self.is(Fault::StoreFirst)) && !self.is(Fault::AnswersOnly) {
                 let count = if self.is(Fault::InventsCount) {
                     p.maximum
@@ -87,7 +100,9 @@ impl<const ON: bool> Asked<'_, ON> {
             }
         }
         let (outcome, n, told) = if allowed { (0, n, &told[..]) } else { (11, 0, &[][..]) };
+        let [first, second] = if allowed { changed } else { [NONE; 2] };
         reply(outcome, Pdu::PropertyResponse { object, id, n, s }, told, self.answer)
+            .storing(first, second)
     }
 
     pub(super) fn description_read(self, object: u8, id: u8, index: u8) -> Reply {
