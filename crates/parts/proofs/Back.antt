@@ -1,0 +1,144 @@
+-- WRITTEN AGAIN FROM ITS PARTS, an accepted sheet has the same bytes.
+-- Assumes nothing.
+use Prim.Native.Nat.{ℕ, _+_, _<_}
+use mathlib.Core.Path.{_≡_, sym, subst, _∙_}
+use mathlib.Core.List.{List}
+use native.Mathlib.Omega.{arith}
+use lib.Dec.{lit<}
+use borrow.Author.Tests.{eq-eqb}
+use lib.ListN.{length, getD}
+use Rattle.octets.specs.Bytes.{numAt}
+use Rattle.octets.specs.Octets.{Octets}
+use Rattle.sheet.specs.Kind.{regions, properties, groups, users}
+use Rattle.sheet.specs.Layout.{_of_}
+use Rattle.sheet.specs.Head as head
+use Rattle.sheet.specs.Region as region
+use Rattle.sheet.specs.Property as property
+use Rattle.sheet.specs.Group as group
+use Rattle.sheet.specs.Entries.{count, place}
+use Rattle.sheet.specs.Rules.{Accepted, entryDemands}
+use Rattle.sheet.proofs.rules.Good.{good}
+use Rattle.sheet.proofs.places.Standing.{field-at}
+use Rattle.parts.specs.declared.Group.{Group}
+use Rattle.parts.specs.declared.Parts.{Parts}
+use Rattle.parts.proofs.Bits.{two-bits, three-bits}
+use Rattle.parts.specs.Records.{IsGroup, Taken, noRegion, noProperty, noGroup}
+use Rattle.parts.specs.Again.{groupFlags, WholeRegion, WholeProperty, WholeGroup, WholeHead, WholeEntries, Whole, Restores, Roomy}
+use Rattle.parts.proofs.Runs.{restored-all}
+
+module _ (s : List ℕ) (ok : Accepted s) where
+  -- the zero bytes of the entries
+  region-zero : (i : ℕ) → i < count s regions → numAt s (place s regions i + 7) 1 ≡ 0
+  unfolding entryDemands
+  region-zero i h = omega (arith, field-at s regions i region.zero (lit< tt), good s ok .entries regions i (lit< tt) h)
+
+  user-zero : (i : ℕ) → i < count s users → numAt s (place s users i + 7) 1 ≡ 0
+  unfolding entryDemands
+  user-zero i h = omega (arith, field-at s users i region.zero (lit< tt), good s ok .entries users i (lit< tt) h)
+
+  property-zero : (i : ℕ) → i < count s properties → numAt s (place s properties i + 11) 1 ≡ 0
+  unfolding entryDemands
+  property-zero i h = omega (arith, field-at s properties i property.zero (lit< tt), good s ok .entries properties i (lit< tt) h)
+
+  group-zeros : (i : ℕ) → i < count s groups → numAt s (place s groups i + 6) 2 ≡ 0
+  unfolding entryDemands
+  group-zeros i h = omega (arith, field-at s groups i group.zeros (lit< tt), good s ok .entries groups i (lit< tt) h)
+
+  group-flags : (i : ℕ) → i < count s groups → (e : Group) → IsGroup e s (place s groups i) → groupFlags e ≡ numAt s (place s groups i + 3) 1
+  unfolding entryDemands
+  group-flags i h e g =
+      three-bits (numAt s (place s groups i + 3) 1) _ _ _
+      (omega (arith, field-at s groups i group.flags (lit< tt), good s ok .entries groups i (lit< tt) h)) (g .read) (g .write) (g .response)
+
+  byte15-is : head.users s ≡ numAt s 15 1
+  byte15-is = simp (eq-eqb (numAt s 0 1) 2 (good s ok .own))
+
+  module _ (u : Parts) (t : Taken s u) where
+    pub roomy : Roomy u (length s)
+    roomy =
+        let z = t .sizes in
+        record {
+          regions = z .fewRegions;
+          properties = z .fewProperties;
+          groups = z .fewGroups;
+          users = z .fewUsers;
+          contents = omega (arith, z .fits, t .long);
+          short = omega (arith, z .short, t .long);
+          long = t .long;
+        }
+
+    front : WholeHead (u .head) (u .sizes) (u .length) s
+    front =
+        let z = t .sizes in
+        let h = t .front in
+        let f = good s ok .framed in
+        record {
+          sizes =
+              record {
+                edition = record { is = sym (good s ok .own) };
+                regions = record { is = z .regions };
+                properties = record { is = z .properties };
+                groups = record { is = z .groups };
+                stated = record { is = omega (arith, f, t .long) };
+              };
+          numbers =
+              record {
+                serial = record { is = h .serial };
+                mask = record { is = h .mask };
+                flags = record { is = two-bits (head.flags of s) _ _ (omega (arith, good s ok .zeros)) (h .programming) (h .verify) };
+                byte15 = record { is = z .users ∙ byte15-is };
+                address = record { is = h .address };
+              };
+          keys =
+              record {
+                key0 = record { is = h .key0 };
+                key1 = record { is = h .key1 };
+                key2 = record { is = h .key2 };
+                rules = record { is = h .rules };
+                zero31 = record { is = omega (arith, good s ok .zeros) };
+              };
+        }
+
+    entries : WholeEntries u s
+    entries =
+        let z = t .sizes in
+        record {
+          regions = record { each = λ i h. let k : i < count s regions = omega (arith, z .regions) in record { is = t .regions i k; zero = region-zero i k } };
+          properties =
+              record {
+                each =
+                    λ i h.
+                    let k : i < count s properties = omega (arith, z .properties) in
+                    subst (λ (n : ℕ). WholeProperty (getD (u .properties) i noProperty) n s) (omega (arith, z .regions))
+                    record { is = t .properties i k; zero = property-zero i k };
+              };
+          groups =
+              record {
+                each =
+                    λ i h.
+                    let k : i < count s groups = omega (arith, z .groups) in
+                    subst (λ (n : ℕ). WholeGroup (getD (u .groups) i noGroup) n s) (omega (arith, z .regions, z .properties))
+                    record { is = t .groups i k; flags = group-flags i k _ (t .groups i k); zeros = group-zeros i k };
+              };
+          users =
+              record {
+                each =
+                    λ i h.
+                    let k : i < count s users = omega (arith, z .users) in
+                    subst (λ (n : ℕ). WholeRegion (getD (u .users) i noRegion) n s) (omega (arith, z .regions, z .properties, z .groups))
+                    record { is = t .users i k; zero = user-zero i k };
+              };
+        }
+
+    pub whole : Whole u s
+    whole =
+        let z = t .sizes in
+        record {
+          front = front;
+          entries = entries;
+          bodies = record { each = λ p a b. t .bodies p (omega (arith, z .regions, z .properties, z .groups, z .users)) (omega (arith, t .long)) };
+        }
+
+    -- THE SHEET WRITTEN AGAIN
+    pub written-again : Octets s → (b b′ : List ℕ) → length b ≡ length s → Restores (Whole u) b b′ 0 (u .length) → b′ ≡ s
+    written-again o b b′ l r = restored-all (Whole u) b b′ s (u .length) r o whole l (t .long)

@@ -1,0 +1,13 @@
+-- `parts::again::group_bytes` meets its contract.
+-- Assumes nothing.
+use borrow.Author.Needs.{needs}
+use Rattle.parts.proofs.Runs.{eight}
+use Rattle.parts.proofs.again.group_bytes.Statement.{statement}
+use Rattle.parts.proofs.again.group_bytes.Tie as tie
+
+pub group-bytes-spec : {M : Type 1} → statement M
+group-bytes-spec =
+    tie.close
+    (tie.spec
+    (λ c κs. search needs) (λ c κs. search needs) (λ c κs. search needs) (λ c κs. search needs) (λ c κs. search needs)
+    (λ c. search eight))

@@ -1,0 +1,3 @@
+pub mod Records
+pub mod Again
+pub mod With

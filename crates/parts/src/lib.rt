@@ -1,0 +1,74 @@
+// A sheet as plain records: taken apart, and written again.
+mod again;
+mod round;
+mod take;
+
+pub use again::levels_byte;
+pub use again::type_byte;
+pub use again::write_again;
+pub use round::same;
+pub use take::take_apart;
+
+// A region of memory, of the device's or of the user's.
+pub struct Region {
+    pub address: u16,
+    pub length: u16,
+    pub offset: u16,
+    pub read: u8,
+    pub write: u8,
+}
+
+// A property: the bytes of an element, how many elements there can be and how many are counted.
+pub struct Property {
+    pub object: u8,
+    pub id: u8,
+    pub writable: bool,
+    pub typ: u8,
+    pub element: u8,
+    pub maximum: u16,
+    pub count: u16,
+    pub offset: u16,
+    pub read: u8,
+    pub write: u8,
+}
+
+// A group object: the length code, and whether it may be read, written, and changed by a Response.
+pub struct Group {
+    pub address: u16,
+    pub code: u8,
+    pub read: bool,
+    pub write: bool,
+    pub response: bool,
+    pub offset: u16,
+}
+
+// How many entries of each kind there are.
+pub struct Sizes {
+    pub regions: usize,
+    pub properties: usize,
+    pub groups: usize,
+    pub users: usize,
+}
+
+// The serial number, the mask version, the individual address, the keys of levels 0, 1 and 2, and the number of the rules.
+pub struct Head {
+    pub serial: u64,
+    pub mask: u16,
+    pub programming: bool,
+    pub verify: bool,
+    pub address: u16,
+    pub keys: [u32; 3],
+    pub rules: u8,
+}
+
+// A whole sheet. The bodies stand at the places that the entries' offsets name.
+pub struct Parts {
+    pub head: Head,
+    pub sizes: Sizes,
+    pub regions: [Region; 16],
+    pub properties: [Property; 64],
+    pub groups: [Group; 64],
+    pub users: [Region; 16],
+    pub bodies: [u8; 16384],
+    pub length: usize,
+}

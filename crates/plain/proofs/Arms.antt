@@ -1,0 +1,112 @@
+-- In an arm of a match the PDU, the service or the turn is known, and with it the data of the request.
+-- Assumes nothing.
+use Prim.Native.Nat.{ℕ, _+_, _≤_}
+use mathlib.Core.Path.{_≡_, refl, sym, ap, subst, _∙_}
+use mathlib.Core.Bool.{Bool, true, false, cond, _&&_}
+use lib.Dec.{ltb, eqb}
+use borrow.Author.Tests.{eq-eqb, ne-eqb}
+use Rattle.pdu.specs.declared.Service.the-variants.{Restart, DeviceDescriptorRead}
+use Rattle.judge.specs.declared.Reach.the-variants.{PointToPoint, Connected}
+use mathlib.Core.List.{List, [], _∷_}
+use native.Mathlib.Omega.{arith}
+use lib.ListN.{length, drop, length-drop}
+use Rattle.octets.proofs.Truths.{and-is, equal-is}
+use Rattle.pdu.specs.Item.{Item, low, num, cap, duo, skip, Tail, none, Value, the}
+use Rattle.pdu.specs.Table.{rowOf}
+use Rattle.pdu.specs.Pdus.{serviceOf, valuesOf}
+use Rattle.pdu.specs.Rules.{under, suits, headOf}
+use Rattle.pdu.specs.Read.{dataAt, dataOf}
+use Rattle.pdu.proofs.Readings.{Reading, reading}
+use Rattle.pdu.specs.declared.Service.{Service}
+use Rattle.pdu.specs.declared.Pdu.{Pdu}
+use Rattle.pdu.specs.declared.Pdu.the-variants.{PropertyValueWrite, MemoryWrite, MemoryBitWrite, UserMemoryWrite}
+use Rattle.judge.specs.Modes.{reachOf, reaches, takes}
+use Rattle.judge.specs.Decisions.{refused}
+use Rattle.judge.specs.Judge.{decideOf}
+use Rattle.judge.specs.declared.Turn.the-variants.{Stays}
+use Rattle.device.proofs.due.Given.{write-data, memory-data, user-data, bits-data}
+use Rattle.parts.specs.declared.Parts.{Parts}
+use Rattle.plain.specs.declared.Sent.the-variants.{Nothing}
+use Rattle.plain.specs.declared.Reply.{Reply}
+use Rattle.plain.specs.Steps.{Requested, Gives, Serves}
+use Rattle.plain.proofs.Agreed.{agreed}
+
+-- where the row of a service has no data, a request has none
+last-test : (is : List Item) (x : List Value) (t : Bool) → under is x t ≡ true → t ≡ true
+last-test [] x t e = e
+last-test (low f m ∷ is) x t e = last-test is x t (and-is (ltb (the x f) m) (under is x t) .0 e .1)
+last-test (num f w ∷ is) x t e = last-test is x t e
+last-test (cap f w m ∷ is) x t e = last-test is x t (and-is (ltb (the x f) m) (under is x t) .0 e .1)
+last-test (duo f g ∷ is) x t e = last-test is x t (and-is (ltb (the x g) 4096) (under is x t) .0 (and-is (ltb (the x f) 16) (ltb (the x g) 4096 && under is x t) .0 e .1) .1)
+last-test (skip w ∷ is) x t e = last-test is x t e
+
+nothing : (l : List ℕ) → length l ≡ 0 → l ≡ []
+nothing [] e = refl
+nothing (x ∷ l) e = absurd (omega arith)
+
+no-data : (p : Pdu) (a : List ℕ) → rowOf (serviceOf p) .tail ≡ none → Reading a p → dataOf p a ≡ []
+unfolding dataOf
+no-data p a e r =
+    let h : headOf (rowOf (serviceOf p)) ≡ dataAt p = refl in
+    let t = last-test (rowOf (serviceOf p) .items) (valuesOf p) (suits (rowOf (serviceOf p) .tail) (dataAt p) (valuesOf p) (length a)) (r .fit) in
+    let q : length a ≡ dataAt p = equal-is (length a) (dataAt p) .0 (subst (λ (y : Tail). suits y (dataAt p) (valuesOf p) (length a) ≡ true) e t) in
+    nothing (drop (dataAt p) a) (length-drop (dataAt p) a ∙ omega (arith, q))
+
+read-as : (p : Pdu) (d : List ℕ) (x : Requested p d) → Reading (x .apdu) p
+read-as p d x = reading (x .apdu) p (x .reads)
+
+-- the arms
+module _ (u : Parts) (level group : ℕ) (d : List ℕ) (r : Reply) (p q : Pdu) (e : p ≡ q) where
+  pub with-data : Serves u d (λ s. decideOf s level group d q) r → Serves u d (λ s. decideOf s level group d p) r
+  with-data g = subst (λ (x : Pdu). Serves u d (λ s. decideOf s level group d x) r) (sym e) g
+
+  module _ (x : Requested p d) where
+    own : Requested q d
+    own = subst (λ (y : Pdu). Requested y d) e x
+
+    pub without-data :
+        rowOf (serviceOf q) .tail ≡ none → Serves u [] (λ s. decideOf s level group [] q) r → Serves u d (λ s. decideOf s level group d p) r
+    without-data t g =
+        let z : d ≡ [] = own .given ∙ no-data q (own .apdu) t (read-as q d own) in
+        with-data (subst (λ (y : List ℕ). Serves u y (λ s. decideOf s level group y q) r) (sym z) g)
+
+  pub is-answer : ((s : List ℕ) → decideOf s level group d q ≡ refused 8) → Gives r 8 u Stays Nothing [] → Serves u d (λ s. decideOf s level group d p) r
+  is-answer f g = with-data record { agrees = λ s ok o t. subst (λ k. Rattle.plain.specs.Steps.Agrees s d k r) (sym (f s)) (agreed (refused 8) g t) }
+
+module _ {p : Pdu} {d : List ℕ} (x : Requested p d) where
+  own-of : (q : Pdu) → p ≡ q → Requested q d
+  own-of q e = subst (λ (y : Pdu). Requested y d) e x
+
+  pub short-data : (object id n t : ℕ) → p ≡ PropertyValueWrite object id n t → length d ≤ 14
+  short-data object id n t e =
+      let y = own-of _ e in omega (arith, ap length (y .given), write-data (y .apdu) object id n t (read-as _ d y))
+
+  pub memory-long : (n address : ℕ) → p ≡ MemoryWrite n address → length d ≡ n
+  memory-long n address e = let y = own-of _ e in ap length (y .given) ∙ memory-data (y .apdu) n address (read-as _ d y)
+
+  pub user-long : (n address : ℕ) → p ≡ UserMemoryWrite n address → length d ≡ n
+  user-long n address e = let y = own-of _ e in ap length (y .given) ∙ user-data (y .apdu) n address (read-as _ d y)
+
+  pub bits-long : (n address : ℕ) → p ≡ MemoryBitWrite n address → length d ≡ n + n
+  bits-long n address e = let y = own-of _ e in ap length (y .given) ∙ bits-data (y .apdu) n address (read-as _ d y)
+
+-- the modes
+pub via-request : (k j : Service) (r : Bool) → k ≡ j → ((n : ℕ) → r ≡ reaches (reachOf n j)) → (n : ℕ) → r ≡ reaches (reachOf n k)
+via-request k j r e h n = h n ∙ ap (λ (x : Service). reaches (reachOf n x)) (sym e)
+
+pub via-taken : (k j : Service) (n m : ℕ) (r : Bool) → k ≡ j → r ≡ takes (reachOf n j) m → r ≡ takes (reachOf n k) m
+via-taken k j n m r e h = h ∙ ap (λ (x : Service). takes (reachOf n x) m) (sym e)
+
+pub restart-reaches : (n : ℕ) → true ≡ reaches (reachOf n Restart)
+restart-reaches n = go (eqb n 1)
+  where
+    go : (t : Bool) → true ≡ reaches (cond t PointToPoint Connected)
+    go true = refl
+    go false = refl
+
+module _ (rules mode : ℕ) (r : Bool) where
+  pub restart-two : rules ≡ 1 → r ≡ takes (reachOf 1 DeviceDescriptorRead) mode → r ≡ takes (reachOf rules Restart) mode
+  restart-two e h = simp (eq-eqb rules 1 e) h
+
+  pub restart-three : (rules ≡ 1 → ⊥) → r ≡ eqb mode 3 → r ≡ takes (reachOf rules Restart) mode
+  restart-three e h = simp (ne-eqb rules 1 e) h

@@ -1,0 +1,47 @@
+-- Elements of a property: sizes and places.
+-- Assumes nothing.
+use Prim.Native.Nat.{ℕ, _+_, _*_, _-_, _≤_}
+use mathlib.Core.Path.{_≡_, ap, ap₂, _∙_}
+use mathlib.Core.List.{List}
+use lib.ListN.{length}
+use lib.Dec.{eqb}
+use native.Mathlib.Nat.{mul-le-mul}
+use native.Mathlib.Omega.{arith}
+use Rattle.octets.specs.Splice.{splice}
+use Rattle.judge.specs.Properties.{elementAt, jumped}
+use Rattle.device.specs.Carry.{padded}
+use Rattle.device.proofs.leaves.Stores.{zeros-first}
+use lib.ListN.{replicate}
+use Rattle.parts.specs.declared.Parts.{Parts}
+use Rattle.parts.specs.With.{withBodies}
+
+pub small : (a b : ℕ) → a ≤ 65535 → b ≤ 255 → a * b ≤ 16711425
+small a b h k = mul-le-mul h k
+
+-- zeros, then data
+pub zeros-written :
+    (u : Parts) (b₁ b₂ d : List ℕ) (at z : ℕ) → at + (z + length d) ≤ length (u .bodies) → b₁ ≡ splice (u .bodies) at (replicate z 0) → b₂ ≡ splice b₁ (at + z) d →
+    withBodies u b₂ ≡ withBodies u (splice (u .bodies) at (padded z d))
+zeros-written u b₁ b₂ d at z h e f = ap (λ (b : List ℕ). withBodies u b) (zeros-first (u .bodies) b₁ b₂ d at z h e f)
+
+pub eqb-second : (x y z : ℕ) → y ≡ z → eqb x y ≡ eqb x z
+eqb-second x y z e = ap (eqb x) e
+
+-- the run of a write, j elements being jumped: it starts at f, and m bytes of it are zeros
+module _ (o z c t j f m n : ℕ) (ej : j ≡ jumped c t) (ef : f ≡ elementAt o z (t - j)) (em : m ≡ j * z) where
+  pub from-is : f ≡ elementAt o z (t - jumped c t)
+  from-is = rw ej at ef
+
+  pub zeros-are : m ≡ jumped c t * z
+  zeros-are = rw ej at em
+
+  pub run-fits : elementAt o z (t - jumped c t) + (jumped c t * z + n) ≤ 16384 → f + (m + n) ≤ 16384
+  run-fits h = rw (from-is, zeros-are) h
+
+  pub run-written :
+      (u : Parts) (b₁ b₂ d : List ℕ) → length (u .bodies) ≡ 16384 → length d ≡ n → elementAt o z (t - jumped c t) + (jumped c t * z + n) ≤ 16384 →
+      b₁ ≡ splice (u .bodies) f (replicate m 0) → b₂ ≡ splice b₁ (f + m) d →
+      withBodies u b₂ ≡ withBodies u (splice (u .bodies) (elementAt o z (t - jumped c t)) (padded (jumped c t * z) d))
+  run-written u b₁ b₂ d l k h e g =
+      zeros-written u b₁ b₂ d f m (omega (arith, run-fits h)) e g
+      ∙ ap₂ (λ (x y : ℕ). withBodies u (splice (u .bodies) x (padded y d))) from-is zeros-are

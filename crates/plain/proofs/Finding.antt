@@ -1,0 +1,74 @@
+-- A straight search of the properties finds the one that the first engine finds.
+-- Assumes nothing.
+use Prim.Native.Nat.{ℕ, _+_, _*_, _<_}
+use mathlib.Core.Path.{_≡_, sym, ap, _∙_}
+use mathlib.Core.List.{List}
+use native.Mathlib.Omega.{arith}
+use mathlib.Core.Bool.{Bool, true, false, _&&_}
+use lib.Dec.{lit<, eqb}
+use borrow.Author.Tests.{eqb-true, eq-eqb}
+use native.Mathlib.Nat.{add-zero}
+use Rattle.octets.proofs.Truths.{never, first-true, second-true}
+use Rattle.octets.proofs.Tests.{both}
+use Rattle.octets.specs.Octets.{Octets}
+use lib.ListN.{getD}
+use Rattle.octets.specs.Bytes.{numAt}
+use Rattle.octets.proofs.Numbers.{num-one}
+use Rattle.sheet.specs.Kind.{properties}
+use Rattle.sheet.specs.Layout.{_of_}
+use Rattle.sheet.specs.Property as property
+use Rattle.sheet.specs.Entries.{count, place, entry, keyOf}
+use Rattle.sheet.specs.Rules.{Accepted}
+use Rattle.sheet.proofs.places.Standing.{field-at}
+use Rattle.sheet.proofs.promises.Keys.{index-hit, index-none, key-is}
+use Rattle.judge.specs.Properties.{propertyAt}
+use Rattle.parts.specs.declared.Parts.{Parts}
+use Rattle.parts.specs.Records.{Taken, noProperty}
+
+-- one more that does not pass a test
+pub none-more : (t : ℕ → Bool) (i : ℕ) → ((j : ℕ) → j < i → t j ≡ false) → t i ≡ false → (j : ℕ) → j < i + 1 → t j ≡ false
+none-more t i f e j h = go (native.Mathlib.Decide.decLt j i)
+  where
+    go : Dec (j < i) → t j ≡ false
+    go (yes l) = f j l
+    go (no l) = let q : j ≡ i = omega arith in ap t q ∙ e
+
+-- whether property i has that object and id
+abbrev pub named : Parts → ℕ → ℕ → ℕ → Bool
+named u x y i = eqb (getD (u .properties) i noProperty .object) x && eqb (getD (u .properties) i noProperty .id) y
+
+module _ (u : Parts) (x y : ℕ) (s : List ℕ) (ok : Accepted s) (t : Taken s u) where
+  first-word : (i : ℕ) → i < count s properties → keyOf s properties i ≡ getD (u .properties) i noProperty .object * 256 + getD (u .properties) i noProperty .id
+  unfolding keyOf
+  first-word i h =
+      let p = t .properties i h in
+      omega (
+        arith,
+        key-is (entry s properties i),
+        field-at s properties i property.object (lit< tt),
+        field-at s properties i property.id (lit< tt),
+        ap (λ (n : ℕ). numAt s n 1) (add-zero (place s properties i)),
+        p .object,
+        p .id,
+      )
+
+  pub hit : (i : ℕ) → i < u .sizes .properties → named u x y i ≡ true → i ≡ propertyAt s x y
+  hit i h e =
+      let k : i < count s properties = omega (arith, t .sizes .properties) in
+      let a : getD (u .properties) i noProperty .object ≡ x = eqb-true _ x (first-true (eqb (getD (u .properties) i noProperty .object) x) (eqb (getD (u .properties) i noProperty .id) y) e) in
+      let b : getD (u .properties) i noProperty .id ≡ y = eqb-true _ y (second-true (eqb (getD (u .properties) i noProperty .object) x) (eqb (getD (u .properties) i noProperty .id) y) e) in
+      sym (index-hit s ok properties (lit< tt) i (x * 256 + y) k (omega (arith, first-word i k, a, b)))
+
+  -- all bytes are below 256, so that a first word tells object and id
+  pub miss : y < 256 → ((i : ℕ) → i < u .sizes .properties → named u x y i ≡ false) → Octets s → u .sizes .properties ≡ propertyAt s x y
+  miss l f o =
+      t .sizes .properties
+      ∙ sym
+      (index-none s properties (x * 256 + y)
+      (λ i h e.
+      let p = t .properties i h in
+      let w = first-word i h in
+      let small : getD (u .properties) i noProperty .id < 256 = omega (arith, p .id, num-one s (place s properties i + 1), o (place s properties i + 1)) in
+      let a : getD (u .properties) i noProperty .object ≡ x = omega arith in
+      let b : getD (u .properties) i noProperty .id ≡ y = omega arith in
+      never (sym (f i (omega (arith, t .sizes .properties))) ∙ both _ _ (eq-eqb _ x a) (eq-eqb _ y b))))

@@ -1,0 +1,164 @@
+-- From what the parts of a request ensure to what it did.
+-- Assumes nothing.
+use Prim.Native.Nat.{ℕ, _≤_}
+use mathlib.Core.Path.{_≡_, refl, sym, ap, ap₂, subst, _∙_}
+use mathlib.Core.List.{List}
+use lib.ListN.{length, take}
+use Rattle.octets.specs.Octets.{Octets}
+use Rattle.octets.specs.Splice.{splice}
+use Rattle.octets.proofs.Splices.{splice-none}
+use Rattle.sheet.specs.Rules.{Accepted}
+use Rattle.pdu.specs.Read.{readPdu, readOutcome, dataOf}
+use Rattle.pdu.proofs.Readings.{Reading, reading}
+use Rattle.pdu.proofs.Writing.{has-room}
+use Rattle.pdu.specs.declared.Pdu.{Pdu}
+use Rattle.pdu.specs.declared.Parsed.{Parsed}
+use Rattle.pdu.specs.declared.Parsed.the-variants.{Is, Refused}
+use Rattle.judge.specs.declared.Session.{Session}
+use Rattle.judge.specs.declared.Decision.{Decision}
+use Rattle.judge.specs.declared.Turn.{Turn}
+use Rattle.judge.specs.declared.Answer.{Answer}
+use Rattle.judge.specs.declared.Answer.the-variants as answer
+use Rattle.judge.specs.Decisions.{refused}
+use Rattle.judge.specs.Session.{levelIn}
+use Rattle.judge.specs.Judge.{dataIn, decideOf, readOf, judgeOf}
+use Rattle.device.specs.Carry.{turnOf, closes, answerOf}
+use Rattle.device.specs.Safe.{AnswerSafe}
+use Rattle.device.specs.Step.{stepBy, stepOf}
+use Rattle.device.specs.Sessions.{sessionFor, turnedOf}
+use Rattle.device.specs.Events.{Effect, requestOf, Did, Called}
+use Rattle.device.specs.declared.Sessions.{Sessions}
+use Rattle.device.specs.declared.Done.{Done}
+use Rattle.device.proofs.leaves.Connections.{own-stays}
+use Rattle.parts.specs.declared.Parts.{Parts}
+use Rattle.parts.specs.Records.{Taken}
+use Rattle.parts.specs.Again.{Roomy}
+use Rattle.parts.proofs.Back.{roomy, written-again}
+use Rattle.plain.specs.declared.Sent.{Sent}
+use Rattle.plain.specs.declared.Reply.{Reply}
+use Rattle.plain.specs.Steps.{Held, Requested, Agrees, Serves, sentOf, dataFor, left, sentBytes, Sendable, Carried}
+use Rattle.plain.proofs.Stored.{safe, left-bytes, left-accepted, left-long}
+
+-- what is sent is what the first engine answers, and fits the buffer
+sent-as : (s d : List ℕ) (a : Answer) → sentBytes (sentOf a) (dataFor s d a) ≡ answerOf s d a
+sent-as s d answer.Silence = refl
+sent-as s d (answer.Plain p) = refl
+sent-as s d (answer.Number p w x) = refl
+sent-as s d (answer.Sheet p at n) = refl
+sent-as s d (answer.Echo p) = refl
+
+sends : (n : ℕ) (s d : List ℕ) (a : Answer) → 16 ≤ n → AnswerSafe s d a → Sendable n (sentOf a) (dataFor s d a)
+sends n s d answer.Silence h f = tt
+sends n s d (answer.Plain p) h f = (h, has-room p _ f)
+sends n s d (answer.Number p w x) h f = (h, has-room p _ (f .1))
+sends n s d (answer.Sheet p at m) h f = (h, has-room p _ (f .2))
+sends n s d (answer.Echo p) h f = (h, has-room p _ f)
+
+pub held : (s : List ℕ) (u : Parts) → Accepted s → Octets s → Taken s u → Held u
+held s u ok o t = record { sheet = s; ok = ok; bytes = o; taken = t }
+
+pub requested : (a : List ℕ) (z : Parsed) (p : Pdu) (d : List ℕ) → z ≡ readPdu a → z ≡ Is p → d ≡ dataOf p a → Requested p d
+requested a z p d ez e ed = record { apdu = a; reads = sym ez ∙ e; given = ed }
+
+module _ (q : Sessions) (mode c group : ℕ) (a s o : List ℕ) (session : Session) (em : session ≡ sessionFor q mode c) where
+  abbrev met : Session
+  met = sessionFor q mode c
+
+  -- a decision carried out
+  abbrev effectBy : List ℕ → Decision → Effect
+  effectBy d k =
+      record {
+        outcome = k .outcome;
+        answer = answerOf (left s d k) d (k .answer);
+        sessions = turnedOf q mode c (closes (k .turn)) (turnOf met (k .turn));
+        sheet = left s d k;
+      }
+
+  judged : (k : Decision) → judgeOf (length o) s session mode group a ≡ k → effectBy (dataIn (readPdu a) a) k ≡ requestOf (length o) s q mode c group a
+  unfolding requestOf stepOf stepBy
+  judged k e =
+      ap (effectBy (dataIn (readPdu a) a)) (sym (ap (λ (x : Session). judgeOf (length o) s x mode group a) (sym em) ∙ e))
+
+  module _ (so : Octets s) (ao : Octets a) where
+    -- A REFUSED REQUEST
+    pub refused-called : (n : ℕ) (x : Done) → judgeOf (length o) s session mode group a ≡ refused n → x ≡ record { outcome = n; count = 0; sessions = q } → Called q mode c group a s o x s o
+    refused-called n x e ex =
+        record {
+          did =
+              subst (λ (y : Effect). Did y x o s o) (judged (refused n) e)
+              (subst (λ (z : Done). Did (effectBy (dataIn (readPdu a) a) (refused n)) z o s o) (sym ex)
+              (record {
+                outcome = refl;
+                count = refl;
+                sessions = sym (own-stays q mode c);
+                sheet = refl;
+                answer = sym (splice-none o 0);
+              }));
+          sheetBytes = so;
+          apduBytes = ao;
+        }
+
+    -- one that does not read
+    pub unread-called :
+        (z : Parsed) (n m : ℕ) (x : Done) → z ≡ readPdu a → z ≡ Refused n → m ≡ readOutcome z →
+        judgeOf (length o) s session mode group a ≡ readOf s (levelIn session mode) group a (readPdu a) → x ≡ record { outcome = m; count = 0; sessions = q } →
+        Called q mode c group a s o x s o
+    unread-called z n m x ez e em j ex =
+        refused-called n x (j ∙ ap (readOf s (levelIn session mode) group a) (sym ez ∙ e))
+        (ex ∙ ap (λ (y : ℕ). record { outcome = y; count = 0; sessions = q }) (em ∙ ap readOutcome e))
+
+    -- A REQUEST THAT READS as p, with data d, at a level
+    module _ (ok : Accepted s) (wide : 16 ≤ length o) (z : Parsed) (ez : z ≡ readPdu a) (p : Pdu) (e : z ≡ Is p) (d : List ℕ) (ed : d ≡ dataOf p a)
+        (level : ℕ) (el : level ≡ levelIn session mode) (j : judgeOf (length o) s session mode group a ≡ readOf s (levelIn session mode) group a (readPdu a))
+        (u : Parts) (t : Taken s u) where
+      reads : readPdu a ≡ Is p
+      reads = sym ez ∙ e
+
+      module _ (r : Reply) (g : Serves u d (λ s. decideOf s level group d p) r) where
+        abbrev k : Decision
+        k = decideOf s level group (dataOf p a) p
+
+        abbrev after : List ℕ
+        after = left s (dataOf p a) k
+
+        agrees : Agrees s (dataOf p a) k r
+        agrees = subst (λ (y : List ℕ). Agrees s y (decideOf s level group y p) r) ed (g .agrees s ok so t)
+
+        is : Reading a p
+        is = reading a p reads
+
+        pub carry-needs : Roomy (r .parts) (length s) × Sendable (length o) (r .sent) (take (r .size) (r .bytes)) × (r .size ≤ 14) × (length (r .bytes) ≡ 14)
+        carry-needs = (
+          subst (λ (n : ℕ). Roomy (r .parts) n) (left-long s ok level group a p is)
+              (roomy after (left-accepted s ok level group a p is) (r .parts) (agrees .sheet)),
+          subst (λ (y : Sent). Sendable (length o) y (take (r .size) (r .bytes))) (sym (agrees .gives .sent))
+              (subst (λ (y : List ℕ). Sendable (length o) (sentOf (k .answer)) y) (sym (agrees .gives .bytes))
+              (sends (length o) after (dataOf p a) (k .answer) wide (safe s ok level group a p is .answer))),
+          agrees .gives .short,
+          agrees .gives .full,
+        )
+
+        whole : judgeOf (length o) s session mode group a ≡ k
+        whole = j ∙ ap (readOf s (levelIn session mode) group a) reads ∙ ap (λ (n : ℕ). decideOf s n group (dataOf p a) p) (sym el)
+
+        pub served-called : (x : Done) (s′ o′ : List ℕ) → Carried q mode c r s o x s′ o′ → Called q mode c group a s o x s′ o′
+        served-called x s′ o′ w =
+            let data-is : dataIn (readPdu a) a ≡ dataOf p a = ap (λ (y : Parsed). dataIn y a) reads in
+            let gi = agrees .gives in
+            let bytes : sentBytes (r .sent) (take (r .size) (r .bytes)) ≡ answerOf after (dataOf p a) (k .answer) =
+            ap₂ sentBytes (gi .sent) (gi .bytes) ∙ sent-as after (dataOf p a) (k .answer) in
+            record {
+              did =
+                  subst (λ (y : Effect). Did y x o s′ o′) (ap (λ (y : List ℕ). effectBy y k) (sym data-is) ∙ judged k whole)
+                  (record {
+                    outcome = w .outcome ∙ gi .outcome;
+                    count = w .answer .count ∙ ap length bytes;
+                    sessions = w .sessions ∙ ap (λ (y : Turn). turnedOf q mode c (closes y) (turnOf met y)) (gi .turn);
+                    sheet =
+                        written-again after (left-accepted s ok level group a p is) (r .parts) (agrees .sheet) (left-bytes s ok level group a p is so ao) s s′
+                        (sym (left-long s ok level group a p is)) (w .sheet);
+                    answer = w .answer .holds ∙ ap (splice o 0) bytes;
+                  });
+              sheetBytes = so;
+              apduBytes = ao;
+            }

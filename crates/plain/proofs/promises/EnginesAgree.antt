@@ -1,0 +1,28 @@
+-- BOTH ENGINES GIVE THE SAME: `device::request` and `plain::request` have one contract, and it leaves no result open.
+-- Assumes nothing.
+use Prim.Native.Nat.{ℕ}
+use mathlib.Core.Path.{sym, ap₂, _∙_}
+use mathlib.Core.List.{List}
+use lib.ListN.{take}
+use Rattle.device.specs.Events.{Called}
+use Rattle.device.specs.declared.Sessions.{Sessions}
+use Rattle.device.specs.declared.Done.{Done}
+use Rattle.plain.specs.Same.{Same}
+
+-- for every sheet, accepted or not and under whichever rules, sessions, mode, connection, group address, APDU and buffer
+pub engines-agree :
+    (q : Sessions) (mode c group : ℕ) (a s o : List ℕ) (r r′ : Done) (s₁ s₂ o₁ o₂ : List ℕ) →
+    Called q mode c group a s o r s₁ o₁ → Called q mode c group a s o r′ s₂ o₂ → Same r r′ s₁ s₂ o₁ o₂
+engines-agree q mode c group a s o r r′ s₁ s₂ o₁ o₂ x y =
+    let f = x .did in
+    let g = y .did in
+    let count = f .count ∙ sym (g .count) in
+    let buffer = f .answer ∙ sym (g .answer) in
+    record {
+      outcome = f .outcome ∙ sym (g .outcome);
+      count = count;
+      answer = ap₂ (λ (n : ℕ) (b : List ℕ). take n b) count buffer;
+      buffer = buffer;
+      sessions = f .sessions ∙ sym (g .sessions);
+      sheet = f .sheet ∙ sym (g .sheet);
+    }

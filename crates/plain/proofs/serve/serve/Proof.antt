@@ -1,0 +1,68 @@
+-- `plain::serve::serve` meets its contract.
+-- Assumes nothing.
+use borrow.Author.Needs.{needs}
+use mathlib.Core.Path.{refl}
+use Rattle.plain.proofs.Arms.{with-data, without-data, is-answer, short-data, memory-long, user-long, bits-long}
+use Rattle.plain.proofs.serve.serve.Statement.{statement}
+use Rattle.plain.proofs.serve.serve.Tie as tie
+
+pub serve-spec : {M : Type 1} → statement M
+serve-spec =
+    tie.close
+    (tie.spec
+    (λ c. search needs)
+    (λ c κs. c .before .before .before .pre .0)
+    (λ c. search needs)
+    (λ c κs. c .before .before .before .before .pre .0)
+    (λ c. search needs)
+    (λ c κs. c .before .before .before .before .pre .0)
+    (λ c. search needs) (λ c κs. search needs) (λ c. search needs) (λ c κs. search needs) (λ c. search needs)
+    (λ c κs. search needs) (λ c. search needs) (λ c κs. search needs) (λ c. search needs) (λ c κs. search needs)
+    (λ c. search needs)
+    (λ c κs. c .before .before .before .before .pre .0)
+    (λ c. search needs)
+    (λ c κs. (c .before .before .before .before .pre .0, short-data (c .before .before .before .before .pre .1) _ _ _ _ (c .before .p8 .given .1)))
+    (λ c. search needs)
+    (λ c κs. c .before .before .before .before .pre .0)
+    (λ c. search needs)
+    (λ c κs. c .before .before .before .before .pre .0)
+    (λ c. search needs)
+    (λ c κs. (c .before .before .before .before .pre .0, memory-long (c .before .before .before .before .pre .1) _ _ (c .before .p11 .given .1)))
+    (λ c. search needs)
+    (λ c κs. (c .before .before .before .before .pre .0, bits-long (c .before .before .before .before .pre .1) _ _ (c .before .p12 .given .1)))
+    (λ c. search needs) (λ c κs. search needs) (λ c. search needs) (λ c κs. search needs) (λ c. search needs)
+    (λ c κs. search needs) (λ c. search needs) (λ c κs. search needs) (λ c. search needs) (λ c κs. search needs)
+    (λ c. search needs) (λ c κs. search needs) (λ c. search needs) (λ c κs. search needs) (λ c. search needs)
+    (λ c κs. search needs) (λ c. search needs) (λ c κs. search needs) (λ c. search needs) (λ c κs. search needs)
+    (λ c. search needs) (λ c κs. search needs) (λ c. search needs)
+    (λ c κs. c .before .before .before .before .pre .0)
+    (λ c. search needs) (λ c κs. search needs) (λ c. search needs)
+    (λ c κs. (c .before .before .before .before .pre .0, user-long (c .before .before .before .before .pre .1) _ _ (c .before .p16 .given .1)))
+    (λ c. without-data _ _ _ _ _ _ _ (c .before .enum-told .given .1) (c .before .before .before .before .pre .1) refl (c .group-read .ensures))
+    (λ c. with-data _ _ _ _ _ _ _ (c .before .before .p .given .1) (c .group-response .ensures))
+    (λ c. with-data _ _ _ _ _ _ _ (c .before .before .p2 .given .1) (c .group-write .ensures))
+    (λ c. without-data _ _ _ _ _ _ _ (c .before .before .p3 .given .1) (c .before .before .before .before .before .pre .1) refl (c .address-write .ensures))
+    (λ c. without-data _ _ _ _ _ _ _ (c .before .enum-told2 .given .1) (c .before .before .before .before .pre .1) refl (c .address-read .ensures))
+    (λ c. without-data _ _ _ _ _ _ _ (c .before .before .p4 .given .1) (c .before .before .before .before .before .pre .1) refl (c .serial-read .ensures))
+    (λ c. without-data _ _ _ _ _ _ _ (c .before .before .p5 .given .1) (c .before .before .before .before .before .pre .1) refl (c .serial-write .ensures))
+    (λ c. without-data _ _ _ _ _ _ _ (c .before .before .p6 .given .1) (c .before .before .before .before .before .pre .1) refl (c .descriptor .ensures))
+    (λ c. without-data _ _ _ _ _ _ _ (c .before .before .p7 .given .1) (c .before .before .before .before .before .pre .1) refl (c .property-read .ensures))
+    (λ c. with-data _ _ _ _ _ _ _ (c .before .before .p8 .given .1) (c .property-write .ensures))
+    (λ c. without-data _ _ _ _ _ _ _ (c .before .before .p9 .given .1) (c .before .before .before .before .before .pre .1) refl (c .description .ensures))
+    (λ c. without-data _ _ _ _ _ _ _ (c .before .before .p10 .given .1) (c .before .before .before .before .before .pre .1) refl (c .memory-read .ensures))
+    (λ c. with-data _ _ _ _ _ _ _ (c .before .before .p11 .given .1) (c .memory-write .ensures))
+    (λ c. with-data _ _ _ _ _ _ _ (c .before .before .p12 .given .1) (c .bit-write .ensures))
+    (λ c. without-data _ _ _ _ _ _ _ (c .before .before .p13 .given .1) (c .before .before .before .before .before .pre .1) refl (c .authorize .ensures))
+    (λ c. without-data _ _ _ _ _ _ _ (c .before .before .p14 .given .1) (c .before .before .before .before .before .pre .1) refl (c .key-write .ensures))
+    (λ c. without-data _ _ _ _ _ _ _ (c .before .enum-told3 .given .1) (c .before .before .before .before .pre .1) refl (c .restart .ensures))
+    (λ c. is-answer _ _ _ _ _ _ _ (c .before .enum-told4 .given .1) (λ s. refl) (c .silent .ensures))
+    (λ c. is-answer _ _ _ _ _ _ _ (c .before .enum-told5 .given .1) (λ s. refl) (c .silent2 .ensures))
+    (λ c. is-answer _ _ _ _ _ _ _ (c .before .enum-told6 .given .1) (λ s. refl) (c .silent3 .ensures))
+    (λ c. is-answer _ _ _ _ _ _ _ (c .before .enum-told7 .given .1) (λ s. refl) (c .silent4 .ensures))
+    (λ c. is-answer _ _ _ _ _ _ _ (c .before .enum-told8 .given .1) (λ s. refl) (c .silent5 .ensures))
+    (λ c. is-answer _ _ _ _ _ _ _ (c .before .enum-told9 .given .1) (λ s. refl) (c .silent6 .ensures))
+    (λ c. is-answer _ _ _ _ _ _ _ (c .before .enum-told10 .given .1) (λ s. refl) (c .silent7 .ensures))
+    (λ c. is-answer _ _ _ _ _ _ _ (c .before .enum-told11 .given .1) (λ s. refl) (c .silent8 .ensures))
+    (λ c. without-data _ _ _ _ _ _ _ (c .before .before .p15 .given .1) (c .before .before .before .before .before .pre .1) refl (c .memory-read2 .ensures))
+    (λ c. is-answer _ _ _ _ _ _ _ (c .before .enum-told12 .given .1) (λ s. refl) (c .silent9 .ensures))
+    (λ c. with-data _ _ _ _ _ _ _ (c .before .before .p16 .given .1) (c .memory-write2 .ensures)))

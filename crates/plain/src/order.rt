@@ -1,0 +1,168 @@
+// The outcomes 3 to 9 and 14, in their order.
+use judge::Session;
+use pdu::Found;
+use pdu::Service;
+ghost use mathlib.Core.Path.{_≡_};
+ghost use Prim.Native.Nat.{ℕ};
+ghost use lib.ListN.{length};
+ghost use Rattle.sheet.specs.Rules.{refusalOf};
+ghost use Rattle.judge.specs.Session.{levelIn};
+ghost use Rattle.judge.specs.Modes.{reachOf, reaches, takes};
+ghost use Rattle.judge.specs.Judge.{isShut};
+ghost use Rattle.plain.specs.Order.{firstOf, nextOf};
+
+// Mode 3, and no session.
+fn is_shut(session: Session, mode: u8) -> bool
+    ensures { λ r. ⌜ r ≡ isShut session mode ⌝ }
+{
+    if mode != 3 {
+        return false;
+    }
+    !session.opened
+}
+
+// 3, 4 or 14, 5, 6 and 7, and 0 where none is due. The sheet's own rules are those of `sheet`.
+pub fn refused_first(room: usize, sheet: &[u8], apdu: &[u8], mode: u8, session: Session) -> u8
+    ensures { λ r. ⌜ r ≡ firstOf room (refusalOf (now (sheet .entry))) (length (now (apdu .entry))) mode (isShut session mode) ⌝ }
+{
+    if room < 16 {
+        return 3;
+    }
+    let refusal = sheet::refusal(sheet);
+    if refusal != 0 {
+        return refusal;
+    }
+    if apdu.len() < 2 {
+        return 5;
+    }
+    if 16 < apdu.len() {
+        return 5;
+    }
+    if 3 < mode {
+        return 6;
+    }
+    if is_shut(session, mode) {
+        return 7;
+    }
+    0
+}
+
+// An answer to a tool is no request, and its code unknown to the device.
+fn is_request(k: Service) -> bool
+    ensures { λ r. ⌜ ((rules : ℕ) → r ≡ reaches (reachOf rules k)) ⌝ }
+{
+    match k {
+        Service::GroupValueRead => true,
+        Service::GroupValueResponse => true,
+        Service::GroupValueWrite => true,
+        Service::IndividualAddressWrite => true,
+        Service::IndividualAddressRead => true,
+        Service::SerialNumberRead => true,
+        Service::SerialNumberWrite => true,
+        Service::DeviceDescriptorRead => true,
+        Service::PropertyValueRead => true,
+        Service::PropertyValueWrite => true,
+        Service::PropertyDescriptionRead => true,
+        Service::MemoryRead => true,
+        Service::MemoryWrite => true,
+        Service::MemoryBitWrite => true,
+        Service::AuthorizeRequest => true,
+        Service::KeyWrite => true,
+        Service::Restart => true,
+        Service::IndividualAddressResponse => false,
+        Service::SerialNumberResponse => false,
+        Service::DeviceDescriptorResponse => false,
+        Service::PropertyValueResponse => false,
+        Service::PropertyDescriptionResponse => false,
+        Service::MemoryResponse => false,
+        Service::AuthorizeResponse => false,
+        Service::KeyResponse => false,
+        Service::UserMemoryRead => true,
+        Service::UserMemoryResponse => false,
+        Service::UserMemoryWrite => true,
+    }
+}
+
+fn is_2_or_3(mode: u8) -> bool
+    ensures { λ r. ⌜ r ≡ takes (reachOf 1 Service.DeviceDescriptorRead) mode ⌝ }
+{
+    if mode == 2 {
+        return true;
+    }
+    mode == 3
+}
+
+// A restart is taken on a connection, under rules 1 also without one.
+fn restart_taken(rules: u8, mode: u8) -> bool
+    ensures { λ r. ⌜ r ≡ takes (reachOf rules Service.Restart) mode ⌝ }
+{
+    if rules == 1 {
+        return is_2_or_3(mode);
+    }
+    mode == 3
+}
+
+// The mode takes the service: 0 multicast, 1 broadcast, 2 connectionless, 3 on a connection.
+fn is_taken(k: Service, rules: u8, mode: u8) -> bool
+    ensures { λ r. ⌜ r ≡ takes (reachOf rules k) mode ⌝ }
+{
+    match k {
+        Service::GroupValueRead => mode == 0,
+        Service::GroupValueResponse => mode == 0,
+        Service::GroupValueWrite => mode == 0,
+        Service::IndividualAddressWrite => mode == 1,
+        Service::IndividualAddressRead => mode == 1,
+        Service::SerialNumberRead => mode == 1,
+        Service::SerialNumberWrite => mode == 1,
+        Service::DeviceDescriptorRead => is_2_or_3(mode),
+        Service::PropertyValueRead => is_2_or_3(mode),
+        Service::PropertyValueWrite => is_2_or_3(mode),
+        Service::PropertyDescriptionRead => is_2_or_3(mode),
+        Service::MemoryRead => mode == 3,
+        Service::MemoryWrite => mode == 3,
+        Service::MemoryBitWrite => mode == 3,
+        Service::AuthorizeRequest => mode == 3,
+        Service::KeyWrite => mode == 3,
+        Service::Restart => restart_taken(rules, mode),
+        Service::IndividualAddressResponse => false,
+        Service::SerialNumberResponse => false,
+        Service::DeviceDescriptorResponse => false,
+        Service::PropertyValueResponse => false,
+        Service::PropertyDescriptionResponse => false,
+        Service::MemoryResponse => false,
+        Service::AuthorizeResponse => false,
+        Service::KeyResponse => false,
+        Service::UserMemoryRead => mode == 3,
+        Service::UserMemoryResponse => false,
+        Service::UserMemoryWrite => mode == 3,
+    }
+}
+
+// 8, then 9, and 0 where neither is due.
+pub fn refused_next(found: Found, rules: u8, mode: u8) -> u8
+    ensures { λ r. ⌜ r ≡ nextOf found rules mode ⌝ }
+{
+    let Found::Listed(k) = found else {
+        return 8;
+    };
+    if !is_request(k) {
+        return 8;
+    }
+    if !is_taken(k, rules, mode) {
+        return 9;
+    }
+    0
+}
+
+// The level that a request acts at: the session's on a connection, else 3. A level above 3 is read as 3.
+pub fn acting_level(session: Session, mode: u8) -> u8
+    ensures { λ r. ⌜ r ≡ levelIn session mode ⌝ }
+{
+    if mode != 3 {
+        return 3;
+    }
+    if 3 < session.level {
+        return 3;
+    }
+    session.level
+}

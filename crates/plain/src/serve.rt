@@ -1,0 +1,66 @@
+// What is done with a request that was read, by its service.
+use crate::Reply;
+use crate::addresses::address_read;
+use crate::addresses::address_write;
+use crate::addresses::descriptor;
+use crate::addresses::serial_read;
+use crate::addresses::serial_write;
+use crate::groups::group_read;
+use crate::groups::group_response;
+use crate::groups::group_write;
+use crate::keys::authorize;
+use crate::keys::key_write;
+use crate::keys::restart;
+use crate::memory::bit_write;
+use crate::memory::memory_read;
+use crate::memory::memory_write;
+use crate::properties::description;
+use crate::properties::property_read;
+use crate::properties::property_write;
+use crate::replies::silent;
+use parts::Parts;
+use pdu::Pdu;
+use sheet::Memory;
+ghost use mathlib.Core.Path.{_≡_};
+ghost use mathlib.Core.List.{List};
+ghost use Rattle.judge.specs.Judge.{decideOf};
+ghost use Rattle.plain.specs.Steps.{Held, Requested, Serves};
+
+// At this level, with this data; the group address counts for group values alone.
+pub fn serve(u: Parts, level: u8, group: u16, d: &[u8], p: Pdu) -> Reply
+    requires { ⌜ Held u × Requested p (now d) ⌝ }
+    ensures { λ r. ⌜ Serves u (now (d .entry)) (λ s. decideOf s level group (now (d .entry)) p) r ⌝ }
+{
+    match p {
+        Pdu::GroupValueRead => group_read(u, group),
+        Pdu::GroupValueResponse { v } => group_response(u, group, v, d),
+        Pdu::GroupValueWrite { v } => group_write(u, group, v, d),
+        Pdu::IndividualAddressWrite { address } => address_write(u, address),
+        Pdu::IndividualAddressRead => address_read(u),
+        Pdu::SerialNumberRead { serial } => serial_read(u, serial),
+        Pdu::SerialNumberWrite { serial, address } => serial_write(u, serial, address),
+        Pdu::DeviceDescriptorRead { t } => descriptor(u, t),
+        Pdu::PropertyValueRead { object, id, n, s } => property_read(u, level, object, id, n, s),
+        Pdu::PropertyValueWrite { object, id, n, s } => {
+            property_write(u, level, object, id, n, s, d)
+        }
+        Pdu::PropertyDescriptionRead { object, id, index } => description(u, object, id, index),
+        Pdu::MemoryRead { n, address } => memory_read(u, Memory::Device, level, n, address),
+        Pdu::MemoryWrite { n, address } => memory_write(u, Memory::Device, level, n, address, d),
+        Pdu::MemoryBitWrite { n, address } => bit_write(u, level, n, address, d),
+        Pdu::AuthorizeRequest { key } => authorize(u, key),
+        Pdu::KeyWrite { level: named, key } => key_write(u, level, named, key),
+        Pdu::Restart => restart(u),
+        Pdu::IndividualAddressResponse => silent(u, 8),
+        Pdu::SerialNumberResponse { .. } => silent(u, 8),
+        Pdu::DeviceDescriptorResponse { .. } => silent(u, 8),
+        Pdu::PropertyValueResponse { .. } => silent(u, 8),
+        Pdu::PropertyDescriptionResponse { .. } => silent(u, 8),
+        Pdu::MemoryResponse { .. } => silent(u, 8),
+        Pdu::AuthorizeResponse { .. } => silent(u, 8),
+        Pdu::KeyResponse { .. } => silent(u, 8),
+        Pdu::UserMemoryRead { n, address } => memory_read(u, Memory::User, level, n, address),
+        Pdu::UserMemoryResponse { .. } => silent(u, 8),
+        Pdu::UserMemoryWrite { n, address } => memory_write(u, Memory::User, level, n, address, d),
+    }
+}
