@@ -54,7 +54,7 @@ model: need-tools
 
 # the checking and the playing program on files and pipes; what the other tests link is proved in the same run, where prove has not done so
 sheet-check: need-tools
-	rt check sheet_check trace_play host tool
+	rt check sheet_check trace_play host tool plain_host
 	tests/sheet_check.sh target/bin/sheet_check
 	tests/trace_play.sh target/bin/trace_play
 

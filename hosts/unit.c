@@ -6,6 +6,7 @@
 #include "kelindap_frame.h"
 #include "kelindap_names.h"
 #include "kelindap_pdu.h"
+#include "kelindap_plain.h"
 #include "kelindap_store.h"
 #include "kelindap_trace.h"
 
@@ -26,6 +27,7 @@ typedef struct device {
     run trace;
     size_t played; /* events of the trace */
     kelindap_sessions sessions;
+    bool plain; /* the plain engine serves requests */
 } device;
 
 static uint8_t sample_sheet[] = {
@@ -294,6 +296,17 @@ static bool do_button(device *d, char **words, size_t count)
     return true;
 }
 
+/* A request, by the engine that was chosen. */
+static kelindap_reply served(device *d, uint8_t mode, uint8_t c, uint16_t group, run apdu, run answer)
+{
+    if (!d->plain)
+        return kelindap_request(&d->sessions, mode, c, group, apdu.bytes, apdu.length, d->sheet.bytes, d->sheet.length,
+                                answer.bytes, answer.length);
+    kelindap_plain_reply reply = kelindap_plain_request(&d->sessions, mode, c, group, apdu.bytes, apdu.length, d->sheet.bytes,
+                                                        d->sheet.length, answer.bytes, answer.length);
+    return (kelindap_reply){ .outcome = reply.outcome, .count = reply.count };
+}
+
 static bool do_request(device *d, char **words, size_t count)
 {
     uint64_t mode, group;
@@ -303,10 +316,18 @@ static bool do_request(device *d, char **words, size_t count)
     if (!take_up_to("MODE", words[0], 255, &mode) || !take_up_to("GROUP", words[1], 65535, &group) ||
         !take_bytes("APDUHEX", words[2], &apdu) || !take_bytes("BUFHEX", words[3], &answer) || !take_connection(words[4], &c))
         return false;
-    kelindap_reply reply =
-        kelindap_request(&d->sessions, (uint8_t)mode, c, (uint16_t)group, apdu.bytes, apdu.length, d->sheet.bytes,
-                         d->sheet.length, answer.bytes, answer.length);
-    put_event(d, reply, answer.bytes, answer.length);
+    put_event(d, served(d, (uint8_t)mode, c, (uint16_t)group, apdu, answer), answer.bytes, answer.length);
+    return true;
+}
+
+static bool do_engine(device *d, char **words, size_t count)
+{
+    bool plain = strcmp(words[0], "plain") == 0;
+    (void)count;
+    if (!plain && strcmp(words[0], "first") != 0)
+        return err("the engine is first or plain: \"%s\"", shown(words[0]));
+    d->plain = plain;
+    printf("engine %s\n", words[0]);
     return true;
 }
 
@@ -784,6 +805,7 @@ static const struct command {
     { "disconnect", "disconnect C", 1, 1, do_disconnect },
     { "button", "button on, or button off", 1, 1, do_button },
     { "request", "request MODE GROUP APDUHEX BUFHEX C", 5, 5, do_request },
+    { "engine", "engine first, or engine plain", 1, 1, do_engine },
     { "store", "store HEX", 1, 1, do_store },
     { "save", "save", 0, 0, do_save },
     { "restore", "restore C NUMBER", 2, 2, do_restore },

@@ -3,8 +3,9 @@
 
 #: make bench      the speed of each request, beside plain Rust
 # nanoseconds and instructions for each request: figures and no verdict, so not among the tests
-bench: build/libkelindap_device.a build/libkelindap_pdu.a
+bench: build/libkelindap_device.a build/libkelindap_pdu.a build/libkelindap_plain.a
 	cargo build --release --quiet -p bench
 	$(CARGO_BIN)/bench
 	$(CARGO_BIN)/point_times
 	$(CARGO_BIN)/trace_times
+	$(CARGO_BIN)/engine_times

@@ -17,7 +17,7 @@ compare: $(BUILD)/bridge
 $(BUILD)/bridge: tests/compare/bridge.c mk/compare.mk $(LINKED) | need-gcc
 	mkdir -p $(BUILD)
 	gcc $(STRICT) -c $< -o /dev/null
-	$(CC_FOR) -o $@ $(STRICT) $< $(HOST_A) $(TOOL_A)
+	$(CC_FOR) -o $@ $(STRICT) $< $(LIBRARIES)
 
 # group values against the model, through the desk unit; so many of them at random
 POINTS ?= 1000000

@@ -1,4 +1,4 @@
-# The host programs in C over the two static libraries: the desk unit, its demonstration, and the tests from outside.
+# The host programs in C over the static libraries: the desk unit, its demonstration, and the tests from outside.
 # Comes after native.mk.
 STRICT := -std=c11 -O2 -Wall -Wextra -Wpedantic -Werror -Iinclude
 # The sanitizers are the machine's own. In programs for another processor undefined behaviour traps, and guard bytes and walls remain.
@@ -14,10 +14,10 @@ TOOL_H := include/kelindap_pdu.h include/kelindap_frame.h
 # leaks are no matter here: the libraries have no heap, and looking for them takes long
 WATCHED := ASAN_OPTIONS=detect_leaks=0
 # what every program here rests on
-LINKED := $(wildcard include/*.h) $(wildcard hosts/*.inc) mk/bin/cc mk/hosts.mk $(HOST_A) $(TOOL_A)
+LINKED := $(wildcard include/*.h) $(wildcard hosts/*.inc) mk/bin/cc mk/hosts.mk $(LIBRARIES)
 .PHONY: unit run test-unit test-text test-c need-gcc
 
-#: make unit       the desk unit, build/unit, and the two libraries
+#: make unit       the desk unit, build/unit, and the libraries
 unit: $(BUILD)/unit
 
 # a short script against the sample sheet, in a form that a person reads at a glance
@@ -42,6 +42,7 @@ test-c: $(BUILD)/layout $(BUILD)/stack $(IN_C)
 	$(BUILD)/stack
 	tests/c/symbols.sh $(DEVICE_H) $(HOST_A)
 	tests/c/symbols.sh $(TOOL_H) $(TOOL_A)
+	tests/c/symbols.sh include/kelindap_plain.h $(PLAIN_A)
 	CC_FOR="$(CC_FOR)" tests/c/freestanding.sh $(HOST_A) $(TOOL_A)
 	for t in $(IN_C); do $(WATCHED) $$t; done
 
@@ -49,11 +50,11 @@ test-c: $(BUILD)/layout $(BUILD)/stack $(IN_C)
 $(BUILD)/unit: hosts/unit.c $(wildcard hosts/unit_*.h) build/unit_help.inc $(LINKED) | need-gcc
 	mkdir -p $(BUILD)
 	gcc $(STRICT) -Ibuild -c $< -o /dev/null
-	$(CC_FOR) -o $@ $(STRICT) -Ibuild $< $(HOST_A) $(TOOL_A)
+	$(CC_FOR) -o $@ $(STRICT) -Ibuild $< $(LIBRARIES)
 
 $(BUILD)/unit_watched: hosts/unit.c $(wildcard hosts/unit_*.h) build/unit_help.inc $(LINKED) | need-gcc
 	mkdir -p $(BUILD)
-	$(CC_FOR) -o $@ $(STRICT) -Ibuild -g $(SANITIZE) $< $(HOST_A) $(TOOL_A)
+	$(CC_FOR) -o $@ $(STRICT) -Ibuild -g $(SANITIZE) $< $(LIBRARIES)
 
 $(BUILD)/layout $(IN_C): $(BUILD)/%: tests/c/%.c tests/c/lent.h build/marked.inc $(LINKED) | need-gcc
 	mkdir -p $(BUILD)
@@ -63,7 +64,7 @@ $(BUILD)/layout $(IN_C): $(BUILD)/%: tests/c/%.c tests/c/lent.h build/marked.inc
 # not watched: the sanitizers' own frames would be measured
 $(BUILD)/stack: tests/c/stack.c $(LINKED) | need-gcc
 	mkdir -p $(BUILD)
-	$(CC_FOR) -o $@ $(STRICT) -D_GNU_SOURCE -Wl,-z,now $< $(HOST_A) $(TOOL_A)
+	$(CC_FOR) -o $@ $(STRICT) -D_GNU_SOURCE -Wl,-z,now $< $(LIBRARIES)
 
 # what the unit says for --help, a line of C to a line
 build/unit_help.inc: hosts/kelindap-unit.txt mk/hosts.mk

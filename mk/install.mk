@@ -11,10 +11,10 @@ MAN := build/man/kelindap-sheet.1 build/man/kelindap-unit.1
 install: install-libraries $(if $(OWN),install-programs)
 	$(if $(OWN),,@echo "install: for $(PROCESSOR) the libraries alone; the programs are built on such a machine")
 
-install-libraries: $(HOST_A) $(TOOL_A)
+install-libraries: $(LIBRARIES)
 	mkdir -p $(DESTDIR)$(PREFIX)/include $(DESTDIR)$(LIBDIR)/pkgconfig
 	install -m 644 include/*.h $(DESTDIR)$(PREFIX)/include
-	install -m 644 $(HOST_A) $(TOOL_A) $(DESTDIR)$(LIBDIR)
+	install -m 644 $(LIBRARIES) $(DESTDIR)$(LIBDIR)
 	sed -e 's#@PREFIX@#$(PREFIX)#' -e 's#@LIBDIR@#$(LIBDIR)#' -e 's#@VERSION@#$(VERSION)#' -e 's#@PROCESSOR@#$(PROCESSOR)#' \
 	    mk/kelindap.pc.in > $(DESTDIR)$(LIBDIR)/pkgconfig/kelindap.pc
 
@@ -32,7 +32,7 @@ $(MAN): mk/bin/man include/kelindap_common.h
 	@mk/bin/man $(filter %.txt,$^) $(VERSION) > $@
 
 #: make deb        Debian's packages in build/deb: libkelindap-dev, and for this machine's own processor kelindap-tools
-deb: $(HOST_A) $(TOOL_A) $(if $(OWN),build/sheet build/unit $(MAN))
+deb: $(LIBRARIES) $(if $(OWN),build/sheet build/unit $(MAN))
 	mk/bin/deb $(PROCESSOR) libkelindap-dev $(if $(OWN),kelindap-tools)
 	$(if $(OWN),,@echo "deb: for $(PROCESSOR) libkelindap-dev alone; kelindap-tools is built on such a machine")
 

@@ -1,4 +1,4 @@
-# The two libraries for PROCESSOR, one of mk/processors; this machine's own where none is named. Comes first of all parts.
+# The libraries for PROCESSOR, one of mk/processors; this machine's own where none is named. Comes first of all parts.
 HERE := $(shell mk/bin/processor)
 PROCESSOR ?= $(HERE)
 LINUX := $(shell awk '/^[a-z]/ { print $$1 }' mk/processors)
@@ -9,20 +9,23 @@ OWN := $(filter $(HERE),$(PROCESSOR))
 BUILD := build$(if $(OWN),,/$(PROCESSOR))
 HOST_A := $(BUILD)/libkelindap_device.a
 TOOL_A := $(BUILD)/libkelindap_pdu.a
+PLAIN_A := $(BUILD)/libkelindap_plain.a
+LIBRARIES := $(HOST_A) $(TOOL_A) $(PLAIN_A)
 # the compiler that makes programs for the processor, which run here
 CC_FOR := mk/bin/cc $(PROCESSOR)
-SHIMS := shims/passing.h shims/device.c shims/pdu.c
+SHIMS := shims/passing.h shims/device.c shims/pdu.c shims/plain.c
 .PHONY: native no-libraries test-shims test-others
 
-#: make native     the two libraries for this machine's processor, or for PROCESSOR=x86_64, aarch64, armhf, riscv64
-native: $(HOST_A) $(TOOL_A)
+#: make native     the libraries for this machine's processor, or for PROCESSOR=x86_64, aarch64, armhf, riscv64
+native: $(LIBRARIES)
 	@echo "native: for $(PROCESSOR): $^"
 
 ifeq ($(PROCESSOR),x86_64)
 # rt's own archives, under names that no other project has
 $(HOST_A): target/staticlib/libhost.a
 $(TOOL_A): target/staticlib/libtool.a
-$(HOST_A) $(TOOL_A):
+$(PLAIN_A): target/staticlib/libplain_host.a
+$(LIBRARIES):
 	@mkdir -p $(@D)
 	@cp $< $@
 else ifneq ($(filter $(PROCESSOR),$(LINUX)),)
@@ -31,9 +34,11 @@ $(HOST_A): build/module/host.bc
 	@mk/bin/native $(PROCESSOR) host $@
 $(TOOL_A): build/module/tool.bc
 	@mk/bin/native $(PROCESSOR) tool $@
-$(HOST_A) $(TOOL_A): $(SHIMS) $(wildcard include/*.h) mk/processors mk/bin/native mk/bin/ir | need-gcc
+$(PLAIN_A): build/module/plain_host.bc
+	@mk/bin/native $(PROCESSOR) plain_host $@
+$(LIBRARIES): $(SHIMS) $(wildcard include/*.h) mk/processors mk/bin/native mk/bin/ir | need-gcc
 else
-$(HOST_A) $(TOOL_A): no-libraries
+$(LIBRARIES): no-libraries
 endif
 no-libraries:
 	@echo "there are no libraries for $(PROCESSOR); PROCESSOR may be: $(LINUX)" >&2
@@ -47,7 +52,7 @@ target/staticlib/lib%.a build/module/%.bc: mk/bin/module crates.txt $(shell find
 
 # faults planted in the shims, on the first processor that has them and whose programs can be made and run here
 SHIMMED := $(filter-out x86_64,$(HERE) $(OTHERS))
-test-shims: build/module/host.bc build/module/tool.bc build/unit_help.inc
+test-shims: build/module/host.bc build/module/tool.bc build/module/plain_host.bc build/unit_help.inc
 	for p in $(SHIMMED); do if mk/bin/can $$p > /dev/null; then exec tests/shims.sh $$p; fi; done; \
 	echo "shims: no faults are planted: programs can be made and run here for none of $(SHIMMED)"
 

@@ -22,14 +22,14 @@ while read -r processor debian triple _; do
         "Package: libkelindap-dev Version: $version Architecture: $debian Multi-Arch: same" ] || fail "$package has other fields"
     rm -rf "$work/of"
     dpkg-deb -x "$package" "$work/of"
-    for archive in libkelindap_device.a libkelindap_pdu.a; do
+    for archive in libkelindap_device.a libkelindap_pdu.a libkelindap_plain.a; do
         folder=build/$processor
         [ "$processor" != "$own" ] || folder=build
         cmp "$folder/$archive" "$work/of/usr/lib/$triple/$archive" || fail "$package has another $archive"
     done
     for header in include/*.h; do cmp "$header" "$work/of/usr/$header" || fail "$package has another $header"; done
     grep -qx "processor=$processor" "$work/of/usr/lib/$triple/pkgconfig/kelindap.pc" || fail "$package does not name $processor"
-    [ "$(find "$work/of" -type f | wc -l)" = $(($(find include -name '*.h' | wc -l) + 3)) ] || fail "$package has other files"
+    [ "$(find "$work/of" -type f | wc -l)" = $(($(find include -name '*.h' | wc -l) + 4)) ] || fail "$package has other files"
 done < <(grep '^[a-z]' mk/processors)
 
 # this machine's two, in an empty root

@@ -11,13 +11,16 @@ work=$(mktemp -d)
 trap 'rm -rf "$work"' EXIT
 fail() { echo "shims: $processor: $1"; exit 1; }
 
-# what is played, as NAME.in and NAME.out
+# what is played, as NAME.in and NAME.out; the events by the plain engine too
 mkdir "$work/play"
 cp tests/unit/{events,fields,lookups,old,points,ranges,read,tools,traces,user_memory,versions}.{in,out} "$work/play"
+for script in events user_memory; do
+    for end in in out; do { echo "engine plain" && cat "tests/unit/$script.$end"; } > "$work/play/plain_$script.$end"; done
+done
 grep -v '^#' tests/vectors/frame.tsv | cut -f 2 > "$work/play/frames.in"
 grep -v '^#' tests/vectors/frame.tsv | cut -f 3 > "$work/play/frames.out"
 
-for name in host tool; do
+for name in host tool plain_host; do
     mk/bin/native "$processor" "$name" -E > "$work/$name.c"
     mk/bin/native "$processor" "$name" "$work/lib$name.a"
 done
@@ -26,10 +29,10 @@ mk/bin/cc "$processor" -c -o "$work/unit.o" "${c[@]}" hosts/unit.c
 in_c=(store_test trace_test)
 for test in "${in_c[@]}"; do mk/bin/cc "$processor" -c -o "$work/$test.o" "${c[@]}" -DROUNDS=4000 "tests/c/$test.c"; done
 
-# HOST_A TOOL_A: whether the unit with these answers as it should
+# HOST_A TOOL_A PLAIN_A: whether the unit with these answers as it should
 plays() {
     local script test
-    mk/bin/cc "$processor" -o "$work/unit" "$work/unit.o" "$1" "$2"
+    mk/bin/cc "$processor" -o "$work/unit" "$work/unit.o" "$1" "$2" "$3"
     for script in "$work"/play/*.in; do
         timeout 60 "$work/unit" < "$script" 2> /dev/null | cmp -s - "${script%.in}.out" || return 1
     done
@@ -38,7 +41,7 @@ plays() {
         timeout 60 "$work/$test" > /dev/null 2>&1 || return 1
     done
 }
-plays "$work/libhost.a" "$work/libtool.a" || fail "the scripts differ without a fault"
+plays "$work/libhost.a" "$work/libtool.a" "$work/libplain_host.a" || fail "the scripts differ without a fault"
 
 # the faults as NAME, a tab, the number of a line, a tab, and what stands there: exchanges and lengths by the calls' own text
 faults_of() {
@@ -82,7 +85,7 @@ changed() { # LIBRARY NAME FROM TO
             done = 1
         }' "$work/$1.c" >> "$work/$1.faults"
 }
-for name in host tool; do faults_of "$name" > "$work/$name.faults"; done
+for name in host tool plain_host; do faults_of "$name" > "$work/$name.faults"; done
 changed host "fresh: a byte beside the level" 'high(r >> 16)' 'high(r >> 8)'
 changed host "reply: outcome and count exchanged" '(kelindap_reply){ from.outcome, from.count,' '(kelindap_reply){ from.count, from.outcome,'
 changed host "reply: a part's length for its offset" 'from.count, { { (size_t)from.part[0],' 'from.count, { { (size_t)from.part[1],'
@@ -92,6 +95,7 @@ changed host "saved: the number for the outcome" '(kelindap_saved){ low(r),' '(k
 changed host "played: how many for the refusal" '(kelindap_played){ low(r),' '(kelindap_played){ low(r >> 16),'
 changed host "played: how many, a byte short" '(kelindap_played){ low(r), (uint16_t)(r >> 16)' '(kelindap_played){ low(r), low(r >> 16)'
 changed host "sessions by value: levels exchanged" 'of[0].level << 8 |' 'of[1].level << 8 |'
+changed plain_host "plain reply: outcome and count exchanged" '(kelindap_plain_reply){ low(r), high(r) }' '(kelindap_plain_reply){ high(r), low(r) }'
 changed tool "written: outcome and count exchanged" '(kelindap_written){ low(r), high(r) }' '(kelindap_written){ high(r), low(r) }'
 changed tool "framed: the count a byte short" '{ (uint16_t)r,' '{ low(r),'
 changed tool "framed: the count for the outcome" 'low(r >> 16) }; }' 'low(r >> 8) }; }'
@@ -106,9 +110,11 @@ changed tool "frame: the TPDU a byte short" '.tpdu_length = from.tpdu_length,' '
 [ "$(cat "$work"/*.faults | wc -l)" -ge 60 ] || fail "only $(cat "$work"/*.faults | wc -l) faults are planted"
 
 planted=0 missed=0
-for name in host tool; do
-    libraries=("$work/libhost.a" "$work/libtool.a")
-    [ "$name" = host ] && libraries[0]=$work/faulty.a || libraries[1]=$work/faulty.a
+for name in host tool plain_host; do
+    libraries=()
+    for library in host tool plain_host; do
+        [ "$library" = "$name" ] && libraries+=("$work/faulty.a") || libraries+=("$work/lib$library.a")
+    done
     while IFS=$'\t' read -r what at text; do
         LINE=$text awk -v at="$at" 'NR == at { print ENVIRON["LINE"]; next } { print }' "$work/$name.c" > "$work/faulty.c"
         mk/bin/native "$processor" "$name" "$work/faulty.a" "$work/faulty.c" 2> "$work/err" || { cat "$work/err"; fail "$what: does not compile"; }

@@ -1,13 +1,15 @@
 /*
  * How much stack each call of the libraries takes, by painting: the calls run on a stack of their own that was filled with
  * one byte before, and the deepest byte that changed tells how far they went. What an empty function takes is taken off.
- * No call may go deeper than LIMIT. The libraries have no recursion and no array of variable length, so the depth of a call
+ * No call may go deeper than LIMIT, and that of the plain engine, which has copies of a sheet's records on its stack, than
+ * PLAIN_LIMIT. The libraries have no recursion and no array of variable length, so the depth of a call
  * is bounded by its deepest chain of calls; the many requests below are there to reach it. Linked with -z now, since the
  * first call of a function of the C library would otherwise run its loader on the same stack.
  */
 #include "kelindap.h"
 #include "kelindap_frame.h"
 #include "kelindap_pdu.h"
+#include "kelindap_plain.h"
 #include "kelindap_store.h"
 #include "kelindap_trace.h"
 
@@ -16,7 +18,7 @@
 #include <string.h>
 #include <ucontext.h>
 
-enum { LIMIT = 1280, ROOM = 1 << 16, PAINT = 0xA5, ROUNDS = 4 };
+enum { LIMIT = 1280, PLAIN_LIMIT = 1 << 19, ROOM = 1 << 21, PAINT = 0xA5, ROUNDS = 4 };
 
 static _Alignas(64) uint8_t stack[ROOM];
 static ucontext_t here, there;
@@ -70,7 +72,7 @@ static void region(void) { kept += (unsigned)kelindap_region(sheet, sizeof sheet
 static void user_region(void) { kept += (unsigned)kelindap_user_region(sheet, sizeof sheet, 0).length; }
 static void group(void) { kept += (unsigned)kelindap_group(sheet, sizeof sheet, 0x0801).length; }
 
-static void request(void)
+static void request_by(bool plain)
 {
     for (unsigned i = 0; i < ROUNDS * 15 * 1024u; i++) {
         size_t length = next_apdu(i);
@@ -78,11 +80,16 @@ static void request(void)
         uint8_t connection = (uint8_t)(i / (30 * 1024u) % 2); /* and the last two on the other connection */
         for (uint8_t mode = 0; mode < 4; mode++) {
             sessions.of[connection] = (kelindap_session){.open = true, .level = (uint8_t)(i % 4)};
-            kept += kelindap_request(&sessions, mode, connection, 0x0801, apdu, length, sheet, sizeof sheet, answer,
-                                     sizeof answer).count;
+            kept += plain ? kelindap_plain_request(&sessions, mode, connection, 0x0801, apdu, length, sheet, sizeof sheet, answer,
+                                                   sizeof answer).count
+                          : kelindap_request(&sessions, mode, connection, 0x0801, apdu, length, sheet, sizeof sheet, answer,
+                                             sizeof answer).count;
         }
     }
 }
+
+static void request(void) { request_by(false); }
+static void plain_request(void) { request_by(true); }
 
 static uint8_t store[512];
 static void store_check(void) { kept += kelindap_store_check(store, sizeof store); }
@@ -220,17 +227,18 @@ int main(void)
         {"kelindap_read, _write", read_and_write},
         {"kelindap_point_read, _write", points},
         {"kelindap_frame_read, _write", frames},
+        {"kelindap_plain_request", plain_request},
     };
     size_t empty = depth_of(nothing);
-    size_t deepest = 0;
+    bool within = true;
     for (size_t i = 0; i < sizeof calls / sizeof *calls; i++) {
         size_t depth = depth_of(calls[i].function);
         depth = depth > empty ? depth - empty : 0;
-        deepest = depth > deepest ? depth : deepest;
+        within = within && depth <= (calls[i].function == plain_request ? PLAIN_LIMIT : LIMIT);
         printf("stack: %-30s %4zu bytes\n", calls[i].name, depth);
     }
-    if (deepest > LIMIT) {
-        printf("stack: a call takes more than %d bytes\n", LIMIT);
+    if (!within) {
+        printf("stack: a call takes more than %d bytes, or that of the plain engine than %d\n", LIMIT, PLAIN_LIMIT);
         return 1;
     }
     return 0;

@@ -26,7 +26,8 @@
  *   !                                        goes deeper than the stack, on a board
  *
  * C is the number of a connection. SESSIONS is open and level of connection 0, then of 1. PARTS is OFFSET4 LENGTH4 of each of
- * the two parts stored. HASH8 is of the whole sheet after the call. Marks are 0 when a sheet is set.
+ * the two parts stored. HASH8 is of the whole sheet after the call. Marks are 0 when a sheet is set. A request is served by both
+ * engines, on two copies of all that it is lent, and must give and leave the same in both; on a board by the first alone.
  * Replies are kept until the input runs dry, so a driver may send many
  * commands and then read as many replies. Sheet, sessions and buffers stand between guard bytes; an empty run is lent as NULL.
  */
@@ -39,6 +40,7 @@
 #include "board.h"
 #else
 #include "kelindap_pdu.h"
+#include "kelindap_plain.h"
 #include <errno.h>
 #include <stdlib.h>
 #include <string.h>
@@ -277,6 +279,44 @@ static void give_parts(const kelindap_part changed[KELINDAP_CHANGED])
     }
 }
 
+#ifndef BOARD
+/* ---- the plain engine beside the first: what it is lent is a copy of what the first was lent ---- */
+
+static uint8_t plain_sheet_room[GUARD + SHEET + GUARD], plain_answer_room[GUARD + RUN + GUARD];
+static lent plain_sheet, plain_answer;
+static kelindap_sessions plain_sessions;
+
+static lent copy(uint8_t *room, lent from)
+{
+    lent l = lend(room, from.length);
+    memcpy(l.bytes, from.bytes, from.length);
+    return l;
+}
+
+static void set_beside(lent answer)
+{
+    plain_sheet = copy(plain_sheet_room, sheet);
+    plain_answer = copy(plain_answer_room, answer);
+    plain_sessions = sessions;
+}
+
+static bool same(lent a, lent b)
+{
+    guarded(a);
+    return memcmp(a.bytes, b.bytes, b.length) == 0;
+}
+
+static void serve_beside(uint8_t mode, uint8_t connection, uint16_t group, lent apdu, lent answer, kelindap_reply reply)
+{
+    kelindap_plain_reply plain =
+        kelindap_plain_request(&plain_sessions, mode, connection, group, given(apdu), apdu.length, given(plain_sheet),
+                               plain_sheet.length, given(plain_answer), plain_answer.length);
+    if (plain.outcome != reply.outcome || plain.count != reply.count || !same(plain_sheet, sheet) || !same(plain_answer, answer) ||
+        memcmp(&plain_sessions, &sessions, sizeof sessions) != 0)
+        give_up("the engines differ");
+}
+#endif
+
 static void request(void)
 {
     uint8_t as_sent[RUN];
@@ -286,8 +326,14 @@ static void request(void)
     lent apdu = take_run(apdu_room, RUN, 2);
     lent answer = take_run(answer_room, RUN, 2);
     memcpy(as_sent, apdu.bytes, apdu.length);
+#ifndef BOARD
+    set_beside(answer);
+#endif
     kelindap_reply reply = kelindap_request(&sessions, mode, connection, group, given(apdu), apdu.length, given(sheet),
                                             sheet.length, given(answer), answer.length);
+#ifndef BOARD
+    serve_beside(mode, connection, group, apdu, answer, reply);
+#endif
     guarded(apdu);
     guarded(answer);
     if (memcmp(as_sent, apdu.bytes, apdu.length) != 0)

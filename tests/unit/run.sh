@@ -37,6 +37,11 @@ play() { # NAME SCRIPT EXPECTED
 }
 
 for script in *.in; do play "${script%.in}" "$script" "${script%.in}.out"; done
+# the same requests by the plain engine
+for script in *.in; do
+    for end in in out; do { echo "engine plain" && cat "${script%.in}.$end"; } > "$work/plain.$end"; done
+    play "${script%.in}, by the plain engine" "$work/plain.in" "$work/plain.out"
+done
 
 mkdir "$work/made"
 ./made.sh "$work/made"
