@@ -6,3 +6,4 @@ pub mod InPlace
 pub mod Replaced
 pub mod Replies
 pub mod Restored
+pub mod Buses

@@ -1,5 +1,6 @@
 // The C interface of the device: the calls of include/kelindap.h and include/kelindap_trace.h, those on the sessions in place;
-// those of include/kelindap_store.h stand in `store`.
+// those of include/kelindap_store.h stand in `store`, those of include/kelindap_link.h in `bus`.
+mod bus;
 mod store;
 
 ghost use mathlib.Core.Path.{_≡_};
@@ -38,6 +39,25 @@ pub struct Replied {
 pub struct Handled {
     pub refusal: u8,
     pub handled: u16,
+}
+
+// What a frame is to the device: its event, by its number, or why there is none; its connection, or 255; its destination.
+#[repr(C)]
+pub struct Arrival {
+    pub event: u8,
+    pub connection: u8,
+    pub group: u16,
+}
+
+// What serving a frame gave: 0 and the event's outcome, or why there is none; its connection, or 255; the count of bytes of the
+// frame that answers; and which parts of the sheet were stored.
+#[repr(C)]
+pub struct Answered {
+    pub number: u8,
+    pub outcome: u8,
+    pub connection: u8,
+    pub count: u8,
+    pub changed: Changed,
 }
 
 // Sessions that nobody has connected to.
