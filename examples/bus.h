@@ -1,9 +1,7 @@
 /*
- * A bus on one machine, for the two examples: a socket in the file system that takes one packet for each frame.
- *
- * A packet to the device is a byte that says what it is, two bytes of group address, and an APDU; a packet back is a byte 0
- * and the APDU of the answer, if there is one. What asks for a version has its number in the place of the group address, and
- * gets a byte 0, the outcome and the number. In a real host this file is the transport layer.
+ * A bus on one machine, for the two examples: a socket in the file system; who connects to it has a line, and each packet on a
+ * line is a frame, as a USB interface hands it up. What asks for a version is no frame but four bytes: what it is, zero, the
+ * number; it gets as many back: the outcome, zero, the number. In a real host this file is the driver of the interface.
  */
 #ifndef BUS_H
 #define BUS_H
@@ -15,11 +13,14 @@
 #include <sys/un.h>
 #include <unistd.h>
 
-/* What a packet is: 0 to 3 a request in that mode, or one of these. */
-enum { BUS_CONNECT = 16, BUS_DISCONNECT = 17, BUS_SAVE = 18, BUS_RESTORE = 19, BUS_REMOVE = 20 };
+/* What a packet about versions is; no frame begins so. */
+enum { BUS_SAVE = 1, BUS_RESTORE = 2, BUS_REMOVE = 3, BUS_VERSION = 4 /* bytes */ };
 
-/* The longest packet, a byte more than any that is right. */
-enum { BUS_FRONT = 3, BUS_PACKET = BUS_FRONT + 16 + 1 };
+/* The longest frame, and a byte more than any that is right. */
+enum { BUS_PACKET = 280 + 1 };
+
+/* The octets of transport that are no data: connect, disconnect, acknowledgement. */
+enum { T_CONNECT = 0x80, T_DISCONNECT = 0x81, T_ACK = 0xC2, T_DATA = 0x40 };
 
 /* The socket of a bus, and its name in `at`; -1 if the name is too long or there is no socket. */
 static inline int bus_socket(const char *name, struct sockaddr_un *at)

@@ -1,6 +1,6 @@
 /*
  * A small tool: reads and writes the filling height of a tank controller, element 1 of property 51 of object 1, on the bus
- * of bus.h.
+ * of bus.h, whose address is 1105h.
  *
  *   height SOCKET read                    shows the height
  *   height SOCKET write KEY HEIGHT ..     offers the key, eight hex digits, and sets the height, shown once it is set
@@ -11,6 +11,7 @@
  */
 #define _POSIX_C_SOURCE 200809L
 #include "bus.h"
+#include "kelindap_frame.h"
 #include "kelindap_names.h"
 #include "kelindap_pdu.h"
 
@@ -19,7 +20,7 @@
 #include <stdio.h>
 #include <stdlib.h>
 
-enum { REFUSED = 1, TROUBLE = 2, CONNECTIONLESS = 2, CONNECTED = 3 };
+enum { REFUSED = 1, TROUBLE = 2 };
 
 static _Noreturn void end(int status, const char *why)
 {
@@ -27,31 +28,59 @@ static _Noreturn void end(int status, const char *why)
     exit(status);
 }
 
-/* A packet to the device, and the answer to it in `apdu`; the count of its bytes. */
-static size_t exchange(int bus, uint8_t what, size_t length, uint8_t apdu[16])
+/* Who this is, and the device; on a connection, the number of the next frame. */
+enum { DEVICE = 0x1105 };
+static uint16_t own;
+static uint8_t next;
+
+/* A frame to the device, transport's bits being these. */
+static void put(int bus, uint8_t transport, const uint8_t *apdu, size_t length)
 {
-    uint8_t packet[BUS_PACKET] = { what };
-    memcpy(packet + BUS_FRONT, apdu, length);
-    if (send(bus, packet, BUS_FRONT + length, 0) < 0)
+    uint8_t frame[BUS_PACKET];
+    kelindap_frame f = { .source = own, .destination = DEVICE, .code = KELINDAP_L_DATA_IND, .control1 = 0xB0, .control2 = 0x60,
+                         .transport = transport };
+    kelindap_framed framed = kelindap_frame_write(f, NULL, 0, apdu, length, frame, sizeof frame);
+    if (framed.outcome != KELINDAP_OK || send(bus, frame, framed.count, 0) < 0)
         end(TROUBLE, "the device is gone");
-    ssize_t got = recv(bus, packet, sizeof packet, 0);
-    if (got < 1 || got > 17)
-        end(TROUBLE, "the device is gone");
-    memcpy(apdu, packet + 1, (size_t)got - 1);
-    return (size_t)got - 1;
+}
+
+/* The APDU of the next frame that is data, in `apdu`; the count of its bytes. Acknowledgements are passed over. */
+static size_t get(int bus, uint8_t apdu[16])
+{
+    uint8_t frame[BUS_PACKET];
+    for (;;) {
+        ssize_t got = recv(bus, frame, sizeof frame, 0);
+        if (got <= 0)
+            end(TROUBLE, "the device is gone");
+        kelindap_frame f = kelindap_frame_read(frame, (size_t)got);
+        if (f.event == KELINDAP_EVENT_DISCONNECT)
+            end(REFUSED, "the device ends the connection");
+        if (f.event != KELINDAP_EVENT_CONNECTED && f.event != KELINDAP_EVENT_CONNECTIONLESS)
+            continue;
+        memcpy(apdu, frame + f.tpdu_offset, f.tpdu_length);
+        return f.tpdu_length;
+    }
 }
 
 /* Asks with a PDU, and gives the answer, which must be of the kind; its data is in `apdu`. */
-static kelindap_pdu ask(int bus, uint8_t mode, kelindap_pdu pdu, const uint8_t *data, size_t length, uint8_t kind,
+static kelindap_pdu ask(int bus, bool connected, kelindap_pdu pdu, const uint8_t *data, size_t length, uint8_t kind,
                         uint8_t apdu[16])
 {
     kelindap_written written = kelindap_write(pdu, data, length, apdu, 16);
     if (written.outcome != KELINDAP_OK)
         end(TROUBLE, kelindap_outcome_name(written.outcome));
-    kelindap_pdu answer = kelindap_read(apdu, exchange(bus, mode, written.count, apdu));
+    put(bus, connected ? (uint8_t)(T_DATA >> 2 | (next++ & 15)) : 0, apdu, written.count);
+    kelindap_pdu answer = kelindap_read(apdu, get(bus, apdu));
     if (answer.kind != kind) /* nothing that was refused has a kind */
         end(REFUSED, "the device does not answer as it should");
     return answer;
+}
+
+/* An octet of transport's own. */
+static void control(int bus, uint8_t octet)
+{
+    uint8_t low = octet & 3;
+    put(bus, octet >> 2, &low, 1);
 }
 
 static const kelindap_pdu height = { .s = 1, .object = 1, .id = 51, .n = 1 };
@@ -69,7 +98,7 @@ static void show(int bus)
     uint8_t apdu[16];
     kelindap_pdu pdu = height;
     pdu.kind = KELINDAP_PROPERTY_READ;
-    kelindap_pdu answer = ask(bus, CONNECTIONLESS, pdu, NULL, 0, KELINDAP_PROPERTY_RESPONSE, apdu);
+    kelindap_pdu answer = ask(bus, false, pdu, NULL, 0, KELINDAP_PROPERTY_RESPONSE, apdu);
     printf("%u\n", told(answer, apdu));
 }
 
@@ -88,7 +117,7 @@ static void set(int bus, unsigned long value)
     uint8_t apdu[16], data[2] = { (uint8_t)(value >> 8), (uint8_t)value };
     kelindap_pdu pdu = height;
     pdu.kind = KELINDAP_PROPERTY_WRITE;
-    kelindap_pdu answer = ask(bus, CONNECTED, pdu, data, sizeof data, KELINDAP_PROPERTY_RESPONSE, apdu);
+    kelindap_pdu answer = ask(bus, true, pdu, data, sizeof data, KELINDAP_PROPERTY_RESPONSE, apdu);
     printf("%u\n", told(answer, apdu));
     fflush(stdout);
 }
@@ -97,17 +126,16 @@ static void connect_with(int bus, const char *key)
 {
     uint8_t apdu[16];
     kelindap_pdu offer = { .key = (uint32_t)number(key, 16, UINT32_MAX), .kind = KELINDAP_AUTHORIZE_REQUEST };
-    exchange(bus, BUS_CONNECT, 0, apdu);
-    ask(bus, CONNECTED, offer, NULL, 0, KELINDAP_AUTHORIZE_RESPONSE, apdu);
+    control(bus, T_CONNECT);
+    ask(bus, true, offer, NULL, 0, KELINDAP_AUTHORIZE_RESPONSE, apdu);
 }
 
 static void write_heights(int bus, const char *key, char **heights)
 {
-    uint8_t apdu[16];
     connect_with(bus, key);
     for (; *heights != NULL; heights++)
         set(bus, number(*heights, 10, UINT16_MAX));
-    exchange(bus, BUS_DISCONNECT, 0, apdu);
+    control(bus, T_DISCONNECT);
 }
 
 /* One word about versions. */
@@ -129,22 +157,27 @@ static void keep(int bus, const char *word)
         end(TROUBLE, "a word is none of save, restore=N, remove=N");
     const char *rest = word + strlen(calls[k].word);
     uint16_t version = *rest == '\0' && calls[k].what == BUS_SAVE ? 0 : (uint16_t)number(rest, 10, UINT16_MAX);
-    uint8_t packet[BUS_PACKET] = { calls[k].what, (uint8_t)(version >> 8), (uint8_t)version };
-    if (send(bus, packet, BUS_FRONT, 0) < 0 || recv(bus, packet, sizeof packet, 0) != 4)
+    uint8_t packet[BUS_PACKET] = { calls[k].what, 0, (uint8_t)(version >> 8), (uint8_t)version };
+    if (send(bus, packet, BUS_VERSION, 0) < 0)
         end(TROUBLE, "the device is gone");
-    if (packet[1] != calls[k].done)
-        end(REFUSED, kelindap_outcome_name(packet[1]));
+    ssize_t got;
+    do /* an acknowledgement may be on its way */
+        got = recv(bus, packet, sizeof packet, 0);
+    while (got > BUS_VERSION);
+    if (got != BUS_VERSION)
+        end(TROUBLE, "the device is gone");
+    if (packet[0] != calls[k].done)
+        end(REFUSED, kelindap_outcome_name(packet[0]));
     printf("%.*s %d\n", (int)strcspn(word, "="), word, packet[2] << 8 | packet[3]);
     fflush(stdout);
 }
 
 static void keep_versions(int bus, const char *key, char **steps)
 {
-    uint8_t apdu[16];
     connect_with(bus, key);
     for (; *steps != NULL; steps++)
         keep(bus, *steps);
-    exchange(bus, BUS_DISCONNECT, 0, apdu);
+    control(bus, T_DISCONNECT);
 }
 
 int main(int count, char **words)
@@ -155,6 +188,7 @@ int main(int count, char **words)
     if (!reads && !versions && (count < 5 || strcmp(words[2], "write") != 0))
         end(TROUBLE, "usage: height SOCKET read, height SOCKET write KEY HEIGHT .., or height SOCKET versions KEY WORD ..");
     signal(SIGPIPE, SIG_IGN);
+    own = (uint16_t)(0x2000 | (getpid() & 0x1FFF));
     int bus = bus_socket(words[1], &at);
     if (bus < 0 || connect(bus, (struct sockaddr *)&at, sizeof at) != 0)
         end(TROUBLE, "there is no such bus");

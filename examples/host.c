@@ -1,8 +1,8 @@
 /*
  * A small host: one device whose sheet is kept in a file, and beside it in SHEET.store the versions of its settings, on the
- * bus of bus.h, for two partners at a time. A partner's place is the number of its connection; a third waits until a place
- * is free. Versions are saved and removed for a partner at level 0 or 1, which is this host's rule; restoring needs level 0,
- * which is the library's.
+ * bus of bus.h. What a frame is, who has which connection and who is turned away is the library's to say (kelindap_link.h);
+ * what is here is transport: sequence numbers, acknowledgements, disconnects. Versions are saved and removed for a partner at
+ * level 0 or 1, which is this host's rule; restoring needs level 0, which is the library's.
  *
  *   host SHEET SOCKET
  *
@@ -11,11 +11,13 @@
  *
  * It may be killed at any moment, or lose its power: each file holds the sheet, or the store, before a change or after it,
  * whole, and what was answered is in it. For that what was changed is written to a new file beside the old one, brought to
- * the disk, and renamed over it, before the answer is sent. tests/examples.sh kills it to see.
+ * the disk, and renamed over it, before the answer is sent. tests/examples.sh kills it to see. Whether anything was changed the
+ * calls tell: no copy is kept to compare with.
  */
 #define _POSIX_C_SOURCE 200809L
 #include "bus.h"
-#include "kelindap.h"
+#include "kelindap_frame.h"
+#include "kelindap_link.h"
 #include "kelindap_store.h"
 
 #include <errno.h>
@@ -25,7 +27,7 @@
 #include <stdio.h>
 #include <stdlib.h>
 
-enum { MOST_NAME = 4096, MOST_BYTES = KELINDAP_STORE_MOST, NEW_STORE = 4096, NOBODY = -1 };
+enum { MOST_NAME = 4096, MOST_BYTES = KELINDAP_STORE_MOST, NEW_STORE = 4096, MOST_LINES = 8, NOBODY = -1 };
 
 /* What is kept in a file: the sheet, or the store. */
 typedef struct kept {
@@ -33,15 +35,29 @@ typedef struct kept {
     char fresh_file[MOST_NAME]; /* where it is written first once it has changed */
     char folder[MOST_NAME];     /* of both */
     uint8_t bytes[MOST_BYTES + 1];
-    uint8_t saved[MOST_BYTES]; /* as the file has it */
     size_t length;
 } kept;
 
+/* A line: its socket, or NOBODY, and the address that speaks on it. */
+typedef struct line {
+    int socket;
+    bool speaks;
+    uint16_t address;
+} line;
+
+/* The sequence numbers that are next on a connection: of its partner, and of the device. */
+typedef struct transport {
+    uint8_t in, out;
+} transport;
+
 typedef struct host {
     kept sheet, store;
-    kelindap_sessions sessions;
-    int partner[KELINDAP_CONNECTIONS]; /* the socket of each, or NOBODY */
+    kelindap_link link;
+    transport transport[KELINDAP_CONNECTIONS];
+    line lines[MOST_LINES];
 } host;
+
+static void hang_up(host *h, int i);
 
 static _Noreturn void give_up(const char *what, const char *name)
 {
@@ -87,7 +103,8 @@ static void settle(int fd, const char *name)
         give_up("can't be saved", name);
 }
 
-static void write_out(kept *k)
+/* Saves what has changed. A host that can't save stops: what it then starts with is what the file has. */
+static void save(const kept *k)
 {
     int to = open(k->fresh_file, O_WRONLY | O_CREAT | O_TRUNC, 0600); /* the keys are in it, and the settings */
     for (size_t at = 0; at < k->length;) {
@@ -100,22 +117,14 @@ static void write_out(kept *k)
     if (rename(k->fresh_file, k->file) != 0)
         give_up("can't be saved", k->file);
     settle(open(k->folder, O_RDONLY), k->folder);
-    memcpy(k->saved, k->bytes, k->length);
 }
 
 /* Makes an old sheet one of edition 2, in the file too, and says so. */
 static void renew(kept *sheet)
 {
     if (kelindap_convert(sheet->bytes, sheet->length) == KELINDAP_DONE)
-        write_out(sheet);
+        save(sheet);
     fprintf(stderr, "host: %s was of edition 1: it is converted, its first byte is 2 and all else as it was\n", sheet->file);
-}
-
-/* Saves what has changed. A host that can't save stops: what it then starts with is what the file has. */
-static void save(kept *k)
-{
-    if (memcmp(k->bytes, k->saved, k->length) != 0)
-        write_out(k);
 }
 
 static void load_sheet(kept *sheet)
@@ -129,7 +138,6 @@ static void load_sheet(kept *sheet)
         fprintf(stderr, "host: %s breaks S%d: \"sheet check\" tells more\n", sheet->file, rule);
         exit(EXIT_FAILURE);
     }
-    memcpy(sheet->saved, sheet->bytes, sheet->length);
 }
 
 /* The store, or an empty one at the first start. */
@@ -137,109 +145,158 @@ static void load_store(kept *store)
 {
     if (!load(store)) {
         store->length = NEW_STORE; /* and zeroed */
-        write_out(store);
+        save(store);
     }
     if (kelindap_store_check(store->bytes, store->length) != 0) {
         fprintf(stderr, "host: %s is no good store: \"sheet versions\" tells more\n", store->file);
         exit(EXIT_FAILURE);
     }
-    memcpy(store->saved, store->bytes, store->length);
 }
 
 /* ---- the bus ---- */
 
-/* A version saved, restored or removed: outcome and number into `answer`. */
-static size_t handle_version(host *h, uint8_t connection, uint8_t what, uint16_t number, uint8_t answer[16])
+/* Sends a frame on the line on which an address speaks, if there is one. It doesn't wait for who reads nothing: such a one is
+   dropped, and the others go on. */
+static void send_to(host *h, uint16_t address, const uint8_t *frame, size_t length)
 {
-    kept *sheet = &h->sheet, *store = &h->store;
-    kelindap_session own = h->sessions.of[connection];
-    kelindap_saved saved = { KELINDAP_DENIED, 0 };
-    if (what == BUS_RESTORE) {
-        saved.outcome = kelindap_restore(h->sessions, connection, sheet->bytes, sheet->length, store->bytes, store->length, number);
-        saved.number = number;
-    } else if (own.open && own.level <= 1 && what == BUS_SAVE) {
-        saved = kelindap_save(sheet->bytes, sheet->length, store->bytes, store->length);
-    } else if (own.open && own.level <= 1) {
-        saved.outcome = kelindap_remove(store->bytes, store->length, number);
-        saved.number = number;
-    }
-    answer[0] = saved.outcome;
-    answer[1] = (uint8_t)(saved.number >> 8);
-    answer[2] = (uint8_t)saved.number;
-    return 3;
+    for (int i = 0; i < MOST_LINES; i++)
+        if (h->lines[i].socket != NOBODY && h->lines[i].speaks && h->lines[i].address == address) {
+            if (send(h->lines[i].socket, frame, length, MSG_DONTWAIT) < 0)
+                hang_up(h, i);
+            return;
+        }
 }
 
-/* Handles a packet of the partner on a connection and puts the answer into `answer`; the count of its bytes. */
-static size_t handle(host *h, uint8_t connection, const uint8_t *packet, size_t length, uint8_t answer[16])
+/* Sends an octet of transport's own: an acknowledgement, a disconnect. */
+static void send_control(host *h, uint16_t address, uint8_t octet)
 {
-    uint16_t group = (uint16_t)(packet[1] << 8 | packet[2]);
-    size_t count = 0;
-    if (packet[0] == BUS_CONNECT)
-        kelindap_connect(&h->sessions, connection);
-    else if (packet[0] == BUS_DISCONNECT)
-        kelindap_disconnect(&h->sessions, connection);
-    else if (packet[0] == BUS_SAVE || packet[0] == BUS_RESTORE || packet[0] == BUS_REMOVE)
-        count = handle_version(h, connection, packet[0], group, answer);
-    else
-        count = kelindap_request(&h->sessions, packet[0], connection, group, packet + BUS_FRONT, length - BUS_FRONT,
-                                 h->sheet.bytes, h->sheet.length, answer, 16).count;
-    save(&h->sheet);
-    save(&h->store);
-    return count;
+    uint8_t own[2] = { h->sheet.bytes[16], h->sheet.bytes[17] };
+    uint8_t frame[10] = { 0x11, 0, 0xB0, 0x60, own[0], own[1], (uint8_t)(address >> 8), (uint8_t)address, 0, octet };
+    send_to(h, address, frame, sizeof frame);
 }
 
-/* A partner has gone, or is dropped. */
-static void drop(host *h, uint8_t connection)
-{
-    kelindap_disconnect(&h->sessions, connection);
-    close(h->partner[connection]);
-    h->partner[connection] = NOBODY;
-}
-
-/* Drops every partner whose session a request has closed: that was a Restart, its own or another's. */
-static void drop_restarted(host *h, kelindap_sessions before)
+/* The connection of which an address is the partner. */
+static uint8_t connection_of(const host *h, uint16_t address)
 {
     for (uint8_t c = 0; c < KELINDAP_CONNECTIONS; c++)
-        if (before.of[c].open && !h->sessions.of[c].open)
-            drop(h, c);
+        if (h->link.sessions.of[c].open && h->link.address[c] == address)
+            return c;
+    return KELINDAP_LINK_NOBODY;
 }
 
-/* Serves a partner that has sent a packet, or has gone. */
-static void serve(host *h, uint8_t connection)
+/* A line that is gone, or is dropped: whoever spoke on it is disconnected. */
+static void hang_up(host *h, int i)
 {
-    uint8_t packet[BUS_PACKET], answer[1 + 16] = { 0 };
-    ssize_t length = recv(h->partner[connection], packet, sizeof packet, 0);
-    if (length < BUS_FRONT) {
-        drop(h, connection);
-        return;
+    uint8_t c = h->lines[i].speaks ? connection_of(h, h->lines[i].address) : KELINDAP_LINK_NOBODY;
+    if (c != KELINDAP_LINK_NOBODY)
+        kelindap_disconnect(&h->link.sessions, c);
+    close(h->lines[i].socket);
+    h->lines[i] = (line){ .socket = NOBODY };
+}
+
+/* A version saved, restored or removed for whoever speaks on the line: outcome and number go back. */
+static void take_version(host *h, int i, const uint8_t packet[BUS_VERSION])
+{
+    kept *sheet = &h->sheet, *store = &h->store;
+    uint16_t number = (uint16_t)(packet[2] << 8 | packet[3]);
+    uint8_t c = h->lines[i].speaks ? connection_of(h, h->lines[i].address) : KELINDAP_LINK_NOBODY;
+    bool may = c != KELINDAP_LINK_NOBODY && h->link.sessions.of[c].level <= 1;
+    kelindap_saved saved = { KELINDAP_DENIED, 0 };
+    if (packet[0] == BUS_RESTORE) {
+        saved = (kelindap_saved){ kelindap_restore(h->link.sessions, c, sheet->bytes, sheet->length, store->bytes,
+                                                   store->length, number), number };
+        if (saved.outcome == KELINDAP_DONE)
+            save(sheet);
+    } else if (may && packet[0] == BUS_SAVE) {
+        saved = kelindap_save(sheet->bytes, sheet->length, store->bytes, store->length);
+        if (saved.outcome == KELINDAP_OK)
+            save(store);
+    } else if (may) {
+        saved = (kelindap_saved){ kelindap_remove(store->bytes, store->length, number), number };
+        if (saved.outcome == KELINDAP_DONE)
+            save(store);
     }
-    kelindap_sessions before = h->sessions;
-    size_t count = handle(h, connection, packet, (size_t)length, answer + 1);
-    /* it doesn't wait for a partner that reads nothing: such a one is dropped, and the other goes on */
-    if (send(h->partner[connection], answer, 1 + count, MSG_DONTWAIT) < 0)
-        drop(h, connection);
-    else if (packet[0] != BUS_DISCONNECT)
-        drop_restarted(h, before);
+    uint8_t answer[BUS_VERSION] = { saved.outcome, 0, (uint8_t)(saved.number >> 8), (uint8_t)saved.number };
+    if (send(h->lines[i].socket, answer, sizeof answer, MSG_DONTWAIT) < 0)
+        hang_up(h, i);
+}
+
+/*
+ * Connected data by its sequence number: true if it is the next one. It is acknowledged, and so is the one before, whose
+ * acknowledgement was lost; that one is not carried out again.
+ */
+static bool in_turn(host *h, kelindap_arrival a, uint8_t octet)
+{
+    uint8_t got = octet >> 2 & 15, *next = &h->transport[a.connection].in;
+    bool new = got == *next;
+    if (new || got == ((*next + 15) & 15))
+        send_control(h, h->link.address[a.connection], (uint8_t)(T_ACK | got << 2));
+    *next = (uint8_t)((*next + new) & 15);
+    return new;
+}
+
+/* A frame from the bus. */
+static void take_frame(host *h, const uint8_t *frame, size_t length)
+{
+    kelindap_arrival a = kelindap_heard(h->link, h->sheet.bytes, h->sheet.length, frame, length);
+    if (a.event == KELINDAP_EVENT_CONNECTED && !in_turn(h, a, frame[9 + frame[1]]))
+        return;
+    bool placed = a.connection != KELINDAP_LINK_NOBODY;
+    kelindap_sessions before = h->link.sessions;
+    uint8_t answer[KELINDAP_LINK_ROOM], *out = placed ? &h->transport[a.connection].out : NULL;
+    kelindap_served s = kelindap_serve(&h->link, placed ? *out : 0, frame, length, h->sheet.bytes, h->sheet.length, answer,
+                                       sizeof answer);
+    if (s.changed[0].length != 0 || s.changed[1].length != 0)
+        save(&h->sheet);
+    if (a.event == KELINDAP_EVENT_CONNECT)
+        h->transport[a.connection] = (transport){ 0, 0 };
+    if (s.count > 0)
+        send_to(h, (uint16_t)(frame[4 + frame[1]] << 8 | frame[5 + frame[1]]), answer, s.count);
+    if (s.count > 0 && placed)
+        *out = (uint8_t)((*out + 1) & 15);
+    if (s.number == KELINDAP_LINK_STRANGER || s.number == KELINDAP_LINK_NO_PLACE)
+        send_control(h, (uint16_t)(frame[4 + frame[1]] << 8 | frame[5 + frame[1]]), T_DISCONNECT);
+    for (uint8_t c = 0; c < KELINDAP_CONNECTIONS; c++) /* whom a Restart has cut off */
+        if (before.of[c].open && !h->link.sessions.of[c].open && a.event != KELINDAP_EVENT_DISCONNECT)
+            send_control(h, h->link.address[c], T_DISCONNECT);
+}
+
+/* A packet on a line, or its end. A line speaks under the first address that it sends, and under no other. */
+static void take(host *h, int i)
+{
+    uint8_t packet[BUS_PACKET];
+    ssize_t length = recv(h->lines[i].socket, packet, sizeof packet, 0);
+    if (length <= 0)
+        hang_up(h, i);
+    else if (length == BUS_VERSION && packet[0] <= BUS_REMOVE)
+        take_version(h, i, packet);
+    else if (length >= 10 && length >= 10 + packet[1]) {
+        uint16_t source = (uint16_t)(packet[4 + packet[1]] << 8 | packet[5 + packet[1]]);
+        if (!h->lines[i].speaks)
+            h->lines[i].speaks = true, h->lines[i].address = source;
+        if (h->lines[i].address == source)
+            take_frame(h, packet, (size_t)length);
+    }
 }
 
 /* Waits until somebody wants something, and sees to it. */
 static void wait_and_serve(host *h, int bus, const char *name)
 {
-    struct pollfd at[KELINDAP_CONNECTIONS + 1];
-    int place = NOBODY; /* one that is free */
-    for (int c = 0; c < KELINDAP_CONNECTIONS; c++) {
-        at[c] = (struct pollfd){ .fd = h->partner[c], .events = POLLIN }; /* nobody is passed over */
-        place = h->partner[c] == NOBODY ? c : place;
+    struct pollfd at[MOST_LINES + 1];
+    int free_line = NOBODY;
+    for (int i = 0; i < MOST_LINES; i++) {
+        at[i] = (struct pollfd){ .fd = h->lines[i].socket, .events = POLLIN }; /* nobody is passed over */
+        free_line = h->lines[i].socket == NOBODY ? i : free_line;
     }
-    at[KELINDAP_CONNECTIONS] = (struct pollfd){ .fd = place == NOBODY ? NOBODY : bus, .events = POLLIN };
-    if (poll(at, KELINDAP_CONNECTIONS + 1, -1) < 0)
+    at[MOST_LINES] = (struct pollfd){ .fd = free_line == NOBODY ? NOBODY : bus, .events = POLLIN };
+    if (poll(at, MOST_LINES + 1, -1) < 0)
         give_up("is no bus any more", name);
-    for (uint8_t c = 0; c < KELINDAP_CONNECTIONS; c++)
-        if (at[c].revents != 0 && h->partner[c] != NOBODY) /* the one before may have restarted the device */
-            serve(h, c);
-    if (at[KELINDAP_CONNECTIONS].revents != 0) {
-        h->partner[place] = accept(bus, NULL, NULL);
-        if (h->partner[place] < 0)
+    for (int i = 0; i < MOST_LINES; i++)
+        if (at[i].revents != 0 && h->lines[i].socket != NOBODY) /* one before may have been the end of it */
+            take(h, i);
+    if (at[MOST_LINES].revents != 0) {
+        h->lines[free_line].socket = accept(bus, NULL, NULL);
+        if (h->lines[free_line].socket < 0)
             give_up("is no bus any more", name);
     }
 }
@@ -257,11 +314,13 @@ int main(int count, char **words)
     name_files(&h.store, words[1], ".store");
     load_sheet(&h.sheet);
     load_store(&h.store);
-    h.sessions = kelindap_fresh();
-    for (int c = 0; c < KELINDAP_CONNECTIONS; c++)
-        h.partner[c] = NOBODY;
-    kelindap_button(h.sheet.bytes, h.sheet.length, false); /* programming mode is not to survive a start */
-    save(&h.sheet);
+    h.link.sessions = kelindap_fresh();
+    for (int i = 0; i < MOST_LINES; i++)
+        h.lines[i].socket = NOBODY;
+    if (h.sheet.bytes[14] % 2 == 1) { /* programming mode is not to survive a start */
+        kelindap_button(h.sheet.bytes, h.sheet.length, false);
+        save(&h.sheet);
+    }
 
     int bus = bus_socket(words[2], &at);
     unlink(words[2]); /* of a host that was killed */

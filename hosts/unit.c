@@ -4,6 +4,7 @@
  */
 #include "kelindap.h"
 #include "kelindap_frame.h"
+#include "kelindap_link.h"
 #include "kelindap_names.h"
 #include "kelindap_pdu.h"
 #include "kelindap_plain.h"
@@ -26,7 +27,7 @@ typedef struct device {
     run store;
     run trace;
     size_t played; /* events of the trace */
-    kelindap_sessions sessions;
+    kelindap_link link;
     bool plain; /* the plain engine serves requests */
 } device;
 
@@ -213,7 +214,7 @@ static void put_event(const device *d, kelindap_reply reply, const uint8_t *buff
 {
     printf("%d ", reply.outcome);
     for (size_t c = 0; c < KELINDAP_CONNECTIONS; c++)
-        printf("%d %d ", d->sessions.of[c].open, d->sessions.of[c].level);
+        printf("%d %d ", d->link.sessions.of[c].open, d->link.sessions.of[c].level);
     printf("%d ", reply.count);
     put_bytes(buffer, length);
     put_rest(d->sheet);
@@ -251,8 +252,8 @@ static bool do_session(device *d, char **words, size_t count)
     if (!take_up_to("C", words[0], KELINDAP_CONNECTIONS - 1, &c) || !take_up_to("OPEN", words[1], 1, &open) ||
         !take_up_to("LEVEL", words[2], 255, &level))
         return false;
-    d->sessions.of[c] = (kelindap_session){ open != 0, (uint8_t)level };
-    printf("session %d %d %d\n", (int)c, d->sessions.of[c].open, d->sessions.of[c].level);
+    d->link.sessions.of[c] = (kelindap_session){ open != 0, (uint8_t)level };
+    printf("session %d %d %d\n", (int)c, d->link.sessions.of[c].open, d->link.sessions.of[c].level);
     return true;
 }
 
@@ -272,7 +273,7 @@ static bool do_connect(device *d, char **words, size_t count)
     (void)count;
     if (!take_connection(words[0], &c))
         return false;
-    put_event(d, (kelindap_reply){ .outcome = kelindap_connect(&d->sessions, c) }, NULL, 0);
+    put_event(d, (kelindap_reply){ .outcome = kelindap_connect(&d->link.sessions, c) }, NULL, 0);
     return true;
 }
 
@@ -282,7 +283,7 @@ static bool do_disconnect(device *d, char **words, size_t count)
     (void)count;
     if (!take_connection(words[0], &c))
         return false;
-    put_event(d, (kelindap_reply){ .outcome = kelindap_disconnect(&d->sessions, c) }, NULL, 0);
+    put_event(d, (kelindap_reply){ .outcome = kelindap_disconnect(&d->link.sessions, c) }, NULL, 0);
     return true;
 }
 
@@ -300,9 +301,9 @@ static bool do_button(device *d, char **words, size_t count)
 static kelindap_reply served(device *d, uint8_t mode, uint8_t c, uint16_t group, run apdu, run answer)
 {
     if (!d->plain)
-        return kelindap_request(&d->sessions, mode, c, group, apdu.bytes, apdu.length, d->sheet.bytes, d->sheet.length,
+        return kelindap_request(&d->link.sessions, mode, c, group, apdu.bytes, apdu.length, d->sheet.bytes, d->sheet.length,
                                 answer.bytes, answer.length);
-    kelindap_plain_reply reply = kelindap_plain_request(&d->sessions, mode, c, group, apdu.bytes, apdu.length, d->sheet.bytes,
+    kelindap_plain_reply reply = kelindap_plain_request(&d->link.sessions, mode, c, group, apdu.bytes, apdu.length, d->sheet.bytes,
                                                         d->sheet.length, answer.bytes, answer.length);
     return (kelindap_reply){ .outcome = reply.outcome, .count = reply.count };
 }
@@ -778,6 +779,10 @@ static bool do_point(device *d, char **words, size_t count)
     return words[0][0] == 'r' ? point_read((uint8_t)type, words[2]) : point_write((uint8_t)type, words[2]);
 }
 
+/* ---- links ---- */
+
+#include "unit_link.h"
+
 /* ---- frames ---- */
 
 #include "unit_frames.h"
@@ -812,6 +817,9 @@ static const struct command {
     { "remove", "remove NUMBER", 1, 1, do_remove },
     { "trace", "trace HEX", 1, 1, do_trace },
     { "play", "play LIMIT", 1, 1, do_play },
+    { "link", "link", 0, 0, do_link },
+    { "heard", "heard FRAMEHEX", 1, 1, do_heard },
+    { "serve", "serve SEQUENCE FRAMEHEX BUFHEX", 3, 3, do_serve },
     { "lookup", lookups, 2, 3, do_lookup },
     { "read", "read APDUHEX", 1, 1, do_read },
     { "write", "write KIND field=value .. BUFHEX", 2, MOST_WORDS - 1, do_write },
@@ -881,7 +889,7 @@ int main(int argc, char **argv)
 {
     if (argc > 1)
         return tell(argc - 1, argv + 1);
-    device d = { .sessions = kelindap_fresh() };
+    device d = { .link.sessions = kelindap_fresh() };
     line l = { 0 };
     set_run(&d.sheet, (run){ sample_sheet, sizeof sample_sheet });
     while (next_line(&l)) {

@@ -46,7 +46,7 @@ static bool do_restore(device *d, char **words, size_t count)
     (void)count;
     if (!take_connection(words[0], &c) || !take_version(words[1], &version))
         return false;
-    printf("%d", kelindap_restore(d->sessions, c, d->sheet.bytes, d->sheet.length, d->store.bytes, d->store.length, version));
+    printf("%d", kelindap_restore(d->link.sessions, c, d->sheet.bytes, d->sheet.length, d->store.bytes, d->store.length, version));
     put_rest(d->sheet);
     return true;
 }

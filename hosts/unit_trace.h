@@ -33,7 +33,7 @@ static bool do_play(device *d, char **words, size_t count)
     (void)count;
     if (!take_up_to("LIMIT", words[0], 65535, &limit))
         return false;
-    kelindap_played p = kelindap_play(&d->sessions, d->sheet.bytes, d->sheet.length, d->trace.bytes, d->trace.length, d->played,
+    kelindap_played p = kelindap_play(&d->link.sessions, d->sheet.bytes, d->sheet.length, d->trace.bytes, d->trace.length, d->played,
                                       (size_t)limit, log, sizeof log);
     if (p.refusal != 0) {
         printf("%d\n", p.refusal);
@@ -44,7 +44,7 @@ static bool do_play(device *d, char **words, size_t count)
     for (size_t i = 0; i < p.handled; i++)
         put_log_line(log + i * KELINDAP_LOG_LINE);
     for (size_t c = 0; c < KELINDAP_CONNECTIONS; c++)
-        printf(" %d %d", d->sessions.of[c].open, d->sessions.of[c].level);
+        printf(" %d %d", d->link.sessions.of[c].open, d->link.sessions.of[c].level);
     put_rest(d->sheet);
     return true;
 }

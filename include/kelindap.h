@@ -2,7 +2,7 @@
  * The device side of the KNX application layer, for one device.
  *
  * Link with libkelindap_device.a. kelindap_unit.h has the same calls with sheet and sessions in one record, and arguments
- * that can't be exchanged. Today it needs memset from outside and nothing else. A freestanding host should provide
+ * that can't be exchanged. Today it needs memcpy and memset from outside and nothing else. A freestanding host should provide
  * memcpy, memset, memmove and memcmp: compiled code may call any of the four (tests/c/bare.c has them). For which processors
  * there are archives README says; nothing here depends on one.
  *
@@ -30,7 +30,8 @@
  *    hold both connections;
  *  - the mode says how the frame came. The library sees no address of the frame but the group address: in modes 2 and 3 the
  *    host hands over only what is sent to this device, in mode 3 only what comes from the partner that has the number. In the
- *    other modes the number is not read;
+ *    other modes the number is not read. A host that has the frames themselves leaves numbers, addresses and modes to the calls
+ *    of kelindap_link.h, which keep these duties, proved;
  *  - when a connection opens or ends, transport's time limits included, the host calls connect or disconnect with its number;
  *  - a Restart closes both sessions, on whichever connection it came. The host sees it by the sessions: one that was open
  *    before a call of kelindap_request and is closed after it was closed by a Restart, and by nothing else. Each connection
@@ -39,12 +40,12 @@
  *    device: such a sheet lets every sender end both connections. There it shows as outcome 1, which no other request gets in
  *    mode 2, also if no session was open. After that the host restarts what it wants;
  *  - calls on one sheet come one after the other, never from two threads at once;
- *  - saving. The sheet is all that has to survive a power cut; the sessions do not survive one: they begin fresh. A request
- *    tells which parts of the sheet it stored; a button that gives 1 stored byte 14, a restore that gives 1 counts and bodies
- *    of properties (kelindap_store.h), and no other call changes the sheet but kelindap_convert and playing
- *    (kelindap_trace.h). So a host needs no second copy in memory to know whether to save. It saves after such a call and
- *    before it sends the answer, so that what was answered is kept, or at times of its own if the loss of the last writes is
- *    acceptable;
+ *  - saving. The sheet is all that has to survive a power cut; the sessions do not survive one: they begin fresh. A request,
+ *    and a frame that is served (kelindap_link.h), tells which parts of the sheet it stored; a button that gives 1 stored byte
+ *    14, a restore that gives 1 counts and bodies of properties (kelindap_store.h), and no other call changes the sheet but
+ *    kelindap_convert and playing (kelindap_trace.h). So a host needs no second copy in memory to know whether to save. It
+ *    saves after such a call and before it sends the answer, so that what was answered is kept, or at times of its own if the
+ *    loss of the last writes is acceptable;
  *  - a power cut during a call leaves a sheet in memory that may hold a part of a write, and no promise speaks of it: so what
  *    the host starts from is the saved copy, and never memory that lay open to a call. A save must leave the old copy or the
  *    new one, whole: two places with a mark of the newer, or a new file renamed over the old one (examples/host.c). At start

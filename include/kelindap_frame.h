@@ -41,7 +41,8 @@ enum kelindap_message {
  *  - CONNECT, DISCONNECT: to an individual address, the single octet 80h or 81h.
  *  - ACKNOWLEDGED: to an individual address, a single octet with transport 48 to 63 and low bits 10 or 11.
  *  - OTHER: anything else.
- * Sequence numbers, source and destination are not judged: whether a frame is meant for this device is the host's to ask.
+ * Sequence numbers, source and destination are not judged: whether a frame is meant for this device, and from its partner, the
+ * calls of kelindap_link.h say.
  */
 enum kelindap_event {
     KELINDAP_EVENT_MULTICAST = 0,

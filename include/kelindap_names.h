@@ -7,6 +7,7 @@
 
 #include "kelindap_common.h"
 #include "kelindap_frame.h"
+#include "kelindap_link.h"
 #include "kelindap_pdu.h"
 #include "kelindap_store.h"
 #include "kelindap_trace.h"
@@ -69,6 +70,14 @@
     X(70, TRACE_MARKS, "marks of another length")               \
     X(71, TRACE_NUMBERS, "the numbers of events run out")
 
+/* Each number of why a frame is no event for this device, with its name in enum kelindap_link_outcome. */
+#define KELINDAP_LINK_OUTCOMES(X)                                 \
+    X(60, LINK_FOR_ANOTHER, "for another device")                 \
+    X(61, LINK_STRANGER, "connected data from nobody's partner")  \
+    X(62, LINK_NO_PLACE, "no place for a third partner")          \
+    X(63, LINK_NO_PARTNER, "a disconnect from nobody's partner")  \
+    X(64, LINK_NO_ROOM, "no room for the longest answer")
+
 /* Each rule of a sheet by number, with its name in enum kelindap_rule and what breaks it; 0 and 14 have their words below. */
 #define KELINDAP_RULES(X)                                                  \
     X(1, S1, "not 32 to 16,384 bytes")                                     \
@@ -122,6 +131,7 @@ static inline const char *kelindap_outcome_name(uint8_t outcome)
         KELINDAP_OUTCOMES(KELINDAP_CASE)
         KELINDAP_STORE_OUTCOMES(KELINDAP_CASE)
         KELINDAP_TRACE_REFUSALS(KELINDAP_CASE)
+        KELINDAP_LINK_OUTCOMES(KELINDAP_CASE)
     default:
         return "no outcome";
     }

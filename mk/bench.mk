@@ -8,4 +8,5 @@ bench: build/libkelindap_device.a build/libkelindap_pdu.a build/libkelindap_plai
 	$(CARGO_BIN)/bench
 	$(CARGO_BIN)/point_times
 	$(CARGO_BIN)/trace_times
+	$(CARGO_BIN)/link_times
 	$(CARGO_BIN)/engine_times

@@ -9,7 +9,7 @@ else
 SANITIZE ?= -fsanitize=undefined -fsanitize-undefined-trap-on-error
 endif
 # the headers of each library
-DEVICE_H := include/kelindap.h include/kelindap_store.h include/kelindap_trace.h
+DEVICE_H := include/kelindap.h include/kelindap_store.h include/kelindap_trace.h include/kelindap_link.h
 TOOL_H := include/kelindap_pdu.h include/kelindap_frame.h
 # leaks are no matter here: the libraries have no heap, and looking for them takes long
 WATCHED := ASAN_OPTIONS=detect_leaks=0
@@ -36,7 +36,7 @@ test-text: $(HOST_A) $(TOOL_A)
 	tests/same.sh
 
 # the tests in C, each over lent buffers
-IN_C := $(addprefix $(BUILD)/,tool_test point_test host_test store_test trace_test)
+IN_C := $(addprefix $(BUILD)/,tool_test point_test host_test store_test trace_test link_test)
 test-c: $(BUILD)/layout $(BUILD)/stack $(IN_C)
 	$(WATCHED) $(BUILD)/layout
 	$(BUILD)/stack

@@ -1,5 +1,6 @@
 /* The calls of the device's headers over those of the proved module, a line each; passing.h says what a line becomes. */
 #include "kelindap.h"
+#include "kelindap_link.h"
 #include "kelindap_store.h"
 #include "kelindap_trace.h"
 #include "passing.h"
@@ -7,6 +8,8 @@
 _Static_assert(sizeof(kelindap_session) == 2 && offsetof(kelindap_session, level) == 1 && sizeof(kelindap_sessions) == 4,
                "as the module has it");
 _Static_assert(sizeof(kelindap_saved) == 4 && offsetof(kelindap_saved, number) == 2, "as the module has it");
+_Static_assert(sizeof(kelindap_link) == 8 && offsetof(kelindap_link, address) == 4, "as the module has it");
+_Static_assert(sizeof(kelindap_arrival) == 4 && offsetof(kelindap_arrival, group) == 2, "as the module has it");
 _Static_assert(sizeof(kelindap_played) == 4 && offsetof(kelindap_played, handled) == 2, "as the module has it");
 
 /* the sessions by value: their four bytes as one number, the first the lowest */
@@ -15,12 +18,19 @@ _Static_assert(sizeof(kelindap_played) == 4 && offsetof(kelindap_played, handled
 #define GIVEN_SESSIONS(name) \
     (word)name.of[0].open | (word)name.of[0].level << 8 | (word)name.of[1].open << 16 | (word)name.of[1].level << 24
 
-typedef word raw_kelindap_sessions, raw_kelindap_saved, raw_kelindap_played;
+/* a link by value: its eight bytes as one number, the first the lowest */
+#define HEADER_LINK(name) kelindap_link name
+#define MODULE_LINK(name) uint64_t
+#define GIVEN_LINK(name) \
+    (uint64_t)(GIVEN_SESSIONS(name.sessions)) | (uint64_t)name.address[0] << 32 | (uint64_t)name.address[1] << 48
+
+typedef word raw_kelindap_sessions, raw_kelindap_saved, raw_kelindap_played, raw_kelindap_arrival;
 static kelindap_sessions made_kelindap_sessions(word r)
 {
     return (kelindap_sessions){ { { low(r), high(r) }, { low(r >> 16), high(r >> 16) } } };
 }
 static kelindap_saved made_kelindap_saved(word r) { return (kelindap_saved){ low(r), (uint16_t)(r >> 16) }; }
+static kelindap_arrival made_kelindap_arrival(word r) { return (kelindap_arrival){ low(r), high(r), (uint16_t)(r >> 16) }; }
 static kelindap_played made_kelindap_played(word r) { return (kelindap_played){ low(r), (uint16_t)(r >> 16) }; }
 
 /* Two numbers of 64 bits. Each is at most 16,384, the longest sheet, so its lower half is all of it. */
@@ -30,7 +40,7 @@ static kelindap_part made_kelindap_part(quad q) { return (kelindap_part){ QUAD(q
 /* offset and length of the one part that was stored and of the other */
 #define PARTS(p) { { (size_t)p[0], (size_t)p[1] }, { (size_t)p[2], (size_t)p[3] } }
 
-/* a reply, flat */
+/* a reply, and what serving a frame gave, flat */
 typedef struct flat_kelindap_reply {
     uint8_t outcome, count;
     uint64_t part[4];
@@ -39,6 +49,16 @@ _Static_assert(sizeof(flat_kelindap_reply) == 40 && offsetof(flat_kelindap_reply
 static kelindap_reply of_flat_kelindap_reply(flat_kelindap_reply from)
 {
     return (kelindap_reply){ from.outcome, from.count, PARTS(from.part) };
+}
+
+typedef struct flat_kelindap_served {
+    uint8_t number, outcome, connection, count;
+    uint64_t part[4];
+} flat_kelindap_served;
+_Static_assert(sizeof(flat_kelindap_served) == 40 && offsetof(flat_kelindap_served, part) == 8, "as the module has it");
+static kelindap_served of_flat_kelindap_served(flat_kelindap_served from)
+{
+    return (kelindap_served){ from.number, from.outcome, from.connection, from.count, PARTS(from.part) };
 }
 
 CALL(number, version, NONE)
@@ -62,3 +82,5 @@ CALL(byte, trace_check, READ(trace))
 CALL(kelindap_played, play, AT(kelindap_sessions, sessions), WRITE(sheet), READ(trace), SIZE(from), SIZE(limit), WRITE(log))
 CALL(kelindap_played, play_marked, AT(kelindap_sessions, sessions), WRITE(sheet), READ(trace), SIZE(from), SIZE(limit), WRITE(log),
      WRITE(before), NUMBERS(marks), NUMBER(uint32_t, played))
+CALL(kelindap_arrival, heard, LINK(link), READ(sheet), READ(frame))
+CALL_LONG(kelindap_served, serve, AT(kelindap_link, link), NUMBER(uint8_t, sequence), READ(frame), WRITE(sheet), WRITE(out))

@@ -2,8 +2,8 @@
 # tests/shims.sh PROCESSOR: a fault planted in a shim is found. The shims are changed at one place at a time, in the text that the
 # compiler sees once a line is expanded: any two arguments of one kind exchanged in a call of the module, any length given a
 # byte short, and what is made of a result changed. With each fault the desk unit, linked for PROCESSOR, plays its scripts and
-# the frames of the vectors until an answer differs or it ends; if none does, the tests in C of store and trace are tried,
-# which have numbers above 255. Without a fault nothing differs.
+# the frames of the vectors until an answer differs or it ends; if none does, the tests in C of store, trace and link are tried,
+# which have numbers above 255 and look at the parts that were stored. Without a fault nothing differs.
 set -euo pipefail
 processor=$1
 cd "$(dirname "$0")/.."
@@ -13,7 +13,7 @@ fail() { echo "shims: $processor: $1"; exit 1; }
 
 # what is played, as NAME.in and NAME.out; the events by the plain engine too
 mkdir "$work/play"
-cp tests/unit/{events,fields,lookups,old,points,ranges,read,tools,traces,user_memory,versions}.{in,out} "$work/play"
+cp tests/unit/{events,fields,links,lookups,old,points,ranges,read,tools,traces,user_memory,versions}.{in,out} "$work/play"
 for script in events user_memory; do
     for end in in out; do { echo "engine plain" && cat "tests/unit/$script.$end"; } > "$work/play/plain_$script.$end"; done
 done
@@ -26,7 +26,7 @@ for name in host tool plain_host; do
 done
 c=(-std=c11 -O2 -Iinclude -Ibuild)
 mk/bin/cc "$processor" -c -o "$work/unit.o" "${c[@]}" hosts/unit.c
-in_c=(store_test trace_test)
+in_c=(store_test trace_test link_test)
 for test in "${in_c[@]}"; do mk/bin/cc "$processor" -c -o "$work/$test.o" "${c[@]}" -DROUNDS=4000 "tests/c/$test.c"; done
 
 # HOST_A TOOL_A PLAIN_A: whether the unit with these answers as it should
@@ -94,6 +94,13 @@ changed host "saved: the number a byte short" '(uint16_t)(r >> 16)' 'low(r >> 16
 changed host "saved: the number for the outcome" '(kelindap_saved){ low(r),' '(kelindap_saved){ low(r >> 16),'
 changed host "played: how many for the refusal" '(kelindap_played){ low(r),' '(kelindap_played){ low(r >> 16),'
 changed host "played: how many, a byte short" '(kelindap_played){ low(r), (uint16_t)(r >> 16)' '(kelindap_played){ low(r), low(r >> 16)'
+changed host "arrival: event and connection exchanged" '(kelindap_arrival){ low(r), high(r),' '(kelindap_arrival){ high(r), low(r),'
+changed host "arrival: the group a byte short" '(kelindap_arrival){ low(r), high(r), (uint16_t)(r >> 16)' '(kelindap_arrival){ low(r), high(r), low(r >> 16)'
+changed host "served: number and outcome exchanged" '(kelindap_served){ from.number, from.outcome,' '(kelindap_served){ from.outcome, from.number,'
+changed host "served: connection and count exchanged" 'from.outcome, from.connection, from.count,' 'from.outcome, from.count, from.connection,'
+changed host "served: a part's length for its offset" 'from.connection, from.count, { { (size_t)from.part[0],' 'from.connection, from.count, { { (size_t)from.part[1],'
+changed host "served: the first part twice" 'from.connection, from.count, { { (size_t)from.part[0], (size_t)from.part[1] }, { (size_t)from.part[2], (size_t)from.part[3] }' 'from.connection, from.count, { { (size_t)from.part[0], (size_t)from.part[1] }, { (size_t)from.part[0], (size_t)from.part[1] }'
+changed host "a link by value: addresses exchanged" '.address[0] << 32 |' '.address[1] << 32 |'
 changed host "sessions by value: levels exchanged" 'of[0].level << 8 |' 'of[1].level << 8 |'
 changed plain_host "plain reply: outcome and count exchanged" '(kelindap_plain_reply){ low(r), high(r) }' '(kelindap_plain_reply){ high(r), low(r) }'
 changed tool "written: outcome and count exchanged" '(kelindap_written){ low(r), high(r) }' '(kelindap_written){ high(r), low(r) }'

@@ -55,6 +55,18 @@ class _Played(Structure):
     _fields_ = [("refusal", c_uint8), ("handled", c_uint16)]
 
 
+class _Link(Structure):
+    _fields_ = [("sessions", _Sessions), ("address", c_uint16 * CONNECTIONS)]
+
+
+class _Arrival(Structure):
+    _fields_ = [("event", c_uint8), ("connection", c_uint8), ("group", c_uint16)]
+
+
+class _Served(Structure):
+    _fields_ = [(name, c_uint8) for name in "number outcome connection count".split()] + [("changed", _Part * 2)]
+
+
 class _Written(Structure):
     _fields_ = [("outcome", c_uint8), ("count", c_uint8)]
 
@@ -106,6 +118,8 @@ _CALLS = {
     "trace_check": (c_uint8, _RUN),
     "play": (_Played, _SESSIONS + 2 * _RUN + [c_size_t, c_size_t] + _RUN),
     "play_marked": (_Played, _SESSIONS + 2 * _RUN + [c_size_t, c_size_t] + 2 * _RUN + [POINTER(c_uint32), c_size_t, c_uint32]),
+    "heard": (_Arrival, [_Link] + 2 * _RUN),
+    "serve": (_Served, [POINTER(_Link), c_uint8] + 3 * _RUN),
     "pdu_version": (c_uint32, []),
     "read": (_Pdu, _RUN),
     "write": (_Written, [_Pdu] + 2 * _RUN),
@@ -364,6 +378,10 @@ def frame_write(info, apdu, **fields):
 
 Reply = namedtuple("Reply", "outcome count changed")
 Saved = namedtuple("Saved", "outcome number")
+Arrival = namedtuple("Arrival", "event connection group")
+Served = namedtuple("Served", "number outcome connection count changed")
+NOBODY = 255  # no connection
+LINK_ROOM = 25  # bytes of the longest frame that answers
 LOG_LINE = 18  # bytes of the log for an event: outcome, count, 16 of the answer
 MOST_EVENTS = 512
 
@@ -373,11 +391,16 @@ def _parts(changed):
 
 
 class Unit:
-    """A device on the desk: its sheet, and the sessions of connections 0 and 1. The host's duties are those of kelindap.h."""
+    """A device on the desk: its sheet, and the sessions of connections 0 and 1 with the address that connected last on each. The
+    host's duties are those of kelindap.h, and for frames those of kelindap_link.h."""
 
     def __init__(self, sheet):
         self.sheet = bytearray(sheet)
-        self._sessions = _call.fresh()
+        self._link = _Link(_call.fresh())
+
+    @property
+    def _sessions(self):
+        return self._link.sessions
 
     @property
     def sessions(self):
@@ -402,6 +425,22 @@ class Unit:
         how = _bits(mode, 8), _bits(connection, 8), _bits(group, 16)
         reply = _call.request(byref(self._sessions), *how, *_lent(apdu), *_lent(self.sheet), *_lent(buffer))
         return Reply(reply.outcome, reply.count, _parts(reply.changed))
+
+    @property
+    def addresses(self):
+        """Of each connection, the address that connected last on it: its partner's, while it is open."""
+        return list(self._link.address)
+
+    def heard(self, frame):
+        """What a frame is to this device, which changes nothing: its event, or why there is none, with connection and group."""
+        arrival = _call.heard(self._link, *_lent(bytes(self.sheet)), *_lent(frame))
+        return Arrival(arrival.event, arrival.connection, arrival.group)
+
+    def serve(self, frame, buffer, sequence=0):
+        """A frame in, at most one frame out, into the buffer, a bytearray; and offset and length of each part stored."""
+        lent = *_lent(bytes(frame)), *_lent(self.sheet), *_lent(buffer)
+        served = _call.serve(byref(self._link), _bits(sequence, 8), *lent)
+        return Served(served.number, served.outcome, served.connection, served.count, _parts(served.changed))
 
     def save(self, store):
         """Keeps the properties as a version in the store, a bytearray: outcome, and the version's number."""

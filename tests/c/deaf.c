@@ -11,18 +11,19 @@
 int main(int count, char **words)
 {
     struct sockaddr_un at;
-    uint8_t packet[BUS_FRONT + 6] = { BUS_CONNECT };
+    uint8_t frame[] = { 0x29, 0, 0xB0, 0x60, 0x11, 0xFE, 0x11, 0x05, 5, 0x03, 0xD5, 0x01, 0x33, 0x10, 0x01 };
+    uint8_t opens[] = { 0x29, 0, 0xB0, 0x60, 0x11, 0xFE, 0x11, 0x05, 0, T_CONNECT };
     int bus = count == 2 ? bus_socket(words[1], &at) : -1;
     signal(SIGPIPE, SIG_IGN);
-    if (bus < 0 || connect(bus, (struct sockaddr *)&at, sizeof at) != 0 || send(bus, packet, BUS_FRONT, 0) < 0)
+    if (bus < 0 || connect(bus, (struct sockaddr *)&at, sizeof at) != 0 || send(bus, opens, sizeof opens, 0) < 0)
         return 2;
-    packet[0] = 3; /* connected: element 1 of property 51 */
-    memcpy(packet + BUS_FRONT, "\x03\xD5\x01\x33\x10\x01", 6);
-    for (int i = 0; i < 100000; i++)
-        if (send(bus, packet, sizeof packet, 0) < 0) {
+    for (int i = 0; i < 100000; i++) {
+        frame[9] = (uint8_t)(0x43 | (i & 15) << 2); /* connected: element 1 of property 51 */
+        if (send(bus, frame, sizeof frame, 0) < 0) {
             puts("dropped");
             return 0;
         }
+    }
     puts("never dropped");
     return 1;
 }

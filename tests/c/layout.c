@@ -5,6 +5,7 @@
  */
 #include "kelindap.h"
 #include "kelindap_frame.h"
+#include "kelindap_link.h"
 #include "kelindap_pdu.h"
 #include "kelindap_store.h"
 #include "kelindap_trace.h"
@@ -60,6 +61,28 @@
     SIZE(kelindap_played, 4) \
     FIELD(kelindap_played, refusal, 1, 0) \
     FIELD(kelindap_played, handled, 2, 2) \
+    SIZE(kelindap_link, 8) \
+    FIELD(kelindap_link, sessions, 4, 0) \
+    FIELD(kelindap_link, address, 4, 4) \
+    FIELD(kelindap_link, address[1], 2, 6) \
+    SIZE(kelindap_arrival, 4) \
+    FIELD(kelindap_arrival, event, 1, 0) \
+    FIELD(kelindap_arrival, connection, 1, 1) \
+    FIELD(kelindap_arrival, group, 2, 2) \
+    SIZE(kelindap_served, 5 * W) \
+    FIELD(kelindap_served, number, 1, 0) \
+    FIELD(kelindap_served, outcome, 1, 1) \
+    FIELD(kelindap_served, connection, 1, 2) \
+    FIELD(kelindap_served, count, 1, 3) \
+    FIELD(kelindap_served, changed, 4 * W, W) \
+    FIELD(kelindap_served, changed[1], 2 * W, 3 * W) \
+    NUMBER(KELINDAP_LINK_ROOM, 25) \
+    NUMBER(KELINDAP_LINK_NOBODY, 255) \
+    NUMBER(KELINDAP_LINK_FOR_ANOTHER, 60) \
+    NUMBER(KELINDAP_LINK_STRANGER, 61) \
+    NUMBER(KELINDAP_LINK_NO_PLACE, 62) \
+    NUMBER(KELINDAP_LINK_NO_PARTNER, 63) \
+    NUMBER(KELINDAP_LINK_NO_ROOM, 64) \
     SIZE(kelindap_written, 2) \
     FIELD(kelindap_written, outcome, 1, 0) \
     FIELD(kelindap_written, count, 1, 1) \

@@ -20,7 +20,8 @@ piece() {
     echo 'static void ask_height(void) {'
     piece 'kelindap_pdu ask = '
     echo '}'
-    echo 'static void take_frame(const uint8_t *frame, size_t length) {'
+    piece 'static kelindap_link partners;'
+    echo 'static void read_frame(const uint8_t *frame, size_t length) {'
     piece 'kelindap_frame f = '
     echo '}'
     echo 'static void set_warm(void) {'
@@ -28,7 +29,7 @@ piece() {
     echo '}'
     cat tests/c/readme_bus.inc
 } > "$work/readme.c"
-[ "$(grep -c 'kelindap_unit_request(&unit, way\|kelindap_write' "$work/readme.c")" = 3 ] || { echo "readme: a piece is missing"; exit 1; }
+[ "$(grep -c 'kelindap_unit_request(&unit, way\|kelindap_write\|kelindap_serve(&partners\|kelindap_frame_read' "$work/readme.c")" = 5 ] || { echo "readme: a piece is missing"; exit 1; }
 
 flags=(-Wall -Wextra -Wpedantic -Werror -Iinclude -I.)
 gcc -std=c11 "${flags[@]}" -c "$work/readme.c" -o "$work/c.o"

@@ -8,6 +8,7 @@
  */
 #include "kelindap.h"
 #include "kelindap_frame.h"
+#include "kelindap_link.h"
 #include "kelindap_pdu.h"
 #include "kelindap_plain.h"
 #include "kelindap_store.h"
@@ -18,7 +19,7 @@
 #include <string.h>
 #include <ucontext.h>
 
-enum { LIMIT = 1280, PLAIN_LIMIT = 1 << 19, ROOM = 1 << 21, PAINT = 0xA5, ROUNDS = 4 };
+enum { LIMIT = 1536, PLAIN_LIMIT = 1 << 19, ROOM = 1 << 21, PAINT = 0xA5, ROUNDS = 4 };
 
 static _Alignas(64) uint8_t stack[ROOM];
 static ucontext_t here, there;
@@ -133,6 +134,32 @@ static void play(void)
     }
 }
 
+/* the same requests as frames from the partner of connection 0, to its device, to a group and to all */
+static void serve(void)
+{
+    static uint8_t frame[9 + sizeof apdu], out[KELINDAP_LINK_ROOM];
+    static kelindap_link link;
+    static const uint8_t to[4][3] = { { 0xE0, 0x08, 0x01 }, { 0xE0, 0x00, 0x00 }, { 0x60, 0x11, 0x05 }, { 0x60, 0x11, 0x05 } };
+    for (unsigned i = 0; i < ROUNDS * 15 * 1024u; i++) {
+        size_t length = next_apdu(i);
+        sheet[30] = (uint8_t)(i / (15 * 1024u) % 2);
+        sheet[16] = 0x11;
+        sheet[17] = 0x05;
+        for (uint8_t mode = 0; mode < 4; mode++) {
+            link.sessions.of[0] = (kelindap_session){.open = true, .level = (uint8_t)(i % 4)};
+            link.address[0] = 0x11FF;
+            memcpy(frame, (uint8_t[]){ 0x29, 0, 0xBC, to[mode][0], 0x11, 0xFF, to[mode][1], to[mode][2] }, 8);
+            frame[8] = (uint8_t)(length - 1);
+            memcpy(frame + 9, apdu, length);
+            frame[9] |= (uint8_t)(mode == 3 ? 0x40 : 0);
+            if (i % 61 == 0)
+                frame[9] = 0x80, frame[8] = 0;
+            kept += kelindap_heard(link, sheet, sizeof sheet, frame, 10u + frame[8]).event;
+            kept += kelindap_serve(&link, 0, frame, 10u + frame[8], sheet, sizeof sheet, out, sizeof out).count;
+        }
+    }
+}
+
 static void read_and_write(void)
 {
     for (unsigned i = 0; i < ROUNDS * 15 * 1024u; i++) {
@@ -224,6 +251,7 @@ int main(void)
         {"kelindap_restore", restore},
         {"kelindap_remove", remove_first},
         {"kelindap_trace_check, _play", play},
+        {"kelindap_heard, _serve", serve},
         {"kelindap_read, _write", read_and_write},
         {"kelindap_point_read, _write", points},
         {"kelindap_frame_read, _write", frames},

@@ -1,7 +1,7 @@
 /*
  * The two libraries behind a pipe, for a driver that can't link them. Commands come on standard input, each is one letter
  * and its operands, and each gets one reply on standard output. Numbers are little endian, of one byte or as many as the
- * digit says; a run (APDU, BUFFER, DATA) is sent as a length of two bytes and its bytes, and a buffer comes back bare.
+ * digit says; a run (APDU, BUFFER, DATA, FRAME) is sent as a length of two bytes and its bytes, and a buffer comes back bare.
  *
  *   s LENGTH4 BYTES                          sets the sheet                   RULE HASH8
  *   x AT4 BYTE                               changes a byte of the sheet      RULE HASH8
@@ -20,6 +20,9 @@
  *   Y LENGTH4 BYTES                          sets the trace                   REFUSAL
  *   y FROM8 LIMIT8 LENGTH4 LOG               plays events of it               REFUSAL HANDLED2 SESSIONS LOG HASH8
  *   m FROM8 LIMIT8 PLAYED4 LENGTH4 LOG       plays with marks, not on boards  REFUSAL HANDLED2 SESSIONS LOG HASH8 MARKHASH8
+ *   l ADDRESS2 ADDRESS2                      sets the partners' addresses     ADDRESS2 ADDRESS2
+ *   h FRAME                                  what a frame is                  EVENT C GROUP2
+ *   z SEQUENCE FRAME BUFFER                  serves one                       NUMBER OUTCOME C COUNT SESSIONS ADDRESS2 ADDRESS2 PARTS BUFFER HASH8
  *   D, E                                     shows the sheet, the store       BYTES
  *   t TIMES4 MODE C GROUP2 APDU BUFFER       so many requests, on a board     INSTRUCTIONS8
  *   T TIMES4                                 so many checks, on a board       INSTRUCTIONS8
@@ -33,6 +36,7 @@
  */
 #define _POSIX_C_SOURCE 200809L
 #include "kelindap.h"
+#include "kelindap_link.h"
 #include "kelindap_store.h"
 #include "kelindap_trace.h"
 
@@ -192,10 +196,11 @@ static uint8_t store_room[GUARD + STORE + GUARD], trace_room[GUARD + TRACE + GUA
 static lent sheet, store, trace;
 static struct {
     uint8_t below[GUARD];
-    kelindap_sessions sessions;
+    kelindap_link link;
     uint8_t above[GUARD];
-} session_room;
-#define sessions (session_room.sessions)
+} link_room;
+#define partners (link_room.link)
+#define sessions (partners.sessions)
 
 /* FNV-1a by words of eight bytes, and each word's upper half brought down, so that no two changes hide each other. */
 static void give_hash_of(lent l)
@@ -224,7 +229,7 @@ static void give_sessions(void)
 {
     /* as they stand in memory: a bool that is neither 0 nor 1 would be seen */
     uint8_t raw[sizeof sessions];
-    guarded((lent){ (uint8_t *)&session_room + GUARD, sizeof sessions });
+    guarded((lent){ (uint8_t *)&link_room + GUARD, sizeof partners });
     memcpy(raw, &sessions, sizeof raw);
     give(raw, sizeof raw);
 }
@@ -342,6 +347,53 @@ static void request(void)
     give_number(reply.count, 1);
     give_sessions();
     give_parts(reply.changed);
+    give(answer.bytes, answer.length);
+    give_hash();
+}
+
+/* ---- frames ---- */
+
+static void give_addresses(void)
+{
+    give_number(partners.address[0], 2);
+    give_number(partners.address[1], 2);
+}
+
+static void set_addresses(void)
+{
+    partners.address[0] = (uint16_t)number(2);
+    partners.address[1] = (uint16_t)number(2);
+    give_addresses();
+}
+
+static void hear(void)
+{
+    lent frame = take_run(apdu_room, RUN, 2);
+    kelindap_arrival a = kelindap_heard(partners, given(sheet), sheet.length, given(frame), frame.length);
+    guarded(frame);
+    give_number(a.event, 1);
+    give_number(a.connection, 1);
+    give_number(a.group, 2);
+}
+
+static void serve(void)
+{
+    uint8_t as_sent[RUN];
+    uint8_t sequence = byte();
+    lent frame = take_run(apdu_room, RUN, 2);
+    lent answer = take_run(answer_room, RUN, 2);
+    memcpy(as_sent, frame.bytes, frame.length);
+    kelindap_served s = kelindap_serve(&partners, sequence, given(frame), frame.length, given(sheet), sheet.length,
+                                       given(answer), answer.length);
+    guarded(frame);
+    guarded(answer);
+    if (memcmp(as_sent, frame.bytes, frame.length) != 0)
+        give_up("the frame was written");
+    const uint8_t four[] = { s.number, s.outcome, s.connection, s.count };
+    give(four, sizeof four);
+    give_sessions();
+    give_addresses();
+    give_parts(s.changed);
     give(answer.bytes, answer.length);
     give_hash();
 }
@@ -643,6 +695,15 @@ static void play(uint8_t command)
     case 'y':
         play_trace();
         break;
+    case 'l':
+        set_addresses();
+        break;
+    case 'h':
+        hear();
+        break;
+    case 'z':
+        serve();
+        break;
     case 'E':
         give(store.bytes, store.length);
         break;
@@ -662,8 +723,9 @@ int main(void)
 #ifndef BOARD
     clear_marks();
 #endif
-    lend((uint8_t *)&session_room, sizeof sessions);
+    lend((uint8_t *)&link_room, sizeof partners);
     sessions = kelindap_fresh();
+    partners.address[0] = partners.address[1] = 0;
     while (in_at < in_end || fill())
         play(in[in_at++]);
     return EXIT_SUCCESS;

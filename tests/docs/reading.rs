@@ -70,6 +70,16 @@ const PARTS: &[Part] = &[
     },
     Part { title: "`isolated`", says: "what one tool sees does not depend on the other", statements: &["isolated"] },
     Part {
+        title: "Frames",
+        says: "whose connection is whose, and what frames from however many senders leave",
+        statements: &["fn host/kelindap_heard", "fn host/kelindap_serve", "link/served-is", "link/frames-keep", "link/keyless-frames", "link/whose", "link/stranger", "link/apart", "link/elsewhere"],
+    },
+    Part {
+        title: "What a frame changed",
+        says: "every byte outside the parts that a served frame names is as found, and what is no request or was refused names none",
+        statements: &["link/served-outside", "link/served-none", "link/served-within"],
+    },
+    Part {
         title: "`unlearned`",
         says: "without the key nobody learns a protected byte",
         statements: &["unlearned", "keyless-blind"],

@@ -147,8 +147,29 @@ class Player:
         outcome, count = kelindap.frame_write_into(buffer, fields.pop("info"), fields.pop("apdu"), **fields)
         return f"{outcome} {count} {to_hex(buffer)}"
 
+    # ---- links ----
+
+    def link(self):
+        return " ".join(map(str, self.unit.addresses))
+
+    def heard(self, frame):
+        event, connection, group = self.unit.heard(from_hex(frame))
+        if event >= len(self.EVENTS):
+            return str(event)
+        more = f" {group}" if event == 0 else "" if connection == kelindap.NOBODY else f" {connection}"
+        return f"0 {self.EVENTS[event]}{more}"
+
+    def serve(self, sequence, frame, buffer):
+        buffer = bytearray(from_hex(buffer))
+        before = bytes(self.unit.sheet)
+        served = self.unit.serve(from_hex(frame), buffer, int(sequence))
+        outcome = "-" if served.number else served.outcome
+        connection = "-" if served.connection == kelindap.NOBODY else served.connection
+        line = f"{served.number} {outcome} {connection} {served.count} {to_hex(buffer)} {self.link()}"
+        return self.told(before, served) or f"{line} {self.sessions()} {to_hex(self.unit.sheet)}"
+
     COMMANDS = "sheet convert session connect disconnect button request lookup read write point frame".split()
-    COMMANDS += "store save restore remove trace play".split()
+    COMMANDS += "store save restore remove trace play link heard serve".split()
 
     def obey(self, line):
         """The answer, or None to a command that is not known here."""

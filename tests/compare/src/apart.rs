@@ -69,8 +69,16 @@ impl Maker {
         let fault = self.fault;
         let (lent, trace) = ((sheet.clone(), store.clone()), Vec::new());
         let marks = vec![0; lent.0.len() + 2];
-        let world =
-            World { told: None, sheet: lent.0, store: lent.1, trace, sessions, marks, fault };
+        let world = World {
+            told: None,
+            sheet: lent.0,
+            store: lent.1,
+            trace,
+            sessions,
+            addresses: [0; 2],
+            marks,
+            fault,
+        };
         let mut worlds = [world.clone(), world];
         let mut tools = Tools::new(&sheet);
         let (steps, replies) = (Vec::new(), [Vec::new(), Vec::new()]);

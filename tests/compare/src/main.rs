@@ -14,7 +14,8 @@
 //! rule of each sheet, outcome, count, both sessions, the whole answer buffer and a
 //! hash of the whole sheet after each event, lookups, PDUs read and written, and of
 //! the calls on a store of versions a hash of the whole store as well; of a trace that
-//! is played in pieces the whole log.
+//! is played in pieces the whole log; of a frame what it is, and of serving it the
+//! addresses of both partners and the whole buffer.
 
 mod apart;
 mod before;
@@ -230,9 +231,10 @@ fn single(bridge: &mut Bridge, before: &World, play: &Play) -> (Vec<u8>, Vec<u8>
     for (c, session) in (0..).zip(before.sessions) {
         Play::Found(c, session).send(&mut wire);
     }
+    Play::Addresses(before.addresses).send(&mut wire);
     play.send(&mut wire);
     bridge.send(wire);
-    let skip = 9 + 9 + 1 + 2 * 4; // the replies to sheet, store, trace and sessions
+    let skip = 9 + 9 + 1 + 2 * 4 + 4; // the replies to sheet, store, trace, sessions and addresses
     let mut got = bridge.receive(skip + expected.len());
     got.drain(..skip.min(got.len()));
     (expected, got, world)
@@ -281,6 +283,7 @@ fn report(program: &str, seed: u64, difference: &Difference) -> usize {
         for (c, session) in (0..).zip(before.sessions) {
             println!("{}", Play::Found(c, session).line(&[]));
         }
+        println!("{}", Play::Addresses(before.addresses).line(&[]));
     }
     if play.on_store() {
         println!("{}", Play::Store(before.store.clone()).line(&[]));
@@ -336,7 +339,7 @@ fn compare(side: Side, events: usize, seed: u64) -> bool {
 fn faults(side: Side, seed: u64) -> bool {
     let mut found = 0;
     let show = std::env::var_os("SHOW").is_some();
-    let all = [&Fault::ALL[..], &Fault::OLD, &Fault::STORE, &Fault::TRACE].concat();
+    let all = [&Fault::ALL[..], &Fault::OLD, &Fault::STORE, &Fault::TRACE, &Fault::LINK].concat();
     for &fault in &all {
         match run(side, FAULT_EVENTS, seed, fault, &mut Tally::default()) {
             Some(difference) => {

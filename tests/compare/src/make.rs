@@ -1,9 +1,10 @@
-//! What is played next: scenes of random sheets, runs of events, PDUs, versions, and traces.
+//! What is played next: scenes of random sheets, runs of events, PDUs, versions, traces, and frames.
 
 use std::collections::VecDeque;
 
 use model::device::Session;
 use model::faults::Fault;
+use model::gen::links::Links;
 use model::gen::{self, stores, traces, Ask, Event, Rng, Tools};
 use model::matrix;
 use model::sheet::{self, Memory, OLD};
@@ -29,6 +30,8 @@ enum Scene {
     Versions,
     /// Traces played in pieces, so many events of the one at hand having been played.
     Traces(u64),
+    /// Frames on a bus where several speak.
+    Links(Links),
 }
 
 pub struct Maker {
@@ -67,6 +70,11 @@ impl Maker {
                     let event = tools.event(&mut self.rng, &world.sheet, &world.sessions);
                     self.push(Play::of(event));
                 }
+                Scene::Links(links) => {
+                    let (rng, sheet) = (&mut self.rng, &world.sheet);
+                    let frame = links.frame(rng, sheet, &world.sessions, &world.addresses);
+                    self.links(frame);
+                }
                 Scene::Damaged => self.damaged(world),
                 Scene::Pdus => self.pdus(world),
                 Scene::Versions => self.versions(world),
@@ -104,11 +112,20 @@ impl Maker {
             9 if !self.device_alone => (Scene::Pdus, rng.within(300, 900)),
             10..=13 => (Scene::Versions, rng.within(100, 300)),
             14..=16 => (Scene::Traces(0), rng.within(20, 60)),
+            17..=19 => {
+                let mut sheet = if rng.chance(90) { gen::sheet(rng) } else { gen::any_sheet(rng) };
+                if let (Some(edition), true) = (sheet.first_mut(), rng.chance(4)) {
+                    *edition = 1;
+                }
+                let scene = (Scene::Links(Links::new(rng, &sheet)), long(rng));
+                self.queue.extend([Play::Sheet(sheet), Play::Fresh]);
+                scene
+            }
             _ => (Scene::Queued, 0),
         };
         match self.scene {
             Scene::Queued => self.checks(),
-            Scene::Pdus | Scene::Tools(_) => {}
+            Scene::Pdus | Scene::Tools(_) | Scene::Links(_) => {}
             Scene::Versions => self.open_versions(),
             Scene::Traces(_) => {
                 if self.rng.chance(85) {
@@ -231,6 +248,29 @@ impl Maker {
 
     fn lookup(&mut self, sheet: &[u8]) {
         let play = lookup(&mut self.rng, sheet);
+        self.push(play);
+    }
+
+    /// A frame heard, or served; a time-out, the button, or sessions and addresses from outside between.
+    fn links(&mut self, frame: Vec<u8>) {
+        let rng = &mut self.rng;
+        let play = match rng.below(100) {
+            0..=4 => Play::Heard(frame),
+            5 => Play::Disconnect(rng.below(2) as u8),
+            6 => Play::Button(rng.chance(70)),
+            7 => {
+                let (c, session) = (rng.below(2) as u8, gen::session(rng));
+                Play::Found(c, session)
+            }
+            8 if rng.chance(30) => {
+                let address = rng.word();
+                Play::Addresses([address, if rng.chance(50) { address } else { rng.word() }])
+            }
+            _ => {
+                let room = if rng.chance(4) { rng.below(25) } else { rng.within(25, 30) };
+                Play::Serve(rng.byte(), frame, rng.bytes(room))
+            }
+        };
         self.push(play);
     }
 

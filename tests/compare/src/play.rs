@@ -4,6 +4,7 @@
 use model::device::{self, Session, Sessions, Way, FRESH};
 use model::faults::Fault;
 use model::gen::{Ask, Event};
+use model::link::{self, Addresses, Arrival};
 use model::pdu;
 use model::sheet::{self, Memory};
 use model::{store, trace};
@@ -41,6 +42,11 @@ pub enum Play {
     Pieces(u64, u64, Vec<u8>),
     /// The same with marks, so many events having been marked before.
     Marked(u64, u64, u32, Vec<u8>),
+    /// The addresses of both partners, as they are found.
+    Addresses(Addresses),
+    Heard(Vec<u8>),
+    /// With a sequence number, a frame, and the buffer as found.
+    Serve(u8, Vec<u8>, Vec<u8>),
 }
 
 fn run(out: &mut Vec<u8>, bytes: &[u8]) {
@@ -135,6 +141,19 @@ impl Play {
                 out.extend((log.len() as u32).to_le_bytes());
                 out.extend(log);
             }
+            Play::Addresses(addresses) => {
+                out.push(b'l');
+                out.extend(both(addresses));
+            }
+            Play::Heard(frame) => {
+                out.push(b'h');
+                run(out, frame);
+            }
+            Play::Serve(sequence, frame, buffer) => {
+                out.extend([b'z', *sequence]);
+                run(out, frame);
+                run(out, buffer);
+            }
             Play::Marked(from, limit, played, log) => {
                 out.push(b'm');
                 out.extend(from.to_le_bytes());
@@ -177,6 +196,11 @@ impl Play {
             Play::Pieces(from, limit, log) => {
                 let limit = (*limit).min(65_535);
                 format!("# {from} played, a log of {} bytes\nplay {limit}", log.len())
+            }
+            Play::Addresses([first, second]) => format!("# addresses {first} {second}"),
+            Play::Heard(frame) => format!("heard {}", hex(frame)),
+            Play::Serve(sequence, frame, buffer) => {
+                format!("serve {sequence} {} {}", hex(frame), hex(buffer))
             }
             Play::Marked(from, limit, played, log) => {
                 format!("# {from} played, {played} marked, at most {limit}, a log of {}", log.len())
@@ -233,6 +257,18 @@ impl Play {
                 let log = hex(&reply[PIECES..reply.len() - 8]);
                 format!("refusal {}, {handled} handled, sessions {after}, log {log}", reply[0])
             }
+            Play::Addresses(_) => format!("addresses {}", hex(reply)),
+            Play::Heard(_) => {
+                let group = u16::from_le_bytes([reply[2], reply[3]]);
+                format!("event {}, connection {}, group {group}", reply[0], reply[1])
+            }
+            Play::Serve(..) => {
+                let (four, after) = (&reply[..4], sessions(&reply[4..]));
+                let [number, outcome, connection, count] = four else { unreachable!() };
+                let (addresses, stored) = (hex(&reply[8..12]), parts(&reply[12..SERVED]));
+                let buffer = hex(&reply[SERVED..reply.len() - 8]);
+                format!("number {number}, outcome {outcome}, connection {connection}, count {count}, sessions {after}, addresses {addresses}, parts {stored}, buffer {buffer}, sheet hash {}", tail(8))
+            }
             Play::Marked(..) => {
                 let (handled, after) =
                     (u16::from_le_bytes([reply[1], reply[2]]), sessions(&reply[3..]));
@@ -277,6 +313,14 @@ pub const REQUEST: usize = 2 + 4 + 16;
 /// Where the log begins in the reply to playing: after refusal, number handled and both sessions.
 pub const PIECES: usize = 3 + 4;
 
+/// Where the buffer begins in the reply to serving: after four numbers, both sessions and both addresses.
+pub const SERVED: usize = 4 + 4 + 4 + 16;
+
+fn both(addresses: &Addresses) -> [u8; 4] {
+    let [[a, b], [c, d]] = addresses.map(u16::to_le_bytes);
+    [a, b, c, d]
+}
+
 /// The hash of the bridge: FNV-1a by words of eight bytes, with each word's
 /// upper half brought down.
 pub fn hash(bytes: &[u8]) -> u64 {
@@ -307,6 +351,7 @@ pub struct World {
     pub store: Vec<u8>,
     pub trace: Vec<u8>,
     pub sessions: Sessions,
+    pub addresses: Addresses,
     /// A number for each byte of the sheet, and one for each level.
     pub marks: Vec<u32>,
     pub fault: Fault,
@@ -315,8 +360,8 @@ pub struct World {
 impl World {
     pub fn new(fault: Fault) -> World {
         let (sheet, store, trace) = (Vec::new(), Vec::new(), Vec::new());
-        let marks = vec![0; 2];
-        World { told: None, sheet, store, trace, sessions: FRESH, marks, fault }
+        let (addresses, marks) = ([0; 2], vec![0; 2]);
+        World { told: None, sheet, store, trace, sessions: FRESH, addresses, marks, fault }
     }
 
     /// Plays one command and adds the reply that the bridge must give.
@@ -443,6 +488,34 @@ impl World {
                 reply[at] = why;
                 reply[at + 1..at + 3].copy_from_slice(&handled.to_le_bytes());
                 reply[at + 3..start].copy_from_slice(&flat(&self.sessions));
+                self.hash(reply);
+            }
+            Play::Addresses(addresses) => {
+                self.addresses = *addresses;
+                reply.extend(both(addresses));
+            }
+            Play::Heard(frame) => {
+                let own = link::own(&self.sheet);
+                let (event, connection, group) =
+                    match link::heard(self.fault, &self.sessions, &self.addresses, own, frame) {
+                        Ok(Arrival::Data(way)) => (way.mode, way.connection, way.group),
+                        Ok(Arrival::Connect(c)) => (4, c, 0),
+                        Ok(Arrival::Disconnect(c)) => (5, c, 0),
+                        Err(why) => (why.number, why.connection, 0),
+                    };
+                reply.extend([event, connection]);
+                reply.extend(group.to_le_bytes());
+            }
+            Play::Serve(sequence, frame, buffer) => {
+                let (at, start) = (reply.len(), reply.len() + SERVED);
+                reply.extend([0; SERVED]);
+                reply.extend(buffer);
+                let (q, sheet) = ((&mut self.sessions, &mut self.addresses), &mut self.sheet);
+                let s = link::serve(self.fault, q, *sequence, frame, sheet, &mut reply[start..]);
+                reply[at..at + 4].copy_from_slice(&[s.number, s.outcome, s.connection, s.count]);
+                reply[at + 4..at + 8].copy_from_slice(&flat(&self.sessions));
+                reply[at + 8..at + 12].copy_from_slice(&both(&self.addresses));
+                reply[at + 12..start].copy_from_slice(&flat_parts(&s.changed));
                 self.hash(reply);
             }
             Play::Marked(from, limit, played, log) => {

@@ -4,10 +4,11 @@
 use model::device::{Session, Way};
 use model::faults::Fault;
 use model::gen::Ask;
+use model::link::NOBODY;
 use model::sheet::{Memory, OLD, SAMPLE};
 use model::trace;
 
-use crate::play::{sessions, Play, World, PIECES, REQUEST};
+use crate::play::{sessions, Play, World, PIECES, REQUEST, SERVED};
 use crate::{hex, Bridge};
 
 fn bytes(word: &str) -> Option<Vec<u8>> {
@@ -60,6 +61,10 @@ fn command(line: &str, world: &World, place: usize) -> Option<Play> {
             let lines = limit.min((all - place.min(all)) as u64) as usize;
             Play::Pieces(place as u64, limit, vec![0xEE; trace::LINE * lines])
         }
+        ["heard", frame] => Play::Heard(bytes(frame)?),
+        ["serve", sequence, frame, buffer] => {
+            Play::Serve(sequence.parse().ok()?, bytes(frame)?, bytes(buffer)?)
+        }
         _ => return None,
     })
 }
@@ -84,6 +89,33 @@ fn said(play: &Play, reply: &[u8], sheet: &[u8], store: &[u8]) -> String {
             let lines: String = log.chunks(trace::LINE).map(line).collect();
             let handled = u16::from_le_bytes([reply[1], reply[2]]);
             format!("{handled}{lines} {} {}", sessions(&reply[3..]), hex(sheet))
+        }
+        Play::Heard(_) if reply[0] > 5 => reply[0].to_string(),
+        Play::Heard(_) => {
+            let names =
+                ["multicast", "broadcast", "connectionless", "connected", "connect", "disconnect"];
+            let more = match (reply[0], reply[1]) {
+                (0, _) => format!(" {}", u16::from_le_bytes([reply[2], reply[3]])),
+                (_, NOBODY) => String::new(),
+                (_, c) => format!(" {c}"),
+            };
+            format!("0 {}{more}", names[reply[0] as usize])
+        }
+        Play::Serve(..) => {
+            let if_there = |there: bool, n: u8| if there { n.to_string() } else { "-".to_string() };
+            let address = |i: usize| u16::from_le_bytes([reply[i], reply[i + 1]]);
+            format!(
+                "{} {} {} {} {} {} {} {} {}",
+                reply[0],
+                if_there(reply[0] == 0, reply[1]),
+                if_there(reply[2] != NOBODY, reply[2]),
+                reply[3],
+                hex(&reply[SERVED..reply.len() - 8]),
+                address(8),
+                address(10),
+                sessions(&reply[4..]),
+                hex(sheet)
+            )
         }
         Play::Sheet(_) if reply[0] == 0 => "OK".to_string(),
         Play::Sheet(_) if reply[0] == OLD => "OLD".to_string(),

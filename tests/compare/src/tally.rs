@@ -28,6 +28,9 @@ pub struct Tally {
     trace: [Counts; 2],
     handled: u64,
     marked: u64,
+    /// Frames heard, served, and the outcomes of events served, in the order of `matrix::LINK`; and frames sent.
+    link: [Counts; 3],
+    sent: u64,
     /// Sessions as found or fresh.
     others: u64,
     /// The hashes of the blocks of replies so far, in one.
@@ -103,6 +106,17 @@ impl Tally {
                 self.trace[1].0[reply[0] as usize] += 1;
                 self.handled += u64::from(u16::from_le_bytes([reply[1], reply[2]]));
             }
+            Play::Heard(_) => {
+                let number = if reply[0] < 6 { 0 } else { reply[0] };
+                self.link[0].0[number as usize] += 1;
+            }
+            Play::Serve(..) => {
+                self.link[1].0[reply[0] as usize] += 1;
+                if reply[0] == 0 {
+                    self.link[2].0[reply[1] as usize] += 1;
+                }
+                self.sent += u64::from(reply[3] > 0);
+            }
             Play::Marked(..) => {
                 self.marked += 1;
                 self.handled += u64::from(u16::from_le_bytes([reply[1], reply[2]]));
@@ -119,7 +133,7 @@ impl Tally {
         let rarest =
             self.rarest().map_or(String::new(), |(n, what)| format!("; rarest: {what}, {n} times"));
         format!(
-            "{} requests, {} other calls, {} sheets ({} accepted, {} old), {} conversions, {} lookups, {} PDUs read, {} written, {} saves, {} restores, {} removes, {} traces of which {} events were played in {} pieces, {} of them with marks{rarest}",
+            "{} requests, {} other calls, {} sheets ({} accepted, {} old), {} conversions, {} lookups, {} PDUs read, {} written, {} saves, {} restores, {} removes, {} traces of which {} events were played in {} pieces, {} of them with marks, {} frames heard, {} served, {} of them answered{rarest}",
             self.requests.iter().flatten().flatten().flatten().sum::<u64>(),
             self.others + self.sheet[1].sum() + self.named.iter().map(Counts::sum).sum::<u64>(),
             self.sheet[0].sum(),
@@ -136,6 +150,9 @@ impl Tally {
             self.handled,
             self.trace[1].sum() + self.marked,
             self.marked,
+            self.link[0].sum(),
+            self.link[1].sum(),
+            self.sent,
         )
     }
 
@@ -174,7 +191,8 @@ impl Tally {
         }
         let calls = matrix::SHEET.iter().chain(&matrix::STORE).chain(&matrix::TRACE);
         let seen = self.sheet.iter().chain(&self.store).chain(&self.trace);
-        for ((what, can), seen) in calls.zip(seen) {
+        let calls = calls.chain(&matrix::LINK).zip(seen.chain(&self.link));
+        for ((what, can), seen) in calls {
             seen.judge(&format!("outcome of {what}"), can, must, &mut complaints);
         }
         let kinds: Vec<usize> = (0..KINDS.len()).collect();

@@ -149,6 +149,24 @@ pub enum Fault {
     NumbersBeginAnew,
     /// Levels have no marks.
     LevelsUnmarked,
+    /// Connected data from a stranger acts on connection 0.
+    StrangerActs,
+    /// A third that connects takes the place of the second.
+    ThirdTakesPlace,
+    /// A frame for another device is answered.
+    AnswersForAnother,
+    /// A connect leaves the address of the connection as it was.
+    ConnectKeepsAddress,
+    /// The answer to a group's read goes to who asked.
+    GroupAnsweredAtAsker,
+    /// A stranger's disconnect closes connection 0.
+    StrangerDisconnects,
+    /// A partner that connects again gets the other place, if that is free.
+    SecondConnectMoves,
+    /// What transport alone deals with is not asked whom it is for.
+    ForAnotherLast,
+    /// The answer has the hop count of the request.
+    HopsCopied,
 }
 
 impl Fault {
@@ -243,6 +261,19 @@ impl Fault {
         Fault::FirstMarkStays,
         Fault::NumbersBeginAnew,
         Fault::LevelsUnmarked,
+    ];
+
+    /// Those of serving frames.
+    pub const LINK: [Fault; 9] = [
+        Fault::StrangerActs,
+        Fault::ThirdTakesPlace,
+        Fault::AnswersForAnother,
+        Fault::ConnectKeepsAddress,
+        Fault::GroupAnsweredAtAsker,
+        Fault::StrangerDisconnects,
+        Fault::SecondConnectMoves,
+        Fault::ForAnotherLast,
+        Fault::HopsCopied,
     ];
 
     /// Those by which one tool meets what the other did, though that changed no byte and was no restart.

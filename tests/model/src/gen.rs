@@ -1,5 +1,6 @@
 //! Deterministic random sheets, requests, events and PDUs; stores of versions and traces have files of their own.
 
+pub mod links;
 pub mod stores;
 pub mod traces;
 

@@ -6,6 +6,7 @@ pub mod device;
 pub mod faults;
 pub mod frame;
 pub mod gen;
+pub mod link;
 pub mod matrix;
 pub mod pdu;
 pub mod points;

@@ -156,3 +156,11 @@ pub const TRACE: [(&str, &[usize]); 2] = [
     ("check of a trace", &[0, 50, 51, 52, 53, 54, 55, 56, 57, 58]),
     ("playing", &[0, 50, 51, 52, 53, 54, 55, 56, 57, 58, 59]),
 ];
+
+/// Why a frame is no event, of hearing and of serving; 0 if it is one. And the outcomes of the events served: whoever is heard
+/// on a connection has it, so 7 is none of them, and the modes and the answer buffer are the link's own.
+pub const LINK: [(&str, &[usize]); 3] = [
+    ("hearing", &[0, 40, 41, 42, 43, 44, 45, 60, 61, 62, 63]),
+    ("serving", &[0, 40, 41, 42, 43, 44, 45, 60, 61, 62, 63, 64]),
+    ("an event served", &[0, 1, 2, 4, 5, 8, 9, 10, 11, 12, 14]),
+];
