@@ -5,7 +5,7 @@ use std::collections::BTreeMap;
 use crate::layout::{
     group_address, hex, individual_address, memory_address, Group, Levels, Property, Region, Sheet,
 };
-use crate::show::{byte_words, element, flag_words, switch};
+use crate::show::{byte_line, element, flag_words, switch};
 
 /// The lines that tell one sheet from the other: none exactly if their bytes are the same.
 pub fn lines(a: &Sheet, b: &Sheet) -> Vec<String> {
@@ -114,13 +114,11 @@ fn levels(levels: Levels) -> String {
     format!("read level {}, write level {}", levels.read, levels.write)
 }
 
-/// The bytes of memory by their addresses.
-fn bytes_of(regions: &[Region]) -> BTreeMap<usize, u8> {
-    let bytes = |r: &Region| {
-        let first = r.address as usize;
-        r.body.clone().into_iter().enumerate().map(move |(i, byte)| (first + i, byte))
-    };
-    regions.iter().flat_map(bytes).collect()
+/// The bytes of memory with their addresses, which rise from region to region.
+fn bytes_of(regions: &[Region]) -> impl Iterator<Item = (usize, u8)> + '_ {
+    regions.iter().flat_map(|r| {
+        r.body.iter().enumerate().map(|(i, &byte)| (usize::from(r.address) + i, byte))
+    })
 }
 
 /// Neighbours on one line, up to so many.
@@ -131,33 +129,29 @@ fn bytes(out: &mut Lines, whose: &str, a: &[Region], b: &[Region]) {
     if a == b {
         return;
     }
-    let (a, b) = (bytes_of(a), bytes_of(b));
-    let changed: Vec<(usize, u8, u8)> = b
-        .iter()
-        .filter_map(|(&at, &new)| a.get(&at).filter(|&&old| old != new).map(|&old| (at, old, new)))
-        .collect();
+    let (mut changed, mut new) = (Vec::new(), Vec::new());
+    let mut before = bytes_of(a).peekable();
+    for (at, byte) in bytes_of(b) {
+        while before.next_if(|&(address, _)| address < at).is_some() {}
+        match before.next_if(|&(address, _)| address == at) {
+            Some((_, old)) if old != byte => changed.push((at, old, byte)),
+            None if byte != 0 => new.push((at, byte)),
+            _ => {}
+        }
+    }
     for run in changed.chunk_by(|x, y| x.0 + 1 == y.0) {
         for line in run.chunks(TO_A_LINE) {
             let (old, new): (Vec<u8>, Vec<u8>) =
                 line.iter().map(|&(_, old, new)| (old, new)).unzip();
             let at = memory_address(line[0].0);
-            out.compare(
-                &format!("{whose}memory {at}"),
-                byte_words(&old).join(" "),
-                byte_words(&new).join(" "),
-            );
+            out.say(format!("{whose}memory {at}: {} → {}", byte_line(&old), byte_line(&new)));
         }
     }
-    let new: Vec<(usize, u8)> = b
-        .iter()
-        .filter(|(at, byte)| !a.contains_key(at) && **byte != 0)
-        .map(|(&at, &byte)| (at, byte))
-        .collect();
     for run in new.chunk_by(|x, y| x.0 + 1 == y.0) {
         for line in run.chunks(TO_A_LINE) {
             let bytes: Vec<u8> = line.iter().map(|&(_, byte)| byte).collect();
             let at = memory_address(line[0].0);
-            out.say(format!("{whose}memory {at}: new, {}", byte_words(&bytes).join(" ")));
+            out.say(format!("{whose}memory {at}: new, {}", byte_line(&bytes)));
         }
     }
 }
@@ -217,12 +211,12 @@ fn flags(g: &Group) -> String {
 }
 
 fn new_group(out: &mut Lines, name: &str, g: &Group) {
-    let value = byte_words(&g.body).join(" ");
+    let value = byte_line(&g.body);
     out.say(format!("{name} is new: length code {}, flags {}, value {value}", g.code, flags(g)));
 }
 
 fn group(out: &mut Lines, name: &str, a: &Group, b: &Group) {
     out.compare(&format!("{name} length code"), a.code, b.code);
     out.compare(&format!("{name} flags"), flags(a), flags(b));
-    out.compare(name, byte_words(&a.body).join(" "), byte_words(&b.body).join(" "));
+    out.compare(name, byte_line(&a.body), byte_line(&b.body));
 }

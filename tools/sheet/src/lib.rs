@@ -4,7 +4,10 @@
 pub mod check;
 pub mod convert;
 pub mod diff;
+pub mod json;
 pub mod layout;
 pub mod make;
+pub mod place;
 pub mod show;
+pub mod survey;
 pub mod versions;

@@ -1,5 +1,6 @@
 //! `sheet check|show|make|diff`: the device sheet as text; `sheet convert`: an old one made new; `sheet versions`: its store of
-//! versions. Exit status 0; 1 if a sheet is not accepted, or not old where that is asked for, a store not good, or two differ;
+//! versions; `sheet survey`: many dumps beside one. Exit status 0; 1 if a sheet is not accepted, or not old where that is asked
+//! for, a store not good, two differ, or a survey found something;
 //! 2 with a line on standard error for anything else: a file that can't be read, a text with a fault, a wrong word.
 //! `--help` and `--version` are asked for, so they go to standard output with status 0.
 
@@ -12,6 +13,8 @@ use sheet::convert::converted;
 use sheet::layout::{Sheet, LONGEST};
 use sheet::versions::{self, Store};
 use sheet::{diff, make, show};
+
+mod surveyed;
 
 /// What `--help` shows, and of which the man page is made.
 const HELP: &str = include_str!("../kelindap-sheet.txt");
@@ -44,6 +47,7 @@ fn main() -> ExitCode {
         ["--version"] => Ok((line(format!("sheet of kelindap {}", version())), 0)),
         ["versions", store] => listed(store),
         ["versions", "diff", store, number, file] => since(store, number, file),
+        ["survey", ref words @ ..] => surveyed::surveyed(words).unwrap_or_else(|| Err(usage())),
         _ => Err(usage()),
     };
     finish(said)

@@ -37,7 +37,7 @@ pub fn bytes(text: &str) -> Result<Vec<u8>, Fault> {
 // ---- words ----
 
 /// A word as a message has it: its first 24 characters, those that can be printed.
-fn short(word: &str) -> String {
+pub fn short(word: &str) -> String {
     let more = if word.chars().nth(24).is_some() { ".." } else { "" };
     plain(word).chars().take(24).chain(more.chars()).collect()
 }

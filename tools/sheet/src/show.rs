@@ -1,14 +1,15 @@
 //! A sheet as text that a person reads and edits, and that `make` reads again.
 
 use crate::layout::{
-    group_address, hex, individual_address, memory_address, Group, Levels, Property, Region, Sheet,
+    group_address, hex, individual_address, memory_address, push_hex, Group, Levels, Property,
+    Region, Sheet,
 };
 
 /// What stands for a key that is not shown.
 pub const HIDDEN: &str = "hidden";
 
 /// The key that every tool tries: it hides nothing, and so is shown.
-const PUBLIC: [u8; 4] = [0xFF; 4];
+pub const PUBLIC: [u8; 4] = [0xFF; 4];
 
 /// The last line of a text, by which `make` sees that all of it is there.
 pub const END: &str = "end";
@@ -95,6 +96,18 @@ fn lines(words: &[String], to_a_line: usize, first: impl Fn(usize) -> String) ->
 
 pub fn byte_words(bytes: &[u8]) -> Vec<String> {
     bytes.chunks(1).map(hex).collect()
+}
+
+/// Bytes on a line, a blank between them.
+pub fn byte_line(bytes: &[u8]) -> String {
+    let mut out = String::with_capacity(3 * bytes.len());
+    for (i, byte) in bytes.iter().enumerate() {
+        if i > 0 {
+            out.push(' ');
+        }
+        push_hex(&mut out, *byte);
+    }
+    out
 }
 
 /// A region of the memory that the word stands for.

@@ -6,7 +6,7 @@ use sheet::check::{check, rules};
 use sheet::convert::converted;
 use sheet::diff;
 use sheet::layout::Sheet;
-use sheet::{make, show};
+use sheet::{make, place, show};
 
 const SHEETS: u64 = 10_000;
 
@@ -170,4 +170,42 @@ fn damaged_texts() {
             }
         }
     }
+}
+
+/// Two sheets of one layout differ by places as they differ by meaning; every byte that differs is told, and none else.
+#[test]
+fn places() {
+    let (mut changed, mut laid) = (0, 0);
+    for seed in 0..SHEETS / 50 {
+        let mut rng = Rng::new(seed);
+        let old = sheet(&mut rng);
+        let mut new = old.clone();
+        for _ in 0..rng.within(1, 40) {
+            let at = rng.below(new.len());
+            let byte = new[at];
+            new[at] = rng.pick(&[rng.clone().byte(), byte ^ 1, byte & 0x33, byte ^ 0x80]);
+            if check(&new).is_err() {
+                new[at] = byte;
+            }
+        }
+        let by_place = place::places(&old);
+        assert!(by_place.windows(2).all(|p| p[0].at + p[0].length == p[1].at), "seed {seed}");
+        assert_eq!(by_place.last().map(|p| p.at + p.length), Some(old.len()), "seed {seed}");
+        if !place::same_layout(&old, &new) {
+            continue;
+        }
+        laid += 1;
+        let changes = place::changes(&old, &new, |_| ());
+        let bytes: Vec<usize> = changes.iter().flat_map(|c| c.bytes.iter().map(|b| b.0)).collect();
+        let due: Vec<usize> = (0..old.len()).filter(|&at| old[at] != new[at]).collect();
+        assert_eq!(bytes, due, "seed {seed}");
+        let mut lines: Vec<String> = changes.into_iter().flat_map(|c| c.lines).collect();
+        let (a, b) = (Sheet::read(&old).unwrap(), Sheet::read(&new).unwrap());
+        let mut meant = diff::lines(&a, &b);
+        lines.sort();
+        meant.sort();
+        assert_eq!(lines, meant, "seed {seed}");
+        changed += meant.len();
+    }
+    assert!(laid > SHEETS / 100 && changed > 1_000, "{laid} {changed}");
 }

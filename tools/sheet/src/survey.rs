@@ -1,0 +1,531 @@
+//! Many dumps beside one reference: what deviates by meaning and in how many units, broken and old sheets, keys that are
+//! public or shared, heights out of a bound, what is open to all, rules 1. No key is told.
+
+use std::collections::{BTreeMap, HashMap};
+
+use crate::diff;
+use crate::json::Json;
+use crate::layout::{hex, individual_address, name, Kind, Property, Sheet, LATER, LONGEST};
+use crate::show::{element, PUBLIC};
+
+/// What is looked for.
+#[derive(Clone, Copy, Debug, PartialEq, Eq)]
+pub struct Wanted {
+    /// Object and id of the property that holds the height.
+    pub height: (u8, u8),
+    /// The most by which a height may differ from the reference's; without one no height is judged.
+    pub bound: Option<u128>,
+}
+
+/// The mounting height of the sample's probe.
+pub const HEIGHT: (u8, u8) = (1, 51);
+
+#[derive(Clone, Debug, PartialEq, Eq)]
+pub enum Verdict {
+    Accepted,
+    Old,
+    /// With the rule, and what breaks it.
+    Broken(String),
+}
+
+impl Verdict {
+    pub fn word(&self) -> &'static str {
+        match self {
+            Verdict::Accepted => "accepted",
+            Verdict::Old => "old",
+            Verdict::Broken(_) => "broken",
+        }
+    }
+}
+
+/// The verdict on a dump, and what it says. An old one says what its conversion does, which changes the edition alone.
+pub fn judged(bytes: &[u8]) -> (Verdict, Option<Sheet>) {
+    match Sheet::read(bytes) {
+        Ok(old) if old.edition == 1 => (Verdict::Old, Some(converted(old))),
+        Ok(sheet) => (Verdict::Accepted, Some(sheet)),
+        Err(broken) => (Verdict::Broken(broken.to_string()), None),
+    }
+}
+
+fn converted(old: Sheet) -> Sheet {
+    Sheet { edition: 2, ..old }
+}
+
+/// Something that units share, by their numbers.
+#[derive(Clone, Debug, PartialEq, Eq)]
+pub struct Shared {
+    pub what: String,
+    pub units: Vec<usize>,
+}
+
+/// A unit and what was found of it alone.
+#[derive(Clone, Debug, PartialEq, Eq)]
+pub struct Unit {
+    pub name: String,
+    pub verdict: Verdict,
+    /// Individual address and serial number, by which units differ as they should.
+    pub address: String,
+    pub serial: String,
+    /// The levels whose key is FFFFFFFFh.
+    pub public: Vec<usize>,
+    pub heights: Vec<String>,
+    pub later: bool,
+    /// What deviates in it and what is open, by the survey's numbers of these.
+    pub deviations: Vec<usize>,
+    pub open: Vec<usize>,
+}
+
+#[derive(Clone, Debug, PartialEq, Eq)]
+pub struct Survey {
+    pub reference: String,
+    pub units: Vec<Unit>,
+    /// What deviates from the reference; what is open to all; each with its units, those of most units first.
+    pub deviations: Vec<Shared>,
+    pub open: Vec<Shared>,
+    /// Keys that more than one unit has: each time whose key of which level, the reference's among them as the last.
+    pub keys: Vec<Vec<(Option<usize>, usize)>>,
+    pub wanted: Wanted,
+}
+
+/// The survey of dumps, by name and bytes, or what is wrong with the reference or with reading one. A dump may be longer than
+/// a sheet: it is then broken.
+pub fn survey(
+    reference: (&str, &[u8]),
+    dumps: impl Iterator<Item = Result<(String, Vec<u8>), String>>,
+    wanted: Wanted,
+) -> Result<Survey, String> {
+    let (verdict, sheet) = judged(reference.1);
+    let Some(base) = sheet else {
+        let Verdict::Broken(why) = verdict else { unreachable!("what is accepted has a sheet") };
+        return Err(format!("{}: {why}", reference.0));
+    };
+    let (object, id) = wanted.height;
+    if wanted.bound.is_some() && property(&base, wanted.height).is_none() {
+        let named = format!("no property {object}/{id}, to which a bound is given");
+        return Err(format!("{}: {named}", reference.0));
+    }
+    let mut found = Found::default();
+    let mut units = Vec::new();
+    for dump in dumps {
+        let (name, bytes) = dump?;
+        debug_assert!(bytes.len() <= LONGEST + 1);
+        let (verdict, sheet) = judged(&bytes);
+        let number = units.len();
+        units.push(match sheet {
+            Some(sheet) => found.unit(number, name, verdict, &base, &sheet, wanted),
+            None => Unit {
+                name,
+                verdict,
+                address: String::new(),
+                serial: String::new(),
+                public: Vec::new(),
+                heights: Vec::new(),
+                later: false,
+                deviations: Vec::new(),
+                open: Vec::new(),
+            },
+        });
+    }
+    let keys = found.shared_keys(&base);
+    let (deviations, open) = (by_share(found.deviations), by_share(found.open));
+    for (k, shared) in deviations.iter().enumerate() {
+        shared.units.iter().for_each(|&unit| units[unit].deviations.push(k));
+    }
+    for (k, shared) in open.iter().enumerate() {
+        shared.units.iter().for_each(|&unit| units[unit].open.push(k));
+    }
+    let reference = reference.0.to_string();
+    Ok(Survey { reference, units, deviations, open, keys, wanted })
+}
+
+#[derive(Default)]
+struct Found {
+    deviations: HashMap<String, Vec<usize>>,
+    open: HashMap<String, Vec<usize>>,
+    keys: BTreeMap<[u8; 4], Vec<(Option<usize>, usize)>>,
+}
+
+/// Those of most units first, and else by their words.
+fn by_share(found: HashMap<String, Vec<usize>>) -> Vec<Shared> {
+    let mut all: Vec<Shared> =
+        found.into_iter().map(|(what, units)| Shared { what, units }).collect();
+    all.sort_unstable_by(|a, b| {
+        b.units.len().cmp(&a.units.len()).then_with(|| a.what.cmp(&b.what))
+    });
+    all
+}
+
+fn property(sheet: &Sheet, (object, id): (u8, u8)) -> Option<&Property> {
+    sheet.properties.iter().find(|p| (p.object, p.id) == (object, id))
+}
+
+fn number(bytes: &[u8]) -> u128 {
+    bytes.iter().fold(0, |number, &b| number << 8 | u128::from(b))
+}
+
+impl Found {
+    fn unit(
+        &mut self,
+        number: usize,
+        name: String,
+        verdict: Verdict,
+        base: &Sheet,
+        sheet: &Sheet,
+        wanted: Wanted,
+    ) -> Unit {
+        // what names a unit is no deviation, nor are keys of its own
+        let (serial, address, keys) = (base.serial, base.address, base.keys);
+        let named = Sheet { serial, address, keys, ..sheet.clone() };
+        for line in diff::lines(base, &named) {
+            self.deviations.entry(line).or_default().push(number);
+        }
+        for what in open(sheet) {
+            self.open.entry(what).or_default().push(number);
+        }
+        for (level, key) in sheet.keys.iter().enumerate() {
+            self.keys.entry(*key).or_default().push((Some(number), level));
+        }
+        Unit {
+            name,
+            verdict,
+            address: individual_address(sheet.address),
+            serial: hex(&sheet.serial),
+            public: (0..3).filter(|&level| sheet.keys[level] == PUBLIC).collect(),
+            heights: heights(base, sheet, wanted),
+            later: sheet.rules == LATER,
+            deviations: Vec::new(),
+            open: Vec::new(),
+        }
+    }
+
+    /// The keys of more than one unit, the public one apart, which is told as such; those of most units first.
+    fn shared_keys(&self, base: &Sheet) -> Vec<Vec<(Option<usize>, usize)>> {
+        let mut all: Vec<_> = self
+            .keys
+            .iter()
+            .filter(|(&key, _)| key != PUBLIC)
+            .map(|(key, owners)| {
+                let of_base = (0..3).filter(|&level| base.keys[level] == *key);
+                owners.iter().copied().chain(of_base.map(|level| (None, level))).collect::<Vec<_>>()
+            })
+            .filter(|owners| owners.iter().any(|owner| owner.0 != owners[0].0))
+            .collect();
+        all.sort_by_key(|owners| (std::cmp::Reverse(owners.len()), owners.clone()));
+        all
+    }
+}
+
+/// What anybody may write: memory, and properties that can be written at all.
+fn open(sheet: &Sheet) -> Vec<String> {
+    let region = |kind: Kind, address: u16| name(kind, &address.to_be_bytes());
+    let regions = sheet.regions.iter().map(|r| (r.levels, region(Kind::Region, r.address)));
+    let properties = sheet.properties.iter().filter(|p| p.writable);
+    let properties = properties.map(|p| (p.levels, name(Kind::Property, &[p.object, p.id])));
+    let users = sheet.users.iter().map(|r| (r.levels, region(Kind::User, r.address)));
+    let all = regions.chain(properties).chain(users);
+    all.filter(|(levels, _)| levels.write == 3).map(|(_, what)| what).collect()
+}
+
+/// The heights further from the reference's than the bound, of the elements that both have.
+fn heights(base: &Sheet, sheet: &Sheet, wanted: Wanted) -> Vec<String> {
+    let (Some(bound), Some(there)) = (wanted.bound, property(base, wanted.height)) else {
+        return Vec::new();
+    };
+    let what = format!("property {}/{}", wanted.height.0, wanted.height.1);
+    let Some(here) = property(sheet, wanted.height) else {
+        return vec![format!("{what} is missing")];
+    };
+    let valid = |p: &Property| {
+        let size = p.size as usize;
+        p.body.chunks(size).take(p.count.into()).map(<[u8]>::to_vec).collect::<Vec<_>>()
+    };
+    let pairs = valid(here).into_iter().zip(valid(there)).enumerate();
+    pairs
+        .filter_map(|(i, (new, old))| {
+            let (by, way) = match (number(&new), number(&old)) {
+                (new, old) if new >= old => (new - old, "above"),
+                (new, old) => (old - new, "below"),
+            };
+            (by > bound).then(|| {
+                let (new, old, i) = (element(&new), element(&old), i + 1);
+                format!("{what} element {i} is {new}, {by} {way} the reference's {old}")
+            })
+        })
+        .collect()
+}
+
+// ---- what is told ----
+
+/// A finding of a unit: its kind, what it is, and how many units share it.
+type Finding = (&'static str, String, usize);
+
+/// So many names stand behind what they share, and so many deviations behind a unit; JSON and CSV have them all.
+const NAMES: usize = 6;
+const DEVIATIONS: usize = 12;
+
+impl Survey {
+    fn count(&self, word: &str) -> usize {
+        self.units.iter().filter(|u| u.verdict.word() == word).count()
+    }
+
+    /// Whether there is nothing to tell of any unit.
+    pub fn clean(&self) -> bool {
+        let alone = |u: &Unit| {
+            u.verdict == Verdict::Accepted
+                && u.public.is_empty()
+                && u.heights.is_empty()
+                && !u.later
+        };
+        let shared = self.deviations.is_empty() && self.open.is_empty() && self.keys.is_empty();
+        shared && self.units.iter().all(alone)
+    }
+
+    fn owner(&self, (unit, level): (Option<usize>, usize)) -> String {
+        let whose = unit.map_or("the reference", |unit| &self.units[unit].name);
+        format!("{whose} level {level}")
+    }
+
+    /// All that was found of a unit, the deviations of most units first.
+    fn findings(&self, unit: usize) -> Vec<Finding> {
+        let mut all: Vec<Finding> = Vec::new();
+        let mut say = |kind, what, units| all.push((kind, what, units));
+        let u = &self.units[unit];
+        match &u.verdict {
+            Verdict::Broken(why) => say("broken", why.clone(), self.count("broken")),
+            Verdict::Old => say("old", "edition 1: to be converted".to_string(), self.count("old")),
+            Verdict::Accepted => {}
+        }
+        for shared in u.deviations.iter().map(|&k| &self.deviations[k]) {
+            say("deviation", shared.what.clone(), shared.units.len());
+        }
+        for level in &u.public {
+            let units = self.units.iter().filter(|u| u.public.contains(level)).count();
+            say("public key", format!("key of level {level} is FFFFFFFFh"), units);
+        }
+        for owners in &self.keys {
+            let mine = owners.iter().filter(|owner| owner.0 == Some(unit));
+            let others: Vec<String> = owners
+                .iter()
+                .filter(|owner| owner.0 != Some(unit))
+                .map(|&owner| self.owner(owner))
+                .collect();
+            for (_, level) in mine {
+                let what = format!("key of level {level} is that of {}", others.join(", "));
+                say("shared key", what, sharing(owners));
+            }
+        }
+        for what in &u.heights {
+            let units = self.units.iter().filter(|u| !u.heights.is_empty()).count();
+            say("height", what.clone(), units);
+        }
+        for shared in u.open.iter().map(|&k| &self.open[k]) {
+            say("open to all", format!("{} has write level 3", shared.what), shared.units.len());
+        }
+        if u.later {
+            let units = self.units.iter().filter(|u| u.later).count();
+            say("rules", "rules 1".to_string(), units);
+        }
+        all
+    }
+
+    /// For people.
+    pub fn text(&self) -> String {
+        let mut out = format!(
+            "{} beside {}: {} accepted, {} old, {} broken\n",
+            many(self.units.len(), "unit"),
+            self.reference,
+            self.count("accepted"),
+            self.count("old"),
+            self.count("broken")
+        );
+        out += &shared_text("deviations, those of most units first", self, &self.deviations);
+        let broken = self.units.iter().filter_map(|u| match &u.verdict {
+            Verdict::Broken(why) => Some(format!("{}: {why}", u.name)),
+            _ => None,
+        });
+        out += &section("broken sheets", broken.collect());
+        let of = |test: fn(&Unit) -> bool| {
+            self.units.iter().filter(|u| test(u)).map(|u| u.name.clone()).collect()
+        };
+        out += &section("old sheets, to be converted", of(|u| u.verdict == Verdict::Old));
+        let public = self.units.iter().filter(|u| !u.public.is_empty());
+        let public = public.map(|u| {
+            let levels: Vec<String> = u.public.iter().map(ToString::to_string).collect();
+            format!("{}: level {}", u.name, levels.join(", "))
+        });
+        out += &section("public keys, FFFFFFFFh", public.collect());
+        let keys = self.keys.iter().map(|owners| {
+            let named = owners.iter().map(|&owner| self.owner(owner));
+            format!("{}: {}", many(sharing(owners), "unit"), some(named))
+        });
+        out += &section("shared keys", keys.collect());
+        let (object, id) = self.wanted.height;
+        match self.wanted.bound {
+            None => out += "\nheights: no bound is given\n",
+            Some(bound) => {
+                let title = format!(
+                    "heights, property {object}/{id}, further than {bound} from the reference's"
+                );
+                let heights = self.units.iter();
+                let lines =
+                    heights.flat_map(|u| u.heights.iter().map(|h| format!("{}: {h}", u.name)));
+                out += &section(&title, lines.collect());
+            }
+        }
+        out += &shared_text("open to all, write level 3", self, &self.open);
+        out += &section("rules 1", of(|u| u.later));
+        out + &self.table()
+    }
+
+    /// Each unit with its deviations.
+    fn table(&self) -> String {
+        let mut out = "\nunits\n".to_string();
+        let wide = |of: fn(&Unit) -> &str| {
+            self.units.iter().map(|u| of(u).chars().count()).max().unwrap_or(0)
+        };
+        let (names, addresses) = (wide(|u| &u.name), wide(|u| &u.address));
+        for u in &self.units {
+            let found = u.deviations.iter().take(DEVIATIONS);
+            let mut found: Vec<&str> = found.map(|&k| self.deviations[k].what.as_str()).collect();
+            let more = format!("and {} more", u.deviations.len().saturating_sub(DEVIATIONS));
+            if u.deviations.len() > DEVIATIONS {
+                found.push(&more);
+            }
+            let line = format!(
+                "  {:names$}  {:addresses$}  {:12}  {:8}  {}",
+                u.name,
+                u.address,
+                u.serial,
+                u.verdict.word(),
+                found.join("; ")
+            );
+            out += line.trim_end();
+            out += "\n";
+        }
+        out
+    }
+
+    /// A row for each finding, and one for a unit of which nothing was found.
+    pub fn csv(&self) -> String {
+        let mut out = "unit,address,serial,verdict,finding,what,units\r\n".to_string();
+        for (i, u) in self.units.iter().enumerate() {
+            let mut findings = self.findings(i);
+            if findings.is_empty() {
+                findings.push(("", String::new(), 0));
+            }
+            for (kind, what, units) in findings {
+                let units = units.to_string();
+                let row = [&u.name, &u.address, &u.serial, u.verdict.word(), kind, &what, &units];
+                out += &row.map(cell).join(",");
+                out += "\r\n";
+            }
+        }
+        out
+    }
+
+    pub fn json(&self) -> Json {
+        let names = |units: &[usize]| {
+            Json::from(units.iter().map(|&u| self.units[u].name.as_str()).collect::<Vec<_>>())
+        };
+        let shared = |all: &[Shared]| {
+            let one = |s: &Shared| {
+                Json::Object(vec![
+                    ("what", s.what.as_str().into()),
+                    ("number", s.units.len().into()),
+                    ("units", names(&s.units)),
+                ])
+            };
+            Json::List(all.iter().map(one).collect())
+        };
+        let units = (0..self.units.len()).map(|i| {
+            let u = &self.units[i];
+            let findings = self.findings(i).into_iter().map(|(kind, what, units)| {
+                Json::Object(vec![
+                    ("finding", kind.into()),
+                    ("what", what.into()),
+                    ("units", units.into()),
+                ])
+            });
+            Json::Object(vec![
+                ("unit", u.name.as_str().into()),
+                ("address", Some(u.address.as_str()).filter(|a| !a.is_empty()).into()),
+                ("serial", Some(u.serial.as_str()).filter(|s| !s.is_empty()).into()),
+                ("verdict", u.verdict.word().into()),
+                ("findings", Json::List(findings.collect())),
+            ])
+        });
+        let keys = self.keys.iter().map(|owners| {
+            let one = |&(unit, level): &(Option<usize>, usize)| {
+                let unit = unit.map(|unit| self.units[unit].name.as_str());
+                Json::Object(vec![("unit", unit.into()), ("level", level.into())])
+            };
+            Json::List(owners.iter().map(one).collect())
+        });
+        Json::Object(vec![
+            ("reference", self.reference.as_str().into()),
+            ("accepted", self.count("accepted").into()),
+            ("old", self.count("old").into()),
+            ("broken", self.count("broken").into()),
+            ("deviations", shared(&self.deviations)),
+            ("open", shared(&self.open)),
+            ("shared_keys", Json::List(keys.collect())),
+            ("units", Json::List(units.collect())),
+        ])
+    }
+}
+
+/// How many units have a key, the reference apart.
+fn sharing(owners: &[(Option<usize>, usize)]) -> usize {
+    let mut units: Vec<usize> = owners.iter().filter_map(|owner| owner.0).collect();
+    units.dedup();
+    units.len()
+}
+
+fn many(n: usize, what: &str) -> String {
+    format!("{n} {what}{}", if n == 1 { "" } else { "s" })
+}
+
+fn section(title: &str, lines: Vec<String>) -> String {
+    if lines.is_empty() {
+        return format!("\n{title}: none\n");
+    }
+    let mut out = format!("\n{title}\n");
+    for line in lines {
+        out += "  ";
+        out += &line;
+        out += "\n";
+    }
+    out
+}
+
+/// The first few of many names.
+fn some(names: impl ExactSizeIterator<Item = String>) -> String {
+    let n = names.len();
+    let first: Vec<String> = names.take(NAMES).collect();
+    match n {
+        n if n > NAMES => format!("{} and {} more", first.join(", "), n - NAMES),
+        _ => first.join(", "),
+    }
+}
+
+fn shared_text(title: &str, survey: &Survey, all: &[Shared]) -> String {
+    let line = |s: &Shared| {
+        let names = s.units.iter().map(|&u| survey.units[u].name.clone());
+        format!("{:>4}  {}\n          {}", s.units.len(), s.what, some(names))
+    };
+    section(title, all.iter().map(line).collect())
+}
+
+/// A cell of a table for spreadsheets, in quotation marks where it needs them.
+fn cell(text: &str) -> String {
+    if text.contains([',', '"', '\r', '\n']) {
+        return format!("\"{}\"", text.replace('"', "\"\""));
+    }
+    text.to_string()
+}
+
+/// The property that a word such as 1/51 names.
+pub fn property_named(word: &str) -> Option<(u8, u8)> {
+    let (object, id) = word.split_once('/')?;
+    Some((object.parse().ok()?, id.parse().ok()?))
+}
