@@ -10,3 +10,4 @@ bench: build/libkelindap_device.a build/libkelindap_pdu.a build/libkelindap_plai
 	$(CARGO_BIN)/trace_times
 	$(CARGO_BIN)/link_times
 	$(CARGO_BIN)/engine_times
+	$(CARGO_BIN)/survey_times

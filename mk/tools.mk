@@ -1,8 +1,9 @@
-# Programs for people: the sheet as text, in Rust, and the examples in C; their tests. Comes after hosts.mk.
+# Programs for people: the sheet as text and traces, in Rust, and the examples in C; their tests. Comes after hosts.mk.
 .PHONY: tools test-tools lint
 
-#: make tools      build/sheet (checks, shows, makes and compares sheets) and the examples, build/host and build/height
-tools: build/sheet $(BUILD)/host $(BUILD)/height
+#: make tools      build/sheet (checks, shows, makes, compares and surveys sheets), build/trace (shows, makes, plays and explains
+#:                 traces) and the examples, build/host and build/height
+tools: build/sheet build/trace $(BUILD)/host $(BUILD)/height
 
 $(BUILD)/host $(BUILD)/height: $(BUILD)/%: examples/%.c examples/bus.h $(LINKED) | need-gcc
 	mkdir -p $(BUILD)
@@ -13,8 +14,16 @@ build/sheet: $(shell find tools/sheet/src -name '*.rs') tools/sheet/kelindap-she
 	cargo build --release --quiet -p sheet
 	cp $(CARGO_BIN)/sheet build/sheet
 
+# linked with the libraries of this machine's own processor
+OWN_A := build/libkelindap_device.a build/libkelindap_pdu.a
+TRACE_TEXT := include/kelindap_names.h include/kelindap_common.h tools/trace/kelindap-trace.txt
+build/trace: $(shell find tools/sheet/src tools/trace/src -name '*.rs') $(TRACE_TEXT) tools/trace/Cargo.toml tools/trace/build.rs build/sheet $(OWN_A)
+	cargo build --release --quiet -p trace
+	cp $(CARGO_BIN)/trace build/trace
+
 test-tools: tools $(BUILD)/unit
 	UNIT=$(CURDIR)/$(BUILD)/unit cargo test --release --quiet -p sheet
+	UNIT=$(CURDIR)/$(BUILD)/unit cargo test --release --quiet -p trace
 	tests/examples.sh $(BUILD)/host $(BUILD)/height build/sheet
 	tests/install.sh
 

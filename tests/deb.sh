@@ -48,7 +48,7 @@ mkdir -p "$root/var/lib/dpkg"/{info,updates,triggers}
 : > "$root/var/lib/dpkg/available"
 # a root that holds nothing has no C library either, for which the package asks
 dpkg-deb -f "build/deb/kelindap-tools_${version}_$debian.deb" Depends | grep -q '^libc6 (>= [0-9.]*), libgcc-s1$' || fail "kelindap-tools asks for other packages"
-needed=$(objdump -p build/sheet build/unit | awk '$1 == "NEEDED" && $2 !~ /^ld-linux/ { print $2 }' | sort -u | paste -sd ' ')
+needed=$(objdump -p build/sheet build/trace build/unit | awk '$1 == "NEEDED" && $2 !~ /^ld-linux/ { print $2 }' | sort -u | paste -sd ' ')
 [ "$needed" = "libc.so.6 libgcc_s.so.1" ] || fail "the programs need $needed"
 in_root --force-depends -i "build/deb/libkelindap-dev_${version}_$debian.deb" "build/deb/kelindap-tools_${version}_$debian.deb"
 files=$(find "$root/usr" -type f | wc -l)
@@ -68,10 +68,12 @@ gcc -o "$work/host" -std=c11 tests/c/installed.c "${words[@]}"
 grep -o '0x..' hosts/sample_sheet.inc | sed 's/0x/\\x/' | paste -sd '' > "$work/list"
 printf '%b' "$(cat "$work/list")" > "$work/sheet"
 [ "$("$root/usr/bin/kelindap-sheet" check "$work/sheet")" = OK ] || fail "kelindap-sheet does not accept the sample sheet"
+printf '\0\0' > "$work/trace"
+[ "$("$root/usr/bin/kelindap-trace" play "$work/sheet" "$work/trace" | tail -n 1)" = "sheet unchanged" ] || fail "kelindap-trace does not play"
 
 words_of() { grep -o '[^[:space:]]*'; }
 # a page has the words of --help, but for those of its head and foot
-for program in kelindap-sheet:tools/sheet kelindap-unit:hosts; do
+for program in kelindap-sheet:tools/sheet kelindap-trace:tools/trace kelindap-unit:hosts; do
     text=${program#*:}/${program%%:*}.txt name=${program%%:*}
     "$root/usr/bin/$name" --help | cmp - "$text" || fail "$name --help says something else"
     if command -v man > /dev/null && command -v groff > /dev/null; then

@@ -27,8 +27,9 @@ gcc -o "$work/host" -std=c11 tests/c/installed.c "${words[@]}"
 "$work/at/bin/kelindap-sheet" make /dev/null > "$work/said" 2>&1 || true
 grep -q 'end is missing' "$work/said" || fail "no sheet program"
 [ "$("$work/at/bin/kelindap-sheet" --version)" = "sheet of kelindap $version" ] || fail "a sheet program of another version"
+[ "$("$work/at/bin/kelindap-trace" --version)" = "trace of kelindap $version" ] || fail "a trace program of another version"
 [ "$(echo 'connect 0' | "$work/at/bin/kelindap-unit" | cut -c 1-11)" = "1 1 3 0 3 0" ] || fail "no desk unit"
-[ -s "$work/at/share/man/man1/kelindap-sheet.1" ] || fail "no man page"
+for name in sheet trace unit; do [ -s "$work/at/share/man/man1/kelindap-$name.1" ] || fail "no man page of kelindap-$name"; done
 
 # another processor than this machine's
 other=$([ "$own" = aarch64 ] && echo armhf || echo aarch64)

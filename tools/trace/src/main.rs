@@ -1,0 +1,295 @@
+//! `trace show|make|play|explain`. Exit status 0; 1 if an event was not carried out or a dump is not explained; 2 with a line
+//! on standard error for anything else: a file that can't be read, a recording with a fault, a wrong word. `--help` and
+//! `--version` are asked for, so they go to standard output with status 0.
+
+use std::fs::File;
+use std::io::{self, Read, Write};
+use std::process::ExitCode;
+
+use sheet::json::Json;
+use sheet::layout;
+use sheet::show::plain;
+use trace::archive;
+use trace::events;
+use trace::explain::Story;
+use trace::make;
+use trace::output;
+use trace::play::{event_fields, play, Trace};
+use trace::progress::Progress;
+use trace::recordings::{self, Form};
+use trace::text;
+use trace::times::{self, Known};
+use trace::words;
+
+/// What `--help` shows, and of which the man page is made.
+const HELP: &str = include_str!("../kelindap-trace.txt");
+
+/// The headers' version, which is the tool's too.
+const COMMON: &str = include_str!("../../../include/kelindap_common.h");
+
+/// The longest recording or text that is read, and the longest side file of a trace.
+const LONGEST_RECORDING: u64 = 1 << 28;
+const LONGEST_TIMES: u64 = 1 << 17;
+
+/// What a command says, with its status.
+type Said = Result<(Vec<u8>, u8), String>;
+
+fn main() -> ExitCode {
+    let words: Vec<_> = std::env::args_os().skip(1).collect();
+    let words: Vec<&str> = words.iter().map(|w| w.to_str().unwrap_or("\u{fffd}")).collect();
+    let said = match words[..] {
+        ["--help"] | ["help"] => Ok((HELP.into(), 0)),
+        ["--version"] => Ok((line(format!("trace of kelindap {}", version())), 0)),
+        ["show", ref rest @ ..] => asked(rest, &["--keys", "--json"], &[]).and_then(shown),
+        ["make", ref rest @ ..] => asked(rest, &["--force", "--json"], &["--sheet"]).and_then(made),
+        ["play", ref rest @ ..] => asked(rest, &["--keys", "--json"], &[]).and_then(played),
+        ["explain", ref rest @ ..] => asked(rest, &["--json"], &["--final"]).and_then(explained),
+        _ => Err(usage()),
+    };
+    finish(said)
+}
+
+fn version() -> &'static str {
+    let text = COMMON.split("KELINDAP_VERSION_TEXT \"").nth(1);
+    text.and_then(|text| text.split('"').next()).unwrap_or("of no version")
+}
+
+/// The synopsis.
+fn usage() -> String {
+    let forms = HELP.lines().skip_while(|&line| line != "SYNOPSIS").skip(1);
+    let forms: Vec<_> = forms.take_while(|line| !line.is_empty()).map(str::trim).collect();
+    format!("usage: {}", forms.join("\n       "))
+}
+
+fn finish(said: Said) -> ExitCode {
+    let (bytes, status) = match said {
+        Ok(said) => said,
+        Err(why) => return complain(&why),
+    };
+    let mut out = io::stdout().lock();
+    match out.write_all(&bytes).and_then(|()| out.flush()) {
+        Ok(()) => ExitCode::from(status),
+        Err(why) => complain(&format!("standard output: {why}")),
+    }
+}
+
+fn complain(why: &str) -> ExitCode {
+    // if standard error is closed too there is nobody to tell
+    let usage = usage();
+    let _ = if why == usage {
+        writeln!(io::stderr(), "{usage}")
+    } else {
+        writeln!(io::stderr(), "trace: {}", plain(why))
+    };
+    ExitCode::from(2)
+}
+
+// ---- words and files ----
+
+/// The words of a command: those that are given, the flags, the options with their values.
+struct Asked<'a> {
+    words: Vec<&'a str>,
+    flags: Vec<&'a str>,
+    options: Vec<(&'a str, &'a str)>,
+}
+
+impl<'a> Asked<'a> {
+    fn flag(&self, name: &str) -> bool {
+        self.flags.contains(&name)
+    }
+
+    fn option(&self, name: &str) -> Option<&'a str> {
+        self.options.iter().find(|option| option.0 == name).map(|option| option.1)
+    }
+}
+
+fn asked<'a>(words: &[&'a str], flags: &[&str], options: &[&str]) -> Result<Asked<'a>, String> {
+    let mut asked = Asked { words: Vec::new(), flags: Vec::new(), options: Vec::new() };
+    let mut rest = words.iter();
+    while let Some(&word) = rest.next() {
+        if flags.contains(&word) && !asked.flag(word) {
+            asked.flags.push(word);
+        } else if options.contains(&word) && asked.option(word).is_none() {
+            asked.options.push((word, rest.next().ok_or_else(usage)?));
+        } else if word.starts_with("--") {
+            return Err(usage());
+        } else {
+            asked.words.push(word);
+        }
+    }
+    Ok(asked)
+}
+
+/// At most so many bytes of a file.
+fn read(name: &str, most: u64) -> Result<Vec<u8>, String> {
+    let mut bytes = Vec::new();
+    let got = if name == "-" {
+        io::stdin().lock().take(most).read_to_end(&mut bytes)
+    } else {
+        File::open(name).and_then(|file| file.take(most).read_to_end(&mut bytes))
+    };
+    got.map(|_| bytes).map_err(|why| format!("{name}: {why}"))
+}
+
+/// A text of at most so many bytes.
+fn read_text(name: &str, most: u64) -> Result<String, String> {
+    let bytes = read(name, most + 1)?;
+    if bytes.len() as u64 > most {
+        return Err(format!("{name}: more than {most} bytes"));
+    }
+    String::from_utf8(bytes).map_err(|why| {
+        let upto = &why.as_bytes()[..why.utf8_error().valid_up_to()];
+        let line = 1 + upto.iter().filter(|&&b| b == b'\n').count();
+        let start = upto.iter().rposition(|&b| b == b'\n').map_or(0, |at| at + 1);
+        let column = 1 + String::from_utf8_lossy(&upto[start..]).chars().count();
+        format!("{name}: line {line}, column {column}: a byte that is no text")
+    })
+}
+
+/// A sheet that the archive accepts.
+fn load_sheet(name: &str) -> Result<Vec<u8>, String> {
+    let bytes = read(name, layout::LONGEST as u64 + 1)?;
+    match archive::check(&bytes) {
+        0 => Ok(bytes),
+        rule => {
+            let why = sheet::check::check(&bytes).err().map(|broken| broken.to_string());
+            Err(format!("{name}: {}", why.unwrap_or_else(|| words::outcome(rule).to_string())))
+        }
+    }
+}
+
+/// A trace that the archive accepts, with its side file if there is one.
+fn load_trace(name: &str) -> Result<Trace, String> {
+    let bytes = read(name, events::LONGEST as u64 + 1)?;
+    let events = events::read(&bytes).map_err(|why| format!("{name}: {why}"))?;
+    let side = times_of(name);
+    let known = if name != "-" && std::path::Path::new(&side).exists() {
+        let text = read_text(&side, LONGEST_TIMES)?;
+        times::read(&text, &bytes, events.len()).map_err(|why| format!("{side}: {why}"))?
+    } else {
+        vec![Known::default(); events.len()]
+    };
+    Ok(Trace { name: plain(name), bytes, events, known })
+}
+
+/// The name of the side file of a trace.
+fn times_of(name: &str) -> String {
+    format!("{name}.times")
+}
+
+fn line(text: impl ToString) -> Vec<u8> {
+    (text.to_string() + "\n").into_bytes()
+}
+
+// ---- the commands ----
+
+fn shown(asked: Asked) -> Said {
+    let [name] = asked.words[..] else { return Err(usage()) };
+    let (trace, keys) = (load_trace(name)?, asked.flag("--keys"));
+    if !asked.flag("--json") {
+        return Ok((text::text(&trace.events, &trace.known, keys).into_bytes(), 0));
+    }
+    let events = trace.events.iter().zip(&trace.known).enumerate();
+    let events = events.map(|(i, (e, known))| Json::Object(event_fields(i + 1, e, known, keys)));
+    let object = vec![
+        ("trace", trace.name.as_str().into()),
+        ("bytes", trace.bytes.len().into()),
+        ("events", Json::List(events.collect())),
+    ];
+    Ok((line(Json::Object(object)), 0))
+}
+
+fn made(asked: Asked) -> Said {
+    let [form, recording, name] = asked.words[..] else { return Err(usage()) };
+    let form = match form {
+        "text" => None,
+        "hex" => Some(Form::Hex),
+        "ets" => Some(Form::Ets),
+        "knxtool" => Some(Form::Knxtool),
+        _ => return Err(usage()),
+    };
+    if name == "-" {
+        return Err("-: a trace is made in a file, with its times beside it".to_string());
+    }
+    let made = match (form, asked.option("--sheet")) {
+        (None, None) => {
+            let text = read_text(recording, LONGEST_RECORDING)?;
+            let events = text::events(&text).map_err(|why| format!("{recording}: {why}"))?;
+            make::Made { events, ..make::Made::default() }
+        }
+        (Some(form), Some(sheet)) => {
+            let sheet = load_sheet(sheet)?;
+            let text = read_text(recording, LONGEST_RECORDING)?;
+            let frames =
+                recordings::read(form, &text).map_err(|why| format!("{recording}: {why}"))?;
+            let mut progress = Progress::new("frames", frames.len());
+            make::from_frames(&frames, &sheet, &mut progress)
+        }
+        (None, Some(_)) => return Err("--sheet: a text says the connections by itself".to_string()),
+        (Some(_), None) => {
+            return Err("--sheet is missing: whose frames, by the device's sheet at their start"
+                .to_string())
+        }
+    };
+    let parts = make::parts(&made.events);
+    let names = make::names(name, parts.len());
+    let (mut files, mut stale) = (Vec::new(), Vec::new());
+    for (part, name) in parts.iter().zip(&names) {
+        match &part.times {
+            Some(times) => files.push((times_of(name), times.clone().into_bytes())),
+            None => stale.push(times_of(name)),
+        }
+        files.push((name.clone(), part.bytes.clone()));
+    }
+    output::write(&files, &stale, asked.flag("--force"))?;
+    let said = match asked.flag("--json") {
+        true => line(make::json(&made, &parts, &names)),
+        false => plain_lines(&make::text(&made, &parts, &names)).into_bytes(),
+    };
+    Ok((said, 0))
+}
+
+/// Lines with names in them, as a terminal can have them.
+fn plain_lines(text: &str) -> String {
+    text.lines().map(|line| plain(line) + "\n").collect()
+}
+
+fn load_traces(names: &[&str]) -> Result<Vec<Trace>, String> {
+    if names.is_empty() {
+        return Err(usage());
+    }
+    names.iter().map(|name| load_trace(name)).collect()
+}
+
+fn played(asked: Asked) -> Said {
+    let [sheet, ref traces @ ..] = asked.words[..] else { return Err(usage()) };
+    let traces = load_traces(traces)?;
+    let (sheet, keys) = (load_sheet(sheet)?, asked.flag("--keys"));
+    let played = play(&sheet, &traces);
+    let status = u8::from(!played.all());
+    let said = match asked.flag("--json") {
+        true => line(played.json(&sheet, &traces, keys)),
+        false => played.text(&sheet, &traces, keys).into_bytes(),
+    };
+    Ok((said, status))
+}
+
+fn explained(asked: Asked) -> Said {
+    let [name, ref traces @ ..] = asked.words[..] else { return Err(usage()) };
+    let traces = load_traces(traces)?;
+    let sheet = load_sheet(name)?;
+    let last = asked.option("--final");
+    let dump = last.map(|dump| read(dump, layout::LONGEST as u64 + 1)).transpose()?;
+    let mut progress = Progress::new("events", traces.iter().map(|t| t.events.len()).sum());
+    let story = Story::new(&sheet, &traces, dump.as_deref(), &mut progress);
+    drop(progress);
+    let beside = dump.map(|dump| story.beside(&dump));
+    let status = u8::from(beside.as_ref().is_some_and(|beside| !beside.explained()));
+    let (name, last) = (plain(name), last.map(plain));
+    let pair = last.as_deref().zip(beside.as_ref());
+    let said = match asked.flag("--json") {
+        true => line(story.json(&name, pair)),
+        false => story.text(&name, pair).into_bytes(),
+    };
+    Ok((said, status))
+}

@@ -1,0 +1,85 @@
+//! docs/TRACE.md runs: each line of it that begins with $ and has one of the tools in it says what stands below it.
+//! The sheet tool is the one beside this program; where it was not built, this test has nothing to say.
+
+mod room;
+
+use std::fs;
+use std::os::unix::fs::symlink;
+use std::path::Path;
+use std::process::Command;
+
+const DOCUMENT: &str = include_str!("../../../docs/TRACE.md");
+
+/// The commands of the document, each with the lines that stand below it.
+fn commands(text: &str) -> Vec<(String, String)> {
+    let mut all: Vec<(String, String)> = Vec::new();
+    let mut inside = false;
+    for line in text.lines() {
+        if let Some(command) = line.strip_prefix("    $ build/") {
+            all.push((format!("build/{command}"), String::new()));
+            inside = true;
+        } else if let (true, Some(line)) = (inside, line.strip_prefix("    ")) {
+            all.last_mut().unwrap().1 += &format!("{line}\n");
+        } else if inside && line.is_empty() {
+            all.last_mut().unwrap().1 += "\n";
+        } else {
+            inside = false;
+        }
+    }
+    all.into_iter().map(|(command, said)| (command, said.trim_end().to_string())).collect()
+}
+
+#[test]
+fn as_it_stands() {
+    let trace = Path::new(env!("CARGO_BIN_EXE_trace"));
+    let sheet = trace.with_file_name("sheet");
+    if !sheet.exists() {
+        eprintln!("the sheet tool was not built: the document was not run");
+        return;
+    }
+    let room = room::room("document");
+    fs::create_dir(room.join("build")).unwrap();
+    symlink(trace, room.join("build/trace")).unwrap();
+    symlink(&sheet, room.join("build/sheet")).unwrap();
+    symlink(concat!(env!("CARGO_MANIFEST_DIR"), "/../../examples"), room.join("examples")).unwrap();
+    let commands = commands(DOCUMENT);
+    assert!(commands.len() >= 6, "{commands:?}");
+    let mut written = DOCUMENT.to_string();
+    for (command, said) in commands {
+        let got = Command::new("sh").args(["-c", &command]).current_dir(&room).output().unwrap();
+        assert_eq!(String::from_utf8(got.stderr).unwrap(), "", "{command}");
+        let out = String::from_utf8(got.stdout).unwrap();
+        if std::env::var_os("WRITE_GOLDEN").is_some() {
+            let indented = |text: &str| {
+                let line =
+                    |l: &str| if l.is_empty() { "\n".to_string() } else { format!("    {l}\n") };
+                text.lines().map(line).collect::<String>()
+            };
+            let (old, new) = (indented(&said), indented(out.trim_end()));
+            let line = format!("    $ {command}\n");
+            assert!(written.contains(&(line.clone() + &old)), "{command}");
+            written = written.replacen(&(line.clone() + &old), &(line + &new), 1);
+            continue;
+        }
+        assert_eq!(out.trim_end(), said, "{command}");
+    }
+    if std::env::var_os("WRITE_GOLDEN").is_some() {
+        fs::write(concat!(env!("CARGO_MANIFEST_DIR"), "/../../docs/TRACE.md"), written).unwrap();
+    }
+}
+
+/// What the document shows elsewhere stands so in the programs' files.
+#[test]
+fn shown() {
+    let times = "    times of a trace: events=9 bytes=107 sum=e7d8485e\n    1 time=2026-03-02T08:02:11.004 from=1.1.251\n    2 time=2026-03-02T08:02:11.210 from=1.1.251\n";
+    assert!(DOCUMENT.contains(times));
+    let room = room::room("shown");
+    let words = ["make", "hex", "laptop.hex", "laptop.trace", "--sheet", "before"];
+    assert_eq!(room::told(&room, &words).0, 0);
+    let side = fs::read_to_string(room.join("laptop.trace.times")).unwrap();
+    let indented: String = side.lines().take(3).map(|line| format!("    {line}\n")).collect();
+    assert_eq!(indented, times);
+    fs::write(room.join("bad.hex"), room::LAPTOP.replacen("0643d10022222222", "064g", 1)).unwrap();
+    let fault = room::told(&room, &["make", "hex", "bad.hex", "x", "--sheet", "before"]).2;
+    assert_eq!(fault, "trace: bad.hex: line 5, column 44: no hex digit\n");
+}
