@@ -20,7 +20,7 @@ test: need-tools
 	$(MAKE) --no-print-directory -s prove
 	$(MAKE) --no-print-directory -s sheet-check
 	$(MAKE) --no-print-directory -s test-unit test-text test-c points test-frames test-tools compare test-firmware figures
-	$(MAKE) --no-print-directory -s test-deb test-python test-shims test-others
+	$(MAKE) --no-print-directory -s test-deb test-python test-page test-shims test-others
 	tail -n 1 build/ci.log
 
 # every proof from nothing, every edit, every program, once: what the tests after it link and run is what was proved here. The
@@ -67,4 +67,5 @@ include mk/frames.mk
 include mk/compare.mk
 include mk/bench.mk
 include mk/firmware.mk
+include mk/page.mk
 include mk/figures.mk

@@ -59,7 +59,7 @@ _Static_assert(sizeof(word) == sizeof(void *), "an address fills a register");
 typedef uint32_t quad __attribute__((vector_size(16)));
 #define BASE __attribute__((pcs("aapcs")))
 #define QUAD(q, i) ((q)[i])
-#elif defined(__aarch64__) || defined(__riscv)
+#elif defined(__aarch64__) || defined(__riscv) || defined(__wasm__)
 /* as C has it: in two registers of 64 bits, or through memory */
 typedef struct quad {
     uint64_t first, second;

@@ -1,0 +1,96 @@
+// A device at work: its sheet, the sessions of two connections, a store. Each event is a call of the module; what it changed is seen by comparing.
+
+const MULTICAST = 0, BROADCAST = 1, CONNECTIONLESS = 2, CONNECTED = 3;
+const REQUEST = 0, CONNECT = 1, DISCONNECT = 2, BUTTON_ON = 3, BUTTON_OFF = 4;
+const STORE = 4096;
+
+/** @typedef {{ kind: number, mode: number, connection: number, group: number, apdu: Uint8Array }} Happening */
+/** @typedef {{ sent: string, outcome: number, answer: string, sessions: string[], changes: string[], event?: Happening, before: Uint8Array }} Event_ */
+
+/** @param {Uint8Array} sessions @param {number} c */
+const sessionText = (sessions, c) => (sessions[2 * c] ? `level ${sessions[2 * c + 1]}` : "closed");
+
+// How a request came, in words.
+/** @param {number} mode @param {number} connection @param {number} group */
+function wayText(mode, connection, group) {
+    if (mode === MULTICAST) return `to group ${groupText(group)}`;
+    if (mode === BROADCAST) return "to all";
+    if (mode === CONNECTIONLESS) return "on no connection";
+    return mode === CONNECTED ? `on connection ${connection}` : `in mode ${mode}`;
+}
+
+class Device {
+    /** @param {Proved} proved @param {Uint8Array} sheet */
+    constructor(proved, sheet) {
+        this.proved = proved;
+        this.first = sheet.slice();
+        this.sheet = sheet.slice();
+        this.sessions = proved.fresh();
+        this.store = new Uint8Array(STORE);
+        /** @type {Event_[]} */
+        this.log = [];
+    }
+
+    /**
+     * One event: what it gave, and what it did to sheet and sessions.
+     * @param {string} sent @param {() => { outcome: number, answer?: string }} call @param {Happening} [event]
+     */
+    happens(sent, call, event) {
+        const before = this.sheet.slice(), was = this.sessions.slice(), { outcome, answer = "" } = call();
+        const sessions = [0, 1].filter(c => sessionText(was, c) !== sessionText(this.sessions, c))
+            .map(c => `connection ${c}: ${sessionText(was, c)} → ${sessionText(this.sessions, c)}`);
+        const told = { sent, outcome, answer, sessions, changes: [...sessions, ...differences(before, this.sheet)], event, before };
+        this.log.push(told);
+        return told;
+    }
+
+    /** @param {number} connection */
+    connect(connection) {
+        return this.happens(`connect ${connection}`, () => ({ outcome: this.proved.connect(this.sessions, connection) }), happening(CONNECT, connection));
+    }
+
+    /** @param {number} connection */
+    disconnect(connection) {
+        return this.happens(`disconnect ${connection}`, () => ({ outcome: this.proved.disconnect(this.sessions, connection) }), happening(DISCONNECT, connection));
+    }
+
+    /** @param {boolean} on */
+    button(on) {
+        return this.happens(`button ${switchText(on)}`, () => ({ outcome: this.proved.button(this.sheet, on) }), happening(on ? BUTTON_ON : BUTTON_OFF));
+    }
+
+    /** @param {Uint8Array} apdu @param {number} mode @param {number} [connection] @param {number} [group] */
+    request(apdu, mode, connection = 0, group = 0) {
+        const call = () => {
+            const reply = this.proved.request(this.sessions, mode, connection, group, apdu, this.sheet);
+            return { outcome: reply.outcome, answer: reply.answer.length ? apduText(this.proved, reply.answer) : "" };
+        };
+        return this.happens(`${apduText(this.proved, apdu)}, ${wayText(mode, connection, group)}`, call, { kind: REQUEST, mode, connection, group, apdu });
+    }
+
+    convert() {
+        return this.happens("convert", () => ({ outcome: this.proved.convert(this.sheet) }));
+    }
+
+    save() {
+        return this.happens("save a version", () => {
+            const saved = this.proved.save(this.sheet, this.store);
+            return { outcome: saved.outcome, answer: saved.outcome === 0 ? `version ${saved.number}` : "" };
+        });
+    }
+
+    /** @param {number} connection @param {number} version */
+    restore(connection, version) {
+        return this.happens(`restore version ${version}, on connection ${connection}`,
+            () => ({ outcome: this.proved.restore(this.sessions, connection, this.sheet, this.store, version) }));
+    }
+
+    /** @param {number} version */
+    remove(version) {
+        return this.happens(`remove version ${version}`, () => ({ outcome: this.proved.remove(this.store, version) }));
+    }
+}
+
+// An event without an APDU.
+/** @param {number} kind @param {number} [connection] @returns {Happening} */
+const happening = (kind, connection = 0) => ({ kind, mode: 0, connection, group: 0, apdu: new Uint8Array(0) });

@@ -1,0 +1,73 @@
+// Bytes from a person: a file chosen or dropped, hex digits pasted, one of the page's own; and saved as a file.
+
+/** No sheet, trace, store or dump is longer, so a longer file is not read. */
+const MOST_BYTES = 1 << 18;
+
+/**
+ * The bytes of a file; one that holds hex digits and nothing else is read as such, which no sheet, trace or store looks like.
+ * @param {File} file
+ */
+async function fileBytes(file) {
+    if (file.size > MOST_BYTES) throw new Fault(`${file.name} has ${counted(file.size, "byte")}, more than any sheet, trace or store: it was not read`);
+    const bytes = new Uint8Array(await file.arrayBuffer());
+    const text = new TextDecoder().decode(bytes);
+    return /^[0-9a-fA-F\s]+$/.test(text) && text.trim() ? unhex(text) : bytes;
+}
+
+/** @param {Uint8Array} bytes @param {string} name */
+function saveFile(bytes, name) {
+    const link = el("a", { href: URL.createObjectURL(new Blob([bytes])), download: name });
+    link.click();
+    setTimeout(() => URL.revokeObjectURL(link.href), 1000);
+}
+
+/**
+ * A place where bytes come in, by file, drop, paste or choice. `others` are what the page has itself.
+ * @param {string} title @param {(bytes: Uint8Array, name: string) => void} taken @param {[string, () => Uint8Array | null][]} others
+ */
+function source(title, taken, others) {
+    const said = el("p", { class: "said", role: "status" });
+    /** @param {() => Promise<[Uint8Array, string]> | [Uint8Array, string]} get */
+    const take = async get => {
+        try {
+            const [bytes, name] = await get();
+            taken(bytes, name);
+            said.textContent = `${name}, ${counted(bytes.length, "byte")}`;
+            said.classList.remove("fault");
+        } catch (error) {
+            if (!(error instanceof Fault)) throw error;
+            said.textContent = error.message;
+            said.classList.add("fault");
+        }
+    };
+    /** @param {File | undefined} chosen */
+    const takeFile = chosen => chosen && take(async () => [await fileBytes(chosen), chosen.name]);
+    const file = el("input", { type: "file" });
+    file.addEventListener("change", () => {
+        takeFile(file.files?.[0]);
+        file.value = ""; // so that the same file can be chosen again, once it is another
+    });
+    const digits = el("textarea", { rows: 4, spellcheck: "false", autocomplete: "off" });
+    const menu = choice([["", "choose…"], ...others.map(([text], i) => /** @type {[string, string]} */ ([String(i), text]))], value => {
+        if (value === "") return;
+        const [text, get] = others[Number(value)];
+        take(() => {
+            const bytes = get();
+            if (!bytes) throw new Fault(`there is none yet: ${text}`);
+            return [bytes, text];
+        });
+        menu.value = "";
+    });
+    const box = el("fieldset", { class: "source" }, el("legend", {}, title),
+        el("div", { class: "ways" }, labelled("Open a file, or drop it here", file), others.length > 0 && labelled("Take", menu)),
+        el("details", {}, el("summary", {}, "Paste hex digits"), labelled("Hex digits", digits),
+            button("Take these", () => take(() => [unhex(digits.value), "pasted"]))),
+        said);
+    box.addEventListener("dragover", event => { event.preventDefault(); box.classList.add("over"); });
+    box.addEventListener("dragleave", () => box.classList.remove("over"));
+    box.addEventListener("drop", event => { event.preventDefault(); box.classList.remove("over"); takeFile(event.dataTransfer?.files[0]); });
+    return box;
+}
+
+// a file that is dropped beside a place for it does not replace the page
+for (const kind of ["dragover", "drop"]) document.addEventListener(kind, event => event.preventDefault());

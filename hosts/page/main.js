@@ -1,0 +1,116 @@
+// The page: five parts, of which one is seen; what they share.
+
+/** @typedef {{ show?: () => void, set?: Function }} Part */
+
+class App {
+    /** @param {Proved} proved */
+    constructor(proved) {
+        this.proved = proved;
+        this.keys = false;
+        this.sheet = unhex(MADE.sheets[0][1]);
+        this.sheetName = "sheet.bin";
+        this.device = new Device(proved, this.sheet);
+        this.sheetPart = new SheetPart(this, byId("sheet"));
+        this.twoPart = new TwoPart(this, byId("two"));
+        this.devicePart = new DevicePart(this, byId("device"));
+        this.tracePart = new TracePart(this, byId("trace"));
+        this.demoPart = new DemoPart(this, byId("demo"));
+        this.tabs();
+        byId("version").textContent = proved.version();
+        const keys = /** @type {HTMLInputElement} */ (byId("keys"));
+        keys.addEventListener("change", () => { this.keys = keys.checked; this.showAll(); });
+        this.showAll();
+    }
+
+    /** @returns {[string, () => Uint8Array][]} */
+    samples() {
+        return MADE.sheets.map(([name, digits]) => [name, () => unhex(digits)]);
+    }
+
+    showAll() {
+        this.sheetPart.show();
+        this.twoPart.show();
+        this.devicePart.show();
+        this.tracePart.load();
+    }
+
+    /** @param {Uint8Array} bytes @param {string} name */
+    setSheet(bytes, name) {
+        this.sheet = bytes.slice();
+        this.sheetName = /\.\w+$/.test(name) ? name.replace(/\.\w+$/, ".bin") : "sheet.bin";
+        this.sheetPart.show();
+    }
+
+    /** @param {Uint8Array} sheet */
+    putOnDevice(sheet) {
+        const { store } = this.device;
+        this.device = new Device(this.proved, sheet);
+        this.device.store = store;
+        this.devicePart.show();
+        this.open("device");
+    }
+
+    /** @param {number} side @param {Uint8Array} sheet */
+    compare(side, sheet) {
+        this.twoPart.set(side, sheet);
+        this.open("two");
+    }
+
+    /** What happened to the device, as a trace; none if nothing did. */
+    record() {
+        const events = this.device.log.flatMap(({ event }) => (event ? [event] : []));
+        if (this.device.log.some(({ event, before }, i) => !event && !same(before, this.device.log[i + 1]?.before ?? this.device.sheet)))
+            throw new Fault("a version was restored, which a trace can't say");
+        return events.length ? traceOf(events.slice(0, MOST_EVENTS)) : null;
+    }
+
+    recorded() {
+        try {
+            this.tracePart.set(this.device.first, this.record() ?? new Uint8Array(2));
+            this.open("trace");
+        } catch (error) {
+            if (!(error instanceof Fault)) throw error;
+            this.devicePart.hint.textContent = error.message;
+        }
+    }
+
+    /** The tabs: arrow keys go from one to the next, as in every list of tabs. */
+    tabs() {
+        const tabs = /** @type {HTMLElement[]} */ ([...document.querySelectorAll("[role=tab]")]);
+        for (const [i, tab] of tabs.entries()) {
+            tab.addEventListener("click", () => this.open(/** @type {string} */ (tab.getAttribute("aria-controls"))));
+            tab.addEventListener("keydown", event => {
+                const to = /** @type {Record<string, number>} */ ({ ArrowLeft: i - 1, ArrowRight: i + 1, Home: 0, End: tabs.length - 1 })[event.key];
+                if (to === undefined) return;
+                event.preventDefault();
+                const next = tabs[(to + tabs.length) % tabs.length];
+                this.open(/** @type {string} */ (next.getAttribute("aria-controls")));
+                next.focus();
+            });
+        }
+        const named = () => (tabs.some(tab => tab.getAttribute("aria-controls") === location.hash.slice(1)) ? location.hash.slice(1) : "sheet");
+        addEventListener("hashchange", () => this.open(named()));
+        this.open(named());
+    }
+
+    /** @param {string} id */
+    open(id) {
+        for (const tab of document.querySelectorAll("[role=tab]")) {
+            const chosen = tab.getAttribute("aria-controls") === id;
+            tab.setAttribute("aria-selected", String(chosen));
+            tab.setAttribute("tabindex", chosen ? "0" : "-1");
+            byId(/** @type {string} */ (tab.getAttribute("aria-controls"))).hidden = !chosen;
+        }
+        if (id === "trace") this.tracePart.reveal();
+    }
+}
+
+/** @type {App} */
+let app;
+Proved.start(MADE.wasm).then(proved => {
+    app = new App(proved);
+    document.documentElement.dataset.ready = "yes";
+}, error => {
+    byId("failed").hidden = false;
+    byId("failed").textContent = `The module could not be started: ${error.message}`;
+});

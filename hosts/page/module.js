@@ -1,0 +1,276 @@
+// The proved module: each call of the C headers, by its name, over buffers that are lent for that call. Nothing is decided here.
+
+/** @typedef {Record<string, (...values: number[]) => number>} Exports */
+/** @typedef {{ outcome: number, answer: Uint8Array }} Reply */
+/** @typedef {{ outcome: number, kind: number, data: Uint8Array, fields: Record<string, number | bigint> }} FlatPdu */
+/** @typedef {{ outcome: number, value: number, hundredths: number, bits: number }} Point */
+/** @typedef {{ refusal: number, handled: number }} Played */
+
+const CONNECTIONS = 2;
+const LOG_LINE = 18;
+const MOST_EVENTS = 512;
+const ANSWER = 16;
+
+class Proved {
+    /** @param {WebAssembly.Exports} exports */
+    constructor(exports) {
+        this.calls = /** @type {Exports} */ (/** @type {unknown} */ (exports));
+        this.memory = /** @type {WebAssembly.Memory} */ (exports.memory);
+        this.base = (/** @type {WebAssembly.Global} */ (exports.__heap_base).value + 15) & ~15;
+        this.top = this.base;
+        /** @type {{ at: number, to: Uint8Array | Uint32Array }[]} */
+        this.back = [];
+        this.fields = this.readFields();
+    }
+
+    /** @param {string} base64 */
+    static async start(base64) {
+        const bytes = Uint8Array.from(atob(base64), c => c.charCodeAt(0));
+        return new Proved((await WebAssembly.instantiate(bytes, {})).instance.exports);
+    }
+
+    /** Where the fields of the headers' structures stand: the module's C part tells it. */
+    readFields() {
+        const view = new DataView(this.memory.buffer), all = new Map();
+        for (let at = this.calls.page_fields(); view.getUint32(at, true) !== 0; at += 12) {
+            let name = "";
+            for (let c = view.getUint32(at, true); view.getUint8(c) !== 0; c++) name += String.fromCharCode(view.getUint8(c));
+            all.set(name, { at: view.getUint32(at + 4, true), size: view.getUint32(at + 8, true) });
+        }
+        return all;
+    }
+
+    // Room for so many bytes, zeroed.
+    /** @param {number} size */
+    room(size) {
+        const at = this.top;
+        this.top = (at + size + 15) & ~15;
+        const missing = this.top - this.memory.buffer.byteLength;
+        if (missing > 0) this.memory.grow(Math.ceil(missing / 65536));
+        new Uint8Array(this.memory.buffer, at, size).fill(0);
+        return at;
+    }
+
+    // A run lent to be read: its address and its length.
+    /** @param {Uint8Array} bytes @returns {[number, number]} */
+    read(bytes) {
+        const at = this.room(bytes.length);
+        new Uint8Array(this.memory.buffer, at, bytes.length).set(bytes);
+        return [at, bytes.length];
+    }
+
+    // A run lent to be written: after the call it holds what the module left there.
+    /** @param {Uint8Array | Uint32Array} run @returns {[number, number]} */
+    write(run) {
+        const bytes = new Uint8Array(run.buffer, run.byteOffset, run.byteLength);
+        const [at] = this.read(bytes);
+        this.back.push({ at, to: bytes });
+        return [at, run.length];
+    }
+
+    // A structure of the headers, zeroed.
+    /** @param {string} type */
+    structure(type) {
+        return this.room(this.fields.get(type).size);
+    }
+
+    /** @param {number} at @param {string} field */
+    get(at, field) {
+        const place = this.fields.get(field), view = new DataView(this.memory.buffer), p = at + place.at;
+        if (place.size === 8) return view.getBigUint64(p, true);
+        return place.size === 4 ? view.getUint32(p, true) : place.size === 2 ? view.getUint16(p, true) : view.getUint8(p);
+    }
+
+    /** @param {number} at @param {string} field */
+    small(at, field) {
+        return Number(this.get(at, field));
+    }
+
+    // A number into a field; one that the field can't hold is refused.
+    /** @param {number} at @param {string} field @param {bigint} value */
+    put(at, field, value) {
+        const place = this.fields.get(field), view = new DataView(this.memory.buffer), p = at + place.at;
+        if (value < 0n || value >= 1n << BigInt(8 * place.size)) return false;
+        for (let i = 0; i < place.size; i++) view.setUint8(p + i, Number((value >> BigInt(8 * i)) & 255n));
+        return true;
+    }
+
+    // A call with what it is lent; the next begins with all room free.
+    /** @template T @param {() => T} call @returns {T} */
+    lending(call) {
+        this.top = this.base;
+        this.back = [];
+        const result = call();
+        for (const { at, to } of this.back) to.set(new Uint8Array(this.memory.buffer, at, to.length));
+        return result;
+    }
+
+    version() {
+        const v = this.calls.kelindap_version();
+        return `${v >> 16}.${(v >> 8) & 255}.${v & 255}`;
+    }
+
+    // ---- kelindap.h ----
+
+    fresh() {
+        const sessions = new Uint8Array(4);
+        this.lending(() => this.calls.kelindap_fresh(this.write(sessions)[0]));
+        return sessions;
+    }
+
+    /** @param {Uint8Array} sheet */
+    check(sheet) {
+        return this.lending(() => this.calls.kelindap_check(...this.read(sheet)));
+    }
+
+    /** @param {Uint8Array} sheet */
+    convert(sheet) {
+        return this.lending(() => this.calls.kelindap_convert(...this.write(sheet)));
+    }
+
+    /** @param {Uint8Array} sessions @param {number} connection */
+    connect(sessions, connection) {
+        return this.lending(() => this.calls.kelindap_connect(this.write(sessions)[0], connection));
+    }
+
+    /** @param {Uint8Array} sessions @param {number} connection */
+    disconnect(sessions, connection) {
+        return this.lending(() => this.calls.kelindap_disconnect(this.write(sessions)[0], connection));
+    }
+
+    /** @param {Uint8Array} sheet @param {boolean} on */
+    button(sheet, on) {
+        return this.lending(() => this.calls.kelindap_button(...this.write(sheet), Number(on)));
+    }
+
+    /**
+     * @param {Uint8Array} sessions @param {number} mode @param {number} connection @param {number} group
+     * @param {Uint8Array} apdu @param {Uint8Array} sheet @param {Uint8Array} buffer @returns {Reply}
+     */
+    request(sessions, mode, connection, group, apdu, sheet, buffer = new Uint8Array(ANSWER)) {
+        const [outcome, count] = this.lending(() => {
+            const reply = this.structure("reply");
+            this.calls.kelindap_request(reply, this.write(sessions)[0], mode, connection, group,
+                ...this.read(apdu), ...this.write(sheet), ...this.write(buffer));
+            return [this.small(reply, "reply.outcome"), this.small(reply, "reply.count")];
+        });
+        return { outcome, answer: buffer.slice(0, count) };
+    }
+
+    // Where a body stands.
+    /** @param {"property" | "region" | "group" | "user_region"} kind @param {Uint8Array} sheet @param {number[]} named */
+    place(kind, sheet, ...named) {
+        return this.lending(() => {
+            const part = this.structure("part");
+            this.calls["kelindap_" + kind](part, ...this.read(sheet), ...named);
+            return { offset: this.small(part, "part.offset"), length: this.small(part, "part.length") };
+        });
+    }
+
+    // ---- kelindap_store.h ----
+
+    /** @param {Uint8Array} store */
+    storeCheck(store) {
+        return this.lending(() => this.calls.kelindap_store_check(...this.read(store)));
+    }
+
+    /** @param {Uint8Array} sheet @param {Uint8Array} store */
+    save(sheet, store) {
+        return this.lending(() => {
+            const saved = this.structure("saved");
+            this.calls.kelindap_save(saved, ...this.read(sheet), ...this.write(store));
+            return { outcome: this.small(saved, "saved.outcome"), number: this.small(saved, "saved.number") };
+        });
+    }
+
+    /** @param {Uint8Array} sessions @param {number} connection @param {Uint8Array} sheet @param {Uint8Array} store @param {number} version */
+    restore(sessions, connection, sheet, store, version) {
+        return this.lending(() => this.calls.kelindap_restore(this.read(sessions)[0], connection,
+            ...this.write(sheet), ...this.read(store), version));
+    }
+
+    /** @param {Uint8Array} store @param {number} version */
+    remove(store, version) {
+        return this.lending(() => this.calls.kelindap_remove(...this.write(store), version));
+    }
+
+    // ---- kelindap_trace.h ----
+
+    /** @param {Uint8Array} trace */
+    traceCheck(trace) {
+        return this.lending(() => this.calls.kelindap_trace_check(...this.read(trace)));
+    }
+
+    /**
+     * Marks have a number for each byte of the sheet, and one for the level of each connection.
+     * @param {Uint8Array} sessions @param {Uint8Array} sheet @param {Uint8Array} trace @param {number} from @param {number} limit
+     * @param {Uint8Array} log @param {Uint32Array} marks @returns {Played}
+     */
+    playMarked(sessions, sheet, trace, from, limit, log, marks) {
+        return this.lending(() => {
+            const played = this.structure("played");
+            this.calls.kelindap_play_marked(played, this.write(sessions)[0], ...this.write(sheet), ...this.read(trace), from, limit,
+                ...this.write(log), this.room(sheet.length), sheet.length, ...this.write(marks), from);
+            return { refusal: this.small(played, "played.refusal"), handled: this.small(played, "played.handled") };
+        });
+    }
+
+    // ---- kelindap_pdu.h ----
+
+    /** @param {Uint8Array} apdu @returns {FlatPdu} */
+    readPdu(apdu) {
+        return this.lending(() => {
+            const pdu = this.structure("pdu");
+            this.calls.kelindap_read(pdu, ...this.read(apdu));
+            const from = this.small(pdu, "pdu.data_offset");
+            /** @type {Record<string, number | bigint>} */
+            const fields = {};
+            for (const name of this.fields.keys()) if (name.startsWith("pdu.")) fields[name.slice(4)] = this.get(pdu, name);
+            return { outcome: Number(fields.outcome), kind: Number(fields.kind), fields,
+                data: apdu.slice(from, from + this.small(pdu, "pdu.data_length")) };
+        });
+    }
+
+    /**
+     * A PDU by its fields; 13 if a value does not fit its field.
+     * @param {number} kind @param {Record<string, bigint>} fields @param {Uint8Array} data @param {Uint8Array} out
+     */
+    writePdu(kind, fields, data, out) {
+        return this.lending(() => {
+            const pdu = this.structure("pdu"), written = this.structure("written");
+            let fits = this.put(pdu, "pdu.kind", BigInt(kind));
+            for (const [name, value] of Object.entries(fields)) fits = this.put(pdu, "pdu." + name, value) && fits;
+            if (!fits) this.put(pdu, "pdu.kind", 255n);
+            this.calls.kelindap_write(written, pdu, ...this.read(data), ...this.write(out));
+            return { outcome: this.small(written, "written.outcome"), count: this.small(written, "written.count") };
+        });
+    }
+
+    /** @param {number} type @param {Uint8Array} bytes @returns {Point} */
+    readPoint(type, bytes) {
+        return this.lending(() => {
+            const point = this.structure("point");
+            this.calls.kelindap_point_read(point, type, ...this.read(bytes));
+            return { outcome: this.small(point, "point.outcome"), value: this.small(point, "point.value"),
+                hundredths: this.small(point, "point.hundredths") | 0, bits: this.small(point, "point.bits") };
+        });
+    }
+
+    // ---- kelindap_frame.h ----
+
+    // A frame's fields by name, with its additional information and its TPDU.
+    /** @param {Uint8Array} frame */
+    readFrame(frame) {
+        return this.lending(() => {
+            const at = this.structure("frame");
+            this.calls.kelindap_frame_read(at, ...this.read(frame));
+            /** @param {string} name */
+            const field = name => this.small(at, "frame." + name);
+            /** @param {string} name */
+            const part = name => frame.slice(field(name + "_offset"), field(name + "_offset") + field(name + "_length"));
+            return { outcome: field("outcome"), event: field("event"), code: field("code"), control1: field("control1"),
+                control2: field("control2"), source: field("source"), destination: field("destination"),
+                transport: field("transport"), info: part("info"), tpdu: part("tpdu") };
+        });
+    }
+}

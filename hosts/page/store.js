@@ -1,0 +1,28 @@
+// What a store of versions keeps (docs/STORE.md), for showing it. Whether it is good is the module's to say.
+
+/** @typedef {{ number: number, settings: Uint8Array }} Version */
+
+// The versions in a good store.
+/** @param {Uint8Array} store @returns {Version[]} */
+function versionsOf(store) {
+    return Array.from({ length: number(store, 0, 2) }, (_, k) => {
+        const at = 8 + 8 * k, body = number(store, at + 4, 2);
+        return { number: number(store, at, 2), settings: store.slice(body, body + number(store, at + 6, 2)) };
+    });
+}
+
+/**
+ * What the properties of a sheet hold now that a version held otherwise, by meaning; nothing can be said if it is of another sheet.
+ * @param {Uint8Array} sheet @param {Version} version
+ */
+function sinceVersion(sheet, version) {
+    const { settings } = version, e = entriesOf(sheet), entries = 12 * e.properties.length;
+    const bodies = e.properties.reduce((sum, p) => sum + p.length, 0);
+    if (number(settings, 0, 2) !== e.properties.length || settings.length !== 2 + entries + bodies) return null;
+    const as = sheet.slice();
+    if (e.properties.length) {
+        as.set(settings.subarray(2, 2 + entries), e.properties[0].at);
+        as.set(settings.subarray(2 + entries), e.properties[0].body);
+    }
+    return propertiesDiffer(as, sheet, entriesOf(as).properties, e.properties);
+}

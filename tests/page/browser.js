@@ -1,0 +1,183 @@
+// A browser without a window, driven over a pipe by the DevTools protocol, and a person in front of it: mouse, keys, files.
+"use strict";
+const { spawn } = require("child_process");
+const fs = require("fs");
+const os = require("os");
+const path = require("path");
+
+class Browser {
+    constructor(program) {
+        this.folder = fs.mkdtempSync(path.join(os.tmpdir(), "page-"));
+        this.downloads = path.join(this.folder, "downloads");
+        fs.mkdirSync(this.downloads);
+        const words = ["--headless", "--no-sandbox", "--disable-gpu", "--hide-scrollbars", "--remote-debugging-pipe", `--user-data-dir=${this.folder}/profile`, "about:blank"];
+        this.child = spawn(program, words, { stdio: ["ignore", "ignore", "ignore", "pipe", "pipe"] });
+        this.to = this.child.stdio[3];
+        this.waiting = new Map();
+        this.events = [];
+        this.number = 0;
+        let rest = Buffer.alloc(0);
+        this.child.stdio[4].on("data", data => {
+            rest = Buffer.concat([rest, data]);
+            for (let end = rest.indexOf(0); end >= 0; end = rest.indexOf(0)) {
+                this.received(JSON.parse(rest.subarray(0, end).toString()));
+                rest = rest.subarray(end + 1);
+            }
+        });
+        this.child.on("exit", () => {
+            for (const { fail } of this.waiting.values()) fail(new Error("the browser has ended"));
+        });
+    }
+
+    received(message) {
+        if (message.id === undefined) {
+            this.events.push(message);
+            return;
+        }
+        const { done, fail } = this.waiting.get(message.id);
+        this.waiting.delete(message.id);
+        if (message.error) fail(new Error(message.error.message));
+        else done(message.result);
+    }
+
+    send(method, params = {}) {
+        const id = ++this.number;
+        return new Promise((done, fail) => {
+            this.waiting.set(id, { done, fail });
+            this.to.write(JSON.stringify({ id, method, params, sessionId: this.session }) + "\0");
+        });
+    }
+
+    async open(url) {
+        const { targetInfos } = await this.send("Target.getTargets");
+        const target = targetInfos.find(info => info.type === "page") || (await this.send("Target.createTarget", { url: "about:blank" }));
+        this.session = (await this.send("Target.attachToTarget", { targetId: target.targetId, flatten: true })).sessionId;
+        for (const domain of ["Page", "Runtime", "Network", "Log", "DOM", "Accessibility"]) await this.send(`${domain}.enable`);
+        await this.send("Browser.setDownloadBehavior", { behavior: "allow", downloadPath: this.downloads });
+        await this.load(url);
+    }
+
+    async load(url) {
+        await this.send("Page.navigate", { url });
+        await this.until("document.documentElement.dataset.ready === 'yes'");
+    }
+
+    async run(expression) {
+        const { result, exceptionDetails } = await this.send("Runtime.evaluate", { expression, returnByValue: true, awaitPromise: true });
+        if (exceptionDetails) throw new Error(exceptionDetails.exception?.description || exceptionDetails.text);
+        return result.value;
+    }
+
+    async until(expression, what = expression) {
+        const end = Date.now() + 20000;
+        for (;;) {
+            if (await this.run(`Boolean(${expression})`).catch(() => false)) return;
+            if (Date.now() > end) throw new Error(`waited in vain for ${what}`);
+            await new Promise(done => setTimeout(done, 20));
+        }
+    }
+
+    // ---- a person ----
+
+    async size(width, height) {
+        await this.send("Emulation.setDeviceMetricsOverride", { width, height, deviceScaleFactor: 1, mobile: width < 500 });
+    }
+
+    async colours(scheme) {
+        await this.send("Emulation.setEmulatedMedia", { features: [{ name: "prefers-color-scheme", value: scheme }] });
+    }
+
+    // the middle of an element, brought into sight
+    async middle(selector) {
+        const at = await this.run(`(() => { const e = ${find(selector)}; if (!e) return null; e.scrollIntoView({ block: "center" }); const r = e.getBoundingClientRect(); return { x: r.x + r.width / 2, y: r.y + r.height / 2, seen: r.width > 0 }; })()`);
+        if (!at || !at.seen) throw new Error(`there is nothing to press: ${selector}`);
+        return at;
+    }
+
+    async click(selector) {
+        const { x, y } = await this.middle(selector);
+        for (const type of ["mousePressed", "mouseReleased"]) await this.send("Input.dispatchMouseEvent", { type, x, y, button: "left", clickCount: 1 });
+    }
+
+    async point(selector) {
+        const { x, y } = await this.middle(selector);
+        await this.send("Input.dispatchMouseEvent", { type: "mouseMoved", x, y });
+    }
+
+    async key(name) {
+        const keys = { Enter: [13, "\r"], Tab: [9], " ": [32, " "], ArrowLeft: [37], ArrowUp: [38], ArrowRight: [39], ArrowDown: [40], Home: [36], End: [35], Backspace: [8] };
+        const shift = name === "Shift+Tab", [code, text] = keys[shift ? "Tab" : name];
+        const key = { key: shift ? "Tab" : name, code: name === " " ? "Space" : shift ? "Tab" : name, windowsVirtualKeyCode: code, modifiers: shift ? 8 : 0 };
+        await this.send("Input.dispatchKeyEvent", { type: text ? "keyDown" : "rawKeyDown", text, ...key });
+        await this.send("Input.dispatchKeyEvent", { type: "keyUp", ...key });
+    }
+
+    // what stands in a field is replaced
+    async type(selector, text) {
+        await this.run(`(() => { const e = ${find(selector)}; e.focus(); e.select(); })()`);
+        await this.send("Input.insertText", { text });
+    }
+
+    async choose(selector, text) {
+        const done = await this.run(`(() => { const e = ${find(selector)}, o = [...e.options].find(o => o.text === ${JSON.stringify(text)}); if (!o) return false; e.focus(); e.value = o.value; e.dispatchEvent(new Event("change", { bubbles: true })); return true; })()`);
+        if (!done) throw new Error(`no choice ${text} in ${selector}`);
+    }
+
+    file(name, bytes) {
+        const file = path.join(this.folder, name);
+        fs.writeFileSync(file, bytes);
+        return file;
+    }
+
+    async chooseFile(selector, file) {
+        const { result } = await this.send("Runtime.evaluate", { expression: find(selector) });
+        await this.send("DOM.setFileInputFiles", { files: [file], objectId: result.objectId });
+    }
+
+    async drop(selector, file) {
+        const { x, y } = await this.middle(selector);
+        const data = { items: [], files: [file], dragOperationsMask: 1 };
+        for (const type of ["dragEnter", "dragOver", "drop"]) await this.send("Input.dispatchDragEvent", { type, x, y, data });
+    }
+
+    // a file that the page saves; its bytes
+    async saved(action) {
+        await action();
+        for (let i = 0; i < 500; i++) {
+            const name = fs.readdirSync(this.downloads).find(n => !n.endsWith(".crdownload") && !n.startsWith("."));
+            const bytes = name ? fs.readFileSync(path.join(this.downloads, name)) : Buffer.alloc(0);
+            if (bytes.length > 0) {
+                fs.unlinkSync(path.join(this.downloads, name));
+                return { name, bytes };
+            }
+            await new Promise(done => setTimeout(done, 20));
+        }
+        throw new Error("nothing was saved");
+    }
+
+    async picture(file) {
+        const { data } = await this.send("Page.captureScreenshot", { format: "png", captureBeyondViewport: true });
+        fs.writeFileSync(file, Buffer.from(data, "base64"));
+    }
+
+    async close() {
+        const ended = new Promise(done => this.child.on("exit", done));
+        this.send("Browser.close").catch(() => {});
+        await Promise.race([ended, new Promise(done => setTimeout(done, 5000))]);
+        for (const pipe of this.child.stdio) if (pipe) pipe.destroy();
+        this.child.kill();
+        fs.rmSync(this.folder, { recursive: true, force: true, maxRetries: 10 });
+    }
+}
+
+// an element in the part that is seen: by a selector, or by the text of a button or the label of a field as "=Send"
+function find(selector) {
+    if (!selector.startsWith("=")) return `document.querySelector(${JSON.stringify(selector)})`;
+    const text = JSON.stringify(selector.slice(1));
+    return `(() => { const seen = e => e.offsetParent !== null && e.getClientRects().length > 0;
+        for (const e of document.querySelectorAll("button, summary")) if (seen(e) && (e.getAttribute("aria-label") || e.textContent) === ${text}) return e;
+        for (const e of document.querySelectorAll("label")) if (seen(e) && e.textContent === ${text}) return document.getElementById(e.htmlFor);
+        return null; })()`;
+}
+
+module.exports = { Browser };

@@ -1,0 +1,44 @@
+// Files that are no sheets, text that is no hex, names that are no text.
+"use strict";
+const { read, hex, sample, pump, text, bytesOf, expect, has } = require("./common.js");
+const { random } = require("./sheets.js");
+
+async function hostile(b) {
+    const next = random(11), status = () => b.run(text("#sheet .said"));
+    await b.click("#tab-sheet");
+    const kept = await b.run("hex(app.sheet)");
+    await b.chooseFile("#sheet input[type=file]", b.file("huge.bin", Buffer.alloc(300000, 1)));
+    await b.until(`${text("#sheet .said")}.includes("huge.bin")`);
+    has("a file that is too long", await status(), "300,000 bytes, more than any sheet, trace or store: it was not read");
+    expect("the sheet stays", await b.run("hex(app.sheet)"), kept);
+    if (!(await b.run(`document.querySelector("#sheet .source details").open`))) await b.click("#sheet .source summary");
+    for (const [typed, fault] of [["02 01 zz", "“z” is no hex digit"], ["020", "3 hex digits: a byte has two"], ["<img src=x onerror=alert(1)>", "“<” is no hex digit"]]) {
+        await b.type("#sheet textarea", typed);
+        await b.click("=Take these");
+        has(`pasted ${typed}`, await status(), fault);
+        expect("the sheet stays", await b.run("hex(app.sheet)"), kept);
+    }
+    await b.chooseFile("#sheet input[type=file]", b.file("<img src=x onerror=document.title=1>.bin", sample));
+    await b.until(`${text("#sheet .said")}.includes("onerror")`);
+    expect("a name is no markup", await b.run(`document.querySelectorAll("#sheet img").length`), 0);
+    for (let i = 0; i < 300; i++) {
+        const bytes = Uint8Array.from({ length: next(400) }, () => next(256));
+        if (next(2) && bytes.length) bytes[0] = 2;
+        if (next(2) && bytes.length > 5) bytes.set([bytes.length >> 8, bytes.length & 255], 4);
+        if (next(2) && bytes.length > 31) bytes.set([next(3), next(3), next(3)], 1);
+        const shown = await b.run(`(() => { const s = ${bytesOf(bytes)}; app.setSheet(s, "x"); app.putOnDevice(s); app.devicePart.did(app.device.request(unhex("03d501331001"), 2));
+            app.compare(0, s); app.tracePart.set(s, s); return document.querySelector("#sheet .verdict").className; })()`);
+        has(`random bytes ${i}`, shown, "verdict");
+    }
+    // a sheet with each byte changed is told as the module tells it
+    for (let p = 0; p < pump.length; p++) {
+        const bytes = pump.slice();
+        bytes[p] ^= 1 + next(255);
+        const got = await b.run(`(() => { app.setSheet(${bytesOf(bytes)}, "x"); return [app.proved.check(app.sheet), document.querySelector("#sheet .verdict").textContent]; })()`);
+        has(`byte ${p}`, got[1], got[0] === 0 ? "Accepted" : got[0] === 14 ? "Old" : `rule S${got[0]},`);
+    }
+    await b.run(`app.open("sheet")`);
+    return "a file too long, text that is no hex, a name that is markup, 300 times random bytes";
+}
+
+module.exports = { hostile };

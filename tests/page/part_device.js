@@ -1,0 +1,109 @@
+// Part 3, the device at work, by the keyboard alone where a person would not take the mouse.
+"use strict";
+const { hex, sample, text, bytesOf, expect, has } = require("./common.js");
+
+// goes on by Tab until what has the focus is called so
+async function tabTo(b, name) {
+    for (let i = 0; i < 120; i++) {
+        const at = await b.run(`(() => { const e = document.activeElement; return e.getAttribute("aria-label") || (e.labels && e.labels[0] ? e.labels[0].textContent : e.textContent); })()`);
+        if (at === name) return;
+        await b.key("Tab");
+    }
+    throw new Error(`no Tab leads to ${name}`);
+}
+
+async function devicePart(b) {
+    await b.run(`document.activeElement.blur(); app.putOnDevice(${bytesOf(sample)}); app.device.store = new Uint8Array(STORE); app.open("sheet"); document.querySelector("#tab-sheet").focus()`);
+    const state = () => b.run(text("#device .card .verdict")), log = () => b.run(text("#device .log li"));
+    const marks = () => b.run(`[...document.querySelectorAll("#device .sheet mark")].map(e => e.textContent)`);
+    const send = async request => {
+        await tabTo(b, "The request, in words or hex");
+        await b.run(`document.activeElement.select()`);
+        await b.send("Input.insertText", { text: request });
+        await b.key("Enter");
+    };
+    // the select goes from choice to choice by arrow keys
+    const way = async name => {
+        await b.run(`document.activeElement.blur()`);
+        await tabTo(b, "How it comes");
+        for (let i = 0; i < 8; i++) await b.key("ArrowUp");
+        for (let i = 0; i < 8 && (await b.run(`document.activeElement.selectedOptions[0].text`)) !== name; i++) await b.key("ArrowDown");
+        expect("the way chosen by arrow keys", await b.run(`document.activeElement.selectedOptions[0].text`), name);
+    };
+    await b.key("ArrowRight");
+    await b.key("ArrowRight");
+    expect("arrow keys go from part to part", await b.run(`[document.activeElement.id, document.querySelector("#device").hidden]`), ["tab-device", false]);
+    await send("property_write object=1 id=51 n=1 s=1 data=04e2");
+    has("without a key", await state(), "refused (11)");
+    expect("nothing is marked", await marks(), []);
+    await b.run(`document.activeElement.blur()`);
+    await tabTo(b, "Connect connection 0");
+    await b.key(" ");
+    has("connected", await b.run(text("#device .sessions")), "level 3");
+    await way("on connection 0");
+    await send("authorize_request key=22222222");
+    has("the key of level 1", await log(), "connection 0: level 3 → level 1");
+    await send("03d7013310020004");
+    has("in hex", await log(), "property_write object=1 id=51 n=1 s=2 data=0004");
+    has("what changed", await log(), "property 1/51 count: 1 → 2");
+    expect("what changed is marked where it stands", await marks(), ["2 of 2", "4"]);
+    for (const [typed, fault] of [["property_raed object=1", "there is no request “property_raed”"], ["property_read object=1", "needs id, n, s"], ["memory_read n=16 address=0100h", "no PDU that can be written (13)"],
+        ["property_read object=1 id=51 n=1 s=1 key=1", "has no field key"], ["0x03 d5 0", "a byte has two"], ["authorize_request key=2222", "key has 8 hex digits"], ["memory_read n=1 n=2 address=1", "n stands twice"]]) {
+        const before = await b.run(`app.device.log.length`);
+        await send(typed);
+        has(`typed ${typed}`, await b.run(text("#device .said.fault")), fault);
+        expect("nothing happened", await b.run(`app.device.log.length`), before);
+    }
+    await send("memory_write n=2 address=0100h data=5566");
+    has("level 1 may write what level 2 may", await log(), "memory 0100h: a0 a1 → 55 66");
+    await way("to a group");
+    await send("group_write v=0 data=2a");
+    has("a group value", await log(), "group object 1/0/1: 00 → 2a");
+    has("as a datapoint", await b.run(text("#device .sheet")), "as type 5: 42");
+    await b.run(`document.activeElement.blur()`);
+    await tabTo(b, "Button on");
+    await b.key("Enter");
+    has("the button", await log(), "programming mode: off → on");
+    await way("to all devices");
+    await send("address_write address=4358");
+    has("programming mode lets an address in", await log(), "individual address: 1.1.5 → 1.1.6");
+    // a frame of the USB interface
+    await way("a frame, from the partner of connection 1");
+    await send("2900b06011ff110600 80");
+    has("a connect as a frame", await b.run(text("#device .sessions")), "Connection 1: level 3");
+    await send("2900b06011ff11060503d501331001");
+    has("a frame", await log(), "property_read object=1 id=51 n=1 s=1, on no connection");
+    await send("2900b06011ff1106");
+    has("no frame", await b.run(text("#device .said.fault")), "too short for a frame (40)");
+    // versions
+    await b.click("=Save a version");
+    has("a version", await state(), "version 1");
+    await way("on connection 0");
+    await send("property_write object=1 id=51 n=1 s=1 data=2328");
+    has("since the version", await b.run(text("#device .versions")), "since then: property 1/51 element 1: 1000 → 9000");
+    await b.click("=Restore version 1");
+    has("level 1 is not enough", await state(), "not open at level 0 (35)");
+    await way("on connection 1");
+    await send("authorize_request key=11111111");
+    await b.choose("=Restore on", "connection 1");
+    await b.run(`document.activeElement.blur()`);
+    await tabTo(b, "Restore version 1");
+    await b.key("Enter");
+    has("restored", await log(), "property 1/51 element 1: 9000 → 1000");
+    await b.click("=Show it as a trace");
+    has("a restore is no event of a trace", await b.run(text("#device .said.fault")), "a version was restored");
+    await b.click("=Remove version 1");
+    has("removed", await b.run(text("#device .versions")), "0 versions kept");
+    // begun anew, recorded, shown as a trace
+    await b.click("=Begin anew");
+    await b.click("=Connect connection 0");
+    await way("on connection 0");
+    await send("authorize_request key=11111111");
+    await send("memory_write n=2 address=0100h data=5566");
+    await b.click("=Show it as a trace");
+    has("as a trace", await b.run(text("#trace .verdict")), "3 events.");
+    expect("its sheet at the end", await b.run(`hex(app.tracePart.playing.after(3).sheet)`), await b.run(`hex(app.device.sheet)`));
+    return "by the keyboard alone: words, hex, frames, groups, the button, versions, faults of the line";
+}
+
+module.exports = { devicePart };
