@@ -26,6 +26,7 @@ test: need-tools
 # every proof from nothing, every edit, every program, once: what the tests after it link and run is what was proved here. The
 # last line of rt ci is the last of all, so it is held back where there is something after it
 prove: need-tools
+	tests/edits/list.sh tests/edits/refused.tsv
 	mkdir -p build
 	rt ci 2>&1 | tee build/ci.log | sed -u '$$d' || { tail -n 1 build/ci.log; exit 1; }
 	tests/edits/gate.sh tests/edits/refused.tsv build/ci.log target/must-fail
