@@ -47,6 +47,8 @@ plays "$work/libhost.a" "$work/libtool.a" "$work/libplain_host.a" || fail "the s
 faults_of() {
     awk -v file="$1" -v OFS='\t' '
         function integer(type) { return type == "word" || type == "uint64_t" }
+        # the room for a copy of the sheet is as long as the sheet, or the call is refused whatever else it is given
+        function same(a, b) { return a ~ /sheet_length$/ && b ~ /before_length$/ }
         {
             if (!match($0, /kelindap_module_[a-z_]*\([^()]*\);/)) next
             call = substr($0, RSTART, RLENGTH); after = substr($0, RSTART + RLENGTH); before = substr($0, 1, RSTART + RLENGTH - 1)
@@ -67,7 +69,7 @@ faults_of() {
             for (i = 1; i <= count; i++) {
                 if (given[i] ~ /_length$/) planted(short ": " given[i] " a byte short", i, given[i] " - 1", 0, "")
                 for (j = i + 1; j <= count; j++)
-                    if (type[i] == type[j] || integer(type[i]) && integer(type[j]))
+                    if ((type[i] == type[j] || integer(type[i]) && integer(type[j])) && !same(given[i], given[j]))
                         planted(short ": arguments " i " and " j " exchanged", i, given[j], j, given[i])
             }
         }

@@ -19,7 +19,7 @@
  *   e NUMBER8                                removes one                      OUTCOME STOREHASH8
  *   Y LENGTH4 BYTES                          sets the trace                   REFUSAL
  *   y FROM8 LIMIT8 LENGTH4 LOG               plays events of it               REFUSAL HANDLED2 SESSIONS LOG HASH8
- *   m FROM8 LIMIT8 PLAYED4 LENGTH4 LOG       plays with marks, not on boards  REFUSAL HANDLED2 SESSIONS LOG HASH8 MARKHASH8
+ *   m FROM8 LIMIT8 PLAYED4 LENGTH4 LOG       plays with marks                 REFUSAL HANDLED2 SESSIONS LOG HASH8 MARKHASH8
  *   l ADDRESS2 ADDRESS2                      sets the partners' addresses     ADDRESS2 ADDRESS2
  *   h FRAME                                  what a frame is                  EVENT C GROUP2
  *   z SEQUENCE FRAME BUFFER                  serves one                       NUMBER OUTCOME C COUNT SESSIONS ADDRESS2 ADDRESS2 PARTS BUFFER HASH8
@@ -454,7 +454,7 @@ static void play_trace(void)
     give_hash();
 }
 
-#ifndef BOARD
+#ifndef SMALL /* which has no room for them */
 /* ---- marks ---- */
 
 static uint8_t before_room[GUARD + SHEET + GUARD];
@@ -486,7 +486,9 @@ static void play_marked(void)
     give_hash();
     give_hash_of(marks);
 }
+#endif
 
+#ifndef BOARD
 static void read_pdu(void)
 {
     lent apdu = take_run(apdu_room, RUN, 2);
@@ -606,7 +608,7 @@ static void play(uint8_t command)
     switch (command) {
     case 's':
         sheet = take_run(sheet_room, SHEET, 4);
-#ifndef BOARD
+#ifndef SMALL
         clear_marks();
 #endif
         give_rule();
@@ -656,10 +658,12 @@ static void play(uint8_t command)
     case 'g':
         give_part(kelindap_group(given(sheet), sheet.length, (uint16_t)number(2)));
         break;
-#ifndef BOARD
+#ifndef SMALL
     case 'm':
         play_marked();
         break;
+#endif
+#ifndef BOARD
     case 'R':
         read_pdu();
         break;
@@ -720,7 +724,7 @@ int main(void)
     sheet = lend(sheet_room, 0);
     store = lend(store_room, 0);
     trace = lend(trace_room, 0);
-#ifndef BOARD
+#ifndef SMALL
     clear_marks();
 #endif
     lend((uint8_t *)&link_room, sizeof partners);

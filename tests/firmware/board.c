@@ -96,7 +96,7 @@ void tell_deepest(void)
     static const char *const names[CALLS] = {
         "fresh", "connect",     "disconnect",  "button", "request", "check",  "convert",     "property", "region",
         "group", "user_region", "store_check", "save",   "restore", "remove", "trace_check", "play",
-        "heard", "serve",
+        "play_marked", "heard", "serve",
     };
     say("painted");
     for (int i = 0; i < CALLS; i++) {

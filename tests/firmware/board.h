@@ -46,6 +46,7 @@ enum call {
     CALL_remove,
     CALL_trace_check,
     CALL_play,
+    CALL_play_marked,
     CALL_heard,
     CALL_serve,
     CALLS
@@ -117,6 +118,7 @@ static inline __attribute__((always_inline)) void measure_below(enum call call)
 #define kelindap_remove(...) MEASURED(remove, __VA_ARGS__)
 #define kelindap_trace_check(...) MEASURED(trace_check, __VA_ARGS__)
 #define kelindap_play(...) MEASURED(play, __VA_ARGS__)
+#define kelindap_play_marked(...) MEASURED(play_marked, __VA_ARGS__)
 #define kelindap_heard(...) MEASURED(heard, __VA_ARGS__)
 #define kelindap_serve(...) MEASURED(serve, __VA_ARGS__)
 

@@ -407,7 +407,7 @@ impl Maker {
             self.scene = Scene::Traces(place + handled);
         }
         let log = self.rng.bytes(long);
-        if self.device_alone || self.rng.chance(50) {
+        if self.rng.chance(50) {
             return self.push(Play::Pieces(from, limit, log));
         }
         let played = match self.rng.below(12) {
