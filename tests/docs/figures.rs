@@ -5,8 +5,8 @@
 //!
 //! A block begins with a line `<!-- figures NAME: TOLERANCE .. -->` and ends with `<!-- end -->`. Its rows are compared word by
 //! word, without the lines of a table; to the last words of a row the tolerances belong, from the right: a number of units,
-//! so many per cent (`2%`), or `any`. What could not be measured stands in DIR as `?`, and is not held; nor is what a document
-//! quotes as `?`, for want of a machine when the code last changed.
+//! so many per cent (`2%`), or `any`. What could not be measured stands in DIR as `?`, a number or a whole block, and is not
+//! held; nor is what a document quotes as `?`, for want of a machine when the code last changed.
 
 use std::{env, fs, process};
 
@@ -113,9 +113,18 @@ fn rows<'a>(lines: impl Iterator<Item = &'a str>) -> Vec<Vec<&'a str>> {
         .collect()
 }
 
+/// A whole block that is not known.
+fn is_unknown(rows: &[Vec<&str>]) -> bool {
+    matches!(rows, [row] if row[..] == ["?"])
+}
+
 fn check(tally: &mut Tally, document: &str, block: &Block, measured: &str) {
     let quoted = rows(block.lines.iter().map(String::as_str));
     let measured = rows(measured.lines());
+    if is_unknown(&quoted) || is_unknown(&measured) {
+        tally.unknown += 1;
+        return;
+    }
     let (mut different, mut unknown) = (0, 0);
     if quoted.len() != measured.len() {
         println!("{document}: {} has {} rows, and {} were measured", block.name, quoted.len(), measured.len());
@@ -151,7 +160,7 @@ fn write(document: &str, text: &str, blocks: &[Block], dir: &str) {
     let mut lines: Vec<String> = text.lines().map(String::from).collect();
     for block in blocks.iter().rev() {
         let measured = read(&format!("{dir}/{}", block.name));
-        if rows(measured.lines()).iter().skip(1).all(|row| row.contains(&"?")) {
+        if is_unknown(&rows(measured.lines())) {
             println!("{document}: {} is left as it is: it could not be measured", block.name);
             continue;
         }

@@ -1,11 +1,12 @@
 #!/usr/bin/env bash
 # tests/docs/measure.sh DIR HOST_A TOOL_A STACK BENCH COMPARE [times]: measures what README and docs/SPEED.md quote of sizes,
 # stack and instructions, and leaves in DIR a file for each block of figures there (tests/docs/figures.rs); ? is what can't be
-# measured here: instructions on x86-64 need such a machine and valgrind, those on the boards the emulators. With `times` the
-# benchmark takes its times too, which are quoted as those of one run and are not held.
+# measured here: instructions on Linux are those of the machine's own processor and need valgrind, those on the boards the
+# emulators. With `times` the benchmark takes its times too, which are quoted as those of one run and are not held.
 set -euo pipefail
 out=$1 host=$2 tool=$3 stack=$4 bench=$5 compare=$6 times=${7-}
 processors=(cortex-m0 cortex-m3 cortex-m4 rv32imac)
+own=$(mk/bin/processor)
 mkdir -p "$out"
 missing=()
 
@@ -32,7 +33,7 @@ of() { make --no-print-directory -s PROCESSOR="$processor" "$@" > /dev/null; }
     echo "|---|---|---|---|"
     while read -r processor _; do
         folder=build/$processor
-        [ "$processor" != "$(mk/bin/processor)" ] || folder=build
+        [ "$processor" != "$own" ] || folder=build
         of native
         taken='?'
         if mk/bin/can "$processor" > /dev/null; then
@@ -49,11 +50,13 @@ of() { make --no-print-directory -s PROCESSOR="$processor" "$@" > /dev/null; }
 } > "$out/linux"
 
 # instructions of requests: sheet, request and columns
-if [ "$(uname -m)" = x86_64 ] && command -v valgrind > /dev/null; then
-    if [ -n "$times" ]; then "$bench"; else "$bench" --instructions; fi | sed 1d > "$out/bench.rows"
+: > "$out/bench.rows"
+if ! command -v valgrind > /dev/null; then
+    missing+=("instructions on $own (no valgrind)")
+elif [ -n "$times" ]; then
+    "$bench" | sed 1d > "$out/bench.rows"
 else
-    missing+=("instructions on x86-64 (no valgrind, or another machine)")
-    : > "$out/bench.rows"
+    "$bench" --instructions | sed 1d > "$out/bench.rows"
 fi
 boards=()
 for p in "${processors[@]}"; do
@@ -70,21 +73,21 @@ else
     : > "$out/boards.rows"
 fi
 
-# the blocks. Where a table could not be made its rows are those of the document, with ? for the numbers
-unknown() { # BLOCK COLUMNS
-    awk -v block="$1" -v columns="$2" '
-        /^<!-- figures / { on = $3 == block ":" ; next }
-        /^<!-- end -->/ { on = 0 }
-        on && /^    / { if (seen++) for (i = 0; i < columns; i++) $(NF - i) = "?"; print }' docs/SPEED.md
-}
-if [ -s "$out/bench.rows" ]; then sed 's/^/    /; s/ *$//' "$out/bench.rows"; else unknown bench 6; fi > "$out/bench"
+# the blocks; a table that could not be made is one ?
+for processor in x86_64 aarch64; do
+    if [ "$processor" = "$own" ] && [ -s "$out/bench.rows" ]; then
+        sed 's/^/    /; s/ *$//' "$out/bench.rows"
+    else
+        echo "    ?"
+    fi > "$out/bench-$processor"
+done
 if [ -s "$out/boards.rows" ]; then
     { printf '%-31s' "sheet  request"; printf ' %9s' "${processors[@]}"; echo; cat "$out/boards.rows"; } | sed 's/^/    /'
 else
-    unknown boards 4
+    echo "    ?"
 fi > "$out/boards"
 
-awk -v out="$out" -v list="${processors[*]}" '
+awk -v out="$out" -v list="${processors[*]}" -v own="${own/x86_64/x86-64}" '
     function comma(n) { return n == "" ? "–" : n + 0 < 1000 ? n : substr(n, 1, length(n) - 3) "," substr(n, length(n) - 2) }
     function row(file, title, name,    i, line) {
         line = "| " title " |"
@@ -106,7 +109,12 @@ awk -v out="$out" -v list="${processors[*]}" '
         of[$1, $2] = $3
         if ($1 == processor[2] && $2 !~ /\.a$|^version$/) call[++calls] = $2
     }
-    FILENAME ~ /bench.rows$/ && $1 ~ /^(sample|full)$/ && !/the check of/ { most("x86-64", $1, $(NF - 2)) }
+    FILENAME ~ /linux$/ && $2 == "`aarch64`" {
+        gsub(",", "")
+        of["aarch64", "libkelindap_device.a"] = $4
+        of["aarch64", "request"] = $8
+    }
+    FILENAME ~ /bench.rows$/ && $1 ~ /^(sample|full)$/ && !/the check of/ { most(own, $1, $(NF - 2)) }
     FILENAME ~ /boards.rows$/ && !/the check of/ { for (i = 2; i <= n; i++) most(processor[i], $1, $(NF - n + i)) }
     END {
         file = out "/sizes"
@@ -122,10 +130,11 @@ awk -v out="$out" -v list="${processors[*]}" '
         file = out "/summary"
         print "| Processor | Code, bytes | Stack of a request, bytes | Instructions of the longest request, sample sheet | full sheet |" > file
         print "|---|---|---|---|---|" > file
-        for (i = 1; i <= n; i++) {
-            p = processor[i]
+        m = split("x86-64 aarch64 " list, every, " ")
+        for (i = 1; i <= m; i++) {
+            p = every[i]
             print "| " p " | " comma(of[p, "libkelindap_device.a"]) " | " comma(of[p, "request"]) " | " told(top[p, "sample"]) " | " \
                 told(top[p, "full"]) " |" > file
         }
-    }' "$out/plain" "$out/bench.rows" "$out/boards.rows"
+    }' "$out/plain" "$out/linux" "$out/bench.rows" "$out/boards.rows"
 [ ${#missing[@]} = 0 ] || printf 'figures: not measured: %s\n' "${missing[@]}"
