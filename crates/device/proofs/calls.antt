@@ -6,3 +6,4 @@ pub mod Turns
 pub mod Pressing
 pub mod Room
 pub mod Requests
+pub mod InPlace

@@ -2,7 +2,6 @@
 pub mod Demands
 pub mod Whose
 -- laws behind the calls
-pub mod InPlace
 pub mod Replaced
 pub mod Replies
 pub mod Restored

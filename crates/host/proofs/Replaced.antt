@@ -36,7 +36,7 @@ use denote.Exit.{yes}
 use Rattle.device.specs.declared.Sessions.{Sessions}
 use Rattle.device.specs.declared.Done.{Done}
 use Rattle.device.specs.Events.{namedOutcome, named as given}
-use Rattle.host.proofs.InPlace.{opened, closed-at}
+use Rattle.device.proofs.calls.InPlace.{opened, closed-at}
 use Rattle.device.proofs.Sessions as T
 use Rattle.device.proofs.Sessions.Laws as T′
 use Rattle.device.proofs.Done as D

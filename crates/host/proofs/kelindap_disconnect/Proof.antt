@@ -3,7 +3,7 @@
 use Rattle.device.specs.Events.{disconnectOf}
 use contract.Running.{givenOf}
 use denote.Triple.Table.{cited}
-use Rattle.host.proofs.InPlace.{finish}
+use Rattle.device.proofs.calls.InPlace.{finish}
 use Rattle.host.proofs.Replaced.{Callee, f-clauses, stayed, all-go, walks}
 use Rattle.device.proofs.disconnect.Symbol as g-def
 use Rattle.device.proofs.disconnect.Symbol.{name as #device·disconnect}

@@ -44,7 +44,7 @@ use Rattle.host.specs.declared.Replied.{Replied}
 use Rattle.host.specs.declared.Reply.{Reply}
 use Rattle.device.specs.Changed.{Requested}
 use Rattle.host.specs.Calls.{gaveBack}
-use Rattle.host.proofs.InPlace.{opened, closed-at, finish}
+use Rattle.device.proofs.calls.InPlace.{opened, closed-at, finish}
 use Rattle.device.proofs.Sessions as T
 use Rattle.device.proofs.Sessions.Laws as T′
 use Rattle.host.proofs.Replied as D

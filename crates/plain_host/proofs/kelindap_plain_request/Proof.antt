@@ -44,7 +44,7 @@ use Rattle.plain_host.specs.declared.Replied.{Replied}
 use Rattle.plain_host.specs.declared.Reply.{Reply}
 use Rattle.device.specs.Events.{Called}
 use Rattle.plain_host.specs.Calls.{gaveBack}
-use Rattle.plain_host.proofs.InPlace.{opened, closed-at, finish}
+use Rattle.device.proofs.calls.InPlace.{opened, closed-at, finish}
 use Rattle.device.proofs.Sessions as T
 use Rattle.device.proofs.Sessions.Laws as T′
 use Rattle.plain_host.proofs.Replied as D

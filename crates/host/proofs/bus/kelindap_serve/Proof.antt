@@ -43,7 +43,7 @@ use Rattle.link.specs.declared.Link.{Link}
 use Rattle.link.specs.declared.Served.{Served}
 use Rattle.link.specs.Serving.{ServedFrame}
 use Rattle.host.specs.declared.Answered.{Answered}
-use Rattle.host.proofs.InPlace.{opened, closed-at, finish}
+use Rattle.device.proofs.calls.InPlace.{opened, closed-at, finish}
 use Rattle.link.proofs.Link as T
 use Rattle.link.proofs.Link.Laws as T′
 use Rattle.link.proofs.Served as D
