@@ -1,7 +1,7 @@
--- The conversion of an old sheet is accepted, and has every byte the same but byte 0; its lookups hand back what the old one has there.
+-- The conversion of an old sheet is accepted, and has every byte the same but byte 0; its lookups hand back what the old one has there. A call converts an old sheet and no other.
 -- Assumes nothing.
 use Prim.Native.Nat.{ℕ, _+_, _*_, _≤_, _<_}
-use mathlib.Core.Path.{_≡_, refl, sym, _∙_}
+use mathlib.Core.Path.{_≡_, refl, sym, subst⁻¹, _∙_}
 use mathlib.Core.Bool.{cond}
 use mathlib.Core.List.{List}
 use lib.Dec.{ltb}
@@ -127,3 +127,14 @@ converted s o =
       property = λ object id. same-keyed s o properties (object * 256 + id) (omega arith);
       group = λ address. same-keyed s o groups address (omega arith);
     }
+
+-- WHAT A CALL DID: an old sheet is its conversion now, and 1 came back; any other is as found, and 4 did
+module _ {s s′ : List ℕ} {r : ℕ} (c : Converts s r s′) where
+  pub convert-old : Old s → (r ≡ 1) × Converted s s′
+  unfolding convertOutcome convertSheet
+  convert-old o =
+      let t = eq-eqb (verdictOf s) 14 o in (c .outcome ∙ rw t, subst⁻¹ (Converted s) (c .sheet ∙ rw t) (converted s o))
+
+  pub convert-other : (Old s → ⊥) → (r ≡ 4) × (s′ ≡ s)
+  unfolding convertOutcome convertSheet
+  convert-other n = let t = ne-eqb (verdictOf s) 14 n in (c .outcome ∙ rw t, c .sheet ∙ rw t)
