@@ -12,7 +12,6 @@ use borrow.Author.Tests.{lt-ltb, le-ltb, eq-eqb, ne-eqb, eqb-true}
 use Rattle.octets.proofs.Truths.{must-fail}
 use Rattle.sheet.specs.Head.{rulesOf}
 use Rattle.sheet.specs.Rules.{verdictOf}
-use Rattle.sheet.proofs.promises.Verdicts.{refused-bad}
 use Rattle.pdu.specs.Table.{serviceAt}
 use Rattle.pdu.specs.Pdus.{serviceOf}
 use Rattle.pdu.specs.Rules.{codeOf}
@@ -29,6 +28,7 @@ use Rattle.judge.specs.Decisions as decisions
 use Rattle.judge.specs.Session.{levelIn}
 use Rattle.judge.specs.Modes.{reachOf, reaches, takes}
 use Rattle.judge.specs.Judge.{decideOf, readOf, reachedOf, foundOf, isShut, judgeOf, dataIn}
+use Rattle.judge.proofs.SheetCases.{old-refused, bad-refused}
 use Rattle.device.specs.Step.{Step, stepBy, stepOf}
 use Rattle.device.specs.Asked.{Asked, quiet, Takes, Names, Served, Refusal, noRoom, badSheet, oldSheet, badLength, badMode, noSession, Ready, Reads, given}
 use Rattle.device.proofs.due.Taking.{takes-is, served-is}
@@ -52,8 +52,8 @@ module _ (x : Asked) where
   pub step-refused : {n : ℕ} → Refusal x n → quiet x n ≡ step
   unfolding judgeOf isShut
   step-refused (noRoom h) = quietly 3 (simp (lt-ltb (x .room) 16 h))
-  step-refused (badSheet b h) = quietly 4 (simp (le-ltb (x .room) 16 b, refused-bad (x .sheet) h))
-  step-refused (oldSheet b h) = quietly 14 (simp (le-ltb (x .room) 16 b, h))
+  step-refused (badSheet b h) = quietly 4 (bad-refused (x .room) (x .sheet) (x .session) (x .mode) (x .group) (x .apdu) b h)
+  step-refused (oldSheet b h) = quietly 14 (old-refused (x .room) (x .sheet) (x .session) (x .mode) (x .group) (x .apdu) b h)
   step-refused (badLength b s (inl h)) =
       quietly 5 (simp (le-ltb (x .room) 16 b, eq-eqb (verdictOf (x .sheet)) 0 s, lt-ltb (length (x .apdu)) 2 h))
   step-refused (badLength b s (inr h)) =
