@@ -14,8 +14,8 @@
  *  - it begins with the sessions from kelindap_fresh and a sheet that kelindap_check accepts. No request on another sheet does
  *    anything, so a host that skips the check has a device that is silent;
  *  - a sheet of edition 1 that breaks no rule is old: outcome 14 where a bad one gets 4. The host, or whoever keeps the sheet,
- *    converts it once with kelindap_convert and saves it before the first request; no event and no tool on the bus does. Versions
- *    and traces that were made with the old sheet stay good for the converted one;
+ *    converts it once with kelindap_convert and saves it before the first request; no event and no tool on the bus does.
+ *    Versions and traces that were made with the old sheet stay good for the converted one;
  *  - the buffers of one call do not overlap, and stay lent until the call returns;
  *  - nothing else writes the sheet between calls: the promises about a history hold only then;
  *  - a bool is 0 or 1, and a pointer has as many readable (for answer and sheet, writable) bytes as its length says;
