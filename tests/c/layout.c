@@ -7,6 +7,7 @@
 #include "kelindap_frame.h"
 #include "kelindap_link.h"
 #include "kelindap_pdu.h"
+#include "kelindap_plain.h"
 #include "kelindap_store.h"
 #include "kelindap_trace.h"
 #include "kelindap_unit.h"
@@ -40,6 +41,9 @@
     FIELD(kelindap_reply, count, 1, 1) \
     FIELD(kelindap_reply, changed, 4 * W, W) \
     FIELD(kelindap_reply, changed[1], 2 * W, 3 * W) \
+    SIZE(kelindap_plain_reply, 2) \
+    FIELD(kelindap_plain_reply, outcome, 1, 0) \
+    FIELD(kelindap_plain_reply, count, 1, 1) \
     SIZE(kelindap_part, 2 * W) \
     FIELD(kelindap_part, offset, W, 0) \
     FIELD(kelindap_part, length, W, W) \

@@ -6,26 +6,25 @@
 #[path = "../cases.rs"]
 mod cases;
 
+#[allow(dead_code)]
+#[path = "../sides.rs"]
+mod sides;
+
 use std::hint::black_box;
 use std::time::Instant;
 
 use cases::{benches, Ask, Bench, SESSION};
+use model::device::{Session, Sessions, Way};
 use model::sheet::FLAGS;
+use sides::{Lent, Side};
 
 const ROUNDS: usize = 200;
 const TIMES: usize = 20;
 
 #[repr(C)]
-#[derive(Clone, Copy, Debug, PartialEq)]
 struct CSession {
     open: bool,
     level: u8,
-}
-
-#[repr(C)]
-struct CReply {
-    outcome: u8,
-    count: u8,
 }
 
 #[repr(C)]
@@ -35,18 +34,6 @@ struct CPlainReply {
 }
 
 extern "C" {
-    fn kelindap_request(
-        sessions: *mut [CSession; 2],
-        mode: u8,
-        connection: u8,
-        group: u16,
-        apdu: *const u8,
-        apdu_length: usize,
-        sheet: *mut u8,
-        sheet_length: usize,
-        answer: *mut u8,
-        answer_length: usize,
-    ) -> CReply;
     fn kelindap_plain_request(
         sessions: *mut [CSession; 2],
         mode: u8,
@@ -61,41 +48,39 @@ extern "C" {
     ) -> CPlainReply;
 }
 
-const OPEN: [CSession; 2] =
-    [CSession { open: SESSION.open, level: SESSION.level }, CSession { open: false, level: 3 }];
-
-/// A call of either engine.
-macro_rules! call {
-    ($engine:ident, $bench:expr, $mode:expr, $apdu:expr, $sheet:expr) => {{
-        let (mut sessions, mut answer) = (OPEN, [0u8; 16]);
-        let reply = unsafe {
-            $engine(
-                &mut sessions,
-                $mode,
-                0,
-                $bench.group,
-                $apdu.as_ptr(),
-                $apdu.len(),
-                $sheet.as_mut_ptr(),
-                $sheet.len(),
-                answer.as_mut_ptr(),
-                answer.len(),
-            )
-        };
-        ((reply.outcome, reply.count), sessions, answer)
-    }};
-}
+const OPEN: Sessions = [SESSION, Session::CLOSED];
 
 /// Outcome and count, the sessions and the answer buffer afterwards.
-type Given = ((u8, u8), [CSession; 2], [u8; 16]);
+type Given = ((u8, u8), Sessions, [u8; 16]);
 type Engine = fn(&Bench, u8, &[u8], &mut [u8]) -> Given;
 
 fn first(bench: &Bench, mode: u8, apdu: &[u8], sheet: &mut [u8]) -> Given {
-    call!(kelindap_request, bench, mode, apdu, sheet)
+    let mut answer = [0; 16];
+    let way = Way { mode, connection: 0, group: bench.group };
+    let mut lent = Lent { sessions: OPEN, way, apdu, sheet, answer: &mut answer };
+    let (reply, sessions) = Side::Proved.request(&mut lent);
+    ((reply.outcome, reply.count), sessions, answer)
 }
 
 fn plain(bench: &Bench, mode: u8, apdu: &[u8], sheet: &mut [u8]) -> Given {
-    call!(kelindap_plain_request, bench, mode, apdu, sheet)
+    let mut answer = [0; 16];
+    let mut sessions = OPEN.map(|s| CSession { open: s.open, level: s.level });
+    let reply = unsafe {
+        kelindap_plain_request(
+            &mut sessions,
+            mode,
+            0,
+            bench.group,
+            apdu.as_ptr(),
+            apdu.len(),
+            sheet.as_mut_ptr(),
+            sheet.len(),
+            answer.as_mut_ptr(),
+            answer.len(),
+        )
+    };
+    let sessions = sessions.map(|s| Session { open: s.open, level: s.level });
+    ((reply.outcome, reply.count), sessions, answer)
 }
 
 /// Microseconds of one request, the best round's.
