@@ -1,4 +1,4 @@
-// The sheet written again, from its first byte to its last.
+// The sheet written again, from its first byte to its last, each field at the place from which it was taken.
 use crate::Group;
 use crate::Head;
 use crate::Parts;
@@ -24,7 +24,7 @@ fn lo(x: u16) -> u8
     (x % 256) as u8
 }
 
-// Read rights in the high four bits, write rights in the low.
+// The level for reading in the high four bits, that for writing in the low.
 pub fn levels_byte(read: u8, write: u8) -> u8
     ensures { λ r. ⌜ r ≡ levelsOf read write ⌝ }
 {
@@ -171,6 +171,7 @@ fn write_number(t: &mut [u8], at: usize, w: usize, x: u64)
     octets::put(t, at, w, x);
 }
 
+// Bytes 0 to 5. The edition is 2: an accepted sheet has no other.
 fn write_sizes(t: &mut [u8], z: Sizes, n: usize)
     requires { ⌜ 32 ≤ length (now t) ⌝ }
     ensures { λ _. ⌜ Restores (WholeSizes z n) (now (t .entry)) (now (t .exit)) 0 6 ⌝ }
@@ -182,6 +183,7 @@ fn write_sizes(t: &mut [u8], z: Sizes, n: usize)
     write_number(t, 4, 2, n as u64);
 }
 
+// Bytes 6 to 17.
 fn write_numbers(t: &mut [u8], h: Head, users: usize)
     requires { ⌜ 32 ≤ length (now t) ⌝ }
     ensures { λ _. ⌜ Restores (WholeNumbers h users) (now (t .entry)) (now (t .exit)) 6 18 ⌝ }
@@ -193,6 +195,7 @@ fn write_numbers(t: &mut [u8], h: Head, users: usize)
     write_number(t, 16, 2, h.address as u64);
 }
 
+// Bytes 18 to 31.
 fn write_keys(t: &mut [u8], keys: [u32; 3], rules: u8)
     requires { ⌜ 32 ≤ length (now t) ⌝ }
     ensures { λ _. ⌜ Restores (WholeKeys keys rules) (now (t .entry)) (now (t .exit)) 18 32 ⌝ }
@@ -221,6 +224,7 @@ fn write_head(t: &mut [u8], h: Head, z: Sizes, n: usize)
     write_keys(t, keys, h.rules);
 }
 
+// The entries, regions first and user regions last: where they end.
 fn write_entries(t: &mut [u8], u: Parts) -> usize
     requires { ⌜ Roomy u (length (now t)) ⌝ }
     ensures { λ r. ⌜ (r ≡ end (u .sizes)) × Restores (WholeEntries u) (now (t .entry)) (now (t .exit)) 32 (end (u .sizes)) ⌝ }
@@ -245,9 +249,7 @@ pub fn write_again(u: Parts, t: &mut [u8])
     requires { ⌜ Roomy u (length (now t)) ⌝ }
     ensures { λ _. ⌜ Restores (Whole u) (now (t .entry)) (now (t .exit)) 0 (u .length) ⌝ }
 {
-    let head = u.head;
-    let sizes = u.sizes;
-    write_head(t, head, sizes, u.length);
+    write_head(t, u.head, u.sizes, u.length);
     let end = write_entries(t, u);
     let bodies = u.bodies;
     write_bodies(t, end, bodies, u.length);

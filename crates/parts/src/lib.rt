@@ -9,7 +9,8 @@ pub use again::write_again;
 pub use round::same;
 pub use take::take_apart;
 
-// A region of memory, of the device's or of the user's.
+// A region of memory or of user memory. Here and in a property, `read` and `write` are levels: those up to which it may be read and
+// written.
 pub struct Region {
     pub address: u16,
     pub length: u16,
@@ -18,7 +19,7 @@ pub struct Region {
     pub write: u8,
 }
 
-// A property: the bytes of an element, how many elements there can be and how many are counted.
+// A property: whether it can be written, its type, the bytes of an element, how many elements there can be and how many are counted.
 pub struct Property {
     pub object: u8,
     pub id: u8,
@@ -50,7 +51,8 @@ pub struct Sizes {
     pub users: usize,
 }
 
-// The serial number, the mask version, the individual address, the keys of levels 0, 1 and 2, and the number of the rules.
+// The serial number, the mask version, whether programming mode and verify are on, the individual address, the keys of levels 0,
+// 1 and 2, and the number of the rules.
 pub struct Head {
     pub serial: u64,
     pub mask: u16,
@@ -61,7 +63,7 @@ pub struct Head {
     pub rules: u8,
 }
 
-// A whole sheet. The bodies stand at the places that the entries' offsets name.
+// A whole sheet and its length. The bodies stand at the places that the entries' offsets name, which are those of the sheet.
 pub struct Parts {
     pub head: Head,
     pub sizes: Sizes,

@@ -1,4 +1,4 @@
-// A sheet taken apart.
+// A sheet taken apart: each field from the place that docs/SHEET.md gives it.
 use crate::Group;
 use crate::Head;
 use crate::Parts;
@@ -14,6 +14,7 @@ ghost use lib.ListN.{length, getD};
 ghost use Rattle.sheet.specs.Rules.{Accepted};
 ghost use Rattle.parts.specs.Records.{IsRegion, IsProperty, IsGroup, IsHead, IsSizes, Taken, noRegion, noProperty, noGroup};
 
+// The region whose entry begins there. The levels: for reading in the high four bits, for writing in the low.
 fn region(s: &[u8], at: usize) -> Region
     requires { ⌜ (at + 8 ≤ length (now s)) × (length (now s) ≤ 16384) ⌝ }
     ensures { λ r. ⌜ IsRegion r (now (s .entry)) at ⌝ }
@@ -28,6 +29,7 @@ fn region(s: &[u8], at: usize) -> Region
     }
 }
 
+// The property whose entry begins there. Bit 7 of the type: it can be written.
 fn property(s: &[u8], at: usize) -> Property
     requires { ⌜ (at + 12 ≤ length (now s)) × (length (now s) ≤ 16384) ⌝ }
     ensures { λ r. ⌜ IsProperty r (now (s .entry)) at ⌝ }
@@ -48,6 +50,7 @@ fn property(s: &[u8], at: usize) -> Property
     }
 }
 
+// The group object whose entry begins there. The flags: 1 read, 2 write, 4 take a Response.
 fn group(s: &[u8], at: usize) -> Group
     requires { ⌜ (at + 8 ≤ length (now s)) × (length (now s) ≤ 16384) ⌝ }
     ensures { λ r. ⌜ IsGroup r (now (s .entry)) at ⌝ }
@@ -132,6 +135,7 @@ fn groups_from(s: &[u8], at: usize, n: usize) -> [Group; 64]
     r
 }
 
+// The head. The flags: 1 programming mode, 2 verify.
 fn head(s: &[u8]) -> Head
     ensures { λ r. ⌜ IsHead r (now (s .entry)) ⌝ }
 {
@@ -170,7 +174,7 @@ fn blank() -> [u8; 16384]
     [0u8; 16384]
 }
 
-// The bytes from a place on, at their places.
+// The bytes from a place on, each at its own place.
 fn bodies(s: &[u8], from: usize) -> [u8; 16384]
     requires { ⌜ (from ≤ length (now s)) × (length (now s) ≤ 16384) ⌝ }
     ensures { λ r. ⌜ (length r ≡ 16384) × ((p : ℕ) → from ≤ p → p < length (now (s .entry)) → getD r p 0 ≡ getD (now (s .entry)) p 0) ⌝ }

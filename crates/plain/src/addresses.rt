@@ -25,8 +25,7 @@ fn with_address(u: Parts, address: u16) -> Parts
 pub fn address_write(u: Parts, address: u16) -> Reply
     ensures { λ r. ⌜ Serves u [] (λ s. addressWriteOf s address) r ⌝ }
 {
-    let head = u.head;
-    if head.programming {
+    if u.head.programming {
         return silent(with_address(u, address), 1);
     }
     silent(u, 2)
@@ -36,8 +35,7 @@ pub fn address_write(u: Parts, address: u16) -> Reply
 pub fn address_read(u: Parts) -> Reply
     ensures { λ r. ⌜ Serves u [] (λ s. addressReadOf s) r ⌝ }
 {
-    let head = u.head;
-    if head.programming {
+    if u.head.programming {
         return sending(u, 0, Pdu::IndividualAddressResponse);
     }
     silent(u, 2)
@@ -47,8 +45,7 @@ pub fn address_read(u: Parts) -> Reply
 pub fn serial_read(u: Parts, serial: u64) -> Reply
     ensures { λ r. ⌜ Serves u [] (λ s. serialReadOf s serial) r ⌝ }
 {
-    let head = u.head;
-    if serial == head.serial {
+    if serial == u.head.serial {
         return sending(u, 0, Pdu::SerialNumberResponse { serial, domain: 0 });
     }
     silent(u, 2)
@@ -58,8 +55,7 @@ pub fn serial_read(u: Parts, serial: u64) -> Reply
 pub fn serial_write(u: Parts, serial: u64, address: u16) -> Reply
     ensures { λ r. ⌜ Serves u [] (λ s. serialWriteOf s serial address) r ⌝ }
 {
-    let head = u.head;
-    if serial == head.serial {
+    if serial == u.head.serial {
         return silent(with_address(u, address), 1);
     }
     silent(u, 2)
@@ -69,11 +65,10 @@ pub fn serial_write(u: Parts, serial: u64, address: u16) -> Reply
 pub fn descriptor(u: Parts, t: u8) -> Reply
     ensures { λ r. ⌜ Serves u [] (λ s. descriptorOf s t) r ⌝ }
 {
-    let head = u.head;
     if t == 0 {
-        return telling(u, Pdu::DeviceDescriptorResponse { t: 0 }, head.mask);
+        return telling(u, Pdu::DeviceDescriptorResponse { t: 0 }, u.head.mask);
     }
-    if head.rules == 1 {
+    if u.head.rules == 1 {
         return sending(u, 11, Pdu::DeviceDescriptorResponse { t: 63 });
     }
     silent(u, 2)

@@ -33,11 +33,10 @@ pub fn carry_out(
     requires { ⌜ Roomy (r .parts) (length (now sheet)) × Sendable (length (now answer)) (r .sent) (take (r .size) (r .bytes)) × (r .size ≤ 14) × (length (r .bytes) ≡ 14) ⌝ }
     ensures { λ x. ⌜ Carried sessions mode connection r (now (sheet .entry)) (now (answer .entry)) x (now (sheet .exit)) (now (answer .exit)) ⌝ }
 {
-    let u = r.parts;
     let sent = r.sent;
     let bytes = r.bytes;
     let turn = r.turn;
-    parts::write_again(u, sheet);
+    parts::write_again(r.parts, sheet);
     let count = send(answer, sent, bytes, r.size);
     Done {
         outcome: r.outcome,

@@ -1,4 +1,4 @@
-// Group values.
+// Group values: read, Response and write.
 use crate::Reply;
 use crate::memory::with_bodies;
 use crate::replies::quoting;
@@ -23,8 +23,7 @@ fn find_group(u: Parts, address: u16) -> usize
     requires { ⌜ Held u ⌝ }
     ensures { λ r. ⌜ (r ≤ u .sizes .groups) × ((s : List ℕ) → Accepted s → Taken s u → r ≡ indexOf s groups address) ⌝ }
 {
-    let sizes = u.sizes;
-    let n = sizes.groups;
+    let n = u.sizes.groups;
     let mut i = 0;
     while i < n {
         let e = u.groups[i];
@@ -57,8 +56,7 @@ pub fn group_read(u: Parts, address: u16) -> Reply
     ensures { λ r. ⌜ Serves u [] (λ s. groupReadOf s address) r ⌝ }
 {
     let i = find_group(u, address);
-    let sizes = u.sizes;
-    if sizes.groups <= i {
+    if u.sizes.groups <= i {
         return silent(u, 2);
     }
     let e = u.groups[i];
@@ -97,35 +95,33 @@ fn put(u: Parts, i: usize, v: u8, d: &[u8]) -> Reply
     silent(with_bodies(u, new), 1)
 }
 
-// A new value for a group object that may be written.
-pub fn group_write(u: Parts, address: u16, v: u8, d: &[u8]) -> Reply
-    requires { ⌜ Held u ⌝ }
-    ensures { λ r. ⌜ Serves u (now (d .entry)) (λ s. groupPutOf 2 s address v (length (now (d .entry)))) r ⌝ }
-{
-    let i = find_group(u, address);
-    let sizes = u.sizes;
-    if sizes.groups <= i {
-        return silent(u, 2);
-    }
-    let e = u.groups[i];
-    if e.write {
-        return put(u, i, v, d);
-    }
-    silent(u, 2)
-}
-
 // The value that another device answered, for a group object that takes it.
 pub fn group_response(u: Parts, address: u16, v: u8, d: &[u8]) -> Reply
     requires { ⌜ Held u ⌝ }
     ensures { λ r. ⌜ Serves u (now (d .entry)) (λ s. groupPutOf 4 s address v (length (now (d .entry)))) r ⌝ }
 {
     let i = find_group(u, address);
-    let sizes = u.sizes;
-    if sizes.groups <= i {
+    if u.sizes.groups <= i {
         return silent(u, 2);
     }
     let e = u.groups[i];
     if e.response {
+        return put(u, i, v, d);
+    }
+    silent(u, 2)
+}
+
+// A new value for a group object that may be written.
+pub fn group_write(u: Parts, address: u16, v: u8, d: &[u8]) -> Reply
+    requires { ⌜ Held u ⌝ }
+    ensures { λ r. ⌜ Serves u (now (d .entry)) (λ s. groupPutOf 2 s address v (length (now (d .entry)))) r ⌝ }
+{
+    let i = find_group(u, address);
+    if u.sizes.groups <= i {
+        return silent(u, 2);
+    }
+    let e = u.groups[i];
+    if e.write {
         return put(u, i, v, d);
     }
     silent(u, 2)

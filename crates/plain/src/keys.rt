@@ -35,8 +35,7 @@ fn level_with(h: Head, key: u32) -> u8
 pub fn authorize(u: Parts, key: u32) -> Reply
     ensures { λ r. ⌜ Serves u [] (λ s. authorizeOf s key) r ⌝ }
 {
-    let head = u.head;
-    granting(u, level_with(head, key))
+    granting(u, level_with(u.head, key))
 }
 
 fn with_key(u: Parts, i: usize, key: u32) -> Parts

@@ -43,7 +43,7 @@ pub struct Area {
     pub count: usize,
 }
 
-// 2 to 10 and 14: sessions, sheet and answer buffer stay as they were.
+// 3 to 10 and 14: sessions, sheet and answer buffer stay as they were.
 fn refused(sessions: Sessions, outcome: u8) -> Done
     ensures { λ r. ⌜ r ≡ record { outcome = outcome; count = 0; sessions = sessions } ⌝ }
 {

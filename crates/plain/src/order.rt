@@ -1,4 +1,4 @@
-// The outcomes 3 to 9 and 14, in their order.
+// The outcomes 3 to 9 and 14, in their order; the level that a request acts at.
 use judge::Session;
 use pdu::Found;
 use pdu::Service;
@@ -11,7 +11,7 @@ ghost use Rattle.judge.specs.Modes.{reachOf, reaches, takes};
 ghost use Rattle.judge.specs.Judge.{isShut};
 ghost use Rattle.plain.specs.Order.{firstOf, nextOf};
 
-// Mode 3, and no session.
+// Mode 3, and the session is closed.
 fn is_shut(session: Session, mode: u8) -> bool
     ensures { λ r. ⌜ r ≡ isShut session mode ⌝ }
 {
@@ -21,7 +21,8 @@ fn is_shut(session: Session, mode: u8) -> bool
     !session.opened
 }
 
-// 3, 4 or 14, 5, 6 and 7, and 0 where none is due. The sheet's own rules are those of `sheet`.
+// 3, 4 or 14, 5, 6 and 7, and 0 where none is due. Of 4 and 14 `sheet` decides: the rules S1 to S9 are not written a second time
+// (docs/DECISIONS.md).
 pub fn refused_first(room: usize, sheet: &[u8], apdu: &[u8], mode: u8, session: Session) -> u8
     ensures { λ r. ⌜ r ≡ firstOf room (refusalOf (now (sheet .entry))) (length (now (apdu .entry))) mode (isShut session mode) ⌝ }
 {

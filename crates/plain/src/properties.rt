@@ -1,4 +1,4 @@
-// Properties.
+// Properties: read, write and description.
 use crate::Reply;
 use crate::replies::echoing;
 use crate::replies::quoting;
@@ -45,8 +45,7 @@ fn find(u: Parts, object: u8, id: u8) -> usize
     requires { ⌜ Held u ⌝ }
     ensures { λ r. ⌜ (r ≤ u .sizes .properties) × ((s : List ℕ) → Accepted s → Octets s → Taken s u → r ≡ propertyAt s object id) ⌝ }
 {
-    let sizes = u.sizes;
-    let n = sizes.properties;
+    let n = u.sizes.properties;
     let mut i = 0;
     while i < n {
         let p = u.properties[i];
@@ -189,8 +188,7 @@ pub fn property_read(u: Parts, level: u8, object: u8, id: u8, n: u8, s: u16) -> 
     ensures { λ r. ⌜ Serves u [] (λ t. propertyReadOf t level object id n s) r ⌝ }
 {
     let i = find(u, object, id);
-    let sizes = u.sizes;
-    if sizes.properties <= i {
+    if u.sizes.properties <= i {
         return no_value(u, object, id, s);
     }
     read_from(u, i, level, object, id, n, s)
@@ -278,8 +276,7 @@ pub fn property_write(u: Parts, level: u8, object: u8, id: u8, n: u8, s: u16, d:
     ensures { λ r. ⌜ Serves u (now (d .entry)) (λ t. propertyWriteOf t level object id n s (now (d .entry))) r ⌝ }
 {
     let i = find(u, object, id);
-    let sizes = u.sizes;
-    if sizes.properties <= i {
+    if u.sizes.properties <= i {
         return no_value(u, object, id, s);
     }
     write_to(u, i, level, object, id, n, s, d)
@@ -323,8 +320,7 @@ fn nth(u: Parts, object: u8, index: u8) -> usize
     requires { ⌜ Held u ⌝ }
     ensures { λ r. ⌜ (r ≤ u .sizes .properties) × ((s : List ℕ) → Accepted s → Octets s → Taken s u → r ≡ nthOf s object index) ⌝ }
 {
-    let sizes = u.sizes;
-    let n = sizes.properties;
+    let n = u.sizes.properties;
     let properties = u.properties;
     let mut i = 0;
     while i < n {
@@ -353,8 +349,7 @@ pub fn description(u: Parts, object: u8, id: u8, index: u8) -> Reply
     ensures { λ r. ⌜ Serves u [] (λ s. descriptionOf s object id index) r ⌝ }
 {
     let i = described(u, object, id, index);
-    let sizes = u.sizes;
-    if sizes.properties <= i {
+    if u.sizes.properties <= i {
         let none = Pdu::PropertyDescriptionResponse {
             object,
             id,

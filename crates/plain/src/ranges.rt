@@ -14,24 +14,24 @@ ghost use Rattle.plain.specs.Steps.{Held};
 ghost use Rattle.plain.specs.Memory.{has as hasOf, mayIn, regionWith, placeIn, allowedAt, allAllowed, IsArea};
 
 // A region has that address.
-fn has(e: Region, y: usize) -> bool
-    ensures { λ r. ⌜ r ≡ hasOf e y ⌝ }
+fn has(e: Region, address: usize) -> bool
+    ensures { λ r. ⌜ r ≡ hasOf e address ⌝ }
 {
-    if y < e.address as usize {
+    if address < e.address as usize {
         return false;
     }
-    y < e.address as usize + e.length as usize
+    address < e.address as usize + e.length as usize
 }
 
 // The first of n regions that has the address, n where none has it.
-fn region_with(regions: [Region; 16], n: usize, y: usize) -> usize
+fn region_with(regions: [Region; 16], n: usize, address: usize) -> usize
     requires { ⌜ n ≤ 16 ⌝ }
-    ensures { λ r. ⌜ (r ≤ n) × (r ≡ regionWith regions n y) ⌝ }
+    ensures { λ r. ⌜ (r ≤ n) × (r ≡ regionWith regions n address) ⌝ }
 {
     let mut i = 0;
     while i < n {
         let e = regions[i];
-        if has(e, y) {
+        if has(e, address) {
             return i;
         }
         i += 1;
@@ -61,11 +61,11 @@ fn may(w: Access, level: u8, e: Region) -> bool
 }
 
 // One address lies in a region for which the level suffices.
-fn one_allowed(regions: [Region; 16], n: usize, w: Access, level: u8, y: usize) -> bool
+fn one_allowed(regions: [Region; 16], n: usize, w: Access, level: u8, address: usize) -> bool
     requires { ⌜ n ≤ 16 ⌝ }
-    ensures { λ r. ⌜ r ≡ allowedAt regions n w level y ⌝ }
+    ensures { λ r. ⌜ r ≡ allowedAt regions n w level address ⌝ }
 {
-    let i = region_with(regions, n, y);
+    let i = region_with(regions, n, address);
     if n <= i {
         return false;
     }
@@ -110,18 +110,18 @@ pub fn allowed(a: Area, w: Access, level: u8, most: u8, n: u8, address: u16) -> 
     all_allowed(regions, a.count, w, level, address as usize, n as usize)
 }
 
-// Where an address stands among the bodies.
-pub fn place(a: Area, y: usize) -> usize
-    requires { ⌜ (a .count ≤ 16) × (y ≤ 65790) ⌝ }
-    ensures { λ r. ⌜ r ≡ placeIn (a .regions) (a .count) y ⌝ }
+// Where an address stands among the bodies. It is asked for addresses that are allowed; another has no place, and gets 0.
+pub fn place(a: Area, address: usize) -> usize
+    requires { ⌜ (a .count ≤ 16) × (address ≤ 65790) ⌝ }
+    ensures { λ r. ⌜ r ≡ placeIn (a .regions) (a .count) address ⌝ }
 {
     let regions = a.regions;
-    let i = region_with(regions, a.count, y);
+    let i = region_with(regions, a.count, address);
     if a.count <= i {
         return 0;
     }
     let e = regions[i];
-    e.offset as usize + (y - e.address as usize)
+    e.offset as usize + (address - e.address as usize)
 }
 
 // The regions of a memory.

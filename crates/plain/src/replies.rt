@@ -1,4 +1,4 @@
-// The kinds of replies.
+// The kinds of reply, with the outcomes that they are for.
 use crate::Reply;
 use crate::Sent;
 use judge::Turn;
@@ -21,7 +21,7 @@ fn empty() -> [u8; 14]
     [0u8; 14]
 }
 
-// 2 to 10, 12, and 1: nothing is sent.
+// 1, 2, 8, 10 and 12: nothing is sent.
 pub fn silent(u: Parts, outcome: u8) -> Reply
     ensures { λ r. ⌜ Gives r outcome u Stays sent.Nothing [] ⌝ }
 {

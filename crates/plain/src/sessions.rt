@@ -59,17 +59,6 @@ fn with_level(q: Sessions, mode: u8, connection: u8, level: u8) -> Sessions
     q
 }
 
-// The sessions afterwards: as they were, with another level, or both closed.
-pub fn sessions_after(q: Sessions, mode: u8, connection: u8, turn: Turn) -> Sessions
-    ensures { λ r. ⌜ r ≡ turnedOf q mode connection (closes turn) (turnOf (sessionFor q mode connection) turn) ⌝ }
-{
-    match turn {
-        Turn::Stays => q,
-        Turn::Level(level) => with_level(q, mode, connection, level),
-        Turn::Closes => both_closed(),
-    }
-}
-
 fn both_closed() -> Sessions
     ensures { λ r. ⌜ r ≡ freshOf ⌝ }
 {
@@ -80,5 +69,16 @@ fn both_closed() -> Sessions
     Sessions {
         first: session,
         second: session,
+    }
+}
+
+// The sessions afterwards: as they were, with another level, or both closed.
+pub fn sessions_after(q: Sessions, mode: u8, connection: u8, turn: Turn) -> Sessions
+    ensures { λ r. ⌜ r ≡ turnedOf q mode connection (closes turn) (turnOf (sessionFor q mode connection) turn) ⌝ }
+{
+    match turn {
+        Turn::Stays => q,
+        Turn::Level(level) => with_level(q, mode, connection, level),
+        Turn::Closes => both_closed(),
     }
 }

@@ -10,8 +10,8 @@ group-read-spec =
     tie.close
     (tie.spec
     (λ c κs. search needs) (λ c κs. search needs)
-    (λ c. none-read _ _ _ _ (c .before .before .before .before .find-group .ensures) (search needs) (c .silent .ensures))
+    (λ c. none-read _ _ _ _ (c .before .before .find-group .ensures) (search needs) (c .silent .ensures))
     (λ c. search needs) (λ c. search needs) (λ c κs. search needs)
-    (λ c. is-read _ _ _ _ (c .before .before .before .before .before .before .find-group .ensures) (search needs) (search needs) (c .value .ensures))
+    (λ c. is-read _ _ _ _ (c .before .before .before .before .find-group .ensures) (search needs) (search needs) (c .value .ensures))
     (λ c κs. search needs)
-    (λ c. not-read _ _ _ _ (c .before .before .before .before .before .before .find-group .ensures) (search needs) (search needs) (c .silent2 .ensures)))
+    (λ c. not-read _ _ _ _ (c .before .before .before .before .find-group .ensures) (search needs) (search needs) (c .silent2 .ensures)))

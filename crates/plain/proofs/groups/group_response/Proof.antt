@@ -10,8 +10,8 @@ group-response-spec =
     tie.close
     (tie.spec
     (λ c κs. search needs) (λ c κs. search needs)
-    (λ c. none-put _ _ _ _ (c .before .before .before .before .find-group .ensures) _ _ _ (search needs) (c .silent .ensures))
+    (λ c. none-put _ _ _ _ (c .before .before .find-group .ensures) _ _ _ (search needs) (c .silent .ensures))
     (λ c. search needs) (λ c. search needs) (λ c κs. search needs)
-    (λ c. is-taken _ _ _ _ (c .before .before .before .before .before .before .find-group .ensures) _ _ (search needs) (search needs) (c .put .ensures))
+    (λ c. is-taken _ _ _ _ (c .before .before .before .before .find-group .ensures) _ _ (search needs) (search needs) (c .put .ensures))
     (λ c κs. search needs)
-    (λ c. not-taken _ _ _ _ (c .before .before .before .before .before .before .find-group .ensures) _ _ (search needs) (search needs) (c .silent2 .ensures)))
+    (λ c. not-taken _ _ _ _ (c .before .before .before .before .find-group .ensures) _ _ (search needs) (search needs) (c .silent2 .ensures)))

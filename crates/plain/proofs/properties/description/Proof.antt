@@ -11,10 +11,10 @@ description-spec =
     tie.close
     (tie.spec
     (λ c κs. search needs) (λ c κs. search needs)
-    (λ c. none-described _ _ _ _ _ _ (c .before .before .before .before .described .ensures) (search needs) (c .sending .ensures))
-    (λ c. omega (arith, c .before .before .before .before .before .pre .taken .sizes .fewProperties))
-    (λ c. omega (arith, c .before .before .before .before .before .pre .taken .sizes .fewProperties))
-    (λ c κs. omega (arith, c .before .before .before .before .before .before .pre .taken .sizes .fewProperties))
-    (λ c. omega (arith, c .before .before .before .before .before .before .before .pre .taken .sizes .fewProperties, c .index-within .ensures .0))
+    (λ c. none-described _ _ _ _ _ _ (c .before .before .before .described .ensures) (search needs) (c .sending .ensures))
+    (λ c. omega (arith, c .before .before .before .before .pre .taken .sizes .fewProperties))
+    (λ c. omega (arith, c .before .before .before .before .pre .taken .sizes .fewProperties))
+    (λ c κs. omega (arith, c .before .before .before .before .before .pre .taken .sizes .fewProperties))
+    (λ c. omega (arith, c .before .before .before .before .before .before .pre .taken .sizes .fewProperties, c .index-within .ensures .0))
     (λ c κs. search needs) (λ c κs. search needs) (λ c κs. search needs)
-    (λ c. one-described _ _ _ _ _ _ (c .before .before .before .before .before .before .before .before .before .described .ensures) (omega arith) _ _ _ (c .before .before .before .index-within .ensures .1) (c .before .before .type-byte .ensures) (c .before .levels-byte .ensures) (c .sending2 .ensures)))
+    (λ c. one-described _ _ _ _ _ _ (c .before .before .before .before .before .before .before .before .described .ensures) (omega arith) _ _ _ (c .before .before .before .index-within .ensures .1) (c .before .before .type-byte .ensures) (c .before .levels-byte .ensures) (c .sending2 .ensures)))

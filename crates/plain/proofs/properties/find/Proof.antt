@@ -25,7 +25,7 @@ returns c = (omega arith, λ s ok o t. hit _ _ _ s ok t _ (omega arith) (search 
 returns-2 : tie.Need-returns-2 Inv-loop μ-loop
 returns-2 c =
     let l = c .before .loop in
-    let e : l .i ≡ c .before .before .before .args .t1 .sizes .properties = omega (arith, l .inv .0, l .inv .1) in
+    let e : l .i ≡ c .before .before .args .t1 .sizes .properties = omega (arith, l .inv .0, l .inv .1) in
     (omega arith, λ s ok o t. miss _ _ _ s ok t (omega arith) (λ j h. l .inv .2 j (omega arith)) o)
 
 pub find-spec : {M : Type 1} → statement M

@@ -10,6 +10,6 @@ property-read-spec =
     tie.close
     (tie.spec
     (λ c κs. search needs) (λ c κs. search needs)
-    (λ c. no-such _ _ _ _ _ _ _ _ (c .before .before .before .before .find .ensures) (search needs) (c .no-value .ensures))
+    (λ c. no-such _ _ _ _ _ _ _ _ (c .before .before .before .find .ensures) (search needs) (c .no-value .ensures))
     (λ c κs. search needs)
-    (λ c. that-one _ _ _ _ _ _ _ _ (c .before .before .before .before .find .ensures) (search needs) (c .read-from .ensures)))
+    (λ c. that-one _ _ _ _ _ _ _ _ (c .before .before .before .find .ensures) (search needs) (c .read-from .ensures)))

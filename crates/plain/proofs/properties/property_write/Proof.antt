@@ -10,6 +10,6 @@ property-write-spec =
     tie.close
     (tie.spec
     (λ c κs. search needs) (λ c κs. search needs)
-    (λ c. none-named _ _ _ _ _ _ _ _ _ (c .before .before .before .before .find .ensures) (search needs) (c .no-value .ensures))
+    (λ c. none-named _ _ _ _ _ _ _ _ _ (c .before .before .before .find .ensures) (search needs) (c .no-value .ensures))
     (λ c κs. search needs)
-    (λ c. one-named _ _ _ _ _ _ _ _ _ (c .before .before .before .before .find .ensures) (search needs) (c .write-to .ensures)))
+    (λ c. one-named _ _ _ _ _ _ _ _ _ (c .before .before .before .find .ensures) (search needs) (c .write-to .ensures)))

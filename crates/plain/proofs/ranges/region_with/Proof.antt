@@ -15,10 +15,10 @@ use Rattle.plain.proofs.ranges.region_with.Statement.{statement}
 use Rattle.plain.proofs.ranges.region_with.Tie as tie
 
 abbrev Inv-loop : tie.InvT-loop
-Inv-loop n y regions i₀ i = (i ≤ n) × ((j : ℕ) → j < i → has (getD regions j noRegion) y ≡ false)
+Inv-loop n address regions i₀ i = (i ≤ n) × ((j : ℕ) → j < i → has (getD regions j noRegion) address ≡ false)
 
 abbrev μ-loop : tie.MeasureT-loop
-μ-loop n y regions i₀ i = n - i
+μ-loop n address regions i₀ i = n - i
 
 loop-again : tie.Need-loop-again Inv-loop μ-loop
 loop-again c = (omega arith, none-more _ _ (c .before .before .before .before .loop .inv .1) (search made-no))
