@@ -5,14 +5,19 @@ EVENTS ?= 2000000
 SEED ?=
 COMPARE := $(CARGO_BIN)/compare
 
+# the whole comparison, through one bridge
+define COMPARISON
+	cargo build --release --quiet -p compare
+	$(COMPARE) $(1) $(EVENTS) $(SEED)
+	$(COMPARE) $(1) --faults $(SEED)
+	$(COMPARE) $(1) --apart $$(($(EVENTS) / 10)) $(SEED)
+	$(COMPARE) $(1) --learn $$(($(EVENTS) / 10)) $(SEED)
+	$(COMPARE) $(1) --before $$(($(EVENTS) / 10)) $(SEED)
+endef
+
 #: make compare    the libraries against a plain Rust model; EVENTS and SEED may be given
 compare: $(BUILD)/bridge
-	cargo build --release --quiet -p compare
-	$(COMPARE) $(BUILD)/bridge $(EVENTS) $(SEED)
-	$(COMPARE) $(BUILD)/bridge --faults $(SEED)
-	$(COMPARE) $(BUILD)/bridge --apart $$(($(EVENTS) / 10)) $(SEED)
-	$(COMPARE) $(BUILD)/bridge --learn $$(($(EVENTS) / 10)) $(SEED)
-	$(COMPARE) $(BUILD)/bridge --before $$(($(EVENTS) / 10)) $(SEED)
+	$(call COMPARISON,$<)
 
 $(BUILD)/bridge: tests/compare/bridge.c mk/compare.mk $(LINKED) | need-gcc
 	mkdir -p $(BUILD)

@@ -17,19 +17,13 @@ build/kelindap.html: build/wasm/kelindap.wasm $(SCRIPTS) $(wildcard hosts/page/*
 	@echo "page: $@, $$(wc -c < $@) bytes"
 
 #: make test-page  the page in a browser, as a person uses it, and the comparison with the model through its module in node
-# half the events of make compare: each goes through a pipe and the module in node
-PAGE_EVENTS ?= 1000000
 test-page: build/kelindap.html build/sheet
 	tests/page/run.sh build/kelindap.html build/sheet build/page
 	if command -v node > /dev/null; then $(MAKE) --no-print-directory -s compare-page; else echo "page: no events are played through its module: there is no node here (Debian: nodejs)"; fi
 
 .PHONY: compare-page
 compare-page: build/wasm/bridge
-	cargo build --release --quiet -p compare
-	$(COMPARE) $< $(PAGE_EVENTS) $(SEED)
-	$(COMPARE) $< --faults $(SEED)
-	$(COMPARE) $< --apart $$(($(PAGE_EVENTS) / 10)) $(SEED)
-	$(COMPARE) $< --learn $$(($(PAGE_EVENTS) / 10)) $(SEED)
+	$(call COMPARISON,$<)
 
 build/wasm/bridge: tests/compare/bridge.c tests/page/program.js $(wildcard tests/page/libc/*.h) $(WASM) mk/page.mk | need-gcc
 	mk/bin/wasm $@.wasm $<
