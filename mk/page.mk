@@ -1,7 +1,7 @@
 # The page: the proved modules for a browser, and what shows them, in one file. Comes after hosts.mk and compare.mk.
 .PHONY: page test-page
 # one idea each; a file rests on those before it
-SCRIPTS := $(addprefix hosts/page/,$(addsuffix .js,bytes module pdu points sheet where differ store device trace demo \
+SCRIPTS := $(addprefix hosts/page/,$(addsuffix .js,bytes module pdu frame points sheet where differ store device trace demo \
     view grid show files part_sheet part_two part_device part_trace part_demo main))
 WASM := build/module/host.bc build/module/tool.bc $(SHIMS) $(wildcard include/*.h) mk/bin/wasm mk/bin/ir
 

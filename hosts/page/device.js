@@ -1,11 +1,12 @@
-// A device at work: its sheet, the sessions of two connections, a store. Each event is a call of the module; what it changed is seen by comparing.
+// A device at work: its sheet, the sessions of two connections with their partners, a store. Each event is a call of the module; what it changed is seen by comparing.
 
 const MULTICAST = 0, BROADCAST = 1, CONNECTIONLESS = 2, CONNECTED = 3;
 const REQUEST = 0, CONNECT = 1, DISCONNECT = 2, BUTTON_ON = 3, BUTTON_OFF = 4;
+const FRAME_CONNECT = 4, FRAME_DISCONNECT = 5;
 const STORE = 4096;
 
 /** @typedef {{ kind: number, mode: number, connection: number, group: number, apdu: Uint8Array }} Happening */
-/** @typedef {{ sent: string, outcome: number, answer: string, sessions: string[], changes: string[], event?: Happening, before: Uint8Array }} Event_ */
+/** @typedef {{ sent: string, outcome: number, answer: string, sessions: string[], changes: string[], event?: Happening, frame?: string, before: Uint8Array }} Event_ */
 
 /** @param {Uint8Array} sessions @param {number} c */
 const sessionText = (sessions, c) => (sessions[2 * c] ? `level ${sessions[2 * c + 1]}` : "closed");
@@ -25,7 +26,12 @@ class Device {
         this.proved = proved;
         this.first = sheet.slice();
         this.sheet = sheet.slice();
-        this.sessions = proved.fresh();
+        // the sessions and, behind them, the address of each partner; 0 of a tool that came by no frame
+        this.link = new Uint8Array(proved.fields.get("link").size);
+        this.sessions = this.link.subarray(0, proved.fields.get("sessions").size);
+        this.sessions.set(proved.fresh());
+        // the sequence number of the device's next frame on each connection
+        this.next = [0, 0];
         this.store = new Uint8Array(STORE);
         /** @type {Event_[]} */
         this.log = [];
@@ -33,19 +39,21 @@ class Device {
 
     /**
      * One event: what it gave, and what it did to sheet and sessions.
-     * @param {string} sent @param {() => { outcome: number, answer?: string }} call @param {Happening} [event]
+     * @param {string} sent @param {() => { outcome: number, answer?: string }} call @param {Happening} [event] @param {string} [frame] in words
      */
-    happens(sent, call, event) {
+    happens(sent, call, event, frame) {
         const before = this.sheet.slice(), was = this.sessions.slice(), { outcome, answer = "" } = call();
         const sessions = [0, 1].filter(c => sessionText(was, c) !== sessionText(this.sessions, c))
             .map(c => `connection ${c}: ${sessionText(was, c)} → ${sessionText(this.sessions, c)}`);
-        const told = { sent, outcome, answer, sessions, changes: [...sessions, ...differences(before, this.sheet)], event, before };
+        const told = { sent, outcome, answer, sessions, changes: [...sessions, ...differences(before, this.sheet)], event, frame, before };
         this.log.push(told);
         return told;
     }
 
     /** @param {number} connection */
     connect(connection) {
+        const at = this.proved.fields.get("link.address").at + 2 * connection;
+        this.link.fill(0, at, at + 2);
         return this.happens(`connect ${connection}`, () => ({ outcome: this.proved.connect(this.sessions, connection) }), happening(CONNECT, connection));
     }
 
@@ -66,6 +74,24 @@ class Device {
             return { outcome: reply.outcome, answer: reply.answer.length ? apduText(this.proved, reply.answer) : "" };
         };
         return this.happens(`${apduText(this.proved, apdu)}, ${wayText(mode, connection, group)}`, call, { kind: REQUEST, mode, connection, group, apdu });
+    }
+
+    // A frame as it comes: the module says whose it is and what it is to this device, and gives the frame that answers.
+    /** @param {Uint8Array} bytes */
+    frame(bytes) {
+        const { proved } = this, { event, connection, group } = proved.heard(this.link, this.sheet, bytes), frame = proved.readFrame(bytes);
+        if (event > FRAME_DISCONNECT) throw new Fault(`${frame.outcome ? "no frame" : "no event"}: ${outcomeText(event)}`);
+        const on = connection < CONNECTIONS ? connection : 0, from = `from ${individualText(frame.source)}`, words = frameText(frame);
+        const call = () => {
+            const { outcome, frame: answer } = proved.serve(this.link, this.next[on], bytes, this.sheet);
+            if (event === FRAME_CONNECT) this.next[on] = 0;
+            if (event === CONNECTED && answer.length) this.next[on]++;
+            return { outcome, answer: answer.length ? `${apduText(proved, proved.readFrame(answer).tpdu)}, in the frame ${hex(answer)}` : "" };
+        };
+        if (event === FRAME_CONNECT) return this.happens(`connect ${on}, ${from}`, call, happening(CONNECT, on), words);
+        if (event === FRAME_DISCONNECT) return this.happens(`disconnect ${on}, ${from}`, call, happening(DISCONNECT, on), words);
+        const to = event === MULTICAST ? group : 0;
+        return this.happens(`${apduText(proved, frame.tpdu)}, ${wayText(event, on, to)}, ${from}`, call, { kind: REQUEST, mode: event, connection: on, group: to, apdu: frame.tpdu }, words);
     }
 
     convert() {

@@ -1,5 +1,6 @@
 /* Where each field of the headers' structures stands, by name, so that the page's script has no numbers of its own for it. */
 #include "kelindap_frame.h"
+#include "kelindap_link.h"
 #include "kelindap_pdu.h"
 #include "kelindap_store.h"
 #include "kelindap_trace.h"
@@ -35,6 +36,9 @@ const page_field *page_fields(void)
         FIELD(frame, code), FIELD(frame, control1), FIELD(frame, control2), FIELD(frame, transport),
         FIELD(frame, info_offset), FIELD(frame, info_length), FIELD(frame, tpdu_offset), FIELD(frame, tpdu_length),
         WHOLE(framed), FIELD(framed, count), FIELD(framed, outcome),
+        WHOLE(link), FIELD(link, address),
+        WHOLE(arrival), FIELD(arrival, event), FIELD(arrival, connection), FIELD(arrival, group),
+        WHOLE(served), FIELD(served, number), FIELD(served, outcome), FIELD(served, connection), FIELD(served, count),
         { NULL, 0, 0 },
     };
     return fields;

@@ -9,7 +9,7 @@ const MOST_BYTES = 1 << 18;
  */
 async function fileBytes(file) {
     if (file.size > MOST_BYTES) throw new Fault(`${file.name} has ${counted(file.size, "byte")}, more than any sheet, trace or store: it was not read`);
-    const bytes = new Uint8Array(await file.arrayBuffer());
+    const bytes = new Uint8Array(await file.arrayBuffer().catch(() => { throw new Fault(`${file.name} can't be read`); }));
     const text = new TextDecoder().decode(bytes);
     return /^[0-9a-fA-F\s]+$/.test(text) && text.trim() ? unhex(text) : bytes;
 }
@@ -22,18 +22,23 @@ function saveFile(bytes, name) {
 }
 
 /**
- * A place where bytes come in, by file, drop, paste or choice. `others` are what the page has itself.
+ * A place where bytes come in, by file, drop, paste or choice. `others` are what the page has itself. It tells what it holds, also
+ * what came from elsewhere on the page (`tell`).
  * @param {string} title @param {(bytes: Uint8Array, name: string) => void} taken @param {[string, () => Uint8Array | null][]} others
  */
 function source(title, taken, others) {
     const said = el("p", { class: "said", role: "status" });
+    /** @param {string} name @param {Uint8Array} bytes */
+    const tell = (name, bytes) => {
+        said.textContent = `${name}, ${counted(bytes.length, "byte")}`;
+        said.classList.remove("fault");
+    };
     /** @param {() => Promise<[Uint8Array, string]> | [Uint8Array, string]} get */
     const take = async get => {
         try {
             const [bytes, name] = await get();
             taken(bytes, name);
-            said.textContent = `${name}, ${counted(bytes.length, "byte")}`;
-            said.classList.remove("fault");
+            tell(name, bytes);
         } catch (error) {
             if (!(error instanceof Fault)) throw error;
             said.textContent = error.message;
@@ -48,25 +53,22 @@ function source(title, taken, others) {
         file.value = ""; // so that the same file can be chosen again, once it is another
     });
     const digits = el("textarea", { rows: 4, spellcheck: "false", autocomplete: "off" });
-    const menu = choice([["", "choose…"], ...others.map(([text], i) => /** @type {[string, string]} */ ([String(i), text]))], value => {
-        if (value === "") return;
-        const [text, get] = others[Number(value)];
-        take(() => {
-            const bytes = get();
-            if (!bytes) throw new Fault(`there is none yet: ${text}`);
-            return [bytes, text];
-        });
-        menu.value = "";
+    const menu = choice(others.map(([text], i) => [String(i), text]));
+    // by a button, since arrow keys go through all choices
+    const takeOther = () => take(() => {
+        const [text, get] = others[Number(menu.value)], bytes = get();
+        if (!bytes) throw new Fault(`there is none yet: ${text}`);
+        return [bytes, text];
     });
     const box = el("fieldset", { class: "source" }, el("legend", {}, title),
-        el("div", { class: "ways" }, labelled("Open a file, or drop it here", file), others.length > 0 && labelled("Take", menu)),
+        el("div", { class: "ways" }, labelled("Open a file, or drop it here", file), labelled("Or of the page's own", el("div", { class: "taken" }, menu, button("Take it", takeOther)), "field", menu)),
         el("details", {}, el("summary", {}, "Paste hex digits"), labelled("Hex digits", digits),
             button("Take these", () => take(() => [unhex(digits.value), "pasted"]))),
         said);
     box.addEventListener("dragover", event => { event.preventDefault(); box.classList.add("over"); });
     box.addEventListener("dragleave", () => box.classList.remove("over"));
     box.addEventListener("drop", event => { event.preventDefault(); box.classList.remove("over"); takeFile(event.dataTransfer?.files[0]); });
-    return box;
+    return { box, tell };
 }
 
 // a file that is dropped beside a place for it does not replace the page

@@ -18,7 +18,6 @@ class ByteGrid {
                 if (at !== undefined) this.move(Number(at), false);
             });
         }
-        wide.addEventListener("change", () => { this.length = 0; });
     }
 
     // A cell for each byte, made anew only if there is another number of them.
@@ -40,7 +39,7 @@ class ByteGrid {
 
     /** @param {Uint8Array} sheet @param {(p: number) => string} kind @param {boolean} keys */
     show(sheet, kind, keys) {
-        if (this.length !== sheet.length) this.build(sheet.length);
+        if (this.length !== sheet.length || this.row !== rowLength()) this.build(sheet.length);
         for (let p = 0; p < sheet.length; p++) {
             const text = byteShown(sheet, p, keys), name = kind(p), both = text + name;
             if (this.shown[p] === both) continue;
@@ -48,7 +47,7 @@ class ByteGrid {
             this.cells[p].textContent = text;
             this.cells[p].className = name;
         }
-        this.cells[this.at].classList.add("at");
+        this.cells[this.at]?.classList.add("at");
     }
 
     /** @param {number} p @param {boolean} scroll */

@@ -19,6 +19,7 @@ class App {
         byId("version").textContent = proved.version();
         const keys = /** @type {HTMLInputElement} */ (byId("keys"));
         keys.addEventListener("change", () => { this.keys = keys.checked; this.showAll(); });
+        wide.addEventListener("change", () => this.showAll());
         this.showAll();
     }
 
@@ -31,28 +32,31 @@ class App {
         this.sheetPart.show();
         this.twoPart.show();
         this.devicePart.show();
-        this.tracePart.load();
+        this.tracePart.show();
     }
 
     /** @param {Uint8Array} bytes @param {string} name */
     setSheet(bytes, name) {
         this.sheet = bytes.slice();
         this.sheetName = /\.\w+$/.test(name) ? name.replace(/\.\w+$/, ".bin") : "sheet.bin";
+        this.sheetPart.source.tell(name, bytes);
         this.sheetPart.show();
     }
 
-    /** @param {Uint8Array} sheet */
-    putOnDevice(sheet) {
+    /** @param {Uint8Array} sheet @param {string} name */
+    putOnDevice(sheet, name) {
         const { store } = this.device;
         this.device = new Device(this.proved, sheet);
         this.device.store = store;
+        this.devicePart.source.tell(name, sheet);
         this.devicePart.show();
         this.open("device");
     }
 
-    /** @param {number} side @param {Uint8Array} sheet */
-    compare(side, sheet) {
+    /** @param {number} side @param {Uint8Array} sheet @param {string} name */
+    compare(side, sheet, name) {
         this.twoPart.set(side, sheet);
+        this.twoPart.sources[side].tell(name, sheet);
         this.open("two");
     }
 
@@ -61,12 +65,13 @@ class App {
         const events = this.device.log.flatMap(({ event }) => (event ? [event] : []));
         if (this.device.log.some(({ event, before }, i) => !event && !same(before, this.device.log[i + 1]?.before ?? this.device.sheet)))
             throw new Fault("a version was restored, which a trace can't say");
-        return events.length ? traceOf(events.slice(0, MOST_EVENTS)) : null;
+        if (events.length > MOST_EVENTS) throw new Fault(`${counted(events.length, "event")} happened, and a trace has at most ${MOST_EVENTS}`);
+        return events.length ? traceOf(events) : null;
     }
 
     recorded() {
         try {
-            this.tracePart.set(this.device.first, this.record() ?? new Uint8Array(2));
+            this.tracePart.set(this.device.first, "the device's sheet as it began", this.record() ?? new Uint8Array(2), "what happened to the device");
             this.open("trace");
         } catch (error) {
             if (!(error instanceof Fault)) throw error;
@@ -93,6 +98,7 @@ class App {
         this.open(named());
     }
 
+    // The part that is seen. What had the focus may stand in another, and then its tab gets it.
     /** @param {string} id */
     open(id) {
         for (const tab of document.querySelectorAll("[role=tab]")) {
@@ -101,7 +107,7 @@ class App {
             tab.setAttribute("tabindex", chosen ? "0" : "-1");
             byId(/** @type {string} */ (tab.getAttribute("aria-controls"))).hidden = !chosen;
         }
-        if (id === "trace") this.tracePart.reveal();
+        if (document.activeElement?.closest("[role=tabpanel][hidden]")) byId(`tab-${id}`).focus();
     }
 }
 
@@ -110,7 +116,8 @@ let app;
 Proved.start(MADE.wasm).then(proved => {
     app = new App(proved);
     document.documentElement.dataset.ready = "yes";
-}, error => {
+}).catch(error => {
     byId("failed").hidden = false;
-    byId("failed").textContent = `The module could not be started: ${error.message}`;
+    byId("failed").textContent = `The page could not be started: ${error.message}`;
+    document.documentElement.dataset.ready = "no";
 });

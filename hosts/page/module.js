@@ -10,6 +10,8 @@ const CONNECTIONS = 2;
 const LOG_LINE = 18;
 const MOST_EVENTS = 512;
 const ANSWER = 16;
+const ANSWER_FRAME = 25;
+const LONGEST_FRAME = 280;
 
 class Proved {
     /** @param {WebAssembly.Exports} exports */
@@ -272,5 +274,43 @@ class Proved {
                 control2: field("control2"), source: field("source"), destination: field("destination"),
                 transport: field("transport"), info: part("info"), tpdu: part("tpdu") };
         });
+    }
+
+    /**
+     * A frame by its fields; 47 if a value does not fit its field.
+     * @param {Record<string, bigint>} fields @param {Uint8Array} info @param {Uint8Array} apdu @param {Uint8Array} out
+     */
+    writeFrame(fields, info, apdu, out) {
+        return this.lending(() => {
+            const frame = this.structure("frame"), framed = this.structure("framed");
+            let fits = true;
+            for (const [name, value] of Object.entries(fields)) fits = this.put(frame, "frame." + name, value) && fits;
+            if (!fits) this.put(frame, "frame.code", 0n);
+            this.calls.kelindap_frame_write(framed, frame, ...this.read(info), ...this.read(apdu), ...this.write(out));
+            return { outcome: this.small(framed, "framed.outcome"), count: this.small(framed, "framed.count") };
+        });
+    }
+
+    // ---- kelindap_link.h ----
+
+    // What a frame is to the device. A link is the sessions and, behind them, the address of each partner.
+    /** @param {Uint8Array} link @param {Uint8Array} sheet @param {Uint8Array} frame */
+    heard(link, sheet, frame) {
+        return this.lending(() => {
+            const arrival = this.structure("arrival");
+            this.calls.kelindap_heard(arrival, this.read(link)[0], ...this.read(sheet), ...this.read(frame));
+            return { event: this.small(arrival, "arrival.event"), connection: this.small(arrival, "arrival.connection"), group: this.small(arrival, "arrival.group") };
+        });
+    }
+
+    // A frame in, at most one frame out.
+    /** @param {Uint8Array} link @param {number} sequence @param {Uint8Array} frame @param {Uint8Array} sheet */
+    serve(link, sequence, frame, sheet) {
+        const out = new Uint8Array(ANSWER_FRAME), [number, outcome, count] = this.lending(() => {
+            const served = this.structure("served");
+            this.calls.kelindap_serve(served, this.write(link)[0], sequence, ...this.read(frame), ...this.write(sheet), ...this.write(out));
+            return [this.small(served, "served.number"), this.small(served, "served.outcome"), this.small(served, "served.count")];
+        });
+        return { number, outcome, frame: out.slice(0, count) };
     }
 }

@@ -8,13 +8,31 @@ const WAYS = [
     ["3 1", "on connection 1", "memory_read n=4 address=0100h"],
     ["0", "to a group", "group_read"],
     ["1", "to all devices", "address_read"],
-    ["f 0", "a frame, from the partner of connection 0", "2900b06011ff11050503d501331001"],
-    ["f 1", "a frame, from the partner of connection 1", "2900b06011ff11050503d501331001"],
+    ["f", "as a frame of the USB interface", "2900b06011ff11050503d501331001"],
 ];
-const REQUESTS = ["property_read object=1 id=51 n=1 s=1", "property_write object=1 id=51 n=1 s=1 data=04e2", "description_read object=1 id=51 index=0",
-    "authorize_request key=11111111", "authorize_request key=22222222", "key_write level=2 key=12345678", "memory_read n=4 address=0100h",
-    "memory_write n=2 address=0100h data=5566", "memory_bit_write n=1 address=0100h and=0f xor=01", "user_memory_read n=4 address=0100h",
-    "descriptor_read t=0", "group_read", "group_write v=0 data=2a", "address_read", "address_write address=4358", "restart"];
+// Requests to begin with: what each asks, and how it is written.
+/** @type {[string, string][]} */
+const REQUESTS = [
+    ["read a property", "property_read object=1 id=51 n=1 s=1"],
+    ["write a property", "property_write object=1 id=51 n=1 s=1 data=04e2"],
+    ["describe a property", "description_read object=1 id=51 index=0"],
+    ["offer the key of level 0", "authorize_request key=11111111"],
+    ["offer the key of level 1", "authorize_request key=22222222"],
+    ["set the key of level 2", "key_write level=2 key=12345678"],
+    ["read memory", "memory_read n=4 address=0100h"],
+    ["write memory", "memory_write n=2 address=0100h data=5566"],
+    ["write bits of memory", "memory_bit_write n=1 address=0100h and=0f xor=01"],
+    ["read user memory", "user_memory_read n=4 address=0100h"],
+    ["read the mask version", "descriptor_read t=0"],
+    ["read a group value", "group_read"],
+    ["write a group value", "group_write v=0 data=2a"],
+    ["ask for addresses", "address_read"],
+    ["set the address", "address_write address=4358"],
+    ["restart", "restart"],
+];
+
+/** So many events of the log are shown. */
+const SHOWN = 100;
 
 class DevicePart {
     /** @param {App} app @param {HTMLElement} root */
@@ -31,13 +49,19 @@ class DevicePart {
             event.preventDefault();
             this.send();
         });
-        const examples = choice([["", "choose…"], ...REQUESTS.map(text => /** @type {[string, string]} */ ([text, text]))], value => {
-            if (value) this.line.value = value;
-            examples.value = "";
-        });
+        const examples = choice([["", "choose…"], ...REQUESTS.map(([text, line]) => /** @type {[string, string]} */ ([line, text]))], value => { this.line.value = value || this.line.value; });
         this.hint = el("p", { class: "said fault", role: "alert" });
-        this.versions = el("div", { class: "versions" });
+        this.keeps = el("p", { role: "status" });
+        this.on = choice([["0", "connection 0"], ["1", "connection 1"]]);
+        this.kept = el("ul", { class: "entries" });
+        const store = source("The store", bytes => { app.device.store = bytes.slice(); this.show(); }, [["an empty store", () => new Uint8Array(STORE)]]);
+        const versions = el("section", { class: "card versions" }, el("h3", {}, "Versions of the settings"), this.keeps,
+            el("div", { class: "actions" }, button("Save a version", () => this.did(app.device.save())), labelled("Restore on", this.on)), this.kept,
+            el("details", {}, el("summary", {}, "The store as a file"), store.box, button("Save the store", () => saveFile(app.device.store, "store.bin"))));
+        this.source = source("The device's sheet", (bytes, name) => app.putOnDevice(bytes, name), [...app.samples(), ["the sheet of the first part", () => app.sheet.slice()]]);
+        this.source.tell(MADE.sheets[0][0], app.sheet);
         this.log = el("ol", { class: "log", reversed: true });
+        this.older = el("p", { class: "said" });
         this.sheet = el("div");
         this.state = el("p", { class: "verdict", role: "status" });
         root.append(el("h2", {}, "The device at work"),
@@ -50,13 +74,13 @@ class DevicePart {
                             el("div", { class: "actions" }, el("button", { type: "submit", class: "main" }, "Send"),
                                 button("Button on", () => this.did(app.device.button(true))), button("Button off", () => this.did(app.device.button(false))))),
                         this.hint, this.state),
-                    el("section", { class: "card" }, el("h3", {}, "What happened"), this.log,
-                        el("div", { class: "actions" }, button("Show it as a trace", () => app.recorded()), button("Begin anew", () => app.putOnDevice(app.device.first)))),
-                    el("section", { class: "card" }, el("h3", {}, "Versions of the settings"), this.versions)),
+                    el("section", { class: "card" }, el("h3", {}, "What happened"), this.log, this.older,
+                        el("div", { class: "actions" }, button("Show it as a trace", () => app.recorded()), button("Begin anew", () => app.putOnDevice(app.device.first, "as it began")))),
+                    versions),
                 el("div", {},
-                    source("The device's sheet", bytes => app.putOnDevice(bytes), [...app.samples(), ["the sheet of the first part", () => app.sheet.slice()]]),
+                    this.source.box,
                     el("div", { class: "actions" }, button("Save as a file", () => saveFile(app.device.sheet, "sheet.bin")),
-                        button("Compare with how it began", () => { app.compare(0, app.device.first); app.compare(1, app.device.sheet); })),
+                        button("Compare with how it began", () => { app.compare(0, app.device.first, "the device's sheet as it began"); app.compare(1, app.device.sheet, "the device's sheet"); })),
                     this.sheet)));
         this.wayChosen();
     }
@@ -70,73 +94,60 @@ class DevicePart {
         this.hint.textContent = "";
         try {
             const [mode, connection = "0"] = this.way.value.split(" ");
-            if (mode === "f") this.frame(unhex(this.line.value), Number(connection));
+            if (mode === "f") this.did(this.app.device.frame(frameOf(this.app.proved, this.line.value)));
             else this.did(this.app.device.request(apduOf(this.app.proved, this.line.value), Number(mode), Number(connection), mode === "0" ? groupOf(this.group.value) : 0));
         } catch (error) {
             if (!(error instanceof Fault)) throw error;
             this.hint.textContent = error.message;
+            this.state.textContent = ""; // of the event before
         }
     }
 
-    // A frame of the USB interface: the module says what it means.
-    /** @param {Uint8Array} bytes @param {number} connection */
-    frame(bytes, connection) {
-        const frame = this.app.proved.readFrame(bytes), { device } = this.app;
-        if (frame.outcome) throw new Fault(`no frame: ${outcomeText(frame.outcome)}`);
-        if (frame.event <= 3) this.did(device.request(frame.tpdu, frame.event, connection, frame.event === MULTICAST ? frame.destination : 0));
-        else if (frame.event === 4) this.did(device.connect(connection));
-        else if (frame.event === 5) this.did(device.disconnect(connection));
-        else throw new Fault(`no event: ${outcomeText(frame.event)}`);
-    }
-
-    /** @param {Event_} event */
-    did(event) {
+    /** @param {Event_} _event it stands last in the device's log */
+    did(_event) {
+        this.hint.textContent = "";
         this.show();
-        this.state.textContent = `${outcomeText(event.outcome)}${event.answer ? `: ${event.answer}` : ""}`;
-        this.state.className = `verdict ${event.outcome <= 1 ? "good" : "bad"}`;
     }
 
     show() {
         const { device, proved, keys } = this.app, last = device.log[device.log.length - 1];
-        this.state.textContent = "";
+        const focused = document.activeElement, label = this.sessions.contains(focused) || this.kept.contains(focused) ? focused?.getAttribute("aria-label") ?? "" : null;
+        this.state.textContent = last ? `${outcomeText(last.outcome)}${last.answer ? `: ${last.answer}` : ""}` : "";
+        this.state.className = `verdict ${last && last.outcome > 1 ? "bad" : "good"}`;
         this.sessions.replaceChildren(...[0, 1].map(c => {
             const open = device.sessions[2 * c] !== 0;
             return el("div", {}, el("span", {}, `Connection ${c}: `, el("strong", {}, sessionText(device.sessions, c))),
-                button(open ? "Disconnect" : "Connect", () => { this.did(open ? device.disconnect(c) : device.connect(c)); this.refocus(c); }, { "aria-label": `${open ? "Disconnect" : "Connect"} connection ${c}` }));
+                button(open ? "Disconnect" : "Connect", () => this.did(open ? device.disconnect(c) : device.connect(c)), { "aria-label": `${open ? "Disconnect" : "Connect"} connection ${c}` }));
         }));
-        this.log.replaceChildren(...device.log.slice(-100).reverse().map((event, i) => eventView(device.log.length - i, event)));
+        this.log.replaceChildren(...device.log.slice(-SHOWN).reverse().map((event, i) => eventView(device.log.length - i, event)));
+        this.older.textContent = device.log.length > SHOWN ? `Before these: ${counted(device.log.length - SHOWN, "event")}.` : "";
         const verdict = verdictOf(proved, device.sheet);
         const look = { keys, marked: (/** @type {number} */ p) => last !== undefined && last.before.length === device.sheet.length && last.before[p] !== device.sheet[p] };
         this.sheet.replaceChildren(...(verdict.rule ? [el("p", { class: "verdict bad" }, `Not accepted: ${verdict.text}. The device does nothing with it.`)] : [sheetView(proved, device.sheet, look)]));
         this.showVersions();
+        if (label !== null) this.refocus(label);
     }
 
-    // The button that was pressed has been made anew.
-    /** @param {number} c */
-    refocus(c) {
-        this.sessions.querySelectorAll("button")[c].focus();
+    // The button that was pressed has been made anew, or is gone: the focus goes to the one in its place.
+    /** @param {string} label */
+    refocus(label) {
+        const others = /** @type {HTMLElement[]} */ ([...this.sessions.querySelectorAll("button"), ...this.kept.querySelectorAll("button")]);
+        const named = others.find(other => other.getAttribute("aria-label")?.toLowerCase().replace(/^dis/, "") === label.toLowerCase().replace(/^dis/, ""));
+        (named ?? this.on).focus();
     }
 
     showVersions() {
-        const { device, proved } = this.app, good = proved.storeCheck(device.store) === 0;
-        const on = choice([["0", "connection 0"], ["1", "connection 1"]]);
-        on.value = this.on ?? "0";
-        on.addEventListener("change", () => { this.on = on.value; });
+        const { device, proved } = this.app, good = proved.storeCheck(device.store) === 0, accepted = proved.check(device.sheet) === 0;
         const kept = good ? versionsOf(device.store) : [];
-        this.versions.replaceChildren(
-            el("p", {}, good ? `${counted(kept.length, "version")} kept, in ${counted(device.store.length, "byte")}. A restore needs level 0.` : `${outcomeText(30)}.`),
-            el("div", { class: "actions" }, button("Save a version", () => this.did(device.save())), labelled("Restore on", on)),
-            el("ul", { class: "entries" }, ...kept.map(version => {
-                const since = proved.check(device.sheet) === 0 ? sinceVersion(device.sheet, version) : null;
-                return el("li", { class: "entry" }, el("div", { class: "name" }, `Version ${version.number}`),
-                    el("div", { class: "meta" }, since === null ? "of another sheet" : since.length ? `since then: ${since.slice(0, 8).join("; ")}${since.length > 8 ? "; …" : ""}` : "as the sheet is now"),
-                    el("div", { class: "actions" },
-                        button("Restore", () => this.did(device.restore(Number(on.value), version.number)), { "aria-label": `Restore version ${version.number}` }),
-                        button("Remove", () => this.did(device.remove(version.number)), { "aria-label": `Remove version ${version.number}` })));
-            })),
-            el("details", {}, el("summary", {}, "The store as a file"),
-                source("The store", bytes => { device.store = bytes.slice(); this.show(); }, [["an empty store", () => new Uint8Array(STORE)]]),
-                button("Save the store", () => saveFile(device.store, "store.bin"))));
+        this.keeps.textContent = good ? `${counted(kept.length, "version")} kept, in ${counted(device.store.length, "byte")}. A restore needs level 0.` : `${outcomeText(30)}.`;
+        this.kept.replaceChildren(...kept.map(version => {
+            const since = accepted ? sinceVersion(device.sheet, version) : null;
+            return el("li", { class: "entry" }, el("div", { class: "name" }, `Version ${version.number}`),
+                el("div", { class: "meta" }, since === null ? "of another sheet" : since.length ? `since then: ${since.slice(0, 8).join("; ")}${since.length > 8 ? `; and ${since.length - 8} more` : ""}` : "as the sheet is now"),
+                el("div", { class: "actions" },
+                    button("Restore", () => this.did(device.restore(Number(this.on.value), version.number)), { "aria-label": `Restore version ${version.number}` }),
+                    button("Remove", () => this.did(device.remove(version.number)), { "aria-label": `Remove version ${version.number}` })));
+        }));
     }
 }
 
@@ -144,6 +155,7 @@ class DevicePart {
 /** @param {number} n @param {Event_} event */
 const eventView = (n, event) => el("li", { value: n },
     el("div", { class: "sent" }, event.sent),
+    event.frame !== undefined && el("div", { class: "said" }, `frame ${event.frame}`),
     el("div", { class: `outcome ${event.outcome <= 1 ? "good" : "bad"}` }, outcomeText(event.outcome), event.answer && `: ${event.answer}`),
     ...event.changes.slice(0, 20).map(line => el("div", { class: "change" }, line)),
     event.changes.length > 20 && el("div", { class: "change" }, `and ${event.changes.length - 20} more`));

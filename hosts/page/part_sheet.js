@@ -6,22 +6,27 @@ class SheetPart {
         this.app = app;
         this.verdict = el("p", { class: "verdict", role: "status" });
         this.convert = button("Convert to edition 2", () => this.converted());
+        this.save = button("Save as a file", () => saveFile(app.sheet, app.sheetName));
         this.view = el("div");
+        this.bytes = el("details");
+        this.source = source("The sheet", (bytes, name) => app.setSheet(bytes, name), [...app.samples(), ["an old one, of edition 1", () => Uint8Array.of(1, ...unhex(MADE.sheets[0][1]).slice(1))], ["the device's sheet", () => app.device.sheet.slice()]]);
+        this.source.tell(MADE.sheets[0][0], app.sheet);
         root.append(
             el("h2", {}, "A sheet"),
-            source("The sheet", (bytes, name) => app.setSheet(bytes, name), [...app.samples(), ["an old one, of edition 1", () => Uint8Array.of(1, ...unhex(MADE.sheets[0][1]).slice(1))], ["the device's sheet", () => app.device.sheet.slice()]]),
+            this.source.box,
             this.verdict,
             el("div", { class: "actions" }, this.convert,
-                button("Save as a file", () => saveFile(app.sheet, app.sheetName)),
-                button("Put it on the device", () => app.putOnDevice(app.sheet)),
-                button("Compare it as the first", () => app.compare(0, app.sheet)),
-                button("as the second", () => app.compare(1, app.sheet), { "aria-label": "Compare it as the second" })),
+                this.save,
+                button("Put it on the device", () => app.putOnDevice(app.sheet, "the sheet of the first part")),
+                button("Compare it as the first", () => app.compare(0, app.sheet, "the sheet of the first part")),
+                button("as the second", () => app.compare(1, app.sheet, "the sheet of the first part"), { "aria-label": "Compare it as the second" })),
             this.view);
     }
 
     converted() {
         const sheet = this.app.sheet.slice(), outcome = this.app.proved.convert(sheet);
         this.app.setSheet(sheet, this.app.sheetName);
+        this.save.focus(); // the button that was pressed is gone
         this.verdict.append(` · converted: ${outcomeText(outcome)}`);
     }
 
@@ -32,7 +37,9 @@ class SheetPart {
         this.verdict.textContent = good ? `Accepted: ${counted(sheet.length, "byte")} that keep all rules.` : old ? "Old: a sheet of edition 1, which is retired and keeps its rules (14). Convert it." : `Not accepted: it ${verdict.text}.`;
         this.convert.hidden = !old;
         const look = { keys, marked: (/** @type {number} */ p) => marks.has(p), broken: verdict.entry };
-        const bytes = el("details", { open: !good && !old }, el("summary", {}, "Bytes"));
+        // open where something is marked, and if it was for the same sheet
+        const open = (!good && !old) || (this.seen === sheet && this.bytes.open), bytes = this.bytes = el("details", { open }, el("summary", {}, "Bytes"));
+        this.seen = sheet;
         const fill = () => bytes.childElementCount === 1 && bytes.append(sheet.length ? byteRows(sheet, look.marked, keys) : el("p", {}, "none"));
         if (bytes.open) fill();
         bytes.addEventListener("toggle", fill);

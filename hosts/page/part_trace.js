@@ -12,13 +12,14 @@ class TracePart {
         this.at = 0;
         this.grid = new ByteGrid(p => this.pointed(p));
         this.verdict = el("p", { class: "verdict", role: "status" });
-        this.event = el("input", { type: "number", min: 0, value: 0 });
+        this.event = el("input", { type: "number", min: 0, value: 0, autocomplete: "off" });
         this.event.addEventListener("change", () => this.go(Number(this.event.value)));
         this.list = el("ol", { class: "events", role: "listbox", tabindex: 0, "aria-label": "Events", onkeydown: (/** @type {KeyboardEvent} */ e) => this.key(e) });
         this.list.addEventListener("click", e => {
             const row = /** @type {HTMLElement} */ (e.target).closest("li");
             if (row) this.go(Number(row.dataset.n));
         });
+        new IntersectionObserver(seen => seen.some(entry => entry.isIntersecting) && this.reveal()).observe(this.list);
         this.account = el("p", { class: "account", role: "status" });
         this.state = el("p", { class: "state" });
         this.changes = el("ul", { class: "lines" });
@@ -33,44 +34,61 @@ class TracePart {
                 el("section", { class: "card" }, el("h3", {}, "The sheet after it"), this.state, this.changes, this.account, this.grid.root, this.meaning)));
         this.playing = new Playing(app.proved, this.sheet, new Uint8Array(2));
         const sheets = /** @type {[string, () => Uint8Array | null][]} */ ([...app.samples(), ["the sheet of the first part", () => app.sheet.slice()]]);
+        this.sheetSource = source("The sheet at its start", bytes => { this.sheet = bytes.slice(); this.load(); }, sheets);
+        this.traceSource = source("The trace", bytes => { this.trace = bytes.slice(); this.load(); }, [["what happened to the device", () => this.recorded()], ["an example, with its own sheet", () => this.example()]]);
+        this.sheetSource.tell(MADE.sheets[0][0], this.sheet);
         root.append(el("h2", {}, "A trace"),
-            el("div", { class: "pair" },
-                source("The sheet at its start", bytes => { this.sheet = bytes.slice(); this.load(); }, sheets),
-                source("The trace", bytes => { this.trace = bytes.slice(); this.load(); }, [["what happened to the device", () => app.record()], ["an example, on a sheet of its own", () => this.example()]])),
-            source("A dump taken afterwards, if there is one", bytes => { this.dump = bytes.slice(); this.explain(); }, [["the device's sheet", () => app.device.sheet.slice()]]),
+            el("div", { class: "pair" }, this.sheetSource.box, this.traceSource.box),
+            source("A dump taken afterwards, if there is one", bytes => { this.dump = bytes.slice(); this.explain(); }, [["the device's sheet", () => app.device.sheet.slice()]]).box,
             this.verdict, this.unexplained, this.body);
     }
 
     /** The stored trace of trace_play, whose sheet comes before it. */
     example() {
         const both = unhex(MADE.played), length = number(both, 4, 2);
-        this.sheet = both.slice(0, length);
+        this.setSheet(both.slice(0, length), "that of the example");
         return both.slice(length);
     }
 
-    /** @param {Uint8Array} sheet @param {Uint8Array} trace */
-    set(sheet, trace) {
-        this.sheet = sheet.slice();
+    /** What happened to the device began on its own sheet. */
+    recorded() {
+        const trace = this.app.record();
+        if (trace) this.setSheet(this.app.device.first.slice(), "the device's sheet as it began");
+        return trace;
+    }
+
+    /** @param {Uint8Array} sheet @param {string} name */
+    setSheet(sheet, name) {
+        this.sheet = sheet;
+        this.sheetSource.tell(name, sheet);
+    }
+
+    /** @param {Uint8Array} sheet @param {string} sheetName @param {Uint8Array} trace @param {string} traceName */
+    set(sheet, sheetName, trace, traceName) {
+        this.setSheet(sheet.slice(), sheetName);
         this.trace = trace.slice();
+        this.traceSource.tell(traceName, trace);
         this.load();
     }
 
+    /** Another sheet or another trace, from its start. */
     load() {
-        const { proved } = this.app, rule = verdictOf(proved, this.sheet);
-        this.body.hidden = true;
-        if (!this.trace) {
-            this.verdict.textContent = rule.rule ? `The sheet: ${rule.text}.` : "";
-            return;
+        this.at = 0;
+        if (this.trace) this.playing = new Playing(this.app.proved, this.sheet, this.trace);
+        this.show();
+    }
+
+    show() {
+        const { rule, text } = verdictOf(this.app.proved, this.sheet), { refusal, events } = this.playing;
+        this.body.hidden = !this.trace || refusal !== 0;
+        this.verdict.className = `verdict ${(this.trace && refusal) || rule ? "bad" : "good"}`;
+        const sheet = rule ? `The sheet: ${text}; no request on it does anything.` : "";
+        this.verdict.textContent = !this.trace ? sheet : refusal ? `The trace is refused: ${outcomeText(refusal)}.` : `${counted(events.length, "event")}. ${sheet}`.trim();
+        if (!this.body.hidden) {
+            this.event.max = String(events.length);
+            this.fill();
+            this.go(this.at);
         }
-        this.playing = new Playing(proved, this.sheet, this.trace);
-        const { refusal, events } = this.playing;
-        this.verdict.className = `verdict ${refusal || rule.rule ? "bad" : "good"}`;
-        this.verdict.textContent = refusal ? `The trace is refused: ${outcomeText(refusal)}.` : `${counted(events.length, "event")}.${rule.rule ? ` The sheet: ${rule.text}; no request on it does anything.` : ""}`;
-        if (refusal) return;
-        this.body.hidden = false;
-        this.event.max = String(events.length);
-        this.fill();
-        this.go(0);
         this.explain();
     }
 
@@ -109,7 +127,7 @@ class TracePart {
         }
         this.reveal();
         this.state.textContent = `${this.at === 0 ? "At the start" : `After event ${this.at}`}: connection 0 ${sessionText(sessions, 0)}, connection 1 ${sessionText(sessions, 1)}.`;
-        this.changes.replaceChildren(...differences(before.sheet, sheet).slice(0, 20).map(line => el("li", {}, line)));
+        this.changes.replaceChildren(...listed(differences(before.sheet, sheet), 20));
         this.grid.show(sheet, p => (this.at > 0 && marks[p] === this.at ? "now" : marks[p] ? "changed" : ""), this.app.keys);
         this.pointed(this.grid.at);
         this.showMeaning();
@@ -123,10 +141,12 @@ class TracePart {
         this.meaning.append(sheetView(this.app.proved, sheet, { keys: this.app.keys, marked: p => at > 0 && marks[p] === at }));
     }
 
-    /** The event of which the sheet is seen stands in the middle of the list. */
-    reveal() {
+    // The event of which the sheet is seen stands in the middle of the list. Rows have their height only once they come into sight,
+    // so it is looked at again in the next pictures, and when the list itself comes into sight.
+    reveal(again = 3) {
         const row = this.rows?.[this.at - 1];
-        this.list.scrollTop = row ? Math.max(0, row.offsetTop - this.list.clientHeight / 2) : 0;
+        this.list.scrollTop = row ? row.offsetTop + (row.offsetHeight - this.list.clientHeight) / 2 : 0;
+        if (again) requestAnimationFrame(() => this.reveal(again - 1));
     }
 
     /** @param {number} p */
@@ -142,9 +162,9 @@ class TracePart {
         const { dump } = this, last = this.playing.after(this.playing.events.length).sheet;
         const bytes = places(0, Math.max(dump.length, last.length)).filter(p => dump[p] !== last[p]);
         const told = this.app.proved.check(dump) === 0 && this.app.proved.check(last) === 0 && dump.length === last.length;
-        const e = entriesOf(last), lines = told ? differences(last, dump) : bytes.slice(0, 200).map(p => `byte ${p}, ${byteName(p, e)}`);
+        const e = entriesOf(last), lines = told ? differences(last, dump) : bytes.map(p => `byte ${p}, ${byteName(p, e)}`);
         this.unexplained.append(
             el("p", { class: `verdict ${bytes.length ? "bad" : "good"}`, role: "status" }, bytes.length ? `${counted(bytes.length, "byte")} of the dump that no event explains:` : "The events explain every byte of the dump."),
-            el("ul", { class: "lines" }, ...lines.map(line => el("li", {}, line))));
+            el("ul", { class: "lines" }, ...listed(lines, 200)));
     }
 }

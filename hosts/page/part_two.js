@@ -6,16 +6,18 @@ class TwoPart {
         this.app = app;
         /** @type {Uint8Array[]} */
         this.sheets = [app.sheet.slice(), app.sheet.slice()];
-        this.only = el("input", { type: "checkbox", onchange: () => this.show() });
+        this.only = el("input", { type: "checkbox", autocomplete: "off", onchange: () => this.show() });
         this.view = el("div");
         const others = /** @type {[string, () => Uint8Array | null][]} */ ([...app.samples(), ["the sheet of the first part", () => app.sheet.slice()], ["the device's sheet", () => app.device.sheet.slice()]]);
+        this.sources = ["The first", "The second"].map((title, side) => source(title, bytes => this.set(side, bytes), others));
+        for (const place of this.sources) place.tell(MADE.sheets[0][0], app.sheet);
         root.append(
             el("h2", {}, "Two sheets side by side"),
-            el("div", { class: "pair" }, source("The first", bytes => this.set(0, bytes), others), source("The second", bytes => this.set(1, bytes), others)),
+            el("div", { class: "pair" }, ...this.sources.map(place => place.box)),
             this.view,
+            el("h3", {}, "Byte by byte"),
             labelled("Only rows that differ", this.only, "check"),
             this.rows = el("div"));
-        wide.addEventListener("change", () => this.show());
     }
 
     /** @param {number} side @param {Uint8Array} sheet */
@@ -29,7 +31,7 @@ class TwoPart {
         // by meaning, if both are accepted, or old
         const known = verdicts.every(v => v.rule === 0 || v.rule === OLD), lines = known ? differences(a, b) : [];
         const bytes = places(0, Math.max(a.length, b.length)).filter(p => a[p] !== b[p]).length;
-        const told = lines.length ? el("ul", { class: "lines" }, ...lines.map(line => el("li", {}, line))) : null;
+        const told = lines.length ? el("details", { open: true }, el("summary", {}, "By meaning"), el("ul", { class: "lines" }, ...lines.map(line => el("li", {}, line)))) : null;
         this.view.replaceChildren(
             ...verdicts.map((v, i) => (v.rule ? el("p", { class: "verdict bad" }, `The ${i ? "second" : "first"} ${v.rule === OLD ? "is " : ""}${v.text}.`) : null)).filter(Boolean).map(node => /** @type {Node} */ (node)),
             el("p", { class: "verdict", role: "status" }, bytes === 0 ? "Nothing differs." : `${counted(bytes, "byte")} differ${bytes === 1 ? "s" : ""}${known ? "." : "; by meaning only accepted sheets can be compared."}`),

@@ -30,21 +30,25 @@ function byId(id) {
 /** @param {string} text @param {() => void} action @param {Record<string, string | number | boolean>} [attributes] */
 const button = (text, action, attributes = {}) => el("button", { type: "button", ...attributes, onclick: action }, text);
 
+// Lines of a list, of which so many are shown; how many more there are is said.
+/** @param {string[]} lines @param {number} most */
+const listed = (lines, most) => [...lines.slice(0, most), ...(lines.length > most ? [`and ${lines.length - most} more`] : [])].map(line => el("li", {}, line));
+
 let lastId = 0;
 const newId = () => `e${++lastId}`;
 
-// A control with its label.
-/** @param {string} text @param {HTMLElement} control @param {string} [kind] */
-function labelled(text, control, kind = "field") {
+// A control with its label; it may stand in a box with others.
+/** @param {string} text @param {HTMLElement} box @param {string} [kind] @param {HTMLElement} [control] */
+function labelled(text, box, kind = "field", control = box) {
     control.id ||= newId();
     const label = el("label", { for: control.id }, text);
-    return el("div", { class: kind }, ...(kind === "check" ? [control, label] : [label, control]));
+    return el("div", { class: kind }, ...(kind === "check" ? [box, label] : [label, box]));
 }
 
-// A choice.
+// A choice. No browser brings back what was chosen before the page was loaded anew, here and in what is typed or ticked.
 /** @param {[string, string][]} options value and text @param {(value: string) => void} [chosen] */
 function choice(options, chosen) {
-    const select = el("select", {}, ...options.map(([value, text]) => el("option", { value }, text)));
+    const select = el("select", { autocomplete: "off" }, ...options.map(([value, text]) => el("option", { value }, text)));
     if (chosen) select.addEventListener("change", () => chosen(select.value));
     return select;
 }

@@ -105,7 +105,10 @@ function inBodies(proved, s) {
         const entry = all[k - 1], small = upTo(s, e.contents, all.slice(0, k));
         if (small.length > LONGEST || proved.check(small) === 9) {
             const at = entry.kind === "property" ? 8 : 4;
-            if (entry.kind === "group" && entry.code === 0 && entry.body === end)
+            // its body is the last of them: with 0 in it the module takes it, unless it stands elsewhere
+            const zero = small.slice();
+            zero[zero.length - 1] = 0;
+            if (entry.kind === "group" && proved.check(zero) === 0)
                 return { entry, text: `${entryName(entry)}, six-bit value ${s[entry.body]}`, marks: [entry.body] };
             return { entry, text: `${entryName(entry)}, its body starts at ${entry.body}, and the one before ends at ${end}`, marks: places(entry.at + at, 2) };
         }

@@ -5,6 +5,9 @@ const fs = require("fs");
 const os = require("os");
 const path = require("path");
 
+// so long, in milliseconds, something may take on a machine that is slow and has much else to do
+const PATIENCE = 180000;
+
 class Browser {
     constructor(program) {
         this.folder = fs.mkdtempSync(path.join(os.tmpdir(), "page-"));
@@ -24,7 +27,8 @@ class Browser {
                 rest = rest.subarray(end + 1);
             }
         });
-        this.child.on("exit", () => {
+        this.ended = new Promise(done => this.child.on("exit", done));
+        this.ended.then(() => {
             for (const { fail } of this.waiting.values()) fail(new Error("the browser has ended"));
         });
     }
@@ -34,7 +38,8 @@ class Browser {
             this.events.push(message);
             return;
         }
-        const { done, fail } = this.waiting.get(message.id);
+        const { done, fail } = this.waiting.get(message.id) ?? {};
+        if (!done) return;
         this.waiting.delete(message.id);
         if (message.error) fail(new Error(message.error.message));
         else done(message.result);
@@ -42,10 +47,12 @@ class Browser {
 
     send(method, params = {}) {
         const id = ++this.number;
+        let timer;
         return new Promise((done, fail) => {
+            timer = setTimeout(() => fail(new Error(`the browser does not answer: ${method}`)), PATIENCE);
             this.waiting.set(id, { done, fail });
             this.to.write(JSON.stringify({ id, method, params, sessionId: this.session }) + "\0");
-        });
+        }).finally(() => clearTimeout(timer));
     }
 
     async open(url) {
@@ -59,7 +66,8 @@ class Browser {
 
     async load(url) {
         await this.send("Page.navigate", { url });
-        await this.until("document.documentElement.dataset.ready === 'yes'");
+        await this.until("document.documentElement.dataset.ready");
+        if ((await this.run("document.documentElement.dataset.ready")) !== "yes") throw new Error(await this.run("document.querySelector('#failed').textContent"));
     }
 
     async run(expression) {
@@ -69,8 +77,9 @@ class Browser {
     }
 
     async until(expression, what = expression) {
-        const end = Date.now() + 20000;
+        const end = Date.now() + PATIENCE;
         for (;;) {
+            // the page may not be there yet, nor the element
             if (await this.run(`Boolean(${expression})`).catch(() => false)) return;
             if (Date.now() > end) throw new Error(`waited in vain for ${what}`);
             await new Promise(done => setTimeout(done, 20));
@@ -87,10 +96,23 @@ class Browser {
         await this.send("Emulation.setEmulatedMedia", { features: [{ name: "prefers-color-scheme", value: scheme }] });
     }
 
-    // the middle of an element, brought into sight
+    // the middle of an element, brought into sight and at rest there, with nothing before it: what comes into sight with it is laid
+    // out only then, and moves it
     async middle(selector) {
-        const at = await this.run(`(() => { const e = ${find(selector)}; if (!e) return null; e.scrollIntoView({ block: "center" }); const r = e.getBoundingClientRect(); return { x: r.x + r.width / 2, y: r.y + r.height / 2, seen: r.width > 0 }; })()`);
-        if (!at || !at.seen) throw new Error(`there is nothing to press: ${selector}`);
+        const at = await this.run(`(async () => {
+            let last = "";
+            for (let i = 0; i < 100; i++) {
+                const e = ${find(selector)};
+                if (!e) return null;
+                e.scrollIntoView({ block: "center" });
+                await new Promise(done => requestAnimationFrame(() => requestAnimationFrame(done)));
+                const r = e.getBoundingClientRect(), x = r.x + r.width / 2, y = r.y + r.height / 2;
+                if (last === x + " " + y && e.contains(document.elementFromPoint(x, y))) return { x, y };
+                last = x + " " + y;
+            }
+            return null;
+        })()`);
+        if (!at) throw new Error(`there is nothing to press: ${selector}`);
         return at;
     }
 
@@ -110,6 +132,30 @@ class Browser {
         const key = { key: shift ? "Tab" : name, code: name === " " ? "Space" : shift ? "Tab" : name, windowsVirtualKeyCode: code, modifiers: shift ? 8 : 0 };
         await this.send("Input.dispatchKeyEvent", { type: text ? "keyDown" : "rawKeyDown", text, ...key });
         await this.send("Input.dispatchKeyEvent", { type: "keyUp", ...key });
+    }
+
+    // goes on by Tab until what has the focus is called so
+    async tabTo(name) {
+        for (let i = 0; i < 150; i++) {
+            const at = await this.run(`(() => { const e = document.activeElement; return e.getAttribute("aria-label") || (e.labels && e.labels[0] ? e.labels[0].textContent : e.textContent); })()`);
+            if (at === name) return;
+            await this.key("Tab");
+        }
+        throw new Error(`no Tab leads to ${name}`);
+    }
+
+    // by arrow keys, in the choice that has the focus
+    async arrowTo(name) {
+        const chosen = () => this.run(`document.activeElement.selectedOptions[0].text`), all = await this.run(`document.activeElement.options.length`);
+        for (let i = 0; i < all; i++) await this.key("ArrowUp");
+        for (let i = 0; i < all && (await chosen()) !== name; i++) await this.key("ArrowDown");
+        if ((await chosen()) !== name) throw new Error(`no arrow key leads to ${name}`);
+    }
+
+    // what stands in the field that has the focus is replaced
+    async typeHere(text) {
+        await this.run(`document.activeElement.select()`);
+        await this.send("Input.insertText", { text });
     }
 
     // what stands in a field is replaced
@@ -143,7 +189,7 @@ class Browser {
     // a file that the page saves; its bytes
     async saved(action) {
         await action();
-        for (let i = 0; i < 500; i++) {
+        for (const end = Date.now() + PATIENCE; Date.now() < end; ) {
             const name = fs.readdirSync(this.downloads).find(n => !n.endsWith(".crdownload") && !n.startsWith("."));
             const bytes = name ? fs.readFileSync(path.join(this.downloads, name)) : Buffer.alloc(0);
             if (bytes.length > 0) {
@@ -161,12 +207,13 @@ class Browser {
     }
 
     async close() {
-        const ended = new Promise(done => this.child.on("exit", done));
         this.send("Browser.close").catch(() => {});
-        await Promise.race([ended, new Promise(done => setTimeout(done, 5000))]);
+        const kill = setTimeout(() => this.child.kill("SIGKILL"), 30000);
+        await this.ended;
+        clearTimeout(kill);
         for (const pipe of this.child.stdio) if (pipe) pipe.destroy();
-        this.child.kill();
-        fs.rmSync(this.folder, { recursive: true, force: true, maxRetries: 10 });
+        // processes of the browser may still write there for a moment
+        fs.rmSync(this.folder, { recursive: true, force: true, maxRetries: 20, retryDelay: 200 });
     }
 }
 

@@ -1,7 +1,7 @@
 // What is seen: nothing cut off, colours that can be told apart, names for those who hear the page, the focus.
 "use strict";
 const path = require("path");
-const { pump, PARTS, bytesOf, expect, holds } = require("./common.js");
+const { pump, PARTS, bytesOf, expect, holds, has } = require("./common.js");
 
 // something to be seen in every part
 async function filled(b) {
@@ -10,7 +10,7 @@ async function filled(b) {
         other.set([0x23, 0x28], 80);
         other[101 - 12] = 0x99;
         app.setSheet(sample, "pump.bin");
-        app.putOnDevice(sample);
+        app.putOnDevice(sample, "pump.bin");
         app.device.store = new Uint8Array(STORE);
         for (const [line, mode, c] of [["property_read object=1 id=51 n=1 s=1", 2, 0], ["property_write object=1 id=51 n=1 s=1 data=04e2", 2, 0]]) app.device.request(apduOf(app.proved, line), mode, c);
         app.device.connect(0);
@@ -18,10 +18,10 @@ async function filled(b) {
         app.device.save();
         app.device.connect(1);
         app.devicePart.did(app.device.request(apduOf(app.proved, "property_write object=1 id=51 n=1 s=2 data=04e2"), 3, 0));
-        app.compare(0, sample);
-        app.compare(1, other);
+        app.compare(0, sample, "pump.bin");
+        app.compare(1, other, "other.bin");
         const trace = app.tracePart.example();
-        app.tracePart.set(app.tracePart.sheet, trace);
+        app.tracePart.set(app.tracePart.sheet, "that of the example", trace, "an example");
         app.tracePart.go(30);
         app.demoPart.go(9);
         scrollTo(0, 0);
@@ -30,13 +30,19 @@ async function filled(b) {
 
 // what runs out of the window, or out of what hides it
 const cutOff = `(() => {
-    const width = document.documentElement.clientWidth, bad = [];
+    const width = document.documentElement.clientWidth, bad = [], pen = document.createElement("canvas").getContext("2d");
     if (document.documentElement.scrollWidth > width) bad.push("the page is " + document.documentElement.scrollWidth + " wide");
     for (const e of document.querySelectorAll("body *")) {
         if (!e.getClientRects().length || e.tagName === "OPTION") continue;
         const r = e.getBoundingClientRect(), name = e.tagName + "." + e.className + " " + e.textContent.slice(0, 40), style = getComputedStyle(e);
         if (r.right > width + 0.5 || r.left < -0.5) bad.push(name + " from " + r.left + " to " + r.right);
         if (e.scrollWidth > e.clientWidth + 1 && style.display !== "inline" && e.clientWidth > 0 && !/INPUT|SELECT|TEXTAREA/.test(e.tagName)) bad.push(name + " has " + e.scrollWidth + " in " + e.clientWidth);
+        // every choice of a select can be read when it is chosen, beside its arrow
+        if (e.tagName === "SELECT") {
+            pen.font = style.font;
+            const longest = Math.max(...[...e.options].map(o => pen.measureText(o.text).width)), room = e.clientWidth - parseFloat(style.paddingLeft) - parseFloat(style.paddingRight) - 16;
+            if (longest > room + 1) bad.push("a choice of " + Math.round(longest) + " in " + Math.round(room) + ": " + name);
+        }
         if (e.tagName === "BUTTON" && (r.height < 24 || r.width < 24)) bad.push(name + " is too small to be pressed");
     }
     return bad;
@@ -48,6 +54,22 @@ const sight = `new Promise(done => requestAnimationFrame(() => requestAnimationF
     if (block) block.scrollIntoView();
     requestAnimationFrame(() => requestAnimationFrame(() => { scrollTo(0, 0); done(!block || block.firstElementChild.checkVisibility({ contentVisibilityAuto: true })); }));
 })))`;
+
+// the event that is chosen stands in the list's window, once what is around it is laid out
+const chosen = `(async () => {
+    const bad = [], picture = () => new Promise(requestAnimationFrame);
+    for (const n of [45, 12, 59, 1, 30]) {
+        scrollTo(0, 0);
+        app.tracePart.go(n);
+        for (let i = 0; i < 4; i++) await picture();
+        document.querySelector("#trace .events").scrollIntoView({ block: "center" });
+        for (let i = 0; i < 8; i++) await picture();
+        const list = document.querySelector("#trace .events").getBoundingClientRect(), row = document.querySelector("#trace [aria-selected=true]").getBoundingClientRect();
+        if (row.top < list.top - 1 || row.bottom > list.bottom + 1) bad.push(n);
+    }
+    scrollTo(0, 0);
+    return bad;
+})()`;
 
 // text whose colour is too near to what is behind it (WCAG: 4.5 to 1, 3 to 1 if it is large)
 const faint = `(() => {
@@ -78,9 +100,11 @@ async function looks(b, out) {
                 await b.click(`#tab-${part}`);
                 await b.run("scrollTo(0, 0)");
                 const what = `${part} at ${width} pixels, ${scheme}`;
+                for (const word of ["The proved module (", "plain script shows", "the browser is trusted"]) has(`${what}: who is trusted with what`, await b.run("document.querySelector('.trust').innerText"), word);
                 holds(`${what}: what comes into sight is laid out`, await b.run(sight));
+                if (part === "trace") expect(`${what}: the event is in sight in the list`, await b.run(chosen), []);
                 // and now all of it, also what is not yet in sight
-                await b.run(`for (const e of document.querySelectorAll(".block, .entry, .events li")) e.style.contentVisibility = "visible"`);
+                await b.run(`for (const e of document.querySelectorAll(".block, .entry")) e.style.contentVisibility = "visible"`);
                 expect(`${what}: nothing is cut off`, await b.run(cutOff), []);
                 const seen = await b.run(faint);
                 expect(`${what}: every text can be told from what is behind it`, seen.bad, []);
@@ -88,7 +112,7 @@ async function looks(b, out) {
                 const all = await b.run("document.documentElement.scrollHeight");
                 await b.size(width, Math.min(Math.max(all, height), 4000));
                 await b.picture(path.join(out, `${part}-${width}${scheme === "dark" ? "-dark" : ""}.png`));
-                await b.run(`for (const e of document.querySelectorAll(".block, .entry, .events li")) e.style.contentVisibility = ""`);
+                await b.run(`for (const e of document.querySelectorAll(".block, .entry")) e.style.contentVisibility = ""`);
                 await b.size(width, height);
                 pictures++;
             }
@@ -117,7 +141,7 @@ async function names(b) {
         const can = await b.run(`[...document.querySelectorAll("#${part} button, #${part} input, #${part} select, #${part} textarea, #${part} summary, #${part} [tabindex='0']")].filter(e => e.getClientRects().length && !e.disabled).length`);
         for (let i = 0; i < can + 12; i++) {
             await b.key("Tab");
-            const shown = await b.run(`(() => { const e = document.activeElement; if (!e.closest("#${part}")) return true; reached.add(e); return getComputedStyle(e).outlineStyle !== "none" || e.type === "file"; })()`);
+            const shown = await b.run(`(() => { const e = document.activeElement; if (!e.closest("#${part}")) return true; reached.add(e); return getComputedStyle(e).outlineStyle !== "none"; })()`);
             holds(`${part}: the focus is seen`, shown);
         }
         expect(`${part}: Tab reaches all`, await b.run("reached.size"), can);

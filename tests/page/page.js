@@ -14,6 +14,7 @@ const { twoPart } = require("./part_two.js");
 const { devicePart } = require("./part_device.js");
 const { tracePart } = require("./part_trace.js");
 const { demoPart } = require("./part_demo.js");
+const { keys } = require("./keys.js");
 const { looks, names } = require("./looks.js");
 const { quick } = require("./quick.js");
 const { network } = require("./network.js");
@@ -30,6 +31,7 @@ const tests = {
     "the device": devicePart,
     "a trace": tracePart,
     "the demonstration": demoPart,
+    "keys alone": b => keys(b, url),
     looks: b => looks(b, out),
     names,
     quick,

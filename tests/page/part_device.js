@@ -2,33 +2,20 @@
 "use strict";
 const { hex, sample, text, bytesOf, expect, has } = require("./common.js");
 
-// goes on by Tab until what has the focus is called so
-async function tabTo(b, name) {
-    for (let i = 0; i < 120; i++) {
-        const at = await b.run(`(() => { const e = document.activeElement; return e.getAttribute("aria-label") || (e.labels && e.labels[0] ? e.labels[0].textContent : e.textContent); })()`);
-        if (at === name) return;
-        await b.key("Tab");
-    }
-    throw new Error(`no Tab leads to ${name}`);
-}
-
 async function devicePart(b) {
-    await b.run(`document.activeElement.blur(); app.putOnDevice(${bytesOf(sample)}); app.device.store = new Uint8Array(STORE); app.open("sheet"); document.querySelector("#tab-sheet").focus()`);
+    await b.run(`document.activeElement.blur(); app.putOnDevice(${bytesOf(sample)}, "the sample sheet"); app.device.store = new Uint8Array(STORE); app.open("sheet"); document.querySelector("#tab-sheet").focus()`);
     const state = () => b.run(text("#device .card .verdict")), log = () => b.run(text("#device .log li"));
     const marks = () => b.run(`[...document.querySelectorAll("#device .sheet mark")].map(e => e.textContent)`);
     const send = async request => {
-        await tabTo(b, "The request, in words or hex");
-        await b.run(`document.activeElement.select()`);
-        await b.send("Input.insertText", { text: request });
+        await b.tabTo("The request, in words or hex");
+        await b.typeHere(request);
         await b.key("Enter");
     };
     // the select goes from choice to choice by arrow keys
     const way = async name => {
         await b.run(`document.activeElement.blur()`);
-        await tabTo(b, "How it comes");
-        for (let i = 0; i < 8; i++) await b.key("ArrowUp");
-        for (let i = 0; i < 8 && (await b.run(`document.activeElement.selectedOptions[0].text`)) !== name; i++) await b.key("ArrowDown");
-        expect("the way chosen by arrow keys", await b.run(`document.activeElement.selectedOptions[0].text`), name);
+        await b.tabTo("How it comes");
+        await b.arrowTo(name);
     };
     await b.key("ArrowRight");
     await b.key("ArrowRight");
@@ -37,7 +24,7 @@ async function devicePart(b) {
     has("without a key", await state(), "refused (11)");
     expect("nothing is marked", await marks(), []);
     await b.run(`document.activeElement.blur()`);
-    await tabTo(b, "Connect connection 0");
+    await b.tabTo("Connect connection 0");
     await b.key(" ");
     has("connected", await b.run(text("#device .sessions")), "level 3");
     await way("on connection 0");
@@ -51,7 +38,7 @@ async function devicePart(b) {
         ["property_read object=1 id=51 n=1 s=1 key=1", "has no field key"], ["0x03 d5 0", "a byte has two"], ["authorize_request key=2222", "key has 8 hex digits"], ["memory_read n=1 n=2 address=1", "n stands twice"]]) {
         const before = await b.run(`app.device.log.length`);
         await send(typed);
-        has(`typed ${typed}`, await b.run(text("#device .said.fault")), fault);
+        has(`typed ${typed}`, await b.run(text("#device form + .said.fault")), fault);
         expect("nothing happened", await b.run(`app.device.log.length`), before);
     }
     await send("memory_write n=2 address=0100h data=5566");
@@ -61,20 +48,33 @@ async function devicePart(b) {
     has("a group value", await log(), "group object 1/0/1: 00 → 2a");
     has("as a datapoint", await b.run(text("#device .sheet")), "as type 5: 42");
     await b.run(`document.activeElement.blur()`);
-    await tabTo(b, "Button on");
+    await b.tabTo("Button on");
     await b.key("Enter");
     has("the button", await log(), "programming mode: off → on");
     await way("to all devices");
     await send("address_write address=4358");
     has("programming mode lets an address in", await log(), "individual address: 1.1.5 → 1.1.6");
     // a frame of the USB interface
-    await way("a frame, from the partner of connection 1");
+    await way("as a frame of the USB interface");
     await send("2900b06011ff110600 80");
     has("a connect as a frame", await b.run(text("#device .sessions")), "Connection 1: level 3");
     await send("2900b06011ff11060503d501331001");
-    has("a frame", await log(), "property_read object=1 id=51 n=1 s=1, on no connection");
-    await send("2900b06011ff1106");
-    has("no frame", await b.run(text("#device .said.fault")), "too short for a frame (40)");
+    has("a frame", await log(), "property_read object=1 id=51 n=1 s=1, on no connection, from 1.1.255");
+    has("the frame that answers", await log(), "property_response object=1 id=51 n=1 s=1 data=03e8, in the frame 1100b060110611ff0703d60133100103e8");
+    for (const first of ["43", "47"]) {
+        await send("code=41 c1=176 c2=96 source=4607 destination=4358 transport=16 info=- apdu=03d501331001");
+        has("a frame in words, on its partner's connection", await log(), "property_read object=1 id=51 n=1 s=1, on connection 1, from 1.1.255");
+        has("as the module reads it", await log(), "frame code=41 c1=176 c2=96 source=4607 destination=4358 transport=16 info=- tpdu=43d501331001 connected");
+        has("its answers are counted", await log(), `in the frame 1100b060110611ff07${first}d6`);
+    }
+    for (const [typed, fault] of [["2900b06011ff1106", "too short for a frame (40)"], ["2900b06011ff11050503d501331001", "for another device (60)"], ["2900b06011fe11060543d501331001", "connected data from nobody's partner (61)"],
+        ["2900b06011fe11060080", "no place for a third partner (62)"], ["2900b06011fe11060081", "a disconnect from nobody's partner (63)"], ["2900b06011ff110600c2", "an acknowledgement (45)"],
+        ["code=41", "a frame needs c1, c2, source, destination, transport, info, apdu"], ["code=1 c1=176 c2=96 source=1 destination=1 transport=0 info=- apdu=00", "no frame that can be written (47)"]]) {
+        const before = await b.run(`app.device.log.length`);
+        await send(typed);
+        has(`the frame ${typed}`, await b.run(text("#device form + .said.fault")), fault);
+        expect("nothing happened", await b.run(`app.device.log.length`), before);
+    }
     // versions
     await b.click("=Save a version");
     has("a version", await state(), "version 1");
@@ -87,11 +87,11 @@ async function devicePart(b) {
     await send("authorize_request key=11111111");
     await b.choose("=Restore on", "connection 1");
     await b.run(`document.activeElement.blur()`);
-    await tabTo(b, "Restore version 1");
+    await b.tabTo("Restore version 1");
     await b.key("Enter");
     has("restored", await log(), "property 1/51 element 1: 9000 → 1000");
     await b.click("=Show it as a trace");
-    has("a restore is no event of a trace", await b.run(text("#device .said.fault")), "a version was restored");
+    has("a restore is no event of a trace", await b.run(text("#device form + .said.fault")), "a version was restored");
     await b.click("=Remove version 1");
     has("removed", await b.run(text("#device .versions")), "0 versions kept");
     // begun anew, recorded, shown as a trace

@@ -34,6 +34,7 @@ async function sheetPart(b) {
     expect("what is saved", [name, hex(bytes)], ["sample.bin", hex(sample)]);
     // an old one is converted
     await b.choose("#sheet .source select", "an old one, of edition 1");
+    await b.click("=Take it");
     has("an old sheet", await verdict(), "Old");
     await b.click("=Convert to edition 2");
     has("converted", await verdict(), "Accepted: 69 bytes");

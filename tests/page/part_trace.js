@@ -107,8 +107,19 @@ async function tracePart(b) {
         has(`a trace that is refused by ${number}`, await b.run(text("#trace > .verdict")), `(${number})`);
         holds("nothing is played", await b.run(`app.tracePart.body.hidden`));
     }
-    await b.choose("#trace .pair .source:last-child select", "an example, on a sheet of its own");
-    await b.until(`!app.tracePart.body.hidden`);
+    // on a sheet of no bytes nothing happens, and nothing breaks
+    await b.run(`app.tracePart.set(new Uint8Array(0), "nothing", unhex(${given(worked)}), "worked")`);
+    await b.click("=Next");
+    has("a sheet of no bytes", await b.run(text("#trace > .verdict")), "5 events. The sheet: breaks rule S1");
+    await b.choose("#trace .pair .source:last-child select", "an example, with its own sheet");
+    await b.click("#trace .pair .source:last-child .taken button");
+    has("what the example is played on", await b.run(text("#trace .pair .source:first-child .said")), "that of the example");
+    // who asks for the keys stays where the trace stands
+    await b.run(`app.tracePart.go(20)`);
+    await b.click("=Show keys");
+    await expectAt("keys are shown", 20);
+    has("keys in it", await b.run(text("#trace .events")), "key=11111111");
+    await b.click("=Show keys");
     return `${events.length} events forward and back, ${length} accounts, ${rights} with a level, a dump, ${refused.length} refusals`;
 }
 

@@ -29,16 +29,18 @@ async function quick(b) {
         }
         return all.sort((x, y) => x - y)[2];
     };
+    // 5,000 plain elements, for how quick this machine is just now: on a slow one an action may take as long
+    const plain = await timed("sheet", "const box = el('div', {}, ...places(0, 5000).map(i => el('span', {}, i + ' '))); document.body.append(box); requestAnimationFrame(() => setTimeout(() => box.remove(), 0))");
     const times = {
         "a sheet of 16,384 bytes shown": await timed("sheet", "app.setSheet(big.full, 'full')"),
         "two of them compared, 400 bytes differing": await timed("two", "app.twoPart.sheets[0] = big.full; app.twoPart.set(1, big.other)"),
-        "it is put on the device": await timed("device", "app.putOnDevice(big.full)"),
+        "it is put on the device": await timed("device", "app.putOnDevice(big.full, 'full')"),
         "a request on it": await timed("device", "app.devicePart.did(app.device.request(unhex('03d501331001'), 2))"),
-        "a trace of 512 events on it, played and listed": await timed("trace", "app.tracePart.set(big.full, big.trace)"),
+        "a trace of 512 events on it, played and listed": await timed("trace", "app.tracePart.set(big.full, 'full', big.trace, 'trace')"),
         "a step of it": await timed("trace", "app.tracePart.go(app.tracePart.at === 300 ? 301 : 300)"),
     };
-    const most = 300;
-    for (const [what, ms] of Object.entries(times)) holds(`${what}: ${ms.toFixed(0)} ms, more than ${most}`, ms <= most);
+    const most = Math.max(300, plain);
+    for (const [what, ms] of Object.entries(times)) holds(`${what}: ${ms.toFixed(0)} ms, more than ${most.toFixed(0)}`, ms <= most);
     for (const part of PARTS) {
         await b.run(`app.open("${part}")`);
         for (const width of [1280, 360]) {

@@ -1,6 +1,6 @@
 // Every line of tests/vectors through the page.
 "use strict";
-const { read, hex, sample, pump, given, bytesOf, tally, expect, holds } = require("./common.js");
+const { read, hex, sample, pump, given, bytesOf, expect, holds } = require("./common.js");
 
 function vectors(name) {
     return read(`tests/vectors/${name}.tsv`).split("\n").filter(line => line && line[0] !== "#").map(line => line.split("\t"));
@@ -43,7 +43,7 @@ async function deviceVectors(b) {
 }
 
 async function otherVectors(b) {
-    const pdus = vectors("pdu"), frames = vectors("frame").filter(([, command]) => command.startsWith("frame read"));
+    const pdus = vectors("pdu"), frames = vectors("frame");
     const read_ = `apdu => { const pdu = app.proved.readPdu(unhex(apdu)); return pdu.outcome ? String(pdu.outcome) : "0 " + pduText(pdu); }`;
     for (const [what, apdu, due] of pdus) {
         const got = await b.run(`(${read_})(${given(apdu)})`);
@@ -54,12 +54,18 @@ async function otherVectors(b) {
             expect(`pdu, written: ${what}`, again, due);
         }
     }
-    const frame = `bytes => { const f = app.proved.readFrame(unhex(bytes)); if (f.outcome) return String(f.outcome);
-        const means = ["multicast " + f.destination, "broadcast", "connectionless", "connected", "connect", "disconnect"][f.event] ?? f.event;
-        return "0 code=" + f.code + " c1=" + f.control1 + " c2=" + f.control2 + " source=" + f.source + " destination=" + f.destination + " transport=" + f.transport + " info=" + run(f.info) + " tpdu=" + run(f.tpdu) + " " + means; }`;
-    for (const [what, command, due] of frames) expect(`frame: ${what}`, await b.run(`(${frame})(${given(command.split(" ")[2])})`), due);
-    tally.said.push(`${vectors("frame").length - frames.length} lines of frame writing are left out: the page writes no frame`);
-    return `${pdus.length} PDUs, ${frames.length} frames`;
+    // frames: read, or written from words to the front of a buffer
+    const frame = `words => {
+        const last = unhex(words[words.length - 1]);
+        if (words[1] === "read") {
+            const f = app.proved.readFrame(last);
+            return f.outcome ? String(f.outcome) : "0 " + frameText(f);
+        }
+        const { fields, info, apdu } = frameFields(words.slice(2, -1)), framed = app.proved.writeFrame(fields, info, apdu, last);
+        return framed.outcome + " " + framed.count + " " + run(last);
+    }`;
+    for (const [what, command, due] of frames) expect(`frame: ${what}`, await b.run(`(${frame})(${given(command.split(" "))})`), due);
+    return `${pdus.length} PDUs, ${frames.length} frames, read and written`;
 }
 
 module.exports = { deviceVectors, otherVectors };
