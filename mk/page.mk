@@ -25,7 +25,7 @@ test-page: build/kelindap.html build/sheet
 compare-page: build/wasm/bridge
 	$(call COMPARISON,$<)
 
-build/wasm/bridge: tests/compare/bridge.c tests/page/program.js $(wildcard tests/page/libc/*.h) $(WASM) mk/page.mk | need-gcc
+build/wasm/bridge: tests/compare/bridge.c tests/page/program.js $(wildcard tests/page/libc/*.h) $(WASM) build/module/plain_host.bc mk/page.mk | need-gcc
 	mk/bin/wasm $@.wasm $<
 	printf '#!/bin/sh\nexec node %s "$$0.wasm"\n' "$(CURDIR)/tests/page/program.js" > $@
 	chmod +x $@
