@@ -1,14 +1,19 @@
 // Bytes from a person: a file chosen or dropped, hex digits pasted, one of the page's own; and saved as a file.
 
-/** No sheet, trace, store or dump is longer, so a longer file is not read. */
-const MOST_BYTES = 1 << 18;
+/** No trace or store is longer, and no sheet by far, so more is not taken. Hex digits may have blanks between them. */
+const MOST_BYTES = 1 << 18, MOST_OF_SHEET = 2 * LONGEST;
+
+/** @param {string} name @param {number} length @param {number} most */
+function notMore(name, length, most) {
+    if (length > most) throw new Fault(`${name} has ${counted(length, "byte")}, more than any ${most === MOST_OF_SHEET ? "sheet" : "trace or store"}: it was not read`);
+}
 
 /**
  * The bytes of a file; one that holds hex digits and nothing else is read as such, which no sheet, trace or store looks like.
  * @param {File} file
  */
 async function fileBytes(file) {
-    if (file.size > MOST_BYTES) throw new Fault(`${file.name} has ${counted(file.size, "byte")}, more than any sheet, trace or store: it was not read`);
+    notMore(file.name, file.size, 4 * MOST_BYTES);
     const bytes = new Uint8Array(await file.arrayBuffer().catch(() => { throw new Fault(`${file.name} can't be read`); }));
     const text = new TextDecoder().decode(bytes);
     return /^[0-9a-fA-F\s]+$/.test(text) && text.trim() ? unhex(text) : bytes;
@@ -25,8 +30,9 @@ function saveFile(bytes, name) {
  * A place where bytes come in, by file, drop, paste or choice. `others` are what the page has itself. It tells what it holds, also
  * what came from elsewhere on the page (`tell`).
  * @param {string} title @param {(bytes: Uint8Array, name: string) => void} taken @param {[string, () => Uint8Array | null][]} others
+ * @param {number} [most] bytes that are taken
  */
-function source(title, taken, others) {
+function source(title, taken, others, most = MOST_OF_SHEET) {
     const said = el("p", { class: "said", role: "status" });
     /** @param {string} name @param {Uint8Array} bytes */
     const tell = (name, bytes) => {
@@ -37,6 +43,7 @@ function source(title, taken, others) {
     const take = async get => {
         try {
             const [bytes, name] = await get();
+            notMore(name, bytes.length, most);
             taken(bytes, name);
             tell(name, bytes);
         } catch (error) {

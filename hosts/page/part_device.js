@@ -54,7 +54,7 @@ class DevicePart {
         this.keeps = el("p", { role: "status" });
         this.on = choice([["0", "connection 0"], ["1", "connection 1"]]);
         this.kept = el("ul", { class: "entries" });
-        const store = source("The store", bytes => { app.device.store = bytes.slice(); this.show(); }, [["an empty store", () => new Uint8Array(STORE)]]);
+        const store = source("The store", bytes => { app.device.store = bytes.slice(); this.show(); }, [["an empty store", () => new Uint8Array(STORE)]], MOST_BYTES);
         const versions = el("section", { class: "card versions" }, el("h3", {}, "Versions of the settings"), this.keeps,
             el("div", { class: "actions" }, button("Save a version", () => this.did(app.device.save())), labelled("Restore on", this.on)), this.kept,
             el("details", {}, el("summary", {}, "The store as a file"), store.box, button("Save the store", () => saveFile(app.device.store, "store.bin"))));

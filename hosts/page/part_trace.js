@@ -35,7 +35,7 @@ class TracePart {
         this.playing = new Playing(app.proved, this.sheet, new Uint8Array(2));
         const sheets = /** @type {[string, () => Uint8Array | null][]} */ ([...app.samples(), ["the sheet of the first part", () => app.sheet.slice()]]);
         this.sheetSource = source("The sheet at its start", bytes => { this.sheet = bytes.slice(); this.load(); }, sheets);
-        this.traceSource = source("The trace", bytes => { this.trace = bytes.slice(); this.load(); }, [["what happened to the device", () => this.recorded()], ["an example, with its own sheet", () => this.example()]]);
+        this.traceSource = source("The trace", bytes => { this.trace = bytes.slice(); this.load(); }, [["what happened to the device", () => this.recorded()], ["an example, with its own sheet", () => this.example()]], MOST_BYTES);
         this.sheetSource.tell(MADE.sheets[0][0], this.sheet);
         root.append(el("h2", {}, "A trace"),
             el("div", { class: "pair" }, this.sheetSource.box, this.traceSource.box),

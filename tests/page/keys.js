@@ -71,6 +71,9 @@ async function keys(b, url) {
     await take("a pump controller's");
     has("two sheets", await b.run(text("#two .lines")), "individual address: 1.1.6 → 1.1.5");
     await b.tabTo("Only rows that differ");
+    const rows = () => b.run(`document.querySelectorAll("#two .row").length`), all = await rows();
+    await b.key(" ");
+    expect("rows that differ alone", [all, await rows()], [7, 7]);
     await b.key(" ");
     has("told what they are", await b.run(text("#two .source .said")), "a pump controller's, 101 bytes");
     // a trace: forward, back, to an event, in the list, at a byte
