@@ -226,7 +226,7 @@ fn open(sheet: &Sheet) -> Vec<String> {
     all.filter(|(levels, _)| levels.write == 3).map(|(_, what)| what).collect()
 }
 
-/// The heights further from the reference's than the bound, of the elements that both have.
+/// The heights further from the reference's than the bound, and those of the reference's that are missing.
 fn heights(base: &Sheet, sheet: &Sheet, wanted: Wanted) -> Vec<String> {
     let (Some(bound), Some(there)) = (wanted.bound, property(base, wanted.height)) else {
         return Vec::new();
@@ -239,18 +239,22 @@ fn heights(base: &Sheet, sheet: &Sheet, wanted: Wanted) -> Vec<String> {
         let size = p.size as usize;
         p.body.chunks(size).take(p.count.into()).map(<[u8]>::to_vec).collect::<Vec<_>>()
     };
-    let pairs = valid(here).into_iter().zip(valid(there)).enumerate();
+    let (here, there) = (valid(here), valid(there));
+    let missing = here.len()..there.len();
+    let missing = missing.map(|i| format!("{what} element {} is missing", i + 1));
+    let pairs = here.iter().zip(&there).enumerate();
     pairs
         .filter_map(|(i, (new, old))| {
-            let (by, way) = match (number(&new), number(&old)) {
+            let (by, way) = match (number(new), number(old)) {
                 (new, old) if new >= old => (new - old, "above"),
                 (new, old) => (old - new, "below"),
             };
             (by > bound).then(|| {
-                let (new, old, i) = (element(&new), element(&old), i + 1);
+                let (new, old, i) = (element(new), element(old), i + 1);
                 format!("{what} element {i} is {new}, {by} {way} the reference's {old}")
             })
         })
+        .chain(missing)
         .collect()
 }
 
@@ -526,6 +530,7 @@ fn cell(text: &str) -> String {
 
 /// The property that a word such as 1/51 names.
 pub fn property_named(word: &str) -> Option<(u8, u8)> {
+    let number = |word: &str| word.parse().ok().filter(|n: &u8| n.to_string() == word);
     let (object, id) = word.split_once('/')?;
-    Some((object.parse().ok()?, id.parse().ok()?))
+    Some((number(object)?, number(id)?))
 }

@@ -75,7 +75,9 @@ fn files(asked: &Asked) -> Result<Vec<(String, String)>, String> {
     let mut names = Vec::new();
     for entry in fs::read_dir(folder).map_err(fault)? {
         let path = entry.map_err(fault)?.path();
-        if path.is_file() && (reference.is_none() || fs::canonicalize(&path).ok() != reference) {
+        // what can't be looked at may be a dump: it is told, and not passed over
+        let there = fs::metadata(&path).map_err(|why| format!("{}: {why}", path.display()))?;
+        if there.is_file() && (reference.is_none() || fs::canonicalize(&path).ok() != reference) {
             names.push(path);
         }
     }
@@ -91,7 +93,7 @@ fn files(asked: &Asked) -> Result<Vec<(String, String)>, String> {
 fn told(asked: &Asked) -> Said {
     let reference = load(asked.reference)?;
     let dumps = files(asked)?.into_iter().map(|(name, path)| Ok((name, load(&path)?)));
-    let survey = survey((asked.reference, &reference), dumps, asked.wanted)?;
+    let survey = survey((&plain(asked.reference), &reference), dumps, asked.wanted)?;
     let out = match asked.form {
         Form::Text => survey.text().into_bytes(),
         Form::Csv => survey.csv().into_bytes(),

@@ -1,6 +1,9 @@
 //! The survey: each finding, its forms, its words and faults; and that four hundred long sheets take no long time.
 
+use std::ffi::OsStr;
 use std::fs;
+use std::os::unix::ffi::OsStrExt;
+use std::os::unix::fs::symlink;
 use std::path::{Path, PathBuf};
 use std::process::{Command, Stdio};
 
@@ -183,6 +186,8 @@ fn every_finding() {
 #[test]
 fn bounds() {
     let room = room("bounds");
+    let none = text(&[("count 1 r3 w1", "count 0 r3 w1")]);
+    fs::write(room.join("dumps/none.sheet"), made(&none)).unwrap();
     let heights = |words: &[&str]| {
         let words = [&["survey", "dumps", "--reference", "reference"][..], words].concat();
         let out = told(&room, &words).1;
@@ -193,8 +198,9 @@ fn bounds() {
     let title = "heights, property 1/51, further than 250 from the reference's";
     let below = "  c.sheet: property 1/51 element 1 is 640, 360 below the reference's 1000";
     let missing = "  e.sheet: property 1/51 is missing";
-    assert_eq!(heights(&["--bound", "250"]), [title, below, missing]);
-    assert_eq!(heights(&["--bound", "249"]).len(), 5);
+    let none = "  none.sheet: property 1/51 element 1 is missing";
+    assert_eq!(heights(&["--bound", "250"]), [title, below, missing, none]);
+    assert_eq!(heights(&["--bound", "249"]).len(), 6);
     assert_eq!(
         heights(&["--bound", "360", "--height", "1/52"]),
         ["heights, property 1/52, further than 360 from the reference's: none"]
@@ -235,7 +241,7 @@ unit,1.1.11,00c501020311,accepted,,,0\r
 fn faults() {
     let room = room("survey-faults");
     fs::write(room.join("bad"), "x").unwrap();
-    let cases: [(&[&str], &str); 8] = [
+    let cases: [(&[&str], &str); 9] = [
         (
             &["nothing", "--reference", "reference"],
             "nothing: No such file or directory (os error 2)",
@@ -248,6 +254,10 @@ fn faults() {
         (
             &["dumps", "--reference", "reference", "--height", "51"],
             "--height: no object and id, as 1/51: \"51\"",
+        ),
+        (
+            &["dumps", "--reference", "reference", "--height", "+1/51"],
+            "--height: no object and id, as 1/51: \"+1/51\"",
         ),
         (
             &["dumps", "--reference", "reference", "--height", "9/9", "--bound", "1"],
@@ -270,6 +280,33 @@ fn faults() {
         let (status, out, err) = told(&room, &[&["survey"][..], words].concat());
         assert_eq!((status, out.as_str(), err.starts_with("usage: ")), (2, "", true), "{words:?}");
     }
+    // a link to a dump that is not there: a unit that would be missed
+    symlink("nowhere", room.join("dumps/unit")).unwrap();
+    let missed = "sheet: dumps/unit: No such file or directory (os error 2)\n";
+    let words = ["survey", "dumps", "--reference", "reference"];
+    assert_eq!(told(&room, &words), said(2, "", missed));
+    fs::remove_file(room.join("dumps/unit")).unwrap();
+    fs::write(room.join("dumps").join(OsStr::from_bytes(b"\xffx")), "").unwrap();
+    let no_text = "sheet: dumps: a name that is no text: \u{fffd}x\n";
+    assert_eq!(told(&room, &words), said(2, "", no_text));
+}
+
+/// Of many names the first six; JSON has them all.
+#[test]
+fn many_names() {
+    let room = room("names");
+    fs::create_dir(room.join("eight")).unwrap();
+    for unit in 0..8 {
+        let other = made(&text(&[("    1000", "    1250")]));
+        fs::write(room.join(format!("eight/{unit}")), other).unwrap();
+    }
+    let words = ["survey", "eight", "--reference", "reference", "--json"];
+    let out = told(&room, &words[..4]).1;
+    let named =
+        "   8  property 1/51 element 1: 1000 → 1250\n          0, 1, 2, 3, 4, 5 and 2 more\n";
+    assert!(out.contains(named), "{out}");
+    let all = "\"number\":8,\"units\":[\"0\",\"1\",\"2\",\"3\",\"4\",\"5\",\"6\",\"7\"]";
+    assert!(told(&room, &words).1.contains(all));
 }
 
 /// Four hundred of the longest sheets, each other than the reference in every byte of memory, are told in a time that nobody
@@ -290,6 +327,7 @@ fn four_hundred() {
     let (status, out, _) = told(&room, &["survey", "many", "--reference", "reference"]);
     assert_eq!(status, 1);
     assert!(out.starts_with("400 units beside reference: 400 accepted, 0 old, 0 broken\n"));
+    assert_eq!(out.matches("; and 2030 more\n").count(), 400);
     assert_eq!(
         out.lines().filter(|line| line.contains("memory ") && line.starts_with("   ")).count(),
         128 * 2042
