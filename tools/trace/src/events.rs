@@ -10,7 +10,7 @@ pub const MOST: usize = 512;
 const ENTRY: usize = 8;
 /// The last place at which an APDU can begin.
 const LAST_START: usize = 65_535;
-/// No trace is longer: the last APDU begins at the last place and has 255 bytes.
+/// No trace is longer: the last APDU begins at the last place and has 255 bytes. Of a longer file a byte more is read.
 pub const LONGEST: usize = LAST_START + 255;
 
 pub const REQUEST: u8 = 0;
@@ -111,7 +111,8 @@ fn place(t: &[u8], refusal: u8) -> String {
             _ => end += length,
         }
     }
-    format!("offset {end}: {} left over", words::many(t.len() - end, "byte"))
+    let least = if t.len() > LONGEST { "at least " } else { "" };
+    format!("offset {end}: {least}{} left over", words::many(t.len() - end, "byte"))
 }
 
 /// The bytes of as many events as a trace can have.

@@ -31,6 +31,8 @@ pub struct Story<'a> {
     last: Vec<u8>,
     /// The last event that made each byte what it is in the dump, if there is a dump and an event.
     gave: Vec<u32>,
+    /// Whether the whole sheet was once the dump: at first, or after an event.
+    was: bool,
     /// The requests that would write and were not carried out.
     refused: Vec<(u32, Pdu)>,
 }
@@ -45,6 +47,7 @@ impl<'a> Story<'a> {
         let mut device = Marking::new(sheet);
         let (mut seen, mut gave) = (sheet.to_vec(), vec![0; sheet.len()]);
         let dump = dump.filter(|dump| dump.len() == sheet.len());
+        let mut was = dump == Some(sheet);
         let mut facts: Vec<Fact> = Vec::new();
         let mut refused = Vec::new();
         for (t, trace) in traces.iter().enumerate() {
@@ -70,12 +73,13 @@ impl<'a> Story<'a> {
                     for p in (0..last.len()).filter(|&p| seen[p] != last[p] && last[p] == dump[p]) {
                         gave[p] = facts.len() as u32;
                     }
+                    was |= last == dump;
                     seen.copy_from_slice(last);
                 }
             }
         }
         let (first, last, marks) = (sheet.to_vec(), device.sheet, device.marks);
-        Story { traces, facts, marks, first, last, gave, refused }
+        Story { traces, facts, marks, first, last, gave, was, refused }
     }
 
     /// What the traces changed, each byte with the number of its event.
@@ -219,6 +223,8 @@ impl Final {
 /// What follows from a dump that the traces do not lead to.
 const PAST: &str = "somebody wrote past the device, or the traces lack events";
 const OLDER: &str = "all of it was so before: the dump may be older than the end of the traces";
+const MIXED: &str = "each byte was so before, but never all of them at once";
+const NO_DUMP: &str = "somebody wrote past the device, or this is no whole dump of it";
 
 /// So many refused requests are told of a place; of more, how many.
 const REFUSED: usize = 4;
@@ -285,12 +291,15 @@ impl Story<'_> {
                 let bytes: usize = places.iter().map(|c| c.bytes.len()).sum();
                 let never = places.iter().flat_map(|c| &c.bytes);
                 let never = never.filter(|byte| byte.1.origin == Origin::Never).count();
+                let follows = match never {
+                    0 if self.was => OLDER.to_string(),
+                    0 => format!("{MIXED}: {PAST}"),
+                    _ => PAST.to_string(),
+                };
                 let mut out = format!(
-                    "{name}: {} other than the events leave them, at {}; {} of these no event gave\n{}\n",
+                    "{name}: {} other than the events leave them, at {}; {never} of these no event gave\n{follows}\n",
                     words::many(bytes, "byte"),
                     words::many(places.len(), "place"),
-                    never,
-                    if never > 0 { PAST } else { OLDER }
                 );
                 for change in places {
                     out += "\n";
@@ -300,12 +309,12 @@ impl Story<'_> {
                 out
             }
             Final::Layout(lines) => lines.iter().fold(
-                format!("{name} has another layout, which no event gives: somebody wrote past the device\n\n"),
+                format!("{name} has another layout, which no event gives: {NO_DUMP}\n\n"),
                 |out, line| out + line + "\n",
             ),
             Final::Broken(why, bytes) => {
                 let mut out = format!(
-                    "{name} is not accepted, and no event gives such a sheet: somebody wrote past the device\n\n{why}\n"
+                    "{name} is not accepted, and no event gives such a sheet: {NO_DUMP}\n\n{why}\n"
                 );
                 for (at, old, new) in bytes {
                     out += &format!("byte {at}: {old:02x} → {new:02x}\n");
@@ -442,6 +451,7 @@ impl Story<'_> {
         Json::Object(vec![
             ("dump", name.into()),
             ("explained", beside.explained().into()),
+            ("earlier", (self.was && !beside.explained()).into()),
             ("broken", broken.into()),
             ("unexplained", Json::List(places)),
             ("other", lines.into()),

@@ -117,6 +117,10 @@ fn asked<'a>(words: &[&'a str], flags: &[&str], options: &[&str]) -> Result<Aske
             asked.words.push(word);
         }
     }
+    let options = asked.options.iter().map(|option| option.1);
+    if asked.words.iter().copied().chain(options).filter(|&name| name == "-").count() > 1 {
+        return Err("-: standard input is named twice, and can be read once".to_string());
+    }
     Ok(asked)
 }
 
@@ -131,19 +135,20 @@ fn read(name: &str, most: u64) -> Result<Vec<u8>, String> {
     got.map(|_| bytes).map_err(|why| format!("{name}: {why}"))
 }
 
-/// A text of at most so many bytes.
+/// A text of at most so many bytes, without the mark that some editors put in front.
 fn read_text(name: &str, most: u64) -> Result<String, String> {
     let bytes = read(name, most + 1)?;
     if bytes.len() as u64 > most {
         return Err(format!("{name}: more than {most} bytes"));
     }
-    String::from_utf8(bytes).map_err(|why| {
+    let text = String::from_utf8(bytes).map_err(|why| {
         let upto = &why.as_bytes()[..why.utf8_error().valid_up_to()];
         let line = 1 + upto.iter().filter(|&&b| b == b'\n').count();
         let start = upto.iter().rposition(|&b| b == b'\n').map_or(0, |at| at + 1);
         let column = 1 + String::from_utf8_lossy(&upto[start..]).chars().count();
         format!("{name}: line {line}, column {column}: a byte that is no text")
-    })
+    })?;
+    Ok(text.strip_prefix('\u{feff}').map(str::to_string).unwrap_or(text))
 }
 
 /// A sheet that the archive accepts.

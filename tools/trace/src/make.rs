@@ -30,10 +30,6 @@ pub enum Why {
 impl Why {
     pub fn words(self) -> String {
         let words = match self {
-            Why::Number(60) => "for another device",
-            Why::Number(61) => "connected data from nobody's partner",
-            Why::Number(62) => "no place for a third partner",
-            Why::Number(63) => "a disconnect from nobody's partner",
             Why::Number(number) => words::outcome(number),
             Why::OfTheDevice => "sent by the device",
             Why::Repeated => "a repetition",
@@ -110,12 +106,14 @@ fn sent(recorded: &[Recorded]) -> Vec<Result<Vec<u8>, Why>> {
             if code == REQ {
                 asked.push_back(i);
             } else {
-                let failed = r.bytes[2 + r.bytes[1] as usize] & FAILED != 0;
+                let control = 2 + r.bytes[1] as usize;
+                let failed = r.bytes[control] & FAILED != 0;
                 if let Some(request) = asked.pop_front() {
                     all[request] = Err(if failed { Why::Unsent } else { Why::Confirmed });
                 }
                 let mut indication = r.bytes.clone();
-                indication[0] = IND;
+                // bit 5 is the sender's wish there, and tells no repetition
+                (indication[0], indication[control]) = (IND, r.bytes[control] | FIRST);
                 frame = if failed { Err(Why::Unsent) } else { Ok(indication) };
             }
         }

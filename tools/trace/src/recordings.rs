@@ -154,10 +154,19 @@ fn knxtool_line(line: &str) -> LineRead {
 /// The code of an indication of the bus monitor, which has a frame as on the wire behind its additional information.
 const BUSMON: u8 = 0x2B;
 
-/// The telegrams of an export, each by its RawData.
+/// The root of an export.
+const EXPORT: &str = "CommunicationLog";
+
+/// The telegrams of an export, each by its RawData. One of a quiet bus has none; what has none and is no export is refused.
 fn ets(text: &str) -> Result<Vec<Recorded>, String> {
     let mut all = Vec::new();
+    let mut other = None;
+    let mut root = true;
     xml::elements(text, |element| {
+        if std::mem::take(&mut root) && element.name != EXPORT {
+            let what = format!("neither a Telegram in it nor {EXPORT} as its name: no export");
+            other = Some(element.fault(&what));
+        }
         if element.name != "Telegram" {
             return Ok(());
         }
@@ -185,5 +194,8 @@ fn ets(text: &str) -> Result<Vec<Recorded>, String> {
         }
         Ok(())
     })?;
-    Ok(all)
+    match other {
+        Some(fault) if all.is_empty() => Err(fault),
+        _ => Ok(all),
+    }
 }

@@ -83,12 +83,46 @@ fn no_overwriting() {
     let (status, out, err) = told(&room, &["make", "text", "text", "no/trace"]);
     assert_eq!((status, out.as_str()), (2, ""));
     assert!(err.starts_with("trace: no/trace: "), "{err}");
+    let nameless = "trace: no/..: no name of a file\n";
+    assert_eq!(told(&room, &["make", "text", "text", "no/.."]), said(2, "", nameless));
     fs::create_dir(room.join("folder")).unwrap();
     let (status, _, err) = told(&room, &["make", "text", "text", "folder", "--force"]);
     assert_eq!(status, 2);
     assert!(err.starts_with("trace: folder: "), "{err}");
     assert_eq!(files(&room), ["after", "before", "folder", "laptop.hex", "laptop.trace", "text"]);
     assert!(files(&room.join("folder")).is_empty());
+}
+
+/// With --force too, a fault leaves every file as it was: here a folder stands where the trace is to be, or its times.
+#[test]
+fn forced_whole() {
+    let room = room("forced");
+    fs::create_dir(room.join("a.trace")).unwrap();
+    fs::write(room.join("a.trace.times"), "mine").unwrap();
+    let words = ["make", "hex", "laptop.hex", "a.trace", "--sheet", "before", "--force"];
+    assert_eq!(told(&room, &words), said(2, "", "trace: a.trace: it is a folder\n"));
+    assert_eq!(fs::read(room.join("a.trace.times")).unwrap(), b"mine");
+    fs::create_dir(room.join("b.times")).unwrap();
+    fs::write(room.join("b"), "mine").unwrap();
+    fs::write(room.join("text"), "button on\nend\n").unwrap();
+    let words = ["make", "text", "text", "b", "--force"];
+    assert_eq!(told(&room, &words), said(2, "", "trace: b.times: it is a folder\n"));
+    assert_eq!(fs::read(room.join("b")).unwrap(), b"mine");
+    let there =
+        ["a.trace", "a.trace.times", "after", "b", "b.times", "before", "laptop.hex", "text"];
+    assert_eq!(files(&room), there);
+    // and a fault of the last of several, once the others are in place
+    let name = |name: &str| room.join(name).to_str().unwrap().to_string();
+    let set = [(name("b"), vec![1]), (name("c"), vec![2]), (name("d/."), vec![3])];
+    fs::remove_dir(room.join("b.times")).unwrap();
+    assert!(trace::output::write(&set, &[], true).unwrap_err().starts_with(&name("d/.: ")));
+    assert_eq!(fs::read(room.join("b")).unwrap(), b"mine");
+    let there = ["a.trace", "a.trace.times", "after", "b", "before", "laptop.hex", "text"];
+    assert_eq!(files(&room), there);
+    assert_eq!(trace::output::write(&set[..2], &[name("text")], true), Ok(()));
+    assert_eq!(fs::read(room.join("b")).unwrap(), [1]);
+    let there = ["a.trace", "a.trace.times", "after", "b", "before", "c", "laptop.hex"];
+    assert_eq!(files(&room), there);
 }
 
 /// A recording of more than 512 events becomes several traces, which go on one after the other; a fault leaves none.
@@ -156,6 +190,15 @@ fn forms() {
     );
     let text = told(&room, &["show", "ets.trace"]).1;
     assert_eq!(text, "1 request mode=0 connection=0 group=0801 apdu=0081 time=2026-03-02T07:15:01Z from=1.1.20  # to 1/0/1: group_write v=1 data=-\nend\n");
+    // as an editor on another system saves it
+    let marked = format!("\u{feff}{}", room::LAPTOP.replace('\n', "\r\n"));
+    fs::write(room.join("marked.hex"), marked).unwrap();
+    let words = ["make", "hex", "marked.hex", "laptop.trace", "--sheet", "before"];
+    assert_eq!(told(&room, &words), said(0, MADE, ""));
+    // of a quiet bus there is an export too
+    fs::write(room.join("quiet"), "<CommunicationLog></CommunicationLog>").unwrap();
+    let words = ["make", "ets", "quiet", "quiet.trace", "--sheet", "before"];
+    assert_eq!(told(&room, &words), said(0, "quiet.trace: 0 events\n", ""));
     let words = ["make", "hex", "laptop.hex", "x"];
     let missing = "trace: --sheet is missing: whose frames, by the device's sheet at their start\n";
     assert_eq!(told(&room, &words), said(2, "", missing));
@@ -187,6 +230,11 @@ fn standard_input() {
     assert_eq!((status, out.lines().count(), out.contains("time=")), (Some(0), 10, false));
     let (status, _) = with(&["make", "hex", "-", "again", "--sheet", "before"], "laptop.hex");
     assert_eq!(status, Some(0));
+    // it can be read once
+    let twice = said(2, "", "trace: -: standard input is named twice, and can be read once\n");
+    assert_eq!(told(&room, &["play", "-", "-"]), twice);
+    assert_eq!(told(&room, &["explain", "-", "laptop.trace", "--final", "-"]), twice);
+    assert_eq!(told(&room, &["make", "hex", "-", "x", "--sheet", "-"]), twice);
 }
 
 #[test]
@@ -214,6 +262,63 @@ sheet unchanged
     assert!(older.1.contains("before: 2 bytes other than the events leave them, at 2 places; 0 of these no event gave\nall of it was so before: the dump may be older than the end of the traces\n"), "{}", older.1);
 }
 
+/// A dump whose bytes were all so before, but at no time together: the switch is as event 5 left it, the height as before
+/// event 3. It is no older state, and not told as one.
+#[test]
+fn never_at_once() {
+    let room = room("mixed");
+    make(&room);
+    let mut dump = fs::read(room.join("before")).unwrap();
+    dump[68] = 1;
+    fs::write(room.join("mixed"), &dump).unwrap();
+    let words = ["explain", "before", "laptop.trace", "--final", "mixed"];
+    let (status, out, _) = told(&room, &words);
+    assert_eq!(status, 1);
+    let told_so = "mixed: 1 byte other than the events leave them, at 1 place; 0 of these no event gave
+each byte was so before, but never all of them at once: somebody wrote past the device, or the traces lack events
+
+property 1/51 element 1: 1020 → 1000
+  byte 65: last changed by event 3 of laptop.trace: property_write object=1 id=51 n=1 s=1 data=03fc, at 2026-03-02T08:02:12.512, from 1.1.251; at first it was what the dump has
+";
+    assert!(out.contains(told_so), "{out}");
+    let json = |dump: &str| told(&room, &[&words[..4], &[dump, "--json"]].concat()).1;
+    assert!(json("mixed").contains("\"explained\":false,\"earlier\":false,"));
+    assert!(json("before").contains("\"explained\":false,\"earlier\":true,"));
+}
+
+/// A value that an event gave and another changed; and of many requests that asked for a place in vain the first four.
+#[test]
+fn given_and_in_vain() {
+    let room = room("given");
+    let vain = "request mode=3 connection=1 apdu=03d7013310010280\n".repeat(6);
+    let text = format!(
+        "connect connection=0
+request mode=3 connection=0 apdu=03d10022222222
+request mode=3 connection=0 apdu=03d70133100103f2
+request mode=3 connection=0 apdu=03d70133100103f3
+connect connection=1
+{vain}end
+"
+    );
+    fs::write(room.join("text"), text).unwrap();
+    assert_eq!(told(&room, &["make", "text", "text", "t"]), said(0, "t: 11 events\n", ""));
+    let mut dump = fs::read(room.join("before")).unwrap();
+    dump[65] = 0xF2;
+    fs::write(room.join("dump"), &dump).unwrap();
+    let (status, out, _) = told(&room, &["explain", "before", "t", "--final", "dump"]);
+    let asked = |event: usize| {
+        format!("  asked for and not done, refused (11), by event {event} of t: property_write object=1 id=51 n=1 s=1 data=0280\n")
+    };
+    let told_so = "dump: 1 byte other than the events leave them, at 1 place; 0 of these no event gave
+all of it was so before: the dump may be older than the end of the traces
+
+property 1/51 element 1: 1011 → 1010
+  byte 65: last changed by event 4 of t: property_write object=1 id=51 n=1 s=1 data=03f3; the dump has what it was by event 3 of t: property_write object=1 id=51 n=1 s=1 data=03f2
+".to_string() + &(6..10).map(asked).collect::<String>() + "  and asked for in vain 2 times more\n";
+    assert_eq!(status, 1);
+    assert!(out.ends_with(&told_so), "{out}");
+}
+
 /// Dumps that no event leads to.
 #[test]
 fn impossible_dumps() {
@@ -227,7 +332,7 @@ fn impossible_dumps() {
         told(&room, &["explain", "before", "laptop.trace", "--final", "broken"]);
     assert_eq!((status, err.as_str()), (1, ""));
     let told_so =
-        "broken is not accepted, and no event gives such a sheet: somebody wrote past the device
+        "broken is not accepted, and no event gives such a sheet: somebody wrote past the device, or this is no whole dump of it
 
 S7: property 1/51, count 3 above maximum 2
 byte 47: 01 → 03
@@ -239,14 +344,14 @@ byte 68: 01 → 00
     let (status, out, _) = told(&room, &["explain", "before", "laptop.trace", "--final", "short"]);
     assert_eq!(status, 1);
     assert!(
-        out.ends_with("past the device\n\nS4: the head states 69 bytes, the sheet has 40\n"),
+        out.ends_with("no whole dump of it\n\nS4: the head states 69 bytes, the sheet has 40\n"),
         "{out}"
     );
     let text = room::BEFORE.replace("a0 a1 a2 a3", "a0 a1 a2");
     fs::write(room.join("other"), sheet::make::bytes(&text).unwrap()).unwrap();
     let (status, out, _) = told(&room, &["explain", "before", "laptop.trace", "--final", "other"]);
     assert_eq!(status, 1);
-    let told_so = "other has another layout, which no event gives: somebody wrote past the device
+    let told_so = "other has another layout, which no event gives: somebody wrote past the device, or this is no whole dump of it
 
 region 0100h length: 4 → 3
 property 1/51 element 1: 1020 → 1000
@@ -268,12 +373,11 @@ fn bad_input() {
     let mut old = fs::read(room.join("before")).unwrap();
     old[0] = 1;
     fs::write(room.join("old"), &old).unwrap();
-    if archive::check(&old) != 0 {
-        let what = "trace: old: old: convert it\n";
-        assert_eq!(told(&room, &["play", "old", "laptop.trace"]), said(2, "", what));
-    }
+    let what = "trace: old: old: convert it\n";
+    assert_eq!(told(&room, &["play", "old", "laptop.trace"]), said(2, "", what));
+    fs::write(room.join("page"), "\n <html><p/></html>\n").unwrap();
     let before = files(&room);
-    let cases: [(&[&str], &str); 12] = [
+    let cases: [(&[&str], &str); 13] = [
         (&["show", "nothing"], "nothing: No such file or directory (os error 2)"),
         (&["show", "."], ".: Is a directory (os error 21)"),
         (&["show", "before"], "before: 51: too many events: offset 0: 513 events, more than 512"),
@@ -299,6 +403,10 @@ fn bad_input() {
         (
             &["make", "ets", "bad.hex", "x", "--sheet", "before"],
             "bad.hex: line 1, column 1: text outside of all elements",
+        ),
+        (
+            &["make", "ets", "page", "x", "--sheet", "before"],
+            "page: line 2, column 2: neither a Telegram in it nor CommunicationLog as its name: no export",
         ),
         (
             &["make", "hex", "laptop.hex", "x", "--sheet", "broken"],
@@ -328,7 +436,8 @@ fn bad_input() {
     assert_eq!(told(&room, &words), said(2, "", what));
     fs::remove_file(room.join("many")).unwrap();
     long.set_len(70_000).unwrap();
-    let what = "trace: long: 58: bytes behind the last APDU: offset 2: 65789 bytes left over\n";
+    let what =
+        "trace: long: 58: bytes behind the last APDU: offset 2: at least 65789 bytes left over\n";
     assert_eq!(told(&room, &["show", "long"]), said(2, "", what));
 }
 

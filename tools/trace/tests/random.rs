@@ -147,6 +147,7 @@ fn played_and_explained() {
 /// The archive's marks are the plain ones, at once and in pieces.
 #[test]
 fn same_marks() {
+    assert!(cfg!(marked), "without the archive's call the plain code is held to itself");
     for seed in 0..TRACES {
         let (sheet, t) = drawn(seed);
         let n = t.events.len();
@@ -167,6 +168,7 @@ fn same_marks() {
 /// The archive hears frames as the plain code does: of few senders, to this device and to others, of every meaning.
 #[test]
 fn same_hearing() {
+    assert!(cfg!(heard), "without the archive's call the plain code is held to itself");
     let sheet = sheet::make::bytes(include_str!("../../../examples/accident/before.txt")).unwrap();
     let mut met = std::collections::BTreeMap::new();
     for seed in 0..70 * TRACES {

@@ -99,6 +99,8 @@ fn ets_export() {
             "line 7, column 20: text outside of all elements",
         ),
         ("-->", "->", "line 3, column 3: a comment without its end"),
+        ("<!-- of", "<![CDATA[ of", "line 3, column 3: a CDATA section without its end"),
+        ("<!-- of", "<![CDATA[<x>]]><!-- of", ""),
         ("?>", ">", "line 1, column 1: an instruction without its end"),
         ("<RecordStart", "< RecordStart", "line 4, column 4: a name is due"),
     ];
@@ -391,6 +393,10 @@ fn confirmations() {
     assert_eq!(events, ["connect connection=0".to_string(), on(0, 0), on(0, 1)]);
     assert!(made.events.iter().all(|(_, known)| known.from == Some(0x11FA)));
     assert_eq!(left, [(Why::Confirmed, 2), (Why::Unsent, 3)]);
+    // the same sent twice are two, whatever bit 5 of their confirmations
+    let switched = "2e009ce011140801010081".to_string();
+    let (events, left) = hear(&[switched.clone(), switched]);
+    assert_eq!((events.len(), left), (2, Vec::new()));
 }
 
 #[test]
@@ -423,10 +429,25 @@ fn words() {
     assert!(numbers.count() > 20);
     let own =
         [Why::OfTheDevice, Why::Repeated, Why::Confirmed, Why::Unsent, Why::Signal, Why::Damaged];
-    let words = own.map(Why::words);
-    assert_eq!(words[0], "sent by the device");
-    assert_eq!(words[5], "damaged on the wire");
-    assert_eq!(Why::Number(60).words(), "for another device (60)");
-    assert_eq!(Why::Number(45).words(), "an acknowledgement (45)");
+    let words = [
+        "sent by the device",
+        "a repetition",
+        "a request to send, told again by its confirmation",
+        "not sent, by its confirmation",
+        "an acknowledgement on the wire",
+        "damaged on the wire",
+    ];
+    assert_eq!(own.map(Why::words), words);
+    let words = [
+        (40, "too short for a frame (40)"),
+        (45, "an acknowledgement (45)"),
+        (60, "for another device (60)"),
+        (61, "connected data from nobody's partner (61)"),
+        (62, "no place for a third partner (62)"),
+        (63, "a disconnect from nobody's partner (63)"),
+    ];
+    for (number, words) in words {
+        assert_eq!(Why::Number(number).words(), words);
+    }
     assert_eq!(Event::connect(1).connection, 1);
 }
