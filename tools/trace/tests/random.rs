@@ -1,11 +1,12 @@
 //! Random traces on random sheets: there and back as text; played as the model plays; each changed byte by the event that
-//! changed it last, by the model's steps.
+//! changed it last, with its level and the offer of the key, by the model's steps.
 
 use model::device::{self, Session, Sessions};
 use model::faults::Fault;
 use model::gen::traces::{bad_trace, trace};
 use model::gen::{sheet, Rng};
 use model::trace as plain;
+use sheet::json::Json;
 use trace::archive::{self, Link, Marking};
 use trace::events;
 use trace::explain::{Final, Story};
@@ -79,6 +80,35 @@ fn step(event: &plain::Event, sessions: &mut Sessions, sheet: &mut [u8]) -> (u8,
     }
 }
 
+/// A field of an object.
+fn field<'a>(value: &'a Json, name: &str) -> &'a Json {
+    let Json::Object(fields) = value else { panic!("{value} is no object") };
+    &fields.iter().find(|field| field.0 == name).expect(name).1
+}
+
+fn list<'a>(value: &'a Json, name: &str) -> &'a [Json] {
+    let Json::List(values) = field(value, name) else { panic!("{name} is no list") };
+    values
+}
+
+/// The number of an event, its level if it is a request, and the number of the event that offered the key, if there is one.
+type Rights = (Json, Json, Json);
+
+/// What is told of the events that changed something.
+fn rights_told(story: &Story) -> Vec<Rights> {
+    let told = story.json("sheet", None);
+    let by = list(&told, "changes").iter().flat_map(|change| list(change, "by"));
+    by.map(|by| {
+        let event = field(by, "event");
+        let offer = match field(event, "offer") {
+            Json::Null => Json::Null,
+            offer => field(offer, "number").clone(),
+        };
+        (field(event, "number").clone(), field(event, "level").clone(), offer)
+    })
+    .collect()
+}
+
 #[test]
 fn played_and_explained() {
     let (mut changed_bytes, mut offers) = (0, 0);
@@ -87,11 +117,23 @@ fn played_and_explained() {
         let (mut sessions, mut sheet) = (FRESH, first.clone());
         let mut marks = vec![0; first.len()];
         let mut log = Vec::new();
+        let (mut gave, mut rights) = ([0; 2], Vec::new());
         for (i, event) in plain::events(Fault::None, &t.bytes).iter().enumerate() {
-            let before = sheet.clone();
+            rights.push(match event {
+                plain::Event::Request { connection: c @ (0 | 1), mode: 3, .. } => {
+                    let (level, offer) = (sessions[*c as usize].level, gave[*c as usize]);
+                    (Some(level), (level < 3).then_some(offer))
+                }
+                plain::Event::Request { .. } => (Some(3), None),
+                _ => (None, None),
+            });
+            let (before, held) = (sheet.clone(), sessions);
             log.push(step(event, &mut sessions, &mut sheet));
             for p in (0..sheet.len()).filter(|&p| before[p] != sheet[p]) {
                 marks[p] = i + 1;
+            }
+            for c in (0..2).filter(|&c| held[c].level != sessions[c].level) {
+                gave[c] = i + 1;
             }
         }
         let traces = [t];
@@ -118,7 +160,12 @@ fn played_and_explained() {
         assert_eq!(told, due, "seed {seed}");
         changed_bytes += due.len();
         assert!(story.beside(&sheet).explained(), "seed {seed}");
-        offers += story.text("sheet", None).matches("\n  level ").count();
+        for (number, level, offer) in rights_told(&story) {
+            let Json::Number(n) = number else { panic!("seed {seed}: {number}") };
+            let due = &rights[n as usize - 1];
+            assert_eq!((level, offer), (due.0.into(), due.1.into()), "seed {seed}, event {n}");
+            offers += usize::from(due.1.is_some());
+        }
 
         // a byte more that nobody wrote is found
         let mut rng = Rng::new(!seed);
