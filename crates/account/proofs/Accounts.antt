@@ -6,6 +6,7 @@ use mathlib.Core.Logic.{_⊎_, inl, inr}
 use mathlib.Core.Bool.{Bool, true, false, cond, _&&_}
 use mathlib.Core.List.{List, [], _∷_}
 use lib.ListN.{getD, drop}
+use native.Mathlib.Omega.{arith}
 use Rattle.octets.proofs.Truths.{never, decided, and-is}
 use Rattle.sheet.specs.Head.{rulesOf}
 use Rattle.events.specs.Events.{Event, connect, disconnect, button, request, restore}
@@ -23,7 +24,7 @@ use Rattle.history.proofs.spans.Bools.{all-at}
 use Rattle.history.proofs.promises.Suffices.{suffices}
 use Rattle.history.proofs.promises.Keep.{keeps}
 use Rattle.account.specs.Account.{at, byteAt, lastOther, lastWrite, gave, actsAt, Last, Right, AccountsFor, LevelsAccounted}
-use Rattle.account.proofs.Lasts.{is-last, as-at-first, all-dropped}
+use Rattle.account.proofs.Lasts.{is-last, as-at-first, none-such, all-dropped}
 use Rattle.account.proofs.Levels.{levels-any}
 
 -- what is so of both of two is so of the one that is chosen
@@ -95,7 +96,7 @@ module _ (step : Device) (keep : Keeps step) (f : First) (b : Begins f) where
       Last step f (byteAt p) h before e → Right step f h x p before e
   right-last h k x p q before e l =
       let r = right-of before e (subst AllOctets (l .within) (all-dropped (l .later) h k)) x p q (l .another) in
-      record { permits = r .permits; named = r .named; enough = r .enough; value = l .since ∙ r .value }
+      record { permits = r .permits; named = r .named; enough = r .enough; value = l .since 0 (omega arith) ∙ r .value }
 
 -- EVERY CHANGED BYTE IS ACCOUNTED FOR, by any device that keeps demand 3, and so by ours
 pub accounts-any : (step : Device) → Keeps step → AccountsFor step
@@ -104,7 +105,8 @@ accounts-any step keep f h b k =
     record {
       by = λ p before e o. is-last step f (byteAt p) h before e o;
       rightly = λ x p q before e o. right-last step keep f b h k x p q before e (is-last step f (byteAt p) h before e o);
-      same = λ p o. as-at-first step f (byteAt p) h o;
+      still = λ p s. none-such step f (byteAt p) (λ g o. keep f g b o .still p s) h k;
+      same = λ p o n. as-at-first step f (byteAt p) h o n;
     }
 
 pub accounts : AccountsFor ours

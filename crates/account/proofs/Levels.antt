@@ -17,9 +17,8 @@ use Rattle.history.specs.Wish.{Wish, change, offerKey, restart, other, nothing,
 use Rattle.history.specs.Permit.{heard}
 use Rattle.history.specs.History.{First, opened, level, keys, offered}
 use Rattle.history.specs.Keeps.{Device, stateAfter, Begins, AllOctets, Keeps}
-use Rattle.history.specs.Keyless.{Unlocks, offers}
 use Rattle.account.specs.Account as account
-use Rattle.account.specs.Account.{Origin, at, levelOn, lastOther, Last, Entitled, atFirst, byKey, LevelsAccounted}
+use Rattle.account.specs.Account.{Origin, at, levelOn, lastOther, Last, Offers, offers, Entitled, atFirst, byKey, LevelsAccounted}
 use Rattle.account.proofs.Lasts.{beforeIt, eventIn, either, is-last, as-at-first, all-dropped}
 
 at-three : 3 < 3 → ⊥
@@ -60,21 +59,21 @@ reset true old e h = at-three h
 reset false old e h = e refl
 
 module _ (f : First) where
-  unlocks :
+  offered-it :
       (h : List Event) (c : ℕ) (e : Event) → (level f (e ∷ h) c ≡ level f h c → ⊥) → level f (e ∷ h) c < 3 →
-      Unlocks f h (level f (e ∷ h) c) c e
+      Offers f h (level f (e ∷ h) c) c e
   unfolding level keys
-  unlocks h c (connect d) n l = absurd (reset (eqb c d) (level f h c) n l)
-  unlocks h c (disconnect d) n l = absurd (reset (eqb c d) (level f h c) n l)
-  unlocks h c (button on) n l = absurd (n refl)
-  unlocks h c (restore d k st) n l = absurd (n refl)
-  unlocks h c (request mode d g a out) n l =
+  offered-it h c (connect d) n l = absurd (reset (eqb c d) (level f h c) n l)
+  offered-it h c (disconnect d) n l = absurd (reset (eqb c d) (level f h c) n l)
+  offered-it h c (button on) n l = absurd (n refl)
+  offered-it h c (restore d k st) n l = absurd (n refl)
+  offered-it h c (request mode d g a out) n l =
       let t : Bool = heard (rulesOf (f .sheet)) (opened f h d) mode a out (asks a) in
       let m : ℕ = cond t (offered (keys f h) (eqb c d) (level f h c) (asks a)) (level f h c) in
       let o = offer (keys f h) (eqb c d) t (level f h c) (asks a) n l in
       let z : c ≡ d = eqb-true c d (o .own-it) in
-      subst (λ (i : ℕ). Unlocks f h m c (request mode i g a out)) z
-      (offers m (omega arith) (subst (λ (i : ℕ). heard (rulesOf (f .sheet)) (opened f h i) mode a out (asks a) ≡ true) (sym z) (o .heard-it)) (o .wish))
+      subst (λ (i : ℕ). Offers f h m c (request mode i g a out)) z
+      (offers (subst (λ (i : ℕ). heard (rulesOf (f .sheet)) (opened f h i) mode a out (asks a) ≡ true) (sym z) (o .heard-it)) (o .wish))
 
 -- OF ANY DEVICE THAT KEEPS DEMAND 3
 pub levels-any : (step : Device) → Keeps step → LevelsAccounted step
@@ -87,17 +86,17 @@ levels-any step keep f h b k c l = go (either step f (levelOn c) o)
     Level : List Event → ℕ
     Level g = levelOn c (stateAfter step f g)
 
-    gave : (before : List Event) (e : Event) → Last step f (levelOn c) h before e → Unlocks f before (Level h) c e
+    gave : (before : List Event) (e : Event) → Last step f (levelOn c) h before e → Offers f before (Level h) c e
     gave before e x =
         let all = subst AllOctets (x .within) (all-dropped (x .later) h k) in
         let now = keep f (e ∷ before) b all .rights c in
         let was = keep f before b (all .1) .rights c in
-        let is = x .since ∙ now in
-        subst (λ (i : ℕ). Unlocks f before i c e) (sym is)
-        (unlocks f before c e (λ z. x .another (now ∙ z ∙ sym was)) (subst (λ (i : ℕ). i < 3) is l))
+        let is = x .since 0 (omega arith) ∙ now in
+        subst (λ (i : ℕ). Offers f before i c e) (sym is)
+        (offered-it f before c e (λ z. x .another (now ∙ z ∙ sym was)) (subst (λ (i : ℕ). i < 3) is l))
 
     go : (o ≡ account.never) ⊎ (o ≡ at (beforeIt o) (eventIn o)) → Entitled step f h c o
-    go (inl e) = subst (λ (u : Origin). Entitled step f h c u) (sym e) (atFirst (as-at-first step f (levelOn c) h e))
+    go (inl e) = subst (λ (u : Origin). Entitled step f h c u) (sym e) (atFirst (as-at-first step f (levelOn c) h e 0))
     go (inr e) =
         let x = is-last step f (levelOn c) h (beforeIt o) (eventIn o) e in
         subst (λ (u : Origin). Entitled step f h c u) (sym e) (byKey (beforeIt o) (eventIn o) x (gave (beforeIt o) (eventIn o) x))

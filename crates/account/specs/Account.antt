@@ -6,15 +6,17 @@ use mathlib.Core.List.{List, [], _∷_}
 use mathlib.Core.Bool.{true, cond, _&&_}
 use lib.ListN.{getD, drop}
 use lib.Dec.{eqb}
+use Rattle.sheet.specs.Head.{rulesOf}
 use Rattle.device.specs.Sessions.{sessionOf}
 use Rattle.device.specs.Events.{State}
 use Rattle.events.specs.Events.{Event, connect, disconnect, button, request, restore}
 use Rattle.history.specs.Location.{Location, Place}
 use Rattle.history.specs.Span.{names, gives}
-use Rattle.history.specs.Permit.{levelFor, spans}
-use Rattle.history.specs.History.{First, firstOf, wished, supplied, level, content, permitted}
-use Rattle.history.specs.Keeps.{Device, stateAfter, Begins, AllOctets}
-use Rattle.history.specs.Keyless.{writeLevel, Unlocks}
+use Rattle.history.specs.Wish.{offerKey, asks}
+use Rattle.history.specs.Permit.{heard, levelFor, spans}
+use Rattle.history.specs.History.{First, firstOf, wished, supplied, opened, level, keys, content, permitted}
+use Rattle.history.specs.Keeps.{Device, stateAfter, Still, Begins, AllOctets}
+use Rattle.history.specs.Keyless.{writeLevel}
 
 -- an event of a history, with those before it; or none
 pub data Origin : Type 0 where
@@ -34,12 +36,12 @@ lastOther step f look [] = never
 lastOther step f look (e ∷ h) =
     cond (eqb (look (stateAfter step f (e ∷ h))) (look (stateAfter step f h))) (lastOther step f look h) (at h e)
 
--- such an event: it is one of the history, it was another after it than before, and is now what it was after it
+-- such an event: it is one of the history, it was another after it than before, and after every event since it was what it was after it
 pub record Last (step : Device) (f : First) (look : State → ℕ) (h before : List Event) (e : Event) : Type 0 where
   pub later : ℕ
   pub within : drop later h ≡ e ∷ before
   pub another : look (stateAfter step f (e ∷ before)) ≡ look (stateAfter step f before) → ⊥
-  pub since : look (stateAfter step f h) ≡ look (stateAfter step f (e ∷ before))
+  pub since : (n : ℕ) → n ≤ later → look (stateAfter step f (drop n h)) ≡ look (stateAfter step f (e ∷ before))
 
 -- the level that an event acts at: a request and a restore have one
 abbrev pub actsAt : First → List Event → Event → ℕ
@@ -56,23 +58,31 @@ pub record Right (step : Device) (f : First) (h : List Event) (x : Location) (p 
   pub enough : actsAt f before e ≤ writeLevel (f .sheet) x
   pub value : byteAt p (stateAfter step f h) ≡ gives (spans (f .sheet) (content f before) (supplied e) (wished e)) x
 
--- EVERY CHANGED BYTE IS ACCOUNTED FOR, by the event that changed it last; a byte for which there is none is as at first. Where a location stands the event had the right; the other
--- bytes that a history changes, those of the address, the flags and the group values, have an event and no right: the button, programming mode or a group address is all that they ask for
+-- EVERY CHANGED BYTE IS ACCOUNTED FOR, by the event that changed it last; a byte for which there is none was never other than at first. Where a location stands the event had the right; the
+-- other bytes that a history changes, those of the address, the flags and the group values, have an event and no right: the button, programming mode or a group address is all that they ask
+-- for. All else has no event (`Still`)
 pub record Accounted (step : Device) (f : First) (h : List Event) : Type 0 where
   pub by : (p : ℕ) (before : List Event) (e : Event) → lastOther step f (byteAt p) h ≡ at before e → Last step f (byteAt p) h before e
   pub rightly :
       (x : Location) (p : ℕ) → Place (f .sheet) x p → (before : List Event) (e : Event) → lastOther step f (byteAt p) h ≡ at before e →
       Right step f h x p before e
-  pub same : (p : ℕ) → lastOther step f (byteAt p) h ≡ never → byteAt p (stateAfter step f h) ≡ getD (f .sheet) p 0
+  pub still : (p : ℕ) → Still (f .sheet) p → lastOther step f (byteAt p) h ≡ never
+  pub same : (p : ℕ) → lastOther step f (byteAt p) h ≡ never → (n : ℕ) → byteAt p (stateAfter step f (drop n h)) ≡ getD (f .sheet) p 0
 
 abbrev pub AccountsFor : Device → Type 0
 AccountsFor step = (f : First) (h : List Event) → Begins f → AllOctets h → Accounted step f h
+
+-- an event that is heard after h and offers, on connection c, what is then the key of level l
+pub data Offers (f : First) (h : List Event) (l c : ℕ) : Event → Type 0 where
+  offers :
+      {mode g : ℕ} {a out : List ℕ} → heard (rulesOf (f .sheet)) (opened f h c) mode a out (asks a) ≡ true → asks a ≡ offerKey (keys f h l) →
+      Offers f h l c (request mode c g a out)
 
 -- THE RIGHT TO A LEVEL: it stood there at first, or the last event after which it was another offered what was then the key of that level
 pub data Entitled (step : Device) (f : First) (h : List Event) (c : ℕ) : Origin → Type 0 where
   atFirst : levelOn c (stateAfter step f h) ≡ sessionOf (f .sessions) c .level → Entitled step f h c never
   byKey :
-      (before : List Event) (e : Event) → Last step f (levelOn c) h before e → Unlocks f before (levelOn c (stateAfter step f h)) c e →
+      (before : List Event) (e : Event) → Last step f (levelOn c) h before e → Offers f before (levelOn c (stateAfter step f h)) c e →
       Entitled step f h c (at before e)
 
 -- EVERY LEVEL BELOW 3 IS ACCOUNTED FOR
