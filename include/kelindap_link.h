@@ -13,9 +13,9 @@
  *    write undoes the first. So for connected data the host asks kelindap_heard first, holds the sequence number of the frame
  *    (the low four bits of transport's six, bits 2 to 5 of the TPDU's first byte) against the one that is next on that
  *    connection, acknowledges, and calls kelindap_serve only with a new one; it hands over the number with which its own next
- *    frame on that connection goes out, and counts it on if a frame was sent;
- *  - 45, an acknowledgement, tells by its connection whose it is; 61, 62 and 63 are a stranger's, to whom transport sends a
- *    disconnect;
+ *    frame on that connection goes out, and counts it on if a frame was sent. A connect, a second one too, sets both to 0;
+ *  - 45, an acknowledgement, tells by its connection whose it is; 61 and 62 are a stranger's, to whom transport sends a
+ *    disconnect; 63 is a stranger's disconnect, which nothing answers;
  *  - transport's time limits: a partner that is silent too long is disconnected by kelindap_disconnect with its number;
  *  - a session that was open before a call of kelindap_serve and is closed after it, though the frame was no disconnect of that
  *    partner, was closed by a Restart: a disconnect is then due to that partner on the bus.
@@ -23,8 +23,12 @@
  * What no proof gives: addresses on the bus are not authenticated. Whoever sends under a partner's address acts at the level of
  * that partner, ends its connection, or sets it back to level 3 by a second connect. A stranger can take both places, again and
  * again, and whoever has none is then turned away. If the sheet names rules 1, anybody who reaches this device restarts it,
- * and that ends both connections. Through all of this one thing holds, since it counts every sender: as long as no frame offers a
- * key of a level, no byte changes that this level protects (keyless-frames in docs/PROMISES.md).
+ * and that ends both connections. Through all of this one thing holds, since it counts every sender: from an accepted sheet and
+ * closed sessions, as long as no frame offers the key of a level up to l, which is 0, 1 or 2, no byte changes whose write level
+ * is at most l (keyless-frames in docs/PROMISES.md).
+ *
+ * Stack: serving takes more than the request in it, since the answer's buffer and the parts that were stored come on top; the
+ * table "Stack" of docs/SPEED.md has both for each processor.
  */
 #ifndef KELINDAP_LINK_H
 #define KELINDAP_LINK_H
