@@ -1,6 +1,6 @@
 #!/usr/bin/env bash
-# tests/examples.sh HOST HEIGHT SHEET: the example host and tool at work, an old sheet, two tools at once, one that reads nothing, versions
-# of the settings, and the host killed 200 times during writes: what it saved is then an accepted sheet each time, with the height that was answered
+# tests/examples.sh HOST HEIGHT SHEET: the example host and tool at work, an old sheet, two tools at once, one that reads nothing, a
+# frame that comes twice, versions of the settings, and the host killed 200 times during writes: what it saved is then an accepted sheet each time, with the height that was answered
 # last or the one after it; and as often while versions are saved and removed: the store is then a good one, as it was after
 # what was answered last or after the next.
 set -euo pipefail
@@ -98,6 +98,16 @@ for ((turn = 0; turn < 20; turn++)); do
 done
 wait "$deaf" || wrong "a partner that reads nothing: $(cat deaf-said)"
 [ "$(cat deaf-said)" = dropped ] || wrong "a partner that reads nothing was not dropped"
+
+# a bit write that comes twice, its acknowledgement having been lost, is acknowledged twice and carried out once: the byte is another
+# after it, and as before after one more
+gcc -std=c11 -O2 -Wall -Wextra -Werror -I"$top/examples" -o twice "$top/tests/c/twice.c"
+for byte in af a0; do
+    said=$(timeout 10 ./twice bus || true)
+    [ "$said" = "answers 0 1 2, acknowledged 2 times" ] || wrong "a bit write that comes twice: $said"
+    now=$(od -An -tx1 -j60 -N1 sheet | tr -d ' ')
+    [ "$now" = "$byte" ] || wrong "a bit write that comes twice leaves $now in place of $byte"
+done
 stop
 changes=$("$sheet" diff first sheet || true)
 [ "$changes" = "property 1/51 element 1: 1000 → 1251" ] || wrong "the file holds another change: $changes"

@@ -1,15 +1,16 @@
 #!/usr/bin/env bash
 # tests/unit/frames.sh UNIT: a host in shell, over the desk unit. Each line of standard input is a frame from the bus. The unit
 # says what it is and serves it; whose connection is whose is the unit's to say, and the host has no table of its own but the
-# sequence numbers of its answers. An answer is read once more. A stranger on a connection and a third partner are sent a
-# disconnect, and so is a partner whose session a Restart has closed. A line that begins with sheet sets the sheet.
+# sequence numbers of each connection: connected data that is not the next is not served. Acknowledgements are left out. An
+# answer is read once more. A stranger on a connection and a third partner are sent a disconnect, and so is a partner whose
+# session a Restart has closed. A line that begins with sheet sets the sheet.
 set -euo pipefail
 coproc unit { exec "$1"; }
 # shellcheck disable=SC2154 # coproc sets it
 pid=$unit_PID
 room=eeeeeeeeeeeeeeeeeeeeeeeeeeeeeeeeeeeeeeeeeeeeeeeeee
-# by the number of the connection: the host's next sequence number, and whether it was open before
-next=(0 0) was=(0 0)
+# by the number of the connection: the next sequence number of its partner, and of the host, and whether it was open before
+due=(0 0) next=(0 0) was=(0 0)
 
 ask() { # COMMAND: the unit's answer in $reply, its words in $words
     printf '%s\n' "$1" >&"${unit[1]}"
@@ -42,14 +43,17 @@ while read -r frame; do
     ask "heard $frame"
     echo "< $frame $reply"
     event=${words[1]-} place=${words[2]-} sequence=0
-    [ "$event" != connected ] || sequence=${next[place]}
     ask "frame read $frame"
-    source=${words[4]-} source=${source#source=}
+    source=${words[4]-} source=${source#source=} transport=${words[6]-} transport=${transport#transport=}
+    if [ "$event" = connected ]; then
+        [ $((transport % 16)) = "${due[place]}" ] || { echo "  not the next" && continue; }
+        due[place]=$(((due[place] + 1) % 16)) sequence=${next[place]}
+    fi
     ask "serve $sequence $frame $room"
     number=${words[0]} count=${words[3]} buffer=${words[4]} address=("${words[@]:5:2}") open=("${words[7]}" "${words[9]}")
     own=$((16#${words[11]:32:4}))
     echo "  number $number, outcome ${words[1]}, connection ${words[2]}, partners ${address[*]}, sessions ${words[*]:7:4}"
-    [ "$event" != connect ] || next[place]=0
+    [ "$event" != connect ] || due[place]=0 next[place]=0
     if [ "$count" != 0 ]; then
         read_back "${buffer:0:2 * count}"
         [ "$event" != connected ] || next[place]=$(((next[place] + 1) % 16))
