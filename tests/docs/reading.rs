@@ -72,7 +72,7 @@ const PARTS: &[Part] = &[
     Part {
         title: "Frames",
         says: "whose connection is whose, and what frames from however many senders leave",
-        statements: &["fn host/kelindap_heard", "fn host/kelindap_serve", "link/served-is", "link/frames-keep", "link/keyless-frames", "link/whose", "link/stranger", "link/apart", "link/elsewhere"],
+        statements: &["fn host/kelindap_heard", "fn host/kelindap_serve", "link/served-is", "link/frames-keep", "link/keyless-frames", "link/whose", "link/stranger", "link/same-partner", "link/elsewhere", "link/apart", "link/turned-away", "link/only-third", "link/never-lost"],
     },
     Part {
         title: "What a frame changed",

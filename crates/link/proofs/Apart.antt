@@ -2,7 +2,7 @@
 -- Assumes nothing.
 use Prim.Native.Nat.{ℕ, zero, suc}
 use mathlib.Core.Path.{_≡_, refl, sym, ap, _∙_}
-use mathlib.Core.Logic.{_↔_}
+use mathlib.Core.Logic.{_↔_, inl, inr}
 use mathlib.Core.Bool.{Bool, true, false, cond}
 use mathlib.Core.List.{List, [], _∷_}
 use lib.ListN.{replicate}
@@ -28,6 +28,7 @@ use Rattle.link.specs.Whose.{Taken, Apart}
 use Rattle.link.specs.declared.Link.{Link}
 use Rattle.link.specs.declared.Arrived.{Arrived}
 use Rattle.link.specs.declared.Arrived.the-variants.{Request, Connect, Disconnect, Nothing}
+use Rattle.link.proofs.Demand1.{Zero, refusal-framed, Means, means}
 use Rattle.link.proofs.Sessions.{opened-before}
 use Rattle.link.proofs.Whose.{heard-by}
 
@@ -108,6 +109,35 @@ turned-away k own b f reads us m = rw (reads, us, m) (there, back)
 
     back : Taken k (f .fields .source) → cond (known (placeFor k (f .fields .source))) (Connect (placeFor k (f .fields .source))) (Nothing 62 nobody) ≡ Nothing 62 nobody
     back t = let z = third k (f .fields .source) .1 t in rw z
+
+-- AND OF NOTHING ELSE: a frame that gets 62 is a connect, and both places are taken by others than its source
+module _ (k : Link) (own : ℕ) (b : List ℕ) where
+  abbrev OnlyThird : Arrived → Type 0
+  OnlyThird r = numberOf r ≡ 62 → (meaningOf (frameIn b) ≡ meaning.Connect) × Taken k (sourceOf b)
+
+  meant-third : (group : ℕ) (m : Meaning) → Means m → meaningOf (frameIn b) ≡ m → OnlyThird (meant k (sourceOf b) group m)
+  unfolding meant onPlace connects disconnects numberOf
+  meant-third group (meaning.Data mode) h q =
+      by-test OnlyThird (eqb mode 3) _ _ (λ t. by-test OnlyThird (known (placeOf k (sourceOf b))) _ _ (λ u e. absurd (omega arith)) (λ u e. absurd (omega arith))) (λ t e. absurd (omega arith))
+  meant-third group meaning.Connect h q =
+      by-test OnlyThird (known (placeFor k (sourceOf b))) _ _ (λ u e. absurd (omega arith)) (λ u e. (q, third k (sourceOf b) .0 u))
+  meant-third group meaning.Disconnect h q =
+      by-test OnlyThird (known (placeOf k (sourceOf b))) _ _ (λ u e. absurd (omega arith)) (λ u e. absurd (omega arith))
+  meant-third group (meaning.Refused n) h q = λ e. absurd (omega (arith, h .1))
+
+  heard-third : OnlyThird (heardOf k own b)
+  unfolding numberOf
+  heard-third =
+      heard-by k own b OnlyThird (λ t e. absurd (low _ (refusal-framed _ _ _ _) e)) (λ e. absurd (omega arith))
+      (λ group. meant-third group (meaningOf (frameIn b)) (means (frameIn b)) refl)
+    where
+      low : (n : ℕ) → Zero n → n ≡ 62 → ⊥
+      low n (inl z) e = omega arith
+      low n (inr z) e = omega (arith, z .1)
+
+  pub only-third : (c : ℕ) → heardOf k own b ≡ Nothing 62 c → (meaningOf (frameIn b) ≡ meaning.Connect) × Taken k (sourceOf b)
+  unfolding numberOf
+  only-third c e = heard-third (ap numberOf e)
 
 -- a connect that is heard has the place that its source gets
 module _ (k : Link) (a : ℕ) where

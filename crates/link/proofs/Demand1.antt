@@ -40,16 +40,16 @@ use Rattle.link.proofs.Answered.{frame-few}
 use Rattle.link.proofs.Whose.{refusal, heard-by}
 
 -- the numbers of frames
-abbrev Framed : ℕ → Type 0
+abbrev pub Framed : ℕ → Type 0
 Framed n = (40 ≤ n) × (n ≤ 45)
 
-abbrev Zero : ℕ → Type 0
+abbrev pub Zero : ℕ → Type 0
 Zero n = (n ≡ 0) ⊎ Framed n
 
 low : (n : ℕ) → 40 ≤ n → n ≤ 45 → Zero n
 low n h k = inr (h, k)
 
-refusal-framed : (n l : ℕ) (f : Fields) (x : ℕ) → Zero (refusalOf n l f x)
+pub refusal-framed : (n l : ℕ) (f : Fields) (x : ℕ) → Zero (refusalOf n l f x)
 unfolding refusalOf standardOf
 refusal-framed n l f x =
     by-test Zero (ltb n 2) _ _ (λ t. low 40 (omega arith) (omega arith))
@@ -63,13 +63,13 @@ refusal-framed n l f x =
     (λ t. low 41 (omega arith) (omega arith))))
 
 -- of a meaning
-abbrev Means : Meaning → Type 0
+abbrev pub Means : Meaning → Type 0
 Means (meaning.Data mode) = Unit {0}
 Means meaning.Connect = Unit {0}
 Means meaning.Disconnect = Unit {0}
 Means (meaning.Refused n) = Framed n
 
-means : (f : Frame) → Means (meaningOf f)
+pub means : (f : Frame) → Means (meaningOf f)
 unfolding meaningOf toGroup toOne control
 means f =
     by-test Means (leb 128 (f .fields .control2)) _ _

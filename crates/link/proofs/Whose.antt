@@ -11,7 +11,7 @@ use native.Mathlib.Omega.{arith}
 use borrow.Author.Tests.{eqb-true, ne-eqb, lt-leb}
 use Rattle.octets.proofs.Truths.{never, first-true, second-true, must-fail}
 use Rattle.octets.proofs.Walks.{by-test}
-use Rattle.device.specs.Sessions.{sessionOf, known}
+use Rattle.device.specs.Sessions.{closed, sessionOf, known}
 use Rattle.events.specs.Events.{Event, connect, button, runBy, run}
 use Rattle.history.specs.Wish.{Wish, change, offerKey, restart, other, nothing, asks}
 use Rattle.history.specs.History.{wished}
@@ -23,10 +23,10 @@ use Rattle.cemi.specs.declared.Got.{Got}
 use Rattle.cemi.specs.declared.Got.the-variants as got
 use Rattle.cemi.specs.declared.Meaning.{Meaning}
 use Rattle.cemi.specs.declared.Meaning.the-variants as meaning
-use Rattle.link.specs.Partners.{nobody, sits, placeOf, freeOf, placeFor}
+use Rattle.link.specs.Partners.{nobody, sits, addressAt, placeOf, freeOf, placeFor}
 use Rattle.link.specs.Hearing.{ownOf, forUs, onPlace, connects, disconnects, meant, judged, heardGot, heardOf}
 use Rattle.link.specs.Serving.{longest, apduOf, Deed, leaving, deedOf, serveOf}
-use Rattle.link.specs.Net.{Net, sourceOf, stateOf, heardIn, eventsOf, frame, eventsBy, netBy}
+use Rattle.link.specs.Net.{Net, sourceOf, stateOf, heardIn, eventsOf, addressBy, frame, eventsBy, netBy}
 use Rattle.link.specs.Whose.{Partner, Whose, partner, newcomer}
 use Rattle.link.specs.declared.Link.{Link}
 use Rattle.link.specs.declared.Arrived.{Arrived}
@@ -179,6 +179,48 @@ module _ (x : Net) (b : List ℕ) (c : ℕ) (p : Partner (x .link) c (sourceOf b
       sessionOf (netBy x (frame b) .link .sessions) c ≡ sessionOf (x .link .sessions) c
   unfolding heardIn
   stranger-open e r = stranger (connects-closed (heardIn x b) (owned (x .link) (ownOf (x .sheet)) b) e) r
+
+-- AN OPEN CONNECTION STAYS ITS PARTNER'S: while c is open no frame, of whomever, sets its address to another
+module _ (x : Net) (b : List ℕ) where
+  -- the address of c after what arrived
+  abbrev address-by : ℕ → Arrived → ℕ
+  address-by c r = cond (eqb c 0) (addressBy 0 (sourceOf b) r (x .link .first)) (addressBy 1 (sourceOf b) r (x .link .second))
+
+  -- a connect on an open connection is its partner's
+  joined : (c : ℕ) → Opens (x .link) (sourceOf b) c → sessionOf (x .link .sessions) c .opened ≡ true → addressAt (x .link) c ≡ sourceOf b
+  joined c o e = ⊎-elim (λ p. p .address) (λ z. never (sym z ∙ e)) o
+
+  stays-first : (d : ℕ) → Opens (x .link) (sourceOf b) d → x .link .sessions .first .opened ≡ true → cond (eqb d 0) (sourceOf b) (x .link .first) ≡ x .link .first
+  stays-first d o e =
+      by-test (λ (a : ℕ). a ≡ x .link .first) (eqb d 0) _ _
+      (λ t. sym (joined 0 (subst (Opens (x .link) (sourceOf b)) (eqb-true d 0 t) o) e)) (λ t. refl)
+
+  stays-second : (d : ℕ) → Opens (x .link) (sourceOf b) d → x .link .sessions .second .opened ≡ true → cond (eqb d 1) (sourceOf b) (x .link .second) ≡ x .link .second
+  stays-second d o e =
+      by-test (λ (a : ℕ). a ≡ x .link .second) (eqb d 1) _ _
+      (λ t. sym (joined 1 (subst (Opens (x .link) (sourceOf b)) (eqb-true d 1 t) o) e)) (λ t. refl)
+
+  connects-own :
+      (c d : ℕ) → Opens (x .link) (sourceOf b) d → sessionOf (x .link .sessions) c .opened ≡ true → address-by c (Connect d) ≡ addressAt (x .link) c
+  connects-own c d o = go (eqb c 0) (eqb c 1)
+    where
+      go :
+          (t u : Bool) → cond t (x .link .sessions .first) (cond u (x .link .sessions .second) closed) .opened ≡ true →
+          cond t (cond (eqb d 0) (sourceOf b) (x .link .first)) (cond (eqb d 1) (sourceOf b) (x .link .second)) ≡ cond t (x .link .first) (x .link .second)
+      go true u e = stays-first d o e
+      go false true e = stays-second d o e
+      go false false e = never e
+
+  arrived-own :
+      (c : ℕ) (r : Arrived) → Of (x .link) (sourceOf b) r → sessionOf (x .link .sessions) c .opened ≡ true → address-by c r ≡ addressAt (x .link) c
+  arrived-own c (Request mode d group) o e = refl
+  arrived-own c (Connect d) o e = connects-own c d o e
+  arrived-own c (Disconnect d) o e = refl
+  arrived-own c (Nothing n d) o e = refl
+
+  pub same-partner : (c : ℕ) → sessionOf (x .link .sessions) c .opened ≡ true → addressAt (netBy x (frame b) .link) c ≡ addressAt (x .link) c
+  unfolding netBy heardIn
+  same-partner c e = arrived-own c (heardIn x b) (owned (x .link) (ownOf (x .sheet)) b) e
 
 module _ (x : Net) (b : List ℕ) where
   -- no event changes nothing
