@@ -134,8 +134,8 @@ static void play(void)
     }
 }
 
-/* the same requests as frames from the partner of connection 0, to its device, to a group and to all */
-static void serve(void)
+/* the same requests as frames from the partner of connection 0, to its device, to a group and to all, heard or served */
+static void frames_by(bool serving)
 {
     static uint8_t frame[9 + sizeof apdu], out[KELINDAP_LINK_ROOM];
     static kelindap_link link;
@@ -154,11 +154,14 @@ static void serve(void)
             frame[9] |= (uint8_t)(mode == 3 ? 0x40 : 0);
             if (i % 61 == 0)
                 frame[9] = 0x80, frame[8] = 0;
-            kept += kelindap_heard(link, sheet, sizeof sheet, frame, 10u + frame[8]).event;
-            kept += kelindap_serve(&link, 0, frame, 10u + frame[8], sheet, sizeof sheet, out, sizeof out).count;
+            kept += serving ? kelindap_serve(&link, 0, frame, 10u + frame[8], sheet, sizeof sheet, out, sizeof out).count
+                            : kelindap_heard(link, sheet, sizeof sheet, frame, 10u + frame[8]).event;
         }
     }
 }
+
+static void heard(void) { frames_by(false); }
+static void serve(void) { frames_by(true); }
 
 static void read_and_write(void)
 {
@@ -251,7 +254,8 @@ int main(void)
         {"kelindap_restore", restore},
         {"kelindap_remove", remove_first},
         {"kelindap_trace_check, _play", play},
-        {"kelindap_heard, _serve", serve},
+        {"kelindap_heard", heard},
+        {"kelindap_serve", serve},
         {"kelindap_read, _write", read_and_write},
         {"kelindap_point_read, _write", points},
         {"kelindap_frame_read, _write", frames},
