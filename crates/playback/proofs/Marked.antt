@@ -147,6 +147,7 @@ module _ (s t : List ℕ) (from limit : ℕ) (log : List ℕ) (played : ℕ) (b 
           marks = subst (λ (es : List Event). MarkedRun (at q s) es played (length s) m m) (sym (no .1)) (marked-none (at q s) played (length s) m);
           seen = λ z. absurd (n z);
           unseen = λ z. refl;
+          untouched = λ z. refl;
         }
 
     pub marking-refused : (r : Played) (f : ℕ) → f ≡ refusalOf t → (f ≡ 0 → ⊥) → r .refusal ≡ f → r .handled ≡ 0 → r .sessions ≡ q → Marking q s t from limit log played b m r s log b m
@@ -183,6 +184,7 @@ module _ (s t : List ℕ) (from limit : ℕ) (log : List ℕ) (played : ℕ) (b 
           marks = subst (λ (l : List Event). MarkedRun (at q s) l played (length s) m m′) es (ran .marks);
           seen = λ y. ran .seen;
           unseen = λ y. absurd (y p);
+          untouched = λ y. absurd (y p);
         }
 
 -- where nothing is refused there is room

@@ -49,9 +49,10 @@ pub record Marking (q : Sessions) (s t : List ℕ) (from limit : ℕ) (log : Lis
   pub state : at (r .sessions) s′ ≡ run (at q s) (markPlayed s t from limit log played b m)
   pub logged : log′ ≡ splice log 0 (logOf (at q s) (markPlayed s t from limit log played b m))
   pub marks : MarkedRun (at q s) (markPlayed s t from limit log played b m) played (length s) m m′
-  -- the room for the sheet: it is the sheet, or as found where there is a refusal
+  -- the room for the sheet is the sheet; where there is a refusal it is as found, and so are all marks, however many were lent
   pub seen : r .refusal ≡ 0 → b′ ≡ s′
   pub unseen : (r .refusal ≡ 0 → ⊥) → b′ ≡ b
+  pub untouched : (r .refusal ≡ 0 → ⊥) → m′ ≡ m
 
 -- WHAT A CALL DID; sheet and trace being bytes
 pub record Marks (q : Sessions) (s t : List ℕ) (from limit : ℕ) (log : List ℕ) (played : ℕ) (b m : List ℕ) (r : Played) (s′ log′ b′ m′ : List ℕ) : Type 0 where
