@@ -1,6 +1,7 @@
 //! Microseconds of playing a trace of 512 events on a full sheet: the proved
 //! library beside the plain model, which plays the same events one by one. Both
-//! judge the trace first, and check the sheet at every request. Then the library with marks, whole and event by event.
+//! judge the trace first, and check the sheet at every request. Then the library with marks, whole and event by event. The same
+//! on the longest sheet, of which a copy costs most.
 
 #[allow(dead_code)]
 #[path = "../cases.rs"]
@@ -206,34 +207,56 @@ fn trace_of(bench: &Bench) -> Vec<u8> {
     trace
 }
 
+const LONGEST: usize = 16_384;
+
+/// The entries of a full sheet in the longest one: the last region has all the bytes that are left.
+fn longest(full: &[u8]) -> Vec<u8> {
+    let more = LONGEST - full.len();
+    let [regions, properties, groups] = [1, 2, 3].map(|at| usize::from(full[at]));
+    let last = 32 + 8 * (regions - 1);
+    let end = word(&full[last + 2..]) + word(&full[last + 4..]);
+    let behind = last + 8 + 12 * properties;
+    let bodies = (0..properties).map(|k| last + 8 + 12 * k + 8);
+    let bodies = bodies.chain((0..groups).map(|k| behind + 8 * k + 4));
+    let mut sheet = full.to_vec();
+    for at in bodies.chain([4, last + 2]) {
+        let number = word(&sheet[at..]) + more;
+        sheet[at..at + 2].copy_from_slice(&(number as u16).to_be_bytes());
+    }
+    sheet.splice(end..end, vec![0x15; more]);
+    sheet
+}
+
 fn main() {
     let benches = benches();
     let bench = benches.iter().find(|b| b.name == "full").expect("the full sheet");
     let trace = trace_of(bench);
-    let start = State {
-        sessions: [SESSION, Session::CLOSED],
-        sheet: bench.sheet.clone(),
-        log: vec![0; LINE * EVENTS],
-    };
+    timed(&trace, bench.sheet.clone());
+    timed(&trace, longest(&bench.sheet));
+}
+
+fn timed(trace: &[u8], sheet: Vec<u8>) {
+    let length = sheet.len();
+    let start = State { sessions: [SESSION, Session::CLOSED], sheet, log: vec![0; LINE * EVENTS] };
     let sides: [fn(&[u8], &mut State) -> usize; 4] = [proved, plain, marked_whole, marked_singly];
     let [ours, theirs, whole, singly] = sides.map(|side| {
         let mut s = start.clone();
-        assert_eq!(side(&trace, &mut s), EVENTS);
+        assert_eq!(side(trace, &mut s), EVENTS);
         s
     });
     assert!(ours == theirs && ours == whole && ours == singly, "the sides differ");
+    assert!(ours.sheet != start.sheet, "nothing was carried out");
     let mut best = [f64::MAX; 4];
     for _ in 0..300 {
         for (side, best) in sides.iter().zip(&mut best) {
             let mut s = start.clone();
             let clock = Instant::now();
-            black_box(side(black_box(&trace), black_box(&mut s)));
+            black_box(side(black_box(trace), black_box(&mut s)));
             *best = best.min(clock.elapsed().as_nanos() as f64 / 1000.0);
         }
     }
     println!(
-        "a trace of {EVENTS} requests on a sheet of {} bytes: {:.0} us, plain {:.0}, ratio {:.2}; with marks {:.0}, event by event {:.0}",
-        bench.sheet.len(),
+        "a trace of {EVENTS} requests on a sheet of {length} bytes: {:.0} us, plain {:.0}, ratio {:.2}; with marks {:.0}, event by event {:.0}",
         best[0],
         best[1],
         best[0] / best[1],
