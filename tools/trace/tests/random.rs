@@ -191,10 +191,15 @@ fn played_and_explained() {
     assert!(changed_bytes > 300 && offers > 30, "{changed_bytes} {offers}");
 }
 
+/// The archive has the call that is held to the plain code, which would else be held to itself.
+fn is_asked(has: bool) {
+    assert!(has, "the archive has not the call");
+}
+
 /// The archive's marks are the plain ones, at once and in pieces.
 #[test]
 fn same_marks() {
-    assert!(cfg!(marked), "without the archive's call the plain code is held to itself");
+    is_asked(cfg!(marked));
     for seed in 0..TRACES {
         let (sheet, t) = drawn(seed);
         let n = t.events.len();
@@ -215,7 +220,7 @@ fn same_marks() {
 /// The archive hears frames as the plain code does: of few senders, to this device and to others, of every meaning.
 #[test]
 fn same_hearing() {
-    assert!(cfg!(heard), "without the archive's call the plain code is held to itself");
+    is_asked(cfg!(heard));
     let sheet = sheet::make::bytes(include_str!("../../../examples/accident/before.txt")).unwrap();
     let mut met = std::collections::BTreeMap::new();
     for seed in 0..70 * TRACES {
