@@ -45,7 +45,7 @@ function labelled(text, box, kind = "field", control = box) {
     return el("div", { class: kind }, ...(kind === "check" ? [box, label] : [label, box]));
 }
 
-// A choice. No browser brings back what was chosen before the page was loaded anew, here and in what is typed or ticked.
+// A choice. By `autocomplete` a browser that loads the page anew is told to bring back nothing, here and in what is typed or ticked.
 /** @param {[string, string][]} options value and text @param {(value: string) => void} [chosen] */
 function choice(options, chosen) {
     const select = el("select", { autocomplete: "off" }, ...options.map(([value, text]) => el("option", { value }, text)));

@@ -64,9 +64,11 @@ class Browser {
         await this.load(url);
     }
 
+    // a page opened; what was there before may answer for a moment
     async load(url) {
+        await this.run("window.before = true");
         await this.send("Page.navigate", { url });
-        await this.until("document.documentElement.dataset.ready");
+        await this.until("!window.before && document.documentElement.dataset.ready");
         if ((await this.run("document.documentElement.dataset.ready")) !== "yes") throw new Error(await this.run("document.querySelector('#failed').textContent"));
     }
 

@@ -40,11 +40,6 @@ async function keys(b, url) {
     await b.key(" ");
     has("keys", await b.run(text("#sheet .sheet")), "11111111");
     await b.key(" ");
-    // loaded anew, the page begins as it says: no choice of before stands in a control
-    await b.key(" ");
-    await b.load(url);
-    expect("loaded anew", await b.run(`[document.querySelector("#keys").checked, app.keys, document.querySelector("#sheet .sheet").textContent.includes("11111111")]`), [false, false, false]);
-    await part("sheet");
     await press("Put it on the device");
     expect("the focus goes along", await b.run(`document.activeElement.id`), "tab-device");
     // the device: a version saved, restored and removed; the focus stays where it is

@@ -23,7 +23,7 @@ async function network(b, url) {
         const refused = await b.run(`new Promise(done => {
             const seen = event => { document.removeEventListener("securitypolicyviolation", seen); done(event.effectiveDirective); };
             document.addEventListener("securitypolicyviolation", seen);
-            (async () => ${ask})().then(() => done("asked"), () => {});
+            (async () => ${ask})().then(() => done("asked"), () => setTimeout(() => done("not by the policy"), 10000));
         })`);
         expect(`the policy refuses a ${way}`, refused, way === "picture" ? "img-src" : "connect-src");
     }
