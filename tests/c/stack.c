@@ -107,10 +107,11 @@ static void fill_store(void)
         kept += kelindap_save(pump, sizeof pump, store, sizeof store).number;
 }
 
-/* the same requests as traces of one event */
+/* the same requests as traces of one event, judged, played, or played with marks */
+enum how { JUDGED, PLAYED, MARKED };
 static uint8_t before[sizeof pump];
 static uint32_t marks[sizeof pump + KELINDAP_CONNECTIONS];
-static void play(void)
+static void traces_by(enum how how)
 {
     static uint8_t trace[2 + KELINDAP_TRACE_ENTRY + sizeof apdu], log[KELINDAP_LOG_LINE];
     for (unsigned i = 0; i < ROUNDS * 15 * 1024u; i++) {
@@ -126,13 +127,21 @@ static void play(void)
         for (uint8_t mode = 0; mode < 4; mode++) {
             trace[3] = mode;
             sessions.of[0] = (kelindap_session){.open = true, .level = (uint8_t)(i % 4)};
-            kept += kelindap_trace_check(trace, 10u + trace[8]);
-            kept += kelindap_play(&sessions, sheet, sizeof sheet, trace, 10u + trace[8], 0, 1, log, sizeof log).handled;
-            kept += kelindap_play_marked(&sessions, sheet, sizeof sheet, trace, 10u + trace[8], 0, 1, log, sizeof log, before,
-                                         sizeof before, marks, sizeof marks / sizeof *marks, 0).handled;
+            size_t all = 10u + trace[8];
+            if (how == JUDGED)
+                kept += kelindap_trace_check(trace, all);
+            else if (how == PLAYED)
+                kept += kelindap_play(&sessions, sheet, sizeof sheet, trace, all, 0, 1, log, sizeof log).handled;
+            else
+                kept += kelindap_play_marked(&sessions, sheet, sizeof sheet, trace, all, 0, 1, log, sizeof log, before,
+                                             sizeof before, marks, sizeof marks / sizeof *marks, 0).handled;
         }
     }
 }
+
+static void trace_check(void) { traces_by(JUDGED); }
+static void play(void) { traces_by(PLAYED); }
+static void play_marked(void) { traces_by(MARKED); }
 
 /* the same requests as frames from the partner of connection 0, to its device, to a group and to all, heard or served */
 static void frames_by(bool serving)
@@ -253,7 +262,9 @@ int main(void)
         {"kelindap_save", save},
         {"kelindap_restore", restore},
         {"kelindap_remove", remove_first},
-        {"kelindap_trace_check, _play", play},
+        {"kelindap_trace_check", trace_check},
+        {"kelindap_play", play},
+        {"kelindap_play_marked", play_marked},
         {"kelindap_heard", heard},
         {"kelindap_serve", serve},
         {"kelindap_read, _write", read_and_write},
