@@ -1,4 +1,4 @@
-//! The device sheet as text, for people: all but files and arguments, which main.rs has.
+//! The device sheet as text, for people: all but the commands, which main.rs has.
 //! docs/SHEET.md has the layout, the rules and the form of the text.
 
 pub mod check;
@@ -8,6 +8,7 @@ pub mod json;
 pub mod layout;
 pub mod make;
 pub mod place;
+pub mod program;
 pub mod show;
 pub mod survey;
 pub mod versions;

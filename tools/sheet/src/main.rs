@@ -5,32 +5,26 @@
 //! `--help` and `--version` are asked for, so they go to standard output with status 0.
 
 use std::fs::{self, File};
-use std::io::{self, Read, Write};
+use std::io::{self, Write};
 use std::process::ExitCode;
 
 use sheet::check::{check, rules, Broken};
 use sheet::convert::converted;
 use sheet::layout::{Sheet, LONGEST};
+use sheet::program::{self, line, read, Program, Said};
 use sheet::versions::{self, Store};
 use sheet::{diff, make, show};
 
 mod surveyed;
 
-/// What `--help` shows, and of which the man page is made.
-const HELP: &str = include_str!("../kelindap-sheet.txt");
-
-/// The headers' version, which is the tool's too.
-const COMMON: &str = include_str!("../../../include/kelindap_common.h");
+const PROGRAM: Program = Program { name: "sheet", help: include_str!("../kelindap-sheet.txt") };
 
 /// The longest text that is read: some twenty times that of the longest sheet.
 const LONGEST_TEXT: u64 = 1 << 22;
 
-/// What a command says, with its status.
-type Said = Result<(Vec<u8>, u8), String>;
-
 fn main() -> ExitCode {
-    let words: Vec<_> = std::env::args_os().skip(1).collect();
-    let words: Vec<&str> = words.iter().map(|w| w.to_str().unwrap_or("\u{fffd}")).collect();
+    let words = program::words();
+    let words: Vec<&str> = words.iter().map(String::as_str).collect();
     let said = match words[..] {
         ["check", file] => load(file).map(|bytes| checked(&bytes)),
         ["show", "--keys", file] | ["show", file, "--keys"] => {
@@ -43,69 +37,21 @@ fn main() -> ExitCode {
             convert(old, new, true)
         }
         ["convert", old, new] => convert(old, new, false),
-        ["--help"] | ["help"] => Ok((HELP.into(), 0)),
-        ["--version"] => Ok((line(format!("sheet of kelindap {}", version())), 0)),
+        ["--help"] | ["help"] => Ok((PROGRAM.help.into(), 0)),
+        ["--version"] => Ok((PROGRAM.version(), 0)),
         ["versions", store] => listed(store),
         ["versions", "diff", store, number, file] => since(store, number, file),
-        ["survey", ref words @ ..] => surveyed::surveyed(words).unwrap_or_else(|| Err(usage())),
-        _ => Err(usage()),
+        ["survey", ref words @ ..] => {
+            surveyed::surveyed(words).unwrap_or_else(|| Err(PROGRAM.usage()))
+        }
+        _ => Err(PROGRAM.usage()),
     };
-    finish(said)
-}
-
-fn version() -> &'static str {
-    let text = COMMON.split("KELINDAP_VERSION_TEXT \"").nth(1);
-    text.and_then(|text| text.split('"').next()).unwrap_or("of no version")
-}
-
-/// The synopsis.
-fn usage() -> String {
-    let forms = HELP.lines().skip_while(|&line| line != "SYNOPSIS").skip(1);
-    let forms: Vec<_> = forms.take_while(|line| !line.is_empty()).map(str::trim).collect();
-    format!("usage: {}", forms.join("\n       "))
-}
-
-fn finish(said: Said) -> ExitCode {
-    let (bytes, status) = match said {
-        Ok(said) => said,
-        Err(why) => return complain(&why),
-    };
-    let mut out = io::stdout().lock();
-    match out.write_all(&bytes).and_then(|()| out.flush()) {
-        Ok(()) => ExitCode::from(status),
-        Err(why) => complain(&format!("standard output: {why}")),
-    }
-}
-
-fn complain(why: &str) -> ExitCode {
-    // if standard error is closed too there is nobody to tell
-    let usage = usage();
-    let _ = if why == usage {
-        writeln!(io::stderr(), "{usage}")
-    } else {
-        writeln!(io::stderr(), "sheet: {}", show::plain(why))
-    };
-    ExitCode::from(2)
-}
-
-/// At most so many bytes of a file.
-fn read(name: &str, most: u64) -> Result<Vec<u8>, String> {
-    let mut bytes = Vec::new();
-    let got = if name == "-" {
-        io::stdin().lock().take(most).read_to_end(&mut bytes)
-    } else {
-        File::open(name).and_then(|file| file.take(most).read_to_end(&mut bytes))
-    };
-    got.map(|_| bytes).map_err(|why| format!("{name}: {why}"))
+    PROGRAM.finish(said)
 }
 
 /// A sheet; of one that is too long, a byte more than it may have.
 fn load(name: &str) -> Result<Vec<u8>, String> {
     read(name, LONGEST as u64 + 1)
-}
-
-fn line(text: impl ToString) -> Vec<u8> {
-    (text.to_string() + "\n").into_bytes()
 }
 
 fn checked(bytes: &[u8]) -> (Vec<u8>, u8) {

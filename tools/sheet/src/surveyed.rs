@@ -6,7 +6,8 @@ use std::path::Path;
 use sheet::show::plain;
 use sheet::survey::{property_named, survey, Wanted, HEIGHT};
 
-use crate::{line, load, Said};
+use crate::load;
+use sheet::program::{line, Said};
 
 enum Form {
     Text,

@@ -2,12 +2,11 @@
 //! on standard error for anything else: a file that can't be read, a recording with a fault, a wrong word. `--help` and
 //! `--version` are asked for, so they go to standard output with status 0.
 
-use std::fs::File;
-use std::io::{self, Read, Write};
 use std::process::ExitCode;
 
 use sheet::json::Json;
 use sheet::layout;
+use sheet::program::{self, line, read, Program, Said};
 use sheet::show::plain;
 use trace::archive;
 use trace::events;
@@ -21,67 +20,29 @@ use trace::text;
 use trace::times::{self, Known};
 use trace::words;
 
-/// What `--help` shows, and of which the man page is made.
-const HELP: &str = include_str!("../kelindap-trace.txt");
-
-/// The headers' version, which is the tool's too.
-const COMMON: &str = include_str!("../../../include/kelindap_common.h");
+const PROGRAM: Program = Program { name: "trace", help: include_str!("../kelindap-trace.txt") };
 
 /// The longest recording or text that is read, and the longest side file of a trace.
 const LONGEST_RECORDING: u64 = 1 << 28;
 const LONGEST_TIMES: u64 = 1 << 17;
 
-/// What a command says, with its status.
-type Said = Result<(Vec<u8>, u8), String>;
-
 fn main() -> ExitCode {
-    let words: Vec<_> = std::env::args_os().skip(1).collect();
-    let words: Vec<&str> = words.iter().map(|w| w.to_str().unwrap_or("\u{fffd}")).collect();
+    let words = program::words();
+    let words: Vec<&str> = words.iter().map(String::as_str).collect();
     let said = match words[..] {
-        ["--help"] | ["help"] => Ok((HELP.into(), 0)),
-        ["--version"] => Ok((line(format!("trace of kelindap {}", version())), 0)),
+        ["--help"] | ["help"] => Ok((PROGRAM.help.into(), 0)),
+        ["--version"] => Ok((PROGRAM.version(), 0)),
         ["show", ref rest @ ..] => asked(rest, &["--keys", "--json"], &[]).and_then(shown),
         ["make", ref rest @ ..] => asked(rest, &["--force", "--json"], &["--sheet"]).and_then(made),
         ["play", ref rest @ ..] => asked(rest, &["--keys", "--json"], &[]).and_then(played),
         ["explain", ref rest @ ..] => asked(rest, &["--json"], &["--final"]).and_then(explained),
         _ => Err(usage()),
     };
-    finish(said)
+    PROGRAM.finish(said)
 }
 
-fn version() -> &'static str {
-    let text = COMMON.split("KELINDAP_VERSION_TEXT \"").nth(1);
-    text.and_then(|text| text.split('"').next()).unwrap_or("of no version")
-}
-
-/// The synopsis.
 fn usage() -> String {
-    let forms = HELP.lines().skip_while(|&line| line != "SYNOPSIS").skip(1);
-    let forms: Vec<_> = forms.take_while(|line| !line.is_empty()).map(str::trim).collect();
-    format!("usage: {}", forms.join("\n       "))
-}
-
-fn finish(said: Said) -> ExitCode {
-    let (bytes, status) = match said {
-        Ok(said) => said,
-        Err(why) => return complain(&why),
-    };
-    let mut out = io::stdout().lock();
-    match out.write_all(&bytes).and_then(|()| out.flush()) {
-        Ok(()) => ExitCode::from(status),
-        Err(why) => complain(&format!("standard output: {why}")),
-    }
-}
-
-fn complain(why: &str) -> ExitCode {
-    // if standard error is closed too there is nobody to tell
-    let usage = usage();
-    let _ = if why == usage {
-        writeln!(io::stderr(), "{usage}")
-    } else {
-        writeln!(io::stderr(), "trace: {}", plain(why))
-    };
-    ExitCode::from(2)
+    PROGRAM.usage()
 }
 
 // ---- words and files ----
@@ -122,17 +83,6 @@ fn asked<'a>(words: &[&'a str], flags: &[&str], options: &[&str]) -> Result<Aske
         return Err("-: standard input is named twice, and can be read once".to_string());
     }
     Ok(asked)
-}
-
-/// At most so many bytes of a file.
-fn read(name: &str, most: u64) -> Result<Vec<u8>, String> {
-    let mut bytes = Vec::new();
-    let got = if name == "-" {
-        io::stdin().lock().take(most).read_to_end(&mut bytes)
-    } else {
-        File::open(name).and_then(|file| file.take(most).read_to_end(&mut bytes))
-    };
-    got.map(|_| bytes).map_err(|why| format!("{name}: {why}"))
 }
 
 /// A text of at most so many bytes, without the mark that some editors put in front.
@@ -180,10 +130,6 @@ fn load_trace(name: &str) -> Result<Trace, String> {
 /// The name of the side file of a trace.
 fn times_of(name: &str) -> String {
     format!("{name}.times")
-}
-
-fn line(text: impl ToString) -> Vec<u8> {
-    (text.to_string() + "\n").into_bytes()
 }
 
 // ---- the commands ----
