@@ -23,7 +23,8 @@ def hold(what, got, due):
         wrong.append(f"{what} is {got}, not {due}")
 
 
-sizes = re.findall(r"SIZE\((kelindap_\w+), (.*?)\) \\", facts)
+# the plain engine is a library of its own, which the module has not
+sizes = [fact for fact in re.findall(r"SIZE\((kelindap_\w+), (.*?)\) \\", facts) if "_plain_" not in fact[0]]
 hold("structures", sorted(structures), sorted(name for name, _ in sizes))
 for name, size in sizes:
     if name in structures:
@@ -38,7 +39,6 @@ for name, structure in structures.items():
 
 kinds = re.search(r"define KELINDAP_KINDS.*?\n\n", open("include/kelindap_names.h").read(), re.S).group()
 hold("kinds", [kind for kind, _ in kelindap.KINDS], re.findall(r'"(\w+)"', kinds))
-# the plain engine is a library of its own, which the module has not
 declared = {name for header in glob.glob("include/*.h") if not header.endswith(("_names.h", "_plain.h"))
             for name in re.findall(r"^(?!static)[\w ]*\bkelindap_(\w+)\(", open(header).read(), re.M)}
 hold("calls", sorted(kelindap._CALLS), sorted(declared))
