@@ -12,6 +12,7 @@ help:
 
 #: make run        the device at work on the sample sheet, for a person to read
 #: make test       every test, every proof, every edit that must be refused, every program
+# what is run side by side builds in folders of its own; what both need is there before
 test: need-tools
 	rt fmt --check
 	$(MAKE) --no-print-directory -s lint
@@ -19,8 +20,10 @@ test: need-tools
 	$(MAKE) --no-print-directory -s model
 	$(MAKE) --no-print-directory -s prove
 	$(MAKE) --no-print-directory -s sheet-check
-	$(MAKE) --no-print-directory -s test-unit test-text test-c points test-frames test-tools compare test-firmware figures
-	$(MAKE) --no-print-directory -s test-deb test-python test-page test-shims test-others
+	$(MAKE) --no-print-directory -s test-unit test-text test-c points test-frames $(BUILD)/bridge
+	mk/bin/beside $(MAKE) --no-print-directory -s test-firmware -- $(MAKE) --no-print-directory -s test-tools compare
+	$(MAKE) --no-print-directory -s figures test-deb test-python
+	mk/bin/beside $(MAKE) --no-print-directory -s test-page test-shims -- $(MAKE) --no-print-directory -s test-others
 	tail -n 1 build/ci.log
 
 # every proof from nothing, every edit, every program, once: what the tests after it link and run is what was proved here. The
