@@ -113,13 +113,16 @@ impl Maker {
             10..=13 => (Scene::Versions, rng.within(100, 300)),
             14..=16 => (Scene::Traces(0), rng.within(20, 60)),
             17..=19 => {
-                let mut sheet = if rng.chance(90) { gen::sheet(rng) } else { gen::any_sheet(rng) };
-                if let (Some(edition), true) = (sheet.first_mut(), rng.chance(4)) {
-                    *edition = 1;
-                }
-                let scene = (Scene::Links(Links::new(rng, &sheet)), long(rng));
-                self.queue.extend([Play::Sheet(sheet), Play::Fresh]);
-                scene
+                let left = long(rng);
+                let sheet = if rng.chance(90) {
+                    self.lend()
+                } else {
+                    let sheet = gen::any_sheet(rng);
+                    self.push(Play::Sheet(sheet.clone()));
+                    sheet
+                };
+                self.push(Play::Fresh);
+                (Scene::Links(Links::new(&mut self.rng, &sheet)), left)
             }
             _ => (Scene::Queued, 0),
         };
