@@ -10,9 +10,10 @@
  * whoever has a copy of the file should know that it is old too.
  *
  * It may be killed at any moment, or lose its power: each file holds the sheet, or the store, before a change or after it,
- * whole, and what was answered is in it. For that what was changed is written to a new file beside the old one, brought to
- * the disk, and renamed over it, before the answer is sent. tests/examples.sh kills it to see. Whether anything was changed the
- * calls tell: no copy is kept to compare with.
+ * whole, and what was acknowledged or answered is in it. For that what was changed is written to a new file beside the old
+ * one, brought to the disk, and renamed over it, before acknowledgement and answer are sent: a write that is not answered has
+ * the acknowledgement alone. tests/examples.sh kills it to see. Whether anything was changed the calls tell: no copy is kept
+ * to compare with.
  */
 #define _POSIX_C_SOURCE 200809L
 #include "bus.h"
@@ -155,16 +156,27 @@ static void load_store(kept *store)
 
 /* ---- the bus ---- */
 
-/* Sends a frame on the line on which an address speaks, if there is one. It doesn't wait for who reads nothing: such a one is
-   dropped, and the others go on. */
-static void send_to(host *h, uint16_t address, const uint8_t *frame, size_t length)
+/* Sends a packet on a line. It doesn't wait for who reads nothing: such a one is dropped, and the others go on. */
+static void send_on(host *h, int i, const uint8_t *packet, size_t length)
+{
+    if (send(h->lines[i].socket, packet, length, MSG_DONTWAIT) < 0)
+        hang_up(h, i);
+}
+
+/* Whether a line has a frame that the device sends: one to a group or to all every line, another that on which its destination
+   speaks. */
+static bool hears(const line *l, const uint8_t *frame)
+{
+    uint16_t destination = (uint16_t)(frame[6] << 8 | frame[7]);
+    return l->socket != NOBODY && (frame[3] >= 0x80 || (l->speaks && l->address == destination));
+}
+
+/* Sends a frame without additional information, as all of the device's are. */
+static void send_frame(host *h, const uint8_t *frame, size_t length)
 {
     for (int i = 0; i < MOST_LINES; i++)
-        if (h->lines[i].socket != NOBODY && h->lines[i].speaks && h->lines[i].address == address) {
-            if (send(h->lines[i].socket, frame, length, MSG_DONTWAIT) < 0)
-                hang_up(h, i);
-            return;
-        }
+        if (hears(&h->lines[i], frame))
+            send_on(h, i, frame, length);
 }
 
 /* Sends an octet of transport's own: an acknowledgement, a disconnect. */
@@ -172,7 +184,7 @@ static void send_control(host *h, uint16_t address, uint8_t octet)
 {
     uint8_t own[2] = { h->sheet.bytes[16], h->sheet.bytes[17] };
     uint8_t frame[10] = { 0x11, 0, 0xB0, 0x60, own[0], own[1], (uint8_t)(address >> 8), (uint8_t)address, 0, octet };
-    send_to(h, address, frame, sizeof frame);
+    send_frame(h, frame, sizeof frame);
 }
 
 /* The connection of which an address is the partner. */
@@ -217,20 +229,25 @@ static void take_version(host *h, int i, const uint8_t packet[BUS_VERSION])
             save(store);
     }
     uint8_t answer[BUS_VERSION] = { saved.outcome, 0, (uint8_t)(saved.number >> 8), (uint8_t)saved.number };
-    if (send(h->lines[i].socket, answer, sizeof answer, MSG_DONTWAIT) < 0)
-        hang_up(h, i);
+    send_on(h, i, answer, sizeof answer);
+}
+
+/* Acknowledges connected data that is carried out, and saved. */
+static void acknowledge(host *h, uint8_t connection, uint8_t number)
+{
+    send_control(h, h->link.address[connection], (uint8_t)(T_ACK | number << 2));
 }
 
 /*
- * Connected data by its sequence number: true if it is the next one. It is acknowledged, and so is the one before, whose
- * acknowledgement was lost; that one is not carried out again.
+ * Connected data by its sequence number: true if it is the next one. The one before, whose acknowledgement was lost, is
+ * acknowledged once more, and not carried out again.
  */
-static bool in_turn(host *h, kelindap_arrival a, uint8_t octet)
+static bool in_turn(host *h, uint8_t connection, uint8_t number)
 {
-    uint8_t got = octet >> 2 & 15, *next = &h->transport[a.connection].in;
-    bool new = got == *next;
-    if (new || got == ((*next + 15) & 15))
-        send_control(h, h->link.address[a.connection], (uint8_t)(T_ACK | got << 2));
+    uint8_t *next = &h->transport[connection].in;
+    bool new = number == *next;
+    if (number == ((*next + 15) & 15))
+        acknowledge(h, connection, number);
     *next = (uint8_t)((*next + new) & 15);
     return new;
 }
@@ -239,7 +256,9 @@ static bool in_turn(host *h, kelindap_arrival a, uint8_t octet)
 static void take_frame(host *h, const uint8_t *frame, size_t length)
 {
     kelindap_arrival a = kelindap_heard(h->link, h->sheet.bytes, h->sheet.length, frame, length);
-    if (a.event == KELINDAP_EVENT_CONNECTED && !in_turn(h, a, frame[9 + frame[1]]))
+    bool connected = a.event == KELINDAP_EVENT_CONNECTED;
+    uint8_t number = connected ? frame[9 + frame[1]] >> 2 & 15 : 0;
+    if (connected && !in_turn(h, a.connection, number))
         return;
     bool placed = a.connection != KELINDAP_LINK_NOBODY;
     kelindap_sessions before = h->link.sessions;
@@ -248,10 +267,12 @@ static void take_frame(host *h, const uint8_t *frame, size_t length)
                                        sizeof answer);
     if (s.changed[0].length != 0 || s.changed[1].length != 0)
         save(&h->sheet);
+    if (connected)
+        acknowledge(h, a.connection, number);
     if (a.event == KELINDAP_EVENT_CONNECT)
         h->transport[a.connection] = (transport){ 0, 0 };
     if (s.count > 0)
-        send_to(h, (uint16_t)(frame[4 + frame[1]] << 8 | frame[5 + frame[1]]), answer, s.count);
+        send_frame(h, answer, s.count);
     if (s.count > 0 && placed)
         *out = (uint8_t)((*out + 1) & 15);
     if (s.number == KELINDAP_LINK_STRANGER || s.number == KELINDAP_LINK_NO_PLACE)

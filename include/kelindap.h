@@ -44,8 +44,8 @@
  *    and a frame that is served (kelindap_link.h), tells which parts of the sheet it stored; a button that gives 1 stored byte
  *    14, a restore that gives 1 counts and bodies of properties (kelindap_store.h), and no other call changes the sheet but
  *    kelindap_convert and playing (kelindap_trace.h). So a host needs no second copy in memory to know whether to save. It
- *    saves after such a call and before it sends the answer, so that what was answered is kept, or at times of its own if the
- *    loss of the last writes is acceptable;
+ *    saves after such a call and before it acknowledges or answers, so that what a tool takes for done is kept, or at times of
+ *    its own if the loss of the last writes is acceptable;
  *  - a power cut during a call leaves a sheet in memory that may hold a part of a write, and no promise speaks of it: so what
  *    the host starts from is the saved copy, and never memory that lay open to a call. A save must leave the old copy or the
  *    new one, whole: two places with a mark of the newer, or a new file renamed over the old one (examples/host.c). At start

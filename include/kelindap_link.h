@@ -12,8 +12,10 @@
  *  - sequence numbers and acknowledgements. A partner whose acknowledgement was lost sends its frame again, and a second bit
  *    write undoes the first. So for connected data the host asks kelindap_heard first, holds the sequence number of the frame
  *    (the low four bits of transport's six, bits 2 to 5 of the TPDU's first byte) against the one that is next on that
- *    connection, acknowledges, and calls kelindap_serve only with a new one; it hands over the number with which its own next
- *    frame on that connection goes out, and counts it on if a frame was sent. A connect, a second one too, sets both to 0;
+ *    connection, and calls kelindap_serve only with a new one, which it acknowledges after the call, when what was stored is
+ *    saved: a write that is not answered has the acknowledgement alone. The one before the next it acknowledges once more. It
+ *    hands over the number with which its own next frame on that connection goes out, and counts it on if a frame was sent. A
+ *    connect, a second one too, sets both to 0;
  *  - 45, an acknowledgement, tells by its connection whose it is; 61 and 62 are a stranger's, to whom transport sends a
  *    disconnect; 63 is a stranger's disconnect, which nothing answers;
  *  - transport's time limits: a partner that is silent too long is disconnected by kelindap_disconnect with its number;

@@ -1,8 +1,9 @@
 #!/usr/bin/env bash
 # tests/examples.sh HOST HEIGHT SHEET: the example host and tool at work, an old sheet, two tools at once, one that reads nothing, a
-# frame that comes twice, versions of the settings, and the host killed 200 times during writes: what it saved is then an accepted sheet each time, with the height that was answered
-# last or the one after it; and as often while versions are saved and removed: the store is then a good one, as it was after
-# what was answered last or after the next.
+# frame that comes twice, an answer to a group, versions of the settings, and the host killed 200 times during writes: what it
+# saved is then an accepted sheet each time, with the height that was answered last or the one after it; and as often while
+# versions are saved and removed: the store is then a good one, as it was after what was answered last or after the next; and
+# 50 times during writes that are not answered: the sheet then has what was acknowledged last, or the next.
 set -euo pipefail
 host=$(realpath "$1") height=$(realpath "$2") sheet=$(realpath "$3")
 top=$(realpath "$(dirname "$0")/..")
@@ -108,6 +109,11 @@ for byte in af a0; do
     now=$(od -An -tx1 -j60 -N1 sheet | tr -d ' ')
     [ "$now" = "$byte" ] || wrong "a bit write that comes twice leaves $now in place of $byte"
 done
+
+# an answer to a group goes to everybody on the bus, one to an address to nobody else
+gcc -std=c11 -O2 -Wall -Wextra -Werror -I"$top/examples" -o hears "$top/tests/c/hears.c"
+said=$(timeout 10 ./hears bus || true)
+[ "$said" = "asks told all, listens all" ] || wrong "who hears what: $said"
 stop
 changes=$("$sheet" diff first sheet || true)
 [ "$changes" = "property 1/51 element 1: 1000 → 1251" ] || wrong "the file holds another change: $changes"
@@ -209,3 +215,25 @@ for ((i = 0; i < KILLS; i++)); do
 done
 [ "$during" -ge $((KILLS / 2)) ] || wrong "only $during of $KILLS kills fell into saves and removes"
 echo "examples: killed $KILLS times, $during of them during saves and removes; each time the store was the old or the new one"
+
+# and during writes of memory out of verify mode, which are acknowledged and not answered
+gcc -std=c11 -O2 -Wall -Wextra -Werror -I"$top/examples" -o acked "$top/tests/c/acked.c"
+"$sheet" show --keys sheet | sed 's/^verify on/verify off/' > text
+"$sheet" make text > sheet
+"$sheet" show sheet | grep -q '^verify off' || wrong "verify mode can't be left"
+for ((i = 0; i < KILLS / 4; i++)); do
+    start
+    : > answers
+    ./acked bus > answers &
+    tool=$!
+    for ((waited = 0; waited < 6000; waited++)); do
+        [ ! -s answers ] || break
+        sleep 0.01
+    done
+    sleep "0.00$((RANDOM % 10))$((RANDOM % 10))"
+    stop
+    wait "$tool" || wrong "a partner that writes memory was not served"
+    last=$(tail -n 1 answers) now=$(od -An -tu1 -j60 -N1 sheet | tr -d ' ')
+    [ "$now" = $((last % 256)) ] || [ "$now" = $(((last + 1) % 256)) ] || wrong "kill $i left $now, where $last was acknowledged"
+done
+echo "examples: killed $((KILLS / 4)) times during writes that are not answered; each time the sheet saved had what was acknowledged"
