@@ -24,7 +24,7 @@ use Rattle.link.specs.Partners.{nobody, sits, placeOf, freeOf, placeFor}
 use Rattle.link.specs.Hearing.{ownOf, forUs, onPlace, connects, disconnects, meant, judged, heardGot, heardOf}
 use Rattle.link.specs.Serving.{most, apduOf}
 use Rattle.link.specs.Net.{Net, sourceOf, stateOf, heardIn, eventsOf, addressBy, Item, frame, press, timeOut, giveBack, netBy, netAfter}
-use Rattle.link.specs.Whose.{Taken, Apart}
+use Rattle.link.specs.Whose.{NoPlace, Apart}
 use Rattle.link.specs.declared.Link.{Link}
 use Rattle.link.specs.declared.Arrived.{Arrived}
 use Rattle.link.specs.declared.Arrived.the-variants.{Request, Connect, Disconnect, Nothing}
@@ -63,13 +63,13 @@ module _ (k : Link) (a : ℕ) where
         go false s x z = never (sym x ∙ both _ _ o (eq-eqb (k .first) a q))
 
   -- THERE IS NO PLACE FOR A THIRD: exactly if both are open and neither is the source's
-  pub third : (known (placeFor k a) ≡ false) ↔ Taken k a
+  pub third : (known (placeFor k a) ≡ false) ↔ NoPlace k a
   unfolding placeFor placeOf freeOf
   third = (go F S (k .sessions .first .opened) (k .sessions .second .opened) refl refl refl refl, back)
     where
       go :
           (f s p q : Bool) → F ≡ f → S ≡ s → k .sessions .first .opened ≡ p → k .sessions .second .opened ≡ q →
-          known (cond (known (cond f 0 (cond s 1 nobody))) (cond f 0 (cond s 1 nobody)) (cond p (cond q nobody 1) 0)) ≡ false → Taken k a
+          known (cond (known (cond f 0 (cond s 1 nobody))) (cond f 0 (cond s 1 nobody)) (cond p (cond q nobody 1) 0)) ≡ false → NoPlace k a
       go true s p q x y u v e = never (sym e)
       go false true p q x y u v e = never (sym e)
       go false false false q x y u v e = never (sym e)
@@ -82,7 +82,7 @@ module _ (k : Link) (a : ℕ) where
             notSecond = λ h. never (sym y ∙ both _ _ v (eq-eqb (k .second) a h));
           }
 
-      back : Taken k a → known (placeFor k a) ≡ false
+      back : NoPlace k a → known (placeFor k a) ≡ false
       back t = simp (t .first, t .second, ne-eqb (k .first) a (t .notFirst), ne-eqb (k .second) a (t .notSecond))
 
 -- what a number says of what arrived
@@ -96,24 +96,24 @@ numberOf (Nothing n c) = n
 pub turned-away :
     (k : Link) (own : ℕ) (b : List ℕ) (f : Frame) →
     readFrame b ≡ got.Is f → forUs (f .fields .control2) (f .fields .destination) own ≡ true → meaningOf f ≡ meaning.Connect →
-    (heardOf k own b ≡ Nothing 62 nobody) ↔ Taken k (f .fields .source)
+    (heardOf k own b ≡ Nothing 62 nobody) ↔ NoPlace k (f .fields .source)
 unfolding heardOf heardGot judged meant connects numberOf
 turned-away k own b f reads us m = rw (reads, us, m) (there, back)
   where
-    by : (t : Bool) → known (placeFor k (f .fields .source)) ≡ t → cond t (Connect (placeFor k (f .fields .source))) (Nothing 62 nobody) ≡ Nothing 62 nobody → Taken k (f .fields .source)
+    by : (t : Bool) → known (placeFor k (f .fields .source)) ≡ t → cond t (Connect (placeFor k (f .fields .source))) (Nothing 62 nobody) ≡ Nothing 62 nobody → NoPlace k (f .fields .source)
     by true e h = absurd (let z : 0 ≡ 62 = ap numberOf h in omega arith)
     by false e h = third k (f .fields .source) .0 e
 
-    there : cond (known (placeFor k (f .fields .source))) (Connect (placeFor k (f .fields .source))) (Nothing 62 nobody) ≡ Nothing 62 nobody → Taken k (f .fields .source)
+    there : cond (known (placeFor k (f .fields .source))) (Connect (placeFor k (f .fields .source))) (Nothing 62 nobody) ≡ Nothing 62 nobody → NoPlace k (f .fields .source)
     there h = by (known (placeFor k (f .fields .source))) refl h
 
-    back : Taken k (f .fields .source) → cond (known (placeFor k (f .fields .source))) (Connect (placeFor k (f .fields .source))) (Nothing 62 nobody) ≡ Nothing 62 nobody
+    back : NoPlace k (f .fields .source) → cond (known (placeFor k (f .fields .source))) (Connect (placeFor k (f .fields .source))) (Nothing 62 nobody) ≡ Nothing 62 nobody
     back t = let z = third k (f .fields .source) .1 t in rw z
 
 -- AND OF NOTHING ELSE: a frame that gets 62 is a connect, and both places are taken by others than its source
 module _ (k : Link) (own : ℕ) (b : List ℕ) where
   abbrev OnlyThird : Arrived → Type 0
-  OnlyThird r = numberOf r ≡ 62 → (meaningOf (frameIn b) ≡ meaning.Connect) × Taken k (sourceOf b)
+  OnlyThird r = numberOf r ≡ 62 → (meaningOf (frameIn b) ≡ meaning.Connect) × NoPlace k (sourceOf b)
 
   meant-third : (group : ℕ) (m : Meaning) → Means m → meaningOf (frameIn b) ≡ m → OnlyThird (meant k (sourceOf b) group m)
   unfolding meant onPlace connects disconnects numberOf
@@ -135,7 +135,7 @@ module _ (k : Link) (own : ℕ) (b : List ℕ) where
       low n (inl z) e = omega arith
       low n (inr z) e = omega (arith, z .1)
 
-  pub only-third : (c : ℕ) → heardOf k own b ≡ Nothing 62 c → (meaningOf (frameIn b) ≡ meaning.Connect) × Taken k (sourceOf b)
+  pub only-third : (c : ℕ) → heardOf k own b ≡ Nothing 62 c → (meaningOf (frameIn b) ≡ meaning.Connect) × NoPlace k (sourceOf b)
   unfolding numberOf
   only-third c e = heard-third (ap numberOf e)
 

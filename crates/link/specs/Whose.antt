@@ -21,7 +21,7 @@ pub data Whose (x : Net) (b : List ℕ) (c : ℕ) : Event → Type 0 where
   newcomer : sessionOf (x .link .sessions) c .opened ≡ false → Whose x b c (connect c)
 
 -- both places are taken by others than a
-pub record Taken (k : Link) (a : ℕ) : Type 0 where
+pub record NoPlace (k : Link) (a : ℕ) : Type 0 where
   pub first : k .sessions .first .opened ≡ true
   pub second : k .sessions .second .opened ≡ true
   pub notFirst : k .first ≡ a → ⊥

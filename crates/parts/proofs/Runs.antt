@@ -22,7 +22,7 @@ use Rattle.parts.specs.declared.Sizes.{Sizes}
 use Rattle.parts.specs.declared.Parts.{Parts}
 use Rattle.parts.specs.Records.{noRegion, noProperty, noGroup}
 use Rattle.parts.proofs.Bits.{top-bit}
-use Rattle.parts.specs.Again.{headFlags, regionBytes, propertyBytes, groupBytes, levelsOf, WholeRegion, WholeProperty, WholeGroup, Same, Restores, Each, IsAt, WholeBodies, WholeSizes, WholeNumbers, WholeKeys, WholeHead, WholeEntries, Whole, second, third, fourth, end}
+use Rattle.parts.specs.Again.{headFlags, regionBytes, propertyBytes, groupBytes, levelsOf, WholeRegion, WholeProperty, WholeGroup, SameFront, Restores, Each, IsAt, WholeBodies, WholeSizes, WholeNumbers, WholeKeys, WholeHead, WholeEntries, Whole, second, third, fourth, end}
 
 -- the bytes ds stand in s from at + k on
 abbrev pub Runs : List ℕ → List ℕ → ℕ → ℕ → Type 0
@@ -34,7 +34,7 @@ runs-at [] s at k h j l = absurd (omega arith)
 runs-at (d ∷ ds) s at k h zero l = h .0 ∙ ap (λ (n : ℕ). getD s n 0) (omega arith)
 runs-at (d ∷ ds) s at k h (suc j) l = runs-at ds s at (suc k) (h .1) j (omega arith) ∙ ap (λ (n : ℕ). getD s n 0) (omega arith)
 
-pub same-run : (t s ds : List ℕ) (at : ℕ) → at + length ds ≤ length t → Runs ds s at 0 → Same t s at → Same (splice t at ds) s (at + length ds)
+pub same-run : (t s ds : List ℕ) (at : ℕ) → at + length ds ≤ length t → Runs ds s at 0 → SameFront t s at → SameFront (splice t at ds) s (at + length ds)
 same-run t s ds at l r h =
     record {
       long = length-splice t at ds l ∙ h .long;
@@ -52,14 +52,14 @@ same-run t s ds at l r h =
 
 module _ (P : List ℕ → Type 0) where
   pub restores-none : (t : List ℕ) (a b : ℕ) → a ≡ b → Restores P t t a b
-  restores-none t a b e = record { restored = λ s o p h. subst (λ (n : ℕ). Same t s n) e h }
+  restores-none t a b e = record { restored = λ s o p h. subst (λ (n : ℕ). SameFront t s n) e h }
 
   pub restores-run : (t t′ ds : List ℕ) (at b : ℕ) → ((s : List ℕ) → Octets s → P s → Runs ds s at 0) → at + length ds ≤ length t → t′ ≡ splice t at ds → b ≡ at + length ds → Restores P t t′ at b
   restores-run t t′ ds at b f l e eb =
       record {
         restored =
             λ s o p h.
-            subst (λ (x : List ℕ). Same x s b) (sym e) (subst (λ (n : ℕ). Same (splice t at ds) s n) (sym eb) (same-run t s ds at l (f s o p) h));
+            subst (λ (x : List ℕ). SameFront x s b) (sym e) (subst (λ (n : ℕ). SameFront (splice t at ds) s n) (sym eb) (same-run t s ds at l (f s o p) h));
       }
 
 -- up to the same place by another name
@@ -70,7 +70,7 @@ restores-to P t t′ a b c f e = subst (λ (m : ℕ). Restores P t t′ a m) e f
 pub restores-more : (P : ℕ → List ℕ → Type 0) (n i : ℕ) (t₀ t t′ : List ℕ) (a b c d : ℕ)
     → i < n → Restores (Each n P) t₀ t a b → Restores (P i) t t′ b c → d ≡ c → Restores (Each n P) t₀ t′ a d
 restores-more P n i t₀ t t′ a b c d k f g e =
-    record { restored = λ s o p h. subst (λ (m : ℕ). Same t′ s m) (sym e) (g .restored s o (p .each i k) (f .restored s o p h)) }
+    record { restored = λ s o p h. subst (λ (m : ℕ). SameFront t′ s m) (sym e) (g .restored s o (p .each i k) (f .restored s o p h)) }
 
 -- the bytes of a number of one or two bytes
 module _ (s : List ℕ) (o : Octets s) where

@@ -60,13 +60,13 @@ pub record WholeGroup (e : Group) (at : ℕ) (s : List ℕ) : Type 0 where
   pub zeros : numAt s (at + 6) 2 ≡ 0
 
 -- t has the first n bytes of s
-pub record Same (t s : List ℕ) (n : ℕ) : Type 0 where
+pub record SameFront (t s : List ℕ) (n : ℕ) : Type 0 where
   pub long : length t ≡ length s
   pub front : (p : ℕ) → p < n → getD t p 0 ≡ getD s p 0
 
 -- if t has the bytes of a sheet up to a, then t′ has them up to b, of every sheet of which P holds
 pub record Restores (P : List ℕ → Type 0) (t t′ : List ℕ) (a b : ℕ) : Type 0 where
-  pub restored : (s : List ℕ) → Octets s → P s → Same t s a → Same t′ s b
+  pub restored : (s : List ℕ) → Octets s → P s → SameFront t s a → SameFront t′ s b
 
 pub record Each (n : ℕ) (P : ℕ → List ℕ → Type 0) (s : List ℕ) : Type 0 where
   pub each : (i : ℕ) → i < n → P i s

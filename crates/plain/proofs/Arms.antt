@@ -28,7 +28,7 @@ use Rattle.device.proofs.due.Given.{write-data, memory-data, user-data, bits-da
 use Rattle.parts.specs.declared.Parts.{Parts}
 use Rattle.plain.specs.declared.Sent.the-variants.{Nothing}
 use Rattle.plain.specs.declared.Reply.{Reply}
-use Rattle.plain.specs.Steps.{Requested, Gives, Serves}
+use Rattle.plain.specs.Steps.{ReadAs, Gives, Serves}
 use Rattle.plain.proofs.Agreed.{agreed}
 
 -- where the row of a service has no data, a request has none
@@ -52,7 +52,7 @@ no-data p a e r =
     let q : length a ≡ dataAt p = equal-is (length a) (dataAt p) .0 (subst (λ (y : Tail). suits y (dataAt p) (valuesOf p) (length a) ≡ true) e t) in
     nothing (drop (dataAt p) a) (length-drop (dataAt p) a ∙ omega (arith, q))
 
-read-as : (p : Pdu) (d : List ℕ) (x : Requested p d) → Reading (x .apdu) p
+read-as : (p : Pdu) (d : List ℕ) (x : ReadAs p d) → Reading (x .apdu) p
 read-as p d x = reading (x .apdu) p (x .reads)
 
 -- the arms
@@ -60,9 +60,9 @@ module _ (u : Parts) (level group : ℕ) (d : List ℕ) (r : Reply) (p q : Pdu) 
   pub with-data : Serves u d (λ s. decideOf s level group d q) r → Serves u d (λ s. decideOf s level group d p) r
   with-data g = subst (λ (x : Pdu). Serves u d (λ s. decideOf s level group d x) r) (sym e) g
 
-  module _ (x : Requested p d) where
-    own : Requested q d
-    own = subst (λ (y : Pdu). Requested y d) e x
+  module _ (x : ReadAs p d) where
+    own : ReadAs q d
+    own = subst (λ (y : Pdu). ReadAs y d) e x
 
     pub without-data :
         rowOf (serviceOf q) .tail ≡ none → Serves u [] (λ s. decideOf s level group [] q) r → Serves u d (λ s. decideOf s level group d p) r
@@ -73,9 +73,9 @@ module _ (u : Parts) (level group : ℕ) (d : List ℕ) (r : Reply) (p q : Pdu) 
   pub is-answer : ((s : List ℕ) → decideOf s level group d q ≡ refused 8) → Gives r 8 u Stays Nothing [] → Serves u d (λ s. decideOf s level group d p) r
   is-answer f g = with-data record { agrees = λ s ok o t. subst (λ k. Rattle.plain.specs.Steps.Agrees s d k r) (sym (f s)) (agreed (refused 8) g t) }
 
-module _ {p : Pdu} {d : List ℕ} (x : Requested p d) where
-  own-of : (q : Pdu) → p ≡ q → Requested q d
-  own-of q e = subst (λ (y : Pdu). Requested y d) e x
+module _ {p : Pdu} {d : List ℕ} (x : ReadAs p d) where
+  own-of : (q : Pdu) → p ≡ q → ReadAs q d
+  own-of q e = subst (λ (y : Pdu). ReadAs y d) e x
 
   pub short-data : (object id n t : ℕ) → p ≡ PropertyValueWrite object id n t → length d ≤ 14
   short-data object id n t e =

@@ -36,7 +36,7 @@ use Rattle.parts.specs.Again.{Roomy}
 use Rattle.parts.proofs.Back.{roomy, written-again}
 use Rattle.plain.specs.declared.Sent.{Sent}
 use Rattle.plain.specs.declared.Reply.{Reply}
-use Rattle.plain.specs.Steps.{Held, Requested, Agrees, Serves, sentOf, dataFor, left, sentBytes, Sendable, Carried}
+use Rattle.plain.specs.Steps.{Held, ReadAs, Agrees, Serves, sentOf, dataFor, left, sentBytes, Sendable, Carried}
 use Rattle.plain.proofs.Stored.{safe, left-bytes, left-accepted, left-long}
 
 -- what is sent is what the first engine answers, and fits the buffer
@@ -57,7 +57,7 @@ sends n s d (answer.Echo p) h f = (h, has-room p _ f)
 pub held : (s : List ℕ) (u : Parts) → Accepted s → Octets s → Taken s u → Held u
 held s u ok o t = record { sheet = s; ok = ok; bytes = o; taken = t }
 
-pub requested : (a : List ℕ) (z : Parsed) (p : Pdu) (d : List ℕ) → z ≡ readPdu a → z ≡ Is p → d ≡ dataOf p a → Requested p d
+pub requested : (a : List ℕ) (z : Parsed) (p : Pdu) (d : List ℕ) → z ≡ readPdu a → z ≡ Is p → d ≡ dataOf p a → ReadAs p d
 requested a z p d ez e ed = record { apdu = a; reads = sym ez ∙ e; given = ed }
 
 module _ (q : Sessions) (mode c group : ℕ) (a s o : List ℕ) (session : Session) (em : session ≡ sessionFor q mode c) where

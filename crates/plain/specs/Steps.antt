@@ -34,7 +34,7 @@ pub record Held (u : Parts) : Type 0 where
   pub taken : Taken sheet u
 
 -- d is the data of some request that reads as p
-pub record Requested (p : Pdu) (d : List ℕ) : Type 0 where
+pub record ReadAs (p : Pdu) (d : List ℕ) : Type 0 where
   pub apdu : List ℕ
   pub reads : readPdu apdu ≡ Is p
   pub given : d ≡ dataOf p apdu

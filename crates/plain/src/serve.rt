@@ -24,12 +24,12 @@ use sheet::Memory;
 ghost use mathlib.Core.Path.{_≡_};
 ghost use mathlib.Core.List.{List};
 ghost use Rattle.judge.specs.Judge.{decideOf};
-ghost use Rattle.plain.specs.Steps.{Held, Requested, Serves};
+ghost use Rattle.plain.specs.Steps.{Held, ReadAs, Serves};
 
 // At this level, with this data; the group address counts for group values alone. Answers to a tool do not come this far: they
 // were refused by 8 (order.rt).
 pub fn serve(u: Parts, level: u8, group: u16, d: &[u8], p: Pdu) -> Reply
-    requires { ⌜ Held u × Requested p (now d) ⌝ }
+    requires { ⌜ Held u × ReadAs p (now d) ⌝ }
     ensures { λ r. ⌜ Serves u (now (d .entry)) (λ s. decideOf s level group (now (d .entry)) p) r ⌝ }
 {
     match p {
