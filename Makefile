@@ -12,7 +12,8 @@ help:
 
 #: make run        the device at work on the sample sheet, for a person to read
 #: make test       every test, every proof, every edit that must be refused, every program
-# what is run side by side builds in folders of its own; what both need is there before
+# what mk/bin/beside runs side by side builds in folders of its own, and what both need is there before; where one make has all of
+# it, it goes by what needs what, two at a time
 test: need-tools
 	rt fmt --check
 	$(MAKE) --no-print-directory -s lint
@@ -20,7 +21,7 @@ test: need-tools
 	$(MAKE) --no-print-directory -s model
 	$(MAKE) --no-print-directory -s prove
 	$(MAKE) --no-print-directory -s sheet-check
-	$(MAKE) --no-print-directory -s test-unit test-text test-c points test-frames $(BUILD)/bridge
+	$(MAKE) --no-print-directory -s -j2 -O test-unit test-text test-c points test-frames $(BUILD)/bridge
 	mk/bin/beside $(MAKE) --no-print-directory -s test-firmware -- $(MAKE) --no-print-directory -s test-tools compare
 	$(MAKE) --no-print-directory -s figures test-deb test-python
 	mk/bin/beside $(MAKE) --no-print-directory -s test-page test-shims -- $(MAKE) --no-print-directory -s test-others
