@@ -26,10 +26,11 @@ use Rattle.judge.specs.Judge.{decideOf}
 use Rattle.judge.specs.declared.Turn.the-variants.{Stays}
 use Rattle.device.proofs.due.Given.{write-data, memory-data, user-data, bits-data}
 use Rattle.parts.specs.declared.Parts.{Parts}
-use Rattle.plain.specs.declared.Sent.the-variants.{Nothing}
-use Rattle.plain.specs.declared.Reply.{Reply}
-use Rattle.plain.specs.Steps.{ReadAs, Gives, Serves}
-use Rattle.plain.proofs.Agreed.{agreed}
+use Rattle.plain_services.specs.declared.Sent.the-variants.{Nothing}
+use Rattle.plain_services.specs.declared.Reply.{Reply}
+use Rattle.plain_services.specs.Steps.{Gives, Agrees, Serves}
+use Rattle.plain.specs.Carrying.{ReadAs}
+use Rattle.plain_services.proofs.Agreed.{agreed}
 
 -- where the row of a service has no data, a request has none
 last-test : (is : List Item) (x : List Value) (t : Bool) → under is x t ≡ true → t ≡ true
@@ -71,7 +72,7 @@ module _ (u : Parts) (level group : ℕ) (d : List ℕ) (r : Reply) (p q : Pdu) 
         with-data (subst (λ (y : List ℕ). Serves u y (λ s. decideOf s level group y q) r) (sym z) g)
 
   pub is-answer : ((s : List ℕ) → decideOf s level group d q ≡ refused 8) → Gives r 8 u Stays Nothing [] → Serves u d (λ s. decideOf s level group d p) r
-  is-answer f g = with-data record { agrees = λ s ok o t. subst (λ k. Rattle.plain.specs.Steps.Agrees s d k r) (sym (f s)) (agreed (refused 8) g t) }
+  is-answer f g = with-data record { agrees = λ s ok o t. subst (λ k. Agrees s d k r) (sym (f s)) (agreed (refused 8) g t) }
 
 module _ {p : Pdu} {d : List ℕ} (x : ReadAs p d) where
   own-of : (q : Pdu) → p ≡ q → ReadAs q d

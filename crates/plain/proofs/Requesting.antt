@@ -34,9 +34,10 @@ use Rattle.parts.specs.declared.Parts.{Parts}
 use Rattle.parts.specs.Records.{Taken}
 use Rattle.parts.specs.Again.{Roomy}
 use Rattle.parts.proofs.Back.{roomy, written-again}
-use Rattle.plain.specs.declared.Sent.{Sent}
-use Rattle.plain.specs.declared.Reply.{Reply}
-use Rattle.plain.specs.Steps.{Held, ReadAs, Agrees, Serves, sentOf, dataFor, left, sentBytes, Sendable, Carried}
+use Rattle.plain_services.specs.declared.Sent.{Sent}
+use Rattle.plain_services.specs.declared.Reply.{Reply}
+use Rattle.plain_services.specs.Steps.{Held, Agrees, Serves, sentOf, dataFor, left}
+use Rattle.plain.specs.Carrying.{ReadAs, sentBytes, Sendable, Carried}
 use Rattle.plain.proofs.Stored.{safe, left-bytes, left-accepted, left-long}
 
 -- what is sent is what the first engine answers, and fits the buffer

@@ -17,9 +17,9 @@ use Rattle.judge.specs.declared.Turn.the-variants.{Level}
 use Rattle.device.specs.Carry.{turnOf, Filled}
 use Rattle.device.specs.Sessions.{sessionFor, turnedOf}
 use Rattle.device.specs.declared.Sessions.{Sessions}
-use Rattle.plain.specs.declared.Sent.{Sent}
-use Rattle.plain.specs.declared.Sent.the-variants.{Nothing, This}
-use Rattle.plain.specs.Steps.{sentBytes, Sendable}
+use Rattle.plain_services.specs.declared.Sent.{Sent}
+use Rattle.plain_services.specs.declared.Sent.the-variants.{Nothing, This}
+use Rattle.plain.specs.Carrying.{sentBytes, Sendable}
 
 module _ (q : Sessions) (mode c l : ℕ) where
   pub level-none : (mode ≡ 3 → ⊥) → q ≡ turnedOf q mode c false (turnOf (sessionFor q mode c) (Level l))

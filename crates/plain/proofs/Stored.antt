@@ -42,7 +42,7 @@ use Rattle.device.proofs.leaves.Octet.{octets-data, octets-bits}
 use Rattle.device.proofs.leaves.Stores.{length-store}
 use Rattle.device.proofs.leaves.Keeping.{keeps-decided}
 use Rattle.device.proofs.calls.SafeEach.{safe-decided}
-use Rattle.plain.specs.Steps.{left}
+use Rattle.plain_services.specs.Steps.{left}
 
 -- a byte that is filled in is one
 abbrev Small : Store → Type 0

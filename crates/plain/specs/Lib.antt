@@ -1,5 +1,3 @@
-pub mod Steps
-pub mod Memory
-pub mod Described
 pub mod Order
+pub mod Carrying
 pub mod Same

@@ -1,15 +1,15 @@
 // A reply carried out: the sheet written again, the answer sent, the sessions afterwards.
-use crate::Reply;
-use crate::Sent;
 use crate::sessions::sessions_after;
 use device::Done;
 use device::Sessions;
+use plain_services::Reply;
+use plain_services::Sent;
 ghost use mathlib.Core.Path.{_≡_};
 ghost use Prim.Native.Nat.{_≤_};
 ghost use lib.ListN.{length, take};
 ghost use Rattle.device.specs.Carry.{Filled};
 ghost use Rattle.parts.specs.Again.{Roomy};
-ghost use Rattle.plain.specs.Steps.{Sendable, sentBytes, Carried};
+ghost use Rattle.plain.specs.Carrying.{Sendable, sentBytes, Carried};
 
 // The PDU with so many bytes of data, at the front of the buffer: how many bytes there are.
 fn send(answer: &mut [u8], sent: Sent, bytes: [u8; 14], size: usize) -> usize

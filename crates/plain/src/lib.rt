@@ -1,13 +1,6 @@
 // The plain engine: a sheet is taken apart into records, the rules are applied to the records, and the sheet is written again.
-mod addresses;
 mod carry;
-mod groups;
-mod keys;
-mod memory;
 mod order;
-mod properties;
-mod ranges;
-mod replies;
 mod serve;
 mod sessions;
 
@@ -15,33 +8,7 @@ ghost use mathlib.Core.Path.{_≡_};
 ghost use Rattle.device.specs.Events.{Called};
 use device::Done;
 use device::Sessions;
-use judge::Turn;
-use parts::Parts;
-use parts::Region;
 use pdu::Parsed;
-use pdu::Pdu;
-
-// What is sent: nothing, or this PDU.
-pub enum Sent {
-    Nothing,
-    This(Pdu),
-}
-
-// What a service gives: the outcome, the parts afterwards, what becomes of the session, the PDU that is sent, and its data.
-pub struct Reply {
-    pub outcome: u8,
-    pub parts: Parts,
-    pub turn: Turn,
-    pub sent: Sent,
-    pub bytes: [u8; 14],
-    pub size: usize,
-}
-
-// The regions of one memory.
-pub struct Area {
-    pub regions: [Region; 16],
-    pub count: usize,
-}
 
 // 3 to 10 and 14: sessions, sheet and answer buffer stay as they were.
 fn refused(sessions: Sessions, outcome: u8) -> Done

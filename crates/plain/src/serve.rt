@@ -1,30 +1,31 @@
 // What is done with a request that was read, by its service.
-use crate::Reply;
-use crate::addresses::address_read;
-use crate::addresses::address_write;
-use crate::addresses::descriptor;
-use crate::addresses::serial_read;
-use crate::addresses::serial_write;
-use crate::groups::group_read;
-use crate::groups::group_response;
-use crate::groups::group_write;
-use crate::keys::authorize;
-use crate::keys::key_write;
-use crate::keys::restart;
-use crate::memory::bit_write;
-use crate::memory::memory_read;
-use crate::memory::memory_write;
-use crate::properties::description;
-use crate::properties::property_read;
-use crate::properties::property_write;
-use crate::replies::silent;
 use parts::Parts;
 use pdu::Pdu;
+use plain_services::Reply;
+use plain_services::address_read;
+use plain_services::address_write;
+use plain_services::authorize;
+use plain_services::bit_write;
+use plain_services::description;
+use plain_services::descriptor;
+use plain_services::group_read;
+use plain_services::group_response;
+use plain_services::group_write;
+use plain_services::key_write;
+use plain_services::memory_read;
+use plain_services::memory_write;
+use plain_services::property_read;
+use plain_services::property_write;
+use plain_services::restart;
+use plain_services::serial_read;
+use plain_services::serial_write;
+use plain_services::silent;
 use sheet::Memory;
 ghost use mathlib.Core.Path.{_≡_};
 ghost use mathlib.Core.List.{List};
 ghost use Rattle.judge.specs.Judge.{decideOf};
-ghost use Rattle.plain.specs.Steps.{Held, ReadAs, Serves};
+ghost use Rattle.plain_services.specs.Steps.{Held, Serves};
+ghost use Rattle.plain.specs.Carrying.{ReadAs};
 
 // At this level, with this data; the group address counts for group values alone. Answers to a tool do not come this far: they
 // were refused by 8 (order.rt).

@@ -1,0 +1,40 @@
+-- What is served, and a reply carried out.
+-- Assumes nothing.
+use Prim.Native.Nat.{ℕ, _+_, _≤_}
+use mathlib.Core.Path.{_≡_}
+use mathlib.Core.List.{List, []}
+use lib.ListN.{length, take}
+use Rattle.pdu.specs.Read.{readPdu, dataOf, dataAt}
+use Rattle.pdu.specs.Write.{encoded}
+use Rattle.pdu.specs.declared.Pdu.{Pdu}
+use Rattle.pdu.specs.declared.Parsed.the-variants.{Is}
+use Rattle.device.specs.Carry.{turnOf, closes, Filled}
+use Rattle.device.specs.Sessions.{sessionFor, turnedOf}
+use Rattle.device.specs.declared.Sessions.{Sessions}
+use Rattle.device.specs.declared.Done.{Done}
+use Rattle.parts.specs.Again.{Restores, Whole}
+use Rattle.plain_services.specs.declared.Sent.{Sent}
+use Rattle.plain_services.specs.declared.Sent.the-variants.{Nothing, This}
+use Rattle.plain_services.specs.declared.Reply.{Reply}
+
+-- d is the data of some request that reads as p
+pub record ReadAs (p : Pdu) (d : List ℕ) : Type 0 where
+  pub apdu : List ℕ
+  pub reads : readPdu apdu ≡ Is p
+  pub given : d ≡ dataOf p apdu
+
+-- the bytes of what is sent, and that a buffer of n bytes takes them
+abbrev pub sentBytes : Sent → List ℕ → List ℕ
+sentBytes Nothing b = []
+sentBytes (This p) b = encoded p b
+
+abbrev pub Sendable : ℕ → Sent → List ℕ → Type 0
+Sendable n Nothing b = Unit {0}
+Sendable n (This p) b = (16 ≤ n) × (dataAt p + length b ≤ 16)
+
+-- A REPLY CARRIED OUT: the parts written to the sheet, the PDU to the buffer, and the sessions afterwards
+pub record Carried (q : Sessions) (mode c : ℕ) (r : Reply) (s o : List ℕ) (x : Done) (s′ o′ : List ℕ) : Type 0 where
+  pub outcome : x .outcome ≡ r .outcome
+  pub sheet : Restores (Whole (r .parts)) s s′ 0 (r .parts .length)
+  pub answer : Filled (sentBytes (r .sent) (take (r .size) (r .bytes))) (x .count) o o′
+  pub sessions : x .sessions ≡ turnedOf q mode c (closes (r .turn)) (turnOf (sessionFor q mode c) (r .turn))

@@ -1,0 +1,16 @@
+pub mod Agreed
+pub mod Finding
+pub mod Elements
+pub mod Entry
+pub mod PropertyWrites
+pub mod KeyWrites
+pub mod Regions
+pub mod MemoryRanges
+pub mod MemoryReads
+pub mod MemoryRuns
+pub mod MemoryWrites
+pub mod Authorizing
+pub mod Addressing
+pub mod PropertyReads
+pub mod Descriptions
+pub mod GroupValues

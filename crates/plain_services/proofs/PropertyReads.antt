@@ -1,0 +1,178 @@
+-- A property read on parts is that of the first engine.
+-- Assumes nothing.
+use Prim.Native.Nat.{ℕ, _+_, _*_, _-_, _≤_, _<_}
+use mathlib.Core.Path.{_≡_, refl, sym, ap₂, _∙_}
+use mathlib.Core.Bool.{Bool, true, false, cond, not, _&&_}
+use mathlib.Core.List.{List, []}
+use native.Mathlib.Omega.{arith}
+use lib.Dec.{lit<, ltb, leb}
+use lib.ListN.{length, getD, take, drop}
+use borrow.Author.Tests.{lt-ltb, le-ltb, le-leb, lt-leb, leb-true}
+use Rattle.octets.specs.Bytes.{bytesOf}
+use Rattle.octets.proofs.Truths.{and-is, never}
+use Rattle.sheet.specs.Kind.{properties}
+use Rattle.sheet.specs.Layout.{_of_}
+use Rattle.sheet.specs.Property as property
+use Rattle.sheet.specs.Entries.{count, entry, contents, bodyAt}
+use Rattle.sheet.specs.Rules.{Accepted}
+use Rattle.sheet.proofs.rules.Good.{good}
+use Rattle.sheet.proofs.places.BodyPlaces.{after-contents}
+use Rattle.pdu.specs.declared.Pdu.{Pdu}
+use Rattle.pdu.specs.declared.Pdu.the-variants.{PropertyValueResponse}
+use Rattle.judge.specs.declared.Decision.{Decision}
+use Rattle.judge.specs.declared.Turn.the-variants.{Stays}
+use Rattle.judge.specs.declared.Answer.the-variants as answer
+use Rattle.judge.specs.Decisions.{answered}
+use Rattle.judge.specs.Properties.{counted, elements, elementAt, noValue, propertyAt, readIn, propertyReadOf}
+use Rattle.octets.specs.Octets.{Octets}
+use Rattle.device.proofs.leaves.Accepted.{elements-within, count-below}
+use Rattle.parts.specs.declared.Property.{Property}
+use Rattle.parts.specs.declared.Parts.{Parts}
+use Rattle.parts.specs.Records.{Taken, noProperty}
+use Rattle.parts.proofs.Quoted.{same-part}
+use Rattle.plain_services.specs.declared.Sent.the-variants.{This}
+use Rattle.plain_services.specs.declared.Reply.{Reply}
+use Rattle.plain_services.specs.Steps.{Held, Gives, Serves}
+use Rattle.plain_services.proofs.Entry.{Fields, fields}
+use Rattle.plain_services.proofs.Agreed.{agreed, by-decision}
+
+-- the decision in terms of the record
+module _ (p : Property) (level object id n t : ℕ) where
+  abbrev answers : Pdu
+  answers = PropertyValueResponse object id n t
+
+  abbrev told : Decision
+  told = answered (answer.Number answers 2 (p .count))
+
+  abbrev shown : Decision
+  shown = answered (answer.Sheet answers (elementAt (p .offset) (p .element) t) (n * p .element))
+
+  abbrev shows : Bool
+  shows = elements n t (p .count) && leb (n * p .element) 10
+
+  in-terms :
+      (e : List ℕ) → Fields p e →
+      readIn e level object id n t ≡ cond (leb level (p .read)) (cond (counted n t) told (cond shows shown (noValue object id t))) (noValue object id t)
+  unfolding readIn
+  in-terms e f = rw (f .element, f .count, f .offset, f .read) refl
+
+pub first-element : (n t c z : ℕ) (f : Bool) → f ≡ (elements n t c && leb (n * z) 10) → not f ≡ false → 1 ≤ t
+first-element n t c z false e q = never (sym q)
+first-element n t c z true e q =
+    let x = and-is (elements n t c) (leb (n * z) 10) .0 (sym e) in
+    let y = and-is (leb 1 t && leb 1 n) (leb (t + n - 1) c) .0 (x .0) in
+    leb-true 1 t (and-is (leb 1 t) (leb 1 n) .0 (y .0) .0)
+
+-- n counted elements from element t on of property i
+module _ (u : Parts) (i n t : ℕ) where
+  abbrev pp : Property
+  pp = getD (u .properties) i noProperty
+
+  among : elements n t (pp .count) ≡ true → (1 ≤ t) × (1 ≤ n) × (t + n - 1 ≤ pp .count)
+  among a =
+      let x = and-is (leb 1 t && leb 1 n) (leb (t + n - 1) (pp .count)) .0 a in
+      let y = and-is (leb 1 t) (leb 1 n) .0 (x .0) in
+      (leb-true 1 t (y .0), leb-true 1 n (y .1), leb-true _ _ (x .1))
+
+  -- they lie among the bodies
+  inside :
+      (s : List ℕ) → Accepted s → Taken s u → i < u .sizes .properties → elements n t (pp .count) ≡ true →
+      (contents s ≤ elementAt (pp .offset) (pp .element) t) × (elementAt (pp .offset) (pp .element) t + n * pp .element ≤ length s)
+  unfolding bodyAt
+  inside s ok k h a =
+      let there : i < count s properties = omega (arith, k .sizes .properties) in
+      let f = fields s u i k there in
+      let g = good s ok in
+      let b = among a in
+      let w = elements-within g i there n t (b .0) (omega (arith, b .2, f .count, count-below g i there)) in
+      (omega (arith, f .offset, after-contents g properties i (lit< tt) there), rw (f .offset, f .element) at w)
+
+  pub room-shown :
+      (f : Bool) → Held u → i < u .sizes .properties → f ≡ (elements n t (pp .count) && leb (n * pp .element) 10) → not f ≡ false →
+      (a z : ℕ) → a ≡ elementAt (pp .offset) (pp .element) t → z ≡ n * pp .element →
+      (length (u .bodies) ≡ 16384) × (a + z ≤ 16384) × (z ≤ 14)
+  room-shown false k h e q a z ea ez = never (sym q)
+  room-shown true k h e q a z ea ez =
+      let m = and-is (elements n t (pp .count)) (leb (n * pp .element) 10) .0 (sym e) in
+      let x = inside (k .sheet) (k .ok) (k .taken) h (m .0) in
+      (k .taken .room, omega (arith, ea, ez, x .1, k .taken .sizes .short), omega (arith, ez, leb-true (n * pp .element) 10 (m .1)))
+
+module _ (u : Parts) (i level object id n t : ℕ) (r : Reply) where
+  abbrev p : Property
+  p = getD (u .properties) i noProperty
+
+  abbrev decides : List ℕ → Decision
+  decides s = readIn (entry s properties i) level object id n t
+
+  terms :
+      (s : List ℕ) → Taken s u → i < u .sizes .properties →
+      decides s ≡ cond (leb level (p .read)) (cond (counted n t) (told p level object id n t) (cond (shows p level object id n t) (shown p level object id n t) (noValue object id t))) (noValue object id t)
+  terms s k h = in-terms p level object id n t (entry s properties i) (fields s u i k (omega (arith, k .sizes .properties)))
+
+  pub not-readable :
+      i < u .sizes .properties → p .read < level → Gives r 11 u Stays (This (PropertyValueResponse object id 0 t)) [] → Serves u [] decides r
+  not-readable h l g =
+      record { agrees = λ s ok o k. by-decision _ (noValue object id t) (terms s k h ∙ rw (lt-leb level (p .read) l) refl) (agreed (noValue object id t) g k) }
+
+  pub count-told :
+      (c : Bool) → i < u .sizes .properties → level ≤ p .read → c ≡ counted n t → c ≡ true →
+      Gives r 0 u Stays (This (PropertyValueResponse object id n t)) (bytesOf 2 (p .count)) → Serves u [] decides r
+  count-told c h l e x g =
+      record {
+        agrees = λ s ok o k.
+            by-decision _ (told p level object id n t) (terms s k h ∙ rw (le-leb level (p .read) l, sym e ∙ x) refl)
+            (agreed (told p level object id n t) g k);
+      }
+
+  pub not-shown :
+      (c f : Bool) → i < u .sizes .properties → level ≤ p .read → c ≡ counted n t → c ≡ false →
+      f ≡ (elements n t (p .count) && leb (n * p .element) 10) → not f ≡ true →
+      Gives r 11 u Stays (This (PropertyValueResponse object id 0 t)) [] → Serves u [] decides r
+  not-shown c true h l e x b y g = never y
+  not-shown c false h l e x b y g =
+      record {
+        agrees = λ s ok o k.
+            by-decision _ (noValue object id t) (terms s k h ∙ rw (le-leb level (p .read) l, sym e ∙ x, sym b) refl) (agreed (noValue object id t) g k);
+      }
+
+  pub is-shown :
+      (c f : Bool) → i < u .sizes .properties → level ≤ p .read → c ≡ counted n t → c ≡ false →
+      f ≡ (elements n t (p .count) && leb (n * p .element) 10) → not f ≡ false →
+      (a z : ℕ) → a ≡ elementAt (p .offset) (p .element) t → z ≡ n * p .element →
+      Gives r 0 u Stays (This (PropertyValueResponse object id n t)) (take z (drop a (u .bodies))) → Serves u [] decides r
+  is-shown c false h l e x b y a z ea ez g = never (sym y)
+  is-shown c true h l e x b y a z ea ez g =
+      record {
+        agrees = λ s ok o k.
+            let w = inside u i n t s ok k h (and-is (elements n t (p .count)) (leb (n * p .element) 10) .0 (sym b) .0) in
+            let same = ap₂ (λ (m q : ℕ). take m (drop q (u .bodies))) ez ea ∙ same-part s u k (elementAt (p .offset) (p .element) t) (n * p .element) (w .0) (w .1) in
+            by-decision _ (shown p level object id n t) (terms s k h ∙ rw (le-leb level (p .read) l, sym e ∙ x, sym b) refl)
+            (agreed (shown p level object id n t) (rw same at g) k);
+      }
+
+-- by object and id
+module _ (u : Parts) (level object id n t : ℕ) (r : Reply) where
+  pub no-such :
+      (i : ℕ) → (i ≤ u .sizes .properties) × ((s : List ℕ) → Accepted s → Octets s → Taken s u → i ≡ propertyAt s object id) → u .sizes .properties ≤ i →
+      Gives r 11 u Stays (This (PropertyValueResponse object id 0 t)) [] → Serves u [] (λ s. propertyReadOf s level object id n t) r
+  unfolding propertyReadOf
+  no-such i f h g =
+      record {
+        agrees = λ s ok o k.
+            let l : count s properties ≤ propertyAt s object id = omega (arith, f .1 s ok o k, k .sizes .properties) in
+            let e : ltb (propertyAt s object id) (count s properties) ≡ false = le-ltb (propertyAt s object id) (count s properties) l in
+            by-decision _ (noValue object id t) (rw e refl) (agreed (noValue object id t) g k);
+      }
+
+  pub that-one :
+      (i : ℕ) → (i ≤ u .sizes .properties) × ((s : List ℕ) → Accepted s → Octets s → Taken s u → i ≡ propertyAt s object id) → i < u .sizes .properties →
+      Serves u [] (λ s. readIn (entry s properties i) level object id n t) r → Serves u [] (λ s. propertyReadOf s level object id n t) r
+  unfolding propertyReadOf
+  that-one i f h g =
+      record {
+        agrees = λ s ok o k.
+            let q = f .1 s ok o k in
+            let l : propertyAt s object id < count s properties = omega (arith, q, k .sizes .properties) in
+            let e : ltb (propertyAt s object id) (count s properties) ≡ true = lt-ltb (propertyAt s object id) (count s properties) l in
+            by-decision _ (readIn (entry s properties i) level object id n t) (rw (e, ← q) refl) (g .agrees s ok o k);
+      }

@@ -1,0 +1,237 @@
+-- A property write on parts is that of the first engine.
+-- Assumes nothing.
+use Prim.Native.Nat.{ℕ, _+_, _*_, _-_, _≤_, _<_, max}
+use mathlib.Core.Path.{_≡_, refl, sym, subst, _∙_}
+use mathlib.Core.Bool.{Bool, true, false, cond, not, _&&_}
+use mathlib.Core.List.{List, []}
+use native.Mathlib.Omega.{arith}
+use native.Mathlib.Nat.{mul-le-mul-right}
+use lib.Dec.{lit<, ltb, leb, eqb}
+use lib.ListN.{length, getD}
+use borrow.Author.Tests.{lt-ltb, le-ltb, leb-true, eqb-true}
+use Rattle.octets.specs.Bytes.{numAt, bytesOf}
+use Rattle.octets.specs.Splice.{splice}
+use Rattle.octets.proofs.Numbers.{bytes-zero}
+use Rattle.octets.proofs.Splices.{length-splice, splice-below}
+use Rattle.octets.proofs.Truths.{and-is, never}
+use Rattle.sheet.specs.Kind.{properties}
+use Rattle.sheet.specs.Layout.{_of_}
+use Rattle.sheet.specs.Property as property
+use Rattle.sheet.specs.Entries.{count, place, base, entry, contents, bodyAt, bodyEnd}
+use Rattle.sheet.specs.Rules.{Accepted, entryDemands}
+use Rattle.sheet.proofs.rules.Good.{good}
+use Rattle.sheet.proofs.places.BodyPlaces.{within, after-contents}
+use Rattle.pdu.specs.declared.Pdu.the-variants.{PropertyValueResponse}
+use Rattle.judge.specs.declared.Decision.{Decision}
+use Rattle.judge.specs.declared.Store.the-variants as store
+use Rattle.judge.specs.declared.Turn.the-variants.{Stays}
+use Rattle.judge.specs.declared.Answer.the-variants as answer
+use Rattle.judge.specs.Decisions.{written}
+use Rattle.judge.specs.Properties.{counted, elements, elementAt, jumped, noValue, propertyAt, writeIn, propertyWriteOf}
+use Rattle.octets.specs.Octets.{Octets}
+use Rattle.device.specs.Carry.{padded}
+use Rattle.device.proofs.leaves.Stores.{length-padded}
+use Rattle.parts.specs.declared.Property.{Property}
+use Rattle.parts.specs.declared.Parts.{Parts}
+use Rattle.parts.specs.Records.{Taken, noProperty}
+use Rattle.plain_services.specs.declared.Sent.the-variants.{This}
+use Rattle.plain_services.specs.declared.Reply.{Reply}
+use Rattle.plain_services.specs.Steps.{Held, Gives, Serves}
+use Rattle.parts.specs.With.{withCount, withBodies}
+use Rattle.parts.proofs.Changed.{bodies-changed, count-changed, property-base, property-count}
+use Rattle.plain_services.proofs.Entry.{Fields, fields}
+use Rattle.plain_services.proofs.Agreed.{agreed, by-decision}
+
+-- the decision in terms of the record
+module _ (p : Property) (at level object id n t : ℕ) (d : List ℕ) where
+  abbrev pub mayWrite : Bool
+  mayWrite = p .writable && leb level (p .write)
+
+  abbrev pub clears : Bool
+  clears = counted n t && eqb (length d) 2 && eqb (numAt d 0 2) 0
+
+  abbrev pub fills : Bool
+  fills = elements n t (p .maximum) && eqb (length d) (n * p .element)
+
+  abbrev cleared : Decision
+  cleared = written (store.Fill (at + 6) 2 0) store.Nothing (answer.Echo (PropertyValueResponse object id n t))
+
+  abbrev filled : Decision
+  filled =
+      written (store.Data (jumped (p .count) t * p .element) (elementAt (p .offset) (p .element) (t - jumped (p .count) t)))
+      (store.Number (at + 6) 2 (max (p .count) (t + n - 1))) (answer.Echo (PropertyValueResponse object id n t))
+
+  in-terms : (e : List ℕ) → Fields p e → writeIn e at level object id n t d ≡ cond mayWrite (cond clears cleared (cond fills filled (noValue object id t))) (noValue object id t)
+  unfolding writeIn
+  in-terms e f = rw (f .writable, f .element, f .maximum, f .count, f .offset, f .write) refl
+
+-- the parts of a sheet, and elements of property i
+module _ (u : Parts) (i n t : ℕ) (d : List ℕ) where
+  abbrev pp : Property
+  pp = getD (u .properties) i noProperty
+
+  there : (s : List ℕ) → Taken s u → i < u .sizes .properties → i < count s properties
+  there s k h = omega (arith, k .sizes .properties)
+
+  -- the elements that are jumped and the data lie in the property's body
+  module _ (s : List ℕ) (ok : Accepted s) (k : Taken s u) (h : i < u .sizes .properties) (a : elements n t (pp .maximum) ≡ true) (b : length d ≡ n * pp .element) where
+    abbrev from : ℕ
+    from = elementAt (pp .offset) (pp .element) (t - jumped (pp .count) t)
+
+    abbrev zeros : ℕ
+    zeros = jumped (pp .count) t * pp .element
+
+    among : (1 ≤ t) × (1 ≤ n) × (t + n - 1 ≤ pp .maximum)
+    among =
+        let x = and-is (leb 1 t && leb 1 n) (leb (t + n - 1) (pp .maximum)) .0 a in
+        let y = and-is (leb 1 t) (leb 1 n) .0 (x .0) in
+        (leb-true 1 t (y .0), leb-true 1 n (y .1), leb-true _ _ (x .1))
+
+    ends : from + (zeros + length d) ≤ pp .offset + pp .element * pp .maximum
+    ends =
+        let x = among in
+        let y : t - jumped (pp .count) t - 1 + jumped (pp .count) t + n ≤ pp .maximum = omega (arith, x .0, x .1, x .2) in
+        omega (arith, b, mul-le-mul-right (pp .element) y)
+
+    body : (contents s ≤ pp .offset) × (pp .offset + pp .element * pp .maximum ≤ length s)
+    unfolding bodyAt bodyEnd
+    body =
+        let g = good s ok in
+        let f = fields s u i k (there s k h) in
+        let x = after-contents g properties i (lit< tt) (there s k h) in
+        let y = within g properties i (lit< tt) (there s k h) in
+        let q : property.element of entry s properties i * property.maximum of entry s properties i ≡ pp .element * pp .maximum = rw (f .element, f .maximum) refl in
+        (omega (arith, f .offset), omega (arith, f .offset, q))
+
+    pub inside : (contents s ≤ from) × (from + (zeros + length d) ≤ length s)
+    inside = (omega (arith, body .0), omega (arith, body .1, ends))
+
+    -- the sheet with the run and the new count
+    pub both-stored :
+        {v v′ : Parts} {c : ℕ} → v ≡ withBodies u (splice (u .bodies) from (padded zeros d)) → c ≡ max (pp .count) (t + n - 1) → v′ ≡ withCount v i c →
+        Taken (splice (splice s from (padded zeros d)) (place s properties i + 6) (bytesOf 2 (max (pp .count) (t + n - 1)))) v′
+    unfolding entryDemands
+    both-stored {v} {v′} {c} ev ec ev′ =
+        let ds : List ℕ = padded zeros d in
+        let l : length ds ≡ zeros + length d = length-padded zeros d in
+        let fit : from + length ds ≤ length s = omega (arith, inside .1) in
+        let s₁ : List ℕ = splice s from ds in
+        let one : Taken s₁ v = subst (λ (x : Parts). Taken s₁ x) (sym ev) (bodies-changed s u k from ds (inside .0) fit) in
+        let low : (q : ℕ) → q < 32 → getD s₁ q 0 ≡ getD s q 0 = λ q b. splice-below s from ds fit q (omega (arith, inside .0)) in
+        let lng : length s₁ ≡ length s = length-splice s from ds fit in
+        let f = fields s u i k (there s k h) in
+        let g = good s ok .entries properties i (lit< tt) (there s k h) in
+        let small : c < 65536 = omega (arith, ec, among, f .maximum, f .count, g) in
+        let two = count-changed s₁ v one i c (omega (arith, property-count s s₁ lng low, there s k h)) small in
+        let at : base s₁ properties + 12 * i + 6 ≡ place s properties i + 6 = omega (arith, property-base s s₁ lng low) in
+        rw (← ec, ev′, ← at) two
+
+  -- what carrying it out needs
+  pub room-for :
+      (f : Bool) → Held u → i < u .sizes .properties → f ≡ (elements n t (pp .maximum) && eqb (length d) (n * pp .element)) → not f ≡ false →
+      (length (u .bodies) ≡ 16384) × (1 ≤ t) × (elementAt (pp .offset) (pp .element) (t - jumped (pp .count) t) + (jumped (pp .count) t * pp .element + length d) ≤ 16384)
+  room-for false k h b z = never (sym z)
+  room-for true k h b z =
+      let m = and-is (elements n t (pp .maximum)) (eqb (length d) (n * pp .element)) .0 (sym b) in
+      let x = inside (k .sheet) (k .ok) (k .taken) h (m .0) (eqb-true _ _ (m .1)) in
+      let y = among (k .sheet) (k .ok) (k .taken) h (m .0) (eqb-true _ _ (m .1)) in
+      (k .taken .room, y .0, omega (arith, x .1, k .taken .sizes .short))
+
+  pub last-fits : (f : Bool) → Held u → i < u .sizes .properties → f ≡ (elements n t (pp .maximum) && eqb (length d) (n * pp .element)) → not f ≡ false → (1 ≤ n) × (t + n - 1 ≤ pp .maximum)
+  last-fits false k h b z = never (sym z)
+  last-fits true k h b z =
+      let m = and-is (elements n t (pp .maximum)) (eqb (length d) (n * pp .element)) .0 (sym b) in
+      let y = among (k .sheet) (k .ok) (k .taken) h (m .0) (eqb-true _ _ (m .1)) in
+      (y .1, y .2)
+
+-- the parts of a sheet
+module _ (u : Parts) (i level object id n t : ℕ) (d : List ℕ) (r : Reply) where
+  abbrev p : Property
+  p = getD (u .properties) i noProperty
+
+  abbrev decides : List ℕ → Decision
+  decides s = writeIn (entry s properties i) (place s properties i) level object id n t d
+
+  terms : (s : List ℕ) → Taken s u → i < u .sizes .properties →
+      decides s ≡ cond (mayWrite p (place s properties i) level object id n t d) (cond (clears p (place s properties i) level object id n t d) (cleared p (place s properties i) level object id n t d) (cond (fills p (place s properties i) level object id n t d) (filled p (place s properties i) level object id n t d) (noValue object id t))) (noValue object id t)
+  terms s k h = in-terms p (place s properties i) level object id n t d (entry s properties i) (fields s u i k (there u i n t d s k h))
+
+  pub not-writable :
+      (w : Bool) → i < u .sizes .properties → w ≡ (p .writable && leb level (p .write)) → not w ≡ true →
+      Gives r 11 u Stays (This (PropertyValueResponse object id 0 t)) [] → Serves u d decides r
+  not-writable true h e q g = never q
+  not-writable false h e q g =
+      record { agrees = λ s ok o k. by-decision _ (noValue object id t) (terms s k h ∙ rw (sym e) refl) (agreed (noValue object id t) g k) }
+
+  pub is-clear :
+      (w c : Bool) → i < u .sizes .properties → w ≡ (p .writable && leb level (p .write)) → not w ≡ false →
+      c ≡ (counted n t && eqb (length d) 2 && eqb (numAt d 0 2) 0) → c ≡ true →
+      (v : Parts) → v ≡ withCount u i 0 → Gives r 0 v Stays (This (PropertyValueResponse object id n t)) d → Serves u d decides r
+  is-clear false c h e q f x v ev g = never (sym q)
+  is-clear true c h e q f x v ev g =
+      record {
+        agrees = λ s ok o k.
+            by-decision _ (cleared p (place s properties i) level object id n t d) (terms s k h ∙ rw (sym e, sym f ∙ x) refl)
+            (agreed (cleared p (place s properties i) level object id n t d) g
+            (subst (λ (x : List ℕ). Taken (splice s (place s properties i + 6) x) v) (bytes-zero 2)
+            (subst (λ (x : Parts). Taken (splice s (place s properties i + 6) (bytesOf 2 0)) x) (sym ev) (count-changed s u k i 0 (there u i n t d s k h) (omega arith)))));
+      }
+
+  pub not-there :
+      (w c f : Bool) → i < u .sizes .properties → w ≡ (p .writable && leb level (p .write)) → not w ≡ false →
+      c ≡ (counted n t && eqb (length d) 2 && eqb (numAt d 0 2) 0) → c ≡ false →
+      f ≡ (elements n t (p .maximum) && eqb (length d) (n * p .element)) → not f ≡ true →
+      Gives r 11 u Stays (This (PropertyValueResponse object id 0 t)) [] → Serves u d decides r
+  not-there false c f h e q a x b y g = never (sym q)
+  not-there true c true h e q a x b y g = never y
+  not-there true c false h e q a x b y g =
+      record { agrees = λ s ok o k. by-decision _ (noValue object id t) (terms s k h ∙ rw (sym e, sym a ∙ x, sym b) refl) (agreed (noValue object id t) g k) }
+
+  -- A WRITE OF ELEMENTS
+  pub is-filled :
+      (w c f : Bool) → i < u .sizes .properties → w ≡ (p .writable && leb level (p .write)) → not w ≡ false →
+      c ≡ (counted n t && eqb (length d) 2 && eqb (numAt d 0 2) 0) → c ≡ false →
+      f ≡ (elements n t (p .maximum) && eqb (length d) (n * p .element)) → not f ≡ false →
+      (v v′ : Parts) (x : ℕ) →
+      v ≡ withBodies u (splice (u .bodies) (elementAt (p .offset) (p .element) (t - jumped (p .count) t)) (padded (jumped (p .count) t * p .element) d)) →
+      x ≡ max (p .count) (t + n - 1) → v′ ≡ withCount v i x →
+      Gives r 0 v′ Stays (This (PropertyValueResponse object id n t)) d → Serves u d decides r
+  is-filled false c f h e q a y b z v v′ x ev ex ev′ g = never (sym q)
+  is-filled true c false h e q a y b z v v′ x ev ex ev′ g = never (sym z)
+  is-filled true c true h e q a y b z v v′ x ev ex ev′ g =
+      let m = and-is (elements n t (p .maximum)) (eqb (length d) (n * p .element)) .0 (sym b) in
+      record {
+        agrees = λ s ok o k.
+            by-decision _ (filled p (place s properties i) level object id n t d) (terms s k h ∙ rw (sym e, sym a ∙ y, sym b) refl)
+            (agreed (filled p (place s properties i) level object id n t d) g (both-stored u i n t d s ok k h (m .0) (eqb-true _ _ (m .1)) ev ex ev′));
+      }
+
+pub few : (u : Parts) (i : ℕ) → Held u → i < u .sizes .properties → i < 64
+few u i k h = omega (arith, k .taken .sizes .fewProperties)
+
+-- by object and id
+module _ (u : Parts) (level object id n t : ℕ) (d : List ℕ) (r : Reply) where
+  pub none-named :
+      (i : ℕ) → (i ≤ u .sizes .properties) × ((s : List ℕ) → Accepted s → Octets s → Taken s u → i ≡ propertyAt s object id) → u .sizes .properties ≤ i →
+      Gives r 11 u Stays (This (PropertyValueResponse object id 0 t)) [] → Serves u d (λ s. propertyWriteOf s level object id n t d) r
+  unfolding propertyWriteOf
+  none-named i f h g =
+      record {
+        agrees = λ s ok o k.
+            let l : count s properties ≤ propertyAt s object id = omega (arith, f .1 s ok o k, k .sizes .properties) in
+            let e : ltb (propertyAt s object id) (count s properties) ≡ false = le-ltb (propertyAt s object id) (count s properties) l in
+            by-decision _ (noValue object id t) (rw e refl) (agreed (noValue object id t) g k);
+      }
+
+  pub one-named :
+      (i : ℕ) → (i ≤ u .sizes .properties) × ((s : List ℕ) → Accepted s → Octets s → Taken s u → i ≡ propertyAt s object id) → i < u .sizes .properties →
+      Serves u d (λ s. writeIn (entry s properties i) (place s properties i) level object id n t d) r → Serves u d (λ s. propertyWriteOf s level object id n t d) r
+  unfolding propertyWriteOf
+  one-named i f h g =
+      record {
+        agrees = λ s ok o k.
+            let q = f .1 s ok o k in
+            let l : propertyAt s object id < count s properties = omega (arith, q, k .sizes .properties) in
+            let e : ltb (propertyAt s object id) (count s properties) ≡ true = lt-ltb (propertyAt s object id) (count s properties) l in
+            by-decision _ (writeIn (entry s properties i) (place s properties i) level object id n t d) (rw (e, ← q) refl) (g .agrees s ok o k);
+      }

@@ -1,0 +1,263 @@
+-- Regions as records are the regions of the sheet.
+-- Assumes nothing.
+use Prim.Native.Nat.{ℕ, zero, suc, _+_, _-_, _/_, _%_, _≤_, _<_}
+use mathlib.Core.Path.{_≡_, refl, sym, ap, ap₂, subst, _∙_}
+use mathlib.Core.Bool.{Bool, true, false, cond, not, _&&_}
+use mathlib.Core.List.{List}
+use native.Mathlib.Omega.{arith}
+use native.Mathlib.Decide.{decLt}
+use native.Mathlib.Nat.{add-zero}
+use lib.Dec.{lit≤, ltb, leb}
+use lib.ListN.{length, getD}
+use borrow.Author.Tests.{lt-ltb, le-ltb, le-leb, lt-leb, leb-true}
+use Rattle.octets.proofs.Tests.{both}
+use Rattle.sheet.proofs.places.Levels.{common-reading, common-writing}
+use Rattle.octets.specs.Bytes.{numAt}
+use Rattle.octets.proofs.Truths.{never, and-is}
+use Rattle.sheet.specs.Kind.{regions, users, kindOf}
+use Rattle.sheet.specs.Layout.{Field, _of_}
+use Rattle.sheet.specs.Region as region
+use Rattle.sheet.specs.Entries.{count, place, entry}
+use Rattle.sheet.specs.Lookup.{seek, covers, placeOf, common, joined, rangeOf, runIn}
+use Rattle.sheet.specs.declared.Memory.{Memory}
+use Rattle.sheet.specs.declared.Memory.the-variants.{Device, User}
+use Rattle.sheet.specs.declared.Run.{Run}
+use Rattle.sheet.specs.declared.Run.the-variants.{At, Nowhere}
+use Rattle.sheet.proofs.searches.FrontSearch.{seek-first, seek-none, seek-same, seek-passes}
+use Rattle.sheet.proofs.places.Standing.{field-at}
+use Rattle.sheet.proofs.places.Longer.{range-suc}
+use Rattle.sheet.proofs.searches.Regions.{not-both}
+use Rattle.judge.specs.declared.Access.{Access}
+use Rattle.judge.specs.declared.Access.the-variants.{Read, Write, Change}
+use Rattle.judge.specs.Memory.{may, runAllowed, runAt, responseOf}
+use Rattle.pdu.specs.declared.Pdu.{Pdu}
+use Rattle.plain_services.specs.Steps.{Held}
+use Rattle.parts.specs.declared.Region.{Region}
+use Rattle.parts.specs.declared.Parts.{Parts}
+use Rattle.parts.specs.Records.{IsRegion, Taken, noRegion}
+use Rattle.plain_services.specs.Memory.{has, mayIn, regionWith, placeIn, allowedAt, allAllowed, IsArea}
+
+pub via-may : (w w′ : Access) (level : ℕ) (e : Region) (r : Bool) → w ≡ w′ → r ≡ mayIn w′ level e → r ≡ mayIn w level e
+via-may w w′ level e r q h = rw q h
+
+pub found-first :
+    (rs : List Region) (n y i : ℕ) → i < n → has (getD rs i noRegion) y ≡ true → ((j : ℕ) → j < i → has (getD rs j noRegion) y ≡ false) → i ≡ regionWith rs n y
+unfolding regionWith
+found-first rs n y i h e f = sym (seek-first (λ j. has (getD rs j noRegion) y) n i h e f)
+
+pub found-none : (rs : List Region) (n y : ℕ) → ((j : ℕ) → j < n → has (getD rs j noRegion) y ≡ false) → n ≡ regionWith rs n y
+unfolding regionWith
+found-none rs n y f = sym (seek-none (λ j. has (getD rs j noRegion) y) n (λ j h e. never (sym (f j h) ∙ e)))
+
+pub is-yes : (r t : Bool) → r ≡ t → not r ≡ false → t ≡ true
+is-yes true t e q = sym e
+is-yes false t e q = never (sym q)
+
+pub is-no : (r t : Bool) → r ≡ t → not r ≡ true → t ≡ false
+is-no true t e q = never q
+is-no false t e q = sym e
+
+-- one address
+module _ (rs : List Region) (n : ℕ) (w : Access) (level y i : ℕ) (f : (i ≤ n) × (i ≡ regionWith rs n y)) where
+  pub nowhere-allowed : n ≤ i → false ≡ allowedAt rs n w level y
+  unfolding allowedAt
+  nowhere-allowed h = rw (← (f .1), le-ltb i n h) refl
+
+  pub here-allowed : i < n → (r : Bool) → r ≡ mayIn w level (getD rs i noRegion) → r ≡ allowedAt rs n w level y
+  unfolding allowedAt
+  here-allowed h r e = rw (← (f .1), lt-ltb i n h) e
+
+-- all addresses so far
+module _ (rs : List Region) (n : ℕ) (w : Access) (level a : ℕ) where
+  pub none-yet : allAllowed rs n w level a 0 ≡ true
+  unfolding allAllowed
+  none-yet = refl
+
+  pub one-more-allowed : (i : ℕ) → allAllowed rs n w level a i ≡ true → allowedAt rs n w level (a + i) ≡ true → allAllowed rs n w level a (i + 1) ≡ true
+  one-more-allowed i e f = ap (allAllowed rs n w level a) (omega arith) ∙ next
+    where
+      next : allAllowed rs n w level a (suc i) ≡ true
+      next = unfold allAllowed in rw (e, f) refl
+
+  stays-denied : (i m : ℕ) → i ≤ m → allAllowed rs n w level a i ≡ false → allAllowed rs n w level a m ≡ false
+  stays-denied i zero h e = subst (λ (x : ℕ). allAllowed rs n w level a x ≡ false) (omega arith) e
+  stays-denied i (suc m) h e = go (decLt m i) (λ l. stays-denied i m l e)
+    where
+      go : Dec (m < i) → (i ≤ m → allAllowed rs n w level a m ≡ false) → allAllowed rs n w level a (suc m) ≡ false
+      go (yes l) f = subst (λ (x : ℕ). allAllowed rs n w level a x ≡ false) (omega arith) e
+      go (no l) f = unfold allAllowed in rw (f (omega arith)) refl
+
+  pub one-denied : (i m : ℕ) → i < m → allAllowed rs n w level a i ≡ true → allowedAt rs n w level (a + i) ≡ false → false ≡ allAllowed rs n w level a m
+  one-denied i m h e f =
+      let next : allAllowed rs n w level a (suc i) ≡ false = (unfold allAllowed in rw (e, f) refl) in
+      sym (stays-denied (suc i) m (omega arith) next)
+
+pub device-area : (s : List ℕ) (u : Parts) → Taken s u → IsArea s Device (u .regions) (u .sizes .regions)
+device-area s u t = record { many = t .sizes .regions; each = λ i h. t .regions i (omega (arith, t .sizes .regions)) }
+
+pub user-area : (s : List ℕ) (u : Parts) → Taken s u → IsArea s User (u .users) (u .sizes .users)
+user-area s u t = record { many = t .sizes .users; each = λ i h. t .users i (omega (arith, t .sizes .users)) }
+
+-- the entry e of a region has the fields of r
+record Fields (r : Region) (e : List ℕ) : Type 0 where
+  address : region.address of e ≡ r .address
+  long : region.length of e ≡ r .length
+  offset : region.offset of e ≡ r .offset
+  read : region.levels of e / 16 ≡ r .read
+  write : region.levels of e % 16 ≡ r .write
+
+fields-by : (s : List ℕ) (k i : ℕ) (r : Region) →
+    ((f : Field) → f .at + f .width ≤ 8 → f of entry s k i ≡ numAt s (place s k i + f .at) (f .width)) → IsRegion r s (place s k i) → Fields r (entry s k i)
+fields-by s k i r f p =
+    record {
+      address = f region.address (lit≤ tt) ∙ ap (λ (x : ℕ). numAt s x 2) (add-zero (place s k i)) ∙ sym (p .address);
+      long = f region.length (lit≤ tt) ∙ sym (p .long);
+      offset = f region.offset (lit≤ tt) ∙ sym (p .offset);
+      read = ap (λ (x : ℕ). x / 16) (f region.levels (lit≤ tt)) ∙ sym (p .read);
+      write = ap (λ (x : ℕ). x % 16) (f region.levels (lit≤ tt)) ∙ sym (p .write);
+    }
+
+-- a run permits an access
+abbrev pub permitted : Access → ℕ → Run → Bool
+permitted w level Nowhere = false
+permitted w level (At o l) = may w level l
+
+module _ (s : List ℕ) (m : Memory) (rs : List Region) (n : ℕ) (r : IsArea s m rs n) where
+  fields : (i : ℕ) → i < n → Fields (getD rs i noRegion) (entry s (kindOf m) i)
+  fields i h = fields-by s (kindOf m) i _ (go m) (r .each i h)
+    where
+      go : (m : Memory) (f : Field) → f .at + f .width ≤ 8 → f of entry s (kindOf m) i ≡ numAt s (place s (kindOf m) i + f .at) (f .width)
+      go Device f l = field-at s regions i f l
+      go User f l = field-at s users i f l
+
+  has-covers : (y j : ℕ) → j < n → has (getD rs j noRegion) y ≡ covers (entry s (kindOf m) j) y
+  unfolding covers
+  has-covers y j h = let f = fields j h in rw (f .address, f .long) refl
+
+  seek-is : (y : ℕ) → regionWith rs n y ≡ seek (λ j. covers (entry s (kindOf m) j) y) 0 (count s (kindOf m))
+  unfolding regionWith
+  seek-is y = seek-same _ _ 0 n (λ j l h. has-covers y j (omega arith)) ∙ ap (seek (λ j. covers (entry s (kindOf m) j) y) 0) (r .many)
+
+  may-is : (w : Access) (level i : ℕ) → i < n → mayIn w level (getD rs i noRegion) ≡ may w level (region.levels of entry s (kindOf m) i)
+  may-is Read level i h = let f = fields i h in rw (f .read) refl
+  may-is Write level i h = let f = fields i h in rw (f .write) refl
+  may-is Change level i h = let f = fields i h in rw (f .read, f .write) refl
+
+  -- ONE ADDRESS
+  pub one-is : (w : Access) (level y : ℕ) → allowedAt rs n w level y ≡ permitted w level (placeOf s m y)
+  unfolding allowedAt placeOf
+  one-is w level y = go (regionWith rs n y) refl (decLt (regionWith rs n y) n)
+    where
+      go : (i : ℕ) → regionWith rs n y ≡ i → Dec (i < n) →
+          (ltb i n && mayIn w level (getD rs i noRegion))
+          ≡ permitted w level
+          (cond (ltb (seek (λ j. covers (entry s (kindOf m) j) y) 0 (count s (kindOf m))) (count s (kindOf m)))
+          (runIn (entry s (kindOf m) (seek (λ j. covers (entry s (kindOf m) j) y) 0 (count s (kindOf m)))) y) Nowhere)
+      go i e (yes h) = rw (← (seek-is y), e, ← (r .many), lt-ltb i n h) (may-is w level i h)
+      go i e (no h) = rw (← (seek-is y), e, ← (r .many), le-ltb i n (omega arith)) refl
+
+-- MANY ADDRESSES
+same-truth : (a b : Bool) → (a ≡ true → b ≡ true) → (b ≡ true → a ≡ true) → a ≡ b
+same-truth true b f g = sym (f refl)
+same-truth false true f g = g refl
+same-truth false false f g = refl
+
+read-common : (level l k : ℕ) → leb level (common l k / 16) ≡ (leb level (l / 16) && leb level (k / 16))
+read-common level l k =
+    same-truth _ _
+    (λ e. let h = common-reading l k level .0 (leb-true _ _ e) in both _ _ (le-leb _ _ (h .0)) (le-leb _ _ (h .1)))
+    (λ e. let h = and-is (leb level (l / 16)) (leb level (k / 16)) .0 e in le-leb _ _ (common-reading l k level .1 (leb-true _ _ (h .0), leb-true _ _ (h .1))))
+
+write-common : (level l k : ℕ) → leb level (common l k % 16) ≡ (leb level (l % 16) && leb level (k % 16))
+write-common level l k =
+    same-truth _ _
+    (λ e. let h = common-writing l k level .0 (leb-true _ _ e) in both _ _ (le-leb _ _ (h .0)) (le-leb _ _ (h .1)))
+    (λ e. let h = and-is (leb level (l % 16)) (leb level (k % 16)) .0 e in le-leb _ _ (common-writing l k level .1 (leb-true _ _ (h .0), leb-true _ _ (h .1))))
+
+crossed : (a b c d : Bool) → ((a && b) && (c && d)) ≡ ((a && c) && (b && d))
+crossed true true true d = refl
+crossed true true false d = refl
+crossed true false true d = refl
+crossed true false false d = refl
+crossed false b c d = refl
+
+may-common : (w : Access) (level l k : ℕ) → may w level (common l k) ≡ (may w level l && may w level k)
+may-common Read level l k = read-common level l k
+may-common Write level l k = write-common level l k
+may-common Change level l k =
+    rw (read-common level l k, write-common level l k) (crossed (leb level (l / 16)) (leb level (k / 16)) (leb level (l % 16)) (leb level (k % 16)))
+
+and-false : (a : Bool) → (a && false) ≡ false
+and-false true = refl
+and-false false = refl
+
+permitted-joined : (w : Access) (level : ℕ) (r q : Run) → permitted w level (joined r q) ≡ (permitted w level r && permitted w level q)
+permitted-joined w level (At o l) (At p k) = may-common w level l k
+permitted-joined w level (At o l) Nowhere = sym (and-false (may w level l))
+permitted-joined w level Nowhere q = refl
+
+pub allowed-is : (w : Access) (most level n : ℕ) (r : Run) → runAllowed w most level n r ≡ (leb 1 n && leb n most && permitted w level r)
+allowed-is w most level n Nowhere = sym (and-false (leb 1 n && leb n most))
+allowed-is w most level n (At o l) = refl
+
+module _ (s : List ℕ) (m : Memory) (rs : List Region) (n : ℕ) (r : IsArea s m rs n) (w : Access) (level a : ℕ) where
+  all-are : (i : ℕ) → allAllowed rs n w level a (suc i) ≡ permitted w level (rangeOf s m a (suc i))
+  all-are zero = unfold allAllowed in unfold rangeOf in (one-is s m rs n r w level (a + 0) ∙ ap (λ (y : ℕ). permitted w level (placeOf s m y)) (add-zero a))
+  all-are (suc i) =
+      let ih = all-are i in
+      let o = one-is s m rs n r w level (a + suc i) in
+      let j = permitted-joined w level (rangeOf s m a (suc i)) (placeOf s m (a + suc i)) in
+      let step : allAllowed rs n w level a (suc (suc i)) ≡ (allAllowed rs n w level a (suc i) && allowedAt rs n w level (a + suc i)) = (unfold allAllowed in refl) in
+      step ∙ ap₂ _&&_ ih o ∙ sym j ∙ ap (permitted w level) (sym (range-suc s m a i))
+
+  pub all-is : (most i : ℕ) → 1 ≤ i → i ≤ most → allAllowed rs n w level a i ≡ runAllowed w most level i (rangeOf s m a i)
+  all-is most zero h l = absurd (omega arith)
+  all-is most (suc i) h l = all-are i ∙ sym (allowed-is w most level (suc i) (rangeOf s m a (suc i)) ∙ rw (le-leb 1 (suc i) h, le-leb (suc i) most l) refl)
+
+pub none-named : (w : Access) (most level n : ℕ) (r : Run) → n < 1 → false ≡ runAllowed w most level n r
+none-named w most level n r h = sym (allowed-is w most level n r ∙ rw (lt-leb 1 n h) refl)
+
+pub too-many : (w : Access) (most level n : ℕ) (r : Run) → most < n → false ≡ runAllowed w most level n r
+too-many w most level n r h = sym (allowed-is w most level n r ∙ rw (lt-leb n most h, and-false (leb 1 n)) refl)
+
+pub via-response : (m j : Memory) (n a : ℕ) (r : Pdu) → m ≡ j → r ≡ responseOf j n a → r ≡ responseOf m n a
+via-response m j n a r e h = h ∙ ap (λ (x : Memory). responseOf x n a) (sym e)
+
+-- WHERE AN ADDRESS STANDS
+module _ (rs : List Region) (n y i : ℕ) (f : (i ≤ n) × (i ≡ regionWith rs n y)) where
+  pub place-none : n ≤ i → 0 ≡ placeIn rs n y
+  unfolding placeIn
+  place-none h = rw (← (f .1), le-ltb i n h) refl
+
+  pub place-there : i < n → getD rs i noRegion .offset + (y - getD rs i noRegion .address) ≡ placeIn rs n y
+  unfolding placeIn
+  place-there h = rw (← (f .1), lt-ltb i n h) refl
+
+  pub below-address : i < n → getD rs i noRegion .address ≤ y
+  unfolding regionWith
+  below-address h =
+      let e : has (getD rs i noRegion) y ≡ true = rw (← (f .1)) at (seek-passes (λ j. has (getD rs j noRegion) y) n (rw (f .1) at h)) in
+      leb-true _ _ (and-is (leb (getD rs i noRegion .address) y) (ltb y (getD rs i noRegion .address + getD rs i noRegion .length)) .0 e .0)
+
+module _ (u : Parts) where
+  pub device-here : (m : Memory) → m ≡ Device → ((s : List ℕ) → Taken s u → IsArea s m (u .regions) (u .sizes .regions)) × (Held u → u .sizes .regions ≤ 16)
+  device-here m e = rw e (λ s t. device-area s u t, λ k. k .taken .sizes .fewRegions)
+
+  pub user-here : (m : Memory) → m ≡ User → ((s : List ℕ) → Taken s u → IsArea s m (u .users) (u .sizes .users)) × (Held u → u .sizes .users ≤ 16)
+  user-here m e = rw e (λ s t. user-area s u t, λ k. k .taken .sizes .fewUsers)
+
+-- AN ADDRESS STANDS WHERE THE SHEET HAS IT
+module _ (s : List ℕ) (m : Memory) (rs : List Region) (n : ℕ) (r : IsArea s m rs n) where
+  pub place-at : (y p l : ℕ) → placeOf s m y ≡ At p l → placeIn rs n y ≡ p
+  unfolding placeOf placeIn
+  place-at y p l = go (regionWith rs n y) refl (decLt (regionWith rs n y) n)
+    where
+      go : (i : ℕ) → regionWith rs n y ≡ i → Dec (i < n) →
+          cond (ltb (seek (λ j. covers (entry s (kindOf m) j) y) 0 (count s (kindOf m))) (count s (kindOf m)))
+          (runIn (entry s (kindOf m) (seek (λ j. covers (entry s (kindOf m) j) y) 0 (count s (kindOf m)))) y) Nowhere
+          ≡ At p l →
+          cond (ltb i n) (getD rs i noRegion .offset + (y - getD rs i noRegion .address)) 0 ≡ p
+      go i e (yes h) =
+          let f = fields s m rs n r i h in
+          rw (← (seek-is s m rs n r y), e, ← (r .many), lt-ltb i n h, f .offset, f .address) (λ q. ap runAt q)
+      go i e (no h) = rw (← (seek-is s m rs n r y), e, ← (r .many), le-ltb i n (omega arith)) (λ q. absurd (not-both q))

@@ -1,0 +1,15 @@
+-- `plain_services::addresses::address_read` meets its contract.
+-- Assumes nothing.
+use borrow.Author.Needs.{needs}
+use Rattle.plain_services.proofs.Addressing.{address-shown, address-hidden}
+use Rattle.plain_services.proofs.addresses.address_read.Statement.{statement}
+use Rattle.plain_services.proofs.addresses.address_read.Tie as tie
+
+pub address-read-spec : {M : Type 1} → statement M
+address-read-spec =
+    tie.close
+    (tie.spec
+    (λ c κs. search needs)
+    (λ c. address-shown _ _ (search needs) (c .sending .ensures))
+    (λ c κs. search needs)
+    (λ c. address-hidden _ _ (search needs) (c .silent .ensures)))

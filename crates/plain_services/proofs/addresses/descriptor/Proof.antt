@@ -1,0 +1,18 @@
+-- `plain_services::addresses::descriptor` meets its contract.
+-- Assumes nothing.
+use borrow.Author.Needs.{needs}
+use native.Mathlib.Omega.{arith}
+use Rattle.plain_services.proofs.Addressing.{mask-told, no-type, type-passed}
+use Rattle.plain_services.proofs.addresses.descriptor.Statement.{statement}
+use Rattle.plain_services.proofs.addresses.descriptor.Tie as tie
+
+pub descriptor-spec : {M : Type 1} → statement M
+descriptor-spec =
+    tie.close
+    (tie.spec
+    (λ c κs. search needs)
+    (λ c. mask-told _ _ _ (omega arith) (c .telling .ensures))
+    (λ c κs. search needs)
+    (λ c. no-type _ _ _ (search needs) (omega arith) (c .sending .ensures))
+    (λ c κs. search needs)
+    (λ c. type-passed _ _ _ (search needs) (search needs) (c .silent .ensures)))

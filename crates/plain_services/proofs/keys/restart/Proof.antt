@@ -1,0 +1,13 @@
+-- `plain_services::keys::restart` meets its contract.
+-- Assumes nothing.
+use borrow.Author.Needs.{needs}
+use Rattle.plain_services.proofs.Authorizing.{restarted}
+use Rattle.plain_services.proofs.keys.restart.Statement.{statement}
+use Rattle.plain_services.proofs.keys.restart.Tie as tie
+
+pub restart-spec : {M : Type 1} → statement M
+restart-spec =
+    tie.close
+    (tie.spec
+    (λ c κs. search needs) (λ c κs. search needs)
+    (λ c. restarted _ _ _ (c .before .without-programming .ensures) (c .closing .ensures)))

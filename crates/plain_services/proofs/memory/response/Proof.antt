@@ -1,0 +1,12 @@
+-- `plain_services::memory::response` meets its contract.
+-- Assumes nothing.
+use borrow.Author.Needs.{needs}
+use Rattle.plain_services.proofs.Regions.{via-response}
+use Rattle.plain_services.proofs.memory.response.Statement.{statement}
+use Rattle.plain_services.proofs.memory.response.Tie as tie
+
+pub response-spec : {M : Type 1} → statement M
+response-spec =
+    tie.close
+    (tie.spec
+    (λ c. search needs) (λ c. search needs) (λ c. search via-response) (λ c. search via-response))
