@@ -10,12 +10,20 @@ own=$(mk/bin/processor)
 mkdir -p "$out"
 missing=()
 
+# what a program that measures the stack says; it takes long in an emulator, so it runs once
+said_by() { # PROGRAM
+    local said=$out/${1//\//-}.said
+    [ -s "$said" ] || "$1" > "$said"
+    cat "$said"
+}
+rm -f "$out"/*.said
+
 # what each tool says, in plain lines: processor, name, number
 {
     for archive in "$host" "$tool"; do
         size "$archive" | awk -v name="${archive##*/}" 'NR > 1 { n += $1 + $2 } END { print "x86-64", name, n + 0 }'
     done
-    "$stack" | sed -n 's/^stack: kelindap_\(.*[a-z]\)  *\([0-9]*\) bytes$/\1=\2/p' | sed 's/, _/+/; s/ //g; s/=/ /' |
+    said_by "$stack" | sed -n 's/^stack: kelindap_\(.*[a-z]\)  *\([0-9]*\) bytes$/\1=\2/p' | sed 's/, _/+/; s/ //g; s/=/ /' |
         sed 's/^/x86-64 /'
     for p in "${processors[@]}"; do
         mk/bin/sizes "$p" | awk -v p="$p" '{
@@ -38,7 +46,7 @@ of() { make --no-print-directory -s PROCESSOR="$processor" "$@" > /dev/null; }
         taken='?'
         if mk/bin/can "$processor" > /dev/null; then
             of "$folder/stack"
-            taken=$("$folder/stack" | sed -n 's/.*kelindap_request *\([0-9]*\) bytes$/\1/p')
+            taken=$(said_by "$folder/stack" | sed -n 's/.*kelindap_request *\([0-9]*\) bytes$/\1/p')
         fi
         # shellcheck disable=SC2016 # the marks are the document's
         printf '| `%s` |' "$processor"
