@@ -163,8 +163,8 @@ static void send_on(host *h, int i, const uint8_t *packet, size_t length)
         hang_up(h, i);
 }
 
-/* Whether a line has a frame that the device sends: one to a group or to all every line, another that on which its destination
-   speaks. */
+/* Whether a line hears a frame of the device: if it goes to a group or to all, every line does; else the one on which its
+   destination speaks. */
 static bool hears(const line *l, const uint8_t *frame)
 {
     uint16_t destination = (uint16_t)(frame[6] << 8 | frame[7]);
