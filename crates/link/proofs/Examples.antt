@@ -47,12 +47,18 @@ pub heard-examples :
     × (hears two (to 0x12 0x03 0x11 0x05 0x44) ≡ Request 3 1 0x1105)
     × (hears one (to 0x12 0x03 0x11 0x05 0x44) ≡ Nothing 61 255)
     × (hears one (to 0x12 0x03 0x11 0x05 0x03) ≡ Request 2 255 0x1105)
-    × (hears two (to 0x11 0xFF 0x11 0x06 0x80) ≡ Nothing 60 255)
-    × (hears two (to 0x11 0xFF 0x11 0x06 0xC2) ≡ Nothing 60 255)
     × (hears two (to 0x11 0xFF 0x11 0x05 0xC2) ≡ Nothing 45 0)
     × (hears two (to 0x12 0x03 0x11 0x05 0xC0) ≡ Nothing 44 1)
     × (hears two (group 0x08 0x01 0x00) ≡ Request 0 255 0x0801)
     × (hears two (group 0x00 0x00 0x00) ≡ Request 1 255 0)
     × (hears two (group 0x08 0x01 0x80) ≡ Nothing 44 0)
 unfolding heardOf heardGot judged forUs meant onPlace connects disconnects placeOf placeFor freeOf readFrame refusalOf standardOf meaningOf toGroup toOne control numbered numAt
-heard-examples = (refl, refl, refl, refl, refl, refl, refl, refl, refl, refl, refl, refl, refl, refl, refl, refl)
+heard-examples = (refl, refl, refl, refl, refl, refl, refl, refl, refl, refl, refl, refl, refl, refl)
+
+-- to the addresses below and above its own
+pub neighbours-examples :
+    (hears two (to 0x11 0xFF 0x11 0x04 0x80) ≡ Nothing 60 255)
+    × (hears two (to 0x11 0xFF 0x11 0x06 0x80) ≡ Nothing 60 255)
+    × (hears two (to 0x11 0xFF 0x11 0x06 0xC2) ≡ Nothing 60 255)
+unfolding heardOf heardGot judged forUs readFrame refusalOf standardOf numAt
+neighbours-examples = (refl, refl, refl)

@@ -102,7 +102,7 @@ module _ (k : Link) (own : ℕ) (b : List ℕ) where
   other-device i n = go (eqb refusal 0)
     where
       go : (t : Bool) → (n : ℕ) × (heardGot k own (cond t (got.Is (frameIn b)) (got.Refused refusal)) ≡ Nothing n nobody)
-      go true = (60, simp (lt-leb 128 (fieldsIn b .control2) i, ne-eqb (fieldsIn b .destination) own n))
+      go true = (60, simp (lt-leb 128 (fieldsIn b .control2) i, ne-eqb (fieldsIn b .destination) own n, ne-eqb own (fieldsIn b .destination) (λ e. n (sym e))))
       go false = (refusal, refl)
 
 -- what asks for nothing asks for no restart
