@@ -23,7 +23,7 @@ use Rattle.judge.specs.declared.Decision.{Decision}
 use Rattle.judge.specs.Decisions.{refused}
 use Rattle.judge.specs.Session.{levelIn}
 use Rattle.judge.specs.Modes.{reachOf, reaches, takes}
-use Rattle.judge.specs.Judge.{dataIn, decideOf, reachedOf, foundOf, isShut, judgeOf}
+use Rattle.judge.specs.Judge.{dataIn, decideOf, reachedOf, foundOf, isShut, checkedOf, judgeOf}
 
 pub via-data : (x : Parsed) (p : Pdu) (a d : List ℕ) → x ≡ Is p → d ≡ dataOf p a → d ≡ dataIn x a
 via-data x p a d e h = h ∙ ap (λ (y : Parsed). dataIn y a) (sym e)
@@ -69,7 +69,29 @@ module _ (s : List ℕ) (q : Session) (mode group : ℕ) (a : List ℕ) (r : Dec
         r ≡ foundOf s q mode group a f
     listed k ed c x d e ed-is c-is x-is d-is g = simp (e, ← ed-is, ← c-is) (g a x-is d-is)
 
-  -- in the order of the outcomes
+  -- on a sheet that is not refused, in the order of the outcomes
+  pub too-short : length a < 2 → r ≡ refused 5 → r ≡ checkedOf s q mode group a
+  too-short h g = simp (lt-ltb _ _ h) g
+
+  module _ (two : 2 ≤ length a) where
+    pub too-long : 16 < length a → r ≡ refused 5 → r ≡ checkedOf s q mode group a
+    too-long h g = simp (le-ltb _ _ two, lt-ltb _ _ h) g
+
+    module _ (most : length a ≤ 16) where
+      pub no-mode : 3 < mode → r ≡ refused 6 → r ≡ checkedOf s q mode group a
+      no-mode h g = simp (le-ltb _ _ two, le-ltb _ _ most, lt-ltb _ _ h) g
+
+      module _ (known : mode ≤ 3) (c : Bool) (c-is : c ≡ isShut q mode) where
+        pub shut : c ≡ true → r ≡ refused 7 → r ≡ checkedOf s q mode group a
+        shut h g = simp (le-ltb _ _ two, le-ltb _ _ most, le-ltb _ _ known, ← c-is, h) g
+
+        pub by-code :
+            c ≡ false → (f : Found) (x : Parsed) (d : List ℕ) → f ≡ serviceAt (codeOf a) → x ≡ readPdu a → d ≡ dataIn x a →
+            ((a : List ℕ) → x ≡ readPdu a → d ≡ dataIn x a → r ≡ foundOf s q mode group a f) → r ≡ checkedOf s q mode group a
+        by-code h f x d f-is x-is d-is g =
+            simp (le-ltb _ _ two, le-ltb _ _ most, le-ltb _ _ known, ← c-is, h, ← f-is) (g a x-is d-is)
+
+  -- the buffer and the sheet before them
   module _ (room : ℕ) where
     pub no-room : room < 16 → r ≡ refused 3 → r ≡ judgeOf room s q mode group a
     unfolding judgeOf
@@ -80,34 +102,6 @@ module _ (s : List ℕ) (q : Session) (mode group : ℕ) (a : List ℕ) (r : Dec
       unfolding judgeOf
       not-accepted h g = rw (← n-is) (simp (le-ltb _ _ roomy, ne-eqb n 0 h) g)
 
-      module _ (good : n ≡ 0) where
-        ok : refusalOf s ≡ 0
-        ok = sym n-is ∙ good
-
-        pub too-short : length a < 2 → r ≡ refused 5 → r ≡ judgeOf room s q mode group a
-        unfolding judgeOf
-        too-short h g = simp (le-ltb _ _ roomy, ok, lt-ltb _ _ h) g
-
-        module _ (two : 2 ≤ length a) where
-          pub too-long : 16 < length a → r ≡ refused 5 → r ≡ judgeOf room s q mode group a
-          unfolding judgeOf
-          too-long h g = simp (le-ltb _ _ roomy, ok, le-ltb _ _ two, lt-ltb _ _ h) g
-
-          module _ (most : length a ≤ 16) where
-            pub no-mode : 3 < mode → r ≡ refused 6 → r ≡ judgeOf room s q mode group a
-            unfolding judgeOf
-            no-mode h g = simp (le-ltb _ _ roomy, ok, le-ltb _ _ two, le-ltb _ _ most, lt-ltb _ _ h) g
-
-            module _ (known : mode ≤ 3) (c : Bool) (c-is : c ≡ isShut q mode) where
-              pub shut : c ≡ true → r ≡ refused 7 → r ≡ judgeOf room s q mode group a
-              unfolding judgeOf
-              shut h g =
-                  simp (le-ltb _ _ roomy, ok, le-ltb _ _ two, le-ltb _ _ most, le-ltb _ _ known, ← c-is, h) g
-
-              pub by-code :
-                  c ≡ false → (f : Found) (x : Parsed) (d : List ℕ) → f ≡ serviceAt (codeOf a) → x ≡ readPdu a → d ≡ dataIn x a →
-                  ((a : List ℕ) → x ≡ readPdu a → d ≡ dataIn x a → r ≡ foundOf s q mode group a f) → r ≡ judgeOf room s q mode group a
-              unfolding judgeOf
-              by-code h f x d f-is x-is d-is g =
-                  simp (le-ltb _ _ roomy, ok, le-ltb _ _ two, le-ltb _ _ most, le-ltb _ _ known, ← c-is, h, ← f-is)
-                  (g a x-is d-is)
+      pub on-checks : n ≡ 0 → r ≡ checkedOf s q mode group a → r ≡ judgeOf room s q mode group a
+      unfolding judgeOf
+      on-checks good g = simp (le-ltb _ _ roomy, sym n-is ∙ good) g

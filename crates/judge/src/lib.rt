@@ -17,7 +17,7 @@ ghost use Rattle.sheet.specs.Rules.{Accepted};
 ghost use Rattle.pdu.specs.Rules.{codeOf};
 ghost use Rattle.pdu.specs.Table.{serviceAt};
 ghost use Rattle.pdu.specs.Read.{readPdu};
-ghost use Rattle.judge.specs.Judge.{dataIn, isShut, reachedOf, foundOf, judgeOf};
+ghost use Rattle.judge.specs.Judge.{dataIn, isShut, reachedOf, foundOf, checkedOf, judgeOf};
 use decisions::refused;
 use levels::CONNECTED;
 use levels::level_in;
@@ -155,18 +155,11 @@ fn found(s: &[u8], x: Request, d: &[u8]) -> Decision
     }
 }
 
-// What is decided about a request of that APDU, with its data: room is the length of the answer buffer.
-pub fn judge(room: usize, s: &[u8], x: Request, apdu: &[u8], d: &[u8]) -> Decision
-    requires { ⌜ (x .found ≡ serviceAt (codeOf (now apdu))) × (x .parsed ≡ readPdu (now apdu)) × (now d ≡ dataIn (x .parsed) (now apdu)) ⌝ }
-    ensures { λ r. ⌜ r ≡ judgeOf room (now (s .entry)) (x .session) (x .mode) (x .group) (now (apdu .entry)) ⌝ }
+// On a sheet that is not refused: 5, 6 and 7, then by what the code names.
+fn checked(s: &[u8], x: Request, apdu: &[u8], d: &[u8]) -> Decision
+    requires { ⌜ Accepted (now s) × (x .found ≡ serviceAt (codeOf (now apdu))) × (x .parsed ≡ readPdu (now apdu)) × (now d ≡ dataIn (x .parsed) (now apdu)) ⌝ }
+    ensures { λ r. ⌜ r ≡ checkedOf (now (s .entry)) (x .session) (x .mode) (x .group) (now (apdu .entry)) ⌝ }
 {
-    if room < 16 {
-        return refused(3);
-    }
-    let n = sheet::refusal(s);
-    if n != 0 {
-        return refused(n);
-    }
     if apdu.len() < 2 {
         return refused(5);
     }
@@ -181,4 +174,19 @@ pub fn judge(room: usize, s: &[u8], x: Request, apdu: &[u8], d: &[u8]) -> Decisi
         return refused(7);
     }
     found(s, x, d)
+}
+
+// What is decided about a request of that APDU, with its data: room is the length of the answer buffer.
+pub fn judge(room: usize, s: &[u8], x: Request, apdu: &[u8], d: &[u8]) -> Decision
+    requires { ⌜ (x .found ≡ serviceAt (codeOf (now apdu))) × (x .parsed ≡ readPdu (now apdu)) × (now d ≡ dataIn (x .parsed) (now apdu)) ⌝ }
+    ensures { λ r. ⌜ r ≡ judgeOf room (now (s .entry)) (x .session) (x .mode) (x .group) (now (apdu .entry)) ⌝ }
+{
+    if room < 16 {
+        return refused(3);
+    }
+    let n = sheet::refusal(s);
+    if n != 0 {
+        return refused(n);
+    }
+    checked(s, x, apdu, d)
 }
