@@ -71,13 +71,7 @@ fn regions_from(s: &[u8], at: usize, n: usize) -> [Region; 16]
     requires { ⌜ (n ≤ 16) × (at + 8 * n ≤ length (now s)) × (length (now s) ≤ 16384) ⌝ }
     ensures { λ r. ⌜ ((i : ℕ) → i < n → IsRegion (getD r i noRegion) (now (s .entry)) (at + 8 * i)) ⌝ }
 {
-    let none = Region {
-        address: 0,
-        length: 0,
-        offset: 0,
-        read: 0,
-        write: 0,
-    };
+    let none = region(&[0u8; 8], 0);
     let mut r = [none; 16];
     let mut i = 0;
     while i < n {
@@ -92,18 +86,7 @@ fn properties_from(s: &[u8], at: usize, n: usize) -> [Property; 64]
     requires { ⌜ (n ≤ 64) × (at + 12 * n ≤ length (now s)) × (length (now s) ≤ 16384) ⌝ }
     ensures { λ r. ⌜ (length r ≡ 64) × ((i : ℕ) → i < n → IsProperty (getD r i noProperty) (now (s .entry)) (at + 12 * i)) ⌝ }
 {
-    let none = Property {
-        object: 0,
-        id: 0,
-        writable: false,
-        typ: 0,
-        element: 0,
-        maximum: 0,
-        count: 0,
-        offset: 0,
-        read: 0,
-        write: 0,
-    };
+    let none = property(&[0u8; 12], 0);
     let mut r = [none; 64];
     let mut i = 0;
     while i < n {
@@ -118,14 +101,7 @@ fn groups_from(s: &[u8], at: usize, n: usize) -> [Group; 64]
     requires { ⌜ (n ≤ 64) × (at + 8 * n ≤ length (now s)) × (length (now s) ≤ 16384) ⌝ }
     ensures { λ r. ⌜ ((i : ℕ) → i < n → IsGroup (getD r i noGroup) (now (s .entry)) (at + 8 * i)) ⌝ }
 {
-    let none = Group {
-        address: 0,
-        code: 0,
-        read: false,
-        write: false,
-        response: false,
-        offset: 0,
-    };
+    let none = group(&[0u8; 8], 0);
     let mut r = [none; 64];
     let mut i = 0;
     while i < n {

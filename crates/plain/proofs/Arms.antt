@@ -92,18 +92,8 @@ module _ {p : Pdu} {d : List ℕ} (x : ReadAs p d) where
   bits-long n address e = let y = own-of _ e in ap length (y .given) ∙ bits-data (y .apdu) n address (read-as _ d y)
 
 -- the modes
-pub via-request : (k j : Service) (r : Bool) → k ≡ j → ((n : ℕ) → r ≡ reaches (reachOf n j)) → (n : ℕ) → r ≡ reaches (reachOf n k)
-via-request k j r e h n = h n ∙ ap (λ (x : Service). reaches (reachOf n x)) (sym e)
-
 pub via-taken : (k j : Service) (n m : ℕ) (r : Bool) → k ≡ j → r ≡ takes (reachOf n j) m → r ≡ takes (reachOf n k) m
 via-taken k j n m r e h = h ∙ ap (λ (x : Service). takes (reachOf n x) m) (sym e)
-
-pub restart-reaches : (n : ℕ) → true ≡ reaches (reachOf n Restart)
-restart-reaches n = go (eqb n 1)
-  where
-    go : (t : Bool) → true ≡ reaches (cond t PointToPoint Connected)
-    go true = refl
-    go false = refl
 
 module _ (rules mode : ℕ) (r : Bool) where
   pub restart-two : rules ≡ 1 → r ≡ takes (reachOf 1 DeviceDescriptorRead) mode → r ≡ takes (reachOf rules Restart) mode

@@ -22,6 +22,9 @@ use Rattle.judge.specs.declared.Decision.{Decision}
 use Rattle.judge.specs.Decisions.{refused}
 use Rattle.judge.specs.Session.{levelIn}
 use Rattle.judge.specs.Modes.{reachOf, reaches, takes}
+use Rattle.judge.specs.declared.Reach.{Reach}
+use Rattle.judge.specs.declared.Reach.the-variants.{Multicast, Broadcast, PointToPoint, Connected, Never}
+use Rattle.octets.proofs.Truths.{never}
 use Rattle.judge.specs.Judge.{isShut, readOf, reachedOf, foundOf, judgeOf}
 use Rattle.parts.specs.declared.Parts.{Parts}
 use Rattle.parts.specs.Records.{Taken}
@@ -103,6 +106,21 @@ pub rules-as : (s : List ℕ) (u : Parts) → Taken s u → u .head .rules ≡ r
 unfolding rulesOf
 rules-as s u t = t .front .rules
 
+-- a service is a request if some mode takes it
+some-mode : (r : Reach) (m : ℕ) → takes r m ≡ true → reaches r ≡ true
+some-mode Multicast m e = refl
+some-mode Broadcast m e = refl
+some-mode PointToPoint m e = refl
+some-mode Connected m e = refl
+some-mode Never m e = never e
+
+no-mode : (r : Reach) → takes r 0 ≡ false → takes r 1 ≡ false → takes r 3 ≡ false → reaches r ≡ false
+no-mode Multicast a b c = never (sym a)
+no-mode Broadcast a b c = never (sym b)
+no-mode PointToPoint a b c = never (sym c)
+no-mode Connected a b c = never (sym c)
+no-mode Never a b c = refl
+
 -- as the code tests
 module _ (room n l mode : ℕ) (shut : Bool) where
   pub due-3 : room < 16 → 3 ≡ firstOf room n l mode shut
@@ -123,35 +141,38 @@ module _ (room n l mode : ℕ) (shut : Bool) where
       due-5 a = simp (le-ltb room 16 h, fine, lt-ltb l 2 a)
 
       module _ (a : 2 ≤ l) where
-        pub due-5-long : 16 < l → 5 ≡ firstOf room n l mode shut
+        pub due-5-long : ltb 16 l ≡ true → 5 ≡ firstOf room n l mode shut
         unfolding firstOf
-        due-5-long b = simp (le-ltb room 16 h, fine, le-ltb l 2 a, lt-ltb 16 l b)
+        due-5-long b = simp (le-ltb room 16 h, fine, le-ltb l 2 a, b)
 
-        module _ (b : l ≤ 16) where
+        module _ (b : ltb 16 l ≡ false) where
           pub due-6 : 3 < mode → 6 ≡ firstOf room n l mode shut
           unfolding firstOf
-          due-6 c = simp (le-ltb room 16 h, fine, le-ltb l 2 a, le-ltb 16 l b, lt-ltb 3 mode c)
+          due-6 c = simp (le-ltb room 16 h, fine, le-ltb l 2 a, b, lt-ltb 3 mode c)
 
           module _ (c : mode ≤ 3) (y : Bool) (ey : y ≡ shut) where
             pub due-7 : y ≡ true → 7 ≡ firstOf room n l mode shut
             unfolding firstOf
-            due-7 d = simp (le-ltb room 16 h, fine, le-ltb l 2 a, le-ltb 16 l b, le-ltb 3 mode c, sym ey ∙ d)
+            due-7 d = simp (le-ltb room 16 h, fine, le-ltb l 2 a, b, le-ltb 3 mode c, sym ey ∙ d)
 
             pub due-none : y ≡ false → 0 ≡ firstOf room n l mode shut
             unfolding firstOf
-            due-none d = simp (le-ltb room 16 h, fine, le-ltb l 2 a, le-ltb 16 l b, le-ltb 3 mode c, sym ey ∙ d)
+            due-none d = simp (le-ltb room 16 h, fine, le-ltb l 2 a, b, le-ltb 3 mode c, sym ey ∙ d)
 
 module _ (f : Found) (rules mode : ℕ) where
   pub next-unknown : f ≡ Unknown → 8 ≡ nextOf f rules mode
   next-unknown e = simp e
 
-  module _ (k : Service) (e : f ≡ Listed k) (b : Bool) (eb : (n : ℕ) → b ≡ reaches (reachOf n k)) where
-    pub next-answer : not b ≡ true → 8 ≡ nextOf f rules mode
-    next-answer h = simp (e, sym (eb rules), h)
+  module _ (k : Service) (e : f ≡ Listed k) (t : Bool) (et : t ≡ takes (reachOf rules k) mode) where
+    pub next-none : t ≡ true → 0 ≡ nextOf f rules mode
+    next-none y = simp (e, some-mode (reachOf rules k) mode (sym et ∙ y), sym et ∙ y)
 
-    module _ (h : not b ≡ false) (t : Bool) (et : t ≡ takes (reachOf rules k) mode) where
-      pub next-mode : not t ≡ true → 9 ≡ nextOf f rules mode
-      next-mode m = simp (e, sym (eb rules), h, sym et, m)
+    module _ (n : t ≡ false) where
+      -- it is taken in mode m
+      pub next-mode : (m : ℕ) (x : Bool) → x ≡ takes (reachOf rules k) m → x ≡ true → 9 ≡ nextOf f rules mode
+      next-mode m x ex y = simp (e, some-mode (reachOf rules k) m (sym ex ∙ y), sym et ∙ n)
 
-      pub next-none : not t ≡ false → 0 ≡ nextOf f rules mode
-      next-none m = simp (e, sym (eb rules), h, sym et, m)
+      pub next-answer :
+          (a b c : Bool) → a ≡ takes (reachOf rules k) 0 → a ≡ false → b ≡ takes (reachOf rules k) 1 → b ≡ false → c ≡ takes (reachOf rules k) 3 → c ≡ false →
+          8 ≡ nextOf f rules mode
+      next-answer a b c ea na eb nb ec nc = simp (e, no-mode (reachOf rules k) (sym ea ∙ na) (sym eb ∙ nb) (sym ec ∙ nc))

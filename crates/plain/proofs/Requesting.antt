@@ -1,8 +1,9 @@
 -- From what the parts of a request ensure to what it did.
 -- Assumes nothing.
-use Prim.Native.Nat.{ℕ, _≤_}
+use Prim.Native.Nat.{ℕ, _≤_, _<_}
 use mathlib.Core.Path.{_≡_, refl, sym, ap, ap₂, subst, _∙_}
 use mathlib.Core.List.{List}
+use native.Mathlib.Omega.{arith}
 use lib.ListN.{length, take}
 use Rattle.octets.specs.Octets.{Octets}
 use Rattle.octets.specs.Splice.{splice}
@@ -30,6 +31,7 @@ use Rattle.device.specs.Events.{Effect, requestOf, Did, Called}
 use Rattle.device.specs.declared.Sessions.{Sessions}
 use Rattle.device.specs.declared.Done.{Done}
 use Rattle.device.proofs.leaves.Connections.{own-stays}
+use Rattle.device.proofs.promises.Demand1.{untouched}
 use Rattle.parts.specs.declared.Parts.{Parts}
 use Rattle.parts.specs.Records.{Taken}
 use Rattle.parts.specs.Again.{Roomy}
@@ -142,6 +144,21 @@ module _ (q : Sessions) (mode c group : ℕ) (a s o : List ℕ) (session : Sessi
         whole : judgeOf (length o) s session mode group a ≡ k
         whole = j ∙ ap (readOf s (levelIn session mode) group a) reads ∙ ap (λ (n : ℕ). decideOf s n group (dataOf p a) p) (sym el)
 
+        -- what was refused or ignored stored nothing
+        still : 2 ≤ k .outcome → after ≡ s
+        unfolding stepOf stepBy
+        still =
+            let data-is : dataIn (readPdu a) a ≡ dataOf p a = ap (λ (y : Parsed). dataIn y a) reads in
+            subst (λ (y : Decision). 2 ≤ y .outcome → left s (dataOf p a) y ≡ s) whole
+            (subst (λ (y : List ℕ). 2 ≤ judgeOf (length o) s session mode group a .outcome → left s y (judgeOf (length o) s session mode group a) ≡ s) data-is
+            (λ h. untouched (length o) s session mode group a h .0))
+
+        stored : (x : Done) (s′ o′ : List ℕ) → Carried q mode c r s o x s′ o′ → Dec (1 < r .outcome) → s′ ≡ after
+        stored x s′ o′ w (yes h) = w .kept h ∙ sym (still (omega (arith, agrees .gives .outcome)))
+        stored x s′ o′ w (no h) =
+            written-again after (left-accepted s ok level group a p is) (r .parts) (agrees .sheet) (left-bytes s ok level group a p is so ao) s s′
+            (sym (left-long s ok level group a p is)) (w .sheet (omega arith))
+
         pub served-called : (x : Done) (s′ o′ : List ℕ) → Carried q mode c r s o x s′ o′ → Called q mode c group a s o x s′ o′
         served-called x s′ o′ w =
             let data-is : dataIn (readPdu a) a ≡ dataOf p a = ap (λ (y : Parsed). dataIn y a) reads in
@@ -155,9 +172,7 @@ module _ (q : Sessions) (mode c group : ℕ) (a s o : List ℕ) (session : Sessi
                     outcome = w .outcome ∙ gi .outcome;
                     count = w .answer .count ∙ ap length bytes;
                     sessions = w .sessions ∙ ap (λ (y : Turn). turnedOf q mode c (closes y) (turnOf met y)) (gi .turn);
-                    sheet =
-                        written-again after (left-accepted s ok level group a p is) (r .parts) (agrees .sheet) (left-bytes s ok level group a p is so ao) s s′
-                        (sym (left-long s ok level group a p is)) (w .sheet);
+                    sheet = stored x s′ o′ w (native.Mathlib.Decide.decLt 1 (r .outcome));
                     answer = w .answer .holds ∙ ap (splice o 0) bytes;
                   });
               sheetBytes = so;

@@ -32,9 +32,11 @@ abbrev pub Sendable : ℕ → Sent → List ℕ → Type 0
 Sendable n Nothing b = Unit {0}
 Sendable n (This p) b = (16 ≤ n) × (dataAt p + length b ≤ 16)
 
--- A REPLY CARRIED OUT: the parts written to the sheet, the PDU to the buffer, and the sessions afterwards
+-- A REPLY CARRIED OUT: the parts written to the sheet unless it was refused or ignored, the PDU to the buffer, and the sessions
+-- afterwards
 pub record Carried (q : Sessions) (mode c : ℕ) (r : Reply) (s o : List ℕ) (x : Done) (s′ o′ : List ℕ) : Type 0 where
   pub outcome : x .outcome ≡ r .outcome
-  pub sheet : Restores (Whole (r .parts)) s s′ 0 (r .parts .length)
+  pub kept : 2 ≤ r .outcome → s′ ≡ s
+  pub sheet : r .outcome ≤ 1 → Restores (Whole (r .parts)) s s′ 0 (r .parts .length)
   pub answer : Filled (sentBytes (r .sent) (take (r .size) (r .bytes))) (x .count) o o′
   pub sessions : x .sessions ≡ turnedOf q mode c (closes (r .turn)) (turnOf (sessionFor q mode c) (r .turn))

@@ -36,7 +36,10 @@ pub fn carry_out(
     let sent = r.sent;
     let bytes = r.bytes;
     let turn = r.turn;
-    parts::write_again(r.parts, sheet);
+    // What is refused or ignored stores nothing: 2 and above.
+    if r.outcome <= 1 {
+        parts::write_again(r.parts, sheet);
+    }
     let count = send(answer, sent, bytes, r.size);
     Done {
         outcome: r.outcome,

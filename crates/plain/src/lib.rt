@@ -1,4 +1,5 @@
 // The plain engine: a sheet is taken apart into records, the rules are applied to the records, and the sheet is written again.
+mod both;
 mod carry;
 mod order;
 mod serve;
@@ -9,6 +10,12 @@ ghost use Rattle.device.specs.Events.{Called};
 use device::Done;
 use device::Sessions;
 use pdu::Parsed;
+
+// What both engines gave.
+pub struct Twice {
+    pub first: Done,
+    pub plain: Done,
+}
 
 // 3 to 10 and 14: sessions, sheet and answer buffer stay as they were.
 fn refused(sessions: Sessions, outcome: u8) -> Done

@@ -3,11 +3,10 @@ use judge::Session;
 use pdu::Found;
 use pdu::Service;
 ghost use mathlib.Core.Path.{_≡_};
-ghost use Prim.Native.Nat.{ℕ};
 ghost use lib.ListN.{length};
 ghost use Rattle.sheet.specs.Rules.{refusalOf};
 ghost use Rattle.judge.specs.Session.{levelIn};
-ghost use Rattle.judge.specs.Modes.{reachOf, reaches, takes};
+ghost use Rattle.judge.specs.Modes.{reachOf, takes};
 ghost use Rattle.judge.specs.Judge.{isShut};
 ghost use Rattle.plain.specs.Order.{firstOf, nextOf};
 
@@ -15,10 +14,7 @@ ghost use Rattle.plain.specs.Order.{firstOf, nextOf};
 fn is_shut(session: Session, mode: u8) -> bool
     ensures { λ r. ⌜ r ≡ isShut session mode ⌝ }
 {
-    if mode != 3 {
-        return false;
-    }
-    !session.opened
+    mode == 3 && !session.opened
 }
 
 // 3, 4 or 14, 5, 6 and 7, and 0 where none is due. Of 4 and 14 `sheet` decides: the rules S1 to S9 are not written a second time
@@ -33,10 +29,7 @@ pub fn refused_first(room: usize, sheet: &[u8], apdu: &[u8], mode: u8, session: 
     if refusal != 0 {
         return refusal;
     }
-    if apdu.len() < 2 {
-        return 5;
-    }
-    if 16 < apdu.len() {
+    if apdu.len() < 2 || 16 < apdu.len() {
         return 5;
     }
     if 3 < mode {
@@ -48,49 +41,10 @@ pub fn refused_first(room: usize, sheet: &[u8], apdu: &[u8], mode: u8, session: 
     0
 }
 
-// An answer to a tool is no request, and its code unknown to the device.
-fn is_request(k: Service) -> bool
-    ensures { λ r. ⌜ ((rules : ℕ) → r ≡ reaches (reachOf rules k)) ⌝ }
-{
-    match k {
-        Service::GroupValueRead => true,
-        Service::GroupValueResponse => true,
-        Service::GroupValueWrite => true,
-        Service::IndividualAddressWrite => true,
-        Service::IndividualAddressRead => true,
-        Service::SerialNumberRead => true,
-        Service::SerialNumberWrite => true,
-        Service::DeviceDescriptorRead => true,
-        Service::PropertyValueRead => true,
-        Service::PropertyValueWrite => true,
-        Service::PropertyDescriptionRead => true,
-        Service::MemoryRead => true,
-        Service::MemoryWrite => true,
-        Service::MemoryBitWrite => true,
-        Service::AuthorizeRequest => true,
-        Service::KeyWrite => true,
-        Service::Restart => true,
-        Service::IndividualAddressResponse => false,
-        Service::SerialNumberResponse => false,
-        Service::DeviceDescriptorResponse => false,
-        Service::PropertyValueResponse => false,
-        Service::PropertyDescriptionResponse => false,
-        Service::MemoryResponse => false,
-        Service::AuthorizeResponse => false,
-        Service::KeyResponse => false,
-        Service::UserMemoryRead => true,
-        Service::UserMemoryResponse => false,
-        Service::UserMemoryWrite => true,
-    }
-}
-
 fn is_2_or_3(mode: u8) -> bool
     ensures { λ r. ⌜ r ≡ takes (reachOf 1 Service.DeviceDescriptorRead) mode ⌝ }
 {
-    if mode == 2 {
-        return true;
-    }
-    mode == 3
+    mode == 2 || mode == 3
 }
 
 // A restart is taken on a connection, under rules 1 also without one.
@@ -146,23 +100,25 @@ pub fn refused_next(found: Found, rules: u8, mode: u8) -> u8
     let Found::Listed(k) = found else {
         return 8;
     };
-    if !is_request(k) {
-        return 8;
+    if is_taken(k, rules, mode) {
+        return 0;
     }
-    if !is_taken(k, rules, mode) {
+    // An answer to a tool is taken in no mode. It is no request, and its code unknown to the device.
+    if is_taken(k, rules, 0)
+        || is_taken(k, rules, 1)
+        || is_taken(k, rules, 2)
+        || is_taken(k, rules, 3)
+    {
         return 9;
     }
-    0
+    8
 }
 
 // The level that a request acts at: the session's on a connection, else 3. A level above 3 is read as 3.
 pub fn acting_level(session: Session, mode: u8) -> u8
     ensures { λ r. ⌜ r ≡ levelIn session mode ⌝ }
 {
-    if mode != 3 {
-        return 3;
-    }
-    if 3 < session.level {
+    if mode != 3 || 3 < session.level {
         return 3;
     }
     session.level

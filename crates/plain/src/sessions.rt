@@ -21,13 +21,10 @@ fn closed() -> Session
 pub fn session_met(q: Sessions, mode: u8, connection: u8) -> Session
     ensures { λ r. ⌜ r ≡ sessionFor q mode connection ⌝ }
 {
-    if mode != 3 {
-        return closed();
-    }
-    if connection == 0 {
+    if mode == 3 && connection == 0 {
         return q.first;
     }
-    if connection == 1 {
+    if mode == 3 && connection == 1 {
         return q.second;
     }
     closed()
@@ -37,24 +34,14 @@ pub fn session_met(q: Sessions, mode: u8, connection: u8) -> Session
 fn with_level(q: Sessions, mode: u8, connection: u8, level: u8) -> Sessions
     ensures { λ r. ⌜ r ≡ turnedOf q mode connection false (turnOf (sessionFor q mode connection) (Level level)) ⌝ }
 {
-    let first = q.first;
-    let second = q.second;
-    if mode != 3 {
-        return q;
+    let mut r = q;
+    if mode == 3 && connection == 0 {
+        r.first.level = level;
+        return r;
     }
-    if connection == 0 {
-        let new = Session {
-            opened: first.opened,
-            level,
-        };
-        return Sessions { first: new, second };
-    }
-    if connection == 1 {
-        let new = Session {
-            opened: second.opened,
-            level,
-        };
-        return Sessions { first, second: new };
+    if mode == 3 && connection == 1 {
+        r.second.level = level;
+        return r;
     }
     q
 }
@@ -62,13 +49,9 @@ fn with_level(q: Sessions, mode: u8, connection: u8, level: u8) -> Sessions
 fn both_closed() -> Sessions
     ensures { λ r. ⌜ r ≡ freshOf ⌝ }
 {
-    let session = Session {
-        opened: false,
-        level: 3,
-    };
     Sessions {
-        first: session,
-        second: session,
+        first: closed(),
+        second: closed(),
     }
 }
 

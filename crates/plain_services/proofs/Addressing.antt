@@ -93,13 +93,13 @@ module _ (u : Parts) (r : Reply) where
 
     -- n is a type of descriptor
     pub mask-told :
-        n ≡ 0 → Gives r 0 u Stays (This (DeviceDescriptorResponse 0)) (bytesOf 2 (u .head .mask)) → Serves u [] (λ s. descriptorOf s n) r
+        n ≡ 0 → (b : List ℕ) → b ≡ bytesOf 2 (u .head .mask) → Gives r 0 u Stays (This (DeviceDescriptorResponse 0)) b → Serves u [] (λ s. descriptorOf s n) r
     unfolding descriptorOf
-    mask-told p g =
+    mask-told p b e g =
         record {
           agrees = λ s ok o t.
               by-decision _ (answered (answer.Number (DeviceDescriptorResponse 0) 2 (u .head .mask))) (rw (eq-eqb n 0 p, t .front .mask) refl)
-              (agreed (answered (answer.Number (DeviceDescriptorResponse 0) 2 (u .head .mask))) g t);
+              (agreed (answered (answer.Number (DeviceDescriptorResponse 0) 2 (u .head .mask))) (rw e at g) t);
         }
 
     pub no-type :

@@ -3,18 +3,13 @@
 use Prim.Native.Nat.{ℕ, _+_, _-_, _≤_}
 use native.Mathlib.Omega.{arith}
 use mathlib.Core.Path.{_≡_, refl, sym, ap, subst, _∙_}
-use lib.ListN.{length, take, drop}
-use Rattle.octets.specs.Bytes.{bytesOf}
+use lib.ListN.{length, take, drop, length-take}
 use Rattle.octets.specs.Splice.{splice}
-use Rattle.octets.proofs.Numbers.{length-bytes}
 use Rattle.octets.proofs.Splices.{splice-read}
 use mathlib.Core.List.{List}
 use Rattle.judge.specs.declared.Decision.{Decision}
-use Rattle.judge.specs.declared.Turn.{Turn}
-use Rattle.judge.specs.declared.Answer.the-variants as answer
 use Rattle.parts.specs.declared.Parts.{Parts}
 use Rattle.parts.specs.Records.{Taken}
-use Rattle.plain_services.specs.declared.Sent.{Sent}
 use Rattle.plain_services.specs.declared.Reply.{Reply}
 use Rattle.plain_services.specs.Steps.{Gives, Agrees, sentOf, dataFor, left}
 
@@ -41,34 +36,14 @@ agreed {s} {d} k {r} {v} g t =
 pub by-decision : {s d : List ℕ} {r : Reply} (k k′ : Decision) → k ≡ k′ → Agrees s d k′ r → Agrees s d k r
 by-decision {s} {d} {r} k k′ e a = subst (λ (x : Decision). Agrees s d x r) (sym e) a
 
--- a number in front of an array, and a part of one
-pub told :
-    {r : Reply} {n : ℕ} {u : Parts} {t : Turn} {x : Sent} (b b′ : List ℕ) (y : ℕ) → 2 ≤ length b → b′ ≡ splice b 0 (bytesOf 2 y) →
-    Gives r n u t x (take 2 b′) → Gives r n u t x (bytesOf 2 y)
-told {r} {n} {u} {t} {x} b b′ y l e g =
-    let z = length-bytes 2 y in
-    let q : take 2 b′ ≡ bytesOf 2 y =
-    ap (λ (w : List ℕ). take 2 w) e ∙ ap (λ (m : ℕ). take m (splice b 0 (bytesOf 2 y))) (sym z) ∙ splice-read b 0 (bytesOf 2 y) (omega (arith, z)) in
-    subst (λ (w : List ℕ). Gives r n u t x w) q g
+-- the data of a reply in front of an array
+pub echoed : (b b′ d : List ℕ) → 0 + length d ≤ length b → b′ ≡ splice b 0 d → take (length d) b′ ≡ d
+echoed b b′ d l e = ap (λ (y : List ℕ). take (length d) y) e ∙ splice-read b 0 d l
 
-pub quoted :
-    {r : Reply} {n : ℕ} {u : Parts} {t : Turn} {x : Sent} (at size : ℕ) (b : List ℕ) →
-    Gives r n u t x (take (at + size - at) (drop at b)) → Gives r n u t x (take size (drop at b))
-quoted {r} {n} {u} {t} {x} at size b g =
-    let q : at + size - at ≡ size = omega arith in
-    subst (λ (m : ℕ). Gives r n u t x (take m (drop at b))) q g
+-- a part of an array
+pub quoted : (at size : ℕ) (b : List ℕ) → take (at + size - at) (drop at b) ≡ take size (drop at b)
+quoted at size b = let q : at + size - at ≡ size = omega arith in ap (λ (m : ℕ). take m (drop at b)) q
 
--- the data of the request in front of an array
-pub echoed :
-    {r : Reply} {n : ℕ} {u : Parts} {t : Turn} {x : Sent} (b b′ d : List ℕ) → 0 + length d ≤ length b → b′ ≡ splice b 0 d →
-    Gives r n u t x (take (length d) b′) → Gives r n u t x d
-echoed b b′ d l e g =
-    record {
-      outcome = g .outcome;
-      parts = g .parts;
-      turn = g .turn;
-      sent = g .sent;
-      bytes = g .bytes ∙ ap (λ (y : List ℕ). take (length d) y) e ∙ splice-read b 0 d l;
-      short = g .short;
-      full = g .full;
-    }
+-- the first n bytes of an array of 14
+pub share-room : (n : ℕ) (b : List ℕ) → n ≤ 14 → length b ≡ 14 → n ≡ length (take n b)
+share-room n b h l = sym (simp length-take (omega (arith, l)))

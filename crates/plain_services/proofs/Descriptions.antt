@@ -47,6 +47,13 @@ rank-next ps object j seen x e f =
     let q : suc j ≡ j + 1 = omega arith in
     subst (λ (n : ℕ). seen + x ≡ rankIn ps object n) q (ap₂ (λ (a b : ℕ). a + b) e f)
 
+pub one-counted : (ps : List Property) (object j seen x : ℕ) → seen ≡ rankIn ps object j → getD ps j noProperty .object ≡ object → x ≡ seen + 1 → x ≡ rankIn ps object (j + 1)
+one-counted ps object j seen x e h q = q ∙ rank-next ps object j seen 1 e (simp (eq-eqb (getD ps j noProperty .object) object h))
+
+pub one-passed : (ps : List Property) (object j seen x : ℕ) → seen ≡ rankIn ps object j → (getD ps j noProperty .object ≡ object → ⊥) → x ≡ seen → x ≡ rankIn ps object (j + 1)
+one-passed ps object j seen x e h q =
+    let z : x ≡ seen + 0 = omega (arith, q) in z ∙ rank-next ps object j seen 0 e (simp (ne-eqb (getD ps j noProperty .object) object h))
+
 -- none of none, and as many as there are
 pub rank-start : (ps : List Property) (object : ℕ) → 0 ≡ rankIn ps object 0
 unfolding rankIn
@@ -90,13 +97,13 @@ module _ (u : Parts) (object id index i : ℕ) where
   abbrev Found : (List ℕ → ℕ) → Type 0
   Found f = (i ≤ u .sizes .properties) × ((s : List ℕ) → Accepted s → Octets s → Taken s u → i ≡ f s)
 
-  pub by-index : id ≡ 0 → Found (λ s. nthOf s object index) → Found (λ s. describedAt s object id index)
+  pub by-index : (x : ℕ) → i ≡ x → id ≡ 0 → (x ≤ u .sizes .properties) × ((s : List ℕ) → Accepted s → Octets s → Taken s u → x ≡ nthOf s object index) → Found (λ s. describedAt s object id index)
   unfolding describedAt
-  by-index e f = (f .0, λ s ok o t. f .1 s ok o t ∙ simp (eq-eqb id 0 e))
+  by-index x q e f = (omega (arith, q, f .0), λ s ok o t. q ∙ f .1 s ok o t ∙ simp (eq-eqb id 0 e))
 
-  pub by-id : (id ≡ 0 → ⊥) → Found (λ s. propertyAt s object id) → Found (λ s. describedAt s object id index)
+  pub by-id : (x : ℕ) → i ≡ x → (id ≡ 0 → ⊥) → (x ≤ u .sizes .properties) × ((s : List ℕ) → Accepted s → Octets s → Taken s u → x ≡ propertyAt s object id) → Found (λ s. describedAt s object id index)
   unfolding describedAt
-  by-id e f = (f .0, λ s ok o t. f .1 s ok o t ∙ simp (ne-eqb id 0 e))
+  by-id x q e f = (omega (arith, q, f .0), λ s ok o t. q ∙ f .1 s ok o t ∙ simp (ne-eqb id 0 e))
 
   module _ (r : Reply) (f : (i ≤ u .sizes .properties) × ((s : List ℕ) → Accepted s → Octets s → Taken s u → i ≡ describedAt s object id index)) where
     pub none-described :

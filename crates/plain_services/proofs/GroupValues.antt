@@ -1,6 +1,6 @@
 -- Group values on parts are those of the first engine.
 -- Assumes nothing.
-use Prim.Native.Nat.{ℕ, _+_, _/_, _%_, _≤_, _<_}
+use Prim.Native.Nat.{ℕ, _+_, _/_, _%_, _≤_, _<_, _-_}
 use mathlib.Core.Path.{_≡_, refl, sym, ap, subst, _∙_}
 use mathlib.Core.Bool.{Bool, true, false, cond}
 use mathlib.Core.List.{List, [], _∷_}
@@ -40,7 +40,7 @@ use Rattle.parts.proofs.Quoted.{same-part}
 use Rattle.plain_services.specs.declared.Sent.the-variants.{Nothing, This}
 use Rattle.plain_services.specs.declared.Reply.{Reply}
 use Rattle.plain_services.specs.Steps.{Held, Gives, Serves}
-use Rattle.plain_services.proofs.Agreed.{agreed, by-decision}
+use Rattle.plain_services.proofs.Agreed.{agreed, by-decision, quoted}
 
 -- the entry e has the fields of p
 pub record Fields (p : Group) (s : List ℕ) (i : ℕ) : Type 0 where
@@ -123,7 +123,7 @@ module _ (u : Parts) (i : ℕ) (h : i < u .sizes .groups) where
         }
 
     pub bytes-sent :
-        (p .code ≡ 0 → ⊥) → Gives r 0 u Stays (This (GroupValueResponse 0)) (take (p .code) (drop (p .offset) (u .bodies))) →
+        (p .code ≡ 0 → ⊥) → Gives r 0 u Stays (This (GroupValueResponse 0)) (take (p .offset + p .code - p .offset) (drop (p .offset) (u .bodies))) →
         Serves u [] (λ s. valueOf s (p .code) (p .offset)) r
     unfolding valueOf
     bytes-sent e g =
@@ -132,7 +132,7 @@ module _ (u : Parts) (i : ℕ) (h : i < u .sizes .groups) where
               let b = body s ok t in
               by-decision _ (answered (answer.Sheet (GroupValueResponse 0) (p .offset) (p .code))) (rw (ne-eqb (p .code) 0 e) refl)
               (agreed (answered (answer.Sheet (GroupValueResponse 0) (p .offset) (p .code)))
-              (rw (same-part s u t (p .offset) (p .code) (b .0) (b .1)) at g) t);
+              (rw (quoted (p .offset) (p .code) (u .bodies) ∙ same-part s u t (p .offset) (p .code) (b .0) (b .1)) at g) t);
         }
 
     -- a new value v, or d

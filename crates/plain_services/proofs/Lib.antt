@@ -1,3 +1,4 @@
+pub mod Joined
 pub mod Agreed
 pub mod Finding
 pub mod Elements

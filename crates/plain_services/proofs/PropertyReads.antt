@@ -7,9 +7,9 @@ use mathlib.Core.List.{List, []}
 use native.Mathlib.Omega.{arith}
 use lib.Dec.{lit<, ltb, leb}
 use lib.ListN.{length, getD, take, drop}
-use borrow.Author.Tests.{lt-ltb, le-ltb, le-leb, lt-leb, leb-true}
+use borrow.Author.Tests.{lt-ltb, le-ltb, le-leb, lt-leb, leb-true, ltb-true, ltb-false}
 use Rattle.octets.specs.Bytes.{bytesOf}
-use Rattle.octets.proofs.Truths.{and-is, never}
+use Rattle.octets.proofs.Truths.{and-is}
 use Rattle.sheet.specs.Kind.{properties}
 use Rattle.sheet.specs.Layout.{_of_}
 use Rattle.sheet.specs.Property as property
@@ -34,7 +34,10 @@ use Rattle.plain_services.specs.declared.Sent.the-variants.{This}
 use Rattle.plain_services.specs.declared.Reply.{Reply}
 use Rattle.plain_services.specs.Steps.{Held, Gives, Serves}
 use Rattle.plain_services.proofs.Entry.{Fields, fields}
-use Rattle.plain_services.proofs.Agreed.{agreed, by-decision}
+use mathlib.Core.Logic.{_⊎_, inl, inr}
+use Rattle.octets.proofs.Tests.{both, not-first, not-second}
+use Rattle.plain_services.proofs.Joined.{was-no, was-yes}
+use Rattle.plain_services.proofs.Agreed.{agreed, by-decision, quoted}
 
 -- the decision in terms of the record
 module _ (p : Property) (level object id n t : ℕ) where
@@ -56,12 +59,10 @@ module _ (p : Property) (level object id n t : ℕ) where
   unfolding readIn
   in-terms e f = rw (f .element, f .count, f .offset, f .read) refl
 
-pub first-element : (n t c z : ℕ) (f : Bool) → f ≡ (elements n t c && leb (n * z) 10) → not f ≡ false → 1 ≤ t
-first-element n t c z false e q = never (sym q)
-first-element n t c z true e q =
-    let x = and-is (elements n t c) (leb (n * z) 10) .0 (sym e) in
-    let y = and-is (leb 1 t && leb 1 n) (leb (t + n - 1) c) .0 (x .0) in
-    leb-true 1 t (and-is (leb 1 t) (leb 1 n) .0 (y .0) .0)
+pub first-element : (n t m : ℕ) (f : Bool) → f ≡ elements n t m → f ≡ true → 1 ≤ t
+first-element n t m f e y =
+    let x = and-is (leb 1 t && leb 1 n) (leb (t + n - 1) m) .0 (sym e ∙ y) in
+    leb-true 1 t (and-is (leb 1 t) (leb 1 n) .0 (x .0) .0)
 
 -- n counted elements from element t on of property i
 module _ (u : Parts) (i n t : ℕ) where
@@ -88,14 +89,9 @@ module _ (u : Parts) (i n t : ℕ) where
       (omega (arith, f .offset, after-contents g properties i (lit< tt) there), rw (f .offset, f .element) at w)
 
   pub room-shown :
-      (f : Bool) → Held u → i < u .sizes .properties → f ≡ (elements n t (pp .count) && leb (n * pp .element) 10) → not f ≡ false →
-      (a z : ℕ) → a ≡ elementAt (pp .offset) (pp .element) t → z ≡ n * pp .element →
-      (length (u .bodies) ≡ 16384) × (a + z ≤ 16384) × (z ≤ 14)
-  room-shown false k h e q a z ea ez = never (sym q)
-  room-shown true k h e q a z ea ez =
-      let m = and-is (elements n t (pp .count)) (leb (n * pp .element) 10) .0 (sym e) in
-      let x = inside (k .sheet) (k .ok) (k .taken) h (m .0) in
-      (k .taken .room, omega (arith, ea, ez, x .1, k .taken .sizes .short), omega (arith, ez, leb-true (n * pp .element) 10 (m .1)))
+      (f : Bool) → Held u → i < u .sizes .properties → f ≡ elements n t (pp .count) → f ≡ true →
+      (a z : ℕ) → a ≡ elementAt (pp .offset) (pp .element) t → z ≡ n * pp .element → a + z ≤ 16384
+  room-shown f k h e y a z ea ez = omega (arith, ea, ez, inside (k .sheet) (k .ok) (k .taken) h (sym e ∙ y) .1, k .taken .sizes .short)
 
 module _ (u : Parts) (i level object id n t : ℕ) (r : Reply) where
   abbrev p : Property
@@ -115,40 +111,46 @@ module _ (u : Parts) (i level object id n t : ℕ) (r : Reply) where
       record { agrees = λ s ok o k. by-decision _ (noValue object id t) (terms s k h ∙ rw (lt-leb level (p .read) l) refl) (agreed (noValue object id t) g k) }
 
   pub count-told :
-      (c : Bool) → i < u .sizes .properties → level ≤ p .read → c ≡ counted n t → c ≡ true →
-      Gives r 0 u Stays (This (PropertyValueResponse object id n t)) (bytesOf 2 (p .count)) → Serves u [] decides r
-  count-told c h l e x g =
+      i < u .sizes .properties → level ≤ p .read → counted n t ≡ true → (b : List ℕ) → b ≡ bytesOf 2 (p .count) →
+      Gives r 0 u Stays (This (PropertyValueResponse object id n t)) b → Serves u [] decides r
+  count-told h l e b eb g =
       record {
         agrees = λ s ok o k.
-            by-decision _ (told p level object id n t) (terms s k h ∙ rw (le-leb level (p .read) l, sym e ∙ x) refl)
-            (agreed (told p level object id n t) g k);
+            by-decision _ (told p level object id n t) (terms s k h ∙ rw (le-leb level (p .read) l, e) refl)
+            (agreed (told p level object id n t) (rw eb at g) k);
       }
 
-  pub not-shown :
-      (c f : Bool) → i < u .sizes .properties → level ≤ p .read → c ≡ counted n t → c ≡ false →
-      f ≡ (elements n t (p .count) && leb (n * p .element) 10) → not f ≡ true →
-      Gives r 11 u Stays (This (PropertyValueResponse object id 0 t)) [] → Serves u [] decides r
-  not-shown c true h l e x b y g = never y
-  not-shown c false h l e x b y g =
-      record {
-        agrees = λ s ok o k.
-            by-decision _ (noValue object id t) (terms s k h ∙ rw (le-leb level (p .read) l, sym e ∙ x, sym b) refl) (agreed (noValue object id t) g k);
-      }
+  -- z bytes, if the elements are counted: f
+  module _ (f : Bool) (z : ℕ) (ef : f ≡ elements n t (p .count)) (ez : z ≡ n * p .element) where
+    as-shown : (f && leb z 10) ≡ shows p level object id n t
+    as-shown = ap₂ (λ (x : Bool) (y : ℕ). x && leb y 10) ef ez
 
-  pub is-shown :
-      (c f : Bool) → i < u .sizes .properties → level ≤ p .read → c ≡ counted n t → c ≡ false →
-      f ≡ (elements n t (p .count) && leb (n * p .element) 10) → not f ≡ false →
-      (a z : ℕ) → a ≡ elementAt (p .offset) (p .element) t → z ≡ n * p .element →
-      Gives r 0 u Stays (This (PropertyValueResponse object id n t)) (take z (drop a (u .bodies))) → Serves u [] decides r
-  is-shown c false h l e x b y a z ea ez g = never (sym y)
-  is-shown c true h l e x b y a z ea ez g =
-      record {
-        agrees = λ s ok o k.
-            let w = inside u i n t s ok k h (and-is (elements n t (p .count)) (leb (n * p .element) 10) .0 (sym b) .0) in
-            let same = ap₂ (λ (m q : ℕ). take m (drop q (u .bodies))) ez ea ∙ same-part s u k (elementAt (p .offset) (p .element) t) (n * p .element) (w .0) (w .1) in
-            by-decision _ (shown p level object id n t) (terms s k h ∙ rw (le-leb level (p .read) l, sym e ∙ x, sym b) refl)
-            (agreed (shown p level object id n t) (rw same at g) k);
-      }
+    denied : (not f ≡ true) ⊎ (ltb 10 z ≡ true) → (f && leb z 10) ≡ false
+    denied (inl y) = not-first f (leb z 10) (was-no f y)
+    denied (inr y) = not-second f (leb z 10) (lt-leb z 10 (ltb-true 10 z y))
+
+    pub not-shown :
+        i < u .sizes .properties → level ≤ p .read → counted n t ≡ false → (not f ≡ true) ⊎ (ltb 10 z ≡ true) →
+        Gives r 11 u Stays (This (PropertyValueResponse object id 0 t)) [] → Serves u [] decides r
+    not-shown h l e y g =
+        record {
+          agrees = λ s ok o k.
+              by-decision _ (noValue object id t) (terms s k h ∙ rw (le-leb level (p .read) l, e, sym as-shown ∙ denied y) refl) (agreed (noValue object id t) g k);
+        }
+
+    pub is-shown :
+        i < u .sizes .properties → level ≤ p .read → counted n t ≡ false → not f ≡ false → ltb 10 z ≡ false →
+        (a : ℕ) → a ≡ elementAt (p .offset) (p .element) t →
+        Gives r 0 u Stays (This (PropertyValueResponse object id n t)) (take (a + z - a) (drop a (u .bodies))) → Serves u [] decides r
+    is-shown h l e y y′ a ea g =
+        record {
+          agrees = λ s ok o k.
+              let b = sym as-shown ∙ both _ _ (was-yes f y) (le-leb z 10 (ltb-false 10 z y′)) in
+              let w = inside u i n t s ok k h (and-is (elements n t (p .count)) (leb (n * p .element) 10) .0 b .0) in
+              let same = quoted a z (u .bodies) ∙ ap₂ (λ (m q : ℕ). take m (drop q (u .bodies))) ez ea ∙ same-part s u k (elementAt (p .offset) (p .element) t) (n * p .element) (w .0) (w .1) in
+              by-decision _ (shown p level object id n t) (terms s k h ∙ rw (le-leb level (p .read) l, e, b) refl)
+              (agreed (shown p level object id n t) (rw same at g) k);
+        }
 
 -- by object and id
 module _ (u : Parts) (level object id n t : ℕ) (r : Reply) where

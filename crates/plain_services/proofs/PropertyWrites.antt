@@ -1,19 +1,19 @@
 -- A property write on parts is that of the first engine.
 -- Assumes nothing.
 use Prim.Native.Nat.{ℕ, _+_, _*_, _-_, _≤_, _<_, max}
-use mathlib.Core.Path.{_≡_, refl, sym, subst, _∙_}
+use mathlib.Core.Path.{_≡_, refl, sym, subst, ap, ap₂, _∙_}
 use mathlib.Core.Bool.{Bool, true, false, cond, not, _&&_}
 use mathlib.Core.List.{List, []}
 use native.Mathlib.Omega.{arith}
 use native.Mathlib.Nat.{mul-le-mul-right}
 use lib.Dec.{lit<, ltb, leb, eqb}
 use lib.ListN.{length, getD}
-use borrow.Author.Tests.{lt-ltb, le-ltb, leb-true, eqb-true}
+use borrow.Author.Tests.{lt-ltb, le-ltb, le-leb, lt-leb, leb-true, eq-eqb, ne-eqb, eqb-true, ltb-true, ltb-false}
 use Rattle.octets.specs.Bytes.{numAt, bytesOf}
 use Rattle.octets.specs.Splice.{splice}
 use Rattle.octets.proofs.Numbers.{bytes-zero}
 use Rattle.octets.proofs.Splices.{length-splice, splice-below}
-use Rattle.octets.proofs.Truths.{and-is, never}
+use Rattle.octets.proofs.Truths.{and-is}
 use Rattle.sheet.specs.Kind.{properties}
 use Rattle.sheet.specs.Layout.{_of_}
 use Rattle.sheet.specs.Property as property
@@ -40,6 +40,9 @@ use Rattle.plain_services.specs.Steps.{Held, Gives, Serves}
 use Rattle.parts.specs.With.{withCount, withBodies}
 use Rattle.parts.proofs.Changed.{bodies-changed, count-changed, property-base, property-count}
 use Rattle.plain_services.proofs.Entry.{Fields, fields}
+use mathlib.Core.Logic.{_⊎_, inl, inr}
+use Rattle.octets.proofs.Tests.{both, not-first, not-second}
+use Rattle.plain_services.proofs.Joined.{and-assoc, was-no, was-yes}
 use Rattle.plain_services.proofs.Agreed.{agreed, by-decision}
 
 -- the decision in terms of the record
@@ -126,23 +129,24 @@ module _ (u : Parts) (i n t : ℕ) (d : List ℕ) where
         let at : base s₁ properties + 12 * i + 6 ≡ place s properties i + 6 = omega (arith, property-base s s₁ lng low) in
         rw (← ec, ev′, ← at) two
 
-  -- what carrying it out needs
-  pub room-for :
-      (f : Bool) → Held u → i < u .sizes .properties → f ≡ (elements n t (pp .maximum) && eqb (length d) (n * pp .element)) → not f ≡ false →
-      (length (u .bodies) ≡ 16384) × (1 ≤ t) × (elementAt (pp .offset) (pp .element) (t - jumped (pp .count) t) + (jumped (pp .count) t * pp .element + length d) ≤ 16384)
-  room-for false k h b z = never (sym z)
-  room-for true k h b z =
-      let m = and-is (elements n t (pp .maximum)) (eqb (length d) (n * pp .element)) .0 (sym b) in
-      let x = inside (k .sheet) (k .ok) (k .taken) h (m .0) (eqb-true _ _ (m .1)) in
-      let y = among (k .sheet) (k .ok) (k .taken) h (m .0) (eqb-true _ _ (m .1)) in
-      (k .taken .room, y .0, omega (arith, x .1, k .taken .sizes .short))
+  -- what carrying it out needs, f being whether the elements are there, and z their bytes
+  module _ (f : Bool) (z : ℕ) (ef : f ≡ elements n t (pp .maximum)) (ez : z ≡ n * pp .element) (y′ : not f ≡ false) (q′ : not (eqb (length d) z) ≡ false) where
+    y : f ≡ true
+    y = was-yes f y′
 
-  pub last-fits : (f : Bool) → Held u → i < u .sizes .properties → f ≡ (elements n t (pp .maximum) && eqb (length d) (n * pp .element)) → not f ≡ false → (1 ≤ n) × (t + n - 1 ≤ pp .maximum)
-  last-fits false k h b z = never (sym z)
-  last-fits true k h b z =
-      let m = and-is (elements n t (pp .maximum)) (eqb (length d) (n * pp .element)) .0 (sym b) in
-      let y = among (k .sheet) (k .ok) (k .taken) h (m .0) (eqb-true _ _ (m .1)) in
-      (y .1, y .2)
+    q : length d ≡ z
+    q = eqb-true (length d) z (was-yes (eqb (length d) z) q′)
+
+    pub room-for :
+        Held u → i < u .sizes .properties →
+        (length (u .bodies) ≡ 16384) × (1 ≤ t) × (elementAt (pp .offset) (pp .element) (t - jumped (pp .count) t) + (jumped (pp .count) t * pp .element + length d) ≤ 16384)
+    room-for k h =
+        let x = inside (k .sheet) (k .ok) (k .taken) h (sym ef ∙ y) (q ∙ ez) in
+        let w = among (k .sheet) (k .ok) (k .taken) h (sym ef ∙ y) (q ∙ ez) in
+        (k .taken .room, w .0, omega (arith, x .1, k .taken .sizes .short))
+
+    pub last-fits : Held u → i < u .sizes .properties → (1 ≤ n) × (1 ≤ t) × (t + n - 1 ≤ pp .maximum)
+    last-fits k h = let w = among (k .sheet) (k .ok) (k .taken) h (sym ef ∙ y) (q ∙ ez) in (w .1, w .0, w .2)
 
 -- the parts of a sheet
 module _ (u : Parts) (i level object id n t : ℕ) (d : List ℕ) (r : Reply) where
@@ -157,54 +161,73 @@ module _ (u : Parts) (i level object id n t : ℕ) (d : List ℕ) (r : Reply) wh
   terms s k h = in-terms p (place s properties i) level object id n t d (entry s properties i) (fields s u i k (there u i n t d s k h))
 
   pub not-writable :
-      (w : Bool) → i < u .sizes .properties → w ≡ (p .writable && leb level (p .write)) → not w ≡ true →
+      i < u .sizes .properties → (not (p .writable) ≡ true) ⊎ (ltb (p .write) level ≡ true) →
       Gives r 11 u Stays (This (PropertyValueResponse object id 0 t)) [] → Serves u d decides r
-  not-writable true h e q g = never q
-  not-writable false h e q g =
-      record { agrees = λ s ok o k. by-decision _ (noValue object id t) (terms s k h ∙ rw (sym e) refl) (agreed (noValue object id t) g k) }
+  not-writable h e g =
+      record { agrees = λ s ok o k. by-decision _ (noValue object id t) (terms s k h ∙ rw (shut e) refl) (agreed (noValue object id t) g k) }
+    where
+      shut : (not (p .writable) ≡ true) ⊎ (ltb (p .write) level ≡ true) → (p .writable && leb level (p .write)) ≡ false
+      shut (inl y) = not-first (p .writable) (leb level (p .write)) (was-no (p .writable) y)
+      shut (inr y) = not-second (p .writable) (leb level (p .write)) (lt-leb level (p .write) (ltb-true (p .write) level y))
 
-  pub is-clear :
-      (w c : Bool) → i < u .sizes .properties → w ≡ (p .writable && leb level (p .write)) → not w ≡ false →
-      c ≡ (counted n t && eqb (length d) 2 && eqb (numAt d 0 2) 0) → c ≡ true →
-      (v : Parts) → v ≡ withCount u i 0 → Gives r 0 v Stays (This (PropertyValueResponse object id n t)) d → Serves u d decides r
-  is-clear false c h e q f x v ev g = never (sym q)
-  is-clear true c h e q f x v ev g =
-      record {
-        agrees = λ s ok o k.
-            by-decision _ (cleared p (place s properties i) level object id n t d) (terms s k h ∙ rw (sym e, sym f ∙ x) refl)
-            (agreed (cleared p (place s properties i) level object id n t d) g
-            (subst (λ (x : List ℕ). Taken (splice s (place s properties i + 6) x) v) (bytes-zero 2)
-            (subst (λ (x : Parts). Taken (splice s (place s properties i + 6) (bytesOf 2 0)) x) (sym ev) (count-changed s u k i 0 (there u i n t d s k h) (omega arith)))));
-      }
+  -- a property that may be written; c is whether the data is 00 00
+  module _ (c : Bool) (h : i < u .sizes .properties) (ew : not (p .writable) ≡ false) (el : ltb (p .write) level ≡ false) (ec : c ≡ (eqb (length d) 2 && eqb (numAt d 0 2) 0)) where
+    e : (p .writable && leb level (p .write)) ≡ true
+    e = both _ _ (was-yes (p .writable) ew) (le-leb level (p .write) (ltb-false (p .write) level el))
 
-  pub not-there :
-      (w c f : Bool) → i < u .sizes .properties → w ≡ (p .writable && leb level (p .write)) → not w ≡ false →
-      c ≡ (counted n t && eqb (length d) 2 && eqb (numAt d 0 2) 0) → c ≡ false →
-      f ≡ (elements n t (p .maximum) && eqb (length d) (n * p .element)) → not f ≡ true →
-      Gives r 11 u Stays (This (PropertyValueResponse object id 0 t)) [] → Serves u d decides r
-  not-there false c f h e q a x b y g = never (sym q)
-  not-there true c true h e q a x b y g = never y
-  not-there true c false h e q a x b y g =
-      record { agrees = λ s ok o k. by-decision _ (noValue object id t) (terms s k h ∙ rw (sym e, sym a ∙ x, sym b) refl) (agreed (noValue object id t) g k) }
+    as-clear : (x : Bool) → (counted n t && c) ≡ x → (counted n t && eqb (length d) 2 && eqb (numAt d 0 2) 0) ≡ x
+    as-clear x q = and-assoc (counted n t) (eqb (length d) 2) (eqb (numAt d 0 2) 0) ∙ ap (λ (b : Bool). counted n t && b) (sym ec) ∙ q
 
-  -- A WRITE OF ELEMENTS
-  pub is-filled :
-      (w c f : Bool) → i < u .sizes .properties → w ≡ (p .writable && leb level (p .write)) → not w ≡ false →
-      c ≡ (counted n t && eqb (length d) 2 && eqb (numAt d 0 2) 0) → c ≡ false →
-      f ≡ (elements n t (p .maximum) && eqb (length d) (n * p .element)) → not f ≡ false →
-      (v v′ : Parts) (x : ℕ) →
-      v ≡ withBodies u (splice (u .bodies) (elementAt (p .offset) (p .element) (t - jumped (p .count) t)) (padded (jumped (p .count) t * p .element) d)) →
-      x ≡ max (p .count) (t + n - 1) → v′ ≡ withCount v i x →
-      Gives r 0 v′ Stays (This (PropertyValueResponse object id n t)) d → Serves u d decides r
-  is-filled false c f h e q a y b z v v′ x ev ex ev′ g = never (sym q)
-  is-filled true c false h e q a y b z v v′ x ev ex ev′ g = never (sym z)
-  is-filled true c true h e q a y b z v v′ x ev ex ev′ g =
-      let m = and-is (elements n t (p .maximum)) (eqb (length d) (n * p .element)) .0 (sym b) in
-      record {
-        agrees = λ s ok o k.
-            by-decision _ (filled p (place s properties i) level object id n t d) (terms s k h ∙ rw (sym e, sym a ∙ y, sym b) refl)
-            (agreed (filled p (place s properties i) level object id n t d) g (both-stored u i n t d s ok k h (m .0) (eqb-true _ _ (m .1)) ev ex ev′));
-      }
+    pub is-clear :
+        t ≡ 0 → eqb n 1 ≡ true → c ≡ true → (v : Parts) → v ≡ withCount u i 0 →
+        Gives r 0 v Stays (This (PropertyValueResponse object id n t)) d → Serves u d decides r
+    is-clear q₁ q₂ q₃ v ev g =
+        record {
+          agrees = λ s ok o k.
+              by-decision _ (cleared p (place s properties i) level object id n t d) (terms s k h ∙ rw (e, as-clear true (both _ _ (both _ _ (eq-eqb t 0 q₁) q₂) q₃)) refl)
+              (agreed (cleared p (place s properties i) level object id n t d) g
+              (subst (λ (x : List ℕ). Taken (splice s (place s properties i + 6) x) v) (bytes-zero 2)
+              (subst (λ (x : Parts). Taken (splice s (place s properties i + 6) (bytesOf 2 0)) x) (sym ev) (count-changed s u k i 0 (there u i n t d s k h) (omega arith)))));
+        }
+
+    -- a write of elements; f is whether they are there, and z their bytes
+    module _ (cases : (c ≡ false) ⊎ ((eqb n 1 ≡ false) ⊎ (t ≡ 0 → ⊥))) (f : Bool) (z : ℕ) (ef : f ≡ elements n t (p .maximum)) (ez : z ≡ n * p .element) where
+      unclear : (counted n t && c) ≡ false
+      unclear = go cases
+        where
+          go : (c ≡ false) ⊎ ((eqb n 1 ≡ false) ⊎ (t ≡ 0 → ⊥)) → (counted n t && c) ≡ false
+          go (inl x) = not-second (counted n t) c x
+          go (inr (inl x)) = not-first (counted n t) c (not-second (eqb t 0) (eqb n 1) x)
+          go (inr (inr x)) = not-first (counted n t) c (not-first (eqb t 0) (eqb n 1) (ne-eqb t 0 x))
+
+      as-fills : (x : Bool) → (f && eqb (length d) z) ≡ x → (elements n t (p .maximum) && eqb (length d) (n * p .element)) ≡ x
+      as-fills x y = sym (ap₂ (λ (a : Bool) (b : ℕ). a && eqb (length d) b) ef ez) ∙ y
+
+      pub not-there :
+          (not f ≡ true) ⊎ (not (eqb (length d) z) ≡ true) →
+          Gives r 11 u Stays (This (PropertyValueResponse object id 0 t)) [] → Serves u d decides r
+      not-there y g =
+          record { agrees = λ s ok o k. by-decision _ (noValue object id t) (terms s k h ∙ rw (e, as-clear false unclear, as-fills false (other y)) refl) (agreed (noValue object id t) g k) }
+        where
+          other : (not f ≡ true) ⊎ (not (eqb (length d) z) ≡ true) → (f && eqb (length d) z) ≡ false
+          other (inl x) = not-first f (eqb (length d) z) (was-no f x)
+          other (inr x) = not-second f (eqb (length d) z) (was-no (eqb (length d) z) x)
+
+      -- A WRITE OF ELEMENTS
+      pub is-filled :
+          not f ≡ false → not (eqb (length d) z) ≡ false → (v v′ : Parts) (x : ℕ) →
+          v ≡ withBodies u (splice (u .bodies) (elementAt (p .offset) (p .element) (t - jumped (p .count) t)) (padded (jumped (p .count) t * p .element) d)) →
+          x ≡ max (p .count) (t + n - 1) → v′ ≡ withCount v i x →
+          Gives r 0 v′ Stays (This (PropertyValueResponse object id n t)) d → Serves u d decides r
+      is-filled y′ yl′ v v′ x ev ex ev′ g =
+          let y = was-yes f y′ in
+          let yl = eqb-true (length d) z (was-yes (eqb (length d) z) yl′) in
+          record {
+            agrees = λ s ok o k.
+                by-decision _ (filled p (place s properties i) level object id n t d)
+                (terms s k h ∙ rw (e, as-clear false unclear, as-fills true (both _ _ y (eq-eqb (length d) z yl))) refl)
+                (agreed (filled p (place s properties i) level object id n t d) g (both-stored u i n t d s ok k h (sym ef ∙ y) (yl ∙ ez) ev ex ev′));
+          }
 
 pub few : (u : Parts) (i : ℕ) → Held u → i < u .sizes .properties → i < 64
 few u i k h = omega (arith, k .taken .sizes .fewProperties)

@@ -1,8 +1,9 @@
 // The individual address, in programming mode and by serial number; the descriptor.
 use crate::Reply;
 use crate::replies::sending;
+use crate::replies::showing;
 use crate::replies::silent;
-use crate::replies::telling;
+use crate::replies::two_bytes;
 use parts::Parts;
 use pdu::Pdu;
 ghost use mathlib.Core.Path.{_≡_};
@@ -14,10 +15,8 @@ ghost use Rattle.plain_services.specs.Steps.{Serves};
 fn with_address(u: Parts, address: u16) -> Parts
     ensures { λ r. ⌜ r ≡ withAddress u address ⌝ }
 {
-    let mut head = u.head;
-    head.address = address;
     let mut v = u;
-    v.head = head;
+    v.head.address = address;
     v
 }
 
@@ -66,7 +65,11 @@ pub fn descriptor(u: Parts, t: u8) -> Reply
     ensures { λ r. ⌜ Serves u [] (λ s. descriptorOf s t) r ⌝ }
 {
     if t == 0 {
-        return telling(u, Pdu::DeviceDescriptorResponse { t: 0 }, u.head.mask);
+        return showing(
+            u,
+            Pdu::DeviceDescriptorResponse { t: 0 },
+            &two_bytes(u.head.mask),
+        );
     }
     if u.head.rules == 1 {
         return sending(u, 11, Pdu::DeviceDescriptorResponse { t: 63 });

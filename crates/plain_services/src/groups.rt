@@ -1,8 +1,8 @@
 // Group values: read, Response and write.
 use crate::Reply;
 use crate::memory::with_bodies;
-use crate::replies::quoting;
 use crate::replies::sending;
+use crate::replies::showing;
 use crate::replies::silent;
 use parts::Parts;
 use pdu::Pdu;
@@ -42,12 +42,13 @@ fn value(u: Parts, i: usize) -> Reply
 {
     let e = u.groups[i];
     let at = e.offset as usize;
+    let bodies = u.bodies;
     if e.code == 0 {
-        let bodies = u.bodies;
         let v = bodies[at];
         return sending(u, 0, Pdu::GroupValueResponse { v });
     }
-    quoting(u, Pdu::GroupValueResponse { v: 0 }, at, e.code as usize)
+    let end = at + e.code as usize;
+    showing(u, Pdu::GroupValueResponse { v: 0 }, &bodies[at..end])
 }
 
 // The value of a group object that may be read.

@@ -1,8 +1,9 @@
 // Authorize, key write and restart.
 use crate::Reply;
-use crate::replies::closing;
-use crate::replies::granting;
+use crate::Sent;
+use crate::replies::reply;
 use crate::replies::sending;
+use judge::Turn;
 use parts::Head;
 use parts::Parts;
 use pdu::Pdu;
@@ -35,7 +36,9 @@ fn level_with(h: Head, key: u32) -> u8
 pub fn authorize(u: Parts, key: u32) -> Reply
     ensures { λ r. ⌜ Serves u [] (λ s. authorizeOf s key) r ⌝ }
 {
-    granting(u, level_with(u.head, key))
+    let level = level_with(u.head, key);
+    let response = Pdu::AuthorizeResponse { level };
+    reply(u, 0, Turn::Level(level), Sent::This(response), &[])
 }
 
 fn with_key(u: Parts, i: usize, key: u32) -> Parts
@@ -56,10 +59,7 @@ pub fn key_write(u: Parts, level: u8, named: u8, key: u32) -> Reply
     ensures { λ r. ⌜ Serves u [] (λ s. keyWriteOf level named key) r ⌝ }
 {
     let no = Pdu::KeyResponse { level: 255 };
-    if 2 < named {
-        return sending(u, 11, no);
-    }
-    if named < level {
+    if 2 < named || named < level {
         return sending(u, 11, no);
     }
     let v = with_key(u, named as usize, key);
@@ -69,10 +69,8 @@ pub fn key_write(u: Parts, level: u8, named: u8, key: u32) -> Reply
 fn without_programming(u: Parts) -> Parts
     ensures { λ r. ⌜ r ≡ cleared u ⌝ }
 {
-    let mut head = u.head;
-    head.programming = false;
     let mut v = u;
-    v.head = head;
+    v.head.programming = false;
     v
 }
 
@@ -80,5 +78,5 @@ fn without_programming(u: Parts) -> Parts
 pub fn restart(u: Parts) -> Reply
     ensures { λ r. ⌜ Serves u [] (λ s. restartOf s) r ⌝ }
 {
-    closing(without_programming(u))
+    reply(without_programming(u), 1, Turn::Closes, Sent::Nothing, &[])
 }

@@ -27,7 +27,7 @@ fn bytes_from(bodies: [u8; 16384], a: Area, address: u16, n: u8) -> [u8; 14]
     requires { ⌜ (a .count ≤ 16) × (n ≤ 14) × ((j : ℕ) → j < n → placeIn (a .regions) (a .count) (address + j) < 16384) ⌝ }
     ensures { λ r. ⌜ (length r ≡ 14) × ((j : ℕ) → j < n → getD r j 0 ≡ getD bodies (placeIn (a .regions) (a .count) (address + j)) 0) ⌝ }
 {
-    let mut r = blank();
+    let mut r = [0u8; 14];
     let many = n as usize;
     let mut i = 0;
     while i < many {
@@ -36,12 +36,6 @@ fn bytes_from(bodies: [u8; 16384], a: Area, address: u16, n: u8) -> [u8; 14]
         i += 1;
     }
     r
-}
-
-fn blank() -> [u8; 14]
-    ensures { λ r. ⌜ length r ≡ 14 ⌝ }
-{
-    [0u8; 14]
 }
 
 // The bodies with the data from an address on.
@@ -114,7 +108,7 @@ pub fn memory_read(u: Parts, m: Memory, level: u8, n: u8, address: u16) -> Reply
     }
     let bodies = u.bodies;
     let bytes = bytes_from(bodies, a, address, n);
-    showing(u, response(m, n, address), bytes, n as usize)
+    showing(u, response(m, n, address), &bytes[..n as usize])
 }
 
 // A write is denied: 11 with the negative answer if verify is on, else 12.
@@ -135,7 +129,7 @@ fn written(u: Parts, a: Area, m: Memory, n: u8, address: u16) -> Reply
     if u.head.verify {
         let bodies = u.bodies;
         let bytes = bytes_from(bodies, a, address, n);
-        return showing(u, response(m, n, address), bytes, n as usize);
+        return showing(u, response(m, n, address), &bytes[..n as usize]);
     }
     silent(u, 1)
 }

@@ -17,10 +17,7 @@ ghost use Rattle.plain_services.specs.Memory.{has as hasOf, mayIn, regio
 fn has(e: Region, address: usize) -> bool
     ensures { λ r. ⌜ r ≡ hasOf e address ⌝ }
 {
-    if address < e.address as usize {
-        return false;
-    }
-    address < e.address as usize + e.length as usize
+    e.address as usize <= address && address < e.address as usize + e.length as usize
 }
 
 // The first of n regions that has the address, n where none has it.
@@ -39,16 +36,6 @@ fn region_with(regions: [Region; 16], n: usize, address: usize) -> usize
     n
 }
 
-// The level suffices to change bits: for reading and for writing.
-fn may_change(e: Region, level: u8) -> bool
-    ensures { λ r. ⌜ r ≡ mayIn Access.Change level e ⌝ }
-{
-    if level <= e.read {
-        return level <= e.write;
-    }
-    false
-}
-
 // The level suffices.
 fn may(w: Access, level: u8, e: Region) -> bool
     ensures { λ r. ⌜ r ≡ mayIn w level e ⌝ }
@@ -56,7 +43,7 @@ fn may(w: Access, level: u8, e: Region) -> bool
     match w {
         Access::Read => level <= e.read,
         Access::Write => level <= e.write,
-        Access::Change => may_change(e, level),
+        Access::Change => level <= e.read && level <= e.write,
     }
 }
 
@@ -66,33 +53,7 @@ fn one_allowed(regions: [Region; 16], n: usize, w: Access, level: u8, address: u
     ensures { λ r. ⌜ r ≡ allowedAt regions n w level address ⌝ }
 {
     let i = region_with(regions, n, address);
-    if n <= i {
-        return false;
-    }
-    let e = regions[i];
-    may(w, level, e)
-}
-
-// So many addresses from an address on, each in a region for which the level suffices.
-fn all_allowed(
-    regions: [Region; 16],
-    n: usize,
-    w: Access,
-    level: u8,
-    from: usize,
-    many: usize,
-) -> bool
-    requires { ⌜ (n ≤ 16) × (from ≤ 65535) × (many ≤ 255) ⌝ }
-    ensures { λ r. ⌜ r ≡ allAllowed regions n w level from many ⌝ }
-{
-    let mut i = 0;
-    while i < many {
-        if !one_allowed(regions, n, w, level, from + i) {
-            return false;
-        }
-        i += 1;
-    }
-    true
+    i < n && may(w, level, regions[i])
 }
 
 // n is 1 to the most that may be named, and all addresses are allowed.
@@ -100,14 +61,19 @@ pub fn allowed(a: Area, w: Access, level: u8, most: u8, n: u8, address: u16) -> 
     requires { ⌜ a .count ≤ 16 ⌝ }
     ensures { λ r. ⌜ ((s : List ℕ) (m : Memory) → IsArea s m (a .regions) (a .count) → r ≡ runAllowed w most level n (rangeOf s m address n)) ⌝ }
 {
-    if n < 1 {
-        return false;
-    }
-    if most < n {
+    if n < 1 || most < n {
         return false;
     }
     let regions = a.regions;
-    all_allowed(regions, a.count, w, level, address as usize, n as usize)
+    let many = n as usize;
+    let mut i = 0;
+    while i < many {
+        if !one_allowed(regions, a.count, w, level, address as usize + i) {
+            return false;
+        }
+        i += 1;
+    }
+    true
 }
 
 // Where an address stands among the bodies. It is asked for addresses that are allowed; another has no place, and gets 0.

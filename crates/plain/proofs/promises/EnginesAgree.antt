@@ -1,10 +1,12 @@
 -- BOTH ENGINES GIVE THE SAME: `device::request` and `plain::request` have one contract, and it leaves no result open.
 -- Assumes nothing.
 use Prim.Native.Nat.{ℕ}
-use mathlib.Core.Path.{sym, ap₂, _∙_}
+use mathlib.Core.Path.{_≡_, sym, ap₂, subst, _∙_}
 use mathlib.Core.List.{List}
 use lib.ListN.{take}
 use Rattle.device.specs.Events.{Called}
+use Rattle.device.specs.Changed.{Requested}
+use Rattle.device.specs.declared.Made.{Made}
 use Rattle.device.specs.declared.Sessions.{Sessions}
 use Rattle.device.specs.declared.Done.{Done}
 use Rattle.plain.specs.Same.{Same}
@@ -26,3 +28,11 @@ engines-agree q mode c group a s o r r′ s₁ s₂ o₁ o₂ x y =
       sessions = f .sessions ∙ sym (g .sessions);
       sheet = f .sheet ∙ sym (g .sheet);
     }
+
+-- the first engine by its own contract, which names parts besides, and the plain one, on sheets and buffers that hold the same
+pub first-and-plain :
+    (q : Sessions) (mode c group : ℕ) (a s s′ o o′ : List ℕ) (r : Made) (r′ : Done) (s₁ s₂ o₁ o₂ : List ℕ) → s′ ≡ s → o′ ≡ o →
+    Requested q mode c group a s o r s₁ o₁ → Called q mode c group a s′ o′ r′ s₂ o₂ → Same (r .done) r′ s₁ s₂ o₁ o₂
+first-and-plain q mode c group a s s′ o o′ r r′ s₁ s₂ o₁ o₂ e h x y =
+    engines-agree q mode c group a s o (r .done) r′ s₁ s₂ o₁ o₂ (x .call)
+    (subst (λ (t : List ℕ). Called q mode c group a t o r′ s₂ o₂) e (subst (λ (b : List ℕ). Called q mode c group a s′ b r′ s₂ o₂) h y))

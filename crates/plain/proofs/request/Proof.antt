@@ -11,15 +11,99 @@ request-spec =
     tie.close
     (tie.spec
     (λ c κs. search needs) (λ c κs. search needs) (λ c κs. search needs) (λ c. search needs)
-    (λ c. refused-called (c .before .before .before .before .before .before .before .before .args .sessions) (c .before .before .before .before .before .before .before .before .args .mode) (c .before .before .before .before .before .before .before .before .args .connection) (c .before .before .before .before .before .before .before .before .args .group) (c .before .before .before .before .before .before .before .before .args .apdu .now) _ (c .before .before .before .before .before .before .before .before .args .answer .now) (c .before .before .before .before .session-met .result) (c .before .before .before .before .session-met .ensures) (λ i. c .before .before .before .before .before .before .slice-known .given i .fits) (λ i. c .before .before .before .before .before .before .before .shared-slice-known .given i .fits) _ _ (first-due _ _ (c .before .before .before .before .session-met .result) (c .before .before .before .before .before .before .before .before .args .mode) (c .before .before .before .before .before .before .before .before .args .apdu .now) _ (c .before .before .refused-first .ensures) _ (c .before .if1 .taken)) (c .refused .ensures))
-    (λ c κs. accepted _ _ (c .before .before .before .before .session-met .result) (c .before .before .before .before .before .before .before .before .args .mode) (c .before .before .before .before .before .before .before .before .args .apdu .now) _ (c .before .before .refused-first .ensures) (c .before .if1 .left))
+    (λ c.
+    let go1 = c .before in
+    let one = go1 .before in
+    let met = one .before .before in
+    let lent = met .before .before in
+    let apdu = lent .before in
+    let start = apdu .before in
+    refused-called (start .args .sessions) (start .args .mode) (start .args .connection) (start .args .group) (start .args .apdu .now) _ (start .args .answer .now) (met .session-met .result) (met .session-met .ensures) (λ i. lent .slice-known .given i .fits) (λ i. apdu .shared-slice-known .given i .fits) _ _ (first-due _ _ (met .session-met .result) (start .args .mode) (start .args .apdu .now) _ (one .refused-first .ensures) _ (go1 .if1 .taken)) (c .refused .ensures))
+    (λ c κs.
+    let go1 = c .before in
+    let one = go1 .before in
+    let met = one .before .before in
+    let start = met .before .before .before .before in
+    accepted _ _ (met .session-met .result) (start .args .mode) (start .args .apdu .now) _ (one .refused-first .ensures) (go1 .if1 .left))
     (λ c κs. search needs) (λ c κs. search needs) (λ c κs. search needs) (λ c κs. search needs) (λ c. search needs)
-    (λ c. refused-called (c .before .before .before .before .before .before .before .before .before .before .before .before .before .before .args .sessions) (c .before .before .before .before .before .before .before .before .before .before .before .before .before .before .args .mode) (c .before .before .before .before .before .before .before .before .before .before .before .before .before .before .args .connection) (c .before .before .before .before .before .before .before .before .before .before .before .before .before .before .args .group) (c .before .before .before .before .before .before .before .before .before .before .before .before .before .before .args .apdu .now) _ (c .before .before .before .before .before .before .before .before .before .before .before .before .before .before .args .answer .now) (c .before .before .before .before .before .before .before .before .before .before .session-met .result) (c .before .before .before .before .before .before .before .before .before .before .session-met .ensures) (λ i. c .before .before .before .before .before .before .before .before .before .before .before .before .slice-known .given i .fits) (λ i. c .before .before .before .before .before .before .before .before .before .before .before .before .before .shared-slice-known .given i .fits) _ _ (next-due _ _ (c .before .before .before .before .before .before .before .before .before .before .session-met .result) (c .before .before .before .before .before .before .before .before .before .before .before .before .before .before .args .mode) (c .before .before .before .before .before .before .before .before .before .before .before .before .before .before .args .apdu .now) _ (c .before .before .before .before .before .before .before .before .refused-first .ensures) (c .before .before .before .before .before .before .before .if1 .left) _ _ (found-as _ _ _ (c .before .before .before .service-of .ensures) (c .before .before .before .before .code .ensures)) _ (rules-as _ _ (c .before .before .before .before .before .take-apart .ensures)) _ (c .before .before .refused-next .ensures) (c .before .if2 .taken)) (c .refused2 .ensures))
+    (λ c.
+    let go2 = c .before in
+    let two = go2 .before in
+    let found = two .before in
+    let coded = found .before in
+    let taken = coded .before in
+    let go1 = taken .before .before in
+    let one = go1 .before in
+    let met = one .before .before in
+    let lent = met .before .before in
+    let apdu = lent .before in
+    let start = apdu .before in
+    refused-called (start .args .sessions) (start .args .mode) (start .args .connection) (start .args .group) (start .args .apdu .now) _ (start .args .answer .now) (met .session-met .result) (met .session-met .ensures) (λ i. lent .slice-known .given i .fits) (λ i. apdu .shared-slice-known .given i .fits) _ _ (next-due _ _ (met .session-met .result) (start .args .mode) (start .args .apdu .now) _ (one .refused-first .ensures) (go1 .if1 .left) _ _ (found-as _ _ _ (found .service-of .ensures) (coded .code .ensures)) _ (rules-as _ _ (taken .take-apart .ensures)) _ (two .refused-next .ensures) (go2 .if2 .taken)) (c .refused2 .ensures))
     (λ c κs. found-as _ _ _ (c .before .before .service-of .ensures) (c .before .before .before .code .ensures))
     (λ c. search needs) (λ c. search needs) (λ c κs. search needs) (λ c κs. search needs) (λ c. search needs)
-    (λ c. unread-called (c .before .before .before .before .before .before .before .before .before .before .before .before .before .before .before .before .before .before .args .sessions) (c .before .before .before .before .before .before .before .before .before .before .before .before .before .before .before .before .before .before .args .mode) (c .before .before .before .before .before .before .before .before .before .before .before .before .before .before .before .before .before .before .args .connection) (c .before .before .before .before .before .before .before .before .before .before .before .before .before .before .before .before .before .before .args .group) (c .before .before .before .before .before .before .before .before .before .before .before .before .before .before .before .before .before .before .args .apdu .now) _ (c .before .before .before .before .before .before .before .before .before .before .before .before .before .before .before .before .before .before .args .answer .now) (c .before .before .before .before .before .before .before .before .before .before .before .before .before .before .session-met .result) (c .before .before .before .before .before .before .before .before .before .before .before .before .before .before .session-met .ensures) (λ i. c .before .before .before .before .before .before .before .before .before .before .before .before .before .before .before .before .slice-known .given i .fits) (λ i. c .before .before .before .before .before .before .before .before .before .before .before .before .before .before .before .before .before .shared-slice-known .given i .fits) _ _ _ _ (c .before .before .before .before .read-found .ensures) (c .before .before .enum-told .given .1) (c .before .outcome .ensures) (reads-next _ _ (c .before .before .before .before .before .before .before .before .before .before .before .before .before .before .session-met .result) (c .before .before .before .before .before .before .before .before .before .before .before .before .before .before .before .before .before .before .args .mode) (c .before .before .before .before .before .before .before .before .before .before .before .before .before .before .before .before .before .before .args .apdu .now) _ (c .before .before .before .before .before .before .before .before .before .before .before .before .refused-first .ensures) (c .before .before .before .before .before .before .before .before .before .before .before .if1 .left) _ _ (found-as _ _ _ (c .before .before .before .before .before .before .before .service-of .ensures) (c .before .before .before .before .before .before .before .before .code .ensures)) _ (rules-as _ _ (c .before .before .before .before .before .before .before .before .before .take-apart .ensures)) _ (c .before .before .before .before .before .before .refused-next .ensures) (c .before .before .before .before .before .if2 .left)) (c .refused3 .ensures))
+    (λ c.
+    let told = c .before in
+    let is = told .before in
+    let got = is .before .before in
+    let go2 = got .before in
+    let two = go2 .before in
+    let found = two .before in
+    let coded = found .before in
+    let taken = coded .before in
+    let go1 = taken .before .before in
+    let one = go1 .before in
+    let met = one .before .before in
+    let lent = met .before .before in
+    let apdu = lent .before in
+    let start = apdu .before in
+    unread-called (start .args .sessions) (start .args .mode) (start .args .connection) (start .args .group) (start .args .apdu .now) _ (start .args .answer .now) (met .session-met .result) (met .session-met .ensures) (λ i. lent .slice-known .given i .fits) (λ i. apdu .shared-slice-known .given i .fits) _ _ _ _ (got .read-found .ensures) (is .enum-told .given .1) (told .outcome .ensures) (reads-next _ _ (met .session-met .result) (start .args .mode) (start .args .apdu .now) _ (one .refused-first .ensures) (go1 .if1 .left) _ _ (found-as _ _ _ (found .service-of .ensures) (coded .code .ensures)) _ (rules-as _ _ (taken .take-apart .ensures)) _ (two .refused-next .ensures) (go2 .if2 .left)) (c .refused3 .ensures))
     (λ c κs. search needs) (λ c κs. search needs)
-    (λ c κs. (held _ _ (accepted _ _ (c .before .before .before .before .before .before .before .before .before .before .before .before .before .before .before .session-met .result) (c .before .before .before .before .before .before .before .before .before .before .before .before .before .before .before .before .before .before .before .args .mode) (c .before .before .before .before .before .before .before .before .before .before .before .before .before .before .before .before .before .before .before .args .apdu .now) _ (c .before .before .before .before .before .before .before .before .before .before .before .before .before .refused-first .ensures) (c .before .before .before .before .before .before .before .before .before .before .before .before .if1 .left)) (λ i. c .before .before .before .before .before .before .before .before .before .before .before .before .before .before .before .before .before .slice-known .given i .fits) (c .before .before .before .before .before .before .before .before .before .before .take-apart .ensures), requested _ _ _ _ (c .before .before .before .before .before .read-found .ensures) (c .before .before .before .parsed .given .1) (c .before .data-of .ensures)))
-    (λ c κs. carry-needs (c .before .before .before .before .before .before .before .before .before .before .before .before .before .before .before .before .before .before .before .before .before .before .args .sessions) (c .before .before .before .before .before .before .before .before .before .before .before .before .before .before .before .before .before .before .before .before .before .before .args .mode) (c .before .before .before .before .before .before .before .before .before .before .before .before .before .before .before .before .before .before .before .before .before .before .args .connection) (c .before .before .before .before .before .before .before .before .before .before .before .before .before .before .before .before .before .before .before .before .before .before .args .group) (c .before .before .before .before .before .before .before .before .before .before .before .before .before .before .before .before .before .before .before .before .before .before .args .apdu .now) _ (c .before .before .before .before .before .before .before .before .before .before .before .before .before .before .before .before .before .before .before .before .before .before .args .answer .now) (c .before .before .before .before .before .before .before .before .before .before .before .before .before .before .before .before .before .before .session-met .result) (c .before .before .before .before .before .before .before .before .before .before .before .before .before .before .before .before .before .before .session-met .ensures) (λ i. c .before .before .before .before .before .before .before .before .before .before .before .before .before .before .before .before .before .before .before .before .slice-known .given i .fits) (λ i. c .before .before .before .before .before .before .before .before .before .before .before .before .before .before .before .before .before .before .before .before .before .shared-slice-known .given i .fits) (accepted _ _ (c .before .before .before .before .before .before .before .before .before .before .before .before .before .before .before .before .before .before .session-met .result) (c .before .before .before .before .before .before .before .before .before .before .before .before .before .before .before .before .before .before .before .before .before .before .args .mode) (c .before .before .before .before .before .before .before .before .before .before .before .before .before .before .before .before .before .before .before .before .before .before .args .apdu .now) _ (c .before .before .before .before .before .before .before .before .before .before .before .before .before .before .before .before .refused-first .ensures) (c .before .before .before .before .before .before .before .before .before .before .before .before .before .before .before .if1 .left)) (roomy _ _ (c .before .before .before .before .before .before .before .before .before .before .before .before .before .before .before .before .before .before .session-met .result) (c .before .before .before .before .before .before .before .before .before .before .before .before .before .before .before .before .before .before .before .before .before .before .args .mode) (c .before .before .before .before .before .before .before .before .before .before .before .before .before .before .before .before .before .before .before .before .before .before .args .apdu .now) _ (c .before .before .before .before .before .before .before .before .before .before .before .before .before .before .before .before .refused-first .ensures) (c .before .before .before .before .before .before .before .before .before .before .before .before .before .before .before .if1 .left)) _ (c .before .before .before .before .before .before .before .before .read-found .ensures) _ (c .before .before .before .before .before .before .parsed .given .1) _ (c .before .before .before .before .data-of .ensures) _ (c .before .before .before .acting-level .ensures) (reads-next _ _ (c .before .before .before .before .before .before .before .before .before .before .before .before .before .before .before .before .before .before .session-met .result) (c .before .before .before .before .before .before .before .before .before .before .before .before .before .before .before .before .before .before .before .before .before .before .args .mode) (c .before .before .before .before .before .before .before .before .before .before .before .before .before .before .before .before .before .before .before .before .before .before .args .apdu .now) _ (c .before .before .before .before .before .before .before .before .before .before .before .before .before .before .before .before .refused-first .ensures) (c .before .before .before .before .before .before .before .before .before .before .before .before .before .before .before .if1 .left) _ _ (found-as _ _ _ (c .before .before .before .before .before .before .before .before .before .before .before .service-of .ensures) (c .before .before .before .before .before .before .before .before .before .before .before .before .code .ensures)) _ (rules-as _ _ (c .before .before .before .before .before .before .before .before .before .before .before .before .before .take-apart .ensures)) _ (c .before .before .before .before .before .before .before .before .before .before .refused-next .ensures) (c .before .before .before .before .before .before .before .before .before .if2 .left)) _ (c .before .before .before .before .before .before .before .before .before .before .before .before .before .take-apart .ensures) _ (c .before .before .serve .ensures))
+    (λ c κs.
+    let given = c .before in
+    let pdu = given .before .before in
+    let got = pdu .before .before in
+    let taken = got .before .before .before .before .before in
+    let go1 = taken .before .before in
+    let one = go1 .before in
+    let met = one .before .before in
+    let lent = met .before .before in
+    let start = lent .before .before in
+    (held _ _ (accepted _ _ (met .session-met .result) (start .args .mode) (start .args .apdu .now) _ (one .refused-first .ensures) (go1 .if1 .left)) (λ i. lent .slice-known .given i .fits) (taken .take-apart .ensures), requested _ _ _ _ (got .read-found .ensures) (pdu .parsed .given .1) (given .data-of .ensures)))
+    (λ c κs.
+    let served = c .before .before in
+    let acts = served .before in
+    let given = acts .before in
+    let pdu = given .before .before in
+    let got = pdu .before .before in
+    let go2 = got .before in
+    let two = go2 .before in
+    let found = two .before in
+    let coded = found .before in
+    let taken = coded .before in
+    let go1 = taken .before .before in
+    let one = go1 .before in
+    let met = one .before .before in
+    let lent = met .before .before in
+    let apdu = lent .before in
+    let start = apdu .before in
+    carry-needs (start .args .sessions) (start .args .mode) (start .args .connection) (start .args .group) (start .args .apdu .now) _ (start .args .answer .now) (met .session-met .result) (met .session-met .ensures) (λ i. lent .slice-known .given i .fits) (λ i. apdu .shared-slice-known .given i .fits) (accepted _ _ (met .session-met .result) (start .args .mode) (start .args .apdu .now) _ (one .refused-first .ensures) (go1 .if1 .left)) (roomy _ _ (met .session-met .result) (start .args .mode) (start .args .apdu .now) _ (one .refused-first .ensures) (go1 .if1 .left)) _ (got .read-found .ensures) _ (pdu .parsed .given .1) _ (given .data-of .ensures) _ (acts .acting-level .ensures) (reads-next _ _ (met .session-met .result) (start .args .mode) (start .args .apdu .now) _ (one .refused-first .ensures) (go1 .if1 .left) _ _ (found-as _ _ _ (found .service-of .ensures) (coded .code .ensures)) _ (rules-as _ _ (taken .take-apart .ensures)) _ (two .refused-next .ensures) (go2 .if2 .left)) _ (taken .take-apart .ensures) _ (served .serve .ensures))
     (λ c. search needs) (λ c. search needs)
-    (λ c. served-called (c .before .before .before .before .before .before .before .before .before .before .before .before .before .before .before .before .before .before .before .before .before .before .before .before .before .before .before .args .sessions) (c .before .before .before .before .before .before .before .before .before .before .before .before .before .before .before .before .before .before .before .before .before .before .before .before .before .before .before .args .mode) (c .before .before .before .before .before .before .before .before .before .before .before .before .before .before .before .before .before .before .before .before .before .before .before .before .before .before .before .args .connection) (c .before .before .before .before .before .before .before .before .before .before .before .before .before .before .before .before .before .before .before .before .before .before .before .before .before .before .before .args .group) (c .before .before .before .before .before .before .before .before .before .before .before .before .before .before .before .before .before .before .before .before .before .before .before .before .before .before .before .args .apdu .now) _ (c .before .before .before .before .before .before .before .before .before .before .before .before .before .before .before .before .before .before .before .before .before .before .before .before .before .before .before .args .answer .now) (c .before .before .before .before .before .before .before .before .before .before .before .before .before .before .before .before .before .before .before .before .before .before .before .session-met .result) (c .before .before .before .before .before .before .before .before .before .before .before .before .before .before .before .before .before .before .before .before .before .before .before .session-met .ensures) (λ i. c .before .before .before .before .before .before .before .before .before .before .before .before .before .before .before .before .before .before .before .before .before .before .before .before .before .slice-known .given i .fits) (λ i. c .before .before .before .before .before .before .before .before .before .before .before .before .before .before .before .before .before .before .before .before .before .before .before .before .before .before .shared-slice-known .given i .fits) (accepted _ _ (c .before .before .before .before .before .before .before .before .before .before .before .before .before .before .before .before .before .before .before .before .before .before .before .session-met .result) (c .before .before .before .before .before .before .before .before .before .before .before .before .before .before .before .before .before .before .before .before .before .before .before .before .before .before .before .args .mode) (c .before .before .before .before .before .before .before .before .before .before .before .before .before .before .before .before .before .before .before .before .before .before .before .before .before .before .before .args .apdu .now) _ (c .before .before .before .before .before .before .before .before .before .before .before .before .before .before .before .before .before .before .before .before .before .refused-first .ensures) (c .before .before .before .before .before .before .before .before .before .before .before .before .before .before .before .before .before .before .before .before .if1 .left)) (roomy _ _ (c .before .before .before .before .before .before .before .before .before .before .before .before .before .before .before .before .before .before .before .before .before .before .before .session-met .result) (c .before .before .before .before .before .before .before .before .before .before .before .before .before .before .before .before .before .before .before .before .before .before .before .before .before .before .before .args .mode) (c .before .before .before .before .before .before .before .before .before .before .before .before .before .before .before .before .before .before .before .before .before .before .before .before .before .before .before .args .apdu .now) _ (c .before .before .before .before .before .before .before .before .before .before .before .before .before .before .before .before .before .before .before .before .before .refused-first .ensures) (c .before .before .before .before .before .before .before .before .before .before .before .before .before .before .before .before .before .before .before .before .if1 .left)) _ (c .before .before .before .before .before .before .before .before .before .before .before .before .before .read-found .ensures) _ (c .before .before .before .before .before .before .before .before .before .before .before .parsed .given .1) _ (c .before .before .before .before .before .before .before .before .before .data-of .ensures) _ (c .before .before .before .before .before .before .before .before .acting-level .ensures) (reads-next _ _ (c .before .before .before .before .before .before .before .before .before .before .before .before .before .before .before .before .before .before .before .before .before .before .before .session-met .result) (c .before .before .before .before .before .before .before .before .before .before .before .before .before .before .before .before .before .before .before .before .before .before .before .before .before .before .before .args .mode) (c .before .before .before .before .before .before .before .before .before .before .before .before .before .before .before .before .before .before .before .before .before .before .before .before .before .before .before .args .apdu .now) _ (c .before .before .before .before .before .before .before .before .before .before .before .before .before .before .before .before .before .before .before .before .before .refused-first .ensures) (c .before .before .before .before .before .before .before .before .before .before .before .before .before .before .before .before .before .before .before .before .if1 .left) _ _ (found-as _ _ _ (c .before .before .before .before .before .before .before .before .before .before .before .before .before .before .before .before .service-of .ensures) (c .before .before .before .before .before .before .before .before .before .before .before .before .before .before .before .before .before .code .ensures)) _ (rules-as _ _ (c .before .before .before .before .before .before .before .before .before .before .before .before .before .before .before .before .before .before .take-apart .ensures)) _ (c .before .before .before .before .before .before .before .before .before .before .before .before .before .before .before .refused-next .ensures) (c .before .before .before .before .before .before .before .before .before .before .before .before .before .before .if2 .left)) _ (c .before .before .before .before .before .before .before .before .before .before .before .before .before .before .before .before .before .before .take-apart .ensures) _ (c .before .before .before .before .before .before .before .serve .ensures) _ _ _ (c .before .before .before .before .carry-out .ensures)))
+    (λ c.
+    let carried = c .before .before .before .before in
+    let served = carried .before .before .before in
+    let acts = served .before in
+    let given = acts .before in
+    let pdu = given .before .before in
+    let got = pdu .before .before in
+    let go2 = got .before in
+    let two = go2 .before in
+    let found = two .before in
+    let coded = found .before in
+    let taken = coded .before in
+    let go1 = taken .before .before in
+    let one = go1 .before in
+    let met = one .before .before in
+    let lent = met .before .before in
+    let apdu = lent .before in
+    let start = apdu .before in
+    served-called (start .args .sessions) (start .args .mode) (start .args .connection) (start .args .group) (start .args .apdu .now) _ (start .args .answer .now) (met .session-met .result) (met .session-met .ensures) (λ i. lent .slice-known .given i .fits) (λ i. apdu .shared-slice-known .given i .fits) (accepted _ _ (met .session-met .result) (start .args .mode) (start .args .apdu .now) _ (one .refused-first .ensures) (go1 .if1 .left)) (roomy _ _ (met .session-met .result) (start .args .mode) (start .args .apdu .now) _ (one .refused-first .ensures) (go1 .if1 .left)) _ (got .read-found .ensures) _ (pdu .parsed .given .1) _ (given .data-of .ensures) _ (acts .acting-level .ensures) (reads-next _ _ (met .session-met .result) (start .args .mode) (start .args .apdu .now) _ (one .refused-first .ensures) (go1 .if1 .left) _ _ (found-as _ _ _ (found .service-of .ensures) (coded .code .ensures)) _ (rules-as _ _ (taken .take-apart .ensures)) _ (two .refused-next .ensures) (go2 .if2 .left)) _ (taken .take-apart .ensures) _ (served .serve .ensures) _ _ _ (carried .carry-out .ensures)))

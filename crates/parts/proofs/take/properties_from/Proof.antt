@@ -2,6 +2,7 @@
 -- Assumes nothing.
 use Prim.Native.Nat.{ℕ, _+_, _*_, _-_, _≤_, _<_}
 use mathlib.Core.Path.{_≡_, refl, _∙_}
+use borrow.Author.Needs.{needs}
 use native.Mathlib.Omega.{arith}
 use lib.ListN.{length, getD, length-set}
 use Rattle.parts.specs.Records.{IsProperty, noProperty}
@@ -18,10 +19,10 @@ abbrev μ-loop : tie.MeasureT-loop
 loop-again : tie.Need-loop-again Inv-loop μ-loop
 loop-again c =
     let i = c .before .before .loop in
-    let a = c .before .before .before .before .args in (
+    let a = c .before .before .before .before .before .before .args in (
       omega arith,
       length-set (i .r) (i .i) _ ∙ i .inv .1,
-      one-more noProperty (λ x j. IsProperty x (a .s .now) (a .at + 12 * j)) (i .r) _ (i .i) (omega (arith, i .inv .1)) (i .inv .2) (c .property .ensures),
+      one-more noProperty (λ x j. IsProperty x (a .s .now) (a .at + 12 * j)) (i .r) _ (i .i) (omega (arith, i .inv .1)) (i .inv .2) (c .property2 .ensures),
     )
 
 returns : tie.Need-returns Inv-loop μ-loop
@@ -33,6 +34,7 @@ properties-from-spec =
     (tie.spec
     Inv-loop
     μ-loop
+    (λ c. search needs) (λ c κs. search needs)
     (λ c. (omega arith, refl, λ j h. absurd (omega arith)))
     (λ c. omega arith) (λ c. omega arith) (λ c κs. omega arith) (λ c. omega arith) (λ c. omega arith)
     (λ c. omega arith) (λ c. omega arith)

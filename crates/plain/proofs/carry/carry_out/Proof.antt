@@ -1,15 +1,44 @@
 -- `plain::carry::carry_out` meets its contract.
 -- Assumes nothing.
+use Prim.Native.Nat.{ℕ}
+use mathlib.Core.Path.{refl, sym, ap, subst, _∙_}
+use mathlib.Core.Logic.{⊎-elim}
+use mathlib.Core.List.{List}
 use borrow.Author.Needs.{needs}
-use mathlib.Core.Path.{refl}
+use native.Mathlib.Omega.{arith}
+use lib.ListN.{length}
+use Rattle.parts.specs.Again.{Restores, Whole}
 use Rattle.plain.proofs.carry.carry_out.Statement.{statement}
 use Rattle.plain.proofs.carry.carry_out.Tie as tie
+
+-- written again or not, the sheet is as long as it was
+same-length : tie.Need-same-length
+same-length c =
+    let met = c .before .before .before .before .before in
+    ⊎-elim (λ w. ap length (w .5) ∙ w .2 .kept .1 .0) (λ w. ap length (w .1)) (met .if1 .came)
+
+returns : tie.Need-returns
+returns c =
+    let sent = c .before .before .before in
+    let met = sent .before .before in
+    let a = met .before .before .before .before .before .args in
+    record {
+      outcome = refl;
+      kept = λ h. ⊎-elim (λ w. absurd (omega (arith, w .0 .taken))) (λ w. w .1) (met .if1 .came);
+      sheet =
+          λ h.
+          ⊎-elim
+          (λ w. subst (λ (t : List ℕ). Restores (Whole (a .r .parts)) (a .sheet .now) t 0 (a .r .parts .length)) (sym (w .5)) (w .2 .ensures))
+          (λ w. absurd (omega (arith, w .0 .left))) (met .if1 .came);
+      answer = sent .send .ensures;
+      sessions = c .sessions-after .ensures;
+    }
 
 pub carry-out-spec : {M : Type 1} → statement M
 carry-out-spec =
     tie.close
     (tie.spec
-    (λ c κs. c .before .before .before .before .pre .0)
-    (λ c κs. (c .before .before .before .before .before .before .before .before .pre .1, c .before .before .before .before .before .before .before .before .pre .2, c .before .before .before .before .before .before .before .before .pre .3))
-    (λ c κs. search needs) (λ c. search needs) (λ c. search needs)
-    (λ c. record { outcome = refl; sheet = c .before .before .before .before .before .before .before .write-again .ensures; answer = c .before .before .before .send .ensures; sessions = c .sessions-after .ensures }))
+    (λ c κs. search needs) (λ c κs. search needs) (λ c κs. search needs)
+    same-length
+    (λ c. search needs)
+    returns)

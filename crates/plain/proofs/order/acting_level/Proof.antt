@@ -1,7 +1,8 @@
 -- `plain::order::acting_level` meets its contract.
 -- Assumes nothing.
 use native.Mathlib.Omega.{arith}
-use Rattle.octets.proofs.Tests.{tests}
+use mathlib.Core.Logic.{⊎-elim, inl, inr}
+use Rattle.octets.proofs.Tests.{branches}
 use Rattle.judge.specs.Session.{levelIn, levelOf}
 use Rattle.plain.proofs.order.acting_level.Statement.{statement}
 use Rattle.plain.proofs.order.acting_level.Tie as tie
@@ -11,6 +12,4 @@ unfolding levelIn levelOf
 acting-level-spec =
     tie.close
     (tie.spec
-    (λ c. search (tests, arith))
-    (λ c. search (tests, arith))
-    (λ c. search (tests, arith)))
+    (λ c. ⊎-elim (λ w. search (branches, arith)) (λ w. search (branches, arith)) (c .if1 .came)) (λ c. search (branches, arith)))

@@ -1,6 +1,7 @@
 -- `plain::order::refused_first` meets its contract.
 -- Assumes nothing.
 use borrow.Author.Needs.{needs}
+use mathlib.Core.Logic.{⊎-elim, inl, inr}
 use Rattle.plain.proofs.Ordered.{due-3, due-4, due-5, due-5-long, due-6, due-7, due-none}
 use Rattle.plain.proofs.order.refused_first.Statement.{statement}
 use Rattle.plain.proofs.order.refused_first.Tie as tie
@@ -12,8 +13,7 @@ refused-first-spec =
     (λ c. search due-3)
     (λ c κs. search needs)
     (λ c. search due-4)
-    (λ c. search due-5)
-    (λ c. search due-5-long)
+    (λ c. ⊎-elim (λ w. search due-5) (λ w. search due-5-long) (c .if3 .came))
     (λ c. search due-6)
     (λ c κs. search needs)
     (λ c. search due-7)

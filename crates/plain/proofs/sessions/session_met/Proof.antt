@@ -1,18 +1,33 @@
 -- `plain::sessions::session_met` meets its contract.
 -- Assumes nothing.
 use borrow.Author.Needs.{needs}
-use native.Mathlib.Omega.{arith}
-use Rattle.octets.proofs.Tests.{branches}
+use mathlib.Core.Logic.{⊎-elim, inl, inr}
+use mathlib.Core.Path.{_∙_}
+use Rattle.plain.proofs.Sessioned.{met-first, met-second, met-none}
 use Rattle.plain.proofs.sessions.session_met.Statement.{statement}
 use Rattle.plain.proofs.sessions.session_met.Tie as tie
+
+returns : tie.Need-returns
+returns c =
+    let at-if2 = c .before in
+    let a = at-if2 .before .before .args in
+    met-first (a .q) (a .mode) (a .connection) 0 (at-if2 .before .if1 .taken) (at-if2 .if2 .taken)
+
+returns-2 : tie.Need-returns-2
+returns-2 c =
+    let at-if4 = c .before in
+    let a = at-if4 .before .before .before .args in
+    met-second (a .q) (a .mode) (a .connection) 0 (at-if4 .before .if3 .taken) (at-if4 .if4 .taken)
+
+returns-3 : tie.Need-returns-3
+returns-3 c =
+    let at-if3 = c .before in
+    let at-if1 = at-if3 .before in
+    let a = at-if1 .before .args in
+    c .closed .ensures ∙ met-none (a .q) (a .mode) (a .connection) 0 (⊎-elim (λ w. inl (w .1 .left)) (λ w. inr (w .left)) (at-if1 .if1 .came)) (⊎-elim (λ w. inl (w .1 .left)) (λ w. inr (w .left)) (at-if3 .if3 .came))
 
 pub session-met-spec : {M : Type 1} → statement M
 session-met-spec =
     tie.close
     (tie.spec
-    (λ c κs. search needs)
-    (λ c. search (branches, arith))
-    (λ c. search (branches, arith))
-    (λ c. search (branches, arith))
-    (λ c κs. search needs)
-    (λ c. search (branches, arith)))
+    returns returns-2 (λ c κs. search needs) returns-3)

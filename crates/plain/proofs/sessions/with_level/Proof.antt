@@ -1,14 +1,31 @@
 -- `plain::sessions::with_level` meets its contract.
 -- Assumes nothing.
-use Rattle.plain.proofs.Sessioned.{level-none, level-first, level-second, level-other}
+use borrow.Author.Needs.{needs}
+use mathlib.Core.Logic.{⊎-elim, inl, inr}
+use Rattle.plain.proofs.Sessioned.{level-first, level-second, level-rest}
 use Rattle.plain.proofs.sessions.with_level.Statement.{statement}
 use Rattle.plain.proofs.sessions.with_level.Tie as tie
+
+returns : tie.Need-returns
+returns c =
+    let at-if2 = c .before in
+    let a = at-if2 .before .before .args in
+    level-first (a .q) (a .mode) (a .connection) (a .level) (at-if2 .before .if1 .taken) (at-if2 .if2 .taken)
+
+returns-2 : tie.Need-returns-2
+returns-2 c =
+    let at-if4 = c .before in
+    let a = at-if4 .before .before .before .args in
+    level-second (a .q) (a .mode) (a .connection) (a .level) (at-if4 .before .if3 .taken) (at-if4 .if4 .taken)
+
+returns-3 : tie.Need-returns-3
+returns-3 c =
+    let at-if1 = c .before in
+    let a = at-if1 .before .args in
+    level-rest (a .q) (a .mode) (a .connection) (a .level) (⊎-elim (λ w. inl (w .1 .left)) (λ w. inr (w .left)) (at-if1 .if1 .came)) (⊎-elim (λ w. inl (w .1 .left)) (λ w. inr (w .left)) (c .if3 .came))
 
 pub with-level-spec : {M : Type 1} → statement M
 with-level-spec =
     tie.close
     (tie.spec
-    (λ c. search level-none)
-    (λ c. search level-first)
-    (λ c. search level-second)
-    (λ c. search level-other))
+    returns returns-2 returns-3)

@@ -5,9 +5,13 @@ use Rattle.plain_services.proofs.Authorizing.{authorized}
 use Rattle.plain_services.proofs.keys.authorize.Statement.{statement}
 use Rattle.plain_services.proofs.keys.authorize.Tie as tie
 
+returns : tie.Need-returns
+returns c =
+    let at-level-with = c .before .before in
+    authorized _ _ _ _ (at-level-with .level-with .ensures) (c .reply .ensures)
+
 pub authorize-spec : {M : Type 1} → statement M
 authorize-spec =
     tie.close
     (tie.spec
-    (λ c κs. search needs) (λ c κs. search needs)
-    (λ c. authorized _ _ _ _ (c .before .level-with .ensures) (c .granting .ensures)))
+    (λ c κs. search needs) (λ c. search needs) (λ c κs. search needs) returns)

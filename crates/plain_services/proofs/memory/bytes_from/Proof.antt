@@ -1,7 +1,7 @@
 -- `plain_services::memory::bytes_from` meets its contract.
 -- Assumes nothing.
 use Prim.Native.Nat.{ℕ, _+_, _-_, _≤_, _<_}
-use mathlib.Core.Path.{_≡_, ap, _∙_}
+use mathlib.Core.Path.{_≡_, refl, ap, _∙_}
 use lib.ListN.{length, getD, length-set}
 use borrow.Author.Needs.{needs}
 use native.Mathlib.Omega.{arith}
@@ -19,7 +19,7 @@ abbrev μ-loop : tie.MeasureT-loop
 loop-again : tie.Need-loop-again Inv-loop μ-loop
 loop-again c =
     let l = c .before .before .loop in
-    let a = c .before .before .before .before .args in (
+    let a = c .before .before .before .args in (
       omega arith,
       length-set (l .r) (l .i) _ ∙ l .inv .1,
       one-more 0 (λ x j. x ≡ getD (a .t1) (placeIn (a .a .regions) (a .a .count) (a .address + j)) 0) (l .r) _ (l .i) (omega (arith, l .inv .1)) (l .inv .2) (ap (λ (p : ℕ). getD (a .t1) p 0) (c .place .ensures)),
@@ -34,10 +34,9 @@ bytes-from-spec =
     (tie.spec
     Inv-loop
     μ-loop
-    (λ c κs. search needs)
-    (λ c. (omega arith, c .blank .ensures, λ j h. absurd (omega arith)))
+    (λ c. (omega arith, refl, λ j h. absurd (omega arith)))
     (λ c. omega arith) (λ c κs. search needs)
-    (λ c. omega (arith, c .place .ensures, c .before .before .before .before .pre .2 (c .before .before .loop .i) (omega arith)))
+    (λ c. omega (arith, c .place .ensures, c .before .before .before .pre .2 (c .before .before .loop .i) (omega arith)))
     (λ c. omega arith) (λ c. omega arith) (λ c. omega arith)
     loop-again
     returns)

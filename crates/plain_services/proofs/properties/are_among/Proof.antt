@@ -2,7 +2,9 @@
 -- Assumes nothing.
 use borrow.Author.Needs.{needs}
 use native.Mathlib.Omega.{arith}
+use mathlib.Core.Logic.{⊎-elim}
 use Rattle.octets.proofs.Tests.{branches}
+use Rattle.plain_services.proofs.Joined.{both-held}
 use Rattle.plain_services.proofs.properties.are_among.Statement.{statement}
 use Rattle.plain_services.proofs.properties.are_among.Tie as tie
 
@@ -10,4 +12,7 @@ pub are-among-spec : {M : Type 1} → statement M
 are-among-spec =
     tie.close
     (tie.spec
-    (λ c. search (branches, arith)) (λ c. search (branches, arith)) (λ c κs. search needs) (λ c. search (branches, arith)))
+    (λ c. search needs)
+    (λ c. omega (arith, both-held (c .before .if1 .came) (λ w. search (branches, arith)) (c .if2 .taken) .0))
+    (λ c. let h = both-held (c .before .if1 .came) (λ w. search (branches, arith)) (c .if2 .taken) in search (branches, arith, h .0, h .1))
+    (λ c. ⊎-elim (λ w. search (branches, arith)) (λ w. search (branches, arith)) (c .before .if1 .came)))

@@ -1,15 +1,17 @@
--- `plain_services::properties::find` meets its contract. The invariant: none so far has that object and id.
+-- `plain_services::properties::find` meets its contract.
 -- Assumes nothing.
+use borrow.Author.Needs.{needs}
+use native.Mathlib.Omega.{arith}
 use Prim.Native.Nat.{ℕ, _-_, _≤_, _<_}
 use mathlib.Core.Path.{_≡_}
 use mathlib.Core.Bool.{false}
-use borrow.Author.Needs.{needs}
-use native.Mathlib.Omega.{arith}
+use mathlib.Core.Logic.{⊎-elim}
 use Rattle.plain_services.proofs.Finding.{named, hit, miss, none-more}
-use Rattle.octets.proofs.Tests.{made-yes, made-no}
+use Rattle.octets.proofs.Tests.{branches}
 use Rattle.plain_services.proofs.properties.find.Statement.{statement}
 use Rattle.plain_services.proofs.properties.find.Tie as tie
 
+-- none so far has that object and id
 abbrev Inv-loop : tie.InvT-loop
 Inv-loop object id u n i₀ i = (n ≤ 64) × (i ≤ n) × ((j : ℕ) → j < i → named u object id j ≡ false)
 
@@ -17,10 +19,15 @@ abbrev μ-loop : tie.MeasureT-loop
 μ-loop object id u n i₀ i = n - i
 
 loop-again : tie.Need-loop-again Inv-loop μ-loop
-loop-again c = (omega arith, omega arith, none-more _ _ (c .before .before .before .before .loop .inv .2) (search made-no))
+loop-again c = (
+  omega arith,
+  omega arith,
+  none-more _ _ (c .before .before .before .before .loop .inv .2)
+      (⊎-elim (λ w. search branches) (λ w. search branches) (c .if1 .came)),
+)
 
 returns : tie.Need-returns Inv-loop μ-loop
-returns c = (omega arith, λ s ok o t. hit _ _ _ s ok t _ (omega arith) (search made-yes))
+returns c = (omega arith, λ s ok o t. hit _ _ _ s ok t _ (omega arith) (search branches))
 
 returns-2 : tie.Need-returns-2 Inv-loop μ-loop
 returns-2 c =
@@ -35,7 +42,7 @@ find-spec =
     Inv-loop
     μ-loop
     (λ c. (search needs, omega arith, λ j h. absurd (omega arith)))
-    (λ c. omega arith) (λ c. omega arith) (λ c κs. search needs)
+    (λ c. omega arith) (λ c. omega arith)
     returns
     (λ c. omega arith) (λ c. omega arith)
     loop-again

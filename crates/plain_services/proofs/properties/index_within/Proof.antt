@@ -1,11 +1,12 @@
 -- `plain_services::properties::index_within` meets its contract.
 -- Assumes nothing.
-use Prim.Native.Nat.{_-_, _≤_}
-use mathlib.Core.Path.{_≡_}
 use borrow.Author.Needs.{needs}
 use native.Mathlib.Omega.{arith}
+use mathlib.Core.Logic.{⊎-elim, inl, inr}
+use Prim.Native.Nat.{_-_, _≤_}
+use mathlib.Core.Path.{_≡_}
 use Rattle.plain_services.specs.Described.{rankIn}
-use Rattle.plain_services.proofs.Descriptions.{rank-start, rank-next, rank-end}
+use Rattle.plain_services.proofs.Descriptions.{rank-start, one-counted, one-passed, rank-end}
 use Rattle.plain_services.proofs.properties.index_within.Statement.{statement}
 use Rattle.plain_services.proofs.properties.index_within.Tie as tie
 
@@ -16,12 +17,17 @@ abbrev μ-loop : tie.MeasureT-loop
 μ-loop i object properties seen₀ j₀ seen j = i - j
 
 loop-again : tie.Need-loop-again Inv-loop μ-loop
-loop-again c = (omega arith, omega arith, rank-next _ _ _ _ _ (c .before .before .before .before .loop .inv .2) (c .one-if .ensures .0))
+loop-again c =
+    let at-loop = c .before .before .before .before in (
+      omega arith,
+      ⊎-elim (λ w. omega (arith, w .1)) (λ w. omega (arith, w .1)) (c .if1 .came),
+      ⊎-elim (λ w. one-counted _ _ _ _ _ (at-loop .loop .inv .2) (w .0 .taken) (w .1)) (λ w. one-passed _ _ _ _ _ (at-loop .loop .inv .2) (w .0 .left) (w .1)) (c .if1 .came),
+    )
 
 returns : tie.Need-returns Inv-loop μ-loop
 returns c =
-    let l = c .before .loop in
-    (omega (arith, l .inv .0, l .inv .1), rank-end _ _ _ _ _ (l .inv .2) (omega (arith, l .inv .0)))
+    let at-loop = c .before in
+    (omega (arith, at-loop .loop .inv .0, at-loop .loop .inv .1), rank-end _ _ _ _ _ (at-loop .loop .inv .2) (omega (arith, at-loop .loop .inv .0)))
 
 pub index-within-spec : {M : Type 1} → statement M
 index-within-spec =
@@ -30,7 +36,6 @@ index-within-spec =
     Inv-loop
     μ-loop
     (λ c. (omega arith, omega arith, rank-start _ _))
-    (λ c. omega arith) (λ c. omega arith) (λ c κs. search needs) (λ c. omega arith) (λ c. omega arith)
-    (λ c. omega arith)
+    (λ c. omega arith) (λ c. omega arith) (λ c. omega arith) (λ c. omega arith) (λ c. omega arith)
     loop-again
     returns)

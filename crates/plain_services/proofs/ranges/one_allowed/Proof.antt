@@ -1,5 +1,7 @@
 -- `plain_services::ranges::one_allowed` meets its contract.
 -- Assumes nothing.
+use mathlib.Core.Path.{_∙_}
+use borrow.Author.Tests.{le-ltb}
 use borrow.Author.Needs.{needs}
 use native.Mathlib.Omega.{arith}
 use Rattle.plain_services.proofs.Regions.{nowhere-allowed, here-allowed}
@@ -11,6 +13,6 @@ one-allowed-spec =
     tie.close
     (tie.spec
     (λ c κs. search needs)
-    (λ c. nowhere-allowed _ _ _ _ _ _ (c .before .region-with .ensures) (omega arith))
     (λ c. search needs) (λ c. search needs) (λ c κs. search needs)
-    (λ c. here-allowed _ _ _ _ _ _ (c .before .before .before .region-with .ensures) (omega arith) _ (c .may .ensures)))
+    (λ c. here-allowed _ _ _ _ _ _ (c .before .before .before .region-with .ensures) (omega arith) _ (c .may .ensures))
+    (λ c. le-ltb (c .before .region-with .result) (c .before .before .args .n) (omega arith) ∙ nowhere-allowed _ _ _ _ _ _ (c .before .region-with .ensures) (omega arith)))
