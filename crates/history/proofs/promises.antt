@@ -19,3 +19,4 @@ pub mod Counted
 pub mod NothingShown
 pub mod Unlearned
 pub mod Acts
+pub mod RestoredLater

@@ -1,6 +1,7 @@
 -- RUNS OF CALLS: what a host sees call by call, by the contracts of the calls alone.
 -- Assumes nothing.
 use Prim.Native.Nat.{ℕ}
+use mathlib.Core.Path.{_≡_}
 use mathlib.Core.Bool.{Bool}
 use mathlib.Core.List.{List, [], _∷_}
 use Rattle.device.specs.Events.{Effect, State, namedOutcome, connectOf, disconnectOf, Pressed, Called}
@@ -11,8 +12,11 @@ use Rattle.device.specs.Demand2.{effectSeen}
 use Rattle.versions.specs.Restoring.{RestoredAs}
 use Rattle.device.specs.declared.Done.{Done}
 use Rattle.history.specs.History.{First}
+use Rattle.history.specs.Keeps.{stateAfter, AllOctets}
+use Rattle.history.specs.Rightful.{ours}
 
--- a call that met state x and gave r: each constructor is the contract of a call of include/kelindap.h, of a request without the parts that it names
+-- a call that met state x and gave r: each constructor is the contract of a call of include/kelindap.h, of a request without the parts that it names, and of `kelindap_restore`;
+-- host/proofs/Contracts.antt has that the contracts entail it
 pub data Call (x : State) : Event → Effect → Type 0 where
   connects :
       (c : ℕ) →
@@ -36,3 +40,8 @@ pub data Calls (f : First) : List Event → State → Type 0 where
   next :
       {h : List Event} {x : State} {e : Event} {r : Effect} → Calls f h x → Call x e r →
       Calls f (e ∷ h) record { sessions = r .sessions; sheet = r .sheet }
+
+-- A STATE THAT A HISTORY LEFT, and it brought bytes: what calls leave is one (`calls-after`), whatever these are
+pub record Follows (f : First) (h : List Event) (x : State) : Type 0 where
+  pub state : x ≡ stateAfter ours f h
+  pub octets : AllOctets h

@@ -14,3 +14,4 @@ pub mod Samples
 pub mod Calls
 pub mod Acts
 pub mod Secret
+pub mod Restored

@@ -1,6 +1,9 @@
 -- PROMISES, named in docs/PROMISES.md
 pub mod Demands
 pub mod Whose
+pub mod Contracts
+pub mod Lookups
+pub mod Mixed
 -- laws behind the calls
 pub mod Replaced
 pub mod Replies

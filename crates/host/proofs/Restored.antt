@@ -3,8 +3,14 @@
 use Prim.Native.Nat.{ℕ}
 use mathlib.Core.Path.{_≡_, subst}
 use mathlib.Core.List.{List}
+use Rattle.octets.specs.Octets.{Octets}
 use Rattle.judge.specs.declared.Session.{Session}
+use Rattle.device.specs.Sessions.{sessionOf}
+use Rattle.device.specs.declared.Sessions.{Sessions}
 use Rattle.versions.specs.Restoring.{RestoredAs}
+use Rattle.host.specs.Calls.{Restores}
 
-pub restored-for : (p q : Session) (sheet s : List ℕ) (x r : ℕ) (t : List ℕ) → p ≡ q → RestoredAs p sheet s x r t → RestoredAs q sheet s x r t
-restored-for p q sheet s x r t e h = subst (λ (z : Session). RestoredAs z sheet s x r t) e h
+pub restored-for :
+    (p : Session) (q : Sessions) (c : ℕ) (sheet s : List ℕ) (x r : ℕ) (t : List ℕ) → p ≡ sessionOf q c → RestoredAs p sheet s x r t → Octets s →
+    Restores q c sheet s x r t
+restored-for p q c sheet s x r t e h b = record { did = subst (λ (z : Session). RestoredAs z sheet s x r t) e h; storeBytes = b }

@@ -8,12 +8,12 @@ ghost use Rattle.sheet.specs.Rules.{verdictOf};
 ghost use Rattle.sheet.specs.Convert.{Converts};
 ghost use Rattle.sheet.specs.Lookup.{StandsIn, regionOf, regionFrom, userRegionOf, userRegionFrom, propertyOf, propertyFrom, groupOf, groupFrom};
 ghost use Rattle.device.specs.Sessions.{freshOf};
-ghost use Rattle.device.specs.Events.{namedOutcome, connectOf, disconnectOf, Pressed};
+ghost use Rattle.device.specs.Events.{Pressed};
 ghost use Rattle.device.specs.Changed.{Requested};
 ghost use Rattle.playback.specs.Rules.{refusalOf};
 ghost use Rattle.playback.specs.Playing.{Plays};
 ghost use Rattle.playback.specs.Marking.{Marks};
-ghost use Rattle.host.specs.Calls.{gave, gaveBack, gavePlayed, versionOf};
+ghost use Rattle.host.specs.Calls.{Connects, Disconnects, gave, gaveBack, gavePlayed, versionOf};
 use device::Changed;
 use device::Sessions;
 use sheet::Part;
@@ -71,7 +71,7 @@ pub extern "C" fn kelindap_fresh() -> Sessions
 // The session of the connection is open at level 3, whatever it was.
 #[no_mangle]
 pub extern "C" fn kelindap_connect(sessions: &mut Sessions, connection: u8) -> u8
-    ensures { λ r. ⌜ (r ≡ namedOutcome connection) × (now (sessions .exit) ≡ connectOf (now (sessions .entry)) connection) ⌝ }
+    ensures { λ r. ⌜ Connects (now (sessions .entry)) connection r (now (sessions .exit)) ⌝ }
 {
     let d = device::connect(*sessions, connection);
     *sessions = d.sessions;
@@ -81,7 +81,7 @@ pub extern "C" fn kelindap_connect(sessions: &mut Sessions, connection: u8) -> u
 // The session of the connection is closed at level 3, whatever it was.
 #[no_mangle]
 pub extern "C" fn kelindap_disconnect(sessions: &mut Sessions, connection: u8) -> u8
-    ensures { λ r. ⌜ (r ≡ namedOutcome connection) × (now (sessions .exit) ≡ disconnectOf (now (sessions .entry)) connection) ⌝ }
+    ensures { λ r. ⌜ Disconnects (now (sessions .entry)) connection r (now (sessions .exit)) ⌝ }
 {
     let d = device::disconnect(*sessions, connection);
     *sessions = d.sessions;

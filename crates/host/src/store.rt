@@ -1,10 +1,9 @@
 // The C interface of the store of versions: the calls of include/kelindap_store.h.
 ghost use mathlib.Core.Path.{_≡_};
-ghost use Rattle.device.specs.Sessions.{sessionOf};
 ghost use Rattle.versions.specs.Rules.{storeRule};
 ghost use Rattle.versions.specs.Saving.{SavedAs};
-ghost use Rattle.versions.specs.Restoring.{RestoredAs};
 ghost use Rattle.versions.specs.Removing.{Removed};
+ghost use Rattle.host.specs.Calls.{Restores};
 use device::Sessions;
 use versions::Saved;
 
@@ -33,7 +32,7 @@ pub extern "C" fn kelindap_restore(
     store: &[u8],
     number: usize,
 ) -> u8
-    ensures { λ r. ⌜ RestoredAs (sessionOf sessions connection) (now (sheet .entry)) (now (store .entry)) number r (now (sheet .exit)) ⌝ }
+    ensures { λ r. ⌜ Restores sessions connection (now (sheet .entry)) (now (store .entry)) number r (now (sheet .exit)) ⌝ }
 {
     let session = device::session_of(sessions, connection);
     versions::restore(session, sheet, store, number)

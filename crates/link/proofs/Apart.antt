@@ -21,7 +21,7 @@ use Rattle.cemi.specs.declared.Got.the-variants as got
 use Rattle.cemi.specs.declared.Meaning.{Meaning}
 use Rattle.cemi.specs.declared.Meaning.the-variants as meaning
 use Rattle.link.specs.Partners.{nobody, sits, placeOf, freeOf, placeFor}
-use Rattle.link.specs.Hearing.{ownOf, forUs, onPlace, connects, disconnects, meant, judged, heardGot, heardOf}
+use Rattle.link.specs.Hearing.{ownOf, forUs, onPlace, connects, disconnects, meant, fromOther, judged, heardGot, heardOf}
 use Rattle.link.specs.Serving.{most, apduOf}
 use Rattle.link.specs.Net.{Net, sourceOf, stateOf, heardIn, eventsOf, addressBy, Item, frame, press, timeOut, giveBack, netBy, netAfter}
 use Rattle.link.specs.Whose.{NoPlace, Apart}
@@ -92,13 +92,14 @@ numberOf (Connect c) = 0
 numberOf (Disconnect c) = 0
 numberOf (Nothing n c) = n
 
--- 62 EXACTLY THEN: of a frame that reads, is for this device and is a connect
+-- 62 EXACTLY THEN: of a frame that reads, is for this device, from another and a connect
 pub turned-away :
     (k : Link) (own : ℕ) (b : List ℕ) (f : Frame) →
-    readFrame b ≡ got.Is f → forUs (f .fields .control2) (f .fields .destination) own ≡ true → meaningOf f ≡ meaning.Connect →
+    readFrame b ≡ got.Is f → forUs (f .fields .control2) (f .fields .destination) own ≡ true → (f .fields .source ≡ own → ⊥) →
+    meaningOf f ≡ meaning.Connect →
     (heardOf k own b ≡ Nothing 62 nobody) ↔ NoPlace k (f .fields .source)
-unfolding heardOf heardGot judged meant connects numberOf
-turned-away k own b f reads us m = rw (reads, us, m) (there, back)
+unfolding heardOf heardGot judged fromOther meant connects numberOf
+turned-away k own b f reads us other m = let t = ne-eqb (f .fields .source) own other in rw (reads, us, t, m) (there, back)
   where
     by : (t : Bool) → known (placeFor k (f .fields .source)) ≡ t → cond t (Connect (placeFor k (f .fields .source))) (Nothing 62 nobody) ≡ Nothing 62 nobody → NoPlace k (f .fields .source)
     by true e h = absurd (let z : 0 ≡ 62 = ap numberOf h in omega arith)
@@ -128,7 +129,7 @@ module _ (k : Link) (own : ℕ) (b : List ℕ) where
   heard-third : OnlyThird (heardOf k own b)
   unfolding numberOf
   heard-third =
-      heard-by k own b OnlyThird (λ t e. absurd (low _ (refusal-framed _ _ _ _) e)) (λ e. absurd (omega arith))
+      heard-by k own b OnlyThird (λ t e. absurd (low _ (refusal-framed _ _ _ _) e)) (λ e. absurd (omega arith)) (λ e. absurd (omega arith))
       (λ group. meant-third group (meaningOf (frameIn b)) (means (frameIn b)) refl)
     where
       low : (n : ℕ) → Zero n → n ≡ 62 → ⊥
@@ -184,7 +185,7 @@ module _ (x : Net) (apart : Apart (x .link)) where
   by-item : (i : Item) → Apart (netBy x i .link)
   unfolding netBy runBy heardIn isConnect
   by-item (frame b) =
-      arrives (sourceOf b) (heardIn x b) (apduOf b) (heard-by (x .link) (ownOf (x .sheet)) b (Joins (x .link) (sourceOf b)) (λ t. tt) tt (λ group. joins (x .link) (sourceOf b) group (meaningOf (frameIn b))))
+      arrives (sourceOf b) (heardIn x b) (apduOf b) (heard-by (x .link) (ownOf (x .sheet)) b (Joins (x .link) (sourceOf b)) (λ t. tt) tt tt (λ group. joins (x .link) (sourceOf b) group (meaningOf (frameIn b))))
   by-item (press on) = closing (button on) (λ d e. never (ap isConnect e))
   by-item (timeOut c) = closing (disconnect c) (λ d e. never (ap isConnect e))
   by-item (giveBack c n st) = closing (restore c n st) (λ d e. never (ap isConnect e))

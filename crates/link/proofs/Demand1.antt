@@ -100,7 +100,7 @@ module _ (k : Link) (own : ℕ) (b : List ℕ) where
 
   told : Told (heardOf k own b)
   told =
-      heard-by k own b Told (λ t. why (refusal k own b) (refusal-framed _ _ _ _) (eqb-false (refusal k own b) 0 t)) (inr (omega arith, omega arith))
+      heard-by k own b Told (λ t. why (refusal k own b) (refusal-framed _ _ _ _) (eqb-false (refusal k own b) 0 t)) (inr (omega arith, omega arith)) (inr (omega arith, omega arith))
       (λ group. meant-told (sourceOf b) group (meaningOf (frameIn b)) (means (frameIn b)))
     where
       why : (n : ℕ) → Zero n → (n ≡ 0 → ⊥) → Why n

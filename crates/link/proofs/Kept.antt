@@ -1,6 +1,6 @@
 -- WHAT FRAMES LEAVE IS WHAT THE EVENTS LEAVE THAT THEY ARE: so demand 3 holds of frames, and nobody without the key changes a protected byte by frames.
 -- Assumes nothing.
-use Prim.Native.Nat.{ℕ, zero, suc, _+_, _≤_, _<_}
+use Prim.Native.Nat.{ℕ, zero, suc, _+_, _<_}
 use mathlib.Core.Path.{_≡_, refl, sym, ap, subst, _∙_}
 use mathlib.Core.Bool.{Bool, true, false, cond}
 use mathlib.Core.List.{List, [], _∷_, _++_}
@@ -10,13 +10,11 @@ use lib.Seq.{getD-drop}
 use native.Mathlib.Omega.{arith}
 use Rattle.octets.specs.Octets.{Octets}
 use Rattle.octets.proofs.Truths.{never}
-use Rattle.sheet.specs.Layout.{_of_}
-use Rattle.sheet.specs.Head as head
 use Rattle.device.specs.Events.{State}
 use Rattle.events.specs.Events.{Event, after, runBy, run}
 use Rattle.cemi.specs.Layout.{octet6}
 use Rattle.cemi.specs.Read.{frameIn}
-use Rattle.history.specs.Wish.{Wish, change, offerKey, restart, other, nothing, asks}
+use Rattle.history.specs.Wish.{Wish, change, offerKey, restart, other, nothing}
 use Rattle.history.specs.History.{First}
 use Rattle.history.specs.Keeps.{stateAfter, Begins, AllOctets, Kept}
 use Rattle.history.specs.Keyless.{NotOffered, Closed, Protected}
@@ -24,7 +22,7 @@ use Rattle.history.specs.Rightful.{ours}
 use Rattle.history.proofs.promises.Keep.{keeps}
 use Rattle.history.proofs.promises.Keyless.{locked, keyless-device}
 use Rattle.link.specs.Serving.{apduOf}
-use Rattle.link.specs.Net.{Net, stateOf, firstNet, heardIn, eventsOf, Item, frame, press, timeOut, giveBack, eventsBy, netBy, netAfter, eventsAfter, BytesIn, AllBytes, NoKeyIn, NoKey}
+use Rattle.link.specs.Net.{Net, stateOf, firstNet, heardIn, eventsOf, Item, frame, press, timeOut, giveBack, eventsBy, netBy, netAfter, eventsAfter, BytesIn, AllBytes, NoKeyIn, NoKey, NoKeyHeardIn, NoKeyHeard}
 use Rattle.link.specs.declared.Arrived.{Arrived}
 use Rattle.link.specs.declared.Arrived.the-variants.{Request, Connect, Disconnect, Nothing}
 
@@ -121,37 +119,54 @@ module _ (x : Net) where
       Kept ours (firstNet x) (eventsAfter x h) × (stateOf (netAfter x h) ≡ stateAfter ours (firstNet x) (eventsAfter x h))
   frames-keep b h o = (keeps (firstNet x) (eventsAfter x h) b (all-octets h o), as-events x h)
 
-  -- a key that no frame offers is offered by no event
+  -- a key that no request offers that is heard is offered by no event
   module _ (l : ℕ) where
     act-none :
-        (r : Arrived) (a : List ℕ) (g : List Event) → ((k : ℕ) → k ≤ l → asks a ≡ offerKey (head.key k of x .sheet) → ⊥) →
-        NotOffered (firstNet x) l g → NotOffered (firstNet x) l (eventsOf r a ++ g)
+        (y : Net) (b : List ℕ) (r : Arrived) → heardIn y b ≡ r → (g : List Event) → NoKeyHeardIn y (x .sheet) l (frame b) →
+        NotOffered (firstNet x) l g → NotOffered (firstNet x) l (eventsOf r (apduOf b) ++ g)
     unfolding isOffer
-    act-none (Request mode c group) a g o k = (o, k)
-    act-none (Connect c) a g o k = ((λ n m e. no-offer nothing refl e), k)
-    act-none (Disconnect c) a g o k = ((λ n m e. no-offer nothing refl e), k)
-    act-none (Nothing n c) a g o k = k
+    act-none y b (Request mode c group) q g o k = ((λ n m e. o mode c group q n m e), k)
+    act-none y b (Connect c) q g o k = ((λ n m e. no-offer nothing refl e), k)
+    act-none y b (Disconnect c) q g o k = ((λ n m e. no-offer nothing refl e), k)
+    act-none y b (Nothing n c) q g o k = k
 
     item-none :
-        (y : Net) (i : Item) (g : List Event) → NoKeyIn (x .sheet) l i →
+        (y : Net) (i : Item) (g : List Event) → NoKeyHeardIn y (x .sheet) l i →
         NotOffered (firstNet x) l g → NotOffered (firstNet x) l (eventsBy y i ++ g)
     unfolding isOffer
-    item-none y (frame b) g o k = act-none (heardIn y b) (apduOf b) g o k
+    item-none y (frame b) g o k = act-none y b (heardIn y b) refl g o k
     item-none y (press on) g o k = ((λ n m e. no-offer nothing refl e), k)
     item-none y (timeOut c) g o k = ((λ n m e. no-offer nothing refl e), k)
     item-none y (giveBack c n st) g o k = ((λ n m e. no-offer (change _) refl e), k)
 
-    not-offered : (h : List Item) → NoKey (x .sheet) l h → NotOffered (firstNet x) l (eventsAfter x h)
+    not-offered : (h : List Item) → NoKeyHeard x l h → NotOffered (firstNet x) l (eventsAfter x h)
     unfolding eventsAfter
     not-offered [] o = tt
     not-offered (i ∷ h) o = item-none (netAfter x h) i (eventsAfter x h) (o .0) (not-offered h (o .1))
+
+    -- IF NO REQUEST THAT IS HEARD OFFERS A KEY OF A LEVEL UP TO l, no byte changes whose write level is at most l
+    pub keyless-heard :
+        l < 3 → Begins (firstNet x) → Closed (firstNet x) → (h : List Item) → AllBytes h → NoKeyHeard x l h →
+        Protected (firstNet x) l (stateOf (netAfter x h))
+    keyless-heard low b closed h o n =
+        let q = not-offered h n in
+        subst (Protected (firstNet x) l) (sym (as-events x h))
+        (keyless-device l low ours keeps (firstNet x) b (eventsAfter x h) (all-octets h o) closed
+        (locked l low (firstNet x) closed (eventsAfter x h) q 0) (locked l low (firstNet x) closed (eventsAfter x h) q 1))
+
+    -- so if no frame does, from whomever, to whomever
+    heard-none : (y : Net) (i : Item) → NoKeyIn (x .sheet) l i → NoKeyHeardIn y (x .sheet) l i
+    heard-none y (frame b) o = λ mode c group q. o
+    heard-none y (press on) o = tt
+    heard-none y (timeOut c) o = tt
+    heard-none y (giveBack c n st) o = tt
+
+    pub all-heard : (h : List Item) → NoKey (x .sheet) l h → NoKeyHeard x l h
+    all-heard [] o = tt
+    all-heard (i ∷ h) o = (heard-none (netAfter x h) i (o .0), all-heard h (o .1))
 
     -- IF NO FRAME FROM ANY SENDER OFFERS A KEY OF A LEVEL UP TO l, no byte changes whose write level is at most l
     pub keyless-frames :
         l < 3 → Begins (firstNet x) → Closed (firstNet x) → (h : List Item) → AllBytes h → NoKey (x .sheet) l h →
         Protected (firstNet x) l (stateOf (netAfter x h))
-    keyless-frames low b closed h o n =
-        let q = not-offered h n in
-        subst (Protected (firstNet x) l) (sym (as-events x h))
-        (keyless-device l low ours keeps (firstNet x) b (eventsAfter x h) (all-octets h o) closed
-        (locked l low (firstNet x) closed (eventsAfter x h) q 0) (locked l low (firstNet x) closed (eventsAfter x h) q 1))
+    keyless-frames low b closed h o n = keyless-heard low b closed h o (all-heard h n)

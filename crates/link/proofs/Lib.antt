@@ -1,6 +1,11 @@
 -- PROMISES, named in docs/PROMISES.md
+pub mod Dues
+pub mod AtOnce
+pub mod WrongLinks
 pub mod Kept
 pub mod Whose
+pub mod Grants
+pub mod Unlearned
 pub mod Apart
 pub mod Demand1
 pub mod NeverLost

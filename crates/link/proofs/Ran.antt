@@ -1,17 +1,21 @@
 -- WHAT CALLS LEAVE IS WHAT THEIR HISTORY SAYS, by their contracts alone: so a host has demand 3, and `keyless`, of the calls that it makes.
 -- Assumes nothing.
-use Prim.Native.Nat.{ℕ, _<_}
+use Prim.Native.Nat.{ℕ, _<_, _≤_}
 use mathlib.Core.Path.{_≡_, refl, sym, ap, subst, _∙_}
-use mathlib.Core.List.{List}
+use mathlib.Core.List.{List, _∷_}
+use lib.ListN.{getD}
 use Rattle.events.specs.Events.{eventOf, after, runBy}
 use Rattle.history.specs.Keeps.{stateAfter, Begins, Kept}
-use Rattle.history.specs.Keyless.{Closed, Protected}
+use Rattle.history.specs.Location.{Location, Place}
+use Rattle.history.specs.Keyless.{Closed, Protected, writeLevel}
 use Rattle.history.specs.Rightful.{ours}
-use Rattle.link.specs.Net.{Net, stateOf, firstNet, Item, netBy, netAfter, eventsAfter, BytesIn, AllBytes, NoKey}
+use Rattle.link.specs.Net.{Net, stateOf, firstNet, sourceOf, Item, frame, netBy, netAfter, eventsAfter, BytesIn, AllBytes, NoKey, NoKeyHeard}
 use Rattle.link.specs.Whose.{Apart}
+use Rattle.link.specs.Granted.{ByRight, NoKeyFrom}
 use Rattle.link.specs.Runs.{Goes, serves, presses, timesOut, givesBack, Ran, begin, next}
-use Rattle.link.proofs.Kept.{frames-keep, keyless-frames}
+use Rattle.link.proofs.Kept.{frames-keep, all-heard, keyless-heard}
 use Rattle.link.proofs.Apart.{apart}
+use Rattle.link.proofs.Grants.{by-right, without-key}
 use Rattle.link.proofs.Tied.{served-is}
 
 -- ONE CALL
@@ -38,10 +42,30 @@ module _ {x y : Net} {h : List Item} (k : Ran x h y) where
   ran-keeps b = let p = ran-is k in let q = frames-keep x b h (p .1) in (q .0, ap stateOf (p .0) ∙ q .1)
 
   -- NOBODY WITHOUT THE KEY
+  pub ran-keyless-heard : (l : ℕ) → l < 3 → Begins (firstNet x) → Closed (firstNet x) → NoKeyHeard x l h → Protected (firstNet x) l (stateOf y)
+  ran-keyless-heard l low b closed n =
+      let p = ran-is k in subst (λ (z : Net). Protected (firstNet x) l (stateOf z)) (sym (p .0)) (keyless-heard x l low b closed h (p .1) n)
+
   pub ran-keyless : (l : ℕ) → l < 3 → Begins (firstNet x) → Closed (firstNet x) → NoKey (x .sheet) l h → Protected (firstNet x) l (stateOf y)
-  ran-keyless l low b closed n =
-      let p = ran-is k in subst (λ (z : Net). Protected (firstNet x) l (stateOf z)) (sym (p .0)) (keyless-frames x l low b closed h (p .1) n)
+  ran-keyless l low b closed n = ran-keyless-heard l low b closed (all-heard x l h n)
 
   -- TWO ADDRESSES
   pub ran-apart : Apart (x .link) → Apart (y .link)
   ran-apart a = subst (λ (z : Net). Apart (z .link)) (sym (ran-is k .0)) (apart x a h)
+
+-- ONE FRAME MORE: z is what serving it left
+module _ {x y z : Net} {h : List Item} {b : List ℕ} (k : Ran x h y) (g : Goes y (frame b) z) (begins : Begins (firstNet x)) (closed : Closed (firstNet x))
+    (a : Location) (p : ℕ) (place : Place (x .sheet) a p) where
+  before : getD (y .sheet) p 0 ≡ getD (netAfter x h .sheet) p 0
+  before = ap (λ (n : Net). getD (n .sheet) p 0) (ran-is k .0)
+
+  since : getD (z .sheet) p 0 ≡ getD (netAfter x (frame b ∷ h) .sheet) p 0
+  since = ap (λ (n : Net). getD (n .sheet) p 0) (ran-is (next k g) .0)
+
+  -- WHOEVER'S FRAME CHANGES A PROTECTED BYTE HAS THE RIGHT
+  pub ran-by-right : writeLevel (x .sheet) a < 3 → (getD (z .sheet) p 0 ≡ getD (y .sheet) p 0 → ⊥) → ByRight x h (sourceOf b) (writeLevel (x .sheet) a)
+  ran-by-right small n = by-right x begins closed h b (ran-is (next k g) .1) a p place small (λ e. n (since ∙ e ∙ sym before))
+
+  -- WHO HAS OFFERED NO KEY changes none, whatever others have offered
+  pub ran-without-key : (l : ℕ) → l < 3 → NoKeyFrom x (sourceOf b) l h → writeLevel (x .sheet) a ≤ l → getD (z .sheet) p 0 ≡ getD (y .sheet) p 0
+  ran-without-key l low none w = since ∙ without-key x begins closed l low h b (ran-is (next k g) .1) none a p place w ∙ sym before

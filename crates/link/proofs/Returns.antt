@@ -5,7 +5,7 @@ use mathlib.Core.Path.{_≡_, sym, ap, _∙_}
 use mathlib.Core.Bool.{Bool, true, false}
 use mathlib.Core.List.{List}
 use lib.ListN.{length}
-use borrow.Author.Tests.{lt-ltb, le-ltb, lt-leb, le-leb}
+use borrow.Author.Tests.{lt-ltb, le-ltb, lt-leb, le-leb, eq-eqb, ne-eqb}
 use Rattle.octets.specs.Bytes.{IsNum}
 use Rattle.octets.specs.Octets.{ReadFrom}
 use Rattle.cemi.specs.Read.{readFrame}
@@ -16,7 +16,7 @@ use Rattle.cemi.specs.declared.Got.the-variants as got
 use Rattle.cemi.specs.declared.Meaning.{Meaning}
 use Rattle.cemi.specs.declared.Meaning.the-variants as meaning
 use Rattle.link.specs.Partners.{nobody, placeOf, freeOf, placeFor}
-use Rattle.link.specs.Hearing.{ownOf, forUs, onPlace, connects, disconnects, meant, judged, heardOf, heardGot}
+use Rattle.link.specs.Hearing.{ownOf, forUs, onPlace, connects, disconnects, meant, fromOther, judged, heardOf, heardGot}
 use Rattle.link.specs.declared.Link.{Link}
 use Rattle.link.specs.declared.Arrived.{Arrived}
 use Rattle.link.specs.declared.Arrived.the-variants.{Nothing}
@@ -57,11 +57,21 @@ module _ (k : Link) (source group : ℕ) (m : Meaning) where
   of-refused n p e f = rw e (ap (Nothing n) f)
 
 module _ (k : Link) (own : ℕ) where
+  module _ (f : Frame) where
+    pub of-own : f .fields .source ≡ own → Nothing 65 nobody ≡ fromOther k own f
+    unfolding fromOther
+    of-own e = simp (eq-eqb (f .fields .source) own e)
+
+    pub of-other :
+        (m : Meaning) (r : Arrived) → (f .fields .source ≡ own → ⊥) → m ≡ meaningOf f →
+        r ≡ meant k (f .fields .source) (f .fields .destination) m → r ≡ fromOther k own f
+    unfolding fromOther
+    of-other m r n g h = let t = ne-eqb (f .fields .source) own n in rw t (h ∙ ap (meant k (f .fields .source) (f .fields .destination)) g)
+
   module _ (f : Frame) (t : Bool) (e : t ≡ forUs (f .fields .control2) (f .fields .destination) own) where
-    pub of-ours :
-        (m : Meaning) (r : Arrived) → t ≡ true → m ≡ meaningOf f → r ≡ meant k (f .fields .source) (f .fields .destination) m → r ≡ judged k own f
+    pub of-ours : (r : Arrived) → t ≡ true → r ≡ fromOther k own f → r ≡ judged k own f
     unfolding judged
-    of-ours m r y g h = rw (sym e, y) (h ∙ ap (meant k (f .fields .source) (f .fields .destination)) g)
+    of-ours r y h = rw (sym e, y) h
 
     pub of-others : t ≡ false → Nothing 60 nobody ≡ judged k own f
     unfolding judged

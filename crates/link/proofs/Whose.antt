@@ -8,7 +8,7 @@ use mathlib.Core.List.{List, [], _∷_}
 use lib.ListN.{length}
 use lib.Dec.{ltb, eqb}
 use native.Mathlib.Omega.{arith}
-use borrow.Author.Tests.{eqb-true, ne-eqb, lt-leb}
+use borrow.Author.Tests.{eqb-true, eq-eqb, ne-eqb, lt-leb}
 use Rattle.octets.proofs.Truths.{never, first-true, second-true, must-fail}
 use Rattle.octets.proofs.Walks.{by-test}
 use Rattle.device.specs.Sessions.{closed, sessionOf, known}
@@ -24,7 +24,7 @@ use Rattle.cemi.specs.declared.Got.the-variants as got
 use Rattle.cemi.specs.declared.Meaning.{Meaning}
 use Rattle.cemi.specs.declared.Meaning.the-variants as meaning
 use Rattle.link.specs.Partners.{nobody, sits, addressAt, placeOf, freeOf, placeFor}
-use Rattle.link.specs.Hearing.{ownOf, forUs, onPlace, connects, disconnects, meant, judged, heardGot, heardOf}
+use Rattle.link.specs.Hearing.{ownOf, forUs, onPlace, connects, disconnects, meant, fromOther, judged, heardGot, heardOf}
 use Rattle.link.specs.Serving.{longest, apduOf, Deed, leaving, deedOf, serveOf}
 use Rattle.link.specs.Net.{Net, sourceOf, stateOf, heardIn, eventsOf, addressBy, frame, eventsBy, netBy}
 use Rattle.link.specs.Whose.{Partner, Whose, partner, newcomer}
@@ -81,19 +81,19 @@ module _ (k : Link) (own : ℕ) (b : List ℕ) where
   abbrev pub refusal : ℕ
   refusal = refusalOf (length b) (infoLength b) (fieldsIn b) (stated of b)
 
-  -- whatever holds of what doesn't read, of 60, and of all that a frame for this device can mean holds of what is heard
-  module _ (P : Arrived → Type 0) (unread : eqb refusal 0 ≡ false → P (Nothing refusal nobody)) (foreign : P (Nothing 60 nobody))
+  -- whatever holds of what doesn't read, of 60, of 65, and of all that a frame for this device can mean holds of what is heard
+  module _ (P : Arrived → Type 0) (unread : eqb refusal 0 ≡ false → P (Nothing refusal nobody)) (foreign : P (Nothing 60 nobody)) (mine : P (Nothing 65 nobody))
       (some : (group : ℕ) → P (meant k (sourceOf b) group (meaningOf (frameIn b)))) where
     judged-by : P (judged k own (frameIn b))
-    unfolding judged
-    judged-by = by-test P bits _ _ (λ t. some (fieldsIn b .destination)) (λ t. foreign)
+    unfolding judged fromOther
+    judged-by = by-test P bits _ _ (λ t. by-test P (eqb (sourceOf b) own) _ _ (λ u. mine) (λ u. some (fieldsIn b .destination))) (λ t. foreign)
 
     pub heard-by : P (heardOf k own b)
     unfolding heardOf heardGot readFrame
     heard-by = by-test (λ (g : Got). P (heardGot k own g)) (eqb refusal 0) (got.Is (frameIn b)) (got.Refused refusal) (λ t. judged-by) unread
 
   owned : Of k (sourceOf b) (heardOf k own b)
-  owned = heard-by (Of k (sourceOf b)) (λ t. tt) tt (λ group. meant-of k (sourceOf b) group (meaningOf (frameIn b)))
+  owned = heard-by (Of k (sourceOf b)) (λ t. tt) tt tt (λ group. meant-of k (sourceOf b) group (meaningOf (frameIn b)))
 
   -- for another device
   other-device :
@@ -104,6 +104,20 @@ module _ (k : Link) (own : ℕ) (b : List ℕ) where
       go : (t : Bool) → (n : ℕ) × (heardGot k own (cond t (got.Is (frameIn b)) (got.Refused refusal)) ≡ Nothing n nobody)
       go true = (60, simp (lt-leb 128 (fieldsIn b .control2) i, ne-eqb (fieldsIn b .destination) own n, ne-eqb own (fieldsIn b .destination) (λ e. n (sym e))))
       go false = (refusal, refl)
+
+  -- under this device's own address
+  abbrev Silent : Arrived → Type 0
+  Silent r = (n : ℕ) × (r ≡ Nothing n nobody)
+
+  own-judged : sourceOf b ≡ own → Silent (judged k own (frameIn b))
+  unfolding judged fromOther
+  own-judged e =
+      by-test Silent bits _ _ (λ t. by-test Silent (eqb (sourceOf b) own) _ _ (λ u. (65, refl)) (λ u. never (sym u ∙ eq-eqb (sourceOf b) own e))) (λ t. (60, refl))
+
+  own-device : sourceOf b ≡ own → Silent (heardOf k own b)
+  unfolding heardOf heardGot readFrame
+  own-device e =
+      by-test (λ (g : Got). Silent (heardGot k own g)) (eqb refusal 0) (got.Is (frameIn b)) (got.Refused refusal) (λ t. own-judged e) (λ t. (refusal, refl))
 
 -- what asks for nothing asks for no restart
 isRestarting : Wish → Bool
@@ -235,7 +249,19 @@ module _ (x : Net) (b : List ℕ) where
   unfolding heardIn
   elsewhere i n = let r = other-device (x .link) (ownOf (x .sheet)) b i n in silent (r .0) (r .1)
 
--- NOR IS IT ANSWERED: link, sheet and buffer are as found, whatever the room
+  -- NOR DOES A FRAME UNDER THE DEVICE'S OWN ADDRESS
+  pub itself : sourceOf b ≡ ownOf (x .sheet) → (eventsBy x (frame b) ≡ []) × (netBy x (frame b) ≡ x)
+  unfolding heardIn
+  itself e = let r = own-device (x .link) (ownOf (x .sheet)) b e in silent (r .0) (r .1)
+
+-- NOR IS EITHER ANSWERED: link, sheet and buffer are as found, whatever the room
+pub itself-served :
+    (k : Link) (sequence : ℕ) (b s : List ℕ) (room : ℕ) → sourceOf b ≡ ownOf s → (n : ℕ) × (serveOf k sequence b s room ≡ leaving k s n nobody)
+unfolding serveOf deedOf
+itself-served k sequence b s room e =
+    let r = own-device k (ownOf s) b e in
+    by-test (λ (d : Deed). (n : ℕ) × (d ≡ leaving k s n nobody)) (ltb room longest) _ _ (λ t. (64, refl)) (λ t. (r .0, rw (r .1)))
+
 pub elsewhere-served :
     (k : Link) (sequence : ℕ) (b s : List ℕ) (room : ℕ) → fieldsIn b .control2 < 128 → (fieldsIn b .destination ≡ ownOf s → ⊥) →
     (n : ℕ) × (serveOf k sequence b s room ≡ leaving k s n nobody)

@@ -10,9 +10,9 @@ use Rattle.link.specs.Serving.{longest}
 use Rattle.link.specs.declared.Link.{Link}
 use Rattle.link.specs.declared.Served.{Served}
 
--- why there is no event: 40 to 45 as frames have them, 60 to 64
+-- why there is no event: 40 to 45 as frames have them, 60 to 65
 abbrev pub Why : ℕ → Type 0
-Why n = ((40 ≤ n) × (n ≤ 45)) ⊎ ((60 ≤ n) × (n ≤ 64))
+Why n = ((40 ≤ n) × (n ≤ 45)) ⊎ ((60 ≤ n) × (n ≤ 65))
 
 -- link k, sheet s and buffer o were found; r came back, s′ and o′ are what sheet and buffer then hold
 pub record ServeLeaves (k : Link) (s o : List ℕ) (r : Served) (s′ o′ : List ℕ) : Type 0 where

@@ -48,12 +48,15 @@ meant k source group meaning.Connect = connects (placeFor k source)
 meant k source group meaning.Disconnect = disconnects (placeOf k source)
 meant k source group (meaning.Refused n) = Nothing n (placeOf k source)
 
+-- a frame that reads and is for this device: 65 under its own address, which is nobody else's
+unfoldable pub fromOther : Link → ℕ → Frame → Arrived
+fromOther k own f =
+    cond (eqb (f .fields .source) own) (Nothing 65 nobody) (meant k (f .fields .source) (f .fields .destination) (meaningOf f))
+
 -- a frame that reads: 60 for another device, before all else
 unfoldable pub judged : Link → ℕ → Frame → Arrived
 judged k own f =
-    cond (forUs (f .fields .control2) (f .fields .destination) own)
-    (meant k (f .fields .source) (f .fields .destination) (meaningOf f))
-    (Nothing 60 nobody)
+    cond (forUs (f .fields .control2) (f .fields .destination) own) (fromOther k own f) (Nothing 60 nobody)
 
 unfoldable pub heardGot : Link → ℕ → Got → Arrived
 heardGot k own (got.Is f) = judged k own f

@@ -5,3 +5,6 @@ pub mod Net
 pub mod Whose
 pub mod Runs
 pub mod Demand1
+pub mod Due
+pub mod Granted
+pub mod Unlearned

@@ -115,3 +115,15 @@ NoKeyIn s l (giveBack c n st) = Unit {0}
 abbrev pub NoKey : List ℕ → ℕ → List Item → Type 0
 NoKey s l [] = Unit {0}
 NoKey s l (i ∷ h) = NoKeyIn s l i × NoKey s l h
+
+-- NO REQUEST THAT IS HEARD offers one: what goes to another device, is a stranger's connected data or does not read may
+abbrev pub NoKeyHeardIn : Net → List ℕ → ℕ → Item → Type 0
+NoKeyHeardIn y s l (frame b) =
+    (mode c group : ℕ) → heardIn y b ≡ Request mode c group → (k : ℕ) → k ≤ l → asks (apduOf b) ≡ offerKey (head.key k of s) → ⊥
+NoKeyHeardIn y s l (press on) = Unit {0}
+NoKeyHeardIn y s l (timeOut c) = Unit {0}
+NoKeyHeardIn y s l (giveBack c n st) = Unit {0}
+
+abbrev pub NoKeyHeard : Net → ℕ → List Item → Type 0
+NoKeyHeard x l [] = Unit {0}
+NoKeyHeard x l (i ∷ h) = NoKeyHeardIn (netAfter x h) (x .sheet) l i × NoKeyHeard x l h

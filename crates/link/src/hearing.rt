@@ -7,7 +7,7 @@ use cemi::Frame;
 use cemi::Got;
 use cemi::Meaning;
 ghost use mathlib.Core.Path.{_≡_};
-ghost use Rattle.link.specs.Hearing.{ownOf, forUs, onPlace, connects, disconnects, meant, judged, heardOf};
+ghost use Rattle.link.specs.Hearing.{ownOf, forUs, onPlace, connects, disconnects, meant, fromOther, judged, heardOf};
 
 // The address of this device, as the sheet has it; 0 where the sheet ends before it.
 pub fn own_of(sheet: &[u8]) -> u16
@@ -95,14 +95,28 @@ fn means(link: Link, f: Fields, m: Meaning) -> Arrived
     }
 }
 
+// A frame for this device: nobody else has its address.
+fn from_other(link: Link, own: u16, f: Frame) -> Arrived
+    ensures { λ r. ⌜ r ≡ fromOther link own f ⌝ }
+{
+    let fields = f.fields;
+    if fields.source == own {
+        return Arrived::Nothing {
+            number: 65,
+            connection: places::NOBODY,
+        };
+    }
+    let m = cemi::meant(f);
+    means(link, fields, m)
+}
+
 // A frame that reads.
 pub fn judge(link: Link, own: u16, f: Frame) -> Arrived
     ensures { λ r. ⌜ r ≡ judged link own f ⌝ }
 {
     let fields = f.fields;
     if is_for_us(fields.control2, fields.destination, own) {
-        let m = cemi::meant(f);
-        return means(link, fields, m);
+        return from_other(link, own, f);
     }
     Arrived::Nothing {
         number: 60,

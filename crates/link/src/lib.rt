@@ -1,6 +1,7 @@
 // From the frame to the event: whose connection is whose, what is for this device, who is turned away, and the frame that answers.
 // The definitions stand in specs/: Partners (who has which connection), Hearing (the event of a frame), Serving (what becomes of
-// link, sheet and buffer), Net (histories of frames); Whose, Runs and Demand1 (what the theorems say of them).
+// link, sheet and buffer), Net (histories of frames); Due (what a frame must be heard as, in plain words); Whose, Granted (by what
+// right a frame changed a byte), Unlearned, Runs and Demand1 (what the theorems say of them).
 mod answering;
 mod hearing;
 mod places;

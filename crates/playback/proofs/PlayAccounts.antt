@@ -1,15 +1,16 @@
 -- WHO CHANGED EACH BYTE, AFTER ANY PLAYBACK WITH MARKS that goes on from a history: the marks say which event of it changed a byte last, which gave a level last; and by what right.
 -- Assumes nothing.
 use Prim.Native.Nat.{ℕ}
-use mathlib.Core.Path.{_≡_, refl, sym, _∙_, ap, subst}
-use mathlib.Core.List.{List, [], _∷_, _++_, reverse, reverse-cons, append-assoc}
+use mathlib.Core.Path.{_≡_, _∙_, ap, subst}
+use mathlib.Core.List.{List, _++_, reverse}
 use lib.ListN.{length}
 use Rattle.device.specs.Events.{State}
-use Rattle.events.specs.Events.{Event, after, runBy, run}
+use Rattle.events.specs.Events.{Event, run}
 use Rattle.device.specs.declared.Sessions.{Sessions}
 use Rattle.history.specs.History.{First}
 use Rattle.history.specs.Keeps.{stateAfter, Begins, AllOctets}
 use Rattle.history.specs.Rightful.{ours}
+use Rattle.history.proofs.promises.InOrder.{run-on}
 use Rattle.history.proofs.promises.Keep.{keeps}
 use Rattle.account.specs.Marks.{MarkedRun, Tell}
 use Rattle.account.proofs.Accounts.{accounts, entitled}
@@ -19,14 +20,6 @@ use Rattle.playback.specs.Playing.{at}
 use Rattle.playback.specs.Marking.{markHandled, markPlayed, Marks, Explained}
 use Rattle.playback.specs.declared.Played.{Played}
 use Rattle.playback.proofs.PlayKeeps.{all-take, all-drop, all-append, all-reverse, all-from}
-
--- a run that goes on from a history is the longer history
-run-on : (f : First) (es h : List Event) → run (stateAfter ours f h) es ≡ stateAfter ours f (reverse es ++ h)
-unfolding runBy stateAfter after
-run-on f [] h = refl
-run-on f (e ∷ es) h =
-    run-on f es (e ∷ h)
-    ∙ ap (stateAfter ours f) (sym (ap (λ (l : List Event). l ++ h) (reverse-cons e es) ∙ append-assoc (reverse es) (e ∷ []) h))
 
 -- AFTER A CALL on what a history h left, with marks that tell it, and `played` as long as it is
 module _ (f : First) (h : List Event) (begins : Begins f) (octets : AllOctets h) (q : Sessions) (s t : List ℕ) (from limit : ℕ) (log : List ℕ) (b m : List ℕ)

@@ -1,6 +1,9 @@
 -- The full example, by computation.
 -- Assumes nothing.
+use Prim.Native.Nat.{ℕ}
 use mathlib.Core.Path.{_≡_, refl}
+use mathlib.Core.List.{List, [], _∷_}
+use lib.ListN.{replicate}
 use Rattle.octets.specs.Bytes.{numAt, bytesOf}
 use Rattle.octets.specs.Every.{every}
 use Rattle.octets.specs.Splice.{splice}
@@ -55,3 +58,54 @@ pub first-removed : (removeOutcome twice 1 ≡ 1) × (removeStore twice 1 ≡ le
 unfolding twice left removeOutcome removeStore removed has isKept without laid headOf rowOf tableOf bodiesOf versionAt versionsFrom kept
     rowsRule allRows storeRule isStore first breach splice numAt bytesOf
 first-removed = (refl, refl)
+
+-- A FULL STORE of eight versions without a byte, the last number given being a and b; and a version with other levels, with a count above its maximum, with both
+unfoldable pub eight : ℕ → ℕ → List ℕ
+eight a b =
+    0x00 ∷ 0x08 ∷ a ∷ b ∷ 0x00 ∷ 0x00 ∷ 0x00 ∷ 0x00 ∷
+    0x00 ∷ 0x01 ∷ 0x00 ∷ 0x01 ∷ 0x00 ∷ 0x48 ∷ 0x00 ∷ 0x00 ∷
+    0x00 ∷ 0x02 ∷ 0x00 ∷ 0x01 ∷ 0x00 ∷ 0x48 ∷ 0x00 ∷ 0x00 ∷
+    0x00 ∷ 0x03 ∷ 0x00 ∷ 0x01 ∷ 0x00 ∷ 0x48 ∷ 0x00 ∷ 0x00 ∷
+    0x00 ∷ 0x04 ∷ 0x00 ∷ 0x01 ∷ 0x00 ∷ 0x48 ∷ 0x00 ∷ 0x00 ∷
+    0x00 ∷ 0x05 ∷ 0x00 ∷ 0x01 ∷ 0x00 ∷ 0x48 ∷ 0x00 ∷ 0x00 ∷
+    0x00 ∷ 0x06 ∷ 0x00 ∷ 0x01 ∷ 0x00 ∷ 0x48 ∷ 0x00 ∷ 0x00 ∷
+    0x00 ∷ 0x07 ∷ 0x00 ∷ 0x01 ∷ 0x00 ∷ 0x48 ∷ 0x00 ∷ 0x00 ∷
+    0x00 ∷ 0x08 ∷ 0x00 ∷ 0x01 ∷ 0x00 ∷ 0x48 ∷ 0x00 ∷ 0x00 ∷ []
+
+unfoldable pub levelled : List ℕ
+levelled = splice twice 36 (0x30 ∷ [])
+
+unfoldable pub counted : List ℕ
+counted = splice twice 32 (0x00 ∷ 0x03 ∷ [])
+
+unfoldable pub both : List ℕ
+both = splice levelled 32 (0x00 ∷ 0x03 ∷ [])
+
+-- EACH REFUSAL OF A SAVE, alone and before those behind it: 4 and 30, 30, 31, 31 and 32 and 33, 32 and 33
+pub saves-worked :
+    saveOutcome [] [] ∷ saveOutcome sample [] ∷ saveOutcome sample (splice empty 2 (0xFF ∷ 0xFF ∷ [])) ∷ saveOutcome sample (eight 0xFF 0xFF) ∷ saveOutcome sample (eight 0x00 0x08) ∷ []
+    ≡ 4 ∷ 30 ∷ 31 ∷ 31 ∷ 32 ∷ []
+unfolding eight sample empty once saveOutcome saveNumber saveStore saved settingsOf laid headOf rowOf tableOf bodiesOf versionAt versionsFrom kept
+    rowsRule allRows storeRule isStore verdictOf ruleIn walkRule restRule entriesRule bodiesRule entryRule bodyRule bodyDemands entryDemands
+    entry keyOf floor bodyAt bodyEnd startOf reached sixBits first breach splice numAt bytesOf
+saves-worked = refl
+
+-- OF A RESTORE: 4 and 30, 30 and 34, 34 and 35, 35 and 36, 36, 36 and 37, 37
+pub restores-worked :
+    restoreOutcome tool [] [] 1 ∷ restoreOutcome tool later [] 1 ∷ restoreOutcome other later twice 3 ∷ restoreOutcome other later levelled 1 ∷
+    restoreOutcome tool later levelled 1 ∷ restoreOutcome tool later both 1 ∷ restoreOutcome tool later counted 1 ∷ []
+    ≡ 4 ∷ 30 ∷ 34 ∷ 35 ∷ 36 ∷ 36 ∷ 37 ∷ []
+unfolding levelled counted both sample later twice restoreOutcome restoreSheet restored bodyOf has isKept versionIn every sameEntry lowCount sameEntries lowCounts givesBack atZero settingsOf versionAt versionsFrom kept
+    rowsRule allRows storeRule isStore verdictOf ruleIn walkRule restRule entriesRule bodiesRule entryRule bodyRule bodyDemands entryDemands
+    entry keyOf floor bodyAt bodyEnd startOf reached sixBits first breach splice numAt bytesOf
+restores-worked = refl
+
+-- OF A STORE: eight versions are good, number 0 is not
+pub stores-worked : storeRule (eight 0x00 0x08) ∷ storeRule (splice once 8 (0x00 ∷ 0x00 ∷ [])) ∷ [] ≡ 0 ∷ 30 ∷ []
+unfolding eight once rowsRule allRows storeRule breach splice numAt bytesOf
+stores-worked = refl
+
+-- AND ONE BYTE TOO MANY
+pub too-long-worked : storeRule (replicate 32769 0) ≡ 30
+unfolding rowsRule allRows storeRule breach splice numAt bytesOf
+too-long-worked = refl

@@ -11,6 +11,7 @@ use Rattle.octets.proofs.Numbers.{length-bytes, num-back, num-same}
 use Rattle.sheet.specs.Kind.{regions, properties, groups, users}
 use Rattle.sheet.specs.Layout.{_of_}
 use Rattle.sheet.specs.Property as property
+use Rattle.sheet.specs.Agree.{Agree}
 use Rattle.sheet.specs.Entries.{base, place, startOf}
 use Rattle.sheet.specs.Rules.{Accepted}
 use Rattle.sheet.specs.Stores.{countAt}
@@ -18,6 +19,7 @@ use Rattle.sheet.proofs.rules.Good.{Good, good}
 use Rattle.sheet.proofs.places.BodyPlaces.{start-first, start-up}
 use Rattle.sheet.proofs.alike.Sames.{count-same, start-same}
 use Rattle.sheet.proofs.alike.Sparing.{count-stood}
+use Rattle.sheet.proofs.promises.Agrees.{both-or-neither}
 use Rattle.versions.specs.Settings.{front, many, entriesLong, bodiesLong, settingsOf, inVersion, SameEntries, LowCounts, SameProperties}
 
 module _ (s : List ℕ) (ok : Accepted s) where
@@ -57,6 +59,17 @@ module _ (s : List ℕ) (ok : Accepted s) where
       ∙ List·getD-append table rest 0 j (rw table-long h)
       ∙ getD-take (entriesLong s) (drop (base s properties) s) j 0 h
       ∙ getD-drop (base s properties) s j 0
+
+  -- and one of the bodies
+  body-byte : (j : ℕ) → j < bodiesLong s → getD (settingsOf s) (front + entriesLong s + j) 0 ≡ getD s (startOf s properties + j) 0
+  unfolding settingsOf
+  body-byte j h =
+      let e : front + entriesLong s + j ≡ length first + (length table + j) = omega (arith, length-bytes front (many s), table-long) in
+      ap (λ (k : ℕ). getD (first ++ (table ++ rest)) k 0) e
+      ∙ getD-append-add first (table ++ rest) (length table + j) 0
+      ∙ getD-append-add table rest j 0
+      ∙ getD-take (bodiesLong s) (drop (startOf s properties) s) j 0 h
+      ∙ getD-drop (startOf s properties) s j 0
 
   own-long : length (settingsOf s) ≡ front + entriesLong s + bodiesLong s
   unfolding settingsOf
@@ -116,3 +129,27 @@ settings-only s t ok h =
     (ap₂ _++_
     (ap₂ (λ (x y : ℕ). take x (drop y t)) long at ∙ same-run s t (base s properties) (entriesLong s) (h .agree .long) (omega (arith, near s ok, up₁ s ok, far s ok)) (h .entries))
     (ap₂ (λ (x y : ℕ). take x (drop y t)) b from ∙ same-run s t (startOf s properties) (bodiesLong s) (h .agree .long) (omega (arith, up₁ s ok, far s ok)) (h .bodies)))
+
+-- AND THE OTHER WAY ROUND: sheets that agree and are saved as the same version have the same properties
+pub settings-same : (s t : List ℕ) → Accepted s → Agree s t → settingsOf t ≡ settingsOf s → SameProperties s t
+settings-same s t ok a e =
+    let ok′ : Accepted t = both-or-neither a .0 ok in
+    let m : many t ≡ many s = count-same a properties in
+    let long : entriesLong t ≡ entriesLong s = omega (arith, m) in
+    let at : base t properties ≡ base s properties = omega (arith, count-same a regions) in
+    let from : startOf t properties ≡ startOf s properties = start-same a properties (omega arith) in
+    let b : bodiesLong t ≡ bodiesLong s = ap₂ (λ (x y : ℕ). x - y) (start-same a groups (omega arith)) from in
+    record {
+      agree = a;
+      entries = λ j h.
+          ap (λ (k : ℕ). getD t (k + j) 0) (sym at)
+          ∙ sym (byte t ok′ j (omega (arith, long)))
+          ∙ ap (λ (l : List ℕ). getD l (front + j) 0) e
+          ∙ byte s ok j h;
+      bodies = λ j h.
+          ap (λ (k : ℕ). getD t (k + j) 0) (sym from)
+          ∙ sym (body-byte t ok′ j (omega (arith, b)))
+          ∙ ap (λ (k : ℕ). getD (settingsOf t) (front + k + j) 0) long
+          ∙ ap (λ (l : List ℕ). getD l (front + entriesLong s + j) 0) e
+          ∙ body-byte s ok j h;
+    }

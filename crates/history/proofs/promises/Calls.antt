@@ -1,9 +1,10 @@
--- THE CALLS: whatever calls a host makes, demand 3 and what goes with it hold of what the last one left, and of what the next one gives.
+-- THE CALLS: whatever calls a host makes, demand 3 and what goes with it hold of what the last one left, and of what the next one gives. All that is asked of them is that
+-- they follow a history; `calls-after` says it of runs of `Call`, host's `mixed-follows` of any mixture.
 -- Assumes nothing.
 use Prim.Native.Nat.{ℕ, _<_, _≤_}
 use mathlib.Core.Path.{_≡_, refl, sym, ap, ap₂, _∙_}
 use mathlib.Core.Bool.{true, false}
-use mathlib.Core.List.{List, []}
+use mathlib.Core.List.{List, [], _∷_, _++_, reverse}
 use Rattle.sheet.specs.Head.{rulesOf}
 use Rattle.sheet.specs.declared.Memory.{Memory}
 use Rattle.pdu.specs.Read.{readPdu}
@@ -11,7 +12,7 @@ use Rattle.pdu.specs.declared.Parsed.the-variants.{Is}
 use Rattle.pdu.specs.declared.Pdu.the-variants.{PropertyValueRead}
 use Rattle.device.specs.Sessions.{sessionOf}
 use Rattle.device.specs.Events.{Effect, State}
-use Rattle.events.specs.Events.{Event, request, eventOf}
+use Rattle.events.specs.Events.{Event, request, eventOf, run}
 use Rattle.device.specs.MemoryDue.{reading}
 use Rattle.device.specs.Apart.{SameEffect, Together}
 use Rattle.events.specs.Apart.{Settled, AllSettled}
@@ -24,8 +25,8 @@ use Rattle.history.specs.Keyless.{Locked, Closed, Protected}
 use Rattle.history.specs.Shown.{Shows, MemoryShows}
 use Rattle.history.specs.Isolation.{isOf, Alike, Beside}
 use Rattle.history.specs.Rightful.{ours}
-use Rattle.history.specs.Calls.{Call, connects, disconnects, presses, requests, Calls, begin, next, restores}
-use Rattle.history.proofs.promises.InOrder.{firstState}
+use Rattle.history.specs.Calls.{Call, connects, disconnects, presses, requests, Calls, begin, next, restores, Follows}
+use Rattle.history.proofs.promises.InOrder.{firstState, run-on}
 use Rattle.history.proofs.promises.Isolated.{isolated}
 use Rattle.history.proofs.promises.Keep.{keeps}
 use Rattle.history.proofs.promises.Keyless.{shut-device, keyless-device}
@@ -49,37 +50,57 @@ call-is {x} (requests mode c g a out r s′ o′ k) = (
 call-is {x} (restores c n st r s′ small p) =
     (ap₂ (λ (n : ℕ) (s : List ℕ). record { outcome = n; answer = []; sessions = x .sessions; sheet = s }) (p .outcome) (p .after), small)
 
--- THE STATE AFTER CALLS is that after their events
-pub calls-after : {f : First} {h : List Event} {x : State} → Calls f h x → (x ≡ stateAfter ours f h) × AllOctets h
+-- ONE CALL MORE, and a run of events more
+pub call-follows :
+    {f : First} {h : List Event} {x : State} {e : Event} {r : Effect} → Follows f h x → Call x e r → Follows f (e ∷ h) record { sessions = r .sessions; sheet = r .sheet }
 unfolding stateAfter
-calls-after begin = (refl, tt)
-calls-after (next {e = e} k c) =
-    let i = calls-after k in
+call-follows {e = e} k c =
     let z = call-is c in
-    (ap (λ (t : Effect). record { sessions = t .sessions; sheet = t .sheet }) (z .0 ∙ ap (λ (y : State). eventOf y e) (i .0)), (z .1, i .1))
+    record {
+      state = ap (λ (t : Effect). record { sessions = t .sessions; sheet = t .sheet }) (z .0 ∙ ap (λ (y : State). eventOf y e) (k .state));
+      octets = (z .1, k .octets);
+    }
 
-module _ {f : First} (b : Begins f) {h : List Event} {x : State} (k : Calls f h x) where
+octets-append : (es h : List Event) → AllOctets es → AllOctets h → AllOctets (es ++ h)
+octets-append [] h o p = p
+octets-append (e ∷ es) h o p = (o .0, octets-append es h (o .1) p)
+
+pub run-follows :
+    {f : First} {h : List Event} {x y : State} (es : List Event) → Follows f h x → AllOctets (reverse es) → y ≡ run x es → Follows f (reverse es ++ h) y
+run-follows {f} {h} es k o e =
+    record {
+      state = e ∙ ap (λ (z : State). run z es) (k .state) ∙ run-on f es h;
+      octets = octets-append (reverse es) h o (k .octets);
+    }
+
+-- THE STATE AFTER CALLS is that after their events
+pub calls-after : {f : First} {h : List Event} {x : State} → Calls f h x → Follows f h x
+unfolding stateAfter
+calls-after begin = record { state = refl; octets = tt }
+calls-after (next k c) = call-follows (calls-after k) c
+
+module _ {f : First} (b : Begins f) {h : List Event} {x : State} (k : Follows f h x) where
   -- DEMAND 3
   pub calls-keep : Kept ours f h × (x ≡ stateAfter ours f h)
-  calls-keep = let i = calls-after k in (keeps f h b (i .1), i .0)
+  calls-keep = (keeps f h b (k .octets), k .state)
 
   -- THE RULES
   pub rules-calls : rulesOf (x .sheet) ≡ rulesOf (f .sheet)
-  rules-calls = let i = calls-after k in rw (i .0) (rules-stay ours keeps f h b (i .1))
+  rules-calls = rw (k .state) (rules-stay ours keeps f h b (k .octets))
 
   -- NOBODY WITHOUT THE KEY
   module _ (l : ℕ) (low : l < 3) where
     pub shut-calls :
         (c : ℕ) → sessionOf (f .sessions) c .opened ≡ false → Locked f l c h → sessionOf (x .sessions) c .opened ≡ true → l < sessionOf (x .sessions) c .level
-    shut-calls c closed locked = let i = calls-after k in rw (i .0) (shut-device l low ours keeps f b h (i .1) c closed locked)
+    shut-calls c closed locked = rw (k .state) (shut-device l low ours keeps f b h (k .octets) c closed locked)
 
     pub keyless-calls : Closed f → Locked f l 0 h → Locked f l 1 h → Protected f l x
-    keyless-calls closed p q = let i = calls-after k in rw (i .0) (keyless-device l low ours keeps f b h (i .1) closed p q)
+    keyless-calls closed p q = rw (k .state) (keyless-device l low ours keeps f b h (k .octets) closed p q)
 
   -- THE NEXT CALL
   module _ {e : Event} {r : Effect} (d : Call x e r) where
     gives : r ≡ eventOf (stateAfter ours f h) e
-    gives = call-is d .0 ∙ ap (λ (y : State). eventOf y e) (calls-after k .0)
+    gives = call-is d .0 ∙ ap (λ (y : State). eventOf y e) (k .state)
 
     -- a write is carried out exactly if it is permitted
     pub calls-permit : (CarriedOut e (r .outcome) → permitted f h e ≡ true) × (permitted f h e ≡ true → CarriedOut e (r .outcome))
@@ -91,25 +112,25 @@ module _ {f : First} (b : Begins f) {h : List Event} {x : State} (k : Calls f h 
     -- WHAT A READ SHOWS
     pub shown-calls : (object id n s : ℕ) → readPdu a ≡ Is (PropertyValueRead object id n s) → 1 ≤ s → Shows f h object id n s r
     shown-calls object id n s reads low =
-        rw (gives d) (ours-shown f h b (calls-after k .1) mode c g a out (call-is d .1) object id n s reads low (rw (gives d) at ok))
+        rw (gives d) (ours-shown f h b (k .octets) mode c g a out (call-is d .1) object id n s reads low (rw (gives d) at ok))
 
     pub memory-calls : (m : Memory) (n y : ℕ) → readPdu a ≡ Is (reading m n y) → MemoryShows f h mode c m n y r
     memory-calls m n y reads =
-        rw (gives d) (ours-memory-shown f h b (calls-after k .1) mode c g a out (call-is d .1) m n y reads (rw (gives d) at ok))
+        rw (gives d) (ours-memory-shown f h b (k .octets) mode c g a out (call-is d .1) m n y reads (rw (gives d) at ok))
 
--- TWO TOOLS AT ONCE: two runs of calls
-module _ (f : First) (t o : ℕ) (n : t ≡ o → ⊥) {h h′ : List Event} (b : Beside ours f o h h′) {x x′ : State} (k : Calls f h x) (k′ : Calls f h′ x′) where
+-- TWO TOOLS AT ONCE: after two histories
+module _ (f : First) (t o : ℕ) (n : t ≡ o → ⊥) {h h′ : List Event} (b : Beside ours f o h h′) {x x′ : State} (k : Follows f h x) (k′ : Follows f h′ x′) where
   -- what they leave
   pub isolated-calls : (x .sheet ≡ x′ .sheet) × (sessionOf (x .sessions) t ≡ sessionOf (x′ .sessions) t)
   isolated-calls =
-      let s = isolated f t o n h h′ b in rw (calls-after k .0, calls-after k′ .0) (s .sheet, s .session)
+      let s = isolated f t o n h h′ b in rw (k .state, k′ .state) (s .sheet, s .session)
 
   -- and what the next calls give
   pub isolated-next :
       {e e′ : Event} {r r′ : Effect} → isOf o e ≡ false → Alike e e′ → Call x e r → Call x′ e′ r′ → (r .outcome ≡ r′ .outcome) × (r .answer ≡ r′ .answer)
   isolated-next {e} {e′} u a d d′ =
       let s = isolated f t o n h h′ b in
-      rw (call-is d .0, call-is d′ .0, calls-after k .0, calls-after k′ .0) (s .outcome e e′ u a, s .answer e e′ u a)
+      rw (call-is d .0, call-is d′ .0, k .state, k′ .state) (s .outcome e e′ u a, s .answer e e′ u a)
 
 -- SHEETS THAT DIFFER IN THE NUMBER OF THE RULES ALONE: one call that is not disputed
 pub apart-call : {x x′ : State} {e : Event} {r r′ : Effect} → Together x x′ → Settled e → Call x e r → Call x′ e r′ → SameEffect r r′

@@ -1,7 +1,7 @@
 -- A history has the newest event first and a run the oldest: the state after the one is that after the other, reversed.
 -- Assumes nothing.
 use mathlib.Core.Path.{_≡_, refl, sym, ap, _∙_}
-use mathlib.Core.List.{List, [], _∷_, reverse, reverse-cons, reverse-reverse}
+use mathlib.Core.List.{List, [], _∷_, _++_, reverse, reverse-cons, reverse-reverse, append-assoc}
 use Rattle.device.specs.Events.{State}
 use Rattle.events.specs.Events.{Event, after, runBy, run}
 use Rattle.events.proofs.Append.{run-append}
@@ -25,3 +25,11 @@ module _ (f : First) where
   -- and the other way round
   pub run-is-after : (es : List Event) → run firstState es ≡ stateAfter ours f (reverse es)
   run-is-after es = ap (run firstState) (sym (reverse-reverse es)) ∙ sym (after-is-run (reverse es))
+
+  -- A RUN THAT GOES ON from a history is the longer history
+  pub run-on : (es h : List Event) → run (stateAfter ours f h) es ≡ stateAfter ours f (reverse es ++ h)
+  unfolding runBy stateAfter after
+  run-on [] h = refl
+  run-on (e ∷ es) h =
+      run-on es (e ∷ h)
+      ∙ ap (stateAfter ours f) (sym (ap (λ (l : List Event). l ++ h) (reverse-cons e es) ∙ append-assoc (reverse es) (e ∷ []) h))

@@ -24,9 +24,9 @@ use Rattle.history.specs.Keeps.{Device, stateAfter, Begins, BringsOctets
 use Rattle.history.specs.Keyless.{Locked, NotOffered, Closed}
 use Rattle.history.specs.Isolation.{Alike, same, asLong}
 use Rattle.history.specs.Rightful.{Rightful, ours}
-use Rattle.history.specs.Calls.{Call, Calls}
+use Rattle.history.specs.Calls.{Call, Follows}
 use Rattle.history.specs.Secret.{Secret, Hide, NoneBelow, AllAlike, none, more, NothingTold, NothingToldAlong, Unlearned}
-use Rattle.history.proofs.promises.Calls.{call-is, calls-after}
+use Rattle.history.proofs.promises.Calls.{call-is}
 use Rattle.history.proofs.promises.Keep.{keeps}
 use Rattle.history.proofs.promises.Keyless.{all-shut, locked}
 use Rattle.history.proofs.heard.Meets.{meets}
@@ -170,14 +170,14 @@ unlearned-any step rightful q few f f′ b b′ s u h h′ r o n =
 
 -- OF THE CALLS: what they leave, and what the next ones give
 module _ (q : ℕ) (few : q ≤ 3) {f f′ : First} (b : Begins f) (s : f′ .sessions ≡ f .sessions) (u : Hide q (f .sheet) (f′ .sheet))
-    {h h′ : List Event} (r : AllAlike h h′) {x x′ : State} (k : Calls f h x) (k′ : Calls f′ h′ x′) (n : NoneBelow q f h) where
+    {h h′ : List Event} (r : AllAlike h h′) {x x′ : State} (k : Follows f h x) (k′ : Follows f′ h′ x′) (n : NoneBelow q f h) where
   pub unlearned-calls : (x′ .sessions ≡ x .sessions) × Hide q (x .sheet) (x′ .sheet)
-  unlearned-calls = rw (calls-after k .0, calls-after k′ .0) (beside q few f f′ b s u h h′ r (calls-after k .1) n)
+  unlearned-calls = rw (k .state, k′ .state) (beside q few f f′ b s u h h′ r (k .octets) n)
 
   pub unlearned-next :
       {e e′ : Event} {p p′ : Effect} → Alike e e′ → ((c : ℕ) → opened f h c ≡ true → q ≤ level f h c) → Call x e p → Call x′ e′ p′ → NothingTold q p p′
   unlearned-next {e} {e′} a w d d′ =
-      rw (call-is d .0, call-is d′ .0, calls-after k .0, calls-after k′ .0) (next-told q few f f′ b s u h h′ r (calls-after k .1) n w e e′ a)
+      rw (call-is d .0, call-is d′ .0, k .state, k′ .state) (next-told q few f f′ b s u h h′ r (k .octets) n w e e′ a)
 
 -- A LAPTOP WITHOUT A KEY of a level up to l: no open connection has a level below l + 1
 module _ (l : ℕ) (low : l < 3) (f : First) (closed : Closed f) where
