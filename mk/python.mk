@@ -1,17 +1,32 @@
-# The Python module, with the two libraries as one shared object beside it. Comes after hosts.mk.
-.PHONY: python test-python
-PYTHON := $(BUILD)/python/kelindap.py $(BUILD)/python/libkelindap.so
+# The Python package, with the two libraries as one shared object in it, and its wheel: for this machine's own processor alone. Comes
+# after tools.mk.
+.PHONY: python install-python test-python need-python
+PYTHON_FROM := $(wildcard hosts/python/kelindap/*.py hosts/python/making/*.py include/*.h) hosts/python/kelindap/py.typed hosts/python/pyproject.toml
+# where `make install` leaves the package
+PYTHONDIR ?= $(shell python3 hosts/python/making/place.py $(PREFIX))
 
-#: make python     the Python module, build/python
-python: $(PYTHON)
+#: make python     the Python package, build/python/kelindap, and its wheel beside it; `pip install ./hosts/python` makes both too
+python: build/python/wheel.txt
 
-$(BUILD)/python/kelindap.py: hosts/python/kelindap.py
-	@mkdir -p $(@D)
-	@cp $< $@
+# anew, so that no module is left from before
+build/python/wheel.txt: $(PYTHON_FROM) build/libkelindap.so mk/python.mk | need-python
+	@rm -rf build/python
+	@mkdir -p build/python/kelindap
+	@cp hosts/python/kelindap/*.py hosts/python/kelindap/py.typed build/libkelindap.so build/python/kelindap
+	@python3 hosts/python/making/headers.py include > build/python/kelindap/names.py
+	@python3 hosts/python/making/backend.py build/python/kelindap build/python > $@
 
-$(BUILD)/python/libkelindap.so: $(HOST_A) $(TOOL_A) mk/python.mk | need-gcc
-	@mkdir -p $(@D)
-	@gcc -shared -o $@ -Wl,--whole-archive $(HOST_A) $(TOOL_A) -Wl,--no-whole-archive
+build/libkelindap.so: $(OWN_A) mk/python.mk | need-gcc
+	@gcc -shared -o $@ -Wl,--whole-archive $(OWN_A) -Wl,--no-whole-archive
 
-test-python: $(PYTHON)
+# as pip does it, so that pip can take it away again
+install-python: python
+	rm -rf $(DESTDIR)$(PYTHONDIR)/kelindap $(DESTDIR)$(PYTHONDIR)/kelindap-*.dist-info
+	mkdir -p $(DESTDIR)$(PYTHONDIR)
+	python3 -m zipfile -e build/python/$$(cat build/python/wheel.txt) $(DESTDIR)$(PYTHONDIR)
+
+need-python:
+	@command -v python3 > /dev/null || { echo "python3 is missing" >&2; exit 1; }
+
+test-python: python
 	tests/python/run.sh
