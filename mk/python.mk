@@ -9,14 +9,14 @@ PYTHONDIR ?= $(shell python3 hosts/python/making/place.py $(PREFIX))
 python: build/python/wheel.txt
 
 # anew, so that no module is left from before
-build/python/wheel.txt: $(PYTHON_FROM) build/libkelindap.so mk/python.mk | need-python
+build/python/wheel.txt: $(PYTHON_FROM) build/libkelindap.so.0 mk/python.mk | need-python
 	@rm -rf build/python
 	@mkdir -p build/python/kelindap
-	@cp hosts/python/kelindap/*.py hosts/python/kelindap/py.typed build/libkelindap.so build/python/kelindap
+	@cp hosts/python/kelindap/*.py hosts/python/kelindap/py.typed build/libkelindap.so.0 build/python/kelindap
 	@python3 hosts/python/making/headers.py include > build/python/kelindap/names.py
 	@python3 hosts/python/making/backend.py build/python/kelindap build/python > $@
 
-build/libkelindap.so: $(OWN_A) mk/python.mk | need-gcc
+build/libkelindap.so.0: $(OWN_A) mk/python.mk | need-gcc
 	@gcc -shared -o $@ -Wl,--whole-archive $(OWN_A) -Wl,--no-whole-archive
 
 # as pip does it, so that pip can take it away again

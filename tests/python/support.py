@@ -1,5 +1,6 @@
 """What the tests of the package share: the sample sheet, an old one, and how they are run and told."""
 
+import os
 import re
 import sys
 import unittest
@@ -11,9 +12,10 @@ OLD = b"\1" + SAMPLE[1:]
 
 
 def run_tests(what):
-    """Runs the tests of the file that calls it; a fault is shown, and else a line tells how many there were."""
+    """Runs the tests of the file that calls it; a fault is shown, and a line tells how many there were. With FIRST in the environment
+    the first fault is enough."""
     tests = unittest.defaultTestLoader.loadTestsFromModule(sys.modules["__main__"])
-    result = unittest.TextTestRunner(verbosity=0, stream=open("/dev/null", "w")).run(tests)
+    result = unittest.TextTestRunner(verbosity=0, stream=open(os.devnull, "w"), failfast="FIRST" in os.environ).run(tests)
     for _, text in (result.errors + result.failures)[:10]:
         print(f"python: {what}: {text}")
     faults = len(result.errors) + len(result.failures)

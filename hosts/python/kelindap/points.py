@@ -58,8 +58,8 @@ def _hundredths(value: Any) -> int:
 def _bits(value: Any) -> int:
     """The bits of the nearest float of 32 bits; of what is too large, those of an infinity."""
     try:
-        packed = struct.pack("=f", value)
-    except OverflowError:
+        packed = struct.pack("=f", float(value))
+    except (ValueError, OverflowError):
         packed = struct.pack("=f", float("inf"))
     return int(struct.unpack("=I", packed)[0])
 

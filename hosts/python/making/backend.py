@@ -20,7 +20,7 @@ from typing import Any
 
 HERE = Path(__file__).resolve().parent.parent
 TREE = HERE.parent.parent
-LIBRARY = "libkelindap.so"
+LIBRARY = "libkelindap.so.0"  # with no ending by which Python would take it for a module
 # a library's processor, by its number in an ELF header, as pip knows machines
 MACHINES = {62: ["x86_64"], 183: ["aarch64"], 40: ["armv6l", "armv7l"], 243: ["riscv64"]}
 
