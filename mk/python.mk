@@ -1,7 +1,8 @@
 # The Python package, with the two libraries as one shared object in it, and its wheel: for this machine's own processor alone. Comes
 # after tools.mk.
 .PHONY: python install-python test-python need-python
-PYTHON_FROM := $(wildcard hosts/python/kelindap/*.py hosts/python/making/*.py include/*.h) hosts/python/kelindap/py.typed hosts/python/pyproject.toml
+PYTHON_FROM := $(wildcard hosts/python/kelindap/*.py hosts/python/making/*.py include/*.h)
+PYTHON_FROM += hosts/python/kelindap/py.typed hosts/python/pyproject.toml
 # where `make install` leaves the package
 PYTHONDIR ?= $(shell python3 hosts/python/making/place.py $(PREFIX))
 

@@ -59,8 +59,8 @@ if command -v python3 > /dev/null; then
 else
     left_out+=("python3-kelindap (no python3)")
 fi
-files=("${packages[@]/%/_${version}_$debian.deb}")
-in_root --force-depends -i "${files[@]/#/build/deb/}"
+archives=("${packages[@]/%/_${version}_$debian.deb}")
+in_root --force-depends -i "${archives[@]/#/build/deb/}"
 files=$(find "$root/usr" -type f | wc -l)
 
 by="its own words"

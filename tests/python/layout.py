@@ -56,7 +56,8 @@ for what, enumeration in (("outcome", names.Outcome), ("rule", names.Rule), ("ki
     hold(f"{what}s that C has not", numbers, {})
 
 # each enumeration of the headers, by name and number; limits too
-text = "".join(re.sub(r"/\*.*?\*/", "", open(header).read(), flags=re.S) for header in sorted(glob.glob("include/*.h")) if "_plain" not in header)
+headers = [open(header).read() for header in sorted(glob.glob("include/*.h")) if "_plain" not in header]
+text = re.sub(r"/\*.*?\*/", "", "".join(headers), flags=re.S)
 due = {"Outcome": {}}
 for owner, body in re.findall(r"enum (?:kelindap_(\w+) )?\{(.*?)\}", text, re.S):
     found = {name: int(number, 0) for name, number in re.findall(r"KELINDAP_(\w+) = (\w+)", body)}
@@ -81,7 +82,8 @@ table = re.search(r" \*  kind  .*?\n \* A field", open("include/kelindap_pdu.h")
 rows = re.sub(r"\n \* {30,}(maximum)", r" \1", table)  # one row goes on in a second line
 header = {}
 for kind, rest in re.findall(r"^ \*  ([A-Z_]+) +\w+h(?: \+ \w)? +(.*)$", rows, re.M):
-    fields, *columns = re.split(r"  +", rest.replace("type,        none          9 maximum 0..4095, access", "type, maximum 0..4095, access  none  9"))
+    rest = re.sub(r"type, +none +9 (maximum.*)", r"type, \1  none  9", rest)
+    fields, *columns = re.split(r"  +", rest)
     most = {}
     for field in [] if fields == "-" else fields.split(", "):
         name, *limit = field.split()

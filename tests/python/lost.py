@@ -60,7 +60,8 @@ UNWRITABLE = {
     "None": lambda run: None,
 }
 # what is read may be all of these
-READABLE = {**WRITABLE, "bytes": bytes, "a view of bytes": memoryview, "a view with gaps": lambda run: memoryview(b"".join(bytes([b, 0]) for b in run))[::2]}
+READABLE = {**WRITABLE, "bytes": bytes, "a view of bytes": memoryview}
+READABLE["a view with gaps"] = lambda run: memoryview(b"".join(bytes([byte, 0]) for byte in run))[::2]
 UNREADABLE = {name: UNWRITABLE[name] for name in ("a view of rows", "an array of words", "a list", "text", "a number", "None")}
 
 
@@ -78,6 +79,8 @@ FRAME = dict(code=0x29, control1=0xBC, control2=0x60, source=0x1101, destination
 READ = kelindap.write("property_read", **HEIGHT)
 ASKED = kelindap.frame_write(READ, **FRAME)
 
+SERVED = "1100bc6011051101" + "07" + "03d60133100103e8"
+
 # every call in which the library writes what it was given: the run before, the call, what must stand there afterwards
 WRITES = {
     "convert": (OLD, kelindap.convert, lambda run: run[0] == 2 and run[1:] == OLD[1:]),
@@ -86,7 +89,7 @@ WRITES = {
     "write_into": (bytes(20), lambda run: kelindap.write_into(run, "property_read", HEIGHT), lambda run: run[:6] == READ),
     "frame_write_into": (bytes(40), lambda run: kelindap.frame_write_into(run, READ, **FRAME), lambda run: run[: len(ASKED)] == ASKED),
     "request_into": (bytes(20), lambda run: kelindap.Unit(SAMPLE).request_into(run, READ), lambda run: run[:8].hex() == "03d60133100103e8"),
-    "serve_into": (bytes(30), lambda run: kelindap.Unit(SAMPLE).serve_into(run, ASKED), lambda run: run[:17].hex() == "1100bc6011051101" + "07" + "03d60133100103e8"),
+    "serve_into": (bytes(30), lambda run: kelindap.Unit(SAMPLE).serve_into(run, ASKED), lambda run: run[:17].hex() == SERVED),
 }
 
 
@@ -140,7 +143,8 @@ class Lost(unittest.TestCase):
         marks = unit.marks()
         self.assertEqual(unit.play_marked(b"\0\1" + entry + write, marks, 6)[0].outcome, Outcome.ANSWERED)
         self.assertIn(7, marks)
-        for wrong in (bytes(4 * len(marks)), array.array("H", bytes(2 * len(marks))), list(marks), memoryview(marks).toreadonly(), memoryview(marks)[::2]):
+        view = memoryview(marks)
+        for wrong in (bytes(4 * len(marks)), array.array("H", bytes(2 * len(marks))), list(marks), view.toreadonly(), view[::2]):
             with self.assertRaises(TypeError):
                 unit.play_marked(trace, wrong, 0)
         with self.assertRaises(Refused) as caught:
@@ -205,8 +209,9 @@ class Lost(unittest.TestCase):
             unit.sheet[14] = 1
         with self.assertRaises(TypeError):
             unit.request_into(unit.sheet, READ)
-        with self.assertRaises(AttributeError):
-            unit.sessions = []
+        for name in ("sessions", "shett"):
+            with self.assertRaises(AttributeError):
+                setattr(unit, name, SAMPLE)
 
     def test_a_refused_sheet_leaves_the_old_one(self):
         unit = at_level_1()
@@ -217,7 +222,7 @@ class Lost(unittest.TestCase):
         self.assertEqual(unit.sessions[0], (True, 1))
 
     def test_a_bad_sheet(self):
-        for bad, outcome, rule in ((OLD, Outcome.OLD_SHEET, Rule.OLD), (SAMPLE[:-1], Outcome.BAD_SHEET, Rule.S4), (b"", Outcome.BAD_SHEET, Rule.S1)):
+        for bad, outcome, rule in ((OLD, 14, Rule.OLD), (SAMPLE[:-1], 4, Rule.S4), (b"", 4, Rule.S1)):
             with self.assertRaises(Refused) as caught:
                 kelindap.Unit(bad)
             self.assertEqual((caught.exception.outcome, caught.exception.rule), (outcome, rule))
@@ -303,6 +308,17 @@ class Lost(unittest.TestCase):
         unit.serve(connect[:5] + b"\x09" + connect[6:])
         restart = kelindap.frame_write(kelindap.write("restart"), **dict(own, transport=16))
         self.assertEqual(unit.serve(restart).closed, (0, 1))
+
+    def test_copies(self):
+        """A copy of a device is another device."""
+        for act in (copy.copy, copy.deepcopy, lambda unit: pickle.loads(pickle.dumps(unit))):
+            unit = at_level_1()
+            other = act(unit)
+            self.assertEqual((other.sheet, other.sessions), (unit.sheet, unit.sessions))
+            other.ask("property_write", **HEIGHT, data=b"\x04\xe2", connection=0)
+            other.disconnect(0)
+            self.assertEqual((unit.sheet, unit.sessions[0]), (SAMPLE, (True, 1)))
+            self.assertNotEqual(other.sheet, SAMPLE)
 
     def test_pickle(self):
         """An exception and a number pass between processes."""

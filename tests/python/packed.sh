@@ -20,7 +20,7 @@ find "$work/copy" -type f -exec touch -d '2001-02-03' {} +
 mkdir "$work/again"
 (umask 077 && python3 hosts/python/making/backend.py "$work/copy/kelindap" "$work/again" > /dev/null)
 cmp "$wheel" "$work/again/$(basename "$wheel")" || fail "the wheel is another when it is made again"
-python3 - "$wheel" << 'END' || fail "the wheel's list is not that of its files"
+python3 - "$wheel" "$version" << 'END' || fail "the wheel tells something else than what it has"
 import base64, csv, hashlib, sys, zipfile
 archive = zipfile.ZipFile(sys.argv[1])
 record, = [name for name in archive.namelist() if name.endswith("/RECORD")]
@@ -30,6 +30,19 @@ assert set(listed) | {record} == set(archive.namelist()) and len(listed) + 1 == 
 for name, told in listed.items():
     text = archive.read(name)
     assert told == ("sha256=" + base64.urlsafe_b64encode(hashlib.sha256(text).digest()).decode().rstrip("="), str(len(text))), name
+import re
+sys.path.insert(0, "hosts/python/making")
+import backend
+told = dict(re.findall(r"^(.*?): (.*)$", archive.read(record.replace("RECORD", "METADATA")).decode(), re.M))
+try:
+    import tomllib
+    project = tomllib.load(open("hosts/python/pyproject.toml", "rb"))["project"]
+    assert [told[name] for name in ("Name", "Summary", "Requires-Python")] == [project[name] for name in ("name", "description", "requires-python")]
+except ImportError:
+    pass
+assert told["Version"] == backend.version() == sys.argv[2]
+for machine, names in ((62, ["linux_x86_64"]), (183, ["linux_aarch64"]), (40, ["linux_armv6l", "linux_armv7l"]), (243, ["linux_riscv64"])):
+    assert backend.platforms(b"\x7fELF\2\1" + bytes(12) + bytes([machine, 0])) == names
 assert {"kelindap/py.typed", "kelindap/libkelindap.so.0", "kelindap/names.py"} <= set(listed)
 END
 

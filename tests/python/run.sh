@@ -21,7 +21,7 @@ python3 tests/python/play.py "${scripts[@]%.in}"
 for test in lost refusals whole; do python3 tests/python/$test.py; done
 tests/python/faults.sh "$work/words.txt"
 if command -v mypy > /dev/null; then
-    mypy --strict --cache-dir="$work/mypy" build/python/kelindap hosts/python/making > "$work/said" || { cat "$work/said"; exit 1; }
+    mypy --strict --python-version 3.9 --cache-dir="$work/mypy" build/python/kelindap hosts/python/making > "$work/said" || { cat "$work/said"; exit 1; }
     echo "python: mypy finds nothing"
 else
     echo "python: left out: mypy is not here"

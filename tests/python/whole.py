@@ -53,13 +53,13 @@ class Whole(unittest.TestCase):
                     continue
                 if name.startswith("_") and not inspect.isclass(value):
                     continue
-                self.assertTrue((vars(value).get("__doc__") if inspect.isclass(value) else value.__doc__ or "").strip(), f"{module.__name__}.{name}")
+                told = vars(value).get("__doc__") if inspect.isclass(value) else value.__doc__
                 # what typing makes for a tuple is no doc
-                self.assertFalse((value.__doc__ or "").startswith(f"{name}("), f"{module.__name__}.{name}")
+                self.assertTrue(told and told.strip() and not told.startswith(f"{name}("), f"{module.__name__}.{name}")
                 COUNTED["docs"] += 1
                 for method, function in functions(value) if inspect.isclass(value) else ():
                     hidden = method.startswith("_") and not re.fullmatch(r"__\w+__", method)
-                    setter = inspect.signature(function).parameters and method == "sheet" and len(inspect.signature(function).parameters) == 2
+                    setter = method == "sheet" and len(inspect.signature(function).parameters) == 2
                     made = not (function.__code__.co_filename or "").startswith(str(Path(kelindap.__file__).parent))
                     if not hidden and not setter and not made:
                         self.assertTrue((function.__doc__ or "").strip(), f"{name}.{method}")
@@ -98,7 +98,8 @@ class Whole(unittest.TestCase):
         self.assertEqual((f"{outcome}", str(outcome), f"{outcome:02x}", outcome + 0, outcome.words), ("11", "11", "0b", 11, "refused"))
         self.assertEqual(repr(outcome), "<Outcome.DENIED: 11>")
         self.assertIs(kelindap.Outcome.OK, kelindap.Outcome.ANSWERED)
-        for enumeration in (kelindap.Outcome, kelindap.Rule, kelindap.Mode, kelindap.Kind, kelindap.Event, kelindap.Message, kelindap.TraceKind):
+        for name in ("Outcome", "Rule", "Mode", "Kind", "Event", "Message", "TraceKind"):
+            enumeration = getattr(kelindap, name)
             self.assertTrue(issubclass(enumeration, enum.IntEnum))
             self.assertTrue(all(member.words for member in enumeration))
         self.assertEqual([o for o in kelindap.Outcome if o.carried_out], [0, 1])

@@ -62,7 +62,16 @@ def _reason(numbers: Dict[str, int], info: bytes, apdu: bytes) -> Tuple[Optional
 
 
 def frame_write_into(
-    buffer: Writable, apdu: Readable, *, code: int, control1: int, control2: int, source: int, destination: int, transport: int, info: Readable = b""
+    buffer: Writable,
+    apdu: Readable,
+    *,
+    code: int,
+    control1: int,
+    control2: int,
+    source: int,
+    destination: int,
+    transport: int,
+    info: Readable = b"",
 ) -> int:
     """Writes a frame to the front of a buffer: how many bytes it has. Raises Refused."""
     given: Dict[str, Any] = dict(code=code, control1=control1, control2=control2)

@@ -2,6 +2,7 @@
 
 from __future__ import annotations
 
+import copy
 from ctypes import byref
 from typing import Any, List, NamedTuple, Optional, Tuple, Union
 
@@ -42,6 +43,9 @@ class Unit:
     The host's duties are those of kelindap.h, and for frames those of kelindap_link.h: above all that it saves `sheet` when a reply has
     `changed`, and before it answers or acknowledges."""
 
+    # nothing else can be assigned: a name that is mistyped would take a sheet and lose it
+    __slots__ = ("_any", "_sheet", "_link")
+
     def __init__(self, sheet: Readable, *, any_sheet: bool = False) -> None:
         """A device at its start, both sessions closed, with a copy of the sheet. Raises Refused if the sheet is not accepted, unless
         any_sheet is true: a device with a sheet that breaks a rule, or is old, answers nothing until it has another."""
@@ -58,6 +62,10 @@ class Unit:
         address = f" {area >> 4}.{area & 15}.{device}" if rule is Rule.ACCEPTED else ""
         told = [f"connection {c} {f'open at level {s.level}' if s.open else 'closed'}" for c, s in enumerate(self.sessions)]
         return f"<kelindap.Unit{address}: sheet of {len(self._sheet)} bytes, {state}; {', '.join(told)}>"
+
+    def __copy__(self) -> Unit:
+        """A device of its own, with a sheet and sessions that are as these are now."""
+        return copy.deepcopy(self)
 
     # ---- the sheet ----
 
@@ -132,12 +140,20 @@ class Unit:
 
     # ---- requests ----
 
-    def request(self, apdu: Readable, *, connection: Optional[int] = None, group: Optional[int] = None, mode: Optional[int] = None) -> Reply:
+    def request(
+        self, apdu: Readable, *, connection: Optional[int] = None, group: Optional[int] = None, mode: Optional[int] = None
+    ) -> Reply:
         """A request from the bus: on a connection, to a group, or with neither connectionless; `mode` says it where it is another."""
         return self.request_into(bytearray(16), apdu, connection=connection, group=group, mode=mode)
 
     def request_into(
-        self, buffer: Writable, apdu: Readable, *, connection: Optional[int] = None, group: Optional[int] = None, mode: Optional[int] = None
+        self,
+        buffer: Writable,
+        apdu: Readable,
+        *,
+        connection: Optional[int] = None,
+        group: Optional[int] = None,
+        mode: Optional[int] = None,
     ) -> Reply:
         """The same with the answer at the front of a buffer; its other bytes stay as they are."""
         if mode is None:
