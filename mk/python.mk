@@ -6,6 +6,8 @@ PYTHON_FROM += hosts/python/kelindap/py.typed hosts/python/pyproject.toml
 # where `make install` leaves the package
 PYTHONDIR ?= $(shell python3 hosts/python/making/place.py $(PREFIX))
 
+TELL := import sys; sys.argv[1] in sys.path or print("install: python3 finds the package with PYTHONPATH=" + sys.argv[1])
+
 #: make python     the Python package, build/python/kelindap, and its wheel beside it; `pip install ./hosts/python` makes both too
 python: build/python/wheel.txt
 
@@ -25,6 +27,7 @@ install-python: python
 	rm -rf $(DESTDIR)$(PYTHONDIR)/kelindap $(DESTDIR)$(PYTHONDIR)/kelindap-*.dist-info
 	mkdir -p $(DESTDIR)$(PYTHONDIR)
 	python3 -m zipfile -e build/python/$$(cat build/python/wheel.txt) $(DESTDIR)$(PYTHONDIR)
+	@$(if $(DESTDIR),,python3 -c '$(TELL)' $(PYTHONDIR))
 
 need-python:
 	@command -v python3 > /dev/null || { echo "python3 is missing" >&2; exit 1; }

@@ -36,6 +36,7 @@ if command -v python3 > /dev/null; then
     modules=$(python3 hosts/python/making/place.py "$work/at")
     touch "$modules/kelindap/gone.py"
     install PREFIX="$work/at" || { cat "$work/said"; fail "make install failed the second time"; }
+    grep -qxF "install: python3 finds the package with PYTHONPATH=$modules" "$work/said" || fail "nothing is said of where Python's package is"
     [ ! -e "$modules/kelindap/gone.py" ] || fail "a module of another version stays"
     [ "$(cd / && PYTHONDONTWRITEBYTECODE=1 PYTHONPATH=$modules python3 -c 'import kelindap; print(kelindap.__file__, kelindap.__version__)')" = "$modules/kelindap/__init__.py $version" ] ||
         fail "no Python package"
