@@ -13,7 +13,7 @@ from kelindap import _library, names, pdu
 wrong = []
 facts = open("tests/c/layout.c").read()
 places = {"W": ctypes.sizeof(ctypes.c_void_p), "F": 16 if ctypes.sizeof(ctypes.c_void_p) == 8 else 12}
-structures = {"kelindap_" + name.lower(): value for name, value in vars(_library).items()
+structures = {"kelindap" + re.sub("([A-Z])", r"_\1", name).lower(): value for name, value in vars(_library).items()
               if isinstance(value, type) and issubclass(value, ctypes.Structure) and value is not ctypes.Structure}
 held = 0
 
