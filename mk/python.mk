@@ -1,6 +1,6 @@
 # The Python package, with the two libraries as one shared object in it, and its wheel: for this machine's own processor alone. Comes
 # after tools.mk.
-.PHONY: python install-python test-python need-python
+.PHONY: python install-python uninstall-python test-python need-python
 PYTHON_FROM := $(wildcard hosts/python/kelindap/*.py hosts/python/making/*.py include/*.h)
 PYTHON_FROM += hosts/python/kelindap/py.typed hosts/python/pyproject.toml
 # where `make install` leaves the package
@@ -23,11 +23,13 @@ build/libkelindap.so.0: $(OWN_A) mk/python.mk | need-gcc
 	@gcc -shared -o $@ -Wl,--whole-archive $(OWN_A) -Wl,--no-whole-archive
 
 # as pip does it, so that pip can take it away again
-install-python: python
-	rm -rf $(DESTDIR)$(PYTHONDIR)/kelindap $(DESTDIR)$(PYTHONDIR)/kelindap-*.dist-info
+install-python: python uninstall-python
 	mkdir -p $(DESTDIR)$(PYTHONDIR)
 	python3 -m zipfile -e build/python/$$(cat build/python/wheel.txt) $(DESTDIR)$(PYTHONDIR)
 	@$(if $(DESTDIR),,python3 -c '$(TELL)' $(PYTHONDIR))
+
+uninstall-python:
+	rm -rf $(DESTDIR)$(PYTHONDIR)/kelindap $(DESTDIR)$(PYTHONDIR)/kelindap-*.dist-info
 
 need-python:
 	@command -v python3 > /dev/null || { echo "python3 is missing" >&2; exit 1; }

@@ -41,9 +41,13 @@ if command -v python3 > /dev/null; then
     [ "$(cd / && PYTHONDONTWRITEBYTECODE=1 PYTHONPATH=$modules python3 -c 'import kelindap; print(kelindap.__file__, kelindap.__version__)')" = "$modules/kelindap/__init__.py $version" ] ||
         fail "no Python package"
     PYTHONDONTWRITEBYTECODE=1 PYTHONPATH=$modules python3 tests/python/lost.py > "$work/said" || { cat "$work/said"; fail "the Python package fails"; }
-else
-    grep -q 'without the Python package' "$work/said" || fail "nothing is said of a Python package that is not there"
+    make --no-print-directory -s uninstall-python PREFIX="$work/at"
+    [ -z "$(find "$work/at" -path '*python*' -name 'kelindap*')" ] || fail "the Python package is not taken away"
+    install PREFIX="$work/at" || { cat "$work/said"; fail "make install failed the third time"; }
 fi
+install PREFIX="$work/without" PYTHON3= || { cat "$work/said"; fail "make install failed without python3"; }
+grep -q 'without the Python package' "$work/said" || fail "nothing is said of a Python package that is not there"
+[ -z "$(find "$work/without" -path '*python*')" ] || fail "a Python package is installed without python3"
 
 # another processor than this machine's
 other=$([ "$own" = aarch64 ] && echo armhf || echo aarch64)
