@@ -11,6 +11,8 @@ from ._runs import Lent, Readable, number, reading
 from .names import LINK_NOBODY, Event, Outcome
 from .sheet import Part, parts
 
+_EVENTS = frozenset(Event)
+
 
 class Arrival(NamedTuple):
     """What a frame is to this device: its event, or the outcome that says why there is none; connection; group address of data."""
@@ -46,7 +48,7 @@ def opened(sessions: _library.Sessions) -> Set[int]:
 def heard(link: _library.Link, sheet: bytes, frame: Readable) -> Arrival:
     """What a frame is to the device with this link and sheet. Nothing changes."""
     arrival = call("heard", link, sheet, reading("frame", frame))
-    event: Union[Event, Outcome] = Event(arrival.event) if arrival.event in list(Event) else Outcome(arrival.event)
+    event: Union[Event, Outcome] = Event(arrival.event) if arrival.event in _EVENTS else Outcome(arrival.event)
     return Arrival(event, _connection(arrival.connection), arrival.group)
 
 
