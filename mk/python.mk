@@ -1,5 +1,5 @@
 # The Python package, with the two libraries as one shared object in it, and its wheel: for this machine's own processor alone. Comes
-# after tools.mk.
+# after tools.mk and install.mk.
 .PHONY: python install-python uninstall-python test-python need-python
 PYTHON_FROM := $(wildcard hosts/python/kelindap/*.py hosts/python/making/*.py include/*.h)
 PYTHON_FROM += hosts/python/kelindap/py.typed hosts/python/pyproject.toml
@@ -17,7 +17,8 @@ build/python/wheel.txt: $(PYTHON_FROM) build/libkelindap.so.0 mk/python.mk | nee
 	@mkdir -p build/python/kelindap
 	@cp hosts/python/kelindap/*.py hosts/python/kelindap/py.typed build/libkelindap.so.0 build/python/kelindap
 	@python3 hosts/python/making/headers.py include > build/python/kelindap/names.py
-	@python3 hosts/python/making/backend.py build/python/kelindap build/python > $@
+	@python3 hosts/python/making/backend.py build/python/kelindap build/python > build/python/name
+	@mv build/python/name $@
 
 build/libkelindap.so.0: $(OWN_A) mk/python.mk | need-gcc
 	@gcc -shared -o $@ -Wl,--whole-archive $(OWN_A) -Wl,--no-whole-archive
@@ -28,11 +29,12 @@ install-python: python uninstall-python
 	python3 -m zipfile -e build/python/$$(cat build/python/wheel.txt) $(DESTDIR)$(PYTHONDIR)
 	@$(if $(DESTDIR),,python3 -c '$(TELL)' $(PYTHONDIR))
 
-uninstall-python:
+uninstall-python: need-python
+	test -n "$(PYTHONDIR)"
 	rm -rf $(DESTDIR)$(PYTHONDIR)/kelindap $(DESTDIR)$(PYTHONDIR)/kelindap-*.dist-info
 
 need-python:
 	@command -v python3 > /dev/null || { echo "python3 is missing" >&2; exit 1; }
 
-test-python: python
+test-python: $(if $(PYTHON3),python)
 	tests/python/run.sh
