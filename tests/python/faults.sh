@@ -60,6 +60,7 @@ plant refusals store 's/^    must(saved.outcome.*//'
 plant refusals sheet 's/^        accepted(run)$/        pass/'
 # what is told
 plant whole unit 's/^        """The programming button.*//'
+plant whole _runs 's/^    """What a run has, without a copy."""//'
 plant whole unit 's/def button(self, on: bool)/def button(self, on)/'
 plant whole unit 's/address = f" {area >> 4}/address = f" {self._sheet[20:40].hex()} {area >> 4}/'
 plant whole __init__ 's/^    "read",//'

@@ -44,24 +44,20 @@ class Whole(unittest.TestCase):
         self.assertEqual(set(space) - {"__builtins__"}, set(kelindap.__all__))
 
     def test_docs(self):
-        """Everything that can have a doc has one of its own: modules, classes, and functions that are not hidden."""
+        """Everything that can have a doc has one of its own: every module, class and function."""
         for module in MODULES:
             self.assertTrue((module.__doc__ or "").strip(), module.__name__)
             COUNTED["docs"] += 1
             for name, value in own(module).items():
                 if not inspect.isclass(value) and not inspect.isfunction(value):
                     continue
-                if name.startswith("_") and not inspect.isclass(value):
-                    continue
                 told = vars(value).get("__doc__") if inspect.isclass(value) else value.__doc__
                 # what typing makes for a tuple is no doc
                 self.assertTrue(told and told.strip() and not told.startswith(f"{name}("), f"{module.__name__}.{name}")
                 COUNTED["docs"] += 1
                 for method, function in functions(value) if inspect.isclass(value) else ():
-                    hidden = method.startswith("_") and not re.fullmatch(r"__\w+__", method)
-                    setter = method == "sheet" and len(inspect.signature(function).parameters) == 2
-                    made = not (function.__code__.co_filename or "").startswith(str(Path(kelindap.__file__).parent))
-                    if not hidden and not setter and not made:
+                    # what typing makes for a tuple stands in no file of ours
+                    if function.__code__.co_filename.startswith(str(Path(kelindap.__file__).parent)):
                         self.assertTrue((function.__doc__ or "").strip(), f"{name}.{method}")
                         COUNTED["docs"] += 1
         self.assertGreater(COUNTED["docs"], 100)

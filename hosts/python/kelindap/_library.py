@@ -140,6 +140,7 @@ CALLS: Dict[str, Tuple[Any, List[Any]]] = {
 
 
 def _load() -> Dict[str, Any]:
+    """The calls of the library beside this module, or of that which KELINDAP_LIBRARY names, if it is of this version."""
     path = os.environ.get("KELINDAP_LIBRARY") or os.path.join(os.path.dirname(os.path.abspath(__file__)), "libkelindap.so.0")
     try:
         # Python's lock is kept during a call: no two threads are in the library at once

@@ -32,6 +32,7 @@ class Lent(NamedTuple):
 
 
 def _view(name: str, run: object) -> memoryview:
+    """What a run has, without a copy."""
     try:
         return memoryview(run)  # type: ignore[arg-type]
     except TypeError:
@@ -39,6 +40,7 @@ def _view(name: str, run: object) -> memoryview:
 
 
 def _of_bytes(view: memoryview) -> bool:
+    """Whether it is one run, of bytes."""
     return view.ndim == 1 and view.itemsize == 1 and view.format.lstrip("@=<>!") in ("B", "b", "c")
 
 

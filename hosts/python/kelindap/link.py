@@ -37,6 +37,7 @@ class Served(NamedTuple):
 
 
 def _connection(number: int) -> Optional[int]:
+    """A connection, or None."""
     return None if number == LINK_NOBODY else number
 
 

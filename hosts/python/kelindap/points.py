@@ -27,6 +27,7 @@ def _type(type: int) -> int:
 
 
 def _refused(outcome: int, type: int, detail: str) -> Refused:
+    """The refusal of a value, or of its type."""
     if outcome == Outcome.POINT_NO_TYPE:
         return Refused(outcome, "type", f"{shown('type', type)}: {', '.join(map(str, WIDTHS))}")
     return Refused(outcome, "value", detail)

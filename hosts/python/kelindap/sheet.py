@@ -56,6 +56,7 @@ def converted(sheet: Readable) -> bytes:
 
 
 def _body(sheet: Readable, what: str, *place: int) -> Optional[bytes]:
+    """The bytes of what a lookup finds; None if it finds nothing in a sheet that is accepted."""
     run = reading("sheet", sheet)
     part = call(what, run, *place)
     if part.length == 0:

@@ -47,4 +47,5 @@ def judged(outcome: int, sheet: bytes) -> None:
 
 
 def _wrong(outcome: int, number: int) -> Any:
+    """The field that is wrong, where it is the number."""
     return ("number", f"number={number}") if outcome == Outcome.STORE_NOT_KEPT else ()

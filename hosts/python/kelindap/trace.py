@@ -48,6 +48,7 @@ def play_marked(
 
 
 def _logged(log: bytearray, done: _library.Played) -> List[Logged]:
+    """The lines of the log that playing filled. Raises Refused if nothing was played."""
     if done.refusal != Outcome.OK:
         raise Refused(done.refusal, "marks" if done.refusal == Outcome.TRACE_MARKS else "trace")
     lines = [log[LOG_LINE * i : LOG_LINE * (i + 1)] for i in range(done.handled)]

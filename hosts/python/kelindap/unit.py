@@ -78,10 +78,12 @@ class Unit:
 
     @sheet.setter
     def sheet(self, sheet: Readable) -> None:
+        """Another sheet, copied in. Raises Refused if it is not accepted, unless any was to be taken."""
         run = reading("sheet", sheet)
         self._sheet = bytearray(run if self._any else accepted(run))
 
     def _lent(self) -> Lent:
+        """The sheet itself, for a call that writes it."""
         return writing("sheet", self._sheet)
 
     def check(self) -> Rule:
@@ -102,6 +104,7 @@ class Unit:
 
     @property
     def _sessions(self) -> Any:
+        """The sessions themselves, for a call."""
         return self._link.sessions
 
     @property
@@ -136,6 +139,7 @@ class Unit:
 
     @staticmethod
     def _must(outcome: int, connection: int) -> None:
+        """Raises Refused if there is no such connection."""
         must(outcome, "connection", f"connection={connection}: 0 to {CONNECTIONS - 1}")
 
     # ---- requests ----
