@@ -3,13 +3,15 @@
 PREFIX ?= /usr/local
 LIBDIR ?= $(PREFIX)/lib
 DESTDIR ?=
+PYTHON3 := $(shell command -v python3)
 VERSION := $(shell sed -n 's/.*KELINDAP_VERSION_TEXT "\(.*\)"/\1/p' include/kelindap_common.h)
 MAN := build/man/kelindap-sheet.1 build/man/kelindap-trace.1 build/man/kelindap-unit.1
 
-#: make install    headers, libraries, programs, man pages and a pkg-config file to PREFIX, /usr/local if not given; for another
-#:                 PROCESSOR than this machine's the programs and their pages are left out
-install: install-libraries $(if $(OWN),install-programs)
+#: make install    headers, libraries, programs, man pages, the Python package and a pkg-config file to PREFIX, /usr/local if not
+#:                 given; for another PROCESSOR than this machine's the programs, their pages and the package are left out
+install: install-libraries $(if $(OWN),install-programs $(if $(PYTHON3),install-python))
 	$(if $(OWN),,@echo "install: for $(PROCESSOR) the libraries alone; the programs are built on such a machine")
+	$(if $(OWN),$(if $(PYTHON3),,@echo "install: without the Python package: there is no python3 here"))
 
 install-libraries: $(LIBRARIES)
 	mkdir -p $(DESTDIR)$(PREFIX)/include $(DESTDIR)$(LIBDIR)/pkgconfig
@@ -33,11 +35,12 @@ $(MAN): mk/bin/man include/kelindap_common.h
 	@mkdir -p build/man
 	@mk/bin/man $(filter %.txt,$^) $(VERSION) > $@
 
-#: make deb        Debian's packages in build/deb: libkelindap-dev, and for this machine's own processor kelindap-tools
-deb: $(LIBRARIES) $(if $(OWN),build/sheet build/trace build/unit $(MAN))
-	mk/bin/deb $(PROCESSOR) libkelindap-dev $(if $(OWN),kelindap-tools)
-	$(if $(OWN),,@echo "deb: for $(PROCESSOR) libkelindap-dev alone; kelindap-tools is built on such a machine")
+#: make deb        Debian's packages in build/deb: libkelindap-dev, and for this machine's own processor kelindap-tools and
+#:                 python3-kelindap
+deb: $(LIBRARIES) $(if $(OWN),build/sheet build/trace build/unit $(MAN) $(if $(PYTHON3),python))
+	mk/bin/deb $(PROCESSOR) libkelindap-dev $(if $(OWN),kelindap-tools $(if $(PYTHON3),python3-kelindap))
+	$(if $(OWN),,@echo "deb: for $(PROCESSOR) libkelindap-dev alone; kelindap-tools and python3-kelindap are built on such a machine")
 
-# both, in an empty root; and those of the other processors, for what they hold
+# all, in an empty root; and those of the other processors, for what they hold
 test-deb:
 	tests/deb.sh

@@ -1,7 +1,7 @@
 #!/usr/bin/env bash
 # tests/deb.sh: Debian's packages. Those for this machine are installed by dpkg in an empty root of their own: a host is built from what
-# stands there alone, the programs run from there, each man page shows the words of --help, and after a purge nothing is left. Of
-# the packages for other processors the fields and the libraries are looked at. What is missing here is said.
+# stands there alone, the programs and the Python package run from there, each man page shows the words of --help, and after a purge
+# nothing is left. Of the packages for other processors the fields and the libraries are looked at. What is missing here is said.
 set -euo pipefail
 cd "$(dirname "$0")/.."
 command -v dpkg-deb > /dev/null && command -v dpkg > /dev/null || { echo "deb: left out: there is no dpkg here"; exit 0; }
@@ -32,7 +32,7 @@ while read -r processor debian triple _; do
     [ "$(find "$work/of" -type f | wc -l)" = $(($(find include -name '*.h' | wc -l) + 4)) ] || fail "$package has other files"
 done < <(grep '^[a-z]' mk/processors)
 
-# this machine's two, in an empty root
+# this machine's own, in an empty root
 read -r _ debian triple _ < <(grep "^$own " mk/processors)
 as_root=()
 [ "$(id -u)" = 0 ] || as_root=(fakeroot)
@@ -50,7 +50,17 @@ mkdir -p "$root/var/lib/dpkg"/{info,updates,triggers}
 dpkg-deb -f "build/deb/kelindap-tools_${version}_$debian.deb" Depends | grep -q '^libc6 (>= [0-9.]*), libgcc-s1$' || fail "kelindap-tools asks for other packages"
 needed=$(objdump -p build/sheet build/trace build/unit | awk '$1 == "NEEDED" && $2 !~ /^ld-linux/ { print $2 }' | sort -u | paste -sd ' ')
 [ "$needed" = "libc.so.6 libgcc_s.so.1" ] || fail "the programs need $needed"
-in_root --force-depends -i "build/deb/libkelindap-dev_${version}_$debian.deb" "build/deb/kelindap-tools_${version}_$debian.deb"
+packages=(libkelindap-dev kelindap-tools)
+if command -v python3 > /dev/null; then
+    packages+=(python3-kelindap)
+    [[ $(dpkg-deb -f "build/deb/python3-kelindap_${version}_$debian.deb" Depends) =~ ^python3\ \(\>=\ 3\.[0-9]+\),\ libc6\ \(\>=\ [0-9.]+\)$ ]] || fail "python3-kelindap asks for other packages"
+    needed=$(objdump -p build/libkelindap.so.0 | awk '$1 == "NEEDED" { print $2 }')
+    [ "$needed" = libc.so.6 ] || fail "the library of the Python package needs $needed"
+else
+    left_out+=("python3-kelindap (no python3)")
+fi
+archives=("${packages[@]/%/_${version}_$debian.deb}")
+in_root --force-depends -i "${archives[@]/#/build/deb/}"
 files=$(find "$root/usr" -type f | wc -l)
 
 by="its own words"
@@ -85,7 +95,18 @@ for program in kelindap-sheet:tools/sheet kelindap-trace:tools/trace kelindap-un
     fi
 done
 
-in_root -P kelindap-tools libkelindap-dev
+# the Python package, with the library that stands there
+if [ "${packages[*]: -1}" = python3-kelindap ]; then
+    modules=$root/usr/lib/python3/dist-packages
+    [ "$(cd / && PYTHONDONTWRITEBYTECODE=1 PYTHONPATH=$modules python3 -c 'import kelindap; print(kelindap.__file__)')" = "$modules/kelindap/__init__.py" ] ||
+        fail "another Python package is found"
+    for test in lost refusals whole; do
+        PYTHONDONTWRITEBYTECODE=1 PYTHONPATH=$modules python3 "tests/python/$test.py" > "$work/said" || { cat "$work/said"; fail "the Python package fails"; }
+    done
+    diff -r -x libkelindap.so.0 -x __pycache__ build/python/kelindap "$modules/kelindap" || fail "python3-kelindap has another package"
+fi
+
+in_root -P "${packages[@]}"
 [ -z "$(find "$root" -path "$root/var" -prune -o -type f -print)" ] || fail "a purge leaves files"
-echo "deb: libkelindap-dev for $(grep -c '^[a-z]' mk/processors) processors; on $own $files files of two packages in an empty root, a host is built by $by, the programs run, nothing is left"
+echo "deb: libkelindap-dev for $(grep -c '^[a-z]' mk/processors) processors; on $own $files files of ${packages[*]} in an empty root, a host is built by $by, the programs run, nothing is left"
 [ ${#left_out[@]} = 0 ] || echo "deb: left out: ${left_out[*]}"

@@ -1,7 +1,7 @@
 #!/usr/bin/env bash
 # tests/install.sh: `make install` to a folder of its own, and a host that finds headers and libraries there alone, through
-# pkg-config where that is installed, which names the processor; that of another processor, with no program; and that what
-# can't be built is refused.
+# pkg-config where that is installed, which names the processor; the Python package, found there alone; that of another processor,
+# with no program; and that what can't be built is refused.
 set -euo pipefail
 cd "$(dirname "$0")/.."
 work=$(mktemp -d)
@@ -31,11 +31,29 @@ grep -q 'end is missing' "$work/said" || fail "no sheet program"
 [ "$(echo 'connect 0' | "$work/at/bin/kelindap-unit" | cut -c 1-11)" = "1 1 3 0 3 0" ] || fail "no desk unit"
 for name in sheet trace unit; do [ -s "$work/at/share/man/man1/kelindap-$name.1" ] || fail "no man page of kelindap-$name"; done
 
+# the Python package, twice, since what was there before is taken away first
+if command -v python3 > /dev/null; then
+    modules=$(python3 hosts/python/making/place.py "$work/at")
+    touch "$modules/kelindap/gone.py"
+    install PREFIX="$work/at" || { cat "$work/said"; fail "make install failed the second time"; }
+    grep -qxF "install: python3 finds the package with PYTHONPATH=$modules" "$work/said" || fail "nothing is said of where Python's package is"
+    [ ! -e "$modules/kelindap/gone.py" ] || fail "a module of another version stays"
+    [ "$(cd / && PYTHONDONTWRITEBYTECODE=1 PYTHONPATH=$modules python3 -c 'import kelindap; print(kelindap.__file__, kelindap.__version__)')" = "$modules/kelindap/__init__.py $version" ] ||
+        fail "no Python package"
+    PYTHONDONTWRITEBYTECODE=1 PYTHONPATH=$modules python3 tests/python/lost.py > "$work/said" || { cat "$work/said"; fail "the Python package fails"; }
+    make --no-print-directory -s uninstall-python PREFIX="$work/at"
+    [ -z "$(find "$work/at" -path '*python*' -name 'kelindap*')" ] || fail "the Python package is not taken away"
+    install PREFIX="$work/at" || { cat "$work/said"; fail "make install failed the third time"; }
+fi
+install PREFIX="$work/without" PYTHON3= || { cat "$work/said"; fail "make install failed without python3"; }
+grep -q 'without the Python package' "$work/said" || fail "nothing is said of a Python package that is not there"
+[ -z "$(find "$work/without" -path '*python*')" ] || fail "a Python package is installed without python3"
+
 # another processor than this machine's
 other=$([ "$own" = aarch64 ] && echo armhf || echo aarch64)
 install PREFIX="$work/other" PROCESSOR="$other" || { cat "$work/said"; fail "make install for $other failed"; }
 grep -q "for $other the libraries alone" "$work/said" || fail "nothing is said of programs for $other"
-[ ! -e "$work/other/bin" ] || fail "programs of this machine stand beside libraries for $other"
+[ ! -e "$work/other/bin" ] && [ -z "$(find "$work/other" -name 'kelindap*' -path '*python*')" ] || fail "programs of this machine stand beside libraries for $other"
 grep -qx "processor=$other" "$work/other/lib/pkgconfig/kelindap.pc" || fail "pkg-config's file does not name $other"
 ! cmp -s "$work/at/lib/libkelindap_device.a" "$work/other/lib/libkelindap_device.a" || fail "$other has the library of $own"
 

@@ -1,15 +1,16 @@
-"""play.py SCRIPT..: the desk unit's scripts, played through the Python module. SCRIPT.in has the commands, SCRIPT.out the answers.
+"""play.py SCRIPT..: the desk unit's scripts, played through the Python package. SCRIPT.in has the commands, SCRIPT.out the answers.
 
-What the module answers is put into the unit's words and held to the expected line. A line that the unit answers by ERR is about
+What the package answers is put into the unit's words and held to the expected line. A line that the unit answers by ERR is about
 its own language and is left out, and so is a command that is not among those below; both are counted.
 """
 
+import struct
 import sys
+from fractions import Fraction
 
 import kelindap
-from kelindap import Refused
-
-SAMPLE = None  # the sample sheet, with which every script starts
+from kelindap import Event, Outcome, Refused, Rule
+from support import SAMPLE
 
 
 def from_hex(word):
@@ -20,9 +21,18 @@ def to_hex(run):
     return run.hex() or "-"
 
 
+def outcome_of(call, *arguments):
+    """The outcome of what is done or raises."""
+    try:
+        call(*arguments)
+    except Refused as refused:
+        return refused.outcome
+    return Outcome.DONE
+
+
 class Player:
     def __init__(self):
-        self.unit = kelindap.Unit(SAMPLE)
+        self.unit = kelindap.Unit(SAMPLE, any_sheet=True)
         self.versions, self.events, self.played = bytearray(), b"", 0
 
     def sessions(self):
@@ -32,31 +42,31 @@ class Player:
         return f"{outcome} {self.sessions()} {count} {to_hex(buffer)} {to_hex(self.unit.sheet)}"
 
     def sheet(self, word):
-        self.unit.sheet = bytearray(from_hex(word))
-        rule = kelindap.check(self.unit.sheet)
-        return "OLD" if rule == kelindap.OLD else f"S{rule}" if rule else "OK"
+        self.unit.sheet = from_hex(word)
+        rule = self.unit.check()
+        return "OLD" if rule is Rule.OLD else f"S{rule}" if rule else "OK"
 
     def convert(self):
-        return f"{kelindap.convert(self.unit.sheet)} {to_hex(self.unit.sheet)}"
+        return f"{outcome_of(self.unit.convert)} {to_hex(self.unit.sheet)}"
 
     def session(self, connection, open, level):
         self.unit.set_session(int(connection), open == "1", int(level))
         return f"session {int(connection)} {open} {int(level)}"
 
     def connect(self, connection):
-        return self.event(self.unit.connect(int(connection)))
+        return self.event(outcome_of(self.unit.connect, int(connection)))
 
     def disconnect(self, connection):
-        return self.event(self.unit.disconnect(int(connection)))
+        return self.event(outcome_of(self.unit.disconnect, int(connection)))
 
     def button(self, word):
-        return self.event(self.unit.button(word == "on"))
+        return self.event(outcome_of(self.unit.button, word == "on"))
 
     def request(self, mode, group, apdu, buffer, connection):
         buffer = bytearray(from_hex(buffer))
-        before = bytes(self.unit.sheet)
-        reply = self.unit.request(from_hex(apdu), buffer, int(mode), int(connection), int(group))
-        return self.told(before, reply) or self.event(reply.outcome, reply.count, buffer)
+        before = self.unit.sheet
+        reply = self.unit.request_into(buffer, from_hex(apdu), mode=int(mode), connection=int(connection), group=int(group))
+        return self.told(before, reply) or self.event(reply.outcome, len(reply.answer), buffer)
 
     def told(self, before, reply):
         """A line if a byte changed outside the parts that the reply names, or a refusal names one."""
@@ -69,7 +79,11 @@ class Player:
     def lookup(self, what, *words):
         find = {"property": kelindap.find_property, "region": kelindap.find_region, "group": kelindap.find_group}
         find["user"] = kelindap.find_user_region
-        return to_hex(find[what](self.unit.sheet, *map(int, words)))
+        try:
+            return to_hex(find[what](self.unit.sheet, *map(int, words)) or b"")
+        except Refused as refused:
+            # the unit finds nothing in a sheet that is not accepted
+            return "-" if refused.rule else str(refused.outcome)
 
     # ---- PDUs: serial and key are hex of their own length; one of another length fits no place ----
 
@@ -89,19 +103,33 @@ class Player:
 
     def read(self, apdu):
         pdu = kelindap.read(from_hex(apdu))
-        return " ".join(["0", pdu.kind] + [f"{name}={self.shown(name, value)}" for name, value in pdu.fields.items()])
+        return " ".join(["0", pdu.kind.words] + [f"{name}={self.shown(name, value)}" for name, value in pdu.fields.items()])
 
     def write(self, kind, *words):
         buffer = bytearray(from_hex(words[-1]))
-        outcome, count = kelindap.write_into(buffer, kind, dict(map(self.field, words[:-1])))
-        return f"{outcome} {count} {to_hex(buffer)}"
+        try:
+            count = kelindap.write_into(buffer, kind, dict(map(self.field, words[:-1])))
+        except Refused as refused:
+            return f"{refused.outcome} 0 {to_hex(buffer)}"
+        return f"0 {count} {to_hex(buffer)}"
+
+    # values as Python has them: True, a number, a float by hundredths, a float by its bits
 
     def point(self, what, type, word):
-        type = int(type) if int(type) < 256 else 0
+        type = int(type)
         if what == "read":
             value = kelindap.point_read(type, from_hex(word))
-            return f"0 {value:08x}" if type == 14 else f"0 {value}"
-        value = int(word, 16) if type == 14 else int(word) if type in (1, 5, 9) else 0
+            assert isinstance(value, {1: bool, 5: int, 9: float, 14: float}[type])
+            if type == 14:
+                return f"0 {struct.unpack('=I', struct.pack('=f', value))[0]:08x}"
+            return f"0 {round(value * 100)}" if type == 9 else f"0 {value:d}"
+        if type == 14:
+            value = struct.unpack("=f", struct.pack("=I", int(word, 16)))[0]
+        elif type == 9:
+            hundredths = int(word)
+            value = hundredths / 100 if abs(hundredths) < 1 << 40 else Fraction(hundredths, 100)
+        else:
+            value = int(word) if type in (1, 5) else 0
         return f"0 {to_hex(kelindap.point_write(type, value))}"
 
     # ---- versions and traces ----
@@ -111,14 +139,17 @@ class Player:
         return str(kelindap.store_check(self.versions) or "OK")
 
     def save(self):
-        outcome, number = self.unit.save(self.versions)
+        try:
+            outcome, number = 0, self.unit.save(self.versions)
+        except Refused as refused:
+            outcome, number = refused.outcome, 0
         return f"{outcome} {number} {to_hex(self.versions)}"
 
     def restore(self, connection, number):
-        return f"{self.unit.restore(self.versions, int(number), int(connection))} {to_hex(self.unit.sheet)}"
+        return f"{outcome_of(self.unit.restore, self.versions, int(number), int(connection))} {to_hex(self.unit.sheet)}"
 
     def remove(self, number):
-        return f"{kelindap.remove(self.versions, int(number))} {to_hex(self.versions)}"
+        return f"{outcome_of(kelindap.remove, self.versions, int(number))} {to_hex(self.versions)}"
 
     def trace(self, word):
         self.events, self.played = from_hex(word), 0
@@ -132,7 +163,7 @@ class Player:
 
     # ---- frames: two fields have shorter names here, and the lower events have words ----
 
-    EVENTS = "multicast broadcast connectionless connected connect disconnect".split()
+    EVENTS = [event.words for event in Event if event <= Event.DISCONNECT]
 
     def frame(self, what, *words):
         if what == "read":
@@ -144,8 +175,11 @@ class Player:
         fields = dict(map(self.field, words[:-1]))
         fields["control1"], fields["control2"] = fields.pop("c1"), fields.pop("c2")
         buffer = bytearray(from_hex(words[-1]))
-        outcome, count = kelindap.frame_write_into(buffer, fields.pop("info"), fields.pop("apdu"), **fields)
-        return f"{outcome} {count} {to_hex(buffer)}"
+        try:
+            count = kelindap.frame_write_into(buffer, fields.pop("apdu"), **fields)
+        except Refused as refused:
+            return f"{refused.outcome} 0 {to_hex(buffer)}"
+        return f"0 {count} {to_hex(buffer)}"
 
     # ---- links ----
 
@@ -156,16 +190,16 @@ class Player:
         event, connection, group = self.unit.heard(from_hex(frame))
         if event >= len(self.EVENTS):
             return str(event)
-        more = f" {group}" if event == 0 else "" if connection == kelindap.NOBODY else f" {connection}"
+        more = f" {group}" if event == 0 else "" if connection is None else f" {connection}"
         return f"0 {self.EVENTS[event]}{more}"
 
     def serve(self, sequence, frame, buffer):
         buffer = bytearray(from_hex(buffer))
-        before = bytes(self.unit.sheet)
-        served = self.unit.serve(from_hex(frame), buffer, int(sequence))
+        before = self.unit.sheet
+        served = self.unit.serve_into(buffer, from_hex(frame), int(sequence))
         outcome = "-" if served.number else served.outcome
-        connection = "-" if served.connection == kelindap.NOBODY else served.connection
-        line = f"{served.number} {outcome} {connection} {served.count} {to_hex(buffer)} {self.link()}"
+        connection = "-" if served.connection is None else served.connection
+        line = f"{served.number} {outcome} {connection} {len(served.frame)} {to_hex(buffer)} {self.link()}"
         return self.told(before, served) or f"{line} {self.sessions()} {to_hex(self.unit.sheet)}"
 
     COMMANDS = "sheet convert session connect disconnect button request lookup read write point frame".split()
@@ -196,15 +230,13 @@ def play(script, tally):
 
 
 def main():
-    global SAMPLE
     if hasattr(sys, "set_int_max_str_digits"):
         sys.set_int_max_str_digits(0)  # the scripts have numbers of any length
-    SAMPLE = from_hex(sys.argv[1])
     tally = {"same": 0, "different": 0, "ERR": 0, "unknown": 0}
-    for script in sys.argv[2:]:
+    for script in sys.argv[1:]:
         play(script, tally)
     print(f"python: {tally['same'] + tally['different']} lines of scripts, {tally['different']} different; left out: "
-          f"{tally['ERR']} about the unit's own language, {tally['unknown']} of commands that the module has not")
+          f"{tally['ERR']} about the unit's own language, {tally['unknown']} of commands that the package has not")
     sys.exit(tally["different"] > 0 or tally["same"] == 0)
 
 
