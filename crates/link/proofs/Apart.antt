@@ -3,10 +3,10 @@
 use Prim.Native.Nat.{ℕ, zero, suc}
 use mathlib.Core.Path.{_≡_, refl, sym, ap, _∙_}
 use mathlib.Core.Logic.{_↔_, inl, inr}
-use mathlib.Core.Bool.{Bool, true, false, cond}
+use mathlib.Core.Bool.{Bool, true, false, cond, not, _&&_}
 use mathlib.Core.List.{List, [], _∷_}
 use lib.ListN.{replicate}
-use lib.Dec.{eqb}
+use lib.Dec.{leb, eqb}
 use native.Mathlib.Omega.{arith}
 use borrow.Author.Tests.{ltb-true, eqb-true, eq-eqb, ne-eqb}
 use Rattle.octets.proofs.Truths.{never, first-true, second-true}
@@ -21,7 +21,7 @@ use Rattle.cemi.specs.declared.Got.the-variants as got
 use Rattle.cemi.specs.declared.Meaning.{Meaning}
 use Rattle.cemi.specs.declared.Meaning.the-variants as meaning
 use Rattle.link.specs.Partners.{nobody, sits, placeOf, freeOf, placeFor}
-use Rattle.link.specs.Hearing.{ownOf, forUs, onPlace, connects, disconnects, meant, fromOther, judged, heardGot, heardOf}
+use Rattle.link.specs.Hearing.{ownOf, forUs, toItself, onPlace, connects, disconnects, meant, fromOther, judged, heardGot, heardOf}
 use Rattle.link.specs.Serving.{most, apduOf}
 use Rattle.link.specs.Net.{Net, sourceOf, stateOf, heardIn, eventsOf, addressBy, Item, frame, press, timeOut, giveBack, netBy, netAfter}
 use Rattle.link.specs.Whose.{NoPlace, Apart}
@@ -98,9 +98,13 @@ pub turned-away :
     readFrame b ≡ got.Is f → forUs (f .fields .control2) (f .fields .destination) own ≡ true → (f .fields .source ≡ own → ⊥) →
     meaningOf f ≡ meaning.Connect →
     (heardOf k own b ≡ Nothing 62 nobody) ↔ NoPlace k (f .fields .source)
-unfolding heardOf heardGot judged fromOther meant connects numberOf
-turned-away k own b f reads us other m = let t = ne-eqb (f .fields .source) own other in rw (reads, us, t, m) (there, back)
+unfolding heardOf heardGot judged fromOther toItself meant connects numberOf
+turned-away k own b f reads us other m = rw (reads, us, away (leb 128 (f .fields .control2)), m) (there, back)
   where
+    away : (g : Bool) → (not g && eqb (f .fields .source) own) ≡ false
+    away true = refl
+    away false = ne-eqb (f .fields .source) own other
+
     by : (t : Bool) → known (placeFor k (f .fields .source)) ≡ t → cond t (Connect (placeFor k (f .fields .source))) (Nothing 62 nobody) ≡ Nothing 62 nobody → NoPlace k (f .fields .source)
     by true e h = absurd (let z : 0 ≡ 62 = ap numberOf h in omega arith)
     by false e h = third k (f .fields .source) .0 e

@@ -7,7 +7,7 @@ use cemi::Frame;
 use cemi::Got;
 use cemi::Meaning;
 ghost use mathlib.Core.Path.{_≡_};
-ghost use Rattle.link.specs.Hearing.{ownOf, forUs, onPlace, connects, disconnects, meant, fromOther, judged, heardOf};
+ghost use Rattle.link.specs.Hearing.{ownOf, forUs, toItself, onPlace, connects, disconnects, meant, fromOther, judged, heardOf};
 
 // The address of this device, as the sheet has it; 0 where the sheet ends before it.
 pub fn own_of(sheet: &[u8]) -> u16
@@ -27,6 +27,16 @@ fn is_for_us(control2: u8, destination: u16, own: u16) -> bool
         return true;
     }
     destination == own
+}
+
+// Whether a frame for the device with this address, from this source, is from itself to itself alone.
+fn is_to_itself(control2: u8, source: u16, own: u16) -> bool
+    ensures { λ r. ⌜ r ≡ toItself control2 source own ⌝ }
+{
+    if 128 <= control2 {
+        return false;
+    }
+    source == own
 }
 
 // Data: connected data is its partner's alone.
@@ -95,12 +105,12 @@ fn means(link: Link, f: Fields, m: Meaning) -> Arrived
     }
 }
 
-// A frame for this device: nobody else has its address.
+// A frame for this device: what is to it alone under its own address is no event.
 fn from_other(link: Link, own: u16, f: Frame) -> Arrived
     ensures { λ r. ⌜ r ≡ fromOther link own f ⌝ }
 {
     let fields = f.fields;
-    if fields.source == own {
+    if is_to_itself(fields.control2, fields.source, own) {
         return Arrived::Nothing {
             number: 65,
             connection: places::NOBODY,
