@@ -260,7 +260,7 @@ static void test_itself(void)
         is(&s, all[i], to(OWN, OWN, all[i]), 65, 0, NOBODY, 0);
     partners(&s, true, OWN, false, 0, "with its own address for a partner");
     s = start();
-    is(&s, "the group's value, read", group(OWN, 0x0801, "0000"), 0, 0, NOBODY, 14);
+    is(&s, "the group's value, read", group(OWN, 0x0801, "0000"), 0, 0, NOBODY, 12);
     is(&s, "a group with the number of its address", group(OWN, OWN, "0000"), 0, 2, NOBODY, 0);
     is(&s, "a control to a group", group(OWN, 0x0801, "80"), 44, 0, NOBODY, 0);
     expect(kelindap_button(s.sheet, s.length, true) == 1, "the button");
