@@ -63,12 +63,12 @@ fn data(mode: u8, place: u8, group: u16) -> Arrived
     }
 }
 
-// A connect, for the place that there is.
-fn connect(place: u8) -> Arrived
-    ensures { λ r. ⌜ r ≡ connects place ⌝ }
+// A connect, for the place that it is given.
+fn connect(given: u8) -> Arrived
+    ensures { λ r. ⌜ r ≡ connects given ⌝ }
 {
-    if place < places::KNOWN {
-        return Arrived::Connect(place);
+    if given < places::KNOWN {
+        return Arrived::Connect(given);
     }
     Arrived::Nothing {
         number: 62,
@@ -76,12 +76,12 @@ fn connect(place: u8) -> Arrived
     }
 }
 
-// A disconnect, by whoever has a place.
-fn disconnect(place: u8) -> Arrived
-    ensures { λ r. ⌜ r ≡ disconnects place ⌝ }
+// A disconnect, by whoever holds a place.
+fn disconnect(held: u8) -> Arrived
+    ensures { λ r. ⌜ r ≡ disconnects held ⌝ }
 {
-    if place < places::KNOWN {
-        return Arrived::Disconnect(place);
+    if held < places::KNOWN {
+        return Arrived::Disconnect(held);
     }
     Arrived::Nothing {
         number: 63,
