@@ -2,14 +2,14 @@
 -- Assumes nothing.
 use Prim.Native.Nat.{ℕ, zero, suc}
 use mathlib.Core.Path.{_≡_, refl, sym, ap, _∙_}
-use mathlib.Core.Logic.{_↔_, inl, inr}
-use mathlib.Core.Bool.{Bool, true, false, cond, not, _&&_}
+use mathlib.Core.Logic.{_↔_, inl, inr, ⊎-elim}
+use mathlib.Core.Bool.{Bool, true, false, cond}
 use mathlib.Core.List.{List, [], _∷_}
 use lib.ListN.{replicate}
 use lib.Dec.{leb, eqb}
 use native.Mathlib.Omega.{arith}
 use borrow.Author.Tests.{ltb-true, eqb-true, eq-eqb, ne-eqb}
-use Rattle.octets.proofs.Truths.{never, first-true, second-true}
+use Rattle.octets.proofs.Truths.{never, first-true, second-true, decided}
 use Rattle.octets.proofs.Tests.{both}
 use Rattle.octets.proofs.Walks.{by-test}
 use Rattle.device.specs.Sessions.{known}
@@ -92,19 +92,21 @@ numberOf (Connect c) = 0
 numberOf (Disconnect c) = 0
 numberOf (Nothing n c) = n
 
+-- what comes from another is not the device's own, wherever it goes
+from-other : (control2 source own : ℕ) → (source ≡ own → ⊥) → toItself control2 source own ≡ false
+unfolding toItself
+from-other control2 source own n =
+    ⊎-elim (λ t. simp (t, ne-eqb source own n)) (λ t. simp (t, ne-eqb source own n)) (decided (leb 128 control2))
+
 -- 62 EXACTLY THEN: of a frame that reads, is for this device, from another and a connect
 pub turned-away :
     (k : Link) (own : ℕ) (b : List ℕ) (f : Frame) →
     readFrame b ≡ got.Is f → forUs (f .fields .control2) (f .fields .destination) own ≡ true → (f .fields .source ≡ own → ⊥) →
     meaningOf f ≡ meaning.Connect →
     (heardOf k own b ≡ Nothing 62 nobody) ↔ NoPlace k (f .fields .source)
-unfolding heardOf heardGot judged fromOther toItself meant connects numberOf
-turned-away k own b f reads us other m = rw (reads, us, away (leb 128 (f .fields .control2)), m) (there, back)
+unfolding heardOf heardGot judged fromOther meant connects numberOf
+turned-away k own b f reads us other m = rw (reads, us, from-other (f .fields .control2) (f .fields .source) own other, m) (there, back)
   where
-    away : (g : Bool) → (not g && eqb (f .fields .source) own) ≡ false
-    away true = refl
-    away false = ne-eqb (f .fields .source) own other
-
     by : (t : Bool) → known (placeFor k (f .fields .source)) ≡ t → cond t (Connect (placeFor k (f .fields .source))) (Nothing 62 nobody) ≡ Nothing 62 nobody → NoPlace k (f .fields .source)
     by true e h = absurd (let z : 0 ≡ 62 = ap numberOf h in omega arith)
     by false e h = third k (f .fields .source) .0 e

@@ -158,7 +158,8 @@ module _ (k : Link) (own : ℕ) (b : List ℕ) where
 
   judged-tested : (g d s : Bool) → G ≡ g → eqb (to b) own ≡ d → eqb (from b) own ≡ s → judged k own f ≡ tested g d s
   unfolding judged fromOther forUs toItself
-  judged-tested g d s t u v = rw (t, u, v)
+  judged-tested true d s t u v = simp (t, u, v)
+  judged-tested false d s t u v = simp (t, u, v)
 
   tested-due : Reads b → (g d s : Bool) → G ≡ g → eqb (to b) own ≡ d → eqb (from b) own ≡ s → HeardDue k own b (tested g d s)
   tested-due r true d s t u v = meant-due (shared r (leb-true 128 (fieldsIn b .control2) t)) (meaningOf f) (means f)
