@@ -96,7 +96,8 @@ numberOf (Nothing n c) = n
 from-other : (control2 source own : ℕ) → (source ≡ own → ⊥) → toItself control2 source own ≡ false
 unfolding toItself
 from-other control2 source own n =
-    ⊎-elim (λ t. simp (t, ne-eqb source own n)) (λ t. simp (t, ne-eqb source own n)) (decided (leb 128 control2))
+    ⊎-elim (λ (t : leb 128 control2 ≡ true). simp (t, ne-eqb source own n)) (λ (t : leb 128 control2 ≡ false). simp (t, ne-eqb source own n))
+    (decided (leb 128 control2))
 
 -- 62 EXACTLY THEN: of a frame that reads, is for this device, from another and a connect
 pub turned-away :
