@@ -34,7 +34,7 @@ use Rattle.link.specs.declared.Link.{Link}
 use Rattle.link.specs.declared.Arrived.{Arrived}
 use Rattle.link.specs.declared.Arrived.the-variants.{Request, Connect, Disconnect, Nothing}
 use Rattle.link.proofs.Kept.{keyless-heard}
-use Rattle.link.proofs.Grants.{One, one-item}
+use Rattle.link.proofs.Items.{One, one-item}
 
 -- the own address is no secret
 own-same : {q : ℕ} {s s′ : List ℕ} → Hide q s s′ → ownOf s′ ≡ ownOf s
