@@ -28,9 +28,13 @@
  * What no proof gives: addresses on the bus are not authenticated. Whoever sends under a partner's address acts at the level of
  * that partner, ends its connection, or sets it back to level 3 by a second connect. A stranger can take both places, again and
  * again, and whoever has none is then turned away. If the sheet names rules 1, anybody who reaches this device restarts it,
- * and that ends both connections. Through all of this one thing holds, since it counts every sender: from an accepted sheet and
- * closed sessions, as long as no frame offers the key of a level up to l, which is 0, 1 or 2, no byte changes whose write level
- * is at most l (keyless-frames in docs/PROMISES.md).
+ * and that ends both connections.
+ *
+ * What holds, if the host keeps these duties and begins with an accepted sheet and closed sessions: a frame changes no byte whose
+ * write level is at most l, which is 0, 1 or 2, unless its sender, by the address in it, has offered in a frame of its own what
+ * was then a key of a level up to l, whatever others have offered (without-key in docs/PROMISES.md). And against forged addresses,
+ * since it counts every sender: as long as no frame that is heard as a request offers the key of a level up to l, no such byte
+ * changes at all (keyless-heard).
  *
  * Stack: serving takes more than the request in it, since the answer's buffer and the parts that were stored come on top; the
  * table "Stack" of docs/SPEED.md has both for each processor.
