@@ -1,4 +1,4 @@
--- Worked examples: frames to the device 1105h whose connection 0 is open to 11FFh and whose connection 1 was 1203h's, and what they are to it.
+-- Worked examples: frames to the device 1105h whose connection 0 is open to 11FFh and whose connection 1 was 1203h's, or is, or both are closed; and what they are to it.
 -- Assumes nothing.
 use Prim.Native.Nat.{ℕ}
 use mathlib.Core.Path.{_≡_, refl}
@@ -20,11 +20,10 @@ at = record { opened = true; level = 2 }
 abbrev shut : Session
 shut = record { opened = false; level = 3 }
 
--- one partner; and two
+-- one partner; none; and two
 abbrev one : Link
 one = record { sessions = record { first = at; second = shut }; first = 0x11FF; second = 0x1203 }
 
--- nobody
 abbrev none : Link
 none = record { sessions = record { first = shut; second = shut }; first = 0x11FF; second = 0x1203 }
 
@@ -115,7 +114,8 @@ pub control-examples :
 unfolding heardOf heardGot judged forUs fromOther toItself meant onPlace connects disconnects placeOf placeFor freeOf readFrame refusalOf standardOf meaningOf toGroup toOne control numbered numAt
 control-examples = (refl, refl, refl, refl, refl, refl, refl, refl, refl, refl)
 
--- from the device itself to itself alone: a connect, with a place free; data, a disconnect and an acknowledgement, even where the link says that a place is its own; data without a connection. To its neighbour it is the neighbour's
+-- from the device itself to itself alone: a connect, with a place free; data, a disconnect and an acknowledgement, even where the link says that a place is its own;
+-- data without a connection. To its neighbour it is the neighbour's
 abbrev mine : Link
 mine = record { sessions = record { first = at; second = shut }; first = 0x1105; second = 0x1203 }
 

@@ -111,9 +111,9 @@ module _ (q : ℕ) (few : q ≤ 3) where
     deed-same : (f : Fields) (sequence : ℕ) (a : List ℕ) (r : Arrived) → NothingServed q (deedOf k f sequence a s r) (deedOf k f sequence a s′ r)
     unfolding deedOf eventOf
     deed-same f sequence a (Request mode c group) =
-        let z : NothingTold q (eventOf record { sessions = k .sessions; sheet = s } (request mode c group a (replicate most 0))) (eventOf record { sessions = k .sessions; sheet = s′ } (request mode c group a (replicate most 0))) =
-        told q few record { sessions = k .sessions; sheet = s } record { sessions = k .sessions; sheet = s′ } refl b weak
-        (request mode c group a (replicate most 0)) (request mode c group a (replicate most 0)) (same _) in
+        let e : Event = request mode c group a (replicate most 0) in
+        let z : NothingTold q (eventOf record { sessions = k .sessions; sheet = s } e) (eventOf record { sessions = k .sessions; sheet = s′ } e) =
+        told q few record { sessions = k .sessions; sheet = s } record { sessions = k .sessions; sheet = s′ } refl b weak e e (same _) in
         record {
           number = refl;
           outcome = z .outcome;
