@@ -10,19 +10,16 @@ use lib.Dec.{ltb, leb}
 use native.Mathlib.Omega.{arith}
 use Rattle.octets.specs.Bytes.{numAt}
 use Rattle.sheet.proofs.rules.Good.{good}
-use Rattle.pdu.specs.Read.{readPdu}
-use Rattle.judge.specs.Judge.{dataIn}
-use Rattle.device.specs.Sessions.{sessionOf, sessionFor}
-use Rattle.device.specs.Changed.{changesOf, changedOf}
+use Rattle.device.specs.Sessions.{sessionOf}
 use Rattle.device.specs.declared.Sessions.{Sessions}
-use Rattle.device.proofs.promises.NoBody.{no-body}
 use Rattle.events.specs.Events.{Event, request, eventOf, after, runBy, run}
 use Rattle.history.specs.Isolation.{same}
 use Rattle.history.specs.Secret.{Hide, NothingTold}
 use Rattle.history.specs.Keeps.{Begins}
 use Rattle.history.specs.Keyless.{Closed}
-use Rattle.history.proofs.promises.NothingShown.{secret-after, hidden-bodies}
+use Rattle.history.proofs.promises.NothingShown.{secret-after}
 use Rattle.history.proofs.promises.Unlearned.{told}
+use Rattle.history.proofs.promises.SameParts.{hidden-parts}
 use Rattle.cemi.specs.Read.{fieldsIn}
 use Rattle.cemi.specs.Answering.{answering}
 use Rattle.cemi.specs.declared.Fields.{Fields}
@@ -49,14 +46,6 @@ same-link : (k k′ : Link) → k′ .sessions ≡ k .sessions → k′ .first �
 same-link k k′ q a b =
     ap₂ (λ (q : Sessions) (a : ℕ). record { sessions = q; first = a; second = k′ .second }) q a
     ∙ ap (λ (b : ℕ). record { sessions = k .sessions; first = k .first; second = b }) b
-
--- nor are the parts that are named as stored: judging names them, and it reads no secret
-parts-same :
-    {q : ℕ} {s s′ : List ℕ} → Hide q s s′ → (u : Sessions) (mode c group : ℕ) (a : List ℕ) →
-    changedOf most s′ u mode c group a ≡ changedOf most s u mode c group a
-unfolding changedOf
-parts-same {s = s} {s′ = s′} b u mode c group a =
-    ap (changesOf (dataIn (readPdu a) a)) (sym (no-body most s s′ (sessionFor u mode c) mode group a (hidden-bodies b)))
 
 module _ (q : ℕ) (few : q ≤ 3) where
   -- ONE ITEM
@@ -119,7 +108,7 @@ module _ (q : ℕ) (few : q ≤ 3) where
           outcome = z .outcome;
           connection = refl;
           answer = ap₂ (λ (own : ℕ) (p : List ℕ). answerFrame (answering f own mode sequence) p) (own-same b) (z .answer);
-          changed = parts-same b (k .sessions) mode c group a;
+          changed = hidden-parts b most (k .sessions) mode c group a;
           link = ap (withSessions k) (z .sessions);
           sheet = z .sheet;
         }
