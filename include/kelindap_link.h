@@ -17,7 +17,10 @@
  *    hands over the number with which its own next frame on that connection goes out, and counts it on if a frame was sent. A
  *    connect, a second one too, sets both to 0;
  *  - 45, an acknowledgement, tells by its connection whose it is; 61 and 62 are a stranger's, to whom transport sends a
- *    disconnect; 63 is a stranger's disconnect, which nothing answers;
+ *    disconnect; 63 is a stranger's disconnect, which nothing answers. 65 came from this device's own address to itself: its own
+ *    frame that came back, as from a router that loops, or another device with the same address. Nothing is sent to it; a host
+ *    may tell the operator. What goes to a group or to all is heard from whatever source, so a host that gets back what it sent
+ *    itself leaves that out before the call;
  *  - transport's time limits: a partner that is silent too long is disconnected by kelindap_disconnect with its number;
  *  - a session that was open before a call of kelindap_serve and is closed after it, though the frame was no disconnect of that
  *    partner, was closed by a Restart: a disconnect is then due to that partner on the bus.
@@ -25,9 +28,13 @@
  * What no proof gives: addresses on the bus are not authenticated. Whoever sends under a partner's address acts at the level of
  * that partner, ends its connection, or sets it back to level 3 by a second connect. A stranger can take both places, again and
  * again, and whoever has none is then turned away. If the sheet names rules 1, anybody who reaches this device restarts it,
- * and that ends both connections. Through all of this one thing holds, since it counts every sender: from an accepted sheet and
- * closed sessions, as long as no frame offers the key of a level up to l, which is 0, 1 or 2, no byte changes whose write level
- * is at most l (keyless-frames in docs/PROMISES.md).
+ * and that ends both connections.
+ *
+ * What holds, if the host keeps these duties and begins with an accepted sheet and closed sessions: a frame changes no byte whose
+ * write level is at most l, which is 0, 1 or 2, unless its sender, by the address in it, has offered in a frame of its own what
+ * was then a key of a level up to l, whatever others have offered (without-key in docs/PROMISES.md). And against forged addresses,
+ * since it counts every sender: as long as no frame that is heard as a request offers the key of a level up to l, no such byte
+ * changes at all (keyless-heard).
  *
  * Stack: serving takes more than the request in it, since the answer's buffer and the parts that were stored come on top; the
  * table "Stack" of docs/SPEED.md has both for each processor.
@@ -49,14 +56,15 @@ typedef struct kelindap_link {
 
 /*
  * Why a frame is no event, beside 40 to 43 of kelindap_common.h and 44 and 45 of enum kelindap_event, in this order: 64, 40 to
- * 43, 60, 44 or 45, and 61, 62 or 63. Each changes nothing and fills nothing.
+ * 43, 60, 65, 44 or 45, and 61, 62 or 63. Each changes nothing and fills nothing.
  */
 enum kelindap_link_outcome {
     KELINDAP_LINK_FOR_ANOTHER = 60, /* to one device, and not to this one */
     KELINDAP_LINK_STRANGER = 61,    /* connected data from nobody's partner */
     KELINDAP_LINK_NO_PLACE = 62,    /* a connect with both places taken by others */
     KELINDAP_LINK_NO_PARTNER = 63,  /* a disconnect from nobody's partner */
-    KELINDAP_LINK_NO_ROOM = 64      /* serving: the buffer has under KELINDAP_LINK_ROOM bytes */
+    KELINDAP_LINK_NO_ROOM = 64,     /* serving: the buffer has under KELINDAP_LINK_ROOM bytes */
+    KELINDAP_LINK_ITSELF = 65       /* to this device alone, from its own address */
 };
 
 enum {

@@ -76,7 +76,8 @@
     X(61, LINK_STRANGER, "connected data from nobody's partner")  \
     X(62, LINK_NO_PLACE, "no place for a third partner")          \
     X(63, LINK_NO_PARTNER, "a disconnect from nobody's partner")  \
-    X(64, LINK_NO_ROOM, "no room for the longest answer")
+    X(64, LINK_NO_ROOM, "no room for the longest answer")         \
+    X(65, LINK_ITSELF, "from the device's own address to itself")
 
 /* Each rule of a sheet by number, with its name in enum kelindap_rule and what breaks it; 0 and 14 have their words below. */
 #define KELINDAP_RULES(X)                                                  \

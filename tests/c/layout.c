@@ -87,6 +87,7 @@
     NUMBER(KELINDAP_LINK_NO_PLACE, 62) \
     NUMBER(KELINDAP_LINK_NO_PARTNER, 63) \
     NUMBER(KELINDAP_LINK_NO_ROOM, 64) \
+    NUMBER(KELINDAP_LINK_ITSELF, 65) \
     SIZE(kelindap_written, 2) \
     FIELD(kelindap_written, outcome, 1, 0) \
     FIELD(kelindap_written, count, 1, 1) \

@@ -1,6 +1,6 @@
 /*
  * Frames in C: every number of why there is no event, in its order; partners, a third and strangers; second connects, Restarts and
- * time-outs; a frame sent twice; the answering frames byte by byte; and frames of any bytes. Nothing beside the lent buffers is
+ * time-outs; a frame sent twice; the device's own address as a sender; the answering frames byte by byte; and frames of any bytes. Nothing beside the lent buffers is
  * touched, and nothing at all where there is no event.
  */
 #define _DEFAULT_SOURCE
@@ -245,7 +245,38 @@ static void test_two_parts(void)
            "a request and its frame name other parts");
 }
 
-/* The order of the numbers: buffer, frame, device, transport, partner. */
+/* From its own address to itself alone: no event, whatever it would be. To a group and to all it is heard as anybody's. */
+static void test_itself(void)
+{
+    static const char *const all[] = { "80", "81", "c2", "c0", "43d501331001", "03d501331001" };
+    state s = start();
+    for (size_t i = 0; i < sizeof all / sizeof *all; i++)
+        is(&s, all[i], to(OWN, OWN, all[i]), 65, 0, NOBODY, 0);
+    is(&s, "to its neighbour", to(OWN, NEXT, "80"), 60, 0, NOBODY, 0);
+    partners(&s, false, 0, false, 0, "after its own connect");
+    is(&s, "the first connect", to(ONE, OWN, "80"), 0, 1, 0, 0);
+    s.link.address[0] = OWN; /* as no frame leaves it */
+    for (size_t i = 0; i < sizeof all / sizeof *all; i++)
+        is(&s, all[i], to(OWN, OWN, all[i]), 65, 0, NOBODY, 0);
+    partners(&s, true, OWN, false, 0, "with its own address for a partner");
+    s = start();
+    is(&s, "the group's value, read", group(OWN, 0x0801, "0000"), 0, 0, NOBODY, 12);
+    is(&s, "a group with the number of its address", group(OWN, OWN, "0000"), 0, 2, NOBODY, 0);
+    is(&s, "a control to a group", group(OWN, 0x0801, "80"), 44, 0, NOBODY, 0);
+    expect(kelindap_button(s.sheet, s.length, true) == 1, "the button");
+    s.sheet[16] = s.sheet[17] = 0xFF; /* factory-new, as the interface that programs it */
+    is(&s, "its address read", group(0xFFFF, 0, "0100"), 0, 0, NOBODY, 11);
+    is(&s, "its address written", group(0xFFFF, 0, "00c01107"), 0, 1, NOBODY, 0);
+    expect(s.sheet[16] == 0x11 && s.sheet[17] == 7, "the address written");
+    is(&s, "who programmed it connects", to(0xFFFF, 0x1107, "80"), 0, 1, 0, 0);
+
+    /* a partner whose address the device is given has its place, and is not heard on it */
+    is(&s, "its address written once more", group(ONE, 0, "00c0ffff"), 0, 1, NOBODY, 0);
+    is(&s, "its partner under the same address", to(0xFFFF, 0xFFFF, "43d501331001"), 65, 0, NOBODY, 0);
+    partners(&s, true, 0xFFFF, false, 0, "after that");
+}
+
+/* The order of the numbers: buffer, frame, device, the device itself, transport, partner. */
 static void test_order(void)
 {
     state s = start(), before = s;
@@ -265,15 +296,17 @@ static void test_order(void)
     is(&s, "no standard frame", f, 42, 0, NOBODY, 0);
     f.bytes[3] = 0x60, f.bytes[8] = 1;
     is(&s, "a length byte", f, 43, 0, NOBODY, 0);
+    f = to(OWN, OWN, "c2"), f.bytes[8] = 1;
+    is(&s, "a length byte of its own", f, 43, 0, NOBODY, 0);
 }
 
 /* Frames of any bytes, mostly near right ones, on links of any sort: no event changes nothing, and what is sent reads. */
 static void test_any(void)
 {
-    static const uint16_t senders[] = { ONE, TWO, THREE, 0 };
+    static const uint16_t senders[] = { ONE, TWO, THREE, 0, OWN };
     state s = start();
     for (unsigned i = 0; i < ROUNDS; i++) {
-        frame f = to(senders[any(4)], OWN, "43d501331001");
+        frame f = to(senders[any(5)], OWN, "43d501331001");
         f.length = 10 + any(17);
         for (size_t k = 9; k < f.length; k++)
             f.bytes[k] = (uint8_t)any(256);
@@ -306,6 +339,7 @@ int main(void)
     test_answers();
     test_repeated();
     test_two_parts();
+    test_itself();
     test_order();
     test_any();
     return tell();

@@ -71,8 +71,13 @@ const PARTS: &[Part] = &[
     Part { title: "`isolated`", says: "what one tool sees does not depend on the other", statements: &["isolated"] },
     Part {
         title: "Frames",
-        says: "whose connection is whose, and what frames from however many senders leave",
-        statements: &["fn host/kelindap_heard", "fn host/kelindap_serve", "link/served-is", "link/frames-keep", "link/keyless-frames", "link/whose", "link/stranger", "link/same-partner", "link/elsewhere", "link/apart", "link/turned-away", "link/only-third", "link/never-lost"],
+        says: "what each is to the device, whose connection is whose, and what frames from however many senders leave",
+        statements: &["fn host/kelindap_heard", "fn host/kelindap_serve", "link/heard-due", "link/heard-only", "link/served-is", "link/frames-keep", "link/frames-at-once", "link/keyless-frames", "link/whose", "link/stranger", "link/same-partner", "link/elsewhere", "link/itself", "link/apart", "link/turned-away", "link/only-third", "link/never-lost", "link/answer-mode"],
+    },
+    Part {
+        title: "`without-key`",
+        says: "who changes a byte by a frame was given the right to it by a key of its own, whatever others have offered",
+        statements: &["link/keyless-heard", "link/joined", "link/granted", "link/by-right", "link/without-key", "link/ran-by-right", "link/ran-without-key"],
     },
     Part {
         title: "What a frame changed",
@@ -83,6 +88,11 @@ const PARTS: &[Part] = &[
         title: "`unlearned`",
         says: "without the key nobody learns a protected byte",
         statements: &["unlearned", "keyless-blind"],
+    },
+    Part {
+        title: "`unlearned-frames`",
+        says: "without the key nobody learns a protected byte by frames, of whatever is sent or told",
+        statements: &["link/unlearned-frames", "link/unlearned-served", "link/unheard-blind"],
     },
     Part {
         title: "`converted`",
@@ -102,6 +112,7 @@ const STOPS: &[(&str, &str, &[&str])] = &[
     ("restoreSheet", "what a restore does: contract and theorems meet there", &[]),
     ("stepWith", "what a request does, the refusal of its sheet being given: `by-refusal` ties it to `stepOf`", &[]),
     ("restoreBy", "what a restore does, the refusal of its sheet being given: `by-refusal` ties it to `restoreOutcome`", &[]),
+    ("heardOf", "what a frame is to the device; read as propositions", &["link/heard-due", "link/heard-only"]),
     ("ruleIn", "the rules as rows of a table; read as nine propositions", &["sheet/judged", "sheet/judged-only"]),
 ];
 

@@ -67,7 +67,7 @@ async function devicePart(b) {
         has("as the module reads it", await log(), "frame code=41 c1=176 c2=96 source=4607 destination=4358 transport=16 info=- tpdu=43d501331001 connected");
         has("its answers are counted", await log(), `in the frame 1100b060110611ff07${first}d6`);
     }
-    for (const [typed, fault] of [["2900b06011ff1106", "too short for a frame (40)"], ["2900b06011ff11050503d501331001", "for another device (60)"], ["2900b06011fe11060543d501331001", "connected data from nobody's partner (61)"],
+    for (const [typed, fault] of [["2900b06011ff1106", "too short for a frame (40)"], ["2900b06011ff11050503d501331001", "for another device (60)"], ["2900b0601106110600c2", "from the device's own address to itself (65)"], ["2900b06011fe11060543d501331001", "connected data from nobody's partner (61)"],
         ["2900b06011fe11060080", "no place for a third partner (62)"], ["2900b06011fe11060081", "a disconnect from nobody's partner (63)"], ["2900b06011ff110600c2", "an acknowledgement (45)"],
         ["code=41", "a frame needs c1, c2, source, destination, transport, info, apdu"], ["code=1 c1=176 c2=96 source=1 destination=1 transport=0 info=- apdu=00", "no frame that can be written (47)"]]) {
         const before = await b.run(`app.device.log.length`);

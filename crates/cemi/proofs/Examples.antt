@@ -5,7 +5,7 @@ use mathlib.Core.List.{List, [], _∷_, map}
 use Prim.Native.Nat.{ℕ}
 use Rattle.octets.specs.Bytes.{numAt, bytesOf}
 use Rattle.cemi.specs.Layout.{bytesIn}
-use Rattle.cemi.specs.Read.{frameIn, standardOf, refusalOf, readFrame}
+use Rattle.cemi.specs.Read.{frameIn, standardOf, refusalOf, readFrame, readOutcome}
 use Rattle.cemi.specs.Meaning.{toGroup, numbered, toOne, control, meaningOf, meaningNumber, multicast, broadcast, connectionless, connected}
 use Rattle.cemi.specs.Write.{under, encoded}
 use Rattle.cemi.specs.Answering.{answering}
@@ -14,6 +14,7 @@ use Rattle.cemi.specs.declared.Frame.{Frame}
 use Rattle.cemi.specs.declared.Got.{Got}
 use Rattle.cemi.specs.declared.Got.the-variants.{Is, Refused}
 use Rattle.cemi.specs.declared.Meaning.the-variants.{Data, Connect, Disconnect}
+use Rattle.cemi.specs.declared.Meaning.the-variants as meaning
 
 -- L_Data.ind from 1105h to group 0801h: a group value write
 group : Frame
@@ -89,6 +90,23 @@ pub controls :
     ≡ Connect ∷ Disconnect ∷ []
 unfolding numAt meaningOf toOne numbered control
 controls = refl
+
+-- from 11FFh to 1105h, with any control 2 and any octet 6, and one octet more
+abbrev between : ℕ → ℕ → List ℕ
+between c octet = 0x29 ∷ 0 ∷ 0xB0 ∷ c ∷ 0x11 ∷ 0xFF ∷ 0x11 ∷ 0x05 ∷ 1 ∷ octet ∷ 0x00 ∷ []
+
+-- CONNECTED DATA AT ITS EDGES: sequence numbers 0 and 15, and the transport controls on both sides
+pub numbered-edges :
+    map (λ (octet : ℕ). meaningOf (frameIn (between 0x60 octet))) (0x3F ∷ 0x40 ∷ 0x43 ∷ 0x7C ∷ 0x7F ∷ 0x80 ∷ [])
+    ≡ meaning.Refused 44 ∷ Data connected ∷ Data connected ∷ Data connected ∷ Data connected ∷ meaning.Refused 44 ∷ []
+unfolding numAt meaningOf toOne numbered control
+numbered-edges = refl
+
+-- NO STANDARD FRAME: each of the low four bits of control 2 alone; and with the others it is one
+pub extended-edges :
+    map (λ (c : ℕ). readOutcome (readFrame (between c 0x43))) (0x61 ∷ 0x62 ∷ 0x64 ∷ 0x68 ∷ 0xE8 ∷ 0x00 ∷ 0xF0 ∷ []) ≡ 42 ∷ 42 ∷ 42 ∷ 42 ∷ 42 ∷ 0 ∷ 0 ∷ []
+unfolding readFrame refusalOf standardOf numAt
+extended-edges = refl
 
 -- WHO ANSWERS WHOM, 11FFh having asked and 1105h being the device's own address: a group, repeated and with five hops left; all; one device; one device connected, with the number 18 for the answer
 abbrev asked : ℕ → ℕ → ℕ → ℕ → Fields

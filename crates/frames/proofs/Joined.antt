@@ -1,7 +1,7 @@
--- THE DEVICE'S ANSWER, WRITTEN INTO AN ANSWERING FRAME, READS BACK AS THAT PDU.
+-- THE DEVICE'S ANSWER, WRITTEN INTO AN ANSWERING FRAME, READS BACK AS THAT PDU, and as data in the mode of the request.
 -- Assumes nothing.
 use Prim.Native.Nat.{ℕ, _-_, _≤_, _<_}
-use mathlib.Core.Path.{_≡_, sym, ap, subst, _∙_}
+use mathlib.Core.Path.{_≡_, refl, sym, ap, subst, _∙_}
 use mathlib.Core.Bool.{true}
 use mathlib.Core.Logic.{_⊎_, inl, inr, ⊎-elim}
 use mathlib.Core.List.{List, []}
@@ -21,15 +21,17 @@ use Rattle.device.specs.Step.{stepOf}
 use Rattle.device.proofs.promises.AnswerReads.{answer-reads}
 use Rattle.cemi.specs.Layout.{table, Fit}
 use Rattle.cemi.specs.Parts.{tpduOf}
+use Rattle.cemi.specs.Means.{Means}
 use Rattle.cemi.specs.Write.{numbersOf, under, encoded, frameOf, writable}
 use Rattle.cemi.proofs.Backs.{read-back, info-part, tpdu-part}
 use Rattle.cemi.specs.Read.{readFrame}
 use Rattle.cemi.proofs.Wrote.{bounds}
 use Rattle.cemi.proofs.Standards.{reads-standard}
-use Rattle.cemi.proofs.Answers.{answer-writable, answer-fits}
+use Rattle.cemi.proofs.Answers.{answer-writable, answer-fits, answer-means}
 use Rattle.cemi.specs.declared.Fields.{Fields}
 use Rattle.cemi.specs.declared.Frame.{Frame}
 use Rattle.cemi.specs.declared.Got.the-variants as got
+use Rattle.cemi.specs.declared.Meaning.the-variants.{Data}
 use Rattle.frames.specs.Answering.{answerTo, Brings}
 use Rattle.frames.proofs.SameApdu.{read-alike, data-alike}
 use Rattle.frames.proofs.Heard.{under-alike, as-it-is}
@@ -76,6 +78,11 @@ module _ (b : List ℕ) (f : Frame) (call : ReadFrom b (got.Is f) (readFrame b))
             (answer-writable (f .fields) (head.address of x .sheet) (x .mode) sequence (length a) some (k .most)) (r .reads) (r .gives),
       ))
       (answer-reads x hs ha)
+
+-- AND IT IS DATA IN THE MODE OF THE REQUEST, as the frame was in which that came
+pub answered-mode :
+    (f : Frame) (x : Asked) (sequence : ℕ) (a : List ℕ) → Means f (Data (x .mode)) → Means (frameOf (answerTo f x sequence) [] a) (Data (x .mode))
+answered-mode f x sequence a m = answer-means f (head.address of x .sheet) sequence (frameOf (answerTo f x sequence) [] a) (x .mode) refl m
 
 -- A REQUEST THAT CAME IN A FRAME is dealt with as the APDU that was written into it
 pub heard :

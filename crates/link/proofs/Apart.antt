@@ -2,14 +2,14 @@
 -- Assumes nothing.
 use Prim.Native.Nat.{ℕ, zero, suc}
 use mathlib.Core.Path.{_≡_, refl, sym, ap, _∙_}
-use mathlib.Core.Logic.{_↔_, inl, inr}
+use mathlib.Core.Logic.{_↔_, inl, inr, ⊎-elim}
 use mathlib.Core.Bool.{Bool, true, false, cond}
 use mathlib.Core.List.{List, [], _∷_}
 use lib.ListN.{replicate}
-use lib.Dec.{eqb}
+use lib.Dec.{leb, eqb}
 use native.Mathlib.Omega.{arith}
 use borrow.Author.Tests.{ltb-true, eqb-true, eq-eqb, ne-eqb}
-use Rattle.octets.proofs.Truths.{never, first-true, second-true}
+use Rattle.octets.proofs.Truths.{never, first-true, second-true, decided}
 use Rattle.octets.proofs.Tests.{both}
 use Rattle.octets.proofs.Walks.{by-test}
 use Rattle.device.specs.Sessions.{known}
@@ -21,7 +21,7 @@ use Rattle.cemi.specs.declared.Got.the-variants as got
 use Rattle.cemi.specs.declared.Meaning.{Meaning}
 use Rattle.cemi.specs.declared.Meaning.the-variants as meaning
 use Rattle.link.specs.Partners.{nobody, sits, placeOf, freeOf, placeFor}
-use Rattle.link.specs.Hearing.{ownOf, forUs, onPlace, connects, disconnects, meant, fromOther, judged, heardGot, heardOf}
+use Rattle.link.specs.Hearing.{ownOf, forUs, toItself, onPlace, connects, disconnects, meant, fromOther, judged, heardGot, heardOf}
 use Rattle.link.specs.Serving.{most, apduOf}
 use Rattle.link.specs.Net.{Net, sourceOf, stateOf, heardIn, eventsOf, addressBy, Item, frame, press, timeOut, giveBack, netBy, netAfter}
 use Rattle.link.specs.Whose.{NoPlace, Apart}
@@ -92,6 +92,13 @@ numberOf (Connect c) = 0
 numberOf (Disconnect c) = 0
 numberOf (Nothing n c) = n
 
+-- what comes from another is not the device's own, wherever it goes
+from-other : (control2 source own : ℕ) → (source ≡ own → ⊥) → toItself control2 source own ≡ false
+unfolding toItself
+from-other control2 source own n =
+    ⊎-elim (λ (t : leb 128 control2 ≡ true). simp (t, ne-eqb source own n)) (λ (t : leb 128 control2 ≡ false). simp (t, ne-eqb source own n))
+    (decided (leb 128 control2))
+
 -- 62 EXACTLY THEN: of a frame that reads, is for this device, from another and a connect
 pub turned-away :
     (k : Link) (own : ℕ) (b : List ℕ) (f : Frame) →
@@ -99,7 +106,7 @@ pub turned-away :
     meaningOf f ≡ meaning.Connect →
     (heardOf k own b ≡ Nothing 62 nobody) ↔ NoPlace k (f .fields .source)
 unfolding heardOf heardGot judged fromOther meant connects numberOf
-turned-away k own b f reads us other m = let t = ne-eqb (f .fields .source) own other in rw (reads, us, t, m) (there, back)
+turned-away k own b f reads us other m = rw (reads, us, from-other (f .fields .control2) (f .fields .source) own other, m) (there, back)
   where
     by : (t : Bool) → known (placeFor k (f .fields .source)) ≡ t → cond t (Connect (placeFor k (f .fields .source))) (Nothing 62 nobody) ≡ Nothing 62 nobody → NoPlace k (f .fields .source)
     by true e h = absurd (let z : 0 ≡ 62 = ap numberOf h in omega arith)

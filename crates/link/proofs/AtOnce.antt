@@ -30,7 +30,7 @@ use Rattle.link.specs.declared.Arrived.the-variants.{Request, Connect, D
 use Rattle.link.specs.declared.Link.{Link}
 use Rattle.link.proofs.Kept.{as-events, all-octets, octets-apdu}
 use Rattle.link.proofs.Dues.{heard-only}
-use Rattle.link.proofs.Grants.{left-one, joined-address}
+use Rattle.link.proofs.Items.{left-one, joined-address}
 
 -- a frame b is due to y as r
 abbrev pub DueTo : Net → List ℕ → Arrived → Type 0
@@ -61,19 +61,19 @@ module _ (y : Net) (b : List ℕ) (c : ℕ) where
       ap (λ (s : State). sessionOf (s .sessions) c) (left-one y (frame b) (connect c) (ap (λ (r : Arrived). eventsOf r (apduOf b)) (heard-as y b (Connect c) d)))
       ∙ with-own (y .link .sessions) c newlyOpen (connect-known d)
 
-  pub connect-due : DueTo y b (Connect c) → Partner (netBy y (frame b) .link) c (sourceOf b) × (levelAt (netBy y (frame b)) c ≡ 3)
-  connect-due d =
+  pub connects-at-once : DueTo y b (Connect c) → Partner (netBy y (frame b) .link) c (sourceOf b) × (levelAt (netBy y (frame b)) c ≡ 3)
+  connects-at-once d =
       let o : sessionOf (netBy y (frame b) .link .sessions) c .opened ≡ true = ap (λ (s : Session). s .opened) (newly d) in
       (record { «open» = o; address = joined-address y b c (heard-as y b (Connect c) d) o }, ap (λ (s : Session). s .level) (newly d))
 
   -- A DISCONNECT THAT IS DUE: its connection is closed
-  pub disconnect-due : DueTo y b (Disconnect c) → sessionOf (netBy y (frame b) .link .sessions) c .opened ≡ false
+  pub disconnects-at-once : DueTo y b (Disconnect c) → sessionOf (netBy y (frame b) .link .sessions) c .opened ≡ false
   unfolding after eventOf
-  disconnect-due d =
+  disconnects-at-once d =
       ap (λ (s : State). sessionOf (s .sessions) c .opened) (left-one y (frame b) (disconnect c) (ap (λ (r : Arrived). eventsOf r (apduOf b)) (heard-as y b (Disconnect c) d)))
       ∙ ap (λ (s : Session). s .opened) (with-own (y .link .sessions) c closed (disconnect-known d))
 
--- A PERMITTED WRITE THAT IS DUE takes effect at once
+-- a permitted write that is due
 module _ (x : Net) (begins : Begins (firstNet x)) (h : List Item) (b : List ℕ) (o : AllBytes (frame b ∷ h)) (mode c group : ℕ)
     (due : DueTo (netAfter x h) b (Request mode c group)) where
   abbrev f : First
@@ -92,11 +92,21 @@ module _ (x : Net) (begins : Begins (firstNet x)) (h : List Item) (b : List ℕ)
   unfolding netAfter stateAfter after
   goes = left-one (netAfter x h) (frame b) e is-it ∙ ap (λ (s : State). after s e) (as-events x h)
 
-  pub frames-at-once :
+  stored :
       permitted f g e ≡ true → (y : Location) (p : ℕ) → Place (x .sheet) y p →
       names (spans (x .sheet) (content f g) (brings (apduOf b)) (asks (apduOf b))) y ≡ true →
       getD (netAfter x (frame b ∷ h) .sheet) p 0 ≡ gives (spans (x .sheet) (content f g) (brings (apduOf b)) (asks (apduOf b))) y
   unfolding stateAfter
-  frames-at-once permits y p place named =
+  stored permits y p place named =
       ap (λ (s : State). getD (s .sheet) p 0) goes
       ∙ keeps f g begins (all-octets x h (o .1)) .atOnce e (octets-apdu b (o .0)) permits y p place named
+
+-- A PERMITTED WRITE THAT IS DUE TAKES EFFECT AT ONCE: every byte that it names holds what it gives
+pub frames-at-once :
+    (x : Net) → Begins (firstNet x) → (h : List Item) (b : List ℕ) → AllBytes (frame b ∷ h) →
+    (mode c group : ℕ) → DueTo (netAfter x h) b (Request mode c group) →
+    permitted (firstNet x) (eventsAfter x h) (request mode c group (apduOf b) (replicate most 0)) ≡ true →
+    (y : Location) (p : ℕ) → Place (x .sheet) y p →
+    names (spans (x .sheet) (content (firstNet x) (eventsAfter x h)) (brings (apduOf b)) (asks (apduOf b))) y ≡ true →
+    getD (netAfter x (frame b ∷ h) .sheet) p 0 ≡ gives (spans (x .sheet) (content (firstNet x) (eventsAfter x h)) (brings (apduOf b)) (asks (apduOf b))) y
+frames-at-once x begins h b o mode c group due permits y p place named = stored x begins h b o mode c group due permits y p place named

@@ -1,15 +1,15 @@
 -- WHAT IS HEARD IS WHAT IS DUE, AND NOTHING ELSE IS DUE: of any link, own address and bytes.
 -- Assumes nothing.
 use Prim.Native.Nat.{ℕ}
-use mathlib.Core.Path.{_≡_, refl, sym, ap, _∙_}
+use mathlib.Core.Path.{_≡_, refl, sym, ap, subst, _∙_}
 use mathlib.Core.Logic.{_⊎_, inl, inr}
-use mathlib.Core.Bool.{Bool, true, false, cond, _||_}
+use mathlib.Core.Bool.{Bool, true, false, cond, not, _&&_, _||_}
 use mathlib.Core.List.{List}
 use lib.ListN.{length}
 use lib.Dec.{leb, eqb}
 use native.Mathlib.Omega.{arith}
 use borrow.Author.Tests.{le-leb, lt-leb, eq-eqb, ne-eqb, leb-true, leb-false, eqb-true, eqb-false}
-use Rattle.octets.proofs.Truths.{never, first-true, second-true, or-is, decided}
+use Rattle.octets.proofs.Truths.{never, first-true, second-true, decided}
 use Rattle.octets.proofs.Tests.{both}
 use Rattle.octets.proofs.Walks.{by-test}
 use Rattle.device.specs.Sessions.{known}
@@ -26,9 +26,9 @@ use Rattle.cemi.proofs.Standards.{accepted, standard-reads}
 use Rattle.cemi.proofs.Dues as cemi
 use Rattle.cemi.proofs.Understood.{means, means-one}
 use Rattle.link.specs.Partners.{nobody, sits, placeOf, freeOf, placeFor}
-use Rattle.link.specs.Hearing.{forUs, onPlace, connects, disconnects, meant, fromOther, judged, heardGot, heardOf}
+use Rattle.link.specs.Hearing.{forUs, toItself, onPlace, connects, disconnects, meant, fromOther, judged, heardGot, heardOf}
 use Rattle.link.specs.Whose.{Partner, NoPlace}
-use Rattle.link.specs.Due.{Has, first, second, Stranger, from, to, Reads, ForUs, Ours, HeardDue, unread, elsewhere, itself, toGroup, toAll, plain, partners, strangers, again, firstFree, secondFree, third, parts, strangerParts, control, strangerControl}
+use Rattle.link.specs.Due.{Has, first, second, Stranger, from, to, Reads, Ours, shared, alone, HeardDue, unread, elsewhere, itself, toGroup, toAll, plain, partners, strangers, again, firstFree, secondFree, third, parts, strangerParts, control, strangerControl}
 use Rattle.link.specs.declared.Link.{Link}
 use Rattle.link.specs.declared.Arrived.{Arrived}
 use Rattle.link.specs.declared.Arrived.the-variants.{Connect, Disconnect, Nothing}
@@ -149,23 +149,29 @@ module _ (k : Link) (own : ℕ) (b : List ℕ) where
     meant-due _ (acknowledges g z e) = control-due 45 (acknowledges g z e) (placed k (from b))
     meant-due _ (other g n m e) = control-due 44 (other g n m e) (placed k (from b))
 
-  judged-due : Reads b → HeardDue k own b (judged k own f)
-  unfolding judged fromOther forUs
-  judged-due r =
-      by-test (HeardDue k own b) (leb 128 (fieldsIn b .control2) || eqb (to b) own) _ _
-      (λ t.
-      let u : ForUs own b = record { reads = r; destination = dest (or-is (leb 128 (fieldsIn b .control2)) (eqb (to b) own) .0 t) } in
-      by-test (HeardDue k own b) (eqb (from b) own) _ _ (λ e. itself u (eqb-true (from b) own e))
-      (λ e. meant-due record { forUs = u; other = eqb-false (from b) own e } (meaningOf f) (means f)))
-      (λ t. let d = neither (leb 128 (fieldsIn b .control2)) (eqb (to b) own) t in elsewhere r (leb-false 128 (fieldsIn b .control2) (d .0)) (eqb-false (to b) own (d .1)))
-    where
-      dest : (leb 128 (fieldsIn b .control2) ≡ true) ⊎ (eqb (to b) own ≡ true) → Group f ⊎ (to b ≡ own)
-      dest (inl e) = inl (leb-true 128 (fieldsIn b .control2) e)
-      dest (inr e) = inr (eqb-true (to b) own e)
+  -- what is heard of a frame that reads, by three tests: to a group; to the own address; from it
+  abbrev tested : Bool → Bool → Bool → Arrived
+  tested g d s = cond (g || d) (cond (not g && s) (Nothing 65 nobody) (meant k (from b) (to b) (meaningOf f))) (Nothing 60 nobody)
 
-      neither : (p q : Bool) → (p || q) ≡ false → (p ≡ false) × (q ≡ false)
-      neither true q e = never (sym e)
-      neither false q e = (refl, e)
+  abbrev G : Bool
+  G = leb 128 (fieldsIn b .control2)
+
+  judged-tested : (g d s : Bool) → G ≡ g → eqb (to b) own ≡ d → eqb (from b) own ≡ s → judged k own f ≡ tested g d s
+  unfolding judged fromOther forUs toItself
+  judged-tested true d s t u v = simp (t, u, v)
+  judged-tested false d s t u v = simp (t, u, v)
+
+  tested-due : Reads b → (g d s : Bool) → G ≡ g → eqb (to b) own ≡ d → eqb (from b) own ≡ s → HeardDue k own b (tested g d s)
+  tested-due r true d s t u v = meant-due (shared r (leb-true 128 (fieldsIn b .control2) t)) (meaningOf f) (means f)
+  tested-due r false false s t u v = elsewhere r (leb-false 128 (fieldsIn b .control2) t) (eqb-false (to b) own u)
+  tested-due r false true true t u v = itself r (leb-false 128 (fieldsIn b .control2) t) (eqb-true (to b) own u) (eqb-true (from b) own v)
+  tested-due r false true false t u v =
+      meant-due (alone r (leb-false 128 (fieldsIn b .control2) t) (eqb-true (to b) own u) (eqb-false (from b) own v)) (meaningOf f) (means f)
+
+  judged-due : Reads b → HeardDue k own b (judged k own f)
+  judged-due r =
+      subst (HeardDue k own b) (sym (judged-tested G (eqb (to b) own) (eqb (from b) own) refl refl refl))
+      (tested-due r G (eqb (to b) own) (eqb (from b) own) refl refl refl)
 
   -- WHAT IS HEARD IS DUE
   pub heard-due : HeardDue k own b (heardOf k own b)
@@ -183,33 +189,29 @@ module _ (k : Link) (own : ℕ) (b : List ℕ) where
   unfolding heardOf heardGot
   read-as r = rw (standard-reads b r)
 
-  us : Group f ⊎ (to b ≡ own) → (leb 128 (fieldsIn b .control2) || eqb (to b) own) ≡ true
-  us (inl g) = or-is (leb 128 (fieldsIn b .control2)) (eqb (to b) own) .1 (inl (le-leb 128 (fieldsIn b .control2) g))
-  us (inr e) = or-is (leb 128 (fieldsIn b .control2)) (eqb (to b) own) .1 (inr (eq-eqb (to b) own e))
-
   unread-as : (n : ℕ) → (n ≡ 0 → ⊥) → n ≡ number → Nothing n nobody ≡ heardOf k own b
   unfolding heardOf heardGot readFrame
   unread-as n z e = let t = ne-eqb n 0 z in rw (sym e, t)
 
   away : Individual f → (to b ≡ own → ⊥) → judged k own f ≡ Nothing 60 nobody
-  unfolding judged forUs
-  away i n = simp (lt-leb 128 (fieldsIn b .control2) i, ne-eqb (to b) own n)
+  away i n = judged-tested false false (eqb (from b) own) (lt-leb 128 (fieldsIn b .control2) i) (ne-eqb (to b) own n) refl
 
-  mine : (leb 128 (fieldsIn b .control2) || eqb (to b) own) ≡ true → from b ≡ own → judged k own f ≡ Nothing 65 nobody
-  unfolding judged fromOther forUs
-  mine u e = let t = eq-eqb (from b) own e in rw (u, t)
+  mine : Individual f → to b ≡ own → from b ≡ own → judged k own f ≡ Nothing 65 nobody
+  mine i d e = judged-tested false true true (lt-leb 128 (fieldsIn b .control2) i) (eq-eqb (to b) own d) (eq-eqb (from b) own e)
 
   as-meant : Ours own b → (m : Meaning) → Means f m → heardOf k own b ≡ meant k (from b) (to b) m
-  unfolding judged fromOther forUs
-  as-meant o m h =
-      let u : (leb 128 (fieldsIn b .control2) || eqb (to b) own) ≡ true = us (o .forUs .destination) in
-      read-as (o .forUs .reads) ∙ (let t = ne-eqb (from b) own (o .other) in rw (u, t) (ap (meant k (from b) (to b)) (one-meaning m h)))
+  as-meant (shared r g) m h =
+      read-as r
+      ∙ (judged-tested true (eqb (to b) own) (eqb (from b) own) (le-leb 128 (fieldsIn b .control2) g) refl refl ∙ ap (meant k (from b) (to b)) (one-meaning m h))
+  as-meant (alone r i d n) m h =
+      read-as r
+      ∙ (judged-tested false true false (lt-leb 128 (fieldsIn b .control2) i) (eq-eqb (to b) own d) (ne-eqb (from b) own n) ∙ ap (meant k (from b) (to b)) (one-meaning m h))
 
   pub heard-only : (r : Arrived) → HeardDue k own b r → r ≡ heardOf k own b
   unfolding meant onPlace connects disconnects freeOf
   heard-only _ (unread n z d) = unread-as n z (cemi.due-one (length b) (infoLength b) (fieldsIn b) (stated of b) n d)
   heard-only _ (elsewhere r i n) = sym (read-as r ∙ away i n)
-  heard-only _ (itself u e) = sym (read-as (u .reads) ∙ mine (us (u .destination)) e)
+  heard-only _ (itself r i d e) = sym (read-as r ∙ mine i d e)
   heard-only _ (toGroup o m) = sym (as-meant o (meaning.Data 0) m)
   heard-only _ (toAll o m) = sym (as-meant o (meaning.Data 1) m)
   heard-only _ (plain o m) = sym (as-meant o (meaning.Data 2) m)

@@ -1,4 +1,4 @@
--- Worked examples: frames to the device 1105h whose connection 0 is open to 11FFh and whose connection 1 was 1203h's, and what they are to it.
+-- Worked examples: frames to the device 1105h whose connection 0 is open to 11FFh and whose connection 1 was 1203h's, or is, or both are closed; and what they are to it.
 -- Assumes nothing.
 use Prim.Native.Nat.{ℕ}
 use mathlib.Core.Path.{_≡_, refl}
@@ -9,7 +9,7 @@ use Rattle.judge.specs.declared.Session.{Session}
 use Rattle.cemi.specs.Read.{standardOf, refusalOf, readFrame}
 use Rattle.cemi.specs.Meaning.{toGroup, control, numbered, toOne, meaningOf}
 use Rattle.link.specs.Partners.{placeOf, freeOf, placeFor}
-use Rattle.link.specs.Hearing.{forUs, onPlace, connects, disconnects, meant, fromOther, judged, heardGot, heardOf}
+use Rattle.link.specs.Hearing.{forUs, toItself, onPlace, connects, disconnects, meant, fromOther, judged, heardGot, heardOf}
 use Rattle.link.specs.declared.Link.{Link}
 use Rattle.link.specs.declared.Arrived.{Arrived}
 use Rattle.link.specs.declared.Arrived.the-variants.{Request, Connect, Disconnect, Nothing}
@@ -20,11 +20,10 @@ at = record { opened = true; level = 2 }
 abbrev shut : Session
 shut = record { opened = false; level = 3 }
 
--- one partner; and two
+-- one partner; none; and two
 abbrev one : Link
 one = record { sessions = record { first = at; second = shut }; first = 0x11FF; second = 0x1203 }
 
--- nobody
 abbrev none : Link
 none = record { sessions = record { first = shut; second = shut }; first = 0x11FF; second = 0x1203 }
 
@@ -60,7 +59,7 @@ pub heard-examples :
     × (hears two (group 0x08 0x01 0x00) ≡ Request 0 255 0x0801)
     × (hears two (group 0x00 0x00 0x00) ≡ Request 1 255 0)
     × (hears two (group 0x08 0x01 0x80) ≡ Nothing 44 0)
-unfolding heardOf heardGot judged forUs fromOther meant onPlace connects disconnects placeOf placeFor freeOf readFrame refusalOf standardOf meaningOf toGroup toOne control numbered numAt
+unfolding heardOf heardGot judged forUs fromOther toItself meant onPlace connects disconnects placeOf placeFor freeOf readFrame refusalOf standardOf meaningOf toGroup toOne control numbered numAt
 heard-examples = (refl, refl, refl, refl, refl, refl, refl, refl, refl, refl, refl, refl, refl, refl)
 
 -- to the addresses below and above its own
@@ -79,7 +78,7 @@ pub first-examples :
     × (hears two (to 0x12 0x03 0x11 0x05 0x40) ≡ Request 3 1 0x1105)
     × (hears two (to 0x11 0xFF 0x11 0x05 0x81) ≡ Disconnect 0)
     × (hears one (to 0x11 0xFF 0x11 0x05 0x81) ≡ Disconnect 0)
-unfolding heardOf heardGot judged forUs fromOther meant onPlace connects disconnects placeOf placeFor freeOf readFrame refusalOf standardOf meaningOf toGroup toOne control numbered numAt
+unfolding heardOf heardGot judged forUs fromOther toItself meant onPlace connects disconnects placeOf placeFor freeOf readFrame refusalOf standardOf meaningOf toGroup toOne control numbered numAt
 first-examples = (refl, refl, refl, refl, refl, refl)
 
 -- both places free: the first is given, whoever had the second; nobody's data, disconnect and acknowledgement
@@ -89,7 +88,7 @@ pub free-examples :
     × (hears none (to 0x11 0xFF 0x11 0x05 0x40) ≡ Nothing 61 255)
     × (hears none (to 0x11 0xFF 0x11 0x05 0x81) ≡ Nothing 63 255)
     × (hears none (to 0x11 0xFF 0x11 0x05 0xC2) ≡ Nothing 45 255)
-unfolding heardOf heardGot judged forUs fromOther meant onPlace connects disconnects placeOf placeFor freeOf readFrame refusalOf standardOf meaningOf toGroup toOne control numbered numAt
+unfolding heardOf heardGot judged forUs fromOther toItself meant onPlace connects disconnects placeOf placeFor freeOf readFrame refusalOf standardOf meaningOf toGroup toOne control numbered numAt
 free-examples = (refl, refl, refl, refl, refl)
 
 -- a partner's data without a connection is nobody's, and so acts at level 3
@@ -97,7 +96,7 @@ pub partner-examples :
     (hears two (to 0x11 0xFF 0x11 0x05 0x03) ≡ Request 2 255 0x1105)
     × (hears two (to 0x12 0x03 0x11 0x05 0x03) ≡ Request 2 255 0x1105)
     × (hears two (group 0x08 0x01 0x00) ≡ Request 0 255 0x0801)
-unfolding heardOf heardGot judged forUs fromOther meant onPlace connects disconnects placeOf placeFor freeOf readFrame refusalOf standardOf meaningOf toGroup toOne control numbered numAt
+unfolding heardOf heardGot judged forUs fromOther toItself meant onPlace connects disconnects placeOf placeFor freeOf readFrame refusalOf standardOf meaningOf toGroup toOne control numbered numAt
 partner-examples = (refl, refl, refl)
 
 -- hop counts 0 and 7, to one device and to a group; low priority; a repeated frame; four bytes of additional information
@@ -112,10 +111,11 @@ pub control-examples :
     × (hears two (by 0x90 0x60 0x11 0xFF 0x11 0x05 0x44) ≡ Request 3 0 0x1105)
     × (hears two (by 0x9C 0x50 0x12 0x03 0x11 0x05 0x81) ≡ Disconnect 1)
     × (hears one (0x29 ∷ 4 ∷ 3 ∷ 2 ∷ 0xAA ∷ 0xBB ∷ 0xBC ∷ 0x50 ∷ 0x12 ∷ 0x04 ∷ 0x11 ∷ 0x05 ∷ 0 ∷ 0x80 ∷ []) ≡ Connect 1)
-unfolding heardOf heardGot judged forUs fromOther meant onPlace connects disconnects placeOf placeFor freeOf readFrame refusalOf standardOf meaningOf toGroup toOne control numbered numAt
+unfolding heardOf heardGot judged forUs fromOther toItself meant onPlace connects disconnects placeOf placeFor freeOf readFrame refusalOf standardOf meaningOf toGroup toOne control numbered numAt
 control-examples = (refl, refl, refl, refl, refl, refl, refl, refl, refl, refl)
 
--- under the device's own address: a connect, also with a place free; data in every mode, a disconnect, an acknowledgement; even where the link says that a place is its own. What goes to another is another's
+-- from the device itself to itself alone: a connect, with a place free; data, a disconnect and an acknowledgement, even where the link says that a place is its own;
+-- data without a connection. To its neighbour it is the neighbour's
 abbrev mine : Link
 mine = record { sessions = record { first = at; second = shut }; first = 0x1105; second = 0x1203 }
 
@@ -125,8 +125,16 @@ pub itself-examples :
     × (hears mine (to 0x11 0x05 0x11 0x05 0x81) ≡ Nothing 65 255)
     × (hears mine (to 0x11 0x05 0x11 0x05 0xC2) ≡ Nothing 65 255)
     × (hears none (to 0x11 0x05 0x11 0x05 0x03) ≡ Nothing 65 255)
-    × (hears none (by 0xB0 0xE0 0x11 0x05 0x08 0x01 0x00) ≡ Nothing 65 255)
-    × (hears none (by 0xB0 0xE0 0x11 0x05 0x00 0x00 0x00) ≡ Nothing 65 255)
     × (hears mine (to 0x11 0x05 0x11 0x06 0x80) ≡ Nothing 60 255)
-unfolding heardOf heardGot judged forUs fromOther meant onPlace connects disconnects placeOf placeFor freeOf readFrame refusalOf standardOf meaningOf toGroup toOne control numbered numAt
-itself-examples = (refl, refl, refl, refl, refl, refl, refl, refl)
+unfolding heardOf heardGot judged forUs fromOther toItself meant onPlace connects disconnects placeOf placeFor freeOf readFrame refusalOf standardOf meaningOf toGroup toOne control numbered numAt
+itself-examples = (refl, refl, refl, refl, refl, refl)
+
+-- to a group and to all, under the device's own address: heard as anybody's, also where the group has that number
+pub shared-examples :
+    (hears none (by 0xB0 0xE0 0x11 0x05 0x08 0x01 0x00) ≡ Request 0 255 0x0801)
+    × (hears none (by 0xB0 0xE0 0x11 0x05 0x11 0x05 0x00) ≡ Request 0 255 0x1105)
+    × (hears none (by 0xB0 0xE0 0x11 0x05 0x00 0x00 0x00) ≡ Request 1 255 0)
+    × (hears none (by 0xB0 0xE0 0x11 0x05 0x08 0x01 0x80) ≡ Nothing 44 255)
+    × (heardOf none 0xFFFF (by 0xB0 0xE0 0xFF 0xFF 0x00 0x00 0x00) ≡ Request 1 255 0)
+unfolding heardOf heardGot judged forUs fromOther toItself meant onPlace connects disconnects placeOf placeFor freeOf readFrame refusalOf standardOf meaningOf toGroup toOne control numbered numAt
+shared-examples = (refl, refl, refl, refl, refl)

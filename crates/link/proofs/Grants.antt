@@ -1,197 +1,44 @@
--- BY WHAT RIGHT A FRAME CHANGED A BYTE: from closed sessions on, every level below 3 of an open connection was given by a frame of its partner; and whoever's frame changes a protected byte has such a level.
+-- EVERY LEVEL WAS GIVEN: from closed sessions on, whoever has a connection has connected on it, and every level below 3 was given by a frame of its own.
 -- Assumes nothing.
 use Prim.Native.Nat.{ℕ, zero, suc, _+_, _<_, _≤_}
 use mathlib.Core.Path.{_≡_, refl, sym, ap, subst, _∙_}
 use mathlib.Core.Logic.{_⊎_, inl, inr}
-use mathlib.Core.Bool.{Bool, true, false, cond}
+use mathlib.Core.Bool.{true, false}
 use mathlib.Core.List.{List, [], _∷_}
 use lib.ListN.{drop, getD}
-use lib.Dec.{ltb, eqb}
 use native.Mathlib.Decide.{ℕ-discrete}
 use native.Mathlib.Omega.{arith}
-use borrow.Author.Tests.{eqb-true, eq-eqb, ne-eqb}
+use borrow.Author.Tests.{eq-eqb, ne-eqb}
 use Rattle.octets.specs.Bytes.{numAt}
-use Rattle.octets.proofs.Truths.{never, first-true, second-true}
+use Rattle.octets.proofs.Truths.{never}
 use Rattle.octets.proofs.Tests.{both}
 use Rattle.sheet.specs.Layout.{_of_}
 use Rattle.sheet.specs.Head as head
 use Rattle.sheet.specs.Head.{rulesOf}
 use Rattle.device.specs.Sessions.{sessionOf}
 use Rattle.device.specs.Events.{State}
-use Rattle.device.specs.declared.Sessions.{Sessions}
-use Rattle.events.specs.Events.{Event, connect, disconnect, button, request, restore, eventOf, after, runBy}
+use Rattle.events.specs.Events.{Event, connect, disconnect, button, restore, after}
 use Rattle.history.specs.Location.{Location, key, Place, ofKey}
-use Rattle.versions.specs.Rules.{isStore}
-use Rattle.versions.specs.Store.{isKept, versionIn}
-use Rattle.history.specs.Wish.{change, restoreAll, offerKey, asks}
-use Rattle.history.specs.Permit.{checks, heard, allowed, levelFor}
-use Rattle.history.specs.History.{First, wished, opened, level, keys, keyIn, content, permitted}
+use Rattle.history.specs.Wish.{offerKey, asks}
+use Rattle.history.specs.Permit.{checks, heard}
+use Rattle.history.specs.History.{First, wished, opened, level, keys, keyIn, content}
 use Rattle.history.specs.Keeps.{stateAfter, Begins, AllOctets}
-use Rattle.history.specs.Keyless.{Closed, writeLevel}
+use Rattle.history.specs.Keyless.{Closed}
 use Rattle.history.specs.Isolation.{isOf}
 use Rattle.history.specs.Rightful.{ours}
 use Rattle.history.proofs.spans.Bools.{all-at}
 use Rattle.history.proofs.promises.Keep.{keeps}
-use Rattle.account.specs.Account.{at, byteAt, levelOn, lastOther, actsAt, Right, Offers, offers, Entitled, byKey}
+use Rattle.account.specs.Account.{at, byteAt, levelOn, lastOther, Right, Offers, offers, Entitled, byKey}
 use Rattle.account.proofs.Accounts.{accounts, entitled}
 use Rattle.link.specs.Partners.{addressAt}
-use Rattle.link.specs.Serving.{apduOf}
-use Rattle.link.specs.Net.{Net, stateOf, firstNet, sourceOf, heardIn, eventsOf, Item, frame, press, timeOut, giveBack, eventsBy, netBy, netAfter, eventsAfter, AllBytes}
-use Rattle.link.specs.Whose.{Partner, Whose, partner, newcomer}
-use Rattle.link.specs.Granted.{levelAt, Joined, Granted, ByRight, NoKeyFrom}
-use Rattle.link.specs.declared.Arrived.{Arrived}
-use Rattle.link.specs.declared.Arrived.the-variants.{Request, Connect, Disconnect, Nothing}
+use Rattle.link.specs.Net.{Net, stateOf, firstNet, sourceOf, heardIn, Item, frame, press, timeOut, giveBack, eventsBy, netBy, netAfter, eventsAfter, AllBytes}
+use Rattle.link.specs.Whose.{Partner, partner}
+use Rattle.link.specs.Granted.{levelAt, Joined, Granted}
+use Rattle.link.specs.declared.Arrived.the-variants.{Connect}
 use Rattle.link.proofs.Kept.{as-events, all-octets}
 use Rattle.link.proofs.Sessions.{opened-before}
-use Rattle.link.proofs.Whose.{whose, same-partner}
-
--- an item is one event or none
-abbrev pub One : List Event → Type 0
-One es = (es ≡ []) ⊎ ((e : Event) × (es ≡ e ∷ []))
-
-one-arrived : (r : Arrived) (a : List ℕ) → One (eventsOf r a)
-one-arrived (Request mode c group) a = inr (_, refl)
-one-arrived (Connect c) a = inr (_, refl)
-one-arrived (Disconnect c) a = inr (_, refl)
-one-arrived (Nothing n c) a = inl refl
-
-pub one-item : (y : Net) (i : Item) → One (eventsBy y i)
-one-item y (frame b) = one-arrived (heardIn y b) (apduOf b)
-one-item y (press on) = inr (_, refl)
-one-item y (timeOut c) = inr (_, refl)
-one-item y (giveBack c n st) = inr (_, refl)
-
--- what it leaves
-module _ (y : Net) (i : Item) where
-  left-none : eventsBy y i ≡ [] → stateOf (netBy y i) ≡ stateOf y
-  unfolding netBy runBy
-  left-none q = rw q
-
-  pub left-one : (e : Event) → eventsBy y i ≡ e ∷ [] → stateOf (netBy y i) ≡ after (stateOf y) e
-  unfolding netBy runBy
-  left-one e q = rw q
-
--- an open connection keeps its address
-same-address : (y : Net) (i : Item) (c : ℕ) → sessionOf (y .link .sessions) c .opened ≡ true → addressAt (netBy y i .link) c ≡ addressAt (y .link) c
-unfolding netBy
-same-address y (frame b) c o = same-partner y b c o
-same-address y (press on) c o = refl
-same-address y (timeOut d) c o = refl
-same-address y (giveBack d n st) c o = refl
-
--- a connect leaves level 3
-connect-three : (s : State) (c : ℕ) → sessionOf (after s (connect c) .sessions) c .level ≡ 3
-unfolding after eventOf
-connect-three s zero = refl
-connect-three s (suc zero) = refl
-connect-three s (suc (suc c)) =
-    let m : suc (suc c) ≡ 0 → ⊥ = omega arith in
-    let n : suc (suc c) ≡ 1 → ⊥ = omega arith in
-    simp (ne-eqb (suc (suc c)) 0 m, ne-eqb (suc (suc c)) 1 n)
-
--- no other number than 0 and 1 has an open session
-no-other : (q : Sessions) (c : ℕ) → sessionOf q (suc (suc c)) .opened ≡ true → ⊥
-no-other q c o =
-    let m : suc (suc c) ≡ 0 → ⊥ = omega arith in
-    let n : suc (suc c) ≡ 1 → ⊥ = omega arith in
-    never (simp (ne-eqb (suc (suc c)) 0 m, ne-eqb (suc (suc c)) 1 n) at o)
-
--- a connect that is heard sets its connection's address
-pub joined-address :
-    (y : Net) (b : List ℕ) (c : ℕ) → heardIn y b ≡ Connect c → sessionOf (netBy y (frame b) .link .sessions) c .opened ≡ true →
-    addressAt (netBy y (frame b) .link) c ≡ sourceOf b
-unfolding netBy
-joined-address y b zero q o = rw q
-joined-address y b (suc zero) q o = rw q
-joined-address y b (suc (suc c)) q o = absurd (no-other (netBy y (frame b) .link .sessions) c o)
-
--- requests told from other events
-isRequest : Event → Bool
-isRequest (connect c) = false
-isRequest (disconnect c) = false
-isRequest (button on) = false
-isRequest (request mode c g a out) = true
-isRequest (restore c n st) = false
-
--- a partner's request
-whose-request : (y : Net) (b : List ℕ) (c : ℕ) (e : Event) → Whose y b c e → isRequest e ≡ true → Partner (y .link) c (sourceOf b)
-unfolding isRequest
-whose-request y b c e (partner p) r = p
-whose-request y b c _ (newcomer z) r = never r
-
--- any other event than a connect is a partner's
-isConnect : Event → Bool
-isConnect (connect c) = true
-isConnect (disconnect c) = false
-isConnect (button on) = false
-isConnect (request mode c g a out) = false
-isConnect (restore c n st) = false
-
-whose-other : (y : Net) (b : List ℕ) (c : ℕ) (e : Event) → Whose y b c e → isConnect e ≡ false → Partner (y .link) c (sourceOf b)
-unfolding isConnect
-whose-other y b c e (partner p) r = p
-whose-other y b c _ (newcomer z) r = never (sym r)
-
--- a permitted write that acts at a level below 3 is on a connection that has that level
-record Acting (f : First) (g : List Event) (e : Event) : Type 0 where
-  on : ℕ
-  own : isOf on e ≡ true
-  no-connect : isConnect e ≡ false
-  same : level f g on ≡ actsAt f g e
-
-below : (mode n : ℕ) → levelFor mode n < 3 → (eqb mode 3 ≡ true) × (n ≡ levelFor mode n)
-unfolding levelFor
-below mode n h = go (eqb mode 3) (ltb 3 n) h
-  where
-    go : (t u : Bool) → cond t (cond u 3 n) 3 < 3 → (t ≡ true) × (n ≡ cond t (cond u 3 n) 3)
-    go true true k = absurd (omega (arith, k))
-    go true false k = (refl, refl)
-    go false u k = absurd (omega (arith, k))
-
-acting : (f : First) (g : List Event) (e : Event) → permitted f g e ≡ true → actsAt f g e < 3 → Acting f g e
-unfolding permitted isConnect
-acting f g (connect c) p l = never p
-acting f g (disconnect c) p l = never p
-acting f g (button on) p l = never p
-acting f g (request mode c group a out) p l =
-    let k = below mode (level f g c) l in
-    record { on = c; own = both _ _ (k .0) (eq-eqb c c refl); no-connect = refl; same = k .1 }
-acting f g (restore c n st) p l =
-    record { on = c; own = eq-eqb c c refl; no-connect = refl; same = below 3 (level f g c) l .1 }
-
--- and the event of an item that wrote, for which level w suffices
-record Wrote (f : First) (g : List Event) (w : ℕ) (es : List Event) : Type 0 where
-  event : Event
-  is : es ≡ event ∷ []
-  permits : permitted f g event ≡ true
-  acts : Acting f g event
-  enough : actsAt f g event ≤ w
-
--- no key from an address, of what is left of a history
-dropped : (x : Net) (a l n : ℕ) (h : List Item) → NoKeyFrom x a l h → NoKeyFrom x a l (drop n h)
-dropped x a l zero h k = k
-dropped x a l (suc n) [] k = tt
-dropped x a l (suc n) (i ∷ h) k = dropped x a l n h (k .1)
-
--- the event of some
-first : List Event → Event
-first [] = button false
-first (e ∷ es) = e
-
--- the button and a disconnect are no writes; a restore is permitted while its connection is open
-unpermitted : (f : First) (g : List Event) (e d : Event) → e ∷ [] ≡ d ∷ [] → permitted f g d ≡ false → false ≡ permitted f g e
-unfolding first
-unpermitted f g e d q n = sym n ∙ ap (λ (es : List Event). permitted f g (first es)) (sym q)
-
-restored-live :
-    (f : First) (g : List Event) (c n : ℕ) (st : List ℕ) (e : Event) → e ∷ [] ≡ restore c n st ∷ [] → permitted f g e ≡ true → (d : ℕ) → isOf d e ≡ true →
-    opened f g d ≡ true
-unfolding first permitted
-restored-live f g c n st e q =
-    subst (λ (e : Event). permitted f g e ≡ true → (d : ℕ) → isOf d e ≡ true → opened f g d ≡ true) (sym (ap first q))
-    (λ p d t.
-    subst (λ (i : ℕ). opened f g i ≡ true) (eqb-true c d t)
-    (all-at (isStore st ∷ isKept st n ∷ opened f g c ∷ allowed (f .sheet) (levelFor 3 (level f g c)) (versionIn st n) (change restoreAll) ∷ []) p 2))
+use Rattle.link.proofs.Whose.{whose}
+use Rattle.link.proofs.Items.{One, one-item, left-none, left-one, same-address, connect-three, no-other, joined-address, isRequest, whose-request, first, came, Connects, connects-it}
 
 -- what an offer is
 module _ (f : First) (g : List Event) (l c : ℕ) where
@@ -208,61 +55,6 @@ module _ (f : First) (g : List Event) (l c : ℕ) where
       let t = all-at (checks (rulesOf (f .sheet)) (opened f g c) mode a out (asks a)) h 5 in
       both _ _ (rw q at t) (eq-eqb c c refl)
 
--- a frame whose event is a request of connection c
-module _ (y : Net) (b : List ℕ) (c : ℕ) where
-  record Came (e : Event) : Type 0 where
-    group : ℕ
-    heard : heardIn y b ≡ Request 3 c group
-    wish : wished e ≡ asks (apduOf b)
-
-  came-by : (r : Arrived) → heardIn y b ≡ r → (e : Event) → eventsOf r (apduOf b) ≡ e ∷ [] → isRequest e ≡ true → isOf c e ≡ true → Came e
-  unfolding first isRequest
-  came-by (Request mode d group) h e q =
-      subst (λ (e : Event). isRequest e ≡ true → isOf c e ≡ true → Came e) (ap first q)
-      (λ z t.
-      let m : mode ≡ 3 = eqb-true mode 3 (first-true (eqb mode 3) _ t) in
-      let n : d ≡ c = eqb-true d c (second-true (eqb mode 3) _ t) in
-      record { group = group; heard = h ∙ ap (λ (k : ℕ). Request k d group) m ∙ ap (λ (k : ℕ). Request 3 k group) n; wish = refl })
-  came-by (Connect d) h e q = subst (λ (e : Event). isRequest e ≡ true → isOf c e ≡ true → Came e) (ap first q) (λ z t. never z)
-  came-by (Disconnect d) h e q = subst (λ (e : Event). isRequest e ≡ true → isOf c e ≡ true → Came e) (ap first q) (λ z t. never z)
-  came-by (Nothing n d) h e q = absurd (let z : _≡_ {A = ℕ} 0 1 = ap lib.ListN.length q in omega arith)
-
-  came : (e : Event) → eventsBy y (frame b) ≡ e ∷ [] → isRequest e ≡ true → isOf c e ≡ true → Came e
-  came e q z t = came-by (heardIn y b) refl e q z t
-
--- an item whose event is a connect of c
-record Connects (y : Net) (i : Item) (c : ℕ) : Type 0 where
-  bytes : List ℕ
-  is : i ≡ frame bytes
-  heard : heardIn y bytes ≡ Connect c
-
-numberIn : Event → ℕ
-numberIn (connect c) = c
-numberIn (disconnect c) = 0
-numberIn (button on) = 0
-numberIn (request mode c g a out) = 0
-numberIn (restore c n st) = 0
-
-arrived-connect :
-    (y : Net) (b : List ℕ) (c : ℕ) (r : Arrived) → heardIn y b ≡ r → (e : Event) → eventsOf r (apduOf b) ≡ e ∷ [] →
-    (e ≡ connect c → ⊥) ⊎ Connects y (frame b) c
-unfolding first isConnect numberIn
-arrived-connect y b c (Request mode d group) h e q = inl (λ z. never (ap (λ (es : List Event). isConnect (first es)) q ∙ ap isConnect z))
-arrived-connect y b c (Disconnect d) h e q = inl (λ z. never (ap (λ (es : List Event). isConnect (first es)) q ∙ ap isConnect z))
-arrived-connect y b c (Nothing n d) h e q = absurd (let z : _≡_ {A = ℕ} 0 1 = ap lib.ListN.length q in omega arith)
-arrived-connect y b c (Connect d) h e q = by (ℕ-discrete d c)
-  where
-    by : Dec (d ≡ c) → (e ≡ connect c → ⊥) ⊎ Connects y (frame b) c
-    by (yes k) = inr record { bytes = b; is = refl; heard = h ∙ ap Connect k }
-    by (no n) = inl (λ z. n (ap (λ (es : List Event). numberIn (first es)) q ∙ ap numberIn z))
-
-connects-it : (y : Net) (i : Item) (c : ℕ) (e : Event) → eventsBy y i ≡ e ∷ [] → (e ≡ connect c → ⊥) ⊎ Connects y i c
-unfolding first isConnect
-connects-it y (press on) c e q = inl (λ z. never (ap (λ (es : List Event). isConnect (first es)) q ∙ ap isConnect z))
-connects-it y (timeOut d) c e q = inl (λ z. never (ap (λ (es : List Event). isConnect (first es)) q ∙ ap isConnect z))
-connects-it y (giveBack d n st) c e q = inl (λ z. never (ap (λ (es : List Event). isConnect (first es)) q ∙ ap isConnect z))
-connects-it y (frame b) c e q = arrived-connect y b c (heardIn y b) refl e q
-
 module _ (x : Net) (begins : Begins (firstNet x)) where
   abbrev f : First
   f = firstNet x
@@ -274,11 +66,11 @@ module _ (x : Net) (begins : Begins (firstNet x)) where
   Opened h c = sessionOf (netAfter x h .link .sessions) c .opened ≡ true
 
   -- what the history says of levels and keys is so of link and sheet
-  level-is : (h : List Item) → AllBytes h → (c : ℕ) → Level h c ≡ level f (eventsAfter x h) c
+  pub level-is : (h : List Item) → AllBytes h → (c : ℕ) → Level h c ≡ level f (eventsAfter x h) c
   level-is h o c =
       ap (λ (s : State). sessionOf (s .sessions) c .level) (as-events x h) ∙ keeps f (eventsAfter x h) begins (all-octets x h o) .rights c
 
-  opened-is : (h : List Item) → AllBytes h → (c : ℕ) → opened f (eventsAfter x h) c ≡ true → Opened h c
+  pub opened-is : (h : List Item) → AllBytes h → (c : ℕ) → opened f (eventsAfter x h) c ≡ true → Opened h c
   opened-is h o c e =
       ap (λ (s : State). sessionOf (s .sessions) c .opened) (as-events x h) ∙ keeps f (eventsAfter x h) begins (all-octets x h o) .session c ∙ e
 
@@ -310,7 +102,7 @@ module _ (x : Net) (begins : Begins (firstNet x)) where
       by _ _ (byKey before d l k) = k
 
   -- AN EVENT AFTER WHICH A LOCATION'S BYTE IS ANOTHER had the right
-  rightly :
+  pub rightly :
       (g : List Event) (e : Event) → AllOctets (e ∷ g) → (y : Location) (p : ℕ) → Place (x .sheet) y p →
       (byteAt p (stateAfter ours f (e ∷ g)) ≡ byteAt p (stateAfter ours f g) → ⊥) → Right ours f (e ∷ g) y p g e
   unfolding lastOther
@@ -323,10 +115,10 @@ module _ (x : Net) (begins : Begins (firstNet x)) where
     abbrev g : List Event
     g = eventsAfter x h
 
-    state-one : stateOf (netAfter x (i ∷ h)) ≡ stateAfter ours f (e ∷ g)
+    pub state-one : stateOf (netAfter x (i ∷ h)) ≡ stateAfter ours f (e ∷ g)
     state-one = as-events x (i ∷ h) ∙ ap (stateAfter ours f) (events-one h i e q)
 
-    octets-one : AllOctets (e ∷ g)
+    pub octets-one : AllOctets (e ∷ g)
     octets-one = subst AllOctets (events-one h i e q) (all-octets x (i ∷ h) o)
 
     offer-of : (c : ℕ) → Level (i ∷ h) c < 3 → (Level (i ∷ h) c ≡ Level h c → ⊥) → Offers f g (Level (i ∷ h) c) c e
@@ -352,7 +144,7 @@ module _ (x : Net) (begins : Begins (firstNet x)) where
   unfolding netAfter
   stays h i c o = same-address (netAfter x h) i c o
 
-  none-left : (h : List Item) (i : Item) → eventsBy (netAfter x h) i ≡ [] → stateOf (netAfter x (i ∷ h)) ≡ stateOf (netAfter x h)
+  pub none-left : (h : List Item) (i : Item) → eventsBy (netAfter x h) i ≡ [] → stateOf (netAfter x (i ∷ h)) ≡ stateOf (netAfter x h)
   unfolding netAfter
   none-left h i q = left-none (netAfter x h) i q
 
@@ -467,10 +259,10 @@ module _ (x : Net) (begins : Begins (firstNet x)) where
 
         still : Opened h c → Level (i ∷ h) c ≡ Level h c → Now
         still was same =
-            let a : addressAt (netAfter x (i ∷ h) .link) c ≡ addressAt (netAfter x h .link) c = stays h i c was in
+            let held : addressAt (netAfter x (i ∷ h) .link) c ≡ addressAt (netAfter x h .link) c = stays h i c was in
             let k = past was (subst (λ (l : ℕ). l < 3) same low) in
             lasts h i c (addressAt (netAfter x (i ∷ h) .link) c) (Level (i ∷ h) c) record { «open» = op; address = refl } refl
-            (subst (λ (u : ℕ). Granted x h c u (Level (i ∷ h) c)) (sym a) (subst (λ (l : ℕ). Granted x h c (addressAt (netAfter x h .link) c) l) (sym same) k))
+            (subst (λ (u : ℕ). Granted x h c u (Level (i ∷ h) c)) (sym held) (subst (λ (l : ℕ). Granted x h c (addressAt (netAfter x h .link) c) l) (sym same) k))
 
         no-connect : (e : Event) → stateOf (netAfter x (i ∷ h)) ≡ after (stateOf (netAfter x h)) e → e ≡ connect c → ⊥
         no-connect e s z =
@@ -489,10 +281,10 @@ module _ (x : Net) (begins : Begins (firstNet x)) where
             still (ap (λ (s : State). sessionOf (s .sessions) c .opened) (sym s) ∙ op) (ap (levelOn c) s)
         go (inr k) = by (k .0) (k .1) (ℕ-discrete (Level (i ∷ h) c) (Level h c))
 
-    pub granted :
+    granted-at :
         (h : List Item) → AllBytes h → (c : ℕ) → Opened h c → Level h c < 3 → Granted x h c (addressAt (netAfter x h .link) c) (Level h c)
-    granted [] o c op low = absurd (first-shut c op)
-    granted (i ∷ h) o c op low = next h i o c op low (granted h (o .1) c)
+    granted-at [] o c op low = absurd (first-shut c op)
+    granted-at (i ∷ h) o c op low = next h i o c op low (granted-at h (o .1) c)
 
     -- WHOEVER HAS A CONNECTION HAS CONNECTED on it, and it was its own ever since
     next-joined :
@@ -518,90 +310,18 @@ module _ (x : Net) (begins : Begins (firstNet x)) where
         go (inl q) = still (ap (λ (s : State). sessionOf (s .sessions) c .opened) (sym (none-left h i q)) ∙ op)
         go (inr k) = by (k .0) (k .1) (connects-it (netAfter x h) i c (k .0) (k .1))
 
-    pub joined : (h : List Item) (c : ℕ) → Opened h c → Joined x h c (addressAt (netAfter x h .link) c)
-    joined [] c op = absurd (first-shut c op)
-    joined (i ∷ h) c op = next-joined h i c op (joined h c)
+    joined-at : (h : List Item) (c : ℕ) → Opened h c → Joined x h c (addressAt (netAfter x h .link) c)
+    joined-at [] c op = absurd (first-shut c op)
+    joined-at (i ∷ h) c op = next-joined h i c op (joined-at h c)
 
-    -- a partner whose level suffices for w has the right
-    has-right : (h : List Item) → AllBytes h → (c a w : ℕ) → Partner (netAfter x h .link) c a → Level h c ≤ w → w < 3 → ByRight x h a w
-    has-right h o c a w u enough small =
-        record {
-          connection = c;
-          partner = u;
-          enough = enough;
-          granted = subst (λ (a : ℕ). Granted x h c a (Level h c)) (u .address) (granted h o c (u .«open») (omega (arith, enough, small)));
-        }
+-- EVERY LEVEL BELOW 3 OF A PARTNER'S CONNECTION WAS GIVEN TO IT, after any history from closed sessions on
+pub granted :
+    (x : Net) → Begins (firstNet x) → Closed (firstNet x) → (h : List Item) → AllBytes h →
+    (c a : ℕ) → Partner (netAfter x h .link) c a → levelAt (netAfter x h) c < 3 → Granted x h c a (levelAt (netAfter x h) c)
+granted x begins closed h o c a p low =
+    subst (λ (a : ℕ). Granted x h c a (levelAt (netAfter x h) c)) (p .address) (granted-at x begins closed h o c (p .«open») low)
 
-    -- an item after which a protected byte is another is a permitted write at a level that suffices
-    module _ (h : List Item) (i : Item) (o : AllBytes (i ∷ h)) (y : Location) (p : ℕ) (place : Place (x .sheet) y p) (small : writeLevel (x .sheet) y < 3)
-        (differs : getD (netAfter x (i ∷ h) .sheet) p 0 ≡ getD (netAfter x h .sheet) p 0 → ⊥) where
-      abbrev w : ℕ
-      w = writeLevel (x .sheet) y
-
-      wrote : Wrote f (eventsAfter x h) w (eventsBy (netAfter x h) i)
-      wrote = go (one-item (netAfter x h) i)
-        where
-          go : One (eventsBy (netAfter x h) i) → Wrote f (eventsAfter x h) w (eventsBy (netAfter x h) i)
-          go (inl q) = absurd (differs (ap (byteAt p) (none-left h i q)))
-          go (inr k) =
-              let n = ap (byteAt p) (state-one h i o (k .0) (k .1)) in
-              let m = ap (byteAt p) (as-events x h) in
-              let r = rightly (eventsAfter x h) (k .0) (octets-one h i o (k .0) (k .1)) y p place (λ s. differs (n ∙ s ∙ sym m)) in
-              record {
-                event = k .0;
-                is = k .1;
-                permits = r .permits;
-                acts = acting f (eventsAfter x h) (k .0) (r .permits) (omega (arith, r .enough, small));
-                enough = r .enough;
-              }
-
-      -- on the connection that it is of
-      on-partner : (a : ℕ) → Partner (netAfter x h .link) (wrote .acts .on) a → ByRight x h a w
-      on-partner a u =
-          let l : Level h (wrote .acts .on) ≡ actsAt f (eventsAfter x h) (wrote .event) = level-is h (o .1) (wrote .acts .on) ∙ wrote .acts .same in
-          has-right h (o .1) (wrote .acts .on) a w u (omega (arith, l, wrote .enough)) small
-
-    -- WHOEVER'S FRAME CHANGES A PROTECTED BYTE HAS THE RIGHT: it is the partner of a connection whose level suffices, and was given that level
-    pub by-right :
-        (h : List Item) (b : List ℕ) → AllBytes (frame b ∷ h) → (y : Location) (p : ℕ) → Place (x .sheet) y p → writeLevel (x .sheet) y < 3 →
-        (getD (netAfter x (frame b ∷ h) .sheet) p 0 ≡ getD (netAfter x h .sheet) p 0 → ⊥) →
-        ByRight x h (sourceOf b) (writeLevel (x .sheet) y)
-    by-right h b o y p place small differs =
-        let r = wrote h (frame b) o y p place small differs in
-        on-partner h (frame b) o y p place small differs (sourceOf b)
-        (whose-other (netAfter x h) b (r .acts .on) (r .event) (whose (netAfter x h) b (r .acts .on) (r .event) (r .is) (r .acts .own)) (r .acts .no-connect))
-
-    -- AND WHATEVER CHANGES ONE, a restore that the host asks for too, is by somebody's right
-    pub by-some-right :
-        (h : List Item) (i : Item) → AllBytes (i ∷ h) → (y : Location) (p : ℕ) → Place (x .sheet) y p → writeLevel (x .sheet) y < 3 →
-        (getD (netAfter x (i ∷ h) .sheet) p 0 ≡ getD (netAfter x h .sheet) p 0 → ⊥) →
-        (a : ℕ) × ByRight x h a (writeLevel (x .sheet) y)
-    unfolding permitted
-    by-some-right h (frame b) o y p place small differs = (sourceOf b, by-right h b o y p place small differs)
-    by-some-right h (press on) o y p place small differs =
-        let r = wrote h (press on) o y p place small differs in never (unpermitted f (eventsAfter x h) (r .event) (button on) (sym (r .is)) refl ∙ r .permits)
-    by-some-right h (timeOut c) o y p place small differs =
-        let r = wrote h (timeOut c) o y p place small differs in never (unpermitted f (eventsAfter x h) (r .event) (disconnect c) (sym (r .is)) refl ∙ r .permits)
-    by-some-right h (giveBack c n st) o y p place small differs =
-        let r = wrote h (giveBack c n st) o y p place small differs in (
-          addressAt (netAfter x h .link) (r .acts .on),
-          on-partner h (giveBack c n st) o y p place small differs (addressAt (netAfter x h .link) (r .acts .on))
-              record { «open» = opened-is h (o .1) (r .acts .on) (restored-live f (eventsAfter x h) c n st (r .event) (sym (r .is)) (r .permits) (r .acts .on) (r .acts .own)); address = refl },
-        )
-
-    -- WHO HAS OFFERED NO KEY of a level up to l changes no byte whose write level is at most l, whatever others have offered
-    pub without-key :
-        (l : ℕ) → l < 3 → (h : List Item) (b : List ℕ) → AllBytes (frame b ∷ h) → NoKeyFrom x (sourceOf b) l h →
-        (y : Location) (p : ℕ) → Place (x .sheet) y p → writeLevel (x .sheet) y ≤ l →
-        getD (netAfter x (frame b ∷ h) .sheet) p 0 ≡ getD (netAfter x h .sheet) p 0
-    without-key l low h b o none y p place w = go (ℕ-discrete _ _)
-      where
-        refuted : ByRight x h (sourceOf b) (writeLevel (x .sheet) y) → ⊥
-        refuted r =
-            let k = r .granted in
-            subst (NoKeyFrom x (sourceOf b) l) (k .within) (dropped x (sourceOf b) l (k .later) h none) .0
-            (k .offered .source) (levelAt (netAfter x h) (r .connection)) (omega (arith, r .enough)) (k .offered .key)
-
-        go : Dec (getD (netAfter x (frame b ∷ h) .sheet) p 0 ≡ getD (netAfter x h .sheet) p 0) → getD (netAfter x (frame b ∷ h) .sheet) p 0 ≡ getD (netAfter x h .sheet) p 0
-        go (yes e) = e
-        go (no n) = absurd (refuted (by-right h b o y p place (omega arith) n))
+-- WHOEVER HAS A CONNECTION HAS CONNECTED on it, and it was its own ever since
+pub joined :
+    (x : Net) → Begins (firstNet x) → Closed (firstNet x) → (h : List Item) → (c a : ℕ) → Partner (netAfter x h .link) c a → Joined x h c a
+joined x begins closed h c a p = subst (Joined x h c) (p .address) (joined-at x begins closed h c (p .«open»))

@@ -1,7 +1,7 @@
--- AN ANSWER IS NEVER LOST to 46 or 47: whatever a request answers is sent, whole, in a frame that reads.
+-- AN ANSWER IS NEVER LOST to 46 or 47: whatever a request answers is sent, whole, in a frame that reads, and that means data in the mode of the request.
 -- Assumes nothing.
 use Prim.Native.Nat.{ℕ, _+_, _-_, _≤_, _<_}
-use mathlib.Core.Path.{_≡_, refl, ap, _∙_}
+use mathlib.Core.Path.{_≡_, refl, ap, subst, _∙_}
 use mathlib.Core.List.{List, [], _∷_}
 use mathlib.Core.Bool.{Bool, true, false, cond}
 use lib.ListN.{length, take}
@@ -17,18 +17,22 @@ use Rattle.sheet.specs.Head as head
 use Rattle.device.specs.Sessions.{sessionFor}
 use Rattle.device.specs.Events.{requestOf}
 use Rattle.device.proofs.promises.Demand1.{at-most-16}
-use Rattle.cemi.specs.Read.{fieldsIn, readFrame}
+use Rattle.cemi.specs.Read.{fieldsIn, frameIn, readFrame}
+use Rattle.cemi.specs.Means.{Means}
 use Rattle.cemi.specs.Write.{encoded, frameOf}
 use Rattle.cemi.specs.Answering.{answering}
 use Rattle.cemi.specs.declared.Fields.{Fields}
 use Rattle.cemi.specs.declared.Got.the-variants as got
-use Rattle.cemi.proofs.Answers.{answer-writable, answer-fits}
+use Rattle.cemi.specs.declared.Meaning.the-variants.{Data}
+use Rattle.cemi.proofs.Answers.{answer-writable, answer-fits, answer-means}
 use Rattle.cemi.proofs.Backs.{length-encoded, read-back}
 use Rattle.link.specs.Hearing.{ownOf, heardOf}
 use Rattle.link.specs.Serving.{most, longest, apduOf, answerFrame, Deed, deedOf, serveOf, ServedFrame}
+use Rattle.link.specs.Due.{HeardDue, toGroup, toAll, plain, partners}
 use Rattle.link.specs.declared.Link.{Link}
 use Rattle.link.specs.declared.Served.{Served}
 use Rattle.link.specs.declared.Arrived.the-variants.{Request}
+use Rattle.link.proofs.Dues.{heard-due}
 
 -- the own address fits its field
 own-fits : (s : List ℕ) → Octets s → ownOf s < 65536
@@ -38,6 +42,13 @@ own-fits s o = go (leb 18 (length s))
     go : (t : Bool) → cond t (head.address of s) 0 < 65536
     go true = num-below s 16 2 o
     go false = omega arith
+
+-- a frame that is due as a request means data in its mode
+request-means : {k : Link} {own mode c group : ℕ} {b : List ℕ} → HeardDue k own b (Request mode c group) → Means (frameIn b) (Data mode)
+request-means (toGroup o m) = m
+request-means (toAll o m) = m
+request-means (plain o m) = m
+request-means (partners c o m h) = m
 
 module _ (k : Link) (sequence : ℕ) (b s o : List ℕ) (r : Served) (s′ o′ : List ℕ) (call : ServedFrame k sequence b s o r s′ o′)
     (room : longest ≤ length o) (mode c group : ℕ) (heard : heardOf k (ownOf s) b ≡ Request mode c group) where
@@ -89,6 +100,12 @@ module _ (k : Link) (sequence : ℕ) (b s o : List ℕ) (r : Served) (s′ o′ 
             (answer-fits (fieldsIn b) (ownOf s) mode sequence (length answer) some few (own-fits s (call .sheetBytes)) (num-below b _ 2 (call .frameBytes)) (num-below b _ 2 (call .frameBytes)))
             (answer-writable (fieldsIn b) (ownOf s) mode sequence (length answer) some few),
       )
+
+  -- AND THEY MEAN DATA IN THE MODE OF THE REQUEST
+  pub answer-mode : Means (frameOf fields [] answer) (Data mode)
+  answer-mode =
+      answer-means (frameIn b) (ownOf s) sequence (frameOf fields [] answer) mode refl
+      (request-means (subst (HeardDue k (ownOf s) b) heard (heard-due k (ownOf s) b)))
 
   -- NO ANSWER: the buffer is as found
   pub none-sent : answer ≡ [] → (r .count ≡ 0) × (o′ ≡ o)

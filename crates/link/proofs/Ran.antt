@@ -15,7 +15,7 @@ use Rattle.link.specs.Granted.{ByRight, NoKeyFrom}
 use Rattle.link.specs.Runs.{Goes, serves, presses, timesOut, givesBack, Ran, begin, next}
 use Rattle.link.proofs.Kept.{frames-keep, all-heard, keyless-heard}
 use Rattle.link.proofs.Apart.{apart}
-use Rattle.link.proofs.Grants.{by-right, without-key}
+use Rattle.link.proofs.Rights.{by-right, without-key}
 use Rattle.link.proofs.Tied.{served-is}
 
 -- ONE CALL

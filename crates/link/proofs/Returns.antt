@@ -5,7 +5,7 @@ use mathlib.Core.Path.{_≡_, sym, ap, _∙_}
 use mathlib.Core.Bool.{Bool, true, false}
 use mathlib.Core.List.{List}
 use lib.ListN.{length}
-use borrow.Author.Tests.{lt-ltb, le-ltb, lt-leb, le-leb, eq-eqb, ne-eqb}
+use borrow.Author.Tests.{lt-ltb, le-ltb, lt-leb, le-leb}
 use Rattle.octets.specs.Bytes.{IsNum}
 use Rattle.octets.specs.Octets.{ReadFrom}
 use Rattle.cemi.specs.Read.{readFrame}
@@ -16,7 +16,7 @@ use Rattle.cemi.specs.declared.Got.the-variants as got
 use Rattle.cemi.specs.declared.Meaning.{Meaning}
 use Rattle.cemi.specs.declared.Meaning.the-variants as meaning
 use Rattle.link.specs.Partners.{nobody, placeOf, freeOf, placeFor}
-use Rattle.link.specs.Hearing.{ownOf, forUs, onPlace, connects, disconnects, meant, fromOther, judged, heardOf, heardGot}
+use Rattle.link.specs.Hearing.{ownOf, forUs, toItself, onPlace, connects, disconnects, meant, fromOther, judged, heardOf, heardGot}
 use Rattle.link.specs.declared.Link.{Link}
 use Rattle.link.specs.declared.Arrived.{Arrived}
 use Rattle.link.specs.declared.Arrived.the-variants.{Nothing}
@@ -57,16 +57,16 @@ module _ (k : Link) (source group : ℕ) (m : Meaning) where
   of-refused n p e f = rw e (ap (Nothing n) f)
 
 module _ (k : Link) (own : ℕ) where
-  module _ (f : Frame) where
-    pub of-own : f .fields .source ≡ own → Nothing 65 nobody ≡ fromOther k own f
+  module _ (f : Frame) (t : Bool) (e : t ≡ toItself (f .fields .control2) (f .fields .source) own) where
+    pub of-own : t ≡ true → Nothing 65 nobody ≡ fromOther k own f
     unfolding fromOther
-    of-own e = simp (eq-eqb (f .fields .source) own e)
+    of-own y = rw (sym e, y)
 
     pub of-other :
-        (m : Meaning) (r : Arrived) → (f .fields .source ≡ own → ⊥) → m ≡ meaningOf f →
+        (m : Meaning) (r : Arrived) → t ≡ false → m ≡ meaningOf f →
         r ≡ meant k (f .fields .source) (f .fields .destination) m → r ≡ fromOther k own f
     unfolding fromOther
-    of-other m r n g h = let t = ne-eqb (f .fields .source) own n in rw t (h ∙ ap (meant k (f .fields .source) (f .fields .destination)) g)
+    of-other m r n g h = rw (sym e, n) (h ∙ ap (meant k (f .fields .source) (f .fields .destination)) g)
 
   module _ (f : Frame) (t : Bool) (e : t ≡ forUs (f .fields .control2) (f .fields .destination) own) where
     pub of-ours : (r : Arrived) → t ≡ true → r ≡ fromOther k own f → r ≡ judged k own f

@@ -24,7 +24,7 @@ use Rattle.cemi.specs.declared.Got.the-variants as got
 use Rattle.cemi.specs.declared.Meaning.{Meaning}
 use Rattle.cemi.specs.declared.Meaning.the-variants as meaning
 use Rattle.link.specs.Partners.{nobody, sits, addressAt, placeOf, freeOf, placeFor}
-use Rattle.link.specs.Hearing.{ownOf, forUs, onPlace, connects, disconnects, meant, fromOther, judged, heardGot, heardOf}
+use Rattle.link.specs.Hearing.{ownOf, forUs, toItself, onPlace, connects, disconnects, meant, fromOther, judged, heardGot, heardOf}
 use Rattle.link.specs.Serving.{longest, apduOf, Deed, leaving, deedOf, serveOf}
 use Rattle.link.specs.Net.{Net, sourceOf, stateOf, heardIn, eventsOf, addressBy, frame, eventsBy, netBy}
 use Rattle.link.specs.Whose.{Partner, Whose, partner, newcomer}
@@ -86,7 +86,7 @@ module _ (k : Link) (own : ℕ) (b : List ℕ) where
       (some : (group : ℕ) → P (meant k (sourceOf b) group (meaningOf (frameIn b)))) where
     judged-by : P (judged k own (frameIn b))
     unfolding judged fromOther
-    judged-by = by-test P bits _ _ (λ t. by-test P (eqb (sourceOf b) own) _ _ (λ u. mine) (λ u. some (fieldsIn b .destination))) (λ t. foreign)
+    judged-by = by-test P bits _ _ (λ t. by-test P (toItself (fieldsIn b .control2) (sourceOf b) own) _ _ (λ u. mine) (λ u. some (fieldsIn b .destination))) (λ t. foreign)
 
     pub heard-by : P (heardOf k own b)
     unfolding heardOf heardGot readFrame
@@ -102,22 +102,28 @@ module _ (k : Link) (own : ℕ) (b : List ℕ) where
   other-device i n = go (eqb refusal 0)
     where
       go : (t : Bool) → (n : ℕ) × (heardGot k own (cond t (got.Is (frameIn b)) (got.Refused refusal)) ≡ Nothing n nobody)
-      go true = (60, simp (lt-leb 128 (fieldsIn b .control2) i, ne-eqb (fieldsIn b .destination) own n, ne-eqb own (fieldsIn b .destination) (λ e. n (sym e))))
+      go true = (60, simp (lt-leb 128 (fieldsIn b .control2) i, ne-eqb (fieldsIn b .destination) own n))
       go false = (refusal, refl)
 
-  -- under this device's own address
+  -- from this device to one alone
   abbrev Silent : Arrived → Type 0
   Silent r = (n : ℕ) × (r ≡ Nothing n nobody)
 
-  own-judged : sourceOf b ≡ own → Silent (judged k own (frameIn b))
-  unfolding judged fromOther
-  own-judged e =
-      by-test Silent bits _ _ (λ t. by-test Silent (eqb (sourceOf b) own) _ _ (λ u. (65, refl)) (λ u. never (sym u ∙ eq-eqb (sourceOf b) own e))) (λ t. (60, refl))
+  its-own : fieldsIn b .control2 < 128 → sourceOf b ≡ own → toItself (fieldsIn b .control2) (sourceOf b) own ≡ true
+  unfolding toItself
+  its-own i e = simp (lt-leb 128 (fieldsIn b .control2) i, eq-eqb (sourceOf b) own e)
 
-  own-device : sourceOf b ≡ own → Silent (heardOf k own b)
+  own-judged : fieldsIn b .control2 < 128 → sourceOf b ≡ own → Silent (judged k own (frameIn b))
+  unfolding judged fromOther
+  own-judged i e =
+      by-test Silent bits _ _
+      (λ t. by-test Silent (toItself (fieldsIn b .control2) (sourceOf b) own) _ _ (λ u. (65, refl)) (λ u. never (sym u ∙ its-own i e)))
+      (λ t. (60, refl))
+
+  own-device : fieldsIn b .control2 < 128 → sourceOf b ≡ own → Silent (heardOf k own b)
   unfolding heardOf heardGot readFrame
-  own-device e =
-      by-test (λ (g : Got). Silent (heardGot k own g)) (eqb refusal 0) (got.Is (frameIn b)) (got.Refused refusal) (λ t. own-judged e) (λ t. (refusal, refl))
+  own-device i e =
+      by-test (λ (g : Got). Silent (heardGot k own g)) (eqb refusal 0) (got.Is (frameIn b)) (got.Refused refusal) (λ t. own-judged i e) (λ t. (refusal, refl))
 
 -- what asks for nothing asks for no restart
 isRestarting : Wish → Bool
@@ -249,17 +255,18 @@ module _ (x : Net) (b : List ℕ) where
   unfolding heardIn
   elsewhere i n = let r = other-device (x .link) (ownOf (x .sheet)) b i n in silent (r .0) (r .1)
 
-  -- NOR DOES A FRAME UNDER THE DEVICE'S OWN ADDRESS
-  pub itself : sourceOf b ≡ ownOf (x .sheet) → (eventsBy x (frame b) ≡ []) × (netBy x (frame b) ≡ x)
+  -- NOR DOES ONE UNDER THE DEVICE'S OWN ADDRESS, to a group and to all apart
+  pub itself : fieldsIn b .control2 < 128 → sourceOf b ≡ ownOf (x .sheet) → (eventsBy x (frame b) ≡ []) × (netBy x (frame b) ≡ x)
   unfolding heardIn
-  itself e = let r = own-device (x .link) (ownOf (x .sheet)) b e in silent (r .0) (r .1)
+  itself i e = let r = own-device (x .link) (ownOf (x .sheet)) b i e in silent (r .0) (r .1)
 
 -- NOR IS EITHER ANSWERED: link, sheet and buffer are as found, whatever the room
 pub itself-served :
-    (k : Link) (sequence : ℕ) (b s : List ℕ) (room : ℕ) → sourceOf b ≡ ownOf s → (n : ℕ) × (serveOf k sequence b s room ≡ leaving k s n nobody)
+    (k : Link) (sequence : ℕ) (b s : List ℕ) (room : ℕ) → fieldsIn b .control2 < 128 → sourceOf b ≡ ownOf s →
+    (n : ℕ) × (serveOf k sequence b s room ≡ leaving k s n nobody)
 unfolding serveOf deedOf
-itself-served k sequence b s room e =
-    let r = own-device k (ownOf s) b e in
+itself-served k sequence b s room i e =
+    let r = own-device k (ownOf s) b i e in
     by-test (λ (d : Deed). (n : ℕ) × (d ≡ leaving k s n nobody)) (ltb room longest) _ _ (λ t. (64, refl)) (λ t. (r .0, rw (r .1)))
 
 pub elsewhere-served :

@@ -11,7 +11,7 @@ use Rattle.judge.specs.declared.Session.{Session}
 use Rattle.cemi.specs.Read.{fieldsIn, frameIn, standardOf, refusalOf, readFrame}
 use Rattle.cemi.specs.Meaning.{toGroup, control, numbered, toOne, meaningOf}
 use Rattle.link.specs.Partners.{nobody, placeOf, freeOf, placeFor}
-use Rattle.link.specs.Hearing.{forUs, onPlace, connects, disconnects, meant, fromOther, judged, heardGot, heardOf}
+use Rattle.link.specs.Hearing.{forUs, toItself, onPlace, connects, disconnects, meant, fromOther, judged, heardGot, heardOf}
 use Rattle.link.specs.Net.{sourceOf}
 use Rattle.link.specs.Due.{HeardDue}
 use Rattle.link.specs.declared.Link.{Link}
@@ -59,7 +59,7 @@ abbrev hopsCounted : Hears
 hopsCounted k own b = cond (leb 128 (fieldsIn b .control2) && not (eqb (fieldsIn b .control2) 0xE0)) (Nothing 60 nobody) (heardOf k own b)
 
 pub hops-counted : Duly hopsCounted → ⊥
-unfolding told heardOf heardGot judged forUs fromOther meant onPlace connects disconnects placeOf placeFor freeOf readFrame refusalOf standardOf meaningOf toGroup toOne control numbered numAt
+unfolding told heardOf heardGot judged forUs fromOther toItself meant onPlace connects disconnects placeOf placeFor freeOf readFrame refusalOf standardOf meaningOf toGroup toOne control numbered numAt
 hops-counted = refuted hopsCounted two (by 0xB0 0xD0 0x12 0x04 0x08 0x01 0x00) (λ e. let z : 60 ≡ 1255 = e in omega arith)
 
 -- NO DATA AND NO DISCONNECT OF CONNECTION 0
@@ -73,11 +73,11 @@ abbrev firstUnheard : Hears
 firstUnheard k own b = notFirst (heardOf k own b)
 
 pub first-unheard : Duly firstUnheard → ⊥
-unfolding told heardOf heardGot judged forUs fromOther meant onPlace connects disconnects placeOf placeFor freeOf readFrame refusalOf standardOf meaningOf toGroup toOne control numbered numAt
+unfolding told heardOf heardGot judged forUs fromOther toItself meant onPlace connects disconnects placeOf placeFor freeOf readFrame refusalOf standardOf meaningOf toGroup toOne control numbered numAt
 first-unheard = refuted firstUnheard two (by 0xB0 0x60 0x11 0xFF 0x11 0x05 0x40) (λ e. let z : 61 ≡ 1768 = e in omega arith)
 
 pub first-kept : Duly firstUnheard → ⊥
-unfolding told heardOf heardGot judged forUs fromOther meant onPlace connects disconnects placeOf placeFor freeOf readFrame refusalOf standardOf meaningOf toGroup toOne control numbered numAt
+unfolding told heardOf heardGot judged forUs fromOther toItself meant onPlace connects disconnects placeOf placeFor freeOf readFrame refusalOf standardOf meaningOf toGroup toOne control numbered numAt
 first-kept = refuted firstUnheard two (by 0xB0 0x60 0x11 0xFF 0x11 0x05 0x81) (λ e. let z : 63 ≡ 4000 = e in omega arith)
 
 -- A PARTNER'S DATA WITHOUT A CONNECTION AT ITS LEVEL, on its connection
@@ -91,7 +91,7 @@ abbrev promoted : Hears
 promoted k own b = promotes (placeOf k (sourceOf b)) (heardOf k own b)
 
 pub partner-promoted : Duly promoted → ⊥
-unfolding told heardOf heardGot judged forUs fromOther meant onPlace connects disconnects placeOf placeFor freeOf readFrame refusalOf standardOf meaningOf toGroup toOne control numbered numAt
+unfolding told heardOf heardGot judged forUs fromOther toItself meant onPlace connects disconnects placeOf placeFor freeOf readFrame refusalOf standardOf meaningOf toGroup toOne control numbered numAt
 partner-promoted = refuted promoted two (by 0xB0 0x60 0x12 0x03 0x11 0x05 0x03) (λ e. let z : 1769 ≡ 1767 = e in omega arith)
 
 -- THE DEVICE'S OWN ADDRESS AS ANY OTHER
@@ -100,8 +100,16 @@ itselfHeard k own b =
     cond (eqb (sourceOf b) own && eqb (fieldsIn b .destination) own) (meant k (sourceOf b) (fieldsIn b .destination) (meaningOf (frameIn b))) (heardOf k own b)
 
 pub itself-heard : Duly itselfHeard → ⊥
-unfolding told heardOf heardGot judged forUs fromOther meant onPlace connects disconnects placeOf placeFor freeOf readFrame refusalOf standardOf meaningOf toGroup toOne control numbered numAt
+unfolding told heardOf heardGot judged forUs fromOther toItself meant onPlace connects disconnects placeOf placeFor freeOf readFrame refusalOf standardOf meaningOf toGroup toOne control numbered numAt
 itself-heard = refuted itselfHeard none (by 0xB0 0x60 0x11 0x05 0x11 0x05 0x80) (λ e. let z : 3000 ≡ 65 = e in omega arith)
+
+-- NOTHING UNDER THE DEVICE'S OWN ADDRESS, not to all either: programming is lost between two that are factory-new
+abbrev ownUnheard : Hears
+ownUnheard k own b = cond (eqb (sourceOf b) own && leb 128 (fieldsIn b .control2)) (Nothing 65 nobody) (heardOf k own b)
+
+pub own-unheard : Duly ownUnheard → ⊥
+unfolding told heardOf heardGot judged forUs fromOther toItself meant onPlace connects disconnects placeOf placeFor freeOf readFrame refusalOf standardOf meaningOf toGroup toOne control numbered numAt
+own-unheard = refuted ownUnheard none (by 0xB0 0xE0 0x11 0x05 0x00 0x00 0x00) (λ e. let z : 65 ≡ 1511 = e in omega arith)
 
 -- WITH BOTH PLACES FREE THE SECOND FIRST
 abbrev second : Arrived → Arrived
@@ -114,7 +122,7 @@ abbrev secondFirst : Hears
 secondFirst k own b = cond (not (k .sessions .first .opened) && not (k .sessions .second .opened)) (second (heardOf k own b)) (heardOf k own b)
 
 pub second-first : Duly secondFirst → ⊥
-unfolding told heardOf heardGot judged forUs fromOther meant onPlace connects disconnects placeOf placeFor freeOf readFrame refusalOf standardOf meaningOf toGroup toOne control numbered numAt
+unfolding told heardOf heardGot judged forUs fromOther toItself meant onPlace connects disconnects placeOf placeFor freeOf readFrame refusalOf standardOf meaningOf toGroup toOne control numbered numAt
 second-first = refuted secondFirst none (by 0xB0 0x60 0x11 0xFF 0x11 0x05 0x80) (λ e. let z : 3001 ≡ 3000 = e in omega arith)
 
 -- LOW PRIORITY UNHEARD
@@ -122,5 +130,5 @@ abbrev urgentAlone : Hears
 urgentAlone k own b = cond (eqb (fieldsIn b .control1) 0xBC) (Nothing 42 nobody) (heardOf k own b)
 
 pub urgent-alone : Duly urgentAlone → ⊥
-unfolding told heardOf heardGot judged forUs fromOther meant onPlace connects disconnects placeOf placeFor freeOf readFrame refusalOf standardOf meaningOf toGroup toOne control numbered numAt
+unfolding told heardOf heardGot judged forUs fromOther toItself meant onPlace connects disconnects placeOf placeFor freeOf readFrame refusalOf standardOf meaningOf toGroup toOne control numbered numAt
 urgent-alone = refuted urgentAlone two (by 0xBC 0xE0 0x12 0x04 0x08 0x01 0x00) (λ e. let z : 42 ≡ 1255 = e in omega arith)

@@ -1,8 +1,8 @@
--- WHAT A FRAME IS TO THE DEVICE, as plain propositions: a constructor a case. What a frame says of itself is cemi's: `Standard` (it reads), `Due` (why it does not), `Means` (what it means, of whatever hop count, priority, repeat bit and additional information).
+-- WHAT A FRAME IS TO THE DEVICE, as plain propositions: a constructor a case.
+-- What a frame says of itself is cemi's: `Standard` (it reads), `Due` (why it does not), `Means` (what it means, of whatever hop count, priority, repeat bit and additional information).
 -- Assumes nothing.
 use Prim.Native.Nat.{ℕ}
 use mathlib.Core.Path.{_≡_}
-use mathlib.Core.Logic.{_⊎_}
 use mathlib.Core.Bool.{true, false}
 use mathlib.Core.List.{List}
 use lib.ListN.{length}
@@ -35,25 +35,21 @@ from b = fieldsIn b .source
 abbrev pub to : List ℕ → ℕ
 to b = fieldsIn b .destination
 
--- the bytes are a standard frame; and it is to a group, which every device hears, or to the own address
+-- the bytes are a standard frame
 abbrev pub Reads : List ℕ → Type 0
 Reads b = Standard (length b) (infoLength b) (fieldsIn b) (stated of b)
 
-pub record ForUs (own : ℕ) (b : List ℕ) : Type 0 where
-  pub reads : Reads b
-  pub destination : Group (frameIn b) ⊎ (to b ≡ own)
-
--- and from another device
-pub record Ours (own : ℕ) (b : List ℕ) : Type 0 where
-  pub forUs : ForUs own b
-  pub other : from b ≡ own → ⊥
+-- A FRAME THAT IS HEARD: to a group or to all, from whomever; or to the device alone, from another
+pub data Ours (own : ℕ) (b : List ℕ) : Type 0 where
+  shared : Reads b → Group (frameIn b) → Ours own b
+  alone : Reads b → Individual (frameIn b) → to b ≡ own → (from b ≡ own → ⊥) → Ours own b
 
 -- WHAT IS DUE for a frame b to the device with the address `own` and the link k
 pub data HeardDue (k : Link) (own : ℕ) (b : List ℕ) : Arrived → Type 0 where
-  -- no standard frame, 40 to 43; to another device, 60; under the own address, 65
+  -- no standard frame, 40 to 43; to another device, 60; from itself to itself alone, 65
   unread : (n : ℕ) → (n ≡ 0 → ⊥) → Due (length b) (infoLength b) (fieldsIn b) (stated of b) n → HeardDue k own b (Nothing n nobody)
   elsewhere : Reads b → Individual (frameIn b) → (to b ≡ own → ⊥) → HeardDue k own b (Nothing 60 nobody)
-  itself : ForUs own b → from b ≡ own → HeardDue k own b (Nothing 65 nobody)
+  itself : Reads b → Individual (frameIn b) → to b ≡ own → from b ≡ own → HeardDue k own b (Nothing 65 nobody)
   -- data without a connection, from whomever: a request of nobody's, a partner's too
   toGroup : Ours own b → Means (frameIn b) (meaning.Data multicast) → HeardDue k own b (Request multicast nobody (to b))
   toAll : Ours own b → Means (frameIn b) (meaning.Data broadcast) → HeardDue k own b (Request broadcast nobody (to b))

@@ -36,7 +36,8 @@ pub record Offered (y : Net) (b : List ℕ) (c a l : ℕ) : Type 0 where
   pub heard : heardIn y b ≡ Request connected c group
   pub key : asks (apduOf b) ≡ offerKey (head.key l of y .sheet)
 
--- THE LEVEL l OF CONNECTION c WAS GIVEN TO THE ADDRESS a: by a frame of h that offered it; and after that frame and after every item since, c was a's and at that level. So no connect came between, which would have set level 3
+-- THE LEVEL l OF CONNECTION c WAS GIVEN TO THE ADDRESS a: by a frame of h that offered it; and after that frame and after every item since, c was a's and at that level.
+-- So no connect came between, which would have set level 3
 pub record Granted (x : Net) (h : List Item) (c a l : ℕ) : Type 0 where
   pub later : ℕ
   pub offer : List ℕ

@@ -1,7 +1,7 @@
 -- THE EVENT OF A FRAME, or the number of why there is none.
 -- Assumes nothing.
 use Prim.Native.Nat.{ℕ, _+_}
-use mathlib.Core.Bool.{Bool, cond, _||_}
+use mathlib.Core.Bool.{Bool, cond, not, _&&_, _||_}
 use mathlib.Core.List.{List}
 use lib.ListN.{length}
 use lib.Dec.{leb, eqb}
@@ -28,6 +28,10 @@ ownOf s = cond (leb (head.address .at + head.address .width) (length s)) (head.a
 unfoldable pub forUs : ℕ → ℕ → ℕ → Bool
 forUs control2 destination own = leb 128 control2 || eqb destination own
 
+-- a frame to the device alone is its own if it has its address for source; to a group anybody's is another's
+unfoldable pub toItself : ℕ → ℕ → ℕ → Bool
+toItself control2 source own = not (leb 128 control2) && eqb source own
+
 -- data in a mode from the address that has connection c: connected data is a partner's alone, else 61
 unfoldable pub onPlace : ℕ → ℕ → ℕ → Arrived
 onPlace mode c group =
@@ -48,10 +52,11 @@ meant k source group meaning.Connect = connects (placeFor k source)
 meant k source group meaning.Disconnect = disconnects (placeOf k source)
 meant k source group (meaning.Refused n) = Nothing n (placeOf k source)
 
--- a frame that reads and is for this device: 65 under its own address, which is nobody else's
+-- a frame that reads and is for this device: 65 from itself to itself alone
 unfoldable pub fromOther : Link → ℕ → Frame → Arrived
 fromOther k own f =
-    cond (eqb (f .fields .source) own) (Nothing 65 nobody) (meant k (f .fields .source) (f .fields .destination) (meaningOf f))
+    cond (toItself (f .fields .control2) (f .fields .source) own) (Nothing 65 nobody)
+    (meant k (f .fields .source) (f .fields .destination) (meaningOf f))
 
 -- a frame that reads: 60 for another device, before all else
 unfoldable pub judged : Link → ℕ → Frame → Arrived

@@ -7,7 +7,7 @@ use cemi::Frame;
 use cemi::Got;
 use cemi::Meaning;
 ghost use mathlib.Core.Path.{_≡_};
-ghost use Rattle.link.specs.Hearing.{ownOf, forUs, onPlace, connects, disconnects, meant, fromOther, judged, heardOf};
+ghost use Rattle.link.specs.Hearing.{ownOf, forUs, toItself, onPlace, connects, disconnects, meant, fromOther, judged, heardOf};
 
 // The address of this device, as the sheet has it; 0 where the sheet ends before it.
 pub fn own_of(sheet: &[u8]) -> u16
@@ -27,6 +27,16 @@ fn is_for_us(control2: u8, destination: u16, own: u16) -> bool
         return true;
     }
     destination == own
+}
+
+// Whether a frame for the device with this address, from this source, is from itself to itself alone.
+fn is_to_itself(control2: u8, source: u16, own: u16) -> bool
+    ensures { λ r. ⌜ r ≡ toItself control2 source own ⌝ }
+{
+    if 128 <= control2 {
+        return false;
+    }
+    source == own
 }
 
 // Data: connected data is its partner's alone.
@@ -53,12 +63,12 @@ fn data(mode: u8, place: u8, group: u16) -> Arrived
     }
 }
 
-// A connect, for the place that there is.
-fn connect(place: u8) -> Arrived
-    ensures { λ r. ⌜ r ≡ connects place ⌝ }
+// A connect, for the place that it is given.
+fn connect(given: u8) -> Arrived
+    ensures { λ r. ⌜ r ≡ connects given ⌝ }
 {
-    if place < places::KNOWN {
-        return Arrived::Connect(place);
+    if given < places::KNOWN {
+        return Arrived::Connect(given);
     }
     Arrived::Nothing {
         number: 62,
@@ -66,12 +76,12 @@ fn connect(place: u8) -> Arrived
     }
 }
 
-// A disconnect, by whoever has a place.
-fn disconnect(place: u8) -> Arrived
-    ensures { λ r. ⌜ r ≡ disconnects place ⌝ }
+// A disconnect, by whoever holds a place.
+fn disconnect(held: u8) -> Arrived
+    ensures { λ r. ⌜ r ≡ disconnects held ⌝ }
 {
-    if place < places::KNOWN {
-        return Arrived::Disconnect(place);
+    if held < places::KNOWN {
+        return Arrived::Disconnect(held);
     }
     Arrived::Nothing {
         number: 63,
@@ -95,12 +105,12 @@ fn means(link: Link, f: Fields, m: Meaning) -> Arrived
     }
 }
 
-// A frame for this device: nobody else has its address.
+// A frame for this device: what is to it alone under its own address is no event.
 fn from_other(link: Link, own: u16, f: Frame) -> Arrived
     ensures { λ r. ⌜ r ≡ fromOther link own f ⌝ }
 {
     let fields = f.fields;
-    if fields.source == own {
+    if is_to_itself(fields.control2, fields.source, own) {
         return Arrived::Nothing {
             number: 65,
             connection: places::NOBODY,

@@ -167,6 +167,10 @@ pub enum Fault {
     ForAnotherLast,
     /// The answer has the hop count of the request.
     HopsCopied,
+    /// What comes from the device's own address to itself is heard as anybody's.
+    HearsItself,
+    /// What comes from the device's own address to a group or to all is not heard.
+    OwnUnheard,
 }
 
 impl Fault {
@@ -264,7 +268,7 @@ impl Fault {
     ];
 
     /// Those of serving frames.
-    pub const LINK: [Fault; 9] = [
+    pub const LINK: [Fault; 11] = [
         Fault::StrangerActs,
         Fault::ThirdTakesPlace,
         Fault::AnswersForAnother,
@@ -274,6 +278,8 @@ impl Fault {
         Fault::SecondConnectMoves,
         Fault::ForAnotherLast,
         Fault::HopsCopied,
+        Fault::HearsItself,
+        Fault::OwnUnheard,
     ];
 
     /// Those by which one tool meets what the other did, though that changed no byte and was no restart.

@@ -56,6 +56,10 @@ pub fn heard(
     if foreign && fault != Fault::AnswersForAnother && !late {
         return Err(why(60));
     }
+    let itself = f.source == u64::from(own) && fault != Fault::HearsItself;
+    if itself && (!to_group || fault == Fault::OwnUnheard) {
+        return Err(why(65));
+    }
     let open = |c: &u8| sessions[*c as usize].open;
     let partner = (0..2).find(|c| open(c) && u64::from(addresses[*c as usize]) == f.source);
     let closed = (0..2).find(|c| !open(c));

@@ -160,7 +160,7 @@ pub const TRACE: [(&str, &[usize]); 2] = [
 /// Why a frame is no event, of hearing and of serving; 0 if it is one. And the outcomes of the events served: whoever is heard
 /// on a connection has it, so 7 is none of them, and the modes and the answer buffer are the link's own.
 pub const LINK: [(&str, &[usize]); 3] = [
-    ("hearing", &[0, 40, 41, 42, 43, 44, 45, 60, 61, 62, 63]),
-    ("serving", &[0, 40, 41, 42, 43, 44, 45, 60, 61, 62, 63, 64]),
+    ("hearing", &[0, 40, 41, 42, 43, 44, 45, 60, 61, 62, 63, 65]),
+    ("serving", &[0, 40, 41, 42, 43, 44, 45, 60, 61, 62, 63, 64, 65]),
     ("an event served", &[0, 1, 2, 4, 5, 8, 9, 10, 11, 12, 14]),
 ];

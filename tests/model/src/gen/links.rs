@@ -1,5 +1,5 @@
-//! Frames on a bus where several speak: two partners and strangers, to this device, to others and to groups, and now and then a
-//! frame once more.
+//! Frames on a bus where several speak: two partners and strangers, to this device, to others and to groups, now and then the
+//! device itself, and a frame once more.
 
 use super::{Event, Rng, Tools};
 use crate::device::Sessions;
@@ -58,6 +58,10 @@ impl Links {
             2 => (None, 0),
             _ => (None, 0x40 | sequence),
         };
+        // an address that another has already
+        if tpdu.len() == 4 && tpdu[0] & 3 == 0 && tpdu[1] == 0xC0 && rng.chance(20) {
+            tpdu[2..].copy_from_slice(&rng.pick(&self.senders).to_be_bytes());
+        }
         tpdu[0] = tpdu[0] & 3 | transport;
         (group, tpdu)
     }
@@ -74,14 +78,15 @@ impl Links {
             return self.last.clone();
         }
         let open = (0..2).filter(|&c| sessions[c].open).collect::<Vec<_>>();
+        let own = link::own(sheet);
         let source = match open[..] {
+            _ if rng.chance(3) => own,
             [] => rng.pick(&self.senders),
             _ if rng.chance(25) => rng.pick(&self.senders),
             _ => addresses[rng.pick(&open)],
         };
         let partner = (0..2).find(|&c| sessions[c].open && addresses[c] == source);
         let (group, tpdu) = self.sent(rng, sheet, sessions, partner);
-        let own = link::own(sheet);
         let destination = match group {
             Some(group) => group,
             None if rng.chance(6) => rng.pick(&[own ^ 1, own.swap_bytes(), 0, rng.clone().word()]),

@@ -9,6 +9,7 @@ pub from-other-spec : {M : Type 1} → statement M
 from-other-spec =
     tie.close
     (tie.spec
+    (λ c κs. search needs)
     (λ c. search of-own)
     (λ c κs. search needs) (λ c κs. search needs)
     (λ c. search of-other))
