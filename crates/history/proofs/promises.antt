@@ -18,5 +18,6 @@ pub mod InOrder
 pub mod Counted
 pub mod NothingShown
 pub mod Unlearned
+pub mod SameParts
 pub mod Acts
 pub mod RestoredLater

@@ -19,6 +19,7 @@ use Rattle.history.specs.Keeps.{Begins}
 use Rattle.history.specs.Keyless.{Closed}
 use Rattle.history.proofs.promises.NothingShown.{secret-after}
 use Rattle.history.proofs.promises.Unlearned.{told}
+use Rattle.history.proofs.promises.SameParts.{hidden-parts}
 use Rattle.cemi.specs.Read.{fieldsIn}
 use Rattle.cemi.specs.Answering.{answering}
 use Rattle.cemi.specs.declared.Fields.{Fields}
@@ -107,12 +108,13 @@ module _ (q : ℕ) (few : q ≤ 3) where
           outcome = z .outcome;
           connection = refl;
           answer = ap₂ (λ (own : ℕ) (p : List ℕ). answerFrame (answering f own mode sequence) p) (own-same b) (z .answer);
+          changed = hidden-parts b most (k .sessions) mode c group a;
           link = ap (withSessions k) (z .sessions);
           sheet = z .sheet;
         }
-    deed-same f sequence a (Connect c) = record { number = refl; outcome = refl; connection = refl; answer = refl; link = refl; sheet = b }
-    deed-same f sequence a (Disconnect c) = record { number = refl; outcome = refl; connection = refl; answer = refl; link = refl; sheet = b }
-    deed-same f sequence a (Nothing n c) = record { number = refl; outcome = refl; connection = refl; answer = refl; link = refl; sheet = b }
+    deed-same f sequence a (Connect c) = record { number = refl; outcome = refl; connection = refl; answer = refl; changed = refl; link = refl; sheet = b }
+    deed-same f sequence a (Disconnect c) = record { number = refl; outcome = refl; connection = refl; answer = refl; changed = refl; link = refl; sheet = b }
+    deed-same f sequence a (Nothing n c) = record { number = refl; outcome = refl; connection = refl; answer = refl; changed = refl; link = refl; sheet = b }
 
     serve-same : (sequence : ℕ) (f : List ℕ) (room : ℕ) → NothingServed q (serveOf k sequence f s room) (serveOf k sequence f s′ room)
     unfolding serveOf
@@ -122,7 +124,7 @@ module _ (q : ℕ) (few : q ≤ 3) where
             (t : Bool) →
             NothingServed q (cond t (leaving k s 64 255) (deedOf k (fieldsIn f) sequence (apduOf f) s (heardOf k (ownOf s) f)))
             (cond t (leaving k s′ 64 255) (deedOf k (fieldsIn f) sequence (apduOf f) s′ (heardOf k (ownOf s′) f)))
-        go true = record { number = refl; outcome = refl; connection = refl; answer = refl; link = refl; sheet = b }
+        go true = record { number = refl; outcome = refl; connection = refl; answer = refl; changed = refl; link = refl; sheet = b }
         go false =
             subst (λ (own : ℕ). NothingServed q (deedOf k (fieldsIn f) sequence (apduOf f) s (heardOf k (ownOf s) f)) (deedOf k (fieldsIn f) sequence (apduOf f) s′ (heardOf k own f)))
             (sym (own-same b)) (deed-same (fieldsIn f) sequence (apduOf f) (heardOf k (ownOf s) f))

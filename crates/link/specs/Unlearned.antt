@@ -23,11 +23,12 @@ abbrev pub NoneBelow : ℕ → Net → List Item → Type 0
 NoneBelow q x [] = Unit {0}
 NoneBelow q x (i ∷ h) = Weak q (netAfter x h) × NoneBelow q x h
 
--- NOTHING IS TOLD by a frame that is served: number, outcome, connection, the frame that answers and the link are the same, and the sheets that it leaves still hide q
+-- NOTHING IS TOLD by a frame that is served: number, outcome, connection, the frame that answers, the parts that it names and the link are the same, and the sheets that it leaves still hide q
 pub record NothingServed (q : ℕ) (d d′ : Deed) : Type 0 where
   pub number : d′ .number ≡ d .number
   pub outcome : d′ .outcome ≡ d .outcome
   pub connection : d′ .connection ≡ d .connection
   pub answer : d′ .answer ≡ d .answer
+  pub changed : d′ .changed ≡ d .changed
   pub link : d′ .link ≡ d .link
   pub sheet : Hide q (d .sheet) (d′ .sheet)

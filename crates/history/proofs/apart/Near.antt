@@ -60,7 +60,7 @@ module _ (o : ℕ) where
   module _ {x y : State} (n : Near x y) where
     -- the session that a request meets, if it is not of o, and what becomes of the sessions by the same step
     module _ (mode c : ℕ) where
-      met-alike : (eqb mode 3 && eqb c o) ≡ false → sessionFor (x .sessions) mode c ≡ sessionFor (y .sessions) mode c
+      pub met-alike : (eqb mode 3 && eqb c o) ≡ false → sessionFor (x .sessions) mode c ≡ sessionFor (y .sessions) mode c
       met-alike e = go (ℕ-discrete mode connected)
         where
           go : Dec (mode ≡ connected) → sessionFor (x .sessions) mode c ≡ sessionFor (y .sessions) mode c

@@ -93,8 +93,8 @@ acts-weak q mode u h w = go (ℕ-discrete mode 3) (decLt 3 (u .level))
 
 module _ {q : ℕ} {s s′ : List ℕ} (b : Hide q s s′) where
   -- they differ in bodies of memory and properties at most
-  bodies : SameButBodies s s′
-  bodies =
+  pub hidden-bodies : SameButBodies s s′
+  hidden-bodies =
       let ok = good s (b .accepted) in
       record {
         long = b .others .long;
@@ -103,7 +103,7 @@ module _ {q : ℕ} {s s′ : List ℕ} (b : Hide q s s′) where
       }
 
   pub hidden-agree : Agree s s′
-  hidden-agree = agrees bodies
+  hidden-agree = agrees hidden-bodies
 
   -- THE SAME BYTES ARE SECRET IN BOTH
   pub hidden-both : (p : ℕ) → Secret s q p ↔ Secret s′ q p
@@ -118,6 +118,6 @@ module _ {q : ℕ} {s s′ : List ℕ} (b : Hide q s s′) where
       let x : Asked = record { room = room; sheet = s; session = u; mode = mode; group = group; apdu = a } in
       let d : List ℕ = dataIn (readPdu a) a in
       let k : Decision = judgeOf room s u mode group a in
-      subst (λ (z : Decision). AlikeBut (Secret s q) (stepBy s u d k) (stepBy s′ u d z)) (no-body room s s′ u mode group a bodies)
+      subst (λ (z : Decision). AlikeBut (Secret s q) (stepBy s u d k) (stepBy s′ u d z)) (no-body room s s′ u mode group a hidden-bodies)
       (step-but (b .others) u d k (safe room s u mode group a)
       (spares x (Secret s q) (λ p r ok. unread ok q (levelIn u mode) (acts-weak q mode u few (λ m. weak m (r .ready .session m))))))
