@@ -7,6 +7,7 @@
 
 use std::collections::{BTreeMap, BTreeSet};
 use std::path::{Path, PathBuf};
+use std::rc::Rc;
 use std::{env, fs, process};
 
 /// A demand: its heading, what it says, and its statements: a theorem by its name, with its crate where two have one of
@@ -57,7 +58,7 @@ const PARTS: &[Part] = &[
         says: "every byte outside the parts that a request names is as found, and a refusal names none",
         statements: &["request-outside", "request-none", "request-first", "request-second"],
     },
-    Part { title: "Demand 3", says: "what any history leaves", statements: &["history/keeps"] },
+    Part { title: "Demand 3", says: "what any history leaves", statements: &["history/keeps", "calls-keep", "calls-permit", "fn host/kelindap_restore"] },
     Part {
         title: "`keyless`",
         says: "without the key nobody changes a protected byte",
@@ -78,6 +79,11 @@ const PARTS: &[Part] = &[
         title: "What a frame changed",
         says: "every byte outside the parts that a served frame names is as found, and what is no request or was refused names none",
         statements: &["link/served-outside", "link/served-none", "link/served-within"],
+    },
+    Part {
+        title: "Both engines",
+        says: "the plain engine gives what the first gives",
+        statements: &["fn plain_host/kelindap_plain_request", "engines-agree"],
     },
     Part {
         title: "`unlearned`",
@@ -191,7 +197,7 @@ enum Meaning {
 
 #[derive(Default)]
 struct Tree {
-    modules: BTreeMap<PathBuf, Module>,
+    modules: BTreeMap<PathBuf, Rc<Module>>,
     library: BTreeMap<String, BTreeSet<String>>,
     unknown: BTreeSet<(PathBuf, String)>,
     table: Vec<String>,
@@ -368,7 +374,7 @@ impl Tree {
         if item.names.contains(word) || [&bound.names, &item.bound, &item.fields].iter().any(|s| s.contains(word)) {
             return Meaning::Local;
         }
-        let module = self.module(path).clone();
+        let module = self.module(path);
         let operator = format!("_{word}_");
         for name in [word, &operator] {
             let found = match name.split_once('.') {
@@ -406,7 +412,7 @@ impl Tree {
             Home::Module(path) => (path, name),
             Home::Declared(path, kind) => (path, kind.as_str()),
         };
-        let module = self.module(path).clone();
+        let module = self.module(path);
         if let Some(k) = module.items.iter().position(|i| i.names.contains(kind)) {
             let has = module.items[k].names.contains(name) || module.items[k].builders.contains(name);
             return has.then(|| (path.clone(), k));
@@ -415,12 +421,12 @@ impl Tree {
         self.from(from, inner)
     }
 
-    fn module(&mut self, path: &Path) -> &Module {
+    fn module(&mut self, path: &Path) -> Rc<Module> {
         if !self.modules.contains_key(path) {
             let module = if path.is_dir() { types(path) } else { definitions(path) };
-            self.modules.insert(path.to_path_buf(), module);
+            self.modules.insert(path.to_path_buf(), Rc::new(module));
         }
-        &self.modules[path]
+        self.modules[path].clone()
     }
 
     /// A theorem's statement with what its modules assume, or a call's contract.
