@@ -24,6 +24,7 @@ const LIBRARY: &[&str] = &[
     "abbrev",
     "unfoldable",
     "pub",
+    "mutual",
     "Unit",
     "tt",
     "rt",

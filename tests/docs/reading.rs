@@ -241,6 +241,8 @@ impl Tree {
         let mut read: BTreeSet<At> = BTreeSet::new();
         let mut told: BTreeSet<BTreeSet<String>> = BTreeSet::new();
         let mut total = 0;
+        // the line under a file's heading, and what of the file follows
+        let mut under: Vec<(usize, Vec<At>)> = Vec::new();
         for part in PARTS {
             let mut names: Vec<&str> = part.statements.to_vec();
             let (mut statements, mut items, mut stops) = (Vec::new(), BTreeSet::new(), BTreeSet::new());
@@ -281,7 +283,9 @@ impl Tree {
             for of_file in new.chunk_by(|a, b| self.item(a).file == self.item(b).file).rev() {
                 let file = &self.item(&of_file[0]).file;
                 out.extend([String::new(), format!("### {}", file.display()), String::new()]);
-                out.extend([first_line(file), String::new(), FENCE.to_string()]);
+                out.push(first_line(file));
+                under.push((out.len(), of_file.to_vec()));
+                out.extend([String::new(), FENCE.to_string()]);
                 for (k, at) in of_file.iter().enumerate() {
                     out.extend((k > 0).then(String::new));
                     out.extend(self.item(at).text.iter().cloned());
@@ -291,18 +295,7 @@ impl Tree {
             read.extend(items);
         }
         self.table.push(format!("| All of it | | {total} | {} | |", hours(total)));
-        out.extend([String::new(), "## Names that several files define".to_string(), String::new()]);
-        let mut homes: BTreeMap<&String, BTreeSet<String>> = BTreeMap::new();
-        for item in read.iter().map(|at| self.item(at)) {
-            for name in &item.names {
-                homes.entry(name).or_default().insert(item.file.display().to_string());
-            }
-        }
-        let several = homes.iter().filter(|(_, files)| files.len() > 1);
-        out.extend(several.map(|(name, files)| {
-            let files: Vec<&str> = files.iter().map(String::as_str).collect();
-            format!("- `{name}`: {}", files.join(", "))
-        }));
+        self.tell_apart(&read, &under, &mut out);
         out.extend([String::new(), "## The library's names".to_string(), String::new()]);
         for (module, names) in &self.library {
             let names: Vec<String> = names.iter().map(|n| format!("`{n}`")).collect();
@@ -311,6 +304,29 @@ impl Tree {
         self.said =
             format!("{} definitions, {total} lines, {} names without a meaning", read.len(), self.unknown.len());
         out.join("\n") + "\n"
+    }
+
+    /// Under a file's heading, the names in it that another file of the text gives to something else.
+    fn tell_apart(&self, read: &BTreeSet<At>, under: &[(usize, Vec<At>)], out: &mut [String]) {
+        let mut homes: BTreeMap<&str, BTreeSet<&Path>> = BTreeMap::new();
+        for item in read.iter().map(|at| self.item(at)) {
+            for name in &item.names {
+                homes.entry(name).or_default().insert(&item.file);
+            }
+        }
+        for (line, items) in under {
+            let mut said = Vec::new();
+            for item in items.iter().map(|at| self.item(at)) {
+                for name in &item.names {
+                    let others = homes[name.as_str()].iter().filter(|f| **f != item.file);
+                    let others: Vec<String> = others.map(|f| f.display().to_string()).collect();
+                    said.extend((!others.is_empty()).then(|| format!("`{name}` ({})", others.join(", "))));
+                }
+            }
+            if !said.is_empty() {
+                out[*line] = format!("\nElsewhere the same names are other things: {}.\n", said.join(", "));
+            }
+        }
     }
 
     fn item(&self, at: &At) -> &Item {
