@@ -92,6 +92,9 @@ kelindap_played kelindap_play(kelindap_sessions *sessions, uint8_t *sheet, size_
  * the group address was enough. A level below 3 is marked with the event that offered the key of that level, and with 0 only
  * if the sessions had it at first. To know level and offer of each event, play one at a time (limit 1): before a request in
  * mode 3 they stand in the session and in the mark of its connection; in other modes the level is 3.
+ *
+ * A mark also tells whether a write gave a byte another value or the one that stood there, of bytes that nobody may read too:
+ * it is guarded as the sheet is.
  */
 kelindap_played kelindap_play_marked(kelindap_sessions *sessions, uint8_t *sheet, size_t sheet_length,
                                      const uint8_t *trace, size_t trace_length, size_t from, size_t limit,

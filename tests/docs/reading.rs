@@ -1,5 +1,5 @@
-//! What must be read to believe each demand, written from the sources: the definitions that a theorem's statement rests on,
-//! each before those that use it, and the statement at the end.
+//! What must be read to believe each demand, written from the sources: a theorem's statement, and then the definitions that it
+//! rests on, those of a file before those of the files that it rests on, so that a reader can stop where he trusts the rest.
 //!
 //! `reading TEXT DOCUMENT` writes the text to TEXT and its counts into the table of DOCUMENT; `reading --check DOCUMENT`
 //! holds the table to the sources. Both fail if a name in a statement or a definition is neither defined in the text, nor
@@ -7,6 +7,7 @@
 
 use std::collections::{BTreeMap, BTreeSet};
 use std::path::{Path, PathBuf};
+use std::rc::Rc;
 use std::{env, fs, process};
 
 /// A demand: its heading, what it says, and its statements: a theorem by its name, with its crate where two have one of
@@ -20,7 +21,7 @@ struct Part {
 const PARTS: &[Part] = &[
     Part {
         title: "The calls",
-        says: "what each call of include/kelindap.h promises of its result and of every byte lent to it",
+        says: "what each call of include/kelindap.h, and a restore, promises of its result and of every byte lent to it",
         statements: &[
             "fn host/kelindap_fresh",
             "fn host/kelindap_connect",
@@ -29,6 +30,7 @@ const PARTS: &[Part] = &[
             "fn host/kelindap_request",
             "fn host/kelindap_check",
             "fn host/kelindap_convert",
+            "fn host/kelindap_restore",
         ],
     },
     Part {
@@ -38,37 +40,34 @@ const PARTS: &[Part] = &[
     },
     Part {
         title: "Demand 2",
-        says: "read, judged, carried out and answered as the rules say, and nothing else",
-        statements: &[
-            "host/request-due",
-            "host/request-only",
-            "connect-due",
-            "connect-only",
-            "disconnect-due",
-            "disconnect-only",
-            "button-due",
-            "button-only",
-            "events/restore-due",
-            "events/restore-only",
-        ],
+        says: "read, judged, carried out and answered as the rules say, and nothing else; so of each call, a restore too",
+        statements: &["calls-due", "calls-only"],
     },
     Part {
         title: "What a request changed",
         says: "every byte outside the parts that a request names is as found, and a refusal names none",
         statements: &["request-outside", "request-none", "request-first", "request-second"],
     },
-    Part { title: "Demand 3", says: "what any history leaves", statements: &["history/keeps"] },
+    Part {
+        title: "Demand 3",
+        says: "what any calls leave",
+        statements: &["calls-after", "calls-keep", "calls-permit"],
+    },
     Part {
         title: "`keyless`",
         says: "without the key nobody changes a protected byte",
-        statements: &["history/shut", "keyless", "keyless-run", "locked"],
+        statements: &["history/shut", "keyless", "keyless-calls", "locked"],
     },
     Part {
         title: "`accounts`",
         says: "who changed each byte, and by what right; who gave each level",
-        statements: &["accounts", "entitled", "play-accounts"],
+        statements: &["accounts-calls", "play-accounts"],
     },
-    Part { title: "`isolated`", says: "what one tool sees does not depend on the other", statements: &["isolated"] },
+    Part {
+        title: "`isolated`",
+        says: "what one tool sees does not depend on the other",
+        statements: &["isolated-calls", "isolated-next", "isolated-parts"],
+    },
     Part {
         title: "Frames",
         says: "what each is to the device, whose connection is whose, and what frames from however many senders leave",
@@ -87,7 +86,12 @@ const PARTS: &[Part] = &[
     Part {
         title: "`unlearned`",
         says: "without the key nobody learns a protected byte",
-        statements: &["unlearned", "keyless-blind"],
+        statements: &["unlearned-calls", "unlearned-next", "unlearned-parts", "keyless-blind"],
+    },
+    Part {
+        title: "Both engines",
+        says: "the plain engine gives what the first gives",
+        statements: &["fn plain/both", "engines-agree", "fn plain_host/kelindap_plain_request"],
     },
     Part {
         title: "`unlearned-frames`",
@@ -98,6 +102,31 @@ const PARTS: &[Part] = &[
         title: "`converted`",
         says: "the conversion of an old sheet, and that it answers as the old sheet did",
         statements: &["sheet/converted", "by-refusal", "answers-as-before"],
+    },
+    Part {
+        title: "Any mixture of calls",
+        says: "the contracts of all calls that reach sheet, sessions, link or store, tied to the steps of a run; and the same promises over any run of them",
+        statements: &[
+            "connect-is",
+            "disconnect-is",
+            "button-is",
+            "request-is",
+            "plain-is",
+            "restore-is",
+            "convert-is",
+            "play-is",
+            "marked-is",
+            "serve-is",
+            "save-is",
+            "remove-is",
+            "mixed-keep",
+            "mixed-keyless",
+            "mixed-accounts",
+            "mixed-isolated",
+            "mixed-unlearned",
+            "turns-are",
+            "turns-restored",
+        ],
     },
 ];
 
@@ -119,12 +148,14 @@ const STOPS: &[(&str, &str, &[&str])] = &[
 /// What the language has without a `use` line, in definitions, in statements and in contracts.
 const LANGUAGE: &str =
     "Type Unit ⊥ × → = : λ λ. let in record data where pub abbrev unfoldable mutual module infix _ | Dec \
-    ⌜ ⌝ now ensures fn extern \"C\" -> & &mut mut u8 u16 u32 u64 usize bool [u8] &[u8]";
+    ⌜ ⌝ tt now requires ensures fn extern \"C\" -> & &mut mut u8 u16 u32 u64 usize bool [u8] &[u8]";
 
 /// The words that begin a definition.
 const KEYWORDS: &[&str] = &["pub ", "abbrev ", "unfoldable ", "data ", "record "];
 
-const HEADING: &str = "| To believe | Lines to read | Of these not read above | Promised by |";
+const HEADING: &str = "| To believe | Lines to read | Of these not read above | Hours for these | Promised by |";
+/// How many lines are read in an hour, with care.
+const AN_HOUR: f64 = 150.0;
 const FENCE: &str = "```";
 
 fn main() {
@@ -202,7 +233,7 @@ enum Meaning {
 
 #[derive(Default)]
 struct Tree {
-    modules: BTreeMap<PathBuf, Module>,
+    modules: BTreeMap<PathBuf, Rc<Module>>,
     library: BTreeMap<String, BTreeSet<String>>,
     unknown: BTreeSet<(PathBuf, String)>,
     table: Vec<String>,
@@ -215,12 +246,14 @@ impl Tree {
         let mut out = vec![
             "# What must be read".to_string(),
             String::new(),
-            "Written by `make reading` from the sources. A part has the definitions that are new in it, each after those that it rests on, and ends with what is promised.".to_string(),
+            "Written by `make reading` from the sources. A part opens with what is promised. Then come the definitions that are new in it, those of a file before those of the files that it rests on: who trusts the rest can stop there.".to_string(),
         ];
-        self.table = vec![HEADING.to_string(), "|---|---|---|---|".to_string()];
+        self.table = vec![HEADING.to_string(), "|---|---|---|---|---|".to_string()];
         let mut read: BTreeSet<At> = BTreeSet::new();
         let mut told: BTreeSet<BTreeSet<String>> = BTreeSet::new();
         let mut total = 0;
+        // the line under a file's heading, and what of the file follows
+        let mut under: Vec<(usize, Vec<At>)> = Vec::new();
         for part in PARTS {
             let mut names: Vec<&str> = part.statements.to_vec();
             let (mut statements, mut items, mut stops) = (Vec::new(), BTreeSet::new(), BTreeSet::new());
@@ -241,28 +274,14 @@ impl Tree {
             self.project(&items, &statements);
             let promised = promised(part, &statements);
             statements.retain(|s| told.insert(s.names.clone()));
-            stops.retain(|k| told.insert([STOPS[*k].0.to_string()].into()));
             let order = self.order(&items);
             let new: Vec<At> = order.iter().filter(|at| !read.contains(*at)).cloned().collect();
             let (all_lines, new_lines) = (self.lines(&order), self.lines(&new));
             total += new_lines;
-            self.table.push(format!("| {}: {} | {all_lines} | {new_lines} | {promised} |", part.title, part.says));
+            let hours = hours(new_lines);
+            self.table
+                .push(format!("| {}: {} | {all_lines} | {new_lines} | {hours} | {promised} |", part.title, part.says));
             out.extend([String::new(), format!("## {}: {}", part.title, part.says)]);
-            let mut file = PathBuf::new();
-            for at in &new {
-                let item = self.item(at);
-                if item.file != file {
-                    file = item.file.clone();
-                    end(&mut out);
-                    out.extend([String::new(), format!("### {}", file.display()), String::new()]);
-                    out.extend([first_line(&file), String::new(), FENCE.to_string()]);
-                } else {
-                    out.push(String::new());
-                }
-                out.extend(item.text.iter().cloned());
-            }
-            end(&mut out);
-            out.extend([String::new(), format!("### {}: what is promised", part.title)]);
             for item in &statements {
                 out.extend([String::new(), format!("{}:", item.file.display()), String::new(), FENCE.to_string()]);
                 out.extend(item.text.iter().cloned());
@@ -272,8 +291,22 @@ impl Tree {
                 out.extend([String::new(), "Not read:".to_string(), String::new()]);
                 out.extend(stops.iter().map(|&k| format!("- `{}`, {}", STOPS[k].0, STOPS[k].1)));
             }
+            for of_file in new.chunk_by(|a, b| self.item(a).file == self.item(b).file).rev() {
+                let file = &self.item(&of_file[0]).file;
+                out.extend([String::new(), format!("### {}", file.display()), String::new()]);
+                out.push(first_line(file));
+                under.push((out.len(), of_file.to_vec()));
+                out.extend([String::new(), FENCE.to_string()]);
+                for (k, at) in of_file.iter().enumerate() {
+                    out.extend((k > 0).then(String::new));
+                    out.extend(self.item(at).text.iter().cloned());
+                }
+                out.push(FENCE.to_string());
+            }
             read.extend(items);
         }
+        self.table.push(format!("| All of it | | {total} | {} | |", hours(total)));
+        self.tell_apart(&read, &under, &mut out);
         out.extend([String::new(), "## The library's names".to_string(), String::new()]);
         for (module, names) in &self.library {
             let names: Vec<String> = names.iter().map(|n| format!("`{n}`")).collect();
@@ -282,6 +315,29 @@ impl Tree {
         self.said =
             format!("{} definitions, {total} lines, {} names without a meaning", read.len(), self.unknown.len());
         out.join("\n") + "\n"
+    }
+
+    /// Under a file's heading, the names in it that another file of the text gives to something else.
+    fn tell_apart(&self, read: &BTreeSet<At>, under: &[(usize, Vec<At>)], out: &mut [String]) {
+        let mut homes: BTreeMap<&str, BTreeSet<&Path>> = BTreeMap::new();
+        for item in read.iter().map(|at| self.item(at)) {
+            for name in &item.names {
+                homes.entry(name).or_default().insert(&item.file);
+            }
+        }
+        for (line, items) in under {
+            let mut said = Vec::new();
+            for item in items.iter().map(|at| self.item(at)) {
+                for name in &item.names {
+                    let others = homes[name.as_str()].iter().filter(|f| **f != item.file);
+                    let others: Vec<String> = others.map(|f| f.display().to_string()).collect();
+                    said.extend((!others.is_empty()).then(|| format!("`{name}` ({})", others.join(", "))));
+                }
+            }
+            if !said.is_empty() {
+                out[*line] = format!("\nElsewhere the same names are other things: {}.\n", said.join(", "));
+            }
+        }
     }
 
     fn item(&self, at: &At) -> &Item {
@@ -314,7 +370,7 @@ impl Tree {
         for item in &all {
             for word in item.scopes.iter().flatten().filter_map(|w| w.strip_prefix('.')) {
                 let number = word.starts_with(|c: char| c.is_ascii_digit());
-                if !number && !word.is_empty() && !fields.contains(word) && !["entry", "exit"].contains(&word) {
+                if !number && !word.is_empty() && !fields.contains(word) && !["entry", "exit", "ensures"].contains(&word) {
                     self.unknown.insert((item.file.clone(), format!(".{word}")));
                 }
             }
@@ -379,7 +435,7 @@ impl Tree {
         if item.names.contains(word) || [&bound.names, &item.bound, &item.fields].iter().any(|s| s.contains(word)) {
             return Meaning::Local;
         }
-        let module = self.module(path).clone();
+        let module = self.module(path);
         let operator = format!("_{word}_");
         for name in [word, &operator] {
             let found = match name.split_once('.') {
@@ -417,7 +473,7 @@ impl Tree {
             Home::Module(path) => (path, name),
             Home::Declared(path, kind) => (path, kind.as_str()),
         };
-        let module = self.module(path).clone();
+        let module = self.module(path);
         if let Some(k) = module.items.iter().position(|i| i.names.contains(kind)) {
             let has = module.items[k].names.contains(name) || module.items[k].builders.contains(name);
             return has.then(|| (path.clone(), k));
@@ -426,12 +482,12 @@ impl Tree {
         self.from(from, inner)
     }
 
-    fn module(&mut self, path: &Path) -> &Module {
+    fn module(&mut self, path: &Path) -> Rc<Module> {
         if !self.modules.contains_key(path) {
             let module = if path.is_dir() { types(path) } else { definitions(path) };
-            self.modules.insert(path.to_path_buf(), module);
+            self.modules.insert(path.to_path_buf(), Rc::new(module));
         }
-        &self.modules[path]
+        self.modules[path].clone()
     }
 
     /// A theorem's statement with what its modules assume, or a call's contract.
@@ -468,11 +524,15 @@ fn home(from: &str) -> Option<Home> {
     let (name, rest) = from.strip_prefix("Rattle·")?.split_once('.')?;
     let folder = Path::new("crates").join(name.split('·').next()?);
     let parts: Vec<&str> = rest.split('.').collect();
-    if let ["specs", "declared", kind, ..] = parts[..] {
+    if let ["specs", "declared", inner @ ..] = &parts[..] {
+        // a type, behind the modules of the code in which it stands
+        let kind = inner.iter().find(|p| p.starts_with(char::is_uppercase)).unwrap_or(&inner[0]);
         return Some(Home::Declared(folder.join("src"), kind.to_string()));
     }
     let file = parts.iter().fold(folder, |p, part| p.join(part));
-    Some(Home::Module(file.with_extension("antt")))
+    // what the kit makes of a function, its contract among it, stands in no file
+    let made = parts[0] == "proofs" && parts[parts.len() - 1].starts_with("kelindap_");
+    (!made).then(|| Home::Module(file.with_extension("antt")))
 }
 
 /// The uses of a file's lines: by name, and by alias.
@@ -605,42 +665,50 @@ fn stated(path: &Path, lines: &[String], at: usize, whole: bool) -> Item {
         std::iter::once(&lines[k]).chain(lines[k + 1..].iter().take_while(within)).cloned().collect()
     };
     let mut item = Item { file: path.to_path_buf(), ..Item::default() };
-    let (mut around, mut local) = (Vec::new(), Vec::new());
+    // by the line at which each stands, so that all of it comes in the order of its file
+    let mut pieces: BTreeMap<usize, Vec<String>> = BTreeMap::new();
+    let comments = |k: usize| lines[..k].iter().rev().take_while(|l| l.trim_start().starts_with("--")).count();
     let mut deep = indent(&lines[at]);
     for k in (0..at).rev() {
         if indent(&lines[k]) < deep && lines[k].trim_start().starts_with("module ") {
             deep = indent(&lines[k]);
             let more = lines[k..].iter().take_while(|l| !l.ends_with(" where")).count();
-            let head = lines[k..=k + more].to_vec();
-            let words = scope(head.iter().map(String::as_str));
+            let words = scope(lines[k..=k + more].iter().map(String::as_str));
             item.bound.extend(binders(&words).names);
             item.scopes.push(words);
-            around.splice(0..0, head);
+            pieces.insert(k, lines[k - comments(k)..=k + more].to_vec());
         }
     }
     let own = block(at, whole);
-    let comments = lines[..at].iter().rev().take_while(|l| l.trim_start().starts_with("--")).count();
     item.names.insert(defined(&lines[at]));
     item.scopes.extend(scopes(&own));
+    pieces.insert(at, [lines[at - comments(at)..at].to_vec(), own].concat());
     let mut next = 0;
     while next < item.scopes.len() {
+        let bound = binders(&item.scopes[next]).names;
         for word in item.scopes[next].clone() {
             let named = |l: &String| is_name(&word) && defined(l) == word;
+            if bound.contains(&word) || item.bound.contains(&word) {
+                continue;
+            }
             let Some(k) = lines[..at].iter().position(named).filter(|_| item.names.insert(word.clone())) else {
                 continue;
             };
             let text = block(k, true);
             item.scopes.extend(scopes(&text));
-            local.splice(0..0, text);
+            pieces.insert(k, [lines[k - comments(k)..k].to_vec(), text].concat());
         }
         next += 1;
     }
-    item.text = [around, local, lines[at - comments..at].to_vec(), own].concat();
+    item.text = pieces.into_values().flatten().collect();
     item
 }
 
-/// The name that a line gives a type, if it does.
+/// The name that a line gives a type, if it does, in a proof's `let` apart.
 fn defined(line: &str) -> String {
+    if line.trim_start().starts_with("let ") {
+        return String::new();
+    }
     let words = tokens(line);
     let front: Vec<&String> = words.iter().take_while(|w| *w != ":").filter(|w| !is_language(w)).collect();
     if front.len() == 1 && words.contains(&":".to_string()) {
@@ -787,11 +855,9 @@ fn promised(part: &Part, statements: &[Item]) -> String {
     rows.join("; ")
 }
 
-/// Ends a block of definitions, where one is open.
-fn end(out: &mut Vec<String>) {
-    if out.iter().filter(|l| *l == FENCE).count() % 2 == 1 {
-        out.push(FENCE.to_string());
-    }
+/// The hours that so many lines take.
+fn hours(lines: usize) -> String {
+    format!("{:.1}", lines as f64 / AN_HOUR)
 }
 
 /// What a file says of itself in its first line.

@@ -9,6 +9,7 @@ use lib.ListN.{getD, drop}
 use native.Mathlib.Omega.{arith}
 use Rattle.octets.proofs.Truths.{never, decided, and-is}
 use Rattle.sheet.specs.Head.{rulesOf}
+use Rattle.device.specs.Events.{State}
 use Rattle.events.specs.Events.{Event, connect, disconnect, button, request, restore}
 use Rattle.versions.specs.Rules.{isStore}
 use Rattle.versions.specs.Store.{isKept, versionIn}
@@ -20,10 +21,11 @@ use Rattle.history.specs.History.{First, wished, supplied, opened, level, conte
 use Rattle.history.specs.Keeps.{Device, stateAfter, Begins, AllOctets, Keeps}
 use Rattle.history.specs.Keyless.{writeLevel}
 use Rattle.history.specs.Rightful.{ours}
+use Rattle.history.specs.Calls.{Follows}
 use Rattle.history.proofs.spans.Bools.{all-at}
 use Rattle.history.proofs.promises.Suffices.{suffices}
 use Rattle.history.proofs.promises.Keep.{keeps}
-use Rattle.account.specs.Account.{at, byteAt, lastOther, lastWrite, gave, actsAt, Last, Right, AccountsFor, LevelsAccounted}
+use Rattle.account.specs.Account.{at, byteAt, levelOn, lastOther, lastWrite, gave, actsAt, Last, Right, AccountsFor, LevelsAccounted, Traced}
 use Rattle.account.proofs.Lasts.{is-last, as-at-first, none-such, all-dropped}
 use Rattle.account.proofs.Levels.{levels-any}
 
@@ -118,3 +120,13 @@ entitled-any = levels-any
 
 pub entitled : LevelsAccounted ours
 entitled = entitled-any ours keeps
+
+-- AND SO AFTER WHATEVER CALLS: of a state that follows a history, from an accepted sheet
+pub accounts-calls : {f : First} → Begins f → {h : List Event} {x : State} → Follows f h x → Traced f h x
+accounts-calls {f} b {h} {x} k =
+    record {
+      state = k .state;
+      bytes = accounts f h b (k .octets);
+      levels = λ c low. entitled f h b (k .octets) c (subst (λ (y : State). levelOn c y < 3) (k .state) low);
+      holds = λ z p q. ap (byteAt p) (k .state) ∙ keeps f h b (k .octets) .holds z p q ∙ written f h z;
+    }

@@ -17,6 +17,7 @@ use Rattle.history.specs.Permit.{heard, levelFor, spans}
 use Rattle.history.specs.History.{First, firstOf, wished, supplied, opened, level, keys, content, permitted}
 use Rattle.history.specs.Keeps.{Device, stateAfter, Still, Begins, AllOctets}
 use Rattle.history.specs.Keyless.{writeLevel}
+use Rattle.history.specs.Rightful.{ours}
 
 -- an event of a history, with those before it; or none
 pub data Origin : Type 0 where
@@ -101,3 +102,10 @@ lastWrite f (e ∷ h) x =
 abbrev pub gave : First → Location → Origin → ℕ
 gave f x never = firstOf (f .sheet) x
 gave f x (at h e) = gives (spans (f .sheet) (content f h) (supplied e) (wished e)) x
+
+-- WHO CHANGED WHAT IN A STATE x that the history h left, by our device: every byte of its sheet, every level below 3, and every location by the last permitted write that named it
+pub record Traced (f : First) (h : List Event) (x : State) : Type 0 where
+  pub state : x ≡ stateAfter ours f h
+  pub bytes : Accounted ours f h
+  pub levels : (c : ℕ) → levelOn c x < 3 → Entitled ours f h c (lastOther ours f (levelOn c) h)
+  pub holds : (z : Location) (p : ℕ) → Place (f .sheet) z p → byteAt p x ≡ gave f z (lastWrite f h z)

@@ -1,4 +1,4 @@
--- THE CONVERSION OF AN OLD SHEET ANSWERS EVERY EVENT AS THE OLD SHEET DID in the release before, along every run; and what was saved from it is given back.
+-- THE CONVERSION OF AN OLD SHEET ANSWERS EVERY EVENT AS THE OLD SHEET DID in the release before, as `Before` models it, along every run; and what was saved from it is given back.
 -- Assumes nothing.
 use Prim.Native.Nat.{ℕ}
 use mathlib.Core.Path.{_≡_, refl, sym, ap₂}
@@ -19,7 +19,7 @@ use Rattle.events.specs.Events.{Event, connect, disconnect, button, requ
 use Rattle.events.specs.Before.{refusing, eventBefore, runBefore, AsBefore}
 use Rattle.events.proofs.Renewing.{Succeeds, event-alike, run-alike, restore-same, restore-renews, settings-same}
 
--- THIS RELEASE refuses a sheet by `refusalOf`, and the release before by `refusalBefore`; they differ in nothing else
+-- THIS RELEASE is the one that refuses a sheet by `refusalOf`. The model of the release before is made in the same way from `refusalBefore`
 pub by-refusal : (x : State) (e : Event) → eventOf x e ≡ eventWith (refusing refusalOf) x e
 unfolding eventOf requestOf stepOf judgeOf buttonOutcome buttonSheet restoreOutcome restoreSheet
 by-refusal x (connect c) = refl

@@ -8,3 +8,4 @@ pub mod LeaksRefuted
 -- of what a tool without the key can learn:
 pub mod Tellers
 pub mod TellersRefuted
+pub mod Namers

@@ -9,14 +9,16 @@ use Rattle.events.specs.Events.{Event, connect, disconnect, button, request, re
 use Rattle.device.specs.Octets.{Octets}
 use Rattle.device.specs.Sessions.{sessionOf}
 use Rattle.device.specs.Demand2.{effectSeen}
+use Rattle.device.specs.Due.{ConnectDue, DisconnectDue, ButtonDue, RequestDue}
+use Rattle.events.specs.Due.{RestoreDue}
 use Rattle.versions.specs.Restoring.{RestoredAs}
 use Rattle.device.specs.declared.Done.{Done}
 use Rattle.history.specs.History.{First}
 use Rattle.history.specs.Keeps.{stateAfter, AllOctets}
 use Rattle.history.specs.Rightful.{ours}
 
--- a call that met state x and gave r: each constructor is the contract of a call of include/kelindap.h, of a request without the parts that it names, and of `kelindap_restore`;
--- host/proofs/Contracts.antt has that the contracts entail it
+-- A CALL that met state x, was the event e and gave r: a constructor for each call of include/kelindap.h that reaches sheet or sessions, a request without the parts that it names, and for
+-- `kelindap_restore`. That the contract of the call, as it stands in the source, entails it is proved in host/proofs/Contracts.antt (`connect-is` ..)
 pub data Call (x : State) : Event → Effect → Type 0 where
   connects :
       (c : ℕ) →
@@ -45,3 +47,11 @@ pub data Calls (f : First) : List Event → State → Type 0 where
 pub record Follows (f : First) (h : List Event) (x : State) : Type 0 where
   pub state : x ≡ stateAfter ours f h
   pub octets : AllOctets h
+
+-- WHAT IS DUE for an event, by its kind
+abbrev pub EventDue : Event → State → Effect → Type 0
+EventDue (connect c) = ConnectDue c
+EventDue (disconnect c) = DisconnectDue c
+EventDue (button on) = ButtonDue on
+EventDue (request mode c g a out) = RequestDue mode c g a out
+EventDue (restore c n st) = RestoreDue c n st

@@ -1,4 +1,4 @@
--- THE CONTRACT OF EACH CALL THAT CHANGES NOTHING, as it stands at its function, with the function's arguments in their places.
+-- THE CONTRACT OF EACH CALL THAT CHANGES NOTHING, as it stands at its function, with the function's arguments in their places: as in `Contracts`, but these have no `..-is`.
 -- `a` are a function's arguments in their order, r what came back, e what the arguments are then.
 -- Assumes nothing.
 use mathlib.Core.Path.{_≡_}
@@ -19,6 +19,7 @@ use Rattle.versions.specs.Rules.{storeRule}
 use Rattle.playback.specs.Rules.{refusalOf}
 use Rattle.link.specs.Hearing.{ownOf, heardOf}
 use Rattle.host.specs.Bus.{arrivalOf}
+use Rattle.host.specs.Calls.{versionOf}
 use Rattle.host.proofs.kelindap_check as check-fn
 use Rattle.host.proofs.kelindap_property as property-fn
 use Rattle.host.proofs.kelindap_region as region-fn
@@ -27,8 +28,10 @@ use Rattle.host.proofs.kelindap_group as group-fn
 use Rattle.host.proofs.kelindap_trace_check as trace-check-fn
 use Rattle.host.proofs.store.kelindap_store_check as store-check-fn
 use Rattle.host.proofs.bus.kelindap_heard as heard-fn
+use Rattle.host.proofs.kelindap_version as version-fn
 
 module _ {M : Type 1} (𝓤 : URA M) (H : Heap 𝓤) (A : Atoms 𝓤) (mem : Memory → SProp 𝓤) (run : Routine → Fun 𝓤) where
+  -- a contract entails a fact
   abbrev Entails : SProp 𝓤 → Type 0 → Type 1
   Entails S T = ent 𝓤 S (fact 𝓤 T)
 
@@ -77,3 +80,8 @@ module _ {M : Type 1} (𝓤 : URA M) (H : Heap 𝓤) (A : Atoms 𝓤) (mem : Mem
   module _ (κs : Lfts 2) (a : Args heard-fn.signature κs) (r : Res heard-fn.signature κs) (e : AtExit heard-fn.ended κs) where
     pub heard-says : Entails (heard-fn.clauses 𝓤 H A mem run κs a .ensures tt r e) (r ≡ arrivalOf (heardOf (a .0) (ownOf (now (a .1 .0))) (now (a .1 .1 .0))))
     heard-says = id⊢ 𝓤 _
+
+  -- kelindap_version()
+  module _ (κs : Lfts 0) (a : Args version-fn.signature κs) (r : Res version-fn.signature κs) (e : AtExit version-fn.ended κs) where
+    pub version-says : Entails (version-fn.clauses 𝓤 H A mem run κs a .ensures tt r e) (r ≡ versionOf)
+    version-says = id⊢ 𝓤 _

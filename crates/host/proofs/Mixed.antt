@@ -27,6 +27,8 @@ use Rattle.history.proofs.promises.Keyless.{locked}
 use Rattle.history.proofs.promises.Calls.{call-follows, run-follows, calls-keep, keyless-calls, isolated-calls}
 use Rattle.history.proofs.promises.Unlearned.{unlearned-calls}
 use Rattle.history.proofs.promises.RestoredLater.{restored-over-history}
+use Rattle.account.specs.Account.{Traced}
+use Rattle.account.proofs.Accounts.{accounts-calls}
 use Rattle.versions.specs.Saving.{SavedAs}
 use Rattle.versions.specs.Sequence.{Change, changed, changedAll, AllSpare}
 use Rattle.versions.specs.declared.saving.Saved.{Saved}
@@ -128,6 +130,10 @@ module _ {x y : Net} {h : List Event} (b : Begins (firstNet x)) (k : Steps x h y
   pub mixed-keyless : (l : ℕ) → l < 3 → Closed (firstNet x) → NotOffered (firstNet x) l h → Protected (firstNet x) l (stateOf y)
   mixed-keyless l low closed n =
       let q = locked l low (firstNet x) closed h n in keyless-calls b (mixed-follows b k) l low closed (q 0) (q 1)
+
+  -- WHO CHANGED WHAT, of every byte and of every level, and by what right
+  pub mixed-accounts : Traced (firstNet x) h (stateOf y)
+  mixed-accounts = accounts-calls b (mixed-follows b k)
 
   -- SAVED, MIXED ON AND RESTORED: a save after these calls, any calls after it, any changes of the store that spare the version, and a restore for a connection open at level 0
   pub mixed-restored :

@@ -33,7 +33,7 @@ abbrev pub with : Net → Sessions → List ℕ → Net
 with x q s = netOf (withSessions (x .link) q) s
 
 -- A CALL that met x, left y and was the events es, the newest first: a connect, disconnect, button, request or restore; a conversion; a playback, with marks too; a frame served.
--- A host's time-out is a disconnect. What saves, removes, checks or looks up leaves link and sheet as found and is no call here
+-- A host's time-out is a disconnect. What saves, removes, checks or looks up leaves link and sheet as found and is no step
 pub data Step (x : Net) : List Event → Net → Type 0 where
   calls : {e : Event} {r : Effect} → Call (stateOf x) e r → Step x (e ∷ []) (with x (r .sessions) (r .sheet))
   converts : (r : ℕ) (s′ : List ℕ) → Converts (x .sheet) r s′ → Step x [] (netOf (x .link) s′)

@@ -1,4 +1,4 @@
--- Promises, named in docs/PROMISES.md: Means, Returned, Examples, NoEvent, FrameBack, FrameExamples. Arms, Framing and PointLaws have the laws behind the contracts.
+-- Promises, named in docs/PROMISES.md: Means, Returned, Examples, NoEvent, FrameBack, FrameExamples, Contracts. Arms, Framing and PointLaws have the laws behind the contracts.
 pub mod Arms
 pub mod Means
 pub mod Returned
@@ -8,3 +8,4 @@ pub mod NoEvent
 pub mod PointLaws
 pub mod FrameBack
 pub mod FrameExamples
+pub mod Contracts

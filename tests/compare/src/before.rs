@@ -192,7 +192,7 @@ pub fn before(program: &str, events: usize, seed: u64) -> bool {
     }
     let found = Fault::CONVERTING.into_iter().filter(|&fault| sees(fault, seed)).count();
     println!(
-        "compare: {} old sheets in the release before, converted in this one, seed {seed}: {} events of both, {} requests carried out, {} versions restored, {} events of traces: 0 different; {found} of {} faults found",
+        "compare: {} old sheets in a model of the release before, converted in this one, seed {seed}: {} events of both, {} requests carried out, {} versions restored, {} events of traces: 0 different; {found} of {} faults found",
         tally.lives,
         tally.events,
         tally.carried_out,

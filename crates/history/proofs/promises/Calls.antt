@@ -2,7 +2,7 @@
 -- they follow a history; `calls-after` says it of runs of `Call`, host's `mixed-follows` of any mixture.
 -- Assumes nothing.
 use Prim.Native.Nat.{ℕ, _<_, _≤_}
-use mathlib.Core.Path.{_≡_, refl, sym, ap, ap₂, _∙_}
+use mathlib.Core.Path.{_≡_, refl, sym, ap, ap₂, subst, _∙_}
 use mathlib.Core.Bool.{true, false}
 use mathlib.Core.List.{List, [], _∷_, _++_, reverse}
 use Rattle.sheet.specs.Head.{rulesOf}
@@ -12,12 +12,15 @@ use Rattle.pdu.specs.declared.Parsed.the-variants.{Is}
 use Rattle.pdu.specs.declared.Pdu.the-variants.{PropertyValueRead}
 use Rattle.device.specs.Sessions.{sessionOf}
 use Rattle.device.specs.Events.{Effect, State}
-use Rattle.events.specs.Events.{Event, request, eventOf, run}
+use Rattle.events.specs.Events.{Event, button, request, restore, eventOf, run}
 use Rattle.device.specs.MemoryDue.{reading}
+use Rattle.device.specs.Due.{ButtonDue}
+use Rattle.events.specs.Due.{RestoreDue}
 use Rattle.device.specs.Apart.{SameEffect, Together}
 use Rattle.events.specs.Apart.{Settled, AllSettled}
-use Rattle.device.proofs.promises.Called.{call-only}
-use Rattle.device.proofs.promises.Dues.{request-due}
+use Rattle.device.proofs.promises.Called.{call-due, call-only}
+use Rattle.device.proofs.promises.Dues.{connect-due, connect-only, disconnect-due, disconnect-only, button-due, button-only, request-due}
+use Rattle.events.proofs.Dues.{restore-due, restore-only}
 use Rattle.events.proofs.RunsApart.{event-apart}
 use Rattle.history.specs.History.{First, permitted}
 use Rattle.history.specs.Keeps.{stateAfter, CarriedOut, BringsOctets, AllOctets, Begins, Kept}
@@ -25,7 +28,7 @@ use Rattle.history.specs.Keyless.{Locked, Closed, Protected}
 use Rattle.history.specs.Shown.{Shows, MemoryShows}
 use Rattle.history.specs.Isolation.{isOf, Alike, Beside}
 use Rattle.history.specs.Rightful.{ours}
-use Rattle.history.specs.Calls.{Call, connects, disconnects, presses, requests, Calls, begin, next, restores, Follows}
+use Rattle.history.specs.Calls.{Call, connects, disconnects, presses, requests, Calls, begin, next, restores, Follows, EventDue}
 use Rattle.history.proofs.promises.InOrder.{firstState, run-on}
 use Rattle.history.proofs.promises.Isolated.{isolated}
 use Rattle.history.proofs.promises.Keep.{keeps}
@@ -49,6 +52,26 @@ call-is {x} (requests mode c g a out r s′ o′ k) = (
 )
 call-is {x} (restores c n st r s′ small p) =
     (ap₂ (λ (n : ℕ) (s : List ℕ). record { outcome = n; answer = []; sessions = x .sessions; sheet = s }) (p .outcome) (p .after), small)
+
+-- DEMAND 2: WHAT A CALL DOES IS WHAT IS DUE for its event
+pub calls-due : {x : State} {e : Event} {r : Effect} → Call x e r → EventDue e x r
+unfolding eventOf
+calls-due {x} (connects c) = connect-due x c
+calls-due {x} (disconnects c) = disconnect-due x c
+calls-due {x} (presses on r s′ p) = let d : Call x (button on) _ = presses on r s′ p in subst (ButtonDue on x) (sym (call-is d .0)) (button-due x on)
+calls-due {x} (requests mode c g a out r s′ o′ k) = call-due (x .sessions) mode c g a (x .sheet) out r s′ o′ k
+calls-due {x} (restores c n st r s′ small p) =
+    let d : Call x (restore c n st) _ = restores c n st r s′ small p in subst (RestoreDue c n st x) (sym (call-is d .0)) (restore-due x c n st)
+
+-- AND NOTHING ELSE IS
+pub calls-only : {x : State} {e : Event} {r : Effect} → Call x e r → (y : Effect) → EventDue e x y → y ≡ r
+unfolding eventOf
+calls-only {x} (connects c) y d = connect-only x c y d
+calls-only {x} (disconnects c) y d = disconnect-only x c y d
+calls-only {x} (presses on r s′ p) y d = let k : Call x (button on) _ = presses on r s′ p in button-only x on y d ∙ sym (call-is k .0)
+calls-only {x} (requests mode c g a out r s′ o′ k) y d = call-only (x .sessions) mode c g a (x .sheet) out r s′ o′ k y d
+calls-only {x} (restores c n st r s′ small p) y d =
+    let k : Call x (restore c n st) _ = restores c n st r s′ small p in restore-only x c n st y d ∙ sym (call-is k .0)
 
 -- ONE CALL MORE, and a run of events more
 pub call-follows :

@@ -1,4 +1,4 @@
--- PERMITTED, as a test of the history, and as the propositions of the services.
+-- PERMITTED, of a state: as the test that a history makes, and as the propositions of the services.
 -- Assumes nothing.
 use Prim.Native.Nat.{ℕ}
 use mathlib.Core.Path.{_≡_, sym}

@@ -72,7 +72,7 @@ within : 55 ≤ length guarded
 unfolding guarded
 within = omega arith
 
-hidden : Hide 3 guarded otherSecrets
+pub hidden : Hide 3 guarded otherSecrets
 hidden =
     record {
       accepted = begins-one .accepted;
