@@ -4,10 +4,11 @@ use Prim.Native.Nat.{ℕ}
 use mathlib.Core.Path.{_≡_, refl}
 use mathlib.Core.List.{List, [], _∷_, map}
 use Rattle.octets.specs.Bytes.{numAt, bytesOf}
-use Rattle.pdu.specs.Table.{find}
+use Rattle.pdu.specs.Table.{rowOf, services, find}
 use Rattle.pdu.specs.Rules.{lowAt, fourAt, twelveAt, headBytes}
 use Rattle.pdu.specs.Read.{readPdu, readOutcome, dataOf}
 use Rattle.pdu.specs.Write.{encoded}
+use Rattle.pdu.specs.declared.Service.{Service}
 use Rattle.pdu.specs.declared.Pdu.{Pdu}
 use Rattle.pdu.specs.declared.Pdu.the-variants.{GroupValueRead, GroupValueResponse, GroupValueWrite, IndividualAddressWrite, IndividualAddressRead, SerialNumberRead, SerialNumberWrite, DeviceDescriptorRead, PropertyValueRead, PropertyValueWrite, PropertyDescriptionRead, MemoryRead, MemoryWrite, MemoryBitWrite, AuthorizeRequest, KeyWrite, Restart, IndividualAddressResponse, SerialNumberResponse, DeviceDescriptorResponse, PropertyValueResponse, PropertyDescriptionResponse, MemoryResponse, AuthorizeResponse, KeyResponse, UserMemoryRead, UserMemoryResponse, UserMemoryWrite}
 use Rattle.pdu.specs.declared.Parsed.{Parsed}
@@ -52,6 +53,7 @@ examples =
     exact (0x03 ∷ 0xDD ∷ 0x00 ∷ 0xC5 ∷ 0x01 ∷ 0x02 ∷ 0x03 ∷ 0x04 ∷ 0x00 ∷ 0x00 ∷ 0x00 ∷ 0x00 ∷ []) (SerialNumberResponse 0x00C501020304 0) [] ∷
     exact (0x03 ∷ 0x40 ∷ 0x07 ∷ 0xB0 ∷ []) (DeviceDescriptorResponse 0) (0x07 ∷ 0xB0 ∷ []) ∷
     exact (0x03 ∷ 0x7F ∷ []) (DeviceDescriptorResponse 63) [] ∷
+    exact (0x03 ∷ 0x42 ∷ 0xD1 ∷ 0xD2 ∷ 0xD3 ∷ 0xD4 ∷ 0xD5 ∷ 0xD6 ∷ 0xD7 ∷ 0xD8 ∷ 0xD9 ∷ 0xDA ∷ 0xDB ∷ 0xDC ∷ 0xDD ∷ 0xDE ∷ []) (DeviceDescriptorResponse 2) (0xD1 ∷ 0xD2 ∷ 0xD3 ∷ 0xD4 ∷ 0xD5 ∷ 0xD6 ∷ 0xD7 ∷ 0xD8 ∷ 0xD9 ∷ 0xDA ∷ 0xDB ∷ 0xDC ∷ 0xDD ∷ 0xDE ∷ []) ∷
     exact (0x03 ∷ 0xD6 ∷ 0x01 ∷ 0x33 ∷ 0x10 ∷ 0x01 ∷ 0x03 ∷ 0xE8 ∷ []) (PropertyValueResponse 0x01 0x33 1 1) (0x03 ∷ 0xE8 ∷ []) ∷
     exact (0x03 ∷ 0xD6 ∷ 0x01 ∷ 0x33 ∷ 0x00 ∷ 0x01 ∷ []) (PropertyValueResponse 0x01 0x33 0 1) [] ∷
     exact (0x03 ∷ 0xD9 ∷ 0x01 ∷ 0x33 ∷ 0x00 ∷ 0x84 ∷ 0x00 ∷ 0x02 ∷ 0x31 ∷ []) (PropertyDescriptionResponse 0x01 0x33 0 0x84 2 0x31) [] ∷
@@ -87,6 +89,13 @@ wanted x = record { read = Is (x .pdu); data-of = x .rest; bytes = x .written }
 pub vectors : map found examples ≡ map wanted examples
 unfolding readPdu find dataOf encoded headBytes numAt bytesOf lowAt fourAt twelveAt
 vectors = refl
+
+-- THE TABLE'S ORDER, by the first code of each row: its place in the table is a service's number in C
+pub in-order :
+    map (λ (k : Service). rowOf k .base) services
+    ≡ 0x000 ∷ 0x040 ∷ 0x080 ∷ 0x0C0 ∷ 0x100 ∷ 0x3DC ∷ 0x3DE ∷ 0x300 ∷ 0x3D5 ∷ 0x3D7 ∷ 0x3D8 ∷ 0x200 ∷ 0x280 ∷ 0x3D0 ∷
+    0x3D1 ∷ 0x3D3 ∷ 0x380 ∷ 0x140 ∷ 0x3DD ∷ 0x340 ∷ 0x3D6 ∷ 0x3D9 ∷ 0x240 ∷ 0x3D2 ∷ 0x3D4 ∷ 0x2C0 ∷ 0x2C1 ∷ 0x2C2 ∷ []
+in-order = refl
 
 -- bytes that are no APDU of the table, and the number of the refusal
 pub record Refusal : Type 0 where
