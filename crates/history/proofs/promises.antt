@@ -19,4 +19,5 @@ pub mod Counted
 pub mod NothingShown
 pub mod Unlearned
 pub mod Acts
+pub mod ActsWorked
 pub mod RestoredLater
