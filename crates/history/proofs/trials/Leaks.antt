@@ -99,10 +99,10 @@ storesOnClose f h x (restore c n st) = eventOf x (restore c n st)
 
 -- what the other tool sends in one of two runs: to group 0801 a read of its value, to all the question for addresses in programming mode, connectionless a read of the height; and version 1 restored on its connection, which is closed
 abbrev pub readGroup : Event
-readGroup = request 1 0 0x0801 (0x00 ∷ 0x00 ∷ []) buffer
+readGroup = request 0 0 0x0801 (0x00 ∷ 0x00 ∷ []) buffer
 
 abbrev pub readAddresses : Event
-readAddresses = request 0 0 0 (0x01 ∷ 0x00 ∷ []) buffer
+readAddresses = request 1 0 0 (0x01 ∷ 0x00 ∷ []) buffer
 
 abbrev pub readUnconnected : Event
 readUnconnected = request 2 0 0 (0x03 ∷ 0xD5 ∷ 0x01 ∷ 0x33 ∷ 0x10 ∷ 0x01 ∷ []) buffer

@@ -22,7 +22,7 @@ use Rattle.pdu.specs.Read.{readPdu, dataOf}
 use Rattle.pdu.specs.Write.{encoded}
 use Rattle.judge.specs.Session.{levelOf, levelIn}
 use Rattle.judge.specs.declared.Session.{Session}
-use Rattle.judge.specs.Groups.{groupReadOf}
+use Rattle.judge.specs.Groups.{valueOf, flagsAt, groupReadOf}
 use Rattle.judge.specs.Addresses.{addressReadOf}
 use Rattle.judge.specs.Properties.{readIn, propertyReadOf}
 use Rattle.judge.specs.Keys.{grantOf, authorizeOf}
@@ -95,19 +95,19 @@ unfolding stateAfter eventOf requestOf stepOf stepBy judgeOf verdictOf isShut re
 connectionless-shown =
     counted (inMode 2) (readUnconnected ∷ []) [] (oneMore {e = readUnconnected} refl (refl, λ r k. unlike readUnconnected refl r) begin) (λ e. omega arith)
 
-pub group-shown : Isolated (showing (inMode 1)) → ⊥
-unfolding stateAfter eventOf requestOf stepOf stepBy judgeOf verdictOf isShut reachedOf rulesOf levelIn levelOf groupReadOf seek indexOf
+pub group-shown : Isolated (showing (inMode 0)) → ⊥
+unfolding stateAfter eventOf requestOf stepOf stepBy judgeOf verdictOf isShut reachedOf rulesOf levelIn levelOf valueOf flagsAt groupReadOf seek indexOf
     asks readPdu find dataOf encoded headBytes lowAt fourAt twelveAt splice
     ruleIn walkRule restRule entriesRule bodiesRule entryRule bodyRule bodyDemands entryDemands entry keyOf floor bodyAt bodyEnd startOf reached sixBits first breach numAt bytesOf sample
 group-shown =
-    counted (inMode 1) (readGroup ∷ []) [] (oneMore {e = readGroup} refl (refl, λ r k. unlike readGroup refl r) begin) (λ e. omega arith)
+    counted (inMode 0) (readGroup ∷ []) [] (oneMore {e = readGroup} refl (refl, λ r k. unlike readGroup refl r) begin) (λ e. omega arith)
 
-pub broadcast-shown : Isolated (showing (inMode 0)) → ⊥
+pub broadcast-shown : Isolated (showing (inMode 1)) → ⊥
 unfolding stateAfter eventOf requestOf stepOf stepBy judgeOf verdictOf isShut reachedOf rulesOf levelIn levelOf addressReadOf
     asks readPdu find dataOf encoded headBytes lowAt fourAt twelveAt splice
     ruleIn walkRule restRule entriesRule bodiesRule entryRule bodyRule bodyDemands entryDemands entry keyOf floor bodyAt bodyEnd startOf reached sixBits first breach numAt bytesOf sample
 broadcast-shown =
-    counted (inMode 0) (readAddresses ∷ []) [] (oneMore {e = readAddresses} refl (refl, λ r k. unlike readAddresses refl r) begin) (λ e. omega arith)
+    counted (inMode 1) (readAddresses ∷ []) [] (oneMore {e = readAddresses} refl (refl, λ r k. unlike readAddresses refl r) begin) (λ e. omega arith)
 
 -- ITS DISCONNECT, in either run
 pub disconnect-shown : (Isolated (showing isDisconnect) → ⊥) × (Isolated (showing isDisconnect) → ⊥)
