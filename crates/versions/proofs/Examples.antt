@@ -92,24 +92,31 @@ counted = splice twice 32 (0x00 ∷ 0x03 ∷ [])
 unfoldable pub both : List ℕ
 both = splice levelled 32 (0x00 ∷ 0x03 ∷ [])
 
--- EACH REFUSAL OF A SAVE, alone and before those behind it: 4 and 30, 30, 31, 31 and 32 and 33, 32 and 33
+-- EACH REFUSAL OF A SAVE, alone or before those behind it: 4 and 30, 14 and 30, 30, 31, 31 and 32 and 33, 32 and 33, 33
 pub saves-worked :
-    saveOutcome [] [] ∷ saveOutcome sample [] ∷ saveOutcome sample (splice empty 2 (0xFF ∷ 0xFF ∷ [])) ∷ saveOutcome sample (eight 0xFF 0xFF) ∷ saveOutcome sample (eight 0x00 0x08) ∷ []
-    ≡ 4 ∷ 30 ∷ 31 ∷ 31 ∷ 32 ∷ []
-unfolding eight sample empty once saveOutcome saveNumber saveStore saved settingsOf laid headOf rowOf tableOf bodiesOf versionAt versionsFrom kept
+    saveOutcome [] [] ∷ saveOutcome (splice sample 0 (0x01 ∷ [])) [] ∷ saveOutcome sample [] ∷ saveOutcome sample (splice empty 2 (0xFF ∷ 0xFF ∷ [])) ∷
+    saveOutcome sample (eight 0xFF 0xFF) ∷ saveOutcome sample (eight 0x00 0x08) ∷ saveOutcome later twice ∷ []
+    ≡ 4 ∷ 14 ∷ 30 ∷ 31 ∷ 31 ∷ 32 ∷ 33 ∷ []
+unfolding eight sample later empty once twice saveOutcome saveNumber saveStore saved settingsOf laid headOf rowOf tableOf bodiesOf versionAt versionsFrom kept
     rowsRule allRows storeRule isStore verdictOf ruleIn walkRule restRule entriesRule bodiesRule entryRule bodyRule bodyDemands entryDemands
     entry keyOf floor bodyAt bodyEnd startOf reached sixBits first breach splice numAt bytesOf
 saves-worked = refl
 
--- OF A RESTORE: 4 and 30, 30 and 34, 34 and 35, 35 and 36, 36, 36 and 37, 37
+-- OF A RESTORE: 4 and 30, 14 and 30, 30 and 34, 34 and 35, 35 and 36, 36, 36 and 37, 37
 pub restores-worked :
-    restoreOutcome tool [] [] 1 ∷ restoreOutcome tool later [] 1 ∷ restoreOutcome other later twice 3 ∷ restoreOutcome other later levelled 1 ∷
+    restoreOutcome tool [] [] 1 ∷ restoreOutcome tool (splice later 0 (0x01 ∷ [])) [] 1 ∷ restoreOutcome tool later [] 1 ∷ restoreOutcome other later twice 3 ∷
+    restoreOutcome other later levelled 1 ∷
     restoreOutcome tool later levelled 1 ∷ restoreOutcome tool later both 1 ∷ restoreOutcome tool later counted 1 ∷ []
-    ≡ 4 ∷ 30 ∷ 34 ∷ 35 ∷ 36 ∷ 36 ∷ 37 ∷ []
+    ≡ 4 ∷ 14 ∷ 30 ∷ 34 ∷ 35 ∷ 36 ∷ 36 ∷ 37 ∷ []
 unfolding levelled counted both sample later twice restoreOutcome restoreSheet restored bodyOf has isKept versionIn every sameEntry lowCount sameEntries lowCounts givesBack atZero settingsOf versionAt versionsFrom kept
     rowsRule allRows storeRule isStore verdictOf ruleIn walkRule restRule entriesRule bodiesRule entryRule bodyRule bodyDemands entryDemands
     entry keyOf floor bodyAt bodyEnd startOf reached sixBits first breach splice numAt bytesOf
 restores-worked = refl
+
+-- OF A REMOVE: 30 and 34, 34
+pub removes-worked : removeOutcome [] 3 ∷ removeOutcome twice 3 ∷ [] ≡ 30 ∷ 34 ∷ []
+unfolding twice removeOutcome has isKept versionAt versionsFrom kept rowsRule allRows storeRule isStore breach splice numAt bytesOf
+removes-worked = refl
 
 -- OF A STORE: eight versions are good, nine are not; number 1 is good, number 0 is not; eight bytes are enough, seven are not
 pub stores-worked :

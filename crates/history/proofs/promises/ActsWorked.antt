@@ -2,7 +2,7 @@
 -- Assumes nothing.
 use Prim.Native.Nat.{ℕ}
 use mathlib.Core.Path.{_≡_, refl}
-use mathlib.Core.List.{List, [], _∷_}
+use mathlib.Core.List.{List, [], _∷_, map}
 use lib.ListN.{replicate}
 use Rattle.octets.specs.Bytes.{numAt, bytesOf}
 use Rattle.octets.specs.Every.{every}
@@ -61,7 +61,7 @@ abbrev pub takenOut : List Act
 takenOut = removes 1 ∷ givenBack
 
 -- THE STORE after each
-pub stores-worked : storeAfter ours fresh empty savedOnce ∷ storeAfter ours fresh empty savedTwice ∷ storeAfter ours fresh empty givenBack ∷ storeAfter ours fresh empty takenOut ∷ [] ≡ once ∷ twice ∷ twice ∷ left ∷ []
+pub stores-worked : map (storeAfter ours fresh empty) (savedOnce ∷ savedTwice ∷ givenBack ∷ takenOut ∷ []) ≡ once ∷ twice ∷ twice ∷ left ∷ []
 unfolding eventsOf storeAfter stateAfter eventOf requestOf stepOf stepBy judgeOf isShut reachedOf rulesOf levelIn levelOf grantOf authorizeOf writeIn propertyWriteOf
     readPdu find dataOf encoded headBytes lowAt fourAt twelveAt seek indexOf empty once later twice left sample
     saveOutcome saveStore saved settingsOf laid headOf rowOf tableOf bodiesOf versionAt versionsFrom kept removeOutcome removeStore removed without has isKept

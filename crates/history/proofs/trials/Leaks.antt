@@ -97,7 +97,8 @@ storesOnClose f h x (button on) = eventOf x (button on)
 storesOnClose f h x (request mode c g a out) = eventOf x (request mode c g a out)
 storesOnClose f h x (restore c n st) = eventOf x (restore c n st)
 
--- what the other tool sends in one of two runs: to group 0801 a read of its value, to all the question for addresses in programming mode, connectionless a read of the height; and version 1 restored on its connection, which is closed
+-- what the other tool sends in one of two runs: to group 0801 a read of its value, to all the question for addresses in programming mode, connectionless a read of the height;
+-- and version 1 restored on its connection, which is closed
 abbrev pub readGroup : Event
 readGroup = request 0 0 0x0801 (0x00 ∷ 0x00 ∷ []) buffer
 

@@ -67,7 +67,8 @@ jump = sent (0x03 ∷ 0xD7 ∷ 0x01 ∷ 0x33 ∷ 0x10 ∷ 0x02 ∷ 0x03 ∷ 0x84
 abbrev pub restarting : Event
 restarting = sent (0x03 ∷ 0x80 ∷ [])
 
--- version 1 restored on connection 0, from a store that keeps the sample's properties: as they are, with another write level, with another value, and with a property that is not writable, of another value
+-- version 1 restored on connection 0, from a store that keeps the sample's properties:
+-- as they are, with another write level, with another value, and with a property that is not writable, of another value
 abbrev pub given : List ℕ → Event
 given st = restore 0 1 st
 
