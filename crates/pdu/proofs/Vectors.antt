@@ -3,6 +3,7 @@
 use Prim.Native.Nat.{ℕ}
 use mathlib.Core.Path.{_≡_, refl}
 use mathlib.Core.List.{List, [], _∷_, map}
+use lib.ListN.{replicate}
 use Rattle.octets.specs.Bytes.{numAt, bytesOf}
 use Rattle.pdu.specs.Table.{rowOf, services, find}
 use Rattle.pdu.specs.Rules.{lowAt, fourAt, twelveAt, headBytes}
@@ -53,8 +54,6 @@ examples =
     exact (0x03 ∷ 0xDD ∷ 0x00 ∷ 0xC5 ∷ 0x01 ∷ 0x02 ∷ 0x03 ∷ 0x04 ∷ 0x00 ∷ 0x00 ∷ 0x00 ∷ 0x00 ∷ []) (SerialNumberResponse 0x00C501020304 0) [] ∷
     exact (0x03 ∷ 0x40 ∷ 0x07 ∷ 0xB0 ∷ []) (DeviceDescriptorResponse 0) (0x07 ∷ 0xB0 ∷ []) ∷
     exact (0x03 ∷ 0x7F ∷ []) (DeviceDescriptorResponse 63) [] ∷
-    exact (0x03 ∷ 0x42 ∷ 0xD1 ∷ 0xD2 ∷ 0xD3 ∷ 0xD4 ∷ 0xD5 ∷ 0xD6 ∷ 0xD7 ∷ 0xD8 ∷ 0xD9 ∷ 0xDA ∷ 0xDB ∷ 0xDC ∷ 0xDD ∷ 0xDE ∷ []) (DeviceDescriptorResponse 2)
-    (0xD1 ∷ 0xD2 ∷ 0xD3 ∷ 0xD4 ∷ 0xD5 ∷ 0xD6 ∷ 0xD7 ∷ 0xD8 ∷ 0xD9 ∷ 0xDA ∷ 0xDB ∷ 0xDC ∷ 0xDD ∷ 0xDE ∷ []) ∷
     exact (0x03 ∷ 0xD6 ∷ 0x01 ∷ 0x33 ∷ 0x10 ∷ 0x01 ∷ 0x03 ∷ 0xE8 ∷ []) (PropertyValueResponse 0x01 0x33 1 1) (0x03 ∷ 0xE8 ∷ []) ∷
     exact (0x03 ∷ 0xD6 ∷ 0x01 ∷ 0x33 ∷ 0x00 ∷ 0x01 ∷ []) (PropertyValueResponse 0x01 0x33 0 1) [] ∷
     exact (0x03 ∷ 0xD9 ∷ 0x01 ∷ 0x33 ∷ 0x00 ∷ 0x84 ∷ 0x00 ∷ 0x02 ∷ 0x31 ∷ []) (PropertyDescriptionResponse 0x01 0x33 0 0x84 2 0x31) [] ∷
@@ -90,6 +89,28 @@ wanted x = record { read = Is (x .pdu); data-of = x .rest; bytes = x .written }
 pub vectors : map found examples ≡ map wanted examples
 unfolding readPdu find dataOf encoded headBytes numAt bytesOf lowAt fourAt twelveAt
 vectors = refl
+
+-- EACH PDU WITH DATA AT ITS LONGEST, so many bytes of data as it may have
+abbrev rest : ℕ → List ℕ
+rest n = replicate n 0x55
+
+abbrev pub longest : List Example
+longest =
+    exact (0x00 ∷ 0x40 ∷ rest 14) (GroupValueResponse 0) (rest 14) ∷
+    exact (0x00 ∷ 0x80 ∷ rest 14) (GroupValueWrite 0) (rest 14) ∷
+    exact (0x03 ∷ 0x42 ∷ rest 14) (DeviceDescriptorResponse 2) (rest 14) ∷
+    exact (0x03 ∷ 0xD7 ∷ 0x01 ∷ 0x33 ∷ 0x50 ∷ 0x01 ∷ rest 10) (PropertyValueWrite 0x01 0x33 5 1) (rest 10) ∷
+    exact (0x03 ∷ 0xD6 ∷ 0x01 ∷ 0x33 ∷ 0x50 ∷ 0x01 ∷ rest 10) (PropertyValueResponse 0x01 0x33 5 1) (rest 10) ∷
+    exact (0x02 ∷ 0x8C ∷ 0x01 ∷ 0x00 ∷ rest 12) (MemoryWrite 12 0x0100) (rest 12) ∷
+    exact (0x02 ∷ 0x4C ∷ 0x01 ∷ 0x00 ∷ rest 12) (MemoryResponse 12 0x0100) (rest 12) ∷
+    exact (0x03 ∷ 0xD0 ∷ 0x05 ∷ 0x01 ∷ 0x00 ∷ rest 10) (MemoryBitWrite 5 0x0100) (rest 10) ∷
+    exact (0x02 ∷ 0xC1 ∷ 0x0B ∷ 0x02 ∷ 0x00 ∷ rest 11) (UserMemoryResponse 11 0x0200) (rest 11) ∷
+    exact (0x02 ∷ 0xC2 ∷ 0x0B ∷ 0x02 ∷ 0x00 ∷ rest 11) (UserMemoryWrite 11 0x0200) (rest 11) ∷
+    []
+
+pub longest-worked : map found longest ≡ map wanted longest
+unfolding readPdu find dataOf encoded headBytes numAt bytesOf lowAt fourAt twelveAt
+longest-worked = refl
 
 -- THE TABLE'S ORDER, by the first code of each row: its place in the table is a service's number in C
 pub in-order :
