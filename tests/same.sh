@@ -34,7 +34,9 @@ for sheet in "$sample" "$pump"; do
         same "$copy" "$sheet" "$(line_with "$copy" "${place#* } " "$sheet" | digits)"
     done
 done
-same crates/sheet_check/stdin "$sample" "$(od -An -v -tx1 crates/sheet_check/stdin | digits)"
+# its edition 1, which sheet_check's stored run calls OLD
+same "$defined, the old one" "01${sample:2}" "$(sed -n '/^oldSample =/,/\[\]$/p' $defined | grep -o '0x..' | sed 's/0x//' | digits)"
+same crates/sheet_check/stdin "01${sample:2}" "$(od -An -v -tx1 crates/sheet_check/stdin | digits)"
 same docs/SHEET.md "$sample" "$(shown_below 'The sample sheet')"
 same docs/SHEET.md "$pump" "$(shown_below 'A sheet with user memory')"
 worked=$(sed -n '/^trace =/,/\[\]$/p' crates/playback/proofs/Example.antt | grep -o '0x..' | sed 's/0x//' | digits)
@@ -108,4 +110,4 @@ version=$(sed -n 's/.*KELINDAP_VERSION_TEXT "\(.*\)"/\1/p' include/kelindap_comm
 same CHANGELOG.md "$version" "$(sed -n 's/^## \([0-9].*\)/\1/p' CHANGELOG.md | head -n 1)"
 [ -e LICENSE ] || [ -e LICENCE ] || grep -q '^No licence is given yet' README.md || { echo "same: README says nothing of a licence"; bad=1; }
 [ "$bad" = 0 ]
-echo "same: the sample sheet in 5 places, that with user memory in 3, the marked cases in 2"
+echo "same: the sample sheet in 4 places, its edition 1 in 2, that with user memory in 3, the marked cases in 2"

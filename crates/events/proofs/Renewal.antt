@@ -1,8 +1,10 @@
 -- THE CONVERSION OF AN OLD SHEET ANSWERS EVERY EVENT AS THE OLD SHEET DID in the release before, as `Before` models it, along every run; and what was saved from it is given back.
 -- Assumes nothing.
 use Prim.Native.Nat.{ℕ}
-use mathlib.Core.Path.{_≡_, refl, sym, ap₂}
+use mathlib.Core.Path.{_≡_, refl, sym, ap, ap₂}
+use mathlib.Core.Bool.{cond}
 use mathlib.Core.List.{List}
+use lib.Dec.{eqb}
 use Rattle.sheet.specs.Rules.{Old, refusalOf, refusalBefore}
 use Rattle.sheet.specs.Convert.{conversionOf}
 use Rattle.sheet.proofs.promises.Verdicts.{refused-none}
@@ -13,7 +15,7 @@ use Rattle.device.specs.Step.{stepOf}
 use Rattle.device.specs.Events.{State, buttonOutcome, buttonSheet, requestOf}
 use Rattle.device.proofs.apart.Renewing.{renews, let-be, is-conversion}
 use Rattle.versions.specs.Settings.{settingsOf}
-use Rattle.versions.specs.Saving.{saveBy, saveOutcome}
+use Rattle.versions.specs.Saving.{saved, saveBy, numberBy, storeBy, saveOutcome, saveNumber, saveStore}
 use Rattle.versions.specs.Restoring.{restoreBy, leftBy, restoreOutcome, restoreSheet}
 use Rattle.events.specs.Events.{Event, connect, disconnect, button, request, restore, eventWith, eventOf, run}
 use Rattle.events.specs.Before.{refusing, eventBefore, runBefore, AsBefore}
@@ -49,6 +51,14 @@ runs-as-before q s o es =
     let k = run-alike _ _ es (start q s o) in
     ap₂ (λ (p : Sessions) (t : List ℕ). record { sessions = p; sheet = t }) (k .sessions) (is-conversion (k .sheet))
 
+-- the outcome of a save
+outcome-before : (s : List ℕ) → Old s → (st : List ℕ) → saveOutcome (conversionOf s) st ≡ saveBy (refusalBefore s) s st
+unfolding saveOutcome
+outcome-before s o st =
+    let r = renews s o in
+    let e = sym (settings-same r) in
+    rw (refused-none (conversionOf s) (r .accepted), let-be r, e)
+
 -- A VERSION SURVIVES: what any store gives back to the conversion is what it gave back to the old sheet
 pub version-survives :
     (s : List ℕ) → Old s → (q : Session) (st : List ℕ) (n : ℕ) →
@@ -56,12 +66,14 @@ pub version-survives :
     × (restoreSheet q (conversionOf s) st n ≡ conversionOf (leftBy (restoreBy (refusalBefore s) q s st n) s st n))
 version-survives s o q st n = (sym (restore-same (renews s o) q st n), is-conversion (restore-renews (renews s o) q st n))
 
--- and a save of the conversion has the outcome and holds the bytes that one of the old sheet did
+-- and a save of the conversion gives the outcome and the number and leaves the store that one of the old sheet did, with the same bytes for a body
 pub saved-as-before :
     (s : List ℕ) → Old s → (st : List ℕ) →
-    (saveOutcome (conversionOf s) st ≡ saveBy (refusalBefore s) s st) × (settingsOf (conversionOf s) ≡ settingsOf s)
-unfolding saveOutcome
+    (let r = saveBy (refusalBefore s) s st in
+    (saveOutcome (conversionOf s) st ≡ r) × (saveNumber (conversionOf s) st ≡ numberBy r st) × (saveStore (conversionOf s) st ≡ storeBy r s st)
+    × (settingsOf (conversionOf s) ≡ settingsOf s))
+unfolding saveNumber saveStore
 saved-as-before s o st =
-    let r = renews s o in
-    let e = sym (settings-same r) in
-    (rw (refused-none (conversionOf s) (r .accepted), let-be r, e), e)
+    let e = outcome-before s o st in
+    let d = sym (settings-same (renews s o)) in
+    (e, ap (λ (n : ℕ). numberBy n st) e, ap₂ (λ (n : ℕ) (b : List ℕ). cond (eqb n 0) (saved st b) st) e d, d)

@@ -20,4 +20,5 @@ pub mod NothingShown
 pub mod Unlearned
 pub mod SameParts
 pub mod Acts
+pub mod ActsWorked
 pub mod RestoredLater

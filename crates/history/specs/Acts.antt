@@ -6,15 +6,24 @@ use mathlib.Core.List.{List, [], _∷_}
 use mathlib.Core.Bool.{true, false}
 use lib.Dec.{eqb}
 use Rattle.events.specs.Events.{Event, restore}
+use Rattle.versions.specs.Saving.{saveStore}
+use Rattle.versions.specs.Removing.{removeStore}
 use Rattle.history.specs.History.{First}
 use Rattle.history.specs.Keeps.{Device, stateAfter}
-use Rattle.history.specs.Isolation.{isOf, mayBeOf, Alike, Harmless}
+use Rattle.history.specs.Isolation.{isOf, mayBeOf, Alike, Harmless, Seen}
 
 -- an event; whatever changes the store, given the sheet as it then stands, as a save or a remove does; a restore on a connection, by number, from the store as it then stands
 pub data Act : Type 0 where
   does : Event → Act
   stores : (List ℕ → List ℕ → List ℕ) → Act
   restores : ℕ → ℕ → Act
+
+-- a save, and a remove of the version with a number
+abbrev pub saves : Act
+saves = stores saveStore
+
+abbrev pub removes : ℕ → Act
+removes n = stores (λ s st. removeStore st n)
 
 -- THE EVENTS OF A RUN OF ACTS, AND THE STORE AFTER IT, the newest first, `st` being the store at first
 unfoldable mutual
@@ -50,3 +59,9 @@ pub data BesideActs (step : Device) (f : First) (st : List ℕ) (o : ℕ) : List
   otherRestore :
       {h h′ : List Act} (n : ℕ) → Harmless step f (eventsOf step f st h′) (restore o n (storeAfter step f st h′)) → BesideActs step f st o h h′ →
       BesideActs step f st o h (restores o n ∷ h′)
+
+-- ISOLATION WITH A STORE: the tool on connection t sees the same, and the store is the same
+abbrev pub ActsIsolated : Device → Type 0
+ActsIsolated step =
+    (f : First) (st : List ℕ) (t o : ℕ) → (t ≡ o → ⊥) → (h h′ : List Act) → BesideActs step f st o h h′ →
+    Seen step f t o (eventsOf step f st h) (eventsOf step f st h′) × (storeAfter step f st h ≡ storeAfter step f st h′)

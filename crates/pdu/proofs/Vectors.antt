@@ -3,11 +3,13 @@
 use Prim.Native.Nat.{ℕ}
 use mathlib.Core.Path.{_≡_, refl}
 use mathlib.Core.List.{List, [], _∷_, map}
+use lib.ListN.{replicate}
 use Rattle.octets.specs.Bytes.{numAt, bytesOf}
-use Rattle.pdu.specs.Table.{find}
+use Rattle.pdu.specs.Table.{rowOf, services, find}
 use Rattle.pdu.specs.Rules.{lowAt, fourAt, twelveAt, headBytes}
 use Rattle.pdu.specs.Read.{readPdu, readOutcome, dataOf}
 use Rattle.pdu.specs.Write.{encoded}
+use Rattle.pdu.specs.declared.Service.{Service}
 use Rattle.pdu.specs.declared.Pdu.{Pdu}
 use Rattle.pdu.specs.declared.Pdu.the-variants.{GroupValueRead, GroupValueResponse, GroupValueWrite, IndividualAddressWrite, IndividualAddressRead, SerialNumberRead, SerialNumberWrite, DeviceDescriptorRead, PropertyValueRead, PropertyValueWrite, PropertyDescriptionRead, MemoryRead, MemoryWrite, MemoryBitWrite, AuthorizeRequest, KeyWrite, Restart, IndividualAddressResponse, SerialNumberResponse, DeviceDescriptorResponse, PropertyValueResponse, PropertyDescriptionResponse, MemoryResponse, AuthorizeResponse, KeyResponse, UserMemoryRead, UserMemoryResponse, UserMemoryWrite}
 use Rattle.pdu.specs.declared.Parsed.{Parsed}
@@ -87,6 +89,35 @@ wanted x = record { read = Is (x .pdu); data-of = x .rest; bytes = x .written }
 pub vectors : map found examples ≡ map wanted examples
 unfolding readPdu find dataOf encoded headBytes numAt bytesOf lowAt fourAt twelveAt
 vectors = refl
+
+-- EACH PDU WITH DATA AT ITS LONGEST, so many bytes of data as it may have
+abbrev rest : ℕ → List ℕ
+rest n = replicate n 0x55
+
+abbrev pub longest : List Example
+longest =
+    exact (0x00 ∷ 0x40 ∷ rest 14) (GroupValueResponse 0) (rest 14) ∷
+    exact (0x00 ∷ 0x80 ∷ rest 14) (GroupValueWrite 0) (rest 14) ∷
+    exact (0x03 ∷ 0x42 ∷ rest 14) (DeviceDescriptorResponse 2) (rest 14) ∷
+    exact (0x03 ∷ 0xD7 ∷ 0x01 ∷ 0x33 ∷ 0x50 ∷ 0x01 ∷ rest 10) (PropertyValueWrite 0x01 0x33 5 1) (rest 10) ∷
+    exact (0x03 ∷ 0xD6 ∷ 0x01 ∷ 0x33 ∷ 0x50 ∷ 0x01 ∷ rest 10) (PropertyValueResponse 0x01 0x33 5 1) (rest 10) ∷
+    exact (0x02 ∷ 0x8C ∷ 0x01 ∷ 0x00 ∷ rest 12) (MemoryWrite 12 0x0100) (rest 12) ∷
+    exact (0x02 ∷ 0x4C ∷ 0x01 ∷ 0x00 ∷ rest 12) (MemoryResponse 12 0x0100) (rest 12) ∷
+    exact (0x03 ∷ 0xD0 ∷ 0x05 ∷ 0x01 ∷ 0x00 ∷ rest 10) (MemoryBitWrite 5 0x0100) (rest 10) ∷
+    exact (0x02 ∷ 0xC1 ∷ 0x0B ∷ 0x02 ∷ 0x00 ∷ rest 11) (UserMemoryResponse 11 0x0200) (rest 11) ∷
+    exact (0x02 ∷ 0xC2 ∷ 0x0B ∷ 0x02 ∷ 0x00 ∷ rest 11) (UserMemoryWrite 11 0x0200) (rest 11) ∷
+    []
+
+pub longest-worked : map found longest ≡ map wanted longest
+unfolding readPdu find dataOf encoded headBytes numAt bytesOf lowAt fourAt twelveAt
+longest-worked = refl
+
+-- THE TABLE'S ORDER, by the first code of each row: its place in the table is a service's number in C
+pub in-order :
+    map (λ (k : Service). rowOf k .base) services
+    ≡ 0x000 ∷ 0x040 ∷ 0x080 ∷ 0x0C0 ∷ 0x100 ∷ 0x3DC ∷ 0x3DE ∷ 0x300 ∷ 0x3D5 ∷ 0x3D7 ∷ 0x3D8 ∷ 0x200 ∷ 0x280 ∷ 0x3D0 ∷
+    0x3D1 ∷ 0x3D3 ∷ 0x380 ∷ 0x140 ∷ 0x3DD ∷ 0x340 ∷ 0x3D6 ∷ 0x3D9 ∷ 0x240 ∷ 0x3D2 ∷ 0x3D4 ∷ 0x2C0 ∷ 0x2C1 ∷ 0x2C2 ∷ []
+in-order = refl
 
 -- bytes that are no APDU of the table, and the number of the refusal
 pub record Refusal : Type 0 where

@@ -1,4 +1,4 @@
--- A TRACE PLAYS ON THE CONVERSION OF AN OLD SHEET AS IT DID ON THE OLD SHEET in the release before: the same log, the same sessions, and the sheet with 2 in byte 0.
+-- A TRACE PLAYS ON THE CONVERSION OF AN OLD SHEET AS IT DID ON THE OLD SHEET in the release before: as many events, the same log, the same sessions, and the sheet with 2 in byte 0.
 -- Assumes nothing.
 use Prim.Native.Nat.{ℕ, _+_, _-_, _*_, _<_, min}
 use mathlib.Core.Path.{_≡_, _∙_, ap₂}
@@ -13,7 +13,7 @@ use Rattle.events.proofs.Renewal.{answers-as-before, runs-as-before}
 use Rattle.playback.specs.Trace.{room, eventAt, eventsFrom}
 use Rattle.playback.specs.Playing.{at, line, lineOf, dueOf, Playing}
 use Rattle.playback.specs.declared.Played.{Played}
-use Rattle.playback.proofs.Promises.{played-is-run}
+use Rattle.playback.proofs.Promises.{handles, played-is-run}
 
 -- the same line of the log
 line-same : (r r′ : Effect) → AsBefore r r′ → lineOf r′ ≡ lineOf r
@@ -27,10 +27,12 @@ pub plays-as-before :
     Playing q (conversionOf s) t from limit log r s′ log′ → r .refusal ≡ 0 →
     (let n = dueOf t from limit in
     let x = runBefore (at q s) (eventsFrom t from n) in
-    (at (r .sessions) s′ ≡ at (x .sessions) (conversionOf (x .sheet)))
+    (r .handled ≡ n)
+    × (at (r .sessions) s′ ≡ at (x .sessions) (conversionOf (x .sheet)))
     × ((j : ℕ) → j < n → take line (drop (line * j) log′) ≡ lineOf (eventBefore (runBefore (at q s) (eventsFrom t from j)) (eventAt t (from + j)))))
 plays-as-before q s t from limit log r s′ log′ o p ok =
     let k = played-is-run q (conversionOf s) t from limit log r s′ log′ p ok in (
+      handles q (conversionOf s) t from limit log r s′ log′ p ok,
       k .0 ∙ runs-as-before q s o (eventsFrom t from (dueOf t from limit)),
       λ j l. k .1 j l ∙ line-same _ _ (answers-as-before q s o (eventsFrom t from j) (eventAt t (from + j))),
     )

@@ -1,4 +1,4 @@
--- Worked examples: flat PDUs with every field different, what they are written as, and that these bytes read to them.
+-- Worked examples: a flat PDU of each of the 28 kinds, with every field different, what they are written as, and that these bytes read to them.
 -- Assumes nothing.
 use Prim.Native.Nat.{ℕ, _-_}
 use mathlib.Core.Path.{_≡_, refl}
@@ -71,6 +71,23 @@ examples =
     example 25 0 0 0 0 0x0203 0 0 0 0 0x14 0 0 0 0 0 5 [] (0x02 ∷ 0xC0 ∷ 0x14 ∷ 0x02 ∷ 0x03 ∷ []) ∷
     example 26 0 0 0 0 0x0203 0 0 0 0 1 0 0 0 0 0 5 (0x04 ∷ []) (0x02 ∷ 0xC1 ∷ 0x01 ∷ 0x02 ∷ 0x03 ∷ 0x04 ∷ []) ∷
     example 27 0 0 0 0 0x0304 0 0 0 0 2 0 0 0 0 0 5 (0x05 ∷ 0x06 ∷ []) (0x02 ∷ 0xC2 ∷ 0x02 ∷ 0x03 ∷ 0x04 ∷ 0x05 ∷ 0x06 ∷ []) ∷
+    -- a group value asked for and given, an address asked for and told, a serial asked for
+    example 0 0 0 0 0 0 0 0 0 0 0 0 0 0 0 0 2 [] (0x00 ∷ 0x00 ∷ []) ∷
+    example 1 0 0 0 0 0 0 0 0 0 0 0 0 0 0 0 2 (0x01 ∷ 0x02 ∷ []) (0x00 ∷ 0x40 ∷ 0x01 ∷ 0x02 ∷ []) ∷
+    example 4 0 0 0 0 0 0 0 0 0 0 0 0 0 0 0 2 [] (0x01 ∷ 0x00 ∷ []) ∷
+    example 17 0 0 0 0 0 0 0 0 0 0 0 0 0 0 0 2 [] (0x01 ∷ 0x40 ∷ []) ∷
+    example 5 0 0 0 0x010203040506 0 0 0 0 0 0 0 0 0 0 0 8 [] (0x03 ∷ 0xDC ∷ 0x01 ∷ 0x02 ∷ 0x03 ∷ 0x04 ∷ 0x05 ∷ 0x06 ∷ []) ∷
+    -- a descriptor given, a property's value given
+    example 19 0 0x09 0 0 0 0 0 0 0 0 0 0 0 0 0 2 (0x01 ∷ 0x02 ∷ []) (0x03 ∷ 0x49 ∷ 0x01 ∷ 0x02 ∷ []) ∷
+    example 20 0 0 0 0 0 0 0 0x01 0x02 3 0x405 0 0 0 0 6 (0x06 ∷ 0x07 ∷ []) (0x03 ∷ 0xD6 ∷ 0x01 ∷ 0x02 ∷ 0x34 ∷ 0x05 ∷ 0x06 ∷ 0x07 ∷ []) ∷
+    -- memory read and given
+    example 11 0 0 0 0 0x0304 0 0 0 0 2 0 0 0 0 0 4 [] (0x02 ∷ 0x02 ∷ 0x03 ∷ 0x04 ∷ []) ∷
+    example 22 0 0 0 0 0x0304 0 0 0 0 2 0 0 0 0 0 4 (0x05 ∷ 0x06 ∷ []) (0x02 ∷ 0x42 ∷ 0x03 ∷ 0x04 ∷ 0x05 ∷ 0x06 ∷ []) ∷
+    -- a key offered, a level granted, a level's key set; a restart
+    example 14 0 0 0 0 0 0 0x01020304 0 0 0 0 0 0 0 0 7 [] (0x03 ∷ 0xD1 ∷ 0x00 ∷ 0x01 ∷ 0x02 ∷ 0x03 ∷ 0x04 ∷ []) ∷
+    example 23 0 0 0x01 0 0 0 0 0 0 0 0 0 0 0 0 3 [] (0x03 ∷ 0xD2 ∷ 0x01 ∷ []) ∷
+    example 24 0 0 0x01 0 0 0 0 0 0 0 0 0 0 0 0 3 [] (0x03 ∷ 0xD4 ∷ 0x01 ∷ []) ∷
+    example 16 0 0 0 0 0 0 0 0 0 0 0 0 0 0 0 2 [] (0x03 ∷ 0x80 ∷ []) ∷
     -- level and key
     example 15 0 0 0x01 0 0 0 0x02030405 0 0 0 0 0 0 0 0 7 [] (0x03 ∷ 0xD3 ∷ 0x01 ∷ 0x02 ∷ 0x03 ∷ 0x04 ∷ 0x05 ∷ []) ∷
     []

@@ -15,7 +15,7 @@ use Rattle.sheet.proofs.rules.Demands.{met}
 use Rattle.sheet.proofs.rules.First.{orElse-left, orElse-right}
 use Rattle.versions.specs.Head as head
 use Rattle.versions.specs.Row as row
-use Rattle.versions.specs.Store.{Rising, none, next, GoodStore, settings, tableEnd, headOf, rowOf, tableOf, bodiesOf, laid, inRow, versionAt, versionsFrom, kept}
+use Rattle.versions.specs.Store.{Rising, none, next, GoodStore, settings, lowest, tableEnd, headOf, rowOf, tableOf, bodiesOf, laid, inRow, versionAt, versionsFrom, kept}
 use Rattle.versions.specs.Rules.{headDemands, rowDemands, endDemands, rowsRule, allRows, storeRule}
 use Rattle.versions.specs.Ends.{endFrom, endOf}
 
@@ -93,9 +93,9 @@ module _ (s : List ℕ) (b : Octets s) where
     abbrev pub n : ℕ
     n = head.count of s
 
-    pub all-back : Back n 8 1 (tableEnd n)
+    pub all-back : Back n 8 lowest (tableEnd n)
     unfolding storeRule allRows
-    all-back = backs n 8 1 (tableEnd n) (omega (arith, m)) (orElse-right (breach (headDemands s)) _ ok)
+    all-back = backs n 8 lowest (tableEnd n) (omega (arith, m)) (orElse-right (breach (headDemands s)) _ ok)
 
     head-bytes : take 8 s ≡ headOf n (head.last of s)
     unfolding headOf

@@ -10,7 +10,7 @@ use Rattle.octets.specs.Octets.{Octets}
 use Rattle.sheet.specs.Layout.{_of_}
 use Rattle.versions.specs.Head as head
 use Rattle.versions.specs.Row as row
-use Rattle.versions.specs.Store.{Version, GoodStore, tableEnd, inRow, bodiesOf, laid, versionAt, versionsFrom, kept, has, isKept}
+use Rattle.versions.specs.Store.{Version, GoodStore, longest, tableEnd, inRow, bodiesOf, laid, versionAt, versionsFrom, kept, has, isKept}
 use Rattle.versions.specs.Removing.{without, removed}
 use Rattle.versions.specs.Steps.{closed, takenOut}
 use Rattle.versions.specs.Ends.{endFrom, endOf}
@@ -82,7 +82,7 @@ module _ {s : List ℕ} {n i : ℕ} (b : Octets s) (c : Chosen s n i) where
   old-long : length (laid last (before ++ (own ∷ after))) ≡ tableEnd n′ + (length (bodiesOf before) + (length (own .body) + length (bodiesOf after)))
   old-long = laid-long last (before ++ (own ∷ after)) ∙ omega (arith, bodies, all-count)
 
-  short : tableEnd n′ + (length (bodiesOf before) + (length (own .body) + length (bodiesOf after))) ≤ 32768
+  short : tableEnd n′ + (length (bodiesOf before) + (length (own .body) + length (bodiesOf after))) ≤ longest
   short = omega (arith, g .short, old-long, ap length whole, length-append (laid last (before ++ (own ∷ after))) free)
 
   abbrev a : ℕ

@@ -13,7 +13,7 @@ use Rattle.sheet.specs.Demand.{breach}
 use Rattle.sheet.proofs.rules.Demands.{unbroken}
 use Rattle.versions.specs.Head as head
 use Rattle.versions.specs.Row as row
-use Rattle.versions.specs.Store.{Version, Rising, none, next, GoodStore, settings, tableEnd, headOf, rowOf, tableOf, bodiesOf, laid, inRow, versionAt, versionsFrom, kept}
+use Rattle.versions.specs.Store.{Version, Rising, none, next, GoodStore, settings, longest, lowest, tableEnd, headOf, rowOf, tableOf, bodiesOf, laid, inRow, versionAt, versionsFrom, kept}
 use Rattle.versions.specs.Rules.{Passes, headDemands, rowDemands, endDemands, rowsRule, allRows, storeRule}
 use Rattle.versions.proofs.Laid.{length-row, length-head, length-table, laid-long, number-back, kind-back, offset-back, long-back}
 
@@ -29,7 +29,7 @@ pub record RowsPass (s : List ℕ) (p floor at : ℕ) (vs : List Version) : Type
 
 pub rows-pass :
     (s : List ℕ) (vs : List Version) (p q free : List ℕ) (floor at : ℕ) →
-    s ≡ p ++ (tableOf at vs ++ q) → drop at s ≡ bodiesOf vs ++ free → at + length (bodiesOf vs) ≤ length s → length s ≤ 32768 → head.last of s < 65536 →
+    s ≡ p ++ (tableOf at vs ++ q) → drop at s ≡ bodiesOf vs ++ free → at + length (bodiesOf vs) ≤ length s → length s ≤ longest → head.last of s < 65536 →
     Rising (head.last of s) floor vs → RowsPass s (length p) floor at vs
 unfolding rowsRule versionsFrom tableOf bodiesOf versionAt
 rows-pass s [] p q free floor at e d h k l r = record { rule = unbroken (endDemands s floor at) (rising-low r, (omega arith, tt)); versions = refl }
@@ -90,14 +90,14 @@ module _ {s : List ℕ} {last : ℕ} {vs : List Version} {free : List ℕ} (g : 
       let w : s ≡ a ++ (bytesOf 4 0 ++ rest) = whole ∙ rw (bytes-zero 4) (simp append-assoc) in
       ap₂ (λ (x : List ℕ) (o : ℕ). numAt x o 4) w (sym l) ∙ num-back 4 0 a rest (omega arith)
 
-  passes : RowsPass s 8 1 (tableEnd n) vs
+  passes : RowsPass s 8 lowest (tableEnd n) vs
   passes =
       let t : List ℕ = headOf n last ++ tableOf (tableEnd n) vs in
       let lt : length t ≡ tableEnd n = length-append (headOf n last) _ ∙ omega (arith, length-head n last, length-table (tableEnd n) vs) in
       let w : s ≡ t ++ (bodiesOf vs ++ free) = whole ∙ sym (append-assoc (headOf n last) (tableOf (tableEnd n) vs) (bodiesOf vs ++ free)) in
       let d : drop (tableEnd n) s ≡ bodiesOf vs ++ free = ap (drop (tableEnd n)) w ∙ drop-at t (bodiesOf vs ++ free) (tableEnd n) lt in
-      subst (λ (k : ℕ). RowsPass s k 1 (tableEnd n) vs) (length-head n last)
-      (rows-pass s vs (headOf n last) (bodiesOf vs ++ free) free 1 (tableEnd n) whole d (omega (arith, long)) (g .short) (rw last-is (g .given)) (rw last-is (g .rising)))
+      subst (λ (k : ℕ). RowsPass s k lowest (tableEnd n) vs) (length-head n last)
+      (rows-pass s vs (headOf n last) (bodiesOf vs ++ free) free lowest (tableEnd n) whole d (omega (arith, long)) (g .short) (rw last-is (g .given)) (rw last-is (g .rising)))
 
   -- IT PASSES
   pub good-passes : Passes s

@@ -6,7 +6,7 @@ use mathlib.Core.List.{List, [], _∷_, _++_, append-nil}
 use native.Mathlib.Omega.{arith}
 use lib.ListN.{length, drop, length-append, length-drop}
 use lib.Seq.{drop-drop, drop-append-seam}
-use Rattle.versions.specs.Store.{Version, Rising, none, next, Keeps, tableEnd, bodiesOf, laid}
+use Rattle.versions.specs.Store.{Version, Rising, none, next, Keeps, places, lowest, tableEnd, bodiesOf, laid}
 use Rattle.versions.specs.Saving.{needed, saved}
 use Rattle.versions.specs.Steps.{appended}
 use Rattle.versions.proofs.Laid.{laid-long, bodies-join}
@@ -64,7 +64,7 @@ module _ {s : List ℕ} {last : ℕ} {vs : List Version} (k : Keeps s last vs) (
       ∙ ap (λ (l : List ℕ). new ++ l) left)
 
   -- AND THAT STORE IS GOOD
-  pub grown : last < 65535 → length vs < 8 → Keeps (saved s d) (last + 1) (and vs (last + 1) d)
+  pub grown : last < 65535 → length vs < places → Keeps (saved s d) (last + 1) (and vs (last + 1) d)
   unfolding saved
   grown hl hc =
       rw (keeps-these k, keeps-last k)
@@ -74,7 +74,7 @@ module _ {s : List ℕ} {last : ℕ} {vs : List Version} (k : Keeps s last vs) (
             record {
               is = refl;
               few = omega (arith, more-count (last + 1) vs d);
-              rising = rising-more (last + 1) 1 vs d (omega arith) (k .good .rising);
+              rising = rising-more (last + 1) lowest vs d (omega arith) (k .good .rising);
               given = omega arith;
               short = omega (arith, length-append new (drop (length new) s), length-drop (length new) s, more-long (last + 1) vs d, k .good .short);
             };

@@ -71,7 +71,8 @@ module _ (s : List ℕ) (ok : Accepted s) where
       ∙ getD-take (bodiesLong s) (drop (startOf s properties) s) j 0 h
       ∙ getD-drop (startOf s properties) s j 0
 
-  own-long : length (settingsOf s) ≡ front + entriesLong s + bodiesLong s
+  -- A BODY TAKES TWO BYTES MORE than the entries and bodies of the properties
+  pub own-long : length (settingsOf s) ≡ 2 + entriesLong s + bodiesLong s
   unfolding settingsOf
   own-long = length-append first (table ++ rest) ∙ omega (arith, length-bytes front (many s), length-append table rest, table-long, rest-long)
 

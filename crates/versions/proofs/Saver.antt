@@ -13,7 +13,7 @@ use Rattle.octets.specs.Octets.{Octets}
 use Rattle.sheet.specs.Layout.{_of_}
 use Rattle.sheet.specs.Rules.{refusalOf}
 use Rattle.versions.specs.Head as head
-use Rattle.versions.specs.Store.{tableEnd, bodiesOf, kept}
+use Rattle.versions.specs.Store.{places, tableEnd, bodiesOf, kept}
 use Rattle.versions.specs.Rules.{storeRule, isStore, badStore}
 use Rattle.versions.specs.Ends.{endOf, endFrom}
 use Rattle.versions.specs.Walk.{Tabled, Ended, Extents, Appendable}
@@ -80,19 +80,19 @@ module _ (sheet s : List ℕ) where
             t₃ : eqb (head.last of s) lastNumber ≡ false
             t₃ = ne-eqb (head.last of s) lastNumber (λ e. l0 (hl .value ∙ e))
 
-            pub no-place : (z : Saved) → n ≡ 8 → (z .outcome ≡ noPlace) × (z .number ≡ 0) → SavedAs sheet s z s
+            pub no-place : (z : Saved) → n ≡ places → (z .outcome ≡ noPlace) × (z .number ≡ 0) → SavedAs sheet s z s
             unfolding saveOutcome isStore
             no-place z e =
-                let t : eqb (length (kept s)) 8 ≡ true = eq-eqb (length (kept s)) 8 (sym (hn .value ∙ kept-count s) ∙ e) in
+                let t : eqb (length (kept s)) places ≡ true = eq-eqb (length (kept s)) places (sym (hn .value ∙ kept-count s) ∙ e) in
                 no z noPlace (rw (t₁, t₂, t₃, t)) (λ e. omega arith)
 
-            module _ (n0 : n ≡ 8 → ⊥) (end : ℕ) (he : Ended s n end) (x : Extent) (hx : Extents sheet x) (long : ℕ)
+            module _ (n0 : n ≡ places → ⊥) (end : ℕ) (he : Ended s n end) (x : Extent) (hx : Extents sheet x) (long : ℕ)
                 (hlong : (long ≡ 2 + (12 * x .count + (x .to - x .from))) × (long < 65536)) (b : Octets s) where
               count-long : n ≡ length (kept s)
               count-long = hn .value ∙ kept-count s
 
-              t₄ : eqb (length (kept s)) 8 ≡ false
-              t₄ = ne-eqb (length (kept s)) 8 (λ e. n0 (count-long ∙ e))
+              t₄ : eqb (length (kept s)) places ≡ false
+              t₄ = ne-eqb (length (kept s)) places (λ e. n0 (count-long ∙ e))
 
               end-is : end ≡ endOf s
               end-is = he .is ∙ ap (λ (i : ℕ). endFrom s head.size (tableEnd i) i) (hn .value)

@@ -15,7 +15,7 @@ use Rattle.octets.proofs.Walks.{by-test}
 use Rattle.sheet.specs.Layout.{_of_}
 use Rattle.sheet.specs.Rules.{Accepted}
 use Rattle.versions.specs.Head as head
-use Rattle.versions.specs.Store.{Version, Rising, next, Keeps, kept, has, bodyOf, isKept}
+use Rattle.versions.specs.Store.{Version, Rising, next, Keeps, places, kept, has, bodyOf, isKept}
 use Rattle.versions.specs.Rules.{Passes}
 use Rattle.versions.specs.Saving.{saveOutcome, saveNumber, saveStore}
 use Rattle.versions.specs.Settings.{settingsOf}
@@ -43,7 +43,7 @@ module _ {s : List ℕ} {last : ℕ} {vs : List Version} (k : Keeps s last vs) w
       let t : eqb (saveOutcome sheet s) 0 ≡ true = eq-eqb (saveOutcome sheet s) 0 e in
       let c : length (kept s) ≡ length vs = ap length (keeps-these k) in
       let low : last < 65535 = omega (arith, k .good .given, keeps-last k, f .number) in
-      let few : length vs < 8 = omega (arith, k .good .few, c, f .place) in
+      let few : length vs < places = omega (arith, k .good .few, c, f .place) in
       record {
         accepted = f .ready .accepted;
         number = rw (t, keeps-last k);

@@ -7,7 +7,7 @@ use native.Mathlib.Omega.{arith}
 use lib.Dec.{eqb}
 use lib.ListN.{length, drop, replicate, length-append, length-drop, length-replicate}
 use Rattle.octets.proofs.Walks.{by-test}
-use Rattle.versions.specs.Store.{Version, Rising, none, next, Keeps, bodiesOf, laid}
+use Rattle.versions.specs.Store.{Version, Rising, none, next, Keeps, longest, lowest, bodiesOf, laid}
 use Rattle.versions.specs.Removing.{without, removed}
 use Rattle.versions.proofs.Laid.{laid-long}
 use Rattle.versions.proofs.Keeping.{keeps-these, keeps-last, whole}
@@ -45,13 +45,13 @@ shrunk {s} {last} {vs} k x =
     let z : List ℕ = replicate (old - small) 0 in
     let lz : length z ≡ old - small = length-replicate (old - small) 0 in
     let rest : List ℕ = z ++ drop old s in
-    let l : length (laid last (without x vs) ++ rest) ≤ 32768 =
+    let l : length (laid last (without x vs) ++ rest) ≤ longest =
     omega (arith, k .good .short, whole k, length-append (laid last (without x vs)) rest, length-append z (drop old s), length-drop old s, laid-long last vs, laid-long last (without x vs))
     in
     rw (keeps-these k, keeps-last k)
     (record {
       free = rest;
-      good = record { is = refl; few = omega (arith, k .good .few); rising = rising-without x 1 vs (k .good .rising); given = k .good .given; short = l };
+      good = record { is = refl; few = omega (arith, k .good .few); rising = rising-without x lowest vs (k .good .rising); given = k .good .given; short = l };
     })
 
 -- the buffer is as long as it was

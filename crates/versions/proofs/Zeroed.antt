@@ -6,7 +6,7 @@ use mathlib.Core.List.{List, []}
 use native.Mathlib.Omega.{arith}
 use lib.ListN.{length, replicate, replicate-append-replicate, length-replicate}
 use Rattle.octets.specs.Bytes.{bytesOf}
-use Rattle.versions.specs.Store.{none, GoodStore, headOf, tableOf, bodiesOf, laid, kept}
+use Rattle.versions.specs.Store.{none, GoodStore, lowest, headOf, tableOf, bodiesOf, laid, kept}
 use Rattle.versions.specs.Rules.{Passes}
 use Rattle.versions.proofs.Forths.{good-passes, good-kept}
 
@@ -19,7 +19,7 @@ zeroed n h k =
     record {
       is = sym (replicate-append-replicate 8 (n - 8) 0 ∙ ap (λ (m : ℕ). replicate m 0) e);
       few = omega arith;
-      rising = none {floor = 1} (omega arith);
+      rising = none {floor = lowest} (omega arith);
       given = omega arith;
       short = omega arith;
     }

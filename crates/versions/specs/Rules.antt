@@ -11,7 +11,7 @@ use Rattle.sheet.specs.First.{orElse}
 use Rattle.sheet.specs.Layout.{_of_}
 use Rattle.versions.specs.Head as head
 use Rattle.versions.specs.Row as row
-use Rattle.versions.specs.Store.{settings, places, longest, tableEnd, inRow}
+use Rattle.versions.specs.Store.{settings, places, longest, lowest, tableEnd, inRow}
 
 -- the numbers of the refusals that several calls give: a sheet that is not accepted, a bad store, a number that is not kept
 abbrev pub badSheet : ℕ
@@ -52,7 +52,7 @@ rowsRule s p floor at (suc n) =
     (rowsRule s (p + row.size) (inRow s p row.number + 1) (at + inRow s p row.long) n)
 
 unfoldable pub allRows : List ℕ → ℕ
-allRows s = rowsRule s head.size 1 (tableEnd (head.count of s)) (head.count of s)
+allRows s = rowsRule s head.size lowest (tableEnd (head.count of s)) (head.count of s)
 
 -- 30, or 0 for a good store
 unfoldable pub storeRule : List ℕ → ℕ

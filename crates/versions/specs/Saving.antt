@@ -56,12 +56,19 @@ saveBy n sheet s =
 unfoldable pub saveOutcome : List ℕ → List ℕ → ℕ
 saveOutcome sheet s = saveBy (refusalOf sheet) sheet s
 
--- the number given, 0 on a refusal, and the store afterwards
+-- after an outcome: the number given, 0 on a refusal, and the store
+abbrev pub numberBy : ℕ → List ℕ → ℕ
+numberBy r s = cond (eqb r 0) (nextNumber s) 0
+
+abbrev pub storeBy : ℕ → List ℕ → List ℕ → List ℕ
+storeBy r sheet s = cond (eqb r 0) (saved s (settingsOf sheet)) s
+
+-- THE NUMBER GIVEN, AND THE STORE AFTERWARDS
 unfoldable pub saveNumber : List ℕ → List ℕ → ℕ
-saveNumber sheet s = cond (eqb (saveOutcome sheet s) 0) (nextNumber s) 0
+saveNumber sheet s = numberBy (saveOutcome sheet s) s
 
 unfoldable pub saveStore : List ℕ → List ℕ → List ℕ
-saveStore sheet s = cond (eqb (saveOutcome sheet s) 0) (saved s (settingsOf sheet)) s
+saveStore sheet s = storeBy (saveOutcome sheet s) sheet s
 
 pub record SavedAs (sheet s : List ℕ) (r : Saved) (s′ : List ℕ) : Type 0 where
   pub outcome : r .outcome ≡ saveOutcome sheet s

@@ -20,12 +20,15 @@ pub record Version : Type 0 where
 abbrev pub settings : ℕ
 settings = 1
 
--- the most versions kept, and the longest buffer
+-- the most versions kept, the longest buffer, and the lowest number of a version
 abbrev pub places : ℕ
 places = 8
 
 abbrev pub longest : ℕ
 longest = 32768
+
+abbrev pub lowest : ℕ
+lowest = 1
 
 -- where a table of n rows ends
 abbrev pub tableEnd : ℕ → ℕ
@@ -89,7 +92,7 @@ pub data Rising (last : ℕ) : ℕ → List Version → Type 0 where
 pub record GoodStore (s : List ℕ) (last : ℕ) (vs : List Version) (free : List ℕ) : Type 0 where
   pub is : s ≡ laid last vs ++ free
   pub few : length vs ≤ places
-  pub rising : Rising last 1 vs
+  pub rising : Rising last lowest vs
   pub given : last < 65536
   pub short : length s ≤ longest
 

@@ -1,17 +1,20 @@
 -- TWO TOOLS AND A STORE: from the same store, whatever changes it being the same in both runs, one tool sees the same whatever the other sends that changes nothing.
 -- Assumes nothing.
 use Prim.Native.Nat.{ℕ}
-use mathlib.Core.Path.{_≡_, refl, ap, ap₂, subst}
+use mathlib.Core.Path.{_≡_, refl, sym, ap, ap₂, subst}
 use mathlib.Core.List.{List, _∷_}
 use lib.Dec.{eqb}
 use borrow.Author.Tests.{eq-eqb}
 use Rattle.events.specs.Events.{Event, restore}
+use Rattle.versions.specs.Saving.{SavedAs}
+use Rattle.versions.specs.Removing.{Removed}
+use Rattle.versions.specs.declared.saving.Saved.{Saved}
 use Rattle.history.specs.History.{First}
 use Rattle.history.specs.Keeps.{Device, stateAfter}
 use Rattle.history.specs.Isolation.{Alike, same, Beside, Seen, Isolated}
 use Rattle.history.specs.Isolation as runs
 use Rattle.history.specs.Rightful.{ours}
-use Rattle.history.specs.Acts.{Act, eventsOf, storeAfter, BesideActs, begin, storesBoth, shared, sharedRestore, oneMore, otherMore, oneRestore, otherRestore}
+use Rattle.history.specs.Acts.{Act, saves, removes, eventsOf, storeAfter, BesideActs, begin, storesBoth, shared, sharedRestore, oneMore, otherMore, oneRestore, otherRestore, ActsIsolated}
 use Rattle.history.proofs.promises.Isolated.{isolated}
 
 module _ (step : Device) (apart : Isolated step) (f : First) (st : List ℕ) (t o : ℕ) (two : t ≡ o → ⊥) where
@@ -42,7 +45,19 @@ module _ (step : Device) (apart : Isolated step) (f : First) (st : List ℕ) (t 
   acts-isolated b = let z = both b in (apart f t o two _ _ (z .0), z .1)
 
 -- OF OUR DEVICE
-pub ours-acts :
-    (f : First) (st : List ℕ) (t o : ℕ) → (t ≡ o → ⊥) → {h h′ : List Act} → BesideActs ours f st o h h′ →
-    Seen ours f t o (eventsOf ours f st h) (eventsOf ours f st h′) × (storeAfter ours f st h ≡ storeAfter ours f st h′)
-ours-acts = acts-isolated ours isolated
+pub ours-acts : ActsIsolated ours
+ours-acts f st t o two h h′ b = acts-isolated ours isolated f st t o two b
+
+-- A SAVE AND A REMOVE ARE ACTS: what the calls leave of the store, on what a run of acts left, is what the run with them says; they are no events
+module _ (step : Device) (f : First) (st : List ℕ) (h : List Act) where
+  pub saves-is :
+      (r : Saved) (st′ : List ℕ) → SavedAs (stateAfter step f (eventsOf step f st h) .sheet) (storeAfter step f st h) r st′ →
+      (storeAfter step f st (saves ∷ h) ≡ st′) × (eventsOf step f st (saves ∷ h) ≡ eventsOf step f st h)
+  unfolding eventsOf storeAfter
+  saves-is r st′ c = (sym (c .store), refl)
+
+  pub removes-is :
+      (n r : ℕ) (st′ : List ℕ) → Removed (storeAfter step f st h) n r st′ →
+      (storeAfter step f st (removes n ∷ h) ≡ st′) × (eventsOf step f st (removes n ∷ h) ≡ eventsOf step f st h)
+  unfolding eventsOf storeAfter
+  removes-is n r st′ c = (sym (c .store), refl)

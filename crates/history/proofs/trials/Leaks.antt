@@ -2,15 +2,18 @@
 -- Assumes nothing.
 use Prim.Native.Nat.{ℕ, _+_, _-_}
 use mathlib.Core.List.{List, [], _∷_, _++_}
-use mathlib.Core.Bool.{Bool, true, false, cond, _&&_, not}
+use mathlib.Core.Bool.{Bool, true, false, cond, _&&_}
+use lib.ListN.{take}
 use lib.Dec.{eqb}
+use Rattle.octets.specs.Splice.{splice}
 use Rattle.device.specs.Sessions.{sessionOf}
 use Rattle.device.specs.Events.{requesting}
-use Rattle.events.specs.Events.{Event, connect, request, eventOf}
+use Rattle.events.specs.Events.{Event, connect, disconnect, button, request, restore, eventOf}
+use Rattle.versions.specs.Example.{once}
 use Rattle.history.specs.Wish.{Wish, change, offerKey, restart, other, nothing, asks}
 use Rattle.history.specs.Keeps.{Device}
-use Rattle.history.specs.Isolation.{isOf, mayBeOf}
-use Rattle.history.proofs.trials.Wrong.{withSessions, levelled, onRequests, buffer, offeringOn}
+use Rattle.history.proofs.trials.Runs.{buffer, offeringOn}
+use Rattle.history.proofs.trials.Wrong.{withSheet, withSessions, levelled, onRequests}
 
 -- ONE WHOSE ANSWERS SHOW THE LEVEL OF THE OTHER CONNECTION, in one more byte
 abbrev pub showsLevel : Device
@@ -46,17 +49,64 @@ lowersBoth =
 abbrev pub offeredOn1 : ℕ → List Event → List Event
 offeredOn1 b h = offeringOn 1 b ∷ connect 1 ∷ h
 
--- how many of a history's requests name no connection: what a tool may have sent and is not its own
-abbrev pub unconnected : List Event → ℕ
-unconnected [] = 0
-unconnected (e ∷ h) = cond (mayBeOf 0 e && not (isOf 0 e)) (unconnected h + 1) (unconnected h)
+-- how many events of a history are of a kind: requests in a mode, disconnects, restores
+abbrev pub howMany : (Event → Bool) → List Event → ℕ
+howMany p [] = 0
+howMany p (e ∷ h) = cond (p e) (howMany p h + 1) (howMany p h)
 
--- ONE WHOSE ANSWERS SHOW HOW MANY REQUESTS CAME WITHOUT A CONNECTION, whoever sent them, in one more byte
-abbrev pub showsCount : Device
-showsCount f h x e =
+abbrev pub inMode : ℕ → Event → Bool
+inMode m (connect c) = false
+inMode m (disconnect c) = false
+inMode m (button on) = false
+inMode m (request mode c g a out) = eqb mode m
+inMode m (restore c n st) = false
+
+abbrev pub isDisconnect : Event → Bool
+isDisconnect (connect c) = false
+isDisconnect (disconnect c) = true
+isDisconnect (button on) = false
+isDisconnect (request mode c g a out) = false
+isDisconnect (restore c n st) = false
+
+abbrev pub isRestore : Event → Bool
+isRestore (connect c) = false
+isRestore (disconnect c) = false
+isRestore (button on) = false
+isRestore (request mode c g a out) = false
+isRestore (restore c n st) = true
+
+-- ONES WHOSE ANSWERS SHOW HOW MANY EVENTS OF A KIND CAME, whoever sent them, in one more byte
+abbrev pub showing : (Event → Bool) → Device
+showing p f h x e =
     let r = eventOf x e in
-    record { outcome = r .outcome; answer = r .answer ++ (unconnected h ∷ []); sessions = r .sessions; sheet = r .sheet }
+    record { outcome = r .outcome; answer = r .answer ++ (howMany p h ∷ []); sessions = r .sessions; sheet = r .sheet }
 
--- what the other tool sends in one of two runs: connectionless, a read of the height
+-- ONE WHOSE ANSWERS SHOW WHAT THE BUFFER HELD, in one more byte
+abbrev pub showsBuffer : Device
+showsBuffer =
+    onRequests
+    (λ x mode c g a out.
+    let r = requesting x mode c g a out in
+    record { outcome = r .outcome; answer = r .answer ++ take 1 out; sessions = r .sessions; sheet = r .sheet })
+
+-- ONE THAT STORES WHEN A CONNECTION IS CLOSED: 07 to the height's high byte
+abbrev pub storesOnClose : Device
+storesOnClose f h x (connect c) = eventOf x (connect c)
+storesOnClose f h x (disconnect c) = withSheet (eventOf x (disconnect c)) (splice (x .sheet) 64 (0x07 ∷ []))
+storesOnClose f h x (button on) = eventOf x (button on)
+storesOnClose f h x (request mode c g a out) = eventOf x (request mode c g a out)
+storesOnClose f h x (restore c n st) = eventOf x (restore c n st)
+
+-- what the other tool sends in one of two runs: to group 0801 a read of its value, to all the question for addresses in programming mode, connectionless a read of the height;
+-- and version 1 restored on its connection, which is closed
+abbrev pub readGroup : Event
+readGroup = request 0 0 0x0801 (0x00 ∷ 0x00 ∷ []) buffer
+
+abbrev pub readAddresses : Event
+readAddresses = request 1 0 0 (0x01 ∷ 0x00 ∷ []) buffer
+
 abbrev pub readUnconnected : Event
 readUnconnected = request 2 0 0 (0x03 ∷ 0xD5 ∷ 0x01 ∷ 0x33 ∷ 0x10 ∷ 0x01 ∷ []) buffer
+
+abbrev pub restoreClosed : Event
+restoreClosed = restore 1 1 once

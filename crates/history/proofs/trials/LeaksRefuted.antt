@@ -1,12 +1,15 @@
 -- WHAT ISOLATION RULES OUT: each of the devices in which one tool can tell what the other does.
 -- Assumes nothing.
 use Prim.Native.Nat.{ℕ}
-use mathlib.Core.Path.{_≡_, refl, ap}
+use mathlib.Core.Path.{_≡_, refl, sym, ap, _∙_}
+use mathlib.Core.Bool.{Bool, false}
 use mathlib.Core.List.{List, [], _∷_}
 use lib.ListN.{getD}
 use native.Mathlib.Omega.{arith}
 use Rattle.octets.specs.Bytes.{numAt, bytesOf}
+use Rattle.octets.specs.Every.{every}
 use Rattle.octets.specs.Splice.{splice}
+use Rattle.octets.proofs.Truths.{never}
 use Rattle.sheet.specs.Demand.{breach}
 use Rattle.sheet.specs.First.{first}
 use Rattle.sheet.specs.Head.{rulesOf}
@@ -19,20 +22,27 @@ use Rattle.pdu.specs.Read.{readPdu, dataOf}
 use Rattle.pdu.specs.Write.{encoded}
 use Rattle.judge.specs.Session.{levelOf, levelIn}
 use Rattle.judge.specs.declared.Session.{Session}
+use Rattle.judge.specs.Groups.{valueOf, flagsAt, groupReadOf}
+use Rattle.judge.specs.Addresses.{addressReadOf}
 use Rattle.judge.specs.Properties.{readIn, propertyReadOf}
 use Rattle.judge.specs.Keys.{grantOf, authorizeOf}
 use Rattle.judge.specs.Judge.{reachedOf, isShut, judgeOf}
 use Rattle.device.specs.Step.{stepBy, stepOf}
 use Rattle.device.specs.Events.{requestOf}
-use Rattle.events.specs.Events.{Event, connect, eventOf}
+use Rattle.events.specs.Events.{Event, connect, disconnect, request, eventOf}
 use Rattle.device.specs.Marked.{sample}
+use Rattle.versions.specs.Store.{versionAt, versionsFrom, kept, has, bodyOf, isKept, versionIn}
+use Rattle.versions.specs.Rules.{rowsRule, allRows, storeRule, isStore}
+use Rattle.versions.specs.Settings.{restored}
+use Rattle.versions.specs.Restoring.{sameEntry, lowCount, sameEntries, lowCounts, givesBack, atZero, restoreOutcome, restoreSheet}
+use Rattle.versions.specs.Example.{once}
 use Rattle.history.specs.Wish.{restart, asks}
-use Rattle.history.specs.History.{wished}
+use Rattle.history.specs.History.{wished, isRestart}
 use Rattle.history.specs.Keeps.{Device, stateAfter}
-use Rattle.history.specs.Isolation.{Beside, begin, shared, oneMore, same, Isolated}
+use Rattle.history.specs.Isolation.{Beside, begin, shared, oneMore, otherMore, same, asLong, Isolated}
 use Rattle.history.specs.Samples.{fresh}
-use Rattle.history.proofs.trials.Wrong.{offering, offeringOn, authorized}
-use Rattle.history.proofs.trials.Leaks.{showsLevel, lowersBoth, offeredOn1, showsCount, readUnconnected}
+use Rattle.history.proofs.trials.Runs.{offering, offeringOn, authorized}
+use Rattle.history.proofs.trials.Leaks.{showsLevel, lowersBoth, offeredOn1, howMany, inMode, isDisconnect, isRestore, showing, showsBuffer, readUnconnected, readGroup, readAddresses, restoreClosed}
 
 -- what the tool on connection 1 offers is no restart
 offers-only : (b : ℕ) → wished (offeringOn 1 b) ≡ restart → ⊥
@@ -67,20 +77,60 @@ level-lost i =
     let z : _≡_ {A = ℕ} 3 0 = ap (λ (q : Session). q .level) (i fresh 0 1 (λ e. omega arith) _ _ b .session) in
     omega arith
 
--- what it reads connectionless is no restart
-reads-only : wished readUnconnected ≡ restart → ⊥
-unfolding asks readPdu find numAt lowAt fourAt twelveAt
-reads-only e = let z : _≡_ {A = ℕ} 0 1 = cc in omega arith
+-- WHERE THE ANSWERS SHOW how many events of a kind came, two runs may not differ in that: the next connect of the tool on connection 0 tells them apart
+counted : (p : Event → Bool) (h h′ : List Event) → Beside (showing p) fresh 1 h h′ → (howMany p h ≡ howMany p h′ → ⊥) → Isolated (showing p) → ⊥
+unfolding eventOf
+counted p h h′ b n i =
+    n (ap (λ (l : List ℕ). getD l 0 0) (i fresh 0 1 (λ e. omega arith) h h′ b .answer (connect 0) (connect 0) refl (same (connect 0))))
 
--- A CONNECTIONLESS READ, and the answer to the next key of the tool on connection 0 has another last byte
-pub count-shown : Isolated showsCount → ⊥
-unfolding stateAfter eventOf requestOf stepOf stepBy judgeOf verdictOf isShut reachedOf rulesOf levelIn levelOf grantOf authorizeOf
-    propertyReadOf readIn seek indexOf
+-- what it reads is no restart
+unlike : (e : Event) → isRestart (wished e) ≡ false → wished e ≡ restart → ⊥
+unlike e k r = never (sym k ∙ ap isRestart r)
+
+-- A CONNECTIONLESS READ of the other tool, a read to a group, a question to all
+pub connectionless-shown : Isolated (showing (inMode 2)) → ⊥
+unfolding stateAfter eventOf requestOf stepOf stepBy judgeOf verdictOf isShut reachedOf rulesOf levelIn levelOf propertyReadOf readIn seek indexOf
     asks readPdu find dataOf encoded headBytes lowAt fourAt twelveAt splice
     ruleIn walkRule restRule entriesRule bodiesRule entryRule bodyRule bodyDemands entryDemands entry keyOf floor bodyAt bodyEnd startOf reached sixBits first breach numAt bytesOf sample
-count-shown i =
-    let s : Beside showsCount fresh 1 (connect 0 ∷ []) (connect 0 ∷ []) = shared refl (same (connect 0)) begin in
-    let b : Beside showsCount fresh 1 (readUnconnected ∷ connect 0 ∷ []) (connect 0 ∷ []) =
-    oneMore {e = readUnconnected} refl (refl, λ r k. reads-only r) s in
-    let z : _≡_ {A = ℕ} 1 0 = ap (λ (l : List ℕ). getD l 3 0) (i fresh 0 1 (λ e. omega arith) _ _ b .answer (offering 0xFF) (offering 0xFF) refl (same (offering 0xFF))) in
+connectionless-shown =
+    counted (inMode 2) (readUnconnected ∷ []) [] (oneMore {e = readUnconnected} refl (refl, λ r k. unlike readUnconnected refl r) begin) (λ e. omega arith)
+
+pub group-shown : Isolated (showing (inMode 0)) → ⊥
+unfolding stateAfter eventOf requestOf stepOf stepBy judgeOf verdictOf isShut reachedOf rulesOf levelIn levelOf valueOf flagsAt groupReadOf seek indexOf
+    asks readPdu find dataOf encoded headBytes lowAt fourAt twelveAt splice
+    ruleIn walkRule restRule entriesRule bodiesRule entryRule bodyRule bodyDemands entryDemands entry keyOf floor bodyAt bodyEnd startOf reached sixBits first breach numAt bytesOf sample
+group-shown =
+    counted (inMode 0) (readGroup ∷ []) [] (oneMore {e = readGroup} refl (refl, λ r k. unlike readGroup refl r) begin) (λ e. omega arith)
+
+pub broadcast-shown : Isolated (showing (inMode 1)) → ⊥
+unfolding stateAfter eventOf requestOf stepOf stepBy judgeOf verdictOf isShut reachedOf rulesOf levelIn levelOf addressReadOf
+    asks readPdu find dataOf encoded headBytes lowAt fourAt twelveAt splice
+    ruleIn walkRule restRule entriesRule bodiesRule entryRule bodyRule bodyDemands entryDemands entry keyOf floor bodyAt bodyEnd startOf reached sixBits first breach numAt bytesOf sample
+broadcast-shown =
+    counted (inMode 1) (readAddresses ∷ []) [] (oneMore {e = readAddresses} refl (refl, λ r k. unlike readAddresses refl r) begin) (λ e. omega arith)
+
+-- ITS DISCONNECT, in either run
+pub disconnect-shown : (Isolated (showing isDisconnect) → ⊥) × (Isolated (showing isDisconnect) → ⊥)
+disconnect-shown = (
+  counted isDisconnect (disconnect 1 ∷ []) [] (oneMore {e = disconnect 1} refl tt begin) (λ e. omega arith),
+  counted isDisconnect [] (disconnect 1 ∷ []) (otherMore {e = disconnect 1} refl tt begin) (λ e. omega arith),
+)
+
+-- ITS RESTORE, which is refused
+pub restore-shown : Isolated (showing isRestore) → ⊥
+unfolding stateAfter eventOf restoreOutcome restoreSheet restored bodyOf has isKept versionIn every sameEntry lowCount sameEntries lowCounts givesBack atZero versionAt versionsFrom kept
+    rowsRule allRows storeRule isStore once verdictOf ruleIn walkRule restRule entriesRule bodiesRule entryRule bodyRule bodyDemands entryDemands
+    entry keyOf floor bodyAt bodyEnd startOf reached sixBits first breach numAt sample
+restore-shown =
+    counted isRestore (restoreClosed ∷ []) [] (oneMore {e = restoreClosed} refl refl begin) (λ e. omega arith)
+
+-- WHAT THE ANSWER BUFFER HELD
+pub buffer-shown : Isolated showsBuffer → ⊥
+unfolding stateAfter requestOf stepOf stepBy judgeOf verdictOf isShut reachedOf rulesOf readPdu
+    ruleIn walkRule restRule entriesRule bodiesRule entryRule bodyRule bodyDemands entryDemands entry keyOf floor bodyAt bodyEnd startOf reached sixBits first breach numAt sample
+buffer-shown i =
+    let z : _≡_ {A = ℕ} 0 1 =
+    ap (λ (l : List ℕ). getD l 0 0)
+    (i fresh 0 1 (λ e. omega arith) [] [] begin .answer (request 3 0 0 [] (0 ∷ [])) (request 3 0 0 [] (1 ∷ [])) refl (asLong refl))
+    in
     omega arith

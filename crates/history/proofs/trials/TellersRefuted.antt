@@ -46,7 +46,7 @@ use Rattle.history.specs.Secret.{Secret, ofMemory, ofProperty, Hide, Non
 use Rattle.history.proofs.promises.Keyless.{all-shut}
 use Rattle.history.proofs.promises.NothingShown.{secret-after}
 use Rattle.history.proofs.spans.Spans.{same-so}
-use Rattle.history.proofs.trials.Wrong.{sent}
+use Rattle.history.proofs.trials.Runs.{sent}
 use Rattle.history.proofs.trials.Tellers.{guarded, otherSecrets, Teller, tellers, one, two}
 
 -- both are accepted

@@ -1,9 +1,9 @@
--- WRONG DEVICES, each with a short run on which it shows: trials, to hold against demand 3 (`wrongs-refuted`).
+-- WRONG DEVICES, each with a short run (`Runs`) on which it shows: trials, to hold against demand 3 (`wrongs-refuted`).
 -- Assumes nothing.
 use Prim.Native.Nat.{ℕ, _+_, _*_, _-_, _/_}
 use mathlib.Core.List.{List, [], _∷_}
 use mathlib.Core.Bool.{Bool, true, false, cond, _&&_, _||_}
-use lib.ListN.{getD, take, drop, replicate}
+use lib.ListN.{getD, take, drop}
 use lib.Dec.{leb, eqb}
 use Rattle.octets.specs.Bytes.{numAt, bytesOf}
 use Rattle.octets.specs.Splice.{splice}
@@ -13,12 +13,10 @@ use Rattle.sheet.specs.Head as head
 use Rattle.sheet.specs.Property as property
 use Rattle.sheet.specs.Entries.{place, entry}
 use Rattle.judge.specs.declared.Session.{Session}
-use Rattle.device.specs.Sessions.{closed, withSession, sessionOf}
+use Rattle.device.specs.Sessions.{closed, freshOf, withSession, sessionOf}
+use Rattle.device.specs.declared.Sessions.{Sessions}
 use Rattle.device.specs.Events.{Effect, State, connecting, requesting}
 use Rattle.events.specs.Events.{Event, connect, disconnect, button, request, restore, restoring, eventOf}
-use Rattle.device.specs.declared.Sessions.{Sessions}
-use Rattle.device.specs.Sessions.{freshOf}
-use Rattle.device.specs.Marked.{sample}
 use Rattle.versions.specs.Store.{isKept, versionIn}
 use Rattle.versions.specs.Rules.{isStore}
 use Rattle.versions.specs.Settings.{restored}
@@ -30,6 +28,7 @@ use Rattle.history.specs.History.{First, wished, isRestart, permitted}
 use Rattle.history.specs.Keeps.{Device, stateAfter}
 use Rattle.history.specs.Rightful.{ours}
 use Rattle.history.specs.Samples.{fresh, freshPump}
+use Rattle.history.proofs.trials.Runs.{offering, offeringOn, firstWrite, againWrite, secondWrite, bothBytes, newKey0, userWrite, acrossWrite, elementWrite, clear, jump, restarting, given, otherLevels, otherHeight, readOnly, freshReadOnly, closedAtZero, authorized, bothOn}
 
 -- an effect with another sheet, and with other sessions
 abbrev pub withSheet : Effect → List ℕ → Effect
@@ -260,80 +259,63 @@ restoresFirst =
     withSheet r
     (cond (isStore st && (isKept st n && atZero (sessionOf (x .sessions) c))) (restored (x .sheet) (versionIn st n)) (r .sheet)))
 
--- WHAT THE RUNS ARE MADE OF
-abbrev pub buffer : List ℕ
-buffer = replicate 16 0
+-- ONE THAT JUDGES KEYS AS THEY WERE IN THE FIRST SHEET
+abbrev pub firstKeys : Device
+firstKeys f h x e =
+    let r = eventOf x e in
+    let w = eventOf record { sessions = x .sessions; sheet = splice (x .sheet) 18 (take 12 (drop 18 (f .sheet))) } e in
+    withSessions r (w .sessions)
 
--- a connected request, on a connection, and on connection 0
-abbrev pub sentOn : ℕ → List ℕ → Event
-sentOn c a = request 3 c 0 a buffer
+-- ONE WHOSE RESTORE GIVES BACK THE FIRST KEYS TOO
+abbrev pub restoresKeys : Device
+restoresKeys f =
+    onRestores
+    (λ x c n st.
+    let r = restoring x c n st in
+    withSheet r (cond (eqb (r .outcome) 1) (splice (r .sheet) 18 (take 12 (drop 18 (f .sheet)))) (r .sheet)))
+    f
 
-abbrev pub sent : List ℕ → Event
-sent = sentOn 0
+-- ONE WHOSE RESTORE GIVES UP THE LEVEL
+abbrev pub restoreGivesUp : Device
+restoreGivesUp =
+    onRestores
+    (λ x c n st. let r = restoring x c n st in withSessions r (levelled (λ p q. 3) (x .sessions) (r .sessions)))
 
--- the keys of levels 0 and 1, the public one of level 2, and none
-abbrev pub offeringOn : ℕ → ℕ → Event
-offeringOn c b = sentOn c (0x03 ∷ 0xD1 ∷ 0x00 ∷ b ∷ b ∷ b ∷ b ∷ [])
+-- ONE WHOSE DISCONNECT CLOSES BOTH CONNECTIONS
+abbrev pub disconnectsBoth : Device
+disconnectsBoth f h x (connect c) = eventOf x (connect c)
+disconnectsBoth f h x (disconnect c) = withSessions (eventOf x (disconnect c)) freshOf
+disconnectsBoth f h x (button on) = eventOf x (button on)
+disconnectsBoth f h x (request mode c g a out) = eventOf x (request mode c g a out)
+disconnectsBoth f h x (restore c n st) = eventOf x (restore c n st)
 
-abbrev pub offering : ℕ → Event
-offering = offeringOn 0
+-- ONE WITH ONE LEVEL FOR BOTH CONNECTIONS: the first has that of the second
+abbrev pub raisesOther : Device
+raisesOther f h x e =
+    let r = eventOf x e in withSessions r (levelled (λ p q. r .sessions .second .level) (x .sessions) (r .sessions))
 
--- 55 to address 0100, 66 to 0101, both at once; 77777777 as the key of level 0
-abbrev pub firstWrite : Event
-firstWrite = sent (0x02 ∷ 0x81 ∷ 0x01 ∷ 0x00 ∷ 0x55 ∷ [])
+-- ONE THAT STORES EACH BYTE ONCE: what is no more the first content stays
+abbrev pub keepsFirst : List ℕ → List ℕ → List ℕ → List ℕ
+keepsFirst [] s t = []
+keepsFirst (x ∷ f) s [] = []
+keepsFirst (x ∷ f) [] (z ∷ t) = []
+keepsFirst (x ∷ f) (y ∷ s) (z ∷ t) = cond (eqb x y) z y ∷ keepsFirst f s t
 
-abbrev pub secondWrite : Event
-secondWrite = sent (0x02 ∷ 0x81 ∷ 0x01 ∷ 0x01 ∷ 0x66 ∷ [])
+abbrev pub storesEachOnce : Device
+storesEachOnce f h x e = let r = eventOf x e in withSheet r (keepsFirst (f .sheet) (x .sheet) (r .sheet))
 
-abbrev pub bothBytes : Event
-bothBytes = sent (0x02 ∷ 0x82 ∷ 0x01 ∷ 0x00 ∷ 0x55 ∷ 0x66 ∷ [])
+-- ONE THAT RESTORES ON A CONNECTION THAT IS CLOSED, if its level is 0
+abbrev pub restoresClosed : Device
+restoresClosed =
+    onRestores
+    (λ x c n st.
+    let p : Session = record { opened = true; level = x .sessions .first .level } in
+    let q : Sessions = record { first = p; second = x .sessions .second } in
+    withSessions (restoring record { sessions = q; sheet = x .sheet } c n st) (x .sessions))
 
-abbrev pub newKey0 : Event
-newKey0 = sent (0x03 ∷ 0xD3 ∷ 0x00 ∷ 0x77 ∷ 0x77 ∷ 0x77 ∷ 0x77 ∷ [])
-
--- 55 to user address 0100
-abbrev pub userWrite : Event
-userWrite = sent (0x02 ∷ 0xC2 ∷ 0x01 ∷ 0x01 ∷ 0x00 ∷ 0x55 ∷ [])
-
--- 55 66 to user addresses 0103 and 0104: the last of one region and the first of the next
-abbrev pub acrossWrite : Event
-acrossWrite = sent (0x02 ∷ 0xC2 ∷ 0x02 ∷ 0x01 ∷ 0x03 ∷ 0x55 ∷ 0x66 ∷ [])
-
--- 0384 to element 1 of property 51 of object 1, in a mode
-abbrev pub elementWrite : ℕ → Event
-elementWrite mode = request mode 0 0 (0x03 ∷ 0xD7 ∷ 0x01 ∷ 0x33 ∷ 0x10 ∷ 0x01 ∷ 0x03 ∷ 0x84 ∷ []) buffer
-
--- its count cleared; 0384 to its element 2
-abbrev pub clear : Event
-clear = sent (0x03 ∷ 0xD7 ∷ 0x01 ∷ 0x33 ∷ 0x10 ∷ 0x00 ∷ 0x00 ∷ 0x00 ∷ [])
-
-abbrev pub jump : Event
-jump = sent (0x03 ∷ 0xD7 ∷ 0x01 ∷ 0x33 ∷ 0x10 ∷ 0x02 ∷ 0x03 ∷ 0x84 ∷ [])
-
--- a restart
-abbrev pub restarting : Event
-restarting = sent (0x03 ∷ 0x80 ∷ [])
-
--- version 1 restored on connection 0, from a store that keeps the sample's properties: as they are, with another write level, and with a property that is not writable, of another value
-abbrev pub given : List ℕ → Event
-given st = restore 0 1 st
-
-abbrev pub otherLevels : List ℕ
-otherLevels = splice once 28 (0x30 ∷ [])
-
-abbrev pub readOnly : List ℕ
-readOnly = splice (splice once 20 (0x04 ∷ [])) 30 (0x07 ∷ 0xD0 ∷ [])
-
-abbrev pub freshReadOnly : First
-freshReadOnly = record { sheet = splice sample 42 (0x04 ∷ []); sessions = freshOf }
-
--- connected, the key of level 0 offered
-abbrev pub authorized : List Event
-authorized = offering 0x11 ∷ connect 0 ∷ []
-
--- both connected, and on connection 0 the key of level 0 offered
-abbrev pub bothOn : List Event
-bothOn = connect 1 ∷ authorized
+-- ONE THAT RESTORES BY THE RIGHT OF THE OTHER CONNECTION
+abbrev pub restoresByOther : Device
+restoresByOther = onRestores (λ x c n st. restoring x (1 - c) n st)
 
 -- a device, and a run after which its state is not ours; the newest event first
 pub record Witness : Type 0 where
@@ -367,4 +349,12 @@ wrongs =
     shows restoresAtOne (given once ∷ elementWrite 3 ∷ offering 0x22 ∷ connect 0 ∷ []) ∷
     shows leavesCount (given once ∷ clear ∷ authorized) ∷
     record { device = restoresWritable; first = freshReadOnly; events = given readOnly ∷ authorized } ∷
-    shows restoresFirst (given otherLevels ∷ authorized) ∷ []
+    shows restoresFirst (given otherLevels ∷ authorized) ∷
+    shows firstKeys (offering 0x11 ∷ newKey0 ∷ authorized) ∷
+    shows restoresKeys (given once ∷ newKey0 ∷ authorized) ∷
+    shows restoreGivesUp (given once ∷ authorized) ∷
+    shows disconnectsBoth (disconnect 1 ∷ bothOn) ∷
+    shows raisesOther (offeringOn 1 0x11 ∷ connect 1 ∷ connect 0 ∷ []) ∷
+    shows storesEachOnce (againWrite ∷ firstWrite ∷ authorized) ∷
+    record { device = restoresClosed; first = closedAtZero; events = given otherHeight ∷ [] } ∷
+    shows restoresByOther (restore 1 1 otherHeight ∷ bothOn) ∷ []

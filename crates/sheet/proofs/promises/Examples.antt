@@ -3,7 +3,7 @@
 use Prim.Native.Nat.{ℕ}
 use mathlib.Core.Path.{_≡_, refl}
 use mathlib.Core.List.{List, [], _∷_, map}
-use Rattle.octets.specs.Bytes.{numAt}
+use Rattle.octets.specs.Bytes.{numAt, bytesOf}
 use Rattle.octets.specs.Splice.{splice}
 use Rattle.sheet.specs.Demand.{breach}
 use Rattle.sheet.specs.First.{first}
@@ -16,6 +16,8 @@ use Rattle.sheet.specs.Property as property
 use Rattle.sheet.specs.Group as group
 use Rattle.sheet.specs.Entries.{count, contents, entry, keyOf, floor, bodyEnd, startOf, reached, sixBits}
 use Rattle.sheet.specs.Rules.{entryDemands, bodyDemands, entryRule, bodyRule, entriesRule, bodiesRule, restRule, walkRule, ruleIn, verdictOf, ruleOf, Accepted, edition, isAccepted}
+use Rattle.sheet.specs.Convert.{conversionOf, convertOutcome, convertSheet}
+use Rattle.sheet.specs.Sample.{sample, oldSample}
 use Rattle.sheet.specs.Lookup.{seek, indexOf, bodyOf, lookup, regionOf, propertyOf, groupOf, objectAt, rank, nthOf}
 
 -- THE SHEET, 109 bytes: no two of its numbers that could be taken for one another are the same
@@ -69,6 +71,15 @@ pub example-rules :
 unfolding example named splice rulesOf verdictOf ruleIn walkRule restRule entriesRule bodiesRule entryRule bodyRule entryDemands bodyDemands breach first entry floor bodyEnd startOf reached sixBits numAt
 example-rules = (refl, refl, refl)
 
+-- THE TYPE OF A PROPERTY: each bit alone, from bit 0 on. Bit 6 breaks S7, and no other does
+unfoldable pub typed : ℕ → List ℕ
+typed t = splice example 50 (t ∷ [])
+
+pub example-types :
+    map (λ (t : ℕ). verdictOf (typed t)) (0x01 ∷ 0x02 ∷ 0x04 ∷ 0x08 ∷ 0x10 ∷ 0x20 ∷ 0x40 ∷ 0x80 ∷ []) ≡ 0 ∷ 0 ∷ 0 ∷ 0 ∷ 0 ∷ 0 ∷ 7 ∷ 0 ∷ []
+unfolding example typed splice verdictOf ruleIn walkRule restRule entriesRule bodiesRule entryRule bodyRule entryDemands bodyDemands breach first entry floor bodyEnd startOf reached sixBits numAt
+example-types = refl
+
 -- THE NUMBERS OF ENTRIES, AND WHERE THE CONTENTS END
 pub example-counts : (map (count example) (regions ∷ properties ∷ groups ∷ users ∷ []) ≡ 2 ∷ 3 ∷ 1 ∷ 0 ∷ []) × (contents example ≡ 92)
 unfolding example numAt
@@ -117,3 +128,9 @@ example-ranks = refl
 pub example-nth : nthOf example 1 0 ∷ nthOf example 2 0 ∷ nthOf example 2 1 ∷ nthOf example 2 2 ∷ [] ≡ 0 ∷ 1 ∷ 2 ∷ 3 ∷ []
 unfolding example nthOf seek rank objectAt entry numAt
 example-nth = refl
+
+-- THE SAMPLE SHEET IS THE CONVERSION of its edition 1, which is old: outcome 1
+pub sample-converted : (verdictOf oldSample ≡ 14) × (convertOutcome oldSample ≡ 1) × (convertSheet oldSample ≡ sample)
+unfolding sample oldSample convertOutcome convertSheet conversionOf splice bytesOf
+    verdictOf ruleIn walkRule restRule entriesRule bodiesRule entryRule bodyRule entryDemands bodyDemands breach first entry floor bodyEnd startOf reached sixBits numAt
+sample-converted = (refl, refl, refl)
