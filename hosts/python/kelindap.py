@@ -55,12 +55,19 @@ class _Played(Structure):
     _fields_ = [("refusal", c_uint8), ("handled", c_uint16)]
 
 
+class _KeptVersion(Structure):
+    _fields_ = [("number", c_uint16), ("length", c_uint16)]
+
+
 class _Link(Structure):
     _fields_ = [("sessions", _Sessions), ("address", c_uint16 * CONNECTIONS)]
 
 
 class _Arrival(Structure):
-    _fields_ = [("event", c_uint8), ("connection", c_uint8), ("group", c_uint16)]
+    _fields_ = (
+        [("event", c_uint8), ("connection", c_uint8), ("group", c_uint16), ("source", c_uint16)]
+        + [("sequence", c_uint8), ("negative", c_bool)]
+    )
 
 
 class _Served(Structure):
@@ -104,7 +111,7 @@ _CALLS = {
     "connect": (c_uint8, _SESSIONS + [c_uint8]),
     "disconnect": (c_uint8, _SESSIONS + [c_uint8]),
     "button": (c_uint8, _RUN + [c_bool]),
-    "request": (_Reply, _SESSIONS + [c_uint8, c_uint8, c_uint16] + 3 * _RUN),
+    "request": (_Reply, _SESSIONS + _RUN + [c_uint8, c_uint8, c_uint16] + 2 * _RUN),
     "check": (c_uint8, _RUN),
     "convert": (c_uint8, _RUN),
     "property": (_Part, _RUN + [c_uint8, c_uint8]),
@@ -115,11 +122,12 @@ _CALLS = {
     "save": (_Saved, 2 * _RUN),
     "restore": (c_uint8, [_Sessions, c_uint8] + 2 * _RUN + [c_size_t]),
     "remove": (c_uint8, _RUN + [c_size_t]),
+    "kept": (_KeptVersion, _RUN + [c_size_t]),
     "trace_check": (c_uint8, _RUN),
     "play": (_Played, _SESSIONS + 2 * _RUN + [c_size_t, c_size_t] + _RUN),
     "play_marked": (_Played, _SESSIONS + 2 * _RUN + [c_size_t, c_size_t] + 2 * _RUN + [POINTER(c_uint32), c_size_t, c_uint32]),
     "heard": (_Arrival, [_Link] + 2 * _RUN),
-    "serve": (_Served, [POINTER(_Link), c_uint8] + 3 * _RUN),
+    "serve": (_Served, [POINTER(_Link)] + 3 * _RUN + [c_uint8]),
     "pdu_version": (c_uint32, []),
     "read": (_Pdu, _RUN),
     "write": (_Written, [_Pdu] + 2 * _RUN),
@@ -196,6 +204,15 @@ def convert(sheet):
 def store_check(store):
     """0 for a good store of versions, else 30."""
     return _call.store_check(*_lent(store))
+
+
+KeptVersion = namedtuple("KeptVersion", "number length")
+
+
+def versions(store):
+    """The versions that a store keeps, each with its number and its length, in rising order; none of a store that is not good."""
+    kept = (_call.kept(*_lent(store), k) for k in range(8))
+    return [KeptVersion(version.number, version.length) for version in kept if version.number]
 
 
 def remove(store, number):
@@ -378,7 +395,7 @@ def frame_write(info, apdu, **fields):
 
 Reply = namedtuple("Reply", "outcome count changed")
 Saved = namedtuple("Saved", "outcome number")
-Arrival = namedtuple("Arrival", "event connection group")
+Arrival = namedtuple("Arrival", "event connection group source sequence negative")
 Served = namedtuple("Served", "number outcome connection count changed")
 NOBODY = 255  # no connection
 LINK_ROOM = 25  # bytes of the longest frame that answers
@@ -423,7 +440,7 @@ class Unit:
     def request(self, apdu, buffer, mode=CONNECTIONLESS, connection=0, group=0):
         """A request: outcome, how many bytes of the buffer, a bytearray, are the answer, and offset and length of each part stored."""
         how = _bits(mode, 8), _bits(connection, 8), _bits(group, 16)
-        reply = _call.request(byref(self._sessions), *how, *_lent(apdu), *_lent(self.sheet), *_lent(buffer))
+        reply = _call.request(byref(self._sessions), *_lent(self.sheet), *how, *_lent(apdu), *_lent(buffer))
         return Reply(reply.outcome, reply.count, _parts(reply.changed))
 
     @property
@@ -432,14 +449,15 @@ class Unit:
         return list(self._link.address)
 
     def heard(self, frame):
-        """What a frame is to this device, which changes nothing: its event, or why there is none, with connection and group."""
+        """What a frame is to this device, which changes nothing: its event, or why there is none, with connection and group; who sent
+        it, its sequence number, and whether it is a negative acknowledgement."""
         arrival = _call.heard(self._link, *_lent(bytes(self.sheet)), *_lent(frame))
-        return Arrival(arrival.event, arrival.connection, arrival.group)
+        return Arrival(*(getattr(arrival, name) for name in Arrival._fields))
 
     def serve(self, frame, buffer, sequence=0):
         """A frame in, at most one frame out, into the buffer, a bytearray; and offset and length of each part stored."""
-        lent = *_lent(bytes(frame)), *_lent(self.sheet), *_lent(buffer)
-        served = _call.serve(byref(self._link), _bits(sequence, 8), *lent)
+        lent = *_lent(self.sheet), *_lent(bytes(frame)), *_lent(buffer)
+        served = _call.serve(byref(self._link), *lent, _bits(sequence, 8))
         return Served(served.number, served.outcome, served.connection, served.count, _parts(served.changed))
 
     def save(self, store):

@@ -69,10 +69,16 @@
     FIELD(kelindap_link, sessions, 4, 0) \
     FIELD(kelindap_link, address, 4, 4) \
     FIELD(kelindap_link, address[1], 2, 6) \
-    SIZE(kelindap_arrival, 4) \
+    SIZE(kelindap_kept_version, 4) \
+    FIELD(kelindap_kept_version, number, 2, 0) \
+    FIELD(kelindap_kept_version, length, 2, 2) \
+    SIZE(kelindap_arrival, 8) \
     FIELD(kelindap_arrival, event, 1, 0) \
     FIELD(kelindap_arrival, connection, 1, 1) \
     FIELD(kelindap_arrival, group, 2, 2) \
+    FIELD(kelindap_arrival, source, 2, 4) \
+    FIELD(kelindap_arrival, sequence, 1, 6) \
+    FIELD(kelindap_arrival, negative, 1, 7) \
     SIZE(kelindap_served, 5 * W) \
     FIELD(kelindap_served, number, 1, 0) \
     FIELD(kelindap_served, outcome, 1, 1) \

@@ -79,8 +79,8 @@ static kelindap_served serve_at(enum place place, state *s, uint8_t sequence, co
     lent answer = lend(ANSWER, place, out, room);
     uint8_t before[sizeof s->sheet];
     memcpy(before, s->sheet, s->length);
-    kelindap_served r = kelindap_serve((kelindap_link *)link.bytes, sequence, b.bytes, b.length, sheet.bytes, sheet.length,
-                                       answer.bytes, answer.length);
+    kelindap_served r = kelindap_serve((kelindap_link *)link.bytes, sheet.bytes, sheet.length, b.bytes, b.length, answer.bytes,
+                                       answer.length, sequence);
     calls++;
     take_back(&link, &s->link, "link");
     take_back(&sheet, s->sheet, "sheet");
@@ -239,7 +239,7 @@ static void test_two_parts(void)
     expect(r.outcome == 0 && r.changed[0].length == 2 && r.changed[1].length == 2, "two parts: %d, %d and %d bytes", r.outcome,
            (int)r.changed[0].length, (int)r.changed[1].length);
     state found = before;
-    kelindap_reply reply = kelindap_request(&found.link.sessions, 3, 0, 0, apdu, sizeof apdu, found.sheet, found.length, answer, 16);
+    kelindap_reply reply = kelindap_request(&found.link.sessions, found.sheet, found.length, 3, 0, 0, apdu, sizeof apdu, answer, 16);
     expect_named(reply.outcome, reply.changed, before.sheet, found.sheet, found.length);
     expect(memcmp(reply.changed, r.changed, sizeof r.changed) == 0 && memcmp(found.sheet, s.sheet, s.length) == 0,
            "a request and its frame name other parts");
