@@ -29,10 +29,16 @@ while read -r processor debian triple _; do
     done
     for header in include/*.h; do cmp "$header" "$work/of/usr/$header" || fail "$package has another $header"; done
     grep -qx "processor=$processor" "$work/of/usr/lib/$triple/pkgconfig/kelindap.pc" || fail "$package does not name $processor"
-    [ "$(find "$work/of" -type f | wc -l)" = $(($(find include -name '*.h' | wc -l) + 4)) ] || fail "$package has other files"
+    grep -qx "Requires: kelindap = $version" "$work/of/usr/lib/$triple/pkgconfig/kelindap-plain.pc" || fail "$package has no kelindap-plain"
+    [ "$(find "$work/of" -type f | wc -l)" = $(($(find include -name '*.h' | wc -l) + 5)) ] || fail "$package has other files"
 done < <(grep '^[a-z]' mk/processors)
 
-# this machine's two, in an empty root
+# what the headers name, in a package of its own for all processors
+package=build/deb/kelindap-doc_${version}_all.deb
+[ "$(dpkg-deb -f "$package" Package Version Architecture | paste -sd ' ')" = "Package: kelindap-doc Version: $version Architecture: all" ] || fail "$package has other fields"
+[ "$(dpkg-deb -f "build/deb/libkelindap-dev_${version}_$(grep "^$own " mk/processors | cut -d ' ' -f 2).deb" Recommends)" = "kelindap-doc (= $version)" ] || fail "libkelindap-dev does not ask for kelindap-doc"
+
+# this machine's three, in an empty root
 read -r _ debian triple _ < <(grep "^$own " mk/processors)
 as_root=()
 [ "$(id -u)" = 0 ] || as_root=(fakeroot)
@@ -41,7 +47,7 @@ as_root=()
 # also where the machine's own dpkg leaves man pages out
 in_root() {
     "${as_root[@]}" dpkg --root="$root" --log=/dev/null --force-not-root --force-bad-path --force-script-chrootless \
-        --path-include='/usr/share/man/*' "$@" > "$work/said" 2>&1 || { cat "$work/said"; fail "dpkg $*"; }
+        --path-include='/usr/share/man/*' --path-include='/usr/share/doc/*' "$@" > "$work/said" 2>&1 || { cat "$work/said"; fail "dpkg $*"; }
 }
 mkdir -p "$root/var/lib/dpkg"/{info,updates,triggers}
 : > "$root/var/lib/dpkg/status"
@@ -50,7 +56,8 @@ mkdir -p "$root/var/lib/dpkg"/{info,updates,triggers}
 dpkg-deb -f "build/deb/kelindap-tools_${version}_$debian.deb" Depends | grep -q '^libc6 (>= [0-9.]*), libgcc-s1$' || fail "kelindap-tools asks for other packages"
 needed=$(objdump -p build/sheet build/trace build/unit | awk '$1 == "NEEDED" && $2 !~ /^ld-linux/ { print $2 }' | sort -u | paste -sd ' ')
 [ "$needed" = "libc.so.6 libgcc_s.so.1" ] || fail "the programs need $needed"
-in_root --force-depends -i "build/deb/libkelindap-dev_${version}_$debian.deb" "build/deb/kelindap-tools_${version}_$debian.deb"
+in_root --force-depends -i "build/deb/libkelindap-dev_${version}_$debian.deb" "build/deb/kelindap-tools_${version}_$debian.deb" \
+    "build/deb/kelindap-doc_${version}_all.deb"
 files=$(find "$root/usr" -type f | wc -l)
 
 by="its own words"
@@ -63,6 +70,11 @@ fi
 read -ra words <<< "$flags"
 gcc -o "$work/host" -std=c11 tests/c/installed.c "${words[@]}"
 [ "$("$work/host")" = "$version 1 1 no PDU that can be written, not 32 to 16,384 bytes" ] || fail "the host said $("$work/host")"
+
+doc=$root/usr/share/doc/kelindap
+for name in README.md docs/SHEET.md examples/host.c sheets/sample.sheet sheets/sample.txt sheets/sample.inc kelindap.html; do [ -s "$doc/$name" ] || fail "kelindap-doc has no $name"; done
+[ "$("$root/usr/bin/kelindap-sheet" check "$doc/sheets/pump.sheet")" = OK ] || fail "kelindap-sheet does not accept the pump's sheet"
+[ ! -e "$doc/installed" ] || fail "kelindap-doc has the list of make install"
 
 "$root/usr/bin/kelindap-unit" < tests/unit/story.in | cmp - tests/unit/story.out || fail "kelindap-unit plays another story"
 grep -o '0x..' hosts/sample_sheet.inc | sed 's/0x/\\x/' | paste -sd '' > "$work/list"
@@ -85,7 +97,7 @@ for program in kelindap-sheet:tools/sheet kelindap-trace:tools/trace kelindap-un
     fi
 done
 
-in_root -P kelindap-tools libkelindap-dev
+in_root -P kelindap-tools libkelindap-dev kelindap-doc
 [ -z "$(find "$root" -path "$root/var" -prune -o -type f -print)" ] || fail "a purge leaves files"
-echo "deb: libkelindap-dev for $(grep -c '^[a-z]' mk/processors) processors; on $own $files files of two packages in an empty root, a host is built by $by, the programs run, nothing is left"
+echo "deb: libkelindap-dev for $(grep -c '^[a-z]' mk/processors) processors; on $own $files files of three packages in an empty root, a host is built by $by, the programs run, nothing is left"
 [ ${#left_out[@]} = 0 ] || echo "deb: left out: ${left_out[*]}"

@@ -64,6 +64,12 @@ static kelindap_arrival hear_at(enum place place, const state *s, const uint8_t 
     lent sheet = lend(SHEET, place, s->sheet, s->length);
     lent b = lend(APDU, place, bytes, length);
     kelindap_arrival a = kelindap_heard(s->link, sheet.bytes, sheet.length, b.bytes, b.length);
+    bool reads = a.event < KELINDAP_FRAME_SHORT || a.event > KELINDAP_FRAME_LENGTH;
+    uint16_t source = reads ? (uint16_t)(bytes[4 + bytes[1]] << 8 | bytes[5 + bytes[1]]) : 0;
+    uint8_t octet = reads ? bytes[9 + bytes[1]] : 0;
+    expect(a.source == source && a.sequence == (octet >> 2 & 15) && a.negative == ((octet & 0xC3) == 0xC3),
+           "%d is sent by %04x with %d and %d", a.event, a.source, a.sequence, a.negative);
+    expect(a.event > 3 || a.event == 3 || a.sequence == 0, "%d has a number", a.event);
     calls++;
     take_back_same(&sheet, s->sheet, "sheet");
     take_back_same(&b, bytes, "frame");
