@@ -65,7 +65,7 @@ static bool do_remove(device *d, char **words, size_t count)
 /* How many versions are kept, and of each its number and its length. */
 static bool do_versions(device *d, char **words, size_t count)
 {
-    kelindap_kept_version kept[KELINDAP_STORE_VERSIONS];
+    kelindap_listed kept[KELINDAP_STORE_VERSIONS];
     size_t n = 0;
     (void)words, (void)count;
     while (n < KELINDAP_STORE_VERSIONS && (kept[n] = kelindap_kept(d->store.bytes, d->store.length, n)).number != 0)

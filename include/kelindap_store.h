@@ -59,10 +59,10 @@ typedef struct kelindap_saved {
 } kelindap_saved;
 
 /* A version that is kept: its number, and how long it is. */
-typedef struct kelindap_kept_version {
+typedef struct kelindap_listed {
     uint16_t number;
     uint16_t length;
-} kelindap_kept_version;
+} kelindap_listed;
 
 /* 0 for a good store, else 30. */
 uint8_t kelindap_store_check(const uint8_t *store, size_t store_length);
@@ -94,7 +94,7 @@ uint8_t kelindap_remove(uint8_t *store, size_t store_length, size_t number);
  * entry of 8. 0 and 0 if the store keeps no more, or is not a good one: so a host lists the versions of a store by counting k
  * from 0 until a number is 0, which no version has.
  */
-kelindap_kept_version kelindap_kept(const uint8_t *store, size_t store_length, size_t k);
+kelindap_listed kelindap_kept(const uint8_t *store, size_t store_length, size_t k);
 
 #ifdef __cplusplus
 }

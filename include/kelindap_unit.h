@@ -246,7 +246,7 @@ static inline uint8_t kelindap_unit_remove(kelindap_store *store, kelindap_versi
 }
 
 /* The k-th version, the first being 0; its number is 0 if there is none. */
-static inline kelindap_kept_version kelindap_unit_kept(const kelindap_store *store, size_t k)
+static inline kelindap_listed kelindap_unit_kept(const kelindap_store *store, size_t k)
 {
     return kelindap_kept(store->bytes, store->length, k);
 }

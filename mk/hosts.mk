@@ -47,7 +47,7 @@ test-c: $(BUILD)/layout $(BUILD)/stack $(IN_C)
 	for t in $(IN_C); do $(WATCHED) $$t; done
 
 # what may be saved late, byte by byte, on sheets of the plain model; WAITS and SEED may be given
-WAITS ?= 150
+WAITS ?= 40
 test-wear: $(BUILD)/wear_test
 	cargo build --release --quiet -p model
 	$(CARGO_BIN)/waits $(WAITS) $(SEED) | $(WATCHED) $(BUILD)/wear_test

@@ -9,7 +9,7 @@ _Static_assert(sizeof(kelindap_session) == 2 && offsetof(kelindap_session, level
                "as the module has it");
 _Static_assert(sizeof(kelindap_saved) == 4 && offsetof(kelindap_saved, number) == 2, "as the module has it");
 _Static_assert(sizeof(kelindap_link) == 8 && offsetof(kelindap_link, address) == 4, "as the module has it");
-_Static_assert(sizeof(kelindap_kept_version) == 4 && offsetof(kelindap_kept_version, length) == 2, "as the module has it");
+_Static_assert(sizeof(kelindap_listed) == 4 && offsetof(kelindap_listed, length) == 2, "as the module has it");
 _Static_assert(sizeof(kelindap_arrival) == 8 && offsetof(kelindap_arrival, source) == 4 && offsetof(kelindap_arrival, negative) == 7,
                "as the module has it");
 _Static_assert(sizeof(kelindap_played) == 4 && offsetof(kelindap_played, handled) == 2, "as the module has it");
@@ -26,13 +26,13 @@ _Static_assert(sizeof(kelindap_played) == 4 && offsetof(kelindap_played, handled
 #define GIVEN_LINK(name) \
     (uint64_t)(GIVEN_SESSIONS(name.sessions)) | (uint64_t)name.address[0] << 32 | (uint64_t)name.address[1] << 48
 
-typedef word raw_kelindap_sessions, raw_kelindap_saved, raw_kelindap_played, raw_kelindap_kept_version;
+typedef word raw_kelindap_sessions, raw_kelindap_saved, raw_kelindap_played, raw_kelindap_listed;
 static kelindap_sessions made_kelindap_sessions(word r)
 {
     return (kelindap_sessions){ { { low(r), high(r) }, { low(r >> 16), high(r >> 16) } } };
 }
 static kelindap_saved made_kelindap_saved(word r) { return (kelindap_saved){ low(r), (uint16_t)(r >> 16) }; }
-static kelindap_kept_version made_kelindap_kept_version(word r) { return (kelindap_kept_version){ (uint16_t)r, (uint16_t)(r >> 16) }; }
+static kelindap_listed made_kelindap_listed(word r) { return (kelindap_listed){ (uint16_t)r, (uint16_t)(r >> 16) }; }
 static kelindap_played made_kelindap_played(word r) { return (kelindap_played){ low(r), (uint16_t)(r >> 16) }; }
 
 /* eight bytes, as one number of 64 bits */
@@ -88,7 +88,7 @@ CALL(byte, store_check, READ(store))
 CALL(kelindap_saved, save, READ(sheet), WRITE(store))
 CALL(byte, restore, SESSIONS(sessions), NUMBER(uint8_t, connection), WRITE(sheet), READ(store), SIZE(number))
 CALL(byte, remove, WRITE(store), SIZE(number))
-CALL(kelindap_kept_version, kept, READ(store), SIZE(k))
+CALL(kelindap_listed, kept, READ(store), SIZE(k))
 CALL(byte, trace_check, READ(trace))
 CALL(kelindap_played, play, AT(kelindap_sessions, sessions), WRITE(sheet), READ(trace), SIZE(from), SIZE(limit), WRITE(log))
 CALL(kelindap_played, play_marked, AT(kelindap_sessions, sessions), WRITE(sheet), READ(trace), SIZE(from), SIZE(limit), WRITE(log),

@@ -24,7 +24,7 @@ const page_field *page_fields(void)
         WHOLE(reply), FIELD(reply, outcome), FIELD(reply, count),
         WHOLE(part), FIELD(part, offset), FIELD(part, length),
         WHOLE(saved), FIELD(saved, outcome), FIELD(saved, number),
-        WHOLE(kept_version), FIELD(kept_version, number), FIELD(kept_version, length),
+        WHOLE(listed), FIELD(listed, number), FIELD(listed, length),
         WHOLE(played), FIELD(played, refusal), FIELD(played, handled),
         WHOLE(pdu), FIELD(pdu, serial), FIELD(pdu, key), FIELD(pdu, address), FIELD(pdu, domain), FIELD(pdu, s),
         FIELD(pdu, maximum), FIELD(pdu, outcome), FIELD(pdu, kind), FIELD(pdu, v), FIELD(pdu, t), FIELD(pdu, object),

@@ -203,9 +203,9 @@ class Proved {
         const all = [];
         for (let k = 0; k < MOST_VERSIONS; k++) {
             const version = this.lending(() => {
-                const kept = this.structure("kept_version");
+                const kept = this.structure("listed");
                 this.calls.kelindap_kept(kept, ...this.read(store), k);
-                return { number: this.small(kept, "kept_version.number"), length: this.small(kept, "kept_version.length") };
+                return { number: this.small(kept, "listed.number"), length: this.small(kept, "listed.length") };
             });
             if (version.number !== 0) all.push(version);
         }

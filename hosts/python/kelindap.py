@@ -55,7 +55,7 @@ class _Played(Structure):
     _fields_ = [("refusal", c_uint8), ("handled", c_uint16)]
 
 
-class _KeptVersion(Structure):
+class _Listed(Structure):
     _fields_ = [("number", c_uint16), ("length", c_uint16)]
 
 
@@ -122,7 +122,7 @@ _CALLS = {
     "save": (_Saved, 2 * _RUN),
     "restore": (c_uint8, [_Sessions, c_uint8] + 2 * _RUN + [c_size_t]),
     "remove": (c_uint8, _RUN + [c_size_t]),
-    "kept": (_KeptVersion, _RUN + [c_size_t]),
+    "kept": (_Listed, _RUN + [c_size_t]),
     "trace_check": (c_uint8, _RUN),
     "play": (_Played, _SESSIONS + 2 * _RUN + [c_size_t, c_size_t] + _RUN),
     "play_marked": (_Played, _SESSIONS + 2 * _RUN + [c_size_t, c_size_t] + 2 * _RUN + [POINTER(c_uint32), c_size_t, c_uint32]),
@@ -206,13 +206,13 @@ def store_check(store):
     return _call.store_check(*_lent(store))
 
 
-KeptVersion = namedtuple("KeptVersion", "number length")
+Kept = namedtuple("Kept", "number length")
 
 
 def versions(store):
     """The versions that a store keeps, each with its number and its length, in rising order; none of a store that is not good."""
     kept = (_call.kept(*_lent(store), k) for k in range(8))
-    return [KeptVersion(version.number, version.length) for version in kept if version.number]
+    return [Kept(version.number, version.length) for version in kept if version.number]
 
 
 def remove(store, number):

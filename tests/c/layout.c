@@ -69,9 +69,9 @@
     FIELD(kelindap_link, sessions, 4, 0) \
     FIELD(kelindap_link, address, 4, 4) \
     FIELD(kelindap_link, address[1], 2, 6) \
-    SIZE(kelindap_kept_version, 4) \
-    FIELD(kelindap_kept_version, number, 2, 0) \
-    FIELD(kelindap_kept_version, length, 2, 2) \
+    SIZE(kelindap_listed, 4) \
+    FIELD(kelindap_listed, number, 2, 0) \
+    FIELD(kelindap_listed, length, 2, 2) \
     SIZE(kelindap_arrival, 8) \
     FIELD(kelindap_arrival, event, 1, 0) \
     FIELD(kelindap_arrival, connection, 1, 1) \
@@ -211,6 +211,9 @@
     NUMBER(KELINDAP_FIRST, 0) \
     NUMBER(KELINDAP_SECOND, 1) \
     NUMBER(KELINDAP_NO_CONNECTION, 255) \
+    NUMBER(KELINDAP_SAVE_NOTHING, 0) \
+    NUMBER(KELINDAP_SAVE_LATER, 1) \
+    NUMBER(KELINDAP_SAVE_NOW, 2) \
     NUMBER(KELINDAP_MULTICAST, 0) \
     NUMBER(KELINDAP_BROADCAST, 1) \
     NUMBER(KELINDAP_CONNECTIONLESS, 2) \

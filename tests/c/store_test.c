@@ -230,7 +230,7 @@ static void try_check(enum place place, run store)
     expect(r == (v.good ? 0 : 30), "store_check gave %d", r);
     for (size_t k = 0; k <= KELINDAP_STORE_VERSIONS + 1; k++) {
         size_t at = k <= KELINDAP_STORE_VERSIONS ? k : SIZE_MAX - any(9);
-        kelindap_kept_version kept = kelindap_kept(b.bytes, b.length, at);
+        kelindap_listed kept = kelindap_kept(b.bytes, b.length, at);
         bool there = v.good && at < v.count;
         expect(kept.number == (there ? v.of[k].number : 0) && kept.length == (there ? v.of[k].length : 0),
                "version %zu is told as %d of %d bytes", at, kept.number, kept.length);

@@ -66,11 +66,13 @@ static void try_bytes(uint8_t *bytes, size_t length)
 {
     for (int i = 0; i < 20; i++) {
         size_t cut = any((uint32_t)length + 1);
-        for (int k = 0; k < 4; k++)
+        if (any(2) == 0) /* where the entries of group objects end */
+            cut = 32 + 8u * bytes[1] + 12u * bytes[2] + 8u * bytes[3] - any(10);
+        else
             bytes[any(4) ? any(4) : any((uint32_t)length)] = (uint8_t)any(256);
-        lent sheet = lend(SHEET, EXACT, bytes, cut);
+        lent sheet = lend(SHEET, EXACT, bytes, cut < length ? cut : length);
         calls++;
-        kelindap_may_wait(sheet.bytes, cut, (kelindap_part){ any(20000), 1 + any(20) });
+        kelindap_may_wait(sheet.bytes, sheet.length, (kelindap_part){ any(20000), 1 + any(20) });
         take_back_same(&sheet, bytes, "bytes");
     }
 }

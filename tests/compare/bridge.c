@@ -437,7 +437,7 @@ static void restore(void)
 static void list_versions(void)
 {
     for (size_t k = 0; k <= KELINDAP_STORE_VERSIONS; k++) {
-        kelindap_kept_version kept = kelindap_kept(given(store), store.length, k < KELINDAP_STORE_VERSIONS ? k : SIZE_MAX);
+        kelindap_listed kept = kelindap_kept(given(store), store.length, k < KELINDAP_STORE_VERSIONS ? k : SIZE_MAX);
         give_number(kept.number, 2);
         give_number(kept.length, 2);
     }

@@ -40,7 +40,7 @@ for name, structure in structures.items():
 kinds = re.search(r"define KELINDAP_KINDS.*?\n\n", open("include/kelindap_names.h").read(), re.S).group()
 hold("kinds", [kind for kind, _ in kelindap.KINDS], re.findall(r'"(\w+)"', kinds))
 declared = {name for header in glob.glob("include/*.h") if not header.endswith(("_names.h", "_plain.h"))
-            for name in re.findall(r"^(?!static)[\w ]*\bkelindap_(\w+)\(", open(header).read(), re.M)}
+            for name in re.findall(r"^(?!static| )[\w ]*\bkelindap_(\w+)\(", open(header).read(), re.M)}
 hold("calls", sorted(kelindap._CALLS), sorted(declared))
 
 for line in wrong:

@@ -120,6 +120,10 @@ class Player:
     def remove(self, number):
         return f"{kelindap.remove(self.versions, int(number))} {to_hex(self.versions)}"
 
+    def listed(self):
+        kept = kelindap.versions(self.versions)
+        return " ".join([str(len(kept))] + [f"{version.number}:{version.length}" for version in kept])
+
     def trace(self, word):
         self.events, self.played = from_hex(word), 0
         return str(kelindap.trace_check(self.events) or "OK")
@@ -153,7 +157,7 @@ class Player:
         return " ".join(map(str, self.unit.addresses))
 
     def heard(self, frame):
-        event, connection, group = self.unit.heard(from_hex(frame))
+        event, connection, group, *_ = self.unit.heard(from_hex(frame))
         if event >= len(self.EVENTS):
             return str(event)
         more = f" {group}" if event == 0 else "" if connection == kelindap.NOBODY else f" {connection}"
@@ -169,7 +173,7 @@ class Player:
         return self.told(before, served) or f"{line} {self.sessions()} {to_hex(self.unit.sheet)}"
 
     COMMANDS = "sheet convert session connect disconnect button request lookup read write point frame".split()
-    COMMANDS += "store save restore remove trace play link heard serve".split()
+    COMMANDS += "store save restore remove versions trace play link heard serve".split()
 
     def obey(self, line):
         """The answer, or None to a command that is not known here."""
@@ -177,7 +181,7 @@ class Player:
         if name not in self.COMMANDS:
             return None
         try:
-            return getattr(self, name)(*words)
+            return getattr(self, "listed" if name == "versions" else name)(*words)
         except Refused as refused:
             return str(refused.outcome)
 
