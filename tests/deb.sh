@@ -36,7 +36,7 @@ done < <(grep '^[a-z]' mk/processors)
 # what the headers name, in a package of its own for all processors
 package=build/deb/kelindap-doc_${version}_all.deb
 [ "$(dpkg-deb -f "$package" Package Version Architecture | paste -sd ' ')" = "Package: kelindap-doc Version: $version Architecture: all" ] || fail "$package has other fields"
-[ "$(dpkg-deb -f "build/deb/libkelindap-dev_${version}_$(grep "^$own " mk/processors | cut -d ' ' -f 2).deb" Recommends)" = "kelindap-doc (= $version)" ] || fail "libkelindap-dev does not ask for kelindap-doc"
+[ "$(dpkg-deb -f "build/deb/libkelindap-dev_${version}_$(awk -v own="$own" '$1 == own { print $2 }' mk/processors).deb" Recommends)" = "kelindap-doc (= $version)" ] || fail "libkelindap-dev does not ask for kelindap-doc"
 
 # this machine's three, in an empty root
 read -r _ debian triple _ < <(grep "^$own " mk/processors)

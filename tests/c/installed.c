@@ -10,7 +10,7 @@
 
 int main(void)
 {
-    uint8_t out[16];
+    uint8_t out[16] = { 0 };
     kelindap_pdu junk = kelindap_read(out, 0);
     kelindap_unit unit = kelindap_unit_start(out, 0);
     printf("%s %d %d %s, %s\n", KELINDAP_VERSION_TEXT, kelindap_version() == KELINDAP_VERSION,
