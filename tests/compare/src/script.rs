@@ -82,7 +82,8 @@ fn said(play: &Play, reply: &[u8], sheet: &[u8], store: &[u8]) -> String {
         Play::Convert | Play::Restore(..) => format!("{} {}", reply[0], hex(sheet)),
         Play::Remove(_) => format!("{} {}", reply[0], hex(store)),
         Play::Versions => {
-            let kept = reply.chunks(4).map(|v| [0, 2].map(|i| u16::from_le_bytes([v[i], v[i + 1]])));
+            let kept =
+                reply.chunks(4).map(|v| [0, 2].map(|i| u16::from_le_bytes([v[i], v[i + 1]])));
             let kept: Vec<_> = kept.filter(|v| v[0] != 0).collect();
             let each = |v: &[u16; 2]| format!(" {}:{}", v[0], v[1]);
             format!("{}{}", kept.len(), kept.iter().map(each).collect::<String>())

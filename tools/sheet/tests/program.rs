@@ -76,8 +76,11 @@ fn show_and_make() {
     assert_eq!((listed.0, listed.2.as_str()), (0, ""));
     let byte = |word: &str| u8::from_str_radix(word.strip_prefix("0x")?, 16).ok();
     let lines = listed.1.lines().filter(|line| !line.starts_with("/*"));
-    assert!(lines.clone().all(|line| line.len() <= 16 * 6 - 1 && line.ends_with(',')));
-    let bytes: Vec<u8> = lines.flat_map(|line| line.split(", ")).filter_map(|w| byte(w.trim_end_matches(','))).collect();
+    assert!(lines.clone().all(|line| line.len() < 16 * 6 && line.ends_with(',')));
+    let bytes: Vec<u8> = lines
+        .flat_map(|line| line.split(", "))
+        .filter_map(|w| byte(w.trim_end_matches(',')))
+        .collect();
     assert_eq!(bytes, SAMPLE);
     assert_eq!(told(&room, &["make", "--c", "noise"]), told(&room, &["make", "noise"]));
     let hidden = told(&room, &["show", "sample"]).1;

@@ -19,7 +19,8 @@ fn kinds(sheet: &[u8]) -> String {
 
 fn main() {
     let words: Vec<String> = env::args().collect();
-    let number = |k: usize, otherwise| words.get(k).map_or(otherwise, |w| w.parse().expect("a number"));
+    let number =
+        |k: usize, otherwise| words.get(k).map_or(otherwise, |w| w.parse().expect("a number"));
     let mut rng = Rng::new(number(2, 1));
     let made = (0..number(1, 200)).map(|_| gen::sheet(&mut rng));
     for sheet in [SAMPLE.to_vec(), PUMP.to_vec()].into_iter().chain(made) {
