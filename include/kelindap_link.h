@@ -12,11 +12,12 @@
  *  - sequence numbers and acknowledgements. A partner whose acknowledgement was lost sends its frame again, and a second bit
  *    write undoes the first. So for connected data the host asks kelindap_heard first, holds the sequence number that it tells
  *    against the one that is next on that connection, and calls kelindap_serve only with a new one, which it acknowledges after
- *    the call, when what was stored is saved: a write that is not answered has the acknowledgement alone. The one before the
- *    next it acknowledges once more. It hands over the number with which its own next frame on that connection goes out, and
- *    counts it on if a frame was sent there. A connect, a second one too, sets both to 0;
- *  - 255 in `connection` is no connection, and never an index: all that is not connected data, a connect or a disconnect of a
- *    partner has it. A host that keeps its numbers in an array of two asks for KELINDAP_LINK_NOBODY before it looks there;
+ *    the call, when what was stored is saved: a write that is not answered has the acknowledgement alone. The one that it
+ *    took last on this connection it acknowledges once more. It hands over the number with which its own next frame on that
+ *    connection goes out, and counts it on if a frame was sent there. A connect, a second one too, sets both to 0;
+ *  - 255 in `connection` (KELINDAP_LINK_NOBODY) is no connection, and never an index: data without a connection, frames for
+ *    others and all that is a stranger's have it. A host that keeps its numbers in an array of two asks for it before it looks
+ *    there;
  *  - 45, an acknowledgement, tells by its connection whose it is, by `sequence` of which frame, and by `negative` that this one
  *    is asked for again; 61 and 62 are a stranger's, to whose address (`source`) transport sends a disconnect; 63 is a
  *    stranger's disconnect, which nothing answers;
@@ -86,9 +87,10 @@ typedef struct kelindap_arrival {
 
 /*
  * What serving a frame gave. number: 0 if it is an event, and then outcome is the event's, 1 of a connect and a disconnect; else
- * why there is none, and outcome is 0. connection as in kelindap_arrival: 255 is never an index. count: bytes of the frame that answers, at the front of
- * the buffer, 0 if there is none; the rest stays. changed: the parts of the sheet that were stored, as in kelindap_reply; every
- * byte outside them is as it was. Only data stores: what is no event, a connect, a disconnect and an outcome from 2 on have 0 and 0.
+ * why there is none, and outcome is 0. connection as in kelindap_arrival: 255 is never an index. count: bytes of the frame that
+ * answers, at the front of the buffer, 0 if there is none; the rest stays. changed: the parts of the sheet that were stored, as
+ * in kelindap_reply; every byte outside them is as it was. Only data stores: what is no event, a connect, a disconnect and an
+ * outcome from 2 on have 0 and 0.
  */
 typedef struct kelindap_served {
     uint8_t number;

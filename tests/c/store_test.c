@@ -229,7 +229,7 @@ static void try_check(enum place place, run store)
     versions v = take_apart(store.bytes, store.length);
     expect(r == (v.good ? 0 : 30), "store_check gave %d", r);
     for (size_t k = 0; k <= KELINDAP_STORE_VERSIONS + 1; k++) {
-        size_t at = k <= KELINDAP_STORE_VERSIONS ? k : SIZE_MAX - any(9);
+        size_t at = k <= KELINDAP_STORE_VERSIONS ? k : SIZE_MAX;
         kelindap_listed kept = kelindap_kept(b.bytes, b.length, at);
         bool there = v.good && at < v.count;
         expect(kept.number == (there ? v.of[k].number : 0) && kept.length == (there ? v.of[k].length : 0),
@@ -485,7 +485,7 @@ int main(void)
     test_example();
     test_runs();
     expect(outcomes[14] > 0, "outcome 14 was never given");
-    expect(listed > 1000, "only %u versions were listed", listed);
+    expect(listed > ROUNDS / 40, "only %u versions were listed", listed);
     for (int r = 30; r <= 37; r++)
         expect(outcomes[r] > 0, "outcome %d was never given", r);
     return tell();
