@@ -21,7 +21,7 @@ test: need-tools
 	$(MAKE) --no-print-directory -s model
 	$(MAKE) --no-print-directory -s prove
 	$(MAKE) --no-print-directory -s sheet-check
-	$(MAKE) --no-print-directory -s -j2 -O test-unit test-text test-c points test-frames $(BUILD)/bridge
+	$(MAKE) --no-print-directory -s -j2 -O test-unit test-text test-c test-wear points test-frames $(BUILD)/bridge
 	mk/bin/beside $(MAKE) --no-print-directory -s test-firmware -- $(MAKE) --no-print-directory -s test-tools compare
 	$(MAKE) --no-print-directory -s figures test-deb test-python
 	mk/bin/beside $(MAKE) --no-print-directory -s test-page test-shims -- $(MAKE) --no-print-directory -s test-others

@@ -263,8 +263,8 @@ static void take_frame(host *h, const uint8_t *frame, size_t length)
     bool placed = a.connection != KELINDAP_LINK_NOBODY;
     kelindap_sessions before = h->link.sessions;
     uint8_t answer[KELINDAP_LINK_ROOM], *out = placed ? &h->transport[a.connection].out : NULL;
-    kelindap_served s = kelindap_serve(&h->link, placed ? *out : 0, frame, length, h->sheet.bytes, h->sheet.length, answer,
-                                       sizeof answer);
+    kelindap_served s = kelindap_serve(&h->link, h->sheet.bytes, h->sheet.length, frame, length, answer, sizeof answer,
+                                       placed ? *out : 0);
     if (s.changed[0].length != 0 || s.changed[1].length != 0)
         save(&h->sheet);
     if (connected)

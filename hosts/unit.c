@@ -301,10 +301,10 @@ static bool do_button(device *d, char **words, size_t count)
 static kelindap_reply served(device *d, uint8_t mode, uint8_t c, uint16_t group, run apdu, run answer)
 {
     if (!d->plain)
-        return kelindap_request(&d->link.sessions, mode, c, group, apdu.bytes, apdu.length, d->sheet.bytes, d->sheet.length,
+        return kelindap_request(&d->link.sessions, d->sheet.bytes, d->sheet.length, mode, c, group, apdu.bytes, apdu.length,
                                 answer.bytes, answer.length);
-    kelindap_plain_reply reply = kelindap_plain_request(&d->link.sessions, mode, c, group, apdu.bytes, apdu.length, d->sheet.bytes,
-                                                        d->sheet.length, answer.bytes, answer.length);
+    kelindap_plain_reply reply = kelindap_plain_request(&d->link.sessions, d->sheet.bytes, d->sheet.length, mode, c, group,
+                                                        apdu.bytes, apdu.length, answer.bytes, answer.length);
     return (kelindap_reply){ .outcome = reply.outcome, .count = reply.count };
 }
 
@@ -815,6 +815,7 @@ static const struct command {
     { "save", "save", 0, 0, do_save },
     { "restore", "restore C NUMBER", 2, 2, do_restore },
     { "remove", "remove NUMBER", 1, 1, do_remove },
+    { "versions", "versions", 0, 0, do_versions },
     { "trace", "trace HEX", 1, 1, do_trace },
     { "play", "play LIMIT", 1, 1, do_play },
     { "link", "link", 0, 0, do_link },

@@ -60,8 +60,8 @@ static bool do_serve(device *d, char **words, size_t count)
     if (!take_up_to("SEQUENCE", words[0], 255, &sequence) || !take_bytes("FRAMEHEX", words[1], &frame) ||
         !take_bytes("BUFHEX", words[2], &out))
         return false;
-    kelindap_served s = kelindap_serve(&d->link, (uint8_t)sequence, frame.bytes, frame.length, d->sheet.bytes, d->sheet.length,
-                                       out.bytes, out.length);
+    kelindap_served s = kelindap_serve(&d->link, d->sheet.bytes, d->sheet.length, frame.bytes, frame.length, out.bytes, out.length,
+                                       (uint8_t)sequence);
     printf("%d", s.number);
     put_if(s.number == 0, s.outcome);
     put_if(s.connection != KELINDAP_LINK_NOBODY, s.connection);

@@ -1,6 +1,6 @@
 /*
- * The desk unit's store of versions: store HEX, save, restore C NUMBER, remove NUMBER. A part of unit.c, which includes it
- * behind the device.
+ * The desk unit's store of versions: store HEX, save, restore C NUMBER, remove NUMBER, versions. A part of unit.c, which includes
+ * it behind the device.
  */
 #ifndef UNIT_STORE_H
 #define UNIT_STORE_H
@@ -59,6 +59,21 @@ static bool do_remove(device *d, char **words, size_t count)
         return false;
     printf("%d", kelindap_remove(d->store.bytes, d->store.length, version));
     put_rest(d->store);
+    return true;
+}
+
+/* How many versions are kept, and of each its number and its length. */
+static bool do_versions(device *d, char **words, size_t count)
+{
+    kelindap_listed kept[KELINDAP_STORE_VERSIONS];
+    size_t n = 0;
+    (void)words, (void)count;
+    while (n < KELINDAP_STORE_VERSIONS && (kept[n] = kelindap_kept(d->store.bytes, d->store.length, n)).number != 0)
+        n++;
+    printf("%zu", n);
+    for (size_t k = 0; k < n; k++)
+        printf(" %d:%d", kept[k].number, kept[k].length);
+    putchar('\n');
     return true;
 }
 

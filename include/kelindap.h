@@ -1,25 +1,43 @@
 /*
  * The device side of the KNX application layer, for one device.
  *
- * Link with libkelindap_device.a. kelindap_unit.h has the same calls with sheet and sessions in one record, and arguments
- * that can't be exchanged. Today it needs memcpy and memset from outside and nothing else. A freestanding host should provide
- * memcpy, memset, memmove and memcmp: compiled code may call any of the four (tests/c/bare.c has them). For which processors
- * there are archives README says; nothing here depends on one.
+ *  1. Load the sheet that was saved last, and kelindap_check it: 0 is accepted, 14 is old and converted once (kelindap_convert).
+ *  2. Begin with the sessions from kelindap_fresh.
+ *  3. Hand over what comes from the bus: a request to kelindap_request, or a whole frame to kelindap_serve (kelindap_link.h).
+ *  4. Save the sheet if a part of it was stored: the reply names the parts (`changed`).
+ *  5. Then acknowledge, and send the answer if there is one (`count` bytes).
  *
- * An APDU is the part of a frame from octet 6 on: 2 to 16 bytes, of which the first, b0, is octet 6. The service code is the
- * two low bits of b0 and the eight of the next byte. The six high bits of b0 are transport's: in a request they are ignored,
- * in an answer they are 0, and the host's transport sets them when it sends.
+ * kelindap_unit.h has the same calls with sheet and sessions in one record, and arguments that can't be exchanged; the order of
+ * arguments here, and how to ask whether a call succeeded, kelindap_common.h tells once for all headers.
  *
- * The host's duties, which no proof covers:
+ * LINKING. With libkelindap_device.a, by pkg-config the package kelindap. Today it needs memcpy and memset from outside and
+ * nothing else. A freestanding host should provide memcpy, memset, memmove and memcmp: compiled code may call any of the four.
+ * For which processors there are archives README.md says; nothing here depends on one. README.md, the folders docs and examples,
+ * two sample sheets and a page that shows the device in a browser are installed beside the headers, in share/doc/kelindap.
+ *
+ * AN APDU is the part of a frame from octet 6 on: 2 to 16 bytes, of which the first, b0, is octet 6. The service code is the two
+ * low bits of b0 and the eight of the next byte. The six high bits of b0 are transport's: in a request they are ignored, in an
+ * answer they are 0, and the host's transport sets them when it sends.
+ *
+ * THE HOST'S DUTIES, which no proof covers
+ *
+ * At the start
  *  - it begins with the sessions from kelindap_fresh and a sheet that kelindap_check accepts. No request on another sheet does
  *    anything, so a host that skips the check has a device that is silent;
  *  - a sheet of edition 1 that breaks no rule is old: outcome 14 where a bad one gets 4. The host, or whoever keeps the sheet,
  *    converts it once with kelindap_convert and saves it before the first request; no event and no tool on the bus does.
  *    Versions and traces that were made with the old sheet stay good for the converted one;
+ *  - programming mode is a bit of the sheet, and so survives in a saved one: a host that does not want to start in it calls
+ *    kelindap_button with false first, and the button's lamp follows bit 0 of byte 14.
+ *
+ * Buffers and calls
  *  - the buffers of one call do not overlap, and stay lent until the call returns;
  *  - nothing else writes the sheet between calls: the promises about a history hold only then;
  *  - a bool is 0 or 1, and a pointer has as many readable (for answer and sheet, writable) bytes as its length says;
  *  - a length of 0 is allowed everywhere, and its pointer is then never followed: NULL with 0 is an empty run;
+ *  - calls on one sheet come one after the other, never from two threads at once.
+ *
+ * Connections
  *  - a sheet has one kelindap_sessions, which the host keeps and these calls alone change. Two partners may be connected at
  *    once. The host gives each the number of a connection, 0 or 1, whose session is closed, and turns a third away; from the
  *    connect to the disconnect it names that number in every call for this partner, and in none for another. The rights of a
@@ -32,33 +50,42 @@
  *    host hands over only what is sent to this device, in mode 3 only what comes from the partner that has the number. In the
  *    other modes the number is not read. A host that has the frames themselves leaves numbers, addresses and modes to the calls
  *    of kelindap_link.h, which keep these duties, proved;
- *  - when a connection opens or ends, transport's time limits included, the host calls connect or disconnect with its number;
- *  - a Restart closes both sessions, on whichever connection it came. The host sees it by the sessions: one that was open
- *    before a call of kelindap_request and is closed after it was closed by a Restart, and by nothing else. Each connection
- *    that this is true of is then dropped, the other partner's too; that needs no disconnect, its session is closed at
- *    level 3 already. In mode 2 a Restart is taken only if the sheet names rules 1, and then from anybody who reaches this
- *    device: such a sheet lets every sender end both connections. There it shows as outcome 1, which no other request gets in
- *    mode 2, also if no session was open. After that the host restarts what it wants;
- *  - calls on one sheet come one after the other, never from two threads at once;
- *  - saving. The sheet is all that has to survive a power cut; the sessions do not survive one: they begin fresh. A request,
- *    and a frame that is served (kelindap_link.h), tells which parts of the sheet it stored; a button that gives 1 stored byte
- *    14, a restore that gives 1 counts and bodies of properties (kelindap_store.h), and no other call changes the sheet but
- *    kelindap_convert and playing (kelindap_trace.h). So a host needs no second copy in memory to know whether to save. It
- *    saves after such a call and before it acknowledges or answers, so that what a tool takes for done is kept, or at times of
- *    its own if the loss of the last writes is acceptable;
+ *  - when a connection opens or ends, transport's time limits included, the host calls connect or disconnect with its number.
+ *
+ * Restart
+ *  - it closes both sessions, on whichever connection it came. The host sees it by the sessions: one that was open before a call
+ *    of kelindap_request and is closed after it was closed by a Restart, and by nothing else. Each connection that this is true
+ *    of is then dropped, the other partner's too; that needs no disconnect, its session is closed at level 3 already. In mode 2
+ *    a Restart is taken only if the sheet names rules 1, and then from anybody who reaches this device: such a sheet lets every
+ *    sender end both connections. There it shows as outcome 1, which no other request gets in mode 2, also if no session was
+ *    open. After that the host restarts what it wants.
+ *
+ * Saving
+ *  - the sheet is all that has to survive a power cut; the sessions do not survive one: they begin fresh. A request, and a frame
+ *    that is served (kelindap_link.h), tells which parts of the sheet it stored; a button that is carried out stored byte 14, a
+ *    restore counts and bodies of properties (kelindap_store.h), and no other call changes the sheet but kelindap_convert and
+ *    playing (kelindap_trace.h). So a host needs no second copy in memory to know whether to save. It saves after such a call
+ *    and before it acknowledges or answers, so that what a tool takes for done is kept;
  *  - a power cut during a call leaves a sheet in memory that may hold a part of a write, and no promise speaks of it: so what
  *    the host starts from is the saved copy, and never memory that lay open to a call. A save must leave the old copy or the
  *    new one, whole: two places with a mark of the newer, or a new file renamed over the old one (examples/host.c). At start
- *    kelindap_check accepts what was saved, but it judges the form of a sheet and is no checksum;
- *  - programming mode is a bit of the sheet, and so survives in a saved one: a host that does not want to start in it calls
- *    kelindap_button with false first, and the button's lamp follows bit 0 of byte 14;
- *  - the keys stand in the sheet in clear: whoever reads the saved copy, a dump or a backup has them.
+ *    kelindap_check accepts what was saved, but it judges the form of a sheet and is no checksum.
+ *
+ * Wear
+ *  - what is named as stored may be what stood there, and group values and programming mode ask for no level: any sender on the
+ *    bus can have them stored as often as it likes. A host that saves each time lets it wear out the flash. So these may be
+ *    saved late, at times of the host's own: kelindap_may_wait tells a part that is nothing else from all others, and
+ *    kelindap_saving what is due of a reply (kelindap_wear.h). What a power cut then takes is a value that its sender sends
+ *    again. Address, keys, memory, counts and bodies of properties may not wait. Memory and properties whose write level is 3
+ *    are open to every sender too: a sheet that is kept in flash should have none of these.
+ *
+ * Secrets
+ *  - the keys stand in the sheet in clear: whoever reads the saved copy, a dump or a backup has them;
+ *  - no key is special. A tool that "deletes" a key by writing FFFFFFFFh does not close that level but opens it: whoever then
+ *    sends FFFFFFFFh by Authorize gets it. With key 0 that is level 0, which may write all that can be written.
  *
  * Byte 30 of the sheet names the rules. They differ in two services, Restart and the read of a device descriptor, and no call
  * changes the byte; docs/RULES.md tells of both.
- *
- * A warning: no key is special. A tool that "deletes" a key by writing FFFFFFFFh does not close that level but opens it: whoever
- * then sends FFFFFFFFh by Authorize gets it. With key 0 that is level 0, which may write all that can be written.
  */
 #ifndef KELINDAP_H
 #define KELINDAP_H
@@ -134,12 +161,12 @@ uint8_t kelindap_disconnect(kelindap_sessions *sessions, uint8_t connection);
 uint8_t kelindap_button(uint8_t *sheet, size_t sheet_length, bool on);
 
 /*
- * A request. The connection counts in mode 3 only, the group address in mode 0 only. The first `count` bytes of the answer buffer are filled, the rest
- * stays. The sheet is checked on every request.
+ * A request. The connection counts in mode 3 only, the group address in mode 0 only. The first `count` bytes of the answer
+ * buffer are filled, the rest stays. The sheet is checked on every request.
  */
-kelindap_reply kelindap_request(kelindap_sessions *sessions, uint8_t mode, uint8_t connection, uint16_t group,
+kelindap_reply kelindap_request(kelindap_sessions *sessions, uint8_t *sheet, size_t sheet_length,
+                                uint8_t mode, uint8_t connection, uint16_t group,
                                 const uint8_t *apdu, size_t apdu_length,
-                                uint8_t *sheet, size_t sheet_length,
                                 uint8_t *answer, size_t answer_length);
 
 /*

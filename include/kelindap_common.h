@@ -1,4 +1,11 @@
-/* What the headers share: the version, the outcomes, the rules of a sheet, and a record of zeros. */
+/*
+ * What the headers share: the version, the outcomes and how to ask whether a call succeeded, the rules of a sheet, a record of
+ * zeros; and the order of arguments.
+ *
+ * One order in every call: first the sessions or the link, then the sheet, then a store; then what came, how it came before its
+ * bytes; last what is lent to be filled. A number about one of these stands behind it, as its length does: the connection behind
+ * the sessions, the number of a version behind the store, a sequence number behind the frame that it is put into.
+ */
 #ifndef KELINDAP_COMMON_H
 #define KELINDAP_COMMON_H
 
@@ -53,6 +60,16 @@ enum kelindap_outcome {
     KELINDAP_FRAME_NO_ROOM = 46,   /* writing: the buffer is shorter than the frame */
     KELINDAP_FRAME_UNWRITABLE = 47 /* writing: a field that no frame that reads can have */
 };
+
+/*
+ * WHETHER A CALL SUCCEEDED, the one way to ask: of the byte that a call gives back, or of the outcome, refusal or number in the
+ * record that it gives back. What is not 0 or 1 is a refusal, and has changed neither sessions, link, sheet nor store. Only the
+ * check of a sheet gives no outcome but a rule, and 1 is the first rule: it is held to KELINDAP_ACCEPTED.
+ */
+static inline bool kelindap_carried_out(uint8_t outcome)
+{
+    return outcome <= KELINDAP_DONE;
+}
 
 /*
  * What the check of a sheet gives: accepted, the first rule broken, S1 to S9, or old. kelindap.h tells what breaks each rule,

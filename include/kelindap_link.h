@@ -10,17 +10,20 @@
  *    Nothing but these calls, kelindap_button, kelindap_restore and, for time-outs, kelindap_disconnect on link.sessions changes
  *    link and sheet. It never calls kelindap_connect on link.sessions: that would open a place for whoever had it last;
  *  - sequence numbers and acknowledgements. A partner whose acknowledgement was lost sends its frame again, and a second bit
- *    write undoes the first. So for connected data the host asks kelindap_heard first, holds the sequence number of the frame
- *    (the low four bits of transport's six, bits 2 to 5 of the TPDU's first byte) against the one that is next on that
- *    connection, and calls kelindap_serve only with a new one, which it acknowledges after the call, when what was stored is
- *    saved: a write that is not answered has the acknowledgement alone. The one before the next it acknowledges once more. It
- *    hands over the number with which its own next frame on that connection goes out, and counts it on if a frame was sent. A
- *    connect, a second one too, sets both to 0;
- *  - 45, an acknowledgement, tells by its connection whose it is; 61 and 62 are a stranger's, to whom transport sends a
- *    disconnect; 63 is a stranger's disconnect, which nothing answers. 65 came from this device's own address to itself: its own
- *    frame that came back, as from a router that loops, or another device with the same address. Nothing is sent to it; a host
- *    may tell the operator. What goes to a group or to all is heard from whatever source, so a host that gets back what it sent
- *    itself leaves that out before the call;
+ *    write undoes the first. So for connected data the host asks kelindap_heard first, holds the sequence number that it tells
+ *    against the one that is next on that connection, and calls kelindap_serve only with a new one, which it acknowledges after
+ *    the call, when what was stored is saved: a write that is not answered has the acknowledgement alone. The one that it
+ *    took last on this connection it acknowledges once more. It hands over the number with which its own next frame on that
+ *    connection goes out, and counts it on if a frame was sent there. A connect, a second one too, sets both to 0;
+ *  - 255 in `connection` (KELINDAP_LINK_NOBODY) is no connection, and never an index: data without a connection, frames for
+ *    others and all that is a stranger's have it. A host that keeps its numbers in an array of two asks for it before it looks
+ *    there;
+ *  - 45, an acknowledgement, tells by its connection whose it is, by `sequence` of which frame, and by `negative` that this one
+ *    is asked for again; 61 and 62 are a stranger's, to whose address (`source`) transport sends a disconnect; 63 is a
+ *    stranger's disconnect, which nothing answers. 65 came from this device's own address to itself: its own frame that came
+ *    back, as from a router that loops, or another device with the same address. Nothing is sent to it; a host may tell the
+ *    operator. What goes to a group or to all is heard from whatever source, so a host that gets back what it sent itself
+ *    leaves that out before the call;
  *  - transport's time limits: a partner that is silent too long is disconnected by kelindap_disconnect with its number;
  *  - a session that was open before a call of kelindap_serve and is closed after it, though the frame was no disconnect of that
  *    partner, was closed by a Restart: a disconnect is then due to that partner on the bus.
@@ -43,6 +46,7 @@
 #define KELINDAP_LINK_H
 
 #include "kelindap.h"
+#include "kelindap_frame.h"
 
 #ifdef __cplusplus
 extern "C" {
@@ -69,25 +73,32 @@ enum kelindap_link_outcome {
 
 enum {
     KELINDAP_LINK_ROOM = 25,   /* bytes of the longest frame that answers */
-    KELINDAP_LINK_NOBODY = 255 /* no connection */
+    KELINDAP_LINK_NOBODY = 255 /* no connection; never an index */
 };
 
 /*
  * What a frame is to this device. event: 0 to 3 data in that mode, 4 a connect, 5 a disconnect, as enum kelindap_event has them,
  * or the number of why there is none. connection: of connected data, a connect and a disconnect; of 44 and 45 that of the partner
- * who sent it; else KELINDAP_LINK_NOBODY. group: the destination of data, else 0.
+ * who sent it; else KELINDAP_LINK_NOBODY, 255, which is never an index. group: the destination of data, else 0.
+ * Of every frame that reads, whatever it is to this device: source, the address that sent it; sequence, the low four bits of
+ * transport's six, which are the sequence number of connected data and of an acknowledgement, and 0 of a connect, a disconnect
+ * and data without connection; negative, of an acknowledgement, that it is T_NAK. Of 40 to 43 all three are 0.
  */
 typedef struct kelindap_arrival {
     uint8_t event;
     uint8_t connection;
     uint16_t group;
+    uint16_t source;
+    uint8_t sequence;
+    bool negative;
 } kelindap_arrival;
 
 /*
  * What serving a frame gave. number: 0 if it is an event, and then outcome is the event's, 1 of a connect and a disconnect; else
- * why there is none, and outcome is 0. connection as in kelindap_arrival. count: bytes of the frame that answers, at the front of
- * the buffer, 0 if there is none; the rest stays. changed: the parts of the sheet that were stored, as in kelindap_reply; every
- * byte outside them is as it was. Only data stores: what is no event, a connect, a disconnect and an outcome from 2 on have 0 and 0.
+ * why there is none, and outcome is 0. connection as in kelindap_arrival: 255 is never an index. count: bytes of the frame that
+ * answers, at the front of the buffer, 0 if there is none; the rest stays. changed: the parts of the sheet that were stored, as
+ * in kelindap_reply; every byte outside them is as it was. Only data stores: what is no event, a connect, a disconnect and an
+ * outcome from 2 on have 0 and 0.
  */
 typedef struct kelindap_served {
     uint8_t number;
@@ -107,10 +118,9 @@ kelindap_arrival kelindap_heard(kelindap_link link, const uint8_t *sheet, size_t
  * count 6, of the request's priority; from the device's address as it was when the frame came; to the group if a group was asked,
  * else to who asked; of connected data it has the sequence number given, of which the low four bits count.
  */
-kelindap_served kelindap_serve(kelindap_link *link, uint8_t sequence,
+kelindap_served kelindap_serve(kelindap_link *link, uint8_t *sheet, size_t sheet_length,
                                const uint8_t *frame, size_t frame_length,
-                               uint8_t *sheet, size_t sheet_length,
-                               uint8_t *out, size_t out_length);
+                               uint8_t *out, size_t out_length, uint8_t sequence);
 
 #ifdef __cplusplus
 }

@@ -4,7 +4,8 @@
  * for every sheet, sessions and request: that is proved. It does not tell which parts of the sheet were stored. It takes ten to
  * forty times as long, and up to half a megabyte of stack (docs/SPEED.md): it is for a desk, not for a controller.
  *
- * Link with libkelindap_plain.a; the other calls of kelindap.h, and the host's duties, are those of kelindap.h.
+ * Link with libkelindap_plain.a, by pkg-config the package kelindap-plain; the other calls of kelindap.h, and the host's duties,
+ * are those of kelindap.h.
  */
 #ifndef KELINDAP_PLAIN_H
 #define KELINDAP_PLAIN_H
@@ -22,9 +23,9 @@ typedef struct kelindap_plain_reply {
 } kelindap_plain_reply;
 
 /* A request, as kelindap_request has it. */
-kelindap_plain_reply kelindap_plain_request(kelindap_sessions *sessions, uint8_t mode, uint8_t connection, uint16_t group,
+kelindap_plain_reply kelindap_plain_request(kelindap_sessions *sessions, uint8_t *sheet, size_t sheet_length,
+                                            uint8_t mode, uint8_t connection, uint16_t group,
                                             const uint8_t *apdu, size_t apdu_length,
-                                            uint8_t *sheet, size_t sheet_length,
                                             uint8_t *answer, size_t answer_length);
 
 #ifdef __cplusplus

@@ -6,9 +6,9 @@
  *
  * The host's duties, which no proof covers, beside those of kelindap.h:
  *  - nothing but these calls writes the store, and calls on one store come one after the other;
- *  - saving. The store has to survive a power cut as the sheet has. A save of a version changes the store only if it gives 0,
- *    a remove only if it gives 1; a restore changes the sheet, and only if it gives 1. The host then keeps a new copy of what
- *    was changed before it tells anybody so;
+ *  - saving. The store has to survive a power cut as the sheet has. A save and a remove change the store, a restore the sheet,
+ *    and only if they are carried out (kelindap_carried_out). The host then keeps a new copy of what was changed before it
+ *    tells anybody so;
  *  - a power cut during a call leaves a store in memory of which no promise speaks: the host starts from the copy that it kept
  *    last, and never from memory that lay open to a call. Keeping a copy must leave the old one or the new one, whole: two
  *    places with a mark of the newer, or a new file renamed over the old one. Sheet and store need not be of one moment: every
@@ -58,6 +58,12 @@ typedef struct kelindap_saved {
     uint16_t number;
 } kelindap_saved;
 
+/* A version that is kept: its number, and how long it is. */
+typedef struct kelindap_listed {
+    uint16_t number;
+    uint16_t length;
+} kelindap_listed;
+
 /* 0 for a good store, else 30. */
 uint8_t kelindap_store_check(const uint8_t *store, size_t store_length);
 
@@ -82,6 +88,13 @@ uint8_t kelindap_restore(kelindap_sessions sessions, uint8_t connection,
  * as they were, and its number is never given again. No sheet is looked at.
  */
 uint8_t kelindap_remove(uint8_t *store, size_t store_length, size_t number);
+
+/*
+ * The k-th version that a store keeps, the first being 0, with rising numbers: its number and the bytes that it takes beside its
+ * entry of 8. 0 and 0 if the store keeps no more, or is not a good one: so a host lists the versions of a store by counting k
+ * from 0 until a number is 0, which no version has.
+ */
+kelindap_listed kelindap_kept(const uint8_t *store, size_t store_length, size_t k);
 
 #ifdef __cplusplus
 }

@@ -15,7 +15,7 @@ TOOL_H := include/kelindap_pdu.h include/kelindap_frame.h
 WATCHED := ASAN_OPTIONS=detect_leaks=0
 # what every program here rests on
 LINKED := $(wildcard include/*.h) $(wildcard hosts/*.inc) mk/bin/cc mk/hosts.mk $(LIBRARIES)
-.PHONY: unit run test-unit test-text test-c need-gcc
+.PHONY: unit run test-unit test-text test-c test-wear need-gcc
 
 #: make unit       the desk unit, build/unit, and the libraries
 unit: $(BUILD)/unit
@@ -31,12 +31,12 @@ test-unit: $(BUILD)/unit $(BUILD)/unit_watched build/sheet
 
 # what README and the headers say, and what stands in two places: the same on every processor
 test-text: $(HOST_A) $(TOOL_A)
-	CC_FOR="$(CC_FOR)" tests/c/readme.sh $(HOST_A) $(TOOL_A)
+	CC_FOR="$(CC_FOR)" SANITIZE="$(SANITIZE)" tests/c/readme.sh $(HOST_A) $(TOOL_A)
 	tests/c/exchanged.sh
 	tests/same.sh
 
 # the tests in C, each over lent buffers
-IN_C := $(addprefix $(BUILD)/,tool_test point_test host_test store_test trace_test link_test)
+IN_C := $(addprefix $(BUILD)/,tool_test point_test host_test store_test trace_test link_test unit_test)
 test-c: $(BUILD)/layout $(BUILD)/stack $(IN_C)
 	$(WATCHED) $(BUILD)/layout
 	$(BUILD)/stack
@@ -45,6 +45,12 @@ test-c: $(BUILD)/layout $(BUILD)/stack $(IN_C)
 	tests/c/symbols.sh include/kelindap_plain.h $(PLAIN_A)
 	CC_FOR="$(CC_FOR)" tests/c/freestanding.sh $(HOST_A) $(TOOL_A)
 	for t in $(IN_C); do $(WATCHED) $$t; done
+
+# what may be saved late, byte by byte, on sheets of the plain model; WAITS and SEED may be given
+WAITS ?= 40
+test-wear: $(BUILD)/wear_test
+	cargo build --release --quiet -p model
+	$(CARGO_BIN)/waits $(WAITS) $(SEED) | $(WATCHED) $(BUILD)/wear_test
 
 # gcc judges every program, also where another compiler makes it
 $(BUILD)/unit: hosts/unit.c $(wildcard hosts/unit_*.h) build/unit_help.inc $(LINKED) | need-gcc
@@ -56,7 +62,7 @@ $(BUILD)/unit_watched: hosts/unit.c $(wildcard hosts/unit_*.h) build/unit_help.i
 	mkdir -p $(BUILD)
 	$(CC_FOR) -o $@ $(STRICT) -Ibuild -g $(SANITIZE) $< $(LIBRARIES)
 
-$(BUILD)/layout $(IN_C): $(BUILD)/%: tests/c/%.c tests/c/lent.h build/marked.inc $(LINKED) | need-gcc
+$(BUILD)/layout $(BUILD)/wear_test $(IN_C): $(BUILD)/%: tests/c/%.c tests/c/lent.h build/marked.inc $(LINKED) | need-gcc
 	mkdir -p $(BUILD)
 	gcc $(STRICT) -Ibuild -c $< -o /dev/null
 	$(CC_FOR) -o $@ $(STRICT) -Ibuild -g $(SANITIZE) $< $(HOST_A) $(TOOL_A)

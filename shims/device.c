@@ -9,7 +9,9 @@ _Static_assert(sizeof(kelindap_session) == 2 && offsetof(kelindap_session, level
                "as the module has it");
 _Static_assert(sizeof(kelindap_saved) == 4 && offsetof(kelindap_saved, number) == 2, "as the module has it");
 _Static_assert(sizeof(kelindap_link) == 8 && offsetof(kelindap_link, address) == 4, "as the module has it");
-_Static_assert(sizeof(kelindap_arrival) == 4 && offsetof(kelindap_arrival, group) == 2, "as the module has it");
+_Static_assert(sizeof(kelindap_listed) == 4 && offsetof(kelindap_listed, length) == 2, "as the module has it");
+_Static_assert(sizeof(kelindap_arrival) == 8 && offsetof(kelindap_arrival, source) == 4 && offsetof(kelindap_arrival, negative) == 7,
+               "as the module has it");
 _Static_assert(sizeof(kelindap_played) == 4 && offsetof(kelindap_played, handled) == 2, "as the module has it");
 
 /* the sessions by value: their four bytes as one number, the first the lowest */
@@ -24,14 +26,22 @@ _Static_assert(sizeof(kelindap_played) == 4 && offsetof(kelindap_played, handled
 #define GIVEN_LINK(name) \
     (uint64_t)(GIVEN_SESSIONS(name.sessions)) | (uint64_t)name.address[0] << 32 | (uint64_t)name.address[1] << 48
 
-typedef word raw_kelindap_sessions, raw_kelindap_saved, raw_kelindap_played, raw_kelindap_arrival;
+typedef word raw_kelindap_sessions, raw_kelindap_saved, raw_kelindap_played, raw_kelindap_listed;
 static kelindap_sessions made_kelindap_sessions(word r)
 {
     return (kelindap_sessions){ { { low(r), high(r) }, { low(r >> 16), high(r >> 16) } } };
 }
 static kelindap_saved made_kelindap_saved(word r) { return (kelindap_saved){ low(r), (uint16_t)(r >> 16) }; }
-static kelindap_arrival made_kelindap_arrival(word r) { return (kelindap_arrival){ low(r), high(r), (uint16_t)(r >> 16) }; }
+static kelindap_listed made_kelindap_listed(word r) { return (kelindap_listed){ (uint16_t)r, (uint16_t)(r >> 16) }; }
 static kelindap_played made_kelindap_played(word r) { return (kelindap_played){ low(r), (uint16_t)(r >> 16) }; }
+
+/* eight bytes, as one number of 64 bits */
+typedef uint64_t raw_kelindap_arrival;
+static kelindap_arrival made_kelindap_arrival(uint64_t r)
+{
+    return (kelindap_arrival){ (uint8_t)r, (uint8_t)(r >> 8), (uint16_t)(r >> 16), (uint16_t)(r >> 32), (uint8_t)(r >> 48),
+                               (uint8_t)(r >> 56) };
+}
 
 /* Two numbers of 64 bits. Each is at most 16,384, the longest sheet, so its lower half is all of it. */
 typedef quad raw_kelindap_part;
@@ -66,8 +76,8 @@ CALL(kelindap_sessions, fresh, NONE)
 CALL(byte, connect, AT(kelindap_sessions, sessions), NUMBER(uint8_t, connection))
 CALL(byte, disconnect, AT(kelindap_sessions, sessions), NUMBER(uint8_t, connection))
 CALL(byte, button, WRITE(sheet), NUMBER(bool, on))
-CALL_LONG(kelindap_reply, request, AT(kelindap_sessions, sessions), NUMBER(uint8_t, mode), NUMBER(uint8_t, connection),
-          NUMBER(uint16_t, group), READ(apdu), WRITE(sheet), WRITE(answer))
+CALL_LONG(kelindap_reply, request, AT(kelindap_sessions, sessions), WRITE(sheet), NUMBER(uint8_t, mode),
+          NUMBER(uint8_t, connection), NUMBER(uint16_t, group), READ(apdu), WRITE(answer))
 CALL(byte, check, READ(sheet))
 CALL(byte, convert, WRITE(sheet))
 CALL(kelindap_part, property, READ(sheet), NUMBER(uint8_t, object), NUMBER(uint8_t, id))
@@ -78,9 +88,10 @@ CALL(byte, store_check, READ(store))
 CALL(kelindap_saved, save, READ(sheet), WRITE(store))
 CALL(byte, restore, SESSIONS(sessions), NUMBER(uint8_t, connection), WRITE(sheet), READ(store), SIZE(number))
 CALL(byte, remove, WRITE(store), SIZE(number))
+CALL(kelindap_listed, kept, READ(store), SIZE(k))
 CALL(byte, trace_check, READ(trace))
 CALL(kelindap_played, play, AT(kelindap_sessions, sessions), WRITE(sheet), READ(trace), SIZE(from), SIZE(limit), WRITE(log))
 CALL(kelindap_played, play_marked, AT(kelindap_sessions, sessions), WRITE(sheet), READ(trace), SIZE(from), SIZE(limit), WRITE(log),
      WRITE(before), NUMBERS(marks), NUMBER(uint32_t, played))
 CALL(kelindap_arrival, heard, LINK(link), READ(sheet), READ(frame))
-CALL_LONG(kelindap_served, serve, AT(kelindap_link, link), NUMBER(uint8_t, sequence), READ(frame), WRITE(sheet), WRITE(out))
+CALL_LONG(kelindap_served, serve, AT(kelindap_link, link), WRITE(sheet), READ(frame), WRITE(out), NUMBER(uint8_t, sequence))

@@ -5,6 +5,7 @@
  * how values are passed, and nothing is decided here:
  *  - a number is widened to a register on the way in; a length has 64 bits in the module on every processor;
  *  - a number, or a structure of up to four bytes, comes back in a register whose other bits say nothing, and is cut out of it;
+ *    one of eight bytes comes back as a number of 64 bits does;
  *  - a structure of up to 16 bytes comes back in registers, where C does it otherwise by the type that says so;
  *  - a longer one is filled at an address, which comes first, or read at one (pdu.c).
  * Arguments can't be exchanged in a line: it says each once, for the header's function and for the module's.

@@ -29,8 +29,14 @@ while read -r processor debian triple _; do
     done
     for header in include/*.h; do cmp "$header" "$work/of/usr/$header" || fail "$package has another $header"; done
     grep -qx "processor=$processor" "$work/of/usr/lib/$triple/pkgconfig/kelindap.pc" || fail "$package does not name $processor"
-    [ "$(find "$work/of" -type f | wc -l)" = $(($(find include -name '*.h' | wc -l) + 4)) ] || fail "$package has other files"
+    grep -qx "Requires: kelindap = $version" "$work/of/usr/lib/$triple/pkgconfig/kelindap-plain.pc" || fail "$package has no kelindap-plain"
+    [ "$(find "$work/of" -type f | wc -l)" = $(($(find include -name '*.h' | wc -l) + 5)) ] || fail "$package has other files"
 done < <(grep '^[a-z]' mk/processors)
+
+# what the headers name, in a package of its own for all processors
+package=build/deb/kelindap-doc_${version}_all.deb
+[ "$(dpkg-deb -f "$package" Package Version Architecture | paste -sd ' ')" = "Package: kelindap-doc Version: $version Architecture: all" ] || fail "$package has other fields"
+[ "$(dpkg-deb -f "build/deb/libkelindap-dev_${version}_$(awk -v own="$own" '$1 == own { print $2 }' mk/processors).deb" Recommends)" = "kelindap-doc (= $version)" ] || fail "libkelindap-dev does not ask for kelindap-doc"
 
 # this machine's own, in an empty root
 read -r _ debian triple _ < <(grep "^$own " mk/processors)
@@ -41,7 +47,7 @@ as_root=()
 # also where the machine's own dpkg leaves man pages out
 in_root() {
     "${as_root[@]}" dpkg --root="$root" --log=/dev/null --force-not-root --force-bad-path --force-script-chrootless \
-        --path-include='/usr/share/man/*' "$@" > "$work/said" 2>&1 || { cat "$work/said"; fail "dpkg $*"; }
+        --path-include='/usr/share/man/*' --path-include='/usr/share/doc/*' "$@" > "$work/said" 2>&1 || { cat "$work/said"; fail "dpkg $*"; }
 }
 mkdir -p "$root/var/lib/dpkg"/{info,updates,triggers}
 : > "$root/var/lib/dpkg/status"
@@ -59,7 +65,8 @@ if command -v python3 > /dev/null; then
 else
     left_out+=("python3-kelindap (no python3)")
 fi
-archives=("${packages[@]/%/_${version}_$debian.deb}")
+archives=("${packages[@]/%/_${version}_$debian.deb}" "kelindap-doc_${version}_all.deb")
+packages=(kelindap-doc "${packages[@]}")
 in_root --force-depends -i "${archives[@]/#/build/deb/}"
 files=$(find "$root/usr" -type f | wc -l)
 
@@ -73,6 +80,11 @@ fi
 read -ra words <<< "$flags"
 gcc -o "$work/host" -std=c11 tests/c/installed.c "${words[@]}"
 [ "$("$work/host")" = "$version 1 1 no PDU that can be written, not 32 to 16,384 bytes" ] || fail "the host said $("$work/host")"
+
+doc=$root/usr/share/doc/kelindap
+for name in README.md docs/SHEET.md examples/host.c sheets/sample.sheet sheets/sample.txt sheets/sample.inc kelindap.html; do [ -s "$doc/$name" ] || fail "kelindap-doc has no $name"; done
+[ "$("$root/usr/bin/kelindap-sheet" check "$doc/sheets/pump.sheet")" = OK ] || fail "kelindap-sheet does not accept the pump's sheet"
+[ ! -e "$doc/installed" ] || fail "kelindap-doc has the list of make install"
 
 "$root/usr/bin/kelindap-unit" < tests/unit/story.in | cmp - tests/unit/story.out || fail "kelindap-unit plays another story"
 grep -o '0x..' hosts/sample_sheet.inc | sed 's/0x/\\x/' | paste -sd '' > "$work/list"

@@ -1,7 +1,8 @@
 #!/usr/bin/env bash
 # tests/install.sh: `make install` to a folder of its own, and a host that finds headers and libraries there alone, through
-# pkg-config where that is installed, which names the processor; the Python package, found there alone; that of another processor,
-# with no program; and that what can't be built is refused.
+# pkg-config where that is installed, which names the processor, and by the words of README; all that the headers name, examples that
+# compile, sample sheets in three forms; the Python package, found there alone; that of another processor, with no program; that what can't be built is refused; and that
+# `make uninstall` leaves what it did not bring.
 set -euo pipefail
 cd "$(dirname "$0")/.."
 work=$(mktemp -d)
@@ -24,6 +25,36 @@ fi
 read -ra words <<< "$flags"
 gcc -o "$work/host" -std=c11 tests/c/installed.c "${words[@]}"
 [ "$("$work/host")" = "$version 1 1 no PDU that can be written, not 32 to 16,384 bytes" ] || fail "$("$work/host")"
+# by README's own words, and by the plain engine's package
+if command -v pkg-config > /dev/null; then
+    mkdir "$work/readme"
+    cp tests/c/installed.c "$work/readme/host.c"
+    grep '^    gcc .*pkg-config --cflags --libs kelindap)$' README.md > "$work/readme/line" || fail "README shows no line to compile a host"
+    (cd "$work/readme" && bash -euo pipefail ./line)
+    [ "$("$work/readme/host")" = "$("$work/host")" ] || fail "README's line makes another host"
+    read -ra words <<< "$(pkg-config --cflags --libs kelindap-plain)"
+    gcc -o "$work/plain" -DPLAIN -std=c11 tests/c/installed.c "${words[@]}"
+    [ "$("$work/plain" | tail -n 1)" = "the sheet breaks a rule" ] || fail "the plain engine said $("$work/plain" | tail -n 1)"
+fi
+
+# what the headers name is there: documents, examples, other headers; and nothing is named that is of this folder alone
+doc=$work/at/share/doc/kelindap
+named=$(cat include/*.h | grep -oE '\b(docs|examples|sheets)/[A-Za-z_]+\.[a-z]+|\b[A-Z]+\.md\b' | sort -u)
+[ "$(wc -w <<< "$named")" -ge 7 ] || fail "the headers name only $named"
+for name in $named; do [ -s "$doc/$name" ] || fail "a header names $name, which is not installed"; done
+for name in $(cat include/*.h | grep -oE '\bkelindap[a-z_]*\.h\b' | sort -u); do [ -s "$work/at/include/$name" ] || fail "a header names $name, which is not installed"; done
+! grep -nE '\b(tests|crates|hosts|tools|mk|scripts|shims|build|include)/' include/*.h || fail "a header names what is never installed"
+for name in host height; do gcc -o "$work/$name" -std=c11 -I"$work/at/include" "$doc/examples/$name.c" -L"$work/at/lib" -lkelindap_device -lkelindap_pdu || fail "examples/$name.c does not compile"; done
+cmp build/kelindap.html "$doc/kelindap.html" || fail "another page"
+for sheet in sample pump; do
+    from=$doc/sheets/$sheet
+    "$work/at/bin/kelindap-sheet" make "$from.txt" | cmp - "$from.sheet" || fail "the text of $sheet is of another sheet"
+    { echo '#include <stdio.h>'; echo 'static const unsigned char sheet[] = {'; cat "$from.inc"; echo '};'; echo 'int main(void) { return fwrite(sheet, 1, sizeof sheet, stdout) != sizeof sheet; }'; } > "$work/array.c"
+    gcc -std=c11 -Wall -Wextra -Wpedantic -Werror -o "$work/array" "$work/array.c"
+    "$work/array" | cmp - "$from.sheet" || fail "the array of $sheet is of another sheet"
+    [ "$(grep -o '0x..' "hosts/${sheet}_sheet.inc")" = "$(grep -o '0x..' "$from.inc")" ] || fail "$sheet is not that of hosts"
+done
+
 "$work/at/bin/kelindap-sheet" make /dev/null > "$work/said" 2>&1 || true
 grep -q 'end is missing' "$work/said" || fail "no sheet program"
 [ "$("$work/at/bin/kelindap-sheet" --version)" = "sheet of kelindap $version" ] || fail "a sheet program of another version"
@@ -52,7 +83,7 @@ grep -q 'without the Python package' "$work/said" || fail "nothing is said of a 
 # another processor than this machine's
 other=$([ "$own" = aarch64 ] && echo armhf || echo aarch64)
 install PREFIX="$work/other" PROCESSOR="$other" || { cat "$work/said"; fail "make install for $other failed"; }
-grep -q "for $other the libraries alone" "$work/said" || fail "nothing is said of programs for $other"
+grep -q "for $other the libraries and documents alone" "$work/said" || fail "nothing is said of programs for $other"
 [ ! -e "$work/other/bin" ] && [ -z "$(find "$work/other" -name 'kelindap*' -path '*python*')" ] || fail "programs of this machine stand beside libraries for $other"
 grep -qx "processor=$other" "$work/other/lib/pkgconfig/kelindap.pc" || fail "pkg-config's file does not name $other"
 ! cmp -s "$work/at/lib/libkelindap_device.a" "$work/other/lib/libkelindap_device.a" || fail "$other has the library of $own"
@@ -61,4 +92,15 @@ grep -qx "processor=$other" "$work/other/lib/pkgconfig/kelindap.pc" || fail "pkg
 ! install PREFIX="$work/none" PROCESSOR=m68k || fail "something was installed for m68k"
 grep -q "there are no libraries for m68k; PROCESSOR may be: x86_64 aarch64 armhf riscv64" "$work/said" || { cat "$work/said"; fail "m68k is not refused clearly"; }
 [ ! -e "$work/none" ] || fail "something was left for m68k"
-echo "install: $(find "$work/at" -type f | wc -l) files for $own, a host is built by $by; for $other $(find "$work/other" -type f | wc -l) files; m68k is refused"
+
+# and away again: two files that are somebody else's stay, one of them among ours
+files=$(find "$work/at" -type f | wc -l) others=$(find "$work/other" -type f | wc -l)
+echo mine > "$work/at/include/mine.h"
+echo mine > "$doc/mine"
+make --no-print-directory -s uninstall PREFIX="$work/at" > "$work/said" 2>&1 || { cat "$work/said"; fail "make uninstall failed"; }
+[ "$(cd "$work/at" && find . -type f | sort | paste -sd ' ')" = "./include/mine.h ./share/doc/kelindap/mine" ] || fail "uninstall leaves $(cd "$work/at" && find . -type f | paste -sd ' ')"
+make --no-print-directory -s uninstall PREFIX="$work/other" > "$work/said" 2>&1 || { cat "$work/said"; fail "make uninstall failed"; }
+[ -z "$(find "$work/other" -type f)" ] && [ ! -e "$work/other/share/doc/kelindap" ] || fail "uninstall leaves something of $other"
+! make --no-print-directory -s uninstall PREFIX="$work/other" > "$work/said" 2>&1 || fail "nothing was installed, and it is taken away"
+grep -q "uninstall: nothing was installed to" "$work/said" || fail "and nothing is said of it"
+echo "install: $files files for $own, a host is built by $by; for $other $others files; m68k is refused; all is taken away again"

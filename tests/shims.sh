@@ -13,7 +13,7 @@ fail() { echo "shims: $processor: $1"; exit 1; }
 
 # what is played, as NAME.in and NAME.out; the events by the plain engine too
 mkdir "$work/play"
-cp tests/unit/{events,fields,links,lookups,old,points,ranges,read,tools,traces,user_memory,versions}.{in,out} "$work/play"
+cp tests/unit/{events,fields,links,listed,lookups,old,points,ranges,read,tools,traces,user_memory,versions}.{in,out} "$work/play"
 for script in events user_memory; do
     for end in in out; do { echo "engine plain" && cat "tests/unit/$script.$end"; } > "$work/play/plain_$script.$end"; done
 done
@@ -85,7 +85,8 @@ changed() { # LIBRARY NAME FROM TO
             for (at = length($0); substr($0, at, length(from)) != from; at--);
             print name, NR, substr($0, 1, at - 1) to substr($0, at + length(from))
             done = 1
-        }' "$work/$1.c" >> "$work/$1.faults"
+        }
+        END { exit !done }' "$work/$1.c" >> "$work/$1.faults" || fail "$2: its text is in no line of the shim"
 }
 for name in host tool plain_host; do faults_of "$name" > "$work/$name.faults"; done
 changed host "fresh: a byte beside the level" 'high(r >> 16)' 'high(r >> 8)'
@@ -96,8 +97,13 @@ changed host "saved: the number a byte short" '(uint16_t)(r >> 16)' 'low(r >> 16
 changed host "saved: the number for the outcome" '(kelindap_saved){ low(r),' '(kelindap_saved){ low(r >> 16),'
 changed host "played: how many for the refusal" '(kelindap_played){ low(r),' '(kelindap_played){ low(r >> 16),'
 changed host "played: how many, a byte short" '(kelindap_played){ low(r), (uint16_t)(r >> 16)' '(kelindap_played){ low(r), low(r >> 16)'
-changed host "arrival: event and connection exchanged" '(kelindap_arrival){ low(r), high(r),' '(kelindap_arrival){ high(r), low(r),'
-changed host "arrival: the group a byte short" '(kelindap_arrival){ low(r), high(r), (uint16_t)(r >> 16)' '(kelindap_arrival){ low(r), high(r), low(r >> 16)'
+changed host "listed: number and length exchanged" '(kelindap_listed){ (uint16_t)r, (uint16_t)(r >> 16) }' '(kelindap_listed){ (uint16_t)(r >> 16), (uint16_t)r }'
+changed host "listed: the number a byte short" '(kelindap_listed){ (uint16_t)r,' '(kelindap_listed){ low(r),'
+changed host "arrival: event and connection exchanged" '(kelindap_arrival){ (uint8_t)r, (uint8_t)(r >> 8),' '(kelindap_arrival){ (uint8_t)(r >> 8), (uint8_t)r,'
+changed host "arrival: the group a byte short" '(uint8_t)(r >> 8), (uint16_t)(r >> 16)' '(uint8_t)(r >> 8), (uint8_t)(r >> 16)'
+changed host "arrival: the group for the source" '(uint16_t)(r >> 32)' '(uint16_t)(r >> 16)'
+changed host "arrival: a byte beside the sequence number" '(uint8_t)(r >> 48)' '(uint8_t)(r >> 40)'
+changed host "arrival: the sequence number for the last byte" '(uint8_t)(r >> 56)' '(uint8_t)(r >> 48)'
 changed host "served: number and outcome exchanged" '(kelindap_served){ from.number, from.outcome,' '(kelindap_served){ from.outcome, from.number,'
 changed host "served: connection and count exchanged" 'from.outcome, from.connection, from.count,' 'from.outcome, from.count, from.connection,'
 changed host "served: a part's length for its offset" 'from.connection, from.count, { { (size_t)from.part[0],' 'from.connection, from.count, { { (size_t)from.part[1],'

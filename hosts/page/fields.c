@@ -24,6 +24,7 @@ const page_field *page_fields(void)
         WHOLE(reply), FIELD(reply, outcome), FIELD(reply, count),
         WHOLE(part), FIELD(part, offset), FIELD(part, length),
         WHOLE(saved), FIELD(saved, outcome), FIELD(saved, number),
+        WHOLE(listed), FIELD(listed, number), FIELD(listed, length),
         WHOLE(played), FIELD(played, refusal), FIELD(played, handled),
         WHOLE(pdu), FIELD(pdu, serial), FIELD(pdu, key), FIELD(pdu, address), FIELD(pdu, domain), FIELD(pdu, s),
         FIELD(pdu, maximum), FIELD(pdu, outcome), FIELD(pdu, kind), FIELD(pdu, v), FIELD(pdu, t), FIELD(pdu, object),
@@ -37,7 +38,8 @@ const page_field *page_fields(void)
         FIELD(frame, info_offset), FIELD(frame, info_length), FIELD(frame, tpdu_offset), FIELD(frame, tpdu_length),
         WHOLE(framed), FIELD(framed, count), FIELD(framed, outcome),
         WHOLE(link), FIELD(link, address),
-        WHOLE(arrival), FIELD(arrival, event), FIELD(arrival, connection), FIELD(arrival, group),
+        WHOLE(arrival), FIELD(arrival, event), FIELD(arrival, connection), FIELD(arrival, group), FIELD(arrival, source),
+        FIELD(arrival, sequence), FIELD(arrival, negative),
         WHOLE(served), FIELD(served, number), FIELD(served, outcome), FIELD(served, connection), FIELD(served, count),
         { NULL, 0, 0 },
     };

@@ -9,6 +9,7 @@
 const CONNECTIONS = 2;
 const LOG_LINE = 18;
 const MOST_EVENTS = 512;
+const MOST_VERSIONS = 8;
 const ANSWER = 16;
 const ANSWER_FRAME = 25;
 const LONGEST_FRAME = 280;
@@ -152,8 +153,8 @@ class Proved {
     request(sessions, mode, connection, group, apdu, sheet, buffer = new Uint8Array(ANSWER)) {
         const [outcome, count] = this.lending(() => {
             const reply = this.structure("reply");
-            this.calls.kelindap_request(reply, this.write(sessions)[0], mode, connection, group,
-                ...this.read(apdu), ...this.write(sheet), ...this.write(buffer));
+            this.calls.kelindap_request(reply, this.write(sessions)[0], ...this.write(sheet), mode, connection, group,
+                ...this.read(apdu), ...this.write(buffer));
             return [this.small(reply, "reply.outcome"), this.small(reply, "reply.count")];
         });
         return { outcome, answer: buffer.slice(0, count) };
@@ -194,6 +195,21 @@ class Proved {
     /** @param {Uint8Array} store @param {number} version */
     remove(store, version) {
         return this.lending(() => this.calls.kelindap_remove(...this.write(store), version));
+    }
+
+    // The versions that a store keeps, by number and length.
+    /** @param {Uint8Array} store */
+    kept(store) {
+        const all = [];
+        for (let k = 0; k < MOST_VERSIONS; k++) {
+            const version = this.lending(() => {
+                const kept = this.structure("listed");
+                this.calls.kelindap_kept(kept, ...this.read(store), k);
+                return { number: this.small(kept, "listed.number"), length: this.small(kept, "listed.length") };
+            });
+            if (version.number !== 0) all.push(version);
+        }
+        return all;
     }
 
     // ---- kelindap_trace.h ----
@@ -299,7 +315,11 @@ class Proved {
         return this.lending(() => {
             const arrival = this.structure("arrival");
             this.calls.kelindap_heard(arrival, this.read(link)[0], ...this.read(sheet), ...this.read(frame));
-            return { event: this.small(arrival, "arrival.event"), connection: this.small(arrival, "arrival.connection"), group: this.small(arrival, "arrival.group") };
+            const told = (/** @type {string} */ name) => this.small(arrival, "arrival." + name);
+            return {
+                event: told("event"), connection: told("connection"), group: told("group"), source: told("source"),
+                sequence: told("sequence"), negative: told("negative") === 1,
+            };
         });
     }
 
@@ -308,7 +328,7 @@ class Proved {
     serve(link, sequence, frame, sheet) {
         const out = new Uint8Array(ANSWER_FRAME), [number, outcome, count] = this.lending(() => {
             const served = this.structure("served");
-            this.calls.kelindap_serve(served, this.write(link)[0], sequence, ...this.read(frame), ...this.write(sheet), ...this.write(out));
+            this.calls.kelindap_serve(served, this.write(link)[0], ...this.write(sheet), ...this.read(frame), ...this.write(out), sequence);
             return [this.small(served, "served.number"), this.small(served, "served.outcome"), this.small(served, "served.count")];
         });
         return { number, outcome, frame: out.slice(0, count) };

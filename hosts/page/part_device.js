@@ -138,7 +138,7 @@ class DevicePart {
 
     showVersions() {
         const { device, proved } = this.app, good = proved.storeCheck(device.store) === 0, accepted = proved.check(device.sheet) === 0;
-        const kept = good ? versionsOf(device.store) : [];
+        const kept = versionsOf(proved, device.store);
         this.keeps.textContent = good ? `${counted(kept.length, "version")} kept, in ${counted(device.store.length, "byte")}. A restore needs level 0.` : `${outcomeText(30)}.`;
         this.kept.replaceChildren(...kept.map(version => {
             const since = accepted ? sinceVersion(device.sheet, version) : null;

@@ -1,14 +1,14 @@
-// What a store of versions keeps (docs/STORE.md), for showing it. Whether it is good is the module's to say.
+// What a store of versions keeps (docs/STORE.md), for showing it. Whether it is good, and which versions it keeps, is the module's
+// to say; their bodies stand end to end behind the table.
 
 /** @typedef {{ number: number, settings: Uint8Array }} Version */
 
-// The versions in a good store.
-/** @param {Uint8Array} store @returns {Version[]} */
-function versionsOf(store) {
-    return Array.from({ length: number(store, 0, 2) }, (_, k) => {
-        const at = 8 + 8 * k, body = number(store, at + 4, 2);
-        return { number: number(store, at, 2), settings: store.slice(body, body + number(store, at + 6, 2)) };
-    });
+// The versions in a store.
+/** @param {Proved} proved @param {Uint8Array} store @returns {Version[]} */
+function versionsOf(proved, store) {
+    const kept = proved.kept(store);
+    let at = 8 + 8 * kept.length;
+    return kept.map(({ number, length }) => ({ number, settings: store.slice(at, at += length) }));
 }
 
 /**

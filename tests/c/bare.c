@@ -56,7 +56,7 @@ static int device_works(void)
     kelindap_sessions sessions = kelindap_fresh();
     kelindap_connect(&sessions, 1);
     sessions.of[1].level = 1;
-    kelindap_reply reply = kelindap_request(&sessions, KELINDAP_CONNECTED, 1, 0, apdu, sizeof apdu, sheet, sizeof sheet,
+    kelindap_reply reply = kelindap_request(&sessions, sheet, sizeof sheet, KELINDAP_CONNECTED, 1, 0, apdu, sizeof apdu,
                                             answer, sizeof answer);
     return reply.outcome == KELINDAP_ANSWERED && reply.count == 8 && memcmp(answer, expected, 8) == 0 &&
            sheet[64] == 0x03 && sheet[65] == 0x84;

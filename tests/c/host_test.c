@@ -34,8 +34,8 @@ static void request_at(enum place place, const event *e, effect *f)
     lent apdu = lend(APDU, place, e->apdu.bytes, e->apdu.length);
     lent sheet = lend(SHEET, place, e->sheet.bytes, e->sheet.length);
     lent answer = lend(ANSWER, place, as_found, e->room);
-    f->reply = kelindap_request((kelindap_sessions *)sessions.bytes, e->mode, e->connection, e->group, apdu.bytes, apdu.length,
-                                sheet.bytes, sheet.length, answer.bytes, answer.length);
+    f->reply = kelindap_request((kelindap_sessions *)sessions.bytes, sheet.bytes, sheet.length, e->mode, e->connection, e->group,
+                                apdu.bytes, apdu.length, answer.bytes, answer.length);
     calls++;
     take_back(&sessions, &f->sessions, "sessions");
     take_back_same(&apdu, e->apdu.bytes, "APDU");

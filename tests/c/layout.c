@@ -69,10 +69,16 @@
     FIELD(kelindap_link, sessions, 4, 0) \
     FIELD(kelindap_link, address, 4, 4) \
     FIELD(kelindap_link, address[1], 2, 6) \
-    SIZE(kelindap_arrival, 4) \
+    SIZE(kelindap_listed, 4) \
+    FIELD(kelindap_listed, number, 2, 0) \
+    FIELD(kelindap_listed, length, 2, 2) \
+    SIZE(kelindap_arrival, 8) \
     FIELD(kelindap_arrival, event, 1, 0) \
     FIELD(kelindap_arrival, connection, 1, 1) \
     FIELD(kelindap_arrival, group, 2, 2) \
+    FIELD(kelindap_arrival, source, 2, 4) \
+    FIELD(kelindap_arrival, sequence, 1, 6) \
+    FIELD(kelindap_arrival, negative, 1, 7) \
     SIZE(kelindap_served, 5 * W) \
     FIELD(kelindap_served, number, 1, 0) \
     FIELD(kelindap_served, outcome, 1, 1) \
@@ -206,6 +212,9 @@
     NUMBER(KELINDAP_FIRST, 0) \
     NUMBER(KELINDAP_SECOND, 1) \
     NUMBER(KELINDAP_NO_CONNECTION, 255) \
+    NUMBER(KELINDAP_SAVE_NOTHING, 0) \
+    NUMBER(KELINDAP_SAVE_LATER, 1) \
+    NUMBER(KELINDAP_SAVE_NOW, 2) \
     NUMBER(KELINDAP_MULTICAST, 0) \
     NUMBER(KELINDAP_BROADCAST, 1) \
     NUMBER(KELINDAP_CONNECTIONLESS, 2) \

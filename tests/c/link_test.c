@@ -64,6 +64,12 @@ static kelindap_arrival hear_at(enum place place, const state *s, const uint8_t 
     lent sheet = lend(SHEET, place, s->sheet, s->length);
     lent b = lend(APDU, place, bytes, length);
     kelindap_arrival a = kelindap_heard(s->link, sheet.bytes, sheet.length, b.bytes, b.length);
+    bool reads = a.event < KELINDAP_FRAME_SHORT || a.event > KELINDAP_FRAME_LENGTH;
+    uint16_t source = reads ? (uint16_t)(bytes[4 + bytes[1]] << 8 | bytes[5 + bytes[1]]) : 0;
+    uint8_t octet = reads ? bytes[9 + bytes[1]] : 0;
+    expect(a.source == source && a.sequence == (octet >> 2 & 15) && a.negative == ((octet & 0xC3) == 0xC3),
+           "%d is sent by %04x with %d and %d", a.event, a.source, a.sequence, a.negative);
+    expect(a.event > 3 || a.event == 3 || a.sequence == 0, "%d has a number", a.event);
     calls++;
     take_back_same(&sheet, s->sheet, "sheet");
     take_back_same(&b, bytes, "frame");
@@ -79,8 +85,8 @@ static kelindap_served serve_at(enum place place, state *s, uint8_t sequence, co
     lent answer = lend(ANSWER, place, out, room);
     uint8_t before[sizeof s->sheet];
     memcpy(before, s->sheet, s->length);
-    kelindap_served r = kelindap_serve((kelindap_link *)link.bytes, sequence, b.bytes, b.length, sheet.bytes, sheet.length,
-                                       answer.bytes, answer.length);
+    kelindap_served r = kelindap_serve((kelindap_link *)link.bytes, sheet.bytes, sheet.length, b.bytes, b.length, answer.bytes,
+                                       answer.length, sequence);
     calls++;
     take_back(&link, &s->link, "link");
     take_back(&sheet, s->sheet, "sheet");
@@ -239,7 +245,7 @@ static void test_two_parts(void)
     expect(r.outcome == 0 && r.changed[0].length == 2 && r.changed[1].length == 2, "two parts: %d, %d and %d bytes", r.outcome,
            (int)r.changed[0].length, (int)r.changed[1].length);
     state found = before;
-    kelindap_reply reply = kelindap_request(&found.link.sessions, 3, 0, 0, apdu, sizeof apdu, found.sheet, found.length, answer, 16);
+    kelindap_reply reply = kelindap_request(&found.link.sessions, found.sheet, found.length, 3, 0, 0, apdu, sizeof apdu, answer, 16);
     expect_named(reply.outcome, reply.changed, before.sheet, found.sheet, found.length);
     expect(memcmp(reply.changed, r.changed, sizeof r.changed) == 0 && memcmp(found.sheet, s.sheet, s.length) == 0,
            "a request and its frame name other parts");

@@ -1,6 +1,7 @@
 #!/usr/bin/env bash
 # tests/c/readme.sh HOST_A TOOL_A: the pieces of code in README compile without a warning, as C11 and, where g++ is installed,
-# as C++; and the host that they make does its duties on a bus where it is not alone. CC_FOR makes programs for the archives.
+# as C++; and the host that they make does its duties on a bus where it is not alone, over the plainest of stubs: what is printed is
+# what runs. CC_FOR makes programs for the archives; where it is this machine's own, sanitizers watch (SANITIZE).
 set -euo pipefail
 host=$(realpath "$1") tool=$(realpath "$2")
 cd "$(dirname "$0")/../.."
@@ -20,7 +21,7 @@ piece() {
     echo 'static void ask_height(void) {'
     piece 'kelindap_pdu ask = '
     echo '}'
-    piece 'static kelindap_link partners;'
+    piece 'static uint8_t last_in.KELINDAP_CONNECTIONS.'
     echo 'static void read_frame(const uint8_t *frame, size_t length) {'
     piece 'kelindap_frame f = '
     echo '}'
@@ -29,7 +30,7 @@ piece() {
     echo '}'
     cat tests/c/readme_bus.inc
 } > "$work/readme.c"
-[ "$(grep -c 'kelindap_unit_request(&unit, way\|kelindap_write\|kelindap_serve(&partners\|kelindap_frame_read' "$work/readme.c")" = 5 ] || { echo "readme: a piece is missing"; exit 1; }
+[ "$(grep -c 'kelindap_unit_request(&unit, way\|kelindap_write\|kelindap_unit_serve(&unit\|kelindap_frame_read' "$work/readme.c")" = 5 ] || { echo "readme: a piece is missing"; exit 1; }
 
 flags=(-Wall -Wextra -Wpedantic -Werror -Iinclude -I.)
 gcc -std=c11 "${flags[@]}" -c "$work/readme.c" -o "$work/c.o"
@@ -38,6 +39,7 @@ if command -v g++ > /dev/null; then
     for std in c++11 c++20; do g++ -std=$std "${flags[@]}" -x c++ -c "$work/readme.c" -o "$work/cc.o"; done
     languages+=" and C++"
 fi
-$CC_FOR -o "$work/readme" -std=c11 "${flags[@]}" "$work/readme.c" "$host" "$tool"
-"$work/readme"
+read -ra watch <<< "${SANITIZE:-}"
+$CC_FOR -o "$work/readme" -std=c11 -g "${watch[@]}" "${flags[@]}" "$work/readme.c" "$host" "$tool"
+ASAN_OPTIONS=detect_leaks=0 "$work/readme"
 echo "readme: its code compiles as $languages; the host that it makes answers for itself and for no neighbour"

@@ -81,9 +81,9 @@ static void request_by(bool plain)
         uint8_t connection = (uint8_t)(i / (30 * 1024u) % 2); /* and the last two on the other connection */
         for (uint8_t mode = 0; mode < 4; mode++) {
             sessions.of[connection] = (kelindap_session){.open = true, .level = (uint8_t)(i % 4)};
-            kept += plain ? kelindap_plain_request(&sessions, mode, connection, 0x0801, apdu, length, sheet, sizeof sheet, answer,
+            kept += plain ? kelindap_plain_request(&sessions, sheet, sizeof sheet, mode, connection, 0x0801, apdu, length, answer,
                                                    sizeof answer).count
-                          : kelindap_request(&sessions, mode, connection, 0x0801, apdu, length, sheet, sizeof sheet, answer,
+                          : kelindap_request(&sessions, sheet, sizeof sheet, mode, connection, 0x0801, apdu, length, answer,
                                              sizeof answer).count;
         }
     }
@@ -97,6 +97,7 @@ static void store_check(void) { kept += kelindap_store_check(store, sizeof store
 static void save(void) { kept += kelindap_save(sheet, sizeof sheet, store, sizeof store).number; }
 static void restore(void) { kept += kelindap_restore(sessions, 0, sheet, sizeof sheet, store, sizeof store, 1); }
 static void remove_first(void) { kept += kelindap_remove(store, sizeof store, 1); }
+static void kept_first(void) { kept += kelindap_kept(store, sizeof store, 0).number; }
 
 /* a store with two versions, and connection 0 open at level 0, so that each of them is carried out */
 static void fill_store(void)
@@ -163,7 +164,7 @@ static void frames_by(bool serving)
             frame[9] |= (uint8_t)(mode == 3 ? 0x40 : 0);
             if (i % 61 == 0)
                 frame[9] = 0x80, frame[8] = 0;
-            kept += serving ? kelindap_serve(&link, 0, frame, 10u + frame[8], sheet, sizeof sheet, out, sizeof out).count
+            kept += serving ? kelindap_serve(&link, sheet, sizeof sheet, frame, 10u + frame[8], out, sizeof out, 0).count
                             : kelindap_heard(link, sheet, sizeof sheet, frame, 10u + frame[8]).event;
         }
     }
@@ -262,6 +263,7 @@ int main(void)
         {"kelindap_save", save},
         {"kelindap_restore", restore},
         {"kelindap_remove", remove_first},
+        {"kelindap_kept", kept_first},
         {"kelindap_trace_check", trace_check},
         {"kelindap_play", play},
         {"kelindap_play_marked", play_marked},

@@ -218,14 +218,26 @@ static void same(run due, const uint8_t *found, const char *what)
     expect(due.length == 0 || memcmp(due.bytes, found, due.length) == 0, "the %s is not what is due", what);
 }
 
+static unsigned listed;
+
+/* Whether it is good, and what it keeps: each version, and none behind the last. */
 static void try_check(enum place place, run store)
 {
     lent b = lend(STORE, place, store.bytes, store.length);
     uint8_t r = kelindap_store_check(b.bytes, b.length);
     calls++;
-    take_back_same(&b, store.bytes, "store");
     versions v = take_apart(store.bytes, store.length);
     expect(r == (v.good ? 0 : 30), "store_check gave %d", r);
+    for (size_t k = 0; k <= KELINDAP_STORE_VERSIONS + 1; k++) {
+        size_t at = k <= KELINDAP_STORE_VERSIONS ? k : SIZE_MAX;
+        kelindap_listed kept = kelindap_kept(b.bytes, b.length, at);
+        bool there = v.good && at < v.count;
+        expect(kept.number == (there ? v.of[k].number : 0) && kept.length == (there ? v.of[k].length : 0),
+               "version %zu is told as %d of %d bytes", at, kept.number, kept.length);
+        calls++;
+        listed += there;
+    }
+    take_back_same(&b, store.bytes, "store");
     let_go(&v);
 }
 
@@ -473,6 +485,7 @@ int main(void)
     test_example();
     test_runs();
     expect(outcomes[14] > 0, "outcome 14 was never given");
+    expect(listed > ROUNDS / 40, "only %u versions were listed", listed);
     for (int r = 30; r <= 37; r++)
         expect(outcomes[r] > 0, "outcome %d was never given", r);
     return tell();

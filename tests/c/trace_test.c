@@ -123,7 +123,7 @@ static void happen(state *s, const event *e, uint8_t *line)
     switch (e->kind) {
     case KELINDAP_TRACE_REQUEST:
         memcpy(before, s->sheet, s->length);
-        r = kelindap_request(&s->sessions, e->mode & 15, connection, e->group, e->apdu, e->length, s->sheet, s->length, answer,
+        r = kelindap_request(&s->sessions, s->sheet, s->length, e->mode & 15, connection, e->group, e->apdu, e->length, answer,
                              sizeof answer);
         expect_named(r.outcome, r.changed, before, s->sheet, s->length);
         break;

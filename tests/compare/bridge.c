@@ -314,8 +314,8 @@ static bool same(lent a, lent b)
 static void serve_beside(uint8_t mode, uint8_t connection, uint16_t group, lent apdu, lent answer, kelindap_reply reply)
 {
     kelindap_plain_reply plain =
-        kelindap_plain_request(&plain_sessions, mode, connection, group, given(apdu), apdu.length, given(plain_sheet),
-                               plain_sheet.length, given(plain_answer), plain_answer.length);
+        kelindap_plain_request(&plain_sessions, given(plain_sheet), plain_sheet.length, mode, connection, group, given(apdu),
+                               apdu.length, given(plain_answer), plain_answer.length);
     if (plain.outcome != reply.outcome || plain.count != reply.count || !same(plain_sheet, sheet) || !same(plain_answer, answer) ||
         memcmp(&plain_sessions, &sessions, sizeof sessions) != 0)
         give_up("the engines differ");
@@ -334,8 +334,8 @@ static void request(void)
 #ifndef BOARD
     set_beside(answer);
 #endif
-    kelindap_reply reply = kelindap_request(&sessions, mode, connection, group, given(apdu), apdu.length, given(sheet),
-                                            sheet.length, given(answer), answer.length);
+    kelindap_reply reply = kelindap_request(&sessions, given(sheet), sheet.length, mode, connection, group, given(apdu),
+                                            apdu.length, given(answer), answer.length);
 #ifndef BOARD
     serve_beside(mode, connection, group, apdu, answer, reply);
 #endif
@@ -374,6 +374,9 @@ static void hear(void)
     give_number(a.event, 1);
     give_number(a.connection, 1);
     give_number(a.group, 2);
+    give_number(a.source, 2);
+    give_number(a.sequence, 1);
+    give_number(a.negative, 1);
 }
 
 static void serve(void)
@@ -383,8 +386,8 @@ static void serve(void)
     lent frame = take_run(apdu_room, RUN, 2);
     lent answer = take_run(answer_room, RUN, 2);
     memcpy(as_sent, frame.bytes, frame.length);
-    kelindap_served s = kelindap_serve(&partners, sequence, given(frame), frame.length, given(sheet), sheet.length,
-                                       given(answer), answer.length);
+    kelindap_served s = kelindap_serve(&partners, given(sheet), sheet.length, given(frame), frame.length, given(answer),
+                                       answer.length, sequence);
     guarded(frame);
     guarded(answer);
     if (memcmp(as_sent, frame.bytes, frame.length) != 0)
@@ -428,6 +431,16 @@ static void restore(void)
     uint8_t connection = byte();
     give_outcome(kelindap_restore(sessions, connection, given(sheet), sheet.length, given(store), store.length, whole()));
     give_hash_of(store);
+}
+
+/* what it keeps, and that there is nothing behind */
+static void list_versions(void)
+{
+    for (size_t k = 0; k <= KELINDAP_STORE_VERSIONS; k++) {
+        kelindap_listed kept = kelindap_kept(given(store), store.length, k < KELINDAP_STORE_VERSIONS ? k : SIZE_MAX);
+        give_number(kept.number, 2);
+        give_number(kept.length, 2);
+    }
 }
 
 static void take_out(void)
@@ -542,12 +555,12 @@ static void write_pdu(void)
 #ifdef BOARD
 /* ---- instructions: of calls through pointers, less those of a call that does nothing ---- */
 
-typedef kelindap_reply request_call(kelindap_sessions *, uint8_t, uint8_t, uint16_t, const uint8_t *, size_t, uint8_t *,
-                                    size_t, uint8_t *, size_t);
+typedef kelindap_reply request_call(kelindap_sessions *, uint8_t *, size_t, uint8_t, uint8_t, uint16_t, const uint8_t *, size_t,
+                                    uint8_t *, size_t);
 typedef uint8_t check_call(const uint8_t *, size_t);
 
-static kelindap_reply no_request(kelindap_sessions *s, uint8_t m, uint8_t o, uint16_t g, const uint8_t *a, size_t an,
-                                 uint8_t *b, size_t bn, uint8_t *c, size_t cn)
+static kelindap_reply no_request(kelindap_sessions *s, uint8_t *a, size_t an, uint8_t m, uint8_t o, uint16_t g, const uint8_t *b,
+                                 size_t bn, uint8_t *c, size_t cn)
 {
     (void)s, (void)m, (void)o, (void)g, (void)a, (void)an, (void)b, (void)bn, (void)c, (void)cn;
     return (kelindap_reply){ .outcome = 0 };
@@ -577,7 +590,7 @@ static void time_requests(void)
         for (uint32_t n = 0; n < times; n++) {
             sessions = found;
             sheet.bytes[14] = flags;
-            call(&sessions, mode, connection, group, apdu.bytes, apdu.length, sheet.bytes, sheet.length, answer.bytes,
+            call(&sessions, sheet.bytes, sheet.length, mode, connection, group, apdu.bytes, apdu.length, answer.bytes,
                  answer.length);
         }
         taken[i] = instructions() - taken[i];
@@ -691,6 +704,9 @@ static void play(uint8_t command)
         break;
     case 'e':
         take_out();
+        break;
+    case 'w':
+        list_versions();
         break;
     case 'Y':
         trace = take_run(trace_room, TRACE, 4);

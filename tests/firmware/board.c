@@ -95,7 +95,7 @@ void tell_deepest(void)
 {
     static const char *const names[CALLS] = {
         "fresh", "connect",     "disconnect",  "button", "request", "check",  "convert",     "property", "region",
-        "group", "user_region", "store_check", "save",   "restore", "remove", "trace_check", "play",
+        "group", "user_region", "store_check", "save",   "restore", "remove", "kept", "trace_check", "play",
         "play_marked", "heard", "serve",
     };
     say("painted");

@@ -44,6 +44,7 @@ enum call {
     CALL_save,
     CALL_restore,
     CALL_remove,
+    CALL_kept,
     CALL_trace_check,
     CALL_play,
     CALL_play_marked,
@@ -116,6 +117,7 @@ static inline __attribute__((always_inline)) void measure_below(enum call call)
 #define kelindap_save(...) MEASURED(save, __VA_ARGS__)
 #define kelindap_restore(...) MEASURED(restore, __VA_ARGS__)
 #define kelindap_remove(...) MEASURED(remove, __VA_ARGS__)
+#define kelindap_kept(...) MEASURED(kept, __VA_ARGS__)
 #define kelindap_trace_check(...) MEASURED(trace_check, __VA_ARGS__)
 #define kelindap_play(...) MEASURED(play, __VA_ARGS__)
 #define kelindap_play_marked(...) MEASURED(play_marked, __VA_ARGS__)

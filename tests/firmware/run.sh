@@ -17,7 +17,7 @@ own=$(mk/bin/processor)
 mkdir "$work/made"
 tests/unit/made.sh "$work/made"
 scripts=("$work/made/device-vectors" "$work/made/pump-vectors" "$work/made/ranges-vectors")
-for name in marked events lookups old ranges sheets story rules tools versions traces links; do
+for name in marked events lookups old ranges sheets story rules tools versions listed traces links; do
     [ ! -e "tests/unit/$name.in" ] || scripts+=("tests/unit/$name")
 done
 

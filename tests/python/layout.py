@@ -40,7 +40,7 @@ for name, structure in structures.items():
          [field for owner, field in re.findall(r"FIELD\((kelindap_\w+), (\w+),", facts) if owner == name])
 
 declared = {name for header in glob.glob("include/*.h") if not header.endswith(("_names.h", "_plain.h"))
-            for name in re.findall(r"^(?!static)\w[\w ]*\bkelindap_(\w+)\(", open(header).read(), re.M)}
+            for name in re.findall(r"^(?!static| )[\w ]*\bkelindap_(\w+)\(", open(header).read(), re.M)}
 hold("calls", sorted(_library.CALLS), sorted(declared))
 
 # what C says of each number from 0 to 255: list, number, words

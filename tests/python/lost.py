@@ -300,10 +300,12 @@ class Lost(unittest.TestCase):
         own = dict(FRAME, destination=int.from_bytes(SAMPLE[16:18], "big"))
         connect = bytes.fromhex("2900bc60") + (0x1101).to_bytes(2, "big") + SAMPLE[16:18] + b"\0\x80"
         disconnect = connect[:-1] + b"\x81"
-        self.assertEqual(unit.heard(connect), (kelindap.Event.CONNECT, 0, 0))
+        self.assertEqual(unit.heard(connect), (kelindap.Event.CONNECT, 0, 0, 0x1101, 0, False))
+        nak = connect[:-1] + b"\xcf"
+        self.assertEqual(unit.heard(nak)[3:], (0x1101, 3, True))
         self.assertEqual(unit.serve(connect).connection, 0)
         self.assertEqual(unit.serve(disconnect).closed, ())
-        self.assertEqual(unit.heard(disconnect), (Outcome.LINK_NO_PARTNER, None, 0))
+        self.assertEqual(unit.heard(disconnect)[:3], (Outcome.LINK_NO_PARTNER, None, 0))
         unit.serve(connect)
         unit.serve(connect[:5] + b"\x09" + connect[6:])
         restart = kelindap.frame_write(kelindap.write("restart"), **dict(own, transport=16))

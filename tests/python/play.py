@@ -33,7 +33,7 @@ def outcome_of(call, *arguments):
 class Player:
     def __init__(self):
         self.unit = kelindap.Unit(SAMPLE, any_sheet=True)
-        self.versions, self.events, self.played = bytearray(), b"", 0
+        self.store_, self.events, self.played = bytearray(), b"", 0
 
     def sessions(self):
         return " ".join(f"{open:d} {level}" for open, level in self.unit.sessions)
@@ -135,21 +135,28 @@ class Player:
     # ---- versions and traces ----
 
     def store(self, word):
-        self.versions = bytearray(from_hex(word))
-        return str(kelindap.store_check(self.versions) or "OK")
+        self.store_ = bytearray(from_hex(word))
+        return str(kelindap.store_check(self.store_) or "OK")
 
     def save(self):
         try:
-            outcome, number = 0, self.unit.save(self.versions)
+            outcome, number = 0, self.unit.save(self.store_)
         except Refused as refused:
             outcome, number = refused.outcome, 0
-        return f"{outcome} {number} {to_hex(self.versions)}"
+        return f"{outcome} {number} {to_hex(self.store_)}"
 
     def restore(self, connection, number):
-        return f"{outcome_of(self.unit.restore, self.versions, int(number), int(connection))} {to_hex(self.unit.sheet)}"
+        return f"{outcome_of(self.unit.restore, self.store_, int(number), int(connection))} {to_hex(self.unit.sheet)}"
 
     def remove(self, number):
-        return f"{outcome_of(kelindap.remove, self.versions, int(number))} {to_hex(self.versions)}"
+        return f"{outcome_of(kelindap.remove, self.store_, int(number))} {to_hex(self.store_)}"
+
+    def versions(self):
+        try:
+            kept = kelindap.versions(self.store_)
+        except Refused:
+            kept = []
+        return " ".join([str(len(kept))] + [f"{number}:{length}" for number, length in kept])
 
     def trace(self, word):
         self.events, self.played = from_hex(word), 0
@@ -187,7 +194,7 @@ class Player:
         return " ".join(map(str, self.unit.addresses))
 
     def heard(self, frame):
-        event, connection, group = self.unit.heard(from_hex(frame))
+        event, connection, group, *_ = self.unit.heard(from_hex(frame))
         if event >= len(self.EVENTS):
             return str(event)
         more = f" {group}" if event == 0 else "" if connection is None else f" {connection}"
@@ -203,7 +210,7 @@ class Player:
         return self.told(before, served) or f"{line} {self.sessions()} {to_hex(self.unit.sheet)}"
 
     COMMANDS = "sheet convert session connect disconnect button request lookup read write point frame".split()
-    COMMANDS += "store save restore remove trace play link heard serve".split()
+    COMMANDS += "store save restore remove versions trace play link heard serve".split()
 
     def obey(self, line):
         """The answer, or None to a command that is not known here."""

@@ -136,6 +136,8 @@ class Refusals(unittest.TestCase):
         self.refused(lambda: kelindap.remove(bytearray(3), 1), 30)
         store = bytearray(200)
         self.assertEqual(unit.save(store), 1)
+        self.assertEqual([version.number for version in kelindap.versions(store)], [1])
+        self.refused(lambda: kelindap.versions(bytes(7)), 30, "store")
         self.refused(lambda: unit.restore(store, 1, 0), 35)
         self.refused(lambda: unit.restore(store, 2, 0), 34, "number", "number=2")
         self.refused(lambda: unit.play(b"\1"), 50, "trace")

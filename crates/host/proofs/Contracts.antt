@@ -100,18 +100,18 @@ module _ {M : Type 1} (𝓤 : URA M) (H : Heap 𝓤) (A : Atoms 𝓤) (mem : Mem
     pub button-is : (q : Sessions) → Entails (button-fn.clauses 𝓤 H A mem run κs a .ensures tt r e) (Call (at q (now (a .0))) (button (a .1 .0)) (silent r q (now (e .0))))
     button-is q = fact-mono 𝓤 _ _ (presses (a .1 .0) r (now (e .0)))
 
-  -- kelindap_request(sessions, mode, connection, group, apdu, sheet, answer)
+  -- kelindap_request(sessions, sheet, mode, connection, group, apdu, answer)
   module _ (κs : Lfts 4) (a : Args request-fn.signature κs) (r : Res request-fn.signature κs) (e : AtExit request-fn.ended κs) where
     pub request-says :
         Entails (request-fn.clauses 𝓤 H A mem run κs a .ensures tt r e)
-        (Requested (now (a .0)) (a .1 .0) (a .1 .1 .0) (a .1 .1 .1 .0) (now (a .1 .1 .1 .1 .0)) (now (a .1 .1 .1 .1 .1 .0)) (now (a .1 .1 .1 .1 .1 .1 .0)) (gave r (now (e .0)))
-        (now (e .1 .1 .1 .1 .1 .0)) (now (e .1 .1 .1 .1 .1 .1 .0)))
+        (Requested (now (a .0)) (a .1 .1 .0) (a .1 .1 .1 .0) (a .1 .1 .1 .1 .0) (now (a .1 .1 .1 .1 .1 .0)) (now (a .1 .0)) (now (a .1 .1 .1 .1 .1 .1 .0)) (gave r (now (e .0)))
+        (now (e .1 .0)) (now (e .1 .1 .1 .1 .1 .1 .0)))
     request-says = id⊢ 𝓤 _
 
     pub request-is :
         Entails (request-fn.clauses 𝓤 H A mem run κs a .ensures tt r e)
-        (Call (at (now (a .0)) (now (a .1 .1 .1 .1 .1 .0))) (request (a .1 .0) (a .1 .1 .0) (a .1 .1 .1 .0) (now (a .1 .1 .1 .1 .0)) (now (a .1 .1 .1 .1 .1 .1 .0)))
-        (effectSeen (gave r (now (e .0)) .done) (now (e .1 .1 .1 .1 .1 .0)) (now (e .1 .1 .1 .1 .1 .1 .0))))
+        (Call (at (now (a .0)) (now (a .1 .0))) (request (a .1 .1 .0) (a .1 .1 .1 .0) (a .1 .1 .1 .1 .0) (now (a .1 .1 .1 .1 .1 .0)) (now (a .1 .1 .1 .1 .1 .1 .0)))
+        (effectSeen (gave r (now (e .0)) .done) (now (e .1 .0)) (now (e .1 .1 .1 .1 .1 .1 .0))))
     request-is = fact-mono 𝓤 _ _ (λ p. requests _ _ _ _ _ _ _ _ (p .call))
 
   -- kelindap_restore(sessions, connection, sheet, store, number)
@@ -167,17 +167,17 @@ module _ {M : Type 1} (𝓤 : URA M) (H : Heap 𝓤) (A : Atoms 𝓤) (mem : Mem
         (netOf (withSessions k (now (e .0))) (now (e .1 .0))))
     marked-is k = fact-mono 𝓤 _ _ (marks _ _ _ _ _ _ _ r _ _ _ _ _)
 
-  -- kelindap_serve(link, sequence, frame, sheet, out)
+  -- kelindap_serve(link, sheet, frame, out, sequence)
   module _ (κs : Lfts 4) (a : Args serve-fn.signature κs) (r : Res serve-fn.signature κs) (e : AtExit serve-fn.ended κs) where
     pub serve-says :
         Entails (serve-fn.clauses 𝓤 H A mem run κs a .ensures tt r e)
-        (ServedFrame (now (a .0)) (a .1 .0) (now (a .1 .1 .0)) (now (a .1 .1 .1 .0)) (now (a .1 .1 .1 .1 .0)) (gaveServed r (now (e .0))) (now (e .1 .1 .1 .0)) (now (e .1 .1 .1 .1 .0)))
+        (ServedFrame (now (a .0)) (a .1 .1 .1 .1 .0) (now (a .1 .1 .0)) (now (a .1 .0)) (now (a .1 .1 .1 .0)) (gaveServed r (now (e .0))) (now (e .1 .0)) (now (e .1 .1 .1 .0)))
     serve-says = id⊢ 𝓤 _
 
     pub serve-is :
         Entails (serve-fn.clauses 𝓤 H A mem run κs a .ensures tt r e)
-        (Step (netOf (now (a .0)) (now (a .1 .1 .1 .0))) (servedEvents (netOf (now (a .0)) (now (a .1 .1 .1 .0))) (now (a .1 .1 .0)) (length (now (a .1 .1 .1 .1 .0))))
-        (netOf (now (e .0)) (now (e .1 .1 .1 .0))))
+        (Step (netOf (now (a .0)) (now (a .1 .0))) (servedEvents (netOf (now (a .0)) (now (a .1 .0))) (now (a .1 .1 .0)) (length (now (a .1 .1 .1 .0))))
+        (netOf (now (e .0)) (now (e .1 .0))))
     serve-is = fact-mono 𝓤 _ _ (serves _ _ _ r _ _ _)
 
   -- kelindap_save(sheet, store)

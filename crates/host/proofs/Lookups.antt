@@ -16,9 +16,11 @@ use denote.Triple.Clauses.{AtExit}
 use Rattle.sheet.specs.Rules.{verdictOf}
 use Rattle.sheet.specs.Lookup.{StandsIn, regionOf, regionFrom, userRegionOf, userRegionFrom, propertyOf, propertyFrom, groupOf, groupFrom}
 use Rattle.versions.specs.Rules.{storeRule}
+use Rattle.versions.specs.Kept.{keptOf}
 use Rattle.playback.specs.Rules.{refusalOf}
 use Rattle.link.specs.Hearing.{ownOf, heardOf}
-use Rattle.host.specs.Bus.{arrivalOf}
+use Rattle.cemi.specs.Read.{readFrame}
+use Rattle.host.specs.Bus.{senderOf, arrivalOf}
 use Rattle.host.specs.Calls.{versionOf}
 use Rattle.host.proofs.kelindap_check as check-fn
 use Rattle.host.proofs.kelindap_property as property-fn
@@ -27,6 +29,7 @@ use Rattle.host.proofs.kelindap_user_region as user-region-fn
 use Rattle.host.proofs.kelindap_group as group-fn
 use Rattle.host.proofs.kelindap_trace_check as trace-check-fn
 use Rattle.host.proofs.store.kelindap_store_check as store-check-fn
+use Rattle.host.proofs.store.kelindap_kept as kept-fn
 use Rattle.host.proofs.bus.kelindap_heard as heard-fn
 use Rattle.host.proofs.kelindap_version as version-fn
 
@@ -76,9 +79,16 @@ module _ {M : Type 1} (𝓤 : URA M) (H : Heap 𝓤) (A : Atoms 𝓤) (mem : Mem
     pub store-check-says : Entails (store-check-fn.clauses 𝓤 H A mem run κs a .ensures tt r e) (r ≡ storeRule (now (a .0)))
     store-check-says = id⊢ 𝓤 _
 
+  -- kelindap_kept(store, k)
+  module _ (κs : Lfts 1) (a : Args kept-fn.signature κs) (r : Res kept-fn.signature κs) (e : AtExit kept-fn.ended κs) where
+    pub kept-says : Entails (kept-fn.clauses 𝓤 H A mem run κs a .ensures tt r e) (r ≡ keptOf (now (a .0)) (a .1 .0))
+    kept-says = id⊢ 𝓤 _
+
   -- kelindap_heard(link, sheet, frame)
   module _ (κs : Lfts 2) (a : Args heard-fn.signature κs) (r : Res heard-fn.signature κs) (e : AtExit heard-fn.ended κs) where
-    pub heard-says : Entails (heard-fn.clauses 𝓤 H A mem run κs a .ensures tt r e) (r ≡ arrivalOf (heardOf (a .0) (ownOf (now (a .1 .0))) (now (a .1 .1 .0))))
+    pub heard-says :
+        Entails (heard-fn.clauses 𝓤 H A mem run κs a .ensures tt r e)
+        (r ≡ arrivalOf (heardOf (a .0) (ownOf (now (a .1 .0))) (now (a .1 .1 .0))) (senderOf (readFrame (now (a .1 .1 .0)))))
     heard-says = id⊢ 𝓤 _
 
   -- kelindap_version()

@@ -41,12 +41,16 @@ pub struct Handled {
     pub handled: u16,
 }
 
-// What a frame is to the device: its event, by its number, or why there is none; its connection, or 255; its destination.
+// What a frame is to the device: its event, by its number, or why there is none; its connection, or 255; its destination; who sent
+// it, its sequence number, and whether it is a negative acknowledgement.
 #[repr(C)]
 pub struct Arrival {
     pub event: u8,
     pub connection: u8,
     pub group: u16,
+    pub source: u16,
+    pub sequence: u8,
+    pub negative: bool,
 }
 
 // What serving a frame gave: 0 and the event's outcome, or why there is none; its connection, or 255; the count of bytes of the
@@ -99,11 +103,11 @@ pub extern "C" fn kelindap_button(sheet: &mut [u8], on: bool) -> u8
 // A request with the sessions by value.
 fn request(
     sessions: Sessions,
+    sheet: &mut [u8],
     mode: u8,
     connection: u8,
     group: u16,
     apdu: &[u8],
-    sheet: &mut [u8],
     answer: &mut [u8],
 ) -> Replied
     ensures { λ r. ⌜ Requested sessions mode connection group (now (apdu .entry)) (now (sheet .entry)) (now (answer .entry)) (gaveBack r) (now (sheet .exit)) (now (answer .exit)) ⌝ }
@@ -124,16 +128,16 @@ fn request(
 #[no_mangle]
 pub extern "C" fn kelindap_request(
     sessions: &mut Sessions,
+    sheet: &mut [u8],
     mode: u8,
     connection: u8,
     group: u16,
     apdu: &[u8],
-    sheet: &mut [u8],
     answer: &mut [u8],
 ) -> Reply
     ensures { λ r. ⌜ Requested (now (sessions .entry)) mode connection group (now (apdu .entry)) (now (sheet .entry)) (now (answer .entry)) (gave r (now (sessions .exit))) (now (sheet .exit)) (now (answer .exit)) ⌝ }
 {
-    let d = request(*sessions, mode, connection, group, apdu, sheet, answer);
+    let d = request(*sessions, sheet, mode, connection, group, apdu, answer);
     *sessions = d.sessions;
     Reply {
         outcome: d.outcome,

@@ -3,8 +3,10 @@ ghost use mathlib.Core.Path.{_≡_};
 ghost use Rattle.versions.specs.Rules.{storeRule};
 ghost use Rattle.versions.specs.Saving.{SavedAs};
 ghost use Rattle.versions.specs.Removing.{Removed};
+ghost use Rattle.versions.specs.Kept.{keptOf};
 ghost use Rattle.host.specs.Calls.{Restores};
 use device::Sessions;
+use versions::Listed;
 use versions::Saved;
 
 // 0 for a good store, else 30.
@@ -44,4 +46,12 @@ pub extern "C" fn kelindap_remove(store: &mut [u8], number: usize) -> u8
     ensures { λ r. ⌜ Removed (now (store .entry)) number r (now (store .exit)) ⌝ }
 {
     versions::remove(store, number)
+}
+
+// The k-th version that a store keeps, counted from 0.
+#[no_mangle]
+pub extern "C" fn kelindap_kept(store: &[u8], k: usize) -> Listed
+    ensures { λ r. ⌜ r ≡ keptOf (now (store .entry)) k ⌝ }
+{
+    versions::kept(store, k)
 }

@@ -20,11 +20,11 @@ pub struct Replied {
 // A request with the sessions by value.
 fn request(
     sessions: Sessions,
+    sheet: &mut [u8],
     mode: u8,
     connection: u8,
     group: u16,
     apdu: &[u8],
-    sheet: &mut [u8],
     answer: &mut [u8],
 ) -> Replied
     ensures { λ r. ⌜ Called sessions mode connection group (now (apdu .entry)) (now (sheet .entry)) (now (answer .entry)) (gaveBack r) (now (sheet .exit)) (now (answer .exit)) ⌝ }
@@ -42,16 +42,16 @@ fn request(
 #[no_mangle]
 pub extern "C" fn kelindap_plain_request(
     sessions: &mut Sessions,
+    sheet: &mut [u8],
     mode: u8,
     connection: u8,
     group: u16,
     apdu: &[u8],
-    sheet: &mut [u8],
     answer: &mut [u8],
 ) -> Reply
     ensures { λ r. ⌜ Called (now (sessions .entry)) mode connection group (now (apdu .entry)) (now (sheet .entry)) (now (answer .entry)) (gave r (now (sessions .exit))) (now (sheet .exit)) (now (answer .exit)) ⌝ }
 {
-    let d = request(*sessions, mode, connection, group, apdu, sheet, answer);
+    let d = request(*sessions, sheet, mode, connection, group, apdu, answer);
     *sessions = d.sessions;
     Reply {
         outcome: d.outcome,

@@ -50,14 +50,14 @@ module _ {s : List ℕ} {n i : ℕ} (b : Octets s) (c : Chosen s n i) where
   whole-count : n ≡ i + suc m
   whole-count = omega (arith, c .below)
 
-  which : kept s ≡ before ++ (own ∷ after)
+  pub which : kept s ≡ before ++ (own ∷ after)
   unfolding kept
   which = ap (versionsFrom s 8) (sym (c .all) ∙ whole-count) ∙ split s i m 8
 
   whole : s ≡ laid last (before ++ (own ∷ after)) ++ free
   whole = g .is ∙ ap (λ (vs : List Version). laid last vs ++ free) which
 
-  lb : length before ≡ i
+  pub lb : length before ≡ i
   lb = length-versions s 8 i
 
   la : length after ≡ m
@@ -99,7 +99,7 @@ module _ {s : List ℕ} {n i : ℕ} (b : Octets s) (c : Chosen s n i) where
       ap₂ (λ (t : List ℕ) (p : ℕ). inRow t p row.offset) whole same-p
       ∙ offset-is last before own after free (omega (arith, short))
 
-  same-l : inRow s (tableEnd i) row.long ≡ l
+  pub same-l : inRow s (tableEnd i) row.long ≡ l
   same-l =
       ap₂ (λ (t : List ℕ) (p : ℕ). inRow t p row.long) whole same-p
       ∙ long-is last before own after free (omega (arith, short))

@@ -20,6 +20,7 @@ pub mod Removals
 pub mod Restores
 pub mod Agreeing
 pub mod Restorer
+pub mod Lists
 pub mod OwnVersion
 pub mod GivenBack
 pub mod Dues

@@ -2,6 +2,7 @@ pub mod Head
 pub mod Row
 pub mod Store
 pub mod Rules
+pub mod Kept
 pub mod Linked
 pub mod Ends
 pub mod Settings

@@ -1,6 +1,7 @@
 // Versions of the settings, kept in a lent buffer.
 mod layout;
 mod link;
+mod listing;
 mod removing;
 mod restoring;
 mod rules;
@@ -8,6 +9,8 @@ mod saving;
 mod settings;
 mod table;
 
+pub use listing::Listed;
+pub use listing::kept;
 pub use removing::remove;
 pub use restoring::restore;
 pub use rules::check;

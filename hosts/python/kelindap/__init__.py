@@ -34,7 +34,7 @@ from .names import Event, Kind, Message, Mode, Outcome, Rule, TraceKind
 from .pdu import Pdu, read, write, write_into
 from .points import point_fields, point_read, point_write
 from .sheet import Part, check, convert, converted, find_group, find_property, find_region, find_user_region
-from .store import remove, store_check
+from .store import Version, remove, store_check, versions
 from .trace import Logged, trace_check
 from .unit import Reply, Session, Unit
 
@@ -64,6 +64,7 @@ __all__ = [
     "TRACE_EVENTS",
     "TraceKind",
     "Unit",
+    "Version",
     "check",
     "convert",
     "converted",
@@ -81,6 +82,7 @@ __all__ = [
     "remove",
     "store_check",
     "trace_check",
+    "versions",
     "write",
     "write_into",
 ]

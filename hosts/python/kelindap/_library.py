@@ -41,6 +41,12 @@ class Saved(Structure):
     _fields_ = [("outcome", c_uint8), ("number", c_uint16)]
 
 
+class KeptVersion(Structure):
+    """kelindap_kept_version"""
+
+    _fields_ = [("number", c_uint16), ("length", c_uint16)]
+
+
 class Played(Structure):
     """kelindap_played"""
 
@@ -56,7 +62,10 @@ class Link(Structure):
 class Arrival(Structure):
     """kelindap_arrival"""
 
-    _fields_ = [("event", c_uint8), ("connection", c_uint8), ("group", c_uint16)]
+    _fields_ = [("event", c_uint8), ("connection", c_uint8), ("group", c_uint16), ("source", c_uint16)] + [
+        ("sequence", c_uint8),
+        ("negative", c_bool),
+    ]
 
 
 class Served(Structure):
@@ -113,7 +122,7 @@ CALLS: Dict[str, Tuple[Any, List[Any]]] = {
     "connect": (c_uint8, _SESSIONS + [c_uint8]),
     "disconnect": (c_uint8, _SESSIONS + [c_uint8]),
     "button": (c_uint8, _RUN + [c_bool]),
-    "request": (Reply, _SESSIONS + [c_uint8, c_uint8, c_uint16] + 3 * _RUN),
+    "request": (Reply, _SESSIONS + _RUN + [c_uint8, c_uint8, c_uint16] + 2 * _RUN),
     "check": (c_uint8, _RUN),
     "convert": (c_uint8, _RUN),
     "property": (Part, _RUN + [c_uint8, c_uint8]),
@@ -124,11 +133,12 @@ CALLS: Dict[str, Tuple[Any, List[Any]]] = {
     "save": (Saved, 2 * _RUN),
     "restore": (c_uint8, [Sessions, c_uint8] + 2 * _RUN + [c_size_t]),
     "remove": (c_uint8, _RUN + [c_size_t]),
+    "kept": (KeptVersion, _RUN + [c_size_t]),
     "trace_check": (c_uint8, _RUN),
     "play": (Played, _SESSIONS + 2 * _RUN + [c_size_t, c_size_t] + _RUN),
     "play_marked": (Played, _SESSIONS + 2 * _RUN + [c_size_t, c_size_t] + 2 * _RUN + _NUMBERS + [c_uint32]),
     "heard": (Arrival, [Link] + 2 * _RUN),
-    "serve": (Served, [POINTER(Link), c_uint8] + 3 * _RUN),
+    "serve": (Served, [POINTER(Link)] + 3 * _RUN + [c_uint8]),
     "pdu_version": (c_uint32, []),
     "read": (Pdu, _RUN),
     "write": (Written, [Pdu] + 2 * _RUN),

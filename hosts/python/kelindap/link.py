@@ -15,11 +15,15 @@ _EVENTS = frozenset(Event)
 
 
 class Arrival(NamedTuple):
-    """What a frame is to this device: its event, or the outcome that says why there is none; connection; group address of data."""
+    """What a frame is to this device: its event, or the outcome that says why there is none; connection; group address of data; who
+    sent it; its sequence number; of an acknowledgement, whether it is negative."""
 
     event: Union[Event, Outcome]
     connection: Optional[int]
     group: int
+    source: int
+    sequence: int
+    negative: bool
 
 
 class Served(NamedTuple):
@@ -50,14 +54,15 @@ def heard(link: _library.Link, sheet: bytes, frame: Readable) -> Arrival:
     """What a frame is to the device with this link and sheet. Nothing changes."""
     arrival = call("heard", link, sheet, reading("frame", frame))
     event: Union[Event, Outcome] = Event(arrival.event) if arrival.event in _EVENTS else Outcome(arrival.event)
-    return Arrival(event, _connection(arrival.connection), arrival.group)
+    connection = _connection(arrival.connection)
+    return Arrival(event, connection, arrival.group, arrival.source, arrival.sequence, bool(arrival.negative))
 
 
 def serve(link: _library.Link, sheet: Lent, frame: Readable, sequence: int, out: Lent) -> Served:
     """A frame in, at most one frame out, which goes to the front of what is lent."""
     run, own = reading("frame", frame), number("sequence", sequence, 255)
     before, arrival = opened(link.sessions), heard(link, bytes(sheet.run), run)
-    served = call("serve", byref(link), own, run, sheet, out)
+    served = call("serve", byref(link), sheet, run, out, own)
     # a disconnect closes its own connection; what else is closed, a Restart closed
     ended = {arrival.connection} if arrival.event is Event.DISCONNECT else set()
     closed = tuple(sorted(before - opened(link.sessions) - ended))

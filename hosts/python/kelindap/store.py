@@ -2,19 +2,34 @@
 
 from __future__ import annotations
 
-from typing import Any
+from typing import Any, List, NamedTuple
 
 from . import _library
 from ._library import call
 from ._runs import Lent, Readable, Writable, reading, size, writing
 from .errors import must
-from .names import STORE_LEAST, STORE_MOST, Outcome
+from .names import STORE_LEAST, STORE_MOST, STORE_VERSIONS, Outcome
 from .sheet import accepted
+
+
+class Version(NamedTuple):
+    """A version that a store keeps: its number, and the bytes that it takes."""
+
+    number: int
+    length: int
 
 
 def store_check(store: Readable) -> Outcome:
     """OK for a good store, else STORE_BAD."""
     return Outcome(call("store_check", reading("store", store)))
+
+
+def versions(store: Readable) -> List[Version]:
+    """The versions that a store keeps, in rising order. Raises Refused if it is not a good one."""
+    run = reading("store", store)
+    must(store_check(run), "store")
+    kept = [call("kept", run, k) for k in range(STORE_VERSIONS)]
+    return [Version(version.number, version.length) for version in kept if version.number]
 
 
 def remove(store: Writable, number: int) -> None:

@@ -171,7 +171,7 @@ class Unit:
         place = LINK_NOBODY if connection is None else self._place(connection)
         way = number("mode", mode, 255), place, number("group", 0 if group is None else group, 65535)
         lent, before = writing("buffer", buffer), opened(self._sessions)
-        reply = call("request", byref(self._sessions), *way, reading("apdu", apdu), self._lent(), lent)
+        reply = call("request", byref(self._sessions), self._lent(), *way, reading("apdu", apdu), lent)
         closed = tuple(sorted(before - opened(self._sessions)))
         return Reply(Outcome(reply.outcome), bytes(lent.run[: reply.count]), parts(reply.changed), closed)
 

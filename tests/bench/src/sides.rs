@@ -28,13 +28,13 @@ extern "C" {
     fn kelindap_check(sheet: *const u8, length: usize) -> u8;
     fn kelindap_request(
         sessions: *mut CSessions,
+        sheet: *mut u8,
+        sheet_length: usize,
         mode: u8,
         connection: u8,
         group: u16,
         apdu: *const u8,
         apdu_length: usize,
-        sheet: *mut u8,
-        sheet_length: usize,
         answer: *mut u8,
         answer_length: usize,
     ) -> CReply;
@@ -105,13 +105,13 @@ impl Side {
                 let reply = unsafe {
                     kelindap_request(
                         &mut sessions,
+                        l.sheet.as_mut_ptr(),
+                        l.sheet.len(),
                         l.way.mode,
                         l.way.connection,
                         l.way.group,
                         l.apdu.as_ptr(),
                         l.apdu.len(),
-                        l.sheet.as_mut_ptr(),
-                        l.sheet.len(),
                         l.answer.as_mut_ptr(),
                         l.answer.len(),
                     )

@@ -330,7 +330,8 @@ impl Maker {
                 let c = (0..2).find(at_zero).filter(|_| rng.chance(75));
                 Play::Restore(c.unwrap_or_else(|| gen::connection(rng)), number)
             }
-            45..=58 => Play::Remove(number),
+            45..=56 => Play::Remove(number),
+            57..=58 => Play::Versions,
             59..=63 => {
                 let store = stores::store(rng, &world.sheet);
                 self.push(Play::Store(store));

@@ -37,6 +37,7 @@ pub enum Play {
     /// On a connection, the version of a number.
     Restore(u8, u64),
     Remove(u64),
+    Versions,
     Trace(Vec<u8>),
     /// From so many events on, at most so many, into a log as found.
     Pieces(u64, u64, Vec<u8>),
@@ -129,6 +130,7 @@ impl Play {
                 out.push(b'e');
                 out.extend(number.to_le_bytes());
             }
+            Play::Versions => out.push(b'w'),
             Play::Trace(trace) => {
                 out.push(b'Y');
                 out.extend((trace.len() as u32).to_le_bytes());
@@ -192,6 +194,7 @@ impl Play {
             Play::Save => "save".to_string(),
             Play::Restore(c, number) => format!("restore {c} {number}"),
             Play::Remove(number) => format!("remove {number}"),
+            Play::Versions => "versions".to_string(),
             Play::Trace(trace) => format!("trace {}", hex(trace)),
             Play::Pieces(from, limit, log) => {
                 let limit = (*limit).min(65_535);
@@ -242,6 +245,7 @@ impl Play {
             Play::Store(_) | Play::Remove(_) => {
                 format!("outcome {}, store hash {}", reply[0], tail(8))
             }
+            Play::Versions => format!("versions, number and length of each: {}", hex(reply)),
             Play::Save => {
                 let number = u16::from_le_bytes([reply[1], reply[2]]);
                 format!("outcome {}, number {number}, hashes {}", reply[0], tail(16))
@@ -315,6 +319,8 @@ pub const PIECES: usize = 3 + 4;
 
 /// Where the buffer begins in the reply to serving: after four numbers, both sessions and both addresses.
 pub const SERVED: usize = 4 + 4 + 4 + 16;
+/// So many versions of a store are asked for: one more than it can keep.
+const VERSIONS: usize = 9;
 
 fn both(addresses: &Addresses) -> [u8; 4] {
     let [[a, b], [c, d]] = addresses.map(u16::to_le_bytes);
@@ -474,6 +480,14 @@ impl World {
                 reply.push(store::remove(self.fault, &mut self.store, *number));
                 self.hash_store(reply);
             }
+            Play::Versions => {
+                let kept = store::kept(self.fault, &self.store);
+                for k in 0..VERSIONS {
+                    let (number, length) = kept.get(k).copied().unwrap_or_default();
+                    reply.extend(number.to_le_bytes());
+                    reply.extend(length.to_le_bytes());
+                }
+            }
             Play::Trace(trace) => {
                 self.trace.clone_from(trace);
                 reply.push(trace::check(self.fault, trace));
@@ -505,6 +519,9 @@ impl World {
                     };
                 reply.extend([event, connection]);
                 reply.extend(group.to_le_bytes());
+                let (source, sequence, negative) = link::sender(self.fault, frame);
+                reply.extend(source.to_le_bytes());
+                reply.extend([sequence, u8::from(negative)]);
             }
             Play::Serve(sequence, frame, buffer) => {
                 let (at, start) = (reply.len(), reply.len() + SERVED);

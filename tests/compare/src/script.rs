@@ -51,6 +51,7 @@ fn command(line: &str, world: &World, place: usize) -> Option<Play> {
         ["save"] => Play::Save,
         ["restore", c, number] => Play::Restore(c.parse().ok()?, number.parse().ok()?),
         ["remove", number] => Play::Remove(number.parse().ok()?),
+        ["versions"] => Play::Versions,
         ["trace", trace] => Play::Trace(bytes(trace)?),
         ["play", limit] => {
             let limit: u64 = limit.parse().ok()?;
@@ -80,6 +81,13 @@ fn said(play: &Play, reply: &[u8], sheet: &[u8], store: &[u8]) -> String {
         }
         Play::Convert | Play::Restore(..) => format!("{} {}", reply[0], hex(sheet)),
         Play::Remove(_) => format!("{} {}", reply[0], hex(store)),
+        Play::Versions => {
+            let kept =
+                reply.chunks(4).map(|v| [0, 2].map(|i| u16::from_le_bytes([v[i], v[i + 1]])));
+            let kept: Vec<_> = kept.filter(|v| v[0] != 0).collect();
+            let each = |v: &[u16; 2]| format!(" {}:{}", v[0], v[1]);
+            format!("{}{}", kept.len(), kept.iter().map(each).collect::<String>())
+        }
         Play::Trace(_) if reply[0] == 0 => "OK".to_string(),
         Play::Trace(_) => reply[0].to_string(),
         Play::Pieces(..) if reply[0] != 0 => reply[0].to_string(),

@@ -23,7 +23,7 @@ pub struct Tally {
     /// Connect and disconnect, by outcome.
     named: [Counts; 2],
     /// The calls on a store, in the order of `matrix::STORE`.
-    store: [Counts; 4],
+    store: [Counts; 5],
     /// Traces checked, and played, in the order of `matrix::TRACE`; and the events handled.
     trace: [Counts; 2],
     handled: u64,
@@ -101,6 +101,7 @@ impl Tally {
             Play::Save => self.store[1].0[reply[0] as usize] += 1,
             Play::Restore(..) => self.store[2].0[reply[0] as usize] += 1,
             Play::Remove(_) => self.store[3].0[reply[0] as usize] += 1,
+            Play::Versions => self.store[4].0[usize::from(reply[..4] != [0; 4])] += 1,
             Play::Trace(_) => self.trace[0].0[reply[0] as usize] += 1,
             Play::Pieces(..) => {
                 self.trace[1].0[reply[0] as usize] += 1;

@@ -165,6 +165,10 @@ pub enum Fault {
     SecondConnectMoves,
     /// What transport alone deals with is not asked whom it is for.
     ForAnotherLast,
+    /// The source of a frame is read as if it had no additional information.
+    SourceAtFixedPlace,
+    /// The length of a version counts its entry.
+    LengthWithEntry,
     /// The answer has the hop count of the request.
     HopsCopied,
     /// What comes from the device's own address to itself is heard as anybody's.
@@ -234,7 +238,8 @@ impl Fault {
         [Fault::ConvertsToLater, Fault::ConvertClaimsUser, Fault::ConvertEndsProgramming];
 
     /// Those of the calls on a store of versions.
-    pub const STORE: [Fault; 16] = [
+    pub const STORE: [Fault; 17] = [
+        Fault::LengthWithEntry,
         Fault::NumbersFromZero,
         Fault::RoomWithoutEntry,
         Fault::PlacesBeforeNumbers,
@@ -268,7 +273,7 @@ impl Fault {
     ];
 
     /// Those of serving frames.
-    pub const LINK: [Fault; 11] = [
+    pub const LINK: [Fault; 12] = [
         Fault::StrangerActs,
         Fault::ThirdTakesPlace,
         Fault::AnswersForAnother,
@@ -280,6 +285,7 @@ impl Fault {
         Fault::HopsCopied,
         Fault::HearsItself,
         Fault::OwnUnheard,
+        Fault::SourceAtFixedPlace,
     ];
 
     /// Those by which one tool meets what the other did, though that changed no byte and was no restart.

@@ -95,6 +95,17 @@ pub fn heard(
     }
 }
 
+/// Who sent a frame that reads, its sequence number, and whether it is a negative acknowledgement; else 0, 0 and no.
+pub fn sender(fault: Fault, bytes: &[u8]) -> (u16, u8, bool) {
+    let Ok(f) = frame::read(bytes) else { return (0, 0, false) };
+    let t = f.tpdu[0];
+    let source = match fault {
+        Fault::SourceAtFixedPlace => u16::from_be_bytes([bytes[4], bytes[5]]),
+        _ => f.source as u16,
+    };
+    (source, t >> 2 & 15, t & 0xC3 == 0xC3)
+}
+
 /// What serving a frame gave.
 #[derive(Clone, Copy, Debug, Default)]
 pub struct Served {

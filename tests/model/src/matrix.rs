@@ -144,11 +144,12 @@ pub const SHEET: [(&str, &[usize]); 3] = [
 ];
 
 /// The calls on a store of versions, and the outcomes that each can have.
-pub const STORE: [(&str, &[usize]); 4] = [
+pub const STORE: [(&str, &[usize]); 5] = [
     ("check of a store", &[0, 30]),
     ("save", &[0, 4, 14, 30, 31, 32, 33]),
     ("restore", &[1, 4, 14, 30, 34, 35, 36, 37]),
     ("remove", &[1, 30, 34]),
+    ("versions, none or some", &[0, 1]),
 ];
 
 /// Why a trace is refused, and why it is not played; 0 if it is not.

@@ -101,6 +101,13 @@ pub fn check(store: &[u8]) -> u8 {
     }
 }
 
+/// The versions that a store keeps, by number and length; none of one that is not good.
+pub fn kept(fault: Fault, store: &[u8]) -> Vec<(u16, u16)> {
+    let good = Store::read(store).unwrap_or_default();
+    let entry = if fault == Fault::LengthWithEntry { ENTRY } else { 0 };
+    good.versions.iter().map(|v| (v.number, (v.body.len() + entry) as u16)).collect()
+}
+
 /// What a version of a sheet that breaks no rule holds.
 pub fn settings(sheet: &[u8]) -> Vec<u8> {
     let mut body = u16::from(sheet[2]).to_be_bytes().to_vec();

@@ -6,6 +6,7 @@ pub mod convert;
 pub mod diff;
 pub mod json;
 pub mod layout;
+pub mod list;
 pub mod make;
 pub mod place;
 pub mod program;

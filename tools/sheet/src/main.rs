@@ -13,7 +13,7 @@ use sheet::convert::converted;
 use sheet::layout::{Sheet, LONGEST};
 use sheet::program::{self, line, read, Program, Said};
 use sheet::versions::{self, Store};
-use sheet::{diff, make, show};
+use sheet::{diff, list, make, show};
 
 mod surveyed;
 
@@ -31,6 +31,9 @@ fn main() -> ExitCode {
             load(file).map(|bytes| shown(&bytes, true))
         }
         ["show", file] => load(file).map(|bytes| shown(&bytes, false)),
+        ["make", "--c", text] | ["make", text, "--c"] => {
+            made(text).map(|(sheet, status)| (list::text(&sheet).into_bytes(), status))
+        }
         ["make", text] => made(text),
         ["diff", a, b] => differ(a, b),
         ["convert", "--force", old, new] | ["convert", old, new, "--force"] => {

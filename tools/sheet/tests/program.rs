@@ -71,6 +71,18 @@ fn show_and_make() {
     fs::write(room.join("text"), &text).unwrap();
     let made = run(&room, &["make", "text"]);
     assert_eq!((made.status.code(), made.stdout, made.stderr), (Some(0), SAMPLE.to_vec(), vec![]));
+    let listed = told(&room, &["make", "--c", "text"]);
+    assert_eq!(listed, told(&room, &["make", "text", "--c"]));
+    assert_eq!((listed.0, listed.2.as_str()), (0, ""));
+    let byte = |word: &str| u8::from_str_radix(word.strip_prefix("0x")?, 16).ok();
+    let lines = listed.1.lines().filter(|line| !line.starts_with("/*"));
+    assert!(lines.clone().all(|line| line.len() < 16 * 6 && line.ends_with(',')));
+    let bytes: Vec<u8> = lines
+        .flat_map(|line| line.split(", "))
+        .filter_map(|w| byte(w.trim_end_matches(',')))
+        .collect();
+    assert_eq!(bytes, SAMPLE);
+    assert_eq!(told(&room, &["make", "--c", "noise"]), told(&room, &["make", "noise"]));
     let hidden = told(&room, &["show", "sample"]).1;
     assert!(
         hidden.contains(

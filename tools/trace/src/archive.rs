@@ -37,6 +37,9 @@ pub struct Arrival {
     pub event: u8,
     pub connection: u8,
     pub group: u16,
+    pub source: u16,
+    pub sequence: u8,
+    pub negative: bool,
 }
 
 /// As `kelindap_frame`.

@@ -28,7 +28,11 @@ fn free(link: &Link) -> Option<u8> {
 /// What a frame is to the device with this sheet.
 pub fn heard(link: Link, sheet: &[u8], frame: &[u8]) -> Arrival {
     let f = archive::frame_read(frame);
-    let nothing = |event| Arrival { event, connection: NOBODY, group: 0 };
+    let (source, sequence) = (f.source, f.transport & 15);
+    let negative = f.outcome == 0 && frame[f.tpdu_offset] & 0xC3 == 0xC3;
+    let arrived =
+        |event, connection, group| Arrival { event, connection, group, source, sequence, negative };
+    let nothing = |event| arrived(event, NOBODY, 0);
     if f.outcome != 0 {
         return nothing(f.outcome);
     }
@@ -38,7 +42,7 @@ pub fn heard(link: Link, sheet: &[u8], frame: &[u8]) -> Arrival {
     let place = place_of(&link, f.source);
     let (place, none) = match f.event {
         mode if mode < CONNECTED => {
-            return Arrival { event: mode, connection: NOBODY, group: f.destination };
+            return arrived(mode, NOBODY, f.destination);
         }
         CONNECTED => (place, 61),
         CONNECT => (place.or(free(&link)), 62),
@@ -46,5 +50,5 @@ pub fn heard(link: Link, sheet: &[u8], frame: &[u8]) -> Arrival {
         other => (Some(place.unwrap_or(NOBODY)), other),
     };
     let group = if f.event == CONNECTED { f.destination } else { 0 };
-    place.map_or(nothing(none), |connection| Arrival { event: f.event, connection, group })
+    place.map_or(nothing(none), |connection| arrived(f.event, connection, group))
 }

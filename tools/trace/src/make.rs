@@ -191,7 +191,7 @@ impl Hearing {
             DISCONNECT => Ok(Event::disconnect(heard.connection)),
             CONNECTED => {
                 let last = &mut self.sequence[usize::from(heard.connection)];
-                let sequence = Some(f.transport & 15);
+                let sequence = Some(heard.sequence);
                 if *last == sequence {
                     return Err(Why::Repeated);
                 }

@@ -65,14 +65,14 @@ abbrev stayed : Stays (f.ended .signature .params) (f.ended .kept)
 stayed = (
   stay-ref (0 ∷ []) tt (plain (λ _. T.the-row)),
   (
-    stay-dropped (plain (λ _. u8)) yes,
+    gave-slice (1 ∷ []) tt (plain (λ _. u8)),
     (
       stay-dropped (plain (λ _. u8)) yes,
       (
-        stay-dropped (plain (λ _. u16)) yes,
+        stay-dropped (plain (λ _. u8)) yes,
         (
-          stay-dropped (shrSliceOf (1 ∷ []) tt (plain (λ _. u8))) yes,
-          (gave-slice (2 ∷ []) tt (plain (λ _. u8)), (gave-slice (3 ∷ []) tt (plain (λ _. u8)), tt)),
+          stay-dropped (plain (λ _. u16)) yes,
+          (stay-dropped (shrSliceOf (2 ∷ []) tt (plain (λ _. u8))) yes, (gave-slice (3 ∷ []) tt (plain (λ _. u8)), tt)),
         ),
       ),
     ),
@@ -87,7 +87,7 @@ vals = LL.vals T.the-type T′.the-laws
 
 module _ {M : Type 1} (𝓤 : URA M) (H : Heap 𝓤) (A : Atoms 𝓤) (W : Given 𝓤 H A) (at-mem : Memory → SProp 𝓤) (run : Routine → Fun 𝓤) (κ κ₁ κ₂ κ₃ : Lft) (q q₁ q₂ q₃ : Share) (b o : ℕ) (γ : GName) (h : Sessions) (m c n : ℕ) (x₁ x₂ x₃ : RefT (List ℕ)) where
   abbrev a : Args f.signature (κ, (κ₁, (κ₂, (κ₃, tt))))
-  a = (record { ptr = (b, o); name = γ; now = h }, (m, (c, (n, (x₁, (x₂, (x₃, tt)))))))
+  a = (record { ptr = (b, o); name = γ; now = h }, (x₁, (m, (c, (n, (x₂, (x₃, tt)))))))
 
   abbrev s₁ : Val
   s₁ = sliceVal (x₁ .ptr) (length (x₁ .now))
@@ -99,17 +99,17 @@ module _ {M : Type 1} (𝓤 : URA M) (H : Heap 𝓤) (A : Atoms 𝓤) (W : Given
   s₃ = sliceVal (x₃ .ptr) (length (x₃ .now))
 
   abbrev at : Vals f.signature (κ, (κ₁, (κ₂, (κ₃, tt))))
-  at = (vptr b o ∷ [], (vint w8 m ∷ [], (vint w8 c ∷ [], (vint w16 n ∷ [], (s₁ ∷ [], (s₂ ∷ [], (s₃ ∷ [], tt)))))))
+  at = (vptr b o ∷ [], (s₁ ∷ [], (vint w8 m ∷ [], (vint w8 c ∷ [], (vint w16 n ∷ [], (s₂ ∷ [], (s₃ ∷ [], tt)))))))
 
   abbrev Post : Val → SProp 𝓤
   Post = walkOf 𝓤 H A f.ended stayed (f.clauses 𝓤 H A at-mem run) .post (((κ, (κ₁, (κ₂, (κ₃, tt)))), (q, (q₁, (q₂, (q₃, tt)))), tt, a, at), tt)
 
   -- what `request` is passed
   abbrev a′ : Args g.signature (κ₁, (κ₂, (κ₃, tt)))
-  a′ = (h, (m, (c, (n, (x₁, (x₂, (x₃, tt)))))))
+  a′ = (h, (x₁, (m, (c, (n, (x₂, (x₃, tt)))))))
 
   abbrev at′ : Vals g.signature (κ₁, (κ₂, (κ₃, tt)))
-  at′ = (vals h, (vint w8 m ∷ [], (vint w8 c ∷ [], (vint w16 n ∷ [], (s₁ ∷ [], (s₂ ∷ [], (s₃ ∷ [], tt)))))))
+  at′ = (vals h, (s₁ ∷ [], (vint w8 m ∷ [], (vint w8 c ∷ [], (vint w16 n ∷ [], (s₂ ∷ [], (s₃ ∷ [], tt)))))))
 
   abbrev to : Request 𝓤 H A at-mem run .Ghost
   to = (((κ₁, (κ₂, (κ₃, tt))), (q₁, (q₂, (q₃, tt))), tt, a′, at′), tt)
@@ -118,14 +118,14 @@ module _ {M : Type 1} (𝓤 : URA M) (H : Heap 𝓤) (A : Atoms 𝓤) (W : Given
   tokens = ‵ (flft κ₁ q₁) ⊛ ‵ (flft κ₂ q₂) ⊛ ‵ (flft κ₃ q₃) ⊛ ‵ ftrue
 
   abbrev others : Item 𝓤
-  others = ‵ (owns (u8 ∷ u8 ∷ u16 ∷ ShrSlice (named 0) κ₁ u8 ∷ MutSlice (named 1) κ₂ u8 ∷ MutSlice (named 2) κ₃ u8 ∷ []) (m, (c, (n, (x₁, (x₂, (x₃, tt)))))) (at′ .1))
+  others = ‵ (owns (MutSlice (named 0) κ₁ u8 ∷ u8 ∷ u8 ∷ u16 ∷ ShrSlice (named 1) κ₂ u8 ∷ MutSlice (named 2) κ₃ u8 ∷ []) (x₁, (m, (c, (n, (x₂, (x₃, tt)))))) (at′ .1))
 
   goes : ent 𝓤 (⋆ 𝓤 H A (tokens ∷ ‵ (T.the-row .own h (vals h)) ∷ others ∷ [])) (Request 𝓤 H A at-mem run .pre to)
   goes = qed W (tokens ∷ ‵ (T.the-row .own h (vals h)) ∷ others ∷ []) ∵ move ! (1 ∷ 2 ∷ []) $ fjoin ! $ move ! (1 ∷ 0 ∷ []) $ join ! $ frame ! $ done !
 
   -- what `request` ensures
   abbrev Ensures : Replied → List ℕ → List ℕ → Type 0
-  Ensures r ys zs = Requested h m c n (x₁ .now) (x₂ .now) (x₃ .now) (gaveBack r) ys zs
+  Ensures r ys zs = Requested h m c n (x₂ .now) (x₁ .now) (x₃ .now) (gaveBack r) ys zs
 
   -- the answer, and what is known of the fields of what `request` returns
   abbrev ans : Replied → Reply
@@ -137,43 +137,43 @@ module _ {M : Type 1} (𝓤 : URA M) (H : Heap 𝓤) (A : Atoms 𝓤) (W : Given
   made : (r : Replied) (w : Val) → Is D.the-row r (w ∷ []) → Is R.the-row (ans r) (LL.vals R.the-type R′.the-laws (ans r))
   made r w is = LL.owes R.the-type R′.the-laws (ans r) (LL.owed D.the-type D′.the-laws r _ is .0, (LL.owed D.the-type D′.the-laws r _ is .1 .0, (LL.owed D.the-type D′.the-laws r _ is .1 .1 .1 .0, tt)))
 
-  exits : (r : Replied) (w : Val) (ys zs : List ℕ) → Is D.the-row r (w ∷ []) → Ensures r ys zs → length ys ≡ length (x₂ .now) → length zs ≡ length (x₃ .now)
-      → ent 𝓤 (⋆ 𝓤 H A (‵ (fobs γ (T.the-row .coded .code (r .sessions))) ∷ ‵ (fbor κ (Body (mem T.the-row) b o γ)) ∷ ‵ (flft κ q) ∷ tokens ∷ ‵ (finally u8 (x₂ .name) ys) ∷ ‵ (finally u8 (x₃ .name) zs) ∷ [])) (Post (R′.lowered (ans r)))
-  exits r w ys zs is e l₂ l₃ =
-      qed W (‵ (fobs γ (T.the-row .coded .code (r .sessions))) ∷ ‵ (fbor κ (Body (mem T.the-row) b o γ)) ∷ ‵ (flft κ q) ∷ tokens ∷ ‵ (finally u8 (x₂ .name) ys) ∷ ‵ (finally u8 (x₃ .name) zs) ∷ []) ∵
+  exits : (r : Replied) (w : Val) (ys zs : List ℕ) → Is D.the-row r (w ∷ []) → Ensures r ys zs → length ys ≡ length (x₁ .now) → length zs ≡ length (x₃ .now)
+      → ent 𝓤 (⋆ 𝓤 H A (‵ (fobs γ (T.the-row .coded .code (r .sessions))) ∷ ‵ (fbor κ (Body (mem T.the-row) b o γ)) ∷ ‵ (flft κ q) ∷ tokens ∷ ‵ (finally u8 (x₁ .name) ys) ∷ ‵ (finally u8 (x₃ .name) zs) ∷ [])) (Post (R′.lowered (ans r)))
+  exits r w ys zs is e l₁ l₃ =
+      qed W (‵ (fobs γ (T.the-row .coded .code (r .sessions))) ∷ ‵ (fbor κ (Body (mem T.the-row) b o γ)) ∷ ‵ (flft κ q) ∷ tokens ∷ ‵ (finally u8 (x₁ .name) ys) ∷ ‵ (finally u8 (x₃ .name) zs) ∷ []) ∵
       suffices ! _ (ends-at 𝓤 H A f.ended stayed (f.clauses 𝓤 H A at-mem run) W (((κ, (κ₁, (κ₂, (κ₃, tt)))), (q, (q₁, (q₂, (q₃, tt)))), tt, a, at), tt) (R′.lowered (ans r)) (ans r)
-      (r .sessions, (tt, (tt, (tt, (tt, (ys, (zs, tt))))))) (tt, (tt, (tt, (tt, (tt, (l₂, (l₃, tt)))))))) $
+      (r .sessions, (ys, (tt, (tt, (tt, (tt, (zs, tt))))))) (tt, (l₁, (tt, (tt, (tt, (tt, (l₃, tt)))))))) $
       says ! e $ move ! (2 ∷ 3 ∷ []) $ join ! $ frame ! $
-      feqI ! (List Val) (vptr b o ∷ []) (vptr b o ∷ []) refl $ fjoin3 ! $ nothing ! $ move ! (3 ∷ 0 ∷ []) $ fjoin ! $ move ! (2 ∷ 0 ∷ []) $ fjoin ! $ nothing ! $ fjoin ! $ nothing ! $ fjoin ! $ nothing ! $ fjoin ! $ nothing ! $ fjoin ! $ move ! (1 ∷ 0 ∷ []) $ fjoin ! $
+      feqI ! (List Val) (vptr b o ∷ []) (vptr b o ∷ []) refl $ fjoin3 ! $ nothing ! $ move ! (3 ∷ 0 ∷ []) $ fjoin ! $ nothing ! $ fjoin ! $ nothing ! $ fjoin ! $ nothing ! $ fjoin ! $ nothing ! $ fjoin ! $ move ! (2 ∷ 0 ∷ []) $ fjoin ! $ move ! (1 ∷ 0 ∷ []) $ fjoin ! $
       owned ! R.the-row (Is R.the-row) (LL.makes R.the-type R′.the-plain 𝓤 H A) (ans r) _ (made r w is) $ move ! (1 ∷ 0 ∷ []) $ done !
 
   module _ (C : Calls 𝓤 H) (Λ : Loops 𝓤 H) (fm : FmC 𝓤 H (W .laws) C) (known : Triple 𝓤 (C #host·request) (Request 𝓤 H A at-mem run)) where
-    walk : m < 2 ^ 8 → c < 2 ^ 8 → n < 2 ^ 16 → Room u8 (length (x₁ .now)) → Room u8 (length (x₂ .now)) → Room u8 (length (x₃ .now))
-        → ent 𝓤 (onEntry 𝓤 H A f.signature (κ, (κ₁, (κ₂, (κ₃, tt)))) (q, (q₁, (q₂, (q₃, tt)))) a at) (WpFn 𝓤 H C Λ code.function (vptr b o ∷ vint w8 m ∷ vint w8 c ∷ vint w16 n ∷ s₁ ∷ s₂ ∷ s₃ ∷ []) Post)
-    walk m-fits c-fits n-fits room₁ room₂ room₃ =
-        qed W ((‵ (flft κ q) ⊛ tokens) ∷ ‵ (owns (MutRef (named 0) κ T.the-row ∷ u8 ∷ u8 ∷ u16 ∷ ShrSlice (named 1) κ₁ u8 ∷ MutSlice (named 2) κ₂ u8 ∷ MutSlice (named 3) κ₃ u8 ∷ []) a at) ∷ []) ∵
-        enter ! C Λ code.function (vptr b o ∷ vint w8 m ∷ vint w8 c ∷ vint w16 n ∷ s₁ ∷ s₂ ∷ s₃ ∷ []) _ $
+    walk : Room u8 (length (x₁ .now)) → m < 2 ^ 8 → c < 2 ^ 8 → n < 2 ^ 16 → Room u8 (length (x₂ .now)) → Room u8 (length (x₃ .now))
+        → ent 𝓤 (onEntry 𝓤 H A f.signature (κ, (κ₁, (κ₂, (κ₃, tt)))) (q, (q₁, (q₂, (q₃, tt)))) a at) (WpFn 𝓤 H C Λ code.function (vptr b o ∷ s₁ ∷ vint w8 m ∷ vint w8 c ∷ vint w16 n ∷ s₂ ∷ s₃ ∷ []) Post)
+    walk room₁ m-fits c-fits n-fits room₂ room₃ =
+        qed W ((‵ (flft κ q) ⊛ tokens) ∷ ‵ (owns (MutRef (named 0) κ T.the-row ∷ MutSlice (named 1) κ₁ u8 ∷ u8 ∷ u8 ∷ u16 ∷ ShrSlice (named 2) κ₂ u8 ∷ MutSlice (named 3) κ₃ u8 ∷ []) a at) ∷ []) ∵
+        enter ! C Λ code.function (vptr b o ∷ s₁ ∷ vint w8 m ∷ vint w8 c ∷ vint w16 n ∷ s₂ ∷ s₃ ∷ []) _ $
         alloc1 ! (λ l₀. alloc1 ! (λ l₁. alloc1 ! (λ l₂. alloc1 ! (λ l₃. alloc1 ! (λ l₄. alloc1 ! (λ l₅. alloc1 ! (λ l₆. alloc1 ! (λ l₇. alloc1 ! (λ l₈. alloc1 ! (λ l₉. alloc1 ! (λ l₁₀. alloc1 ! (λ l₁₁. alloc1 ! (λ l₁₂. alloc1 ! (λ l₁₃. alloc0 ! $ params1 ! $
-        pass1 ! (init ! 24 refl (tt, tt)) $ pass1 ! (init ! 22 refl (tt, record { fits = m-fits })) $ pass1 ! (init ! 20 refl (tt, record { fits = c-fits })) $ pass1 ! (init ! 18 refl (tt, record { fits = n-fits })) $ pass1 ! (init ! 16 refl (tt, (tt, (record { fits = room₁ .0 }, tt)))) $
+        pass1 ! (init ! 24 refl (tt, tt)) $ pass1 ! (init ! 22 refl (tt, (tt, (record { fits = room₁ .0 }, tt)))) $ pass1 ! (init ! 20 refl (tt, record { fits = m-fits })) $ pass1 ! (init ! 18 refl (tt, record { fits = c-fits })) $ pass1 ! (init ! 16 refl (tt, record { fits = n-fits })) $
         pass1 ! (init ! 14 refl (tt, (tt, (record { fits = room₂ .0 }, tt)))) $ pass1 ! (init ! 12 refl (tt, (tt, (record { fits = room₃ .0 }, tt)))) $ pass0 ! $
         -- the borrow of the sessions is opened
         move ! (29 ∷ []) $ fsplit ! $ fsplit3 ! $ drop ! $ move ! (31 ∷ []) $ split ! $ move ! (2 ∷ 3 ∷ 0 ∷ []) $
         opened ! tt T.the-type T′.the-laws h b o (λ was.
         -- [the cell; what the sessions own; the open borrow; obs; auth; the tokens; what the others own; _13; …; _12; …; _11; …; _10; …; _9; …; _8; …; _7; …; _6; …; _5; …; _4; …; _3; …; _2; …; _1; …; room for _0; …]
         assigns ! (of-opd ! (load ! (from ! (hop ! (look ! 31 refl) (stop !))) (look-raw ! 0 refl))) (from ! (stop !)) (init ! 15 refl (LL.lawful T.the-type T′.the-laws 𝓤 H A W .typed h _ was .0)) $
-        assigns ! (addr ! (from ! (fld ! refl (hop ! (look-in ! 21 (sub ! 0 refl (whole !))) (stop !))))) (from ! (stop !)) (init ! 13 refl (tt, tt)) $
-        assigns ! (agg ! (and-then ! (load ! (from ! (stop !)) (look ! 13 refl)) (and-then ! (load ! (from ! (fld ! refl (stop !))) (look-in ! 21 (sub ! 1 refl (whole !)))) (no-more !)))) (from ! (stop !)) (init ! 11 refl (tt, (tt, (record { fits = room₂ .0 }, tt)))) $
+        assigns ! (addr ! (from ! (fld ! refl (hop ! (look-in ! 29 (sub ! 0 refl (whole !))) (stop !))))) (from ! (stop !)) (init ! 13 refl (tt, tt)) $
+        assigns ! (agg ! (and-then ! (load ! (from ! (stop !)) (look ! 13 refl)) (and-then ! (load ! (from ! (fld ! refl (stop !))) (look-in ! 29 (sub ! 1 refl (whole !)))) (no-more !)))) (from ! (stop !)) (init ! 11 refl (tt, (tt, (record { fits = room₁ .0 }, tt)))) $
         assigns ! (addr ! (from ! (fld ! refl (hop ! (look-in ! 19 (sub ! 0 refl (whole !))) (stop !))))) (from ! (stop !)) (init ! 9 refl (tt, tt)) $
         assigns ! (agg ! (and-then ! (load ! (from ! (stop !)) (look ! 9 refl)) (and-then ! (load ! (from ! (fld ! refl (stop !))) (look-in ! 19 (sub ! 1 refl (whole !)))) (no-more !)))) (from ! (stop !)) (init ! 7 refl (tt, (tt, (record { fits = room₃ .0 }, tt)))) $
         -- the call
         move ! (5 ∷ 1 ∷ 6 ∷ []) $ use3 W (raw (Request 𝓤 H A at-mem run .pre to)) goes $
-        calls-at ! fm (Request 𝓤 H A at-mem run) known to (and-then ! (load ! (from ! (stop !)) (look ! 13 refl)) (and-then ! (load ! (from ! (stop !)) (look ! 27 refl)) (and-then ! (load ! (from ! (stop !)) (look ! 25 refl)) (and-then ! (load ! (from ! (stop !)) (look ! 23 refl))
-        (and-then ! (load ! (from ! (stop !)) (look ! 21 refl)) (and-then ! (load ! (from ! (stop !)) (look ! 9 refl)) (and-then ! (load ! (from ! (stop !)) (look ! 5 refl)) (no-more !)))))))) (λ w.
+        calls-at ! fm (Request 𝓤 H A at-mem run) known to (and-then ! (load ! (from ! (stop !)) (look ! 13 refl)) (and-then ! (load ! (from ! (stop !)) (look ! 9 refl)) (and-then ! (load ! (from ! (stop !)) (look ! 25 refl)) (and-then ! (load ! (from ! (stop !)) (look ! 23 refl))
+        (and-then ! (load ! (from ! (stop !)) (look ! 21 refl)) (and-then ! (load ! (from ! (stop !)) (look ! 19 refl)) (and-then ! (load ! (from ! (stop !)) (look ! 5 refl)) (no-more !)))))))) (λ w.
         use1 W (later (some (λ (r : Replied). (tokens ⊛ ‵ (D.the-row .own r (w ∷ []))) ⊛ raw (ensured 𝓤 H A g.ended (g.clauses 𝓤 H A at-mem run) (κ₁, (κ₂, (κ₃, tt))) a′ tt r)))) (id⊢ 𝓤 _) $ await ! tt $ pick ! (λ r.
         split ! $ move ! (1 ∷ []) $ use1 W (some (λ (zs : Lasts g.ended (κ₁, (κ₂, (κ₃, tt))) a′). ‵ (lasts g.ended (κ₁, (κ₂, (κ₃, tt))) a′ zs)
-        ⊛ raw (fact 𝓤 (Ensures r (zs .1 .1 .1 .1 .1 .0) (zs .1 .1 .1 .1 .1 .1 .0))))) (id⊢ 𝓤 _) $ pick ! (λ zs.
+        ⊛ raw (fact 𝓤 (Ensures r (zs .1 .0) (zs .1 .1 .1 .1 .1 .1 .0))))) (id⊢ 𝓤 _) $ pick ! (λ zs.
         split ! $ move ! (1 ∷ []) $ heard ! _ (λ e.
-        fsplit ! $ drop ! $ fsplit ! $ drop ! $ fsplit ! $ drop ! $ fsplit ! $ drop ! $ fsplit ! $ drop ! $ fsplit ! $ fsplit ! $ move ! (1 ∷ []) $ feqL ! (λ len₂. move ! (1 ∷ []) $ fsplit ! $ fsplit ! $ move ! (1 ∷ []) $ feqL ! (λ len₃.
+        fsplit ! $ drop ! $ fsplit ! $ fsplit ! $ move ! (1 ∷ []) $ feqL ! (λ len₁. move ! (1 ∷ []) $ fsplit ! $ drop ! $ fsplit ! $ drop ! $ fsplit ! $ drop ! $ fsplit ! $ drop ! $ fsplit ! $ fsplit ! $ move ! (1 ∷ []) $ feqL ! (λ len₃.
         -- [out's last list; true; the sheet's last list; the tokens and the result; the cell; the open borrow; obs; auth; _13; …]
         move ! (3 ∷ []) $ split ! $ move ! (1 ∷ []) $ peeks ! D.the-row (Is D.the-row) (shows 𝓤 H A D.the-row) r (w ∷ []) (λ is.
         -- [the result; the tokens; out's last list; true; the sheet's last list; the cell; the open borrow; obs; auth; _13; …]
@@ -187,27 +187,27 @@ module _ {M : Type 1} (𝓤 : URA M) (H : Heap 𝓤) (A : Atoms 𝓤) (W : Given
         returns ! (look ! 34 refl) $ forget ! 8 refl $ forget ! 10 refl $ forget ! 12 refl $ forget ! 14 refl $ forget ! 16 refl $ forget ! 18 refl $ forget ! 20 refl $ forget ! 22 refl $ forget ! 24 refl $ forget ! 26 refl $ forget ! 28 refl $ forget ! 30 refl $ forget ! 32 refl $ forget ! 34 refl $
         move ! (34 ∷ 35 ∷ []) $ free1 ! $ move ! (32 ∷ 33 ∷ []) $ free1 ! $ move ! (30 ∷ 31 ∷ []) $ free1 ! $ move ! (28 ∷ 29 ∷ []) $ free1 ! $ move ! (26 ∷ 27 ∷ []) $ free1 ! $ move ! (24 ∷ 25 ∷ []) $ free1 ! $ move ! (22 ∷ 23 ∷ []) $ free1 ! $ move ! (20 ∷ 21 ∷ []) $ free1 ! $ move ! (18 ∷ 19 ∷ []) $ free1 ! $
         move ! (16 ∷ 17 ∷ []) $ free1 ! $ move ! (14 ∷ 15 ∷ []) $ free1 ! $ move ! (12 ∷ 13 ∷ []) $ free1 ! $ move ! (10 ∷ 11 ∷ []) $ free1 ! $ move ! (8 ∷ 9 ∷ []) $ free1 ! $ free0 ! $
-        keep ! (0 ∷ 1 ∷ 2 ∷ 4 ∷ 7 ∷ 5 ∷ []) $ by ! (exits r w _ _ is e len₂ len₃)))))))))))))))))))))))
+        keep ! (0 ∷ 1 ∷ 2 ∷ 4 ∷ 7 ∷ 5 ∷ []) $ by ! (exits r w _ _ is e len₁ len₃)))))))))))))))))))))))
 
 module _ {M : Type 1} (𝓤 : URA M) (H : Heap 𝓤) (A : Atoms 𝓤) (W : Given 𝓤 H A) (mem : Memory → SProp 𝓤) (run : Routine → Fun 𝓤) where
   walks : (C : Calls 𝓤 H) (Λ : Loops 𝓤 H) → FmC 𝓤 H (W .laws) C → Triple 𝓤 (C #host·request) (Request 𝓤 H A mem run) → Walks 𝓤 H A f.ended stayed (WpFn 𝓤 H C Λ code.function) (f.clauses 𝓤 H A mem run)
-  walks C Λ fm known = walked 𝓤 H A f.ended stayed (f.clauses 𝓤 H A mem run) (WpFn 𝓤 H C Λ code.function) (λ κs. (ptr-vals, (uint-vals w8, (uint-vals w8, (uint-vals w16, (slice-vals, (slice-vals, (slice-vals, tt))))))))
-      (λ κs. (mut-tells (named 0) (κs .0) T.the-row, (uint-tells w8, (uint-tells w8, (uint-tells w16, (shr-slice-tells (named 1) (κs .1 .0) u8, (mut-slice-tells (named 2) (κs .1 .1 .0) u8, (mut-slice-tells (named 3) (κs .1 .1 .1 .0) u8, tt))))))))
-      (λ κs qs bounds a _ are. via 𝓤 _ (fst∗ 𝓤 _ (emp 𝓤)) (walk 𝓤 H A W mem run (κs .0) (κs .1 .0) (κs .1 .1 .0) (κs .1 .1 .1 .0) (qs .0) (qs .1 .0) (qs .1 .1 .0) (qs .1 .1 .1 .0) (a .0 .ptr .0) (a .0 .ptr .1) (a .0 .name) (a .0 .now) (a .1 .0) (a .1 .1 .0) (a .1 .1 .1 .0) (a .1 .1 .1 .1 .0) (a .1 .1 .1 .1 .1 .0) (a .1 .1 .1 .1 .1 .1 .0) C Λ fm known
-      (are .1 .0 .1) (are .1 .1 .0 .1) (are .1 .1 .1 .0 .1) (are .1 .1 .1 .1 .0 .0 .1) (are .1 .1 .1 .1 .1 .0 .0 .1) (are .1 .1 .1 .1 .1 .1 .0 .0 .1)))
+  walks C Λ fm known = walked 𝓤 H A f.ended stayed (f.clauses 𝓤 H A mem run) (WpFn 𝓤 H C Λ code.function) (λ κs. (ptr-vals, (slice-vals, (uint-vals w8, (uint-vals w8, (uint-vals w16, (slice-vals, (slice-vals, tt))))))))
+      (λ κs. (mut-tells (named 0) (κs .0) T.the-row, (mut-slice-tells (named 1) (κs .1 .0) u8, (uint-tells w8, (uint-tells w8, (uint-tells w16, (shr-slice-tells (named 2) (κs .1 .1 .0) u8, (mut-slice-tells (named 3) (κs .1 .1 .1 .0) u8, tt))))))))
+      (λ κs qs bounds a _ are. via 𝓤 _ (fst∗ 𝓤 _ (emp 𝓤)) (walk 𝓤 H A W mem run (κs .0) (κs .1 .0) (κs .1 .1 .0) (κs .1 .1 .1 .0) (qs .0) (qs .1 .0) (qs .1 .1 .0) (qs .1 .1 .1 .0) (a .0 .ptr .0) (a .0 .ptr .1) (a .0 .name) (a .0 .now) (a .1 .1 .0) (a .1 .1 .1 .0) (a .1 .1 .1 .1 .0) (a .1 .0) (a .1 .1 .1 .1 .1 .0) (a .1 .1 .1 .1 .1 .1 .0) C Λ fm known
+      (are .1 .0 .0 .1) (are .1 .1 .0 .1) (are .1 .1 .1 .0 .1) (are .1 .1 .1 .1 .0 .1) (are .1 .1 .1 .1 .1 .0 .0 .1) (are .1 .1 .1 .1 .1 .1 .0 .0 .1)))
 
   all-go : AllGo 𝓤 H A W 4 (f.signature .params) (f.ended .kept) stayed
   all-go = (
     goes-ref 𝓤 H A W 4 0 tt (plain (λ _. T.the-row)),
     (
-      goes-dropped 𝓤 H A W 4 (plain (λ _. u8)) yes (λ κs x f. refl),
+      goes-gave-slice 𝓤 H A W 4 1 tt (plain (λ _. u8)),
       (
         goes-dropped 𝓤 H A W 4 (plain (λ _. u8)) yes (λ κs x f. refl),
         (
-          goes-dropped 𝓤 H A W 4 (plain (λ _. u16)) yes (λ κs x f. refl),
+          goes-dropped 𝓤 H A W 4 (plain (λ _. u8)) yes (λ κs x f. refl),
           (
-            goes-dropped 𝓤 H A W 4 (shrSliceOf (1 ∷ []) tt (plain (λ _. u8))) yes (λ κs x f. refl),
-            (goes-gave-slice 𝓤 H A W 4 2 tt (plain (λ _. u8)), (goes-gave-slice 𝓤 H A W 4 3 tt (plain (λ _. u8)), tt)),
+            goes-dropped 𝓤 H A W 4 (plain (λ _. u16)) yes (λ κs x f. refl),
+            (goes-dropped 𝓤 H A W 4 (shrSliceOf (2 ∷ []) tt (plain (λ _. u8))) yes (λ κs x f. refl), (goes-gave-slice 𝓤 H A W 4 3 tt (plain (λ _. u8)), tt)),
           ),
         ),
       ),

@@ -36,13 +36,13 @@ struct CPlainReply {
 extern "C" {
     fn kelindap_plain_request(
         sessions: *mut [CSession; 2],
+        sheet: *mut u8,
+        sheet_length: usize,
         mode: u8,
         connection: u8,
         group: u16,
         apdu: *const u8,
         apdu_length: usize,
-        sheet: *mut u8,
-        sheet_length: usize,
         answer: *mut u8,
         answer_length: usize,
     ) -> CPlainReply;
@@ -68,13 +68,13 @@ fn plain(bench: &Bench, mode: u8, apdu: &[u8], sheet: &mut [u8]) -> Given {
     let reply = unsafe {
         kelindap_plain_request(
             &mut sessions,
+            sheet.as_mut_ptr(),
+            sheet.len(),
             mode,
             0,
             bench.group,
             apdu.as_ptr(),
             apdu.len(),
-            sheet.as_mut_ptr(),
-            sheet.len(),
             answer.as_mut_ptr(),
             answer.len(),
         )

@@ -35,13 +35,13 @@ struct CServed {
 extern "C" {
     fn kelindap_serve(
         link: *mut CLink,
-        sequence: u8,
-        frame: *const u8,
-        frame_length: usize,
         sheet: *mut u8,
         sheet_length: usize,
+        frame: *const u8,
+        frame_length: usize,
         out: *mut u8,
         out_length: usize,
+        sequence: u8,
     ) -> CServed;
 }
 
@@ -57,7 +57,7 @@ fn proved(sheet: &mut [u8], out: &mut [u8]) -> [u8; 4] {
     let mut link = CLink { sessions, address: ADDRESSES };
     let (n, m) = (sheet.len(), out.len());
     let (frame, sheet, out) = (FRAME.as_ptr(), sheet.as_mut_ptr(), out.as_mut_ptr());
-    let s = unsafe { kelindap_serve(&mut link, 0, frame, FRAME.len(), sheet, n, out, m) };
+    let s = unsafe { kelindap_serve(&mut link, sheet, n, frame, FRAME.len(), out, m, 0) };
     [s.number, s.outcome, s.connection, s.count]
 }
 

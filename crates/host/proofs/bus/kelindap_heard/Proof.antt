@@ -7,4 +7,4 @@ use Rattle.host.proofs.bus.kelindap_heard.Tie as tie
 
 pub kelindap-heard-spec : {M : Type 1} → statement M
 kelindap-heard-spec =
-    tie.close (tie.spec (λ c κs. search needs) (λ c κs. search needs) (λ c κs. search needs) (λ c. search laid-heard))
+    tie.close (tie.spec (λ c κs. search needs) (λ c κs. search needs) (λ c κs. search needs) (λ c κs. search needs) (λ c. search laid-heard))

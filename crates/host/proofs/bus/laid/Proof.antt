@@ -9,7 +9,8 @@ pub laid-spec : {M : Type 1} → statement M
 laid-spec =
     tie.close
     (tie.spec
-    (λ c. search needs) (λ c. search needs) (λ c. search needs) (λ c. search needs)
+    (λ c. search needs) (λ c κs. search needs) (λ c. search needs) (λ c κs. search needs)
+    (λ c. search needs) (λ c κs. search needs) (λ c. search needs) (λ c κs. search needs)
     (λ c. search laid-request)
     (λ c. search laid-connect)
     (λ c. search laid-disconnect)

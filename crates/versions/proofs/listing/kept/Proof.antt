@@ -1,0 +1,28 @@
+-- `versions::listing::kept` meets its contract.
+-- Assumes nothing.
+use borrow.Author.Needs.{needs}
+use Rattle.octets.specs.Octets.{Octets}
+use Rattle.versions.proofs.Lists.{bad-listed, listed-head, past-listed, number-room, long-room, some-listed}
+use Rattle.versions.proofs.listing.kept.Statement.{statement}
+use Rattle.versions.proofs.listing.kept.Tie as tie
+
+returns-3 : tie.Need-returns-3
+returns-3 c =
+    let b : Octets (c .before .before .before .before .before .before .before .args .store .now) = λ i. c .before .before .before .before .before .before .shared-slice-known .given i .fits in
+    search some-listed
+
+pub kept-spec : {M : Type 1} → statement M
+kept-spec =
+    tie.close
+    (tie.spec
+    (λ c κs. search needs) (λ c κs. search needs)
+    (λ c. search bad-listed)
+    (λ c κs. search listed-head)
+    (λ c κs. search needs)
+    (λ c. search past-listed)
+    (λ c. search needs) (λ c. search needs) (λ c. search needs)
+    (λ c κs. search number-room)
+    (λ c. search needs) (λ c. search needs)
+    (λ c κs. search long-room)
+    (λ c. search needs)
+    returns-3)
