@@ -23,7 +23,7 @@ use Rattle.versions.specs.Restoring.{sameEntry, lowCount, sameEntries, lowCount
 use Rattle.versions.specs.Example.{empty}
 use Rattle.history.specs.Keeps.{stateAfter}
 use Rattle.history.specs.Isolation.{same}
-use Rattle.history.specs.Acts.{Act, does, restores, saves, eventsOf, storeAfter, BesideActs, begin, storesBoth, sharedRestore, oneMore, oneRestore, otherRestore, ActsIsolated}
+use Rattle.history.specs.Acts.{Act, does, stores, restores, saves, removes, eventsOf, storeAfter, BesideActs, begin, storesBoth, sharedRestore, oneMore, oneRestore, otherRestore, ActsIsolated}
 use Rattle.history.specs.Samples.{fresh}
 use Rattle.history.proofs.trials.Leaks.{howMany, isDisconnect, isRestore, showing, storesOnClose}
 
@@ -46,12 +46,15 @@ unfolding eventOf
 counted p h h′ b n i =
     n (ap (λ (l : List ℕ). getD l 0 0) (i fresh empty 0 1 (λ e. omega arith) h h′ b .0 .answer (connect 0) (connect 0) refl (same (connect 0))))
 
--- A RESTORE THAT IS IN BOTH RUNS, after a save and the other tool's disconnect
+-- A RESTORE THAT IS IN BOTH RUNS, as are a save, a remove and whatever else a host does to its store, and the other tool's disconnect among them
+abbrev emptied : Act
+emptied = stores (λ s st. empty)
+
 pub disconnect-before-restore : ActsIsolated (showing isDisconnect) → ⊥
 unfolding eventsOf
 disconnect-before-restore =
-    counted isDisconnect (restores 0 1 ∷ does (disconnect 1) ∷ saves ∷ []) (restores 0 1 ∷ saves ∷ [])
-    (sharedRestore 0 1 refl (oneMore {e = disconnect 1} refl tt (storesBoth _ begin))) (λ e. omega arith)
+    counted isDisconnect (restores 0 1 ∷ emptied ∷ removes 2 ∷ does (disconnect 1) ∷ saves ∷ []) (restores 0 1 ∷ emptied ∷ removes 2 ∷ saves ∷ [])
+    (sharedRestore 0 1 refl (storesBoth _ (storesBoth _ (oneMore {e = disconnect 1} refl tt (storesBoth _ begin))))) (λ e. omega arith)
 
 -- THE OTHER TOOL'S RESTORE, which is refused, of what was saved; in either run
 pub restore-after-save : (ActsIsolated (showing isRestore) → ⊥) × (ActsIsolated (showing isRestore) → ⊥)
