@@ -160,9 +160,8 @@ fn command_help(help: &'static str, command: &str) -> String {
         part("FORMS", section(help, "FORMS"));
     }
     let has = |option: &str| {
-        mine.iter().any(|form| {
-            form.flags.contains(&option) || form.options.iter().any(|o| o.0 == option)
-        })
+        mine.iter()
+            .any(|form| form.flags.contains(&option) || form.options.iter().any(|o| o.0 == option))
     };
     let named = |term: &str| term.split_whitespace().next().is_some_and(has);
     part("OPTIONS", terms(&section(help, "OPTIONS"), named));
@@ -181,7 +180,8 @@ fn distance(a: &str, b: &str) -> usize {
         let mut row = vec![i];
         for j in 1..=b.len() {
             let other = usize::from(a[i - 1] != b[j - 1]);
-            let mut least = (rows[i - 1][j] + 1).min(row[j - 1] + 1).min(rows[i - 1][j - 1] + other);
+            let mut least =
+                (rows[i - 1][j] + 1).min(row[j - 1] + 1).min(rows[i - 1][j - 1] + other);
             if i > 1 && j > 1 && a[i - 1] == b[j - 2] && a[i - 2] == b[j - 1] {
                 least = least.min(rows[i - 2][j - 2] + 1);
             }

@@ -68,7 +68,9 @@ fn said(line: &str) -> String {
     } else {
         // a name, and what it has
         match line.split_once(' ') {
-            Some((name, rest)) if name.chars().all(|c| c.is_ascii_lowercase()) && !name.is_empty() => {
+            Some((name, rest))
+                if name.chars().all(|c| c.is_ascii_lowercase()) && !name.is_empty() =>
+            {
                 mark(BOLD, name) + " " + rest
             }
             _ => line.to_string(),

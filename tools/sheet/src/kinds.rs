@@ -32,7 +32,7 @@ impl File {
             File::Trace => "a trace",
             File::SheetText => "the text of a sheet",
             File::TraceText => "the text of a trace",
-            File::Times => "the times of a trace",
+            File::Times => "the side file of a trace",
             File::Ets => "a recording of ETS",
             File::Knxtool => "a recording of knxtool",
             File::Frames => "a recording in hex",
@@ -58,6 +58,7 @@ pub fn fault(bytes: &[u8], wanted: File, fault: impl ToString) -> String {
 }
 
 pub fn of(bytes: &[u8]) -> Option<File> {
+    let bytes = &bytes[..bytes.len().min(MOST as usize)];
     if bytes.is_empty() {
         return None;
     }
@@ -134,7 +135,8 @@ const HEAD: [&str; 8] =
 fn of_text(text: &str) -> File {
     let begun = text.trim_start();
     let lines = || text.lines().map(str::trim).filter(|l| !l.is_empty() && !l.starts_with('#'));
-    let words = |line: &str| line.split_whitespace().take(2).map(str::to_string).collect::<Vec<_>>();
+    let words =
+        |line: &str| line.split_whitespace().take(2).map(str::to_string).collect::<Vec<_>>();
     let first = lines().next().map(words).unwrap_or_default();
     let first: Vec<&str> = first.iter().map(String::as_str).collect();
     let event = |word: &str| matches!(word, "request" | "connect" | "disconnect" | "button");
@@ -146,7 +148,7 @@ fn of_text(text: &str) -> File {
         [number, word] if event(word) && number.parse::<u32>().is_ok() => File::TraceText,
         [word, ..] if event(word) => File::TraceText,
         [word, ..] if word.starts_with("L_") || word.starts_with("LPDU") => File::Knxtool,
-        [word, ..] if word.starts_with("0x") => File::Listed,
+        _ if lines().any(|line| line.starts_with("0x")) => File::Listed,
         _ => of_digits(text).unwrap_or(File::Text),
     }
 }
@@ -159,14 +161,16 @@ fn of_digits(text: &str) -> Option<File> {
     let all: String = text.split_whitespace().collect();
     if !all.is_empty() && digits(&all) && all.len().is_multiple_of(2) {
         let bytes = all.as_bytes().chunks(2);
-        let bytes = bytes.filter_map(|two| u8::from_str_radix(std::str::from_utf8(two).ok()?, 16).ok());
+        let bytes =
+            bytes.filter_map(|two| u8::from_str_radix(std::str::from_utf8(two).ok()?, 16).ok());
         if rules(&bytes.collect::<Vec<u8>>()).is_ok() {
             return Some(File::SheetHex);
         }
     }
     let frame = |line: &&str| {
         let words = line.split_whitespace();
-        let mut bytes = words.filter(|word| digits(word) && (word.starts_with("29") || word.starts_with("11")));
+        let mut bytes =
+            words.filter(|word| digits(word) && (word.starts_with("29") || word.starts_with("11")));
         bytes.next().is_some()
     };
     (!lines.is_empty() && lines.iter().all(frame)).then_some(File::Frames)
@@ -178,7 +182,8 @@ mod tests {
 
     #[test]
     fn told_apart() {
-        let sheet = crate::make::bytes(include_str!("../../../examples/accident/before.txt")).unwrap();
+        let sheet =
+            crate::make::bytes(include_str!("../../../examples/accident/before.txt")).unwrap();
         let text = include_str!("../../../examples/accident/before.txt");
         let mut broken = sheet.clone();
         broken[47] = 3;

@@ -27,7 +27,9 @@ struct Survey<'a> {
 /// The survey of a folder that the words ask for.
 pub fn surveyed(folder: &str, asked: &Asked) -> Said {
     let form = match (asked.flag("--json"), asked.flag("--csv")) {
-        (true, true) => return Err("--json and --csv are two forms, and one is written".to_string()),
+        (true, true) => {
+            return Err("--json and --csv are two forms, and one is written".to_string())
+        }
         (true, false) => Form::Json,
         (false, true) => Form::Csv,
         (false, false) => Form::Text,
@@ -77,8 +79,7 @@ fn files(asked: &Survey) -> Result<Vec<(String, String)>, String> {
 fn told(asked: &Survey) -> Said {
     let reference = load(asked.reference)?;
     // a file that is no dump is a broken one, and told as what it is
-    let dumps =
-        files(asked)?.into_iter().map(|(name, path)| Ok((name, read(&path, kinds::MOST)?)));
+    let dumps = files(asked)?.into_iter().map(|(name, path)| Ok((name, read(&path, kinds::MOST)?)));
     let survey = survey((&plain(asked.reference), &reference), dumps, asked.wanted)?;
     let out = match asked.form {
         Form::Text => survey.text().into_bytes(),
