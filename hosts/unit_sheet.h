@@ -14,24 +14,24 @@ enum sheet_kind { REGIONS, PROPERTIES, GROUPS, USERS, SHEET_KINDS };
 
 enum { SHEET_HEAD = 32, SHEET_FLAGS = 14, SHEET_ADDRESS = 16, SHEET_SERIAL = 6, SHEET_KEYS = 18, SHEET_RULES = 30 };
 
-static unsigned two_bytes(const uint8_t *at)
+static inline unsigned two_bytes(const uint8_t *at)
 {
     return (unsigned)at[0] << 8 | at[1];
 }
 
-static size_t entry_length(enum sheet_kind kind)
+static inline size_t entry_length(enum sheet_kind kind)
 {
     return kind == PROPERTIES ? 12 : 8;
 }
 
 /* The number of entries of a kind; in edition 1 there are no user regions. */
-static size_t entry_count(const uint8_t *sheet, enum sheet_kind kind)
+static inline size_t entry_count(const uint8_t *sheet, enum sheet_kind kind)
 {
     static const size_t at[SHEET_KINDS] = { 1, 2, 3, 15 };
     return kind == USERS && sheet[0] != 2 ? 0 : sheet[at[kind]];
 }
 
-static const uint8_t *entry_at(const uint8_t *sheet, enum sheet_kind kind, size_t k)
+static inline const uint8_t *entry_at(const uint8_t *sheet, enum sheet_kind kind, size_t k)
 {
     size_t at = SHEET_HEAD;
     for (enum sheet_kind before = REGIONS; before < kind; before++)
@@ -40,12 +40,12 @@ static const uint8_t *entry_at(const uint8_t *sheet, enum sheet_kind kind, size_
 }
 
 /* Where the body of an entry starts, and its length. */
-static size_t body_at(enum sheet_kind kind, const uint8_t *entry)
+static inline size_t body_at(enum sheet_kind kind, const uint8_t *entry)
 {
     return two_bytes(entry + (kind == PROPERTIES ? 8 : 4));
 }
 
-static size_t body_length(enum sheet_kind kind, const uint8_t *entry)
+static inline size_t body_length(enum sheet_kind kind, const uint8_t *entry)
 {
     if (kind == PROPERTIES)
         return (size_t)entry[3] * two_bytes(entry + 4);
@@ -55,7 +55,7 @@ static size_t body_length(enum sheet_kind kind, const uint8_t *entry)
 }
 
 /* The property of an object and an id, NULL if there is none. */
-static const uint8_t *property_at(const uint8_t *sheet, uint8_t object, uint8_t id)
+static inline const uint8_t *property_at(const uint8_t *sheet, uint8_t object, uint8_t id)
 {
     for (size_t k = 0; k < entry_count(sheet, PROPERTIES); k++) {
         const uint8_t *entry = entry_at(sheet, PROPERTIES, k);
@@ -66,7 +66,7 @@ static const uint8_t *property_at(const uint8_t *sheet, uint8_t object, uint8_t 
 }
 
 /* The property with this number in its object, from 0, NULL if there is none. */
-static const uint8_t *property_by_index(const uint8_t *sheet, uint8_t object, uint8_t index)
+static inline const uint8_t *property_by_index(const uint8_t *sheet, uint8_t object, uint8_t index)
 {
     size_t number = 0;
     for (size_t k = 0; k < entry_count(sheet, PROPERTIES); k++) {
@@ -77,7 +77,7 @@ static const uint8_t *property_by_index(const uint8_t *sheet, uint8_t object, ui
     return NULL;
 }
 
-static const uint8_t *group_at(const uint8_t *sheet, uint16_t address)
+static inline const uint8_t *group_at(const uint8_t *sheet, uint16_t address)
 {
     for (size_t k = 0; k < entry_count(sheet, GROUPS); k++) {
         const uint8_t *entry = entry_at(sheet, GROUPS, k);
@@ -88,7 +88,7 @@ static const uint8_t *group_at(const uint8_t *sheet, uint16_t address)
 }
 
 /* The region of one memory in which an address lies, NULL if there is none. */
-static const uint8_t *region_at(const uint8_t *sheet, enum sheet_kind memory, size_t address)
+static inline const uint8_t *region_at(const uint8_t *sheet, enum sheet_kind memory, size_t address)
 {
     for (size_t k = 0; k < entry_count(sheet, memory); k++) {
         const uint8_t *entry = entry_at(sheet, memory, k);
@@ -99,12 +99,12 @@ static const uint8_t *region_at(const uint8_t *sheet, enum sheet_kind memory, si
 }
 
 /* The levels byte of a region or property. */
-static unsigned levels_of(enum sheet_kind kind, const uint8_t *entry)
+static inline unsigned levels_of(enum sheet_kind kind, const uint8_t *entry)
 {
     return entry[kind == PROPERTIES ? 10 : 6];
 }
 
-static unsigned level_to(enum sheet_kind kind, const uint8_t *entry, bool write)
+static inline unsigned level_to(enum sheet_kind kind, const uint8_t *entry, bool write)
 {
     return write ? levels_of(kind, entry) & 15 : levels_of(kind, entry) >> 4;
 }

@@ -249,7 +249,8 @@ static bool take_any(const char *name, const char *word, uint64_t most, uint64_t
 static bool take_parts(const char *name, char *word, char mark, const unsigned *bits, size_t count, uint16_t *value)
 {
     uint64_t part, all = 0;
-    char *at = word;
+    char *at = word, one[48];
+    snprintf(one, sizeof one, "a part of %s", name);
     if (strchr(word, mark) == NULL && count != 2) {
         if (!take_any(name, word, 65535, &all))
             return false;
@@ -262,7 +263,7 @@ static bool take_parts(const char *name, char *word, char mark, const unsigned *
             return err("%s has %d parts with %c between them", name, (int)count, mark);
         if (end != NULL)
             *end = '\0';
-        if (!take_up_to(name, at, (1u << bits[i]) - 1, &part))
+        if (!take_up_to(one, at, (1u << bits[i]) - 1, &part))
             return false;
         all = all << bits[i] | part;
         at = end == NULL ? at : end + 1;
@@ -287,7 +288,7 @@ static bool take_property(char *word, kelindap_pdu *pdu)
 {
     static const unsigned bits[] = { 8, 8 };
     uint16_t both;
-    if (!take_parts("a property, as 1/51,", word, '/', bits, 2, &both))
+    if (!take_parts("a property", word, '/', bits, 2, &both))
         return false;
     pdu->object = (uint8_t)(both >> 8);
     pdu->id = (uint8_t)both;

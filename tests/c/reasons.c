@@ -70,7 +70,7 @@ static sheet make_sheet(void)
     uint8_t *e = put_regions(b + 32, regions, &body);
     for (size_t k = 0; k < properties; k++, e += 12) {
         size_t maximum = 1 + any(6);
-        e[0] = (uint8_t)(k / 2), e[1] = (uint8_t)(50 + k), e[2] = (uint8_t)(one_in(3) ? 4 : 132), e[3] = (uint8_t)(1 + any(4));
+        e[0] = (uint8_t)(k / 2), e[1] = (uint8_t)(50 + k), e[2] = (uint8_t)(one_in(3) ? 4 : 132), e[3] = (uint8_t)(1 + any(10));
         put_two(e + 4, maximum);
         put_two(e + 6, any((unsigned)maximum + 1));
         put_two(e + 8, body);
@@ -310,12 +310,13 @@ static bool is_there(const trial *t, size_t address, bool user)
     return address <= 65535 && set_pdu(&one, p, NULL, 0) && done(&one);
 }
 
-static bool describes(const trial *t, uint8_t object, uint8_t id, uint8_t index)
+/* Whether an object has so many properties. */
+static bool has_index(const trial *t, unsigned object, unsigned index)
 {
-    trial one = *t;
-    one.mode = 2;
-    return set_pdu(&one, (kelindap_pdu){ .kind = KELINDAP_DESCRIPTION_READ, .object = object, .id = id, .index = index }, NULL, 0) &&
-           done(&one);
+    unsigned number = 0;
+    for (unsigned id = 1; id < 256; id++)
+        number += kelindap_property(t->sheet.bytes, t->sheet.length, (uint8_t)object, (uint8_t)id).length > 0;
+    return index < number;
 }
 
 /* Whether a cause that nobody mends is true by what the library says. */
@@ -325,9 +326,10 @@ static bool is_true(const trial *t, reason r)
     trial other = *t;
     switch (r.cause) {
     case PROPERTY_NONE:
-        return !describes(t, (uint8_t)r.first, (uint8_t)r.second, 0) && r.first == p.object && r.second == p.id;
+        return r.first == p.object && r.second == p.id &&
+               kelindap_property(t->sheet.bytes, t->sheet.length, (uint8_t)r.first, (uint8_t)r.second).length == 0;
     case INDEX_NONE:
-        return !describes(t, (uint8_t)r.first, 0, (uint8_t)r.second) && r.first == p.object && r.second == p.index;
+        return !has_index(t, r.first, r.second) && r.first == p.object && r.second == p.index;
     case GROUP_NONE:
         return kelindap_group(t->sheet.bytes, t->sheet.length, t->group).length == 0;
     case MEMORY_NONE:
