@@ -31,8 +31,7 @@ test-unit: $(BUILD)/unit $(BUILD)/unit_watched $(BUILD)/reasons build/sheet
 	tests/unit/run.sh $(BUILD)/unit build/sheet
 	$(if $(OWN),$(WATCHED) tests/unit/run.sh $(BUILD)/unit_watched build/sheet)
 	$(WATCHED) $(BUILD)/reasons $(REASONS)
-	tests/unit/words.sh $(BUILD)/unit_watched build/sheet
-	$(if $(OWN),$(WATCHED) tests/unit/terminal.sh $(BUILD)/unit)
+	$(WATCHED) tests/unit/words.sh $(BUILD)/unit_watched build/sheet
 
 # what README and the headers say, and what stands in two places: the same on every processor
 test-text: $(HOST_A) $(TOOL_A)

@@ -3,10 +3,12 @@
 PREFIX ?= /usr/local
 LIBDIR ?= $(PREFIX)/lib
 DESTDIR ?=
+# where bash-completion looks for them, by the program's name
+COMPLETIONS ?= $(PREFIX)/share/bash-completion/completions
 VERSION := $(shell sed -n 's/.*KELINDAP_VERSION_TEXT "\(.*\)"/\1/p' include/kelindap_common.h)
 MAN := build/man/kelindap-sheet.1 build/man/kelindap-trace.1 build/man/kelindap-unit.1
 
-#: make install    headers, libraries, programs, man pages and a pkg-config file to PREFIX, /usr/local if not given; for another
+#: make install    headers, libraries, programs, man pages, completions and a pkg-config file to PREFIX, /usr/local if not given; for another
 #:                 PROCESSOR than this machine's the programs and their pages are left out
 install: install-libraries $(if $(OWN),install-programs)
 	$(if $(OWN),,@echo "install: for $(PROCESSOR) the libraries alone; the programs are built on such a machine")
@@ -24,6 +26,8 @@ install-programs: build/sheet build/trace build/unit $(MAN)
 	install -m 755 build/trace $(DESTDIR)$(PREFIX)/bin/kelindap-trace
 	install -m 755 build/unit $(DESTDIR)$(PREFIX)/bin/kelindap-unit
 	install -m 644 $(MAN) $(DESTDIR)$(PREFIX)/share/man/man1
+	mkdir -p $(DESTDIR)$(COMPLETIONS)
+	for p in sheet trace unit; do install -m 644 tools/kelindap.bash $(DESTDIR)$(COMPLETIONS)/kelindap-$$p; done
 
 # a man page is made of the text that the program shows for --help
 build/man/kelindap-sheet.1: tools/sheet/kelindap-sheet.txt

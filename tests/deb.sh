@@ -85,6 +85,10 @@ for program in kelindap-sheet:tools/sheet kelindap-trace:tools/trace kelindap-un
     fi
 done
 
+# the completions, of what stands there, as bash-completion finds them
+for name in sheet trace unit; do [ -s "$root/usr/share/bash-completion/completions/kelindap-$name" ] || fail "no completions of kelindap-$name"; done
+tests/shell/complete.sh "$root/usr/bin" "$root/usr/share/bash-completion/completions/kelindap-sheet" > "$work/said" || { cat "$work/said"; fail "completions"; }
+
 in_root -P kelindap-tools libkelindap-dev
 [ -z "$(find "$root" -path "$root/var" -prune -o -type f -print)" ] || fail "a purge leaves files"
 echo "deb: libkelindap-dev for $(grep -c '^[a-z]' mk/processors) processors; on $own $files files of two packages in an empty root, a host is built by $by, the programs run, nothing is left"
