@@ -133,8 +133,10 @@ static size_t tell_changes(const char *before, run old, run new)
     changes c = { before, 0 };
     const uint8_t *a = old.bytes, *b = new.bytes;
     uint8_t rule = kelindap_check(a, old.length);
-    if (old.length != new.length || memcmp(a, b, old.length) == 0 || (rule != KELINDAP_ACCEPTED && rule != KELINDAP_OLD))
+    if (rule != KELINDAP_ACCEPTED && rule != KELINDAP_OLD)
         return 0; /* a sheet that breaks a rule is changed by nothing */
+    if (old.length != new.length || memcmp(a, b, old.length) == 0)
+        return 0;
     head_changes(&c, a, b);
     memory_changes(&c, REGIONS, a, b);
     for (size_t k = 0; k < entry_count(a, PROPERTIES); k++)

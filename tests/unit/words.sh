@@ -51,8 +51,8 @@ while len(lines) < requests:
     lines.append("session %d 1 %d" % (r.randrange(2), r.randrange(4)))
     mode, group, apdu = request()
     lines.append("request %d %d %s %s %d" % (mode, group, hexes(apdu), "00" * 16, r.randrange(2)))
-def run(*words):
-    return subprocess.run([unit, *words], input="\n".join(lines) + "\n", capture_output=True, text=True, check=True).stdout
+def run(*words):  # its own complaint is shown
+    return subprocess.run([unit, *words], input="\n".join(lines) + "\n", stdout=subprocess.PIPE, text=True, check=True).stdout
 answers = run("--lines").splitlines()
 # an answer in words per command: each ends with its lines of what changed
 told, at, said = [], 0, run("--words").splitlines()
@@ -89,5 +89,15 @@ for line, answer, words in zip(lines, answers, told):
         assert none == (a[5] == "0"), (line, words)
     old, levels, compared = new, now, compared + 1
 assert changes > compared / 8, (changes, compared)
+# any words in any order, on sheets that break rules too: it goes on to the end
+vocabulary = ("read write describe respond property memory user group address serial descriptor key bits index authorize restart send raw "
+    "request connect disconnect button on off sessions show sheet open convert store of save versions restore remove trace play point heard "
+    "help requests session 0 1 2 3 15 16 255 4095 65535 65536 99999999999999999999 1/51 1/ /1 1/0/1 31/7/255 32/0/0 1.1.5 15.15.255 1.1 0100h "
+    "0x100 0xh h - 00 0102 22222222 ffffffff 00c501020304 hex from count alone broadcast to property_read object=1 id=51 n=1 s=1 data= data=- "
+    "x \\ \" / . words/story.in").split() + [pump, pump[:40], "01" + pump[2:], "00" * 60, "ff" * 60, "0001" + "00" * 30, "11" * 40]
+lines = [" ".join(r.choice(vocabulary) for _ in range(r.randrange(1, 8))) for _ in range(60 * requests)]
+lines = [line for line in lines if line not in ("quit", "exit")]
+lines.append("sheet 01")  # it is there to hear the last one
+assert run("--words").endswith("  a sheet of 1 byte: S1, not 32 to 16,384 bytes\n"), "it has ended before the last line"
 print("words: %d events in words and in lines, %d changes as the sheet tool tells them" % (compared, changes))
 END
