@@ -1,9 +1,9 @@
 #!/usr/bin/env bash
 # tests/unit/words.sh UNIT SHEET [REQUESTS]: the desk unit in words. A dialogue word for word; and over random requests what it
 # says has changed, which must be what the sheet tool tells of the sheet before and after, and its outcome and answer, which must
-# be those of the line language. 300 requests, or as many as are asked for.
+# be those of the line language. 600 requests, or as many as are asked for.
 set -euo pipefail
-unit=$(realpath "$1") sheet=$(realpath "$2") requests=${3:-300}
+unit=$(realpath "$1") sheet=$(realpath "$2") requests=${3:-600}
 cd "$(dirname "$0")"
 work=$(mktemp -d)
 trap 'rm -rf "$work"' EXIT
@@ -39,7 +39,7 @@ def request():
     if kind == 5:
         n = r.randrange(1, 12); return 3, 0, [2, 0xC2, n] + two(0x100 + r.randrange(12)) + some(n)
     if kind == 6: return 3, 0, [3, 0xD1, 0] + [r.choice([0x11, 0x22, 0xFF, 0x33])] * 4
-    if kind == 7: return 3, 0, [3, 0xD3, r.randrange(4)] + [r.choice([0x11, 0x22, 0xFF])] * 4
+    if kind == 7: return 3, 0, [3, 0xD3, r.randrange(4)] + [r.randrange(256)] * 4
     if kind == 8: return 1, 0, [0, 0xC0] + some(2)
     if kind == 9: return 3, 0, [3, 0x80]
     return 2, 0, [3, 0xD5, 1, 51, 0x10, 1]
@@ -48,7 +48,7 @@ lines = ["sheet " + pump]
 while len(lines) < requests:
     if r.randrange(4) == 0:
         lines.append(r.choice(["connect 0", "connect 1", "button on", "button off", "disconnect 1"]))
-    lines.append("session %d 1 %d" % (r.randrange(2), r.randrange(4)))
+    lines.append("session %d 1 %d" % (r.randrange(2), r.choice([0, 0, 1, 2, 3])))
     mode, group, apdu = request()
     lines.append("request %d %d %s %s %d" % (mode, group, hexes(apdu), "00" * 16, r.randrange(2)))
 def run(*words):  # its own complaint is shown
