@@ -233,7 +233,7 @@ EXAMPLES
                     && !command.starts_with(*other)
                     && line.starts_with(&format!("    kelindap-sheet {other} "))
             };
-            assert!(!commands.iter().any(|c| other(&c)), "{command}: {line}");
+            assert!(!commands.iter().any(other), "{command}: {line}");
         }
     }
 }
