@@ -25,7 +25,7 @@ enum cause {
     CONNECTION_NONE,   /* first: the number */
     CODE_UNKNOWN,      /* first: the code */
     CODE_ANSWER,       /* first: the kind */
-    MODE_OTHER,        /* first: the code's way, enum way; second: the rules */
+    MODE_OTHER,        /* first: the code's way, enum way; second: 1 if the later rules say so */
     PDU_FORM,          /* first: bytes */
     GROUP_NONE,        /* first: the address */
     GROUP_FLAG,        /* first: the flag */
@@ -318,7 +318,8 @@ static reasons reasons_of(const asked *a, uint8_t outcome)
         unknown(&r, a);
         break;
     case KELINDAP_WRONG_MODE:
-        because(&r, MODE_OTHER, way_of(code_of(a->apdu), a->sheet[SHEET_RULES] != 0), a->sheet[SHEET_RULES]);
+        because(&r, MODE_OTHER, way_of(code_of(a->apdu), a->sheet[SHEET_RULES] != 0),
+                code_of(a->apdu) == 0x380 && a->sheet[SHEET_RULES] != 0);
         break;
     case KELINDAP_UNFIT:
         unfit(&r, a, &p);
@@ -377,7 +378,7 @@ static void tell_reason(char *out, size_t room, reason r)
         snprintf(out, room, "%s is what a device answers, and no request", kelindap_kind_name((uint8_t)a));
         break;
     case MODE_OTHER:
-        snprintf(out, room, "the service is taken %s%s", way_words((enum way)a), a == ON_CONNECTION || b == 0 ? "" : ", by rules 1");
+        snprintf(out, room, "the service is taken %s%s", way_words((enum way)a), b == 0 ? "" : ", by rules 1");
         break;
     case PDU_FORM:
         snprintf(out, room, "%u bytes, whose number or values are not those of the service", a);

@@ -140,7 +140,8 @@ static size_t some_address(void)
 /* A request of any kind, with values near those that the sheet has. */
 static void make_request(trial *t)
 {
-    static const uint8_t requests[] = { 0, 1, 2, 3, 4, 5, 6, 7, 8, 8, 8, 9, 9, 9, 9, 10, 11, 11, 12, 12, 13, 13, 14, 15, 15, 16, 25, 25, 27, 27 };
+    static const uint8_t requests[] = { 0, 1,  2,  3,  4,  5,  6,  7,  8,  8,  8,  9,  9,  9,  9,
+                                        10, 11, 11, 12, 12, 13, 13, 14, 15, 15, 16, 25, 25, 27, 27 };
     uint8_t data[14];
     kelindap_pdu p = { .kind = requests[any(sizeof requests)] };
     size_t length = 0;
