@@ -1,6 +1,7 @@
 /*
  * The desk unit: plays one device. Commands come on standard input, one to a line, and each gets one line on standard
- * output. kelindap-unit.txt, which it shows for --help, has them all; docs/UNIT.md tells more.
+ * output; with a person at a terminal it speaks in words (unit_words.h). kelindap-unit.txt, which it shows for --help, has
+ * them all; docs/UNIT.md tells more.
  */
 #include "kelindap.h"
 #include "kelindap_frame.h"
@@ -11,11 +12,13 @@
 #include "kelindap_store.h"
 #include "kelindap_trace.h"
 
+#include <errno.h>
 #include <inttypes.h>
 #include <stdarg.h>
 #include <stdio.h>
 #include <stdlib.h>
 #include <string.h>
+#include <unistd.h>
 
 typedef struct run {
     uint8_t *bytes;
@@ -37,11 +40,25 @@ static uint8_t sample_sheet[] = {
 
 /* ---- what can go wrong ---- */
 
+/* The name by which the program was started, without its folder; what stands before a line that is no command. */
+static const char *program = "unit";
+static const char *no_command = "ERR ";
+
 /* Memory or a stream gave out: the unit can't go on. */
 static _Noreturn void give_up(const char *why)
 {
-    fprintf(stderr, "unit: %s\n", why);
+    fprintf(stderr, "%s: %s\n", program, why);
     exit(EXIT_FAILURE);
+}
+
+/* Lets an answer go. A pipe that nobody reads any more is no error: whoever closed it has seen enough. */
+static void flush_out(void)
+{
+    if (fflush(stdout) == 0)
+        return;
+    if (errno == EPIPE)
+        exit(EXIT_SUCCESS);
+    give_up("the output can't be written");
 }
 
 /* Answers a line that is no command. Always false, so that whoever finds the fault can return it. */
@@ -52,7 +69,7 @@ static bool err(const char *format, ...)
 {
     va_list parts;
     va_start(parts, format);
-    fputs("ERR ", stdout);
+    fputs(no_command, stdout);
     vprintf(format, parts);
     putchar('\n');
     va_end(parts);
@@ -872,33 +889,91 @@ static const char *const help[] = {
 #include "unit_help.inc"
 };
 
-/* Any word on the command line asks for help, or is not understood. */
-static int tell(int count, char **words)
+/* ---- words ---- */
+
+#include "unit_near.h"
+#include "unit_sheet.h"
+#include "unit_reasons.h"
+#include "unit_changes.h"
+#include "unit_words.h"
+
+/* ---- the program ---- */
+
+enum manner { BY_TERMINAL, IN_WORDS, IN_LINES };
+
+static int tell_help(void)
 {
-    if (count != 1 || strcmp(words[0], "--help") != 0) {
-        fprintf(stderr, "unit: a word that is not understood: \"%s\"; --help says more\n", shown(words[0]));
-        return 2;
-    }
     for (size_t i = 0; i < sizeof help / sizeof help[0]; i++)
         puts(help[i]);
-    if (fflush(stdout) != 0)
-        give_up("the output can't be written");
+    flush_out();
     return EXIT_SUCCESS;
+}
+
+static int tell_version(void)
+{
+    printf("%s of kelindap %s\n", program, KELINDAP_VERSION_TEXT);
+    flush_out();
+    return EXIT_SUCCESS;
+}
+
+/* A word on the command line that is not understood. */
+static int not_understood(const char *word)
+{
+    nearest n = { word, "", 3 };
+    look_near(&n, "--words");
+    look_near(&n, "--lines");
+    look_near(&n, "--help");
+    look_near(&n, "--version");
+    fprintf(stderr, "%s: no option \"%s\"%s%s; %s --help says more\n", program, shown(word), *n.found == '\0' ? "" : ", perhaps ",
+            n.found, program);
+    return 2;
+}
+
+/* Whether standard output shows colours, and nobody has said that he wants none. */
+static bool wants_colours(void)
+{
+    const char *none = getenv("NO_COLOR"), *term = getenv("TERM");
+    return isatty(STDOUT_FILENO) && (none == NULL || *none == '\0') && term != NULL && *term != '\0' && strcmp(term, "dumb") != 0;
+}
+
+/* The line language: a line of answer to each command. */
+static void serve_lines(device *d)
+{
+    line l = { 0 };
+    while (next_line(&l)) {
+        obey(d, &l);
+        flush_out();
+    }
+    free(l.text);
 }
 
 int main(int argc, char **argv)
 {
-    if (argc > 1)
-        return tell(argc - 1, argv + 1);
-    device d = { .link.sessions = kelindap_fresh() };
-    line l = { 0 };
-    set_run(&d.sheet, (run){ sample_sheet, sizeof sample_sheet });
-    while (next_line(&l)) {
-        obey(&d, &l);
-        if (fflush(stdout) != 0)
-            give_up("the output can't be written");
+    enum manner manner = BY_TERMINAL;
+    if (argc > 0 && argv[0][0] != '\0') {
+        const char *slash = strrchr(argv[0], '/');
+        program = slash == NULL ? argv[0] : slash + 1;
     }
-    free(l.text);
+    if (argc > 2)
+        return not_understood(argv[2]);
+    if (argc == 2 && strcmp(argv[1], "--help") == 0)
+        return tell_help();
+    if (argc == 2 && strcmp(argv[1], "--version") == 0)
+        return tell_version();
+    if (argc == 2 && strcmp(argv[1], "--words") == 0)
+        manner = IN_WORDS;
+    else if (argc == 2 && strcmp(argv[1], "--lines") == 0)
+        manner = IN_LINES;
+    else if (argc == 2)
+        return not_understood(argv[1]);
+    device d = { .link.sessions = kelindap_fresh() };
+    set_run(&d.sheet, (run){ sample_sheet, sizeof sample_sheet });
+    if (manner == IN_WORDS || (manner == BY_TERMINAL && isatty(STDIN_FILENO) && isatty(STDOUT_FILENO))) {
+        no_command = "";
+        talk_on(&d, isatty(STDIN_FILENO), wants_colours());
+    } else {
+        serve_lines(&d);
+    }
     free(d.sheet.bytes);
     free(d.store.bytes);
     free(d.trace.bytes);

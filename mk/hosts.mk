@@ -24,10 +24,14 @@ unit: $(BUILD)/unit
 run: $(BUILD)/unit build/sheet
 	@scripts/demo.sh $(BUILD)/unit build/sheet scripts/demo.txt
 
-# the scripts, once more with a unit that watches itself where the sanitizers can
-test-unit: $(BUILD)/unit $(BUILD)/unit_watched build/sheet
+# the scripts, once more with a unit that watches itself where the sanitizers can; in words, where every reason is held against
+# the library over REASONS random requests, a fifth of a second for 200,000
+REASONS ?= 200000
+test-unit: $(BUILD)/unit $(BUILD)/unit_watched $(BUILD)/reasons build/sheet
 	tests/unit/run.sh $(BUILD)/unit build/sheet
 	$(if $(OWN),$(WATCHED) tests/unit/run.sh $(BUILD)/unit_watched build/sheet)
+	$(WATCHED) $(BUILD)/reasons $(REASONS)
+	$(WATCHED) tests/unit/words.sh $(BUILD)/unit_watched build/sheet
 
 # what README and the headers say, and what stands in two places: the same on every processor
 test-text: $(HOST_A) $(TOOL_A)
@@ -66,6 +70,10 @@ $(BUILD)/layout $(BUILD)/wear_test $(IN_C): $(BUILD)/%: tests/c/%.c tests/c/lent
 	mkdir -p $(BUILD)
 	gcc $(STRICT) -Ibuild -c $< -o /dev/null
 	$(CC_FOR) -o $@ $(STRICT) -Ibuild -g $(SANITIZE) $< $(HOST_A) $(TOOL_A)
+
+$(BUILD)/reasons: tests/c/reasons.c hosts/unit_reasons.h hosts/unit_sheet.h $(LINKED) | need-gcc
+	mkdir -p $(BUILD)
+	$(CC_FOR) -o $@ $(STRICT) -g $(SANITIZE) $< $(HOST_A) $(TOOL_A)
 
 # not watched: the sanitizers' own frames would be measured
 $(BUILD)/stack: tests/c/stack.c $(LINKED) | need-gcc

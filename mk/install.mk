@@ -4,6 +4,8 @@ PREFIX ?= /usr/local
 LIBDIR ?= $(PREFIX)/lib
 DESTDIR ?=
 PYTHON3 := $(shell command -v python3)
+# where bash-completion looks for them, by the program's name
+COMPLETIONS ?= $(PREFIX)/share/bash-completion/completions
 VERSION := $(shell sed -n 's/.*KELINDAP_VERSION_TEXT "\(.*\)"/\1/p' include/kelindap_common.h)
 SHEETS := $(foreach s,sample pump,$(addprefix build/sheets/$(s).,sheet txt inc))
 MAN := build/man/kelindap-sheet.1 build/man/kelindap-trace.1 build/man/kelindap-unit.1
@@ -12,8 +14,8 @@ MAN := build/man/kelindap-sheet.1 build/man/kelindap-trace.1 build/man/kelindap-
 DOC := $(PREFIX)/share/doc/kelindap
 LIST := $(PREFIX)/share/doc/kelindap/installed
 
-#: make install    headers, libraries, documents, programs, man pages, the Python package and pkg-config files to PREFIX, /usr/local
-#:                 if not given; for another PROCESSOR than this machine's the programs, their pages and the package are left out
+#: make install    headers, libraries, documents, programs, man pages, completions, the Python package and pkg-config files to PREFIX,
+#:                 /usr/local if not given; for another PROCESSOR than this machine's the programs, their pages and the package are left out
 #: make uninstall  takes away what was installed to PREFIX, and nothing else
 install: install-files
 	$(if $(OWN),,@echo "install: for $(PROCESSOR) the libraries and documents alone; the programs are built on such a machine")
@@ -50,6 +52,8 @@ install-programs: build/sheet build/trace build/unit $(MAN)
 	install -m 755 build/trace $(DESTDIR)$(PREFIX)/bin/kelindap-trace
 	install -m 755 build/unit $(DESTDIR)$(PREFIX)/bin/kelindap-unit
 	install -m 644 $(MAN) $(DESTDIR)$(PREFIX)/share/man/man1
+	mkdir -p $(DESTDIR)$(COMPLETIONS)
+	for p in sheet trace unit; do install -m 644 tools/kelindap.bash $(DESTDIR)$(COMPLETIONS)/kelindap-$$p; done
 
 # a sheet of hosts/ as a file, as text, and as the bytes of a C array
 build/sheets/%.sheet: hosts/%_sheet.inc mk/install.mk

@@ -26,6 +26,7 @@ test-tools: tools $(BUILD)/unit
 	UNIT=$(CURDIR)/$(BUILD)/unit cargo test --release --quiet -p trace
 	tests/examples.sh $(BUILD)/host $(BUILD)/height build/sheet
 	tests/install.sh
+	tests/shell/run.sh
 
 # what the languages' own tools find, where they are installed
 lint:

@@ -107,6 +107,10 @@ for program in kelindap-sheet:tools/sheet kelindap-trace:tools/trace kelindap-un
     fi
 done
 
+# the completions, of what stands there, as bash-completion finds them
+for name in sheet trace unit; do [ -s "$root/usr/share/bash-completion/completions/kelindap-$name" ] || fail "no completions of kelindap-$name"; done
+tests/shell/complete.sh "$root/usr/bin" "$root/usr/share/bash-completion/completions/kelindap-sheet" > "$work/said" || { cat "$work/said"; fail "completions"; }
+
 # the Python package, with the library that stands there
 if [ "${packages[*]: -1}" = python3-kelindap ]; then
     modules=$root/usr/lib/python3/dist-packages

@@ -68,12 +68,22 @@ compare "the forms in $text" "$work/forms" <(sed -n '/^COMMANDS/,/^    EVENT is/
 compare --help "$text" "$work/got"
 status=0
 "$unit" --hepl > "$work/got" 2> "$work/err" < /dev/null || status=$?
-[ "$status" = 2 ] && [ ! -s "$work/got" ] && grep -q -e '--hepl' "$work/err" ||
+[ "$status" = 2 ] && [ ! -s "$work/got" ] && grep -qx 'unit[^ ]*: no option "--hepl", perhaps --help; unit[^ ]* --help says more' "$work/err" ||
     { echo "--hepl: status $status"; different=$((different + 1)); }
+"$unit" --version > "$work/got" || { echo "--version is refused"; different=$((different + 1)); }
+grep -qx "unit[^ ]* of kelindap $(sed -n 's/.*KELINDAP_VERSION_TEXT "\(.*\)"/\1/p' ../../include/kelindap_common.h)" "$work/got" ||
+    { echo "--version says $(cat "$work/got")"; different=$((different + 1)); }
+# a pipe that nobody reads is no error, also where the signal is not taken
+for words in "" --words; do
+    # shellcheck disable=SC2086
+    (trap '' PIPE && yes 'connect 0' | { "$unit" $words 2> "$work/err"; echo $? > "$work/status"; }) 2> /dev/null | head -n 1 > /dev/null || true
+    [ "$(cat "$work/status")" = 0 ] && [ ! -s "$work/err" ] ||
+        { echo "a closed pipe: status $(cat "$work/status"), $(cat "$work/err")"; different=$((different + 1)); }
+done
 
 # an input that can't be read, closed or a folder: nothing is answered, and the status says so
 unreadable() { # HOW it was opened, the unit's status on the lines after
-    [ "$1" != 0 ] && [ ! -s "$work/got" ] && [ "$(cat "$work/err")" = "unit: the input can't be read" ] ||
+    [ "$1" != 0 ] && [ ! -s "$work/got" ] && grep -qx "unit[^ ]*: the input can't be read" "$work/err" ||
         { echo "an unreadable input: status $1, $(cat "$work/got" "$work/err")"; different=$((different + 1)); }
 }
 status=0

@@ -1,18 +1,78 @@
-//! What differs between two accepted sheets, by meaning. No line shows a key.
+//! What differs between two accepted sheets, by meaning. Nothing shows a key.
 
 use std::collections::BTreeMap;
+use std::fmt;
 
+use crate::json::Json;
 use crate::layout::{
     group_address, hex, individual_address, memory_address, Group, Levels, Property, Region, Sheet,
 };
 use crate::show::{byte_line, element, flag_words, switch};
 
+/// Something that one sheet has other than the other.
+#[derive(Clone, Debug, PartialEq, Eq)]
+pub struct Difference {
+    /// The place, such as `property 1/51 element 1`.
+    pub what: String,
+    pub change: Change,
+}
+
+#[derive(Clone, Debug, PartialEq, Eq)]
+pub enum Change {
+    /// From one value to another.
+    Values(String, String),
+    /// A key, which is not shown.
+    Key,
+    /// An entry that is new, and what it is.
+    Entry(String),
+    /// The value of a place that is new.
+    Value(String),
+    Gone,
+}
+
+impl fmt::Display for Difference {
+    fn fmt(&self, f: &mut fmt::Formatter<'_>) -> fmt::Result {
+        let what = &self.what;
+        match &self.change {
+            Change::Values(old, new) => write!(f, "{what}: {old} → {new}"),
+            Change::Key => write!(f, "{what} changed"),
+            Change::Entry(told) => write!(f, "{what} is new: {told}"),
+            Change::Value(new) => write!(f, "{what}: new, {new}"),
+            Change::Gone => write!(f, "{what} is gone"),
+        }
+    }
+}
+
+impl Difference {
+    /// For other programs: the place, what became of it, the values before and after where they are told, and the line.
+    pub fn json(&self) -> Json {
+        let (change, from, to) = match &self.change {
+            Change::Values(from, to) => ("changed", Some(from), Some(to)),
+            Change::Key => ("changed", None, None),
+            Change::Entry(to) | Change::Value(to) => ("new", None, Some(to)),
+            Change::Gone => ("gone", None, None),
+        };
+        Json::Object(vec![
+            ("what", self.what.as_str().into()),
+            ("change", change.into()),
+            ("from", from.cloned().into()),
+            ("to", to.cloned().into()),
+            ("line", self.to_string().into()),
+        ])
+    }
+}
+
 /// The lines that tell one sheet from the other: none exactly if their bytes are the same.
 pub fn lines(a: &Sheet, b: &Sheet) -> Vec<String> {
+    differences(a, b).iter().map(Difference::to_string).collect()
+}
+
+/// The same, each taken apart.
+pub fn differences(a: &Sheet, b: &Sheet) -> Vec<Difference> {
     let mut out = Lines(Vec::new());
     head(&mut out, a, b);
     memory(&mut out, "", &a.regions, &b.regions);
-    out.0.extend(properties(&a.properties, &b.properties));
+    all_properties(&mut out, &a.properties, &b.properties);
     let (ga, gb) = (by(&a.groups, |g| g.address), by(&b.groups, |g| g.address));
     let named = |address| format!("group object {}", group_address(address));
     both(&mut out, &ga, &gb, named, group, new_group);
@@ -23,24 +83,28 @@ pub fn lines(a: &Sheet, b: &Sheet) -> Vec<String> {
 /// The lines of the properties alone.
 pub fn properties(a: &[Property], b: &[Property]) -> Vec<String> {
     let mut out = Lines(Vec::new());
-    let (a, b) = (by(a, |p| (p.object, p.id)), by(b, |p| (p.object, p.id)));
-    let named = |(object, id)| format!("property {object}/{id}");
-    both(&mut out, &a, &b, named, property, new_property);
-    out.0
+    all_properties(&mut out, a, b);
+    out.0.iter().map(Difference::to_string).collect()
 }
 
-struct Lines(Vec<String>);
+fn all_properties(out: &mut Lines, a: &[Property], b: &[Property]) {
+    let (a, b) = (by(a, |p| (p.object, p.id)), by(b, |p| (p.object, p.id)));
+    let named = |(object, id)| format!("property {object}/{id}");
+    both(out, &a, &b, named, property, new_property);
+}
+
+struct Lines(Vec<Difference>);
 
 impl Lines {
-    fn say(&mut self, line: String) {
-        self.0.push(line);
+    fn say(&mut self, what: impl ToString, change: Change) {
+        self.0.push(Difference { what: what.to_string(), change });
     }
 
     /// A line if the two texts differ.
     fn compare(&mut self, what: &str, a: impl ToString, b: impl ToString) {
         let (a, b) = (a.to_string(), b.to_string());
         if a != b {
-            self.say(format!("{what}: {a} → {b}"));
+            self.say(what, Change::Values(a, b));
         }
     }
 
@@ -60,7 +124,7 @@ fn head(out: &mut Lines, a: &Sheet, b: &Sheet) {
     out.compare("individual address", individual_address(a.address), individual_address(b.address));
     for level in 0..a.keys.len() {
         if a.keys[level] != b.keys[level] {
-            out.say(format!("key of level {level} changed"));
+            out.say(format!("key of level {level}"), Change::Key);
         }
     }
 }
@@ -86,7 +150,7 @@ fn both<T, K: Ord + Copy>(
         match (a.get(&key), b.get(&key)) {
             (Some(x), Some(y)) => differ(out, &name(key), x, y),
             (None, Some(y)) => tell(out, &name(key), y),
-            _ => out.say(format!("{} is gone", name(key))),
+            _ => out.say(name(key), Change::Gone),
         }
     }
 }
@@ -105,7 +169,8 @@ fn regions(out: &mut Lines, whose: &str, a: &[Region], b: &[Region]) {
         out.levels(name, x.levels, y.levels);
     };
     both(out, &a, &b, name, differ, |out, name, new| {
-        out.say(format!("{name} is new: length {}, {}", new.body.len(), levels(new.levels)));
+        let told = format!("length {}, {}", new.body.len(), levels(new.levels));
+        out.say(name, Change::Entry(told));
     });
 }
 
@@ -144,14 +209,15 @@ fn bytes(out: &mut Lines, whose: &str, a: &[Region], b: &[Region]) {
             let (old, new): (Vec<u8>, Vec<u8>) =
                 line.iter().map(|&(_, old, new)| (old, new)).unzip();
             let at = memory_address(line[0].0);
-            out.say(format!("{whose}memory {at}: {} → {}", byte_line(&old), byte_line(&new)));
+            let change = Change::Values(byte_line(&old), byte_line(&new));
+            out.say(format!("{whose}memory {at}"), change);
         }
     }
     for run in new.chunk_by(|x, y| x.0 + 1 == y.0) {
         for line in run.chunks(TO_A_LINE) {
             let bytes: Vec<u8> = line.iter().map(|&(_, byte)| byte).collect();
             let at = memory_address(line[0].0);
-            out.say(format!("{whose}memory {at}: new, {}", byte_line(&bytes)));
+            out.say(format!("{whose}memory {at}"), Change::Value(byte_line(&bytes)));
         }
     }
 }
@@ -187,19 +253,20 @@ fn property(out: &mut Lines, name: &str, a: &Property, b: &Property) {
 
 /// A property that is new, and its elements that are not 0.
 fn new_property(out: &mut Lines, name: &str, p: &Property) {
-    out.say(format!(
-        "{name} is new: type {}, {}, size {}, maximum {}, count {}, {}",
+    let told = format!(
+        "type {}, {}, size {}, maximum {}, count {}, {}",
         p.class,
         can(p),
         p.size,
         p.maximum,
         p.count,
         levels(p.levels)
-    ));
+    );
+    out.say(name, Change::Entry(told));
     for (i, x) in
         p.body.chunks(p.size as usize).enumerate().filter(|(_, x)| x.iter().any(|&b| b != 0))
     {
-        out.say(format!("{name} element {}: new, {}", i + 1, element(x)));
+        out.say(format!("{name} element {}", i + 1), Change::Value(element(x)));
     }
 }
 
@@ -212,7 +279,8 @@ fn flags(g: &Group) -> String {
 
 fn new_group(out: &mut Lines, name: &str, g: &Group) {
     let value = byte_line(&g.body);
-    out.say(format!("{name} is new: length code {}, flags {}, value {value}", g.code, flags(g)));
+    let told = format!("length code {}, flags {}, value {value}", g.code, flags(g));
+    out.say(name, Change::Entry(told));
 }
 
 fn group(out: &mut Lines, name: &str, a: &Group, b: &Group) {

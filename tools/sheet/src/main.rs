@@ -4,84 +4,104 @@
 //! 2 with a line on standard error for anything else: a file that can't be read, a text with a fault, a wrong word.
 //! `--help` and `--version` are asked for, so they go to standard output with status 0.
 
-use std::fs::{self, File};
+use std::fs;
 use std::io::{self, Write};
 use std::process::ExitCode;
 
-use sheet::check::{check, rules, Broken};
+use sheet::asked::Asked;
+use sheet::check::{check, rules};
 use sheet::convert::converted;
-use sheet::layout::{Sheet, LONGEST};
-use sheet::program::{self, line, read, Program, Said};
+use sheet::diff;
+use sheet::json::Json;
+use sheet::kinds::{self, File};
+use sheet::layout::Sheet;
+use sheet::program::{line, read, to_a_terminal, Program, Said};
+use sheet::show::{self, plain};
 use sheet::versions::{self, Store};
-use sheet::{diff, list, make, show};
+use sheet::{list, make, values};
 
 mod surveyed;
 
-const PROGRAM: Program = Program { name: "sheet", help: include_str!("../kelindap-sheet.txt") };
+const PROGRAM: Program = Program { help: include_str!("../kelindap-sheet.txt") };
 
 /// The longest text that is read: some twenty times that of the longest sheet.
 const LONGEST_TEXT: u64 = 1 << 22;
 
 fn main() -> ExitCode {
-    let words = program::words();
-    let words: Vec<&str> = words.iter().map(String::as_str).collect();
-    let said = match words[..] {
-        ["check", file] => load(file).map(|bytes| checked(&bytes)),
-        ["show", "--keys", file] | ["show", file, "--keys"] => {
-            load(file).map(|bytes| shown(&bytes, true))
-        }
-        ["show", file] => load(file).map(|bytes| shown(&bytes, false)),
-        ["make", "--c", text] | ["make", text, "--c"] => {
-            made(text).map(|(sheet, status)| (list::text(&sheet).into_bytes(), status))
-        }
-        ["make", text] => made(text),
-        ["diff", a, b] => differ(a, b),
-        ["convert", "--force", old, new] | ["convert", old, new, "--force"] => {
-            convert(old, new, true)
-        }
-        ["convert", old, new] => convert(old, new, false),
-        ["--help"] | ["help"] => Ok((PROGRAM.help.into(), 0)),
-        ["--version"] => Ok((PROGRAM.version(), 0)),
-        ["versions", store] => listed(store),
-        ["versions", "diff", store, number, file] => since(store, number, file),
-        ["survey", ref words @ ..] => {
-            surveyed::surveyed(words).unwrap_or_else(|| Err(PROGRAM.usage()))
-        }
-        _ => Err(PROGRAM.usage()),
-    };
-    PROGRAM.finish(said)
+    PROGRAM.run(obey)
 }
 
-/// A sheet; of one that is too long, a byte more than it may have.
+fn obey(asked: &Asked) -> Said {
+    match (asked.command, &asked.words[..]) {
+        ("check", [file]) => checked(file, asked.flag("--json")),
+        ("show", [file]) => shown(file, asked.flag("--keys"), asked.flag("--json")),
+        ("make", [text]) => made(text, asked.flag("--c")),
+        ("diff", [a, b]) => differ(a, b, asked.flag("--json")),
+        ("convert", [old, new]) => convert(old, new, asked.flag("--force")),
+        ("versions", [store]) => listed(store),
+        ("versions diff", [store, number, file]) => since(store, number, file),
+        ("survey", [folder]) => surveyed::surveyed(folder, asked),
+        (command, _) => Err(format!("{command} has no such words")),
+    }
+}
+
+/// The bytes of a file that should be a sheet: one that breaks a rule too, but none that is something else.
 fn load(name: &str) -> Result<Vec<u8>, String> {
-    read(name, LONGEST as u64 + 1)
-}
-
-fn checked(bytes: &[u8]) -> (Vec<u8>, u8) {
-    match check(bytes) {
-        Ok(()) => (line("OK"), 0),
-        Err(broken) => (line(broken), 1),
+    let bytes = read(name, kinds::MOST)?;
+    match rules(&bytes).err().and_then(|_| kinds::other(&bytes, File::Sheet)) {
+        Some(what) => Err(format!("{name}: {what}")),
+        None => Ok(bytes),
     }
 }
 
-fn shown(bytes: &[u8], keys: bool) -> (Vec<u8>, u8) {
-    match Sheet::read(bytes) {
+/// A sheet that breaks no rule.
+fn whole(name: &str) -> Result<Sheet, String> {
+    load(name).and_then(|bytes| Sheet::read(&bytes).map_err(|broken| format!("{name}: {broken}")))
+}
+
+fn checked(name: &str, json: bool) -> Said {
+    let verdict = check(&load(name)?);
+    let status = u8::from(verdict.is_err());
+    let said = match (&verdict, json) {
+        (verdict, true) => line(values::verdict(&plain(name), verdict)),
+        (Ok(()), false) => line("OK"),
+        (Err(broken), false) => line(broken),
+    };
+    Ok((said, status))
+}
+
+fn shown(name: &str, keys: bool, json: bool) -> Said {
+    let bytes = load(name)?;
+    Ok(match Sheet::read(&bytes) {
+        Ok(sheet) if json => (line(values::sheet(&sheet, keys)), 0),
         Ok(sheet) => (show::text(&sheet, keys).into_bytes(), 0),
+        Err(broken) if json => (line(values::verdict(&plain(name), &Err(broken))), 1),
         Err(broken) => (line(broken), 1),
-    }
+    })
 }
 
-fn made(name: &str) -> Said {
+fn made(name: &str, as_list: bool) -> Said {
+    if !as_list && to_a_terminal() {
+        return Err("a sheet is no text for a terminal: make TEXT > FILE".to_string());
+    }
     let bytes = read(name, LONGEST_TEXT + 1)?;
     if bytes.len() as u64 > LONGEST_TEXT {
         return Err(format!("{name}: more than {LONGEST_TEXT} bytes, which is no sheet's text"));
     }
-    let text = String::from_utf8(bytes).map_err(|why| {
-        let upto = &why.as_bytes()[..why.utf8_error().valid_up_to()];
-        let at = 1 + upto.iter().filter(|&&b| b == b'\n').count();
-        format!("{name}: line {at}: a byte that is no text")
-    })?;
-    make::bytes(&text).map(|sheet| (sheet, 0)).map_err(|fault| format!("{name}: {fault}"))
+    let made = match std::str::from_utf8(&bytes) {
+        Ok(text) => make::bytes(text).map_err(|fault| fault.to_string()),
+        Err(why) => {
+            let upto = &bytes[..why.valid_up_to()];
+            let at = 1 + upto.iter().filter(|&&b| b == b'\n').count();
+            Err(format!("line {at}: a byte that is no text"))
+        }
+    };
+    let fault = |fault: String| match kinds::of(&bytes) {
+        Some(File::Text) => fault, // its first line is wrong, or not there
+        _ => kinds::fault(&bytes, File::SheetText, fault),
+    };
+    let out = |sheet: Vec<u8>| if as_list { list::text(&sheet).into_bytes() } else { sheet };
+    made.map(|sheet| (out(sheet), 0)).map_err(|why| format!("{name}: {}", fault(why)))
 }
 
 /// Converts a sheet into a file, which is not there yet unless it may be replaced; what has changed.
@@ -107,7 +127,7 @@ fn convert(old: &str, new: &str, force: bool) -> Said {
 fn keep(name: &str, bytes: &[u8], replace: bool) -> io::Result<()> {
     let beside = format!("{name}.{}", std::process::id());
     let first = if replace { &beside } else { name };
-    let mut file = File::create_new(first)?;
+    let mut file = fs::File::create_new(first)?;
     let written = file.write_all(bytes).and_then(|()| file.sync_all());
     let done = written.and_then(|()| if replace { fs::rename(first, name) } else { Ok(()) });
     if done.is_err() {
@@ -116,20 +136,29 @@ fn keep(name: &str, bytes: &[u8], replace: bool) -> io::Result<()> {
     done
 }
 
-fn differ(a: &str, b: &str) -> Said {
-    let whole = |name: &str| {
-        let broken = |broken: Broken| format!("{name}: {broken}");
-        load(name).and_then(|bytes| Sheet::read(&bytes).map_err(broken))
-    };
-    let lines = diff::lines(&whole(a)?, &whole(b)?);
-    let status = u8::from(!lines.is_empty());
-    Ok((lines.iter().flat_map(line).collect(), status))
+fn differ(a: &str, b: &str, json: bool) -> Said {
+    let found = diff::differences(&whole(a)?, &whole(b)?);
+    let status = u8::from(!found.is_empty());
+    if !json {
+        return Ok((found.iter().flat_map(line).collect(), status));
+    }
+    let object = vec![
+        ("from", plain(a).into()),
+        ("to", plain(b).into()),
+        ("same", found.is_empty().into()),
+        ("differences", Json::List(found.iter().map(diff::Difference::json).collect())),
+    ];
+    Ok((line(Json::Object(object)), status))
 }
 
-/// The bytes of a store; of one that is too long, a byte more than it may have.
+/// A store, or what is wrong with it; or with the file, if it is something else.
 fn stored(name: &str) -> Result<Result<Store, String>, String> {
-    let bytes = read(name, versions::LONGEST as u64 + 1)?;
-    Ok(Store::read(&bytes).map_err(|why| format!("30: {why}")))
+    let bytes = read(name, kinds::MOST)?;
+    match (Store::read(&bytes), kinds::other(&bytes, File::Store)) {
+        (Ok(store), _) => Ok(Ok(store)),
+        (Err(_), Some(what)) => Err(format!("{name}: {what}")),
+        (Err(why), None) => Ok(Err(format!("30: {why}"))),
+    }
 }
 
 fn listed(name: &str) -> Said {

@@ -5,7 +5,8 @@ use std::collections::{BTreeMap, HashMap};
 
 use crate::diff;
 use crate::json::Json;
-use crate::layout::{hex, individual_address, name, Kind, Property, Sheet, LATER, LONGEST};
+use crate::kinds::{self, File};
+use crate::layout::{hex, individual_address, name, Kind, Property, Sheet, LATER};
 use crate::show::{element, PUBLIC};
 
 /// What is looked for.
@@ -43,7 +44,7 @@ pub fn judged(bytes: &[u8]) -> (Verdict, Option<Sheet>) {
     match Sheet::read(bytes) {
         Ok(old) if old.edition == 1 => (Verdict::Old, Some(converted(old))),
         Ok(sheet) => (Verdict::Accepted, Some(sheet)),
-        Err(broken) => (Verdict::Broken(broken.to_string()), None),
+        Err(broken) => (Verdict::Broken(kinds::fault(bytes, File::Sheet, broken)), None),
     }
 }
 
@@ -108,7 +109,6 @@ pub fn survey(
     let mut units = Vec::new();
     for dump in dumps {
         let (name, bytes) = dump?;
-        debug_assert!(bytes.len() <= LONGEST + 1);
         let (verdict, sheet) = judged(&bytes);
         let number = units.len();
         units.push(match sheet {

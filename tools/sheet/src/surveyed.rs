@@ -7,7 +7,9 @@ use sheet::show::plain;
 use sheet::survey::{property_named, survey, Wanted, HEIGHT};
 
 use crate::load;
-use sheet::program::{line, Said};
+use sheet::asked::Asked;
+use sheet::kinds;
+use sheet::program::{line, read, Said};
 
 enum Form {
     Text,
@@ -15,43 +17,26 @@ enum Form {
     Csv,
 }
 
-struct Asked<'a> {
+struct Survey<'a> {
     folder: &'a str,
     reference: &'a str,
     wanted: Wanted,
     form: Form,
 }
 
-/// The survey that the words ask for; none if they are not its words.
-pub fn surveyed(words: &[&str]) -> Option<Said> {
-    Some(asked(words)?.and_then(|asked| told(&asked)))
-}
-
-fn asked<'a>(words: &[&'a str]) -> Option<Result<Asked<'a>, String>> {
-    let (mut folder, mut reference, mut form) = (None, None, None);
-    let (mut height, mut bound) = (None, None);
-    let mut rest = words.iter();
-    while let Some(&word) = rest.next() {
-        let once = match word {
-            "--reference" => reference.replace(*rest.next()?).is_none(),
-            "--height" => height.replace(*rest.next()?).is_none(),
-            "--bound" => bound.replace(*rest.next()?).is_none(),
-            "--json" => form.replace(Form::Json).is_none(),
-            "--csv" => form.replace(Form::Csv).is_none(),
-            word if word.starts_with("--") => return None,
-            word => folder.replace(word).is_none(),
-        };
-        if !once {
-            return None;
+/// The survey of a folder that the words ask for.
+pub fn surveyed(folder: &str, asked: &Asked) -> Said {
+    let form = match (asked.flag("--json"), asked.flag("--csv")) {
+        (true, true) => {
+            return Err("--json and --csv are two forms, and one is written".to_string())
         }
-    }
-    let (folder, reference) = (folder?, reference?);
-    Some(wanted(height, bound).map(|wanted| Asked {
-        folder,
-        reference,
-        wanted,
-        form: form.unwrap_or(Form::Text),
-    }))
+        (true, false) => Form::Json,
+        (false, true) => Form::Csv,
+        (false, false) => Form::Text,
+    };
+    let reference = asked.option("--reference").unwrap_or_default();
+    let wanted = wanted(asked.option("--height"), asked.option("--bound"))?;
+    told(&Survey { folder, reference, wanted, form })
 }
 
 fn wanted(height: Option<&str>, bound: Option<&str>) -> Result<Wanted, String> {
@@ -69,7 +54,7 @@ fn wanted(height: Option<&str>, bound: Option<&str>) -> Result<Wanted, String> {
 }
 
 /// The files of a folder by name, the reference apart.
-fn files(asked: &Asked) -> Result<Vec<(String, String)>, String> {
+fn files(asked: &Survey) -> Result<Vec<(String, String)>, String> {
     let folder = asked.folder;
     let fault = |why: std::io::Error| format!("{folder}: {why}");
     let reference = fs::canonicalize(asked.reference).ok();
@@ -91,9 +76,10 @@ fn files(asked: &Asked) -> Result<Vec<(String, String)>, String> {
     names.iter().map(|path| named(path)).collect()
 }
 
-fn told(asked: &Asked) -> Said {
+fn told(asked: &Survey) -> Said {
     let reference = load(asked.reference)?;
-    let dumps = files(asked)?.into_iter().map(|(name, path)| Ok((name, load(&path)?)));
+    // a file that is no dump is a broken one, and told as what it is
+    let dumps = files(asked)?.into_iter().map(|(name, path)| Ok((name, read(&path, kinds::MOST)?)));
     let survey = survey((&plain(asked.reference), &reference), dumps, asked.wanted)?;
     let out = match asked.form {
         Form::Text => survey.text().into_bytes(),

@@ -248,7 +248,7 @@ fn faults() {
         ),
         (&["reference", "--reference", "reference"], "reference: Not a directory (os error 20)"),
         (&["dumps", "--reference", "nothing"], "nothing: No such file or directory (os error 2)"),
-        (&["dumps", "--reference", "bad"], "bad: S1: the sheet has 1 bytes, fewer than 32"),
+        (&["dumps", "--reference", "bad"], "bad: this is a text, and a sheet is wanted"),
         (&["dumps", "--reference", "reference", "--bound", "x"], "--bound: no number: \"x\""),
         (&["dumps", "--reference", "reference", "--bound", "-1"], "--bound: no number: \"-1\""),
         (
@@ -268,17 +268,24 @@ fn faults() {
         let words = [&["survey"][..], words].concat();
         assert_eq!(told(&room, &words), said(2, "", &format!("sheet: {what}\n")), "{words:?}");
     }
-    let cases: [&[&str]; 6] = [
-        &[],
-        &["dumps"],
-        &["dumps", "--reference"],
-        &["dumps", "dumps", "--reference", "reference"],
-        &["dumps", "--reference", "reference", "--json", "--csv"],
-        &["dumps", "--reference", "reference", "--all"],
+    let more = "sheet survey --help says more";
+    let cases: [(&[&str], String); 6] = [
+        (&[], format!("DIR and --reference SHEET are missing; {more}")),
+        (&["dumps"], format!("--reference SHEET is missing; {more}")),
+        (&["dumps", "--reference"], format!("--reference needs SHEET; {more}")),
+        (
+            &["dumps", "dumps", "--reference", "reference"],
+            format!("a word too many: \"dumps\"; {more}"),
+        ),
+        (
+            &["dumps", "--reference=reference", "--json", "--csv"],
+            "--json and --csv are two forms, and one is written".to_string(),
+        ),
+        (&["dumps", "--reference", "reference", "--al"], format!("no option \"--al\"; {more}")),
     ];
-    for words in cases {
-        let (status, out, err) = told(&room, &[&["survey"][..], words].concat());
-        assert_eq!((status, out.as_str(), err.starts_with("usage: ")), (2, "", true), "{words:?}");
+    for (words, what) in cases {
+        let words = [&["survey"][..], words].concat();
+        assert_eq!(told(&room, &words), said(2, "", &format!("sheet: {what}\n")), "{words:?}");
     }
     // a link to a dump that is not there: a unit that would be missed
     symlink("nowhere", room.join("dumps/unit")).unwrap();

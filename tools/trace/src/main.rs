@@ -4,9 +4,11 @@
 
 use std::process::ExitCode;
 
+use sheet::asked::{perhaps, Asked};
 use sheet::json::Json;
-use sheet::layout;
-use sheet::program::{self, line, read, Program, Said};
+use sheet::kinds::{self, File};
+use sheet::make::short;
+use sheet::program::{line, read, Program, Said};
 use sheet::show::plain;
 use trace::archive;
 use trace::events;
@@ -20,78 +22,33 @@ use trace::text;
 use trace::times::{self, Known};
 use trace::words;
 
-const PROGRAM: Program = Program { name: "trace", help: include_str!("../kelindap-trace.txt") };
+const PROGRAM: Program = Program { help: include_str!("../kelindap-trace.txt") };
 
 /// The longest recording or text that is read, and the longest side file of a trace.
 const LONGEST_RECORDING: u64 = 1 << 28;
 const LONGEST_TIMES: u64 = 1 << 17;
 
 fn main() -> ExitCode {
-    let words = program::words();
-    let words: Vec<&str> = words.iter().map(String::as_str).collect();
-    let said = match words[..] {
-        ["--help"] | ["help"] => Ok((PROGRAM.help.into(), 0)),
-        ["--version"] => Ok((PROGRAM.version(), 0)),
-        ["show", ref rest @ ..] => asked(rest, &["--keys", "--json"], &[]).and_then(shown),
-        ["make", ref rest @ ..] => asked(rest, &["--force", "--json"], &["--sheet"]).and_then(made),
-        ["play", ref rest @ ..] => asked(rest, &["--keys", "--json"], &[]).and_then(played),
-        ["explain", ref rest @ ..] => asked(rest, &["--json"], &["--final"]).and_then(explained),
-        _ => Err(usage()),
-    };
-    PROGRAM.finish(said)
+    PROGRAM.run(|asked| match asked.command {
+        "show" => shown(asked),
+        "make" => made(asked),
+        "play" => played(asked),
+        _ => explained(asked),
+    })
 }
 
-fn usage() -> String {
-    PROGRAM.usage()
-}
-
-// ---- words and files ----
-
-/// The words of a command: those that are given, the flags, the options with their values.
-struct Asked<'a> {
-    words: Vec<&'a str>,
-    flags: Vec<&'a str>,
-    options: Vec<(&'a str, &'a str)>,
-}
-
-impl<'a> Asked<'a> {
-    fn flag(&self, name: &str) -> bool {
-        self.flags.contains(&name)
-    }
-
-    fn option(&self, name: &str) -> Option<&'a str> {
-        self.options.iter().find(|option| option.0 == name).map(|option| option.1)
-    }
-}
-
-fn asked<'a>(words: &[&'a str], flags: &[&str], options: &[&str]) -> Result<Asked<'a>, String> {
-    let mut asked = Asked { words: Vec::new(), flags: Vec::new(), options: Vec::new() };
-    let mut rest = words.iter();
-    while let Some(&word) = rest.next() {
-        if flags.contains(&word) && !asked.flag(word) {
-            asked.flags.push(word);
-        } else if options.contains(&word) && asked.option(word).is_none() {
-            asked.options.push((word, rest.next().ok_or_else(usage)?));
-        } else if word.starts_with("--") {
-            return Err(usage());
-        } else {
-            asked.words.push(word);
-        }
-    }
-    let options = asked.options.iter().map(|option| option.1);
-    if asked.words.iter().copied().chain(options).filter(|&name| name == "-").count() > 1 {
-        return Err("-: standard input is named twice, and can be read once".to_string());
-    }
-    Ok(asked)
-}
+// ---- files ----
 
 /// A text of at most so many bytes, without the mark that some editors put in front.
-fn read_text(name: &str, most: u64) -> Result<String, String> {
+fn read_text(name: &str, most: u64, wanted: File) -> Result<String, String> {
     let bytes = read(name, most + 1)?;
     if bytes.len() as u64 > most {
         return Err(format!("{name}: more than {most} bytes"));
     }
     let text = String::from_utf8(bytes).map_err(|why| {
+        if let Some(what) = kinds::other(why.as_bytes(), wanted) {
+            return format!("{name}: {what}");
+        }
         let upto = &why.as_bytes()[..why.utf8_error().valid_up_to()];
         let line = 1 + upto.iter().filter(|&&b| b == b'\n').count();
         let start = upto.iter().rposition(|&b| b == b'\n').map_or(0, |at| at + 1);
@@ -103,23 +60,25 @@ fn read_text(name: &str, most: u64) -> Result<String, String> {
 
 /// A sheet that the archive accepts.
 fn load_sheet(name: &str) -> Result<Vec<u8>, String> {
-    let bytes = read(name, layout::LONGEST as u64 + 1)?;
+    let bytes = read(name, kinds::MOST)?;
     match archive::check(&bytes) {
         0 => Ok(bytes),
         rule => {
             let why = sheet::check::check(&bytes).err().map(|broken| broken.to_string());
-            Err(format!("{name}: {}", why.unwrap_or_else(|| words::outcome(rule).to_string())))
+            let why = why.unwrap_or_else(|| words::outcome(rule).to_string());
+            Err(format!("{name}: {}", kinds::fault(&bytes, File::Sheet, why)))
         }
     }
 }
 
-/// A trace that the archive accepts, with its side file if there is one.
+/// A trace that the archive accepts, with its side file if there is one. Of a longer file than any trace a byte more is read.
 fn load_trace(name: &str) -> Result<Trace, String> {
     let bytes = read(name, events::LONGEST as u64 + 1)?;
-    let events = events::read(&bytes).map_err(|why| format!("{name}: {why}"))?;
+    let events = events::read(&bytes)
+        .map_err(|why| format!("{name}: {}", kinds::fault(&bytes, File::Trace, why)))?;
     let side = times_of(name);
     let known = if name != "-" && std::path::Path::new(&side).exists() {
-        let text = read_text(&side, LONGEST_TIMES)?;
+        let text = read_text(&side, LONGEST_TIMES, File::Times)?;
         times::read(&text, &bytes, events.len()).map_err(|why| format!("{side}: {why}"))?
     } else {
         vec![Known::default(); events.len()]
@@ -134,9 +93,8 @@ fn times_of(name: &str) -> String {
 
 // ---- the commands ----
 
-fn shown(asked: Asked) -> Said {
-    let [name] = asked.words[..] else { return Err(usage()) };
-    let (trace, keys) = (load_trace(name)?, asked.flag("--keys"));
+fn shown(asked: &Asked) -> Said {
+    let (trace, keys) = (load_trace(asked.words[0])?, asked.flag("--keys"));
     if !asked.flag("--json") {
         return Ok((text::text(&trace.events, &trace.known, keys).into_bytes(), 0));
     }
@@ -150,29 +108,41 @@ fn shown(asked: Asked) -> Said {
     Ok((line(Json::Object(object)), 0))
 }
 
-fn made(asked: Asked) -> Said {
-    let [form, recording, name] = asked.words[..] else { return Err(usage()) };
-    let form = match form {
-        "text" => None,
-        "hex" => Some(Form::Hex),
-        "ets" => Some(Form::Ets),
-        "knxtool" => Some(Form::Knxtool),
-        _ => return Err(usage()),
+/// The forms of a recording by their words; none for the text, which has the connections itself.
+const FORMS: [(&str, Option<Form>, File); 4] = [
+    ("text", None, File::TraceText),
+    ("hex", Some(Form::Hex), File::Frames),
+    ("ets", Some(Form::Ets), File::Ets),
+    ("knxtool", Some(Form::Knxtool), File::Knxtool),
+];
+
+fn made(asked: &Asked) -> Said {
+    let [word, recording, name] = asked.words[..] else {
+        return Err("make has three words".to_string());
+    };
+    let Some(&(_, form, kind)) = FORMS.iter().find(|form| form.0 == word) else {
+        let near = perhaps(word, FORMS.iter().map(|form| form.0));
+        let name = PROGRAM.name();
+        return Err(format!("no form \"{}\"{near}; {name} make --help says more", short(word)));
+    };
+    // a text may begin with anything, and its fault is told by its line: what it is by its first word is told where it is another's
+    let fault = |text: &str, why: String| match kinds::of(text.as_bytes()) {
+        Some(File::Text) => format!("{recording}: {why}"),
+        _ => format!("{recording}: {}", kinds::fault(text.as_bytes(), kind, why)),
     };
     if name == "-" {
         return Err("-: a trace is made in a file, with its times beside it".to_string());
     }
     let made = match (form, asked.option("--sheet")) {
         (None, None) => {
-            let text = read_text(recording, LONGEST_RECORDING)?;
-            let events = text::events(&text).map_err(|why| format!("{recording}: {why}"))?;
+            let text = read_text(recording, LONGEST_RECORDING, kind)?;
+            let events = text::events(&text).map_err(|why| fault(&text, why))?;
             make::Made { events, ..make::Made::default() }
         }
         (Some(form), Some(sheet)) => {
             let sheet = load_sheet(sheet)?;
-            let text = read_text(recording, LONGEST_RECORDING)?;
-            let frames =
-                recordings::read(form, &text).map_err(|why| format!("{recording}: {why}"))?;
+            let text = read_text(recording, LONGEST_RECORDING, kind)?;
+            let frames = recordings::read(form, &text).map_err(|why| fault(&text, why))?;
             let mut progress = Progress::new("frames", frames.len());
             make::from_frames(&frames, &sheet, &mut progress)
         }
@@ -206,16 +176,12 @@ fn plain_lines(text: &str) -> String {
 }
 
 fn load_traces(names: &[&str]) -> Result<Vec<Trace>, String> {
-    if names.is_empty() {
-        return Err(usage());
-    }
     names.iter().map(|name| load_trace(name)).collect()
 }
 
-fn played(asked: Asked) -> Said {
-    let [sheet, ref traces @ ..] = asked.words[..] else { return Err(usage()) };
-    let traces = load_traces(traces)?;
-    let (sheet, keys) = (load_sheet(sheet)?, asked.flag("--keys"));
+fn played(asked: &Asked) -> Said {
+    let traces = load_traces(&asked.words[1..])?;
+    let (sheet, keys) = (load_sheet(asked.words[0])?, asked.flag("--keys"));
     let played = play(&sheet, &traces);
     let status = u8::from(!played.all());
     let said = match asked.flag("--json") {
@@ -225,12 +191,21 @@ fn played(asked: Asked) -> Said {
     Ok((said, status))
 }
 
-fn explained(asked: Asked) -> Said {
-    let [name, ref traces @ ..] = asked.words[..] else { return Err(usage()) };
-    let traces = load_traces(traces)?;
+/// A later dump, of which nothing is asked but that it is one: it may be broken.
+fn load_dump(name: &str) -> Result<Vec<u8>, String> {
+    let bytes = read(name, kinds::MOST)?;
+    match kinds::other(&bytes, File::Sheet) {
+        Some(what) => Err(format!("{name}: {what}")),
+        None => Ok(bytes),
+    }
+}
+
+fn explained(asked: &Asked) -> Said {
+    let name = asked.words[0];
+    let traces = load_traces(&asked.words[1..])?;
     let sheet = load_sheet(name)?;
     let last = asked.option("--final");
-    let dump = last.map(|dump| read(dump, layout::LONGEST as u64 + 1)).transpose()?;
+    let dump = last.map(load_dump).transpose()?;
     let mut progress = Progress::new("events", traces.iter().map(|t| t.events.len()).sum());
     let story = Story::new(&sheet, &traces, dump.as_deref(), &mut progress);
     drop(progress);

@@ -376,22 +376,23 @@ fn bad_input() {
     let what = "trace: old: old: convert it\n";
     assert_eq!(told(&room, &["play", "old", "laptop.trace"]), said(2, "", what));
     fs::write(room.join("page"), "\n <html><p/></html>\n").unwrap();
+    fs::write(room.join("many"), [&[2, 1][..], &[0; 58]].concat()).unwrap();
     let before = files(&room);
     let cases: [(&[&str], &str); 13] = [
         (&["show", "nothing"], "nothing: No such file or directory (os error 2)"),
         (&["show", "."], ".: Is a directory (os error 21)"),
-        (&["show", "before"], "before: 51: too many events: offset 0: 513 events, more than 512"),
+        (&["show", "many"], "many: 51: too many events: offset 0: 513 events, more than 512"),
         (&["play", "broken", "laptop.trace"], "broken: S7: property 1/51, count 3 above maximum 2"),
         (&["play", "nothing", "laptop.trace"], "nothing: No such file or directory (os error 2)"),
         (
-            &["play", "before", "before"],
-            "before: 51: too many events: offset 0: 513 events, more than 512",
+            &["play", "before", "many"],
+            "many: 51: too many events: offset 0: 513 events, more than 512",
         ),
         (
             &["explain", "before", "laptop.trace", "--final", "nothing"],
             "nothing: No such file or directory (os error 2)",
         ),
-        (&["explain", "laptop.trace", "laptop.trace"], "laptop.trace: S2: edition 0, not 1 or 2"),
+        (&["explain", "many", "laptop.trace"], "many: S4: the head states 0 bytes, the sheet has 60"),
         (
             &["make", "hex", "noise", "x", "--sheet", "before"],
             "noise: line 2, column 4: a byte that is no text",
@@ -402,7 +403,7 @@ fn bad_input() {
         ),
         (
             &["make", "ets", "bad.hex", "x", "--sheet", "before"],
-            "bad.hex: line 1, column 1: text outside of all elements",
+            "bad.hex: this is a recording in hex, and a recording of ETS is wanted",
         ),
         (
             &["make", "ets", "page", "x", "--sheet", "before"],
@@ -603,31 +604,122 @@ fn asked_for() {
     assert_eq!(archive::versions(), [own; 2]);
 }
 
+/// Each command's help has what the whole says of it; that of make tells the forms too.
+#[test]
+fn help_by_command() {
+    let room = room("help");
+    let whole = include_str!("../kelindap-trace.txt");
+    for command in ["show", "make", "play", "explain"] {
+        let (status, text, err) = told(&room, &[command, "--help"]);
+        assert_eq!((status, err.as_str()), (0, ""));
+        assert!(text.starts_with(&format!("SYNOPSIS\n    kelindap-trace {command} ")), "{text}");
+        assert!(text.lines().all(|line| whole.lines().any(|there| there == line)), "{text}");
+        assert_eq!(text.contains("\nFORMS\n    text\n"), command == "make", "{text}");
+        assert_eq!(text.contains("\n    --final DUMP\n"), command == "explain", "{text}");
+        assert_eq!(told(&room, &["help", command]).1, text);
+    }
+}
+
+/// A file of another kind than is wanted is told as what it is; a sheet and a trace exchanged too.
+#[test]
+fn another_kind() {
+    let room = room("kinds");
+    make(&room);
+    fs::write(room.join("text"), room::BEFORE).unwrap();
+    let cases: [(&[&str], &str); 12] = [
+        (&["show", "before"], "before: this is a sheet, and a trace is wanted"),
+        (&["show", "text"], "text: this is the text of a sheet, and a trace is wanted"),
+        (&["show", "laptop.hex"], "laptop.hex: this is a recording in hex, and a trace is wanted"),
+        (
+            &["show", "laptop.trace.times"],
+            "laptop.trace.times: this is the side file of a trace, and a trace is wanted",
+        ),
+        (&["play", "laptop.trace", "before"], "before: this is a sheet, and a trace is wanted"),
+        (
+            &["play", "laptop.trace", "laptop.trace"],
+            "laptop.trace: this is a trace, and a sheet is wanted",
+        ),
+        (
+            &["explain", "text", "laptop.trace"],
+            "text: this is the text of a sheet, and a sheet is wanted",
+        ),
+        (
+            &["explain", "before", "laptop.trace", "--final", "text"],
+            "text: this is the text of a sheet, and a sheet is wanted",
+        ),
+        (
+            &["make", "hex", "laptop.trace", "x", "--sheet", "before"],
+            "laptop.trace: this is a trace, and a recording in hex is wanted",
+        ),
+        (
+            &["make", "text", "laptop.hex", "x"],
+            "laptop.hex: this is a recording in hex, and the text of a trace is wanted",
+        ),
+        (
+            &["make", "ets", "laptop.hex", "x", "--sheet", "before"],
+            "laptop.hex: this is a recording in hex, and a recording of ETS is wanted",
+        ),
+        (
+            &["make", "hex", "laptop.hex", "x", "--sheet", "text"],
+            "text: this is the text of a sheet, and a sheet is wanted",
+        ),
+    ];
+    for (words, what) in cases {
+        assert_eq!(told(&room, words), said(2, "", &format!("trace: {what}\n")), "{words:?}");
+    }
+    assert!(!room.join("x").exists());
+}
+
+/// Who closes the pipe has seen enough: no word on it, and the status is what it would have been.
+#[test]
+fn closed_pipe() {
+    let room = room("pipe");
+    let text: String = "button on time=1\n".repeat(512 * 20) + "end\n";
+    fs::write(room.join("text"), text).unwrap();
+    assert_eq!(told(&room, &["make", "text", "text", "t"]).0, 0);
+    let program = env!("CARGO_BIN_EXE_trace");
+    let names: Vec<String> = (1..=20).map(|n| format!("t-{n:02}")).collect();
+    let script = format!("({program} play before {}; echo $? >&2) | true", names.join(" "));
+    let got = Command::new("sh").args(["-c", &script]).current_dir(&room).output().unwrap();
+    assert_eq!(String::from_utf8(got.stderr).unwrap(), "0\n");
+}
+
 /// Words that are no command, and an output that can't be written.
 #[test]
 fn wrong_use() {
     let room = room("wrong");
     make(&room);
-    let cases: [&[&str]; 14] = [
-        &[],
-        &["show"],
-        &["show", "a", "b"],
-        &["shew", "a"],
-        &["show", "--key", "a"],
-        &["show", "--keys", "--keys", "a"],
-        &["show", "--force", "a"],
-        &["play", "before"],
-        &["play"],
-        &["explain", "before"],
-        &["explain", "before", "laptop.trace", "--final"],
-        &["make", "hex", "laptop.hex"],
-        &["make", "pcap", "laptop.hex", "x"],
-        &["make", "hex", "laptop.hex", "x", "--sheet", "before", "--sheet", "before"],
+    let cases: [(&[&str], &str); 15] = [
+        (&[], "no command is given; trace --help says more"),
+        (&["show"], "TRACE is missing; trace show --help says more"),
+        (&["show", "a", "b"], "a word too many: \"b\"; trace show --help says more"),
+        (&["shew", "a"], "no command \"shew\", perhaps show; trace --help says more"),
+        (
+            &["show", "--key", "a"],
+            "no option \"--key\", perhaps --keys; trace show --help says more",
+        ),
+        (&["show", "--keys", "--keys", "a"], "--keys is given twice; trace show --help says more"),
+        (&["show", "--force", "a"], "no option \"--force\"; trace show --help says more"),
+        (&["play", "before"], "TRACE is missing; trace play --help says more"),
+        (&["play"], "SHEET and TRACE are missing; trace play --help says more"),
+        (&["explain", "before"], "TRACE is missing; trace explain --help says more"),
+        (
+            &["explain", "before", "laptop.trace", "--final"],
+            "--final needs DUMP; trace explain --help says more",
+        ),
+        (&["make", "hex", "laptop.hex"], "TRACE is missing; trace make --help says more"),
+        (&["make", "pcap", "laptop.hex", "x"], "no form \"pcap\"; trace make --help says more"),
+        (
+            &["make", "knxtol", "laptop.hex", "x"],
+            "no form \"knxtol\", perhaps knxtool; trace make --help says more",
+        ),
+        (
+            &["make", "hex", "laptop.hex", "x", "--sheet", "before", "--sheet", "before"],
+            "--sheet is given twice; trace make --help says more",
+        ),
     ];
-    for words in cases {
-        let (status, out, err) = told(&room, words);
-        let usage = err.starts_with("usage: kelindap-trace show [--keys] [--json] TRACE\n");
-        assert_eq!((status, out.as_str(), usage), (2, "", true), "{words:?}");
+    for (words, what) in cases {
+        assert_eq!(told(&room, words), said(2, "", &format!("trace: {what}\n")), "{words:?}");
     }
     let full = fs::OpenOptions::new().write(true).open("/dev/full").unwrap();
     let got = Command::new(env!("CARGO_BIN_EXE_trace"))
