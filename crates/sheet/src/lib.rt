@@ -1,7 +1,7 @@
 // The device sheet: its rules, its entries and their bodies.
+mod entry_rules;
 mod frame;
 mod head;
-mod judge;
 mod layout;
 mod lookup;
 mod old;
