@@ -11,7 +11,6 @@ pub use session::session_of;
 ghost use Rattle.device.specs.Changed.{Requested};
 use judge::Request;
 use judge::Session;
-use sheet::Part;
 
 // The sessions of connections 0 and 1.
 #[repr(C)]
@@ -27,11 +26,18 @@ pub struct Done {
     pub sessions: Sessions,
 }
 
+// A run of sheet bytes: where it begins, and how many it has. A sheet has at most 16,384, so both fit in 16 bits.
+#[repr(C)]
+pub struct Run {
+    pub offset: u16,
+    pub length: u16,
+}
+
 // The runs of sheet bytes that a request stored, at most two; 0 and 0 for one that there is not.
 #[repr(C)]
 pub struct Changed {
-    pub first: Part,
-    pub second: Part,
+    pub first: Run,
+    pub second: Run,
 }
 
 // What a request gave, and what it stored.
