@@ -1,12 +1,12 @@
--- `playback::marking::mark_events` meets its contract. The invariant: state, log and marks are those of the first j events.
+-- `playback::marking::mark_known` meets its contract. The invariant: state, log and marks are those of the first j events.
 -- Assumes nothing.
 use Prim.Native.Nat.{_-_}
 use borrow.Author.Needs.{needs}
 use native.Mathlib.Omega.{arith}
-use Rattle.playback.proofs.Running.{few-events, small-place, event-there, line-there, line-long}
+use Rattle.playback.proofs.Running.{few-events, small-place, event-there, line-there, line-long, known-goes}
 use Rattle.playback.proofs.Marked.{Marched, march-begin, march-on, march-end, roomy-next, seen-same}
-use Rattle.playback.proofs.marking.mark_events.Statement.{statement}
-use Rattle.playback.proofs.marking.mark_events.Tie as tie
+use Rattle.playback.proofs.marking.mark_known.Statement.{statement}
+use Rattle.playback.proofs.marking.mark_known.Tie as tie
 
 abbrev Inv-loop : tie.InvT-loop
 Inv-loop sheet₀ trace from n log₀ seen₀ marks₀ played sessions₀ j₀ sheet log seen marks sessions j =
@@ -15,8 +15,8 @@ Inv-loop sheet₀ trace from n log₀ seen₀ marks₀ played sessions₀ j₀ s
 abbrev μ-loop : tie.MeasureT-loop
 μ-loop sheet₀ trace from n log₀ seen₀ marks₀ played sessions₀ j₀ sheet log seen marks sessions j = n - j
 
-pub mark-events-spec : {M : Type 1} → statement M
-mark-events-spec =
+pub mark-known-spec : {M : Type 1} → statement M
+mark-known-spec =
     tie.close
     (tie.spec
     Inv-loop
@@ -33,7 +33,7 @@ mark-events-spec =
     (λ c κs.
     let l = c .before .before .before .before .before .loop in
     let k = event-there _ _ _ _ (c .before .before .before .before .before .before .before .before .before .before .before .pre .0) (l .j) (omega arith) in
-    (k .0, k .1, line-long _ _ _ _ (c .before .before .before .before .before .before .before .before .before .before .before .pre .0) (l .j) (omega arith) (l .log) (l .inv .going .long), roomy-next _ _ _ _ _ _ _ _ _ (c .before .before .before .before .before .before .before .before .before .before .before .pre .0) (c .before .before .before .before .before .before .before .before .before .before .before .pre .1) _ _ _ _ _ _ (l .inv) (omega arith)))
+    (k .0, k .1, line-long _ _ _ _ (c .before .before .before .before .before .before .before .before .before .before .before .pre .0) (l .j) (omega arith) (l .log) (l .inv .going .long), roomy-next _ _ _ _ _ _ _ _ _ (c .before .before .before .before .before .before .before .before .before .before .before .pre .0) (c .before .before .before .before .before .before .before .before .before .before .before .pre .1) _ _ _ _ _ _ (l .inv) (omega arith), known-goes _ _ _ _ _ _ _ _ _ _ _ (c .before .before .before .before .before .before .before .before .before .before .before .pre .2) (l .inv .going)))
     (λ c. omega (arith, few-events _ _ _ _ (c .before .before .before .before .before .before .before .before .before .before .before .before .before .before .before .before .before .before .before .before .pre .0)))
     (λ c. omega arith)
     (λ c. march-on _ _ _ _ _ _ _ _ _ (c .before .before .before .before .before .before .before .before .before .before .before .before .before .before .before .before .before .before .before .before .pre .0) (c .before .before .before .before .before .before .before .before .before .before .before .before .before .before .before .before .before .before .before .before .pre .1) _ _ _ _ _ _ (c .before .before .before .before .before .before .before .before .before .before .before .before .before .before .loop .inv) _ _ _ _ _ (omega arith) (c .before .before .before .before .before .before .before .before .mark-event .ensures) (search needs))
