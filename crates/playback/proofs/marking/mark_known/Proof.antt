@@ -9,11 +9,11 @@ use Rattle.playback.proofs.marking.mark_known.Statement.{statement}
 use Rattle.playback.proofs.marking.mark_known.Tie as tie
 
 abbrev Inv-loop : tie.InvT-loop
-Inv-loop sheet₀ trace from n log₀ seen₀ marks₀ played sessions₀ j₀ sheet log seen marks sessions j =
+Inv-loop known sheet₀ trace from n log₀ seen₀ marks₀ played sessions₀ j₀ sheet log seen marks sessions j =
     Marched sessions₀ sheet₀ trace from n log₀ played marks₀ j sessions sheet log seen marks
 
 abbrev μ-loop : tie.MeasureT-loop
-μ-loop sheet₀ trace from n log₀ seen₀ marks₀ played sessions₀ j₀ sheet log seen marks sessions j = n - j
+μ-loop known sheet₀ trace from n log₀ seen₀ marks₀ played sessions₀ j₀ sheet log seen marks sessions j = n - j
 
 pub mark-known-spec : {M : Type 1} → statement M
 mark-known-spec =

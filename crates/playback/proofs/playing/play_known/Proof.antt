@@ -8,10 +8,10 @@ use Rattle.playback.proofs.playing.play_known.Statement.{statement}
 use Rattle.playback.proofs.playing.play_known.Tie as tie
 
 abbrev Inv-loop : tie.InvT-loop
-Inv-loop sheet₀ trace from n log₀ sessions₀ j₀ sheet log sessions j = Going sessions₀ sheet₀ trace from n log₀ j sessions sheet log
+Inv-loop known sheet₀ trace from n log₀ sessions₀ j₀ sheet log sessions j = Going sessions₀ sheet₀ trace from n log₀ j sessions sheet log
 
 abbrev μ-loop : tie.MeasureT-loop
-μ-loop sheet₀ trace from n log₀ sessions₀ j₀ sheet log sessions j = n - j
+μ-loop known sheet₀ trace from n log₀ sessions₀ j₀ sheet log sessions j = n - j
 
 pub play-known-spec : {M : Type 1} → statement M
 play-known-spec =
