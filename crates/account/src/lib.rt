@@ -62,16 +62,16 @@ pub fn mark(
         marks,
         seen,
         sheet,
-        one.offset,
-        one.offset + one.length,
+        one.offset as usize,
+        one.offset as usize + one.length as usize,
         number,
     );
     catch_up(
         marks,
         seen,
         sheet,
-        two.offset,
-        two.offset + two.length,
+        two.offset as usize,
+        two.offset as usize + two.length as usize,
         number,
     );
     mark_levels(marks, sheet.len(), old, new, number);

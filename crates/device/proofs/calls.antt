@@ -2,6 +2,7 @@
 pub mod Writing
 pub mod SafeEach
 pub mod Safe
+pub mod Sixteen
 pub mod Turns
 pub mod Pressing
 pub mod Room

@@ -5,7 +5,6 @@ use mathlib.Core.Path.{_≡_}
 use mathlib.Core.List.{List}
 use mathlib.Core.Logic.{_⊎_}
 use lib.ListN.{length}
-use Rattle.sheet.specs.declared.Part.{Part}
 use Rattle.pdu.specs.Read.{readPdu}
 use Rattle.judge.specs.Judge.{dataIn, judgeOf}
 use Rattle.judge.specs.declared.Store.{Store}
@@ -15,14 +14,15 @@ use Rattle.device.specs.Sessions.{sessionFor}
 use Rattle.device.specs.Events.{Called}
 use Rattle.device.specs.declared.Sessions.{Sessions}
 use Rattle.device.specs.declared.Changed.{Changed}
+use Rattle.device.specs.declared.Run.{Run}
 use Rattle.device.specs.declared.Made.{Made}
 
 -- so many bytes from a place on; 0 and 0 for none
-abbrev pub part : ℕ → ℕ → Part
+abbrev pub part : ℕ → ℕ → Run
 part at n = record { offset = at; length = n }
 
 -- the run of a store, d being the data of the request
-abbrev pub partOf : List ℕ → Store → Part
+abbrev pub partOf : List ℕ → Store → Run
 partOf d store.Nothing = part 0 0
 partOf d (store.Number at w x) = part at w
 partOf d (store.Data zeros at) = part at (zeros + length d)

@@ -22,6 +22,14 @@ StoreSafe s d (store.Data zeros at) = at + length (padded zeros d) ≤ length s
 StoreSafe s d (store.Bits at n) = (at + n ≤ length s) × (length d ≡ n + n)
 StoreSafe s d (store.Fill at n b) = at + n ≤ length s
 
+-- a store in a sheet of n bytes has numbers of 16 bits
+abbrev pub Narrow : ℕ → Store → Type 0
+Narrow n store.Nothing = Unit {0}
+Narrow n (store.Number at w x) = n ≤ 16384
+Narrow n (store.Data zeros at) = n ≤ 16384
+Narrow n (store.Bits at m) = n ≤ 16384
+Narrow n (store.Fill at m b) = n ≤ 16384
+
 -- an answer, s being the sheet after the stores
 abbrev pub AnswerSafe : List ℕ → List ℕ → Answer → Type 0
 AnswerSafe s d answer.Silence = Unit {0}

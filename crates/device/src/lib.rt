@@ -4,14 +4,17 @@ mod session;
 mod store;
 
 pub use session::button;
+pub use session::button_known;
 pub use session::connect;
 pub use session::disconnect;
 pub use session::fresh;
 pub use session::session_of;
+ghost use mathlib.Core.Path.{_≡_};
+ghost use mathlib.Core.Bool.{true};
+ghost use Rattle.sheet.specs.Rules.{Accepted};
 ghost use Rattle.device.specs.Changed.{Requested};
 use judge::Request;
 use judge::Session;
-use sheet::Part;
 
 // The sessions of connections 0 and 1.
 #[repr(C)]
@@ -27,11 +30,18 @@ pub struct Done {
     pub sessions: Sessions,
 }
 
+// A run of sheet bytes: where it begins, and how many it has. A sheet has at most 16,384, so both fit in 16 bits.
+#[repr(C)]
+pub struct Run {
+    pub offset: u16,
+    pub length: u16,
+}
+
 // The runs of sheet bytes that a request stored, at most two; 0 and 0 for one that there is not.
 #[repr(C)]
 pub struct Changed {
-    pub first: Part,
-    pub second: Part,
+    pub first: Run,
+    pub second: Run,
 }
 
 // What a request gave, and what it stored.
@@ -53,6 +63,32 @@ pub fn request(
 ) -> Made
     ensures { λ r. ⌜ Requested sessions mode connection group (now (apdu .entry)) (now (sheet .entry)) (now (answer .entry)) r (now (sheet .exit)) (now (answer .exit)) ⌝ }
 {
+    request_known(
+        false,
+        sessions,
+        mode,
+        connection,
+        group,
+        apdu,
+        sheet,
+        answer,
+    )
+}
+
+// The same; a sheet that is known to be accepted is not judged again.
+pub fn request_known(
+    known: bool,
+    sessions: Sessions,
+    mode: u8,
+    connection: u8,
+    group: u16,
+    apdu: &[u8],
+    sheet: &mut [u8],
+    answer: &mut [u8],
+) -> Made
+    requires { ⌜ (known ≡ true → Accepted (now sheet)) ⌝ }
+    ensures { λ r. ⌜ Requested sessions mode connection group (now (apdu .entry)) (now (sheet .entry)) (now (answer .entry)) r (now (sheet .exit)) (now (answer .exit)) ⌝ }
+{
     let found = pdu::service_of(pdu::code(apdu));
     let parsed = pdu::read_found(found, apdu);
     let d = judge::data_in(parsed, apdu);
@@ -64,7 +100,7 @@ pub fn request(
         found,
         parsed,
     };
-    let k = judge::judge(answer.len(), &sheet[..], x, apdu, d);
+    let k = judge::judge(answer.len(), known, &sheet[..], x, apdu, d);
     let changed = store::carry_out(sheet, k, d);
     let reply = k.answer;
     let count = answer::answer(answer, reply, &sheet[..], d);

@@ -4,7 +4,7 @@ use crate::Sessions;
 use judge::Session;
 use judge::Turn;
 ghost use mathlib.Core.Path.{_≡_};
-ghost use mathlib.Core.Bool.{false};
+ghost use mathlib.Core.Bool.{true, false};
 ghost use Prim.Native.Nat.{_+_, _-_, _≤_};
 ghost use Rattle.sheet.specs.Rules.{Accepted};
 ghost use Rattle.sheet.specs.Layout.{_of_};
@@ -172,7 +172,15 @@ fn flags_with(s: &[u8], on: bool) -> u8
 pub fn button(sheet: &mut [u8], on: bool) -> u8
     ensures { λ r. ⌜ Pressed (now (sheet .entry)) on r (now (sheet .exit)) ⌝ }
 {
-    let n = sheet::refusal(&sheet[..]);
+    button_known(false, sheet, on)
+}
+
+// The same; a sheet that is known to be accepted is not judged again.
+pub fn button_known(known: bool, sheet: &mut [u8], on: bool) -> u8
+    requires { ⌜ (known ≡ true → Accepted (now sheet)) ⌝ }
+    ensures { λ r. ⌜ Pressed (now (sheet .entry)) on r (now (sheet .exit)) ⌝ }
+{
+    let n = sheet::refusal_unless(known, &sheet[..]);
     if n != 0 {
         return n;
     }

@@ -1,14 +1,14 @@
 // Carrying out: what a decision stores, and nothing is judged.
 use crate::Changed;
+use crate::Run;
 use judge::Decision;
 use judge::Store;
-use sheet::Part;
 ghost use mathlib.Core.Path.{_≡_};
 ghost use Prim.Native.Nat.{_+_, _≤_};
 ghost use lib.ListN.{length};
 ghost use Rattle.octets.specs.Splice.{splice};
 ghost use Rattle.device.specs.Carry.{padded, build, bitAt, storeOf};
-ghost use Rattle.device.specs.Safe.{StoreSafe};
+ghost use Rattle.device.specs.Safe.{StoreSafe, Narrow};
 ghost use Rattle.device.specs.Changed.{partOf, changesOf};
 
 // n bytes from a place on changed by n AND bytes and then n XOR bytes.
@@ -55,37 +55,37 @@ pub fn store(s: &mut [u8], run: Store, d: &[u8])
 }
 
 // Where a run stands in the sheet, and how many bytes it has: 0 and 0 if nothing is stored.
-fn part(s: &[u8], run: Store, d: &[u8]) -> Part
-    requires { ⌜ StoreSafe (now s) (now d) run ⌝ }
+fn part(s: &[u8], run: Store, d: &[u8]) -> Run
+    requires { ⌜ (StoreSafe (now s) (now d) run) × (Narrow (length (now s)) run) ⌝ }
     ensures { λ r. ⌜ r ≡ partOf (now (d .entry)) run ⌝ }
 {
     match run {
-        Store::Nothing => Part {
+        Store::Nothing => Run {
             offset: 0,
             length: 0,
         },
-        Store::Number { at, width, .. } => Part {
-            offset: at,
-            length: width,
+        Store::Number { at, width, .. } => Run {
+            offset: at as u16,
+            length: width as u16,
         },
-        Store::Data { zeros, at } => Part {
-            offset: at,
-            length: zeros + d.len(),
+        Store::Data { zeros, at } => Run {
+            offset: at as u16,
+            length: (zeros + d.len()) as u16,
         },
-        Store::Bits { at, n } => Part {
-            offset: at,
-            length: n,
+        Store::Bits { at, n } => Run {
+            offset: at as u16,
+            length: n as u16,
         },
-        Store::Fill { at, n, .. } => Part {
-            offset: at,
-            length: n,
+        Store::Fill { at, n, .. } => Run {
+            offset: at as u16,
+            length: n as u16,
         },
     }
 }
 
 // At most two runs, and where they stand.
 pub fn carry_out(s: &mut [u8], k: Decision, d: &[u8]) -> Changed
-    requires { ⌜ (StoreSafe (now s) (now d) (k .first)) × (StoreSafe (storeOf (now s) (now d) (k .first)) (now d) (k .second)) ⌝ }
+    requires { ⌜ (StoreSafe (now s) (now d) (k .first)) × (StoreSafe (storeOf (now s) (now d) (k .first)) (now d) (k .second)) × (Narrow (length (now s)) (k .first)) × (Narrow (length (now s)) (k .second)) ⌝ }
     ensures { λ r. ⌜ (now (s .exit) ≡ storeOf (storeOf (now (s .entry)) (now (d .entry)) (k .first)) (now (d .entry)) (k .second)) × (r ≡ changesOf (now (d .entry)) k) ⌝ }
 {
     let one = k.first;

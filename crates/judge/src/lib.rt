@@ -12,6 +12,7 @@ mod services;
 
 ghost use mathlib.Core.Path.{_≡_};
 ghost use Prim.Native.Nat.{ℕ};
+ghost use mathlib.Core.Bool.{true};
 ghost use mathlib.Core.List.{List};
 ghost use Rattle.sheet.specs.Rules.{Accepted};
 ghost use Rattle.pdu.specs.Rules.{codeOf};
@@ -176,15 +177,16 @@ fn checked(s: &[u8], x: Request, apdu: &[u8], d: &[u8]) -> Decision
     found(s, x, d)
 }
 
-// What is decided about a request of that APDU, with its data: room is the length of the answer buffer.
-pub fn judge(room: usize, s: &[u8], x: Request, apdu: &[u8], d: &[u8]) -> Decision
-    requires { ⌜ (x .found ≡ serviceAt (codeOf (now apdu))) × (x .parsed ≡ readPdu (now apdu)) × (now d ≡ dataIn (x .parsed) (now apdu)) ⌝ }
+// What is decided about a request of that APDU, with its data: room is the length of the answer buffer. A sheet that is known to
+// be accepted is not judged again.
+pub fn judge(room: usize, known: bool, s: &[u8], x: Request, apdu: &[u8], d: &[u8]) -> Decision
+    requires { ⌜ (known ≡ true → Accepted (now s)) × (x .found ≡ serviceAt (codeOf (now apdu))) × (x .parsed ≡ readPdu (now apdu)) × (now d ≡ dataIn (x .parsed) (now apdu)) ⌝ }
     ensures { λ r. ⌜ r ≡ judgeOf room (now (s .entry)) (x .session) (x .mode) (x .group) (now (apdu .entry)) ⌝ }
 {
     if room < 16 {
         return refused(3);
     }
-    let n = sheet::refusal(s);
+    let n = sheet::refusal_unless(known, s);
     if n != 0 {
         return refused(n);
     }

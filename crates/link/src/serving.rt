@@ -9,7 +9,7 @@ use cemi::Fields;
 use cemi::Frame;
 use cemi::Got;
 use device::Changed;
-use sheet::Part;
+use device::Run;
 ghost use mathlib.Core.Path.{_≡_};
 ghost use mathlib.Core.Bool.{cond};
 ghost use mathlib.Core.List.{[]};
@@ -26,11 +26,11 @@ fn unchanged() -> Changed
     ensures { λ r. ⌜ r ≡ none ⌝ }
 {
     Changed {
-        first: Part {
+        first: Run {
             offset: 0,
             length: 0,
         },
-        second: Part {
+        second: Run {
             offset: 0,
             length: 0,
         },

@@ -6,11 +6,26 @@ ghost use Rattle.octets.specs.Bytes.{IsNum, bytesOf};
 ghost use Rattle.octets.specs.Splice.{splice as spliced};
 ghost use Rattle.octets.specs.Moved.{moved};
 
+// The byte at a place, and 0 past the end. In 32 bits: a processor that has no more reckons with it in one register.
+pub fn narrow_byte(s: &[u8], at: usize) -> u32
+    ensures { λ r. ⌜ IsNum (now (s .entry)) at 1 256 r ⌝ }
+{
+    if at < s.len() { s[at] as u32 } else { 0 }
+}
+
+// The number in the two bytes from a place, in 32 bits too.
+pub fn narrow_word(s: &[u8], at: usize) -> u32
+    requires { ⌜ at + 1 < length (now s) ⌝ }
+    ensures { λ r. ⌜ IsNum (now (s .entry)) at 2 65536 r ⌝ }
+{
+    (s[at] as u32) * 256 + (s[at + 1] as u32)
+}
+
 // The byte at a place, and 0 past the end.
 pub fn byte(s: &[u8], at: usize) -> usize
     ensures { λ r. ⌜ IsNum (now (s .entry)) at 1 256 r ⌝ }
 {
-    if at < s.len() { s[at] as usize } else { 0 }
+    narrow_byte(s, at) as usize
 }
 
 // The number in the two bytes from a place.
@@ -18,7 +33,7 @@ pub fn word(s: &[u8], at: usize) -> usize
     requires { ⌜ at + 1 < length (now s) ⌝ }
     ensures { λ r. ⌜ IsNum (now (s .entry)) at 2 65536 r ⌝ }
 {
-    (s[at] as usize) * 256 + (s[at + 1] as usize)
+    narrow_word(s, at) as usize
 }
 
 // The number in the w bytes from a place.

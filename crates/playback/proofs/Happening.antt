@@ -35,6 +35,9 @@ use Rattle.playback.specs.Event.{flagOf, Presses, Names, Happens}
 pub flag-none : (o : ℕ) → (o ≡ 1 → ⊥) → none ≡ flagOf o
 flag-none o n = sym (ap (λ (t : Bool). cond t (record { first = part (head.flags .at) 1; second = part 0 0 }) none) (ne-eqb o 1 n))
 
+pub flag-narrow : (k : ℕ) → k ≡ head.flags .at → k < 65536
+flag-narrow k e = omega arith
+
 pub flag-set : (o k : ℕ) → o ≡ 1 → k ≡ head.flags .at → _≡_ {A = Changed} (record { first = part k 1; second = part 0 0 }) (flagOf o)
 flag-set o k e h = rw e (ap (λ (i : ℕ). record { first = part i 1; second = part 0 0 }) h)
 

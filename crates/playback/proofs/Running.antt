@@ -2,6 +2,7 @@
 -- Assumes nothing.
 use Prim.Native.Nat.{ℕ, zero, suc, _+_, _-_, _*_, _≤_, _<_, min}
 use mathlib.Core.Path.{_≡_, refl, sym, _∙_, ap, ap₂, subst}
+use mathlib.Core.Bool.{Bool, true}
 use mathlib.Core.List.{List, [], _∷_, _++_, append-assoc, append-nil}
 use lib.ListN.{length, take, drop, length-append, length-take, length-drop}
 use lib.Seq.{take-at, drop-at, drop-drop, length-take-le, take-all}
@@ -10,10 +11,12 @@ use native.Mathlib.Numerals.{add-one}
 use native.Mathlib.Omega.{arith}
 use Rattle.octets.specs.Splice.{splice}
 use Rattle.octets.proofs.Splices.{splice-front, splice-more, splice-none, length-splice}
+use Rattle.sheet.specs.Rules.{Accepted}
 use Rattle.device.specs.Events.{State}
 use Rattle.events.specs.Events.{Event, eventOf, after, runBy, run}
 use Rattle.device.specs.declared.Sessions.{Sessions}
 use Rattle.events.proofs.Append.{run-append}
+use Rattle.events.proofs.Stays.{stays}
 use Rattle.playback.specs.Trace.{count, eventAt, eventsFrom, traceOf}
 use Rattle.playback.specs.Rules.{Playable}
 use Rattle.playback.specs.Playing.{at, line, lineOf, logOf}
@@ -60,6 +63,17 @@ pub record Going (q : Sessions) (s t : List ℕ) (from n : ℕ) (log : List ℕ)
   pub logged : log′ ≡ splice log 0 (logOf (at q s) (eventsFrom t from j))
   pub long : length log′ ≡ length log
   pub same : length s′ ≡ length s
+
+-- an accepted sheet is accepted after any events
+run-stays : (x : State) (es : List Event) → Accepted (x .sheet) → Accepted (run x es .sheet)
+unfolding runBy
+run-stays x [] ok = ok
+run-stays x (e ∷ es) ok = run-stays (after x e) es (stays x e ok)
+
+pub known-goes : (q : Sessions) (s t : List ℕ) (from n : ℕ) (log : List ℕ) (j : ℕ) (r : Sessions) (s₁ log₁ : List ℕ) (k : Bool)
+    → (k ≡ true → Accepted s) → Going q s t from n log j r s₁ log₁ → k ≡ true → Accepted s₁
+known-goes q s t from n log j r s₁ log₁ k h g e =
+    subst (λ (y : State). Accepted (y .sheet)) (sym (g .state)) (run-stays (at q s) (eventsFrom t from j) (h e))
 
 module _ (q : Sessions) (s t : List ℕ) (from n : ℕ) (log : List ℕ) where
   pub goes-begin : Going q s t from n log 0 q s log

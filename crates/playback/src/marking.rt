@@ -1,14 +1,17 @@
 // Playing back with marks: of each byte of the sheet, and of each level, the number of the event after which it was another last.
 ghost use mathlib.Core.Path.{_≡_};
+ghost use mathlib.Core.Bool.{true};
 ghost use Prim.Native.Nat.{_≤_, _<_};
 ghost use lib.ListN.{length};
 ghost use Rattle.sheet.specs.Demand.{Tells};
+ghost use Rattle.sheet.specs.Rules.{Accepted};
 ghost use Rattle.playback.specs.Trace.{count};
 ghost use Rattle.playback.specs.Rules.{Playable};
 ghost use Rattle.playback.specs.Playing.{line as lineLength, refusalIn};
 ghost use Rattle.playback.specs.Marking.{markDemands, Marks};
 ghost use Rattle.playback.specs.Event.{Ready, Roomy, MarkedEvent, RanMarked};
 use crate::Played;
+use crate::event::is_accepted;
 use crate::event::play_event;
 use crate::layout::line;
 use crate::playing::due;
@@ -38,6 +41,7 @@ fn mark_rule(k: usize, n: usize, played: u32, seen: usize, marks: usize) -> u8
 
 // Event i, its line in the log, and its marks.
 fn mark_event(
+    known: bool,
     q: Sessions,
     trace: &[u8],
     i: usize,
@@ -47,17 +51,54 @@ fn mark_event(
     marks: &mut [u32],
     played: u32,
 ) -> Sessions
-    requires { ⌜ Playable (now trace) × (i < count (now trace)) × (length (now log) ≡ lineLength) × Roomy (now sheet) 1 played (now seen) (now marks) ⌝ }
+    requires { ⌜ Playable (now trace) × (i < count (now trace)) × (length (now log) ≡ lineLength) × Roomy (now sheet) 1 played (now seen) (now marks) × (known ≡ true → Accepted (now sheet)) ⌝ }
     ensures { λ r. ⌜ MarkedEvent q (now (sheet .entry)) (now (trace .entry)) i played (now (marks .entry)) r (now (sheet .exit)) (now (log .exit)) (now (seen .exit)) (now (marks .exit)) ⌝ }
 {
-    let made = play_event(q, trace, i, sheet, log);
+    let made = play_event(known, q, trace, i, sheet, log);
     let done = made.done;
     let after = done.sessions;
     mark(marks, seen, &sheet[..], made.changed, q, after, played + 1);
     after
 }
 
-// n events from event `from` on.
+// n events from event `from` on, on a sheet that may be known to be accepted.
+fn mark_known(
+    known: bool,
+    q: Sessions,
+    sheet: &mut [u8],
+    trace: &[u8],
+    from: usize,
+    n: usize,
+    log: &mut [u8],
+    seen: &mut [u8],
+    marks: &mut [u32],
+    played: u32,
+) -> Sessions
+    requires { ⌜ Ready (now trace) from n (now log) × Roomy (now sheet) n played (now seen) (now marks) × (known ≡ true → Accepted (now sheet)) ⌝ }
+    ensures { λ r. ⌜ RanMarked q (now (sheet .entry)) (now (trace .entry)) from n (now (log .entry)) played (now (marks .entry)) r (now (sheet .exit)) (now (log .exit)) (now (seen .exit)) (now (marks .exit)) ⌝ }
+{
+    let mut sessions = q;
+    let mut j = 0;
+    while j < n {
+        let a = line::SIZE * j;
+        let z = a + line::SIZE;
+        sessions = mark_event(
+            known,
+            sessions,
+            trace,
+            from + j,
+            sheet,
+            &mut log[a..z],
+            seen,
+            marks,
+            played + j as u32,
+        );
+        j += 1;
+    }
+    sessions
+}
+
+// The same; the sheet is judged once, before the first of them.
 fn mark_events(
     q: Sessions,
     sheet: &mut [u8],
@@ -72,24 +113,8 @@ fn mark_events(
     requires { ⌜ Ready (now trace) from n (now log) × Roomy (now sheet) n played (now seen) (now marks) ⌝ }
     ensures { λ r. ⌜ RanMarked q (now (sheet .entry)) (now (trace .entry)) from n (now (log .entry)) played (now (marks .entry)) r (now (sheet .exit)) (now (log .exit)) (now (seen .exit)) (now (marks .exit)) ⌝ }
 {
-    let mut sessions = q;
-    let mut j = 0;
-    while j < n {
-        let a = line::SIZE * j;
-        let z = a + line::SIZE;
-        sessions = mark_event(
-            sessions,
-            trace,
-            from + j,
-            sheet,
-            &mut log[a..z],
-            seen,
-            marks,
-            played + j as u32,
-        );
-        j += 1;
-    }
-    sessions
+    let known = is_accepted(&sheet[..]);
+    mark_known(known, q, sheet, trace, from, n, log, seen, marks, played)
 }
 
 // As `play` does it, with marks; `played` events had been marked before. `seen` is room for the sheet.

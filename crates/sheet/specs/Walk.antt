@@ -12,7 +12,7 @@ use Rattle.sheet.specs.Layout.{_of_}
 use Rattle.sheet.specs.Lookup.{common}
 use Rattle.sheet.specs.declared.Memory.{Memory}
 use Rattle.sheet.specs.declared.ranges.Reach.{Reach}
-use Rattle.sheet.specs.declared.judge.Verdict.{Verdict}
+use Rattle.sheet.specs.declared.entry_rules.Verdict.{Verdict}
 use Rattle.sheet.specs.Region as region
 
 -- S1 to S4 of an edition hold
@@ -80,10 +80,10 @@ lastOf k f = byKind k f (f - 1) (f - 1)
 
 -- no body is so long, and no walk comes so far
 abbrev pub long : ℕ
-long = 16777216
+long = 65536
 
 abbrev pub far : ℕ
-far = 1099511627776
+far = 2147483648
 
 -- r is 0 exactly if `late` is and S9 holds of a body that starts at `from`
 pub record Late (late from z six r : ℕ) : Type 0 where

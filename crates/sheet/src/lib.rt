@@ -1,7 +1,7 @@
 // The device sheet: its rules, its entries and their bodies.
+mod entry_rules;
 mod frame;
 mod head;
-mod judge;
 mod layout;
 mod lookup;
 mod old;
@@ -30,6 +30,7 @@ pub use lookup::user_region;
 pub use lookup::user_region_part;
 pub use old::convert;
 pub use old::refusal;
+pub use old::refusal_unless;
 pub use ranges::range;
 pub use records::count;
 pub use records::count_at;

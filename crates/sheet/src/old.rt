@@ -1,6 +1,7 @@
 // What a call is refused by on a sheet; and the conversion of an old sheet.
 ghost use mathlib.Core.Path.{_≡_};
-ghost use Rattle.sheet.specs.Rules.{refusalOf};
+ghost use mathlib.Core.Bool.{true};
+ghost use Rattle.sheet.specs.Rules.{refusalOf, Accepted};
 ghost use Rattle.sheet.specs.Convert.{Converts};
 use crate::layout::head;
 use crate::walk::OLD;
@@ -29,4 +30,15 @@ pub fn convert(sheet: &mut [u8]) -> u8
     }
     octets::put(sheet, head::EDITION, 1, 2);
     1
+}
+
+// The same where it may be known that the sheet is accepted: then it is not judged again.
+pub fn refusal_unless(known: bool, sheet: &[u8]) -> u8
+    requires { ⌜ (known ≡ true → Accepted (now sheet)) ⌝ }
+    ensures { λ r. ⌜ r ≡ refusalOf (now (sheet .entry)) ⌝ }
+{
+    if known {
+        return 0;
+    }
+    refusal(sheet)
 }

@@ -15,6 +15,8 @@ use crate::layout::kind;
 use crate::layout::property;
 use crate::layout::region;
 use octets::byte;
+use octets::narrow_byte;
+use octets::narrow_word;
 use octets::word;
 
 // How many user regions there are.
@@ -120,12 +122,20 @@ pub fn length(k: usize, e: &[u8]) -> usize
     }
 }
 
-// The elements of a property.
+// The elements of a property, in 32 bits.
+pub fn narrow_elements(e: &[u8]) -> u32
+    requires { ⌜ property.maximum .at + 1 < length (now e) ⌝ }
+    ensures { λ r. ⌜ (r ≡ property.element of now (e .entry) * property.maximum of now (e .entry)) × (r < 16777216) ⌝ }
+{
+    narrow_byte(e, property::ELEMENT) * narrow_word(e, property::MAXIMUM)
+}
+
+// The same as a length.
 pub fn elements(e: &[u8]) -> usize
     requires { ⌜ property.maximum .at + 1 < length (now e) ⌝ }
     ensures { λ r. ⌜ (r ≡ property.element of now (e .entry) * property.maximum of now (e .entry)) × (r < 16777216) ⌝ }
 {
-    byte(e, property::ELEMENT) * word(e, property::MAXIMUM)
+    narrow_elements(e) as usize
 }
 
 fn at_least_one(n: usize) -> usize

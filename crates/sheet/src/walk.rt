@@ -7,12 +7,12 @@ ghost use Rattle.sheet.specs.Entries.{place as placeOf, floor, startOf};
 ghost use Rattle.sheet.specs.First.{orElse};
 ghost use Rattle.sheet.specs.Rules.{endDemands, entriesRule, walkRule, ruleOf, verdictOf, edition};
 ghost use Rattle.sheet.specs.Walk.{Framed, Entry, Steps, lastOf, far};
+use crate::entry_rules::Verdict;
+use crate::entry_rules::group_step;
+use crate::entry_rules::property_step;
+use crate::entry_rules::region_step;
 use crate::frame::frame_rule;
 use crate::frame::zero_rule;
-use crate::judge::Verdict;
-use crate::judge::group_step;
-use crate::judge::property_step;
-use crate::judge::region_step;
 use crate::layout::head;
 use crate::layout::kind;
 use crate::table::contents;
@@ -22,26 +22,32 @@ use crate::table::place;
 use octets::byte;
 
 // S6, S7 or S8 of entry i of a kind, and S9 of its body. An arm for each kind, so that each is compiled by itself.
-fn step(s: &[u8], k: usize, i: usize, at: usize, last: usize, z: usize, late: usize) -> Verdict
+fn step(s: &[u8], k: usize, i: u32, at: usize, last: u32, z: u32, late: u32) -> Verdict
     requires { ⌜ Entry (now s) k i × (at ≡ placeOf (now s) k i) × (last ≡ lastOf k (floor (now s) k i)) × (z < far) ⌝ }
     ensures { λ r. ⌜ Steps (now (s .entry)) k i z late r ⌝ }
 {
     match k {
-        kind::REGIONS => region_step(at, last, z, late, part(s, kind::REGIONS, i, at)),
-        kind::PROPERTIES => property_step(at, last, z, late, part(s, kind::PROPERTIES, i, at)),
-        kind::GROUPS => group_step(s, at, last, z, late, part(s, kind::GROUPS, i, at)),
-        _ => region_step(at, last, z, late, part(s, kind::USERS, i, at)),
+        kind::REGIONS => region_step(at, last, z, late, part(s, kind::REGIONS, i as usize, at)),
+        kind::PROPERTIES => property_step(
+            at,
+            last,
+            z,
+            late,
+            part(s, kind::PROPERTIES, i as usize, at),
+        ),
+        kind::GROUPS => group_step(s, at, last, z, late, part(s, kind::GROUPS, i as usize, at)),
+        _ => region_step(at, last, z, late, part(s, kind::USERS, i as usize, at)),
     }
 }
 
 // S9, of all bodies, the last of which ends at z.
-fn end_rule(s: &[u8], z: usize, late: usize) -> u8
+fn end_rule(s: &[u8], z: u32, late: u32) -> u8
     ensures { λ r. ⌜ ((late ≡ 0 → ⊥) → r ≡ 9) × (late ≡ 0 → z ≡ startOf (now (s .entry)) kinds → Tells r (endDemands (now (s .entry)))) ⌝ }
 {
     if late != 0 {
         return 9;
     }
-    if z == s.len() { 0 } else { 9 }
+    if z as usize == s.len() { 0 } else { 9 }
 }
 
 // S6 of the user regions.
@@ -49,10 +55,10 @@ fn users_rule(s: &[u8]) -> u8
     requires { ⌜ Framed edition (now s) ⌝ }
     ensures { λ r. ⌜ r ≡ entriesRule (now (s .entry)) users ⌝ }
 {
-    let n = many(s, kind::USERS);
-    let mut i = 0;
+    let n = many(s, kind::USERS) as u32;
+    let mut i: u32 = 0;
     let mut at = place(s, kind::USERS, 0);
-    let mut last = 0;
+    let mut last: u32 = 0;
     while i < n {
         let judged = step(s, kind::USERS, i, at, last, 0, 0);
         let rule = judged.rule;
@@ -86,15 +92,15 @@ fn walk(s: &[u8]) -> u8
 {
     let mut k = 0;
     let mut at = head::SIZE;
-    let mut z = contents(s);
-    let mut late = 0;
+    let mut z = contents(s) as u32;
+    let mut late: u32 = 0;
     'walk: loop {
         if kind::ALL <= k {
             break 'walk end_rule(s, z, late);
         }
-        let n = many(s, k);
-        let mut i = 0;
-        let mut last = 0;
+        let n = many(s, k) as u32;
+        let mut i: u32 = 0;
+        let mut last: u32 = 0;
         while i < n {
             let judged = step(s, k, i, at, last, z, late);
             let rule = judged.rule;

@@ -3,13 +3,14 @@
 use Prim.Native.Nat.{ℕ}
 use mathlib.Core.Path.{_≡_, refl, ap, sym, subst, _∙_}
 use mathlib.Core.List.{List}
+use lib.ListN.{length}
 use Rattle.pdu.specs.Read.{readPdu}
 use Rattle.pdu.specs.declared.Parsed.{Parsed}
 use Rattle.judge.specs.Judge.{dataIn, judgeOf}
 use Rattle.judge.specs.declared.Session.{Session}
 use Rattle.judge.specs.declared.Decision.{Decision}
 use Rattle.device.specs.Carry.{storeOf, turnOf, closes, answerOf, Filled}
-use Rattle.device.specs.Safe.{StoreSafe, AnswerSafe, Roomy, Safe}
+use Rattle.device.specs.Safe.{StoreSafe, Narrow, AnswerSafe, Roomy, Safe}
 use Rattle.device.specs.Step.{Step, stepBy, stepOf}
 use Rattle.device.specs.Sessions.{sessionFor, turnedOf, sessionsAfter}
 use Rattle.device.specs.Events.{Effect, requestOf, Did}
@@ -17,6 +18,7 @@ use Rattle.device.specs.Changed.{changesOf, changedOf}
 use Rattle.device.specs.declared.Sessions.{Sessions}
 use Rattle.device.specs.declared.Done.{Done}
 use Rattle.device.specs.declared.Changed.{Changed}
+use Rattle.device.proofs.calls.Sixteen.{narrow}
 use Rattle.device.proofs.calls.Safe.{safe}
 use Rattle.device.proofs.calls.Room.{roomy}
 
@@ -30,8 +32,10 @@ module _ (room : ℕ) (s : List ℕ) (q : Session) (mode group : ℕ) (a d : Lis
       subst (λ (x : List ℕ). Safe s x k) (sym whose)
       (subst (λ (x : Decision). Safe s (dataIn (readPdu a) a) x) (sym judged) (safe room s q mode group a))
 
-  pub carry-needs : (StoreSafe s d (k .first)) × (StoreSafe (storeOf s d (k .first)) d (k .second))
-  carry-needs = (is-safe .first, is-safe .second)
+  pub carry-needs : (StoreSafe s d (k .first)) × (StoreSafe (storeOf s d (k .first)) d (k .second)) × (Narrow (length s) (k .first)) × (Narrow (length s) (k .second))
+  carry-needs =
+      let n = subst (λ (x : Decision). Narrow (length s) (x .first) × Narrow (length s) (x .second)) (sym judged) (narrow room s q mode group a) in
+      (is-safe .first, is-safe .second, n .0, n .1)
 
   -- what was carried out is what is said to have changed
   pub changes : (x : Changed) (qs : Sessions) (c : ℕ) → x ≡ changesOf d k → q ≡ sessionFor qs mode c → x ≡ changedOf room s qs mode c group a

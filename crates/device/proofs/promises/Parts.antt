@@ -10,7 +10,6 @@ use Rattle.octets.specs.Bytes.{bytesOf}
 use Rattle.octets.specs.Splice.{splice}
 use Rattle.octets.proofs.Numbers.{length-bytes}
 use Rattle.octets.proofs.Splices.{splice-outside}
-use Rattle.sheet.specs.declared.Part.{Part}
 use Rattle.pdu.specs.Read.{readPdu}
 use Rattle.judge.specs.Judge.{dataIn, judgeOf}
 use Rattle.judge.specs.declared.Store.{Store}
@@ -24,6 +23,7 @@ use Rattle.device.specs.Events.{requestOf}
 use Rattle.device.specs.Changed.{partOf, changesOf, changedOf, Requested, Outside, none}
 use Rattle.device.specs.declared.Sessions.{Sessions}
 use Rattle.device.specs.declared.Changed.{Changed}
+use Rattle.device.specs.declared.Run.{Run}
 use Rattle.device.specs.declared.Made.{Made}
 use Rattle.device.proofs.leaves.Bits.{length-build}
 use Rattle.device.proofs.leaves.Stores.{length-padded, length-store}
@@ -31,7 +31,7 @@ use Rattle.device.proofs.calls.Safe.{safe}
 use Rattle.device.proofs.due.Shapes.{Shape, refuse, deny, reply, done, restart, shape}
 
 -- a byte outside one run
-abbrev Apart : Part → ℕ → Type 0
+abbrev Apart : Run → ℕ → Type 0
 Apart p i = (i < p .offset) ⊎ (p .offset + p .length ≤ i)
 
 spliced :

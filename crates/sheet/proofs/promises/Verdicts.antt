@@ -3,7 +3,7 @@
 use Prim.Native.Nat.{ℕ}
 use mathlib.Core.Path.{_≡_, refl, sym, _∙_}
 use mathlib.Core.Logic.{_↔_, _⊎_, inl, inr}
-use mathlib.Core.Bool.{cond}
+use mathlib.Core.Bool.{Bool, true, cond}
 use mathlib.Core.List.{List}
 use lib.Dec.{eqb}
 use native.Mathlib.Decide.{ℕ-discrete}
@@ -128,6 +128,9 @@ module _ (s : List ℕ) where
       go (inr (inr b)) = inr (inr (refused-bad b))
 
   -- as the callers' calls ask
+  pub known-unrefused : (k : Bool) → (k ≡ true → Accepted s) → k ≡ true → 0 ≡ refusalOf s
+  known-unrefused k h t = sym (refused-none (h t))
+
   pub not-refused : (n : ℕ) → n ≡ refusalOf s → n ≡ 0 → Accepted s
   not-refused n e z = unrefused (sym e ∙ z)
 

@@ -1,19 +1,23 @@
 -- What is judged of a body.
 -- Assumes nothing.
-use Prim.Native.Nat.{ℕ, _+_, _≤_, _<_}
-use mathlib.Core.Path.{_≡_, ap, _∙_, subst}
+use Prim.Native.Nat.{ℕ, _+_, _*_, _≤_, _<_}
+use mathlib.Core.Path.{_≡_, ap, sym, _∙_, subst}
 use mathlib.Core.List.{List}
 use lib.Bits.{bitOr, bitXor, or-add-and, xor-add-and, and-le-l, and-le-r, or-zero-l, xor-self}
 use borrow.Author.Tests.{le-leb, lt-leb}
+use native.Mathlib.Nat.{mul-le-mul}
 use native.Mathlib.Omega.{arith}
 use Rattle.octets.specs.Bytes.{numAt}
 use Rattle.sheet.specs.Demand.{Demand, Tells}
 use Rattle.sheet.specs.Kind.{groups}
 use Rattle.sheet.specs.Layout.{_of_}
 use Rattle.sheet.specs.Group as group
+use Rattle.sheet.specs.Property as property
 use Rattle.sheet.specs.Entries.{sixBits}
+use Rattle.sheet.specs.Rules.{propertyDemands}
 use Rattle.sheet.specs.Walk.{long, Late, VerdictOf}
-use Rattle.sheet.specs.declared.judge.Verdict.{Verdict}
+use Rattle.sheet.specs.declared.entry_rules.Verdict.{Verdict}
+use Rattle.sheet.proofs.rules.Demands.{told, met}
 
 -- two numbers together are 0 if both are; what differs between two is 0 if they are one
 pub or-none : (a b : ℕ) → bitOr a b ≡ 0 → (a ≡ 0) × (b ≡ 0)
@@ -43,6 +47,13 @@ behind ds l late from z six n p a x r t ep el k ea ex ez h =
       rule = t;
       next = λ e. record { at = ep; last = el; kept = subst (λ (y : ℕ). Late late y z six (r .late)) ea (subst (λ (y : ℕ). Late late a z y (r .late)) ex k); end = ez; short = h };
     }
+
+-- the elements of a property that breaks nothing
+pub elements-short : (f r n : ℕ) (e : List ℕ) → Tells r (propertyDemands f e) → r ≡ 0 → n ≡ property.element of e * property.maximum of e → n < long
+elements-short f r n e t z q =
+    let h = met (propertyDemands f e) tt (sym (told r _ t) ∙ z) in
+    let p : property.element of e * property.maximum of e ≤ 10 * 4095 = mul-le-mul (h .1 .1 .1 .1 .0) (h .1 .1 .1 .1 .1 .1 .0) in
+    omega (arith, p)
 
 -- the byte of a group object that is to be below 64
 module _ (s e : List ℕ) where

@@ -18,7 +18,7 @@ use Rattle.sheet.specs.Property as property
 use Rattle.sheet.specs.Entries.{count, size, base, place, contents, entry, floor, floorAfter, offsetOf, lengthOf, sixBits, bodyEnd, startOf, reached}
 use Rattle.sheet.specs.Rules.{regionDemands, propertyDemands, groupDemands, entryDemands, bodyDemands, endDemands, frameDemands, zeroDemands, entryRule, bodyRule, entriesRule, bodiesRule, restRule, walkRule, ruleIn, ruleOf, edition}
 use Rattle.sheet.specs.Walk.{Framed, Entry, Counted, lastOf, long, far, Late, Next, VerdictOf, Steps}
-use Rattle.sheet.specs.declared.judge.Verdict.{Verdict}
+use Rattle.sheet.specs.declared.entry_rules.Verdict.{Verdict}
 use Rattle.sheet.proofs.rules.Demands.{told, met, unbroken as all-unbroken}
 use Rattle.sheet.proofs.rules.First.{orElse-some, orElse-left, orElse-right, orElse-zero, orElse-assoc, first-none, first-suc, first-more, first-stop}
 
@@ -149,7 +149,14 @@ pub record Passed (s : List ℕ) (k n a l z late i : ℕ) : Type 0 where
   pub ends : late ≡ 0 → z ≡ reached s k i
   pub near : z ≤ long * (64 * k + i + 1)
 
+-- what is counted fits in 32 bits
 module _ (s : List ℕ) where
+  pub counted-narrow : (k n : ℕ) → Counted s k n → n < 4294967296
+  counted-narrow k n m = omega (arith, m .few)
+
+  pub contents-narrow : (z : ℕ) → Framed edition s → z ≡ contents s → z < 4294967296
+  contents-narrow z f e = omega (arith, f .rows)
+
   pub walk-begins : (z : ℕ) → Framed edition s → z ≡ contents s → Walked s 0 head.size z 0
   unfolding startOf
   walk-begins z f e =

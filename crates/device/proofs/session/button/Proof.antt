@@ -1,29 +1,9 @@
--- `device::session::button` meets its contract.
+-- `device::session::button` meets its contract: of the sheet nothing is known.
 -- Assumes nothing.
 use borrow.Author.Needs.{needs}
-use native.Mathlib.Omega.{arith}
-use Rattle.sheet.proofs.promises.Verdicts.{not-refused}
-use Rattle.device.proofs.calls.Pressing.{put-room, not-pressed, was-pressed}
+use Rattle.octets.proofs.Truths.{never}
 use Rattle.device.proofs.session.button.Statement.{statement}
 use Rattle.device.proofs.session.button.Tie as tie
 
-returns : tie.Need-returns
-returns c = search not-pressed
-
-put-requires : tie.Need-put-requires
-put-requires c κs = search (put-room, arith)
-
-returns-2 : tie.Need-returns-2
-returns-2 c = search was-pressed
-
 pub button-spec : {M : Type 1} → statement M
-button-spec =
-    tie.close
-    (tie.spec
-    (λ c κs. search needs) (λ c. search needs)
-    returns
-    (λ c κs. search (not-refused, needs))
-    (λ c κs. search needs) (λ c. search needs)
-    put-requires
-    (λ c. search needs)
-    returns-2)
+button-spec = tie.close (tie.spec (λ c κs. λ e. never e) (λ c. search needs) (λ c. search needs))

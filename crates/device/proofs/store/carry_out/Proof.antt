@@ -1,7 +1,7 @@
 -- `device::store::carry_out` meets its contract.
 -- Assumes nothing.
 use borrow.Author.Needs.{needs}
-use Rattle.device.proofs.due.Runs.{second-safe, both-stored, both-parts}
+use Rattle.device.proofs.due.Runs.{second-safe, second-narrow, both-stored, both-parts}
 use Rattle.device.proofs.store.carry_out.Statement.{statement}
 use Rattle.device.proofs.store.carry_out.Tie as tie
 
@@ -10,7 +10,7 @@ carry-out-spec =
     tie.close
     (tie.spec
     (λ c κs. search needs) (λ c κs. search needs)
-    (λ c κs. search second-safe)
+    (λ c κs. search (second-safe, second-narrow))
     (λ c κs. search second-safe)
     (λ c. search needs)
     (λ c. search (both-stored, both-parts)))

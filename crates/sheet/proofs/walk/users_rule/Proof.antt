@@ -2,7 +2,7 @@
 -- Assumes nothing.
 use Prim.Native.Nat.{_-_}
 use borrow.Author.Needs.{needs}
-use Rattle.sheet.proofs.rules.Rules.{Ordered, users-begin, users-entry, users-go, users-left, users-end}
+use Rattle.sheet.proofs.rules.Rules.{Ordered, counted-narrow, users-begin, users-entry, users-go, users-left, users-end}
 use Rattle.sheet.proofs.walk.users_rule.Statement.{statement}
 use Rattle.sheet.proofs.walk.users_rule.Tie as tie
 
@@ -18,7 +18,7 @@ users-rule-spec =
     (tie.spec
     Inv-loop
     μ-loop
-    (λ c κs. search needs) (λ c κs. search needs)
+    (λ c κs. search needs) (λ c. search counted-narrow) (λ c κs. search needs)
     (λ c. search users-begin)
     (λ c κs. search (users-entry, needs))
     (λ c. search users-left)

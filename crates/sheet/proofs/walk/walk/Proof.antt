@@ -3,7 +3,7 @@
 use Prim.Native.Nat.{_-_}
 use borrow.Author.Needs.{needs}
 use Rattle.sheet.specs.Kind.{kinds}
-use Rattle.sheet.proofs.rules.Rules.{Walked, Passed, walk-begins, pass-begins, pass-entry, pass-near, pass-goes, walk-goes, left-at, at-end}
+use Rattle.sheet.proofs.rules.Rules.{Walked, Passed, contents-narrow, counted-narrow, walk-begins, pass-begins, pass-entry, pass-near, pass-goes, walk-goes, left-at, at-end}
 use Rattle.sheet.proofs.walk.walk.Statement.{statement}
 use Rattle.sheet.proofs.walk.walk.Tie as tie
 
@@ -28,8 +28,9 @@ walk-spec =
     Inv-walk
     μ-walk
     (λ c κs. search needs)
+    (λ c. search contents-narrow)
     (λ c. search walk-begins)
-    (λ c κs. search needs) (λ c κs. search needs)
+    (λ c κs. search needs) (λ c κs. search needs) (λ c. search counted-narrow)
     (λ c. search pass-begins)
     (λ c κs. search (pass-entry, pass-near, needs))
     (λ c κs. search needs) (λ c. search needs) (λ c. search needs)

@@ -1,15 +1,15 @@
--- `octets::byte` meets its contract: within the slice the byte, past its end 0.
+-- `octets::narrow_byte` meets its contract: within the slice the byte, past its end 0.
 -- Assumes nothing.
 use borrow.Author.Needs.{needs}
 use mathlib.Core.Path.{sym, _∙_}
 use native.Mathlib.Omega.{arith}
 use lib.ListN.{List·getD-eq-default}
 use Rattle.octets.proofs.Numbers.{num-one}
-use Rattle.octets.proofs.byte.Statement.{statement}
-use Rattle.octets.proofs.byte.Tie as tie
+use Rattle.octets.proofs.narrow_byte.Statement.{statement}
+use Rattle.octets.proofs.narrow_byte.Tie as tie
 
-pub byte-spec : {M : Type 1} → statement M
-byte-spec =
+pub narrow-byte-spec : {M : Type 1} → statement M
+narrow-byte-spec =
     tie.close
     (tie.spec
     (λ c. search needs)

@@ -13,31 +13,31 @@ ghost use Rattle.sheet.specs.Group as group;
 use crate::layout::group;
 use crate::layout::property;
 use crate::layout::region;
-use crate::table::elements;
-use octets::byte;
-use octets::word;
-use std::num::wrapping_sub_usize;
+use crate::table::narrow_elements;
+use octets::narrow_byte as byte;
+use octets::narrow_word as word;
+use std::num::wrapping_sub_u32;
 
 // The rule that an entry breaks, or 0. If 0: where the next entry stands, what it is judged against, what is late, and where the
 // body is to end.
 pub struct Verdict {
     pub rule: u8,
     pub at: usize,
-    pub last: usize,
-    pub late: usize,
-    pub end: usize,
+    pub last: u32,
+    pub late: u32,
+    pub end: u32,
 }
 
 // S9, of a body that starts at `from` where the one before ended at z, six being its byte if it is to be below 64: what differs,
 // with what is late already. 0 if nothing is.
-fn late_of(late: usize, from: usize, z: usize, six: usize) -> usize
+fn late_of(late: u32, from: u32, z: u32, six: u32) -> u32
     ensures { λ r. ⌜ Late late from z six r ⌝ }
 {
     late | (from ^ z) | (six / 64)
 }
 
 // S6, of a region whose address is to be at least `floor`.
-fn region_rule(floor: usize, e: &[u8]) -> u8
+fn region_rule(floor: u32, e: &[u8]) -> u8
     requires { ⌜ region.size ≤ length (now e) ⌝ }
     ensures { λ r. ⌜ Tells r (regionDemands floor (now (e .entry))) ⌝ }
 {
@@ -66,7 +66,7 @@ fn region_rule(floor: usize, e: &[u8]) -> u8
 }
 
 // The same, and if it breaks nothing, S9 of its body.
-pub fn region_step(at: usize, floor: usize, z: usize, late: usize, e: &[u8]) -> Verdict
+pub fn region_step(at: usize, floor: u32, z: u32, late: u32, e: &[u8]) -> Verdict
     requires { ⌜ (region.size ≤ length (now e)) × (at < far) × (z < far) ⌝ }
     ensures { λ r. ⌜ VerdictOf (regionDemands floor (now (e .entry))) (floorAfter regions (now (e .entry))) late (offsetOf regions (now (e .entry))) z 0 (lengthOf regions (now (e .entry))) (at + region.size) r ⌝ }
 {
@@ -93,7 +93,7 @@ pub fn region_step(at: usize, floor: usize, z: usize, late: usize, e: &[u8]) -> 
 
 // S7, of a property whose object and id, as one number, are to be above `last`. One less wraps at 0, so that one test has both
 // limits of a number.
-fn property_rule(last: usize, e: &[u8]) -> u8
+fn property_rule(last: u32, e: &[u8]) -> u8
     requires { ⌜ property.size ≤ length (now e) ⌝ }
     ensures { λ r. ⌜ Tells r (propertyDemands (last + 1) (now (e .entry))) ⌝ }
 {
@@ -107,10 +107,10 @@ fn property_rule(last: usize, e: &[u8]) -> u8
     if byte(e, property::TYPE) / 64 % 2 != 0 {
         return 7;
     }
-    if 10 <= wrapping_sub_usize(byte(e, property::ELEMENT), 1) {
+    if 10 <= wrapping_sub_u32(byte(e, property::ELEMENT), 1) {
         return 7;
     }
-    if 4095 <= wrapping_sub_usize(maximum, 1) {
+    if 4095 <= wrapping_sub_u32(maximum, 1) {
         return 7;
     }
     if maximum < word(e, property::COUNT) {
@@ -129,7 +129,7 @@ fn property_rule(last: usize, e: &[u8]) -> u8
 }
 
 // The same, and if it breaks nothing, S9 of its body.
-pub fn property_step(at: usize, last: usize, z: usize, late: usize, e: &[u8]) -> Verdict
+pub fn property_step(at: usize, last: u32, z: u32, late: u32, e: &[u8]) -> Verdict
     requires { ⌜ (property.size ≤ length (now e)) × (at < far) × (z < far) ⌝ }
     ensures { λ r. ⌜ VerdictOf (propertyDemands (last + 1) (now (e .entry))) (lastOf properties (floorAfter properties (now (e .entry)))) late (offsetOf properties (now (e .entry))) z 0 (lengthOf properties (now (e .entry))) (at + property.size) r ⌝ }
 {
@@ -143,7 +143,7 @@ pub fn property_step(at: usize, last: usize, z: usize, late: usize, e: &[u8]) ->
             end: z,
         };
     }
-    let long = elements(e);
+    let long = narrow_elements(e);
     Verdict {
         rule,
         at: at + property::SIZE,
@@ -154,7 +154,7 @@ pub fn property_step(at: usize, last: usize, z: usize, late: usize, e: &[u8]) ->
 }
 
 // S8, of a group object whose address is to be above `last`, and so not 0.
-fn group_rule(last: usize, e: &[u8]) -> u8
+fn group_rule(last: u32, e: &[u8]) -> u8
     requires { ⌜ group.size ≤ length (now e) ⌝ }
     ensures { λ r. ⌜ Tells r (groupDemands (last + 1) (now (e .entry))) ⌝ }
 {
@@ -175,7 +175,7 @@ fn group_rule(last: usize, e: &[u8]) -> u8
 }
 
 // The same, and if it breaks nothing, S9 of its body.
-pub fn group_step(s: &[u8], at: usize, last: usize, z: usize, late: usize, e: &[u8]) -> Verdict
+pub fn group_step(s: &[u8], at: usize, last: u32, z: u32, late: u32, e: &[u8]) -> Verdict
     requires { ⌜ (group.size ≤ length (now e)) × (at < far) × (z < far) ⌝ }
     ensures { λ r. ⌜ VerdictOf (groupDemands (last + 1) (now (e .entry))) (lastOf groups (floorAfter groups (now (e .entry)))) late (offsetOf groups (now (e .entry))) z (sixBits (now (s .entry)) groups (now (e .entry))) (lengthOf groups (now (e .entry))) (at + group.size) r ⌝ }
 {
@@ -205,7 +205,7 @@ pub fn group_step(s: &[u8], at: usize, last: usize, z: usize, late: usize, e: &[
         rule,
         at: at + group::SIZE,
         last: address,
-        late: late_of(late, from, z, byte(s, from)),
+        late: late_of(late, from, z, byte(s, from as usize)),
         end: z + 1,
     }
 }

@@ -1,9 +1,9 @@
--- `sheet::judge::region_step` meets its contract.
+-- `sheet::entry_rules::region_step` meets its contract.
 -- Assumes nothing.
 use borrow.Author.Needs.{needs}
 use Rattle.sheet.proofs.rules.Bodies.{behind}
-use Rattle.sheet.proofs.judge.region_step.Statement.{statement}
-use Rattle.sheet.proofs.judge.region_step.Tie as tie
+use Rattle.sheet.proofs.entry_rules.region_step.Statement.{statement}
+use Rattle.sheet.proofs.entry_rules.region_step.Tie as tie
 
 pub region-step-spec : {M : Type 1} → statement M
 region-step-spec =

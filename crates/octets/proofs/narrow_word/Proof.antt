@@ -1,14 +1,14 @@
--- `octets::word` meets its contract.
+-- `octets::narrow_word` meets its contract.
 -- Assumes nothing.
 use Prim.Native.Nat.{_+_}
 use borrow.Author.Needs.{needs}
 use native.Mathlib.Omega.{arith}
 use Rattle.octets.proofs.Numbers.{num-pair}
-use Rattle.octets.proofs.word.Statement.{statement}
-use Rattle.octets.proofs.word.Tie as tie
+use Rattle.octets.proofs.narrow_word.Statement.{statement}
+use Rattle.octets.proofs.narrow_word.Tie as tie
 
-pub word-spec : {M : Type 1} → statement M
-word-spec =
+pub narrow-word-spec : {M : Type 1} → statement M
+narrow-word-spec =
     tie.close
     (tie.spec
     (λ c. search needs)

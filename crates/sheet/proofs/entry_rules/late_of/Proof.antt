@@ -1,9 +1,9 @@
--- `sheet::judge::late_of` meets its contract.
+-- `sheet::entry_rules::late_of` meets its contract.
 -- Assumes nothing.
 use native.Mathlib.Omega.{arith}
 use Rattle.sheet.proofs.rules.Bodies.{none-late, not-late}
-use Rattle.sheet.proofs.judge.late_of.Statement.{statement}
-use Rattle.sheet.proofs.judge.late_of.Tie as tie
+use Rattle.sheet.proofs.entry_rules.late_of.Statement.{statement}
+use Rattle.sheet.proofs.entry_rules.late_of.Tie as tie
 
 pub late-of-spec : {M : Type 1} → statement M
 late-of-spec =
