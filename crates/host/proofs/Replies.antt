@@ -1,20 +1,25 @@
 -- The count of a reply fits a byte, and what a request did is what its reply says.
 -- Assumes nothing.
 use Prim.Native.Nat.{ℕ, _≤_}
+use mathlib.Core.Path.{_≡_, sym, _∙_, subst}
 use mathlib.Core.List.{List}
 use Rattle.device.specs.Changed.{Requested}
 use Rattle.device.specs.declared.Sessions.{Sessions}
+use Rattle.device.specs.declared.Changed.{Changed}
 use Rattle.device.specs.declared.Made.{Made}
+use Rattle.link.specs.Serving.{ServedFrame}
+use Rattle.link.specs.declared.Link.{Link}
+use Rattle.link.specs.declared.Served.{Served}
 use Rattle.device.proofs.promises.Called.{call-leaves}
 
 module _ (q : Sessions) (mode n group : ℕ) (a s o : List ℕ) (d : Made) (s′ o′ : List ℕ) (c : Requested q mode n group a s o d s′ o′) where
   pub few : d .done .count ≤ 16
   few = call-leaves q mode n group a s o (d .done) s′ o′ (c .call) .most
 
-  pub as-given :
+  pub as-given : (w : Changed) → d .changed ≡ w →
       Requested q mode n group a s o
-      (record { done = record { outcome = d .done .outcome; count = d .done .count; sessions = d .done .sessions }; changed = d .changed }) s′ o′
-  as-given =
+      (record { done = record { outcome = d .done .outcome; count = d .done .count; sessions = d .done .sessions }; changed = w }) s′ o′
+  as-given w e =
       record {
         call =
             record {
@@ -29,5 +34,11 @@ module _ (q : Sessions) (mode n group : ℕ) (a s o : List ℕ) (d : Made) (s′
               sheetBytes = c .call .sheetBytes;
               apduBytes = c .call .apduBytes;
             };
-        changed = c .changed;
+        changed = sym e ∙ c .changed;
       }
+
+-- what a frame that was served did is what is handed on
+pub as-served : (k : Link) (n : ℕ) (b s o : List ℕ) (d : Served) (s′ o′ : List ℕ) (w : Changed) → ServedFrame k n b s o d s′ o′ → d .changed ≡ w
+    → ServedFrame k n b s o (record { number = d .number; outcome = d .outcome; connection = d .connection; count = d .count; changed = w; link = d .link }) s′ o′
+as-served k n b s o d s′ o′ w c e =
+    subst (λ (x : Changed). ServedFrame k n b s o (record { number = d .number; outcome = d .outcome; connection = d .connection; count = d .count; changed = x; link = d .link }) s′ o′) e c

@@ -10,7 +10,9 @@ use Rattle.link.specs.declared.Served.{Served}
 use Rattle.link.specs.declared.Arrived.{Arrived}
 use Rattle.link.specs.declared.Arrived.the-variants.{Request, Connect, Disconnect, Nothing}
 use Rattle.host.specs.declared.Arrival.{Arrival}
+use Rattle.host.specs.Calls.{runsOf}
 use Rattle.host.specs.declared.Answered.{Answered}
+use Rattle.host.specs.declared.Handed.{Handed}
 use Rattle.host.specs.declared.bus.Sender.{Sender}
 
 -- a control that acknowledges, transport's bits being 11ssss and the low ones 11: the frame of that number is asked for again
@@ -33,4 +35,7 @@ arrivalOf (Disconnect c) s = arrivalBy 5 c 0 s
 arrivalOf (Nothing n c) s = arrivalBy n c 0 s
 
 abbrev pub gaveServed : Answered → Link → Served
-gaveServed r k = record { number = r .number; outcome = r .outcome; connection = r .connection; count = r .count; changed = r .changed; link = k }
+gaveServed r k = record { number = r .number; outcome = r .outcome; connection = r .connection; count = r .count; changed = runsOf (r .changed); link = k }
+
+abbrev pub handedOn : Handed → Served
+handedOn r = record { number = r .number; outcome = r .outcome; connection = r .connection; count = r .count; changed = runsOf (r .changed); link = r .link }

@@ -7,9 +7,11 @@ use Rattle.octets.specs.Octets.{Octets}
 use Rattle.device.specs.Sessions.{sessionOf}
 use Rattle.device.specs.Events.{namedOutcome, connectOf, disconnectOf}
 use Rattle.device.specs.declared.Sessions.{Sessions}
+use Rattle.device.specs.declared.Changed.{Changed}
 use Rattle.device.specs.declared.Made.{Made}
 use Rattle.versions.specs.Restoring.{RestoredAs}
 use Rattle.playback.specs.declared.Played.{Played}
+use Rattle.host.specs.declared.Wide.{Wide}
 use Rattle.host.specs.declared.Reply.{Reply}
 use Rattle.host.specs.declared.Replied.{Replied}
 use Rattle.host.specs.declared.Handled.{Handled}
@@ -26,11 +28,19 @@ pub record Restores (q : Sessions) (c : ℕ) (s st : List ℕ) (n r : ℕ) (s′
   pub did : RestoredAs (sessionOf q c) s st n r s′
   pub storeBytes : Octets st
 
+-- the parts that a reply names, as the runs that they are
+abbrev pub runsOf : Wide → Changed
+runsOf w =
+    record {
+      first = record { offset = w .first .offset; length = w .first .length };
+      second = record { offset = w .second .offset; length = w .second .length };
+    }
+
 abbrev pub gave : Reply → Sessions → Made
-gave r q = record { done = record { outcome = r .outcome; count = r .count; sessions = q }; changed = r .changed }
+gave r q = record { done = record { outcome = r .outcome; count = r .count; sessions = q }; changed = runsOf (r .changed) }
 
 abbrev pub gaveBack : Replied → Made
-gaveBack r = record { done = record { outcome = r .outcome; count = r .count; sessions = r .sessions }; changed = r .changed }
+gaveBack r = record { done = record { outcome = r .outcome; count = r .count; sessions = r .sessions }; changed = runsOf (r .changed) }
 
 abbrev pub gavePlayed : Handled → Sessions → Played
 gavePlayed r q = record { refusal = r .refusal; handled = r .handled; sessions = q }

@@ -4,14 +4,15 @@ ghost use Rattle.cemi.specs.Read.{readFrame};
 ghost use Rattle.cemi.specs.declared.Got.the-variants as got;
 ghost use Rattle.link.specs.Hearing.{ownOf, heardOf};
 ghost use Rattle.link.specs.Serving.{ServedFrame};
-ghost use Rattle.host.specs.Bus.{refuses, senderOf, arrivalBy, arrivalOf, gaveServed};
+ghost use Rattle.host.specs.Bus.{refuses, senderOf, arrivalBy, arrivalOf, gaveServed, handedOn};
 use crate::Answered;
 use crate::Arrival;
+use crate::Handed;
 use cemi::Frame;
 use cemi::Got;
 use link::Arrived;
+use crate::wide;
 use link::Link;
-use link::Served;
 
 // Who sent a frame, its sequence number, and whether it is a negative acknowledgement.
 pub struct Sender {
@@ -98,10 +99,19 @@ pub extern "C" fn kelindap_heard(link: Link, sheet: &[u8], frame: &[u8]) -> Arri
 }
 
 // A frame served with the link by value.
-fn served(link: Link, sheet: &mut [u8], frame: &[u8], out: &mut [u8], sequence: u8) -> Served
-    ensures { λ r. ⌜ ServedFrame link sequence (now (frame .entry)) (now (sheet .entry)) (now (out .entry)) r (now (sheet .exit)) (now (out .exit)) ⌝ }
+fn served(link: Link, sheet: &mut [u8], frame: &[u8], out: &mut [u8], sequence: u8) -> Handed
+    ensures { λ r. ⌜ ServedFrame link sequence (now (frame .entry)) (now (sheet .entry)) (now (out .entry)) (handedOn r) (now (sheet .exit)) (now (out .exit)) ⌝ }
 {
-    link::serve(link, sequence, frame, sheet, out)
+    let d = link::serve(link, sequence, frame, sheet, out);
+    let changed = wide(d.changed);
+    Handed {
+        number: d.number,
+        outcome: d.outcome,
+        connection: d.connection,
+        count: d.count,
+        changed,
+        link: d.link,
+    }
 }
 
 // A frame in, at most one frame out, in place: the link becomes what the frame makes of it.

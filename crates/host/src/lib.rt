@@ -13,17 +13,25 @@ ghost use Rattle.device.specs.Changed.{Requested};
 ghost use Rattle.playback.specs.Rules.{refusalOf};
 ghost use Rattle.playback.specs.Playing.{Plays};
 ghost use Rattle.playback.specs.Marking.{Marks};
-ghost use Rattle.host.specs.Calls.{Connects, Disconnects, gave, gaveBack, gavePlayed, versionOf};
+ghost use Rattle.host.specs.Calls.{Connects, Disconnects, runsOf, gave, gaveBack, gavePlayed, versionOf};
 use device::Changed;
 use device::Sessions;
+use link::Link;
 use sheet::Part;
+
+// The runs that were stored as C has them, in numbers of its own width.
+#[repr(C)]
+pub struct Wide {
+    pub first: Part,
+    pub second: Part,
+}
 
 // What a request gave: its outcome, how many bytes of the answer buffer were filled, and which parts of the sheet were stored.
 #[repr(C)]
 pub struct Reply {
     pub outcome: u8,
     pub count: u8,
-    pub changed: Changed,
+    pub changed: Wide,
 }
 
 // The same with the sessions afterwards.
@@ -31,7 +39,7 @@ pub struct Replied {
     pub outcome: u8,
     pub count: u8,
     pub sessions: Sessions,
-    pub changed: Changed,
+    pub changed: Wide,
 }
 
 // What playing gave: its refusal or 0, and how many events were handled.
@@ -61,7 +69,35 @@ pub struct Answered {
     pub outcome: u8,
     pub connection: u8,
     pub count: u8,
-    pub changed: Changed,
+    pub changed: Wide,
+}
+
+// The same with the link afterwards.
+pub struct Handed {
+    pub number: u8,
+    pub outcome: u8,
+    pub connection: u8,
+    pub count: u8,
+    pub changed: Wide,
+    pub link: Link,
+}
+
+// Runs in numbers of C's own width.
+pub fn wide(c: Changed) -> Wide
+    ensures { λ r. ⌜ c ≡ runsOf r ⌝ }
+{
+    let one = c.first;
+    let two = c.second;
+    Wide {
+        first: Part {
+            offset: one.offset as usize,
+            length: one.length as usize,
+        },
+        second: Part {
+            offset: two.offset as usize,
+            length: two.length as usize,
+        },
+    }
 }
 
 // Sessions that nobody has connected to.
@@ -115,7 +151,7 @@ fn request(
     let made = device::request(sessions, mode, connection, group, apdu, sheet, answer);
     let d = made.done;
     let next = d.sessions;
-    let changed = made.changed;
+    let changed = wide(made.changed);
     Replied {
         outcome: d.outcome,
         count: d.count as u8,

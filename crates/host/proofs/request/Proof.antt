@@ -11,6 +11,7 @@ request-spec =
     tie.close
     (tie.spec
     (λ c κs. search needs)
-    (λ c. omega (arith, few _ _ _ _ _ _ _ _ _ _ (c .before .before .before .before .before .before .before .before .request .ensures)))
+    (λ c κs. search needs)
+    (λ c. omega (arith, few _ _ _ _ _ _ _ _ _ _ (c .before .before .before .before .before .before .before .before .before .request .ensures)))
     (λ c. search needs) (λ c. search needs)
-    (λ c. as-given _ _ _ _ _ _ _ _ _ _ (c .before .before .before .before .before .before .before .before .request .ensures)))
+    (λ c. as-given _ _ _ _ _ _ _ _ _ _ (c .before .before .before .before .before .before .before .before .before .request .ensures) _ (search needs)))

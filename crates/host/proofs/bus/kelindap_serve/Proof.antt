@@ -40,14 +40,15 @@ use denote.Triple.Table.{cited}
 use denote.Triple.Walked.{says, Stays, stay-ref, stay-dropped, gave-slice, walkOf, AllGo, goes-ref, goes-dropped, goes-gave-slice, Walks, ends-at, walked}
 use denote.Exit.{yes}
 use Rattle.link.specs.declared.Link.{Link}
-use Rattle.link.specs.declared.Served.{Served}
+use Rattle.host.specs.declared.Handed.{Handed}
+use Rattle.host.specs.Bus.{handedOn}
 use Rattle.link.specs.Serving.{ServedFrame}
 use Rattle.host.specs.declared.Answered.{Answered}
 use Rattle.device.proofs.calls.InPlace.{opened, closed-at, finish}
 use Rattle.link.proofs.Link as T
 use Rattle.link.proofs.Link.Laws as T′
-use Rattle.link.proofs.Served as D
-use Rattle.link.proofs.Served.Laws as D′
+use Rattle.host.proofs.Handed as D
+use Rattle.host.proofs.Handed.Laws as D′
 use Rattle.host.proofs.Answered as R
 use Rattle.host.proofs.Answered.Laws as R′
 use Rattle.host.proofs.bus.served as g
@@ -118,22 +119,22 @@ module _ {M : Type 1} (𝓤 : URA M) (H : Heap 𝓤) (A : Atoms 𝓤) (W : Given
   goes = qed W (tokens ∷ ‵ (T.the-row .own h (vals h)) ∷ others ∷ []) ∵ move ! (1 ∷ 2 ∷ []) $ fjoin ! $ move ! (1 ∷ 0 ∷ []) $ join ! $ frame ! $ done !
 
   -- what `served` ensures
-  abbrev Ensures : Served → List ℕ → List ℕ → Type 0
-  Ensures r ys zs = ServedFrame h m (x₂ .now) (x₁ .now) (x₃ .now) r ys zs
+  abbrev Ensures : Handed → List ℕ → List ℕ → Type 0
+  Ensures r ys zs = ServedFrame h m (x₂ .now) (x₁ .now) (x₃ .now) (handedOn r) ys zs
 
   -- the result, and what is known of the fields of what `served` returns
-  abbrev ans : Served → Answered
+  abbrev ans : Handed → Answered
   ans r = record { number = r .number; outcome = r .outcome; connection = r .connection; count = r .count; changed = r .changed }
 
-  inner : (r : Served) (w : Val) → Is D.the-row r (w ∷ []) → Is T.the-row (r .link) (vals (r .link))
+  inner : (r : Handed) (w : Val) → Is D.the-row r (w ∷ []) → Is T.the-row (r .link) (vals (r .link))
   inner r w is = LL.owed D.the-type D′.the-laws r _ is .1 .1 .1 .1 .1 .0
 
-  made : (r : Served) (w : Val) → Is D.the-row r (w ∷ []) → Is R.the-row (ans r) (LL.vals R.the-type R′.the-laws (ans r))
+  made : (r : Handed) (w : Val) → Is D.the-row r (w ∷ []) → Is R.the-row (ans r) (LL.vals R.the-type R′.the-laws (ans r))
   made r w is =
       let owed = LL.owed D.the-type D′.the-laws r _ is in
       LL.owes R.the-type R′.the-laws (ans r) (owed .0, (owed .1 .0, (owed .1 .1 .0, (owed .1 .1 .1 .0, (owed .1 .1 .1 .1 .0, tt)))))
 
-  exits : (r : Served) (w : Val) (ys zs : List ℕ) → Is D.the-row r (w ∷ []) → Ensures r ys zs → length ys ≡ length (x₁ .now) → length zs ≡ length (x₃ .now)
+  exits : (r : Handed) (w : Val) (ys zs : List ℕ) → Is D.the-row r (w ∷ []) → Ensures r ys zs → length ys ≡ length (x₁ .now) → length zs ≡ length (x₃ .now)
       → ent 𝓤 (⋆ 𝓤 H A (‵ (fobs γ (T.the-row .coded .code (r .link))) ∷ ‵ (fbor κ (Body (mem T.the-row) b o γ)) ∷ ‵ (flft κ q) ∷ tokens ∷ ‵ (finally u8 (x₁ .name) ys) ∷ ‵ (finally u8 (x₃ .name) zs) ∷ [])) (Post (R′.lowered (ans r)))
   exits r w ys zs is e l₁ l₃ =
       qed W (‵ (fobs γ (T.the-row .coded .code (r .link))) ∷ ‵ (fbor κ (Body (mem T.the-row) b o γ)) ∷ ‵ (flft κ q) ∷ tokens ∷ ‵ (finally u8 (x₁ .name) ys) ∷ ‵ (finally u8 (x₃ .name) zs) ∷ []) ∵
@@ -165,7 +166,7 @@ module _ {M : Type 1} (𝓤 : URA M) (H : Heap 𝓤) (A : Atoms 𝓤) (W : Given
         move ! (5 ∷ 1 ∷ 6 ∷ []) $ use3 W (raw (Serve 𝓤 H A at-mem run .pre to)) goes $
         calls-at ! fm (Serve 𝓤 H A at-mem run) known to (and-then ! (load ! (from ! (stop !)) (look ! 13 refl)) (and-then ! (load ! (from ! (stop !)) (look ! 9 refl)) (and-then ! (load ! (from ! (stop !)) (look ! 21 refl))
         (and-then ! (load ! (from ! (stop !)) (look ! 5 refl)) (and-then ! (load ! (from ! (stop !)) (look ! 17 refl)) (no-more !)))))) (λ w.
-        use1 W (later (some (λ (r : Served). (tokens ⊛ ‵ (D.the-row .own r (w ∷ []))) ⊛ raw (ensured 𝓤 H A g.ended (g.clauses 𝓤 H A at-mem run) (κ₁, (κ₂, (κ₃, tt))) a′ tt r)))) (id⊢ 𝓤 _) $ await ! tt $ pick ! (λ r.
+        use1 W (later (some (λ (r : Handed). (tokens ⊛ ‵ (D.the-row .own r (w ∷ []))) ⊛ raw (ensured 𝓤 H A g.ended (g.clauses 𝓤 H A at-mem run) (κ₁, (κ₂, (κ₃, tt))) a′ tt r)))) (id⊢ 𝓤 _) $ await ! tt $ pick ! (λ r.
         split ! $ move ! (1 ∷ []) $ use1 W (some (λ (zs : Lasts g.ended (κ₁, (κ₂, (κ₃, tt))) a′). ‵ (lasts g.ended (κ₁, (κ₂, (κ₃, tt))) a′ zs)
         ⊛ raw (fact 𝓤 (Ensures r (zs .1 .0) (zs .1 .1 .1 .0))))) (id⊢ 𝓤 _) $ pick ! (λ zs.
         split ! $ move ! (1 ∷ []) $ heard ! _ (λ e.
