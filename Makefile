@@ -66,6 +66,7 @@ sheet-check: need-tools
 include mk/native.mk
 include mk/hosts.mk
 include mk/tools.mk
+include mk/device.mk
 include mk/install.mk
 include mk/python.mk
 include mk/frames.mk
