@@ -33,6 +33,10 @@ bool files_find(char path[FILES_NAME], const char *given)
 void files_lock(const char *path, const char *given)
 {
     char file[FILES_NAME + sizeof ".lock"];
+    struct stat is;
+    errno = 0;
+    if (stat(path, &is) != 0 || !S_ISREG(is.st_mode))
+        files_give_up(given, errno != 0 ? "can't be read" : "is no file");
     snprintf(file, sizeof file, "%s.lock", path);
     int fd = open(file, O_RDWR | O_CREAT | O_NOFOLLOW | O_CLOEXEC, 0600);
     if (fd < 0)

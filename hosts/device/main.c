@@ -346,6 +346,7 @@ static void start(host *h, wishes w)
     if (pipe2(stop_pipe, O_CLOEXEC | O_NONBLOCK) != 0 || sigaction(SIGTERM, &stop, NULL) != 0 || sigaction(SIGINT, &stop, NULL) != 0)
         files_give_up("signals", "can't be had");
     signal(SIGPIPE, SIG_IGN);
+    signal(SIGXFSZ, SIG_IGN); /* a limit of the files' size is an error of the write */
 }
 
 static int serve(wishes w)

@@ -11,6 +11,10 @@ def datagram(service, body):
     return struct.pack(">BBHH", 6, 16, service, 6 + len(body)) + body
 
 
+class Closed(Exception):
+    pass
+
+
 class Tunnel:
     def __init__(self, port, nat=False, layer=2, open_it=True):
         self.s = socket.socket(socket.AF_INET, socket.SOCK_DGRAM)
@@ -21,6 +25,7 @@ class Tunnel:
         self.channel = self.tx = self.rx = 0
         self.inbox, self.acks, self.other = [], [], []
         self.answer_acks = True
+        self.wait, self.tries = 1.0, 2  # of a request
         if open_it:
             r = self.ask(0x0205, self.hpai * 2 + bytes([4, 4, layer, 0]), 0x0206)
             self.status = None if r is None else r[1]
@@ -37,7 +42,7 @@ class Tunnel:
         try:
             d = self.s.recv(2048)
         except ConnectionRefusedError:
-            return (0, b"")
+            raise Closed("the host is gone")
         service, b = d[2] << 8 | d[3], d[6:]
         assert d[:2] == b"\x06\x10" and struct.unpack(">H", d[4:6])[0] == len(d), d.hex()
         if service == 0x0420 and b[1] == self.channel:
@@ -61,9 +66,10 @@ class Tunnel:
                 return r[1]
         return None
 
-    def request(self, cemi, wait=1.0, tries=2):
+    def request(self, cemi, wait=None, tries=None):
         """a tunnelling request; the status of its acknowledgement, None if there was none"""
-        for _ in range(tries):
+        wait = wait or self.wait
+        for _ in range(tries or self.tries):
             self.put(0x0420, bytes([4, self.channel, self.tx, 0]) + cemi)
             end = time.monotonic() + wait
             while time.monotonic() < end:
@@ -75,7 +81,7 @@ class Tunnel:
                         return status
         return None
 
-    def frame(self, dst, tpdu, group=False, src=0, c1=0xBC, hops=6, wait=1.0, tries=2):
+    def frame(self, dst, tpdu, group=False, src=0, c1=0xBC, hops=6, wait=None, tries=None):
         head = bytes([0x11, 0, c1, (0x80 if group else 0) | hops << 4])
         return self.request(head + struct.pack(">HHB", src, dst, len(tpdu) - 1) + tpdu, wait, tries)
 
@@ -96,10 +102,6 @@ class Tunnel:
         return self.ask(0x0209, bytes([self.channel, 0]) + self.hpai, 0x020A)
 
 
-class Closed(Exception):
-    pass
-
-
 class Connection:
     """a tool's end of a transport connection"""
     def __init__(self, tunnel, dst=DEVICE, src=0, connect=True):
@@ -113,7 +115,7 @@ class Connection:
         f = self.t.get(wait, lambda f: f[0] == 0x29 and f[3] < 0x80 and struct.unpack(">HH", f[4:8]) == ours)
         return None if f is None else f[9:]
 
-    def send(self, apdu, number=None, wait=1.0):
+    def send(self, apdu, number=None, wait=None):
         n = self.tx if number is None else number
         return self.t.frame(self.dst, bytes([apdu[0] & 3 | 0x40 | n << 2]) + apdu[1:], src=self.src, c1=0xB0, wait=wait)
 
@@ -147,8 +149,8 @@ class Connection:
 def tell(path, text):
     """a command to the control socket: all that it answers"""
     with socket.socket(socket.AF_UNIX, socket.SOCK_STREAM) as s:
-        s.settimeout(10)
         s.connect(path)
+        s.settimeout(10)
         s.sendall(text.encode() + b"\n")
         out = b""
         while not (out.endswith(b"\n") and out.split(b"\n")[-2].startswith((b"ok", b"refused"))):

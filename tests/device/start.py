@@ -4,6 +4,7 @@ import re
 import shutil
 import subprocess
 import tempfile
+import threading
 
 TOP = os.path.realpath(os.path.join(os.path.dirname(os.path.abspath(__file__)), "../.."))
 PROGRAM = os.environ.get("DEVICE_PROGRAM", os.path.join(TOP, "build/kelindap-device"))
@@ -20,7 +21,7 @@ SHEET = sheet_of("sample_sheet.inc")
 
 
 class Host:
-    def __init__(self, folder=None, sheet=SHEET, more=(), program=PROGRAM, environment=None, before=None):
+    def __init__(self, folder=None, sheet=SHEET, more=(), program=PROGRAM, environment=None, before=None, piped=False):
         self.own = folder is None
         self.dir = folder or tempfile.mkdtemp(prefix="kelindap-device-")
         self.sheet = self.dir + "/sheet"
@@ -29,12 +30,18 @@ class Host:
                 f.write(sheet)
         self.err = open(self.dir + "/log", "a")
         env = dict(os.environ, ASAN_OPTIONS="detect_leaks=0", **(environment or {}))
-        self.p = subprocess.Popen([program, self.sheet, "--port", "0", *more], stdout=subprocess.PIPE, stderr=self.err,
-                                  env=env, preexec_fn=before)
+        self.p = subprocess.Popen([program, self.sheet, "--port", "0", *more], stdout=subprocess.PIPE,
+                                  stderr=subprocess.PIPE if piped else self.err, env=env, preexec_fn=before)
+        if piped:  # where the host's own files are limited
+            threading.Thread(target=self.copy, daemon=True).start()
         line = self.p.stdout.readline().split()
         if not line:
             raise SystemExit("the host does not start: " + self.log())
         self.port, self.ctl = int(line[1]), self.sheet + ".control"
+
+    def copy(self):
+        for line in self.p.stderr:
+            os.write(self.err.fileno(), line)
 
     def bytes(self):
         with open(self.sheet, "rb") as f:
