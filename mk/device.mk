@@ -23,3 +23,17 @@ $(BUILD)/kelindap-device_watched: $(DEVICE_FROM) | need-gcc
 build/device_help.inc: hosts/device/kelindap-device.txt mk/device.mk
 	@mkdir -p build
 	@sed -e 's/[\\"]/\\&/g' -e 's/.*/"&",/' $< > $@
+
+# its parts, each under the sanitizers, with what it needs beside the test
+IN_PARTS := $(addprefix $(BUILD)/,transport_test tunnel_test device_test fuzz_parts)
+$(BUILD)/transport_test: DEVICE_TESTED := transport
+$(BUILD)/tunnel_test: DEVICE_TESTED := tunnel meaning
+$(BUILD)/device_test: DEVICE_TESTED := device meaning transport
+$(BUILD)/fuzz_parts: DEVICE_TESTED := tunnel device meaning transport
+$(IN_PARTS): $(BUILD)/%: tests/device/%.c $(DEVICE_FROM) | need-gcc
+	mkdir -p $(BUILD)
+	$(CC_FOR) -o $@ $(DEVICE_FLAGS) -Ihosts -g $(SANITIZE) $< $(patsubst %,hosts/device/%.c,$(DEVICE_TESTED)) $(HOST_A) $(TOOL_A)
+
+# under a minute; LONG=1 is the long form
+test-device: $(DEVICE) $(BUILD)/kelindap-device_watched $(IN_PARTS) build/sheet
+	tests/device/run.sh $(BUILD)

@@ -91,16 +91,24 @@ static bool same(endpoint a, endpoint b)
 
 /* ---- limits ---- */
 
-/* Whether an address may ask once more without a channel. One that was not seen lately takes the place of whom was heard longest ago. */
+/* What an address that has no channel may ask; one that is not known takes the place of whom was heard longest ago. */
+static limit *guest(tunnel *t, uint32_t address, uint64_t now)
+{
+    tunnel_guest *oldest = &t->guests[0];
+    for (size_t i = 0; i < TUNNEL_GUESTS; i++) {
+        tunnel_guest *g = &t->guests[i];
+        if (g->address == address)
+            return &g->asks;
+        if (oldest->address != 0 && (g->address == 0 || g->asks.at < oldest->asks.at))
+            oldest = g;
+    }
+    *oldest = (tunnel_guest){ address, limit_full(GUEST_MOST, now) };
+    return &oldest->asks;
+}
+
 static bool within(tunnel *t, endpoint from, uint64_t now)
 {
-    tunnel_guest *g = &t->guests[0];
-    for (size_t i = 0; i < TUNNEL_GUESTS && g->address != from.address; i++)
-        if (t->guests[i].address == from.address || t->guests[i].asks.at < g->asks.at)
-            g = &t->guests[i];
-    if (g->address != from.address)
-        *g = (tunnel_guest){ from.address, limit_full(GUEST_MOST, now) };
-    bool may = limit_take(&g->asks, GUEST_MOST, GUEST_A_SECOND, now);
+    bool may = limit_take(guest(t, from.address, now), GUEST_MOST, GUEST_A_SECOND, now);
     t->counts.limited += !may;
     return may;
 }
