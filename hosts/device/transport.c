@@ -69,6 +69,12 @@ transport_todo transport_put(transport *t, const uint8_t *frame, size_t length, 
     return t->count++ > 0 ? TRANSPORT_NOTHING : go(t, 0, now);
 }
 
+void transport_alive(transport *t, uint64_t now)
+{
+    if (t->open)
+        t->silent = now + TRANSPORT_SILENCE;
+}
+
 transport_todo transport_tick(transport *t, uint64_t now)
 {
     if (!t->open)

@@ -64,6 +64,9 @@ transport_todo transport_acknowledged(transport *t, uint8_t octet, uint64_t now)
 /* A new frame of ours, which has number `out`: it goes now, or waits in line. */
 transport_todo transport_put(transport *t, const uint8_t *frame, size_t length, uint64_t now);
 
+/* A sign of life of the partner that is no frame of transport. */
+void transport_alive(transport *t, uint64_t now);
+
 /* The time has come on. */
 transport_todo transport_tick(transport *t, uint64_t now);
 

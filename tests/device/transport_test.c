@@ -16,7 +16,7 @@ static const char *now_row = "none";
 
 enum { NOW = 100000, SENT = NOW - 1000 };
 
-typedef enum kind { CONNECT, CLOSE, DATA, ACK, NAK, PUT, TOO_LONG, TIME } kind;
+typedef enum kind { CONNECT, CLOSE, DATA, ACK, NAK, PUT, TOO_LONG, LIFE, TIME } kind;
 
 typedef struct event {
     kind kind;
@@ -67,6 +67,8 @@ static const row rows[] = {
     { "closed: T_ACK is nothing", ACK, closed, TRANSPORT_NOTHING, same },
     { "closed: T_NAK is nothing", NAK, closed, TRANSPORT_NOTHING, same },
     { "closed: nothing is sent", PUT, closed, TRANSPORT_NOTHING, same },
+    { "closed: a sign of life is none", LIFE, closed, TRANSPORT_NOTHING, same },
+    { "a sign of life", LIFE, any, TRANSPORT_NOTHING, alive },
     { "closed: no time matters", TIME, closed, TRANSPORT_NOTHING, same },
     { "data for whose answer there is no room comes again", DATA, no_room, TRANSPORT_NOTHING, alive },
     { "data that is expected is taken", DATA, expected, TRANSPORT_TAKE, taken },
@@ -99,6 +101,7 @@ static transport_todo play(transport *t, event e)
     case ACK: return transport_acknowledged(t, (uint8_t)(T_ACK | e.number << 2), NOW);
     case NAK: return transport_acknowledged(t, (uint8_t)(T_NAK | e.number << 2), NOW);
     case PUT: return transport_put(t, longest, TRANSPORT_FRAME, NOW);
+    case LIFE: transport_alive(t, NOW); return TRANSPORT_NOTHING;
     case TOO_LONG: return transport_put(t, longest, sizeof longest, NOW);
     default: return transport_tick(t, e.at);
     }
@@ -129,7 +132,7 @@ static void see(transport state, event e)
 
 static void see_all(transport state)
 {
-    for (kind k = CONNECT; k <= TOO_LONG; k++)
+    for (kind k = CONNECT; k <= LIFE; k++)
         for (uint8_t n = 0; n < (k == DATA || k == ACK || k == NAK ? 16 : 1); n++)
             see(state, (event){ .kind = k, .number = n });
     const uint64_t at[] = { SENT, SENT + 2999, SENT + 3000, SENT + 5999, SENT + 6000, SENT + 99999 };
