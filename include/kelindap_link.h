@@ -20,8 +20,8 @@
  *    disconnect; 63 is a stranger's disconnect, which nothing answers;
  *  - transport's time limits. A partner of which nothing is heard for 6 s is disconnected: kelindap_disconnect with its number,
  *    and a T_Disconnect is due to it on the bus, so that it knows; its place is then free. An answer that is not acknowledged
- *    within 3 s is sent again, three times at 3 s, and then the connection ends in the same way. Without these two silent
- *    partners shut every other one out. hosts/device/transport.h has numbers and limits as functions over a state;
+ *    within 3 s is sent again, three times at 3 s, and then the connection ends in the same way. Without these limits
+ *    two silent partners shut every other one out;
  *  - a session that was open before a call of kelindap_serve and is closed after it, though the frame was no disconnect of that
  *    partner, was closed by a Restart: a disconnect is then due to that partner on the bus.
  *

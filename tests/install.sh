@@ -29,7 +29,20 @@ grep -q 'end is missing' "$work/said" || fail "no sheet program"
 [ "$("$work/at/bin/kelindap-sheet" --version)" = "sheet of kelindap $version" ] || fail "a sheet program of another version"
 [ "$("$work/at/bin/kelindap-trace" --version)" = "trace of kelindap $version" ] || fail "a trace program of another version"
 [ "$(echo 'connect 0' | "$work/at/bin/kelindap-unit" | cut -c 1-11)" = "1 1 3 0 3 0" ] || fail "no desk unit"
-for name in sheet trace unit; do [ -s "$work/at/share/man/man1/kelindap-$name.1" ] || fail "no man page of kelindap-$name"; done
+for name in sheet trace unit device; do [ -s "$work/at/share/man/man1/kelindap-$name.1" ] || fail "no man page of kelindap-$name"; done
+
+# the device on a bus, and its unit for systemd: where that is installed it has no complaint, and finds the service well shut in
+[ "$("$work/at/bin/kelindap-device" --version)" = "kelindap-device of kelindap $version" ] || fail "a device of another version"
+unit=$work/at/lib/systemd/system/kelindap-device@.service
+grep -q "^ExecStart=$work/at/bin/kelindap-device /var/lib/private/kelindap-%i/sheet" "$unit" || fail "the unit starts something else"
+if command -v systemd-analyze > /dev/null; then
+    grep -v '^Documentation=' "$unit" > "$work/kelindap-device@tank.service" # the page is not where man looks
+    systemd-analyze verify "$work/kelindap-device@tank.service" > "$work/said" 2>&1 || { cat "$work/said"; fail "systemd complains of the unit"; }
+    systemd-analyze security --offline=true --threshold=20 "$work/kelindap-device@tank.service" > "$work/said" 2>&1 ||
+        { tail -n 1 "$work/said"; fail "the unit leaves more open than it should"; }
+else
+    echo "install: left out: the unit for systemd is not judged: there is no systemd-analyze here"
+fi
 
 # another processor than this machine's
 other=$([ "$own" = aarch64 ] && echo armhf || echo aarch64)
