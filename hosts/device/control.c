@@ -51,13 +51,13 @@ static void say_connections(text *to, const device *d)
 
 static void say_channels(text *to, const tunnel *t)
 {
-    char where[TUNNEL_ENDPOINT], name[MEANING_ADDRESS];
+    char where[DATAGRAM_ENDPOINT], name[MEANING_ADDRESS];
     for (size_t i = 0; i < TUNNEL_CHANNELS; i++) {
         const channel *c = &t->channels[i];
         if (c->number == 0)
             continue;
         say(to, "channel %d client %s requests %" PRIu64 " limited %" PRIu64 " waiting %d lost %" PRIu64 " %s", c->number,
-            tunnel_endpoint(where, c->data), c->taken_requests, c->limited, c->count, c->lost,
+            datagram_endpoint(where, c->data), c->taken_requests, c->limited, c->count, c->lost,
             c->kind == TUNNEL_TUNNELLING ? "addresses" : "management");
         for (size_t k = 0; k < c->address_count; k++)
             say(to, " %s", meaning_address(name, c->addresses[k]));

@@ -94,11 +94,11 @@ static void frame_to_bus(void *to, const uint8_t *frame, size_t length)
 
 static int open_udp(endpoint at)
 {
-    char where[TUNNEL_ENDPOINT];
+    char where[DATAGRAM_ENDPOINT];
     int s = socket(AF_INET, SOCK_DGRAM | SOCK_CLOEXEC, 0);
     struct sockaddr_in a = { .sin_family = AF_INET, .sin_port = htons(at.port), .sin_addr.s_addr = htonl(at.address) };
     if (s < 0 || bind(s, (struct sockaddr *)&a, sizeof a) != 0)
-        files_give_up(tunnel_endpoint(where, at), "can't be listened on");
+        files_give_up(datagram_endpoint(where, at), "can't be listened on");
     return s;
 }
 
@@ -352,9 +352,9 @@ static void start(host *h, wishes w)
 static int serve(wishes w)
 {
     static host h;
-    char name[MEANING_ADDRESS], where[TUNNEL_ENDPOINT];
+    char name[MEANING_ADDRESS], where[DATAGRAM_ENDPOINT];
     start(&h, w);
-    log_line("device %s serves on %s", meaning_address(name, device_address(&h.device)), tunnel_endpoint(where, h.tunnel.own));
+    log_line("device %s serves on %s", meaning_address(name, device_address(&h.device)), datagram_endpoint(where, h.tunnel.own));
     printf("ready %d\n", h.tunnel.own.port);
     fflush(stdout);
     notify("READY=1");

@@ -5,20 +5,9 @@
 #include "log.h"
 #include "meaning.h"
 
-#include <stdio.h>
 #include <string.h>
 
-enum service {
-    SEARCH = 0x0201, FOUND = 0x0202, DESCRIBE = 0x0203, DESCRIPTION = 0x0204, CONNECT = 0x0205, CONNECTED = 0x0206,
-    STATE = 0x0207, STATE_IS = 0x0208, DISCONNECT = 0x0209, DISCONNECTED = 0x020A, MANAGE = 0x0310, MANAGE_ACKNOWLEDGE = 0x0311,
-    REQUEST = 0x0420, ACKNOWLEDGE = 0x0421
-};
-
-enum status {
-    OK = 0, NOT_UDP = 0x01, NO_CHANNEL = 0x21, NOT_THIS_TYPE = 0x22, NOT_THIS_OPTION = 0x23, NO_MORE = 0x24, NOT_THIS_LAYER = 0x29
-};
-
-enum { HEADER = 6, HPAI = 8, DEVICE_DIB = 54, SERVICES_DIB = 8, LINK_LAYER = 2 };
+enum { LINK_LAYER = 2 };
 
 /* Message codes of cEMI beside L_Data.req and .ind; and why a property is not read or written. */
 enum { L_DATA_CON = 0x2E, PROPERTY_READ = 0xFC, PROPERTY_READ_CON = 0xFB, PROPERTY_WRITE = 0xF6, PROPERTY_WRITE_CON = 0xF5,
@@ -28,65 +17,15 @@ enum { L_DATA_CON = 0x2E, PROPERTY_READ = 0xFC, PROPERTY_READ_CON = 0xFB, PROPER
 
 static void send_datagram(const tunnel *t, endpoint to, uint16_t service, const uint8_t *body, size_t length)
 {
-    uint8_t datagram[HEADER + HPAI + DEVICE_DIB + SERVICES_DIB];
-    size_t all = HEADER + length;
-    const uint8_t header[HEADER] = { 6, 0x10, (uint8_t)(service >> 8), (uint8_t)service, (uint8_t)(all >> 8), (uint8_t)all };
-    memcpy(datagram, header, HEADER);
+    uint8_t datagram[HEADER + HPAI + DESCRIBED];
+    datagram_header(datagram, service, length);
     memcpy(datagram + HEADER, body, length);
-    t->host.send(t->host.to, to, datagram, all);
+    t->host.send(t->host.to, to, datagram, HEADER + length);
 }
 
 static void send_status(const tunnel *t, endpoint to, uint16_t service, uint8_t number, uint8_t status)
 {
     send_datagram(t, to, service, (const uint8_t[]){ number, status }, 2);
-}
-
-const char *tunnel_endpoint(char out[TUNNEL_ENDPOINT], endpoint e)
-{
-    snprintf(out, TUNNEL_ENDPOINT, "%u.%u.%u.%u:%u", e.address >> 24 & 255, e.address >> 16 & 255, e.address >> 8 & 255,
-             e.address & 255, e.port);
-    return out;
-}
-
-static void write_hpai(uint8_t out[HPAI], endpoint e)
-{
-    const uint8_t hpai[HPAI] = { 8, 1, (uint8_t)(e.address >> 24), (uint8_t)(e.address >> 16), (uint8_t)(e.address >> 8),
-                                 (uint8_t)e.address, (uint8_t)(e.port >> 8), (uint8_t)e.port };
-    memcpy(out, hpai, HPAI);
-}
-
-/* Whether these bytes are a HPAI of UDP. */
-static bool is_udp(const uint8_t hpai[HPAI])
-{
-    return hpai[0] == HPAI && hpai[1] == 1;
-}
-
-static endpoint read_hpai(const uint8_t hpai[HPAI])
-{
-    uint32_t address = (uint32_t)hpai[2] << 24 | (uint32_t)hpai[3] << 16 | (uint32_t)hpai[4] << 8 | hpai[5];
-    return (endpoint){ address, (uint16_t)(hpai[6] << 8 | hpai[7]) };
-}
-
-/*
- * Where an answer goes: to the port that a HPAI names, if it names the address that the datagram came from; else to where it
- * came from. That is right behind address translation too, and nobody is sent what another one asked for.
- */
-static endpoint answer_to(const uint8_t hpai[HPAI], endpoint from)
-{
-    endpoint named = read_hpai(hpai);
-    return named.address == from.address && named.port != 0 ? named : from;
-}
-
-/* Where a search is answered: to what the HPAI names, since a search by multicast may leave a client by another address. */
-static endpoint found_to(const uint8_t hpai[HPAI], endpoint from)
-{
-    endpoint named = read_hpai(hpai);
-    return named.address != 0 && named.port != 0 ? named : from;
-}
-
-static bool same(endpoint a, endpoint b)
-{
-    return a.address == b.address && a.port == b.port;
 }
 
 /* ---- limits ---- */
@@ -143,8 +82,8 @@ static uint8_t new_number(tunnel *t)
 
 static void end(tunnel *t, channel *c, const char *why)
 {
-    char where[TUNNEL_ENDPOINT];
-    log_line("channel %d of %s ends: %s", c->number, tunnel_endpoint(where, c->control), why);
+    char where[DATAGRAM_ENDPOINT];
+    log_line("channel %d of %s ends: %s", c->number, datagram_endpoint(where, c->control), why);
     for (size_t i = 0; i < c->address_count; i++)
         t->host.lost(t->host.to, c->addresses[i]);
     *c = (channel){ .number = 0 };
@@ -154,7 +93,7 @@ static void end(tunnel *t, channel *c, const char *why)
 static void hang_up(tunnel *t, channel *c, const char *why)
 {
     uint8_t body[2 + HPAI] = { c->number, 0 };
-    write_hpai(body + 2, t->own);
+    datagram_hpai(body + 2, t->own);
     send_datagram(t, c->control, DISCONNECT, body, sizeof body);
     end(t, c, why);
 }
@@ -306,44 +245,30 @@ static void take_management(tunnel *t, channel *c, const uint8_t *cemi, size_t l
 
 /* ---- services ---- */
 
-static size_t write_description(const tunnel *t, uint8_t out[DEVICE_DIB + SERVICES_DIB])
-{
-    static const uint8_t services[SERVICES_DIB] = { SERVICES_DIB, 2, 2, 1, 3, 1, 4, 1 }; /* core, management, tunnelling: 1 */
-    const uint8_t *sheet = t->host.sheet(t->host.to);
-    memset(out, 0, DEVICE_DIB);
-    out[0] = DEVICE_DIB;
-    out[1] = 1;
-    out[2] = 2; /* twisted pair */
-    out[3] = sheet[14] & 1;
-    memcpy(out + 4, sheet + 16, 2);
-    memcpy(out + 8, sheet + 6, 6);
-    memcpy(out + 24, t->name, TUNNEL_NAME);
-    memcpy(out + DEVICE_DIB, services, SERVICES_DIB);
-    return DEVICE_DIB + SERVICES_DIB;
-}
-
 static void take_search(tunnel *t, endpoint from, const uint8_t *b, size_t length)
 {
-    uint8_t body[HPAI + DEVICE_DIB + SERVICES_DIB];
-    if (length < HPAI || !is_udp(b))
+    uint8_t body[HPAI + DESCRIBED];
+    if (length < HPAI || !datagram_is_udp(b))
         return;
-    write_hpai(body, t->own);
-    send_datagram(t, found_to(b, from), FOUND, body, HPAI + write_description(t, body + HPAI));
+    datagram_hpai(body, t->own);
+    datagram_describe(body + HPAI, t->host.sheet(t->host.to), t->name);
+    send_datagram(t, datagram_found_to(b, from), FOUND, body, sizeof body);
 }
 
 static void take_describe(tunnel *t, endpoint from, const uint8_t *b, size_t length)
 {
-    uint8_t body[DEVICE_DIB + SERVICES_DIB];
-    if (length < HPAI || !is_udp(b))
+    uint8_t body[DESCRIBED];
+    if (length < HPAI || !datagram_is_udp(b))
         return;
-    send_datagram(t, answer_to(b, from), DESCRIPTION, body, write_description(t, body));
+    datagram_describe(body, t->host.sheet(t->host.to), t->name);
+    send_datagram(t, datagram_answer_to(b, from), DESCRIPTION, body, sizeof body);
 }
 
 /* Why a connect is refused, or OK and a free channel. */
 static uint8_t judge_connect(tunnel *t, const uint8_t *b, size_t length, channel **free_one)
 {
     const uint8_t *wish = b + 2 * HPAI;
-    if (!is_udp(b) || !is_udp(b + HPAI))
+    if (!datagram_is_udp(b) || !datagram_is_udp(b + HPAI))
         return NOT_UDP;
     if (wish[1] != TUNNEL_TUNNELLING && wish[1] != TUNNEL_MANAGEMENT)
         return NOT_THIS_TYPE;
@@ -359,46 +284,30 @@ static uint8_t judge_connect(tunnel *t, const uint8_t *b, size_t length, channel
     return NO_MORE;
 }
 
-static const char *why_not(uint8_t status)
-{
-    switch (status) {
-    case NOT_UDP:
-        return "it asks for another protocol than UDP";
-    case NOT_THIS_TYPE:
-        return "it asks for what is neither tunnelling nor management";
-    case NOT_THIS_OPTION:
-        return "it asks for options that are not served";
-    case NOT_THIS_LAYER:
-        return "it asks for another layer than the link layer";
-    default:
-        return "all are taken";
-    }
-}
-
 static void take_connect(tunnel *t, endpoint from, const uint8_t *b, size_t length, uint64_t now)
 {
     channel *c = NULL;
     if (length < 2 * HPAI + 2)
         return;
     uint8_t status = judge_connect(t, b, length, &c);
-    endpoint control = is_udp(b) ? answer_to(b, from) : from;
-    char where[TUNNEL_ENDPOINT], address[MEANING_ADDRESS];
-    tunnel_endpoint(where, control);
+    endpoint control = datagram_is_udp(b) ? datagram_answer_to(b, from) : from;
+    char where[DATAGRAM_ENDPOINT], address[MEANING_ADDRESS];
+    datagram_endpoint(where, control);
     if (status != OK) {
         t->counts.refused++;
-        log_line("%s gets no channel: %s", where, why_not(status));
+        log_line("%s gets no channel: %s", where, datagram_why_not(status));
         send_status(t, control, CONNECTED, 0, status);
         return;
     }
     uint8_t kind = b[2 * HPAI + 1], long_is = kind == TUNNEL_TUNNELLING ? 4 : 2;
     uint16_t own = (uint16_t)(t->first_address + (c - t->channels));
-    *c = (channel){ .number = new_number(t), .kind = kind, .control = control, .data = answer_to(b + HPAI, from),
+    *c = (channel){ .number = new_number(t), .kind = kind, .control = control, .data = datagram_answer_to(b + HPAI, from),
                     .silent = now + TUNNEL_SILENCE, .addresses = { own }, .address_count = kind == TUNNEL_TUNNELLING,
                     .requests = limit_full(CLIENT_MOST, now) };
     t->counts.opened++;
     log_line("channel %d is opened by %s: %s", c->number, where, kind == TUNNEL_TUNNELLING ? meaning_address(address, own) : "management");
     uint8_t body[2 + HPAI + 4] = { c->number, OK };
-    write_hpai(body + 2, t->own);
+    datagram_hpai(body + 2, t->own);
     memcpy(body + 2 + HPAI, (const uint8_t[]){ long_is, kind, (uint8_t)(own >> 8), (uint8_t)own }, long_is);
     send_datagram(t, control, CONNECTED, body, 2 + HPAI + (size_t)long_is);
 }
@@ -406,14 +315,14 @@ static void take_connect(tunnel *t, endpoint from, const uint8_t *b, size_t leng
 /* A question after a channel, or its end: by its own client alone. */
 static void take_control(tunnel *t, endpoint from, const uint8_t *b, size_t length, uint64_t now, bool ends)
 {
-    if (length < 2 + HPAI || !is_udp(b + 2))
+    if (length < 2 + HPAI || !datagram_is_udp(b + 2))
         return;
     channel *c = find(t, b[0]);
-    if (c != NULL && !same(c->control, from))
+    if (c != NULL && !datagram_same(c->control, from))
         c = NULL;
     if (!(c != NULL ? within_channel(t, c, now) : within(t, from, now)))
         return;
-    send_status(t, answer_to(b + 2, from), ends ? DISCONNECTED : STATE_IS, b[0], c != NULL ? OK : NO_CHANNEL);
+    send_status(t, datagram_answer_to(b + 2, from), ends ? DISCONNECTED : STATE_IS, b[0], c != NULL ? OK : NO_CHANNEL);
     if (c != NULL && ends)
         end(t, c, "its client closes it");
     else if (c != NULL)
@@ -429,7 +338,7 @@ static void acknowledge(const tunnel *t, endpoint to, uint8_t kind, const uint8_
 static channel *named(tunnel *t, endpoint from, uint8_t kind, const uint8_t *b)
 {
     channel *c = find(t, b[1]);
-    return c != NULL && c->kind == kind && same(c->data, from) ? c : NULL;
+    return c != NULL && c->kind == kind && datagram_same(c->data, from) ? c : NULL;
 }
 
 /* A request that is not taken is not acknowledged either: its client sends it again. That is so of one for whose answers there is no
@@ -473,12 +382,6 @@ static void take_acknowledgement(tunnel *t, endpoint from, uint8_t kind, const u
     c->count--;
 }
 
-/* Whether a datagram is one of KNXnet/IP, version 1, by its header. */
-static bool is_datagram(const uint8_t *d, size_t length)
-{
-    return length >= HEADER && d[0] == HEADER && d[1] == 0x10 && (size_t)(d[4] << 8 | d[5]) == length;
-}
-
 /* What needs no channel. */
 static void take_open(tunnel *t, uint16_t service, endpoint from, const uint8_t *b, size_t length, uint64_t now)
 {
@@ -495,11 +398,11 @@ static void take_open(tunnel *t, uint16_t service, endpoint from, const uint8_t 
 void tunnel_take(tunnel *t, endpoint from, const uint8_t *datagram, size_t length, uint64_t now)
 {
     t->counts.datagrams++;
-    if (!is_datagram(datagram, length)) {
+    if (!datagram_is(datagram, length)) {
         t->counts.unread++;
         return;
     }
-    uint16_t service = (uint16_t)(datagram[2] << 8 | datagram[3]);
+    uint16_t service = datagram_service(datagram);
     const uint8_t *b = datagram + HEADER;
     length -= HEADER;
     switch (service) {
@@ -536,7 +439,7 @@ void tunnel_take(tunnel *t, endpoint from, const uint8_t *datagram, size_t lengt
 void tunnel_take_search(tunnel *t, endpoint from, const uint8_t *datagram, size_t length, uint64_t now)
 {
     t->counts.datagrams++;
-    if (is_datagram(datagram, length) && (datagram[2] << 8 | datagram[3]) == SEARCH)
+    if (datagram_is(datagram, length) && datagram_service(datagram) == SEARCH)
         take_open(t, SEARCH, from, datagram + HEADER, length - HEADER, now);
     else
         t->counts.unread++;

@@ -22,9 +22,8 @@
 #ifndef TUNNEL_H
 #define TUNNEL_H
 
+#include "datagram.h"
 #include "limit.h"
-
-#include <stddef.h>
 
 enum {
     TUNNEL_CHANNELS = 8,
@@ -37,18 +36,12 @@ enum {
     MANAGEMENT_WAIT = 10000, /* the same of management */
     MANAGEMENT_SENDS = 4,
     TUNNEL_SILENCE = 120000, /* ms without a connection state request, after which a channel ends */
-    TUNNEL_NAME = 30,
     CLIENT_MOST = 200, CLIENT_A_SECOND = 100, /* requests of a channel; a line of twisted pair carries some 50 frames a second */
     GUEST_MOST = 100, GUEST_A_SECOND = 20,    /* of an address, without a channel */
     TUNNEL_GUESTS = 16                        /* addresses that are remembered for that */
 };
 
 enum tunnel_kind { TUNNEL_MANAGEMENT = 3, TUNNEL_TUNNELLING = 4 };
-
-typedef struct endpoint {
-    uint32_t address; /* in the host's order, as the port */
-    uint16_t port;
-} endpoint;
 
 typedef struct tunnel_frame {
     uint8_t bytes[TUNNEL_FRAME];
@@ -100,7 +93,7 @@ typedef struct tunnel {
     tunnel_host host;
     endpoint own;
     uint16_t first_address; /* of the first channel; the others follow */
-    char name[TUNNEL_NAME];
+    char name[DATAGRAM_NAME];
     uint8_t last; /* the number given last */
     tunnel_counts counts;
     tunnel_guest guests[TUNNEL_GUESTS];
@@ -120,9 +113,5 @@ uint64_t tunnel_due(const tunnel *t);
 
 /* Ends every channel. */
 void tunnel_close(tunnel *t);
-
-/* An endpoint in words: 127.0.0.1:3671. */
-enum { TUNNEL_ENDPOINT = 24 };
-const char *tunnel_endpoint(char out[TUNNEL_ENDPOINT], endpoint e);
 
 #endif

@@ -25,6 +25,12 @@ static double now(void)
     return (double)t.tv_sec + (double)t.tv_nsec / 1e9;
 }
 
+/* Whole seconds since then; a machine that is busy may be late. */
+static int after(double start)
+{
+    return (int)(now() - start + 0.15);
+}
+
 static int line_to(void)
 {
     struct sockaddr_un at;
@@ -81,7 +87,7 @@ static void silence(void)
     put(third, 0xE3, opens, 1);
     printf("third: %02x, ", (unsigned)hear(third, 2000));
     unsigned a = (unsigned)hear(two[0], 9000), b = (unsigned)hear(two[1], 9000);
-    printf("two: %02x %02x after %.0f s, ", a, b, now() - start);
+    printf("two: %02x %02x after %d s, ", a, b, after(start));
     put(third, 0xE3, opens, 1), put(third, 0xE3, first, 2);
     printf("third: %02x\n", (unsigned)hear(third, 2000));
 }
@@ -92,7 +98,7 @@ static void repeat(void)
     double start = now();
     put(bus, 0xE4, opens, 1), put(bus, 0xE4, first, 2);
     do
-        printf("%02x at %.0f s, ", (unsigned)(octet = hear(bus, 5000)), now() - start);
+        octet = hear(bus, 5000), printf("%02x at %d s, ", (unsigned)octet, after(start));
     while (octet != T_DISCONNECT && octet > 1);
     puts("end");
 }

@@ -62,7 +62,13 @@ def by_multicast(h):
     s, r = udp("127.0.0.2"), udp()
     s.setsockopt(socket.IPPROTO_IP, socket.IP_MULTICAST_IF, socket.inet_aton("127.0.0.1"))
     group = ("224.0.23.12", 3671)
-    s.sendto(datagram(0x201, hpai(r)), group)
+    try:
+        if "by multicast are not heard" in h.log():
+            raise OSError
+        s.sendto(datagram(0x201, hpai(r)), group)
+    except OSError:
+        print("endpoints: left out: searches by multicast: there is none on the loopback here")
+        return
     ours = [d for d in iter(lambda: silent(r), None) if struct.unpack(">H", d[12:14])[0] == h.port]
     check("search by multicast", [d[2:4] for d in ours], [b"\x02\x02"])
     s.sendto(datagram(0x203, hpai(r)), group)

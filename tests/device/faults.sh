@@ -11,9 +11,9 @@ wrong() { echo "faults: $*"; exit 1; }
 parts() { # the files that a test is built of
     case $1 in
     transport) echo transport ;;
-    tunnel) echo tunnel meaning ;;
+    tunnel) echo tunnel datagram meaning ;;
     device) echo device meaning transport ;;
-    fuzz) echo tunnel meaning device transport ;;
+    fuzz) echo tunnel datagram meaning device transport ;;
     *) wrong "there is no test $1" ;;
     esac
 }

@@ -8,6 +8,7 @@ import subprocess
 import sys
 import tempfile
 import threading
+import time
 
 from client import Closed, Connection, Tunnel, tell
 from start import SHEET, SHEET_PROGRAM, Host
@@ -122,8 +123,11 @@ def main():
             before = files(folder)
             for w in writers:
                 w.start()
-            timer = threading.Timer(r.uniform(.01, .25), h.p.kill)
-            timer.start()
+            end = time.monotonic() + 3  # the kill falls into writes of both
+            while time.monotonic() < end and not all(w.acked for w in writers):
+                time.sleep(.001)
+            time.sleep(r.uniform(0, .1))
+            h.p.kill()
             for w in writers:
                 w.join()
             h.p.wait()

@@ -15,7 +15,7 @@ python=$(command -v python3) || { echo "device: left out: sessions, knxd and kil
 # what mostly waits runs beside the rest
 waiting=()
 if [ -n "$python" ]; then
-    for t in "session.py" "wire.py $(share 10000 300000) $(share 1 2)"; do
+    for t in "session.py" "wire.py $(share 10000 100000) $(share 1 2)"; do
         # shellcheck disable=SC2086
         python3 tests/device/$t > "$work/${t%% *}" 2>&1 &
         waiting+=("$!:${t%% *}")

@@ -13,6 +13,11 @@ GROUP = 0x0801
 HEIGHT = "03D701331001"  # element 1 of property 1/51, and a value
 
 
+def after(start):
+    """whole seconds since then; a machine that is busy may be late"""
+    return int(time.monotonic() - start + .15)
+
+
 def services(h):
     n = Tunnel(h.port, open_it=False)
     r = n.ask(0x0201, n.hpai, 0x0202)
@@ -224,9 +229,9 @@ def times(h, a2):
     while time.monotonic() - start < 13:
         x = c.tpdu(.05)
         if x:
-            seen.append((round(time.monotonic() - start), x.hex()))
+            seen.append((after(start), x.hex()))
         if ended is None and q.tpdu(.01) == b"\x81":
-            ended = round(time.monotonic() - start)
+            ended = after(start)
             check("the third has the place", Connection(third).tpdu(.2), None)
     check("repetition", seen, [(0, "c2"), (0, "434007b0"), (3, "434007b0"), (6, "434007b0"), (9, "434007b0"), (12, "81")])
     check("silence", ended, 6)
@@ -241,7 +246,7 @@ def unread(h, a2):
     start = time.monotonic()
     while not a2.other and time.monotonic() - start < 4:
         a2.pump(.5)
-    check("no acknowledgement", (a2.other[0][0], a2.other[0][1][:2], round(time.monotonic() - start)),
+    check("no acknowledgement", (a2.other[0][0], a2.other[0][1][:2], after(start)),
           (0x0209, bytes([a2.channel, 0]), 2))
 
 
