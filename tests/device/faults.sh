@@ -18,26 +18,40 @@ parts() { # the files that a test is built of
     esac
 }
 
+# builds the program with the parts in a folder, and runs a test in Python with it
+try_program() {
+    local name=$1 from=$2 words=
+    gcc -std=c11 -O1 -Iinclude -Ibuild -I"$from" -o "$work/device-program" "$from"/*.c build/libkelindap_device.a build/libkelindap_pdu.a \
+        2> "$work/complaints" || return 2
+    [ "$name" != kill ] || words=30
+    # shellcheck disable=SC2086
+    DEVICE_PROGRAM=$work/device-program timeout 120 python3 "tests/device/$name.py" $words || return 1
+}
+
 # builds the test of a name with the parts in a folder, and runs it
 try() {
     local name=$1 from=$2 sources=() source=tests/device/$1_test.c
+    [ ! -e "tests/device/$name.py" ] || { try_program "$name" "$from"; return; }
     [ "$name" != fuzz ] || source=tests/device/fuzz_parts.c
     for part in $(parts "$name"); do sources+=("$from/$part.c"); done
     gcc -std=c11 -O1 -Iinclude -Ihosts -I"$from" -fsanitize=address,undefined -fno-sanitize-recover=all -o "$work/test" "$source" \
         "${sources[@]}" build/libkelindap_device.a build/libkelindap_pdu.a 2> "$work/complaints" || return 2
     if [ "$name" = fuzz ]; then
-        ASAN_OPTIONS=detect_leaks=0 timeout 60 "$work/test" "${FUZZ_FAULTS:-60000}" 1 && ASAN_OPTIONS=detect_leaks=0 timeout 60 "$work/test" "${FUZZ_FAULTS:-60000}" 2
+        timeout 60 "$work/test" "${FUZZ_FAULTS:-60000}" 1 && timeout 60 "$work/test" "${FUZZ_FAULTS:-60000}" 2 || return 1
     else
-        ASAN_OPTIONS=detect_leaks=0 timeout 60 "$work/test"
+        timeout 60 "$work/test" || return 1
     fi
 }
+export ASAN_OPTIONS=detect_leaks=0
+python3=$(command -v python3) || echo "faults: left out: those that a test in Python finds: there is no python3 here"
 
 # where all are planted; run.sh has just had them otherwise
-for name in $([ "$every" != 1 ] || echo transport tunnel device fuzz); do try "$name" hosts/device > "$work/said" 2>&1 || wrong "without a fault $name fails: $(tail -n 3 "$work/said")"; done
+for name in $([ "$every" != 1 ] || echo transport tunnel device fuzz endpoints edges session kill); do try "$name" hosts/device > "$work/said" 2>&1 || wrong "without a fault $name fails: $(tail -n 3 "$work/said")"; done
 found=0 line=0
 while IFS=$'\t' read -r name file edit; do
     line=$((line + 1))
     [ $((line % every)) = 0 ] || continue
+    [ -n "$python3" ] || [ ! -e "tests/device/$name.py" ] || continue
     rm -rf "$work/device"
     cp -r hosts/device "$work/device"
     sed -i -e "$edit" "$work/device/$file"
