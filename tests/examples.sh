@@ -171,7 +171,7 @@ edge zero "0: 0, remove: 11"
 # started twice on one sheet, by its name and by a link to it; names at which something stands, which stays as it is
 refuses() { # the words of the host, and what it says
     local status=0
-    "$host" $1 > /dev/null 2> complaints || status=$?
+    timeout 10 "$host" $1 > /dev/null 2> complaints || status=$?
     [ "$status" = 1 ] && [ "$(cat complaints)" = "host: $2" ] || wrong "host $1: status $status, $(cat complaints)"
 }
 ln -s sheet link
@@ -195,7 +195,7 @@ expect "write 22222222 1300" "height: the device is gone 2"
 pid=
 rmdir sheet.new
 echo "as it was" > victim
-ln -s victim sheet.new
+ln -s victim tank.new
 mv sheet tank && ln -s tank sheet
 start
 expect "write 22222222 1300 1251" "1300 1251 0"

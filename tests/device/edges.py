@@ -175,13 +175,13 @@ def unsaved(h, fill, free):
     check("nor a version", tell(h.ctl, "save")[:26], "refused: it can't be saved")
     check("nor the button", tell(h.ctl, "button on")[:26], "refused: it can't be saved")
     check("the file", (h.bytes()[64:69].hex(), h.bytes()[14]), ("0401000000", 2))
-    check("it is told", ("can't be saved: " in h.log(), "unsaved" in tell(h.ctl, "state")), (True, True))
+    check("it is told", (h.says("can't be saved: "), "unsaved" in tell(h.ctl, "state")), (True, True))
     t.wait, t.tries = 1.0, 2
     check("reading goes on", c.ask("03D501331001").hex(), "03d6013310010401")
     free()
     check("and then it is stored", c.ask(HEIGHT + "0402").hex(), "03d6013310010402")
     check("the file", h.bytes()[64:66].hex(), "0402")
-    check("told", ("is saved again" in h.log(), t.tx != n), (True, True))
+    check("told", (h.says("is saved again"), t.tx != n), (True, True))
     check("a version", tell(h.ctl, "save"), "ok 1\n")
 
 
@@ -300,14 +300,26 @@ def own_address():
 
 
 def descriptors():
-    """out of descriptors newcomers at the control socket are turned away, and the bus goes on, saving included"""
-    h = Host(before=lambda: resource.setrlimit(resource.RLIMIT_NOFILE, (16, 16)))
-    try:
+    """out of descriptors newcomers at the control socket are turned away, and the bus goes on"""
+    def limited(n):
+        return lambda: resource.setrlimit(resource.RLIMIT_NOFILE, (n, n))
+
+    def crowd(h):
         many = []
         for _ in range(30):
             s = socket.socket(socket.AF_UNIX, socket.SOCK_STREAM)
-            s.connect(h.ctl)
+            s.settimeout(5)
+            for _ in range(100):  # its queue may be full
+                try:
+                    s.connect(h.ctl)
+                    break
+                except BlockingIOError:
+                    time.sleep(.05)
             many.append(s)
+        return many
+    h = Host(before=limited(16))
+    try:
+        many = crowd(h)
         t = Tunnel(h.port)
         check("a write is saved", (t.frame(0x0801, b"\x00\x80\x55", group=True), h.bytes()[68]), (0, 0x55))
         for s in many:
@@ -315,6 +327,37 @@ def descriptors():
         check("and the socket answers again", tell(h.ctl, "versions"), "ok\n")
     finally:
         h.kill()
+    at = folder()
+    with open(at + "/sheet", "wb") as f:
+        f.write(SHEET)
+    n = 8  # as few as it starts with: none is left
+    while not starts(at, limited(n)):
+        n += 1
+    h = Host(folder=at, before=limited(n))
+    try:
+        for s in crowd(h):
+            try:
+                got = s.recv(1)
+            except ConnectionResetError:
+                got = b""
+            check("turned away", got, b"")
+        t = Tunnel(h.port)
+        check("the bus goes on", t.frame(0x0801, b"\x00\x00", group=True), 0)
+        check("what can't be saved", t.frame(0x0801, b"\x00\x80\x55", group=True, wait=.3, tries=1), None)
+        check("is told", "can't be saved: Too many open files" in h.log(), True)
+    finally:
+        h.kill()
+        shutil.rmtree(at)
+
+
+def starts(at, before):
+    """whether the host starts with that limit"""
+    p = subprocess.Popen([PROGRAM, at + "/sheet", "--port", "0"], stdout=subprocess.PIPE, stderr=subprocess.DEVNULL, preexec_fn=before)
+    line = p.stdout.readline()
+    p.kill()
+    p.wait()
+    p.stdout.close()
+    return line.startswith(b"ready")
 
 
 words()

@@ -5,6 +5,7 @@ import shutil
 import subprocess
 import tempfile
 import threading
+import time
 
 TOP = os.path.realpath(os.path.join(os.path.dirname(os.path.abspath(__file__)), "../.."))
 PROGRAM = os.environ.get("DEVICE_PROGRAM", os.path.join(TOP, "build/kelindap-device"))
@@ -40,8 +41,18 @@ class Host:
         self.port, self.ctl = int(line[1]), self.sheet + ".control"
 
     def copy(self):
-        for line in self.p.stderr:
-            os.write(self.err.fileno(), line)
+        try:
+            for line in self.p.stderr:
+                os.write(self.err.fileno(), line)
+        except ValueError:  # closed at the end
+            pass
+
+    def says(self, words, wait=5):
+        """whether the log has these words, or gets them soon"""
+        end = time.monotonic() + wait
+        while words not in self.log() and time.monotonic() < end:
+            time.sleep(.02)
+        return words in self.log()
 
     def bytes(self):
         with open(self.sheet, "rb") as f:
