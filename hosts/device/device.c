@@ -87,7 +87,8 @@ uint16_t device_address(const device *d)
 static void send_octet(device *d, uint16_t to, uint8_t octet)
 {
     uint16_t own = device_address(d);
-    uint8_t frame[10] = { KELINDAP_L_DATA_REQ, 0, 0xB0, 0x60, (uint8_t)(own >> 8), (uint8_t)own, (uint8_t)(to >> 8), (uint8_t)to, 0, octet };
+    uint8_t frame[10] = { KELINDAP_L_DATA_REQ, 0, 0xB0, 0x60, (uint8_t)(own >> 8), (uint8_t)own, (uint8_t)(to >> 8), (uint8_t)to,
+                          0, octet };
     d->send(d->bus, frame, sizeof frame);
 }
 

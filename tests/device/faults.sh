@@ -42,7 +42,7 @@ try() {
         timeout 60 "$work/test" || return 1
     fi
 }
-export ASAN_OPTIONS=detect_leaks=0
+export ASAN_OPTIONS=detect_leaks=0 PYTHONDONTWRITEBYTECODE=1
 python3=$(command -v python3) || echo "faults: left out: those that a test in Python finds: there is no python3 here"
 
 # where all are planted; run.sh has just had them otherwise

@@ -6,7 +6,7 @@ set -euo pipefail
 cd "$(dirname "$0")/../.."
 build=$1
 share() { [ -n "${LONG:-}" ] && echo "$2" || echo "$1"; }
-export DEVICE_PROGRAM=$PWD/$build/kelindap-device DEVICE_WATCHED=$PWD/$build/kelindap-device_watched ASAN_OPTIONS=detect_leaks=0
+export DEVICE_PROGRAM=$PWD/$build/kelindap-device DEVICE_WATCHED=$PWD/$build/kelindap-device_watched ASAN_OPTIONS=detect_leaks=0 PYTHONDONTWRITEBYTECODE=1
 work=$(mktemp -d)
 trap 'kill $(jobs -p) 2> /dev/null || true; rm -rf "$work"' EXIT
 
