@@ -24,6 +24,7 @@ test: need-tools
 	$(MAKE) --no-print-directory -s -j2 -O test-unit test-text test-c test-wear points test-frames $(BUILD)/bridge
 	mk/bin/beside $(MAKE) --no-print-directory -s test-firmware -- $(MAKE) --no-print-directory -s test-tools compare
 	$(MAKE) --no-print-directory -s figures test-deb test-python
+	$(MAKE) --no-print-directory -s test-device
 	mk/bin/beside $(MAKE) --no-print-directory -s test-page test-shims -- $(MAKE) --no-print-directory -s test-others
 	tail -n 1 build/ci.log
 
@@ -66,6 +67,7 @@ sheet-check: need-tools
 include mk/native.mk
 include mk/hosts.mk
 include mk/tools.mk
+include mk/device.mk
 include mk/install.mk
 include mk/python.mk
 include mk/frames.mk

@@ -6,6 +6,8 @@
 #ifndef BUS_H
 #define BUS_H
 
+#include "transport.h" /* the octets of transport; it lies in hosts/device */
+
 #include <stdint.h>
 #include <string.h>
 #include <sys/socket.h>
@@ -13,14 +15,11 @@
 #include <sys/un.h>
 #include <unistd.h>
 
-/* What a packet about versions is; no frame begins so. */
+/* What a packet about versions is; no frame begins so, and a 0 is none of them. */
 enum { BUS_SAVE = 1, BUS_RESTORE = 2, BUS_REMOVE = 3, BUS_VERSION = 4 /* bytes */ };
 
 /* The longest frame, and a byte more than any that is right. */
 enum { BUS_PACKET = 280 + 1 };
-
-/* The octets of transport that are no data: connect, disconnect, acknowledgement. */
-enum { T_CONNECT = 0x80, T_DISCONNECT = 0x81, T_ACK = 0xC2, T_DATA = 0x40 };
 
 /* The socket of a bus, and its name in `at`; -1 if the name is too long or there is no socket. */
 static inline int bus_socket(const char *name, struct sockaddr_un *at)

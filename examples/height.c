@@ -28,10 +28,10 @@ static _Noreturn void end(int status, const char *why)
     exit(status);
 }
 
-/* Who this is, and the device; on a connection, the number of the next frame. */
+/* Who this is, and the device; on a connection, the numbers of the next frames. */
 enum { DEVICE = 0x1105 };
 static uint16_t own;
-static uint8_t next;
+static uint8_t next, expected; /* its own, and the device's */
 
 /* A frame to the device, transport's bits being these. */
 static void put(int bus, uint8_t transport, const uint8_t *apdu, size_t length)
@@ -42,6 +42,24 @@ static void put(int bus, uint8_t transport, const uint8_t *apdu, size_t length)
     kelindap_framed framed = kelindap_frame_write(f, NULL, 0, apdu, length, frame, sizeof frame);
     if (framed.outcome != KELINDAP_OK || send(bus, frame, framed.count, 0) < 0)
         end(TROUBLE, "the device is gone");
+}
+
+/* An octet of transport's own. */
+static void control(int bus, uint8_t octet)
+{
+    uint8_t low = octet & 3;
+    put(bus, octet >> 2, &low, 1);
+}
+
+/* Acknowledges data of the device; false if it is one that came before. */
+static bool is_next(int bus, uint8_t transport)
+{
+    uint8_t number = transport & 15;
+    control(bus, (uint8_t)(T_ACK | number << 2));
+    if (number != expected)
+        return false;
+    expected = (expected + 1) & 15;
+    return true;
 }
 
 /* The APDU of the next frame that is data, in `apdu`; the count of its bytes. Acknowledgements are passed over. */
@@ -56,6 +74,8 @@ static size_t get(int bus, uint8_t apdu[16])
         if (f.event == KELINDAP_EVENT_DISCONNECT)
             end(REFUSED, "the device ends the connection");
         if (f.event != KELINDAP_EVENT_CONNECTED && f.event != KELINDAP_EVENT_CONNECTIONLESS)
+            continue;
+        if (f.event == KELINDAP_EVENT_CONNECTED && !is_next(bus, f.transport))
             continue;
         memcpy(apdu, frame + f.tpdu_offset, f.tpdu_length);
         return f.tpdu_length;
@@ -74,13 +94,6 @@ static kelindap_pdu ask(int bus, bool connected, kelindap_pdu pdu, const uint8_t
     if (answer.kind != kind) /* nothing that was refused has a kind */
         end(REFUSED, "the device does not answer as it should");
     return answer;
-}
-
-/* An octet of transport's own. */
-static void control(int bus, uint8_t octet)
-{
-    uint8_t low = octet & 3;
-    put(bus, octet >> 2, &low, 1);
 }
 
 static const kelindap_pdu height = { .s = 1, .object = 1, .id = 51, .n = 1 };

@@ -24,7 +24,10 @@
  *    back, as from a router that loops, or another device with the same address. Nothing is sent to it; a host may tell the
  *    operator. What goes to a group or to all is heard from whatever source, so a host that gets back what it sent itself
  *    leaves that out before the call;
- *  - transport's time limits: a partner that is silent too long is disconnected by kelindap_disconnect with its number;
+ *  - transport's time limits. A partner of which nothing is heard for 6 s is disconnected: kelindap_disconnect with its number,
+ *    and a T_Disconnect is due to it on the bus, so that it knows; its place is then free. An answer that is not acknowledged
+ *    within 3 s is sent again, three times at 3 s, and then the connection ends in the same way. Without these limits
+ *    two silent partners shut every other one out;
  *  - a session that was open before a call of kelindap_serve and is closed after it, though the frame was no disconnect of that
  *    partner, was closed by a Restart: a disconnect is then due to that partner on the bus.
  *

@@ -5,10 +5,12 @@
 #:                 traces) and the examples, build/host and build/height
 tools: build/sheet build/trace $(BUILD)/host $(BUILD)/height
 
-$(BUILD)/host $(BUILD)/height: $(BUILD)/%: examples/%.c examples/bus.h $(LINKED) | need-gcc
+# the example host shares transport, files and socket with the one on a real bus
+SHARED := hosts/device/transport.c hosts/device/files.c hosts/device/local.c
+$(BUILD)/host $(BUILD)/height: $(BUILD)/%: examples/%.c examples/bus.h $(SHARED) $(wildcard hosts/device/*.h) $(LINKED) | need-gcc
 	mkdir -p $(BUILD)
-	gcc $(STRICT) -c $< -o /dev/null
-	$(CC_FOR) -o $@ $(STRICT) $< $(HOST_A) $(TOOL_A)
+	gcc $(STRICT) -Ihosts/device -c $< -o /dev/null
+	$(CC_FOR) -o $@ $(STRICT) -Ihosts/device $< $(if $(filter %/host,$@),$(SHARED)) $(HOST_A) $(TOOL_A)
 
 build/sheet: $(shell find tools/sheet/src -name '*.rs') tools/sheet/kelindap-sheet.txt tools/sheet/Cargo.toml Cargo.toml mk/tools.mk
 	cargo build --release --quiet -p sheet

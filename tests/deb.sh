@@ -54,7 +54,7 @@ mkdir -p "$root/var/lib/dpkg"/{info,updates,triggers}
 : > "$root/var/lib/dpkg/available"
 # a root that holds nothing has no C library either, for which the package asks
 dpkg-deb -f "build/deb/kelindap-tools_${version}_$debian.deb" Depends | grep -q '^libc6 (>= [0-9.]*), libgcc-s1$' || fail "kelindap-tools asks for other packages"
-needed=$(objdump -p build/sheet build/trace build/unit | awk '$1 == "NEEDED" && $2 !~ /^ld-linux/ { print $2 }' | sort -u | paste -sd ' ')
+needed=$(objdump -p build/sheet build/trace build/unit build/kelindap-device | awk '$1 == "NEEDED" && $2 !~ /^ld-linux/ { print $2 }' | sort -u | paste -sd ' ')
 [ "$needed" = "libc.so.6 libgcc_s.so.1" ] || fail "the programs need $needed"
 packages=(libkelindap-dev kelindap-tools)
 if command -v python3 > /dev/null; then
@@ -93,9 +93,19 @@ printf '%b' "$(cat "$work/list")" > "$work/sheet"
 printf '\0\0' > "$work/trace"
 [ "$("$root/usr/bin/kelindap-trace" play "$work/sheet" "$work/trace" | tail -n 1)" = "sheet unchanged" ] || fail "kelindap-trace does not play"
 
+# the device on a bus, on a free port of the loopback: it starts, is asked, and ends
+[ -s "$root/usr/lib/systemd/system/kelindap-device@.service" ] || fail "there is no unit for systemd"
+"$root/usr/bin/kelindap-device" "$work/sheet" --port 0 > "$work/ready" 2> "$work/log" &
+device=$!
+for ((waited = 0; waited < 500; waited++)); do [ ! -s "$work/ready" ] || break; sleep 0.01; done
+"$root/usr/bin/kelindap-device" ctl "$work/sheet" state > "$work/state" || { kill "$device"; fail "kelindap-device does not answer: $(cat "$work/log")"; }
+kill "$device"
+wait "$device" || fail "kelindap-device does not end in order"
+[ "$(head -n 1 "$work/state")" = "device 1.1.5 programming off" ] || fail "kelindap-device is in another state: $(cat "$work/state")"
+
 words_of() { grep -o '[^[:space:]]*'; }
 # a page has the words of --help, but for those of its head and foot
-for program in kelindap-sheet:tools/sheet kelindap-trace:tools/trace kelindap-unit:hosts; do
+for program in kelindap-sheet:tools/sheet kelindap-trace:tools/trace kelindap-unit:hosts kelindap-device:hosts/device; do
     text=${program#*:}/${program%%:*}.txt name=${program%%:*}
     "$root/usr/bin/$name" --help | cmp - "$text" || fail "$name --help says something else"
     if command -v man > /dev/null && command -v groff > /dev/null; then

@@ -1,6 +1,7 @@
 #!/usr/bin/env bash
 # tests/examples.sh HOST HEIGHT SHEET: the example host and tool at work, an old sheet, two tools at once, one that reads nothing, a
-# frame that comes twice, an answer to a group, versions of the settings, and the host killed 200 times during writes: what it
+# frame that comes twice, an answer to a group, versions of the settings, a second start, names at which something stands, planted
+# names, few descriptors, the time limits of transport, and the host killed 200 times during writes: what it
 # saved is then an accepted sheet each time, with the height that was answered last or the one after it; and as often while
 # versions are saved and removed: the store is then a good one, as it was after what was answered last or after the next; and
 # 50 times during writes that are not answered: the sheet then has what was acknowledged last, or the next.
@@ -85,13 +86,17 @@ done
 expect "write 33333333 1250" "height: the device refuses 1"
 now=$("$height" bus read)
 { [ "$now" -ge 3000 ] && [ "$now" -le 22999 ]; } || wrong "beside a tool that writes from 3000 on, the height $now is read"
+for ((waited = 0; waited < 1000; waited++)); do
+    [ "$(tail -n 1 answers)" -lt "$now" ] || break
+    sleep 0.01
+done
 kill "$tool" 2> /dev/null || wrong "the tool with the key did not last, or was disturbed"
 wait "$tool" || true
 [ "$(tail -n 1 answers)" -ge "$now" ] || wrong "the tool with the key wrote nothing after the other one was refused"
 expect "write 22222222 1251" "1251 0"
 
 # a partner that reads nothing is dropped, and the other is served all the while
-gcc -std=c11 -O2 -Wall -Wextra -Werror -I"$top/examples" -o deaf "$top/tests/c/deaf.c"
+gcc -std=c11 -O2 -Wall -Wextra -Werror -I"$top/examples" -I"$top/hosts/device" -o deaf "$top/tests/c/deaf.c"
 timeout 60 ./deaf bus > deaf-said &
 deaf=$!
 for ((turn = 0; turn < 20; turn++)); do
@@ -102,7 +107,7 @@ wait "$deaf" || wrong "a partner that reads nothing: $(cat deaf-said)"
 
 # a bit write that comes twice, its acknowledgement having been lost, is acknowledged twice and carried out once: the byte is another
 # after it, and as before after one more
-gcc -std=c11 -O2 -Wall -Wextra -Werror -I"$top/examples" -o twice "$top/tests/c/twice.c"
+gcc -std=c11 -O2 -Wall -Wextra -Werror -I"$top/examples" -I"$top/hosts/device" -o twice "$top/tests/c/twice.c"
 for byte in af a0; do
     said=$(timeout 10 ./twice bus || true)
     [ "$said" = "answers 0 1 2, acknowledged 2 times" ] || wrong "a bit write that comes twice: $said"
@@ -111,7 +116,7 @@ for byte in af a0; do
 done
 
 # an answer to a group goes to everybody on the bus, one to an address to nobody else
-gcc -std=c11 -O2 -Wall -Wextra -Werror -I"$top/examples" -o hears "$top/tests/c/hears.c"
+gcc -std=c11 -O2 -Wall -Wextra -Werror -I"$top/examples" -I"$top/hosts/device" -o hears "$top/tests/c/hears.c"
 said=$(timeout 10 ./hears bus || true)
 [ "$said" = "asks told all, listens all" ] || wrong "who hears what: $said"
 stop
@@ -152,6 +157,74 @@ expect "versions 11111111 remove=3 remove=3" "remove 3 height: no such version i
 stop
 "$sheet" versions sheet.store | head -n 1 > list
 [ "$(cat list)" = "1 version, last number 3, 4096 bytes, 4062 free" ] || wrong "another store: $(cat list)"
+
+# the edges: a number that nothing was before, a packet that is none, more lines than descriptors
+gcc -std=c11 -O2 -Wall -Wextra -Werror -I"$top/examples" -I"$top/hosts/device" -o edges "$top/tests/c/edges.c"
+edge() { # WORD, what it says
+    local got
+    got=$(timeout 30 ./edges bus "$1" || true)
+    [ "$got" = "$2" ] || wrong "edges $1: expected \"$2\", got \"$got\""
+}
+start
+edge number "15: ff, 0: c2 43"
+edge zero "0: 0, remove: 11"
+# started twice on one sheet, by its name and by a link to it; names at which something stands, which stays as it is
+refuses() { # the words of the host, and what it says
+    local status=0
+    timeout 10 "$host" $1 > /dev/null 2> complaints || status=$?
+    [ "$status" = 1 ] && [ "$(cat complaints)" = "host: $2" ] || wrong "host $1: status $status, $(cat complaints)"
+}
+ln -s sheet link
+cp sheet other
+cp sheet as-it-was
+refuses "sheet bus2" "sheet: is served by another program"
+refuses "link bus2" "link: is served by another program"
+refuses "other bus" "bus: is the socket of another program"
+refuses "other other" "other: is there already, and is no socket: it stays as it is"
+refuses "other sheet" "sheet: is there already, and is no socket: it stays as it is"
+refuses "other none/bus" "none/bus: can't be listened on: No such file or directory"
+refuses "none bus2" "none: can't be read: No such file or directory"
+cmp sheet as-it-was && cmp other as-it-was || wrong "a start that was refused has changed a file"
+expect read "1251 0"
+stop
+# what can't be saved is told with its own reason, and the host stops; a name that is planted is not written through
+start
+mkdir sheet.new
+expect "write 22222222 1300" "height: the device is gone 2"
+[ "$(cat complaints)" = "host: sheet: can't be saved: Is a directory" ] || wrong "a save that fails: $(cat complaints)"
+pid=
+rmdir sheet.new
+echo "as it was" > victim
+ln -s victim tank.new
+mv sheet tank && ln -s tank sheet
+start
+expect "write 22222222 1300 1251" "1300 1251 0"
+stop
+[ "$(cat victim)" = "as it was" ] || wrong "a file that was planted is written through"
+[ -L sheet ] && [ ! -L tank ] && cmp tank as-it-was || wrong "a sheet that is a link does not stay one"
+rm sheet && mv tank sheet && rm -f tank.* link
+(ulimit -n 12 && exec "$host" other bus3 > ready 2> complaints) &
+pid=$!
+for ((waited = 0; waited < 500; waited++)); do [ ! -s ready ] || break; sleep 0.01; done
+mv bus bus.kept 2> /dev/null || true
+mv bus3 bus
+edge lines "served, others turned away"
+expect "write 22222222 1300" "1300 0"
+kill -9 "$pid" && { wait "$pid" 2> /dev/null || true; }
+pid=
+# time limits, beside what follows: two hosts of their own, which are ended at the end
+limits() { # NAME WORD
+    mkdir "$1" && cp as-it-was "$1/sheet"
+    (cd "$1" && exec "$host" sheet bus > ready 2> /dev/null) &
+    echo $! > "$1/pid"
+    for ((waited = 0; waited < 500; waited++)); do [ ! -s "$1/ready" ] || break; sleep 0.01; done
+    timeout 40 ./edges "$1/bus" "$2" > "$1/said" || true
+    kill -9 "$(cat "$1/pid")"
+}
+limits one silence &
+one=$!
+limits two repeat &
+two=$!
 
 # killed at any moment
 during=0
@@ -217,7 +290,7 @@ done
 echo "examples: killed $KILLS times, $during of them during saves and removes; each time the store was the old or the new one"
 
 # and during writes of memory out of verify mode, which are acknowledged and not answered
-gcc -std=c11 -O2 -Wall -Wextra -Werror -I"$top/examples" -o acked "$top/tests/c/acked.c"
+gcc -std=c11 -O2 -Wall -Wextra -Werror -I"$top/examples" -I"$top/hosts/device" -o acked "$top/tests/c/acked.c"
 "$sheet" show --keys sheet | sed 's/^verify on/verify off/' > text
 "$sheet" make text > sheet
 "$sheet" show sheet | grep -q '^verify off' || wrong "verify mode can't be left"
@@ -237,3 +310,8 @@ for ((i = 0; i < KILLS / 4; i++)); do
     [ "$now" = $((last % 256)) ] || [ "$now" = $(((last + 1) % 256)) ] || wrong "kill $i left $now, where $last was acknowledged"
 done
 echo "examples: killed $((KILLS / 4)) times during writes that are not answered; each time the sheet saved had what was acknowledged"
+
+wait "$one" "$two" 2> /dev/null || true
+[ "$(cat one/said)" = "third: 81, two: 81 81 after 6 s, third: c2" ] || wrong "silent partners: $(cat one/said)"
+[ "$(cat two/said)" = "c2 at 0 s, 43 at 0 s, 43 at 3 s, 43 at 6 s, 43 at 9 s, 81 at 12 s, end" ] || wrong "an answer that is not acknowledged: $(cat two/said)"
+echo "examples: a second start, names at which something stands, planted names, few descriptors, and the time limits of transport are as due"

@@ -44,7 +44,9 @@ named=$(cat include/*.h | grep -oE '\b(docs|examples|sheets)/[A-Za-z_]+\.[a-z]+|
 for name in $named; do [ -s "$doc/$name" ] || fail "a header names $name, which is not installed"; done
 for name in $(cat include/*.h | grep -oE '\bkelindap[a-z_]*\.h\b' | sort -u); do [ -s "$work/at/include/$name" ] || fail "a header names $name, which is not installed"; done
 ! grep -nE '\b(tests|crates|hosts|tools|mk|scripts|shims|build|include)/' include/*.h || fail "a header names what is never installed"
-for name in host height; do gcc -o "$work/$name" -std=c11 -I"$work/at/include" "$doc/examples/$name.c" -L"$work/at/lib" -lkelindap_device -lkelindap_pdu || fail "examples/$name.c does not compile"; done
+for name in host height; do
+    gcc -o "$work/$name" -std=c11 -I"$work/at/include" "$doc/examples/$name.c" "$doc"/examples/{files,local,transport}.c -L"$work/at/lib" -lkelindap_device -lkelindap_pdu || fail "examples/$name.c does not compile"
+done
 cmp build/kelindap.html "$doc/kelindap.html" || fail "another page"
 for sheet in sample pump; do
     from=$doc/sheets/$sheet
@@ -63,8 +65,8 @@ grep -q 'end is missing' "$work/said" || fail "no sheet program"
 [ "$("$work/at/bin/kelindap-sheet" chek 2>&1)" = 'kelindap-sheet: no command "chek", perhaps check; kelindap-sheet --help says more' ] ||
     fail "a message under another name"
 [ "$(echo 'connect 0' | "$work/at/bin/kelindap-unit" | cut -c 1-11)" = "1 1 3 0 3 0" ] || fail "no desk unit"
-for name in sheet trace unit; do [ -s "$work/at/share/man/man1/kelindap-$name.1" ] || fail "no man page of kelindap-$name"; done
-for name in sheet trace unit; do
+for name in sheet trace unit device; do [ -s "$work/at/share/man/man1/kelindap-$name.1" ] || fail "no man page of kelindap-$name"; done
+for name in sheet trace unit device; do
     cmp tools/kelindap.bash "$work/at/share/bash-completion/completions/kelindap-$name" || fail "no completions of kelindap-$name"
 done
 
@@ -85,6 +87,19 @@ fi
 install PREFIX="$work/without" PYTHON3= || { cat "$work/said"; fail "make install failed without python3"; }
 grep -q 'without the Python package' "$work/said" || fail "nothing is said of a Python package that is not there"
 [ -z "$(find "$work/without" -path '*python*')" ] || fail "a Python package is installed without python3"
+
+# the device on a bus, and its unit for systemd: where that is installed it has no complaint, and finds the service well shut in
+[ "$("$work/at/bin/kelindap-device" --version)" = "kelindap-device of kelindap $version" ] || fail "a device of another version"
+unit=$work/at/lib/systemd/system/kelindap-device@.service
+grep -q "^ExecStart=$work/at/bin/kelindap-device /var/lib/private/kelindap-%i/sheet" "$unit" || fail "the unit starts something else"
+if command -v systemd-analyze > /dev/null; then
+    grep -v '^Documentation=' "$unit" > "$work/kelindap-device@tank.service" # the page is not where man looks
+    systemd-analyze verify "$work/kelindap-device@tank.service" > "$work/said" 2>&1 || { cat "$work/said"; fail "systemd complains of the unit"; }
+    systemd-analyze security --offline=true --threshold=20 "$work/kelindap-device@tank.service" > "$work/said" 2>&1 ||
+        { tail -n 1 "$work/said"; fail "the unit leaves more open than it should"; }
+else
+    echo "install: left out: the unit for systemd is not judged: there is no systemd-analyze here"
+fi
 
 # another processor than this machine's
 other=$([ "$own" = aarch64 ] && echo armhf || echo aarch64)

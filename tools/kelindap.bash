@@ -57,4 +57,4 @@ _kelindap() {
     compopt -o filenames 2> /dev/null || true
 }
 
-complete -F _kelindap kelindap-sheet kelindap-trace kelindap-unit
+complete -F _kelindap kelindap-sheet kelindap-trace kelindap-unit kelindap-device

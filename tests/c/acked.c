@@ -10,6 +10,13 @@
 #include <stdbool.h>
 #include <stdio.h>
 
+/* The answer to the key is acknowledged, and no more. */
+static bool pass_over(int bus, const uint8_t *got)
+{
+    const uint8_t acknowledges[] = { 0x29, 0, 0xB0, 0x60, 0x11, 0xFC, 0x11, 0x05, 0, (uint8_t)(T_ACK | (got[9] & 0x3C)) };
+    return (got[9] & 0xC0) != T_DATA || send(bus, acknowledges, sizeof acknowledges, 0) > 0;
+}
+
 /* Connected data of the partner 11FCh to the device 1105h, with that number; true once it is acknowledged. */
 static bool put(int bus, int number, const uint8_t *apdu, uint8_t length)
 {
@@ -19,8 +26,8 @@ static bool put(int bus, int number, const uint8_t *apdu, uint8_t length)
     frame[9] |= T_DATA | turn;
     if (send(bus, frame, 9u + length, 0) < 0)
         return false;
-    do /* the answer to the key is passed over */
-        if (recv(bus, got, sizeof got, 0) < 10)
+    do
+        if (recv(bus, got, sizeof got, 0) < 10 || !pass_over(bus, got))
             return false;
     while (got[9] != (T_ACK | turn));
     return true;

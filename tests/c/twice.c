@@ -37,8 +37,12 @@ int main(int count, char **words)
         if (recv(bus, frame, sizeof frame, 0) < 10)
             return 2;
         acknowledged += frame[9] == (T_ACK | 1 << 2);
-        if ((frame[9] & 0xC0) == T_DATA)
-            printf(" %d", frame[9] >> 2 & 15);
+        if ((frame[9] & 0xC0) == T_DATA) {
+            uint8_t number = frame[9] >> 2 & 15, acknowledges[] = { (uint8_t)(T_ACK | number << 2) };
+            printf(" %d", number);
+            if (!put(bus, acknowledges, sizeof acknowledges))
+                return 2;
+        }
     } while ((frame[9] & 3) != 3 || frame[10] != 0xD6); /* the height is told */
     printf(", acknowledged %d times\n", acknowledged);
     return put(bus, closes, sizeof closes) ? 0 : 2;
