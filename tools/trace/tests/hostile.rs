@@ -52,8 +52,8 @@ fn tried(seed: u64, text: &str, read: impl Fn(&str) -> Result<(), String>) -> us
 fn texts() {
     let forms = [(Form::Hex, HEX), (Form::Ets, ETS), (Form::Knxtool, KNXTOOL)];
     for (i, (form, recording)) in (0..).zip(forms) {
-        assert!(read(form, recording).is_ok());
-        let refused = tried(i * TRIES, recording, |text| read(form, text).map(drop));
+        assert!(read(form, recording, false).is_ok());
+        let refused = tried(i * TRIES, recording, |text| read(form, text, false).map(drop));
         assert!(refused > 500, "{form:?}: {refused}");
     }
     assert!(text::events(TEXT).is_ok());

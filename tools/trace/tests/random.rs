@@ -31,7 +31,7 @@ fn drawn(seed: u64) -> (Vec<u8>, Trace) {
         from: rng.chance(50).then(|| rng.word()),
     });
     let known = known.collect();
-    (sheet, Trace { name: format!("trace {seed}"), bytes, events, known })
+    (sheet, Trace { name: format!("trace {seed}"), bytes, events, known, evidence: None })
 }
 
 /// The text of a trace makes the same trace and the same side file.
@@ -153,10 +153,8 @@ fn played_and_explained() {
         let told: Vec<(usize, u32)> = changed.iter().flat_map(|c| c.bytes.clone()).collect();
         let mut told = told;
         told.sort_unstable();
-        let due: Vec<(usize, u32)> = (0..sheet.len())
-            .filter(|&p| first[p] != sheet[p])
-            .map(|p| (p, marks[p] as u32))
-            .collect();
+        let due: Vec<(usize, u32)> =
+            (0..sheet.len()).filter(|&p| marks[p] > 0).map(|p| (p, marks[p] as u32)).collect();
         assert_eq!(told, due, "seed {seed}");
         changed_bytes += due.len();
         assert!(story.beside(&sheet).explained(), "seed {seed}");

@@ -1,0 +1,280 @@
+//! Whose turn it is on a connection: the sequence number that is next, data that waits for the device's acknowledgement, and
+//! whether an acknowledgement is of something that was recorded. By the partner's address, for what a connection was is still
+//! acknowledged when a Restart has closed it.
+
+use std::collections::HashMap;
+
+/// Numbers have four bits.
+const NUMBERS: u8 = 16;
+
+/// What a number is to a connection.
+#[derive(Clone, Copy, Debug, PartialEq, Eq)]
+pub enum Turn {
+    Next,
+    /// The one before: the partner has no acknowledgement yet.
+    Again,
+    Out,
+}
+
+/// What an acknowledgement of the device, T_ACK or T_NAK, is of.
+#[derive(Clone, Debug, PartialEq, Eq)]
+pub enum Of {
+    /// An event, and those before it that had none: the device took them too.
+    Event(usize, Vec<usize>),
+    /// Once more of data that was sent once more.
+    Again,
+    /// Data that was out of turn here, or nobody's partner's.
+    Odd,
+    /// Nothing that was recorded.
+    Nothing,
+}
+
+#[derive(Clone, Debug)]
+struct Waiting {
+    number: u8,
+    event: usize,
+    copies: usize,
+}
+
+/// A partner's connection.
+#[derive(Clone, Debug, Default)]
+struct Line {
+    next: u8,
+    waiting: Vec<Waiting>,
+    /// The number that was acknowledged last, and how often it was sent beyond that.
+    last: Option<(u8, usize)>,
+    /// Numbers of data out of turn, a bit for each.
+    odd: u16,
+    /// Numbers of the answers that were due, a bit for each, and the next of them.
+    answers: u16,
+    answer: u8,
+    /// How many gaps the recorder had told when it connected.
+    gaps: usize,
+    /// The device ended it, or turned it away, and its partner may not have heard.
+    ended: bool,
+}
+
+/// All connections of a recording.
+#[derive(Clone, Debug, Default)]
+pub struct Transport {
+    lines: HashMap<u16, Line>,
+    gaps: usize,
+}
+
+impl Transport {
+    fn line(&mut self, partner: u16) -> &mut Line {
+        self.lines.entry(partner).or_default()
+    }
+
+    /// A gap that the recorder tells: what a connection was before it need not be so any more.
+    pub fn gap(&mut self) {
+        self.gaps += 1;
+    }
+
+    /// Whether a partner has connected since the last gap that was told, so that what does not fit is no part of that.
+    pub fn known(&self, partner: u16) -> bool {
+        self.lines.get(&partner).map_or(0, |line| line.gaps) == self.gaps
+    }
+
+    /// A connect, a second one too: numbers begin at 0. What waited is acknowledged no more.
+    pub fn connects(&mut self, partner: u16) -> Vec<usize> {
+        let gaps = self.gaps;
+        let old = self.lines.insert(partner, Line { gaps, ..Line::default() });
+        old.map_or(Vec::new(), |line| line.waiting.into_iter().map(|w| w.event).collect())
+    }
+
+    /// The device ended a connection, or turned somebody away: the events that it had not acknowledged.
+    pub fn ends(&mut self, partner: u16) -> Vec<usize> {
+        let line = self.line(partner);
+        line.ended = true;
+        line.waiting.drain(..).map(|w| w.event).collect()
+    }
+
+    /// A Restart closes a connection; what its partner sent is acknowledged yet.
+    pub fn cut_off(&mut self, partner: u16) {
+        self.line(partner).ended = true;
+    }
+
+    /// Whether a partner may not know yet that it has no connection.
+    pub fn ended(&self, partner: u16) -> bool {
+        self.lines.get(&partner).is_some_and(|line| line.ended)
+    }
+
+    pub fn turn(&mut self, partner: u16, number: u8) -> Turn {
+        let next = self.line(partner).next;
+        match number {
+            n if n == next => Turn::Next,
+            n if (n + 1) % NUMBERS == next => Turn::Again,
+            _ => Turn::Out,
+        }
+    }
+
+    /// Data in turn, which is an event.
+    pub fn takes(&mut self, partner: u16, number: u8, event: usize) {
+        let line = self.line(partner);
+        line.next = (number + 1) % NUMBERS;
+        line.waiting.push(Waiting { number, event, copies: 1 });
+    }
+
+    /// The same once more.
+    pub fn again(&mut self, partner: u16, number: u8) {
+        let line = self.line(partner);
+        if let Some(w) = line.waiting.iter_mut().find(|w| w.number == number) {
+            w.copies += 1;
+        } else if let Some((_, copies)) = line.last.as_mut().filter(|last| last.0 == number) {
+            *copies += 1;
+        } else {
+            line.odd |= 1 << number;
+        }
+    }
+
+    /// Data that is no event.
+    pub fn odd(&mut self, partner: u16, number: u8) {
+        self.line(partner).odd |= 1 << number;
+    }
+
+    /// T_ACK of the device.
+    pub fn acknowledged(&mut self, partner: u16, number: u8) -> Of {
+        let line = self.line(partner);
+        if let Some(at) = line.waiting.iter().position(|w| w.number == number) {
+            let mut taken: Vec<Waiting> = line.waiting.drain(..=at).collect();
+            let Some(w) = taken.pop() else { return Of::Nothing };
+            line.last = Some((number, w.copies - 1));
+            return Of::Event(w.event, taken.into_iter().map(|w| w.event).collect());
+        }
+        if let Some((_, copies)) = line.last.as_mut().filter(|last| last.0 == number && last.1 > 0)
+        {
+            *copies -= 1;
+            return Of::Again;
+        }
+        line.of_odd(number)
+    }
+
+    /// T_NAK of the device: the data still waits, for it may be sent once more.
+    pub fn refused(&mut self, partner: u16, number: u8) -> Of {
+        let line = self.line(partner);
+        match line.waiting.iter().find(|w| w.number == number) {
+            Some(w) => Of::Event(w.event, Vec::new()),
+            None => line.of_odd(number),
+        }
+    }
+
+    /// An answer shows that an event was taken: it waits no more, nor do those before it, which were taken too.
+    pub fn answered(&mut self, partner: u16, event: usize) -> Vec<usize> {
+        let line = self.line(partner);
+        match line.waiting.iter().position(|w| w.event == event) {
+            Some(at) => line.waiting.drain(..=at).map(|w| w.event).collect(),
+            None => Vec::new(),
+        }
+    }
+
+    /// An answer is due on the connection: its number.
+    pub fn answers(&mut self, partner: u16) -> u8 {
+        let line = self.line(partner);
+        let number = line.answer;
+        line.answer = (number + 1) % NUMBERS;
+        line.answers |= 1 << number;
+        number
+    }
+
+    /// Whether an answer of this number was due, which the partner acknowledges.
+    pub fn was_due(&self, partner: u16, number: u8) -> bool {
+        self.lines.get(&partner).is_some_and(|line| line.answers & 1 << number != 0)
+    }
+
+    /// Whether data waits that has this number, and which number is next.
+    pub fn waits(&self, partner: u16, number: u8) -> bool {
+        self.lines.get(&partner).is_some_and(|line| line.waiting.iter().any(|w| w.number == number))
+    }
+
+    pub fn next(&self, partner: u16) -> u8 {
+        self.lines.get(&partner).map_or(0, |line| line.next)
+    }
+}
+
+impl Line {
+    fn of_odd(&mut self, number: u8) -> Of {
+        if self.odd & 1 << number != 0 {
+            self.odd &= !(1 << number);
+            return Of::Odd;
+        }
+        Of::Nothing
+    }
+}
+
+#[cfg(test)]
+mod tests {
+    use super::*;
+
+    const A: u16 = 0x11FA;
+
+    #[test]
+    fn turns() {
+        let mut t = Transport::default();
+        assert_eq!(t.connects(A), []);
+        assert_eq!(
+            [t.turn(A, 0), t.turn(A, 1), t.turn(A, 15)],
+            [Turn::Next, Turn::Out, Turn::Again]
+        );
+        for number in 0..16 {
+            assert_eq!(t.turn(A, number), Turn::Next);
+            t.takes(A, number, number.into());
+            assert_eq!(t.turn(A, number), Turn::Again);
+        }
+        assert_eq!(t.turn(A, 0), Turn::Next);
+        assert_eq!(t.connects(A), (0..16).collect::<Vec<_>>());
+        assert_eq!(t.next(A), 0);
+    }
+
+    #[test]
+    fn acknowledgements() {
+        let mut t = Transport::default();
+        t.connects(A);
+        assert_eq!(t.acknowledged(A, 0), Of::Nothing);
+        t.takes(A, 0, 10);
+        assert_eq!(t.refused(A, 0), Of::Event(10, vec![]));
+        t.again(A, 0);
+        assert_eq!(t.acknowledged(A, 0), Of::Event(10, vec![]));
+        // sent twice, so acknowledged twice and not three times
+        assert_eq!(t.acknowledged(A, 0), Of::Again);
+        assert_eq!(t.acknowledged(A, 0), Of::Nothing);
+        t.again(A, 0);
+        assert_eq!(t.acknowledged(A, 0), Of::Again);
+        // one that was skipped was taken too
+        t.takes(A, 1, 11);
+        t.takes(A, 2, 12);
+        assert_eq!(t.acknowledged(A, 2), Of::Event(12, vec![11]));
+        t.odd(A, 9);
+        assert_eq!([t.refused(A, 9), t.acknowledged(A, 9)], [Of::Odd, Of::Nothing]);
+        t.takes(A, 3, 13);
+        assert_eq!(t.ends(A), [13]);
+        assert!(t.ended(A));
+        t.connects(A);
+        assert!(!t.ended(A));
+    }
+
+    #[test]
+    fn answers() {
+        let mut t = Transport::default();
+        t.connects(A);
+        t.takes(A, 0, 5);
+        t.takes(A, 1, 6);
+        assert_eq!([t.answers(A), t.answers(A)], [0, 1]);
+        assert_eq!([0, 1, 2].map(|n| t.was_due(A, n)), [true, true, false]);
+        assert_eq!(t.answered(A, 6), [5, 6]);
+        assert_eq!(t.answered(A, 6), []);
+        t.connects(A);
+        assert!(!t.was_due(A, 0));
+    }
+
+    #[test]
+    fn gaps() {
+        let mut t = Transport::default();
+        assert!(t.known(A));
+        t.connects(A);
+        t.gap();
+        assert!(!t.known(A) && !t.known(A + 1));
+        t.connects(A);
+        assert!(t.known(A) && !t.known(A + 1));
+    }
+}
