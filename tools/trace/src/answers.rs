@@ -72,6 +72,17 @@ impl Answers {
         due.into_iter().map(|due| due.event).collect()
     }
 
+    /// The answers on connections that have not come, by partner and event.
+    pub fn missing(&self) -> Vec<(u16, usize)> {
+        let all = self
+            .connected
+            .iter()
+            .flat_map(|(partner, due)| due.iter().map(|d| (*partner, d.event)));
+        let mut all: Vec<(u16, usize)> = all.collect();
+        all.sort_unstable();
+        all
+    }
+
     /// An answer on a connection, and the events before it whose answers are missing.
     pub fn on(&mut self, partner: u16, number: u8, apdu: &[u8]) -> (Compared, Vec<usize>) {
         let due = self.connected.entry(partner).or_default();
@@ -122,6 +133,7 @@ mod tests {
         assert_eq!(all.on(A, 2, &[0x4B, 0xD6, 3]), (Compared::Other(9, due), vec![8]));
         assert_eq!(all.ends(A), []);
         all.due_on(A, 0, 10, &[3, 0xD2, 1]);
+        assert_eq!(all.missing(), [(A, 10)]);
         assert_eq!(all.ends(A), [10]);
         assert_eq!(all.on(A, 0, &[0x43, 0xD2, 1]), (Compared::Unasked, vec![]));
     }

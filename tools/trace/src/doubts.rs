@@ -20,6 +20,8 @@ pub enum Doubt {
     Unheard,
     /// The partner was silent for so many seconds before an event that the device may have ended the connection.
     Silence(u32, u64),
+    /// Another request had the number of an event: which of the two the device took is not known.
+    Twofold(u32),
     /// Events are missing before the event on which it rests; after it, where another may have written since.
     Before(Cause),
     After(Cause),
@@ -87,11 +89,14 @@ impl Doubts {
         if !seen.data && seen.answer == Answer::Absent && evidence.device {
             out.push(Doubt::Unanswered(event));
         }
-        if seen.data && !evidence.device {
+        if !evidence.device && (seen.data || seen.answer == Answer::Absent) {
             out.push(Doubt::Unheard);
         }
         if seen.silence > 0 && seen.taken != Taken::Acknowledged {
             out.push(Doubt::Silence(event, seen.silence));
+        }
+        if seen.twofold && seen.answer != Answer::Same {
+            out.push(Doubt::Twofold(event));
         }
     }
 

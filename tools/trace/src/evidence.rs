@@ -54,6 +54,8 @@ pub struct Seen {
     pub answer: Answer,
     /// Its partner had been silent for so many seconds, longer than transport allows.
     pub silence: u64,
+    /// Other data had its number and was not taken: its acknowledgement may be of that.
+    pub twofold: bool,
 }
 
 /// A place in a recording: behind so many events of its trace, and the line.
@@ -139,12 +141,18 @@ pub enum Forged {
 #[derive(Clone, Copy, Debug, PartialEq, Eq)]
 pub enum Why {
     OutOfTurn,
+    /// Not acknowledged, and not taken, as what follows shows.
+    Untaken,
     Stranger,
     Itself,
 }
 
-const WHYS: [(Why, &str); 3] =
-    [(Why::OutOfTurn, "out-of-turn"), (Why::Stranger, "stranger"), (Why::Itself, "itself")];
+const WHYS: [(Why, &str); 4] = [
+    (Why::OutOfTurn, "out-of-turn"),
+    (Why::Untaken, "untaken"),
+    (Why::Stranger, "stranger"),
+    (Why::Itself, "itself"),
+];
 
 /// A request that is no event.
 #[derive(Clone, Debug, PartialEq, Eq)]
@@ -224,10 +232,14 @@ impl Evidence {
         }
     }
 
-    /// Whether anything shows that frames are missing, were taken otherwise, or stand in another order.
+    /// Whether what the device sent fits to the events.
+    pub fn fits(&self) -> bool {
+        self.losses.is_empty() && self.parted.is_none()
+    }
+
+    /// Whether nothing shows that frames are missing, were taken otherwise, or stand in another order.
     pub fn clean(&self) -> bool {
-        let whole = self.gaps.is_empty() && self.losses.is_empty() && self.back.is_none();
-        whole && self.parted.is_none()
+        self.gaps.is_empty() && self.back.is_none() && self.fits()
     }
 }
 
@@ -290,6 +302,9 @@ pub fn write(trace: &[u8], e: &Evidence) -> String {
         }
         if seen.silence > 0 {
             line += &format!(" silence={}", seen.silence);
+        }
+        if seen.twofold {
+            line += " twofold=yes";
         }
         say(line);
     }
@@ -456,6 +471,7 @@ impl Evidence {
                 }
                 let mut seen = Seen { line: f.number("line")?, ..Seen::default() };
                 seen.data = f.may("data").is_some_and(|data| data == "yes");
+                seen.twofold = f.may("twofold").is_some_and(|twofold| twofold == "yes");
                 if let Some(taken) = f.may("taken") {
                     seen.taken = of_word(&TAKEN, "taken", taken)?;
                 }

@@ -156,6 +156,11 @@ impl<'a> Story<'a> {
         self.history.steps(change.at, &self.first[change.at..change.at + change.length])
     }
 
+    /// The sheet as the traces leave it.
+    pub fn last(&self) -> &[u8] {
+        &self.last
+    }
+
     pub fn fact(&self, number: u32) -> &Fact {
         &self.facts[number as usize - 1]
     }

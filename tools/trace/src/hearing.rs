@@ -1,7 +1,7 @@
 //! The device while it hears a recording: which frame is an event, by the archive's word; and what the recording shows of the
 //! events and of itself, by the device's own frames in it.
 
-use std::collections::HashMap;
+use std::collections::{BTreeSet, HashMap};
 
 use sheet::layout::word;
 
@@ -82,6 +82,11 @@ pub struct Hearing<'a> {
     odd: Vec<At>,
     /// Events whose frame nobody acknowledged on the wire.
     unwired: Vec<bool>,
+    /// Frames with data that the device did not take, as what follows them shows.
+    untaken: &'a BTreeSet<usize>,
+    /// The frame of each event, and that of the device's acknowledgement.
+    of: Vec<usize>,
+    acknowledged: HashMap<usize, usize>,
 }
 
 /// A frame that was read, where it stands, and its bytes.
@@ -111,7 +116,12 @@ impl Read<'_> {
 }
 
 impl<'a> Hearing<'a> {
-    pub fn new(sheet: &[u8], recording: &'a Recording, frames: &'a [Sent]) -> Hearing<'a> {
+    pub fn new(
+        sheet: &[u8],
+        recording: &'a Recording,
+        frames: &'a [Sent],
+        untaken: &'a BTreeSet<usize>,
+    ) -> Hearing<'a> {
         let mut parties: HashMap<u16, Vec<usize>> = HashMap::new();
         for (i, frame) in frames.iter().enumerate() {
             let Ok(bytes) = frame else { continue };
@@ -138,6 +148,9 @@ impl<'a> Hearing<'a> {
             heard: HashMap::new(),
             odd: Vec::new(),
             unwired: Vec::new(),
+            untaken,
+            of: Vec::new(),
+            acknowledged: HashMap::new(),
         }
     }
 
@@ -189,9 +202,24 @@ impl<'a> Hearing<'a> {
         Ok((event, known))
     }
 
+    /// The frames of data that the device did not acknowledge, once all are heard.
+    pub fn unacknowledged(&self) -> BTreeSet<usize> {
+        let events = self.evidence.events.iter().zip(&self.of);
+        let waits = |seen: &Seen| seen.data && seen.taken != Taken::Acknowledged;
+        events.filter(|(seen, _)| waits(seen)).map(|(_, &i)| i).collect()
+    }
+
     /// What the whole recording shows.
     pub fn finish(mut self) -> Evidence {
         self.gaps_before(self.frames.len());
+        // an answer that has not come is missing, unless the recording ends with the acknowledgement before it
+        for (partner, event) in self.answers.missing() {
+            let last = self.acknowledged.get(&event).is_some_and(|i| i + 1 < self.frames.len());
+            if last && self.transport.known(partner) {
+                let at = self.at(self.frames.len());
+                self.evidence.loss(at, Sign::NoAnswer);
+            }
+        }
         if !self.evidence.device {
             for at in std::mem::take(&mut self.odd) {
                 self.evidence.loss(at, Sign::Turn);
@@ -286,7 +314,12 @@ impl<'a> Hearing<'a> {
             }
             CONNECTED => {
                 let number = r.number();
-                match self.transport.turn(partner, number) {
+                match self.transport.turn(partner, number, r.apdu()) {
+                    Turn::Next if self.untaken.contains(&r.i) => {
+                        self.transport.passes(partner, number);
+                        self.left_out(r, LeftWhy::Untaken);
+                        return Err(Why::Untaken);
+                    }
                     Turn::Next => {}
                     Turn::Again => {
                         self.transport.again(partner, number);
@@ -314,7 +347,8 @@ impl<'a> Hearing<'a> {
         self.happens(r, &event);
         if event.kind == REQUEST && event.mode == CONNECTED {
             let index = self.evidence.events.len() - 1;
-            self.transport.takes(partner, r.number(), index);
+            let twofold = self.transport.takes(partner, r.number(), index, r.apdu());
+            self.evidence.events[index].twofold = twofold;
         }
         self.heard_now(r);
         Ok(event)
@@ -476,6 +510,7 @@ impl<'a> Hearing<'a> {
         match of {
             Of::Event(event, before) => {
                 self.evidence.events[event].taken = Taken::Acknowledged;
+                self.acknowledged.insert(event, r.i);
                 for event in before {
                     self.evidence.events[event].taken = Taken::Acknowledged;
                     self.loss(r, Sign::NoAcknowledgement);
@@ -585,6 +620,7 @@ impl<'a> Hearing<'a> {
             seen.silence = passed.filter(|&passed| passed > LIMIT).unwrap_or(0);
         }
         self.evidence.events.push(seen);
+        self.of.push(r.i);
         self.unwired.push(!self.wired(r.i));
         // whom a Restart has cut off, the device tells
         if event.kind == REQUEST {

@@ -2,7 +2,7 @@
 //! that address and sessions are at every frame what they were. What is no event is left out and counted; what the recording
 //! shows beside its events is evidence (hearing.rs).
 
-use std::collections::{BTreeMap, HashMap, VecDeque};
+use std::collections::{BTreeMap, BTreeSet, HashMap, VecDeque};
 
 use sheet::json::Json;
 
@@ -25,6 +25,8 @@ pub enum Why {
     /// A disconnect under the device's address that was not its own.
     NotItsOwn,
     OutOfTurn,
+    /// Data that the device did not acknowledge, nor take, as what follows it shows.
+    Untaken,
     Repeated,
     Confirmed,
     Unsent,
@@ -40,6 +42,7 @@ impl Why {
             Why::OfTheDevice => "sent by the device",
             Why::NotItsOwn => sentences::NOT_ITS_OWN,
             Why::OutOfTurn => "data out of turn",
+            Why::Untaken => "data that the device did not take",
             Why::Repeated => "a repetition",
             Why::Confirmed => "a request to send, told again by its confirmation",
             Why::Unsent => "not sent, by its confirmation",
@@ -138,11 +141,33 @@ fn sent(recorded: &[Recorded]) -> Vec<Result<Vec<u8>, Why>> {
     all
 }
 
-/// The events of a recording for the device with this sheet, which must be accepted.
+/// The events of a recording for the device with this sheet, which must be accepted. Data that the device did not acknowledge
+/// is an event, of which that is told; unless the rest of the recording does not fit to it, and does without it.
 pub fn from_frames(recording: &Recording, sheet: &[u8], progress: &mut Progress) -> Made {
-    let mut made = Made { frames: recording.frames.len(), ..Made::default() };
     let frames = sent(&recording.frames);
-    let mut device = Hearing::new(sheet, recording, &frames);
+    let (made, unacknowledged) = heard(recording, &frames, sheet, &BTreeSet::new(), progress);
+    let fits = |made: &Made| made.evidence.as_ref().is_some_and(Evidence::fits);
+    let shown = made.evidence.as_ref().is_some_and(|evidence| evidence.device);
+    if fits(&made) || !shown || unacknowledged.is_empty() {
+        return made;
+    }
+    let (other, _) = heard(recording, &frames, sheet, &unacknowledged, progress);
+    if fits(&other) {
+        return other;
+    }
+    made
+}
+
+/// The events without data in these frames, and the frames of data that was not acknowledged.
+fn heard(
+    recording: &Recording,
+    frames: &[Result<Vec<u8>, Why>],
+    sheet: &[u8],
+    untaken: &BTreeSet<usize>,
+    progress: &mut Progress,
+) -> (Made, BTreeSet<usize>) {
+    let mut made = Made { frames: recording.frames.len(), ..Made::default() };
+    let mut device = Hearing::new(sheet, recording, frames, untaken);
     for i in 0..frames.len() {
         progress.at(i);
         match device.hear(i) {
@@ -150,8 +175,9 @@ pub fn from_frames(recording: &Recording, sheet: &[u8], progress: &mut Progress)
             Err(why) => *made.left.entry(why).or_default() += 1,
         }
     }
+    let unacknowledged = device.unacknowledged();
     made.evidence = Some(device.finish());
-    made
+    (made, unacknowledged)
 }
 
 // ---- traces ----

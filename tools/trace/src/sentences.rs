@@ -11,7 +11,8 @@ use crate::words::many;
 // ---- frames ----
 
 pub const ITSELF: &str = "under the device's own address to itself: a forged sender or an echo";
-pub const NOT_ITS_OWN: &str = "a disconnect under the device's address, which is not its own";
+pub const NOT_ITS_OWN: &str =
+    "a disconnect under the device's address, behind which it went on: forged, or the recording is not whole";
 
 // ---- what is missing, and how it shows ----
 
@@ -87,6 +88,10 @@ pub fn doubt(doubt: &Doubt, event: u32, name: impl Fn(u32) -> String) -> String 
             "{seconds} s of silence were before {}: the device may have ended the connection",
             whose(*of)
         ),
+        Doubt::Twofold(of) => format!(
+            "another request had the number of {}: which of the two the device took is not known",
+            whose(*of)
+        ),
         Doubt::Before(why) => format!("events are missing before this one: {}", cause(why)),
         Doubt::After(why) => format!("events are missing after this one: {}", cause(why)),
         Doubt::Parted(parted) => {
@@ -124,6 +129,7 @@ pub fn kind(doubt: &Doubt) -> &'static str {
         Doubt::Unanswered(_) => "not answered",
         Doubt::Unheard => "device not recorded",
         Doubt::Silence(..) => "silence",
+        Doubt::Twofold(_) => "two of a number",
         Doubt::Before(_) => "missing before",
         Doubt::After(_) => "missing after",
         Doubt::Parted(_) => "parted",
@@ -185,6 +191,9 @@ pub fn shows_of(e: &Evidence, before: usize, name: impl Fn(u32) -> String) -> Ve
         let silent = seen.silence > 0 && seen.taken != Taken::Acknowledged;
         silent.then(|| format!(", {} s", seen.silence))
     });
+    list("with a number that another request had", &|seen| {
+        (seen.twofold && seen.answer != Answer::Same).then(String::new)
+    });
     if !e.device && e.events.iter().any(|seen| seen.data) {
         out.push("no frame of the device is recorded: what it took is not known".to_string());
     }
@@ -222,9 +231,7 @@ pub fn shows_of(e: &Evidence, before: usize, name: impl Fn(u32) -> String) -> Ve
     for (at, forged) in e.forged.iter().take(NAMED) {
         out.push(match forged {
             Forged::Itself => format!("{ITSELF} ({})", line(*at)),
-            Forged::Disconnect => {
-                format!("{NOT_ITS_OWN}: it went on to acknowledge ({})", line(*at))
-            }
+            Forged::Disconnect => format!("{NOT_ITS_OWN} ({})", line(*at)),
         });
     }
     out
@@ -265,6 +272,7 @@ pub fn written_again(by: &str) -> String {
 pub fn left(why: Why, at: At, words: &str) -> String {
     let how = match why {
         Why::OutOfTurn => "out of turn",
+        Why::Untaken => "and not taken by the device, as what follows shows",
         Why::Stranger => "on no connection",
         Why::Itself => "under the device's own address",
     };

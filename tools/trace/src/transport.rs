@@ -11,8 +11,9 @@ const NUMBERS: u8 = 16;
 #[derive(Clone, Copy, Debug, PartialEq, Eq)]
 pub enum Turn {
     Next,
-    /// The one before: the partner has no acknowledgement yet.
+    /// The one before, with the same data: the partner has no acknowledgement yet.
     Again,
+    /// Another one, or the one before with other data.
     Out,
 }
 
@@ -40,6 +41,9 @@ struct Waiting {
 #[derive(Clone, Debug, Default)]
 struct Line {
     next: u8,
+    /// The data before it, if there is any; and a number of data that was not taken.
+    data: Option<Vec<u8>>,
+    untaken: Option<u8>,
     waiting: Vec<Waiting>,
     /// The number that was acknowledged last, and how often it was sent beyond that.
     last: Option<(u8, usize)>,
@@ -100,20 +104,36 @@ impl Transport {
         self.lines.get(&partner).is_some_and(|line| line.ended)
     }
 
-    pub fn turn(&mut self, partner: u16, number: u8) -> Turn {
-        let next = self.line(partner).next;
-        match number {
-            n if n == next => Turn::Next,
-            n if (n + 1) % NUMBERS == next => Turn::Again,
-            _ => Turn::Out,
+    pub fn turn(&mut self, partner: u16, number: u8, data: &[u8]) -> Turn {
+        let line = self.line(partner);
+        if number == line.next {
+            return Turn::Next;
         }
+        let before = (number + 1) % NUMBERS == line.next;
+        if before && line.data.as_ref().is_none_or(|last| last == data) {
+            return Turn::Again;
+        }
+        if before {
+            // an acknowledgement to come may be of either
+            line.waiting.retain(|w| w.number != number);
+        }
+        Turn::Out
     }
 
-    /// Data in turn, which is an event.
-    pub fn takes(&mut self, partner: u16, number: u8, event: usize) {
+    /// Data in turn, which is an event; whether other data had its number, and was not taken.
+    pub fn takes(&mut self, partner: u16, number: u8, event: usize, data: &[u8]) -> bool {
         let line = self.line(partner);
         line.next = (number + 1) % NUMBERS;
+        line.data = Some(data.to_vec());
         line.waiting.push(Waiting { number, event, copies: 1 });
+        line.untaken.take() == Some(number)
+    }
+
+    /// Data in turn that was not taken.
+    pub fn passes(&mut self, partner: u16, number: u8) {
+        let line = self.line(partner);
+        line.untaken = Some(number);
+        line.odd |= 1 << number;
     }
 
     /// The same once more.
@@ -124,7 +144,8 @@ impl Transport {
         } else if let Some((_, copies)) = line.last.as_mut().filter(|last| last.0 == number) {
             *copies += 1;
         } else {
-            line.odd |= 1 << number;
+            // a device acknowledges the number before the first too
+            line.last = Some((number, 1));
         }
     }
 
@@ -212,18 +233,32 @@ mod tests {
     fn turns() {
         let mut t = Transport::default();
         assert_eq!(t.connects(A), []);
-        assert_eq!(
-            [t.turn(A, 0), t.turn(A, 1), t.turn(A, 15)],
-            [Turn::Next, Turn::Out, Turn::Again]
-        );
+        let turns = [0, 1, 15].map(|number| t.turn(A, number, &[1]));
+        assert_eq!(turns, [Turn::Next, Turn::Out, Turn::Again]);
         for number in 0..16 {
-            assert_eq!(t.turn(A, number), Turn::Next);
-            t.takes(A, number, number.into());
-            assert_eq!(t.turn(A, number), Turn::Again);
+            assert_eq!(t.turn(A, number, &[number]), Turn::Next);
+            assert!(!t.takes(A, number, number.into(), &[number]));
+            assert_eq!(t.turn(A, number, &[number]), Turn::Again);
         }
-        assert_eq!(t.turn(A, 0), Turn::Next);
+        assert_eq!(t.turn(A, 0, &[0]), Turn::Next);
         assert_eq!(t.connects(A), (0..16).collect::<Vec<_>>());
         assert_eq!(t.next(A), 0);
+    }
+
+    /// Two requests with one number: which of them an acknowledgement is of is not known.
+    #[test]
+    fn two_of_a_number() {
+        let mut t = Transport::default();
+        t.connects(A);
+        t.takes(A, 0, 7, &[1]);
+        assert_eq!(t.turn(A, 0, &[2]), Turn::Out);
+        t.odd(A, 0);
+        assert_eq!(t.acknowledged(A, 0), Of::Odd);
+        t.connects(A);
+        t.passes(A, 0);
+        assert_eq!(t.turn(A, 0, &[2]), Turn::Next);
+        assert!(t.takes(A, 0, 8, &[2]));
+        assert_eq!(t.acknowledged(A, 0), Of::Event(8, vec![]));
     }
 
     #[test]
@@ -231,7 +266,7 @@ mod tests {
         let mut t = Transport::default();
         t.connects(A);
         assert_eq!(t.acknowledged(A, 0), Of::Nothing);
-        t.takes(A, 0, 10);
+        t.takes(A, 0, 10, &[0]);
         assert_eq!(t.refused(A, 0), Of::Event(10, vec![]));
         t.again(A, 0);
         assert_eq!(t.acknowledged(A, 0), Of::Event(10, vec![]));
@@ -241,24 +276,34 @@ mod tests {
         t.again(A, 0);
         assert_eq!(t.acknowledged(A, 0), Of::Again);
         // one that was skipped was taken too
-        t.takes(A, 1, 11);
-        t.takes(A, 2, 12);
+        t.takes(A, 1, 11, &[1]);
+        t.takes(A, 2, 12, &[2]);
         assert_eq!(t.acknowledged(A, 2), Of::Event(12, vec![11]));
         t.odd(A, 9);
         assert_eq!([t.refused(A, 9), t.acknowledged(A, 9)], [Of::Odd, Of::Nothing]);
-        t.takes(A, 3, 13);
+        t.takes(A, 3, 13, &[3]);
         assert_eq!(t.ends(A), [13]);
         assert!(t.ended(A));
         t.connects(A);
         assert!(!t.ended(A));
     }
 
+    /// Number 15 right behind a connect is the one before 0: acknowledged, and not taken.
+    #[test]
+    fn before_the_first() {
+        let mut t = Transport::default();
+        t.connects(A);
+        assert_eq!(t.turn(A, 15, &[]), Turn::Again);
+        t.again(A, 15);
+        assert_eq!([t.acknowledged(A, 15), t.acknowledged(A, 15)], [Of::Again, Of::Nothing]);
+    }
+
     #[test]
     fn answers() {
         let mut t = Transport::default();
         t.connects(A);
-        t.takes(A, 0, 5);
-        t.takes(A, 1, 6);
+        t.takes(A, 0, 5, &[0]);
+        t.takes(A, 1, 6, &[1]);
         assert_eq!([t.answers(A), t.answers(A)], [0, 1]);
         assert_eq!([0, 1, 2].map(|n| t.was_due(A, n)), [true, true, false]);
         assert_eq!(t.answered(A, 6), [5, 6]);
