@@ -72,13 +72,9 @@ impl Answers {
         due.into_iter().map(|due| due.event).collect()
     }
 
-    /// The answers on connections that have not come, by partner and event.
-    pub fn missing(&self) -> Vec<(u16, usize)> {
-        let all = self
-            .connected
-            .iter()
-            .flat_map(|(partner, due)| due.iter().map(|d| (*partner, d.event)));
-        let mut all: Vec<(u16, usize)> = all.collect();
+    /// The events whose answers on connections have not come.
+    pub fn missing(&self) -> Vec<usize> {
+        let mut all: Vec<usize> = self.connected.values().flatten().map(|due| due.event).collect();
         all.sort_unstable();
         all
     }
@@ -133,7 +129,7 @@ mod tests {
         assert_eq!(all.on(A, 2, &[0x4B, 0xD6, 3]), (Compared::Other(9, due), vec![8]));
         assert_eq!(all.ends(A), []);
         all.due_on(A, 0, 10, &[3, 0xD2, 1]);
-        assert_eq!(all.missing(), [(A, 10)]);
+        assert_eq!(all.missing(), [10]);
         assert_eq!(all.ends(A), [10]);
         assert_eq!(all.on(A, 0, &[0x43, 0xD2, 1]), (Compared::Unasked, vec![]));
     }

@@ -124,7 +124,7 @@ impl Doubts {
         out.extend(cause.map(Doubt::Before));
         let gap = gaps().find(|g| !before(g.at)).cloned().map(Cause::Gap);
         let loss = losses().find(|l| !before(l.at)).copied().map(Cause::Loss);
-        out.extend(gap.or(loss).map(Doubt::After));
+        out.extend(loss.or(gap).map(Doubt::After));
         out.extend(self.whole());
         if let Some(group) = group {
             let own = self.all.iter().flat_map(|e| &e.own);
@@ -136,9 +136,10 @@ impl Doubts {
         out
     }
 
-    /// Doubts about what playing gives of an event, its outcome for one.
+    /// Doubts about what playing gives of an event, its outcome for one. What is missing in a gap that is told behind it does not
+    /// matter; where a sign was seen behind it, what is missing may be before it.
     pub fn outcome(&self, rests: Rests) -> Vec<Doubt> {
-        let after = |doubt: &Doubt| matches!(doubt, Doubt::After(_));
+        let after = |doubt: &Doubt| matches!(doubt, Doubt::After(Cause::Gap(_)));
         self.about(rests, None).into_iter().filter(|doubt| !after(doubt)).collect()
     }
 

@@ -196,7 +196,11 @@ impl<'a> Hearing<'a> {
         self.repeated(&r)?;
         let event = match f.source == self.own() {
             true => self.by_device(&r)?,
-            false => self.by_other(&r)?,
+            false => {
+                let event = self.by_other(&r);
+                self.transport.hears(f.source);
+                event?
+            }
         };
         let known = self.known(&r);
         Ok((event, known))
@@ -213,9 +217,9 @@ impl<'a> Hearing<'a> {
     pub fn finish(mut self) -> Evidence {
         self.gaps_before(self.frames.len());
         // an answer that has not come is missing, unless the recording ends with the acknowledgement before it
-        for (partner, event) in self.answers.missing() {
+        for event in self.answers.missing() {
             let last = self.acknowledged.get(&event).is_some_and(|i| i + 1 < self.frames.len());
-            if last && self.transport.known(partner) {
+            if last && !self.before_a_gap(event) {
                 let at = self.at(self.frames.len());
                 self.evidence.loss(at, Sign::NoAnswer);
             }
@@ -265,6 +269,27 @@ impl<'a> Hearing<'a> {
         }
     }
 
+    /// Whether an event was before a gap that is told, in which what is missing of it may have been.
+    fn before_a_gap(&self, event: usize) -> bool {
+        self.evidence.gaps.last().is_some_and(|gap| event < gap.at.behind)
+    }
+
+    /// The answer to an event has not come: it is missing if the device took the event.
+    fn unanswered(&mut self, r: &Read, event: usize) {
+        let taken = self.evidence.events[event].taken == Taken::Acknowledged;
+        if taken && !self.before_a_gap(event) {
+            self.loss(r, Sign::NoAnswer);
+        }
+    }
+
+    /// An event was taken, and its acknowledgement is not recorded.
+    fn taken_all_the_same(&mut self, r: &Read, event: usize) {
+        self.evidence.events[event].taken = Taken::Acknowledged;
+        if !self.before_a_gap(event) {
+            self.loss(r, Sign::NoAcknowledgement);
+        }
+    }
+
     /// Whether the frame behind a damaged one says that it is a repetition: of that one.
     fn repeated_next(&self, i: usize) -> bool {
         let behind = self.frames[i + 1..].iter().find(|frame| **frame != Err(Why::Signal));
@@ -301,6 +326,7 @@ impl<'a> Hearing<'a> {
 
     fn by_other(&mut self, r: &Read) -> Result<Event, Why> {
         let partner = r.f.source;
+        self.transport.sends(partner);
         let heard = archive::heard(self.link, &self.sheet, r.bytes);
         let event = match heard.event {
             CONNECT => {
@@ -366,11 +392,11 @@ impl<'a> Hearing<'a> {
                 self.heard_now(r);
             }
             STRANGER => {
+                self.transport.turns_away(partner);
                 self.transport.odd(partner, r.number());
-                self.transport.ends(partner);
                 self.left_out(r, LeftWhy::Stranger);
             }
-            NO_PLACE => drop(self.transport.ends(partner)),
+            NO_PLACE => self.transport.turns_away(partner),
             NO_PARTNER if !self.transport.ended(partner) => {
                 self.loss_of(r, partner, Sign::StrayDisconnect);
             }
@@ -392,9 +418,7 @@ impl<'a> Hearing<'a> {
     /// A connection begins or ends: answers on it that have not come are missing, where the device took what asked for them.
     fn starts(&mut self, r: &Read, partner: u16) {
         for event in self.answers.ends(partner) {
-            if self.evidence.events[event].taken == Taken::Acknowledged {
-                self.loss_of(r, partner, Sign::NoAnswer);
-            }
+            self.unanswered(r, event);
         }
     }
 
@@ -432,7 +456,7 @@ impl<'a> Hearing<'a> {
     fn device_ends(&mut self, r: &Read) -> Result<Event, Why> {
         let partner = r.f.destination;
         let Some(connection) = place_of(&self.link, partner) else {
-            if !self.transport.ended(partner) {
+            if !self.transport.owed(partner) {
                 self.loss_of(r, partner, Sign::StrayEnd);
             }
             self.transport.ends(partner);
@@ -479,7 +503,6 @@ impl<'a> Hearing<'a> {
                         next = (next + 1) & 15;
                     }
                 }
-                (false, DISCONNECT) if r.f.source == own => return None,
                 (false, ACKNOWLEDGED) if r.f.source == own => {
                     let number = r.number();
                     if sent & 1 << number != 0 {
@@ -512,8 +535,7 @@ impl<'a> Hearing<'a> {
                 self.evidence.events[event].taken = Taken::Acknowledged;
                 self.acknowledged.insert(event, r.i);
                 for event in before {
-                    self.evidence.events[event].taken = Taken::Acknowledged;
-                    self.loss(r, Sign::NoAcknowledgement);
+                    self.taken_all_the_same(r, event);
                 }
             }
             Of::Again => {}
@@ -527,9 +549,7 @@ impl<'a> Hearing<'a> {
         let partner = r.f.destination;
         let (compared, missing) = self.answers.on(partner, r.number(), r.apdu());
         for event in missing {
-            if self.evidence.events[event].taken == Taken::Acknowledged {
-                self.loss(r, Sign::NoAnswer);
-            }
+            self.unanswered(r, event);
         }
         self.answered(r, partner, compared);
     }
@@ -571,8 +591,7 @@ impl<'a> Hearing<'a> {
             seen.taken = Taken::Acknowledged;
         }
         for event in self.transport.answered(partner, event) {
-            self.evidence.events[event].taken = Taken::Acknowledged;
-            self.loss(r, Sign::NoAcknowledgement);
+            self.taken_all_the_same(r, event);
         }
         if answer == Answer::Other {
             self.parts(At { behind: event + 1, ..self.at(r.i) }, true);

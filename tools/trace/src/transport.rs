@@ -54,8 +54,12 @@ struct Line {
     answer: u8,
     /// How many gaps the recorder had told when it connected.
     gaps: usize,
+    /// And when it was heard last.
+    heard: usize,
     /// The device ended it, or turned it away, and its partner may not have heard.
     ended: bool,
+    /// A disconnect of the device is due to it.
+    owed: bool,
 }
 
 /// All connections of a recording.
@@ -75,9 +79,17 @@ impl Transport {
         self.gaps += 1;
     }
 
-    /// Whether a partner has connected since the last gap that was told, so that what does not fit is no part of that.
+    /// A partner was heard.
+    pub fn hears(&mut self, partner: u16) {
+        let gaps = self.gaps;
+        self.line(partner).heard = gaps;
+    }
+
+    /// Whether a partner has connected or was heard since the last gap that was told, so that what does not fit is no part of
+    /// that.
     pub fn known(&self, partner: u16) -> bool {
-        self.lines.get(&partner).map_or(0, |line| line.gaps) == self.gaps
+        let line = self.lines.get(&partner);
+        line.map_or(0, |line| line.gaps.max(line.heard)) == self.gaps
     }
 
     /// A connect, a second one too: numbers begin at 0. What waited is acknowledged no more.
@@ -87,7 +99,24 @@ impl Transport {
         old.map_or(Vec::new(), |line| line.waiting.into_iter().map(|w| w.event).collect())
     }
 
-    /// The device ended a connection, or turned somebody away: the events that it had not acknowledged.
+    /// Somebody is turned away: a disconnect of the device is due.
+    pub fn turns_away(&mut self, partner: u16) {
+        let line = self.line(partner);
+        (line.ended, line.owed) = (true, true);
+        line.waiting.clear();
+    }
+
+    /// A frame of a partner: no disconnect is due any more to what it sent before.
+    pub fn sends(&mut self, partner: u16) {
+        self.line(partner).owed = false;
+    }
+
+    /// Whether a disconnect of the device is due, which is this one.
+    pub fn owed(&mut self, partner: u16) -> bool {
+        std::mem::take(&mut self.line(partner).owed)
+    }
+
+    /// The device ended a connection: the events that it had not acknowledged.
     pub fn ends(&mut self, partner: u16) -> Vec<usize> {
         let line = self.line(partner);
         line.ended = true;
@@ -96,7 +125,8 @@ impl Transport {
 
     /// A Restart closes a connection; what its partner sent is acknowledged yet.
     pub fn cut_off(&mut self, partner: u16) {
-        self.line(partner).ended = true;
+        let line = self.line(partner);
+        (line.ended, line.owed) = (true, true);
     }
 
     /// Whether a partner may not know yet that it has no connection.
@@ -245,6 +275,18 @@ mod tests {
         assert_eq!(t.next(A), 0);
     }
 
+    /// Who is turned away is told so once, before it sends again.
+    #[test]
+    fn turned_away() {
+        let mut t = Transport::default();
+        assert!(!t.owed(A));
+        t.turns_away(A);
+        assert_eq!([t.owed(A), t.owed(A), t.ended(A)], [true, false, true]);
+        t.turns_away(A);
+        t.sends(A);
+        assert!(!t.owed(A));
+    }
+
     /// Two requests with one number: which of them an acknowledgement is of is not known.
     #[test]
     fn two_of_a_number() {
@@ -321,5 +363,7 @@ mod tests {
         assert!(!t.known(A) && !t.known(A + 1));
         t.connects(A);
         assert!(t.known(A) && !t.known(A + 1));
+        t.hears(A + 1);
+        assert!(t.known(A + 1));
     }
 }

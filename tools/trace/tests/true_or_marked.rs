@@ -301,9 +301,6 @@ fn goes_on(bus: &Bus, s: &Spoiled, at: usize, own: u16) -> bool {
         if from == partner && to == own && (octet == 0x80 || octet == 0x81) {
             return false;
         }
-        if from == own && to == partner && octet == 0x81 {
-            return false;
-        }
         if from == own && to == partner && octet & 0xC3 == 0xC2 {
             return true;
         }

@@ -468,9 +468,10 @@ impl Bus {
         let mut apdu = self.request();
         let number = self.rng.below(16) as u8;
         apdu[0] |= 0x40 | number << 2;
-        // the number before the next is acknowledged, whatever it brings
+        // of two requests with one number it is not known which was taken
         let partner = self.host.partner(self.tools[t].address);
-        if !self.deaf && partner.is_some_and(|c| self.host.numbers[c].0 == (number + 1) & 15) {
+        let next = partner.map(|c| self.host.numbers[c].0);
+        if !self.deaf && (next == Some(number) || next == Some((number + 1) & 15)) {
             return;
         }
         self.put(frame(self.tools[t].address, self.own(), false, &apdu), true);
