@@ -124,13 +124,8 @@ impl Story<'_> {
         }
         out += &lines(account.again.map(|number| say::written_again(&self.told(number))), "  ");
         out += &lines(self.doubtful(account), "  ");
-        out += &lines(account.left.iter().take(REFUSED).map(|left| self.left_told(left)), "  ");
+        out += &lines(account.left.iter().take(REFUSED).map(say::left_told), "  ");
         out + &lines(self.history(account, all), "    ")
-    }
-
-    fn left_told(&self, left: &crate::evidence::Left) -> String {
-        let words = format!("{}{}", words::pdu(&left.apdu, false), left.known.told());
-        say::left(left.why, left.at, &words)
     }
 
     pub fn text(&self, sheet: &str, beside: Option<(&str, &Final)>, all: bool) -> String {
@@ -232,7 +227,7 @@ impl Story<'_> {
             out.push(format!("and asked for in vain {} times more", refused.len() - REFUSED));
         }
         let left = self.left(change, 0);
-        out.extend(left.iter().take(REFUSED).map(|left| self.left_told(left)));
+        out.extend(left.iter().take(REFUSED).map(say::left_told));
         out
     }
 

@@ -492,8 +492,10 @@ impl<'a> Hearing<'a> {
             let Ok(bytes) = &self.frames[j] else { continue };
             let r = Read { i: j, f: archive::frame_read(bytes), bytes };
             match (r.f.source == partner, r.f.event) {
+                // under which address the device goes on is not followed
+                (true, CONNECT) => return None,
                 (true, _) if r.f.destination != own => {}
-                (true, CONNECT | DISCONNECT) => return None,
+                (true, DISCONNECT) => return None,
                 (true, CONNECTED) => {
                     let number = r.number();
                     if number == next || (number + 1) & 15 == next {

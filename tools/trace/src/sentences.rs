@@ -4,9 +4,9 @@
 use sheet::layout::group_address;
 
 use crate::doubts::{Cause, Doubt};
-use crate::evidence::{Answer, At, Evidence, Forged, Gap, Loss, Seen, Sign, Taken, Why};
+use crate::evidence::{Answer, At, Evidence, Forged, Gap, Left, Loss, Seen, Sign, Taken, Why};
 use crate::gaps;
-use crate::words::many;
+use crate::words::{many, pdu};
 
 // ---- frames ----
 
@@ -103,7 +103,7 @@ pub fn doubt(doubt: &Doubt, event: u32, name: impl Fn(u32) -> String) -> String 
             format!("times go back ({}): the order of the events is not known", line(*at))
         }
         Doubt::Own(own) => format!(
-            "a frame to it under the device's own address ({}) may be its own",
+            "a frame under the device's own address went there since ({}): its own, or forged and taken",
             line(own.at)
         ),
     };
@@ -199,11 +199,11 @@ pub fn shows_of(e: &Evidence, before: usize, name: impl Fn(u32) -> String) -> Ve
     }
     let many_more = |all: usize| match all {
         n if n > NAMED => {
-            vec![format!("and {} more places at which events are missing", n - NAMED)]
+            vec![format!("and {} places more", n - NAMED)]
         }
         _ => Vec::new(),
     };
-    let told = e.gaps.iter().map(|g| format!("events are missing {}: {}", place(g.at), gap(g)));
+    let told = e.gaps.iter().map(|g| format!("events may be missing {}: {}", place(g.at), gap(g)));
     let found = e.losses.iter().map(|l| format!("frames are missing {}: {}", place(l.at), loss(l)));
     out.extend(told.take(NAMED).chain(many_more(e.gaps.len())));
     out.extend(found.take(NAMED).chain(many_more(e.losses.len())));
@@ -219,6 +219,11 @@ pub fn shows_of(e: &Evidence, before: usize, name: impl Fn(u32) -> String) -> Ve
                 place(parted.at)
             ),
         });
+    }
+    let left = e.left.iter().take(NAMED).map(|one| left_told(one));
+    out.extend(left);
+    if e.left.len() > NAMED {
+        out.push(format!("and {} more requests that are no events", e.left.len() - NAMED));
     }
     if let Some((at, times)) = e.back {
         out.push(format!("times go back {}, first at line {}", many(times, "time"), at.line));
@@ -268,15 +273,16 @@ pub fn written_again(by: &str) -> String {
     format!("written once more, and left as it was, by {by}")
 }
 
-/// A request that is no event and named a place.
-pub fn left(why: Why, at: At, words: &str) -> String {
-    let how = match why {
+/// A request that is no event.
+pub fn left_told(left: &Left) -> String {
+    let how = match left.why {
         Why::OutOfTurn => "out of turn",
-        Why::Untaken => "and not taken by the device, as what follows shows",
-        Why::Stranger => "on no connection",
+        Why::Untaken => "not acknowledged, nor taken, as what follows shows",
+        Why::Stranger => "from nobody's partner",
         Why::Itself => "under the device's own address",
     };
-    format!("asked for {how}, and no event ({}): {words}", line(at))
+    let words = format!("{}{}", pdu(&left.apdu, false), left.known.told());
+    format!("no event, {how} ({}): {words}", line(left.at))
 }
 
 /// A request that playing does not carry out.

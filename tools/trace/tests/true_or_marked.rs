@@ -10,10 +10,8 @@ mod bus;
 
 use std::collections::BTreeMap;
 
-use bus::{destination, octet, source, to_one, Bus, Did, Host, NOBODY};
+use bus::{destination, octet, source, to_one, Bus, Did, Host};
 use model::gen::Rng;
-use trace::archive::{self};
-use trace::doubts::Doubt;
 use trace::evidence::{Evidence, Forged};
 use trace::explain::Story;
 use trace::gaps;
@@ -214,23 +212,33 @@ fn another(bus: &Bus, s: &Spoiled) -> Option<History> {
         // those to whom a disconnect is sent may not have been recorded
         let (ends, due): (Vec<_>, Vec<_>) = sent.into_iter().partition(|f| octet(f) == 0x81);
         let partner = source(frame);
+        let number = octet(frame) >> 2 & 15;
         let again = |j: usize| {
             let f = bytes(j);
-            source(f) == partner && to_one(f) && octet(f) & 0xC0 != 0xC0
+            // data with neither this number nor the next does not end the wait for a reply
+            let other = octet(f) >> 2 & 15;
+            let old = octet(f) & 0xC0 == 0x40 && other != number && other != (number + 1) & 15;
+            source(f) == partner && to_one(f) && octet(f) & 0xC0 != 0xC0 && !old
         };
         let until = (i + 1..n).find(|&j| again(j)).unwrap_or(n);
+        let begins = |f: &[u8]| source(f) == partner && to_one(f) && octet(f) & 0xFE == 0x80;
+        let over = (i + 1..n).find(|&j| begins(bytes(j))).unwrap_or(n);
         let mut met: Vec<usize> = Vec::new();
         for f in &due {
             let from = met.last().map_or(i, |&j| j) + 1;
-            // an answer on no connection comes when it comes
-            let till = if octet(f) & 0xC0 == 0 { n } else { until };
+            // an answer on no connection comes when it comes, one on a connection while that lasts
+            let till = match octet(f) & 0xC0 {
+                0 => n,
+                0x40 => over,
+                _ => until,
+            };
             match (from..till).find(|&j| !used[j] && bytes(j) == f) {
                 Some(j) => met.push(j),
                 None => break,
             }
         }
         // at the end of the recording a reply may not have come yet
-        if met.len() < due.len() && !met.is_empty() && until < n {
+        if met.len() < due.len() && !met.is_empty() && (until < n || over < n) {
             return None;
         }
         if met.is_empty() && !due.is_empty() {
@@ -298,7 +306,7 @@ fn goes_on(bus: &Bus, s: &Spoiled, at: usize, own: u16) -> bool {
             continue;
         }
         let (from, to, octet) = (source(f), destination(f), octet(f));
-        if from == partner && to == own && (octet == 0x80 || octet == 0x81) {
+        if from == partner && (octet == 0x80 || (to == own && octet == 0x81)) {
             return false;
         }
         if from == own && to == partner && octet & 0xC3 == 0xC2 {
@@ -485,17 +493,15 @@ fn untouched() {
     let mut marks: BTreeMap<String, usize> = BTreeMap::new();
     for seed in 0..asked("RECORDINGS", RECORDINGS) / 4 {
         let (bus, _) = drawn(seed, false);
-        let forged = bus.log.iter().any(|s| s.forged && octet(&s.bytes) == 0x81);
-        let other = |d: &Did| d.after[16..18] != bus.first[16..18];
-        if forged && bus.log.iter().any(|s| s.did.as_ref().is_some_and(other)) {
-            continue; // whether a device goes on under another address is not looked for
-        }
         let frames = bus.log.iter().enumerate().map(|(id, s)| Heard { id, millis: s.millis });
         let whole = Spoiled { frames: frames.collect(), ..Spoiled::default() };
         let mut counts = Counts::default();
         let made = from_frames(&recording(&bus, &whole), &bus.first, &mut Progress::new("", 0));
         let evidence = made.evidence.as_ref().unwrap();
-        if !evidence.device {
+        // a disconnect that somebody forged may be the device's, for all that is seen, until it goes on
+        let forged = bus.log.iter().any(|s| s.forged && octet(&s.bytes) == 0x81);
+        if !evidence.device || forged {
+            held(&bus, &whole, &mut counts).unwrap_or_else(|why| panic!("seed {seed}: {why}"));
             continue;
         }
         let all = || shown(&bus, &whole);
@@ -512,5 +518,4 @@ fn untouched() {
         }
     }
     println!("{marks:?}");
-    let _ = (archive::fresh(), NOBODY, Doubt::Unheard);
 }

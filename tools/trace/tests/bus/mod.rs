@@ -477,6 +477,12 @@ impl Bus {
         self.put(frame(self.tools[t].address, self.own(), false, &apdu), true);
     }
 
+    /// Whether a disconnect was forged since the first tool sent something.
+    fn forged_already(&self) -> bool {
+        let of = self.log.iter().rev().take_while(|s| source(&s.bytes) != self.tools[0].address);
+        of.into_iter().any(|s| s.forged && octet(&s.bytes) == 0x81)
+    }
+
     /// A frame under the device's own address that it did not send.
     fn forged(&mut self) {
         let own = self.own();
@@ -484,7 +490,7 @@ impl Bus {
         let bytes = match self.rng.below(4) {
             0 => frame(own, own, false, &[3, 0xD7, 2, 7, 0x10, 1, byte]),
             1 => frame(own, own, false, &[0x80]),
-            3 if self.host.partner(self.tools[0].address).is_some() => {
+            3 if self.host.partner(self.tools[0].address).is_some() && !self.forged_already() => {
                 frame(own, self.tools[0].address, false, &[0x81])
             }
             _ => frame(own, 0x0801, true, &[0, 0x80, byte]),
