@@ -226,7 +226,7 @@ fn same_hearing() {
         let session =
             |rng: &mut Rng| archive::Session { open: rng.chance(60), level: rng.byte() & 3 };
         let sessions = archive::Sessions { of: [session(&mut rng), session(&mut rng)] };
-        let of = [0x11FA, 0x11FB, 0x11FC];
+        let of = [0x11FA, 0x11FB, 0x11FC, 0x1105];
         let link = Link { sessions, address: [rng.pick(&of), rng.pick(&of)] };
         let mut frame = vec![rng.pick(&[0x29, 0x29, 0x29, 0x11, 0x2B]), 0, 0xB0];
         frame.push(rng.pick(&[0x60, 0x60, 0xE0]));
@@ -246,10 +246,14 @@ fn same_hearing() {
         if rng.chance(5) {
             frame.truncate(rng.below(frame.len()));
         }
+        // to a group under the device's own address the tool has a rule of its own, and asks nobody
+        if frame.get(3) == Some(&0xE0) && frame.get(4..6) == Some(&[0x11, 0x05]) {
+            continue;
+        }
         let heard = archive::heard(link, &sheet, &frame);
         assert_eq!(heard, link::heard(link, &sheet, &frame), "seed {seed}");
         *met.entry(heard.event).or_insert(0) += 1;
     }
     let met: Vec<u8> = met.into_keys().collect();
-    assert_eq!(met, [0, 1, 2, 3, 4, 5, 40, 41, 43, 44, 45, 60, 61, 62, 63]);
+    assert_eq!(met, [0, 1, 2, 3, 4, 5, 40, 41, 43, 44, 45, 60, 61, 62, 63, 65]);
 }

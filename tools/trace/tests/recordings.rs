@@ -434,10 +434,22 @@ B0 11 FA 11 05 60 80 50
 fn words() {
     let numbers = (0..=255).map(Why::Number).filter(|why| !why.words().starts_with("no outcome"));
     assert!(numbers.count() > 20);
-    let own =
-        [Why::OfTheDevice, Why::Repeated, Why::Confirmed, Why::Unsent, Why::Signal, Why::Damaged];
+    let own = [
+        Why::OfTheDevice,
+        Why::NotItsOwn,
+        Why::OutOfTurn,
+        Why::Untaken,
+        Why::Repeated,
+        Why::Confirmed,
+        Why::Unsent,
+        Why::Signal,
+        Why::Damaged,
+    ];
     let words = [
         "sent by the device",
+        "a disconnect under the device's address, behind which it went on: forged, or the recording is not whole",
+        "data out of turn",
+        "data that the device did not take",
         "a repetition",
         "a request to send, told again by its confirmation",
         "not sent, by its confirmation",
@@ -452,6 +464,7 @@ fn words() {
         (61, "connected data from nobody's partner (61)"),
         (62, "no place for a third partner (62)"),
         (63, "a disconnect from nobody's partner (63)"),
+        (65, "under the device's own address to itself: a forged sender or an echo (65)"),
     ];
     for (number, words) in words {
         assert_eq!(Why::Number(number).words(), words);

@@ -20,7 +20,7 @@ use trace::play::{carried_out, Trace};
 use trace::progress::Progress;
 use trace::recordings::{Note, Recorded, Recording};
 
-const RECORDINGS: u64 = 4_000;
+const RECORDINGS: u64 = 10_000;
 
 fn asked(name: &str, or: u64) -> u64 {
     std::env::var(name).ok().and_then(|word| word.parse().ok()).unwrap_or(or)
