@@ -118,8 +118,8 @@ impl Doubts {
         let gaps = || self.all.iter().flat_map(|e| &e.gaps);
         let losses = || self.all.iter().flat_map(|e| &e.losses);
         let before = |at: At| behind(at) < rests.event;
-        let gap = gaps().filter(|g| before(g.at) && self.rests_before(rests, behind(g.at))).last();
-        let loss = losses().filter(|l| before(l.at)).last();
+        let gap = gaps().rfind(|g| before(g.at) && self.rests_before(rests, behind(g.at)));
+        let loss = losses().rfind(|l| before(l.at));
         let cause = gap.cloned().map(Cause::Gap).or(loss.copied().map(Cause::Loss));
         out.extend(cause.map(Doubt::Before));
         let gap = gaps().find(|g| !before(g.at)).cloned().map(Cause::Gap);
@@ -127,10 +127,9 @@ impl Doubts {
         out.extend(loss.or(gap).map(Doubt::After));
         out.extend(self.whole());
         if let Some(group) = group {
-            let own = self.all.iter().flat_map(|e| &e.own);
-            out.extend(
-                own.filter(|o| o.group == group && !before(o.at)).last().map(|o| Doubt::Own(*o)),
-            );
+            let mut own = self.all.iter().flat_map(|e| &e.own);
+            let last = own.rfind(|own| own.group == group && !before(own.at));
+            out.extend(last.map(|own| Doubt::Own(*own)));
         }
         out.dedup();
         out
@@ -152,7 +151,7 @@ impl Doubts {
 
     /// The last frame under the device's own address to a group, or to all by 0.
     pub fn own(&self, group: u16) -> Option<Own> {
-        self.all.iter().flat_map(|e| &e.own).filter(|own| own.group == group).last().copied()
+        self.all.iter().flat_map(|e| &e.own).rfind(|own| own.group == group).copied()
     }
 
     pub fn clean(&self) -> bool {

@@ -220,7 +220,7 @@ pub fn shows_of(e: &Evidence, before: usize, name: impl Fn(u32) -> String) -> Ve
             ),
         });
     }
-    let left = e.left.iter().take(NAMED).map(|one| left_told(one));
+    let left = e.left.iter().take(NAMED).map(left_told);
     out.extend(left);
     if e.left.len() > NAMED {
         out.push(format!("and {} more requests that are no events", e.left.len() - NAMED));

@@ -297,7 +297,7 @@ impl Bus {
             0..=69 => self.tool_acts(t),
             70..=81 => self.group_value(),
             82..=88 => self.loose(t),
-            89..=91 => self.to_all(),
+            89..=91 => self.broadcast(),
             92..=94 => self.time_out(),
             95 => self.confused(t),
             96 => self.forged(),
@@ -439,7 +439,7 @@ impl Bus {
         self.put(frame(self.tools[t].address, self.own(), false, &apdu), received);
     }
 
-    fn to_all(&mut self) {
+    fn broadcast(&mut self) {
         let apdu = match self.rng.below(4) {
             0 => vec![1, 0x00],
             1 => vec![3, 0xDC, 0, 0xC5, 1, 2, 3, 4],
