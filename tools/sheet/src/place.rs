@@ -158,8 +158,32 @@ impl Place {
         &s[self.at..self.at + self.length]
     }
 
+    /// What the bytes of this place say, its name before it; of a key nothing.
+    pub fn named(&self, bytes: &[u8]) -> String {
+        let name = match self.form {
+            Form::Flags => "programming mode",
+            _ => &self.name,
+        };
+        match self.value(bytes) {
+            Some(value) => format!("{name}: {value}"),
+            None => name.to_string(),
+        }
+    }
+
+    /// What the bytes of this place say, of a place that an event can change; of a key nothing.
+    pub fn value(&self, bytes: &[u8]) -> Option<String> {
+        match self.form {
+            Form::Number => Some(element(bytes)),
+            Form::Bytes | Form::Memory(..) => Some(byte_line(bytes)),
+            Form::Flags => Some(switch(bytes[0] & 1 != 0).to_string()),
+            Form::Address => Some(individual_address(word(bytes, 0))),
+            Form::Key => None,
+            _ => Some(hex(bytes)),
+        }
+    }
+
     /// What tells the new bytes of this place from the old ones: of a key only that it changed.
-    fn told(&self, a: &[u8], b: &[u8]) -> Vec<String> {
+    pub fn told(&self, a: &[u8], b: &[u8]) -> Vec<String> {
         let name = &self.name;
         let mut lines = Vec::new();
         let mut compare = |what: &str, a: String, b: String| {
@@ -227,6 +251,8 @@ pub struct Change<K> {
     pub target: Target,
     /// The bytes that differ, each by its offset, with what the caller knows of it.
     pub bytes: Vec<(usize, K)>,
+    /// The place itself, or the run of memory.
+    pub place: Place,
 }
 
 /// Neighbours of memory on one line, up to so many.
@@ -244,20 +270,32 @@ pub fn changes<K: Copy + PartialEq>(
     b: &[u8],
     known: impl Fn(usize) -> K,
 ) -> Vec<Change<K>> {
+    touched(a, b, known, |at| a[at] != b[at])
+}
+
+/// The same of all places with a byte that was touched, of which some say what they did at first: these have no lines.
+pub fn touched<K: Copy + PartialEq>(
+    a: &[u8],
+    b: &[u8],
+    known: impl Fn(usize) -> K,
+    was: impl Fn(usize) -> bool,
+) -> Vec<Change<K>> {
     let mut out: Vec<Change<K>> = Vec::new();
     let places = places(a);
     let mut i = 0;
     while i < places.len() {
         let first = &places[i];
         i += 1;
-        if first.of(a) == first.of(b) {
+        if !(first.at..first.at + first.length).any(&was) {
             continue;
         }
+        let differs = first.of(a) != first.of(b);
         let mut run = first.clone();
         if let Form::Memory(kind, address) = first.form {
             let joins = |p: &Place, length: usize| {
                 p.form == Form::Memory(kind, address + length)
-                    && p.of(a) != p.of(b)
+                    && was(p.at)
+                    && (p.of(a) != p.of(b)) == differs
                     && known(p.at) == known(first.at)
             };
             while run.length < TO_A_LINE && places.get(i).is_some_and(|p| joins(p, run.length)) {
@@ -265,13 +303,14 @@ pub fn changes<K: Copy + PartialEq>(
                 i += 1;
             }
         }
-        let bytes = (run.at..run.at + run.length).filter(|&at| a[at] != b[at]);
+        let bytes = (run.at..run.at + run.length).filter(|&at| was(at));
         out.push(Change {
             at: run.at,
             length: run.length,
-            lines: run.told(run.of(a), run.of(b)),
+            lines: if differs { run.told(run.of(a), run.of(b)) } else { Vec::new() },
             target: run.target,
             bytes: bytes.map(|at| (at, known(at))).collect(),
+            place: run,
         });
     }
     out

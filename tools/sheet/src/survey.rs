@@ -1,5 +1,6 @@
 //! Many dumps beside one reference: what deviates by meaning and in how many units, broken and old sheets, keys that are
-//! public or shared, heights out of a bound, what is open to all, rules 1. No key is told.
+//! public, of zeros, of two levels or shared, serial numbers and addresses that are there twice, heights out of a bound, what is
+//! open to all, rules 1. No key is told.
 
 use std::collections::{BTreeMap, HashMap};
 
@@ -8,6 +9,9 @@ use crate::json::Json;
 use crate::kinds::{self, File};
 use crate::layout::{hex, individual_address, name, Kind, Property, Sheet, LATER};
 use crate::show::{element, PUBLIC};
+
+/// A key that nobody set.
+const ZEROS: [u8; 4] = [0; 4];
 
 /// What is looked for.
 #[derive(Clone, Copy, Debug, PartialEq, Eq)]
@@ -67,8 +71,11 @@ pub struct Unit {
     /// Individual address and serial number, by which units differ as they should.
     pub address: String,
     pub serial: String,
-    /// The levels whose key is FFFFFFFFh.
+    /// The levels whose key is FFFFFFFFh, and those whose key is 0.
     pub public: Vec<usize>,
+    pub zeros: Vec<usize>,
+    /// Levels whose key is that of a level with more rights, which it gives.
+    pub doubled: Vec<(usize, usize)>,
     pub heights: Vec<String>,
     pub later: bool,
     /// What deviates in it and what is open, by the survey's numbers of these.
@@ -85,6 +92,9 @@ pub struct Survey {
     pub open: Vec<Shared>,
     /// Keys that more than one unit has: each time whose key of which level, the reference's among them as the last.
     pub keys: Vec<Vec<(Option<usize>, usize)>>,
+    /// Serial numbers and individual addresses that more than one unit has.
+    pub serials: Vec<Shared>,
+    pub addresses: Vec<Shared>,
     pub wanted: Wanted,
 }
 
@@ -119,6 +129,8 @@ pub fn survey(
                 address: String::new(),
                 serial: String::new(),
                 public: Vec::new(),
+                zeros: Vec::new(),
+                doubled: Vec::new(),
                 heights: Vec::new(),
                 later: false,
                 deviations: Vec::new(),
@@ -128,6 +140,8 @@ pub fn survey(
     }
     let keys = found.shared_keys(&base);
     let (deviations, open) = (by_share(found.deviations), by_share(found.open));
+    let twice = |found| by_share(found).into_iter().filter(|s| s.units.len() > 1).collect();
+    let (serials, addresses) = (twice(found.serials), twice(found.addresses));
     for (k, shared) in deviations.iter().enumerate() {
         shared.units.iter().for_each(|&unit| units[unit].deviations.push(k));
     }
@@ -135,13 +149,15 @@ pub fn survey(
         shared.units.iter().for_each(|&unit| units[unit].open.push(k));
     }
     let reference = reference.0.to_string();
-    Ok(Survey { reference, units, deviations, open, keys, wanted })
+    Ok(Survey { reference, units, deviations, open, keys, serials, addresses, wanted })
 }
 
 #[derive(Default)]
 struct Found {
     deviations: HashMap<String, Vec<usize>>,
     open: HashMap<String, Vec<usize>>,
+    serials: HashMap<String, Vec<usize>>,
+    addresses: HashMap<String, Vec<usize>>,
     keys: BTreeMap<[u8; 4], Vec<(Option<usize>, usize)>>,
 }
 
@@ -185,12 +201,19 @@ impl Found {
         for (level, key) in sheet.keys.iter().enumerate() {
             self.keys.entry(*key).or_default().push((Some(number), level));
         }
+        let (address, serial) = (individual_address(sheet.address), hex(&sheet.serial));
+        self.addresses.entry(address.clone()).or_default().push(number);
+        self.serials.entry(serial.clone()).or_default().push(number);
+        let with = |key: [u8; 4]| (0..3).filter(|&level| sheet.keys[level] == key).collect();
+        let given = |level: usize| (0..level).find(|&l| sheet.keys[l] == sheet.keys[level]);
         Unit {
             name,
             verdict,
-            address: individual_address(sheet.address),
-            serial: hex(&sheet.serial),
-            public: (0..3).filter(|&level| sheet.keys[level] == PUBLIC).collect(),
+            address,
+            serial,
+            public: with(PUBLIC),
+            zeros: with(ZEROS),
+            doubled: (0..3).filter_map(|level| given(level).map(|gives| (level, gives))).collect(),
             heights: heights(base, sheet, wanted),
             later: sheet.rules == LATER,
             deviations: Vec::new(),
@@ -198,12 +221,12 @@ impl Found {
         }
     }
 
-    /// The keys of more than one unit, the public one apart, which is told as such; those of most units first.
+    /// The keys of more than one unit, the public one and that of zeros apart, which are told as such; those of most units first.
     fn shared_keys(&self, base: &Sheet) -> Vec<Vec<(Option<usize>, usize)>> {
         let mut all: Vec<_> = self
             .keys
             .iter()
-            .filter(|(&key, _)| key != PUBLIC)
+            .filter(|(&key, _)| key != PUBLIC && key != ZEROS)
             .map(|(key, owners)| {
                 let of_base = (0..3).filter(|&level| base.keys[level] == *key);
                 owners.iter().copied().chain(of_base.map(|level| (None, level))).collect::<Vec<_>>()
@@ -226,7 +249,8 @@ fn open(sheet: &Sheet) -> Vec<String> {
     all.filter(|(levels, _)| levels.write == 3).map(|(_, what)| what).collect()
 }
 
-/// The heights further from the reference's than the bound, and those of the reference's that are missing.
+/// The heights further from the reference's than the bound, and those of the reference's that are missing. One that the
+/// reference has not is held to the nearest that it has.
 fn heights(base: &Sheet, sheet: &Sheet, wanted: Wanted) -> Vec<String> {
     let (Some(bound), Some(there)) = (wanted.bound, property(base, wanted.height)) else {
         return Vec::new();
@@ -242,20 +266,28 @@ fn heights(base: &Sheet, sheet: &Sheet, wanted: Wanted) -> Vec<String> {
     let (here, there) = (valid(here), valid(there));
     let missing = here.len()..there.len();
     let missing = missing.map(|i| format!("{what} element {} is missing", i + 1));
-    let pairs = here.iter().zip(&there).enumerate();
-    pairs
-        .filter_map(|(i, (new, old))| {
-            let (by, way) = match (number(new), number(old)) {
-                (new, old) if new >= old => (new - old, "above"),
-                (new, old) => (old - new, "below"),
-            };
-            (by > bound).then(|| {
-                let (new, old, i) = (element(new), element(old), i + 1);
-                format!("{what} element {i} is {new}, {by} {way} the reference's {old}")
-            })
-        })
-        .chain(missing)
-        .collect()
+    let by = |new: &[u8], old: &[u8]| match (number(new), number(old)) {
+        (new, old) if new >= old => (new - old, "above"),
+        (new, old) => (old - new, "below"),
+    };
+    let told = here.iter().enumerate().filter_map(|(i, new)| {
+        let (value, n) = (element(new), i + 1);
+        if let Some(old) = there.get(i) {
+            let (by, way) = by(new, old);
+            let old = element(old);
+            return (by > bound)
+                .then(|| format!("{what} element {n} is {value}, {by} {way} the reference's {old}"));
+        }
+        match there.iter().map(|old| (by(new, old), old)).min_by_key(|((by, _), _)| *by) {
+            Some(((by, way), old)) if by > bound => {
+                let old = element(old);
+                Some(format!("{what} element {n} is {value}, which the reference has not, {by} {way} its nearest, {old}"))
+            }
+            Some(_) => None,
+            None => Some(format!("{what} element {n} is {value}, and the reference has none")),
+        }
+    });
+    told.chain(missing).collect()
 }
 
 // ---- what is told ----
@@ -277,10 +309,13 @@ impl Survey {
         let alone = |u: &Unit| {
             u.verdict == Verdict::Accepted
                 && u.public.is_empty()
+                && u.zeros.is_empty()
+                && u.doubled.is_empty()
                 && u.heights.is_empty()
                 && !u.later
         };
         let shared = self.deviations.is_empty() && self.open.is_empty() && self.keys.is_empty();
+        let shared = shared && self.serials.is_empty() && self.addresses.is_empty();
         shared && self.units.iter().all(alone)
     }
 
@@ -305,6 +340,22 @@ impl Survey {
         for level in &u.public {
             let units = self.units.iter().filter(|u| u.public.contains(level)).count();
             say("public key", format!("key of level {level} is FFFFFFFFh"), units);
+        }
+        for level in &u.zeros {
+            let units = self.units.iter().filter(|u| u.zeros.contains(level)).count();
+            say("key of zeros", format!("key of level {level} is 00000000h"), units);
+        }
+        for (level, gives) in &u.doubled {
+            let units = self.units.iter().filter(|u| !u.doubled.is_empty()).count();
+            say("key of two levels", doubled(*level, *gives), units);
+        }
+        for (kind, all) in [("serial number", &self.serials), ("address", &self.addresses)] {
+            for shared in all.iter().filter(|shared| shared.units.contains(&unit)) {
+                let others = shared.units.iter().filter(|&&other| other != unit);
+                let others: Vec<&str> = others.map(|&o| self.units[o].name.as_str()).collect();
+                let what = format!("{} is that of {} too", shared.what, others.join(", "));
+                say(kind, what, shared.units.len());
+            }
         }
         for owners in &self.keys {
             let mine = owners.iter().filter(|owner| owner.0 == Some(unit));
@@ -358,11 +409,23 @@ impl Survey {
             format!("{}: level {}", u.name, levels.join(", "))
         });
         out += &section("public keys, FFFFFFFFh", public.collect());
+        let zeros = self.units.iter().filter(|u| !u.zeros.is_empty());
+        let zeros = zeros.map(|u| {
+            let levels: Vec<String> = u.zeros.iter().map(ToString::to_string).collect();
+            format!("{}: level {}", u.name, levels.join(", "))
+        });
+        out += &section("keys of zeros", zeros.collect());
+        let twice = self.units.iter().flat_map(|u| {
+            u.doubled.iter().map(|&(level, gives)| format!("{}: {}", u.name, doubled(level, gives)))
+        });
+        out += &section("keys of two levels", twice.collect());
         let keys = self.keys.iter().map(|owners| {
             let named = owners.iter().map(|&owner| self.owner(owner));
             format!("{}: {}", many(sharing(owners), "unit"), some(named))
         });
         out += &section("shared keys", keys.collect());
+        out += &shared_text("serial numbers of several units", self, &self.serials);
+        out += &shared_text("addresses of several units", self, &self.addresses);
         let (object, id) = self.wanted.height;
         match self.wanted.bound {
             None => out += "\nheights: no bound is given\n",
@@ -473,9 +536,16 @@ impl Survey {
             ("deviations", shared(&self.deviations)),
             ("open", shared(&self.open)),
             ("shared_keys", Json::List(keys.collect())),
+            ("serials", shared(&self.serials)),
+            ("addresses", shared(&self.addresses)),
             ("units", Json::List(units.collect())),
         ])
     }
+}
+
+/// A key that two levels have gives the one with more rights.
+fn doubled(level: usize, gives: usize) -> String {
+    format!("key of level {level} is that of level {gives}, and gives level {gives}")
 }
 
 /// How many units have a key, the reference apart.
@@ -520,8 +590,15 @@ fn shared_text(title: &str, survey: &Survey, all: &[Shared]) -> String {
     section(title, all.iter().map(line).collect())
 }
 
-/// A cell of a table for spreadsheets, in quotation marks where it needs them.
+/// What a spreadsheet would take for a formula.
+const FORMULA: [char; 6] = ['=', '+', '-', '@', '\t', '\r'];
+
+/// A cell of a table for spreadsheets, in quotation marks where it needs them; one that would begin a formula begins with an
+/// apostrophe.
 fn cell(text: &str) -> String {
+    if text.starts_with(FORMULA) {
+        return cell(&format!("'{text}"));
+    }
     if text.contains([',', '"', '\r', '\n']) {
         return format!("\"{}\"", text.replace('"', "\"\""));
     }

@@ -38,7 +38,7 @@ end
 /// A dump by its name and what is changed in the reference's text.
 type Dump = (&'static str, &'static [(&'static str, &'static str)]);
 
-const DUMPS: [Dump; 8] = [
+const DUMPS: [Dump; 10] = [
     (
         "a.sheet",
         &[
@@ -111,6 +111,29 @@ const DUMPS: [Dump; 8] = [
             ("5a17", "1116"),
             ("2222", "1242"),
             ("7777", "1243"),
+        ],
+    ),
+    // one key for two levels, a key of zeros, a serial number and an address that are there already, a name that is a formula
+    (
+        "=1+1.sheet",
+        &[
+            ("0304", "0311"),
+            ("1.1.5", "1.1.12"),
+            ("5a17c0de", "33334444"),
+            ("22222222", "33334444"),
+            ("77777777", "00000000"),
+        ],
+    ),
+    // a counted element that the reference has not, and out of bound
+    (
+        "h.sheet",
+        &[
+            ("0304", "0318"),
+            ("1.1.5", "1.1.18"),
+            ("count 1 r3 w1\n    1000", "count 2 r3 w1\n    1000 640"),
+            ("5a17", "1118"),
+            ("2222", "1246"),
+            ("7777", "1247"),
         ],
     ),
     ("same.sheet", &[("5a17", "1117"), ("2222", "1244"), ("7777", "1245")]),
@@ -198,9 +221,10 @@ fn bounds() {
     let title = "heights, property 1/51, further than 250 from the reference's";
     let below = "  c.sheet: property 1/51 element 1 is 640, 360 below the reference's 1000";
     let missing = "  e.sheet: property 1/51 is missing";
+    let more = "  h.sheet: property 1/51 element 2 is 640, which the reference has not, 360 below its nearest, 1000";
     let none = "  none.sheet: property 1/51 element 1 is missing";
-    assert_eq!(heights(&["--bound", "250"]), [title, below, missing, none]);
-    assert_eq!(heights(&["--bound", "249"]).len(), 6);
+    assert_eq!(heights(&["--bound", "250"]), [title, below, missing, more, none]);
+    assert_eq!(heights(&["--bound", "249"]).len(), 7);
     assert_eq!(
         heights(&["--bound", "360", "--height", "1/52"]),
         ["heights, property 1/52, further than 360 from the reference's: none"]

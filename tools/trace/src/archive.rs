@@ -85,6 +85,25 @@ pub struct Pdu {
     pub data_length: usize,
 }
 
+/// As `kelindap_part`.
+#[repr(C)]
+#[derive(Clone, Copy, Debug, PartialEq, Eq)]
+pub struct Part {
+    pub offset: usize,
+    pub length: usize,
+}
+
+/// As `kelindap_served`.
+#[repr(C)]
+#[derive(Clone, Copy, Debug, PartialEq, Eq)]
+pub struct Served {
+    pub number: u8,
+    pub outcome: u8,
+    pub connection: u8,
+    pub count: u8,
+    pub changed: [Part; 2],
+}
+
 extern "C" {
     fn kelindap_version() -> u32;
     fn kelindap_pdu_version() -> u32;
@@ -127,6 +146,17 @@ extern "C" {
         frame: *const u8,
         frame_length: usize,
     ) -> Arrival;
+    #[cfg(heard)]
+    fn kelindap_serve(
+        link: *mut Link,
+        sequence: u8,
+        frame: *const u8,
+        frame_length: usize,
+        sheet: *mut u8,
+        sheet_length: usize,
+        out: *mut u8,
+        out_length: usize,
+    ) -> Served;
     fn kelindap_frame_read(frame: *const u8, length: usize) -> Frame;
     fn kelindap_read(apdu: *const u8, apdu_length: usize) -> Pdu;
 }
@@ -256,3 +286,26 @@ pub fn heard(link: Link, sheet: &[u8], frame: &[u8]) -> Arrival {
 
 #[cfg(not(heard))]
 pub use crate::link::heard;
+
+/// So many bytes has the longest frame that answers.
+pub const ROOM: usize = 25;
+
+/// A frame served, as a host does it: what it gave, and the frame that answers, if there is one. The tests' device is made of it.
+#[cfg(heard)]
+pub fn serve(link: &mut Link, sequence: u8, frame: &[u8], sheet: &mut [u8]) -> (Served, Vec<u8>) {
+    let mut out = vec![0; ROOM];
+    let served = unsafe {
+        kelindap_serve(
+            link,
+            sequence,
+            frame.as_ptr(),
+            frame.len(),
+            sheet.as_mut_ptr(),
+            sheet.len(),
+            out.as_mut_ptr(),
+            out.len(),
+        )
+    };
+    out.truncate(served.count.into());
+    (served, out)
+}

@@ -1,40 +1,58 @@
-//! Who changed what: each byte that traces changed, by its meaning, with the event that gave it, its level, and the event that
-//! offered the key; and what a later dump holds that no event gave. Events and bytes are told by the archive's marks.
+//! Who changed what, as facts: each byte that traces changed with the event that gave it, its level, the event that offered the
+//! key, and what of that the recording can't show; and what a later dump holds that no event gave. Events and bytes are told by
+//! the archive's marks. Text and JSON of these facts stand in account_text.rs and account_json.rs, their words in sentences.rs.
 
 use sheet::diff;
-use sheet::json::Json;
-use sheet::layout::Sheet;
-use sheet::place::{changes, same_layout, Change, Target};
+use sheet::layout::{body_at, body_length, entries, word, Kind, Sheet};
+use sheet::place::{changes, same_layout, touched, Change, Target};
 
 use crate::archive::{self, Marking, Pdu};
-use crate::events::REQUEST;
-use crate::play::{carried_out, event_fields, logged, Trace, LINE};
+use crate::doubts::{Doubt, Doubts, Rests};
+use crate::events::{CONNECT, REQUEST};
+use crate::evidence::{Answer, Left};
+use crate::history::{History, Step};
+use crate::play::{carried_out, logged, Trace, LINE};
 use crate::progress::Progress;
-use crate::text;
-use crate::words;
 
-/// What is known of an event once it was played. Its level and the offer count if it is a request on a connection.
-struct Fact {
-    trace: usize,
-    index: usize,
-    outcome: u8,
-    level: u8,
-    offer: u32,
+/// What is known of an event once it was played. Its level, the offer and the connect count if it is a request on a connection.
+pub struct Fact {
+    pub trace: usize,
+    pub index: usize,
+    pub outcome: u8,
+    pub level: u8,
+    pub offer: u32,
+    pub connect: u32,
 }
 
 /// Traces played on a sheet with marks.
 pub struct Story<'a> {
-    traces: &'a [Trace],
-    facts: Vec<Fact>,
+    pub traces: &'a [Trace],
+    pub facts: Vec<Fact>,
     marks: Vec<u32>,
     first: Vec<u8>,
     last: Vec<u8>,
+    history: History,
+    pub doubts: Doubts,
     /// The last event that made each byte what it is in the dump, if there is a dump and an event.
     gave: Vec<u32>,
     /// Whether the whole sheet was once the dump: at first, or after an event.
-    was: bool,
-    /// The requests that would write and were not carried out.
-    refused: Vec<(u32, Pdu)>,
+    pub was: bool,
+    /// The requests that would write, by whether they were carried out.
+    writes: Vec<(u32, Pdu, bool)>,
+}
+
+/// A place that events changed.
+pub struct Account {
+    pub change: Change<u32>,
+    /// The events that left its bytes as they are, the last one first, each with these bytes.
+    pub by: Vec<(u32, Vec<usize>)>,
+    /// Every event that changed it.
+    pub steps: Vec<Step>,
+    /// The last event that wrote it and left it as it was.
+    pub again: Option<u32>,
+    pub doubts: Vec<Doubt>,
+    /// Requests since that are no events, and named it.
+    pub left: Vec<Left>,
 }
 
 impl<'a> Story<'a> {
@@ -49,83 +67,176 @@ impl<'a> Story<'a> {
         let dump = dump.filter(|dump| dump.len() == sheet.len());
         let mut was = dump == Some(sheet);
         let mut facts: Vec<Fact> = Vec::new();
-        let mut refused = Vec::new();
+        let (mut history, mut writes) = (History::new(sheet.len()), Vec::new());
+        let mut connects = [0; 2];
         for (t, trace) in traces.iter().enumerate() {
             for (index, event) in trace.events.iter().enumerate() {
                 progress.at(facts.len());
-                let (level, offer) = match event.rights() {
-                    Some(c) => (device.sessions.of[c].level.min(3), device.marks[sheet.len() + c]),
-                    None => (3, 0),
+                let (level, offer, connect) = match event.rights() {
+                    Some(c) => {
+                        let level = device.sessions.of[c].level.min(3);
+                        (level, device.marks[sheet.len() + c], connects[c])
+                    }
+                    None => (3, 0, 0),
                 };
                 let mut line = [0; LINE];
                 let played = archive::play_marked(&mut device, &trace.bytes, index, 1, &mut line);
                 assert_eq!(played, Ok(1), "a trace that was accepted is played");
                 let outcome = logged(&line).0;
-                facts.push(Fact { trace: t, index, outcome, level, offer });
-                if event.kind == REQUEST && !carried_out(outcome) {
+                facts.push(Fact { trace: t, index, outcome, level, offer, connect });
+                let number = facts.len() as u32;
+                if event.kind == CONNECT && event.connection < 2 {
+                    connects[usize::from(event.connection)] = number;
+                }
+                if event.kind == REQUEST {
                     let pdu = archive::read(&event.apdu);
                     if pdu.outcome == 0 && WRITES.contains(&pdu.kind) {
-                        refused.push((facts.len() as u32, pdu));
+                        writes.push((number, pdu, carried_out(outcome)));
                     }
                 }
-                if let (Some(dump), true) = (dump, seen != device.sheet) {
+                if seen != device.sheet {
                     let last = &device.sheet;
-                    for p in (0..last.len()).filter(|&p| seen[p] != last[p] && last[p] == dump[p]) {
-                        gave[p] = facts.len() as u32;
+                    history.note(number, &seen, last);
+                    if let Some(dump) = dump {
+                        let given = |&p: &usize| seen[p] != last[p] && last[p] == dump[p];
+                        (0..last.len()).filter(given).for_each(|p| gave[p] = number);
+                        was |= last == dump;
                     }
-                    was |= last == dump;
                     seen.copy_from_slice(last);
                 }
             }
         }
         let (first, last, marks) = (sheet.to_vec(), device.sheet, device.marks);
-        Story { traces, facts, marks, first, last, gave, was, refused }
+        let doubts = Doubts::new(traces.iter().map(|t| (t.events.len(), t.evidence.as_ref())));
+        Story { traces, facts, marks, first, last, history, doubts, gave, was, writes }
     }
 
-    /// What the traces changed, each byte with the number of its event.
+    /// What the traces changed, each byte with the number of its event; what was set back to what it was is among it.
     pub fn changed(&self) -> Vec<Change<u32>> {
-        changes(&self.first, &self.last, |at| self.marks[at])
+        let mark = |at: usize| self.marks[at];
+        touched(&self.first, &self.last, mark, |at| mark(at) > 0)
     }
 
-    fn fact(&self, number: u32) -> &Fact {
+    /// What the traces changed, with all that is known of it.
+    pub fn accounts(&self) -> Vec<Account> {
+        self.changed().into_iter().map(|change| self.account(change)).collect()
+    }
+
+    fn account(&self, change: Change<u32>) -> Account {
+        let mut by = by_known(&change);
+        by.sort_by_key(|of| std::cmp::Reverse(of.0));
+        let last = by.first().map_or(0, |of| of.0);
+        let steps = self.steps(&change);
+        let mut doubts: Vec<Doubt> = Vec::new();
+        for doubt in
+            by.iter().flat_map(|of| self.doubts.about(self.rests(of.0), self.group(change.at)))
+        {
+            if !doubts.contains(&doubt) {
+                doubts.push(doubt);
+            }
+        }
+        // a count is written by its elements, and so by none of them again
+        let counted = matches!(change.target, Target::Count(..));
+        let again =
+            self.named(&change, true).into_iter().rfind(|&number| number > last && !counted);
+        let more = again.map(|number| self.step_doubts(number, &doubts)).unwrap_or_default();
+        doubts.extend(more);
+        let left = self.left(&change, last);
+        Account { change, by, steps, again, doubts, left }
+    }
+
+    /// What is not known of an event in the history of a place, beside what is said of the place.
+    pub fn step_doubts(&self, number: u32, said: &[Doubt]) -> Vec<Doubt> {
+        let doubts = self.doubts.outcome(self.rests(number));
+        doubts.into_iter().filter(|doubt| !said.contains(doubt)).collect()
+    }
+
+    /// Every event that changed a place, in order.
+    pub fn steps<K>(&self, change: &Change<K>) -> Vec<Step> {
+        self.history.steps(change.at, &self.first[change.at..change.at + change.length])
+    }
+
+    /// The sheet as the traces leave it.
+    pub fn last(&self) -> &[u8] {
+        &self.last
+    }
+
+    pub fn fact(&self, number: u32) -> &Fact {
         &self.facts[number as usize - 1]
     }
 
-    /// An event: of which trace, what it asks, when and from whom.
-    fn told(&self, number: u32) -> String {
+    /// What an event rests on.
+    pub fn rests(&self, number: u32) -> Rests {
         let fact = self.fact(number);
-        let trace = &self.traces[fact.trace];
-        let event = &trace.events[fact.index];
-        let words = text::meaning(event, false).unwrap_or_else(|| text::event(event, false));
-        let known = trace.known[fact.index].told();
-        format!("event {} of {}: {words}{known}", fact.index + 1, trace.name)
+        let connected = self.traces[fact.trace].events[fact.index].rights().is_some();
+        let offer = if connected && fact.level < 3 { fact.offer } else { 0 };
+        Rests { event: number, connect: fact.connect, offer, connected }
     }
 
-    /// The event that gave bytes, with its rights.
-    fn by(&self, number: u32, target: Target) -> Vec<String> {
-        let fact = self.fact(number);
-        let event = &self.traces[fact.trace].events[fact.index];
-        let mut lines = vec![format!("by {}", self.told(number))];
-        let place = match event.rights() {
-            Some(c) => format!("on connection {c} at level {}", fact.level),
-            None if event.kind == REQUEST => "on no connection, so at level 3".to_string(),
-            None => "at the device itself".to_string(),
-        };
-        lines.push(match target {
-            Target::Nothing => format!("{place}; no level is asked for it"),
-            _ => place,
-        });
-        if event.rights().is_some() && fact.level < 3 && fact.offer > 0 {
-            lines.push(format!("level {} by {}", fact.level, self.told(fact.offer)));
+    /// The group whose value a byte is, or all, by 0, if it is the individual address.
+    pub fn group(&self, at: usize) -> Option<u16> {
+        if (16..18).contains(&at) {
+            return Some(0);
         }
-        lines
+        let value = |e: &&[u8]| {
+            let start = body_at(Kind::Group, e);
+            (start..start + body_length(Kind::Group, e)).contains(&at)
+        };
+        entries(&self.first, Kind::Group).find(value).map(|e| word(e, 0))
     }
 
-    /// The requests that named a place to write it, and were not carried out.
-    fn refused<K>(&self, change: &Change<K>) -> Vec<u32> {
-        let named = self.refused.iter();
-        let named = named.filter(|(_, pdu)| names(pdu, change.target, change.length));
-        named.map(|(number, _)| *number).collect()
+    /// The requests that named a place to write it, and were carried out or not.
+    fn named<K>(&self, change: &Change<K>, done: bool) -> Vec<u32> {
+        let named = self.writes.iter().filter(|of| of.2 == done);
+        let named = named.filter(|(_, pdu, _)| names(pdu, change.target, change.length));
+        named.map(|of| of.0).collect()
+    }
+
+    pub fn refused<K>(&self, change: &Change<K>) -> Vec<u32> {
+        self.named(change, false)
+    }
+
+    /// Requests behind an event that are no events, and named a place to write it.
+    pub fn left<K>(&self, change: &Change<K>, behind: u32) -> Vec<Left> {
+        let left = self.doubts.evidence().iter().flat_map(|e| &e.left);
+        let since = left.filter(|left| left.at.behind >= behind as usize);
+        let named = since.filter(|left| {
+            let pdu = archive::read(&left.apdu);
+            pdu.outcome == 0 && names(&pdu, change.target, change.length)
+        });
+        named.cloned().collect()
+    }
+
+    /// What is not known of a place that a dump has otherwise: each doubt with the event that it is about, 0 for none.
+    pub fn other_doubts(&self, change: &Change<Other>) -> Vec<(u32, Doubt)> {
+        let mut all: Vec<(u32, Doubt)> = Vec::new();
+        let group = self.group(change.at);
+        for (other, _) in by_known(change) {
+            let about = match other.mark {
+                0 => group
+                    .and_then(|group| self.doubts.own(group))
+                    .map(Doubt::Own)
+                    .into_iter()
+                    .collect(),
+                mark => self.doubts.about(self.rests(mark), group),
+            };
+            for doubt in about {
+                if !all.iter().any(|of| of.1 == doubt) {
+                    all.push((other.mark, doubt));
+                }
+            }
+        }
+        all
+    }
+
+    /// Of a request that playing does not carry out: whether the recorded answer says otherwise, and what is not known. The
+    /// device's own answer leaves no doubt.
+    pub fn refusal(&self, number: u32) -> (bool, Vec<Doubt>) {
+        let answer = self.doubts.seen(number).map(|(_, seen)| seen.answer);
+        match answer {
+            Some(Answer::Same) => (false, Vec::new()),
+            answer => (answer == Some(Answer::Other), self.doubts.outcome(self.rests(number))),
+        }
     }
 }
 
@@ -159,13 +270,13 @@ fn names(pdu: &Pdu, target: Target, length: usize) -> bool {
 #[derive(Clone, Copy, Debug, PartialEq, Eq)]
 pub struct Other {
     /// The event that changed it last.
-    mark: u32,
-    origin: Origin,
+    pub mark: u32,
+    pub origin: Origin,
 }
 
 /// Where the dump's value of a byte was before.
 #[derive(Clone, Copy, Debug, PartialEq, Eq)]
-enum Origin {
+pub enum Origin {
     /// An event gave it, and another changed it since.
     Given(u32),
     /// It stood there at first, and an event changed it since.
@@ -218,19 +329,8 @@ impl Final {
     }
 }
 
-// ---- what is told ----
-
-/// What follows from a dump that the traces do not lead to.
-const PAST: &str = "somebody wrote past the device, or the traces lack events";
-const OLDER: &str = "all of it was so before: the dump may be older than the end of the traces";
-const MIXED: &str = "each byte was so before, but never all of them at once";
-const NO_DUMP: &str = "somebody wrote past the device, or this is no whole dump of it";
-
-/// So many refused requests are told of a place; of more, how many.
-const REFUSED: usize = 4;
-
 /// The bytes of a change by what is known of them: each once, with its offsets.
-fn by_known<K: Copy + PartialEq>(change: &Change<K>) -> Vec<(K, Vec<usize>)> {
+pub fn by_known<K: Copy + PartialEq>(change: &Change<K>) -> Vec<(K, Vec<usize>)> {
     let mut all: Vec<(K, Vec<usize>)> = Vec::new();
     for &(at, mark) in &change.bytes {
         match all.iter_mut().find(|of| of.0 == mark) {
@@ -239,222 +339,4 @@ fn by_known<K: Copy + PartialEq>(change: &Change<K>) -> Vec<(K, Vec<usize>)> {
         }
     }
     all
-}
-
-fn offsets(bytes: &[usize]) -> String {
-    let all: Vec<String> = bytes.iter().map(ToString::to_string).collect();
-    format!("byte{} {}", if bytes.len() == 1 { "" } else { "s" }, all.join(", "))
-}
-
-fn head<K>(change: &Change<K>) -> String {
-    change.lines.iter().fold(String::new(), |out, line| out + line + "\n")
-}
-
-impl Story<'_> {
-    pub fn text(&self, sheet: &str, beside: Option<(&str, &Final)>) -> String {
-        let changed = self.changed();
-        let bytes: usize = changed.iter().map(|c| c.bytes.len()).sum();
-        let traces: Vec<&str> = self.traces.iter().map(|t| t.name.as_str()).collect();
-        let mut out = format!(
-            "{} of {} on {sheet}: {} changed, at {}\n",
-            words::many(self.facts.len(), "event"),
-            traces.join(", "),
-            words::many(bytes, "byte"),
-            words::many(changed.len(), "place")
-        );
-        for change in &changed {
-            out += "\n";
-            out += &head(change);
-            let marks = by_known(change);
-            for (mark, bytes) in &marks {
-                if marks.len() > 1 {
-                    out += &format!("  {}\n", offsets(bytes));
-                }
-                for line in self.by(*mark, change.target) {
-                    out += &format!("  {line}\n");
-                }
-            }
-        }
-        if let Some((name, beside)) = beside {
-            out += "\n";
-            out += &self.beside_text(name, beside);
-        }
-        out
-    }
-
-    fn beside_text(&self, name: &str, beside: &Final) -> String {
-        match beside {
-            Final::Places(places) if places.is_empty() => {
-                format!("{name} is what the events give, byte by byte\n")
-            }
-            Final::Places(places) => {
-                let bytes: usize = places.iter().map(|c| c.bytes.len()).sum();
-                let never = places.iter().flat_map(|c| &c.bytes);
-                let never = never.filter(|byte| byte.1.origin == Origin::Never).count();
-                let follows = match never {
-                    0 if self.was => OLDER.to_string(),
-                    0 => format!("{MIXED}: {PAST}"),
-                    _ => PAST.to_string(),
-                };
-                let mut out = format!(
-                    "{name}: {} other than the events leave them, at {}; {never} of these no event gave\n{follows}\n",
-                    words::many(bytes, "byte"),
-                    words::many(places.len(), "place"),
-                );
-                for change in places {
-                    out += "\n";
-                    out += &head(change);
-                    out += &self.unexplained(change);
-                }
-                out
-            }
-            Final::Layout(lines) => lines.iter().fold(
-                format!("{name} has another layout, which no event gives: {NO_DUMP}\n\n"),
-                |out, line| out + line + "\n",
-            ),
-            Final::Broken(why, bytes) => {
-                let mut out = format!(
-                    "{name} is not accepted, and no event gives such a sheet: {NO_DUMP}\n\n{why}\n"
-                );
-                for (at, old, new) in bytes {
-                    out += &format!("byte {at}: {old:02x} → {new:02x}\n");
-                }
-                out
-            }
-        }
-    }
-
-    /// What the traces say of a place that a dump has otherwise.
-    fn unexplained(&self, change: &Change<Other>) -> String {
-        let mut out = String::new();
-        let of = by_known(change);
-        if of.iter().any(|(other, _)| other.origin == Origin::Never) {
-            out += match change.target {
-                Target::Nothing => "  no event gave it\n",
-                _ => "  no permitted write gave it\n",
-            };
-        }
-        for (Other { mark, origin }, bytes) in of {
-            let left = match mark {
-                0 => "left as at first".to_string(),
-                mark => format!("last changed by {}", self.told(mark)),
-            };
-            let before = match origin {
-                Origin::Never => String::new(),
-                Origin::First => "; at first it was what the dump has".to_string(),
-                Origin::Given(number) => {
-                    format!("; the dump has what it was by {}", self.told(number))
-                }
-            };
-            out += &format!("  {}: {left}{before}\n", offsets(&bytes));
-        }
-        let refused = self.refused(change);
-        for &number in refused.iter().take(REFUSED) {
-            let outcome = self.fact(number).outcome;
-            let words = words::outcome(outcome);
-            out += &format!(
-                "  asked for and not done, {words} ({outcome}), by {}\n",
-                self.told(number)
-            );
-        }
-        if refused.len() > REFUSED {
-            out += &format!("  and asked for in vain {} times more\n", refused.len() - REFUSED);
-        }
-        out
-    }
-
-    // ---- for other programs ----
-
-    fn event_json(&self, number: u32, rights: bool) -> Json {
-        let fact = self.fact(number);
-        let trace = &self.traces[fact.trace];
-        let event = &trace.events[fact.index];
-        let mut fields = vec![("trace", trace.name.as_str().into())];
-        fields.extend(event_fields(fact.index + 1, event, &trace.known[fact.index], false));
-        fields.push(("outcome", fact.outcome.into()));
-        if rights {
-            fields.push(("connection", event.rights().into()));
-            fields.push(("level", (event.kind == REQUEST).then_some(fact.level).into()));
-            let offer = (fact.level < 3 && fact.offer > 0).then_some(fact.offer);
-            fields.push(("offer", offer.map(|offer| self.event_json(offer, false)).into()));
-        }
-        Json::Object(fields)
-    }
-
-    fn change_fields<K>(&self, change: &Change<K>, by: Vec<Json>) -> Vec<(&'static str, Json)> {
-        vec![
-            ("offset", change.at.into()),
-            ("length", change.length.into()),
-            ("what", change.lines.iter().map(String::as_str).collect::<Vec<_>>().into()),
-            ("location", (change.target != Target::Nothing).into()),
-            ("by", Json::List(by)),
-        ]
-    }
-
-    fn change_json(&self, change: &Change<u32>) -> Json {
-        let by = by_known(change).into_iter().map(|(mark, bytes)| {
-            Json::Object(vec![("bytes", bytes.into()), ("event", self.event_json(mark, true))])
-        });
-        Json::Object(self.change_fields(change, by.collect()))
-    }
-
-    fn other_json(&self, change: &Change<Other>) -> Json {
-        let by = by_known(change).into_iter().map(|(Other { mark, origin }, bytes)| {
-            let event = (mark > 0).then(|| self.event_json(mark, true));
-            let (word, given) = match origin {
-                Origin::Never => ("no event", None),
-                Origin::First => ("first", None),
-                Origin::Given(number) => ("event", Some(self.event_json(number, true))),
-            };
-            Json::Object(vec![
-                ("bytes", bytes.into()),
-                ("event", event.into()),
-                ("origin", word.into()),
-                ("given", given.into()),
-            ])
-        });
-        let mut fields = self.change_fields(change, by.collect());
-        let refused = self.refused(change).into_iter().map(|number| self.event_json(number, true));
-        fields.push(("refused", Json::List(refused.collect())));
-        Json::Object(fields)
-    }
-
-    pub fn json(&self, sheet: &str, beside: Option<(&str, &Final)>) -> Json {
-        let changed = self.changed();
-        let traces: Vec<&str> = self.traces.iter().map(|t| t.name.as_str()).collect();
-        let mut fields = vec![
-            ("sheet", sheet.into()),
-            ("traces", traces.into()),
-            ("events", self.facts.len().into()),
-            ("changes", Json::List(changed.iter().map(|c| self.change_json(c)).collect())),
-        ];
-        if let Some((name, beside)) = beside {
-            fields.push(("final", self.beside_json(name, beside)));
-        }
-        Json::Object(fields)
-    }
-
-    fn beside_json(&self, name: &str, beside: &Final) -> Json {
-        let (mut broken, mut lines, mut places) = (None, Vec::new(), Vec::new());
-        match beside {
-            Final::Places(all) => {
-                places = all.iter().map(|change| self.other_json(change)).collect();
-            }
-            Final::Layout(all) => lines = all.clone(),
-            Final::Broken(why, bytes) => {
-                broken = Some(why.as_str());
-                let byte =
-                    |(at, old, new): &(usize, u8, u8)| format!("byte {at}: {old:02x} → {new:02x}");
-                lines = bytes.iter().map(byte).collect();
-            }
-        }
-        Json::Object(vec![
-            ("dump", name.into()),
-            ("explained", beside.explained().into()),
-            ("earlier", (self.was && !beside.explained()).into()),
-            ("broken", broken.into()),
-            ("unexplained", Json::List(places)),
-            ("other", lines.into()),
-        ])
-    }
 }

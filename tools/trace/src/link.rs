@@ -5,7 +5,8 @@ use sheet::layout::word;
 
 use crate::archive::{self, Arrival, Link};
 
-const GROUP: u8 = 0x80;
+/// The bit of control 2 that says a group, or all.
+pub const GROUP: u8 = 0x80;
 /// Data in modes 0 to 3, of which the last is on a connection; then what opens and ends one.
 pub const CONNECTED: u8 = 3;
 pub const CONNECT: u8 = 4;
@@ -38,6 +39,9 @@ pub fn heard(link: Link, sheet: &[u8], frame: &[u8]) -> Arrival {
     }
     if f.control2 & GROUP == 0 && f.destination != word(sheet, 16) {
         return nothing(60);
+    }
+    if f.control2 & GROUP == 0 && f.source == word(sheet, 16) {
+        return nothing(65);
     }
     let place = place_of(&link, f.source);
     let (place, none) = match f.event {

@@ -11,13 +11,16 @@ use sheet::make::short;
 use sheet::program::{line, read, Program, Said};
 use sheet::show::plain;
 use trace::archive;
+use trace::decode;
 use trace::events;
+use trace::evidence;
 use trace::explain::Story;
 use trace::make;
 use trace::output;
 use trace::play::{event_fields, play, Trace};
 use trace::progress::Progress;
 use trace::recordings::{self, Form};
+use trace::sentences;
 use trace::text;
 use trace::times::{self, Known};
 use trace::words;
@@ -26,7 +29,7 @@ const PROGRAM: Program = Program { help: include_str!("../kelindap-trace.txt") }
 
 /// The longest recording or text that is read, and the longest side file of a trace.
 const LONGEST_RECORDING: u64 = 1 << 28;
-const LONGEST_TIMES: u64 = 1 << 17;
+const LONGEST_SIDE: u64 = 1 << 20;
 
 fn main() -> ExitCode {
     PROGRAM.run(|asked| match asked.command {
@@ -39,23 +42,14 @@ fn main() -> ExitCode {
 
 // ---- files ----
 
-/// A text of at most so many bytes, without the mark that some editors put in front.
+/// A text of at most so many bytes; a file of another kind is told as what it is.
 fn read_text(name: &str, most: u64, wanted: File) -> Result<String, String> {
     let bytes = read(name, most + 1)?;
     if bytes.len() as u64 > most {
         return Err(format!("{name}: more than {most} bytes"));
     }
-    let text = String::from_utf8(bytes).map_err(|why| {
-        if let Some(what) = kinds::other(why.as_bytes(), wanted) {
-            return format!("{name}: {what}");
-        }
-        let upto = &why.as_bytes()[..why.utf8_error().valid_up_to()];
-        let line = 1 + upto.iter().filter(|&&b| b == b'\n').count();
-        let start = upto.iter().rposition(|&b| b == b'\n').map_or(0, |at| at + 1);
-        let column = 1 + String::from_utf8_lossy(&upto[start..]).chars().count();
-        format!("{name}: line {line}, column {column}: a byte that is no text")
-    })?;
-    Ok(text.strip_prefix('\u{feff}').map(str::to_string).unwrap_or(text))
+    let head = bytes[..bytes.len().min(kinds::MOST as usize)].to_vec();
+    decode::text(bytes).map_err(|why| format!("{name}: {}", kinds::fault(&head, wanted, why)))
 }
 
 /// A sheet that the archive accepts.
@@ -71,24 +65,37 @@ fn load_sheet(name: &str) -> Result<Vec<u8>, String> {
     }
 }
 
-/// A trace that the archive accepts, with its side file if there is one. Of a longer file than any trace a byte more is read.
+/// A trace that the archive accepts, with its side files if there are any. Of a longer file than any trace a byte more is read.
 fn load_trace(name: &str) -> Result<Trace, String> {
     let bytes = read(name, events::LONGEST as u64 + 1)?;
     let events = events::read(&bytes)
         .map_err(|why| format!("{name}: {}", kinds::fault(&bytes, File::Trace, why)))?;
-    let side = times_of(name);
-    let known = if name != "-" && std::path::Path::new(&side).exists() {
-        let text = read_text(&side, LONGEST_TIMES, File::Times)?;
-        times::read(&text, &bytes, events.len()).map_err(|why| format!("{side}: {why}"))?
-    } else {
-        vec![Known::default(); events.len()]
-    };
-    Ok(Trace { name: plain(name), bytes, events, known })
+    let known = side(name, TIMES, |text| times::read(text, &bytes, events.len()))?;
+    let evidence = side(name, EVIDENCE, |text| evidence::read(text, &bytes, events.len()))?;
+    let known = known.unwrap_or_else(|| vec![Known::default(); events.len()]);
+    Ok(Trace { name: plain(name), bytes, events, known, evidence })
 }
 
-/// The name of the side file of a trace.
-fn times_of(name: &str) -> String {
-    format!("{name}.times")
+/// What a side file of a trace says, if it is there.
+fn side<T>(
+    name: &str,
+    ending: &str,
+    read: impl Fn(&str) -> Result<T, String>,
+) -> Result<Option<T>, String> {
+    let side = beside(name, ending);
+    if name == "-" || !std::path::Path::new(&side).exists() {
+        return Ok(None);
+    }
+    let text = read_text(&side, LONGEST_SIDE, File::Times)?;
+    read(&text).map(Some).map_err(|why| format!("{side}: {why}"))
+}
+
+/// The side files of a trace: what its name ends with.
+const TIMES: &str = "times";
+const EVIDENCE: &str = "evidence";
+
+fn beside(name: &str, ending: &str) -> String {
+    format!("{name}.{ending}")
 }
 
 // ---- the commands ----
@@ -96,10 +103,16 @@ fn times_of(name: &str) -> String {
 fn shown(asked: &Asked) -> Said {
     let (trace, keys) = (load_trace(asked.words[0])?, asked.flag("--keys"));
     if !asked.flag("--json") {
-        return Ok((text::text(&trace.events, &trace.known, keys).into_bytes(), 0));
+        let beside = |i: usize| trace.evidence.as_ref().and_then(|e| sentences::beside(e, i));
+        return Ok((text::text_with(&trace.events, &trace.known, keys, beside).into_bytes(), 0));
     }
     let events = trace.events.iter().zip(&trace.known).enumerate();
-    let events = events.map(|(i, (e, known))| Json::Object(event_fields(i + 1, e, known, keys)));
+    let events = events.map(|(i, (e, known))| {
+        let mut fields = event_fields(i + 1, e, known, keys);
+        let shows = trace.evidence.as_ref().and_then(|e| sentences::beside(e, i));
+        fields.push(("shows", shows.into()));
+        Json::Object(fields)
+    });
     let object = vec![
         ("trace", trace.name.as_str().into()),
         ("bytes", trace.bytes.len().into()),
@@ -134,6 +147,9 @@ fn made(asked: &Asked) -> Said {
         return Err("-: a trace is made in a file, with its times beside it".to_string());
     }
     let made = match (form, asked.option("--sheet")) {
+        (None, _) if asked.flag("--reverse") => {
+            return Err("--reverse: a text says its order by itself".to_string())
+        }
         (None, None) => {
             let text = read_text(recording, LONGEST_RECORDING, kind)?;
             let events = text::events(&text).map_err(|why| fault(&text, why))?;
@@ -142,9 +158,10 @@ fn made(asked: &Asked) -> Said {
         (Some(form), Some(sheet)) => {
             let sheet = load_sheet(sheet)?;
             let text = read_text(recording, LONGEST_RECORDING, kind)?;
-            let frames = recordings::read(form, &text).map_err(|why| fault(&text, why))?;
-            let mut progress = Progress::new("frames", frames.len());
-            make::from_frames(&frames, &sheet, &mut progress)
+            let read = recordings::read(form, &text, asked.flag("--reverse"))
+                .map_err(|why| fault(&text, why))?;
+            let mut progress = Progress::new("frames", read.frames.len());
+            make::from_frames(&read, &sheet, &mut progress)
         }
         (None, Some(_)) => return Err("--sheet: a text says the connections by itself".to_string()),
         (Some(_), None) => {
@@ -152,13 +169,15 @@ fn made(asked: &Asked) -> Said {
                 .to_string())
         }
     };
-    let parts = make::parts(&made.events);
+    let parts = make::parts(&made);
     let names = make::names(name, parts.len());
     let (mut files, mut stale) = (Vec::new(), Vec::new());
     for (part, name) in parts.iter().zip(&names) {
-        match &part.times {
-            Some(times) => files.push((times_of(name), times.clone().into_bytes())),
-            None => stale.push(times_of(name)),
+        for (ending, text) in [(TIMES, &part.times), (EVIDENCE, &part.evidence)] {
+            match text {
+                Some(text) => files.push((beside(name, ending), text.clone().into_bytes())),
+                None => stale.push(beside(name, ending)),
+            }
         }
         files.push((name.clone(), part.bytes.clone()));
     }
@@ -209,13 +228,13 @@ fn explained(asked: &Asked) -> Said {
     let mut progress = Progress::new("events", traces.iter().map(|t| t.events.len()).sum());
     let story = Story::new(&sheet, &traces, dump.as_deref(), &mut progress);
     drop(progress);
-    let beside = dump.map(|dump| story.beside(&dump));
-    let status = u8::from(beside.as_ref().is_some_and(|beside| !beside.explained()));
+    let other = dump.map(|dump| story.beside(&dump));
+    let status = u8::from(other.as_ref().is_some_and(|other| !other.explained()));
     let (name, last) = (plain(name), last.map(plain));
-    let pair = last.as_deref().zip(beside.as_ref());
+    let pair = last.as_deref().zip(other.as_ref());
     let said = match asked.flag("--json") {
         true => line(story.json(&name, pair)),
-        false => story.text(&name, pair).into_bytes(),
+        false => story.text(&name, pair, asked.flag("--all")).into_bytes(),
     };
     Ok((said, status))
 }

@@ -1,16 +1,18 @@
 //! The events of a recording: each frame is read by the archive, heard by the device that the sheet is, and played on it, so
-//! that address and sessions are at every frame what they were. What is no event is left out and counted.
+//! that address and sessions are at every frame what they were. What is no event is left out and counted; what the recording
+//! shows beside its events is evidence (hearing.rs).
 
-use std::collections::{BTreeMap, HashMap, VecDeque};
+use std::collections::{BTreeMap, BTreeSet, HashMap, VecDeque};
 
 use sheet::json::Json;
-use sheet::layout::word;
 
-use crate::archive::{self, Frame, Link};
-use crate::events::{self, Event, REQUEST};
-use crate::link::{place_of, CONNECT, CONNECTED, DISCONNECT};
+use crate::events::{self, Event};
+use crate::evidence::{self, Evidence};
+use crate::gaps;
+use crate::hearing::Hearing;
 use crate::progress::Progress;
-use crate::recordings::Recorded;
+use crate::recordings::{Recorded, Recording};
+use crate::sentences;
 use crate::times::Known;
 use crate::words;
 
@@ -20,6 +22,11 @@ pub enum Why {
     /// By the numbers of the archives.
     Number(u8),
     OfTheDevice,
+    /// A disconnect under the device's address that was not its own.
+    NotItsOwn,
+    OutOfTurn,
+    /// Data that the device did not acknowledge, nor take, as what follows it shows.
+    Untaken,
     Repeated,
     Confirmed,
     Unsent,
@@ -30,8 +37,12 @@ pub enum Why {
 impl Why {
     pub fn words(self) -> String {
         let words = match self {
+            Why::Number(ITSELF) => sentences::ITSELF,
             Why::Number(number) => words::outcome(number),
             Why::OfTheDevice => "sent by the device",
+            Why::NotItsOwn => sentences::NOT_ITS_OWN,
+            Why::OutOfTurn => "data out of turn",
+            Why::Untaken => "data that the device did not take",
             Why::Repeated => "a repetition",
             Why::Confirmed => "a request to send, told again by its confirmation",
             Why::Unsent => "not sent, by its confirmation",
@@ -52,21 +63,25 @@ impl Why {
     }
 }
 
-/// The events of a recording, and what was left out.
+/// The number of a frame under the device's own address to itself.
+pub const ITSELF: u8 = 65;
+
+/// The events of a recording, what was left out, and what the recording shows. A text has events alone.
 #[derive(Default)]
 pub struct Made {
     pub events: Vec<(Event, Known)>,
     pub frames: usize,
     pub left: BTreeMap<Why, usize>,
+    pub evidence: Option<Evidence>,
 }
 
 const REQ: u8 = 0x11;
-const IND: u8 = 0x29;
+pub const IND: u8 = 0x29;
 const CON: u8 = 0x2E;
 /// Bit 0 of control 1 of a confirmation: the frame was not sent.
 const FAILED: u8 = 1;
 /// Bit 5 of control 1 of an indication: clear in a repetition.
-const FIRST: u8 = 0x20;
+pub const FIRST: u8 = 0x20;
 
 /// A frame as the USB interface would hand it up, of one as on the wire: control, source, destination, address type with hop
 /// count and length, the TPDU, a sum over all that makes FFh.
@@ -95,6 +110,10 @@ fn sent(recorded: &[Recorded]) -> Vec<Result<Vec<u8>, Why>> {
     let mut all: Vec<Result<Vec<u8>, Why>> = Vec::with_capacity(recorded.len());
     let mut waiting: HashMap<Vec<u8>, VecDeque<usize>> = HashMap::new();
     for (i, r) in recorded.iter().enumerate() {
+        if gaps::damaged(r.status) {
+            all.push(Err(Why::Damaged));
+            continue;
+        }
         if r.wire {
             all.push(off_the_wire(&r.bytes));
             continue;
@@ -122,127 +141,70 @@ fn sent(recorded: &[Recorded]) -> Vec<Result<Vec<u8>, Why>> {
     all
 }
 
-/// The device while it hears the recording.
-struct Hearing {
-    sheet: Vec<u8>,
-    link: Link,
-    /// The sequence number of the last data on each connection.
-    sequence: [Option<u8>; 2],
-    /// The last frame, without the bit that tells a repetition.
-    last: Vec<u8>,
-}
-
-/// The events of a recording for the device with this sheet, which must be accepted.
-pub fn from_frames(recorded: &[Recorded], sheet: &[u8], progress: &mut Progress) -> Made {
-    let mut made = Made { frames: recorded.len(), ..Made::default() };
-    let link = Link { sessions: archive::fresh(), address: [0; 2] };
-    let mut device = Hearing { sheet: sheet.to_vec(), link, sequence: [None; 2], last: Vec::new() };
-    for (i, (frame, r)) in sent(recorded).into_iter().zip(recorded).enumerate() {
-        progress.at(i);
-        match frame.and_then(|bytes| device.hear(bytes)) {
-            Ok((event, from)) => {
-                made.events.push((event, Known { time: r.time.clone(), from: Some(from) }));
-            }
-            Err(why) => *made.left.entry(why).or_default() += 1,
-        }
+/// The events of a recording for the device with this sheet, which must be accepted. Data that the device did not acknowledge
+/// is an event, of which that is told; unless the rest of the recording does not fit to it, and does without it.
+pub fn from_frames(recording: &Recording, sheet: &[u8], progress: &mut Progress) -> Made {
+    let frames = sent(&recording.frames);
+    let (made, unacknowledged) = heard(recording, &frames, sheet, &BTreeSet::new(), progress);
+    let fits = |made: &Made| made.evidence.as_ref().is_some_and(Evidence::fits);
+    let shown = made.evidence.as_ref().is_some_and(|evidence| evidence.device);
+    if fits(&made) || !shown || unacknowledged.is_empty() {
+        return made;
+    }
+    let (other, _) = heard(recording, &frames, sheet, &unacknowledged, progress);
+    if fits(&other) {
+        return other;
     }
     made
 }
 
-impl Hearing {
-    /// The event of a frame and its sender, the event having happened.
-    fn hear(&mut self, frame: Vec<u8>) -> Result<(Event, u16), Why> {
-        let f = archive::frame_read(&frame);
-        if f.outcome != 0 {
-            return Err(Why::Number(f.outcome));
-        }
-        self.repeated(&f, &frame)?;
-        let event = self.event(&f, &frame)?;
-        self.happens(&event, f.source);
-        Ok((event, f.source))
-    }
-
-    /// A repetition on the wire says that it is one, and is what was sent last.
-    fn repeated(&mut self, f: &Frame, frame: &[u8]) -> Result<(), Why> {
-        let mut bare = frame.to_vec();
-        bare[f.info_offset + f.info_length] |= FIRST;
-        bare.drain(f.info_offset..f.info_offset + f.info_length);
-        bare[1] = 0;
-        let same = f.code == IND && f.control1 & FIRST == 0 && bare == self.last;
-        self.last = bare;
-        if same {
-            return Err(Why::Repeated);
-        }
-        Ok(())
-    }
-
-    fn event(&mut self, f: &Frame, frame: &[u8]) -> Result<Event, Why> {
-        if f.source == word(&self.sheet, 16) {
-            // the device has ended a connection, its time limit for one
-            return match place_of(&self.link, f.destination) {
-                Some(c) if f.event == DISCONNECT => Ok(Event::disconnect(c)),
-                _ => Err(Why::OfTheDevice),
-            };
-        }
-        let heard = archive::heard(self.link, &self.sheet, frame);
-        let apdu = || frame[f.tpdu_offset..f.tpdu_offset + f.tpdu_length].to_vec();
-        match heard.event {
-            CONNECT => Ok(Event::connect(heard.connection)),
-            DISCONNECT => Ok(Event::disconnect(heard.connection)),
-            CONNECTED => {
-                let last = &mut self.sequence[usize::from(heard.connection)];
-                let sequence = Some(heard.sequence);
-                if *last == sequence {
-                    return Err(Why::Repeated);
-                }
-                *last = sequence;
-                let (mode, connection) = (CONNECTED, heard.connection);
-                Ok(Event { kind: REQUEST, mode, connection, group: 0, apdu: apdu() })
-            }
-            mode if mode < CONNECTED => {
-                let group = if mode == 0 { heard.group } else { 0 };
-                Ok(Event { kind: REQUEST, mode, connection: 0, group, apdu: apdu() })
-            }
-            number => Err(Why::Number(number)),
+/// The events without data in these frames, and the frames of data that was not acknowledged.
+fn heard(
+    recording: &Recording,
+    frames: &[Result<Vec<u8>, Why>],
+    sheet: &[u8],
+    untaken: &BTreeSet<usize>,
+    progress: &mut Progress,
+) -> (Made, BTreeSet<usize>) {
+    let mut made = Made { frames: recording.frames.len(), ..Made::default() };
+    let mut device = Hearing::new(sheet, recording, frames, untaken);
+    for i in 0..frames.len() {
+        progress.at(i);
+        match device.hear(i) {
+            Ok((event, known)) => made.events.push((event, known)),
+            Err(why) => *made.left.entry(why).or_default() += 1,
         }
     }
-
-    fn happens(&mut self, event: &Event, source: u16) {
-        let trace = events::write(std::slice::from_ref(event));
-        let mut log = [0; 18];
-        let played =
-            archive::play(&mut self.link.sessions, &mut self.sheet, &trace, 0, 1, &mut log);
-        debug_assert_eq!(played, Ok(1));
-        let c = usize::from(event.connection);
-        if event.kind == events::CONNECT {
-            self.link.address[c] = source;
-            self.sequence[c] = None;
-        }
-    }
+    let unacknowledged = device.unacknowledged();
+    made.evidence = Some(device.finish());
+    (made, unacknowledged)
 }
 
 // ---- traces ----
 
-/// One trace of several that go on one after the other, with its side file if there is one.
+/// One trace of several that go on one after the other, with its side files if there are any.
 pub struct Part {
     pub bytes: Vec<u8>,
     pub events: usize,
     pub times: Option<String>,
+    pub evidence: Option<String>,
 }
 
-pub fn parts(events: &[(Event, Known)]) -> Vec<Part> {
-    let (all, known): (Vec<Event>, Vec<Known>) = events.iter().cloned().unzip();
-    let mut from = 0;
-    events::lengths(&all)
-        .into_iter()
-        .map(|length| {
-            let range = from..from + length;
-            from += length;
-            let bytes = events::write(&all[range.clone()]);
-            let times = crate::times::write(&bytes, &known[range]);
-            Part { bytes, events: length, times }
-        })
-        .collect()
+pub fn parts(made: &Made) -> Vec<Part> {
+    let (all, known): (Vec<Event>, Vec<Known>) = made.events.iter().cloned().unzip();
+    let lengths = events::lengths(&all);
+    let (mut from, n) = (0, lengths.len());
+    let parts = lengths.into_iter().enumerate().map(|(i, length)| {
+        let range = from..from + length;
+        from += length;
+        let bytes = events::write(&all[range.clone()]);
+        let times = crate::times::write(&bytes, &known[range.clone()]);
+        let mine = made.evidence.as_ref();
+        let mine = mine.map(|evidence| evidence.part(range.start, range.end, i + 1 == n));
+        let evidence = mine.map(|mine| evidence::write(&bytes, &mine));
+        Part { bytes, events: length, times, evidence }
+    });
+    parts.collect()
 }
 
 /// The names of so many traces: the name that was given, or with a number before its ending.
@@ -263,8 +225,13 @@ pub fn names(name: &str, parts: usize) -> Vec<String> {
 pub fn text(made: &Made, parts: &[Part], names: &[String]) -> String {
     let mut out = String::new();
     for (part, name) in parts.iter().zip(names) {
-        let times = if part.times.is_some() { ", and its times" } else { "" };
-        out += &format!("{name}: {}{times}\n", words::many(part.events, "event"));
+        let beside = match (&part.times, &part.evidence) {
+            (Some(_), Some(_)) => ", its times and its evidence",
+            (Some(_), None) => ", and its times",
+            (None, Some(_)) => ", and its evidence",
+            (None, None) => "",
+        };
+        out += &format!("{name}: {}{beside}\n", words::many(part.events, "event"));
     }
     if made.frames > 0 {
         let left: usize = made.left.values().sum();
@@ -273,7 +240,8 @@ pub fn text(made: &Made, parts: &[Part], names: &[String]) -> String {
     for (why, frames) in &made.left {
         out += &format!("{frames:>6}  {}\n", why.words());
     }
-    out
+    let shows = made.evidence.as_ref().map(sentences::shows).unwrap_or_default();
+    shows.into_iter().fold(out, |out, line| out + &line + "\n")
 }
 
 pub fn json(made: &Made, parts: &[Part], names: &[String]) -> Json {
@@ -282,6 +250,7 @@ pub fn json(made: &Made, parts: &[Part], names: &[String]) -> Json {
             ("trace", name.as_str().into()),
             ("events", part.events.into()),
             ("times", part.times.is_some().into()),
+            ("evidence", part.evidence.is_some().into()),
         ])
     });
     let left = made.left.iter().map(|(why, frames)| {
@@ -295,5 +264,6 @@ pub fn json(made: &Made, parts: &[Part], names: &[String]) -> Json {
         ("traces", Json::List(traces.collect())),
         ("frames", made.frames.into()),
         ("left_out", Json::List(left.collect())),
+        ("shows", made.evidence.as_ref().map(sentences::shows).unwrap_or_default().into()),
     ])
 }

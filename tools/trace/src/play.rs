@@ -5,16 +5,18 @@ use sheet::layout::individual_address;
 
 use crate::archive::{self, Sessions};
 use crate::events::Event;
+use crate::evidence::Evidence;
 use crate::text::{self, run};
 use crate::times::Known;
 use crate::words;
 
-/// A trace that is accepted, and what is known of its events.
+/// A trace that is accepted, what is known of its events, and what its recording shows of them, if it is of one.
 pub struct Trace {
     pub name: String,
     pub bytes: Vec<u8>,
     pub events: Vec<Event>,
     pub known: Vec<Known>,
+    pub evidence: Option<Evidence>,
 }
 
 /// A line of the log: outcome, count, and sixteen bytes.

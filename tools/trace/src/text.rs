@@ -69,11 +69,25 @@ pub fn meaning(e: &Event, keys: bool) -> Option<String> {
 
 /// The text of a trace.
 pub fn text(events: &[Event], known: &[Known], keys: bool) -> String {
+    text_with(events, known, keys, |_| None)
+}
+
+/// The same, with what a recording shows of an event beside it.
+pub fn text_with(
+    events: &[Event],
+    known: &[Known],
+    keys: bool,
+    beside: impl Fn(usize) -> Option<String>,
+) -> String {
     let mut out = String::new();
     for (i, e) in events.iter().enumerate() {
         let known = known.get(i).map_or(String::new(), Known::words);
-        let meaning = meaning(e, keys).map_or(String::new(), |words| format!("  # {words}"));
-        out += &format!("{} {}{}{known}{meaning}\n", i + 1, event(e, keys), unused(e));
+        let comment: Vec<String> = meaning(e, keys).into_iter().chain(beside(i)).collect();
+        let comment = match comment[..] {
+            [] => String::new(),
+            _ => format!("  # {}", comment.join("; ")),
+        };
+        out += &format!("{} {}{}{known}{comment}\n", i + 1, event(e, keys), unused(e));
     }
     out + END + "\n"
 }
@@ -156,7 +170,8 @@ fn up_to(field: &str, word: &str, most: u8) -> Read<u8> {
     number.filter(|&n| n <= most).ok_or(format!("{field} is \"{}\", not 0 to {most}", short(word)))
 }
 
-fn group(word: &str) -> Read<u16> {
+/// A group address in four hex digits.
+pub fn group(word: &str) -> Read<u16> {
     let digits = word.len() == 4 && word.bytes().all(|b| b.is_ascii_hexdigit());
     let number = if digits { u16::from_str_radix(word, 16).ok() } else { None };
     number.ok_or(format!("group is not 4 hex digits: \"{}\"", short(word)))

@@ -52,8 +52,13 @@ fn sum(bytes: &[u8]) -> u32 {
     })
 }
 
+/// What ties a side file to its trace.
+pub fn tied(trace: &[u8], events: usize) -> String {
+    format!("events={events} bytes={} sum={:08x}", trace.len(), sum(trace))
+}
+
 fn first_line(trace: &[u8], events: usize) -> String {
-    format!("times of a trace: events={events} bytes={} sum={:08x}", trace.len(), sum(trace))
+    format!("times of a trace: {}", tied(trace, events))
 }
 
 /// The side file of a trace; none if nothing is known.

@@ -13,8 +13,9 @@ pub struct Element<'a> {
 }
 
 impl Element<'_> {
+    /// The value of an attribute, whatever the case of its name.
     pub fn attribute(&self, name: &str) -> Option<&str> {
-        self.attributes.iter().find(|a| a.0 == name).map(|a| a.1.as_str())
+        self.attributes.iter().find(|a| a.0.eq_ignore_ascii_case(name)).map(|a| a.1.as_str())
     }
 
     /// A fault in it, with its place.
@@ -194,7 +195,7 @@ impl<'a> Reader<'a> {
                 return self.fault(&format!("more than {ATTRIBUTES} attributes"));
             }
             let attribute = local(self.name()?);
-            if attributes.iter().any(|a| a.0 == attribute) {
+            if attributes.iter().any(|a| a.0.eq_ignore_ascii_case(attribute)) {
                 return self.fault(&format!("{} is given twice", short(attribute)));
             }
             attributes.push((attribute, self.value()?));

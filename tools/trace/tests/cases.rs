@@ -1,6 +1,7 @@
 //! The worked trace by hand, each refusal with its place, each fault of a text and of a side file.
 
 use trace::events::{self, Event};
+use trace::evidence::{self, Evidence};
 use trace::text;
 use trace::times::{self, Known};
 
@@ -223,6 +224,73 @@ fn side_file() {
         assert!(written.contains(from), "{from}");
         let fault = times::read(&written.replacen(from, to, 1), &WORKED, 5).unwrap_err();
         assert_eq!(fault, what);
+    }
+}
+
+const EVIDENCE: &str = "evidence of a trace: form=1 events=5 bytes=44 sum=50756af2
+device heard=yes
+1 line=4
+2 line=5 data=yes taken=acknowledged answer=same
+3 line=7 data=yes taken=ended answer=absent silence=30
+4 line=8 taken=unwired
+5 line=9 data=yes taken=refused twofold=yes
+gap behind=0 line=3 why=stopped from=8:00 to=16:00
+gap behind=1 line=5 why=unconnected
+gap behind=2 line=5 why=lost
+gap behind=2 line=6 why=counted frames=3
+gap behind=5 line=9 why=unreadable
+loss behind=3 line=7 sign=turn times=1
+loss behind=4 line=8 sign=stray-receipt times=2
+parted behind=4 line=8 asked=no
+own behind=1 line=5 group=0801
+forged behind=2 line=6 what=itself
+forged behind=3 line=7 what=disconnect
+left behind=4 line=8 why=out-of-turn time=8:15 from=1.1.250 apdu=47d70133
+left behind=4 line=8 why=untaken apdu=-
+back behind=5 line=9 times=2
+end
+";
+
+/// Every line of evidence, there and back, and its faults.
+#[test]
+fn evidence_file() {
+    let read = |text: &str| evidence::read(text, &WORKED, 5);
+    let all = read(EVIDENCE).unwrap();
+    assert_eq!(evidence::write(&WORKED, &all), EVIDENCE);
+    assert!(!all.clean() && !all.fits() && all.device);
+    // the parts of several traces hold all of it, each once, and together again they are the whole
+    let parts = [all.part(0, 2, false), all.part(2, 5, true)];
+    let count = |e: &Evidence| {
+        [e.events.len(), e.gaps.len(), e.losses.len(), e.own.len(), e.forged.len(), e.left.len()]
+    };
+    assert_eq!(count(&parts[0]), [2, 4, 0, 1, 1, 0]);
+    assert_eq!(count(&parts[1]), [3, 1, 2, 0, 1, 2]);
+    assert_eq!(parts[1].behind(2).losses, all.losses);
+    assert_eq!(parts[1].losses[0].at.behind, 1);
+    let cases = [
+        ("form=1", "form=2", "line 1: form 2, and 1 is read"),
+        ("sum=50", "sum=51", "line 1: it is not of this trace"),
+        ("heard=yes", "heard=may", "line 2: heard is \"may\", not yes or no"),
+        ("1 line=4\n", "", "line 3: \"2\" stands where event 1 is due"),
+        ("1 line=4", "1 line=x", "line 3: line is no number: \"x\""),
+        ("1 line=4", "1 line=4 line=4", "line 3: line is given twice"),
+        ("1 line=4", "1 line=4 x=4", "line 3: \"x\" does not belong here"),
+        ("taken=ended", "taken=so", "line 5: taken is \"so\", which is not known"),
+        ("answer=same", "answer=so", "line 4: answer is \"so\", which is not known"),
+        ("why=lost", "why=so", "line 10: why is \"so\", which is not known"),
+        ("sign=turn", "sign=so", "line 13: sign is \"so\", which is not known"),
+        ("sign=turn times", "sign=turn time", "line 13: times is missing"),
+        ("what=itself", "what=so", "line 17: what is \"so\", which is not known"),
+        ("own behind=1", "own behind=6", "line 16: behind 6 of 5 events"),
+        ("group=0801", "group=1/0/1", "line 16: group is not 4 hex digits: \"1/0/1\""),
+        ("apdu=47d70133", "apdu=4", "line 19: apdu is not bytes in hex"),
+        ("end\n", "", "line 21: end is missing as the last line: it may have been cut off"),
+        ("end\n", "end\nend\n", "line 23: \"end\" stands behind the end"),
+        ("5 line=9 data=yes taken=refused twofold=yes\n", "", "line 21: event 5 is missing"),
+    ];
+    for (from, to, what) in cases {
+        assert!(EVIDENCE.contains(from), "{from}");
+        assert_eq!(read(&EVIDENCE.replacen(from, to, 1)).unwrap_err(), what);
     }
 }
 

@@ -79,6 +79,11 @@ fn shown() {
     let side = fs::read_to_string(room.join("laptop.trace.times")).unwrap();
     let indented: String = side.lines().take(3).map(|line| format!("    {line}\n")).collect();
     assert_eq!(indented, times);
+    let evidence = "    evidence of a trace: form=1 events=9 bytes=107 sum=e7d8485e\n    device heard=yes\n    1 line=4\n    2 line=5 data=yes taken=acknowledged answer=same\n";
+    assert!(DOCUMENT.contains(evidence));
+    let side = fs::read_to_string(room.join("laptop.trace.evidence")).unwrap();
+    let indented: String = side.lines().take(4).map(|line| format!("    {line}\n")).collect();
+    assert_eq!(indented, evidence);
     fs::write(room.join("bad.hex"), room::LAPTOP.replacen("0643d10022222222", "064g", 1)).unwrap();
     let fault = room::told(&room, &["make", "hex", "bad.hex", "x", "--sheet", "before"]).2;
     assert_eq!(fault, "trace: bad.hex: line 5, column 44: no hex digit\n");

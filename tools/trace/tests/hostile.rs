@@ -3,6 +3,7 @@
 
 use model::gen::Rng;
 use trace::events;
+use trace::evidence;
 use trace::recordings::{read, Form};
 use trace::text;
 use trace::times::{self, Known};
@@ -52,8 +53,8 @@ fn tried(seed: u64, text: &str, read: impl Fn(&str) -> Result<(), String>) -> us
 fn texts() {
     let forms = [(Form::Hex, HEX), (Form::Ets, ETS), (Form::Knxtool, KNXTOOL)];
     for (i, (form, recording)) in (0..).zip(forms) {
-        assert!(read(form, recording).is_ok());
-        let refused = tried(i * TRIES, recording, |text| read(form, text).map(drop));
+        assert!(read(form, recording, false).is_ok());
+        let refused = tried(i * TRIES, recording, |text| read(form, text, false).map(drop));
         assert!(refused > 500, "{form:?}: {refused}");
     }
     assert!(text::events(TEXT).is_ok());
@@ -64,6 +65,12 @@ fn texts() {
     let side = times::write(&trace, &[known]).unwrap();
     assert!(times::read(&side, &trace, 1).is_ok());
     assert!(tried(6 * TRIES, &side, |text| times::read(text, &trace, 1).map(drop)) > 500);
+    let line = "1 line=3 data=yes taken=ended answer=absent silence=30\ngap behind=1 line=4 why=counted frames=2\nleft behind=1 line=4 why=untaken time=8:15 apdu=0300\n";
+    let none = evidence::write(&trace, &evidence::Evidence::default());
+    let first = none.lines().next().unwrap().replace("events=0", "events=1");
+    let side = format!("{first}\ndevice heard=yes\n{line}end\n");
+    assert!(evidence::read(&side, &trace, 1).is_ok());
+    assert!(tried(7 * TRIES, &side, |text| evidence::read(text, &trace, 1).map(drop)) > 500);
 }
 
 #[test]

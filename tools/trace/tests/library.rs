@@ -61,7 +61,13 @@ fn as_the_proved_program() {
     let (sheet, bytes) = input.split_at(usize::from(input[4]) * 256 + usize::from(input[5]));
     let events = events::read(bytes).unwrap();
     let known = vec![Known::default(); events.len()];
-    let traces = [Trace { name: "stored".to_string(), bytes: bytes.to_vec(), events, known }];
+    let traces = [Trace {
+        name: "stored".to_string(),
+        bytes: bytes.to_vec(),
+        events,
+        known,
+        evidence: None,
+    }];
     let text = play(sheet, &traces).text(sheet, &traces, true);
     let bare = |line: &str| line.split("  #").next().unwrap().to_string() + "\n";
     assert_eq!(text.lines().map(bare).collect::<String>(), stored);

@@ -8,7 +8,7 @@ use std::process::{Command, Stdio};
 use room::{files, room, run, said, told};
 use trace::archive;
 
-const MADE: &str = "laptop.trace: 9 events, and its times
+const MADE: &str = "laptop.trace: 9 events, its times and its evidence
 left out: 16 of 25 frames
      4  an acknowledgement (45)
      3  for another device (60)
@@ -27,7 +27,14 @@ fn made_and_shown() {
     make(&room);
     assert_eq!(
         files(&room),
-        ["after", "before", "laptop.hex", "laptop.trace", "laptop.trace.times"]
+        [
+            "after",
+            "before",
+            "laptop.hex",
+            "laptop.trace",
+            "laptop.trace.evidence",
+            "laptop.trace.times"
+        ]
     );
     let (status, text, err) = told(&room, &["show", "--keys", "laptop.trace"]);
     assert_eq!((status, err.as_str(), text.lines().count()), (0, "", 10));
@@ -150,6 +157,7 @@ fn several() {
 programming mode: off → on
   by event 1 of day-3.trace: button on, at 1
   at the device itself; no level is asked for it
+    changed 1025 times: --all lists them
 ";
     assert_eq!(out, last);
     for name in ["day-1.trace", "day-1.trace.times", "day-3.trace.times"] {
@@ -180,7 +188,13 @@ fn forms() {
     )
     .unwrap();
     for form in ["ets", "knxtool"] {
-        let out = format!("{form}.trace: 1 event, and its times\nleft out: 0 of 1 frame\n");
+        let unwired = match form {
+            "knxtool" => "not acknowledged on the wire: event 1 (line 1)\n",
+            _ => "",
+        };
+        let out = format!(
+            "{form}.trace: 1 event, its times and its evidence\nleft out: 0 of 1 frame\n{unwired}"
+        );
         let words = ["make", form, form, &format!("{form}.trace"), "--sheet", "before"];
         assert_eq!(told(&room, &words), said(0, &out, ""));
     }
@@ -198,7 +212,7 @@ fn forms() {
     // of a quiet bus there is an export too
     fs::write(room.join("quiet"), "<CommunicationLog></CommunicationLog>").unwrap();
     let words = ["make", "ets", "quiet", "quiet.trace", "--sheet", "before"];
-    assert_eq!(told(&room, &words), said(0, "quiet.trace: 0 events\n", ""));
+    assert_eq!(told(&room, &words), said(0, "quiet.trace: 0 events, and its evidence\n", ""));
     let words = ["make", "hex", "laptop.hex", "x"];
     let missing = "trace: --sheet is missing: whose frames, by the device's sheet at their start\n";
     assert_eq!(told(&room, &words), said(2, "", missing));
@@ -259,7 +273,7 @@ sheet unchanged
     );
     let older = told(&room, &["explain", "before", "laptop.trace", "--final", "before"]);
     assert_eq!(older.0, 1);
-    assert!(older.1.contains("before: 2 bytes other than the events leave them, at 2 places; 0 of these no event gave\nall of it was so before: the dump may be older than the end of the traces\n"), "{}", older.1);
+    assert!(older.1.contains("before: 2 bytes other than the events leave them, at 2 places; 0 of these no event of the traces gave\nall of it was so before: the dump may be older than the end of the traces, or the device did not take the last events, or somebody wrote past it what was there before\n"), "{}", older.1);
 }
 
 /// A dump whose bytes were all so before, but at no time together: the switch is as event 5 left it, the height as before
@@ -274,7 +288,7 @@ fn never_at_once() {
     let words = ["explain", "before", "laptop.trace", "--final", "mixed"];
     let (status, out, _) = told(&room, &words);
     assert_eq!(status, 1);
-    let told_so = "mixed: 1 byte other than the events leave them, at 1 place; 0 of these no event gave
+    let told_so = "mixed: 1 byte other than the events leave them, at 1 place; 0 of these no event of the traces gave
 each byte was so before, but never all of them at once: somebody wrote past the device, or the traces lack events
 
 property 1/51 element 1: 1020 → 1000
@@ -309,8 +323,8 @@ connect connection=1
     let asked = |event: usize| {
         format!("  asked for and not done, refused (11), by event {event} of t: property_write object=1 id=51 n=1 s=1 data=0280\n")
     };
-    let told_so = "dump: 1 byte other than the events leave them, at 1 place; 0 of these no event gave
-all of it was so before: the dump may be older than the end of the traces
+    let told_so = "dump: 1 byte other than the events leave them, at 1 place; 0 of these no event of the traces gave
+all of it was so before: the dump may be older than the end of the traces, or the device did not take the last events, or somebody wrote past it what was there before
 
 property 1/51 element 1: 1011 → 1010
   byte 65: last changed by event 4 of t: property_write object=1 id=51 n=1 s=1 data=03f3; the dump has what it was by event 3 of t: property_write object=1 id=51 n=1 s=1 data=03f2
@@ -471,7 +485,7 @@ fn golden(room: &std::path::Path, name: &str, words: &[&str], status: i32) {
 fn json() {
     let room = room("json");
     let words = ["make", "hex", "laptop.hex", "laptop.trace", "--sheet", "before", "--json"];
-    let out = "{\"traces\":[{\"trace\":\"laptop.trace\",\"events\":9,\"times\":true}],\"frames\":25,\"left_out\":[{\"number\":45,\"why\":\"an acknowledgement (45)\",\"frames\":4},{\"number\":60,\"why\":\"for another device (60)\",\"frames\":3},{\"number\":null,\"why\":\"sent by the device\",\"frames\":8},{\"number\":null,\"why\":\"a repetition\",\"frames\":1}]}\n";
+    let out = "{\"traces\":[{\"trace\":\"laptop.trace\",\"events\":9,\"times\":true,\"evidence\":true}],\"frames\":25,\"left_out\":[{\"number\":45,\"why\":\"an acknowledgement (45)\",\"frames\":4},{\"number\":60,\"why\":\"for another device (60)\",\"frames\":3},{\"number\":null,\"why\":\"sent by the device\",\"frames\":8},{\"number\":null,\"why\":\"a repetition\",\"frames\":1}],\"shows\":[]}\n";
     assert_eq!(told(&room, &words), said(0, out, ""));
     golden(&room, "show.json", &["show", "--json", "laptop.trace"], 0);
     golden(&room, "show-keys.json", &["show", "--json", "--keys", "laptop.trace"], 0);

@@ -31,7 +31,7 @@ fn drawn(seed: u64) -> (Vec<u8>, Trace) {
         from: rng.chance(50).then(|| rng.word()),
     });
     let known = known.collect();
-    (sheet, Trace { name: format!("trace {seed}"), bytes, events, known })
+    (sheet, Trace { name: format!("trace {seed}"), bytes, events, known, evidence: None })
 }
 
 /// The text of a trace makes the same trace and the same side file.
@@ -153,10 +153,8 @@ fn played_and_explained() {
         let told: Vec<(usize, u32)> = changed.iter().flat_map(|c| c.bytes.clone()).collect();
         let mut told = told;
         told.sort_unstable();
-        let due: Vec<(usize, u32)> = (0..sheet.len())
-            .filter(|&p| first[p] != sheet[p])
-            .map(|p| (p, marks[p] as u32))
-            .collect();
+        let due: Vec<(usize, u32)> =
+            (0..sheet.len()).filter(|&p| marks[p] > 0).map(|p| (p, marks[p] as u32)).collect();
         assert_eq!(told, due, "seed {seed}");
         changed_bytes += due.len();
         assert!(story.beside(&sheet).explained(), "seed {seed}");
@@ -228,7 +226,7 @@ fn same_hearing() {
         let session =
             |rng: &mut Rng| archive::Session { open: rng.chance(60), level: rng.byte() & 3 };
         let sessions = archive::Sessions { of: [session(&mut rng), session(&mut rng)] };
-        let of = [0x11FA, 0x11FB, 0x11FC];
+        let of = [0x11FA, 0x11FB, 0x11FC, 0x1105];
         let link = Link { sessions, address: [rng.pick(&of), rng.pick(&of)] };
         let mut frame = vec![rng.pick(&[0x29, 0x29, 0x29, 0x11, 0x2B]), 0, 0xB0];
         frame.push(rng.pick(&[0x60, 0x60, 0xE0]));
@@ -248,10 +246,14 @@ fn same_hearing() {
         if rng.chance(5) {
             frame.truncate(rng.below(frame.len()));
         }
+        // to a group under the device's own address the tool has a rule of its own, and asks nobody
+        if frame.get(3) == Some(&0xE0) && frame.get(4..6) == Some(&[0x11, 0x05]) {
+            continue;
+        }
         let heard = archive::heard(link, &sheet, &frame);
         assert_eq!(heard, link::heard(link, &sheet, &frame), "seed {seed}");
         *met.entry(heard.event).or_insert(0) += 1;
     }
     let met: Vec<u8> = met.into_keys().collect();
-    assert_eq!(met, [0, 1, 2, 3, 4, 5, 40, 41, 43, 44, 45, 60, 61, 62, 63]);
+    assert_eq!(met, [0, 1, 2, 3, 4, 5, 40, 41, 43, 44, 45, 60, 61, 62, 63, 65]);
 }

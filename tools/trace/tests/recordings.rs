@@ -4,12 +4,20 @@ use trace::archive;
 use trace::events::Event;
 use trace::make::{from_frames, Made, Why};
 use trace::progress::Progress;
-use trace::recordings::{read, Form, Recorded};
+use trace::recordings::{self, Form, Recorded, Recording};
 use trace::text;
 
 fn recorded(line: usize, time: Option<&str>, digits: &str, wire: bool) -> Recorded {
     let bytes = text::bytes_of(digits).unwrap();
-    Recorded { line, time: time.map(str::to_string), bytes, wire }
+    Recorded { line, time: time.map(str::to_string), bytes, wire, status: None }
+}
+
+fn whole(form: Form, text: &str) -> Result<Recording, String> {
+    recordings::read(form, text, false)
+}
+
+fn read(form: Form, text: &str) -> Result<Vec<Recorded>, String> {
+    whole(form, text).map(|recording| recording.frames)
 }
 
 #[test]
@@ -58,7 +66,7 @@ const ETS: &str = "\u{feff}<?xml version=\"1.0\" encoding=\"utf-8\"?>
 fn ets_export() {
     let all = [
         recorded(5, Some("2026-03-02T07:15:01.0042Z"), "2900bce011140801010081", false),
-        recorded(6, None, "bc11140801e100812f", true),
+        Recorded { status: Some(4), ..recorded(6, None, "bc11140801e100812f", true) },
     ];
     assert_eq!(read(Form::Ets, ETS).unwrap(), all);
     let cases = [
@@ -145,7 +153,7 @@ L_Busmon: empty LPDU
         recorded(2, None, same, true),
         recorded(3, Some("2026-3-02T8:15:4"), "cc", true),
         recorded(4, None, same, true),
-        recorded(6, Some("0001a2b3"), same, true),
+        Recorded { status: Some(0), ..recorded(6, Some("0001a2b3"), same, true) },
     ];
     assert_eq!(read(Form::Knxtool, text).unwrap(), all);
     let cases = [
@@ -171,7 +179,7 @@ fn sheet() -> Vec<u8> {
 
 fn made_of(form: Form, text: &str) -> Made {
     assert_eq!(archive::check(&sheet()), 0);
-    from_frames(&read(form, text).unwrap(), &sheet(), &mut Progress::new("frames", 0))
+    from_frames(&whole(form, text).unwrap(), &sheet(), &mut Progress::new("frames", 0))
 }
 
 /// The events as text, without numbers and what is known, and what was left out.
@@ -345,7 +353,7 @@ fn repetitions() {
         asks(A, 0),           // the sequence number once more
         repeated(asks(A, 0)), // and said to be so
         asks(A, 1),
-        asks(A, 0), // sixteen later
+        asks(A, 0), // out of turn: 2 is due
         switched.clone(),
         again.clone(),    // of the same
         switched.clone(), // a second time
@@ -358,14 +366,13 @@ fn repetitions() {
         "connect connection=0".to_string(),
         on(0, 0),
         on(0, 1),
-        on(0, 0),
         on_group.clone(),
         on_group.clone(),
         "request mode=2 connection=0 group=0000 apdu=0300".to_string(),
         on_group,
     ];
     assert_eq!(events, expected);
-    assert_eq!(left, [(Why::Repeated, 4)]);
+    assert_eq!(left, [(Why::OutOfTurn, 1), (Why::Repeated, 4)]);
 }
 
 /// Of a request to send and its confirmation one counts, and the confirmation has the source.
@@ -427,10 +434,22 @@ B0 11 FA 11 05 60 80 50
 fn words() {
     let numbers = (0..=255).map(Why::Number).filter(|why| !why.words().starts_with("no outcome"));
     assert!(numbers.count() > 20);
-    let own =
-        [Why::OfTheDevice, Why::Repeated, Why::Confirmed, Why::Unsent, Why::Signal, Why::Damaged];
+    let own = [
+        Why::OfTheDevice,
+        Why::NotItsOwn,
+        Why::OutOfTurn,
+        Why::Untaken,
+        Why::Repeated,
+        Why::Confirmed,
+        Why::Unsent,
+        Why::Signal,
+        Why::Damaged,
+    ];
     let words = [
         "sent by the device",
+        "a disconnect under the device's address, behind which it went on: forged, or the recording is not whole",
+        "data out of turn",
+        "data that the device did not take",
         "a repetition",
         "a request to send, told again by its confirmation",
         "not sent, by its confirmation",
@@ -445,6 +464,7 @@ fn words() {
         (61, "connected data from nobody's partner (61)"),
         (62, "no place for a third partner (62)"),
         (63, "a disconnect from nobody's partner (63)"),
+        (65, "under the device's own address to itself: a forged sender or an echo (65)"),
     ];
     for (number, words) in words {
         assert_eq!(Why::Number(number).words(), words);

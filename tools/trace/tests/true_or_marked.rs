@@ -1,0 +1,521 @@
+//! What an explanation says is true or carries a mark: random events of two tools go through the transport of the example host,
+//! all frames are recorded, some are dropped, doubled, delayed, exchanged or cut out, the recording is explained, and what is
+//! said is held against what really happened.
+//!
+//! A statement without a mark that is not true may stand only if nobody could know better: if the recording is, frame by frame,
+//! the whole recording of another history, in which it is true. Such cases are counted apart. RECORDINGS in the environment
+//! says how many recordings there are, SEED which is the first.
+
+mod bus;
+
+use std::collections::BTreeMap;
+
+use bus::{destination, octet, source, to_one, Bus, Did, Host};
+use model::gen::Rng;
+use trace::evidence::{Evidence, Forged};
+use trace::explain::Story;
+use trace::gaps;
+use trace::make::{from_frames, parts, Made};
+use trace::play::{carried_out, Trace};
+use trace::progress::Progress;
+use trace::recordings::{Note, Recorded, Recording};
+
+const RECORDINGS: u64 = 10_000;
+
+fn asked(name: &str, or: u64) -> u64 {
+    std::env::var(name).ok().and_then(|word| word.parse().ok()).unwrap_or(or)
+}
+
+/// A frame of the recording: which it was on the bus, and when it says that it was.
+#[derive(Clone, Debug)]
+struct Heard {
+    id: usize,
+    millis: u64,
+}
+
+/// What was done to a recording.
+#[derive(Clone, Debug, Default)]
+struct Spoiled {
+    frames: Vec<Heard>,
+    notes: Vec<Note>,
+    what: Vec<String>,
+}
+
+fn spoil(rng: &mut Rng, bus: &Bus) -> Spoiled {
+    let frames = bus.log.iter().enumerate().map(|(id, s)| Heard { id, millis: s.millis });
+    let mut s = Spoiled { frames: frames.collect(), ..Spoiled::default() };
+    let times = rng.pick(&[0, 1, 1, 1, 2, 2, 3, 4]);
+    for _ in 0..times {
+        if s.frames.len() < 2 {
+            break;
+        }
+        let n = s.frames.len();
+        let at = rng.below(n);
+        match rng.below(12) {
+            0..=2 => {
+                s.what.push(format!("dropped {}", s.frames[at].id));
+                s.frames.remove(at);
+                moved(&mut s.notes, at, 1);
+            }
+            3 | 4 => {
+                let mut copy = s.frames[at].clone();
+                let to = (at + 1 + rng.below(6)).min(n);
+                s.what.push(format!("doubled {} to {to}", copy.id));
+                copy.millis = s.frames[to - 1].millis;
+                put_in(&mut s, to, copy);
+            }
+            5 | 6 => {
+                let mut frame = s.frames.remove(at);
+                moved(&mut s.notes, at, 1);
+                let to = (at + 1 + rng.below(8)).min(s.frames.len());
+                let timed = rng.chance(50);
+                s.what.push(format!("delayed {} to {to}, its time kept: {timed}", frame.id));
+                if !timed && to > 0 {
+                    frame.millis = s.frames[to - 1].millis;
+                }
+                put_in(&mut s, to, frame);
+            }
+            7 if at + 1 < n => {
+                s.what.push(format!("exchanged {} and the next", s.frames[at].id));
+                let (a, b) = (s.frames[at].millis, s.frames[at + 1].millis);
+                s.frames.swap(at, at + 1);
+                (s.frames[at].millis, s.frames[at + 1].millis) = (a, b);
+            }
+            8 => {
+                // the device's frames alone, or one kind of them
+                let acks = rng.chance(50);
+                s.what.push(format!("the device dropped, its acknowledgements alone: {acks}"));
+                let keep = |h: &Heard| {
+                    let bytes = &bus.log[h.id].bytes;
+                    let ack = octet(bytes) & 0xC3 == 0xC2;
+                    !bus::OWN.contains(&source(bytes)) || !to_one(bytes) || (acks && !ack)
+                };
+                if s.notes.is_empty() {
+                    s.frames.retain(keep);
+                }
+            }
+            _ => {
+                let length = rng.within(1, 14).min(n - at);
+                let told = rng.chance(50);
+                s.what.push(format!("cut {length} from {}, told: {told}", s.frames[at].id));
+                s.frames.drain(at..at + length);
+                moved(&mut s.notes, at, length);
+                if told {
+                    let gap = match rng.below(3) {
+                        0 => gaps::Why::Stopped(None, None),
+                        1 => gaps::Why::Lost,
+                        _ => gaps::Why::Counted(1),
+                    };
+                    s.notes.push(Note { before: at, line: 0, gap });
+                    s.notes.sort_by_key(|note| note.before);
+                }
+            }
+        }
+    }
+    s
+}
+
+fn put_in(s: &mut Spoiled, at: usize, frame: Heard) {
+    s.frames.insert(at, frame);
+    s.notes.iter_mut().filter(|note| note.before > at).for_each(|note| note.before += 1);
+}
+
+/// Notes behind frames that are taken out.
+fn moved(notes: &mut [Note], at: usize, length: usize) {
+    for note in notes.iter_mut().filter(|note| note.before > at) {
+        note.before = note.before.saturating_sub(length).max(at);
+    }
+}
+
+/// The time of a frame as a recorder writes it.
+fn time(millis: u64) -> String {
+    let (seconds, rest) = (millis / 1000, millis % 1000);
+    let (day, clock) = (seconds / 86_400, seconds % 86_400);
+    let (h, m, s) = (clock / 3600, clock / 60 % 60, clock % 60);
+    format!("2026-03-{:02}T{h:02}:{m:02}:{s:02}.{rest:03}", 2 + day)
+}
+
+fn recording(bus: &Bus, s: &Spoiled) -> Recording {
+    let frames: Vec<Recorded> = s
+        .frames
+        .iter()
+        .map(|h| Recorded {
+            line: h.id + 1,
+            time: Some(time(h.millis)),
+            bytes: bus.log[h.id].bytes.clone(),
+            wire: false,
+            status: None,
+        })
+        .collect();
+    let times = frames.iter().map(|f| f.time.as_deref());
+    let back = trace::order::judged(times).back;
+    Recording { frames, notes: s.notes.clone(), back }
+}
+
+/// What happened, frame by frame in their order: which frame of the bus it was, and what it did.
+type History = Vec<(usize, Option<Did>)>;
+
+/// What an explanation says of a byte: by which frame, at which level, by which offer, and what it is since.
+#[derive(Clone, Copy, Debug)]
+struct Claim {
+    byte: usize,
+    value: u8,
+    frame: usize,
+    level: Option<u8>,
+    offer: Option<usize>,
+}
+
+/// Whether a claim is true of a history.
+fn is_true(claim: &Claim, history: &History) -> bool {
+    let of = history.iter().rposition(|(id, did)| *id == claim.frame && did.is_some());
+    let Some(at) = of else { return false };
+    let Some(did) = &history[at].1 else { return false };
+    let gave = did.carried_out() && did.wrote(claim.byte) && did.after[claim.byte] == claim.value;
+    let since = history[at..].iter().filter_map(|(_, did)| did.as_ref());
+    let stands = since.into_iter().all(|did| did.after[claim.byte] == claim.value);
+    let level = claim.level.is_none_or(|level| did.level == level);
+    let offer = claim.offer.is_none_or(|offer| did.mark == offer);
+    gave && stands && level && offer
+}
+
+/// The history of which these frames are the whole recording, if there is one: all that was sent is there, but a request to
+/// which there is no reply was not received. Frames of others may stand between a request and the replies to it.
+fn another(bus: &Bus, s: &Spoiled) -> Option<History> {
+    let s = &without_repeats(bus, s);
+    let mut host = Host::new(&bus.first);
+    let mut history: History = Vec::new();
+    let bytes = |i: usize| &bus.log[s.frames[i].id].bytes;
+    let n = s.frames.len();
+    let mut used = vec![false; n];
+    for i in 0..n {
+        let (id, frame) = (bus.log[s.frames[i].id].same, bytes(i));
+        let own = host.own();
+        if used[i] {
+            continue;
+        }
+        if source(frame) == own {
+            if !to_one(frame) || destination(frame) == own {
+                continue;
+            }
+            match host.partner(destination(frame)) {
+                Some(_) if octet(frame) == 0x81 && goes_on(bus, s, i, own) => {}
+                Some(c) if octet(frame) == 0x81 => {
+                    let (did, _) = host.time_out(c, id);
+                    history.push((id, Some(did)));
+                }
+                _ => return None, // it is not due
+            }
+            continue;
+        }
+        let mut next = host.clone();
+        let (did, sent) = next.take(frame, id);
+        // those to whom a disconnect is sent may not have been recorded
+        let (ends, due): (Vec<_>, Vec<_>) = sent.into_iter().partition(|f| octet(f) == 0x81);
+        let partner = source(frame);
+        let number = octet(frame) >> 2 & 15;
+        let again = |j: usize| {
+            let f = bytes(j);
+            // data with neither this number nor the next does not end the wait for a reply
+            let other = octet(f) >> 2 & 15;
+            let old = octet(f) & 0xC0 == 0x40 && other != number && other != (number + 1) & 15;
+            source(f) == partner && to_one(f) && octet(f) & 0xC0 != 0xC0 && !old
+        };
+        let until = (i + 1..n).find(|&j| again(j)).unwrap_or(n);
+        let begins = |f: &[u8]| source(f) == partner && to_one(f) && octet(f) & 0xFE == 0x80;
+        let over = (i + 1..n).find(|&j| begins(bytes(j))).unwrap_or(n);
+        let mut met: Vec<usize> = Vec::new();
+        for f in &due {
+            let from = met.last().map_or(i, |&j| j) + 1;
+            // an answer on no connection comes when it comes, one on a connection while that lasts
+            let till = match octet(f) & 0xC0 {
+                0 => n,
+                0x40 => over,
+                _ => until,
+            };
+            match (from..till).find(|&j| !used[j] && bytes(j) == f) {
+                Some(j) => met.push(j),
+                None => break,
+            }
+        }
+        // at the end of the recording a reply may not have come yet
+        if met.len() < due.len() && !met.is_empty() && (until < n || over < n) {
+            return None;
+        }
+        if met.is_empty() && !due.is_empty() {
+            continue;
+        }
+        met.iter().for_each(|&j| used[j] = true);
+        for f in &ends {
+            let till = (i + 1..n).find(|&j| source(bytes(j)) == destination(f)).unwrap_or(n);
+            if let Some(j) = (i + 1..till).find(|&j| !used[j] && bytes(j) == f) {
+                used[j] = true;
+            }
+        }
+        host = next;
+        history.push((id, did));
+    }
+    Some(history)
+}
+
+/// Without answers on a connection that are sent once more, as a device does that has no receipt, and without the second
+/// acknowledgement of data that was sent twice, whatever is in between.
+fn without_repeats(bus: &Bus, s: &Spoiled) -> Spoiled {
+    let mut last: BTreeMap<u16, Vec<u8>> = BTreeMap::new();
+    // of each partner the number of its last data, how often it was sent, and how often acknowledged
+    let mut sent: BTreeMap<u16, (u8, usize, usize)> = BTreeMap::new();
+    let mut less = s.clone();
+    less.frames.retain(|h| {
+        let f = &bus.log[h.id].bytes;
+        let (from, to, octet) = (source(f), destination(f), octet(f));
+        let number = octet >> 2 & 15;
+        if !to_one(f) {
+            return true;
+        }
+        match (bus::OWN.contains(&from), octet & 0xC3) {
+            (false, 0x80) => {
+                last.remove(&from);
+                sent.remove(&from);
+                true
+            }
+            (false, 0x40..=0x43) => {
+                let data = sent.entry(from).or_insert((number, 0, 0));
+                *data =
+                    if data.0 == number { (number, data.1 + 1, data.2) } else { (number, 1, 0) };
+                true
+            }
+            (true, 0x40..=0x43) => last.insert(to, f.clone()).as_ref() != Some(f),
+            (true, 0xC2) => match sent.get_mut(&to).filter(|data| data.0 == number) {
+                Some(data) => {
+                    data.2 += 1;
+                    data.2 == 1 || data.2 > data.1
+                }
+                None => true,
+            },
+            _ => true,
+        }
+    });
+    less
+}
+
+/// Whether the device acknowledges a partner behind a disconnect under its address, before that one connects or disconnects.
+fn goes_on(bus: &Bus, s: &Spoiled, at: usize, own: u16) -> bool {
+    let partner = destination(&bus.log[s.frames[at].id].bytes);
+    for h in &s.frames[at + 1..] {
+        let f = &bus.log[h.id].bytes;
+        if !to_one(f) {
+            continue;
+        }
+        let (from, to, octet) = (source(f), destination(f), octet(f));
+        if from == partner && (octet == 0x80 || (to == own && octet == 0x81)) {
+            return false;
+        }
+        if from == own && to == partner && octet & 0xC3 == 0xC2 {
+            return true;
+        }
+    }
+    false
+}
+
+#[derive(Default, Debug)]
+struct Counts {
+    said: usize,
+    marked: usize,
+    marked_and_true: usize,
+    unknowable: usize,
+    refusals: usize,
+    by_mark: BTreeMap<&'static str, usize>,
+}
+
+/// Explains a recording and holds what is said to what happened; what is wrong, if anything.
+fn held(bus: &Bus, s: &Spoiled, counts: &mut Counts) -> Result<(), String> {
+    let recording = recording(bus, s);
+    let made = from_frames(&recording, &bus.first, &mut Progress::new("frames", 0));
+    let traces = traces(&made);
+    let evidence = made.evidence.as_ref().unwrap();
+    let story = Story::new(&bus.first, &traces, None, &mut Progress::new("events", 0));
+    // what happened up to the last frame that was recorded
+    let upto = s.frames.iter().map(|h| h.id + 1).max().unwrap_or(0);
+    let truth: History = bus.log[..upto].iter().map(|s| (s.same, s.did.clone())).collect();
+    let mut other: Option<Option<History>> = None;
+    let mut could_be = |claim: &dyn Fn(&History) -> bool| {
+        let other = other.get_or_insert_with(|| another(bus, s));
+        other.as_ref().is_some_and(claim)
+    };
+    let frame_of = |event: u32| bus.log[evidence.events[event as usize - 1].line - 1].same;
+    for account in story.accounts() {
+        for (event, bytes) in &account.by {
+            let rests = story.rests(*event);
+            let fact = story.fact(*event);
+            for &byte in bytes {
+                let claim = Claim {
+                    byte,
+                    value: story.last()[byte],
+                    frame: frame_of(*event),
+                    level: rests.connected.then_some(fact.level),
+                    offer: (rests.offer > 0).then(|| frame_of(rests.offer)),
+                };
+                counts.said += 1;
+                let right = is_true(&claim, &truth);
+                if let Some(doubt) = account.doubts.first() {
+                    counts.marked += 1;
+                    counts.marked_and_true += usize::from(right);
+                    *counts.by_mark.entry(trace::sentences::kind(doubt)).or_default() += 1;
+                } else if !right {
+                    if !could_be(&|history| is_true(&claim, history)) {
+                        return Err(format!("{claim:?} is not true, and not marked"));
+                    }
+                    counts.unknowable += 1;
+                }
+            }
+        }
+    }
+    // what is said not to have been done was not done
+    for event in 1..=story.facts.len() as u32 {
+        let rests = story.rests(event);
+        if carried_out(story.fact(event).outcome) {
+            continue;
+        }
+        let (otherwise, doubts) = story.refusal(event);
+        if otherwise || !doubts.is_empty() {
+            continue;
+        }
+        counts.refusals += 1;
+        let frame = frame_of(rests.event);
+        let refused = |history: &History| {
+            let of = history.iter().rfind(|(id, _)| *id == frame);
+            of.is_some_and(|(_, did)| did.as_ref().is_none_or(|did| !did.carried_out()))
+        };
+        if !refused(&truth) && !could_be(&refused) {
+            return Err(format!("frame {frame} was done, and is told as refused"));
+        }
+    }
+    honest(bus, s, evidence)
+}
+
+/// What is told of forged frames is so: a disconnect was forged, or the recording is not whole.
+fn honest(bus: &Bus, s: &Spoiled, evidence: &Evidence) -> Result<(), String> {
+    for (at, forged) in &evidence.forged {
+        let sent = &bus.log[at.line - 1];
+        let own = match forged {
+            Forged::Itself => source(&sent.bytes) != destination(&sent.bytes),
+            Forged::Disconnect => !sent.forged && s.what.is_empty(),
+        };
+        if own {
+            return Err(format!("frame {} is the device's own", at.line - 1));
+        }
+    }
+    Ok(())
+}
+
+fn traces(made: &Made) -> Vec<Trace> {
+    let mut from = 0;
+    let parts = parts(made);
+    let last = parts.len() - 1;
+    parts
+        .into_iter()
+        .enumerate()
+        .map(|(i, part)| {
+            let (events, known) = made.events[from..from + part.events].iter().cloned().unzip();
+            let evidence = made.evidence.as_ref().unwrap();
+            let evidence = evidence.part(from, from + part.events, i == last);
+            from += part.events;
+            let name = format!("part {i}");
+            Trace { name, bytes: part.bytes, events, known, evidence: Some(evidence) }
+        })
+        .collect()
+}
+
+fn drawn(seed: u64, deaf: bool) -> (Bus, Spoiled) {
+    let mut rng = Rng::new(!seed);
+    let mut bus = Bus::new(seed, deaf);
+    let steps = rng.within(4, 26);
+    for _ in 0..steps {
+        bus.step();
+    }
+    let spoiled = spoil(&mut rng, &bus);
+    (bus, spoiled)
+}
+
+/// The fewest frames of a recording that still go wrong.
+fn shrunk(bus: &Bus, mut s: Spoiled) -> Spoiled {
+    let mut at = 0;
+    while at < s.frames.len() {
+        let mut less = s.clone();
+        less.frames.remove(at);
+        moved(&mut less.notes, at, 1);
+        match held(bus, &less, &mut Counts::default()) {
+            Err(_) => s = less,
+            Ok(()) => at += 1,
+        }
+    }
+    s
+}
+
+fn shown(bus: &Bus, s: &Spoiled) -> String {
+    let line = |(i, h): (usize, &Heard)| {
+        let sent = &bus.log[h.id];
+        let did = sent.did.as_ref().map_or(String::new(), |d| {
+            format!("  # outcome {} at level {} mark {}", d.outcome, d.level, d.mark)
+        });
+        let notes = s.notes.iter().filter(|note| note.before == i);
+        let notes: String = notes.map(|note| format!("# gap {:?}\n", note.gap)).collect();
+        format!("{notes}{} {}{did} # {}", time(h.millis), sheet::layout::hex(&sent.bytes), h.id)
+    };
+    s.frames.iter().enumerate().map(line).collect::<Vec<_>>().join("\n")
+}
+
+#[test]
+fn true_or_marked() {
+    let mut counts = Counts::default();
+    let first = asked("SEED", 0);
+    let recordings = asked("RECORDINGS", RECORDINGS);
+    for seed in first..first + recordings {
+        let (bus, spoiled) = drawn(seed, seed.is_multiple_of(3));
+        if let Err(why) = held(&bus, &spoiled, &mut counts) {
+            let less = shrunk(&bus, spoiled.clone());
+            let still = held(&bus, &less, &mut Counts::default()).unwrap_err();
+            panic!(
+                "seed {seed}: {why}\n{:?}\nshrunk: {still}\n{}\nwhole:\n{}",
+                spoiled.what,
+                shown(&bus, &less),
+                shown(&bus, &spoiled)
+            );
+        }
+    }
+    println!("{recordings} recordings: {counts:?}, 0 wrong");
+    assert!(counts.said > 2 * recordings as usize, "{counts:?}");
+    assert!(counts.marked > recordings as usize / 4, "{counts:?}");
+}
+
+/// A recording that nobody touched is explained without a doubt, but for data that the device did not receive.
+#[test]
+fn untouched() {
+    let mut marks: BTreeMap<String, usize> = BTreeMap::new();
+    for seed in 0..asked("RECORDINGS", RECORDINGS) / 4 {
+        let (bus, _) = drawn(seed, false);
+        let frames = bus.log.iter().enumerate().map(|(id, s)| Heard { id, millis: s.millis });
+        let whole = Spoiled { frames: frames.collect(), ..Spoiled::default() };
+        let mut counts = Counts::default();
+        let made = from_frames(&recording(&bus, &whole), &bus.first, &mut Progress::new("", 0));
+        let evidence = made.evidence.as_ref().unwrap();
+        // a disconnect that somebody forged may be the device's, for all that is seen, until it goes on
+        let forged = bus.log.iter().any(|s| s.forged && octet(&s.bytes) == 0x81);
+        if !evidence.device || forged {
+            held(&bus, &whole, &mut counts).unwrap_or_else(|why| panic!("seed {seed}: {why}"));
+            continue;
+        }
+        let all = || shown(&bus, &whole);
+        assert!(
+            evidence.clean(),
+            "seed {seed}: {:?}\n{}",
+            trace::sentences::shows(evidence),
+            all()
+        );
+        held(&bus, &whole, &mut counts).unwrap_or_else(|why| panic!("seed {seed}: {why}"));
+        assert_eq!(counts.unknowable, 0, "seed {seed}");
+        for (mark, n) in counts.by_mark {
+            *marks.entry(mark.to_string()).or_default() += n;
+        }
+    }
+    println!("{marks:?}");
+}
