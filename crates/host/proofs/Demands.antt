@@ -12,7 +12,7 @@ use Rattle.device.specs.Demand2.{effectSeen}
 use Rattle.device.specs.declared.Sessions.{Sessions}
 use Rattle.device.proofs.promises.Called.{call-leaves, call-due, call-only}
 use Rattle.device.proofs.promises.Parts.{kept-outside, none-refused, first-within, second-within}
-use Rattle.host.specs.Calls.{gave}
+use Rattle.host.specs.Calls.{runsOf, gave}
 use Rattle.host.specs.declared.Reply.{Reply}
 
 -- sessions q, sheet s and buffer o were lent with a request a on connection c; r came back, and q′, s′ and o′ are what they then hold
@@ -34,11 +34,11 @@ module _ (q : Sessions) (mode c group : ℕ) (a s o : List ℕ) (r : Reply) (q�
   request-only = call-only q mode c group a s o (gave r q′ .done) s′ o′ (call .call)
 
   -- EVERY BYTE OUTSIDE THE PARTS SAID TO HAVE CHANGED IS AS FOUND
-  pub request-outside : (i : ℕ) → Outside (r .changed) i → getD s′ i 0 ≡ getD s i 0
+  pub request-outside : (i : ℕ) → Outside (runsOf (r .changed)) i → getD s′ i 0 ≡ getD s i 0
   request-outside = kept-outside q mode c group a s o (gave r q′) s′ o′ call
 
   -- WHAT WAS REFUSED HAS NONE
-  pub request-none : 2 ≤ r .outcome → r .changed ≡ none
+  pub request-none : 2 ≤ r .outcome → runsOf (r .changed) ≡ none
   request-none = none-refused q mode c group a s o (gave r q′) s′ o′ call
 
   -- BOTH LIE IN THE SHEET

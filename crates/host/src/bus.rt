@@ -8,10 +8,10 @@ ghost use Rattle.host.specs.Bus.{refuses, senderOf, arrivalBy, arrivalOf
 use crate::Answered;
 use crate::Arrival;
 use crate::Handed;
+use crate::widened;
 use cemi::Frame;
 use cemi::Got;
 use link::Arrived;
-use crate::wide;
 use link::Link;
 
 // Who sent a frame, its sequence number, and whether it is a negative acknowledgement.
@@ -103,14 +103,16 @@ fn served(link: Link, sheet: &mut [u8], frame: &[u8], out: &mut [u8], sequence: 
     ensures { λ r. ⌜ ServedFrame link sequence (now (frame .entry)) (now (sheet .entry)) (now (out .entry)) (handedOn r) (now (sheet .exit)) (now (out .exit)) ⌝ }
 {
     let d = link::serve(link, sequence, frame, sheet, out);
-    let changed = wide(d.changed);
+    let next = d.link;
+    let runs = d.changed;
+    let changed = widened(runs);
     Handed {
         number: d.number,
         outcome: d.outcome,
         connection: d.connection,
         count: d.count,
         changed,
-        link: d.link,
+        link: next,
     }
 }
 

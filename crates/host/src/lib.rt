@@ -83,7 +83,7 @@ pub struct Handed {
 }
 
 // Runs in numbers of C's own width.
-pub fn wide(c: Changed) -> Wide
+pub fn widened(c: Changed) -> Wide
     ensures { λ r. ⌜ c ≡ runsOf r ⌝ }
 {
     let one = c.first;
@@ -151,7 +151,8 @@ fn request(
     let made = device::request(sessions, mode, connection, group, apdu, sheet, answer);
     let d = made.done;
     let next = d.sessions;
-    let changed = wide(made.changed);
+    let runs = made.changed;
+    let changed = widened(runs);
     Replied {
         outcome: d.outcome,
         count: d.count as u8,
