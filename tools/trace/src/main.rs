@@ -27,7 +27,7 @@ const PROGRAM: Program = Program { name: "trace", help: include_str!("../kelinda
 
 /// The longest recording or text that is read, and the longest side file of a trace.
 const LONGEST_RECORDING: u64 = 1 << 28;
-const LONGEST_SIDE: u64 = 1 << 20;
+const LONGEST_SIDE: u64 = 1 << 24;
 
 fn main() -> ExitCode {
     let words = program::words();
