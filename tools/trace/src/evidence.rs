@@ -191,6 +191,34 @@ impl Evidence {
         }
     }
 
+    /// A gap; several behind one event for one reason are one.
+    pub fn gap(&mut self, at: At, why: gaps::Why) {
+        let last = self.gaps.last_mut().filter(|gap| gap.at.behind == at.behind);
+        match (last.map(|gap| &mut gap.why), why) {
+            (Some(gaps::Why::Stopped(_, until)), gaps::Why::Stopped(_, to)) => *until = to,
+            (Some(last), why) if *last == why => {}
+            (_, why) => self.gaps.push(Gap { at, why }),
+        }
+    }
+
+    /// A frame under the device's own address; several behind one event to one group are one, the last.
+    pub fn own_frame(&mut self, at: At, group: u16) {
+        let same = |own: &&mut Own| own.at.behind == at.behind && own.group == group;
+        let own = self.own.iter_mut().rev().take_while(|own| own.at.behind == at.behind);
+        match own.into_iter().find(same) {
+            Some(own) => own.at = at,
+            None => self.own.push(Own { at, group }),
+        }
+    }
+
+    /// A forged frame; several of a kind behind one event are one.
+    pub fn forged_frame(&mut self, at: At, forged: Forged) {
+        let mut there = self.forged.iter().rev().take(2);
+        if !there.any(|(last, kind)| last.behind == at.behind && *kind == forged) {
+            self.forged.push((at, forged));
+        }
+    }
+
     pub fn left_out(&mut self, left: Left) {
         if self.left.len() < MOST_LEFT {
             self.left.push(left);

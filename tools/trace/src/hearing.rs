@@ -3,13 +3,13 @@
 
 use std::collections::{BTreeSet, HashMap};
 
-use sheet::layout::word;
+use sheet::layout::{entries, word, Kind};
 
 use crate::answers::{Answers, Compared, To};
 use crate::archive::{self, Frame, Link};
 use crate::events::{self, Event, REQUEST};
 use crate::evidence::Why as LeftWhy;
-use crate::evidence::{Answer, At, Evidence, Forged, Gap, Left, Own, Parted, Seen, Sign, Taken};
+use crate::evidence::{Answer, At, Evidence, Forged, Left, Parted, Seen, Sign, Taken};
 use crate::gaps;
 use crate::link::{place_of, CONNECT, CONNECTED, DISCONNECT, GROUP};
 use crate::make::{Why, FIRST, IND, ITSELF};
@@ -34,6 +34,10 @@ const T_NAK: u8 = 0xC3;
 
 /// The acknowledgement of a frame on the wire.
 const L_ACK: u8 = 0xCC;
+
+/// So many frames behind a gap may be the rest of an exchange: acknowledgement, answer and receipt, each with its
+/// acknowledgement on the wire.
+const REST: usize = 6;
 
 /// Transport ends a connection whose partner is silent for longer, in seconds.
 const LIMIT: u64 = 6;
@@ -67,9 +71,12 @@ pub struct Hearing<'a> {
     recording: &'a Recording,
     /// The frames that an address sent, or that were sent to it alone.
     parties: HashMap<u16, Vec<usize>>,
-    /// Gaps that are told, of which so many are passed.
+    /// Gaps that are told, of which so many are passed, and the frame behind the last.
     notes: usize,
+    gap: Option<usize>,
     sheet: Vec<u8>,
+    /// The addresses that the device had before.
+    former: BTreeSet<u16>,
     link: Link,
     transport: Transport,
     answers: Answers,
@@ -139,7 +146,9 @@ impl<'a> Hearing<'a> {
             recording,
             parties,
             notes: 0,
+            gap: None,
             sheet: sheet.to_vec(),
+            former: BTreeSet::new(),
             link: Link { sessions: archive::fresh(), address: [0; 2] },
             transport: Transport::default(),
             answers: Answers::default(),
@@ -180,7 +189,7 @@ impl<'a> Hearing<'a> {
             Ok(bytes) => bytes,
             Err(why) => {
                 if *why == Why::Damaged && !self.repeated_next(i) {
-                    self.gap(self.at(i), gaps::Why::Unreadable);
+                    self.gap(i, self.at(i), gaps::Why::Unreadable);
                 }
                 return Err(*why);
             }
@@ -188,19 +197,15 @@ impl<'a> Hearing<'a> {
         let f = archive::frame_read(bytes);
         if f.outcome != 0 {
             if f.outcome == SHORT || f.outcome == LENGTH {
-                self.gap(self.at(i), gaps::Why::Unreadable);
+                self.gap(i, self.at(i), gaps::Why::Unreadable);
             }
             return Err(Why::Number(f.outcome));
         }
         let r = Read { i, f, bytes };
         self.repeated(&r)?;
-        let event = match f.source == self.own() {
+        let event = match self.may_be_its_own(&r) {
             true => self.by_device(&r)?,
-            false => {
-                let event = self.by_other(&r);
-                self.transport.hears(f.source);
-                event?
-            }
+            false => self.by_other(&r)?,
         };
         let known = self.known(&r);
         Ok((event, known))
@@ -211,6 +216,11 @@ impl<'a> Hearing<'a> {
         let events = self.evidence.events.iter().zip(&self.of);
         let waits = |seen: &Seen| seen.data && seen.taken != Taken::Acknowledged;
         events.filter(|(seen, _)| waits(seen)).map(|(_, &i)| i).collect()
+    }
+
+    /// Under the device's address; or to a group or to all under one that it had before, for that may be recorded late.
+    fn may_be_its_own(&self, r: &Read) -> bool {
+        r.f.source == self.own() || (!r.to_one() && self.former.contains(&r.f.source))
     }
 
     /// What the whole recording shows.
@@ -248,13 +258,13 @@ impl<'a> Hearing<'a> {
         {
             self.notes += 1;
             let at = At { behind: self.evidence.events.len(), line: note.line };
-            self.gap(at, note.gap.clone());
+            self.gap(i, at, note.gap.clone());
         }
     }
 
-    fn gap(&mut self, at: At, why: gaps::Why) {
-        self.transport.gap();
-        self.evidence.gaps.push(Gap { at, why });
+    fn gap(&mut self, i: usize, at: At, why: gaps::Why) {
+        self.gap = Some(i);
+        self.evidence.gap(at, why);
     }
 
     fn loss(&mut self, r: &Read, sign: Sign) {
@@ -262,9 +272,14 @@ impl<'a> Hearing<'a> {
         self.evidence.loss(at, sign);
     }
 
-    /// A sign that is no more than the gap that was told, if the partner has not connected since.
-    fn loss_of(&mut self, r: &Read, partner: u16, sign: Sign) {
-        if self.transport.known(partner) {
+    /// The rest of an exchange whose begin was in a gap that is told: no sign of more.
+    fn is_rest(&self, r: &Read) -> bool {
+        self.gap.is_some_and(|gap| r.i < gap + REST)
+    }
+
+    /// A sign, unless it is no more than such a rest.
+    fn loss_unless_rest(&mut self, r: &Read, sign: Sign) {
+        if !self.is_rest(r) {
             self.loss(r, sign);
         }
     }
@@ -387,7 +402,7 @@ impl<'a> Hearing<'a> {
             ACKNOWLEDGED => {
                 let due = self.transport.was_due(partner, r.number());
                 if place_of(&self.link, partner).is_some() && !due {
-                    self.loss_of(r, partner, Sign::StrayReceipt);
+                    self.loss_unless_rest(r, Sign::StrayReceipt);
                 }
                 self.heard_now(r);
             }
@@ -398,7 +413,7 @@ impl<'a> Hearing<'a> {
             }
             NO_PLACE => self.transport.turns_away(partner),
             NO_PARTNER if !self.transport.ended(partner) => {
-                self.loss_of(r, partner, Sign::StrayDisconnect);
+                self.loss_unless_rest(r, Sign::StrayDisconnect);
             }
             _ => {}
         }
@@ -431,7 +446,7 @@ impl<'a> Hearing<'a> {
         if r.to_one() && to == self.own() {
             let number = archive::heard(self.link, &self.sheet, r.bytes).event.max(ITSELF);
             let at = self.at(r.i);
-            self.evidence.forged.push((at, Forged::Itself));
+            self.evidence.forged_frame(at, Forged::Itself);
             if r.f.event <= CONNECTED {
                 self.left_out(r, LeftWhy::Itself);
             }
@@ -457,14 +472,14 @@ impl<'a> Hearing<'a> {
         let partner = r.f.destination;
         let Some(connection) = place_of(&self.link, partner) else {
             if !self.transport.owed(partner) {
-                self.loss_of(r, partner, Sign::StrayEnd);
+                self.loss_unless_rest(r, Sign::StrayEnd);
             }
             self.transport.ends(partner);
             return Err(Why::OfTheDevice);
         };
         if let Some(late) = self.went_on(r.i, partner) {
             let at = self.at(r.i);
-            self.evidence.forged.push((at, Forged::Disconnect));
+            self.evidence.forged_frame(at, Forged::Disconnect);
             if late {
                 self.loss(r, Sign::LateAcknowledgement);
             }
@@ -542,7 +557,7 @@ impl<'a> Hearing<'a> {
             }
             Of::Again => {}
             Of::Odd => self.loss(r, Sign::TookOdd),
-            Of::Nothing => self.loss_of(r, partner, Sign::StrayAcknowledgement),
+            Of::Nothing => self.loss_unless_rest(r, Sign::StrayAcknowledgement),
         }
     }
 
@@ -565,9 +580,11 @@ impl<'a> Hearing<'a> {
         };
         match compared {
             Compared::Unasked | Compared::Again => {
-                if stores(service) {
+                // the address, or the value of a group that the device has
+                let has = |e: &[u8]| word(e, 0) == group;
+                if stores(service) && (group == 0 || entries(&self.sheet, Kind::Group).any(has)) {
                     let at = self.at(r.i);
-                    self.evidence.own.push(Own { at, group });
+                    self.evidence.own_frame(at, group);
                 }
             }
             compared => self.answered(r, 0, compared),
@@ -581,7 +598,7 @@ impl<'a> Hearing<'a> {
             Compared::Other(event, _) => (event, Answer::Other),
             Compared::Again => return,
             Compared::Unasked => {
-                if self.transport.known(partner) {
+                if !self.is_rest(r) {
                     self.parts(self.at(r.i), false);
                 }
                 return;
@@ -612,10 +629,13 @@ impl<'a> Hearing<'a> {
         let index = at.behind;
         let trace = events::write(std::slice::from_ref(event));
         let mut log = [0; 18];
-        let before = self.link.sessions;
+        let (before, own) = (self.link.sessions, self.own());
         let played =
             archive::play(&mut self.link.sessions, &mut self.sheet, &trace, 0, 1, &mut log);
         debug_assert_eq!(played, Ok(1));
+        if self.own() != own {
+            self.former.insert(own);
+        }
         let partner = r.f.source;
         if event.kind == events::CONNECT {
             self.link.address[usize::from(event.connection)] = partner;

@@ -29,7 +29,7 @@ const PROGRAM: Program = Program { help: include_str!("../kelindap-trace.txt") }
 
 /// The longest recording or text that is read, and the longest side file of a trace.
 const LONGEST_RECORDING: u64 = 1 << 28;
-const LONGEST_SIDE: u64 = 1 << 20;
+const LONGEST_SIDE: u64 = 1 << 24;
 
 fn main() -> ExitCode {
     PROGRAM.run(|asked| match asked.command {

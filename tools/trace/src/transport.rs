@@ -52,10 +52,6 @@ struct Line {
     /// Numbers of the answers that were due, a bit for each, and the next of them.
     answers: u16,
     answer: u8,
-    /// How many gaps the recorder had told when it connected.
-    gaps: usize,
-    /// And when it was heard last.
-    heard: usize,
     /// The device ended it, or turned it away, and its partner may not have heard.
     ended: bool,
     /// A disconnect of the device is due to it.
@@ -66,7 +62,6 @@ struct Line {
 #[derive(Clone, Debug, Default)]
 pub struct Transport {
     lines: HashMap<u16, Line>,
-    gaps: usize,
 }
 
 impl Transport {
@@ -74,28 +69,9 @@ impl Transport {
         self.lines.entry(partner).or_default()
     }
 
-    /// A gap that the recorder tells: what a connection was before it need not be so any more.
-    pub fn gap(&mut self) {
-        self.gaps += 1;
-    }
-
-    /// A partner was heard.
-    pub fn hears(&mut self, partner: u16) {
-        let gaps = self.gaps;
-        self.line(partner).heard = gaps;
-    }
-
-    /// Whether a partner has connected or was heard since the last gap that was told, so that what does not fit is no part of
-    /// that.
-    pub fn known(&self, partner: u16) -> bool {
-        let line = self.lines.get(&partner);
-        line.map_or(0, |line| line.gaps.max(line.heard)) == self.gaps
-    }
-
     /// A connect, a second one too: numbers begin at 0. What waited is acknowledged no more.
     pub fn connects(&mut self, partner: u16) -> Vec<usize> {
-        let gaps = self.gaps;
-        let old = self.lines.insert(partner, Line { gaps, ..Line::default() });
+        let old = self.lines.insert(partner, Line::default());
         old.map_or(Vec::new(), |line| line.waiting.into_iter().map(|w| w.event).collect())
     }
 
@@ -352,18 +328,5 @@ mod tests {
         assert_eq!(t.answered(A, 6), []);
         t.connects(A);
         assert!(!t.was_due(A, 0));
-    }
-
-    #[test]
-    fn gaps() {
-        let mut t = Transport::default();
-        assert!(t.known(A));
-        t.connects(A);
-        t.gap();
-        assert!(!t.known(A) && !t.known(A + 1));
-        t.connects(A);
-        assert!(t.known(A) && !t.known(A + 1));
-        t.hears(A + 1);
-        assert!(t.known(A + 1));
     }
 }

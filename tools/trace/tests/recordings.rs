@@ -429,6 +429,27 @@ B0 11 FA 11 05 60 80 50
     assert_eq!(from, [Some(0x1114), Some(0x11FA)]);
 }
 
+/// However often the same shows behind an event, evidence tells it once.
+#[test]
+fn short_evidence() {
+    let own = "2900bce0110508010300".to_string();
+    let frames = [
+        vec!["29".to_string(); 1000],
+        vec![to(OWN, A, "c2"); 1005],
+        vec![to(OWN, OWN, "80"); 1000],
+        vec![own.replace("0300", "0200") + "8001"; 1000],
+        vec!["2900bce01105080202008001".to_string(); 1000],
+        vec![to(A, OWN, "4300"); 1000],
+    ];
+    let made = made_of(Form::Hex, &frames.concat().join("\n"));
+    let e = made.evidence.unwrap();
+    let kept = [e.gaps.len(), e.losses.len(), e.forged.len(), e.own.len(), e.left.len()];
+    assert_eq!(kept, [1, 1, 1, 1, 200]);
+    assert_eq!(e.losses[0].times, 1000);
+    // the last of those to a group that the device has; to one that it has not, none
+    assert_eq!((e.own[0].group, e.own[0].at.line), (0x0801, 4005));
+}
+
 /// All words for what is left out.
 #[test]
 fn words() {

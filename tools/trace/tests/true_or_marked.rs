@@ -51,7 +51,8 @@ fn spoil(rng: &mut Rng, bus: &Bus) -> Spoiled {
         }
         let n = s.frames.len();
         let at = rng.below(n);
-        match rng.below(12) {
+        match rng.below(13) {
+            12 => cut_between(rng, bus, &mut s),
             0..=2 => {
                 s.what.push(format!("dropped {}", s.frames[at].id));
                 s.frames.remove(at);
@@ -113,6 +114,46 @@ fn spoil(rng: &mut Rng, bus: &Bus) -> Spoiled {
         }
     }
     s
+}
+
+/// Cuts out what a tool did between two requests on two connections, the second with the number that would be next on the first:
+/// what is left looks like one connection.
+fn cut_between(rng: &mut Rng, bus: &Bus, s: &mut Spoiled) {
+    let bytes = |i: usize| &bus.log[s.frames[i].id].bytes;
+    let data = |i: usize| to_one(bytes(i)) && octet(bytes(i)) & 0xC0 == 0x40;
+    let number = |i: usize| octet(bytes(i)) >> 2 & 15;
+    let mut pairs = Vec::new();
+    for i in (0..s.frames.len()).filter(|&i| data(i) && !bus::OWN.contains(&source(bytes(i)))) {
+        let tool = source(bytes(i));
+        let begins = |j: &usize| source(bytes(*j)) == tool && octet(bytes(*j)) == 0x80;
+        let Some(connect) = (i + 1..s.frames.len()).find(begins) else { continue };
+        let next =
+            |j: &usize| data(*j) && source(bytes(*j)) == tool && number(*j) == (number(i) + 1) & 15;
+        if let Some(j) = (connect + 1..s.frames.len()).find(next) {
+            // behind what the device and the tool said to the first
+            let own = |k: &usize| {
+                let f = bytes(*k);
+                let both = destination(f) == tool || source(f) == tool;
+                both && octet(f) & 0xC0 >= 0x40 && octet(f) & 0xFE != 0x80 && to_one(f)
+            };
+            let from =
+                (i + 1..connect).take_while(|k| own(k) && !(data(*k) && source(bytes(*k)) == tool));
+            let from = from.last().map_or(i + 1, |k| k + 1);
+            pairs.push((from, j));
+        }
+    }
+    if pairs.is_empty() {
+        return;
+    }
+    let (from, to) = rng.pick(&pairs);
+    let told = rng.chance(50);
+    s.what.push(format!("cut from {} up to {}, told: {told}", s.frames[from].id, s.frames[to].id));
+    s.frames.drain(from..to);
+    moved(&mut s.notes, from, to - from);
+    if told {
+        s.notes.push(Note { before: from, line: 0, gap: gaps::Why::Lost });
+        s.notes.sort_by_key(|note| note.before);
+    }
 }
 
 fn put_in(s: &mut Spoiled, at: usize, frame: Heard) {
@@ -203,6 +244,8 @@ fn another(bus: &Bus, s: &Spoiled) -> Option<History> {
                     let (did, _) = host.time_out(c, id);
                     history.push((id, Some(did)));
                 }
+                // the rest of an exchange whose begin was in a gap that is told
+                _ if s.notes.iter().any(|note| (note.before..note.before + 6).contains(&i)) => {}
                 _ => return None, // it is not due
             }
             continue;
@@ -237,11 +280,26 @@ fn another(bus: &Bus, s: &Spoiled) -> Option<History> {
                 None => break,
             }
         }
+        // a reply may have been in a gap that is told
+        let gap = s.notes.iter().any(|note| note.before > i && note.before <= over);
+        if met.len() < due.len() && gap {
+            met.iter().for_each(|&j| used[j] = true);
+            host = next;
+            history.push((id, did));
+            continue;
+        }
         // at the end of the recording a reply may not have come yet
         if met.len() < due.len() && !met.is_empty() && (until < n || over < n) {
             return None;
         }
         if met.is_empty() && !due.is_empty() {
+            // not received; but a group's answer that is another than the one that is due is an answer
+            let to =
+                |f: &[u8]| !to_one(f) && !to_one(&due[0]) && destination(f) == destination(&due[0]);
+            let answer = |f: &[u8]| source(f) == own && to(f) && f[10] & 0xC0 == 0x40;
+            if (i + 1..n).any(|j| !used[j] && answer(bytes(j))) {
+                return None;
+            }
             continue;
         }
         met.iter().for_each(|&j| used[j] = true);
@@ -264,7 +322,7 @@ fn without_repeats(bus: &Bus, s: &Spoiled) -> Spoiled {
     // of each partner the number of its last data, how often it was sent, and how often acknowledged
     let mut sent: BTreeMap<u16, (u8, usize, usize)> = BTreeMap::new();
     let mut less = s.clone();
-    less.frames.retain(|h| {
+    let mut keep = |h: &Heard| {
         let f = &bus.log[h.id].bytes;
         let (from, to, octet) = (source(f), destination(f), octet(f));
         let number = octet >> 2 & 15;
@@ -293,7 +351,13 @@ fn without_repeats(bus: &Bus, s: &Spoiled) -> Spoiled {
             },
             _ => true,
         }
-    });
+    };
+    let kept: Vec<bool> = s.frames.iter().map(&mut keep).collect();
+    let mut each = kept.iter();
+    less.frames.retain(|_| each.next() == Some(&true));
+    for note in &mut less.notes {
+        note.before = kept[..note.before].iter().filter(|kept| **kept).count();
+    }
     less
 }
 
