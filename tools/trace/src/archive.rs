@@ -149,13 +149,13 @@ extern "C" {
     #[cfg(heard)]
     fn kelindap_serve(
         link: *mut Link,
-        sequence: u8,
-        frame: *const u8,
-        frame_length: usize,
         sheet: *mut u8,
         sheet_length: usize,
+        frame: *const u8,
+        length: usize,
         out: *mut u8,
-        out_length: usize,
+        room: usize,
+        sequence: u8,
     ) -> Served;
     fn kelindap_frame_read(frame: *const u8, length: usize) -> Frame;
     fn kelindap_read(apdu: *const u8, apdu_length: usize) -> Pdu;
@@ -297,15 +297,21 @@ pub fn serve(link: &mut Link, sequence: u8, frame: &[u8], sheet: &mut [u8]) -> (
     let served = unsafe {
         kelindap_serve(
             link,
-            sequence,
-            frame.as_ptr(),
-            frame.len(),
             sheet.as_mut_ptr(),
             sheet.len(),
+            frame.as_ptr(),
+            frame.len(),
             out.as_mut_ptr(),
             out.len(),
+            sequence,
         )
     };
     out.truncate(served.count.into());
     (served, out)
+}
+
+/// An archive without it has none to offer, and the tests that want it fail.
+#[cfg(not(heard))]
+pub fn serve(_: &mut Link, _: u8, _: &[u8], _: &mut [u8]) -> (Served, Vec<u8>) {
+    panic!("the archive has no kelindap_serve")
 }
