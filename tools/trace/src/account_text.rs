@@ -107,7 +107,7 @@ impl Story<'_> {
         for step in steps {
             let event = step.event;
             out.push(say::step(value(&step.old), value(&step.new), &self.told(event)));
-            let doubts = self.step_doubts(event, &account.doubts);
+            let doubts = self.step_doubts(steps, event, &account.doubts);
             let doubts = doubts.iter().map(|doubt| say::doubt(doubt, event, |n| self.name(n)));
             out.extend(doubts.map(|doubt| format!("  {doubt}")));
         }

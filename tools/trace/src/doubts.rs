@@ -30,6 +30,14 @@ pub enum Doubt {
     Own(Own),
 }
 
+impl Doubt {
+    /// Whether it is that the recording does not fit together.
+    pub fn unfit(&self) -> bool {
+        use Doubt::{After, Back, Before, Parted};
+        matches!(self, Before(Cause::Loss(_)) | After(Cause::Loss(_)) | Parted(_) | Back(..))
+    }
+}
+
 /// The event that an account names: its number, those of the connect and the offer on which it rests, 0 for none, and whether
 /// it is data on a connection.
 #[derive(Clone, Copy, Debug, PartialEq, Eq)]
@@ -38,6 +46,8 @@ pub struct Rests {
     pub connect: u32,
     pub offer: u32,
     pub connected: bool,
+    /// It is an answer to a group, which behind a gap may be the device's own, under an address that it got there.
+    pub answer: bool,
 }
 
 /// The evidence of all traces, each behind those before it.
@@ -104,7 +114,7 @@ impl Doubts {
     /// device's own answer shows which level an offer gave.
     fn rests_before(&self, rests: Rests, gap: u32) -> bool {
         let offered = rests.offer > 0 && (rests.offer <= gap || !self.shown(rests.offer));
-        rests.connected && (rests.connect <= gap || offered)
+        rests.answer || (rests.connected && (rests.connect <= gap || offered))
     }
 
     /// All doubts about what an event gave, of a place to which frames go under the device's own address, if it is one.
@@ -133,6 +143,12 @@ impl Doubts {
         }
         out.dedup();
         out
+    }
+
+    /// A doubt about what stood somewhere before an event, as at first.
+    pub fn before(&self, event: u32) -> Option<Doubt> {
+        let gap = self.all.iter().flat_map(|e| &e.gaps).find(|g| (g.at.behind as u32) < event);
+        gap.cloned().map(|gap| Doubt::Before(Cause::Gap(gap)))
     }
 
     /// Doubts about what playing gives of an event, its outcome for one. What is missing in a gap that is told behind it does not

@@ -128,27 +128,54 @@ impl<'a> Story<'a> {
         let last = by.first().map_or(0, |of| of.0);
         let steps = self.steps(&change);
         let mut doubts: Vec<Doubt> = Vec::new();
-        for doubt in
-            by.iter().flat_map(|of| self.doubts.about(self.rests(of.0), self.group(change.at)))
-        {
-            if !doubts.contains(&doubt) {
-                doubts.push(doubt);
+        for (event, _) in &by {
+            let about = self.doubts.about(self.rests(*event), self.group(change.at));
+            for doubt in about.into_iter().chain(self.base_doubts(&steps, *event)) {
+                if !doubts.contains(&doubt) {
+                    doubts.push(doubt);
+                }
             }
         }
         // a count is written by its elements, and so by none of them again
         let counted = matches!(change.target, Target::Count(..));
         let again =
             self.named(&change, true).into_iter().rfind(|&number| number > last && !counted);
-        let more = again.map(|number| self.step_doubts(number, &doubts)).unwrap_or_default();
+        let more = again.map(|number| self.step_doubts(&steps, number, &doubts));
+        let more = more.unwrap_or_default();
         doubts.extend(more);
         let left = self.left(&change, last);
         Account { change, by, steps, again, doubts, left }
     }
 
     /// What is not known of an event in the history of a place, beside what is said of the place.
-    pub fn step_doubts(&self, number: u32, said: &[Doubt]) -> Vec<Doubt> {
-        let doubts = self.doubts.outcome(self.rests(number));
+    pub fn step_doubts(&self, steps: &[Step], number: u32, said: &[Doubt]) -> Vec<Doubt> {
+        let mut doubts = self.doubts.outcome(self.rests(number));
+        doubts.extend(self.base_doubts(steps, number));
         doubts.into_iter().filter(|doubt| !said.contains(doubt)).collect()
+    }
+
+    /// What a bit write gives rests on what stood there: the doubts about who gave that, back to a write of the whole.
+    fn base_doubts(&self, steps: &[Step], mut number: u32) -> Vec<Doubt> {
+        let mut doubts = Vec::new();
+        while self.is_bit_write(number) {
+            match steps.iter().rfind(|step| step.event < number) {
+                Some(step) => {
+                    doubts.extend(self.doubts.about(self.rests(step.event), None));
+                    number = step.event;
+                }
+                None => {
+                    doubts.extend(self.doubts.before(number));
+                    break;
+                }
+            }
+        }
+        doubts
+    }
+
+    fn is_bit_write(&self, number: u32) -> bool {
+        self.writes
+            .binary_search_by_key(&number, |of| of.0)
+            .is_ok_and(|at| self.writes[at].1.kind == MEMORY_BIT_WRITE)
     }
 
     /// Every event that changed a place, in order.
@@ -168,9 +195,11 @@ impl<'a> Story<'a> {
     /// What an event rests on.
     pub fn rests(&self, number: u32) -> Rests {
         let fact = self.fact(number);
-        let connected = self.traces[fact.trace].events[fact.index].rights().is_some();
+        let event = &self.traces[fact.trace].events[fact.index];
+        let connected = event.rights().is_some();
         let offer = if connected && fact.level < 3 { fact.offer } else { 0 };
-        Rests { event: number, connect: fact.connect, offer, connected }
+        let answer = event.kind == REQUEST && event.mode == 0 && answers_group(&event.apdu);
+        Rests { event: number, connect: fact.connect, offer, connected, answer }
     }
 
     /// The group whose value a byte is, or all, by 0, if it is the individual address.
@@ -230,14 +259,20 @@ impl<'a> Story<'a> {
     }
 
     /// Of a request that playing does not carry out: whether the recorded answer says otherwise, and what is not known. The
-    /// device's own answer leaves no doubt.
+    /// device's own answer leaves no doubt, unless the recording does not fit together: then it may be that to another.
     pub fn refusal(&self, number: u32) -> (bool, Vec<Doubt>) {
         let answer = self.doubts.seen(number).map(|(_, seen)| seen.answer);
-        match answer {
-            Some(Answer::Same) => (false, Vec::new()),
-            answer => (answer == Some(Answer::Other), self.doubts.outcome(self.rests(number))),
+        let mut doubts = self.doubts.outcome(self.rests(number));
+        if answer == Some(Answer::Same) {
+            doubts.retain(Doubt::unfit);
         }
+        (answer == Some(Answer::Other), doubts)
     }
+}
+
+/// Whether a request to a group is a GroupValue_Response.
+fn answers_group(apdu: &[u8]) -> bool {
+    matches!(apdu, [high, low, ..] if high & 3 == 0 && low & 0xC0 == 0x40)
 }
 
 /// The numbers of kinds that write, in kelindap_pdu.h.

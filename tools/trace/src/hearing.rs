@@ -74,6 +74,9 @@ pub struct Hearing<'a> {
     /// Gaps that are told, of which so many are passed, and the frame behind the last.
     notes: usize,
     gap: Option<usize>,
+    /// The last data of each sender since then, and the last before any gap.
+    latest: HashMap<u16, usize>,
+    before_gap: BTreeSet<usize>,
     sheet: Vec<u8>,
     /// The addresses that the device had before.
     former: BTreeSet<u16>,
@@ -147,6 +150,8 @@ impl<'a> Hearing<'a> {
             parties,
             notes: 0,
             gap: None,
+            latest: HashMap::new(),
+            before_gap: BTreeSet::new(),
             sheet: sheet.to_vec(),
             former: BTreeSet::new(),
             link: Link { sessions: archive::fresh(), address: [0; 2] },
@@ -264,6 +269,7 @@ impl<'a> Hearing<'a> {
 
     fn gap(&mut self, i: usize, at: At, why: gaps::Why) {
         self.gap = Some(i);
+        self.before_gap.extend(self.latest.drain().map(|(_, frame)| frame));
         self.evidence.gap(at, why);
     }
 
@@ -284,9 +290,9 @@ impl<'a> Hearing<'a> {
         }
     }
 
-    /// Whether an event was before a gap that is told, in which what is missing of it may have been.
+    /// Whether an event was the last data of its sender before a gap that is told, in which what is missing of it may have been.
     fn before_a_gap(&self, event: usize) -> bool {
-        self.evidence.gaps.last().is_some_and(|gap| event < gap.at.behind)
+        self.of.get(event).is_some_and(|i| self.before_gap.contains(i))
     }
 
     /// The answer to an event has not come: it is missing if the device took the event.
@@ -351,11 +357,16 @@ impl<'a> Hearing<'a> {
             }
             DISCONNECT => {
                 self.starts(r, partner);
+                self.transport.leaves(partner);
                 Event::disconnect(heard.connection)
             }
             CONNECTED => {
                 let number = r.number();
-                match self.transport.turn(partner, number, r.apdu()) {
+                let turn = self.transport.turn(partner, number, r.apdu());
+                if turn != Turn::Again {
+                    self.latest.insert(partner, r.i);
+                }
+                match turn {
                     Turn::Next if self.untaken.contains(&r.i) => {
                         self.transport.passes(partner, number);
                         self.left_out(r, LeftWhy::Untaken);
@@ -407,11 +418,11 @@ impl<'a> Hearing<'a> {
                 self.heard_now(r);
             }
             STRANGER => {
-                self.transport.turns_away(partner);
+                self.transport.turns_away(partner, r.i);
                 self.transport.odd(partner, r.number());
                 self.left_out(r, LeftWhy::Stranger);
             }
-            NO_PLACE => self.transport.turns_away(partner),
+            NO_PLACE => self.transport.turns_away(partner, r.i),
             NO_PARTNER if !self.transport.ended(partner) => {
                 self.loss_unless_rest(r, Sign::StrayDisconnect);
             }
@@ -471,7 +482,7 @@ impl<'a> Hearing<'a> {
     fn device_ends(&mut self, r: &Read) -> Result<Event, Why> {
         let partner = r.f.destination;
         let Some(connection) = place_of(&self.link, partner) else {
-            if !self.transport.owed(partner) {
+            if !self.transport.owed(partner, r.i) {
                 self.loss_unless_rest(r, Sign::StrayEnd);
             }
             self.transport.ends(partner);
@@ -667,7 +678,7 @@ impl<'a> Hearing<'a> {
         if event.kind == REQUEST {
             for c in 0..2 {
                 if before.of[c].open && !self.link.sessions.of[c].open {
-                    self.transport.cut_off(self.link.address[c]);
+                    self.transport.cut_off(self.link.address[c], r.i);
                 }
             }
         }

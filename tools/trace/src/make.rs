@@ -7,7 +7,7 @@ use std::collections::{BTreeMap, BTreeSet, HashMap, VecDeque};
 use sheet::json::Json;
 
 use crate::events::{self, Event};
-use crate::evidence::{self, Evidence};
+use crate::evidence::{self, At, Evidence, Sign};
 use crate::gaps;
 use crate::hearing::Hearing;
 use crate::progress::Progress;
@@ -142,18 +142,29 @@ fn sent(recorded: &[Recorded]) -> Vec<Result<Vec<u8>, Why>> {
 }
 
 /// The events of a recording for the device with this sheet, which must be accepted. Data that the device did not acknowledge
-/// is an event, of which that is told; unless the rest of the recording does not fit to it, and does without it.
+/// is an event, of which that is told; unless the rest of the recording does not fit to it, and does without it. If the rest
+/// fits with it alone, the device took it, and the recording lacks its acknowledgement.
 pub fn from_frames(recording: &Recording, sheet: &[u8], progress: &mut Progress) -> Made {
     let frames = sent(&recording.frames);
-    let (made, unacknowledged) = heard(recording, &frames, sheet, &BTreeSet::new(), progress);
+    let (mut made, unacknowledged) = heard(recording, &frames, sheet, &BTreeSet::new(), progress);
     let fits = |made: &Made| made.evidence.as_ref().is_some_and(Evidence::fits);
     let shown = made.evidence.as_ref().is_some_and(|evidence| evidence.device);
-    if fits(&made) || !shown || unacknowledged.is_empty() {
+    if !shown || unacknowledged.is_empty() {
         return made;
     }
     let (other, _) = heard(recording, &frames, sheet, &unacknowledged, progress);
-    if fits(&other) {
-        return other;
+    match (fits(&made), fits(&other)) {
+        (false, true) => return other,
+        (true, false) => {
+            let at = At {
+                behind: made.events.len(),
+                line: recording.frames.last().map_or(0, |frame| frame.line),
+            };
+            if let Some(evidence) = &mut made.evidence {
+                evidence.loss(at, Sign::NoAcknowledgement);
+            }
+        }
+        _ => {}
     }
     made
 }

@@ -4,6 +4,9 @@
 
 use std::collections::HashMap;
 
+/// So many frames behind what it is due to stands what a device sends at once.
+const AT_ONCE: usize = 12;
+
 /// Numbers have four bits.
 const NUMBERS: u8 = 16;
 
@@ -54,8 +57,8 @@ struct Line {
     answer: u8,
     /// The device ended it, or turned it away, and its partner may not have heard.
     ended: bool,
-    /// A disconnect of the device is due to it.
-    owed: bool,
+    /// A disconnect of the device is due to it, since this frame.
+    owed: Option<usize>,
 }
 
 /// All connections of a recording.
@@ -76,20 +79,20 @@ impl Transport {
     }
 
     /// Somebody is turned away: a disconnect of the device is due.
-    pub fn turns_away(&mut self, partner: u16) {
+    pub fn turns_away(&mut self, partner: u16, frame: usize) {
         let line = self.line(partner);
-        (line.ended, line.owed) = (true, true);
+        (line.ended, line.owed) = (true, Some(frame));
         line.waiting.clear();
     }
 
     /// A frame of a partner: no disconnect is due any more to what it sent before.
     pub fn sends(&mut self, partner: u16) {
-        self.line(partner).owed = false;
+        self.line(partner).owed = None;
     }
 
-    /// Whether a disconnect of the device is due, which is this one.
-    pub fn owed(&mut self, partner: u16) -> bool {
-        std::mem::take(&mut self.line(partner).owed)
+    /// Whether a disconnect of the device is due, which is this one: it comes at once, with few frames of others between.
+    pub fn owed(&mut self, partner: u16, frame: usize) -> bool {
+        self.line(partner).owed.take().is_some_and(|since| frame - since <= AT_ONCE)
     }
 
     /// The device ended a connection: the events that it had not acknowledged.
@@ -99,10 +102,17 @@ impl Transport {
         line.waiting.drain(..).map(|w| w.event).collect()
     }
 
-    /// A Restart closes a connection; what its partner sent is acknowledged yet.
-    pub fn cut_off(&mut self, partner: u16) {
+    /// A partner ends its connection: nothing that it sent is acknowledged any more.
+    pub fn leaves(&mut self, partner: u16) {
         let line = self.line(partner);
-        (line.ended, line.owed) = (true, true);
+        line.waiting.clear();
+        (line.last, line.odd) = (None, 0);
+    }
+
+    /// A Restart closes a connection; what its partner sent is acknowledged yet.
+    pub fn cut_off(&mut self, partner: u16, frame: usize) {
+        let line = self.line(partner);
+        (line.ended, line.owed) = (true, Some(frame));
     }
 
     /// Whether a partner may not know yet that it has no connection.
@@ -251,16 +261,27 @@ mod tests {
         assert_eq!(t.next(A), 0);
     }
 
+    #[test]
+    fn leaving() {
+        let mut t = Transport::default();
+        t.connects(A);
+        t.takes(A, 0, 7, &[1]);
+        t.leaves(A);
+        assert_eq!(t.acknowledged(A, 0), Of::Nothing);
+    }
+
     /// Who is turned away is told so once, before it sends again.
     #[test]
     fn turned_away() {
         let mut t = Transport::default();
-        assert!(!t.owed(A));
-        t.turns_away(A);
-        assert_eq!([t.owed(A), t.owed(A), t.ended(A)], [true, false, true]);
-        t.turns_away(A);
+        assert!(!t.owed(A, 0));
+        t.turns_away(A, 1);
+        assert_eq!([t.owed(A, 2), t.owed(A, 2), t.ended(A)], [true, false, true]);
+        t.turns_away(A, 3);
         t.sends(A);
-        assert!(!t.owed(A));
+        assert!(!t.owed(A, 4));
+        t.turns_away(A, 5);
+        assert!(!t.owed(A, 18));
     }
 
     /// Two requests with one number: which of them an acknowledgement is of is not known.
