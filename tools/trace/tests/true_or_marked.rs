@@ -559,8 +559,10 @@ fn untouched() {
         let mut counts = Counts::default();
         let made = from_frames(&recording(&bus, &whole), &bus.first, &mut Progress::new("", 0));
         let evidence = made.evidence.as_ref().unwrap();
-        // a disconnect that somebody forged may be the device's, for all that is seen, until it goes on
-        let forged = bus.log.iter().any(|s| s.forged && octet(&s.bytes) == 0x81);
+        // a disconnect that somebody forged may be the device's, for all that is seen, until it goes on; and what somebody sent to
+        // a group under its address the device heard, which nobody can tell from what it sent itself until it answers
+        let doubtful = |s: &[u8]| octet(s) == 0x81 || !to_one(s);
+        let forged = bus.log.iter().any(|s| s.forged && doubtful(&s.bytes));
         if !evidence.device || forged {
             held(&bus, &whole, &mut counts).unwrap_or_else(|why| panic!("seed {seed}: {why}"));
             continue;
