@@ -44,9 +44,9 @@ named=$(cat include/*.h | grep -oE '\b(docs|examples|sheets)/[A-Za-z_]+\.[a-z]+|
 for name in $named; do [ -s "$doc/$name" ] || fail "a header names $name, which is not installed"; done
 for name in $(cat include/*.h | grep -oE '\bkelindap[a-z_]*\.h\b' | sort -u); do [ -s "$work/at/include/$name" ] || fail "a header names $name, which is not installed"; done
 ! grep -nE '\b(tests|crates|hosts|tools|mk|scripts|shims|build|include)/' include/*.h || fail "a header names what is never installed"
-for name in host height; do
-    gcc -o "$work/$name" -std=c11 -I"$work/at/include" "$doc/examples/$name.c" "$doc"/examples/{files,local,transport}.c -L"$work/at/lib" -lkelindap_device -lkelindap_pdu || fail "examples/$name.c does not compile"
-done
+example() { gcc -o "$work/$1" -std=c11 -I"$work/at/include" "${@/#/$doc/examples/}" -L"$work/at/lib" -lkelindap_device -lkelindap_pdu || fail "examples/$1 does not compile"; }
+example host.c files.c local.c transport.c
+example height.c
 cmp build/kelindap.html "$doc/kelindap.html" || fail "another page"
 for sheet in sample pump; do
     from=$doc/sheets/$sheet

@@ -53,9 +53,9 @@ is '--help --version explain make play show' kelindap-trace ''
 is 'ets hex knxtool text' kelindap-trace make ''
 is knxtool kelindap-trace make k
 is tank.sheet kelindap-trace make hex t
-is '--force --help --json --sheet' kelindap-trace make hex a b -
+is '--force --help --json --reverse --sheet' kelindap-trace make hex a b -
 is 'a b.trace' kelindap-trace show a
-is '--final --help --json' kelindap-trace explain -
+is '--all --final --help --json' kelindap-trace explain -
 is '--help --lines --version --words' kelindap-unit ''
 is --words kelindap-unit --w
 
