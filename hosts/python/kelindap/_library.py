@@ -41,8 +41,8 @@ class Saved(Structure):
     _fields_ = [("outcome", c_uint8), ("number", c_uint16)]
 
 
-class KeptVersion(Structure):
-    """kelindap_kept_version"""
+class Listed(Structure):
+    """kelindap_listed"""
 
     _fields_ = [("number", c_uint16), ("length", c_uint16)]
 
@@ -133,7 +133,7 @@ CALLS: Dict[str, Tuple[Any, List[Any]]] = {
     "save": (Saved, 2 * _RUN),
     "restore": (c_uint8, [Sessions, c_uint8] + 2 * _RUN + [c_size_t]),
     "remove": (c_uint8, _RUN + [c_size_t]),
-    "kept": (KeptVersion, _RUN + [c_size_t]),
+    "kept": (Listed, _RUN + [c_size_t]),
     "trace_check": (c_uint8, _RUN),
     "play": (Played, _SESSIONS + 2 * _RUN + [c_size_t, c_size_t] + _RUN),
     "play_marked": (Played, _SESSIONS + 2 * _RUN + [c_size_t, c_size_t] + 2 * _RUN + _NUMBERS + [c_uint32]),
