@@ -262,10 +262,9 @@ fn another(bus: &Bus, s: &Spoiled) -> Option<History> {
         let number = octet(frame) >> 2 & 15;
         let again = |j: usize| {
             let f = bytes(j);
-            // data with neither this number nor the next does not end the wait for a reply
-            let other = octet(f) >> 2 & 15;
-            let old = octet(f) & 0xC0 == 0x40 && other != number && other != (number + 1) & 15;
-            source(f) == partner && to_one(f) && octet(f) & 0xC0 != 0xC0 && !old
+            // data with another number does not end the wait for a reply
+            let other = octet(f) & 0xC0 == 0x40 && octet(f) >> 2 & 15 != number;
+            source(f) == partner && to_one(f) && matches!(octet(f) & 0xC0, 0x40 | 0x80) && !other
         };
         let until = (i + 1..n).find(|&j| again(j)).unwrap_or(n);
         let begins = |f: &[u8]| source(f) == partner && to_one(f) && octet(f) & 0xFE == 0x80;
@@ -396,9 +395,10 @@ fn held(bus: &Bus, s: &Spoiled, counts: &mut Counts) -> Result<(), String> {
     let truth: History = bus.log[..upto].iter().map(|s| (s.same, s.did.clone())).collect();
     let mut other: Option<Option<History>> = None;
     let mut could_be = |claim: &dyn Fn(&History) -> bool| {
-        // a recorder that tells its gaps leaves nothing that can't be known
+        // gaps that are told and times that go back can be seen
+        let hidden = s.notes.is_empty() && recording.back.is_empty();
         let other = other.get_or_insert_with(|| another(bus, s));
-        s.notes.is_empty() && other.as_ref().is_some_and(claim)
+        hidden && other.as_ref().is_some_and(claim)
     };
     let frame_of = |event: u32| bus.log[evidence.events[event as usize - 1].line - 1].same;
     for account in story.accounts() {
