@@ -76,3 +76,4 @@ include mk/bench.mk
 include mk/firmware.mk
 include mk/page.mk
 include mk/figures.mk
+include mk/dist.mk

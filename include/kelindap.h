@@ -12,7 +12,7 @@
  *
  * LINKING. With libkelindap_device.a, by pkg-config the package kelindap. Today it needs memcpy and memset from outside and
  * nothing else. A freestanding host should provide memcpy, memset, memmove and memcmp: compiled code may call any of the four.
- * For which processors there are archives README.md says; nothing here depends on one. README.md, the folders docs and examples,
+ * For which processors there are archives docs/PROCESSORS.md says; nothing here depends on one. README.md, the folders docs and examples,
  * two sample sheets and a page that shows the device in a browser are installed beside the headers, in share/doc/kelindap.
  *
  * AN APDU is the part of a frame from octet 6 on: 2 to 16 bytes, of which the first, b0, is octet 6. The service code is the two

@@ -1,6 +1,6 @@
 #!/usr/bin/env bash
 # tests/install.sh: `make install` to a folder of its own, and a host that finds headers and libraries there alone, through
-# pkg-config where that is installed, which names the processor, and by the words of README; all that the headers name, examples that
+# pkg-config where that is installed, which names the processor, and by the words of docs/LINKING.md; all that the headers name, examples that
 # compile, sample sheets in three forms; the Python package, found there alone; that of another processor, with no program; that what can't be built is refused; and that
 # `make uninstall` leaves what it did not bring.
 set -euo pipefail
@@ -25,13 +25,13 @@ fi
 read -ra words <<< "$flags"
 gcc -o "$work/host" -std=c11 tests/c/installed.c "${words[@]}"
 [ "$("$work/host")" = "$version 1 1 no PDU that can be written, not 32 to 16,384 bytes" ] || fail "$("$work/host")"
-# by README's own words, and by the plain engine's package
+# by LINKING's own words, and by the plain engine's package
 if command -v pkg-config > /dev/null; then
     mkdir "$work/readme"
     cp tests/c/installed.c "$work/readme/host.c"
-    grep '^    gcc .*pkg-config --cflags --libs kelindap)$' README.md > "$work/readme/line" || fail "README shows no line to compile a host"
+    grep '^    gcc .*pkg-config --cflags --libs kelindap)$' docs/LINKING.md > "$work/readme/line" || fail "LINKING.md shows no line to compile a host"
     (cd "$work/readme" && bash -euo pipefail ./line)
-    [ "$("$work/readme/host")" = "$("$work/host")" ] || fail "README's line makes another host"
+    [ "$("$work/readme/host")" = "$("$work/host")" ] || fail "LINKING's line makes another host"
     read -ra words <<< "$(pkg-config --cflags --libs kelindap-plain)"
     gcc -o "$work/plain" -DPLAIN -std=c11 tests/c/installed.c "${words[@]}"
     [ "$("$work/plain" | tail -n 1)" = "the sheet breaks a rule" ] || fail "the plain engine said $("$work/plain" | tail -n 1)"

@@ -58,25 +58,31 @@ awk '/^at .*marked case/ {
 same crates/device_cases/stdin "$(cat "$work/cases")" "$(cat "$work/stdin")"
 same "$marked" "$(sort "$work/cases")" "$(sort "$work/antt")"
 
-# what README shows of the demonstration is what the demonstration shows
-sed -n '/^`make run` shows/,/^`make test` says/s/^    //p' README.md | grep . > "$work/shown"
-[ -s "$work/shown" ] || { echo "same: README shows nothing of the demonstration"; bad=1; }
+# what SOURCE.md shows of the demonstration is what the demonstration shows; what README shows of an explanation stands in TRACE.md,
+# which is run
+sed -n '/^`make run` shows/,/^`make test` says/s/^    //p' docs/SOURCE.md | grep . > "$work/shown"
+[ -s "$work/shown" ] || { echo "same: SOURCE.md shows nothing of the demonstration"; bad=1; }
 while IFS= read -r line; do
-    grep -qxF -- "$line" tests/unit/demo.expected || { echo "same: README shows what the demonstration does not: $line"; bad=1; }
+    grep -qxF -- "$line" tests/unit/demo.expected || { echo "same: SOURCE.md shows what the demonstration does not: $line"; bad=1; }
 done < "$work/shown"
+sed -n '/^    \$ build\/trace explain/,/^$/p' README.md | grep -vE '^ *(\.\.)?$' > "$work/explained"
+[ "$(wc -l < "$work/explained")" -ge 4 ] || { echo "same: README shows no explanation"; bad=1; }
+while IFS= read -r line; do
+    grep -qxF -- "$line" docs/TRACE.md || { echo "same: README explains what TRACE.md does not: $line"; bad=1; }
+done < "$work/explained"
 
 # docs/UNIT.md has the kinds of kelindap_names.h
 names() { sed -n "/define KELINDAP_$1/,/^\$/s/.*\"\(.*\)\".*/\1/p" include/kelindap_names.h | sort; }
 same docs/UNIT.md "$(names KINDS)" "$(sed -n '/^## Kinds/,$p' docs/UNIT.md | awk -F '|' '/^\| `/ { print $2 }' | grep -o '[a-z_]*' | sort)"
 
-# README has every folder and every crate; docs/CHANGING.md has every crate, none before one that it rests on
+# SOURCE.md has every folder and every crate; docs/CHANGING.md has every crate, none before one that it rests on
 folders() { for folder in .c*/ */; do echo "${folder%/}"; done | grep -vxE 'build|target' | sort; }
 named() { grep -oE '`[a-z_.]+`' | tr -d '`' | sort -u; }
-same "README, the folders" "$(folders)" "$(sed -n '/^## The folders/,/^## /p' README.md | awk -F '|' '/^. `/ { print $2 }' | named)"
+same "docs/SOURCE.md, the folders" "$(folders)" "$(sed -n '/^## The folders/,/^## /p' docs/SOURCE.md | awk -F '|' '/^. `/ { print $2 }' | named)"
 crates=$(sed -n 's/^\([a-z_]*\):.*/\1/p' crates.txt | sort)
-layers=$(sed -n '/^## The layers/,/^## /p' README.md)
+layers=$(sed -n '/^## The layers/,/^## /p' docs/SOURCE.md)
 for crate in $crates; do
-    grep -qw "$crate" <<< "$layers" || { echo "same: README's layers lack $crate"; bad=1; }
+    grep -qw "$crate" <<< "$layers" || { echo "same: SOURCE.md's layers lack $crate"; bad=1; }
 done
 ordered=$(grep -F 'lowest crate first:' docs/CHANGING.md | sed 's/.*lowest crate first://; s/A crate above.*//' | grep -oE '`[a-z_]+`' | tr -d '`')
 same "docs/CHANGING.md, the order of crates" "$crates" "$(sort <<< "$ordered")"

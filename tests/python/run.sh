@@ -1,7 +1,7 @@
 #!/usr/bin/env bash
 # tests/python/run.sh: the Python package (build/python): its structures, numbers, words and table are those of the headers; every
 # script of the desk unit, every vector and the vectors of frames, played through it; what could be lost at its edge; what is refused;
-# that all of it is told and annotated; faults planted in it are found; the wheel and pip; the lines that README shows. Without python3
+# that all of it is told and annotated; faults planted in it are found; the wheel and pip; the lines that docs/LINKING.md shows. Without python3
 # it says so, and mypy takes part where it is installed.
 set -euo pipefail
 cd "$(dirname "$0")/../.."
@@ -27,15 +27,15 @@ else
     echo "python: left out: mypy is not here"
 fi
 
-# README's lines, here and as they are installed
-sed -n '/^    import kelindap$/,/^$/s/^    //p' README.md > "$work/readme.py"
-[ -s "$work/readme.py" ] || { echo "python: README shows no lines"; exit 1; }
+# LINKING's lines, here and as they are installed
+sed -n '/^    import kelindap$/,/^$/s/^    //p' docs/LINKING.md > "$work/readme.py"
+[ -s "$work/readme.py" ] || { echo "python: LINKING.md shows no lines"; exit 1; }
 grep -o '0x..' hosts/sample_sheet.inc | sed 's/0x/\\x/' | paste -sd '' > "$work/list"
 printf '%b' "$(cat "$work/list")" > "$work/sheet"
 cp "$work/sheet" "$work/first"
 # what each line prints stands behind it
 sed -n 's/.*print(.*)  *# //p' "$work/readme.py" > "$work/readme.due"
-[ "$(wc -l < "$work/readme.due")" = "$(grep -c 'print(' "$work/readme.py")" ] && [ "$(wc -l < "$work/readme.due")" -ge 2 ] || { echo "python: README says nothing of what its lines print"; exit 1; }
+[ "$(wc -l < "$work/readme.due")" = "$(grep -c 'print(' "$work/readme.py")" ] && [ "$(wc -l < "$work/readme.due")" -ge 2 ] || { echo "python: LINKING.md says nothing of what its lines print"; exit 1; }
 (cd "$work" && PYTHONPATH=$OLDPWD/build/python python3 readme.py > said)
-cmp -s "$work/said" "$work/readme.due" && ! cmp -s "$work/sheet" "$work/first" || { diff "$work/said" "$work/readme.due" || true; echo "python: README's lines say something else"; exit 1; }
+cmp -s "$work/said" "$work/readme.due" && ! cmp -s "$work/sheet" "$work/first" || { diff "$work/said" "$work/readme.due" || true; echo "python: LINKING's lines say something else"; exit 1; }
 tests/python/packed.sh "$work/readme.py"
