@@ -23,7 +23,7 @@ test: need-tools
 	$(MAKE) --no-print-directory -s sheet-check
 	$(MAKE) --no-print-directory -s -j2 -O test-unit test-text test-c test-wear points test-frames $(BUILD)/bridge
 	mk/bin/beside $(MAKE) --no-print-directory -s test-firmware -- $(MAKE) --no-print-directory -s test-tools compare
-	$(MAKE) --no-print-directory -s figures test-deb test-python
+	$(MAKE) --no-print-directory -s figures test-deb test-python test-dist
 	$(MAKE) --no-print-directory -s test-device
 	mk/bin/beside $(MAKE) --no-print-directory -s test-page test-shims -- $(MAKE) --no-print-directory -s test-others
 	tail -n 1 build/ci.log
@@ -36,10 +36,12 @@ prove: need-tools
 	rt ci 2>&1 | tee build/ci.log | sed -u '$$d' || { tail -n 1 build/ci.log; exit 1; }
 	tests/edits/gate.sh tests/edits/refused.tsv build/ci.log target/must-fail
 
-# every name that a document quotes stands where the document says; what is to be read is complete, and as long as READING says
-documents: need-tools build/documents/names build/documents/reading
+# every name that a document quotes stands where the document says; what is to be read is complete, and as long as READING says; what
+# CHANGING names and quotes is in the source
+documents: need-tools build/documents/names build/documents/reading build/documents/changing
 	build/documents/names docs/PROMISES.md docs/READING.md docs/CONFORMANCE.md docs/RULES.md
 	build/documents/reading --check docs/READING.md
+	build/documents/changing docs/CHANGING.md
 
 #: make reading    build/reading.md, the definitions that must be read for each demand, in order, with what is promised
 reading: build/documents/reading
