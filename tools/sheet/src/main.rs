@@ -1,6 +1,6 @@
 //! `sheet check|show|make|diff`: the device sheet as text; `sheet convert`: an old one made new; `sheet versions`: its store of
 //! versions; `sheet slots`: the medium that keeps either through power cuts; `sheet survey`: many dumps beside one. Exit status 0;
-//! 1 if a sheet is not accepted, or not old where that is asked for, a store not good, neither place of a medium counts, two differ,
+//! 1 if a sheet is not accepted, or not old where that is asked for, a store not good, neither slot of a medium counts, two differ,
 //! or a survey found something;
 //! 2 with a line on standard error for anything else: a file that can't be read, a text with a fault, a wrong word.
 //! `--help` and `--version` are asked for, so they go to standard output with status 0.
@@ -41,7 +41,7 @@ fn obey(asked: &Asked) -> Said {
         ("convert", [old, new]) => convert(old, new, asked.flag("--force")),
         ("versions", [store]) => listed(store),
         ("versions diff", [store, number, file]) => since(store, number, file),
-        ("slots", [file]) => places(file),
+        ("slots", [file]) => medium(file),
         ("survey", [folder]) => surveyed::surveyed(folder, asked),
         (command, _) => Err(format!("{command} has no such words")),
     }
@@ -168,15 +168,15 @@ fn stored(name: &str) -> Result<Result<Store, String>, String> {
     }
 }
 
-/// Both places of a medium; one that is something else is told as that.
-fn places(name: &str) -> Said {
+/// Both slots of a medium; one that is something else is told as that.
+fn medium(name: &str) -> Said {
     let bytes = read(name, slots::MOST)?;
     match kinds::other(&bytes, File::Medium) {
         Some(what) => Err(format!("{name}: {what}")),
         None if bytes.len() % 2 == 1 || bytes.len() < 2 * slots::HEAD => {
             let long = versions::number_of(bytes.len(), "byte", "bytes");
             Err(format!(
-                "{name}: {long} are no two places: each is a half of a dump, and has {} at least",
+                "{name}: {long} are no two slots: each is a half of a dump, and has {} at least",
                 slots::HEAD
             ))
         }

@@ -1,11 +1,11 @@
-//! A dump of a medium in which a sheet, or a store of versions, is kept through power cuts: two places, each a half of the dump; what
+//! A dump of a medium in which a sheet, or a store of versions, is kept through power cuts: two slots, each a half of the dump; what
 //! stands in each, which counts, what is torn and why. docs/SLOTS.md has the layout.
 
 use crate::check::rules;
 use crate::kinds::{self, File};
 use crate::versions::number_of;
 
-/// The bytes of a place before the sheet.
+/// The bytes of a slot before the sheet.
 pub const HEAD: usize = 64;
 pub const MARK: &[u8; 6] = b"KELIND";
 /// The longest run of bytes that is kept: a store is as long, a sheet half as long.
@@ -30,7 +30,7 @@ pub struct Held<'a> {
     pub bytes: &'a [u8],
 }
 
-/// Why a place holds nothing, in the order in which it is judged.
+/// Why a slot holds nothing, in the order in which it is judged.
 #[derive(Clone, Copy, Debug, PartialEq, Eq)]
 pub enum Refusal {
     Short,
@@ -41,9 +41,9 @@ pub enum Refusal {
 
 /// A half of a dump.
 #[derive(Clone, Copy, Debug)]
-pub struct Place<'a>(pub &'a [u8]);
+pub struct Slot<'a>(pub &'a [u8]);
 
-impl<'a> Place<'a> {
+impl<'a> Slot<'a> {
     fn marked(self) -> bool {
         self.0.starts_with(MARK)
     }
@@ -72,20 +72,20 @@ impl<'a> Place<'a> {
     }
 }
 
-/// Both places.
+/// Both slots.
 #[derive(Clone, Copy, Debug)]
-pub struct Medium<'a>(pub [Place<'a>; 2]);
+pub struct Medium<'a>(pub [Slot<'a>; 2]);
 
 impl<'a> Medium<'a> {
     /// Of a dump: its halves, the first byte of the second half being byte length / 2.
     pub fn of(dump: &'a [u8]) -> Medium<'a> {
         let (first, second) = dump.split_at(dump.len() / 2);
-        Medium([Place(first), Place(second)])
+        Medium([Slot(first), Slot(second)])
     }
 
-    /// The place that a unit starts with.
+    /// The slot that a unit starts with.
     pub fn counts(&self) -> Option<usize> {
-        match self.0.map(Place::held) {
+        match self.0.map(Slot::held) {
             [Ok(a), Ok(b)] => Some(usize::from(b.number == a.number.wrapping_add(1))),
             [Ok(_), Err(_)] => Some(0),
             [Err(_), Ok(_)] => Some(1),
@@ -99,10 +99,10 @@ impl<'a> Medium<'a> {
     }
 }
 
-/// Whether a file is such a dump: a place in it begins with the mark.
+/// Whether a file is such a dump: a slot in it begins with the mark.
 pub fn is_dump(bytes: &[u8]) -> bool {
-    let Medium(places) = Medium::of(bytes);
-    bytes.len().is_multiple_of(2) && bytes.len() >= 2 * HEAD && places.iter().any(|p| p.marked())
+    let Medium(slots) = Medium::of(bytes);
+    bytes.len().is_multiple_of(2) && bytes.len() >= 2 * HEAD && slots.iter().any(|p| p.marked())
 }
 
 /// The sheet, or the store, in a file: its bytes, or those that a dump of a medium holds.
@@ -112,23 +112,23 @@ pub fn kept(bytes: Vec<u8>) -> Result<Vec<u8>, String> {
     }
     let held = Medium::of(&bytes).held().map(|held| held.bytes.to_vec());
     held.ok_or_else(|| {
-        "a dump of a medium, of which neither place counts: slots says why".to_string()
+        "a dump of a medium, of which neither slot counts: slots says why".to_string()
     })
 }
 
 // ---- for people ----
 
-/// A dump as text: a line for each place with its number, what it holds or why it holds nothing; which counts; the next save.
+/// A dump as text: a line for each slot with its number, what it holds or why it holds nothing; which counts; the next save.
 pub fn text(dump: &[u8]) -> String {
     let medium = Medium::of(dump);
     let counts = medium.counts();
     let mut out = String::new();
-    for (k, place) in medium.0.iter().enumerate() {
+    for (k, slot) in medium.0.iter().enumerate() {
         let from = if k == 0 { 0 } else { medium.0[0].0.len() };
-        let to = from + place.0.len();
+        let to = from + slot.0.len();
         let range =
             if to > from { format!("bytes {from} to {}", to - 1) } else { "no bytes".to_string() };
-        out += &format!("place {k}, {range}: {}", told(*place, medium.0[1 - k]));
+        out += &format!("slot {k}, {range}: {}", told(*slot, medium.0[1 - k]));
         out += if counts == Some(k) { "; this one counts\n" } else { "\n" };
     }
     let (next, number) = match (counts, medium.held()) {
@@ -137,31 +137,31 @@ pub fn text(dump: &[u8]) -> String {
     };
     if counts.is_none() {
         out += "neither counts: a unit starts as a new one\n";
-    } else if let [Ok(a), Ok(b)] = medium.0.map(Place::held) {
+    } else if let [Ok(a), Ok(b)] = medium.0.map(Slot::held) {
         if b.number != a.number.wrapping_add(1) && a.number != b.number.wrapping_add(1) {
-            out += "the numbers do not follow one another, as no two saves leave them: place 0 counts then\n";
+            out += "the numbers do not follow one another, as no two saves leave them: slot 0 counts then\n";
         }
     }
-    out + &format!("the next save goes to place {next} under number {number}\n")
+    out + &format!("the next save goes to slot {next} under number {number}\n")
 }
 
-/// What a place holds; else why it holds nothing, with what can be told of the save that was cut.
-fn told(place: Place, other: Place) -> String {
-    match place.held() {
+/// What a slot holds; else why it holds nothing, with what can be told of the save that was cut.
+fn told(slot: Slot, other: Slot) -> String {
+    match slot.held() {
         Ok(held) => format!("number {}, {}, whole", held.number, what(held.bytes)),
         Err(Refusal::Short) => {
             format!(
-                "{}, fewer than the {HEAD} of an empty place",
-                number_of(place.0.len(), "byte", "bytes")
+                "{}, fewer than the {HEAD} of an empty slot",
+                number_of(slot.0.len(), "byte", "bytes")
             )
         }
-        Err(Refusal::Unmarked) => unmarked(place, other),
-        Err(why) => format!("marked, but {}", wrong(why, place)),
+        Err(Refusal::Unmarked) => unmarked(slot, other),
+        Err(why) => format!("marked, but {}", wrong(why, slot)),
     }
 }
 
-fn wrong(why: Refusal, place: Place) -> String {
-    let room = place.0.len() - HEAD.min(place.0.len());
+fn wrong(why: Refusal, slot: Slot) -> String {
+    let room = slot.0.len() - HEAD.min(slot.0.len());
     match why {
         Refusal::Length(length) => {
             format!(
@@ -176,10 +176,10 @@ fn wrong(why: Refusal, place: Place) -> String {
     }
 }
 
-/// A place without its mark: how far its save came, or that of the one that was to replace it.
-fn unmarked(place: Place, other: Place) -> String {
-    let all = |value: u8| place.0.iter().all(|&b| b == value);
-    let mark = &place.0[..MARK.len()];
+/// A slot without its mark: how far its save came, or that of the one that was to replace it.
+fn unmarked(slot: Slot, other: Slot) -> String {
+    let all = |value: u8| slot.0.iter().all(|&b| b == value);
+    let mark = &slot.0[..MARK.len()];
     let seen = match mark {
         [0xFF, 0xFF, 0xFF, 0xFF, 0xFF, 0xFF] => "no mark (erased)".to_string(),
         [0, 0, 0, 0, 0, 0] => "no mark (zeros)".to_string(),
@@ -195,7 +195,7 @@ fn unmarked(place: Place, other: Place) -> String {
     }
     let after = |n: u32| other.held().is_ok_and(|o| o.number.wrapping_add(1) == n);
     let before = |n: u32| other.held().is_ok_and(|o| o.number == n.wrapping_add(1));
-    match place.beside_mark() {
+    match slot.beside_mark() {
         Ok(held) if after(held.number) => {
             format!(
                 "{seen}; number {}, {}, whole: its save was cut before the mark was set",
@@ -211,10 +211,10 @@ fn unmarked(place: Place, other: Place) -> String {
             )
         }
         Ok(held) => format!("{seen}; number {}, {}, whole", held.number, what(held.bytes)),
-        Err(_) if place.0[32..HEAD].iter().all(|&b| b == 0xFF) => {
+        Err(_) if slot.0[32..HEAD].iter().all(|&b| b == 0xFF) => {
             format!("{seen}; no head: a save was cut before its head was written")
         }
-        Err(why) => format!("{seen}; {}", wrong(why, place)),
+        Err(why) => format!("{seen}; {}", wrong(why, slot)),
     }
 }
 

@@ -10,7 +10,7 @@ use model::gen::{self, Rng};
 use model::sheet::SAMPLE;
 use model::store;
 use sheet::kinds::{self, File};
-use sheet::slots::{kept, sum, text, Medium, Place, Refusal, HEAD};
+use sheet::slots::{kept, sum, text, Medium, Refusal, Slot, HEAD};
 
 const ROOM: usize = 256;
 
@@ -29,13 +29,13 @@ fn head(number: u32, sheet: &[u8]) -> Vec<u8> {
     [&sum(&covered).to_be_bytes()[..], &tail].concat()
 }
 
-/// A place of so many bytes after a save into an erased one.
-fn place(room: usize, number: u32, sheet: &[u8]) -> Vec<u8> {
-    let mut place = vec![0xFF; room];
-    place[..6].copy_from_slice(b"KELIND");
-    place[32..HEAD].copy_from_slice(&head(number, sheet));
-    place[HEAD..HEAD + sheet.len()].copy_from_slice(sheet);
-    place
+/// A slot of so many bytes after a save into an erased one.
+fn slot(room: usize, number: u32, sheet: &[u8]) -> Vec<u8> {
+    let mut slot = vec![0xFF; room];
+    slot[..6].copy_from_slice(b"KELIND");
+    slot[32..HEAD].copy_from_slice(&head(number, sheet));
+    slot[HEAD..HEAD + sheet.len()].copy_from_slice(sheet);
+    slot
 }
 
 fn both(first: &[u8], second: &[u8]) -> Vec<u8> {
@@ -53,50 +53,50 @@ fn sums() {
     assert_eq!(sum(b""), 0);
 }
 
-const TWO: &str = "place 0, bytes 0 to 255: number 7, a sheet of 69 bytes, whole
-place 1, bytes 256 to 511: number 8, a sheet of 69 bytes, whole; this one counts
-the next save goes to place 0 under number 9
+const TWO: &str = "slot 0, bytes 0 to 255: number 7, a sheet of 69 bytes, whole
+slot 1, bytes 256 to 511: number 8, a sheet of 69 bytes, whole; this one counts
+the next save goes to slot 0 under number 9
 ";
 
-const NEW: &str = "place 0, bytes 0 to 255: no mark (erased), and nothing else: never written, or a save was cut after its erase
-place 1, bytes 256 to 511: no mark (zeros), and nothing else: never written, or a save was cut after its erase
+const NEW: &str = "slot 0, bytes 0 to 255: no mark (erased), and nothing else: never written, or a save was cut after its erase
+slot 1, bytes 256 to 511: no mark (zeros), and nothing else: never written, or a save was cut after its erase
 neither counts: a unit starts as a new one
-the next save goes to place 0 under number 0
+the next save goes to slot 0 under number 0
 ";
 
 #[test]
 fn by_hand() {
-    let (old, new) = (place(ROOM, 7, &SAMPLE), place(ROOM, 8, &with_height(1250)));
+    let (old, new) = (slot(ROOM, 7, &SAMPLE), slot(ROOM, 8, &with_height(1250)));
     assert_eq!(text(&both(&old, &new)), TWO);
     assert_eq!(text(&both(&[0xFF; ROOM], &[0; ROOM])), NEW);
     // the numbers go round
-    let last = place(ROOM, u32::MAX, &SAMPLE);
-    let around = text(&both(&place(ROOM, 0, &SAMPLE), &last));
+    let last = slot(ROOM, u32::MAX, &SAMPLE);
+    let around = text(&both(&slot(ROOM, 0, &SAMPLE), &last));
     assert!(around.contains("number 0, a sheet of 69 bytes, whole; this one counts\n"), "{around}");
-    assert!(around.ends_with("place 1 under number 1\n"), "{around}");
+    assert!(around.ends_with("slot 1 under number 1\n"), "{around}");
     // as no saves leave them
-    let apart = text(&both(&old, &place(ROOM, 12, &SAMPLE)));
+    let apart = text(&both(&old, &slot(ROOM, 12, &SAMPLE)));
     assert!(
-        apart.contains("place 0 counts then\n") && apart.contains("under number 8\n"),
+        apart.contains("slot 0 counts then\n") && apart.contains("under number 8\n"),
         "{apart}"
     );
     // a store is kept the same way
     let mut versions = vec![0; 100];
-    let empty = second(&old, &place(ROOM, 8, &versions));
+    let empty = second(&old, &slot(ROOM, 8, &versions));
     assert!(empty.contains("100 bytes of zeros, as of an empty store, whole"), "{empty}");
     store::save(Fault::None, &SAMPLE, &mut versions);
-    let kept = second(&old, &place(ROOM, 8, &versions));
+    let kept = second(&old, &slot(ROOM, 8, &versions));
     assert!(kept.contains("number 8, a store of versions of 100 bytes, whole"), "{kept}");
 }
 
 #[test]
 fn torn() {
-    let (old, new) = (place(ROOM, 7, &SAMPLE), place(ROOM, 8, &with_height(1250)));
+    let (old, new) = (slot(ROOM, 7, &SAMPLE), slot(ROOM, 8, &with_height(1250)));
     let cut = |change: &dyn Fn(&mut [u8])| {
         let mut torn = new.clone();
         change(&mut torn);
         let line = second(&old, &torn);
-        line.strip_prefix("place 1, bytes 256 to 511: ").unwrap().to_string()
+        line.strip_prefix("slot 1, bytes 256 to 511: ").unwrap().to_string()
     };
     let whole = "number 8, a sheet of 69 bytes, whole";
     let cases: [(&dyn Fn(&mut [u8]), String); 8] = [
@@ -135,7 +135,7 @@ fn torn() {
         assert_eq!(cut(change), said);
     }
     // the older one, unmarked by a save that was then cut
-    let mut older = place(ROOM, 6, &SAMPLE);
+    let mut older = slot(ROOM, 6, &SAMPLE);
     older[..32].fill(0);
     let said =
         "no mark (zeros); number 6, a sheet of 69 bytes, whole: unmarked for a save that was cut";
@@ -149,15 +149,15 @@ fn long(bytes: &[u8], at: usize) -> u32 {
 /// The order of judging, and where two fit.
 #[test]
 fn judged() {
-    let good = place(ROOM, 5, &SAMPLE);
-    let held = Place(&good).held().unwrap();
+    let good = slot(ROOM, 5, &SAMPLE);
+    let held = Slot(&good).held().unwrap();
     assert_eq!((held.number, held.bytes), (5, &SAMPLE[..]));
-    assert_eq!(Place(&good[..63]).held(), Err(Refusal::Short));
-    assert_eq!(Place(&good[..64 + 68]).held(), Err(Refusal::Length(69)));
-    assert!(Place(&good[..64 + 69]).held().is_ok());
-    let most = place(64 + 32_769, 5, &[7; 32_769]);
-    assert_eq!(Place(&most).held(), Err(Refusal::Length(32_769)));
-    assert!(Place(&place(64 + 32_768, 5, &[7; 32_768])).held().is_ok());
+    assert_eq!(Slot(&good[..63]).held(), Err(Refusal::Short));
+    assert_eq!(Slot(&good[..64 + 68]).held(), Err(Refusal::Length(69)));
+    assert!(Slot(&good[..64 + 69]).held().is_ok());
+    let most = slot(64 + 32_769, 5, &[7; 32_769]);
+    assert_eq!(Slot(&most).held(), Err(Refusal::Length(32_769)));
+    assert!(Slot(&slot(64 + 32_768, 5, &[7; 32_768])).held().is_ok());
 }
 
 /// A save cut after each of its bytes, whatever stands in the byte that was torn: the old sheet until the mark is whole, then the new
@@ -174,7 +174,7 @@ fn every_cut() {
         };
         let (old, new, before) = (draw(), draw(), draw());
         let room = HEAD + 400;
-        let (first, n) = (place(room, 1 + seed as u32, &old), 2 + seed as u32);
+        let (first, n) = (slot(room, 1 + seed as u32, &old), 2 + seed as u32);
         let mut work: Vec<(usize, u8)> = (0..32).map(|at| (at, 0)).collect();
         work.extend((0..room).map(|at| (at, 0xFF)));
         work.extend((32..).zip(head(n, &new)));
@@ -182,7 +182,7 @@ fn every_cut() {
         let marks = work.len();
         work.extend((0..).zip(*b"KELIND"));
         for cut in 0..=work.len() {
-            let mut second = place(room, seed as u32, &before);
+            let mut second = slot(room, seed as u32, &before);
             for &(at, to) in &work[..cut] {
                 second[at] = to;
             }
@@ -207,7 +207,7 @@ fn room(name: &str) -> PathBuf {
     let _ = fs::remove_dir_all(&room);
     fs::create_dir_all(room.join("dumps")).unwrap();
     let write = |name: &str, bytes: &[u8]| fs::write(room.join(name), bytes).unwrap();
-    let (old, new) = (place(ROOM, 7, &SAMPLE), place(ROOM, 8, &with_height(1250)));
+    let (old, new) = (slot(ROOM, 7, &SAMPLE), slot(ROOM, 8, &with_height(1250)));
     write("sample", &SAMPLE);
     write("medium", &both(&old, &new));
     write("dumps/unit.flash", &both(&old, &new));
@@ -220,9 +220,9 @@ fn room(name: &str) -> PathBuf {
     write("small", &[0xFF; 126]);
     let mut versions = vec![0; 100];
     store::save(Fault::None, &SAMPLE, &mut versions);
-    write("store", &both(&place(ROOM, 3, &[0; 100]), &place(ROOM, 4, &versions)));
+    write("store", &both(&slot(ROOM, 3, &[0; 100]), &slot(ROOM, 4, &versions)));
     // two sectors of 256 KB, more than any other file that is read
-    let mut sector = place(1 << 18, 8, &with_height(1250));
+    let mut sector = slot(1 << 18, 8, &with_height(1250));
     let mut first = sector.clone();
     first[..32].fill(0);
     sector[200..].fill(0xFF);
@@ -251,7 +251,7 @@ fn commands() {
     assert!(status == 1 && out.contains("neither counts"), "{status} {out}");
     let (status, out, _) = told(&["slots", "blank"]);
     assert!(status == 1 && out.contains("a unit starts as a new one"), "{status} {out}");
-    let halves = "are no two places: each is a half of a dump, and has 64 at least\n";
+    let halves = "are no two slots: each is a half of a dump, and has 64 at least\n";
     assert_eq!(told(&["slots", "odd"]), said(2, "", &format!("sheet: odd: 513 bytes {halves}")));
     assert_eq!(
         told(&["slots", "small"]),
@@ -261,7 +261,7 @@ fn commands() {
     assert_eq!(told(&["slots", "sample"]), said(2, "", sheet));
     let (status, out, _) = told(&["slots", "sectors"]);
     assert!(
-        status == 0 && out.contains("place 1, bytes 262144 to 524287: number 8"),
+        status == 0 && out.contains("slot 1, bytes 262144 to 524287: number 8"),
         "{status} {out}"
     );
 
@@ -273,14 +273,13 @@ fn commands() {
     let changed = "property 1/51 element 1: 1000 → 1250\n";
     assert_eq!(told(&["diff", "sample", "medium"]), said(1, changed, ""));
     assert_eq!(told(&["diff", "sectors", "medium"]), said(0, "", ""));
-    let neither =
-        "sheet: torn: a dump of a medium, of which neither place counts: slots says why\n";
+    let neither = "sheet: torn: a dump of a medium, of which neither slot counts: slots says why\n";
     for command in ["check", "show", "versions"] {
         assert_eq!(told(&[command, "torn"]), said(2, "", neither));
     }
     let (status, out, _) = told(&["survey", "dumps", "--reference", "medium"]);
     assert_eq!(status, 1);
-    assert!(out.contains("torn.flash") && out.contains("of which neither place counts"), "{out}");
+    assert!(out.contains("torn.flash") && out.contains("of which neither slot counts"), "{out}");
     let (_, out, _) = told(&["survey", "dumps", "--reference", "sample"]);
     assert!(out.contains("property 1/51 element 1: 1000 → 1250"), "{out}");
 
