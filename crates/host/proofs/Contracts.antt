@@ -1,4 +1,4 @@
--- THE CONTRACT OF EACH CALL THAT REACHES SHEET, SESSIONS, LINK OR STORE, as it stands at its function, with the function's arguments in their places: what it says (`..-says`), and that
+-- THE CONTRACT OF EACH CALL THAT REACHES SHEET, SESSIONS, LINK, STORE OR SLOTS, as it stands at its function, with the function's arguments in their places: what it says (`..-says`), and that
 -- this is a `Call`, a `Step` or a `Turn` (`..-is`). So what is proved of `Calls`, `Steps` and `Turns` holds of what a host calls. A contract that speaks of another argument than the call's
 -- is refused here, though code and contract agree.
 -- `a` are a function's arguments in their order, r what came back, e what the arguments are then. Not seen: two parameters of one type exchanged in signature, contract and code at once.
@@ -32,6 +32,9 @@ use Rattle.versions.specs.Removing.{Removed}
 use Rattle.versions.specs.Sequence.{saves, removes}
 use Rattle.playback.specs.Playing.{at, playedOf, Plays}
 use Rattle.playback.specs.Marking.{markPlayed, Marks}
+use Rattle.slots.specs.Slot.{slotOf, newerOf, targetOf}
+use Rattle.slots.specs.Parts.{beginOf, moreOf, endOf}
+use Rattle.slots.specs.Saving.{WorksAs}
 use Rattle.link.specs.Serving.{withSessions, ServedFrame}
 use Rattle.link.specs.Net.{Net, netOf}
 use Rattle.link.specs.declared.Link.{Link}
@@ -50,6 +53,13 @@ use Rattle.host.proofs.bus.kelindap_serve as serve-fn
 use Rattle.host.proofs.kelindap_fresh as fresh-fn
 use Rattle.host.proofs.store.kelindap_save as save-fn
 use Rattle.host.proofs.store.kelindap_remove as remove-fn
+use Rattle.host.proofs.places.kelindap_slot as slot-fn
+use Rattle.host.proofs.places.kelindap_slot_begin as begin-fn
+use Rattle.host.proofs.places.kelindap_slot_more as more-fn
+use Rattle.host.proofs.places.kelindap_slot_end as end-fn
+use Rattle.host.proofs.places.kelindap_slot_newer as newer-fn
+use Rattle.host.proofs.places.kelindap_slot_target as target-fn
+use Rattle.host.proofs.places.kelindap_slot_work as work-fn
 
 -- a connect, a disconnect and the button give an outcome alone
 abbrev silent : ℕ → Sessions → List ℕ → Effect
@@ -201,3 +211,40 @@ module _ {M : Type 1} (𝓤 : URA M) (H : Heap 𝓤) (A : Atoms 𝓤) (mem : Mem
         Entails (remove-fn.clauses 𝓤 H A mem run κs a .ensures tt r e)
         (Turn record { net = x; store = now (a .0) } [] (removes (a .1 .0) ∷ []) record { net = x; store = now (e .0) })
     remove-is x = fact-mono 𝓤 _ _ (removing (a .1 .0) r (now (e .0)))
+
+  -- kelindap_slot(slot)
+  module _ (κs : Lfts 1) (a : Args slot-fn.signature κs) (r : Res slot-fn.signature κs) (e : AtExit slot-fn.ended κs) where
+    pub slot-says : Entails (slot-fn.clauses 𝓤 H A mem run κs a .ensures tt r e) (r ≡ slotOf (now (a .0)))
+    slot-says = id⊢ 𝓤 _
+
+  -- kelindap_slot_begin(front, room)
+  module _ (κs : Lfts 1) (a : Args begin-fn.signature κs) (r : Res begin-fn.signature κs) (e : AtExit begin-fn.ended κs) where
+    pub begin-says : Entails (begin-fn.clauses 𝓤 H A mem run κs a .ensures tt r e) (r ≡ beginOf (now (a .0)) (a .1 .0))
+    begin-says = id⊢ 𝓤 _
+
+  -- kelindap_slot_more(judging, bytes)
+  module _ (κs : Lfts 1) (a : Args more-fn.signature κs) (r : Res more-fn.signature κs) (e : AtExit more-fn.ended κs) where
+    pub more-says : Entails (more-fn.clauses 𝓤 H A mem run κs a .ensures tt r e) (r ≡ moreOf (a .0) (now (a .1 .0)))
+    more-says = id⊢ 𝓤 _
+
+  -- kelindap_slot_end(judging)
+  module _ (κs : Lfts 0) (a : Args end-fn.signature κs) (r : Res end-fn.signature κs) (e : AtExit end-fn.ended κs) where
+    pub end-says : Entails (end-fn.clauses 𝓤 H A mem run κs a .ensures tt r e) (r ≡ endOf (a .0))
+    end-says = id⊢ 𝓤 _
+
+  -- kelindap_slot_newer(first, second)
+  module _ (κs : Lfts 0) (a : Args newer-fn.signature κs) (r : Res newer-fn.signature κs) (e : AtExit newer-fn.ended κs) where
+    pub newer-says : Entails (newer-fn.clauses 𝓤 H A mem run κs a .ensures tt r e) (r ≡ newerOf (a .0) (a .1 .0))
+    newer-says = id⊢ 𝓤 _
+
+  -- kelindap_slot_target(first, second)
+  module _ (κs : Lfts 0) (a : Args target-fn.signature κs) (r : Res target-fn.signature κs) (e : AtExit target-fn.ended κs) where
+    pub target-says : Entails (target-fn.clauses 𝓤 H A mem run κs a .ensures tt r e) (r ≡ targetOf (a .0) (a .1 .0))
+    target-says = id⊢ 𝓤 _
+
+  -- kelindap_slot_work(sheet, number, room, piece, buffer)
+  module _ (κs : Lfts 2) (a : Args work-fn.signature κs) (r : Res work-fn.signature κs) (e : AtExit work-fn.ended κs) where
+    pub work-says :
+        Entails (work-fn.clauses 𝓤 H A mem run κs a .ensures tt r e)
+        (WorksAs (a .1 .1 .1 .0) (a .1 .0) (now (a .0)) (a .1 .1 .0) (now (a .1 .1 .1 .1 .0)) r (now (e .1 .1 .1 .1 .0)))
+    work-says = id⊢ 𝓤 _

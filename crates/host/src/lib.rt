@@ -1,6 +1,8 @@
 // The C interface of the device: the calls of include/kelindap.h and include/kelindap_trace.h, those on the sessions in place;
-// those of include/kelindap_store.h stand in `store`, those of include/kelindap_link.h in `bus`.
+// those of include/kelindap_store.h stand in `store`, those of include/kelindap_link.h in `bus`, those of include/kelindap_slots.h in
+// `places`.
 mod bus;
+mod places;
 mod store;
 
 ghost use mathlib.Core.Path.{_≡_};
