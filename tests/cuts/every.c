@@ -124,7 +124,10 @@ static bool save_cut(kept *k, const bytes *b, int64_t after)
     k->length = b->length;
     budget = after;
     worked = 0;
+    unsigned long before_save = erases[0] + erases[1];
     bool finished = save(k);
+    if (finished && erases[0] + erases[1] - before_save != (MEDIUM > 0))
+        fail("a save does not erase once");
     if (wrong != NULL)
         fail(wrong);
     if (finished && !powered)

@@ -1,13 +1,13 @@
 #!/usr/bin/env bash
-# tests/cuts/run.sh BUILD COMPARE: power cuts on the host of examples/flash.c, on every kind of medium: SAVES saves on each, each cut
-# after every byte and with every pattern of torn bytes; EVENTS events with cuts against the plain model; and that each fault of
-# faults.tsv is found. LONG=1 is the long form: ten thousand saves and a million events in all. CC_FOR is the compiler, SANITIZE its
-# words for the tests that watch themselves.
+# tests/cuts/run.sh BUILD COMPARE: power cuts on the host of examples/flash.c, on every kind of medium: CUT_SAVES saves on each, each cut
+# after every byte and with every pattern of torn bytes; CUT_EVENTS events with cuts against the plain model; and that each fault of
+# faults.tsv is found, unless NO_FAULTS is set. LONG=1 is the long form: ten thousand saves and a million events in all. CC_FOR is the
+# compiler, SANITIZE its words for the tests that watch themselves.
 set -euo pipefail
 build=$1 compare=$2
 cd "$(dirname "$0")/../.."
 seed=${SEED:-$((10#$(date +%N)))}
-saves=${SAVES:-8} events=${EVENTS:-15000}
+saves=${CUT_SAVES:-8} events=${CUT_EVENTS:-15000}
 [ -z "${LONG:-}" ] || { saves=1667 events=334000; }
 mkdir -p "$build/cuts"
 work=$(mktemp -d)
@@ -50,8 +50,8 @@ while IFS=$'\t' read -r name medium what edit; do
         wrong "fault $line does not compile: $what: $(head -n 3 "$work/said")"
     status=0
     case $name in
-    every) timeout 60 "$work/test" 4 "$seed" > "$work/said" 2>&1 || status=$? ;;
-    life) timeout 60 "$compare" "$work/test" --cuts 20000 "$seed" > "$work/said" 2>&1 || status=$? ;;
+    every) timeout 120 "$work/test" 40 "$seed" > "$work/said" 2>&1 || status=$? ;;
+    life) timeout 120 "$compare" "$work/test" --cuts 60000 "$seed" > "$work/said" 2>&1 || status=$? ;;
     *) wrong "there is no test $name" ;;
     esac
     [ "$status" != 0 ] || wrong "fault $line is not found by $name: $what"

@@ -214,7 +214,13 @@ fn unmarked(slot: Slot, other: Slot) -> String {
         Err(_) if slot.0[32..HEAD].iter().all(|&b| b == 0xFF) => {
             format!("{seen}; no head: a save was cut before its head was written")
         }
-        Err(why) => format!("{seen}; {}", wrong(why, slot)),
+        // behind an erase the mark's bytes are FFh until the last piece
+        Err(why) if mark == [0xFF; 6] => {
+            format!("{seen}; {}: a save was cut while it wrote head or sheet", wrong(why, slot))
+        }
+        Err(why) => {
+            format!("{seen}; {}: a save was cut while it erased or wrote", wrong(why, slot))
+        }
     }
 }
 

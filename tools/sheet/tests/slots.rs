@@ -115,7 +115,7 @@ fn torn() {
                 b[..32].fill(0xFF);
                 b[100..].fill(0xFF);
             },
-            format!("no mark (erased); torn: its head states the check sum {:08x}, and its bytes have {:08x}", long(&new, 32), {
+            format!("no mark (erased); torn: its head states the check sum {:08x}, and its bytes have {:08x}: a save was cut while it wrote head or sheet", long(&new, 32), {
                 let mut torn = new.clone();
                 torn[100..].fill(0xFF);
                 sum(&torn[36..64 + 69])
