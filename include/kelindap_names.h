@@ -9,6 +9,7 @@
 #include "kelindap_frame.h"
 #include "kelindap_link.h"
 #include "kelindap_pdu.h"
+#include "kelindap_slots.h"
 #include "kelindap_store.h"
 #include "kelindap_trace.h"
 
@@ -79,6 +80,16 @@
     X(64, LINK_NO_ROOM, "no room for the longest answer")         \
     X(65, LINK_ITSELF, "from the device's own address to itself")
 
+/* Each refusal of a slot, and of a save to one, with its name in enum kelindap_slot_refusal. */
+#define KELINDAP_SLOT_REFUSALS(X)                                 \
+    X(80, SLOT_SHORT, "too short for a slot")                     \
+    X(81, SLOT_UNMARKED, "no mark: empty, or a save was cut")     \
+    X(82, SLOT_LENGTH, "a length that does not fit the slot")     \
+    X(83, SLOT_UNREAD, "not the whole sheet was handed over")     \
+    X(84, SLOT_SUM, "another check sum")                          \
+    X(85, SLOT_BUFFER, "the buffer has under 32 bytes")           \
+    X(86, SLOT_NO_ROOM, "no room in the slot")
+
 /* Each rule of a sheet by number, with its name in enum kelindap_rule and what breaks it; 0 and 14 have their words below. */
 #define KELINDAP_RULES(X)                                                  \
     X(1, S1, "not 32 to 16,384 bytes")                                     \
@@ -133,6 +144,7 @@ static inline const char *kelindap_outcome_name(uint8_t outcome)
         KELINDAP_STORE_OUTCOMES(KELINDAP_CASE)
         KELINDAP_TRACE_REFUSALS(KELINDAP_CASE)
         KELINDAP_LINK_OUTCOMES(KELINDAP_CASE)
+        KELINDAP_SLOT_REFUSALS(KELINDAP_CASE)
     default:
         return "no outcome";
     }

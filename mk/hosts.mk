@@ -9,7 +9,7 @@ else
 SANITIZE ?= -fsanitize=undefined -fsanitize-undefined-trap-on-error
 endif
 # the headers of each library
-DEVICE_H := include/kelindap.h include/kelindap_store.h include/kelindap_trace.h include/kelindap_link.h
+DEVICE_H := include/kelindap.h include/kelindap_store.h include/kelindap_trace.h include/kelindap_link.h include/kelindap_slots.h
 TOOL_H := include/kelindap_pdu.h include/kelindap_frame.h
 # leaks are no matter here: the libraries have no heap, and looking for them takes long
 WATCHED := ASAN_OPTIONS=detect_leaks=0

@@ -1,6 +1,7 @@
 /* The calls of the device's headers over those of the proved module, a line each; passing.h says what a line becomes. */
 #include "kelindap.h"
 #include "kelindap_link.h"
+#include "kelindap_slots.h"
 #include "kelindap_store.h"
 #include "kelindap_trace.h"
 #include "passing.h"
@@ -71,6 +72,18 @@ static kelindap_served of_flat_kelindap_served(flat_kelindap_served from)
     return (kelindap_served){ from.number, from.outcome, from.connection, from.count, PARTS(from.part) };
 }
 
+/* what stands in a slot, a slot that is being judged, a piece of work; and the goal of a save, eight bytes as one number */
+#define STATE(F) F(uint8_t, refusal) F(uint32_t, number) F(uint64_t, offset) F(uint64_t, length)
+#define JUDGING(F) \
+    F(uint8_t, refusal) F(uint32_t, number) F(uint32_t, length) F(uint32_t, left) F(uint32_t, stated) F(uint32_t, sum)
+#define PIECE(F) F(uint8_t, refusal) F(uint8_t, work) F(uint64_t, at) F(uint64_t, count)
+FLAT(STATE, kelindap_slot_state, 24)
+FLAT(JUDGING, kelindap_slot_judging, 24)
+FLAT_RESULT(PIECE, kelindap_slot_piece, 24)
+_Static_assert(sizeof(kelindap_slot_goal) == 8 && offsetof(kelindap_slot_goal, number) == 4, "as the module has it");
+typedef uint64_t raw_kelindap_slot_goal;
+static kelindap_slot_goal made_kelindap_slot_goal(uint64_t r) { return (kelindap_slot_goal){ (uint8_t)r, (uint32_t)(r >> 32) }; }
+
 CALL(number, version, NONE)
 CALL(kelindap_sessions, fresh, NONE)
 CALL(byte, connect, AT(kelindap_sessions, sessions), NUMBER(uint8_t, connection))
@@ -95,3 +108,10 @@ CALL(kelindap_played, play_marked, AT(kelindap_sessions, sessions), WRITE(sheet)
      WRITE(before), NUMBERS(marks), NUMBER(uint32_t, played))
 CALL(kelindap_arrival, heard, LINK(link), READ(sheet), READ(frame))
 CALL_LONG(kelindap_served, serve, AT(kelindap_link, link), WRITE(sheet), READ(frame), WRITE(out), NUMBER(uint8_t, sequence))
+CALL_LONG(kelindap_slot_state, slot, READ(slot))
+CALL_LONG(kelindap_slot_judging, slot_begin, READ(front), SIZE(room))
+CALL_LONG(kelindap_slot_judging, slot_more, LONG(kelindap_slot_judging, judging), READ(bytes))
+CALL_LONG(kelindap_slot_state, slot_end, LONG(kelindap_slot_judging, judging))
+CALL(byte, slot_newer, LONG(kelindap_slot_state, first), LONG(kelindap_slot_state, second))
+CALL(kelindap_slot_goal, slot_target, LONG(kelindap_slot_state, first), LONG(kelindap_slot_state, second))
+CALL_LONG(kelindap_slot_piece, slot_work, READ(sheet), NUMBER(uint32_t, number), SIZE(room), NUMBER(uint8_t, piece), WRITE(buffer))

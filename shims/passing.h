@@ -7,7 +7,7 @@
  *  - a number, or a structure of up to four bytes, comes back in a register whose other bits say nothing, and is cut out of it;
  *    one of eight bytes comes back as a number of 64 bits does;
  *  - a structure of up to 16 bytes comes back in registers, where C does it otherwise by the type that says so;
- *  - a longer one is filled at an address, which comes first, or read at one (pdu.c).
+ *  - a longer one is filled at an address, which comes first, or read at one.
  * Arguments can't be exchanged in a line: it says each once, for the header's function and for the module's.
  */
 #ifndef KELINDAP_PASSING_H
@@ -51,6 +51,26 @@ _Static_assert(sizeof(word) == sizeof(void *), "an address fills a register");
 #define HEADER_NUMBERS(name) uint32_t *name, size_t name##_length
 #define MODULE_NUMBERS(name) uint32_t *, uint64_t
 #define GIVEN_NUMBERS(name) name, name##_length
+
+/* ---- long structures, flat: as the header has them, but each length of 64 bits, as the module has it ---- */
+
+#define DECLARED(type, name) type name;
+#define COPIED(type, name) .name = from.name,
+#define FLAT_RESULT(FIELDS, type, size) \
+    typedef struct flat_##type { \
+        FIELDS(DECLARED) \
+    } flat_##type; \
+    static inline type of_flat_##type(flat_##type from) { return (type){ FIELDS(COPIED) }; } \
+    _Static_assert(sizeof(flat_##type) == (size) && (sizeof(word) == 4 || sizeof(type) == (size)), "as the module has it");
+/* one that is an argument too */
+#define FLAT(FIELDS, type, size) \
+    FLAT_RESULT(FIELDS, type, size) \
+    static inline flat_##type flat_of_##type(type from) { return (flat_##type){ FIELDS(COPIED) }; }
+
+/* which is read at an address */
+#define HEADER_LONG(type, name) type name
+#define MODULE_LONG(type, name) const flat_##type *
+#define GIVEN_LONG(type, name) (flat_##type[]){ flat_of_##type(name) }
 
 /* ---- results: what comes back, and what is made of it ---- */
 

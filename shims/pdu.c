@@ -3,7 +3,7 @@
 #include "kelindap_pdu.h"
 #include "passing.h"
 
-/* ---- the two long structures, flat: as the header has them, but each length of 64 bits, as the module has it ---- */
+/* ---- the two long structures ---- */
 
 #define PDU(F) \
     F(uint64_t, serial) F(uint32_t, key) F(uint16_t, address) F(uint16_t, domain) F(uint16_t, s) F(uint16_t, maximum) \
@@ -15,23 +15,8 @@
     F(uint8_t, control2) F(uint8_t, transport) F(uint64_t, info_offset) F(uint64_t, info_length) F(uint64_t, tpdu_offset) \
     F(uint64_t, tpdu_length)
 
-#define DECLARED(type, name) type name;
-#define COPIED(type, name) .name = from.name,
-#define FLAT(FIELDS, type) \
-    typedef struct flat_##type { \
-        FIELDS(DECLARED) \
-    } flat_##type; \
-    static inline flat_##type flat_of_##type(type from) { return (flat_##type){ FIELDS(COPIED) }; } \
-    static inline type of_flat_##type(flat_##type from) { return (type){ FIELDS(COPIED) }; } \
-    _Static_assert(sizeof(flat_##type) == 48 && (sizeof(word) == 4 || sizeof(type) == 48), "as the module has it");
-
-FLAT(PDU, kelindap_pdu)
-FLAT(FRAME, kelindap_frame)
-
-/* a long structure as an argument is read at an address */
-#define HEADER_LONG(type, name) type name
-#define MODULE_LONG(type, name) const flat_##type *
-#define GIVEN_LONG(type, name) (flat_##type[]){ flat_of_##type(name) }
+FLAT(PDU, kelindap_pdu, 48)
+FLAT(FRAME, kelindap_frame, 48)
 
 /* ---- the short ones: three words of a group value, what writing gave ---- */
 

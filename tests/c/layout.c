@@ -8,6 +8,7 @@
 #include "kelindap_link.h"
 #include "kelindap_pdu.h"
 #include "kelindap_plain.h"
+#include "kelindap_slots.h"
 #include "kelindap_store.h"
 #include "kelindap_trace.h"
 #include "kelindap_unit.h"
@@ -94,6 +95,42 @@
     NUMBER(KELINDAP_LINK_NO_PARTNER, 63) \
     NUMBER(KELINDAP_LINK_NO_ROOM, 64) \
     NUMBER(KELINDAP_LINK_ITSELF, 65) \
+    SIZE(kelindap_slot_state, 8 + 2 * W) \
+    FIELD(kelindap_slot_state, refusal, 1, 0) \
+    FIELD(kelindap_slot_state, number, 4, 4) \
+    FIELD(kelindap_slot_state, offset, W, 8) \
+    FIELD(kelindap_slot_state, length, W, 8 + W) \
+    SIZE(kelindap_slot_judging, 24) \
+    FIELD(kelindap_slot_judging, refusal, 1, 0) \
+    FIELD(kelindap_slot_judging, number, 4, 4) \
+    FIELD(kelindap_slot_judging, length, 4, 8) \
+    FIELD(kelindap_slot_judging, left, 4, 12) \
+    FIELD(kelindap_slot_judging, stated, 4, 16) \
+    FIELD(kelindap_slot_judging, sum, 4, 20) \
+    SIZE(kelindap_slot_goal, 8) \
+    FIELD(kelindap_slot_goal, slot, 1, 0) \
+    FIELD(kelindap_slot_goal, number, 4, 4) \
+    SIZE(kelindap_slot_piece, 3 * W) \
+    FIELD(kelindap_slot_piece, refusal, 1, 0) \
+    FIELD(kelindap_slot_piece, work, 1, 1) \
+    FIELD(kelindap_slot_piece, at, W, W) \
+    FIELD(kelindap_slot_piece, count, W, 2 * W) \
+    NUMBER(KELINDAP_SLOT_FRONT, 64) \
+    NUMBER(KELINDAP_SLOT_UNIT, 32) \
+    NUMBER(KELINDAP_SLOT_PIECES, 5) \
+    NUMBER(KELINDAP_SLOT_MOST, 32768) \
+    NUMBER(KELINDAP_SLOT_NEITHER, 2) \
+    NUMBER(KELINDAP_SLOT_SHORT, 80) \
+    NUMBER(KELINDAP_SLOT_UNMARKED, 81) \
+    NUMBER(KELINDAP_SLOT_LENGTH, 82) \
+    NUMBER(KELINDAP_SLOT_UNREAD, 83) \
+    NUMBER(KELINDAP_SLOT_SUM, 84) \
+    NUMBER(KELINDAP_SLOT_BUFFER, 85) \
+    NUMBER(KELINDAP_SLOT_NO_ROOM, 86) \
+    NUMBER(KELINDAP_WORK_NONE, 0) \
+    NUMBER(KELINDAP_WORK_WRITE, 1) \
+    NUMBER(KELINDAP_WORK_ERASE, 2) \
+    NUMBER(KELINDAP_WORK_SHEET, 3) \
     SIZE(kelindap_written, 2) \
     FIELD(kelindap_written, outcome, 1, 0) \
     FIELD(kelindap_written, count, 1, 1) \

@@ -11,6 +11,7 @@
 #include "kelindap_link.h"
 #include "kelindap_pdu.h"
 #include "kelindap_plain.h"
+#include "kelindap_slots.h"
 #include "kelindap_store.h"
 #include "kelindap_trace.h"
 
@@ -106,6 +107,33 @@ static void fill_store(void)
     sessions.of[0] = (kelindap_session){ .open = true, .level = 0 };
     for (int i = 0; i < 2; i++)
         kept += kelindap_save(pump, sizeof pump, store, sizeof store).number;
+}
+
+/* a slot with the sheet in it, which every piece of a save has filled: judged whole, in parts, beside an empty one */
+static uint8_t slot[KELINDAP_SLOT_FRONT + sizeof pump], unit[KELINDAP_SLOT_UNIT];
+static void slot_work(void)
+{
+    for (uint8_t k = 0; k <= KELINDAP_SLOT_PIECES; k++) {
+        kelindap_slot_piece piece = kelindap_slot_work(sheet, sizeof sheet, 7, sizeof slot, k, unit, sizeof unit);
+        if (piece.work == KELINDAP_WORK_WRITE || piece.work == KELINDAP_WORK_SHEET)
+            memcpy(slot + piece.at, piece.work == KELINDAP_WORK_SHEET ? sheet : unit, piece.count);
+        kept += piece.work;
+    }
+}
+static void slot_judged(void) { kept += kelindap_slot(slot, sizeof slot).number; }
+static void slot_begin(void) { kept += kelindap_slot_begin(slot, sizeof slot, sizeof slot).left; }
+static kelindap_slot_judging judging;
+static void slot_more(void) { kept += kelindap_slot_more(judging, slot + KELINDAP_SLOT_FRONT, sizeof slot - KELINDAP_SLOT_FRONT).left; }
+static void slot_end(void) { kept += kelindap_slot_end(judging).number; }
+static kelindap_slot_state full, empty_one;
+static void slot_newer(void) { kept += kelindap_slot_newer(full, full) + kelindap_slot_newer(full, empty_one) + kelindap_slot_newer(empty_one, full); }
+static void slot_target(void) { kept += kelindap_slot_target(full, full).number + kelindap_slot_target(full, empty_one).number + kelindap_slot_target(empty_one, full).number; }
+static void fill_slot(void)
+{
+    slot_work();
+    judging = kelindap_slot_begin(slot, sizeof slot, sizeof slot);
+    full = kelindap_slot(slot, sizeof slot);
+    empty_one = kelindap_slot(slot, 0);
 }
 
 /* the same requests as traces of one event, judged, played, or played with marks */
@@ -233,6 +261,7 @@ static size_t depth_of(void (*what)(void))
     sheet[14] |= 1; /* programming mode */
     sheet[55] = 7;  /* the group object takes a Response too */
     fill_store();
+    fill_slot();
     getcontext(&there);
     there.uc_stack.ss_sp = stack;
     there.uc_stack.ss_size = sizeof stack;
@@ -269,6 +298,13 @@ int main(void)
         {"kelindap_play_marked", play_marked},
         {"kelindap_heard", heard},
         {"kelindap_serve", serve},
+        {"kelindap_slot", slot_judged},
+        {"kelindap_slot_begin", slot_begin},
+        {"kelindap_slot_more", slot_more},
+        {"kelindap_slot_end", slot_end},
+        {"kelindap_slot_newer", slot_newer},
+        {"kelindap_slot_target", slot_target},
+        {"kelindap_slot_work", slot_work},
         {"kelindap_read, _write", read_and_write},
         {"kelindap_point_read, _write", points},
         {"kelindap_frame_read, _write", frames},

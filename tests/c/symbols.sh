@@ -1,5 +1,5 @@
 #!/usr/bin/env bash
-# tests/c/symbols.sh HEADER.. ARCHIVE: the archive defines exactly the functions that its headers declare,
+# tests/c/symbols.sh HEADER.. ARCHIVE: the archive defines exactly the functions that its headers declare, inline ones apart,
 # and needs from outside at most memcpy, memset, memmove and memcmp. An archive for another processor than x86-64 also has what
 # is below the shim (kelindap_module_), and for a controller Arm's names for memcpy and the like; the compiler's own library has
 # those for which an Arm may have no instruction, a product of 64 bits and quotients.
@@ -9,7 +9,7 @@ archive=${*: -1} headers=("${@:1:$#-1}")
 work=$(mktemp -d)
 trap 'rm -rf "$work"' EXIT
 
-grep -oh 'kelindap_[a-z_]*(' "${headers[@]}" | tr -d '(' | sort > "$work/declared"
+grep -hv '^static inline' "${headers[@]}" | grep -o 'kelindap_[a-z_]*(' | tr -d '(' | sort > "$work/declared"
 nm -g --defined-only "$archive" > "$work/nm-defined"
 nm -u "$archive" > "$work/nm-wanted"
 awk 'NF == 3 { print $3 }' "$work/nm-defined" | sort > "$work/all"

@@ -1,0 +1,7 @@
+-- PROMISES, named in docs/PROMISES.md
+pub mod Lives
+pub mod Found
+pub mod Tells
+pub mod Since
+-- laws behind them
+pub mod Follows
