@@ -22,7 +22,7 @@ test: need-tools
 	$(MAKE) --no-print-directory -s prove
 	$(MAKE) --no-print-directory -s sheet-check
 	$(MAKE) --no-print-directory -s -j2 -O test-unit test-text test-c test-wear points test-frames $(BUILD)/bridge
-	mk/bin/beside $(MAKE) --no-print-directory -s test-firmware -- $(MAKE) --no-print-directory -s test-tools compare
+	mk/bin/beside $(MAKE) --no-print-directory -s test-firmware -- $(MAKE) --no-print-directory -s test-tools compare test-cuts
 	$(MAKE) --no-print-directory -s figures test-deb test-python test-dist
 	$(MAKE) --no-print-directory -s test-device
 	mk/bin/beside $(MAKE) --no-print-directory -s test-page test-shims -- $(MAKE) --no-print-directory -s test-others
@@ -74,6 +74,7 @@ include mk/install.mk
 include mk/python.mk
 include mk/frames.mk
 include mk/compare.mk
+include mk/cuts.mk
 include mk/bench.mk
 include mk/firmware.mk
 include mk/page.mk

@@ -96,7 +96,8 @@ void tell_deepest(void)
     static const char *const names[CALLS] = {
         "fresh", "connect",     "disconnect",  "button", "request", "check",  "convert",     "property", "region",
         "group", "user_region", "store_check", "save",   "restore", "remove", "kept", "trace_check", "play",
-        "play_marked", "heard", "serve",
+        "play_marked", "heard", "serve", "slot", "slot_begin", "slot_more", "slot_end", "slot_newer", "slot_target",
+        "slot_work",
     };
     say("painted");
     for (int i = 0; i < CALLS; i++) {

@@ -1,5 +1,5 @@
 /*
- * The little of a C library that bridge.c uses, for a processor alone on its board, and what the board adds: how deep each
+ * The little of a C library that the programs here use, for a processor alone on its board, and what the board adds: how deep each
  * call goes into the stack, and how many instructions it takes. Input and output are the emulator's, by semihosting.
  */
 #ifndef BOARD_H
@@ -50,6 +50,13 @@ enum call {
     CALL_play_marked,
     CALL_heard,
     CALL_serve,
+    CALL_slot,
+    CALL_slot_begin,
+    CALL_slot_more,
+    CALL_slot_end,
+    CALL_slot_newer,
+    CALL_slot_target,
+    CALL_slot_work,
     CALLS
 };
 
@@ -123,6 +130,13 @@ static inline __attribute__((always_inline)) void measure_below(enum call call)
 #define kelindap_play_marked(...) MEASURED(play_marked, __VA_ARGS__)
 #define kelindap_heard(...) MEASURED(heard, __VA_ARGS__)
 #define kelindap_serve(...) MEASURED(serve, __VA_ARGS__)
+#define kelindap_slot(...) MEASURED(slot, __VA_ARGS__)
+#define kelindap_slot_begin(...) MEASURED(slot_begin, __VA_ARGS__)
+#define kelindap_slot_more(...) MEASURED(slot_more, __VA_ARGS__)
+#define kelindap_slot_end(...) MEASURED(slot_end, __VA_ARGS__)
+#define kelindap_slot_newer(...) MEASURED(slot_newer, __VA_ARGS__)
+#define kelindap_slot_target(...) MEASURED(slot_target, __VA_ARGS__)
+#define kelindap_slot_work(...) MEASURED(slot_work, __VA_ARGS__)
 
 /* ---- how many instructions it takes ---- */
 

@@ -2,7 +2,8 @@
 # tests/firmware/run.sh COMPARE BRIDGE: the device on models of the controllers' own boards, against the plain Rust model and
 # against this machine's own processor, for which BRIDGE is. On each board: the unit's scripts and the vectors with the marked
 # cases, EVENTS events of COMPARE, whose replies have the hash that they have here, and how deep each call goes into the
-# stack; on one board of each family the planted faults too. A board whose emulator is missing is named and passed over.
+# stack; the host of examples/flash.c there with a flash that is memory, its power cut (tests/cuts); on one board of each family the
+# planted faults too. A board whose emulator is missing is named and passed over.
 set -euo pipefail
 compare=(timeout 1800 "$(realpath "$1")") here=$(realpath "$2")
 cd "$(dirname "$0")/../.."
@@ -27,10 +28,10 @@ play() {
     grep -o 'hash of all replies .*' "$work/out" > "$work/hash"
 }
 
-# the stack that was touched is no more than the compiler and the listings say
+# PROCESSOR PROGRAM: the stack that was touched is no more than the compiler and the listings say
 stack_holds() {
     local processor=$1 painted name
-    mk/bin/stack "$processor" "build/firmware/$processor/bridge-memory.s" > "$work/said"
+    mk/bin/stack "$processor" "build/firmware/$processor/$2-memory.s" > "$work/said"
     painted=$(grep '^painted ' "$work/err") || fail "$processor told no stack"
     for pair in ${painted#painted }; do
         name=${pair%=*}
@@ -56,6 +57,15 @@ play_scripts() {
     lines=$(grep -o '[0-9]* lines' "$work/out")
 }
 
+# PROCESSOR EVENTS: power cuts on the host for flash; what the calls on slots touch of the stack holds there too
+play_cuts() {
+    local life=build/firmware/$1/life
+    mk/bin/firmware "$1" life tests/cuts/life.c tests/firmware/board.c tests/firmware/memory.c
+    "${compare[@]}" "$life" --cuts "$2" "$seed" > "$work/out" 2> "$work/err" || { cat "$work/out" "$work/err"; fail "$1: a power cut"; }
+    stack_holds "$1" life
+    echo "firmware: $1: $(< "$work/out")"
+}
+
 test_on() { # PROCESSOR EVENTS FAULTS
     local processor=$1 events=$2 faults=$3 bridge=build/firmware/$1/bridge hash
     play_scripts "$processor" bridge
@@ -64,9 +74,10 @@ test_on() { # PROCESSOR EVENTS FAULTS
     hash=$(< "$work/hash")
     play "$bridge" "$events"
     [ "$(< "$work/hash")" = "$hash" ] || fail "$processor: other replies than on $own, seed $seed"
-    stack_holds "$processor"
+    stack_holds "$processor" bridge
     echo "firmware: $processor: $lines of scripts, $events events, seed $seed, 0 different, as on $own;" \
         "a request took $deepest bytes of stack"
+    play_cuts "$processor" $((events / 10))
     [ "$faults" = no ] || "${compare[@]}" --device "$bridge" --faults "$seed" > "$work/out" 2> "$work/err" ||
         { cat "$work/out"; fail "$processor: a planted fault is not found"; }
     [ "$faults" = no ] || echo "firmware: $processor: $(grep -o '[0-9]* of [0-9]* faults found' "$work/out")"

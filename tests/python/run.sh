@@ -1,7 +1,8 @@
 #!/usr/bin/env bash
 # tests/python/run.sh: the Python package (build/python): its structures, numbers, words and table are those of the headers; every
 # script of the desk unit, every vector and the vectors of frames, played through it; what could be lost at its edge; what is refused;
-# that all of it is told and annotated; faults planted in it are found; the wheel and pip; the lines that docs/LINKING.md shows. Without python3
+# slots, cut at every byte; that all of it is told and annotated; faults planted in it are found; the wheel and pip; the lines that
+# docs/LINKING.md shows. Without python3
 # it says so, and mypy takes part where it is installed.
 set -euo pipefail
 cd "$(dirname "$0")/../.."
@@ -18,7 +19,7 @@ grep -v '^#' tests/vectors/frame.tsv | cut -f 2 > "$work/frames.in"
 grep -v '^#' tests/vectors/frame.tsv | cut -f 3 > "$work/frames.out"
 mapfile -t scripts < <(printf '%s\n' tests/unit/*.in "$work"/*.in)
 python3 tests/python/play.py "${scripts[@]%.in}"
-for test in lost refusals whole; do python3 tests/python/$test.py; done
+for test in lost refusals slots whole; do python3 tests/python/$test.py; done
 tests/python/faults.sh "$work/words.txt"
 if command -v mypy > /dev/null; then
     mypy --strict --python-version 3.9 --cache-dir="$work/mypy" build/python/kelindap hosts/python/making > "$work/said" || { cat "$work/said"; exit 1; }

@@ -1,5 +1,5 @@
-"""Kelindap from Python: sheets, versions of them, PDUs, group values, frames, traces, and a device for two partners, over the proved
-libraries.
+"""Kelindap from Python: sheets, versions of them, slots that keep both through power cuts, PDUs, group values, frames, traces, and a
+device for two partners, over the proved libraries.
 
     import kelindap
 
@@ -29,11 +29,13 @@ Threads. No two threads are in the library at once, but a unit is for one thread
 from .errors import Refused
 from .frames import Frame, frame_read, frame_write, frame_write_into
 from .link import Arrival, Served
-from .names import CONNECTIONS, LINK_ROOM, STORE_LAST, STORE_LEAST, STORE_MOST, STORE_VERSIONS, TRACE_EVENTS, VERSION
-from .names import Event, Kind, Message, Mode, Outcome, Rule, TraceKind
+from .names import CONNECTIONS, LINK_ROOM, SLOT_FRONT, SLOT_MOST, SLOT_UNIT, STORE_LAST, STORE_LEAST, STORE_MOST, STORE_VERSIONS
+from .names import TRACE_EVENTS, VERSION
+from .names import Event, Kind, Message, Mode, Outcome, Rule, TraceKind, Work
 from .pdu import Pdu, read, write, write_into
 from .points import point_fields, point_read, point_write
 from .sheet import Part, check, convert, converted, find_group, find_property, find_region, find_user_region
+from .slots import Slot, SlotGoal, SlotJudging, SlotPiece, slot, slot_newer, slot_target, slot_work
 from .store import Version, remove, store_check, versions
 from .trace import Logged, trace_check
 from .unit import Reply, Session, Unit
@@ -55,16 +57,24 @@ __all__ = [
     "Refused",
     "Reply",
     "Rule",
+    "SLOT_FRONT",
+    "SLOT_MOST",
+    "SLOT_UNIT",
     "STORE_LAST",
     "STORE_LEAST",
     "STORE_MOST",
     "STORE_VERSIONS",
     "Served",
     "Session",
+    "Slot",
+    "SlotGoal",
+    "SlotJudging",
+    "SlotPiece",
     "TRACE_EVENTS",
     "TraceKind",
     "Unit",
     "Version",
+    "Work",
     "check",
     "convert",
     "converted",
@@ -80,6 +90,10 @@ __all__ = [
     "point_write",
     "read",
     "remove",
+    "slot",
+    "slot_newer",
+    "slot_target",
+    "slot_work",
     "store_check",
     "trace_check",
     "versions",

@@ -74,6 +74,30 @@ class Served(Structure):
     _fields_ = [(name, c_uint8) for name in "number outcome connection count".split()] + [("changed", Part * CHANGED)]
 
 
+class SlotState(Structure):
+    """kelindap_slot_state"""
+
+    _fields_ = [("refusal", c_uint8), ("number", c_uint32), ("offset", c_size_t), ("length", c_size_t)]
+
+
+class SlotJudging(Structure):
+    """kelindap_slot_judging"""
+
+    _fields_ = [("refusal", c_uint8)] + [(name, c_uint32) for name in "number length left stated sum".split()]
+
+
+class SlotGoal(Structure):
+    """kelindap_slot_goal"""
+
+    _fields_ = [("slot", c_uint8), ("number", c_uint32)]
+
+
+class SlotPiece(Structure):
+    """kelindap_slot_piece"""
+
+    _fields_ = [("refusal", c_uint8), ("work", c_uint8), ("at", c_size_t), ("count", c_size_t)]
+
+
 class Written(Structure):
     """kelindap_written"""
 
@@ -139,6 +163,13 @@ CALLS: Dict[str, Tuple[Any, List[Any]]] = {
     "play_marked": (Played, _SESSIONS + 2 * _RUN + [c_size_t, c_size_t] + 2 * _RUN + _NUMBERS + [c_uint32]),
     "heard": (Arrival, [Link] + 2 * _RUN),
     "serve": (Served, [POINTER(Link)] + 3 * _RUN + [c_uint8]),
+    "slot": (SlotState, _RUN),
+    "slot_begin": (SlotJudging, _RUN + [c_size_t]),
+    "slot_more": (SlotJudging, [SlotJudging] + _RUN),
+    "slot_end": (SlotState, [SlotJudging]),
+    "slot_newer": (c_uint8, [SlotState, SlotState]),
+    "slot_target": (SlotGoal, [SlotState, SlotState]),
+    "slot_work": (SlotPiece, _RUN + [c_uint32, c_size_t, c_uint8] + _RUN),
     "pdu_version": (c_uint32, []),
     "read": (Pdu, _RUN),
     "write": (Written, [Pdu] + 2 * _RUN),

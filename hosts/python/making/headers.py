@@ -11,16 +11,17 @@ from pathlib import Path
 
 # the enumerations, each with those of the headers that it joins, and what it is
 CLASSES = [
-    ("Outcome", ["outcome", "store_outcome", "trace_refusal", "link_outcome"], "What a call gave, or why it was refused."),
+    ("Outcome", ["outcome", "store_outcome", "trace_refusal", "link_outcome", "slot_refusal"], "What a call gave, or why it was refused."),
     ("Rule", ["rule"], "What the check of a sheet gives: accepted, the first rule broken, or old."),
     ("Mode", ["mode"], "How a request came."),
     ("Kind", ["kind"], "The PDUs."),
     ("Event", ["event"], "What a frame means."),
     ("Message", ["message"], "The message codes of a frame."),
     ("TraceKind", ["trace_kind"], "The events of a trace."),
+    ("Work", ["work"], "The pieces of work of a save."),
 ]
 # beginnings of names in the headers that the class says already; an outcome keeps its own
-SAID = {"Event": "EVENT_", "TraceKind": "TRACE_"}
+SAID = {"Event": "EVENT_", "TraceKind": "TRACE_", "Work": "WORK_"}
 PLAIN = "kelindap_plain.h"  # another library
 
 

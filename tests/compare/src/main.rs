@@ -5,6 +5,7 @@
 //!     compare BRIDGE --apart [EVENTS [SEED]]   what one tool does is nothing to the other
 //!     compare BRIDGE --learn [EVENTS [SEED]]   secret bytes are told by nothing
 //!     compare BRIDGE --before [EVENTS [SEED]]  a converted sheet is what the old one was in the release before
+//!     compare LIFE --cuts [EVENTS [SEED]]      power cuts, on the host of tests/cuts/life.c
 //!     compare BRIDGE --scripts NAME..    scripts of the desk unit, NAME.in and NAME.out
 //!     compare --times BRIDGE..           instructions of each request, of boards that count them
 //!
@@ -19,6 +20,7 @@
 
 mod apart;
 mod before;
+mod cuts;
 mod flat;
 mod learn;
 mod make;
@@ -372,11 +374,13 @@ fn main() -> ExitCode {
             seed(rest.first()).map(|seed| faults(Side { program, device_alone }, seed))
         }
         [program, word, rest @ ..]
-            if ["--apart", "--learn", "--before"].contains(&word.as_str()) && rest.len() <= 2 =>
+            if ["--apart", "--learn", "--before", "--cuts"].contains(&word.as_str())
+                && rest.len() <= 2 =>
         {
             let play = match word.as_str() {
                 "--apart" => apart::apart,
                 "--learn" => learn::learn,
+                "--cuts" => cuts::cuts,
                 _ => before::before,
             };
             let events = rest.first().map_or(Some(EVENTS / 10), |w| w.parse().ok());
@@ -399,7 +403,8 @@ fn main() -> ExitCode {
             eprintln!(
                 "       .. BRIDGE --apart [EVENTS [SEED]], .. BRIDGE --learn [EVENTS [SEED]],"
             );
-            eprintln!("       .. BRIDGE --before [EVENTS [SEED]], .. BRIDGE --scripts NAME..,");
+            eprintln!("       .. BRIDGE --before [EVENTS [SEED]], .. LIFE --cuts [EVENTS [SEED]],");
+            eprintln!("       .. BRIDGE --scripts NAME..,");
             eprintln!("       .. --times BRIDGE..");
             ExitCode::from(2)
         }

@@ -2,6 +2,7 @@
 
 use crate::check::rules;
 use crate::layout::word;
+use crate::slots;
 use crate::versions::Store;
 
 /// What a file can be. Words of a text tell one kind from the other, and of bytes the places that they state.
@@ -9,6 +10,7 @@ use crate::versions::Store;
 pub enum File {
     Sheet,
     Store,
+    Medium,
     Trace,
     SheetText,
     TraceText,
@@ -29,6 +31,7 @@ impl File {
         match self {
             File::Sheet => "a sheet",
             File::Store => "a store of versions",
+            File::Medium => "a dump of a medium",
             File::Trace => "a trace",
             File::SheetText => "the text of a sheet",
             File::TraceText => "the text of a trace",
@@ -57,8 +60,8 @@ pub fn fault(bytes: &[u8], wanted: File, fault: impl ToString) -> String {
     other(bytes, wanted).unwrap_or_else(|| fault.to_string())
 }
 
-pub fn of(bytes: &[u8]) -> Option<File> {
-    let bytes = &bytes[..bytes.len().min(MOST as usize)];
+pub fn of(all: &[u8]) -> Option<File> {
+    let bytes = &all[..all.len().min(MOST as usize)];
     if bytes.is_empty() {
         return None;
     }
@@ -67,6 +70,8 @@ pub fn of(bytes: &[u8]) -> Option<File> {
         Some(text) if text.chars().all(printed) => {
             Some(of_text(text.trim_start_matches('\u{feff}')))
         }
+        // its halves are those of all of it
+        _ if rules(all).is_err() && slots::is_dump(all) => Some(File::Medium),
         _ => of_bytes(bytes),
     }
 }

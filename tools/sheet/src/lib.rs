@@ -14,6 +14,7 @@ pub mod make;
 pub mod place;
 pub mod program;
 pub mod show;
+pub mod slots;
 pub mod survey;
 pub mod values;
 pub mod versions;

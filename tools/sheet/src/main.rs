@@ -1,6 +1,7 @@
 //! `sheet check|show|make|diff`: the device sheet as text; `sheet convert`: an old one made new; `sheet versions`: its store of
-//! versions; `sheet survey`: many dumps beside one. Exit status 0; 1 if a sheet is not accepted, or not old where that is asked
-//! for, a store not good, two differ, or a survey found something;
+//! versions; `sheet slots`: the medium that keeps either through power cuts; `sheet survey`: many dumps beside one. Exit status 0;
+//! 1 if a sheet is not accepted, or not old where that is asked for, a store not good, neither slot of a medium counts, two differ,
+//! or a survey found something;
 //! 2 with a line on standard error for anything else: a file that can't be read, a text with a fault, a wrong word.
 //! `--help` and `--version` are asked for, so they go to standard output with status 0.
 
@@ -18,7 +19,7 @@ use sheet::layout::Sheet;
 use sheet::program::{line, read, to_a_terminal, Program, Said};
 use sheet::show::{self, plain};
 use sheet::versions::{self, Store};
-use sheet::{list, make, values};
+use sheet::{list, make, slots, values};
 
 mod surveyed;
 
@@ -40,18 +41,24 @@ fn obey(asked: &Asked) -> Said {
         ("convert", [old, new]) => convert(old, new, asked.flag("--force")),
         ("versions", [store]) => listed(store),
         ("versions diff", [store, number, file]) => since(store, number, file),
+        ("slots", [file]) => medium(file),
         ("survey", [folder]) => surveyed::surveyed(folder, asked),
         (command, _) => Err(format!("{command} has no such words")),
     }
 }
 
-/// The bytes of a file that should be a sheet: one that breaks a rule too, but none that is something else.
+/// The bytes of a file that should be a sheet, or a medium that keeps one: one that breaks a rule too, but none that is something else.
 fn load(name: &str) -> Result<Vec<u8>, String> {
-    let bytes = read(name, kinds::MOST)?;
+    let bytes = kept(name)?;
     match rules(&bytes).err().and_then(|_| kinds::other(&bytes, File::Sheet)) {
         Some(what) => Err(format!("{name}: {what}")),
         None => Ok(bytes),
     }
+}
+
+/// The bytes of a file, or those that a dump of a medium keeps.
+fn kept(name: &str) -> Result<Vec<u8>, String> {
+    slots::kept(read(name, slots::MOST)?).map_err(|why| format!("{name}: {why}"))
 }
 
 /// A sheet that breaks no rule.
@@ -153,11 +160,30 @@ fn differ(a: &str, b: &str, json: bool) -> Said {
 
 /// A store, or what is wrong with it; or with the file, if it is something else.
 fn stored(name: &str) -> Result<Result<Store, String>, String> {
-    let bytes = read(name, kinds::MOST)?;
+    let bytes = kept(name)?;
     match (Store::read(&bytes), kinds::other(&bytes, File::Store)) {
         (Ok(store), _) => Ok(Ok(store)),
         (Err(_), Some(what)) => Err(format!("{name}: {what}")),
         (Err(why), None) => Ok(Err(format!("30: {why}"))),
+    }
+}
+
+/// Both slots of a medium; one that is something else is told as that.
+fn medium(name: &str) -> Said {
+    let bytes = read(name, slots::MOST)?;
+    match kinds::other(&bytes, File::Medium) {
+        Some(what) => Err(format!("{name}: {what}")),
+        None if bytes.len() % 2 == 1 || bytes.len() < 2 * slots::HEAD => {
+            let long = versions::number_of(bytes.len(), "byte", "bytes");
+            Err(format!(
+                "{name}: {long} are no two slots: each is a half of a dump, and has {} at least",
+                slots::HEAD
+            ))
+        }
+        None => Ok((
+            slots::text(&bytes).into_bytes(),
+            u8::from(slots::Medium::of(&bytes).counts().is_none()),
+        )),
     }
 }
 

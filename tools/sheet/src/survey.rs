@@ -9,6 +9,7 @@ use crate::json::Json;
 use crate::kinds::{self, File};
 use crate::layout::{hex, individual_address, name, Kind, Property, Sheet, LATER};
 use crate::show::{element, PUBLIC};
+use crate::slots;
 
 /// A key that nobody set.
 const ZEROS: [u8; 4] = [0; 4];
@@ -43,12 +44,17 @@ impl Verdict {
     }
 }
 
-/// The verdict on a dump, and what it says. An old one says what its conversion does, which changes the edition alone.
+/// The verdict on a dump, of a sheet or of the medium that keeps it, and what it says. An old one says what its conversion does,
+/// which changes the edition alone.
 pub fn judged(bytes: &[u8]) -> (Verdict, Option<Sheet>) {
-    match Sheet::read(bytes) {
+    let bytes = match slots::kept(bytes.to_vec()) {
+        Ok(bytes) => bytes,
+        Err(why) => return (Verdict::Broken(why), None),
+    };
+    match Sheet::read(&bytes) {
         Ok(old) if old.edition == 1 => (Verdict::Old, Some(converted(old))),
         Ok(sheet) => (Verdict::Accepted, Some(sheet)),
-        Err(broken) => (Verdict::Broken(kinds::fault(bytes, File::Sheet, broken)), None),
+        Err(broken) => (Verdict::Broken(kinds::fault(&bytes, File::Sheet, broken)), None),
     }
 }
 

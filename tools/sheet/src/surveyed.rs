@@ -8,8 +8,8 @@ use sheet::survey::{property_named, survey, Wanted, HEIGHT};
 
 use crate::load;
 use sheet::asked::Asked;
-use sheet::kinds;
 use sheet::program::{line, read, Said};
+use sheet::slots;
 
 enum Form {
     Text,
@@ -79,7 +79,7 @@ fn files(asked: &Survey) -> Result<Vec<(String, String)>, String> {
 fn told(asked: &Survey) -> Said {
     let reference = load(asked.reference)?;
     // a file that is no dump is a broken one, and told as what it is
-    let dumps = files(asked)?.into_iter().map(|(name, path)| Ok((name, read(&path, kinds::MOST)?)));
+    let dumps = files(asked)?.into_iter().map(|(name, path)| Ok((name, read(&path, slots::MOST)?)));
     let survey = survey((&plain(asked.reference), &reference), dumps, asked.wanted)?;
     let out = match asked.form {
         Form::Text => survey.text().into_bytes(),

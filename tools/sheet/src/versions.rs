@@ -128,7 +128,7 @@ impl Settings {
     }
 }
 
-fn number_of(n: usize, what: &str, many: &str) -> String {
+pub fn number_of(n: usize, what: &str, many: &str) -> String {
     format!("{n} {}", if n == 1 { what } else { many })
 }
 
