@@ -5,7 +5,7 @@
 "use strict";
 const fs = require("fs");
 const path = require("path");
-const { project, tally, expect } = require("./common.js");
+const { project, hex, tally, expect } = require("./common.js");
 const { library } = require("./library.js");
 
 const [page, random, ...scripts] = process.argv.slice(2);
@@ -42,6 +42,30 @@ function saidOf(p, { form, text, sheet, dump, all }) {
     return [...made.said.map(line => line + "\n"), ...sides.map(file => decode(file.bytes)), ...told.lines.map(line => line + "\n")].join("");
 }
 
+// what the page says of another file of RANDOM, or what is wrong with it
+const OTHERS = {
+    trace: (p, of) => `${p.Events.read(of).length} events`,
+    sheet: (p, of) => p.brokenRule(of)?.text ?? "good",
+    "sheet text": (p, of) => hex(p.SheetText.bytes(p.textOf(of))),
+    times: (p, of, trace) => p.Times.write(trace, p.Times.read(p.textOf(of), trace, trace[0] * 256 + trace[1])) ?? "",
+    evidence: (p, of, trace) => p.Evidence.read(p.textOf(of), trace, trace[0] * 256 + trace[1]).write(trace),
+    "trace text": (p, of) => {
+        const all = p.Texts.events(p.textOf(of)), bytes = p.traceOf(all.map(([event]) => event));
+        return `${hex(bytes)}\n${p.Times.write(bytes, all.map(one => one[1])) ?? ""}`;
+    },
+    kind: (p, of) => p.Kinds.NAMES[p.Kinds.of(of)] ?? "nobody can tell",
+    text: (p, of) => p.textOf(of),
+};
+function saidOther(p, { what, of, trace }) {
+    const unhex = digits => new Uint8Array(Buffer.from(digits, "hex"));
+    try {
+        return OTHERS[what](p, unhex(of), unhex(trace));
+    } catch (error) {
+        if (!(error instanceof p.Fault)) throw error;
+        return error.message;
+    }
+}
+
 const held = (what, got, due) => {
     const [a, b] = [got.split("\n"), due.split("\n")];
     for (let i = 0; i < Math.max(a.length, b.length); i++) expect(`${what}, line ${i + 1}`, a[i], b[i]);
@@ -57,9 +81,13 @@ async function main() {
         held(file, said(p, path.join(folder, file), name, form, before), fs.readFileSync(path.join(folder, `${name}.out`), "utf8"));
     }
     const lines = random === "-" ? [] : fs.readFileSync(random, "utf8").trimEnd().split("\n").map(line => JSON.parse(line));
-    for (const [i, one] of lines.entries()) held(`random recording ${i}, ${one.form}`, saidOf(p, one), one.said);
+    const counts = {};
+    for (const [i, one] of lines.entries()) {
+        counts[one.what] = (counts[one.what] ?? 0) + 1;
+        held(`random ${one.what} ${i}`, one.what === "recording" ? saidOf(p, one) : saidOther(p, one), one.said);
+    }
     for (const fault of tally.faults.slice(0, 20)) console.log(`page: ${fault}`);
-    console.log(`page: ${files.length} recordings of the trace tool's tests and ${lines.length} random ones explained in ${tally.checks} lines, ${tally.faults.length} other than the tool's`);
+    console.log(`page: ${files.length} recordings of the trace tool's tests and ${counts.recording ?? 0} random ones, ${lines.length - (counts.recording ?? 0)} other files, ${tally.checks} lines, ${tally.faults.length} other than the tool's`);
     process.exitCode = tally.faults.length || files.length < 50 ? 1 : 0;
 }
 main();

@@ -583,8 +583,8 @@ fn untouched() {
     println!("{marks:?}");
 }
 
-/// WRITE_RECORDINGS in the environment names a file, in which as many recordings are left, in every form, with what is said of each:
-/// of every second with the dump of the device that was there, of some with one in which a byte is another.
+/// WRITE_RECORDINGS in the environment names a file, in which as many recordings are left, in every form and some of them spoiled, and
+/// files of every other kind, with what is said of each: of most with the dump of the device that was there, of some with another.
 #[test]
 fn written_down() {
     let Some(file) = std::env::var_os("WRITE_RECORDINGS") else { return };
@@ -603,9 +603,12 @@ fn written_down() {
         }
         let form = rng.below(written::FORMS.len());
         let recording = recording(&bus, &spoiled);
-        let text = written::text(form, &recording.frames, &recording.notes, rng.below(9));
+        let text = written::as_text(form, &recording.frames, &recording.notes, rng.below(9));
         let dump = rng.chance(60).then_some(&dump[..]);
+        let text = if rng.chance(20) { written::spoiled(&mut rng, &text) } else { text };
         out += &written::line(form, &text, &bus.first, dump, rng.chance(50));
+        let text = written::as_text(0, &recording.frames, &recording.notes, 0);
+        out += &written::others(&mut rng, bus::SHEET, &text, &bus.first);
     }
     std::fs::write(file, out).unwrap();
 }
