@@ -222,13 +222,13 @@ class Proved {
     /**
      * Marks have a number for each byte of the sheet, and one for the level of each connection.
      * @param {Uint8Array} sessions @param {Uint8Array} sheet @param {Uint8Array} trace @param {number} from @param {number} limit
-     * @param {Uint8Array} log @param {Uint32Array} marks @returns {Played}
+     * @param {Uint8Array} log @param {Uint32Array} marks @param {number} [before] so many events were played with these marks @returns {Played}
      */
-    playMarked(sessions, sheet, trace, from, limit, log, marks) {
+    playMarked(sessions, sheet, trace, from, limit, log, marks, before = from) {
         return this.lending(() => {
             const played = this.structure("played");
             this.calls.kelindap_play_marked(played, this.write(sessions)[0], ...this.write(sheet), ...this.read(trace), from, limit,
-                ...this.write(log), this.room(sheet.length), sheet.length, ...this.write(marks), from);
+                ...this.write(log), this.room(sheet.length), sheet.length, ...this.write(marks), before);
             return { refusal: this.small(played, "played.refusal"), handled: this.small(played, "played.handled") };
         });
     }
@@ -271,6 +271,22 @@ class Proved {
             this.calls.kelindap_point_read(point, type, ...this.read(bytes));
             return { outcome: this.small(point, "point.outcome"), value: this.small(point, "point.value"),
                 hundredths: this.small(point, "point.hundredths") | 0, bits: this.small(point, "point.bits") };
+        });
+    }
+
+    /**
+     * A value into its bytes, by its type: 5 a byte, 9 to the nearest of its hundredths, 14 a float.
+     * @param {number} type @param {number} value @param {Uint8Array} out
+     */
+    writePoint(type, value, out) {
+        return this.lending(() => {
+            const point = this.structure("point"), float = new DataView(new ArrayBuffer(4));
+            float.setFloat32(0, value);
+            this.put(point, "point.type", BigInt(type));
+            if (type === 5) this.put(point, "point.value", BigInt(value));
+            if (type === 9) this.put(point, "point.hundredths", BigInt.asUintN(32, BigInt(Math.round(100 * Math.max(-1e6, Math.min(1e6, value))))));
+            if (type === 14) this.put(point, "point.bits", BigInt(float.getUint32(0)));
+            return this.calls.kelindap_point_write(point, ...this.write(out));
         });
     }
 
