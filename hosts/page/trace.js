@@ -74,6 +74,7 @@ class Playing {
     /** @param {number} count @returns {Moment} */
     after(count) {
         let t = 0, already = 0;
+        count = Math.min(count, this.events.length);
         while (t + 1 < this.traces.length && already + number(this.traces[t], 0, 2) < count) already += number(this.traces[t++], 0, 2);
         const moment = this.between[t] ? copied(this.between[t]) : this.start(), some = count - already, log = new Uint8Array(LOG_LINE * Math.max(some, 1));
         if (some > 0) this.proved.playMarked(moment.sessions, moment.sheet, this.traces[t], 0, some, log, moment.marks, already);
