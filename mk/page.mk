@@ -1,8 +1,13 @@
 # The page: the proved modules for a browser, and what shows them, in one file. Comes after hosts.mk and compare.mk.
 .PHONY: page test-page
 # one idea each; a file rests on those before it
-SCRIPTS := $(addprefix hosts/page/,$(addsuffix .js,bytes module pdu frame points values sheet where differ store device trace demo api \
-    view grid show means files take plot happened report accident part_start part_sheet part_two part_device part_trace part_demo main))
+PAGE_SCRIPTS = $(addprefix hosts/page/,$(addsuffix .js,$(1)))
+# what needs no document: the module, what bytes mean, and what files say, as the tools say it
+LIBRARY := $(call PAGE_SCRIPTS,bytes module pdu frame points values sheet where differ store device trace demo \
+    decode words order text times gaps xml recordings transport answers evidence hearing events sentences make \
+    doubts history place check explain account_text facts kinds sheet_text asked what api)
+SCRIPTS := $(LIBRARY) $(call PAGE_SCRIPTS,view grid show means files take plot happened report accident \
+    part_start part_sheet part_two part_device part_trace part_demo main)
 WASM := build/module/host.bc build/module/tool.bc $(SHIMS) $(wildcard include/*.h) mk/bin/wasm mk/bin/ir
 
 #: make page       build/kelindap.html, the proved device in a browser: one file that needs no network

@@ -65,6 +65,7 @@
  * @property {string} words     the tool's sentence: "asked for and not done, refused (11), by event 8 of .."
  * @property {Uint8Array | null} asked  the bytes that it would have written there, where it says them
  * @property {string | null} askedWords
+ * @property {number | null} askedNumber
  * @property {boolean} otherwise  the recorded answer says that it was done
  * @property {string[]} doubts
  *
@@ -111,7 +112,7 @@
  * @property {ToldOther[]} places
  * @property {string[]} lines   of another layout or a broken sheet, what differs
  *
- * @typedef {object} Told
+ * @typedef {object} Explanation
  * @property {string[]} lines   as `trace explain` prints them
  * @property {string} summary   the first of them
  * @property {string[]} shows   what the recordings show, and lack
@@ -120,6 +121,7 @@
  * @property {ToldFinal | null} final
  * @property {boolean} explained    there is no later dump, or it is what the events give
  * @property {Story} story      for placeAt
+ * @property {Account[]} accounts
  */
 
 /**
@@ -127,43 +129,69 @@
  * @param {Proved} proved @param {string} name @param {Uint8Array} bytes @returns {WhatIs}
  */
 function whatIs(proved, name, bytes) {
-    throw new Error(`${name}: not yet, ${proved}, ${bytes}`);
+    archive = proved;
+    return What.is(name, bytes);
 }
 
 /**
  * The traces of a recording: of a hex recording, an ETS export, knxtool's text or a trace's text. The sheet is the device's at
  * their start, which a trace's text does not need.
  * @param {Proved} proved @param {Named} recording @param {Uint8Array | null} sheet
- * @param {{ form?: "hex" | "ets" | "knxtool" | "text", reverse?: boolean, trace?: string }} [options] the form is found out if it is not
+ * @param {{ form?: RecordingForm | "text", reverse?: boolean, trace?: string }} [options] the form is found out if it is not
  *     given; the trace's name is the recording's with the ending .trace
  * @returns {MadeTrace}
  */
-function makeTrace(proved, recording, sheet, options) {
-    throw new Error(`${recording.name}: not yet, ${proved}, ${sheet}, ${options}`);
+function makeTrace(proved, recording, sheet, options = {}) {
+    archive = proved;
+    const { name, bytes } = recording, named = options.trace ?? `${name.replace(/\.[^./]*$/, "")}.trace`;
+    try {
+        const form = options.form ?? What.form(name, bytes), text = Asked.text(name, bytes, form);
+        if (form !== "text" && !sheet) throw new Fault(`${name}: whose frames these are is told by the device's sheet at their start, and there is none`);
+        const made = Asked.fault(name, text, form, () => (form === "text" ? { events: Texts.events(text), frames: 0, left: new Map(), evidence: null }
+            : Make.fromFrames(Recordings.read(form, text, options.reverse ?? false), /** @type {Uint8Array} */ (sheet))));
+        const parts = Make.parts(made), names = Make.names(named, parts.length), encode = (/** @type {string} */ text) => new TextEncoder().encode(text);
+        return { refused: null, reversible: false, said: Make.text(made, parts, names), frames: made.frames,
+            traces: parts.map((part, i) => ({ name: plain(names[i]), bytes: part.bytes, events: part.events, known: part.known, evidence: part.evidence })),
+            files: parts.flatMap((part, i) => [{ name: names[i], bytes: part.bytes }, ...(part.times ? [{ name: `${names[i]}.times`, bytes: encode(part.times) }] : []),
+                ...(part.side ? [{ name: `${names[i]}.evidence`, bytes: encode(part.side) }] : [])]) };
+    } catch (error) {
+        if (!(error instanceof Fault)) throw error;
+        return { refused: error.message, reversible: error.message.includes(": the times fall throughout: "), said: [], traces: [], files: [], frames: 0 };
+    }
 }
 
 /**
  * A trace of a file, if the module accepts it; a Fault says why not, and where.
- * @param {Proved} proved @param {Named} file @param {{ times?: Named, evidence?: Named }} [sides] @returns {Trace}
+ * @param {Proved} proved @param {Named} file @param {{ times?: Named | null, evidence?: Named | null }} [sides] @returns {Trace}
  */
-function readTrace(proved, file, sides) {
-    throw new Error(`${file.name}: not yet, ${proved}, ${sides}`);
+function readTrace(proved, file, sides = {}) {
+    archive = proved;
+    const { name, bytes } = file, events = Asked.named(name, () => Events.read(bytes), () => Kinds.other(bytes, "trace"));
+    /** @template T @param {Named | null | undefined} side @param {(text: string) => T} read */
+    const side = (side, read) => (side ? Asked.named(side.name, () => read(textOf(side.bytes))) : null);
+    const known = side(sides.times, text => Times.read(text, bytes, events.length)), evidence = side(sides.evidence, text => Evidence.read(text, bytes, events.length));
+    return { name: plain(name), bytes, events, known: known ?? events.map(Times.nothing), evidence };
 }
 
 /**
  * What traces explain of a sheet, and of a later dump if there is one.
  * @param {Proved} proved @param {{ before: Named, traces: Trace[], after?: Named | null, all?: boolean }} asked
- *     `before` must be an accepted sheet; `all` lists every change of a place in the lines, which the facts do anyhow
- * @returns {Told}
+ *     `before` must be an accepted sheet, else a Fault says why not; `all` lists every change of a place in the lines, which the facts do anyhow
+ * @returns {Explanation}
  */
 function explain(proved, asked) {
-    throw new Error(`${asked.before.name}: not yet, ${proved}`);
+    archive = proved;
+    const { before, traces, after = null, all = false } = asked;
+    Asked.sheet(before);
+    const other = after && Kinds.other(after.bytes, "sheet");
+    if (after && other) throw new Fault(`${after.name}: ${other}`);
+    return Facts.tell(new Story(before.bytes, traces, after && after.bytes), plain(before.name), after && { name: plain(after.name), bytes: after.bytes }, all);
 }
 
 /**
  * The place that has this byte, with its history.
- * @param {Told} told @param {number} at @returns {ToldPlace}
+ * @param {Explanation} told @param {number} at @returns {ToldPlace}
  */
 function placeAt(told, at) {
-    throw new Error(`${at} of ${told}: not yet`);
+    return Facts.placeAt(told, at);
 }

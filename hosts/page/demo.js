@@ -1,11 +1,11 @@
 // The demonstration, as `make run` plays it: scripts/demo.txt, in the words of scripts/demo.sh.
 
-/** @typedef {{ kind: "text" | "sent" | "answer" | "change", text: string, hidden?: string, outcome?: number }} Line hidden: its text without keys, where it has one */
+/** @typedef {{ kind: "text" | "sent" | "answer" | "change", text: string, hidden?: string, outcome?: number }} Shown hidden: its text without keys, where it has one */
 
 // All of it, step by step.
 /** @param {Proved} proved @param {string} script @param {Uint8Array} sheet */
 function demonstration(proved, script, sheet) {
-    /** @type {Line[][]} */
+    /** @type {Shown[][]} */
     const steps = [];
     const stage = { device: new Device(proved, sheet), told: sheet.slice() };
     for (const line of script.split("\n")) {
@@ -21,17 +21,17 @@ function demonstration(proved, script, sheet) {
     return steps;
 }
 
-/** @param {Proved} proved @param {{ device: Device, told: Uint8Array }} stage @param {string[]} words @returns {Line[]} */
+/** @param {Proved} proved @param {{ device: Device, told: Uint8Array }} stage @param {string[]} words @returns {Shown[]} */
 function playLine(proved, stage, words) {
     const { device } = stage, [command, ...rest] = words;
     // what has changed since this was told last
-    /** @param {string[]} sessions @returns {Line[]} */
+    /** @param {string[]} sessions @returns {Shown[]} */
     const changes = sessions => {
         const lines = [...sessions.map(text => text.replace("→", "->")), ...differences(stage.told, device.sheet)];
         stage.told = device.sheet.slice();
         return lines.map(text => ({ kind: "change", text }));
     };
-    /** @param {string} sent @param {string} answer @param {Event_} event @param {string} [hidden] @returns {Line[]} */
+    /** @param {string} sent @param {string} answer @param {Event_} event @param {string} [hidden] @returns {Shown[]} */
     const told = (sent, answer, event, hidden = sent) => [{ kind: "sent", text: sent, hidden }, { kind: "answer", text: answer, outcome: event.outcome }, ...changes(event.sessions)];
     switch (command) {
         case "request": {

@@ -35,7 +35,7 @@ const doubtsTold = doubts => doubts.map(line => el("p", { class: "doubt" }, line
 function refusalTold(refusal, ways) {
     const { event, why, otherwise, doubts } = refusal, number = `${event.outcomeWords} (${event.outcome})`;
     return el("div", { class: "vain" },
-        el("p", {}, `asked for and not done, ${number}`, why && why !== event.outcomeWords && el("strong", {}, `: ${why}`), otherwise && ", but the device answered otherwise", ", by ", ...eventTold(event, ways)),
+        el("p", {}, `asked for and not done, ${number}`, why !== number && el("strong", {}, `: ${why}`), otherwise && ", but the device answered otherwise", ", by ", ...eventTold(event, ways)),
         ...doubtsTold(doubts));
 }
 
@@ -52,7 +52,7 @@ function shortened(all) {
 }
 
 // A place that events changed. What the dump has there, and what was refused, is told with the dump.
-/** @param {ToldPlace} place @param {ToldOther | undefined} other @param {Told} told @param {Ways} ways */
+/** @param {ToldPlace} place @param {ToldOther | undefined} other @param {Explanation} told @param {Ways} ways */
 function placeTold(place, other, told, ways) {
     const history = other ? null : historyOf(place, undefined, told.events.length);
     return el("li", { class: "place" },
@@ -68,7 +68,7 @@ function placeTold(place, other, told, ways) {
 }
 
 // A place that the dump has otherwise than the events leave it.
-/** @param {ToldOther} other @param {ToldPlace} place @param {Told} told @param {Ways} ways */
+/** @param {ToldOther} other @param {ToldPlace} place @param {Explanation} told @param {Ways} ways */
 function otherTold(other, place, told, ways) {
     const history = historyOf(place, other, told.events.length), last = place.by[0];
     return el("li", { class: "place" },
@@ -84,7 +84,7 @@ function otherTold(other, place, told, ways) {
 /** What a dump's verdict looks like. */
 const FINAL_LOOK = { same: "good", older: "", mixed: "bad", past: "bad", layout: "bad", broken: "bad" };
 
-/** @param {Told} told @param {ToldFinal} final @param {Ways} ways */
+/** @param {Explanation} told @param {ToldFinal} final @param {Ways} ways */
 const finalTold = (told, final, ways) => el("section", { class: "final" },
     el("h3", {}, "The dump beside the events"),
     el("p", { class: `verdict ${FINAL_LOOK[final.kind]}` }, final.head),
@@ -93,7 +93,7 @@ const finalTold = (told, final, ways) => el("section", { class: "final" },
     final.lines.length > 0 && el("ul", { class: "lines" }, ...listed(final.lines, 8)));
 
 // All of it. What the dump has otherwise comes first: that is what one wants to know.
-/** @param {Told} told @param {Ways} ways */
+/** @param {Explanation} told @param {Ways} ways */
 function happenedView(told, ways) {
     const others = new Map((told.final?.places ?? []).map(other => [other.at, other]));
     return el("div", { class: "happened" },
@@ -104,7 +104,7 @@ function happenedView(told, ways) {
 }
 
 // The history of one place, for who touches it in the sheet.
-/** @param {ToldPlace} place @param {ToldOther | undefined} other @param {Told} told @param {Ways} ways */
+/** @param {ToldPlace} place @param {ToldOther | undefined} other @param {Explanation} told @param {Ways} ways */
 function placeHistory(place, other, told, ways) {
     const history = historyOf(place, other, told.events.length);
     return el("div", { class: "place" }, el("h4", {}, place.name),

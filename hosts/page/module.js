@@ -220,6 +220,18 @@ class Proved {
     }
 
     /**
+     * @param {Uint8Array} sessions @param {Uint8Array} sheet @param {Uint8Array} trace @param {number} from @param {number} limit
+     * @param {Uint8Array} log @returns {Played}
+     */
+    play(sessions, sheet, trace, from, limit, log) {
+        return this.lending(() => {
+            const played = this.structure("played");
+            this.calls.kelindap_play(played, this.write(sessions)[0], ...this.write(sheet), ...this.read(trace), from, limit, ...this.write(log));
+            return { refusal: this.small(played, "played.refusal"), handled: this.small(played, "played.handled") };
+        });
+    }
+
+    /**
      * Marks have a number for each byte of the sheet, and one for the level of each connection.
      * @param {Uint8Array} sessions @param {Uint8Array} sheet @param {Uint8Array} trace @param {number} from @param {number} limit
      * @param {Uint8Array} log @param {Uint32Array} marks @param {number} [before] so many events were played with these marks @returns {Played}

@@ -28,7 +28,7 @@ class DemoPart {
     }
 }
 
-/** @param {Line[]} step @param {boolean} keys */
+/** @param {Shown[]} step @param {boolean} keys */
 const stepView = (step, keys) => el("li", {}, ...step.map(({ kind, text, hidden = text, outcome }) => {
     if (kind === "text") return el("p", { class: "text" }, text);
     if (kind === "sent") return el("div", { class: "sent" }, keys ? text : hidden);

@@ -24,7 +24,7 @@ class TracePart {
         this.traces = [];
         /** The first trace's bytes, one that is refused too. @type {Uint8Array | null} */
         this.trace = null;
-        /** @type {Told | null} */
+        /** @type {Explanation | null} */
         this.told = null;
         this.at = 0;
         this.opened = new Set();
@@ -309,7 +309,7 @@ class TracePart {
     }
 
     // The histories of the places in a run of bytes, with the count if it is a property's; those to which something happened.
-    /** @param {Told} told @param {number} from @param {number} length @returns {Node[]} */
+    /** @param {Explanation} told @param {number} from @param {number} length @returns {Node[]} */
     histories(told, from, length) {
         const others = new Map((told.final?.places ?? []).map(other => [other.at, other])), all = [];
         const property = entriesOf(this.sheet).properties.find(p => p.body === from && p.length === length);

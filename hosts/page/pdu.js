@@ -12,14 +12,14 @@ const HIDDEN = "••••••••";
 
 /**
  * A PDU in words: its kind and its fields. A key is shown or hidden.
- * @param {FlatPdu} pdu @param {boolean} [keys]
+ * @param {FlatPdu} pdu @param {boolean} [keys] @param {string} [hidden]
  */
-function pduText(pdu, keys = true) {
+function pduText(pdu, keys = true, hidden = HIDDEN) {
     const half = pdu.data.length / 2;
     const runs = /** @type {Record<string, Uint8Array>} */ ({ data: pdu.data, and: pdu.data.slice(0, half), xor: pdu.data.slice(half) });
     const value = (/** @type {string} */ name) => {
         if (RUNS.includes(name)) return run(runs[name]);
-        if (name === "key" && !keys && pdu.fields.key !== 0xffffffff) return HIDDEN;
+        if (name === "key" && !keys && pdu.fields.key !== 0xffffffff) return hidden;
         return DIGITS[name] ? pdu.fields[name].toString(16).padStart(DIGITS[name], "0") : String(pdu.fields[name]);
     };
     return [MADE.kinds[pdu.kind], ...FIELDS[pdu.kind].map(name => `${name}=${value(name)}`)].join(" ");

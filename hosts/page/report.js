@@ -3,7 +3,7 @@
 /** @typedef {{ what: string, name: string, length: number }} Part_ a file that the explanation rests on */
 
 // A document of its own: what it rests on, and what happened.
-/** @param {Told} told @param {Part_[]} files @param {Ways} ways @param {string} version */
+/** @param {Explanation} told @param {Part_[]} files @param {Ways} ways @param {string} version */
 function report(told, files, ways, version) {
     const page = document.implementation.createHTMLDocument("What happened");
     page.documentElement.lang = "en";
