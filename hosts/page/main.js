@@ -9,8 +9,8 @@ class App {
         this.keys = false;
         this.sheet = unhex(MADE.sheets[0][1]);
         this.sheetName = "sheet.bin";
-        /** Whether a person gave the sheet of the first part. */
-        this.sheetGiven = false;
+        /** What a person called the sheet of the first part; nothing if nobody gave it. */
+        this.sheetGiven = "";
         this.part = "start";
         this.device = new Device(proved, this.sheet);
         this.sheetPart = new SheetPart(this, byId("sheet"));
@@ -52,7 +52,9 @@ class App {
     take(files, place) {
         const { news, part } = new Taking(this, place).take(files);
         byId("news").replaceChildren(...news.map(({ text, bad }) => el("li", { class: bad ? "bad" : "" }, text)));
+        if (!place) this.tracePart.fold();
         if (part && part !== this.part) this.open(part);
+        if (part && !place) scrollTo(0, 0);
     }
 
     /** The accident in all parts that can show it. */
@@ -62,11 +64,12 @@ class App {
         for (const [side, file] of [before, after].entries()) this.twoPart.sources[side].put({ ...file, kind: "sheet", words: "a sheet as text", fault: null });
         const recording = tracePart.accident();
         tracePart.traceSource.put(whatIs(this.proved, recording.name, recording.bytes));
+        tracePart.fold();
     }
 
     /** @param {Uint8Array} bytes @param {string} name @param {boolean} [given] by a person */
     setSheet(bytes, name, given = false) {
-        this.sheetGiven = given;
+        this.sheetGiven = given ? name : "";
         this.sheet = bytes.slice();
         this.sheetName = /\.\w+$/.test(name) ? name.replace(/\.\w+$/, ".bin") : "sheet.bin";
         this.sheetPart.source.tell(name, bytes);

@@ -59,8 +59,9 @@ class TracePart {
         this.traceSource = source(app, "trace", "The recording, or a trace", "events", (bytes, name, what) => this.takeEvents(what ?? whatIs(app.proved, name, bytes)),
             [["the accident, with its dumps", () => this.accident()], ["what happened to the device", () => this.recorded()]]);
         this.dumpSource = source(app, "trace", "A dump taken afterwards, if there is one", "sheet", (bytes, name) => this.setDump(bytes, name), [["the device's sheet", () => app.device.sheet.slice()]]);
-        root.append(el("h2", {}, "What happened"), means("recording", "trace"),
-            el("div", { class: "pair" }, this.sheetSource.box, this.traceSource.box), this.dumpSource.box,
+        this.given = el("summary", {});
+        this.boxes = el("details", { class: "given", open: true }, this.given, el("div", { class: "three" }, this.sheetSource.box, this.traceSource.box, this.dumpSource.box));
+        root.append(el("h2", {}, "What happened"), means("recording", "trace"), this.boxes,
             this.verdict, this.turn, this.making, this.explanation, this.body);
     }
 
@@ -154,21 +155,27 @@ class TracePart {
         this.load(made);
     }
 
-    // Which of two dumps is the earlier: that from which the events lead nearer to the other.
-    /** @param {WhatIs} a @param {WhatIs} b @param {WhatIs[]} events @returns {[WhatIs, WhatIs]} */
-    inOrder(a, b, events) {
+    // Whether of two dumps the second is the earlier: that from which the events lead nearer to the other, at fewer places; null if it is not seen.
+    /** @param {WhatIs} a @param {WhatIs} b @param {WhatIs[]} events */
+    turnedRound(a, b, events) {
         /** @param {WhatIs} x @param {WhatIs} y */
         const apart = (x, y) => {
             try {
                 const { traces } = this.tried(events.length ? events : this.files, [], this.reverse, x.bytes), playing = new Playing(this.app.proved, x.bytes, traces.map(trace => trace.bytes));
                 const last = playing.after(playing.events.length).sheet;
-                return last.length === y.bytes.length ? last.filter((byte, p) => byte !== y.bytes[p]).length : Infinity;
+                return this.app.proved.check(last) || this.app.proved.check(y.bytes) ? Infinity : differences(last, y.bytes).length;
             } catch (error) {
                 if (error instanceof Fault) return Infinity;
                 throw error;
             }
         };
-        return apart(b, a) < apart(a, b) ? [b, a] : [a, b];
+        const [there, back] = [apart(a, b), apart(b, a)];
+        return there === back ? null : back < there;
+    }
+
+    // What was given anywhere on the page is explained at once, and the places for files make room for it.
+    fold() {
+        if (this.told) this.boxes.open = false;
     }
 
     exchange() {
@@ -177,6 +184,7 @@ class TracePart {
         this.dump = null;
         this.setSheet(dump, dumpName, true);
         this.setDump(sheet, sheetName);
+        this.show();
     }
 
     /** The accident: both dumps and the recording between them. */
@@ -234,6 +242,7 @@ class TracePart {
         const sheet = rule ? `The sheet: ${text}; no request on it does anything.` : "";
         this.verdict.textContent = waits ? `${file.name} is there. Now the dump of the device as it was at its start: without it nobody knows which of this was for the device, and what it changed.`
             : this.trace && refusal ? `The trace is refused: ${outcomeText(refusal)}.` : this.fault ? `${file?.name}: ${this.fault}` : !file ? "" : `${counted(events.length, "event")}. ${sheet}`.trim();
+        this.given.textContent = `The files${[this.known && this.sheetName, ...this.files.map(of => of.name), this.dump && this.dumpName].filter(Boolean).map((name, i) => `${i ? ", " : ": "}${name}`).join("")}`;
         const said = this.made?.said ?? [];
         this.making.hidden = said.length === 0;
         this.making.replaceChildren(el("summary", {}, "What was made of the recording"), el("pre", {}, said.join("\n")),

@@ -11,10 +11,11 @@ function svg(tag, attributes, ...children) {
     return element;
 }
 
-// A place's history, with what a dump has there, as far as it is numbers; none if it is none, or nothing happened to it.
+// An element's history, with what a dump has there, as far as it is numbers; none of other places, or if nothing happened to it.
 /** @param {ToldPlace} place @param {ToldOther | undefined} other @param {number} events @returns {Course | null} */
 function historyOf(place, other, events) {
     const points = place.plot.filter(point => point.value !== null), dump = other ? other.dumpNumber : null;
+    if (!/^property .* element/.test(place.name)) return null;
     return points.length > 1 || (points.length === 1 && dump !== null) ? { name: place.name, points, events, dump } : null;
 }
 
@@ -62,6 +63,12 @@ function picture(history, width) {
     // the value from event to event, and to what the dump has
     const path = steps.map((p, i) => `${i ? `H${round(x(p.event))}V` : `M${round(x(p.event))} `}${round(y(/** @type {number} */ (p.value)))}`).join("") + `H${round(end)}`;
     drawn.push(svg("path", { class: "value", d: path }));
+    // a value for which there was no room at the side stands at its point, below the line or above it
+    steps.forEach((p, i) => {
+        const value = /** @type {number} */ (p.value), next = steps[i + 1]?.value ?? value;
+        if (levels.includes(value) || steps.length > 8) return;
+        drawn.push(svg("text", { x: round(x(p.event)) + 4, y: round(y(value)) + (next > value ? 17 : -8) }, String(value)));
+    });
     for (const p of steps.slice(1)) drawn.push(svg("circle", { class: "step", cx: round(x(p.event)), cy: round(y(/** @type {number} */ (p.value))), r: 4 }));
     for (const p of points.filter(point => point.refused)) {
         const [cx, cy] = [round(x(p.event)), round(y(/** @type {number} */ (p.value)))];

@@ -8,8 +8,9 @@ const STAYS = "it was not taken, and what was there stays";
 // The kind of place that a file is for; none of what no place takes.
 /** @param {WhatIs} what @returns {Wanted | "side" | null} */
 function wantedFor(what) {
+    // one that is old or breaks a rule is shown for that; of a text that says no sheet there are no bytes to show
+    if (SHEET_KINDS.includes(what.kind) && number(what.bytes, 4, 2) === what.bytes.length) return "sheet";
     if (what.fault) return null;
-    if (SHEET_KINDS.includes(what.kind)) return "sheet";
     if (SIDE_KINDS.includes(what.kind)) return "side";
     if (RECORDING_KINDS.includes(what.kind) || what.kind === "trace") return "events";
     return what.kind === "store" ? "store" : null;
@@ -43,9 +44,9 @@ function notTaken(app, what, place) {
         }
         return "";
     };
-    let more = what.fault && !what.words.includes(what.fault) ? `; ${faultOf(what, new Fault(what.fault))}` : "";
-    if (!more && what.name === "pasted" && what.kind !== "cut sheet") more = reason(() => unhex(new TextDecoder().decode(what.bytes).slice(0, 4000)));
-    else if (!more && place?.wants === "events" && what.kind === "unknown") more = reason(() => readTrace(app.proved, what));
+    const fault = what.fault && !what.words.includes(what.fault) ? `; ${faultOf(what, new Fault(what.fault))}` : "";
+    const digits = what.name === "pasted" && what.kind === "text" ? reason(() => unhex(new TextDecoder().decode(what.bytes).slice(0, 4000))) : "";
+    const more = digits || (place?.wants === "events" && what.kind === "unknown" && what.bytes.length ? reason(() => readTrace(app.proved, what)) : "") || fault;
     return `${what.name}: ${what.words}${more}: ${STAYS}`;
 }
 
@@ -133,8 +134,9 @@ class Taking {
         for (const what of sheets.slice(2)) this.refuse(`${what.name}: ${what.words}; events lie between two dumps, and there are more: ${STAYS}`);
         let [first, second] = sheets, more = "";
         if (first && second) {
-            [first, second] = tracePart.inOrder(first, second, events);
-            more = ", the events leading nearer from it to the other than back; the dumps can be exchanged below";
+            const turned = tracePart.turnedRound(first, second, events);
+            if (turned) [first, second] = [second, first];
+            more = turned === null ? ", since it came first: which is the earlier is not seen from the events, and they can be exchanged below" : ": from it the events lead nearer to the other than back";
         }
         if (events.length) tracePart.hold(events, sides);
         if (second) {
@@ -158,8 +160,8 @@ class Taking {
             tracePart.setDump(twoPart.sheets[1].slice(), twoPart.names[1]);
             this.news.push({ text: `${twoPart.names[0]} and ${twoPart.names[1]} are taken as the dumps before and after.`, bad: false });
         } else if (app.sheetGiven) {
-            tracePart.setSheet(app.sheet.slice(), app.sheetName, true);
-            this.news.push({ text: `${app.sheetName} is taken as the dump at the start.`, bad: false });
+            tracePart.setSheet(app.sheet.slice(), app.sheetGiven, true);
+            this.news.push({ text: `${app.sheetGiven} is taken as the dump at the start.`, bad: false });
         }
     }
 

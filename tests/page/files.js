@@ -9,7 +9,7 @@ const held = `Object.fromEntries(Object.entries({ sheet: app.sheet, first: app.t
     start: app.tracePart.sheet, dump: app.tracePart.dump ?? [], events: app.tracePart.files.flatMap(f => [...f.bytes]), sides: app.tracePart.sides.flatMap(f => [...f.bytes]) }).map(([name, bytes]) => [name, hex(bytes)]))`;
 // a place for each file: where it is, and which of those it fills
 const BOXES = [["sheet", "#sheet .source", "sheet"], ["two", "#two .source:first-child", "first"], ["two", "#two .source:last-child", "second"], ["device", "#device .versions .source", "store"],
-    ["device", "#device .columns > div > .source", "device"], ["trace", "#trace .pair .source:first-child", "start"], ["trace", "#trace .pair .source:last-child", "events"], ["trace", "#trace > .source", "dump"]];
+    ["device", "#device .columns > div > .source", "device"], ["trace", "#trace .three .source:nth-child(1)", "start"], ["trace", "#trace .three .source:nth-child(2)", "events"], ["trace", "#trace .three .source:nth-child(3)", "dump"]];
 
 async function kinds(b) {
     const before = await b.run(`(() => { const s = whatIs(app.proved, "before.txt", new TextEncoder().encode(MADE.accident.before[1])).bytes, store = new Uint8Array(256); app.proved.save(s, store);
@@ -91,7 +91,7 @@ async function files(b, url) {
         // a recording that comes behind it is played on it
         await b.drop("#sheet h2", recording);
         await part("trace");
-        has("a recording on the dump before it", await b.run(text("#trace .explanation")), "9 events of laptop.trace on before.bin");
+        has("a recording on the dump before it", await b.run(text("#trace .explanation")), "9 events of laptop.trace on before.txt");
         await open();
         await drop([two, one]);
         await part("two");
@@ -125,7 +125,7 @@ async function files(b, url) {
     await b.paste(accident("laptop.hex").toString());
     await part("trace");
     holds("a recording that is pasted anywhere", await b.run(`app.tracePart.told.events.length === 9`));
-    await b.run(`document.querySelector("#trace textarea").focus()`);
+    await b.run(`app.open("device"); document.querySelector("#device form textarea").focus()`);
     const news = await b.run(text("#news"));
     await b.paste("00");
     expect("what is pasted into a field is the field's", await b.run(text("#news")), news);

@@ -21,7 +21,7 @@ async function hostile(b) {
     }
     expect("what is there stays", await held(), before);
     if (!(await b.run(`document.querySelector("#sheet .source details").open`))) await b.click("#sheet .source summary");
-    for (const [typed, fault] of [["02 01 zz", "“z” is no hex digit"], ["020", "3 hex digits: a byte has two"], ["00".repeat(40000), "it was not taken, and what was there stays"], ["<img src=x onerror=alert(1)>", "“<” is no hex digit"]]) {
+    for (const [typed, fault] of [["02 01 zz", "“z” is no hex digit"], ["020", "3 hex digits: a byte has two"], ["00".repeat(40000), "it was not taken, and what was there stays"], ["<img src=x onerror=alert(1)>", "it was not taken, and what was there stays"]]) {
         await b.type("#sheet textarea", typed);
         await b.click("=Take these");
         has(`pasted ${typed.slice(0, 40)}`, await status(), fault);

@@ -57,8 +57,8 @@ async function brokenSheets(b) {
     ];
     for (const [rule, change, place] of broken) {
         const bytes = Array.isArray(change) || change instanceof Uint8Array ? Uint8Array.from(change) : Object.assign(sample.slice(), change);
-        // what is no whole dump is not taken as a file, and told all the same where it comes another way
-        if (rule === "S1" || change[5]) await b.run(`app.setSheet(${bytesOf(bytes)}, "broken.bin")`);
+        // what is no whole dump, or of no edition, is not taken as a file, and told all the same where it comes another way
+        if (rule === "S1" || rule === "S2" || change[5]) await b.run(`app.setSheet(${bytesOf(bytes)}, "broken.bin")`);
         else await b.chooseFile("#sheet input[type=file]", b.file("broken.bin", bytes));
         await b.until(`app.sheet.length === ${bytes.length} && hex(app.sheet) === ${given(hex(bytes))}`);
         const verdict = await b.run(text("#sheet .verdict"));
