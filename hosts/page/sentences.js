@@ -9,6 +9,10 @@ const Sentences = (() => {
     /** @param {At} at */
     const line = at => `line ${at.line}`;
 
+    // Behind which event, named by the caller.
+    /** @param {At} at @param {(event: number) => string} name */
+    const place = (at, name) => (at.behind === 0 ? "before the first event" : `behind ${name(at.behind)}`);
+
     /** @param {Gap} g */
     function gap({ at, why }) {
         const time = (/** @type {string | null} */ time) => (time === null ? "" : ` at ${time}`);
@@ -57,7 +61,7 @@ const Sentences = (() => {
                 case "two of a number": return `another request had the number of ${whose(d.of)}: which of the two the device took is not known`;
                 case "missing before": return `events are missing before this one: ${cause(d.cause)}`;
                 case "missing after": return `events are missing after this one: ${cause(d.cause)}`;
-                case "parted": return `recording and device have parted ${d.parted.asked ? "at" : "behind"} ${name(d.parted.at.behind)} (${line(d.parted.at)})`;
+                case "parted": return `recording and device have parted ${d.parted.asked ? `at ${name(d.parted.at.behind)}` : place(d.parted.at, name)} (${line(d.parted.at)})`;
                 case "times go back": return `times go back (${line(d.at)}): the order of the events is not known`;
                 case "own address": return `a frame under the device's own address went there since (${line(d.own.at)}): its own, or forged and taken`;
             }
@@ -89,7 +93,6 @@ const Sentences = (() => {
     function shows(e, before = 0, name = event => `event ${event}`) {
         /** @type {string[]} */
         const out = [];
-        const place = (/** @type {At} */ at) => (at.behind === 0 ? "before the first event" : `behind ${name(at.behind)}`);
         for (const [title, tell] of LISTS) {
             const of = e.events.flatMap((seen, i) => {
                 const what = tell(seen, e);
@@ -101,12 +104,12 @@ const Sentences = (() => {
         /** @template T @param {T[]} all @param {(one: T) => string} tell @param {(more: number) => string[]} [more] */
         const first = (all, tell, more = () => []) => out.push(...all.slice(0, NAMED).map(tell), ...(all.length > NAMED ? more(all.length - NAMED) : []));
         const places = (/** @type {number} */ more) => [`and ${more} places more`];
-        first(e.gaps, g => `events may be missing ${place(g.at)}: ${gap(g)}`, places);
-        first(e.losses, l => `frames are missing ${place(l.at)}: ${loss(l)}`, places);
+        first(e.gaps, g => `events may be missing ${place(g.at, name)}: ${gap(g)}`, places);
+        first(e.losses, l => `frames are missing ${place(l.at, name)}: ${loss(l)}`, places);
         if (e.parted) {
             const { at, asked } = e.parted;
             out.push(asked ? `recording and device part at ${name(at.behind)}: its recorded answer is another than playing gives (${line(at)})`
-                : `recording and device part ${place(at)}: no event asked for a recorded answer (${line(at)})`);
+                : `recording and device part ${place(at, name)}: no event asked for a recorded answer (${line(at)})`);
         }
         first(e.left, left, more => [`and ${more} more requests that are no events`]);
         if (e.back) out.push(`times go back ${many(e.back.times, "time")}, first at line ${e.back.at.line}`);

@@ -43,8 +43,11 @@ const levelMeans = (level, doing) => (level === 3 ? `everybody may ${doing} it, 
 const rightsMean = levels => `r${levels.read} w${levels.write} in a sheet's text: ${levelMeans(levels.read, "read")}; ${levelMeans(levels.write, "write")}.`;
 
 /** @param {Property} p */
-const countMeans = p => `count ${p.count}, maximum ${p.maximum} in a sheet's text: there is room for ${counted(p.maximum, "element")}, and ${p.count === p.maximum ? (p.count === 1 ? "it counts" : "all count") : p.count === 0 ? "none counts yet"
-    : `the first ${p.count === 1 ? "one counts" : `${p.count} count`}; what is behind, shown smaller, is room that a write may fill, and can't be read`}.`;
+function countMeans({ count, maximum }) {
+    const some = `the first ${count === 1 ? "one counts" : `${count} count`}; what is behind, shown smaller, is room that a write may fill, and can't be read`;
+    const counts = count === maximum ? (count === 1 ? "it counts" : "all count") : count === 0 ? "none counts yet" : some;
+    return `count ${count}, maximum ${maximum} in a sheet's text: there is room for ${counted(maximum, "element")}, and ${counts}.`;
+}
 
 // The name of a place; who touches it is shown what happened there, in the box that has it.
 /** @param {string} name @param {number} at @param {number} length @param {Look} look @param {HTMLElement} box */

@@ -1,13 +1,14 @@
 #!/usr/bin/env node
-// tests/page/said.js PAGE TRACE SHEET SCRIPTS..: what the page says of files is what the tools say, byte by byte: of every recording of
-// tools/trace/tests/evidence, which has the whole of it beside it, and of the accident. SCRIPTS are those of the page that need no document.
+// tests/page/said.js PAGE RANDOM SCRIPTS..: what the page says of files is what the trace tool says, byte by byte: of every recording of
+// tools/trace/tests/evidence, which has the whole of it beside it, and of those in the file RANDOM, with their side files, which
+// tools/trace/tests/true_or_marked.rs wrote. SCRIPTS are those of the page that need no document.
 "use strict";
 const fs = require("fs");
 const path = require("path");
-const { project, tally, expect } = require("./common.js");
+const { project, hex, tally, expect } = require("./common.js");
 const { library } = require("./library.js");
 
-const [page, ...scripts] = process.argv.slice(2);
+const [page, random, ...scripts] = process.argv.slice(2);
 const FORMS = { hex: "hex", xml: "ets", knxtool: "knxtool" };
 const bytes = name => new Uint8Array(fs.readFileSync(name));
 
@@ -28,20 +29,65 @@ function said(p, file, name, form, before) {
     return out + told.lines.map(line => line + "\n").join("") + (told.explained ? "" : "status 1\n");
 }
 
+// the same of a recording of RANDOM: what is made with its side files, and what is explained
+function saidOf(p, { form, text, sheet, dump, all }) {
+    const encode = text => new TextEncoder().encode(text), decode = bytes => new TextDecoder().decode(bytes), sheetBytes = Buffer.from(sheet, "hex");
+    const made = p.makeTrace(p.proved, { name: "a", bytes: encode(text) }, new Uint8Array(sheetBytes), { form, trace: "a.trace" });
+    if (made.refused) return made.refused.replace("a: ", "") + "\n";
+    const sides = made.files.filter(file => !file.name.endsWith(".trace")), named = (name, ending) => sides.find(file => file.name === `${name}.${ending}`);
+    // once more from the files, as a person has them
+    const traces = made.files.filter(file => file.name.endsWith(".trace")).map(file => p.readTrace(p.proved, file, { times: named(file.name, "times"), evidence: named(file.name, "evidence") }));
+    const after = dump === null ? null : { name: "dump", bytes: new Uint8Array(Buffer.from(dump, "hex")) };
+    const told = p.explain(p.proved, { before: { name: "before", bytes: new Uint8Array(sheetBytes) }, traces, after, all });
+    return [...made.said.map(line => line + "\n"), ...sides.map(file => decode(file.bytes)), ...told.lines.map(line => line + "\n")].join("");
+}
+
+// what the page says of another file of RANDOM, or what is wrong with it
+const OTHERS = {
+    trace: (p, of) => `${p.Events.read(of).length} events`,
+    sheet: (p, of) => p.brokenRule(of)?.text ?? "good",
+    "sheet text": (p, of) => hex(p.SheetText.bytes(p.textOf(of))),
+    times: (p, of, trace) => p.Times.write(trace, p.Times.read(p.textOf(of), trace, trace[0] * 256 + trace[1])) ?? "",
+    evidence: (p, of, trace) => p.Evidence.read(p.textOf(of), trace, trace[0] * 256 + trace[1]).write(trace),
+    "trace text": (p, of) => {
+        const all = p.Texts.events(p.textOf(of)), bytes = p.traceOf(all.map(([event]) => event));
+        return `${hex(bytes)}\n${p.Times.write(bytes, all.map(one => one[1])) ?? ""}`;
+    },
+    kind: (p, of) => p.Kinds.NAMES[p.Kinds.of(of)] ?? "nobody can tell",
+    text: (p, of) => p.textOf(of),
+};
+function saidOther(p, { what, of, trace }) {
+    const unhex = digits => new Uint8Array(Buffer.from(digits, "hex"));
+    try {
+        return OTHERS[what](p, unhex(of), unhex(trace));
+    } catch (error) {
+        if (!(error instanceof p.Fault)) throw error;
+        return error.message;
+    }
+}
+
+const held = (what, got, due) => {
+    const [a, b] = [got.split("\n"), due.split("\n")];
+    for (let i = 0; i < Math.max(a.length, b.length); i++) expect(`${what}, line ${i + 1}`, a[i], b[i]);
+};
+
 async function main() {
     const p = await library(page, scripts), folder = path.join(project, "tools/trace/tests/evidence");
     p.set(p.proved);
     const before = p.SheetText.bytes(fs.readFileSync(path.join(project, "examples/accident/before.txt"), "utf8"));
-    let recordings = 0;
-    for (const file of fs.readdirSync(folder).sort()) {
-        const [name, ending] = [file.replace(/\.[a-z]+$/, ""), file.replace(/.*\./, "")];
-        if (!FORMS[ending]) continue;
-        recordings++;
-        const got = said(p, path.join(folder, file), name, FORMS[ending], before).split("\n"), due = fs.readFileSync(path.join(folder, `${name}.out`), "utf8").split("\n");
-        for (let i = 0; i < Math.max(got.length, due.length); i++) expect(`${file}, line ${i + 1}`, got[i], due[i]);
+    const files = fs.readdirSync(folder).filter(file => FORMS[path.extname(file).slice(1)]).sort();
+    for (const file of files) {
+        const name = path.parse(file).name, form = FORMS[path.extname(file).slice(1)];
+        held(file, said(p, path.join(folder, file), name, form, before), fs.readFileSync(path.join(folder, `${name}.out`), "utf8"));
+    }
+    const lines = random === "-" ? [] : fs.readFileSync(random, "utf8").trimEnd().split("\n").map(line => JSON.parse(line));
+    const counts = {};
+    for (const [i, one] of lines.entries()) {
+        counts[one.what] = (counts[one.what] ?? 0) + 1;
+        held(`random ${one.what} ${i}`, one.what === "recording" ? saidOf(p, one) : saidOther(p, one), one.said);
     }
     for (const fault of tally.faults.slice(0, 20)) console.log(`page: ${fault}`);
-    console.log(`page: ${recordings} recordings explained in ${tally.checks} lines, ${tally.faults.length} other than the tool's`);
-    process.exitCode = tally.faults.length || recordings < 50 ? 1 : 0;
+    console.log(`page: ${files.length} recordings of the trace tool's tests and ${counts.recording ?? 0} random ones, ${lines.length - (counts.recording ?? 0)} other files, ${tally.checks} lines, ${tally.faults.length} other than the tool's`);
+    process.exitCode = tally.faults.length || files.length < 50 ? 1 : 0;
 }
 main();

@@ -20,6 +20,14 @@ fn line(at: At) -> String {
     format!("line {}", at.line)
 }
 
+/// Behind which event, named by the caller.
+fn place(at: At, name: impl Fn(u32) -> String) -> String {
+    match at.behind {
+        0 => "before the first event".to_string(),
+        behind => format!("behind {}", name(behind as u32)),
+    }
+}
+
 fn gap(gap: &Gap) -> String {
     let at = line(gap.at);
     match &gap.why {
@@ -95,9 +103,11 @@ pub fn doubt(doubt: &Doubt, event: u32, name: impl Fn(u32) -> String) -> String 
         Doubt::Before(why) => format!("events are missing before this one: {}", cause(why)),
         Doubt::After(why) => format!("events are missing after this one: {}", cause(why)),
         Doubt::Parted(parted) => {
-            let place = if parted.asked { "at" } else { "behind" };
-            let event = name(parted.at.behind as u32);
-            format!("recording and device have parted {place} {event} ({})", line(parted.at))
+            let place = match parted.asked {
+                true => format!("at {}", name(parted.at.behind as u32)),
+                false => place(parted.at, &name),
+            };
+            format!("recording and device have parted {place} ({})", line(parted.at))
         }
         Doubt::Back(at, _) => {
             format!("times go back ({}): the order of the events is not known", line(*at))
@@ -163,10 +173,7 @@ pub fn shows(evidence: &Evidence) -> Vec<String> {
 /// The same, the events before it being so many, each named by the caller.
 pub fn shows_of(e: &Evidence, before: usize, name: impl Fn(u32) -> String) -> Vec<String> {
     let mut out = Vec::new();
-    let place = |at: At| match at.behind {
-        0 => "before the first event".to_string(),
-        behind => format!("behind {}", name(behind as u32)),
-    };
+    let place = |at: At| place(at, &name);
     let mut list = |title: &str, tell: &dyn Fn(&Seen) -> Option<String>| {
         let of = e.events.iter().enumerate().filter_map(|(i, seen)| {
             let event = name((before + i + 1) as u32);

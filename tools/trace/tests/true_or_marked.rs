@@ -8,6 +8,7 @@
 //! says how many recordings there are, SEED which is the first.
 
 mod bus;
+mod written;
 
 use std::collections::BTreeMap;
 
@@ -580,4 +581,34 @@ fn untouched() {
         }
     }
     println!("{marks:?}");
+}
+
+/// WRITE_RECORDINGS in the environment names a file, in which as many recordings are left, in every form and some of them spoiled, and
+/// files of every other kind, with what is said of each: of most with the dump of the device that was there, of some with another.
+#[test]
+fn written_down() {
+    let Some(file) = std::env::var_os("WRITE_RECORDINGS") else { return };
+    let mut out = String::new();
+    for seed in asked("SEED", 0)..asked("SEED", 0) + asked("RECORDINGS", RECORDINGS) {
+        let (bus, spoiled) = drawn(seed, seed.is_multiple_of(3));
+        let mut rng = Rng::new(seed);
+        let mut dump = bus.host.sheet.clone();
+        match rng.below(8) {
+            0 => {
+                let at = rng.below(dump.len());
+                dump[at] ^= 1 << rng.below(8);
+            }
+            1 => dump = bus.first.clone(),
+            _ => {}
+        }
+        let form = rng.below(written::FORMS.len());
+        let recording = recording(&bus, &spoiled);
+        let text = written::as_text(form, &recording.frames, &recording.notes, rng.below(9));
+        let dump = rng.chance(60).then_some(&dump[..]);
+        let text = if rng.chance(20) { written::spoiled(&mut rng, &text) } else { text };
+        out += &written::line(form, &text, &bus.first, dump, rng.chance(50));
+        let text = written::as_text(0, &recording.frames, &recording.notes, 0);
+        out += &written::others(&mut rng, bus::SHEET, &text, &bus.first);
+    }
+    std::fs::write(file, out).unwrap();
 }
