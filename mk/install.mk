@@ -43,7 +43,7 @@ install-libraries: $(LIBRARIES)
 install-docs: build/kelindap.html $(SHEETS)
 	mkdir -p $(DESTDIR)$(DOC)/docs $(DESTDIR)$(DOC)/examples $(DESTDIR)$(DOC)/sheets
 	install -m 644 README.md CHANGELOG.md build/kelindap.html $(DESTDIR)$(DOC)
-	install -m 644 docs/*.md $(DESTDIR)$(DOC)/docs
+	install -m 644 docs/*.md docs/page.png $(DESTDIR)$(DOC)/docs
 	install -m 644 examples/*.c examples/*.h $(SHARED) $(SHARED:.c=.h) $(DESTDIR)$(DOC)/examples
 	install -m 644 $(SHEETS) $(DESTDIR)$(DOC)/sheets
 

@@ -1,11 +1,11 @@
 // The demonstration, as `make run` plays it: scripts/demo.txt, in the words of scripts/demo.sh.
 
-/** @typedef {{ kind: "text" | "sent" | "answer" | "change", text: string, outcome?: number }} Told */
+/** @typedef {{ kind: "text" | "sent" | "answer" | "change", text: string, hidden?: string, outcome?: number }} Shown hidden: its text without keys, where it has one */
 
 // All of it, step by step.
 /** @param {Proved} proved @param {string} script @param {Uint8Array} sheet */
 function demonstration(proved, script, sheet) {
-    /** @type {Told[][]} */
+    /** @type {Shown[][]} */
     const steps = [];
     const stage = { device: new Device(proved, sheet), told: sheet.slice() };
     for (const line of script.split("\n")) {
@@ -21,23 +21,24 @@ function demonstration(proved, script, sheet) {
     return steps;
 }
 
-/** @param {Proved} proved @param {{ device: Device, told: Uint8Array }} stage @param {string[]} words @returns {Told[]} */
+/** @param {Proved} proved @param {{ device: Device, told: Uint8Array }} stage @param {string[]} words @returns {Shown[]} */
 function playLine(proved, stage, words) {
     const { device } = stage, [command, ...rest] = words;
     // what has changed since this was told last
-    /** @param {string[]} sessions @returns {Told[]} */
+    /** @param {string[]} sessions @returns {Shown[]} */
     const changes = sessions => {
         const lines = [...sessions.map(text => text.replace("→", "->")), ...differences(stage.told, device.sheet)];
         stage.told = device.sheet.slice();
         return lines.map(text => ({ kind: "change", text }));
     };
-    /** @param {string} sent @param {string} answer @param {Event_} event @returns {Told[]} */
-    const told = (sent, answer, event) => [{ kind: "sent", text: sent }, { kind: "answer", text: answer, outcome: event.outcome }, ...changes(event.sessions)];
+    /** @param {string} sent @param {string} answer @param {Event_} event @param {string} [hidden] @returns {Shown[]} */
+    const told = (sent, answer, event, hidden = sent) => [{ kind: "sent", text: sent, hidden }, { kind: "answer", text: answer, outcome: event.outcome }, ...changes(event.sessions)];
     switch (command) {
         case "request": {
             const [mode, group, apdu, , connection] = rest, bytes = unhex(apdu);
             const event = device.request(bytes, Number(mode), Number(connection), Number(group));
-            return told(apduText(proved, bytes) + (mode === "3" ? `, on connection ${connection}` : ""), event.answer || "no answer", event);
+            const way = mode === "3" ? `, on connection ${connection}` : "";
+            return told(apduText(proved, bytes) + way, event.answer || "no answer", event, apduText(proved, bytes, false) + way);
         }
         case "connect": return told(words.join(" "), "no answer", device.connect(Number(rest[0])));
         case "disconnect": return told(words.join(" "), "no answer", device.disconnect(Number(rest[0])));

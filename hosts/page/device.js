@@ -6,7 +6,8 @@ const FRAME_CONNECT = 4, FRAME_DISCONNECT = 5;
 const STORE = 4096;
 
 /** @typedef {{ kind: number, mode: number, connection: number, group: number, apdu: Uint8Array }} Happening */
-/** @typedef {{ sent: string, outcome: number, answer: string, sessions: string[], changes: string[], event?: Happening, frame?: string, before: Uint8Array }} Event_ */
+/** @typedef {(keys: boolean) => string} Words of what may have a key in it, which is shown or hidden */
+/** @typedef {{ sent: Words, outcome: number, answer: string, beside: string, sessions: string[], changes: string[], event?: Happening, frame?: Words, before: Uint8Array }} Event_ */
 
 /** @param {Uint8Array} sessions @param {number} c */
 const sessionText = (sessions, c) => (sessions[2 * c] ? `level ${sessions[2 * c + 1]}` : "closed");
@@ -38,14 +39,14 @@ class Device {
     }
 
     /**
-     * One event: what it gave, and what it did to sheet and sessions.
-     * @param {string} sent @param {() => { outcome: number, answer?: string }} call @param {Happening} [event] @param {string} [frame] in words
+     * One event: what it gave, and what it did to sheet and sessions. Beside the answer stands its data in decimal.
+     * @param {string | Words} sent @param {() => { outcome: number, answer?: string, beside?: string }} call @param {Happening} [event] @param {Words} [frame]
      */
     happens(sent, call, event, frame) {
-        const before = this.sheet.slice(), was = this.sessions.slice(), { outcome, answer = "" } = call();
+        const before = this.sheet.slice(), was = this.sessions.slice(), { outcome, answer = "", beside = "" } = call();
         const sessions = [0, 1].filter(c => sessionText(was, c) !== sessionText(this.sessions, c))
             .map(c => `connection ${c}: ${sessionText(was, c)} → ${sessionText(this.sessions, c)}`);
-        const told = { sent, outcome, answer, sessions, changes: [...sessions, ...differences(before, this.sheet)], event, frame, before };
+        const told = { sent: typeof sent === "string" ? () => sent : sent, outcome, answer, beside, sessions, changes: [...sessions, ...differences(before, this.sheet)], event, frame, before };
         this.log.push(told);
         return told;
     }
@@ -71,9 +72,9 @@ class Device {
     request(apdu, mode, connection = 0, group = 0) {
         const call = () => {
             const reply = this.proved.request(this.sessions, mode, connection, group, apdu, this.sheet);
-            return { outcome: reply.outcome, answer: reply.answer.length ? apduText(this.proved, reply.answer) : "" };
+            return { outcome: reply.outcome, answer: reply.answer.length ? apduText(this.proved, reply.answer) : "", beside: decimalsBeside(this.proved, reply.answer) };
         };
-        return this.happens(`${apduText(this.proved, apdu)}, ${wayText(mode, connection, group)}`, call, { kind: REQUEST, mode, connection, group, apdu });
+        return this.happens(keys => `${apduText(this.proved, apdu, keys)}, ${wayText(mode, connection, group)}${decimalsBeside(this.proved, apdu)}`, call, { kind: REQUEST, mode, connection, group, apdu });
     }
 
     // A frame as it comes: the module says whose it is and what it is to this device, and gives the frame that answers.
@@ -81,17 +82,18 @@ class Device {
     frame(bytes) {
         const { proved } = this, { event, connection, group } = proved.heard(this.link, this.sheet, bytes), frame = proved.readFrame(bytes);
         if (event > FRAME_DISCONNECT) throw new Fault(`${frame.outcome ? "no frame" : "no event"}: ${outcomeText(event)}`);
-        const on = connection < CONNECTIONS ? connection : 0, from = `from ${individualText(frame.source)}`, words = frameText(frame);
+        const on = connection < CONNECTIONS ? connection : 0, from = `from ${individualText(frame.source)}`, words = (/** @type {boolean} */ keys) => frameText(frame, keys);
         const call = () => {
             const { outcome, frame: answer } = proved.serve(this.link, this.next[on], bytes, this.sheet);
             if (event === FRAME_CONNECT) this.next[on] = 0;
             if (event === CONNECTED && answer.length) this.next[on]++;
-            return { outcome, answer: answer.length ? `${apduText(proved, proved.readFrame(answer).tpdu)}, in the frame ${hex(answer)}` : "" };
+            const tpdu = answer.length ? proved.readFrame(answer).tpdu : answer;
+            return { outcome, answer: answer.length ? `${apduText(proved, tpdu)}, in the frame ${hex(answer)}` : "", beside: decimalsBeside(proved, tpdu) };
         };
         if (event === FRAME_CONNECT) return this.happens(`connect ${on}, ${from}`, call, happening(CONNECT, on), words);
         if (event === FRAME_DISCONNECT) return this.happens(`disconnect ${on}, ${from}`, call, happening(DISCONNECT, on), words);
         const to = event === MULTICAST ? group : 0;
-        return this.happens(`${apduText(proved, frame.tpdu)}, ${wayText(event, on, to)}, ${from}`, call, { kind: REQUEST, mode: event, connection: on, group: to, apdu: frame.tpdu }, words);
+        return this.happens(keys => `${apduText(proved, frame.tpdu, keys)}, ${wayText(event, on, to)}, ${from}${decimalsBeside(proved, frame.tpdu)}`, call, { kind: REQUEST, mode: event, connection: on, group: to, apdu: frame.tpdu }, words);
     }
 
     convert() {

@@ -1,82 +1,119 @@
-// Bytes from a person: a file chosen or dropped, hex digits pasted, one of the page's own; and saved as a file.
+// Bytes from a person: files chosen or dropped, text or hex digits pasted, one of the page's own; and saved as a file.
 
-/** No trace or store is longer, and no sheet by far, so more is not taken. Hex digits may have blanks between them. */
-const MOST_BYTES = 1 << 18, MOST_OF_SHEET = 2 * LONGEST;
+/** No more is read of a file: a recording of months has less. */
+const MOST_BYTES = 1 << 26;
 
-/** @param {string} name @param {number} length @param {number} most */
-function notMore(name, length, most) {
-    if (length > most) throw new Fault(`${name} has ${counted(length, "byte")}, more than any ${most === MOST_OF_SHEET ? "sheet" : "trace or store"}: it was not read`);
-}
+/** @typedef {"sheet" | "events" | "store"} Wanted */
+/**
+ * A place for files. `put` takes one of the kind that is wanted; `tell` says what it holds now, `fault` why it was not taken.
+ * @typedef {{ title: string, part: string, wants: Wanted, put: (what: WhatIs) => void, tell: (name: string, bytes: Uint8Array, words?: string) => void, fault: (text: string) => void, box: HTMLElement }} Place_
+ */
 
 /**
- * The bytes of a file; one that holds hex digits and nothing else is read as such, which no sheet, trace or store looks like.
- * @param {File} file
+ * Files with their bytes; what can't be read is told by itself.
+ * @param {Iterable<File>} files @returns {Promise<(Named | string)[]>}
  */
-async function fileBytes(file) {
-    notMore(file.name, file.size, 4 * MOST_BYTES);
-    const bytes = new Uint8Array(await file.arrayBuffer().catch(() => { throw new Fault(`${file.name} can't be read`); }));
-    const text = new TextDecoder().decode(bytes);
-    return /^[0-9a-fA-F\s]+$/.test(text) && text.trim() ? unhex(text) : bytes;
+async function filesRead(files) {
+    return Promise.all([...files].map(async file => {
+        if (file.size > MOST_BYTES) return `${file.name} has ${counted(file.size, "byte")}, more than the page reads: it was not taken`;
+        try {
+            return { name: file.name, bytes: new Uint8Array(await file.arrayBuffer()) };
+        } catch {
+            return `${file.name} can't be read: it was not taken`;
+        }
+    }));
 }
 
-/** @param {Uint8Array} bytes @param {string} name */
-function saveFile(bytes, name) {
-    const link = el("a", { href: URL.createObjectURL(new Blob([bytes])), download: name });
+/** @param {string} text @returns {Named} */
+const pasted = text => ({ name: "pasted", bytes: new TextEncoder().encode(text) });
+
+/** @param {Uint8Array} bytes @param {string} name @param {string} [type] */
+function saveFile(bytes, name, type = "application/octet-stream") {
+    const link = el("a", { href: URL.createObjectURL(new Blob([bytes], { type })), download: name });
     link.click();
     setTimeout(() => URL.revokeObjectURL(link.href), 1000);
 }
 
-/**
- * A place where bytes come in, by file, drop, paste or choice. `others` are what the page has itself. It tells what it holds, also
- * what came from elsewhere on the page (`tell`).
- * @param {string} title @param {(bytes: Uint8Array, name: string) => void} taken @param {[string, () => Uint8Array | null][]} others
- * @param {number} [most] bytes that are taken
- */
-function source(title, taken, others, most = MOST_OF_SHEET) {
-    const said = el("p", { class: "said", role: "status" });
-    /** @param {string} name @param {Uint8Array} bytes */
-    const tell = (name, bytes) => {
-        said.textContent = `${name}, ${counted(bytes.length, "byte")}`;
-        said.classList.remove("fault");
-    };
-    /** @param {() => Promise<[Uint8Array, string]> | [Uint8Array, string]} get */
-    const take = async get => {
-        try {
-            const [bytes, name] = await get();
-            notMore(name, bytes.length, most);
-            taken(bytes, name);
-            tell(name, bytes);
-        } catch (error) {
-            if (!(error instanceof Fault)) throw error;
-            said.textContent = error.message;
-            said.classList.add("fault");
-        }
-    };
-    /** @param {File | undefined} chosen */
-    const takeFile = chosen => chosen && take(async () => [await fileBytes(chosen), chosen.name]);
-    const file = el("input", { type: "file" });
+// A field to choose files, one or several.
+/** @param {App} app @param {string} label @param {Place_ | null} place */
+function chooser(app, label, place) {
+    const file = el("input", { type: "file", multiple: true });
     file.addEventListener("change", () => {
-        takeFile(file.files?.[0]);
+        const chosen = [...(file.files ?? [])];
         file.value = ""; // so that the same file can be chosen again, once it is another
+        if (chosen.length) app.takeFiles(chosen, place);
     });
-    const digits = el("textarea", { rows: 4, spellcheck: "false", autocomplete: "off" });
-    const menu = choice(others.map(([text], i) => [String(i), text]));
-    // by a button, since arrow keys go through all choices
-    const takeOther = () => take(() => {
-        const [text, get] = others[Number(menu.value)], bytes = get();
-        if (!bytes) throw new Fault(`there is none yet: ${text}`);
-        return [bytes, text];
-    });
-    const box = el("fieldset", { class: "source" }, el("legend", {}, title),
-        el("div", { class: "ways" }, labelled("Open a file, or drop it here", file), labelled("Or of the page's own", el("div", { class: "taken" }, menu, button("Take it", takeOther)), "field", menu)),
-        el("details", {}, el("summary", {}, "Paste hex digits"), labelled("Hex digits", digits),
-            button("Take these", () => take(() => [unhex(digits.value), "pasted"]))),
-        said);
-    box.addEventListener("dragover", event => { event.preventDefault(); box.classList.add("over"); });
-    box.addEventListener("dragleave", () => box.classList.remove("over"));
-    box.addEventListener("drop", event => { event.preventDefault(); box.classList.remove("over"); takeFile(event.dataTransfer?.files[0]); });
-    return { box, tell };
+    return labelled(label, file);
 }
 
-// a file that is dropped beside a place for it does not replace the page
-for (const kind of ["dragover", "drop"]) document.addEventListener(kind, event => event.preventDefault());
+// A field to paste something.
+/** @param {App} app @param {Place_ | null} place */
+function paster(app, place) {
+    const text = el("textarea", { rows: 4, spellcheck: "false", autocomplete: "off" });
+    return el("details", {}, el("summary", {}, "Paste text or hex digits"), labelled("Text or hex digits", text), button("Take these", () => app.take([pasted(text.value)], place)));
+}
+
+/**
+ * A place where files come in, by choice, drop or paste, of any kind: what belongs elsewhere goes there. `others` are what the page
+ * has itself. It tells what it holds, also what came from elsewhere on the page.
+ * @param {App} app @param {string} part @param {string} title @param {Wanted} wants @param {(bytes: Uint8Array, name: string, what?: WhatIs) => void} taken
+ * @param {[string, () => Uint8Array | Named | null][]} others @returns {Place_}
+ */
+function source(app, part, title, wants, taken, others) {
+    const said = el("p", { class: "said", role: "status" });
+    /** @param {string} text @param {boolean} bad */
+    const say = (text, bad) => {
+        said.textContent = text;
+        said.classList.toggle("fault", bad);
+    };
+    const box = el("fieldset", { class: "source" });
+    /** @type {Place_} */
+    const place = { title, part, wants, box,
+        put: what => { taken(what.bytes, what.name, what); place.tell(what.name, what.bytes, what.words); },
+        tell: (name, bytes, words) => say(words ? `${name}: ${words}` : `${name}, ${counted(bytes.length, "byte")}`, false),
+        fault: text => say(text, true) };
+    const menu = choice(others.map(([text], i) => [String(i), text]));
+    // by a button, since arrow keys go through all choices
+    const takeOther = () => {
+        const [text, get] = others[Number(menu.value)];
+        try {
+            const given = get(), [bytes, name] = given instanceof Uint8Array || !given ? [given, text] : [given.bytes, given.name];
+            if (!bytes) throw new Fault(`there is none yet: ${text}`);
+            taken(bytes, name);
+            place.tell(name, bytes);
+        } catch (error) {
+            if (!(error instanceof Fault)) throw error;
+            place.fault(error.message);
+        }
+    };
+    box.append(el("legend", {}, title),
+        el("div", { class: "ways" }, chooser(app, "Open a file, or drop it here", place),
+            others.length > 0 ? labelled("Or of the page's own", el("div", { class: "taken" }, menu, button("Take it", takeOther)), "field", menu) : ""),
+        paster(app, place), said);
+    box.addEventListener("dragover", () => box.classList.add("over"));
+    box.addEventListener("dragleave", () => box.classList.remove("over"));
+    box.addEventListener("drop", event => {
+        event.preventDefault();
+        event.stopPropagation();
+        box.classList.remove("over");
+        app.takeFiles(event.dataTransfer?.files ?? [], place);
+    });
+    return place;
+}
+
+// Files that are dropped or pasted anywhere else are taken too; none replaces the page.
+/** @param {App} app */
+function anywhere(app) {
+    document.addEventListener("dragover", event => event.preventDefault());
+    document.addEventListener("drop", event => {
+        event.preventDefault();
+        app.takeFiles(event.dataTransfer?.files ?? [], null);
+    });
+    document.addEventListener("paste", event => {
+        const { clipboardData: data, target } = event;
+        if (!data || (target instanceof HTMLElement && target.matches("input, textarea, select"))) return;
+        event.preventDefault();
+        if (data.files.length) app.takeFiles(data.files, null);
+        else if (data.getData("text").trim()) app.take([pasted(data.getData("text"))], null);
+    });
+}

@@ -8,13 +8,13 @@ const FRAME_RUNS = ["info", "apdu"];
 const FRAME_EVENTS = ["multicast", "broadcast", "connectionless", "connected", "connect", "disconnect"];
 
 /**
- * A frame in words: its fields, and what it means.
- * @param {Frame} frame
+ * A frame in words: its fields, and what it means. What has a key in it is shown or hidden.
+ * @param {Frame} frame @param {boolean} [keys]
  */
-function frameText(frame) {
+function frameText(frame, keys = true) {
     const fields = Object.entries(FRAME_FIELDS).map(([word, name]) => `${word}=${frame[name]}`);
     const means = FRAME_EVENTS[frame.event] ?? String(frame.event);
-    return [...fields, `info=${run(frame.info)}`, `tpdu=${run(frame.tpdu)}`, means, ...(frame.event === 0 ? [frame.destination] : [])].join(" ");
+    return [...fields, `info=${run(frame.info)}`, `tpdu=${!keys && hasKey(frame.tpdu) ? HIDDEN : run(frame.tpdu)}`, means, ...(frame.event === 0 ? [frame.destination] : [])].join(" ");
 }
 
 /**

@@ -1,4 +1,4 @@
-// The page: five parts, of which one is seen; what they share.
+// The page: six parts, of which one is seen; what they share.
 
 /** @typedef {{ show?: () => void, set?: Function }} Part */
 
@@ -9,13 +9,18 @@ class App {
         this.keys = false;
         this.sheet = unhex(MADE.sheets[0][1]);
         this.sheetName = "sheet.bin";
+        /** What a person called the sheet of the first part; nothing if nobody gave it. */
+        this.sheetGiven = "";
+        this.part = "start";
         this.device = new Device(proved, this.sheet);
         this.sheetPart = new SheetPart(this, byId("sheet"));
         this.twoPart = new TwoPart(this, byId("two"));
         this.devicePart = new DevicePart(this, byId("device"));
         this.tracePart = new TracePart(this, byId("trace"));
         this.demoPart = new DemoPart(this, byId("demo"));
+        this.startPart = new StartPart(this, byId("start"));
         this.tabs();
+        anywhere(this);
         byId("version").textContent = proved.version();
         const keys = /** @type {HTMLInputElement} */ (byId("keys"));
         keys.addEventListener("change", () => { this.keys = keys.checked; this.showAll(); });
@@ -33,10 +38,38 @@ class App {
         this.twoPart.show();
         this.devicePart.show();
         this.tracePart.show();
+        this.demoPart.show();
+        this.startPart.show();
     }
 
-    /** @param {Uint8Array} bytes @param {string} name */
-    setSheet(bytes, name) {
+    // Files of a person, from a place for them or from anywhere on the page.
+    /** @param {Iterable<File>} files @param {Place_ | null} place */
+    async takeFiles(files, place) {
+        this.take(await filesRead(files), place);
+    }
+
+    /** @param {(Named | string)[]} files @param {Place_ | null} place */
+    take(files, place) {
+        const { news, part } = new Taking(this, place).take(files);
+        byId("news").replaceChildren(...news.map(({ text, bad }) => el("li", { class: bad ? "bad" : "" }, text)));
+        if (!place) this.tracePart.fold();
+        if (part && part !== this.part) this.open(part);
+        if (part && !place) scrollTo(0, 0);
+    }
+
+    /** The accident in all parts that can show it. */
+    accident() {
+        const { before, after } = accidentFiles(this.proved), { tracePart } = this;
+        this.setSheet(before.bytes, before.name);
+        for (const [side, file] of [before, after].entries()) this.twoPart.sources[side].put({ ...file, kind: "sheet", words: "a sheet as text", fault: null });
+        const recording = tracePart.accident();
+        tracePart.traceSource.put(whatIs(this.proved, recording.name, recording.bytes));
+        tracePart.fold();
+    }
+
+    /** @param {Uint8Array} bytes @param {string} name @param {boolean} [given] by a person */
+    setSheet(bytes, name, given = false) {
+        this.sheetGiven = given ? name : "";
         this.sheet = bytes.slice();
         this.sheetName = /\.\w+$/.test(name) ? name.replace(/\.\w+$/, ".bin") : "sheet.bin";
         this.sheetPart.source.tell(name, bytes);
@@ -55,7 +88,7 @@ class App {
 
     /** @param {number} side @param {Uint8Array} sheet @param {string} name */
     compare(side, sheet, name) {
-        this.twoPart.set(side, sheet);
+        this.twoPart.set(side, sheet, name);
         this.twoPart.sources[side].tell(name, sheet);
         this.open("two");
     }
@@ -93,7 +126,7 @@ class App {
                 next.focus();
             });
         }
-        const named = () => (tabs.some(tab => tab.getAttribute("aria-controls") === location.hash.slice(1)) ? location.hash.slice(1) : "sheet");
+        const named = () => (tabs.some(tab => tab.getAttribute("aria-controls") === location.hash.slice(1)) ? location.hash.slice(1) : "start");
         addEventListener("hashchange", () => this.open(named()));
         this.open(named());
     }
@@ -101,6 +134,7 @@ class App {
     // The part that is seen. What had the focus may stand in another, and then its tab gets it.
     /** @param {string} id */
     open(id) {
+        this.part = id;
         for (const tab of document.querySelectorAll("[role=tab]")) {
             const chosen = tab.getAttribute("aria-controls") === id;
             tab.setAttribute("aria-selected", String(chosen));
@@ -110,6 +144,10 @@ class App {
         if (document.activeElement?.closest("[role=tabpanel][hidden]")) byId(`tab-${id}`).focus();
     }
 }
+
+// What the tab of a part says.
+/** @param {string} id */
+const partTitle = id => byId(`tab-${id}`).textContent ?? "";
 
 /** @type {App} */
 let app;

@@ -286,6 +286,22 @@ class Proved {
         });
     }
 
+    /**
+     * A value into its bytes, by its type: 5 a byte, 9 to the nearest of its hundredths, 14 a float.
+     * @param {number} type @param {number} value @param {Uint8Array} out
+     */
+    writePoint(type, value, out) {
+        return this.lending(() => {
+            const point = this.structure("point"), float = new DataView(new ArrayBuffer(4));
+            float.setFloat32(0, value);
+            this.put(point, "point.type", BigInt(type));
+            if (type === 5) this.put(point, "point.value", BigInt(value));
+            if (type === 9) this.put(point, "point.hundredths", BigInt.asUintN(32, BigInt(Math.round(100 * Math.max(-1e6, Math.min(1e6, value))))));
+            if (type === 14) this.put(point, "point.bits", BigInt(float.getUint32(0)));
+            return this.calls.kelindap_point_write(point, ...this.write(out));
+        });
+    }
+
     // ---- kelindap_frame.h ----
 
     // A frame's fields by name, with its additional information and its TPDU.

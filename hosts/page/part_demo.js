@@ -3,6 +3,7 @@
 class DemoPart {
     /** @param {App} app @param {HTMLElement} root */
     constructor(app, root) {
+        this.app = app;
         this.steps = demonstration(app.proved, MADE.demo, app.samples()[0][1]() ?? new Uint8Array(0));
         this.shown = 1;
         this.view = el("ol", { class: "demo" });
@@ -12,20 +13,25 @@ class DemoPart {
         this.go(1);
     }
 
+    /** Made anew, with keys or without. */
+    show() {
+        this.view.replaceChildren(...this.steps.slice(0, this.shown).map(step => stepView(step, this.app.keys)));
+    }
+
     /** @param {number} count */
     go(count) {
         this.shown = Math.min(count, this.steps.length);
         this.next.disabled = this.shown === this.steps.length;
         while (this.view.childElementCount > this.shown) this.view.lastElementChild?.remove();
-        while (this.view.childElementCount < this.shown) this.view.append(stepView(this.steps[this.view.childElementCount]));
+        while (this.view.childElementCount < this.shown) this.view.append(stepView(this.steps[this.view.childElementCount], this.app.keys));
         if (this.shown > 1) this.view.lastElementChild?.scrollIntoView({ block: "nearest" });
     }
 }
 
-/** @param {Told[]} step */
-const stepView = step => el("li", {}, ...step.map(({ kind, text, outcome }) => {
+/** @param {Shown[]} step @param {boolean} keys */
+const stepView = (step, keys) => el("li", {}, ...step.map(({ kind, text, hidden = text, outcome }) => {
     if (kind === "text") return el("p", { class: "text" }, text);
-    if (kind === "sent") return el("div", { class: "sent" }, text);
+    if (kind === "sent") return el("div", { class: "sent" }, keys ? text : hidden);
     if (kind === "change") return el("div", { class: "change" }, text);
     return el("div", { class: "answer" }, text, outcome !== undefined && el("span", { class: outcome <= 1 ? "good" : "bad" }, outcomeText(outcome)));
 }));

@@ -14,7 +14,7 @@ const WAYS = [
 /** @type {[string, string][]} */
 const REQUESTS = [
     ["read a property", "property_read object=1 id=51 n=1 s=1"],
-    ["write a property", "property_write object=1 id=51 n=1 s=1 data=04e2"],
+    ["write a property", "property_write object=1 id=51 n=1 s=1 value=1250"],
     ["describe a property", "description_read object=1 id=51 index=0"],
     ["offer the key of level 0", "authorize_request key=11111111"],
     ["offer the key of level 1", "authorize_request key=22222222"],
@@ -25,7 +25,7 @@ const REQUESTS = [
     ["read user memory", "user_memory_read n=4 address=0100h"],
     ["read the mask version", "descriptor_read t=0"],
     ["read a group value", "group_read"],
-    ["write a group value", "group_write v=0 data=2a"],
+    ["write a group value", "group_write value=42"],
     ["ask for addresses", "address_read"],
     ["set the address", "address_write address=4358"],
     ["restart", "restart"],
@@ -54,23 +54,24 @@ class DevicePart {
         this.keeps = el("p", { role: "status" });
         this.on = choice([["0", "connection 0"], ["1", "connection 1"]]);
         this.kept = el("ul", { class: "entries" });
-        const store = source("The store", bytes => { app.device.store = bytes.slice(); this.show(); }, [["an empty store", () => new Uint8Array(STORE)]], MOST_BYTES);
-        const versions = el("section", { class: "card versions" }, el("h3", {}, "Versions of the settings"), this.keeps,
+        this.store = source(app, "device", "The store", "store", bytes => { app.device.store = bytes.slice(); this.show(); }, [["an empty store", () => new Uint8Array(STORE)]]);
+        const versions = el("section", { class: "card versions" }, el("h3", {}, "Versions of the settings"), means("versions"), this.keeps,
             el("div", { class: "actions" }, button("Save a version", () => this.did(app.device.save())), labelled("Restore on", this.on)), this.kept,
-            el("details", {}, el("summary", {}, "The store as a file"), store.box, button("Save the store", () => saveFile(app.device.store, "store.bin"))));
-        this.source = source("The device's sheet", (bytes, name) => app.putOnDevice(bytes, name), [...app.samples(), ["the sheet of the first part", () => app.sheet.slice()]]);
+            el("details", {}, el("summary", {}, "The store as a file"), this.store.box, button("Save the store", () => saveFile(app.device.store, "store.bin"))));
+        this.source = source(app, "device", "The device's sheet", "sheet", (bytes, name) => app.putOnDevice(bytes, name), [...app.samples(), ["the sheet of the first part", () => app.sheet.slice()]]);
         this.source.tell(MADE.sheets[0][0], app.sheet);
         this.log = el("ol", { class: "log", reversed: true });
         this.older = el("p", { class: "said" });
         this.sheet = el("div");
         this.state = el("p", { class: "verdict", role: "status" });
-        root.append(el("h2", {}, "The device at work"),
+        root.append(el("h2", {}, "The device at work"), means("level"),
             el("div", { class: "columns" },
                 el("div", {},
                     el("section", { class: "card" }, el("h3", {}, "Two tools"), this.sessions,
                         el("form", { onsubmit: (/** @type {Event} */ event) => { event.preventDefault(); this.send(); } },
                             el("div", { class: "ways" }, labelled("How it comes", this.way), this.groupField, labelled("Examples", examples)),
                             labelled("The request, in words or hex", this.line),
+                            el("p", { class: "said" }, "A value in decimal, as the sheet shows it: value=1250. Bytes in hex: data=04e2."),
                             el("div", { class: "actions" }, el("button", { type: "submit", class: "main" }, "Send"),
                                 button("Button on", () => this.did(app.device.button(true))), button("Button off", () => this.did(app.device.button(false))))),
                         this.hint, this.state),
@@ -87,7 +88,7 @@ class DevicePart {
 
     wayChosen() {
         this.groupField.hidden = this.way.value !== "0";
-        if (WAYS.some(([, , example]) => example === this.line.value)) this.line.value = (WAYS.find(([value]) => value === this.way.value) ?? WAYS[0])[2];
+        if (this.line.value === "" || WAYS.some(([, , example]) => example === this.line.value)) this.line.value = (WAYS.find(([value]) => value === this.way.value) ?? WAYS[0])[2];
     }
 
     send() {
@@ -95,12 +96,22 @@ class DevicePart {
         try {
             const [mode, connection = "0"] = this.way.value.split(" ");
             if (mode === "f") this.did(this.app.device.frame(frameOf(this.app.proved, this.line.value)));
-            else this.did(this.app.device.request(apduOf(this.app.proved, this.line.value), Number(mode), Number(connection), mode === "0" ? groupOf(this.group.value) : 0));
+            else {
+                const group = mode === "0" ? groupOf(this.group.value) : 0, apdu = apduOf(this.app.proved, inHex(this.app.proved, this.line.value, this.app.device.sheet, group));
+                this.did(this.app.device.request(apdu, Number(mode), Number(connection), group));
+            }
+            this.forget();
         } catch (error) {
             if (!(error instanceof Fault)) throw error;
             this.hint.textContent = error.message;
             this.state.textContent = ""; // of the event before
         }
+    }
+
+    /** What was sent and has a key in it does not stay in the field, unless keys are shown. */
+    forget() {
+        const { event } = this.app.device.log[this.app.device.log.length - 1];
+        if (!this.app.keys && event && hasKey(event.apdu)) this.line.value = "";
     }
 
     /** @param {Event_} _event it stands last in the device's log */
@@ -112,14 +123,14 @@ class DevicePart {
     show() {
         const { device, proved, keys } = this.app, last = device.log[device.log.length - 1];
         const focused = document.activeElement, label = this.sessions.contains(focused) || this.kept.contains(focused) ? focused?.getAttribute("aria-label") ?? "" : null;
-        this.state.textContent = last ? `${outcomeText(last.outcome)}${last.answer ? `: ${last.answer}` : ""}` : "";
+        this.state.textContent = last ? `${outcomeText(last.outcome)}${last.answer ? `: ${last.answer}${last.beside}` : ""}` : "";
         this.state.className = `verdict ${last && last.outcome > 1 ? "bad" : "good"}`;
         this.sessions.replaceChildren(...[0, 1].map(c => {
             const open = device.sessions[2 * c] !== 0;
             return el("div", {}, el("span", {}, `Connection ${c}: `, el("strong", {}, sessionText(device.sessions, c))),
                 button(open ? "Disconnect" : "Connect", () => this.did(open ? device.disconnect(c) : device.connect(c)), { "aria-label": `${open ? "Disconnect" : "Connect"} connection ${c}` }));
         }));
-        this.log.replaceChildren(...device.log.slice(-SHOWN).reverse().map((event, i) => eventView(device.log.length - i, event)));
+        this.log.replaceChildren(...device.log.slice(-SHOWN).reverse().map((event, i) => eventView(device.log.length - i, event, keys)));
         this.older.textContent = device.log.length > SHOWN ? `Before these: ${counted(device.log.length - SHOWN, "event")}.` : "";
         const verdict = verdictOf(proved, device.sheet);
         const look = { keys, marked: (/** @type {number} */ p) => last !== undefined && last.before.length === device.sheet.length && last.before[p] !== device.sheet[p] };
@@ -152,10 +163,10 @@ class DevicePart {
 }
 
 // An event with what it gave and what it changed.
-/** @param {number} n @param {Event_} event */
-const eventView = (n, event) => el("li", { value: n },
-    el("div", { class: "sent" }, event.sent),
-    event.frame !== undefined && el("div", { class: "said" }, `frame ${event.frame}`),
-    el("div", { class: `outcome ${event.outcome <= 1 ? "good" : "bad"}` }, outcomeText(event.outcome), event.answer && `: ${event.answer}`),
+/** @param {number} n @param {Event_} event @param {boolean} keys */
+const eventView = (n, event, keys) => el("li", { value: n },
+    el("div", { class: "sent" }, event.sent(keys)),
+    event.frame !== undefined && el("div", { class: "said" }, `frame ${event.frame(keys)}`),
+    el("div", { class: `outcome ${event.outcome <= 1 ? "good" : "bad"}` }, outcomeText(event.outcome), event.answer && `: ${event.answer}${event.beside}`),
     ...event.changes.slice(0, 20).map(line => el("div", { class: "change" }, line)),
     event.changes.length > 20 && el("div", { class: "change" }, `and ${event.changes.length - 20} more`));

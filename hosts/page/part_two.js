@@ -6,13 +6,16 @@ class TwoPart {
         this.app = app;
         /** @type {Uint8Array[]} */
         this.sheets = [app.sheet.slice(), app.sheet.slice()];
+        this.names = [MADE.sheets[0][0], MADE.sheets[0][0]];
+        /** Which of them a person gave. */
+        this.given = [false, false];
         this.only = el("input", { type: "checkbox", autocomplete: "off", onchange: () => this.show() });
         this.view = el("div");
         const others = /** @type {[string, () => Uint8Array | null][]} */ ([...app.samples(), ["the sheet of the first part", () => app.sheet.slice()], ["the device's sheet", () => app.device.sheet.slice()]]);
-        this.sources = ["The first", "The second"].map((title, side) => source(title, bytes => this.set(side, bytes), others));
+        this.sources = ["The first", "The second"].map((title, side) => source(app, "two", title, "sheet", (bytes, name, what) => { this.set(side, bytes, name); this.given[side] = what !== undefined; }, others));
         for (const place of this.sources) place.tell(MADE.sheets[0][0], app.sheet);
         root.append(
-            el("h2", {}, "Two sheets side by side"),
+            el("h2", {}, "Two sheets side by side"), means("two", "dump"),
             el("div", { class: "pair" }, ...this.sources.map(place => place.box)),
             this.view,
             el("h3", {}, "Byte by byte"),
@@ -20,9 +23,11 @@ class TwoPart {
             this.rows = el("div"));
     }
 
-    /** @param {number} side @param {Uint8Array} sheet */
-    set(side, sheet) {
+    /** @param {number} side @param {Uint8Array} sheet @param {string} [name] */
+    set(side, sheet, name = "") {
         this.sheets[side] = sheet.slice();
+        this.names[side] = name;
+        this.given[side] = false;
         this.show();
     }
 

@@ -25,11 +25,18 @@ function pduText(pdu, keys = true, hidden = HIDDEN) {
     return [MADE.kinds[pdu.kind], ...FIELDS[pdu.kind].map(name => `${name}=${value(name)}`)].join(" ");
 }
 
+// Whether an APDU offers or sets a key, whole or cut, and not the public one: FFFFFFFFh hides nothing.
+/** @param {Uint8Array} apdu */
+function hasKey(apdu) {
+    const code = ((apdu[0] & 3) << 8) | apdu[1];
+    return apdu.length > 2 && (code === 0x3d1 || code === 0x3d3) && !(apdu.length === 7 && number(apdu, 3, 4) === 0xffffffff);
+}
+
 // An APDU in words, or by its bytes if it is no PDU.
 /** @param {Proved} proved @param {Uint8Array} apdu @param {boolean} [keys] */
-function apduText(proved, apdu, keys) {
+function apduText(proved, apdu, keys = true) {
     const pdu = proved.readPdu(apdu);
-    return pdu.outcome === 0 ? pduText(pdu, keys) : `${run(apdu)}, ${outcomeText(pdu.outcome)}`;
+    return pdu.outcome === 0 ? pduText(pdu, keys) : `${!keys && hasKey(apdu) ? HIDDEN : run(apdu)}, ${outcomeText(pdu.outcome)}`;
 }
 
 /** @param {number} outcome */

@@ -33,28 +33,35 @@ function eventText(proved, e, keys) {
     return `button ${switchText(e.kind === BUTTON_ON)}`;
 }
 
-/** A trace played on a sheet from fresh sessions. */
+/** Traces played on a sheet from fresh sessions, one after the other. */
 class Playing {
-    /** @param {Proved} proved @param {Uint8Array} sheet @param {Uint8Array} trace */
-    constructor(proved, sheet, trace) {
+    /** @param {Proved} proved @param {Uint8Array} sheet @param {Uint8Array[]} traces */
+    constructor(proved, sheet, traces) {
         this.proved = proved;
         this.sheet = sheet;
-        this.trace = trace;
-        this.refusal = proved.traceCheck(trace);
-        this.events = this.refusal ? [] : eventsOf(trace);
+        this.traces = traces;
+        this.refusal = traces.map(trace => proved.traceCheck(trace)).find(refusal => refusal !== 0) ?? 0;
+        this.events = this.refusal ? [] : traces.flatMap(eventsOf);
         /** @type {Step[]} */
         this.steps = [];
-        this.walk();
+        // how it was before each trace
+        /** @type {Moment[]} */
+        this.between = [];
+        if (!this.refusal) this.walk();
     }
 
     /** Every event by itself, for what it gave and the level at which it acted: that of its connection just before, and the event that gave this level. */
     walk() {
         const moment = this.start();
-        for (const [i, e] of this.events.entries()) {
-            const log = new Uint8Array(LOG_LINE), on = e.kind === REQUEST && e.mode === CONNECTED && e.connection < CONNECTIONS;
-            const level = on ? moment.sessions[2 * e.connection + 1] : 3, offer = on ? moment.marks[this.sheet.length + e.connection] : 0;
-            this.proved.playMarked(moment.sessions, moment.sheet, this.trace, i, 1, log, moment.marks);
-            this.steps.push({ outcome: log[0], answer: log.slice(2, 2 + log[1]), level, offer });
+        for (const trace of this.traces) {
+            this.between.push(copied(moment));
+            const already = this.steps.length;
+            for (const [i, e] of this.events.slice(already, already + number(trace, 0, 2)).entries()) {
+                const log = new Uint8Array(LOG_LINE), on = e.kind === REQUEST && e.mode === CONNECTED && e.connection < CONNECTIONS;
+                const level = on ? moment.sessions[2 * e.connection + 1] : 3, offer = on ? moment.marks[this.sheet.length + e.connection] : 0;
+                this.proved.playMarked(moment.sessions, moment.sheet, trace, i, 1, log, moment.marks, already + i);
+                this.steps.push({ outcome: log[0], answer: log.slice(2, 2 + log[1]), level, offer });
+            }
         }
     }
 
@@ -66,8 +73,11 @@ class Playing {
     // Sheet, sessions and marks when so many events were played.
     /** @param {number} count @returns {Moment} */
     after(count) {
-        const moment = this.start(), log = new Uint8Array(LOG_LINE * Math.max(count, 1));
-        if (count > 0) this.proved.playMarked(moment.sessions, moment.sheet, this.trace, 0, count, log, moment.marks);
+        let t = 0, already = 0;
+        count = Math.min(count, this.events.length);
+        while (t + 1 < this.traces.length && already + number(this.traces[t], 0, 2) < count) already += number(this.traces[t++], 0, 2);
+        const moment = this.between[t] ? copied(this.between[t]) : this.start(), some = count - already, log = new Uint8Array(LOG_LINE * Math.max(some, 1));
+        if (some > 0) this.proved.playMarked(moment.sessions, moment.sheet, this.traces[t], 0, some, log, moment.marks, already);
         return moment;
     }
 
@@ -82,6 +92,9 @@ class Playing {
         return `event ${n} changed it, ${wayText(e.mode, e.connection, e.group)}${right}`;
     }
 }
+
+/** @param {Moment} moment @returns {Moment} */
+const copied = ({ sheet, sessions, marks }) => ({ sheet: sheet.slice(), sessions: sessions.slice(), marks: marks.slice() });
 
 // Whether a level must permit the writing of byte p: of memory, properties and keys it must; address, flags and group values have none.
 /** @param {number} p @param {Uint8Array} s */

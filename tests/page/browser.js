@@ -177,14 +177,14 @@ class Browser {
         return file;
     }
 
-    async chooseFile(selector, file) {
+    async chooseFile(selector, ...files) {
         const { result } = await this.send("Runtime.evaluate", { expression: find(selector) });
-        await this.send("DOM.setFileInputFiles", { files: [file], objectId: result.objectId });
+        await this.send("DOM.setFileInputFiles", { files, objectId: result.objectId });
     }
 
-    async drop(selector, file) {
+    async drop(selector, ...files) {
         const { x, y } = await this.middle(selector);
-        const data = { items: [], files: [file], dragOperationsMask: 1 };
+        const data = { items: [], files, dragOperationsMask: 1 };
         for (const type of ["dragEnter", "dragOver", "drop"]) await this.send("Input.dispatchDragEvent", { type, x, y, data });
     }
 
@@ -201,6 +201,17 @@ class Browser {
             await new Promise(done => setTimeout(done, 20));
         }
         throw new Error("nothing was saved");
+    }
+
+    // what is pasted where the focus is
+    async paste(text) {
+        await this.run(`(() => { const data = new DataTransfer(); data.setData("text/plain", ${JSON.stringify(text)}); (document.activeElement ?? document.body).dispatchEvent(new ClipboardEvent("paste", { clipboardData: data, bubbles: true, cancelable: true })); })()`);
+    }
+
+    // the page as it is printed: how many sheets of paper it takes
+    async printed() {
+        const { data } = await this.send("Page.printToPDF", { paperWidth: 8.27, paperHeight: 11.69, preferCSSPageSize: true });
+        return Buffer.from(data, "base64").toString("latin1").match(/\/Type\s*\/Page\b/g).length;
     }
 
     async picture(file) {

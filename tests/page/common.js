@@ -8,7 +8,11 @@ const read = name => fs.readFileSync(path.join(project, name), "utf8");
 const hex = bytes => Buffer.from(bytes).toString("hex");
 const sheetIn = name => Uint8Array.from(read(`hosts/${name}.inc`).match(/0x../g), Number);
 const sample = sheetIn("sample_sheet"), pump = sheetIn("pump_sheet");
-const PARTS = ["sheet", "two", "device", "trace", "demo"];
+const PARTS = ["start", "sheet", "two", "device", "trace", "demo"];
+// the stored run of trace_play: a sheet, and behind it a trace of 59 events on it
+const stored = fs.readFileSync(path.join(project, "crates/trace_play/stdin")), storedLength = stored.readUInt16BE(4);
+const played = { sheet: stored.subarray(0, storedLength), trace: stored.subarray(storedLength) };
+const accident = name => fs.readFileSync(path.join(project, "examples/accident", name));
 
 // pieces of script for the page: the text of an element, a value, bytes
 const text = selector => `document.querySelector(${JSON.stringify(selector)}).textContent`;
@@ -29,4 +33,4 @@ function expect(what, got, wanted) {
 const holds = (what, got) => expect(what, Boolean(got), true);
 const has = (what, got, part) => holds(`${what}: “${got}” has no “${part}”`, String(got).includes(part));
 
-module.exports = { project, read, hex, sample, pump, PARTS, text, given, bytesOf, tally, expect, holds, has };
+module.exports = { project, read, hex, sample, pump, PARTS, played, accident, text, given, bytesOf, tally, expect, holds, has };

@@ -8,7 +8,7 @@ async function keys(b, url) {
     const part = async id => {
         for (let i = 0; i < 150 && !(await b.run(`document.activeElement.matches("[role=tab]")`)); i++) await b.key("Tab");
         await b.key("Home");
-        for (let i = 0; i < 5 && (await b.run(`document.activeElement.id`)) !== `tab-${id}`; i++) await b.key("ArrowRight");
+        for (let i = 0; i < 6 && (await b.run(`document.activeElement.id`)) !== `tab-${id}`; i++) await b.key("ArrowRight");
         expect(`the part ${id}`, await b.run(`[document.activeElement.id, document.querySelector("#${id}").hidden]`), [`tab-${id}`, false]);
     };
     const press = async name => {
@@ -16,8 +16,8 @@ async function keys(b, url) {
         await b.key("Enter");
     };
     const paste = async bytes => {
-        await press("Paste hex digits");
-        await b.tabTo("Hex digits");
+        await press("Paste text or hex digits");
+        await b.tabTo("Text or hex digits");
         await b.typeHere(hex(bytes));
         await press("Take these");
     };
@@ -71,12 +71,17 @@ async function keys(b, url) {
     expect("rows that differ alone", [all, await rows()], [7, 7]);
     await b.key(" ");
     has("told what they are", await b.run(text("#two .source .said")), "a pump controller's, 101 bytes");
-    // a trace: forward, back, to an event, in the list, at a byte
+    // what happened: the accident; forward, back, to an event, in the list, at a byte
     await part("trace");
     await b.tabTo("Or of the page's own");
     await b.tabTo("Take it");
     await b.key("Tab");
-    await take("an example, with its own sheet");
+    await take("the accident, with its dumps");
+    has("explained", await b.run(text("#trace .explanation")), "needs level 1, the connection has level 2");
+    await press("event 8");
+    expect("a line leads to its event", await b.run(`[app.tracePart.at, document.activeElement.getAttribute("aria-label")]`), [8, "Events"]);
+    await b.key("Home");
+    await part("trace");
     const at = () => b.run(`[app.tracePart.at, Number(document.querySelector("#trace [aria-selected=true]")?.dataset.n ?? 0)]`);
     await press("Next");
     await b.key("Enter");
@@ -85,15 +90,30 @@ async function keys(b, url) {
     await press("Back");
     expect("one back", await at(), [1, 1]);
     await b.tabTo("After event");
-    await b.typeHere("30");
+    await b.typeHere("7");
     await b.key("Enter");
-    expect("to an event", await at(), [30, 30]);
+    expect("to an event", await at(), [7, 7]);
     await b.tabTo("Events");
     await b.key("ArrowUp");
-    expect("in the list", await at(), [29, 29]);
+    expect("in the list", await at(), [6, 6]);
     await b.tabTo("Bytes of the sheet; arrow keys move from one to the next");
     for (const key of ["Home", "ArrowDown", "ArrowRight"]) await b.key(key);
     has("at a byte", await b.run(text("#trace .account")), "Byte 17, individual address: ");
+    await press("The sheet by meaning");
+    await press("1/51");
+    has("the history of a place", await b.run(text("#trace .entry .story")), "1000 → 1020 by event 3");
+    await part("trace");
+    await press("The picture in words");
+    has("the picture in words", await b.run(text("#trace .history details ul")), "640 asked for, and refused");
+    // the first card: a dump pasted; the example
+    await part("start");
+    await paste(pump);
+    expect("a dump that is pasted is shown", await b.run(`[app.part, document.activeElement.id]`), ["sheet", "tab-sheet"]);
+    await part("start");
+    await press("Show me an example");
+    has("the story", await b.run(text("#start .story")), "A tank ran dry.");
+    await press("See what happened, event by event");
+    expect("the focus goes along", await b.run(`document.activeElement.id`), "tab-trace");
     // the demonstration
     await part("demo");
     await press("Next step");

@@ -1,7 +1,7 @@
 // What is seen: nothing cut off, colours that can be told apart, names for those who hear the page, the focus.
 "use strict";
 const path = require("path");
-const { pump, PARTS, bytesOf, expect, holds, has } = require("./common.js");
+const { pump, PARTS, played, bytesOf, expect, holds, has } = require("./common.js");
 
 // something to be seen in every part
 async function filled(b) {
@@ -20,8 +20,7 @@ async function filled(b) {
         app.devicePart.did(app.device.request(apduOf(app.proved, "property_write object=1 id=51 n=1 s=2 data=04e2"), 3, 0));
         app.compare(0, sample, "pump.bin");
         app.compare(1, other, "other.bin");
-        const trace = app.tracePart.example();
-        app.tracePart.set(app.tracePart.sheet, "that of the example", trace, "an example");
+        app.tracePart.set(${bytesOf(played.sheet)}, "that of trace_play", ${bytesOf(played.trace)}, "a stored trace");
         app.tracePart.go(30);
         app.demoPart.go(9);
         scrollTo(0, 0);
@@ -91,7 +90,7 @@ const faint = `(() => {
 
 async function looks(b, out) {
     let least = 21, pictures = 0;
-    for (const [width, height] of [[1280, 900], [360, 740]]) {
+    for (const [width, height] of [[1280, 900], [320, 640]]) {
         await b.size(width, height);
         for (const scheme of ["light", "dark"]) {
             await b.colours(scheme);
@@ -120,7 +119,7 @@ async function looks(b, out) {
     }
     await b.colours("light");
     await b.size(1280, 900);
-    return `${pictures} pictures at 1280 and 360 pixels, light and dark, nothing cut off, contrast at least ${least.toFixed(1)}`;
+    return `${pictures} pictures at 1280 and 320 pixels, light and dark, nothing cut off, contrast at least ${least.toFixed(1)}`;
 }
 
 // every control has a name, and Tab reaches every one

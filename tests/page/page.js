@@ -1,6 +1,6 @@
 #!/usr/bin/env node
-// tests/page/page.js BROWSER PAGE SHEET OUT: the page in a browser, as a person uses it, with SHEET (build/sheet) to hold it to; leaves
-// pictures in OUT. Says what was tried, and ends with status 1 if anything was other than it should be. ONLY in the environment
+// tests/page/page.js BROWSER PAGE SHEET TRACE OUT: the page in a browser, as a person uses it, with SHEET and TRACE (build/sheet, build/trace)
+// to hold it to; leaves pictures in OUT. Says what was tried, and ends with status 1 if anything was other than it should be. ONLY in the environment
 // names the tests to run, with commas between them.
 "use strict";
 const fs = require("fs");
@@ -13,13 +13,15 @@ const { hostile } = require("./hostile.js");
 const { twoPart } = require("./part_two.js");
 const { devicePart } = require("./part_device.js");
 const { tracePart } = require("./part_trace.js");
+const { files } = require("./files.js");
+const { accidentTest } = require("./accident.js");
 const { demoPart } = require("./part_demo.js");
 const { keys } = require("./keys.js");
 const { looks, names } = require("./looks.js");
 const { quick } = require("./quick.js");
 const { network } = require("./network.js");
 
-const [program, page, sheetTool, out] = process.argv.slice(2);
+const [program, page, sheetTool, traceTool, out] = process.argv.slice(2);
 const url = "file://" + path.resolve(page);
 const tests = {
     vectors: deviceVectors,
@@ -30,6 +32,8 @@ const tests = {
     "two sheets": b => twoPart(b, sheetTool),
     "the device": devicePart,
     "a trace": tracePart,
+    "the accident": b => accidentTest(b, url, { sheet: path.resolve(sheetTool), trace: path.resolve(traceTool) }),
+    "any file anywhere": b => files(b, url),
     "the demonstration": demoPart,
     "keys alone": b => keys(b, url),
     looks: b => looks(b, out),

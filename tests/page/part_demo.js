@@ -10,6 +10,9 @@ async function demoPart(b) {
     expect("a step", await b.run(`document.querySelectorAll("#demo li").length`), 2);
     await b.click("=All of it");
     expect("all steps", await b.run(`document.querySelectorAll("#demo li").length`), count);
+    const hidden = await b.run(text("#demo"));
+    expect("keys are hidden", [/key=[0-9a-f]/.test(hidden.replaceAll("key=ffffffff", "")), hidden.includes("key=••••••••")], [false, true]);
+    await b.click("=Show keys");
     // in the form of make run
     const lines = await b.run(`[...document.querySelectorAll("#demo li")].map(li => [...li.children].map(e => {
         if (e.className === "text") return e.textContent;
@@ -19,6 +22,7 @@ async function demoPart(b) {
         return outcome ? "   < " + text.padEnd(56) + " " + outcome.textContent : "   < " + text;
     }).join("\\n")).join("\\n\\n")`);
     expect("as make run shows it", lines.split("\n"), read("tests/unit/demo.expected").trimEnd().split("\n"));
+    await b.click("=Show keys");
     await b.click("=Start over");
     return `${count} steps, line by line as make run shows them`;
 }

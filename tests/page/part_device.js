@@ -30,23 +30,43 @@ async function devicePart(b) {
     await way("on connection 0");
     await send("authorize_request key=22222222");
     has("the key of level 1", await log(), "connection 0: level 3 → level 1");
+    // a key that was sent is seen nowhere, unless keys are shown
+    const seen = () => b.run(`document.body.innerText + [...document.querySelectorAll("textarea, input")].map(e => e.value).join(" ")`);
+    expect("the key that was sent is hidden", [(await log()).includes("key=••••••••"), (await seen()).includes("22222222")], [true, false]);
+    await b.click("=Show keys");
+    has("and shown when asked for", await log(), "authorize_request key=22222222");
+    await b.click("=Show keys");
     await send("03d7013310020004");
     has("in hex", await log(), "property_write object=1 id=51 n=1 s=2 data=0004");
+    has("its number beside it", await log(), "(in decimal: 4)");
     has("what changed", await log(), "property 1/51 count: 1 → 2");
     expect("what changed is marked where it stands", await marks(), ["2 of 2", "4"]);
     for (const [typed, fault] of [["property_raed object=1", "there is no request “property_raed”"], ["property_read object=1", "needs id, n, s"], ["memory_read n=16 address=0100h", "no PDU that can be written (13)"],
-        ["property_read object=1 id=51 n=1 s=1 key=1", "has no field key"], ["0x03 d5 0", "a byte has two"], ["authorize_request key=2222", "key has 8 hex digits"], ["memory_read n=1 n=2 address=1", "n stands twice"]]) {
+        ["property_read object=1 id=51 n=1 s=1 key=1", "has no field key"], ["0x03 d5 0", "a byte has two"], ["authorize_request key=2222", "key has 8 hex digits"], ["memory_read n=1 n=2 address=1", "n stands twice"],
+        ["property_write object=1 id=51 n=1 s=1 value=65536", "65536 is more than an element of property 1/51 can hold, 65535"], ["property_write object=1 id=51 n=2 s=1 value=1", "n=2, and 1 value"],
+        ["property_write object=1 id=52 s=1 value=1", "the sheet has no property 1/52"], ["property_write object=1 id=51 s=1 value=04e2", "“04e2” is no number in decimal"],
+        ["property_write object=1 id=51 s=1 value=1 data=01", "value= and data= stand both"], ["memory_write n=1 address=0100h value=1", "has no value in decimal"]]) {
         const before = await b.run(`app.device.log.length`);
         await send(typed);
         has(`typed ${typed}`, await b.run(text("#device form + .said.fault")), fault);
         expect("nothing happened", await b.run(`app.device.log.length`), before);
     }
+    // values in decimal, as the sheet shows them
+    await send("property_write object=1 id=51 n=1 s=1 value=1250");
+    has("a value in decimal", await log(), "property 1/51 element 1: 1000 → 1250");
+    has("in hex and in decimal", await log(), "data=04e2, on connection 0 (in decimal: 1250)");
+    await send("property_write object=1 id=51 s=1 value=1000,4");
+    has("two of them", await log(), "n=2 s=1 data=03e80004");
     await send("memory_write n=2 address=0100h data=5566");
     has("level 1 may write what level 2 may", await log(), "memory 0100h: a0 a1 → 55 66");
     await way("to a group");
     await send("group_write v=0 data=2a");
     has("a group value", await log(), "group object 1/0/1: 00 → 2a");
     has("as a datapoint", await b.run(text("#device .sheet")), "as type 5: 42");
+    await send("group_write value=43");
+    has("a group value in decimal", await log(), "group object 1/0/1: 2a → 2b");
+    await send("group_write value=256");
+    has("one that does not fit", await b.run(text("#device form + .said.fault")), "has one byte: a whole number up to 255");
     await b.run(`document.activeElement.blur()`);
     await b.tabTo("Button on");
     await b.key("Enter");
@@ -75,6 +95,8 @@ async function devicePart(b) {
         has(`the frame ${typed}`, await b.run(text("#device form + .said.fault")), fault);
         expect("nothing happened", await b.run(`app.device.log.length`), before);
     }
+    await send("2900b06011ff11060643d10022222222");
+    expect("a key in a frame is hidden", [(await log()).includes("tpdu=••••••••"), (await seen()).includes("22222222")], [true, false]);
     // versions
     await b.click("=Save a version");
     has("a version", await state(), "version 1");

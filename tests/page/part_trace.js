@@ -1,17 +1,14 @@
 // Part 4, a trace: forward and back, who changed each byte, a dump, refusals.
 "use strict";
-const fs = require("fs");
-const path = require("path");
-const { project, read, hex, text, given, bytesOf, expect, holds, has } = require("./common.js");
+const { read, played, text, given, bytesOf, expect, holds, has } = require("./common.js");
 
 async function tracePart(b) {
-    const both = fs.readFileSync(path.join(project, "crates/trace_play/stdin")), length = both.readUInt16BE(4);
-    const sheet = both.subarray(0, length), trace = both.subarray(length), due = read("crates/trace_play/stdout").trim().split("\n");
+    const { sheet, trace } = played, { length } = sheet, due = read("crates/trace_play/stdout").trim().split("\n");
     await b.click("#tab-trace");
-    await b.chooseFile("#trace .pair .source:first-child input[type=file]", b.file("at-start.bin", sheet));
-    await b.until(`${text("#trace .pair .source:first-child .said")}.includes("at-start.bin")`);
-    await b.drop("#trace .pair .source:last-child", b.file("a.trace", trace));
-    await b.until(`${text("#trace .pair .source:last-child .said")}.includes("a.trace")`);
+    await b.chooseFile("#trace .three .source:nth-child(1) input[type=file]", b.file("at-start.bin", sheet));
+    await b.until(`${text("#trace .three .source:nth-child(1) .said")}.includes("at-start.bin")`);
+    await b.drop("#trace .three .source:nth-child(2)", b.file("a.trace", trace));
+    await b.until(`${text("#trace .three .source:nth-child(2) .said")}.includes("a.trace")`);
     const events = due.filter(line => /^\d/.test(line));
     has("how many events", await b.run(text("#trace > .verdict")), `${events.length} events.`);
     // each event as the proved program says it
@@ -88,32 +85,39 @@ async function tracePart(b) {
     await b.click("=The sheet by meaning");
     // a dump: nothing is unexplained; then a byte that no event wrote
     const final = Buffer.from(states[states.length - 1], "hex");
-    await b.chooseFile("#trace > .source input[type=file]", b.file("dump.bin", final));
-    await b.until(`${text("#trace > .source .said")}.includes("dump.bin")`);
-    has("a dump that the events explain", await b.run(text("#trace")), "The events explain every byte of the dump.");
+    await b.chooseFile("#trace .three .source:nth-child(3) input[type=file]", b.file("dump.bin", final));
+    await b.until(`${text("#trace .three .source:nth-child(3) .said")}.includes("dump.bin")`);
+    has("a dump that the events explain", await b.run(text("#trace")), "dump.bin is what the events give, byte by byte");
     final[length - 1] ^= 0x55;
-    await b.chooseFile("#trace > .source input[type=file]", b.file("other.bin", final));
-    await b.until(`${text("#trace > .source .said")}.includes("other.bin")`);
-    has("a byte that none explains", await b.run(text("#trace")), "1 byte of the dump that no event explains:");
+    await b.chooseFile("#trace .three .source:nth-child(3) input[type=file]", b.file("other.bin", final));
+    await b.until(`${text("#trace .three .source:nth-child(3) .said")}.includes("other.bin")`);
+    has("a byte that none explains", await b.run(text("#trace")), "other.bin: 1 byte other than the events leave them, at 1 place; 1 of these no event of the traces gave");
     has("by meaning", await b.run(text("#trace")), "user memory 010fh: ");
     // refused, each by its number
     const worked = "0005011a0000002a00000013 1234002a0200 03000000002c0000 04000000002c0000 020f0000002c0000 0300".replace(/ /g, "");
     const refused = [["00", 50], ["0201", 51], [worked.replace(/^0005/, "0006"), 52], [worked.replace(/^000501/, "000505"), 53], [worked.slice(0, 16) + "01" + worked.slice(18), 54],
         [worked.slice(0, 18) + "01" + worked.slice(20), 55], [worked.slice(0, 30) + "29" + worked.slice(32), 56], [worked.slice(0, 32) + "03" + worked.slice(34), 57], [worked + "00", 58]];
     expect("the worked trace can be played", await b.run(`app.proved.traceCheck(unhex(${given(worked)}))`), 0);
+    const said = text("#trace .three .source:nth-child(2) .said"), there = () => b.run(`[hex(app.tracePart.trace), app.tracePart.playing.events.length, app.tracePart.body.hidden]`), before = await there();
     for (const [digits, number] of refused) {
-        await b.chooseFile("#trace .pair .source:last-child input[type=file]", b.file("refused.trace", Buffer.from(digits, "hex")));
-        await b.until(`app.tracePart.trace && hex(app.tracePart.trace) === ${given(digits)}`);
-        has(`a trace that is refused by ${number}`, await b.run(text("#trace > .verdict")), `(${number})`);
+        await b.chooseFile("#trace .three .source:nth-child(2) input[type=file]", b.file(`refused-${number}.trace`, Buffer.from(digits, "hex")));
+        await b.until(`${said}.includes("refused-${number}")`);
+        has(`a trace that is refused by ${number}`, await b.run(said), `${number}: `);
+        has("it says so", await b.run(said), "it was not taken, and what was there stays");
+        expect("what was there stays", await there(), before);
+        await b.run(`app.tracePart.set(app.tracePart.sheet, "x", unhex(${given(digits)}), "x")`);
+        has("one that came another way is not played", await b.run(text("#trace > .verdict")), `(${number})`);
         holds("nothing is played", await b.run(`app.tracePart.body.hidden`));
+        await b.run(`app.tracePart.set(${bytesOf(sheet)}, "x", ${bytesOf(trace)}, "x")`);
     }
     // on a sheet of no bytes nothing happens, and nothing breaks
     await b.run(`app.tracePart.set(new Uint8Array(0), "nothing", unhex(${given(worked)}), "worked")`);
     await b.click("=Next");
     has("a sheet of no bytes", await b.run(text("#trace > .verdict")), "5 events. The sheet: breaks rule S1");
-    await b.choose("#trace .pair .source:last-child select", "an example, with its own sheet");
-    await b.click("#trace .pair .source:last-child .taken button");
-    has("what the example is played on", await b.run(text("#trace .pair .source:first-child .said")), "that of the example");
+    await b.choose("#trace .three .source:nth-child(2) select", "the accident, with its dumps");
+    await b.click("#trace .three .source:nth-child(2) .taken button");
+    has("what the accident is played on", await b.run(text("#trace .three .source:nth-child(1) .said")), "before.txt");
+    await b.run(`app.tracePart.setDump(null, ""); app.tracePart.set(${bytesOf(sheet)}, "at-start.bin", ${bytesOf(trace)}, "a.trace")`);
     // who asks for the keys stays where the trace stands
     await b.run(`app.tracePart.go(20)`);
     await b.click("=Show keys");

@@ -43,7 +43,7 @@ async function quick(b) {
     for (const [what, ms] of Object.entries(times)) holds(`${what}: ${ms.toFixed(0)} ms, more than ${most.toFixed(0)}`, ms <= most);
     for (const part of PARTS) {
         await b.run(`app.open("${part}")`);
-        for (const width of [1280, 360]) {
+        for (const width of [1280, 320]) {
             await b.size(width, 800);
             expect(`${part} with a full sheet at ${width} pixels`, await b.run("document.documentElement.scrollWidth <= document.documentElement.clientWidth"), true);
         }
