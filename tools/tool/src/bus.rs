@@ -4,6 +4,7 @@
 use std::collections::VecDeque;
 use std::io::ErrorKind;
 use std::net::{Ipv4Addr, SocketAddr, SocketAddrV4, ToSocketAddrs, UdpSocket};
+use std::sync::atomic::{AtomicU64, Ordering};
 use std::time::{Duration, Instant};
 
 use crate::archive::{self, event};
@@ -32,6 +33,17 @@ const GROUP: u8 = 0x80;
 const STEP: u64 = 100;
 /// What still waits at the end has so long to go out.
 const SETTLE: u64 = 2_000;
+
+/// A wait of 0 would be one without an end.
+const SHORTEST: Duration = Duration::from_micros(100);
+
+/// So many times as fast as it should the clock runs: 1, but in tests.
+static CLOCK: AtomicU64 = AtomicU64::new(1);
+
+/// For tests: all time limits pass so many times as fast.
+pub fn hurry(times: u64) {
+    CLOCK.store(times.max(1), Ordering::SeqCst);
+}
 
 #[derive(Clone, Copy, Debug, PartialEq, Eq)]
 pub enum Destination {
@@ -142,7 +154,7 @@ impl Bus {
 
     /// Milliseconds since the start.
     pub fn now(&self) -> u64 {
-        self.started.elapsed().as_millis() as u64
+        self.started.elapsed().as_millis() as u64 * CLOCK.load(Ordering::Relaxed)
     }
 
     /// A TPDU to whom it is for; a source of 0 is filled in by the interface.
@@ -220,7 +232,8 @@ impl Bus {
 
     fn receive(&mut self, wait: u64) -> Result<(), Trouble> {
         let mut bytes = [0; 1024];
-        let _ = self.socket.set_read_timeout(Some(Duration::from_millis(wait)));
+        let wait = Duration::from_micros(1000 * wait / CLOCK.load(Ordering::Relaxed)).max(SHORTEST);
+        let _ = self.socket.set_read_timeout(Some(wait));
         match self.socket.recv_from(&mut bytes) {
             Ok((length, SocketAddr::V4(from))) if from == self.control || from == self.data => {
                 let now = self.now();
@@ -234,7 +247,7 @@ impl Bus {
                 return Err(Trouble::Interface(words));
             }
             Err(why) if why.kind() == ErrorKind::ConnectionRefused => {
-                std::thread::sleep(Duration::from_millis(wait.min(10)));
+                std::thread::sleep(wait.min(Duration::from_millis(10)));
             }
             _ => {}
         }

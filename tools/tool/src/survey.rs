@@ -20,6 +20,7 @@ use crate::key::Key;
 use crate::progress::Progress;
 use crate::readout::{Plan, Readout};
 use crate::record::Record;
+use crate::scan::SERIAL;
 use crate::sys;
 use crate::trouble::Trouble;
 use crate::unit::{Patience, Unit};
@@ -41,11 +42,17 @@ pub fn reference(name: &str) -> Result<(Vec<u8>, Sheet), String> {
     }
 }
 
-/// What became of a unit.
-enum Unread {
-    Trouble(Trouble),
-    /// It was not asked, and why.
-    NotAsked(String),
+/// Why a unit was not read: at the first try, and once more if that was another reason.
+struct Unread(String);
+
+impl Unread {
+    fn failed(before: Option<Unread>, trouble: &Trouble) -> Unread {
+        let now = trouble.to_string();
+        Unread(match before {
+            Some(Unread(first)) if first != now => format!("{first}; once more: {now}"),
+            _ => now,
+        })
+    }
 }
 
 struct Hall<'a> {
@@ -144,7 +151,7 @@ impl Hall<'_> {
             progress.at(i, &format!("{} of {of} read, {failed} without", self.read.len()));
             if !self.ready() {
                 let gone = "was not asked: the interface is gone".to_string();
-                self.unread.entry(address).or_insert(Unread::NotAsked(gone));
+                self.unread.entry(address).or_insert(Unread(gone));
                 continue;
             }
             match self.one(address, patience) {
@@ -158,7 +165,8 @@ impl Hall<'_> {
                     if matches!(trouble, Trouble::Interface(_)) {
                         self.lost();
                     }
-                    self.unread.insert(address, Unread::Trouble(trouble));
+                    let before = self.unread.remove(&address);
+                    self.unread.insert(address, Unread::failed(before, &trouble));
                 }
             }
         }
@@ -229,11 +237,8 @@ impl Hall<'_> {
             let serial = read.serial().is_some();
             return Seen { name, verdict: Verdict::Read, sheet: Some(sheet), serial, notes };
         }
-        let why = match self.unread.get(&address) {
-            Some(Unread::Trouble(trouble)) => trouble.to_string(),
-            Some(Unread::NotAsked(why)) => why.clone(),
-            None => "was not asked".to_string(),
-        };
+        let why = self.unread.get(&address).map_or("was not asked", |unread| &unread.0);
+        let why = why.to_string();
         Seen { name, verdict: Verdict::Unread(why), sheet: None, serial: false, notes: Vec::new() }
     }
 }
@@ -270,7 +275,11 @@ pub fn beside(base: &Sheet, read: &Readout) -> (Sheet, Vec<String>) {
             body[..both].copy_from_slice(&q.body[..both]);
         }
         let elements = p.elements.concat();
-        body[..elements.len()].copy_from_slice(&elements);
+        // a serial number is a unit's own, and told as such
+        let own = known.is_some() && (d.object, d.id) == SERIAL && read.serial().is_some();
+        if !own {
+            body[..elements.len()].copy_from_slice(&elements);
+        }
         sheet.properties.push(Entry {
             object: d.object,
             id: d.id,

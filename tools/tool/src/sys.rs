@@ -27,6 +27,9 @@ const FLUSH: i32 = 2;
 const SIGHUP: i32 = 1;
 const SIGINT: i32 = 2;
 const SIGTERM: i32 = 15;
+const SIGXFSZ: i32 = 25;
+/// A handler that does nothing.
+const IGNORE: usize = 1;
 const IPPROTO_IP: i32 = 0;
 const IP_RECVERR: i32 = 11;
 
@@ -45,8 +48,9 @@ extern "C" fn heard(number: i32) {
     unsafe { signal(number, 0) };
 }
 
-/// From now on a signal to end is told by `interrupted`.
+/// From now on a signal to end is told by `interrupted`, and a file that may not grow is an error like any other.
 pub fn listen() {
+    unsafe { signal(SIGXFSZ, IGNORE) };
     for number in [SIGINT, SIGTERM, SIGHUP] {
         unsafe { signal(number, heard as *const () as usize) };
     }

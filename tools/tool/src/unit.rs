@@ -12,8 +12,10 @@ use crate::key::Key;
 use crate::transport::{Told, Transport, Why};
 use crate::trouble::Trouble;
 
-/// How long an answer may take once the request is acknowledged.
-const ANSWER: u64 = 3_000;
+/// How long an answer may take once the request is acknowledged: one that is lost comes again after 3 s.
+const ANSWER: u64 = 5_900;
+/// So often a connect is tried: nobody acknowledges one, so that a lost one shows by a disconnect alone.
+const CONNECTS: u8 = 3;
 /// The most bytes that one request reads or writes: of a property, of memory, of user memory.
 pub const PROPERTY: usize = 10;
 pub const MEMORY: usize = 12;
@@ -66,6 +68,7 @@ pub struct Unit<'a> {
     strangers: BTreeSet<u16>,
     patience: Patience,
     begun: u64,
+    connects: u8,
     /// The level that its key gave.
     pub level: u8,
 }
@@ -87,6 +90,7 @@ impl<'a> Unit<'a> {
             strangers: BTreeSet::new(),
             patience,
             begun: now,
+            connects: 1,
             level: 3,
         }
     }
@@ -165,8 +169,22 @@ impl<'a> Unit<'a> {
         Ok(())
     }
 
-    /// Sends a request, and waits until it is acknowledged.
+    /// Sends a request, and waits until it is acknowledged. A unit that ends the connection before anything else was heard of
+    /// it is connected again.
     fn put(&mut self, apdu: &[u8]) -> Result<(), Trouble> {
+        loop {
+            match self.put_once(apdu) {
+                Err(Trouble::Ended { at_once: true }) if self.connects < CONNECTS => {
+                    self.connects += 1;
+                    self.ended = None;
+                    self.transport = Transport::open(self.bus.now());
+                }
+                done => return done,
+            }
+        }
+    }
+
+    fn put_once(&mut self, apdu: &[u8]) -> Result<(), Trouble> {
         self.answers.clear();
         self.acknowledged = false;
         let now = self.bus.now();
@@ -205,16 +223,17 @@ impl<'a> Unit<'a> {
                     read => strange = Some(read.map_or(kind::NO_KIND, |(pdu, _)| pdu.kind)),
                 }
             }
-            if self.bus.now() >= until {
-                return Err(match strange {
-                    Some(other) => {
-                        let what = format!("asked for {what}, it answers {}", name(other));
-                        Trouble::Strange(what)
-                    }
-                    None => Trouble::Unanswered(what.to_string()),
-                });
+            let done =
+                if self.bus.now() < until { self.pump(until) } else { Err(Trouble::Stopped) };
+            match (done, strange) {
+                (Err(Trouble::Stopped), Some(other)) => {
+                    let what = format!("asked for {what}, it answers {}", name(other));
+                    return Err(Trouble::Strange(what));
+                }
+                // it was acknowledged, so that what is missing is the answer
+                (Err(Trouble::Stopped), None) => return Err(Trouble::Unanswered(what.to_string())),
+                (done, _) => done?,
             }
-            self.pump(until)?;
         }
     }
 
