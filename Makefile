@@ -70,6 +70,7 @@ include mk/native.mk
 include mk/hosts.mk
 include mk/tools.mk
 include mk/device.mk
+include mk/tool.mk
 include mk/install.mk
 include mk/python.mk
 include mk/frames.mk

@@ -1,9 +1,9 @@
 # Programs for people: the sheet as text and traces, in Rust, and the examples in C; their tests. Comes after hosts.mk.
 .PHONY: tools test-tools lint
 
-#: make tools      build/sheet (checks, shows, makes, compares and surveys sheets), build/trace (shows, makes, plays and explains
+#: make tools      build/sheet (checks, shows, makes, compares and surveys sheets), build/kelindap-tool, build/trace (shows, makes, plays and explains
 #:                 traces) and the examples, build/host and build/height
-tools: build/sheet build/trace $(BUILD)/host $(BUILD)/height
+tools: build/sheet build/trace build/kelindap-tool $(BUILD)/host $(BUILD)/height
 
 # the example host shares transport, files and socket with the one on a real bus
 SHARED := hosts/device/transport.c hosts/device/files.c hosts/device/local.c

@@ -90,7 +90,10 @@ fn forms(help: &'static str) -> Vec<Form> {
 }
 
 fn form(line: &'static str, after: &'static str) -> Option<Form> {
-    let lower = |word: &&str| word.chars().all(|c| c.is_ascii_lowercase());
+    let lower = |word: &&str| {
+        word.starts_with(|c: char| c.is_ascii_lowercase())
+            && word.chars().all(|c| c.is_ascii_lowercase() || c == '-')
+    };
     let last = after.split_whitespace().take_while(lower).last()?;
     let long = last.as_ptr() as usize - after.as_ptr() as usize + last.len();
     let (command, rest) = after.split_at(long);

@@ -39,7 +39,11 @@ impl Program {
 
     /// Does what the words after the program's name ask for.
     pub fn run(&self, obey: impl Fn(&Asked) -> Said) -> ExitCode {
-        let words = words();
+        self.run_words(&words(), obey)
+    }
+
+    /// The same of words that a program has put in another order.
+    pub fn run_words(&self, words: &[String], obey: impl Fn(&Asked) -> Said) -> ExitCode {
         let words: Vec<&str> = words.iter().map(String::as_str).collect();
         let (said, painted) = match heard(self.help, &words) {
             Ok(Heard::Help(text)) => (Ok((text.into_bytes(), 0)), true),
@@ -80,7 +84,7 @@ impl Program {
 }
 
 /// The words after the program's name.
-fn words() -> Vec<String> {
+pub fn words() -> Vec<String> {
     let words = std::env::args_os().skip(1);
     words.map(|w| w.to_str().unwrap_or("\u{fffd}").to_string()).collect()
 }

@@ -1,13 +1,13 @@
 //! Many dumps beside one reference: what deviates by meaning and in how many units, broken and old sheets, keys that are
 //! public, of zeros, of two levels or shared, serial numbers and addresses that are there twice, heights out of a bound, what is
-//! open to all, rules 1. No key is told.
+//! open to all, rules 1. No key is told. Units that were read over a bus stand beside it by the same code: of them less is known.
 
 use std::collections::{BTreeMap, HashMap};
 
 use crate::diff;
 use crate::json::Json;
 use crate::kinds::{self, File};
-use crate::layout::{hex, individual_address, name, Kind, Property, Sheet, LATER};
+use crate::layout::{hex, individual_address, name, Kind, Property, Region, Sheet, LATER};
 use crate::show::{element, PUBLIC};
 use crate::slots;
 
@@ -32,6 +32,9 @@ pub enum Verdict {
     Old,
     /// With the rule, and what breaks it.
     Broken(String),
+    /// Over a bus; or not, and why.
+    Read,
+    Unread(String),
 }
 
 impl Verdict {
@@ -40,8 +43,21 @@ impl Verdict {
             Verdict::Accepted => "accepted",
             Verdict::Old => "old",
             Verdict::Broken(_) => "broken",
+            Verdict::Read => "read",
+            Verdict::Unread(_) => "not read",
         }
     }
+}
+
+/// What is known of a unit. Over a bus it is no more than can be asked for: no keys, no levels of memory, no rules, and the
+/// serial number only if a property tells it; in the sheet these are the reference's.
+pub struct Seen {
+    pub name: String,
+    pub verdict: Verdict,
+    pub sheet: Option<Sheet>,
+    pub serial: bool,
+    /// What could not be read of it.
+    pub notes: Vec<String>,
 }
 
 /// The verdict on a dump, of a sheet or of the medium that keeps it, and what it says. An old one says what its conversion does,
@@ -87,6 +103,7 @@ pub struct Unit {
     /// What deviates in it and what is open, by the survey's numbers of these.
     pub deviations: Vec<usize>,
     pub open: Vec<usize>,
+    pub notes: Vec<String>,
 }
 
 #[derive(Clone, Debug, PartialEq, Eq)]
@@ -102,6 +119,8 @@ pub struct Survey {
     pub serials: Vec<Shared>,
     pub addresses: Vec<Shared>,
     pub wanted: Wanted,
+    /// Whether the units were read over a bus.
+    pub bus: bool,
 }
 
 /// The survey of dumps, by name and bytes, or what is wrong with the reference or with reading one. A dump may be longer than
@@ -110,6 +129,21 @@ pub fn survey(
     reference: (&str, &[u8]),
     dumps: impl Iterator<Item = Result<(String, Vec<u8>), String>>,
     wanted: Wanted,
+) -> Result<Survey, String> {
+    let seen = dumps.map(|dump| {
+        let (name, bytes) = dump?;
+        let (verdict, sheet) = judged(&bytes);
+        Ok(Seen { name, verdict, sheet, serial: true, notes: Vec::new() })
+    });
+    survey_of(reference, seen, wanted, false)
+}
+
+/// The survey of units by what is known of them, from dumps or over a bus.
+pub fn survey_of(
+    reference: (&str, &[u8]),
+    seen: impl Iterator<Item = Result<Seen, String>>,
+    wanted: Wanted,
+    bus: bool,
 ) -> Result<Survey, String> {
     let (verdict, sheet) = judged(reference.1);
     let Some(base) = sheet else {
@@ -123,15 +157,14 @@ pub fn survey(
     }
     let mut found = Found::default();
     let mut units = Vec::new();
-    for dump in dumps {
-        let (name, bytes) = dump?;
-        let (verdict, sheet) = judged(&bytes);
+    for seen in seen {
+        let mut seen = seen?;
         let number = units.len();
-        units.push(match sheet {
-            Some(sheet) => found.unit(number, name, verdict, &base, &sheet, wanted),
+        units.push(match seen.sheet.take() {
+            Some(sheet) => found.unit(number, seen, &base, &sheet, wanted, bus),
             None => Unit {
-                name,
-                verdict,
+                name: seen.name,
+                verdict: seen.verdict,
                 address: String::new(),
                 serial: String::new(),
                 public: Vec::new(),
@@ -141,6 +174,7 @@ pub fn survey(
                 later: false,
                 deviations: Vec::new(),
                 open: Vec::new(),
+                notes: seen.notes,
             },
         });
     }
@@ -155,7 +189,7 @@ pub fn survey(
         shared.units.iter().for_each(|&unit| units[unit].open.push(k));
     }
     let reference = reference.0.to_string();
-    Ok(Survey { reference, units, deviations, open, keys, serials, addresses, wanted })
+    Ok(Survey { reference, units, deviations, open, keys, serials, addresses, wanted, bus })
 }
 
 #[derive(Default)]
@@ -189,11 +223,11 @@ impl Found {
     fn unit(
         &mut self,
         number: usize,
-        name: String,
-        verdict: Verdict,
+        seen: Seen,
         base: &Sheet,
         sheet: &Sheet,
         wanted: Wanted,
+        bus: bool,
     ) -> Unit {
         // what names a unit is no deviation, nor are keys of its own
         let (serial, address, keys) = (base.serial, base.address, base.keys);
@@ -201,29 +235,36 @@ impl Found {
         for line in diff::lines(base, &named) {
             self.deviations.entry(line).or_default().push(number);
         }
-        for what in open(sheet) {
+        for what in open(sheet, bus) {
             self.open.entry(what).or_default().push(number);
         }
-        for (level, key) in sheet.keys.iter().enumerate() {
-            self.keys.entry(*key).or_default().push((Some(number), level));
+        let levels = if bus { 0..0 } else { 0..3 };
+        for level in levels.clone() {
+            self.keys.entry(sheet.keys[level]).or_default().push((Some(number), level));
         }
-        let (address, serial) = (individual_address(sheet.address), hex(&sheet.serial));
+        let address = individual_address(sheet.address);
+        let serial = if seen.serial { hex(&sheet.serial) } else { String::new() };
         self.addresses.entry(address.clone()).or_default().push(number);
-        self.serials.entry(serial.clone()).or_default().push(number);
-        let with = |key: [u8; 4]| (0..3).filter(|&level| sheet.keys[level] == key).collect();
+        if seen.serial {
+            self.serials.entry(serial.clone()).or_default().push(number);
+        }
+        let with =
+            |key: [u8; 4]| levels.clone().filter(|&level| sheet.keys[level] == key).collect();
         let given = |level: usize| (0..level).find(|&l| sheet.keys[l] == sheet.keys[level]);
+        let doubled = levels.clone().filter_map(|l| given(l).map(|gives| (l, gives)));
         Unit {
-            name,
-            verdict,
+            name: seen.name,
+            verdict: seen.verdict,
             address,
             serial,
             public: with(PUBLIC),
             zeros: with(ZEROS),
-            doubled: (0..3).filter_map(|level| given(level).map(|gives| (level, gives))).collect(),
+            doubled: doubled.collect(),
             heights: heights(base, sheet, wanted),
-            later: sheet.rules == LATER,
+            later: !bus && sheet.rules == LATER,
             deviations: Vec::new(),
             open: Vec::new(),
+            notes: seen.notes,
         }
     }
 
@@ -244,13 +285,15 @@ impl Found {
     }
 }
 
-/// What anybody may write: memory, and properties that can be written at all.
-fn open(sheet: &Sheet) -> Vec<String> {
+/// What anybody may write: memory, and properties that can be written at all. Over a bus no levels of memory are told.
+fn open(sheet: &Sheet, bus: bool) -> Vec<String> {
     let region = |kind: Kind, address: u16| name(kind, &address.to_be_bytes());
-    let regions = sheet.regions.iter().map(|r| (r.levels, region(Kind::Region, r.address)));
+    let known = |regions: &[Region]| if bus { Vec::new() } else { regions.to_vec() };
+    let (regions, users) = (known(&sheet.regions), known(&sheet.users));
+    let regions = regions.iter().map(|r| (r.levels, region(Kind::Region, r.address)));
     let properties = sheet.properties.iter().filter(|p| p.writable);
     let properties = properties.map(|p| (p.levels, name(Kind::Property, &[p.object, p.id])));
-    let users = sheet.users.iter().map(|r| (r.levels, region(Kind::User, r.address)));
+    let users = users.iter().map(|r| (r.levels, region(Kind::User, r.address)));
     let all = regions.chain(properties).chain(users);
     all.filter(|(levels, _)| levels.write == 3).map(|(_, what)| what).collect()
 }
@@ -313,7 +356,8 @@ impl Survey {
     /// Whether there is nothing to tell of any unit.
     pub fn clean(&self) -> bool {
         let alone = |u: &Unit| {
-            u.verdict == Verdict::Accepted
+            matches!(u.verdict, Verdict::Accepted | Verdict::Read)
+                && u.notes.is_empty()
                 && u.public.is_empty()
                 && u.zeros.is_empty()
                 && u.doubled.is_empty()
@@ -338,7 +382,12 @@ impl Survey {
         match &u.verdict {
             Verdict::Broken(why) => say("broken", why.clone(), self.count("broken")),
             Verdict::Old => say("old", "edition 1: to be converted".to_string(), self.count("old")),
-            Verdict::Accepted => {}
+            Verdict::Unread(why) => say("not read", why.clone(), self.count("not read")),
+            Verdict::Accepted | Verdict::Read => {}
+        }
+        for note in &u.notes {
+            let units = self.units.iter().filter(|u| u.notes.contains(note)).count();
+            say("read in part", note.clone(), units);
         }
         for shared in u.deviations.iter().map(|&k| &self.deviations[k]) {
             say("deviation", shared.what.clone(), shared.units.len());
@@ -389,38 +438,73 @@ impl Survey {
         all
     }
 
-    /// For people.
+    /// For people: heights first, then what most units share.
     pub fn text(&self) -> String {
-        let mut out = format!(
-            "{} beside {}: {} accepted, {} old, {} broken\n",
-            many(self.units.len(), "unit"),
-            self.reference,
-            self.count("accepted"),
-            self.count("old"),
-            self.count("broken")
-        );
+        let mut out = format!("{} beside {}: ", many(self.units.len(), "unit"), self.reference);
+        let words: &[&str] =
+            if self.bus { &["read", "not read"] } else { &["accepted", "old", "broken"] };
+        let counts: Vec<String> =
+            words.iter().map(|word| format!("{} {word}", self.count(word))).collect();
+        out += &format!("{}\n", counts.join(", "));
+        out += &self.heights_text();
+        if self.bus {
+            let unread = self.units.iter().filter_map(|u| match &u.verdict {
+                Verdict::Unread(why) => Some(format!("{}: {why}", u.name)),
+                _ => None,
+            });
+            out += &section("units that were not read", unread.collect());
+            let notes = self.units.iter();
+            let notes = notes.flat_map(|u| u.notes.iter().map(|n| format!("{}: {n}", u.name)));
+            out += &section("units that were read in part", notes.collect());
+        }
         out += &shared_text("deviations, those of most units first", self, &self.deviations);
+        if !self.bus {
+            out += &self.dumps_text();
+        }
+        out += &shared_text("serial numbers of several units", self, &self.serials);
+        out += &shared_text("addresses of several units", self, &self.addresses);
+        out += &shared_text("open to all, write level 3", self, &self.open);
+        out += &if self.bus {
+            "\nnot told on a bus: keys, group objects, levels of memory, verify mode, rules\n"
+                .to_string()
+        } else {
+            let later = self.units.iter().filter(|u| u.later).map(|u| u.name.clone());
+            section("rules 1", later.collect())
+        };
+        out + &self.table()
+    }
+
+    fn heights_text(&self) -> String {
+        let (object, id) = self.wanted.height;
+        let Some(bound) = self.wanted.bound else {
+            return "\nheights: no bound is given\n".to_string();
+        };
+        let title =
+            format!("heights, property {object}/{id}, further than {bound} from the reference's");
+        let heights = self.units.iter();
+        let lines = heights.flat_map(|u| u.heights.iter().map(|h| format!("{}: {h}", u.name)));
+        section(&title, lines.collect())
+    }
+
+    /// What only a dump tells.
+    fn dumps_text(&self) -> String {
         let broken = self.units.iter().filter_map(|u| match &u.verdict {
             Verdict::Broken(why) => Some(format!("{}: {why}", u.name)),
             _ => None,
         });
-        out += &section("broken sheets", broken.collect());
-        let of = |test: fn(&Unit) -> bool| {
-            self.units.iter().filter(|u| test(u)).map(|u| u.name.clone()).collect()
+        let mut out = section("broken sheets", broken.collect());
+        let old = self.units.iter().filter(|u| u.verdict == Verdict::Old).map(|u| u.name.clone());
+        out += &section("old sheets, to be converted", old.collect());
+        let levels = |of: fn(&Unit) -> &[usize]| {
+            let some = self.units.iter().filter(|u| !of(u).is_empty());
+            let line = |u: &Unit| {
+                let levels: Vec<String> = of(u).iter().map(ToString::to_string).collect();
+                format!("{}: level {}", u.name, levels.join(", "))
+            };
+            some.map(line).collect()
         };
-        out += &section("old sheets, to be converted", of(|u| u.verdict == Verdict::Old));
-        let public = self.units.iter().filter(|u| !u.public.is_empty());
-        let public = public.map(|u| {
-            let levels: Vec<String> = u.public.iter().map(ToString::to_string).collect();
-            format!("{}: level {}", u.name, levels.join(", "))
-        });
-        out += &section("public keys, FFFFFFFFh", public.collect());
-        let zeros = self.units.iter().filter(|u| !u.zeros.is_empty());
-        let zeros = zeros.map(|u| {
-            let levels: Vec<String> = u.zeros.iter().map(ToString::to_string).collect();
-            format!("{}: level {}", u.name, levels.join(", "))
-        });
-        out += &section("keys of zeros", zeros.collect());
+        out += &section("public keys, FFFFFFFFh", levels(|u| &u.public));
+        out += &section("keys of zeros", levels(|u| &u.zeros));
         let twice = self.units.iter().flat_map(|u| {
             u.doubled.iter().map(|&(level, gives)| format!("{}: {}", u.name, doubled(level, gives)))
         });
@@ -429,25 +513,7 @@ impl Survey {
             let named = owners.iter().map(|&owner| self.owner(owner));
             format!("{}: {}", many(sharing(owners), "unit"), some(named))
         });
-        out += &section("shared keys", keys.collect());
-        out += &shared_text("serial numbers of several units", self, &self.serials);
-        out += &shared_text("addresses of several units", self, &self.addresses);
-        let (object, id) = self.wanted.height;
-        match self.wanted.bound {
-            None => out += "\nheights: no bound is given\n",
-            Some(bound) => {
-                let title = format!(
-                    "heights, property {object}/{id}, further than {bound} from the reference's"
-                );
-                let heights = self.units.iter();
-                let lines =
-                    heights.flat_map(|u| u.heights.iter().map(|h| format!("{}: {h}", u.name)));
-                out += &section(&title, lines.collect());
-            }
-        }
-        out += &shared_text("open to all, write level 3", self, &self.open);
-        out += &section("rules 1", of(|u| u.later));
-        out + &self.table()
+        out + &section("shared keys", keys.collect())
     }
 
     /// Each unit with its deviations.
@@ -534,18 +600,23 @@ impl Survey {
             };
             Json::List(owners.iter().map(one).collect())
         });
-        Json::Object(vec![
-            ("reference", self.reference.as_str().into()),
-            ("accepted", self.count("accepted").into()),
-            ("old", self.count("old").into()),
-            ("broken", self.count("broken").into()),
+        let counts = if self.bus {
+            vec![("read", self.count("read").into()), ("not_read", self.count("not read").into())]
+        } else {
+            let count = |word| (word, self.count(word).into());
+            ["accepted", "old", "broken"].map(count).to_vec()
+        };
+        let mut all = vec![("reference", self.reference.as_str().into())];
+        all.extend(counts);
+        all.extend([
             ("deviations", shared(&self.deviations)),
             ("open", shared(&self.open)),
             ("shared_keys", Json::List(keys.collect())),
             ("serials", shared(&self.serials)),
             ("addresses", shared(&self.addresses)),
             ("units", Json::List(units.collect())),
-        ])
+        ]);
+        Json::Object(all)
     }
 }
 
@@ -616,4 +687,19 @@ pub fn property_named(word: &str) -> Option<(u8, u8)> {
     let number = |word: &str| word.parse().ok().filter(|n: &u8| n.to_string() == word);
     let (object, id) = word.split_once('/')?;
     Some((number(object)?, number(id)?))
+}
+
+/// The property that holds the height and the bound, by the words of a command line.
+pub fn wanted(height: Option<&str>, bound: Option<&str>) -> Result<Wanted, String> {
+    let height = match height {
+        None => HEIGHT,
+        Some(word) => property_named(word)
+            .ok_or(format!("--height: no object and id, as 1/51: \"{word}\""))?,
+    };
+    let bound = bound.map(|word| {
+        let digits = !word.is_empty() && word.bytes().all(|b| b.is_ascii_digit());
+        let number = if digits { word.parse().ok() } else { None };
+        number.ok_or(format!("--bound: no number: \"{word}\""))
+    });
+    Ok(Wanted { height, bound: bound.transpose()? })
 }

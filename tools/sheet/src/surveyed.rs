@@ -4,7 +4,7 @@ use std::fs;
 use std::path::Path;
 
 use sheet::show::plain;
-use sheet::survey::{property_named, survey, Wanted, HEIGHT};
+use sheet::survey::{survey, wanted, Wanted};
 
 use crate::load;
 use sheet::asked::Asked;
@@ -37,20 +37,6 @@ pub fn surveyed(folder: &str, asked: &Asked) -> Said {
     let reference = asked.option("--reference").unwrap_or_default();
     let wanted = wanted(asked.option("--height"), asked.option("--bound"))?;
     told(&Survey { folder, reference, wanted, form })
-}
-
-fn wanted(height: Option<&str>, bound: Option<&str>) -> Result<Wanted, String> {
-    let height = match height {
-        None => HEIGHT,
-        Some(word) => property_named(word)
-            .ok_or(format!("--height: no object and id, as 1/51: \"{word}\""))?,
-    };
-    let bound = bound.map(|word| {
-        let digits = !word.is_empty() && word.bytes().all(|b| b.is_ascii_digit());
-        let number = if digits { word.parse().ok() } else { None };
-        number.ok_or(format!("--bound: no number: \"{word}\""))
-    });
-    Ok(Wanted { height, bound: bound.transpose()? })
 }
 
 /// The files of a folder by name, the reference apart.
