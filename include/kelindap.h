@@ -61,15 +61,15 @@
  *    open. After that the host restarts what it wants.
  *
  * Saving
- *  - the sheet is all that has to survive a power cut; the sessions do not survive one: they begin fresh. A request, and a frame
- *    that is served (kelindap_link.h), tells which parts of the sheet it stored; a button that is carried out stored byte 14, a
- *    restore counts and bodies of properties (kelindap_store.h), and no other call changes the sheet but kelindap_convert and
- *    playing (kelindap_trace.h). So a host needs no second copy in memory to know whether to save. It saves after such a call
- *    and before it acknowledges or answers, so that what a tool takes for done is kept;
- *  - a power cut during a call leaves a sheet in memory that may hold a part of a write, and no promise speaks of it: so what
- *    the host starts from is the saved copy, and never memory that lay open to a call. A save must leave the old copy or the
- *    new one, whole: two places with a mark of the newer, or a new file renamed over the old one (examples/host.c). At start
- *    kelindap_check accepts what was saved, but it judges the form of a sheet and is no checksum.
+ *  - the sheet is all that has to survive a power cut; the sessions begin fresh. A request, and a frame that is served
+ *    (kelindap_link.h), tells which parts of the sheet it stored; a button that is carried out stored byte 14, a restore counts and
+ *    bodies of properties (kelindap_store.h), and no other call changes the sheet but kelindap_convert and playing
+ *    (kelindap_trace.h). After such a call the host saves, and then acknowledges or answers: what a tool takes for done is kept;
+ *  - a save leaves the old sheet or the new one, whole, whenever the power goes; and a start is from what was saved, never from
+ *    memory that lay open to a call. kelindap_slots.h does it in flash, EEPROM, FRAM or battery-backed memory, by two slots: a host
+ *    that keeps the duties of that header, and these, keeps all that is promised of a history through any number of power cuts,
+ *    proved. With files, a new one is renamed over the old one (examples/host.c): the file system's word is then taken for it, and
+ *    no proof speaks of it. kelindap_check judges the form of a sheet and is no check sum; a slot has one.
  *
  * Wear
  *  - what is named as stored may be what stood there, and group values and programming mode ask for no level: any sender on the

@@ -10,10 +10,10 @@
  *    and only if they are carried out (kelindap_carried_out). The host then keeps a new copy of what was changed before it
  *    tells anybody so;
  *  - a power cut during a call leaves a store in memory of which no promise speaks: the host starts from the copy that it kept
- *    last, and never from memory that lay open to a call. Keeping a copy must leave the old one or the new one, whole: two
- *    places with a mark of the newer, or a new file renamed over the old one. Sheet and store need not be of one moment: every
- *    restore is judged on the two as they are. A number was given when the copy with it is kept: if the power goes before, the
- *    version is not there and its number is given again, so nobody is told of it before;
+ *    last. Keeping leaves the old copy or the new one, whole, as with the sheet: two slots of its own (kelindap_slots.h), or a new
+ *    file renamed over the old one. Sheet and store need not be of one moment: every restore is judged on the two as they are. A
+ *    number was given when the copy with it is kept: if the power goes before, the version is not there and its number is given
+ *    again, so nobody is told of it before;
  *  - at start kelindap_store_check tells whether what was kept is a good store. It judges the form and is no checksum, and says
  *    nothing of what a version holds: that is judged when it is restored;
  *  - who may save and remove is the host's to say: these two ask for no level, since they change neither sheet nor sessions.

@@ -128,6 +128,72 @@ const PARTS: &[Part] = &[
             "turns-restored",
         ],
     },
+    Part {
+        title: "Two slots",
+        says: "what the calls of include/kelindap_slots.h promise, and that a slot handed over in parts is judged as the whole",
+        statements: &[
+            "fn host/kelindap_slot",
+            "fn host/kelindap_slot_begin",
+            "fn host/kelindap_slot_more",
+            "fn host/kelindap_slot_end",
+            "fn host/kelindap_slot_newer",
+            "fn host/kelindap_slot_target",
+            "fn host/kelindap_slot_work",
+            "slots/parts-judge",
+            "slots/whole-judge",
+        ],
+    },
+    Part {
+        title: "The medium and a cut",
+        says: "a unit starts with the new sheet exactly if the mark was set; and the host's loop is such a save",
+        statements: &[
+            "slots/save-ready",
+            "slots/cut-safe",
+            "slots/lives",
+            "slots/ready-starts",
+            "slots/first-save",
+            "slots/first-cut",
+            "slots/next-goal",
+            "slots/loop-saves",
+            "slots/halt-cuts",
+        ],
+    },
+    Part {
+        title: "A life with power cuts",
+        says: "it is a history: what was answered after its save is in it, what a cut takes is the newest, together; what is found after a cut",
+        statements: &[
+            "lives-follow",
+            "answered-stays",
+            "acknowledged-stays",
+            "lost-together",
+            "written-found",
+            "found-again",
+            "whole-or-not",
+            "starts-fresh",
+            "lives-restored",
+        ],
+    },
+    Part { title: "Demand 3 through power cuts", says: "what any life leaves", statements: &["lives-keep"] },
+    Part {
+        title: "Without the key, through power cuts",
+        says: "without the key nobody changes a protected byte in any life; by frames, whoever has offered none since the last start",
+        statements: &["lives-keyless", "lives-by-right", "lives-without-key"],
+    },
+    Part {
+        title: "The accounts through power cuts",
+        says: "who changed each byte in any life, and by what right",
+        statements: &["lives-accounts"],
+    },
+    Part {
+        title: "Nothing learned, through power cuts",
+        says: "without the key nobody learns a protected byte in any life",
+        statements: &["lives-unlearned"],
+    },
+    Part {
+        title: "Two tools through power cuts",
+        says: "what one tool sees in any life does not depend on the other",
+        statements: &["lives-isolated"],
+    },
 ];
 
 /// Where reading stops: a definition, why it need not be read, and the theorems that are read in its place.

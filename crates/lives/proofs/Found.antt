@@ -4,6 +4,7 @@ use Prim.Native.Nat.{ℕ}
 use mathlib.Core.Path.{_≡_, refl, sym, ap, subst, _∙_}
 use mathlib.Core.Bool.{Bool, true, false, cond}
 use mathlib.Core.List.{List, [], _∷_, _++_}
+use lib.ListN.{getD}
 use Rattle.octets.proofs.Truths.{never}
 use Rattle.device.specs.Events.{State}
 use Rattle.device.specs.Sessions.{freshOf, sessionOf}
@@ -11,6 +12,12 @@ use Rattle.judge.specs.declared.Session.{Session}
 use Rattle.device.specs.declared.Sessions.{Sessions}
 use Rattle.device.proofs.leaves.Connections.{fresh-closed}
 use Rattle.events.specs.Events.{Event}
+use Rattle.history.specs.Location.{Location, Place}
+use Rattle.history.specs.Span.{names, gives}
+use Rattle.history.specs.Permit.{spans}
+use Rattle.history.specs.History.{wished, supplied, content, permitted}
+use Rattle.history.specs.Keeps.{stateAfter}
+use Rattle.history.proofs.promises.Keep.{keeps}
 use Rattle.slots.specs.Medium.{Medium, Broken}
 use Rattle.link.specs.Net.{Net, stateOf}
 use Rattle.link.specs.Whose.{Partner}
@@ -46,6 +53,18 @@ module _ {x y : Running} {h : List Happening} {es : List Event} (b : Begun x) (k
       same : (u : Bool) → cond u (y .net .sheet) (y .net .sheet) ≡ y .net .sheet
       same true = refl
       same false = refl
+
+-- THE HEIGHT THAT WAS ACKNOWLEDGED IS THE HEIGHT AFTER THE CUT: a permitted write that was saved and then answered has given, after a cut, every byte that it named
+pub written-found :
+    {x y : Running} {h : List Happening} {e : Event} → Begun x → Ran x (saved (e ∷ []) ∷ h) y → permitted (firstOf x) (told h) e ≡ true →
+    (a : Location) (p : ℕ) → Place (x .net .sheet) a p → names (spans (x .net .sheet) (content (firstOf x) (told h)) (supplied e) (wished e)) a ≡ true →
+    (set : Bool) {m : Medium} {z : Running} → Broken set (y .net .sheet) (y .medium) m → Starts m z →
+    getD (z .net .sheet) p 0 ≡ gives (spans (x .net .sheet) (content (firstOf x) (told h)) (supplied e) (wished e)) a
+unfolding telling tell stateAfter
+written-found {x} {h = h} {e = e} b k may a p place named set d t =
+    let o = lived b k .follows .octets in
+    ap (λ (s : List ℕ). getD s p 0) (found-again b k set d t ∙ held-now b k)
+    ∙ keeps (firstOf x) (told h) (b .begins) (o .1) .atOnce e (o .0) may a p place named
 
 -- AT START THE LINK IS FRESH: no connection has a partner
 pub starts-fresh : {m : Medium} {z : Running} → Starts m z → (z .net .link .sessions ≡ freshOf) × ((c a : ℕ) → Partner (z .net .link) c a → ⊥)

@@ -1,4 +1,4 @@
--- THE LOOP OF A HOST IS A SAVE, and on a medium of bytes a loop that was cut is a save that was cut; and a save can be made.
+-- THE LOOP OF A HOST IS A SAVE, and on a medium of bytes a loop that was cut is a save that was cut; and a save can be made, and cut.
 -- Assumes nothing.
 use Prim.Native.Nat.{ℕ, suc, _+_, _-_, _≤_, _<_}
 use mathlib.Core.Path.{_≡_, refl, sym, ap, _∙_, subst}
@@ -259,3 +259,8 @@ module _ (n : ℕ) (t : List ℕ) where
       let l₃ : length b₃ ≡ length b₂ = length-splice b₂ sheetAt t r₃ in
       let r₄ : 0 + length markUnit ≤ length b₃ = omega arith in
       next (cleared l₁ (blank-bare b)) (next (cleared refl (blank-bare b)) (next (written r₂ refl) (next (written r₃ refl) (next (written r₄ refl) end))))
+
+-- AND BE CUT AFTER ITS LAST PIECE, the mark being set; that it can be before its first is `before`
+pub cut-after : {ps : List Piece} {b b′ : List ℕ} → Did ps b b′ → Cut true ps b b′
+cut-after end = finished
+cut-after (next d k) = later d (cut-after k)

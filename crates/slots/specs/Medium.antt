@@ -1,4 +1,5 @@
--- THE MEDIUM AND A CUT OF THE POWER. One thing is assumed of a medium that a host can't bring about: `NoneRevived`.
+-- THE MEDIUM AND A CUT OF THE POWER.
+-- Assumes of a medium one thing that a host can't bring about: `NoneRevived`.
 use Prim.Native.Nat.{ℕ, _+_, _≤_, _<_}
 use mathlib.Core.Path.{_≡_}
 use mathlib.Core.List.{List, [], _∷_}
