@@ -154,6 +154,23 @@ fn long(bytes: &[u8], at: usize) -> u32 {
     u32::from_be_bytes(bytes[at..at + 4].try_into().unwrap())
 }
 
+/// What docs/SLOTS.md shows is so: the front of the sample's slot, and a dump of a save that was cut.
+#[test]
+fn documented() {
+    let document = include_str!("../../../docs/SLOTS.md");
+    let line = |bytes: &[u8]| {
+        let words: Vec<String> = bytes.iter().map(|b| format!("{b:02x}")).collect();
+        format!("    {}  {}\n", words[..16].join(" "), words[16..].join(" "))
+    };
+    let front = slot(ROOM, 7, &SAMPLE);
+    assert!(document.contains(&(line(&front[..32]) + &line(&front[32..64]))));
+    let mut cut = slot(ROOM, 8, &with_height(1250));
+    cut[..32].fill(0xFF);
+    for said in text(&both(&front, &cut)).lines() {
+        assert!(document.contains(&format!("    {said}\n")), "{said}");
+    }
+}
+
 /// The order of judging, and where two fit.
 #[test]
 fn judged() {
