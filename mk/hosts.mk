@@ -40,7 +40,7 @@ test-text: $(HOST_A) $(TOOL_A)
 	tests/same.sh
 
 # the tests in C, each over lent buffers
-IN_C := $(addprefix $(BUILD)/,tool_test point_test host_test store_test trace_test link_test unit_test)
+IN_C := $(addprefix $(BUILD)/,tool_test point_test host_test store_test trace_test link_test slots_test unit_test)
 test-c: $(BUILD)/layout $(BUILD)/stack $(IN_C)
 	$(WATCHED) $(BUILD)/layout
 	$(BUILD)/stack

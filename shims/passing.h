@@ -56,16 +56,19 @@ _Static_assert(sizeof(word) == sizeof(void *), "an address fills a register");
 
 #define DECLARED(type, name) type name;
 #define COPIED(type, name) .name = from.name,
-#define FLAT_RESULT(FIELDS, type, size) \
+#define FLAT_TYPE(FIELDS, type, size) \
     typedef struct flat_##type { \
         FIELDS(DECLARED) \
     } flat_##type; \
-    static inline type of_flat_##type(flat_##type from) { return (type){ FIELDS(COPIED) }; } \
     _Static_assert(sizeof(flat_##type) == (size) && (sizeof(word) == 4 || sizeof(type) == (size)), "as the module has it");
+#define FLAT_RESULT(FIELDS, type, size) \
+    FLAT_TYPE(FIELDS, type, size) \
+    static inline type of_flat_##type(flat_##type from) { return (type){ FIELDS(COPIED) }; }
 /* one that is an argument too */
 #define FLAT(FIELDS, type, size) \
-    FLAT_RESULT(FIELDS, type, size) \
-    static inline flat_##type flat_of_##type(type from) { return (flat_##type){ FIELDS(COPIED) }; }
+    FLAT_TYPE(FIELDS, type, size) \
+    static inline flat_##type flat_of_##type(type from) { return (flat_##type){ FIELDS(COPIED) }; } \
+    static inline type of_flat_##type(flat_##type from) { return (type){ FIELDS(COPIED) }; }
 
 /* which is read at an address */
 #define HEADER_LONG(type, name) type name

@@ -3,7 +3,8 @@
 # compiler sees once a line is expanded: any two arguments of one kind exchanged in a call of the module, any length given a
 # byte short, and what is made of a result changed. With each fault the desk unit, linked for PROCESSOR, plays its scripts and
 # the frames of the vectors until an answer differs or it ends; if none does, the tests in C of store, trace and link are tried,
-# which have numbers above 255 and look at the parts that were stored. Without a fault nothing differs.
+# which have numbers above 255 and look at the parts that were stored. No script has the calls on slots: a fault in one of these is
+# left to their own test in C. Without a fault nothing differs.
 set -euo pipefail
 processor=$1
 cd "$(dirname "$0")/.."
@@ -27,6 +28,7 @@ done
 c=(-std=c11 -O2 -Iinclude -Ibuild)
 mk/bin/cc "$processor" -c -o "$work/unit.o" "${c[@]}" hosts/unit.c
 in_c=(store_test trace_test link_test)
+mk/bin/cc "$processor" -c -o "$work/slots_test.o" "${c[@]}" -DROUNDS=400 tests/c/slots_test.c
 for test in "${in_c[@]}"; do mk/bin/cc "$processor" -c -o "$work/$test.o" "${c[@]}" -DROUNDS=4000 "tests/c/$test.c"; done
 
 # HOST_A TOOL_A PLAIN_A: whether the unit with these answers as it should
@@ -41,7 +43,12 @@ plays() {
         timeout 60 "$work/$test" > /dev/null 2>&1 || return 1
     done
 }
+slots_play() {
+    mk/bin/cc "$processor" -o "$work/slots_test" "$work/slots_test.o" "$1" "$2"
+    timeout 60 "$work/slots_test" > /dev/null 2>&1
+}
 plays "$work/libhost.a" "$work/libtool.a" "$work/libplain_host.a" || fail "the scripts differ without a fault"
+slots_play "$work/libhost.a" "$work/libtool.a" || fail "the slots differ without a fault"
 
 # the faults as NAME, a tab, the number of a line, a tab, and what stands there: exchanges and lengths by the calls' own text
 faults_of() {
@@ -110,6 +117,11 @@ changed host "served: a part's length for its offset" 'from.connection, from.cou
 changed host "served: the first part twice" 'from.connection, from.count, { { (size_t)from.part[0], (size_t)from.part[1] }, { (size_t)from.part[2], (size_t)from.part[3] }' 'from.connection, from.count, { { (size_t)from.part[0], (size_t)from.part[1] }, { (size_t)from.part[0], (size_t)from.part[1] }'
 changed host "a link by value: addresses exchanged" '.address[0] << 32 |' '.address[1] << 32 |'
 changed host "sessions by value: levels exchanged" 'of[0].level << 8 |' 'of[1].level << 8 |'
+changed host "slot, judged: the length for its offset" '.offset = from.offset,' '.offset = from.length,'
+changed host "slot, being judged: a field for its neighbour" '.stated = from.stated,' '.stated = from.sum,'
+changed host "slot, a piece: the work for the refusal" '.refusal = from.refusal, .work' '.refusal = from.work, .work'
+changed host "slot, a piece: its count for its place" '.at = from.at,' '.at = from.count,'
+changed host "slot, the goal: the number a byte short" '(kelindap_slot_goal){ (uint8_t)r, (uint32_t)(r >> 32)' '(kelindap_slot_goal){ (uint8_t)r, (uint8_t)(r >> 32)'
 changed plain_host "plain reply: outcome and count exchanged" '(kelindap_plain_reply){ low(r), high(r) }' '(kelindap_plain_reply){ high(r), low(r) }'
 changed tool "written: outcome and count exchanged" '(kelindap_written){ low(r), high(r) }' '(kelindap_written){ high(r), low(r) }'
 changed tool "framed: the count a byte short" '{ (uint16_t)r,' '{ low(r),'
@@ -134,7 +146,8 @@ for name in host tool plain_host; do
         LINE=$text awk -v at="$at" 'NR == at { print ENVIRON["LINE"]; next } { print }' "$work/$name.c" > "$work/faulty.c"
         mk/bin/native "$processor" "$name" "$work/faulty.a" "$work/faulty.c" 2> "$work/err" || { cat "$work/err"; fail "$what: does not compile"; }
         planted=$((planted + 1))
-        ! plays "${libraries[@]}" || { echo "shims: $processor: not found: $what" && missed=$((missed + 1)); }
+        case $what in slot*) play=slots_play ;; *) play=plays ;; esac
+        ! "$play" "${libraries[@]}" || { echo "shims: $processor: not found: $what" && missed=$((missed + 1)); }
     done < "$work/$name.faults"
 done
 echo "shims: $processor: $((planted - missed)) of $planted planted faults found"

@@ -123,11 +123,21 @@ static void slot_work(void)
 static void slot_judged(void) { kept += kelindap_slot(slot, sizeof slot).number; }
 static void slot_begin(void) { kept += kelindap_slot_begin(slot, sizeof slot, sizeof slot).left; }
 static kelindap_slot_judging judging;
-static void slot_more(void) { kept += kelindap_slot_more(judging, slot + KELINDAP_SLOT_FRONT, sizeof slot - KELINDAP_SLOT_FRONT).left; }
+static void slot_more(void)
+{
+    kept += kelindap_slot_more(judging, slot + KELINDAP_SLOT_FRONT, sizeof slot - KELINDAP_SLOT_FRONT).left;
+}
 static void slot_end(void) { kept += kelindap_slot_end(judging).number; }
 static kelindap_slot_state full, empty_one;
-static void slot_newer(void) { kept += kelindap_slot_newer(full, full) + kelindap_slot_newer(full, empty_one) + kelindap_slot_newer(empty_one, full); }
-static void slot_target(void) { kept += kelindap_slot_target(full, full).number + kelindap_slot_target(full, empty_one).number + kelindap_slot_target(empty_one, full).number; }
+static void slot_newer(void)
+{
+    kept += kelindap_slot_newer(full, full) + kelindap_slot_newer(full, empty_one) + kelindap_slot_newer(empty_one, full);
+}
+static void slot_target(void)
+{
+    kept += kelindap_slot_target(full, full).number + kelindap_slot_target(full, empty_one).number;
+    kept += kelindap_slot_target(empty_one, full).number;
+}
 static void fill_slot(void)
 {
     slot_work();

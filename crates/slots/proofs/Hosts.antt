@@ -17,7 +17,7 @@ use Rattle.octets.proofs.Walks.{by-lt}
 use Rattle.slots.specs.Slot.{longest, mark, marked, headAt, sheetAt, markUnit, blankUnit, headOf}
 use Rattle.slots.specs.Saving.{writes, erases, copies, pieceOf, workOf, unitOf, WorksAs}
 use Rattle.slots.specs.Medium.{held, Piece, clear, put, pieces, Done, cleared, written, Torn, clearing, Did, end, next, Cut, before, within, last, over as finished, later}
-use Rattle.slots.specs.Host.{Carried, wrote, erased, spared, copied, Loops, over, turn, Partly, Halts, between, inside, after, Cuts, cuts}
+use Rattle.slots.specs.Host.{Carried, wrote, erased, spared, copied, Loops, over, turn, wiped, Partly, Halts, between, inside, after, Cuts, cuts}
 use Rattle.slots.specs.declared.Work.{Work}
 use Rattle.slots.proofs.Cuts.{head-length}
 use Rattle.slots.proofs.Bytewise.{partly-put, partly-unmark, partly-erase, partly-same, fill-bare}
@@ -184,6 +184,11 @@ module _ (n : ℕ) (t : List ℕ) where
   loop-saves b b′ (over {o = o} {o′ = o′} {w = w} c h e) = absurd (early 0 b o o′ w c h e (λ z. omega arith))
   loop-saves b b′ (turn {x = x} {o = o} {o′ = o′} {w = w} c k l) =
       next (unmarks b x o o′ w c k) (at-erase x b′ (unmarked b x o o′ w c k) l)
+  loop-saves b b′ (wiped {o = o} {o′ = o′} {w = w} v c e is l) =
+      let d = due 0 b o o′ w c (λ z. omega arith) in
+      let r : 6 ≤ length b = let q = d .fit in omega arith in
+      let m = fill-bare (length b) v r is in
+      next (cleared (length-replicate (length b) v) m) (at-erase (replicate (length b) v) b′ m l)
 
   -- PIECES TORN, on a medium of bytes
   torn-put : (at : ℕ) (ds b x b′ : List ℕ) → Done (put at ds) b x → Partly b x b′ → Torn (put at ds) b b′

@@ -19,10 +19,13 @@ pub data Carried (w : Work) (out t b : List ℕ) : List ℕ → Type 0 where
   spared : {b′ : List ℕ} → w .work ≡ 2 → b′ ≡ b → Carried w out t b b′
   copied : {b′ : List ℕ} → w .work ≡ 3 → b′ ≡ splice b (w .at) t → Carried w out t b b′
 
--- THE LOOP, from piece k on: a call, its work, until none is left
+-- THE LOOP, from piece k on: a call, its work, until none is left. Where zeros can't be written over what was written, the first piece is the erase
 pub data Loops (n : ℕ) (t : List ℕ) : ℕ → List ℕ → List ℕ → Type 0 where
   over : {k : ℕ} {b o o′ : List ℕ} {w : Work} → WorksAs k n t (length b) o w o′ → w .refusal ≡ 0 → w .work ≡ 0 → Loops n t k b b
   turn : {k : ℕ} {b x b′ o o′ : List ℕ} {w : Work} → WorksAs k n t (length b) o w o′ → Carried w o′ t b x → Loops n t (suc k) x b′ → Loops n t k b b′
+  wiped :
+      {b b′ o o′ : List ℕ} {w : Work} (v : ℕ) → WorksAs 0 n t (length b) o w o′ → w .work ≡ 1 → (v ≡ 0) ⊎ (v ≡ 255) → Loops n t 1 (replicate (length b) v) b′ →
+      Loops n t 0 b b′
 
 -- A MEDIUM OF BYTES: after a cut each byte of a slot is what it was, or what the piece would have made it
 pub record Partly (b new b′ : List ℕ) : Type 0 where
