@@ -11,6 +11,9 @@
  * An old sheet, of edition 1, is converted at the first start: saved before anybody is served, and told on standard error, since
  * whoever has a copy of the file should know that it is old too.
  *
+ * Take this one on a system with files, where a new file renamed over the old one keeps the old sheet or the new one, whole.
+ * examples/flash.c is for a microcontroller that has none: it keeps the sheet in two sectors of flash.
+ *
  * It may be killed at any moment, or lose its power: each file holds the sheet, or the store, before a change or after it,
  * whole, and what was acknowledged or answered is in it. For that what was changed is saved before acknowledgement and answer
  * are sent: a write that is not answered has the acknowledgement alone. tests/examples.sh kills it to see. Whether anything was

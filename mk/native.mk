@@ -58,7 +58,7 @@ test-shims: build/module/host.bc build/module/tool.bc build/module/plain_host.bc
 
 # the tests from outside once more, with fewer events, on every other processor for which programs can be made and run here
 OTHER_EVENTS ?= 50000
-FEWER := EVENTS=$(OTHER_EVENTS) POINTS=$(OTHER_EVENTS) FRAMES=5000 WAITS=20 CUT_SAVES=1 CUT_EVENTS=2000 NO_FAULTS=1
+FEWER := EVENTS=$(OTHER_EVENTS) POINTS=$(OTHER_EVENTS) FRAMES=5000 WAITS=20 CUT_SAVES=1 CUT_EVENTS=2000 FEW=1
 test-others:
 	for p in $(OTHERS); do \
 	    if ! how=$$(mk/bin/can $$p); then echo "others: $$p is left out: $$how"; continue; fi; \

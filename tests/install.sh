@@ -47,6 +47,7 @@ for name in $(cat include/*.h | grep -oE '\bkelindap[a-z_]*\.h\b' | sort -u); do
 example() { gcc -o "$work/$1" -std=c11 -I"$work/at/include" "${@/#/$doc/examples/}" -L"$work/at/lib" -lkelindap_device -lkelindap_pdu || fail "examples/$1 does not compile"; }
 example host.c files.c local.c transport.c
 example height.c
+gcc -std=c11 -Wall -Wextra -Werror -I"$work/at/include" -c "$doc/examples/flash.c" -o /dev/null || fail "examples/flash.c does not compile"
 cmp build/kelindap.html "$doc/kelindap.html" || fail "another page"
 for sheet in sample pump; do
     from=$doc/sheets/$sheet

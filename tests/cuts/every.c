@@ -2,7 +2,7 @@
  * Every cut of every save: the host of examples/flash.c saves sheet after sheet, and each save is made again with the power cut after
  * each byte that it erases or programs, and with each pattern of torn bytes. After a cut the unit starts with the sheet before, or with
  * the new one, and with the new one exactly if the mark was set; what stands in the slots is judged as a second reader judges it; then
- * the unit goes on, and what it saves next it starts with. Some of the torn media are the ones that the next saves are made on.
+ * the unit goes on, and what it saves next it starts with. The first save of a new unit is cut in the same way. Some of the torn media are the ones that the next saves are made on.
  *
  *   every SAVES [SEED]
  */
@@ -170,6 +170,39 @@ static void cut_at(int64_t after, uint64_t marks, const bytes *old, const bytes 
         fail("what is saved after a cut is lost");
 }
 
+/* The first save of a new unit, whose medium holds anything but a mark: nothing, or the first sheet exactly if its mark was set. */
+static void first_cuts(const bytes *first)
+{
+    static uint8_t fresh[2][FLASH_ROOM];
+    kept k;
+    for (int filled = 0; filled < 3; filled++) {
+        for (size_t i = 0; i < sizeof fresh; i++)
+            ((uint8_t *)fresh)[i] = filled == 0 ? 0xFF : filled == 1 || i % FLASH_ROOM < 6 ? 0 : (uint8_t)any(256);
+        uint64_t all = 1;
+        for (uint64_t after = 0; after <= all; after++)
+            for (int p = 0; p < PATTERNS; p++) {
+                memcpy(flash_bytes, fresh, sizeof fresh);
+                pattern = (enum torn)p;
+                power(true);
+                k = (kept){ .sector = 0, .bytes = sheet_bytes, .most = HOST_SHEET };
+                if (load(&k) != HOST_NEW || k.goal.slot != 0 || k.goal.number != 0)
+                    fail("a new unit");
+                bool finished = save_cut(&k, first, after == 0 && p == 0 ? NEVER : (int64_t)after);
+                all = after == 0 && p == 0 ? worked : all;
+                power(true);
+                cuts++;
+                bool found = load(&k) == HOST_KEPT;
+                if (found != has_mark(0) || (finished && !found) || (found && !same(&k, first)))
+                    fail("a first save");
+                if (!save_cut(&k, first, NEVER))
+                    fail("after a first save that was cut nothing can be saved");
+                start(&k);
+                if (!same(&k, first))
+                    fail("what is saved after a first save that was cut is lost");
+            }
+    }
+}
+
 int main(int count, char **words)
 {
     static bytes old, new, next;
@@ -182,6 +215,8 @@ int main(int count, char **words)
     }
     if (sum((const uint8_t *)"123456789", 9) != 0xCBF43926)
         fail("the second check sum");
+    draw(&old);
+    first_cuts(&old);
     memset(flash_bytes, 0xFF, sizeof flash_bytes);
     power(true);
     kept k = { .sector = 0, .bytes = sheet_bytes, .most = HOST_SHEET };

@@ -1,13 +1,13 @@
 #!/usr/bin/env bash
 # tests/cuts/run.sh BUILD COMPARE: power cuts on the host of examples/flash.c, on every kind of medium: CUT_SAVES saves on each, each cut
 # after every byte and with every pattern of torn bytes; CUT_EVENTS events with cuts against the plain model; and that each fault of
-# faults.tsv is found, unless NO_FAULTS is set. LONG=1 is the long form: ten thousand saves and a million events in all. CC_FOR is the
-# compiler, SANITIZE its words for the tests that watch themselves.
+# faults.tsv is found. With FEW in the environment fewer media, and no faults. LONG=1 is the long form: ten thousand saves and a
+# million events in all. CC_FOR is the compiler, SANITIZE its words for tests that watch themselves.
 set -euo pipefail
 build=$1 compare=$2
 cd "$(dirname "$0")/../.."
 seed=${SEED:-$((10#$(date +%N)))}
-saves=${CUT_SAVES:-8} events=${CUT_EVENTS:-15000}
+saves=${CUT_SAVES:-12} events=${CUT_EVENTS:-15000}
 [ -z "${LONG:-}" ] || { saves=1667 events=334000; }
 mkdir -p "$build/cuts"
 work=$(mktemp -d)
@@ -27,16 +27,18 @@ make_test() {
 }
 
 gcc "${strict[@]}" -Iexamples -c examples/flash.c -o /dev/null
-for kind in "0 1" "0 16" "1 4" "1 8" "2 8" "2 32"; do
+kinds=("0 1" "0 16" "1 4" "1 8" "2 8" "2 32") media=(0 1 2)
+[ -z "${FEW:-}" ] || kinds=("0 16" "1 8" "2 32") media=(1)
+for kind in "${kinds[@]}"; do
     read -r medium unit <<< "$kind"
-    make_test every "$medium" "$unit" examples "$build/cuts/every-$medium-$unit"
+    make_test every "$medium" "$unit" examples "$build/cuts/every-$medium-$unit" -g "${watch[@]}"
     "$build/cuts/every-$medium-$unit" "$saves" "$seed"
 done
-for medium in 0 1 2; do
+for medium in "${media[@]}"; do
     make_test life "$medium" 8 examples "$build/cuts/life-$medium" -g "${watch[@]}"
     "$compare" "$build/cuts/life-$medium" --cuts "$events" "$seed"
 done
-[ -z "${NO_FAULTS:-}" ] || exit 0
+[ -z "${FEW:-}" ] || exit 0
 
 # the faults, each in a copy of the host
 found=0 line=0

@@ -81,6 +81,9 @@ else
     : > "$out/boards.rows"
 fi
 
+# slots; x86-64's alone are counted by callgrind, where that is this machine's processor
+tests/cuts/cost.sh "$host" > "$out/slots"
+
 # the blocks; a table that could not be made is one ?
 for processor in x86_64 aarch64; do
     if [ "$processor" = "$own" ] && [ -s "$out/bench.rows" ]; then

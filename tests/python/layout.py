@@ -61,12 +61,12 @@ text = re.sub(r"/\*.*?\*/", "", "".join(headers), flags=re.S)
 due = {"Outcome": {}}
 for owner, body in re.findall(r"enum (?:kelindap_(\w+) )?\{(.*?)\}", text, re.S):
     found = {name: int(number, 0) for name, number in re.findall(r"KELINDAP_(\w+) = (\w+)", body)}
-    if owner in ("outcome", "store_outcome", "trace_refusal", "link_outcome"):
+    if owner in ("outcome", "store_outcome", "trace_refusal", "link_outcome", "slot_refusal"):
         due["Outcome"].update(found)
     elif owner in ("rule", "mode", "kind", "message"):
         due[owner.title()] = found
-    elif owner in ("event", "trace_kind"):
-        short = {name.replace("EVENT_", "").replace("TRACE_", ""): number for name, number in found.items()}
+    elif owner in ("event", "trace_kind", "work"):
+        short = {re.sub("EVENT_|TRACE_|^WORK_", "", name): number for name, number in found.items()}
         due[owner.title().replace("_", "")] = {"NO_EVENT" if name == "NO_" else name: number for name, number in short.items()}
         if owner == "event":
             due["Outcome"].update((name, found[name]) for name in ("EVENT_OTHER", "EVENT_ACKNOWLEDGED"))

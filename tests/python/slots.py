@@ -32,7 +32,7 @@ def start(medium):
 def save(medium, goal, sheet, after=None):
     """Carries out the pieces, or so many bytes of them: whether it was finished."""
     for piece in slot_work(sheet, goal, ROOM):
-        data = b"\xff" * piece.count if piece.work is Work.ERASE else piece.data
+        data = b"\xff" * piece.length if piece.work is Work.ERASE else piece.data
         if after is not None and after < len(data):
             medium[goal.slot][piece.at : piece.at + after] = data[:after]
             return False
@@ -46,7 +46,7 @@ class Slots(unittest.TestCase):
         with self.assertRaises(Refused) as caught:
             act()
         self.assertEqual(caught.exception.outcome, outcome)
-        self.assertEqual(str(caught.exception).split(":")[0], f"{Outcome(outcome).words} ({int(outcome)})")
+        self.assertTrue(str(caught.exception).startswith(f"{Outcome(outcome).words} ({int(outcome)})"), caught.exception)
         return caught.exception
 
     def test_every_cut(self):
@@ -77,7 +77,7 @@ class Slots(unittest.TestCase):
         medium = [bytearray(ROOM), bytearray(ROOM)]
         pieces = list(slot_work(SAMPLE, SlotGoal(1, 7), ROOM))
         self.assertEqual([piece.work for piece in pieces], [Work.WRITE, Work.ERASE, Work.WRITE, Work.SHEET, Work.WRITE])
-        self.assertEqual([(piece.at, piece.count) for piece in pieces], [(0, 32), (0, ROOM), (32, 32), (64, 69), (0, 32)])
+        self.assertEqual([(piece.at, piece.length) for piece in pieces], [(0, 32), (0, ROOM), (32, 32), (64, 69), (0, 32)])
         self.assertTrue(save(medium, SlotGoal(1, 7), SAMPLE))
         tail = (7).to_bytes(4, "big") + (69).to_bytes(4, "big") + bytes(20)
         front = b"KELIND" + b"\xff" * 26 + zlib.crc32(tail + SAMPLE).to_bytes(4, "big") + tail
@@ -121,7 +121,7 @@ class Slots(unittest.TestCase):
         self.refused(Outcome.SLOT_SHORT, lambda: slot(good[:63]))
         self.refused(Outcome.SLOT_UNMARKED, lambda: slot(bytes(ROOM)))
         self.refused(Outcome.SLOT_LENGTH, lambda: slot(good[: 64 + 68]))
-        self.refused(Outcome.SLOT_SUM, lambda: slot(good[:70] + b"\x00" + good[71:]))
+        self.refused(Outcome.SLOT_SUM, lambda: slot(good[:70] + b"\x01" + good[71:]))
         self.refused(Outcome.SLOT_UNREAD, SlotJudging(good[:64], ROOM).end)
         self.refused(Outcome.SLOT_SHORT, SlotJudging(good[:63], ROOM).end)
         self.refused(Outcome.SLOT_LENGTH, SlotJudging(good[:64], 64 + 68).end)

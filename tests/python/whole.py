@@ -94,7 +94,7 @@ class Whole(unittest.TestCase):
         self.assertEqual((f"{outcome}", str(outcome), f"{outcome:02x}", outcome + 0, outcome.words), ("11", "11", "0b", 11, "refused"))
         self.assertEqual(repr(outcome), "<Outcome.DENIED: 11>")
         self.assertIs(kelindap.Outcome.OK, kelindap.Outcome.ANSWERED)
-        for name in ("Outcome", "Rule", "Mode", "Kind", "Event", "Message", "TraceKind"):
+        for name in ("Outcome", "Rule", "Mode", "Kind", "Event", "Message", "TraceKind", "Work"):
             enumeration = getattr(kelindap, name)
             self.assertTrue(issubclass(enumeration, enum.IntEnum))
             self.assertTrue(all(member.words for member in enumeration))

@@ -31,7 +31,7 @@ for program in sheet trace unit; do
     complete -p "kelindap-$program" | grep -q -- '-F _kelindap ' || fail "nothing is said for kelindap-$program"
 done
 
-is '--help --version check convert diff make show survey versions' kelindap-sheet ''
+is '--help --version check convert diff make show slots survey versions' kelindap-sheet ''
 is 'check convert' kelindap-sheet c
 is check kelindap-sheet ch
 is '--help --version' kelindap-sheet --
@@ -40,6 +40,9 @@ is '--help --json --keys' kelindap-sheet show -
 is '--help --keys' kelindap-sheet show --json -
 is --keys kelindap-sheet show --k
 is tank.sheet kelindap-sheet show t
+is slots kelindap-sheet sl
+is tank.sheet kelindap-sheet slots t
+is --help kelindap-sheet slots -
 is tank.sheet kelindap-sheet show --json t
 is tank.sheet kelindap-sheet diff a t
 is diff kelindap-sheet versions di

@@ -25,6 +25,15 @@ cp "$root/examples/accident/laptop.hex" .
 # a store with one version, as the unit saves it
 printf 'sheet %s\nstore %0128d\nsave\n' "$(od -An -v -tx1 tank.sheet | tr -d ' \n')" 0 | kelindap-unit | awk 'NR == 3 { print $3 }' > store.hex
 printf '%b' "$(sed 's/../\\x&/g' store.hex)" > tank.store
+# two slots that keep the one sheet under 7 and the other under 8
+python3 - before.sheet after.sheet > flash.dump << 'end'
+import sys, zlib
+for number, name in (7, sys.argv[1]), (8, sys.argv[2]):
+    sheet = open(name, "rb").read()
+    tail = number.to_bytes(4, "big") + len(sheet).to_bytes(4, "big") + bytes(20)
+    slot = b"KELIND" + b"\xff" * 26 + zlib.crc32(tail + sheet).to_bytes(4, "big") + tail + sheet
+    sys.stdout.buffer.write(slot.ljust(1024, b"\xff"))
+end
 
 count=0
 for text in "${texts[@]}"; do
@@ -44,6 +53,8 @@ for text in "${texts[@]}"; do
         [ -s said ] || [[ $example == *'> '* ]] || fail "$example says nothing"
         case $example in
         *'diff tank.sheet new.sheet') grep -q '1000 → 1250' said || fail "$example: $(cat said)" ;;
+        *'slots flash.dump') grep -q 'number 8.*this one counts' said || fail "$example: $(cat said)" ;;
+        *'show flash.dump') cmp -s said <(kelindap-sheet show after.sheet) || fail "$example shows another sheet" ;;
         *--json*) python3 -m json.tool < said > /dev/null || fail "$example is no JSON" ;;
         esac
         case $(grep -A 2 -F -- "    $example" "$text") in

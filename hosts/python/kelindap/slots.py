@@ -40,7 +40,7 @@ class SlotPiece(NamedTuple):
 
     work: Work
     at: int
-    count: int
+    length: int
     data: bytes
 
 

@@ -21,6 +21,7 @@
 mod apart;
 mod before;
 mod cuts;
+mod flash;
 mod flat;
 mod learn;
 mod make;

@@ -195,13 +195,19 @@ mod tests {
         let hex: String = sheet.iter().map(|b| format!("{b:02x}")).collect();
         let trace = [0, 1, 1, 0, 0, 0, 0, 10, 0, 0];
         let mut store = vec![0, 1, 0, 1, 0, 0, 0, 0, 0, 1, 0, 1, 0, 16, 0, 2, 0, 0];
-        let cases: [(&[u8], Option<File>); 18] = [
+        let mut slot = [&b"KELIND"[..], &[0xFF; 26], &[0; 32], &sheet].concat();
+        slot.resize(512, 0xFF);
+        let medium = [&slot[..], &[0xFF; 512]].concat();
+        let cases: [(&[u8], Option<File>); 21] = [
             (b"", None),
             (&sheet, Some(File::Sheet)),
             (&broken, Some(File::Sheet)),
             (text.as_bytes(), Some(File::SheetText)),
             (hex.as_bytes(), Some(File::SheetHex)),
             (&trace, Some(File::Trace)),
+            (&medium, Some(File::Medium)),
+            (&medium[512..], None),
+            (b"KELINDAP is written so in a heading, and what begins so may be a text of any length, such as this one, which has one hundred and forty", Some(File::Text)),
             (&store.clone(), Some(File::Store)),
             (&[0; 60], None), // a flash that nobody has written
             (&[0xFF; 60], None),

@@ -142,7 +142,18 @@ pub fn text(dump: &[u8]) -> String {
             out += "the numbers do not follow one another, as no two saves leave them: slot 0 counts then\n";
         }
     }
-    out + &format!("the next save goes to slot {next} under number {number}\n")
+    out += &format!("the next save goes to slot {next} under number {number}\n");
+    if let Some(at) = elsewhere(dump) {
+        out += &format!("the mark stands at byte {at} too, where no half begins: are these two slots of one length?\n");
+    }
+    out
+}
+
+/// Where the mark stands on a unit of 32 bytes that begins no slot, which is so if the dump was cut out wrongly.
+fn elsewhere(dump: &[u8]) -> Option<usize> {
+    let half = dump.len() / 2;
+    let units = (0..dump.len()).step_by(32).filter(|&at| at != 0 && at != half);
+    units.into_iter().find(|&at| dump[at..].starts_with(MARK))
 }
 
 /// What a slot holds; else why it holds nothing, with what can be told of the save that was cut.

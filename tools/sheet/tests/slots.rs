@@ -80,6 +80,11 @@ fn by_hand() {
         apart.contains("slot 0 counts then\n") && apart.contains("under number 8\n"),
         "{apart}"
     );
+    // a dump that was cut out wrongly
+    let cut = [&old[..], &new[..40]].concat();
+    let said =
+        "the mark stands at byte 256 too, where no half begins: are these two slots of one length?";
+    assert_eq!(text(&cut).lines().last(), Some(said));
     // a store is kept the same way
     let mut versions = vec![0; 100];
     let empty = second(&old, &slot(ROOM, 8, &versions));
@@ -88,6 +93,9 @@ fn by_hand() {
     let kept = second(&old, &slot(ROOM, 8, &versions));
     assert!(kept.contains("number 8, a store of versions of 100 bytes, whole"), "{kept}");
 }
+
+/// What is done to a slot that was whole.
+type Change<'a> = &'a dyn Fn(&mut [u8]);
 
 #[test]
 fn torn() {
@@ -99,7 +107,7 @@ fn torn() {
         line.strip_prefix("slot 1, bytes 256 to 511: ").unwrap().to_string()
     };
     let whole = "number 8, a sheet of 69 bytes, whole";
-    let cases: [(&dyn Fn(&mut [u8]), String); 8] = [
+    let cases: [(Change, String); 8] = [
         (&|b| b[..6].fill(0), format!("no mark (zeros); {whole}: its save was cut before the mark was set")),
         (&|b| b[..32].fill(0xFF), format!("no mark (erased); {whole}: its save was cut before the mark was set")),
         (&|b| b[5] = 0xFF, format!("no mark: torn (4b 45 4c 49 4e ff); {whole}: its save was cut before the mark was set")),
@@ -144,6 +152,23 @@ fn torn() {
 
 fn long(bytes: &[u8], at: usize) -> u32 {
     u32::from_be_bytes(bytes[at..at + 4].try_into().unwrap())
+}
+
+/// What docs/SLOTS.md shows is so: the front of the sample's slot, and a dump of a save that was cut.
+#[test]
+fn documented() {
+    let document = include_str!("../../../docs/SLOTS.md");
+    let line = |bytes: &[u8]| {
+        let words: Vec<String> = bytes.iter().map(|b| format!("{b:02x}")).collect();
+        format!("    {}  {}\n", words[..16].join(" "), words[16..].join(" "))
+    };
+    let front = slot(ROOM, 7, &SAMPLE);
+    assert!(document.contains(&(line(&front[..32]) + &line(&front[32..64]))));
+    let mut cut = slot(ROOM, 8, &with_height(1250));
+    cut[..32].fill(0xFF);
+    for said in text(&both(&front, &cut)).lines() {
+        assert!(document.contains(&format!("    {said}\n")), "{said}");
+    }
 }
 
 /// The order of judging, and where two fit.
