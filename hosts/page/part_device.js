@@ -60,7 +60,7 @@ class DevicePart {
             el("details", {}, el("summary", {}, "The store as a file"), this.store.box, button("Save the store", () => saveFile(app.device.store, "store.bin"))));
         this.source = source(app, "device", "The device's sheet", "sheet", (bytes, name) => app.putOnDevice(bytes, name), [...app.samples(), ["the sheet of the first part", () => app.sheet.slice()]]);
         this.source.tell(MADE.sheets[0][0], app.sheet);
-        this.log = el("ol", { class: "log", reversed: true });
+        this.log = el("ol", { class: "log", reversed: true, tabindex: 0, "aria-label": "What happened to the device" });
         this.older = el("p", { class: "said" });
         this.sheet = el("div");
         this.state = el("p", { class: "verdict", role: "status" });

@@ -366,8 +366,14 @@ class TracePart {
             el("div", { class: "actions" }, button("Save the explanation", () => this.saveReport(), { class: "main" }), button("Print it", () => print()),
                 this.dump && button("Exchange the two dumps", () => this.exchange())),
             el("div", { class: "printed" }, reportHead(this.rests(), this.app.proved.version())),
-            happenedView(told, this.ways()),
-            el("details", {}, el("summary", {}, "As kelindap-trace explain says it"), el("pre", {}, told.lines.join("\n"))));
+            happenedView(told, this.ways()), this.asTold(told));
+    }
+
+    /** @param {Explanation} told */
+    asTold(told) {
+        const box = el("details", {}, el("summary", {}, "As kelindap-trace explain says it"));
+        box.addEventListener("toggle", () => { if (box.open && box.childElementCount === 1) box.append(el("pre", {}, told.lines.join("\n"))); });
+        return box;
     }
 
     /** @returns {Part_[]} */
