@@ -6,14 +6,19 @@ const path = require("path");
 const vm = require("vm");
 const { project } = require("./common.js");
 
-// loads it from the page, up to the last of these scripts; the page must have them one after the other
-async function library(page, scripts) {
+// loads it from the page, up to the last of these scripts, which the page must have one after the other; with a fault planted in it, if
+// one is given: what is replaced, and by what
+async function library(page, scripts, [from, to] = ["", ""]) {
     const html = fs.readFileSync(page, "utf8"), text = execFileSync(path.join(project, "mk/bin/bare"), scripts, { encoding: "utf8", maxBuffer: 1 << 24 });
-    const from = html.indexOf('"use strict";\nconst MADE = {'), at = html.indexOf(text, from);
-    if (from < 0 || at < 0) throw new Error(`${page} has not these scripts: ${scripts.join(" ")}`);
-    const script = html.slice(from, at + text.length) + "\n;({ MADE, Proved, Fault, whatIs, makeTrace, readTrace, explain, placeAt, Kinds, SheetText, Texts, Times, Evidence, Events, brokenRule, textOf, traceOf, set(proved) { archive = proved; } })";
-    const all = vm.runInThisContext(script, { filename: "page" });
-    return { ...all, proved: await all.Proved.start(all.MADE.wasm) };
+    const start = html.indexOf('"use strict";\nconst MADE = {'), at = html.indexOf(text, start);
+    if (start < 0 || at < 0) throw new Error(`${page} has not these scripts: ${scripts.join(" ")}`);
+    const script = html.slice(start, at + text.length);
+    if (script.split(from).length !== 2 && from) throw new Error(`no place, or more than one, for the fault: ${from}`);
+    const all = vm.runInThisContext(`(() => { ${script.replace(from, () => to)}
+        return { MADE, Proved, Fault, whatIs, makeTrace, readTrace, explain, placeAt, Kinds, SheetText, Texts, Times, Evidence, Events, brokenRule, textOf, traceOf, use: proved => { archive = proved; } }; })()`, { filename: "page" });
+    const proved = await all.Proved.start(all.MADE.wasm);
+    all.use(proved);
+    return { ...all, proved };
 }
 
 module.exports = { library };

@@ -66,28 +66,70 @@ function saidOther(p, { what, of, trace }) {
     }
 }
 
+/** Faults to plant, each of which must be seen. */
+const PLANTED = [
+    ["static REST = 6", "static REST = 5"],
+    ["static LIMIT = 6", "static LIMIT = 7"],
+    ["static AT_ONCE = 12", "static AT_ONCE = 1"],
+    ["const NAMED = 4", "const NAMED = 5"],
+    ["const REFUSED = 4, SHORT = 4", "const REFUSED = 3, SHORT = 4"],
+    ['if (turn !== "again") this.latest.set(partner, r.i);', ""],
+    ["if (this.own() !== own) this.former.add(own);", ""],
+    ['if (before) line.waiting = line.waiting.filter(w => w.number !== number);', ""],
+    ["if (!fits && otherFits) return other.made;", ""],
+    ["if (last.nanos - (now.nanos + days) > DAY / 2n) days += DAY;", ""],
+    ["(before[p] !== last[p] && last[p] === dump[p])", "(last[p] === dump[p])"],
+    ["this.was ||= same(last, dump);", ""],
+    ["while (this.writes.get(number)?.pdu.kind === MEMORY_BIT_WRITE)", "while (false)"],
+    ["return answer || (connected && (connect <= gap || offered));", "return answer || (connected && connect <= gap);"],
+    ['doubts: answer === "same" ? doubts.filter(Doubts.unfit) : doubts', "doubts"],
+    ["&& known(p.at) === known(first.at);", ";"],
+    ["if (status & LOST)", "if (false)"],
+    ["indication[control] |= FIRST_SENT;", ""],
+    ["all.slice(0, 24)", "all.slice(0, 25)"],
+    ["if (r.address + r.length > 65536)", "if (r.address + r.length > 65535)"],
+];
+
 const held = (what, got, due) => {
     const [a, b] = [got.split("\n"), due.split("\n")];
     for (let i = 0; i < Math.max(a.length, b.length); i++) expect(`${what}, line ${i + 1}`, a[i], b[i]);
+    return tally.faults.length === 0;
 };
 
-async function main() {
-    const p = await library(page, scripts), folder = path.join(project, "tools/trace/tests/evidence");
-    p.set(p.proved);
+// holds all to what the tool says; for a planted fault until something is other
+function all(p, lines, planted) {
+    const folder = path.join(project, "tools/trace/tests/evidence"), counts = { recording: 0 };
     const before = p.SheetText.bytes(fs.readFileSync(path.join(project, "examples/accident/before.txt"), "utf8"));
     const files = fs.readdirSync(folder).filter(file => FORMS[path.extname(file).slice(1)]).sort();
     for (const file of files) {
         const name = path.parse(file).name, form = FORMS[path.extname(file).slice(1)];
-        held(file, said(p, path.join(folder, file), name, form, before), fs.readFileSync(path.join(folder, `${name}.out`), "utf8"));
+        if (!held(file, said(p, path.join(folder, file), name, form, before), fs.readFileSync(path.join(folder, `${name}.out`), "utf8")) && planted) return "";
     }
-    const lines = random === "-" ? [] : fs.readFileSync(random, "utf8").trimEnd().split("\n").map(line => JSON.parse(line));
-    const counts = {};
     for (const [i, one] of lines.entries()) {
         counts[one.what] = (counts[one.what] ?? 0) + 1;
-        held(`random ${one.what} ${i}`, one.what === "recording" ? saidOf(p, one) : saidOther(p, one), one.said);
+        if (!held(`random ${one.what} ${i}`, one.what === "recording" ? saidOf(p, one) : saidOther(p, one), one.said) && planted) return "";
     }
-    for (const fault of tally.faults.slice(0, 20)) console.log(`page: ${fault}`);
-    console.log(`page: ${files.length} recordings of the trace tool's tests and ${counts.recording ?? 0} random ones, ${lines.length - (counts.recording ?? 0)} other files, ${tally.checks} lines, ${tally.faults.length} other than the tool's`);
-    process.exitCode = tally.faults.length || files.length < 50 ? 1 : 0;
+    if (files.length < 50) tally.faults.push(`${files.length} recordings in ${folder}`);
+    return `${files.length} recordings of the trace tool's tests, ${counts.recording} random ones and ${lines.length - counts.recording} other files: ${tally.checks} lines`;
+}
+
+async function main() {
+    const lines = fs.readFileSync(random, "utf8").trimEnd().split("\n").map(line => JSON.parse(line));
+    const told = all(await library(page, scripts), lines, false), faults = tally.faults.splice(0);
+    for (const fault of faults.slice(0, 20)) console.log(`page: ${fault}`);
+    console.log(`page: ${told}, ${faults.length} other than the tool's`);
+    const unseen = [];
+    for (const fault of faults.length ? [] : PLANTED) {
+        try {
+            all(await library(page, scripts, fault), lines, true);
+        } catch (error) {
+            tally.faults.push(error.message);
+        }
+        if (process.env.SEEN) console.log(`page: ${fault[0]}: ${tally.faults[0]?.split("\n")[0]}`);
+        if (!tally.faults.splice(0).length) unseen.push(fault[0]);
+    }
+    for (const fault of unseen) console.log(`page: a planted fault was not seen: ${fault}`);
+    if (!faults.length) console.log(`page: ${PLANTED.length - unseen.length} of ${PLANTED.length} planted faults were seen in what it says`);
+    process.exitCode = faults.length || unseen.length ? 1 : 0;
 }
 main();

@@ -599,6 +599,12 @@ fn written_down() {
                 dump[at] ^= 1 << rng.below(8);
             }
             1 => dump = bus.first.clone(),
+            2..=4 => {
+                // as it was after an event
+                let done: Vec<_> = bus.log.iter().filter_map(|sent| sent.did.as_ref()).collect();
+                let at = rng.below(done.len() + 1);
+                dump = done.get(at).map_or(dump, |did| did.after.clone());
+            }
             _ => {}
         }
         let form = rng.below(written::FORMS.len());

@@ -41,7 +41,8 @@ fn telegram(time: &str, raw: &[u8]) -> String {
     format!("<Telegram Timestamp=\"{time}\" FrameFormat=\"CommonEmi\" RawData=\"{raw}\" />\n")
 }
 
-/// A recording as the text of a form. A gap is told as the form can tell it; every so many frames on the wire are acknowledged there.
+/// A recording as the text of a form. A gap is told as the form can tell it; so many of seven frames on the wire are acknowledged there,
+/// and in another form not sent by the recorder's own interface.
 pub fn as_text(form: usize, frames: &[Recorded], notes: &[Note], acknowledged: usize) -> String {
     let (word, _, wire) = FORMS[form];
     let mut out = String::new();
@@ -65,9 +66,22 @@ pub fn as_text(form: usize, frames: &[Recorded], notes: &[Note], acknowledged: u
                 _ => out += "L_Busmon: BC 11 22\n",
             }
         }
-        let shown = if wire { wired(&r.bytes) } else { r.bytes.clone() };
-        let ack: &[u8] = if wire && i % 7 < acknowledged { &[0xCC] } else { &[] };
-        for bytes in [&shown[..], ack].into_iter().filter(|bytes| !bytes.is_empty()) {
+        let mut shown = match wire {
+            true => vec![wired(&r.bytes)],
+            false => vec![r.bytes.clone()],
+        };
+        match (wire, i % 7 < acknowledged) {
+            (true, true) => shown.push(vec![0xCC]),
+            // what the recorder's own interface sent: asked for without a source, and confirmed
+            (false, false) if acknowledged < 5 => {
+                shown = vec![r.bytes.clone(), r.bytes.clone()];
+                (shown[0][0], shown[1][0]) = (0x11, 0x2E);
+                shown[0][4..6].fill(0);
+                shown[1][2] &= !0x20;
+            }
+            _ => {}
+        }
+        for bytes in &shown {
             out += &match (word, wire) {
                 ("hex", _) => format!("{time} {}\n", hex(bytes)),
                 ("knxtool", _) => {
