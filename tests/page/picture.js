@@ -71,7 +71,8 @@ async function main() {
         await b.size(WIDTH, 900);
         await b.colours("light");
         await b.run(`new Promise(done => requestAnimationFrame(() => requestAnimationFrame(done)))`);
-        await b.run(`app.accident(); app.open("trace"); document.querySelectorAll(".trust, #trace .what, #trace .making, #trace > .verdict, #trace .explanation > .actions").forEach(e => { e.hidden = true; }); scrollTo(0, 0)`);
+        await b.run(`document.styleSheets[0].insertRule(".trust, #trace .what, #trace .making, #trace > .verdict, #trace .explanation > .actions { display: none }", document.styleSheets[0].cssRules.length);
+            app.accident(); app.open("trace"); scrollTo(0, 0)`);
         const end = await b.run(`document.querySelector("#trace .final figcaption").getBoundingClientRect().bottom`);
         await b.picture(file, { x: 0, y: 0, width: WIDTH, height: Math.ceil(end) + 8, scale: 1 });
         fs.writeFileSync(file, fewer(rowsOf(fs.readFileSync(file))));
