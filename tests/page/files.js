@@ -63,6 +63,7 @@ async function kinds(b) {
             await b.run(`app.open(${given(part)})`);
             const [told] = await give(selector, b.file(name, bytes(digits)));
             has(`${name} in ${own}`, told, "it was not taken, and what was there stays");
+            if (name === "photo.png") has("a picture", told, "this seems to be a picture");
             if (name === "cut.bin") has("a dump that was cut off", told, "no whole dump: 60 of 69 bytes");
             holds(`${name} in ${own}: one line`, told.length < 200 && !told.includes("\n"));
             has(`${name} in ${own}: said there too`, await b.run(text(`${selector} .said`)), "it was not taken");
