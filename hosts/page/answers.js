@@ -65,10 +65,11 @@ class Answers {
         return [{ is: Answers.same(of.apdu, apdu) ? "same" : "other", event: of.event }, passed.slice(0, at).map(one => one.event)];
     }
 
-    // An answer on no connection. Where several are due to one, that which is the same, else the last.
+    // An answer on no connection. Where several are due to one, that which is the same, else another; of several the last, since a device
+    // answers at once.
     /** @param {string} to @param {Uint8Array} apdu @returns {Compared} */
     onNone(to, apdu) {
-        const mine = this.loose.filter(due => due.to === to), exact = mine.find(due => Answers.same(due.apdu, apdu)), found = exact ?? mine[mine.length - 1];
+        const exact = lastOf(this.loose, due => due.to === to && Answers.same(due.apdu, apdu)), found = exact ?? lastOf(this.loose, due => due.to === to);
         if (!found) return { is: "unasked" };
         this.loose.splice(this.loose.indexOf(found), 1);
         return { is: exact ? "same" : "other", event: found.event };

@@ -147,6 +147,7 @@ function makeTrace(proved, recording, sheet, options = {}) {
     try {
         const form = options.form ?? What.form(name, bytes), text = Asked.text(name, bytes, form);
         if (form !== "text" && !sheet) throw new Fault(`${name}: whose frames these are is told by the device's sheet at their start, and there is none`);
+        if (form !== "text" && sheet) Asked.sheet({ name: "the sheet at their start", bytes: sheet });
         const made = Asked.fault(name, text, form, () => (form === "text" ? { events: Texts.events(text), frames: 0, left: new Map(), evidence: null }
             : Make.fromFrames(Recordings.read(form, text, options.reverse ?? false), /** @type {Uint8Array} */ (sheet))));
         const parts = Make.parts(made), names = Make.names(named, parts.length), encode = (/** @type {string} */ text) => new TextEncoder().encode(text);

@@ -32,6 +32,10 @@ function short(word) {
     return all.slice(0, 24).join("") + (all.length > 24 ? ".." : "");
 }
 
+// The last of some for which it holds.
+/** @template T @param {T[]} all @param {(one: T) => boolean} holds */
+const lastOf = (all, holds) => all.filter(holds).pop();
+
 /** @param {number} n @param {string} what */
 const many = (n, what) => `${n} ${what}${n === 1 ? "" : "s"}`;
 

@@ -5,7 +5,8 @@
  * A doubt about an account. Events are told by their numbers.
  * @typedef {{ doubt: "not acknowledged", of: number, taken: Taken } | { doubt: "not answered" | "two of a number", of: number }
  *     | { doubt: "device not recorded" } | { doubt: "silence", of: number, seconds: number } | { doubt: "missing before" | "missing after", cause: Cause }
- *     | { doubt: "parted", parted: Parted } | { doubt: "times go back", at: At, times: number } | { doubt: "own address", own: Own }} Doubt
+ *     | { doubt: "parted", parted: Parted } | { doubt: "times go back", at: At, times: number } | { doubt: "own address", own: Own } | { doubt: "ended", at: At }} Doubt
+ *     ended: a disconnect under the device's address stands between the connect and the event: forged, or events are missing
  */
 /**
  * The event that an account names: its number, those of the connect and the offer on which it rests, 0 for none; whether it is data on a
@@ -15,10 +16,6 @@
 
 /** @param {Doubt} a @param {Doubt} b */
 const sameDoubt = (a, b) => JSON.stringify(a) === JSON.stringify(b);
-
-// The last of some for which it holds.
-/** @template T @param {T[]} all @param {(one: T) => boolean} holds */
-const lastOf = (all, holds) => all.filter(holds).pop();
 
 class Doubts {
     // The evidence of all traces, each behind those before it.
@@ -40,6 +37,7 @@ class Doubts {
         this.gaps = this.all.flatMap(e => e.gaps);
         this.losses = this.all.flatMap(e => e.losses);
         this.own = this.all.flatMap(e => e.own);
+        this.forged = this.all.flatMap(e => e.forged);
     }
 
     // The evidence of an event's trace, and what is seen of the event.
@@ -84,6 +82,8 @@ class Doubts {
         const since = this.losses.find(after) ?? this.gaps.find(after);
         if (since) out.push({ doubt: "missing after", cause: since });
         out.push(...this.whole());
+        const ended = lastOf(this.forged, f => f.what === "disconnect" && rests.connected && before(f) && f.at.behind >= rests.connect);
+        if (ended) out.push({ doubt: "ended", at: ended.at });
         const own = group === null ? undefined : lastOf(this.own, own => own.group === group && after(own));
         if (own) out.push({ doubt: "own address", own });
         return out.filter((doubt, i) => i === 0 || !sameDoubt(doubt, out[i - 1]));

@@ -120,7 +120,7 @@ class Evidence {
     }
 
     clean() {
-        return this.gaps.length === 0 && this.back === null && this.fits();
+        return this.gaps.length === 0 && this.back === null && this.fits() && !this.forged.some(f => f.what === "disconnect");
     }
 
     // ---- the file ----

@@ -174,10 +174,12 @@ class Story {
     }
 
     // Of a request that playing does not carry out: whether the recorded answer says otherwise, and what is not known. The device's own
-    // answer leaves no doubt, unless the recording does not fit together: then it may be that to another.
-    /** @param {number} number */
+    // answer leaves no doubt, unless the recording does not fit together: then it may be that to another. Where no answer is recorded
+    // nothing but playing says that it was refused, and every doubt counts.
+    /** @param {number} number @returns {{ otherwise: boolean, doubts: Doubt[] }} */
     refusal(number) {
-        const answer = this.doubts.seen(number)?.seen.answer, doubts = this.doubts.outcome(this.rests(number));
+        const answer = this.doubts.seen(number)?.seen.answer, doubts = this.doubts.about(this.rests(number), null);
+        if (answer === "absent" && !doubts.length) doubts.push({ doubt: "not answered", of: number });
         return { otherwise: answer === "other", doubts: answer === "same" ? doubts.filter(Doubts.unfit) : doubts };
     }
 

@@ -12,8 +12,6 @@ const SHORT_FRAME = 40, WRONG_LENGTH = 43, ACKNOWLEDGED = 45, STRANGER = 61, NO_
 const T_ACK = 0xc2, T_NAK = 0xc3, L_ACK = 0xcc, TO_GROUP = 0x80, INDICATION = 0x29, FIRST_SENT = 0x20;
 
 class Hearing {
-    /** So many frames behind a gap may be the rest of an exchange: acknowledgement, answer and receipt, each with its acknowledgement on the wire. */
-    static REST = 6;
     /** Transport ends a connection whose partner is silent for longer, in seconds. */
     static LIMIT = 6;
 
@@ -34,15 +32,8 @@ class Hearing {
                 else this.parties.set(address, [i]);
             }
         }
-        // gaps that are told, of which so many are passed, and the frame behind the last
+        // gaps that are told, of which so many are passed
         this.notes = 0;
-        /** @type {number | null} */
-        this.gapAt = null;
-        // The last data of each sender since then, and the last before any gap.
-        /** @type {Map<number, number>} */
-        this.latest = new Map();
-        /** @type {Set<number>} */
-        this.beforeGap = new Set();
         this.sheet = sheet.slice();
         // The addresses that the device had before.
         /** @type {Set<number>} */
@@ -114,12 +105,12 @@ class Hearing {
         const { back } = this.recording, frame = this.frames[i];
         if (back[0] === i) this.evidence.back = { at: this.at(i), times: back.length };
         if ("why" in frame) {
-            if (frame.why === "damaged" && !this.repeatedNext(i)) this.gap(i, this.at(i), { why: "unreadable" });
+            if (frame.why === "damaged" && !this.repeatedNext(i)) this.evidence.gap(this.at(i), { why: "unreadable" });
             return frame;
         }
         const { outcome } = frame.f;
         if (outcome !== 0) {
-            if (outcome === SHORT_FRAME || outcome === WRONG_LENGTH) this.gap(i, this.at(i), { why: "unreadable" });
+            if (outcome === SHORT_FRAME || outcome === WRONG_LENGTH) this.evidence.gap(this.at(i), { why: "unreadable" });
             return { why: outcome };
         }
         const r = this.read(i, frame);
@@ -146,7 +137,7 @@ class Hearing {
         // an answer that has not come is missing, unless the recording ends with the acknowledgement before it
         for (const event of this.answers.missing()) {
             const i = this.acknowledged.get(event);
-            if (i !== undefined && i + 1 < n && !this.beforeAGap(event)) evidence.loss(this.at(n), "no-answer");
+            if (i !== undefined && i + 1 < n) evidence.loss(this.at(n), "no-answer");
         }
         if (!evidence.device) for (const at of this.odd) evidence.loss(at, "turn");
         for (const [i, seen] of evidence.events.entries())
@@ -159,16 +150,8 @@ class Hearing {
     gapsBefore(i) {
         for (const { notes } = this.recording; this.notes < notes.length && notes[this.notes].before <= i; this.notes++) {
             const { line, gap } = notes[this.notes];
-            this.gap(i, { behind: this.evidence.events.length, line }, gap);
+            this.evidence.gap({ behind: this.evidence.events.length, line }, gap);
         }
-    }
-
-    /** @param {number} i @param {At} at @param {GapWhy} why */
-    gap(i, at, why) {
-        this.gapAt = i;
-        for (const frame of this.latest.values()) this.beforeGap.add(frame);
-        this.latest.clear();
-        this.evidence.gap(at, why);
     }
 
     /** @param {FrameRead} r @param {Sign} sign */
@@ -176,35 +159,17 @@ class Hearing {
         this.evidence.loss(this.at(r.i), sign);
     }
 
-    // The rest of an exchange whose begin was in a gap that is told: no sign of more.
-    /** @param {FrameRead} r */
-    isRest(r) {
-        return this.gapAt !== null && r.i < this.gapAt + Hearing.REST;
-    }
-
-    // A sign, unless it is no more than such a rest.
-    /** @param {FrameRead} r @param {Sign} sign */
-    lossUnlessRest(r, sign) {
-        if (!this.isRest(r)) this.loss(r, sign);
-    }
-
-    // Whether an event was the last data of its sender before a gap that is told, in which what is missing of it may have been.
-    /** @param {number} event */
-    beforeAGap(event) {
-        return this.beforeGap.has(this.of[event]);
-    }
-
     // The answer to an event has not come: it is missing if the device took the event.
     /** @param {FrameRead} r @param {number} event */
     unanswered(r, event) {
-        if (this.evidence.events[event].taken === "acknowledged" && !this.beforeAGap(event)) this.loss(r, "no-answer");
+        if (this.evidence.events[event].taken === "acknowledged") this.loss(r, "no-answer");
     }
 
     // An event was taken, and its acknowledgement is not recorded.
     /** @param {FrameRead} r @param {number} event */
     takenAllTheSame(r, event) {
         this.evidence.events[event].taken = "acknowledged";
-        if (!this.beforeAGap(event)) this.loss(r, "no-acknowledgement");
+        this.loss(r, "no-acknowledgement");
     }
 
     // Whether the frame behind a damaged one says that it is a repetition: of that one.
@@ -251,7 +216,6 @@ class Hearing {
             event = happening(what === FRAME_CONNECT ? CONNECT : DISCONNECT, heard.connection);
         } else if (connected) {
             const turn = transport.turn(partner, r.number, r.apdu);
-            if (turn !== "again") this.latest.set(partner, r.i);
             if (turn === "again") {
                 transport.again(partner, r.number);
                 return { why: "repeated" };
@@ -288,14 +252,15 @@ class Hearing {
     noEvent(r, number) {
         const partner = r.f.source, { transport } = this;
         if (number === ACKNOWLEDGED) {
-            if (this.placeOf(partner) !== undefined && !transport.wasDue(partner, r.number)) this.lossUnlessRest(r, "stray-receipt");
+            // a receipt may cross the device's own disconnect
+            if (!transport.wasDue(partner, r.number) && !transport.ended(partner)) this.loss(r, "stray-receipt");
             this.heardNow(r);
         } else if (number === STRANGER) {
             transport.turnsAway(partner, r.i);
             transport.odd(partner, r.number);
             this.leftOut(r, "stranger");
         } else if (number === NO_PLACE) transport.turnsAway(partner, r.i);
-        else if (number === NO_PARTNER && !transport.ended(partner)) this.lossUnlessRest(r, "stray-disconnect");
+        else if (number === NO_PARTNER && !transport.ended(partner)) this.loss(r, "stray-disconnect");
     }
 
     /** @param {FrameRead} r */
@@ -342,7 +307,7 @@ class Hearing {
     deviceEnds(r) {
         const partner = r.f.destination, connection = this.placeOf(partner), { transport, evidence } = this;
         if (connection === undefined) {
-            if (!transport.owed(partner, r.i)) this.lossUnlessRest(r, "stray-end");
+            if (!transport.owed(partner, r.i)) this.loss(r, "stray-end");
             transport.ends(partner);
             return { why: "device" };
         }
@@ -397,7 +362,7 @@ class Hearing {
             this.acknowledged.set(of.event, r.i);
             for (const event of of.before) this.takenAllTheSame(r, event);
         } else if (of === "odd") this.loss(r, "took-out-of-turn");
-        else if (of === "nothing") this.lossUnlessRest(r, "stray-acknowledgement");
+        else if (of === "nothing") this.loss(r, "stray-acknowledgement");
     }
 
     // An answer on a connection.
@@ -424,7 +389,7 @@ class Hearing {
     /** @param {FrameRead} r @param {number} partner @param {Compared} compared */
     answered(r, partner, compared) {
         if (!("event" in compared)) {
-            if (compared.is === "unasked" && !this.isRest(r)) this.parts(this.at(r.i), false);
+            if (compared.is === "unasked") this.parts(this.at(r.i), false);
             return;
         }
         const seen = this.evidence.events[compared.event];

@@ -73,13 +73,14 @@ const Make = (() => {
 
     // The events of a recording for the device with this sheet, which must be accepted. Data that the device did not acknowledge is an
     // event, of which that is told; unless the rest of the recording does not fit to it, and does without it. If the rest fits with it
-    // alone, the device took it, and the recording lacks its acknowledgement.
+    // alone, the device took it, and the recording lacks its acknowledgement. Where gaps are told, what fits shows no more than that it
+    // may be so.
     /** @param {Recording} recording @param {Uint8Array} sheet @returns {Made} */
     function fromFrames(recording, sheet) {
         const frames = sent(recording.frames), { made, evidence, unacknowledged } = heard(recording, frames, sheet, new Set());
         if (!evidence.device || !unacknowledged.size) return made;
         const other = heard(recording, frames, sheet, unacknowledged), fits = evidence.fits(), otherFits = other.evidence.fits();
-        if (!fits && otherFits) return other.made;
+        if (!fits && otherFits && !evidence.gaps.length) return other.made;
         const last = recording.frames[recording.frames.length - 1];
         if (fits && !otherFits) evidence.loss({ behind: made.events.length, line: last ? last.line : 0 }, "no-acknowledgement");
         return made;

@@ -63,6 +63,7 @@ const Sentences = (() => {
                 case "missing after": return `events are missing after this one: ${cause(d.cause)}`;
                 case "parted": return `recording and device have parted ${d.parted.asked ? `at ${name(d.parted.at.behind)}` : place(d.parted.at, name)} (${line(d.parted.at)})`;
                 case "times go back": return `times go back (${line(d.at)}): the order of the events is not known`;
+                case "ended": return `${NOT_ITS_OWN} (${line(d.at)})`;
                 case "own address": return `a frame under the device's own address went there since (${line(d.own.at)}): its own, or forged and taken`;
             }
         };

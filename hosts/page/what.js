@@ -18,12 +18,14 @@ const What = (() => {
         let kind = Kinds.of(bytes), text = "";
         try {
             text = textOf(bytes);
-            if (!kind && /^.\0|^\0./s.test(String.fromCharCode(...bytes.subarray(2, 4)))) kind = Kinds.ofText(text);
+            if (!kind && bytes.length > 3 && !/(?!\p{White_Space})\p{Cc}/u.test(text)) kind = Kinds.ofText(text);
         } catch (error) {
             if (!(error instanceof Fault)) throw error;
         }
         if (kind === "text" && text.startsWith("evidence of a trace:")) return told("evidence", "the evidence of a trace");
-        if (kind === "text") kind = recordingIn(text);
+        if (kind === "text" || kind === "hex") kind = recordingIn(text) ?? kind;
+        const digits = kind === "text" ? Texts.bytes(wordsOf(text).join("")) : 0, inside = typeof digits !== "number" && digits.length ? is(name, digits) : null;
+        if (inside && ["bad sheet", "cut sheet", "store", "trace"].includes(inside.kind)) return { ...inside, words: `${inside.words}, in hex digits` };
         switch (kind) {
             case "sheet": return sheet(name, bytes, "a sheet");
             case "sheet hex": return sheet(name, /** @type {Uint8Array} */ (Texts.bytes(wordsOf(text).join(""))), "a sheet in hex digits");
@@ -82,7 +84,7 @@ const What = (() => {
         });
     }
 
-    // Frames in a text that the tools call a text: confirmations in hex, a monitor's lines without a label.
+    // The form by which frames in a text can be read, also where the tools call it a text: confirmations in hex, a monitor's lines without a label.
     /** @param {string} text */
     function recordingIn(text) {
         for (const form of /** @type {const} */ (["hex", "knxtool"])) {
@@ -93,7 +95,7 @@ const What = (() => {
                 if (!(error instanceof Fault)) throw error;
             }
         }
-        return "text";
+        return null;
     }
 
     return { form, is };

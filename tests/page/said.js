@@ -6,6 +6,7 @@
 const fs = require("fs");
 const path = require("path");
 const { project, hex, tally, expect } = require("./common.js");
+const { facts } = require("./facts.js");
 const { library } = require("./library.js");
 
 const [page, random, ...scripts] = process.argv.slice(2);
@@ -68,26 +69,24 @@ function saidOther(p, { what, of, trace }) {
 
 /** Faults to plant, each of which must be seen. */
 const PLANTED = [
-    ["static REST = 6", "static REST = 5"],
     ["static LIMIT = 6", "static LIMIT = 7"],
     ["static AT_ONCE = 12", "static AT_ONCE = 1"],
     ["const NAMED = 4", "const NAMED = 5"],
     ["const REFUSED = 4, SHORT = 4", "const REFUSED = 3, SHORT = 4"],
-    ['if (turn !== "again") this.latest.set(partner, r.i);', ""],
+    ["if (!transport.wasDue(partner, r.number) && !transport.ended(partner))", "if (!transport.wasDue(partner, r.number))"],
+    ['if (ended) out.push({ doubt: "ended", at: ended.at });', ""],
     ["if (this.own() !== own) this.former.add(own);", ""],
     ['if (before) line.waiting = line.waiting.filter(w => w.number !== number);', ""],
-    ["if (!fits && otherFits) return other.made;", ""],
+    ["if (!fits && otherFits && !evidence.gaps.length) return other.made;", ""],
     ["if (last.nanos - (now.nanos + days) > DAY / 2n) days += DAY;", ""],
     ["(before[p] !== last[p] && last[p] === dump[p])", "(last[p] === dump[p])"],
     ["this.was ||= same(last, dump);", ""],
     ["while (this.writes.get(number)?.pdu.kind === MEMORY_BIT_WRITE)", "while (false)"],
     ["return answer || (connected && (connect <= gap || offered));", "return answer || (connected && connect <= gap);"],
-    ['doubts: answer === "same" ? doubts.filter(Doubts.unfit) : doubts', "doubts"],
     ["&& known(p.at) === known(first.at);", ";"],
     ["if (status & LOST)", "if (false)"],
     ["indication[control] |= FIRST_SENT;", ""],
     ["all.slice(0, 24)", "all.slice(0, 25)"],
-    ["if (r.address + r.length > 65536)", "if (r.address + r.length > 65535)"],
 ];
 
 const held = (what, got, due) => {
@@ -115,9 +114,9 @@ function all(p, lines, planted) {
 
 async function main() {
     const lines = fs.readFileSync(random, "utf8").trimEnd().split("\n").map(line => JSON.parse(line));
-    const told = all(await library(page, scripts), lines, false), faults = tally.faults.splice(0);
+    const p = await library(page, scripts), told = `${all(p, lines, false)}; ${facts(p)}`, faults = tally.faults.splice(0);
     for (const fault of faults.slice(0, 20)) console.log(`page: ${fault}`);
-    console.log(`page: ${told}, ${faults.length} other than the tool's`);
+    console.log(`page: ${told}; ${faults.length} other than due`);
     const unseen = [];
     for (const fault of faults.length ? [] : PLANTED) {
         try {

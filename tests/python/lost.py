@@ -311,6 +311,14 @@ class Lost(unittest.TestCase):
         restart = kelindap.frame_write(kelindap.write("restart"), **dict(own, transport=16))
         self.assertEqual(unit.serve(restart).closed, (0, 1))
 
+    def test_no_outcome(self):
+        """What is no event has no outcome: 0 would be that of a request that was carried out."""
+        unit = kelindap.Unit(SAMPLE)
+        connect = bytes.fromhex("2900bc60") + (0x1101).to_bytes(2, "big") + SAMPLE[16:18] + b"\0\x80"
+        for frame, number in ((b"", 40), (connect[:6] + b"\x19\x99" + connect[8:], 60), (connect[:-1] + b"\x81", 63)):
+            self.assertEqual(unit.serve(frame)[:2], (number, None))
+        self.assertEqual(unit.serve(connect)[:2], (Outcome.OK, Outcome.DONE))
+
     def test_copies(self):
         """A copy of a device is another device."""
         for act in (copy.copy, copy.deepcopy, lambda unit: pickle.loads(pickle.dumps(unit))):

@@ -29,11 +29,12 @@ class Arrival(NamedTuple):
 class Served(NamedTuple):
     """What serving a frame gave.
 
-    `number` is OK of an event, whose outcome is `outcome`, else why there is none; `frame` is the frame that answers, empty if none is
-    due; `changed` are the parts of the sheet that were stored, and `closed` the connections that a Restart has closed."""
+    `number` is OK of an event, whose outcome is `outcome`, else why there is none, and `outcome` is None; `frame` is the frame that
+    answers, empty if none is due; `changed` are the parts of the sheet that were stored, and `closed` the connections that a Restart has
+    closed."""
 
     number: Outcome
-    outcome: Outcome
+    outcome: Optional[Outcome]
     connection: Optional[int]
     frame: bytes
     changed: Tuple[Part, ...]
@@ -67,4 +68,7 @@ def serve(link: _library.Link, sheet: Lent, frame: Readable, sequence: int, out:
     ended = {arrival.connection} if arrival.event is Event.DISCONNECT else set()
     closed = tuple(sorted(before - opened(link.sessions) - ended))
     answer, told = bytes(out.run[: served.count]), _connection(served.connection)
-    return Served(Outcome(served.number), Outcome(served.outcome), told, answer, parts(served.changed), closed)
+    why = Outcome(served.number)
+    # of what is no event 0 would read as a request that was carried out
+    outcome = Outcome(served.outcome) if why == Outcome.OK else None
+    return Served(why, outcome, told, answer, parts(served.changed), closed)

@@ -97,9 +97,10 @@ impl Answers {
         (compared, missing)
     }
 
-    /// An answer on no connection. Where several are due to one, that which is the same, else the last.
+    /// An answer on no connection. Where several are due to one, that which is the same, else another; of several the last, since
+    /// a device answers at once.
     pub fn loose(&mut self, to: To, apdu: &[u8]) -> Compared {
-        let exact = self.loose.iter().position(|due| due.to == to && same(&due.apdu, apdu));
+        let exact = self.loose.iter().rposition(|due| due.to == to && same(&due.apdu, apdu));
         let found = exact.or_else(|| self.loose.iter().rposition(|due| due.to == to));
         match found.and_then(|at| self.loose.remove(at)) {
             Some(due) if exact.is_some() => Compared::Same(due.event),
@@ -148,6 +149,10 @@ mod tests {
         for event in 0..MOST + 1 {
             all.due(group, event, &[0, 0x40]);
         }
-        assert_eq!(all.loose(group, &[0, 0x40]), Compared::Same(1));
+        // of two that ask for the same the last; the first of all is no longer waited for
+        for event in (1..MOST + 1).rev() {
+            assert_eq!(all.loose(group, &[0, 0x40]), Compared::Same(event));
+        }
+        assert_eq!(all.loose(group, &[0, 0x40]), Compared::Unasked);
     }
 }

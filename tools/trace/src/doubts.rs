@@ -1,6 +1,6 @@
 //! What an account can't know: of an event that gave a byte, by what the recording shows and lacks.
 
-use crate::evidence::{Answer, At, Evidence, Gap, Loss, Own, Parted, Seen, Taken};
+use crate::evidence::{Answer, At, Evidence, Forged, Gap, Loss, Own, Parted, Seen, Taken};
 
 /// Why frames are missing.
 #[derive(Clone, Debug, PartialEq, Eq)]
@@ -28,6 +28,8 @@ pub enum Doubt {
     Parted(Parted),
     Back(At, usize),
     Own(Own),
+    /// A disconnect under the device's address stands between the connect and the event: forged, or events are missing.
+    Ended(At),
 }
 
 impl Doubt {
@@ -136,6 +138,11 @@ impl Doubts {
         let loss = losses().find(|l| !before(l.at)).copied().map(Cause::Loss);
         out.extend(loss.or(gap).map(Doubt::After));
         out.extend(self.whole());
+        let ended = self.all.iter().flat_map(|e| &e.forged).rfind(|(at, forged)| {
+            let within = before(*at) && behind(*at) >= rests.connect;
+            *forged == Forged::Disconnect && rests.connected && within
+        });
+        out.extend(ended.map(|(at, _)| Doubt::Ended(*at)));
         if let Some(group) = group {
             let mut own = self.all.iter().flat_map(|e| &e.own);
             let last = own.rfind(|own| own.group == group && !before(own.at));

@@ -267,7 +267,8 @@ impl Evidence {
 
     /// Whether nothing shows that frames are missing, were taken otherwise, or stand in another order.
     pub fn clean(&self) -> bool {
-        self.gaps.is_empty() && self.back.is_none() && self.fits()
+        let ended = self.forged.iter().any(|(_, forged)| *forged == Forged::Disconnect);
+        self.gaps.is_empty() && self.back.is_none() && self.fits() && !ended
     }
 }
 

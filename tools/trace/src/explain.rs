@@ -259,12 +259,15 @@ impl<'a> Story<'a> {
     }
 
     /// Of a request that playing does not carry out: whether the recorded answer says otherwise, and what is not known. The
-    /// device's own answer leaves no doubt, unless the recording does not fit together: then it may be that to another.
+    /// device's own answer leaves no doubt, unless the recording does not fit together: then it may be that to another. Where
+    /// no answer is recorded nothing but playing says that it was refused, and every doubt counts.
     pub fn refusal(&self, number: u32) -> (bool, Vec<Doubt>) {
         let answer = self.doubts.seen(number).map(|(_, seen)| seen.answer);
-        let mut doubts = self.doubts.outcome(self.rests(number));
-        if answer == Some(Answer::Same) {
-            doubts.retain(Doubt::unfit);
+        let mut doubts = self.doubts.about(self.rests(number), None);
+        match answer {
+            Some(Answer::Same) => doubts.retain(Doubt::unfit),
+            Some(Answer::Absent) if doubts.is_empty() => doubts.push(Doubt::Unanswered(number)),
+            _ => {}
         }
         (answer == Some(Answer::Other), doubts)
     }

@@ -35,10 +35,6 @@ const T_NAK: u8 = 0xC3;
 /// The acknowledgement of a frame on the wire.
 const L_ACK: u8 = 0xCC;
 
-/// So many frames behind a gap may be the rest of an exchange: acknowledgement, answer and receipt, each with its
-/// acknowledgement on the wire.
-const REST: usize = 6;
-
 /// Transport ends a connection whose partner is silent for longer, in seconds.
 const LIMIT: u64 = 6;
 
@@ -71,12 +67,8 @@ pub struct Hearing<'a> {
     recording: &'a Recording,
     /// The frames that an address sent, or that were sent to it alone.
     parties: HashMap<u16, Vec<usize>>,
-    /// Gaps that are told, of which so many are passed, and the frame behind the last.
+    /// Gaps that are told, of which so many are passed.
     notes: usize,
-    gap: Option<usize>,
-    /// The last data of each sender since then, and the last before any gap.
-    latest: HashMap<u16, usize>,
-    before_gap: BTreeSet<usize>,
     sheet: Vec<u8>,
     /// The addresses that the device had before.
     former: BTreeSet<u16>,
@@ -149,9 +141,6 @@ impl<'a> Hearing<'a> {
             recording,
             parties,
             notes: 0,
-            gap: None,
-            latest: HashMap::new(),
-            before_gap: BTreeSet::new(),
             sheet: sheet.to_vec(),
             former: BTreeSet::new(),
             link: Link { sessions: archive::fresh(), address: [0; 2] },
@@ -194,7 +183,7 @@ impl<'a> Hearing<'a> {
             Ok(bytes) => bytes,
             Err(why) => {
                 if *why == Why::Damaged && !self.repeated_next(i) {
-                    self.gap(i, self.at(i), gaps::Why::Unreadable);
+                    self.evidence.gap(self.at(i), gaps::Why::Unreadable);
                 }
                 return Err(*why);
             }
@@ -202,7 +191,7 @@ impl<'a> Hearing<'a> {
         let f = archive::frame_read(bytes);
         if f.outcome != 0 {
             if f.outcome == SHORT || f.outcome == LENGTH {
-                self.gap(i, self.at(i), gaps::Why::Unreadable);
+                self.evidence.gap(self.at(i), gaps::Why::Unreadable);
             }
             return Err(Why::Number(f.outcome));
         }
@@ -234,7 +223,7 @@ impl<'a> Hearing<'a> {
         // an answer that has not come is missing, unless the recording ends with the acknowledgement before it
         for event in self.answers.missing() {
             let last = self.acknowledged.get(&event).is_some_and(|i| i + 1 < self.frames.len());
-            if last && !self.before_a_gap(event) {
+            if last {
                 let at = self.at(self.frames.len());
                 self.evidence.loss(at, Sign::NoAnswer);
             }
@@ -263,14 +252,8 @@ impl<'a> Hearing<'a> {
         {
             self.notes += 1;
             let at = At { behind: self.evidence.events.len(), line: note.line };
-            self.gap(i, at, note.gap.clone());
+            self.evidence.gap(at, note.gap.clone());
         }
-    }
-
-    fn gap(&mut self, i: usize, at: At, why: gaps::Why) {
-        self.gap = Some(i);
-        self.before_gap.extend(self.latest.drain().map(|(_, frame)| frame));
-        self.evidence.gap(at, why);
     }
 
     fn loss(&mut self, r: &Read, sign: Sign) {
@@ -278,27 +261,10 @@ impl<'a> Hearing<'a> {
         self.evidence.loss(at, sign);
     }
 
-    /// The rest of an exchange whose begin was in a gap that is told: no sign of more.
-    fn is_rest(&self, r: &Read) -> bool {
-        self.gap.is_some_and(|gap| r.i < gap + REST)
-    }
-
-    /// A sign, unless it is no more than such a rest.
-    fn loss_unless_rest(&mut self, r: &Read, sign: Sign) {
-        if !self.is_rest(r) {
-            self.loss(r, sign);
-        }
-    }
-
-    /// Whether an event was the last data of its sender before a gap that is told, in which what is missing of it may have been.
-    fn before_a_gap(&self, event: usize) -> bool {
-        self.of.get(event).is_some_and(|i| self.before_gap.contains(i))
-    }
-
     /// The answer to an event has not come: it is missing if the device took the event.
     fn unanswered(&mut self, r: &Read, event: usize) {
         let taken = self.evidence.events[event].taken == Taken::Acknowledged;
-        if taken && !self.before_a_gap(event) {
+        if taken {
             self.loss(r, Sign::NoAnswer);
         }
     }
@@ -306,9 +272,7 @@ impl<'a> Hearing<'a> {
     /// An event was taken, and its acknowledgement is not recorded.
     fn taken_all_the_same(&mut self, r: &Read, event: usize) {
         self.evidence.events[event].taken = Taken::Acknowledged;
-        if !self.before_a_gap(event) {
-            self.loss(r, Sign::NoAcknowledgement);
-        }
+        self.loss(r, Sign::NoAcknowledgement);
     }
 
     /// Whether the frame behind a damaged one says that it is a repetition: of that one.
@@ -363,9 +327,6 @@ impl<'a> Hearing<'a> {
             CONNECTED => {
                 let number = r.number();
                 let turn = self.transport.turn(partner, number, r.apdu());
-                if turn != Turn::Again {
-                    self.latest.insert(partner, r.i);
-                }
                 match turn {
                     Turn::Next if self.untaken.contains(&r.i) => {
                         self.transport.passes(partner, number);
@@ -411,9 +372,10 @@ impl<'a> Hearing<'a> {
         let partner = r.f.source;
         match number {
             ACKNOWLEDGED => {
+                // a receipt may cross the device's own disconnect
                 let due = self.transport.was_due(partner, r.number());
-                if place_of(&self.link, partner).is_some() && !due {
-                    self.loss_unless_rest(r, Sign::StrayReceipt);
+                if !due && !self.transport.ended(partner) {
+                    self.loss(r, Sign::StrayReceipt);
                 }
                 self.heard_now(r);
             }
@@ -424,7 +386,7 @@ impl<'a> Hearing<'a> {
             }
             NO_PLACE => self.transport.turns_away(partner, r.i),
             NO_PARTNER if !self.transport.ended(partner) => {
-                self.loss_unless_rest(r, Sign::StrayDisconnect);
+                self.loss(r, Sign::StrayDisconnect);
             }
             _ => {}
         }
@@ -483,7 +445,7 @@ impl<'a> Hearing<'a> {
         let partner = r.f.destination;
         let Some(connection) = place_of(&self.link, partner) else {
             if !self.transport.owed(partner, r.i) {
-                self.loss_unless_rest(r, Sign::StrayEnd);
+                self.loss(r, Sign::StrayEnd);
             }
             self.transport.ends(partner);
             return Err(Why::OfTheDevice);
@@ -568,7 +530,7 @@ impl<'a> Hearing<'a> {
             }
             Of::Again => {}
             Of::Odd => self.loss(r, Sign::TookOdd),
-            Of::Nothing => self.loss_unless_rest(r, Sign::StrayAcknowledgement),
+            Of::Nothing => self.loss(r, Sign::StrayAcknowledgement),
         }
     }
 
@@ -609,9 +571,7 @@ impl<'a> Hearing<'a> {
             Compared::Other(event, _) => (event, Answer::Other),
             Compared::Again => return,
             Compared::Unasked => {
-                if !self.is_rest(r) {
-                    self.parts(self.at(r.i), false);
-                }
+                self.parts(self.at(r.i), false);
                 return;
             }
         };

@@ -143,7 +143,8 @@ fn sent(recorded: &[Recorded]) -> Vec<Result<Vec<u8>, Why>> {
 
 /// The events of a recording for the device with this sheet, which must be accepted. Data that the device did not acknowledge
 /// is an event, of which that is told; unless the rest of the recording does not fit to it, and does without it. If the rest
-/// fits with it alone, the device took it, and the recording lacks its acknowledgement.
+/// fits with it alone, the device took it, and the recording lacks its acknowledgement. Where gaps are told, what fits shows no
+/// more than that it may be so.
 pub fn from_frames(recording: &Recording, sheet: &[u8], progress: &mut Progress) -> Made {
     let frames = sent(&recording.frames);
     let (mut made, unacknowledged) = heard(recording, &frames, sheet, &BTreeSet::new(), progress);
@@ -153,8 +154,9 @@ pub fn from_frames(recording: &Recording, sheet: &[u8], progress: &mut Progress)
         return made;
     }
     let (other, _) = heard(recording, &frames, sheet, &unacknowledged, progress);
+    let told = made.evidence.as_ref().is_some_and(|evidence| !evidence.gaps.is_empty());
     match (fits(&made), fits(&other)) {
-        (false, true) => return other,
+        (false, true) if !told => return other,
         (true, false) => {
             let at = At {
                 behind: made.events.len(),

@@ -116,6 +116,7 @@ pub fn doubt(doubt: &Doubt, event: u32, name: impl Fn(u32) -> String) -> String 
             "a frame under the device's own address went there since ({}): its own, or forged and taken",
             line(own.at)
         ),
+        Doubt::Ended(at) => format!("{NOT_ITS_OWN} ({})", line(*at)),
     };
     format!("{NOT_SURE}{what}")
 }
@@ -145,6 +146,7 @@ pub fn kind(doubt: &Doubt) -> &'static str {
         Doubt::Parted(_) => "parted",
         Doubt::Back(..) => "times go back",
         Doubt::Own(_) => "own address",
+        Doubt::Ended(_) => "ended",
     }
 }
 

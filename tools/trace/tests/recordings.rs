@@ -435,7 +435,7 @@ fn short_evidence() {
     let own = "2900bce0110508010300".to_string();
     let frames = [
         vec!["29".to_string(); 1000],
-        vec![to(OWN, A, "c2"); 1005],
+        vec![to(OWN, A, "c2"); 1000],
         vec![to(OWN, OWN, "80"); 1000],
         vec![own.replace("0300", "0200") + "8001"; 1000],
         vec!["2900bce01105080202008001".to_string(); 1000],
@@ -447,7 +447,7 @@ fn short_evidence() {
     assert_eq!(kept, [1, 1, 1, 1, 200]);
     assert_eq!(e.losses[0].times, 1000);
     // the last of those to a group that the device has; to one that it has not, none
-    assert_eq!((e.own[0].group, e.own[0].at.line), (0x0801, 4005));
+    assert_eq!((e.own[0].group, e.own[0].at.line), (0x0801, 4000));
 }
 
 /// All words for what is left out.

@@ -2,15 +2,17 @@
 //! all frames are recorded, some are dropped, doubled, delayed, exchanged or cut out, the recording is explained, and what is
 //! said is held against what really happened.
 //!
-//! In a recording with gaps that are told, what has no mark is true. In one that lacks frames without a word a statement that is
-//! not true may stand without a mark only if nobody could know better: if the recording is, frame by frame, the whole recording
-//! of another history, in which it is true. Such cases are counted apart. RECORDINGS in the environment
-//! says how many recordings there are, SEED which is the first.
+//! In a recording whose gaps are all told, what has no mark is true. In one that lacks frames without a word a statement that is
+//! not true may stand without a mark only if nobody could know better: if the recording, its told gaps filled with what really
+//! was in them, is frame by frame the whole recording of another history, in which it is true. Or if that is so with nothing in
+//! the gaps, the only sign of a loss having been in them, and what was in them does not make it false: what was lost without a
+//! word does. Such cases are counted apart, those in recordings with told gaps once more. RECORDINGS in the environment says how
+//! many recordings there are, SEED which is the first.
 
 mod bus;
 mod written;
 
-use std::collections::BTreeMap;
+use std::collections::{BTreeMap, BTreeSet};
 
 use bus::{destination, octet, source, to_one, Bus, Did, Host};
 use model::gen::Rng;
@@ -28,56 +30,133 @@ fn asked(name: &str, or: u64) -> u64 {
     std::env::var(name).ok().and_then(|word| word.parse().ok()).unwrap_or(or)
 }
 
-/// A frame of the recording: which it was on the bus, and when it says that it was.
+/// A frame of the recording: which it was on the bus, when it says that it was, and whether it is a copy or out of its place.
 #[derive(Clone, Debug)]
 struct Heard {
     id: usize,
     millis: u64,
+    moved: bool,
 }
 
 /// What was done to a recording.
 #[derive(Clone, Debug, Default)]
 struct Spoiled {
     frames: Vec<Heard>,
-    notes: Vec<Note>,
+    /// The gaps that the recorder tells.
+    gaps: Vec<Note>,
     what: Vec<String>,
+    /// Something was done, or happened, that the recorder does not tell.
+    untold: bool,
 }
 
-/// Damages a recording: by gaps that the recorder tells, or without a word.
-fn spoil(rng: &mut Rng, bus: &Bus, told: bool) -> Spoiled {
-    let frames = bus.log.iter().enumerate().map(|(id, s)| Heard { id, millis: s.millis });
+/// How a recording is damaged.
+#[derive(Clone, Copy, Debug, PartialEq, Eq)]
+enum How {
+    Told,
+    Untold,
+    Mixed,
+}
+
+impl Spoiled {
+    /// The recording with its told gaps filled: by all that is missing between the frame before and the frame behind.
+    fn filled(&self, bus: &Bus) -> Vec<Heard> {
+        let there: BTreeSet<usize> = self.frames.iter().map(|h| h.id).collect();
+        let in_place = |h: &&Heard| !h.moved;
+        let mut all = Vec::new();
+        for i in 0..=self.frames.len() {
+            if self.gaps.iter().any(|note| note.before == i) {
+                let before = self.frames[..i].iter().rfind(in_place).map_or(0, |h| h.id + 1);
+                let behind = self.frames[i..].iter().find(in_place).map_or(bus.log.len(), |h| h.id);
+                let missing = (before..behind).filter(|id| !there.contains(id));
+                all.extend(missing.map(|id| Heard { id, millis: 0, moved: false }));
+            }
+            all.extend(self.frames.get(i).cloned());
+        }
+        all
+    }
+
+    /// Frames are taken out: the gaps behind them.
+    fn moved(&mut self, at: usize, length: usize) {
+        for note in self.gaps.iter_mut().filter(|note| note.before > at) {
+            note.before = note.before.saturating_sub(length).max(at);
+        }
+    }
+
+    fn remove(&mut self, at: usize) -> Heard {
+        let frame = self.frames.remove(at);
+        self.moved(at, 1);
+        frame
+    }
+
+    fn put_in(&mut self, at: usize, frame: Heard) {
+        self.frames.insert(at, frame);
+        self.gaps.iter_mut().filter(|note| note.before > at).for_each(|note| note.before += 1);
+    }
+
+    /// Cuts frames out, and tells it or not.
+    fn cut(&mut self, from: usize, to: usize, gap: Option<gaps::Why>) {
+        self.frames.drain(from..to);
+        self.moved(from, to - from);
+        match gap {
+            Some(gap) => {
+                self.gaps.push(Note { before: from, line: 0, gap });
+                self.gaps.sort_by_key(|note| note.before);
+            }
+            None => self.untold = true,
+        }
+    }
+
+    fn retain(&mut self, keep: impl Fn(&Heard) -> bool) {
+        let kept: Vec<bool> = self.frames.iter().map(&keep).collect();
+        for note in &mut self.gaps {
+            note.before = kept[..note.before].iter().filter(|k| **k).count();
+        }
+        self.frames.retain(keep);
+    }
+}
+
+/// Damages a recording: by gaps that the recorder tells, without a word, or both.
+fn spoil(rng: &mut Rng, bus: &Bus, how: How) -> Spoiled {
+    let frames =
+        bus.log.iter().enumerate().map(|(id, s)| Heard { id, millis: s.millis, moved: false });
     let mut s = Spoiled { frames: frames.collect(), ..Spoiled::default() };
     let times = rng.pick(&[0, 1, 1, 1, 2, 2, 3, 4]);
     for _ in 0..times {
         if s.frames.len() < 2 {
             break;
         }
+        let told = match how {
+            How::Told => true,
+            How::Untold => false,
+            How::Mixed => rng.chance(50),
+        };
         let n = s.frames.len();
         let at = rng.below(n);
-        match if told { rng.within(11, 12) } else { rng.below(13) } {
+        let what = if told { rng.within(11, 12) } else { rng.below(13) };
+        s.untold |= what < 11;
+        match what {
             12 => cut_between(rng, bus, &mut s, told),
             0..=2 => {
                 s.what.push(format!("dropped {}", s.frames[at].id));
-                s.frames.remove(at);
-                moved(&mut s.notes, at, 1);
+                s.remove(at);
             }
             3 | 4 => {
                 let mut copy = s.frames[at].clone();
                 let to = (at + 1 + rng.below(6)).min(n);
                 s.what.push(format!("doubled {} to {to}", copy.id));
-                copy.millis = s.frames[to - 1].millis;
-                put_in(&mut s, to, copy);
+                (copy.millis, copy.moved) = (s.frames[to - 1].millis, true);
+                s.put_in(to, copy);
             }
             5 | 6 => {
-                let mut frame = s.frames.remove(at);
-                moved(&mut s.notes, at, 1);
+                let mut frame = s.remove(at);
+                frame.moved = true;
                 let to = (at + 1 + rng.below(8)).min(s.frames.len());
                 let timed = rng.chance(50);
                 s.what.push(format!("delayed {} to {to}, its time kept: {timed}", frame.id));
                 if !timed && to > 0 {
                     frame.millis = s.frames[to - 1].millis;
                 }
-                put_in(&mut s, to, frame);
+                s.put_in(to, frame);
             }
             7 if at + 1 < n => {
                 s.what.push(format!("exchanged {} and the next", s.frames[at].id));
@@ -94,24 +173,19 @@ fn spoil(rng: &mut Rng, bus: &Bus, told: bool) -> Spoiled {
                     let ack = octet(bytes) & 0xC3 == 0xC2;
                     !bus::OWN.contains(&source(bytes)) || !to_one(bytes) || (acks && !ack)
                 };
-                if s.notes.is_empty() {
-                    s.frames.retain(keep);
-                }
+                s.retain(keep);
             }
             _ => {
-                let length = rng.within(1, 14).min(n - at);
+                // a recorder may tell a gap in which nothing was
+                let none = how == How::Mixed && told && rng.chance(10);
+                let length = if none { 0 } else { rng.within(1, 14).min(n - at) };
                 s.what.push(format!("cut {length} from {}, told: {told}", s.frames[at].id));
-                s.frames.drain(at..at + length);
-                moved(&mut s.notes, at, length);
-                if told {
-                    let gap = match rng.below(3) {
-                        0 => gaps::Why::Stopped(None, None),
-                        1 => gaps::Why::Lost,
-                        _ => gaps::Why::Counted(1),
-                    };
-                    s.notes.push(Note { before: at, line: 0, gap });
-                    s.notes.sort_by_key(|note| note.before);
-                }
+                let gap = told.then(|| match rng.below(3) {
+                    0 => gaps::Why::Stopped(None, None),
+                    1 => gaps::Why::Lost,
+                    _ => gaps::Why::Counted(1),
+                });
+                s.cut(at, at + length, gap);
             }
         }
     }
@@ -149,24 +223,7 @@ fn cut_between(rng: &mut Rng, bus: &Bus, s: &mut Spoiled, told: bool) {
     }
     let (from, to) = rng.pick(&pairs);
     s.what.push(format!("cut from {} up to {}, told: {told}", s.frames[from].id, s.frames[to].id));
-    s.frames.drain(from..to);
-    moved(&mut s.notes, from, to - from);
-    if told {
-        s.notes.push(Note { before: from, line: 0, gap: gaps::Why::Lost });
-        s.notes.sort_by_key(|note| note.before);
-    }
-}
-
-fn put_in(s: &mut Spoiled, at: usize, frame: Heard) {
-    s.frames.insert(at, frame);
-    s.notes.iter_mut().filter(|note| note.before > at).for_each(|note| note.before += 1);
-}
-
-/// Notes behind frames that are taken out.
-fn moved(notes: &mut [Note], at: usize, length: usize) {
-    for note in notes.iter_mut().filter(|note| note.before > at) {
-        note.before = note.before.saturating_sub(length).max(at);
-    }
+    s.cut(from, to, told.then_some(gaps::Why::Lost));
 }
 
 /// The time of a frame as a recorder writes it.
@@ -191,7 +248,7 @@ fn recording(bus: &Bus, s: &Spoiled) -> Recording {
         .collect();
     let times = frames.iter().map(|f| f.time.as_deref());
     let back = trace::order::judged(times).back;
-    Recording { frames, notes: s.notes.clone(), back }
+    Recording { frames, notes: s.gaps.clone(), back }
 }
 
 /// What happened, frame by frame in their order: which frame of the bus it was, and what it did.
@@ -222,18 +279,18 @@ fn is_true(claim: &Claim, history: &History) -> bool {
 
 /// The history of which these frames are the whole recording, if there is one: all that was sent is there, but a request to
 /// which there is no reply was not received. Frames of others may stand between a request and the replies to it.
-fn another(bus: &Bus, s: &Spoiled) -> Option<History> {
-    let s = &without_repeats(bus, s);
+fn another(bus: &Bus, frames: &[Heard]) -> Option<History> {
+    let frames = &without_repeats(bus, frames);
     let mut host = Host::new(&bus.first);
     let mut history: History = Vec::new();
-    let bytes = |i: usize| &bus.log[s.frames[i].id].bytes;
-    let n = s.frames.len();
+    let bytes = |i: usize| &bus.log[frames[i].id].bytes;
+    let n = frames.len();
     let mut used = vec![false; n];
     let mut missed: BTreeMap<Vec<u8>, usize> = BTreeMap::new();
     for i in 0..n {
         let frame = bytes(i);
         // one that was not received and is sent once more is one event
-        let id = missed.get(frame).copied().unwrap_or(bus.log[s.frames[i].id].same);
+        let id = missed.get(frame).copied().unwrap_or(bus.log[frames[i].id].same);
         let own = host.own();
         if to_one(frame) && octet(frame) == 0x80 {
             missed.retain(|f, _| source(f) != source(frame));
@@ -246,7 +303,7 @@ fn another(bus: &Bus, s: &Spoiled) -> Option<History> {
                 continue;
             }
             match host.partner(destination(frame)) {
-                Some(_) if octet(frame) == 0x81 && goes_on(bus, s, i, own) => {}
+                Some(_) if octet(frame) == 0x81 && goes_on(bus, frames, i, own) => {}
                 Some(c) if octet(frame) == 0x81 => {
                     let (did, _) = host.time_out(c, id);
                     history.push((id, Some(did)));
@@ -312,14 +369,30 @@ fn another(bus: &Bus, s: &Spoiled) -> Option<History> {
     Some(history)
 }
 
+/// What these frames make of the device, whatever it sends: each is received that was.
+fn forced(bus: &Bus, frames: &[Heard]) -> History {
+    let mut host = Host::new(&bus.first);
+    let mut history: History = Vec::new();
+    for sent in frames.iter().map(|h| &bus.log[h.id]).filter(|sent| sent.did.is_some()) {
+        let ended =
+            (source(&sent.bytes) == host.own()).then(|| host.partner(destination(&sent.bytes)));
+        let did = match ended {
+            Some(Some(c)) => Some(host.time_out(c, sent.same).0),
+            _ => host.take(&sent.bytes, sent.same).0,
+        };
+        history.push((sent.same, did));
+    }
+    history
+}
+
 /// Without answers on a connection that are sent once more, as a device does that has no receipt, and without the second
 /// acknowledgement of data that was sent twice, whatever is in between.
-fn without_repeats(bus: &Bus, s: &Spoiled) -> Spoiled {
+fn without_repeats(bus: &Bus, frames: &[Heard]) -> Vec<Heard> {
     let mut last: BTreeMap<u16, Vec<u8>> = BTreeMap::new();
     // of each partner and number how often data was sent, and how often acknowledged; and the last number
     let mut sent: BTreeMap<(u16, u8), (usize, usize)> = BTreeMap::new();
     let mut latest: BTreeMap<u16, u8> = BTreeMap::new();
-    let mut less = s.clone();
+    let mut less = frames.to_vec();
     let mut keep = |h: &Heard| {
         let f = &bus.log[h.id].bytes;
         let (from, to, octet) = (source(f), destination(f), octet(f));
@@ -351,14 +424,14 @@ fn without_repeats(bus: &Bus, s: &Spoiled) -> Spoiled {
             _ => true,
         }
     };
-    less.frames.retain(&mut keep);
+    less.retain(&mut keep);
     less
 }
 
 /// Whether the device acknowledges a partner behind a disconnect under its address, before that one connects or disconnects.
-fn goes_on(bus: &Bus, s: &Spoiled, at: usize, own: u16) -> bool {
-    let partner = destination(&bus.log[s.frames[at].id].bytes);
-    for h in &s.frames[at + 1..] {
+fn goes_on(bus: &Bus, frames: &[Heard], at: usize, own: u16) -> bool {
+    let partner = destination(&bus.log[frames[at].id].bytes);
+    for h in &frames[at + 1..] {
         let f = &bus.log[h.id].bytes;
         if !to_one(f) {
             continue;
@@ -379,7 +452,11 @@ struct Counts {
     said: usize,
     marked: usize,
     marked_and_true: usize,
+    /// Not true and without a mark, where nobody could know better; of these, in recordings with told gaps: that leave no sign at
+    /// all, and of which the only sign was in a gap.
     unknowable: usize,
+    with_gaps: usize,
+    sign_in_a_gap: usize,
     refusals: usize,
     by_mark: BTreeMap<&'static str, usize>,
 }
@@ -394,12 +471,21 @@ fn held(bus: &Bus, s: &Spoiled, counts: &mut Counts) -> Result<(), String> {
     // what happened up to the last frame that was recorded
     let upto = s.frames.iter().map(|h| h.id + 1).max().unwrap_or(0);
     let truth: History = bus.log[..upto].iter().map(|s| (s.same, s.did.clone())).collect();
-    let mut other: Option<Option<History>> = None;
-    let mut could_be = |claim: &dyn Fn(&History) -> bool| {
-        // gaps that are told and times that go back can be seen
-        let hidden = s.notes.is_empty() && recording.back.is_empty();
-        let other = other.get_or_insert_with(|| another(bus, s));
-        hidden && other.as_ref().is_some_and(claim)
+    let could_be = |claim: &dyn Fn(&History) -> bool| {
+        // times that go back can be seen
+        let hidden = s.untold && recording.back.is_empty();
+        let filled = s.filled(bus);
+        let is = |frames| hidden && another(bus, frames).as_ref().is_some_and(claim);
+        let without_a_sign = is(&filled);
+        let in_a_gap = !without_a_sign && claim(&forced(bus, &filled)) && is(&s.frames);
+        (without_a_sign, in_a_gap)
+    };
+    let excused = |claim: &dyn Fn(&History) -> bool, counts: &mut Counts| {
+        let (without_a_sign, in_a_gap) = could_be(claim);
+        counts.unknowable += usize::from(without_a_sign || in_a_gap);
+        counts.with_gaps += usize::from(without_a_sign && !s.gaps.is_empty());
+        counts.sign_in_a_gap += usize::from(in_a_gap);
+        without_a_sign || in_a_gap
     };
     let frame_of = |event: u32| bus.log[evidence.events[event as usize - 1].line - 1].same;
     for account in story.accounts() {
@@ -421,10 +507,9 @@ fn held(bus: &Bus, s: &Spoiled, counts: &mut Counts) -> Result<(), String> {
                     counts.marked_and_true += usize::from(right);
                     *counts.by_mark.entry(trace::sentences::kind(doubt)).or_default() += 1;
                 } else if !right {
-                    if !could_be(&|history| is_true(&claim, history)) {
+                    if !excused(&|history| is_true(&claim, history), counts) {
                         return Err(format!("{claim:?} is not true, and not marked"));
                     }
-                    counts.unknowable += 1;
                 }
             }
         }
@@ -445,7 +530,7 @@ fn held(bus: &Bus, s: &Spoiled, counts: &mut Counts) -> Result<(), String> {
             let of = history.iter().rfind(|(id, _)| *id == frame);
             of.is_some_and(|(_, did)| did.as_ref().is_none_or(|did| !did.carried_out()))
         };
-        if !refused(&truth) && !could_be(&refused) {
+        if !refused(&truth) && !excused(&refused, counts) {
             return Err(format!("frame {frame} was done, and is told as refused"));
         }
     }
@@ -485,16 +570,28 @@ fn traces(made: &Made) -> Vec<Trace> {
         .collect()
 }
 
-/// What happens on a bus, and its recording: every fourth with gaps that are told, the others damaged without a word.
+/// What happens on a bus, and its recording: of four one with gaps that are told, one damaged without a word, two both ways.
+fn how(seed: u64) -> How {
+    match std::env::var("HOW").as_deref() {
+        Ok("told") => How::Told,
+        Ok("untold") => How::Untold,
+        Ok("mixed") => How::Mixed,
+        _ => [How::Mixed, How::Told, How::Mixed, How::Untold][seed as usize % 4],
+    }
+}
+
 fn drawn(seed: u64, deaf: bool) -> (Bus, Spoiled) {
-    let told = seed % 4 == 1;
+    let how = how(seed);
     let mut rng = Rng::new(!seed);
-    let mut bus = Bus::new(seed, deaf && !told);
+    let deaf = deaf && how != How::Told;
+    let mut bus = Bus::new(seed, deaf);
     let steps = rng.within(4, 26);
     for _ in 0..steps {
         bus.step();
     }
-    let spoiled = spoil(&mut rng, &bus, told);
+    let mut spoiled = spoil(&mut rng, &bus, how);
+    // that the device did not receive a connect leaves no trace either
+    spoiled.untold |= deaf;
     (bus, spoiled)
 }
 
@@ -503,8 +600,7 @@ fn shrunk(bus: &Bus, mut s: Spoiled) -> Spoiled {
     let mut at = 0;
     while at < s.frames.len() {
         let mut less = s.clone();
-        less.frames.remove(at);
-        moved(&mut less.notes, at, 1);
+        less.remove(at);
         match held(bus, &less, &mut Counts::default()) {
             Err(_) => s = less,
             Ok(()) => at += 1,
@@ -519,7 +615,7 @@ fn shown(bus: &Bus, s: &Spoiled) -> String {
         let did = sent.did.as_ref().map_or(String::new(), |d| {
             format!("  # outcome {} at level {} mark {}", d.outcome, d.level, d.mark)
         });
-        let notes = s.notes.iter().filter(|note| note.before == i);
+        let notes = s.gaps.iter().filter(|note| note.before == i);
         let notes: String = notes.map(|note| format!("# gap {:?}\n", note.gap)).collect();
         format!("{notes}{} {}{did} # {}", time(h.millis), sheet::layout::hex(&sent.bytes), h.id)
     };
@@ -528,23 +624,25 @@ fn shown(bus: &Bus, s: &Spoiled) -> String {
 
 #[test]
 fn true_or_marked() {
-    let mut counts = Counts::default();
+    let (mut counts, mut wrong) = (Counts::default(), 0);
     let first = asked("SEED", 0);
     let recordings = asked("RECORDINGS", RECORDINGS);
     for seed in first..first + recordings {
         let (bus, spoiled) = drawn(seed, seed.is_multiple_of(3));
         if let Err(why) = held(&bus, &spoiled, &mut counts) {
+            wrong += 1;
             let less = shrunk(&bus, spoiled.clone());
             let still = held(&bus, &less, &mut Counts::default()).unwrap_err();
-            panic!(
-                "seed {seed}: {why}\n{:?}\nshrunk: {still}\n{}\nwhole:\n{}",
+            println!(
+                "seed {seed}: {why}\n{:?}\nshrunk: {still}\n{}\nwhole:\n{}\n",
                 spoiled.what,
                 shown(&bus, &less),
                 shown(&bus, &spoiled)
             );
         }
     }
-    println!("{recordings} recordings: {counts:?}, 0 wrong");
+    println!("{recordings} recordings: {counts:?}, {wrong} wrong");
+    assert_eq!(wrong, 0, "what is said and neither true nor marked is printed above");
     assert!(counts.said > 2 * recordings as usize, "{counts:?}");
     assert!(counts.marked > recordings as usize / 4, "{counts:?}");
 }
@@ -555,7 +653,8 @@ fn untouched() {
     let mut marks: BTreeMap<String, usize> = BTreeMap::new();
     for seed in 0..asked("RECORDINGS", RECORDINGS) / 4 {
         let (bus, _) = drawn(seed, false);
-        let frames = bus.log.iter().enumerate().map(|(id, s)| Heard { id, millis: s.millis });
+        let frames =
+            bus.log.iter().enumerate().map(|(id, s)| Heard { id, millis: s.millis, moved: false });
         let whole = Spoiled { frames: frames.collect(), ..Spoiled::default() };
         let mut counts = Counts::default();
         let made = from_frames(&recording(&bus, &whole), &bus.first, &mut Progress::new("", 0));

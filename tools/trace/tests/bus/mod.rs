@@ -486,9 +486,6 @@ impl Bus {
     /// A frame under the device's own address that it did not send.
     fn forged(&mut self) {
         let own = self.own();
-        if own != OWN[0] {
-            return; // whose address it is then a recording may not show
-        }
         let byte = self.rng.pick(&[0, 1]);
         let bytes = match self.rng.below(4) {
             0 => frame(own, own, false, &[3, 0xD7, 2, 7, 0x10, 1, byte]),
