@@ -50,7 +50,9 @@ function chooser(app, label, place) {
 /** @param {App} app @param {Place_ | null} place */
 function paster(app, place) {
     const text = el("textarea", { rows: 4, spellcheck: "false", autocomplete: "off" });
-    return el("details", {}, el("summary", {}, "Paste text or hex digits"), labelled("Text or hex digits", text), button("Take these", () => app.take([pasted(text.value)], place)));
+    return el("details", {}, el("summary", {}, "Paste text or hex digits"), labelled("Text or hex digits", text), button("Take these", () => {
+        if (app.take([pasted(text.value)], place)) text.value = ""; // what has keys in it does not stay in sight
+    }));
 }
 
 /**
