@@ -68,12 +68,13 @@ const Facts = (() => {
     function tell(story, sheet, after, all) {
         const accounts = story.accounts(), summary = Accounts.summary(story, sheet, accounts), shows = Accounts.shows(story);
         const final = after && Accounts.final(story, after.name, story.beside(after.bytes)), indented = (/** @type {string[]} */ lines) => lines.map(line => `  ${line}`);
-        const lines = [summary, ...shows, ...accounts.flatMap(account => ["", ...Accounts.account(story, account, all)]),
+        const lines = () => [summary, ...shows, ...accounts.flatMap(account => ["", ...Accounts.account(story, account, all)]),
             ...(final ? ["", final.head, ...(final.follows ? [final.follows] : []), ...final.places.flatMap(of => ["", ...of.change.lines, ...indented(of.lines)])] : []),
             ...(final && final.lines.length ? ["", ...final.lines] : [])];
-        return { lines, summary, shows, story, explained: !final || final.kind === "same", accounts,
+        // of a thousand places few are looked at: what is long is made when it is asked for
+        return { get lines() { return lines(); }, summary, shows, story, explained: !final || final.kind === "same", accounts,
             events: story.facts.map((_, i) => event(story, i + 1)),
-            changes: accounts.map(account => told(story, account.change.place, account)),
+            get changes() { return accounts.map(account => told(story, account.change.place, account)); },
             final: final && after && { ...final, places: final.places.map(({ change, lines }) => {
                 const bytes = Places.of(change.place, after.bytes);
                 return { at: change.at, length: change.length, name: change.place.name, words: change.lines, never: change.bytes.some(of => of[1].origin === "never"), lines,

@@ -5,8 +5,8 @@ const MOST_BYTES = 1 << 26;
 
 /** @typedef {"sheet" | "events" | "store"} Wanted */
 /**
- * A place for files. `put` takes one of the kind that is wanted; `tell` says what it holds now, `fault` why it was not taken.
- * @typedef {{ title: string, part: string, wants: Wanted, put: (what: WhatIs) => void, tell: (name: string, bytes: Uint8Array, words?: string) => void, fault: (text: string) => void, box: HTMLElement }} Place_
+ * A place for files, and what one is there. `put` takes one of the kind that is wanted; `tell` says what it holds now, `fault` why it was not taken.
+ * @typedef {{ as: string, part: string, wants: Wanted, put: (what: WhatIs) => void, tell: (name: string, bytes: Uint8Array, words?: string) => void, fault: (text: string) => void, box: HTMLElement }} Place_
  */
 
 /**
@@ -50,16 +50,18 @@ function chooser(app, label, place) {
 /** @param {App} app @param {Place_ | null} place */
 function paster(app, place) {
     const text = el("textarea", { rows: 4, spellcheck: "false", autocomplete: "off" });
-    return el("details", {}, el("summary", {}, "Paste text or hex digits"), labelled("Text or hex digits", text), button("Take these", () => app.take([pasted(text.value)], place)));
+    return el("details", {}, el("summary", {}, "Paste text or hex digits"), labelled("Text or hex digits", text), button("Take these", () => {
+        if (app.take([pasted(text.value)], place)) text.value = ""; // what has keys in it does not stay in sight
+    }));
 }
 
 /**
  * A place where files come in, by choice, drop or paste, of any kind: what belongs elsewhere goes there. `others` are what the page
  * has itself. It tells what it holds, also what came from elsewhere on the page.
- * @param {App} app @param {string} part @param {string} title @param {Wanted} wants @param {(bytes: Uint8Array, name: string, what?: WhatIs) => void} taken
+ * @param {App} app @param {string} part @param {[string, string]} title and what a file is there @param {Wanted} wants @param {(bytes: Uint8Array, name: string, what?: WhatIs) => void} taken
  * @param {[string, () => Uint8Array | Named | null][]} others @returns {Place_}
  */
-function source(app, part, title, wants, taken, others) {
+function source(app, part, [title, as], wants, taken, others) {
     const said = el("p", { class: "said", role: "status" });
     /** @param {string} text @param {boolean} bad */
     const say = (text, bad) => {
@@ -68,7 +70,7 @@ function source(app, part, title, wants, taken, others) {
     };
     const box = el("fieldset", { class: "source" });
     /** @type {Place_} */
-    const place = { title, part, wants, box,
+    const place = { as, part, wants, box,
         put: what => { taken(what.bytes, what.name, what); place.tell(what.name, what.bytes, what.words); },
         tell: (name, bytes, words) => say(words ? `${name}: ${words}` : `${name}, ${counted(bytes.length, "byte")}`, false),
         fault: text => say(text, true) };

@@ -41,14 +41,20 @@ function refusalTold(refusal, ways) {
 
 // Each change of a place, in order.
 /** @param {ToldStep[]} steps @param {Ways} ways */
-const stepsTold = (steps, ways) => el("ul", { class: "lines" }, ...shortened(steps.map(step => el("li", {}, step.old !== null && step.new !== null ? `${step.old} → ${step.new} by ` : "changed by ", ...eventTold(step.event, ways), ...doubtsTold(step.doubts)))));
+const stepsTold = (steps, ways) => el("ul", { class: "lines" }, ...shortened(steps, ways, step => el("li", {}, step.old !== null && step.new !== null ? `${step.old} → ${step.new} by ` : "changed by ", ...eventTold(step.event, ways), ...doubtsTold(step.doubts))));
 
-// The first of a list, and a button for the others.
-/** @param {HTMLElement[]} all @returns {HTMLElement[]} */
-function shortened(all) {
-    if (all.length <= MOST_PLACES) return all;
-    const rest = all.slice(MOST_PLACES), more = el("li", { class: "more" }, button(`Show ${rest.length} more`, () => { more.replaceWith(...rest); rest[0].tabIndex = -1; rest[0].focus(); }));
-    return [...all.slice(0, MOST_PLACES), more];
+// The first of a list, and a button for more of them; where nothing can be pressed, how many there are.
+/** @template T @param {T[]} all @param {Ways} ways @param {(one: T) => HTMLElement} made @returns {HTMLElement[]} */
+function shortened(all, ways, made) {
+    const first = all.slice(0, MOST_PLACES).map(made), rest = all.slice(MOST_PLACES);
+    if (rest.length === 0) return first;
+    const more = el("li", { class: "more" }, ways.go ? button(`Show more: ${rest.length} are left`, () => {
+        const next = shortened(rest, ways, made);
+        more.replaceWith(...next);
+        next[0].tabIndex = -1;
+        next[0].focus();
+    }) : `and ${rest.length} more`);
+    return [...first, more];
 }
 
 // A place that events changed. What the dump has there, and what was refused, is told with the dump.
@@ -89,7 +95,7 @@ const finalTold = (told, final, ways) => el("section", { class: "final" },
     el("h3", {}, "The dump beside the events"),
     el("p", { class: `verdict ${FINAL_LOOK[final.kind]}` }, final.head),
     final.follows && el("p", { class: "follows" }, final.follows),
-    el("ul", { class: "places" }, ...shortened(final.places.map(other => otherTold(other, placeAt(told, other.at), told, ways)))),
+    el("ul", { class: "places" }, ...shortened(final.places, ways, other => otherTold(other, placeAt(told, other.at), told, ways))),
     final.lines.length > 0 && el("ul", { class: "lines" }, ...listed(final.lines, 8)));
 
 // All of it. What the dump has otherwise comes first: that is what one wants to know.
@@ -100,7 +106,7 @@ function happenedView(told, ways) {
         told.final && finalTold(told, told.final, ways),
         el("section", {}, el("h3", {}, "What the events changed"),
             el("p", {}, told.summary), ...told.shows.map(line => el("p", { class: /^(nothing shows)/.test(line) ? "soft" : "doubt" }, line)),
-            told.changes.length > 0 && el("ul", { class: "places" }, ...shortened(told.changes.map(place => placeTold(place, others.get(place.at), told, ways))))));
+            told.accounts.length > 0 && el("ul", { class: "places" }, ...shortened(told.accounts, ways, ({ change }) => placeTold(placeAt(told, change.at), others.get(change.at), told, ways)))));
 }
 
 // The history of one place, for who touches it in the sheet.

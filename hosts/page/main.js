@@ -48,13 +48,15 @@ class App {
         this.take(await filesRead(files), place);
     }
 
+    // Whether all of it was taken.
     /** @param {(Named | string)[]} files @param {Place_ | null} place */
     take(files, place) {
         const { news, part } = new Taking(this, place).take(files);
-        byId("news").replaceChildren(...news.map(({ text, bad }) => el("li", { class: bad ? "bad" : "" }, text)));
+        byId("news").replaceChildren(...news.map(({ text, bad }) => el("p", { class: bad ? "bad" : "" }, text)));
         if (!place) this.tracePart.fold();
         if (part && part !== this.part) this.open(part);
         if (part && !place) scrollTo(0, 0);
+        return !news.some(({ bad }) => bad);
     }
 
     /** The accident in all parts that can show it. */

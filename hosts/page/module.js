@@ -24,6 +24,7 @@ class Proved {
         /** @type {{ at: number, to: Uint8Array | Uint32Array }[]} */
         this.back = [];
         this.fields = this.readFields();
+        this.pduFields = [...this.fields].filter(([name]) => name.startsWith("pdu.")).map(([name, place]) => ({ name: name.slice(4), ...place }));
     }
 
     /** @param {string} base64 */
@@ -77,11 +78,17 @@ class Proved {
         return this.room(this.fields.get(type).size);
     }
 
+    // A number of so many bytes, as the module has it.
+    /** @param {DataView} view @param {number} p @param {number} size */
+    at(view, p, size) {
+        if (size === 8) return view.getBigUint64(p, true);
+        return size === 4 ? view.getUint32(p, true) : size === 2 ? view.getUint16(p, true) : view.getUint8(p);
+    }
+
     /** @param {number} at @param {string} field */
     get(at, field) {
-        const place = this.fields.get(field), view = new DataView(this.memory.buffer), p = at + place.at;
-        if (place.size === 8) return view.getBigUint64(p, true);
-        return place.size === 4 ? view.getUint32(p, true) : place.size === 2 ? view.getUint16(p, true) : view.getUint8(p);
+        const place = this.fields.get(field);
+        return this.at(new DataView(this.memory.buffer), at + place.at, place.size);
     }
 
     /** @param {number} at @param {string} field */
@@ -252,12 +259,11 @@ class Proved {
         return this.lending(() => {
             const pdu = this.structure("pdu");
             this.calls.kelindap_read(pdu, ...this.read(apdu));
-            const from = this.small(pdu, "pdu.data_offset");
             /** @type {Record<string, number | bigint>} */
-            const fields = {};
-            for (const name of this.fields.keys()) if (name.startsWith("pdu.")) fields[name.slice(4)] = this.get(pdu, name);
-            return { outcome: Number(fields.outcome), kind: Number(fields.kind), fields,
-                data: apdu.slice(from, from + this.small(pdu, "pdu.data_length")) };
+            const fields = {}, view = new DataView(this.memory.buffer);
+            for (const { name, at, size } of this.pduFields) fields[name] = this.at(view, pdu + at, size);
+            const from = Number(fields.data_offset);
+            return { outcome: Number(fields.outcome), kind: Number(fields.kind), fields, data: apdu.slice(from, from + Number(fields.data_length)) };
         });
     }
 

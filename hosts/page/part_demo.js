@@ -8,7 +8,7 @@ class DemoPart {
         this.shown = 1;
         this.view = el("ol", { class: "demo" });
         this.next = button("Next step", () => this.go(this.shown + 1), { class: "main" });
-        root.append(el("h2", {}, "The demonstration"), this.view,
+        root.append(el("h2", {}, "The demonstration"), el("p", { class: "what" }, "The device with the sample sheet at work, step by step: what a tool sends, what the device answers, and what changed."), this.view,
             el("div", { class: "actions steps" }, this.next, button("All of it", () => this.go(this.steps.length)), button("Start over", () => this.go(1))));
         this.go(1);
     }

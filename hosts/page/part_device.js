@@ -54,13 +54,13 @@ class DevicePart {
         this.keeps = el("p", { role: "status" });
         this.on = choice([["0", "connection 0"], ["1", "connection 1"]]);
         this.kept = el("ul", { class: "entries" });
-        this.store = source(app, "device", "The store", "store", bytes => { app.device.store = bytes.slice(); this.show(); }, [["an empty store", () => new Uint8Array(STORE)]]);
+        this.store = source(app, "device", ["The store", "the store"], "store", bytes => { app.device.store = bytes.slice(); this.show(); }, [["an empty store", () => new Uint8Array(STORE)]]);
         const versions = el("section", { class: "card versions" }, el("h3", {}, "Versions of the settings"), means("versions"), this.keeps,
             el("div", { class: "actions" }, button("Save a version", () => this.did(app.device.save())), labelled("Restore on", this.on)), this.kept,
             el("details", {}, el("summary", {}, "The store as a file"), this.store.box, button("Save the store", () => saveFile(app.device.store, "store.bin"))));
-        this.source = source(app, "device", "The device's sheet", "sheet", (bytes, name) => app.putOnDevice(bytes, name), [...app.samples(), ["the sheet of the first part", () => app.sheet.slice()]]);
+        this.source = source(app, "device", ["The device's sheet", "the device's sheet"], "sheet", (bytes, name) => app.putOnDevice(bytes, name), [...app.samples(), ["the sheet of the first part", () => app.sheet.slice()]]);
         this.source.tell(MADE.sheets[0][0], app.sheet);
-        this.log = el("ol", { class: "log", reversed: true });
+        this.log = el("ol", { class: "log", reversed: true, tabindex: 0, "aria-label": "What happened to the device" });
         this.older = el("p", { class: "said" });
         this.sheet = el("div");
         this.state = el("p", { class: "verdict", role: "status" });

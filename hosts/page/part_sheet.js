@@ -9,7 +9,7 @@ class SheetPart {
         this.save = button("Save as a file", () => saveFile(app.sheet, app.sheetName));
         this.view = el("div");
         this.bytes = el("details");
-        this.source = source(app, "sheet", "The sheet", "sheet", (bytes, name, what) => app.setSheet(bytes, name, what !== undefined), [...app.samples(), ["an old one, of edition 1", () => Uint8Array.of(1, ...unhex(MADE.sheets[0][1]).slice(1))], ["the device's sheet", () => app.device.sheet.slice()]]);
+        this.source = source(app, "sheet", ["The sheet", "the sheet"], "sheet", (bytes, name, what) => app.setSheet(bytes, name, what !== undefined), [...app.samples(), ["an old one, of edition 1", () => Uint8Array.of(1, ...unhex(MADE.sheets[0][1]).slice(1))], ["the device's sheet", () => app.device.sheet.slice()]]);
         this.source.tell(MADE.sheets[0][0], app.sheet);
         root.append(
             el("h2", {}, "A sheet"), means("sheet", "dump"),

@@ -55,13 +55,15 @@ class TracePart {
                 el("section", { class: "card" }, el("h3", {}, "Events"), this.list),
                 el("section", { class: "card" }, el("h3", {}, "The sheet after it"), this.state, this.changes, this.account, this.grid.root, this.meaning)));
         this.playing = new Playing(app.proved, this.sheet, []);
-        this.sheetSource = source(app, "trace", "The dump at the start", "sheet", (bytes, name) => this.setSheet(bytes, name, true), [...app.samples(), ["the sheet of the first part", () => app.sheet.slice()]]);
-        this.traceSource = source(app, "trace", "The recording, or a trace", "events", (bytes, name, what) => this.takeEvents(what ?? whatIs(app.proved, name, bytes)),
+        this.sheetSource = source(app, "trace", ["The dump at the start", "the dump at the start"], "sheet", (bytes, name) => this.setSheet(bytes, name, true), [...app.samples(), ["the sheet of the first part", () => app.sheet.slice()]]);
+        this.traceSource = source(app, "trace", ["The recording, or a trace", "the recording"], "events", (bytes, name, what) => this.takeEvents(what ?? whatIs(app.proved, name, bytes)),
             [["the accident, with its dumps", () => this.accident()], ["what happened to the device", () => this.recorded()]]);
-        this.dumpSource = source(app, "trace", "A dump taken afterwards, if there is one", "sheet", (bytes, name) => this.setDump(bytes, name), [["the device's sheet", () => app.device.sheet.slice()]]);
+        this.dumpSource = source(app, "trace", ["A dump taken afterwards, if there is one", "the dump afterwards"], "sheet", (bytes, name) => this.setDump(bytes, name), [["the device's sheet", () => app.device.sheet.slice()]]);
+        this.sheetSource.box.append(means("dump"));
+        this.traceSource.box.append(means("recording"));
         this.given = el("summary", {});
         this.boxes = el("details", { class: "given", open: true }, this.given, el("div", { class: "three" }, this.sheetSource.box, this.traceSource.box, this.dumpSource.box));
-        root.append(el("h2", {}, "What happened"), means("recording", "trace"), this.boxes,
+        root.append(el("h2", {}, "What happened"), means("trace"), this.boxes,
             this.verdict, this.turn, this.making, this.explanation, this.body);
     }
 
@@ -366,8 +368,14 @@ class TracePart {
             el("div", { class: "actions" }, button("Save the explanation", () => this.saveReport(), { class: "main" }), button("Print it", () => print()),
                 this.dump && button("Exchange the two dumps", () => this.exchange())),
             el("div", { class: "printed" }, reportHead(this.rests(), this.app.proved.version())),
-            happenedView(told, this.ways()),
-            el("details", {}, el("summary", {}, "As kelindap-trace explain says it"), el("pre", {}, told.lines.join("\n"))));
+            happenedView(told, this.ways()), this.asTold(told));
+    }
+
+    /** @param {Explanation} told */
+    asTold(told) {
+        const box = el("details", {}, el("summary", {}, "As kelindap-trace explain says it"));
+        box.addEventListener("toggle", () => { if (box.open && box.childElementCount === 1) box.append(el("pre", {}, told.lines.join("\n"))); });
+        return box;
     }
 
     /** @returns {Part_[]} */

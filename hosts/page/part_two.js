@@ -12,7 +12,7 @@ class TwoPart {
         this.only = el("input", { type: "checkbox", autocomplete: "off", onchange: () => this.show() });
         this.view = el("div");
         const others = /** @type {[string, () => Uint8Array | null][]} */ ([...app.samples(), ["the sheet of the first part", () => app.sheet.slice()], ["the device's sheet", () => app.device.sheet.slice()]]);
-        this.sources = ["The first", "The second"].map((title, side) => source(app, "two", title, "sheet", (bytes, name, what) => { this.set(side, bytes, name); this.given[side] = what !== undefined; }, others));
+        this.sources = ["first", "second"].map((name, side) => source(app, "two", [`The ${name}`, `the ${name}`], "sheet", (bytes, name, what) => { this.set(side, bytes, name); this.given[side] = what !== undefined; }, others));
         for (const place of this.sources) place.tell(MADE.sheets[0][0], app.sheet);
         root.append(
             el("h2", {}, "Two sheets side by side"), means("two", "dump"),

@@ -35,7 +35,7 @@ const clock = (/** @type {string | null} */ time) => /(?:^|[T ])(\d\d:\d\d)/.exe
 // The picture. It is as wide as there is room, so that its letters have the size of others.
 /** @param {Course} history @param {number} width */
 function picture(history, width) {
-    const { points, events, dump, name } = history, height = 200, left = 16 + 8 * Math.max(...points.map(p => String(p.value).length), String(dump ?? "").length), right = dump === null ? 16 : 56, top = 16, bottom = 44;
+    const { points, events, dump, name } = history, height = 200, left = 16 + 8 * Math.max(...points.map(p => String(p.value).length), String(dump ?? "").length), right = dump === null ? 16 : 56, top = 16, bottom = 48;
     const values = [...points.map(p => /** @type {number} */ (p.value)), ...(dump === null ? [] : [dump])], low = Math.min(...values), high = Math.max(...values), span = high - low || 1;
     const x = (/** @type {number} */ event) => left + (width - left - right) * event / Math.max(events, 1);
     const y = (/** @type {number} */ value) => high === low ? (height - bottom + top) / 2 : top + (height - top - bottom) * (high - value) / span;
@@ -56,10 +56,10 @@ function picture(history, width) {
         const at = x(event), hour = clock(time), room = hour ? 22 : 12;
         if (at - room < free) continue;
         free = at + room;
-        drawn.push(svg("text", { x: round(at), y: height - bottom + 18, "text-anchor": "middle" }, String(event)));
-        if (hour) drawn.push(svg("text", { class: "soft", x: round(at), y: height - bottom + 34, "text-anchor": "middle" }, hour));
+        drawn.push(svg("text", { x: round(at), y: height - bottom + 24, "text-anchor": "middle" }, String(event)));
+        if (hour) drawn.push(svg("text", { class: "soft", x: round(at), y: height - bottom + 40, "text-anchor": "middle" }, hour));
     }
-    drawn.push(svg("text", { class: "soft", x: 0, y: height - bottom + 18 }, "event"));
+    drawn.push(svg("text", { class: "soft", x: 0, y: height - bottom + 24 }, "event"));
     // the value from event to event, and to what the dump has
     const path = steps.map((p, i) => `${i ? `H${round(x(p.event))}V` : `M${round(x(p.event))} `}${round(y(/** @type {number} */ (p.value)))}`).join("") + `H${round(end)}`;
     drawn.push(svg("path", { class: "value", d: path }));
@@ -78,7 +78,7 @@ function picture(history, width) {
         const [cx, cy] = [width - right / 2, round(y(dump))];
         drawn.push(svg("path", { class: "jump", d: `M${round(end)} ${round(y(/** @type {number} */ (last.value)))}L${cx} ${cy}` }),
             svg("path", { class: "dump", d: `M${cx} ${cy - 6}l6 6l-6 6l-6 -6z` }),
-            svg("text", { x: cx, y: height - bottom + 18, "text-anchor": "middle" }, "dump"));
+            svg("text", { x: cx, y: height - bottom + 24, "text-anchor": "middle" }, "dump"));
     }
     const words = `${name} over ${counted(events, "event")}: ${historyWords(history).join("; ")}.`;
     return svg("svg", { class: "plot", viewBox: `0 0 ${width} ${height}`, width, height, role: "img", "aria-label": words }, ...drawn);

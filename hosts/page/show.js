@@ -30,9 +30,15 @@ const placed = (look, at, length, text) => (anyMarked(look, at, length) ? el("ma
 // A term that is explained where it stands, by touch, mouse or key.
 /** @param {Child} told @param {() => string} words */
 function term(told, words) {
-    const box = el("details", { class: "term" }, el("summary", {}, told));
-    box.addEventListener("toggle", () => { if (box.open && box.childElementCount === 1) box.append(el("p", { class: "means" }, words())); });
-    return box;
+    /** @type {HTMLElement | undefined} */
+    let shown;
+    const opener = el("button", { type: "button", class: "link term", "aria-expanded": "false", onclick: () => {
+        if (shown) shown.remove();
+        else opener.after(shown = el("span", { class: "means" }, words()));
+        if (!shown.isConnected) shown = undefined;
+        opener.setAttribute("aria-expanded", String(shown !== undefined));
+    } }, told);
+    return opener;
 }
 
 // What a level asks of who would do something.

@@ -3,6 +3,8 @@
 /** @typedef {{ text: string, bad: boolean }} News a line on what became of a file */
 
 const SHEET_KINDS = ["sheet", "old sheet", "bad sheet"], RECORDING_KINDS = ["hex", "ets", "knxtool", "trace text"], SIDE_KINDS = ["times", "evidence"];
+/** Files by which people take other things along: how they begin, and what they are. @type {[string, string][]} */
+const SEEMS = [["89504e47", "a picture"], ["ffd8ff", "a picture"], ["47494638", "a picture"], ["25504446", "a document (PDF)"], ["d0cf11e0", "a document of an office program"], ["0a0d0d0a", "a capture of packets"], ["d4c3b2a1", "a capture of packets"], ["53514c69", "a database"]];
 const STAYS = "it was not taken, and what was there stays";
 
 // The kind of place that a file is for; none of what no place takes.
@@ -47,7 +49,8 @@ function notTaken(app, what, place) {
     const fault = what.fault && !what.words.includes(what.fault) ? `; ${faultOf(what, new Fault(what.fault))}` : "";
     const digits = what.name === "pasted" && what.kind === "text" ? reason(() => unhex(new TextDecoder().decode(what.bytes).slice(0, 4000))) : "";
     const more = digits || (place?.wants === "events" && what.kind === "unknown" && what.bytes.length ? reason(() => readTrace(app.proved, what)) : "") || fault;
-    return `${what.name}: ${what.words}${more}: ${STAYS}`;
+    const seems = what.kind === "unknown" ? SEEMS.find(([begin]) => hex(what.bytes.subarray(0, 4)).startsWith(begin)) : undefined;
+    return seems ? `${what.name}: this seems to be ${seems[1]}, no sheet, store, trace or recording: ${STAYS}` : `${what.name}: ${what.words}${more}: ${STAYS}`;
 }
 
 class Taking {
@@ -98,7 +101,7 @@ class Taking {
         try {
             place.put(what);
             this.part = place.part;
-            const where = `${what.name}: ${what.words}. It is in “${partTitle(place.part)}” now, as ${place.title.charAt(0).toLowerCase()}${place.title.slice(1)}${more}.`;
+            const where = `${what.name}: ${what.words}. It is ${place.as} of “${partTitle(place.part)}” now${more}.`;
             this.news.push({ text: where, bad: false });
             if (this.place && this.place !== place) this.place.fault(where);
             return true;

@@ -1,6 +1,6 @@
 // A trace (docs/TRACE.md): its events in words, a recording as a trace, and playing one. The module judges it and plays it.
 
-/** @typedef {{ outcome: number, answer: Uint8Array, level: number, offer: number }} Step */
+/** @typedef {{ outcome: number, answer: Uint8Array }} Step */
 /** @typedef {{ sheet: Uint8Array, sessions: Uint8Array, marks: Uint32Array }} Moment */
 
 // The events of a trace that can be played.
@@ -50,19 +50,22 @@ class Playing {
         if (!this.refusal) this.walk();
     }
 
-    /** Every event by itself, for what it gave and the level at which it acted: that of its connection just before, and the event that gave this level. */
+    /** All events, trace by trace, for what each gave. */
     walk() {
         const moment = this.start();
         for (const trace of this.traces) {
             this.between.push(copied(moment));
-            const already = this.steps.length;
-            for (const [i, e] of this.events.slice(already, already + number(trace, 0, 2)).entries()) {
-                const log = new Uint8Array(LOG_LINE), on = e.kind === REQUEST && e.mode === CONNECTED && e.connection < CONNECTIONS;
-                const level = on ? moment.sessions[2 * e.connection + 1] : 3, offer = on ? moment.marks[this.sheet.length + e.connection] : 0;
-                this.proved.playMarked(moment.sessions, moment.sheet, trace, i, 1, log, moment.marks, already + i);
-                this.steps.push({ outcome: log[0], answer: log.slice(2, 2 + log[1]), level, offer });
-            }
+            const count = number(trace, 0, 2), log = new Uint8Array(LOG_LINE * Math.max(count, 1));
+            if (count > 0) this.proved.playMarked(moment.sessions, moment.sheet, trace, 0, count, log, moment.marks, this.steps.length);
+            for (const i of places(0, count)) this.steps.push({ outcome: log[LOG_LINE * i], answer: log.slice(LOG_LINE * i + 2, LOG_LINE * i + 2 + log[LOG_LINE * i + 1]) });
         }
+    }
+
+    // The level at which event n acted: that of its connection just before, and the event that gave this level.
+    /** @param {number} n */
+    rights(n) {
+        const e = this.events[n - 1], { sessions, marks } = this.after(n - 1), on = e.kind === REQUEST && e.mode === CONNECTED && e.connection < CONNECTIONS;
+        return { level: on ? sessions[2 * e.connection + 1] : 3, offer: on ? marks[this.sheet.length + e.connection] : 0 };
     }
 
     /** @returns {Moment} */
@@ -86,7 +89,7 @@ class Playing {
     account(moment, p) {
         const n = moment.marks[p];
         if (n === 0) return "no event has changed it";
-        const { level, offer } = this.steps[n - 1], e = this.events[n - 1];
+        const { level, offer } = this.rights(n), e = this.events[n - 1];
         if (e.kind !== REQUEST) return `event ${n} changed it: the button`;
         const right = isLocation(p, this.sheet) ? `, at level ${level}${level < 3 ? (offer ? `, whose key event ${offer} offered` : ", which it had from the start") : ""}` : "";
         return `event ${n} changed it, ${wayText(e.mode, e.connection, e.group)}${right}`;

@@ -214,8 +214,9 @@ class Browser {
         return Buffer.from(data, "base64").toString("latin1").match(/\/Type\s*\/Page\b/g).length;
     }
 
-    async picture(file) {
-        const { data } = await this.send("Page.captureScreenshot", { format: "png", captureBeyondViewport: true });
+    // all of the page, or a part of it
+    async picture(file, clip) {
+        const { data } = await this.send("Page.captureScreenshot", { format: "png", captureBeyondViewport: true, clip });
         fs.writeFileSync(file, Buffer.from(data, "base64"));
     }
 

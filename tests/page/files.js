@@ -63,6 +63,7 @@ async function kinds(b) {
             await b.run(`app.open(${given(part)})`);
             const [told] = await give(selector, b.file(name, bytes(digits)));
             has(`${name} in ${own}`, told, "it was not taken, and what was there stays");
+            if (name === "photo.png") has("a picture", told, "this seems to be a picture");
             if (name === "cut.bin") has("a dump that was cut off", told, "no whole dump: 60 of 69 bytes");
             holds(`${name} in ${own}: one line`, told.length < 200 && !told.includes("\n"));
             has(`${name} in ${own}: said there too`, await b.run(text(`${selector} .said`)), "it was not taken");
@@ -142,6 +143,15 @@ async function files(b, url) {
     await b.click("=Take it in reverse");
     await b.until(`app.tracePart.told`);
     has("taken in reverse", await b.run(text("#trace .explanation")), "property 1/51 element 1: 1000 → 1020");
+    // a recording of more events than a trace has: several traces, played one after the other
+    const two_ = n => String(n).padStart(2, "0"), long = Array.from({ length: 700 }, (_, i) => `08:${two_(Math.floor(i / 60))}:${two_(i % 60)} 2900bce011140801020080${hex([i % 60])}\n`).join("");
+    await open();
+    await b.drop("#start h2", one, b.file("long.hex", long));
+    await b.until(`app.tracePart.told`);
+    expect("700 events", await b.run(`[app.tracePart.traces.length, app.tracePart.playing.events.length, app.tracePart.told.events.length]`), [2, 700, 700]);
+    await b.run(`app.tracePart.go(600)`);
+    expect("after 600 of them", await b.run(`[app.tracePart.moment.sheet[68], app.tracePart.moment.marks[68]]`), [(600 - 1) % 60, 600]);
+    has("named with its trace", await b.run(text("#trace .explanation")), "event 188 of long-2.trace");
     return `${count} times a file in a place; one, two and three at once, dropped, chosen, pasted; 9 kinds, 6 that are none`;
 }
 

@@ -3,9 +3,21 @@
 const path = require("path");
 const { pump, PARTS, played, bytesOf, expect, holds, has } = require("./common.js");
 
+// the accident, with a place and a term opened, a file that was taken and one that was not
+const explained = `(() => {
+    app.accident();
+    app.open("trace");
+    app.take([{ name: "cut.bin", bytes: app.sheet.slice(0, 60) }, { name: "after.txt", bytes: new TextEncoder().encode(MADE.accident.after[1]) }], null);
+    app.tracePart.meaning.open = true;
+    app.tracePart.showMeaning();
+    for (const name of ["1/51", "read 3, write 1", "1 of 2 valid", "Address"]) [...document.querySelectorAll("#trace .sheet button")].find(e => e.textContent === name).click();
+    for (const box of document.querySelectorAll("#trace .history details, #trace .making, #trace .given")) box.open = true;
+})()`;
+
 // something to be seen in every part
 async function filled(b) {
     await b.run(`(() => {
+        app.startPart.tell();
         const sample = ${bytesOf(pump)}, other = sample.slice();
         other.set([0x23, 0x28], 80);
         other[101 - 12] = 0x99;
@@ -95,8 +107,9 @@ async function looks(b, out) {
         for (const scheme of ["light", "dark"]) {
             await b.colours(scheme);
             await filled(b);
-            for (const part of PARTS) {
-                await b.click(`#tab-${part}`);
+            for (const part of [...PARTS, "accident"]) {
+                if (part === "accident") await b.run(explained);
+                else await b.click(`#tab-${part}`);
                 await b.run("scrollTo(0, 0)");
                 const what = `${part} at ${width} pixels, ${scheme}`;
                 for (const word of ["The proved module (", "plain script shows", "the browser is trusted"]) has(`${what}: who is trusted with what`, await b.run("document.querySelector('.trust').innerText"), word);
@@ -117,6 +130,7 @@ async function looks(b, out) {
             }
         }
     }
+    await b.run(`app.tracePart.meaning.open = false; app.take([], null)`);
     await b.colours("light");
     await b.size(1280, 900);
     return `${pictures} pictures at 1280 and 320 pixels, light and dark, nothing cut off, contrast at least ${least.toFixed(1)}`;
