@@ -194,7 +194,11 @@ impl Server {
     fn put(&self, service: u16, body: &[u8]) {
         if let Some(client) = self.client {
             for datagram in (self.mischief)(&datagram(service, body)) {
-                let _ = self.socket.send_to(&datagram, client);
+                // what begins with 0 is from somebody else: another port
+                let other = UdpSocket::bind("127.0.0.1:0").ok();
+                let from = other.as_ref().filter(|_| datagram.first() == Some(&0));
+                let bytes = if from.is_some() { &datagram[1..] } else { &datagram[..] };
+                let _ = from.unwrap_or(&self.socket).send_to(bytes, client);
             }
         }
     }
