@@ -1,0 +1,34 @@
+#!/usr/bin/env bash
+# tests/tool/run.sh: kelindap-tool by its parts and as a whole, on the loopback alone. LONG=1 has ten million datagrams for the state
+# machines and every planted fault; without it a share of each. The programs are built by mk/tool.mk.
+set -euo pipefail
+cd "$(dirname "$0")/../.."
+share() { [ -n "${LONG:-}" ] && echo "$2" || echo "$1"; }
+export PYTHONDONTWRITEBYTECODE=1 ASAN_OPTIONS=detect_leaks=0
+work=$(mktemp -d)
+trap 'kill $(jobs -p) 2> /dev/null || true; rm -rf "$work"' EXIT
+
+cargo test --release --quiet -p tool --no-run
+# what mostly waits runs beside the rest
+waiting=()
+beside() { # NAME COMMAND..
+    "${@:2}" > "$work/$1" 2>&1 &
+    waiting+=("$!:$1")
+}
+if command -v python3 > /dev/null; then
+    beside session python3 tests/tool/session.py
+    beside meet python3 tests/tool/meet.py
+else
+    echo "tool: left out: sessions and knxd: there is no python3 here"
+fi
+beside survey cargo test --release --quiet -p tool --test survey
+beside hostile cargo test --release --quiet -p tool --test hostile
+cargo test --release --quiet -p tool --lib --test machines
+# shellcheck disable=SC2046
+tests/tool/faults.sh $(share 6 1) $(share "" whole)
+for w in "${waiting[@]}"; do
+    status=0
+    wait "${w%%:*}" || status=$?
+    [ "$status" = 0 ] || { echo "tool: ${w#*:} fails"; cat "$work/${w#*:}"; exit 1; }
+    grep -v -e '^$' -e '^running' -e '^\.*$' "$work/${w#*:}" || true
+done
