@@ -258,6 +258,26 @@ def full_disk(h, tool):
     check("a recording with a gap", (r.returncode, "full.hex: File too large" in r.stderr), (2, True))
 
 
+def examples(h, tool):
+    """each example of the man page, in its order, on this bus; every command has one"""
+    text = open(os.path.join(TOP, "tools/tool/kelindap-tool.txt")).read()
+    part = text.split("\nEXAMPLES\n")[1].split("\nEXIT STATUS\n")[0]
+    all = re.findall(r"^    (kelindap-tool .*)$", part, re.M)
+    there = {words.replace("--via 10.0.0.7:3671 ", "").split()[1] for words in all}
+    commands = set(re.findall(r"^    kelindap-tool ([a-z][a-z-]+) ", text.split("\nDESCRIPTION\n")[0], re.M))
+    check("an example of each", (len(commands), commands - there), (15, set()))
+    with open(os.path.join(tool.dir, "tank.sheet"), "wb") as f:
+        f.write(h.bytes())
+    for words in all:
+        words = words.replace("--via 10.0.0.7:3671 ", "").split(None, 1)[1]
+        # where a bus of four hundred is meant, there is one of a dozen addresses
+        said, status = tool(words.replace("1.1.1-200 1.2.1-200", "1.1.1-12"))
+        check("example: " + words, (status, said != "", "kelindap-tool:" in said), (1 if "survey" in words else 0, True, False))
+        if words.startswith("key "):
+            check("the key is put back", tool("key 1.1.5 1 --key-file new --new-key-file key")[1], 0)
+    check("a word from the man page", "→ 1250" in tool.all, True)
+
+
 def main():
     h = Host(sheet=sheet_of(TEXT))
     try:
@@ -275,6 +295,7 @@ def main():
         terminal(tool)
         recorded(h, tool)
         full_disk(h, tool)
+        examples(h, tool)
         signals(h, tool)
         shown = [k for k in ("22222222", "33333333", "44444444", "5a17c0de") if k in tool.all.replace("22222222\"; kelindap", "")]
         check("no key is shown", [k for k in shown if k != "22222222" or tool.all.count(k) > 1], [])

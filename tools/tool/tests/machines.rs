@@ -236,12 +236,12 @@ fn transport_too() {
                 transport::Told::Acknowledged => {
                     acknowledged += 1;
                     asked -= 1;
-                    out = out + 1 & 15;
+                    out = (out + 1) & 15;
                 }
                 transport::Told::Data(apdu) => {
                     assert!(apdu[0] < 4);
                     taken += 1;
-                    expected = expected + 1 & 15;
+                    expected = (expected + 1) & 15;
                 }
                 transport::Told::Closed(_) => closed += 1,
             }
