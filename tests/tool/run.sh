@@ -1,8 +1,9 @@
 #!/usr/bin/env bash
-# tests/tool/run.sh: kelindap-tool by its parts and as a whole, on the loopback alone. LONG=1 has ten million datagrams for the state
+# tests/tool/run.sh BUILD: kelindap-tool by its parts and as a whole, on the loopback alone. LONG=1 has ten million datagrams for the state
 # machines and every planted fault; without it a share of each. The programs are built by mk/tool.mk.
 set -euo pipefail
 cd "$(dirname "$0")/../.."
+build=$1
 share() { [ -n "${LONG:-}" ] && echo "$2" || echo "$1"; }
 export PYTHONDONTWRITEBYTECODE=1 ASAN_OPTIONS=detect_leaks=0
 work=$(mktemp -d)
@@ -16,8 +17,8 @@ beside() { # NAME COMMAND..
     waiting+=("$!:$1")
 }
 if command -v python3 > /dev/null; then
-    beside session python3 tests/tool/session.py
-    beside meet python3 tests/tool/meet.py
+    beside session env HEIGHT_PROGRAM="$PWD/$build/height" DEVICE_PROGRAM="$PWD/$build/kelindap-device" python3 tests/tool/session.py
+    beside meet env DEVICE_PROGRAM="$PWD/$build/kelindap-device" python3 tests/tool/meet.py
 else
     echo "tool: left out: sessions and knxd: there is no python3 here"
 fi
