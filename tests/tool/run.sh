@@ -27,6 +27,10 @@ beside hostile cargo test --release --quiet -p tool --test hostile
 cargo test --release --quiet -p tool --lib --test machines
 # shellcheck disable=SC2046
 tests/tool/faults.sh $(share 6 1) $(share "" whole)
+# the end of make run
+scripts/bus.sh "$build/kelindap-device" build/kelindap-tool > "$work/run"
+grep -q '^   refused: level 3, the description says that writing needs level 1$' "$work/run" && grep -q '^   read back: 1250$' "$work/run" &&
+    grep -q 'at level 1 writes property 1/51 element 1: 1000 -> 1250$' "$work/run" || { cat "$work/run"; echo "tool: make run shows something else"; exit 1; }
 for w in "${waiting[@]}"; do
     status=0
     wait "${w%%:*}" || status=$?
