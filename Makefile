@@ -25,6 +25,7 @@ test: need-tools
 	mk/bin/beside $(MAKE) --no-print-directory -s test-firmware -- $(MAKE) --no-print-directory -s test-tools compare test-cuts
 	$(MAKE) --no-print-directory -s figures test-deb test-python test-dist
 	$(MAKE) --no-print-directory -s test-device
+	$(MAKE) --no-print-directory -s test-tool
 	mk/bin/beside $(MAKE) --no-print-directory -s test-page test-shims -- $(MAKE) --no-print-directory -s test-others
 	tail -n 1 build/ci.log
 

@@ -21,8 +21,9 @@ LINKED := $(wildcard include/*.h) $(wildcard hosts/*.inc) mk/bin/cc mk/hosts.mk 
 unit: $(BUILD)/unit
 
 # a short script against the sample sheet, in a form that a person reads at a glance
-run: $(BUILD)/unit build/sheet
+run: $(BUILD)/unit build/sheet $(if $(OWN),$(BUILD)/kelindap-device build/kelindap-tool)
 	@scripts/demo.sh $(BUILD)/unit build/sheet scripts/demo.txt
+	@$(if $(OWN),echo && scripts/bus.sh $(BUILD)/kelindap-device build/kelindap-tool)
 
 # the scripts, once more with a unit that watches itself where the sanitizers can; in words, where every reason is held against
 # the library over REASONS random requests, a fifth of a second for 200,000

@@ -8,7 +8,7 @@ PYTHON3 := $(shell command -v python3)
 COMPLETIONS ?= $(PREFIX)/share/bash-completion/completions
 VERSION := $(shell sed -n 's/.*KELINDAP_VERSION_TEXT "\(.*\)"/\1/p' include/kelindap_common.h)
 SHEETS := $(foreach s,sample pump,$(addprefix build/sheets/$(s).,sheet txt inc))
-MAN := $(patsubst %,build/man/kelindap-%.1,sheet trace unit device)
+MAN := $(patsubst %,build/man/kelindap-%.1,sheet trace unit device tool)
 
 # what the headers speak of, and the list of what was installed
 DOC := $(PREFIX)/share/doc/kelindap
@@ -47,19 +47,20 @@ install-docs: build/kelindap.html $(SHEETS)
 	install -m 644 examples/*.c examples/*.h $(SHARED) $(SHARED:.c=.h) $(DESTDIR)$(DOC)/examples
 	install -m 644 $(SHEETS) $(DESTDIR)$(DOC)/sheets
 
-install-programs: build/sheet build/trace build/unit build/kelindap-device $(MAN)
+install-programs: build/sheet build/trace build/unit build/kelindap-device build/kelindap-tool $(MAN)
 	mkdir -p $(DESTDIR)$(PREFIX)/bin $(DESTDIR)$(PREFIX)/share/man/man1
 	install -m 755 build/sheet $(DESTDIR)$(PREFIX)/bin/kelindap-sheet
 	install -m 755 build/trace $(DESTDIR)$(PREFIX)/bin/kelindap-trace
 	install -m 755 build/unit $(DESTDIR)$(PREFIX)/bin/kelindap-unit
 	install -m 755 build/kelindap-device $(DESTDIR)$(PREFIX)/bin/kelindap-device
+	install -m 755 build/kelindap-tool $(DESTDIR)$(PREFIX)/bin/kelindap-tool
 	mkdir -p $(DESTDIR)$(PREFIX)/lib/systemd/system
 	sed -e 's#@PREFIX@#$(PREFIX)#' hosts/device/kelindap-device@.service.in \
 	    > $(DESTDIR)$(PREFIX)/lib/systemd/system/kelindap-device@.service
 	chmod 644 $(DESTDIR)$(PREFIX)/lib/systemd/system/kelindap-device@.service
 	install -m 644 $(MAN) $(DESTDIR)$(PREFIX)/share/man/man1
 	mkdir -p $(DESTDIR)$(COMPLETIONS)
-	for p in sheet trace unit device; do install -m 644 tools/kelindap.bash $(DESTDIR)$(COMPLETIONS)/kelindap-$$p; done
+	for p in sheet trace unit device tool; do install -m 644 tools/kelindap.bash $(DESTDIR)$(COMPLETIONS)/kelindap-$$p; done
 
 # a sheet of hosts/ as a file, as text, and as the bytes of a C array
 build/sheets/%.sheet: hosts/%_sheet.inc mk/install.mk
@@ -77,13 +78,14 @@ build/man/kelindap-sheet.1: tools/sheet/kelindap-sheet.txt
 build/man/kelindap-trace.1: tools/trace/kelindap-trace.txt
 build/man/kelindap-unit.1: hosts/kelindap-unit.txt
 build/man/kelindap-device.1: hosts/device/kelindap-device.txt
+build/man/kelindap-tool.1: tools/tool/kelindap-tool.txt
 $(MAN): mk/bin/man include/kelindap_common.h
 	@mkdir -p build/man
 	@mk/bin/man $(filter %.txt,$^) $(VERSION) > $@
 
 #: make deb        Debian's packages in build/deb: libkelindap-dev and kelindap-doc, and for this machine's own processor
 #:                 kelindap-tools and python3-kelindap
-deb: $(LIBRARIES) build/kelindap.html $(SHEETS) $(if $(OWN),build/sheet build/trace build/unit build/kelindap-device $(MAN) $(if $(PYTHON3),python))
+deb: $(LIBRARIES) build/kelindap.html $(SHEETS) $(if $(OWN),build/sheet build/trace build/unit build/kelindap-device build/kelindap-tool $(MAN) $(if $(PYTHON3),python))
 	mk/bin/deb $(PROCESSOR) libkelindap-dev kelindap-doc $(if $(OWN),kelindap-tools $(if $(PYTHON3),python3-kelindap))
 	$(if $(OWN),,@echo "deb: for $(PROCESSOR) libkelindap-dev alone; kelindap-tools and python3-kelindap are built on such a machine")
 

@@ -12,4 +12,4 @@ $(TOOL): $(shell find tools/sheet/src tools/tool/src -name '*.rs') tools/tool/ke
 
 # a minute; LONG=1 is the long form
 test-tool: $(TOOL) $(DEVICE) build/sheet build/trace $(BUILD)/height
-	tests/tool/run.sh
+	tests/tool/run.sh $(BUILD)

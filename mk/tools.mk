@@ -7,10 +7,21 @@ tools: build/sheet build/trace build/kelindap-tool $(BUILD)/host $(BUILD)/height
 
 # the example host shares transport, files and socket with the one on a real bus
 SHARED := hosts/device/transport.c hosts/device/files.c hosts/device/local.c
-$(BUILD)/host $(BUILD)/height: $(BUILD)/%: examples/%.c examples/bus.h $(SHARED) $(wildcard hosts/device/*.h) $(LINKED) | need-gcc
+$(BUILD)/host: examples/host.c examples/bus.h $(SHARED) $(wildcard hosts/device/*.h) $(LINKED) | need-gcc
 	mkdir -p $(BUILD)
 	gcc $(STRICT) -Ihosts/device -c $< -o /dev/null
-	$(CC_FOR) -o $@ $(STRICT) -Ihosts/device $< $(if $(filter %/host,$@),$(SHARED)) $(HOST_A) $(TOOL_A)
+	$(CC_FOR) -o $@ $(STRICT) -Ihosts/device $< $(SHARED) $(HOST_A) $(TOOL_A)
+
+# a client of the example host, for its tests
+$(BUILD)/bus_height: tests/c/bus_height.c examples/bus.h $(wildcard hosts/device/*.h) $(LINKED) | need-gcc
+	mkdir -p $(BUILD)
+	$(CC_FOR) -o $@ $(STRICT) -Iexamples -Ihosts/device $< $(HOST_A) $(TOOL_A)
+
+# a tool in C on a real bus: the PDU layer alone
+$(BUILD)/height: examples/height.c $(LINKED) | need-gcc
+	mkdir -p $(BUILD)
+	gcc $(STRICT) -c $< -o /dev/null
+	$(CC_FOR) -o $@ $(STRICT) $< $(TOOL_A)
 
 build/sheet: $(shell find tools/sheet/src -name '*.rs') tools/sheet/kelindap-sheet.txt tools/sheet/Cargo.toml Cargo.toml mk/tools.mk
 	cargo build --release --quiet -p sheet
@@ -23,10 +34,10 @@ build/trace: $(shell find tools/sheet/src tools/trace/src -name '*.rs') $(TRACE_
 	cargo build --release --quiet -p trace
 	cp $(CARGO_BIN)/trace build/trace
 
-test-tools: tools $(BUILD)/unit
+test-tools: tools $(BUILD)/unit $(BUILD)/bus_height
 	UNIT=$(CURDIR)/$(BUILD)/unit cargo test --release --quiet -p sheet
 	UNIT=$(CURDIR)/$(BUILD)/unit cargo test --release --quiet -p trace
-	tests/examples.sh $(BUILD)/host $(BUILD)/height build/sheet
+	tests/examples.sh $(BUILD)/host $(BUILD)/bus_height build/sheet
 	tests/install.sh
 	tests/shell/run.sh
 

@@ -54,7 +54,7 @@ mkdir -p "$root/var/lib/dpkg"/{info,updates,triggers}
 : > "$root/var/lib/dpkg/available"
 # a root that holds nothing has no C library either, for which the package asks
 dpkg-deb -f "build/deb/kelindap-tools_${version}_$debian.deb" Depends | grep -q '^libc6 (>= [0-9.]*), libgcc-s1$' || fail "kelindap-tools asks for other packages"
-needed=$(objdump -p build/sheet build/trace build/unit build/kelindap-device | awk '$1 == "NEEDED" && $2 !~ /^ld-linux/ { print $2 }' | sort -u | paste -sd ' ')
+needed=$(objdump -p build/sheet build/trace build/unit build/kelindap-device build/kelindap-tool | awk '$1 == "NEEDED" && $2 !~ /^ld-linux/ { print $2 }' | sort -u | paste -sd ' ')
 [ "$needed" = "libc.so.6 libgcc_s.so.1" ] || fail "the programs need $needed"
 packages=(libkelindap-dev kelindap-tools)
 if command -v python3 > /dev/null; then
@@ -99,13 +99,15 @@ printf '\0\0' > "$work/trace"
 device=$!
 for ((waited = 0; waited < 500; waited++)); do [ ! -s "$work/ready" ] || break; sleep 0.01; done
 "$root/usr/bin/kelindap-device" ctl "$work/sheet" state > "$work/state" || { kill "$device"; fail "kelindap-device does not answer: $(cat "$work/log")"; }
+height=$("$root/usr/bin/kelindap-tool" read 1.1.5 1/51 --via "127.0.0.1:$(cut -d ' ' -f 2 "$work/ready")") || { kill "$device"; fail "kelindap-tool reads nothing"; }
+[ "$height" = 1000 ] || { kill "$device"; fail "kelindap-tool reads $height"; }
 kill "$device"
 wait "$device" || fail "kelindap-device does not end in order"
 [ "$(head -n 1 "$work/state")" = "device 1.1.5 programming off" ] || fail "kelindap-device is in another state: $(cat "$work/state")"
 
 words_of() { grep -o '[^[:space:]]*'; }
 # a page has the words of --help, but for those of its head and foot
-for program in kelindap-sheet:tools/sheet kelindap-trace:tools/trace kelindap-unit:hosts kelindap-device:hosts/device; do
+for program in kelindap-sheet:tools/sheet kelindap-trace:tools/trace kelindap-unit:hosts kelindap-device:hosts/device kelindap-tool:tools/tool; do
     text=${program#*:}/${program%%:*}.txt name=${program%%:*}
     "$root/usr/bin/$name" --help | cmp - "$text" || fail "$name --help says something else"
     if command -v man > /dev/null && command -v groff > /dev/null; then
@@ -118,7 +120,7 @@ for program in kelindap-sheet:tools/sheet kelindap-trace:tools/trace kelindap-un
 done
 
 # the completions, of what stands there, as bash-completion finds them
-for name in sheet trace unit; do [ -s "$root/usr/share/bash-completion/completions/kelindap-$name" ] || fail "no completions of kelindap-$name"; done
+for name in sheet trace unit device tool; do [ -s "$root/usr/share/bash-completion/completions/kelindap-$name" ] || fail "no completions of kelindap-$name"; done
 tests/shell/complete.sh "$root/usr/bin" "$root/usr/share/bash-completion/completions/kelindap-sheet" > "$work/said" || { cat "$work/said"; fail "completions"; }
 
 # the Python package, with the library that stands there

@@ -1,5 +1,5 @@
 #!/usr/bin/env bash
-# tests/examples.sh HOST HEIGHT SHEET: the example host and tool at work, an old sheet, two tools at once, one that reads nothing, a
+# tests/examples.sh HOST HEIGHT SHEET: the example host at work, with the client of tests/c/bus_height.c, an old sheet, two tools at once, one that reads nothing, a
 # frame that comes twice, an answer to a group, versions of the settings, a second start, names at which something stands, planted
 # names, few descriptors, the time limits of transport, and the host killed 200 times during writes: what it
 # saved is then an accepted sheet each time, with the height that was answered last or the one after it; and as often while

@@ -63,11 +63,12 @@ grep -q 'end is missing' "$work/said" || fail "no sheet program"
 [ "$("$work/at/bin/kelindap-sheet" --version)" = "kelindap-sheet of kelindap $version" ] || fail "a sheet program of another version"
 [ "$("$work/at/bin/kelindap-trace" --version)" = "kelindap-trace of kelindap $version" ] || fail "a trace program of another version"
 [ "$("$work/at/bin/kelindap-unit" --version)" = "kelindap-unit of kelindap $version" ] || fail "a desk unit of another version"
+[ "$("$work/at/bin/kelindap-tool" --version)" = "kelindap-tool of kelindap $version" ] || fail "a tool of another version"
 [ "$("$work/at/bin/kelindap-sheet" chek 2>&1)" = 'kelindap-sheet: no command "chek", perhaps check; kelindap-sheet --help says more' ] ||
     fail "a message under another name"
 [ "$(echo 'connect 0' | "$work/at/bin/kelindap-unit" | cut -c 1-11)" = "1 1 3 0 3 0" ] || fail "no desk unit"
-for name in sheet trace unit device; do [ -s "$work/at/share/man/man1/kelindap-$name.1" ] || fail "no man page of kelindap-$name"; done
-for name in sheet trace unit device; do
+for name in sheet trace unit device tool; do [ -s "$work/at/share/man/man1/kelindap-$name.1" ] || fail "no man page of kelindap-$name"; done
+for name in sheet trace unit device tool; do
     cmp tools/kelindap.bash "$work/at/share/bash-completion/completions/kelindap-$name" || fail "no completions of kelindap-$name"
 done
 

@@ -8,10 +8,10 @@ if cargo fmt --version > /dev/null 2>&1; then
     cargo fmt --all --check
     done+=("cargo fmt")
 fi
-# the benchmark needs an archive to be linked with, so it is not among these; what the trace tool needs is not linked for it
+# the benchmark needs an archive to be linked with, so it is not among these; what the trace tool and the tool on the bus need is not linked for it
 if cargo clippy --version > /dev/null 2>&1; then
     cargo clippy --release --quiet --all-targets -- -D warnings
-    cargo clippy --release --quiet --all-targets -p trace -- -D warnings
+    cargo clippy --release --quiet --all-targets -p trace -p tool -- -D warnings
     done+=("clippy")
 fi
 if command -v shellcheck > /dev/null; then

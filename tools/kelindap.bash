@@ -1,4 +1,4 @@
-# Completions for bash of kelindap-sheet, kelindap-trace and kelindap-unit: commands, options and forms, as the synopsis of the
+# Completions for bash of kelindap-sheet, kelindap-trace, kelindap-unit, kelindap-device and kelindap-tool: commands, options and forms, as the synopsis of the
 # program's own --help has them, so that what is offered is what there is; and names of files.
 # Installed for each program under its name, where bash-completion finds it.
 
@@ -57,4 +57,4 @@ _kelindap() {
     compopt -o filenames 2> /dev/null || true
 }
 
-complete -F _kelindap kelindap-sheet kelindap-trace kelindap-unit kelindap-device
+complete -F _kelindap kelindap-sheet kelindap-trace kelindap-unit kelindap-device kelindap-tool

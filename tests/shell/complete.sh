@@ -27,7 +27,7 @@ is() { # EXPECTED WORDS..
     [ "$got" = "$1" ] || fail "${*:2}: offered \"$got\", not \"$1\""
     count=$((count + 1))
 }
-for program in sheet trace unit; do
+for program in sheet trace unit tool; do
     complete -p "kelindap-$program" | grep -q -- '-F _kelindap ' || fail "nothing is said for kelindap-$program"
 done
 
@@ -61,9 +61,15 @@ is 'a b.trace' kelindap-trace show a
 is '--all --final --help --json' kelindap-trace explain -
 is '--help --lines --version --words' kelindap-unit ''
 is --words kelindap-unit --w
+is '--help --version address authorize describe descriptor group key memory read readout restart scan survey user-memory write' kelindap-tool ''
+is 'read readout' kelindap-tool read
+is user-memory kelindap-tool us
+is 'read' kelindap-tool memory rea
+is '--key-file' kelindap-tool write 1.1.5 1/51 1250 --k
+is dumps kelindap-tool survey 1.1.5 --into d
 
 # what is offered is what the synopsis has: every command of it, and of each command every option
-for program in sheet trace; do
+for program in sheet trace tool; do
     "$bin/kelindap-$program" --help | awk '/^SYNOPSIS$/ { on = 1; next } /^[^ ]/ { on = 0 } on && $2 ~ /^[a-z]/' > forms
     while read -r _ command rest; do
         offered "kelindap-$program" "$command" | grep -qw -- "$command" || fail "$command is not offered"

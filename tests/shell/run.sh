@@ -6,6 +6,7 @@ cd "$(dirname "$0")/../.."
 bin=$(mktemp -d)
 trap 'rm -rf "$bin"' EXIT
 for program in sheet trace unit; do ln -s "$PWD/build/$program" "$bin/kelindap-$program"; done
+ln -s "$PWD/build/kelindap-tool" "$bin"
 command -v python3 > /dev/null || { echo "shell: left out: there is no python3"; exit 0; }
 tests/shell/examples.sh "$bin" tools/sheet/kelindap-sheet.txt tools/trace/kelindap-trace.txt hosts/kelindap-unit.txt
 tests/shell/complete.sh "$bin" tools/kelindap.bash

@@ -230,7 +230,7 @@ mod tests {
             assert!(t.send(&[3, 0xD5, 1], 10));
             assert!(!t.send(&[3, 0xD5, 1], 10)); // one at a time
             assert_eq!(sent(&mut t), [vec![0x43 | n << 2, 0xD5, 1]]);
-            t.tpdu(&[ACK | (n + 1 & 15) << 2], 11); // of another
+            t.tpdu(&[ACK | ((n + 1) & 15) << 2], 11); // of another
             assert_eq!(told(&mut t), []);
             t.tpdu(&[ACK | n << 2], 11);
             t.tpdu(&[ACK | n << 2], 11); // doubled
@@ -240,7 +240,7 @@ mod tests {
             assert_eq!(sent(&mut t), [[ACK | n << 2]]);
             t.tpdu(&[0x43 | n << 2, 0xD6, i], 12); // doubled: acknowledged, not taken
             assert_eq!((sent(&mut t), told(&mut t)), (vec![vec![ACK | n << 2]], vec![]));
-            let far = n + 3 & 15;
+            let far = (n + 3) & 15;
             t.tpdu(&[0x43 | far << 2, 0xD6, i], 12);
             assert_eq!((sent(&mut t), told(&mut t)), (vec![vec![NAK | far << 2]], vec![]));
         }

@@ -7,7 +7,6 @@ use std::collections::BTreeMap;
 use std::fs;
 use std::os::unix::fs::PermissionsExt;
 use std::path::PathBuf;
-use std::sync::Mutex;
 
 use hall::{honest, Interface, Unit, Way, CONNECTS, DISCONNECTS, ENDS, WRITES};
 use sheet::asked::{heard, Heard};
@@ -16,8 +15,6 @@ use sheet::survey::{survey_of, Seen, Verdict, Wanted};
 
 const HELP: &str = include_str!("../kelindap-tool.txt");
 const HURRY: u64 = 12;
-/// One clock for all tests of a process.
-static ONE: Mutex<()> = Mutex::new(());
 
 const REFERENCE: &str = "edition 2
 serial 00c501020304
@@ -226,7 +223,6 @@ fn wrong_lines<'a>(got: &'a str, due: &'a str) -> Vec<&'a str> {
 
 #[test]
 fn forty_units() {
-    let _one = ONE.lock().unwrap_or_else(|e| e.into_inner());
     let folder = Folder::new("hall");
     let name = folder.file("tank.sheet", &reference().0);
     let key = folder.file("key", b"22222222\n");

@@ -75,7 +75,7 @@ impl Unit {
     fn lost(&mut self) -> bool {
         self.frames += 1;
         match self.way {
-            Way::Loses(n) => self.frames % n == 0,
+            Way::Loses(n) => self.frames.is_multiple_of(n),
             Way::Stops(n) => self.requests > n,
             _ => false,
         }
@@ -194,7 +194,11 @@ impl Server {
     fn put(&self, service: u16, body: &[u8]) {
         if let Some(client) = self.client {
             for datagram in (self.mischief)(&datagram(service, body)) {
-                let _ = self.socket.send_to(&datagram, client);
+                // what begins with 0 is from somebody else: another port
+                let other = UdpSocket::bind("127.0.0.1:0").ok();
+                let from = other.as_ref().filter(|_| datagram.first() == Some(&0));
+                let bytes = if from.is_some() { &datagram[1..] } else { &datagram[..] };
+                let _ = from.unwrap_or(&self.socket).send_to(bytes, client);
             }
         }
     }
@@ -246,10 +250,10 @@ impl Server {
                     self.request(b[4..].to_vec());
                 }
             }
-            0x0421 if b[1] == self.channel && b[2] == self.out => {
-                if self.under_way.take().is_some() {
-                    self.out = self.out.wrapping_add(1);
-                }
+            0x0421
+                if b[1] == self.channel && b[2] == self.out && self.under_way.take().is_some() =>
+            {
+                self.out = self.out.wrapping_add(1);
             }
             _ => {}
         }
@@ -309,7 +313,7 @@ impl Server {
         } else if octet & 0xC0 == 0x40 {
             let number = octet >> 2 & 15;
             if number == u.expected {
-                u.expected = u.expected + 1 & 15;
+                u.expected = (u.expected + 1) & 15;
                 u.taken = true;
                 u.requests += 1;
                 out.push(frame(at, CLIENT, &[0xC2 | number << 2]));
@@ -338,7 +342,7 @@ impl Server {
                 self.waiting.push_back((now + late, frame.clone()));
                 if u.way == Way::Doubles && frame.len() > 10 {
                     let mut next = frame.clone();
-                    next[9] = next[9] & 0xC3 | ((next[9] >> 2) + 1 & 15) << 2;
+                    next[9] = next[9] & 0xC3 | (((next[9] >> 2) + 1) & 15) << 2;
                     self.waiting.push_back((now, frame));
                     self.waiting.push_back((now, next));
                 }
@@ -407,7 +411,7 @@ impl Unit {
         if answer[9] & 0xC0 != 0x40 {
             return Some(answer);
         }
-        self.out = self.out + 1 & 15;
+        self.out = (self.out + 1) & 15;
         self.line.push_back(answer);
         if self.line.len() > 1 {
             return None;
