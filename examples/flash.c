@@ -6,7 +6,8 @@
  *
  * examples/host.c does the same with files, on a system that has them: there a new file renamed over the old one is simpler, and wears
  * out nothing that the file system does not spread. Take this one where the host itself has flash, EEPROM or FRAM, and no file system.
- * An EEPROM or FRAM is the same with flash_erase that does nothing and FLASH_UNIT 1.
+ * An EEPROM or FRAM is the same with flash_erase that does nothing and FLASH_UNIT 1. Time is the board's: host_silent ends a connection,
+ * and an answer that is not acknowledged is not sent again here (kelindap_link.h says when it is due, examples/host.c does it).
  *
  * tests/cuts.sh cuts its power after every byte that it programs or erases, and plants faults in it.
  */

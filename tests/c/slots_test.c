@@ -9,7 +9,7 @@
 #include "lent.h"
 
 #ifndef ROUNDS
-#define ROUNDS 20000
+#define ROUNDS 5000
 #endif
 enum { MOST = KELINDAP_SLOT_FRONT + KELINDAP_SLOT_MOST + 64 };
 static const uint8_t mark[6] = { 'K', 'E', 'L', 'I', 'N', 'D' };

@@ -12,7 +12,7 @@ emulated() { case $1 in cortex-*) command -v qemu-system-arm ;; *) command -v qe
 # PROCESSOR: the rows of its board
 on_board() {
     mk/bin/firmware "$1" cost tests/cuts/cost.c tests/firmware/board.c tests/firmware/memory.c
-    COUNT=1 "${FIRMWARE:-build/firmware}/$1/cost" 2> /dev/null | cat
+    COUNT=1 "${FIRMWARE_FOLDER:-build/firmware}/$1/cost" 2> /dev/null | cat
 }
 
 if [ "${1-}" = bits ]; then
@@ -20,9 +20,9 @@ if [ "${1-}" = bits ]; then
     for p in "${processors[@]}"; do
         emulated "$p" || continue
         for way in table bits; do
-            FIRMWARE=$work/$way MODULE_WORDS=$([ $way = table ] || echo "-mllvm -disable-loop-idiom-hashrecognize") mk/bin/firmware "$p"
+            FIRMWARE_FOLDER=$work/$way MODULE_WORDS=$([ $way = table ] || echo "-mllvm -disable-loop-idiom-hashrecognize") mk/bin/firmware "$p"
             size "$work/$way/$p/module.o" "$work/$way/$p/shim.o" | awk 'NR > 1 { n += $1 + $2 } END { printf "%d ", n }'
-            FIRMWARE=$work/$way on_board "$p" | awk '$1 == "judged" { n[$2] = $3 } END { printf "%.1f ", (n[16384] - n[1024]) / 20 / (16384 - 1024) }'
+            FIRMWARE_FOLDER=$work/$way on_board "$p" | awk '$1 == "judged" { n[$2] = $3 } END { printf "%.1f ", (n[16384] - n[1024]) / 20 / (16384 - 1024) }'
         done | sed "s/^/$p: /"
         echo
     done

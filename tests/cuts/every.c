@@ -2,7 +2,8 @@
  * Every cut of every save: the host of examples/flash.c saves sheet after sheet, and each save is made again with the power cut after
  * each byte that it erases or programs, and with each pattern of torn bytes. After a cut the unit starts with the sheet before, or with
  * the new one, and with the new one exactly if the mark was set; what stands in the slots is judged as a second reader judges it; then
- * the unit goes on, and what it saves next it starts with. The first save of a new unit is cut in the same way. Some of the torn media are the ones that the next saves are made on.
+ * the unit goes on, and what it saves next it starts with. A save into a slot of which a byte takes nothing any more is told as failed.
+ * The first save of a new unit is cut in the same way. Some of the torn media are the ones that the next saves are made on.
  *
  *   every SAVES [SEED]
  */
@@ -24,7 +25,7 @@ void bus_send(const uint8_t *frame, size_t length)
     (void)frame, (void)length;
 }
 
-static unsigned long saves, cuts, olds, news, starts, save_number;
+static unsigned long saves, cuts, olds, news, starts, fails, save_number;
 
 static _Noreturn void fail(const char *why)
 {
@@ -170,6 +171,24 @@ static void cut_at(int64_t after, uint64_t marks, const bytes *old, const bytes 
         fail("what is saved after a cut is lost");
 }
 
+/* A byte of the slot is worn out and takes nothing any more: the save is told as failed, and the sheet before is there, unless the byte
+   had the right value already. */
+static void worn(const bytes *old, const bytes *new)
+{
+    kept k;
+    for (size_t at = 0; at < 64 + new->length; at++) {
+        take_back();
+        start(&k);
+        stuck = &flash_bytes[k.goal.slot][at];
+        bool finished = save_cut(&k, new, NEVER);
+        start(&k);
+        stuck = NULL;
+        if (!same(&k, finished ? new : old))
+            fail("on a slot that is worn out");
+        fails += !finished;
+    }
+}
+
 /* The first save of a new unit, whose medium holds anything but a mark: nothing, or the first sheet exactly if its mark was set. */
 static void first_cuts(const bytes *first)
 {
@@ -243,6 +262,7 @@ int main(int count, char **words)
                 take_back();
                 cut_at((int64_t)after, marks, &old, &new, &next);
             }
+        worn(&old, &new);
         /* on from the finished save, or from one that was cut somewhere */
         take_back();
         start(&k);
@@ -252,7 +272,8 @@ int main(int count, char **words)
         start(&k);
         old = same(&k, &new) ? new : old;
     }
-    printf("every: medium %d, units of %d: %lu saves, %lu cuts, %lu starts; the sheet before %lu times, the new one %lu: 0 lost, 0 half\n",
-           MEDIUM, FLASH_UNIT, saves, cuts, starts, olds, news);
+    printf("every: medium %d, units of %d: %lu saves, %lu cuts, %lu starts; the sheet before %lu times, the new one %lu: 0 lost, 0 half; "
+           "%lu times a byte was worn out\n",
+           MEDIUM, FLASH_UNIT, saves, cuts, starts, olds, news, fails);
     return EXIT_SUCCESS;
 }

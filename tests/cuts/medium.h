@@ -38,6 +38,7 @@ static enum torn pattern;
 static uint64_t chance;     /* what is random, never 0 */
 static uint64_t worked;     /* bytes erased and programmed so far */
 static unsigned long erases[SECTORS];
+static const uint8_t *stuck; /* a byte that takes nothing any more, or NULL */
 static const char *wrong;   /* what no part would have done, or a host may not do */
 
 static uint32_t any(uint32_t n)
@@ -93,11 +94,12 @@ static bool work(unsigned sector, size_t at, const uint8_t *bytes, size_t count)
     size_t done = budget != NEVER && (uint64_t)budget < count ? (size_t)budget : count;
     for (size_t i = 0; i < count; i++) {
         uint8_t new = bytes == NULL ? 0xFF : bytes[i];
-        if (MEDIUM > 0 && bytes != NULL && (run[i] & new) != new)
+        if (MEDIUM > 0 && bytes != NULL && (run[i] & new) != new && stuck == NULL)
             wrong = "a bit was to be set without an erase";
-        if (MEDIUM == 2 && bytes != NULL && run[i] != 0xFF)
+        if (MEDIUM == 2 && bytes != NULL && run[i] != 0xFF && stuck == NULL)
             wrong = "a unit was programmed twice";
-        run[i] = done == count ? new : torn_byte(i, done, run[i], new);
+        if (run + i != stuck)
+            run[i] = done == count ? new : torn_byte(i, done, run[i], new);
     }
     worked += done;
     if (budget != NEVER)

@@ -169,6 +169,7 @@ const PARTS: &[Part] = &[
             "written-found",
             "found-again",
             "whole-or-not",
+            "rests",
             "starts-fresh",
             "lives-restored",
         ],

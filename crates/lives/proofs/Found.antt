@@ -19,10 +19,11 @@ use Rattle.history.specs.History.{wished, supplied, content, permitted}
 use Rattle.history.specs.Keeps.{stateAfter}
 use Rattle.history.proofs.promises.Keep.{keeps}
 use Rattle.slots.specs.Medium.{Medium, Broken}
+use Rattle.slots.proofs.Lives.{rest-cut}
 use Rattle.link.specs.Net.{Net, stateOf}
 use Rattle.link.specs.Whose.{Partner}
 use Rattle.host.specs.Steps.{Steps}
-use Rattle.lives.specs.Life.{Running, Happening, saved, cut, Starts, starts, Goes, loses, Ran, next, apart, tell, telling, told, firstOf, Begun}
+use Rattle.lives.specs.Life.{Running, Happening, saved, cut, Starts, starts, Goes, loses, Ran, next, apart, tell, telling, told, kept, firstOf, Begun}
 use Rattle.lives.proofs.Follows.{At, same-sheet, steps-follow, lived}
 
 module _ {x y : Running} {h : List Happening} {es : List Event} (b : Begun x) (k : Ran x (saved es ∷ h) y) where
@@ -65,6 +66,10 @@ written-found {x} {h = h} {e = e} b k may a p place named set d t =
     let o = lived b k .follows .octets in
     ap (λ (s : List ℕ). getD s p 0) (found-again b k set d t ∙ held-now b k)
     ∙ keeps (firstOf x) (told h) (b .begins) (o .1) .atOnce e (o .0) may a p place named
+
+-- THE POWER MAY GO AT REST, AND WITHIN A CALL, whatever that has left in memory: a start from the medium as it is, is a cut of no events
+pub rests : {x y z : Running} {h : List Happening} → Begun x → Ran x h y → Starts (y .medium) z → Goes y (cut false []) z
+rests {x} {y} {h = h} b k t = loses Steps.begin (rest-cut (At (firstOf x) (kept h) .sheet) (y .net .sheet) (y .medium) (lived b k .ready)) t
 
 -- AT START THE LINK IS FRESH: no connection has a partner
 pub starts-fresh : {m : Medium} {z : Running} → Starts m z → (z .net .link .sessions ≡ freshOf) × ((c a : ℕ) → Partner (z .net .link) c a → ⊥)

@@ -39,6 +39,15 @@ pub answered-stays : (g h : List Happening) (es : List Event) → EndsIn (es ++ 
 unfolding telling tell
 answered-stays g h es = kept-stays (es ++ told h) g (saved es ∷ h) (goneOn [] refl) (goneOn [] refl) .0
 
+-- WORKED: a was saved and answered, b and c wait, and the power is lost during d; without the mark of its save, with it; and once more, after e
+pub tells-worked :
+    (a b c d e : Event) →
+    (told (cut false (d ∷ []) ∷ late (c ∷ []) ∷ late (b ∷ []) ∷ saved (a ∷ []) ∷ []) ≡ disconnect 1 ∷ disconnect 0 ∷ a ∷ [])
+    × (told (cut true (d ∷ []) ∷ late (c ∷ []) ∷ late (b ∷ []) ∷ saved (a ∷ []) ∷ []) ≡ disconnect 1 ∷ disconnect 0 ∷ d ∷ c ∷ b ∷ a ∷ [])
+    × (told (cut false [] ∷ late (e ∷ []) ∷ cut true (d ∷ []) ∷ saved (a ∷ []) ∷ []) ≡ disconnect 1 ∷ disconnect 0 ∷ disconnect 1 ∷ disconnect 0 ∷ d ∷ a ∷ [])
+unfolding telling tell
+tells-worked a b c d e = (refl, refl, refl)
+
 -- WHAT WAS ACKNOWLEDGED, to whichever partner: a frame that was heard as a request on connection c, was served, saved and then acknowledged, is in the history, on that connection
 pub acknowledged-stays :
     (g h : List Happening) (y : Net) (b : List ℕ) (room mode c group : ℕ) → longest ≤ room → heardIn y b ≡ Request mode c group →

@@ -50,6 +50,11 @@ module _ (s t : List ℕ) (m : Medium) (short : length t ≤ longest) where
       go true (made f) = one (nextOf n) (next-below n small) f (subst (Older (nextOf n)) (sym h) (last n s small refl))
   cut-safe set (two n small h o) (medium.two e d) = let g = two-goal m n s h o in absurd (omega arith)
 
+-- AT REST, before the first piece of whatever is saved next, the power may go too: the medium is as it was
+pub rest-cut : (s t : List ℕ) (m : Medium) → Ready s m → Broken false t m m
+rest-cut s t m (one n small h o) = medium.two (one-goal m n s h o .0) medium.before
+rest-cut s t m (two n small h o) = medium.one (two-goal m n s h o .0) medium.before
+
 -- LIVES: after any sequence of saves and cuts a unit starts with the last sheet whose mark was set
 pub lives : {s : List ℕ} {m y : Medium} {h : List Act} → Ready s m → AllFit h → Lives m h y → Ready (lastOf s h) y
 unfolding lastOf
