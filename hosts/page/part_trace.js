@@ -58,7 +58,7 @@ class TracePart {
         this.sheetSource = source(app, "trace", ["The dump at the start", "the dump at the start"], "sheet", (bytes, name) => this.setSheet(bytes, name, true), [...app.samples(), ["the sheet of the first part", () => app.sheet.slice()]]);
         this.traceSource = source(app, "trace", ["The recording, or a trace", "the recording"], "events", (bytes, name, what) => this.takeEvents(what ?? whatIs(app.proved, name, bytes)),
             [["the accident, with its dumps", () => this.accident()], ["what happened to the device", () => this.recorded()]]);
-        this.dumpSource = source(app, "trace", ["A dump taken afterwards, if there is one", "the dump afterwards"], "sheet", (bytes, name) => this.setDump(bytes, name), [["the device's sheet", () => app.device.sheet.slice()]]);
+        this.dumpSource = source(app, "trace", ["A dump afterwards, if there is one", "the dump afterwards"], "sheet", (bytes, name) => this.setDump(bytes, name), [["the device's sheet", () => app.device.sheet.slice()]]);
         this.sheetSource.box.append(means("dump"));
         this.traceSource.box.append(means("recording"));
         this.given = el("summary", {});
@@ -330,7 +330,8 @@ class TracePart {
             all.push(place);
             p = Math.max(p, place.at) + Math.max(1, place.length);
         }
-        const busy = all.filter(place => place.steps.length || place.refused.length || others.has(place.at));
+        // a count is named by every write of its elements, and is no place of theirs
+        const busy = all.filter((place, i) => place.steps.length || others.has(place.at) || (place.refused.length && !(property && i === 0)));
         return busy.length ? busy.map(place => placeHistory(place, others.get(place.at), told, this.ways())) : [el("p", {}, "No event has changed it, and none has asked for it in vain.")];
     }
 
