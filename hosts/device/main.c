@@ -199,6 +199,12 @@ static _Noreturn void wrong(const char *what, const char *word)
     exit(USAGE);
 }
 
+static _Noreturn void missing(const char *what)
+{
+    fprintf(stderr, "%s: %s is missing; --help says more\n", files_program, what);
+    exit(USAGE);
+}
+
 static uint32_t read_address(const char *word)
 {
     struct in_addr a;
@@ -227,6 +233,14 @@ static uint16_t read_individual(const char *word)
     return (uint16_t)(a << 12 | l << 8 | d);
 }
 
+/* A search shows so many bytes of a name: what would be cut is refused. */
+static const char *read_name(const char *word)
+{
+    if (strlen(word) >= DATAGRAM_NAME)
+        wrong("--name takes up to 29 bytes, not", word);
+    return word;
+}
+
 /* The value of the option that this word is, in it or in the word after it; NULL if it is another. */
 static const char *value_of(const char *option, char ***word)
 {
@@ -240,9 +254,23 @@ static const char *value_of(const char *option, char ***word)
     return *++*word;
 }
 
+/* An option is given once: of two values one would be passed over. */
+static void none_twice(char **words)
+{
+    static const char *const options[] = { "--port", "--listen", "--control", "--addresses", "--name" };
+    for (size_t i = 0; i < sizeof options / sizeof *options; i++) {
+        int times = 0;
+        for (char **word = words; *word != NULL; word++)
+            times += value_of(options[i], &word) != NULL;
+        if (times > 1)
+            wrong("there are two values of", options[i]);
+    }
+}
+
 static wishes read_wishes(char **word)
 {
     wishes w = { .name = "kelindap", .own = { LOOPBACK, KNX_PORT }, .first_address = -1 };
+    none_twice(word);
     for (const char *value; *word != NULL; word++)
         if ((value = value_of("--port", &word)) != NULL)
             w.own.port = read_port(value);
@@ -253,7 +281,7 @@ static wishes read_wishes(char **word)
         else if ((value = value_of("--addresses", &word)) != NULL)
             w.first_address = read_individual(value);
         else if ((value = value_of("--name", &word)) != NULL)
-            w.name = value;
+            w.name = read_name(value);
         else if (**word == '-')
             wrong("there is no option", *word);
         else if (w.sheet != NULL)
@@ -261,7 +289,7 @@ static wishes read_wishes(char **word)
         else
             w.sheet = *word;
     if (w.sheet == NULL)
-        wrong("what is missing is", "SHEET");
+        missing("SHEET");
     return w;
 }
 
@@ -295,9 +323,9 @@ static int ctl(char **words)
         given = name;
     }
     if (given == NULL)
-        wrong("what is missing is", "SHEET, or --control SOCKET");
+        missing("SHEET, or --control SOCKET,");
     if (words[1] == NULL)
-        wrong("what is missing is", "COMMAND");
+        missing("COMMAND");
     return control_ask(given, words + 1);
 }
 
@@ -369,7 +397,7 @@ static int serve(wishes w)
 int main(int count, char **words)
 {
     if (count < 2)
-        wrong("what is missing is", "SHEET");
+        missing("SHEET");
     if (strcmp(words[1], "--help") == 0)
         return show_help();
     if (strcmp(words[1], "--version") == 0) {

@@ -14,7 +14,11 @@ const wordsOf = text => text.match(/\P{White_Space}+/gu) ?? [];
 /** @param {string} text */
 const trimStart = text => text.replace(/^\p{White_Space}+/u, "");
 /** @param {string} text */
-const trimEnd = text => text.slice(0, text.length - (/\p{White_Space}+$/u.exec(text) ?? [""])[0].length);
+function trimEnd(text) {
+    let end = text.length;
+    while (end > 0 && /\p{White_Space}/u.test(text[end - 1])) end--;
+    return text.slice(0, end);
+}
 /** @param {string} text */
 const trim = text => trimStart(trimEnd(text));
 // Letters of ASCII alone.
@@ -77,7 +81,9 @@ function utf8(bytes) {
     try {
         return new TextDecoder("utf-8", { fatal: true, ignoreBOM: true }).decode(bytes);
     } catch {
-        let [good, bad] = [0, bytes.length + 1];
+        let good = 0, bad = 1;
+        while (bad <= bytes.length && upTo(bad) !== null) [good, bad] = [bad, 2 * bad];
+        bad = Math.min(bad, bytes.length + 1);
         while (bad - good > 1) {
             const middle = (good + bad) >> 1;
             if (upTo(middle) === null) bad = middle;

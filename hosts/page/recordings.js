@@ -26,13 +26,12 @@ const Recordings = (() => {
     function read(form, text, reverse) {
         const items = form === "hex" ? lines(text, hexLine) : form === "ets" ? ets(text) : lines(text, knxtoolLine);
         const { frames, notes } = joined(reverse ? items.reverse() : items), { back, falls } = Order.judged(frames.map(frame => frame.time));
-        notes.push(...Gaps.byStatus(frames));
-        notes.sort((a, b) => a.before - b.before);
+        const all = notes.concat(Gaps.byStatus(frames)).sort((a, b) => a.before - b.before);
         if (falls) {
             const instead = reverse ? "it has the oldest first, and is read without --reverse" : "it has the newest first, and --reverse takes it so";
             throw new Fault(`line ${frames[back[0]].line}: the times fall throughout: ${instead}`);
         }
-        return { frames, notes, back };
+        return { frames, notes: all, back };
     }
 
     // Frames and gaps of what stands in a recording.

@@ -34,10 +34,11 @@ def words():
     check("ctl --help", run("ctl", "--help"), (0, text, ""))
     version = subprocess.run([SHEET_PROGRAM, "--version"], capture_output=True, text=True).stdout.split()[-1]
     check("--version", run("--version"), (0, "kelindap-device of kelindap %s\n" % version, ""))
-    for part, line in (('"SHEET"', ()), ('"--prot"', ("s", "--prot", "1")), ('"70000"', ("s", "--port", "70000")), ('"x"', ("s", "--port=x",)),
+    for part, line in ((": SHEET is missing;", ()), ('"--prot"', ("s", "--prot", "1")), ('"70000"', ("s", "--port", "70000")), ('"x"', ("s", "--port=x",)),
                        ('"0.0.0.0"', ("s", "--listen", "0.0.0.0")), ('"224.0.0.1"', ("s", "--listen", "224.0.0.1")), ('"lo"', ("s", "--listen", "lo")),
                        ('"--control"', ("s", "--control")), ('"1.1.249"', ("s", "--addresses", "1.1.249")), ('"t"', ("s", "t")),
-                       ('"SHEET, or --control SOCKET"', ("ctl",)), ('"COMMAND"', ("ctl", TOP)), ('"--x"', ("ctl", "--x", "state"))):
+                       (": SHEET, or --control SOCKET, is missing;", ("ctl",)), (": COMMAND is missing;", ("ctl", TOP)), ('"--x"', ("ctl", "--x", "state")),
+                       ('two values of "--port"', ("s", "--port", "1", "--port=2")), ("up to 29 bytes", ("s", "--name", "a" * 30))):
         refused("words " + " ".join(line), 2, part, *line)
     refused("no sheet", 1, "none: can't be read: No such file", "/tmp/none")
     refused("ctl without a sheet", 2, "none: can't be read: No such file", "ctl", "/tmp/none", "state")

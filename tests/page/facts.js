@@ -15,9 +15,13 @@ function accident(p) {
     expect("its trace", made.traces.map(trace => [trace.name, trace.events.length]), [["laptop.trace", 9]]);
     expect("its files", made.files.map(one => one.name), ["laptop.trace", "laptop.trace.times", "laptop.trace.evidence"]);
     const told = p.explain(p.proved, { before: { name: "before.sheet", bytes: before }, traces: made.traces, after: { name: "after.sheet", bytes: after } });
-    // line by line what docs/TRACE.md has of it
-    const document = read("docs/TRACE.md").split("$ build/trace explain before.sheet laptop.trace --final after.sheet\n")[1].split("\nThe technician")[0];
-    expect("the accident's lines", told.lines, document.trimEnd().split("\n").map(line => line.slice(4)));
+    // line by line what docs/TRACE.md has of it, and of the other morning
+    const document = read("docs/TRACE.md"), due = command => document.split(`    $ build/trace ${command}\n`)[1].split(/\n(?! {4}[^$]|\n)/)[0].trimEnd().split("\n").map(line => line.slice(4));
+    expect("the accident is made", made.said, due("make hex examples/accident/laptop.hex laptop.trace --sheet before.sheet"));
+    expect("the accident's lines", told.lines, due("explain before.sheet laptop.trace --final after.sheet"));
+    const stopped = p.makeTrace(p.proved, { name: "stopped.xml", bytes: file("examples/accident/stopped.xml") }, before);
+    expect("the other morning is made", stopped.said, due("make ets examples/accident/stopped.xml stopped.trace --sheet before.sheet"));
+    expect("its lines", p.explain(p.proved, { before: { name: "before.sheet", bytes: before }, traces: stopped.traces }).lines, due("explain before.sheet stopped.trace"));
     const [height, group] = told.changes;
     expect("the height", picked(height, "at", "length", "name", "words", "location", "first", "last", "firstNumber", "lastNumber", "doubts", "left"),
         { at: 64, length: 2, name: "property 1/51 element 1", words: ["property 1/51 element 1: 1000 → 1020"], location: true, first: "1000", last: "1020", firstNumber: 1000, lastNumber: 1020, doubts: [], left: [] });
@@ -127,6 +131,10 @@ function refused(p, before, made) {
     expect("a cut sheet", explain(before.slice(0, 60)), "x: S4: the head states 69 bytes, the sheet has 60");
     expect("a trace as the dump", explain(before, trace.bytes), "y: this is a trace, and a sheet is wanted");
     expect("a cut dump is told", explain(before, before.slice(0, 60)), null);
+    // what is long and odd does not hold the page up
+    const long = { blanks: `${" ".repeat(300000)}x\n`, digits: "2".repeat(300001), lost: Array.from({ length: 150000 }, (_, i) => `(${(8 | (i & 7)).toString(16)}, ${i}) CC\n`).join(""), tags: "<a>".repeat(70000) };
+    const faults = Object.entries(long).map(([name, text]) => [name, make(name, bytes(text), before, { form: name === "lost" ? "knxtool" : name === "tags" ? "ets" : "hex" })]);
+    expect("long files", faults, [["blanks", "blanks: line 1, column 300001: no hex digit"], ["digits", "digits: line 1, column 300002: half a byte"], ["lost", null], ["tags", "tags: line 1, column 196: more than 64 elements in each other"]]);
 }
 
 function facts(p) {

@@ -43,15 +43,16 @@ function saidOf(p, { form, text, sheet, dump, all }) {
     return [...made.said.map(line => line + "\n"), ...sides.map(file => decode(file.bytes)), ...told.lines.map(line => line + "\n")].join("");
 }
 
-// what the page says of another file of RANDOM, or what is wrong with it
+// what the page says of another file of RANDOM, or what is wrong with it; a text as it is, also with a mark in front
+const raw = of => new TextDecoder("utf-8", { ignoreBOM: true }).decode(of);
 const OTHERS = {
     trace: (p, of) => `${p.Events.read(of).length} events`,
     sheet: (p, of) => p.brokenRule(of)?.text ?? "good",
-    "sheet text": (p, of) => hex(p.SheetText.bytes(p.textOf(of))),
-    times: (p, of, trace) => p.Times.write(trace, p.Times.read(p.textOf(of), trace, trace[0] * 256 + trace[1])) ?? "",
-    evidence: (p, of, trace) => p.Evidence.read(p.textOf(of), trace, trace[0] * 256 + trace[1]).write(trace),
+    "sheet text": (p, of) => hex(p.SheetText.bytes(raw(of))),
+    times: (p, of, trace) => p.Times.write(trace, p.Times.read(raw(of), trace, trace[0] * 256 + trace[1])) ?? "",
+    evidence: (p, of, trace) => p.Evidence.read(raw(of), trace, trace[0] * 256 + trace[1]).write(trace),
     "trace text": (p, of) => {
-        const all = p.Texts.events(p.textOf(of)), bytes = p.traceOf(all.map(([event]) => event));
+        const all = p.Texts.events(raw(of)), bytes = p.traceOf(all.map(([event]) => event));
         return `${hex(bytes)}\n${p.Times.write(bytes, all.map(one => one[1])) ?? ""}`;
     },
     kind: (p, of) => p.Kinds.NAMES[p.Kinds.of(of)] ?? "nobody can tell",

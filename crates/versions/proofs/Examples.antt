@@ -70,19 +70,26 @@ unfolding later left saveOutcome saveNumber saved settingsOf laid headOf rowOf t
     entry keyOf floor bodyAt bodyEnd startOf reached sixBits first breach splice numAt bytesOf
 next-save = (refl, refl)
 
--- A FULL STORE of eight versions without a byte, the last number given being a and b; and a version with other levels, with a count above its maximum, with both
-unfoldable pub eight : ℕ → ℕ → List ℕ
-eight a b =
-    0x00 ∷ 0x08 ∷ a ∷ b ∷ 0x00 ∷ 0x00 ∷ 0x00 ∷ 0x00 ∷
-    0x00 ∷ 0x01 ∷ 0x00 ∷ 0x01 ∷ 0x00 ∷ 0x48 ∷ 0x00 ∷ 0x00 ∷
-    0x00 ∷ 0x02 ∷ 0x00 ∷ 0x01 ∷ 0x00 ∷ 0x48 ∷ 0x00 ∷ 0x00 ∷
-    0x00 ∷ 0x03 ∷ 0x00 ∷ 0x01 ∷ 0x00 ∷ 0x48 ∷ 0x00 ∷ 0x00 ∷
-    0x00 ∷ 0x04 ∷ 0x00 ∷ 0x01 ∷ 0x00 ∷ 0x48 ∷ 0x00 ∷ 0x00 ∷
-    0x00 ∷ 0x05 ∷ 0x00 ∷ 0x01 ∷ 0x00 ∷ 0x48 ∷ 0x00 ∷ 0x00 ∷
-    0x00 ∷ 0x06 ∷ 0x00 ∷ 0x01 ∷ 0x00 ∷ 0x48 ∷ 0x00 ∷ 0x00 ∷
-    0x00 ∷ 0x07 ∷ 0x00 ∷ 0x01 ∷ 0x00 ∷ 0x48 ∷ 0x00 ∷ 0x00 ∷
-    0x00 ∷ 0x08 ∷ 0x00 ∷ 0x01 ∷ 0x00 ∷ 0x48 ∷ 0x00 ∷ 0x00 ∷ []
+-- A STORE of eight versions without a byte and what stands behind them: how many are said to be kept, the last number given being a and b, and where the bodies begin; full, and with a ninth
+unfoldable pub eight : (n a b at : ℕ) → List ℕ → List ℕ
+eight n a b at rest =
+    0x00 ∷ n ∷ a ∷ b ∷ 0x00 ∷ 0x00 ∷ 0x00 ∷ 0x00 ∷
+    0x00 ∷ 0x01 ∷ 0x00 ∷ 0x01 ∷ 0x00 ∷ at ∷ 0x00 ∷ 0x00 ∷
+    0x00 ∷ 0x02 ∷ 0x00 ∷ 0x01 ∷ 0x00 ∷ at ∷ 0x00 ∷ 0x00 ∷
+    0x00 ∷ 0x03 ∷ 0x00 ∷ 0x01 ∷ 0x00 ∷ at ∷ 0x00 ∷ 0x00 ∷
+    0x00 ∷ 0x04 ∷ 0x00 ∷ 0x01 ∷ 0x00 ∷ at ∷ 0x00 ∷ 0x00 ∷
+    0x00 ∷ 0x05 ∷ 0x00 ∷ 0x01 ∷ 0x00 ∷ at ∷ 0x00 ∷ 0x00 ∷
+    0x00 ∷ 0x06 ∷ 0x00 ∷ 0x01 ∷ 0x00 ∷ at ∷ 0x00 ∷ 0x00 ∷
+    0x00 ∷ 0x07 ∷ 0x00 ∷ 0x01 ∷ 0x00 ∷ at ∷ 0x00 ∷ 0x00 ∷
+    0x00 ∷ 0x08 ∷ 0x00 ∷ 0x01 ∷ 0x00 ∷ at ∷ 0x00 ∷ 0x00 ∷ rest
 
+unfoldable pub full : ℕ → ℕ → List ℕ
+full a b = eight 0x08 a b 0x48 []
+
+unfoldable pub nine : List ℕ
+nine = eight 0x09 0x00 0x09 0x50 (0x00 ∷ 0x09 ∷ 0x00 ∷ 0x01 ∷ 0x00 ∷ 0x50 ∷ 0x00 ∷ 0x00 ∷ [])
+
+-- a version with other levels, with a count above its maximum, with both
 unfoldable pub levelled : List ℕ
 levelled = splice twice 36 (0x30 ∷ [])
 
@@ -95,9 +102,9 @@ both = splice levelled 32 (0x00 ∷ 0x03 ∷ [])
 -- EACH REFUSAL OF A SAVE, alone or before those behind it: 4 and 30, 14 and 30, 30, 31, 31 and 32 and 33, 32 and 33, 33
 pub saves-worked :
     saveOutcome [] [] ∷ saveOutcome (splice sample 0 (0x01 ∷ [])) [] ∷ saveOutcome sample [] ∷ saveOutcome sample (splice empty 2 (0xFF ∷ 0xFF ∷ [])) ∷
-    saveOutcome sample (eight 0xFF 0xFF) ∷ saveOutcome sample (eight 0x00 0x08) ∷ saveOutcome later twice ∷ []
+    saveOutcome sample (full 0xFF 0xFF) ∷ saveOutcome sample (full 0x00 0x08) ∷ saveOutcome later twice ∷ []
     ≡ 4 ∷ 14 ∷ 30 ∷ 31 ∷ 31 ∷ 32 ∷ 33 ∷ []
-unfolding eight sample later empty once twice saveOutcome saveNumber saveStore saved settingsOf laid headOf rowOf tableOf bodiesOf versionAt versionsFrom kept
+unfolding eight full sample later empty once twice saveOutcome saveNumber saveStore saved settingsOf laid headOf rowOf tableOf bodiesOf versionAt versionsFrom kept
     rowsRule allRows storeRule isStore verdictOf ruleIn walkRule restRule entriesRule bodiesRule entryRule bodyRule bodyDemands entryDemands
     entry keyOf floor bodyAt bodyEnd startOf reached sixBits first breach splice numAt bytesOf
 saves-worked = refl
@@ -118,12 +125,12 @@ pub removes-worked : removeOutcome [] 3 ∷ removeOutcome twice 3 ∷ [] ≡ 30 
 unfolding twice removeOutcome has isKept versionAt versionsFrom kept rowsRule allRows storeRule isStore breach splice numAt bytesOf
 removes-worked = refl
 
--- OF A STORE: eight versions are good, nine are not; number 1 is good, number 0 is not; eight bytes are enough, seven are not
+-- OF A STORE: eight versions are good, nine are not, all else being right; number 1 is good, number 0 is not; eight bytes are enough, seven are not
 pub stores-worked :
-    storeRule (eight 0x00 0x08) ∷ storeRule (splice (eight 0x00 0x09) 1 (0x09 ∷ [])) ∷ storeRule once ∷ storeRule (splice once 8 (0x00 ∷ 0x00 ∷ [])) ∷
+    storeRule (full 0x00 0x08) ∷ storeRule nine ∷ storeRule once ∷ storeRule (splice once 8 (0x00 ∷ 0x00 ∷ [])) ∷
     storeRule (replicate 8 0) ∷ storeRule (replicate 7 0) ∷ []
     ≡ 0 ∷ 30 ∷ 0 ∷ 30 ∷ 0 ∷ 30 ∷ []
-unfolding eight once rowsRule allRows storeRule breach splice numAt bytesOf
+unfolding eight full nine once rowsRule allRows storeRule breach splice numAt bytesOf
 stores-worked = refl
 
 -- AND A BUFFER of 32,768 bytes is good, one byte more is too long

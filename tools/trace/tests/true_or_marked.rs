@@ -506,10 +506,8 @@ fn held(bus: &Bus, s: &Spoiled, counts: &mut Counts) -> Result<(), String> {
                     counts.marked += 1;
                     counts.marked_and_true += usize::from(right);
                     *counts.by_mark.entry(trace::sentences::kind(doubt)).or_default() += 1;
-                } else if !right {
-                    if !excused(&|history| is_true(&claim, history), counts) {
-                        return Err(format!("{claim:?} is not true, and not marked"));
-                    }
+                } else if !right && !excused(&|history| is_true(&claim, history), counts) {
+                    return Err(format!("{claim:?} is not true, and not marked"));
                 }
             }
         }
