@@ -1,11 +1,10 @@
 // The page's own example: a tank that ran dry (docs/TRACE.md). Two dumps, and a recording of the morning between them.
 
-/** @param {Proved} proved @returns {{ before: Named, after: Named, recording: Named }} */
+/** @param {Proved} proved @returns {{ before: WhatIs, after: WhatIs, recording: WhatIs }} */
 function accidentFiles(proved) {
-    const { before, after, recording } = MADE.accident, text = new TextEncoder();
     /** @param {[string, string]} file */
-    const sheet = ([name, words]) => ({ name, bytes: whatIs(proved, name, text.encode(words)).bytes });
-    return { before: sheet(before), after: sheet(after), recording: { name: recording[0], bytes: text.encode(recording[1]) } };
+    const file = ([name, text]) => whatIs(proved, name, new TextEncoder().encode(text));
+    return { before: file(MADE.accident.before), after: file(MADE.accident.after), recording: file(MADE.accident.recording) };
 }
 
 // The accident as a story: what is said of events, values and levels is what the explanation says of these files.

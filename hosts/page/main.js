@@ -53,7 +53,8 @@ class App {
     take(files, place) {
         const { news, part } = new Taking(this, place).take(files);
         byId("news").replaceChildren(...news.map(({ text, bad }) => el("p", { class: bad ? "bad" : "" }, text)));
-        if (!place) this.tracePart.fold();
+        if (!place && part === "trace") this.tracePart.fold();
+        if (!place && part === "two") this.twoPart.fold();
         if (part && part !== this.part) this.open(part);
         if (part && !place) scrollTo(0, 0);
         return !news.some(({ bad }) => bad);
@@ -63,10 +64,10 @@ class App {
     accident() {
         const { before, after } = accidentFiles(this.proved), { tracePart } = this;
         this.setSheet(before.bytes, before.name);
-        for (const [side, file] of [before, after].entries()) this.twoPart.sources[side].put({ ...file, kind: "sheet", words: "a sheet as text", fault: null });
-        const recording = tracePart.accident();
-        tracePart.traceSource.put(whatIs(this.proved, recording.name, recording.bytes));
+        for (const [side, file] of [before, after].entries()) this.twoPart.sources[side].put(file);
+        tracePart.traceSource.put(tracePart.accident());
         tracePart.fold();
+        this.twoPart.fold();
     }
 
     /** @param {Uint8Array} bytes @param {string} name @param {boolean} [given] by a person */

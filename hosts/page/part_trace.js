@@ -32,6 +32,7 @@ class TracePart {
         this.verdict = el("p", { class: "verdict", role: "status" });
         this.turn = button("Take it in reverse", () => this.turned());
         this.turn.hidden = true;
+        this.convert = button("Convert the dump to edition 2", () => this.converted());
         this.making = el("details", { class: "making" });
         this.event = el("input", { type: "number", min: 0, value: 0, autocomplete: "off" });
         this.event.addEventListener("change", () => this.go(Number(this.event.value)));
@@ -58,13 +59,13 @@ class TracePart {
         this.sheetSource = source(app, "trace", ["The dump at the start", "the dump at the start"], "sheet", (bytes, name) => this.setSheet(bytes, name, true), [...app.samples(), ["the sheet of the first part", () => app.sheet.slice()]]);
         this.traceSource = source(app, "trace", ["The recording, or a trace", "the recording"], "events", (bytes, name, what) => this.takeEvents(what ?? whatIs(app.proved, name, bytes)),
             [["the accident, with its dumps", () => this.accident()], ["what happened to the device", () => this.recorded()]]);
-        this.dumpSource = source(app, "trace", ["A dump taken afterwards, if there is one", "the dump afterwards"], "sheet", (bytes, name) => this.setDump(bytes, name), [["the device's sheet", () => app.device.sheet.slice()]]);
+        this.dumpSource = source(app, "trace", ["A dump afterwards, if there is one", "the dump afterwards"], "sheet", (bytes, name) => this.setDump(bytes, name), [["the device's sheet", () => app.device.sheet.slice()]]);
         this.sheetSource.box.append(means("dump"));
         this.traceSource.box.append(means("recording"));
         this.given = el("summary", {});
         this.boxes = el("details", { class: "given", open: true }, this.given, el("div", { class: "three" }, this.sheetSource.box, this.traceSource.box, this.dumpSource.box));
         root.append(el("h2", {}, "What happened"), means("trace"), this.boxes,
-            this.verdict, this.turn, this.making, this.explanation, this.body);
+            this.verdict, this.turn, this.convert, this.making, this.explanation, this.body);
     }
 
     // ---- what is given ----
@@ -124,7 +125,8 @@ class TracePart {
             const side = (kind, file) => sides.find(what => what.kind === kind && (files.length === 1 || what.name === `${file.name}.${kind}`));
             return { traces: files.map(file => readTrace(proved, file, { times: side("times", file), evidence: side("evidence", file) })), made: null };
         }
-        if (!sheet && first.kind !== "trace text") return { traces: [], made: null };
+        // without a good sheet it waits for one
+        if (first.kind !== "trace text" && (!sheet || proved.check(sheet) !== 0)) return { traces: [], made: null };
         const made = makeTrace(proved, first, sheet, { reverse });
         if (made.refused !== null) {
             if (made.reversible && !reverse) {
@@ -149,6 +151,14 @@ class TracePart {
         this.traceSource.box.querySelector("input")?.focus(); // the button that was pressed is gone
     }
 
+    /** An old dump, of edition 1: converted, it answers as it did before. */
+    converted() {
+        const sheet = this.sheet.slice();
+        this.app.proved.convert(sheet);
+        this.setSheet(sheet, this.sheetName, true);
+        this.given.focus(); // the button that was pressed is gone
+    }
+
     /** @param {WhatIs} what times or evidence */
     takeSide(what) {
         if (this.files[0]?.kind !== "trace") throw new Fault("there is no trace yet that it could be of");
@@ -157,22 +167,25 @@ class TracePart {
         this.load(made);
     }
 
-    // Whether of two dumps the second is the earlier: that from which the events lead nearer to the other, at fewer places; null if it is not seen.
+    // Whether of two dumps the second is the earlier, and why: that from which the events lead nearer to the other, at fewer places; of
+    // dumps of two layouts that to which more events are.
     /** @param {WhatIs} a @param {WhatIs} b @param {WhatIs[]} events */
-    turnedRound(a, b, events) {
+    order(a, b, events) {
         /** @param {WhatIs} x @param {WhatIs} y */
-        const apart = (x, y) => {
+        const led = (x, y) => {
             try {
                 const { traces } = this.tried(events.length ? events : this.files, [], this.reverse, x.bytes), playing = new Playing(this.app.proved, x.bytes, traces.map(trace => trace.bytes));
-                const last = playing.after(playing.events.length).sheet;
-                return this.app.proved.check(last) || this.app.proved.check(y.bytes) ? Infinity : differences(last, y.bytes).length;
+                const last = playing.after(playing.events.length).sheet, good = this.app.proved.check(last) === 0 && this.app.proved.check(y.bytes) === 0;
+                return { count: playing.events.length, apart: good && last.length === y.bytes.length ? differences(last, y.bytes).length : Infinity };
             } catch (error) {
-                if (error instanceof Fault) return Infinity;
+                if (error instanceof Fault) return { count: 0, apart: Infinity };
                 throw error;
             }
         };
-        const [there, back] = [apart(a, b), apart(b, a)];
-        return there === back ? null : back < there;
+        const [there, back] = [led(a, b), led(b, a)];
+        if (there.apart !== back.apart) return { turned: back.apart < there.apart, why: ": from it the events lead nearer to the other than back" };
+        if (there.count !== back.count) return { turned: back.count > there.count, why: ": more of the recording is for it than for the other" };
+        return { turned: false, why: ", since it came first: which is the earlier the events don't show, and they can be exchanged below" };
     }
 
     // What was given anywhere on the page is explained at once, and the places for files make room for it.
@@ -238,11 +251,13 @@ class TracePart {
 
     show() {
         const { rule, text } = verdictOf(this.app.proved, this.sheet), { refusal, events } = this.playing, [file] = this.files;
-        const waits = file && !this.known && file.kind !== "trace text";
+        const waits = file && file.kind !== "trace text" && (!this.known || (rule !== 0 && file.kind !== "trace"));
         this.body.hidden = !this.trace || refusal !== 0 || Boolean(waits);
         this.verdict.className = `verdict ${this.fault || (this.trace && refusal) || (file && rule) || waits ? "bad" : "good"}`;
         const sheet = rule ? `The sheet: ${text}; no request on it does anything.` : "";
-        this.verdict.textContent = waits ? `${file.name} is there. Now the dump of the device as it was at its start: without it nobody knows which of this was for the device, and what it changed.`
+        const wanted = this.known ? `${this.sheetName} as the dump at the start can't be used: ${text}.` : "Now the dump of the device as it was at its start: without it nobody knows which of this was for the device, and what it changed.";
+        this.convert.hidden = !(this.known && file && rule === OLD);
+        this.verdict.textContent = waits ? `${file.name} is there. ${wanted}`
             : this.trace && refusal ? `The trace is refused: ${outcomeText(refusal)}.` : this.fault ? `${file?.name}: ${this.fault}` : !file ? "" : `${counted(events.length, "event")}. ${sheet}`.trim();
         this.given.textContent = `The files${[this.known && this.sheetName, ...this.files.map(of => of.name), this.dump && this.dumpName].filter(Boolean).map((name, i) => `${i ? ", " : ": "}${name}`).join("")}`;
         const said = this.made?.said ?? [];
@@ -330,7 +345,8 @@ class TracePart {
             all.push(place);
             p = Math.max(p, place.at) + Math.max(1, place.length);
         }
-        const busy = all.filter(place => place.steps.length || place.refused.length || others.has(place.at));
+        // a count is named by every write of its elements, and is no place of theirs
+        const busy = all.filter((place, i) => place.steps.length || others.has(place.at) || (place.refused.length && !(property && i === 0)));
         return busy.length ? busy.map(place => placeHistory(place, others.get(place.at), told, this.ways())) : [el("p", {}, "No event has changed it, and none has asked for it in vain.")];
     }
 

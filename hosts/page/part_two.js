@@ -16,7 +16,7 @@ class TwoPart {
         for (const place of this.sources) place.tell(MADE.sheets[0][0], app.sheet);
         root.append(
             el("h2", {}, "Two sheets side by side"), means("two", "dump"),
-            el("div", { class: "pair" }, ...this.sources.map(place => place.box)),
+            this.boxes = el("details", { class: "given", open: true }, this.files = el("summary"), el("div", { class: "pair" }, ...this.sources.map(place => place.box))),
             this.view,
             el("h3", {}, "Byte by byte"),
             labelled("Only rows that differ", this.only, "check"),
@@ -28,10 +28,17 @@ class TwoPart {
         this.sheets[side] = sheet.slice();
         this.names[side] = name;
         this.given[side] = false;
+        this.sources[side].tell(this.names[side], sheet);
         this.show();
     }
 
+    // What was given anywhere on the page is compared at once, and the places for files make room for it.
+    fold() {
+        if (this.given[0] && this.given[1]) this.boxes.open = false;
+    }
+
     show() {
+        this.files.textContent = `The files: ${this.names.join(", ")}`;
         const [a, b] = this.sheets, verdicts = this.sheets.map(sheet => verdictOf(this.app.proved, sheet));
         // by meaning, if both are accepted, or old
         const known = verdicts.every(v => v.rule === 0 || v.rule === OLD), lines = known ? differences(a, b) : [];

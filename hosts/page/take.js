@@ -33,6 +33,18 @@ function whatItIs(proved, file) {
 /** @param {WhatIs} what @param {Fault} error */
 const faultOf = (what, { message }) => (message.startsWith(`${what.name}: `) ? message.slice(what.name.length + 2) : message);
 
+// Why times or evidence are not of a trace; nothing if they are.
+/** @param {Proved} proved @param {WhatIs} trace @param {WhatIs} side */
+function sideFault(proved, trace, side) {
+    try {
+        readTrace(proved, trace, { [side.kind]: side });
+        return "";
+    } catch (error) {
+        if (error instanceof Fault) return faultOf(side, error);
+        throw error;
+    }
+}
+
 // Why a file is not taken, in a line. Of what was pasted, or came where a trace is wanted, the nearer reason too.
 /** @param {App} app @param {WhatIs} what @param {Place_ | null} place */
 function notTaken(app, what, place) {
@@ -48,6 +60,10 @@ function notTaken(app, what, place) {
     };
     const fault = what.fault && !what.words.includes(what.fault) ? `; ${faultOf(what, new Fault(what.fault))}` : "";
     const digits = what.name === "pasted" && what.kind === "text" ? reason(() => unhex(new TextDecoder().decode(what.bytes).slice(0, 4000))) : "";
+    // a text most lines of which have a frame is a recording with a fault
+    const frames = what.kind === "text" ? new TextDecoder().decode(what.bytes.subarray(0, 1 << 16)).split("\n").filter(line => /^[^#]*[0-9a-f]/i.test(line)) : [];
+    const meant = frames.length > 0 && 2 * frames.filter(line => /\b(29|2e|11)[0-9a-f]{14}/i.test(line)).length > frames.length, made = meant ? makeTrace(app.proved, what, app.sheet, { form: "hex" }) : null;
+    if (made?.refused) return `${what.name}: a recording in hex; ${faultOf(what, new Fault(made.refused))}: ${STAYS}`;
     const more = digits || (place?.wants === "events" && what.kind === "unknown" && what.bytes.length ? reason(() => readTrace(app.proved, what)) : "") || fault;
     const seems = what.kind === "unknown" ? SEEMS.find(([begin]) => hex(what.bytes.subarray(0, 4)).startsWith(begin)) : undefined;
     return seems ? `${what.name}: this seems to be ${seems[1]}, no sheet, store, trace or recording: ${STAYS}` : `${what.name}: ${what.words}${more}: ${STAYS}`;
@@ -136,10 +152,11 @@ class Taking {
         const { app, place } = this, { tracePart } = app, { sheetSource, dumpSource, traceSource } = tracePart;
         for (const what of sheets.slice(2)) this.refuse(`${what.name}: ${what.words}; events lie between two dumps, and there are more: ${STAYS}`);
         let [first, second] = sheets, more = "";
+        [events, sides] = this.together(events, sides);
         if (first && second) {
-            const turned = tracePart.turnedRound(first, second, events);
+            const { turned, why } = tracePart.order(first, second, events);
             if (turned) [first, second] = [second, first];
-            more = turned === null ? ", since it came first: which is the earlier is not seen from the events, and they can be exchanged below" : ": from it the events lead nearer to the other than back";
+            more = why;
         }
         if (events.length) tracePart.hold(events, sides);
         if (second) {
@@ -153,6 +170,20 @@ class Taking {
             const [one, ...others] = events;
             this.put(one, traceSource, others.length ? `, and behind it ${others.map(what => what.name).join(", ")}` : "");
         } else if (sides.length) this.sides(sides);
+    }
+
+    // What can be explained at once: one recording, or traces with the side files that are of them.
+    /** @param {WhatIs[]} events @param {WhatIs[]} sides @returns {[WhatIs[], WhatIs[]]} */
+    together(events, sides) {
+        const traces = events.filter(what => what.kind === "trace"), taken = traces.length ? traces : events.slice(0, 1);
+        for (const what of events) if (!taken.includes(what)) this.refuse(`${what.name}: ${what.words}; one recording is explained at a time, or traces: ${STAYS}`);
+        if (!taken.length) return [taken, sides];
+        const fit = sides.filter(side => {
+            const faults = traces.map(trace => sideFault(this.app.proved, trace, side)), why = traces.length ? faults.find(fault => fault !== "") ?? "" : "a recording has its own";
+            if (why && !faults.includes("")) this.refuse(`${side.name}: ${side.words}; ${why}: ${STAYS}`);
+            return faults.includes("");
+        });
+        return [taken, fit];
     }
 
     /** The sheets that a person gave in other parts, if there are any. */

@@ -143,15 +143,43 @@ async function files(b, url) {
     await b.click("=Take it in reverse");
     await b.until(`app.tracePart.told`);
     has("taken in reverse", await b.run(text("#trace .explanation")), "property 1/51 element 1: 1000 → 1020");
-    // a recording of more events than a trace has: several traces, played one after the other
+    // what does not go together: two recordings, the times of another trace, a line that is no frame, dumps of two layouts; an old dump
+    const made = await b.run(`makeTrace(app.proved, accidentFiles(app.proved).recording, accidentFiles(app.proved).before.bytes).files.map(f => [f.name, hex(f.bytes)])`), news_ = () => b.run(text("#news"));
+    const stopped = b.file("stopped.xml", accident("stopped.xml")), oldSheet = b.file("old.bin", Uint8Array.of(1, ...sample.slice(1)));
+    await open();
+    await b.drop("#start h2", one, recording, stopped);
+    await part("trace");
+    has("two recordings", await news_(), "stopped.xml: a recording of ETS, 11 frames; one recording is explained at a time, or traces: it was not taken");
+    await open();
+    await b.drop("#start h2", one, b.file("a.trace", played.trace), b.file("laptop.trace.times", Buffer.from(made.find(f => f[0].endsWith(".times"))[1], "hex")));
+    await part("trace");
+    has("the times of another trace", await news_(), "line 1: it is not of this trace: it was not taken");
+    expect("the trace is there", await b.run(`app.tracePart.told.events.length`), 59);
+    await open();
+    await b.drop("#start h2", b.file("bad.hex", accident("laptop.hex").toString().replace("43d10022222222", "43d1002222222z")));
+    await b.until(`document.querySelector("#news").childElementCount > 0`);
+    has("a line that is no frame", await news_(), "bad.hex: a recording in hex; line 5, column 56: no hex digit: it was not taken");
+    await open();
+    await b.drop("#start h2", b.file("pump.bin", pump), one, recording);
+    await part("trace");
+    expect("dumps of two layouts", await b.run(`[app.tracePart.sheetName, app.tracePart.told.final.kind]`), ["before.txt", "layout"]);
+    holds("few lines", await b.run(`document.querySelectorAll("#trace .final li").length <= 9`));
+    await open();
+    await b.drop("#start h2", oldSheet, recording);
+    await part("trace");
+    has("an old dump", await b.run(text("#trace > .verdict")), "old.bin as the dump at the start can't be used: a sheet of edition 1");
+    await b.click("=Convert the dump to edition 2");
+    expect("converted, it is played on", await b.run(`app.tracePart.told.events.length`), 9);
+    // a recording of more events than a trace has: several traces, played one after the other; the technician's write stands at its beginning
+    const begin = accident("laptop.hex").toString().split("\n").filter(line => line.startsWith("2026")).slice(0, 10).map(line => `${line.split(" ")[2]}\n`).join("");
     const two_ = n => String(n).padStart(2, "0"), long = Array.from({ length: 700 }, (_, i) => `08:${two_(Math.floor(i / 60))}:${two_(i % 60)} 2900bce011140801020080${hex([i % 60])}\n`).join("");
     await open();
-    await b.drop("#start h2", one, b.file("long.hex", long));
+    await b.drop("#start h2", one, b.file("long.hex", begin + long));
     await b.until(`app.tracePart.told`);
-    expect("700 events", await b.run(`[app.tracePart.traces.length, app.tracePart.playing.events.length, app.tracePart.told.events.length]`), [2, 700, 700]);
-    await b.run(`app.tracePart.go(600)`);
-    expect("after 600 of them", await b.run(`[app.tracePart.moment.sheet[68], app.tracePart.moment.marks[68]]`), [(600 - 1) % 60, 600]);
-    has("named with its trace", await b.run(text("#trace .explanation")), "event 188 of long-2.trace");
+    expect("700 events", await b.run(`[app.tracePart.traces.length, app.tracePart.playing.events.length, app.tracePart.told.events.length]`), [2, 704, 704]);
+    await b.run(`app.tracePart.go(604)`);
+    expect("after 604 of them", await b.run(`[...[64, 65, 68].map(p => app.tracePart.moment.sheet[p]), app.tracePart.moment.marks[65], app.tracePart.moment.marks[68]]`), [3, 0xfc, (600 - 1) % 60, 3, 604]);
+    has("named with its trace", await b.run(text("#trace .explanation")), "event 192 of long-2.trace");
     return `${count} times a file in a place; one, two and three at once, dropped, chosen, pasted; 9 kinds, 6 that are none`;
 }
 
