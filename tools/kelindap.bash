@@ -23,6 +23,8 @@ _kelindap() {
         return 0
     fi
     line=$(grep -e "^$command " <<< "$forms" | awk -v words="$(wc -w <<< "$command")" '{ for (i = words + 1; i <= NF; i++) printf "%s ", $i }')
+    # and what every command has
+    line+=$(sed -n 's/^COMMAND \.\. //p' <<< "$forms")
     case $word in
     -*)
         # the command's options that do not stand there yet

@@ -167,6 +167,7 @@ def keys(h, tool):
     check("key", tool("key 1.1.5 1 --key-file key --new-key-file new"), ("key of level 1 changed\noffered: it gives level 1\n", 0))
     check("the old one gives nothing", tool("authorize 1.1.5 --key-file key")[1], 1)
     check("and back", tool("key 1.1.5 1 --key-file new --new-key-file key"), ("key of level 1 changed\noffered: it gives level 1\n", 0))
+    check("where none is offered", tool("scan 1.1 --key-file key"), ("kelindap-tool: scan offers no key, and one is named\n", 2))
     check("no argument takes one", tool("authorize 1.1.5 22222222")[1], 2)
 
 
@@ -199,6 +200,7 @@ def terminal(tool):
     check("with --ask-key", on_terminal(tool, "read 1.1.5 1/52 --ask-key", b"22222222"), ("key: \n70000\n", 0))
     check("a new key, twice", on_terminal(tool, "key 1.1.5 1 --key-file key", b"22222222", b"22222223"),
           ("new key: \nonce more: \nkelindap-tool: the two differ, and nothing is written\n", 2))
+    check("ended while it asks", on_terminal(tool, "authorize 1.1.5", b"\x03"), ("key: \nkelindap-tool: interrupted\n", 2))
     said, status = on_terminal(tool, "survey 1.1.1-60 --reference sheet")
     check("progress with an estimate", (bool(re.search(r"survey: \d+ of 60, \d+ of 60 read, \d+ without, some \d+ s more", said)), status), (True, 1))
 

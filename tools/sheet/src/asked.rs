@@ -83,10 +83,23 @@ struct Form {
     options: Vec<(&'static str, &'static str, bool)>,
 }
 
-/// The forms that have a command.
-fn forms(help: &'static str) -> Vec<Form> {
+/// The forms of a synopsis without the program's name, each with its whole line.
+fn lines(help: &'static str) -> Vec<(&'static str, &'static str)> {
     let lines = section(help, "SYNOPSIS").into_iter().map(str::trim);
-    lines.filter_map(|line| form(line, line.strip_prefix(name(help))?.trim_start())).collect()
+    lines.filter_map(|line| Some((line, line.strip_prefix(name(help))?.trim_start()))).collect()
+}
+
+/// What stands before the options that every command has.
+const EVERY: &str = "COMMAND .. ";
+
+/// The forms that have a command, each with the options of every one.
+fn forms(help: &'static str) -> Vec<Form> {
+    let lines = lines(help);
+    let mut forms: Vec<Form> = lines.iter().filter_map(|(line, rest)| form(line, rest)).collect();
+    for options in lines.iter().filter_map(|(_, rest)| rest.strip_prefix(EVERY)) {
+        forms.iter_mut().for_each(|form| form.read(options));
+    }
+    forms
 }
 
 fn form(line: &'static str, after: &'static str) -> Option<Form> {
@@ -99,22 +112,29 @@ fn form(line: &'static str, after: &'static str) -> Option<Form> {
     let (command, rest) = after.split_at(long);
     let (words, flags, options) = (Vec::new(), Vec::new(), Vec::new());
     let mut form = Form { line, command, words, many: false, flags, options };
-    let mut rest = rest.split_whitespace();
-    while let Some(word) = rest.next() {
-        let bare = word.trim_matches(['[', ']']);
-        match (bare.starts_with("--"), word.ends_with(']')) {
-            (true, true) => form.flags.push(bare),
-            (true, false) => {
-                let value = rest.next().unwrap_or("").trim_end_matches(']');
-                form.options.push((bare, value, !word.starts_with('[')));
-            }
-            (false, _) => {
-                form.many |= bare.ends_with("..");
-                form.words.push(bare.trim_end_matches(".."));
+    form.read(rest);
+    Some(form)
+}
+
+impl Form {
+    /// The words, flags and options of a part of a synopsis.
+    fn read(&mut self, rest: &'static str) {
+        let mut rest = rest.split_whitespace();
+        while let Some(word) = rest.next() {
+            let bare = word.trim_matches(['[', ']']);
+            match (bare.starts_with("--"), word.ends_with(']')) {
+                (true, true) => self.flags.push(bare),
+                (true, false) => {
+                    let value = rest.next().unwrap_or("").trim_end_matches(']');
+                    self.options.push((bare, value, !word.starts_with('[')));
+                }
+                (false, _) => {
+                    self.many |= bare.ends_with("..");
+                    self.words.push(bare.trim_end_matches(".."));
+                }
             }
         }
     }
-    Some(form)
 }
 
 /// Whether a term of the help, such as `versions diff STORE`, is one of a command's: its name or one that begins with it.
@@ -149,9 +169,11 @@ fn terms(lines: &[&'static str], wanted: impl Fn(&str) -> bool) -> Vec<&'static 
 /// What the help says of one command alone.
 fn command_help(help: &'static str, command: &str) -> String {
     let program = name(help);
+    let every = lines(help).into_iter().filter(|(_, rest)| rest.starts_with(EVERY));
     let (all, mut lines) = (forms(help), vec!["SYNOPSIS".to_string()]);
     let mine: Vec<&Form> = all.iter().filter(|form| of_command(form.command, command)).collect();
     lines.extend(mine.iter().map(|form| format!("    {}", form.line)));
+    lines.extend(every.map(|(line, _)| format!("    {line}")));
     let mut part = |heading: &str, text: Vec<&str>| {
         if !text.is_empty() {
             lines.push(format!("\n{heading}"));

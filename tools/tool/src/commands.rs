@@ -16,8 +16,15 @@ use crate::unit::{Description, Patience, Stored, Unit, MEMORY, PROPERTY, USER_ME
 use crate::values;
 use crate::{address, group, readout, scan, survey};
 
+/// The commands that offer no key.
+const KEYLESS: [&str; 5] = ["address", "descriptor", "group read", "group write", "scan"];
+
 /// Does what the words ask for.
 pub fn obey(asked: &Asked) -> Said {
+    let keyed = asked.option("--key-file").is_some() || asked.flag("--ask-key");
+    if keyed && KEYLESS.contains(&asked.command) {
+        return Err(format!("{} offers no key, and one is named", asked.command));
+    }
     match (asked.command, &asked.words[..]) {
         ("read", [unit, which]) => read(asked, unit, which),
         ("write", [unit, which, values @ ..]) => write(asked, unit, which, values),

@@ -1,10 +1,10 @@
 //! A key: from a file that nobody else may read, or asked for without echo. It is shown nowhere: there is no text of one.
 
 use std::fs::{File, OpenOptions};
-use std::io::{BufRead, BufReader, Read, Write};
+use std::io::{ErrorKind, Read, Write};
 use std::os::unix::fs::PermissionsExt;
 
-use crate::sys::Unechoed;
+use crate::sys::{interrupted, Unechoed};
 
 #[derive(Clone, Copy, PartialEq, Eq)]
 pub struct Key(u32);
@@ -50,13 +50,22 @@ pub fn of_file(name: &str) -> Result<Key, String> {
 pub fn asked(what: &str) -> Result<Key, String> {
     let fault = |why: std::io::Error| format!("{what} can't be asked for: {why}");
     let terminal = OpenOptions::new().read(true).write(true).open("/dev/tty").map_err(fault)?;
-    let mut line = String::new();
-    {
+    let mut line = [0; 64];
+    let got = {
         let _silent = Unechoed::new(&terminal).map_err(fault)?;
         (&terminal).write_all(format!("{what}: ").as_bytes()).map_err(fault)?;
-        let mut lines = BufReader::new((&terminal).take(64));
-        lines.read_line(&mut line).map_err(fault)?;
-    }
+        // a terminal hands up a line at once; a signal ends the wait, and the echo comes back
+        loop {
+            match (&terminal).read(&mut line) {
+                Err(why) if why.kind() == ErrorKind::Interrupted && !interrupted() => {}
+                got => break got,
+            }
+        }
+    };
     let _ = (&terminal).write_all(b"\n");
-    Key::of(&line).ok_or(DIGITS.to_string())
+    if interrupted() {
+        return Err("interrupted".to_string());
+    }
+    let text = String::from_utf8_lossy(&line[..got.map_err(fault)?]).into_owned();
+    Key::of(&text).ok_or(DIGITS.to_string())
 }

@@ -10,6 +10,7 @@ use sheet::show::{byte_line, element};
 
 use crate::commands::{self, bytes, count, elements};
 use crate::key::Key;
+use crate::progress::Progress;
 use crate::scan::SERIAL;
 use crate::survey::reference;
 use crate::trouble::Trouble;
@@ -92,7 +93,9 @@ pub fn properties(
     objects: RangeInclusive<u8>,
 ) -> Result<Vec<Description>, Trouble> {
     let mut all = Vec::new();
+    let mut progress = Progress::new("objects".to_string(), objects.len());
     for object in objects {
+        progress.at(object.into(), &format!("{} properties", all.len()));
         for index in 0..=255 {
             match unit.description(object, 0, index)? {
                 Some(d) => all.push(d),
@@ -192,7 +195,10 @@ fn region_text(word: &str, r: &Region) -> String {
 /// Memory that can be read, looked for at each address that the step divides, and from there on to both sides.
 fn looked_for(unit: &mut Unit, user: bool, step: u16) -> Result<Vec<Region>, Trouble> {
     let mut all: Vec<Region> = Vec::new();
+    let what = if user { "user memory" } else { "memory" };
+    let mut progress = Progress::new(what.to_string(), 65_536);
     for at in (0..=65_535u32).step_by(step.into()) {
+        progress.at(at as usize, &format!("{} regions", all.len()));
         let end = all.last().map_or(0, |r| u32::from(r.address) + u32::from(r.length));
         if at < end || unit.memory_read(user, at as u16, 1)?.is_none() {
             continue;

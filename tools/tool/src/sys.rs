@@ -35,6 +35,7 @@ const IP_RECVERR: i32 = 11;
 
 extern "C" {
     fn signal(number: i32, handler: usize) -> usize;
+    fn siginterrupt(number: i32, on: i32) -> i32;
     fn tcgetattr(fd: i32, termios: *mut Termios) -> i32;
     fn tcsetattr(fd: i32, how: i32, termios: *const Termios) -> i32;
     fn setsockopt(fd: i32, level: i32, name: i32, value: *const i32, length: u32) -> i32;
@@ -52,7 +53,10 @@ extern "C" fn heard(number: i32) {
 pub fn listen() {
     unsafe { signal(SIGXFSZ, IGNORE) };
     for number in [SIGINT, SIGTERM, SIGHUP] {
-        unsafe { signal(number, heard as *const () as usize) };
+        unsafe {
+            signal(number, heard as *const () as usize);
+            siginterrupt(number, 1); // so that who waits for a line hears of it
+        }
     }
 }
 

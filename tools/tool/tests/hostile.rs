@@ -263,6 +263,22 @@ fn no_interface() {
     assert_eq!(told, format!("127.0.0.1:{}: {due}", interface.port));
 }
 
+/// Whatever happened: a panic ends connection and channel too.
+#[test]
+fn a_panic() {
+    let interface = Interface::new(units(1, Way::Good), HURRY, honest);
+    let via = format!("127.0.0.1:{}", interface.port);
+    tool::bus::hurry(HURRY);
+    let done = std::panic::catch_unwind(|| {
+        let mut bus = tool::bus::Bus::open(&via, false, None).map_err(|e| e.0).unwrap();
+        let mut unit = tool::unit::Unit::connect(&mut bus, 0x1101, Default::default());
+        assert_eq!(unit.descriptor().unwrap(), [7, 0xB0]);
+        panic!("this one is meant");
+    });
+    assert!(done.is_err());
+    assert_eq!((interface.count(hall::ENDS), interface.count(DISCONNECTS)), (1, 1));
+}
+
 /// A write that is answered with something else, and one that reads back as another: both are trouble, not success.
 #[test]
 fn a_write_that_lies() {
