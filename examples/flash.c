@@ -9,7 +9,7 @@
  * An EEPROM or FRAM is the same with flash_erase that does nothing and FLASH_UNIT 1. Time is the board's: host_silent ends a connection,
  * and an answer that is not acknowledged is not sent again here (kelindap_link.h says when it is due, examples/host.c does it).
  *
- * tests/cuts.sh cuts its power after every byte that it programs or erases, and plants faults in it.
+ * tests/cuts/run.sh cuts its power after every byte that it programs or erases, and plants faults in it.
  */
 #include "flash.h"
 
