@@ -65,7 +65,8 @@ static void number(void)
     put(bus, 0xE1, opens, 1), put(bus, 0xE1, before_first, 2);
     printf("15: %02x", (unsigned)hear(bus, 2000));
     put(bus, 0xE1, first, 2);
-    printf(", 0: %02x %02x\n", (unsigned)hear(bus, 2000), (unsigned)hear(bus, 2000));
+    int one = hear(bus, 2000), two = hear(bus, 2000); /* in this order, which the arguments of one call have not */
+    printf(", 0: %02x %02x\n", (unsigned)one, (unsigned)two);
 }
 
 static void zero(void)
