@@ -23,7 +23,7 @@ else
     echo "tool: left out: sessions and knxd: there is no python3 here"
 fi
 beside survey cargo test --release --quiet -p tool --test survey
-beside hostile cargo test --release --quiet -p tool --test hostile
+beside hostile cargo test --release --quiet -p tool --test hostile -- --test-threads 4
 cargo test --release --quiet -p tool --lib --test machines
 # shellcheck disable=SC2046
 tests/tool/faults.sh $(share 6 1) $(share "" whole)

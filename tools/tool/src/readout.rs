@@ -93,9 +93,13 @@ pub fn properties(
     objects: RangeInclusive<u8>,
 ) -> Result<Vec<Description>, Trouble> {
     let mut all = Vec::new();
-    let mut progress = Progress::new("objects".to_string(), objects.len());
+    // a survey has a progress of its own, and does not ask all objects
+    let all_of_them = objects == (0..=255);
+    let mut progress = all_of_them.then(|| Progress::new("objects".to_string(), 256));
     for object in objects {
-        progress.at(object.into(), &format!("{} properties", all.len()));
+        if let Some(progress) = &mut progress {
+            progress.at(object.into(), &format!("{} properties", all.len()));
+        }
         for index in 0..=255 {
             match unit.description(object, 0, index)? {
                 Some(d) => all.push(d),

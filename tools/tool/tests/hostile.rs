@@ -15,7 +15,7 @@ use sheet::asked::{heard, Heard};
 use sheet::layout::Sheet;
 
 const HELP: &str = include_str!("../kelindap-tool.txt");
-const HURRY: u64 = 12;
+const HURRY: u64 = 6;
 const TEXT: &str = include_str!("../../../examples/accident/before.txt");
 
 struct Folder(PathBuf);
@@ -123,7 +123,7 @@ fn beside_what_is_right() {
         );
         assert!(text.contains("deviations, those of most units first: none"), "{name}: {text}");
         assert_eq!(status, 0, "{name}");
-        assert_eq!((interface.count(CONNECTS), interface.count(DISCONNECTS)), (1, 1), "{name}");
+        assert_eq!(interface.count(CONNECTS), interface.count(DISCONNECTS), "{name}");
     }
 }
 
@@ -135,6 +135,20 @@ fn late() {
     let (text, _) = survey(&folder, interface.port, "1.1.1", &["--limit", "300"]);
     assert!(text.contains("1 read, 0 not read"), "{text}");
     assert!(text.contains("deviations, those of most units first: none"), "{text}");
+}
+
+/// One that takes for ever costs its limit, twice, and the others are read.
+#[test]
+fn a_limit() {
+    let folder = Folder::new("limit");
+    let mut all = units(3, Way::Good);
+    all.get_mut(&0x1102).unwrap().way = Way::Slow(2_000);
+    let interface = Interface::new(all, HURRY, honest);
+    let started = Instant::now();
+    let (text, _) = survey(&folder, interface.port, "1.1.1-3", &["--limit", "9"]);
+    assert!(text.contains("2 read, 1 not read"), "{text}");
+    assert!(text.contains("  1.1.2: took more than 9 s\n"), "{text}");
+    assert!(started.elapsed() < Duration::from_secs(20));
 }
 
 /// Frames whose bytes are made up: nothing panics, all ends, and what is told of a unit is that it is strange, or right.

@@ -14,7 +14,7 @@ use sheet::layout::Sheet;
 use sheet::survey::{survey_of, Seen, Verdict, Wanted};
 
 const HELP: &str = include_str!("../kelindap-tool.txt");
-const HURRY: u64 = 12;
+const HURRY: u64 = 10;
 
 const REFERENCE: &str = "edition 2
 serial 00c501020304
