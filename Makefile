@@ -11,6 +11,7 @@ help:
 	@echo "all for Linux on $(PROCESSOR), which is $(if $(OWN),this machine's,another than this machine's $(HERE))"
 
 #: make run        the device at work on the sample sheet, for a person to read
+#: make look       the same in seconds, with nothing proved
 #: make test       every test, every proof, every edit that must be refused, every program
 # what mk/bin/beside runs side by side builds in folders of its own, and what both need is there before; where one make has all of
 # it, it goes by what needs what, two at a time
@@ -58,9 +59,9 @@ model: need-tools
 	cargo test --release --quiet -p model
 	cargo check --release --quiet -p bench
 
-# the checking and the playing program on files and pipes; what the other tests link is proved in the same run, where prove has not done so
+# the checking and the playing program on files and pipes
 sheet-check: need-tools
-	rt check sheet_check trace_play host tool plain_host
+	rt check sheet_check trace_play
 	tests/sheet_check.sh target/bin/sheet_check
 	tests/trace_play.sh target/bin/trace_play
 
