@@ -38,9 +38,10 @@ prove: need-tools
 	tests/edits/gate.sh tests/edits/refused.tsv build/ci.log target/must-fail
 
 # every name that a document quotes stands where the document says; what is to be read is complete, and as long as READING says
-documents: need-tools build/documents/names build/documents/reading
+documents: need-tools build/documents/names build/documents/reading build/documents/figures
 	build/documents/names docs/PROMISES.md docs/READING.md docs/CONFORMANCE.md docs/RULES.md
 	build/documents/reading --check docs/READING.md
+	tests/docs/figures.sh build/documents/figures
 
 #: make reading    build/reading.md, the definitions that must be read for each demand, in order, with what is promised
 reading: build/documents/reading

@@ -6,7 +6,9 @@
 //! A block begins with a line `<!-- figures NAME: TOLERANCE .. -->` and ends with `<!-- end -->`. Its rows are compared word by
 //! word, without the lines of a table; to the last words of a row the tolerances belong, from the right: a number of units,
 //! so many per cent (`2%`), or `any`. What could not be measured stands in DIR as `?`, a number or a whole block, and is not
-//! held; nor is what a document quotes as `?`, for want of a machine when the code last changed.
+//! held; a document may quote it as `?` too. What was measured and is quoted as `?` is missing, which fails: a machine has the
+//! figures of its own kind. After the tolerances a guard may stand, `most 1.02 sample full`: of the rows that begin with one
+//! of these words, none that was measured ends with more.
 
 use std::{env, fs, process};
 
@@ -28,7 +30,7 @@ fn main() {
     }
     if mode == "check" {
         println!(
-            "figures: {} of {} blocks in {} documents as measured, {} could not be measured here, {} differ",
+            "figures: {} of {} blocks in {} documents as measured, {} could not be measured here, {} differ, are missing or above their most",
             tally.held,
             tally.blocks,
             documents.len(),
@@ -47,12 +49,33 @@ struct Tally {
     different: usize,
 }
 
-/// A block: its name, the tolerances, its lines and where these stand in the document, from 0.
+/// A block: its name, the tolerances, the guard, its lines and where these stand in the document, from 0.
 struct Block {
     name: String,
     tolerances: Vec<Tolerance>,
+    guard: Option<Guard>,
     lines: Vec<String>,
     from: usize,
+}
+
+/// The most that the last word of a row may be, of the rows that begin with one of these words.
+struct Guard {
+    most: f64,
+    rows: Vec<String>,
+}
+
+impl Guard {
+    fn of(words: &[&str]) -> Option<Guard> {
+        let (most, rows) = words.split_first()?;
+        (!rows.is_empty()).then_some(())?;
+        Some(Guard { most: most.parse().ok()?, rows: rows.iter().map(|w| w.to_string()).collect() })
+    }
+
+    /// Whether a row is above it; what is no number, or `?`, is not.
+    fn stops(&self, row: &[&str]) -> bool {
+        let guarded = row.first().is_some_and(|w| self.rows.iter().any(|r| r == w));
+        guarded && row.last().and_then(|w| w.parse::<f64>().ok()).is_some_and(|ratio| ratio > self.most)
+    }
 }
 
 #[derive(Clone, Copy)]
@@ -88,8 +111,13 @@ fn blocks(document: &str, text: &str) -> Vec<Block> {
     for (at, line) in text.lines().enumerate() {
         if let Some(head) = line.strip_prefix("<!-- figures ").and_then(|l| l.strip_suffix(" -->")) {
             let block = head.split_once(':').and_then(|(name, words)| {
-                let tolerances = words.split_whitespace().map(Tolerance::of).collect::<Option<Vec<_>>>()?;
-                Some(Block { name: name.to_string(), tolerances, lines: Vec::new(), from: at + 1 })
+                let words: Vec<&str> = words.split_whitespace().collect();
+                let (words, guard) = match words.iter().position(|w| *w == "most") {
+                    Some(k) => (&words[..k], Some(Guard::of(&words[k + 1..])?)),
+                    None => (&words[..], None),
+                };
+                let tolerances = words.iter().map(|w| Tolerance::of(w)).collect::<Option<Vec<_>>>()?;
+                Some(Block { name: name.to_string(), tolerances, guard, lines: Vec::new(), from: at + 1 })
             });
             all.push(block.unwrap_or_else(|| stop(&format!("{document}:{}: no head of figures", at + 1))));
             open = true;
@@ -121,11 +149,20 @@ fn is_unknown(rows: &[Vec<&str>]) -> bool {
 fn check(tally: &mut Tally, document: &str, block: &Block, measured: &str) {
     let quoted = rows(block.lines.iter().map(String::as_str));
     let measured = rows(measured.lines());
-    if is_unknown(&quoted) || is_unknown(&measured) {
+    if is_unknown(&measured) {
         tally.unknown += 1;
         return;
     }
     let (mut different, mut unknown) = (0, 0);
+    for row in measured.iter().filter(|row| block.guard.as_ref().is_some_and(|g| g.stops(row))) {
+        println!("{document}: {}: above its most: {}", block.name, row.join(" "));
+        different += 1;
+    }
+    if is_unknown(&quoted) {
+        println!("{document}: {} is missing, and was measured: make write-figures puts it in", block.name);
+        tally.different += different + 1;
+        return;
+    }
     if quoted.len() != measured.len() {
         println!("{document}: {} has {} rows, and {} were measured", block.name, quoted.len(), measured.len());
         different += 1;
@@ -134,7 +171,7 @@ fn check(tally: &mut Tally, document: &str, block: &Block, measured: &str) {
         let mut same = quoted.len() == measured.len();
         for (k, (a, b)) in quoted.iter().rev().zip(measured.iter().rev()).enumerate() {
             let tolerance = block.tolerances.iter().rev().nth(k);
-            if tolerance.is_some() && (*b == "?" || *a == "?") {
+            if tolerance.is_some() && *b == "?" {
                 unknown += 1;
             } else {
                 same &= tolerance.map_or(a == b, |t| t.allows(a, b));
