@@ -1,7 +1,7 @@
 //! The figures of sizes, stack and instructions that documents quote are those that were measured.
 //!
 //!     figures check DIR DOCUMENT..   holds every block of figures against the file of its name in DIR
-//!     figures write DIR DOCUMENT..   puts these files into the blocks
+//!     figures write DIR DOCUMENT..   puts these files into the blocks; what they have not stays
 //!
 //! A block begins with a line `<!-- figures NAME: TOLERANCE .. -->` and ends with `<!-- end -->`. Its rows are compared word by
 //! word, without the lines of a table; to the last words of a row the tolerances belong, from the right: a number of units,
@@ -193,6 +193,18 @@ fn check(tally: &mut Tally, document: &str, block: &Block, measured: &str) {
     tally.different += different;
 }
 
+/// A row of a table in which what could not be measured, `?`, stays as the row of the same name has it.
+fn known(line: &str, quoted: &[String]) -> String {
+    let cells: Vec<&str> = line.split('|').collect();
+    let old = quoted.iter().map(|l| l.split('|').collect::<Vec<_>>()).find(|old| old.len() == cells.len() && old.get(1) == cells.get(1));
+    match old {
+        Some(old) if cells.len() > 2 => {
+            cells.iter().zip(old).map(|(new, old)| if new.trim() == "?" { old } else { new }).collect::<Vec<_>>().join("|")
+        }
+        _ => line.to_string(),
+    }
+}
+
 fn write(document: &str, text: &str, blocks: &[Block], dir: &str) {
     let mut lines: Vec<String> = text.lines().map(String::from).collect();
     for block in blocks.iter().rev() {
@@ -201,8 +213,9 @@ fn write(document: &str, text: &str, blocks: &[Block], dir: &str) {
             println!("{document}: {} is left as it is: it could not be measured", block.name);
             continue;
         }
-        let new = format!("\n{}\n", measured.trim_end());
-        lines.splice(block.from..block.from + block.lines.len(), new.lines().map(String::from).chain([String::new()]));
+        let new = measured.trim_end().lines().map(|line| known(line, &block.lines));
+        let new: Vec<String> = [String::new()].into_iter().chain(new).chain([String::new()]).collect();
+        lines.splice(block.from..block.from + block.lines.len(), new);
     }
     fs::write(document, lines.join("\n") + "\n").unwrap_or_else(|e| stop(&format!("{document}: {e}")));
 }

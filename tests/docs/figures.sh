@@ -26,5 +26,12 @@ held 0 "a block that can't be measured here" 'sample read 5.0 100 0.98' '?'
 held 0 "nor could be where it was written" '?' '?'
 held 1 "a number that is missing" 'sample read 5.0 ? 0.98' 'sample read 5.0 100 0.98'
 held 0 "a number that can't be measured here" 'sample read 5.0 100 0.98' 'sample read 5.0 ? ?'
+
+# what is put in: the measured row, and of a row that could be measured in part the rest as it was
+printf '%s\n' '<!-- figures table: 0 0 -->' '| a | 1 | 2 |' '| b | 3 | 4 |' '<!-- end -->' 'after' > document
+printf '%s\n' '| a | 5 | ? |' '| b | 6 | 7 |' > measured/table
+"$figures" write measured document
+[ "$(tr '\n' '/' < document)" = '<!-- figures table: 0 0 -->//| a | 5 | 2 |/| b | 6 | 7 |//<!-- end -->/after/' ] ||
+    { echo "figures: written: $(cat document)" && wrong=1; }
 [ "$wrong" = 0 ]
-echo "figures: 11 cases of the program that holds them"
+echo "figures: 12 cases of the program that holds them"

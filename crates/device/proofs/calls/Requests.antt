@@ -5,6 +5,7 @@ use mathlib.Core.Path.{_≡_, refl, ap, sym, subst, _∙_}
 use mathlib.Core.List.{List}
 use lib.ListN.{length}
 use Rattle.octets.proofs.Splices.{splice-none}
+use Rattle.sheet.specs.Rules.{Accepted}
 use Rattle.pdu.specs.Rules.{codeOf}
 use Rattle.pdu.specs.Table.{serviceAt}
 use Rattle.pdu.specs.Read.{readPdu}
@@ -120,3 +121,6 @@ pub goes-on :
     ((a : List ℕ) → got ≡ readPdu a → d ≡ dataIn got a → k ≡ foundOf s q mode group a f) → k ≡ judgeOf room s q mode group a
 goes-on room s q mode group a d n f got k told z f-is read given g =
     g a read given ∙ ap (foundOf s q mode group a) f-is ∙ sym (told .goes z group)
+
+pub still-accepted : (room : ℕ) (s : List ℕ) (q : Session) (mode : ℕ) (a : List ℕ) (n : ℕ) → Unread room s q mode a n → n ≡ 0 → Accepted s
+still-accepted room s q mode a n told z = told .accepted z
