@@ -13,11 +13,11 @@ returns c =
       call =
           record {
             did =
-                refused-did _ _ _ _ _ _ _ _ _ (c .before .before .before .session-for .ensures) (c .before .refused-unread .ensures) (c .if1 .taken);
+                refused-did (c .before .before .before .before .before .before .before .args .sessions) (c .before .before .before .before .before .before .before .args .mode) (c .before .before .before .before .before .before .before .args .connection) (c .before .before .before .before .before .before .before .args .group) (c .before .before .before .before .before .before .before .args .apdu .now) (c .before .before .before .before .before .before .before .args .sheet .now) (c .before .before .before .before .before .before .before .args .answer .now) _ _ (c .before .before .before .session-for .ensures) (c .before .refused-unread .ensures) (c .if1 .taken);
             sheetBytes = λ i. c .before .before .before .before .before .slice-known .given i .fits;
             apduBytes = λ i. c .before .before .before .before .before .before .shared-slice-known .given i .fits;
           };
-      changed = refused-changes _ _ _ _ _ _ _ _ _ (c .before .before .before .session-for .ensures) (c .before .refused-unread .ensures) (c .if1 .taken);
+      changed = refused-changes (c .before .before .before .before .before .before .before .args .sessions) (c .before .before .before .before .before .before .before .args .mode) (c .before .before .before .before .before .before .before .args .connection) (c .before .before .before .before .before .before .before .args .group) (c .before .before .before .before .before .before .before .args .apdu .now) (c .before .before .before .before .before .before .before .args .sheet .now) (c .before .before .before .before .before .before .before .args .answer .now) _ _ (c .before .before .before .session-for .ensures) (c .before .refused-unread .ensures) (c .if1 .taken);
     }
 
 carry-out-requires : tie.Need-carry-out-requires
@@ -50,7 +50,7 @@ pub request-known-spec : {M : Type 1} → statement M
 request-known-spec =
     tie.close
     (tie.spec
-    (λ c κs. search needs) (λ c κs. search needs)
+    (λ c κs. search needs) (λ c κs. search needs) (λ c. search needs)
     returns
     (λ c κs. search needs) (λ c κs. search needs)
     (λ c κs. search named)
