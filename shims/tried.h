@@ -1,16 +1,9 @@
 /*
- * How a module that rt try compiled, and nothing proved, passes values (mk/bin/look, which puts the lines of device.c and pdu.c
- * below this): a structure by its address, a run by the address of its address and length; a result that is a structure is filled
- * at an address that comes first, and of one that is a number the lowest bits count. For processors of 64 bits, where the
- * headers' structures are the module's.
+ * How a module that rt try compiled, and nothing proved, passes values (mk/bin/look, which puts the headers of device.c and
+ * pdu.c above this and their lines below): a structure by its address, a run by the address of its address and length; a
+ * result that is a structure is filled at an address that comes first, and of one that is a number the lowest bits count. For
+ * processors of 64 bits, where the headers' structures are the module's.
  */
-#include "kelindap.h"
-#include "kelindap_frame.h"
-#include "kelindap_link.h"
-#include "kelindap_pdu.h"
-#include "kelindap_store.h"
-#include "kelindap_trace.h"
-
 _Static_assert(sizeof(size_t) == 8, "a processor of 64 bits");
 
 typedef struct lent {
@@ -41,8 +34,17 @@ typedef struct lent {
 #define MODULE_POINT(name) const kelindap_point *
 #define GIVEN_POINT(name) &name
 
-/* by what comes back */
-#define CALL(result, ...) CALL_##result(__VA_ARGS__)
+typedef uint8_t byte;
+typedef uint32_t number;
+
+/* by what comes back: a number, the sessions, for which nothing is given, or any other structure */
+#define CALL(result, ...) SELECT(FORM_##result ~, CALL_LONG, ~)(result, __VA_ARGS__)
+#define FORM_byte ~, CALL_SHORT,
+#define FORM_number ~, CALL_SHORT,
+#define FORM_kelindap_sessions ~, CALL_ALONE,
+#define SELECT(...) SECOND(__VA_ARGS__)
+#define SECOND(a, b, ...) b
+
 #define CALL_SHORT(type, name, ...) \
     size_t kelindap_module_##name(EACH(MODULE, __VA_ARGS__)); \
     type kelindap_##name(EACH(HEADER, __VA_ARGS__)) \
@@ -57,22 +59,11 @@ typedef struct lent {
         kelindap_module_##name(&result, EACH(GIVEN, __VA_ARGS__)); \
         return result; \
     }
-#define CALL_byte(...) CALL_SHORT(uint8_t, __VA_ARGS__)
-#define CALL_number(...) CALL_SHORT(uint32_t, __VA_ARGS__)
-#define CALL_kelindap_part(...) CALL_LONG(kelindap_part, __VA_ARGS__)
-#define CALL_kelindap_saved(...) CALL_LONG(kelindap_saved, __VA_ARGS__)
-#define CALL_kelindap_listed(...) CALL_LONG(kelindap_listed, __VA_ARGS__)
-#define CALL_kelindap_played(...) CALL_LONG(kelindap_played, __VA_ARGS__)
-#define CALL_kelindap_arrival(...) CALL_LONG(kelindap_arrival, __VA_ARGS__)
-#define CALL_kelindap_written(...) CALL_LONG(kelindap_written, __VA_ARGS__)
-#define CALL_kelindap_point(...) CALL_LONG(kelindap_point, __VA_ARGS__)
-#define CALL_kelindap_framed(...) CALL_LONG(kelindap_framed, __VA_ARGS__)
-/* of no parameter */
-#define CALL_kelindap_sessions(name, none) \
-    void kelindap_module_##name(kelindap_sessions *); \
-    kelindap_sessions kelindap_##name(void) \
+#define CALL_ALONE(type, name, none) \
+    void kelindap_module_##name(type *); \
+    type kelindap_##name(void) \
     { \
-        kelindap_sessions result; \
+        type result; \
         kelindap_module_##name(&result); \
         return result; \
     }
