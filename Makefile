@@ -11,6 +11,7 @@ help:
 	@echo "all for Linux on $(PROCESSOR), which is $(if $(OWN),this machine's,another than this machine's $(HERE))"
 
 #: make run        the device at work on the sample sheet, for a person to read
+#: make look       the same in seconds, with nothing proved
 #: make test       every test, every proof, every edit that must be refused, every program
 # what mk/bin/beside runs side by side builds in folders of its own, and what both need is there before; where one make has all of
 # it, it goes by what needs what, two at a time
@@ -39,10 +40,11 @@ prove: need-tools
 
 # every name that a document quotes stands where the document says; what is to be read is complete, and as long as READING says; what
 # CHANGING names and quotes is in the source
-documents: need-tools build/documents/names build/documents/reading build/documents/changing
+documents: need-tools build/documents/names build/documents/reading build/documents/changing build/documents/figures
 	build/documents/names docs/PROMISES.md docs/READING.md docs/CONFORMANCE.md docs/RULES.md
 	build/documents/reading --check docs/READING.md
 	build/documents/changing docs/CHANGING.md
+	tests/docs/figures.sh build/documents/figures
 
 #: make reading    build/reading.md, the definitions that must be read for each demand, in order, with what is promised
 reading: build/documents/reading
@@ -61,9 +63,9 @@ model: need-tools
 	cargo test --release --quiet -p model
 	cargo check --release --quiet -p bench
 
-# the checking and the playing program on files and pipes; what the other tests link is proved in the same run, where prove has not done so
+# the checking and the playing program on files and pipes
 sheet-check: need-tools
-	rt check sheet_check trace_play host tool plain_host
+	rt check sheet_check trace_play
 	tests/sheet_check.sh target/bin/sheet_check
 	tests/trace_play.sh target/bin/trace_play
 

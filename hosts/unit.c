@@ -317,12 +317,15 @@ static bool do_button(device *d, char **words, size_t count)
 /* A request, by the engine that was chosen. */
 static kelindap_reply served(device *d, uint8_t mode, uint8_t c, uint16_t group, run apdu, run answer)
 {
-    if (!d->plain)
-        return kelindap_request(&d->link.sessions, d->sheet.bytes, d->sheet.length, mode, c, group, apdu.bytes, apdu.length,
-                                answer.bytes, answer.length);
-    kelindap_plain_reply reply = kelindap_plain_request(&d->link.sessions, d->sheet.bytes, d->sheet.length, mode, c, group,
-                                                        apdu.bytes, apdu.length, answer.bytes, answer.length);
-    return (kelindap_reply){ .outcome = reply.outcome, .count = reply.count };
+#ifndef FIRST_ALONE /* the demonstration's unit has no other engine */
+    if (d->plain) {
+        kelindap_plain_reply reply = kelindap_plain_request(&d->link.sessions, d->sheet.bytes, d->sheet.length, mode, c, group,
+                                                            apdu.bytes, apdu.length, answer.bytes, answer.length);
+        return (kelindap_reply){ .outcome = reply.outcome, .count = reply.count };
+    }
+#endif
+    return kelindap_request(&d->link.sessions, d->sheet.bytes, d->sheet.length, mode, c, group, apdu.bytes, apdu.length,
+                            answer.bytes, answer.length);
 }
 
 static bool do_request(device *d, char **words, size_t count)
@@ -344,6 +347,10 @@ static bool do_engine(device *d, char **words, size_t count)
     (void)count;
     if (!plain && strcmp(words[0], "first") != 0)
         return err("the engine is first or plain: \"%s\"", shown(words[0]));
+#ifdef FIRST_ALONE
+    if (plain)
+        return err("this unit has the first engine alone");
+#endif
     d->plain = plain;
     printf("engine %s\n", words[0]);
     return true;

@@ -1,5 +1,5 @@
 # The library beside the plain Rust model, both compiled for this machine's own processor. Comes after native.mk.
-.PHONY: bench
+.PHONY: bench growth
 
 #: make bench      the speed of each request, beside plain Rust
 # nanoseconds and instructions for each request: figures and no verdict, so not among the tests
@@ -11,3 +11,10 @@ bench: build/libkelindap_device.a build/libkelindap_pdu.a build/libkelindap_plai
 	$(CARGO_BIN)/link_times
 	$(CARGO_BIN)/engine_times
 	$(CARGO_BIN)/survey_times
+
+#: make growth     the instructions of each call by the size of its work
+growth: build/growth
+	tests/bench/growth.sh build/growth
+
+build/growth: tests/bench/growth.c build/libkelindap_device.a $(wildcard include/*.h) hosts/sample_sheet.inc | need-gcc
+	gcc $(STRICT) -Ihosts -o $@ $< build/libkelindap_device.a

@@ -15,6 +15,6 @@ write-figures: measured
 	$(MEASURE) times
 	build/documents/figures write build/figures $(QUOTING)
 
-measured: build/documents/figures build/libkelindap_device.a build/libkelindap_pdu.a build/libkelindap_plain.a $(FIRMWARE) | need-tools
+measured: build/documents/figures build/growth build/libkelindap_device.a build/libkelindap_pdu.a build/libkelindap_plain.a $(FIRMWARE) | need-tools
 	$(MAKE) --no-print-directory -s PROCESSOR=x86_64 $(X86)/libkelindap_device.a $(X86)/libkelindap_pdu.a $(X86)/stack
 	cargo build --release --quiet -p bench -p compare

@@ -15,21 +15,32 @@ TOOL_H := include/kelindap_pdu.h include/kelindap_frame.h
 WATCHED := ASAN_OPTIONS=detect_leaks=0
 # what every program here rests on
 LINKED := $(wildcard include/*.h) $(wildcard hosts/*.inc) mk/bin/cc mk/hosts.mk $(LIBRARIES)
-.PHONY: unit run test-unit test-text test-c test-wear need-gcc
+.PHONY: unit run look test-unit test-text test-c test-wear need-gcc
 
 #: make unit       the desk unit, build/unit, and the libraries
 unit: $(BUILD)/unit
 
-# a short script against the sample sheet, in a form that a person reads at a glance
-run: $(BUILD)/unit build/sheet $(if $(OWN),$(BUILD)/kelindap-device build/kelindap-tool)
-	@scripts/demo.sh $(BUILD)/unit build/sheet scripts/demo.txt
+# a short script against the sample sheet, in a form that a person reads at a glance; what it needs is proved, and no more
+run: $(BUILD)/unit_first build/sheet $(if $(OWN),$(BUILD)/kelindap-device build/kelindap-tool)
+	@scripts/demo.sh $(BUILD)/unit_first build/sheet scripts/demo.txt
 	@$(if $(OWN),echo && scripts/bus.sh $(BUILD)/kelindap-device build/kelindap-tool)
+
+# the same in seconds, and proved by nobody
+look: build/unit_help.inc build/sheet | need-gcc
+	@mk/bin/look build/look
+	@echo "NOTHING OF THIS IS PROVED: the crates as they stand, compiled by rt try (build/look/try.log); make run proves them first."
+	@echo
+	@scripts/demo.sh build/look/unit build/sheet scripts/demo.txt
+	@echo
+	@echo "NOTHING OF THIS IS PROVED."
 
 # the scripts, once more with a unit that watches itself where the sanitizers can; in words, where every reason is held against
 # the library over REASONS random requests, a fifth of a second for 200,000
 REASONS ?= 200000
-test-unit: $(BUILD)/unit $(BUILD)/unit_watched $(BUILD)/reasons build/sheet
+test-unit: $(BUILD)/unit $(BUILD)/unit_first $(BUILD)/unit_watched $(BUILD)/reasons build/sheet
 	tests/unit/run.sh $(BUILD)/unit build/sheet
+	tests/unit/first.sh $(BUILD)/unit_first build/sheet
+	$(if $(OWN),mk/bin/look build/look && tests/unit/first.sh build/look/unit build/sheet)
 	$(if $(OWN),$(WATCHED) tests/unit/run.sh $(BUILD)/unit_watched build/sheet)
 	$(WATCHED) $(BUILD)/reasons $(REASONS)
 	$(WATCHED) tests/unit/words.sh $(BUILD)/unit_watched build/sheet
@@ -62,6 +73,11 @@ $(BUILD)/unit: hosts/unit.c $(wildcard hosts/unit_*.h) build/unit_help.inc $(LIN
 	mkdir -p $(BUILD)
 	gcc $(STRICT) -Ibuild -c $< -o /dev/null
 	$(CC_FOR) -o $@ $(STRICT) -Ibuild $< $(LIBRARIES)
+
+# with the first engine alone, which is what the demonstration uses
+$(BUILD)/unit_first: hosts/unit.c $(wildcard hosts/unit_*.h) build/unit_help.inc $(filter-out $(PLAIN_A),$(LINKED)) | need-gcc
+	mkdir -p $(BUILD)
+	$(CC_FOR) -o $@ $(STRICT) -Ibuild -DFIRST_ALONE $< $(HOST_A) $(TOOL_A)
 
 $(BUILD)/unit_watched: hosts/unit.c $(wildcard hosts/unit_*.h) build/unit_help.inc $(LINKED) | need-gcc
 	mkdir -p $(BUILD)

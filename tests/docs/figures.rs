@@ -1,12 +1,14 @@
 //! The figures of sizes, stack and instructions that documents quote are those that were measured.
 //!
 //!     figures check DIR DOCUMENT..   holds every block of figures against the file of its name in DIR
-//!     figures write DIR DOCUMENT..   puts these files into the blocks
+//!     figures write DIR DOCUMENT..   puts these files into the blocks; what they have not stays
 //!
 //! A block begins with a line `<!-- figures NAME: TOLERANCE .. -->` and ends with `<!-- end -->`. Its rows are compared word by
 //! word, without the lines of a table; to the last words of a row the tolerances belong, from the right: a number of units,
 //! so many per cent (`2%`), or `any`. What could not be measured stands in DIR as `?`, a number or a whole block, and is not
-//! held; nor is what a document quotes as `?`, for want of a machine when the code last changed.
+//! held; a document may quote it as `?` too. What was measured and is quoted as `?` is missing, which fails: a machine has the
+//! figures of its own kind. After the tolerances a guard may stand, `most 1.02 sample full`: of the rows that begin with one
+//! of these words, none that was measured ends with more.
 
 use std::{env, fs, process};
 
@@ -28,7 +30,7 @@ fn main() {
     }
     if mode == "check" {
         println!(
-            "figures: {} of {} blocks in {} documents as measured, {} could not be measured here, {} differ",
+            "figures: {} of {} blocks in {} documents as measured, {} could not be measured here, {} differ, are missing or above their most",
             tally.held,
             tally.blocks,
             documents.len(),
@@ -47,12 +49,33 @@ struct Tally {
     different: usize,
 }
 
-/// A block: its name, the tolerances, its lines and where these stand in the document, from 0.
+/// A block: its name, the tolerances, the guard, its lines and where these stand in the document, from 0.
 struct Block {
     name: String,
     tolerances: Vec<Tolerance>,
+    guard: Option<Guard>,
     lines: Vec<String>,
     from: usize,
+}
+
+/// The most that the last word of a row may be, of the rows that begin with one of these words.
+struct Guard {
+    most: f64,
+    rows: Vec<String>,
+}
+
+impl Guard {
+    fn of(words: &[&str]) -> Option<Guard> {
+        let (most, rows) = words.split_first()?;
+        (!rows.is_empty()).then_some(())?;
+        Some(Guard { most: most.parse().ok()?, rows: rows.iter().map(|w| w.to_string()).collect() })
+    }
+
+    /// Whether a row is above it; what is no number, or `?`, is not.
+    fn stops(&self, row: &[&str]) -> bool {
+        let guarded = row.first().is_some_and(|w| self.rows.iter().any(|r| r == w));
+        guarded && row.last().and_then(|w| w.parse::<f64>().ok()).is_some_and(|ratio| ratio > self.most)
+    }
 }
 
 #[derive(Clone, Copy)]
@@ -88,8 +111,13 @@ fn blocks(document: &str, text: &str) -> Vec<Block> {
     for (at, line) in text.lines().enumerate() {
         if let Some(head) = line.strip_prefix("<!-- figures ").and_then(|l| l.strip_suffix(" -->")) {
             let block = head.split_once(':').and_then(|(name, words)| {
-                let tolerances = words.split_whitespace().map(Tolerance::of).collect::<Option<Vec<_>>>()?;
-                Some(Block { name: name.to_string(), tolerances, lines: Vec::new(), from: at + 1 })
+                let words: Vec<&str> = words.split_whitespace().collect();
+                let (words, guard) = match words.iter().position(|w| *w == "most") {
+                    Some(k) => (&words[..k], Some(Guard::of(&words[k + 1..])?)),
+                    None => (&words[..], None),
+                };
+                let tolerances = words.iter().map(|w| Tolerance::of(w)).collect::<Option<Vec<_>>>()?;
+                Some(Block { name: name.to_string(), tolerances, guard, lines: Vec::new(), from: at + 1 })
             });
             all.push(block.unwrap_or_else(|| stop(&format!("{document}:{}: no head of figures", at + 1))));
             open = true;
@@ -121,11 +149,20 @@ fn is_unknown(rows: &[Vec<&str>]) -> bool {
 fn check(tally: &mut Tally, document: &str, block: &Block, measured: &str) {
     let quoted = rows(block.lines.iter().map(String::as_str));
     let measured = rows(measured.lines());
-    if is_unknown(&quoted) || is_unknown(&measured) {
+    if is_unknown(&measured) {
         tally.unknown += 1;
         return;
     }
     let (mut different, mut unknown) = (0, 0);
+    for row in measured.iter().filter(|row| block.guard.as_ref().is_some_and(|g| g.stops(row))) {
+        println!("{document}: {}: above its most: {}", block.name, row.join(" "));
+        different += 1;
+    }
+    if is_unknown(&quoted) {
+        println!("{document}: {} is missing, and was measured: make write-figures puts it in", block.name);
+        tally.different += different + 1;
+        return;
+    }
     if quoted.len() != measured.len() {
         println!("{document}: {} has {} rows, and {} were measured", block.name, quoted.len(), measured.len());
         different += 1;
@@ -134,7 +171,7 @@ fn check(tally: &mut Tally, document: &str, block: &Block, measured: &str) {
         let mut same = quoted.len() == measured.len();
         for (k, (a, b)) in quoted.iter().rev().zip(measured.iter().rev()).enumerate() {
             let tolerance = block.tolerances.iter().rev().nth(k);
-            if tolerance.is_some() && (*b == "?" || *a == "?") {
+            if tolerance.is_some() && *b == "?" {
                 unknown += 1;
             } else {
                 same &= tolerance.map_or(a == b, |t| t.allows(a, b));
@@ -156,6 +193,18 @@ fn check(tally: &mut Tally, document: &str, block: &Block, measured: &str) {
     tally.different += different;
 }
 
+/// A row of a table in which what could not be measured, `?`, stays as the row of the same name has it.
+fn known(line: &str, quoted: &[String]) -> String {
+    let cells: Vec<&str> = line.split('|').collect();
+    let old = quoted.iter().map(|l| l.split('|').collect::<Vec<_>>()).find(|old| old.len() == cells.len() && old.get(1) == cells.get(1));
+    match old {
+        Some(old) if cells.len() > 2 => {
+            cells.iter().zip(old).map(|(new, old)| if new.trim() == "?" { old } else { new }).collect::<Vec<_>>().join("|")
+        }
+        _ => line.to_string(),
+    }
+}
+
 fn write(document: &str, text: &str, blocks: &[Block], dir: &str) {
     let mut lines: Vec<String> = text.lines().map(String::from).collect();
     for block in blocks.iter().rev() {
@@ -164,8 +213,9 @@ fn write(document: &str, text: &str, blocks: &[Block], dir: &str) {
             println!("{document}: {} is left as it is: it could not be measured", block.name);
             continue;
         }
-        let new = format!("\n{}\n", measured.trim_end());
-        lines.splice(block.from..block.from + block.lines.len(), new.lines().map(String::from).chain([String::new()]));
+        let new = measured.trim_end().lines().map(|line| known(line, &block.lines));
+        let new: Vec<String> = [String::new()].into_iter().chain(new).chain([String::new()]).collect();
+        lines.splice(block.from..block.from + block.lines.len(), new);
     }
     fs::write(document, lines.join("\n") + "\n").unwrap_or_else(|e| stop(&format!("{document}: {e}")));
 }

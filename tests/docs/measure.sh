@@ -92,6 +92,21 @@ for processor in x86_64 aarch64; do
         echo "    ?"
     fi > "$out/bench-$processor"
 done
+# of the ratios to plain Rust the highest and the middle one, both kinds of machine side by side
+{
+    echo "| Sheet | x86-64, highest | middle | aarch64, highest | middle |"
+    echo "|---|---|---|---|---|"
+    for sheet in sample full; do
+        mapfile -t ratio < <(awk -v sheet="$sheet" '$1 == sheet { print $NF }' "$out/bench.rows" | sort -n)
+        of_own=" ? | ? |" of_other=" ? | ? |"
+        [ ${#ratio[@]} = 0 ] || of_own=" ${ratio[-1]} | ${ratio[${#ratio[@]} / 2]} |"
+        case $own in
+        aarch64) echo "| $sheet |$of_other$of_own" ;;
+        x86_64) echo "| $sheet |$of_own$of_other" ;;
+        *) echo "| $sheet |$of_other$of_other" ;;
+        esac
+    done
+} > "$out/ratios"
 if [ -s "$out/boards.rows" ]; then
     { printf '%-31s' "sheet  request"; printf ' %9s' "${processors[@]}"; echo; cat "$out/boards.rows"; } | sed 's/^/    /'
 else

@@ -89,10 +89,29 @@ pub fn request_known(
     requires { ⌜ (known ≡ true → Accepted (now sheet)) ⌝ }
     ensures { λ r. ⌜ Requested sessions mode connection group (now (apdu .entry)) (now (sheet .entry)) (now (answer .entry)) r (now (sheet .exit)) (now (answer .exit)) ⌝ }
 {
+    let session = session::session_for(sessions, mode, connection);
+    let n = judge::refused_unread(answer.len(), known, &sheet[..], session, mode, apdu);
+    if n != 0 {
+        let none = Run {
+            offset: 0,
+            length: 0,
+        };
+        let done = Done {
+            outcome: n,
+            count: 0,
+            sessions,
+        };
+        return Made {
+            done,
+            changed: Changed {
+                first: none,
+                second: none,
+            },
+        };
+    }
     let found = pdu::service_of(pdu::code(apdu));
     let parsed = pdu::read_found(found, apdu);
     let d = judge::data_in(parsed, apdu);
-    let session = session::session_for(sessions, mode, connection);
     let x = Request {
         session,
         mode,
@@ -100,7 +119,7 @@ pub fn request_known(
         found,
         parsed,
     };
-    let k = judge::judge(answer.len(), known, &sheet[..], x, apdu, d);
+    let k = judge::found(&sheet[..], x, d);
     let changed = store::carry_out(sheet, k, d);
     let reply = k.answer;
     let count = answer::answer(answer, reply, &sheet[..], d);

@@ -1,13 +1,15 @@
 -- The judgement, from what its parts ensure.
 -- Assumes nothing.
 use Prim.Native.Nat.{ℕ, _≤_, _<_}
-use mathlib.Core.Path.{_≡_, sym, ap, _∙_}
+use mathlib.Core.Path.{_≡_, refl, sym, ap, _∙_}
 use mathlib.Core.List.{List}
 use mathlib.Core.Bool.{Bool, true, false, not}
+use native.Mathlib.Omega.{arith}
 use lib.ListN.{length}
 use borrow.Author.Tests.{lt-ltb, le-ltb, ne-eqb}
 use Rattle.sheet.specs.Head.{rulesOf}
 use Rattle.sheet.specs.Rules.{refusalOf}
+use Rattle.sheet.proofs.promises.Verdicts.{not-refused}
 use Rattle.pdu.specs.Rules.{codeOf}
 use Rattle.pdu.specs.Table.{serviceAt}
 use Rattle.pdu.specs.Read.{readPdu, readOutcome, dataOf}
@@ -24,6 +26,7 @@ use Rattle.judge.specs.Decisions.{refused}
 use Rattle.judge.specs.Session.{levelIn}
 use Rattle.judge.specs.Modes.{reachOf, reaches, takes}
 use Rattle.judge.specs.Judge.{dataIn, decideOf, reachedOf, foundOf, isShut, checkedOf, judgeOf}
+use Rattle.judge.specs.Unread.{Unread}
 
 pub via-data : (x : Parsed) (p : Pdu) (a d : List ℕ) → x ≡ Is p → d ≡ dataOf p a → d ≡ dataIn x a
 via-data x p a d e h = h ∙ ap (λ (y : Parsed). dataIn y a) (sym e)
@@ -85,11 +88,8 @@ module _ (s : List ℕ) (q : Session) (mode group : ℕ) (a : List ℕ) (r : Dec
         pub shut : c ≡ true → r ≡ refused 7 → r ≡ checkedOf s q mode group a
         shut h g = simp (le-ltb _ _ two, le-ltb _ _ most, le-ltb _ _ known, ← c-is, h) g
 
-        pub by-code :
-            c ≡ false → (f : Found) (x : Parsed) (d : List ℕ) → f ≡ serviceAt (codeOf a) → x ≡ readPdu a → d ≡ dataIn x a →
-            ((a : List ℕ) → x ≡ readPdu a → d ≡ dataIn x a → r ≡ foundOf s q mode group a f) → r ≡ checkedOf s q mode group a
-        by-code h f x d f-is x-is d-is g =
-            simp (le-ltb _ _ two, le-ltb _ _ most, le-ltb _ _ known, ← c-is, h, ← f-is) (g a x-is d-is)
+        pub by-code : c ≡ false → r ≡ foundOf s q mode group a (serviceAt (codeOf a)) → r ≡ checkedOf s q mode group a
+        by-code h g = simp (le-ltb _ _ two, le-ltb _ _ most, le-ltb _ _ known, ← c-is, h) g
 
   -- the buffer and the sheet before them
   module _ (room : ℕ) where
@@ -105,3 +105,45 @@ module _ (s : List ℕ) (q : Session) (mode group : ℕ) (a : List ℕ) (r : Dec
       pub on-checks : n ≡ 0 → r ≡ checkedOf s q mode group a → r ≡ judgeOf room s q mode group a
       unfolding judgeOf
       on-checks good g = simp (le-ltb _ _ roomy, sym n-is ∙ good) g
+
+-- WHAT REFUSES A REQUEST UNREAD, and that nothing does
+module _ (room : ℕ) (s : List ℕ) (q : Session) (mode : ℕ) (a : List ℕ) where
+  stops : (n : ℕ) → (n ≡ 0 → ⊥) → ((group : ℕ) → refused n ≡ judgeOf room s q mode group a) → Unread room s q mode a n
+  stops n h g =
+      record { refuses = λ _ group. sym (g group); accepted = λ e. absurd (h e); goes = λ e. absurd (h e) }
+
+  pub unread-room : room < 16 → Unread room s q mode a 3
+  unread-room h = stops 3 (λ e. omega arith) (λ group. no-room s q mode group a (refused 3) room h refl)
+
+  module _ (roomy : 16 ≤ room) (n : ℕ) (n-is : n ≡ refusalOf s) where
+    pub unread-sheet : (n ≡ 0 → ⊥) → Unread room s q mode a n
+    unread-sheet h = stops n h (λ group. not-accepted s q mode group a (refused n) room roomy n n-is h refl)
+
+    module _ (good : n ≡ 0) where
+      checks : (m : ℕ) → (m ≡ 0 → ⊥) → ((group : ℕ) → refused m ≡ checkedOf s q mode group a) → Unread room s q mode a m
+      checks m h g = stops m h (λ group. on-checks s q mode group a (refused m) room roomy n n-is good (g group))
+
+      pub unread-short : length a < 2 → Unread room s q mode a 5
+      unread-short h = checks 5 (λ e. omega arith) (λ group. too-short s q mode group a (refused 5) h refl)
+
+      module _ (two : 2 ≤ length a) where
+        pub unread-long : 16 < length a → Unread room s q mode a 5
+        unread-long h = checks 5 (λ e. omega arith) (λ group. too-long s q mode group a (refused 5) two h refl)
+
+        module _ (most : length a ≤ 16) where
+          pub unread-mode : 3 < mode → Unread room s q mode a 6
+          unread-mode h = checks 6 (λ e. omega arith) (λ group. no-mode s q mode group a (refused 6) two most h refl)
+
+          module _ (known : mode ≤ 3) (c : Bool) (c-is : c ≡ isShut q mode) where
+            pub unread-shut : c ≡ true → Unread room s q mode a 7
+            unread-shut h = checks 7 (λ e. omega arith) (λ group. shut s q mode group a (refused 7) two most known c c-is h refl)
+
+            pub unread-none : c ≡ false → Unread room s q mode a 0
+            unread-none h =
+                record {
+                  refuses = λ e. absurd (e refl);
+                  accepted = λ _. not-refused s n n-is good;
+                  goes = λ _ group.
+                      let k = foundOf s q mode group a (serviceAt (codeOf a)) in
+                      sym (on-checks s q mode group a k room roomy n n-is good (by-code s q mode group a k two most known c c-is h refl));
+                }

@@ -1,4 +1,4 @@
--- This crate's promise is the contract of `judge::judge`; its theorems are LAWS behind it and behind the device's.
+-- This crate's promises are the contracts of `judge::refused_unread` and `judge::found`; its theorems are LAWS behind them and behind the device's.
 -- A worked example: Examples.
 -- What is decided, case by case, which the device cites: SheetCases, GroupCases, DescriptorCases, PropertyCases, MemoryCases, KeyCases.
 -- From what the parts of a function ensure to what it ensures: all other modules. A folder holds the proof of the function whose name it has.

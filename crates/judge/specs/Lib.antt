@@ -7,3 +7,4 @@ pub mod Properties
 pub mod Memory
 pub mod Keys
 pub mod Judge
+pub mod Unread

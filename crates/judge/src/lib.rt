@@ -15,10 +15,9 @@ ghost use Prim.Native.Nat.{ℕ};
 ghost use mathlib.Core.Bool.{true};
 ghost use mathlib.Core.List.{List};
 ghost use Rattle.sheet.specs.Rules.{Accepted};
-ghost use Rattle.pdu.specs.Rules.{codeOf};
-ghost use Rattle.pdu.specs.Table.{serviceAt};
 ghost use Rattle.pdu.specs.Read.{readPdu};
-ghost use Rattle.judge.specs.Judge.{dataIn, isShut, reachedOf, foundOf, checkedOf, judgeOf};
+ghost use Rattle.judge.specs.Judge.{dataIn, isShut, reachedOf, foundOf};
+ghost use Rattle.judge.specs.Unread.{Unread};
 use decisions::refused;
 use levels::CONNECTED;
 use levels::level_in;
@@ -144,8 +143,8 @@ fn reached(s: &[u8], x: Request, d: &[u8], r: Reach) -> Decision
     decide(s, level_in(session, x.mode), x.group, d, p)
 }
 
-// The same by what the code names.
-fn found(s: &[u8], x: Request, d: &[u8]) -> Decision
+// What is decided about a request that nothing refused unread, with data d, by what its code names.
+pub fn found(s: &[u8], x: Request, d: &[u8]) -> Decision
     requires { ⌜ Accepted (now s) ⌝ }
     ensures { λ k. ⌜ ((a : List ℕ) → x .parsed ≡ readPdu a → now (d .entry) ≡ dataIn (x .parsed) a → k ≡ foundOf (now (s .entry)) (x .session) (x .mode) (x .group) a (x .found)) ⌝ }
 {
@@ -156,39 +155,37 @@ fn found(s: &[u8], x: Request, d: &[u8]) -> Decision
     }
 }
 
-// On a sheet that is not refused: 5, 6 and 7, then by what the code names.
-fn checked(s: &[u8], x: Request, apdu: &[u8], d: &[u8]) -> Decision
-    requires { ⌜ Accepted (now s) × (x .found ≡ serviceAt (codeOf (now apdu))) × (x .parsed ≡ readPdu (now apdu)) × (now d ≡ dataIn (x .parsed) (now apdu)) ⌝ }
-    ensures { λ r. ⌜ r ≡ checkedOf (now (s .entry)) (x .session) (x .mode) (x .group) (now (apdu .entry)) ⌝ }
-{
-    if apdu.len() < 2 {
-        return refused(5);
-    }
-    if 16 < apdu.len() {
-        return refused(5);
-    }
-    if CONNECTED < x.mode {
-        return refused(6);
-    }
-    let session = x.session;
-    if is_shut(session, x.mode) {
-        return refused(7);
-    }
-    found(s, x, d)
-}
-
-// What is decided about a request of that APDU, with its data: room is the length of the answer buffer. A sheet that is known to
-// be accepted is not judged again.
-pub fn judge(room: usize, known: bool, s: &[u8], x: Request, apdu: &[u8], d: &[u8]) -> Decision
-    requires { ⌜ (known ≡ true → Accepted (now s)) × (x .found ≡ serviceAt (codeOf (now apdu))) × (x .parsed ≡ readPdu (now apdu)) × (now d ≡ dataIn (x .parsed) (now apdu)) ⌝ }
-    ensures { λ r. ⌜ r ≡ judgeOf room (now (s .entry)) (x .session) (x .mode) (x .group) (now (apdu .entry)) ⌝ }
+// What refuses a request before it is read, or 0: 3 for an answer buffer that is too short, then what the sheet is refused by, then
+// 5, 6 and 7; room is the length of the buffer. A sheet that is known to be accepted is not judged again.
+pub fn refused_unread(
+    room: usize,
+    known: bool,
+    s: &[u8],
+    session: Session,
+    mode: u8,
+    apdu: &[u8],
+) -> u8
+    requires { ⌜ (known ≡ true → Accepted (now s)) ⌝ }
+    ensures { λ r. ⌜ Unread room (now (s .entry)) session mode (now (apdu .entry)) r ⌝ }
 {
     if room < 16 {
-        return refused(3);
+        return 3;
     }
     let n = sheet::refusal_unless(known, s);
     if n != 0 {
-        return refused(n);
+        return n;
     }
-    checked(s, x, apdu, d)
+    if apdu.len() < 2 {
+        return 5;
+    }
+    if 16 < apdu.len() {
+        return 5;
+    }
+    if CONNECTED < mode {
+        return 6;
+    }
+    if is_shut(session, mode) {
+        return 7;
+    }
+    0
 }

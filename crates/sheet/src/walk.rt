@@ -1,6 +1,6 @@
 // S6 to S9: the walk over the entries and their bodies, that stops at the first rule broken.
 ghost use mathlib.Core.Path.{_≡_};
-ghost use Prim.Native.Nat.{_<_};
+ghost use Prim.Native.Nat.{_+_, _%_, _<_};
 ghost use Rattle.sheet.specs.Demand.{Tells};
 ghost use Rattle.sheet.specs.Kind.{kinds, users};
 ghost use Rattle.sheet.specs.Entries.{place as placeOf, floor, startOf};
@@ -84,6 +84,13 @@ fn users_first(s: &[u8], rule: u8) -> u8
     rule
 }
 
+// The rule of the entries of a kind: S6, S7, S8, and S6 again. Reckoned where the walk leaves, so that no step carries it along.
+fn rule_of(k: usize) -> u8
+    ensures { λ r. ⌜ r ≡ 6 + k % 3 ⌝ }
+{
+    6 + (k % 3) as u8
+}
+
 // S6 to S9, each entry with its body in one go: that a body breaks S9 counts once all entries have passed. A body's end is that
 // of the one before and its length, and stands where the sheet says as long as nothing is late.
 fn walk(s: &[u8]) -> u8
@@ -105,7 +112,7 @@ fn walk(s: &[u8]) -> u8
             let judged = step(s, k, i, at, last, z, late);
             let rule = judged.rule;
             if rule != 0 {
-                break 'walk users_first(s, rule);
+                break 'walk users_first(s, rule_of(k));
             }
             at = judged.at;
             last = judged.last;

@@ -7,12 +7,11 @@ use mathlib.Core.Bool.{Bool, true, false, cond, not}
 use mathlib.Core.List.{List, [], _∷_}
 use native.Mathlib.Omega.{arith}
 use lib.Dec.{eqb, leb, ltb}
-use lib.ListN.{length, take, drop, length-drop}
+use lib.ListN.{length, take, drop, getD, length-drop}
 use lib.Seq.{take-all}
 use borrow.Author.Tests.{eq-eqb, ne-eqb, le-leb, lt-leb, lt-ltb, le-ltb, not-true, not-false, eqb-true}
 use Rattle.octets.specs.Bytes.{numAt, IsNum}
 use Rattle.octets.specs.Splice.{splice}
-use Rattle.octets.proofs.Numbers.{num-one}
 use Rattle.octets.proofs.Splices.{splice-none}
 use Rattle.octets.proofs.Tests.{both, not-first, not-second}
 use Rattle.octets.proofs.Truths.{never, and-is}
@@ -48,18 +47,17 @@ zero-level q r h e = rw (not-false (q .opened) h) e
 
 -- a byte of an entry
 module _ (s d : List ℕ) (p q j : ℕ) where
-  pub byte-compared :
-      (x y : ℕ) (r : Bool) → isCount j ≡ false → IsNum d (q + j) 1 256 x → IsNum s (p + j) 1 256 y → r ≡ eqb x y → r ≡ sameByte s p d q j
-  byte-compared x y r n hx hy e = rw n (e ∙ ap₂ eqb (hx .value ∙ num-one d (q + j)) (hy .value ∙ num-one s (p + j)))
+  byte-compared : (r : Bool) → isCount j ≡ false → r ≡ eqb (getD d (q + j) 0) (getD s (p + j) 0) → r ≡ sameByte s p d q j
+  byte-compared r n e = rw n e
 
-  pub byte-before : (x y : ℕ) (r : Bool) → j < 6 → IsNum d (q + j) 1 256 x → IsNum s (p + j) 1 256 y → r ≡ eqb x y → r ≡ sameByte s p d q j
-  byte-before x y r h = byte-compared x y r (not-first (leb 6 j) (ltb j 8) (lt-leb 6 j h))
+  pub byte-before : (r : Bool) → j < 6 → r ≡ eqb (getD d (q + j) 0) (getD s (p + j) 0) → r ≡ sameByte s p d q j
+  byte-before r h = byte-compared r (not-first (leb 6 j) (ltb j 8) (lt-leb 6 j h))
 
   pub byte-of-count : 6 ≤ j → j < 8 → true ≡ sameByte s p d q j
   byte-of-count h k = let t : isCount j ≡ true = both (leb 6 j) (ltb j 8) (le-leb 6 j h) (lt-ltb j 8 k) in rw t
 
-  pub byte-behind : (x y : ℕ) (r : Bool) → 8 ≤ j → IsNum d (q + j) 1 256 x → IsNum s (p + j) 1 256 y → r ≡ eqb x y → r ≡ sameByte s p d q j
-  byte-behind x y r h = byte-compared x y r (not-second (leb 6 j) (ltb j 8) (le-ltb j 8 h))
+  pub byte-behind : (r : Bool) → 8 ≤ j → r ≡ eqb (getD d (q + j) 0) (getD s (p + j) 0) → r ≡ sameByte s p d q j
+  byte-behind r h = byte-compared r (not-second (leb 6 j) (ltb j 8) (le-ltb j 8 h))
 
 -- all of its bytes
 pub all-bytes : (s d : List ℕ) (p q : ℕ) (r : Bool) → r ≡ every 12 (λ j. sameByte s p d q j) → r ≡ sameEntry s p d q

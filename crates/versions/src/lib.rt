@@ -1,6 +1,6 @@
 // Versions of the settings, kept in a lent buffer.
 mod layout;
-mod link;
+mod linking;
 mod listing;
 mod removing;
 mod restoring;

@@ -7,7 +7,7 @@ ghost use Rattle.versions.specs.Steps.{cutOut, closed, takenOut};
 ghost use Rattle.versions.specs.Walk.{Tabled, Chosen, Stands};
 use crate::layout::head;
 use crate::layout::row;
-use crate::link::link;
+use crate::linking::link;
 use crate::rules::BAD_STORE;
 use crate::rules::NOT_KEPT;
 use crate::rules::check;

@@ -14,7 +14,6 @@ use crate::settings::give_back;
 use crate::settings::long_of;
 use crate::table::version;
 use judge::Session;
-use octets::byte;
 use octets::word;
 
 // The numbers of the refusals: no session at level 0, other entries, a count above its maximum.
@@ -36,21 +35,21 @@ fn at_zero(session: Session) -> bool
 
 // Whether byte j of the entry at p of the sheet is that of the entry at q of the version, or one of the count.
 fn same_byte(sheet: &[u8], p: usize, d: &[u8], q: usize, j: usize) -> bool
-    requires { ⌜ (p + 12 ≤ 16384) × (q + 12 ≤ 16384) × (j < 12) ⌝ }
+    requires { ⌜ (p + 12 ≤ length (now sheet)) × (q + 12 ≤ length (now d)) × (length (now sheet) ≤ 16384) × (q ≤ 16384) × (j < 12) ⌝ }
     ensures { λ r. ⌜ r ≡ sameByte (now (sheet .entry)) p (now (d .entry)) q j ⌝ }
 {
     if j < 6 {
-        return byte(d, q + j) == byte(sheet, p + j);
+        return d[q + j] == sheet[p + j];
     }
     if j < 8 {
         return true;
     }
-    byte(d, q + j) == byte(sheet, p + j)
+    d[q + j] == sheet[p + j]
 }
 
 // Whether the entry at p of the sheet and that at q of the version are the same but for the count.
 fn same_entry(sheet: &[u8], p: usize, d: &[u8], q: usize) -> bool
-    requires { ⌜ (p + 12 ≤ 16384) × (q + 12 ≤ 16384) ⌝ }
+    requires { ⌜ (p + 12 ≤ length (now sheet)) × (q + 12 ≤ length (now d)) × (length (now sheet) ≤ 16384) × (q ≤ 16384) ⌝ }
     ensures { λ r. ⌜ r ≡ sameEntry (now (sheet .entry)) p (now (d .entry)) q ⌝ }
 {
     let mut j = 0;
@@ -65,7 +64,7 @@ fn same_entry(sheet: &[u8], p: usize, d: &[u8], q: usize) -> bool
 
 // Whether the n entries from p on of the sheet are those of the version, but for the counts.
 fn entries_same(sheet: &[u8], p: usize, d: &[u8], n: usize) -> bool
-    requires { ⌜ (n ≤ 64) × (p + 12 * n ≤ 16384) ⌝ }
+    requires { ⌜ (n ≤ 64) × (p + 12 * n ≤ length (now sheet)) × (2 + 12 * n ≤ length (now d)) × (length (now sheet) ≤ 16384) ⌝ }
     ensures { λ r. ⌜ r ≡ every n (λ i. sameEntry (now (sheet .entry)) (p + 12 * i) (now (d .entry)) (2 + 12 * i)) ⌝ }
 {
     let mut i = 0;

@@ -11,7 +11,7 @@ ghost use Rattle.versions.specs.Steps.{appended};
 ghost use Rattle.versions.specs.Walk.{Appendable};
 use crate::layout::head;
 use crate::layout::row;
-use crate::link::link;
+use crate::linking::link;
 use crate::rules::BAD_STORE;
 use crate::rules::check;
 use crate::settings::Extent;

@@ -4,6 +4,7 @@
 //!     bench                  times, then instructions by callgrind if it is there
 //!     bench --instructions   instructions alone
 //!     bench --play           every case on every side, for callgrind to count
+//!     bench --cases          every case as a line, for tests/bench/emulated.sh
 
 mod cases;
 mod counts;
@@ -123,11 +124,31 @@ fn main() {
             print(&benches, None, counts::measure(&benches).as_deref());
         }
         ["--play"] => counts::play(&benches),
+        ["--cases"] => for_each_case(&benches, tell),
         _ => {
             eprintln!("usage: bench [--instructions]");
             std::process::exit(2)
         }
     }
+}
+
+/// A case as a line: what is called, its number and group, APDU and sheet in hex, whether the check is taken off, and the names.
+fn tell(bench: &Bench, case: &Case) {
+    let hex = |bytes: &[u8]| bytes.iter().map(|b| format!("{b:02x}")).collect::<String>();
+    let (kind, number, apdu) = match case.ask {
+        Ask::Check => ('c', 0, String::from("-")),
+        Ask::Request { mode, ref apdu } => ('r', mode.into(), hex(apdu)),
+        Ask::Property(object, id) => ('p', u16::from(object) * 256 + u16::from(id), "-".into()),
+        Ask::Group(address) => ('g', address, String::from("-")),
+    };
+    println!(
+        "{kind} {number} {} {apdu} {} {} {} {}",
+        bench.group,
+        hex(&bench.sheet),
+        u8::from(case.less_check),
+        bench.name,
+        case.name.replace(' ', "-")
+    );
 }
 
 /// One row: sheet and case, then what was measured of each side, and the ratio; - for what was not.

@@ -4,9 +4,16 @@ use Prim.Native.Nat.{ℕ}
 use mathlib.Core.Path.{_≡_, refl, ap, sym, subst, _∙_}
 use mathlib.Core.List.{List}
 use lib.ListN.{length}
+use Rattle.octets.proofs.Splices.{splice-none}
+use Rattle.sheet.specs.Rules.{Accepted}
+use Rattle.pdu.specs.Rules.{codeOf}
+use Rattle.pdu.specs.Table.{serviceAt}
 use Rattle.pdu.specs.Read.{readPdu}
+use Rattle.pdu.specs.declared.Found.{Found}
 use Rattle.pdu.specs.declared.Parsed.{Parsed}
-use Rattle.judge.specs.Judge.{dataIn, judgeOf}
+use Rattle.judge.specs.Decisions.{refused}
+use Rattle.judge.specs.Judge.{dataIn, foundOf, judgeOf}
+use Rattle.judge.specs.Unread.{Unread}
 use Rattle.judge.specs.declared.Session.{Session}
 use Rattle.judge.specs.declared.Decision.{Decision}
 use Rattle.device.specs.Carry.{storeOf, turnOf, closes, answerOf, Filled}
@@ -14,10 +21,11 @@ use Rattle.device.specs.Safe.{StoreSafe, Narrow, AnswerSafe, Roomy, Safe
 use Rattle.device.specs.Step.{Step, stepBy, stepOf}
 use Rattle.device.specs.Sessions.{sessionFor, turnedOf, sessionsAfter}
 use Rattle.device.specs.Events.{Effect, requestOf, Did}
-use Rattle.device.specs.Changed.{changesOf, changedOf}
+use Rattle.device.specs.Changed.{changesOf, changedOf, none}
 use Rattle.device.specs.declared.Sessions.{Sessions}
 use Rattle.device.specs.declared.Done.{Done}
 use Rattle.device.specs.declared.Changed.{Changed}
+use Rattle.device.proofs.calls.Turns.{all-stay}
 use Rattle.device.proofs.calls.Sixteen.{narrow}
 use Rattle.device.proofs.calls.Safe.{safe}
 use Rattle.device.proofs.calls.Room.{roomy}
@@ -89,3 +97,30 @@ module _ (room : ℕ) (s : List ℕ) (q : Session) (mode group : ℕ) (a d : Lis
             sheet = refl;
             answer = sent .holds;
           })
+
+-- a request that was refused before it was read
+module _ (qs : Sessions) (mode c group : ℕ) (a s out : List ℕ) (q : Session) (n : ℕ) (met : q ≡ sessionFor qs mode c)
+    (told : Unread (length out) s q mode a n) (some : n ≡ 0 → ⊥) where
+  unmade : judgeOf (length out) s (sessionFor qs mode c) mode group a ≡ refused n
+  unmade = ap (λ (x : Session). judgeOf (length out) s x mode group a) (sym met) ∙ told .refuses some group
+
+  pub refused-did : Did (requestOf (length out) s qs mode c group a) (record { outcome = n; count = 0; sessions = qs }) out s out
+  unfolding requestOf stepOf stepBy
+  refused-did =
+      rw unmade
+      (record { outcome = refl; count = refl; sessions = all-stay qs mode c; sheet = refl; answer = sym (splice-none out 0) })
+
+  pub refused-changes : none ≡ changedOf (length out) s qs mode c group a
+  unfolding changedOf
+  refused-changes = rw unmade refl
+
+-- and one that goes on is decided by what its code names
+pub goes-on :
+    (room : ℕ) (s : List ℕ) (q : Session) (mode group : ℕ) (a d : List ℕ) (n : ℕ) (f : Found) (got : Parsed) (k : Decision) →
+    Unread room s q mode a n → n ≡ 0 → f ≡ serviceAt (codeOf a) → got ≡ readPdu a → d ≡ dataIn got a →
+    ((a : List ℕ) → got ≡ readPdu a → d ≡ dataIn got a → k ≡ foundOf s q mode group a f) → k ≡ judgeOf room s q mode group a
+goes-on room s q mode group a d n f got k told z f-is read given g =
+    g a read given ∙ ap (foundOf s q mode group a) f-is ∙ sym (told .goes z group)
+
+pub still-accepted : (room : ℕ) (s : List ℕ) (q : Session) (mode : ℕ) (a : List ℕ) (n : ℕ) → Unread room s q mode a n → n ≡ 0 → Accepted s
+still-accepted room s q mode a n told z = told .accepted z

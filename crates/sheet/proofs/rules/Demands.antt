@@ -62,3 +62,17 @@ pub unbroken : (ds : List Demand) → Met ds → breach ds ≡ 0
 unfolding breach
 unbroken [] h = refl
 unbroken (d ∷ ds) h = rw (passes (d .order) (h .0)) (unbroken ds (h .1))
+
+-- rows that all name one rule break that one or none
+abbrev pub OneRule : ℕ → List Demand → Type 0
+OneRule n [] = Unit
+OneRule n (d ∷ ds) = (d .rule ≡ n) × OneRule n ds
+
+pub one-rule : (n : ℕ) (ds : List Demand) → OneRule n ds → (breach ds ≡ 0 → ⊥) → breach ds ≡ n
+unfolding breach
+one-rule n [] o h = absurd (h refl)
+one-rule n (d ∷ ds) o h = split (test (d .order)) (one-rule n ds (o .1)) h
+  where
+    split : (b : Bool) → ((breach ds ≡ 0 → ⊥) → breach ds ≡ n) → (cond b (breach ds) (d .rule) ≡ 0 → ⊥) → cond b (breach ds) (d .rule) ≡ n
+    split true f h = f h
+    split false f h = o .0

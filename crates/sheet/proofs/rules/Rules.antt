@@ -1,6 +1,6 @@
 -- The walk: what its steps leave, and where it leaves, with which rule.
 -- Assumes nothing.
-use Prim.Native.Nat.{ℕ, zero, suc, _+_, _*_, _≤_, _<_}
+use Prim.Native.Nat.{ℕ, zero, suc, _+_, _*_, _%_, _≤_, _<_}
 use mathlib.Core.Path.{_≡_, refl, sym, _∙_, ap, subst, subst⁻¹}
 use mathlib.Core.List.{List}
 use mathlib.Core.Bool.{Bool, true, false, cond}
@@ -19,7 +19,8 @@ use Rattle.sheet.specs.Entries.{count, size, base, place, contents, entr
 use Rattle.sheet.specs.Rules.{regionDemands, propertyDemands, groupDemands, entryDemands, bodyDemands, endDemands, frameDemands, zeroDemands, entryRule, bodyRule, entriesRule, bodiesRule, restRule, walkRule, ruleIn, ruleOf, edition}
 use Rattle.sheet.specs.Walk.{Framed, Entry, Counted, lastOf, long, far, Late, Next, VerdictOf, Steps}
 use Rattle.sheet.specs.declared.entry_rules.Verdict.{Verdict}
-use Rattle.sheet.proofs.rules.Demands.{told, met, unbroken as all-unbroken}
+use Rattle.sheet.proofs.rules.ByKind.{eachKind}
+use Rattle.sheet.proofs.rules.Demands.{told, met, one-rule, unbroken as all-unbroken}
 use Rattle.sheet.proofs.rules.First.{orElse-some, orElse-left, orElse-right, orElse-zero, orElse-assoc, first-none, first-suc, first-more, first-stop}
 
 pub framed : (ed : ℕ) (s : List ℕ) (r : ℕ) → Tells r (frameDemands ed s) → r ≡ 0 → Framed ed s
@@ -260,15 +261,29 @@ module _ (s : List ℕ) where
 all-kinds : (s : List ℕ) → first (entriesRule s) kinds ≡ orElse (first (entriesRule s) users) (entriesRule s users)
 all-kinds s = first-suc (entriesRule s) users
 
+-- an entry breaks the rule of its kind or none
+kind-rule : (s : List ℕ) (i k : ℕ) → k < kinds → (entryRule s k i ≡ 0 → ⊥) → entryRule s k i ≡ 6 + k % 3
+unfolding entryRule entryDemands
+kind-rule s i =
+    eachKind (λ (k : ℕ). (entryRule s k i ≡ 0 → ⊥) → entryRule s k i ≡ 6 + k % 3)
+    (one-rule 6 (regionDemands (floor s regions i) (entry s regions i)) (refl, (refl, (refl, (refl, (refl, (refl, tt)))))))
+    (one-rule 7 (propertyDemands (floor s properties i) (entry s properties i)) (refl, (refl, (refl, (refl, (refl, (refl, (refl, (refl, (refl, (refl, (refl, tt))))))))))))
+    (one-rule 8 (groupDemands (floor s groups i) (entry s groups i)) (refl, (refl, (refl, (refl, (refl, tt))))))
+    (one-rule 6 (regionDemands (floor s users i) (entry s users i)) (refl, (refl, (refl, (refl, (refl, (refl, tt)))))))
+
 -- where the walk leaves
 module _ (s : List ℕ) (r : ℕ) where
-  pub left-at : (k n a l z late i a₀ z₀ late₀ x : ℕ) (e : Verdict) → Walked s k a₀ z₀ late₀ → Passed s k n a l z late i → k < kinds → i < n
-      → Steps s k i z late e → x ≡ e .rule → (x ≡ 0 → ⊥) → r ≡ orElse (entriesRule s users) x → r ≡ walkRule s
+  pub left-at : (k n a l z late i a₀ z₀ late₀ x y : ℕ) (e : Verdict) → r ≡ orElse (entriesRule s users) y → y ≡ 6 + k % 3 → Steps s k i z late e
+      → x ≡ e .rule → Passed s k n a l z late i → Walked s k a₀ z₀ late₀ → k < kinds → i < n → (x ≡ 0 → ⊥) → r ≡ walkRule s
   unfolding walkRule restRule
-  left-at k n a l z late i a₀ z₀ late₀ x e w v hk hi u q h t = t ∙ go (first (entriesRule s) users) refl
+  left-at k n a l z late i a₀ z₀ late₀ x y e t f u q v w hk hi h =
+      t ∙ ap (orElse (entriesRule s users)) (f ∙ sym by-kind) ∙ go (first (entriesRule s) users) refl
     where
       here : x ≡ entryRule s k i
       here = unfold entryRule in q ∙ told _ _ (u .is .rule)
+
+      by-kind : x ≡ 6 + k % 3
+      by-kind = here ∙ kind-rule s i k hk (λ o. h (here ∙ o))
 
       kind : x ≡ entriesRule s k
       kind = unfold entriesRule in rw (← v .whole) (here ∙ first-stop (entryRule s k) n i hi (v .clean) (λ y. h (here ∙ y)))

@@ -1,6 +1,7 @@
 -- `sheet::walk::walk` meets its contract. The invariants: no entry before this one has broken a rule, and `late` is 0 exactly if
 -- none of their bodies has. Assumes nothing.
 use Prim.Native.Nat.{_-_}
+use mathlib.Core.Path.{refl}
 use borrow.Author.Needs.{needs}
 use Rattle.sheet.specs.Kind.{kinds}
 use Rattle.sheet.proofs.rules.Rules.{Walked, Passed, contents-narrow, counted-narrow, walk-begins, pass-begins, pass-entry, pass-near, pass-goes, walk-goes, left-at, at-end}
@@ -19,6 +20,10 @@ Inv-walk s k₀ a₀ z₀ late₀ k a z late = Walked s k a z late
 abbrev μ-walk : tie.MeasureT-walk
 μ-walk s k₀ a₀ z₀ late₀ k a z late = kinds - k
 
+leaves : tie.Need-returns-2 Inv-loop μ-loop Inv-walk μ-walk
+leaves c =
+    left-at _ _ _ _ _ _ _ _ _ _ _ _ _ _ _ (c .users-first .ensures) (c .before .rule-of .ensures) (c .before .before .before .step .ensures) refl (c .before .before .before .before .before .loop .inv) (c .before .before .before .before .before .before .before .before .walk .inv) (c .before .before .before .before .before .before .before .if1 .left) (c .before .before .before .before .loop-test .taken) (c .before .before .if2 .taken)
+
 pub walk-spec : {M : Type 1} → statement M
 walk-spec =
     tie.close
@@ -33,9 +38,9 @@ walk-spec =
     (λ c κs. search needs) (λ c κs. search needs) (λ c. search counted-narrow)
     (λ c. search pass-begins)
     (λ c κs. search (pass-entry, pass-near, needs))
-    (λ c κs. search needs) (λ c. search needs) (λ c. search needs)
+    (λ c κs. search needs) (λ c κs. search needs) (λ c. search needs) (λ c. search needs)
     (λ c. search pass-goes)
     (λ c. search needs) (λ c. search needs)
     (λ c. search walk-goes)
     (λ c. search at-end)
-    (λ c. search left-at))
+    leaves)

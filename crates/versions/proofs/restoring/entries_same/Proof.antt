@@ -24,7 +24,7 @@ entries-same-spec =
     (λ c. omega arith)
     (λ c. omega arith)
     (λ c. omega arith)
-    (λ c κs. (omega arith, omega arith))
+    (λ c κs. (omega arith, omega arith, omega arith, omega arith))
     (λ c. check-stop _ _ _ (c .before .before .before .loop .inv) _ (omega arith) (c .before .same-entry .ensures) (c .if1 .taken))
     (λ c. omega arith)
     (λ c. omega arith)

@@ -21,7 +21,7 @@ same-entry-spec =
     Inv-loop
     μ-loop
     (λ c. check-begin _ _)
-    (λ c κs. (omega arith, omega arith, omega arith))
+    (λ c κs. (omega arith, omega arith, omega arith, omega arith, omega arith))
     (λ c. all-bytes _ _ _ _ _ (check-stop _ _ _ (c .before .before .before .loop .inv) _ (omega arith) (c .before .same-byte .ensures) (c .if1 .taken)))
     (λ c. omega arith)
     (λ c. omega arith)
