@@ -68,7 +68,7 @@ void host_button(bool on);
 void host_silent(enum kelindap_connection connection);
 
 /* At times of the board's own: group values and programming mode are saved, if they have changed. With flash that takes 10,000 erases
-   once a day, or at the warning of low voltage if the supply outlasts a save; docs/SLOTS.md has the years. */
+   once a day, or at an early warning of low voltage, if the supply then outlasts a save; docs/SLOTS.md has the years. */
 void host_tick(void);
 
 /* Versions, on behalf of a connection: saved and removed at level 0 or 1, which is this host's rule, and restored at level 0, which

@@ -42,7 +42,7 @@ is --keys kelindap-sheet show --k
 is tank.sheet kelindap-sheet show t
 is slots kelindap-sheet sl
 is tank.sheet kelindap-sheet slots t
-is --help kelindap-sheet slots -
+is '--help --json' kelindap-sheet slots -
 is tank.sheet kelindap-sheet show --json t
 is tank.sheet kelindap-sheet diff a t
 is diff kelindap-sheet versions di

@@ -73,7 +73,7 @@ for program in sheet trace; do
 done
 # and what is for other programs is JSON, also of what is broken
 for words in 'check --json tank.sheet' 'check --json old.sheet' 'show --json --keys tank.sheet' 'show --json old.sheet' \
-    'diff --json old.sheet after.sheet' 'survey dumps --reference tank.sheet --json'; do
+    'diff --json old.sheet after.sheet' 'slots --json flash.dump' 'survey dumps --reference tank.sheet --json'; do
     # shellcheck disable=SC2086
     { kelindap-sheet $words || [ $? = 1 ]; } | python3 -m json.tool > /dev/null || fail "$words is no JSON"
 done

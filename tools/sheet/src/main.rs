@@ -41,7 +41,7 @@ fn obey(asked: &Asked) -> Said {
         ("convert", [old, new]) => convert(old, new, asked.flag("--force")),
         ("versions", [store]) => listed(store),
         ("versions diff", [store, number, file]) => since(store, number, file),
-        ("slots", [file]) => medium(file),
+        ("slots", [file]) => medium(file, asked.flag("--json")),
         ("survey", [folder]) => surveyed::surveyed(folder, asked),
         (command, _) => Err(format!("{command} has no such words")),
     }
@@ -169,7 +169,7 @@ fn stored(name: &str) -> Result<Result<Store, String>, String> {
 }
 
 /// Both slots of a medium; one that is something else is told as that.
-fn medium(name: &str) -> Said {
+fn medium(name: &str, json: bool) -> Said {
     let bytes = read(name, slots::MOST)?;
     match kinds::other(&bytes, File::Medium) {
         Some(what) => Err(format!("{name}: {what}")),
@@ -180,10 +180,17 @@ fn medium(name: &str) -> Said {
                 slots::HEAD
             ))
         }
-        None => Ok((
-            slots::text(&bytes).into_bytes(),
-            u8::from(slots::Medium::of(&bytes).counts().is_none()),
-        )),
+        None => {
+            let status = u8::from(slots::Medium::of(&bytes).counts().is_none());
+            Ok((
+                if json {
+                    line(slots::json(&plain(name), &bytes))
+                } else {
+                    slots::text(&bytes).into_bytes()
+                },
+                status,
+            ))
+        }
     }
 }
 

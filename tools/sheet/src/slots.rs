@@ -2,6 +2,7 @@
 //! stands in each, which counts, what is torn and why. docs/SLOTS.md has the layout.
 
 use crate::check::rules;
+use crate::json::Json;
 use crate::kinds::{self, File};
 use crate::versions::number_of;
 
@@ -93,6 +94,14 @@ impl<'a> Medium<'a> {
         }
     }
 
+    /// The slot that the next save goes to, and its number.
+    fn next(&self) -> (usize, u32) {
+        match (self.counts(), self.held()) {
+            (Some(k), Some(held)) => (1 - k, held.number.wrapping_add(1)),
+            _ => (0, 0),
+        }
+    }
+
     /// What a unit starts with.
     pub fn held(&self) -> Option<Held<'a>> {
         self.counts().and_then(|k| self.0[k].held().ok())
@@ -131,10 +140,7 @@ pub fn text(dump: &[u8]) -> String {
         out += &format!("slot {k}, {range}: {}", told(*slot, medium.0[1 - k]));
         out += if counts == Some(k) { "; this one counts\n" } else { "\n" };
     }
-    let (next, number) = match (counts, medium.held()) {
-        (Some(k), Some(held)) => (1 - k, held.number.wrapping_add(1)),
-        _ => (0, 0),
-    };
+    let (next, number) = medium.next();
     if counts.is_none() {
         out += "neither counts: a unit starts as a new one\n";
     } else if let [Ok(a), Ok(b)] = medium.0.map(Slot::held) {
@@ -147,6 +153,32 @@ pub fn text(dump: &[u8]) -> String {
         out += &format!("the mark stands at byte {at} too, where no half begins: are these two slots of one length?\n");
     }
     out
+}
+
+/// A dump for other programs; of a slot that holds nothing number, length and kind are null, and `told` says why.
+pub fn json(name: &str, dump: &[u8]) -> Json {
+    let medium = Medium::of(dump);
+    let slot = |k: usize| {
+        let held = medium.0[k].held().ok();
+        Json::Object(vec![
+            ("slot", k.into()),
+            ("from", (k * medium.0[0].0.len()).into()),
+            ("room", medium.0[k].0.len().into()),
+            ("whole", held.is_some().into()),
+            ("number", held.map(|h| h.number).into()),
+            ("length", held.map(|h| h.bytes.len()).into()),
+            ("kind", held.and_then(|h| kinds::of(h.bytes)).map(File::name).into()),
+            ("told", told(medium.0[k], medium.0[1 - k]).into()),
+        ])
+    };
+    let (next, number) = medium.next();
+    let goal = Json::Object(vec![("slot", next.into()), ("number", number.into())]);
+    Json::Object(vec![
+        ("file", name.into()),
+        ("counts", medium.counts().into()),
+        ("slots", vec![slot(0), slot(1)].into()),
+        ("next", goal),
+    ])
 }
 
 /// Where the mark stands on a unit of 32 bytes that begins no slot, which is so if the dump was cut out wrongly.

@@ -290,6 +290,19 @@ fn commands() {
         "{status} {out}"
     );
 
+    let slot = |k: usize, height: u32| {
+        format!("{{\"slot\":{k},\"from\":{},\"room\":256,\"whole\":true,\"number\":{height},\"length\":69,\"kind\":\"a sheet\",\"told\":\"number {height}, a sheet of 69 bytes, whole\"}}", 256 * k)
+    };
+    let object = format!("{{\"file\":\"medium\",\"counts\":1,\"slots\":[{},{}],\"next\":{{\"slot\":0,\"number\":9}}}}\n", slot(0, 7), slot(1, 8));
+    assert_eq!(told(&["slots", "--json", "medium"]), said(0, &object, ""));
+    let (status, out, _) = told(&["slots", "--json", "torn"]);
+    assert!(
+        status == 1
+            && out.contains("\"counts\":null")
+            && out.contains("\"whole\":false,\"number\":null"),
+        "{out}"
+    );
+
     // in place of a sheet
     assert_eq!(told(&["check", "medium"]), said(0, "OK\n", ""));
     assert_eq!(told(&["check", "sectors"]), said(0, "OK\n", ""));
