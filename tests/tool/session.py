@@ -140,6 +140,7 @@ def groups(tool):
 
 def others(h, tool):
     check("descriptor", tool("descriptor 1.1.5"), ("07b0\n", 0))
+    check("behind address translation", tool("descriptor 1.1.5 --nat"), ("07b0\n", 0))
     check("nobody", tool("descriptor 1.1.6"), ("kelindap-tool: 1.1.6: nobody has this address\n", 2))
     check("restart", tool("restart 1.1.5"), ("1.1.5 restarts\n", 0))
     check("scan", tool("scan 1.1"), ("1.1.5  mask 07b0  serial 00c501020304\n", 0))
@@ -155,6 +156,11 @@ def others(h, tool):
     check("what may not be read", ("region 0200h length 17 refused" in said, "maximum 1 refused r1 w1" in said), (True, True))
     said, status = tool("readout 1.1.5 --reference sheet --key-file key")
     check("with the key", (status, "refused" in said, "    70000" in said), (0, False, True))
+    said, status = tool("survey 1.1.5 --reference sheet --key-file wrong")
+    check("with a wrong key", (status, "1.1.5: the key gives level 3, which everybody has" in said), (1, True))
+    said, status = tool("survey 1.1.5 --reference sheet --key-file key")
+    check("nothing deviates", (status, "1 unit beside sheet: 1 read, 0 not read" in said, "units that were read in part: none" in said), (1, True, True))
+    check("but what is open to all", "open to all, write level 3\n     1  property 2/7\n" in said, True)
 
 
 def keys(h, tool):
