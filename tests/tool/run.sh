@@ -17,8 +17,10 @@ beside() { # NAME COMMAND..
     waiting+=("$!:$1")
 }
 if command -v python3 > /dev/null; then
-    beside session env HEIGHT_PROGRAM="$PWD/$build/height" DEVICE_PROGRAM="$PWD/$build/kelindap-device" python3 tests/tool/session.py
-    beside meet env DEVICE_PROGRAM="$PWD/$build/kelindap-device" python3 tests/tool/meet.py
+    export HEIGHT_PROGRAM=$PWD/$build/height DEVICE_PROGRAM=$PWD/$build/kelindap-device
+    beside units python3 tests/tool/session.py units
+    beside around python3 tests/tool/session.py around
+    beside meet python3 tests/tool/meet.py
 else
     echo "tool: left out: sessions and knxd: there is no python3 here"
 fi

@@ -1,5 +1,7 @@
 """Every command of kelindap-tool as a person gives it, against kelindap-device on the loopback: what it says, its status, what then
-stands in the file; keys, which nobody may see; the terminal; signals; recordings, which kelindap-trace explains; a full disk."""
+stands in the file; keys, which nobody may see; the terminal; signals; recordings, which kelindap-trace explains; a full disk.
+
+    session.py [units | around]        one half of it: the requests, or all around them"""
 import os
 import pty
 import re
@@ -138,6 +140,7 @@ def groups(tool):
 
 def others(h, tool):
     check("descriptor", tool("descriptor 1.1.5"), ("07b0\n", 0))
+    check("behind address translation", tool("descriptor 1.1.5 --nat"), ("07b0\n", 0))
     check("nobody", tool("descriptor 1.1.6"), ("kelindap-tool: 1.1.6: nobody has this address\n", 2))
     check("restart", tool("restart 1.1.5"), ("1.1.5 restarts\n", 0))
     check("scan", tool("scan 1.1"), ("1.1.5  mask 07b0  serial 00c501020304\n", 0))
@@ -153,6 +156,11 @@ def others(h, tool):
     check("what may not be read", ("region 0200h length 17 refused" in said, "maximum 1 refused r1 w1" in said), (True, True))
     said, status = tool("readout 1.1.5 --reference sheet --key-file key")
     check("with the key", (status, "refused" in said, "    70000" in said), (0, False, True))
+    said, status = tool("survey 1.1.5 --reference sheet --key-file wrong")
+    check("with a wrong key", (status, "1.1.5: the key gives level 3, which everybody has" in said), (1, True))
+    said, status = tool("survey 1.1.5 --reference sheet --key-file key")
+    check("nothing deviates", (status, "1 unit beside sheet: 1 read, 0 not read" in said, "units that were read in part: none" in said), (1, True, True))
+    check("but what is open to all", "open to all, write level 3\n     1  property 2/7\n" in said, True)
 
 
 def keys(h, tool):
@@ -271,6 +279,26 @@ def full_disk(h, tool):
     r = subprocess.run(["bash", "-c", words + " | cat"], capture_output=True, text=True, cwd=tool.dir)
     check("told by unit", "1.1.5: read, and not kept in kept: File too large" in r.stdout, True)
     check("nothing is left", os.listdir(os.path.join(tool.dir, "kept")), [])
+    small = os.path.join(tool.dir, "small")
+    os.mkdir(small)
+    if subprocess.run(["mount", "-t", "tmpfs", "-o", "size=16k", "none", small], capture_output=True).returncode != 0:
+        print("session: left out: a disk that is full, for no tmpfs may be mounted")
+    else:
+        try:
+            with open(small + "/fill", "wb", buffering=0) as f:
+                try:
+                    while f.write(b"x" * 4096):
+                        pass
+                except OSError:
+                    pass
+            said, status = tool("survey 1.1.4-6 --reference sheet --into small")
+            check("a full disk", ("1.1.5: read, and not kept in small: No space left on device" in said, "1 read, 2 not read" in said, status),
+                  (True, True, 1))
+            os.remove(small + "/fill")
+            tool("survey 1.1.5 --reference sheet --into small")
+            check("with room it is kept", os.listdir(small), ["1.1.5.readout"])
+        finally:
+            subprocess.run(["umount", small], check=True)
     r = subprocess.run(["bash", "-c", "ulimit -f 0; exec %s descriptor 1.1.5 --record full.hex --via %s" % (TOOL, tool.via)],
                        capture_output=True, text=True, cwd=tool.dir)
     check("a recording with a gap", (r.returncode, "full.hex: File too large" in r.stderr), (2, True))
@@ -296,7 +324,7 @@ def examples(h, tool):
     check("a word from the man page", "→ 1250" in tool.all, True)
 
 
-def main():
+def main(part):
     h = Host(sheet=sheet_of(TEXT))
     try:
         with open(h.dir + "/before", "wb") as f:
@@ -305,20 +333,22 @@ def main():
         for name, digits, mode in (("key", "22222222", 0o600), ("wrong", "33333333", 0o400), ("open", "22222222", 0o644),
                                    ("text", "two keys", 0o600), ("new", "44444444", 0o600)):
             key(h.dir, name, digits, mode)
-        properties(tool)
-        memories(tool)
-        groups(tool)
-        others(h, tool)
-        keys(h, tool)
-        terminal(tool)
-        recorded(h, tool)
-        full_disk(h, tool)
-        examples(h, tool)
-        example_in_c(h, tool)
+        if part in ("", "units"):
+            properties(tool)
+            memories(tool)
+            groups(tool)
+            others(h, tool)
+        if part in ("", "around"):
+            keys(h, tool)
+            terminal(tool)
+            recorded(h, tool)
+            full_disk(h, tool)
+            examples(h, tool)
+            example_in_c(h, tool)
         signals(h, tool)
         shown = [k for k in ("22222222", "33333333", "44444444", "5a17c0de") if k in tool.all.replace("22222222\"; kelindap", "")]
         check("no key is shown", [k for k in shown if k != "22222222" or tool.all.count(k) > 1], [])
-        print("session: %d checks" % check.done)
+        print("session: %d checks%s" % (check.done, part and ", " + part))
     finally:
         if h.p.poll() is None:
             h.p.terminate()
@@ -326,4 +356,4 @@ def main():
         h.tidy()
 
 
-main()
+main(sys.argv[1] if len(sys.argv) > 1 else "")

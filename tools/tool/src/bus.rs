@@ -34,6 +34,9 @@ const STEP: u64 = 100;
 /// What still waits at the end has so long to go out.
 const SETTLE: u64 = 2_000;
 
+/// So many frames wait to be heard; what is more is lost, as on a bus, and comes again.
+const HEARD: usize = 1_024;
+
 /// A wait of 0 would be one without an end.
 const SHORTEST: Duration = Duration::from_micros(100);
 
@@ -281,6 +284,12 @@ impl Bus {
         Ok(())
     }
 
+    fn hears(&mut self, heard: Heard) {
+        if self.heard.len() < HEARD {
+            self.heard.push_back(heard);
+        }
+    }
+
     fn note(&mut self, text: &str) {
         if let Some(record) = &mut self.record {
             record.note(text);
@@ -294,12 +303,7 @@ impl Bus {
         let Some((fields, tpdu)) = archive::frame_read(bytes) else { return };
         if fields.code == IND {
             let (source, destination, event) = (fields.source, fields.destination, fields.event);
-            self.heard.push_back(Heard::Frame(Frame {
-                source,
-                destination,
-                event,
-                tpdu: tpdu.to_vec(),
-            }));
+            self.hears(Heard::Frame(Frame { source, destination, event, tpdu: tpdu.to_vec() }));
         }
     }
 
@@ -312,7 +316,7 @@ impl Bus {
         }
         if let Some((fields, _)) = archive::frame_read(&bytes) {
             let good = fields.control1 & FAILED == 0;
-            self.heard.push_back(Heard::Sent { to: fields.destination, good });
+            self.hears(Heard::Sent { to: fields.destination, good });
         }
     }
 

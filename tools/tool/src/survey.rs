@@ -233,6 +233,9 @@ impl Hall<'_> {
         let name = individual_address(address);
         if let Some(read) = self.read.get(&address) {
             let (sheet, mut notes) = beside(base, read);
+            if self.key.is_some() && read.level == 3 {
+                notes.push("the key gives level 3, which everybody has".to_string());
+            }
             notes.extend(self.unkept.get(&address).cloned());
             let serial = read.serial().is_some();
             return Seen { name, verdict: Verdict::Read, sheet: Some(sheet), serial, notes };

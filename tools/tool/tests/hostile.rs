@@ -293,6 +293,46 @@ fn a_panic() {
     assert_eq!((interface.count(hall::ENDS), interface.count(DISCONNECTS)), (1, 1));
 }
 
+/// Whoever is there in address order, whatever its way; and addresses that can't be given.
+#[test]
+fn a_line_and_its_addresses() {
+    let mut all = units(6, Way::Good);
+    let programming = |at: u16| {
+        let mut sheet = Sheet::read(&sheet::make::bytes(TEXT).unwrap()).unwrap();
+        (sheet.address, sheet.programming) = (at, true);
+        Unit::new(sheet.bytes(), Way::Good)
+    };
+    all.get_mut(&0x1102).unwrap().way = Way::Silent;
+    all.get_mut(&0x1103).unwrap().way = Way::Absent;
+    all.get_mut(&0x1104).unwrap().way = Way::TurnsAway;
+    all.get_mut(&0x1105).unwrap().way = Way::Slow(700);
+    let interface = Interface::new(all.clone(), HURRY, honest);
+    let via = format!("127.0.0.1:{}", interface.port);
+    let (text, status) = said(&["scan", "1.1", "--via", &via]).unwrap();
+    let line = |n: u8| format!("1.1.{n}  mask 07b0  serial not told\n");
+    let away = "1.1.4  mask not told: it turns connections away  serial not told\n";
+    let due = line(1) + away + &line(5) + &line(6);
+    assert_eq!((text.as_str(), status), (due.as_str(), 0));
+    assert_eq!(said(&["scan", "1.2", "--via", &via]), Ok((String::new(), 0)));
+    drop(interface);
+
+    all.insert(0x1101, programming(0x1101));
+    let interface = Interface::new(all.clone(), HURRY, honest);
+    let via = format!("127.0.0.1:{}", interface.port);
+    let set = |new: &str| said(&["address", "--set", new, "--via", &via]);
+    assert_eq!(set("1.1.6"), Ok(("refused: 1.1.6 is taken by another unit\n".to_string(), 1)));
+    assert_eq!(set("1.1.4"), Ok(("refused: 1.1.4 is taken by another unit\n".to_string(), 1)));
+    assert_eq!(interface.count(hall::WRITES), 0);
+    drop(interface);
+
+    all.insert(0x1106, programming(0x1106));
+    let interface = Interface::new(all, HURRY, honest);
+    let via = format!("127.0.0.1:{}", interface.port);
+    let told = said(&["address", "--set", "1.1.9", "--via", &via]).unwrap_err();
+    assert_eq!(told, "2 units are in programming mode, and one is to be: 1.1.1, 1.1.6");
+    assert_eq!(interface.count(hall::WRITES), 0);
+}
+
 /// A write that is answered with something else, and one that reads back as another: both are trouble, not success.
 #[test]
 fn a_write_that_lies() {

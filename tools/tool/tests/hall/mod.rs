@@ -285,7 +285,11 @@ impl Server {
             frame[6..8].copy_from_slice(&other.to_be_bytes());
             hears = other;
         }
-        if there && !group {
+        if group {
+            for at in self.units.keys().copied().collect::<Vec<_>>() {
+                self.unit(at, &frame, now);
+            }
+        } else if there {
             self.unit(hears, &frame, now);
         }
     }
@@ -293,7 +297,7 @@ impl Server {
     /// A frame that a unit hears.
     fn unit(&mut self, at: u16, bytes: &[u8], now: u64) {
         let Some(u) = self.units.get_mut(&at) else { return };
-        if u.way == Way::Silent || u.lost() {
+        if matches!(u.way, Way::Silent | Way::Absent) || u.lost() {
             return;
         }
         let tpdu = &bytes[9..];
