@@ -56,7 +56,7 @@ module _ (s : List ℕ) (ok : Accepted s) where
   module _ (u : Parts) (t : Taken s u) where
     pub roomy : Roomy u (length s)
     roomy =
-        let z = t .sizes in
+        let z = t .counts in
         record {
           regions = z .fewRegions;
           properties = z .fewProperties;
@@ -67,13 +67,13 @@ module _ (s : List ℕ) (ok : Accepted s) where
           long = t .long;
         }
 
-    front : WholeHead (u .head) (u .sizes) (u .length) s
+    front : WholeHead (u .head) (u .counts) (u .length) s
     front =
-        let z = t .sizes in
+        let z = t .counts in
         let h = t .front in
         let f = good s ok .framed in
         record {
-          sizes =
+          counts =
               record {
                 edition = record { is = sym (good s ok .own) };
                 regions = record { is = z .regions };
@@ -101,7 +101,7 @@ module _ (s : List ℕ) (ok : Accepted s) where
 
     entries : WholeEntries u s
     entries =
-        let z = t .sizes in
+        let z = t .counts in
         record {
           regions = record { each = λ i h. let k : i < count s regions = omega (arith, z .regions) in record { is = t .regions i k; zero = region-zero i k } };
           properties =
@@ -132,7 +132,7 @@ module _ (s : List ℕ) (ok : Accepted s) where
 
     pub whole : Whole u s
     whole =
-        let z = t .sizes in
+        let z = t .counts in
         record {
           front = front;
           entries = entries;

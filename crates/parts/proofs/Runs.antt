@@ -18,11 +18,11 @@ use Rattle.parts.specs.declared.Region.{Region}
 use Rattle.parts.specs.declared.Property.{Property}
 use Rattle.parts.specs.declared.Group.{Group}
 use Rattle.parts.specs.declared.Head.{Head}
-use Rattle.parts.specs.declared.Sizes.{Sizes}
+use Rattle.parts.specs.declared.Counts.{Counts}
 use Rattle.parts.specs.declared.Parts.{Parts}
 use Rattle.parts.specs.Records.{noRegion, noProperty, noGroup}
 use Rattle.parts.proofs.Bits.{top-bit}
-use Rattle.parts.specs.Again.{headFlags, regionBytes, propertyBytes, groupBytes, levelsOf, WholeRegion, WholeProperty, WholeGroup, SameFront, Restores, Each, IsAt, WholeBodies, WholeSizes, WholeNumbers, WholeKeys, WholeHead, WholeEntries, Whole, second, third, fourth, end}
+use Rattle.parts.specs.Again.{headFlags, regionBytes, propertyBytes, groupBytes, levelsOf, WholeRegion, WholeProperty, WholeGroup, SameFront, Restores, Each, IsAt, WholeBodies, WholeCounts, WholeNumbers, WholeKeys, WholeHead, WholeEntries, Whole, second, third, fourth, end}
 
 -- the bytes ds stand in s from at + k on
 abbrev pub Runs : List ℕ → List ℕ → ℕ → ℕ → Type 0
@@ -125,7 +125,7 @@ module _ (s : List ℕ) (o : Octets s) where
           (
             top-bit (getD s (at + 2) 0) _ _ (o (at + 2)) (i .writable ∙ ap (λ (x : ℕ). eqb (x / 128) 1) (num-one s (at + 2))) (i .typ ∙ ap (λ (x : ℕ). x % 128) (num-one s (at + 2))),
             (
-              one (at + 3) _ (i .element),
+              one (at + 3) _ (i .size),
               (
                 high (at + 4) _ (i .maximum),
                 (
@@ -237,10 +237,10 @@ bodies-written t t′ b d from n h l m ed e =
 
 -- the head, in three parts
 module _ (t₀ t₁ t₂ t₃ t₄ t₅ : List ℕ) where
-  pub sizes-written : (n : ℕ) (z : Sizes) → Restores (IsAt 0 1 2) t₀ t₁ 0 1 → Restores (IsAt 1 1 (z .regions)) t₁ t₂ 1 2
+  pub counts-written : (n : ℕ) (z : Counts) → Restores (IsAt 0 1 2) t₀ t₁ 0 1 → Restores (IsAt 1 1 (z .regions)) t₁ t₂ 1 2
       → Restores (IsAt 2 1 (z .properties)) t₂ t₃ 2 3 → Restores (IsAt 3 1 (z .groups)) t₃ t₄ 3 4 → Restores (IsAt 4 2 n) t₄ t₅ 4 6
-      → Restores (WholeSizes z n) t₀ t₅ 0 6
-  sizes-written n z a b c d e =
+      → Restores (WholeCounts z n) t₀ t₅ 0 6
+  counts-written n z a b c d e =
       record {
         restored =
             λ s o w h.
@@ -268,17 +268,17 @@ module _ (t₀ t₁ t₂ t₃ t₄ t₅ : List ℕ) where
       }
 
 -- the head, the entries, and the whole
-pub head-written : (t₀ t₁ t₂ t₃ : List ℕ) (h : Head) (z : Sizes) (n : ℕ) → Restores (WholeSizes z n) t₀ t₁ 0 6
+pub head-written : (t₀ t₁ t₂ t₃ : List ℕ) (h : Head) (z : Counts) (n : ℕ) → Restores (WholeCounts z n) t₀ t₁ 0 6
     → Restores (WholeNumbers h (z .users)) t₁ t₂ 6 18 → Restores (WholeKeys (h .keys) (h .rules)) t₂ t₃ 18 32 → Restores (WholeHead h z n) t₀ t₃ 0 32
 head-written t₀ t₁ t₂ t₃ h z n a b c =
-    record { restored = λ s o w k. c .restored s o (w .keys) (b .restored s o (w .numbers) (a .restored s o (w .sizes) k)) }
+    record { restored = λ s o w k. c .restored s o (w .keys) (b .restored s o (w .numbers) (a .restored s o (w .counts) k)) }
 
 pub entries-written : (t₃ t₄ t₅ t₆ t₇ : List ℕ) (u : Parts)
-    → Restores (Each (u .sizes .regions) (λ i s. WholeRegion (getD (u .regions) i noRegion) (32 + 8 * i) s)) t₃ t₄ 32 (second (u .sizes))
-    → Restores (Each (u .sizes .properties) (λ i s. WholeProperty (getD (u .properties) i noProperty) (second (u .sizes) + 12 * i) s)) t₄ t₅ (second (u .sizes)) (third (u .sizes))
-    → Restores (Each (u .sizes .groups) (λ i s. WholeGroup (getD (u .groups) i noGroup) (third (u .sizes) + 8 * i) s)) t₅ t₆ (third (u .sizes)) (fourth (u .sizes))
-    → Restores (Each (u .sizes .users) (λ i s. WholeRegion (getD (u .users) i noRegion) (fourth (u .sizes) + 8 * i) s)) t₆ t₇ (fourth (u .sizes)) (end (u .sizes))
-    → Restores (WholeEntries u) t₃ t₇ 32 (end (u .sizes))
+    → Restores (Each (u .counts .regions) (λ i s. WholeRegion (getD (u .regions) i noRegion) (32 + 8 * i) s)) t₃ t₄ 32 (second (u .counts))
+    → Restores (Each (u .counts .properties) (λ i s. WholeProperty (getD (u .properties) i noProperty) (second (u .counts) + 12 * i) s)) t₄ t₅ (second (u .counts)) (third (u .counts))
+    → Restores (Each (u .counts .groups) (λ i s. WholeGroup (getD (u .groups) i noGroup) (third (u .counts) + 8 * i) s)) t₅ t₆ (third (u .counts)) (fourth (u .counts))
+    → Restores (Each (u .counts .users) (λ i s. WholeRegion (getD (u .users) i noRegion) (fourth (u .counts) + 8 * i) s)) t₆ t₇ (fourth (u .counts)) (end (u .counts))
+    → Restores (WholeEntries u) t₃ t₇ 32 (end (u .counts))
 entries-written t₃ t₄ t₅ t₆ t₇ u d e f g =
     record {
       restored =
@@ -286,8 +286,8 @@ entries-written t₃ t₄ t₅ t₆ t₇ u d e f g =
           g .restored s o (w .users) (f .restored s o (w .groups) (e .restored s o (w .properties) (d .restored s o (w .regions) k)));
     }
 
-pub whole-written : (t₀ t₁ t₂ t₃ : List ℕ) (u : Parts) (z : ℕ) → Restores (WholeHead (u .head) (u .sizes) (u .length)) t₀ t₁ 0 32
-    → (z ≡ end (u .sizes)) × Restores (WholeEntries u) t₁ t₂ 32 (end (u .sizes))
+pub whole-written : (t₀ t₁ t₂ t₃ : List ℕ) (u : Parts) (z : ℕ) → Restores (WholeHead (u .head) (u .counts) (u .length)) t₀ t₁ 0 32
+    → (z ≡ end (u .counts)) × Restores (WholeEntries u) t₁ t₂ 32 (end (u .counts))
     → Restores (WholeBodies z (u .bodies) (u .length)) t₂ t₃ z (u .length)
     → Restores (Whole u) t₀ t₃ 0 (u .length)
 whole-written t₀ t₁ t₂ t₃ u z a b c =

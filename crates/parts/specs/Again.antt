@@ -11,7 +11,7 @@ use Rattle.parts.specs.declared.Region.{Region}
 use Rattle.parts.specs.declared.Property.{Property}
 use Rattle.parts.specs.declared.Group.{Group}
 use Rattle.parts.specs.declared.Head.{Head}
-use Rattle.parts.specs.declared.Sizes.{Sizes}
+use Rattle.parts.specs.declared.Counts.{Counts}
 use Rattle.parts.specs.declared.Parts.{Parts}
 use Rattle.parts.specs.Records.{IsRegion, IsProperty, IsGroup, noRegion, noProperty, noGroup}
 
@@ -38,7 +38,7 @@ regionBytes e =
 
 abbrev pub propertyBytes : Property → List ℕ
 propertyBytes e =
-    e .object ∷ e .id ∷ typeOf e ∷ e .element ∷ e .maximum / 256 ∷ e .maximum % 256 ∷ e .count / 256 ∷ e .count % 256
+    e .object ∷ e .id ∷ typeOf e ∷ e .size ∷ e .maximum / 256 ∷ e .maximum % 256 ∷ e .count / 256 ∷ e .count % 256
     ∷ e .offset / 256 ∷ e .offset % 256 ∷ levelsOf (e .read) (e .write) ∷ 0 ∷ []
 
 abbrev pub groupBytes : Group → List ℕ
@@ -75,7 +75,7 @@ pub record Each (n : ℕ) (P : ℕ → List ℕ → Type 0) (s : List ℕ) : Typ
 pub record IsAt (at w x : ℕ) (s : List ℕ) : Type 0 where
   pub is : x ≡ numAt s at w
 
-pub record WholeSizes (z : Sizes) (n : ℕ) (s : List ℕ) : Type 0 where
+pub record WholeCounts (z : Counts) (n : ℕ) (s : List ℕ) : Type 0 where
   pub edition : IsAt 0 1 2 s
   pub regions : IsAt 1 1 (z .regions) s
   pub properties : IsAt 2 1 (z .properties) s
@@ -100,41 +100,41 @@ pub record WholeBodies (from : ℕ) (b : List ℕ) (n : ℕ) (s : List ℕ) : Ty
   pub each : (p : ℕ) → from ≤ p → p < n → getD b p 0 ≡ getD s p 0
 
 -- where the entries of each kind begin, and where the bodies do
-abbrev pub second : Sizes → ℕ
+abbrev pub second : Counts → ℕ
 second z = 32 + 8 * z .regions
 
-abbrev pub third : Sizes → ℕ
+abbrev pub third : Counts → ℕ
 third z = second z + 12 * z .properties
 
-abbrev pub fourth : Sizes → ℕ
+abbrev pub fourth : Counts → ℕ
 fourth z = third z + 8 * z .groups
 
-abbrev pub end : Sizes → ℕ
+abbrev pub end : Counts → ℕ
 end z = fourth z + 8 * z .users
 
-pub record WholeHead (h : Head) (z : Sizes) (n : ℕ) (s : List ℕ) : Type 0 where
-  pub sizes : WholeSizes z n s
+pub record WholeHead (h : Head) (z : Counts) (n : ℕ) (s : List ℕ) : Type 0 where
+  pub counts : WholeCounts z n s
   pub numbers : WholeNumbers h (z .users) s
   pub keys : WholeKeys (h .keys) (h .rules) s
 
 pub record WholeEntries (u : Parts) (s : List ℕ) : Type 0 where
-  pub regions : Each (u .sizes .regions) (λ i s. WholeRegion (getD (u .regions) i noRegion) (32 + 8 * i) s) s
-  pub properties : Each (u .sizes .properties) (λ i s. WholeProperty (getD (u .properties) i noProperty) (second (u .sizes) + 12 * i) s) s
-  pub groups : Each (u .sizes .groups) (λ i s. WholeGroup (getD (u .groups) i noGroup) (third (u .sizes) + 8 * i) s) s
-  pub users : Each (u .sizes .users) (λ i s. WholeRegion (getD (u .users) i noRegion) (fourth (u .sizes) + 8 * i) s) s
+  pub regions : Each (u .counts .regions) (λ i s. WholeRegion (getD (u .regions) i noRegion) (32 + 8 * i) s) s
+  pub properties : Each (u .counts .properties) (λ i s. WholeProperty (getD (u .properties) i noProperty) (second (u .counts) + 12 * i) s) s
+  pub groups : Each (u .counts .groups) (λ i s. WholeGroup (getD (u .groups) i noGroup) (third (u .counts) + 8 * i) s) s
+  pub users : Each (u .counts .users) (λ i s. WholeRegion (getD (u .users) i noRegion) (fourth (u .counts) + 8 * i) s) s
 
 -- s is the sheet of the parts u, byte by byte
 pub record Whole (u : Parts) (s : List ℕ) : Type 0 where
-  pub front : WholeHead (u .head) (u .sizes) (u .length) s
+  pub front : WholeHead (u .head) (u .counts) (u .length) s
   pub entries : WholeEntries u s
-  pub bodies : WholeBodies (end (u .sizes)) (u .bodies) (u .length) s
+  pub bodies : WholeBodies (end (u .counts)) (u .bodies) (u .length) s
 
 -- the parts fit a buffer of n bytes
 pub record Roomy (u : Parts) (n : ℕ) : Type 0 where
-  pub regions : u .sizes .regions ≤ 16
-  pub properties : u .sizes .properties ≤ 64
-  pub groups : u .sizes .groups ≤ 64
-  pub users : u .sizes .users ≤ 16
-  pub contents : end (u .sizes) ≤ u .length
+  pub regions : u .counts .regions ≤ 16
+  pub properties : u .counts .properties ≤ 64
+  pub groups : u .counts .groups ≤ 64
+  pub users : u .counts .users ≤ 16
+  pub contents : end (u .counts) ≤ u .length
   pub short : u .length ≤ 16384
   pub long : u .length ≡ n

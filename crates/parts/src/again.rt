@@ -1,16 +1,16 @@
 // The sheet written again, from its first byte to its last, each field at the place from which it was taken.
+use crate::Counts;
 use crate::Group;
 use crate::Head;
 use crate::Parts;
 use crate::Property;
 use crate::Region;
-use crate::Sizes;
 ghost use mathlib.Core.Path.{_≡_};
 ghost use Prim.Native.Nat.{ℕ, _+_, _*_, _/_, _%_, _≤_, _<_};
 ghost use lib.ListN.{length, getD};
 ghost use mathlib.Core.List.{List};
 ghost use Rattle.parts.specs.Records.{noRegion, noProperty, noGroup};
-ghost use Rattle.parts.specs.Again.{bitOf, typeOf, groupFlags, headFlags, regionBytes, propertyBytes, groupBytes, levelsOf, WholeRegion, WholeProperty, WholeGroup, Restores, Each, IsAt, WholeSizes, WholeNumbers, WholeKeys, WholeBodies, WholeHead, WholeEntries, Whole, Roomy, end};
+ghost use Rattle.parts.specs.Again.{bitOf, typeOf, groupFlags, headFlags, regionBytes, propertyBytes, groupBytes, levelsOf, WholeRegion, WholeProperty, WholeGroup, Restores, Each, IsAt, WholeCounts, WholeNumbers, WholeKeys, WholeBodies, WholeHead, WholeEntries, Whole, Roomy, end};
 
 fn hi(x: u16) -> u8
     ensures { λ r. ⌜ r ≡ x / 256 ⌝ }
@@ -79,7 +79,7 @@ fn property_bytes(e: Property) -> [u8; 12]
         e.object,
         e.id,
         type_byte(e),
-        e.element,
+        e.size,
         hi(e.maximum),
         lo(e.maximum),
         hi(e.count),
@@ -172,9 +172,9 @@ fn write_number(t: &mut [u8], at: usize, w: usize, x: u64)
 }
 
 // Bytes 0 to 5. The edition is 2: an accepted sheet has no other.
-fn write_sizes(t: &mut [u8], z: Sizes, n: usize)
+fn write_counts(t: &mut [u8], z: Counts, n: usize)
     requires { ⌜ 32 ≤ length (now t) ⌝ }
-    ensures { λ _. ⌜ Restores (WholeSizes z n) (now (t .entry)) (now (t .exit)) 0 6 ⌝ }
+    ensures { λ _. ⌜ Restores (WholeCounts z n) (now (t .entry)) (now (t .exit)) 0 6 ⌝ }
 {
     write_number(t, 0, 1, 2);
     write_number(t, 1, 1, z.regions as u64);
@@ -214,11 +214,11 @@ fn write_bodies(t: &mut [u8], from: usize, b: [u8; 16384], n: usize)
     octets::splice(t, from, &b[from..n]);
 }
 
-fn write_head(t: &mut [u8], h: Head, z: Sizes, n: usize)
+fn write_head(t: &mut [u8], h: Head, z: Counts, n: usize)
     requires { ⌜ 32 ≤ length (now t) ⌝ }
     ensures { λ _. ⌜ Restores (WholeHead h z n) (now (t .entry)) (now (t .exit)) 0 32 ⌝ }
 {
-    write_sizes(t, z, n);
+    write_counts(t, z, n);
     write_numbers(t, h, z.users);
     let keys = h.keys;
     write_keys(t, keys, h.rules);
@@ -227,9 +227,9 @@ fn write_head(t: &mut [u8], h: Head, z: Sizes, n: usize)
 // The entries, regions first and user regions last: where they end.
 fn write_entries(t: &mut [u8], u: Parts) -> usize
     requires { ⌜ Roomy u (length (now t)) ⌝ }
-    ensures { λ r. ⌜ (r ≡ end (u .sizes)) × Restores (WholeEntries u) (now (t .entry)) (now (t .exit)) 32 (end (u .sizes)) ⌝ }
+    ensures { λ r. ⌜ (r ≡ end (u .counts)) × Restores (WholeEntries u) (now (t .entry)) (now (t .exit)) 32 (end (u .counts)) ⌝ }
 {
-    let z = u.sizes;
+    let z = u.counts;
     let second = 32 + 8 * z.regions;
     let third = second + 12 * z.properties;
     let fourth = third + 8 * z.groups;
@@ -249,7 +249,7 @@ pub fn write_again(u: Parts, t: &mut [u8])
     requires { ⌜ Roomy u (length (now t)) ⌝ }
     ensures { λ _. ⌜ Restores (Whole u) (now (t .entry)) (now (t .exit)) 0 (u .length) ⌝ }
 {
-    write_head(t, u.head, u.sizes, u.length);
+    write_head(t, u.head, u.counts, u.length);
     let end = write_entries(t, u);
     let bodies = u.bodies;
     write_bodies(t, end, bodies, u.length);

@@ -25,7 +25,7 @@ pub struct Property {
     pub id: u8,
     pub writable: bool,
     pub typ: u8,
-    pub element: u8,
+    pub size: u8,
     pub maximum: u16,
     pub count: u16,
     pub offset: u16,
@@ -44,7 +44,7 @@ pub struct Group {
 }
 
 // How many entries of each kind there are.
-pub struct Sizes {
+pub struct Counts {
     pub regions: usize,
     pub properties: usize,
     pub groups: usize,
@@ -66,7 +66,7 @@ pub struct Head {
 // A whole sheet and its length. The bodies stand at the places that the entries' offsets name, which are those of the sheet.
 pub struct Parts {
     pub head: Head,
-    pub sizes: Sizes,
+    pub counts: Counts,
     pub regions: [Region; 16],
     pub properties: [Property; 64],
     pub groups: [Group; 64],

@@ -1,10 +1,10 @@
 // A sheet taken apart: each field from the place that docs/SHEET.md gives it.
+use crate::Counts;
 use crate::Group;
 use crate::Head;
 use crate::Parts;
 use crate::Property;
 use crate::Region;
-use crate::Sizes;
 use octets::byte;
 use octets::number;
 use octets::word;
@@ -12,7 +12,7 @@ ghost use mathlib.Core.Path.{_≡_};
 ghost use Prim.Native.Nat.{ℕ, _+_, _*_, _≤_, _<_};
 ghost use lib.ListN.{length, getD};
 ghost use Rattle.sheet.specs.Rules.{Accepted};
-ghost use Rattle.parts.specs.Records.{IsRegion, IsProperty, IsGroup, IsHead, IsSizes, Taken, noRegion, noProperty, noGroup};
+ghost use Rattle.parts.specs.Records.{IsRegion, IsProperty, IsGroup, IsHead, IsCounts, Taken, noRegion, noProperty, noGroup};
 
 // The region whose entry begins there. The levels: for reading in the high four bits, for writing in the low.
 fn region(s: &[u8], at: usize) -> Region
@@ -41,7 +41,7 @@ fn property(s: &[u8], at: usize) -> Property
         id: byte(s, at + 1) as u8,
         writable: typ / 128 == 1,
         typ: (typ % 128) as u8,
-        element: byte(s, at + 3) as u8,
+        size: byte(s, at + 3) as u8,
         maximum: word(s, at + 4) as u16,
         count: word(s, at + 6) as u16,
         offset: word(s, at + 8) as u16,
@@ -132,11 +132,11 @@ fn head(s: &[u8]) -> Head
     }
 }
 
-fn sizes(s: &[u8]) -> Sizes
+fn counts(s: &[u8]) -> Counts
     requires { ⌜ Accepted (now s) ⌝ }
-    ensures { λ r. ⌜ IsSizes r (now (s .entry)) ⌝ }
+    ensures { λ r. ⌜ IsCounts r (now (s .entry)) ⌝ }
 {
-    Sizes {
+    Counts {
         regions: byte(s, 1),
         properties: byte(s, 2),
         groups: byte(s, 3),
@@ -169,19 +169,19 @@ pub fn take_apart(s: &[u8]) -> Parts
     ensures { λ r. ⌜ Taken (now (s .entry)) r ⌝ }
 {
     let head = head(s);
-    let sizes = sizes(s);
-    let second = 32 + 8 * sizes.regions;
-    let third = second + 12 * sizes.properties;
-    let fourth = third + 8 * sizes.groups;
-    let end = fourth + 8 * sizes.users;
-    let regions = regions_from(s, 32, sizes.regions);
-    let properties = properties_from(s, second, sizes.properties);
-    let groups = groups_from(s, third, sizes.groups);
-    let users = regions_from(s, fourth, sizes.users);
+    let counts = counts(s);
+    let second = 32 + 8 * counts.regions;
+    let third = second + 12 * counts.properties;
+    let fourth = third + 8 * counts.groups;
+    let end = fourth + 8 * counts.users;
+    let regions = regions_from(s, 32, counts.regions);
+    let properties = properties_from(s, second, counts.properties);
+    let groups = groups_from(s, third, counts.groups);
+    let users = regions_from(s, fourth, counts.users);
     let bodies = bodies(s, end);
     Parts {
         head,
-        sizes,
+        counts,
         regions,
         properties,
         groups,

@@ -17,25 +17,25 @@ mul-p : tie.Need-mul-p
 mul-p c =
     let at-if2 = c .before .before in
     let start = at-if2 .before .before .before in
-    omega (arith, at-if2 .if2 .left, start .pre .taken .sizes .fewProperties)
+    omega (arith, at-if2 .if2 .left, start .pre .taken .counts .fewProperties)
 
 array-copy-out-p : tie.Need-array-copy-out-p
 array-copy-out-p c =
     let at-if2 = c .before .before in
     let start = at-if2 .before .before .before in
-    omega (arith, at-if2 .if2 .left, start .pre .taken .sizes .fewProperties)
+    omega (arith, at-if2 .if2 .left, start .pre .taken .counts .fewProperties)
 
 index-within-requires : tie.Need-index-within-requires
 index-within-requires c κs =
     let at-if2 = c .before .before .before in
     let start = at-if2 .before .before .before in
-    omega (arith, at-if2 .if2 .left, start .pre .taken .sizes .fewProperties)
+    omega (arith, at-if2 .if2 .left, start .pre .taken .counts .fewProperties)
 
 cast-t17 : tie.Need-cast-t17
 cast-t17 c =
     let at-if2 = c .before .before .before .before in
     let start = at-if2 .before .before .before in
-    omega (arith, at-if2 .if2 .left, start .pre .taken .sizes .fewProperties, c .index-within .ensures .0)
+    omega (arith, at-if2 .if2 .left, start .pre .taken .counts .fewProperties, c .index-within .ensures .0)
 
 returns-2 : tie.Need-returns-2
 returns-2 c =
