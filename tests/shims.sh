@@ -13,7 +13,7 @@ fail() { echo "shims: $processor: $1"; exit 1; }
 
 # what is played, as NAME.in and NAME.out; the events by the plain engine too
 mkdir "$work/play"
-cp tests/unit/{events,fields,links,listed,lookups,old,points,ranges,read,tools,traces,user_memory,versions}.{in,out} "$work/play"
+cp tests/unit/{engines,events,fields,links,listed,lookups,old,points,ranges,read,tools,traces,user_memory,versions}.{in,out} "$work/play"
 for script in events user_memory; do
     for end in in out; do { echo "engine plain" && cat "tests/unit/$script.$end"; } > "$work/play/plain_$script.$end"; done
 done
