@@ -214,7 +214,8 @@ module _ (s : List ℕ) (u : Parts) (t : Taken s u) (i c : ℕ) (h : i < count s
   elsewhere p (inl a) = splice-below s at (bytesOf 2 c) fits p a
   elsewhere p (inr a) = splice-above s at (bytesOf 2 c) fits p (omega (arith, length-bytes 2 c))
 
-  other : (j : ℕ) → j < count s properties → Dec (j < i) → Dec (i < j) → IsProperty (getD (set (u .properties) i (counting (getD (u .properties) i noProperty) c)) j noProperty) (splice s at (bytesOf 2 c)) (base s properties + 12 * j)
+  other : (j : ℕ) → j < count s properties → Dec (j < i) → Dec (i < j) →
+      IsProperty (getD (set (u .properties) i (counting (getD (u .properties) i noProperty) c)) j noProperty) (splice s at (bytesOf 2 c)) (base s properties + 12 * j)
   other j k (yes a) d =
       subst (λ (e : Property). IsProperty e (splice s at (bytesOf 2 c)) (base s properties + 12 * j)) (sym (getD-set-other (u .properties) i j _ noProperty (λ (q : j ≡ i). omega arith)))
       (property-kept s (splice s at (bytesOf 2 c)) _ (λ m l. elsewhere _ (inl (omega arith))) _ (t .properties j k))

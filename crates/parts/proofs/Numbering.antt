@@ -37,7 +37,8 @@ pub taken : (s : List ℕ) (u : Parts) → IsHead (u .head) s → IsCounts (u .c
     → (length (u .properties) ≡ 64) × ((i : ℕ) → i < u .counts .properties → IsProperty (getD (u .properties) i noProperty) s (32 + 8 * u .counts .regions + 12 * i))
     → ((i : ℕ) → i < u .counts .groups → IsGroup (getD (u .groups) i noGroup) s (32 + 8 * u .counts .regions + 12 * u .counts .properties + 8 * i))
     → ((i : ℕ) → i < u .counts .users → IsRegion (getD (u .users) i noRegion) s (32 + 8 * u .counts .regions + 12 * u .counts .properties + 8 * u .counts .groups + 8 * i))
-    → (length (u .bodies) ≡ 16384) × ((p : ℕ) → 32 + 8 * u .counts .regions + 12 * u .counts .properties + 8 * u .counts .groups + 8 * u .counts .users ≤ p → p < length s → getD (u .bodies) p 0 ≡ getD s p 0)
+    → (length (u .bodies) ≡ 16384) × ((p : ℕ) → 32 + 8 * u .counts .regions + 12 * u .counts .properties + 8 * u .counts .groups + 8 * u .counts .users ≤ p → p < length s → getD (u .bodies)
+    p 0 ≡ getD s p 0)
     → u .length ≡ length s → Taken s u
 taken s u h z a b c d e l =
     record {

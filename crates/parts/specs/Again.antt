@@ -1,8 +1,8 @@
 -- The bytes of records, and what is restored when they are written.
 -- Assumes nothing.
-use Prim.Native.Nat.{ℕ, _+_, _*_, _/_, _%_, _<_, _≤_}
+use Prim.Native.Nat.{ℕ, _+_, _*_, _%_, _<_, _≤_}
 use mathlib.Core.Path.{_≡_}
-use mathlib.Core.List.{List, [], _∷_}
+use mathlib.Core.List.{List}
 use mathlib.Core.Bool.{Bool, cond}
 use lib.ListN.{length, getD}
 use Rattle.octets.specs.Bytes.{numAt}
@@ -30,20 +30,6 @@ groupFlags e = bitOf (e .read) 1 + bitOf (e .write) 2 + bitOf (e .response) 4
 
 abbrev pub headFlags : Head → ℕ
 headFlags h = bitOf (h .programming) 1 + bitOf (h .verify) 2
-
-abbrev pub regionBytes : Region → List ℕ
-regionBytes e =
-    e .address / 256 ∷ e .address % 256 ∷ e .length / 256 ∷ e .length % 256 ∷ e .offset / 256 ∷ e .offset % 256
-    ∷ levelsOf (e .read) (e .write) ∷ 0 ∷ []
-
-abbrev pub propertyBytes : Property → List ℕ
-propertyBytes e =
-    e .object ∷ e .id ∷ typeOf e ∷ e .size ∷ e .maximum / 256 ∷ e .maximum % 256 ∷ e .count / 256 ∷ e .count % 256
-    ∷ e .offset / 256 ∷ e .offset % 256 ∷ levelsOf (e .read) (e .write) ∷ 0 ∷ []
-
-abbrev pub groupBytes : Group → List ℕ
-groupBytes e =
-    e .address / 256 ∷ e .address % 256 ∷ e .code ∷ groupFlags e ∷ e .offset / 256 ∷ e .offset % 256 ∷ 0 ∷ 0 ∷ []
 
 -- the entry at a place has the fields of e, zero bytes after them, and no bits but those named
 pub record WholeRegion (e : Region) (at : ℕ) (s : List ℕ) : Type 0 where
@@ -75,26 +61,26 @@ pub record Each (n : ℕ) (P : ℕ → List ℕ → Type 0) (s : List ℕ) : Typ
 pub record IsAt (at w x : ℕ) (s : List ℕ) : Type 0 where
   pub is : x ≡ numAt s at w
 
-pub record WholeCounts (z : Counts) (n : ℕ) (s : List ℕ) : Type 0 where
-  pub edition : IsAt 0 1 2 s
-  pub regions : IsAt 1 1 (z .regions) s
-  pub properties : IsAt 2 1 (z .properties) s
-  pub groups : IsAt 3 1 (z .groups) s
-  pub stated : IsAt 4 2 n s
+-- the keys, and the head, field by field
+pub record WholeKeys (ks : List ℕ) (s : List ℕ) : Type 0 where
+  pub key0 : getD ks 0 0 ≡ numAt s 18 4
+  pub key1 : getD ks 1 0 ≡ numAt s 22 4
+  pub key2 : getD ks 2 0 ≡ numAt s 26 4
 
-pub record WholeNumbers (h : Head) (users : ℕ) (s : List ℕ) : Type 0 where
-  pub serial : IsAt 6 6 (h .serial) s
-  pub mask : IsAt 12 2 (h .mask) s
-  pub flags : IsAt 14 1 (headFlags h) s
-  pub byte15 : IsAt 15 1 users s
-  pub address : IsAt 16 2 (h .address) s
-
-pub record WholeKeys (keys : List ℕ) (ru : ℕ) (s : List ℕ) : Type 0 where
-  pub key0 : IsAt 18 4 (getD keys 0 0) s
-  pub key1 : IsAt 22 4 (getD keys 1 0) s
-  pub key2 : IsAt 26 4 (getD keys 2 0) s
-  pub rules : IsAt 30 1 ru s
-  pub zero31 : IsAt 31 1 0 s
+pub record WholeHead (h : Head) (z : Counts) (n : ℕ) (s : List ℕ) : Type 0 where
+  pub edition : 2 ≡ numAt s 0 1
+  pub regions : z .regions ≡ numAt s 1 1
+  pub properties : z .properties ≡ numAt s 2 1
+  pub groups : z .groups ≡ numAt s 3 1
+  pub stated : n ≡ numAt s 4 2
+  pub serial : h .serial ≡ numAt s 6 6
+  pub mask : h .mask ≡ numAt s 12 2
+  pub flags : headFlags h ≡ numAt s 14 1
+  pub users : z .users ≡ numAt s 15 1
+  pub address : h .address ≡ numAt s 16 2
+  pub keys : WholeKeys (h .keys) s
+  pub rules : h .rules ≡ numAt s 30 1
+  pub zero : 0 ≡ numAt s 31 1
 
 pub record WholeBodies (from : ℕ) (b : List ℕ) (n : ℕ) (s : List ℕ) : Type 0 where
   pub each : (p : ℕ) → from ≤ p → p < n → getD b p 0 ≡ getD s p 0
@@ -111,11 +97,6 @@ fourth z = third z + 8 * z .groups
 
 abbrev pub end : Counts → ℕ
 end z = fourth z + 8 * z .users
-
-pub record WholeHead (h : Head) (z : Counts) (n : ℕ) (s : List ℕ) : Type 0 where
-  pub counts : WholeCounts z n s
-  pub numbers : WholeNumbers h (z .users) s
-  pub keys : WholeKeys (h .keys) (h .rules) s
 
 pub record WholeEntries (u : Parts) (s : List ℕ) : Type 0 where
   pub regions : Each (u .counts .regions) (λ i s. WholeRegion (getD (u .regions) i noRegion) (32 + 8 * i) s) s
@@ -138,3 +119,4 @@ pub record Roomy (u : Parts) (n : ℕ) : Type 0 where
   pub contents : end (u .counts) ≤ u .length
   pub short : u .length ≤ 16384
   pub long : u .length ≡ n
+  pub room : length (u .bodies) ≡ 16384

@@ -1,13 +1,14 @@
 // A sheet as plain records: taken apart, and written again.
-mod again;
-mod round;
-mod take;
+mod entries;
+mod front;
+mod lists;
+mod whole;
 
-pub use again::levels_byte;
-pub use again::type_byte;
-pub use again::write_again;
-pub use round::same;
-pub use take::take_apart;
+pub use entries::levels_byte;
+pub use entries::type_byte;
+pub use whole::same;
+pub use whole::take_apart;
+pub use whole::write_again;
 
 // A region of memory or of user memory. Here and in a property, `read` and `write` are levels: those up to which it may be read and
 // written.

@@ -101,7 +101,8 @@ module _ (u : Parts) (object id index i : ℕ) where
   unfolding describedAt
   by-index x q e f = (omega (arith, q, f .0), λ s ok o t. q ∙ f .1 s ok o t ∙ simp (eq-eqb id 0 e))
 
-  pub by-id : (x : ℕ) → i ≡ x → (id ≡ 0 → ⊥) → (x ≤ u .counts .properties) × ((s : List ℕ) → Accepted s → Octets s → Taken s u → x ≡ propertyAt s object id) → Found (λ s. describedAt s object id index)
+  pub by-id : (x : ℕ) → i ≡ x → (id ≡ 0 → ⊥) → (x ≤ u .counts .properties) × ((s : List ℕ) → Accepted s → Octets s → Taken s u → x ≡ propertyAt s object id) →
+      Found (λ s. describedAt s object id index)
   unfolding describedAt
   by-id x q e f = (omega (arith, q, f .0), λ s ok o t. q ∙ f .1 s ok o t ∙ simp (ne-eqb id 0 e))
 

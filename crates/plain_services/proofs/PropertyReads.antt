@@ -110,7 +110,8 @@ module _ (u : Parts) (i level object id n t : ℕ) (r : Reply) where
 
   terms :
       (s : List ℕ) → Taken s u → i < u .counts .properties →
-      decides s ≡ cond (leb level (p .read)) (cond (counted n t) (told p level object id n t) (cond (shows p level object id n t) (shown p level object id n t) (noValue object id t))) (noValue object id t)
+      decides s ≡ cond (leb level (p .read)) (cond (counted n t) (told p level object id n t) (cond (shows p level object id n t) (shown p level object id n t) (noValue object id t)))
+      (noValue object id t)
   terms s k h = in-terms p level object id n t (entry s properties i) (fields s u i k (omega (arith, k .counts .properties)))
 
   pub not-readable :

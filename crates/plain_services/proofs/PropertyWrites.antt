@@ -157,7 +157,9 @@ module _ (u : Parts) (i level object id n t : ℕ) (d : List ℕ) (r : Reply) wh
   decides s = writeIn (entry s properties i) (place s properties i) level object id n t d
 
   terms : (s : List ℕ) → Taken s u → i < u .counts .properties →
-      decides s ≡ cond (mayWrite p (place s properties i) level object id n t d) (cond (clears p (place s properties i) level object id n t d) (cleared p (place s properties i) level object id n t d) (cond (fills p (place s properties i) level object id n t d) (filled p (place s properties i) level object id n t d) (noValue object id t))) (noValue object id t)
+      decides s ≡ cond (mayWrite p (place s properties i) level object id n t d)
+      (cond (clears p (place s properties i) level object id n t d) (cleared p (place s properties i) level object id n t d)
+      (cond (fills p (place s properties i) level object id n t d) (filled p (place s properties i) level object id n t d) (noValue object id t))) (noValue object id t)
   terms s k h = in-terms p (place s properties i) level object id n t d (entry s properties i) (fields s u i k (there u i n t d s k h))
 
   pub not-writable :

@@ -55,20 +55,16 @@ pub fn group_read(parts: Parts, address: u16) -> Reply
 
 // A new value, six bits or bytes, for a group object that takes it: what another device answered by the flag for a Response, else
 // by that for writing. 10 where the length is another.
-pub fn group_put(parts: Parts, answered: bool, address: u16, v: u8, d: &[u8]) -> Reply
+pub fn group_put(parts: Parts, answer: bool, address: u16, v: u8, d: &[u8]) -> Reply
     requires { ⌜ Held parts ⌝ }
-    ensures { λ r. ⌜ Serves parts (now (d .entry)) (λ s. groupPutOf (cond answered 4 2) s address v (length (now (d .entry)))) r ⌝ }
+    ensures { λ r. ⌜ Serves parts (now (d .entry)) (λ s. groupPutOf (cond answer 4 2) s address v (length (now (d .entry)))) r ⌝ }
 {
     let i = find_group(parts, address);
     if parts.counts.groups <= i {
         return silent(parts, 2);
     }
     let group = parts.groups[i];
-    let takes = if answered {
-        group.response
-    } else {
-        group.write
-    };
+    let takes = if answer { group.response } else { group.write };
     if !takes {
         return silent(parts, 2);
     }

@@ -28,7 +28,8 @@ written-requires c κs =
     let at-range = at-at .before .before in
     let at-area = at-range .before in
     let start = at-area .before .before in
-    still-roomy _ _ _ _ _ _ (c .with-bodies .ensures) (at-with-bits .with-bits .ensures) (length-build _ _) (bits-reach _ _ _ _ _ _ (at-area .area .ensures) (at-range .range .ensures) _ (at-at .at .given .1) (start .pre .0))
+    still-roomy _ _ _ _ _ _ (c .with-bodies .ensures) (at-with-bits .with-bits .ensures) (length-build _ _)
+    (bits-reach _ _ _ _ _ _ (at-area .area .ensures) (at-range .range .ensures) _ (at-at .at .given .1) (start .pre .0))
 
 returns-2 : tie.Need-returns-2
 returns-2 c =

@@ -23,7 +23,8 @@ with-data-requires c κs =
     let at-most = at-range .before in
     let at-area = at-most .before in
     let start = at-area .before .before in
-    let x = reachable _ _ _ _ _ _ _ _ _ _ (at-area .area .ensures) (at-most .most .ensures) (at-range .range .ensures) _ (at-at .at .given .1) (start .pre .0) in (x .0, omega (arith, x .2, start .pre .1))
+    let x = reachable _ _ _ _ _ _ _ _ _ _ (at-area .area .ensures) (at-most .most .ensures) (at-range .range .ensures) _ (at-at .at .given .1) (start .pre .0) in
+    (x .0, omega (arith, x .2, start .pre .1))
 
 written-requires : tie.Need-written-requires
 written-requires c κs =
@@ -32,7 +33,8 @@ written-requires c κs =
     let at-most = at-range .before in
     let at-area = at-most .before in
     let start = at-area .before .before in
-    still-roomy _ _ _ _ _ _ (c .with-data .ensures) refl (start .pre .1) (reachable _ _ _ _ _ _ _ _ _ _ (at-area .area .ensures) (at-most .most .ensures) (at-range .range .ensures) _ (at-at .at .given .1) (start .pre .0))
+    still-roomy _ _ _ _ _ _ (c .with-data .ensures) refl (start .pre .1)
+    (reachable _ _ _ _ _ _ _ _ _ _ (at-area .area .ensures) (at-most .most .ensures) (at-range .range .ensures) _ (at-at .at .given .1) (start .pre .0))
 
 returns-2 : tie.Need-returns-2
 returns-2 c =

@@ -27,7 +27,8 @@ returns-2 c =
     let at-if1 = at-if2 .before in
     let at-find = at-if1 .before in
     that-one _ _ _ _ _ _ _ _ (at-find .find .ensures) (at-if1 .if1 .left)
-    (count-told _ _ _ _ _ _ _ _ (at-if1 .if1 .left) (ltb-false _ _ (at-if2 .if2 .left)) (search (joined, at-if3 .if3 .taken, at-if4 .if4 .taken)) _ (at-two-bytes .two-bytes .ensures) (c .showing .ensures))
+    (count-told _ _ _ _ _ _ _ _ (at-if1 .if1 .left) (ltb-false _ _ (at-if2 .if2 .left)) (search (joined, at-if3 .if3 .taken, at-if4 .if4 .taken)) _ (at-two-bytes .two-bytes .ensures)
+    (c .showing .ensures))
 
 size-of-requires : tie.Need-size-of-requires
 size-of-requires c κs =

@@ -34,7 +34,12 @@ splice-requires c κs =
     let at-size-of = at-size-of2 .before in
     let at-jumped = at-size-of .before .before in
     let start = at-jumped .before .before in
-    omega (arith, at-fill .fill .kept, run-fits _ _ _ _ _ _ _ _ (at-jumped .jumped .ensures) (jumped-from _ _ _ _ _ (at-size-of .size-of .ensures .0)) (at-size-of2 .size-of2 .ensures .0) (start .pre .2))
+    omega (
+      arith,
+      at-fill .fill .kept,
+      run-fits _ _ _ _ _ _ _ _ (at-jumped .jumped .ensures) (jumped-from _ _ _ _ _ (at-size-of .size-of .ensures .0)) (at-size-of2 .size-of2 .ensures .0)
+          (start .pre .2),
+    )
 
 returns : tie.Need-returns
 returns c =
