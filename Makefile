@@ -4,7 +4,7 @@ SHELL := /bin/bash
 .DEFAULT_GOAL := help
 # where cargo leaves its programs (.cargo/config.toml)
 CARGO_BIN := build/cargo/release
-.PHONY: help test need-tools documents reading model prove sheet-check
+.PHONY: help test need-tools documents reading plain-reading model prove sheet-check
 
 help:
 	@sed -n 's/^#: //p' $(MAKEFILE_LIST)
@@ -40,15 +40,20 @@ prove: need-tools
 
 # every name that a document quotes stands where the document says; what is to be read is complete, and as long as READING says; what
 # CHANGING names and quotes is in the source
-documents: need-tools build/documents/names build/documents/reading build/documents/changing build/documents/figures
+documents: need-tools build/documents/names build/documents/reading build/documents/changing build/documents/figures build/documents/plain
 	build/documents/names docs/PROMISES.md docs/READING.md docs/CONFORMANCE.md docs/RULES.md
 	build/documents/reading --check docs/READING.md
+	build/documents/plain --check docs/READING.md
 	build/documents/changing docs/CHANGING.md
 	tests/docs/figures.sh build/documents/figures
 
 #: make reading    build/reading.md, the definitions that must be read for each demand, in order, with what is promised
 reading: build/documents/reading
 	build/documents/reading build/reading.md docs/READING.md
+
+#: make plain-reading   build/plain-reading.md, the plain engine in reading order, without what is for the prover, and the hours it takes
+plain-reading: build/documents/plain
+	build/documents/plain build/plain-reading.md docs/READING.md
 
 build/documents/%: tests/docs/%.rs
 	mkdir -p build/documents

@@ -319,8 +319,9 @@ static kelindap_reply served(device *d, uint8_t mode, uint8_t c, uint16_t group,
 {
 #ifndef FIRST_ALONE /* the demonstration's unit has no other engine */
     if (d->plain) {
-        kelindap_plain_reply reply = kelindap_plain_request(&d->link.sessions, d->sheet.bytes, d->sheet.length, mode, c, group,
+        kelindap_plain_reply reply = kelindap_plain_request(d->link.sessions, d->sheet.bytes, d->sheet.length, mode, c, group,
                                                             apdu.bytes, apdu.length, answer.bytes, answer.length);
+        d->link.sessions = reply.sessions;
         return (kelindap_reply){ .outcome = reply.outcome, .count = reply.count };
     }
 #endif

@@ -16,14 +16,18 @@
 extern "C" {
 #endif
 
-/* What a request gave: its outcome, and how many bytes of the answer buffer were filled. */
+/* What a request gave: its outcome, how many bytes of the answer buffer were filled, and the sessions afterwards. */
 typedef struct kelindap_plain_reply {
     uint8_t outcome;
     uint8_t count;
+    kelindap_sessions sessions;
 } kelindap_plain_reply;
 
-/* A request, as kelindap_request has it. */
-kelindap_plain_reply kelindap_plain_request(kelindap_sessions *sessions, uint8_t *sheet, size_t sheet_length,
+/*
+ * A request, as kelindap_request has it, but for the sessions: they are given by value, and the host keeps those that come back,
+ * whatever the outcome. A host that goes on with those that it gave has not taken over a level, or a Restart.
+ */
+kelindap_plain_reply kelindap_plain_request(kelindap_sessions sessions, uint8_t *sheet, size_t sheet_length,
                                             uint8_t mode, uint8_t connection, uint16_t group,
                                             const uint8_t *apdu, size_t apdu_length,
                                             uint8_t *answer, size_t answer_length);

@@ -14,7 +14,7 @@ fail() { echo "shims: $processor: $1"; exit 1; }
 
 # what is played, as NAME.in and NAME.out; the events by the plain engine too
 mkdir "$work/play"
-cp tests/unit/{events,fields,links,listed,lookups,old,points,ranges,read,tools,traces,user_memory,versions}.{in,out} "$work/play"
+cp tests/unit/{engines,events,fields,links,listed,lookups,old,points,ranges,read,tools,traces,user_memory,versions}.{in,out} "$work/play"
 for script in events user_memory; do
     for end in in out; do { echo "engine plain" && cat "tests/unit/$script.$end"; } > "$work/play/plain_$script.$end"; done
 done
@@ -122,7 +122,9 @@ changed host "slot, being judged: a field for its neighbour" '.stated = from.sta
 changed host "slot, a piece: the work for the refusal" '.refusal = from.refusal, .work' '.refusal = from.work, .work'
 changed host "slot, a piece: its count for its place" '.at = from.at,' '.at = from.count,'
 changed host "slot, the goal: the number a byte short" '(kelindap_slot_goal){ (uint8_t)r, (uint32_t)(r >> 32)' '(kelindap_slot_goal){ (uint8_t)r, (uint8_t)(r >> 32)'
-changed plain_host "plain reply: outcome and count exchanged" '(kelindap_plain_reply){ low(r), high(r) }' '(kelindap_plain_reply){ high(r), low(r) }'
+changed plain_host "plain reply: outcome and count exchanged" '(kelindap_plain_reply){ (uint8_t)r, (uint8_t)(r >> 8),' '(kelindap_plain_reply){ (uint8_t)(r >> 8), (uint8_t)r,'
+changed plain_host "plain reply: the first session twice" '{ (uint8_t)(r >> 32), (uint8_t)(r >> 40) }' '{ (uint8_t)(r >> 16), (uint8_t)(r >> 24) }'
+changed plain_host "plain sessions by value: levels exchanged" 'of[0].level << 8 |' 'of[1].level << 8 |'
 changed tool "written: outcome and count exchanged" '(kelindap_written){ low(r), high(r) }' '(kelindap_written){ high(r), low(r) }'
 changed tool "framed: the count a byte short" '{ (uint16_t)r,' '{ low(r),'
 changed tool "framed: the count for the outcome" 'low(r >> 16) }; }' 'low(r >> 8) }; }'

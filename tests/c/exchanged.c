@@ -41,7 +41,7 @@ void played(uint8_t *sheet, size_t length, kelindap_bytes apdu, kelindap_bytes f
     kelindap_unit_play(&unit, piece, log);
     kelindap_unit_play_marked(&unit, piece, log, &marks);
     kelindap_request(&sessions, sheet, length, KELINDAP_MULTICAST, 0, group, apdu.bytes, apdu.length, out, sizeof out);
-    kelindap_plain_request(&sessions, sheet, length, KELINDAP_MULTICAST, 0, group, apdu.bytes, apdu.length, out, sizeof out);
+    kelindap_plain_request(sessions, sheet, length, KELINDAP_MULTICAST, 0, group, apdu.bytes, apdu.length, out, sizeof out);
     kelindap_serve(&link, sheet, length, frame.bytes, frame.length, out, sizeof out, 3);
 #elif WRONG == 1 /* the length before the sheet */
     unit = kelindap_unit_start(length, sheet);
@@ -100,7 +100,7 @@ void played(uint8_t *sheet, size_t length, kelindap_bytes apdu, kelindap_bytes f
 #elif WRONG == 27 /* 0.3.0: the sheet of a request behind its APDU */
     kelindap_request(&sessions, 0, 0, group, apdu.bytes, apdu.length, sheet, length, out, sizeof out);
 #elif WRONG == 28 /* 0.3.0: the same of the plain engine */
-    kelindap_plain_request(&sessions, 0, 0, group, apdu.bytes, apdu.length, sheet, length, out, sizeof out);
+    kelindap_plain_request(sessions, 0, 0, group, apdu.bytes, apdu.length, sheet, length, out, sizeof out);
 #elif WRONG == 29 /* 0.3.0: the sequence number first */
     kelindap_serve(&link, 0, frame.bytes, frame.length, sheet, length, out, sizeof out);
 #elif WRONG == 30 /* the frame, which is not to be written, for the sheet */

@@ -18,7 +18,7 @@ int main(void)
            kelindap_outcome_name(kelindap_write(junk, NULL, 0, out, sizeof out).outcome),
            kelindap_rule_name((uint8_t)kelindap_unit_check(&unit)));
 #ifdef PLAIN
-    kelindap_plain_reply reply = kelindap_plain_request(&unit.link.sessions, NULL, 0, KELINDAP_BROADCAST, 0, 0, NULL, 0, out, 16);
+    kelindap_plain_reply reply = kelindap_plain_request(unit.link.sessions, NULL, 0, KELINDAP_BROADCAST, 0, 0, NULL, 0, out, 16);
     puts(kelindap_outcome_name(reply.outcome));
 #endif
     return 0;

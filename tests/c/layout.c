@@ -42,9 +42,10 @@
     FIELD(kelindap_reply, count, 1, 1) \
     FIELD(kelindap_reply, changed, 4 * W, W) \
     FIELD(kelindap_reply, changed[1], 2 * W, 3 * W) \
-    SIZE(kelindap_plain_reply, 2) \
+    SIZE(kelindap_plain_reply, 6) \
     FIELD(kelindap_plain_reply, outcome, 1, 0) \
     FIELD(kelindap_plain_reply, count, 1, 1) \
+    FIELD(kelindap_plain_reply, sessions, 4, 2) \
     SIZE(kelindap_part, 2 * W) \
     FIELD(kelindap_part, offset, W, 0) \
     FIELD(kelindap_part, length, W, W) \

@@ -82,7 +82,7 @@ static void request_by(bool plain)
         uint8_t connection = (uint8_t)(i / (30 * 1024u) % 2); /* and the last two on the other connection */
         for (uint8_t mode = 0; mode < 4; mode++) {
             sessions.of[connection] = (kelindap_session){.open = true, .level = (uint8_t)(i % 4)};
-            kept += plain ? kelindap_plain_request(&sessions, sheet, sizeof sheet, mode, connection, 0x0801, apdu, length, answer,
+            kept += plain ? kelindap_plain_request(sessions, sheet, sizeof sheet, mode, connection, 0x0801, apdu, length, answer,
                                                    sizeof answer).count
                           : kelindap_request(&sessions, sheet, sizeof sheet, mode, connection, 0x0801, apdu, length, answer,
                                              sizeof answer).count;

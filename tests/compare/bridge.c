@@ -200,6 +200,9 @@ static struct {
     uint8_t above[GUARD];
 } link_room;
 #define partners (link_room.link)
+#ifndef BOARD
+static kelindap_sessions left_by(kelindap_plain_reply reply) { return reply.sessions; }
+#endif
 #define sessions (partners.sessions)
 
 /* FNV-1a by words of eight bytes, and each word's upper half brought down, so that no two changes hide each other. */
@@ -314,8 +317,9 @@ static bool same(lent a, lent b)
 static void serve_beside(uint8_t mode, uint8_t connection, uint16_t group, lent apdu, lent answer, kelindap_reply reply)
 {
     kelindap_plain_reply plain =
-        kelindap_plain_request(&plain_sessions, given(plain_sheet), plain_sheet.length, mode, connection, group, given(apdu),
+        kelindap_plain_request(plain_sessions, given(plain_sheet), plain_sheet.length, mode, connection, group, given(apdu),
                                apdu.length, given(plain_answer), plain_answer.length);
+    plain_sessions = left_by(plain);
     if (plain.outcome != reply.outcome || plain.count != reply.count || !same(plain_sheet, sheet) || !same(plain_answer, answer) ||
         memcmp(&plain_sessions, &sessions, sizeof sessions) != 0)
         give_up("the engines differ");

@@ -56,7 +56,7 @@ module _ (s : List ℕ) (ok : Accepted s) where
   module _ (u : Parts) (t : Taken s u) where
     pub roomy : Roomy u (length s)
     roomy =
-        let z = t .sizes in
+        let z = t .counts in
         record {
           regions = z .fewRegions;
           properties = z .fewProperties;
@@ -65,43 +65,33 @@ module _ (s : List ℕ) (ok : Accepted s) where
           contents = omega (arith, z .fits, t .long);
           short = omega (arith, z .short, t .long);
           long = t .long;
+          room = t .room;
         }
 
-    front : WholeHead (u .head) (u .sizes) (u .length) s
+    front : WholeHead (u .head) (u .counts) (u .length) s
     front =
-        let z = t .sizes in
+        let z = t .counts in
         let h = t .front in
         let f = good s ok .framed in
         record {
-          sizes =
-              record {
-                edition = record { is = sym (good s ok .own) };
-                regions = record { is = z .regions };
-                properties = record { is = z .properties };
-                groups = record { is = z .groups };
-                stated = record { is = omega (arith, f, t .long) };
-              };
-          numbers =
-              record {
-                serial = record { is = h .serial };
-                mask = record { is = h .mask };
-                flags = record { is = two-bits (head.flags of s) _ _ (omega (arith, good s ok .zeros)) (h .programming) (h .verify) };
-                byte15 = record { is = z .users ∙ byte15-is };
-                address = record { is = h .address };
-              };
-          keys =
-              record {
-                key0 = record { is = h .key0 };
-                key1 = record { is = h .key1 };
-                key2 = record { is = h .key2 };
-                rules = record { is = h .rules };
-                zero31 = record { is = omega (arith, good s ok .zeros) };
-              };
+          edition = sym (good s ok .own);
+          regions = z .regions;
+          properties = z .properties;
+          groups = z .groups;
+          stated = omega (arith, f, t .long);
+          serial = h .serial;
+          mask = h .mask;
+          flags = two-bits (head.flags of s) _ _ (omega (arith, good s ok .zeros)) (h .programming) (h .verify);
+          users = z .users ∙ byte15-is;
+          address = h .address;
+          keys = record { key0 = h .key0; key1 = h .key1; key2 = h .key2 };
+          rules = h .rules;
+          zero = omega (arith, good s ok .zeros);
         }
 
     entries : WholeEntries u s
     entries =
-        let z = t .sizes in
+        let z = t .counts in
         record {
           regions = record { each = λ i h. let k : i < count s regions = omega (arith, z .regions) in record { is = t .regions i k; zero = region-zero i k } };
           properties =
@@ -132,7 +122,7 @@ module _ (s : List ℕ) (ok : Accepted s) where
 
     pub whole : Whole u s
     whole =
-        let z = t .sizes in
+        let z = t .counts in
         record {
           front = front;
           entries = entries;

@@ -73,7 +73,7 @@ module _ (s s′ : List ℕ) (at : ℕ) where
           id = i .id ∙ at12 1 1 (omega arith) (inl (omega arith));
           writable = i .writable ∙ ap (λ (x : ℕ). eqb (x / 128) 1) (at12 2 1 (omega arith) (inl (omega arith)));
           typ = i .typ ∙ ap (λ (x : ℕ). x % 128) (at12 2 1 (omega arith) (inl (omega arith)));
-          element = i .element ∙ at12 3 1 (omega arith) (inl (omega arith));
+          size = i .size ∙ at12 3 1 (omega arith) (inl (omega arith));
           maximum = i .maximum ∙ at12 4 2 (omega arith) (inl (omega arith));
           count = ec;
           offset = i .offset ∙ at12 8 2 (omega arith) (inr (omega arith));
@@ -131,10 +131,10 @@ module _ (s s′ : List ℕ) (long : length s′ ≡ length s) (low : (p : ℕ) 
       let r = num-low 1 1 (omega arith) in
       let p = num-low 2 1 (omega arith) in
       let g = num-low 3 1 (omega arith) in
-      let z = t .sizes in
+      let z = t .counts in
       record {
         front = head-same (u .head) (t .front);
-        sizes =
+        counts =
             record {
               regions = z .regions ∙ r;
               properties = z .properties ∙ p;
@@ -177,7 +177,7 @@ module _ (s : List ℕ) (u : Parts) (t : Taken s u) (at : ℕ) (ds : List ℕ) (
   small = omega (arith, fits)
 
   room : at + length ds ≤ length (u .bodies)
-  room = omega (arith, t .room, t .sizes .short, fits)
+  room = omega (arith, t .room, t .counts .short, fits)
 
   same-byte : (p : ℕ) → contents s ≤ p → p < length s → Dec (p < at) → Dec (p < at + length ds) → getD (splice (u .bodies) at ds) p 0 ≡ getD (splice s at ds) p 0
   same-byte p a b (yes h) d =
@@ -208,13 +208,14 @@ module _ (s : List ℕ) (u : Parts) (t : Taken s u) (i c : ℕ) (h : i < count s
   at = base s properties + 12 * i + 6
 
   fits : at + length (bytesOf 2 c) ≤ length s
-  fits = omega (arith, t .sizes .fits, t .sizes .regions, t .sizes .properties, length-bytes 2 c)
+  fits = omega (arith, t .counts .fits, t .counts .regions, t .counts .properties, length-bytes 2 c)
 
   elsewhere : (p : ℕ) → (p < at) ⊎ (at + 2 ≤ p) → getD (splice s at (bytesOf 2 c)) p 0 ≡ getD s p 0
   elsewhere p (inl a) = splice-below s at (bytesOf 2 c) fits p a
   elsewhere p (inr a) = splice-above s at (bytesOf 2 c) fits p (omega (arith, length-bytes 2 c))
 
-  other : (j : ℕ) → j < count s properties → Dec (j < i) → Dec (i < j) → IsProperty (getD (set (u .properties) i (counting (getD (u .properties) i noProperty) c)) j noProperty) (splice s at (bytesOf 2 c)) (base s properties + 12 * j)
+  other : (j : ℕ) → j < count s properties → Dec (j < i) → Dec (i < j) →
+      IsProperty (getD (set (u .properties) i (counting (getD (u .properties) i noProperty) c)) j noProperty) (splice s at (bytesOf 2 c)) (base s properties + 12 * j)
   other j k (yes a) d =
       subst (λ (e : Property). IsProperty e (splice s at (bytesOf 2 c)) (base s properties + 12 * j)) (sym (getD-set-other (u .properties) i j _ noProperty (λ (q : j ≡ i). omega arith)))
       (property-kept s (splice s at (bytesOf 2 c)) _ (λ m l. elsewhere _ (inl (omega arith))) _ (t .properties j k))
@@ -225,7 +226,7 @@ module _ (s : List ℕ) (u : Parts) (t : Taken s u) (i c : ℕ) (h : i < count s
       let q : i ≡ j = omega arith in
       subst (λ (m : ℕ). IsProperty (getD (set (u .properties) i (counting (getD (u .properties) i noProperty) c)) m noProperty) (splice s at (bytesOf 2 c)) (base s properties + 12 * m)) q
       (subst (λ (e : Property). IsProperty e (splice s at (bytesOf 2 c)) (base s properties + 12 * i))
-      (sym (getD-set-same (u .properties) i (counting (getD (u .properties) i noProperty) c) noProperty (omega (arith, t .many, t .sizes .fewProperties, t .sizes .properties))))
+      (sym (getD-set-same (u .properties) i (counting (getD (u .properties) i noProperty) c) noProperty (omega (arith, t .many, t .counts .fewProperties, t .counts .properties))))
       (property-same s (splice s at (bytesOf 2 c)) (base s properties + 12 * i) (λ m l side. elsewhere _ (beside m side)) _ c (t .properties i h)
       (sym (splice-num s at 2 c (omega (arith, fits, length-bytes 2 c)) small))))
     where

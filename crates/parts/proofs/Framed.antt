@@ -49,7 +49,7 @@ module _ (s s′ : List ℕ) (f : (p : ℕ) → 32 ≤ p → getD s′ p 0 ≡ g
           id = i .id ∙ kept (at + 1) 1 (omega arith);
           writable = i .writable ∙ ap (λ (x : ℕ). eqb (x / 128) 1) (kept (at + 2) 1 (omega arith));
           typ = i .typ ∙ ap (λ (x : ℕ). x % 128) (kept (at + 2) 1 (omega arith));
-          element = i .element ∙ kept (at + 3) 1 (omega arith);
+          size = i .size ∙ kept (at + 3) 1 (omega arith);
           maximum = i .maximum ∙ kept (at + 4) 2 (omega arith);
           count = i .count ∙ kept (at + 6) 2 (omega arith);
           offset = i .offset ∙ kept (at + 8) 2 (omega arith);
@@ -82,10 +82,10 @@ module _ (s s′ : List ℕ) (f : (p : ℕ) → 32 ≤ p → getD s′ p 0 ≡ g
         let r = byte-kept 1 (omega arith) in
         let p = byte-kept 2 (omega arith) in
         let g = byte-kept 3 (omega arith) in
-        let z = t .sizes in
+        let z = t .counts in
         record {
           front = ih;
-          sizes =
+          counts =
               record {
                 regions = z .regions ∙ r;
                 properties = z .properties ∙ p;
@@ -123,7 +123,7 @@ module _ (s s′ : List ℕ) (f : (p : ℕ) → 32 ≤ p → getD s′ p 0 ≡ g
 -- A NUMBER STORED IN THE HEAD, behind the sheet's length and beside byte 15: the parts with a head that has it
 module _ (s : List ℕ) (u : Parts) (t : Taken s u) (at w x : ℕ) (low : 6 ≤ at) (high : at + w ≤ 32) (beside : (at + w ≤ 15) ⊎ (16 ≤ at)) where
   room : at + length (bytesOf w x) ≤ length s
-  room = omega (arith, t .sizes .fits, length-bytes w x)
+  room = omega (arith, t .counts .fits, length-bytes w x)
 
   pub outside : (p v : ℕ) → (p + v ≤ at) ⊎ (at + w ≤ p) → numAt s p v ≡ numAt (splice s at (bytesOf w x)) p v
   outside p v (inl h) = sym (splice-num-outside s at (bytesOf w x) room p v (inl h))

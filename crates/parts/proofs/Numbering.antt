@@ -10,12 +10,12 @@ use Rattle.octets.specs.Bytes.{numAt, IsNum}
 use Rattle.sheet.specs.Rules.{Accepted}
 use Rattle.sheet.specs.Head.{users}
 use Rattle.sheet.proofs.rules.Good.{good}
-use Rattle.parts.specs.declared.Sizes.{Sizes}
+use Rattle.parts.specs.declared.Counts.{Counts}
 use Rattle.parts.specs.declared.Parts.{Parts}
-use Rattle.parts.specs.Records.{IsHead, IsSizes, IsRegion, IsProperty, IsGroup, Taken, noRegion, noProperty, noGroup}
+use Rattle.parts.specs.Records.{IsHead, IsCounts, IsRegion, IsProperty, IsGroup, Taken, noRegion, noProperty, noGroup}
 
-pub sizes-are : (s : List ℕ) (z : Sizes) → Accepted s → IsNum s 1 1 256 (z .regions) → IsNum s 2 1 256 (z .properties) → IsNum s 3 1 256 (z .groups) → IsNum s 15 1 256 (z .users) → IsSizes z s
-sizes-are s z ok a b c e =
+pub counts-are : (s : List ℕ) (z : Counts) → Accepted s → IsNum s 1 1 256 (z .regions) → IsNum s 2 1 256 (z .properties) → IsNum s 3 1 256 (z .groups) → IsNum s 15 1 256 (z .users) → IsCounts z s
+counts-are s z ok a b c e =
     let f = good s ok .framed in
     let d : z .users ≡ users s = e .value ∙ sym (simp (eq-eqb (numAt s 0 1) 2 (good s ok .own))) in
     record {
@@ -32,17 +32,18 @@ sizes-are s z ok a b c e =
     }
 
 -- the parts are those of the sheet
-pub taken : (s : List ℕ) (u : Parts) → IsHead (u .head) s → IsSizes (u .sizes) s
-    → ((i : ℕ) → i < u .sizes .regions → IsRegion (getD (u .regions) i noRegion) s (32 + 8 * i))
-    → (length (u .properties) ≡ 64) × ((i : ℕ) → i < u .sizes .properties → IsProperty (getD (u .properties) i noProperty) s (32 + 8 * u .sizes .regions + 12 * i))
-    → ((i : ℕ) → i < u .sizes .groups → IsGroup (getD (u .groups) i noGroup) s (32 + 8 * u .sizes .regions + 12 * u .sizes .properties + 8 * i))
-    → ((i : ℕ) → i < u .sizes .users → IsRegion (getD (u .users) i noRegion) s (32 + 8 * u .sizes .regions + 12 * u .sizes .properties + 8 * u .sizes .groups + 8 * i))
-    → (length (u .bodies) ≡ 16384) × ((p : ℕ) → 32 + 8 * u .sizes .regions + 12 * u .sizes .properties + 8 * u .sizes .groups + 8 * u .sizes .users ≤ p → p < length s → getD (u .bodies) p 0 ≡ getD s p 0)
+pub taken : (s : List ℕ) (u : Parts) → IsHead (u .head) s → IsCounts (u .counts) s
+    → ((i : ℕ) → i < u .counts .regions → IsRegion (getD (u .regions) i noRegion) s (32 + 8 * i))
+    → (length (u .properties) ≡ 64) × ((i : ℕ) → i < u .counts .properties → IsProperty (getD (u .properties) i noProperty) s (32 + 8 * u .counts .regions + 12 * i))
+    → ((i : ℕ) → i < u .counts .groups → IsGroup (getD (u .groups) i noGroup) s (32 + 8 * u .counts .regions + 12 * u .counts .properties + 8 * i))
+    → ((i : ℕ) → i < u .counts .users → IsRegion (getD (u .users) i noRegion) s (32 + 8 * u .counts .regions + 12 * u .counts .properties + 8 * u .counts .groups + 8 * i))
+    → (length (u .bodies) ≡ 16384) × ((p : ℕ) → 32 + 8 * u .counts .regions + 12 * u .counts .properties + 8 * u .counts .groups + 8 * u .counts .users ≤ p → p < length s → getD (u .bodies)
+    p 0 ≡ getD s p 0)
     → u .length ≡ length s → Taken s u
 taken s u h z a b c d e l =
     record {
       front = h;
-      sizes = z;
+      counts = z;
       regions = rw (z .regions) at a;
       properties = rw (z .regions, z .properties) at (b .1);
       groups = rw (z .regions, z .properties, z .groups) at c;

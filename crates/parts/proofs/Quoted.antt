@@ -13,7 +13,7 @@ use Rattle.parts.specs.Records.{Taken}
 pub same-part :
     (s : List ℕ) (u : Parts) → Taken s u → (o n : ℕ) → contents s ≤ o → o + n ≤ length s → take n (drop o (u .bodies)) ≡ take n (drop o s)
 same-part s u t o n h l =
-    let a : length (take n (drop o (u .bodies))) ≡ n = simp (length-take, length-drop) (omega (arith, t .room, t .sizes .short)) in
+    let a : length (take n (drop o (u .bodies))) ≡ n = simp (length-take, length-drop) (omega (arith, t .room, t .counts .short)) in
     let b : length (take n (drop o s)) ≡ n = simp (length-take, length-drop) (omega arith) in
     ext-getD 0 (take n (drop o (u .bodies))) (take n (drop o s)) (a ∙ sym b)
     (λ j k.

@@ -1,28 +1,24 @@
 -- Bytes written one run after the other, from the first.
 -- Assumes nothing.
 use Prim.Native.Nat.{ℕ, zero, suc, _+_, _*_, _-_, _/_, _%_, _≤_, _<_}
-use mathlib.Core.Path.{_≡_, refl, sym, ap, subst, _∙_}
+use mathlib.Core.Path.{_≡_, sym, ap, subst, _∙_}
 use mathlib.Core.List.{List, [], _∷_}
 use native.Mathlib.Omega.{arith}
 use lib.Dec.{eqb}
 use native.Mathlib.Decide.{decLt}
-use native.Mathlib.Nat.{add-zero}
 use lib.ListN.{length, getD, take, drop, length-take, length-drop}
 use lib.Seq.{ext-getD, getD-take, getD-drop}
 use Rattle.octets.specs.Bytes.{numAt, bytesOf}
 use Rattle.octets.specs.Splice.{splice}
-use Rattle.octets.proofs.Numbers.{num-one, num-two, bytes-back, length-bytes}
+use Rattle.octets.proofs.Numbers.{num-one, bytes-back, length-bytes}
 use Rattle.octets.proofs.Splices.{length-splice, splice-in, splice-below}
 use Rattle.octets.specs.Octets.{Octets}
-use Rattle.parts.specs.declared.Region.{Region}
 use Rattle.parts.specs.declared.Property.{Property}
-use Rattle.parts.specs.declared.Group.{Group}
-use Rattle.parts.specs.declared.Head.{Head}
-use Rattle.parts.specs.declared.Sizes.{Sizes}
+use Rattle.parts.specs.declared.Counts.{Counts}
 use Rattle.parts.specs.declared.Parts.{Parts}
 use Rattle.parts.specs.Records.{noRegion, noProperty, noGroup}
 use Rattle.parts.proofs.Bits.{top-bit}
-use Rattle.parts.specs.Again.{headFlags, regionBytes, propertyBytes, groupBytes, levelsOf, WholeRegion, WholeProperty, WholeGroup, SameFront, Restores, Each, IsAt, WholeBodies, WholeSizes, WholeNumbers, WholeKeys, WholeHead, WholeEntries, Whole, second, third, fourth, end}
+use Rattle.parts.specs.Again.{typeOf, levelsOf, WholeRegion, WholeProperty, WholeGroup, SameFront, Restores, Each, IsAt, WholeBodies, WholeHead, WholeEntries, Whole, second, third, fourth, end}
 
 -- the bytes ds stand in s from at + k on
 abbrev pub Runs : List ℕ → List ℕ → ℕ → ℕ → Type 0
@@ -72,137 +68,23 @@ pub restores-more : (P : ℕ → List ℕ → Type 0) (n i : ℕ) (t₀ t t′ :
 restores-more P n i t₀ t t′ a b c d k f g e =
     record { restored = λ s o p h. subst (λ (m : ℕ). SameFront t′ s m) (sym e) (g .restored s o (p .each i k) (f .restored s o p h)) }
 
--- the bytes of a number of one or two bytes
+-- bytes of two fields
 module _ (s : List ℕ) (o : Octets s) where
-  pub one : (p x : ℕ) → x ≡ numAt s p 1 → x ≡ getD s p 0
-  one p x e = e ∙ num-one s p
+  pub levels-at : (p r w l : ℕ) → l ≡ levelsOf r w → r ≡ numAt s p 1 / 16 → w ≡ numAt s p 1 % 16 → l ≡ numAt s p 1
+  levels-at p r w l e a b = omega (arith, e, a, b, num-one s p, o p)
 
-  pub high : (p x : ℕ) → x ≡ numAt s p 2 → x / 256 ≡ getD s p 0
-  high p x e = omega (arith, e, num-two s p, o p, o (p + 1))
+  pub type-at : (p y : ℕ) (e : Property) → y ≡ typeOf e → e .writable ≡ eqb (numAt s p 1 / 128) 1 → e .typ ≡ numAt s p 1 % 128 → y ≡ numAt s p 1
+  type-at p y e h a b = h ∙ top-bit (numAt s p 1) (e .typ) (e .writable) (omega (arith, num-one s p, o p)) a b
 
-  pub low : (p q x : ℕ) → q ≡ p + 1 → x ≡ numAt s p 2 → x % 256 ≡ getD s q 0
-  low p q x eq e = omega (arith, e, num-two s p, o p, o (p + 1), ap (λ (n : ℕ). getD s n 0) eq)
+-- one run more, and one number
+pub step-by : (P : List ℕ → Type 0) (Q : List ℕ → Type 0) (t t₁ t₂ : List ℕ) (a b c d : ℕ)
+    → Restores P t t₁ a b → b ≡ c → ((s : List ℕ) → Octets s → P s → Q s) → Restores Q t₁ t₂ c d → Restores P t t₂ a d
+step-by P Q t t₁ t₂ a b c d r e f g =
+    record { restored = λ s o p h. g .restored s o (f s o p) (subst (λ (n : ℕ). SameFront t₁ s n) e (r .restored s o p h)) }
 
-  pub both-levels : (p r w : ℕ) → r ≡ numAt s p 1 / 16 → w ≡ numAt s p 1 % 16 → levelsOf r w ≡ getD s p 0
-  both-levels p r w a b = omega (arith, a, b, num-one s p, o p)
-
-  pub region-runs : (e : Region) (at : ℕ) → WholeRegion e at s → Runs (regionBytes e) s at 0
-  region-runs e at h =
-      let z = sym (add-zero at) in
-      let i = h .is in (
-        high (at + 0) _ (i .address ∙ ap (λ (n : ℕ). numAt s n 2) z),
-        (
-          low at (at + 1) _ refl (i .address),
-          (
-            high (at + 2) _ (i .long),
-            (
-              low (at + 2) (at + 3) _ (omega arith) (i .long),
-              (
-                high (at + 4) _ (i .offset),
-                (
-                  low (at + 4) (at + 5) _ (omega arith) (i .offset),
-                  (
-                    both-levels (at + 6) _ _ (i .read) (i .write),
-                    (
-                      one (at + 7) 0 (sym (h .zero)),
-                      tt,
-                    ),
-                  ),
-                ),
-              ),
-            ),
-          ),
-        ),
-      )
-
-  pub property-runs : (e : Property) (at : ℕ) → WholeProperty e at s → Runs (propertyBytes e) s at 0
-  property-runs e at h =
-      let z = sym (add-zero at) in
-      let i = h .is in (
-        one (at + 0) _ (i .object ∙ ap (λ (n : ℕ). numAt s n 1) z),
-        (
-          one (at + 1) _ (i .id),
-          (
-            top-bit (getD s (at + 2) 0) _ _ (o (at + 2)) (i .writable ∙ ap (λ (x : ℕ). eqb (x / 128) 1) (num-one s (at + 2))) (i .typ ∙ ap (λ (x : ℕ). x % 128) (num-one s (at + 2))),
-            (
-              one (at + 3) _ (i .element),
-              (
-                high (at + 4) _ (i .maximum),
-                (
-                  low (at + 4) (at + 5) _ (omega arith) (i .maximum),
-                  (
-                    high (at + 6) _ (i .count),
-                    (
-                      low (at + 6) (at + 7) _ (omega arith) (i .count),
-                      (
-                        high (at + 8) _ (i .offset),
-                        (
-                          low (at + 8) (at + 9) _ (omega arith) (i .offset),
-                          (
-                            both-levels (at + 10) _ _ (i .read) (i .write),
-                            (
-                              one (at + 11) 0 (sym (h .zero)),
-                              tt,
-                            ),
-                          ),
-                        ),
-                      ),
-                    ),
-                  ),
-                ),
-              ),
-            ),
-          ),
-        ),
-      )
-
-  pub group-runs : (e : Group) (at : ℕ) → WholeGroup e at s → Runs (groupBytes e) s at 0
-  group-runs e at h =
-      let z = sym (add-zero at) in
-      let i = h .is in (
-        high (at + 0) _ (i .address ∙ ap (λ (n : ℕ). numAt s n 2) z),
-        (
-          low at (at + 1) _ refl (i .address),
-          (
-            one (at + 2) _ (i .code),
-            (
-              one (at + 3) _ (h .flags),
-              (
-                high (at + 4) _ (i .offset),
-                (
-                  low (at + 4) (at + 5) _ (omega arith) (i .offset),
-                  (
-                    high (at + 6) 0 (sym (h .zeros)),
-                    (
-                      low (at + 6) (at + 7) 0 (omega arith) (sym (h .zeros)),
-                      tt,
-                    ),
-                  ),
-                ),
-              ),
-            ),
-          ),
-        ),
-      )
-
-module _ (t t′ b : List ℕ) (at : ℕ) where
-  pub region-written : (e : Region) → at + 8 ≤ length t → b ≡ regionBytes e → t′ ≡ splice t at b → Restores (WholeRegion e at) t t′ at (at + 8)
-  region-written e l eb et = restores-run (WholeRegion e at) t t′ (regionBytes e) at (at + 8) (λ s o h. region-runs s o e at h) l (rw eb at et) refl
-
-  pub property-written : (e : Property) → at + 12 ≤ length t → b ≡ propertyBytes e → t′ ≡ splice t at b → Restores (WholeProperty e at) t t′ at (at + 12)
-  property-written e l eb et = restores-run (WholeProperty e at) t t′ (propertyBytes e) at (at + 12) (λ s o h. property-runs s o e at h) l (rw eb at et) refl
-
-  pub group-written : (e : Group) → at + 8 ≤ length t → b ≡ groupBytes e → t′ ≡ splice t at b → Restores (WholeGroup e at) t t′ at (at + 8)
-  group-written e l eb et = restores-run (WholeGroup e at) t t′ (groupBytes e) at (at + 8) (λ s o h. group-runs s o e at h) l (rw eb at et) refl
-
--- a list by its elements
-pub eight : {A : Type 0} (a b c d e f g h a′ b′ c′ d′ e′ f′ g′ h′ : A) → a ≡ a′ → b ≡ b′ → c ≡ c′ → d ≡ d′ → e ≡ e′ → f ≡ f′ → g ≡ g′ → h ≡ h′
-    → a ∷ b ∷ c ∷ d ∷ e ∷ f ∷ g ∷ h ∷ [] ≡ a′ ∷ b′ ∷ c′ ∷ d′ ∷ e′ ∷ f′ ∷ g′ ∷ h′ ∷ []
-eight a b c d e f g h a′ b′ c′ d′ e′ f′ g′ h′ p q r s t u v w = simp (p, q, r, s, t, u, v, w)
-
-pub four-and-eight : {A : Type 0} (x y z w x′ y′ z′ w′ : A) (l l′ : List A) → x ≡ x′ → y ≡ y′ → z ≡ z′ → w ≡ w′ → l ≡ l′
-    → x ∷ y ∷ z ∷ w ∷ l ≡ x′ ∷ y′ ∷ z′ ∷ w′ ∷ l′
-four-and-eight x y z w x′ y′ z′ w′ l l′ p q r s t = simp (p, q, r, s, t)
+pub step : (P : List ℕ → Type 0) (t t₁ t₂ : List ℕ) (a b c w x : ℕ)
+    → Restores P t t₁ a b → b ≡ c → ((s : List ℕ) → Octets s → P s → x ≡ numAt s c w) → Restores (IsAt c w x) t₁ t₂ c (c + w) → Restores P t t₂ a (c + w)
+step P t t₁ t₂ a b c w x r e f g = step-by P (IsAt c w x) t t₁ t₂ a b c (c + w) r e (λ s o p. record { is = f s o p }) g
 
 -- a number of some bytes
 pub runs-from : (ds s : List ℕ) (at k : ℕ) → ((j : ℕ) → j < length ds → getD ds j 0 ≡ getD s (at + (k + j)) 0) → Runs ds s at k
@@ -235,50 +117,13 @@ bodies-written t t′ b d from n h l m ed e =
     ∙ ap (λ (x : ℕ). getD s x 0) (omega arith)))
     (omega (arith, k)) e (omega (arith, k))
 
--- the head, in three parts
-module _ (t₀ t₁ t₂ t₃ t₄ t₅ : List ℕ) where
-  pub sizes-written : (n : ℕ) (z : Sizes) → Restores (IsAt 0 1 2) t₀ t₁ 0 1 → Restores (IsAt 1 1 (z .regions)) t₁ t₂ 1 2
-      → Restores (IsAt 2 1 (z .properties)) t₂ t₃ 2 3 → Restores (IsAt 3 1 (z .groups)) t₃ t₄ 3 4 → Restores (IsAt 4 2 n) t₄ t₅ 4 6
-      → Restores (WholeSizes z n) t₀ t₅ 0 6
-  sizes-written n z a b c d e =
-      record {
-        restored =
-            λ s o w h.
-            e .restored s o (w .stated) (d .restored s o (w .groups) (c .restored s o (w .properties) (b .restored s o (w .regions) (a .restored s o (w .edition) h))));
-      }
-
-  pub numbers-written : (h : Head) (u f : ℕ) → f ≡ headFlags h → Restores (IsAt 6 6 (h .serial)) t₀ t₁ 6 12 → Restores (IsAt 12 2 (h .mask)) t₁ t₂ 12 14
-      → Restores (IsAt 14 1 f) t₂ t₃ 14 15 → Restores (IsAt 15 1 u) t₃ t₄ 15 16 → Restores (IsAt 16 2 (h .address)) t₄ t₅ 16 18
-      → Restores (WholeNumbers h u) t₀ t₅ 6 18
-  numbers-written h u f ef a b c d e =
-      record {
-        restored =
-            λ s o w k.
-            e .restored s o (w .address) (d .restored s o (w .byte15) (c .restored s o record { is = ef ∙ w .flags .is } (b .restored s o (w .mask) (a .restored s o (w .serial) k))));
-      }
-
-  pub keys-written : (ks : List ℕ) (r : ℕ) → Restores (IsAt 18 4 (getD ks 0 0)) t₀ t₁ 18 22 → Restores (IsAt 22 4 (getD ks 1 0)) t₁ t₂ 22 26
-      → Restores (IsAt 26 4 (getD ks 2 0)) t₂ t₃ 26 30 → Restores (IsAt 30 1 r) t₃ t₄ 30 31 → Restores (IsAt 31 1 0) t₄ t₅ 31 32
-      → Restores (WholeKeys ks r) t₀ t₅ 18 32
-  keys-written ks r a b c d e =
-      record {
-        restored =
-            λ s o w k.
-            e .restored s o (w .zero31) (d .restored s o (w .rules) (c .restored s o (w .key2) (b .restored s o (w .key1) (a .restored s o (w .key0) k))));
-      }
-
--- the head, the entries, and the whole
-pub head-written : (t₀ t₁ t₂ t₃ : List ℕ) (h : Head) (z : Sizes) (n : ℕ) → Restores (WholeSizes z n) t₀ t₁ 0 6
-    → Restores (WholeNumbers h (z .users)) t₁ t₂ 6 18 → Restores (WholeKeys (h .keys) (h .rules)) t₂ t₃ 18 32 → Restores (WholeHead h z n) t₀ t₃ 0 32
-head-written t₀ t₁ t₂ t₃ h z n a b c =
-    record { restored = λ s o w k. c .restored s o (w .keys) (b .restored s o (w .numbers) (a .restored s o (w .sizes) k)) }
-
+-- the entries, and the whole
 pub entries-written : (t₃ t₄ t₅ t₆ t₇ : List ℕ) (u : Parts)
-    → Restores (Each (u .sizes .regions) (λ i s. WholeRegion (getD (u .regions) i noRegion) (32 + 8 * i) s)) t₃ t₄ 32 (second (u .sizes))
-    → Restores (Each (u .sizes .properties) (λ i s. WholeProperty (getD (u .properties) i noProperty) (second (u .sizes) + 12 * i) s)) t₄ t₅ (second (u .sizes)) (third (u .sizes))
-    → Restores (Each (u .sizes .groups) (λ i s. WholeGroup (getD (u .groups) i noGroup) (third (u .sizes) + 8 * i) s)) t₅ t₆ (third (u .sizes)) (fourth (u .sizes))
-    → Restores (Each (u .sizes .users) (λ i s. WholeRegion (getD (u .users) i noRegion) (fourth (u .sizes) + 8 * i) s)) t₆ t₇ (fourth (u .sizes)) (end (u .sizes))
-    → Restores (WholeEntries u) t₃ t₇ 32 (end (u .sizes))
+    → Restores (Each (u .counts .regions) (λ i s. WholeRegion (getD (u .regions) i noRegion) (32 + 8 * i) s)) t₃ t₄ 32 (second (u .counts))
+    → Restores (Each (u .counts .properties) (λ i s. WholeProperty (getD (u .properties) i noProperty) (second (u .counts) + 12 * i) s)) t₄ t₅ (second (u .counts)) (third (u .counts))
+    → Restores (Each (u .counts .groups) (λ i s. WholeGroup (getD (u .groups) i noGroup) (third (u .counts) + 8 * i) s)) t₅ t₆ (third (u .counts)) (fourth (u .counts))
+    → Restores (Each (u .counts .users) (λ i s. WholeRegion (getD (u .users) i noRegion) (fourth (u .counts) + 8 * i) s)) t₆ t₇ (fourth (u .counts)) (end (u .counts))
+    → Restores (WholeEntries u) t₃ t₇ 32 (end (u .counts))
 entries-written t₃ t₄ t₅ t₆ t₇ u d e f g =
     record {
       restored =
@@ -286,15 +131,12 @@ entries-written t₃ t₄ t₅ t₆ t₇ u d e f g =
           g .restored s o (w .users) (f .restored s o (w .groups) (e .restored s o (w .properties) (d .restored s o (w .regions) k)));
     }
 
-pub whole-written : (t₀ t₁ t₂ t₃ : List ℕ) (u : Parts) (z : ℕ) → Restores (WholeHead (u .head) (u .sizes) (u .length)) t₀ t₁ 0 32
-    → (z ≡ end (u .sizes)) × Restores (WholeEntries u) t₁ t₂ 32 (end (u .sizes))
-    → Restores (WholeBodies z (u .bodies) (u .length)) t₂ t₃ z (u .length)
+pub whole-written : (t₀ t₁ t₂ t₃ : List ℕ) (u : Parts) → Restores (WholeHead (u .head) (u .counts) (u .length)) t₀ t₁ 0 32
+    → Restores (WholeEntries u) t₁ t₂ 32 (end (u .counts))
+    → Restores (WholeBodies (end (u .counts)) (u .bodies) (u .length)) t₂ t₃ (end (u .counts)) (u .length)
     → Restores (Whole u) t₀ t₃ 0 (u .length)
-whole-written t₀ t₁ t₂ t₃ u z a b c =
-    let d = subst (λ (n : ℕ). Restores (WholeBodies n (u .bodies) (u .length)) t₂ t₃ n (u .length)) (b .0) c in
-    record {
-      restored = λ s o w k. d .restored s o (w .bodies) (b .1 .restored s o (w .entries) (a .restored s o (w .front) k));
-    }
+whole-written t₀ t₁ t₂ t₃ u a b c =
+    record { restored = λ s o w k. c .restored s o (w .bodies) (b .restored s o (w .entries) (a .restored s o (w .front) k)) }
 
 -- what is restored to the end is the sheet
 pub restored-all : (P : List ℕ → Type 0) (t t′ s : List ℕ) (n : ℕ) → Restores P t t′ 0 n → Octets s → P s → length t ≡ length s → n ≡ length s → t′ ≡ s

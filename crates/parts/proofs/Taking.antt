@@ -12,7 +12,7 @@ pub property-taken :
     IsNum s (at + 3) 1 256 z → IsNum s (at + 4) 2 65536 m → IsNum s (at + 6) 2 65536 c → IsNum s (at + 8) 2 65536 b →
     IsNum s (at + 10) 1 256 l →
     IsProperty
-    (record { object = o; id = i; writable = eqb (t / 128) 1; typ = t % 128; element = z; maximum = m; count = c; offset = b; read = l / 16; write = l % 16 })
+    (record { object = o; id = i; writable = eqb (t / 128) 1; typ = t % 128; size = z; maximum = m; count = c; offset = b; read = l / 16; write = l % 16 })
     s at
 property-taken s at o i t z m c b l eo ei et ez em ec eb el =
     record {
@@ -20,7 +20,7 @@ property-taken s at o i t z m c b l eo ei et ez em ec eb el =
       id = ei .value;
       writable = ap (λ (x : ℕ). eqb (x / 128) 1) (et .value);
       typ = ap (λ (x : ℕ). x % 128) (et .value);
-      element = ez .value;
+      size = ez .value;
       maximum = em .value;
       count = ec .value;
       offset = eb .value;

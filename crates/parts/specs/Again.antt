@@ -1,8 +1,8 @@
 -- The bytes of records, and what is restored when they are written.
 -- Assumes nothing.
-use Prim.Native.Nat.{ℕ, _+_, _*_, _/_, _%_, _<_, _≤_}
+use Prim.Native.Nat.{ℕ, _+_, _*_, _%_, _<_, _≤_}
 use mathlib.Core.Path.{_≡_}
-use mathlib.Core.List.{List, [], _∷_}
+use mathlib.Core.List.{List}
 use mathlib.Core.Bool.{Bool, cond}
 use lib.ListN.{length, getD}
 use Rattle.octets.specs.Bytes.{numAt}
@@ -11,7 +11,7 @@ use Rattle.parts.specs.declared.Region.{Region}
 use Rattle.parts.specs.declared.Property.{Property}
 use Rattle.parts.specs.declared.Group.{Group}
 use Rattle.parts.specs.declared.Head.{Head}
-use Rattle.parts.specs.declared.Sizes.{Sizes}
+use Rattle.parts.specs.declared.Counts.{Counts}
 use Rattle.parts.specs.declared.Parts.{Parts}
 use Rattle.parts.specs.Records.{IsRegion, IsProperty, IsGroup, noRegion, noProperty, noGroup}
 
@@ -30,20 +30,6 @@ groupFlags e = bitOf (e .read) 1 + bitOf (e .write) 2 + bitOf (e .response) 4
 
 abbrev pub headFlags : Head → ℕ
 headFlags h = bitOf (h .programming) 1 + bitOf (h .verify) 2
-
-abbrev pub regionBytes : Region → List ℕ
-regionBytes e =
-    e .address / 256 ∷ e .address % 256 ∷ e .length / 256 ∷ e .length % 256 ∷ e .offset / 256 ∷ e .offset % 256
-    ∷ levelsOf (e .read) (e .write) ∷ 0 ∷ []
-
-abbrev pub propertyBytes : Property → List ℕ
-propertyBytes e =
-    e .object ∷ e .id ∷ typeOf e ∷ e .element ∷ e .maximum / 256 ∷ e .maximum % 256 ∷ e .count / 256 ∷ e .count % 256
-    ∷ e .offset / 256 ∷ e .offset % 256 ∷ levelsOf (e .read) (e .write) ∷ 0 ∷ []
-
-abbrev pub groupBytes : Group → List ℕ
-groupBytes e =
-    e .address / 256 ∷ e .address % 256 ∷ e .code ∷ groupFlags e ∷ e .offset / 256 ∷ e .offset % 256 ∷ 0 ∷ 0 ∷ []
 
 -- the entry at a place has the fields of e, zero bytes after them, and no bits but those named
 pub record WholeRegion (e : Region) (at : ℕ) (s : List ℕ) : Type 0 where
@@ -75,66 +61,62 @@ pub record Each (n : ℕ) (P : ℕ → List ℕ → Type 0) (s : List ℕ) : Typ
 pub record IsAt (at w x : ℕ) (s : List ℕ) : Type 0 where
   pub is : x ≡ numAt s at w
 
-pub record WholeSizes (z : Sizes) (n : ℕ) (s : List ℕ) : Type 0 where
-  pub edition : IsAt 0 1 2 s
-  pub regions : IsAt 1 1 (z .regions) s
-  pub properties : IsAt 2 1 (z .properties) s
-  pub groups : IsAt 3 1 (z .groups) s
-  pub stated : IsAt 4 2 n s
+-- the keys, and the head, field by field
+pub record WholeKeys (ks : List ℕ) (s : List ℕ) : Type 0 where
+  pub key0 : getD ks 0 0 ≡ numAt s 18 4
+  pub key1 : getD ks 1 0 ≡ numAt s 22 4
+  pub key2 : getD ks 2 0 ≡ numAt s 26 4
 
-pub record WholeNumbers (h : Head) (users : ℕ) (s : List ℕ) : Type 0 where
-  pub serial : IsAt 6 6 (h .serial) s
-  pub mask : IsAt 12 2 (h .mask) s
-  pub flags : IsAt 14 1 (headFlags h) s
-  pub byte15 : IsAt 15 1 users s
-  pub address : IsAt 16 2 (h .address) s
-
-pub record WholeKeys (keys : List ℕ) (ru : ℕ) (s : List ℕ) : Type 0 where
-  pub key0 : IsAt 18 4 (getD keys 0 0) s
-  pub key1 : IsAt 22 4 (getD keys 1 0) s
-  pub key2 : IsAt 26 4 (getD keys 2 0) s
-  pub rules : IsAt 30 1 ru s
-  pub zero31 : IsAt 31 1 0 s
+pub record WholeHead (h : Head) (z : Counts) (n : ℕ) (s : List ℕ) : Type 0 where
+  pub edition : 2 ≡ numAt s 0 1
+  pub regions : z .regions ≡ numAt s 1 1
+  pub properties : z .properties ≡ numAt s 2 1
+  pub groups : z .groups ≡ numAt s 3 1
+  pub stated : n ≡ numAt s 4 2
+  pub serial : h .serial ≡ numAt s 6 6
+  pub mask : h .mask ≡ numAt s 12 2
+  pub flags : headFlags h ≡ numAt s 14 1
+  pub users : z .users ≡ numAt s 15 1
+  pub address : h .address ≡ numAt s 16 2
+  pub keys : WholeKeys (h .keys) s
+  pub rules : h .rules ≡ numAt s 30 1
+  pub zero : 0 ≡ numAt s 31 1
 
 pub record WholeBodies (from : ℕ) (b : List ℕ) (n : ℕ) (s : List ℕ) : Type 0 where
   pub each : (p : ℕ) → from ≤ p → p < n → getD b p 0 ≡ getD s p 0
 
 -- where the entries of each kind begin, and where the bodies do
-abbrev pub second : Sizes → ℕ
+abbrev pub second : Counts → ℕ
 second z = 32 + 8 * z .regions
 
-abbrev pub third : Sizes → ℕ
+abbrev pub third : Counts → ℕ
 third z = second z + 12 * z .properties
 
-abbrev pub fourth : Sizes → ℕ
+abbrev pub fourth : Counts → ℕ
 fourth z = third z + 8 * z .groups
 
-abbrev pub end : Sizes → ℕ
+abbrev pub end : Counts → ℕ
 end z = fourth z + 8 * z .users
 
-pub record WholeHead (h : Head) (z : Sizes) (n : ℕ) (s : List ℕ) : Type 0 where
-  pub sizes : WholeSizes z n s
-  pub numbers : WholeNumbers h (z .users) s
-  pub keys : WholeKeys (h .keys) (h .rules) s
-
 pub record WholeEntries (u : Parts) (s : List ℕ) : Type 0 where
-  pub regions : Each (u .sizes .regions) (λ i s. WholeRegion (getD (u .regions) i noRegion) (32 + 8 * i) s) s
-  pub properties : Each (u .sizes .properties) (λ i s. WholeProperty (getD (u .properties) i noProperty) (second (u .sizes) + 12 * i) s) s
-  pub groups : Each (u .sizes .groups) (λ i s. WholeGroup (getD (u .groups) i noGroup) (third (u .sizes) + 8 * i) s) s
-  pub users : Each (u .sizes .users) (λ i s. WholeRegion (getD (u .users) i noRegion) (fourth (u .sizes) + 8 * i) s) s
+  pub regions : Each (u .counts .regions) (λ i s. WholeRegion (getD (u .regions) i noRegion) (32 + 8 * i) s) s
+  pub properties : Each (u .counts .properties) (λ i s. WholeProperty (getD (u .properties) i noProperty) (second (u .counts) + 12 * i) s) s
+  pub groups : Each (u .counts .groups) (λ i s. WholeGroup (getD (u .groups) i noGroup) (third (u .counts) + 8 * i) s) s
+  pub users : Each (u .counts .users) (λ i s. WholeRegion (getD (u .users) i noRegion) (fourth (u .counts) + 8 * i) s) s
 
 -- s is the sheet of the parts u, byte by byte
 pub record Whole (u : Parts) (s : List ℕ) : Type 0 where
-  pub front : WholeHead (u .head) (u .sizes) (u .length) s
+  pub front : WholeHead (u .head) (u .counts) (u .length) s
   pub entries : WholeEntries u s
-  pub bodies : WholeBodies (end (u .sizes)) (u .bodies) (u .length) s
+  pub bodies : WholeBodies (end (u .counts)) (u .bodies) (u .length) s
 
 -- the parts fit a buffer of n bytes
 pub record Roomy (u : Parts) (n : ℕ) : Type 0 where
-  pub regions : u .sizes .regions ≤ 16
-  pub properties : u .sizes .properties ≤ 64
-  pub groups : u .sizes .groups ≤ 64
-  pub users : u .sizes .users ≤ 16
-  pub contents : end (u .sizes) ≤ u .length
+  pub regions : u .counts .regions ≤ 16
+  pub properties : u .counts .properties ≤ 64
+  pub groups : u .counts .groups ≤ 64
+  pub users : u .counts .users ≤ 16
+  pub contents : end (u .counts) ≤ u .length
   pub short : u .length ≤ 16384
   pub long : u .length ≡ n
+  pub room : length (u .bodies) ≡ 16384

@@ -15,7 +15,7 @@ use Rattle.parts.specs.declared.Region.{Region}
 use Rattle.parts.specs.declared.Property.{Property}
 use Rattle.parts.specs.declared.Group.{Group}
 use Rattle.parts.specs.declared.Head.{Head}
-use Rattle.parts.specs.declared.Sizes.{Sizes}
+use Rattle.parts.specs.declared.Counts.{Counts}
 use Rattle.parts.specs.declared.Parts.{Parts}
 
 abbrev pub noRegion : Region
@@ -23,7 +23,7 @@ noRegion = record { address = 0; length = 0; offset = 0; read = 0; write = 0 }
 
 abbrev pub noProperty : Property
 noProperty =
-    record { object = 0; id = 0; writable = false; typ = 0; element = 0; maximum = 0; count = 0; offset = 0; read = 0; write = 0 }
+    record { object = 0; id = 0; writable = false; typ = 0; size = 0; maximum = 0; count = 0; offset = 0; read = 0; write = 0 }
 
 abbrev pub noGroup : Group
 noGroup = record { address = 0; code = 0; read = false; write = false; response = false; offset = 0 }
@@ -41,7 +41,7 @@ pub record IsProperty (e : Property) (s : List ℕ) (at : ℕ) : Type 0 where
   pub id : e .id ≡ numAt s (at + 1) 1
   pub writable : e .writable ≡ eqb (numAt s (at + 2) 1 / 128) 1
   pub typ : e .typ ≡ numAt s (at + 2) 1 % 128
-  pub element : e .element ≡ numAt s (at + 3) 1
+  pub size : e .size ≡ numAt s (at + 3) 1
   pub maximum : e .maximum ≡ numAt s (at + 4) 2
   pub count : e .count ≡ numAt s (at + 6) 2
   pub offset : e .offset ≡ numAt s (at + 8) 2
@@ -69,7 +69,7 @@ pub record IsHead (h : Head) (s : List ℕ) : Type 0 where
   pub rules : h .rules ≡ head.rules of s
 
 -- the numbers of entries, which are few
-pub record IsSizes (z : Sizes) (s : List ℕ) : Type 0 where
+pub record IsCounts (z : Counts) (s : List ℕ) : Type 0 where
   pub regions : z .regions ≡ count s regions
   pub properties : z .properties ≡ count s properties
   pub groups : z .groups ≡ count s groups
@@ -84,7 +84,7 @@ pub record IsSizes (z : Sizes) (s : List ℕ) : Type 0 where
 -- THE SHEET s IS WHAT THE PARTS u SAY
 pub record Taken (s : List ℕ) (u : Parts) : Type 0 where
   pub front : IsHead (u .head) s
-  pub sizes : IsSizes (u .sizes) s
+  pub counts : IsCounts (u .counts) s
   pub regions : (i : ℕ) → i < count s regions → IsRegion (getD (u .regions) i noRegion) s (base s regions + 8 * i)
   pub properties : (i : ℕ) → i < count s properties → IsProperty (getD (u .properties) i noProperty) s (base s properties + 12 * i)
   pub groups : (i : ℕ) → i < count s groups → IsGroup (getD (u .groups) i noGroup) s (base s groups + 8 * i)

@@ -13,7 +13,7 @@ abbrev pub withHead : Parts → Head → Parts
 withHead u h =
     record {
       head = h;
-      sizes = u .sizes;
+      counts = u .counts;
       regions = u .regions;
       properties = u .properties;
       groups = u .groups;
@@ -26,7 +26,7 @@ abbrev pub withProperties : Parts → List Property → Parts
 withProperties u ps =
     record {
       head = u .head;
-      sizes = u .sizes;
+      counts = u .counts;
       regions = u .regions;
       properties = ps;
       groups = u .groups;
@@ -39,7 +39,7 @@ abbrev pub withBodies : Parts → List ℕ → Parts
 withBodies u b =
     record {
       head = u .head;
-      sizes = u .sizes;
+      counts = u .counts;
       regions = u .regions;
       properties = u .properties;
       groups = u .groups;
@@ -78,7 +78,7 @@ counting p c =
       id = p .id;
       writable = p .writable;
       typ = p .typ;
-      element = p .element;
+      size = p .size;
       maximum = p .maximum;
       count = c;
       offset = p .offset;

@@ -1,13 +1,14 @@
 // A sheet as plain records: taken apart, and written again.
-mod again;
-mod round;
-mod take;
+mod entries;
+mod front;
+mod lists;
+mod whole;
 
-pub use again::levels_byte;
-pub use again::type_byte;
-pub use again::write_again;
-pub use round::same;
-pub use take::take_apart;
+pub use entries::levels_byte;
+pub use entries::type_byte;
+pub use whole::same;
+pub use whole::take_apart;
+pub use whole::write_again;
 
 // A region of memory or of user memory. Here and in a property, `read` and `write` are levels: those up to which it may be read and
 // written.
@@ -25,7 +26,7 @@ pub struct Property {
     pub id: u8,
     pub writable: bool,
     pub typ: u8,
-    pub element: u8,
+    pub size: u8,
     pub maximum: u16,
     pub count: u16,
     pub offset: u16,
@@ -44,7 +45,7 @@ pub struct Group {
 }
 
 // How many entries of each kind there are.
-pub struct Sizes {
+pub struct Counts {
     pub regions: usize,
     pub properties: usize,
     pub groups: usize,
@@ -66,7 +67,7 @@ pub struct Head {
 // A whole sheet and its length. The bodies stand at the places that the entries' offsets name, which are those of the sheet.
 pub struct Parts {
     pub head: Head,
-    pub sizes: Sizes,
+    pub counts: Counts,
     pub regions: [Region; 16],
     pub properties: [Property; 64],
     pub groups: [Group; 64],

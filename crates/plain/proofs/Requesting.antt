@@ -130,11 +130,11 @@ module _ (q : Sessions) (mode c group : ℕ) (a s o : List ℕ) (session : Sessi
         is : Reading a p
         is = reading a p reads
 
-        pub carry-needs : Roomy (r .parts) (length s) × Sendable (length o) (r .sent) (take (r .size) (r .bytes)) × (r .size ≤ 14) × (length (r .bytes) ≡ 14)
+        pub carry-needs : Roomy (r .parts) (length s) × Sendable (length o) (r .sent) (take (r .length) (r .bytes)) × (r .length ≤ 14) × (length (r .bytes) ≡ 14)
         carry-needs = (
           subst (λ (n : ℕ). Roomy (r .parts) n) (left-long s ok level group a p is)
               (roomy after (left-accepted s ok level group a p is) (r .parts) (agrees .sheet)),
-          subst (λ (y : Sent). Sendable (length o) y (take (r .size) (r .bytes))) (sym (agrees .gives .sent))
+          subst (λ (y : Sent). Sendable (length o) y (take (r .length) (r .bytes))) (sym (agrees .gives .sent))
               (subst (λ (y : List ℕ). Sendable (length o) (sentOf (k .answer)) y) (sym (agrees .gives .bytes))
               (sends (length o) after (dataOf p a) (k .answer) wide (safe s ok level group a p is .answer))),
           agrees .gives .short,
@@ -163,7 +163,7 @@ module _ (q : Sessions) (mode c group : ℕ) (a s o : List ℕ) (session : Sessi
         served-called x s′ o′ w =
             let data-is : dataIn (readPdu a) a ≡ dataOf p a = ap (λ (y : Parsed). dataIn y a) reads in
             let gi = agrees .gives in
-            let bytes : sentBytes (r .sent) (take (r .size) (r .bytes)) ≡ answerOf after (dataOf p a) (k .answer) =
+            let bytes : sentBytes (r .sent) (take (r .length) (r .bytes)) ≡ answerOf after (dataOf p a) (k .answer) =
             ap₂ sentBytes (gi .sent) (gi .bytes) ∙ sent-as after (dataOf p a) (k .answer) in
             record {
               did =

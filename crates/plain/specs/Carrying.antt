@@ -38,5 +38,5 @@ pub record Carried (q : Sessions) (mode c : ℕ) (r : Reply) (s o : List ℕ) (x
   pub outcome : x .outcome ≡ r .outcome
   pub kept : 2 ≤ r .outcome → s′ ≡ s
   pub sheet : r .outcome ≤ 1 → Restores (Whole (r .parts)) s s′ 0 (r .parts .length)
-  pub answer : Filled (sentBytes (r .sent) (take (r .size) (r .bytes))) (x .count) o o′
+  pub answer : Filled (sentBytes (r .sent) (take (r .length) (r .bytes))) (x .count) o o′
   pub sessions : x .sessions ≡ turnedOf q mode c (closes (r .turn)) (turnOf (sessionFor q mode c) (r .turn))

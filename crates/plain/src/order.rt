@@ -58,10 +58,10 @@ fn restart_taken(rules: u8, mode: u8) -> bool
 }
 
 // The mode takes the service: 0 multicast, 1 broadcast, 2 connectionless, 3 on a connection.
-fn is_taken(k: Service, rules: u8, mode: u8) -> bool
-    ensures { λ r. ⌜ r ≡ takes (reachOf rules k) mode ⌝ }
+fn is_taken(service: Service, rules: u8, mode: u8) -> bool
+    ensures { λ r. ⌜ r ≡ takes (reachOf rules service) mode ⌝ }
 {
-    match k {
+    match service {
         Service::GroupValueRead => mode == 0,
         Service::GroupValueResponse => mode == 0,
         Service::GroupValueWrite => mode == 0,
@@ -97,18 +97,14 @@ fn is_taken(k: Service, rules: u8, mode: u8) -> bool
 pub fn refused_next(found: Found, rules: u8, mode: u8) -> u8
     ensures { λ r. ⌜ r ≡ nextOf found rules mode ⌝ }
 {
-    let Found::Listed(k) = found else {
+    let Found::Listed(service) = found else {
         return 8;
     };
-    if is_taken(k, rules, mode) {
+    if is_taken(service, rules, mode) {
         return 0;
     }
-    // An answer to a tool is taken in no mode. It is no request, and its code unknown to the device.
-    if is_taken(k, rules, 0)
-        || is_taken(k, rules, 1)
-        || is_taken(k, rules, 2)
-        || is_taken(k, rules, 3)
-    {
+    // An answer to a tool is taken in no mode: it is no request, and its code unknown to the device. What mode 2 takes 3 takes.
+    if is_taken(service, rules, 0) || is_taken(service, rules, 1) || is_taken(service, rules, 3) {
         return 9;
     }
     8

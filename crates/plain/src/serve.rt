@@ -8,9 +8,8 @@ use plain_services::authorize;
 use plain_services::bit_write;
 use plain_services::description;
 use plain_services::descriptor;
+use plain_services::group_put;
 use plain_services::group_read;
-use plain_services::group_response;
-use plain_services::group_write;
 use plain_services::key_write;
 use plain_services::memory_read;
 use plain_services::memory_write;
@@ -35,8 +34,8 @@ pub fn serve(u: Parts, level: u8, group: u16, d: &[u8], p: Pdu) -> Reply
 {
     match p {
         Pdu::GroupValueRead => group_read(u, group),
-        Pdu::GroupValueResponse { v } => group_response(u, group, v, d),
-        Pdu::GroupValueWrite { v } => group_write(u, group, v, d),
+        Pdu::GroupValueResponse { v } => group_put(u, true, group, v, d),
+        Pdu::GroupValueWrite { v } => group_put(u, false, group, v, d),
         Pdu::IndividualAddressWrite { address } => address_write(u, address),
         Pdu::IndividualAddressRead => address_read(u),
         Pdu::SerialNumberRead { serial } => serial_read(u, serial),

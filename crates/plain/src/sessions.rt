@@ -6,7 +6,7 @@ ghost use mathlib.Core.Path.{_≡_};
 ghost use mathlib.Core.Bool.{false};
 ghost use Rattle.judge.specs.declared.Turn.the-variants.{Level};
 ghost use Rattle.device.specs.Carry.{turnOf, closes};
-ghost use Rattle.device.specs.Sessions.{closed as closedOf, freshOf, sessionFor, turnedOf};
+ghost use Rattle.device.specs.Sessions.{closed as closedOf, sessionFor, turnedOf};
 
 fn closed() -> Session
     ensures { λ r. ⌜ r ≡ closedOf ⌝ }
@@ -18,50 +18,43 @@ fn closed() -> Session
 }
 
 // The session that a request meets: in mode 3 that of its connection. There is none but 0 and 1.
-pub fn session_met(q: Sessions, mode: u8, connection: u8) -> Session
-    ensures { λ r. ⌜ r ≡ sessionFor q mode connection ⌝ }
+pub fn session_met(sessions: Sessions, mode: u8, connection: u8) -> Session
+    ensures { λ r. ⌜ r ≡ sessionFor sessions mode connection ⌝ }
 {
     if mode == 3 && connection == 0 {
-        return q.first;
+        return sessions.first;
     }
     if mode == 3 && connection == 1 {
-        return q.second;
+        return sessions.second;
     }
     closed()
 }
 
 // Another level for the connection of a request, if it has one.
-fn with_level(q: Sessions, mode: u8, connection: u8, level: u8) -> Sessions
-    ensures { λ r. ⌜ r ≡ turnedOf q mode connection false (turnOf (sessionFor q mode connection) (Level level)) ⌝ }
+fn with_level(mut sessions: Sessions, mode: u8, connection: u8, level: u8) -> Sessions
+    ensures { λ r. ⌜ r ≡ turnedOf sessions mode connection false (turnOf (sessionFor sessions mode connection) (Level level)) ⌝ }
 {
-    let mut r = q;
     if mode == 3 && connection == 0 {
-        r.first.level = level;
-        return r;
+        sessions.first.level = level;
+        return sessions;
     }
     if mode == 3 && connection == 1 {
-        r.second.level = level;
-        return r;
+        sessions.second.level = level;
+        return sessions;
     }
-    q
-}
-
-fn both_closed() -> Sessions
-    ensures { λ r. ⌜ r ≡ freshOf ⌝ }
-{
-    Sessions {
-        first: closed(),
-        second: closed(),
-    }
+    sessions
 }
 
 // The sessions afterwards: as they were, with another level, or both closed.
-pub fn sessions_after(q: Sessions, mode: u8, connection: u8, turn: Turn) -> Sessions
-    ensures { λ r. ⌜ r ≡ turnedOf q mode connection (closes turn) (turnOf (sessionFor q mode connection) turn) ⌝ }
+pub fn sessions_after(sessions: Sessions, mode: u8, connection: u8, turn: Turn) -> Sessions
+    ensures { λ r. ⌜ r ≡ turnedOf sessions mode connection (closes turn) (turnOf (sessionFor sessions mode connection) turn) ⌝ }
 {
     match turn {
-        Turn::Stays => q,
-        Turn::Level(level) => with_level(q, mode, connection, level),
-        Turn::Closes => both_closed(),
+        Turn::Stays => sessions,
+        Turn::Level(level) => with_level(sessions, mode, connection, level),
+        Turn::Closes => Sessions {
+            first: closed(),
+            second: closed(),
+        },
     }
 }

@@ -77,43 +77,44 @@ module _ (s : List ℕ) (u : Parts) (t : Taken s u) where
     nth-as : (i : ℕ) → i < count s properties → isNth (u .properties) object index i ≡ (eqb (objectAt s i) object && eqb (rank s object i) index)
     nth-as i h = ap₂ (λ (a b : ℕ). eqb a object && eqb b index) (object-is i h) (rank-same object i (omega arith))
 
-    pub nth-found : (i : ℕ) → i < u .sizes .properties → isNth (u .properties) object index i ≡ true → i ≡ nthOf s object index
+    pub nth-found : (i : ℕ) → i < u .counts .properties → isNth (u .properties) object index i ≡ true → i ≡ nthOf s object index
     nth-found i h e =
-        let k : i < count s properties = omega (arith, t .sizes .properties) in
+        let k : i < count s properties = omega (arith, t .counts .properties) in
         let q = sym (nth-as i k) ∙ e in
         sym
         (nth-hit s object index i k (eqb-true _ _ (first-true (eqb (objectAt s i) object) (eqb (rank s object i) index) q))
         (eqb-true _ _ (second-true (eqb (objectAt s i) object) (eqb (rank s object i) index) q)))
 
-    pub nth-missing : ((i : ℕ) → i < u .sizes .properties → isNth (u .properties) object index i ≡ false) → u .sizes .properties ≡ nthOf s object index
+    pub nth-missing : ((i : ℕ) → i < u .counts .properties → isNth (u .properties) object index i ≡ false) → u .counts .properties ≡ nthOf s object index
     nth-missing f =
-        t .sizes .properties
+        t .counts .properties
         ∙ sym
         (nth-none s object index
         (λ i k a b.
-        never (sym (f i (omega (arith, t .sizes .properties))) ∙ nth-as i k ∙ both _ _ (eq-eqb (objectAt s i) object a) (eq-eqb (rank s object i) index b))))
+        never (sym (f i (omega (arith, t .counts .properties))) ∙ nth-as i k ∙ both _ _ (eq-eqb (objectAt s i) object a) (eq-eqb (rank s object i) index b))))
 
 module _ (u : Parts) (object id index i : ℕ) where
   abbrev Found : (List ℕ → ℕ) → Type 0
-  Found f = (i ≤ u .sizes .properties) × ((s : List ℕ) → Accepted s → Octets s → Taken s u → i ≡ f s)
+  Found f = (i ≤ u .counts .properties) × ((s : List ℕ) → Accepted s → Octets s → Taken s u → i ≡ f s)
 
-  pub by-index : (x : ℕ) → i ≡ x → id ≡ 0 → (x ≤ u .sizes .properties) × ((s : List ℕ) → Accepted s → Octets s → Taken s u → x ≡ nthOf s object index) → Found (λ s. describedAt s object id index)
+  pub by-index : (x : ℕ) → i ≡ x → id ≡ 0 → (x ≤ u .counts .properties) × ((s : List ℕ) → Accepted s → Octets s → Taken s u → x ≡ nthOf s object index) → Found (λ s. describedAt s object id index)
   unfolding describedAt
   by-index x q e f = (omega (arith, q, f .0), λ s ok o t. q ∙ f .1 s ok o t ∙ simp (eq-eqb id 0 e))
 
-  pub by-id : (x : ℕ) → i ≡ x → (id ≡ 0 → ⊥) → (x ≤ u .sizes .properties) × ((s : List ℕ) → Accepted s → Octets s → Taken s u → x ≡ propertyAt s object id) → Found (λ s. describedAt s object id index)
+  pub by-id : (x : ℕ) → i ≡ x → (id ≡ 0 → ⊥) → (x ≤ u .counts .properties) × ((s : List ℕ) → Accepted s → Octets s → Taken s u → x ≡ propertyAt s object id) →
+      Found (λ s. describedAt s object id index)
   unfolding describedAt
   by-id x q e f = (omega (arith, q, f .0), λ s ok o t. q ∙ f .1 s ok o t ∙ simp (ne-eqb id 0 e))
 
-  module _ (r : Reply) (f : (i ≤ u .sizes .properties) × ((s : List ℕ) → Accepted s → Octets s → Taken s u → i ≡ describedAt s object id index)) where
+  module _ (r : Reply) (f : (i ≤ u .counts .properties) × ((s : List ℕ) → Accepted s → Octets s → Taken s u → i ≡ describedAt s object id index)) where
     pub none-described :
-        u .sizes .properties ≤ i → Gives r 11 u Stays (This (PropertyDescriptionResponse object id index 0 0 0)) [] →
+        u .counts .properties ≤ i → Gives r 11 u Stays (This (PropertyDescriptionResponse object id index 0 0 0)) [] →
         Serves u [] (λ s. descriptionOf s object id index) r
     unfolding descriptionOf
     none-described h g =
         record {
           agrees = λ s ok o k.
-              let l : count s properties ≤ describedAt s object id index = omega (arith, f .1 s ok o k, k .sizes .properties) in
+              let l : count s properties ≤ describedAt s object id index = omega (arith, f .1 s ok o k, k .counts .properties) in
               by-decision _ (denied (PropertyDescriptionResponse object id index 0 0 0))
               (rw (le-ltb (describedAt s object id index) (count s properties) l) refl)
               (agreed (denied (PropertyDescriptionResponse object id index 0 0 0)) g k);
@@ -123,7 +124,7 @@ module _ (u : Parts) (object id index i : ℕ) where
     p = getD (u .properties) i noProperty
 
     pub one-described :
-        i < u .sizes .properties → (x ty ac : ℕ) → x ≡ rankIn (u .properties) (p .object) i → ty ≡ typeOf p → ac ≡ levelsOf (p .read) (p .write) →
+        i < u .counts .properties → (x ty ac : ℕ) → x ≡ rankIn (u .properties) (p .object) i → ty ≡ typeOf p → ac ≡ levelsOf (p .read) (p .write) →
         Gives r 0 u Stays (This (PropertyDescriptionResponse (p .object) (p .id) x ty (p .maximum) ac)) [] →
         Serves u [] (λ s. descriptionOf s object id index) r
     unfolding descriptionOf
@@ -131,7 +132,7 @@ module _ (u : Parts) (object id index i : ℕ) where
         record {
           agrees = λ s ok o k.
               let q = f .1 s ok o k in
-              let there : i < count s properties = omega (arith, k .sizes .properties) in
+              let there : i < count s properties = omega (arith, k .counts .properties) in
               let l : describedAt s object id index < count s properties = omega (arith, q) in
               let w = fields s u i k there in
               let e : List ℕ = entry s properties i in

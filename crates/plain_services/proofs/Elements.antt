@@ -1,4 +1,4 @@
--- Elements of a property: sizes and places.
+-- Elements of a property: counts and places.
 -- Assumes nothing.
 use Prim.Native.Nat.{ℕ, _+_, _*_, _-_, _≤_}
 use mathlib.Core.Path.{_≡_, ap, ap₂, _∙_}
@@ -26,6 +26,13 @@ zeros-written u b₁ b₂ d at z h e f = ap (λ (b : List ℕ). withBodies u b) 
 
 pub eqb-second : (x y z : ℕ) → y ≡ z → eqb x y ≡ eqb x z
 eqb-second x y z e = ap (eqb x) e
+
+-- the place of element t, and of the first that is jumped
+pub element-from : (o z t x : ℕ) → x ≡ (t - 1) * z → o + x ≡ elementAt o z t
+element-from o z t x e = ap (λ (y : ℕ). o + y) e
+
+pub jumped-from : (o z t j x : ℕ) → x ≡ (t - 1 - j) * z → o + x ≡ elementAt o z (t - j)
+jumped-from o z t j x e = let q : t - 1 - j ≡ t - j - 1 = omega arith in ap (λ (y : ℕ). o + y) (e ∙ ap (λ (k : ℕ). k * z) q)
 
 -- the run of a write, j elements being jumped: it starts at f, and m bytes of it are zeros
 module _ (o z c t j f m n : ℕ) (ej : j ≡ jumped c t) (ef : f ≡ elementAt o z (t - j)) (em : m ≡ j * z) where

@@ -22,7 +22,7 @@ pub record Fields (p : Property) (e : List ℕ) : Type 0 where
   pub id : property.id of e ≡ p .id
   pub writable : eqb (property.typ of e / 128) 1 ≡ p .writable
   pub typ : property.typ of e % 128 ≡ p .typ
-  pub element : property.element of e ≡ p .element
+  pub size : property.element of e ≡ p .size
   pub maximum : property.maximum of e ≡ p .maximum
   pub count : property.count of e ≡ p .count
   pub offset : property.offset of e ≡ p .offset
@@ -37,7 +37,7 @@ fields s u i t h =
       id = field-at s properties i property.id (lit< tt) ∙ sym (p .id);
       writable = ap (λ (x : ℕ). eqb (x / 128) 1) (field-at s properties i property.typ (lit< tt)) ∙ sym (p .writable);
       typ = ap (λ (x : ℕ). x % 128) (field-at s properties i property.typ (lit< tt)) ∙ sym (p .typ);
-      element = field-at s properties i property.element (lit< tt) ∙ sym (p .element);
+      size = field-at s properties i property.element (lit< tt) ∙ sym (p .size);
       maximum = field-at s properties i property.maximum (lit< tt) ∙ sym (p .maximum);
       count = field-at s properties i property.count (lit< tt) ∙ sym (p .count);
       offset = field-at s properties i property.offset (lit< tt) ∙ sym (p .offset);

@@ -52,17 +52,17 @@ module _ (u : Parts) (x y : ℕ) (s : List ℕ) (ok : Accepted s) (t : Taken s u
         p .id,
       )
 
-  pub hit : (i : ℕ) → i < u .sizes .properties → named u x y i ≡ true → i ≡ propertyAt s x y
+  pub hit : (i : ℕ) → i < u .counts .properties → named u x y i ≡ true → i ≡ propertyAt s x y
   hit i h e =
-      let k : i < count s properties = omega (arith, t .sizes .properties) in
+      let k : i < count s properties = omega (arith, t .counts .properties) in
       let a : getD (u .properties) i noProperty .object ≡ x = eqb-true _ x (first-true (eqb (getD (u .properties) i noProperty .object) x) (eqb (getD (u .properties) i noProperty .id) y) e) in
       let b : getD (u .properties) i noProperty .id ≡ y = eqb-true _ y (second-true (eqb (getD (u .properties) i noProperty .object) x) (eqb (getD (u .properties) i noProperty .id) y) e) in
       sym (index-hit s ok properties (lit< tt) i (x * 256 + y) k (omega (arith, first-word i k, a, b)))
 
   -- all bytes are below 256, so that a first word tells object and id
-  pub miss : y < 256 → ((i : ℕ) → i < u .sizes .properties → named u x y i ≡ false) → Octets s → u .sizes .properties ≡ propertyAt s x y
+  pub miss : y < 256 → ((i : ℕ) → i < u .counts .properties → named u x y i ≡ false) → Octets s → u .counts .properties ≡ propertyAt s x y
   miss l f o =
-      t .sizes .properties
+      t .counts .properties
       ∙ sym
       (index-none s properties (x * 256 + y)
       (λ i h e.
@@ -71,4 +71,4 @@ module _ (u : Parts) (x y : ℕ) (s : List ℕ) (ok : Accepted s) (t : Taken s u
       let small : getD (u .properties) i noProperty .id < 256 = omega (arith, p .id, num-one s (place s properties i + 1), o (place s properties i + 1)) in
       let a : getD (u .properties) i noProperty .object ≡ x = omega arith in
       let b : getD (u .properties) i noProperty .id ≡ y = omega arith in
-      never (sym (f i (omega (arith, t .sizes .properties))) ∙ both _ _ (eq-eqb _ x a) (eq-eqb _ y b))))
+      never (sym (f i (omega (arith, t .counts .properties))) ∙ both _ _ (eq-eqb _ x a) (eq-eqb _ y b))))

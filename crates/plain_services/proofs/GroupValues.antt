@@ -2,7 +2,8 @@
 -- Assumes nothing.
 use Prim.Native.Nat.{ℕ, _+_, _/_, _%_, _≤_, _<_, _-_}
 use mathlib.Core.Path.{_≡_, refl, sym, ap, subst, _∙_}
-use mathlib.Core.Bool.{Bool, true, false, cond}
+use mathlib.Core.Bool.{Bool, true, false, cond, not}
+use mathlib.Core.Logic.{_⊎_, inl, inr}
 use mathlib.Core.List.{List, [], _∷_}
 use native.Mathlib.Omega.{arith}
 use native.Mathlib.Nat.{add-zero}
@@ -40,6 +41,7 @@ use Rattle.parts.proofs.Quoted.{same-part}
 use Rattle.plain_services.specs.declared.Sent.the-variants.{Nothing, This}
 use Rattle.plain_services.specs.declared.Reply.{Reply}
 use Rattle.plain_services.specs.Steps.{Held, Gives, Serves}
+use Rattle.plain_services.proofs.Joined.{was-no, was-yes}
 use Rattle.plain_services.proofs.Agreed.{agreed, by-decision, quoted}
 
 -- the entry e has the fields of p
@@ -72,18 +74,18 @@ addressed gs a i = eqb (getD gs i noGroup .address) a
 
 -- a straight search finds the group object that the first engine finds
 module _ (u : Parts) (address : ℕ) (s : List ℕ) (t : Taken s u) where
-  pub group-hit : Accepted s → (i : ℕ) → i < u .sizes .groups → getD (u .groups) i noGroup .address ≡ address → i ≡ indexOf s groups address
+  pub group-hit : Accepted s → (i : ℕ) → i < u .counts .groups → getD (u .groups) i noGroup .address ≡ address → i ≡ indexOf s groups address
   group-hit ok i h e =
-      let k : i < count s groups = omega (arith, t .sizes .groups) in
+      let k : i < count s groups = omega (arith, t .counts .groups) in
       sym (index-hit s ok groups (lit< tt) i address k (fields s u i t k .address ∙ e))
 
-  pub group-miss : ((i : ℕ) → i < u .sizes .groups → addressed (u .groups) address i ≡ false) → u .sizes .groups ≡ indexOf s groups address
+  pub group-miss : ((i : ℕ) → i < u .counts .groups → addressed (u .groups) address i ≡ false) → u .counts .groups ≡ indexOf s groups address
   group-miss f =
-      t .sizes .groups
-      ∙ sym (index-none s groups address (λ i h e. never (sym (f i (omega (arith, t .sizes .groups))) ∙ eq-eqb (getD (u .groups) i noGroup .address) address (sym (fields s u i t h .address) ∙ e))))
+      t .counts .groups
+      ∙ sym (index-none s groups address (λ i h e. never (sym (f i (omega (arith, t .counts .groups))) ∙ eq-eqb (getD (u .groups) i noGroup .address) address (sym (fields s u i t h .address) ∙ e))))
 
 -- where the body of group object i stands
-module _ (u : Parts) (i : ℕ) (h : i < u .sizes .groups) where
+module _ (u : Parts) (i : ℕ) (h : i < u .counts .groups) where
   abbrev p : Group
   p = getD (u .groups) i noGroup
 
@@ -92,7 +94,7 @@ module _ (u : Parts) (i : ℕ) (h : i < u .sizes .groups) where
       (contents s ≤ p .offset) × (p .offset + p .code ≤ length s) × (p .offset + 1 ≤ length s) × (p .code ≤ 14)
   unfolding bodyAt
   body s ok t =
-      let there : i < count s groups = omega (arith, t .sizes .groups) in
+      let there : i < count s groups = omega (arith, t .counts .groups) in
       let f = fields s u i t there in
       let g = good s ok in (
         omega (arith, f .offset, after-contents g groups i (lit< tt) there),
@@ -104,10 +106,10 @@ module _ (u : Parts) (i : ℕ) (h : i < u .sizes .groups) where
   pub room : Held u → (length (u .bodies) ≡ 16384) × (p .offset + p .code ≤ 16384) × (p .code ≤ 14)
   room k =
       let b = body (k .sheet) (k .ok) (k .taken) in
-      (k .taken .room, omega (arith, b .1, k .taken .sizes .short), b .3)
+      (k .taken .room, omega (arith, b .1, k .taken .counts .short), b .3)
 
   pub six-room : Held u → (length (u .bodies) ≡ 16384) × (p .offset + 1 ≤ 16384)
-  six-room k = (k .taken .room, omega (arith, body (k .sheet) (k .ok) (k .taken) .2, k .taken .sizes .short))
+  six-room k = (k .taken .room, omega (arith, body (k .sheet) (k .ok) (k .taken) .2, k .taken .counts .short))
 
   module _ (r : Reply) where
     -- the value
@@ -170,59 +172,59 @@ module _ (u : Parts) (i : ℕ) (h : i < u .sizes .groups) where
           }
 
 -- by group address: i is what the search gives
-module _ (u : Parts) (address i : ℕ) (r : Reply) (f : (i ≤ u .sizes .groups) × ((s : List ℕ) → Accepted s → Taken s u → i ≡ indexOf s groups address)) where
+module _ (u : Parts) (address i : ℕ) (r : Reply) (f : (i ≤ u .counts .groups) × ((s : List ℕ) → Accepted s → Taken s u → i ≡ indexOf s groups address)) where
   abbrev e : Group
   e = getD (u .groups) i noGroup
 
   -- whatever is asked of it
-  none : (d : List ℕ) (k : List ℕ → ℕ → Decision) → u .sizes .groups ≤ i → Gives r 2 u Stays Nothing [] →
+  none : (d : List ℕ) (k : List ℕ → ℕ → Decision) → u .counts .groups ≤ i → Gives r 2 u Stays Nothing [] →
       Serves u d (λ s. cond (ltb (indexOf s groups address) (count s groups)) (k s (indexOf s groups address)) (refused 2)) r
   none d k h g =
       record {
         agrees = λ s ok o t.
-            let l : count s groups ≤ indexOf s groups address = omega (arith, f .1 s ok t, t .sizes .groups) in
+            let l : count s groups ≤ indexOf s groups address = omega (arith, f .1 s ok t, t .counts .groups) in
             by-decision _ (refused 2) (rw (le-ltb (indexOf s groups address) (count s groups) l) refl) (agreed (refused 2) g t);
       }
 
-  one : (d : List ℕ) (k : List ℕ → ℕ → Decision) (x : List ℕ → Decision) → i < u .sizes .groups → ((s : List ℕ) → Taken s u → k s i ≡ x s) → Serves u d x r →
+  one : (d : List ℕ) (k : List ℕ → ℕ → Decision) (x : List ℕ → Decision) → i < u .counts .groups → ((s : List ℕ) → Taken s u → k s i ≡ x s) → Serves u d x r →
       Serves u d (λ s. cond (ltb (indexOf s groups address) (count s groups)) (k s (indexOf s groups address)) (refused 2)) r
   one d k x h z g =
       record {
         agrees = λ s ok o t.
             let q = f .1 s ok t in
-            let l : indexOf s groups address < count s groups = omega (arith, q, t .sizes .groups) in
+            let l : indexOf s groups address < count s groups = omega (arith, q, t .counts .groups) in
             by-decision _ (x s) (rw (lt-ltb (indexOf s groups address) (count s groups) l) (ap (k s) (sym q) ∙ z s t)) (g .agrees s ok o t);
       }
 
-  there : (s : List ℕ) → Taken s u → i < u .sizes .groups → Fields e s i
-  there s t h = fields s u i t (omega (arith, t .sizes .groups))
+  there : (s : List ℕ) → Taken s u → i < u .counts .groups → Fields e s i
+  there s t h = fields s u i t (omega (arith, t .counts .groups))
 
   passed : (d : List ℕ) → Gives r 2 u Stays Nothing [] → Serves u d (λ s. refused 2) r
   passed d g = record { agrees = λ s ok o t. agreed (refused 2) g t }
 
-  pub none-read : u .sizes .groups ≤ i → Gives r 2 u Stays Nothing [] → Serves u [] (λ s. groupReadOf s address) r
+  pub none-read : u .counts .groups ≤ i → Gives r 2 u Stays Nothing [] → Serves u [] (λ s. groupReadOf s address) r
   unfolding groupReadOf
   none-read h g = none [] (λ s j. cond (hasFlag 1 (flagsAt s j)) (valueOf s (group.code of entry s groups j) (group.offset of entry s groups j)) (refused 2)) h g
 
-  pub is-read : i < u .sizes .groups → e .read ≡ true → Serves u [] (λ s. valueOf s (e .code) (e .offset)) r → Serves u [] (λ s. groupReadOf s address) r
+  pub is-read : i < u .counts .groups → e .read ≡ true → Serves u [] (λ s. valueOf s (e .code) (e .offset)) r → Serves u [] (λ s. groupReadOf s address) r
   unfolding groupReadOf
   is-read h z g =
       one [] (λ s j. cond (hasFlag 1 (flagsAt s j)) (valueOf s (group.code of entry s groups j) (group.offset of entry s groups j)) (refused 2))
       (λ s. valueOf s (e .code) (e .offset)) h (λ s t. rw (there s t h .read ∙ z, there s t h .code, there s t h .offset) refl) g
 
-  pub not-read : i < u .sizes .groups → e .read ≡ false → Gives r 2 u Stays Nothing [] → Serves u [] (λ s. groupReadOf s address) r
+  pub not-read : i < u .counts .groups → e .read ≡ false → Gives r 2 u Stays Nothing [] → Serves u [] (λ s. groupReadOf s address) r
   unfolding groupReadOf
   not-read h z g =
       one [] (λ s j. cond (hasFlag 1 (flagsAt s j)) (valueOf s (group.code of entry s groups j) (group.offset of entry s groups j)) (refused 2))
       (λ s. refused 2) h (λ s t. rw (there s t h .read ∙ z) refl) (passed [] g)
 
   module _ (v : ℕ) (d : List ℕ) where
-    pub none-put : (w : ℕ) → u .sizes .groups ≤ i → Gives r 2 u Stays Nothing [] → Serves u d (λ s. groupPutOf w s address v (length d)) r
+    pub none-put : (w : ℕ) → u .counts .groups ≤ i → Gives r 2 u Stays Nothing [] → Serves u d (λ s. groupPutOf w s address v (length d)) r
     unfolding groupPutOf
     none-put w h g = none d (λ s j. cond (hasFlag w (flagsAt s j)) (putValue (group.code of entry s groups j) (group.offset of entry s groups j) v (length d)) (refused 2)) h g
 
     -- flag w by its name
-    module _ (w : ℕ) (b : Bool) (name : (s : List ℕ) → Taken s u → hasFlag w (flagsAt s i) ≡ b) (h : i < u .sizes .groups) where
+    module _ (w : ℕ) (b : Bool) (name : (s : List ℕ) → Taken s u → hasFlag w (flagsAt s i) ≡ b) (h : i < u .counts .groups) where
       pub put-by : b ≡ true → Serves u d (λ s. putValue (e .code) (e .offset) v (length d)) r → Serves u d (λ s. groupPutOf w s address v (length d)) r
       unfolding groupPutOf
       put-by z g =
@@ -235,14 +237,17 @@ module _ (u : Parts) (address i : ℕ) (r : Reply) (f : (i ≤ u .sizes .groups)
           one d (λ s j. cond (hasFlag w (flagsAt s j)) (putValue (group.code of entry s groups j) (group.offset of entry s groups j) v (length d)) (refused 2))
           (λ s. refused 2) h (λ s t. rw (name s t ∙ z) refl) (passed d g)
 
-    pub is-written : i < u .sizes .groups → e .write ≡ true → Serves u d (λ s. putValue (e .code) (e .offset) v (length d)) r → Serves u d (λ s. groupPutOf 2 s address v (length d)) r
-    is-written h = put-by 2 (e .write) (λ s t. there s t h .write) h
+    -- the flag for a Response, or that for writing
+    chosen :
+        (answered takes : Bool) → ((answered ≡ true) × (takes ≡ e .response)) ⊎ ((answered ≡ false) × (takes ≡ e .write)) →
+        i < u .counts .groups → (s : List ℕ) → Taken s u → hasFlag (cond answered 4 2) (flagsAt s i) ≡ takes
+    chosen answered takes (inl c) h s t = ap (λ (b : Bool). hasFlag (cond b 4 2) (flagsAt s i)) (c .0) ∙ there s t h .response ∙ sym (c .1)
+    chosen answered takes (inr c) h s t = ap (λ (b : Bool). hasFlag (cond b 4 2) (flagsAt s i)) (c .0) ∙ there s t h .write ∙ sym (c .1)
 
-    pub not-written : i < u .sizes .groups → e .write ≡ false → Gives r 2 u Stays Nothing [] → Serves u d (λ s. groupPutOf 2 s address v (length d)) r
-    not-written h = not-by 2 (e .write) (λ s t. there s t h .write) h
+    module _ (answered takes : Bool) (c : ((answered ≡ true) × (takes ≡ e .response)) ⊎ ((answered ≡ false) × (takes ≡ e .write))) (h : i < u .counts .groups) where
+      pub put-taken :
+          not takes ≡ false → Serves u d (λ s. putValue (e .code) (e .offset) v (length d)) r → Serves u d (λ s. groupPutOf (cond answered 4 2) s address v (length d)) r
+      put-taken q g = put-by (cond answered 4 2) takes (chosen answered takes c h) h (was-yes takes q) g
 
-    pub is-taken : i < u .sizes .groups → e .response ≡ true → Serves u d (λ s. putValue (e .code) (e .offset) v (length d)) r → Serves u d (λ s. groupPutOf 4 s address v (length d)) r
-    is-taken h = put-by 4 (e .response) (λ s t. there s t h .response) h
-
-    pub not-taken : i < u .sizes .groups → e .response ≡ false → Gives r 2 u Stays Nothing [] → Serves u d (λ s. groupPutOf 4 s address v (length d)) r
-    not-taken h = not-by 4 (e .response) (λ s t. there s t h .response) h
+      pub put-refused : not takes ≡ true → Gives r 2 u Stays Nothing [] → Serves u d (λ s. groupPutOf (cond answered 4 2) s address v (length d)) r
+      put-refused q g = not-by (cond answered 4 2) takes (chosen answered takes c h) h (was-no takes q) g

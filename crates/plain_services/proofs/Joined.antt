@@ -1,7 +1,7 @@
 -- What is known where tests joined by `&&` and `||` meet.
 -- Assumes nothing.
 use Prim.Native.Nat.{ℕ}
-use mathlib.Core.Path.{_≡_, refl, sym, _∙_}
+use mathlib.Core.Path.{_≡_, refl, sym, ap, _∙_}
 use lib.Dec.{eqb}
 use borrow.Author.Tests.{eq-eqb, ne-eqb}
 use mathlib.Core.Bool.{Bool, true, false, not, _&&_}
@@ -35,3 +35,6 @@ moved-yes x y z e h = eq-eqb y z (sym e ∙ h)
 
 pub moved-no : (x y z : ℕ) → x ≡ y → (x ≡ z → ⊥) → eqb y z ≡ false
 moved-no x y z e h = ne-eqb y z (λ k. h (e ∙ k))
+
+pub moved : (x y z : ℕ) (b : Bool) → x ≡ y → eqb x z ≡ b → eqb y z ≡ b
+moved x y z b e q = ap (λ (n : ℕ). eqb n z) (sym e) ∙ q

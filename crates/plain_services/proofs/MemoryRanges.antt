@@ -1,12 +1,12 @@
 -- A range that is allowed stands among the bodies where the sheet has it.
 -- Assumes nothing.
-use Prim.Native.Nat.{ℕ, _+_, _≤_, _<_}
-use mathlib.Core.Path.{_≡_, refl, sym, ap, _∙_}
-use mathlib.Core.Bool.{Bool, true, false, not}
+use Prim.Native.Nat.{ℕ, _+_, _≤_}
+use mathlib.Core.Path.{_≡_, sym, ap, _∙_}
+use mathlib.Core.Bool.{true, false}
 use mathlib.Core.List.{List}
 use native.Mathlib.Omega.{arith}
 use lib.ListN.{length}
-use Rattle.octets.proofs.Truths.{never}
+use native.Mathlib.Nat.{add-zero}
 use Rattle.sheet.specs.Entries.{contents}
 use Rattle.sheet.specs.Kind.{kindOf}
 use Rattle.sheet.specs.Lookup.{rangeOf}
@@ -23,57 +23,52 @@ use Rattle.judge.proofs.MemoryCases.{Permits, allowed-in, range-in}
 use Rattle.parts.specs.declared.Parts.{Parts}
 use Rattle.parts.specs.Records.{Taken}
 use Rattle.plain_services.specs.declared.Area.{Area}
-use Rattle.plain_services.specs.Memory.{IsArea, placeIn, StandFrom}
+use Rattle.plain_services.specs.declared.Place.{Place}
+use Rattle.plain_services.specs.declared.Place.the-variants.{At, Denied}
+use Rattle.plain_services.specs.Memory.{IsArea, placeIn, rangeAllowed, rangeFor}
 use Rattle.plain_services.specs.Steps.{Held}
-use Rattle.plain_services.proofs.Regions.{place-at}
+use Rattle.plain_services.proofs.Regions.{place-at, if-denied, if-placed, range-is}
 
--- a truth and its opposite
-pub told-yes : (f : Bool) → not f ≡ false → f ≡ true
-told-yes true q = refl
-told-yes false q = never (sym q)
-
-pub told-no : (f : Bool) → not f ≡ true → f ≡ false
-told-no true q = never q
-told-no false q = refl
-
--- the range of n addresses of a sheet stands from `at` on, and an access to it is permitted
-pub record Standing (w : Access) (limit : ℕ) (s : List ℕ) (m : Memory) (level n address : ℕ) (a : Area) : Type 0 where
-  pub at : ℕ
+-- the n addresses of a sheet stand from `at` on, and an access to them is permitted
+pub record Standing (w : Access) (limit : ℕ) (s : List ℕ) (m : Memory) (level n address at : ℕ) : Type 0 where
   pub permits : Permits w limit s m level n address at
-  pub stand : StandFrom (a .regions) (a .count) address n at
   pub low : contents s ≤ at
   pub fits : at + n ≤ length s
 
-module _ (u : Parts) (w : Access) (m : Memory) (level n address : ℕ) (a : Area) (most limit : ℕ) (f : Bool)
+-- p is what the walk over the range gives
+module _ (u : Parts) (w : Access) (m : Memory) (level n address : ℕ) (a : Area) (most limit : ℕ) (p : Place)
     (areas : ((s : List ℕ) → Taken s u → IsArea s m (a .regions) (a .count)) × (Held u → a .count ≤ 16)) (em : (most ≡ limit) × (most ≤ 12))
-    (allows : (s : List ℕ) (m : Memory) → IsArea s m (a .regions) (a .count) → f ≡ runAllowed w most level n (rangeOf s m address n)) where
-  pub allowed-as : (s : List ℕ) → Taken s u → runAllowed w limit level n (rangeOf s m address n) ≡ f
-  allowed-as s t = sym (allows s m (areas .0 s t) ∙ ap (λ (k : ℕ). runAllowed w k level n (rangeOf s m address n)) (em .0))
+    (found : p ≡ rangeFor (a .regions) (a .count) w level most n address) where
+  as-allowed : (s : List ℕ) → Taken s u → rangeAllowed (a .regions) (a .count) w level most n address ≡ runAllowed w limit level n (rangeOf s m address n)
+  as-allowed s t =
+      range-is s m (a .regions) (a .count) (areas .0 s t) w level address most n
+      ∙ ap (λ (k : ℕ). runAllowed w k level n (rangeOf s m address n)) (em .0)
 
-  pub standing : not f ≡ false → (s : List ℕ) → Accepted s → Taken s u → Standing w limit s m level n address a
-  standing q s ok t =
-      let x = allowed-in w limit s m level n address (allowed-as s t ∙ told-yes f q) in
-      let y = range-in (good s ok) (x .permits) in
-      let first = stands-in (good s ok) (y .each 0 (omega (arith, x .permits .some))) in
-      let fit : x .at + n ≤ length s = range-within (good s ok) y in
-      record {
-        at = x .at;
-        permits = x .permits;
-        stand =
-            record {
-              each = λ j h. place-at s m (a .regions) (a .count) (areas .0 s t) (address + j) (x .at + j) _ (place-hit (good s ok) (y .each j h));
-              fits = omega (arith, fit, t .sizes .short);
-            };
-        low = omega (arith, first .from, after-contents (good s ok) (kindOf m) _ (first .kind) (first .below));
-        fits = fit;
-      }
+  pub not-allowed : p ≡ Denied → (s : List ℕ) → Taken s u → runAllowed w limit level n (rangeOf s m address n) ≡ false
+  unfolding rangeFor
+  not-allowed d s t = sym (as-allowed s t) ∙ if-denied (rangeAllowed (a .regions) (a .count) w level most n address) _ p found d
 
-  pub reachable : not f ≡ false → Held u → (a .count ≤ 16) × (n ≤ 14) × ((j : ℕ) → j < n → placeIn (a .regions) (a .count) (address + j) < 16384)
-  reachable q k =
-      let x = standing q (k .sheet) (k .ok) (k .taken) in
-      (areas .1 k, omega (arith, x .permits .few, em .0, em .1), λ j h. omega (arith, x .stand .each j h, x .stand .fits))
+  module _ (at : ℕ) (there : p ≡ At at) where
+    chosen : (rangeAllowed (a .regions) (a .count) w level most n address ≡ true) × (at ≡ placeIn (a .regions) (a .count) address)
+    unfolding rangeFor
+    chosen = if-placed (rangeAllowed (a .regions) (a .count) w level most n address) _ p at found there
 
-  pub roomy :
-      not f ≡ false → Held u → (k : ℕ) → k ≡ n →
-      (a .count ≤ 16) × (length (u .bodies) ≡ 16384) × (k ≤ 14) × ((j : ℕ) → j < k → placeIn (a .regions) (a .count) (address + j) < 16384)
-  roomy q h k e = let x = reachable q h in (x .0, h .taken .room, omega (arith, x .1), λ j l. x .2 j (omega arith))
+    pub standing : (s : List ℕ) → Accepted s → Taken s u → Standing w limit s m level n address at
+    standing s ok t =
+        let x = allowed-in w limit s m level n address (sym (as-allowed s t) ∙ chosen .0) in
+        let y = range-in (good s ok) (x .permits) in
+        let first = stands-in (good s ok) (y .each 0 (omega (arith, x .permits .some))) in
+        let hit = place-at s m (a .regions) (a .count) (areas .0 s t) (address + 0) (x .at + 0) _ (place-hit (good s ok) (y .each 0 (omega (arith, x .permits .some)))) in
+        let same : at ≡ x .at = chosen .1 ∙ ap (placeIn (a .regions) (a .count)) (sym (add-zero address)) ∙ hit ∙ add-zero (x .at) in
+        let fit : x .at + n ≤ length s = range-within (good s ok) y in
+        record {
+          permits = rw (← same) at (x .permits);
+          low = omega (arith, same, first .from, after-contents (good s ok) (kindOf m) _ (first .kind) (first .below));
+          fits = omega (arith, same, fit);
+        }
+
+    -- so they lie among the bodies
+    pub reachable : Held u → (length (u .bodies) ≡ 16384) × (n ≤ 14) × (at + n ≤ 16384)
+    reachable k =
+        let x = standing (k .sheet) (k .ok) (k .taken) in
+        (k .taken .room, omega (arith, x .permits .few, em .0, em .1), omega (arith, x .fits, k .taken .counts .short))

@@ -13,7 +13,8 @@ use Rattle.octets.proofs.Truths.{and-is}
 use Rattle.sheet.specs.Kind.{properties}
 use Rattle.sheet.specs.Layout.{_of_}
 use Rattle.sheet.specs.Property as property
-use Rattle.sheet.specs.Entries.{count, entry, contents, bodyAt}
+use Rattle.sheet.specs.Entries.{count, base, entry, contents, bodyAt}
+use Rattle.octets.proofs.Numbers.{num-one}
 use Rattle.sheet.specs.Rules.{Accepted}
 use Rattle.sheet.proofs.rules.Good.{good}
 use Rattle.sheet.proofs.places.BodyPlaces.{after-contents}
@@ -48,16 +49,23 @@ module _ (p : Property) (level object id n t : ℕ) where
   told = answered (answer.Number answers 2 (p .count))
 
   abbrev shown : Decision
-  shown = answered (answer.Sheet answers (elementAt (p .offset) (p .element) t) (n * p .element))
+  shown = answered (answer.Sheet answers (elementAt (p .offset) (p .size) t) (n * p .size))
 
   abbrev shows : Bool
-  shows = elements n t (p .count) && leb (n * p .element) 10
+  shows = elements n t (p .count) && leb (n * p .size) 10
 
   in-terms :
       (e : List ℕ) → Fields p e →
       readIn e level object id n t ≡ cond (leb level (p .read)) (cond (counted n t) told (cond shows shown (noValue object id t))) (noValue object id t)
   unfolding readIn
-  in-terms e f = rw (f .element, f .count, f .offset, f .read) refl
+  in-terms e f = rw (f .size, f .count, f .offset, f .read) refl
+
+-- an element has as many bytes as a byte can say
+pub byte-size : (u : Parts) (i : ℕ) → Held u → i < u .counts .properties → getD (u .properties) i noProperty .size ≤ 255
+byte-size u i k h =
+    let at : ℕ = base (k .sheet) properties + 12 * i + 3 in
+    let p = k .taken .properties i (omega (arith, k .taken .counts .properties)) in
+    omega (arith, p .size, num-one (k .sheet) at, k .bytes at)
 
 pub first-element : (n t m : ℕ) (f : Bool) → f ≡ elements n t m → f ≡ true → 1 ≤ t
 first-element n t m f e y =
@@ -77,21 +85,21 @@ module _ (u : Parts) (i n t : ℕ) where
 
   -- they lie among the bodies
   inside :
-      (s : List ℕ) → Accepted s → Taken s u → i < u .sizes .properties → elements n t (pp .count) ≡ true →
-      (contents s ≤ elementAt (pp .offset) (pp .element) t) × (elementAt (pp .offset) (pp .element) t + n * pp .element ≤ length s)
+      (s : List ℕ) → Accepted s → Taken s u → i < u .counts .properties → elements n t (pp .count) ≡ true →
+      (contents s ≤ elementAt (pp .offset) (pp .size) t) × (elementAt (pp .offset) (pp .size) t + n * pp .size ≤ length s)
   unfolding bodyAt
   inside s ok k h a =
-      let there : i < count s properties = omega (arith, k .sizes .properties) in
+      let there : i < count s properties = omega (arith, k .counts .properties) in
       let f = fields s u i k there in
       let g = good s ok in
       let b = among a in
       let w = elements-within g i there n t (b .0) (omega (arith, b .2, f .count, count-below g i there)) in
-      (omega (arith, f .offset, after-contents g properties i (lit< tt) there), rw (f .offset, f .element) at w)
+      (omega (arith, f .offset, after-contents g properties i (lit< tt) there), rw (f .offset, f .size) at w)
 
   pub room-shown :
-      (f : Bool) → Held u → i < u .sizes .properties → f ≡ elements n t (pp .count) → f ≡ true →
-      (a z : ℕ) → a ≡ elementAt (pp .offset) (pp .element) t → z ≡ n * pp .element → a + z ≤ 16384
-  room-shown f k h e y a z ea ez = omega (arith, ea, ez, inside (k .sheet) (k .ok) (k .taken) h (sym e ∙ y) .1, k .taken .sizes .short)
+      (f : Bool) → Held u → i < u .counts .properties → f ≡ elements n t (pp .count) → f ≡ true →
+      (a z : ℕ) → a ≡ elementAt (pp .offset) (pp .size) t → z ≡ n * pp .size → a + z ≤ 16384
+  room-shown f k h e y a z ea ez = omega (arith, ea, ez, inside (k .sheet) (k .ok) (k .taken) h (sym e ∙ y) .1, k .taken .counts .short)
 
 module _ (u : Parts) (i level object id n t : ℕ) (r : Reply) where
   abbrev p : Property
@@ -101,17 +109,18 @@ module _ (u : Parts) (i level object id n t : ℕ) (r : Reply) where
   decides s = readIn (entry s properties i) level object id n t
 
   terms :
-      (s : List ℕ) → Taken s u → i < u .sizes .properties →
-      decides s ≡ cond (leb level (p .read)) (cond (counted n t) (told p level object id n t) (cond (shows p level object id n t) (shown p level object id n t) (noValue object id t))) (noValue object id t)
-  terms s k h = in-terms p level object id n t (entry s properties i) (fields s u i k (omega (arith, k .sizes .properties)))
+      (s : List ℕ) → Taken s u → i < u .counts .properties →
+      decides s ≡ cond (leb level (p .read)) (cond (counted n t) (told p level object id n t) (cond (shows p level object id n t) (shown p level object id n t) (noValue object id t)))
+      (noValue object id t)
+  terms s k h = in-terms p level object id n t (entry s properties i) (fields s u i k (omega (arith, k .counts .properties)))
 
   pub not-readable :
-      i < u .sizes .properties → p .read < level → Gives r 11 u Stays (This (PropertyValueResponse object id 0 t)) [] → Serves u [] decides r
+      i < u .counts .properties → p .read < level → Gives r 11 u Stays (This (PropertyValueResponse object id 0 t)) [] → Serves u [] decides r
   not-readable h l g =
       record { agrees = λ s ok o k. by-decision _ (noValue object id t) (terms s k h ∙ rw (lt-leb level (p .read) l) refl) (agreed (noValue object id t) g k) }
 
   pub count-told :
-      i < u .sizes .properties → level ≤ p .read → counted n t ≡ true → (b : List ℕ) → b ≡ bytesOf 2 (p .count) →
+      i < u .counts .properties → level ≤ p .read → counted n t ≡ true → (b : List ℕ) → b ≡ bytesOf 2 (p .count) →
       Gives r 0 u Stays (This (PropertyValueResponse object id n t)) b → Serves u [] decides r
   count-told h l e b eb g =
       record {
@@ -121,7 +130,7 @@ module _ (u : Parts) (i level object id n t : ℕ) (r : Reply) where
       }
 
   -- z bytes, if the elements are counted: f
-  module _ (f : Bool) (z : ℕ) (ef : f ≡ elements n t (p .count)) (ez : z ≡ n * p .element) where
+  module _ (f : Bool) (z : ℕ) (ef : f ≡ elements n t (p .count)) (ez : z ≡ n * p .size) where
     as-shown : (f && leb z 10) ≡ shows p level object id n t
     as-shown = ap₂ (λ (x : Bool) (y : ℕ). x && leb y 10) ef ez
 
@@ -130,7 +139,7 @@ module _ (u : Parts) (i level object id n t : ℕ) (r : Reply) where
     denied (inr y) = not-second f (leb z 10) (lt-leb z 10 (ltb-true 10 z y))
 
     pub not-shown :
-        i < u .sizes .properties → level ≤ p .read → counted n t ≡ false → (not f ≡ true) ⊎ (ltb 10 z ≡ true) →
+        i < u .counts .properties → level ≤ p .read → counted n t ≡ false → (not f ≡ true) ⊎ (ltb 10 z ≡ true) →
         Gives r 11 u Stays (This (PropertyValueResponse object id 0 t)) [] → Serves u [] decides r
     not-shown h l e y g =
         record {
@@ -139,15 +148,15 @@ module _ (u : Parts) (i level object id n t : ℕ) (r : Reply) where
         }
 
     pub is-shown :
-        i < u .sizes .properties → level ≤ p .read → counted n t ≡ false → not f ≡ false → ltb 10 z ≡ false →
-        (a : ℕ) → a ≡ elementAt (p .offset) (p .element) t →
+        i < u .counts .properties → level ≤ p .read → counted n t ≡ false → not f ≡ false → ltb 10 z ≡ false →
+        (a : ℕ) → a ≡ elementAt (p .offset) (p .size) t →
         Gives r 0 u Stays (This (PropertyValueResponse object id n t)) (take (a + z - a) (drop a (u .bodies))) → Serves u [] decides r
     is-shown h l e y y′ a ea g =
         record {
           agrees = λ s ok o k.
               let b = sym as-shown ∙ both _ _ (was-yes f y) (le-leb z 10 (ltb-false 10 z y′)) in
-              let w = inside u i n t s ok k h (and-is (elements n t (p .count)) (leb (n * p .element) 10) .0 b .0) in
-              let same = quoted a z (u .bodies) ∙ ap₂ (λ (m q : ℕ). take m (drop q (u .bodies))) ez ea ∙ same-part s u k (elementAt (p .offset) (p .element) t) (n * p .element) (w .0) (w .1) in
+              let w = inside u i n t s ok k h (and-is (elements n t (p .count)) (leb (n * p .size) 10) .0 b .0) in
+              let same = quoted a z (u .bodies) ∙ ap₂ (λ (m q : ℕ). take m (drop q (u .bodies))) ez ea ∙ same-part s u k (elementAt (p .offset) (p .size) t) (n * p .size) (w .0) (w .1) in
               by-decision _ (shown p level object id n t) (terms s k h ∙ rw (le-leb level (p .read) l, e, b) refl)
               (agreed (shown p level object id n t) (rw same at g) k);
         }
@@ -155,26 +164,26 @@ module _ (u : Parts) (i level object id n t : ℕ) (r : Reply) where
 -- by object and id
 module _ (u : Parts) (level object id n t : ℕ) (r : Reply) where
   pub no-such :
-      (i : ℕ) → (i ≤ u .sizes .properties) × ((s : List ℕ) → Accepted s → Octets s → Taken s u → i ≡ propertyAt s object id) → u .sizes .properties ≤ i →
+      (i : ℕ) → (i ≤ u .counts .properties) × ((s : List ℕ) → Accepted s → Octets s → Taken s u → i ≡ propertyAt s object id) → u .counts .properties ≤ i →
       Gives r 11 u Stays (This (PropertyValueResponse object id 0 t)) [] → Serves u [] (λ s. propertyReadOf s level object id n t) r
   unfolding propertyReadOf
   no-such i f h g =
       record {
         agrees = λ s ok o k.
-            let l : count s properties ≤ propertyAt s object id = omega (arith, f .1 s ok o k, k .sizes .properties) in
+            let l : count s properties ≤ propertyAt s object id = omega (arith, f .1 s ok o k, k .counts .properties) in
             let e : ltb (propertyAt s object id) (count s properties) ≡ false = le-ltb (propertyAt s object id) (count s properties) l in
             by-decision _ (noValue object id t) (rw e refl) (agreed (noValue object id t) g k);
       }
 
   pub that-one :
-      (i : ℕ) → (i ≤ u .sizes .properties) × ((s : List ℕ) → Accepted s → Octets s → Taken s u → i ≡ propertyAt s object id) → i < u .sizes .properties →
+      (i : ℕ) → (i ≤ u .counts .properties) × ((s : List ℕ) → Accepted s → Octets s → Taken s u → i ≡ propertyAt s object id) → i < u .counts .properties →
       Serves u [] (λ s. readIn (entry s properties i) level object id n t) r → Serves u [] (λ s. propertyReadOf s level object id n t) r
   unfolding propertyReadOf
   that-one i f h g =
       record {
         agrees = λ s ok o k.
             let q = f .1 s ok o k in
-            let l : propertyAt s object id < count s properties = omega (arith, q, k .sizes .properties) in
+            let l : propertyAt s object id < count s properties = omega (arith, q, k .counts .properties) in
             let e : ltb (propertyAt s object id) (count s properties) ≡ true = lt-ltb (propertyAt s object id) (count s properties) l in
             by-decision _ (readIn (entry s properties i) level object id n t) (rw (e, ← q) refl) (g .agrees s ok o k);
       }

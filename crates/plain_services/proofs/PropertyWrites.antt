@@ -54,35 +54,35 @@ module _ (p : Property) (at level object id n t : ℕ) (d : List ℕ) where
   clears = counted n t && eqb (length d) 2 && eqb (numAt d 0 2) 0
 
   abbrev pub fills : Bool
-  fills = elements n t (p .maximum) && eqb (length d) (n * p .element)
+  fills = elements n t (p .maximum) && eqb (length d) (n * p .size)
 
   abbrev cleared : Decision
   cleared = written (store.Fill (at + 6) 2 0) store.Nothing (answer.Echo (PropertyValueResponse object id n t))
 
   abbrev filled : Decision
   filled =
-      written (store.Data (jumped (p .count) t * p .element) (elementAt (p .offset) (p .element) (t - jumped (p .count) t)))
+      written (store.Data (jumped (p .count) t * p .size) (elementAt (p .offset) (p .size) (t - jumped (p .count) t)))
       (store.Number (at + 6) 2 (max (p .count) (t + n - 1))) (answer.Echo (PropertyValueResponse object id n t))
 
   in-terms : (e : List ℕ) → Fields p e → writeIn e at level object id n t d ≡ cond mayWrite (cond clears cleared (cond fills filled (noValue object id t))) (noValue object id t)
   unfolding writeIn
-  in-terms e f = rw (f .writable, f .element, f .maximum, f .count, f .offset, f .write) refl
+  in-terms e f = rw (f .writable, f .size, f .maximum, f .count, f .offset, f .write) refl
 
 -- the parts of a sheet, and elements of property i
 module _ (u : Parts) (i n t : ℕ) (d : List ℕ) where
   abbrev pp : Property
   pp = getD (u .properties) i noProperty
 
-  there : (s : List ℕ) → Taken s u → i < u .sizes .properties → i < count s properties
-  there s k h = omega (arith, k .sizes .properties)
+  there : (s : List ℕ) → Taken s u → i < u .counts .properties → i < count s properties
+  there s k h = omega (arith, k .counts .properties)
 
   -- the elements that are jumped and the data lie in the property's body
-  module _ (s : List ℕ) (ok : Accepted s) (k : Taken s u) (h : i < u .sizes .properties) (a : elements n t (pp .maximum) ≡ true) (b : length d ≡ n * pp .element) where
+  module _ (s : List ℕ) (ok : Accepted s) (k : Taken s u) (h : i < u .counts .properties) (a : elements n t (pp .maximum) ≡ true) (b : length d ≡ n * pp .size) where
     abbrev from : ℕ
-    from = elementAt (pp .offset) (pp .element) (t - jumped (pp .count) t)
+    from = elementAt (pp .offset) (pp .size) (t - jumped (pp .count) t)
 
     abbrev zeros : ℕ
-    zeros = jumped (pp .count) t * pp .element
+    zeros = jumped (pp .count) t * pp .size
 
     among : (1 ≤ t) × (1 ≤ n) × (t + n - 1 ≤ pp .maximum)
     among =
@@ -90,20 +90,20 @@ module _ (u : Parts) (i n t : ℕ) (d : List ℕ) where
         let y = and-is (leb 1 t) (leb 1 n) .0 (x .0) in
         (leb-true 1 t (y .0), leb-true 1 n (y .1), leb-true _ _ (x .1))
 
-    ends : from + (zeros + length d) ≤ pp .offset + pp .element * pp .maximum
+    ends : from + (zeros + length d) ≤ pp .offset + pp .size * pp .maximum
     ends =
         let x = among in
         let y : t - jumped (pp .count) t - 1 + jumped (pp .count) t + n ≤ pp .maximum = omega (arith, x .0, x .1, x .2) in
-        omega (arith, b, mul-le-mul-right (pp .element) y)
+        omega (arith, b, mul-le-mul-right (pp .size) y)
 
-    body : (contents s ≤ pp .offset) × (pp .offset + pp .element * pp .maximum ≤ length s)
+    body : (contents s ≤ pp .offset) × (pp .offset + pp .size * pp .maximum ≤ length s)
     unfolding bodyAt bodyEnd
     body =
         let g = good s ok in
         let f = fields s u i k (there s k h) in
         let x = after-contents g properties i (lit< tt) (there s k h) in
         let y = within g properties i (lit< tt) (there s k h) in
-        let q : property.element of entry s properties i * property.maximum of entry s properties i ≡ pp .element * pp .maximum = rw (f .element, f .maximum) refl in
+        let q : property.element of entry s properties i * property.maximum of entry s properties i ≡ pp .size * pp .maximum = rw (f .size, f .maximum) refl in
         (omega (arith, f .offset), omega (arith, f .offset, q))
 
     pub inside : (contents s ≤ from) × (from + (zeros + length d) ≤ length s)
@@ -130,7 +130,7 @@ module _ (u : Parts) (i n t : ℕ) (d : List ℕ) where
         rw (← ec, ev′, ← at) two
 
   -- what carrying it out needs, f being whether the elements are there, and z their bytes
-  module _ (f : Bool) (z : ℕ) (ef : f ≡ elements n t (pp .maximum)) (ez : z ≡ n * pp .element) (y′ : not f ≡ false) (q′ : not (eqb (length d) z) ≡ false) where
+  module _ (f : Bool) (z : ℕ) (ef : f ≡ elements n t (pp .maximum)) (ez : z ≡ n * pp .size) (y′ : not f ≡ false) (q′ : not (eqb (length d) z) ≡ false) where
     y : f ≡ true
     y = was-yes f y′
 
@@ -138,14 +138,14 @@ module _ (u : Parts) (i n t : ℕ) (d : List ℕ) where
     q = eqb-true (length d) z (was-yes (eqb (length d) z) q′)
 
     pub room-for :
-        Held u → i < u .sizes .properties →
-        (length (u .bodies) ≡ 16384) × (1 ≤ t) × (elementAt (pp .offset) (pp .element) (t - jumped (pp .count) t) + (jumped (pp .count) t * pp .element + length d) ≤ 16384)
+        Held u → i < u .counts .properties →
+        (length (u .bodies) ≡ 16384) × (1 ≤ t) × (elementAt (pp .offset) (pp .size) (t - jumped (pp .count) t) + (jumped (pp .count) t * pp .size + length d) ≤ 16384)
     room-for k h =
         let x = inside (k .sheet) (k .ok) (k .taken) h (sym ef ∙ y) (q ∙ ez) in
         let w = among (k .sheet) (k .ok) (k .taken) h (sym ef ∙ y) (q ∙ ez) in
-        (k .taken .room, w .0, omega (arith, x .1, k .taken .sizes .short))
+        (k .taken .room, w .0, omega (arith, x .1, k .taken .counts .short))
 
-    pub last-fits : Held u → i < u .sizes .properties → (1 ≤ n) × (1 ≤ t) × (t + n - 1 ≤ pp .maximum)
+    pub last-fits : Held u → i < u .counts .properties → (1 ≤ n) × (1 ≤ t) × (t + n - 1 ≤ pp .maximum)
     last-fits k h = let w = among (k .sheet) (k .ok) (k .taken) h (sym ef ∙ y) (q ∙ ez) in (w .1, w .0, w .2)
 
 -- the parts of a sheet
@@ -156,12 +156,14 @@ module _ (u : Parts) (i level object id n t : ℕ) (d : List ℕ) (r : Reply) wh
   abbrev decides : List ℕ → Decision
   decides s = writeIn (entry s properties i) (place s properties i) level object id n t d
 
-  terms : (s : List ℕ) → Taken s u → i < u .sizes .properties →
-      decides s ≡ cond (mayWrite p (place s properties i) level object id n t d) (cond (clears p (place s properties i) level object id n t d) (cleared p (place s properties i) level object id n t d) (cond (fills p (place s properties i) level object id n t d) (filled p (place s properties i) level object id n t d) (noValue object id t))) (noValue object id t)
+  terms : (s : List ℕ) → Taken s u → i < u .counts .properties →
+      decides s ≡ cond (mayWrite p (place s properties i) level object id n t d)
+      (cond (clears p (place s properties i) level object id n t d) (cleared p (place s properties i) level object id n t d)
+      (cond (fills p (place s properties i) level object id n t d) (filled p (place s properties i) level object id n t d) (noValue object id t))) (noValue object id t)
   terms s k h = in-terms p (place s properties i) level object id n t d (entry s properties i) (fields s u i k (there u i n t d s k h))
 
   pub not-writable :
-      i < u .sizes .properties → (not (p .writable) ≡ true) ⊎ (ltb (p .write) level ≡ true) →
+      i < u .counts .properties → (not (p .writable) ≡ true) ⊎ (ltb (p .write) level ≡ true) →
       Gives r 11 u Stays (This (PropertyValueResponse object id 0 t)) [] → Serves u d decides r
   not-writable h e g =
       record { agrees = λ s ok o k. by-decision _ (noValue object id t) (terms s k h ∙ rw (shut e) refl) (agreed (noValue object id t) g k) }
@@ -171,7 +173,7 @@ module _ (u : Parts) (i level object id n t : ℕ) (d : List ℕ) (r : Reply) wh
       shut (inr y) = not-second (p .writable) (leb level (p .write)) (lt-leb level (p .write) (ltb-true (p .write) level y))
 
   -- a property that may be written; c is whether the data is 00 00
-  module _ (c : Bool) (h : i < u .sizes .properties) (ew : not (p .writable) ≡ false) (el : ltb (p .write) level ≡ false) (ec : c ≡ (eqb (length d) 2 && eqb (numAt d 0 2) 0)) where
+  module _ (c : Bool) (h : i < u .counts .properties) (ew : not (p .writable) ≡ false) (el : ltb (p .write) level ≡ false) (ec : c ≡ (eqb (length d) 2 && eqb (numAt d 0 2) 0)) where
     e : (p .writable && leb level (p .write)) ≡ true
     e = both _ _ (was-yes (p .writable) ew) (le-leb level (p .write) (ltb-false (p .write) level el))
 
@@ -191,7 +193,7 @@ module _ (u : Parts) (i level object id n t : ℕ) (d : List ℕ) (r : Reply) wh
         }
 
     -- a write of elements; f is whether they are there, and z their bytes
-    module _ (cases : (c ≡ false) ⊎ ((eqb n 1 ≡ false) ⊎ (t ≡ 0 → ⊥))) (f : Bool) (z : ℕ) (ef : f ≡ elements n t (p .maximum)) (ez : z ≡ n * p .element) where
+    module _ (cases : (c ≡ false) ⊎ ((eqb n 1 ≡ false) ⊎ (t ≡ 0 → ⊥))) (f : Bool) (z : ℕ) (ef : f ≡ elements n t (p .maximum)) (ez : z ≡ n * p .size) where
       unclear : (counted n t && c) ≡ false
       unclear = go cases
         where
@@ -200,7 +202,7 @@ module _ (u : Parts) (i level object id n t : ℕ) (d : List ℕ) (r : Reply) wh
           go (inr (inl x)) = not-first (counted n t) c (not-second (eqb t 0) (eqb n 1) x)
           go (inr (inr x)) = not-first (counted n t) c (not-first (eqb t 0) (eqb n 1) (ne-eqb t 0 x))
 
-      as-fills : (x : Bool) → (f && eqb (length d) z) ≡ x → (elements n t (p .maximum) && eqb (length d) (n * p .element)) ≡ x
+      as-fills : (x : Bool) → (f && eqb (length d) z) ≡ x → (elements n t (p .maximum) && eqb (length d) (n * p .size)) ≡ x
       as-fills x y = sym (ap₂ (λ (a : Bool) (b : ℕ). a && eqb (length d) b) ef ez) ∙ y
 
       pub not-there :
@@ -216,7 +218,7 @@ module _ (u : Parts) (i level object id n t : ℕ) (d : List ℕ) (r : Reply) wh
       -- A WRITE OF ELEMENTS
       pub is-filled :
           not f ≡ false → not (eqb (length d) z) ≡ false → (v v′ : Parts) (x : ℕ) →
-          v ≡ withBodies u (splice (u .bodies) (elementAt (p .offset) (p .element) (t - jumped (p .count) t)) (padded (jumped (p .count) t * p .element) d)) →
+          v ≡ withBodies u (splice (u .bodies) (elementAt (p .offset) (p .size) (t - jumped (p .count) t)) (padded (jumped (p .count) t * p .size) d)) →
           x ≡ max (p .count) (t + n - 1) → v′ ≡ withCount v i x →
           Gives r 0 v′ Stays (This (PropertyValueResponse object id n t)) d → Serves u d decides r
       is-filled y′ yl′ v v′ x ev ex ev′ g =
@@ -229,32 +231,32 @@ module _ (u : Parts) (i level object id n t : ℕ) (d : List ℕ) (r : Reply) wh
                 (agreed (filled p (place s properties i) level object id n t d) g (both-stored u i n t d s ok k h (sym ef ∙ y) (yl ∙ ez) ev ex ev′));
           }
 
-pub few : (u : Parts) (i : ℕ) → Held u → i < u .sizes .properties → i < 64
-few u i k h = omega (arith, k .taken .sizes .fewProperties)
+pub few : (u : Parts) (i : ℕ) → Held u → i < u .counts .properties → i < 64
+few u i k h = omega (arith, k .taken .counts .fewProperties)
 
 -- by object and id
 module _ (u : Parts) (level object id n t : ℕ) (d : List ℕ) (r : Reply) where
   pub none-named :
-      (i : ℕ) → (i ≤ u .sizes .properties) × ((s : List ℕ) → Accepted s → Octets s → Taken s u → i ≡ propertyAt s object id) → u .sizes .properties ≤ i →
+      (i : ℕ) → (i ≤ u .counts .properties) × ((s : List ℕ) → Accepted s → Octets s → Taken s u → i ≡ propertyAt s object id) → u .counts .properties ≤ i →
       Gives r 11 u Stays (This (PropertyValueResponse object id 0 t)) [] → Serves u d (λ s. propertyWriteOf s level object id n t d) r
   unfolding propertyWriteOf
   none-named i f h g =
       record {
         agrees = λ s ok o k.
-            let l : count s properties ≤ propertyAt s object id = omega (arith, f .1 s ok o k, k .sizes .properties) in
+            let l : count s properties ≤ propertyAt s object id = omega (arith, f .1 s ok o k, k .counts .properties) in
             let e : ltb (propertyAt s object id) (count s properties) ≡ false = le-ltb (propertyAt s object id) (count s properties) l in
             by-decision _ (noValue object id t) (rw e refl) (agreed (noValue object id t) g k);
       }
 
   pub one-named :
-      (i : ℕ) → (i ≤ u .sizes .properties) × ((s : List ℕ) → Accepted s → Octets s → Taken s u → i ≡ propertyAt s object id) → i < u .sizes .properties →
+      (i : ℕ) → (i ≤ u .counts .properties) × ((s : List ℕ) → Accepted s → Octets s → Taken s u → i ≡ propertyAt s object id) → i < u .counts .properties →
       Serves u d (λ s. writeIn (entry s properties i) (place s properties i) level object id n t d) r → Serves u d (λ s. propertyWriteOf s level object id n t d) r
   unfolding propertyWriteOf
   one-named i f h g =
       record {
         agrees = λ s ok o k.
             let q = f .1 s ok o k in
-            let l : propertyAt s object id < count s properties = omega (arith, q, k .sizes .properties) in
+            let l : propertyAt s object id < count s properties = omega (arith, q, k .counts .properties) in
             let e : ltb (propertyAt s object id) (count s properties) ≡ true = lt-ltb (propertyAt s object id) (count s properties) l in
             by-decision _ (writeIn (entry s properties i) (place s properties i) level object id n t d) (rw (e, ← q) refl) (g .agrees s ok o k);
       }

@@ -11,9 +11,10 @@ use lib.Dec.{lit≤, ltb, leb}
 use lib.ListN.{length, getD}
 use borrow.Author.Tests.{lt-ltb, le-ltb, le-leb, lt-leb, leb-true}
 use Rattle.octets.proofs.Tests.{both}
+use Rattle.plain_services.proofs.Joined.{was-no, was-yes}
 use Rattle.sheet.proofs.places.Levels.{common-reading, common-writing}
 use Rattle.octets.specs.Bytes.{numAt}
-use Rattle.octets.proofs.Truths.{never, and-is}
+use Rattle.octets.proofs.Truths.{never, and-is, first-true}
 use Rattle.sheet.specs.Kind.{regions, users, kindOf}
 use Rattle.sheet.specs.Layout.{Field, _of_}
 use Rattle.sheet.specs.Region as region
@@ -23,7 +24,7 @@ use Rattle.sheet.specs.declared.Memory.{Memory}
 use Rattle.sheet.specs.declared.Memory.the-variants.{Device, User}
 use Rattle.sheet.specs.declared.Run.{Run}
 use Rattle.sheet.specs.declared.Run.the-variants.{At, Nowhere}
-use Rattle.sheet.proofs.searches.FrontSearch.{seek-first, seek-none, seek-same, seek-passes}
+use Rattle.sheet.proofs.searches.FrontSearch.{seek-first, seek-none, seek-same}
 use Rattle.sheet.proofs.places.Standing.{field-at}
 use Rattle.sheet.proofs.places.Longer.{range-suc}
 use Rattle.sheet.proofs.searches.Regions.{not-both}
@@ -35,7 +36,9 @@ use Rattle.plain_services.specs.Steps.{Held}
 use Rattle.parts.specs.declared.Region.{Region}
 use Rattle.parts.specs.declared.Parts.{Parts}
 use Rattle.parts.specs.Records.{IsRegion, Taken, noRegion}
-use Rattle.plain_services.specs.Memory.{has, mayIn, regionWith, placeIn, allowedAt, allAllowed, IsArea}
+use Rattle.plain_services.specs.declared.Place.{Place}
+use Rattle.plain_services.specs.declared.Place.the-variants as stand
+use Rattle.plain_services.specs.Memory.{has, mayIn, regionWith, placeIn, allowedAt, allAllowed, standsFor, rangeAllowed, rangeFor, IsArea}
 
 pub via-may : (w w′ : Access) (level : ℕ) (e : Region) (r : Bool) → w ≡ w′ → r ≡ mayIn w′ level e → r ≡ mayIn w level e
 via-may w w′ level e r q h = rw q h
@@ -49,23 +52,46 @@ pub found-none : (rs : List Region) (n y : ℕ) → ((j : ℕ) → j < n → has
 unfolding regionWith
 found-none rs n y f = sym (seek-none (λ j. has (getD rs j noRegion) y) n (λ j h e. never (sym (f j h) ∙ e)))
 
-pub is-yes : (r t : Bool) → r ≡ t → not r ≡ false → t ≡ true
-is-yes true t e q = sym e
-is-yes false t e q = never (sym q)
+-- what the search of one address gives, i being the first region that has it
+module _ (rs : List Region) (n : ℕ) (w : Access) (level y i : ℕ) (e : i ≡ regionWith rs n y) where
+  pub stands-nowhere : n ≤ i → stand.Denied ≡ standsFor rs n w level y
+  unfolding standsFor allowedAt
+  stands-nowhere h = rw (← e, le-ltb i n h) refl
 
-pub is-no : (r t : Bool) → r ≡ t → not r ≡ true → t ≡ false
-is-no true t e q = never q
-is-no false t e q = sym e
+  pub stands-denied : i < n → (b : Bool) → b ≡ mayIn w level (getD rs i noRegion) → not b ≡ true → stand.Denied ≡ standsFor rs n w level y
+  unfolding standsFor allowedAt
+  stands-denied h b f q = rw (← e, lt-ltb i n h, sym f ∙ was-no b q) refl
 
--- one address
-module _ (rs : List Region) (n : ℕ) (w : Access) (level y i : ℕ) (f : (i ≤ n) × (i ≡ regionWith rs n y)) where
-  pub nowhere-allowed : n ≤ i → false ≡ allowedAt rs n w level y
-  unfolding allowedAt
-  nowhere-allowed h = rw (← (f .1), le-ltb i n h) refl
+  pub stands-there :
+      i < n → (b : Bool) → b ≡ mayIn w level (getD rs i noRegion) → not b ≡ false →
+      stand.At (getD rs i noRegion .offset + (y - getD rs i noRegion .address)) ≡ standsFor rs n w level y
+  unfolding standsFor allowedAt placeIn
+  stands-there h b f q = rw (← e, lt-ltb i n h, sym f ∙ was-yes b q) refl
 
-  pub here-allowed : i < n → (r : Bool) → r ≡ mayIn w level (getD rs i noRegion) → r ≡ allowedAt rs n w level y
-  unfolding allowedAt
-  here-allowed h r e = rw (← (f .1), lt-ltb i n h) e
+-- a place, and whether there is one
+abbrev pub placed : Place → Bool
+placed stand.Denied = false
+placed (stand.At x) = true
+
+abbrev pub placeAt : Place → ℕ
+placeAt stand.Denied = 0
+placeAt (stand.At x) = x
+
+module _ (b : Bool) (x : ℕ) where
+  placed-if : placed (cond b (stand.At x) stand.Denied) ≡ b
+  placed-if = go b
+    where
+      go : (b : Bool) → placed (cond b (stand.At x) stand.Denied) ≡ b
+      go true = refl
+      go false = refl
+
+  pub if-denied : (p : Place) → p ≡ cond b (stand.At x) stand.Denied → p ≡ stand.Denied → b ≡ false
+  if-denied p e d = sym placed-if ∙ ap placed (sym e ∙ d)
+
+  pub if-placed : (p : Place) (at : ℕ) → p ≡ cond b (stand.At x) stand.Denied → p ≡ stand.At at → (b ≡ true) × (at ≡ x)
+  if-placed p at e d =
+      let h : b ≡ true = sym placed-if ∙ ap placed (sym e ∙ d) in
+      (h, ap placeAt (sym d ∙ e ∙ ap (λ (c : Bool). cond c (stand.At x) stand.Denied) h))
 
 -- all addresses so far
 module _ (rs : List Region) (n : ℕ) (w : Access) (level a : ℕ) where
@@ -92,11 +118,11 @@ module _ (rs : List Region) (n : ℕ) (w : Access) (level a : ℕ) where
       let next : allAllowed rs n w level a (suc i) ≡ false = (unfold allAllowed in rw (e, f) refl) in
       sym (stays-denied (suc i) m (omega arith) next)
 
-pub device-area : (s : List ℕ) (u : Parts) → Taken s u → IsArea s Device (u .regions) (u .sizes .regions)
-device-area s u t = record { many = t .sizes .regions; each = λ i h. t .regions i (omega (arith, t .sizes .regions)) }
+pub device-area : (s : List ℕ) (u : Parts) → Taken s u → IsArea s Device (u .regions) (u .counts .regions)
+device-area s u t = record { many = t .counts .regions; each = λ i h. t .regions i (omega (arith, t .counts .regions)) }
 
-pub user-area : (s : List ℕ) (u : Parts) → Taken s u → IsArea s User (u .users) (u .sizes .users)
-user-area s u t = record { many = t .sizes .users; each = λ i h. t .users i (omega (arith, t .sizes .users)) }
+pub user-area : (s : List ℕ) (u : Parts) → Taken s u → IsArea s User (u .users) (u .counts .users)
+user-area s u t = record { many = t .counts .users; each = λ i h. t .users i (omega (arith, t .counts .users)) }
 
 -- the entry e of a region has the fields of r
 record Fields (r : Region) (e : List ℕ) : Type 0 where
@@ -210,41 +236,63 @@ module _ (s : List ℕ) (m : Memory) (rs : List Region) (n : ℕ) (r : IsArea s 
       let step : allAllowed rs n w level a (suc (suc i)) ≡ (allAllowed rs n w level a (suc i) && allowedAt rs n w level (a + suc i)) = (unfold allAllowed in refl) in
       step ∙ ap₂ _&&_ ih o ∙ sym j ∙ ap (permitted w level) (sym (range-suc s m a i))
 
-  pub all-is : (most i : ℕ) → 1 ≤ i → i ≤ most → allAllowed rs n w level a i ≡ runAllowed w most level i (rangeOf s m a i)
-  all-is most zero h l = absurd (omega arith)
-  all-is most (suc i) h l = all-are i ∙ sym (allowed-is w most level (suc i) (rangeOf s m a (suc i)) ∙ rw (le-leb 1 (suc i) h, le-leb (suc i) most l) refl)
+-- A RANGE of a memory is allowed where the first engine allows it
+module _ (s : List ℕ) (m : Memory) (rs : List Region) (n : ℕ) (r : IsArea s m rs n) (w : Access) (level a most : ℕ) where
+  pub range-is : (i : ℕ) → rangeAllowed rs n w level most i a ≡ runAllowed w most level i (rangeOf s m a i)
+  unfolding rangeAllowed
+  range-is zero =
+      let none : leb 1 0 ≡ false = lt-leb 1 0 (omega arith) in
+      ap (λ (b : Bool). b && leb zero most && allAllowed rs n w level a zero) none
+      ∙ sym (allowed-is w most level zero (rangeOf s m a zero) ∙ ap (λ (b : Bool). b && leb zero most && permitted w level (rangeOf s m a zero)) none)
+  range-is (suc i) = ap (λ (b : Bool). leb 1 (suc i) && leb (suc i) most && b) (all-are s m rs n r w level a i) ∙ sym (allowed-is w most level (suc i) (rangeOf s m a (suc i)))
 
-pub none-named : (w : Access) (most level n : ℕ) (r : Run) → n < 1 → false ≡ runAllowed w most level n r
-none-named w most level n r h = sym (allowed-is w most level n r ∙ rw (lt-leb 1 n h) refl)
+-- what the walk over a range gives
+module _ (rs : List Region) (n : ℕ) (w : Access) (level most i a : ℕ) where
+  pub too-few : i < 1 → stand.Denied ≡ rangeFor rs n w level most i a
+  unfolding rangeFor rangeAllowed
+  too-few h = rw (lt-leb 1 i h) refl
 
-pub too-many : (w : Access) (most level n : ℕ) (r : Run) → most < n → false ≡ runAllowed w most level n r
-too-many w most level n r h = sym (allowed-is w most level n r ∙ rw (lt-leb n most h, and-false (leb 1 n)) refl)
+  pub too-many : most < i → stand.Denied ≡ rangeFor rs n w level most i a
+  unfolding rangeFor rangeAllowed
+  too-many h = rw (lt-leb i most h, and-false (leb 1 i)) refl
+
+  pub one-refused :
+      (j : ℕ) → j < i → allAllowed rs n w level a j ≡ true → (p : Place) → p ≡ standsFor rs n w level (a + j) → p ≡ stand.Denied → stand.Denied ≡ rangeFor rs n w level most i a
+  unfolding rangeFor rangeAllowed standsFor
+  one-refused j h e p f d =
+      let x = sym (one-denied rs n w level a j i h e (if-denied (allowedAt rs n w level (a + j)) _ p f d)) in
+      rw (x, and-false (leb 1 i && leb i most)) refl
+
+  pub one-stands :
+      (j : ℕ) → allAllowed rs n w level a j ≡ true → (p : Place) (at : ℕ) → p ≡ standsFor rs n w level (a + j) → p ≡ stand.At at → allAllowed rs n w level a (j + 1) ≡ true
+  unfolding standsFor
+  one-stands j e p at f d = one-more-allowed rs n w level a j e (if-placed (allowedAt rs n w level (a + j)) _ p at f d .0)
+
+  first-allowed : (j : ℕ) → 1 ≤ j → allAllowed rs n w level a j ≡ true → allowedAt rs n w level a ≡ true
+  first-allowed zero h e = absurd (omega arith)
+  first-allowed (suc zero) h e = ap (allowedAt rs n w level) (sym (add-zero a)) ∙ (unfold allAllowed in e)
+  first-allowed (suc (suc j)) h e =
+      first-allowed (suc j) (omega arith) (first-true (allAllowed rs n w level a (suc j)) (allowedAt rs n w level (a + suc j)) (unfold allAllowed in e))
+
+  pub all-stand :
+      1 ≤ i → i ≤ most → (j : ℕ) → j ≡ i → allAllowed rs n w level a j ≡ true → (p : Place) → p ≡ standsFor rs n w level a → p ≡ rangeFor rs n w level most i a
+  unfolding rangeFor rangeAllowed standsFor
+  all-stand h l j q e p f =
+      f ∙ rw (first-allowed j (omega arith) e, le-leb 1 i h, le-leb i most l, ap (allAllowed rs n w level a) (sym q) ∙ e) refl
 
 pub via-response : (m j : Memory) (n a : ℕ) (r : Pdu) → m ≡ j → r ≡ responseOf j n a → r ≡ responseOf m n a
 via-response m j n a r e h = h ∙ ap (λ (x : Memory). responseOf x n a) (sym e)
 
--- WHERE AN ADDRESS STANDS
-module _ (rs : List Region) (n y i : ℕ) (f : (i ≤ n) × (i ≡ regionWith rs n y)) where
-  pub place-none : n ≤ i → 0 ≡ placeIn rs n y
-  unfolding placeIn
-  place-none h = rw (← (f .1), le-ltb i n h) refl
-
-  pub place-there : i < n → getD rs i noRegion .offset + (y - getD rs i noRegion .address) ≡ placeIn rs n y
-  unfolding placeIn
-  place-there h = rw (← (f .1), lt-ltb i n h) refl
-
-  pub below-address : i < n → getD rs i noRegion .address ≤ y
-  unfolding regionWith
-  below-address h =
-      let e : has (getD rs i noRegion) y ≡ true = rw (← (f .1)) at (seek-passes (λ j. has (getD rs j noRegion) y) n (rw (f .1) at h)) in
-      leb-true _ _ (and-is (leb (getD rs i noRegion .address) y) (ltb y (getD rs i noRegion .address + getD rs i noRegion .length)) .0 e .0)
+-- a region begins at or below an address that it has
+pub below-address : (e : Region) (y : ℕ) → has e y ≡ true → e .address ≤ y
+below-address e y h = leb-true _ _ (and-is (leb (e .address) y) (ltb y (e .address + e .length)) .0 h .0)
 
 module _ (u : Parts) where
-  pub device-here : (m : Memory) → m ≡ Device → ((s : List ℕ) → Taken s u → IsArea s m (u .regions) (u .sizes .regions)) × (Held u → u .sizes .regions ≤ 16)
-  device-here m e = rw e (λ s t. device-area s u t, λ k. k .taken .sizes .fewRegions)
+  pub device-here : (m : Memory) → m ≡ Device → ((s : List ℕ) → Taken s u → IsArea s m (u .regions) (u .counts .regions)) × (Held u → u .counts .regions ≤ 16)
+  device-here m e = rw e (λ s t. device-area s u t, λ k. k .taken .counts .fewRegions)
 
-  pub user-here : (m : Memory) → m ≡ User → ((s : List ℕ) → Taken s u → IsArea s m (u .users) (u .sizes .users)) × (Held u → u .sizes .users ≤ 16)
-  user-here m e = rw e (λ s t. user-area s u t, λ k. k .taken .sizes .fewUsers)
+  pub user-here : (m : Memory) → m ≡ User → ((s : List ℕ) → Taken s u → IsArea s m (u .users) (u .counts .users)) × (Held u → u .counts .users ≤ 16)
+  user-here m e = rw e (λ s t. user-area s u t, λ k. k .taken .counts .fewUsers)
 
 -- AN ADDRESS STANDS WHERE THE SHEET HAS IT
 module _ (s : List ℕ) (m : Memory) (rs : List Region) (n : ℕ) (r : IsArea s m rs n) where

@@ -19,6 +19,8 @@ use Rattle.sheet.specs.Kind.{kindOf}
 use Rattle.sheet.specs.Entries.{count, place, contents}
 use Rattle.sheet.specs.declared.Memory.{Memory}
 use Rattle.plain_services.specs.declared.Reply.{Reply}
+use Rattle.plain_services.specs.declared.Place.{Place}
+use Rattle.plain_services.specs.declared.Place.the-variants.{At, Denied}
 use Rattle.plain_services.specs.Steps.{Agrees}
 
 -- a region has address y
@@ -51,22 +53,29 @@ placeIn rs n y =
     let e = getD rs i noRegion in
     cond (ltb i n) (e .offset + (y - e .address)) 0
 
+-- where address y stands, if the level suffices for it
+unfoldable pub standsFor : List Region → ℕ → Access → ℕ → ℕ → Place
+standsFor rs n w level y = cond (allowedAt rs n w level y) (At (placeIn rs n y)) Denied
+
+-- 1 to `most` addresses from a on, i of them, may be used
+unfoldable pub rangeAllowed : List Region → ℕ → Access → ℕ → ℕ → ℕ → ℕ → Bool
+rangeAllowed rs n w level most i a = leb 1 i && leb i most && allAllowed rs n w level a i
+
+-- where they stand
+unfoldable pub rangeFor : List Region → ℕ → Access → ℕ → ℕ → ℕ → ℕ → Place
+rangeFor rs n w level most i a = cond (rangeAllowed rs n w level most i a) (At (placeIn rs n a)) Denied
+
 -- THE REGIONS OF A MEMORY of sheet s are these n records
 pub record IsArea (s : List ℕ) (m : Memory) (rs : List Region) (n : ℕ) : Type 0 where
   pub many : n ≡ count s (kindOf m)
   pub each : (i : ℕ) → i < n → IsRegion (getD rs i noRegion) s (place s (kindOf m) i)
 
--- THE n ADDRESSES from a on stand among the bodies from o on
-pub record StandFrom (rs : List Region) (c a n o : ℕ) : Type 0 where
-  pub each : (j : ℕ) → j < n → placeIn rs c (a + j) ≡ o + j
-  pub fits : o + n ≤ 16384
-
 -- WHAT ANSWERS A WRITE of parts u that is denied
 pub record NotWritten (u : Parts) (m : Memory) (a : ℕ) (r : Reply) : Type 0 where
   pub agrees : (s d : List ℕ) → Taken s u → Agrees s d (cond (u .head .verify) (denied (responseOf m 0 a)) (refused 12)) r
 
--- and one that is done, u being the parts after it: if verify is on, the n bytes that then stand at the addresses
-pub record Written (u : Parts) (rs : List Region) (c : ℕ) (m : Memory) (n a : ℕ) (r : Reply) : Type 0 where
+-- and one that is done, u being the parts after it: if verify is on, the n bytes that then stand from `at` on
+pub record Written (u : Parts) (m : Memory) (n a at : ℕ) (r : Reply) : Type 0 where
   pub agrees :
-      (s : List ℕ) (o : ℕ) → Taken s u → contents s ≤ o → o + n ≤ length s → StandFrom rs c a n o →
-      Agrees s [] (cond (u .head .verify) (answered (answer.Sheet (responseOf m n a) o n)) (refused 1)) r
+      (s : List ℕ) → Taken s u → contents s ≤ at → at + n ≤ length s →
+      Agrees s [] (cond (u .head .verify) (answered (answer.Sheet (responseOf m n a) at n)) (refused 1)) r

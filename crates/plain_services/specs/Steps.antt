@@ -32,8 +32,8 @@ pub record Gives (r : Reply) (n : ℕ) (u : Parts) (t : Turn) (x : Sent) (b : Li
   pub parts : r .parts ≡ u
   pub turn : r .turn ≡ t
   pub sent : r .sent ≡ x
-  pub bytes : take (r .size) (r .bytes) ≡ b
-  pub short : r .size ≤ 14
+  pub bytes : take (r .length) (r .bytes) ≡ b
+  pub short : r .length ≤ 14
   pub full : length (r .bytes) ≡ 14
 
 -- what an answer sends, and its data, s being the sheet after the stores and d the data of the request

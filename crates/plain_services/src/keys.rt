@@ -9,17 +9,16 @@ use parts::Parts;
 use pdu::Pdu;
 ghost use mathlib.Core.Path.{_≡_};
 ghost use mathlib.Core.List.{List, []};
-ghost use Prim.Native.Nat.{ℕ, _<_};
+ghost use Prim.Native.Nat.{ℕ};
 ghost use Rattle.judge.specs.Keys.{grantOf, authorizeOf, keyWriteOf, restartOf};
 ghost use Rattle.parts.specs.Records.{IsHead};
 ghost use Rattle.plain_services.specs.Steps.{Serves};
-ghost use Rattle.parts.specs.With.{withKey, cleared};
 
 // The smallest of 0, 1, 2 that has the key, else 3.
-fn level_with(h: Head, key: u32) -> u8
-    ensures { λ r. ⌜ ((s : List ℕ) → IsHead h s → r ≡ grantOf s key) ⌝ }
+fn level_with(head: Head, key: u32) -> u8
+    ensures { λ r. ⌜ ((s : List ℕ) → IsHead head s → r ≡ grantOf s key) ⌝ }
 {
-    let keys = h.keys;
+    let keys = head.keys;
     if key == keys[0] {
         return 0;
     }
@@ -33,50 +32,33 @@ fn level_with(h: Head, key: u32) -> u8
 }
 
 // Authorize: a wrong key gives up rights.
-pub fn authorize(u: Parts, key: u32) -> Reply
-    ensures { λ r. ⌜ Serves u [] (λ s. authorizeOf s key) r ⌝ }
+pub fn authorize(parts: Parts, key: u32) -> Reply
+    ensures { λ r. ⌜ Serves parts [] (λ s. authorizeOf s key) r ⌝ }
 {
-    let level = level_with(u.head, key);
+    let level = level_with(parts.head, key);
     let response = Pdu::AuthorizeResponse { level };
-    reply(u, 0, Turn::Level(level), Sent::This(response), &[])
-}
-
-fn with_key(u: Parts, i: usize, key: u32) -> Parts
-    requires { ⌜ i < 3 ⌝ }
-    ensures { λ r. ⌜ r ≡ withKey u i key ⌝ }
-{
-    let mut head = u.head;
-    let mut keys = head.keys;
-    keys[i] = key;
-    head.keys = keys;
-    let mut v = u;
-    v.head = head;
-    v
+    reply(parts, 0, Turn::Level(level), Sent::This(response), &[])
 }
 
 // A new key for the level named: 0 to 2, and not above the rights of the one who asks.
-pub fn key_write(u: Parts, level: u8, named: u8, key: u32) -> Reply
-    ensures { λ r. ⌜ Serves u [] (λ s. keyWriteOf level named key) r ⌝ }
+pub fn key_write(mut parts: Parts, level: u8, named: u8, key: u32) -> Reply
+    ensures { λ r. ⌜ Serves parts [] (λ s. keyWriteOf level named key) r ⌝ }
 {
-    let no = Pdu::KeyResponse { level: 255 };
     if 2 < named || named < level {
-        return sending(u, 11, no);
+        return sending(parts, 11, Pdu::KeyResponse { level: 255 });
     }
-    let v = with_key(u, named as usize, key);
-    sending(v, 0, Pdu::KeyResponse { level: named })
-}
-
-fn without_programming(u: Parts) -> Parts
-    ensures { λ r. ⌜ r ≡ cleared u ⌝ }
-{
-    let mut v = u;
-    v.head.programming = false;
-    v
+    let mut head = parts.head;
+    let mut keys = head.keys;
+    keys[named as usize] = key;
+    head.keys = keys;
+    parts.head = head;
+    sending(parts, 0, Pdu::KeyResponse { level: named })
 }
 
 // Restart: programming mode is cleared, and both sessions are closed.
-pub fn restart(u: Parts) -> Reply
-    ensures { λ r. ⌜ Serves u [] (λ s. restartOf s) r ⌝ }
+pub fn restart(mut parts: Parts) -> Reply
+    ensures { λ r. ⌜ Serves parts [] (λ s. restartOf s) r ⌝ }
 {
-    reply(without_programming(u), 1, Turn::Closes, Sent::Nothing, &[])
+    parts.head.programming = false;
+    reply(parts, 1, Turn::Closes, Sent::Nothing, &[])
 }

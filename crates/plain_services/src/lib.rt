@@ -1,5 +1,6 @@
 // The services of the plain engine: what each gives and leaves, on the parts of a sheet.
 mod addresses;
+mod bodies;
 mod groups;
 mod keys;
 mod memory;
@@ -12,9 +13,8 @@ pub use addresses::address_write;
 pub use addresses::descriptor;
 pub use addresses::serial_read;
 pub use addresses::serial_write;
+pub use groups::group_put;
 pub use groups::group_read;
-pub use groups::group_response;
-pub use groups::group_write;
 use judge::Turn;
 pub use keys::authorize;
 pub use keys::key_write;
@@ -43,7 +43,13 @@ pub struct Reply {
     pub turn: Turn,
     pub sent: Sent,
     pub bytes: [u8; 14],
-    pub size: usize,
+    pub length: usize,
+}
+
+// Where addresses stand among the bodies, if they may be used.
+pub enum Place {
+    Denied,
+    At(usize),
 }
 
 // The regions of one memory.

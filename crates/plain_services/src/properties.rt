@@ -1,6 +1,6 @@
 // Properties: read, write and description.
 use crate::Reply;
-use crate::memory::with_bodies;
+use crate::bodies::with_bodies;
 use crate::replies::sending;
 use crate::replies::showing;
 use crate::replies::two_bytes;
@@ -9,37 +9,31 @@ use parts::Property;
 use pdu::Pdu;
 ghost use mathlib.Core.Path.{_≡_};
 ghost use mathlib.Core.List.{List, []};
-ghost use mathlib.Core.Bool.{cond, _&&_};
-ghost use lib.Dec.{leb, eqb};
 ghost use lib.ListN.{length};
-ghost use Prim.Native.Nat.{ℕ, _+_, _-_, _*_, _/_, _≤_, _<_, max};
-ghost use Rattle.octets.specs.Bytes.{numAt};
+ghost use Prim.Native.Nat.{ℕ, _+_, _-_, _*_, _≤_, _<_, max};
 ghost use Rattle.octets.specs.Splice.{splice};
 ghost use Rattle.sheet.specs.Rules.{Accepted};
-ghost use Rattle.sheet.specs.Kind.{properties};
-ghost use Rattle.sheet.specs.Entries.{entry, place};
 ghost use Rattle.octets.specs.Octets.{Octets};
 ghost use Rattle.device.specs.Carry.{padded};
 ghost use Rattle.judge.specs.declared.Turn.the-variants.{Stays};
 ghost use Rattle.pdu.specs.declared.Pdu.the-variants.{PropertyValueResponse};
-ghost use Rattle.judge.specs.Properties.{propertyAt, counted as countedOf, elements as elementsOf, jumped as jumpedOf, elementAt, readIn, propertyReadOf, writeIn, propertyWriteOf, describedAt, descriptionOf};
+ghost use Rattle.judge.specs.Properties.{propertyAt, elements as elementsOf, jumped as jumpedOf, elementAt, propertyReadOf, propertyWriteOf, descriptionOf};
 ghost use Rattle.sheet.specs.Lookup.{nthOf};
-ghost use Rattle.plain_services.specs.Described.{rankIn, isNth};
+ghost use Rattle.plain_services.specs.Described.{rankIn};
 ghost use Rattle.parts.specs.Records.{Taken};
 ghost use Rattle.plain_services.specs.declared.Sent.the-variants as sent;
 ghost use Rattle.plain_services.specs.Steps.{Held, Gives, Serves};
 ghost use Rattle.parts.specs.With.{withCount, withBodies};
 
 // The number of the property with that object and id, the count of properties where there is none.
-fn find(u: Parts, object: u8, id: u8) -> usize
-    requires { ⌜ Held u ⌝ }
-    ensures { λ r. ⌜ (r ≤ u .sizes .properties) × ((s : List ℕ) → Accepted s → Octets s → Taken s u → r ≡ propertyAt s object id) ⌝ }
+fn find(parts: Parts, object: u8, id: u8) -> usize
+    requires { ⌜ Held parts ⌝ }
+    ensures { λ r. ⌜ (r ≤ parts .counts .properties) × ((s : List ℕ) → Accepted s → Octets s → Taken s parts → r ≡ propertyAt s object id) ⌝ }
 {
-    let n = u.sizes.properties;
+    let n = parts.counts.properties;
     let mut i = 0;
     while i < n {
-        let p = u.properties[i];
-        if p.object == object && p.id == id {
+        if parts.properties[i].object == object && parts.properties[i].id == id {
             return i;
         }
         i += 1;
@@ -54,62 +48,46 @@ fn are_among(n: u8, s: u16, m: u16) -> bool
     1 <= s && 1 <= n && s as usize + n as usize - 1 <= m as usize
 }
 
-// The data is 00 00.
-fn is_zero(d: &[u8]) -> bool
-    ensures { λ r. ⌜ r ≡ (eqb (length (now (d .entry))) 2 && eqb (numAt (now (d .entry)) 0 2) 0) ⌝ }
-{
-    d.len() == 2 && octets::word(d, 0) == 0
-}
-
 // The bytes of so many elements.
 fn size_of(p: Property, n: usize) -> usize
-    requires { ⌜ (n ≤ 65535) × (p .element ≤ 255) ⌝ }
-    ensures { λ r. ⌜ (r ≡ n * p .element) × (r ≤ 16711425) ⌝ }
+    requires { ⌜ (n ≤ 65535) × (p .size ≤ 255) ⌝ }
+    ensures { λ r. ⌜ (r ≡ n * p .size) × (r ≤ 16711425) ⌝ }
 {
-    n * p.element as usize
+    n * p.size as usize
 }
 
-// Where element s stands.
-fn element_at(p: Property, s: usize) -> usize
-    requires { ⌜ (1 ≤ s) × (s ≤ 65535) ⌝ }
-    ensures { λ r. ⌜ r ≡ elementAt (p .offset) (p .element) s ⌝ }
+// Not allowed: the answer has no element.
+fn denied(parts: Parts, object: u8, id: u8, s: u16) -> Reply
+    ensures { λ r. ⌜ Gives r 11 parts Stays (sent.This (PropertyValueResponse object id 0 s)) [] ⌝ }
 {
-    p.offset as usize + size_of(p, s - 1)
+    let n = 0;
+    sending(parts, 11, Pdu::PropertyValueResponse { object, id, n, s })
 }
 
 // A read of a property.
-pub fn property_read(u: Parts, level: u8, object: u8, id: u8, n: u8, s: u16) -> Reply
-    requires { ⌜ Held u ⌝ }
-    ensures { λ r. ⌜ Serves u [] (λ t. propertyReadOf t level object id n s) r ⌝ }
+pub fn property_read(parts: Parts, level: u8, object: u8, id: u8, n: u8, s: u16) -> Reply
+    requires { ⌜ Held parts ⌝ }
+    ensures { λ r. ⌜ Serves parts [] (λ t. propertyReadOf t level object id n s) r ⌝ }
 {
-    let denied = Pdu::PropertyValueResponse {
-        object,
-        id,
-        n: 0,
-        s,
-    };
-    let answer = Pdu::PropertyValueResponse { object, id, n, s };
     // Allowed if the entry exists, level <= its read level,
-    let i = find(u, object, id);
-    if u.sizes.properties <= i {
-        return sending(u, 11, denied);
+    let i = find(parts, object, id);
+    if parts.counts.properties <= i || parts.properties[i].read < level {
+        return denied(parts, object, id, s);
     }
-    let p = u.properties[i];
-    if p.read < level {
-        return sending(u, 11, denied);
-    }
+    let p = parts.properties[i];
+    let answer = Pdu::PropertyValueResponse { object, id, n, s };
     // and either s = 0 and n = 1 (answer: current count, two bytes),
     if s == 0 && n == 1 {
-        return showing(u, answer, &two_bytes(p.count));
+        return showing(parts, answer, &two_bytes(p.count));
     }
     // or s >= 1, n >= 1, s+n-1 <= current count and n·size <= 10.
     let size = size_of(p, n as usize);
     if !are_among(n, s, p.count) || 10 < size {
-        return sending(u, 11, denied);
+        return denied(parts, object, id, s);
     }
-    let at = element_at(p, s as usize);
-    let bodies = u.bodies;
-    showing(u, answer, &bodies[at..at + size])
+    let at = p.offset as usize + size_of(p, s as usize - 1);
+    let bodies = parts.bodies;
+    showing(parts, answer, &bodies[at..at + size])
 }
 
 // How many elements a write from element s on jumps.
@@ -117,35 +95,33 @@ fn jumped(p: Property, s: u16) -> usize
     requires { ⌜ 1 ≤ s ⌝ }
     ensures { λ r. ⌜ r ≡ jumpedOf (p .count) s ⌝ }
 {
-    let before = s - 1;
-    if before < p.count {
+    if s <= p.count {
         return 0;
     }
-    (before - p.count) as usize
+    (s - 1 - p.count) as usize
 }
 
 // The elements that are jumped as zeros, then the data from element s on.
-fn with_elements(u: Parts, p: Property, s: u16, d: &[u8]) -> Parts
-    requires { ⌜ (length (u .bodies) ≡ 16384) × (1 ≤ s) × (elementAt (p .offset) (p .element) (s - jumpedOf (p .count) s) + (jumpedOf (p .count) s * p .element + length (now d)) ≤ 16384) ⌝ }
-    ensures { λ r. ⌜ r ≡ withBodies u (splice (u .bodies) (elementAt (p .offset) (p .element) (s - jumpedOf (p .count) s)) (padded (jumpedOf (p .count) s * p .element) (now (d .entry)))) ⌝ }
+fn with_elements(parts: Parts, p: Property, s: u16, d: &[u8]) -> Parts
+    requires { ⌜ (length (parts .bodies) ≡ 16384) × (1 ≤ s) × (elementAt (p .offset) (p .size) (s - jumpedOf (p .count) s) + (jumpedOf (p .count) s * p .size + length (now d)) ≤ 16384) ⌝ }
+    ensures { λ r. ⌜ r ≡ withBodies parts (splice (parts .bodies) (elementAt (p .offset) (p .size) (s - jumpedOf (p .count) s)) (padded (jumpedOf (p .count) s * p .size) (now (d .entry)))) ⌝ }
 {
     let zeros = jumped(p, s);
-    let from = element_at(p, s as usize - zeros);
+    let from = p.offset as usize + size_of(p, s as usize - 1 - zeros);
     let size = size_of(p, zeros);
-    let mut bodies = u.bodies;
+    let mut bodies = parts.bodies;
     octets::fill(&mut bodies, from, size, 0);
     octets::splice(&mut bodies, from + size, d);
-    with_bodies(u, bodies)
+    with_bodies(parts, bodies)
 }
 
 // Another count for property i.
-fn with_count(u: Parts, i: usize, count: u16) -> Parts
+fn with_count(mut parts: Parts, i: usize, count: u16) -> Parts
     requires { ⌜ i < 64 ⌝ }
-    ensures { λ r. ⌜ r ≡ withCount u i count ⌝ }
+    ensures { λ r. ⌜ r ≡ withCount parts i count ⌝ }
 {
-    let mut v = u;
-    v.properties[i].count = count;
-    v
+    parts.properties[i].count = count;
+    parts
 }
 
 // The larger of the count and s+n-1.
@@ -154,46 +130,37 @@ fn new_count(p: Property, n: u8, s: u16) -> u16
     ensures { λ r. ⌜ r ≡ max (p .count) (s + n - 1) ⌝ }
 {
     let end = s - 1 + n as u16;
-    if end < p.count {
-        return p.count;
-    }
-    end
+    if end < p.count { p.count } else { end }
 }
 
 // A write of data to a property.
-pub fn property_write(u: Parts, level: u8, object: u8, id: u8, n: u8, s: u16, d: &[u8]) -> Reply
-    requires { ⌜ Held u × (length (now d) ≤ 14) ⌝ }
-    ensures { λ r. ⌜ Serves u (now (d .entry)) (λ t. propertyWriteOf t level object id n s (now (d .entry))) r ⌝ }
+pub fn property_write(parts: Parts, level: u8, object: u8, id: u8, n: u8, s: u16, d: &[u8]) -> Reply
+    requires { ⌜ Held parts × (length (now d) ≤ 14) ⌝ }
+    ensures { λ r. ⌜ Serves parts (now (d .entry)) (λ t. propertyWriteOf t level object id n s (now (d .entry))) r ⌝ }
 {
-    let denied = Pdu::PropertyValueResponse {
-        object,
-        id,
-        n: 0,
-        s,
-    };
-    let answer = Pdu::PropertyValueResponse { object, id, n, s };
     // Allowed if the entry exists, is writable, level <= its write level,
-    let i = find(u, object, id);
-    if u.sizes.properties <= i {
-        return sending(u, 11, denied);
+    let i = find(parts, object, id);
+    if parts.counts.properties <= i {
+        return denied(parts, object, id, s);
     }
-    let p = u.properties[i];
+    let p = parts.properties[i];
     if !p.writable || p.write < level {
-        return sending(u, 11, denied);
+        return denied(parts, object, id, s);
     }
+    let answer = Pdu::PropertyValueResponse { object, id, n, s };
     // and either s = 0, n = 1 and the data is 00 00 (count becomes 0, elements keep their bytes),
-    if s == 0 && n == 1 && is_zero(d) {
-        return showing(with_count(u, i, 0), answer, d);
+    if s == 0 && n == 1 && d.len() == 2 && octets::word(d, 0) == 0 {
+        return showing(with_count(parts, i, 0), answer, d);
     }
     // or s >= 1, n >= 1, s+n-1 <= maximum and the data is n·size bytes.
     let size = size_of(p, n as usize);
     if !are_among(n, s, p.maximum) || d.len() != size {
-        return sending(u, 11, denied);
+        return denied(parts, object, id, s);
     }
     // Elements jumped become zero bytes. The count becomes the larger of itself and s+n-1. The answer repeats the data.
-    let v = with_elements(u, p, s, d);
-    let w = with_count(v, i, new_count(p, n, s));
-    showing(w, answer, d)
+    let filled = with_elements(parts, p, s, d);
+    let after = with_count(filled, i, new_count(p, n, s));
+    showing(after, answer, d)
 }
 
 // How many of the first i properties have that object: the index of property i within it.
@@ -204,8 +171,7 @@ fn index_within(properties: [Property; 64], i: usize, object: u8) -> usize
     let mut seen = 0;
     let mut j = 0;
     while j < i {
-        let p = properties[j];
-        if p.object == object {
+        if properties[j].object == object {
             seen += 1;
         }
         j += 1;
@@ -214,16 +180,15 @@ fn index_within(properties: [Property; 64], i: usize, object: u8) -> usize
 }
 
 // The number of the property of that object with that index, the count of properties where there is none.
-fn nth(u: Parts, object: u8, index: u8) -> usize
-    requires { ⌜ Held u ⌝ }
-    ensures { λ r. ⌜ (r ≤ u .sizes .properties) × ((s : List ℕ) → Accepted s → Octets s → Taken s u → r ≡ nthOf s object index) ⌝ }
+fn nth(parts: Parts, object: u8, index: u8) -> usize
+    requires { ⌜ Held parts ⌝ }
+    ensures { λ r. ⌜ (r ≤ parts .counts .properties) × ((s : List ℕ) → Accepted s → Octets s → Taken s parts → r ≡ nthOf s object index) ⌝ }
 {
-    let n = u.sizes.properties;
-    let properties = u.properties;
+    let n = parts.counts.properties;
+    let properties = parts.properties;
     let mut i = 0;
     while i < n {
-        let p = properties[i];
-        if p.object == object && index_within(properties, i, object) == index as usize {
+        if properties[i].object == object && index_within(properties, i, object) == index as usize {
             return i;
         }
         i += 1;
@@ -232,18 +197,18 @@ fn nth(u: Parts, object: u8, index: u8) -> usize
 }
 
 // The description of a property.
-pub fn description(u: Parts, object: u8, id: u8, index: u8) -> Reply
-    requires { ⌜ Held u ⌝ }
-    ensures { λ r. ⌜ Serves u [] (λ s. descriptionOf s object id index) r ⌝ }
+pub fn description(parts: Parts, object: u8, id: u8, index: u8) -> Reply
+    requires { ⌜ Held parts ⌝ }
+    ensures { λ r. ⌜ Serves parts [] (λ s. descriptionOf s object id index) r ⌝ }
 {
     // An id other than 0 decides; id 0 means the index within the object.
     let i = if id == 0 {
-        nth(u, object, index)
+        nth(parts, object, index)
     } else {
-        find(u, object, id)
+        find(parts, object, id)
     };
     // Not found: what was asked for, and zeros.
-    if u.sizes.properties <= i {
+    if parts.counts.properties <= i {
         let none = Pdu::PropertyDescriptionResponse {
             object,
             id,
@@ -252,10 +217,10 @@ pub fn description(u: Parts, object: u8, id: u8, index: u8) -> Reply
             maximum: 0,
             access: 0,
         };
-        return sending(u, 11, none);
+        return sending(parts, 11, none);
     }
     // Found: the property's own object, id and index.
-    let properties = u.properties;
+    let properties = parts.properties;
     let p = properties[i];
     let own = Pdu::PropertyDescriptionResponse {
         object: p.object,
@@ -265,5 +230,5 @@ pub fn description(u: Parts, object: u8, id: u8, index: u8) -> Reply
         maximum: p.maximum,
         access: parts::levels_byte(p.read, p.write),
     };
-    sending(u, 0, own)
+    sending(parts, 0, own)
 }

@@ -1,5 +1,6 @@
-// Memory: where an address stands, and whether a range may be used.
+// Memory: where a range of addresses stands, if it may be used.
 use crate::Area;
+use crate::Place;
 use judge::Access;
 use parts::Parts;
 use parts::Region;
@@ -7,104 +8,82 @@ use sheet::Memory;
 ghost use mathlib.Core.Path.{_≡_};
 ghost use mathlib.Core.List.{List};
 ghost use Prim.Native.Nat.{ℕ, _≤_};
-ghost use Rattle.sheet.specs.Lookup.{rangeOf};
-ghost use Rattle.judge.specs.Memory.{runAllowed};
 ghost use Rattle.parts.specs.Records.{Taken};
 ghost use Rattle.plain_services.specs.Steps.{Held};
-ghost use Rattle.plain_services.specs.Memory.{has as hasOf, mayIn, regionWith, placeIn, allowedAt, allAllowed, IsArea};
+ghost use Rattle.plain_services.specs.Memory.{has as hasOf, mayIn, standsFor, rangeFor, IsArea};
 
 // A region has that address.
-fn has(e: Region, address: usize) -> bool
-    ensures { λ r. ⌜ r ≡ hasOf e address ⌝ }
+fn has(region: Region, address: usize) -> bool
+    ensures { λ r. ⌜ r ≡ hasOf region address ⌝ }
 {
-    e.address as usize <= address && address < e.address as usize + e.length as usize
-}
-
-// The first of n regions that has the address, n where none has it.
-fn region_with(regions: [Region; 16], n: usize, address: usize) -> usize
-    requires { ⌜ n ≤ 16 ⌝ }
-    ensures { λ r. ⌜ (r ≤ n) × (r ≡ regionWith regions n address) ⌝ }
-{
-    let mut i = 0;
-    while i < n {
-        let e = regions[i];
-        if has(e, address) {
-            return i;
-        }
-        i += 1;
-    }
-    n
+    let first = region.address as usize;
+    first <= address && address < first + region.length as usize
 }
 
 // The level suffices.
-fn may(w: Access, level: u8, e: Region) -> bool
-    ensures { λ r. ⌜ r ≡ mayIn w level e ⌝ }
+fn may(access: Access, level: u8, region: Region) -> bool
+    ensures { λ r. ⌜ r ≡ mayIn access level region ⌝ }
 {
-    match w {
-        Access::Read => level <= e.read,
-        Access::Write => level <= e.write,
-        Access::Change => level <= e.read && level <= e.write,
+    match access {
+        Access::Read => level <= region.read,
+        Access::Write => level <= region.write,
+        Access::Change => level <= region.read && level <= region.write,
     }
 }
 
-// One address lies in a region for which the level suffices.
-fn one_allowed(regions: [Region; 16], n: usize, w: Access, level: u8, address: usize) -> bool
-    requires { ⌜ n ≤ 16 ⌝ }
-    ensures { λ r. ⌜ r ≡ allowedAt regions n w level address ⌝ }
+// Where an address stands among the bodies, if a region has it for which the level suffices.
+fn stands(area: Area, access: Access, level: u8, address: usize) -> Place
+    requires { ⌜ (area .count ≤ 16) × (address ≤ 65790) ⌝ }
+    ensures { λ r. ⌜ r ≡ standsFor (area .regions) (area .count) access level address ⌝ }
 {
-    let i = region_with(regions, n, address);
-    i < n && may(w, level, regions[i])
-}
-
-// n is 1 to the most that may be named, and all addresses are allowed.
-pub fn allowed(a: Area, w: Access, level: u8, most: u8, n: u8, address: u16) -> bool
-    requires { ⌜ a .count ≤ 16 ⌝ }
-    ensures { λ r. ⌜ ((s : List ℕ) (m : Memory) → IsArea s m (a .regions) (a .count) → r ≡ runAllowed w most level n (rangeOf s m address n)) ⌝ }
-{
-    if n < 1 || most < n {
-        return false;
-    }
-    let regions = a.regions;
-    let many = n as usize;
     let mut i = 0;
-    while i < many {
-        if !one_allowed(regions, a.count, w, level, address as usize + i) {
-            return false;
+    while i < area.count {
+        let region = area.regions[i];
+        if has(region, address) {
+            if !may(access, level, region) {
+                return Place::Denied;
+            }
+            return Place::At(region.offset as usize + (address - region.address as usize));
         }
         i += 1;
     }
-    true
+    Place::Denied
 }
 
-// Where an address stands among the bodies. It is asked for addresses that are allowed; another has no place, and gets 0.
-pub fn place(a: Area, address: usize) -> usize
-    requires { ⌜ (a .count ≤ 16) × (address ≤ 65790) ⌝ }
-    ensures { λ r. ⌜ r ≡ placeIn (a .regions) (a .count) address ⌝ }
+// Where n addresses stand: 1 to the most that may be named, and each may be used. By S6 and S9 they stand one after the other.
+pub fn range(area: Area, access: Access, level: u8, most: u8, n: u8, address: u16) -> Place
+    requires { ⌜ area .count ≤ 16 ⌝ }
+    ensures { λ r. ⌜ r ≡ rangeFor (area .regions) (area .count) access level most n address ⌝ }
 {
-    let regions = a.regions;
-    let i = region_with(regions, a.count, address);
-    if a.count <= i {
-        return 0;
+    if n < 1 || most < n {
+        return Place::Denied;
     }
-    let e = regions[i];
-    e.offset as usize + (address - e.address as usize)
+    let many = n as usize;
+    let mut i = 0;
+    while i < many {
+        let Place::At(_) = stands(area, access, level, address as usize + i) else {
+            return Place::Denied;
+        };
+        i += 1;
+    }
+    stands(area, access, level, address as usize)
 }
 
 // The regions of a memory.
-pub fn area(u: Parts, m: Memory) -> Area
-    ensures { λ r. ⌜ ((s : List ℕ) → Taken s u → IsArea s m (r .regions) (r .count)) × (Held u → r .count ≤ 16) ⌝ }
+pub fn area(parts: Parts, memory: Memory) -> Area
+    ensures { λ r. ⌜ ((s : List ℕ) → Taken s parts → IsArea s memory (r .regions) (r .count)) × (Held parts → r .count ≤ 16) ⌝ }
 {
-    let sizes = u.sizes;
-    let device = u.regions;
-    let user = u.users;
-    match m {
+    let counts = parts.counts;
+    let device = parts.regions;
+    let user = parts.users;
+    match memory {
         Memory::Device => Area {
             regions: device,
-            count: sizes.regions,
+            count: counts.regions,
         },
         Memory::User => Area {
             regions: user,
-            count: sizes.users,
+            count: counts.users,
         },
     }
 }

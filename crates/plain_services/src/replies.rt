@@ -14,42 +14,42 @@ ghost use Rattle.plain_services.specs.declared.Sent.the-variants as sent
 ghost use Rattle.plain_services.specs.Steps.{Gives};
 
 // A reply with its data. Every reply is made here.
-pub fn reply(u: Parts, outcome: u8, turn: Turn, sent: Sent, d: &[u8]) -> Reply
+pub fn reply(parts: Parts, outcome: u8, turn: Turn, sent: Sent, d: &[u8]) -> Reply
     requires { ⌜ length (now d) ≤ 14 ⌝ }
-    ensures { λ r. ⌜ Gives r outcome u turn sent (now (d .entry)) ⌝ }
+    ensures { λ r. ⌜ Gives r outcome parts turn sent (now (d .entry)) ⌝ }
 {
     let mut bytes = [0u8; 14];
     octets::splice(&mut bytes, 0, d);
     Reply {
         outcome,
-        parts: u,
+        parts,
         turn,
         sent,
         bytes,
-        size: d.len(),
+        length: d.len(),
     }
 }
 
 // 1, 2, 8, 10 and 12: nothing is sent.
-pub fn silent(u: Parts, outcome: u8) -> Reply
-    ensures { λ r. ⌜ Gives r outcome u Stays sent.Nothing [] ⌝ }
+pub fn silent(parts: Parts, outcome: u8) -> Reply
+    ensures { λ r. ⌜ Gives r outcome parts Stays sent.Nothing [] ⌝ }
 {
-    reply(u, outcome, Turn::Stays, Sent::Nothing, &[])
+    reply(parts, outcome, Turn::Stays, Sent::Nothing, &[])
 }
 
 // 0 and 11: a PDU is sent, with no data.
-pub fn sending(u: Parts, outcome: u8, p: Pdu) -> Reply
-    ensures { λ r. ⌜ Gives r outcome u Stays (sent.This p) [] ⌝ }
+pub fn sending(parts: Parts, outcome: u8, pdu: Pdu) -> Reply
+    ensures { λ r. ⌜ Gives r outcome parts Stays (sent.This pdu) [] ⌝ }
 {
-    reply(u, outcome, Turn::Stays, Sent::This(p), &[])
+    reply(parts, outcome, Turn::Stays, Sent::This(pdu), &[])
 }
 
 // 0: a PDU is sent, with data.
-pub fn showing(u: Parts, p: Pdu, d: &[u8]) -> Reply
+pub fn showing(parts: Parts, pdu: Pdu, d: &[u8]) -> Reply
     requires { ⌜ length (now d) ≤ 14 ⌝ }
-    ensures { λ r. ⌜ Gives r 0 u Stays (sent.This p) (now (d .entry)) ⌝ }
+    ensures { λ r. ⌜ Gives r 0 parts Stays (sent.This pdu) (now (d .entry)) ⌝ }
 {
-    reply(u, 0, Turn::Stays, Sent::This(p), d)
+    reply(parts, 0, Turn::Stays, Sent::This(pdu), d)
 }
 
 // A number of two bytes.

@@ -28,14 +28,20 @@ struct CSession {
 }
 
 #[repr(C)]
+struct CSessions {
+    of: [CSession; 2],
+}
+
+#[repr(C)]
 struct CPlainReply {
     outcome: u8,
     count: u8,
+    sessions: CSessions,
 }
 
 extern "C" {
     fn kelindap_plain_request(
-        sessions: *mut [CSession; 2],
+        sessions: CSessions,
         sheet: *mut u8,
         sheet_length: usize,
         mode: u8,
@@ -64,10 +70,10 @@ fn first(bench: &Bench, mode: u8, apdu: &[u8], sheet: &mut [u8]) -> Given {
 
 fn plain(bench: &Bench, mode: u8, apdu: &[u8], sheet: &mut [u8]) -> Given {
     let mut answer = [0; 16];
-    let mut sessions = OPEN.map(|s| CSession { open: s.open, level: s.level });
+    let sessions = CSessions { of: OPEN.map(|s| CSession { open: s.open, level: s.level }) };
     let reply = unsafe {
         kelindap_plain_request(
-            &mut sessions,
+            sessions,
             sheet.as_mut_ptr(),
             sheet.len(),
             mode,
@@ -79,7 +85,7 @@ fn plain(bench: &Bench, mode: u8, apdu: &[u8], sheet: &mut [u8]) -> Given {
             answer.len(),
         )
     };
-    let sessions = sessions.map(|s| Session { open: s.open, level: s.level });
+    let sessions = reply.sessions.of.map(|s| Session { open: s.open, level: s.level });
     ((reply.outcome, reply.count), sessions, answer)
 }
 

@@ -28,7 +28,7 @@ returns c =
       sheet =
           λ h.
           ⊎-elim
-          (λ w. subst (λ (t : List ℕ). Restores (Whole (a .r .parts)) (a .sheet .now) t 0 (a .r .parts .length)) (sym (w .5)) (w .2 .ensures))
+          (λ w. subst (λ (t : List ℕ). Restores (Whole (a .reply .parts)) (a .sheet .now) t 0 (a .reply .parts .length)) (sym (w .5)) (w .2 .ensures))
           (λ w. absurd (omega (arith, w .0 .left))) (met .if1 .came);
       answer = sent .send .ensures;
       sessions = c .sessions-after .ensures;

@@ -2,6 +2,7 @@
 -- Assumes nothing.
 use borrow.Author.Needs.{needs}
 use Rattle.plain_services.proofs.Addressing.{address-shown, address-hidden}
+use Rattle.plain_services.proofs.Joined.{was-no, was-yes}
 use Rattle.plain_services.proofs.addresses.address_read.Statement.{statement}
 use Rattle.plain_services.proofs.addresses.address_read.Tie as tie
 
@@ -9,7 +10,5 @@ pub address-read-spec : {M : Type 1} → statement M
 address-read-spec =
     tie.close
     (tie.spec
-    (λ c κs. search needs)
-    (λ c. address-shown _ _ (search needs) (c .sending .ensures))
-    (λ c κs. search needs)
-    (λ c. address-hidden _ _ (search needs) (c .silent .ensures)))
+    (λ c κs. search needs) (λ c. address-hidden _ _ (was-no _ (c .before .if1 .taken)) (c .silent .ensures))
+    (λ c κs. search needs) (λ c. address-shown _ _ (was-yes _ (c .before .if1 .left)) (c .sending .ensures)))

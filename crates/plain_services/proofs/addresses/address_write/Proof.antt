@@ -2,7 +2,9 @@
 -- Assumes nothing.
 use borrow.Author.Needs.{needs}
 use native.Mathlib.Omega.{arith}
+use mathlib.Core.Path.{refl}
 use Rattle.plain_services.proofs.Addressing.{address-set, address-kept}
+use Rattle.plain_services.proofs.Joined.{was-no, was-yes}
 use Rattle.plain_services.proofs.addresses.address_write.Statement.{statement}
 use Rattle.plain_services.proofs.addresses.address_write.Tie as tie
 
@@ -10,7 +12,6 @@ pub address-write-spec : {M : Type 1} → statement M
 address-write-spec =
     tie.close
     (tie.spec
-    (λ c κs. search needs) (λ c κs. search needs)
-    (λ c. address-set _ _ _ _ (search needs) (omega arith) (c .before .with-address .ensures) (c .silent .ensures))
+    (λ c κs. search needs) (λ c. address-kept _ _ _ (was-no _ (c .before .if1 .taken)) (c .silent .ensures))
     (λ c κs. search needs)
-    (λ c. address-kept _ _ _ (search needs) (c .silent2 .ensures)))
+    (λ c. address-set _ _ _ _ (was-yes _ (c .before .before .if1 .left)) (omega arith) refl (c .silent2 .ensures)))

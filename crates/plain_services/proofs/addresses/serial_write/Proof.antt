@@ -2,6 +2,7 @@
 -- Assumes nothing.
 use borrow.Author.Needs.{needs}
 use native.Mathlib.Omega.{arith}
+use mathlib.Core.Path.{refl}
 use Rattle.plain_services.proofs.Addressing.{serial-set, serial-kept}
 use Rattle.plain_services.proofs.addresses.serial_write.Statement.{statement}
 use Rattle.plain_services.proofs.addresses.serial_write.Tie as tie
@@ -10,7 +11,5 @@ pub serial-write-spec : {M : Type 1} → statement M
 serial-write-spec =
     tie.close
     (tie.spec
-    (λ c κs. search needs) (λ c κs. search needs)
-    (λ c. serial-set _ _ _ _ _ (omega arith) (omega arith) (c .before .with-address .ensures) (c .silent .ensures))
-    (λ c κs. search needs)
-    (λ c. serial-kept _ _ _ _ (search needs) (c .silent2 .ensures)))
+    (λ c κs. search needs) (λ c. serial-kept _ _ _ _ (c .before .if1 .taken) (c .silent .ensures)) (λ c κs. search needs)
+    (λ c. serial-set _ _ _ _ _ (c .before .before .if1 .left) (omega arith) refl (c .silent2 .ensures)))

@@ -1,10 +1,10 @@
--- `plain_services::properties::index_within` meets its contract.
+-- `plain_services::properties::index_within` meets its contract. The invariant: so many of the first j were seen.
 -- Assumes nothing.
 use borrow.Author.Needs.{needs}
-use native.Mathlib.Omega.{arith}
-use mathlib.Core.Logic.{⊎-elim, inl, inr}
 use Prim.Native.Nat.{_-_, _≤_}
 use mathlib.Core.Path.{_≡_}
+use mathlib.Core.Logic.{⊎-elim}
+use native.Mathlib.Omega.{arith}
 use Rattle.plain_services.specs.Described.{rankIn}
 use Rattle.plain_services.proofs.Descriptions.{rank-start, one-counted, one-passed, rank-end}
 use Rattle.plain_services.proofs.properties.index_within.Statement.{statement}
@@ -18,7 +18,7 @@ abbrev μ-loop : tie.MeasureT-loop
 
 loop-again : tie.Need-loop-again Inv-loop μ-loop
 loop-again c =
-    let at-loop = c .before .before .before .before in (
+    let at-loop = c .before .before in (
       omega arith,
       ⊎-elim (λ w. omega (arith, w .1)) (λ w. omega (arith, w .1)) (c .if1 .came),
       ⊎-elim (λ w. one-counted _ _ _ _ _ (at-loop .loop .inv .2) (w .0 .taken) (w .1)) (λ w. one-passed _ _ _ _ _ (at-loop .loop .inv .2) (w .0 .left) (w .1)) (c .if1 .came),
@@ -33,9 +33,5 @@ pub index-within-spec : {M : Type 1} → statement M
 index-within-spec =
     tie.close
     (tie.spec
-    Inv-loop
-    μ-loop
-    (λ c. (omega arith, omega arith, rank-start _ _))
-    (λ c. omega arith) (λ c. omega arith) (λ c. omega arith) (λ c. omega arith) (λ c. omega arith)
-    loop-again
-    returns)
+    Inv-loop μ-loop (λ c. (omega arith, omega arith, rank-start _ _)) (λ c. omega arith) (λ c. omega arith)
+    (λ c. omega arith) (λ c. omega arith) (λ c. omega arith) loop-again returns)

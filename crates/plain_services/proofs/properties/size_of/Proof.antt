@@ -12,5 +12,5 @@ size-of-spec =
     tie.close
     (tie.spec
     (λ c. search needs)
-    (λ c. omega (arith, small (c .before .args .n) (c .before .args .p .element) (omega arith) (omega arith)))
-    (λ c. (refl, omega (arith, small (c .before .args .n) (c .before .args .p .element) (omega arith) (omega arith)))))
+    (λ c. omega (arith, small (c .before .args .n) (c .before .args .p .size) (omega arith) (omega arith)))
+    (λ c. (refl, omega (arith, small (c .before .args .n) (c .before .args .p .size) (omega arith) (omega arith)))))

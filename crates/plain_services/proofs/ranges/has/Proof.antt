@@ -10,4 +10,5 @@ pub has-spec : {M : Type 1} → statement M
 has-spec =
     tie.close
     (tie.spec
-    (λ c. search needs) (λ c. search needs) (λ c. search needs) (λ c. search needs) (λ c. search (branches, arith)) (λ c. search (branches, arith)))
+    (λ c. search needs) (λ c. search needs) (λ c. search needs) (λ c. search (branches, arith))
+    (λ c. search (branches, arith)))

@@ -1,0 +1,96 @@
+// THE SHEET TAKEN APART, AND WRITTEN AGAIN from its first byte to its last.
+use crate::Parts;
+use crate::front::counts;
+use crate::front::head;
+use crate::front::write_head;
+use crate::lists::groups_from;
+use crate::lists::properties_from;
+use crate::lists::regions_from;
+use crate::lists::write_groups;
+use crate::lists::write_properties;
+use crate::lists::write_regions;
+ghost use mathlib.Core.Path.{_≡_};
+ghost use Prim.Native.Nat.{ℕ, _≤_, _<_};
+ghost use lib.ListN.{length, getD};
+ghost use Rattle.sheet.specs.Rules.{Accepted};
+ghost use Rattle.parts.specs.Records.{Taken};
+ghost use Rattle.parts.specs.Again.{Restores, Whole, Roomy};
+
+fn blank() -> [u8; 16384]
+    ensures { λ r. ⌜ length r ≡ 16384 ⌝ }
+{
+    [0u8; 16384]
+}
+
+// The bytes from a place on, each at its own place.
+fn bodies(sheet: &[u8], from: usize) -> [u8; 16384]
+    requires { ⌜ (from ≤ length (now sheet)) × (length (now sheet) ≤ 16384) ⌝ }
+    ensures { λ r. ⌜ (length r ≡ 16384) × ((p : ℕ) → from ≤ p → p < length (now (sheet .entry)) → getD r p 0 ≡ getD (now (sheet .entry)) p 0) ⌝ }
+{
+    let mut bodies = blank();
+    let mut at = from;
+    while at < sheet.len() {
+        bodies[at] = sheet[at];
+        at += 1;
+    }
+    bodies
+}
+
+pub fn take_apart(sheet: &[u8]) -> Parts
+    requires { ⌜ Accepted (now sheet) ⌝ }
+    ensures { λ r. ⌜ Taken (now (sheet .entry)) r ⌝ }
+{
+    let head = head(sheet);
+    let counts = counts(sheet);
+    let second = 32 + 8 * counts.regions;
+    let third = second + 12 * counts.properties;
+    let fourth = third + 8 * counts.groups;
+    let end = fourth + 8 * counts.users;
+    let regions = regions_from(sheet, 32, counts.regions);
+    let properties = properties_from(sheet, second, counts.properties);
+    let groups = groups_from(sheet, third, counts.groups);
+    let users = regions_from(sheet, fourth, counts.users);
+    let bodies = bodies(sheet, end);
+    Parts {
+        head,
+        counts,
+        regions,
+        properties,
+        groups,
+        users,
+        bodies,
+        length: sheet.len(),
+    }
+}
+
+pub fn write_again(parts: Parts, sheet: &mut [u8])
+    requires { ⌜ Roomy parts (length (now sheet)) ⌝ }
+    ensures { λ _. ⌜ Restores (Whole parts) (now (sheet .entry)) (now (sheet .exit)) 0 (parts .length) ⌝ }
+{
+    let counts = parts.counts;
+    let second = 32 + 8 * counts.regions;
+    let third = second + 12 * counts.properties;
+    let fourth = third + 8 * counts.groups;
+    let end = fourth + 8 * counts.users;
+    let regions = parts.regions;
+    let properties = parts.properties;
+    let groups = parts.groups;
+    let users = parts.users;
+    let bodies = parts.bodies;
+    let length = parts.length;
+    write_head(sheet, parts.head, counts, length);
+    write_regions(sheet, 32, regions, counts.regions);
+    write_properties(sheet, second, properties, counts.properties);
+    write_groups(sheet, third, groups, counts.groups);
+    write_regions(sheet, fourth, users, counts.users);
+    octets::splice(sheet, end, &bodies[end..length]);
+}
+
+// Taken apart and written again, an accepted sheet has the same bytes.
+pub fn same(sheet: &mut [u8])
+    requires { ⌜ Accepted (now sheet) ⌝ }
+    ensures { λ _. ⌜ now (sheet .exit) ≡ now (sheet .entry) ⌝ }
+{
+    let parts = take_apart(&sheet[..]);
+    write_again(parts, sheet);
+}
