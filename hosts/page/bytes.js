@@ -63,6 +63,10 @@ const grouped = new Intl.NumberFormat("en-US");
 /** @param {number} count @param {string} one @param {string} [many] */
 const counted = (count, one, many = one + "s") => `${grouped.format(count)} ${count === 1 ? one : many}`;
 
+// A run of bytes by fours, as far as it has them, if it lies so that it can be read so.
+/** @param {Uint8Array} bytes */
+const inFours = bytes => (bytes.byteOffset % 4 ? null : new Uint32Array(bytes.buffer, bytes.byteOffset, bytes.length >> 2));
+
 /** @param {ArrayLike<number>} a @param {ArrayLike<number>} b */
 function same(a, b) {
     if (a.length !== b.length) return false;

@@ -41,6 +41,7 @@ class Story {
     constructor(sheet, traces, given) {
         this.traces = traces;
         this.first = sheet;
+        this.groups = entriesOf(sheet).groups;
         this.last = sheet.slice();
         this.marks = new Uint32Array(sheet.length + CONNECTIONS);
         this.history = new Histories();
@@ -141,13 +142,15 @@ class Story {
     /** @param {number} at */
     group(at) {
         if (at >= 16 && at < 18) return 0;
-        return entriesOf(this.first).groups.find(g => at >= g.body && at < g.body + g.length)?.address ?? null;
+        return this.groups.find(g => at >= g.body && at < g.body + g.length)?.address ?? null;
     }
 
     // The requests that named a place to write it, and were carried out or not.
     /** @param {{ target: Target, length: number }} place @param {boolean} done */
     named({ target, length }, done) {
-        return [...this.writes].filter(([, write]) => write.done === done && namesPlace(write.pdu, target, length)).map(([number]) => number);
+        const all = [];
+        for (const [number, write] of this.writes) if (write.done === done && namesPlace(write.pdu, target, length)) all.push(number);
+        return all;
     }
 
     // Requests behind an event that are no events, and named a place to write it.

@@ -10,7 +10,13 @@ class Histories {
     // What an event changed.
     /** @param {number} event @param {Uint8Array} before @param {Uint8Array} after */
     note(event, before, after) {
+        const [was, is] = [inFours(before), inFours(after)];
         for (let at = 0; at < before.length; at++) {
+            // four bytes at a time, where they are the same
+            if ((at & 3) === 0 && was && is && was[at >> 2] === is[at >> 2] && at + 4 <= before.length) {
+                at += 3;
+                continue;
+            }
             const from = at;
             while (at < before.length && before[at] !== after[at]) at++;
             if (at > from) this.deltas.push({ event, at: from, old: before.slice(from, at), now: after.slice(from, at) });

@@ -2,11 +2,12 @@
 "use strict";
 const fs = require("fs");
 const path = require("path");
-const { project, read, expect } = require("./common.js");
+const { project, read, expect, holds } = require("./common.js");
 
 async function network(b, url) {
     const asked = b.events.filter(e => e.method === "Network.requestWillBeSent").map(e => e.params.request.url);
     expect("no request but the page itself and what it holds", asked.filter(u => u.split("#")[0] !== url && !u.startsWith("data:") && !u.startsWith("blob:") && u !== `file://${b.folder}/saved.html`), []);
+    holds("the page has less than 400 KB", fs.statSync(url.slice("file://".length)).size < 400000);
     const wrong = b.events.filter(e => e.method === "Runtime.exceptionThrown" || (e.method === "Log.entryAdded" && e.params.entry.level === "error"));
     expect("no error of the script", wrong.map(e => e.params.exceptionDetails?.exception?.description || e.params.entry?.text), []);
     // the module has the functions of the headers, and is given none
