@@ -70,7 +70,7 @@ const PARTS: &[Part] = &[
     },
     Part {
         title: "Frames",
-        says: "what each is to the device, whose connection is whose, and what frames from however many senders leave",
+        says: "what each is to the device, whose connection is whose, and what frames of any senders leave",
         statements: &["fn host/kelindap_heard", "fn host/kelindap_serve", "link/heard-due", "link/heard-only", "link/served-is", "link/frames-keep", "link/frames-at-once", "link/keyless-frames", "link/whose", "link/stranger", "link/same-partner", "link/elsewhere", "link/itself", "link/apart", "link/turned-away", "link/only-third", "link/never-lost", "link/answer-mode"],
     },
     Part {
