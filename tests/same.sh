@@ -71,6 +71,10 @@ while IFS= read -r line; do
     grep -qxF -- "$line" docs/TRACE.md || { echo "same: README explains what TRACE.md does not: $line"; bad=1; }
 done < "$work/explained"
 
+# README is one screen and a little more; no line of a document is a page
+[ "$(wc -w < README.md)" -le 1200 ] || { echo "same: README has $(wc -w < README.md) words, above 1,200"; bad=1; }
+LC_ALL=C awk 'length > 600 { print "same: " FILENAME ":" FNR " has " length " bytes, above 600"; bad = 1 } END { exit bad }' README.md docs/*.md || bad=1
+
 # docs/UNIT.md has the kinds of kelindap_names.h
 names() { sed -n "/define KELINDAP_$1/,/^\$/s/.*\"\(.*\)\".*/\1/p" include/kelindap_names.h | sort; }
 same docs/UNIT.md "$(names KINDS)" "$(sed -n '/^## Kinds/,$p' docs/UNIT.md | awk -F '|' '/^\| `/ { print $2 }' | grep -o '[a-z_]*' | sort)"
