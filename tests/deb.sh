@@ -30,7 +30,7 @@ while read -r processor debian triple _; do
     for header in include/*.h; do cmp "$header" "$work/of/usr/$header" || fail "$package has another $header"; done
     grep -qx "processor=$processor" "$work/of/usr/lib/$triple/pkgconfig/kelindap.pc" || fail "$package does not name $processor"
     grep -qx "Requires: kelindap = $version" "$work/of/usr/lib/$triple/pkgconfig/kelindap-plain.pc" || fail "$package has no kelindap-plain"
-    [ "$(find "$work/of" -type f | wc -l)" = $(($(find include -name '*.h' | wc -l) + 5)) ] || fail "$package has other files"
+    [ "$(find "$work/of" -type f | wc -l)" = $(($(find include -name '*.h' | wc -l) + 7)) ] || fail "$package has other files"
 done < <(grep '^[a-z]' mk/processors)
 
 # what the headers name, in a package of its own for all processors
@@ -69,6 +69,11 @@ archives=("${packages[@]/%/_${version}_$debian.deb}" "kelindap-doc_${version}_al
 packages=(kelindap-doc "${packages[@]}")
 in_root --force-depends -i "${archives[@]/#/build/deb/}"
 files=$(find "$root/usr" -type f | wc -l)
+for package in "${packages[@]}"; do
+    about=$root/usr/share/doc/$package
+    grep -q '^No licence is given yet' "$about/copyright" && grep -q 'placeholder' "$about/copyright" || fail "$package says nothing of its licence and maintainer"
+    gzip -dc "$about/changelog.gz" | cmp -s - CHANGELOG.md || fail "$package has another list of changes"
+done
 
 by="its own words"
 flags="-I$root/usr/include -L$root/usr/lib/$triple -lkelindap_device -lkelindap_pdu"
