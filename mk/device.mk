@@ -3,7 +3,8 @@
 DEVICE := $(BUILD)/kelindap-device
 DEVICE_PARTS := transport files local log meaning device datagram tunnel control ctl
 DEVICE_C := $(patsubst %,hosts/device/%.c,main $(DEVICE_PARTS))
-DEVICE_FROM := $(DEVICE_C) $(wildcard hosts/device/*.h) build/device_help.inc $(LINKED) mk/device.mk
+# the plain engine is not in it
+DEVICE_FROM := $(DEVICE_C) $(wildcard hosts/device/*.h) build/device_help.inc $(filter-out $(PLAIN_A),$(LINKED)) mk/device.mk
 DEVICE_FLAGS := $(STRICT) -Ibuild -Ihosts/device
 
 #: make device     the device on a real bus by KNXnet/IP, build/kelindap-device (docs/BUS.md)
