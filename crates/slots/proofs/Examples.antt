@@ -10,6 +10,8 @@ use Rattle.octets.specs.Splice.{splice}
 use Rattle.slots.specs.Crc.{crcOf, crcFrom, byteStep, bits, bitStep}
 use Rattle.slots.specs.Slot.{marked, markUnit, blankUnit, tailOf, headOf, slotOf, nextOf, newerOf}
 use Rattle.slots.specs.Medium.{held, nothing, sheet, Medium, choice}
+use Rattle.slots.specs.Parts.{beginOf, moreOf, endOf}
+use Rattle.slots.specs.Saving.{workOf, pieceOf}
 use Rattle.slots.specs.Lives.{Ready, one, none}
 
 abbrev example : List ℕ
@@ -30,6 +32,17 @@ pub example-wrong :
     × (slotOf (set example 66 2) .refusal ≡ 84)
 unfolding slotOf marked numAt crcOf crcFrom byteStep bits bitStep
 example-wrong = (refl, refl, refl, refl, refl, refl)
+
+-- what no whole slot shows: 83, not all of the sheet handed over; 85 before 86; 86 on one side of each limit, and none on the other
+pub refusals-worked :
+    (endOf (moreOf (beginOf example 67) (1 ∷ 2 ∷ [])) .refusal ≡ 83)
+    × (workOf 1 31 66 3 .refusal ≡ 85)
+    × (workOf 1 32 66 3 .refusal ≡ 86)
+    × (workOf 1 32 67 3 .refusal ≡ 0)
+    × (workOf 1 32 40000 32769 .refusal ≡ 86)
+    × (workOf 1 32 32832 32768 .refusal ≡ 0)
+unfolding endOf moreOf beginOf marked numAt crcFrom byteStep bits bitStep workOf pieceOf
+refusals-worked = (refl, refl, refl, refl, refl, refl)
 
 -- and it is what the pieces of a save write
 pub example-written : splice (splice (splice (replicate 67 255) 32 (headOf 7 (1 ∷ 2 ∷ 3 ∷ []))) 64 (1 ∷ 2 ∷ 3 ∷ [])) 0 markUnit ≡ example
