@@ -8,7 +8,8 @@ use lib.ListN.{length, take, drop, getD, set, replicate}
 use Rattle.octets.specs.Bytes.{numAt, bytesOf}
 use Rattle.octets.specs.Splice.{splice}
 use Rattle.slots.specs.Crc.{crcOf, crcFrom, byteStep, bits, bitStep}
-use Rattle.slots.specs.Slot.{marked, markUnit, blankUnit, tailOf, headOf, slotOf, nextOf, newerOf}
+use Rattle.slots.specs.Slot.{marked, markUnit, blankUnit, tailOf, headOf, bad, slotOf, nextOf, newerOf, targetOf}
+use Rattle.slots.specs.declared.Slot.{Slot}
 use Rattle.slots.specs.Medium.{held, nothing, sheet, Medium, choice}
 use Rattle.slots.specs.Parts.{beginOf, moreOf, endOf}
 use Rattle.slots.specs.Saving.{workOf, pieceOf}
@@ -43,6 +44,21 @@ pub refusals-worked :
     × (workOf 1 32 32832 32768 .refusal ≡ 0)
 unfolding endOf moreOf beginOf marked numAt crcFrom byteStep bits bitStep workOf pieceOf
 refusals-worked = (refl, refl, refl, refl, refl, refl)
+
+-- WHERE A SAVE GOES, worked: from a slot that holds a sheet to the other, under the next number
+abbrev full : ℕ → Slot
+full n = record { refusal = 0; number = n; offset = 64; length = 3 }
+
+pub second-worked : (targetOf (full 7) (bad 81) ≡ record { slot = 1; number = 8 }) × (targetOf (full 8) (full 7) ≡ record { slot = 1; number = 9 })
+unfolding targetOf newerOf nextOf
+second-worked = (refl, refl)
+
+pub first-worked :
+    (targetOf (bad 81) (full 7) ≡ record { slot = 0; number = 8 })
+    × (targetOf (full 7) (full 8) ≡ record { slot = 0; number = 9 })
+    × (targetOf (full 4294967294) (full 4294967295) ≡ record { slot = 0; number = 0 })
+unfolding targetOf newerOf nextOf
+first-worked = (refl, refl, refl)
 
 -- and it is what the pieces of a save write
 pub example-written : splice (splice (splice (replicate 67 255) 32 (headOf 7 (1 ∷ 2 ∷ 3 ∷ []))) 64 (1 ∷ 2 ∷ 3 ∷ [])) 0 markUnit ≡ example
