@@ -18,10 +18,10 @@
  * the two libraries has a call that tells its own: a host that compares the two finds out that it was compiled with other
  * headers than it is linked with.
  */
-#define KELINDAP_VERSION_MAJOR 0
-#define KELINDAP_VERSION_MINOR 3
+#define KELINDAP_VERSION_MAJOR 1
+#define KELINDAP_VERSION_MINOR 0
 #define KELINDAP_VERSION_PATCH 0
-#define KELINDAP_VERSION_TEXT "0.3.0"
+#define KELINDAP_VERSION_TEXT "1.0.0"
 #define KELINDAP_VERSION (65536 * KELINDAP_VERSION_MAJOR + 256 * KELINDAP_VERSION_MINOR + KELINDAP_VERSION_PATCH)
 
 /* The outcomes, by number; kelindap_names.h has them as text. Not every call gives every one. */

@@ -45,6 +45,6 @@ gaveBack r = record { done = record { outcome = r .outcome; count = r .count; se
 abbrev pub gavePlayed : Handled → Sessions → Played
 gavePlayed r q = record { refusal = r .refusal; handled = r .handled; sessions = q }
 
--- the version: 65536 times its first number, 256 times its second, its third; so this is 0.3.0
+-- the version: 65536 times its first number, 256 times its second, its third; so this is 1.0.0
 abbrev pub versionOf : ℕ
-versionOf = 768
+versionOf = 65536

@@ -299,5 +299,5 @@ pub extern "C" fn kelindap_play_marked(
 pub extern "C" fn kelindap_version() -> u32
     ensures { λ r. ⌜ r ≡ versionOf ⌝ }
 {
-    768
+    65536
 }

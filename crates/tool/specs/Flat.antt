@@ -144,6 +144,6 @@ pub record FlatWrote (m : Meant) (d o : List ℕ) (r : FlatWritten) (e : List �
   pub result : r ≡ flatWritten (meantWrite m d o)
   pub buffer : e ≡ meantBuffer m d o
 
--- THE VERSION: 65536 times its first number, 256 times its second, its third; so this is 0.3.0
+-- THE VERSION: 65536 times its first number, 256 times its second, its third; so this is 1.0.0
 abbrev pub versionOf : ℕ
-versionOf = 768
+versionOf = 65536

@@ -156,7 +156,7 @@ pub extern "C" fn kelindap_write(flat: FlatPdu, data: &[u8], out: &mut [u8]) -> 
 pub extern "C" fn kelindap_pdu_version() -> u32
     ensures { λ r. ⌜ r ≡ versionOf ⌝ }
 {
-    768
+    65536
 }
 
 // The frame in the bytes, laid flat, with where its parts stand; or the outcome alone.
