@@ -115,9 +115,11 @@ done
 # the header tells a host what to do with a partner that connects again
 grep -q 'connected and connects again keeps its number' include/kelindap.h || { echo "same: kelindap.h is silent on a second connect"; bad=1; }
 
-# the last version in CHANGELOG.md is that of the headers; a licence that is not there is not there in README either
+# the last version in CHANGELOG.md is that of the headers, and so is that of the Rust programs and of README; a licence that is not there is not there in README either
 version=$(sed -n 's/.*KELINDAP_VERSION_TEXT "\(.*\)"/\1/p' include/kelindap_common.h)
 same CHANGELOG.md "$version" "$(sed -n 's/^## \([0-9].*\)/\1/p' CHANGELOG.md | head -n 1)"
+same Cargo.toml "$version" "$(sed -n 's/^version = "\(.*\)"/\1/p' Cargo.toml)"
+grep -qF "version $version." README.md || { echo "same: README is of another version than $version"; bad=1; }
 [ -e LICENSE ] || [ -e LICENCE ] || grep -q '^No licence is given yet' README.md || { echo "same: README says nothing of a licence"; bad=1; }
 [ "$bad" = 0 ]
 echo "same: the sample sheet in 4 places, its edition 1 in 2, that with user memory in 3, the marked cases in 2"
