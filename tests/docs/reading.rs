@@ -197,6 +197,9 @@ const PARTS: &[Part] = &[
     },
 ];
 
+/// The parts that are counted together too.
+const DEMANDS: &[&str] = &["The calls", "Demand 1", "Demand 2", "Demand 3", "`keyless`", "`isolated`"];
+
 /// Where reading stops: a definition, why it need not be read, and the theorems that are read in its place.
 const STOPS: &[(&str, &str, &[&str])] = &[
     ("requestOf", "what a request does: contract and theorems meet there", &[]),
@@ -319,14 +322,20 @@ impl Tree {
         let mut read: BTreeSet<At> = BTreeSet::new();
         let mut told: BTreeSet<BTreeSet<String>> = BTreeSet::new();
         let mut total = 0;
+        let mut demands: (BTreeSet<At>, BTreeMap<BTreeSet<String>, usize>) = Default::default();
         // the line under a file's heading, and what of the file follows
         let mut under: Vec<(usize, Vec<At>)> = Vec::new();
         for part in PARTS {
             let mut names: Vec<&str> = part.statements.to_vec();
             let (mut statements, mut items, mut stops) = (Vec::new(), BTreeSet::new(), BTreeSet::new());
+            // what is read in place of a definition, which counts as one
+            let mut placed: BTreeMap<BTreeSet<String>, usize> = BTreeMap::new();
             let mut next = 0;
             while next < names.len() {
                 let statement = self.statement(names[next]);
+                if next >= part.statements.len() {
+                    placed.insert(statement.names.clone(), statement.text.len());
+                }
                 next += 1;
                 // a call has the types of its crate
                 let code = statement.file.extension().is_some_and(|e| e == "rt");
@@ -343,8 +352,14 @@ impl Tree {
             statements.retain(|s| told.insert(s.names.clone()));
             let order = self.order(&items);
             let new: Vec<At> = order.iter().filter(|at| !read.contains(*at)).cloned().collect();
-            let (all_lines, new_lines) = (self.lines(&order), self.lines(&new));
+            let of_placed: usize = statements.iter().filter_map(|s| placed.get(&s.names)).sum();
+            let all_lines = self.lines(&order) + placed.values().sum::<usize>();
+            let new_lines = self.lines(&new) + of_placed;
             total += new_lines;
+            if DEMANDS.contains(&part.title) {
+                demands.0.extend(items.iter().cloned());
+                demands.1.extend(placed);
+            }
             let hours = hours(new_lines);
             self.table
                 .push(format!("| {}: {} | {all_lines} | {new_lines} | {hours} | {promised} |", part.title, part.says));
@@ -372,6 +387,11 @@ impl Tree {
             }
             read.extend(items);
         }
+        let together = self.lines(&demands.0.into_iter().collect::<Vec<_>>()) + demands.1.values().sum::<usize>();
+        self.table.push(format!(
+            "| The calls, demands 1 to 3, `keyless` and `isolated` together | {together} | | {} | |",
+            hours(together)
+        ));
         self.table.push(format!("| All of it | | {total} | {} | |", hours(total)));
         self.tell_apart(&read, &under, &mut out);
         out.extend([String::new(), "## The library's names".to_string(), String::new()]);
@@ -689,9 +709,26 @@ fn parsed(path: &Path, text: Vec<String>) -> Item {
             item.bound.extend(front.into_iter().skip(1).filter(|w| is_name(w)));
         }
     }
-    item.text = text;
+    item.text = shown(text);
     item.scopes = scopes;
     item
+}
+
+/// A definition as it is written out: a value without arguments in one line, and no line for the compiler.
+fn shown(text: Vec<String>) -> Vec<String> {
+    let mut shown: Vec<String> = Vec::new();
+    for line in text.into_iter().filter(|l| !l.starts_with("#[")) {
+        let value = line.split_once(" = ").filter(|_| indent(&line) == 0);
+        match (shown.last_mut(), value) {
+            (Some(last), Some((name, value)))
+                if last.split_once(" : ").is_some_and(|(front, _)| front.split(' ').next_back() == Some(name)) =>
+            {
+                *last = format!("{last} = {value}");
+            }
+            _ => shown.push(line),
+        }
+    }
+    shown
 }
 
 /// The types that the code of a crate declares.
@@ -717,7 +754,7 @@ fn types(folder: &Path) -> Module {
                 }
                 item.scopes.push(words[1.min(words.len())..].to_vec());
             }
-            item.text = text;
+            item.text = shown(text);
             module.items.push(item);
         }
     }
