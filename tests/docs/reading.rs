@@ -212,6 +212,10 @@ const STOPS: &[(&str, &str, &[&str])] = &[
     ("stepWith", "what a request does, the refusal of its sheet being given: `by-refusal` ties it to `stepOf`", &[]),
     ("restoreBy", "what a restore does, the refusal of its sheet being given: `by-refusal` ties it to `restoreOutcome`", &[]),
     ("heardOf", "what a frame is to the device; read as propositions", &["link/heard-due", "link/heard-only"]),
+    ("eventOf", "what an event gives: a call that is the event gives it", &["history/call-gives"]),
+    ("sameEntries", "whether a version has a sheet's entries, as a test", &["versions/same-entries", "versions/entries-same"]),
+    ("lowCounts", "whether a version's counts are low enough, as a test", &["versions/low-counts", "versions/counts-low"]),
+    ("history/firstOf", "the first content of a location: the byte at its place in the first sheet", &["history/first-content"]),
     ("ruleIn", "the rules as rows of a table; read as nine propositions", &["sheet/judged", "sheet/judged-only"]),
 ];
 
@@ -226,6 +230,8 @@ const KEYWORDS: &[&str] = &["pub ", "abbrev ", "unfoldable ", "data ", "record "
 const HEADING: &str = "| To believe | Lines to read | Of these not read above | Hours for these | Promised by |";
 /// How many lines are read in an hour, with care.
 const AN_HOUR: f64 = 150.0;
+/// How wide a definition may be that is written with its signature.
+const WIDE: usize = 150;
 const FENCE: &str = "```";
 
 fn main() {
@@ -371,7 +377,8 @@ impl Tree {
             }
             if !stops.is_empty() {
                 out.extend([String::new(), "Not read:".to_string(), String::new()]);
-                out.extend(stops.iter().map(|&k| format!("- `{}`, {}", STOPS[k].0, STOPS[k].1)));
+                let name = |k: usize| STOPS[k].0.rsplit('/').next().unwrap_or_default();
+                out.extend(stops.iter().map(|&k| format!("- `{}`, {}", name(k), STOPS[k].1)));
             }
             for of_file in new.chunk_by(|a, b| self.item(a).file == self.item(b).file).rev() {
                 let file = &self.item(&of_file[0]).file;
@@ -441,7 +448,7 @@ impl Tree {
         let mut todo: Vec<At> = from.into_iter().collect();
         while let Some(at) = todo.pop() {
             let item = self.item(&at).clone();
-            if let Some(k) = STOPS.iter().position(|s| item.names.contains(s.0)) {
+            if let Some(k) = STOPS.iter().position(|s| stops_at(s.0, &item)) {
                 stops.insert(k);
             } else if items.insert(at.clone()) {
                 todo.extend(self.needs(&at.0, &item));
@@ -599,6 +606,14 @@ impl Tree {
     }
 }
 
+/// A stop is a name, or one of a crate.
+fn stops_at(stop: &str, item: &Item) -> bool {
+    match stop.split_once('/') {
+        Some((of, name)) => item.names.contains(name) && item.file.starts_with(Path::new("crates").join(of)),
+        None => item.names.contains(stop),
+    }
+}
+
 /// Where a name is from: a module's file, or a type that code declares, by the folder of the code and its name.
 enum Home {
     Module(PathBuf),
@@ -714,21 +729,52 @@ fn parsed(path: &Path, text: Vec<String>) -> Item {
     item
 }
 
-/// A definition as it is written out: a value without arguments in one line, and no line for the compiler.
+/// A definition as it is written out: one clause with its signature, each argument beside its kind, and no line for the compiler.
 fn shown(text: Vec<String>) -> Vec<String> {
-    let mut shown: Vec<String> = Vec::new();
-    for line in text.into_iter().filter(|l| !l.starts_with("#[")) {
-        let value = line.split_once(" = ").filter(|_| indent(&line) == 0);
-        match (shown.last_mut(), value) {
-            (Some(last), Some((name, value)))
-                if last.split_once(" : ").is_some_and(|(front, _)| front.split(' ').next_back() == Some(name)) =>
-            {
-                *last = format!("{last} = {value}");
+    let text: Vec<String> = text.into_iter().filter(|l| !l.starts_with("#[")).collect();
+    let clauses = || text.iter().enumerate().filter(|(_, l)| indent(l) == 0 && !l.starts_with("--"));
+    let [(at, signature), (next, clause)] = clauses().collect::<Vec<_>>()[..] else { return text };
+    let joined = (at + 1 == next).then(|| typed(signature, clause)).flatten();
+    let Some(joined) = joined.filter(|l| l.chars().count() <= WIDE) else { return text };
+    [&text[..at], &[joined], &text[next + 1..]].concat()
+}
+
+/// `f : A → B` and `f x = e` as `f (x : A) : B = e`, where every argument is a name and no kind names one.
+fn typed(signature: &str, clause: &str) -> Option<String> {
+    let (front, kind) = signature.split_once(" : ")?;
+    let (left, value) = clause.split_once('=').map(|(l, v)| (l.trim_end(), v.trim()))?;
+    let mut words = left.split(' ');
+    if words.next() != front.split(' ').next_back() || kind.contains(['{', '=']) {
+        return None;
+    }
+    let mut kinds: Vec<String> = vec![String::new()];
+    let mut deep = 0;
+    for word in kind.split(' ') {
+        match word {
+            "→" if deep == 0 => kinds.push(String::new()),
+            _ => {
+                deep += word.matches('(').count() as i32 - word.matches(')').count() as i32;
+                let kind = kinds.last_mut().expect("there is one");
+                *kind = [kind.as_str(), word].join(" ").trim_start().to_string();
             }
-            _ => shown.push(line),
         }
     }
-    shown
+    let words: Vec<&str> = words.collect();
+    if words.len() >= kinds.len() || kinds.iter().any(|k| k.contains(" : ")) || !words.iter().all(|w| is_name(w)) {
+        return None;
+    }
+    let result = kinds.split_off(words.len()).join(" → ");
+    let bare = |k: &String| k.strip_prefix('(').and_then(|k| k.strip_suffix(')')).unwrap_or(k).to_string();
+    // arguments of one kind that stand side by side in one bracket
+    let mut groups: Vec<(Vec<&str>, String)> = Vec::new();
+    for (word, kind) in words.into_iter().zip(kinds.iter().map(bare)) {
+        match groups.last_mut().filter(|g| g.1 == kind) {
+            Some(group) => group.0.push(word),
+            None => groups.push((vec![word], kind)),
+        }
+    }
+    let arguments: String = groups.iter().map(|(names, kind)| format!(" ({} : {kind})", names.join(" "))).collect();
+    Some(format!("{front}{arguments} : {result} = {value}").trim_end().to_string())
 }
 
 /// The types that the code of a crate declares.
