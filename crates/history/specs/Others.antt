@@ -57,9 +57,7 @@ newValue e g d j before wish.restart = before
 newValue e g d j before (wish.other (wish.address new)) = before
 newValue e g d j before (wish.other (wish.addressFor named new)) = before
 newValue e g d j before (wish.other (wish.group flag v)) =
-    cond
-    (all
-    (eqb (group.address of e) g ∷ eqb (group.flags of e / flag % 2) 1 ∷ eqb (length d) (group.code of e) ∷ []))
+    cond (all (eqb (group.address of e) g ∷ eqb (group.flags of e / flag % 2) 1 ∷ eqb (length d) (group.code of e) ∷ []))
     (cond (eqb (group.code of e) 0) v (getD d j 0)) before
 newValue e g d j before wish.nothing = before
 
