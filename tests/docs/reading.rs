@@ -733,10 +733,67 @@ fn parsed(path: &Path, text: Vec<String>) -> Item {
 fn shown(text: Vec<String>) -> Vec<String> {
     let text: Vec<String> = text.into_iter().filter(|l| !l.starts_with("#[")).collect();
     let clauses = || text.iter().enumerate().filter(|(_, l)| indent(l) == 0 && !l.starts_with("--"));
-    let [(at, signature), (next, clause)] = clauses().collect::<Vec<_>>()[..] else { return text };
+    let [(at, signature), (next, clause)] = clauses().collect::<Vec<_>>()[..] else { return together(text) };
     let joined = (at + 1 == next).then(|| typed(signature, clause)).flatten();
     let Some(joined) = joined.filter(|l| l.chars().count() <= WIDE) else { return text };
     [&text[..at], &[joined], &text[next + 1..]].concat()
+}
+
+/// Clauses that follow each other, have one value and differ in one argument, as one: `f (p | q) = e`.
+fn together(text: Vec<String>) -> Vec<String> {
+    let mut out: Vec<String> = Vec::new();
+    // the clauses that stand together in the last line, each by its words, and their value
+    let mut group: (Vec<Vec<String>>, String) = Default::default();
+    for (k, line) in text.iter().enumerate() {
+        let alone = text.get(k + 1).is_none_or(|l| indent(l) <= indent(line)) && !line.trim_start().starts_with("--");
+        let clause = line.split_once(" = ").filter(|(left, _)| alone && !left.contains(':'));
+        let Some((words, value)) = clause.map(|(left, value)| (arguments(left.trim_start()), value.to_string())) else {
+            group = Default::default();
+            out.push(line.clone());
+            continue;
+        };
+        let mut clauses = group.0.clone();
+        clauses.push(words.clone());
+        let differ = |p: usize| clauses.iter().any(|c| c.get(p) != clauses[0].get(p));
+        let places: Vec<usize> = (1..words.len()).filter(|&p| differ(p)).collect();
+        let alike = clauses.len() > 1 && value == group.1 && clauses.iter().all(|c| c.len() == words.len() && c[0] == words[0]);
+        let joined = (alike && places.len() == 1).then(|| {
+            let any: Vec<&str> = clauses.iter().map(|c| inner(&c[places[0]])).collect();
+            let mut left = words.clone();
+            left[places[0]] = format!("({})", any.join(" | "));
+            format!("{}{} = {value}", " ".repeat(indent(line)), left.join(" "))
+        });
+        match joined.filter(|l| l.chars().count() <= WIDE) {
+            Some(joined) => {
+                *out.last_mut().expect("the clauses before") = joined;
+                group.0 = clauses;
+            }
+            None => {
+                out.push(line.clone());
+                group = (vec![words], value);
+            }
+        }
+    }
+    out
+}
+
+/// The words of a left side, what stands in brackets being one.
+fn arguments(left: &str) -> Vec<String> {
+    let mut words: Vec<String> = Vec::new();
+    let mut deep = 0;
+    for word in left.split(' ') {
+        match words.last_mut().filter(|_| deep > 0) {
+            Some(last) => *last = format!("{last} {word}"),
+            None => words.push(word.to_string()),
+        }
+        deep += word.matches('(').count() as i32 - word.matches(')').count() as i32;
+    }
+    words
+}
+
+/// What stands in a pair of brackets, if it is one pair around all of it.
+fn inner(word: &str) -> &str {
+    word.strip_prefix('(').and_then(|w| w.strip_suffix(')')).unwrap_or(word)
 }
 
 /// `f : A → B` and `f x = e` as `f (x : A) : B = e`, where every argument is a name and no kind names one.
@@ -764,7 +821,7 @@ fn typed(signature: &str, clause: &str) -> Option<String> {
         return None;
     }
     let result = kinds.split_off(words.len()).join(" → ");
-    let bare = |k: &String| k.strip_prefix('(').and_then(|k| k.strip_suffix(')')).unwrap_or(k).to_string();
+    let bare = |k: &String| inner(k).to_string();
     // arguments of one kind that stand side by side in one bracket
     let mut groups: Vec<(Vec<&str>, String)> = Vec::new();
     for (word, kind) in words.into_iter().zip(kinds.iter().map(bare)) {
