@@ -396,7 +396,7 @@ impl Tree {
         }
         let together = self.lines(&demands.0.into_iter().collect::<Vec<_>>()) + demands.1.values().sum::<usize>();
         self.table.push(format!(
-            "| The calls, demands 1 to 3, `keyless` and `isolated` together | {together} | | {} | |",
+            "| The calls, demands 1 to 3, keyless and isolated together | {together} | | {} | |",
             hours(together)
         ));
         self.table.push(format!("| All of it | | {total} | {} | |", hours(total)));
