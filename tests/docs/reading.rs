@@ -216,8 +216,13 @@ const STOPS: &[(&str, &str, &[&str])] = &[
     ("sameEntries", "whether a version has a sheet's entries, as a test", &["versions/same-entries", "versions/entries-same"]),
     ("lowCounts", "whether a version's counts are low enough, as a test", &["versions/low-counts", "versions/counts-low"]),
     ("history/firstOf", "the first content of a location: the byte at its place in the first sheet", &["history/first-content"]),
+    ("storeRule", "whether a store is good, as rows of a table; read as the bytes that a good store is", KEEPING),
+    ("versions/kept", "the versions that a store keeps, as they are found in its table; read as those whose bytes it is", KEEPING),
     ("ruleIn", "the rules as rows of a table; read as nine propositions", &["sheet/judged", "sheet/judged-only"]),
 ];
+
+/// A good store is the bytes of its versions, both ways.
+const KEEPING: &[&str] = &["versions/it-keeps", "versions/passes", "versions/keeps-these"];
 
 /// What the language has without a `use` line, in definitions, in statements and in contracts.
 const LANGUAGE: &str =
