@@ -197,6 +197,9 @@ const PARTS: &[Part] = &[
     },
 ];
 
+/// The parts that are counted together too.
+const DEMANDS: &[&str] = &["The calls", "Demand 1", "Demand 2", "Demand 3", "`keyless`", "`isolated`"];
+
 /// Where reading stops: a definition, why it need not be read, and the theorems that are read in its place.
 const STOPS: &[(&str, &str, &[&str])] = &[
     ("requestOf", "what a request does: contract and theorems meet there", &[]),
@@ -209,8 +212,17 @@ const STOPS: &[(&str, &str, &[&str])] = &[
     ("stepWith", "what a request does, the refusal of its sheet being given: `by-refusal` ties it to `stepOf`", &[]),
     ("restoreBy", "what a restore does, the refusal of its sheet being given: `by-refusal` ties it to `restoreOutcome`", &[]),
     ("heardOf", "what a frame is to the device; read as propositions", &["link/heard-due", "link/heard-only"]),
+    ("eventOf", "what an event gives: a call that is the event gives it", &["history/call-gives"]),
+    ("sameEntries", "whether a version has a sheet's entries, as a test", &["versions/same-entries", "versions/entries-same"]),
+    ("lowCounts", "whether a version's counts are low enough, as a test", &["versions/low-counts", "versions/counts-low"]),
+    ("history/firstOf", "the first content of a location: the byte at its place in the first sheet", &["history/first-content"]),
+    ("storeRule", "whether a store is good, as rows of a table; read as the bytes that a good store is", KEEPING),
+    ("versions/kept", "the versions that a store keeps, as they are found in its table; read as those whose bytes it is", KEEPING),
     ("ruleIn", "the rules as rows of a table; read as nine propositions", &["sheet/judged", "sheet/judged-only"]),
 ];
+
+/// A good store is the bytes of its versions, both ways.
+const KEEPING: &[&str] = &["versions/it-keeps", "versions/passes", "versions/keeps-these"];
 
 /// What the language has without a `use` line, in definitions, in statements and in contracts.
 const LANGUAGE: &str =
@@ -223,6 +235,8 @@ const KEYWORDS: &[&str] = &["pub ", "abbrev ", "unfoldable ", "data ", "record "
 const HEADING: &str = "| To believe | Lines to read | Of these not read above | Hours for these | Promised by |";
 /// How many lines are read in an hour, with care.
 const AN_HOUR: f64 = 150.0;
+/// How wide a definition may be that is written with its signature.
+const WIDE: usize = 150;
 const FENCE: &str = "```";
 
 fn main() {
@@ -319,14 +333,20 @@ impl Tree {
         let mut read: BTreeSet<At> = BTreeSet::new();
         let mut told: BTreeSet<BTreeSet<String>> = BTreeSet::new();
         let mut total = 0;
+        let mut demands: (BTreeSet<At>, BTreeMap<BTreeSet<String>, usize>) = Default::default();
         // the line under a file's heading, and what of the file follows
         let mut under: Vec<(usize, Vec<At>)> = Vec::new();
         for part in PARTS {
             let mut names: Vec<&str> = part.statements.to_vec();
             let (mut statements, mut items, mut stops) = (Vec::new(), BTreeSet::new(), BTreeSet::new());
+            // what is read in place of a definition, which counts as one
+            let mut placed: BTreeMap<BTreeSet<String>, usize> = BTreeMap::new();
             let mut next = 0;
             while next < names.len() {
                 let statement = self.statement(names[next]);
+                if next >= part.statements.len() {
+                    placed.insert(statement.names.clone(), statement.text.len());
+                }
                 next += 1;
                 // a call has the types of its crate
                 let code = statement.file.extension().is_some_and(|e| e == "rt");
@@ -343,8 +363,14 @@ impl Tree {
             statements.retain(|s| told.insert(s.names.clone()));
             let order = self.order(&items);
             let new: Vec<At> = order.iter().filter(|at| !read.contains(*at)).cloned().collect();
-            let (all_lines, new_lines) = (self.lines(&order), self.lines(&new));
+            let of_placed: usize = statements.iter().filter_map(|s| placed.get(&s.names)).sum();
+            let all_lines = self.lines(&order) + placed.values().sum::<usize>();
+            let new_lines = self.lines(&new) + of_placed;
             total += new_lines;
+            if DEMANDS.contains(&part.title) {
+                demands.0.extend(items.iter().cloned());
+                demands.1.extend(placed);
+            }
             let hours = hours(new_lines);
             self.table
                 .push(format!("| {}: {} | {all_lines} | {new_lines} | {hours} | {promised} |", part.title, part.says));
@@ -356,7 +382,8 @@ impl Tree {
             }
             if !stops.is_empty() {
                 out.extend([String::new(), "Not read:".to_string(), String::new()]);
-                out.extend(stops.iter().map(|&k| format!("- `{}`, {}", STOPS[k].0, STOPS[k].1)));
+                let name = |k: usize| STOPS[k].0.rsplit('/').next().unwrap_or_default();
+                out.extend(stops.iter().map(|&k| format!("- `{}`, {}", name(k), STOPS[k].1)));
             }
             for of_file in new.chunk_by(|a, b| self.item(a).file == self.item(b).file).rev() {
                 let file = &self.item(&of_file[0]).file;
@@ -372,6 +399,11 @@ impl Tree {
             }
             read.extend(items);
         }
+        let together = self.lines(&demands.0.into_iter().collect::<Vec<_>>()) + demands.1.values().sum::<usize>();
+        self.table.push(format!(
+            "| The calls, demands 1 to 3, keyless and isolated together | {together} | | {} | |",
+            hours(together)
+        ));
         self.table.push(format!("| All of it | | {total} | {} | |", hours(total)));
         self.tell_apart(&read, &under, &mut out);
         out.extend([String::new(), "## The library's names".to_string(), String::new()]);
@@ -421,7 +453,7 @@ impl Tree {
         let mut todo: Vec<At> = from.into_iter().collect();
         while let Some(at) = todo.pop() {
             let item = self.item(&at).clone();
-            if let Some(k) = STOPS.iter().position(|s| item.names.contains(s.0)) {
+            if let Some(k) = STOPS.iter().position(|s| stops_at(s.0, &item)) {
                 stops.insert(k);
             } else if items.insert(at.clone()) {
                 todo.extend(self.needs(&at.0, &item));
@@ -579,6 +611,14 @@ impl Tree {
     }
 }
 
+/// A stop is a name, or one of a crate.
+fn stops_at(stop: &str, item: &Item) -> bool {
+    match stop.split_once('/') {
+        Some((of, name)) => item.names.contains(name) && item.file.starts_with(Path::new("crates").join(of)),
+        None => item.names.contains(stop),
+    }
+}
+
 /// Where a name is from: a module's file, or a type that code declares, by the folder of the code and its name.
 enum Home {
     Module(PathBuf),
@@ -689,9 +729,114 @@ fn parsed(path: &Path, text: Vec<String>) -> Item {
             item.bound.extend(front.into_iter().skip(1).filter(|w| is_name(w)));
         }
     }
-    item.text = text;
+    item.text = shown(text);
     item.scopes = scopes;
     item
+}
+
+/// A definition as it is written out: one clause with its signature, each argument beside its kind, and no line for the compiler.
+fn shown(text: Vec<String>) -> Vec<String> {
+    let text: Vec<String> = text.into_iter().filter(|l| !l.starts_with("#[")).collect();
+    let clauses = || text.iter().enumerate().filter(|(_, l)| indent(l) == 0 && !l.starts_with("--"));
+    let [(at, signature), (next, clause)] = clauses().collect::<Vec<_>>()[..] else { return together(text) };
+    let joined = (at + 1 == next).then(|| typed(signature, clause)).flatten();
+    let Some(joined) = joined.filter(|l| l.chars().count() <= WIDE) else { return text };
+    [&text[..at], &[joined], &text[next + 1..]].concat()
+}
+
+/// Clauses that follow each other, have one value and differ in one argument, as one: `f (p | q) = e`.
+fn together(text: Vec<String>) -> Vec<String> {
+    let mut out: Vec<String> = Vec::new();
+    // the clauses that stand together in the last line, each by its words, and their value
+    let mut group: (Vec<Vec<String>>, String) = Default::default();
+    for (k, line) in text.iter().enumerate() {
+        let alone = text.get(k + 1).is_none_or(|l| indent(l) <= indent(line)) && !line.trim_start().starts_with("--");
+        let clause = line.split_once(" = ").filter(|(left, _)| alone && !left.contains(':'));
+        let Some((words, value)) = clause.map(|(left, value)| (arguments(left.trim_start()), value.to_string())) else {
+            group = Default::default();
+            out.push(line.clone());
+            continue;
+        };
+        let mut clauses = group.0.clone();
+        clauses.push(words.clone());
+        let differ = |p: usize| clauses.iter().any(|c| c.get(p) != clauses[0].get(p));
+        let places: Vec<usize> = (1..words.len()).filter(|&p| differ(p)).collect();
+        let alike = clauses.len() > 1 && value == group.1 && clauses.iter().all(|c| c.len() == words.len() && c[0] == words[0]);
+        let joined = (alike && places.len() == 1).then(|| {
+            let any: Vec<&str> = clauses.iter().map(|c| inner(&c[places[0]])).collect();
+            let mut left = words.clone();
+            left[places[0]] = format!("({})", any.join(" | "));
+            format!("{}{} = {value}", " ".repeat(indent(line)), left.join(" "))
+        });
+        match joined.filter(|l| l.chars().count() <= WIDE) {
+            Some(joined) => {
+                *out.last_mut().expect("the clauses before") = joined;
+                group.0 = clauses;
+            }
+            None => {
+                out.push(line.clone());
+                group = (vec![words], value);
+            }
+        }
+    }
+    out
+}
+
+/// The words of a left side, what stands in brackets being one.
+fn arguments(left: &str) -> Vec<String> {
+    let mut words: Vec<String> = Vec::new();
+    let mut deep = 0;
+    for word in left.split(' ') {
+        match words.last_mut().filter(|_| deep > 0) {
+            Some(last) => *last = format!("{last} {word}"),
+            None => words.push(word.to_string()),
+        }
+        deep += word.matches('(').count() as i32 - word.matches(')').count() as i32;
+    }
+    words
+}
+
+/// What stands in a pair of brackets, if it is one pair around all of it.
+fn inner(word: &str) -> &str {
+    word.strip_prefix('(').and_then(|w| w.strip_suffix(')')).unwrap_or(word)
+}
+
+/// `f : A → B` and `f x = e` as `f (x : A) : B = e`, where every argument is a name and no kind names one.
+fn typed(signature: &str, clause: &str) -> Option<String> {
+    let (front, kind) = signature.split_once(" : ")?;
+    let (left, value) = clause.split_once('=').map(|(l, v)| (l.trim_end(), v.trim()))?;
+    let mut words = left.split(' ');
+    if words.next() != front.split(' ').next_back() || kind.contains(['{', '=']) {
+        return None;
+    }
+    let mut kinds: Vec<String> = vec![String::new()];
+    let mut deep = 0;
+    for word in kind.split(' ') {
+        match word {
+            "→" if deep == 0 => kinds.push(String::new()),
+            _ => {
+                deep += word.matches('(').count() as i32 - word.matches(')').count() as i32;
+                let kind = kinds.last_mut().expect("there is one");
+                *kind = [kind.as_str(), word].join(" ").trim_start().to_string();
+            }
+        }
+    }
+    let words: Vec<&str> = words.collect();
+    if words.len() >= kinds.len() || kinds.iter().any(|k| k.contains(" : ")) || !words.iter().all(|w| is_name(w)) {
+        return None;
+    }
+    let result = kinds.split_off(words.len()).join(" → ");
+    let bare = |k: &String| inner(k).to_string();
+    // arguments of one kind that stand side by side in one bracket
+    let mut groups: Vec<(Vec<&str>, String)> = Vec::new();
+    for (word, kind) in words.into_iter().zip(kinds.iter().map(bare)) {
+        match groups.last_mut().filter(|g| g.1 == kind) {
+            Some(group) => group.0.push(word),
+            None => groups.push((vec![word], kind)),
+        }
+    }
+    let arguments: String = groups.iter().map(|(names, kind)| format!(" ({} : {kind})", names.join(" "))).collect();
+    Some(format!("{front}{arguments} : {result} = {value}").trim_end().to_string())
 }
 
 /// The types that the code of a crate declares.
@@ -717,7 +862,7 @@ fn types(folder: &Path) -> Module {
                 }
                 item.scopes.push(words[1.min(words.len())..].to_vec());
             }
-            item.text = text;
+            item.text = shown(text);
             module.items.push(item);
         }
     }

@@ -76,18 +76,18 @@ abbrev pub openedBy : ℕ → (ℕ → Bool) → ℕ → Event → Bool
 openedBy rules live c (connect d) = cond (eqb c d && ltb c 2) true (live c)
 openedBy rules live c (disconnect d) = cond (eqb c d) false (live c)
 openedBy rules live c (button on) = live c
+openedBy rules live c (restore d n st) = live c
 openedBy rules live c (request mode d g a out) =
     cond (heard rules (live d) mode a out (asks a) && isRestart (asks a)) false (live c)
-openedBy rules live c (restore d n st) = live c
 
 -- what one event makes of the level of connection c, `keys` being the keys before it
 abbrev pub levelBy : ℕ → (ℕ → Bool) → (ℕ → ℕ) → ℕ → ℕ → Event → ℕ
 levelBy rules live keys c before (connect d) = cond (eqb c d) 3 before
 levelBy rules live keys c before (disconnect d) = cond (eqb c d) 3 before
 levelBy rules live keys c before (button on) = before
+levelBy rules live keys c before (restore d n st) = before
 levelBy rules live keys c before (request mode d g a out) =
     cond (heard rules (live d) mode a out (asks a)) (offered keys (eqb c d) before (asks a)) before
-levelBy rules live keys c before (restore d n st) = before
 
 -- A PERMITTED WRITE: heard while its connection is so, and allowed at the level of that connection; of a restore, the version kept in a good store, and the connection open
 abbrev pub permits : List ℕ → (ℕ → Bool) → (ℕ → ℕ) → Event → Bool

@@ -16,17 +16,17 @@ use Rattle.history.specs.Keeps.{Device, stateAfter, Succeeds}
 abbrev pub isOf : ℕ → Event → Bool
 isOf o (connect c) = eqb c o
 isOf o (disconnect c) = eqb c o
+isOf o (restore c n st) = eqb c o
 isOf o (button on) = false
 isOf o (request mode c g a out) = eqb mode 3 && eqb c o
-isOf o (restore c n st) = eqb c o
 
 -- what that tool may have sent: these, and any request that names no connection
 abbrev pub mayBeOf : ℕ → Event → Bool
 mayBeOf o (connect c) = eqb c o
 mayBeOf o (disconnect c) = eqb c o
+mayBeOf o (restore c n st) = eqb c o
 mayBeOf o (button on) = false
 mayBeOf o (request mode c g a out) = not (eqb mode 3) || eqb c o
-mayBeOf o (restore c n st) = eqb c o
 
 -- the same event, though its answer buffer may have held other bytes, as many
 pub data Alike : Event → Event → Type 0 where

@@ -23,10 +23,10 @@ unfoldable pub programming : First → List Event → ℕ
 programming f [] = head.programming (f .sheet)
 programming f (connect c ∷ h) = programming f h
 programming f (disconnect c ∷ h) = programming f h
+programming f (restore c n st ∷ h) = programming f h
 programming f (button on ∷ h) = bit on
 programming f (request mode c g a out ∷ h) =
     cond (heard (rulesOf (f .sheet)) (opened f h c) mode a out (wish.asks a) && isRestart (wish.asks a)) 0 (programming f h)
-programming f (restore c n st ∷ h) = programming f h
 
 -- the new address that a request brings: in programming mode (`inProgramming` is 1), or by the serial number
 abbrev pub newAddress : ℕ → ℕ → ℕ → wish.Wish → ℕ
@@ -44,10 +44,10 @@ individual f [] = head.address of f .sheet
 individual f (connect c ∷ h) = individual f h
 individual f (disconnect c ∷ h) = individual f h
 individual f (button on ∷ h) = individual f h
+individual f (restore c n st ∷ h) = individual f h
 individual f (request mode c g a out ∷ h) =
     cond (heard (rulesOf (f .sheet)) (opened f h c) mode a out (wish.asks a))
     (newAddress (programming f h) (head.serial of f .sheet) (individual f h) (wish.asks a)) (individual f h)
-individual f (restore c n st ∷ h) = individual f h
 
 -- byte j of what a group value brings to the object of entry e: the six bits, or the data
 abbrev pub newValue : List ℕ → ℕ → List ℕ → ℕ → ℕ → wish.Wish → ℕ
@@ -57,9 +57,7 @@ newValue e g d j before wish.restart = before
 newValue e g d j before (wish.other (wish.address new)) = before
 newValue e g d j before (wish.other (wish.addressFor named new)) = before
 newValue e g d j before (wish.other (wish.group flag v)) =
-    cond
-    (all
-    (eqb (group.address of e) g ∷ eqb (group.flags of e / flag % 2) 1 ∷ eqb (length d) (group.code of e) ∷ []))
+    cond (all (eqb (group.address of e) g ∷ eqb (group.flags of e / flag % 2) 1 ∷ eqb (length d) (group.code of e) ∷ []))
     (cond (eqb (group.code of e) 0) v (getD d j 0)) before
 newValue e g d j before wish.nothing = before
 
@@ -69,7 +67,7 @@ groupByte f [] i j = getD (f .sheet) (bodyAt (f .sheet) groups i + j) 0
 groupByte f (connect c ∷ h) i j = groupByte f h i j
 groupByte f (disconnect c ∷ h) i j = groupByte f h i j
 groupByte f (button on ∷ h) i j = groupByte f h i j
+groupByte f (restore c n st ∷ h) i j = groupByte f h i j
 groupByte f (request mode c g a out ∷ h) i j =
     cond (heard (rulesOf (f .sheet)) (opened f h c) mode a out (wish.asks a))
     (newValue (entry (f .sheet) groups i) g (wish.brings a) j (groupByte f h i j) (wish.asks a)) (groupByte f h i j)
-groupByte f (restore c n st ∷ h) i j = groupByte f h i j

@@ -37,11 +37,13 @@ pub record Span : Type 0 where
   pub long : ℕ
   pub give : ℕ → ℕ
 
+abbrev pub span : Location → ℕ → (ℕ → ℕ) → Span
+span x n g = record { from = x; long = n; give = g }
+
 -- A SPAN HAS A BYTE
 unfoldable pub has : Span → Location → Bool
 has p x =
-    all
-    (same (owner (p .from)) (owner x) ∷ leb (byte (p .from)) (byte x) ∷ ltb (byte x) (byte (p .from) + p .long) ∷ [])
+    all (same (owner (p .from)) (owner x) ∷ leb (byte (p .from)) (byte x) ∷ ltb (byte x) (byte (p .from) + p .long) ∷ [])
 
 -- what it gives to a byte that it has
 unfoldable pub put : Span → Location → ℕ

@@ -36,23 +36,24 @@ pub data Wish : Type 0 where
   nothing : Wish
 
 abbrev pub wishOf : Pdu → Wish
-wishOf GroupValueRead = nothing
 wishOf (GroupValueResponse v) = other (group 4 v)
 wishOf (GroupValueWrite v) = other (group 2 v)
 wishOf (IndividualAddressWrite new) = other (address new)
-wishOf IndividualAddressRead = nothing
-wishOf (SerialNumberRead serial) = nothing
 wishOf (SerialNumberWrite serial new) = other (addressFor serial new)
-wishOf (DeviceDescriptorRead t) = nothing
-wishOf (PropertyValueRead object id n s) = nothing
 wishOf (PropertyValueWrite object id n s) = change (writeProperty object id n s)
-wishOf (PropertyDescriptionRead object id index) = nothing
-wishOf (MemoryRead n a) = nothing
 wishOf (MemoryWrite n a) = change (writeMemory Device n a)
 wishOf (MemoryBitWrite n a) = change (writeBits n a)
 wishOf (AuthorizeRequest number) = offerKey number
 wishOf (KeyWrite level number) = change (writeKey level number)
 wishOf Restart = restart
+wishOf (UserMemoryWrite n a) = change (writeMemory User n a)
+wishOf GroupValueRead = nothing
+wishOf IndividualAddressRead = nothing
+wishOf (SerialNumberRead serial) = nothing
+wishOf (DeviceDescriptorRead t) = nothing
+wishOf (PropertyValueRead object id n s) = nothing
+wishOf (PropertyDescriptionRead object id index) = nothing
+wishOf (MemoryRead n a) = nothing
 wishOf IndividualAddressResponse = nothing
 wishOf (SerialNumberResponse serial domain) = nothing
 wishOf (DeviceDescriptorResponse t) = nothing
@@ -63,7 +64,6 @@ wishOf (AuthorizeResponse level) = nothing
 wishOf (KeyResponse level) = nothing
 wishOf (UserMemoryRead n a) = nothing
 wishOf (UserMemoryResponse n a) = nothing
-wishOf (UserMemoryWrite n a) = change (writeMemory User n a)
 
 -- what an APDU asks for, and its data: what doesn't read asks for nothing
 abbrev pub wishIn : Parsed → Wish
@@ -85,12 +85,12 @@ brings a = dataFrom (readPdu a) a
 abbrev pub taken : ℕ → Wish → ℕ → Bool
 taken rules (change (writeMemory m n a)) mode = eqb mode 3
 taken rules (change (writeBits n a)) mode = eqb mode 3
-taken rules (change (writeProperty object id n s)) mode = eqb mode 2 || eqb mode 3
 taken rules (change (writeKey level number)) mode = eqb mode 3
-taken rules (change restoreAll) mode = false
 taken rules (offerKey number) mode = eqb mode 3
 taken rules restart mode = eqb mode 3 || (eqb rules later && eqb mode 2)
+taken rules (change (writeProperty object id n s)) mode = eqb mode 2 || eqb mode 3
 taken rules (other (address new)) mode = eqb mode 1
 taken rules (other (addressFor serial new)) mode = eqb mode 1
 taken rules (other (group flag v)) mode = eqb mode 0
+taken rules (change restoreAll) mode = false
 taken rules nothing mode = false
