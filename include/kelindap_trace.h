@@ -75,8 +75,8 @@ kelindap_played kelindap_play(kelindap_sessions *sessions, uint8_t *sheet, size_
                               uint8_t *log, size_t log_length);
 
 /*
- * Playing with marks: sessions, sheet and log become what kelindap_play makes of them, and beside it `marks` tells who changed
- * what. It has a number for each byte of the sheet, and behind them one for the level of each connection: marks_length counts
+ * Playing with marks: sessions, sheet and log become what kelindap_play makes of them, and beside it `marks` tells which event
+ * changed what. It has a number for each byte of the sheet, and behind them one for the level of each connection: marks_length counts
  * these numbers, and is sheet_length + KELINDAP_CONNECTIONS. All are 0 at first. After the call
  *  - marks[p] is the number of the last event after which byte p of the sheet was another than before it; it is as it was if
  *    no event of the call was such, and so 0 if none ever was;
