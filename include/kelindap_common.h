@@ -65,7 +65,7 @@ enum kelindap_outcome {
  * WHETHER A CALL SUCCEEDED, the one way to ask: of the byte that a call gives back, or of the outcome or refusal in the record
  * that it gives back; of a served frame, of its number and of its outcome. What is not 0 or 1 is a refusal, and has changed
  * neither sessions, link, sheet nor store. Three numbers are no outcomes: what kelindap_check gives is a rule, and 1 is the
- * first, so it is held to KELINDAP_ACCEPTED; what kelindap_slot_newer gives is a slot; the number of a version is one.
+ * first, so it is held to KELINDAP_ACCEPTED; what kelindap_slot_newer gives is a slot; the number of a version is just that.
  */
 static inline bool kelindap_carried_out(uint8_t outcome)
 {
