@@ -10,8 +10,8 @@
  * kelindap_unit.h has the same calls with sheet and sessions in one record, and arguments that can't be exchanged; the order of
  * arguments here, and how to ask whether a call succeeded, kelindap_common.h tells once for all headers.
  *
- * LINKING. With libkelindap_device.a, by pkg-config the package kelindap. Today it needs memcpy and memset from outside and
- * nothing else. A freestanding host should provide memcpy, memset, memmove and memcmp: compiled code may call any of the four.
+ * LINKING. With libkelindap_device.a, by pkg-config the package kelindap. On x86-64 it needs memcpy and memset from outside
+ * today, and nothing else. A freestanding host should provide memcpy, memset, memmove and memcmp: compiled code may call any.
  * For which processors there are archives docs/PROCESSORS.md says; nothing here depends on one. README.md, the folders docs and examples,
  * two sample sheets and a page that shows the device in a browser are installed beside the headers, in share/doc/kelindap.
  *
@@ -49,7 +49,7 @@
  *  - the mode says how the frame came. The library sees no address of the frame but the group address: in modes 2 and 3 the
  *    host hands over only what is sent to this device, in mode 3 only what comes from the partner that has the number. In the
  *    other modes the number is not read. A host that has the frames themselves leaves numbers, addresses and modes to the calls
- *    of kelindap_link.h, which keep these duties, proved;
+ *    of kelindap_link.h, which keep these duties by the addresses in the frames, proved;
  *  - when a connection opens or ends, transport's time limits included, the host calls connect or disconnect with its number.
  *
  * Restart
@@ -67,15 +67,16 @@
  *    (kelindap_trace.h). After such a call the host saves, and then acknowledges or answers: what a tool takes for done is kept;
  *  - a save leaves the old sheet or the new one, whole, whenever the power goes; and a start is from what was saved, never from
  *    memory that lay open to a call. kelindap_slots.h does it in flash, EEPROM, FRAM or battery-backed memory, by two slots: a host
- *    that keeps the duties of that header, and these, keeps all that is promised of a history through any number of power cuts,
- *    proved. With files, a new one is renamed over the old one (examples/host.c): the file system's word is then taken for it, and
- *    no proof speaks of it. kelindap_check judges the form of a sheet and is no check sum; a slot has one.
+ *    that keeps the duties of that header, and these, on a medium of which its one assumption is true, keeps all that is promised
+ *    of a history through any number of power cuts, proved. With files, a new one is renamed over the old one (examples/host.c):
+ *    the file system's word is then taken for it, and no proof speaks of it. kelindap_check judges the form of a sheet and is no
+ *    check sum; a slot has one.
  *
  * Wear
  *  - what is named as stored may be what stood there, and group values and programming mode ask for no level: any sender on the
  *    bus can have them stored as often as it likes. A host that saves each time lets it wear out the flash. So these may be
  *    saved late, at times of the host's own: kelindap_may_wait tells a part that is nothing else from all others, and
- *    kelindap_saving what is due of a reply (kelindap_wear.h). What a power cut then takes is a value that its sender sends
+ *    kelindap_saving what is due of a reply (kelindap_wear.h). What a power cut then takes is such a value, until it is sent
  *    again. Address, keys, memory, counts and bodies of properties may not wait. Memory and properties whose write level is 3
  *    are open to every sender too: a sheet that is kept in flash should have none of these.
  *

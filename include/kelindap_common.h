@@ -31,7 +31,7 @@ enum kelindap_outcome {
     KELINDAP_DONE = 1,           /* carried out, no answer is due */
     KELINDAP_NOT_FOR_US = 2,     /* not for this device: see kelindap.h */
     KELINDAP_NO_ROOM = 3,        /* the buffer to be filled has under 16 bytes */
-    KELINDAP_BAD_SHEET = 4,      /* the sheet breaks a rule */
+    KELINDAP_BAD_SHEET = 4,      /* the sheet breaks a rule; of a conversion, it is not old */
     KELINDAP_BAD_LENGTH = 5,     /* the APDU has not 2 to 16 bytes */
     KELINDAP_BAD_MODE = 6,       /* the mode is not 0 to 3 */
     KELINDAP_NOT_CONNECTED = 7,  /* the connection is closed, or there is none of that number */
@@ -62,9 +62,10 @@ enum kelindap_outcome {
 };
 
 /*
- * WHETHER A CALL SUCCEEDED, the one way to ask: of the byte that a call gives back, or of the outcome, refusal or number in the
- * record that it gives back. What is not 0 or 1 is a refusal, and has changed neither sessions, link, sheet nor store. Only the
- * check of a sheet gives no outcome but a rule, and 1 is the first rule: it is held to KELINDAP_ACCEPTED.
+ * WHETHER A CALL SUCCEEDED, the one way to ask: of the byte that a call gives back, or of the outcome or refusal in the record
+ * that it gives back; of a served frame, of its number and of its outcome. What is not 0 or 1 is a refusal, and has changed
+ * neither sessions, link, sheet nor store. Three numbers are no outcomes: what kelindap_check gives is a rule, and 1 is the
+ * first, so it is held to KELINDAP_ACCEPTED; what kelindap_slot_newer gives is a slot; the number of a version is just that.
  */
 static inline bool kelindap_carried_out(uint8_t outcome)
 {

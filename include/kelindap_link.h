@@ -39,8 +39,8 @@
  * What holds, if the host keeps these duties and begins with an accepted sheet and closed sessions: a frame changes no byte whose
  * write level is at most l, which is 0, 1 or 2, unless its sender, by the address in it, has offered in a frame of its own what
  * was then a key of a level up to l, whatever others have offered (without-key in docs/PROMISES.md). And against forged addresses,
- * since it counts every sender: as long as no frame that is heard as a request offers the key of a level up to l, no such byte
- * changes at all (keyless-heard).
+ * since it counts every sender: as long as no frame that is heard as a request offers a key of a level up to l, as the first
+ * sheet has it, no such byte changes at all (keyless-heard).
  *
  * Stack: serving takes more than the request in it, since the answer's buffer and the parts that were stored come on top; the
  * table "Stack" of docs/SPEED.md has both for each processor.
@@ -85,7 +85,7 @@ enum {
  * who sent it; else KELINDAP_LINK_NOBODY, 255, which is never an index. group: the destination of data, else 0.
  * Of every frame that reads, whatever it is to this device: source, the address that sent it; sequence, the low four bits of
  * transport's six, which are the sequence number of connected data and of an acknowledgement, and 0 of a connect, a disconnect
- * and data without connection; negative, of an acknowledgement, that it is T_NAK. Of 40 to 43 all three are 0.
+ * and data without connection; negative, that octet 6 is that of T_NAK, which counts of 45 alone. Of 40 to 43 all three are 0.
  */
 typedef struct kelindap_arrival {
     uint8_t event;

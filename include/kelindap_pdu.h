@@ -1,8 +1,8 @@
 /*
  * The reader and writer of the PDUs, for the commissioning tool.
  *
- * Link with libkelindap_pdu.a. Today it needs nothing from outside. A freestanding host should provide memcpy, memset,
- * memmove and memcmp: compiled code may call any of the four.
+ * Link with libkelindap_pdu.a. On x86-64 it needs nothing from outside today. A freestanding host should provide memcpy,
+ * memset, memmove and memcmp: compiled code may call any of the four.
  *
  * An APDU is the part of a frame from octet 6 on: 2 to 16 bytes, of which the first, b0, is octet 6. The six high bits of b0
  * are transport's: ignored on reading, 0 on writing, so that the tool's transport sets them when it sends.

@@ -1,8 +1,9 @@
 /*
  * The plain engine: a second engine for requests, written to be read. It takes the sheet apart into records, applies the rules
  * to them by straight search, and writes the sheet again. Outcome, count and what it leaves are those of kelindap_request,
- * for every sheet, sessions and request: that is proved. It does not tell which parts of the sheet were stored. It takes ten to
- * forty times as long, and up to half a megabyte of stack (docs/SPEED.md): it is for a desk, not for a controller.
+ * for every sheet, sessions and request: that is proved. It does not tell which parts of the sheet were stored. Where it was
+ * measured it takes ten to forty times as long, and a quarter of a megabyte of stack, of which the tests let it have half a
+ * megabyte (docs/SPEED.md): it is for a desk, not for a controller.
  *
  * Link with libkelindap_plain.a, by pkg-config the package kelindap-plain; the other calls of kelindap.h, and the host's duties,
  * are those of kelindap.h.

@@ -12,21 +12,21 @@
  *  3. To save, call kelindap_slot_work for piece 0, 1, 2 and so on, and carry out each before the next, until none is left.
  *     Then acknowledge, and answer. The next save goes to kelindap_slot_next of the goal.
  *
- * What is promised, for a host that keeps the duties below (docs/PROMISES.md):
+ * What is promised, for a host that keeps the duties below, the assumption among them (docs/PROMISES.md):
  *  - after any number of saves, and of power cuts at any moment of them, a unit starts with a sheet that was saved, whole: after
  *    a save that was finished with the new one; after one that was cut with the new one exactly if the mark was set, else with
- *    the one before. Never with a part of one, never with none;
+ *    the one before. Never with a part of one, and with none only until the mark of its first save is set;
  *  - so a life with power cuts is a history like any other, in which the event under way at a cut happened wholly or not at all,
  *    and both connections were then disconnected. Every event that was saved before it was answered is in it; events that were to
- *    be saved later are lost together, from the last save on, never some in the middle. All that is proved of histories holds:
- *    demand 3, what needs a key, what is not learned, the accounts.
+ *    be saved later are lost together, from the last save on, never some in the middle. All that is proved of histories holds,
+ *    from an accepted sheet in the slots on: demand 3, what needs a key, what is not learned, the accounts.
  *
  * A SLOT has room for 64 bytes and the longest sheet. Numbers have their highest byte first.
  *
  *   0   6   the mark, KELIND in ASCII: no byte of it is 0 or FFh
  *   6  26   not read: the mark has 32 bytes to itself, for flash that writes up to 32 at once and none of them twice
  *  32   4   check sum: CRC-32 (ISO/IEC 3309, as in Ethernet and zlib) of all from byte 36 to the end of the sheet
- *  36   4   number, which rises by 1 with every save and goes from FFFFFFFFh to 0
+ *  36   4   number: that of the newer sheet and 1; after FFFFFFFFh comes 0
  *  40   4   length of the sheet
  *  44  20   0
  *  64       the sheet

@@ -85,7 +85,7 @@ uint8_t kelindap_restore(kelindap_sessions sessions, uint8_t connection,
 
 /*
  * The version with a number removed: 30, 34, tested in this order, or 1; then its room is free again and zero, the others are
- * as they were, and its number is never given again. No sheet is looked at.
+ * as they were, and this store never gives its number again. No sheet is looked at.
  */
 uint8_t kelindap_remove(uint8_t *store, size_t store_length, size_t number);
 

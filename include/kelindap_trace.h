@@ -75,8 +75,8 @@ kelindap_played kelindap_play(kelindap_sessions *sessions, uint8_t *sheet, size_
                               uint8_t *log, size_t log_length);
 
 /*
- * Playing with marks: sessions, sheet and log become what kelindap_play makes of them, and beside it `marks` tells who changed
- * what. It has a number for each byte of the sheet, and behind them one for the level of each connection: marks_length counts
+ * Playing with marks: sessions, sheet and log become what kelindap_play makes of them, and beside it `marks` tells which event
+ * changed what. It has a number for each byte of the sheet, and behind them one for the level of each connection: marks_length counts
  * these numbers, and is sheet_length + KELINDAP_CONNECTIONS. All are 0 at first. After the call
  *  - marks[p] is the number of the last event after which byte p of the sheet was another than before it; it is as it was if
  *    no event of the call was such, and so 0 if none ever was;
@@ -86,12 +86,13 @@ kelindap_played kelindap_play(kelindap_sessions *sessions, uint8_t *sheet, size_
  * `before` is room for a copy of the sheet, and as long; what it holds counts for nothing, and afterwards it is the sheet.
  * What is refused leaves marks and before as found too.
  *
- * What a mark proves, from an accepted sheet and marks of 0: where a byte of a region, of a property's body or count, or of a
- * key stands, the event was a permitted write that named it, at a level that suffices, and gave it what it holds. The flags
- * (byte 14), the address (bytes 16 and 17) and the group values have an event and no right: the button, programming mode or
- * the group address was enough. A level below 3 is marked with the event that offered the key of that level, and with 0 only
- * if the sessions had it at first. To know level and offer of each event, play one at a time (limit 1): before a request in
- * mode 3 they stand in the session and in the mark of its connection; in other modes the level is 3.
+ * What a mark proves, from an accepted sheet and marks of 0, if nothing else changes sheet, sessions and marks between the calls
+ * and `played` goes on: where a byte of a region, of a property's body or count, or of a key stands, the event was a permitted
+ * write that named it, at a level that suffices, and gave it what it holds. The flags (byte 14), the address (bytes 16 and 17)
+ * and the group values have an event and no right: the button, a restart, programming mode, the serial number or the group
+ * address was enough. A level below 3 is marked with the event that offered the key of that level, and with 0 only if the
+ * sessions had it at first. To know level and offer of each event, play one at a time (limit 1): before a request in mode 3 they
+ * stand in the session and in the mark of its connection; in other modes the level is 3.
  *
  * A mark also tells whether a write gave a byte another value or the one that stood there, of bytes that nobody may read too:
  * it is guarded as the sheet is.

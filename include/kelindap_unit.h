@@ -1,8 +1,8 @@
 /*
  * A device in one record, sheet and link together, with the calls of kelindap.h, kelindap_link.h, kelindap_store.h and
  * kelindap_trace.h in a form in which no two arguments can be exchanged. The duties in those headers stand; every call here is
- * one call there and decides nothing. A host takes requests or frames: one that takes frames never calls
- * kelindap_unit_connect, and kelindap_unit_disconnect for time-outs alone.
+ * at most one call there and decides nothing: plain C, tested and not proved. A host takes requests or frames: one that takes
+ * frames never calls kelindap_unit_connect, and kelindap_unit_disconnect for time-outs alone.
  *
  * In C an enum takes any number: what C++ refuses by itself, gcc and clang refuse in C with -Wextra -Werror.
  */

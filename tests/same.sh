@@ -75,6 +75,16 @@ done < "$work/explained"
 [ "$(wc -w < README.md)" -le 1200 ] || { echo "same: README has $(wc -w < README.md) words, above 1,200"; bad=1; }
 LC_ALL=C awk 'length > 600 { print "same: " FILENAME ":" FNR " has " length " bytes, above 600"; bad = 1 } END { exit bad }' README.md docs/*.md || bad=1
 
+# what links into the glossary finds its entry there, each entry can be linked, and whoever begins with a guide is led there
+for at in $(grep -ohE 'GLOSSARY\.md#[^)]*' README.md docs/*.md | sed 's/.*#//' | sort -u); do
+    grep -qF "<a id=\"$at\"></a>" docs/GLOSSARY.md || { echo "same: the glossary has no entry $at: $(grep -lF "GLOSSARY.md#$at)" README.md docs/*.md | tr '\n' ' ')"; bad=1; }
+done
+same "docs/GLOSSARY.md, twice" "" "$(grep -oE '<a id="[^"]*"' docs/GLOSSARY.md | sort | uniq -d)"
+same "docs/GLOSSARY.md, without a place" "" "$(awk '/^\| / && !/^\| Word / && !/^\| <a id="/' docs/GLOSSARY.md)"
+for guide in README.md docs/{LINKING,WHAT-HAPPENED,READING,CHANGING,RULES,PROMISES,SECURITY,FORMATS,SHEET,TRACE,STORE,SLOTS,BUS,TOOL}.md; do
+    grep -q 'GLOSSARY\.md#' "$guide" || { echo "same: $guide does not lead to the glossary"; bad=1; }
+done
+
 # docs/UNIT.md has the kinds of kelindap_names.h
 names() { sed -n "/define KELINDAP_$1/,/^\$/s/.*\"\(.*\)\".*/\1/p" include/kelindap_names.h | sort; }
 same docs/UNIT.md "$(names KINDS)" "$(sed -n '/^## Kinds/,$p' docs/UNIT.md | awk -F '|' '/^\| `/ { print $2 }' | grep -o '[a-z_]*' | sort)"

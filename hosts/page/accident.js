@@ -1,4 +1,4 @@
-// The page's own example: a tank that ran dry (docs/TRACE.md). Two dumps, and a recording of the morning between them.
+// The page's own example: a tank that overran (docs/TRACE.md). Two dumps, and a recording of the morning between them.
 
 /** @param {Proved} proved @returns {{ before: WhatIs, after: WhatIs, recording: WhatIs }} */
 function accidentFiles(proved) {
@@ -18,7 +18,7 @@ function accidentStory(proved, compare, look) {
     const who = event => `At ${clock(event.time)} the device ${event.from}`;
     return el("section", { class: "card story", "aria-label": "The accident" },
         el("h3", {}, "The accident"),
-        el("p", {}, `A tank ran dry. Its controller had been handed over with the probe's height at ${place.first}; read out afterwards it had ${other.dump}. Nobody but the service technician had the key.`),
+        el("p", {}, `A tank overran. Its controller had been handed over with the probe's height at ${place.first}; read out afterwards it had ${other.dump}. Nobody but the service technician had the key.`),
         el("p", {}, "What differs between the two dumps:"),
         el("ul", { class: "lines" }, ...differences(before.bytes, after.bytes).map(line => el("li", {}, line))),
         el("p", {}, `The hall's USB interface had recorded that morning: ${counted(made.frames, "frame")}, of which ${counted(told.events.length, "is an event", "are events")} for this controller. The height over these events:`),

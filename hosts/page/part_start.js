@@ -14,7 +14,7 @@ class StartPart {
                 card("One dump", "What is in it? Is the height right? Does it keep the rules?", chooser(app, "Choose the dump", null)),
                 card("Two dumps", "What differs between them?", chooser(app, "Choose both", null)),
                 card("A dump and a recording", "Who changed it, when, and with what right? A dump from before, one from after if you have it, and what was recorded on the bus between them.", chooser(app, "Choose them together", null)),
-                card("Nothing", "See how it works: a tank has run dry, and somebody must have changed the height.", this.example)),
+                card("Nothing", "See how it works: a tank has overrun, and somebody must have changed the height.", this.example)),
             paster(app, null), this.story,
             el("h3", {}, "What the words mean"),
             el("dl", { class: "terms" }, ...(/** @type {const} */ ([["Sheet", "sheet"], ["Dump", "dump"], ["Recording", "recording"], ["Trace", "trace"], ["Level", "level"]])).map(([word, name]) => el("div", {}, el("dt", {}, word), el("dd", {}, MEANS[name])))));

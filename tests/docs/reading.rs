@@ -55,12 +55,12 @@ const PARTS: &[Part] = &[
     },
     Part {
         title: "`keyless`",
-        says: "without the key nobody changes a protected byte",
+        says: "while nobody offers the key, from closed sessions, no protected byte changes",
         statements: &["history/shut", "keyless", "keyless-calls", "locked"],
     },
     Part {
         title: "`accounts`",
-        says: "who changed each byte, and by what right; who gave each level",
+        says: "which event changed each byte, and by what right; which gave each level",
         statements: &["accounts-calls", "play-accounts"],
     },
     Part {
@@ -85,7 +85,7 @@ const PARTS: &[Part] = &[
     },
     Part {
         title: "`unlearned`",
-        says: "without the key nobody learns a protected byte",
+        says: "nobody learns a body byte that no open connection may read",
         statements: &["unlearned-calls", "unlearned-next", "unlearned-parts", "keyless-blind"],
     },
     Part {
@@ -95,7 +95,7 @@ const PARTS: &[Part] = &[
     },
     Part {
         title: "`unlearned-frames`",
-        says: "without the key nobody learns a protected byte by frames, of whatever is sent or told",
+        says: "nobody learns a body byte that no open connection may read by frames, of whatever is sent or told",
         statements: &["link/unlearned-frames", "link/unlearned-served", "link/unheard-blind"],
     },
     Part {
@@ -177,17 +177,17 @@ const PARTS: &[Part] = &[
     Part { title: "Demand 3 through power cuts", says: "what any life leaves", statements: &["lives-keep"] },
     Part {
         title: "Without the key, through power cuts",
-        says: "without the key nobody changes a protected byte in any life; by frames, whoever has offered none since the last start",
+        says: "while nobody offers the key no protected byte changes in any life; by frames, by whoever has offered none since the last start",
         statements: &["lives-keyless", "lives-by-right", "lives-without-key"],
     },
     Part {
         title: "The accounts through power cuts",
-        says: "who changed each byte in any life, and by what right",
+        says: "which event changed each byte in any life, and by what right",
         statements: &["lives-accounts"],
     },
     Part {
         title: "Nothing learned, through power cuts",
-        says: "without the key nobody learns a protected byte in any life",
+        says: "nobody learns a body byte that no open connection may read in any life",
         statements: &["lives-unlearned"],
     },
     Part {

@@ -111,7 +111,7 @@ async function keys(b, url) {
     expect("a dump that is pasted is shown", await b.run(`[app.part, document.activeElement.id]`), ["sheet", "tab-sheet"]);
     await part("start");
     await press("Show me an example");
-    has("the story", await b.run(text("#start .story")), "A tank ran dry.");
+    has("the story", await b.run(text("#start .story")), "A tank overran.");
     await press("See what happened, event by event");
     expect("the focus goes along", await b.run(`document.activeElement.id`), "tab-trace");
     // the demonstration
