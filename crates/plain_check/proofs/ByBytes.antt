@@ -1,7 +1,7 @@
 -- The tests over the bytes of an entry say what its rows say, S6 to S8, and what those of its body say, S9.
 -- Assumes nothing.
 use Prim.Native.Nat.{ℕ, zero, suc, _+_, _-_, _≤_, _<_}
-use mathlib.Core.Path.{_≡_, refl, sym, ap, _∙_, subst⁻¹}
+use mathlib.Core.Path.{_≡_, refl, ap, _∙_, subst⁻¹}
 use mathlib.Core.Bool.{Bool}
 use mathlib.Core.List.{List}
 use mathlib.Core.Logic.{_⊎_, inl, inr}
@@ -15,7 +15,7 @@ use Rattle.sheet.specs.Region as region
 use Rattle.sheet.specs.Property as property
 use Rattle.sheet.specs.Group as group
 use Rattle.sheet.specs.Entries.{size, place, entry, floor, offsetOf, reached, sixBits}
-use Rattle.sheet.specs.Rules.{regionDemands, propertyDemands, groupDemands, entryDemands, bodyRows, bodyDemands}
+use Rattle.sheet.specs.Rules.{regionDemands, propertyDemands, groupDemands, entryDemands, bodyDemands}
 use Rattle.sheet.proofs.places.Standing.{field-at}
 use Rattle.plain_check.specs.Says.{Says}
 use Rattle.plain_check.specs.Tests.{Placed, RegionAt, PropertyAt, GroupAt, BodyAt, entryAt}

@@ -11,7 +11,7 @@ use native.Mathlib.Omega.{arith}
 use borrow.Author.Tests.{eq-eqb, ne-eqb}
 use Rattle.octets.specs.Bytes.{numAt, IsNum}
 use Rattle.octets.proofs.Numbers.{num-same}
-use Rattle.sheet.specs.Entries.{size, place}
+use Rattle.sheet.specs.Entries.{size, place, offsetOf, lengthOf}
 use Rattle.plain_check.specs.Tests.{Counted, Placed, entryAt, Starts, Long}
 
 -- a byte times a word
@@ -42,25 +42,25 @@ module _ (s : List ℕ) where
         record { is = rw (ne-eqb (numAt s 0 1) 2 (λ z. q (e-is ∙ z))); below = omega arith }
 
   -- where entry i stands, by kind
-  pub place-first : (k i : ℕ) → k ≡ 0 → i < 256 → Placed s k i (32 + 8 * i)
-  place-first k i q h =
-      subst⁻¹ (λ (j : ℕ). Placed s j i (32 + 8 * i)) q (record { is = refl; low = omega arith; grows = omega arith; high = omega arith })
+  module _ (k i : ℕ) (h : i < 256) where
+    pub place-first : k ≡ 0 → Placed s k i (32 + 8 * i)
+    place-first q = subst⁻¹ (λ (j : ℕ). Placed s j i (32 + 8 * i)) q (record { is = refl; low = omega arith; high = omega arith })
 
-  module _ (k i n a : ℕ) (h : i < 256) where
-    pub place-second : k ≡ 1 → Counted s 0 n → Placed s 0 n a → Placed s k i (a + 12 * i)
-    place-second q c p =
-        subst⁻¹ (λ (j : ℕ). Placed s j i (a + 12 * i)) q
-        (record { is = omega (arith, c .is, p .is); low = omega (arith, p .low); grows = omega (arith, p .grows, c .below); high = omega (arith, p .grows, c .below) })
+    module _ (a : ℕ) (ca : Counted s 0 a) where
+      pub place-second : k ≡ 1 → Placed s k i (32 + 8 * a + 12 * i)
+      place-second q =
+          subst⁻¹ (λ (j : ℕ). Placed s j i (32 + 8 * a + 12 * i)) q (record { is = omega (arith, ca .is); low = omega arith; high = omega (arith, ca .below) })
 
-    pub place-third : k ≡ 2 → Counted s 1 n → Placed s 1 n a → Placed s k i (a + 8 * i)
-    place-third q c p =
-        subst⁻¹ (λ (j : ℕ). Placed s j i (a + 8 * i)) q
-        (record { is = omega (arith, c .is, p .is); low = omega (arith, p .low); grows = omega (arith, p .grows, c .below); high = omega (arith, p .grows, c .below) })
+      module _ (b : ℕ) (cb : Counted s 1 b) where
+        pub place-third : k ≡ 2 → Placed s k i (32 + 8 * a + 12 * b + 8 * i)
+        place-third q =
+            subst⁻¹ (λ (j : ℕ). Placed s j i (32 + 8 * a + 12 * b + 8 * i)) q
+            (record { is = omega (arith, ca .is, cb .is); low = omega arith; high = omega (arith, ca .below, cb .below) })
 
-    pub place-fourth : k ≡ 3 → Counted s 2 n → Placed s 2 n a → Placed s k i (a + 8 * i)
-    place-fourth q c p =
-        subst⁻¹ (λ (j : ℕ). Placed s j i (a + 8 * i)) q
-        (record { is = omega (arith, c .is, p .is); low = omega (arith, p .low); grows = omega (arith, p .grows, c .below); high = omega (arith, p .grows, c .below) })
+        pub place-fourth : (c : ℕ) → Counted s 2 c → k ≡ 3 → Placed s k i (32 + 8 * a + 12 * b + 8 * c + 8 * i)
+        place-fourth c cc q =
+            subst⁻¹ (λ (j : ℕ). Placed s j i (32 + 8 * a + 12 * b + 8 * c + 8 * i)) q
+            (record { is = omega (arith, ca .is, cb .is, cc .is); low = omega arith; high = omega (arith, ca .below, cb .below, cc .below) })
 
   -- a number in the entry that stands at a place
   pub number-in : (k at j w : ℕ) → j + w ≤ size k → numAt (entryAt s k at) j w ≡ numAt s (at + j) w
@@ -73,7 +73,7 @@ module _ (s : List ℕ) where
     pub start-is : (o r : ℕ) → ((k ≡ 1) × (o ≡ 8)) ⊎ ((k ≡ 1 → ⊥) × (o ≡ 4)) → IsNum s (at + o) 2 65536 r → Starts s k at r
     start-is o r t n = record { is = go k low t; below = n .below }
       where
-        go : (k : ℕ) → k < 4 → ((k ≡ 1) × (o ≡ 8)) ⊎ ((k ≡ 1 → ⊥) × (o ≡ 4)) → r ≡ Rattle.sheet.specs.Entries.offsetOf k (entryAt s k at)
+        go : (k : ℕ) → k < 4 → ((k ≡ 1) × (o ≡ 8)) ⊎ ((k ≡ 1 → ⊥) × (o ≡ 4)) → r ≡ offsetOf k (entryAt s k at)
         go zero l (inl (q, e)) = absurd (omega arith)
         go zero l (inr (q, e)) = n .value ∙ ap (λ (x : ℕ). numAt s (at + x) 2) e ∙ sym (number-in 0 at 4 2 (omega arith))
         go (suc zero) l (inl (q, e)) = n .value ∙ ap (λ (x : ℕ). numAt s (at + x) 2) e ∙ sym (number-in 1 at 8 2 (omega arith))
@@ -87,7 +87,7 @@ module _ (s : List ℕ) where
     pub long-region : (r : ℕ) → (k ≡ 1 → ⊥) → (k ≡ 2 → ⊥) → IsNum s (at + 2) 2 65536 r → Long s k at r
     long-region r a b n = record { is = go k a b; below = omega (arith, n .below) }
       where
-        go : (k : ℕ) → (k ≡ 1 → ⊥) → (k ≡ 2 → ⊥) → r ≡ Rattle.sheet.specs.Entries.lengthOf k (entryAt s k at)
+        go : (k : ℕ) → (k ≡ 1 → ⊥) → (k ≡ 2 → ⊥) → r ≡ lengthOf k (entryAt s k at)
         go zero a b = n .value ∙ sym (number-in 0 at 2 2 (omega arith))
         go (suc zero) a b = absurd (a refl)
         go (suc (suc zero)) a b = absurd (b refl)

@@ -1,7 +1,7 @@
 -- The tests of each function, by what calls have given, say what it ensures.
 -- Assumes nothing.
 use Prim.Native.Nat.{ℕ, zero, suc, _+_, _-_, _/_, _%_, _≤_}
-use mathlib.Core.Path.{_≡_, refl, sym, ap, ap₂, _∙_, subst}
+use mathlib.Core.Path.{_≡_, refl, ap, ap₂, _∙_, subst}
 use mathlib.Core.Bool.{Bool, true, false, not, cond, _&&_, _||_}
 use mathlib.Core.List.{List}
 use mathlib.Core.Logic.{_⊎_, inl, inr}
@@ -75,8 +75,9 @@ module _ (s : List ℕ) where
         (levels-read v r (at + 6) vi h))
         (equal z 0 _ _ (zi .value) refl)
 
-    pub property-tested : (b p w t c d m n v z : ℕ) (r : Bool) → IsNum s (at + 1) 1 256 b → IsNum s (at - 12) 2 65536 p → IsNum s at 2 65536 w → IsNum s (at + 2) 1 256 t
-        → IsNum s (at + 3) 1 256 c → IsNum s (at + 3) 1 256 d → IsNum s (at + 4) 2 65536 m → IsNum s (at + 6) 2 65536 n → IsNum s (at + 10) 1 256 v → Says (Levels v) r → IsNum s (at + 11) 1 256 z
+    pub property-tested : (b p w t c d m n v z : ℕ) (r : Bool) → IsNum s (at + 1) 1 256 b → IsNum s (at - 12) 2 65536 p → IsNum s at 2 65536 w
+        → IsNum s (at + 2) 1 256 t → IsNum s (at + 3) 1 256 c → IsNum s (at + 3) 1 256 d → IsNum s (at + 4) 2 65536 m → IsNum s (at + 6) 2 65536 n
+        → IsNum s (at + 10) 1 256 v → Says (Levels v) r → IsNum s (at + 11) 1 256 z
         → Says (PropertyAt s at i) (leb 1 b && (eqb i 0 || ltb p w) && eqb (t / 64 % 2) 0 && leb 1 c && leb d 10 && leb 1 m && leb m 4095 && leb n m && r && eqb z 0)
     property-tested b p w t c d m n v z r bi pi wi ti ci di mi ni vi h zi =
         both

@@ -1,6 +1,6 @@
 -- The walk over the entries and their bodies: what was found of those passed, and where the last body ended.
 -- Assumes nothing.
-use Prim.Native.Nat.{ℕ, zero, suc, _+_, _≤_, _<_}
+use Prim.Native.Nat.{ℕ, _+_, _≤_, _<_}
 use mathlib.Core.Path.{_≡_, refl, sym, ap, ap₂, _∙_, subst⁻¹}
 use mathlib.Core.Bool.{Bool, true, _&&_}
 use mathlib.Core.List.{List}
@@ -9,8 +9,9 @@ use lib.ListN.{length}
 use native.Mathlib.Decide.{decLt}
 use native.Mathlib.Numerals.{add-one}
 use native.Mathlib.Omega.{arith}
+use Rattle.octets.proofs.Truths.{never}
 use Rattle.sheet.specs.Demand.{Met}
-use Rattle.sheet.specs.Entries.{count, place, contents, entry, bodyEnd, startOf, reached}
+use Rattle.sheet.specs.Entries.{count, place, entry, bodyEnd, startOf, reached}
 use Rattle.sheet.specs.Rules.{entryDemands, bodyDemands}
 use Rattle.sheet.specs.Plain.{S6, S7, S8, S9}
 use Rattle.sheet.proofs.rules.PlainRows.{to6, from6, to7, from7, to8, from8, to9, from9}
@@ -49,7 +50,7 @@ module _ (s : List ℕ) where
   walk-begins n e c p =
       record {
         within = omega arith;
-        says = record { yes = λ q j i h l. absurd (omega arith); no = λ q. Rattle.octets.proofs.Truths.never (sym q) };
+        says = record { yes = λ q j i h l. absurd (omega arith); no = λ q. never (sym q) };
         ends = p .is ∙ ap (place s 3) (c .is);
       }
 

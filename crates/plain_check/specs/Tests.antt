@@ -1,6 +1,6 @@
 -- What the functions of this crate promise one another.
 -- Assumes nothing.
-use Prim.Native.Nat.{ℕ, _+_, _-_, _*_, _/_, _%_, _≤_, _<_}
+use Prim.Native.Nat.{ℕ, _+_, _-_, _/_, _%_, _≤_, _<_}
 use mathlib.Core.Path.{_≡_}
 use mathlib.Core.Logic.{_⊎_}
 use mathlib.Core.List.{List}
@@ -17,7 +17,6 @@ pub record Counted (s : List ℕ) (k r : ℕ) : Type 0 where
 pub record Placed (s : List ℕ) (k i r : ℕ) : Type 0 where
   pub is : r ≡ place s k i
   pub low : 32 ≤ r
-  pub grows : r ≤ 32 + 3060 * k + 12 * i
   pub high : r < 13000
 
 -- the entry of kind k that stands at `at`; r is where its body starts, and how long that is

@@ -1,6 +1,6 @@
 // S9, of the bodies; and S6 to S9 over all entries.
 ghost use mathlib.Core.Path.{_≡_};
-ghost use Prim.Native.Nat.{_≤_, _<_, max};
+ghost use Prim.Native.Nat.{_<_, max};
 ghost use Rattle.sheet.specs.Plain.{S6, S7, S8, S9};
 ghost use Rattle.plain_check.specs.Says.{Says};
 ghost use Rattle.plain_check.specs.Tests.{Starts, Long, BodyAt};
@@ -26,7 +26,7 @@ fn at_least_one(n: usize) -> usize
     if n < 1 { 1 } else { n }
 }
 
-// How long it is: a region's as the region; a property's has room for all elements; a group object's as the code says, one byte where that is 0.
+// How long it is: as long as its region; size times maximum of a property; as the code of a group object says, and 1 where that is 0.
 fn length(s: &[u8], kind: usize, at: usize) -> usize
     requires { ⌜ (kind < 4) × (at < 13000) ⌝ }
     ensures { λ r. ⌜ Long (now (s .entry)) kind at r ⌝ }
@@ -46,8 +46,8 @@ fn keeps_9(s: &[u8], kind: usize, at: usize, end: usize) -> bool
     (start(s, kind, at) == end) & ((kind != 2) | (1 <= byte(s, at + 2)) | (byte(s, end) < 64))
 }
 
-// S6 to S9: every entry keeps the rule of its kind, and its body S9; the first body starts where head and entries end, and the last ends with
-// the sheet.
+// S6 to S9: every entry keeps the rule of its kind, and its body S9. The first body starts where head and entries end; the last body, and
+// where there is none head and entries, ends the sheet.
 pub fn keeps_6_to_9(s: &[u8]) -> bool
     ensures { λ r. ⌜ Says (S6 (now (s .entry)) × S7 (now (s .entry)) × S8 (now (s .entry)) × S9 (now (s .entry))) r ⌝ }
 {

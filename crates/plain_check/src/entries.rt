@@ -1,4 +1,5 @@
-// S6 to S8, of one entry that stands at `at` and is number i of its kind.
+// S6 to S8, of entry i of a kind, which stands at `at`; the one before it stands as many bytes before as an entry has. Entry 0 has none before
+// it: what stands there, of the head or of another kind, is read for nothing.
 ghost use Prim.Native.Nat.{_≤_, _<_};
 ghost use Rattle.sheet.specs.Demand.{Met};
 ghost use Rattle.sheet.specs.Plain.{Levels};
@@ -8,15 +9,15 @@ ghost use Rattle.plain_check.specs.Tests.{Placed, RegionAt, PropertyAt, 
 use crate::places::word;
 use octets::byte;
 
-// The levels for reading, in the high four bits, and for writing are at most 3.
+// The level for reading, in the high four bits, and that for writing are at most 3.
 fn are_levels(levels: usize) -> bool
     ensures { λ r. ⌜ Says (Levels levels) r ⌝ }
 {
     (levels / 16 <= 3) & (levels % 16 <= 3)
 }
 
-// S6: a region has at least one byte and ends at 65,536 at most; it begins where the one before ends, or after; its levels are levels;
-// byte 7 is 0.
+// S6: a region, also one of the user's, has at least one byte, and none beyond address 65,535; it begins at the end of the one before or
+// above; its levels are levels; byte 7 is 0.
 fn is_region(s: &[u8], at: usize, i: usize) -> bool
     requires { ⌜ (32 ≤ at) × (at < 13000) ⌝ }
     ensures { λ r. ⌜ Says (RegionAt (now (s .entry)) at i) r ⌝ }
@@ -30,8 +31,8 @@ fn is_region(s: &[u8], at: usize, i: usize) -> bool
         & (byte(s, at + 7) == 0)
 }
 
-// S7: a property's id is not 0, object and id are above those of the one before; bit 6 of its type is 0; an element has 1 to 10 bytes; there is
-// room for 1 to 4,095 and at most so many are valid; its levels are levels; byte 11 is 0.
+// S7: a property's id is not 0; object and id, as one number, are above those of the one before; bit 6 of the type is 0; the size is 1 to
+// 10, the maximum 1 to 4,095, the count at most the maximum; its levels are levels; byte 11 is 0.
 fn is_property(s: &[u8], at: usize, i: usize) -> bool
     requires { ⌜ (32 ≤ at) × (at < 13000) ⌝ }
     ensures { λ r. ⌜ Says (PropertyAt (now (s .entry)) at i) r ⌝ }
@@ -49,7 +50,8 @@ fn is_property(s: &[u8], at: usize, i: usize) -> bool
         & (byte(s, at + 11) == 0)
 }
 
-// S8: a group object's address is not 0 and above that of the one before; its code is at most 14, its flags at most 7; bytes 6 and 7 are 0.
+// S8: a group object's address is not 0, and above that of the one before; the code is at most 14, the flags at most 7; bytes 6 and 7
+// are 0.
 fn is_group(s: &[u8], at: usize, i: usize) -> bool
     requires { ⌜ (32 ≤ at) × (at < 13000) ⌝ }
     ensures { λ r. ⌜ Says (GroupAt (now (s .entry)) at i) r ⌝ }

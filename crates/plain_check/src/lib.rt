@@ -1,5 +1,5 @@
-// The plain engine's own check of a sheet: S1 to S9 over the bytes. Every test is made, whatever another has said (`&` and `|` make
-// both of theirs), and past the end of a sheet every byte is 0: so no test rests on one that was made before it.
+// The plain engine's own check of a sheet, S1 to S9 over the bytes. No test rests on one made before: `&` and `|` make both of theirs, and
+// past the end of a sheet every byte is read as 0.
 mod bodies;
 mod entries;
 mod places;
@@ -35,15 +35,15 @@ fn keeps_3(s: &[u8]) -> bool
     (count(s, 0) <= 16) & (count(s, 1) <= 64) & (count(s, 2) <= 64) & (count(s, 3) <= 16)
 }
 
-// S4: it states its own length, in bytes 4 and 5, and is as long as head and entries at least.
+// S4: it states its own length, in bytes 4 and 5, and has room for head and entries.
 fn keeps_4(s: &[u8]) -> bool
     ensures { λ r. ⌜ Says (S4 (now (s .entry))) r ⌝ }
 {
     (word(s, 4) == s.len()) & (place(s, 3, count(s, 3)) <= s.len())
 }
 
-// S5: of the flags, byte 14, only bits 0 and 1 are set; byte 15 is the number of user regions, of which edition 1 has none; the rules,
-// byte 30, are 0, or 1 in edition 2; byte 31 is 0.
+// S5: the flags, byte 14, are at most 3; byte 15 is the number of user regions, of which edition 1 has none; the rules, byte 30, are 0, or
+// 1 in edition 2; byte 31 is 0.
 fn keeps_5(s: &[u8]) -> bool
     ensures { λ r. ⌜ Says (S5 (now (s .entry))) r ⌝ }
 {
@@ -53,7 +53,7 @@ fn keeps_5(s: &[u8]) -> bool
         & (byte(s, 31) == 0)
 }
 
-// What refuses a call on a sheet: 4 where it breaks a rule, 14 where it breaks none and is of edition 1, and else nothing, 0.
+// What a call on a sheet is refused by: 4 where it breaks a rule, 14 where it breaks none and is of edition 1; 0 where it is accepted.
 pub fn refusal(s: &[u8]) -> u8
     ensures { λ r. ⌜ r ≡ refusalOf (now (s .entry)) ⌝ }
 {

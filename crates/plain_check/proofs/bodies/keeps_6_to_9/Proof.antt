@@ -1,7 +1,6 @@
 -- `plain_check::bodies::keeps_6_to_9` meets its contract. The invariants: `kept` says whether every entry passed, and its body, is good, and `end` is
 -- where the last of these bodies ends. Assumes nothing.
 use Prim.Native.Nat.{_-_}
-use native.Mathlib.Omega.{arith}
 use borrow.Author.Needs.{needs}
 use Rattle.plain_check.proofs.Walking.{Walked, Passed, walk-begins, pass-begins, pass-goes, walk-goes, walk-ends}
 use Rattle.plain_check.proofs.bodies.keeps_6_to_9.Statement.{statement}

@@ -1,6 +1,5 @@
 -- `plain_check::bodies::start` meets its contract.
 -- Assumes nothing.
-use borrow.Author.Needs.{needs}
 use native.Mathlib.Omega.{arith}
 use mathlib.Core.Logic.{inl, inr, ⊎-elim}
 use Rattle.plain_check.proofs.Placing.{start-is}

@@ -1,6 +1,5 @@
 -- `plain_check::entries::are_levels` meets its contract.
 -- Assumes nothing.
-use borrow.Author.Needs.{needs}
 use Rattle.plain_check.proofs.Saying.{saying}
 use Rattle.plain_check.proofs.entries.are_levels.Statement.{statement}
 use Rattle.plain_check.proofs.entries.are_levels.Tie as tie

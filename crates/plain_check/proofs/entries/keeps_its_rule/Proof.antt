@@ -13,4 +13,6 @@ keeps-its-rule-spec =
     (λ c κs. search needs) (λ c κs. search needs) (λ c κs. search needs)
     (λ c. search property-kept)
     (λ c. search group-kept)
-    (λ c. region-kept _ _ _ _ _ (c .before .before .before .pre .1) (c .before .before .before .pre .0) (λ q. omega (arith, c .before .match .rest)) (λ q. omega (arith, c .before .match .rest)) (c .is-region .ensures)))
+    (λ c.
+    region-kept _ _ _ _ _ (c .before .before .before .pre .1) (c .before .before .before .pre .0) (λ q. omega (arith, c .before .match .rest))
+    (λ q. omega (arith, c .before .match .rest)) (c .is-region .ensures)))
