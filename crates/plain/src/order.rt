@@ -17,15 +17,14 @@ fn is_shut(session: Session, mode: u8) -> bool
     mode == 3 && !session.opened
 }
 
-// 3, 4 or 14, 5, 6 and 7, and 0 where none is due. Of 4 and 14 `sheet` decides: the rules S1 to S9 are not written a second time
-// (docs/DECISIONS.md).
+// 3, 4 or 14, 5, 6 and 7, and 0 where none is due.
 pub fn refused_first(room: usize, sheet: &[u8], apdu: &[u8], mode: u8, session: Session) -> u8
     ensures { λ r. ⌜ r ≡ firstOf room (refusalOf (now (sheet .entry))) (length (now (apdu .entry))) mode (isShut session mode) ⌝ }
 {
     if room < 16 {
         return 3;
     }
-    let refusal = sheet::refusal(sheet);
+    let refusal = plain_check::refusal(sheet);
     if refusal != 0 {
         return refusal;
     }

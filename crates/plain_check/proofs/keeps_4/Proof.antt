@@ -1,0 +1,13 @@
+-- `plain_check::keeps_4` meets its contract.
+-- Assumes nothing.
+use borrow.Author.Needs.{needs}
+use Rattle.plain_check.proofs.Tested.{fourth}
+use Rattle.plain_check.proofs.keeps_4.Statement.{statement}
+use Rattle.plain_check.proofs.keeps_4.Tie as tie
+
+pub keeps-4-spec : {M : Type 1} → statement M
+keeps-4-spec =
+    tie.close
+    (tie.spec
+    (λ c κs. search needs) (λ c κs. search needs) (λ c κs. search needs)
+    (λ c. search fourth))

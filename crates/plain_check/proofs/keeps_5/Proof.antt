@@ -1,0 +1,13 @@
+-- `plain_check::keeps_5` meets its contract.
+-- Assumes nothing.
+use borrow.Author.Needs.{needs}
+use Rattle.plain_check.proofs.Tested.{fifth}
+use Rattle.plain_check.proofs.keeps_5.Statement.{statement}
+use Rattle.plain_check.proofs.keeps_5.Tie as tie
+
+pub keeps-5-spec : {M : Type 1} → statement M
+keeps-5-spec =
+    tie.close
+    (tie.spec
+    (λ c κs. search needs) (λ c κs. search needs) (λ c κs. search needs) (λ c κs. search needs) (λ c κs. search needs) (λ c κs. search needs) (λ c κs. search needs)
+    (λ c. search fifth))

@@ -1,0 +1,9 @@
+-- A test and what it says.
+-- Assumes nothing.
+use mathlib.Core.Path.{_≡_}
+use mathlib.Core.Bool.{Bool, true, false}
+
+-- r says whether P holds
+pub record Says (P : Type 0) (r : Bool) : Type 0 where
+  pub yes : r ≡ true → P
+  pub no : r ≡ false → P → ⊥
