@@ -33,14 +33,11 @@ pub number-spec : {M : Type 1} → statement M
 number-spec =
     tie.close
     (tie.spec
-    Inv-loop
-    μ-loop
+    Inv-loop μ-loop
     (λ c. (omega arith, num-none _ _))
     mul-x
-    (λ c. omega arith)
-    (λ c κs. search needs)
+    (λ c. omega arith) (λ c κs. search needs)
     add-x
-    (λ c. omega arith)
-    (λ c. omega arith)
+    (λ c. omega arith) (λ c. omega arith)
     loop-again
     returns)
