@@ -16,13 +16,6 @@ Inv-loop dst₀ at n b j₀ dst j = (j ≤ n) × (dst ≡ paste dst₀ at (repli
 abbrev μ-loop : tie.MeasureT-loop
 μ-loop dst₀ at n b j₀ dst j = n - j
 
-loop-again : tie.Need-loop-again Inv-loop μ-loop
-loop-again c =
-    let i = c .before .loop .inv in
-    let a = c .before .before .args in
-    let l = length-replicate (a .n) (a .b) in
-    (omega arith, paste-more _ _ _ _ _ _ (omega arith) (omega arith) (getD-replicate (a .n) _ (a .b) 0 (omega arith)) (i .1), simp length-set (i .2))
-
 pub fill-spec : {M : Type 1} → statement M
 fill-spec =
     tie.close
@@ -30,7 +23,11 @@ fill-spec =
     Inv-loop μ-loop
     (λ c. let a = c .args in (omega arith, paste-zero (a .dst .now) (a .at) (replicate (a .n) (a .b)), refl))
     (λ c. omega arith) (λ c. omega arith) (λ c. omega arith) (λ c. omega arith)
-    loop-again
+    (λ c.
+    let i = c .before .loop .inv in
+    let a = c .before .before .args in
+    let l = length-replicate (a .n) (a .b) in
+    (omega arith, paste-more _ _ _ _ _ _ (omega arith) (omega arith) (getD-replicate (a .n) _ (a .b) 0 (omega arith)) (i .1), simp length-set (i .2)))
     (λ c. search needs)
     (λ c.
     let a = c .before .before .args in

@@ -16,11 +16,6 @@ Inv-loop dst₀ at src j₀ dst j = (j ≤ length src) × (dst ≡ paste dst₀ 
 abbrev μ-loop : tie.MeasureT-loop
 μ-loop dst₀ at src j₀ dst j = length src - j
 
-loop-again : tie.Need-loop-again Inv-loop μ-loop
-loop-again c =
-    let i = c .before .before .loop .inv in
-    (omega arith, paste-more _ _ _ _ _ _ (omega arith) (omega arith) refl (i .1), simp length-set (i .2))
-
 pub splice-spec : {M : Type 1} → statement M
 splice-spec =
     tie.close
@@ -28,6 +23,8 @@ splice-spec =
     Inv-loop μ-loop
     (λ c. let a = c .args in (omega arith, paste-zero (a .dst .now) (a .at) (a .src .now), refl))
     (λ c. omega arith) (λ c. omega arith) (λ c. omega arith) (λ c. omega arith) (λ c. omega arith)
-    loop-again
+    (λ c.
+    let i = c .before .before .loop .inv in
+    (omega arith, paste-more _ _ _ _ _ _ (omega arith) (omega arith) refl (i .1), simp length-set (i .2)))
     (λ c. search needs)
     (λ c. paste-all _ _ _ _ (c .before .loop .j) (c .before .loop .inv .1) (omega arith)))
