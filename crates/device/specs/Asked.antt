@@ -14,7 +14,10 @@ use Rattle.pdu.specs.Rules.{codeOf}
 use Rattle.pdu.specs.Read.{readPdu, dataOf}
 use Rattle.pdu.specs.Write.{encoded}
 use Rattle.pdu.specs.declared.Service.{Service}
-use Rattle.pdu.specs.declared.Service.the-variants.{GroupValueRead, GroupValueResponse, GroupValueWrite, IndividualAddressWrite, IndividualAddressRead, SerialNumberRead, SerialNumberWrite, DeviceDescriptorRead, PropertyValueRead, PropertyValueWrite, PropertyDescriptionRead, MemoryRead, MemoryWrite, MemoryBitWrite, AuthorizeRequest, KeyWrite, Restart, IndividualAddressResponse, SerialNumberResponse, DeviceDescriptorResponse, PropertyValueResponse, PropertyDescriptionResponse, MemoryResponse, AuthorizeResponse, KeyResponse, UserMemoryRead, UserMemoryResponse, UserMemoryWrite}
+use Rattle.pdu.specs.declared.Service.the-variants.{GroupValueRead, GroupValueResponse, GroupValueWrite, IndividualAddressWrite, IndividualAddressRead, SerialNumberRead, SerialNumberWrite}
+use Rattle.pdu.specs.declared.Service.the-variants.{DeviceDescriptorRead, PropertyValueRead, PropertyValueWrite, PropertyDescriptionRead, MemoryRead, MemoryWrite, MemoryBitWrite}
+use Rattle.pdu.specs.declared.Service.the-variants.{AuthorizeRequest, KeyWrite, Restart, IndividualAddressResponse, SerialNumberResponse, DeviceDescriptorResponse, PropertyValueResponse}
+use Rattle.pdu.specs.declared.Service.the-variants.{PropertyDescriptionResponse, MemoryResponse, AuthorizeResponse, KeyResponse, UserMemoryRead, UserMemoryResponse, UserMemoryWrite}
 use Rattle.pdu.specs.declared.Pdu.{Pdu}
 use Rattle.pdu.specs.declared.Parsed.the-variants.{Is}
 use Rattle.judge.specs.Session.{multicast, broadcast, connectionless, connected}

@@ -1,4 +1,6 @@
--- Laws that the crates above cite: of tests (Truths), choices by them (Walks), tests for all numbers below one (Everys) and what code has tested (Tests), of numbers (Numbers), of lists of bytes (Octet) and of runs of bytes (Splices); docs/READING.md names those that test a definition. Stores and Moves are behind the contracts.
+-- Laws that the crates above cite: of tests (Truths), choices by them (Walks), tests for all numbers below one (Everys) and what code has tested (Tests),
+-- of numbers (Numbers), of lists of bytes (Octet) and of runs of bytes (Splices); docs/READING.md names those that test a definition.
+-- Stores and Moves are behind the contracts.
 pub mod Truths
 pub mod Walks
 pub mod Everys

@@ -79,11 +79,13 @@ module _ (s : List ℕ) (o : ℕ) (ds : List ℕ) (h : o + length ds ≤ length 
 pub splice-more : (s : List ℕ) (o : ℕ) (xs ys : List ℕ) → o ≤ length s → splice (splice s o xs) (o + length xs) ys ≡ splice s o (xs ++ ys)
 unfolding splice
 splice-more s o xs ys h =
-    let e : length (take o s) ≡ o = length-take-le o s h in
-    let f : length (take o s ++ xs) ≡ o + length xs = simp (length-append, e) in
-    ap (λ (l : List ℕ). l ++ ys ++ drop (o + length xs + length ys) (take o s ++ xs ++ drop (o + length xs) s)) (take-at (take o s ++ xs) (drop (o + length xs) s) (o + length xs) f)
-    ∙ ap (λ (l : List ℕ). take o s ++ xs ++ ys ++ l) (ap (λ (n : ℕ). drop (n + length ys) (take o s ++ xs ++ drop (o + length xs) s)) (sym f) ∙ drop-append-add (take o s ++ xs) (drop (o + length xs) s) (length ys) ∙ drop-drop (length ys) (o + length xs) s)
-    ∙ simp (append-assoc, length-append, add-assoc)
+    let a : List ℕ = take o s ++ xs in
+    let m : ℕ = o + length xs in
+    let f : length a ≡ m = simp (length-append, length-take-le o s h) in
+    let g : drop (m + length ys) (a ++ drop m s) ≡ drop (m + length ys) s =
+    ap (λ (n : ℕ). drop (n + length ys) (a ++ drop m s)) (sym f) ∙ drop-append-add a (drop m s) (length ys) ∙ drop-drop (length ys) m s
+    in
+    rw (take-at a (drop m s) m f, g) (simp (append-assoc, length-append, add-assoc))
 
 -- a run from the first byte on
 pub splice-front : (s ds : List ℕ) → splice s 0 ds ≡ ds ++ drop (length ds) s

@@ -5,8 +5,9 @@ use mathlib.Core.Path.{_≡_, refl, ap, sym, _∙_}
 use mathlib.Core.List.{List, [], _∷_, _++_}
 use native.Mathlib.Nat.{add-zero}
 use native.Mathlib.Omega.{arith}
-use lib.ListN.{length, set}
-use lib.Seq.{sets, sets-eq, set-comm}
+use native.Mathlib.Numerals.{add-one}
+use lib.ListN.{length, set, getD}
+use lib.Seq.{sets, sets-eq, set-comm, paste, paste-suc, take-length}
 use Rattle.octets.specs.Bytes.{bytesOf}
 use Rattle.octets.specs.Splice.{splice}
 use Rattle.octets.proofs.Numbers.{length-bytes}
@@ -43,3 +44,13 @@ unfolding bytesOf splice
 put-end o o₀ at i y w x h fits inv =
     let e : i ≡ 0 = omega arith in
     rw e at inv ∙ sets-eq (bytesOf w x) o₀ at (omega (arith, length-bytes w x))
+
+-- A RUN PASTED IN from its first byte on: one byte more, and all of them
+module _ (s run : List ℕ) (at : ℕ) where
+  pub paste-more :
+      (d : List ℕ) (j b : ℕ) → at + length run ≤ length s → j < length run → getD run j 0 ≡ b → d ≡ paste s at run j → set d (at + j) b ≡ paste s at run (j + 1)
+  paste-more d j b h l e inv = rw (inv, ← e, add-one j) (paste-suc s at run j 0 (omega arith) l)
+
+  pub paste-all : (d : List ℕ) (j : ℕ) → d ≡ paste s at run j → j ≡ length run → d ≡ splice s at run
+  unfolding splice
+  paste-all d j inv e = inv ∙ ap (paste s at run) e ∙ simp take-length

@@ -48,16 +48,16 @@ kept-behind S b at w v l j h k =
 
 -- a number that stands there, and bytes of no meaning
 kept-number :
-    (S : ℕ → Type 0) (b : List ℕ) (at w v : ℕ) (l : List ℕ) →
-    Octets b → v ≡ numAt b at w → ((j : ℕ) → S j → at + w ≤ j) → ((j : ℕ) → Kept S b (at + w) l j) → (j : ℕ) → Kept S b at (bytesOf w v ++ l) j
-kept-number S b at w v l small e after k j = go (decLt j w)
+    (S : ℕ → Type 0) (b : List ℕ) (at w v : ℕ) (l r : List ℕ) →
+    Octets b → v ≡ numAt b at w → ((j : ℕ) → S j → at + w ≤ j) → ((j : ℕ) → Kept S b (at + w) (l ++ r) j) → (j : ℕ) → Kept S b at (bytesOf w v ++ l ++ r) j
+kept-number S b at w v l r small e after k j = rw (append-assoc (bytesOf w v) l r) (go (decLt j w))
   where
-    go : Dec (j < w) → Kept S b at (bytesOf w v ++ l) j
+    go : Dec (j < w) → Kept S b at (bytesOf w v ++ (l ++ r)) j
     go (yes h) = (
       λ s. absurd (let a = after (at + j) s in omega arith),
-      λ s. in-front w v l j h ∙ ap (λ (n : ℕ). getD (bytesOf w n) j 0) e ∙ bytes-back b at w small j h,
+      λ s. in-front w v (l ++ r) j h ∙ ap (λ (n : ℕ). getD (bytesOf w n) j 0) e ∙ bytes-back b at w small j h,
     )
-    go (no h) = kept-behind S b at w v l j h (k (j - w))
+    go (no h) = kept-behind S b at w v (l ++ r) j h (k (j - w))
 
 -- ignored bytes are written as zero
 ignored-zero : (w j : ℕ) → j < w → getD (bytesOf w ignored) j 0 ≡ 0
@@ -86,15 +86,12 @@ kept-items :
 kept-items [] x at b small s j = (λ h. absurd h, λ h. getD-drop at b j 0)
 kept-items (low f m ∷ is) x at b small s j = kept-items is x at b small (s .1) j
 kept-items (num f w ∷ is) x at b small s j =
-    rw (append-assoc (bytesOf w (the x f)) (itemBytes is x) (drop (endOf (at + w) is) b))
-    (kept-number (Skipped is (at + w)) b at w (the x f) (itemBytes is x ++ drop (endOf (at + w) is) b) small (s .0) (skipped-after is (at + w)) (kept-items is x (at + w) b small (s .1)) j)
+    kept-number (Skipped is (at + w)) b at w (the x f) (itemBytes is x) _ small (s .0) (skipped-after is (at + w)) (kept-items is x (at + w) b small (s .1)) j
 kept-items (cap f w m ∷ is) x at b small s j =
-    rw (append-assoc (bytesOf w (the x f)) (itemBytes is x) (drop (endOf (at + w) is) b))
-    (kept-number (Skipped is (at + w)) b at w (the x f) (itemBytes is x ++ drop (endOf (at + w) is) b) small (s .0) (skipped-after is (at + w)) (kept-items is x (at + w) b small (s .1)) j)
+    kept-number (Skipped is (at + w)) b at w (the x f) (itemBytes is x) _ small (s .0) (skipped-after is (at + w)) (kept-items is x (at + w) b small (s .1)) j
 kept-items (duo f g ∷ is) x at b small s j =
-    let v : ℕ = pairOf (the x f) (the x g) in
-    rw (append-assoc (bytesOf 2 v) (itemBytes is x) (drop (endOf (at + 2) is) b))
-    (kept-number (Skipped is (at + 2)) b at 2 v (itemBytes is x ++ drop (endOf (at + 2) is) b) small (ap₂ pairOf (s .0) (s .1) ∙ duo-kept b at) (skipped-after is (at + 2)) (kept-items is x (at + 2) b small (s .2)) j)
+    let v = ap₂ pairOf (s .0) (s .1) ∙ duo-kept b at in
+    kept-number (Skipped is (at + 2)) b at 2 _ (itemBytes is x) _ small v (skipped-after is (at + 2)) (kept-items is x (at + 2) b small (s .2)) j
 kept-items (skip w ∷ is) x at b small s j =
     rw (append-assoc (bytesOf w ignored) (itemBytes is x) (drop (endOf (at + w) is) b))
     (kept-skip (Skipped is (at + w)) b at w (itemBytes is x ++ drop (endOf (at + w) is) b) (kept-items is x (at + w) b small s) j)

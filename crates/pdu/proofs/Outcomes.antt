@@ -1,7 +1,7 @@
 -- When reading gives each of its numbers, and which PDU with 0.
 -- Assumes nothing.
 use Prim.Native.Nat.{ℕ, _≤_, _<_}
-use mathlib.Core.Path.{_≡_, refl, sym, ap, subst, subst₂, _∙_}
+use mathlib.Core.Path.{_≡_, refl, sym, ap, _∙_}
 use mathlib.Core.Logic.{_↔_, _⊎_, inl, inr, ⊎-elim}
 use mathlib.Core.Bool.{Bool, true, false, cond}
 use mathlib.Core.List.{List}
@@ -9,18 +9,18 @@ use native.Mathlib.Omega.{arith}
 use lib.Dec.{ltb}
 use lib.ListN.{length}
 use borrow.Author.Tests.{ltb-true, ltb-false, lt-ltb, le-ltb}
-use Rattle.pdu.specs.Item.{Value}
 use Rattle.pdu.specs.Table.{rowOf, has, serviceAt}
 use Rattle.pdu.specs.Pdus.{serviceOf, valuesOf, pduOf}
 use Rattle.pdu.specs.Rules.{codeOf, valuesAt, fits}
 use Rattle.pdu.specs.Read.{builtOf, readFound, readPdu, readOutcome}
 use Rattle.pdu.specs.Allows.{Allows, Carries}
 use Rattle.octets.specs.Octets.{Octets, ReadFrom}
-use Rattle.octets.proofs.Truths.{never, decided}
+use Rattle.octets.proofs.Truths.{never, decided, must-fail}
 use Rattle.pdu.proofs.Allowed.{fits-is, wide}
 use Rattle.pdu.proofs.Sound.{sound, again}
 use Rattle.pdu.proofs.Stands.{stands, stands-wide}
 use Rattle.pdu.proofs.Codes.{found, named, unknown}
+use Rattle.pdu.proofs.Readings.{reading}
 use Rattle.pdu.specs.declared.Service.{Service}
 use Rattle.pdu.specs.declared.Found.{Found}
 use Rattle.pdu.specs.declared.Found.the-variants.{Listed, Unknown}
@@ -52,7 +52,10 @@ data Due (b : List ℕ) : Type 0 where
 due : (b : List ℕ) → Due b
 due b =
     ⊎-elim (λ h. size (inl (ltb-true (length b) 2 h)))
-    (λ h. ⊎-elim (λ g. size (inr (ltb-true 16 (length b) g))) (λ g. by-code (record { least = ltb-false (length b) 2 h; most = ltb-false 16 (length b) g }) (serviceAt (codeOf b)) refl) (decided (ltb 16 (length b))))
+    (λ h.
+    ⊎-elim (λ g. size (inr (ltb-true 16 (length b) g)))
+    (λ g. by-code (record { least = ltb-false (length b) 2 h; most = ltb-false 16 (length b) g }) (serviceAt (codeOf b)) refl)
+    (decided (ltb 16 (length b))))
     (decided (ltb (length b) 2))
   where
     by-code : Sized b → (f : Found) → serviceAt (codeOf b) ≡ f → Due b
@@ -111,15 +114,19 @@ reads-8 b = (λ e. from (due b) (sym (told b) ∙ e), λ h. ap readOutcome (give
     from (one s k true h f) e = absurd (omega arith)
     from (one s k false h f) e = absurd (omega arith)
 
-told-10 :
-    (b : List ℕ) → Octets b →
-    (readOutcome (readPdu b) ≡ 10) ↔ ((2 ≤ length b) × (length b ≤ 16) × ((k : Service) × (has (rowOf k) (codeOf b) ≡ true) × (Allows (rowOf k) (valuesAt (rowOf k .items) 2 b) (length b) → ⊥)))
+abbrev Against : List ℕ → Type 0
+Against b =
+    (2 ≤ length b) × (length b ≤ 16) × ((k : Service) × (has (rowOf k) (codeOf b) ≡ true) × (Allows (rowOf k) (valuesAt (rowOf k .items) 2 b) (length b) → ⊥))
+
+told-10 : (b : List ℕ) → Octets b → (readOutcome (readPdu b) ≡ 10) ↔ Against b
 told-10 b small = (
   λ e. from (due b) (sym (told b) ∙ e),
-  λ h. ap readOutcome (gives b (one (record { least = h .0; most = h .1 }) (h .2 .0) false (h .2 .1) (⊎-elim (λ f. absurd (h .2 .2 (fits-at-is b (h .2 .0) small (h .1) .0 f))) (λ f. f) (decided (fitsAt (h .2 .0) b))))),
+  λ h. let k = h .2 .0 in
+      let no = must-fail (fitsAt k b) (λ f. h .2 .2 (fits-at-is b k small (h .1) .0 f)) in
+      ap readOutcome (gives b (one (record { least = h .0; most = h .1 }) k false (h .2 .1) no)),
 )
   where
-    from : (d : Due b) → readOutcome (given d) ≡ 10 → (2 ≤ length b) × (length b ≤ 16) × ((k : Service) × (has (rowOf k) (codeOf b) ≡ true) × (Allows (rowOf k) (valuesAt (rowOf k .items) 2 b) (length b) → ⊥))
+    from : (d : Due b) → readOutcome (given d) ≡ 10 → Against b
     from (size h) e = absurd (omega arith)
     from (none s h) e = absurd (omega arith)
     from (one s k true h f) e = absurd (omega arith)
@@ -137,28 +144,15 @@ carried b p c =
 
 -- and what reads as a PDU is its bytes
 pub read-carries : (b : List ℕ) (p : Pdu) → Octets b → readPdu b ≡ Is p → Carries b p
-read-carries b p small e = from (due b) (sym (told b) ∙ ap readOutcome e) e
-  where
-    built : (k : Service) → 2 ≤ length b → has (rowOf k) (codeOf b) ≡ true → Allows (rowOf k) (valuesAt (rowOf k .items) 2 b) (length b) → Carries b (builtOf k b)
-    built k l h a =
-        let x : List Value = valuesAt (rowOf k .items) 2 b in
-        let j : k ≡ serviceOf (builtOf k b) = sym (sound k .serves x) in
-        let y : x ≡ valuesOf (builtOf k b) = sym (sound k .values x ∙ sound k .distinct b) in
-        record {
-          least = l;
-          code = subst (λ (i : Service). has (rowOf i) (codeOf b) ≡ true) j h;
-          fields = subst (λ (i : Service). valuesOf (builtOf k b) ≡ valuesAt (rowOf i .items) 2 b) j (sym y);
-          allowed = subst₂ (λ (i : Service) (v : List Value). Allows (rowOf i) v (length b)) j y a;
-        }
-
-    from : (d : Due b) → readOutcome (given d) ≡ 0 → readPdu b ≡ Is p → Carries b p
-    from (size h) n e = absurd (omega arith)
-    from (none s h) n e = absurd (omega arith)
-    from (one s k true h f) n e =
-        let g : Is (builtOf k b) ≡ Is p = sym (gives b (one s k true h f)) ∙ e in
-        let q : builtOf k b ≡ p = cc in
-        subst (Carries b) q (built k (s .least) h (fits-at-is b k small (s .most) .0 f))
-    from (one s k false h f) n e = absurd (omega arith)
+read-carries b p small e =
+    let k : Service = serviceOf p in
+    let r = reading b p e in
+    record {
+      least = r .least;
+      code = named k (codeOf b) (r .names);
+      fields = r .fields;
+      allowed = rw (r .fields) (fits-at-is b k small (r .most) .0 (rw (r .fields) at (r .fit)));
+    }
 
 told-0 : (b : List ℕ) → Octets b → (readOutcome (readPdu b) ≡ 0) ↔ ((p : Pdu) × Carries b p)
 told-0 b small = (λ e. from (due b) (sym (told b) ∙ e), λ h. ap readOutcome (carried b (h .0) (h .1)))

@@ -11,7 +11,10 @@ use Rattle.pdu.specs.Read.{readPdu, readOutcome, dataOf}
 use Rattle.pdu.specs.Write.{encoded}
 use Rattle.pdu.specs.declared.Service.{Service}
 use Rattle.pdu.specs.declared.Pdu.{Pdu}
-use Rattle.pdu.specs.declared.Pdu.the-variants.{GroupValueRead, GroupValueResponse, GroupValueWrite, IndividualAddressWrite, IndividualAddressRead, SerialNumberRead, SerialNumberWrite, DeviceDescriptorRead, PropertyValueRead, PropertyValueWrite, PropertyDescriptionRead, MemoryRead, MemoryWrite, MemoryBitWrite, AuthorizeRequest, KeyWrite, Restart, IndividualAddressResponse, SerialNumberResponse, DeviceDescriptorResponse, PropertyValueResponse, PropertyDescriptionResponse, MemoryResponse, AuthorizeResponse, KeyResponse, UserMemoryRead, UserMemoryResponse, UserMemoryWrite}
+use Rattle.pdu.specs.declared.Pdu.the-variants.{GroupValueRead, GroupValueResponse, GroupValueWrite, IndividualAddressWrite, IndividualAddressRead, SerialNumberRead, SerialNumberWrite}
+use Rattle.pdu.specs.declared.Pdu.the-variants.{DeviceDescriptorRead, PropertyValueRead, PropertyValueWrite, PropertyDescriptionRead, MemoryRead, MemoryWrite, MemoryBitWrite}
+use Rattle.pdu.specs.declared.Pdu.the-variants.{AuthorizeRequest, KeyWrite, Restart, IndividualAddressResponse, SerialNumberResponse, DeviceDescriptorResponse, PropertyValueResponse}
+use Rattle.pdu.specs.declared.Pdu.the-variants.{PropertyDescriptionResponse, MemoryResponse, AuthorizeResponse, KeyResponse, UserMemoryRead, UserMemoryResponse, UserMemoryWrite}
 use Rattle.pdu.specs.declared.Parsed.{Parsed}
 use Rattle.pdu.specs.declared.Parsed.the-variants.{Is}
 
@@ -69,7 +72,8 @@ examples =
     -- the top six bits of the first byte, and bytes of no meaning
     loose (0xFE ∷ 0x04 ∷ 0x01 ∷ 0x00 ∷ []) (MemoryRead 4 0x0100) [] (0x02 ∷ 0x04 ∷ 0x01 ∷ 0x00 ∷ []) ∷
     loose (0x03 ∷ 0xD1 ∷ 0x55 ∷ 0x22 ∷ 0x22 ∷ 0x22 ∷ 0x22 ∷ []) (AuthorizeRequest 0x22222222) [] (0x03 ∷ 0xD1 ∷ 0x00 ∷ 0x22 ∷ 0x22 ∷ 0x22 ∷ 0x22 ∷ []) ∷
-    loose (0x03 ∷ 0xDE ∷ 0x00 ∷ 0xC5 ∷ 0x01 ∷ 0x02 ∷ 0x03 ∷ 0x04 ∷ 0x12 ∷ 0x07 ∷ 0xDE ∷ 0xAD ∷ 0xBE ∷ 0xEF ∷ []) (SerialNumberWrite 0x00C501020304 0x1207) [] (0x03 ∷ 0xDE ∷ 0x00 ∷ 0xC5 ∷ 0x01 ∷ 0x02 ∷ 0x03 ∷ 0x04 ∷ 0x12 ∷ 0x07 ∷ 0x00 ∷ 0x00 ∷ 0x00 ∷ 0x00 ∷ []) ∷
+    loose (0x03 ∷ 0xDE ∷ 0x00 ∷ 0xC5 ∷ 0x01 ∷ 0x02 ∷ 0x03 ∷ 0x04 ∷ 0x12 ∷ 0x07 ∷ 0xDE ∷ 0xAD ∷ 0xBE ∷ 0xEF ∷ []) (SerialNumberWrite 0x00C501020304 0x1207) []
+    (0x03 ∷ 0xDE ∷ 0x00 ∷ 0xC5 ∷ 0x01 ∷ 0x02 ∷ 0x03 ∷ 0x04 ∷ 0x12 ∷ 0x07 ∷ 0x00 ∷ 0x00 ∷ 0x00 ∷ 0x00 ∷ []) ∷
     loose (0x47 ∷ 0xD6 ∷ 0x01 ∷ 0x33 ∷ 0x10 ∷ 0x01 ∷ 0x03 ∷ 0xE8 ∷ []) (PropertyValueResponse 0x01 0x33 1 1) (0x03 ∷ 0xE8 ∷ []) (0x03 ∷ 0xD6 ∷ 0x01 ∷ 0x33 ∷ 0x10 ∷ 0x01 ∷ 0x03 ∷ 0xE8 ∷ []) ∷
     []
 

@@ -85,7 +85,8 @@ fn described(
     access: u8,
 )
     requires { ⌜ 16 ≤ length (now out) ⌝ }
-    ensures { λ _. ⌜ now (out .exit) ≡ splice (now (out .entry)) 0 (bytesOf 2 code ++ (bytesOf 1 object ++ (bytesOf 1 id ++ (bytesOf 1 index ++ (bytesOf 1 typ ++ (bytesOf 2 maximum ++ (bytesOf 1 access ++ []))))))) ⌝ }
+    ensures { λ _. ⌜ now (out .exit) ≡ splice (now (out .entry)) 0
+        (bytesOf 2 code ++ (bytesOf 1 object ++ (bytesOf 1 id ++ (bytesOf 1 index ++ (bytesOf 1 typ ++ (bytesOf 2 maximum ++ (bytesOf 1 access ++ []))))))) ⌝ }
 {
     asked(out, code, object, id, index);
     put(out, 5, 1, typ as u64);

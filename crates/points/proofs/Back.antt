@@ -106,8 +106,10 @@ in-bytes w n h = ap (λ (l : List ℕ). numAt l 0 w) (sym (append-nil (bytesOf w
 pub read-number : (d : Datapoint) → Typed d → refusalOf d ≡ 0 → pointAt (typeOf d) (numberOf d) ≡ readPoint (typeOf d) (pointBytes d)
 unfolding pointBytes
 read-number d t r =
-    read-is (typeOf d) (widthAt (typeOf d)) (numberOf d) (bytesOf (widthAt (typeOf d)) (numberOf d)) (pointAt (typeOf d) (numberOf d)) refl (some-width d) (length-bytes (widthAt (typeOf d)) (numberOf d))
-    (record { value = sym (in-bytes (widthAt (typeOf d)) (numberOf d) (number-small d t r)); below = number-small d t r }) refl
+    let w : ℕ = widthAt (typeOf d) in
+    let n : ℕ = numberOf d in
+    let h = number-small d t r in
+    read-is (typeOf d) w n (bytesOf w n) (pointAt (typeOf d) n) refl (some-width d) (length-bytes w n) (record { value = sym (in-bytes w n h); below = h }) refl
 
 finite-bits : (x : Float) → T (fits binary32 x) → finite x ≡ true → finiteBits (toBits binary32 x) ≡ true
 finite-bits x t f = go (finiteBits (toBits binary32 x)) refl

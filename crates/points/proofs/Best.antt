@@ -1,11 +1,13 @@
--- The first exponent at which a magnitude m rounds to a mantissa of at most `most` gives a result no further from m than any other, of two equally near ones the smaller, and but for one case the least exponent. One argument over exponent and mantissa, for both signs.
+-- The first exponent at which a magnitude m rounds to a mantissa of at most `most` gives a result no further from m than any other,
+-- of two equally near ones the smaller, and but for one case the least exponent. One argument over exponent and mantissa, for both signs.
 -- Assumes nothing.
 use mathlib.Core.Path.{_≡_, refl, sym, ap, _∙_, subst}
 use mathlib.Core.Logic.{_⊎_, inl, inr}
 use Prim.Native.Nat.{ℕ, zero, suc, _+_, _*_, _-_, _<_, _≤_, _^_, zero-le}
 use native.Mathlib.Omega.{arith}
 use native.Mathlib.Numerals.{add-one}
-use native.Mathlib.Nat.{mul-comm, pow-suc, le-of-suc-le-suc, le-antisymm, mul-left-comm, div-mul-le-self, lt-div-mul-add, mul-le-mul, mul-le-mul-right, suc-mul, mul-assoc, pow-le-pow-right, eq-or-lt-of-le}
+use native.Mathlib.Nat.{mul-comm, pow-suc, le-of-suc-le-suc, le-antisymm, mul-left-comm, div-mul-le-self, lt-div-mul-add}
+use native.Mathlib.Nat.{mul-le-mul, mul-le-mul-right, suc-mul, mul-assoc, pow-le-pow-right, eq-or-lt-of-le}
 use mathlib.Core.Bool.{Bool, true, false, cond}
 use lib.Dec.{leb}
 use lib.Pow.{pow-add, pow-pos}
@@ -123,7 +125,9 @@ module _ (m most l k : ℕ) (half : (2 * k ≡ most) ⊎ (2 * k ≡ most + 1)) (
 
       go : (c : Bool) → leb (2 * r) most ≡ c → 2 * r ≤ most
       go true f = leb-true (2 * r) most f
-      go false f = absurd (omega (arith, pow-pos e, twice-of r e, h, step (2 ^ e) (leb-false (2 * r) most f), mul-le-mul {n₁ = q} {m₁ = 2 ^ e′} {n₂ = most} {m₂ = 2 ^ e} w (pow-le-pow-right (omega arith) i)))
+      go false f =
+          let p = mul-le-mul {n₁ = q} {m₁ = 2 ^ e′} {n₂ = most} {m₂ = 2 ^ e} w (pow-le-pow-right (omega arith) i) in
+          absurd (omega (arith, pow-pos e, twice-of r e, h, step (2 ^ e) (leb-false (2 * r) most f), p))
 
   -- THE LEAST EXPONENT, but where the quotient is exactly half of `most`
   pub least : (e : ℕ) → Before e → (e′ q : ℕ) → q ≤ most → rounded m (2 ^ e) * 2 ^ e ≡ q * 2 ^ e′ → (e ≤ e′) ⊎ ((0 < e) × (2 * rounded m (2 ^ e) ≡ most))

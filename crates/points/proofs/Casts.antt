@@ -115,28 +115,37 @@ pub quotient-fits : (x : ℤ) (p : ℕ) → natAbs x ≤ 67108864 → p ≤ 3276
 quotient-fits (pos m) p h k = record { sfits = omega (arith, h, k, div-le-self (2 * m + p - 1) (2 * p)) }
 quotient-fits (negsuc n) p h k = record { sfits = minus-in (rounded (suc n) p) (omega (arith, h, k, div-le-self (2 * suc n + p - 1) (2 * p))) }
 
-pub divided-minus : (x : ℤ) (a p : ℕ) (v : ℤ) → SFits w32 x → ltZ (toZ w32 (ofZ w32 x)) (pos 0) ≡ true → natAbs x ≤ 67108864 → p ≤ 32768
-    → a ≡ natAbs x → v ≡ negℤ (pos (2 * a + p - 1)) → quotZ (toZ w32 (ofZ w32 v)) (toZ w32 (2 * p)) ≡ quotient x p
-divided-minus (pos m) a p v f t h k e w = absurd (not-minus m (sign-is f t))
-divided-minus (negsuc n) a p v f t h k e w =
-    ap (λ (y : ℤ). quotZ y (toZ w32 (2 * p))) (toZ-ofZ {w = w32} {z = v} (record { sfits = subst (λ (y : ℤ). mag y < 2 ^ 31) (sym v-is) (minus-in (2 * suc n + p - 1) (omega (arith, h, k))) }) ∙ v-is)
+-- q is the quotient, and fits the width that it is held in
+abbrev pub Divides : ℤ → ℕ → ℤ → Type 0
+Divides x p q = SFits w32 q × (toZ w32 (ofZ w32 q) ≡ quotient x p)
+
+divides : (x : ℤ) (p : ℕ) (q : ℤ) → natAbs x ≤ 67108864 → p ≤ 32768 → q ≡ quotient x p → Divides x p q
+divides x p q h k e = let f = subst (SFits w32) (sym e) (quotient-fits x p h k) in (f, toZ-ofZ f ∙ e)
+
+pub divided-minus : (x : ℤ) (a p d : ℕ) (v : ℤ) → SFits w32 x → ltZ (toZ w32 (ofZ w32 x)) (pos 0) ≡ true → natAbs x ≤ 67108864 → p ≤ 32768
+    → a ≡ natAbs x → d ≡ 2 * a + p - 1 → v ≡ negℤ (pos d) → Divides x p (quotZ (toZ w32 (ofZ w32 v)) (toZ w32 (2 * p)))
+divided-minus (pos m) a p d v f t h k e i w = absurd (not-minus m (sign-is f t))
+divided-minus (negsuc n) a p d v f t h k e i w =
+    divides (negsuc n) p _ h k
+    (ap (λ (y : ℤ). quotZ y (toZ w32 (2 * p))) (toZ-ofZ {w = w32} {z = v} (record { sfits = subst (λ (y : ℤ). mag y < 2 ^ 31) (sym v-is) (minus-in (2 * suc n + p - 1) (omega (arith, h, k))) }) ∙ v-is)
     ∙ ap (quotZ (negℤ (pos (2 * suc n + p - 1)))) (as-signed (omega (arith, k)))
-    ∙ go (2 * suc n + p - 1) (omega arith)
+    ∙ go (2 * suc n + p - 1) (omega arith))
   where
     v-is : v ≡ negℤ (pos (2 * suc n + p - 1))
-    v-is = w ∙ ap (λ (y : ℕ). negℤ (pos (2 * y + p - 1))) e
+    v-is = w ∙ ap (λ (y : ℕ). negℤ (pos y)) (i ∙ ap (λ (y : ℕ). 2 * y + p - 1) e)
 
     go : (t : ℕ) → 0 < t → quotZ (negℤ (pos t)) (pos (2 * p)) ≡ negℤ (pos (t / (2 * p)))
     go zero l = absurd (omega (arith, l))
     go (suc t) l = refl
 
-pub divided-plus : (x : ℤ) (a p : ℕ) → SFits w32 x → ltZ (toZ w32 (ofZ w32 x)) (pos 0) ≡ false → natAbs x ≤ 67108864 → p ≤ 32768
-    → a ≡ natAbs x → quotZ (toZ w32 (2 * a + p - 1)) (toZ w32 (2 * p)) ≡ quotient x p
-divided-plus (pos m) a p f t h k e =
-    ap (λ (y : ℕ). quotZ (toZ w32 (2 * y + p - 1)) (toZ w32 (2 * p))) e
+pub divided-plus : (x : ℤ) (a p d : ℕ) → SFits w32 x → ltZ (toZ w32 (ofZ w32 x)) (pos 0) ≡ false → natAbs x ≤ 67108864 → p ≤ 32768
+    → a ≡ natAbs x → d ≡ 2 * a + p - 1 → Divides x p (quotZ (toZ w32 d) (toZ w32 (2 * p)))
+divided-plus (pos m) a p d f t h k e i =
+    divides (pos m) p _ h k
+    (ap (λ (y : ℕ). quotZ (toZ w32 y) (toZ w32 (2 * p))) (i ∙ ap (λ (y : ℕ). 2 * y + p - 1) e)
     ∙ ap (λ (y : ℤ). quotZ y (toZ w32 (2 * p))) (as-signed (omega (arith, h, k)))
-    ∙ ap (quotZ (pos (2 * m + p - 1))) (as-signed (omega (arith, k)))
-divided-plus (negsuc n) a p f t h k e = absurd (not-plus n (sign-is f t))
+    ∙ ap (quotZ (pos (2 * m + p - 1))) (as-signed (omega (arith, k))))
+divided-plus (negsuc n) a p d f t h k e i = absurd (not-plus n (sign-is f t))
 
 -- a mantissa of −1,024, told by its bits
 half-yes : (m : ℤ) → SFits w32 m → ofZ w32 m ≡ 4294966272 → isHalf m ≡ true

@@ -119,7 +119,9 @@ module _ (m : ℕ) (h : m ≤ 67108864) (z : 0 < m) where
         where
           go : (c : Bool) → leb k e′ ≡ c → k ≤ e′
           go true f = leb-true k e′ f
-          go false f = absurd (omega (arith, s, mul-le-mul-right {m = q′} {n = 2048} (2 ^ e′) w, pow-pos e′, pow-suc 2 e′, pow-le-pow-right {n = 2} (omega arith) {i = suc e′} {j = k} (leb-false k e′ f)))
+          go false f =
+              let p = pow-le-pow-right {n = 2} (omega arith) {i = suc e′} {j = k} (leb-false k e′ f) in
+              absurd (omega (arith, s, mul-le-mul-right {m = q′} {n = 2048} (2 ^ e′) w, pow-pos e′, pow-suc 2 e′, p))
 
 -- a code by sign, exponent and mantissa
 abbrev pub code : Bool → ℕ → ℕ → ℕ
@@ -262,7 +264,8 @@ chosen (pos m) h =
     (chosen-by false m (exponentOf (pos m)) (rounded m (2 ^ exponentOf (pos m))) (good-plus m (range-plus m h)))
 chosen (negsuc n) h =
     let r : suc n ≤ 67108864 = range-minus n h in
-    minus-code (suc n) (exponentOf (negsuc n)) (rounded (suc n) (2 ^ exponentOf (negsuc n))) (minus-some (suc n) r (omega arith)) (good-minus (suc n) r (omega arith)) (good-step (suc n) r (omega arith))
+    let e : ℕ = exponentOf (negsuc n) in
+    minus-code (suc n) e (rounded (suc n) (2 ^ e)) (minus-some (suc n) r (omega arith)) (good-minus (suc n) r (omega arith)) (good-step (suc n) r (omega arith))
 
 -- its mantissa fits
 pub mantissa-fits : (x : ℤ) → inRange x ≡ true → natAbs (quotient x (2 ^ exponentOf x)) ≤ 2048

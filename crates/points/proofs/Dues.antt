@@ -18,7 +18,8 @@ use Rattle.octets.proofs.Walks.{by-lt, by-eq}
 use Rattle.octets.proofs.Truths.{first-true}
 use Rattle.points.specs.Nine.{res, inRange}
 use Rattle.points.specs.Point.{typeOf, widthAt, finite, finiteBits, pointAt, readPoint, readOutcome, refusalOf, writeOutcome, Put}
-use Rattle.points.specs.Due.{Wide, Invalid, Unbounded, ReadDue, noType, wrongLength, bitsAbove, invalid, unbounded, switch, byte, hundredths, float, OutOfRange, NotFinite, Sized, Writable, WriteDue, otherLength, outOfRange, notFinite, written}
+use Rattle.points.specs.Due.{Wide, Invalid, Unbounded, ReadDue, noType, wrongLength, bitsAbove, invalid, unbounded, switch, byte, hundredths}
+use Rattle.points.specs.Due.{float, OutOfRange, NotFinite, Sized, Writable, WriteDue, otherLength, outOfRange, notFinite, written}
 use Rattle.points.specs.declared.Datapoint.{Datapoint}
 use Rattle.points.specs.declared.Datapoint.the-variants.{Switch, Byte, Hundredths, Float as Single}
 use Rattle.points.specs.declared.Reading.{Reading}
@@ -114,11 +115,14 @@ module _ (t : ℕ) (b : List ℕ) (small : Octets b) where
       one-in 9 2 e (inr (inr (inl (e, refl)))) (Is (Hundredths (res (numAt b 0 2)))) l (simp (ne-eqb (numAt b 0 2) 32767 (λ m. u (clear-word b small m))))
   one-read n (unbounded e l u) =
       one-in 14 4 e (inr (inr (inr (e, refl)))) (Refused 24) l (simp (le-ltb (numAt b 0 4 / 8388608 % 256) 255 (set-bits b small u)))
-  one-read n (float e l u) = one-in 14 4 e (inr (inr (inr (e, refl)))) (Is (Single (ofBits binary32 (numAt b 0 4)))) l (by (ltb (numAt b 0 4 / 8388608 % 256) 255) (λ h. u (clear-bits b small (borrow.Author.Tests.ltb-false (numAt b 0 4 / 8388608 % 256) 255 h))))
+  one-read n (float e l u) =
+      let m : ℕ = numAt b 0 4 / 8388608 % 256 in
+      let h = must-hold (ltb m 255) (λ h. u (clear-bits b small (borrow.Author.Tests.ltb-false m 255 h))) in
+      one-in 14 4 e (inr (inr (inr (e, refl)))) (Is (Single (ofBits binary32 (numAt b 0 4)))) l (simp h)
     where
-      by : (q : Bool) → (q ≡ false → ⊥) → Is (Single (ofBits binary32 (numAt b 0 4))) ≡ cond q (Is (Single (ofBits binary32 (numAt b 0 4)))) (Refused 24)
-      by true f = refl
-      by false f = absurd (f refl)
+      must-hold : (q : Bool) → (q ≡ false → ⊥) → q ≡ true
+      must-hold true f = refl
+      must-hold false f = absurd (f refl)
 
 -- OF A CALL OF READING: its number is due, and no other is
 module _ (t : ℕ) (b : List ℕ) (r : Reading) (call : ReadFrom b r (readPoint t b)) where

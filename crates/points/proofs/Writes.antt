@@ -43,7 +43,9 @@ module _ (x : ℤ) (f : SFits w32 x) where
   refused-in : (b : Bool) → inRange (toZ w32 (ofZ w32 x)) ≡ b → refusalOf (Hundredths x) ≡ cond b 0 23
   refused-in b e = ap (λ (t : Bool). cond t 0 23) (ap inRange (sym (toZ-ofZ f)) ∙ e)
 
-pub numbered-in : (x : ℤ) (n : ℕ) → SFits w32 x → leZ (negsuc 67108863) (toZ w32 (ofZ w32 x)) ≡ true → leZ (toZ w32 (ofZ w32 x)) (pos 67043328) ≡ true → n ≡ codeOf (toZ w32 (ofZ w32 x)) → Numbered (Hundredths x) 0 n
+pub numbered-in :
+    (x : ℤ) (n : ℕ) → SFits w32 x → leZ (negsuc 67108863) (toZ w32 (ofZ w32 x)) ≡ true → leZ (toZ w32 (ofZ w32 x)) (pos 67043328) ≡ true →
+    n ≡ codeOf (toZ w32 (ofZ w32 x)) → Numbered (Hundredths x) 0 n
 numbered-in x n f e g h = record { why = sym (refused-in x f true (in-range (toZ w32 (ofZ w32 x)) e g)); is = λ _. h ∙ ap codeOf (toZ-ofZ f) }
 
 pub numbered-high : (x : ℤ) → SFits w32 x → leZ (toZ w32 (ofZ w32 x)) (pos 67043328) ≡ false → Numbered (Hundredths x) 23 0

@@ -25,7 +25,8 @@ pub record GroupWith (s : List ℕ) (address i : ℕ) : Type 0 where
   pub there : i < count s groups
   pub sameAddress : group.address of entry s groups i ≡ address
 
--- WHAT A LOOKUP HANDS BACK, and from where in the sheet, Asked saying which entry of kind k is asked for: the whole body of the one that is asked for; nothing where there is none, and nothing of a sheet that is not accepted
+-- WHAT A LOOKUP HANDS BACK, and from where in the sheet, Asked saying which entry of kind k is asked for:
+-- the whole body of the one that is asked for; nothing where there is none, and nothing of a sheet that is not accepted
 pub data Handed (s : List ℕ) (k : ℕ) (Asked : ℕ → Type 0) : List ℕ → ℕ → Type 0 where
   body : {b : List ℕ} (i : ℕ) → Accepted s → Asked i → ((j : ℕ) → Asked j → j ≡ i) → IsBody s k i b → Handed s k Asked b (bodyAt s k i)
   nothing : Accepted s → ((i : ℕ) → Asked i → ⊥) → Handed s k Asked [] 0

@@ -68,7 +68,8 @@ fn region_rule(floor: u32, e: &[u8]) -> u8
 // The same, and if it breaks nothing, S9 of its body.
 pub fn region_step(at: usize, floor: u32, z: u32, late: u32, e: &[u8]) -> Verdict
     requires { ⌜ (region.size ≤ length (now e)) × (at < far) × (z < far) ⌝ }
-    ensures { λ r. ⌜ VerdictOf (regionDemands floor (now (e .entry))) (floorAfter regions (now (e .entry))) late (offsetOf regions (now (e .entry))) z 0 (lengthOf regions (now (e .entry))) (at + region.size) r ⌝ }
+    ensures { λ r. ⌜ VerdictOf (regionDemands floor (now (e .entry))) (floorAfter regions (now (e .entry))) late (offsetOf regions (now (e .entry))) z 0
+        (lengthOf regions (now (e .entry))) (at + region.size) r ⌝ }
 {
     let rule = region_rule(floor, e);
     if rule != 0 {
@@ -131,7 +132,8 @@ fn property_rule(last: u32, e: &[u8]) -> u8
 // The same, and if it breaks nothing, S9 of its body.
 pub fn property_step(at: usize, last: u32, z: u32, late: u32, e: &[u8]) -> Verdict
     requires { ⌜ (property.size ≤ length (now e)) × (at < far) × (z < far) ⌝ }
-    ensures { λ r. ⌜ VerdictOf (propertyDemands (last + 1) (now (e .entry))) (lastOf properties (floorAfter properties (now (e .entry)))) late (offsetOf properties (now (e .entry))) z 0 (lengthOf properties (now (e .entry))) (at + property.size) r ⌝ }
+    ensures { λ r. ⌜ VerdictOf (propertyDemands (last + 1) (now (e .entry))) (lastOf properties (floorAfter properties (now (e .entry)))) late
+        (offsetOf properties (now (e .entry))) z 0 (lengthOf properties (now (e .entry))) (at + property.size) r ⌝ }
 {
     let rule = property_rule(last, e);
     if rule != 0 {
@@ -177,7 +179,8 @@ fn group_rule(last: u32, e: &[u8]) -> u8
 // The same, and if it breaks nothing, S9 of its body.
 pub fn group_step(s: &[u8], at: usize, last: u32, z: u32, late: u32, e: &[u8]) -> Verdict
     requires { ⌜ (group.size ≤ length (now e)) × (at < far) × (z < far) ⌝ }
-    ensures { λ r. ⌜ VerdictOf (groupDemands (last + 1) (now (e .entry))) (lastOf groups (floorAfter groups (now (e .entry)))) late (offsetOf groups (now (e .entry))) z (sixBits (now (s .entry)) groups (now (e .entry))) (lengthOf groups (now (e .entry))) (at + group.size) r ⌝ }
+    ensures { λ r. ⌜ VerdictOf (groupDemands (last + 1) (now (e .entry))) (lastOf groups (floorAfter groups (now (e .entry)))) late
+        (offsetOf groups (now (e .entry))) z (sixBits (now (s .entry)) groups (now (e .entry))) (lengthOf groups (now (e .entry))) (at + group.size) r ⌝ }
 {
     let rule = group_rule(last, e);
     if rule != 0 {

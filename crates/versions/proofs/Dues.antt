@@ -22,7 +22,8 @@ use Rattle.versions.specs.Saving.{needed, lastNumber, nextNumber, saved,
 use Rattle.versions.specs.Settings.{settingsOf, restored, SameEntries, LowCounts}
 use Rattle.versions.specs.Restoring.{sameEntries, lowCounts, givesBack, atZero, restoreOutcome, restoreSheet}
 use Rattle.versions.specs.Removing.{removed, removeOutcome, removeStore}
-use Rattle.versions.specs.Due.{Ready, SaveDue, noSheet, oldSheet, noStore, lastGiven, allTaken, tooLong, isSaved, AtZero, Known, RestoreDue, sheetRefused, sheetOld, storeRefused, unknownNumber, notOpen, differs, tooHigh, isRestored, RemoveDue, badOne, unknown, isRemoved}
+use Rattle.versions.specs.Due.{Ready, SaveDue, noSheet, oldSheet, noStore, lastGiven, allTaken, tooLong, isSaved, AtZero, Known, RestoreDue, sheetRefused}
+use Rattle.versions.specs.Due.{sheetOld, storeRefused, unknownNumber, notOpen, differs, tooHigh, isRestored, RemoveDue, badOne, unknown, isRemoved}
 use Rattle.versions.proofs.Agreeing.{same-entries, entries-same, low-counts, counts-low}
 
 -- what holds of 14 on an old sheet and of 4 on a bad one holds of what refuses it
@@ -84,57 +85,38 @@ module _ (sheet s : List ℕ) where
     pub place : length (kept s) ≡ places → ⊥
     pub room : needed (kept s) d ≤ length s
 
+  -- and each of the last three refusals
+  record Told (r : ℕ) : Type 0 where
+    free : r ≡ 0 → Free
+    number : r ≡ noNumber → head.last of s ≡ lastNumber
+    place : r ≡ noPlace → length (kept s) ≡ places
+    room : r ≡ noRoom → length s < needed (kept s) d
+
+  told : {r n : ℕ} {t : List ℕ} → SaveDue sheet s r n t → Told r
+  told (noSheet f) = record { free = λ e. absurd (omega arith); number = λ e. absurd (omega arith); place = λ e. absurd (omega arith); room = λ e. absurd (omega arith) }
+  told (oldSheet f) = record { free = λ e. absurd (omega arith); number = λ e. absurd (omega arith); place = λ e. absurd (omega arith); room = λ e. absurd (omega arith) }
+  told (noStore ok bad) = record { free = λ e. absurd (omega arith); number = λ e. absurd (omega arith); place = λ e. absurd (omega arith); room = λ e. absurd (omega arith) }
+  told (lastGiven h q) = record { free = λ e. absurd (omega arith); number = λ e. q; place = λ e. absurd (omega arith); room = λ e. absurd (omega arith) }
+  told (allTaken h l q) = record { free = λ e. absurd (omega arith); number = λ e. absurd (omega arith); place = λ e. q; room = λ e. absurd (omega arith) }
+  told (tooLong h l m k) = record { free = λ e. absurd (omega arith); number = λ e. absurd (omega arith); place = λ e. absurd (omega arith); room = λ e. k }
+  told (isSaved h l m k) =
+      record { free = λ e. record { ready = h; number = l; place = m; room = k }; number = λ e. absurd (omega arith); place = λ e. absurd (omega arith); room = λ e. absurd (omega arith) }
+
   pub save-free : saveOutcome sheet s ≡ 0 → Free
-  save-free = told save-due
-    where
-      told : {r n : ℕ} {t : List ℕ} → SaveDue sheet s r n t → r ≡ 0 → Free
-      told (noSheet f) e = absurd (omega arith)
-      told (oldSheet f) e = absurd (omega arith)
-      told (noStore ok bad) e = absurd (omega arith)
-      told (lastGiven h q) e = absurd (omega arith)
-      told (allTaken h l q) e = absurd (omega arith)
-      told (tooLong h l m k) e = absurd (omega arith)
-      told (isSaved h l m k) e = record { ready = h; number = l; place = m; room = k }
+  save-free = told save-due .free
 
   -- NUMBERS: refused for them exactly if the last one has been given
   pub numbers-exactly : Ready sheet s → (saveOutcome sheet s ≡ noNumber) ↔ (head.last of s ≡ lastNumber)
-  numbers-exactly h = (told save-due, λ e. sym (save-only noNumber 0 s (lastGiven h e) .0))
-    where
-      told : {r n : ℕ} {t : List ℕ} → SaveDue sheet s r n t → r ≡ noNumber → head.last of s ≡ lastNumber
-      told (noSheet f) e = absurd (omega arith)
-      told (oldSheet f) e = absurd (omega arith)
-      told (noStore ok bad) e = absurd (omega arith)
-      told (lastGiven h q) e = q
-      told (allTaken h l q) e = absurd (omega arith)
-      told (tooLong h l m k) e = absurd (omega arith)
-      told (isSaved h l m k) e = absurd (omega arith)
+  numbers-exactly h = (told save-due .number, λ e. sym (save-only noNumber 0 s (lastGiven h e) .0))
 
   -- PLACES: refused for them exactly if eight are kept
   pub places-exactly :
       Ready sheet s → (head.last of s ≡ lastNumber → ⊥) → (saveOutcome sheet s ≡ noPlace) ↔ (length (kept s) ≡ places)
-  places-exactly h l = (told save-due, λ e. sym (save-only noPlace 0 s (allTaken h l e) .0))
-    where
-      told : {r n : ℕ} {t : List ℕ} → SaveDue sheet s r n t → r ≡ noPlace → length (kept s) ≡ places
-      told (noSheet f) e = absurd (omega arith)
-      told (oldSheet f) e = absurd (omega arith)
-      told (noStore ok bad) e = absurd (omega arith)
-      told (lastGiven h q) e = absurd (omega arith)
-      told (allTaken h l q) e = q
-      told (tooLong h l m k) e = absurd (omega arith)
-      told (isSaved h l m k) e = absurd (omega arith)
+  places-exactly h l = (told save-due .place, λ e. sym (save-only noPlace 0 s (allTaken h l e) .0))
 
   -- ROOM: refused for it exactly if all together exceed the buffer
   pub save-tight : saveOutcome sheet s ≡ noRoom → length s < needed (kept s) d
-  save-tight = told save-due
-    where
-      told : {r n : ℕ} {t : List ℕ} → SaveDue sheet s r n t → r ≡ noRoom → length s < needed (kept s) d
-      told (noSheet f) e = absurd (omega arith)
-      told (oldSheet f) e = absurd (omega arith)
-      told (noStore ok bad) e = absurd (omega arith)
-      told (lastGiven h q) e = absurd (omega arith)
-      told (allTaken h l q) e = absurd (omega arith)
-      told (tooLong h l m k) e = k
-      told (isSaved h l m k) e = absurd (omega arith)
+  save-tight = told save-due .room
 
   pub room-exactly :
       Ready sheet s → (head.last of s ≡ lastNumber → ⊥) → (length (kept s) ≡ places → ⊥) →

@@ -115,8 +115,9 @@ pub restores-worked :
     restoreOutcome other later levelled 1 ∷
     restoreOutcome tool later levelled 1 ∷ restoreOutcome tool later both 1 ∷ restoreOutcome tool later counted 1 ∷ []
     ≡ 4 ∷ 14 ∷ 30 ∷ 34 ∷ 35 ∷ 36 ∷ 36 ∷ 37 ∷ []
-unfolding levelled counted both sample later twice restoreOutcome restoreSheet restored bodyOf has isKept versionIn every sameEntry lowCount sameEntries lowCounts givesBack atZero settingsOf versionAt versionsFrom kept
-    rowsRule allRows storeRule isStore verdictOf ruleIn walkRule restRule entriesRule bodiesRule entryRule bodyRule bodyDemands entryDemands
+unfolding levelled counted both sample later twice restoreOutcome restoreSheet restored bodyOf has isKept versionIn every
+    sameEntry lowCount sameEntries lowCounts givesBack atZero settingsOf versionAt versionsFrom kept rowsRule allRows storeRule isStore
+    verdictOf ruleIn walkRule restRule entriesRule bodiesRule entryRule bodyRule bodyDemands entryDemands
     entry keyOf floor bodyAt bodyEnd startOf reached sixBits first breach splice numAt bytesOf
 restores-worked = refl
 

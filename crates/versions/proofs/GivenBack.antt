@@ -38,8 +38,9 @@ module _ {s d : List ℕ} (ok : Accepted s) (bytes : Octets d) (same : SameEntri
   unfolding restored
   entries =
       let w : List ℕ = re.u ok same in
+      let m = length-splice (re.t ok same) (startOf s properties) (drop (front + entriesLong s) d) (re.fits₂ ok same) in
       let l : length (take (entriesLong s) (drop (base s properties) w)) ≡ entriesLong s =
-      length-take-le (entriesLong s) (drop (base s properties) w) (simp length-drop (omega (arith, length-splice (re.t ok same) (startOf s properties) (drop (front + entriesLong s) d) (re.fits₂ ok same), re.t-long ok same, re.fits₁ ok same, re.entries-long ok same)))
+      length-take-le (entriesLong s) (drop (base s properties) w) (simp length-drop (omega (arith, m, re.t-long ok same, re.fits₁ ok same, re.entries-long ok same)))
       in
       ext-getD 0 _ _ (l ∙ sym (re.entries-long ok same))
       (λ j k.

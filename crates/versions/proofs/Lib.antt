@@ -1,4 +1,7 @@
--- PROMISES: Dues (what is done is what is due, and nothing else), Untouched (refused-untouched), Zeroed (zeroed-good), Sequences (kept-after-save, good-stays, never-again), Removes (others-stay, removed-gone, room-back, save-remove), OwnVersion (settings-only), RestoredIsSaved (restored-is-saved), Restores (restored-accepted), Examples; Keeping: a good store is the bytes of its versions. The others are steps on the way.
+-- PROMISES: Dues (what is done is what is due, and nothing else), Untouched (refused-untouched), Zeroed (zeroed-good),
+-- Sequences (kept-after-save, good-stays, never-again), Removes (others-stay, removed-gone, room-back, save-remove), OwnVersion (settings-only),
+-- RestoredIsSaved (restored-is-saved), Restores (restored-accepted), Examples; Keeping: a good store is the bytes of its versions.
+-- The others are steps on the way.
 pub mod Gaps
 pub mod Laid
 pub mod Rows

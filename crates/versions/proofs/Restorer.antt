@@ -29,7 +29,8 @@ use Rattle.versions.specs.Store.{tableEnd, versionAt, versionsFrom, kept
 use Rattle.versions.specs.Rules.{storeRule, isStore, badStore, notKept}
 use Rattle.versions.specs.Walk.{Tabled, Found, Chosen, Extents, Placed}
 use Rattle.versions.specs.Settings.{front, many, entriesLong, bodiesLong, restored}
-use Rattle.versions.specs.Restoring.{isCount, sameByte, sameEntry, lowCount, entryIn, sameEntries, lowCounts, givesBack, atZero, notAtZero, otherEntries, highCount, restoreBy, restoreOutcome, restoreSheet, RestoredAs}
+use Rattle.versions.specs.Restoring.{isCount, sameByte, sameEntry, lowCount, entryIn, sameEntries, lowCounts, givesBack, atZero}
+use Rattle.versions.specs.Restoring.{notAtZero, otherEntries, highCount, restoreBy, restoreOutcome, restoreSheet, RestoredAs}
 use Rattle.versions.specs.declared.settings.Extent.{Extent}
 use Rattle.versions.specs.declared.table.Place.{Place}
 use Rattle.versions.proofs.Backs.{heads}
@@ -179,7 +180,8 @@ module _ (s d : List ℕ) (x : Extent) (hx : Extents s x) (hd : length d ≡ fro
       let a : List ℕ = take (entriesLong s) (drop front d) in
       let b : List ℕ = drop (front + entriesLong s) d in
       let t-is : t ≡ splice s (base s properties) a =
-      e ∙ ap (splice s (x .entries)) one ∙ placed (x .count) (x .entries) (base s properties) s a (λ z. let q : entriesLong s ≡ 0 = omega (arith, hx .count) in ap (λ (i : ℕ). take i (drop front d)) q) (hx .base)
+      e ∙ ap (splice s (x .entries)) one
+      ∙ placed (x .count) (x .entries) (base s properties) s a (λ z. let q : entriesLong s ≡ 0 = omega (arith, hx .count) in rw q) (hx .base)
       in
       f ∙ ap₂ (λ (l m : List ℕ). splice l (x .from) m) t-is two
       ∙ placed (x .count) (x .from) (startOf s properties) (splice s (base s properties) a) b

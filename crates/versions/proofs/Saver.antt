@@ -125,7 +125,8 @@ module _ (sheet s : List ℕ) where
                     let t₅ : ltb (length s) (needed (kept s) (settingsOf sheet)) ≡ false = le-ltb (length s) (needed (kept s) (settingsOf sheet)) (rw room-is fits) in
                     let o : needed (kept s) (settingsOf sheet) ≤ length s = rw room-is fits in
                     let next : last + 1 ≡ nextNumber s = ap (λ (i : ℕ). i + 1) (hl .value) in
-                    let same : appended s n end (last + 1) (settingsOf sheet) ≡ appended s (length (kept s)) (tableEnd (length (kept s)) + length (bodiesOf (kept s))) (nextNumber s) (settingsOf sheet) =
+                    let m : ℕ = length (kept s) in
+                    let same : appended s n end (last + 1) (settingsOf sheet) ≡ appended s m (tableEnd m + length (bodiesOf (kept s))) (nextNumber s) (settingsOf sheet) =
                     rw (end-far, next) (ap (λ (i : ℕ). appended s i (tableEnd i + length (bodiesOf (kept s))) (nextNumber s) (settingsOf sheet)) count-long)
                     in
                     record {

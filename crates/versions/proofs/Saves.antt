@@ -95,11 +95,7 @@ pub append-steps :
     u ≡ splice t (end + 8) d → m ≡ n + 1 → v ≡ splice u 0 (m / 256 % 256 ∷ m % 256 ∷ x / 256 % 256 ∷ x % 256 ∷ []) → w ≡ linked v m →
     w ≡ appended s n end x d
 unfolding appended bytesOf
-append-steps s t u v w d n end x long m l e f q g k =
-    let v-is : v ≡ splice (splice (splice (moved s (tableEnd n) (tableEnd n + 8) (end - tableEnd n)) (tableEnd n) (rowOf x 0 (length d))) (end + 8) d) 0 (m / 256 % 256 ∷ m % 256 ∷ x / 256 % 256 ∷ x % 256 ∷ []) =
-    g ∙ rw (f, e, l)
-    in
-    k ∙ rw (v-is, q)
+append-steps s t u v w d n end x long m l e f q g k = k ∙ rw (g, f, e, l, q)
 
 -- where the properties stand
 module _ {s : List ℕ} (ok : Accepted s) where

@@ -135,7 +135,9 @@ module _ (x : ℕ) where
   has-new [] d h = let t : eqb x x ≡ true = eq-eqb x x refl in rw t (refl, refl)
   has-new (v ∷ vs) d h = go (eqb (v .number) x) (λ e. has-new vs d e) h
     where
-      go : (t : Bool) → (has x vs ≡ false → (has x (and vs x d) ≡ true) × (bodyOf x (and vs x d) ≡ d)) → cond t true (has x vs) ≡ false → (cond t true (has x (and vs x d)) ≡ true) × (cond t (v .body) (bodyOf x (and vs x d)) ≡ d)
+      go :
+          (t : Bool) → (has x vs ≡ false → (has x (and vs x d) ≡ true) × (bodyOf x (and vs x d) ≡ d)) → cond t true (has x vs) ≡ false →
+          (cond t true (has x (and vs x d)) ≡ true) × (cond t (v .body) (bodyOf x (and vs x d)) ≡ d)
       go true ih e = never (sym e)
       go false ih e = ih e
 

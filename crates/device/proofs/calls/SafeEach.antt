@@ -18,7 +18,10 @@ use Rattle.pdu.specs.Read.{dataOf}
 use Rattle.pdu.specs.Write.{writable}
 use Rattle.pdu.proofs.Readings.{Reading}
 use Rattle.pdu.specs.declared.Pdu.{Pdu}
-use Rattle.pdu.specs.declared.Pdu.the-variants.{GroupValueRead, GroupValueResponse, GroupValueWrite, IndividualAddressWrite, IndividualAddressRead, SerialNumberRead, SerialNumberWrite, DeviceDescriptorRead, PropertyValueRead, PropertyValueWrite, PropertyDescriptionRead, MemoryRead, MemoryWrite, MemoryBitWrite, AuthorizeRequest, KeyWrite, Restart, IndividualAddressResponse, SerialNumberResponse, DeviceDescriptorResponse, PropertyValueResponse, PropertyDescriptionResponse, MemoryResponse, AuthorizeResponse, KeyResponse, UserMemoryRead, UserMemoryResponse, UserMemoryWrite}
+use Rattle.pdu.specs.declared.Pdu.the-variants.{GroupValueRead, GroupValueResponse, GroupValueWrite, IndividualAddressWrite, IndividualAddressRead, SerialNumberRead, SerialNumberWrite}
+use Rattle.pdu.specs.declared.Pdu.the-variants.{DeviceDescriptorRead, PropertyValueRead, PropertyValueWrite, PropertyDescriptionRead, MemoryRead, MemoryWrite, MemoryBitWrite}
+use Rattle.pdu.specs.declared.Pdu.the-variants.{AuthorizeRequest, KeyWrite, Restart, IndividualAddressResponse, SerialNumberResponse, DeviceDescriptorResponse, PropertyValueResponse}
+use Rattle.pdu.specs.declared.Pdu.the-variants.{PropertyDescriptionResponse, MemoryResponse, AuthorizeResponse, KeyResponse, UserMemoryRead, UserMemoryResponse, UserMemoryWrite}
 use Rattle.sheet.specs.declared.Memory.{Memory}
 use Rattle.sheet.specs.declared.Memory.the-variants.{Device, User}
 use Rattle.sheet.proofs.promises.Runs.{range-within}
@@ -47,7 +50,8 @@ use Rattle.device.proofs.leaves.Accepted.{long, group-within, six-withi
 use Rattle.device.proofs.due.Given.{serial-small, read-fields, write-fields, write-data, memory-data, user-data, bits-data}
 use Rattle.device.proofs.leaves.Jumps.{whole, length-run}
 use Rattle.device.proofs.leaves.Stores.{length-store}
-use Rattle.device.proofs.calls.Writing.{writes-six, writes-value, writes-descriptor, writes-property, writes-memory, writes-user, writes-address, writes-serial, writes-description, writes-level, writes-key}
+use Rattle.device.proofs.calls.Writing.{writes-six, writes-value, writes-descriptor, writes-property, writes-memory, writes-user}
+use Rattle.device.proofs.calls.Writing.{writes-address, writes-serial, writes-description, writes-level, writes-key}
 
 -- n bytes of a list that has them
 part-length : (s : List ℕ) (o n : ℕ) → o + n ≤ length s → length (take n (drop o s)) ≡ n

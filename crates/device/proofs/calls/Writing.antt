@@ -12,7 +12,8 @@ use Rattle.pdu.specs.Read.{dataAt}
 use Rattle.pdu.specs.Write.{writable, fitsIn}
 use Rattle.octets.proofs.Truths.{and-is, or-is, below-is, at-most-is, equal-is}
 use Rattle.pdu.specs.declared.Pdu.{Pdu}
-use Rattle.pdu.specs.declared.Pdu.the-variants.{GroupValueResponse, IndividualAddressResponse, SerialNumberResponse, DeviceDescriptorResponse, PropertyValueResponse, PropertyDescriptionResponse, MemoryResponse, AuthorizeResponse, KeyResponse, UserMemoryResponse}
+use Rattle.pdu.specs.declared.Pdu.the-variants.{GroupValueResponse, IndividualAddressResponse, SerialNumberResponse, DeviceDescriptorResponse}
+use Rattle.pdu.specs.declared.Pdu.the-variants.{PropertyValueResponse, PropertyDescriptionResponse, MemoryResponse, AuthorizeResponse, KeyResponse, UserMemoryResponse}
 
 -- a PDU whose row lets it stand with data that leave room for it
 stands : (p : Pdu) (d : List ℕ) → dataAt p + length d ≤ 16 → fitsIn p (dataAt p + length d) ≡ true → writable p d ≡ true

@@ -26,7 +26,8 @@ use Rattle.judge.proofs.MemoryCases.{Suffices, Permits, range-in, changed, veri
 use Rattle.device.specs.Carry.{storeOf, build, bitAt}
 use Rattle.device.specs.Step.{stepBy}
 use Rattle.device.specs.Asked.{Asked, quiet, says, saysAfter, stores, Reads, given}
-use Rattle.device.specs.MemoryDue.{Write, bytes, bits, into, writing, mostOf, mostIn, response, ToWrite, MemoryWritable, Leaves, Verify, MemoryDue, memoryWriteVerified, memoryWrite, noMemoryWriteVerified, noMemoryWrite}
+use Rattle.device.specs.MemoryDue.{Write, bytes, bits, into, writing, mostOf, mostIn, response, ToWrite, MemoryWritable, Leaves}
+use Rattle.device.specs.MemoryDue.{Verify, MemoryDue, memoryWriteVerified, memoryWrite, noMemoryWriteVerified, noMemoryWrite}
 use Rattle.device.proofs.leaves.Bits.{length-build, combined, combined-is}
 use Rattle.device.proofs.due.Given.{memory-data, user-data}
 use Rattle.device.proofs.due.Acts.{acts, acts-is}

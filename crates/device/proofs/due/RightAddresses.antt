@@ -10,7 +10,8 @@ use Rattle.octets.specs.Splice.{splice}
 use Rattle.sheet.specs.Layout.{_of_}
 use Rattle.sheet.specs.Head as head
 use Rattle.sheet.specs.Head.{rulesOf, later}
-use Rattle.pdu.specs.declared.Pdu.the-variants.{IndividualAddressWrite, IndividualAddressRead, SerialNumberRead, SerialNumberWrite, DeviceDescriptorRead, IndividualAddressResponse, SerialNumberResponse, DeviceDescriptorResponse}
+use Rattle.pdu.specs.declared.Pdu.the-variants.{IndividualAddressWrite, IndividualAddressRead, SerialNumberRead, SerialNumberWrite}
+use Rattle.pdu.specs.declared.Pdu.the-variants.{DeviceDescriptorRead, IndividualAddressResponse, SerialNumberResponse, DeviceDescriptorResponse}
 use Rattle.judge.specs.declared.Decision.{Decision}
 use Rattle.judge.specs.declared.Answer.the-variants as answer
 use Rattle.judge.specs.Decisions as decisions
@@ -19,7 +20,8 @@ use Rattle.octets.proofs.Walks.{by-eq}
 use Rattle.judge.proofs.DescriptorCases.{descriptor-cases}
 use Rattle.device.specs.Step.{stepBy}
 use Rattle.device.specs.Asked.{Asked, quiet, says, stores, Reads, given}
-use Rattle.device.specs.AddressesDue.{AddressesDue, Programming, addressWrite, noAddressWrite, addressRead, noAddressRead, serialRead, noSerialRead, serialWrite, noSerialWrite, descriptor, noDescriptor, descriptorDenied}
+use Rattle.device.specs.AddressesDue.{AddressesDue, Programming, addressWrite, noAddressWrite, addressRead, noAddressRead, serialRead}
+use Rattle.device.specs.AddressesDue.{noSerialRead, serialWrite, noSerialWrite, descriptor, noDescriptor, descriptorDenied}
 use Rattle.device.proofs.due.Stepped.{step, step-read}
 
 module _ (x : Asked) where

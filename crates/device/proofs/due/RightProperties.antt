@@ -23,7 +23,8 @@ use Rattle.device.specs.Carry.{storeOf}
 use Rattle.device.specs.Step.{Step, stepBy}
 use Rattle.device.specs.Asked.{Asked, says, saysAfter, Reads, given}
 use Rattle.device.specs.Asked.{part}
-use Rattle.device.specs.PropertiesDue.{PropertiesDue, Elements, elementAt, zeroed, Readable, ReadAllowed, Writable, WriteAllowed, propertyCount, propertyRead, noPropertyRead, propertyClear, propertyWrite, noPropertyWrite}
+use Rattle.device.specs.PropertiesDue.{PropertiesDue, Elements, elementAt, zeroed, Readable, ReadAllowed, Writable, WriteAllowed}
+use Rattle.device.specs.PropertiesDue.{propertyCount, propertyRead, noPropertyRead, propertyClear, propertyWrite, noPropertyWrite}
 use Rattle.device.proofs.leaves.Accepted.{counted-within}
 use Rattle.device.proofs.due.Acts.{acts, acts-at}
 use Rattle.device.proofs.leaves.Jumps.{zeros-and-data}

@@ -76,8 +76,8 @@ module _ (x : Asked) where
   ready-judged : Ready x → judgement ≡ foundOf (x .sheet) (x .session) (x .mode) (x .group) (x .apdu) (serviceAt (codeOf (x .apdu)))
   unfolding judgeOf isShut
   ready-judged r =
-      simp
-      (le-ltb (x .room) 16 (r .buffer), eq-eqb (verdictOf (x .sheet)) 0 (r .sheet), le-ltb (length (x .apdu)) 2 (r .least), le-ltb 16 (length (x .apdu)) (r .most), le-ltb 3 (x .mode) (r .mode), not-shut r)
+      let n : ℕ = length (x .apdu) in
+      simp (le-ltb (x .room) 16 (r .buffer), eq-eqb (verdictOf (x .sheet)) 0 (r .sheet), le-ltb n 2 (r .least), le-ltb 16 n (r .most), le-ltb 3 (x .mode) (r .mode), not-shut r)
 
   -- 8
   pub step-unknown : Ready x → ((k : Service) → Names x k → Served rules k → ⊥) → quiet x 8 ≡ step

@@ -19,7 +19,10 @@ use Rattle.pdu.specs.Allows.{Typed}
 use Rattle.pdu.proofs.Allowed.{wide}
 use Rattle.pdu.proofs.Outcomes.{read-carries}
 use Rattle.pdu.specs.declared.Pdu.{Pdu}
-use Rattle.pdu.specs.declared.Pdu.the-variants.{GroupValueRead, GroupValueResponse, GroupValueWrite, IndividualAddressWrite, IndividualAddressRead, SerialNumberRead, SerialNumberWrite, DeviceDescriptorRead, PropertyValueRead, PropertyValueWrite, PropertyDescriptionRead, MemoryRead, MemoryWrite, MemoryBitWrite, AuthorizeRequest, KeyWrite, Restart, IndividualAddressResponse, SerialNumberResponse, DeviceDescriptorResponse, PropertyValueResponse, PropertyDescriptionResponse, MemoryResponse, AuthorizeResponse, KeyResponse, UserMemoryRead, UserMemoryResponse, UserMemoryWrite}
+use Rattle.pdu.specs.declared.Pdu.the-variants.{GroupValueRead, GroupValueResponse, GroupValueWrite, IndividualAddressWrite, IndividualAddressRead, SerialNumberRead, SerialNumberWrite}
+use Rattle.pdu.specs.declared.Pdu.the-variants.{DeviceDescriptorRead, PropertyValueRead, PropertyValueWrite, PropertyDescriptionRead, MemoryRead, MemoryWrite, MemoryBitWrite}
+use Rattle.pdu.specs.declared.Pdu.the-variants.{AuthorizeRequest, KeyWrite, Restart, IndividualAddressResponse, SerialNumberResponse, DeviceDescriptorResponse, PropertyValueResponse}
+use Rattle.pdu.specs.declared.Pdu.the-variants.{PropertyDescriptionResponse, MemoryResponse, AuthorizeResponse, KeyResponse, UserMemoryRead, UserMemoryResponse, UserMemoryWrite}
 use Rattle.pdu.specs.declared.Parsed.the-variants.{Is}
 use Rattle.judge.specs.declared.Answer.{Answer}
 use Rattle.judge.specs.declared.Answer.the-variants as answer
@@ -65,7 +68,9 @@ module _ {s : List ℕ} (ok : Good s) (h : Octets s) where
   description-fits : (i : ℕ) → i < count s properties → Fits (describes s i)
   description-fits i l =
       let index = rank-bound s (property.object of entry s properties i) i in
-      (entry-byte s i (property.object .at) (omega arith) h, (entry-byte s i (property.id .at) (omega arith) h, (omega (arith, ok .framed), (entry-byte s i (property.typ .at) (omega arith) h, (tt, (entry-byte s i (property.levels .at) (omega arith) h, tt))))))
+      let o = entry-byte s i (property.object .at) (omega arith) h in
+      let d = entry-byte s i (property.id .at) (omega arith) h in
+      (o, (d, (omega (arith, ok .framed), (entry-byte s i (property.typ .at) (omega arith) h, (tt, (entry-byte s i (property.levels .at) (omega arith) h, tt))))))
 
 module _ {s : List ℕ} (ok : Good s) (h : Octets s) (level group : ℕ) (d : List ℕ) where
   fitted : (p : Pdu) → Typed p → Fits (decideOf s level group d p)

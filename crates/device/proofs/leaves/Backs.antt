@@ -84,8 +84,8 @@ module _ {s : List ℕ} (ok : Good s) where
 
       cleared-long : length cleared ≡ length s
       cleared-long =
-          length-splice s _ (replicate (j * z) 0)
-          (omega (arith, length-replicate {A = ℕ} (j * z) 0, elements-within ok i h j (property.count of entry s properties i + 1) (omega arith) (omega (arith, a .end, a .start, a .some, count-below ok i h))))
+          let e = elements-within ok i h j (property.count of entry s properties i + 1) (omega arith) (omega (arith, a .end, a .start, a .some, count-below ok i h)) in
+          length-splice s _ (replicate (j * z) 0) (omega (arith, length-replicate {A = ℕ} (j * z) 0, e))
 
       pub elements-back : take (length d) (drop o wrote) ≡ d
       unfolding bodyAt

@@ -103,7 +103,9 @@ module _ (x y : Asked) (object id n s : ℕ) (r : Reads x (PropertyValueWrite ob
       (count-found i k (sym (ap (λ (t : Step). t .sheet) p)) ∙ sym (two-zeros d l v)))
       (λ i k w a l p.
       let h = field i property.element k (omega arith) (omega arith) in
-      let m : max (property.count of entry (x .sheet) properties i) (s + n - 1) ≤ property.maximum of entry (x .sheet) properties i = omega (arith, a .end, ok .entries properties i (omega arith) (k .there)) in
+      let m : max (property.count of entry (x .sheet) properties i) (s + n - 1) ≤ property.maximum of entry (x .sheet) properties i =
+      omega (arith, a .end, ok .entries properties i (omega arith) (k .there))
+      in
       let g = counted-found i _ k a l m (sym (ap (λ (t : Step). t .sheet) p)) in
       joined d _ _ _ p
       (only-property-read y object id n s u j may (record { start = a .start; some = a .some; end = rw g (omega arith) })

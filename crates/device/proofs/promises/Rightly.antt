@@ -4,7 +4,10 @@ use mathlib.Core.Path.{_≡_, refl, sym, subst}
 use Rattle.sheet.specs.declared.Memory.the-variants.{Device, User}
 use Rattle.pdu.specs.Read.{readPdu}
 use Rattle.pdu.specs.declared.Pdu.{Pdu}
-use Rattle.pdu.specs.declared.Pdu.the-variants.{GroupValueRead, GroupValueResponse, GroupValueWrite, IndividualAddressWrite, IndividualAddressRead, SerialNumberRead, SerialNumberWrite, DeviceDescriptorRead, PropertyValueRead, PropertyValueWrite, PropertyDescriptionRead, MemoryRead, MemoryWrite, MemoryBitWrite, AuthorizeRequest, KeyWrite, Restart, IndividualAddressResponse, SerialNumberResponse, DeviceDescriptorResponse, PropertyValueResponse, PropertyDescriptionResponse, MemoryResponse, AuthorizeResponse, KeyResponse, UserMemoryRead, UserMemoryResponse, UserMemoryWrite}
+use Rattle.pdu.specs.declared.Pdu.the-variants.{GroupValueRead, GroupValueResponse, GroupValueWrite, IndividualAddressWrite, IndividualAddressRead, SerialNumberRead, SerialNumberWrite}
+use Rattle.pdu.specs.declared.Pdu.the-variants.{DeviceDescriptorRead, PropertyValueRead, PropertyValueWrite, PropertyDescriptionRead, MemoryRead, MemoryWrite, MemoryBitWrite}
+use Rattle.pdu.specs.declared.Pdu.the-variants.{AuthorizeRequest, KeyWrite, Restart, IndividualAddressResponse, SerialNumberResponse, DeviceDescriptorResponse, PropertyValueResponse}
+use Rattle.pdu.specs.declared.Pdu.the-variants.{PropertyDescriptionResponse, MemoryResponse, AuthorizeResponse, KeyResponse, UserMemoryRead, UserMemoryResponse, UserMemoryWrite}
 use Rattle.pdu.specs.declared.Parsed.{Parsed}
 use Rattle.judge.specs.declared.Decision.{Decision}
 use Rattle.judge.specs.Session.{levelIn}
@@ -23,9 +26,13 @@ use Rattle.device.specs.GroupsDue.{Brings}
 use Rattle.device.specs.Right.{Right}
 use Rattle.device.proofs.due.RequestCases.{request-cases}
 use Rattle.device.proofs.due.Stepped.{step-refused, step-unknown, step-other, step-unfit}
-use Rattle.device.proofs.due.RightGroups.{right-group-read, right-group-put, only-group-read0, only-group-read, only-no-group-read, only-group-put0, only-group-put, only-group-length, only-no-group-put}
-use Rattle.device.proofs.due.RightAddresses.{right-address-write, right-address-read, right-serial-read, right-serial-write, right-descriptor, only-address-write, only-no-address-write, only-address-read, only-no-address-read, only-serial-read, only-no-serial-read, only-serial-write, only-no-serial-write, only-descriptor, only-no-descriptor, only-descriptor-denied}
-use Rattle.device.proofs.due.RightProperties.{right-property-read, right-property-write, only-property-count, only-property-read, only-no-property-read, only-property-clear, only-property-write, only-no-property-write}
+use Rattle.device.proofs.due.RightGroups.{right-group-read, right-group-put, only-group-read0, only-group-read}
+use Rattle.device.proofs.due.RightGroups.{only-no-group-read, only-group-put0, only-group-put, only-group-length, only-no-group-put}
+use Rattle.device.proofs.due.RightAddresses.{right-address-write, right-address-read, right-serial-read, right-serial-write, right-descriptor}
+use Rattle.device.proofs.due.RightAddresses.{only-address-write, only-no-address-write, only-address-read, only-no-address-read, only-serial-read}
+use Rattle.device.proofs.due.RightAddresses.{only-no-serial-read, only-serial-write, only-no-serial-write, only-descriptor, only-no-descriptor, only-descriptor-denied}
+use Rattle.device.proofs.due.RightProperties.{right-property-read, right-property-write, only-property-count, only-property-read}
+use Rattle.device.proofs.due.RightProperties.{only-no-property-read, only-property-clear, only-property-write, only-no-property-write}
 use Rattle.device.proofs.due.RightDescriptions.{right-description, only-description, only-no-description}
 use Rattle.device.proofs.due.Changes.{change-of, right-memory-write, only-verified, only-stored, only-denied, only-refused}
 use Rattle.device.proofs.due.RightMemory.{right-memory-read, only-memory-read, only-no-memory-read}

@@ -49,7 +49,8 @@ flags-worked = refl
 unfoldable pub fronted : ℕ → ℕ → List ℕ
 fronted ed n = splice (splice sample 0 (ed ∷ [])) 15 (n ∷ [])
 
--- TWO FAULTS AT ONCE, of which the first in the order of the outcomes is told: 3 and 4, 3 and 14, 4 and 5, 4 and 5 with 1 in byte 0, 14 and 5, 5 and 6 and 5 and 7 (of a byte, and of 17), 6 and 8, 6 and 9, 7 and 8, 7 and 9, 9 and 10, 2 and 10; and 10 alone
+-- TWO FAULTS AT ONCE, of which the first in the order of the outcomes is told: 3 and 4, 3 and 14, 4 and 5, 4 and 5 with 1 in byte 0,
+-- 14 and 5, 5 and 6 and 5 and 7 (of a byte, and of 17), 6 and 8, 6 and 9, 7 and 8, 7 and 9, 9 and 10, 2 and 10; and 10 alone
 pub order-worked :
     stepOf 15 [] nobody 0 0 (0x00 ∷ 0x00 ∷ []) .outcome ∷
     stepOf 15 (fronted 1 0) nobody 0 0 (0x00 ∷ 0x00 ∷ []) .outcome ∷

@@ -105,7 +105,10 @@ module _ (o : ℕ) where
           E = rw (k, n .sheet, met-alike e)
 
     -- a session opened or closed, whoever's it is
-    named : (c : ℕ) (r : Session) (k : ℕ) → Equal (record { outcome = k; answer = []; sessions = withSession (x .sessions) c r; sheet = x .sheet }) (record { outcome = k; answer = []; sessions = withSession (y .sessions) c r; sheet = y .sheet })
+    named :
+        (c : ℕ) (r : Session) (k : ℕ) →
+        Equal (record { outcome = k; answer = []; sessions = withSession (x .sessions) c r; sheet = x .sheet })
+        (record { outcome = k; answer = []; sessions = withSession (y .sessions) c r; sheet = y .sheet })
     named c r k =
         record {
           outcome = refl;

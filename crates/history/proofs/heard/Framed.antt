@@ -97,7 +97,8 @@ module _ {f s : List ℕ} (a : Agree f s) where
 
       go : (i : ℕ) → Dec (i < count f properties) → Tests (entry s properties i) i ≡ Tests (entry f properties i) i
       go i (yes h) =
-          rw (property-same a i property.typ h (omega arith) (omega arith), property-same a i property.maximum h (omega arith) (omega arith), property-same a i property.element h (omega arith) (omega arith), property-same a i property.levels h (omega arith) (omega arith))
+          rw (property-same a i property.typ h (omega arith) (omega arith), property-same a i property.maximum h (omega arith) (omega arith))
+          (rw (property-same a i property.element h (omega arith) (omega arith), property-same a i property.levels h (omega arith) (omega arith)))
       go i (no h) = rw (le-ltb i (count f properties) (omega arith))
   allowed-same level d (change (writeKey named number)) = refl
   allowed-same level d (change restoreAll) = rw (same-entries-same a d, low-counts-same a d)

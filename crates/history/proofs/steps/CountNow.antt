@@ -27,9 +27,9 @@ module _ (f : First) (b : Begins f) (h : List Event) (x : State) (inv : Inv f h 
   unfolding countIn
   count-now =
       let q = place-same (inv .means .agree) properties i in
-      let at : (j p : ℕ) → j < 2 → p ≡ place (x .sheet) properties i + property.count .at + j → getD (x .sheet) p 0 ≡ content f h (counter object id j) =
+      let o : ℕ = place (x .sheet) properties i + property.count .at in
+      let at : (j p : ℕ) → j < 2 → p ≡ o + j → getD (x .sheet) p 0 ≡ content f h (counter object id j) =
       λ j p k e.
       ap (λ (o : ℕ). getD (x .sheet) o 0) (let z : p ≡ place (f .sheet) properties i + property.count .at + j = omega arith in z)
       ∙ inv .means .holds (counter object id j) _ (counter-place (fine inv b) is j k) in
-      omega
-      (arith, field-at (x .sheet) properties i property.count (omega arith), num-two (x .sheet) (place (x .sheet) properties i + property.count .at), at 0 (place (x .sheet) properties i + property.count .at) (omega arith) (omega arith), at 1 (place (x .sheet) properties i + property.count .at + 1) (omega arith) (omega arith))
+      omega (arith, field-at (x .sheet) properties i property.count (omega arith), num-two (x .sheet) o, at 0 o (omega arith) (omega arith), at 1 (o + 1) (omega arith) (omega arith))

@@ -1,6 +1,6 @@
 -- Group values that arrive: stored, or not.
 -- Assumes nothing.
-use Prim.Native.Nat.{ℕ, zero, suc, _/_, _%_, _<_, _≤_, max}
+use Prim.Native.Nat.{ℕ, zero, suc, _+_, _/_, _%_, _<_, _≤_, max}
 use mathlib.Core.Path.{_≡_, refl, sym, ap, subst, _∙_}
 use mathlib.Core.Logic.{_↔_}
 use mathlib.Core.Bool.{Bool, true, false, cond}
@@ -13,7 +13,7 @@ use Rattle.octets.specs.Bytes.{bytesOf}
 use Rattle.octets.specs.Splice.{splice}
 use Rattle.octets.proofs.Numbers.{length-bytes}
 use Rattle.sheet.specs.Kind.{groups}
-use Rattle.sheet.specs.Layout.{_of_}
+use Rattle.sheet.specs.Layout.{Field, _of_}
 use Rattle.sheet.specs.Group as group
 use Rattle.sheet.specs.Entries.{count, entry, keyOf, bodyAt, bodyEnd}
 use Rattle.sheet.specs.Stores.{Fit}
@@ -96,30 +96,23 @@ module _ (f : First) (b : Begins f) (h : List Event) (x : State) (inv : Inv f h 
         values-new f h mode c g a out W e ok i j
         ∙ ap (λ (d : List ℕ). newValue (Entry i) g d j (groupByte f h i j) W) (brings-is a p (r .reads))
 
-    field-now : (i : ℕ) → i < count (f .sheet) groups → (group.address of entry (x .sheet) groups i ≡ group.address of Entry i) × (group.flags of entry (x .sheet) groups i ≡ group.flags of Entry i) × (group.code of entry (x .sheet) groups i ≡ group.code of Entry i)
-    field-now i l = (
-      group-same (inv .means .agree) i group.address l (omega arith),
-      group-same (inv .means .agree) i group.flags l (omega arith),
-      group-same (inv .means .agree) i group.code l (omega arith),
-    )
+    field-now : (i : ℕ) → i < count (f .sheet) groups → (d : Field) → d .at + d .width ≤ group.size → d of entry (x .sheet) groups i ≡ d of Entry i
+    field-now i l d w = group-same (inv .means .agree) i d l w
 
     test-is :
         (i : ℕ) → i < count (f .sheet) groups →
         (all (Tests i) ≡ true) ↔ (Group R i × Flag (entry (x .sheet) groups i) k × (length D ≡ group.code of entry (x .sheet) groups i))
     unfolding Tests
     test-is i l =
-        let n = field-now i l in (
+        let address = field-now i l group.address (omega arith) in
+        let flags = ap (λ (m : ℕ). m / k % 2) (field-now i l group.flags (omega arith)) in
+        let code = field-now i l group.code (omega arith) in (
           λ t. (
-            record {
-              there = omega (arith, count-same (inv .means .agree) groups);
-              address = n .0 ∙ eqb-true _ _ (all-at (Tests i) t 0);
-            },
-            ap (λ (m : ℕ). m / k % 2) (n .1) ∙ eqb-true _ _ (all-at (Tests i) t 1),
-            eqb-true _ _ (all-at (Tests i) t 2) ∙ sym (n .2),
+            record { there = omega (arith, count-same (inv .means .agree) groups); address = address ∙ eqb-true _ _ (all-at (Tests i) t 0) },
+            flags ∙ eqb-true _ _ (all-at (Tests i) t 1),
+            eqb-true _ _ (all-at (Tests i) t 2) ∙ sym code,
           ),
-          λ t.
-              simp
-              (eq-eqb (group.address of Entry i) g (sym (n .0) ∙ t .0 .address), eq-eqb (group.flags of Entry i / k % 2) 1 (ap (λ (m : ℕ). m / k % 2) (sym (n .1)) ∙ t .1), eq-eqb (length D) (group.code of Entry i) (t .2 ∙ n .2)),
+          λ t. simp (eq-eqb _ g (sym address ∙ t .0 .address), eq-eqb _ 1 (sym flags ∙ t .1), eq-eqb _ _ (t .2 ∙ code)),
         )
 
     -- one group object at most has the address
@@ -146,8 +139,7 @@ module _ (f : First) (b : Begins f) (h : List Event) (x : State) (inv : Inv f h 
           addresses = addresses-same f h mode c g a out W e (λ m s v. refl);
           programs = programs-same f h mode c g a out W e refl;
           values = λ i j l.
-              new-is i j
-              ∙ ap (λ (t : Bool). cond t (cond (eqb (group.code of Entry i) 0) v (getD D j 0)) (groupByte f h i j)) (must-fail (all (Tests i)) (λ t. let u = test-is i l .0 t in no-test i (u .0) (u .1) (u .2)));
+              new-is i j ∙ rw (must-fail (all (Tests i)) (λ t. let u = test-is i l .0 t in no-test i (u .0) (u .1) (u .2)));
         })
         none n answer (λ z. subst Writing e (z .writing))
 
@@ -168,7 +160,8 @@ module _ (f : First) (b : Begins f) (h : List Event) (x : State) (inv : Inv f h 
       stored-at ds size small fit same outcome answer =
           aside f h mode c g a out x inv W e (λ z. z) _
           (stayed f h mode c g a out x inv (sessions-same f h mode c g a out W e refl (λ k t l. refl)) outcome answer _)
-          (rw (group-same (inv .means .agree) i group.offset there (omega arith)) (store-group (fine inv b) (inv .means) i there ds (omega (arith, size, field-now i there .2)) (groupByte f (E f h mode c g a out ∷ h)) here away fit small))
+          (rw (field-now i there group.offset (omega arith))
+          (store-group (fine inv b) (inv .means) i there ds (omega (arith, size, field-now i there group.code (omega arith))) (groupByte f (E f h mode c g a out ∷ h)) here away fit small))
           (sym (addresses-same f h mode c g a out W e (λ m s v. refl)))
           (sym (programs-same f h mode c g a out W e refl))
           (λ i j l. refl)
@@ -188,7 +181,7 @@ module _ (f : First) (b : Begins f) (h : List Event) (x : State) (inv : Inv f h 
           stored-at (bytesOf 1 v) (omega (arith, length-bytes 1 v)) (octets-bytes 1 v)
           (λ u w j l. rw (six-byte v j (six-bits q r) (omega (arith, length-bytes 1 v))) (six-bits q r))
           (λ j l.
-          rw (eq-eqb (group.code of Entry i) 0 (sym (field-now i there .2) ∙ z))
+          rw (eq-eqb (group.code of Entry i) 0 (sym (field-now i there group.code (omega arith)) ∙ z))
           (sym (six-byte v j (six-bits q r) (omega (arith, length-bytes 1 v)))))
 
       -- bytes
@@ -198,4 +191,4 @@ module _ (f : First) (b : Begins f) (h : List Event) (x : State) (inv : Inv f h 
           (ends R outcome answer (splice (x .sheet) (group.offset of entry (x .sheet) groups i) D))
       bytes-stored z =
           stored-at D (omega arith) (octets-data p a octets) (λ u w j l. absurd (omega arith))
-          (λ j l. rw (ne-eqb (group.code of Entry i) 0 (omega (arith, field-now i there .2))))
+          (λ j l. rw (ne-eqb (group.code of Entry i) 0 (omega (arith, field-now i there group.code (omega arith)))))

@@ -32,7 +32,8 @@ use Rattle.history.proofs.promises.Said.{said}
 use Rattle.history.proofs.steps.Invariant.{Inv, fine}
 use Rattle.history.proofs.stored.Means.{store-flags, store-address}
 use Rattle.history.proofs.places.Standing.{no-head, past-contents}
-use Rattle.history.proofs.steps.Requests.{ends, E, Ok, Done, opens-new, levels-new, sessions-same, programs-same, programs-new, addresses-same, addresses-new, values-same, unwritten, stayed, left, aside}
+use Rattle.history.proofs.steps.Requests.{ends, E, Ok, Done, opens-new, levels-new, sessions-same, programs-same, programs-new}
+use Rattle.history.proofs.steps.Requests.{addresses-same, addresses-new, values-same, unwritten, stayed, left, aside}
 use Rattle.history.proofs.steps.Writes.{heard-now}
 
 module _ (f : First) (b : Begins f) (h : List Event) (x : State) (inv : Inv f h x) (mode c g : ℕ) (a out : List ℕ) where

@@ -118,9 +118,10 @@ module _ (f : First) (b : Begins f) (h : List Event) (x : State) (inv : Inv f h 
       of-body zero i q =
           before-left p (past-contents g q) (omega (arith, q .to, to-next g regions i (omega arith) (q .below)))
       of-body (suc zero) i q =
+          let j : ℕ = p - bodyAt F properties i in
           absurd
-          (no-body _ _ (p - bodyAt F properties i)
-          (ofBody {j = p - bodyAt F properties i} {p = p} i (record { there = q .below; sameObject = refl; sameId = refl }) (omega (arith, q .from, q .to, end-is F properties i)) (omega (arith, q .from))))
+          (no-body _ _ j
+          (ofBody {j = j} {p = p} i (record { there = q .below; sameObject = refl; sameId = refl }) (omega (arith, q .from, q .to, end-is F properties i)) (omega (arith, q .from))))
       of-body (suc (suc zero)) i q = behind-left p (omega (arith, q .from, from-start g groups i (omega arith) (q .below)))
       of-body (suc (suc (suc zero))) i q =
           behind-left p (omega (arith, q .from, from-start g users i (omega arith) (q .below), start-up g groups (omega arith)))

@@ -42,7 +42,8 @@ use Rattle.history.specs.Keeps.{Device, stateAfter}
 use Rattle.history.specs.Isolation.{Beside, begin, shared, oneMore, otherMore, same, asLong, Isolated}
 use Rattle.history.specs.Samples.{fresh}
 use Rattle.history.proofs.trials.Runs.{offering, offeringOn, authorized}
-use Rattle.history.proofs.trials.Leaks.{showsLevel, lowersBoth, offeredOn1, howMany, inMode, isDisconnect, isRestore, showing, showsBuffer, readUnconnected, readGroup, readAddresses, restoreClosed}
+use Rattle.history.proofs.trials.Leaks.{showsLevel, lowersBoth, offeredOn1, howMany, inMode, isDisconnect, isRestore, showing}
+use Rattle.history.proofs.trials.Leaks.{showsBuffer, readUnconnected, readGroup, readAddresses, restoreClosed}
 
 -- what the tool on connection 1 offers is no restart
 offers-only : (b : ℕ) → wished (offeringOn 1 b) ≡ restart → ⊥

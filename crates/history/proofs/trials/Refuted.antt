@@ -135,7 +135,8 @@ each (w ∷ ws) e = let b = and-is (tells w) (tellAll ws) .0 e in (refuted w (b 
 
 -- by computation
 told : tellAll wrongs ≡ true
-unfolding stateAfter eventOf requestOf stepOf stepBy judgeOf verdictOf isAccepted isShut reachedOf rulesOf levelIn levelOf grantOf authorizeOf keyWriteOf restartOf changeOf memoryWriteOf writeIn propertyWriteOf
+unfolding stateAfter eventOf requestOf stepOf stepBy judgeOf verdictOf isAccepted isShut reachedOf rulesOf levelIn levelOf grantOf
+    authorizeOf keyWriteOf restartOf changeOf memoryWriteOf writeIn propertyWriteOf
     permitted opened level content firstOf keyIn heard levelFor allowed every regionFor mayWrite inRange indexFor entryFor
     asks brings readPdu find dataOf encoded headBytes lowAt fourAt twelveAt seek indexOf covers placeOf common rangeOf splice
     ruleIn walkRule restRule entriesRule bodiesRule entryRule bodyRule bodyDemands entryDemands entry keyOf floor bodyAt bodyEnd startOf reached sixBits first breach numAt bytesOf sample pump

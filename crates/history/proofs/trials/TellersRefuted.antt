@@ -55,7 +55,8 @@ unfolding guarded verdictOf ruleIn walkRule restRule entriesRule bodiesRule entr
 begins-one = record { octets = octets-by guarded refl; accepted = refl }
 
 begins-two : Begins two
-unfolding guarded splice verdictOf ruleIn walkRule restRule entriesRule bodiesRule entryRule bodyRule bodyDemands entryDemands entry keyOf floor bodyAt bodyEnd startOf reached sixBits first breach numAt
+unfolding guarded splice verdictOf ruleIn walkRule restRule entriesRule bodiesRule entryRule bodyRule bodyDemands entryDemands
+    entry keyOf floor bodyAt bodyEnd startOf reached sixBits first breach numAt
 begins-two = record { octets = octets-by otherSecrets refl; accepted = refl }
 
 -- the three bytes are secret to every level but 0

@@ -28,7 +28,8 @@ use Rattle.history.specs.History.{First, wished, isRestart, permitted}
 use Rattle.history.specs.Keeps.{Device, stateAfter}
 use Rattle.history.specs.Rightful.{ours}
 use Rattle.history.specs.Samples.{fresh, freshPump}
-use Rattle.history.proofs.trials.Runs.{offering, offeringOn, firstWrite, againWrite, secondWrite, bothBytes, newKey0, userWrite, acrossWrite, elementWrite, clear, jump, restarting, given, otherLevels, otherHeight, readOnly, freshReadOnly, closedAtZero, authorized, bothOn}
+use Rattle.history.proofs.trials.Runs.{offering, offeringOn, firstWrite, againWrite, secondWrite, bothBytes, newKey0, userWrite, acrossWrite, elementWrite, clear}
+use Rattle.history.proofs.trials.Runs.{jump, restarting, given, otherLevels, otherHeight, readOnly, freshReadOnly, closedAtZero, authorized, bothOn}
 
 -- an effect with another sheet, and with other sessions
 abbrev pub withSheet : Effect → List ℕ → Effect

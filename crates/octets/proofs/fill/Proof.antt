@@ -1,15 +1,12 @@
 -- `octets::fill` meets its contract. The invariant: dst is what it was with j bytes of the run pasted in from `at`.
 -- Assumes nothing.
-use mathlib.Core.Path.{_≡_, refl, sym, ap, _∙_}
-use mathlib.Core.List.{List}
-use Prim.Native.Nat.{ℕ, _+_, _≤_, _-_}
+use mathlib.Core.Path.{_≡_, refl}
+use Prim.Native.Nat.{_≤_, _-_}
 use native.Mathlib.Omega.{arith}
-use native.Mathlib.Numerals.{add-one}
 use borrow.Author.Needs.{needs}
-use lib.ListN.{length, length-set, set, replicate, length-replicate, getD-replicate}
-use lib.Seq.{paste, paste-zero, paste-suc, take-all}
-use denote.Ref.{now}
-use Rattle.octets.specs.Splice.{splice}
+use lib.ListN.{length, length-set, replicate, length-replicate, getD-replicate}
+use lib.Seq.{paste, paste-zero}
+use Rattle.octets.proofs.Stores.{paste-more, paste-all}
 use Rattle.octets.proofs.fill.Statement.{statement}
 use Rattle.octets.proofs.fill.Tie as tie
 
@@ -19,45 +16,19 @@ Inv-loop dst₀ at n b j₀ dst j = (j ≤ n) × (dst ≡ paste dst₀ at (repli
 abbrev μ-loop : tie.MeasureT-loop
 μ-loop dst₀ at n b j₀ dst j = n - j
 
-loop-holds : tie.Need-loop-holds Inv-loop μ-loop
-loop-holds c =
-    let a = c .args in (omega arith, paste-zero (now (a .dst)) (a .at) (replicate (a .n) (a .b)), refl)
-
-loop-again : tie.Need-loop-again Inv-loop μ-loop
-loop-again c =
-    let i = c .before .loop in
-    let a = c .before .before .args in
-    let run : List ℕ = replicate (a .n) (a .b) in
-    let l : length run ≡ a .n = length-replicate (a .n) (a .b) in (
-      omega arith,
-      ap (λ (x : List ℕ). set x (a .at + i .j) (a .b)) (i .inv .1)
-          ∙ ap (set (paste (now (a .dst)) (a .at) run (i .j)) (a .at + i .j)) (sym (getD-replicate (a .n) (i .j) (a .b) 0 (omega arith)))
-          ∙ paste-suc (now (a .dst)) (a .at) run (i .j) 0 (omega arith) (omega arith)
-          ∙ ap (paste (now (a .dst)) (a .at) run) (sym (add-one (i .j))),
-      simp length-set (i .inv .2),
-    )
-
-returns : tie.Need-returns Inv-loop μ-loop
-unfolding splice
-returns c =
-    let i = c .before .loop in
-    let a = c .before .before .args in
-    let run : List ℕ = replicate (a .n) (a .b) in
-    let l : length run ≡ a .n = length-replicate (a .n) (a .b) in
-    let e : i .j ≡ length run = omega arith in
-    i .inv .1 ∙ ap (paste (now (a .dst)) (a .at) run) e ∙ simp (take-all (length run) run (omega arith))
-
 pub fill-spec : {M : Type 1} → statement M
 fill-spec =
     tie.close
     (tie.spec
-    Inv-loop
-    μ-loop
-    loop-holds
-    (λ c. omega arith)
-    (λ c. omega arith)
-    (λ c. omega arith)
-    (λ c. omega arith)
-    loop-again
+    Inv-loop μ-loop
+    (λ c. let a = c .args in (omega arith, paste-zero (a .dst .now) (a .at) (replicate (a .n) (a .b)), refl))
+    (λ c. omega arith) (λ c. omega arith) (λ c. omega arith) (λ c. omega arith)
+    (λ c.
+    let i = c .before .loop .inv in
+    let a = c .before .before .args in
+    let l = length-replicate (a .n) (a .b) in
+    (omega arith, paste-more _ _ _ _ _ _ (omega arith) (omega arith) (getD-replicate (a .n) _ (a .b) 0 (omega arith)) (i .1), simp length-set (i .2)))
     (λ c. search needs)
-    returns)
+    (λ c.
+    let a = c .before .before .args in
+    paste-all _ _ _ _ (c .before .loop .j) (c .before .loop .inv .1) (omega (arith, length-replicate (a .n) (a .b)))))

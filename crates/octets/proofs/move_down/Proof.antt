@@ -17,36 +17,24 @@ Inv-loop s₀ from to n j₀ s j = (j ≤ n) × (s ≡ moved s₀ from to j) × 
 abbrev μ-loop : tie.MeasureT-loop
 μ-loop s₀ from to n j₀ s j = n - j
 
-loop-again : tie.Need-loop-again Inv-loop μ-loop
-loop-again c =
+pub move-down-spec : {M : Type 1} → statement M
+move-down-spec =
+    tie.close
+    (tie.spec
+    Inv-loop μ-loop
+    (λ c. (omega arith, moved-none _ _ _, refl))
+    (λ c. omega arith) (λ c. omega arith) (λ c. omega arith) (λ c. omega arith) (λ c. omega arith) (λ c. omega arith)
+    (λ c.
     let i = c .before .before .loop in
     let a = c .before .before .before .args in (
       omega arith,
       ap (λ (l : List ℕ). set l (a .to + i .j) (getD l (a .from + i .j) 0)) (i .inv .1)
           ∙ move-first _ _ _ (i .j) (omega arith) (omega arith),
       simp length-set (i .inv .2),
-    )
-
-returns : tie.Need-returns Inv-loop μ-loop
-returns c =
+    ))
+    (λ c. search needs)
+    (λ c.
     let i = c .before .loop in
     let a = c .before .before .args in
     let e : i .j ≡ a .n = omega arith in
-    i .inv .1 ∙ ap (moved _ _ _) e
-
-pub move-down-spec : {M : Type 1} → statement M
-move-down-spec =
-    tie.close
-    (tie.spec
-    Inv-loop
-    μ-loop
-    (λ c. (omega arith, moved-none _ _ _, refl))
-    (λ c. omega arith)
-    (λ c. omega arith)
-    (λ c. omega arith)
-    (λ c. omega arith)
-    (λ c. omega arith)
-    (λ c. omega arith)
-    loop-again
-    (λ c. search needs)
-    returns)
+    i .inv .1 ∙ ap (moved _ _ _) e))

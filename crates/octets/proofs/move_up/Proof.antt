@@ -17,32 +17,20 @@ Inv-loop s₀ from to n j₀ s j = (j ≤ n) × (s ≡ moved s₀ (from + j) (to
 abbrev μ-loop : tie.MeasureT-loop
 μ-loop s₀ from to n j₀ s j = j
 
-loop-again : tie.Need-loop-again Inv-loop μ-loop
-loop-again c =
+pub move-up-spec : {M : Type 1} → statement M
+move-up-spec =
+    tie.close
+    (tie.spec
+    Inv-loop μ-loop
+    (λ c. (omega arith, up-none _ _ _ _ _ (omega arith), refl))
+    (λ c. omega arith) (λ c. omega arith) (λ c. omega arith) (λ c. omega arith) (λ c. omega arith) (λ c. omega arith)
+    (λ c.
     let i = c .before .before .loop in
     let a = c .before .before .before .args in (
       omega arith,
       ap (λ (l : List ℕ). set l (a .to + (i .j - 1)) (getD l (a .from + (i .j - 1)) 0)) (i .inv .1)
           ∙ up-more _ _ _ _ (i .j) (omega arith) (omega arith) (omega arith) (omega arith),
       simp length-set (i .inv .2),
-    )
-
-returns : tie.Need-returns Inv-loop μ-loop
-returns c = c .before .loop .inv .1 ∙ up-all _ _ _ _ _ (omega arith)
-
-pub move-up-spec : {M : Type 1} → statement M
-move-up-spec =
-    tie.close
-    (tie.spec
-    Inv-loop
-    μ-loop
-    (λ c. (omega arith, up-none _ _ _ _ _ (omega arith), refl))
-    (λ c. omega arith)
-    (λ c. omega arith)
-    (λ c. omega arith)
-    (λ c. omega arith)
-    (λ c. omega arith)
-    (λ c. omega arith)
-    loop-again
+    ))
     (λ c. search needs)
-    returns)
+    (λ c. c .before .loop .inv .1 ∙ up-all _ _ _ _ _ (omega arith)))

@@ -15,32 +15,17 @@ Inv-loop s at w x₀ i₀ x i = (i ≤ w) × IsNum s at i (256 ^ i) x
 abbrev μ-loop : tie.MeasureT-loop
 μ-loop s at w x₀ i₀ x i = w - i
 
-mul-x : tie.Need-mul-x Inv-loop μ-loop
-mul-x c = omega (arith, num-small _ _ (c .before .loop .inv .1 .below) (omega arith))
-
-add-x : tie.Need-add-x Inv-loop μ-loop
-add-x c = omega (arith, num-small _ _ (c .before .before .loop .inv .1 .below) (omega arith))
-
-loop-again : tie.Need-loop-again Inv-loop μ-loop
-loop-again c = (omega arith, num-more _ _ _ _ _ (c .before .before .loop .inv .1) (c .byte .ensures))
-
-returns : tie.Need-returns Inv-loop μ-loop
-returns c =
-    let e : c .before .loop .i ≡ c .before .before .before .args .w = omega arith in
-    rw e at (c .before .loop .inv .1)
-
 pub number-spec : {M : Type 1} → statement M
 number-spec =
     tie.close
     (tie.spec
-    Inv-loop
-    μ-loop
+    Inv-loop μ-loop
     (λ c. (omega arith, num-none _ _))
-    mul-x
-    (λ c. omega arith)
-    (λ c κs. search needs)
-    add-x
-    (λ c. omega arith)
-    (λ c. omega arith)
-    loop-again
-    returns)
+    (λ c. omega (arith, num-small _ _ (c .before .loop .inv .1 .below) (omega arith)))
+    (λ c. omega arith) (λ c κs. search needs)
+    (λ c. omega (arith, num-small _ _ (c .before .before .loop .inv .1 .below) (omega arith)))
+    (λ c. omega arith) (λ c. omega arith)
+    (λ c. (omega arith, num-more _ _ _ _ _ (c .before .before .loop .inv .1) (c .byte .ensures)))
+    (λ c.
+    let e : c .before .loop .i ≡ c .before .before .before .args .w = omega arith in
+    rw e at (c .before .loop .inv .1)))

@@ -18,26 +18,15 @@ Inv-loop dst₀ at w x i₀ y₀ dst i y =
 abbrev μ-loop : tie.MeasureT-loop
 μ-loop dst₀ at w x i₀ y₀ dst i y = i
 
-loop-again : tie.Need-loop-again Inv-loop μ-loop
-loop-again c =
-    let l = c .before .loop in
-    (omega arith, put-again _ _ _ _ _ (omega arith) (l .inv .1), simp length-set (l .inv .2))
-
-returns : tie.Need-returns Inv-loop μ-loop
-returns c = put-end _ _ _ _ _ _ _ (omega arith) (omega arith) (c .before .loop .inv .1)
-
 pub put-spec : {M : Type 1} → statement M
 put-spec =
     tie.close
     (tie.spec
-    Inv-loop
-    μ-loop
+    Inv-loop μ-loop
     (λ c. (omega arith, refl, refl))
-    (λ c. omega arith)
+    (λ c. omega arith) (λ c. search needs) (λ c. omega arith) (λ c. omega arith) (λ c. omega arith)
+    (λ c.
+    let l = c .before .loop in
+    (omega arith, put-again _ _ _ _ _ (omega arith) (l .inv .1), simp length-set (l .inv .2)))
     (λ c. search needs)
-    (λ c. omega arith)
-    (λ c. omega arith)
-    (λ c. omega arith)
-    loop-again
-    (λ c. search needs)
-    returns)
+    (λ c. put-end _ _ _ _ _ _ _ (omega arith) (omega arith) (c .before .loop .inv .1)))

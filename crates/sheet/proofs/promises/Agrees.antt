@@ -1,20 +1,22 @@
 -- Two sheets that agree on what the rules read are both accepted or both not.
 -- Assumes nothing.
-use Prim.Native.Nat.{ℕ, _<_, _≤_}
+use Prim.Native.Nat.{ℕ, _+_, _<_, _≤_}
 use mathlib.Core.Path.{_≡_, sym, _∙_}
 use mathlib.Core.List.{List}
 use native.Mathlib.Omega.{arith}
 use Rattle.sheet.specs.Demand.{Met}
-use Rattle.sheet.specs.Kind.{kinds, regions, properties, groups, users}
-use Rattle.sheet.specs.Layout.{_of_}
+use Rattle.sheet.specs.Kind.{kinds, regions, properties, groups, users, kindOf}
+use Rattle.sheet.specs.Layout.{Field, _of_}
 use Rattle.sheet.specs.Head as head
 use Rattle.sheet.specs.Region as region
 use Rattle.sheet.specs.Property as property
 use Rattle.sheet.specs.Group as group
-use Rattle.sheet.specs.Entries.{count, entry, sixBits}
-use Rattle.sheet.specs.Rules.{entryDemands, bodyDemands, Accepted}
+use Rattle.sheet.specs.Entries.{count, entry, floor, sixBits}
+use Rattle.sheet.specs.Places.{regionAt}
+use Rattle.sheet.specs.Rules.{regionDemands, entryDemands, bodyDemands, Accepted}
+use Rattle.sheet.specs.declared.Memory.{Memory}
 use Rattle.sheet.specs.declared.Memory.the-variants.{Device, User}
-use Rattle.sheet.specs.Agree.{Agree, AgreeBy}
+use Rattle.sheet.specs.Agree.{Fixed, Agree, AgreeBy}
 use Rattle.sheet.proofs.rules.ByKind.{eachKind}
 use Rattle.sheet.proofs.rules.Good.{GoodIn, good, accepted}
 use Rattle.sheet.proofs.alike.Sames.{front-same, count-same, region-same, property-same, group-same, floor-same, offset-same, at-same, start-same, reached-same}
@@ -75,24 +77,31 @@ module _ {ed : ℕ} {R : List ℕ → List ℕ → Type 0} {s s′ : List ℕ} (
   fewer : (k i : ℕ) → i < count s′ k → i < count s k
   fewer k i h = omega (arith, count-same a k)
 
+  region-met :
+      (m : Memory) (i : ℕ) → kindOf m < kinds → i < count s (kindOf m) →
+      Met (regionDemands (floor s (kindOf m) i) (regionAt s m i)) → Met (regionDemands (floor s′ (kindOf m) i) (regionAt s′ m i))
+  region-met m i hk h met =
+      rw (floor-same a (kindOf m) i hk h, region-same a m i region.address h (omega arith), region-same a m i region.length h (omega arith))
+      (rw (region-same a m i region.levels h (omega arith), region-same a m i region.zero h (omega arith)) met)
+
   entries : (i k : ℕ) → k < kinds → i < count s k → Met (entryDemands s′ k i)
   unfolding entryDemands
   entries i =
       eachKind (λ (k : ℕ). i < count s k → Met (entryDemands s′ k i))
-      (λ h.
-      rw (floor-same a regions i (omega arith) h, region-same a Device i region.address h (omega arith), region-same a Device i region.length h (omega arith), region-same a Device i region.levels h (omega arith), region-same a Device i region.zero h (omega arith))
-      (g .entries regions i (omega arith) h))
+      (λ h. region-met Device i (omega arith) h (g .entries regions i (omega arith) h))
       (λ h.
       let m = g .entries properties i (omega arith) h in
       let c : property.count of entry s properties i ≤ property.maximum of entry s properties i = omega (arith, m) in
-      rw (floor-same a properties i (omega arith) h, property-same a i property.id h (omega arith) (omega arith), property-same a i property.objectId h (omega arith) (omega arith), property-same a i property.typ h (omega arith) (omega arith), property-same a i property.element h (omega arith) (omega arith), property-same a i property.maximum h (omega arith) (omega arith), property-same a i property.levels h (omega arith) (omega arith), property-same a i property.zero h (omega arith) (omega arith))
-      (omega (arith, m, a .counts i h .0 c)))
+      let p : (f : Field) → f .at + f .width ≤ property.size → ((j : ℕ) → j < f .width → Fixed properties (f .at + j)) → f of entry s′ properties i ≡ f of entry s properties i =
+      λ f. property-same a i f h
+      in
+      rw (floor-same a properties i (omega arith) h, p property.id (omega arith) (omega arith), p property.objectId (omega arith) (omega arith))
+      (rw (p property.typ (omega arith) (omega arith), p property.element (omega arith) (omega arith), p property.maximum (omega arith) (omega arith))
+      (rw (p property.levels (omega arith) (omega arith), p property.zero (omega arith) (omega arith)) (omega (arith, m, a .counts i h .0 c)))))
       (λ h.
-      rw (floor-same a groups i (omega arith) h, group-same a i group.address h (omega arith), group-same a i group.code h (omega arith), group-same a i group.flags h (omega arith), group-same a i group.zeros h (omega arith))
-      (g .entries groups i (omega arith) h))
-      (λ h.
-      rw (floor-same a users i (omega arith) h, region-same a User i region.address h (omega arith), region-same a User i region.length h (omega arith), region-same a User i region.levels h (omega arith), region-same a User i region.zero h (omega arith))
-      (g .entries users i (omega arith) h))
+      rw (floor-same a groups i (omega arith) h, group-same a i group.address h (omega arith), group-same a i group.code h (omega arith))
+      (rw (group-same a i group.flags h (omega arith), group-same a i group.zeros h (omega arith)) (g .entries groups i (omega arith) h)))
+      (λ h. region-met User i (omega arith) h (g .entries users i (omega arith) h))
 
   six : (i k : ℕ) → k < kinds → i < count s k → sixBits s′ k (entry s′ k i) ≤ 63
   six i =

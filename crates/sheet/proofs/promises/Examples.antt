@@ -50,7 +50,9 @@ example-accepted = refl
 
 -- THE NUMBERS IN ITS HEAD
 pub example-head :
-    map (λ (f : Field). f of example) (head.edition ∷ head.regions ∷ head.properties ∷ head.groups ∷ head.stated ∷ head.serial ∷ head.mask ∷ head.flags ∷ head.byte15 ∷ head.address ∷ head.key 0 ∷ head.key 1 ∷ head.key 2 ∷ head.rules ∷ head.zero31 ∷ [])
+    map (λ (f : Field). f of example)
+    (head.edition ∷ head.regions ∷ head.properties ∷ head.groups ∷ head.stated ∷ head.serial ∷ head.mask ∷ head.flags ∷
+    head.byte15 ∷ head.address ∷ head.key 0 ∷ head.key 1 ∷ head.key 2 ∷ head.rules ∷ head.zero31 ∷ [])
     ≡ 2 ∷ 2 ∷ 3 ∷ 1 ∷ 109 ∷ 0x00C501020304 ∷ 0x07B0 ∷ 2 ∷ 0 ∷ 0x1105 ∷ 0x0A0B0C0D ∷ 0x1A1B1C1D ∷ 0x2A2B2C2D ∷ 0 ∷ 0 ∷ []
 unfolding example numAt
 example-head = refl
@@ -68,7 +70,8 @@ pub example-rules :
     (map (λ (n : ℕ). verdictOf (named 2 n)) (0 ∷ 1 ∷ 2 ∷ 255 ∷ []) ≡ 0 ∷ 0 ∷ 5 ∷ 5 ∷ [])
     × (map (λ (n : ℕ). verdictOf (named 1 n)) (0 ∷ 1 ∷ []) ≡ 14 ∷ 5 ∷ [])
     × (map (λ (n : ℕ). rulesOf (named 2 n)) (0 ∷ 1 ∷ []) ≡ 0 ∷ 1 ∷ [])
-unfolding example named splice rulesOf verdictOf ruleIn walkRule restRule entriesRule bodiesRule entryRule bodyRule entryDemands bodyDemands breach first entry floor bodyEnd startOf reached sixBits numAt
+unfolding example named splice rulesOf
+    verdictOf ruleIn walkRule restRule entriesRule bodiesRule entryRule bodyRule entryDemands bodyDemands breach first entry floor bodyEnd startOf reached sixBits numAt
 example-rules = (refl, refl, refl)
 
 -- THE TYPE OF A PROPERTY: each bit alone, from bit 0 on. Bit 6 breaks S7, and no other does
@@ -93,7 +96,8 @@ unfolding example entry numAt
 example-region = refl
 
 pub example-property :
-    map (λ (f : Field). f of entry example properties 0) (property.object ∷ property.id ∷ property.typ ∷ property.element ∷ property.maximum ∷ property.count ∷ property.offset ∷ property.levels ∷ property.zero ∷ [])
+    map (λ (f : Field). f of entry example properties 0)
+    (property.object ∷ property.id ∷ property.typ ∷ property.element ∷ property.maximum ∷ property.count ∷ property.offset ∷ property.levels ∷ property.zero ∷ [])
     ≡ 1 ∷ 2 ∷ 0x84 ∷ 1 ∷ 4 ∷ 3 ∷ 97 ∷ 0x31 ∷ 0 ∷ []
 unfolding example entry numAt
 example-property = refl
@@ -107,18 +111,18 @@ example-group = refl
 -- THE VALUE LOOKUPS: by region number, by object and id, by group address
 pub example-regions :
     map (regionOf example) (0 ∷ 1 ∷ 2 ∷ []) ≡ (0xA0 ∷ 0xA1 ∷ []) ∷ (0xA2 ∷ 0xA3 ∷ 0xA4 ∷ []) ∷ [] ∷ []
-unfolding example lookup isAccepted bodyOf verdictOf ruleIn walkRule restRule entriesRule bodiesRule entryRule bodyRule entryDemands bodyDemands breach first entry floor bodyEnd startOf reached sixBits numAt
-example-regions = refl
+unfolding example lookup isAccepted bodyOf entry numAt
+example-regions = rw example-accepted
 
 pub example-properties :
     propertyOf example 1 2 ∷ propertyOf example 2 1 ∷ propertyOf example 2 3 ∷ propertyOf example 3 2 ∷ []
     ≡ (0xB0 ∷ 0xB1 ∷ 0xB2 ∷ 0xB3 ∷ []) ∷ (0xB4 ∷ 0xB5 ∷ 0xB6 ∷ []) ∷ (0xB7 ∷ 0xB8 ∷ 0xB9 ∷ []) ∷ [] ∷ []
-unfolding example lookup isAccepted bodyOf indexOf seek keyOf verdictOf ruleIn walkRule restRule entriesRule bodiesRule entryRule bodyRule entryDemands bodyDemands breach first entry floor bodyEnd startOf reached sixBits numAt
-example-properties = refl
+unfolding example lookup isAccepted bodyOf indexOf seek keyOf entry numAt
+example-properties = rw example-accepted
 
 pub example-groups : map (groupOf example) (0x0801 ∷ 0x0108 ∷ []) ≡ (0xC0 ∷ 0xC1 ∷ []) ∷ [] ∷ []
-unfolding example lookup isAccepted bodyOf indexOf seek keyOf verdictOf ruleIn walkRule restRule entriesRule bodiesRule entryRule bodyRule entryDemands bodyDemands breach first entry floor bodyEnd startOf reached sixBits numAt
-example-groups = refl
+unfolding example lookup isAccepted bodyOf indexOf seek keyOf entry numAt
+example-groups = rw example-accepted
 
 -- THE INDEX WITHIN AN OBJECT: of each property, and the property of an index
 pub example-ranks : rank example 1 0 ∷ rank example 2 1 ∷ rank example 2 2 ∷ [] ≡ 0 ∷ 0 ∷ 1 ∷ []

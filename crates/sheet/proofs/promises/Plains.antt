@@ -3,6 +3,7 @@
 use Prim.Native.Nat.{ℕ, _<_}
 use mathlib.Core.Path.{_≡_}
 use mathlib.Core.List.{List, [], _∷_}
+use lib.Dec.{T}
 use lib.ListN.{take, drop}
 use native.Mathlib.Omega.{arith}
 use Rattle.sheet.specs.Demand.{Demand, breach, Met}
@@ -11,7 +12,7 @@ use Rattle.sheet.specs.Entries.{count}
 use Rattle.sheet.specs.Rules.{restRule, frameDemands, zeroDemands, entryDemands, bodyDemands, endDemands, entryRule, bodyRule, entriesRule, bodiesRule, walkRule, ruleIn}
 use Rattle.sheet.specs.Plain.{S1, S2, S3, S4, S5, S6, S7, S8, S9, Judged, breaks1, breaks2, breaks3, breaks4, breaks5, breaks6, breaks7, breaks8, breaks9, none}
 use Rattle.sheet.proofs.rules.First.{orElse-some, orElse-assoc, orElse-zero}
-use Rattle.sheet.proofs.rules.Telling.{Says, holds, fails, says-yes, says-no, says-map, says-and, says-all, says-rows, breach-append}
+use Rattle.sheet.proofs.rules.Telling.{Says, holds, fails, says-yes, says-no, says-map, says-and, says-all, ruled, says-rows, breach-append}
 use Rattle.sheet.proofs.rules.PlainRows.{Entries, Bodies, to6, from6, to7, from7, to8, from8, to9, from9}
 
 -- the first of a few numbers that is not 0
@@ -48,38 +49,25 @@ module _ (ed : ℕ) (s : List ℕ) where
   says5 : Says 5 (S5 s) (breach (zeroDemands s))
   says5 = says-map (λ m. omega arith) (λ m. omega arith) (says-rows 5 (omega arith) (zeroDemands s) tt)
 
-  says-regions : Says 6 (Entries s 0) (entriesRule s 0)
-  unfolding entriesRule entryRule entryDemands
-  says-regions =
-      says-all 6 (omega arith) (λ i. Met (entryDemands s 0 i)) (entryRule s 0) (count s 0)
-      (λ i h. says-rows 6 (omega arith) (entryDemands s 0 i) tt)
-
-  says-users : Says 6 (Entries s 3) (entriesRule s 3)
-  unfolding entriesRule entryRule entryDemands
-  says-users =
-      says-all 6 (omega arith) (λ i. Met (entryDemands s 3 i)) (entryRule s 3) (count s 3)
-      (λ i h. says-rows 6 (omega arith) (entryDemands s 3 i) tt)
+  -- of the entries of a kind, whose rows are all of one rule
+  says-entries : (n : ℕ) (h : 0 < n) (k : ℕ) → ((i : ℕ) → T (ruled n h (entryDemands s k i))) → Says n (Entries s k) (entriesRule s k)
+  unfolding entriesRule entryRule
+  says-entries n h k t = says-all n h (λ i. Met (entryDemands s k i)) (entryRule s k) (count s k) (λ i l. says-rows n h (entryDemands s k i) (t i))
 
   sixth : ℕ
   sixth = orElse (entriesRule s 3) (entriesRule s 0)
 
   says6 : Says 6 (S6 s) sixth
-  unfolding sixth
-  says6 = says-map (to6 s) (from6 s) (says-and 6 (omega arith) says-users says-regions)
+  unfolding sixth entryDemands
+  says6 = says-map (to6 s) (from6 s) (says-and 6 (omega arith) (says-entries 6 (omega arith) 3 (λ i. tt)) (says-entries 6 (omega arith) 0 (λ i. tt)))
 
   says7 : Says 7 (S7 s) (entriesRule s 1)
-  unfolding entriesRule entryRule entryDemands
-  says7 =
-      says-map (to7 s) (from7 s)
-      (says-all 7 (omega arith) (λ i. Met (entryDemands s 1 i)) (entryRule s 1) (count s 1)
-      (λ i h. says-rows 7 (omega arith) (entryDemands s 1 i) tt))
+  unfolding entryDemands
+  says7 = says-map (to7 s) (from7 s) (says-entries 7 (omega arith) 1 (λ i. tt))
 
   says8 : Says 8 (S8 s) (entriesRule s 2)
-  unfolding entriesRule entryRule entryDemands
-  says8 =
-      says-map (to8 s) (from8 s)
-      (says-all 8 (omega arith) (λ i. Met (entryDemands s 2 i)) (entryRule s 2) (count s 2)
-      (λ i h. says-rows 8 (omega arith) (entryDemands s 2 i) tt))
+  unfolding entryDemands
+  says8 = says-map (to8 s) (from8 s) (says-entries 8 (omega arith) 2 (λ i. tt))
 
   says-bodies : (k : ℕ) → Says 9 (Bodies s k) (bodiesRule s k)
   unfolding bodiesRule bodyRule bodyDemands
@@ -97,9 +85,12 @@ module _ (ed : ℕ) (s : List ℕ) where
       (says-and 9 (omega arith) (says-and 9 (omega arith) (says-and 9 (omega arith) (says-and 9 (omega arith) (says-bodies 0) (says-bodies 1)) (says-bodies 2)) (says-bodies 3))
       (says-rows 9 (omega arith) (endDemands s) tt))
 
-  nine :
-      ruleIn ed s ≡
+  -- the first of the nine that is told
+  abbrev told : ℕ
+  told =
       firstOf (breach (rows 0 2) ∷ breach (rows 2 2) ∷ breach (rows 4 4) ∷ breach (rows 8 2) ∷ breach (zeroDemands s) ∷ sixth ∷ entriesRule s 1 ∷ entriesRule s 2 ∷ ninth ∷ [])
+
+  nine : ruleIn ed s ≡ told
   unfolding ruleIn walkRule restRule rows first sixth ninth
   nine =
       rw (breach-append (rows 0 2) (drop 2 (frameDemands ed s)) tt, breach-append (rows 2 2) (drop 4 (frameDemands ed s)) tt, breach-append (rows 4 4) (rows 8 2) tt)
@@ -127,7 +118,7 @@ module _ (ed : ℕ) (s : List ℕ) where
   pub judged-only : {n : ℕ} → Judged ed s n → n ≡ ruleIn ed s
   judged-only {n} j = rw nine (only j)
     where
-      only : {n : ℕ} → Judged ed s n → n ≡ firstOf (breach (rows 0 2) ∷ breach (rows 2 2) ∷ breach (rows 4 4) ∷ breach (rows 8 2) ∷ breach (zeroDemands s) ∷ sixth ∷ entriesRule s 1 ∷ entriesRule s 2 ∷ ninth ∷ [])
+      only : {n : ℕ} → Judged ed s n → n ≡ told
       only (breaks1 n) = rw (says-no says1 n)
       only (breaks2 a n) = rw (says-yes says1 a, says-no says2 n)
       only (breaks3 a b n) = rw (says-yes says1 a, says-yes says2 b, says-no says3 n)
@@ -136,5 +127,7 @@ module _ (ed : ℕ) (s : List ℕ) where
       only (breaks6 a b c d e n) = rw (says-yes says1 a, says-yes says2 b, says-yes says3 c, says-yes says4 d, says-yes says5 e, says-no says6 n)
       only (breaks7 a b c d e f n) = rw (says-yes says1 a, says-yes says2 b, says-yes says3 c, says-yes says4 d, says-yes says5 e, says-yes says6 f, says-no says7 n)
       only (breaks8 a b c d e f g n) = rw (says-yes says1 a, says-yes says2 b, says-yes says3 c, says-yes says4 d, says-yes says5 e, says-yes says6 f, says-yes says7 g, says-no says8 n)
-      only (breaks9 a b c d e f g h n) = rw (says-yes says1 a, says-yes says2 b, says-yes says3 c, says-yes says4 d, says-yes says5 e, says-yes says6 f, says-yes says7 g, says-yes says8 h, says-no says9 n)
-      only (none a b c d e f g h i) = rw (says-yes says1 a, says-yes says2 b, says-yes says3 c, says-yes says4 d, says-yes says5 e, says-yes says6 f, says-yes says7 g, says-yes says8 h, says-yes says9 i)
+      only (breaks9 a b c d e f g h n) =
+          rw (says-yes says1 a, says-yes says2 b, says-yes says3 c, says-yes says4 d, says-yes says5 e) (rw (says-yes says6 f, says-yes says7 g, says-yes says8 h, says-no says9 n))
+      only (none a b c d e f g h i) =
+          rw (says-yes says1 a, says-yes says2 b, says-yes says3 c, says-yes says4 d, says-yes says5 e) (rw (says-yes says6 f, says-yes says7 g, says-yes says8 h, says-yes says9 i))

@@ -64,8 +64,8 @@ second-user = refl
 pub second-regions :
     (map (regionOf second) (0 ∷ 1 ∷ []) ≡ (0xA0 ∷ 0xA1 ∷ []) ∷ [] ∷ [])
     × (map (userRegionOf second) (0 ∷ 1 ∷ 2 ∷ []) ≡ (0xD0 ∷ 0xD1 ∷ 0xD2 ∷ []) ∷ (0xD3 ∷ []) ∷ [] ∷ [])
-unfolding second after lookup isAccepted bodyOf verdictOf ruleIn walkRule restRule entriesRule bodiesRule entryRule bodyRule entryDemands bodyDemands breach first entry floor bodyEnd startOf reached sixBits numAt
-second-regions = (refl, refl)
+unfolding second after lookup isAccepted bodyOf entry numAt
+second-regions = rw second-accepted (refl, refl)
 
 -- ONE ADDRESS IN EITHER MEMORY, and one that user memory alone has
 pub second-ranges :

@@ -38,24 +38,12 @@ module _ {s : List ℕ} {k i : ℕ} (h : Entry s k i) where
   pub place-in : place s k i + size k ≤ contents s
   place-in =
       eachKind (λ (j : ℕ). i < count s j → place s j i + size j ≤ contents s)
-      (λ b. omega arith)
-      (λ b. omega arith)
-      (λ b. omega arith)
-      (λ b. omega arith)
-      k
-      (h .kind)
-      (h .below)
+      (λ b. omega arith) (λ b. omega arith) (λ b. omega arith) (λ b. omega arith) k (h .kind) (h .below)
 
   pub few : i < 64
   few =
       eachKind (λ (j : ℕ). i < count s j → i < 64)
-      (λ b. omega arith)
-      (λ b. omega arith)
-      (λ b. omega arith)
-      (λ b. omega arith)
-      k
-      (h .kind)
-      (h .below)
+      (λ b. omega arith) (λ b. omega arith) (λ b. omega arith) (λ b. omega arith) k (h .kind) (h .below)
 
   least : region.size ≤ size k
   least = eachKind (λ (j : ℕ). region.size ≤ size j) (omega arith) (omega arith) (omega arith) (omega arith) k (h .kind)

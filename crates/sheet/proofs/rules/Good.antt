@@ -14,7 +14,8 @@ use Rattle.sheet.specs.Kind.{kinds, users}
 use Rattle.sheet.specs.Layout.{_of_}
 use Rattle.sheet.specs.Head as head
 use Rattle.sheet.specs.Entries.{count}
-use Rattle.sheet.specs.Rules.{frameDemands, zeroDemands, entryDemands, bodyDemands, endDemands, entryRule, bodyRule, entriesRule, bodiesRule, restRule, walkRule, ruleIn, ruleOf, verdictOf, edition, retired, old, Accepted}
+use Rattle.sheet.specs.Rules.{frameDemands, zeroDemands, entryDemands, bodyDemands, endDemands, entryRule, bodyRule, entriesRule}
+use Rattle.sheet.specs.Rules.{bodiesRule, restRule, walkRule, ruleIn, ruleOf, verdictOf, edition, retired, old, Accepted}
 use Rattle.sheet.proofs.rules.ByKind.{eachKind}
 use Rattle.sheet.proofs.rules.Demands.{met, unbroken, named}
 use Rattle.sheet.proofs.rules.First.{orElse-left, orElse-right, first-each, first-all, first-more, first-suc}

@@ -16,7 +16,8 @@ use Rattle.sheet.specs.Layout.{_of_}
 use Rattle.sheet.specs.Head as head
 use Rattle.sheet.specs.Property as property
 use Rattle.sheet.specs.Entries.{count, size, base, place, contents, entry, floor, floorAfter, offsetOf, lengthOf, sixBits, bodyEnd, startOf, reached}
-use Rattle.sheet.specs.Rules.{regionDemands, propertyDemands, groupDemands, entryDemands, bodyDemands, endDemands, frameDemands, zeroDemands, entryRule, bodyRule, entriesRule, bodiesRule, restRule, walkRule, ruleIn, ruleOf, edition}
+use Rattle.sheet.specs.Rules.{regionDemands, propertyDemands, groupDemands, entryDemands, bodyDemands, endDemands, frameDemands}
+use Rattle.sheet.specs.Rules.{zeroDemands, entryRule, bodyRule, entriesRule, bodiesRule, restRule, walkRule, ruleIn, ruleOf, edition}
 use Rattle.sheet.specs.Walk.{Framed, Entry, Counted, lastOf, long, far, Late, Next, VerdictOf, Steps}
 use Rattle.sheet.specs.declared.entry_rules.Verdict.{Verdict}
 use Rattle.sheet.proofs.rules.ByKind.{eachKind}

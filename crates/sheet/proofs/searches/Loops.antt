@@ -228,7 +228,13 @@ module _ (s : List ℕ) (ok : Accepted s) (k : ℕ) (known : k < kinds) (a n o i
 
   pub goes-on : (r : Reach) → z < a + n → Onward s k i z l r → (r .end ≡ 0 → ⊥) → Going s k a n o (i + 1) (r .end) (r .levels)
   goes-on r short w q =
-      record { few = omega (arith, few-entries (record { framed = ok-framed s ok; kind = known; below = w .goes q .there })); past = omega (arith, u .past, w .goes q .begins, w .goes q .ends); byte = w .goes q .byte; along = λ m kind. along-on s ok m k kind a n o i z l (u .along m kind) short r (w .goes q) }
+      let g = w .goes q in
+      record {
+        few = omega (arith, few-entries (record { framed = ok-framed s ok; kind = known; below = g .there }));
+        past = omega (arith, u .past, g .begins, g .ends);
+        byte = g .byte;
+        along = λ m kind. along-on s ok m k kind a n o i z l (u .along m kind) short r g;
+      }
 
 -- fewer regions are left after each
 pub less-left : (s : List ℕ) (k i z l : ℕ) (r : Reach) → Onward s k i z l r → (r .end ≡ 0 → ⊥) → count s k - (i + 1) < count s k - i

@@ -86,7 +86,8 @@ module _ (s : List ℕ) (ok : Accepted s) (bytes : (i : ℕ) → getD s i 0 < 25
     nth-there o l e q =
         let w : i < count s properties = omega (arith, c .is) in
         let is : objectAt s i ≡ object = sym e ∙ q in
-        sym (nth-hit s object index i w is (sym (ap (λ (x : ℕ). rank s x i) is) ∙ rank-is g bytes a i (omega arith) w (same i w is a (omega arith) (omega arith) ∙ sym is) (λ j k z. no-lesser j k (z ∙ is)) ∙ omega arith))
+        let r = rank-is g bytes a i (omega arith) w (same i w is a (omega arith) (omega arith) ∙ sym is) (λ j k z. no-lesser j k (z ∙ is)) in
+        sym (nth-hit s object index i w is (sym (ap (λ (x : ℕ). rank s x i) is) ∙ r ∙ omega arith))
 
     only : (j : ℕ) → j < count s properties → objectAt s j ≡ object → rank s object j ≡ index → j ≡ i
     only j w is r = go (decLe a j)

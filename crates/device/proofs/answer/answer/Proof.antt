@@ -11,16 +11,30 @@ answer-spec =
     tie.close
     (tie.spec
     (λ c. search needs) (λ c. search needs) (λ c. search needs)
-    (λ c κs. (via-room _ _ _ (c .before .before .before .before .before .before .before .before .pre .0) (c .before .before .before .a .given .1), via-answer-safe _ _ _ _ (c .before .before .before .before .before .before .before .before .pre .1) (c .before .before .before .a .given .1)))
+    (λ c κs.
+    let a = c .before .before .before in
+    let p = a .before .before .before .before .before .pre in
+    (via-room _ _ _ (p .0) (a .a .given .1), via-answer-safe _ _ _ _ (p .1) (a .a .given .1)))
     (λ c. search needs)
-    (λ c κs. let h = via-answer-safe _ _ _ _ (c .before .before .before .before .before .before .before .pre .1) (c .before .before .a2 .given .1) in (via-room _ _ _ (c .before .before .before .before .before .before .before .pre .0) (c .before .before .a2 .given .1), h .0, h .1))
+    (λ c κs.
+    let a = c .before .before in
+    let p = a .before .before .before .before .before .pre in
+    let h = via-answer-safe _ _ _ _ (p .1) (a .a2 .given .1) in
+    (via-room _ _ _ (p .0) (a .a2 .given .1), h .0, h .1))
     (λ c. search needs)
     (λ c. let h = via-answer-safe _ _ _ _ (c .before .before .before .before .before .before .before .pre .1) (c .before .before .a3 .given .1) in omega arith)
     (λ c. search needs) (λ c. search needs)
     (λ c. let h = via-answer-safe _ _ _ _ (c .before .before .before .before .before .before .before .pre .1) (c .before .before .a3 .given .1) in omega arith)
-    (λ c κs. (via-room _ _ _ (c .before .before .before .before .before .before .before .before .pre .0) (c .before .before .before .a3 .given .1), sheet-allowed (c .before .before .before .a3 .given .0 .0) (c .before .before .before .before .before .before .before .before .args .s .now) (c .before .before .before .a3 .given .0 .1 .0) (c .before .before .before .a3 .given .0 .1 .1 .0) (via-answer-safe _ _ _ _ (c .before .before .before .before .before .before .before .before .pre .1) (c .before .before .before .a3 .given .1) .2)))
+    (λ c κs.
+    let a = c .before .before .before in
+    let b = a .before .before .before .before .before in
+    let g = a .a3 .given in
+    (via-room _ _ _ (b .pre .0) (g .1), sheet-allowed (g .0 .0) (b .args .s .now) (g .0 .1 .0) (g .0 .1 .1 .0) (via-answer-safe _ _ _ _ (b .pre .1) (g .1) .2)))
     (λ c. search needs)
-    (λ c κs. (via-room _ _ _ (c .before .before .before .before .before .before .before .pre .0) (c .before .before .a4 .given .1), via-answer-safe _ _ _ _ (c .before .before .before .before .before .before .before .pre .1) (c .before .before .a4 .given .1)))
+    (λ c κs.
+    let a = c .before .before in
+    let p = a .before .before .before .before .before .pre in
+    (via-room _ _ _ (p .0) (a .a4 .given .1), via-answer-safe _ _ _ _ (p .1) (a .a4 .given .1)))
     (λ c. search silence)
     (λ c. search needs)
     (λ c. via-answer _ _ _ _ _ _ _ (c .before .before .before .before .before .before .a .given .1) (c .before .before .send .ensures))

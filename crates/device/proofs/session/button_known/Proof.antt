@@ -7,23 +7,14 @@ use Rattle.device.proofs.calls.Pressing.{put-room, not-pressed, was-pre
 use Rattle.device.proofs.session.button_known.Statement.{statement}
 use Rattle.device.proofs.session.button_known.Tie as tie
 
-returns : tie.Need-returns
-returns c = search not-pressed
-
-put-requires : tie.Need-put-requires
-put-requires c κs = search (put-room, arith)
-
-returns-2 : tie.Need-returns-2
-returns-2 c = search was-pressed
-
 pub button-known-spec : {M : Type 1} → statement M
 button-known-spec =
     tie.close
     (tie.spec
     (λ c κs. search needs) (λ c. search needs)
-    returns
+    (λ c. search not-pressed)
     (λ c κs. search (not-refused, needs))
     (λ c κs. search needs) (λ c. search needs)
-    put-requires
+    (λ c κs. search (put-room, arith))
     (λ c. search needs)
-    returns-2)
+    (λ c. search was-pressed))

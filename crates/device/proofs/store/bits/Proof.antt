@@ -18,33 +18,19 @@ Inv-loop s₀ at n d i₀ s i =
 abbrev μ-loop : tie.MeasureT-loop
 μ-loop s₀ at n d i₀ s i = n - i
 
-loop-again : tie.Need-loop-again Inv-loop μ-loop
-loop-again c =
-    let l = c .before .before .before .before .loop in
-    (omega arith, bits-more _ _ _ _ (omega arith) (l .s) (l .i) (l .inv .1) (omega arith), simp length-set (l .inv .2))
-
-returns : tie.Need-returns Inv-loop μ-loop
-returns c =
-    let l = c .before .loop in
-    let e : l .i ≡ c .before .before .args .n = omega arith in
-    rw e at (l .inv .1)
-
 pub bits-spec : {M : Type 1} → statement M
 bits-spec =
     tie.close
     (tie.spec
-    Inv-loop
-    μ-loop
+    Inv-loop μ-loop
     (λ c. (omega arith, bits-none _ _ _ _ (omega arith), refl))
-    (λ c. omega arith)
-    (λ c. omega arith)
-    (λ c. omega arith)
-    (λ c. omega arith)
-    (λ c. omega arith)
-    (λ c. omega arith)
-    (λ c. omega arith)
-    (λ c. omega arith)
-    (λ c. omega arith)
-    loop-again
+    (λ c. omega arith) (λ c. omega arith) (λ c. omega arith) (λ c. omega arith) (λ c. omega arith) (λ c. omega arith)
+    (λ c. omega arith) (λ c. omega arith) (λ c. omega arith)
+    (λ c.
+    let l = c .before .before .before .before .loop in
+    (omega arith, bits-more _ _ _ _ (omega arith) (l .s) (l .i) (l .inv .1) (omega arith), simp length-set (l .inv .2)))
     (λ c. search needs)
-    returns)
+    (λ c.
+    let l = c .before .loop in
+    let e : l .i ≡ c .before .before .args .n = omega arith in
+    rw e at (l .inv .1)))

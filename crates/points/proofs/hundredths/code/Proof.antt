@@ -16,51 +16,31 @@ use borrow.Author.Needs.{needs}
 use Rattle.points.proofs.hundredths.code.Statement.{statement}
 use Rattle.points.proofs.hundredths.code.Tie as tie
 
-magnitude-requires : tie.Need-magnitude-requires
-magnitude-requires c κs = search needs
-
-limit-requires : tie.Need-limit-requires
-limit-requires c κs = search needs
-
-exponent-requires : tie.Need-exponent-requires
-exponent-requires c κs =
-    let b = c .before .before in
-    (omega (arith, abs-is (b .fits .x) (c .before .magnitude .ensures), range-abs (b .args .x) (b .pre)), limit-top (toZ w32 (ofZ w32 (b .args .x))) _ (c .limit .ensures))
-
-power-requires : tie.Need-power-requires
-power-requires c κs = omega (arith, c .exponent .ensures, up-to (c .before .before .magnitude .result) (c .before .limit .result) 15 0)
-
-quotient-requires : tie.Need-quotient-requires
-quotient-requires c κs =
-    let b = c .before .before .before .before in
-    let k : c .before .exponent .result ≤ 15 = omega (arith, c .before .exponent .ensures, up-to (c .before .before .before .magnitude .result) (c .before .before .limit .result) 15 0) in
-    let p = small (c .before .exponent .result) k in
-    (subst (λ (y : ℤ). natAbs y ≤ 67108864) (sym (toZ-ofZ (b .fits .x))) (range-abs (b .args .x) (b .pre)), omega (arith, c .power .ensures, p .0), omega (arith, c .power .ensures, p .1))
-
-stepped-requires : tie.Need-stepped-requires
-stepped-requires c κs =
-    let b = c .before .before .before .before .before in
-    let e = exponent-is (b .args .x) _ _ _ (b .fits .x) (c .before .before .before .before .magnitude .ensures) (c .before .before .before .limit .ensures) (c .before .before .exponent .ensures) in
-    let m = mantissa-is (b .args .x) _ _ _ (b .fits .x) e (c .before .power .ensures) (c .quotient .ensures) in (
-      omega (arith, c .before .before .exponent .ensures, up-to (c .before .before .before .before .magnitude .result) (c .before .before .before .limit .result) 15 0),
-      subst (λ (y : ℤ). natAbs y ≤ 2048) (sym (toZ-ofZ (record { sfits = c .quotient .ok }) ∙ m)) (mantissa-fits (b .args .x) (b .pre)),
-    )
-
-returns : tie.Need-returns
-returns c =
-    let b = c .before .before .before .before .before .before in
-    let e = exponent-is (b .args .x) _ _ _ (b .fits .x) (c .before .before .before .before .before .magnitude .ensures) (c .before .before .before .before .limit .ensures) (c .before .before .before .exponent .ensures) in
-    let m = mantissa-is (b .args .x) _ _ _ (b .fits .x) e (c .before .before .power .ensures) (c .before .quotient .ensures) in
-    code-is (b .args .x) _ _ _ (record { sfits = c .before .quotient .ok }) e m (c .stepped .ensures)
-
 pub code-spec : {M : Type 1} → statement M
 code-spec =
     tie.close
     (tie.spec
-    magnitude-requires
-    limit-requires
-    exponent-requires
-    power-requires
-    quotient-requires
-    stepped-requires
-    returns)
+    (λ c κs. search needs) (λ c κs. search needs)
+    (λ c κs.
+    let b = c .before .before in
+    (omega (arith, abs-is (b .fits .x) (c .before .magnitude .ensures), range-abs (b .args .x) (b .pre)), limit-top (toZ w32 (ofZ w32 (b .args .x))) _ (c .limit .ensures)))
+    (λ c κs. omega (arith, c .exponent .ensures, up-to (c .before .before .magnitude .result) (c .before .limit .result) 15 0))
+    (λ c κs.
+    let b = c .before .before .before .before in
+    let k : c .before .exponent .result ≤ 15 = omega (arith, c .before .exponent .ensures, up-to (c .before .before .before .magnitude .result) (c .before .before .limit .result) 15 0) in
+    let p = small (c .before .exponent .result) k in
+    (subst (λ (y : ℤ). natAbs y ≤ 67108864) (sym (toZ-ofZ (b .fits .x))) (range-abs (b .args .x) (b .pre)), omega (arith, c .power .ensures, p .0), omega (arith, c .power .ensures, p .1)))
+    (λ c κs.
+    let d = c .before .before in
+    let b = d .before .before .before in
+    let e = exponent-is (b .args .x) _ _ _ (b .fits .x) (d .before .before .magnitude .ensures) (d .before .limit .ensures) (d .exponent .ensures) in
+    let m = mantissa-is (b .args .x) _ _ _ (b .fits .x) e (c .before .power .ensures) (c .quotient .ensures) in (
+      omega (arith, d .exponent .ensures, up-to (d .before .before .magnitude .result) (d .before .limit .result) 15 0),
+      subst (λ (y : ℤ). natAbs y ≤ 2048) (sym (toZ-ofZ (record { sfits = c .quotient .ok }) ∙ m)) (mantissa-fits (b .args .x) (b .pre)),
+    ))
+    (λ c.
+    let d = c .before .before .before in
+    let b = d .before .before .before in
+    let e = exponent-is (b .args .x) _ _ _ (b .fits .x) (d .before .before .magnitude .ensures) (d .before .limit .ensures) (d .exponent .ensures) in
+    let m = mantissa-is (b .args .x) _ _ _ (b .fits .x) e (c .before .before .power .ensures) (c .before .quotient .ensures) in
+    code-is (b .args .x) _ _ _ (record { sfits = c .before .quotient .ok }) e m (c .stepped .ensures)))

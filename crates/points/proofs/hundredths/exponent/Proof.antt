@@ -14,52 +14,25 @@ Inv-loop m l twice top₀ e₀ top e = (e ≤ 15) × (top ≡ l * 2 ^ e) × (exp
 abbrev μ-loop : tie.MeasureT-loop
 μ-loop m l twice top₀ e₀ top e = 15 - e
 
-mul-twice : tie.Need-mul-twice Inv-loop μ-loop
-mul-twice c = omega arith
-
-loop-holds : tie.Need-loop-holds Inv-loop μ-loop
-loop-holds c = (omega arith, omega arith, refl)
-
-returns : tie.Need-returns Inv-loop μ-loop
-returns c =
-    let i = c .before .before .loop .inv in
-    sym (stops _ _ _ (c .before .loop-test .taken) (subst (λ (x : ℕ). 2 * c .before .before .before .args .m ≤ x) (i .1) (c .if1 .taken))) ∙ i .2
-
-mul-top : tie.Need-mul-top Inv-loop μ-loop
-mul-top c =
-    let i = c .before .before .loop .inv in
-    omega (arith, i .1, top-small _ _ (c .before .before .before .pre .1) (i .0))
-
-add-e : tie.Need-add-e Inv-loop μ-loop
-add-e c = omega arith
-
-loop-less : tie.Need-loop-less Inv-loop μ-loop
-loop-less c = omega arith
-
-loop-again : tie.Need-loop-again Inv-loop μ-loop
-loop-again c =
-    let i = c .before .before .loop .inv in (
-      omega arith,
-      ap (λ (x : ℕ). x * 2) (i .1) ∙ top-next _ _,
-      sym (goes-on _ _ _ (c .before .loop-test .taken) (subst (λ (x : ℕ). x < 2 * c .before .before .before .args .m) (i .1) (c .if1 .left))) ∙ i .2,
-    )
-
-returns-2 : tie.Need-returns-2 Inv-loop μ-loop
-returns-2 c =
-    let i = c .before .loop .inv in
-    sym (ends _ _ _ (i .0) (c .loop-test .left)) ∙ i .2
-
 pub exponent-spec : {M : Type 1} → statement M
 exponent-spec =
     tie.close
     (tie.spec
-    Inv-loop
-    μ-loop
-    mul-twice
-    loop-holds
-    returns
-    mul-top
-    add-e
-    loop-less
-    loop-again
-    returns-2)
+    Inv-loop μ-loop (λ c. omega arith)
+    (λ c. (omega arith, omega arith, refl))
+    (λ c.
+    let i = c .before .before .loop .inv in
+    sym (stops _ _ _ (c .before .loop-test .taken) (subst (λ (x : ℕ). 2 * c .before .before .before .args .m ≤ x) (i .1) (c .if1 .taken))) ∙ i .2)
+    (λ c.
+    let i = c .before .before .loop .inv in
+    omega (arith, i .1, top-small _ _ (c .before .before .before .pre .1) (i .0)))
+    (λ c. omega arith) (λ c. omega arith)
+    (λ c.
+    let i = c .before .before .loop .inv in (
+      omega arith,
+      ap (λ (x : ℕ). x * 2) (i .1) ∙ top-next _ _,
+      sym (goes-on _ _ _ (c .before .loop-test .taken) (subst (λ (x : ℕ). x < 2 * c .before .before .before .args .m) (i .1) (c .if1 .left))) ∙ i .2,
+    ))
+    (λ c.
+    let i = c .before .loop .inv in
+    sym (ends _ _ _ (i .0) (c .loop-test .left)) ∙ i .2))

@@ -4,11 +4,6 @@ use Rattle.points.proofs.Casts.{limit-minus, limit-plus}
 use Rattle.points.proofs.hundredths.limit.Statement.{statement}
 use Rattle.points.proofs.hundredths.limit.Tie as tie
 
-returns : tie.Need-returns
-returns c = limit-minus _ (c .before .fits .x) (c .if1 .taken)
-
-returns-2 : tie.Need-returns-2
-returns-2 c = limit-plus _ (c .before .fits .x) (c .if1 .left)
-
 pub limit-spec : {M : Type 1} → statement M
-limit-spec = tie.close (tie.spec returns returns-2)
+limit-spec =
+    tie.close (tie.spec (λ c. limit-minus _ (c .before .fits .x) (c .if1 .taken)) (λ c. limit-plus _ (c .before .fits .x) (c .if1 .left)))

@@ -8,14 +8,10 @@ use borrow.Author.Needs.{needs}
 use Rattle.points.proofs.hundredths.point.Statement.{statement}
 use Rattle.points.proofs.hundredths.point.Tie as tie
 
-returns : tie.Need-returns
-returns c = search (tests, arith)
-
-result-requires : tie.Need-result-requires
-result-requires c κs = search needs
-
-returns-2 : tie.Need-returns-2
-returns-2 c = point-nine _ _ _ (c .before .if1 .left) (toZ-ofZ (record { sfits = c .result .ok })) (c .result .ensures)
-
 pub point-spec : {M : Type 1} → statement M
-point-spec = tie.close (tie.spec returns result-requires returns-2)
+point-spec =
+    tie.close
+    (tie.spec
+    (λ c. search (tests, arith))
+    (λ c κs. search needs)
+    (λ c. point-nine _ _ _ (c .before .if1 .left) (toZ-ofZ (record { sfits = c .result .ok })) (c .result .ensures)))

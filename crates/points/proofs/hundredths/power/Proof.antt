@@ -5,11 +5,6 @@ use borrow.Author.Needs.{needs}
 use Rattle.points.proofs.hundredths.power.Statement.{statement}
 use Rattle.points.proofs.hundredths.power.Tie as tie
 
-shl-result : tie.Need-shl-result
-shl-result c = search needs
-
-returns : tie.Need-returns
-returns c = shifted (c .args .e) (c .pre)
-
 pub power-spec : {M : Type 1} → statement M
-power-spec = tie.close (tie.spec shl-result returns)
+power-spec =
+    tie.close (tie.spec (λ c. search needs) (λ c. shifted (c .args .e) (c .pre)))

@@ -10,49 +10,28 @@ use borrow.Author.Needs.{needs}
 use Rattle.points.proofs.hundredths.result.Statement.{statement}
 use Rattle.points.proofs.hundredths.result.Tie as tie
 
-power-requires : tie.Need-power-requires
-power-requires c κs = search needs
-
-mul-result : tie.Need-mul-result
-mul-result c = record { fits = product-by (c .before .before .args .c % 2048) (c .before .before .args .c / 2048 % 16) _ _ (c .before .power .ensures) (omega arith) (omega arith) (omega arith) }
-
-cast-result : tie.Need-cast-result
-cast-result c = record { sfits = product-by (c .before .before .args .c % 2048) (c .before .before .args .c / 2048 % 16) _ _ (c .before .power .ensures) (omega arith) (omega arith) (omega arith) }
-
-returns : tie.Need-returns
-returns c =
+pub result-spec : {M : Type 1} → statement M
+result-spec =
+    tie.close
+    (tie.spec
+    (λ c κs. search needs)
+    (λ c.
+    record { fits = product-by (c .before .before .args .c % 2048) (c .before .before .args .c / 2048 % 16) _ _ (c .before .power .ensures) (omega arith) (omega arith) (omega arith) })
+    (λ c.
+    record { sfits = product-by (c .before .before .args .c % 2048) (c .before .before .args .c / 2048 % 16) _ _ (c .before .power .ensures) (omega arith) (omega arith) (omega arith) })
+    (λ c.
     let n = c .before .before .args .c in
     as-signed (product-by (n % 2048) (n / 2048 % 16) _ _ (c .before .power .ensures) (omega arith) (omega arith) (omega arith))
     ∙ ap (λ (p : ℕ). pos (n % 2048 * p)) (c .before .power .ensures)
-    ∙ res-plus n (c .if1 .taken)
-
-sub-minus : tie.Need-sub-minus
-sub-minus c = search needs
-
-mul-minus : tie.Need-mul-minus
-mul-minus c = record { fits = product-by (2048 - c .before .before .args .c % 2048) (c .before .before .args .c / 2048 % 16) _ _ (c .before .power .ensures) (omega arith) (omega arith) (omega arith) }
-
-minus-requires : tie.Need-minus-requires
-minus-requires c κs = product-by (2048 - c .before .before .args .c % 2048) (c .before .before .args .c / 2048 % 16) _ _ (c .before .power .ensures) (omega arith) (omega arith) (omega arith)
-
-returns-2 : tie.Need-returns-2
-returns-2 c =
+    ∙ res-plus n (c .if1 .taken))
+    (λ c. search needs)
+    (λ c.
+    record { fits = product-by (2048 - c .before .before .args .c % 2048) (c .before .before .args .c / 2048 % 16) _ _ (c .before .power .ensures) (omega arith) (omega arith) (omega arith) })
+    (λ c κs. product-by (2048 - c .before .before .args .c % 2048) (c .before .before .args .c / 2048 % 16) _ _ (c .before .power .ensures) (omega arith) (omega arith) (omega arith))
+    (λ c.
     let n = c .before .before .before .args .c in
     let q = 2048 - n % 2048 in
     let h = product-by q (n / 2048 % 16) _ 2147483648 (c .before .before .power .ensures) (omega arith) (omega arith) (omega arith) in
     small-minus h (c .minus .ensures)
     ∙ ap (λ (p : ℕ). negℤ (pos (q * p))) (c .before .before .power .ensures)
-    ∙ res-minus n (c .before .if1 .left)
-
-pub result-spec : {M : Type 1} → statement M
-result-spec =
-    tie.close
-    (tie.spec
-    power-requires
-    mul-result
-    cast-result
-    returns
-    sub-minus
-    mul-minus
-    minus-requires
-    returns-2)
+    ∙ res-minus n (c .before .if1 .left)))

@@ -16,6 +16,7 @@ find-spec =
     (λ c. search half-past)
     (λ c κs. search (ok-entry, needs))
     (λ c.
-    half-found _ (c .before .before .before .before .before .before .pre .0) _ (c .before .before .before .before .before .before .pre .1) _ _ _ (c .before .before .before .before .many .ensures) (c .before .before .before .lower .ensures) _
-    (omega arith) (c .before .first-word .ensures) (omega arith))
+    let m = c .before .before .before .before in
+    let p = m .before .before .pre in
+    half-found _ (p .0) _ (p .1) _ _ _ (m .many .ensures) (c .before .before .before .lower .ensures) _ (omega arith) (c .before .first-word .ensures) (omega arith))
     (λ c. search half-missed))

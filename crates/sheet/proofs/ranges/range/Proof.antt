@@ -17,8 +17,7 @@ pub range-spec : {M : Type 1} → statement M
 range-spec =
     tie.close
     (tie.spec
-    Inv-loop
-    μ-loop
+    Inv-loop μ-loop
     (λ c. search range-empty)
     (λ c κs. search needs) (λ c. search needs) (λ c κs. search needs)
     (λ c. search none-begins)

@@ -19,8 +19,10 @@ nth-spec =
     (c .before .before .many .ensures) refl (omega arith))
     (λ c κs. search (ok-entry, needs))
     (λ c.
-    nth-there _ (c .before .before .before .before .before .before .pre) (λ j. omega (arith, c .before .before .before .before .before .shared-slice-known .given j)) _ _ (c .before .before .before .lower .ensures) _ _ _
-    (c .before .before .before .before .many .ensures) refl _ (omega arith) (c .before .object-at .ensures) (omega arith))
+    let m = c .before .before .before .before in
+    nth-there _ (m .before .before .pre) (λ j. omega (arith, m .before .shared-slice-known .given j)) _ _ (c .before .before .before .lower .ensures) _ _ _
+    (m .many .ensures) refl _ (omega arith) (c .before .object-at .ensures) (omega arith))
     (λ c.
-    nth-other _ (c .before .before .before .before .before .before .pre) (λ j. omega (arith, c .before .before .before .before .before .shared-slice-known .given j)) _ _ (c .before .before .before .lower .ensures) _ _ _
-    (c .before .before .before .before .many .ensures) refl _ (omega arith) (c .before .object-at .ensures) (c .if2 .left)))
+    let m = c .before .before .before .before in
+    nth-other _ (m .before .before .pre) (λ j. omega (arith, m .before .shared-slice-known .given j)) _ _ (c .before .before .before .lower .ensures) _ _ _
+    (m .many .ensures) refl _ (omega arith) (c .before .object-at .ensures) (c .if2 .left)))

@@ -17,12 +17,17 @@ rank-spec =
     (λ c κs. property-there _ (c .before .before .before .pre .0) _ (omega arith))
     (λ c. search needs)
     (λ c.
-    index-within _ (c .before .before .before .before .before .pre .0) (λ j. omega (arith, c .before .before .before .before .shared-slice-known .given j)) _ _ (c .before .before .before .lower .ensures) _ _
-    (omega arith) (c .before .before .before .before .before .pre .1) (c .before .object-at .ensures) (omega arith))
+    let l = c .before .before .before in
+    let b = l .before in
+    index-within _ (b .before .pre .0) (λ j. omega (arith, b .shared-slice-known .given j)) _ _ (l .lower .ensures) _ _
+    (omega arith) (b .before .pre .1) (c .before .object-at .ensures) (omega arith))
     (λ c. search needs) (λ c. search needs) (λ c κs. search needs)
     (λ c.
-    omega
-    (arith, first-last _ (c .before .before .before .before .before .before .pre .0) (λ j. omega (arith, c .before .before .before .before .before .shared-slice-known .given j)) _ _ (c .before .before .before .before .lower .ensures) _ (c .lower2 .ensures)))
+    let l = c .before .before .before .before in
+    let b = l .before in
+    omega (arith, first-last _ (b .before .pre .0) (λ j. omega (arith, b .shared-slice-known .given j)) _ _ (l .lower .ensures) _ (c .lower2 .ensures)))
     (λ c.
-    index-past _ (c .before .before .before .before .before .before .pre .0) (λ j. omega (arith, c .before .before .before .before .before .shared-slice-known .given j)) _ _ (c .before .before .before .before .lower .ensures) _ (c .lower2 .ensures) _ _
-    (omega arith) (c .before .before .before .before .before .before .pre .1) (c .before .before .object-at .ensures) (c .before .if2 .left)))
+    let l = c .before .before .before .before in
+    let b = l .before in
+    index-past _ (b .before .pre .0) (λ j. omega (arith, b .shared-slice-known .given j)) _ _ (l .lower .ensures) _ (c .lower2 .ensures) _ _
+    (omega arith) (b .before .pre .1) (c .before .before .object-at .ensures) (c .before .if2 .left)))

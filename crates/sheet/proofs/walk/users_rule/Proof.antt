@@ -16,8 +16,7 @@ pub users-rule-spec : {M : Type 1} → statement M
 users-rule-spec =
     tie.close
     (tie.spec
-    Inv-loop
-    μ-loop
+    Inv-loop μ-loop
     (λ c κs. search needs) (λ c. search counted-narrow) (λ c κs. search needs)
     (λ c. search users-begin)
     (λ c κs. search (users-entry, needs))

@@ -20,19 +20,11 @@ Inv-walk s k₀ a₀ z₀ late₀ k a z late = Walked s k a z late
 abbrev μ-walk : tie.MeasureT-walk
 μ-walk s k₀ a₀ z₀ late₀ k a z late = kinds - k
 
-leaves : tie.Need-returns-2 Inv-loop μ-loop Inv-walk μ-walk
-leaves c =
-    left-at _ _ _ _ _ _ _ _ _ _ _ _ _ _ _ (c .users-first .ensures) (c .before .rule-of .ensures) (c .before .before .before .step .ensures) refl (c .before .before .before .before .before .loop .inv) (c .before .before .before .before .before .before .before .before .walk .inv) (c .before .before .before .before .before .before .before .if1 .left) (c .before .before .before .before .loop-test .taken) (c .before .before .if2 .taken)
-
 pub walk-spec : {M : Type 1} → statement M
 walk-spec =
     tie.close
     (tie.spec
-    Inv-loop
-    μ-loop
-    Inv-walk
-    μ-walk
-    (λ c κs. search needs)
+    Inv-loop μ-loop Inv-walk μ-walk (λ c κs. search needs)
     (λ c. search contents-narrow)
     (λ c. search walk-begins)
     (λ c κs. search needs) (λ c κs. search needs) (λ c. search counted-narrow)
@@ -43,4 +35,8 @@ walk-spec =
     (λ c. search needs) (λ c. search needs)
     (λ c. search walk-goes)
     (λ c. search at-end)
-    leaves)
+    (λ c.
+    let t = c .before .before .before in
+    let l = t .before .before in
+    left-at _ _ _ _ _ _ _ _ _ _ _ _ _ _ _ (c .users-first .ensures) (c .before .rule-of .ensures) (t .step .ensures) refl (l .loop .inv)
+    (l .before .before .before .walk .inv) (l .before .before .if1 .left) (t .before .loop-test .taken) (c .before .before .if2 .taken)))

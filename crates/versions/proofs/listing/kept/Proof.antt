@@ -6,11 +6,6 @@ use Rattle.versions.proofs.Lists.{bad-listed, listed-head, past-listed,
 use Rattle.versions.proofs.listing.kept.Statement.{statement}
 use Rattle.versions.proofs.listing.kept.Tie as tie
 
-returns-3 : tie.Need-returns-3
-returns-3 c =
-    let b : Octets (c .before .before .before .before .before .before .before .args .store .now) = λ i. c .before .before .before .before .before .before .shared-slice-known .given i .fits in
-    search some-listed
-
 pub kept-spec : {M : Type 1} → statement M
 kept-spec =
     tie.close
@@ -25,4 +20,6 @@ kept-spec =
     (λ c. search needs) (λ c. search needs)
     (λ c κs. search long-room)
     (λ c. search needs)
-    returns-3)
+    (λ c.
+    let b : Octets (c .before .before .before .before .before .before .before .args .store .now) = λ i. c .before .before .before .before .before .before .shared-slice-known .given i .fits in
+    search some-listed))

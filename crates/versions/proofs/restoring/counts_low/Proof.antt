@@ -17,16 +17,11 @@ pub counts-low-spec : {M : Type 1} → statement M
 counts-low-spec =
     tie.close
     (tie.spec
-    Inv-loop
-    μ-loop
+    Inv-loop μ-loop
     (λ c. check-begin _ _)
-    (λ c. omega arith)
-    (λ c. omega arith)
-    (λ c. omega arith)
-    (λ c. omega arith)
+    (λ c. omega arith) (λ c. omega arith) (λ c. omega arith) (λ c. omega arith)
     (λ c κs. (omega arith, omega arith, omega arith, omega arith))
     (λ c. check-stop _ _ _ (c .before .before .before .loop .inv) _ (omega arith) (c .before .low-count .ensures) (c .if1 .taken))
-    (λ c. omega arith)
-    (λ c. omega arith)
+    (λ c. omega arith) (λ c. omega arith)
     (λ c. check-go _ _ _ (c .before .before .before .loop .inv) _ (omega arith) (c .before .low-count .ensures) (c .if1 .left))
     (λ c. check-end _ _ _ (c .before .loop .inv) (omega arith)))

@@ -7,18 +7,6 @@ use Rattle.versions.proofs.Restorer.{bad-sheet, bad-store, not-kept, no
 use Rattle.versions.proofs.restoring.restore.Statement.{statement}
 use Rattle.versions.proofs.restoring.restore.Tie as tie
 
-returns-4 : tie.Need-returns-4
-returns-4 c = search not-zero
-
-returns-5 : tie.Need-returns-5
-returns-5 c = search not-given
-
-give-back-requires : tie.Need-give-back-requires
-give-back-requires c κs = (c .before .before .before .before .before .before .before .extent-of .ensures, gives-long _ _ (sym (c .before .before .before .judge-version .ensures) ∙ c .before .before .if5 .left))
-
-returns-6 : tie.Need-returns-6
-returns-6 c = search was-restored
-
 pub restore-spec : {M : Type 1} → statement M
 restore-spec =
     tie.close
@@ -30,11 +18,13 @@ restore-spec =
     (λ c κs. search needs) (λ c. search needs)
     (λ c. search not-kept)
     (λ c κs. search needs) (λ c. search needs)
-    returns-4
+    (λ c. search not-zero)
     (λ c κs. search (not-refused, needs))
     (λ c. search needs) (λ c. search needs) (λ c. search needs) (λ c. search needs) (λ c κs. search needs) (λ c. search needs)
-    returns-5
+    (λ c. search not-given)
     (λ c. search needs) (λ c. search needs) (λ c. search needs)
-    give-back-requires
+    (λ c κs.
+    let j = c .before .before .before in
+    (j .before .before .before .before .extent-of .ensures, gives-long _ _ (sym (j .judge-version .ensures) ∙ c .before .before .if5 .left)))
     (λ c. search needs)
-    returns-6)
+    (λ c. search was-restored))

@@ -18,12 +18,10 @@ pub same-entry-spec : {M : Type 1} → statement M
 same-entry-spec =
     tie.close
     (tie.spec
-    Inv-loop
-    μ-loop
+    Inv-loop μ-loop
     (λ c. check-begin _ _)
     (λ c κs. (omega arith, omega arith, omega arith, omega arith, omega arith))
     (λ c. all-bytes _ _ _ _ _ (check-stop _ _ _ (c .before .before .before .loop .inv) _ (omega arith) (c .before .same-byte .ensures) (c .if1 .taken)))
-    (λ c. omega arith)
-    (λ c. omega arith)
+    (λ c. omega arith) (λ c. omega arith)
     (λ c. check-go _ _ _ (c .before .before .before .loop .inv) _ (omega arith) (c .before .same-byte .ensures) (c .if1 .left))
     (λ c. all-bytes _ _ _ _ _ (check-end _ _ _ (c .before .loop .inv) (omega arith))))

@@ -6,11 +6,6 @@ use Rattle.versions.proofs.Restorer.{table-there, count-there, no-versi
 use Rattle.versions.proofs.table.version.Statement.{statement}
 use Rattle.versions.proofs.table.version.Tie as tie
 
-returns-2 : tie.Need-returns-2
-returns-2 c =
-    let b : Octets (c .before .before .before .before .before .before .args .store .now) = λ i. c .before .before .before .before .before .shared-slice-known .given i .fits in
-    search some-version
-
 pub version-spec : {M : Type 1} → statement M
 version-spec =
     tie.close
@@ -22,4 +17,6 @@ version-spec =
     (λ c κs. search offset-there)
     (λ c. search needs)
     (λ c κs. search long-there)
-    returns-2)
+    (λ c.
+    let b : Octets (c .before .before .before .before .before .before .args .store .now) = λ i. c .before .before .before .before .before .shared-slice-known .given i .fits in
+    search some-version))
