@@ -210,6 +210,8 @@ const STOPS: &[(&str, &str, &[&str])] = &[
     ("restoreBy", "what a restore does, the refusal of its sheet being given: `by-refusal` ties it to `restoreOutcome`", &[]),
     ("heardOf", "what a frame is to the device; read as propositions", &["link/heard-due", "link/heard-only"]),
     ("ruleIn", "the rules as rows of a table; read as nine propositions", &["sheet/judged", "sheet/judged-only"]),
+    ("readPdu", "what bytes read as; read as what bytes carry", &["pdu/reads-is", "pdu/reads-unfit"]),
+    ("nameNumber", "the names of fields, each by a number of its own", &["pdu/same-name"]),
 ];
 
 /// What the language has without a `use` line, in definitions, in statements and in contracts.
@@ -224,6 +226,8 @@ const HEADING: &str = "| To believe | Lines to read | Of these not read above | 
 /// How many lines are read in an hour, with care.
 const AN_HOUR: f64 = 150.0;
 const FENCE: &str = "```";
+/// How long a line becomes where declarations are put together.
+const WIDTH: usize = 150;
 
 fn main() {
     let words: Vec<String> = env::args().skip(1).collect();
@@ -704,7 +708,7 @@ fn types(folder: &Path) -> Module {
             let Some(kind) = ["pub struct ", "pub enum "].iter().find_map(|w| line.strip_prefix(w)) else { continue };
             let above = lines[..k].iter().rev().take_while(|l| l.starts_with("//") || l.starts_with("#[")).count();
             let long = lines[k..].iter().take_while(|l| *l != "}").count();
-            let text = lines[k - above..=k + long].to_vec();
+            let text = [lines[k - above..k].to_vec(), laid(&lines[k..=k + long])].concat();
             let mut item = Item { file: path.clone(), ..Item::default() };
             item.names.insert(kind.split([' ', '{', '(']).next().unwrap_or_default().to_string());
             for line in &lines[k + 1..k + long] {
@@ -722,6 +726,36 @@ fn types(folder: &Path) -> Module {
         }
     }
     module
+}
+
+/// A declaration in as few lines as it needs: whole in one, or a variant with fields in one, and variants without side by side.
+fn laid(lines: &[String]) -> Vec<String> {
+    let [first, inner @ .., last] = lines else { return lines.to_vec() };
+    if inner.iter().any(|l| l.contains("//")) {
+        return lines.to_vec();
+    }
+    let mut entries: Vec<String> = Vec::new();
+    for word in inner.iter().map(|l| l.trim()) {
+        match entries.last_mut() {
+            Some(entry) if entry.contains('{') && !entry.contains('}') => *entry += &format!(" {word}"),
+            _ => entries.push(word.to_string()),
+        }
+    }
+    let entries: Vec<String> = entries.iter().map(|e| e.replace(", },", " },")).collect();
+    let whole = format!("{first} {} {last}", entries.join(" ").trim_end_matches(','));
+    if whole.len() <= WIDTH {
+        return vec![whole];
+    }
+    let mut out = vec![first.clone()];
+    for entry in entries {
+        let plain = |l: &str| !l.contains(['{', '(']);
+        match out[1..].last_mut() {
+            Some(line) if plain(line) && plain(&entry) && line.len() + entry.len() < WIDTH => *line += &format!(" {entry}"),
+            _ => out.push(format!("    {entry}")),
+        }
+    }
+    out.push(last.clone());
+    out
 }
 
 /// A theorem's statement, or a definition whole: what the modules around it assume, the definitions of its own file that it

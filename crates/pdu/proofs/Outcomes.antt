@@ -111,7 +111,7 @@ reads-8 b = (λ e. from (due b) (sym (told b) ∙ e), λ h. ap readOutcome (give
     from (one s k true h f) e = absurd (omega arith)
     from (one s k false h f) e = absurd (omega arith)
 
-told-10 :
+pub told-10 :
     (b : List ℕ) → Octets b →
     (readOutcome (readPdu b) ≡ 10) ↔ ((2 ≤ length b) × (length b ≤ 16) × ((k : Service) × (has (rowOf k) (codeOf b) ≡ true) × (Allows (rowOf k) (valuesAt (rowOf k .items) 2 b) (length b) → ⊥)))
 told-10 b small = (
