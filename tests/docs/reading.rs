@@ -212,6 +212,8 @@ const STOPS: &[(&str, &str, &[&str])] = &[
     ("ruleIn", "the rules as rows of a table; read as nine propositions", &["sheet/judged", "sheet/judged-only"]),
     ("readPdu", "what bytes read as; read as what bytes carry", &["pdu/reads-is", "pdu/reads-unfit"]),
     ("nameNumber", "the names of fields, each by a number of its own", &["pdu/same-name"]),
+    ("Pdu", "the PDUs as the code declares them: `contentOf` has a clause for each, with all its fields", &[]),
+    ("Service", "the services as the code declares them: `rowOf` has a row for each", &[]),
 ];
 
 /// What the language has without a `use` line, in definitions, in statements and in contracts.
