@@ -219,6 +219,10 @@ const STOPS: &[(&str, &str, &[&str])] = &[
     ("storeRule", "whether a store is good, as rows of a table; read as the bytes that a good store is", KEEPING),
     ("versions/kept", "the versions that a store keeps, as they are found in its table; read as those whose bytes it is", KEEPING),
     ("ruleIn", "the rules as rows of a table; read as nine propositions", &["sheet/judged", "sheet/judged-only"]),
+    ("readPdu", "what bytes read as; read as what bytes carry", &["pdu/reads-is", "pdu/reads-unfit"]),
+    ("nameNumber", "the names of fields, each by a number of its own", &["pdu/same-name"]),
+    ("Pdu", "the PDUs as the code declares them: `contentOf` has a clause for each, with all its fields", &[]),
+    ("Service", "the services as the code declares them: `rowOf` has a row for each", &[]),
 ];
 
 /// A good store is the bytes of its versions, both ways.
@@ -238,6 +242,8 @@ const AN_HOUR: f64 = 150.0;
 /// How wide a definition may be that is written with its signature.
 const WIDE: usize = 150;
 const FENCE: &str = "```";
+/// How long a line becomes where declarations are put together.
+const WIDTH: usize = 150;
 
 fn main() {
     let words: Vec<String> = env::args().skip(1).collect();
@@ -849,7 +855,7 @@ fn types(folder: &Path) -> Module {
             let Some(kind) = ["pub struct ", "pub enum "].iter().find_map(|w| line.strip_prefix(w)) else { continue };
             let above = lines[..k].iter().rev().take_while(|l| l.starts_with("//") || l.starts_with("#[")).count();
             let long = lines[k..].iter().take_while(|l| *l != "}").count();
-            let text = lines[k - above..=k + long].to_vec();
+            let text = [lines[k - above..k].to_vec(), laid(&lines[k..=k + long])].concat();
             let mut item = Item { file: path.clone(), ..Item::default() };
             item.names.insert(kind.split([' ', '{', '(']).next().unwrap_or_default().to_string());
             for line in &lines[k + 1..k + long] {
@@ -867,6 +873,36 @@ fn types(folder: &Path) -> Module {
         }
     }
     module
+}
+
+/// A declaration in as few lines as it needs: whole in one, or a variant with fields in one, and variants without side by side.
+fn laid(lines: &[String]) -> Vec<String> {
+    let [first, inner @ .., last] = lines else { return lines.to_vec() };
+    if inner.iter().any(|l| l.contains("//")) {
+        return lines.to_vec();
+    }
+    let mut entries: Vec<String> = Vec::new();
+    for word in inner.iter().map(|l| l.trim()) {
+        match entries.last_mut() {
+            Some(entry) if entry.contains('{') && !entry.contains('}') => *entry += &format!(" {word}"),
+            _ => entries.push(word.to_string()),
+        }
+    }
+    let entries: Vec<String> = entries.iter().map(|e| e.replace(", },", " },")).collect();
+    let whole = format!("{first} {} {last}", entries.join(" ").trim_end_matches(','));
+    if whole.len() <= WIDTH {
+        return vec![whole];
+    }
+    let mut out = vec![first.clone()];
+    for entry in entries {
+        let plain = |l: &str| !l.contains(['{', '(']);
+        match out[1..].last_mut() {
+            Some(line) if plain(line) && plain(&entry) && line.len() + entry.len() < WIDTH => *line += &format!(" {entry}"),
+            _ => out.push(format!("    {entry}")),
+        }
+    }
+    out.push(last.clone());
+    out
 }
 
 /// A theorem's statement, or a definition whole: what the modules around it assume, the definitions of its own file that it

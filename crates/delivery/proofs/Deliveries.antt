@@ -23,7 +23,7 @@ use Rattle.values.specs.Value.{sixBits, valueData}
 use Rattle.values.proofs.Back.{allowed, said}
 use Rattle.device.specs.Octets.{Octets}
 use Rattle.device.specs.Step.{Step}
-use Rattle.device.specs.Asked.{Asked, quiet, says, stores, Reads, part}
+use Rattle.device.specs.Asked.{Asked, toGroup, quiet, says, stores, Reads, part}
 use Rattle.device.specs.GroupsDue.{Group, Brings, Flag, groupEntry}
 use Rattle.device.specs.Right.{Right}
 use Rattle.device.specs.Demand2.{done}
@@ -32,6 +32,7 @@ use Rattle.device.proofs.due.RightGroups.{only-group-length}
 use Rattle.device.proofs.promises.Rightly.{right, right-only}
 use Rattle.device.proofs.leaves.Stays.{request-agrees}
 use Rattle.delivery.specs.Delivery.{lengthCode, Sends, Flagged, Suits, Delivered, Asks, Told}
+use Rattle.device.proofs.due.Taking.{among-at}
 use Rattle.delivery.proofs.Received.{group-back, octets-point, length-point, length-data, length-body, received, sent-reads, sent-data, sent-octets}
 use Rattle.delivery.proofs.Stored.{room, still, handed}
 use Rattle.delivery.proofs.Carried.{put, tell}
@@ -95,7 +96,7 @@ module _ {x : Asked} {d : Datapoint} {p : Pdu} {flag i : ℕ} (s : Sends x d p f
           }
 
       asked : Reads y GroupValueRead
-      asked = received y GroupValueRead (q .mode) (q .mode) (q .reads) (rw met (holding .accepted)) (q .buffer)
+      asked = received y GroupValueRead (toGroup (q .mode) (among-at _ 0 refl)) (q .mode) (q .reads) (rw met (holding .accepted)) (q .buffer)
 
       inside : group.offset of groupEntry x i + length (pointBytes d) ≤ length (x .sheet)
       inside = room (x .sheet) (s .accepted) i there (pointBytes d) long

@@ -27,7 +27,8 @@ use Rattle.values.specs.Value.{valueData}
 use Rattle.values.proofs.Back.{allowed}
 use Rattle.judge.specs.Session.{multicast}
 use Rattle.device.specs.Octets.{Octets}
-use Rattle.device.specs.Asked.{Asked, Takes, Reads, given}
+use Rattle.device.specs.Asked.{Asked, Takes, toGroup, Reads, given}
+use Rattle.device.proofs.due.Taking.{among-at}
 use Rattle.device.specs.GroupsDue.{Brings}
 use Rattle.device.proofs.leaves.Octet.{octets-none, octets-append, octets-bytes}
 use Rattle.delivery.specs.Delivery.{lengthCode, Sends}
@@ -41,8 +42,8 @@ group-back ds (Brings.response v) a =
     read-back (GroupValueResponse v) ds (record { fields = a .fields; suited = a .suited; most = a .most })
 
 taken : (rules : ℕ) {p : Pdu} {v flag m : ℕ} → Brings p v flag → m ≡ multicast → Takes rules (serviceOf p) m
-taken rules (Brings.write v) e = e
-taken rules (Brings.response v) e = e
+taken rules (Brings.write v) e = toGroup e (among-at _ 2 refl)
+taken rules (Brings.response v) e = toGroup e (among-at _ 1 refl)
 
 -- its bytes are bytes
 octets-brought : {p : Pdu} {v flag : ℕ} (ds : List ℕ) → Brings p v flag → Octets ds → Octets (encoded p ds)

@@ -15,5 +15,6 @@ pub mod RightAddresses
 pub mod RightKeys
 pub mod RightProperties
 pub mod RightDescriptions
+pub mod OpenRanges
 pub mod Changes
 pub mod RightMemory

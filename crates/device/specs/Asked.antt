@@ -4,7 +4,7 @@ use Prim.Native.Nat.{ℕ, _+_, _≤_, _<_}
 use mathlib.Core.Path.{_≡_}
 use mathlib.Core.Bool.{true, false}
 use mathlib.Core.Logic.{_⊎_}
-use mathlib.Core.List.{List, []}
+use mathlib.Core.List.{List, [], _∷_}
 use lib.ListN.{length, take, drop}
 use Rattle.sheet.specs.Head.{rulesOf, later}
 use Rattle.sheet.specs.Rules.{Accepted, Old, Bad}
@@ -16,8 +16,7 @@ use Rattle.pdu.specs.Write.{encoded}
 use Rattle.pdu.specs.declared.Service.{Service}
 use Rattle.pdu.specs.declared.Service.the-variants.{GroupValueRead, GroupValueResponse, GroupValueWrite, IndividualAddressWrite, IndividualAddressRead, SerialNumberRead, SerialNumberWrite}
 use Rattle.pdu.specs.declared.Service.the-variants.{DeviceDescriptorRead, PropertyValueRead, PropertyValueWrite, PropertyDescriptionRead, MemoryRead, MemoryWrite, MemoryBitWrite}
-use Rattle.pdu.specs.declared.Service.the-variants.{AuthorizeRequest, KeyWrite, Restart, IndividualAddressResponse, SerialNumberResponse, DeviceDescriptorResponse, PropertyValueResponse}
-use Rattle.pdu.specs.declared.Service.the-variants.{PropertyDescriptionResponse, MemoryResponse, AuthorizeResponse, KeyResponse, UserMemoryRead, UserMemoryResponse, UserMemoryWrite}
+use Rattle.pdu.specs.declared.Service.the-variants.{AuthorizeRequest, KeyWrite, Restart, UserMemoryRead, UserMemoryWrite}
 use Rattle.pdu.specs.declared.Pdu.{Pdu}
 use Rattle.pdu.specs.declared.Parsed.the-variants.{Is}
 use Rattle.judge.specs.Session.{multicast, broadcast, connectionless, connected}
@@ -47,36 +46,20 @@ saysAfter x s p d = record { outcome = 0; answer = encoded p d; session = x .ses
 abbrev pub stores : Asked → List ℕ → Step
 stores x s = record { outcome = 1; answer = []; session = x .session; sheet = s; restarts = false }
 
+-- k is one of these
+unfoldable pub Among : List Service → Service → Type 0
+Among [] k = ⊥
+Among (j ∷ ks) k = (k ≡ j) ⊎ Among ks k
+
 -- WHICH MODE TAKES WHICH SERVICE, by the number of the rules
-abbrev pub Takes : ℕ → Service → ℕ → Type 0
-Takes rules GroupValueRead m = m ≡ multicast
-Takes rules GroupValueResponse m = m ≡ multicast
-Takes rules GroupValueWrite m = m ≡ multicast
-Takes rules IndividualAddressWrite m = m ≡ broadcast
-Takes rules IndividualAddressRead m = m ≡ broadcast
-Takes rules SerialNumberRead m = m ≡ broadcast
-Takes rules SerialNumberWrite m = m ≡ broadcast
-Takes rules DeviceDescriptorRead m = (m ≡ connectionless) ⊎ (m ≡ connected)
-Takes rules PropertyValueRead m = (m ≡ connectionless) ⊎ (m ≡ connected)
-Takes rules PropertyValueWrite m = (m ≡ connectionless) ⊎ (m ≡ connected)
-Takes rules PropertyDescriptionRead m = (m ≡ connectionless) ⊎ (m ≡ connected)
-Takes rules MemoryRead m = m ≡ connected
-Takes rules MemoryWrite m = m ≡ connected
-Takes rules MemoryBitWrite m = m ≡ connected
-Takes rules AuthorizeRequest m = m ≡ connected
-Takes rules KeyWrite m = m ≡ connected
-Takes rules Restart m = (m ≡ connected) ⊎ ((rules ≡ later) × (m ≡ connectionless))
-Takes rules IndividualAddressResponse m = ⊥
-Takes rules SerialNumberResponse m = ⊥
-Takes rules DeviceDescriptorResponse m = ⊥
-Takes rules PropertyValueResponse m = ⊥
-Takes rules PropertyDescriptionResponse m = ⊥
-Takes rules MemoryResponse m = ⊥
-Takes rules AuthorizeResponse m = ⊥
-Takes rules KeyResponse m = ⊥
-Takes rules UserMemoryRead m = m ≡ connected
-Takes rules UserMemoryResponse m = ⊥
-Takes rules UserMemoryWrite m = m ≡ connected
+pub data Takes (rules : ℕ) (k : Service) (m : ℕ) : Type 0 where
+  toGroup : m ≡ multicast → Among (GroupValueRead ∷ GroupValueResponse ∷ GroupValueWrite ∷ []) k → Takes rules k m
+  toAll : m ≡ broadcast → Among (IndividualAddressWrite ∷ IndividualAddressRead ∷ SerialNumberRead ∷ SerialNumberWrite ∷ []) k → Takes rules k m
+  toOne : (m ≡ connectionless) ⊎ (m ≡ connected) →
+      Among (DeviceDescriptorRead ∷ PropertyValueRead ∷ PropertyValueWrite ∷ PropertyDescriptionRead ∷ []) k → Takes rules k m
+  onConnection : m ≡ connected →
+      Among (MemoryRead ∷ MemoryWrite ∷ MemoryBitWrite ∷ UserMemoryRead ∷ UserMemoryWrite ∷ AuthorizeRequest ∷ KeyWrite ∷ Restart ∷ []) k → Takes rules k m
+  restarting : rules ≡ later → m ≡ connectionless → k ≡ Restart → Takes rules k m
 
 -- the code of the request is one of the service's
 pub record Names (x : Asked) (k : Service) : Type 0 where

@@ -45,8 +45,7 @@ pub record ButtonDue (on : Bool) (x : State) (r : Effect) : Type 0 where
 
 -- a request as it meets a state
 abbrev pub asked : State → ℕ → ℕ → ℕ → List ℕ → List ℕ → Asked
-asked x mode c group a out =
-    record { room = length out; sheet = x .sheet; session = sessionFor (x .sessions) mode c; mode = mode; group = group; apdu = a }
+asked x mode c group a out = record { room = length out; sheet = x .sheet; session = sessionFor (x .sessions) mode c; mode = mode; group = group; apdu = a }
 
 -- a step is due on the session that it meets. A restart closes both sessions; else a connected request leaves its connection the session of the step, and every other session is as found
 pub record RequestDue (mode c group : ℕ) (a out : List ℕ) (x : State) (r : Effect) : Type 0 where
@@ -57,5 +56,4 @@ pub record RequestDue (mode c group : ℕ) (a out : List ℕ) (x : State) (r : E
   pub sheet : r .sheet ≡ step .sheet
   pub restarted : step .restarts ≡ true → (d : ℕ) → sessionOf (r .sessions) d ≡ record { opened = false; level = 3 }
   pub own : step .restarts ≡ false → mode ≡ connected → c < 2 → sessionOf (r .sessions) c ≡ step .session
-  pub others :
-      step .restarts ≡ false → (d : ℕ) → (mode ≡ connected → d ≡ c → ⊥) → sessionOf (r .sessions) d ≡ sessionOf (x .sessions) d
+  pub others : step .restarts ≡ false → (d : ℕ) → (mode ≡ connected → d ≡ c → ⊥) → sessionOf (r .sessions) d ≡ sessionOf (x .sessions) d

@@ -34,28 +34,17 @@ Flag e f = group.flags of e / f % 2 ≡ 1
 
 -- THE STEP THAT IS DUE
 pub data GroupsDue (x : Asked) : Step → Type 0 where
-  groupRead0 :
-      (i : ℕ) → Reads x GroupValueRead → Group x i → Flag (groupEntry x i) 1 →
-      group.code of groupEntry x i ≡ 0 →
+  groupRead0 : (i : ℕ) → Reads x GroupValueRead → Group x i → Flag (groupEntry x i) 1 → group.code of groupEntry x i ≡ 0 →
       GroupsDue x (says x 0 (GroupValueResponse (numAt (x .sheet) (group.offset of groupEntry x i) 1)) [])
-  groupRead :
-      (i : ℕ) → Reads x GroupValueRead → Group x i → Flag (groupEntry x i) 1 →
-      1 ≤ group.code of groupEntry x i →
-      GroupsDue x
-      (says x 0 (GroupValueResponse 0)
-      (part (x .sheet) (group.offset of groupEntry x i) (group.code of groupEntry x i)))
-  noGroupRead :
-      Reads x GroupValueRead → ((i : ℕ) → Group x i → Flag (groupEntry x i) 1 → ⊥) → GroupsDue x (quiet x 2)
-  groupPut0 :
-      (p : Pdu) (v f i : ℕ) → Reads x p → Brings p v f → Group x i → Flag (groupEntry x i) f →
+  groupRead : (i : ℕ) → Reads x GroupValueRead → Group x i → Flag (groupEntry x i) 1 → 1 ≤ group.code of groupEntry x i →
+      GroupsDue x (says x 0 (GroupValueResponse 0) (part (x .sheet) (group.offset of groupEntry x i) (group.code of groupEntry x i)))
+  noGroupRead : Reads x GroupValueRead → ((i : ℕ) → Group x i → Flag (groupEntry x i) 1 → ⊥) → GroupsDue x (quiet x 2)
+  groupPut0 : (p : Pdu) (v f i : ℕ) → Reads x p → Brings p v f → Group x i → Flag (groupEntry x i) f →
       group.code of groupEntry x i ≡ 0 → given x p ≡ [] →
       GroupsDue x (stores x (splice (x .sheet) (group.offset of groupEntry x i) (bytesOf 1 v)))
-  groupPut :
-      (p : Pdu) (v f i : ℕ) → Reads x p → Brings p v f → Group x i → Flag (groupEntry x i) f →
+  groupPut : (p : Pdu) (v f i : ℕ) → Reads x p → Brings p v f → Group x i → Flag (groupEntry x i) f →
       1 ≤ group.code of groupEntry x i → length (given x p) ≡ group.code of groupEntry x i →
       GroupsDue x (stores x (splice (x .sheet) (group.offset of groupEntry x i) (given x p)))
-  groupLength :
-      (p : Pdu) (v f i : ℕ) → Reads x p → Brings p v f → Group x i → Flag (groupEntry x i) f →
+  groupLength : (p : Pdu) (v f i : ℕ) → Reads x p → Brings p v f → Group x i → Flag (groupEntry x i) f →
       (length (given x p) ≡ group.code of groupEntry x i → ⊥) → GroupsDue x (quiet x 10)
-  noGroupPut :
-      (p : Pdu) (v f : ℕ) → Reads x p → Brings p v f → ((i : ℕ) → Group x i → Flag (groupEntry x i) f → ⊥) → GroupsDue x (quiet x 2)
+  noGroupPut : (p : Pdu) (v f : ℕ) → Reads x p → Brings p v f → ((i : ℕ) → Group x i → Flag (groupEntry x i) f → ⊥) → GroupsDue x (quiet x 2)

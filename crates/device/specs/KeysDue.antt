@@ -18,8 +18,7 @@ pub data Grants (s : List ℕ) (key : ℕ) : ℕ → Type 0 where
   key0 : head.key 0 of s ≡ key → Grants s key 0
   key1 : (head.key 0 of s ≡ key → ⊥) → head.key 1 of s ≡ key → Grants s key 1
   key2 : (head.key 0 of s ≡ key → ⊥) → (head.key 1 of s ≡ key → ⊥) → head.key 2 of s ≡ key → Grants s key 2
-  other :
-      (head.key 0 of s ≡ key → ⊥) → (head.key 1 of s ≡ key → ⊥) → (head.key 2 of s ≡ key → ⊥) → Grants s key 3
+  other : (head.key 0 of s ≡ key → ⊥) → (head.key 1 of s ≡ key → ⊥) → (head.key 2 of s ≡ key → ⊥) → Grants s key 3
 
 pub record KeyWritable (x : Asked) (named : ℕ) : Type 0 where
   pub known : named ≤ 2
@@ -27,31 +26,17 @@ pub record KeyWritable (x : Asked) (named : ℕ) : Type 0 where
   pub acts : Acts x level
   pub suffices : level ≤ named
 
+-- programming mode is cleared, verify stays
+abbrev pub unprogrammed : List ℕ → List ℕ
+unprogrammed s = splice s (head.flags .at) (bytesOf 1 (head.verify s * 2))
+
 -- THE STEP THAT IS DUE
 pub data KeysDue (x : Asked) : Step → Type 0 where
-  authorize :
-      (key level : ℕ) → Reads x (AuthorizeRequest key) → Grants (x .sheet) key level →
+  authorize : (key level : ℕ) → Reads x (AuthorizeRequest key) → Grants (x .sheet) key level →
       KeysDue x
-      record {
-        outcome = 0;
-        answer = encoded (AuthorizeResponse level) [];
-        session = record { opened = x .session .opened; level = level };
-        sheet = x .sheet;
-        restarts = false;
-      }
-  keyWrite :
-      (named key : ℕ) → Reads x (KeyWrite named key) → KeyWritable x named →
+      record { outcome = 0; answer = encoded (AuthorizeResponse level) []; session = record { opened = x .session .opened; level = level }; sheet = x .sheet; restarts = false }
+  keyWrite : (named key : ℕ) → Reads x (KeyWrite named key) → KeyWritable x named →
       KeysDue x (saysAfter x (splice (x .sheet) ((head.key named) .at) (bytesOf 4 key)) (KeyResponse named) [])
-  noKeyWrite :
-      (named key : ℕ) → Reads x (KeyWrite named key) → (KeyWritable x named → ⊥) → KeysDue x (says x 11 (KeyResponse 255) [])
-  -- programming mode is cleared, verify stays
-  restart :
-      Reads x Restart →
-      KeysDue x
-      record {
-        outcome = 1;
-        answer = [];
-        session = record { opened = false; level = 3 };
-        sheet = splice (x .sheet) (head.flags .at) (bytesOf 1 (head.verify (x .sheet) * 2));
-        restarts = true;
-      }
+  noKeyWrite : (named key : ℕ) → Reads x (KeyWrite named key) → (KeyWritable x named → ⊥) → KeysDue x (says x 11 (KeyResponse 255) [])
+  restart : Reads x Restart →
+      KeysDue x record { outcome = 1; answer = []; session = record { opened = false; level = 3 }; sheet = unprogrammed (x .sheet); restarts = true }

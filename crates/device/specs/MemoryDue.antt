@@ -7,7 +7,7 @@ use lib.ListN.{length, getD}
 use lib.Bits.{bitAnd, bitXor}
 use Rattle.octets.specs.Splice.{splice}
 use Rattle.sheet.specs.Head as head
-use Rattle.sheet.specs.Places.{Ranged}
+use Rattle.sheet.specs.Places.{Stands}
 use Rattle.sheet.specs.declared.Memory.{Memory}
 use Rattle.sheet.specs.declared.Memory.the-variants.{Device, User}
 use Rattle.pdu.specs.declared.Pdu.{Pdu}
@@ -54,15 +54,13 @@ abbrev pub ToWrite : Write → ℕ → ℕ → Type 0
 ToWrite (bytes m) level levels = level ≤ levels % 16
 ToWrite bits level levels = (level ≤ levels / 16) × (level ≤ levels % 16)
 
--- THESE n ADDRESSES of a memory, 1 to `most`, stand from place o on, under levels for which the level of the request suffices
+-- THESE n ADDRESSES of a memory, 1 to `most`, stand side by side from place o on, each under levels for which the level of the request suffices
 pub record Open (x : Asked) (m : Memory) (most : ℕ) (Suffices : ℕ → ℕ → Type 0) (n address o : ℕ) : Type 0 where
   pub some : 1 ≤ n
   pub few : n ≤ most
-  pub levels : ℕ
-  pub range : Ranged (x .sheet) m address n o levels
   pub level : ℕ
   pub acts : Acts x level
-  pub suffices : Suffices level levels
+  pub each : (i : ℕ) → i < n → (levels : ℕ) × Stands (x .sheet) m (address + i) (o + i) levels × Suffices level levels
 
 abbrev pub MemoryReadable : Asked → Memory → ℕ → ℕ → ℕ → Type 0
 MemoryReadable x m n address o = Open x m (mostOf m) ToRead n address o
@@ -73,8 +71,7 @@ MemoryWritable x w n address o = Open x (into w) (mostIn w) (ToWrite w) n addres
 -- d is what a bit write leaves of the n bytes from place o on: (old AND a) XOR x for each, the data being n AND bytes a and then n XOR bytes x
 pub record Combined (s : List ℕ) (o n : ℕ) (given d : List ℕ) : Type 0 where
   pub long : length d ≡ n
-  pub each :
-      (i : ℕ) → i < n → getD d i 0 ≡ bitXor (bitAnd (getD s (o + i) 0) (getD given i 0)) (getD given (n + i) 0)
+  pub each : (i : ℕ) → i < n → getD d i 0 ≡ bitXor (bitAnd (getD s (o + i) 0) (getD given i 0)) (getD given (n + i) 0)
 
 -- d is what a write leaves of them
 abbrev pub Leaves : Asked → Write → ℕ → ℕ → ℕ → List ℕ → Type 0
@@ -86,22 +83,15 @@ Verify x = head.verify (x .sheet) ≡ 1
 
 -- THE STEP THAT IS DUE
 pub data MemoryDue (x : Asked) : Step → Type 0 where
-  memoryRead :
-      (m : Memory) (n address o : ℕ) → Reads x (reading m n address) → MemoryReadable x m n address o →
+  memoryRead : (m : Memory) (n address o : ℕ) → Reads x (reading m n address) → MemoryReadable x m n address o →
       MemoryDue x (says x 0 (response m n address) (part (x .sheet) o n))
-  noMemoryRead :
-      (m : Memory) (n address : ℕ) → Reads x (reading m n address) → ((o : ℕ) → MemoryReadable x m n address o → ⊥) →
+  noMemoryRead : (m : Memory) (n address : ℕ) → Reads x (reading m n address) → ((o : ℕ) → MemoryReadable x m n address o → ⊥) →
       MemoryDue x (says x 11 (response m 0 address) [])
-  memoryWriteVerified :
-      (w : Write) (n address o : ℕ) (d : List ℕ) → Reads x (writing w n address) → MemoryWritable x w n address o →
-      Leaves x w n address o d → Verify x →
-      MemoryDue x (saysAfter x (splice (x .sheet) o d) (response (into w) n address) d)
-  memoryWrite :
-      (w : Write) (n address o : ℕ) (d : List ℕ) → Reads x (writing w n address) → MemoryWritable x w n address o →
+  memoryWriteVerified : (w : Write) (n address o : ℕ) (d : List ℕ) → Reads x (writing w n address) → MemoryWritable x w n address o →
+      Leaves x w n address o d → Verify x → MemoryDue x (saysAfter x (splice (x .sheet) o d) (response (into w) n address) d)
+  memoryWrite : (w : Write) (n address o : ℕ) (d : List ℕ) → Reads x (writing w n address) → MemoryWritable x w n address o →
       Leaves x w n address o d → (Verify x → ⊥) → MemoryDue x (stores x (splice (x .sheet) o d))
-  noMemoryWriteVerified :
-      (w : Write) (n address : ℕ) → Reads x (writing w n address) → ((o : ℕ) → MemoryWritable x w n address o → ⊥) →
+  noMemoryWriteVerified : (w : Write) (n address : ℕ) → Reads x (writing w n address) → ((o : ℕ) → MemoryWritable x w n address o → ⊥) →
       Verify x → MemoryDue x (says x 11 (response (into w) 0 address) [])
-  noMemoryWrite :
-      (w : Write) (n address : ℕ) → Reads x (writing w n address) → ((o : ℕ) → MemoryWritable x w n address o → ⊥) →
+  noMemoryWrite : (w : Write) (n address : ℕ) → Reads x (writing w n address) → ((o : ℕ) → MemoryWritable x w n address o → ⊥) →
       (Verify x → ⊥) → MemoryDue x (quiet x 12)

@@ -23,8 +23,7 @@ pub record IsPdu (b : List ℕ) : Type 0 where
 pub data Negative : Pdu → Pdu → Type 0 where
   ofRead : (object id n s : ℕ) → Negative (PropertyValueRead object id n s) (PropertyValueResponse object id 0 s)
   ofWrite : (object id n s : ℕ) → Negative (PropertyValueWrite object id n s) (PropertyValueResponse object id 0 s)
-  ofDescription :
-      (object id index : ℕ) → Negative (PropertyDescriptionRead object id index) (PropertyDescriptionResponse object id index 0 0 0)
+  ofDescription : (object id index : ℕ) → Negative (PropertyDescriptionRead object id index) (PropertyDescriptionResponse object id index 0 0 0)
   ofMemoryRead : (n address : ℕ) → Negative (MemoryRead n address) (MemoryResponse 0 address)
   ofMemoryWrite : (n address : ℕ) → Negative (MemoryWrite n address) (MemoryResponse 0 address)
   ofBitWrite : (n address : ℕ) → Negative (MemoryBitWrite n address) (MemoryResponse 0 address)

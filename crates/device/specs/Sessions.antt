@@ -29,8 +29,7 @@ sessionOf q c = cond (eqb c 0) (q .first) (cond (eqb c 1) (q .second) closed)
 
 -- the sessions with another one for a connection; any other number has none
 abbrev pub withSession : Sessions → ℕ → Session → Sessions
-withSession q c r =
-    cond (eqb c 0) record { first = r; second = q .second } (cond (eqb c 1) record { first = q .first; second = r } q)
+withSession q c r = cond (eqb c 0) record { first = r; second = q .second } (cond (eqb c 1) record { first = q .first; second = r } q)
 
 -- THE SESSION THAT A REQUEST MEETS: outside connected mode the number of the connection is not read
 abbrev pub sessionFor : Sessions → ℕ → ℕ → Session

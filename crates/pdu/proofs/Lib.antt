@@ -21,3 +21,4 @@ pub mod Kept
 pub mod Again
 pub mod Vectors
 pub mod Readings
+pub mod Tabled

@@ -114,11 +114,11 @@ reads-8 b = (λ e. from (due b) (sym (told b) ∙ e), λ h. ap readOutcome (give
     from (one s k true h f) e = absurd (omega arith)
     from (one s k false h f) e = absurd (omega arith)
 
-abbrev Against : List ℕ → Type 0
+abbrev pub Against : List ℕ → Type 0
 Against b =
     (2 ≤ length b) × (length b ≤ 16) × ((k : Service) × (has (rowOf k) (codeOf b) ≡ true) × (Allows (rowOf k) (valuesAt (rowOf k .items) 2 b) (length b) → ⊥))
 
-told-10 : (b : List ℕ) → Octets b → (readOutcome (readPdu b) ≡ 10) ↔ Against b
+pub told-10 : (b : List ℕ) → Octets b → (readOutcome (readPdu b) ≡ 10) ↔ Against b
 told-10 b small = (
   λ e. from (due b) (sym (told b) ∙ e),
   λ h. let k = h .2 .0 in

@@ -8,5 +8,4 @@ pub mod Bodies
 pub mod Rules
 pub mod Good
 pub mod Telling
-pub mod Untils
 pub mod PlainRows

@@ -57,8 +57,7 @@ abbrev pub offsetOf : ℕ → List ℕ → ℕ
 offsetOf k e = byKind k (region.offset of e) (property.offset of e) (group.offset of e)
 
 abbrev pub lengthOf : ℕ → List ℕ → ℕ
-lengthOf k e =
-    byKind k (region.length of e) (property.element of e * property.maximum of e) (max 1 (group.code of e))
+lengthOf k e = byKind k (region.length of e) (property.element of e * property.maximum of e) (max 1 (group.code of e))
 
 -- where body i of a kind starts and ends
 unfoldable pub bodyAt : List ℕ → ℕ → ℕ → ℕ

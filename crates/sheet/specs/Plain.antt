@@ -11,7 +11,7 @@ use Rattle.sheet.specs.Head as head
 use Rattle.sheet.specs.Region as region
 use Rattle.sheet.specs.Property as property
 use Rattle.sheet.specs.Group as group
-use Rattle.sheet.specs.Entries.{count, contents, entry, bodyAt, bodyEnd}
+use Rattle.sheet.specs.Entries.{count, contents, entry, bodyAt, bodyEnd, startOf}
 
 abbrev pub S1 : List ℕ → Type 0
 S1 s = (32 ≤ length s) × (length s ≤ 16384)
@@ -41,9 +41,7 @@ pub record Region (e : List ℕ) : Type 0 where
 -- the regions of a memory, ordered among themselves
 pub record Ordered (s : List ℕ) (k : ℕ) : Type 0 where
   pub each : (i : ℕ) → i < count s k → Region (entry s k i)
-  pub after :
-      (i : ℕ) → suc i < count s k →
-      region.address of entry s k i + region.length of entry s k i ≤ region.address of entry s k (suc i)
+  pub after : (i : ℕ) → suc i < count s k → region.address of entry s k i + region.length of entry s k i ≤ region.address of entry s k (suc i)
 
 abbrev pub S6 : List ℕ → Type 0
 S6 s = Ordered s regions × Ordered s users
@@ -59,8 +57,7 @@ pub record Property (e : List ℕ) : Type 0 where
 
 pub record S7 (s : List ℕ) : Type 0 where
   pub each : (i : ℕ) → i < count s properties → Property (entry s properties i)
-  pub rising :
-      (i : ℕ) → suc i < count s properties → property.objectId of entry s properties i < property.objectId of entry s properties (suc i)
+  pub rising : (i : ℕ) → suc i < count s properties → property.objectId of entry s properties i < property.objectId of entry s properties (suc i)
 
 pub record Group (e : List ℕ) : Type 0 where
   pub address : 1 ≤ group.address of e
@@ -72,16 +69,10 @@ pub record S8 (s : List ℕ) : Type 0 where
   pub each : (i : ℕ) → i < count s groups → Group (entry s groups i)
   pub rising : (i : ℕ) → suc i < count s groups → group.address of entry s groups i < group.address of entry s groups (suc i)
 
--- z is where the bodies before those of kind k end: the contents' end, moved on over each kind that has a body
-pub data Until (s : List ℕ) : ℕ → ℕ → Type 0 where
-  start : Until s 0 (contents s)
-  empty : {k z : ℕ} → Until s k z → count s k ≡ 0 → Until s (suc k) z
-  filled : {k z n : ℕ} → Until s k z → count s k ≡ suc n → Until s (suc k) (bodyEnd s k n)
-
 pub record S9 (s : List ℕ) : Type 0 where
-  pub first : (k z : ℕ) → k < kinds → 0 < count s k → Until s k z → bodyAt s k 0 ≡ z
+  pub first : (k : ℕ) → k < kinds → 0 < count s k → bodyAt s k 0 ≡ startOf s k
   pub next : (k i : ℕ) → k < kinds → suc i < count s k → bodyAt s k (suc i) ≡ bodyEnd s k i
-  pub last : (z : ℕ) → Until s kinds z → z ≡ length s
+  pub last : startOf s kinds ≡ length s
   pub six : (i : ℕ) → i < count s groups → group.code of entry s groups i ≡ 0 → numAt s (bodyAt s groups i) 1 < 64
 
 -- HOW A SHEET IS JUDGED: by the first of the nine that it breaks, and by 0 if it breaks none

@@ -32,6 +32,7 @@ use Rattle.device.proofs.leaves.Bits.{length-build, combined, combined-
 use Rattle.device.proofs.due.Given.{memory-data, user-data}
 use Rattle.device.proofs.due.Acts.{acts, acts-is}
 use Rattle.device.proofs.leaves.Stores.{stored-back}
+use Rattle.device.proofs.due.OpenRanges.{over-write, opens, opened}
 use Rattle.device.proofs.due.Stepped.{step, step-read}
 
 -- how judging goes about a write, and that it means the same
@@ -109,25 +110,17 @@ module _ (x : Asked) (w : Write) (n address : ℕ) (r : Reads x (writing w n add
 
   pub to : (o : ℕ) → MemoryWritable x w n address o → Permitted o
   to o q =
+      let v = opened (over-write w) ok q in
       record {
         some = q .some;
         few = q .few;
-        levels = q .levels;
-        run = range-hit ok (q .range);
-        suffices = c .rights level (q .levels) .0 (subst (λ (l : ℕ). ToWrite w l (q .levels)) (sym (acts-is x (q .acts))) (q .suffices));
+        levels = v .0;
+        run = range-hit ok (v .1);
+        suffices = c .rights level (v .0) .0 (subst (λ (l : ℕ). ToWrite w l (v .0)) (sym (acts-is x (q .acts))) (v .2));
       }
 
   pub from : (o : ℕ) → Permitted o → MemoryWritable x w n address o
-  from o q =
-      record {
-        some = q .some;
-        few = q .few;
-        levels = q .levels;
-        range = range-in ok q;
-        level = level;
-        acts = acts x;
-        suffices = c .rights level (q .levels) .1 (q .suffices);
-      }
+  from o q = opens (over-write w) (q .few) (range-in ok q) (acts x) (c .rights level (q .levels) .1 (q .suffices))
 
   -- the sheet afterwards
   abbrev after : ℕ → List ℕ
@@ -150,7 +143,7 @@ module _ (x : Asked) (w : Write) (n address : ℕ) (r : Reads x (writing w n add
   unfolding stepBy
   shown o q =
       ap (λ (t : List ℕ). saysAfter x t (responseOf (into w) n address) (take n (drop o t))) (c .stored o)
-      ∙ ap (saysAfter x (after o) (responseOf (into w) n address)) (stored-back (x .sheet) (c .left o) o n (c .long o) (range-within ok (q .range)))
+      ∙ ap (saysAfter x (after o) (responseOf (into w) n address)) (stored-back (x .sheet) (c .left o) o n (c .long o) (range-within ok (opened (over-write w) ok q .1)))
       ∙ ap (λ (a : Pdu). saysAfter x (after o) a (c .left o)) (c .answers n)
 
   kept : (o : ℕ) → stepBy (x .sheet) (x .session) (given x p) (decisions.stored (c .new o)) ≡ stores x (after o)

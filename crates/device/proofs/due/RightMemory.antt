@@ -21,6 +21,7 @@ use Rattle.device.specs.Step.{stepBy}
 use Rattle.device.specs.Asked.{Asked, says, Reads, given, part}
 use Rattle.device.specs.MemoryDue.{MemoryDue, reading, response, mostOf, MemoryReadable, memoryRead, noMemoryRead}
 use Rattle.device.proofs.due.Acts.{acts, acts-at}
+use Rattle.device.proofs.due.OpenRanges.{over-read, opens, opened}
 use Rattle.device.proofs.due.Stepped.{step, step-read}
 
 -- how judging goes about a read, and that it means the same
@@ -45,11 +46,11 @@ module _ (x : Asked) (m : Memory) (n address : ℕ) (r : Reads x (reading m n ad
 
   to : (o : ℕ) → MemoryReadable x m n address o → Permits access.Read (mostBytes m) (x .sheet) m level n address o
   to o q =
-      record { some = q .some; few = rw (look-at m .most) (q .few); levels = q .levels; run = range-hit ok (q .range); suffices = acts-at x _ (q .acts) (q .suffices) }
+      let w = opened over-read ok q in
+      record { some = q .some; few = rw (look-at m .most) (q .few); levels = w .0; run = range-hit ok (w .1); suffices = acts-at x _ (q .acts) (w .2) }
 
   from : (o : ℕ) → Permits access.Read (mostBytes m) (x .sheet) m level n address o → MemoryReadable x m n address o
-  from o q =
-      record { some = q .some; few = rw (look-at m .most) at (q .few); levels = q .levels; range = range-in ok q; level = level; acts = acts x; suffices = q .suffices }
+  from o q = opens over-read (rw (look-at m .most) at (q .few)) (range-in ok q) (acts x) (q .suffices)
 
   reads : (o : ℕ) → MemoryReadable x m n address o → memoryReadOf (x .sheet) m level n address ≡ decisions.answered (answer.Sheet (responseOf m n address) o n)
   reads o q = memory-reads (x .sheet) m level n address o (to o q)

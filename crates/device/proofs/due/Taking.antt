@@ -1,10 +1,14 @@
 -- Which mode takes which service: the test and the proposition.
 -- Assumes nothing.
-use Prim.Native.Nat.{ℕ}
-use mathlib.Core.Path.{_≡_, refl, sym, _∙_}
+use Prim.Native.Nat.{ℕ, zero, suc, _≤_}
+use mathlib.Core.Path.{_≡_, refl, sym, subst}
 use mathlib.Core.Logic.{_↔_, _⊎_, inl, inr, ⊎-elim}
 use mathlib.Core.Bool.{Bool, true, false, cond, _||_}
+use mathlib.Core.List.{List, [], _∷_}
+use mathlib.Core.Option.{some}
+use native.Mathlib.Omega.{arith}
 use lib.Dec.{eqb}
+use lib.ListN.{getElem?}
 use borrow.Author.Tests.{eq-eqb, eqb-true}
 use Rattle.octets.proofs.Truths.{never, or-is, equal-is}
 use Rattle.sheet.specs.Head.{later}
@@ -16,59 +20,103 @@ use Rattle.pdu.specs.declared.Service.the-variants.{PropertyDescriptionResponse
 use Rattle.judge.specs.Modes.{reachOf, reaches, takes}
 use Rattle.judge.specs.declared.Reach.{Reach}
 use Rattle.judge.specs.declared.Reach.the-variants.{Multicast, Broadcast, PointToPoint, Connected, Never}
-use Rattle.device.specs.Asked.{Takes, Served}
+use Rattle.device.specs.Asked.{Among, Takes, toGroup, toAll, toOne, onConnection, restarting, Served}
 
--- two modes, none
+-- two modes
 pub two-modes : (m a b : ℕ) → (eqb m a || eqb m b ≡ true) ↔ ((m ≡ a) ⊎ (m ≡ b))
 two-modes m a b = (
   λ e. ⊎-elim (λ h. inl (eqb-true m a h)) (λ h. inr (eqb-true m b h)) (or-is (eqb m a) (eqb m b) .0 e),
   λ h. or-is (eqb m a) (eqb m b) .1 (⊎-elim (λ e. inl (eq-eqb m a e)) (λ e. inr (eq-eqb m b e)) h),
 )
 
-no-mode : (false ≡ true) ↔ ⊥
-no-mode = (λ e. never e, λ h. absurd h)
+-- a place in a list of services, and what holds for each of them
+pub among-at : (ks : List Service) (i : ℕ) {k : Service} → getElem? ks i ≡ some k → Among ks k
+unfolding Among
+among-at [] i e = let z : false ≡ true = cc in never z
+among-at (j ∷ ks) zero e = inl cc
+among-at (j ∷ ks) (suc i) e = inr (among-at ks i e)
 
--- a restart: connected, and under the later rules connectionless too
-restart-modes : (rules m : ℕ) (t : Bool) → eqb rules later ≡ t → (takes (cond t PointToPoint Connected) m ≡ true) ↔ Takes rules Restart m
-restart-modes rules m true e = (
-  λ h. ⊎-elim (λ q. inr (eqb-true rules later e, q)) inl (two-modes m 2 3 .0 h),
-  λ h. two-modes m 2 3 .1 (⊎-elim inr (λ q. inl (q .1)) h),
-)
-restart-modes rules m false e = (
-  λ h. inl (equal-is m 3 .0 h),
-  λ h. ⊎-elim (equal-is m 3 .1) (λ q. never (sym e ∙ eq-eqb rules later (q .0))) h,
-)
+abbrev Each : (Service → Type 0) → List Service → Type 0
+Each P [] = Unit {0}
+Each P (k ∷ ks) = P k × Each P ks
 
--- THE TEST SAYS WHICH MODE TAKES A SERVICE
-pub takes-is : (rules m : ℕ) (k : Service) → (takes (reachOf rules k) m ≡ true) ↔ Takes rules k m
-takes-is rules m GroupValueRead = equal-is m 0
-takes-is rules m GroupValueResponse = equal-is m 0
-takes-is rules m GroupValueWrite = equal-is m 0
-takes-is rules m IndividualAddressWrite = equal-is m 1
-takes-is rules m IndividualAddressRead = equal-is m 1
-takes-is rules m SerialNumberRead = equal-is m 1
-takes-is rules m SerialNumberWrite = equal-is m 1
-takes-is rules m DeviceDescriptorRead = two-modes m 2 3
-takes-is rules m PropertyValueRead = two-modes m 2 3
-takes-is rules m PropertyValueWrite = two-modes m 2 3
-takes-is rules m PropertyDescriptionRead = two-modes m 2 3
-takes-is rules m MemoryRead = equal-is m 3
-takes-is rules m MemoryWrite = equal-is m 3
-takes-is rules m MemoryBitWrite = equal-is m 3
-takes-is rules m AuthorizeRequest = equal-is m 3
-takes-is rules m KeyWrite = equal-is m 3
-takes-is rules m Restart = restart-modes rules m (eqb rules later) refl
-takes-is rules m IndividualAddressResponse = no-mode
-takes-is rules m SerialNumberResponse = no-mode
-takes-is rules m DeviceDescriptorResponse = no-mode
-takes-is rules m PropertyValueResponse = no-mode
-takes-is rules m PropertyDescriptionResponse = no-mode
-takes-is rules m MemoryResponse = no-mode
-takes-is rules m AuthorizeResponse = no-mode
-takes-is rules m KeyResponse = no-mode
-takes-is rules m UserMemoryRead = equal-is m 3
-takes-is rules m UserMemoryResponse = no-mode
-takes-is rules m UserMemoryWrite = equal-is m 3
+among-each : (P : Service → Type 0) (ks : List Service) {k : Service} → Among ks k → Each P ks → P k
+unfolding Among
+among-each P [] h ps = absurd h
+among-each P (j ∷ ks) (inl e) ps = subst P (sym e) (ps .0)
+among-each P (j ∷ ks) (inr h) ps = among-each P ks h (ps .1)
+
+module _ (rules m : ℕ) where
+  abbrev Taken : Service → Type 0
+  Taken k = takes (reachOf rules k) m ≡ true
+
+  -- a restart: connected, and under the later rules connectionless too
+  restart-to : (t : Bool) → eqb rules later ≡ t → takes (cond t PointToPoint Connected) m ≡ true → (m ≡ 3) ⊎ ((rules ≡ later) × (m ≡ 2))
+  restart-to true e h = ⊎-elim (λ q. inr (eqb-true rules later e, q)) inl (two-modes m 2 3 .0 h)
+  restart-to false e h = inl (equal-is m 3 .0 h)
+
+  connected-restart : (t : Bool) → m ≡ 3 → takes (cond t PointToPoint Connected) m ≡ true
+  connected-restart true e = two-modes m 2 3 .1 (inr e)
+  connected-restart false e = equal-is m 3 .1 e
+
+  pub restart-takes : (m ≡ 3) ⊎ ((rules ≡ later) × (m ≡ 2)) → Takes rules Restart m
+  restart-takes = ⊎-elim (λ e. onConnection e (among-at _ 7 refl)) (λ q. restarting (q .0) (q .1) refl)
+
+  takes-to : (k : Service) → Taken k → Takes rules k m
+  takes-to GroupValueRead e = toGroup (equal-is m 0 .0 e) (among-at _ 0 refl)
+  takes-to GroupValueResponse e = toGroup (equal-is m 0 .0 e) (among-at _ 1 refl)
+  takes-to GroupValueWrite e = toGroup (equal-is m 0 .0 e) (among-at _ 2 refl)
+  takes-to IndividualAddressWrite e = toAll (equal-is m 1 .0 e) (among-at _ 0 refl)
+  takes-to IndividualAddressRead e = toAll (equal-is m 1 .0 e) (among-at _ 1 refl)
+  takes-to SerialNumberRead e = toAll (equal-is m 1 .0 e) (among-at _ 2 refl)
+  takes-to SerialNumberWrite e = toAll (equal-is m 1 .0 e) (among-at _ 3 refl)
+  takes-to DeviceDescriptorRead e = toOne (two-modes m 2 3 .0 e) (among-at _ 0 refl)
+  takes-to PropertyValueRead e = toOne (two-modes m 2 3 .0 e) (among-at _ 1 refl)
+  takes-to PropertyValueWrite e = toOne (two-modes m 2 3 .0 e) (among-at _ 2 refl)
+  takes-to PropertyDescriptionRead e = toOne (two-modes m 2 3 .0 e) (among-at _ 3 refl)
+  takes-to MemoryRead e = onConnection (equal-is m 3 .0 e) (among-at _ 0 refl)
+  takes-to MemoryWrite e = onConnection (equal-is m 3 .0 e) (among-at _ 1 refl)
+  takes-to MemoryBitWrite e = onConnection (equal-is m 3 .0 e) (among-at _ 2 refl)
+  takes-to AuthorizeRequest e = onConnection (equal-is m 3 .0 e) (among-at _ 5 refl)
+  takes-to KeyWrite e = onConnection (equal-is m 3 .0 e) (among-at _ 6 refl)
+  takes-to Restart e = restart-takes (restart-to (eqb rules later) refl e)
+  takes-to IndividualAddressResponse e = never e
+  takes-to SerialNumberResponse e = never e
+  takes-to DeviceDescriptorResponse e = never e
+  takes-to PropertyValueResponse e = never e
+  takes-to PropertyDescriptionResponse e = never e
+  takes-to MemoryResponse e = never e
+  takes-to AuthorizeResponse e = never e
+  takes-to KeyResponse e = never e
+  takes-to UserMemoryRead e = onConnection (equal-is m 3 .0 e) (among-at _ 3 refl)
+  takes-to UserMemoryResponse e = never e
+  takes-to UserMemoryWrite e = onConnection (equal-is m 3 .0 e) (among-at _ 4 refl)
+
+  takes-from : {k : Service} → Takes rules k m → Taken k
+  takes-from (toGroup e h) = let t = equal-is m 0 .1 e in among-each Taken _ h (t, (t, (t, tt)))
+  takes-from (toAll e h) = let t = equal-is m 1 .1 e in among-each Taken _ h (t, (t, (t, (t, tt))))
+  takes-from (toOne e h) = let t = two-modes m 2 3 .1 e in among-each Taken _ h (t, (t, (t, (t, tt))))
+  takes-from (onConnection e h) = let t = equal-is m 3 .1 e in among-each Taken _ h (t, (t, (t, (t, (t, (t, (t, (connected-restart (eqb rules later) e, tt))))))))
+  takes-from (restarting e q h) = rw (h, eq-eqb rules later e) (two-modes m 2 3 .1 (inl q))
+
+  -- THE TEST SAYS WHICH MODE TAKES A SERVICE
+  pub takes-is : (k : Service) → (takes (reachOf rules k) m ≡ true) ↔ Takes rules k m
+  takes-is k = (takes-to k, takes-from)
+
+  pub restart-is : Takes rules Restart m ↔ ((m ≡ 3) ⊎ ((rules ≡ later) × (m ≡ 2)))
+  restart-is = (λ t. restart-to (eqb rules later) refl (takes-from t), restart-takes)
+
+-- the test of a mode that takes a service; no other mode than 0 to 3 takes one
+pub taken : {rules m : ℕ} {k : Service} → Takes rules k m → takes (reachOf rules k) m ≡ true
+taken {rules} {m} {k} t = takes-is rules m k .1 t
+
+pub low-mode : {rules m : ℕ} {k : Service} → Takes rules k m → m ≤ 3
+low-mode (toGroup e h) = omega arith
+low-mode (toAll e h) = omega arith
+low-mode (toOne (inl e) h) = omega arith
+low-mode (toOne (inr e) h) = omega arith
+low-mode (onConnection e h) = omega arith
+low-mode (restarting e q h) = omega arith
 
 -- some mode takes what reaches the device, and only that
 some-mode : (r : Reach) → reaches r ≡ true → (m : ℕ) × (takes r m ≡ true)

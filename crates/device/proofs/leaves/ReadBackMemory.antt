@@ -20,6 +20,7 @@ use Rattle.device.specs.MemoryDue.{Write, into, writing, reading, respon
 use Rattle.device.specs.Demand2.{done}
 use Rattle.device.specs.Next.{SameAnswer}
 use Rattle.device.proofs.leaves.Stores.{stored-back}
+use Rattle.device.proofs.due.OpenRanges.{over-read, opened}
 use Rattle.device.proofs.due.Stepped.{step-read}
 use Rattle.device.proofs.due.Changes.{Change, change-of, from, only-verified}
 use Rattle.device.proofs.due.RightMemory.{only-memory-read}
@@ -40,7 +41,7 @@ module _ (x y : Asked) (w : Write) (n address : ℕ) (r : Reads x (writing w n a
   module _ (o : ℕ) (q : Permits (c .access) (mostIn w) (x .sheet) (into w) (levelIn (x .session) (x .mode)) n address o) where
     -- is the place that is read
     same : o ≡ z
-    same = range-once ok (range-in ok q) (ranged-same (agree-sym agree) (may .range)) .0
+    same = range-once ok (range-in ok q) (ranged-same (agree-sym agree) (opened over-read (good (y .sheet) (u .ready .sheet)) may .1)) .0
 
     bytes-found : done x .sheet ≡ splice (x .sheet) o (c .left o) → part (y .sheet) z n ≡ c .left o
     bytes-found e = rw (← same, new, e) (stored-back (x .sheet) (c .left o) o n (c .long o) (range-within ok (range-in ok q)))

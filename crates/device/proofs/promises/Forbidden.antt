@@ -6,7 +6,7 @@ use mathlib.Core.List.{[]}
 use Rattle.sheet.specs.Places.{Stands}
 use Rattle.sheet.specs.declared.Memory.{Memory}
 use Rattle.device.specs.Asked.{Asked, quiet, says, Reads, Acts}
-use Rattle.device.specs.MemoryDue.{Write, bytes, bits, into, reading, response, writing, ToRead, ToWrite, MemoryWritable, Verify}
+use Rattle.device.specs.MemoryDue.{Write, into, reading, response, writing, ToRead, ToWrite, MemoryWritable, Verify}
 use Rattle.device.specs.Demand2.{done}
 use Rattle.device.proofs.due.RightMemory.{only-no-memory-read}
 use Rattle.device.proofs.due.Changes.{only-denied, only-refused}
@@ -21,14 +21,10 @@ module _ (x : Asked) (n address : ℕ) where
   pub forbidden-read : (m : Memory) → Reads x (reading m n address) → Forbidden x m ToRead n address → done x ≡ says x 11 (response m 0 address) []
   forbidden-read m r f =
       sym (only-no-memory-read x m n address r (λ o q.
-      f .2 _ _ (q .level) (q .range .each (f .0) (f .1)) (q .acts) (q .range .reading (q .level) .0 (q .suffices) (f .0) (f .1))))
+      f .2 _ _ (q .level) (q .each (f .0) (f .1) .1) (q .acts) (q .each (f .0) (f .1) .2)))
 
   none : (w : Write) → Forbidden x (into w) (ToWrite w) n address → (o : ℕ) → MemoryWritable x w n address o → ⊥
-  none (bytes m) f o q =
-      f .2 _ _ (q .level) (q .range .each (f .0) (f .1)) (q .acts) (q .range .writing (q .level) .0 (q .suffices) (f .0) (f .1))
-  none bits f o q =
-      f .2 _ _ (q .level) (q .range .each (f .0) (f .1)) (q .acts)
-      (q .range .reading (q .level) .0 (q .suffices .0) (f .0) (f .1), q .range .writing (q .level) .0 (q .suffices .1) (f .0) (f .1))
+  none w f o q = f .2 _ _ (q .level) (q .each (f .0) (f .1) .1) (q .acts) (q .each (f .0) (f .1) .2)
 
   -- A WRITE IS DENIED, of bytes or of bits
   pub forbidden-write :

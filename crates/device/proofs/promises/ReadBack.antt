@@ -2,28 +2,16 @@
 -- Assumes nothing.
 use Prim.Native.Nat.{ℕ, _≤_}
 use mathlib.Core.Path.{_≡_}
-use mathlib.Core.Logic.{_⊎_, inl, inr}
 use native.Mathlib.Omega.{arith}
-use Rattle.sheet.specs.declared.Memory.{Memory}
-use Rattle.sheet.specs.declared.Memory.the-variants.{Device, User}
-use Rattle.pdu.specs.Pdus.{serviceOf}
 use Rattle.pdu.specs.declared.Pdu.the-variants.{PropertyValueRead, PropertyValueWrite}
-use Rattle.device.specs.Asked.{Asked, Takes, Reads}
+use Rattle.device.specs.Asked.{Asked, Reads}
 use Rattle.device.specs.PropertiesDue.{Readable}
 use Rattle.device.specs.MemoryDue.{Write, into, writing, reading, MemoryReadable}
 use Rattle.device.specs.Next.{Confirmed, Next, SameAnswer}
+use Rattle.device.proofs.due.Taking.{low-mode}
 use Rattle.device.proofs.due.WasReady.{carried, ready-next}
 use Rattle.device.proofs.leaves.ReadBackProperties.{property-same-answer}
 use Rattle.device.proofs.leaves.ReadBackMemory.{memory-same-answer}
-
-either-low : {m : ℕ} → (m ≡ 2) ⊎ (m ≡ 3) → m ≤ 3
-either-low (inl e) = omega arith
-either-low (inr e) = omega arith
-
--- a memory is read in connected mode alone
-connected-low : (rules : ℕ) (m : Memory) (n address : ℕ) {mode : ℕ} → Takes rules (serviceOf (reading m n address)) mode → mode ≤ 3
-connected-low rules Device n address e = omega arith
-connected-low rules User n address e = omega arith
 
 module _ (x y : Asked) where
   -- ELEMENTS OF A PROPERTY, OR ITS COUNT
@@ -32,7 +20,7 @@ module _ (x y : Asked) where
       Readable y object id i → SameAnswer x y
   property-found object id n s i w next may =
       let r : Reads x (PropertyValueWrite object id n s) = carried x _ (w .reads) (omega (arith, w .outcome)) in
-      property-same-answer x y object id n s r (ready-next x y _ _ r next (either-low (next .takes))) (next .sheet) i may (w .outcome)
+      property-same-answer x y object id n s r (ready-next x y _ _ r next (low-mode (next .takes))) (next .sheet) i may (w .outcome)
 
   -- A RANGE OF MEMORY, its bytes written or its bits
   pub memory-found :
@@ -40,4 +28,4 @@ module _ (x y : Asked) where
       MemoryReadable y (into w) n address o → SameAnswer x y
   memory-found w n address o c next may =
       let r : Reads x (writing w n address) = carried x _ (c .reads) (omega (arith, c .outcome)) in
-      memory-same-answer x y w n address r (ready-next x y _ _ r next (connected-low _ (into w) n address (next .takes))) (next .sheet) o may (c .outcome)
+      memory-same-answer x y w n address r (ready-next x y _ _ r next (low-mode (next .takes))) (next .sheet) o may (c .outcome)

@@ -1,6 +1,7 @@
 -- DEMAND 2: the step that is done is the step that is due, and no other is due.
 -- Assumes nothing.
 use mathlib.Core.Path.{_≡_, refl, sym, subst}
+use Rattle.octets.proofs.Truths.{never}
 use Rattle.sheet.specs.declared.Memory.the-variants.{Device, User}
 use Rattle.pdu.specs.Read.{readPdu}
 use Rattle.pdu.specs.declared.Pdu.{Pdu}
@@ -24,6 +25,7 @@ use Rattle.device.specs.MemoryDue as memory
 use Rattle.device.specs.KeysDue as keys
 use Rattle.device.specs.GroupsDue.{Brings}
 use Rattle.device.specs.Right.{Right}
+use Rattle.device.proofs.due.Taking.{taken}
 use Rattle.device.proofs.due.RequestCases.{request-cases}
 use Rattle.device.proofs.due.Stepped.{step-refused, step-unknown, step-other, step-unfit}
 use Rattle.device.proofs.due.RightGroups.{right-group-read, right-group-put, only-group-read0, only-group-read}
@@ -60,16 +62,16 @@ module _ (x : Asked) (hs : Octets (x .sheet)) (ha : Octets (x .apdu)) where
   right-read (AuthorizeRequest key) r = due.keys (right-authorize x key r)
   right-read (KeyWrite named key) r = due.keys (right-key-write x named key r)
   right-read Restart r = due.keys (right-restart x r)
-  right-read IndividualAddressResponse r = absurd (r .takes)
-  right-read (SerialNumberResponse serial domain) r = absurd (r .takes)
-  right-read (DeviceDescriptorResponse t) r = absurd (r .takes)
-  right-read (PropertyValueResponse object id n s) r = absurd (r .takes)
-  right-read (PropertyDescriptionResponse object id index kind maximum access) r = absurd (r .takes)
-  right-read (MemoryResponse n address) r = absurd (r .takes)
-  right-read (AuthorizeResponse level) r = absurd (r .takes)
-  right-read (KeyResponse level) r = absurd (r .takes)
+  right-read IndividualAddressResponse r = never (taken (r .takes))
+  right-read (SerialNumberResponse serial domain) r = never (taken (r .takes))
+  right-read (DeviceDescriptorResponse t) r = never (taken (r .takes))
+  right-read (PropertyValueResponse object id n s) r = never (taken (r .takes))
+  right-read (PropertyDescriptionResponse object id index kind maximum access) r = never (taken (r .takes))
+  right-read (MemoryResponse n address) r = never (taken (r .takes))
+  right-read (AuthorizeResponse level) r = never (taken (r .takes))
+  right-read (KeyResponse level) r = never (taken (r .takes))
   right-read (UserMemoryRead n address) r = due.memory (right-memory-read x User n address r)
-  right-read (UserMemoryResponse n address) r = absurd (r .takes)
+  right-read (UserMemoryResponse n address) r = never (taken (r .takes))
   right-read (UserMemoryWrite n address) r = due.memory (right-memory-write x (memory.bytes User) n address r)
 
   -- WHAT IS DONE IS DUE

@@ -4,6 +4,7 @@ use Prim.Native.Nat.{ℕ}
 use mathlib.Core.Path.{_≡_, refl, subst}
 use mathlib.Core.Bool.{Bool, true, false, cond, not}
 use mathlib.Core.List.{List}
+use Rattle.octets.proofs.Truths.{equal-is}
 use Rattle.sheet.specs.Head.{rulesOf}
 use Rattle.pdu.specs.Table.{serviceAt}
 use Rattle.pdu.specs.Rules.{codeOf}
@@ -26,7 +27,7 @@ use Rattle.judge.specs.Session.{multicast, levelIn}
 use Rattle.judge.specs.Modes.{reachOf, reaches, takes}
 use Rattle.judge.specs.Judge.{decideOf, readOf, reachedOf, foundOf, judgeOf}
 use Rattle.device.specs.Asked.{Takes}
-use Rattle.device.proofs.due.Taking.{takes-is}
+use Rattle.device.proofs.due.Taking.{takes-is, taken}
 
 -- what is decided where a test holds is the same if it is under that test
 if-holds : (t : Bool) (x y z : Decision) → (t ≡ true → x ≡ y) → cond (not t) z x ≡ cond (not t) z y
@@ -36,9 +37,9 @@ if-holds false x y z f = refl
 module _ (room : ℕ) (s : List ℕ) (q : Session) (mode : ℕ) (a : List ℕ) (g g′ : ℕ) (other : mode ≡ multicast → ⊥) where
   -- no service that another mode takes asks for the group address
   decide-other : (l : ℕ) (d : List ℕ) (p : Pdu) → Takes (rulesOf s) (serviceOf p) mode → decideOf s l g d p ≡ decideOf s l g′ d p
-  decide-other l d GroupValueRead t = absurd (other t)
-  decide-other l d (GroupValueResponse v) t = absurd (other t)
-  decide-other l d (GroupValueWrite v) t = absurd (other t)
+  decide-other l d GroupValueRead t = absurd (other (equal-is mode 0 .0 (taken t)))
+  decide-other l d (GroupValueResponse v) t = absurd (other (equal-is mode 0 .0 (taken t)))
+  decide-other l d (GroupValueWrite v) t = absurd (other (equal-is mode 0 .0 (taken t)))
   decide-other l d (IndividualAddressWrite address) t = refl
   decide-other l d IndividualAddressRead t = refl
   decide-other l d (SerialNumberRead serial) t = refl

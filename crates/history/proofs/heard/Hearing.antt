@@ -18,12 +18,12 @@ use Rattle.pdu.specs.declared.Pdu.the-variants.{GroupValueRead, GroupValueRespo
 use Rattle.pdu.specs.declared.Pdu.the-variants.{DeviceDescriptorRead, PropertyValueRead, PropertyValueWrite, PropertyDescriptionRead, MemoryRead, MemoryWrite, MemoryBitWrite}
 use Rattle.pdu.specs.declared.Pdu.the-variants.{AuthorizeRequest, KeyWrite, Restart, IndividualAddressResponse, SerialNumberResponse, DeviceDescriptorResponse, PropertyValueResponse}
 use Rattle.pdu.specs.declared.Pdu.the-variants.{PropertyDescriptionResponse, MemoryResponse, AuthorizeResponse, KeyResponse, UserMemoryRead, UserMemoryResponse, UserMemoryWrite}
-use Rattle.octets.proofs.Truths.{never, decided, equal-is, and-is, or-is}
+use Rattle.octets.proofs.Truths.{never, decided, and-is, or-is}
 use Rattle.judge.specs.Session.{connected}
 use Rattle.device.specs.Events.{State}
 use Rattle.device.specs.Asked.{Asked, Takes, Ready, Reads}
 use Rattle.device.specs.Due.{asked}
-use Rattle.device.proofs.due.Taking.{two-modes}
+use Rattle.device.proofs.due.Taking.{takes-is, restart-is}
 use Rattle.history.specs.Wish.{Wish, wishOf, restart, nothing, asks, brings, taken}
 use Rattle.history.specs.Permit.{checks, heard}
 use Rattle.history.proofs.spans.Bools.{all-at}
@@ -58,22 +58,22 @@ restart-taken rules m = (
 
 taken-is : (rules : ℕ) (p : Pdu) (m : ℕ) → Idle p ⊎ ((taken rules (wishOf p) m ≡ true) ↔ Takes rules (serviceOf p) m)
 taken-is rules GroupValueRead m = inl refl
-taken-is rules (GroupValueResponse v) m = inr (equal-is m 0)
-taken-is rules (GroupValueWrite v) m = inr (equal-is m 0)
-taken-is rules (IndividualAddressWrite v) m = inr (equal-is m 1)
+taken-is rules (GroupValueResponse v) m = inr (takes-is rules m _)
+taken-is rules (GroupValueWrite v) m = inr (takes-is rules m _)
+taken-is rules (IndividualAddressWrite v) m = inr (takes-is rules m _)
 taken-is rules IndividualAddressRead m = inl refl
 taken-is rules (SerialNumberRead n) m = inl refl
-taken-is rules (SerialNumberWrite n v) m = inr (equal-is m 1)
+taken-is rules (SerialNumberWrite n v) m = inr (takes-is rules m _)
 taken-is rules (DeviceDescriptorRead t) m = inl refl
 taken-is rules (PropertyValueRead o i n s) m = inl refl
-taken-is rules (PropertyValueWrite o i n s) m = inr (two-modes m 2 3)
+taken-is rules (PropertyValueWrite o i n s) m = inr (takes-is rules m _)
 taken-is rules (PropertyDescriptionRead o i n) m = inl refl
 taken-is rules (MemoryRead n y) m = inl refl
-taken-is rules (MemoryWrite n y) m = inr (equal-is m 3)
-taken-is rules (MemoryBitWrite n y) m = inr (equal-is m 3)
-taken-is rules (AuthorizeRequest n) m = inr (equal-is m 3)
-taken-is rules (KeyWrite l n) m = inr (equal-is m 3)
-taken-is rules Restart m = inr (restart-taken rules m)
+taken-is rules (MemoryWrite n y) m = inr (takes-is rules m _)
+taken-is rules (MemoryBitWrite n y) m = inr (takes-is rules m _)
+taken-is rules (AuthorizeRequest n) m = inr (takes-is rules m _)
+taken-is rules (KeyWrite l n) m = inr (takes-is rules m _)
+taken-is rules Restart m = let t = restart-taken rules m in let r = restart-is rules m in inr (λ e. r .1 (t .0 e), λ h. t .1 (r .0 h))
 taken-is rules IndividualAddressResponse m = inl refl
 taken-is rules (SerialNumberResponse n d) m = inl refl
 taken-is rules (DeviceDescriptorResponse t) m = inl refl
@@ -84,7 +84,7 @@ taken-is rules (AuthorizeResponse l) m = inl refl
 taken-is rules (KeyResponse l) m = inl refl
 taken-is rules (UserMemoryRead n y) m = inl refl
 taken-is rules (UserMemoryResponse n y) m = inl refl
-taken-is rules (UserMemoryWrite n y) m = inr (equal-is m 3)
+taken-is rules (UserMemoryWrite n y) m = inr (takes-is rules m _)
 
 module _ (x : State) (mode c g : ℕ) (a out : List ℕ) (accepted : Accepted (x .sheet)) where
   abbrev rules : ℕ

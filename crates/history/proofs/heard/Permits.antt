@@ -88,12 +88,11 @@ module _ (x : Asked) (g : Good (x .sheet)) where
   abbrev L : ℕ
   L = levelFor (x .mode) (x .session .level)
 
-  -- A RANGE OF MEMORY: a test passes for each byte exactly if the level suffices for the range; a byte for which it passes lies in a
-  -- region, it passes there if the level suffices, and a level suffices for a range exactly if it does for each of its bytes
+  -- A RANGE OF MEMORY: a test passes for each byte exactly if the level suffices for each; a byte for which it passes lies in a
+  -- region, and it passes there if the level suffices
   module _ (m : Memory) (most : ℕ) (may : ℕ → Bool) (Suffices : ℕ → ℕ → Type 0)
       (may-lies : (y : ℕ) → may y ≡ true → (i : ℕ) × Covered S m i y)
-      (may-is : (i y : ℕ) → Covered S m i y → (may y ≡ true) ↔ Suffices L (region.levels of regionAt S m i))
-      (over : (y n o l : ℕ) (r : Ranged S m y n o l) → Suffices L l ↔ ((i : ℕ) → i < n → Suffices L (r .at i))) (n y : ℕ) where
+      (may-is : (i y : ℕ) → Covered S m i y → (may y ≡ true) ↔ Suffices L (region.levels of regionAt S m i)) (n y : ℕ) where
     Ts : List Bool
     Ts = leb 1 n ∷ leb n most ∷ every n (λ i. may (y + i)) ∷ []
 
@@ -108,27 +107,22 @@ module _ (x : Asked) (g : Good (x .sheet)) where
           record {
             some = some;
             few = leb-true _ _ (all-at Ts e 1);
-            levels = w .1;
-            range = r;
             level = L;
             acts = acts-so x;
-            suffices =
-                over y n (w .0) (w .1) r .1
-                (λ i h.
+            each = λ i h.
                 let b = r .each i h in
-                subst (Suffices L) (sym (b .under)) (may-is (b .index) (y + i) (covers-stands b) .0 (each i h)));
+                (r .at i, b, subst (Suffices L) (sym (b .under)) (may-is (b .index) (y + i) (covers-stands b) .0 (each i h)));
           },
         )
 
     open-range : (o : ℕ) → Open x m most Suffices n y o → inRange most may n y ≡ true
     unfolding inRange
     open-range o w =
-        let r = w .range in
-        let enough : Suffices L (w .levels) = subst (λ (l : ℕ). Suffices l (w .levels)) (acts-once x (w .acts)) (w .suffices) in
         let b : every n (λ i. may (y + i)) ≡ true =
         every-all _ n (λ j h.
-        let b = r .each j h in
-        may-is (b .index) (y + j) (covers-stands b) .1 (subst (Suffices L) (b .under) (over y n o (w .levels) r .0 enough j h))) in
+        let b = w .each j h .1 in
+        may-is (b .index) (y + j) (covers-stands b) .1
+        (subst (Suffices L) (b .under) (subst (λ (l : ℕ). Suffices l (w .each j h .0)) (acts-once x (w .acts)) (w .each j h .2)))) in
         simp (le-leb _ _ (w .some), le-leb _ _ (w .few), b)
 
   -- a byte that may be written lies in a region
@@ -152,8 +146,8 @@ module _ (x : Asked) (g : Good (x .sheet)) where
       (m : Memory) (most n y : ℕ) →
       (inRange most (mayWrite S m L) n y ≡ true) ↔ ((o : ℕ) × Open x m most (λ level levels. level ≤ levels % 16) n y o)
   bytes-is m most n y = (
-    range-open m most (mayWrite S m L) (λ level levels. level ≤ levels % 16) (write-lies m) (writes m) (λ y n o l r. r .writing L) n y,
-    λ w. open-range m most (mayWrite S m L) (λ level levels. level ≤ levels % 16) (write-lies m) (writes m) (λ y n o l r. r .writing L) n y (w .0) (w .1),
+    range-open m most (mayWrite S m L) (λ level levels. level ≤ levels % 16) (write-lies m) (writes m) n y,
+    λ w. open-range m most (mayWrite S m L) (λ level levels. level ≤ levels % 16) (write-lies m) (writes m) n y (w .0) (w .1),
   )
 
   -- A WRITE TO MEMORY, of bytes or of bits
@@ -162,20 +156,12 @@ module _ (x : Asked) (g : Good (x .sheet)) where
   memory-is (bytes Device) n y d = bytes-is Device 12 n y
   memory-is (bytes User) n y d = bytes-is User 11 n y
   memory-is bits n y d = (
-    range-open Device 5 (λ y. mayRead S Device L y && mayWrite S Device L y) (ToWrite bits) lies (changes Device) both n y,
-    λ w. open-range Device 5 (λ y. mayRead S Device L y && mayWrite S Device L y) (ToWrite bits) lies (changes Device) both n y (w .0) (w .1),
+    range-open Device 5 (λ y. mayRead S Device L y && mayWrite S Device L y) (ToWrite bits) lies (changes Device) n y,
+    λ w. open-range Device 5 (λ y. mayRead S Device L y && mayWrite S Device L y) (ToWrite bits) lies (changes Device) n y (w .0) (w .1),
   )
     where
       lies : (y : ℕ) → (mayRead S Device L y && mayWrite S Device L y) ≡ true → (i : ℕ) × Covered S Device i y
       lies y e = write-lies Device y (and-is (mayRead S Device L y) (mayWrite S Device L y) .0 e .1)
-
-      both :
-          (y n o l : ℕ) (r : Ranged S Device y n o l) →
-          ((L ≤ l / 16) × (L ≤ l % 16)) ↔ ((i : ℕ) → i < n → (L ≤ r .at i / 16) × (L ≤ r .at i % 16))
-      both y n o l r = (
-        λ h i b. (r .reading L .0 (h .0) i b, r .writing L .0 (h .1) i b),
-        λ h. (r .reading L .1 (λ i b. h i b .0), r .writing L .1 (λ i b. h i b .1)),
-      )
 
   -- A KEY
   pub key-is : (named number : ℕ) (d : List ℕ) → (allowed S L d (change (writeKey named number)) ≡ true) ↔ KeyWritable x named

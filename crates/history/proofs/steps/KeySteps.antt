@@ -16,12 +16,13 @@ use Rattle.sheet.specs.Head as head
 use Rattle.sheet.proofs.rules.Good.{accepted}
 use Rattle.sheet.proofs.promises.Stores.{key-store}
 use Rattle.pdu.specs.declared.Pdu.the-variants.{AuthorizeRequest, KeyWrite}
-use Rattle.octets.proofs.Truths.{never}
+use Rattle.octets.proofs.Truths.{never, equal-is}
 use Rattle.judge.specs.Session.{connected}
 use Rattle.judge.specs.declared.Session.{Session}
 use Rattle.device.specs.Events.{State}
 use Rattle.events.specs.Events.{Event}
 use Rattle.device.specs.Asked.{Asked, Reads, given}
+use Rattle.device.proofs.due.Taking.{taken}
 use Rattle.device.specs.Due.{asked}
 use Rattle.device.specs.KeysDue.{KeyWritable, Grants, key0, key1, key2, other}
 use Rattle.history.specs.Location.{key}
@@ -129,4 +130,4 @@ module _ (f : First) (b : Begins f) (h : List Event) (x : State) (inv : Inv f h 
       others : (d : ℕ) → (mode ≡ connected → d ≡ c → ⊥) → said f h d ≡ said f (E f h mode c g a out ∷ h) d
       others d n =
           ap₂ (λ (t : Bool) (v : ℕ). record { opened = t; level = v }) (sym (open-as d))
-          (sym (new d ∙ ap (λ (t : Bool). offered (keys f h) t (level f h d) w) (ne-eqb d c (n (r .takes)))))
+          (sym (new d ∙ ap (λ (t : Bool). offered (keys f h) t (level f h d) w) (ne-eqb d c (n (equal-is mode 3 .0 (taken (r .takes)))))))

@@ -18,7 +18,7 @@ use Rattle.device.specs.Events.{State}
 use Rattle.events.specs.Events.{Event}
 use Rattle.device.specs.Asked.{Asked, Reads, given}
 use Rattle.device.specs.Due.{asked}
-use Rattle.device.specs.MemoryDue.{Write, bytes, bits, writing, MemoryWritable, Leaves}
+use Rattle.device.specs.MemoryDue.{Write, bytes, bits, into, writing, MemoryWritable, Leaves}
 use Rattle.history.specs.Location.{memory}
 use Rattle.history.specs.Wish.{change, wishOf}
 use Rattle.history.specs.Permit.{spans}
@@ -30,6 +30,7 @@ use Rattle.history.proofs.stored.Means.{Means, store-span}
 use Rattle.history.proofs.stored.MemoryRun.{memory-place, memory-run}
 use Rattle.device.proofs.leaves.Octet.{octets-data, octets-bits}
 use Rattle.pdu.proofs.Readings.{reading}
+use Rattle.device.proofs.due.OpenRanges.{over-write, opened}
 use Rattle.device.proofs.due.Given.{memory-data, user-data}
 use Rattle.history.proofs.heard.Permits.{wish, memory-is}
 use Rattle.history.proofs.steps.Requests.{ends, Done}
@@ -66,25 +67,29 @@ module _ (f : First) (b : Begins f) (h : List Event) (x : State) (inv : Inv f h 
     held : (j : ℕ) → j < n → content f h (memory m (y + j)) ≡ getD (x .sheet) (o + j) 0
     held j e = sym (inv .means .holds (memory m (y + j)) _ (memory-place first j e))
 
+  -- the range that may be written
+  range : (w : Write) {n y o : ℕ} (q : MemoryWritable R w n y o) → Ranged (x .sheet) (into w) y n o (opened (over-write w) (now inv b) q .0)
+  range w q = opened (over-write w) (now inv b) q .1
+
   -- what it leaves is what its span gives
   stored :
       (w : Write) (n y o : ℕ) (d : List ℕ) → Reads R (writing w n y) → MemoryWritable R w n y o → Leaves R w n y o d →
       Means (f .sheet) (laid (spans (f .sheet) (content f h) (given R (writing w n y)) (change (wish w n y))) (content f h)) (individual f h) (programming f h) (groupByte f h) (splice (x .sheet) o d)
   unfolding spans
   stored (bytes Device) n y o d r w e =
-      range-stored (w .range) (λ j. getD (given R (MemoryWrite n y)) j 0) d (ap length e ∙ memory-data a n y (reading a _ (r .reads)))
+      range-stored (range (bytes Device) w) (λ j. getD (given R (MemoryWrite n y)) j 0) d (ap length e ∙ memory-data a n y (reading a _ (r .reads)))
       (rw e (octets-data (MemoryWrite n y) a octets))
       (λ j k. ap (λ (c : List ℕ). getD c j 0) (sym e))
   stored (bytes User) n y o d r w e =
-      range-stored (w .range) (λ j. getD (given R (UserMemoryWrite n y)) j 0) d (ap length e ∙ user-data a n y (reading a _ (r .reads)))
+      range-stored (range (bytes User) w) (λ j. getD (given R (UserMemoryWrite n y)) j 0) d (ap length e ∙ user-data a n y (reading a _ (r .reads)))
       (rw e (octets-data (UserMemoryWrite n y) a octets))
       (λ j k. ap (λ (c : List ℕ). getD c j 0) (sym e))
   stored bits n y o d r w e =
       let given : List ℕ = given R (MemoryBitWrite n y) in
-      range-stored (w .range) (λ j. bitXor (bitAnd (content f h (memory Device (y + j))) (getD given j 0)) (getD given (n + j) 0)) d
+      range-stored (range bits w) (λ j. bitXor (bitAnd (content f h (memory Device (y + j))) (getD given j 0)) (getD given (n + j) 0)) d
       (e .long)
       (octets-bits e (inv .means .octets) (octets-data (MemoryBitWrite n y) a octets))
-      (λ j k. rw (e .each j k, held (w .range) j k))
+      (λ j k. rw (e .each j k, held (range bits w) j k))
 
   -- A WRITE, carried out
   pub memory-written :

@@ -1,7 +1,7 @@
 -- S6 to S9 say what the rows of the entries and of the bodies say.
 -- Assumes nothing.
 use Prim.Native.Nat.{ℕ, zero, suc, _<_, _≤_}
-use mathlib.Core.Path.{_≡_, sym, _∙_}
+use mathlib.Core.Path.{_≡_}
 use mathlib.Core.List.{List}
 use native.Mathlib.Decide.{decLt}
 use native.Mathlib.Omega.{arith}
@@ -11,11 +11,10 @@ use Rattle.sheet.specs.Demand.{Met}
 use Rattle.sheet.specs.Kind.{kinds, regions, properties, groups, users}
 use Rattle.sheet.specs.Layout.{_of_}
 use Rattle.sheet.specs.Group as group
-use Rattle.sheet.specs.Entries.{count, entry, floor, bodyAt, startOf, reached, sixBits}
+use Rattle.sheet.specs.Entries.{count, entry, floor, bodyAt, reached, sixBits}
 use Rattle.sheet.specs.Rules.{entryDemands, bodyDemands, endDemands}
 use Rattle.sheet.specs.Plain.{Ordered, S6, S7, S8, S9}
 use Rattle.sheet.proofs.rules.ByKind.{eachKind}
-use Rattle.sheet.proofs.rules.Untils.{until, until-only}
 
 -- the demands of all entries of a kind, and of all their bodies
 abbrev pub Entries : List ℕ → ℕ → Type 0
@@ -87,9 +86,9 @@ module _ (s : List ℕ) where
   unfolding bodyDemands reached bodyAt
   to9 m =
       record {
-        first = λ k z hk h u. bodies k hk 0 h .0 ∙ sym (until-only s u);
+        first = λ k hk h. bodies k hk 0 h .0;
         next = λ k i hk h. bodies k hk (suc i) h .0;
-        last = λ z u. until-only s u ∙ m .1 .0;
+        last = m .1 .0;
         six = λ i h. six-to i (m .0 .0 .1 i h .1 .0);
       }
     where
@@ -98,7 +97,7 @@ module _ (s : List ℕ) where
 
   pub from9 : S9 s → (((Bodies s 0 × Bodies s 1) × Bodies s 2) × Bodies s 3) × Met (endDemands s)
   unfolding bodyDemands reached bodyAt
-  from9 m = ((((bodies 0 (omega arith), bodies 1 (omega arith)), bodies 2 (omega arith)), bodies 3 (omega arith)), (m .last (startOf s kinds) (until s kinds), tt))
+  from9 m = ((((bodies 0 (omega arith), bodies 1 (omega arith)), bodies 2 (omega arith)), bodies 3 (omega arith)), (m .last, tt))
     where
       six : (i k : ℕ) → k < kinds → i < count s k → sixBits s k (entry s k i) ≤ 63
       six i =
@@ -109,5 +108,5 @@ module _ (s : List ℕ) where
           (λ h. unfold sixBits in omega arith)
 
       bodies : (k : ℕ) → k < kinds → Bodies s k
-      bodies k hk zero h = (m .first k (startOf s k) hk h (until s k), (six 0 k hk h, tt))
+      bodies k hk zero h = (m .first k hk h, (six 0 k hk h, tt))
       bodies k hk (suc i) h = (m .next k i hk h, (six (suc i) k hk h, tt))
