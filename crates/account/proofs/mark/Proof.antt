@@ -13,7 +13,14 @@ mark-spec =
     (λ c. search needs) (λ c. search needs) (λ c. search needs) (λ c. search needs)
     (λ c κs. search first-needs)
     (λ c. search needs) (λ c. search needs) (λ c. search needs) (λ c. search needs)
-    (λ c κs. second-needs _ _ _ _ (c .before .before .before .before .before .before .before .before .before .before .before .before .before .before .before .before .before .before .before .before .pre) _ _ _ (c .before .before .before .before .before .before .before .before .before .catch-up .ensures))
-    (λ c κs. level-needs _ _ _ _ (c .before .before .before .before .before .before .before .before .before .before .before .before .before .before .before .before .before .before .before .before .before .before .before .before .before .before .pre) _ _ _ (c .before .before .before .before .before .before .before .before .before .before .before .before .before .before .before .catch-up .ensures) _ _ (c .before .before .before .before .before .catch-up2 .ensures))
+    (λ c κs. let at-catch-up = c .before .before .before .before .before .before .before .before .before in
+    let at-entry = at-catch-up .before .before .before .before .before .before .before .before .before .before .before in second-needs _ _ _ _ (at-entry .pre) _ _ _
+    (at-catch-up .catch-up .ensures))
+    (λ c κs. let at-catch-up2 = c .before .before .before .before .before in let at-catch-up = at-catch-up2 .before .before .before .before .before .before .before .before .before .before in
+    let at-entry = at-catch-up .before .before .before .before .before .before .before .before .before .before .before in level-needs _ _ _ _ (at-entry .pre) _ _ _
+    (at-catch-up .catch-up .ensures) _ _ (at-catch-up2 .catch-up2 .ensures))
     (λ c. search needs) (λ c. search needs)
-    (λ c. marked-all _ _ _ _ (c .before .before .before .before .before .before .before .before .before .before .before .before .before .before .before .before .before .before .before .before .before .before .before .before .before .before .before .before .before .pre) _ _ _ (c .before .before .before .before .before .before .before .before .before .before .before .before .before .before .before .before .before .before .catch-up .ensures) _ _ (c .before .before .before .before .before .before .before .before .catch-up2 .ensures) _ _ _ (c .before .before .mark-levels .ensures)))
+    (λ c. let at-catch-up2 = c .before .before .before .before .before .before .before .before in
+    let at-catch-up = at-catch-up2 .before .before .before .before .before .before .before .before .before .before in
+    let at-entry = at-catch-up .before .before .before .before .before .before .before .before .before .before .before in marked-all _ _ _ _ (at-entry .pre) _ _ _ (at-catch-up .catch-up .ensures)
+    _ _ (at-catch-up2 .catch-up2 .ensures) _ _ _ (c .before .before .mark-levels .ensures)))
