@@ -192,7 +192,8 @@ module _ (x : Net) (apart : Apart (x .link)) where
   by-item : (i : Item) → Apart (netBy x i .link)
   unfolding netBy runBy heardIn isConnect
   by-item (frame b) =
-      arrives (sourceOf b) (heardIn x b) (apduOf b) (heard-by (x .link) (ownOf (x .sheet)) b (Joins (x .link) (sourceOf b)) (λ t. tt) tt tt (λ group. joins (x .link) (sourceOf b) group (meaningOf (frameIn b))))
+      arrives (sourceOf b) (heardIn x b) (apduOf b)
+      (heard-by (x .link) (ownOf (x .sheet)) b (Joins (x .link) (sourceOf b)) (λ t. tt) tt tt (λ group. joins (x .link) (sourceOf b) group (meaningOf (frameIn b))))
   by-item (press on) = closing (button on) (λ d e. never (ap isConnect e))
   by-item (timeOut c) = closing (disconnect c) (λ d e. never (ap isConnect e))
   by-item (giveBack c n st) = closing (restore c n st) (λ d e. never (ap isConnect e))

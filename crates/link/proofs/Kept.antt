@@ -22,7 +22,8 @@ use Rattle.history.specs.Rightful.{ours}
 use Rattle.history.proofs.promises.Keep.{keeps}
 use Rattle.history.proofs.promises.Keyless.{locked, keyless-device}
 use Rattle.link.specs.Serving.{apduOf}
-use Rattle.link.specs.Net.{Net, stateOf, firstNet, heardIn, eventsOf, Item, frame, press, timeOut, giveBack, eventsBy, netBy, netAfter, eventsAfter, BytesIn, AllBytes, NoKeyIn, NoKey, NoKeyHeardIn, NoKeyHeard}
+use Rattle.link.specs.Net.{Net, stateOf, firstNet, heardIn, eventsOf, Item, frame, press, timeOut, giveBack, eventsBy, netBy, netAfter, eventsAfter}
+use Rattle.link.specs.Net.{BytesIn, AllBytes, NoKeyIn, NoKey, NoKeyHeardIn, NoKeyHeard}
 use Rattle.link.specs.declared.Arrived.{Arrived}
 use Rattle.link.specs.declared.Arrived.the-variants.{Request, Connect, Disconnect, Nothing}
 

@@ -27,7 +27,8 @@ use Rattle.link.specs.Net.{Net, stateOf}
 use Rattle.host.specs.Steps as calls
 use Rattle.host.specs.Steps.{Steps}
 use Rattle.host.proofs.Mixed.{step-follows}
-use Rattle.lives.specs.Life.{Running, Happening, saved, late, cut, Stored, there, stored, Starts, starts, Goes, saves, waits, loses, Ran, begin, next, apart, tell, telling, told, kept, firstOf, Begun}
+use Rattle.lives.specs.Life.{Running, Happening, saved, late, cut, Stored, there, stored, Starts, starts, Goes, saves, waits, loses, Ran, begin, next}
+use Rattle.lives.specs.Life.{apart, tell, telling, told, kept, firstOf, Begun}
 
 -- an accepted sheet fits a slot
 accepted-short : (s : List ℕ) → Accepted s → length s ≤ longest

@@ -126,5 +126,6 @@ module _ (l l₁ : List ℕ) (h : length l ≡ line) (e₁ : l₁ ≡ splice l 2
               k
               ∙ splice-front _ (r .done .outcome ∷ r .done .count ∷ [])
               ∙ ap (λ (y : List ℕ). r .done .outcome ∷ r .done .count ∷ y) (front (take 2 l₁) (length-take-le 2 l₁ (omega (arith, long₁))) ∙ tail)
-              ∙ ap₂ (λ (a b : ℕ). a ∷ b ∷ (x .answer ++ zeros (room - length (x .answer)))) (did .did .outcome ∙ ap (λ (y : Effect). y .outcome) same) (did .did .count ∙ ap (λ (y : Effect). length (y .answer)) same);
+              ∙ ap₂ (λ (a b : ℕ). a ∷ b ∷ (x .answer ++ zeros (room - length (x .answer)))) (did .did .outcome ∙ ap (λ (y : Effect). y .outcome) same)
+              (did .did .count ∙ ap (λ (y : Effect). length (y .answer)) same);
         }

@@ -294,7 +294,8 @@ module _ (t : List ℕ) (g : Playable t) (octets : Octets t) where
         let a : length (take (entry.length of e) (drop (entry.offset of e) t)) ≡ entry.length of e =
         simp (length-take, length-drop) (omega (arith, m .1 .1 .1 .0, m .1 .1 .1 .1 .0))
         in
-        by-kind (λ y. CanSay y × (length (apdu y) ≡ entry.length of e)) (entry.kind of e) (entry.mode of e % 16) (entry.mode of e / 16) (entry.group of e) (take (entry.length of e) (drop (entry.offset of e) t))
+        by-kind (λ y. CanSay y × (length (apdu y) ≡ entry.length of e)) (entry.kind of e) (entry.mode of e % 16) (entry.mode of e / 16) (entry.group of e)
+        (take (entry.length of e) (drop (entry.offset of e) t))
         (λ k. ((omega arith, c, gr, omega (arith, a, le), refl), a))
         (λ k. (c, none k))
         (λ k. (c, none k))

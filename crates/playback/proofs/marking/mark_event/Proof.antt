@@ -12,6 +12,10 @@ mark-event-spec =
     (tie.spec
     (λ c κs. search needs)
     (λ c. omega (arith, c .before .before .before .before .before .before .before .before .before .before .before .before .before .before .before .before .before .pre .3 .numbers))
-    (λ c κs. markable _ _ _ _ _ _ _ (c .before .before .before .before .before .before .before .before .before .before .before .before .before .before .before .before .before .pre .3) _ _ _ (c .before .before .before .before .before .before .before .before .before .play-event .ensures) (search needs))
+    (λ c κs. let at-play-event = c .before .before .before .before .before .before .before .before .before in
+    let at-entry = at-play-event .before .before .before .before .before .before .before .before in markable _ _ _ _ _ _ _ (at-entry .pre .3) _ _ _ (at-play-event .play-event .ensures)
+    (search needs))
     (λ c. search needs) (λ c. search needs) (λ c. search needs) (λ c. search needs)
-    (λ c. event-marked _ _ _ _ _ _ _ (c .before .before .before .before .before .before .before .before .before .before .before .before .before .before .before .before .before .before .before .before .before .before .pre .3) _ _ _ (c .before .before .before .before .before .before .before .before .before .before .before .before .before .before .play-event .ensures) (search needs) _ _ (c .before .before .before .before .mark .ensures)))
+    (λ c. let at-mark = c .before .before .before .before in let at-play-event = at-mark .before .before .before .before .before .before .before .before .before .before in
+    let at-entry = at-play-event .before .before .before .before .before .before .before .before in event-marked _ _ _ _ _ _ _ (at-entry .pre .3) _ _ _ (at-play-event .play-event .ensures)
+    (search needs) _ _ (at-mark .mark .ensures)))

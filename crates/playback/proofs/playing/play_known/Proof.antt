@@ -27,11 +27,13 @@ play-known-spec =
     (λ c. omega arith)
     (λ c. line-there _ _ _ _ (c .before .before .before .before .before .before .pre .0) (c .before .before .loop .j) (omega arith) (c .before .before .loop .log) (c .before .before .loop .inv .long))
     (λ c κs.
-    let e = event-there _ _ _ _ (c .before .before .before .before .before .before .before .pre .0) (c .before .before .before .loop .j) (omega arith) in
-    (e .0, e .1, line-long _ _ _ _ (c .before .before .before .before .before .before .before .pre .0) (c .before .before .before .loop .j) (omega arith) (c .before .before .before .loop .log) (c .before .before .before .loop .inv .long), known-goes _ _ _ _ _ _ _ _ _ _ _ (c .before .before .before .before .before .before .before .pre .1) (c .before .before .before .loop .inv)))
+    let l = c .before .before .before .loop in let pre = c .before .before .before .before .before .before .before .pre in let e = event-there _ _ _ _ (pre .0) (l .j) (omega arith) in
+    (e .0, e .1, line-long _ _ _ _ (pre .0) (l .j) (omega arith) (l .log) (l .inv .long), known-goes _ _ _ _ _ _ _ _ _ _ _ (pre .1) (l .inv)))
     (λ c. omega (arith, few-events _ _ _ _ (c .before .before .before .before .before .before .before .before .before .before .before .before .before .before .pre .0)))
     (λ c. omega arith)
-    (λ c. goes-on _ _ _ _ _ _ (c .before .before .before .before .before .before .before .before .before .before .before .before .before .before .pre .0) (c .before .before .before .before .before .before .before .before .before .before .loop .j) _ _ _ (c .before .before .before .before .before .before .before .before .before .before .loop .inv) _ _ _ (omega arith) (c .before .before .before .before .before .before .play-event .ensures .state) (c .before .before .before .before .before .before .play-event .ensures .line) (search needs))
+    (λ c. let at-play-event = c .before .before .before .before .before .before in let at-turn = at-play-event .before .before .before .before in
+    let at-entry = at-turn .before .before .before .before in goes-on _ _ _ _ _ _ (at-entry .pre .0) (at-turn .loop .j) _ _ _ (at-turn .loop .inv) _ _ _ (omega arith)
+    (at-play-event .play-event .ensures .state) (at-play-event .play-event .ensures .line) (search needs))
     (λ c. c .before .loop .inv .same)
     (λ c. c .before .loop .inv .long)
     (λ c. goes-end _ _ _ _ _ _ (c .before .before .before .before .before .pre .0) _ _ _ _ (c .before .loop .inv) (omega arith)))
