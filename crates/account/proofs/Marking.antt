@@ -1,5 +1,4 @@
--- Marks made one by one; the mark of a run after another.
--- Assumes nothing.
+-- Marks made one by one; the mark of a run after another. Assumes nothing.
 use Prim.Native.Nat.{ℕ, zero, suc, _+_, _<_, _≤_}
 use mathlib.Core.Path.{_≡_, refl, sym, ap, subst, _∙_}
 use mathlib.Core.Logic.{_⊎_, inl, inr}

@@ -1,5 +1,4 @@
--- WRITTEN AGAIN FROM WHAT WAS READ, A FRAME HAS THE SAME BYTES.
--- Assumes nothing.
+-- WRITTEN AGAIN FROM WHAT WAS READ, A FRAME HAS THE SAME BYTES. Assumes nothing.
 use Prim.Native.Nat.{ℕ, _+_, _-_, _/_, _≤_, _<_}
 use mathlib.Core.Path.{_≡_, refl, sym, ap, ap₂, subst, _∙_}
 use mathlib.Core.Bool.{true}

@@ -1,5 +1,4 @@
--- EACH NUMBER OF A READING EXACTLY WHEN IT IS DUE.
--- Assumes nothing.
+-- EACH NUMBER OF A READING EXACTLY WHEN IT IS DUE. Assumes nothing.
 use Prim.Native.Nat.{ℕ, _+_, _%_, _≤_, _<_}
 use mathlib.Core.Path.{_≡_, refl, sym}
 use mathlib.Core.Bool.{Bool, true, false, cond, _||_}

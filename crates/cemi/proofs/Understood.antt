@@ -1,5 +1,4 @@
--- WHAT A FRAME MEANS IS ONE THING, AND ALWAYS SOMETHING.
--- Assumes nothing.
+-- WHAT A FRAME MEANS IS ONE THING, AND ALWAYS SOMETHING. Assumes nothing.
 use Prim.Native.Nat.{ℕ, _≤_, _<_}
 use mathlib.Core.Path.{_≡_, refl}
 use mathlib.Core.Bool.{Bool, true, false, cond, _&&_}

@@ -1,5 +1,4 @@
--- TWO OPEN PLACES HAVE TWO ADDRESSES, over any history of frames, if it was so at first; and who is turned away: exactly a third.
--- Assumes nothing.
+-- TWO OPEN PLACES HAVE TWO ADDRESSES, over any history of frames, if it was so at first; and who is turned away: exactly a third. Assumes nothing.
 use Prim.Native.Nat.{ℕ, zero, suc}
 use mathlib.Core.Path.{_≡_, refl, sym, ap, _∙_}
 use mathlib.Core.Logic.{_↔_, inl, inr, ⊎-elim}

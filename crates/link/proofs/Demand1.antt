@@ -1,5 +1,4 @@
--- DEMAND 1 OF A FRAME: a number of the list, and what each leaves as found.
--- Assumes nothing.
+-- DEMAND 1 OF A FRAME: a number of the list, and what each leaves as found. Assumes nothing.
 use Prim.Native.Nat.{ℕ, _+_, _*_, _%_, _≤_}
 use mathlib.Core.Path.{_≡_, refl, sym, ap, subst, _∙_}
 use mathlib.Core.Logic.{_⊎_, inl, inr}

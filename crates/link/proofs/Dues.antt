@@ -1,5 +1,4 @@
--- WHAT IS HEARD IS WHAT IS DUE, AND NOTHING ELSE IS DUE: of any link, own address and bytes.
--- Assumes nothing.
+-- WHAT IS HEARD IS WHAT IS DUE, AND NOTHING ELSE IS DUE: of any link, own address and bytes. Assumes nothing.
 use Prim.Native.Nat.{ℕ}
 use mathlib.Core.Path.{_≡_, refl, sym, ap, subst, _∙_}
 use mathlib.Core.Logic.{_⊎_, inl, inr}

@@ -1,5 +1,4 @@
--- WHAT FRAMES LEAVE IS WHAT THE EVENTS LEAVE THAT THEY ARE: so demand 3 holds of frames, and nobody without the key changes a protected byte by frames.
--- Assumes nothing.
+-- WHAT FRAMES LEAVE IS WHAT THE EVENTS LEAVE THAT THEY ARE: so demand 3 holds of frames, and nobody without the key changes a protected byte by frames. Assumes nothing.
 use Prim.Native.Nat.{ℕ, zero, suc, _+_, _<_}
 use mathlib.Core.Path.{_≡_, refl, sym, ap, subst, _∙_}
 use mathlib.Core.Bool.{Bool, true, false, cond}

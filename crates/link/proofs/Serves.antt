@@ -1,5 +1,4 @@
--- Laws behind serving.
--- Assumes nothing.
+-- Laws behind serving. Assumes nothing.
 use Prim.Native.Nat.{ℕ, _+_, _≤_, _<_}
 use mathlib.Core.Path.{_≡_, refl, sym, ap, ap₂, subst, _∙_}
 use mathlib.Core.Bool.{cond}

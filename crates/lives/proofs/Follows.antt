@@ -1,5 +1,4 @@
--- A LIFE WITH POWER CUTS IS THE HISTORY THAT IT IS TOLD AS: what it leaves is what that history leaves, and the medium has the sheet after as much of it as was kept.
--- Assumes nothing.
+-- A LIFE WITH POWER CUTS IS THE HISTORY THAT IT IS TOLD AS: what it leaves is what that history leaves, and the medium has the sheet after as much of it as was kept. Assumes nothing.
 use Prim.Native.Nat.{ℕ, _≤_}
 use mathlib.Core.Path.{_≡_, refl, sym, ap, ap₂, subst, _∙_}
 use mathlib.Core.Bool.{Bool, true, false, cond}

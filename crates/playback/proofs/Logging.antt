@@ -1,5 +1,4 @@
--- A line of the log, and the log of events one after the other.
--- Assumes nothing.
+-- A line of the log, and the log of events one after the other. Assumes nothing.
 use Prim.Native.Nat.{ℕ, zero, suc, _+_, _-_, _*_, _≤_, _<_}
 use mathlib.Core.Path.{_≡_, refl, sym, _∙_, ap, ap₂, subst}
 use mathlib.Core.List.{List, [], _∷_, _++_, append-assoc, append-nil}

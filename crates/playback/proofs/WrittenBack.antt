@@ -1,5 +1,4 @@
--- A TRACE WRITTEN FROM EVENTS AND READ BACK SAYS THE SAME EVENTS, for the events that a trace can hold; and every trace that can be played says such events.
--- Assumes nothing.
+-- A TRACE WRITTEN FROM EVENTS AND READ BACK SAYS THE SAME EVENTS, for the events that a trace can hold; and every trace that can be played says such events. Assumes nothing.
 use Prim.Native.Nat.{ℕ, zero, suc, _+_, _*_, _^_, _/_, _%_, _≤_, _<_}
 use mathlib.Core.Path.{_≡_, refl, sym, _∙_, ap, ap₂, subst}
 use mathlib.Core.Bool.{Bool, true, false, cond}

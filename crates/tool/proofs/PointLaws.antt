@@ -1,5 +1,4 @@
--- What the branches of reading and writing a flat datapoint ask.
--- Assumes nothing.
+-- What the branches of reading and writing a flat datapoint ask. Assumes nothing.
 use Prim.Native.Nat.{ℕ}
 use mathlib.Core.Path.{_≡_, refl, sym, ap, _∙_}
 use mathlib.Core.Bool.{Bool, true, false, cond}

@@ -1,5 +1,4 @@
--- `account::mark` meets its contract.
--- Assumes nothing.
+-- `account::mark` meets its contract. Assumes nothing.
 use native.Mathlib.Omega.{arith}
 use borrow.Author.Needs.{needs}
 use Rattle.account.proofs.Marking.{first-needs, second-needs, level-needs, marked-all}
@@ -7,12 +6,8 @@ use Rattle.account.proofs.mark.Statement.{statement}
 use Rattle.account.proofs.mark.Tie as tie
 
 pub mark-spec : {M : Type 1} → statement M
-mark-spec =
-    tie.close
-    (tie.spec
-    (λ c. search needs) (λ c. search needs) (λ c. search needs) (λ c. search needs)
-    (λ c κs. search first-needs)
-    (λ c. search needs) (λ c. search needs) (λ c. search needs) (λ c. search needs)
+mark-spec = tie.close (tie.spec (λ c. search needs) (λ c. search needs) (λ c. search needs) (λ c. search needs)
+    (λ c κs. search first-needs) (λ c. search needs) (λ c. search needs) (λ c. search needs) (λ c. search needs)
     (λ c κs. let at-catch-up = c .before .before .before .before .before .before .before .before .before in
     let at-entry = at-catch-up .before .before .before .before .before .before .before .before .before .before .before in second-needs _ _ _ _ (at-entry .pre) _ _ _
     (at-catch-up .catch-up .ensures))

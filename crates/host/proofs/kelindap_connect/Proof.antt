@@ -1,5 +1,4 @@
--- `host::kelindap_connect` meets its contract: the walk is `Replaced.antt`'s, at `connect` and what that gives.
--- Assumes nothing.
+-- `host::kelindap_connect` meets its contract: the walk is `Replaced.antt`'s, at `connect` and what that gives. Assumes nothing.
 use Rattle.device.specs.Events.{connectOf}
 use contract.Running.{givenOf}
 use denote.Triple.Table.{cited}

@@ -1,5 +1,4 @@
--- `host::kelindap_disconnect` meets its contract: the walk is `Replaced.antt`'s, at `disconnect` and what that gives.
--- Assumes nothing.
+-- `host::kelindap_disconnect` meets its contract: the walk is `Replaced.antt`'s, at `disconnect` and what that gives. Assumes nothing.
 use Rattle.device.specs.Events.{disconnectOf}
 use contract.Running.{givenOf}
 use denote.Triple.Table.{cited}

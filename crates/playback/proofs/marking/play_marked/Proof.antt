@@ -1,5 +1,4 @@
--- `playback::marking::play_marked` meets its contract.
--- Assumes nothing.
+-- `playback::marking::play_marked` meets its contract. Assumes nothing.
 use mathlib.Core.Path.{refl}
 use mathlib.Core.List.{[]}
 use borrow.Author.Needs.{needs}
@@ -10,14 +9,10 @@ use Rattle.playback.proofs.marking.play_marked.Statement.{statement}
 use Rattle.playback.proofs.marking.play_marked.Tie as tie
 
 pub play-marked-spec : {M : Type 1} → statement M
-play-marked-spec =
-    tie.close
-    (tie.spec
-    (λ c κs. search needs)
+play-marked-spec = tie.close (tie.spec (λ c κs. search needs)
     (λ c. let known = c .before .before .before .before .before in
     record { did = search marking-refused; sheetBytes = λ i. known .before .slice-known .given i .fits; traceBytes = λ i. known .shared-slice-known .given i .fits })
-    (λ c κs. search accepted)
-    (λ c. search due-small)
+    (λ c κs. search accepted) (λ c. search due-small)
     (λ c. let known = c .before .before .before .before .before .before .before in
     record { did = search marking-no-room; sheetBytes = λ i. known .before .slice-known .given i .fits; traceBytes = λ i. known .shared-slice-known .given i .fits })
     (λ c κs. (search due-few, search needs))
