@@ -1,5 +1,4 @@
--- WHO CHANGED A BYTE, AND BY WHAT RIGHT; who gave a connection its level.
--- Assumes nothing.
+-- WHO CHANGED A BYTE, AND BY WHAT RIGHT; who gave a connection its level. Assumes nothing.
 use Prim.Native.Nat.{ℕ, _<_, _≤_}
 use mathlib.Core.Path.{_≡_, refl, sym, ap, subst, _∙_}
 use mathlib.Core.Logic.{_⊎_, inl, inr}

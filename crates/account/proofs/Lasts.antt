@@ -1,5 +1,4 @@
--- The last event after which something was another: it is one of the history, or there is none and it never was other than at first.
--- Assumes nothing.
+-- The last event after which something was another: it is one of the history, or there is none and it never was other than at first. Assumes nothing.
 use Prim.Native.Nat.{ℕ, zero, suc, _≤_}
 use mathlib.Core.Path.{_≡_, refl, sym, ap, subst, _∙_}
 use mathlib.Core.Logic.{_⊎_, inl, inr}

@@ -1,5 +1,4 @@
--- Who gave a connection its level: below 3, an offer of the key of that level.
--- Assumes nothing.
+-- Who gave a connection its level: below 3, an offer of the key of that level. Assumes nothing.
 use Prim.Native.Nat.{ℕ, _<_, _≤_}
 use mathlib.Core.Path.{_≡_, refl, sym, ap, subst, _∙_}
 use mathlib.Core.Logic.{_⊎_, inl, inr}

@@ -1,5 +1,4 @@
--- Marks made one by one; the mark of a run after another.
--- Assumes nothing.
+-- Marks made one by one; the mark of a run after another. Assumes nothing.
 use Prim.Native.Nat.{ℕ, zero, suc, _+_, _<_, _≤_}
 use mathlib.Core.Path.{_≡_, refl, sym, ap, subst, _∙_}
 use mathlib.Core.Logic.{_⊎_, inl, inr}
@@ -73,7 +72,8 @@ module _ (a : List ℕ) (n from to : ℕ) (b m : List ℕ) where
           let q : i ≡ p = omega (arith, l, y) in
           let o = k .caught .outside i (inr (omega arith)) in
           subst (λ (j : ℕ). (getD (set m′ i v) j 0 ≡ markOf (getD b j 0) (getD a j 0) (getD m j 0) n) × (getD (set b′ i w) j 0 ≡ getD a j 0)) q (
-            getD-set-same m′ i v 0 (omega (arith, hm, k .caught .sameMarks)) ∙ e ∙ ap (λ (x : ℕ). markOf x (getD a i 0) (getD m′ i 0) n) (o .1) ∙ ap (λ (x : ℕ). markOf (getD b i 0) (getD a i 0) x n) (o .0),
+            getD-set-same m′ i v 0 (omega (arith, hm, k .caught .sameMarks)) ∙ e ∙ ap (λ (x : ℕ). markOf x (getD a i 0) (getD m′ i 0) n) (o .1)
+                ∙ ap (λ (x : ℕ). markOf (getD b i 0) (getD a i 0) x n) (o .0),
             getD-set-same b′ i w 0 (omega (arith, hb, k .caught .sameBytes)) ∙ d,
           )
 

@@ -1,5 +1,4 @@
--- WHAT MARKS SAY: they are those of the history of the events that were played.
--- Assumes nothing.
+-- WHAT MARKS SAY: they are those of the history of the events that were played. Assumes nothing.
 use Prim.Native.Nat.{ℕ, zero, suc, _+_, _<_}
 use mathlib.Core.Path.{_≡_, refl, sym, ap, ap₂, _∙_}
 use mathlib.Core.Logic.{_⊎_, inl, inr}

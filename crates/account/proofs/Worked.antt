@@ -1,5 +1,4 @@
--- Worked: a morning on the sample sheet, and the marks that it leaves. Numbers that begin elsewhere, in code and definitions at once, would be seen here alone.
--- Assumes nothing.
+-- Worked: a morning on the sample sheet, and the marks that it leaves. Numbers that begin elsewhere, in code and definitions at once, would be seen here alone. Assumes nothing.
 use Prim.Native.Nat.{ℕ}
 use mathlib.Core.Path.{_≡_, refl}
 use mathlib.Core.Bool.{true, false}

@@ -1,5 +1,4 @@
--- WRITTEN AGAIN FROM WHAT WAS READ, A FRAME HAS THE SAME BYTES.
--- Assumes nothing.
+-- WRITTEN AGAIN FROM WHAT WAS READ, A FRAME HAS THE SAME BYTES. Assumes nothing.
 use Prim.Native.Nat.{ℕ, _+_, _-_, _/_, _≤_, _<_}
 use mathlib.Core.Path.{_≡_, refl, sym, ap, ap₂, subst, _∙_}
 use mathlib.Core.Bool.{true}
@@ -84,7 +83,8 @@ module _ (b : List ℕ) (small : Octets b) (s : IsStandard b) where
       let y : x + 1 - 1 ≡ x = omega arith in
       let i : l < 256 = rw (num-one b 1) (small 1) in
       let t : numAt b (octet6 l) 1 < 256 = rw (num-one b (octet6 l)) (small (octet6 l)) in
-      rw (length-info, length-tpdu, y, le-leb l 255 (omega arith), le-leb (fieldsIn b .transport) 63 (omega arith), le-leb 1 (x + 1) (omega arith), le-leb (x + 1) 16 (omega (arith, s .short)), s .stated, accepts (length b) l (fieldsIn b) x s)
+      rw (length-info, length-tpdu, y, le-leb l 255 (omega arith), le-leb (fieldsIn b .transport) 63 (omega arith), le-leb 1 (x + 1) (omega arith))
+      (rw (le-leb (x + 1) 16 (omega (arith, s .short)), s .stated, accepts (length b) l (fieldsIn b) x s))
 
 module _ (b : List ℕ) (f : Frame) (call : ReadFrom b (Is f) (readFrame b)) where
   pub write-back : encoded (f .fields) (infoOf f b) (tpduOf f b) ≡ b

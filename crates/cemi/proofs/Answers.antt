@@ -1,5 +1,4 @@
--- A FRAME THAT ANSWERS ANOTHER CAN ALWAYS BE WRITTEN, and means data in the mode of the request.
--- Assumes nothing.
+-- A FRAME THAT ANSWERS ANOTHER CAN ALWAYS BE WRITTEN, and means data in the mode of the request. Assumes nothing.
 use Prim.Native.Nat.{ℕ, _+_, _-_, _*_, _/_, _%_, _≤_, _<_}
 use mathlib.Core.Path.{_≡_, refl, sym, _∙_}
 use mathlib.Core.Bool.{Bool, true, false, cond}

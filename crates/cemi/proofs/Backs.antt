@@ -1,5 +1,4 @@
--- WHAT WAS WRITTEN READS AS THESE FIELDS, with its additional information and its APDU.
--- Assumes nothing.
+-- WHAT WAS WRITTEN READS AS THESE FIELDS, with its additional information and its APDU. Assumes nothing.
 use Prim.Native.Nat.{ℕ, _+_, _-_, _*_, _/_, _%_, _≤_}
 use mathlib.Core.Path.{_≡_, refl, sym, ap, ap₂, subst, _∙_}
 use mathlib.Core.Bool.{true}

@@ -1,5 +1,4 @@
--- A part that is cut out of a frame.
--- Assumes nothing.
+-- A part that is cut out of a frame. Assumes nothing.
 use Prim.Native.Nat.{ℕ, _+_, _-_, _≤_, _<_}
 use mathlib.Core.Path.{_≡_, _∙_}
 use mathlib.Core.List.{List}

@@ -1,5 +1,4 @@
--- EACH NUMBER OF A READING EXACTLY WHEN IT IS DUE.
--- Assumes nothing.
+-- EACH NUMBER OF A READING EXACTLY WHEN IT IS DUE. Assumes nothing.
 use Prim.Native.Nat.{ℕ, _+_, _%_, _≤_, _<_}
 use mathlib.Core.Path.{_≡_, refl, sym}
 use mathlib.Core.Bool.{Bool, true, false, cond, _||_}
@@ -33,7 +32,8 @@ module _ (n l : ℕ) (f : Fields) (x : ℕ) where
       (λ b. by-test (Due n l f x) (ltb 15 x) _ _
       (λ e. wrongLength h k (ltb-false (f .control1) 128 a) (eqb-true (f .control2 % 16) 0 b) (inl (ltb-true 15 x e)))
       (λ c. by-test (Due n l f x) (eqb (octet6 l + (x + 1)) n) _ _
-      (λ e. nothing record { long = h; known = k; standard = ltb-false (f .control1) 128 a; plain = eqb-true (f .control2 % 16) 0 b; short = ltb-false 15 x c; stated = eqb-true (octet6 l + (x + 1)) n e })
+      (λ e. let s = ltb-false (f .control1) 128 a in
+      nothing record { long = h; known = k; standard = s; plain = eqb-true (f .control2 % 16) 0 b; short = ltb-false 15 x c; stated = eqb-true (octet6 l + (x + 1)) n e })
       (λ e. wrongLength h k (ltb-false (f .control1) 128 a) (eqb-true (f .control2 % 16) 0 b) (inr (eqb-false (octet6 l + (x + 1)) n e)))))
       (λ b. notStandard h k (inr (eqb-false (f .control2 % 16) 0 b))))
 
@@ -43,7 +43,8 @@ module _ (n l : ℕ) (f : Fields) (x : ℕ) where
       by-test (Due n l f x) (ltb n 2) _ _ (λ e. tooShort (let h = ltb-true n 2 e in omega arith))
       (λ _. by-test (Due n l f x) (ltb n (10 + l)) _ _ (λ e. tooShort (ltb-true n (10 + l) e))
       (λ a. by-test (Due n l f x) (eqb (f .code) request || eqb (f .code) indication) _ _
-      (λ c. fitted (ltb-false n (10 + l) a) (⊎-elim (λ k. inl (eqb-true (f .code) request k)) (λ k. inr (eqb-true (f .code) indication k)) (or-is (eqb (f .code) request) (eqb (f .code) indication) .0 c)))
+      (λ c. fitted (ltb-false n (10 + l) a) (⊎-elim (λ k. inl (eqb-true (f .code) request k)) (λ k. inr (eqb-true (f .code) indication k))
+      (or-is (eqb (f .code) request) (eqb (f .code) indication) .0 c)))
       (λ c.
       let d = neither (eqb (f .code) request) (eqb (f .code) indication) c in
       otherCode (ltb-false n (10 + l) a) (eqb-false (f .code) request (d .0)) (eqb-false (f .code) indication (d .1)))))

@@ -1,5 +1,4 @@
--- Worked examples: what frames read as and mean, and the bytes of one, by computation. Fields exchanged in table, reader and writer at once would show here.
--- Assumes nothing.
+-- Worked examples: what frames read as and mean, and the bytes of one, by computation. Fields exchanged in table, reader and writer at once would show here. Assumes nothing.
 use mathlib.Core.Path.{_≡_, refl}
 use mathlib.Core.List.{List, [], _∷_, map}
 use Prim.Native.Nat.{ℕ}

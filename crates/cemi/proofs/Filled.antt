@@ -1,5 +1,4 @@
--- What a call of `cemi::write` leaves in the buffer.
--- Assumes nothing.
+-- What a call of `cemi::write` leaves in the buffer. Assumes nothing.
 use Prim.Native.Nat.{ℕ, _+_, _-_, _≤_}
 use mathlib.Core.Path.{_≡_, refl, sym, ap, _∙_}
 use mathlib.Core.Bool.{Bool, true, false, cond}

@@ -1,5 +1,4 @@
--- From the tests that reading and writing make to the number of the refusal.
--- Assumes nothing.
+-- From the tests that reading and writing make to the number of the refusal. Assumes nothing.
 use Prim.Native.Nat.{ℕ, _+_, _-_, _≤_, _<_}
 use mathlib.Core.Path.{_≡_, refl, ap, _∙_}
 use mathlib.Core.Bool.{Bool, true, false, cond, _||_}

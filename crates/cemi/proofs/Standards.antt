@@ -1,5 +1,4 @@
--- The number of the refusal is 0 exactly of a standard frame; what that says of its length.
--- Assumes nothing.
+-- The number of the refusal is 0 exactly of a standard frame; what that says of its length. Assumes nothing.
 use Prim.Native.Nat.{ℕ, _+_, _%_, _≤_, _<_}
 use mathlib.Core.Path.{_≡_, refl, sym, _∙_}
 use mathlib.Core.Bool.{Bool, true, false, cond, _||_}

@@ -1,5 +1,4 @@
--- Runs stored one after the other make the bytes of a frame.
--- Assumes nothing.
+-- Runs stored one after the other make the bytes of a frame. Assumes nothing.
 use Prim.Native.Nat.{ℕ, _+_, _-_, _*_, _/_, _%_, _≤_, _<_}
 use mathlib.Core.Path.{_≡_, refl, ap, _∙_}
 use mathlib.Core.List.{List, [], _∷_, _++_, append-assoc}

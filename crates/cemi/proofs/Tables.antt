@@ -1,5 +1,4 @@
--- Laws of a table of fields, whatever its fields: numbers read back from their bytes, and bytes written again from their numbers.
--- Assumes nothing.
+-- Laws of a table of fields, whatever its fields: numbers read back from their bytes, and bytes written again from their numbers. Assumes nothing.
 use Prim.Native.Nat.{ℕ, _+_, _≤_, _<_}
 use mathlib.Core.Path.{_≡_, refl, ap, ap₂, sym, _∙_}
 use mathlib.Core.List.{List, [], _∷_, _++_, append-assoc}

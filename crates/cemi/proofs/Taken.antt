@@ -1,5 +1,4 @@
--- From the bytes that reading takes to what reading gives.
--- Assumes nothing.
+-- From the bytes that reading takes to what reading gives. Assumes nothing.
 use Prim.Native.Nat.{ℕ, _+_, _/_, _%_, _^_}
 use mathlib.Core.Path.{_≡_, sym, ap, _∙_}
 use mathlib.Core.List.{List}

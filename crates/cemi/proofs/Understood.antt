@@ -1,5 +1,4 @@
--- WHAT A FRAME MEANS IS ONE THING, AND ALWAYS SOMETHING.
--- Assumes nothing.
+-- WHAT A FRAME MEANS IS ONE THING, AND ALWAYS SOMETHING. Assumes nothing.
 use Prim.Native.Nat.{ℕ, _≤_, _<_}
 use mathlib.Core.Path.{_≡_, refl}
 use mathlib.Core.Bool.{Bool, true, false, cond, _&&_}
@@ -31,7 +30,8 @@ module _ (f : Frame) where
   unfolding toGroup
   grouped g =
       by-test (Means f) (eqb t 0) _ _
-      (λ e. by-test (Means f) (eqb (f .fields .destination) 0) _ _ (λ d. toAll g (eqb-true t 0 e) (eqb-true (f .fields .destination) 0 d)) (λ d. toSome g (eqb-true t 0 e) (eqb-false (f .fields .destination) 0 d)))
+      (λ e. by-test (Means f) (eqb (f .fields .destination) 0) _ _
+      (λ d. toAll g (eqb-true t 0 e) (eqb-true (f .fields .destination) 0 d)) (λ d. toSome g (eqb-true t 0 e) (eqb-false (f .fields .destination) 0 d)))
       (λ e. toNone g (eqb-false t 0 e))
 
   module _ (g : Individual f) (n : t ≡ 0 → ⊥) (m : (16 ≤ t) × (t ≤ 31) → ⊥) where
@@ -42,7 +42,8 @@ module _ (f : Frame) where
         (λ a. by-test (Means f) (eqb (octet f) 129) _ _ (λ e. disconnects g z (eqb-true (octet f) 129 e))
         (λ b. by-test (Means f) (leb 48 t && leb 2 (f .low)) _ _
         (λ e. acknowledges g z (leb-true 48 t (first-true (leb 48 t) (leb 2 (f .low)) e), leb-true 2 (f .low) (second-true (leb 48 t) (leb 2 (f .low)) e)))
-        (λ c. other g n m (λ _ h. ⊎-elim (eqb-false (octet f) 128 a) (λ k. ⊎-elim (eqb-false (octet f) 129 b) (λ p. not-both (leb 48 t) (leb 2 (f .low)) c (le-leb 48 t (p .0), le-leb 2 (f .low) (p .1))) k) h))))
+        (λ c. other g n m (λ _ h. ⊎-elim (eqb-false (octet f) 128 a) (λ k. ⊎-elim (eqb-false (octet f) 129 b)
+        (λ p. not-both (leb 48 t) (leb 2 (f .low)) c (le-leb 48 t (p .0), le-leb 2 (f .low) (p .1))) k) h))))
 
   single : Individual f → Means f (toOne t (f .low) (f .stated))
   unfolding toOne numbered

@@ -1,5 +1,4 @@
--- From what the parts of a write ensure to what writing gives.
--- Assumes nothing.
+-- From what the parts of a write ensure to what writing gives. Assumes nothing.
 use Prim.Native.Nat.{ℕ, _+_, _-_, _≤_, _<_}
 use mathlib.Core.Path.{_≡_, refl, sym, _∙_}
 use mathlib.Core.Bool.{Bool, true, false, _&&_}

@@ -1,5 +1,4 @@
--- A run over two lists of events is one run after the other.
--- Assumes nothing.
+-- A run over two lists of events is one run after the other. Assumes nothing.
 use mathlib.Core.Path.{_≡_, refl}
 use mathlib.Core.List.{List, [], _∷_, _++_}
 use Rattle.device.specs.Events.{State}

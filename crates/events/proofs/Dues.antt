@@ -1,5 +1,4 @@
--- DEMAND 2 of a restore: what is done is what is due, and nothing else is due.
--- Assumes nothing.
+-- DEMAND 2 of a restore: what is done is what is due, and nothing else is due. Assumes nothing.
 use Prim.Native.Nat.{ℕ}
 use mathlib.Core.Path.{_≡_, refl}
 use mathlib.Core.List.{List}

@@ -1,5 +1,4 @@
--- THE CONVERSION OF AN OLD SHEET ANSWERS EVERY EVENT AS THE OLD SHEET DID in the release before, as `Before` models it, along every run; and what was saved from it is given back.
--- Assumes nothing.
+-- THE CONVERSION OF AN OLD SHEET ANSWERS EVERY EVENT AS THE OLD SHEET DID in the release before, as `Before` models it, along every run; and what was saved from it is given back. Assumes nothing.
 use Prim.Native.Nat.{ℕ}
 use mathlib.Core.Path.{_≡_, refl, sym, ap, ap₂}
 use mathlib.Core.Bool.{cond}

@@ -1,5 +1,4 @@
--- An event on a sheet in the release before, and on the accepted one that is it with 2 in byte 0: the same outcome and answer, and so it goes on.
--- Assumes nothing.
+-- An event on a sheet in the release before, and on the accepted one that is it with 2 in byte 0: the same outcome and answer, and so it goes on. Assumes nothing.
 use Prim.Native.Nat.{ℕ, _≤_}
 use mathlib.Core.Path.{_≡_, refl, sym, ap, ap₂, _∙_}
 use mathlib.Core.Bool.{Bool, true, false, cond}

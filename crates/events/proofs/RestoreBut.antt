@@ -1,5 +1,4 @@
--- A restore on two sheets that are the same but at some positions, and agree on what the rules read: the same outcome, and what it leaves differs there alone.
--- Assumes nothing.
+-- A restore on two sheets that are the same but at some positions, and agree on what the rules read: the same outcome, and what it leaves differs there alone. Assumes nothing.
 use Prim.Native.Nat.{ℕ}
 use mathlib.Core.Path.{_≡_, refl}
 use mathlib.Core.Bool.{Bool, true, false, cond}

@@ -1,5 +1,4 @@
--- Runs of events without a disputed request are the same under both rules.
--- Assumes nothing.
+-- Runs of events without a disputed request are the same under both rules. Assumes nothing.
 use Prim.Native.Nat.{ℕ}
 use mathlib.Core.Path.{_≡_, refl, ap, ap₂}
 use mathlib.Core.Bool.{Bool, cond}

@@ -1,5 +1,4 @@
--- Accepted stays accepted: no event takes a sheet out of the rules.
--- Assumes nothing.
+-- Accepted stays accepted: no event takes a sheet out of the rules. Assumes nothing.
 use Prim.Native.Nat.{ℕ}
 use mathlib.Core.List.{List}
 use Rattle.sheet.specs.Rules.{Accepted}

@@ -1,5 +1,4 @@
--- What arrived and who sent it, laid flat.
--- Assumes nothing.
+-- What arrived and who sent it, laid flat. Assumes nothing.
 use Prim.Native.Nat.{ℕ, _≤_, _<_, _%_}
 use mathlib.Core.Path.{_≡_, refl, sym, ap, ap₂, _∙_}
 use mathlib.Core.Bool.{Bool, true, false}

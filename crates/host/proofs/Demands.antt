@@ -1,5 +1,4 @@
--- DEMANDS 1 AND 2 of `kelindap_request`: of what it gives back and leaves in sessions, sheet and answer buffer. `Requested` is its contract.
--- Assumes nothing.
+-- DEMANDS 1 AND 2 of `kelindap_request`: of what it gives back and leaves in sessions, sheet and answer buffer. `Requested` is its contract. Assumes nothing.
 use Prim.Native.Nat.{ℕ, _+_, _≤_}
 use mathlib.Core.Path.{_≡_}
 use mathlib.Core.List.{List}

@@ -5,6 +5,7 @@ pub mod Contracts
 pub mod Lookups
 pub mod Mixed
 -- laws behind the calls
+pub mod Walking
 pub mod Replaced
 pub mod Replies
 pub mod Restored

@@ -1,5 +1,4 @@
--- WHATEVER CALLS A HOST MIXES, what they leave is what their history says: so demand 3, and what goes with it, holds of any of them in any order.
--- Assumes nothing.
+-- WHATEVER CALLS A HOST MIXES, what they leave is what their history says: so demand 3, and what goes with it, holds of any of them in any order. Assumes nothing.
 use Prim.Native.Nat.{ℕ, _≤_, _<_}
 use mathlib.Core.Path.{_≡_, refl, sym, ap, ap₂, subst, _∙_}
 use mathlib.Core.Bool.{Bool, true, false, cond}

@@ -1,5 +1,4 @@
--- The count of a reply fits a byte, and what a request did is what its reply says.
--- Assumes nothing.
+-- The count of a reply fits a byte, and what a request did is what its reply says. Assumes nothing.
 use Prim.Native.Nat.{ℕ, _≤_}
 use mathlib.Core.Path.{_≡_, sym, _∙_, subst}
 use mathlib.Core.List.{List}

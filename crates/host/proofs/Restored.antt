@@ -1,5 +1,4 @@
--- A restore for a connection is one for its session.
--- Assumes nothing.
+-- A restore for a connection is one for its session. Assumes nothing.
 use Prim.Native.Nat.{ℕ}
 use mathlib.Core.Path.{_≡_, subst}
 use mathlib.Core.List.{List}

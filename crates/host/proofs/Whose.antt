@@ -1,5 +1,4 @@
--- Whose session is whose, at the C boundary: connection 0 has the first of the two in memory, connection 1 the second.
--- Assumes nothing.
+-- Whose session is whose, at the C boundary: connection 0 has the first of the two in memory, connection 1 the second. Assumes nothing.
 use mathlib.Core.Path.{_≡_, refl}
 use mathlib.Core.Bool.{true, false}
 use Rattle.device.specs.declared.Sessions.{Sessions}

@@ -1,5 +1,5 @@
--- What a call in C does with the sessions, and a restore with the sheet; what a request in C gives: its reply and the sessions that it left, together what `device::request` gives; and what playing in C gives.
--- Assumes nothing.
+-- What a call in C does with the sessions, and a restore with the sheet; what a request in C gives: its reply and the sessions that it left,
+-- together what `device::request` gives; and what playing in C gives. Assumes nothing.
 use Prim.Native.Nat.{ℕ}
 use mathlib.Core.Path.{_≡_}
 use mathlib.Core.List.{List}

@@ -174,7 +174,8 @@ pub extern "C" fn kelindap_request(
     apdu: &[u8],
     answer: &mut [u8],
 ) -> Reply
-    ensures { λ r. ⌜ Requested (now (sessions .entry)) mode connection group (now (apdu .entry)) (now (sheet .entry)) (now (answer .entry)) (gave r (now (sessions .exit))) (now (sheet .exit)) (now (answer .exit)) ⌝ }
+    ensures { λ r. ⌜ Requested (now (sessions .entry)) mode connection group (now (apdu .entry)) (now (sheet .entry)) (now (answer .entry))
+        (gave r (now (sessions .exit))) (now (sheet .exit)) (now (answer .exit)) ⌝ }
 {
     let d = request(*sessions, sheet, mode, connection, group, apdu, answer);
     *sessions = d.sessions;
@@ -251,7 +252,8 @@ pub extern "C" fn kelindap_play(
     limit: usize,
     log: &mut [u8],
 ) -> Handled
-    ensures { λ r. ⌜ Plays (now (sessions .entry)) (now (sheet .entry)) (now (trace .entry)) from limit (now (log .entry)) (gavePlayed r (now (sessions .exit))) (now (sheet .exit)) (now (log .exit)) ⌝ }
+    ensures { λ r. ⌜ Plays (now (sessions .entry)) (now (sheet .entry)) (now (trace .entry)) from limit (now (log .entry))
+        (gavePlayed r (now (sessions .exit))) (now (sheet .exit)) (now (log .exit)) ⌝ }
 {
     let d = playback::play(*sessions, sheet, trace, from, limit, log);
     *sessions = d.sessions;
@@ -274,7 +276,9 @@ pub extern "C" fn kelindap_play_marked(
     marks: &mut [u32],
     played: u32,
 ) -> Handled
-    ensures { λ r. ⌜ Marks (now (sessions .entry)) (now (sheet .entry)) (now (trace .entry)) from limit (now (log .entry)) played (now (before .entry)) (now (marks .entry)) (gavePlayed r (now (sessions .exit))) (now (sheet .exit)) (now (log .exit)) (now (before .exit)) (now (marks .exit)) ⌝ }
+    ensures { λ r. ⌜ Marks (now (sessions .entry)) (now (sheet .entry)) (now (trace .entry)) from limit (now (log .entry)) played
+        (now (before .entry)) (now (marks .entry)) (gavePlayed r (now (sessions .exit))) (now (sheet .exit)) (now (log .exit))
+        (now (before .exit)) (now (marks .exit)) ⌝ }
 {
     let d = playback::play_marked(
         *sessions,

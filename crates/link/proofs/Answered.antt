@@ -1,5 +1,4 @@
--- THE FRAME THAT BRINGS AN ANSWER: its fields, and that every answer is written, whole.
--- Assumes nothing.
+-- THE FRAME THAT BRINGS AN ANSWER: its fields, and that every answer is written, whole. Assumes nothing.
 use Prim.Native.Nat.{ℕ, _+_, _*_, _/_, _%_, _≤_, _<_}
 use mathlib.Core.Path.{_≡_, sym, ap, subst, _∙_}
 use mathlib.Core.Bool.{false, cond}

@@ -1,5 +1,4 @@
--- TWO OPEN PLACES HAVE TWO ADDRESSES, over any history of frames, if it was so at first; and who is turned away: exactly a third.
--- Assumes nothing.
+-- TWO OPEN PLACES HAVE TWO ADDRESSES, over any history of frames, if it was so at first; and who is turned away: exactly a third. Assumes nothing.
 use Prim.Native.Nat.{ℕ, zero, suc}
 use mathlib.Core.Path.{_≡_, refl, sym, ap, _∙_}
 use mathlib.Core.Logic.{_↔_, inl, inr, ⊎-elim}
@@ -192,7 +191,8 @@ module _ (x : Net) (apart : Apart (x .link)) where
   by-item : (i : Item) → Apart (netBy x i .link)
   unfolding netBy runBy heardIn isConnect
   by-item (frame b) =
-      arrives (sourceOf b) (heardIn x b) (apduOf b) (heard-by (x .link) (ownOf (x .sheet)) b (Joins (x .link) (sourceOf b)) (λ t. tt) tt tt (λ group. joins (x .link) (sourceOf b) group (meaningOf (frameIn b))))
+      arrives (sourceOf b) (heardIn x b) (apduOf b)
+      (heard-by (x .link) (ownOf (x .sheet)) b (Joins (x .link) (sourceOf b)) (λ t. tt) tt tt (λ group. joins (x .link) (sourceOf b) group (meaningOf (frameIn b))))
   by-item (press on) = closing (button on) (λ d e. never (ap isConnect e))
   by-item (timeOut c) = closing (disconnect c) (λ d e. never (ap isConnect e))
   by-item (giveBack c n st) = closing (restore c n st) (λ d e. never (ap isConnect e))

@@ -1,5 +1,4 @@
--- DEMAND 1 OF A FRAME: a number of the list, and what each leaves as found.
--- Assumes nothing.
+-- DEMAND 1 OF A FRAME: a number of the list, and what each leaves as found. Assumes nothing.
 use Prim.Native.Nat.{ℕ, _+_, _*_, _%_, _≤_}
 use mathlib.Core.Path.{_≡_, refl, sym, ap, subst, _∙_}
 use mathlib.Core.Logic.{_⊎_, inl, inr}
@@ -117,6 +116,13 @@ record Sound (k : Link) (s : List ℕ) (room : ℕ) (x : Deed) : Type 0 where
   most : length (x .answer) ≤ longest
   fits : 0 + length (x .answer) ≤ room
 
+-- that of a deed with outcome 0 or 1 and no answer
+mute : (k : Link) (s : List ℕ) (room : ℕ) (x : Deed) → (x .number ≡ 0) ⊎ Why (x .number) → ((x .number ≡ 0 → ⊥) → (x .outcome ≡ 0) × (x .answer ≡ []) × (x .link ≡ k) × (x .sheet ≡ s)) →
+    x .outcome ≤ 1 → x .answer ≡ [] → Sound k s room x
+mute k s room x n e few a =
+    let l : length (x .answer) ≡ 0 = ap length a in
+    record { number = n; none = e; outcome = inl (omega arith); kept = λ h. absurd (omega arith); silent = λ h m. a; most = omega arith; fits = omega arith }
+
 -- the request's own, by demand 1 of a request
 module _ (k : Link) (s a : List ℕ) (mode c group : ℕ) (small : Octets s) (bytes : Octets a) where
   abbrev pub effect : Effect
@@ -159,36 +165,9 @@ module _ (k : Link) (f : Fields) (sequence : ℕ) (a s : List ℕ) (small : Octe
         most = few;
         fits = omega (arith, few, wide);
       }
-  sound (Connect c) t =
-      record {
-        number = inl refl;
-        none = λ n. absurd (n refl);
-        outcome = inl (omega (arith, named-one c t));
-        kept = λ h. absurd (omega (arith, named-one c t));
-        silent = λ h n. refl;
-        most = omega arith;
-        fits = omega arith;
-      }
-  sound (Disconnect c) t =
-      record {
-        number = inl refl;
-        none = λ n. absurd (n refl);
-        outcome = inl (omega (arith, named-one c t));
-        kept = λ h. absurd (omega (arith, named-one c t));
-        silent = λ h n. refl;
-        most = omega arith;
-        fits = omega arith;
-      }
-  sound (Nothing n c) t =
-      record {
-        number = inr t;
-        none = λ h. (refl, refl, refl, refl);
-        outcome = inl (omega arith);
-        kept = λ h. absurd (omega arith);
-        silent = λ h m. refl;
-        most = omega arith;
-        fits = omega arith;
-      }
+  sound (Connect c) t = mute k s room _ (inl refl) (λ n. absurd (n refl)) (omega (arith, named-one c t)) refl
+  sound (Disconnect c) t = mute k s room _ (inl refl) (λ n. absurd (n refl)) (omega (arith, named-one c t)) refl
+  sound (Nothing n c) t = mute k s room _ (inr t) (λ h. (refl, refl, refl, refl)) (omega arith) refl
 
 module _ (k : Link) (sequence : ℕ) (b s o : List ℕ) (r : Served) (s′ o′ : List ℕ) (call : ServedFrame k sequence b s o r s′ o′) where
   abbrev d : Deed
@@ -198,16 +177,7 @@ module _ (k : Link) (sequence : ℕ) (b s o : List ℕ) (r : Served) (s′ o′ 
   unfolding serveOf
   is-sound =
       by-test (Sound k s (length o)) (ltb (length o) longest) _ _
-      (λ t.
-      record {
-        number = inr (inr (omega arith, omega arith));
-        none = λ h. (refl, refl, refl, refl);
-        outcome = inl (omega arith);
-        kept = λ h. absurd (omega arith);
-        silent = λ h m. refl;
-        most = omega arith;
-        fits = omega arith;
-      })
+      (λ t. mute k s (length o) _ (inr (inr (omega arith, omega arith))) (λ h. (refl, refl, refl, refl)) (omega arith) refl)
       (λ t.
       sound k (fieldsIn b) sequence (apduOf b) s (call .sheetBytes) (octets-apdu b (call .frameBytes)) (length o) (ltb-false (length o) longest t)
       (heardOf k (ownOf s) b) (told k (ownOf s) b))

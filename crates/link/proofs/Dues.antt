@@ -1,5 +1,4 @@
--- WHAT IS HEARD IS WHAT IS DUE, AND NOTHING ELSE IS DUE: of any link, own address and bytes.
--- Assumes nothing.
+-- WHAT IS HEARD IS WHAT IS DUE, AND NOTHING ELSE IS DUE: of any link, own address and bytes. Assumes nothing.
 use Prim.Native.Nat.{ℕ}
 use mathlib.Core.Path.{_≡_, refl, sym, ap, subst, _∙_}
 use mathlib.Core.Logic.{_⊎_, inl, inr}
@@ -16,7 +15,8 @@ use Rattle.device.specs.Sessions.{known}
 use Rattle.cemi.specs.Layout.{infoLength, stated, _of_}
 use Rattle.cemi.specs.Read.{fieldsIn, frameIn, refusalOf, readFrame}
 use Rattle.cemi.specs.Meaning.{meaningOf}
-use Rattle.cemi.specs.Means.{Means, toAll as meansAll, toSome as meansSome, toNone, plain as meansPlain, numbered, connects as meansConnect, disconnects as meansDisconnect, acknowledges, other, Group, Individual}
+use Rattle.cemi.specs.Means.{Means, toAll as meansAll, toSome as meansSome, toNone, plain as meansPlain, numbered}
+use Rattle.cemi.specs.Means.{connects as meansConnect, disconnects as meansDisconnect, acknowledges, other, Group, Individual}
 use Rattle.cemi.specs.declared.Frame.{Frame}
 use Rattle.cemi.specs.declared.Got.{Got}
 use Rattle.cemi.specs.declared.Got.the-variants as got
@@ -28,7 +28,8 @@ use Rattle.cemi.proofs.Understood.{means, means-one}
 use Rattle.link.specs.Partners.{nobody, sits, placeOf, freeOf, placeFor}
 use Rattle.link.specs.Hearing.{forUs, toItself, onPlace, connects, disconnects, meant, fromOther, judged, heardGot, heardOf}
 use Rattle.link.specs.Whose.{Partner, NoPlace}
-use Rattle.link.specs.Due.{Has, first, second, Stranger, from, to, Reads, Ours, shared, alone, HeardDue, unread, elsewhere, itself, toGroup, toAll, plain, partners, strangers, again, firstFree, secondFree, third, parts, strangerParts, control, strangerControl}
+use Rattle.link.specs.Due.{Has, first, second, Stranger, from, to, Reads, Ours, shared, alone, HeardDue, unread, elsewhere, itself}
+use Rattle.link.specs.Due.{toGroup, toAll, plain, partners, strangers, again, firstFree, secondFree, third, parts, strangerParts, control, strangerControl}
 use Rattle.link.specs.declared.Link.{Link}
 use Rattle.link.specs.declared.Arrived.{Arrived}
 use Rattle.link.specs.declared.Arrived.the-variants.{Connect, Disconnect, Nothing}

@@ -1,5 +1,4 @@
--- Worked examples: frames to the device 1105h whose connection 0 is open to 11FFh and whose connection 1 was 1203h's, or is, or both are closed; and what they are to it.
--- Assumes nothing.
+-- Worked examples: frames to the device 1105h whose connection 0 is open to 11FFh and whose connection 1 was 1203h's, or is, or both are closed; and what they are to it. Assumes nothing.
 use Prim.Native.Nat.{ℕ}
 use mathlib.Core.Path.{_≡_, refl}
 use mathlib.Core.Bool.{true, false}

@@ -1,5 +1,4 @@
--- EVERY LEVEL WAS GIVEN: from closed sessions on, whoever has a connection has connected on it, and every level below 3 was given by a frame of its own.
--- Assumes nothing.
+-- EVERY LEVEL WAS GIVEN: from closed sessions on, whoever has a connection has connected on it, and every level below 3 was given by a frame of its own. Assumes nothing.
 use Prim.Native.Nat.{ℕ, zero, suc, _+_, _<_, _≤_}
 use mathlib.Core.Path.{_≡_, refl, sym, ap, subst, _∙_}
 use mathlib.Core.Logic.{_⊎_, inl, inr}

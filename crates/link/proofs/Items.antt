@@ -1,5 +1,4 @@
--- ONE ITEM OF A HISTORY: the event that it is, if any, whose that is, and what it leaves.
--- Assumes nothing.
+-- ONE ITEM OF A HISTORY: the event that it is, if any, whose that is, and what it leaves. Assumes nothing.
 use Prim.Native.Nat.{ℕ, zero, suc}
 use mathlib.Core.Path.{_≡_, refl, sym, ap, subst, _∙_}
 use mathlib.Core.Logic.{_⊎_, inl, inr}

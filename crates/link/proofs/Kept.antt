@@ -1,5 +1,4 @@
--- WHAT FRAMES LEAVE IS WHAT THE EVENTS LEAVE THAT THEY ARE: so demand 3 holds of frames, and nobody without the key changes a protected byte by frames.
--- Assumes nothing.
+-- WHAT FRAMES LEAVE IS WHAT THE EVENTS LEAVE THAT THEY ARE: so demand 3 holds of frames, and nobody without the key changes a protected byte by frames. Assumes nothing.
 use Prim.Native.Nat.{ℕ, zero, suc, _+_, _<_}
 use mathlib.Core.Path.{_≡_, refl, sym, ap, subst, _∙_}
 use mathlib.Core.Bool.{Bool, true, false, cond}
@@ -22,7 +21,8 @@ use Rattle.history.specs.Rightful.{ours}
 use Rattle.history.proofs.promises.Keep.{keeps}
 use Rattle.history.proofs.promises.Keyless.{locked, keyless-device}
 use Rattle.link.specs.Serving.{apduOf}
-use Rattle.link.specs.Net.{Net, stateOf, firstNet, heardIn, eventsOf, Item, frame, press, timeOut, giveBack, eventsBy, netBy, netAfter, eventsAfter, BytesIn, AllBytes, NoKeyIn, NoKey, NoKeyHeardIn, NoKeyHeard}
+use Rattle.link.specs.Net.{Net, stateOf, firstNet, heardIn, eventsOf, Item, frame, press, timeOut, giveBack, eventsBy, netBy, netAfter, eventsAfter}
+use Rattle.link.specs.Net.{BytesIn, AllBytes, NoKeyIn, NoKey, NoKeyHeardIn, NoKeyHeard}
 use Rattle.link.specs.declared.Arrived.{Arrived}
 use Rattle.link.specs.declared.Arrived.the-variants.{Request, Connect, Disconnect, Nothing}
 

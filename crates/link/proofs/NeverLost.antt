@@ -1,5 +1,4 @@
--- AN ANSWER IS NEVER LOST to 46 or 47: whatever a request answers is sent, whole, in a frame that reads, and that means data in the mode of the request.
--- Assumes nothing.
+-- AN ANSWER IS NEVER LOST to 46 or 47: whatever a request answers is sent, whole, in a frame that reads, and that means data in the mode of the request. Assumes nothing.
 use Prim.Native.Nat.{ℕ, _+_, _-_, _≤_, _<_}
 use mathlib.Core.Path.{_≡_, refl, ap, subst, _∙_}
 use mathlib.Core.List.{List, [], _∷_}

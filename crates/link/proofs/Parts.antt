@@ -1,5 +1,4 @@
--- WHAT A SERVED FRAME SAYS THAT IT STORED: every byte outside is as found, and what is no request or was refused has stored nothing.
--- Assumes nothing.
+-- WHAT A SERVED FRAME SAYS THAT IT STORED: every byte outside is as found, and what is no request or was refused has stored nothing. Assumes nothing.
 use Prim.Native.Nat.{ℕ, _+_, _≤_}
 use mathlib.Core.Path.{_≡_, refl, sym, ap, subst, _∙_}
 use mathlib.Core.Logic.{_⊎_, inl, inr}

@@ -1,5 +1,4 @@
--- WHAT CALLS LEAVE IS WHAT THEIR HISTORY SAYS, by their contracts alone: so a host has demand 3, and `keyless`, of the calls that it makes.
--- Assumes nothing.
+-- WHAT CALLS LEAVE IS WHAT THEIR HISTORY SAYS, by their contracts alone: so a host has demand 3, and `keyless`, of the calls that it makes. Assumes nothing.
 use Prim.Native.Nat.{ℕ, _<_, _≤_}
 use mathlib.Core.Path.{_≡_, refl, sym, ap, subst, _∙_}
 use mathlib.Core.List.{List, _∷_}

@@ -1,5 +1,4 @@
--- From what the code has where it returns to what it promises.
--- Assumes nothing.
+-- From what the code has where it returns to what it promises. Assumes nothing.
 use Prim.Native.Nat.{ℕ, _<_, _≤_}
 use mathlib.Core.Path.{_≡_, sym, ap, _∙_}
 use mathlib.Core.Bool.{Bool, true, false}

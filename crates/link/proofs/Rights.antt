@@ -1,5 +1,4 @@
--- BY WHAT RIGHT A FRAME CHANGED A BYTE: whoever's frame changes a protected one has a level that suffices, and was given it; so who has offered no key changes none.
--- Assumes nothing.
+-- BY WHAT RIGHT A FRAME CHANGED A BYTE: whoever's frame changes a protected one has a level that suffices, and was given it; so who has offered no key changes none. Assumes nothing.
 use Prim.Native.Nat.{ℕ, zero, suc, _<_, _≤_}
 use mathlib.Core.Path.{_≡_, refl, sym, ap, subst, _∙_}
 use mathlib.Core.Logic.{inl, inr}

@@ -1,5 +1,4 @@
--- Laws behind serving.
--- Assumes nothing.
+-- Laws behind serving. Assumes nothing.
 use Prim.Native.Nat.{ℕ, _+_, _≤_, _<_}
 use mathlib.Core.Path.{_≡_, refl, sym, ap, ap₂, subst, _∙_}
 use mathlib.Core.Bool.{cond}
@@ -39,7 +38,8 @@ module _ (k : Link) (c : ℕ) where
 
   pub is-connected :
       (d : Done) (a first second : ℕ) (x : Changed) → x ≡ none → d ≡ named c (connectOf (k .sessions) c) → first ≡ cond (eqb c 0) a (k .first) → second ≡ cond (eqb c 1) a (k .second) →
-      _≡_ {A = Served} (record { number = 0; outcome = d .outcome; connection = c; count = 0; changed = x; link = record { sessions = d .sessions; first = first; second = second } }) (resultOf (joining k [] c a))
+      _≡_ {A = Served} (record { number = 0; outcome = d .outcome; connection = c; count = 0; changed = x; link = record { sessions = d .sessions; first = first; second = second } })
+      (resultOf (joining k [] c a))
   is-connected d a first second x n e f h = rw (n, e, f, h)
 
   pub is-disconnected :

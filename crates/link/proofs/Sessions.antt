@@ -1,5 +1,4 @@
--- What one event leaves of the session of a connection.
--- Assumes nothing.
+-- What one event leaves of the session of a connection. Assumes nothing.
 use Prim.Native.Nat.{ℕ, _<_}
 use mathlib.Core.Path.{_≡_, refl, sym, ap, subst, _∙_}
 use mathlib.Core.Bool.{Bool, true, false}

@@ -1,5 +1,4 @@
--- THE CODE DOES WHAT THE HISTORIES OF FRAMES SAY: what `serve` leaves of link and sheet is `netBy`.
--- Assumes nothing.
+-- THE CODE DOES WHAT THE HISTORIES OF FRAMES SAY: what `serve` leaves of link and sheet is `netBy`. Assumes nothing.
 use Prim.Native.Nat.{ℕ, _≤_}
 use mathlib.Core.Path.{_≡_, refl, ap, _∙_}
 use mathlib.Core.List.{List}

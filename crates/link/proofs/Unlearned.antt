@@ -1,5 +1,4 @@
--- NOTHING IS LEARNED BY FRAMES of a byte whose read level is below q, while no open connection has a level below q: of what is sent, of who is turned away, of the link.
--- Assumes nothing.
+-- NOTHING IS LEARNED BY FRAMES of a byte whose read level is below q, while no open connection has a level below q: of what is sent, of who is turned away, of the link. Assumes nothing.
 use Prim.Native.Nat.{ℕ, _+_, _<_, _≤_}
 use mathlib.Core.Path.{_≡_, refl, sym, ap, ap₂, subst, _∙_}
 use mathlib.Core.Logic.{inl, inr}

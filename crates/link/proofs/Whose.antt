@@ -1,5 +1,4 @@
--- WHOSE CONNECTION IS WHOSE: only frames from the partner of a connection act on it; a frame for another device does nothing.
--- Assumes nothing.
+-- WHOSE CONNECTION IS WHOSE: only frames from the partner of a connection act on it; a frame for another device does nothing. Assumes nothing.
 use Prim.Native.Nat.{ℕ, _<_}
 use mathlib.Core.Path.{_≡_, refl, sym, ap, subst, _∙_}
 use mathlib.Core.Logic.{_⊎_, inl, inr, ⊎-elim}

@@ -1,5 +1,4 @@
--- WRONG LINKS, each refuted: of what it hears something is not due.
--- Assumes nothing.
+-- WRONG LINKS, each refuted: of what it hears something is not due. Assumes nothing.
 use Prim.Native.Nat.{ℕ, _+_, _*_}
 use mathlib.Core.Path.{_≡_, ap}
 use mathlib.Core.Bool.{true, false, cond, _&&_, not}

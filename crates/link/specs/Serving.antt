@@ -48,7 +48,8 @@ abbrev pub linkedTo : Link → ℕ → ℕ → Link
 linkedTo k c a =
     record { sessions = connectOf (k .sessions) c; first = cond (eqb c 0) a (k .first); second = cond (eqb c 1) a (k .second) }
 
--- what becomes of a frame: 0 if it is an event, with its outcome and connection, or else the number of why not; the frame that answers; the parts of the sheet that were stored; link and sheet afterwards
+-- what becomes of a frame: 0 if it is an event, with its outcome and connection, or else the number of why not; the frame that answers;
+-- the parts of the sheet that were stored; link and sheet afterwards
 pub record Deed : Type 0 where
   pub number : ℕ
   pub outcome : ℕ

@@ -148,7 +148,8 @@ fn serve_frame(
     out: &mut [u8],
 ) -> Served
     requires { ⌜ longest ≤ length (now out) ⌝ }
-    ensures { λ r. ⌜ DidServe (deedOf link (f .fields) sequence (now (apdu .entry)) (now (sheet .entry)) (judged link (ownOf (now (sheet .entry))) f)) r (now (out .entry)) (now (sheet .exit)) (now (out .exit)) ⌝ }
+    ensures { λ r. ⌜ DidServe (deedOf link (f .fields) sequence (now (apdu .entry)) (now (sheet .entry)) (judged link (ownOf (now (sheet .entry))) f))
+        r (now (out .entry)) (now (sheet .exit)) (now (out .exit)) ⌝ }
 {
     let own = hearing::own_of(&sheet[..]);
     let arrived = hearing::judge(link, own, f);

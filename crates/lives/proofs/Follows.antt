@@ -1,5 +1,4 @@
--- A LIFE WITH POWER CUTS IS THE HISTORY THAT IT IS TOLD AS: what it leaves is what that history leaves, and the medium has the sheet after as much of it as was kept.
--- Assumes nothing.
+-- A LIFE WITH POWER CUTS IS THE HISTORY THAT IT IS TOLD AS: what it leaves is what that history leaves, and the medium has the sheet after as much of it as was kept. Assumes nothing.
 use Prim.Native.Nat.{ℕ, _≤_}
 use mathlib.Core.Path.{_≡_, refl, sym, ap, ap₂, subst, _∙_}
 use mathlib.Core.Bool.{Bool, true, false, cond}
@@ -27,7 +26,8 @@ use Rattle.link.specs.Net.{Net, stateOf}
 use Rattle.host.specs.Steps as calls
 use Rattle.host.specs.Steps.{Steps}
 use Rattle.host.proofs.Mixed.{step-follows}
-use Rattle.lives.specs.Life.{Running, Happening, saved, late, cut, Stored, there, stored, Starts, starts, Goes, saves, waits, loses, Ran, begin, next, apart, tell, telling, told, kept, firstOf, Begun}
+use Rattle.lives.specs.Life.{Running, Happening, saved, late, cut, Stored, there, stored, Starts, starts, Goes, saves, waits, loses, Ran, begin, next}
+use Rattle.lives.specs.Life.{apart, tell, telling, told, kept, firstOf, Begun}
 
 -- an accepted sheet fits a slot
 accepted-short : (s : List ℕ) → Accepted s → length s ≤ longest

@@ -1,5 +1,4 @@
--- AFTER A CUT: who got an answer finds the sheet as it was answered; the next write is there wholly or not at all; nobody is connected.
--- Assumes nothing.
+-- AFTER A CUT: who got an answer finds the sheet as it was answered; the next write is there wholly or not at all; nobody is connected. Assumes nothing.
 use Prim.Native.Nat.{ℕ}
 use mathlib.Core.Path.{_≡_, refl, sym, ap, subst, _∙_}
 use mathlib.Core.Bool.{Bool, true, false, cond}

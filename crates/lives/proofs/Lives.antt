@@ -1,5 +1,4 @@
--- DEMAND 3, AND WHAT GOES WITH IT, THROUGH ANY NUMBER OF POWER CUTS, whatever calls a host mixes: each is the promise of histories, said of the history that a life is told as.
--- Assumes nothing.
+-- DEMAND 3, AND WHAT GOES WITH IT, THROUGH ANY NUMBER OF POWER CUTS, whatever calls a host mixes: each is the promise of histories, said of the history that a life is told as. Assumes nothing.
 use Prim.Native.Nat.{ℕ, _<_, _≤_}
 use mathlib.Core.Path.{_≡_, refl, sym, subst}
 use mathlib.Core.Bool.{Bool, true, false, cond}

@@ -1,5 +1,4 @@
--- A VERSION OF THE SETTINGS THROUGH POWER CUTS: the store is kept in two slots of its own, so that after a cut it is a store that was kept; what was saved is then restored.
--- Assumes nothing.
+-- A VERSION OF THE SETTINGS THROUGH POWER CUTS: the store is kept in two slots of its own, so that after a cut it is a store that was kept; what was saved is then restored. Assumes nothing.
 use Prim.Native.Nat.{ℕ}
 use mathlib.Core.Path.{_≡_, sym, ap, subst, _∙_}
 use mathlib.Core.Bool.{true}

@@ -1,5 +1,4 @@
--- WHAT IS IN THE HISTORY: all that was answered after its save, for good; and what a cut takes is the newest, together.
--- Assumes nothing.
+-- WHAT IS IN THE HISTORY: all that was answered after its save, for good; and what a cut takes is the newest, together. Assumes nothing.
 use Prim.Native.Nat.{ℕ, _≤_}
 use mathlib.Core.Path.{_≡_, refl, sym, ap, subst, _∙_}
 use mathlib.Core.Bool.{Bool, true, false, cond}

@@ -1,5 +1,4 @@
--- A TRACE PLAYS ON THE CONVERSION OF AN OLD SHEET AS IT DID ON THE OLD SHEET in the release before: as many events, the same log, the same sessions, and the sheet with 2 in byte 0.
--- Assumes nothing.
+-- A TRACE PLAYS ON THE CONVERSION OF AN OLD SHEET AS IT DID ON THE OLD SHEET in the release before: as many events, the same log, the same sessions, and the sheet with 2 in byte 0. Assumes nothing.
 use Prim.Native.Nat.{ℕ, _+_, _-_, _*_, _<_, min}
 use mathlib.Core.Path.{_≡_, _∙_, ap₂}
 use mathlib.Core.List.{List, _∷_, _++_}

@@ -1,5 +1,4 @@
--- A TRACE BYTE BY BYTE: connect on connection 1, a request on it, the button on and off, a disconnect on connection 0.
--- Assumes nothing.
+-- A TRACE BYTE BY BYTE: connect on connection 1, a request on it, the button on and off, a disconnect on connection 0. Assumes nothing.
 use Prim.Native.Nat.{ℕ}
 use mathlib.Core.Path.{_≡_, refl}
 use mathlib.Core.Bool.{true, false}

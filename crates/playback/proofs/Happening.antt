@@ -1,5 +1,4 @@
--- One event, by its kind, as the trace says it.
--- Assumes nothing.
+-- One event, by its kind, as the trace says it. Assumes nothing.
 use Prim.Native.Nat.{ℕ, _+_, _-_, _*_, _/_, _%_, _≤_, _<_}
 use mathlib.Core.Path.{_≡_, refl, sym, _∙_, ap, subst}
 use mathlib.Core.Bool.{Bool, true, false, cond}

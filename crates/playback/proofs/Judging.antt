@@ -1,5 +1,4 @@
--- The rows judge a trace as the nine propositions do.
--- Assumes nothing.
+-- The rows judge a trace as the nine propositions do. Assumes nothing.
 use Prim.Native.Nat.{ℕ, zero, suc, _+_, _*_, _≤_, _<_}
 use mathlib.Core.Path.{_≡_, refl, sym, _∙_, ap, subst}
 use mathlib.Core.Bool.{Bool, true, false, cond}

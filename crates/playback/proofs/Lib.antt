@@ -1,4 +1,6 @@
--- PROMISES, named in docs/PROMISES.md: Judging (one number, and when each is due), Promises (`played-is-run`, `stop-and-go-on`, `refused-untouched`), WrittenBack (`trace-back`), PlayKeeps (demand 3), PlayUnlearned (what a tool without the key can learn), AsBefore (a trace on the conversion of an old sheet), PlayAccounts (who changed each byte), Example (a trace byte by byte)
+-- PROMISES, named in docs/PROMISES.md: Judging (one number, and when each is due), Promises (`played-is-run`, `stop-and-go-on`,
+-- `refused-untouched`), WrittenBack (`trace-back`), PlayKeeps (demand 3), PlayUnlearned (what a tool without the key can learn), AsBefore (a trace
+-- on the conversion of an old sheet), PlayAccounts (who changed each byte), Example (a trace byte by byte)
 pub mod Judging
 pub mod Promises
 pub mod WrittenBack

@@ -1,5 +1,4 @@
--- A line of the log, and the log of events one after the other.
--- Assumes nothing.
+-- A line of the log, and the log of events one after the other. Assumes nothing.
 use Prim.Native.Nat.{ℕ, zero, suc, _+_, _-_, _*_, _≤_, _<_}
 use mathlib.Core.Path.{_≡_, refl, sym, _∙_, ap, ap₂, subst}
 use mathlib.Core.List.{List, [], _∷_, _++_, append-assoc, append-nil}
@@ -126,5 +125,6 @@ module _ (l l₁ : List ℕ) (h : length l ≡ line) (e₁ : l₁ ≡ splice l 2
               k
               ∙ splice-front _ (r .done .outcome ∷ r .done .count ∷ [])
               ∙ ap (λ (y : List ℕ). r .done .outcome ∷ r .done .count ∷ y) (front (take 2 l₁) (length-take-le 2 l₁ (omega (arith, long₁))) ∙ tail)
-              ∙ ap₂ (λ (a b : ℕ). a ∷ b ∷ (x .answer ++ zeros (room - length (x .answer)))) (did .did .outcome ∙ ap (λ (y : Effect). y .outcome) same) (did .did .count ∙ ap (λ (y : Effect). length (y .answer)) same);
+              ∙ ap₂ (λ (a b : ℕ). a ∷ b ∷ (x .answer ++ zeros (room - length (x .answer)))) (did .did .outcome ∙ ap (λ (y : Effect). y .outcome) same)
+              (did .did .count ∙ ap (λ (y : Effect). length (y .answer)) same);
         }

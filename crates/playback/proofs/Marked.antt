@@ -1,5 +1,4 @@
--- The events of a trace one after the other, and their marks; which refusal is due.
--- Assumes nothing.
+-- The events of a trace one after the other, and their marks; which refusal is due. Assumes nothing.
 use Prim.Native.Nat.{ℕ, _+_, _-_, _*_, _^_, _≤_, _<_}
 use mathlib.Core.Path.{_≡_, refl, sym, _∙_, ap, ap₂, subst}
 use mathlib.Core.Bool.{Bool, cond}

@@ -1,5 +1,4 @@
--- WHO CHANGED EACH BYTE, AFTER ANY PLAYBACK WITH MARKS that goes on from a history: the marks say which event of it changed a byte last, which gave a level last; and by what right.
--- Assumes nothing.
+-- WHO CHANGED EACH BYTE, AFTER ANY PLAYBACK WITH MARKS that goes on from a history: the marks say which event of it changed a byte last, which gave a level last; and by what right. Assumes nothing.
 use Prim.Native.Nat.{ℕ}
 use mathlib.Core.Path.{_≡_, _∙_, ap, subst}
 use mathlib.Core.List.{List, _++_, reverse}

@@ -1,5 +1,4 @@
--- DEMAND 3 AFTER ANY PLAYBACK on an accepted sheet: the events that were played are a history, and what it says holds.
--- Assumes nothing.
+-- DEMAND 3 AFTER ANY PLAYBACK on an accepted sheet: the events that were played are a history, and what it says holds. Assumes nothing.
 use Prim.Native.Nat.{ℕ, zero, suc, _+_}
 use mathlib.Core.Path.{_≡_, refl, sym, _∙_, ap, subst}
 use mathlib.Core.List.{List, [], _∷_, _++_, reverse, reverse-cons}

@@ -1,5 +1,4 @@
--- NOTHING IS LEARNED BY PLAYING A TRACE of a byte whose read level is below q, while no level is: on two sheets that hide q it gives the same result and the same lines of the log.
--- Assumes nothing.
+-- NOTHING IS LEARNED BY PLAYING A TRACE of a byte whose read level is below q, while no level is: on two sheets that hide q it gives the same result and the same lines of the log. Assumes nothing.
 use Prim.Native.Nat.{ℕ, _-_, _*_, _≤_, min}
 use mathlib.Core.Path.{_≡_, refl, sym, _∙_, ap, ap₂, subst}
 use mathlib.Core.Bool.{Bool, true, false, cond}

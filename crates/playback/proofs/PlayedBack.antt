@@ -1,5 +1,4 @@
--- Which events are played, and what playing leaves.
--- Assumes nothing.
+-- Which events are played, and what playing leaves. Assumes nothing.
 use Prim.Native.Nat.{ℕ, zero, suc, _+_, _-_, _*_, _^_, _≤_, _<_, min}
 use mathlib.Core.Path.{_≡_, refl, sym, _∙_, ap, ap₂, subst}
 use mathlib.Core.Bool.{cond}

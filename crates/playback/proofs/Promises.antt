@@ -1,5 +1,4 @@
--- PROMISES of playing back. Each is of a call of `play`, of what it gives and leaves: `Playing`.
--- Assumes nothing.
+-- PROMISES of playing back. Each is of a call of `play`, of what it gives and leaves: `Playing`. Assumes nothing.
 use Prim.Native.Nat.{ℕ, suc, _+_, _-_, _*_, _≤_, _<_, min}
 use mathlib.Core.Path.{_≡_, refl, sym, _∙_, ap, ap₂, subst}
 use mathlib.Core.List.{List, [], _∷_, _++_, append-assoc}

@@ -1,5 +1,4 @@
--- The events of a trace one after the other: what they leave, and their log.
--- Assumes nothing.
+-- The events of a trace one after the other: what they leave, and their log. Assumes nothing.
 use Prim.Native.Nat.{ℕ, zero, suc, _+_, _-_, _*_, _≤_, _<_, min}
 use mathlib.Core.Path.{_≡_, refl, sym, _∙_, ap, ap₂, subst}
 use mathlib.Core.Bool.{Bool, true}

@@ -1,5 +1,4 @@
--- The walk over a trace's table, and what an accepted trace has.
--- Assumes nothing.
+-- The walk over a trace's table, and what an accepted trace has. Assumes nothing.
 use Prim.Native.Nat.{ℕ, _+_, _-_, _≤_, _<_}
 use mathlib.Core.Path.{_≡_, refl, sym, _∙_, ap, subst}
 use mathlib.Core.List.{List}

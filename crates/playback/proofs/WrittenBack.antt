@@ -1,5 +1,4 @@
--- A TRACE WRITTEN FROM EVENTS AND READ BACK SAYS THE SAME EVENTS, for the events that a trace can hold; and every trace that can be played says such events.
--- Assumes nothing.
+-- A TRACE WRITTEN FROM EVENTS AND READ BACK SAYS THE SAME EVENTS, for the events that a trace can hold; and every trace that can be played says such events. Assumes nothing.
 use Prim.Native.Nat.{ℕ, zero, suc, _+_, _*_, _^_, _/_, _%_, _≤_, _<_}
 use mathlib.Core.Path.{_≡_, refl, sym, _∙_, ap, ap₂, subst}
 use mathlib.Core.Bool.{Bool, true, false, cond}
@@ -294,7 +293,8 @@ module _ (t : List ℕ) (g : Playable t) (octets : Octets t) where
         let a : length (take (entry.length of e) (drop (entry.offset of e) t)) ≡ entry.length of e =
         simp (length-take, length-drop) (omega (arith, m .1 .1 .1 .0, m .1 .1 .1 .1 .0))
         in
-        by-kind (λ y. CanSay y × (length (apdu y) ≡ entry.length of e)) (entry.kind of e) (entry.mode of e % 16) (entry.mode of e / 16) (entry.group of e) (take (entry.length of e) (drop (entry.offset of e) t))
+        by-kind (λ y. CanSay y × (length (apdu y) ≡ entry.length of e)) (entry.kind of e) (entry.mode of e % 16) (entry.mode of e / 16) (entry.group of e)
+        (take (entry.length of e) (drop (entry.offset of e) t))
         (λ k. ((omega arith, c, gr, omega (arith, a, le), refl), a))
         (λ k. (c, none k))
         (λ k. (c, none k))

@@ -75,7 +75,8 @@ fn mark_known(
     played: u32,
 ) -> Sessions
     requires { ⌜ Ready (now trace) from n (now log) × Roomy (now sheet) n played (now seen) (now marks) × (known ≡ true → Accepted (now sheet)) ⌝ }
-    ensures { λ r. ⌜ RanMarked q (now (sheet .entry)) (now (trace .entry)) from n (now (log .entry)) played (now (marks .entry)) r (now (sheet .exit)) (now (log .exit)) (now (seen .exit)) (now (marks .exit)) ⌝ }
+    ensures { λ r. ⌜ RanMarked q (now (sheet .entry)) (now (trace .entry)) from n (now (log .entry)) played (now (marks .entry)) r
+        (now (sheet .exit)) (now (log .exit)) (now (seen .exit)) (now (marks .exit)) ⌝ }
 {
     let mut sessions = q;
     let mut j = 0;
@@ -111,7 +112,8 @@ fn mark_events(
     played: u32,
 ) -> Sessions
     requires { ⌜ Ready (now trace) from n (now log) × Roomy (now sheet) n played (now seen) (now marks) ⌝ }
-    ensures { λ r. ⌜ RanMarked q (now (sheet .entry)) (now (trace .entry)) from n (now (log .entry)) played (now (marks .entry)) r (now (sheet .exit)) (now (log .exit)) (now (seen .exit)) (now (marks .exit)) ⌝ }
+    ensures { λ r. ⌜ RanMarked q (now (sheet .entry)) (now (trace .entry)) from n (now (log .entry)) played (now (marks .entry)) r
+        (now (sheet .exit)) (now (log .exit)) (now (seen .exit)) (now (marks .exit)) ⌝ }
 {
     let known = is_accepted(&sheet[..]);
     mark_known(known, q, sheet, trace, from, n, log, seen, marks, played)
@@ -129,7 +131,8 @@ pub fn play_marked(
     marks: &mut [u32],
     played: u32,
 ) -> Played
-    ensures { λ r. ⌜ Marks sessions (now (sheet .entry)) (now (trace .entry)) from limit (now (log .entry)) played (now (seen .entry)) (now (marks .entry)) r (now (sheet .exit)) (now (log .exit)) (now (seen .exit)) (now (marks .exit)) ⌝ }
+    ensures { λ r. ⌜ Marks sessions (now (sheet .entry)) (now (trace .entry)) from limit (now (log .entry)) played (now (seen .entry))
+        (now (marks .entry)) r (now (sheet .exit)) (now (log .exit)) (now (seen .exit)) (now (marks .exit)) ⌝ }
 {
     let refusal = check(trace);
     if refusal != 0 {

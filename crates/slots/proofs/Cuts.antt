@@ -1,5 +1,4 @@
--- A SAVE OF ONE SLOT, done or cut.
--- Assumes nothing.
+-- A SAVE OF ONE SLOT, done or cut. Assumes nothing.
 use Prim.Native.Nat.{ℕ, _+_, _-_, _≤_, _<_, _^_}
 use mathlib.Core.Path.{_≡_, refl, sym, ap, _∙_, subst}
 use mathlib.Core.List.{List, [], _∷_, _++_}

@@ -1,5 +1,4 @@
--- A SLOT WORKED BY HAND: the sheet 1, 2, 3 under number 7, its check sum by another program (zlib); what each wrong byte gives.
--- Assumes nothing.
+-- A SLOT WORKED BY HAND: the sheet 1, 2, 3 under number 7, its check sum by another program (zlib); what each wrong byte gives. Assumes nothing.
 use Prim.Native.Nat.{ℕ, _<_}
 use mathlib.Core.Path.{_≡_, refl}
 use mathlib.Core.List.{List, [], _∷_, _++_}

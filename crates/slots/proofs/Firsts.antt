@@ -1,5 +1,4 @@
--- A NEW UNIT, whose slots hold nothing; and where the save after a save goes.
--- Assumes nothing.
+-- A NEW UNIT, whose slots hold nothing; and where the save after a save goes. Assumes nothing.
 use Prim.Native.Nat.{ℕ, _-_, _≤_, _<_}
 use mathlib.Core.Path.{_≡_, refl, sym, ap, _∙_, subst}
 use mathlib.Core.List.{List}

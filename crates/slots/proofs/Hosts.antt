@@ -1,5 +1,4 @@
--- THE LOOP OF A HOST IS A SAVE, and on a medium of bytes a loop that was cut is a save that was cut; and a save can be made, and cut.
--- Assumes nothing.
+-- THE LOOP OF A HOST IS A SAVE, and on a medium of bytes a loop that was cut is a save that was cut; and a save can be made, and cut. Assumes nothing.
 use Prim.Native.Nat.{ℕ, suc, _+_, _-_, _≤_, _<_}
 use mathlib.Core.Path.{_≡_, refl, sym, ap, _∙_, subst}
 use mathlib.Core.List.{List, [], _∷_, _++_}

@@ -1,5 +1,4 @@
--- CUT-SAFE, AND ANY SEQUENCE OF SAVES AND CUTS.
--- Assumes nothing.
+-- CUT-SAFE, AND ANY SEQUENCE OF SAVES AND CUTS. Assumes nothing.
 use Prim.Native.Nat.{ℕ, _≤_, _<_}
 use mathlib.Core.Path.{_≡_, refl, sym, ap, _∙_, subst}
 use mathlib.Core.List.{List, [], _∷_}

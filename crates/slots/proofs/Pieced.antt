@@ -1,5 +1,4 @@
--- A SLOT IN PARTS, of whatever sizes, is judged as the whole.
--- Assumes nothing.
+-- A SLOT IN PARTS, of whatever sizes, is judged as the whole. Assumes nothing.
 use Prim.Native.Nat.{ℕ, zero, suc, _+_, _-_, _≤_, _<_}
 use mathlib.Core.Path.{_≡_, refl, sym, ap, ap₂, _∙_, subst}
 use mathlib.Core.List.{List, [], _∷_, _++_}

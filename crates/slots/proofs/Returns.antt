@@ -1,5 +1,4 @@
--- Where the functions return: what their tests and callees have given is what the definitions say.
--- Assumes nothing.
+-- Where the functions return: what their tests and callees have given is what the definitions say. Assumes nothing.
 use Prim.Native.Nat.{ℕ, _+_, _≤_, _<_}
 use mathlib.Core.Path.{_≡_, refl, sym, ap, _∙_}
 use mathlib.Core.List.{List}

@@ -1,5 +1,4 @@
--- What `head`, `unit` and `next_work` return.
--- Assumes nothing.
+-- What `head`, `unit` and `next_work` return. Assumes nothing.
 use Prim.Native.Nat.{ℕ, _+_, _-_, _≤_, _<_}
 use mathlib.Core.Path.{_≡_, refl, sym, ap, _∙_}
 use mathlib.Core.List.{List, [], _∷_, _++_}

@@ -1,5 +1,4 @@
--- What the arms of the two matches ask.
--- Assumes nothing.
+-- What the arms of the two matches ask. Assumes nothing.
 use Prim.Native.Nat.{ℕ, zero, suc, _+_, _-_, _≤_, _<_}
 use mathlib.Core.Path.{_≡_, refl, sym, subst, ap, _∙_}
 use mathlib.Core.List.{List, [], _∷_}

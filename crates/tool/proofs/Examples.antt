@@ -1,5 +1,4 @@
--- Worked examples: a flat PDU of each of the 28 kinds, with every field different, what they are written as, and that these bytes read to them.
--- Assumes nothing.
+-- Worked examples: a flat PDU of each of the 28 kinds, with every field different, what they are written as, and that these bytes read to them. Assumes nothing.
 use Prim.Native.Nat.{ℕ, _-_}
 use mathlib.Core.Path.{_≡_, refl}
 use mathlib.Core.List.{List, [], _∷_, _++_, map}

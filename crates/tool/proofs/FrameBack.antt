@@ -1,5 +1,4 @@
--- A FRAME THAT kelindap_frame_read READ, WRITTEN AGAIN BY kelindap_frame_write, HAS THE SAME BYTES; AND WHAT WAS WRITTEN IS READ BACK.
--- Assumes nothing.
+-- A FRAME THAT kelindap_frame_read READ, WRITTEN AGAIN BY kelindap_frame_write, HAS THE SAME BYTES; AND WHAT WAS WRITTEN IS READ BACK. Assumes nothing.
 use Prim.Native.Nat.{ℕ, _+_, _-_, _≤_}
 use mathlib.Core.Path.{_≡_, refl, sym, ap, ap₂, subst, _∙_}
 use mathlib.Core.List.{List, _++_}

@@ -1,5 +1,4 @@
--- What the calls on frames ask.
--- Assumes nothing.
+-- What the calls on frames ask. Assumes nothing.
 use Prim.Native.Nat.{ℕ, _+_, _≤_}
 use mathlib.Core.Path.{_≡_, sym, ap, _∙_}
 use mathlib.Core.List.{List}

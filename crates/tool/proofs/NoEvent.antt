@@ -1,5 +1,4 @@
--- A FRAME THAT IS REFUSED IS NO EVENT: its number is above that of every frame that reads.
--- Assumes nothing.
+-- A FRAME THAT IS REFUSED IS NO EVENT: its number is above that of every frame that reads. Assumes nothing.
 use Prim.Native.Nat.{ℕ, _<_}
 use mathlib.Core.Path.{_≡_}
 use mathlib.Core.List.{List}

@@ -1,5 +1,4 @@
--- What the branches of reading and writing a flat datapoint ask.
--- Assumes nothing.
+-- What the branches of reading and writing a flat datapoint ask. Assumes nothing.
 use Prim.Native.Nat.{ℕ}
 use mathlib.Core.Path.{_≡_, refl, sym, ap, _∙_}
 use mathlib.Core.Bool.{Bool, true, false, cond}
@@ -51,7 +50,7 @@ meant-14 f r e h =
 
 pub meant-else : (f : FlatPoint) (r : Reading) → (f .kind ≡ 9 → ⊥) → (f .kind ≡ 14 → ⊥) → r ≡ pointAt (f .kind) (f .value) → r ≡ pointMeant f
 unfolding pointMeant
-meant-else f r a b h = h ∙ sym (ap (λ (t : Bool). cond t (Is (Hundredths (f .hundredths))) (cond (eqb (f .kind) 14) (pointAt 14 (f .bits)) (pointAt (f .kind) (f .value)))) (ne-eqb (f .kind) 9 a) ∙ ap (λ (t : Bool). cond t (pointAt 14 (f .bits)) (pointAt (f .kind) (f .value))) (ne-eqb (f .kind) 14 b))
+meant-else f r a b h = h ∙ sym (rw (ne-eqb (f .kind) 9 a, ne-eqb (f .kind) 14 b))
 
 -- what writing gives
 pub write-25 : (f : FlatPoint) (o e : List ℕ) (w : ℕ) → w ≡ widthAt (f .kind) → w ≡ 0 → e ≡ o → FlatPut f o 25 e

@@ -1,5 +1,4 @@
--- What kelindap_write writes with outcome 0, kelindap_read gives back.
--- Assumes nothing.
+-- What kelindap_write writes with outcome 0, kelindap_read gives back. Assumes nothing.
 use Prim.Native.Nat.{ℕ, zero, suc, _+_, _-_}
 use mathlib.Core.Path.{_≡_, refl, sym, ap, _∙_}
 use mathlib.Core.Logic.{_⊎_, inl, inr, ⊎-elim}

@@ -1,5 +1,4 @@
--- `account::catch_up` meets its contract: the bytes of the part before place i are seen and marked, and the others as they were.
--- Assumes nothing.
+-- `account::catch_up` meets its contract: the bytes of the part before place i are seen and marked, and the others as they were. Assumes nothing.
 use Prim.Native.Nat.{_+_, _-_}
 use mathlib.Core.Path.{refl}
 use native.Mathlib.Omega.{arith}
@@ -20,23 +19,14 @@ loop-again c =
     pass-more _ _ _ _ _ _ (l .inv) (omega arith) (omega arith) (omega arith) _ _ (c .before .mark-of .ensures) refl
 
 pub catch-up-spec : {M : Type 1} → statement M
-catch-up-spec =
-    tie.close
-    (tie.spec
-    Inv-loop
-    μ-loop
-    (λ c. pass-none _ _ _ _ _ _ (omega arith))
+catch-up-spec = tie.close (tie.spec Inv-loop μ-loop (λ c. pass-none _ _ _ _ _ _ (omega arith))
     (λ c. omega (arith, c .before .before .loop .inv .caught .sameBytes))
-    (λ c. omega arith)
-    (λ c. search needs)
+    (λ c. omega arith) (λ c. search needs)
     (λ c. omega (arith, c .before .before .before .before .loop .inv .caught .sameMarks))
     (λ c κs. search needs) (λ c. search needs)
     (λ c. omega (arith, c .before .before .before .before .before .loop .inv .caught .sameMarks))
     (λ c. omega arith)
     (λ c. omega (arith, c .before .before .before .before .before .before .loop .inv .caught .sameBytes))
-    (λ c. omega arith)
-    (λ c. omega arith)
-    loop-again
-    (λ c. c .before .loop .inv .caught .sameMarks)
+    (λ c. omega arith) (λ c. omega arith) loop-again (λ c. c .before .loop .inv .caught .sameMarks)
     (λ c. c .before .loop .inv .caught .sameBytes)
     (λ c. pass-all _ _ _ _ _ _ (c .before .loop .inv) (omega arith)))

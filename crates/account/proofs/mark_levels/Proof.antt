@@ -1,5 +1,4 @@
--- `account::mark_levels` meets its contract.
--- Assumes nothing.
+-- `account::mark_levels` meets its contract. Assumes nothing.
 use native.Mathlib.Omega.{arith}
 use borrow.Author.Needs.{needs}
 use lib.ListN.{length-set}
@@ -8,19 +7,7 @@ use Rattle.account.proofs.mark_levels.Statement.{statement}
 use Rattle.account.proofs.mark_levels.Tie as tie
 
 pub mark-levels-spec : {M : Type 1} → statement M
-mark-levels-spec =
-    tie.close
-    (tie.spec
-    (λ c. search needs)
-    (λ c. omega arith)
-    (λ c κs. search needs) (λ c. search needs)
-    (λ c. omega arith)
-    (λ c. omega arith)
-    (λ c. search needs)
-    (λ c. simp (length-set) (omega arith))
-    (λ c κs. search needs)
-    (λ c. omega arith)
-    (λ c. search needs)
-    (λ c. simp (length-set) (omega arith))
-    (λ c. search needs)
+mark-levels-spec = tie.close (tie.spec (λ c. search needs) (λ c. omega arith) (λ c κs. search needs) (λ c. search needs)
+    (λ c. omega arith) (λ c. omega arith) (λ c. search needs) (λ c. simp (length-set) (omega arith)) (λ c κs. search needs)
+    (λ c. omega arith) (λ c. search needs) (λ c. simp (length-set) (omega arith)) (λ c. search needs)
     (λ c. levelled _ _ _ _ _ (omega arith) _ _ (c .before .before .before .before .mark-of .ensures) (c .mark-of2 .ensures)))

@@ -1,5 +1,4 @@
--- `host::kelindap_connect` meets its contract: the walk is `Replaced.antt`'s, at `connect` and what that gives.
--- Assumes nothing.
+-- `host::kelindap_connect` meets its contract: the walk is `Replaced.antt`'s, at `connect` and what that gives. Assumes nothing.
 use Rattle.device.specs.Events.{connectOf}
 use contract.Running.{givenOf}
 use denote.Triple.Table.{cited}
@@ -16,5 +15,6 @@ use Rattle.host.proofs.kelindap_connect.Code as code
 pub kelindap-connect-spec : {M : Type 1} → stated.statement M
 unfolding code.routine
 kelindap-connect-spec 𝓤 H 𝓜 𝓖 𝓡 =
-    finish 𝓤 H 𝓜 𝓖 𝓡 f.ended stayed (f-clauses 𝓤 connectOf) code.env #host·kelindap-connect code.function (code.unfolded 𝓤 H 𝓜 𝓡) (all-go 𝓤 H (𝓖 .A) (givenOf 𝓤 H 𝓜 𝓖)) (λ fm.
-    walks 𝓤 H (𝓖 .A) (givenOf 𝓤 H 𝓜 𝓖) connectOf _ _ #device·connect fm (cited 𝓤 H (Callee 𝓤 H (𝓖 .A) connectOf) 𝓜 𝓡 code.env #device·connect g-def.routine code.calls-device·connect (g-thm.met 𝓤 H 𝓜 𝓖 𝓡)))
+    finish 𝓤 H 𝓜 𝓖 𝓡 f.ended stayed (f-clauses 𝓤 connectOf) code.env #host·kelindap-connect code.function (code.unfolded 𝓤 H 𝓜 𝓡) (all-go 𝓤 H (𝓖 .A) (givenOf 𝓤 H 𝓜 𝓖) connectOf) (λ fm.
+    walks 𝓤 H (𝓖 .A) (givenOf 𝓤 H 𝓜 𝓖) connectOf _ _ #device·connect fm
+    (cited 𝓤 H (Callee 𝓤 H (𝓖 .A) connectOf) 𝓜 𝓡 code.env #device·connect g-def.routine code.calls-device·connect (g-thm.met 𝓤 H 𝓜 𝓖 𝓡)))

@@ -1,5 +1,4 @@
--- `host::kelindap_disconnect` meets its contract: the walk is `Replaced.antt`'s, at `disconnect` and what that gives.
--- Assumes nothing.
+-- `host::kelindap_disconnect` meets its contract: the walk is `Replaced.antt`'s, at `disconnect` and what that gives. Assumes nothing.
 use Rattle.device.specs.Events.{disconnectOf}
 use contract.Running.{givenOf}
 use denote.Triple.Table.{cited}
@@ -16,5 +15,6 @@ use Rattle.host.proofs.kelindap_disconnect.Code as code
 pub kelindap-disconnect-spec : {M : Type 1} → stated.statement M
 unfolding code.routine
 kelindap-disconnect-spec 𝓤 H 𝓜 𝓖 𝓡 =
-    finish 𝓤 H 𝓜 𝓖 𝓡 f.ended stayed (f-clauses 𝓤 disconnectOf) code.env #host·kelindap-disconnect code.function (code.unfolded 𝓤 H 𝓜 𝓡) (all-go 𝓤 H (𝓖 .A) (givenOf 𝓤 H 𝓜 𝓖)) (λ fm.
-    walks 𝓤 H (𝓖 .A) (givenOf 𝓤 H 𝓜 𝓖) disconnectOf _ _ #device·disconnect fm (cited 𝓤 H (Callee 𝓤 H (𝓖 .A) disconnectOf) 𝓜 𝓡 code.env #device·disconnect g-def.routine code.calls-device·disconnect (g-thm.met 𝓤 H 𝓜 𝓖 𝓡)))
+    finish 𝓤 H 𝓜 𝓖 𝓡 f.ended stayed (f-clauses 𝓤 disconnectOf) code.env #host·kelindap-disconnect code.function (code.unfolded 𝓤 H 𝓜 𝓡) (all-go 𝓤 H (𝓖 .A) (givenOf 𝓤 H 𝓜 𝓖) disconnectOf) (λ fm.
+    walks 𝓤 H (𝓖 .A) (givenOf 𝓤 H 𝓜 𝓖) disconnectOf _ _ #device·disconnect fm
+    (cited 𝓤 H (Callee 𝓤 H (𝓖 .A) disconnectOf) 𝓜 𝓡 code.env #device·disconnect g-def.routine code.calls-device·disconnect (g-thm.met 𝓤 H 𝓜 𝓖 𝓡)))

@@ -1,5 +1,4 @@
--- `host::request` meets its contract.
--- Assumes nothing.
+-- `host::request` meets its contract. Assumes nothing.
 use borrow.Author.Needs.{needs}
 use native.Mathlib.Omega.{arith}
 use Rattle.host.proofs.Replies.{few, as-given}
@@ -7,11 +6,7 @@ use Rattle.host.proofs.request.Statement.{statement}
 use Rattle.host.proofs.request.Tie as tie
 
 pub request-spec : {M : Type 1} → statement M
-request-spec =
-    tie.close
-    (tie.spec
-    (λ c κs. search needs)
-    (λ c κs. search needs)
+request-spec = tie.close (tie.spec (λ c κs. search needs) (λ c κs. search needs)
     (λ c. omega (arith, few _ _ _ _ _ _ _ _ _ _ (c .before .before .before .before .before .before .before .before .before .request .ensures)))
     (λ c. search needs) (λ c. search needs)
     (λ c. as-given _ _ _ _ _ _ _ _ _ _ (c .before .before .before .before .before .before .before .before .before .request .ensures) _ (search needs)))

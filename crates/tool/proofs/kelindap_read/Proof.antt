@@ -1,16 +1,9 @@
--- `tool::kelindap_read` meets its contract.
--- Assumes nothing.
+-- `tool::kelindap_read` meets its contract. Assumes nothing.
 use borrow.Author.Needs.{needs}
 use Rattle.tool.proofs.Arms.{reads-as, via-read}
 use Rattle.tool.proofs.kelindap_read.Statement.{statement}
 use Rattle.tool.proofs.kelindap_read.Tie as tie
 
 pub kelindap-read-spec : {M : Type 1} → statement M
-kelindap-read-spec =
-    tie.close
-    (tie.spec
-    (λ c κs. search needs) (λ c. search needs)
-    (λ c κs. search reads-as)
-    (λ c. search needs) (λ c κs. search needs)
-    (λ c. search via-read)
-    (λ c. search via-read))
+kelindap-read-spec = tie.close (tie.spec (λ c κs. search needs) (λ c. search needs) (λ c κs. search reads-as) (λ c. search needs)
+    (λ c κs. search needs) (λ c. search via-read) (λ c. search via-read))

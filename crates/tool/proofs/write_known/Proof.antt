@@ -1,15 +1,8 @@
--- `tool::write_known` meets its contract.
--- Assumes nothing.
+-- `tool::write_known` meets its contract. Assumes nothing.
 use borrow.Author.Needs.{needs}
 use Rattle.tool.proofs.Arms.{few, wrote-known}
 use Rattle.tool.proofs.write_known.Statement.{statement}
 use Rattle.tool.proofs.write_known.Tie as tie
 
 pub write-known-spec : {M : Type 1} → statement M
-write-known-spec =
-    tie.close
-    (tie.spec
-    (λ c κs. search needs)
-    (λ c κs. search few)
-    (λ c. search needs)
-    (λ c. search wrote-known))
+write-known-spec = tie.close (tie.spec (λ c κs. search needs) (λ c κs. search few) (λ c. search needs) (λ c. search wrote-known))

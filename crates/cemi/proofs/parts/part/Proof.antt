@@ -1,13 +1,9 @@
--- `cemi::parts::part` meets its contract.
--- Assumes nothing.
+-- `cemi::parts::part` meets its contract. Assumes nothing.
 use borrow.Author.Needs.{needs}
 use Rattle.cemi.proofs.Cut.{cut-out, cut-nothing}
 use Rattle.cemi.proofs.parts.part.Statement.{statement}
 use Rattle.cemi.proofs.parts.part.Tie as tie
 
 pub part-spec : {M : Type 1} → statement M
-part-spec =
-    tie.close
-    (tie.spec
-    (λ c. search needs) (λ c. search needs) (λ c. search needs) (λ c. search needs) (λ c. search needs) (λ c. search needs)
-    (λ c. search needs) (λ c. search cut-out) (λ c. search cut-nothing))
+part-spec = tie.close (tie.spec (λ c. search needs) (λ c. search needs) (λ c. search needs) (λ c. search needs)
+    (λ c. search needs) (λ c. search needs) (λ c. search needs) (λ c. search cut-out) (λ c. search cut-nothing))

@@ -1,5 +1,4 @@
--- `cemi::reading::read` meets its contract.
--- Assumes nothing.
+-- `cemi::reading::read` meets its contract. Assumes nothing.
 use borrow.Author.Needs.{needs}
 use Rattle.cemi.proofs.Taken.{gives, refuses}
 use Rattle.cemi.proofs.reading.read.Statement.{statement}

@@ -1,5 +1,4 @@
--- `cemi::reading::standard` meets its contract.
--- Assumes nothing.
+-- `cemi::reading::standard` meets its contract. Assumes nothing.
 use Prim.Native.Nat.{ℕ, _+_, _%_, _≤_}
 use mathlib.Core.Path.{_≡_}
 use borrow.Author.Needs.{needs}
@@ -29,8 +28,6 @@ returns-5 c = same-length _ _ _ _ (omega arith) (omega arith) (omega arith) (ome
 
 pub standard-spec : {M : Type 1} → statement M
 unfolding standardOf
-standard-spec =
-    tie.close
-    (tie.spec
+standard-spec = tie.close (tie.spec
     (λ c. search (tests, arith)) (λ c. search (tests, arith)) (λ c. search (tests, arith)) (λ c. search needs)
     (λ c. search needs) (λ c. search needs) (λ c. search needs) returns-4 returns-5)

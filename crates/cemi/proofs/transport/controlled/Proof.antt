@@ -1,5 +1,4 @@
--- `cemi::transport::controlled` meets its contract.
--- Assumes nothing.
+-- `cemi::transport::controlled` meets its contract. Assumes nothing.
 use borrow.Author.Needs.{needs}
 use native.Mathlib.Omega.{arith}
 use Rattle.octets.proofs.Tests.{tests}
@@ -9,8 +8,5 @@ use Rattle.cemi.proofs.transport.controlled.Tie as tie
 
 pub controlled-spec : {M : Type 1} → statement M
 unfolding control
-controlled-spec =
-    tie.close
-    (tie.spec
-    (λ c. search needs) (λ c. search needs) (λ c. search (tests, arith)) (λ c. search (tests, arith))
-    (λ c. search (tests, arith)) (λ c. search (tests, arith)) (λ c. search (tests, arith)))
+controlled-spec = tie.close (tie.spec (λ c. search needs) (λ c. search needs) (λ c. search (tests, arith))
+    (λ c. search (tests, arith)) (λ c. search (tests, arith)) (λ c. search (tests, arith)) (λ c. search (tests, arith)))

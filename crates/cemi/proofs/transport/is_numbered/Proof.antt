@@ -1,5 +1,4 @@
--- `cemi::transport::is_numbered` meets its contract.
--- Assumes nothing.
+-- `cemi::transport::is_numbered` meets its contract. Assumes nothing.
 use native.Mathlib.Omega.{arith}
 use Rattle.octets.proofs.Tests.{tests}
 use Rattle.cemi.specs.Meaning.{numbered}
@@ -8,7 +7,4 @@ use Rattle.cemi.proofs.transport.is_numbered.Tie as tie
 
 pub is-numbered-spec : {M : Type 1} → statement M
 unfolding numbered
-is-numbered-spec =
-    tie.close
-    (tie.spec
-    (λ c. search (tests, arith)) (λ c. search (tests, arith)))
+is-numbered-spec = tie.close (tie.spec (λ c. search (tests, arith)) (λ c. search (tests, arith)))

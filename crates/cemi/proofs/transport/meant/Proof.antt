@@ -1,5 +1,4 @@
--- `cemi::transport::meant` meets its contract.
--- Assumes nothing.
+-- `cemi::transport::meant` meets its contract. Assumes nothing.
 use borrow.Author.Needs.{needs}
 use native.Mathlib.Omega.{arith}
 use Rattle.octets.proofs.Tests.{branches}
@@ -9,7 +8,5 @@ use Rattle.cemi.proofs.transport.meant.Tie as tie
 
 pub meant-spec : {M : Type 1} → statement M
 unfolding meaningOf
-meant-spec =
-    tie.close
-    (tie.spec
-    (λ c κs. search needs) (λ c κs. search needs) (λ c. search (branches, arith)) (λ c. search (branches, arith)))
+meant-spec = tie.close (tie.spec (λ c κs. search needs) (λ c κs. search needs) (λ c. search (branches, arith))
+    (λ c. search (branches, arith)))

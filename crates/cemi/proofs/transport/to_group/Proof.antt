@@ -1,5 +1,4 @@
--- `cemi::transport::to_group` meets its contract.
--- Assumes nothing.
+-- `cemi::transport::to_group` meets its contract. Assumes nothing.
 use native.Mathlib.Omega.{arith}
 use Rattle.octets.proofs.Tests.{tests}
 use Rattle.cemi.specs.Meaning.{toGroup}
@@ -8,7 +7,4 @@ use Rattle.cemi.proofs.transport.to_group.Tie as tie
 
 pub to-group-spec : {M : Type 1} → statement M
 unfolding toGroup
-to-group-spec =
-    tie.close
-    (tie.spec
-    (λ c. search (tests, arith)) (λ c. search (tests, arith)) (λ c. search (tests, arith)))
+to-group-spec = tie.close (tie.spec (λ c. search (tests, arith)) (λ c. search (tests, arith)) (λ c. search (tests, arith)))

@@ -1,5 +1,4 @@
--- `cemi::transport::to_one` meets its contract.
--- Assumes nothing.
+-- `cemi::transport::to_one` meets its contract. Assumes nothing.
 use borrow.Author.Needs.{needs}
 use native.Mathlib.Omega.{arith}
 use Rattle.octets.proofs.Tests.{branches}
@@ -9,8 +8,5 @@ use Rattle.cemi.proofs.transport.to_one.Tie as tie
 
 pub to-one-spec : {M : Type 1} → statement M
 unfolding toOne
-to-one-spec =
-    tie.close
-    (tie.spec
-    (λ c. search (branches, arith)) (λ c κs. search needs) (λ c. search (branches, arith)) (λ c κs. search needs)
-    (λ c. search (branches, arith)) (λ c. search (branches, arith)))
+to-one-spec = tie.close (tie.spec (λ c. search (branches, arith)) (λ c κs. search needs) (λ c. search (branches, arith))
+    (λ c κs. search needs) (λ c. search (branches, arith)) (λ c. search (branches, arith)))

@@ -1,13 +1,9 @@
--- `cemi::writing::put_front` meets its contract.
--- Assumes nothing.
+-- `cemi::writing::put_front` meets its contract. Assumes nothing.
 use borrow.Author.Needs.{needs}
 use Rattle.cemi.proofs.Stores.{front-put}
 use Rattle.cemi.proofs.writing.put_front.Statement.{statement}
 use Rattle.cemi.proofs.writing.put_front.Tie as tie
 
 pub put-front-spec : {M : Type 1} → statement M
-put-front-spec =
-    tie.close
-    (tie.spec
-    (λ c. search needs) (λ c. search needs) (λ c κs. search needs) (λ c κs. search needs) (λ c. search needs)
-    (λ c. search front-put))
+put-front-spec = tie.close (tie.spec (λ c. search needs) (λ c. search needs) (λ c κs. search needs) (λ c κs. search needs)
+    (λ c. search needs) (λ c. search front-put))

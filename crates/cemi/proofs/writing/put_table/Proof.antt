@@ -1,13 +1,9 @@
--- `cemi::writing::put_table` meets its contract.
--- Assumes nothing.
+-- `cemi::writing::put_table` meets its contract. Assumes nothing.
 use borrow.Author.Needs.{needs}
 use Rattle.cemi.proofs.Stores.{table-put}
 use Rattle.cemi.proofs.writing.put_table.Statement.{statement}
 use Rattle.cemi.proofs.writing.put_table.Tie as tie
 
 pub put-table-spec : {M : Type 1} → statement M
-put-table-spec =
-    tie.close
-    (tie.spec
-    (λ c. search needs) (λ c. search needs) (λ c. search needs) (λ c. search needs) (λ c. search needs)
-    (λ c κs. search needs) (λ c. search needs) (λ c. search (table-put, needs)))
+put-table-spec = tie.close (tie.spec (λ c. search needs) (λ c. search needs) (λ c. search needs) (λ c. search needs)
+    (λ c. search needs) (λ c κs. search needs) (λ c. search needs) (λ c. search (table-put, needs)))

@@ -1,14 +1,9 @@
--- `host::bus::sent_by` meets its contract.
--- Assumes nothing.
+-- `host::bus::sent_by` meets its contract. Assumes nothing.
 use borrow.Author.Needs.{needs}
 use Rattle.host.proofs.Buses.{of-read, of-unread}
 use Rattle.host.proofs.bus.sent_by.Statement.{statement}
 use Rattle.host.proofs.bus.sent_by.Tie as tie
 
 pub sent-by-spec : {M : Type 1} → statement M
-sent-by-spec =
-    tie.close
-    (tie.spec
-    (λ c κs. search needs) (λ c. search needs) (λ c κs. search needs) (λ c. search needs)
-    (λ c. search of-read)
-    (λ c. search of-unread))
+sent-by-spec = tie.close (tie.spec (λ c κs. search needs) (λ c. search needs) (λ c κs. search needs) (λ c. search needs)
+    (λ c. search of-read) (λ c. search of-unread))

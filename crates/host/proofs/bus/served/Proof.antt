@@ -1,13 +1,9 @@
--- `host::bus::served` meets its contract.
--- Assumes nothing.
+-- `host::bus::served` meets its contract. Assumes nothing.
 use borrow.Author.Needs.{needs}
 use Rattle.host.proofs.Replies.{as-served}
 use Rattle.host.proofs.bus.served.Statement.{statement}
 use Rattle.host.proofs.bus.served.Tie as tie
 
 pub served-spec : {M : Type 1} → statement M
-served-spec =
-    tie.close
-    (tie.spec
-    (λ c κs. search needs) (λ c κs. search needs) (λ c. search needs) (λ c. search needs)
+served-spec = tie.close (tie.spec (λ c κs. search needs) (λ c κs. search needs) (λ c. search needs) (λ c. search needs)
     (λ c. search as-served))

@@ -1,5 +1,4 @@
--- `host::store::kelindap_restore` meets its contract.
--- Assumes nothing.
+-- `host::store::kelindap_restore` meets its contract. Assumes nothing.
 use borrow.Author.Needs.{needs}
 use Rattle.host.proofs.Restored.{restored-for}
 use Rattle.host.proofs.store.kelindap_restore.Statement.{statement}

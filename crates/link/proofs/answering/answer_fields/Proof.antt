@@ -1,5 +1,4 @@
--- `link::answering::answer_fields` meets its contract.
--- Assumes nothing.
+-- `link::answering::answer_fields` meets its contract. Assumes nothing.
 use borrow.Author.Needs.{needs}
 use native.Mathlib.Omega.{arith}
 use Rattle.link.proofs.Answered.{to-asker, to-group}
@@ -7,11 +6,5 @@ use Rattle.link.proofs.answering.answer_fields.Statement.{statement}
 use Rattle.link.proofs.answering.answer_fields.Tie as tie
 
 pub answer-fields-spec : {M : Type 1} → statement M
-answer-fields-spec =
-    tie.close
-    (tie.spec
-    (λ c. omega arith)
-    (λ c. omega arith)
-    (λ c κs. search needs)
-    (λ c. search (to-asker, arith))
-    (λ c. search (to-group, arith)))
+answer-fields-spec = tie.close (tie.spec (λ c. omega arith) (λ c. omega arith) (λ c κs. search needs)
+    (λ c. search (to-asker, arith)) (λ c. search (to-group, arith)))

@@ -1,15 +1,9 @@
--- `link::hearing::from_other` meets its contract.
--- Assumes nothing.
+-- `link::hearing::from_other` meets its contract. Assumes nothing.
 use borrow.Author.Needs.{needs}
 use Rattle.link.proofs.Returns.{of-own, of-other}
 use Rattle.link.proofs.hearing.from_other.Statement.{statement}
 use Rattle.link.proofs.hearing.from_other.Tie as tie
 
 pub from-other-spec : {M : Type 1} → statement M
-from-other-spec =
-    tie.close
-    (tie.spec
-    (λ c κs. search needs)
-    (λ c. search of-own)
-    (λ c κs. search needs) (λ c κs. search needs)
+from-other-spec = tie.close (tie.spec (λ c κs. search needs) (λ c. search of-own) (λ c κs. search needs) (λ c κs. search needs)
     (λ c. search of-other))

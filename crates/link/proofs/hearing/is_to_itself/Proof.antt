@@ -1,5 +1,4 @@
--- `link::hearing::is_to_itself` meets its contract.
--- Assumes nothing.
+-- `link::hearing::is_to_itself` meets its contract. Assumes nothing.
 use native.Mathlib.Omega.{arith}
 use Rattle.octets.proofs.Tests.{tests}
 use Rattle.link.specs.Hearing.{toItself}
@@ -8,8 +7,4 @@ use Rattle.link.proofs.hearing.is_to_itself.Tie as tie
 
 pub is-to-itself-spec : {M : Type 1} → statement M
 unfolding toItself
-is-to-itself-spec =
-    tie.close
-    (tie.spec
-    (λ c. search (tests, arith))
-    (λ c. search (tests, arith)))
+is-to-itself-spec = tie.close (tie.spec (λ c. search (tests, arith)) (λ c. search (tests, arith)))

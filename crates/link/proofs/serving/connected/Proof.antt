@@ -1,13 +1,9 @@
--- `link::serving::connected` meets its contract.
--- Assumes nothing.
+-- `link::serving::connected` meets its contract. Assumes nothing.
 use borrow.Author.Needs.{needs}
 use Rattle.link.proofs.Serves.{is-connected}
 use Rattle.link.proofs.serving.connected.Statement.{statement}
 use Rattle.link.proofs.serving.connected.Tie as tie
 
 pub connected-spec : {M : Type 1} → statement M
-connected-spec =
-    tie.close
-    (tie.spec
-    (λ c κs. search needs) (λ c κs. search needs) (λ c κs. search needs) (λ c κs. search needs)
+connected-spec = tie.close (tie.spec (λ c κs. search needs) (λ c κs. search needs) (λ c κs. search needs) (λ c κs. search needs)
     (λ c. search is-connected))

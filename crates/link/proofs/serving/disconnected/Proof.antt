@@ -1,13 +1,8 @@
--- `link::serving::disconnected` meets its contract.
--- Assumes nothing.
+-- `link::serving::disconnected` meets its contract. Assumes nothing.
 use borrow.Author.Needs.{needs}
 use Rattle.link.proofs.Serves.{is-disconnected}
 use Rattle.link.proofs.serving.disconnected.Statement.{statement}
 use Rattle.link.proofs.serving.disconnected.Tie as tie
 
 pub disconnected-spec : {M : Type 1} → statement M
-disconnected-spec =
-    tie.close
-    (tie.spec
-    (λ c κs. search needs) (λ c κs. search needs)
-    (λ c. search is-disconnected))
+disconnected-spec = tie.close (tie.spec (λ c κs. search needs) (λ c κs. search needs) (λ c. search is-disconnected))

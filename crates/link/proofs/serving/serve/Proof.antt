@@ -1,5 +1,4 @@
--- `link::serving::serve` meets its contract.
--- Assumes nothing.
+-- `link::serving::serve` meets its contract. Assumes nothing.
 use borrow.Author.Needs.{needs}
 use native.Mathlib.Omega.{arith}
 use Rattle.link.proofs.Serves.{no-room, was-read, not-read}
@@ -7,10 +6,7 @@ use Rattle.link.proofs.serving.serve.Statement.{statement}
 use Rattle.link.proofs.serving.serve.Tie as tie
 
 pub serve-spec : {M : Type 1} → statement M
-serve-spec =
-    tie.close
-    (tie.spec
-    (λ c κs. search needs)
+serve-spec = tie.close (tie.spec (λ c κs. search needs)
     (λ c.
     record {
       did = search (no-room, arith);

@@ -1,5 +1,4 @@
--- `playback::event::flag` meets its contract.
--- Assumes nothing.
+-- `playback::event::flag` meets its contract. Assumes nothing.
 use borrow.Author.Needs.{needs}
 use Rattle.playback.proofs.Happening.{flag-none, flag-narrow, flag-set}
 use Rattle.playback.proofs.event.flag.Statement.{statement}

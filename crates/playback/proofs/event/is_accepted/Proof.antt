@@ -1,5 +1,4 @@
--- `playback::event::is_accepted` meets its contract.
--- Assumes nothing.
+-- `playback::event::is_accepted` meets its contract. Assumes nothing.
 use borrow.Author.Needs.{needs}
 use Rattle.octets.proofs.Truths.{never}
 use Rattle.sheet.proofs.promises.Verdicts.{not-refused}

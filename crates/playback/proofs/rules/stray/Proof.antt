@@ -1,5 +1,4 @@
--- `playback::rules::stray` meets its contract.
--- Assumes nothing.
+-- `playback::rules::stray` meets its contract. Assumes nothing.
 use borrow.Author.Needs.{needs}
 use Rattle.playback.proofs.Walking.{stray-request, stray-other}
 use Rattle.playback.proofs.rules.stray.Statement.{statement}

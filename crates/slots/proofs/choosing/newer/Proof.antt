@@ -1,13 +1,9 @@
--- `slots::choosing::newer` meets its contract.
--- Assumes nothing.
+-- `slots::choosing::newer` meets its contract. Assumes nothing.
 use borrow.Author.Needs.{needs}
 use Rattle.slots.proofs.Returns.{neither, second-alone, first-alone, second-newer, first-newer}
 use Rattle.slots.proofs.choosing.newer.Statement.{statement}
 use Rattle.slots.proofs.choosing.newer.Tie as tie
 
 pub newer-spec : {M : Type 1} → statement M
-newer-spec =
-    tie.close
-    (tie.spec
-    (λ c. search neither) (λ c. search second-alone) (λ c. search first-alone) (λ c κs. search needs) (λ c. search second-newer)
-    (λ c. search first-newer))
+newer-spec = tie.close (tie.spec (λ c. search neither) (λ c. search second-alone) (λ c. search first-alone) (λ c κs. search needs)
+    (λ c. search second-newer) (λ c. search first-newer))

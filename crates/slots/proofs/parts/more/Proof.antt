@@ -1,13 +1,10 @@
--- `slots::parts::more` meets its contract.
--- Assumes nothing.
+-- `slots::parts::more` meets its contract. Assumes nothing.
 use borrow.Author.Needs.{needs}
 use Rattle.slots.proofs.Fronts.{some-left, none-left}
 use Rattle.slots.proofs.parts.more.Statement.{statement}
 use Rattle.slots.proofs.parts.more.Tie as tie
 
 pub more-spec : {M : Type 1} → statement M
-more-spec =
-    tie.close
-    (tie.spec
-    (λ c. search needs) (λ c κs. search needs) (λ c. search needs) (λ c. search needs) (λ c κs. search needs) (λ c. search some-left)
-    (λ c. search needs) (λ c. search needs) (λ c. search needs) (λ c κs. search needs) (λ c κs. search needs) (λ c. search none-left))
+more-spec = tie.close (tie.spec (λ c. search needs) (λ c κs. search needs) (λ c. search needs) (λ c. search needs)
+    (λ c κs. search needs) (λ c. search some-left) (λ c. search needs) (λ c. search needs) (λ c. search needs)
+    (λ c κs. search needs) (λ c κs. search needs) (λ c. search none-left))

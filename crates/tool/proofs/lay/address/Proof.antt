@@ -1,5 +1,4 @@
--- `tool::lay::address` meets its contract.
--- Assumes nothing.
+-- `tool::lay::address` meets its contract. Assumes nothing.
 use borrow.Author.Needs.{needs}
 use Rattle.tool.proofs.lay.address.Statement.{statement}
 use Rattle.tool.proofs.lay.address.Tie as tie

@@ -1,5 +1,4 @@
--- `tool::lay::flat` meets its contract: an arm knows the PDU.
--- Assumes nothing.
+-- `tool::lay::flat` meets its contract: an arm knows the PDU. Assumes nothing.
 use borrow.Author.Needs.{needs}
 use Rattle.tool.specs.Flat.{kindOf, placeIn}
 use Rattle.tool.proofs.Arms.{via-laid}
@@ -8,9 +7,7 @@ use Rattle.tool.proofs.lay.flat.Tie as tie
 
 pub flat-spec : {M : Type 1} → statement M
 unfolding kindOf placeIn
-flat-spec =
-    tie.close
-    (tie.spec
+flat-spec = tie.close (tie.spec
     (λ c. search needs) (λ c κs. search needs) (λ c. search needs) (λ c κs. search needs) (λ c. search needs) (λ c κs. search needs)
     (λ c. search needs) (λ c κs. search needs) (λ c. search needs) (λ c κs. search needs) (λ c. search needs) (λ c κs. search needs)
     (λ c. search needs) (λ c κs. search needs) (λ c. search needs) (λ c κs. search needs) (λ c. search needs) (λ c κs. search needs)

@@ -1,5 +1,4 @@
--- `tool::lay::group` meets its contract.
--- Assumes nothing.
+-- `tool::lay::group` meets its contract. Assumes nothing.
 use borrow.Author.Needs.{needs}
 use Rattle.tool.proofs.lay.group.Statement.{statement}
 use Rattle.tool.proofs.lay.group.Tie as tie

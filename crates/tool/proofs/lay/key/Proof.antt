@@ -1,5 +1,4 @@
--- `tool::lay::key` meets its contract.
--- Assumes nothing.
+-- `tool::lay::key` meets its contract. Assumes nothing.
 use borrow.Author.Needs.{needs}
 use Rattle.tool.proofs.lay.key.Statement.{statement}
 use Rattle.tool.proofs.lay.key.Tie as tie

@@ -1,5 +1,4 @@
--- `tool::lay::memory` meets its contract.
--- Assumes nothing.
+-- `tool::lay::memory` meets its contract. Assumes nothing.
 use borrow.Author.Needs.{needs}
 use Rattle.tool.proofs.lay.memory.Statement.{statement}
 use Rattle.tool.proofs.lay.memory.Tie as tie

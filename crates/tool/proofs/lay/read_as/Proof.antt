@@ -1,5 +1,4 @@
--- `tool::lay::read_as` meets its contract.
--- Assumes nothing.
+-- `tool::lay::read_as` meets its contract. Assumes nothing.
 use borrow.Author.Needs.{needs}
 use native.Mathlib.Omega.{arith}
 use Rattle.pdu.specs.Pdus.{serviceOf, valuesOf}
@@ -9,11 +8,7 @@ use Rattle.tool.proofs.lay.read_as.Statement.{statement}
 use Rattle.tool.proofs.lay.read_as.Tie as tie
 
 pub read-as-spec : {M : Type 1} → statement M
-read-as-spec =
-    tie.close
-    (tie.spec
-    (λ c κs. search needs) (λ c κs. search needs)
-    (λ c. search shorter)
+read-as-spec = tie.close (tie.spec (λ c κs. search needs) (λ c κs. search needs) (λ c. search shorter)
     (λ c.
     let p = c .before .before .before .args .p in
     let s = spans (c .before .before .before .args .apdu .now) p (λ i. omega (arith, c .before .before .shared-slice-known .given i)) (c .before .before .before .pre) in

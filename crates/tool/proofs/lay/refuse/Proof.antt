@@ -1,5 +1,4 @@
--- `tool::lay::refuse` meets its contract.
--- Assumes nothing.
+-- `tool::lay::refuse` meets its contract. Assumes nothing.
 use borrow.Author.Needs.{needs}
 use Rattle.tool.proofs.lay.refuse.Statement.{statement}
 use Rattle.tool.proofs.lay.refuse.Tie as tie

@@ -1,5 +1,4 @@
--- `tool::lay::serial` meets its contract.
--- Assumes nothing.
+-- `tool::lay::serial` meets its contract. Assumes nothing.
 use borrow.Author.Needs.{needs}
 use Rattle.tool.proofs.lay.serial.Statement.{statement}
 use Rattle.tool.proofs.lay.serial.Tie as tie

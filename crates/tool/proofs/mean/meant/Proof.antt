@@ -1,19 +1,14 @@
--- `tool::mean::meant` meets its contract.
--- Assumes nothing.
+-- `tool::mean::meant` meets its contract. Assumes nothing.
 use borrow.Author.Needs.{needs}
 use Rattle.tool.proofs.Arms.{via-meant, no-kind}
 use Rattle.tool.proofs.mean.meant.Statement.{statement}
 use Rattle.tool.proofs.mean.meant.Tie as tie
 
 pub meant-spec : {M : Type 1} → statement M
-meant-spec =
-    tie.close
-    (tie.spec
-    (λ c κs. search needs)
+meant-spec = tie.close (tie.spec (λ c κs. search needs) (λ c. search via-meant) (λ c. search via-meant) (λ c. search via-meant)
     (λ c. search via-meant) (λ c. search via-meant) (λ c. search via-meant) (λ c. search via-meant) (λ c. search via-meant)
     (λ c. search via-meant) (λ c. search via-meant) (λ c. search via-meant) (λ c. search via-meant) (λ c. search via-meant)
     (λ c. search via-meant) (λ c. search via-meant) (λ c. search via-meant) (λ c. search via-meant) (λ c. search via-meant)
     (λ c. search via-meant) (λ c. search via-meant) (λ c. search via-meant) (λ c. search via-meant) (λ c. search via-meant)
     (λ c. search via-meant) (λ c. search via-meant) (λ c. search via-meant) (λ c. search via-meant) (λ c. search via-meant)
-    (λ c. search via-meant) (λ c. search via-meant) (λ c. search via-meant)
     (λ c. no-kind _ (c .match .rest)))
