@@ -2,11 +2,14 @@
 -- Assumes nothing.
 use Prim.Native.Nat.{ℕ, _+_, _≤_}
 use mathlib.Core.Path.{_≡_}
-use mathlib.Core.Bool.{true}
+use mathlib.Core.Bool.{Bool, true, false}
 use mathlib.Core.List.{List, []}
 use lib.ListN.{length, take, drop}
 use Rattle.octets.specs.Bytes.{bytesOf}
+use Rattle.octets.specs.Splice.{splice}
 use Rattle.pdu.specs.Write.{writable}
+use Rattle.pdu.specs.declared.Pdu.{Pdu}
+use Rattle.pdu.specs.declared.Pdu.the-variants.{GroupValueRead}
 use Rattle.judge.specs.declared.Store.{Store}
 use Rattle.judge.specs.declared.Store.the-variants as store
 use Rattle.judge.specs.declared.Answer.{Answer}
@@ -45,6 +48,33 @@ Roomy n (answer.Plain p) = 16 ≤ n
 Roomy n (answer.Number p w x) = 16 ≤ n
 Roomy n (answer.Sheet p at m) = 16 ≤ n
 Roomy n (answer.Echo p) = 16 ≤ n
+
+-- an answer taken apart: whether there is none; its PDU, any for silence; the data behind it
+abbrev pub isSilent : Answer → Bool
+isSilent answer.Silence = true
+isSilent (answer.Plain p) = false
+isSilent (answer.Number p w x) = false
+isSilent (answer.Sheet p at n) = false
+isSilent (answer.Echo p) = false
+
+abbrev pub pduIn : Answer → Pdu
+pduIn answer.Silence = GroupValueRead
+pduIn (answer.Plain p) = p
+pduIn (answer.Number p w x) = p
+pduIn (answer.Sheet p at n) = p
+pduIn (answer.Echo p) = p
+
+abbrev pub dataBehind : List ℕ → List ℕ → Answer → List ℕ
+dataBehind s d answer.Silence = []
+dataBehind s d (answer.Plain p) = []
+dataBehind s d (answer.Number p w x) = bytesOf w x
+dataBehind s d (answer.Sheet p at n) = take n (drop at s)
+dataBehind s d (answer.Echo p) = d
+
+-- bytes stand behind the first i of a buffer, whose rest is as found: r bytes in all
+pub record Behind (i : ℕ) (bytes : List ℕ) (r : ℕ) (out out′ : List ℕ) : Type 0 where
+  pub count : r ≡ i + length bytes
+  pub holds : out′ ≡ splice out i bytes
 
 -- A DECISION THAT CAN BE CARRIED OUT
 pub record Safe (s d : List ℕ) (k : Decision) : Type 0 where

@@ -120,7 +120,8 @@ pub fn request_known(
         parsed,
     };
     let k = judge::found(&sheet[..], x, d);
-    let changed = store::carry_out(sheet, k, d);
+    let changed = store::changes(&sheet[..], k, d);
+    store::carry_out(sheet, k, d);
     let reply = k.answer;
     let count = answer::answer(answer, reply, &sheet[..], d);
     let turn = k.turn;

@@ -83,17 +83,25 @@ fn part(s: &[u8], run: Store, d: &[u8]) -> Run
     }
 }
 
-// At most two runs, and where they stand.
-pub fn carry_out(s: &mut [u8], k: Decision, d: &[u8]) -> Changed
-    requires { ⌜ (StoreSafe (now s) (now d) (k .first)) × (StoreSafe (storeOf (now s) (now d) (k .first)) (now d) (k .second))
-        × (Narrow (length (now s)) (k .first)) × (Narrow (length (now s)) (k .second)) ⌝ }
-    ensures { λ r. ⌜ (now (s .exit) ≡ storeOf (storeOf (now (s .entry)) (now (d .entry)) (k .first)) (now (d .entry)) (k .second)) × (r ≡ changesOf (now (d .entry)) k) ⌝ }
+// Where at most two runs stand that are to be stored.
+pub fn changes(s: &[u8], k: Decision, d: &[u8]) -> Changed
+    requires { ⌜ (StoreSafe (now s) (now d) (k .first)) × (StoreSafe (storeOf (now s) (now d) (k .first)) (now d) (k .second)) × (Narrow (length (now s)) (k .first)) × (Narrow (length (now s)) (k .second)) ⌝ }
+    ensures { λ r. ⌜ r ≡ changesOf (now (d .entry)) k ⌝ }
 {
     let one = k.first;
     let two = k.second;
-    let first = part(&s[..], one, d);
-    store(s, one, d);
-    let second = part(&s[..], two, d);
-    store(s, two, d);
+    let first = part(s, one, d);
+    let second = part(s, two, d);
     Changed { first, second }
+}
+
+// At most two runs.
+pub fn carry_out(s: &mut [u8], k: Decision, d: &[u8])
+    requires { ⌜ (StoreSafe (now s) (now d) (k .first)) × (StoreSafe (storeOf (now s) (now d) (k .first)) (now d) (k .second)) ⌝ }
+    ensures { λ _. ⌜ now (s .exit) ≡ storeOf (storeOf (now (s .entry)) (now (d .entry)) (k .first)) (now (d .entry)) (k .second) ⌝ }
+{
+    let one = k.first;
+    let two = k.second;
+    store(s, one, d);
+    store(s, two, d);
 }

@@ -40,8 +40,11 @@ module _ (room : ℕ) (s : List ℕ) (q : Session) (mode group : ℕ) (a d : Lis
       subst (λ (x : List ℕ). Safe s x k) (sym whose)
       (subst (λ (x : Decision). Safe s (dataIn (readPdu a) a) x) (sym judged) (safe room s q mode group a))
 
-  pub carry-needs : (StoreSafe s d (k .first)) × (StoreSafe (storeOf s d (k .first)) d (k .second)) × (Narrow (length s) (k .first)) × (Narrow (length s) (k .second))
-  carry-needs =
+  pub carry-needs : (StoreSafe s d (k .first)) × (StoreSafe (storeOf s d (k .first)) d (k .second))
+  carry-needs = (is-safe .first, is-safe .second)
+
+  pub changes-need : (StoreSafe s d (k .first)) × (StoreSafe (storeOf s d (k .first)) d (k .second)) × (Narrow (length s) (k .first)) × (Narrow (length s) (k .second))
+  changes-need =
       let n = subst (λ (x : Decision). Narrow (length s) (x .first) × Narrow (length s) (x .second)) (sym judged) (narrow room s q mode group a) in
       (is-safe .first, is-safe .second, n .0, n .1)
 

@@ -60,10 +60,17 @@ via-store s d s′ r q e h = subst (λ (x : Store). s′ ≡ storeOf s d x) (sym
 pub second-safe : (s s₁ d : List ℕ) (a b : Store) → s₁ ≡ storeOf s d a → StoreSafe (storeOf s d a) d b → StoreSafe s₁ d b
 second-safe s s₁ d a b e h = subst (λ (x : List ℕ). StoreSafe x d b) (sym e) h
 
-pub second-narrow :
-    (s s₁ d : List ℕ) (a b : Store) → s₁ ≡ storeOf s d a → StoreSafe s d a → Narrow (length s) b → Narrow (length s₁) b
-second-narrow s s₁ d a b e f h =
-    subst (λ (n : ℕ). Narrow n b) (sym (ap length e ∙ length-store s d a f)) h
+-- where it stands does not depend on the first
+same-safe : (s t d : List ℕ) (b : Store) → length t ≡ length s → StoreSafe t d b → StoreSafe s d b
+same-safe s t d store.Nothing e h = tt
+same-safe s t d (store.Number at w x) e h = (omega (arith, e, h .0), h .1)
+same-safe s t d (store.Data zeros at) e h = omega (arith, e, h)
+same-safe s t d (store.Bits at n) e h = (omega (arith, e, h .0), h .1)
+same-safe s t d (store.Fill at n b) e h = omega (arith, e, h)
+
+pub second-part : (s d : List ℕ) (a b : Store) → StoreSafe s d a → StoreSafe (storeOf s d a) d b → Narrow (length s) b
+    → StoreSafe s d b × Narrow (length s) b
+second-part s d a b f h n = (same-safe s (storeOf s d a) d b (length-store s d a f) h, n)
 
 pub both-stored :
     (s s₁ s₂ d : List ℕ) (a b : Store) → s₁ ≡ storeOf s d a → s₂ ≡ storeOf s₁ d b → s₂ ≡ storeOf (storeOf s d a) d b

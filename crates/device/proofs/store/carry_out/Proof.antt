@@ -1,7 +1,7 @@
 -- `device::store::carry_out` meets its contract.
 -- Assumes nothing.
 use borrow.Author.Needs.{needs}
-use Rattle.device.proofs.due.Runs.{second-safe, second-narrow, both-stored, both-parts}
+use Rattle.device.proofs.due.Runs.{second-safe, both-stored}
 use Rattle.device.proofs.store.carry_out.Statement.{statement}
 use Rattle.device.proofs.store.carry_out.Tie as tie
 
@@ -9,8 +9,7 @@ pub carry-out-spec : {M : Type 1} → statement M
 carry-out-spec =
     tie.close
     (tie.spec
-    (λ c κs. search needs) (λ c κs. search needs)
-    (λ c κs. search (second-safe, second-narrow))
+    (λ c κs. search needs)
     (λ c κs. search second-safe)
     (λ c. search needs)
-    (λ c. search (both-stored, both-parts)))
+    (λ c. search both-stored))
