@@ -1,7 +1,7 @@
 -- Bytes written one run after the other, from the first.
 -- Assumes nothing.
 use Prim.Native.Nat.{ℕ, zero, suc, _+_, _*_, _-_, _/_, _%_, _≤_, _<_}
-use mathlib.Core.Path.{_≡_, sym, ap, subst, _∙_}
+use mathlib.Core.Path.{_≡_, refl, sym, ap, subst, _∙_}
 use mathlib.Core.List.{List, [], _∷_}
 use native.Mathlib.Omega.{arith}
 use lib.Dec.{eqb}
@@ -76,15 +76,25 @@ module _ (s : List ℕ) (o : Octets s) where
   pub type-at : (p y : ℕ) (e : Property) → y ≡ typeOf e → e .writable ≡ eqb (numAt s p 1 / 128) 1 → e .typ ≡ numAt s p 1 % 128 → y ≡ numAt s p 1
   type-at p y e h a b = h ∙ top-bit (numAt s p 1) (e .typ) (e .writable) (omega (arith, num-one s p, o p)) a b
 
--- one run more, and one number
-pub step-by : (P : List ℕ → Type 0) (Q : List ℕ → Type 0) (t t₁ t₂ : List ℕ) (a b c d : ℕ)
-    → Restores P t t₁ a b → b ≡ c → ((s : List ℕ) → Octets s → P s → Q s) → Restores Q t₁ t₂ c d → Restores P t t₂ a d
-step-by P Q t t₁ t₂ a b c d r e f g =
-    record { restored = λ s o p h. g .restored s o (f s o p) (subst (λ (n : ℕ). SameFront t₁ s n) e (r .restored s o p h)) }
+-- WRITTEN SO FAR: of a sheet t, which became t′ and is as long, what P says from a to b
+pub record Along (P : List ℕ → Type 0) (t t′ : List ℕ) (a b : ℕ) : Type 0 where
+  pub done : Restores P t t′ a b
+  pub long : length t′ ≡ length t
 
-pub step : (P : List ℕ → Type 0) (t t₁ t₂ : List ℕ) (a b c w x : ℕ)
-    → Restores P t t₁ a b → b ≡ c → ((s : List ℕ) → Octets s → P s → x ≡ numAt s c w) → Restores (IsAt c w x) t₁ t₂ c (c + w) → Restores P t t₂ a (c + w)
-step P t t₁ t₂ a b c w x r e f g = step-by P (IsAt c w x) t t₁ t₂ a b c (c + w) r e (λ s o p. record { is = f s o p }) g
+pub begun : (P : List ℕ → Type 0) (t : List ℕ) (a : ℕ) → Along P t t a a
+begun P t a = record { done = record { restored = λ s o p h. h }; long = refl }
+
+-- one run more, and one number
+module _ {P : List ℕ → Type 0} {t t₁ t₂ : List ℕ} {a b c : ℕ} (r : Along P t t₁ a b) (e : b ≡ c) where
+  pub on-by : {Q : List ℕ → Type 0} {d : ℕ} → ((s : List ℕ) → Octets s → P s → Q s) → Restores Q t₁ t₂ c d → length t₂ ≡ length t₁ → Along P t t₂ a d
+  on-by f g l =
+      record {
+        done = record { restored = λ s o p h. g .restored s o (f s o p) (subst (λ (n : ℕ). SameFront t₁ s n) e (r .done .restored s o p h)) };
+        long = l ∙ r .long;
+      }
+
+  pub on : {w x : ℕ} → ((s : List ℕ) → Octets s → P s → x ≡ numAt s c w) → Restores (IsAt c w x) t₁ t₂ c (c + w) → length t₂ ≡ length t₁ → Along P t t₂ a (c + w)
+  on f g l = on-by (λ s o p. record { is = f s o p }) g l
 
 -- a number of some bytes
 pub runs-from : (ds s : List ℕ) (at k : ℕ) → ((j : ℕ) → j < length ds → getD ds j 0 ≡ getD s (at + (k + j)) 0) → Runs ds s at k

@@ -28,11 +28,7 @@ fn bodies(sheet: &[u8], from: usize) -> [u8; 16384]
     ensures { λ r. ⌜ (length r ≡ 16384) × ((p : ℕ) → from ≤ p → p < length (now (sheet .entry)) → getD r p 0 ≡ getD (now (sheet .entry)) p 0) ⌝ }
 {
     let mut bodies = blank();
-    let mut at = from;
-    while at < sheet.len() {
-        bodies[at] = sheet[at];
-        at += 1;
-    }
+    octets::splice(&mut bodies, from, &sheet[from..]);
     bodies
 }
 
