@@ -8,10 +8,7 @@ use Rattle.pdu.specs.Read.{readPdu, dataOf, dataAt}
 use Rattle.pdu.specs.Write.{encoded}
 use Rattle.pdu.specs.declared.Pdu.{Pdu}
 use Rattle.pdu.specs.declared.Parsed.the-variants.{Is}
-use Rattle.device.specs.Carry.{turnOf, closes, Filled}
-use Rattle.device.specs.Sessions.{sessionFor, turnedOf}
-use Rattle.device.specs.declared.Sessions.{Sessions}
-use Rattle.device.specs.declared.Done.{Done}
+use Rattle.device.specs.Carry.{Filled}
 use Rattle.parts.specs.Again.{Restores, Whole}
 use Rattle.plain_services.specs.declared.Sent.{Sent}
 use Rattle.plain_services.specs.declared.Sent.the-variants.{Nothing, This}
@@ -32,11 +29,8 @@ abbrev pub Sendable : ℕ → Sent → List ℕ → Type 0
 Sendable n Nothing b = Unit {0}
 Sendable n (This p) b = (16 ≤ n) × (dataAt p + length b ≤ 16)
 
--- A REPLY CARRIED OUT: the parts written to the sheet unless it was refused or ignored, the PDU to the buffer, and the sessions
--- afterwards
-pub record Carried (q : Sessions) (mode c : ℕ) (r : Reply) (s o : List ℕ) (x : Done) (s′ o′ : List ℕ) : Type 0 where
-  pub outcome : x .outcome ≡ r .outcome
+-- A REPLY CARRIED OUT: the parts written to the sheet unless it was refused or ignored, and the PDU to the buffer, n bytes of it
+pub record Carried (r : Reply) (s o : List ℕ) (n : ℕ) (s′ o′ : List ℕ) : Type 0 where
   pub kept : 2 ≤ r .outcome → s′ ≡ s
   pub sheet : r .outcome ≤ 1 → Restores (Whole (r .parts)) s s′ 0 (r .parts .length)
-  pub answer : Filled (sentBytes (r .sent) (take (r .length) (r .bytes))) (x .count) o o′
-  pub sessions : x .sessions ≡ turnedOf q mode c (closes (r .turn)) (turnOf (sessionFor q mode c) (r .turn))
+  pub answer : Filled (sentBytes (r .sent) (take (r .length) (r .bytes))) n o o′

@@ -107,9 +107,10 @@ request-spec =
     (reads-next _ _ (met .session-met .result) (start .args .mode) (start .args .apdu .now) _ (one .refused-first .ensures) (go1 .if1 .left) _ _
     (found-as _ _ _ (found .service-of .ensures) (coded .code .ensures)) _ (rules-as _ _ (taken .take-apart .ensures)) _ (two .refused-next .ensures) (go2 .if2 .left)) _
     (taken .take-apart .ensures) _ (served .serve .ensures))
-    (λ c. search needs) (λ c. search needs)
+    (λ c κs. search needs) (λ c. search needs) (λ c. search needs)
     (λ c.
-    let carried = c .before .before .before .before in
+    let after = c .before .before .before .before in
+    let carried = after .before in
     let served = carried .before .before .before in
     let acts = served .before in
     let given = acts .before in
@@ -133,4 +134,4 @@ request-spec =
     (pdu .parsed .given .1) _ (given .data-of .ensures) _ (acts .acting-level .ensures)
     (reads-next _ _ (met .session-met .result) (start .args .mode) (start .args .apdu .now) _ (one .refused-first .ensures) (go1 .if1 .left) _ _
     (found-as _ _ _ (found .service-of .ensures) (coded .code .ensures)) _ (rules-as _ _ (taken .take-apart .ensures)) _ (two .refused-next .ensures) (go2 .if2 .left)) _
-    (taken .take-apart .ensures) _ (served .serve .ensures) _ _ _ (carried .carry-out .ensures)))
+    (taken .take-apart .ensures) _ (served .serve .ensures) _ _ _ _ (carried .carry-out .ensures) (c .sessions-after .ensures)))
