@@ -62,12 +62,6 @@ module _ (P : List ℕ → Type 0) where
 pub restores-to : (P : List ℕ → Type 0) (t t′ : List ℕ) (a b c : ℕ) → Restores P t t′ a b → b ≡ c → Restores P t t′ a c
 restores-to P t t′ a b c f e = subst (λ (m : ℕ). Restores P t t′ a m) e f
 
--- one more of n
-pub restores-more : (P : ℕ → List ℕ → Type 0) (n i : ℕ) (t₀ t t′ : List ℕ) (a b c d : ℕ)
-    → i < n → Restores (Each n P) t₀ t a b → Restores (P i) t t′ b c → d ≡ c → Restores (Each n P) t₀ t′ a d
-restores-more P n i t₀ t t′ a b c d k f g e =
-    record { restored = λ s o p h. subst (λ (m : ℕ). SameFront t′ s m) (sym e) (g .restored s o (p .each i k) (f .restored s o p h)) }
-
 -- bytes of two fields
 module _ (s : List ℕ) (o : Octets s) where
   pub levels-at : (p r w l : ℕ) → l ≡ levelsOf r w → r ≡ numAt s p 1 / 16 → w ≡ numAt s p 1 % 16 → l ≡ numAt s p 1
@@ -95,6 +89,25 @@ module _ {P : List ℕ → Type 0} {t t₁ t₂ : List ℕ} {a b c : ℕ} (r : A
 
   pub on : {w x : ℕ} → ((s : List ℕ) → Octets s → P s → x ≡ numAt s c w) → Restores (IsAt c w x) t₁ t₂ c (c + w) → length t₂ ≡ length t₁ → Along P t t₂ a (c + w)
   on f g l = on-by (λ s o p. record { is = f s o p }) g l
+
+-- THE WALK THAT WRITES n ENTRIES, of any kind, of w bytes each: the first i are written
+pub record Writing (P : ℕ → List ℕ → Type 0) (n w at : ℕ) (t₀ t : List ℕ) (i : ℕ) : Type 0 where
+  pub most : i ≤ n
+  pub along : Along (Each n P) t₀ t at (at + w * i)
+
+module _ {P : ℕ → List ℕ → Type 0} {n w at : ℕ} {t₀ : List ℕ} where
+  pub none-written : Writing P n w at t₀ t₀ 0
+  none-written = record { most = omega arith; along = subst (λ (m : ℕ). Along (Each n P) t₀ t₀ at m) (omega arith) (begun (Each n P) t₀ at) }
+
+  module _ {t : List ℕ} {i : ℕ} (r : Writing P n w at t₀ t i) where
+    pub one-written : {t′ : List ℕ} {c : ℕ} → i < n → Restores (P i) t t′ (at + w * i) c → length t′ ≡ length t → c ≡ at + w * (i + 1) → Writing P n w at t₀ t′ (i + 1)
+    one-written {t′} l g m e =
+        record { most = omega arith; along = subst (λ (x : ℕ). Along (Each n P) t₀ t′ at x) e (on-by (r .along) refl (λ s o p. p .each i l) g m) }
+
+    pub all-written : n ≤ i → Restores (Each n P) t₀ t at (at + w * n)
+    all-written h =
+        let e : i ≡ n = omega (arith, r .most) in
+        subst (λ (m : ℕ). Restores (Each n P) t₀ t at (at + w * m)) e (r .along .done)
 
 -- a number of some bytes
 pub runs-from : (ds s : List ℕ) (at k : ℕ) → ((j : ℕ) → j < length ds → getD ds j 0 ≡ getD s (at + (k + j)) 0) → Runs ds s at k
