@@ -16,6 +16,7 @@ use Rattle.octets.specs.Octets.{Octets}
 use Rattle.parts.specs.declared.Property.{Property}
 use Rattle.parts.specs.declared.Counts.{Counts}
 use Rattle.parts.specs.declared.Parts.{Parts}
+use Rattle.parts.specs.declared.Starts.{Starts}
 use Rattle.parts.specs.Records.{noRegion, noProperty, noGroup}
 use Rattle.parts.proofs.Bits.{top-bit}
 use Rattle.parts.specs.Again.{typeOf, levelsOf, WholeRegion, WholeProperty, WholeGroup, SameFront, Restores, Each, IsAt, WholeBodies, WholeHead, WholeEntries, Whole, second, third, fourth, end}
@@ -47,9 +48,6 @@ same-run t s ds at l r h =
         ∙ ap (λ (n : ℕ). getD s n 0) (omega arith)
 
 module _ (P : List ℕ → Type 0) where
-  pub restores-none : (t : List ℕ) (a b : ℕ) → a ≡ b → Restores P t t a b
-  restores-none t a b e = record { restored = λ s o p h. subst (λ (n : ℕ). SameFront t s n) e h }
-
   pub restores-run : (t t′ ds : List ℕ) (at b : ℕ) → ((s : List ℕ) → Octets s → P s → Runs ds s at 0) → at + length ds ≤ length t → t′ ≡ splice t at ds → b ≡ at + length ds → Restores P t t′ at b
   restores-run t t′ ds at b f l e eb =
       record {
@@ -141,17 +139,21 @@ bodies-written t t′ b d from n h l m ed e =
     (omega (arith, k)) e (omega (arith, k))
 
 -- the entries, and the whole
-pub entries-written : (t₃ t₄ t₅ t₆ t₇ : List ℕ) (u : Parts)
+pub entries-written : (t₃ t₄ t₅ t₆ t₇ : List ℕ) (u : Parts) (r : Starts)
+    → (r .properties ≡ second (u .counts)) × (r .groups ≡ third (u .counts)) × (r .users ≡ fourth (u .counts)) × (r .bodies ≡ end (u .counts))
     → Restores (Each (u .counts .regions) (λ i s. WholeRegion (getD (u .regions) i noRegion) (32 + 8 * i) s)) t₃ t₄ 32 (second (u .counts))
-    → Restores (Each (u .counts .properties) (λ i s. WholeProperty (getD (u .properties) i noProperty) (second (u .counts) + 12 * i) s)) t₄ t₅ (second (u .counts)) (third (u .counts))
-    → Restores (Each (u .counts .groups) (λ i s. WholeGroup (getD (u .groups) i noGroup) (third (u .counts) + 8 * i) s)) t₅ t₆ (third (u .counts)) (fourth (u .counts))
-    → Restores (Each (u .counts .users) (λ i s. WholeRegion (getD (u .users) i noRegion) (fourth (u .counts) + 8 * i) s)) t₆ t₇ (fourth (u .counts)) (end (u .counts))
+    → Restores (Each (u .counts .properties) (λ i s. WholeProperty (getD (u .properties) i noProperty) (r .properties + 12 * i) s)) t₄ t₅ (r .properties) (r .properties + 12 * u .counts .properties)
+    → Restores (Each (u .counts .groups) (λ i s. WholeGroup (getD (u .groups) i noGroup) (r .groups + 8 * i) s)) t₅ t₆ (r .groups) (r .groups + 8 * u .counts .groups)
+    → Restores (Each (u .counts .users) (λ i s. WholeRegion (getD (u .users) i noRegion) (r .users + 8 * i) s)) t₆ t₇ (r .users) (r .users + 8 * u .counts .users)
     → Restores (WholeEntries u) t₃ t₇ 32 (end (u .counts))
-entries-written t₃ t₄ t₅ t₆ t₇ u d e f g =
+entries-written t₃ t₄ t₅ t₆ t₇ u r q d e f g =
+    let e′ = rw (q .0) at e in
+    let f′ = rw (q .1) at f in
+    let g′ = rw (q .2) at g in
     record {
       restored =
           λ s o w k.
-          g .restored s o (w .users) (f .restored s o (w .groups) (e .restored s o (w .properties) (d .restored s o (w .regions) k)));
+          g′ .restored s o (w .users) (f′ .restored s o (w .groups) (e′ .restored s o (w .properties) (d .restored s o (w .regions) k)));
     }
 
 pub whole-written : (t₀ t₁ t₂ t₃ : List ℕ) (u : Parts) → Restores (WholeHead (u .head) (u .counts) (u .length)) t₀ t₁ 0 32

@@ -30,7 +30,8 @@ returns c =
     let a = start2 w2 .args in
     let r1 = on (begun (WholeGroup (a .e) (a .at)) _ _) refl (λ s o h. h .is .address) (w1 .write-number .ensures) (w1 .write-number .kept .0) in
     let r2 = on r1 (omega arith) (λ s o h. h .is .code) (w2 .write-number2 .ensures) (w2 .write-number2 .kept .0) in
-    let r3 = on r2 (omega arith) (λ s o h. omega (arith, bits .before .before .bit .ensures .0, bits .before .bit2 .ensures .0, bits .bit3 .ensures .0, h .flags)) (w3 .write-number3 .ensures) (w3 .write-number3 .kept .0) in
+    let r3 = on r2 (omega arith) (λ s o h. omega (arith, bits .before .before .bit .ensures .0, bits .before .bit2 .ensures .0, bits .bit3 .ensures .0, h .flags))
+    (w3 .write-number3 .ensures) (w3 .write-number3 .kept .0) in
     let r4 = on r3 (omega arith) (λ s o h. h .is .offset) (w4 .write-number4 .ensures) (w4 .write-number4 .kept .0) in
     let r5 = on r4 (omega arith) (λ s o h. sym (h .zeros)) (w5 .write-number5 .ensures) (w5 .write-number5 .kept .0) in
     restores-to _ _ _ _ _ _ (r5 .done) (omega arith)

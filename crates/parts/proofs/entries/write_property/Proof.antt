@@ -11,8 +11,21 @@ use Rattle.parts.proofs.Runs.{Along, begun, on, restores-to, levels-at,
 use Rattle.parts.proofs.entries.write_property.Statement.{statement}
 use Rattle.parts.proofs.entries.write_property.Tie as tie
 
+abbrev start2 : tie.After-write-number2 → tie.Start
+start2 c = c .before .before .before .before .before .before .before .before .before
+
 abbrev start4 : tie.After-write-number4 → tie.Start
-start4 c = c .before .before .before .before .before .before .before .before .before .before .before .before .before .before .before .before .before .before .before
+start4 c = start2 (c .before .before .before .before .before .before .before .before .before .before)
+
+abbrev at4 : tie.After-write-number6 → tie.After-write-number4
+at4 c = c .before .before .before .before .before .before .before .before .before .before
+
+-- no place in the entry is beyond what a number holds
+near : (a : tie.Start) → a .args .at + 12 < 18446744073709551616
+near a = omega (arith, a .pre, a .good)
+
+long2 : (c : tie.After-write-number2) → start2 c .args .at + 12 ≤ length (c .write-number2 .last .0)
+long2 c = omega (arith, start2 c .pre, c .before .before .before .before .before .write-number .kept, c .write-number2 .kept)
 
 four : (c : tie.After-write-number4) → let a = start4 c .args in Along (WholeProperty (a .e) (a .at)) (a .sheet .now) (c .write-number4 .last .0) (a .at) (a .at + 3 + 1)
 four c =
@@ -28,10 +41,6 @@ four c =
 long4 : (c : tie.After-write-number4) → start4 c .args .at + 12 ≤ length (c .write-number4 .last .0)
 long4 c = omega (arith, four c .long, start4 c .pre)
 
--- so that no place in it is beyond what a number holds
-near4 : (c : tie.After-write-number4) → start4 c .args .at + 12 < 18446744073709551616
-near4 c = omega (arith, start4 c .pre, start4 c .good)
-
 returns : tie.Need-returns
 returns c =
     let w9 = c .before .before in
@@ -39,8 +48,7 @@ returns c =
     let w7 = w8 .before .before .before .before .before in
     let w6 = w7 .before .before .before .before .before in
     let w5 = w6 .before .before .before .before .before in
-    let w4 = w5 .before .before .before .before .before in
-    let r5 = on (four w4) (omega arith) (λ s o h. h .is .maximum) (w5 .write-number5 .ensures) (w5 .write-number5 .kept .0) in
+    let r5 = on (four (at4 w6)) (omega arith) (λ s o h. h .is .maximum) (w5 .write-number5 .ensures) (w5 .write-number5 .kept .0) in
     let r6 = on r5 (omega arith) (λ s o h. h .is .count) (w6 .write-number6 .ensures) (w6 .write-number6 .kept .0) in
     let r7 = on r6 (omega arith) (λ s o h. h .is .offset) (w7 .write-number7 .ensures) (w7 .write-number7 .kept .0) in
     let r8 = on r7 (omega arith) (λ s o h. levels-at s o _ _ _ _ (w8 .before .levels-byte .ensures) (h .is .read) (h .is .write)) (w8 .write-number8 .ensures) (w8 .write-number8 .kept .0) in
@@ -52,27 +60,27 @@ write-property-spec =
     tie.close
     (tie.spec
     (λ c. search needs) (λ c κs. search needs)
-    (λ c. omega (arith, c .before .before .before .write-number .kept, c .before .before .before .before .before .before .before .pre))
+    (λ c. omega (arith, near (c .before .before .before .before .before .before .before)))
     (λ c. search needs) (λ c κs. search needs)
-    (λ c. omega (arith, c .before .before .before .write-number2 .kept, c .before .before .before .before .before .before .before .before .write-number .kept, c .before .before .before .before .before .before .before .before .before .before .before .before .pre))
+    (λ c. omega (arith, near (start2 (c .before .before .before))))
     (λ c κs. search needs) (λ c. search needs)
-    (λ c κs. (omega (arith, c .before .before .before .before .write-number2 .kept, c .before .before .before .before .before .before .before .before .before .write-number .kept, c .before .before .before .before .before .before .before .before .before .before .before .before .before .pre), omega arith))
-    (λ c. omega (arith, c .before .before .before .before .before .before .before .before .before .before .before .before .before .write-number .kept, c .before .before .before .before .before .before .before .before .before .before .before .before .before .before .before .before .before .pre))
+    (λ c κs. (omega (arith, long2 (c .before .before .before .before)), omega arith))
+    (λ c. omega (arith, near (start2 (c .before .before .before .before .before .before .before .before))))
     (λ c. search needs)
-    (λ c κs. (omega (arith, c .before .before .before .before .before .before .before .before .before .before .before .before .before .before .write-number .kept, c .before .before .before .before .before .before .before .before .before .before .before .before .before .before .before .before .before .before .pre), omega arith))
-    (λ c. omega (arith, near4 (c .before .before .before)))
+    (λ c κs. (omega (arith, long2 (c .before .before .before .before .before .before .before .before .before)), omega arith))
+    (λ c. omega (arith, near (start4 (c .before .before .before))))
     (λ c. search needs)
     (λ c κs. (omega (arith, long4 (c .before .before .before .before)), omega arith))
-    (λ c. omega (arith, near4 (c .before .before .before .before .before .before .before .before)))
+    (λ c. omega (arith, near (start4 (c .before .before .before .before .before .before .before .before))))
     (λ c. search needs)
     (λ c κs. (omega (arith, long4 (c .before .before .before .before .before .before .before .before .before)), omega arith))
-    (λ c. omega (arith, near4 (c .before .before .before .before .before .before .before .before .before .before .before .before .before)))
+    (λ c. omega (arith, near (start4 (at4 (c .before .before .before)))))
     (λ c. search needs)
-    (λ c κs. (omega (arith, long4 (c .before .before .before .before .before .before .before .before .before .before .before .before .before .before)), omega arith))
-    (λ c. omega (arith, near4 (c .before .before .before .before .before .before .before .before .before .before .before .before .before .before .before .before .before .before)))
+    (λ c κs. (omega (arith, long4 (at4 (c .before .before .before .before))), omega arith))
+    (λ c. omega (arith, near (start4 (at4 (c .before .before .before .before .before .before .before .before)))))
     (λ c κs. search needs) (λ c. search needs)
-    (λ c κs. (omega (arith, long4 (c .before .before .before .before .before .before .before .before .before .before .before .before .before .before .before .before .before .before .before)), omega arith))
-    (λ c. omega (arith, near4 (c .before .before .before .before .before .before .before .before .before .before .before .before .before .before .before .before .before .before .before .before .before .before .before)))
-    (λ c κs. (omega (arith, long4 (c .before .before .before .before .before .before .before .before .before .before .before .before .before .before .before .before .before .before .before .before .before .before .before)), omega arith))
-    (λ c. omega (arith, four (c .before .before .before .before .before .before .before .before .before .before .before .before .before .before .before .before .before .before .before .before .before .before .before .before .before .before) .long))
+    (λ c κs. (omega (arith, long4 (at4 (c .before .before .before .before .before .before .before .before .before))), omega arith))
+    (λ c. omega (arith, near (start4 (at4 (c .before .before .before .before .before .before .before .before .before .before .before .before .before)))))
+    (λ c κs. (omega (arith, long4 (at4 (c .before .before .before .before .before .before .before .before .before .before .before .before .before))), omega arith))
+    (λ c. omega (arith, four (at4 (c .before .before .before .before .before .before .before .before .before .before .before .before .before .before .before .before)) .long))
     returns)

@@ -38,8 +38,11 @@ five c =
 long5 : (c : tie.After-write-number5) → 32 ≤ length (c .write-number5 .last .0)
 long5 c = omega (arith, five c .long, start5 c .pre)
 
+abbrev from8 : tie.After-write-number8 → tie.After-write-number5
+from8 c = c .before .before .before .before .before .before .before .before .before .before .before .before .before
+
 abbrev at5 : tie.After-write-number10 → tie.After-write-number5
-at5 c = c .before .before .before .before .before .before .before .before .before .before .before .before .before .before .before .before .before .before .before .before .before .before
+at5 c = from8 (c .before .before .before .before .before .before .before .before .before)
 
 ten : (c : tie.After-write-number10) → So (start5 (at5 c)) (c .write-number10 .last .0) 18
 ten c =
@@ -57,12 +60,15 @@ ten c =
 long10 : (c : tie.After-write-number10) → 32 ≤ length (c .write-number10 .last .0)
 long10 c = omega (arith, ten c .long, start5 (at5 c) .pre)
 
+abbrev at10 : tie.After-write-number12 → tie.After-write-number10
+at10 c = c .before .before .before .before .before .before .before .before .before .before .before .before .before
+
 returns : tie.Need-returns
 returns c =
     let w13 = c .before .before in
     let w12 = w13 .before .before .before .before in
     let w11 = w12 .before .before .before .before .before in
-    let r10 = ten (w11 .before .before .before .before) in
+    let r10 = ten (at10 w13) in
     let r11 = on-by r10 (omega arith) (λ s o h. h .keys) (w11 .write-keys .ensures) (w11 .write-keys .kept .0) in
     let r12 = on r11 (omega arith) (λ s o h. h .rules) (w12 .write-number11 .ensures) (w12 .write-number11 .kept .0) in
     let r13 = on r12 (omega arith) (λ s o h. h .zero) (w13 .write-number12 .ensures) (w13 .write-number12 .kept .0) in
@@ -79,12 +85,12 @@ write-head-spec =
     (λ c κs. (omega (arith, long5 (c .before .before .before .before .before .before .before .before)), omega arith))
     (λ c. let bits = bits5 (c .before .before .before .before .before .before .before .before .before .before .before .before) in omega (arith, bits .before .bit .ensures .1, bits .bit2 .ensures .1))
     (λ c κs. (omega (arith, long5 (c .before .before .before .before .before .before .before .before .before .before .before .before)), omega arith))
-    (λ c κs. (omega (arith, long5 (c .before .before .before .before .before .before .before .before .before .before .before .before .before .before .before .before)), omega arith))
+    (λ c κs. (omega (arith, long5 (from8 (c .before .before .before))), omega arith))
     (λ c. search needs)
-    (λ c κs. (omega (arith, long5 (c .before .before .before .before .before .before .before .before .before .before .before .before .before .before .before .before .before .before .before .before .before)), omega arith))
+    (λ c κs. (omega (arith, long5 (from8 (c .before .before .before .before .before .before .before .before))), omega arith))
     (λ c κs. omega (arith, long10 (c .before .before .before)))
     (λ c. search needs)
     (λ c κs. (omega (arith, long10 (c .before .before .before .before .before .before .before .before)), omega arith))
     (λ c κs. (omega (arith, long10 (c .before .before .before .before .before .before .before .before .before .before .before .before)), omega arith))
-    (λ c. omega (arith, ten (c .before .before .before .before .before .before .before .before .before .before .before .before .before .before .before) .long))
+    (λ c. omega (arith, ten (at10 (c .before .before)) .long))
     returns)
