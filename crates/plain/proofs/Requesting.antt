@@ -39,7 +39,7 @@ use Rattle.parts.proofs.Back.{roomy, written-again}
 use Rattle.plain_services.specs.declared.Sent.{Sent}
 use Rattle.plain_services.specs.declared.Reply.{Reply}
 use Rattle.plain_services.specs.Steps.{Held, Agrees, Serves, sentOf, dataFor, left}
-use Rattle.plain.specs.Carrying.{ReadAs, sentBytes, Sendable, Carried}
+use Rattle.plain.specs.Carrying.{ReadAs, sentBytes, Sendable, Ready, Carried}
 use Rattle.plain.proofs.Stored.{safe, left-bytes, left-accepted, left-long}
 
 -- what is sent is what the first engine answers, and fits the buffer
@@ -130,7 +130,7 @@ module _ (q : Sessions) (mode c group : ℕ) (a s o : List ℕ) (session : Sessi
         is : Reading a p
         is = reading a p reads
 
-        pub carry-needs : Roomy (r .parts) (length s) × Sendable (length o) (r .sent) (take (r .length) (r .bytes)) × (r .length ≤ 14) × (length (r .bytes) ≡ 14)
+        pub carry-needs : Ready r (length s) (length o)
         carry-needs = (
           subst (λ (n : ℕ). Roomy (r .parts) n) (left-long s ok level group a p is)
               (roomy after (left-accepted s ok level group a p is) (r .parts) (agrees .sheet)),

@@ -9,7 +9,7 @@ use Rattle.pdu.specs.Write.{encoded}
 use Rattle.pdu.specs.declared.Pdu.{Pdu}
 use Rattle.pdu.specs.declared.Parsed.the-variants.{Is}
 use Rattle.device.specs.Carry.{Filled}
-use Rattle.parts.specs.Again.{Restores, Whole}
+use Rattle.parts.specs.Again.{Restores, Whole, Roomy}
 use Rattle.plain_services.specs.declared.Sent.{Sent}
 use Rattle.plain_services.specs.declared.Sent.the-variants.{Nothing, This}
 use Rattle.plain_services.specs.declared.Reply.{Reply}
@@ -28,6 +28,10 @@ sentBytes (This p) b = encoded p b
 abbrev pub Sendable : ℕ → Sent → List ℕ → Type 0
 Sendable n Nothing b = Unit {0}
 Sendable n (This p) b = (16 ≤ n) × (dataAt p + length b ≤ 16)
+
+-- a reply that a sheet of n bytes and a buffer of m take
+abbrev pub Ready : Reply → ℕ → ℕ → Type 0
+Ready r n m = Roomy (r .parts) n × Sendable m (r .sent) (take (r .length) (r .bytes)) × (r .length ≤ 14) × (length (r .bytes) ≡ 14)
 
 -- A REPLY CARRIED OUT: the parts written to the sheet unless it was refused or ignored, and the PDU to the buffer, n bytes of it
 pub record Carried (r : Reply) (s o : List ℕ) (n : ℕ) (s′ o′ : List ℕ) : Type 0 where

@@ -5,8 +5,7 @@ ghost use mathlib.Core.Path.{_≡_};
 ghost use Prim.Native.Nat.{_≤_};
 ghost use lib.ListN.{length, take};
 ghost use Rattle.device.specs.Carry.{Filled};
-ghost use Rattle.parts.specs.Again.{Roomy};
-ghost use Rattle.plain.specs.Carrying.{Sendable, sentBytes, Carried};
+ghost use Rattle.plain.specs.Carrying.{Sendable, sentBytes, Ready, Carried};
 
 // The PDU with so many bytes of data, at the front of the buffer: how many bytes there are.
 fn send(answer: &mut [u8], sent: Sent, bytes: [u8; 14], n: usize) -> usize
@@ -20,7 +19,7 @@ fn send(answer: &mut [u8], sent: Sent, bytes: [u8; 14], n: usize) -> usize
 }
 
 pub fn carry_out(reply: Reply, sheet: &mut [u8], answer: &mut [u8]) -> usize
-    requires { ⌜ Roomy (reply .parts) (length (now sheet)) × Sendable (length (now answer)) (reply .sent) (take (reply .length) (reply .bytes)) × (reply .length ≤ 14) × (length (reply .bytes) ≡ 14) ⌝ }
+    requires { ⌜ Ready reply (length (now sheet)) (length (now answer)) ⌝ }
     ensures { λ n. ⌜ Carried reply (now (sheet .entry)) (now (answer .entry)) n (now (sheet .exit)) (now (answer .exit)) ⌝ }
 {
     let sent = reply.sent;
