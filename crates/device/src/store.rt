@@ -85,7 +85,8 @@ fn part(s: &[u8], run: Store, d: &[u8]) -> Run
 
 // Where at most two runs stand that are to be stored.
 pub fn changes(s: &[u8], k: Decision, d: &[u8]) -> Changed
-    requires { ⌜ (StoreSafe (now s) (now d) (k .first)) × (StoreSafe (storeOf (now s) (now d) (k .first)) (now d) (k .second)) × (Narrow (length (now s)) (k .first)) × (Narrow (length (now s)) (k .second)) ⌝ }
+    requires { ⌜ (StoreSafe (now s) (now d) (k .first)) × (StoreSafe (storeOf (now s) (now d) (k .first)) (now d) (k .second))
+        × (Narrow (length (now s)) (k .first)) × (Narrow (length (now s)) (k .second)) ⌝ }
     ensures { λ r. ⌜ r ≡ changesOf (now (d .entry)) k ⌝ }
 {
     let one = k.first;

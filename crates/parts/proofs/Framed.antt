@@ -13,60 +13,21 @@ use lib.Seq.{getD-set-same, getD-set-other}
 use Rattle.octets.specs.Bytes.{numAt, bytesOf}
 use Rattle.octets.specs.Splice.{splice}
 use Rattle.octets.specs.Octets.{Octets}
-use Rattle.octets.proofs.Numbers.{num-one, num-same, length-bytes}
+use Rattle.octets.proofs.Numbers.{num-one, length-bytes}
 use Rattle.octets.proofs.Splices.{length-splice, splice-below, splice-above, splice-num, splice-num-outside}
 use Rattle.sheet.specs.Kind.{regions, properties, groups, users}
 use Rattle.sheet.specs.Layout.{_of_}
 use Rattle.sheet.specs.Head as head
 use Rattle.sheet.specs.Entries.{count, base}
-use Rattle.parts.specs.declared.Region.{Region}
-use Rattle.parts.specs.declared.Property.{Property}
-use Rattle.parts.specs.declared.Group.{Group}
 use Rattle.parts.specs.declared.Head.{Head}
 use Rattle.parts.specs.declared.Parts.{Parts}
 use Rattle.parts.specs.Records.{IsRegion, IsProperty, IsGroup, IsHead, Taken, noRegion, noProperty, noGroup}
 use Rattle.parts.specs.With.{withHead, withKey, withAddress, cleared}
+use Rattle.parts.proofs.Changed.{region-same, group-same, property-kept}
 
 module _ (s s′ : List ℕ) (f : (p : ℕ) → 32 ≤ p → getD s′ p 0 ≡ getD s p 0) where
-  kept : (at w : ℕ) → 32 ≤ at → numAt s at w ≡ numAt s′ at w
-  kept at w h = sym (num-same s′ s at at w (λ j l. f (at + j) (omega arith)))
-
-  module _ (at : ℕ) (h : 32 ≤ at) where
-    region-kept : (e : Region) → IsRegion e s at → IsRegion e s′ at
-    region-kept e i =
-        record {
-          address = i .address ∙ kept at 2 h;
-          long = i .long ∙ kept (at + 2) 2 (omega arith);
-          offset = i .offset ∙ kept (at + 4) 2 (omega arith);
-          read = i .read ∙ ap (λ (x : ℕ). x / 16) (kept (at + 6) 1 (omega arith));
-          write = i .write ∙ ap (λ (x : ℕ). x % 16) (kept (at + 6) 1 (omega arith));
-        }
-
-    property-kept : (e : Property) → IsProperty e s at → IsProperty e s′ at
-    property-kept e i =
-        record {
-          object = i .object ∙ kept at 1 h;
-          id = i .id ∙ kept (at + 1) 1 (omega arith);
-          writable = i .writable ∙ ap (λ (x : ℕ). eqb (x / 128) 1) (kept (at + 2) 1 (omega arith));
-          typ = i .typ ∙ ap (λ (x : ℕ). x % 128) (kept (at + 2) 1 (omega arith));
-          size = i .size ∙ kept (at + 3) 1 (omega arith);
-          maximum = i .maximum ∙ kept (at + 4) 2 (omega arith);
-          count = i .count ∙ kept (at + 6) 2 (omega arith);
-          offset = i .offset ∙ kept (at + 8) 2 (omega arith);
-          read = i .read ∙ ap (λ (x : ℕ). x / 16) (kept (at + 10) 1 (omega arith));
-          write = i .write ∙ ap (λ (x : ℕ). x % 16) (kept (at + 10) 1 (omega arith));
-        }
-
-    group-kept : (e : Group) → IsGroup e s at → IsGroup e s′ at
-    group-kept e i =
-        record {
-          address = i .address ∙ kept at 2 h;
-          code = i .code ∙ kept (at + 2) 1 (omega arith);
-          read = i .read ∙ ap (λ (x : ℕ). eqb (x % 2) 1) (kept (at + 3) 1 (omega arith));
-          write = i .write ∙ ap (λ (x : ℕ). eqb (x / 2 % 2) 1) (kept (at + 3) 1 (omega arith));
-          response = i .response ∙ ap (λ (x : ℕ). eqb (x / 4 % 2) 1) (kept (at + 3) 1 (omega arith));
-          offset = i .offset ∙ kept (at + 4) 2 (omega arith);
-        }
+  above : (at : ℕ) → 32 ≤ at → (k j : ℕ) → j < k → getD s′ (at + j) 0 ≡ getD s (at + j) 0
+  above at h k j l = f (at + j) (omega arith)
 
   module _ (long : length s′ ≡ length s) (low : (p : ℕ) → p < 6 → getD s′ p 0 ≡ getD s p 0) (mid : getD s′ 15 0 ≡ getD s 15 0) where
     byte-kept : (p : ℕ) → p < 6 → numAt s p 1 ≡ numAt s′ p 1
@@ -98,21 +59,21 @@ module _ (s s′ : List ℕ) (f : (p : ℕ) → 32 ≤ p → getD s′ p 0 ≡ g
                 fits = omega (arith, z .fits, long);
                 short = omega (arith, z .short, long);
               };
-          regions = λ i k. region-kept (32 + 8 * i) (omega arith) _ (t .regions i (omega (arith, r)));
+          regions = λ i k. region-same s s′ (32 + 8 * i) (above (32 + 8 * i) (omega arith) 8) _ (t .regions i (omega (arith, r)));
           properties =
               λ i k.
               let m : base s properties + 12 * i ≡ base s′ properties + 12 * i = omega (arith, r) in
-              property-kept (base s′ properties + 12 * i) (omega arith) _
+              property-kept s s′ (base s′ properties + 12 * i) (above (base s′ properties + 12 * i) (omega arith) 12) _
               (subst (λ (n : ℕ). IsProperty (getD (u .properties) i noProperty) s n) m (t .properties i (omega (arith, p))));
           groups =
               λ i k.
               let m : base s groups + 8 * i ≡ base s′ groups + 8 * i = omega (arith, r, p) in
-              group-kept (base s′ groups + 8 * i) (omega arith) _
+              group-same s s′ (base s′ groups + 8 * i) (above (base s′ groups + 8 * i) (omega arith) 8) _
               (subst (λ (n : ℕ). IsGroup (getD (u .groups) i noGroup) s n) m (t .groups i (omega (arith, g))));
           users =
               λ i k.
               let m : base s users + 8 * i ≡ base s′ users + 8 * i = omega (arith, r, p, g) in
-              region-kept (base s′ users + 8 * i) (omega arith) _
+              region-same s s′ (base s′ users + 8 * i) (above (base s′ users + 8 * i) (omega arith) 8) _
               (subst (λ (n : ℕ). IsRegion (getD (u .users) i noRegion) s n) m (t .users i (omega (arith, users-kept))));
           bodies = λ q a b. t .bodies q (omega (arith, r, p, g, users-kept)) (omega (arith, long)) ∙ sym (f q (omega arith));
           long = t .long ∙ sym long;

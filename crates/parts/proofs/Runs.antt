@@ -1,7 +1,7 @@
 -- Bytes written one run after the other, from the first.
 -- Assumes nothing.
 use Prim.Native.Nat.{ℕ, zero, suc, _+_, _*_, _-_, _/_, _%_, _≤_, _<_}
-use mathlib.Core.Path.{_≡_, sym, ap, subst, _∙_}
+use mathlib.Core.Path.{_≡_, refl, sym, ap, subst, _∙_}
 use mathlib.Core.List.{List, [], _∷_}
 use native.Mathlib.Omega.{arith}
 use lib.Dec.{eqb}
@@ -16,6 +16,7 @@ use Rattle.octets.specs.Octets.{Octets}
 use Rattle.parts.specs.declared.Property.{Property}
 use Rattle.parts.specs.declared.Counts.{Counts}
 use Rattle.parts.specs.declared.Parts.{Parts}
+use Rattle.parts.specs.declared.Starts.{Starts}
 use Rattle.parts.specs.Records.{noRegion, noProperty, noGroup}
 use Rattle.parts.proofs.Bits.{top-bit}
 use Rattle.parts.specs.Again.{typeOf, levelsOf, WholeRegion, WholeProperty, WholeGroup, SameFront, Restores, Each, IsAt, WholeBodies, WholeHead, WholeEntries, Whole, second, third, fourth, end}
@@ -47,9 +48,6 @@ same-run t s ds at l r h =
         ∙ ap (λ (n : ℕ). getD s n 0) (omega arith)
 
 module _ (P : List ℕ → Type 0) where
-  pub restores-none : (t : List ℕ) (a b : ℕ) → a ≡ b → Restores P t t a b
-  restores-none t a b e = record { restored = λ s o p h. subst (λ (n : ℕ). SameFront t s n) e h }
-
   pub restores-run : (t t′ ds : List ℕ) (at b : ℕ) → ((s : List ℕ) → Octets s → P s → Runs ds s at 0) → at + length ds ≤ length t → t′ ≡ splice t at ds → b ≡ at + length ds → Restores P t t′ at b
   restores-run t t′ ds at b f l e eb =
       record {
@@ -62,12 +60,6 @@ module _ (P : List ℕ → Type 0) where
 pub restores-to : (P : List ℕ → Type 0) (t t′ : List ℕ) (a b c : ℕ) → Restores P t t′ a b → b ≡ c → Restores P t t′ a c
 restores-to P t t′ a b c f e = subst (λ (m : ℕ). Restores P t t′ a m) e f
 
--- one more of n
-pub restores-more : (P : ℕ → List ℕ → Type 0) (n i : ℕ) (t₀ t t′ : List ℕ) (a b c d : ℕ)
-    → i < n → Restores (Each n P) t₀ t a b → Restores (P i) t t′ b c → d ≡ c → Restores (Each n P) t₀ t′ a d
-restores-more P n i t₀ t t′ a b c d k f g e =
-    record { restored = λ s o p h. subst (λ (m : ℕ). SameFront t′ s m) (sym e) (g .restored s o (p .each i k) (f .restored s o p h)) }
-
 -- bytes of two fields
 module _ (s : List ℕ) (o : Octets s) where
   pub levels-at : (p r w l : ℕ) → l ≡ levelsOf r w → r ≡ numAt s p 1 / 16 → w ≡ numAt s p 1 % 16 → l ≡ numAt s p 1
@@ -76,15 +68,44 @@ module _ (s : List ℕ) (o : Octets s) where
   pub type-at : (p y : ℕ) (e : Property) → y ≡ typeOf e → e .writable ≡ eqb (numAt s p 1 / 128) 1 → e .typ ≡ numAt s p 1 % 128 → y ≡ numAt s p 1
   type-at p y e h a b = h ∙ top-bit (numAt s p 1) (e .typ) (e .writable) (omega (arith, num-one s p, o p)) a b
 
--- one run more, and one number
-pub step-by : (P : List ℕ → Type 0) (Q : List ℕ → Type 0) (t t₁ t₂ : List ℕ) (a b c d : ℕ)
-    → Restores P t t₁ a b → b ≡ c → ((s : List ℕ) → Octets s → P s → Q s) → Restores Q t₁ t₂ c d → Restores P t t₂ a d
-step-by P Q t t₁ t₂ a b c d r e f g =
-    record { restored = λ s o p h. g .restored s o (f s o p) (subst (λ (n : ℕ). SameFront t₁ s n) e (r .restored s o p h)) }
+-- WRITTEN SO FAR: of a sheet t, which became t′ and is as long, what P says from a to b
+pub record Along (P : List ℕ → Type 0) (t t′ : List ℕ) (a b : ℕ) : Type 0 where
+  pub done : Restores P t t′ a b
+  pub long : length t′ ≡ length t
 
-pub step : (P : List ℕ → Type 0) (t t₁ t₂ : List ℕ) (a b c w x : ℕ)
-    → Restores P t t₁ a b → b ≡ c → ((s : List ℕ) → Octets s → P s → x ≡ numAt s c w) → Restores (IsAt c w x) t₁ t₂ c (c + w) → Restores P t t₂ a (c + w)
-step P t t₁ t₂ a b c w x r e f g = step-by P (IsAt c w x) t t₁ t₂ a b c (c + w) r e (λ s o p. record { is = f s o p }) g
+pub begun : (P : List ℕ → Type 0) (t : List ℕ) (a : ℕ) → Along P t t a a
+begun P t a = record { done = record { restored = λ s o p h. h }; long = refl }
+
+-- one run more, and one number
+module _ {P : List ℕ → Type 0} {t t₁ t₂ : List ℕ} {a b c : ℕ} (r : Along P t t₁ a b) (e : b ≡ c) where
+  pub on-by : {Q : List ℕ → Type 0} {d : ℕ} → ((s : List ℕ) → Octets s → P s → Q s) → Restores Q t₁ t₂ c d → length t₂ ≡ length t₁ → Along P t t₂ a d
+  on-by f g l =
+      record {
+        done = record { restored = λ s o p h. g .restored s o (f s o p) (subst (λ (n : ℕ). SameFront t₁ s n) e (r .done .restored s o p h)) };
+        long = l ∙ r .long;
+      }
+
+  pub on : {w x : ℕ} → ((s : List ℕ) → Octets s → P s → x ≡ numAt s c w) → Restores (IsAt c w x) t₁ t₂ c (c + w) → length t₂ ≡ length t₁ → Along P t t₂ a (c + w)
+  on f g l = on-by (λ s o p. record { is = f s o p }) g l
+
+-- THE WALK THAT WRITES n ENTRIES, of any kind, of w bytes each: the first i are written
+pub record Writing (P : ℕ → List ℕ → Type 0) (n w at : ℕ) (t₀ t : List ℕ) (i : ℕ) : Type 0 where
+  pub most : i ≤ n
+  pub along : Along (Each n P) t₀ t at (at + w * i)
+
+module _ {P : ℕ → List ℕ → Type 0} {n w at : ℕ} {t₀ : List ℕ} where
+  pub none-written : Writing P n w at t₀ t₀ 0
+  none-written = record { most = omega arith; along = subst (λ (m : ℕ). Along (Each n P) t₀ t₀ at m) (omega arith) (begun (Each n P) t₀ at) }
+
+  module _ {t : List ℕ} {i : ℕ} (r : Writing P n w at t₀ t i) where
+    pub one-written : {t′ : List ℕ} {c : ℕ} → i < n → Restores (P i) t t′ (at + w * i) c → length t′ ≡ length t → c ≡ at + w * (i + 1) → Writing P n w at t₀ t′ (i + 1)
+    one-written {t′} l g m e =
+        record { most = omega arith; along = subst (λ (x : ℕ). Along (Each n P) t₀ t′ at x) e (on-by (r .along) refl (λ s o p. p .each i l) g m) }
+
+    pub all-written : n ≤ i → Restores (Each n P) t₀ t at (at + w * n)
+    all-written h =
+        let e : i ≡ n = omega (arith, r .most) in
+        subst (λ (m : ℕ). Restores (Each n P) t₀ t at (at + w * m)) e (r .along .done)
 
 -- a number of some bytes
 pub runs-from : (ds s : List ℕ) (at k : ℕ) → ((j : ℕ) → j < length ds → getD ds j 0 ≡ getD s (at + (k + j)) 0) → Runs ds s at k
@@ -118,17 +139,21 @@ bodies-written t t′ b d from n h l m ed e =
     (omega (arith, k)) e (omega (arith, k))
 
 -- the entries, and the whole
-pub entries-written : (t₃ t₄ t₅ t₆ t₇ : List ℕ) (u : Parts)
+pub entries-written : (t₃ t₄ t₅ t₆ t₇ : List ℕ) (u : Parts) (r : Starts)
+    → (r .properties ≡ second (u .counts)) × (r .groups ≡ third (u .counts)) × (r .users ≡ fourth (u .counts)) × (r .bodies ≡ end (u .counts))
     → Restores (Each (u .counts .regions) (λ i s. WholeRegion (getD (u .regions) i noRegion) (32 + 8 * i) s)) t₃ t₄ 32 (second (u .counts))
-    → Restores (Each (u .counts .properties) (λ i s. WholeProperty (getD (u .properties) i noProperty) (second (u .counts) + 12 * i) s)) t₄ t₅ (second (u .counts)) (third (u .counts))
-    → Restores (Each (u .counts .groups) (λ i s. WholeGroup (getD (u .groups) i noGroup) (third (u .counts) + 8 * i) s)) t₅ t₆ (third (u .counts)) (fourth (u .counts))
-    → Restores (Each (u .counts .users) (λ i s. WholeRegion (getD (u .users) i noRegion) (fourth (u .counts) + 8 * i) s)) t₆ t₇ (fourth (u .counts)) (end (u .counts))
+    → Restores (Each (u .counts .properties) (λ i s. WholeProperty (getD (u .properties) i noProperty) (r .properties + 12 * i) s)) t₄ t₅ (r .properties) (r .properties + 12 * u .counts .properties)
+    → Restores (Each (u .counts .groups) (λ i s. WholeGroup (getD (u .groups) i noGroup) (r .groups + 8 * i) s)) t₅ t₆ (r .groups) (r .groups + 8 * u .counts .groups)
+    → Restores (Each (u .counts .users) (λ i s. WholeRegion (getD (u .users) i noRegion) (r .users + 8 * i) s)) t₆ t₇ (r .users) (r .users + 8 * u .counts .users)
     → Restores (WholeEntries u) t₃ t₇ 32 (end (u .counts))
-entries-written t₃ t₄ t₅ t₆ t₇ u d e f g =
+entries-written t₃ t₄ t₅ t₆ t₇ u r q d e f g =
+    let e′ = rw (q .0) at e in
+    let f′ = rw (q .1) at f in
+    let g′ = rw (q .2) at g in
     record {
       restored =
           λ s o w k.
-          g .restored s o (w .users) (f .restored s o (w .groups) (e .restored s o (w .properties) (d .restored s o (w .regions) k)));
+          g′ .restored s o (w .users) (f′ .restored s o (w .groups) (e′ .restored s o (w .properties) (d .restored s o (w .regions) k)));
     }
 
 pub whole-written : (t₀ t₁ t₂ t₃ : List ℕ) (u : Parts) → Restores (WholeHead (u .head) (u .counts) (u .length)) t₀ t₁ 0 32

@@ -52,6 +52,14 @@ pub struct Counts {
     pub users: usize,
 }
 
+// Where the properties begin, the group objects, the regions of user memory, and the bodies. The regions of memory begin at 32.
+pub struct Starts {
+    pub properties: usize,
+    pub groups: usize,
+    pub users: usize,
+    pub bodies: usize,
+}
+
 // The serial number, the mask version, whether programming mode and verify are on, the individual address, the keys of levels 0,
 // 1 and 2, and the number of the rules.
 pub struct Head {

@@ -20,10 +20,8 @@ pub fn regions_from(sheet: &[u8], at: usize, n: usize) -> [Region; 16]
 {
     let none = region(&[0u8; 8], 0);
     let mut regions = [none; 16];
-    let mut i = 0;
-    while i < n {
+    for i in 0..n {
         regions[i] = region(sheet, at + 8 * i);
-        i += 1;
     }
     regions
 }
@@ -32,10 +30,8 @@ pub fn write_regions(sheet: &mut [u8], at: usize, regions: [Region; 16], n: usiz
     requires { ⌜ (n ≤ 16) × (at + 8 * n ≤ length (now sheet)) ⌝ }
     ensures { λ _. ⌜ Restores (Each n (λ i s. WholeRegion (getD regions i noRegion) (at + 8 * i) s)) (now (sheet .entry)) (now (sheet .exit)) at (at + 8 * n) ⌝ }
 {
-    let mut i = 0;
-    while i < n {
+    for i in 0..n {
         write_region(sheet, at + 8 * i, regions[i]);
-        i += 1;
     }
 }
 
@@ -45,10 +41,8 @@ pub fn properties_from(sheet: &[u8], at: usize, n: usize) -> [Property; 64]
 {
     let none = property(&[0u8; 12], 0);
     let mut properties = [none; 64];
-    let mut i = 0;
-    while i < n {
+    for i in 0..n {
         properties[i] = property(sheet, at + 12 * i);
-        i += 1;
     }
     properties
 }
@@ -57,10 +51,8 @@ pub fn write_properties(sheet: &mut [u8], at: usize, properties: [Property; 64],
     requires { ⌜ (n ≤ 64) × (at + 12 * n ≤ length (now sheet)) ⌝ }
     ensures { λ _. ⌜ Restores (Each n (λ i s. WholeProperty (getD properties i noProperty) (at + 12 * i) s)) (now (sheet .entry)) (now (sheet .exit)) at (at + 12 * n) ⌝ }
 {
-    let mut i = 0;
-    while i < n {
+    for i in 0..n {
         write_property(sheet, at + 12 * i, properties[i]);
-        i += 1;
     }
 }
 
@@ -70,10 +62,8 @@ pub fn groups_from(sheet: &[u8], at: usize, n: usize) -> [Group; 64]
 {
     let none = group(&[0u8; 8], 0);
     let mut groups = [none; 64];
-    let mut i = 0;
-    while i < n {
+    for i in 0..n {
         groups[i] = group(sheet, at + 8 * i);
-        i += 1;
     }
     groups
 }
@@ -82,9 +72,7 @@ pub fn write_groups(sheet: &mut [u8], at: usize, groups: [Group; 64], n: usize)
     requires { ⌜ (n ≤ 64) × (at + 8 * n ≤ length (now sheet)) ⌝ }
     ensures { λ _. ⌜ Restores (Each n (λ i s. WholeGroup (getD groups i noGroup) (at + 8 * i) s)) (now (sheet .entry)) (now (sheet .exit)) at (at + 8 * n) ⌝ }
 {
-    let mut i = 0;
-    while i < n {
+    for i in 0..n {
         write_group(sheet, at + 8 * i, groups[i]);
-        i += 1;
     }
 }

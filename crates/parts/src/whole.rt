@@ -1,5 +1,7 @@
 // THE SHEET TAKEN APART, AND WRITTEN AGAIN from its first byte to its last.
+use crate::Counts;
 use crate::Parts;
+use crate::Starts;
 use crate::front::counts;
 use crate::front::head;
 use crate::front::write_head;
@@ -14,7 +16,7 @@ ghost use Prim.Native.Nat.{ℕ, _≤_, _<_};
 ghost use lib.ListN.{length, getD};
 ghost use Rattle.sheet.specs.Rules.{Accepted};
 ghost use Rattle.parts.specs.Records.{Taken};
-ghost use Rattle.parts.specs.Again.{Restores, Whole, Roomy};
+ghost use Rattle.parts.specs.Again.{Restores, Whole, Roomy, second, third, fourth, end};
 
 fn blank() -> [u8; 16384]
     ensures { λ r. ⌜ length r ≡ 16384 ⌝ }
@@ -28,12 +30,24 @@ fn bodies(sheet: &[u8], from: usize) -> [u8; 16384]
     ensures { λ r. ⌜ (length r ≡ 16384) × ((p : ℕ) → from ≤ p → p < length (now (sheet .entry)) → getD r p 0 ≡ getD (now (sheet .entry)) p 0) ⌝ }
 {
     let mut bodies = blank();
-    let mut at = from;
-    while at < sheet.len() {
-        bodies[at] = sheet[at];
-        at += 1;
-    }
+    octets::splice(&mut bodies, from, &sheet[from..]);
     bodies
+}
+
+// Where what follows the head begins: entries of 8, 12, 8 and 8 bytes, each kind behind the other, then the bodies.
+fn starts_of(counts: Counts) -> Starts
+    requires { ⌜ (counts .regions ≤ 16) × (counts .properties ≤ 64) × (counts .groups ≤ 64) × (counts .users ≤ 16) ⌝ }
+    ensures { λ r. ⌜ (r .properties ≡ second counts) × (r .groups ≡ third counts) × (r .users ≡ fourth counts) × (r .bodies ≡ end counts) ⌝ }
+{
+    let properties = 32 + 8 * counts.regions;
+    let groups = properties + 12 * counts.properties;
+    let users = groups + 8 * counts.groups;
+    Starts {
+        properties,
+        groups,
+        users,
+        bodies: users + 8 * counts.users,
+    }
 }
 
 pub fn take_apart(sheet: &[u8]) -> Parts
@@ -42,15 +56,12 @@ pub fn take_apart(sheet: &[u8]) -> Parts
 {
     let head = head(sheet);
     let counts = counts(sheet);
-    let second = 32 + 8 * counts.regions;
-    let third = second + 12 * counts.properties;
-    let fourth = third + 8 * counts.groups;
-    let end = fourth + 8 * counts.users;
+    let starts = starts_of(counts);
     let regions = regions_from(sheet, 32, counts.regions);
-    let properties = properties_from(sheet, second, counts.properties);
-    let groups = groups_from(sheet, third, counts.groups);
-    let users = regions_from(sheet, fourth, counts.users);
-    let bodies = bodies(sheet, end);
+    let properties = properties_from(sheet, starts.properties, counts.properties);
+    let groups = groups_from(sheet, starts.groups, counts.groups);
+    let users = regions_from(sheet, starts.users, counts.users);
+    let bodies = bodies(sheet, starts.bodies);
     Parts {
         head,
         counts,
@@ -68,21 +79,19 @@ pub fn write_again(parts: Parts, sheet: &mut [u8])
     ensures { λ _. ⌜ Restores (Whole parts) (now (sheet .entry)) (now (sheet .exit)) 0 (parts .length) ⌝ }
 {
     let counts = parts.counts;
-    let second = 32 + 8 * counts.regions;
-    let third = second + 12 * counts.properties;
-    let fourth = third + 8 * counts.groups;
-    let end = fourth + 8 * counts.users;
+    let starts = starts_of(counts);
     let regions = parts.regions;
     let properties = parts.properties;
     let groups = parts.groups;
     let users = parts.users;
     let bodies = parts.bodies;
+    let end = starts.bodies;
     let length = parts.length;
     write_head(sheet, parts.head, counts, length);
     write_regions(sheet, 32, regions, counts.regions);
-    write_properties(sheet, second, properties, counts.properties);
-    write_groups(sheet, third, groups, counts.groups);
-    write_regions(sheet, fourth, users, counts.users);
+    write_properties(sheet, starts.properties, properties, counts.properties);
+    write_groups(sheet, starts.groups, groups, counts.groups);
+    write_regions(sheet, starts.users, users, counts.users);
     octets::splice(sheet, end, &bodies[end..length]);
 }
 

@@ -5,7 +5,7 @@ use mathlib.Core.Path.{_≡_, refl, sym, ap, subst, _∙_}
 use mathlib.Core.Bool.{Bool, true, false, cond, _&&_}
 use lib.Dec.{ltb, eqb}
 use borrow.Author.Tests.{eq-eqb, ne-eqb}
-use Rattle.pdu.specs.declared.Service.the-variants.{Restart, DeviceDescriptorRead}
+use Rattle.pdu.specs.declared.Service.the-variants.{Restart}
 use Rattle.judge.specs.declared.Reach.the-variants.{PointToPoint, Connected}
 use mathlib.Core.List.{List, [], _∷_}
 use native.Mathlib.Omega.{arith}
@@ -95,9 +95,29 @@ module _ {p : Pdu} {d : List ℕ} (x : ReadAs p d) where
 pub via-taken : (k j : Service) (n m : ℕ) (r : Bool) → k ≡ j → r ≡ takes (reachOf n j) m → r ≡ takes (reachOf n k) m
 via-taken k j n m r e h = h ∙ ap (λ (x : Service). takes (reachOf n x) m) (sym e)
 
-module _ (rules mode : ℕ) (r : Bool) where
-  pub restart-two : rules ≡ 1 → r ≡ takes (reachOf 1 DeviceDescriptorRead) mode → r ≡ takes (reachOf rules Restart) mode
-  restart-two e h = simp (eq-eqb rules 1 e) h
+-- the modes of a restart go by the rules: mode 3, or 2 under rules 1
+module _ (rules mode : ℕ) where
+  restart-by : (r b : Bool) → r ≡ b → ((x : Bool) → eqb rules 1 ≡ x → b ≡ takes (cond x PointToPoint Connected) mode) → r ≡ takes (reachOf rules Restart) mode
+  restart-by r b e f = e ∙ f (eqb rules 1) refl
 
-  pub restart-three : (rules ≡ 1 → ⊥) → r ≡ eqb mode 3 → r ≡ takes (reachOf rules Restart) mode
-  restart-three e h = simp (ne-eqb rules 1 e) h
+  pub restart-connected : mode ≡ 3 → eqb mode 3 ≡ takes (reachOf rules Restart) mode
+  restart-connected e = restart-by _ true (eq-eqb mode 3 e) go
+    where
+      go : (x : Bool) → eqb rules 1 ≡ x → true ≡ takes (cond x PointToPoint Connected) mode
+      go true h = rw e refl
+      go false h = rw e refl
+
+  module _ (a : mode ≡ 3 → ⊥) where
+    pub restart-without : mode ≡ 2 → eqb rules 1 ≡ takes (reachOf rules Restart) mode
+    restart-without e = restart-by _ (eqb rules 1) refl go
+      where
+        go : (x : Bool) → eqb rules 1 ≡ x → eqb rules 1 ≡ takes (cond x PointToPoint Connected) mode
+        go true h = h ∙ rw e refl
+        go false h = h ∙ sym (ne-eqb mode 3 a)
+
+    pub restart-never : (mode ≡ 2 → ⊥) → eqb mode 2 ≡ takes (reachOf rules Restart) mode
+    restart-never e = restart-by _ false (ne-eqb mode 2 e) go
+      where
+        go : (x : Bool) → eqb rules 1 ≡ x → false ≡ takes (cond x PointToPoint Connected) mode
+        go true h = sym (simp (ne-eqb mode 2 e, ne-eqb mode 3 a))
+        go false h = sym (ne-eqb mode 3 a)

@@ -25,6 +25,7 @@ use Rattle.judge.specs.Modes.{reachOf, reaches, takes}
 use Rattle.judge.specs.declared.Reach.{Reach}
 use Rattle.judge.specs.declared.Reach.the-variants.{Multicast, Broadcast, PointToPoint, Connected, Never}
 use Rattle.octets.proofs.Truths.{never}
+use Rattle.octets.proofs.Tests.{both, not-first, not-second}
 use Rattle.judge.specs.Judge.{isShut, readOf, reachedOf, foundOf, judgeOf}
 use Rattle.parts.specs.declared.Parts.{Parts}
 use Rattle.parts.specs.Records.{Taken}
@@ -150,14 +151,28 @@ module _ (room n l mode : ℕ) (shut : Bool) where
           unfolding firstOf
           due-6 c = simp (le-ltb room 16 h, fine, le-ltb l 2 a, b, lt-ltb 3 mode c)
 
-          module _ (c : mode ≤ 3) (y : Bool) (ey : y ≡ shut) where
-            pub due-7 : y ≡ true → 7 ≡ firstOf room n l mode shut
+          module _ (c : mode ≤ 3) where
+            pub due-7 : shut ≡ true → 7 ≡ firstOf room n l mode shut
             unfolding firstOf
-            due-7 d = simp (le-ltb room 16 h, fine, le-ltb l 2 a, b, le-ltb 3 mode c, sym ey ∙ d)
+            due-7 d = simp (le-ltb room 16 h, fine, le-ltb l 2 a, b, le-ltb 3 mode c, d)
 
-            pub due-none : y ≡ false → 0 ≡ firstOf room n l mode shut
+            pub due-none : shut ≡ false → 0 ≡ firstOf room n l mode shut
             unfolding firstOf
-            due-none d = simp (le-ltb room 16 h, fine, le-ltb l 2 a, b, le-ltb 3 mode c, sym ey ∙ d)
+            due-none d = simp (le-ltb room 16 h, fine, le-ltb l 2 a, b, le-ltb 3 mode c, d)
+
+-- mode 3, and the session is closed
+module _ (q : Session) (mode : ℕ) where
+  pub is-shut : mode ≡ 3 → not (q .opened) ≡ true → isShut q mode ≡ true
+  unfolding isShut
+  is-shut e h = both _ _ (eq-eqb mode 3 e) h
+
+  pub is-open : not (q .opened) ≡ false → isShut q mode ≡ false
+  unfolding isShut
+  is-open h = not-second (eqb mode 3) _ h
+
+  pub no-session : (mode ≡ 3 → ⊥) → isShut q mode ≡ false
+  unfolding isShut
+  no-session e = not-first _ _ (ne-eqb mode 3 e)
 
 module _ (f : Found) (rules mode : ℕ) where
   pub next-unknown : f ≡ Unknown → 8 ≡ nextOf f rules mode

@@ -39,7 +39,7 @@ use Rattle.parts.proofs.Back.{roomy, written-again}
 use Rattle.plain_services.specs.declared.Sent.{Sent}
 use Rattle.plain_services.specs.declared.Reply.{Reply}
 use Rattle.plain_services.specs.Steps.{Held, Agrees, Serves, sentOf, dataFor, left}
-use Rattle.plain.specs.Carrying.{ReadAs, sentBytes, Sendable, Carried}
+use Rattle.plain.specs.Carrying.{ReadAs, sentBytes, Sendable, Ready, Carried}
 use Rattle.plain.proofs.Stored.{safe, left-bytes, left-accepted, left-long}
 
 -- what is sent is what the first engine answers, and fits the buffer
@@ -130,7 +130,7 @@ module _ (q : Sessions) (mode c group : ℕ) (a s o : List ℕ) (session : Sessi
         is : Reading a p
         is = reading a p reads
 
-        pub carry-needs : Roomy (r .parts) (length s) × Sendable (length o) (r .sent) (take (r .length) (r .bytes)) × (r .length ≤ 14) × (length (r .bytes) ≡ 14)
+        pub carry-needs : Ready r (length s) (length o)
         carry-needs = (
           subst (λ (n : ℕ). Roomy (r .parts) n) (left-long s ok level group a p is)
               (roomy after (left-accepted s ok level group a p is) (r .parts) (agrees .sheet)),
@@ -153,26 +153,28 @@ module _ (q : Sessions) (mode c group : ℕ) (a s o : List ℕ) (session : Sessi
             (subst (λ (y : List ℕ). 2 ≤ judgeOf (length o) s session mode group a .outcome → left s y (judgeOf (length o) s session mode group a) ≡ s) data-is
             (λ h. untouched (length o) s session mode group a h .0))
 
-        stored : (x : Done) (s′ o′ : List ℕ) → Carried q mode c r s o x s′ o′ → Dec (1 < r .outcome) → s′ ≡ after
-        stored x s′ o′ w (yes h) = w .kept h ∙ sym (still (omega (arith, agrees .gives .outcome)))
-        stored x s′ o′ w (no h) =
+        stored : (n : ℕ) (s′ o′ : List ℕ) → Carried r s o n s′ o′ → Dec (1 < r .outcome) → s′ ≡ after
+        stored n s′ o′ w (yes h) = w .kept h ∙ sym (still (omega (arith, agrees .gives .outcome)))
+        stored n s′ o′ w (no h) =
             written-again after (left-accepted s ok level group a p is) (r .parts) (agrees .sheet) (left-bytes s ok level group a p is so ao) s s′
             (sym (left-long s ok level group a p is)) (w .sheet (omega arith))
 
-        pub served-called : (x : Done) (s′ o′ : List ℕ) → Carried q mode c r s o x s′ o′ → Called q mode c group a s o x s′ o′
-        served-called x s′ o′ w =
+        pub served-called :
+            (n : ℕ) (q′ : Sessions) (s′ o′ : List ℕ) → Carried r s o n s′ o′ → q′ ≡ turnedOf q mode c (closes (r .turn)) (turnOf met (r .turn)) →
+            Called q mode c group a s o (record { outcome = r .outcome; count = n; sessions = q′ }) s′ o′
+        served-called n q′ s′ o′ w e =
             let data-is : dataIn (readPdu a) a ≡ dataOf p a = ap (λ (y : Parsed). dataIn y a) reads in
             let gi = agrees .gives in
             let bytes : sentBytes (r .sent) (take (r .length) (r .bytes)) ≡ answerOf after (dataOf p a) (k .answer) =
             ap₂ sentBytes (gi .sent) (gi .bytes) ∙ sent-as after (dataOf p a) (k .answer) in
             record {
               did =
-                  subst (λ (y : Effect). Did y x o s′ o′) (ap (λ (y : List ℕ). effectBy y k) (sym data-is) ∙ judged k whole)
+                  subst (λ (y : Effect). Did y (record { outcome = r .outcome; count = n; sessions = q′ }) o s′ o′) (ap (λ (y : List ℕ). effectBy y k) (sym data-is) ∙ judged k whole)
                   (record {
-                    outcome = w .outcome ∙ gi .outcome;
+                    outcome = gi .outcome;
                     count = w .answer .count ∙ ap length bytes;
-                    sessions = w .sessions ∙ ap (λ (y : Turn). turnedOf q mode c (closes y) (turnOf met y)) (gi .turn);
-                    sheet = stored x s′ o′ w (native.Mathlib.Decide.decLt 1 (r .outcome));
+                    sessions = e ∙ ap (λ (y : Turn). turnedOf q mode c (closes y) (turnOf met y)) (gi .turn);
+                    sheet = stored n s′ o′ w (native.Mathlib.Decide.decLt 1 (r .outcome));
                     answer = w .answer .holds ∙ ap (splice o 0) bytes;
                   });
               sheetBytes = so;

@@ -8,11 +8,8 @@ use Rattle.pdu.specs.Read.{readPdu, dataOf, dataAt}
 use Rattle.pdu.specs.Write.{encoded}
 use Rattle.pdu.specs.declared.Pdu.{Pdu}
 use Rattle.pdu.specs.declared.Parsed.the-variants.{Is}
-use Rattle.device.specs.Carry.{turnOf, closes, Filled}
-use Rattle.device.specs.Sessions.{sessionFor, turnedOf}
-use Rattle.device.specs.declared.Sessions.{Sessions}
-use Rattle.device.specs.declared.Done.{Done}
-use Rattle.parts.specs.Again.{Restores, Whole}
+use Rattle.device.specs.Carry.{Filled}
+use Rattle.parts.specs.Again.{Restores, Whole, Roomy}
 use Rattle.plain_services.specs.declared.Sent.{Sent}
 use Rattle.plain_services.specs.declared.Sent.the-variants.{Nothing, This}
 use Rattle.plain_services.specs.declared.Reply.{Reply}
@@ -32,11 +29,12 @@ abbrev pub Sendable : ℕ → Sent → List ℕ → Type 0
 Sendable n Nothing b = Unit {0}
 Sendable n (This p) b = (16 ≤ n) × (dataAt p + length b ≤ 16)
 
--- A REPLY CARRIED OUT: the parts written to the sheet unless it was refused or ignored, the PDU to the buffer, and the sessions
--- afterwards
-pub record Carried (q : Sessions) (mode c : ℕ) (r : Reply) (s o : List ℕ) (x : Done) (s′ o′ : List ℕ) : Type 0 where
-  pub outcome : x .outcome ≡ r .outcome
+-- a reply that a sheet of n bytes and a buffer of m take
+abbrev pub Ready : Reply → ℕ → ℕ → Type 0
+Ready r n m = Roomy (r .parts) n × Sendable m (r .sent) (take (r .length) (r .bytes)) × (r .length ≤ 14) × (length (r .bytes) ≡ 14)
+
+-- A REPLY CARRIED OUT: the parts written to the sheet unless it was refused or ignored, and the PDU to the buffer, n bytes of it
+pub record Carried (r : Reply) (s o : List ℕ) (n : ℕ) (s′ o′ : List ℕ) : Type 0 where
   pub kept : 2 ≤ r .outcome → s′ ≡ s
   pub sheet : r .outcome ≤ 1 → Restores (Whole (r .parts)) s s′ 0 (r .parts .length)
-  pub answer : Filled (sentBytes (r .sent) (take (r .length) (r .bytes))) (x .count) o o′
-  pub sessions : x .sessions ≡ turnedOf q mode c (closes (r .turn)) (turnOf (sessionFor q mode c) (r .turn))
+  pub answer : Filled (sentBytes (r .sent) (take (r .length) (r .bytes))) n o o′

@@ -1,15 +1,11 @@
-// A reply carried out: the sheet written again, the answer sent, the sessions afterwards.
-use crate::sessions::sessions_after;
-use device::Done;
-use device::Sessions;
+// A reply carried out: the sheet written again, the answer sent.
 use plain_services::Reply;
 use plain_services::Sent;
 ghost use mathlib.Core.Path.{_≡_};
 ghost use Prim.Native.Nat.{_≤_};
 ghost use lib.ListN.{length, take};
 ghost use Rattle.device.specs.Carry.{Filled};
-ghost use Rattle.parts.specs.Again.{Roomy};
-ghost use Rattle.plain.specs.Carrying.{Sendable, sentBytes, Carried};
+ghost use Rattle.plain.specs.Carrying.{Sendable, sentBytes, Ready, Carried};
 
 // The PDU with so many bytes of data, at the front of the buffer: how many bytes there are.
 fn send(answer: &mut [u8], sent: Sent, bytes: [u8; 14], n: usize) -> usize
@@ -22,28 +18,15 @@ fn send(answer: &mut [u8], sent: Sent, bytes: [u8; 14], n: usize) -> usize
     }
 }
 
-pub fn carry_out(
-    sessions: Sessions,
-    mode: u8,
-    connection: u8,
-    reply: Reply,
-    sheet: &mut [u8],
-    answer: &mut [u8],
-) -> Done
-    requires { ⌜ Roomy (reply .parts) (length (now sheet)) × Sendable (length (now answer)) (reply .sent) (take (reply .length) (reply .bytes)) × (reply .length ≤ 14) × (length (reply .bytes) ≡ 14) ⌝ }
-    ensures { λ x. ⌜ Carried sessions mode connection reply (now (sheet .entry)) (now (answer .entry)) x (now (sheet .exit)) (now (answer .exit)) ⌝ }
+pub fn carry_out(reply: Reply, sheet: &mut [u8], answer: &mut [u8]) -> usize
+    requires { ⌜ Ready reply (length (now sheet)) (length (now answer)) ⌝ }
+    ensures { λ n. ⌜ Carried reply (now (sheet .entry)) (now (answer .entry)) n (now (sheet .exit)) (now (answer .exit)) ⌝ }
 {
     let sent = reply.sent;
     let bytes = reply.bytes;
-    let turn = reply.turn;
     // What is refused or ignored stores nothing: 2 and above.
     if reply.outcome <= 1 {
         parts::write_again(reply.parts, sheet);
     }
-    let count = send(answer, sent, bytes, reply.length);
-    Done {
-        outcome: reply.outcome,
-        count,
-        sessions: sessions_after(sessions, mode, connection, turn),
-    }
+    send(answer, sent, bytes, reply.length)
 }

@@ -58,5 +58,11 @@ pub fn request(
     let d = pdu::data_of(p, apdu);
     let level = order::acting_level(session, mode);
     let reply = serve::serve(u, level, group, d, p);
-    carry::carry_out(sessions, mode, connection, reply, sheet, answer)
+    let turn = reply.turn;
+    let count = carry::carry_out(reply, sheet, answer);
+    Done {
+        outcome: reply.outcome,
+        count,
+        sessions: sessions::sessions_after(sessions, mode, connection, turn),
+    }
 }

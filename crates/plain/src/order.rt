@@ -10,13 +10,6 @@ ghost use Rattle.judge.specs.Modes.{reachOf, takes};
 ghost use Rattle.judge.specs.Judge.{isShut};
 ghost use Rattle.plain.specs.Order.{firstOf, nextOf};
 
-// Mode 3, and the session is closed.
-fn is_shut(session: Session, mode: u8) -> bool
-    ensures { λ r. ⌜ r ≡ isShut session mode ⌝ }
-{
-    mode == 3 && !session.opened
-}
-
 // 3, 4 or 14, 5, 6 and 7, and 0 where none is due.
 pub fn refused_first(room: usize, sheet: &[u8], apdu: &[u8], mode: u8, session: Session) -> u8
     ensures { λ r. ⌜ r ≡ firstOf room (refusalOf (now (sheet .entry))) (length (now (apdu .entry))) mode (isShut session mode) ⌝ }
@@ -34,29 +27,14 @@ pub fn refused_first(room: usize, sheet: &[u8], apdu: &[u8], mode: u8, session: 
     if 3 < mode {
         return 6;
     }
-    if is_shut(session, mode) {
+    if mode == 3 && !session.opened {
         return 7;
     }
     0
 }
 
-fn is_2_or_3(mode: u8) -> bool
-    ensures { λ r. ⌜ r ≡ takes (reachOf 1 Service.DeviceDescriptorRead) mode ⌝ }
-{
-    mode == 2 || mode == 3
-}
-
-// A restart is taken on a connection, under rules 1 also without one.
-fn restart_taken(rules: u8, mode: u8) -> bool
-    ensures { λ r. ⌜ r ≡ takes (reachOf rules Service.Restart) mode ⌝ }
-{
-    if rules == 1 {
-        return is_2_or_3(mode);
-    }
-    mode == 3
-}
-
-// The mode takes the service: 0 multicast, 1 broadcast, 2 connectionless, 3 on a connection.
+// The mode takes the service: 0 multicast, 1 broadcast, 2 connectionless, 3 on a connection. A restart is taken connectionless
+// under rules 1.
 fn is_taken(service: Service, rules: u8, mode: u8) -> bool
     ensures { λ r. ⌜ r ≡ takes (reachOf rules service) mode ⌝ }
 {
@@ -68,16 +46,16 @@ fn is_taken(service: Service, rules: u8, mode: u8) -> bool
         Service::IndividualAddressRead => mode == 1,
         Service::SerialNumberRead => mode == 1,
         Service::SerialNumberWrite => mode == 1,
-        Service::DeviceDescriptorRead => is_2_or_3(mode),
-        Service::PropertyValueRead => is_2_or_3(mode),
-        Service::PropertyValueWrite => is_2_or_3(mode),
-        Service::PropertyDescriptionRead => is_2_or_3(mode),
+        Service::DeviceDescriptorRead => mode == 2 || mode == 3,
+        Service::PropertyValueRead => mode == 2 || mode == 3,
+        Service::PropertyValueWrite => mode == 2 || mode == 3,
+        Service::PropertyDescriptionRead => mode == 2 || mode == 3,
         Service::MemoryRead => mode == 3,
         Service::MemoryWrite => mode == 3,
         Service::MemoryBitWrite => mode == 3,
         Service::AuthorizeRequest => mode == 3,
         Service::KeyWrite => mode == 3,
-        Service::Restart => restart_taken(rules, mode),
+        Service::Restart => mode == 3 || mode == 2 && rules == 1,
         Service::IndividualAddressResponse => false,
         Service::SerialNumberResponse => false,
         Service::DeviceDescriptorResponse => false,

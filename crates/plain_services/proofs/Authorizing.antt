@@ -1,8 +1,11 @@
 -- Authorize and restart on parts are those of the first engine.
 -- Assumes nothing.
-use Prim.Native.Nat.{ℕ, _-_}
+use Prim.Native.Nat.{ℕ, zero, suc, _-_, _<_}
 use mathlib.Core.Path.{_≡_, refl, sym, ap, subst, _∙_}
+use mathlib.Core.Bool.{false}
 use mathlib.Core.List.{List, []}
+use native.Mathlib.Omega.{arith}
+use lib.Dec.{eqb}
 use lib.ListN.{getD}
 use borrow.Author.Tests.{eq-eqb, ne-eqb}
 use Rattle.octets.specs.Bytes.{bytesOf}
@@ -30,31 +33,25 @@ module _ (h : Head) (key : ℕ) where
   abbrev Is : ℕ → Type 0
   Is l = (s : List ℕ) → IsHead h s → l ≡ grantOf s key
 
-  pub level-0 : key ≡ getD (h .keys) 0 0 → Is 0
-  unfolding grantOf
-  level-0 a s i = simp (eq-eqb key (head.key 0 of s) (a ∙ i .key0))
+  module _ (s : List ℕ) (i : IsHead h s) where
+    other : (k : ℕ) → (key ≡ getD (h .keys) k 0 → ⊥) → getD (h .keys) k 0 ≡ head.key k of s → eqb key (head.key k of s) ≡ false
+    other k f e = ne-eqb key (head.key k of s) (λ q. f (q ∙ sym e))
 
-  pub level-1 : (key ≡ getD (h .keys) 0 0 → ⊥) → key ≡ getD (h .keys) 1 0 → Is 1
-  unfolding grantOf
-  level-1 a b s i = simp (ne-eqb key (head.key 0 of s) (λ e. a (e ∙ sym (i .key0))), eq-eqb key (head.key 1 of s) (b ∙ i .key1))
+    grant : (l : ℕ) → l < 3 → ((j : ℕ) → j < l → key ≡ getD (h .keys) j 0 → ⊥) → key ≡ getD (h .keys) l 0 → l ≡ grantOf s key
+    unfolding grantOf
+    grant zero k f e = simp (eq-eqb key (head.key 0 of s) (e ∙ i .key0))
+    grant (suc zero) k f e = simp (other 0 (f 0 (omega arith)) (i .key0), eq-eqb key (head.key 1 of s) (e ∙ i .key1))
+    grant (suc (suc zero)) k f e =
+        simp (other 0 (f 0 (omega arith)) (i .key0), other 1 (f 1 (omega arith)) (i .key1), eq-eqb key (head.key 2 of s) (e ∙ i .key2))
+    grant (suc (suc (suc l))) k f e = absurd (omega arith)
 
-  pub level-2 : (key ≡ getD (h .keys) 0 0 → ⊥) → (key ≡ getD (h .keys) 1 0 → ⊥) → key ≡ getD (h .keys) 2 0 → Is 2
-  unfolding grantOf
-  level-2 a b c s i =
-      simp (
-        ne-eqb key (head.key 0 of s) (λ e. a (e ∙ sym (i .key0))),
-        ne-eqb key (head.key 1 of s) (λ e. b (e ∙ sym (i .key1))),
-        eq-eqb key (head.key 2 of s) (c ∙ i .key2),
-      )
+  pub level-found : (l : ℕ) → l < 3 → ((j : ℕ) → j < l → key ≡ getD (h .keys) j 0 → ⊥) → key ≡ getD (h .keys) l 0 → Is l
+  level-found l k f e s i = grant s i l k f e
 
-  pub level-3 : (key ≡ getD (h .keys) 0 0 → ⊥) → (key ≡ getD (h .keys) 1 0 → ⊥) → (key ≡ getD (h .keys) 2 0 → ⊥) → Is 3
+  pub level-none : ((j : ℕ) → j < 3 → key ≡ getD (h .keys) j 0 → ⊥) → Is 3
   unfolding grantOf
-  level-3 a b c s i =
-      simp (
-        ne-eqb key (head.key 0 of s) (λ e. a (e ∙ sym (i .key0))),
-        ne-eqb key (head.key 1 of s) (λ e. b (e ∙ sym (i .key1))),
-        ne-eqb key (head.key 2 of s) (λ e. c (e ∙ sym (i .key2))),
-      )
+  level-none f s i =
+      simp (other s i 0 (f 0 (omega arith)) (i .key0), other s i 1 (f 1 (omega arith)) (i .key1), other s i 2 (f 2 (omega arith)) (i .key2))
 
 module _ (u : Parts) (r : Reply) where
   pub authorized :

@@ -1,7 +1,7 @@
 -- A straight search of the properties finds the one that the first engine finds.
 -- Assumes nothing.
 use Prim.Native.Nat.{ℕ, _+_, _*_, _<_}
-use mathlib.Core.Path.{_≡_, sym, ap, _∙_}
+use mathlib.Core.Path.{_≡_, sym, ap, subst, _∙_}
 use mathlib.Core.List.{List}
 use native.Mathlib.Omega.{arith}
 use mathlib.Core.Bool.{Bool, true, false, _&&_}
@@ -25,13 +25,13 @@ use Rattle.judge.specs.Properties.{propertyAt}
 use Rattle.parts.specs.declared.Parts.{Parts}
 use Rattle.parts.specs.Records.{Taken, noProperty}
 
--- one more that does not pass a test
-pub none-more : (t : ℕ → Bool) (i : ℕ) → ((j : ℕ) → j < i → t j ≡ false) → t i ≡ false → (j : ℕ) → j < i + 1 → t j ≡ false
-none-more t i f e j h = go (native.Mathlib.Decide.decLt j i)
+-- A STRAIGHT SEARCH: what holds of all so far holds of one more
+pub one-more : (P : ℕ → Type 0) (i : ℕ) → ((j : ℕ) → j < i → P j) → P i → (j : ℕ) → j < i + 1 → P j
+one-more P i f e j h = go (native.Mathlib.Decide.decLt j i)
   where
-    go : Dec (j < i) → t j ≡ false
+    go : Dec (j < i) → P j
     go (yes l) = f j l
-    go (no l) = let q : j ≡ i = omega arith in ap t q ∙ e
+    go (no l) = let q : i ≡ j = omega arith in subst P q e
 
 -- whether property i has that object and id
 abbrev pub named : Parts → ℕ → ℕ → ℕ → Bool

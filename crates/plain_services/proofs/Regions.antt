@@ -283,10 +283,6 @@ module _ (rs : List Region) (n : ℕ) (w : Access) (level most i a : ℕ) where
 pub via-response : (m j : Memory) (n a : ℕ) (r : Pdu) → m ≡ j → r ≡ responseOf j n a → r ≡ responseOf m n a
 via-response m j n a r e h = h ∙ ap (λ (x : Memory). responseOf x n a) (sym e)
 
--- a region begins at or below an address that it has
-pub below-address : (e : Region) (y : ℕ) → has e y ≡ true → e .address ≤ y
-below-address e y h = leb-true _ _ (and-is (leb (e .address) y) (ltb y (e .address + e .length)) .0 h .0)
-
 module _ (u : Parts) where
   pub device-here : (m : Memory) → m ≡ Device → ((s : List ℕ) → Taken s u → IsArea s m (u .regions) (u .counts .regions)) × (Held u → u .counts .regions ≤ 16)
   device-here m e = rw e (λ s t. device-area s u t, λ k. k .taken .counts .fewRegions)

@@ -24,12 +24,10 @@ fn find_group(parts: Parts, address: u16) -> usize
     ensures { λ r. ⌜ (r ≤ parts .counts .groups) × ((s : List ℕ) → Accepted s → Taken s parts → r ≡ indexOf s groups address) ⌝ }
 {
     let n = parts.counts.groups;
-    let mut i = 0;
-    while i < n {
+    for i in 0..n {
         if parts.groups[i].address == address {
             return i;
         }
-        i += 1;
     }
     n
 }

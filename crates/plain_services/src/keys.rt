@@ -19,14 +19,10 @@ fn level_with(head: Head, key: u32) -> u8
     ensures { λ r. ⌜ ((s : List ℕ) → IsHead head s → r ≡ grantOf s key) ⌝ }
 {
     let keys = head.keys;
-    if key == keys[0] {
-        return 0;
-    }
-    if key == keys[1] {
-        return 1;
-    }
-    if key == keys[2] {
-        return 2;
+    for level in 0..3 {
+        if key == keys[level] {
+            return level as u8;
+        }
     }
     3
 }
@@ -48,9 +44,7 @@ pub fn key_write(mut parts: Parts, level: u8, named: u8, key: u32) -> Reply
         return sending(parts, 11, Pdu::KeyResponse { level: 255 });
     }
     let mut head = parts.head;
-    let mut keys = head.keys;
-    keys[named as usize] = key;
-    head.keys = keys;
+    head.keys[named as usize] = key;
     parts.head = head;
     sending(parts, 0, Pdu::KeyResponse { level: named })
 }

@@ -92,18 +92,15 @@ pub fn memory_write(parts: Parts, memory: Memory, level: u8, n: u8, address: u16
 }
 
 // The bodies with n bytes from a place on changed to (old AND a) XOR x, the data being n AND bytes and n XOR bytes.
-fn with_bits(bodies: [u8; 16384], at: usize, n: u8, d: &[u8]) -> [u8; 16384]
+fn with_bits(mut bodies: [u8; 16384], at: usize, n: u8, d: &[u8]) -> [u8; 16384]
     requires { ⌜ (length bodies ≡ 16384) × (at + n ≤ 16384) × (length (now d) ≡ n + n) ⌝ }
     ensures { λ r. ⌜ r ≡ splice bodies at (build n (bitAt bodies at n (now (d .entry)))) ⌝ }
 {
-    let mut after = bodies;
     let many = n as usize;
-    let mut i = 0;
-    while i < many {
-        after[at + i] = (after[at + i] & d[i]) ^ d[many + i];
-        i += 1;
+    for i in 0..many {
+        bodies[at + i] = (bodies[at + i] & d[i]) ^ d[many + i];
     }
-    after
+    bodies
 }
 
 // A bit write of 1 to 5 bytes of memory.

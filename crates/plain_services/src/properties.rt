@@ -31,12 +31,10 @@ fn find(parts: Parts, object: u8, id: u8) -> usize
     ensures { λ r. ⌜ (r ≤ parts .counts .properties) × ((s : List ℕ) → Accepted s → Octets s → Taken s parts → r ≡ propertyAt s object id) ⌝ }
 {
     let n = parts.counts.properties;
-    let mut i = 0;
-    while i < n {
+    for i in 0..n {
         if parts.properties[i].object == object && parts.properties[i].id == id {
             return i;
         }
-        i += 1;
     }
     n
 }
@@ -169,12 +167,10 @@ fn index_within(properties: [Property; 64], i: usize, object: u8) -> usize
     ensures { λ r. ⌜ (r ≤ i) × (r ≡ rankIn properties object i) ⌝ }
 {
     let mut seen = 0;
-    let mut j = 0;
-    while j < i {
+    for j in 0..i {
         if properties[j].object == object {
             seen += 1;
         }
-        j += 1;
     }
     seen
 }
@@ -186,12 +182,10 @@ fn nth(parts: Parts, object: u8, index: u8) -> usize
 {
     let n = parts.counts.properties;
     let properties = parts.properties;
-    let mut i = 0;
-    while i < n {
+    for i in 0..n {
         if properties[i].object == object && index_within(properties, i, object) == index as usize {
             return i;
         }
-        i += 1;
     }
     n
 }

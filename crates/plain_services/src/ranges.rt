@@ -10,15 +10,7 @@ ghost use mathlib.Core.List.{List};
 ghost use Prim.Native.Nat.{ℕ, _≤_};
 ghost use Rattle.parts.specs.Records.{Taken};
 ghost use Rattle.plain_services.specs.Steps.{Held};
-ghost use Rattle.plain_services.specs.Memory.{has as hasOf, mayIn, standsFor, rangeFor, IsArea};
-
-// A region has that address.
-fn has(region: Region, address: usize) -> bool
-    ensures { λ r. ⌜ r ≡ hasOf region address ⌝ }
-{
-    let first = region.address as usize;
-    first <= address && address < first + region.length as usize
-}
+ghost use Rattle.plain_services.specs.Memory.{mayIn, standsFor, rangeFor, IsArea};
 
 // The level suffices.
 fn may(access: Access, level: u8, region: Region) -> bool
@@ -36,16 +28,15 @@ fn stands(area: Area, access: Access, level: u8, address: usize) -> Place
     requires { ⌜ (area .count ≤ 16) × (address ≤ 65790) ⌝ }
     ensures { λ r. ⌜ r ≡ standsFor (area .regions) (area .count) access level address ⌝ }
 {
-    let mut i = 0;
-    while i < area.count {
+    for i in 0..area.count {
         let region = area.regions[i];
-        if has(region, address) {
+        let first = region.address as usize;
+        if first <= address && address < first + region.length as usize {
             if !may(access, level, region) {
                 return Place::Denied;
             }
-            return Place::At(region.offset as usize + (address - region.address as usize));
+            return Place::At(region.offset as usize + (address - first));
         }
-        i += 1;
     }
     Place::Denied
 }
@@ -58,13 +49,10 @@ pub fn range(area: Area, access: Access, level: u8, most: u8, n: u8, address: u1
     if n < 1 || most < n {
         return Place::Denied;
     }
-    let many = n as usize;
-    let mut i = 0;
-    while i < many {
+    for i in 0..n as usize {
         let Place::At(_) = stands(area, access, level, address as usize + i) else {
             return Place::Denied;
         };
-        i += 1;
     }
     stands(area, access, level, address as usize)
 }
@@ -73,17 +61,16 @@ pub fn range(area: Area, access: Access, level: u8, most: u8, n: u8, address: u1
 pub fn area(parts: Parts, memory: Memory) -> Area
     ensures { λ r. ⌜ ((s : List ℕ) → Taken s parts → IsArea s memory (r .regions) (r .count)) × (Held parts → r .count ≤ 16) ⌝ }
 {
-    let counts = parts.counts;
-    let device = parts.regions;
-    let user = parts.users;
+    let regions = parts.regions;
+    let users = parts.users;
     match memory {
         Memory::Device => Area {
-            regions: device,
-            count: counts.regions,
+            regions,
+            count: parts.counts.regions,
         },
         Memory::User => Area {
-            regions: user,
-            count: counts.users,
+            regions: users,
+            count: parts.counts.users,
         },
     }
 }

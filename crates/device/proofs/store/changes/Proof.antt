@@ -10,5 +10,5 @@ changes-spec =
     tie.close
     (tie.spec
     (λ c κs. search needs)
-    (λ c κs. second-part (c .before .before .before .args .s .now) (c .before .before .before .args .d .now) (c .before .before .before .args .k .first) (c .before .before .before .args .k .second) (c .before .before .before .pre .0) (c .before .before .before .pre .1) (c .before .before .before .pre .3))
+    (λ c κs. let b = c .before .before .before in let a = b .args in second-part (a .s .now) (a .d .now) (a .k .first) (a .k .second) (b .pre .0) (b .pre .1) (b .pre .3))
     (λ c. search both-parts))

@@ -4,21 +4,19 @@ use borrow.Author.Needs.{needs}
 use native.Mathlib.Omega.{arith}
 use mathlib.Core.Path.{refl}
 use Rattle.parts.specs.Again.{WholeKeys}
-use Rattle.parts.proofs.Runs.{step, restores-none, restores-to}
+use Rattle.parts.proofs.Runs.{begun, on}
 use Rattle.parts.proofs.front.write_keys.Statement.{statement}
 use Rattle.parts.proofs.front.write_keys.Tie as tie
 
 returns : tie.Need-returns
 returns c =
-    let at-write-number3 = c .before .before in
-    let at-write-number2 = at-write-number3 .before .before .before .before in
-    let at-write-number = at-write-number2 .before .before .before .before in
-    let start = at-write-number .before .before .before in
-    let P = WholeKeys (start .args .t2) in
-    let r1 = step P _ _ _ _ _ _ _ _ (restores-none P _ _ _ refl) refl (λ s o h. h .key0) (at-write-number .write-number .ensures) in
-    let r2 = step P _ _ _ _ _ _ _ _ (r1) (omega arith) (λ s o h. h .key1) (at-write-number2 .write-number2 .ensures) in
-    let r3 = step P _ _ _ _ _ _ _ _ (r2) (omega arith) (λ s o h. h .key2) (at-write-number3 .write-number3 .ensures) in
-    restores-to _ _ _ _ _ _ r3 (omega arith)
+    let w3 = c .before .before in
+    let w2 = w3 .before .before .before .before in
+    let w1 = w2 .before .before .before .before in
+    let r1 = on (begun (WholeKeys (w1 .before .before .before .args .t2)) _ _) refl (λ s o h. h .key0) (w1 .write-number .ensures) (w1 .write-number .kept .0) in
+    let r2 = on r1 (omega arith) (λ s o h. h .key1) (w2 .write-number2 .ensures) (w2 .write-number2 .kept .0) in
+    let r3 = on r2 (omega arith) (λ s o h. h .key2) (w3 .write-number3 .ensures) (w3 .write-number3 .kept .0) in
+    r3 .done
 
 pub write-keys-spec : {M : Type 1} → statement M
 write-keys-spec =

@@ -1,7 +1,7 @@
 -- `plain::carry::carry_out` meets its contract.
 -- Assumes nothing.
 use Prim.Native.Nat.{ℕ}
-use mathlib.Core.Path.{refl, sym, ap, subst, _∙_}
+use mathlib.Core.Path.{sym, ap, subst, _∙_}
 use mathlib.Core.Logic.{⊎-elim}
 use mathlib.Core.List.{List}
 use borrow.Author.Needs.{needs}
@@ -14,16 +14,15 @@ use Rattle.plain.proofs.carry.carry_out.Tie as tie
 -- written again or not, the sheet is as long as it was
 same-length : tie.Need-same-length
 same-length c =
-    let met = c .before .before .before .before .before in
+    let met = c .before .before .before .before in
     ⊎-elim (λ w. ap length (w .5) ∙ w .2 .kept .1 .0) (λ w. ap length (w .1)) (met .if1 .came)
 
 returns : tie.Need-returns
 returns c =
-    let sent = c .before .before .before in
+    let sent = c .before .before in
     let met = sent .before .before in
     let a = met .before .before .before .before .before .args in
     record {
-      outcome = refl;
       kept = λ h. ⊎-elim (λ w. absurd (omega (arith, w .0 .taken))) (λ w. w .1) (met .if1 .came);
       sheet =
           λ h.
@@ -31,14 +30,13 @@ returns c =
           (λ w. subst (λ (t : List ℕ). Restores (Whole (a .reply .parts)) (a .sheet .now) t 0 (a .reply .parts .length)) (sym (w .5)) (w .2 .ensures))
           (λ w. absurd (omega (arith, w .0 .left))) (met .if1 .came);
       answer = sent .send .ensures;
-      sessions = c .sessions-after .ensures;
     }
 
 pub carry-out-spec : {M : Type 1} → statement M
 carry-out-spec =
     tie.close
     (tie.spec
-    (λ c κs. search needs) (λ c κs. search needs) (λ c κs. search needs)
+    (λ c κs. search needs) (λ c κs. search needs)
     same-length
     (λ c. search needs)
     returns)

@@ -1,7 +1,10 @@
 -- `plain::order::is_taken` meets its contract.
 -- Assumes nothing.
 use borrow.Author.Needs.{needs}
-use Rattle.plain.proofs.Arms.{via-taken}
+use native.Mathlib.Omega.{arith}
+use Rattle.octets.proofs.Tests.{tests}
+use Rattle.pdu.specs.declared.Service.the-variants.{Restart}
+use Rattle.plain.proofs.Arms.{via-taken, restart-connected, restart-without, restart-never}
 use Rattle.plain.proofs.order.is_taken.Statement.{statement}
 use Rattle.plain.proofs.order.is_taken.Tie as tie
 
@@ -10,37 +13,21 @@ is-taken-spec =
     tie.close
     (tie.spec
     (λ c. search needs) (λ c. search needs) (λ c. search needs) (λ c. search needs) (λ c. search needs)
-    (λ c. search needs) (λ c. search needs) (λ c. search needs) (λ c κs. search needs) (λ c. search needs)
-    (λ c κs. search needs) (λ c. search needs) (λ c κs. search needs) (λ c. search needs) (λ c κs. search needs)
     (λ c. search needs) (λ c. search needs) (λ c. search needs) (λ c. search needs) (λ c. search needs)
-    (λ c. search needs) (λ c κs. search needs) (λ c. search needs) (λ c. search needs) (λ c. search needs)
+    (λ c. search needs) (λ c. search needs) (λ c. search needs) (λ c. search needs) (λ c. search needs)
+    (λ c. search needs) (λ c. search needs) (λ c. search needs) (λ c. search needs) (λ c. search needs)
     (λ c. search needs) (λ c. search needs) (λ c. search needs) (λ c. search needs) (λ c. search needs)
     (λ c. search needs) (λ c. search needs) (λ c. search needs)
-    (λ c. search via-taken)
-    (λ c. search via-taken)
-    (λ c. search via-taken)
-    (λ c. search via-taken)
-    (λ c. search via-taken)
-    (λ c. search via-taken)
-    (λ c. search via-taken)
-    (λ c. search via-taken)
-    (λ c. search via-taken)
-    (λ c. search via-taken)
-    (λ c. search via-taken)
-    (λ c. search via-taken)
-    (λ c. search via-taken)
-    (λ c. search via-taken)
-    (λ c. search via-taken)
-    (λ c. search via-taken)
-    (λ c. search via-taken)
-    (λ c. search via-taken)
-    (λ c. search via-taken)
-    (λ c. search via-taken)
-    (λ c. search via-taken)
-    (λ c. search via-taken)
-    (λ c. search via-taken)
-    (λ c. search via-taken)
-    (λ c. search via-taken)
-    (λ c. search via-taken)
-    (λ c. search via-taken)
-    (λ c. search via-taken))
+    (λ c. search via-taken) (λ c. search via-taken) (λ c. search via-taken) (λ c. search via-taken)
+    (λ c. search via-taken) (λ c. search via-taken) (λ c. search via-taken)
+    (λ c. search (via-taken, tests, arith)) (λ c. search (via-taken, tests, arith))
+    (λ c. search (via-taken, tests, arith)) (λ c. search (via-taken, tests, arith))
+    (λ c. search (via-taken, tests, arith)) (λ c. search (via-taken, tests, arith))
+    (λ c. search (via-taken, tests, arith)) (λ c. search (via-taken, tests, arith))
+    (λ c. search via-taken) (λ c. search via-taken) (λ c. search via-taken) (λ c. search via-taken) (λ c. search via-taken)
+    (λ c. let a = c .before .before .before .args in via-taken (a .service) Restart (a .rules) (a .mode) _ (search needs) (restart-connected (a .rules) (a .mode) (search needs)))
+    (λ c. let a = c .before .before .before .before .args in via-taken (a .service) Restart (a .rules) (a .mode) _ (search needs) (restart-without (a .rules) (a .mode) (search needs) (search needs)))
+    (λ c. let a = c .before .before .before .before .args in via-taken (a .service) Restart (a .rules) (a .mode) _ (search needs) (restart-never (a .rules) (a .mode) (search needs) (search needs)))
+    (λ c. search via-taken) (λ c. search via-taken) (λ c. search via-taken) (λ c. search via-taken)
+    (λ c. search via-taken) (λ c. search via-taken) (λ c. search via-taken) (λ c. search via-taken)
+    (λ c. search via-taken) (λ c. search via-taken) (λ c. search via-taken))

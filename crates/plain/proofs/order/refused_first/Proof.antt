@@ -2,7 +2,7 @@
 -- Assumes nothing.
 use borrow.Author.Needs.{needs}
 use mathlib.Core.Logic.{⊎-elim, inl, inr}
-use Rattle.plain.proofs.Ordered.{due-3, due-4, due-5, due-5-long, due-6, due-7, due-none}
+use Rattle.plain.proofs.Ordered.{due-3, due-4, due-5, due-5-long, due-6, due-7, due-none, is-shut, is-open, no-session}
 use Rattle.plain.proofs.order.refused_first.Statement.{statement}
 use Rattle.plain.proofs.order.refused_first.Tie as tie
 
@@ -15,6 +15,5 @@ refused-first-spec =
     (λ c. search due-4)
     (λ c. ⊎-elim (λ w. search due-5) (λ w. search due-5-long) (c .if3 .came))
     (λ c. search due-6)
-    (λ c κs. search needs)
-    (λ c. search due-7)
-    (λ c. search due-none))
+    (λ c. search (due-7, is-shut))
+    (λ c. ⊎-elim (λ w. search (due-none, is-open)) (λ w. search (due-none, no-session)) (c .if6 .came)))

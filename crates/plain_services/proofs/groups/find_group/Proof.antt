@@ -7,7 +7,7 @@ use mathlib.Core.Bool.{false}
 use native.Mathlib.Omega.{arith}
 use Rattle.octets.proofs.Tests.{tests}
 use Rattle.plain_services.proofs.GroupValues.{addressed, group-hit, group-miss}
-use Rattle.plain_services.proofs.Finding.{none-more}
+use Rattle.plain_services.proofs.Finding.{one-more}
 use Rattle.plain_services.proofs.groups.find_group.Statement.{statement}
 use Rattle.plain_services.proofs.groups.find_group.Tie as tie
 
@@ -24,7 +24,7 @@ returns c =
 loop-again : tie.Need-loop-again Inv-loop μ-loop
 loop-again c =
     let at-loop = c .before .before in
-    (omega arith, omega arith, none-more _ _ (at-loop .loop .inv .2) (search (tests, arith)))
+    (omega arith, omega arith, one-more _ _ (at-loop .loop .inv .2) (search (tests, arith)))
 
 returns-2 : tie.Need-returns-2 Inv-loop μ-loop
 returns-2 c =

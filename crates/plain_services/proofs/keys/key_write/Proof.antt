@@ -17,7 +17,7 @@ returns c =
 
 returns-2 : tie.Need-returns-2
 returns-2 c =
-    let at-if2 = c .before .before .before in
+    let at-if2 = c .before .before in
     new-key _ _ _ _ _ _ refl (c .sending2 .ensures) (omega arith) (ltb-false _ _ (at-if2 .if2 .left)) (omega arith)
 
 pub key-write-spec : {M : Type 1} → statement M

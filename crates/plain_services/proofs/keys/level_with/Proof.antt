@@ -1,19 +1,31 @@
--- `plain_services::keys::level_with` meets its contract.
+-- `plain_services::keys::level_with` meets its contract. The invariant: no level so far has the key.
 -- Assumes nothing.
 use borrow.Author.Needs.{needs}
+use Prim.Native.Nat.{ℕ, _-_, _≤_, _<_}
+use mathlib.Core.Path.{_≡_}
+use lib.ListN.{length, getD}
 use native.Mathlib.Omega.{arith}
-use Rattle.plain_services.proofs.Authorizing.{level-0, level-1, level-2, level-3}
+use Rattle.plain_services.proofs.Authorizing.{level-found, level-none}
+use Rattle.plain_services.proofs.Finding.{one-more}
 use Rattle.plain_services.proofs.keys.level_with.Statement.{statement}
 use Rattle.plain_services.proofs.keys.level_with.Tie as tie
+
+abbrev Inv-loop : tie.InvT-loop
+Inv-loop key keys level₀ level = (level ≤ 3) × (length keys ≡ 3) × ((j : ℕ) → j < level → key ≡ getD keys j 0 → ⊥)
+
+abbrev μ-loop : tie.MeasureT-loop
+μ-loop key keys level₀ level = 3 - level
+
+loop-again : tie.Need-loop-again Inv-loop μ-loop
+loop-again c =
+    let at-loop = c .before .before in
+    (omega arith, at-loop .loop .inv .1, one-more _ _ (at-loop .loop .inv .2) (c .if1 .left))
 
 pub level-with-spec : {M : Type 1} → statement M
 level-with-spec =
     tie.close
     (tie.spec
-    (λ c. search needs)
-    (λ c. level-0 _ _ (omega arith))
-    (λ c. search needs)
-    (λ c. level-1 _ _ (search needs) (omega arith))
-    (λ c. search needs)
-    (λ c. level-2 _ _ (search needs) (search needs) (omega arith))
-    (λ c. level-3 _ _ (search needs) (search needs) (search needs)))
+    Inv-loop μ-loop (λ c. (omega arith, search needs, λ j h. absurd (omega arith))) (λ c. omega arith) (λ c. omega arith) (λ c. omega arith)
+    (λ c. level-found _ _ _ (omega arith) (c .before .before .loop .inv .2) (c .if1 .taken))
+    (λ c. omega arith) (λ c. omega arith) loop-again
+    (λ c. level-none _ _ (λ j h. c .before .loop .inv .2 j (omega (arith, c .before .loop .inv .0)))))

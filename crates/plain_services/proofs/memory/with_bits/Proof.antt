@@ -24,8 +24,8 @@ loop-again c =
     let at-loop = at-loop-test .before in
     let start = at-loop .before in (
       omega arith,
-      length-set (at-loop .loop .after) _ _ ∙ at-loop .loop .inv .1,
-      bits-more _ _ _ _ (omega (arith, start .pre .0, start .pre .1)) (at-loop .loop .after) (at-loop .loop .i) (at-loop .loop .inv .2) (at-loop-test .loop-test .taken),
+      length-set (at-loop .loop .bodies) _ _ ∙ at-loop .loop .inv .1,
+      bits-more _ _ _ _ (omega (arith, start .pre .0, start .pre .1)) (at-loop .loop .bodies) (at-loop .loop .i) (at-loop .loop .inv .2) (at-loop-test .loop-test .taken),
     )
 
 returns : tie.Need-returns Inv-loop μ-loop

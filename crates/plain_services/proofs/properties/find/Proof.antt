@@ -7,7 +7,7 @@ use mathlib.Core.Bool.{false}
 use mathlib.Core.Logic.{⊎-elim}
 use native.Mathlib.Omega.{arith}
 use Rattle.octets.proofs.Tests.{branches}
-use Rattle.plain_services.proofs.Finding.{named, hit, miss, none-more}
+use Rattle.plain_services.proofs.Finding.{named, hit, miss, one-more}
 use Rattle.plain_services.proofs.properties.find.Statement.{statement}
 use Rattle.plain_services.proofs.properties.find.Tie as tie
 
@@ -24,7 +24,7 @@ returns c =
 loop-again : tie.Need-loop-again Inv-loop μ-loop
 loop-again c =
     let at-loop = c .before .before in
-    (omega arith, omega arith, none-more _ _ (at-loop .loop .inv .2) (⊎-elim (λ w. search branches) (λ w. search branches) (c .if1 .came)))
+    (omega arith, omega arith, one-more _ _ (at-loop .loop .inv .2) (⊎-elim (λ w. search branches) (λ w. search branches) (c .if1 .came)))
 
 returns-2 : tie.Need-returns-2 Inv-loop μ-loop
 returns-2 c =

@@ -7,7 +7,7 @@ use mathlib.Core.Bool.{false}
 use mathlib.Core.Logic.{⊎-elim}
 use native.Mathlib.Omega.{arith}
 use Rattle.plain_services.specs.Described.{isNth}
-use Rattle.plain_services.proofs.Finding.{none-more}
+use Rattle.plain_services.proofs.Finding.{one-more}
 use Rattle.plain_services.proofs.Descriptions.{nth-found, nth-missing}
 use Rattle.plain_services.proofs.Joined.{joined, moved-yes, moved-no}
 use Rattle.plain_services.proofs.properties.nth.Statement.{statement}
@@ -33,7 +33,7 @@ loop-again c =
     let at-loop = c .before .before in (
       omega arith,
       omega arith,
-      none-more _ _ (at-loop .loop .inv .2) (⊎-elim (λ w. search (joined, moved-no, w .1 .ensures .1)) (λ w. search joined) (c .if1 .came)),
+      one-more _ _ (at-loop .loop .inv .2) (⊎-elim (λ w. search (joined, moved-no, w .1 .ensures .1)) (λ w. search joined) (c .if1 .came)),
     )
 
 returns-2 : tie.Need-returns-2 Inv-loop μ-loop
