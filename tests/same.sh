@@ -39,7 +39,7 @@ same "$defined, the old one" "01${sample:2}" "$(sed -n '/^oldSample =/,/\[\]$/p'
 same crates/sheet_check/stdin "01${sample:2}" "$(od -An -v -tx1 crates/sheet_check/stdin | digits)"
 same docs/SHEET.md "$sample" "$(shown_below 'The sample sheet')"
 same docs/SHEET.md "$pump" "$(shown_below 'A sheet with user memory')"
-worked=$(sed -n '/^trace =/,/\[\]$/p' crates/playback/proofs/Example.antt | grep -o '0x..' | sed 's/0x//' | digits)
+worked=$(sed -n '/^trace =/,/\[\]$/p' crates/playback/proofs/promises/Example.antt | grep -o '0x..' | sed 's/0x//' | digits)
 same docs/TRACE.md "$worked" "$(sed -n '/^## A worked trace/,/^On the sample/p' docs/TRACE.md | awk -F '|' 'NF == 5 && /^\| [0-9]/ { print $3 }' | grep -o '`[^`]*`' | digits)"
 
 # level (or loose), request, answer, outcome of each marked case

@@ -209,7 +209,7 @@ static void test_runs(void)
     }
 }
 
-/* The worked slot of slots/proofs/Examples.antt: the sheet 1, 2, 3 under number 7. */
+/* The worked slot of slots/proofs/promises/Examples.antt: the sheet 1, 2, 3 under number 7. */
 static void test_example(void)
 {
     uint8_t slot[67], unit[32];

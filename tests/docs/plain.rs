@@ -37,6 +37,11 @@ const PARTS: &[Part] = &[
         decides: false,
         files: PARTS_FILES,
     },
+    Part {
+        name: "Whether a sheet is accepted",
+        decides: false,
+        files: &["plain_check/lib", "plain_check/places", "plain_check/entries", "plain_check/bodies"],
+    },
     Part { name: "The call in C", decides: false, files: &["plain_host/lib"] },
 ];
 
@@ -45,7 +50,7 @@ const PARTS_FILES: &[&str] = &["parts/entries", "parts/front", "parts/lists", "p
 /// What is no part of the engine: both engines asked the same.
 const BESIDE: &[&str] = &["plain/both"];
 
-const CRATES: &[&str] = &["parts", "plain_services", "plain", "plain_host"];
+const CRATES: &[&str] = &["plain_check", "parts", "plain_services", "plain", "plain_host"];
 const HEADING: &str = "| Of the plain engine | Lines | Hours |";
 /// How many lines are read in an hour, with care.
 const AN_HOUR: f64 = 150.0;

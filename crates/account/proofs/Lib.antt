@@ -1,8 +1,5 @@
--- PROMISES, named in docs/PROMISES.md
-pub mod Accounts
-pub mod Telling
-pub mod Worked
--- laws behind them and behind the code
+-- promises has what docs/PROMISES.md names; all else are laws behind them.
+pub mod promises
 pub mod Lasts
 pub mod Levels
 pub mod Marking

@@ -1,6 +1,5 @@
--- Promises, named in docs/PROMISES.md: Deliveries, Example. All others are laws behind them.
+-- promises has what docs/PROMISES.md names; all else are laws behind them.
+pub mod promises
 pub mod Received
 pub mod Stored
 pub mod Carried
-pub mod Deliveries
-pub mod Example

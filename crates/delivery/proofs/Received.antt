@@ -15,8 +15,8 @@ use Rattle.pdu.specs.Rules.{headBytes}
 use Rattle.pdu.specs.Read.{readPdu, dataOf}
 use Rattle.pdu.specs.Write.{encoded}
 use Rattle.pdu.specs.Allows.{Allows}
-use Rattle.pdu.proofs.Back.{read-back}
-use Rattle.pdu.proofs.Readings.{reading}
+use Rattle.pdu.proofs.promises.Back.{read-back}
+use Rattle.pdu.proofs.promises.Readings.{reading}
 use Rattle.pdu.specs.declared.Pdu.{Pdu}
 use Rattle.pdu.specs.declared.Pdu.the-variants.{GroupValueResponse, GroupValueWrite}
 use Rattle.pdu.specs.declared.Parsed.the-variants.{Is}
@@ -24,7 +24,7 @@ use Rattle.points.specs.Point.{typeOf, widthAt, numberOf, pointBytes}
 use Rattle.points.specs.declared.Datapoint.{Datapoint}
 use Rattle.points.specs.declared.Datapoint.the-variants.{Switch, Byte, Hundredths, Float as Single}
 use Rattle.values.specs.Value.{valueData}
-use Rattle.values.proofs.Back.{allowed}
+use Rattle.values.proofs.promises.Back.{allowed}
 use Rattle.judge.specs.Session.{multicast}
 use Rattle.device.specs.Octets.{Octets}
 use Rattle.device.specs.Asked.{Asked, Takes, toGroup, Reads, given}

@@ -1,10 +1,4 @@
--- PROMISES, named in docs/PROMISES.md: Dues (a restore), Stays (accepted stays accepted), RunsApart (both rules), Renewal (old sheets
--- converted), Append (one run after the other). RestoreBut has the law behind RunsApart and what no tool learns of a restore,
--- Renewing those behind Renewal.
-pub mod Dues
-pub mod Stays
+-- promises has what docs/PROMISES.md names; all else are laws behind them.
+pub mod promises
 pub mod RestoreBut
-pub mod RunsApart
 pub mod Renewing
-pub mod Renewal
-pub mod Append

@@ -27,8 +27,8 @@ use Rattle.device.proofs.apart.Renewing.{Fronted, Renews, splice-fronted, front
 use Rattle.versions.specs.Store.{versionIn}
 use Rattle.versions.specs.Settings.{front, many, entriesLong, bodiesLong, settingsOf, restored, SameEntries, LowCounts}
 use Rattle.versions.specs.Restoring.{restoreBy, leftBy, restoreOutcome, restoreSheet}
-use Rattle.versions.proofs.Dues.{allowed}
-use Rattle.versions.proofs.Restores as re
+use Rattle.versions.proofs.promises.Dues.{allowed}
+use Rattle.versions.proofs.promises.Restores as re
 use Rattle.events.specs.Events.{Event, connect, disconnect, button, request, restore, leaves, runBy, eventOf, after, run}
 use Rattle.events.specs.Before.{eventBefore, runBefore}
 use Rattle.events.proofs.RestoreBut.{long-same, base-same, restored-alike}

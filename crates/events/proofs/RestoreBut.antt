@@ -17,9 +17,9 @@ use Rattle.judge.specs.declared.Session.{Session}
 use Rattle.versions.specs.Store.{versionIn}
 use Rattle.versions.specs.Settings.{entriesLong, restored, SameEntries, LowCounts}
 use Rattle.versions.specs.Restoring.{givesBack, restoreBy, restoreOutcome, restoreSheet}
-use Rattle.versions.proofs.Agreeing.{entries-to, low-to, same-entries-same, low-counts-same}
-use Rattle.versions.proofs.Dues.{allowed}
-use Rattle.versions.proofs.Restores as re
+use Rattle.versions.proofs.promises.Agreeing.{entries-to, low-to, same-entries-same, low-counts-same}
+use Rattle.versions.proofs.promises.Dues.{allowed}
+use Rattle.versions.proofs.promises.Restores as re
 
 -- both are accepted, and the same but at H
 pub record BothBut (H : ℕ → Type 0) (s s′ : List ℕ) : Type 0 where

@@ -1,10 +1,5 @@
--- PROMISES, named in docs/PROMISES.md
-pub mod Demands
-pub mod Whose
-pub mod Contracts
-pub mod Lookups
-pub mod Mixed
--- laws behind the calls
+-- promises has what docs/PROMISES.md names; all else are laws behind them and behind the contracts.
+pub mod promises
 pub mod Walking
 pub mod Replaced
 pub mod Replies

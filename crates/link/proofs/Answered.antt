@@ -15,9 +15,9 @@ use Rattle.cemi.specs.Answering.{answering}
 use Rattle.cemi.specs.declared.Fields.{Fields}
 use Rattle.cemi.specs.declared.Written.{Written}
 use Rattle.cemi.specs.declared.Written.the-variants.{Bytes, Refused}
-use Rattle.cemi.proofs.Answers.{answer-writable}
+use Rattle.cemi.proofs.promises.Answers.{answer-writable}
 use Rattle.cemi.proofs.Wrote.{bounds}
-use Rattle.cemi.proofs.Backs.{length-encoded}
+use Rattle.cemi.proofs.promises.Backs.{length-encoded}
 use Rattle.link.specs.Serving.{most, longest, answerFrame, Sent}
 
 module _ (f : Fields) (own mode sequence control1 transport : ℕ) (e : control1 ≡ 0xB0 + f .control1 / 4 % 4 * 4) (h : transport ≡ cond (eqb mode connected) (16 + sequence % 16) 0) where

@@ -26,7 +26,7 @@ use Rattle.link.specs.Net.{Net, stateOf, sourceOf, heardIn, eventsOf, It
 use Rattle.link.specs.Whose.{Partner, Whose, partner, newcomer}
 use Rattle.link.specs.declared.Arrived.{Arrived}
 use Rattle.link.specs.declared.Arrived.the-variants.{Request, Connect, Disconnect, Nothing}
-use Rattle.link.proofs.Whose.{whose, same-partner}
+use Rattle.link.proofs.promises.Whose.{whose, same-partner}
 
 -- an item is one event or none
 abbrev pub One : List Event → Type 0

@@ -23,7 +23,7 @@ use Rattle.cemi.specs.declared.Fields.{Fields}
 use Rattle.cemi.specs.declared.Frame.{Frame}
 use Rattle.cemi.specs.declared.Got.{Got}
 use Rattle.cemi.specs.declared.Got.the-variants as got
-use Rattle.cemi.proofs.Standards.{reads-standard}
+use Rattle.cemi.proofs.promises.Standards.{reads-standard}
 use Rattle.link.specs.Partners.{nobody}
 use Rattle.link.specs.Hearing.{ownOf, judged, heardGot, heardOf}
 use Rattle.link.specs.Serving.{most, longest, apduOf, withSessions, leaving, joining, parting, deedOf, serveOf, resultOf, DidServe, Sent}

@@ -20,12 +20,12 @@ use Rattle.slots.specs.Slot.{longest}
 use Rattle.slots.specs.Medium.{sheet, Medium, choice, Broken}
 use Rattle.slots.specs.Lives as slot
 use Rattle.slots.specs.Lives.{Ready}
-use Rattle.slots.proofs.Numbered.{ready-starts}
-use Rattle.slots.proofs.Lives.{save-ready, cut-safe}
+use Rattle.slots.proofs.promises.Numbered.{ready-starts}
+use Rattle.slots.proofs.promises.Lives.{save-ready, cut-safe}
 use Rattle.link.specs.Net.{Net, stateOf}
 use Rattle.host.specs.Steps as calls
 use Rattle.host.specs.Steps.{Steps}
-use Rattle.host.proofs.Mixed.{step-follows}
+use Rattle.host.proofs.promises.Mixed.{step-follows}
 use Rattle.lives.specs.Life.{Running, Happening, saved, late, cut, Stored, there, stored, Starts, starts, Goes, saves, waits, loses, Ran, begin, next}
 use Rattle.lives.specs.Life.{apart, tell, telling, told, kept, firstOf, Begun}
 

@@ -1,8 +1,3 @@
--- PROMISES, named in docs/PROMISES.md
-pub mod Lives
-pub mod Found
-pub mod Tells
-pub mod Since
-pub mod Restored
--- laws behind them
+-- promises has what docs/PROMISES.md names; all else are laws behind them.
+pub mod promises
 pub mod Follows

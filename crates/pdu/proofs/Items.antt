@@ -15,7 +15,7 @@ use Rattle.pdu.specs.Rules.{codeOf, lowAt, fourAt, twelveAt, valuesAt, e
 use Rattle.pdu.specs.Allows.{AllWithin}
 use Rattle.pdu.proofs.Formed.{Formed, Held, Coded, coded}
 use Rattle.pdu.proofs.Sound.{chosen}
-use Rattle.pdu.proofs.Codes.{has-is}
+use Rattle.pdu.proofs.promises.Codes.{has-is}
 
 -- the items end where their bytes do
 end-more : (w v : ℕ) (l : List ℕ) (at e : ℕ) → e ≡ at + w + length l → e ≡ at + length (bytesOf w v ++ l)

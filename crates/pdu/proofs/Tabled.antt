@@ -14,8 +14,8 @@ use Rattle.pdu.specs.Read.{readPdu}
 use Rattle.pdu.specs.Allows.{Allows, Carries}
 use Rattle.octets.specs.Octets.{Octets}
 use Rattle.octets.proofs.Truths.{equal-is}
-use Rattle.pdu.proofs.Outcomes.{carried, read-carries, told-10}
-use Rattle.pdu.proofs.Refusals.{unread-is}
+use Rattle.pdu.proofs.promises.Outcomes.{carried, read-carries, told-10}
+use Rattle.pdu.proofs.promises.Refusals.{unread-is}
 use Rattle.pdu.specs.declared.Service.{Service}
 use Rattle.pdu.specs.declared.Pdu.{Pdu}
 use Rattle.pdu.specs.declared.Parsed.the-variants.{Is, Refused}

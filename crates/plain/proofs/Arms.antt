@@ -16,7 +16,7 @@ use Rattle.pdu.specs.Table.{rowOf}
 use Rattle.pdu.specs.Pdus.{serviceOf, valuesOf}
 use Rattle.pdu.specs.Rules.{under, suits, headOf}
 use Rattle.pdu.specs.Read.{dataAt, dataOf}
-use Rattle.pdu.proofs.Readings.{Reading, reading}
+use Rattle.pdu.proofs.promises.Readings.{Reading, reading}
 use Rattle.pdu.specs.declared.Service.{Service}
 use Rattle.pdu.specs.declared.Pdu.{Pdu}
 use Rattle.pdu.specs.declared.Pdu.the-variants.{PropertyValueWrite, MemoryWrite, MemoryBitWrite, UserMemoryWrite}

@@ -10,8 +10,8 @@ use Rattle.octets.specs.Splice.{splice}
 use Rattle.octets.proofs.Splices.{splice-none}
 use Rattle.sheet.specs.Rules.{Accepted}
 use Rattle.pdu.specs.Read.{readPdu, readOutcome, dataOf}
-use Rattle.pdu.proofs.Readings.{Reading, reading}
-use Rattle.pdu.proofs.Writing.{has-room}
+use Rattle.pdu.proofs.promises.Readings.{Reading, reading}
+use Rattle.pdu.proofs.promises.Writing.{has-room}
 use Rattle.pdu.specs.declared.Pdu.{Pdu}
 use Rattle.pdu.specs.declared.Parsed.{Parsed}
 use Rattle.pdu.specs.declared.Parsed.the-variants.{Is, Refused}

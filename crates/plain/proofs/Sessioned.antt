@@ -13,7 +13,7 @@ use Rattle.octets.specs.Splice.{splice}
 use Rattle.octets.proofs.Splices.{splice-none}
 use Rattle.pdu.specs.Read.{dataAt}
 use Rattle.pdu.specs.Write.{encoded}
-use Rattle.pdu.proofs.Writing.{length-encoded}
+use Rattle.pdu.proofs.promises.Writing.{length-encoded}
 use Rattle.pdu.specs.declared.Pdu.{Pdu}
 use Rattle.judge.specs.declared.Turn.the-variants.{Level}
 use Rattle.device.specs.Carry.{turnOf, Filled}

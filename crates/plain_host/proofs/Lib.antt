@@ -1,4 +1,3 @@
--- PROMISES, named in docs/PROMISES.md
-pub mod Contracts
--- laws behind the call
+-- promises has what docs/PROMISES.md names; all else are laws behind them and behind the contracts.
+pub mod promises
 pub mod Replies

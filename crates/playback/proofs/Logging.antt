@@ -16,7 +16,7 @@ use Rattle.device.specs.Sessions.{sessionFor}
 use Rattle.device.specs.declared.Sessions.{Sessions}
 use Rattle.device.specs.declared.Made.{Made}
 use Rattle.device.proofs.promises.Demand1.{at-most-16}
-use Rattle.events.proofs.Append.{run-append}
+use Rattle.events.proofs.promises.Append.{run-append}
 use Rattle.playback.specs.Entry as entry
 use Rattle.playback.specs.Trace.{count, room, blank, eventIn, eventAt}
 use Rattle.playback.specs.Rules.{Playable}

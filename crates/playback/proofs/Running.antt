@@ -14,8 +14,8 @@ use Rattle.sheet.specs.Rules.{Accepted}
 use Rattle.device.specs.Events.{State}
 use Rattle.events.specs.Events.{Event, eventOf, after, runBy, run}
 use Rattle.device.specs.declared.Sessions.{Sessions}
-use Rattle.events.proofs.Append.{run-append}
-use Rattle.events.proofs.Stays.{stays}
+use Rattle.events.proofs.promises.Append.{run-append}
+use Rattle.events.proofs.promises.Stays.{stays}
 use Rattle.playback.specs.Trace.{count, eventAt, eventsFrom, traceOf}
 use Rattle.playback.specs.Rules.{Playable}
 use Rattle.playback.specs.Playing.{at, line, lineOf, logOf}

@@ -1,13 +1,9 @@
--- Promises, named in docs/PROMISES.md: Choice, Unique, Back, Dues, Examples. All others are laws behind them or behind the contracts.
+-- promises has what docs/PROMISES.md names; all else are laws behind them and behind the contracts.
+pub mod promises
 pub mod Floats
 pub mod Laws
 pub mod Casts
 pub mod Search
 pub mod Best
 pub mod Signed
-pub mod Choice
 pub mod Writes
-pub mod Unique
-pub mod Back
-pub mod Dues
-pub mod Examples

@@ -14,7 +14,7 @@ use Rattle.octets.proofs.Splices.{length-splice, splice-in, splice-outside, spl
 use Rattle.octets.proofs.Truths.{decided}
 use Rattle.slots.specs.Slot.{longest, mark, marked, markUnit, tailOf, headOf}
 use Rattle.slots.specs.Medium.{Held, nothing, sheet, held, Piece, clear, put, pieces, Done, cleared, written, Torn, clearing, writing, Did, end, next, Cut, before, within, last, over, later}
-use Rattle.slots.proofs.Backs.{Whole, slot-back, bare}
+use Rattle.slots.proofs.promises.Backs.{Whole, slot-back, bare}
 
 -- the mark is the first six bytes
 marked-same : (b b′ : List ℕ) → ((i : ℕ) → i < 6 → getD b′ i 0 ≡ getD b i 0) → marked b′ ≡ marked b

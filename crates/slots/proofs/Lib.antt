@@ -1,13 +1,5 @@
--- PROMISES, named in docs/PROMISES.md
-pub mod Backs
-pub mod Lives
-pub mod Numbered
-pub mod Firsts
-pub mod Hosts
-pub mod Pieced
-pub mod Crcs
-pub mod Examples
--- laws behind them
+-- promises has what docs/PROMISES.md names; all else are laws behind them and behind the contracts.
+pub mod promises
 pub mod Returns
 pub mod Fronts
 pub mod Units

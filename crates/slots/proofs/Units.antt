@@ -15,7 +15,7 @@ use Rattle.slots.specs.Crc.{ones, crcFrom, crcOf}
 use Rattle.slots.specs.Slot.{longest, tailOf, headOf}
 use Rattle.slots.specs.Saving.{pieceOf, workOf, unitOf}
 use Rattle.slots.specs.declared.Work.{Work}
-use Rattle.slots.proofs.Crcs.{crc-append}
+use Rattle.slots.proofs.promises.Crcs.{crc-append}
 
 -- THE HEAD, field by field
 tail-made : (n long : ℕ) → take 28 (drop 4 (splice (splice (replicate 32 0) 4 (bytesOf 4 n)) 8 (bytesOf 4 long))) ≡ tailOf n long

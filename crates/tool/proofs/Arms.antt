@@ -22,7 +22,7 @@ use borrow.Author.Tests.{lt-ltb, le-ltb}
 use Rattle.pdu.proofs.Find.{NoneOf}
 use Rattle.pdu.proofs.Formed.{formed-says, long-enough}
 use Rattle.pdu.proofs.Sound.{sound}
-use Rattle.pdu.proofs.Outcomes.{read-carries}
+use Rattle.pdu.proofs.promises.Outcomes.{read-carries}
 use Rattle.octets.proofs.Truths.{and-is, at-most-is}
 use Rattle.pdu.specs.Pdus.{serviceOf, valuesOf}
 use Rattle.pdu.specs.declared.Pdu.{Pdu}

@@ -7,7 +7,7 @@ use Rattle.octets.specs.Octets.{ReadFrom}
 use Rattle.cemi.specs.Read.{readFrame}
 use Rattle.cemi.specs.Meaning.{meaningOf, meaningNumber}
 use Rattle.cemi.specs.Write.{writeOf, writeCount, bufferOf, Wrote}
-use Rattle.cemi.proofs.Filled.{count-few}
+use Rattle.cemi.proofs.promises.Filled.{count-few}
 use Rattle.cemi.specs.declared.Fields.{Fields}
 use Rattle.cemi.specs.declared.Frame.{Frame}
 use Rattle.cemi.specs.declared.Got.{Got}

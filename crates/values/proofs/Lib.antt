@@ -1,4 +1,3 @@
--- Promises, named in docs/PROMISES.md: Back, Examples. Laws is behind the contracts.
-pub mod Back
-pub mod Examples
+-- promises has what docs/PROMISES.md names; all else are laws behind them and behind the contracts.
+pub mod promises
 pub mod Laws

@@ -17,7 +17,7 @@ use Rattle.versions.specs.Ends.{endFrom, endOf}
 use Rattle.versions.specs.Walk.{Chosen, Found, Stands}
 use Rattle.versions.proofs.Laid.{laid-long, bodies-join}
 use Rattle.versions.proofs.Backs.{good-store, length-versions}
-use Rattle.versions.proofs.Keeping.{end-long}
+use Rattle.versions.proofs.promises.Keeping.{end-long}
 use Rattle.versions.proofs.Finds.{split, found, left-found}
 use Rattle.versions.proofs.Apart.{offset-is, long-is, taken-out}
 

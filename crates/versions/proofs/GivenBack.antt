@@ -16,7 +16,7 @@ use Rattle.sheet.specs.Agree.{Agree}
 use Rattle.sheet.proofs.alike.Sames.{count-same, start-same}
 use Rattle.versions.specs.Settings.{front, many, entriesLong, bodiesLong, settingsOf, restored, SameEntries, LowCounts}
 use Rattle.versions.proofs.Backs.{num-bytes}
-use Rattle.versions.proofs.Restores as re
+use Rattle.versions.proofs.promises.Restores as re
 
 module _ {s d : List ℕ} (ok : Accepted s) (bytes : Octets d) (same : SameEntries s d) (low : LowCounts s d) where
   abbrev u : List ℕ

@@ -11,7 +11,7 @@ use Rattle.versions.specs.Saving.{needed, saved}
 use Rattle.versions.specs.Steps.{appended}
 use Rattle.versions.proofs.Laid.{laid-long, bodies-join}
 use Rattle.versions.proofs.Appends.{appended-is}
-use Rattle.versions.proofs.Keeping.{keeps-these, keeps-last, whole}
+use Rattle.versions.proofs.promises.Keeping.{keeps-these, keeps-last, whole}
 
 -- one more number above all that were given
 pub rising-more : {last : ℕ} (x floor : ℕ) (vs : List Version) (d : List ℕ) → last < x → Rising last floor vs → Rising x floor (vs ++ (record { number = x; body = d } ∷ []))

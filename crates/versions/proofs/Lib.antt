@@ -1,7 +1,5 @@
--- PROMISES: Dues (what is done is what is due, and nothing else), Untouched (refused-untouched), Zeroed (zeroed-good),
--- Sequences (kept-after-save, good-stays, never-again), Removes (others-stay, removed-gone, room-back, save-remove), OwnVersion (settings-only),
--- RestoredIsSaved (restored-is-saved), Restores (restored-accepted), Examples; Keeping: a good store is the bytes of its versions.
--- The others are steps on the way.
+-- promises has what docs/PROMISES.md names; all else are laws behind them and behind the contracts.
+pub mod promises
 pub mod Gaps
 pub mod Laid
 pub mod Rows
@@ -9,8 +7,6 @@ pub mod Links
 pub mod Loops
 pub mod Backs
 pub mod Forths
-pub mod Keeping
-pub mod Zeroed
 pub mod Finds
 pub mod Apart
 pub mod Chosen
@@ -20,15 +16,5 @@ pub mod Shrinks
 pub mod Saves
 pub mod Saver
 pub mod Removals
-pub mod Restores
-pub mod Agreeing
 pub mod Restorer
-pub mod Lists
-pub mod OwnVersion
 pub mod GivenBack
-pub mod Dues
-pub mod Untouched
-pub mod Sequences
-pub mod Removes
-pub mod RestoredIsSaved
-pub mod Examples

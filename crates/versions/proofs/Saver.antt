@@ -24,7 +24,7 @@ use Rattle.versions.specs.declared.saving.Saved.{Saved}
 use Rattle.versions.specs.declared.settings.Extent.{Extent}
 use Rattle.versions.proofs.Laid.{laid-long}
 use Rattle.versions.proofs.Backs.{heads}
-use Rattle.versions.proofs.Keeping.{it-keeps, kept-count, end-long}
+use Rattle.versions.proofs.promises.Keeping.{it-keeps, kept-count, end-long}
 use Rattle.versions.proofs.Saves.{settings-long}
 use Rattle.versions.proofs.Grows.{saved-is}
 

@@ -10,7 +10,7 @@ use Rattle.octets.proofs.Walks.{by-test}
 use Rattle.versions.specs.Store.{Version, Rising, none, next, Keeps, longest, lowest, bodiesOf, laid}
 use Rattle.versions.specs.Removing.{without, removed}
 use Rattle.versions.proofs.Laid.{laid-long}
-use Rattle.versions.proofs.Keeping.{keeps-these, keeps-last, whole}
+use Rattle.versions.proofs.promises.Keeping.{keeps-these, keeps-last, whole}
 
 -- numbers still rise without one of them
 rising-weaker : {last : ℕ} (floor to : ℕ) (vs : List Version) → floor ≤ to → Rising last to vs → Rising last floor vs

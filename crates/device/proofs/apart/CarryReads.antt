@@ -21,7 +21,7 @@ use Rattle.sheet.proofs.rules.Good.{Good, good}
 use Rattle.sheet.proofs.alike.Buts.{Misses}
 use Rattle.sheet.proofs.places.RegionBodies.{stands-in}
 use Rattle.pdu.specs.Read.{readPdu, dataOf}
-use Rattle.pdu.proofs.Readings.{Reading, reading}
+use Rattle.pdu.proofs.promises.Readings.{Reading, reading}
 use Rattle.pdu.specs.declared.Parsed.{Parsed}
 use Rattle.pdu.specs.declared.Pdu.{Pdu}
 use Rattle.pdu.specs.declared.Pdu.the-variants.{GroupValueRead, GroupValueResponse, GroupValueWrite, IndividualAddressWrite, IndividualAddressRead, SerialNumberRead, SerialNumberWrite}

@@ -16,7 +16,7 @@ use Rattle.sheet.specs.Entries.{entry}
 use Rattle.sheet.proofs.rules.Good.{Good}
 use Rattle.pdu.specs.Read.{dataOf}
 use Rattle.pdu.specs.Write.{writable}
-use Rattle.pdu.proofs.Readings.{Reading}
+use Rattle.pdu.proofs.promises.Readings.{Reading}
 use Rattle.pdu.specs.declared.Pdu.{Pdu}
 use Rattle.pdu.specs.declared.Pdu.the-variants.{GroupValueRead, GroupValueResponse, GroupValueWrite, IndividualAddressWrite, IndividualAddressRead, SerialNumberRead, SerialNumberWrite}
 use Rattle.pdu.specs.declared.Pdu.the-variants.{DeviceDescriptorRead, PropertyValueRead, PropertyValueWrite, PropertyDescriptionRead, MemoryRead, MemoryWrite, MemoryBitWrite}

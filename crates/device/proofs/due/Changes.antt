@@ -12,7 +12,7 @@ use Rattle.sheet.specs.declared.Memory.the-variants.{Device, User}
 use Rattle.sheet.proofs.rules.Good.{Good, good}
 use Rattle.sheet.proofs.promises.Runs.{range-hit, range-within}
 use Rattle.pdu.specs.declared.Pdu.{Pdu}
-use Rattle.pdu.proofs.Readings.{reading}
+use Rattle.pdu.proofs.promises.Readings.{reading}
 use Rattle.judge.specs.declared.Access.{Access}
 use Rattle.judge.specs.declared.Access.the-variants as access
 use Rattle.judge.specs.declared.Store.{Store}

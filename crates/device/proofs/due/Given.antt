@@ -8,7 +8,7 @@ use lib.Dec.{ltb}
 use lib.ListN.{length, length-drop}
 use Rattle.pdu.specs.Read.{dataOf}
 use Rattle.octets.proofs.Truths.{and-is, below-is, equal-is}
-use Rattle.pdu.proofs.Readings.{Reading}
+use Rattle.pdu.proofs.promises.Readings.{Reading}
 use Rattle.pdu.specs.declared.Pdu.the-variants.{SerialNumberRead, PropertyValueRead, PropertyValueWrite, MemoryWrite, MemoryBitWrite, UserMemoryWrite}
 
 module _ (a : List ℕ) where

@@ -14,7 +14,7 @@ use Rattle.sheet.specs.Places.{PropertyWith}
 use Rattle.sheet.proofs.promises.Keys.{key-is, key-parts}
 use Rattle.sheet.proofs.places.Standing.{entry-at}
 use Rattle.pdu.specs.Item.{Value, the, Id}
-use Rattle.pdu.proofs.Readings.{Reading}
+use Rattle.pdu.proofs.promises.Readings.{Reading}
 use Rattle.pdu.specs.declared.Pdu.the-variants.{PropertyValueRead, PropertyValueWrite, PropertyDescriptionRead}
 use Rattle.judge.proofs.PropertyCases.{Keyed}
 use Rattle.device.specs.Octets.{Octets}

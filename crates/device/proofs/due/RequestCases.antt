@@ -15,8 +15,8 @@ use Rattle.pdu.specs.Pdus.{serviceOf}
 use Rattle.pdu.specs.Rules.{codeOf}
 use Rattle.pdu.specs.Read.{readPdu}
 use Rattle.octets.proofs.Truths.{never, and-is}
-use Rattle.pdu.proofs.Codes.{has-is, found, named, unknown}
-use Rattle.pdu.proofs.Readings.{reading, refused-row}
+use Rattle.pdu.proofs.promises.Codes.{has-is, found, named, unknown}
+use Rattle.pdu.proofs.promises.Readings.{reading, refused-row}
 use Rattle.pdu.specs.declared.Service.{Service}
 use Rattle.pdu.specs.declared.Found.{Found}
 use Rattle.pdu.specs.declared.Found.the-variants.{Listed, Unknown}

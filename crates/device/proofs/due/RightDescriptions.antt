@@ -10,7 +10,7 @@ use Rattle.sheet.specs.Property as property
 use Rattle.sheet.specs.Entries.{count, entry}
 use Rattle.sheet.specs.Lookup.{rank}
 use Rattle.sheet.proofs.rules.Good.{Good, good}
-use Rattle.pdu.proofs.Readings.{reading}
+use Rattle.pdu.proofs.promises.Readings.{reading}
 use Rattle.pdu.specs.declared.Pdu.the-variants.{PropertyDescriptionRead, PropertyDescriptionResponse}
 use Rattle.judge.specs.declared.Decision.{Decision}
 use Rattle.judge.specs.Decisions as decisions

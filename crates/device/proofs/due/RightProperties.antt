@@ -12,7 +12,7 @@ use Rattle.sheet.specs.Layout.{_of_}
 use Rattle.sheet.specs.Property as property
 use Rattle.sheet.specs.Entries.{count, place, entry}
 use Rattle.sheet.proofs.rules.Good.{Good, good}
-use Rattle.pdu.proofs.Readings.{reading}
+use Rattle.pdu.proofs.promises.Readings.{reading}
 use Rattle.pdu.specs.declared.Pdu.the-variants.{PropertyValueRead, PropertyValueWrite, PropertyValueResponse}
 use Rattle.judge.specs.declared.Decision.{Decision}
 use Rattle.judge.specs.Session.{levelIn}

@@ -15,7 +15,7 @@ use Rattle.octets.proofs.Truths.{never}
 use Rattle.pdu.specs.Read.{dataAt}
 use Rattle.pdu.specs.Write.{encoded}
 use Rattle.pdu.proofs.Stores.{longer}
-use Rattle.pdu.proofs.Writing.{length-encoded, has-room, same-room}
+use Rattle.pdu.proofs.promises.Writing.{length-encoded, has-room, same-room}
 use Rattle.pdu.specs.declared.Pdu.{Pdu}
 use Rattle.judge.specs.declared.Answer.{Answer}
 use Rattle.judge.specs.declared.Answer.the-variants as answer

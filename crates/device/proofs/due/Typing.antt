@@ -16,8 +16,8 @@ use Rattle.pdu.specs.Table.{rowOf}
 use Rattle.pdu.specs.Pdus.{serviceOf, valuesOf}
 use Rattle.pdu.specs.Read.{readPdu}
 use Rattle.pdu.specs.Allows.{Typed}
-use Rattle.pdu.proofs.Allowed.{wide}
-use Rattle.pdu.proofs.Outcomes.{read-carries}
+use Rattle.pdu.proofs.promises.Allowed.{wide}
+use Rattle.pdu.proofs.promises.Outcomes.{read-carries}
 use Rattle.pdu.specs.declared.Pdu.{Pdu}
 use Rattle.pdu.specs.declared.Pdu.the-variants.{GroupValueRead, GroupValueResponse, GroupValueWrite, IndividualAddressWrite, IndividualAddressRead, SerialNumberRead, SerialNumberWrite}
 use Rattle.pdu.specs.declared.Pdu.the-variants.{DeviceDescriptorRead, PropertyValueRead, PropertyValueWrite, PropertyDescriptionRead, MemoryRead, MemoryWrite, MemoryBitWrite}

@@ -6,7 +6,7 @@ use native.Mathlib.Omega.{arith}
 use Rattle.sheet.specs.Rules.{Accepted}
 use Rattle.sheet.proofs.promises.Agrees.{both-or-neither}
 use Rattle.pdu.specs.Read.{readPdu}
-use Rattle.pdu.proofs.Readings.{reading}
+use Rattle.pdu.proofs.promises.Readings.{reading}
 use Rattle.pdu.specs.declared.Pdu.{Pdu}
 use Rattle.pdu.specs.declared.Parsed.the-variants.{Is}
 use Rattle.judge.specs.declared.Decision.{Decision}

@@ -19,7 +19,7 @@ use Rattle.sheet.proofs.rules.Good.{Good, accepted}
 use Rattle.sheet.proofs.promises.Stores.{key-store, address-store, flags-store}
 use Rattle.pdu.specs.Read.{dataOf}
 use Rattle.octets.proofs.Truths.{and-is, below-is}
-use Rattle.pdu.proofs.Readings.{Reading}
+use Rattle.pdu.proofs.promises.Readings.{Reading}
 use Rattle.pdu.specs.declared.Pdu.{Pdu}
 use Rattle.pdu.specs.declared.Pdu.the-variants.{GroupValueRead, GroupValueResponse, GroupValueWrite, IndividualAddressWrite, IndividualAddressRead, SerialNumberRead, SerialNumberWrite}
 use Rattle.pdu.specs.declared.Pdu.the-variants.{DeviceDescriptorRead, PropertyValueRead, PropertyValueWrite, PropertyDescriptionRead, MemoryRead, MemoryWrite, MemoryBitWrite}

@@ -17,7 +17,7 @@ use Rattle.sheet.specs.Rules.{entryDemands}
 use Rattle.sheet.proofs.rules.Good.{Good, good}
 use Rattle.sheet.proofs.alike.Sames.{property-same}
 use Rattle.pdu.specs.Write.{encoded}
-use Rattle.pdu.proofs.Readings.{reading}
+use Rattle.pdu.proofs.promises.Readings.{reading}
 use Rattle.pdu.specs.declared.Pdu.the-variants.{PropertyValueRead, PropertyValueWrite, PropertyValueResponse}
 use Rattle.judge.specs.declared.Decision.{Decision}
 use Rattle.judge.specs.Session.{levelIn}

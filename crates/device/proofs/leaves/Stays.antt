@@ -10,7 +10,7 @@ use Rattle.sheet.specs.Rules.{Accepted, refusalOf}
 use Rattle.sheet.specs.Agree.{Agree}
 use Rattle.sheet.proofs.rules.Good.{Good, good}
 use Rattle.pdu.specs.Read.{readPdu}
-use Rattle.pdu.proofs.Readings.{reading}
+use Rattle.pdu.proofs.promises.Readings.{reading}
 use Rattle.pdu.specs.declared.Parsed.{Parsed}
 use Rattle.judge.specs.Session.{levelIn}
 use Rattle.judge.specs.Judge.{decideOf, dataIn}

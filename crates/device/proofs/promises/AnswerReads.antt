@@ -18,8 +18,8 @@ use Rattle.pdu.specs.Write.{encoded, writable}
 use Rattle.pdu.specs.Allows.{Typed}
 use Rattle.pdu.proofs.Formed.{Formed, formed-says, coded}
 use Rattle.pdu.proofs.Sound.{sound}
-use Rattle.pdu.proofs.Only.{writable-is}
-use Rattle.pdu.proofs.Back.{read-back}
+use Rattle.pdu.proofs.promises.Only.{writable-is}
+use Rattle.pdu.proofs.promises.Back.{read-back}
 use Rattle.pdu.specs.declared.Pdu.{Pdu}
 use Rattle.judge.specs.declared.Answer.{Answer}
 use Rattle.judge.specs.declared.Answer.the-variants as answer

@@ -12,7 +12,7 @@ use Rattle.octets.specs.Bytes.{bytesOf}
 use Rattle.pdu.specs.Read.{readPdu, dataAt}
 use Rattle.pdu.specs.Write.{encoded, writable}
 use Rattle.octets.proofs.Truths.{never, and-is, at-most-is}
-use Rattle.pdu.proofs.Writing.{length-encoded}
+use Rattle.pdu.proofs.promises.Writing.{length-encoded}
 use Rattle.pdu.specs.declared.Pdu.{Pdu}
 use Rattle.pdu.specs.declared.Pdu.the-variants.{Restart}
 use Rattle.pdu.specs.declared.Parsed.the-variants.{Is}

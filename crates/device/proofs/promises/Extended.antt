@@ -8,7 +8,7 @@ use native.Mathlib.Omega.{arith}
 use Rattle.sheet.specs.declared.Memory.the-variants.{User}
 use Rattle.pdu.specs.Read.{dataOf}
 use Rattle.pdu.specs.declared.Pdu.the-variants.{UserMemoryRead, UserMemoryWrite, UserMemoryResponse}
-use Rattle.pdu.proofs.Readings.{reading}
+use Rattle.pdu.proofs.promises.Readings.{reading}
 use Rattle.device.specs.Asked.{Asked, says, Reads}
 use Rattle.device.specs.Demand2.{done}
 use Rattle.device.proofs.due.Given.{user-data}

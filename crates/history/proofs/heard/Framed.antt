@@ -21,7 +21,7 @@ use Rattle.sheet.specs.Places.{regionAt, PropertyWith}
 use Rattle.sheet.proofs.alike.Sames.{count-same, region-same, property-same}
 use Rattle.sheet.proofs.searches.FrontSearch.{seek-same}
 use Rattle.sheet.proofs.alike.SameLookups.{index-same}
-use Rattle.versions.proofs.Agreeing.{same-entries-same, low-counts-same}
+use Rattle.versions.proofs.promises.Agreeing.{same-entries-same, low-counts-same}
 use Rattle.history.specs.Wish.{Wish, change, writeMemory, writeBits, writeProperty, writeKey, restoreAll, offerKey, restart, other, nothing}
 use Rattle.history.specs.Permit.{regionFor, mayRead, mayWrite, mostBytes, inRange, indexFor, entryFor, clears, fills, allowed}
 use Rattle.octets.proofs.Everys.{every-same}

@@ -11,7 +11,7 @@ use Rattle.sheet.specs.Rules.{Accepted}
 use Rattle.sheet.proofs.rules.Good.{no-rule}
 use Rattle.pdu.specs.Pdus.{serviceOf}
 use Rattle.pdu.specs.Read.{readPdu}
-use Rattle.pdu.proofs.Readings.{reading}
+use Rattle.pdu.proofs.promises.Readings.{reading}
 use Rattle.pdu.specs.declared.Service.{Service}
 use Rattle.pdu.specs.declared.Pdu.{Pdu}
 use Rattle.pdu.specs.declared.Parsed.the-variants.{Refused}

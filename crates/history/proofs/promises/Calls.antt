@@ -20,8 +20,8 @@ use Rattle.device.specs.Apart.{SameEffect, Together}
 use Rattle.events.specs.Apart.{Settled, AllSettled}
 use Rattle.device.proofs.promises.Called.{call-due, call-only}
 use Rattle.device.proofs.promises.Dues.{connect-due, connect-only, disconnect-due, disconnect-only, button-due, button-only, request-due}
-use Rattle.events.proofs.Dues.{restore-due, restore-only}
-use Rattle.events.proofs.RunsApart.{event-apart}
+use Rattle.events.proofs.promises.Dues.{restore-due, restore-only}
+use Rattle.events.proofs.promises.RunsApart.{event-apart}
 use Rattle.history.specs.History.{First, permitted}
 use Rattle.history.specs.Keeps.{stateAfter, CarriedOut, BringsOctets, AllOctets, Begins, Kept}
 use Rattle.history.specs.Keyless.{Locked, Closed, Protected}

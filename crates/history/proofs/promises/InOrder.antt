@@ -4,7 +4,7 @@ use mathlib.Core.Path.{_≡_, refl, sym, ap, _∙_}
 use mathlib.Core.List.{List, [], _∷_, _++_, reverse, reverse-cons, reverse-reverse, append-assoc}
 use Rattle.device.specs.Events.{State}
 use Rattle.events.specs.Events.{Event, after, runBy, run}
-use Rattle.events.proofs.Append.{run-append}
+use Rattle.events.proofs.promises.Append.{run-append}
 use Rattle.history.specs.History.{First}
 use Rattle.history.specs.Keeps.{stateAfter}
 use Rattle.history.specs.Rightful.{ours}

@@ -16,7 +16,7 @@ use Rattle.events.specs.Events.{Event, connect, disconnect, button, request, ev
 use Rattle.device.specs.Due.{RequestDue}
 use Rattle.device.proofs.leaves.Connections.{unknown-closed}
 use Rattle.device.proofs.promises.Dues.{connect-due, disconnect-due, button-due, button-only, request-due}
-use Rattle.events.proofs.Dues.{restore-due}
+use Rattle.events.proofs.promises.Dues.{restore-due}
 use Rattle.history.specs.History.{First, permitted}
 use Rattle.history.specs.Keeps.{Device, stateAfter, CarriedOut, Kept, Begins, BringsOctets, AllOctets, Keeps}
 use Rattle.history.specs.Rightful.{Rightful, ours}

@@ -6,7 +6,7 @@ use Rattle.device.specs.Octets.{Octets}
 use Rattle.device.specs.Events.{State}
 use Rattle.events.specs.Events.{Event, connect, disconnect, button, request, eventOf, restore}
 use Rattle.device.proofs.promises.Dues.{connect-only, disconnect-only, button-only, request-only}
-use Rattle.events.proofs.Dues.{restore-only}
+use Rattle.events.proofs.promises.Dues.{restore-only}
 use Rattle.history.specs.History.{First}
 use Rattle.history.specs.Keeps.{Device, stateAfter, BringsOctets, AllOctets, Begins}
 use Rattle.history.specs.Rightful.{Rightful, ours}

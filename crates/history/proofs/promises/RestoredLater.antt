@@ -24,8 +24,8 @@ use Rattle.versions.specs.Saving.{saveOutcome, saveNumber, saveStore}
 use Rattle.versions.specs.Restoring.{restoreOutcome, RestoredAs}
 use Rattle.versions.specs.Sequence.{Change, changedAll, AllSpare}
 use Rattle.versions.specs.Due.{AtZero}
-use Rattle.versions.proofs.OwnVersion.{settings-same}
-use Rattle.versions.proofs.RestoredIsSaved.{restored-is-saved, restore-carried}
+use Rattle.versions.proofs.promises.OwnVersion.{settings-same}
+use Rattle.versions.proofs.promises.RestoredIsSaved.{restored-is-saved, restore-carried}
 use Rattle.events.specs.Events.{Event, restore}
 use Rattle.history.specs.Location.{Location, memory, body, counter, key, Place, ofBody, ofCounter}
 use Rattle.history.specs.Span.{Span, names, gives}

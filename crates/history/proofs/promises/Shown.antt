@@ -18,7 +18,7 @@ use Rattle.pdu.specs.Read.{readPdu}
 use Rattle.pdu.specs.Write.{encoded}
 use Rattle.pdu.specs.declared.Parsed.the-variants.{Is}
 use Rattle.pdu.specs.declared.Pdu.the-variants.{PropertyValueRead, PropertyValueResponse}
-use Rattle.pdu.proofs.Readings.{reading}
+use Rattle.pdu.proofs.promises.Readings.{reading}
 use Rattle.judge.specs.Session.{levelIn}
 use Rattle.judge.specs.declared.Decision.{Decision}
 use Rattle.judge.proofs.PropertyCases.{Among, property-read-cases}

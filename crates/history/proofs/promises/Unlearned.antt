@@ -17,7 +17,7 @@ use Rattle.device.specs.Sessions.{sessionOf, sessionFor, turnedOf}
 use Rattle.device.specs.Events.{State, Effect, connectOf, disconnectOf, requestOf}
 use Rattle.device.proofs.apart.StepBut.{press-outcome, press-but}
 use Rattle.events.specs.Events.{Event, connect, disconnect, button, request, restore, eventOf, after}
-use Rattle.events.proofs.Stays.{agrees}
+use Rattle.events.proofs.promises.Stays.{agrees}
 use Rattle.events.proofs.RestoreBut.{BothBut, restore-outcome, restore-but}
 use Rattle.history.specs.History.{First, opened, level}
 use Rattle.history.specs.Keeps.{Device, stateAfter, Begins, BringsOctets, AllOctets}

@@ -5,7 +5,7 @@ use mathlib.Core.Path.{_≡_}
 use mathlib.Core.List.{List}
 use Rattle.pdu.specs.Read.{readPdu}
 use Rattle.pdu.specs.Allows.{Carries}
-use Rattle.pdu.proofs.Outcomes.{read-carries}
+use Rattle.pdu.proofs.promises.Outcomes.{read-carries}
 use Rattle.pdu.specs.declared.Parsed.the-variants.{Is}
 use Rattle.pdu.specs.declared.Pdu.{Pdu}
 use Rattle.pdu.specs.declared.Pdu.the-variants.{GroupValueResponse, GroupValueWrite, IndividualAddressWrite, SerialNumberWrite, PropertyValueWrite}

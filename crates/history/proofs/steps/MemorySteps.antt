@@ -29,7 +29,7 @@ use Rattle.history.proofs.steps.Invariant.{Inv, fine, now}
 use Rattle.history.proofs.stored.Means.{Means, store-span}
 use Rattle.history.proofs.stored.MemoryRun.{memory-place, memory-run}
 use Rattle.device.proofs.leaves.Octet.{octets-data, octets-bits}
-use Rattle.pdu.proofs.Readings.{reading}
+use Rattle.pdu.proofs.promises.Readings.{reading}
 use Rattle.device.proofs.due.OpenRanges.{over-write, opened}
 use Rattle.device.proofs.due.Given.{memory-data, user-data}
 use Rattle.history.proofs.heard.Permits.{wish, memory-is}

@@ -29,8 +29,8 @@ use Rattle.device.specs.Events.{State}
 use Rattle.versions.specs.Settings.{front, many, entriesLong, bodiesLong, inVersion, restored, SameEntries, LowCounts}
 use Rattle.versions.specs.Store.{versionIn}
 use Rattle.versions.specs.Settings.{bodyInVersion}
-use Rattle.versions.proofs.Restores as re
-use Rattle.versions.proofs.Agreeing.{entries-to, entries-from, low-to, low-from, version-octets, restored-octets}
+use Rattle.versions.proofs.promises.Restores as re
+use Rattle.versions.proofs.promises.Agreeing.{entries-to, entries-from, low-to, low-from, version-octets, restored-octets}
 use Rattle.events.specs.Events.{Event, restore}
 use Rattle.versions.specs.Due.{Known, AtZero, RestoreDue, sheetRefused, sheetOld, storeRefused, unknownNumber, notOpen, differs, tooHigh, isRestored}
 use Rattle.versions.specs.Rules.{isStore, storeRule}

@@ -14,7 +14,7 @@ use Rattle.versions.specs.Store.{isKept, versionIn}
 use Rattle.versions.specs.Rules.{isStore}
 use Rattle.versions.specs.Settings.{SameEntries, LowCounts}
 use Rattle.versions.specs.Restoring.{sameEntries, lowCounts}
-use Rattle.versions.proofs.Agreeing.{same-entries, entries-same, low-counts, counts-low}
+use Rattle.versions.proofs.promises.Agreeing.{same-entries, entries-same, low-counts, counts-low}
 use Rattle.history.specs.Wish.{change, restoreAll}
 use Rattle.history.specs.Permit.{levelFor, allowed}
 use Rattle.history.specs.History.{First, opened, level, permitted}

@@ -1,7 +1,7 @@
 -- `pdu::data_of` meets its contract.
 -- Assumes nothing.
 use borrow.Author.Needs.{needs}
-use Rattle.pdu.proofs.Writing.{rest-from, rest-past}
+use Rattle.pdu.proofs.promises.Writing.{rest-from, rest-past}
 use Rattle.pdu.proofs.data_of.Statement.{statement}
 use Rattle.pdu.proofs.data_of.Tie as tie
 

@@ -1,7 +1,7 @@
 -- `pdu::encode` meets its contract.
 -- Assumes nothing.
 use borrow.Author.Needs.{needs}
-use Rattle.pdu.proofs.Writing.{put-all}
+use Rattle.pdu.proofs.promises.Writing.{put-all}
 use Rattle.pdu.proofs.encode.Statement.{statement}
 use Rattle.pdu.proofs.encode.Tie as tie
 

@@ -9,7 +9,7 @@ use mir.Val.{toZ, ofZ}
 use mir.Facts.{toZ-ofZ}
 use Rattle.points.proofs.Best.{up-to}
 use Rattle.points.proofs.Casts.{abs-is, exponent-is, mantissa-is, code-is, limit-top}
-use Rattle.points.proofs.Choice.{mantissa-fits}
+use Rattle.points.proofs.promises.Choice.{mantissa-fits}
 use Rattle.points.proofs.Laws.{small}
 use Rattle.points.proofs.Signed.{range-abs}
 use borrow.Author.Needs.{needs}

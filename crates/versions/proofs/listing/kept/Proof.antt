@@ -2,7 +2,7 @@
 -- Assumes nothing.
 use borrow.Author.Needs.{needs}
 use Rattle.octets.specs.Octets.{Octets}
-use Rattle.versions.proofs.Lists.{bad-listed, listed-head, past-listed, number-room, long-room, some-listed}
+use Rattle.versions.proofs.promises.Lists.{bad-listed, listed-head, past-listed, number-room, long-room, some-listed}
 use Rattle.versions.proofs.listing.kept.Statement.{statement}
 use Rattle.versions.proofs.listing.kept.Tie as tie
 

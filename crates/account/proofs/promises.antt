@@ -1,0 +1,4 @@
+-- PROMISES: the statements that docs/PROMISES.md names. Each file opens with what it says.
+pub mod Accounts
+pub mod Telling
+pub mod Worked

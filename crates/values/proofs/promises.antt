@@ -1,0 +1,3 @@
+-- PROMISES: the statements that docs/PROMISES.md names. Each file opens with what it says.
+pub mod Back
+pub mod Examples
