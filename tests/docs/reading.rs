@@ -548,7 +548,7 @@ impl Tree {
                 None if module.items.iter().any(|i| i.names.contains(name)) => Some((String::new(), name.to_string())),
                 None => module.uses.get(name).cloned(),
             };
-            let Some((from, name)) = found else { continue };
+            let Some((from, name)) = found.map(|(from, name)| self.source(from, name)) else { continue };
             let at = if from.is_empty() {
                 self.find(&Home::Module(path.to_path_buf()), &name)
             } else {
@@ -565,6 +565,16 @@ impl Tree {
             Meaning::Local
         } else {
             Meaning::Unknown
+        }
+    }
+
+    /// A name and the module that has it, behind those that hand it on.
+    fn source(&mut self, from: String, name: String) -> (String, String) {
+        let Some(Home::Module(path)) = home(&from) else { return (from, name) };
+        let module = self.module(&path);
+        match module.uses.get(&name).filter(|_| !module.items.iter().any(|i| i.names.contains(&name))) {
+            Some((next, inner)) => self.source(next.clone(), inner.clone()),
+            None => (from, name),
         }
     }
 
@@ -652,14 +662,14 @@ fn home(from: &str) -> Option<Home> {
 fn uses(lines: &[String]) -> Module {
     let mut module = Module::default();
     for line in lines {
-        let line = line.trim_start_matches("pub ").trim_start_matches("ghost ").trim_end_matches(';');
-        let Some(line) = line.strip_prefix("use ") else { continue };
+        let line = line.trim_start_matches("unfoldable ").trim_start_matches("pub ").trim_start_matches("ghost ");
+        let Some(line) = line.trim_end_matches(';').strip_prefix("use ") else { continue };
         if let Some((from, alias)) = line.split_once(" as ").filter(|_| !line.contains('{')) {
             module.aliases.insert(alias.to_string(), from.to_string());
-        } else if let Some((from, names)) = line.trim_end_matches('}').split_once(".{") {
-            for name in names.split(',').map(str::trim) {
-                let (inner, name) = name.split_once(" as ").unwrap_or((name, name));
-                module.uses.insert(name.to_string(), (from.to_string(), inner.to_string()));
+        } else if let Some((from, names)) = braced(line) {
+            for (from, name) in brought(from, names) {
+                let (inner, name) = name.split_once(" as ").unwrap_or((&name, &name));
+                module.uses.insert(name.to_string(), (from, inner.to_string()));
             }
         } else if let Some((from, name)) = line.rsplit_once("::") {
             let from = format!("Rattle.{from}.specs.declared.{name}");
@@ -667,6 +677,28 @@ fn uses(lines: &[String]) -> Module {
         }
     }
     module
+}
+
+/// The module in front of a brace, and what stands in it.
+fn braced(text: &str) -> Option<(&str, &str)> {
+    text.strip_suffix('}')?.split_once(".{")
+}
+
+/// What a brace brings: each name, perhaps with its alias, behind the module that has it. A brace may have others in it.
+fn brought(from: &str, names: &str) -> Vec<(String, String)> {
+    let mut deep = 0;
+    let parts = names.split(|c| {
+        deep += i32::from(c == '{') - i32::from(c == '}');
+        c == ',' && deep == 0
+    });
+    let each = |part: &str| match braced(part) {
+        Some((inner, names)) => brought(&format!("{from}.{inner}"), names),
+        None => match part.split(" as ").next().and_then(|path| path.rfind('.')) {
+            Some(at) => vec![(format!("{from}.{}", &part[..at]), part[at + 1..].to_string())],
+            None => vec![(from.to_string(), part.to_string())],
+        },
+    };
+    parts.map(str::trim).flat_map(each).collect()
 }
 
 /// The definitions of a file: an item is a comment, a signature and what follows it.
