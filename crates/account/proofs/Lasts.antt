@@ -1,20 +1,11 @@
 -- The last event after which something was another: it is one of the history, or there is none and it never was other than at first. Assumes nothing.
-use Prim.Native.Nat.{ℕ, zero, suc, _≤_}
-use mathlib.Core.Path.{_≡_, refl, sym, ap, subst, _∙_}
-use mathlib.Core.Logic.{_⊎_, inl, inr}
-use mathlib.Core.Bool.{Bool, true, false, cond}
-use mathlib.Core.List.{List, [], _∷_}
-use lib.ListN.{drop}
-use lib.Dec.{eqb}
-use native.Mathlib.Omega.{arith}
-use borrow.Author.Tests.{eq-eqb, eqb-true, eqb-false}
+use Rattle.octets.proofs.Kit.{ℕ, zero, suc, _≤_, _≡_, refl, sym, ap, subst, _∙_, _⊎_, inl, inr, Bool, true, false, cond, List, [], _∷_, drop, eqb, arith, eq-eqb, eqb-true, eqb-false}
 use Rattle.octets.proofs.Truths.{never, decided}
 use Rattle.device.specs.Events.{State}
 use Rattle.events.specs.Events.{Event, button}
-use Rattle.history.specs.History.{First}
-use Rattle.history.specs.Keeps.{Device, stateAfter, AllOctets}
-use Rattle.account.specs.Account as account
+use Rattle.history.specs.{History.First, Keeps.{Device, stateAfter, AllOctets}}
 use Rattle.account.specs.Account.{Origin, at, lastOther, Last}
+use Rattle.account.specs.Account as account
 
 -- an origin taken apart
 abbrev pub isAt : Origin → Bool

@@ -1,23 +1,11 @@
 -- Who gave a connection its level: below 3, an offer of the key of that level. Assumes nothing.
-use Prim.Native.Nat.{ℕ, _<_, _≤_}
-use mathlib.Core.Path.{_≡_, refl, sym, ap, subst, _∙_}
-use mathlib.Core.Logic.{_⊎_, inl, inr}
-use mathlib.Core.Bool.{Bool, true, false, cond}
-use mathlib.Core.List.{List, [], _∷_}
-use lib.ListN.{drop}
-use lib.Dec.{eqb}
-use native.Mathlib.Omega.{arith}
-use borrow.Author.Tests.{eqb-true}
-use Rattle.octets.proofs.Truths.{decided}
+use Rattle.octets.proofs.Kit.{ℕ, _<_, _≡_, refl, sym, ap, subst, _∙_, _⊎_, inl, inr, Bool, true, false, cond, List, _∷_, eqb, arith, eqb-true}
 use Rattle.sheet.specs.Head.{rulesOf}
-use Rattle.device.specs.Sessions.{sessionOf}
 use Rattle.events.specs.Events.{Event, connect, disconnect, button, request, restore}
-use Rattle.history.specs.Wish.{Wish, change, offerKey, restart, other, nothing, asks}
-use Rattle.history.specs.Permit.{heard}
-use Rattle.history.specs.History.{First, opened, level, keys, offered}
-use Rattle.history.specs.Keeps.{Device, stateAfter, Begins, AllOctets, Keeps}
-use Rattle.account.specs.Account as account
+use Rattle.history.specs.{Wish.{Wish, change, offerKey, restart, other, nothing, asks}, Permit.heard, History.{First, opened, level, keys, offered}}
+use Rattle.history.specs.Keeps.{Device, stateAfter, AllOctets, Keeps}
 use Rattle.account.specs.Account.{Origin, at, levelOn, lastOther, Last, Offers, offers, Entitled, atFirst, byKey, LevelsAccounted}
+use Rattle.account.specs.Account as account
 use Rattle.account.proofs.Lasts.{beforeIt, eventIn, either, is-last, as-at-first, all-dropped}
 
 at-three : 3 < 3 → ⊥

@@ -1,23 +1,9 @@
 -- Marks made one by one; the mark of a run after another. Assumes nothing.
-use Prim.Native.Nat.{ℕ, zero, suc, _+_, _<_, _≤_}
-use mathlib.Core.Path.{_≡_, refl, sym, ap, subst, _∙_}
-use mathlib.Core.Logic.{_⊎_, inl, inr}
-use mathlib.Core.Bool.{Bool, true, false, cond}
-use mathlib.Core.List.{List, [], _∷_, _++_}
-use native.Mathlib.Decide.{decLt}
-use native.Mathlib.Nat.{add-zero}
-use native.Mathlib.Omega.{arith}
-use lib.ListN.{length, getD, set, length-set}
-use lib.Seq.{getD-set-same, getD-set-other, ext-getD}
-use lib.Dec.{eqb}
-use borrow.Author.Tests.{eq-eqb}
-use Rattle.device.specs.Events.{State}
+use Rattle.octets.proofs.Kit.{ℕ, zero, suc, _+_, _<_, _≤_, _≡_, refl, sym, ap, subst, _∙_, _⊎_, inl, inr, Bool, cond, List, [], _∷_, _++_, decLt, add-zero, arith, length, getD, set}
+use Rattle.octets.proofs.Kit.{length-set, getD-set-same, getD-set-other, ext-getD, eq-eqb}
+use Rattle.device.specs.{Events.State, declared.{Sessions.Sessions, Changed.Changed}, Sessions.sessionOf}
 use Rattle.events.specs.Events.{Event, after, runBy, run}
-use Rattle.device.specs.declared.Sessions.{Sessions}
-use Rattle.device.specs.declared.Changed.{Changed}
-use Rattle.device.specs.Sessions.{sessionOf}
-use Rattle.account.specs.Account.{byteAt, levelOn}
-use Rattle.account.specs.Marks.{markOf, markAfter, both, MarkedRun, Caught, Levelled, Markable, Marked}
+use Rattle.account.specs.{Account.{byteAt, levelOn}, Marks.{markOf, markAfter, both, MarkedRun, Caught, Levelled, Markable, Marked}}
 
 -- what is as it was keeps its mark
 pub kept : (b a m n : ℕ) → a ≡ b → markOf b a m n ≡ m

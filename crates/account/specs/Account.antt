@@ -1,5 +1,4 @@
 -- WHO CHANGED A BYTE, AND BY WHAT RIGHT; who gave a connection its level. The newest event stands first.
--- Assumes nothing.
 use Prim.Native.Nat.{ℕ, _<_, _≤_}
 use mathlib.Core.Path.{_≡_}
 use mathlib.Core.List.{List, [], _∷_}

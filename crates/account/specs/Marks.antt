@@ -1,5 +1,4 @@
 -- MARKS: a number for each byte of a sheet and one for the level of each connection, that of the event after which it was another last.
--- Assumes nothing.
 use Prim.Native.Nat.{ℕ, suc, _+_, _<_, _≤_}
 use mathlib.Core.Path.{_≡_}
 use mathlib.Core.List.{List, [], _∷_}

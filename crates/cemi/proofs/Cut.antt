@@ -1,11 +1,5 @@
 -- A part that is cut out of a frame. Assumes nothing.
-use Prim.Native.Nat.{ℕ, _+_, _-_, _≤_, _<_}
-use mathlib.Core.Path.{_≡_, _∙_}
-use mathlib.Core.List.{List}
-use native.Mathlib.Nat.{add-sub-cancel-left}
-use native.Mathlib.Omega.{arith}
-use lib.ListN.{length, take, drop}
-use borrow.Author.Tests.{le-leb, lt-leb}
+use Rattle.octets.proofs.Kit.{ℕ, _+_, _-_, _≤_, _<_, _≡_, _∙_, List, add-sub-cancel-left, arith, length, take, drop, le-leb, lt-leb}
 use denote.Ref.{RefT}
 use Rattle.cemi.specs.Parts.{PartOf, partOf, partFrom}
 

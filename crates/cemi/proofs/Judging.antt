@@ -1,15 +1,7 @@
 -- From the tests that reading and writing make to the number of the refusal. Assumes nothing.
-use Prim.Native.Nat.{ℕ, _+_, _-_, _≤_, _<_}
-use mathlib.Core.Path.{_≡_, refl, ap, _∙_}
-use mathlib.Core.Bool.{Bool, true, false, cond, _||_}
-use mathlib.Core.Logic.{inr}
-use lib.Dec.{eqb}
-use borrow.Author.Tests.{lt-ltb, le-ltb, le-leb, lt-leb, eq-eqb, ne-eqb}
+use Rattle.octets.proofs.Kit.{ℕ, _+_, _-_, _≤_, _<_, _≡_, refl, ap, _∙_, Bool, true, false, cond, _||_, inr, eqb, lt-ltb, le-ltb, le-leb, lt-leb, eq-eqb, ne-eqb}
 use Rattle.octets.proofs.Truths.{or-is}
-use Rattle.cemi.specs.Layout.{request, indication}
-use Rattle.cemi.specs.Read.{standardOf, refusalOf}
-use Rattle.cemi.specs.Write.{writable}
-use Rattle.cemi.specs.declared.Fields.{Fields}
+use Rattle.cemi.specs.{Layout.{request, indication}, Read.{standardOf, refusalOf}, Write.writable, declared.Fields.Fields}
 
 module _ (n l : ℕ) (f : Fields) (x : ℕ) where
   pub no-code-room : n < 2 → 40 ≡ refusalOf n l f x

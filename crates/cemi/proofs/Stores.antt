@@ -1,16 +1,7 @@
 -- Runs stored one after the other make the bytes of a frame. Assumes nothing.
-use Prim.Native.Nat.{ℕ, _+_, _-_, _*_, _/_, _%_, _≤_, _<_}
-use mathlib.Core.Path.{_≡_, refl, ap, _∙_}
-use mathlib.Core.List.{List, [], _∷_, _++_, append-assoc}
-use native.Mathlib.Omega.{arith}
-use lib.ListN.{length, take, drop, getD, length-append}
-use lib.Seq.{take-all}
-use Rattle.octets.specs.Bytes.{bytesOf}
-use Rattle.octets.specs.Splice.{splice}
-use Rattle.octets.proofs.Splices.{splice-more, length-splice}
-use Rattle.cemi.specs.Layout.{table, bytesIn, size}
-use Rattle.cemi.specs.Write.{numbersOf, under, frontBytes, encoded}
-use Rattle.cemi.specs.declared.Fields.{Fields}
+use Rattle.octets.proofs.Kit.{ℕ, _+_, _-_, _*_, _/_, _%_, _≤_, _<_, _≡_, refl, ap, _∙_, List, [], _∷_, _++_, append-assoc, arith, length, take, drop, getD, length-append, take-all}
+use Rattle.octets.{specs.{Bytes.bytesOf, Splice.splice}, proofs.Splices.{splice-more, length-splice}}
+use Rattle.cemi.specs.{Layout.{table, bytesIn, size}, Write.{numbersOf, under, frontBytes, encoded}, declared.Fields.Fields}
 
 -- a second run right after the first
 longer :

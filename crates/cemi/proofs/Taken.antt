@@ -1,15 +1,7 @@
 -- From the bytes that reading takes to what reading gives. Assumes nothing.
-use Prim.Native.Nat.{ℕ, _+_, _/_, _%_, _^_}
-use mathlib.Core.Path.{_≡_, sym, ap, _∙_}
-use mathlib.Core.List.{List}
-use lib.ListN.{length}
-use borrow.Author.Tests.{ne-eqb}
+use Rattle.octets.proofs.Kit.{ℕ, _+_, _/_, _%_, _^_, _≡_, sym, ap, _∙_, List, length, ne-eqb}
 use Rattle.octets.specs.Bytes.{IsNum}
-use Rattle.cemi.specs.Layout.{infoLength, tableAt}
-use Rattle.cemi.specs.Read.{fieldsIn, frameIn, refusalOf, readFrame}
-use Rattle.cemi.specs.declared.Fields.{Fields}
-use Rattle.cemi.specs.declared.Frame.{Frame}
-use Rattle.cemi.specs.declared.Got.the-variants.{Is, Refused}
+use Rattle.cemi.specs.{Layout.{infoLength, tableAt}, Read.{fieldsIn, frameIn, refusalOf, readFrame}, declared.{Fields.Fields, Frame.Frame, Got.the-variants.{Is, Refused}}}
 
 module _ (b : List ℕ) (at : ℕ) (e : at ≡ tableAt (infoLength b)) where
   pub fields-are :

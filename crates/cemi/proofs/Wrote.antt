@@ -1,17 +1,7 @@
 -- From what the parts of a write ensure to what writing gives. Assumes nothing.
-use Prim.Native.Nat.{ℕ, _+_, _-_, _≤_, _<_}
-use mathlib.Core.Path.{_≡_, refl, sym, _∙_}
-use mathlib.Core.Bool.{Bool, true, false, _&&_}
-use mathlib.Core.List.{List}
-use lib.ListN.{length}
-use borrow.Author.Tests.{lt-ltb, le-ltb, leb-true}
-use lib.Dec.{leb, eqb}
-use Rattle.octets.specs.Splice.{splice}
-use Rattle.cemi.specs.Read.{refusalOf}
-use Rattle.cemi.specs.Write.{encoded, countOf, writable, writeOf, Wrote}
-use Rattle.octets.proofs.Truths.{first-true, second-true}
-use Rattle.cemi.specs.declared.Fields.{Fields}
-use Rattle.cemi.specs.declared.Written.the-variants.{Bytes, Refused}
+use Rattle.octets.proofs.Kit.{ℕ, _+_, _-_, _≤_, _<_, _≡_, refl, sym, _∙_, Bool, true, false, _&&_, List, length, lt-ltb, le-ltb, leb-true, leb, eqb}
+use Rattle.octets.{specs.Splice.splice, proofs.Truths.{first-true, second-true}}
+use Rattle.cemi.specs.{Read.refusalOf, Write.{encoded, countOf, writable, writeOf, Wrote}, declared.{Fields.Fields, Written.the-variants.{Bytes, Refused}}}
 
 -- what may be written has these bounds
 pub record Writable (f : Fields) (l k : ℕ) : Type 0 where

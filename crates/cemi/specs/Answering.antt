@@ -1,5 +1,4 @@
 -- A FRAME THAT ANSWERS ANOTHER: its fields. It has no additional information.
--- Assumes nothing.
 use Prim.Native.Nat.{ℕ, _+_, _*_, _/_, _%_}
 use mathlib.Core.Bool.{cond}
 use lib.Dec.{leb, eqb}

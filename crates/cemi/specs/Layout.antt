@@ -1,5 +1,4 @@
 -- The layout of a frame: message code, length of the additional information, that information, the table of fields, the bytes from octet 6 on.
--- Assumes nothing.
 use Prim.Native.Nat.{ℕ, _+_, _^_, _<_}
 use mathlib.Core.List.{List, [], _∷_, _++_}
 use Rattle.octets.specs.Bytes.{numAt, bytesOf}

@@ -1,5 +1,4 @@
 -- The parts of a caller's frame: the additional information, and the TPDU, the bytes from octet 6 on.
--- Assumes nothing.
 use Prim.Native.Nat.{ℕ, _+_}
 use mathlib.Core.Path.{_≡_}
 use mathlib.Core.Bool.{cond}

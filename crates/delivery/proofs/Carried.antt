@@ -1,24 +1,12 @@
 -- What the device stores for a datapoint, and what it answers: its bytes, or its six bits and data.
--- Assumes nothing.
-use Prim.Native.Nat.{ℕ, _≤_}
-use mathlib.Core.Path.{_≡_, sym, ap, _∙_}
-use mathlib.Core.List.{List, []}
-use lib.ListN.{length}
-use native.Mathlib.Omega.{arith}
-use Rattle.octets.specs.Bytes.{numAt}
-use Rattle.octets.specs.Splice.{splice}
+use Rattle.octets.proofs.Kit.{ℕ, _≤_, _≡_, sym, ap, _∙_, List, [], length, arith}
+use Rattle.octets.specs.{Bytes.numAt, Splice.splice}
 use Rattle.sheet.specs.Layout.{_of_}
 use Rattle.sheet.specs.Group as group
-use Rattle.pdu.specs.declared.Pdu.{Pdu}
-use Rattle.pdu.specs.declared.Pdu.the-variants.{GroupValueRead, GroupValueResponse}
-use Rattle.points.specs.Point.{typeOf, widthAt, numberOf, pointBytes}
-use Rattle.points.specs.declared.Datapoint.{Datapoint}
-use Rattle.points.specs.declared.Datapoint.the-variants.{Switch, Byte, Hundredths, Float as Single}
+use Rattle.pdu.specs.declared.Pdu.{Pdu, the-variants.{GroupValueRead, GroupValueResponse}}
+use Rattle.points.specs.{Point.{typeOf, widthAt, numberOf, pointBytes}, declared.Datapoint.{Datapoint, the-variants.{Switch, Byte, Hundredths, Float as Single}}}
 use Rattle.values.specs.Value.{sixBits, valueData}
-use Rattle.device.specs.Step.{Step}
-use Rattle.device.specs.Asked.{Asked, says, stores, Reads, given, part}
-use Rattle.device.specs.GroupsDue.{Group, Brings, Flag, groupEntry}
-use Rattle.device.specs.Demand2.{done}
+use Rattle.device.specs.{Step.Step, Asked.{Asked, says, stores, Reads, given, part}, GroupsDue.{Group, Brings, Flag, groupEntry}, Demand2.done}
 use Rattle.device.proofs.due.RightGroups.{only-group-put0, only-group-put, only-group-read0, only-group-read}
 use Rattle.delivery.specs.Delivery.{lengthCode}
 use Rattle.delivery.proofs.Received.{length-point}

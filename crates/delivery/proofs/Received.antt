@@ -1,35 +1,13 @@
 -- What is sent is received: the bytes that the tool writes read as the PDU with the data of the datapoint.
--- Assumes nothing.
-use Prim.Native.Nat.{ℕ, _+_, _≤_, max}
-use mathlib.Core.Path.{_≡_, refl, ap, _∙_}
-use mathlib.Core.List.{List, [], _++_}
-use lib.ListN.{length}
-use native.Mathlib.Omega.{arith}
-use Rattle.octets.specs.Bytes.{bytesOf}
-use Rattle.octets.proofs.Numbers.{length-bytes}
-use Rattle.sheet.specs.Head.{rulesOf}
-use Rattle.sheet.specs.Rules.{Accepted}
-use Rattle.pdu.specs.Table.{rowOf}
-use Rattle.pdu.specs.Pdus.{serviceOf, valuesOf}
-use Rattle.pdu.specs.Rules.{headBytes}
-use Rattle.pdu.specs.Read.{readPdu, dataOf}
-use Rattle.pdu.specs.Write.{encoded}
-use Rattle.pdu.specs.Allows.{Allows}
-use Rattle.pdu.proofs.promises.Back.{read-back}
-use Rattle.pdu.proofs.promises.Readings.{reading}
-use Rattle.pdu.specs.declared.Pdu.{Pdu}
-use Rattle.pdu.specs.declared.Pdu.the-variants.{GroupValueResponse, GroupValueWrite}
-use Rattle.pdu.specs.declared.Parsed.the-variants.{Is}
-use Rattle.points.specs.Point.{typeOf, widthAt, numberOf, pointBytes}
-use Rattle.points.specs.declared.Datapoint.{Datapoint}
-use Rattle.points.specs.declared.Datapoint.the-variants.{Switch, Byte, Hundredths, Float as Single}
-use Rattle.values.specs.Value.{valueData}
-use Rattle.values.proofs.promises.Back.{allowed}
+use Rattle.octets.proofs.Kit.{ℕ, _+_, _≤_, max, _≡_, refl, ap, _∙_, List, [], _++_, length, arith}
+use Rattle.octets.{specs.Bytes.bytesOf, proofs.Numbers.length-bytes}
+use Rattle.sheet.specs.{Head.rulesOf, Rules.Accepted}
+use Rattle.pdu.specs.{Table.rowOf, Pdus.{serviceOf, valuesOf}, Rules.headBytes, Read.{readPdu, dataOf}, Write.encoded, Allows.Allows, declared.Pdu.Pdu}
+use Rattle.pdu.{specs.declared.{Pdu.the-variants.{GroupValueResponse, GroupValueWrite}, Parsed.the-variants.Is}, proofs.promises.{Back.read-back, Readings.reading}}
+use Rattle.points.specs.{Point.{typeOf, widthAt, numberOf, pointBytes}, declared.Datapoint.{Datapoint, the-variants.{Switch, Byte, Hundredths, Float as Single}}}
 use Rattle.judge.specs.Session.{multicast}
-use Rattle.device.specs.Octets.{Octets}
-use Rattle.device.specs.Asked.{Asked, Takes, toGroup, Reads, given}
-use Rattle.device.proofs.due.Taking.{among-at}
-use Rattle.device.specs.GroupsDue.{Brings}
+use Rattle.values.{specs.Value.valueData, proofs.promises.Back.allowed}
+use Rattle.device.{specs.{Octets.Octets, Asked.{Asked, Takes, toGroup, Reads, given}, GroupsDue.Brings}, proofs.due.Taking.among-at}
 use Rattle.device.proofs.leaves.Octet.{octets-none, octets-append, octets-bytes}
 use Rattle.delivery.specs.Delivery.{lengthCode, Sends}
 

@@ -1,25 +1,10 @@
 -- What is stored over the body of a group object is what a lookup by its address then hands out.
--- Assumes nothing.
-use Prim.Native.Nat.{ℕ, _+_, _≤_, _<_, max}
-use mathlib.Core.Path.{_≡_, sym, ap, ap₂, _∙_}
-use mathlib.Core.List.{List}
-use lib.ListN.{length, take, drop}
-use native.Mathlib.Omega.{arith}
-use borrow.Author.Tests.{eq-eqb, lt-ltb}
-use Rattle.octets.specs.Splice.{splice}
-use Rattle.octets.proofs.Splices.{splice-read}
-use Rattle.sheet.specs.Kind.{groups}
-use Rattle.sheet.specs.Layout.{_of_}
-use Rattle.sheet.specs.Group as group
-use Rattle.sheet.specs.Entries.{count, entry, keyOf, offsetOf, lengthOf, bodyEnd}
-use Rattle.sheet.specs.Rules.{verdictOf, Accepted, isAccepted}
-use Rattle.sheet.specs.Lookup.{bodyOf, lookup, groupOf}
-use Rattle.sheet.specs.Agree.{Agree}
-use Rattle.sheet.proofs.rules.Good.{good}
-use Rattle.sheet.proofs.promises.Keys.{index-hit}
-use Rattle.sheet.proofs.places.BodyPlaces.{within}
-use Rattle.sheet.proofs.alike.Sames.{count-same, group-same, offset-same, length-same}
+use Rattle.octets.proofs.Kit.{ℕ, _+_, _≤_, _<_, max, _≡_, sym, ap, ap₂, _∙_, List, length, take, drop, arith, eq-eqb, lt-ltb}
+use Rattle.octets.{specs.Splice.splice, proofs.Splices.splice-read}
+use Rattle.sheet.specs.{Kind.groups, Layout._of_, Entries.{count, entry, keyOf, offsetOf, lengthOf, bodyEnd}, Rules.{verdictOf, Accepted, isAccepted}, Lookup.{bodyOf, lookup, groupOf}}
+use Rattle.sheet.{specs.Agree.Agree, proofs.{rules.Good.good, promises.Keys.index-hit, places.BodyPlaces.within, alike.Sames.{count-same, group-same, offset-same, length-same}}}
 use Rattle.sheet.proofs.promises.Agrees.{both-or-neither}
+use Rattle.sheet.specs.Group as group
 
 module _ (s : List ℕ) (ok : Accepted s) (i : ℕ) (there : i < count s groups) (ds : List ℕ) (long : length ds ≡ max 1 (group.code of entry s groups i)) where
   abbrev pub stored : List ℕ

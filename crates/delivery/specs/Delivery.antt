@@ -1,5 +1,4 @@
 -- A DATAPOINT DELIVERED: how it is sent to a group object, what is then so, and what a read of the object is told.
--- Assumes nothing.
 use Prim.Native.Nat.{ℕ, _≤_}
 use mathlib.Core.Path.{_≡_}
 use mathlib.Core.Bool.{cond}

@@ -1,5 +1,4 @@
 -- WHAT IS DUE FOR THE INDIVIDUAL ADDRESS, by programming mode and by serial number, and for the descriptor.
--- Assumes nothing.
 use Prim.Native.Nat.{ℕ, _≤_}
 use mathlib.Core.Path.{_≡_}
 use mathlib.Core.List.{[]}

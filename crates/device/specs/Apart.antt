@@ -1,5 +1,4 @@
 -- Two devices whose sheets differ in the number of the rules alone, and the requests that the rules are at odds about.
--- Assumes nothing.
 use Prim.Native.Nat.{ℕ, _≤_}
 use mathlib.Core.Path.{_≡_}
 use mathlib.Core.List.{List}

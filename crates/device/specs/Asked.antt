@@ -1,5 +1,4 @@
 -- A request as it arrives and what it meets, and what is known of it before its service decides: plain propositions, in the order of the outcomes.
--- Assumes nothing.
 use Prim.Native.Nat.{ℕ, _+_, _≤_, _<_}
 use mathlib.Core.Path.{_≡_}
 use mathlib.Core.Bool.{true, false}

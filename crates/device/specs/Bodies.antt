@@ -1,5 +1,4 @@
 -- Two sheets that differ at most in body bytes of memory and properties.
--- Assumes nothing.
 use Prim.Native.Nat.{ℕ, _<_}
 use mathlib.Core.Path.{_≡_}
 use mathlib.Core.List.{List}

@@ -1,5 +1,4 @@
 -- Carrying a decision out: what it stores, what becomes of the session, what it answers.
--- Assumes nothing.
 use Prim.Native.Nat.{ℕ, zero, suc, _+_}
 use mathlib.Core.Path.{_≡_}
 use mathlib.Core.List.{List, [], _∷_, _++_}

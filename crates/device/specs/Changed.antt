@@ -1,5 +1,4 @@
 -- WHAT A REQUEST CHANGED: the runs of sheet bytes that it stores.
--- Assumes nothing.
 use Prim.Native.Nat.{ℕ, _+_, _≤_, _<_}
 use mathlib.Core.Path.{_≡_}
 use mathlib.Core.List.{List}

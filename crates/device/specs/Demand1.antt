@@ -1,5 +1,4 @@
 -- DEMAND 1 of a call: what it gives back, and what it leaves in the slices lent to it.
--- Assumes nothing.
 use Prim.Native.Nat.{ℕ, _≤_}
 use mathlib.Core.Path.{_≡_}
 use mathlib.Core.Logic.{_⊎_}

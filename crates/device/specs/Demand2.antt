@@ -1,5 +1,4 @@
 -- DEMAND 2 of any device: what it does with a request is what is due.
--- Assumes nothing.
 use mathlib.Core.List.{List}
 use Prim.Native.Nat.{ℕ}
 use lib.ListN.{take}

@@ -1,5 +1,4 @@
 -- WHAT IS DUE for each event: connect, disconnect, the button, and a request, by the step that is due (`Right`).
--- Assumes nothing.
 use Prim.Native.Nat.{ℕ, _+_, _*_, _<_, _≤_}
 use mathlib.Core.Path.{_≡_}
 use mathlib.Core.Bool.{Bool, true, false}

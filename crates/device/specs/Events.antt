@@ -1,5 +1,4 @@
 -- What connects, disconnects, the button and requests give.
--- Assumes nothing.
 use Prim.Native.Nat.{ℕ, _+_, _-_}
 use mathlib.Core.Path.{_≡_}
 use mathlib.Core.List.{List, [], _∷_}

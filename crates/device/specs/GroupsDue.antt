@@ -1,5 +1,4 @@
 -- WHAT IS DUE FOR A GROUP VALUE: read, written, brought by a Response.
--- Assumes nothing.
 use Prim.Native.Nat.{ℕ, _/_, _%_, _≤_, _<_}
 use mathlib.Core.Path.{_≡_}
 use mathlib.Core.List.{List, []}

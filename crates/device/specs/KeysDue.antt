@@ -1,5 +1,4 @@
 -- WHAT IS DUE FOR KEYS, offered and written, and for a restart.
--- Assumes nothing.
 use Prim.Native.Nat.{ℕ, _*_, _≤_}
 use mathlib.Core.Path.{_≡_}
 use mathlib.Core.Bool.{true, false}

@@ -1,5 +1,4 @@
 -- The sample sheet and the sixteen marked cases.
--- Assumes nothing.
 use Prim.Native.Nat.{ℕ}
 use mathlib.Core.List.{List, [], _∷_}
 use mathlib.Core.Bool.{true, false}

@@ -1,5 +1,4 @@
 -- WHAT IS DUE FOR MEMORY: read, written, bits written.
--- Assumes nothing.
 use Prim.Native.Nat.{ℕ, _+_, _/_, _%_, _≤_, _<_}
 use mathlib.Core.Path.{_≡_}
 use mathlib.Core.List.{List, []}

@@ -1,5 +1,4 @@
 -- One request after another, and that it is answered as the one before was.
--- Assumes nothing.
 use Prim.Native.Nat.{_≤_}
 use mathlib.Core.Path.{_≡_}
 use mathlib.Core.Bool.{true}

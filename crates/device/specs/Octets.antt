@@ -1,3 +1,2 @@
 -- A list of bytes, passed on.
--- Assumes nothing.
 pub use Rattle.octets.specs.Octets.{Octets}

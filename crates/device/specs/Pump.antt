@@ -1,5 +1,4 @@
 -- A sheet of edition 2 that has both memories, with addresses that they share.
--- Assumes nothing.
 use Prim.Native.Nat.{ℕ}
 use mathlib.Core.List.{List, [], _∷_}
 

@@ -1,5 +1,4 @@
 -- What the bytes of an answer are: a PDU, and where a request is denied the negative answer of its service.
--- Assumes nothing.
 use Prim.Native.Nat.{ℕ, _≤_}
 use mathlib.Core.Path.{_≡_}
 use mathlib.Core.List.{List, []}

@@ -1,5 +1,4 @@
 -- DEMAND 2: THE STEP THAT IS DUE, as plain propositions. Every outcome, answer and store has its condition here or in the files of the services.
--- Assumes nothing.
 use Prim.Native.Nat.{ℕ}
 use mathlib.Core.Path.{_≡_}
 use Rattle.sheet.specs.Head.{rulesOf}

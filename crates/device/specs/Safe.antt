@@ -1,5 +1,4 @@
 -- What carrying a decision out may rely on: each store lies in the sheet, and the answer can be written.
--- Assumes nothing.
 use Prim.Native.Nat.{ℕ, _+_, _≤_}
 use mathlib.Core.Path.{_≡_}
 use mathlib.Core.Bool.{Bool, true, false}

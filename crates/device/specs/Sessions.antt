@@ -1,5 +1,4 @@
 -- THE SESSIONS of connections 0 and 1, and which of them a request meets.
--- Assumes nothing.
 use Prim.Native.Nat.{ℕ}
 use mathlib.Core.Bool.{Bool, true, false, cond}
 use lib.Dec.{ltb, eqb}

@@ -1,5 +1,4 @@
 -- WHAT A REQUEST DOES: judged, carried out, answered.
--- Assumes nothing.
 use Prim.Native.Nat.{ℕ}
 use mathlib.Core.Bool.{Bool}
 use mathlib.Core.List.{List}

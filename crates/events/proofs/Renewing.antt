@@ -1,36 +1,17 @@
 -- An event on a sheet in the release before, and on the accepted one that is it with 2 in byte 0: the same outcome and answer, and so it goes on. Assumes nothing.
-use Prim.Native.Nat.{ℕ, _≤_}
-use mathlib.Core.Path.{_≡_, refl, sym, ap, ap₂, _∙_}
-use mathlib.Core.Bool.{Bool, true, false, cond}
-use mathlib.Core.List.{List, [], _∷_, _++_}
-use lib.Dec.{eqb}
-use lib.ListN.{length, getD}
-use native.Mathlib.Omega.{arith}
-use borrow.Author.Tests.{eqb-true}
+use Rattle.octets.proofs.Kit.{ℕ, _≤_, _≡_, refl, sym, ap, ap₂, _∙_, Bool, true, false, cond, List, [], _∷_, _++_, eqb, length, getD, arith, eqb-true}
 use Rattle.octets.specs.Bytes.{bytesOf}
-use Rattle.sheet.specs.Kind.{regions, properties, groups}
+use Rattle.sheet.{specs.{Kind.{regions, properties, groups}, Entries.{base, startOf}, Agree.AgreeInside, Rules.{refusalOf, refusalBefore}}, proofs.rules.Good.good}
+use Rattle.sheet.proofs.{places.BodyPlaces.{start-first, start-up}, alike.{Buts.part-but, Sames.{count-same, start-same}}, promises.Verdicts.refused-none}
 use Rattle.sheet.specs.Head as head
-use Rattle.sheet.specs.Entries.{base, startOf}
-use Rattle.sheet.specs.Agree.{AgreeInside}
-use Rattle.sheet.specs.Rules.{refusalOf, refusalBefore}
-use Rattle.sheet.proofs.rules.Good.{good}
-use Rattle.sheet.proofs.places.BodyPlaces.{start-first, start-up}
-use Rattle.sheet.proofs.alike.Buts.{part-but}
-use Rattle.sheet.proofs.alike.Sames.{count-same, start-same}
-use Rattle.sheet.proofs.promises.Verdicts.{refused-none}
-use Rattle.judge.specs.Session.{connected}
-use Rattle.judge.specs.declared.Session.{Session}
-use Rattle.device.specs.declared.Sessions.{Sessions}
-use Rattle.device.specs.Sessions.{freshOf, withSession, sessionOf, sessionFor}
+use Rattle.judge.specs.{Session.connected, declared.Session.Session}
+use Rattle.device.specs.{declared.Sessions.Sessions, Sessions.{freshOf, withSession, sessionOf, sessionFor}}
 use Rattle.device.specs.Events.{State, Effect, connectOf, disconnectOf, buttonOutcome, buttonSheet, requestOf}
 use Rattle.device.proofs.apart.Renewing.{Fronted, Renews, splice-fronted, fronted, again, let-be, inside-both, request-same, request-renews, press-renews}
-use Rattle.versions.specs.Store.{versionIn}
-use Rattle.versions.specs.Settings.{front, many, entriesLong, bodiesLong, settingsOf, restored, SameEntries, LowCounts}
-use Rattle.versions.specs.Restoring.{restoreBy, leftBy, restoreOutcome, restoreSheet}
-use Rattle.versions.proofs.promises.Dues.{allowed}
+use Rattle.versions.specs.{Store.versionIn, Settings.{front, many, entriesLong, bodiesLong, settingsOf, restored, SameEntries, LowCounts}}
+use Rattle.versions.{specs.Restoring.{restoreBy, leftBy, restoreOutcome, restoreSheet}, proofs.promises.Dues.allowed}
 use Rattle.versions.proofs.promises.Restores as re
-use Rattle.events.specs.Events.{Event, connect, disconnect, button, request, restore, leaves, runBy, eventOf, after, run}
-use Rattle.events.specs.Before.{eventBefore, runBefore}
+use Rattle.events.specs.{Events.{Event, connect, disconnect, button, request, restore, leaves, runBy, eventOf, after, run}, Before.{eventBefore, runBefore}}
 use Rattle.events.proofs.RestoreBut.{long-same, base-same, restored-alike}
 
 -- a restore

@@ -1,24 +1,9 @@
 -- A restore on two sheets that are the same but at some positions, and agree on what the rules read: the same outcome, and what it leaves differs there alone. Assumes nothing.
-use Prim.Native.Nat.{ℕ}
-use mathlib.Core.Path.{_≡_, refl}
-use mathlib.Core.Bool.{Bool, true, false, cond}
-use mathlib.Core.List.{List}
-use lib.Dec.{eqb}
-use native.Mathlib.Omega.{arith}
-use borrow.Author.Tests.{eqb-true}
-use Rattle.sheet.specs.Kind.{properties}
-use Rattle.sheet.specs.Entries.{base}
-use Rattle.sheet.specs.Agree.{AgreeBy}
-use Rattle.sheet.specs.Rules.{Accepted}
-use Rattle.sheet.specs.But.{But}
-use Rattle.sheet.proofs.alike.Buts.{splice-but}
-use Rattle.sheet.proofs.alike.Sames.{count-same, place-same, start-same}
+use Rattle.octets.proofs.Kit.{ℕ, _≡_, refl, Bool, true, false, cond, List, eqb, arith, eqb-true}
+use Rattle.sheet.{specs.{Kind.properties, Entries.base, Agree.AgreeBy, Rules.Accepted, But.But}, proofs.alike.{Buts.splice-but, Sames.{count-same, place-same, start-same}}}
 use Rattle.judge.specs.declared.Session.{Session}
-use Rattle.versions.specs.Store.{versionIn}
-use Rattle.versions.specs.Settings.{entriesLong, restored, SameEntries, LowCounts}
-use Rattle.versions.specs.Restoring.{givesBack, restoreBy, restoreOutcome, restoreSheet}
-use Rattle.versions.proofs.promises.Agreeing.{entries-to, low-to, same-entries-same, low-counts-same}
-use Rattle.versions.proofs.promises.Dues.{allowed}
+use Rattle.versions.specs.{Store.versionIn, Settings.{entriesLong, restored, SameEntries, LowCounts}, Restoring.{givesBack, restoreBy, restoreOutcome, restoreSheet}}
+use Rattle.versions.proofs.promises.{Agreeing.{entries-to, low-to, same-entries-same, low-counts-same}, Dues.allowed}
 use Rattle.versions.proofs.promises.Restores as re
 
 -- both are accepted, and the same but at H

@@ -1,5 +1,4 @@
 -- Events, and lists of them, with no request that the rules are at odds about.
--- Assumes nothing.
 use Prim.Native.Nat.{ℕ}
 use mathlib.Core.Path.{_≡_}
 use mathlib.Core.List.{List, [], _∷_}

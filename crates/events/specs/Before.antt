@@ -1,5 +1,4 @@
 -- A MODEL OF THE RELEASE BEFORE, which served old sheets: a release by the number that it refuses a sheet by, all else being as in this one.
--- Assumes nothing.
 use Prim.Native.Nat.{ℕ}
 use mathlib.Core.Path.{_≡_}
 use mathlib.Core.List.{List, []}

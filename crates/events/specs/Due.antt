@@ -1,5 +1,4 @@
 -- WHAT IS DUE for a restore: outcome and sheet as the store's rules have them (`RestoreDue` of versions), by the session of its connection.
--- Assumes nothing.
 use Prim.Native.Nat.{ℕ}
 use mathlib.Core.Path.{_≡_}
 use mathlib.Core.List.{List, []}

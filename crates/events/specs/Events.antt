@@ -1,5 +1,4 @@
 -- EVENTS: what reaches a device, a step over one, and a run over a list of them.
--- Assumes nothing.
 use Prim.Native.Nat.{ℕ}
 use mathlib.Core.List.{List, [], _∷_}
 use mathlib.Core.Bool.{Bool}

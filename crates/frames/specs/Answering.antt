@@ -1,5 +1,4 @@
 -- The frame in which a device answers a request, and what the answer's PDU is in it.
--- Assumes nothing.
 use Prim.Native.Nat.{ℕ}
 use mathlib.Core.Path.{_≡_}
 use mathlib.Core.List.{List}

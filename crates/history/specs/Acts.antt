@@ -1,5 +1,4 @@
 -- A STORE BESIDE THE DEVICE: acts that reach the one, the other or both, and two runs of them side by side.
--- Assumes nothing.
 use Prim.Native.Nat.{ℕ}
 use mathlib.Core.Path.{_≡_}
 use mathlib.Core.List.{List, [], _∷_}

@@ -1,5 +1,4 @@
 -- RUNS OF CALLS: what a host sees call by call, by the contracts of the calls alone.
--- Assumes nothing.
 use Prim.Native.Nat.{ℕ}
 use mathlib.Core.Path.{_≡_}
 use mathlib.Core.Bool.{Bool}

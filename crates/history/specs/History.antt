@@ -1,5 +1,4 @@
 -- WHAT A HISTORY SAYS, by the first sheet, the first sessions and the events alone. The newest event stands first.
--- Assumes nothing.
 use Prim.Native.Nat.{ℕ, _+_, _*_, _-_}
 use mathlib.Core.List.{List, [], _∷_}
 use mathlib.Core.Bool.{Bool, true, false, cond, _&&_}

@@ -1,5 +1,4 @@
 -- TWO TOOLS SIDE BY SIDE: what one of them sees, whatever the other sends that changes nothing. A predicate over any device.
--- Assumes nothing.
 use Prim.Native.Nat.{ℕ}
 use mathlib.Core.Path.{_≡_}
 use mathlib.Core.List.{List, [], _∷_}

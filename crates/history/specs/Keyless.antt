@@ -1,5 +1,4 @@
 -- A laptop without a key: which bytes are protected up to a level, and a history in which nobody offers a key that opens them.
--- Assumes nothing.
 use Prim.Native.Nat.{ℕ, _%_, _<_, _≤_}
 use mathlib.Core.Path.{_≡_}
 use mathlib.Core.List.{List, [], _∷_}

@@ -1,5 +1,4 @@
 -- The bytes that are protected, and where each stands in a sheet.
--- Assumes nothing.
 use Prim.Native.Nat.{ℕ, _+_, _*_, _<_}
 use mathlib.Core.Path.{_≡_}
 use mathlib.Core.List.{List}

@@ -1,5 +1,4 @@
 -- The bytes that are no locations and yet change: the individual address, programming mode, group values.
--- Assumes nothing.
 use Prim.Native.Nat.{ℕ, _+_, _/_, _%_}
 use mathlib.Core.List.{List, [], _∷_}
 use mathlib.Core.Bool.{cond, _&&_}

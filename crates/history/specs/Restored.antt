@@ -1,5 +1,4 @@
 -- WHAT A RESTORE BRINGS BACK, by the history of the save and that of the restore.
--- Assumes nothing.
 use Prim.Native.Nat.{ℕ}
 use mathlib.Core.Path.{_≡_}
 use mathlib.Core.List.{List}

@@ -1,5 +1,4 @@
 -- A device that does what is due, for each event; and our device.
--- Assumes nothing.
 use Prim.Native.Nat.{ℕ}
 use mathlib.Core.Bool.{Bool}
 use mathlib.Core.List.{List}

@@ -1,5 +1,4 @@
 -- First states for examples: the sample sheet, or the pump controller's, and fresh sessions.
--- Assumes nothing.
 use Rattle.device.specs.Sessions.{freshOf}
 use Rattle.device.specs.Marked.{sample}
 use Rattle.device.specs.Pump.{pump}

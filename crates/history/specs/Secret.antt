@@ -1,5 +1,4 @@
 -- WHAT A TOOL WITHOUT THE KEY CAN LEARN: two sheets that differ in secret bytes alone, and what is told by the same events on both. A predicate over any device.
--- Assumes nothing.
 use Prim.Native.Nat.{ℕ, _/_, _<_, _≤_}
 use mathlib.Core.Path.{_≡_}
 use mathlib.Core.Bool.{true}

@@ -1,5 +1,4 @@
 -- WHAT A READ MAY SHOW, of a property and of memory: by the first sheet, the first sessions and the events alone.
--- Assumes nothing.
 use Prim.Native.Nat.{ℕ, _+_, _*_, _-_, _<_, _≤_}
 use mathlib.Core.Path.{_≡_}
 use mathlib.Core.List.{List, [], _∷_}

@@ -1,5 +1,4 @@
 -- What a position of a sheet is: where a location stands, a byte of a group object's body, or a byte of the head or of an entry that is neither.
--- Assumes nothing.
 use Prim.Native.Nat.{ℕ, _<_}
 use mathlib.Core.List.{List}
 use Rattle.sheet.specs.Kind.{groups}

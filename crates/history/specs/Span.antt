@@ -1,5 +1,4 @@
 -- Spans: bytes of memory, of a property or of a key that stand side by side, and what a write gives to each.
--- Assumes nothing.
 use Prim.Native.Nat.{ℕ, _+_, _-_}
 use mathlib.Core.List.{List, [], _∷_}
 use mathlib.Core.Bool.{Bool, true, false, cond, _&&_, _||_}

@@ -1,5 +1,4 @@
 -- What a request asks for, as far as a history is concerned with it, and which modes take it.
--- Assumes nothing.
 use Prim.Native.Nat.{ℕ}
 use mathlib.Core.List.{List, []}
 use mathlib.Core.Bool.{Bool, false, _||_, _&&_}

@@ -1,23 +1,10 @@
 -- What arrived and who sent it, laid flat. Assumes nothing.
-use Prim.Native.Nat.{ℕ, _≤_, _<_, _%_}
-use mathlib.Core.Path.{_≡_, refl, sym, ap, ap₂, _∙_}
-use mathlib.Core.Bool.{Bool, true, false}
-use mathlib.Core.List.{List, [], _∷_}
-use lib.Dec.{eqb}
-use borrow.Author.Tests.{lt-leb, le-leb}
-use Rattle.octets.specs.Bytes.{numAt}
-use Rattle.octets.specs.Octets.{ReadFrom}
-use Rattle.cemi.specs.Read.{standardOf, refusalOf, readFrame}
-use Rattle.cemi.specs.declared.Frame.{Frame}
-use Rattle.cemi.specs.declared.Got.{Got}
+use Rattle.octets.proofs.Kit.{ℕ, _≤_, _<_, _%_, _≡_, refl, sym, ap, ap₂, _∙_, Bool, true, false, List, [], _∷_, eqb, lt-leb, le-leb}
+use Rattle.octets.specs.{Bytes.numAt, Octets.ReadFrom}
+use Rattle.cemi.specs.{Read.{standardOf, refusalOf, readFrame}, declared.{Frame.Frame, Got.Got}}
 use Rattle.cemi.specs.declared.Got.the-variants as got
-use Rattle.link.specs.Hearing.{ownOf, heardOf}
-use Rattle.link.specs.declared.Link.{Link}
-use Rattle.link.specs.declared.Arrived.{Arrived}
-use Rattle.link.specs.declared.Arrived.the-variants.{Request, Connect, Disconnect, Nothing}
-use Rattle.host.specs.Bus.{refuses, senderOf, arrivalBy, arrivalOf}
-use Rattle.host.specs.declared.Arrival.{Arrival}
-use Rattle.host.specs.declared.bus.Sender.{Sender}
+use Rattle.link.specs.{Hearing.{ownOf, heardOf}, declared.{Link.Link, Arrived.{Arrived, the-variants.{Request, Connect, Disconnect, Nothing}}}}
+use Rattle.host.specs.{Bus.{refuses, senderOf, arrivalBy, arrivalOf}, declared.{Arrival.Arrival, bus.Sender.Sender}}
 
 -- an acknowledgement
 module _ (t w : ℕ) where

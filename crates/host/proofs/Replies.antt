@@ -1,15 +1,7 @@
 -- The count of a reply fits a byte, and what a request did is what its reply says. Assumes nothing.
-use Prim.Native.Nat.{ℕ, _≤_}
-use mathlib.Core.Path.{_≡_, sym, _∙_, subst}
-use mathlib.Core.List.{List}
-use Rattle.device.specs.Changed.{Requested}
-use Rattle.device.specs.declared.Sessions.{Sessions}
-use Rattle.device.specs.declared.Changed.{Changed}
-use Rattle.device.specs.declared.Made.{Made}
-use Rattle.link.specs.Serving.{ServedFrame}
-use Rattle.link.specs.declared.Link.{Link}
-use Rattle.link.specs.declared.Served.{Served}
-use Rattle.device.proofs.promises.Called.{call-leaves}
+use Rattle.octets.proofs.Kit.{ℕ, _≤_, _≡_, sym, _∙_, subst, List}
+use Rattle.device.{specs.{Changed.Requested, declared.{Sessions.Sessions, Changed.Changed, Made.Made}}, proofs.promises.Called.call-leaves}
+use Rattle.link.specs.{Serving.ServedFrame, declared.{Link.Link, Served.Served}}
 
 module _ (q : Sessions) (mode n group : ℕ) (a s o : List ℕ) (d : Made) (s′ o′ : List ℕ) (c : Requested q mode n group a s o d s′ o′) where
   pub few : d .done .count ≤ 16

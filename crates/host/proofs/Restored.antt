@@ -1,11 +1,8 @@
 -- A restore for a connection is one for its session. Assumes nothing.
-use Prim.Native.Nat.{ℕ}
-use mathlib.Core.Path.{_≡_, subst}
-use mathlib.Core.List.{List}
+use Rattle.octets.proofs.Kit.{ℕ, _≡_, subst, List}
 use Rattle.octets.specs.Octets.{Octets}
 use Rattle.judge.specs.declared.Session.{Session}
-use Rattle.device.specs.Sessions.{sessionOf}
-use Rattle.device.specs.declared.Sessions.{Sessions}
+use Rattle.device.specs.{Sessions.sessionOf, declared.Sessions.Sessions}
 use Rattle.versions.specs.Restoring.{RestoredAs}
 use Rattle.host.specs.Calls.{Restores}
 

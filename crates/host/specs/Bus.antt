@@ -1,5 +1,4 @@
 -- What arrived and who sent it, laid flat for C; and what serving a frame gives in C.
--- Assumes nothing.
 use Prim.Native.Nat.{ℕ, _%_}
 use mathlib.Core.Bool.{Bool, false, _&&_}
 use lib.Dec.{leb, eqb}

@@ -1,5 +1,4 @@
 -- RUNS OF ALL CALLS, in any order: what a host sees of link and sheet, by the contracts of the calls alone. A host without a link has its sessions in one that no frame reaches.
--- Assumes nothing.
 use Prim.Native.Nat.{ℕ}
 use mathlib.Core.Bool.{cond}
 use mathlib.Core.List.{List, [], _∷_, _++_, reverse}

@@ -1,18 +1,8 @@
 -- In an arm of a match the enum is known: what holds of its constructor holds of it.
--- Assumes nothing.
-use Prim.Native.Nat.{ℕ}
-use mathlib.Core.Path.{_≡_, sym, ap, _∙_}
-use mathlib.Core.Bool.{Bool, _&&_}
-use lib.Dec.{leb}
-use Rattle.sheet.specs.declared.Memory.{Memory}
-use Rattle.sheet.specs.declared.Run.{Run}
-use Rattle.sheet.specs.declared.Run.the-variants.{At}
-use Rattle.pdu.specs.declared.Pdu.{Pdu}
-use Rattle.pdu.specs.declared.Service.{Service}
-use Rattle.judge.specs.declared.Access.{Access}
-use Rattle.judge.specs.declared.Reach.{Reach}
-use Rattle.judge.specs.Modes.{reachOf, takes}
-use Rattle.judge.specs.Memory.{mostBytes, responseOf, may, runAllowed}
+use Rattle.octets.proofs.Kit.{ℕ, _≡_, sym, ap, _∙_, Bool, _&&_, leb}
+use Rattle.sheet.specs.declared.{Memory.Memory, Run.{Run, the-variants.At}}
+use Rattle.pdu.specs.declared.{Pdu.Pdu, Service.Service}
+use Rattle.judge.specs.{declared.{Access.Access, Reach.Reach}, Modes.{reachOf, takes}, Memory.{mostBytes, responseOf, may, runAllowed}}
 
 pub via-reach : (ed : ℕ) (k j : Service) (r : Reach) → k ≡ j → r ≡ reachOf ed j → r ≡ reachOf ed k
 via-reach ed k j r e h = h ∙ ap (reachOf ed) (sym e)

@@ -1,18 +1,11 @@
 -- What is decided about a descriptor type, case by case.
--- Assumes nothing.
-use Prim.Native.Nat.{ℕ, _≤_}
-use mathlib.Core.Path.{_≡_}
-use mathlib.Core.List.{List}
-use native.Mathlib.Omega.{arith}
-use Rattle.sheet.specs.Layout.{_of_}
-use Rattle.sheet.specs.Head as head
-use Rattle.sheet.specs.Head.{rulesOf, later}
-use Rattle.pdu.specs.declared.Pdu.the-variants.{DeviceDescriptorResponse}
-use Rattle.judge.specs.declared.Answer.the-variants as answer
-use Rattle.judge.specs.declared.Decision.{Decision}
-use Rattle.judge.specs.Decisions.{refused, denied, answered}
-use Rattle.judge.specs.Addresses.{descriptorOf}
+use Rattle.octets.proofs.Kit.{ℕ, _≤_, _≡_, List, arith}
 use Rattle.octets.proofs.Walks.{by-eq}
+use Rattle.sheet.specs.{Layout._of_, Head.{rulesOf, later}}
+use Rattle.sheet.specs.Head as head
+use Rattle.pdu.specs.declared.Pdu.the-variants.{DeviceDescriptorResponse}
+use Rattle.judge.specs.{declared.Decision.Decision, Decisions.{refused, denied, answered}, Addresses.descriptorOf}
+use Rattle.judge.specs.declared.Answer.the-variants as answer
 
 pub descriptor-cases :
     (s : List ℕ) (t : ℕ) (P : Decision → Type 0) →

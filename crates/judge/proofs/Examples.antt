@@ -1,9 +1,5 @@
 -- Worked: the flags of a group object by their numbers. Two of them exchanged in code and definitions at once would show here.
--- Assumes nothing.
-use Prim.Native.Nat.{ℕ}
-use mathlib.Core.Path.{_≡_, refl}
-use mathlib.Core.Bool.{true, false}
-use mathlib.Core.List.{[], _∷_, map}
+use Rattle.octets.proofs.Kit.{ℕ, _≡_, refl, true, false, [], _∷_, map}
 use Rattle.judge.specs.Groups.{read, write, response, hasFlag}
 
 -- 1 lets it be read, 2 written, 4 take a Response

@@ -1,16 +1,6 @@
 -- The fields of a property's entry in an accepted sheet are small.
--- Assumes nothing.
-use Prim.Native.Nat.{ℕ, zero, suc, _≤_, _<_}
-use mathlib.Core.Path.{_≡_}
-use mathlib.Core.List.{List}
-use mathlib.Core.Bool.{Bool, true, false, cond}
-use lib.Dec.{eqb}
-use native.Mathlib.Omega.{arith}
-use Rattle.sheet.specs.Rules.{Accepted}
-use Rattle.sheet.specs.Lookup.{objectAt, rank}
-use Rattle.sheet.specs.Places.{PropertyIn}
-use Rattle.sheet.specs.declared.PropertyEntry.{PropertyEntry}
-use Rattle.sheet.proofs.rules.Good.{good}
+use Rattle.octets.proofs.Kit.{ℕ, zero, suc, _≤_, _<_, _≡_, List, Bool, true, false, cond, eqb, arith}
+use Rattle.sheet.{specs.{Rules.Accepted, Lookup.{objectAt, rank}, Places.PropertyIn, declared.PropertyEntry.PropertyEntry}, proofs.rules.Good.good}
 
 module _ (s : List ℕ) (ok : Accepted s) (i : ℕ) (e : PropertyEntry) (p : PropertyIn s i e) where
   pub small-offset : e .offset ≤ 16384

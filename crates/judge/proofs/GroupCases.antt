@@ -1,25 +1,12 @@
 -- What is decided about a group value, case by case.
--- Assumes nothing.
-use Prim.Native.Nat.{ℕ, _/_, _%_, _<_, _≤_}
-use mathlib.Core.Path.{_≡_, refl, sym, ap, _∙_}
-use mathlib.Core.List.{List}
-use native.Mathlib.Omega.{arith}
-use borrow.Author.Tests.{lt-ltb, eq-eqb, ne-eqb}
-use Rattle.octets.specs.Bytes.{numAt}
-use Rattle.sheet.specs.Kind.{groups}
-use Rattle.sheet.specs.Layout.{_of_}
+use Rattle.octets.proofs.Kit.{ℕ, _/_, _%_, _<_, _≤_, _≡_, refl, sym, ap, _∙_, List, arith, lt-ltb, eq-eqb, ne-eqb}
+use Rattle.octets.{specs.Bytes.numAt, proofs.Walks.{by-lt, by-eq}}
+use Rattle.sheet.{specs.{Kind.groups, Layout._of_, Entries.{count, entry, keyOf}, Lookup.indexOf}, proofs.{rules.Good.{Good, accepted}, promises.Keys.{index-hit, index-key}}}
 use Rattle.sheet.specs.Group as group
-use Rattle.sheet.specs.Entries.{count, entry, keyOf}
-use Rattle.sheet.specs.Lookup.{indexOf}
-use Rattle.sheet.proofs.rules.Good.{Good, accepted}
-use Rattle.sheet.proofs.promises.Keys.{index-hit, index-key}
 use Rattle.pdu.specs.declared.Pdu.the-variants.{GroupValueResponse}
+use Rattle.judge.specs.{declared.Decision.Decision, Decisions.{refused, answered, stored}, Groups.{read, valueOf, putValue, flagsAt, groupReadOf, groupPutOf}}
 use Rattle.judge.specs.declared.Store.the-variants as store
 use Rattle.judge.specs.declared.Answer.the-variants as answer
-use Rattle.judge.specs.declared.Decision.{Decision}
-use Rattle.judge.specs.Decisions.{refused, answered, stored}
-use Rattle.judge.specs.Groups.{read, valueOf, putValue, flagsAt, groupReadOf, groupPutOf}
-use Rattle.octets.proofs.Walks.{by-lt, by-eq}
 
 -- group object i has the address, and the flag w
 pub record Lets (s : List ℕ) (w address i : ℕ) : Type 0 where

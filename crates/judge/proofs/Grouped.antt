@@ -1,21 +1,10 @@
 -- Group values, from what their parts ensure.
--- Assumes nothing.
-use Prim.Native.Nat.{ℕ, _≤_, _<_}
-use mathlib.Core.Path.{_≡_}
-use mathlib.Core.List.{List}
-use mathlib.Core.Bool.{Bool, true, false, not}
-use borrow.Author.Tests.{lt-ltb, le-ltb, not-true, not-false}
+use Rattle.octets.proofs.Kit.{ℕ, _≤_, _<_, _≡_, List, Bool, true, false, not, lt-ltb, le-ltb, not-true, not-false}
 use Rattle.octets.specs.Bytes.{numAt}
-use Rattle.sheet.specs.Kind.{groups}
-use Rattle.sheet.specs.Entries.{count}
-use Rattle.sheet.specs.Lookup.{indexOf}
-use Rattle.sheet.specs.Places.{IsGroup}
-use Rattle.sheet.specs.declared.GroupEntry.{GroupEntry}
+use Rattle.sheet.specs.{Kind.groups, Entries.count, Lookup.indexOf, Places.IsGroup, declared.GroupEntry.GroupEntry}
 use Rattle.pdu.specs.declared.Pdu.the-variants.{GroupValueResponse}
+use Rattle.judge.specs.{declared.Decision.Decision, Decisions.{refused, answered}, Groups.{hasFlag, read, flagsAt, valueOf, putValue, groupReadOf, groupPutOf}}
 use Rattle.judge.specs.declared.Answer.the-variants as answer
-use Rattle.judge.specs.declared.Decision.{Decision}
-use Rattle.judge.specs.Decisions.{refused, answered}
-use Rattle.judge.specs.Groups.{hasFlag, read, flagsAt, valueOf, putValue, groupReadOf, groupPutOf}
 
 pub six-bits :
     (s : List ℕ) (o v : ℕ) (r : Decision) → v ≡ numAt s o 1 → r ≡ answered (answer.Plain (GroupValueResponse v)) →

@@ -1,22 +1,12 @@
 -- Numbers of the sheet's head in answers and stores.
--- Assumes nothing.
-use Prim.Native.Nat.{ℕ, _≤_, _<_}
-use mathlib.Core.Path.{_≡_, refl, sym, _∙_}
-use mathlib.Core.List.{List, [], _∷_}
-use borrow.Author.Tests.{lt-ltb, le-leb, eq-eqb, ne-eqb}
-use Rattle.sheet.specs.Layout.{_of_}
-use Rattle.sheet.specs.Head as head
-use Rattle.sheet.specs.Head.{rulesOf, later}
+use Rattle.octets.proofs.Kit.{ℕ, _≤_, _<_, _≡_, refl, sym, _∙_, List, [], _∷_, lt-ltb, le-leb, eq-eqb, ne-eqb}
 use Rattle.octets.specs.Bytes.{bytesOf}
-use Rattle.pdu.specs.Rules.{headBytes}
-use Rattle.pdu.specs.Write.{encoded}
-use Rattle.pdu.specs.declared.Pdu.the-variants.{DeviceDescriptorResponse, KeyResponse}
+use Rattle.sheet.specs.{Layout._of_, Head.{rulesOf, later}}
+use Rattle.sheet.specs.Head as head
+use Rattle.pdu.specs.{Rules.headBytes, Write.encoded, declared.Pdu.the-variants.{DeviceDescriptorResponse, KeyResponse}}
+use Rattle.judge.specs.{declared.Decision.Decision, Decisions.{refused, denied, answered, written}, Addresses.{noType, descriptorOf}, Keys.keyWriteOf}
 use Rattle.judge.specs.declared.Store.the-variants as store
 use Rattle.judge.specs.declared.Answer.the-variants as answer
-use Rattle.judge.specs.declared.Decision.{Decision}
-use Rattle.judge.specs.Decisions.{refused, denied, answered, written}
-use Rattle.judge.specs.Addresses.{noType, descriptorOf}
-use Rattle.judge.specs.Keys.{keyWriteOf}
 
 pub mask-answered :
     (s : List ℕ) (t x : ℕ) (r : Decision) → t ≡ 0 → x ≡ head.mask of s →

@@ -1,32 +1,10 @@
 -- The judgement, from what its parts ensure.
--- Assumes nothing.
-use Prim.Native.Nat.{ℕ, _≤_, _<_}
-use mathlib.Core.Path.{_≡_, refl, sym, ap, _∙_}
-use mathlib.Core.List.{List}
-use mathlib.Core.Bool.{Bool, true, false, not}
-use native.Mathlib.Omega.{arith}
-use lib.ListN.{length}
-use borrow.Author.Tests.{lt-ltb, le-ltb, ne-eqb}
-use Rattle.sheet.specs.Head.{rulesOf}
-use Rattle.sheet.specs.Rules.{refusalOf}
-use Rattle.sheet.proofs.promises.Verdicts.{not-refused}
-use Rattle.pdu.specs.Rules.{codeOf}
-use Rattle.pdu.specs.Table.{serviceAt}
-use Rattle.pdu.specs.Read.{readPdu, readOutcome, dataOf}
-use Rattle.pdu.specs.declared.Service.{Service}
-use Rattle.pdu.specs.declared.Found.{Found}
-use Rattle.pdu.specs.declared.Found.the-variants.{Listed, Unknown}
-use Rattle.pdu.specs.declared.Parsed.{Parsed}
-use Rattle.pdu.specs.declared.Parsed.the-variants.{Is, Refused}
-use Rattle.pdu.specs.declared.Pdu.{Pdu}
-use Rattle.judge.specs.declared.Session.{Session}
-use Rattle.judge.specs.declared.Reach.{Reach}
-use Rattle.judge.specs.declared.Decision.{Decision}
-use Rattle.judge.specs.Decisions.{refused}
-use Rattle.judge.specs.Session.{levelIn}
-use Rattle.judge.specs.Modes.{reachOf, reaches, takes}
-use Rattle.judge.specs.Judge.{dataIn, decideOf, reachedOf, foundOf, isShut, checkedOf, judgeOf}
-use Rattle.judge.specs.Unread.{Unread}
+use Rattle.octets.proofs.Kit.{ℕ, _≤_, _<_, _≡_, refl, sym, ap, _∙_, List, Bool, true, false, not, arith, length, lt-ltb, le-ltb, ne-eqb}
+use Rattle.sheet.{specs.{Head.rulesOf, Rules.refusalOf}, proofs.promises.Verdicts.not-refused}
+use Rattle.pdu.specs.{Rules.codeOf, Table.serviceAt, Read.{readPdu, readOutcome, dataOf}, declared.{Service.Service, Found.{Found, the-variants.{Listed, Unknown}}, Parsed.Parsed}}
+use Rattle.pdu.specs.declared.{Parsed.the-variants.{Is, Refused}, Pdu.Pdu}
+use Rattle.judge.specs.{declared.{Session.Session, Reach.Reach, Decision.Decision}, Decisions.refused, Session.levelIn, Modes.{reachOf, reaches, takes}}
+use Rattle.judge.specs.{Judge.{dataIn, decideOf, reachedOf, foundOf, isShut, checkedOf, judgeOf}, Unread.Unread}
 
 pub via-data : (x : Parsed) (p : Pdu) (a d : List ℕ) → x ≡ Is p → d ≡ dataOf p a → d ≡ dataIn x a
 via-data x p a d e h = h ∙ ap (λ (y : Parsed). dataIn y a) (sym e)

@@ -1,20 +1,12 @@
 -- What is decided about keys, case by case.
--- Assumes nothing.
-use Prim.Native.Nat.{ℕ, _+_, _*_, _<_, _≤_}
-use mathlib.Core.Path.{_≡_, sym}
-use mathlib.Core.List.{List}
-use lib.Dec.{ltb, leb}
-use native.Mathlib.Omega.{arith}
-use borrow.Author.Tests.{lt-ltb, le-leb, ltb-true, leb-true}
+use Rattle.octets.proofs.Kit.{ℕ, _<_, _≤_, _≡_, sym, List, ltb, leb, arith, lt-ltb, le-leb, ltb-true, leb-true}
+use Rattle.octets.proofs.Walks.{by-both, by-eq}
 use Rattle.sheet.specs.Layout.{_of_}
 use Rattle.sheet.specs.Head as head
 use Rattle.pdu.specs.declared.Pdu.the-variants.{KeyResponse}
+use Rattle.judge.specs.{declared.Decision.Decision, Decisions.{denied, written}, Keys.{grantOf, keyWriteOf}}
 use Rattle.judge.specs.declared.Store.the-variants as store
 use Rattle.judge.specs.declared.Answer.the-variants as answer
-use Rattle.judge.specs.declared.Decision.{Decision}
-use Rattle.judge.specs.Decisions.{denied, written}
-use Rattle.judge.specs.Keys.{grantOf, keyWriteOf}
-use Rattle.octets.proofs.Walks.{by-both, by-eq}
 
 -- the smallest level with the key, else 3
 pub grant-cases :

@@ -1,21 +1,11 @@
 -- Memory, from what the parts ensure.
--- Assumes nothing.
-use Prim.Native.Nat.{ℕ}
-use mathlib.Core.Path.{_≡_}
-use mathlib.Core.List.{List}
-use mathlib.Core.Bool.{Bool, true, false}
-use Rattle.sheet.specs.Lookup.{rangeOf}
-use Rattle.sheet.specs.declared.Memory.{Memory}
-use Rattle.sheet.specs.declared.Memory.the-variants.{Device}
-use Rattle.sheet.specs.declared.Run.{Run}
+use Rattle.octets.proofs.Kit.{ℕ, _≡_, List, Bool, true, false}
+use Rattle.sheet.specs.{Lookup.rangeOf, declared.{Memory.{Memory, the-variants.Device}, Run.Run}}
 use Rattle.pdu.specs.declared.Pdu.{Pdu}
-use Rattle.judge.specs.declared.Access.the-variants.{Read, Write, Change}
-use Rattle.judge.specs.declared.Store.{Store}
+use Rattle.judge.specs.{declared.{Access.the-variants.{Read, Write, Change}, Store.Store, Decision.Decision}, Decisions.{refused, denied, answered, written, stored}}
+use Rattle.judge.specs.Memory.{mostBytes, mostBits, responseOf, runAllowed, runAt, verifies, memoryReadOf, changeOf, memoryWriteOf, bitWriteOf}
 use Rattle.judge.specs.declared.Store.the-variants as store
 use Rattle.judge.specs.declared.Answer.the-variants as answer
-use Rattle.judge.specs.declared.Decision.{Decision}
-use Rattle.judge.specs.Decisions.{refused, denied, answered, written, stored}
-use Rattle.judge.specs.Memory.{mostBytes, mostBits, responseOf, runAllowed, runAt, verifies, memoryReadOf, changeOf, memoryWriteOf, bitWriteOf}
 
 module _ (s : List ℕ) (m : Memory) (level n a : ℕ) (run : Run) (run-is : run ≡ rangeOf s m a n) (o : ℕ) (p : Pdu) (r : Decision) (b : Bool) where
   module _ (most : ℕ) (most-is : most ≡ mostBytes m) where

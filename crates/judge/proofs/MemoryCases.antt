@@ -1,31 +1,13 @@
 -- What is decided about memory, case by case.
--- Assumes nothing.
-use Prim.Native.Nat.{ℕ, _/_, _%_, _≤_}
-use mathlib.Core.Path.{_≡_, refl, ap}
-use mathlib.Core.Logic.{_↔_}
-use mathlib.Core.Bool.{true, _&&_}
-use mathlib.Core.List.{List}
-use lib.Dec.{leb}
-use borrow.Author.Tests.{le-leb, leb-true, eq-eqb, ne-eqb}
-use Rattle.sheet.specs.Head as head
-use Rattle.sheet.specs.Places.{Ranged}
-use Rattle.sheet.specs.Lookup.{rangeOf}
-use Rattle.sheet.specs.declared.Memory.{Memory}
-use Rattle.sheet.specs.declared.Memory.the-variants.{Device}
-use Rattle.sheet.specs.declared.Run.{Run}
-use Rattle.sheet.specs.declared.Run.the-variants.{At, Nowhere}
-use Rattle.sheet.proofs.rules.Good.{Good}
+use Rattle.octets.proofs.Kit.{ℕ, _/_, _%_, _≤_, _≡_, refl, ap, _↔_, true, _&&_, List, leb, le-leb, leb-true, eq-eqb, ne-eqb}
+use Rattle.octets.proofs.{Truths.{and-is, never}, Walks.{by-test, by-eq}}
+use Rattle.sheet.{specs.{Places.Ranged, Lookup.rangeOf, declared.{Memory.{Memory, the-variants.Device}, Run.{Run, the-variants.{At, Nowhere}}}}, proofs.rules.Good.Good}
 use Rattle.sheet.proofs.promises.Runs.{ranged}
-use Rattle.octets.proofs.Truths.{and-is, never}
-use Rattle.octets.proofs.Walks.{by-test, by-eq}
-use Rattle.judge.specs.declared.Access.{Access}
-use Rattle.judge.specs.declared.Access.the-variants.{Read, Write, Change}
-use Rattle.judge.specs.declared.Store.{Store}
+use Rattle.sheet.specs.Head as head
+use Rattle.judge.specs.{declared.{Access.{Access, the-variants.{Read, Write, Change}}, Store.Store, Decision.Decision}, Decisions.{refused, denied, answered, written, stored}}
+use Rattle.judge.specs.Memory.{mayRead, mayWrite, may, mostBytes, mostBits, responseOf, verifies, runAllowed, runAt, memoryReadOf, changeOf, memoryWriteOf, bitWriteOf}
 use Rattle.judge.specs.declared.Store.the-variants as store
 use Rattle.judge.specs.declared.Answer.the-variants as answer
-use Rattle.judge.specs.declared.Decision.{Decision}
-use Rattle.judge.specs.Decisions.{refused, denied, answered, written, stored}
-use Rattle.judge.specs.Memory.{mayRead, mayWrite, may, mostBytes, mostBits, responseOf, verifies, runAllowed, runAt, memoryReadOf, changeOf, memoryWriteOf, bitWriteOf}
 
 -- a level suffices for an access
 abbrev pub Suffices : Access → ℕ → ℕ → Type 0

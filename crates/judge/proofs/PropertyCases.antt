@@ -1,31 +1,14 @@
 -- What is decided about a property, case by case.
--- Assumes nothing.
-use Prim.Native.Nat.{ℕ, _+_, _*_, _-_, _/_, _%_, _<_, _≤_, max}
-use mathlib.Core.Path.{_≡_, _∙_}
-use mathlib.Core.Bool.{true, cond, _&&_}
-use mathlib.Core.List.{List}
-use lib.Dec.{ltb, leb, eqb}
-use lib.ListN.{length}
-use native.Mathlib.Omega.{arith}
-use borrow.Author.Tests.{lt-ltb, le-leb, eq-eqb, ne-eqb, leb-true, eqb-true}
-use Rattle.octets.specs.Bytes.{numAt}
-use Rattle.sheet.specs.Kind.{properties}
-use Rattle.sheet.specs.Layout.{_of_}
+use Rattle.octets.proofs.Kit.{ℕ, _+_, _*_, _-_, _/_, _%_, _<_, _≤_, max, _≡_, _∙_, true, cond, _&&_, List, ltb, leb, eqb, length, arith, lt-ltb, le-leb, eq-eqb, ne-eqb, leb-true, eqb-true}
+use Rattle.octets.{specs.Bytes.numAt, proofs.{Truths.and-is, Walks.{by-lt, by-le, by-eq, by-both, by-test}}}
+use Rattle.sheet.{specs.{Kind.properties, Layout._of_, Entries.{count, place, entry, keyOf}, Lookup.{nthOf, rank, objectAt}}, proofs.rules.Good.{Good, accepted}}
+use Rattle.sheet.proofs.promises.{Keys.{index-hit, index-key}, Ranks.{nth-hit, nth-is}}
 use Rattle.sheet.specs.Property as property
-use Rattle.sheet.specs.Entries.{count, place, entry, keyOf}
-use Rattle.sheet.specs.Lookup.{nthOf, rank, objectAt}
-use Rattle.sheet.proofs.rules.Good.{Good, accepted}
-use Rattle.sheet.proofs.promises.Keys.{index-hit, index-key}
-use Rattle.sheet.proofs.promises.Ranks.{nth-hit, nth-is}
-use Rattle.octets.proofs.Truths.{and-is}
 use Rattle.pdu.specs.declared.Pdu.the-variants.{PropertyValueResponse, PropertyDescriptionResponse}
-use Rattle.judge.specs.declared.Store.{Store}
+use Rattle.judge.specs.{declared.{Store.Store, Decision.Decision}, Decisions.{denied, answered, written}}
+use Rattle.judge.specs.Properties.{elements, counted, elementAt, jumped, noValue, propertyAt, readIn, propertyReadOf, writeIn, propertyWriteOf, describedAt, descriptionOf}
 use Rattle.judge.specs.declared.Store.the-variants as store
 use Rattle.judge.specs.declared.Answer.the-variants as answer
-use Rattle.judge.specs.declared.Decision.{Decision}
-use Rattle.judge.specs.Decisions.{denied, answered, written}
-use Rattle.judge.specs.Properties.{elements, counted, elementAt, jumped, noValue, propertyAt, readIn, propertyReadOf, writeIn, propertyWriteOf, describedAt, descriptionOf}
-use Rattle.octets.proofs.Walks.{by-lt, by-le, by-eq, by-both, by-test}
 
 -- property i has the object and the id
 pub record Keyed (s : List ℕ) (object id i : ℕ) : Type 0 where

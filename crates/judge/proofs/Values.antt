@@ -1,28 +1,13 @@
 -- Reads and writes of a property, from what their parts ensure.
--- Assumes nothing.
-use Prim.Native.Nat.{ℕ, _+_, _*_, _-_, _/_, _≤_, _<_, max}
-use mathlib.Core.Path.{_≡_, sym, _∙_}
-use mathlib.Core.List.{List}
-use mathlib.Core.Bool.{Bool, true, false, _&&_, not}
-use lib.Dec.{leb, eqb}
-use lib.ListN.{length}
-use borrow.Author.Tests.{lt-ltb, le-ltb, leb-true, not-true, not-false}
-use Rattle.octets.specs.Bytes.{numAt}
+use Rattle.octets.proofs.Kit.{ℕ, _+_, _*_, _-_, _/_, _≤_, _<_, max, _≡_, sym, _∙_, List, Bool, true, false, _&&_, not, leb, eqb, length, lt-ltb, le-ltb, leb-true, not-true, not-false}
+use Rattle.octets.{specs.Bytes.numAt, proofs.Truths.{first-true, second-true}}
+use Rattle.sheet.specs.{Kind.properties, Entries.{count, place, entry}, Lookup.rank, Places.IsProperty, declared.PropertyEntry.PropertyEntry}
 use Rattle.sheet.specs.Property as property
-use Rattle.sheet.specs.Kind.{properties}
-use Rattle.sheet.specs.Entries.{count, place, entry}
-use Rattle.sheet.specs.Lookup.{rank}
-use Rattle.sheet.specs.Places.{IsProperty}
-use Rattle.sheet.specs.declared.PropertyEntry.{PropertyEntry}
 use Rattle.pdu.specs.declared.Pdu.the-variants.{PropertyValueResponse, PropertyDescriptionResponse}
-use Rattle.judge.specs.declared.Store.{Store}
+use Rattle.judge.specs.{declared.{Store.Store, Decision.Decision}, Decisions.{denied, answered, written}, Memory.{mayRead, mayWrite}}
+use Rattle.judge.specs.Properties.{elements, counted, elementAt, jumped, most, noValue, propertyAt, readIn, propertyReadOf, writeIn, propertyWriteOf, describedAt, descriptionOf}
 use Rattle.judge.specs.declared.Store.the-variants as store
 use Rattle.judge.specs.declared.Answer.the-variants as answer
-use Rattle.judge.specs.declared.Decision.{Decision}
-use Rattle.judge.specs.Decisions.{denied, answered, written}
-use Rattle.octets.proofs.Truths.{first-true, second-true}
-use Rattle.judge.specs.Memory.{mayRead, mayWrite}
-use Rattle.judge.specs.Properties.{elements, counted, elementAt, jumped, most, noValue, propertyAt, readIn, propertyReadOf, writeIn, propertyWriteOf, describedAt, descriptionOf}
 
 module _
     (e : PropertyEntry) (t : List ℕ) (i : ℕ) (p : IsProperty t i e) (level object id n s : ℕ) (r : Decision) (w : Bool)

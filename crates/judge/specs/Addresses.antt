@@ -1,5 +1,4 @@
 -- The individual address, by programming mode and by serial number, and the descriptor.
--- Assumes nothing.
 use Prim.Native.Nat.{ℕ}
 use mathlib.Core.List.{List}
 use mathlib.Core.Bool.{Bool, cond}

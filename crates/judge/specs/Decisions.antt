@@ -1,5 +1,4 @@
 -- The kinds of decision.
--- Assumes nothing.
 use Prim.Native.Nat.{ℕ}
 use Rattle.pdu.specs.declared.Pdu.{Pdu}
 use Rattle.judge.specs.declared.Store.{Store}

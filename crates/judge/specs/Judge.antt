@@ -1,5 +1,4 @@
 -- WHAT IS DECIDED ABOUT A REQUEST, in the order of the outcomes.
--- Assumes nothing.
 use Prim.Native.Nat.{ℕ}
 use mathlib.Core.List.{List, []}
 use mathlib.Core.Bool.{Bool, cond, _&&_, not}

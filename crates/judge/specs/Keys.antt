@@ -1,5 +1,4 @@
 -- Authorize, key write and restart.
--- Assumes nothing.
 use Prim.Native.Nat.{ℕ, _-_}
 use mathlib.Core.List.{List}
 use mathlib.Core.Bool.{cond, _&&_}

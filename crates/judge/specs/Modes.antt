@@ -1,5 +1,4 @@
 -- WHICH MODE TAKES WHICH SERVICE, by the number of the rules.
--- Assumes nothing.
 use Prim.Native.Nat.{ℕ}
 use mathlib.Core.Bool.{Bool, true, false, cond, _||_}
 use lib.Dec.{eqb}

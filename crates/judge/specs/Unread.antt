@@ -1,5 +1,4 @@
 -- WHAT REFUSES A REQUEST BEFORE IT IS READ.
--- Assumes nothing.
 use Prim.Native.Nat.{ℕ}
 use mathlib.Core.Path.{_≡_}
 use mathlib.Core.List.{List}

@@ -1,23 +1,8 @@
 -- THE FRAME THAT BRINGS AN ANSWER: its fields, and that every answer is written, whole. Assumes nothing.
-use Prim.Native.Nat.{ℕ, _+_, _*_, _/_, _%_, _≤_, _<_}
-use mathlib.Core.Path.{_≡_, sym, ap, subst, _∙_}
-use mathlib.Core.Bool.{false, cond}
-use mathlib.Core.List.{List, [], _∷_}
-use lib.ListN.{length}
-use lib.Dec.{eqb}
-use borrow.Author.Tests.{lt-leb, le-leb, le-ltb}
-use native.Mathlib.Omega.{arith}
-use Rattle.octets.proofs.Splices.{splice-none}
-use Rattle.octets.proofs.Truths.{must-fail}
-use Rattle.cemi.specs.Meaning.{connected}
-use Rattle.cemi.specs.Write.{writable, countOf, writeOf, writeCount, bufferOf, Wrote}
-use Rattle.cemi.specs.Answering.{answering}
-use Rattle.cemi.specs.declared.Fields.{Fields}
-use Rattle.cemi.specs.declared.Written.{Written}
-use Rattle.cemi.specs.declared.Written.the-variants.{Bytes, Refused}
-use Rattle.cemi.proofs.promises.Answers.{answer-writable}
-use Rattle.cemi.proofs.Wrote.{bounds}
-use Rattle.cemi.proofs.promises.Backs.{length-encoded}
+use Rattle.octets.proofs.Kit.{ℕ, _+_, _*_, _/_, _%_, _≤_, _<_, _≡_, sym, ap, subst, _∙_, false, cond, List, [], _∷_, length, eqb, lt-leb, le-leb, le-ltb, arith}
+use Rattle.octets.proofs.{Splices.splice-none, Truths.must-fail}
+use Rattle.cemi.specs.{Meaning.connected, Write.{writable, countOf, writeOf, writeCount, bufferOf, Wrote}, Answering.answering, declared.{Fields.Fields, Written.Written}}
+use Rattle.cemi.{specs.declared.Written.the-variants.{Bytes, Refused}, proofs.{promises.Answers.answer-writable, Wrote.bounds, promises.Backs.length-encoded}}
 use Rattle.link.specs.Serving.{most, longest, answerFrame, Sent}
 
 module _ (f : Fields) (own mode sequence control1 transport : ℕ) (e : control1 ≡ 0xB0 + f .control1 / 4 % 4 * 4) (h : transport ≡ cond (eqb mode connected) (16 + sequence % 16) 0) where

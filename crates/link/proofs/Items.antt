@@ -1,32 +1,13 @@
 -- ONE ITEM OF A HISTORY: the event that it is, if any, whose that is, and what it leaves. Assumes nothing.
-use Prim.Native.Nat.{ℕ, zero, suc}
-use mathlib.Core.Path.{_≡_, refl, sym, ap, subst, _∙_}
-use mathlib.Core.Logic.{_⊎_, inl, inr}
-use mathlib.Core.Bool.{Bool, true, false}
-use mathlib.Core.List.{List, [], _∷_}
-use lib.Dec.{eqb}
-use native.Mathlib.Decide.{ℕ-discrete}
-use native.Mathlib.Omega.{arith}
-use borrow.Author.Tests.{eqb-true, ne-eqb}
+use Rattle.octets.proofs.Kit.{ℕ, zero, suc, _≡_, refl, sym, ap, subst, _∙_, _⊎_, inl, inr, Bool, true, false, List, [], _∷_, eqb, ℕ-discrete, arith, eqb-true, ne-eqb}
 use Rattle.octets.proofs.Truths.{never, first-true, second-true}
-use Rattle.sheet.specs.Layout.{_of_}
-use Rattle.device.specs.Sessions.{sessionOf}
-use Rattle.device.specs.Events.{State}
-use Rattle.device.specs.declared.Sessions.{Sessions}
+use Rattle.device.specs.{Sessions.sessionOf, Events.State, declared.Sessions.Sessions}
 use Rattle.events.specs.Events.{Event, connect, disconnect, button, request, restore, eventOf, after, runBy}
-use Rattle.history.specs.Wish.{asks}
-use Rattle.history.specs.Permit.{heard}
-use Rattle.history.specs.History.{wished, opened, level}
-use Rattle.history.specs.Isolation.{isOf}
-use Rattle.history.proofs.promises.Keep.{keeps}
+use Rattle.history.specs.{Wish.asks, Permit.heard, History.{wished, opened, level}, Isolation.isOf}
 use Rattle.account.specs.Account.{at}
-use Rattle.link.specs.Partners.{addressAt}
-use Rattle.link.specs.Serving.{apduOf}
-use Rattle.link.specs.Net.{Net, stateOf, sourceOf, heardIn, eventsOf, Item, frame, press, timeOut, giveBack, eventsBy, netBy}
-use Rattle.link.specs.Whose.{Partner, Whose, partner, newcomer}
-use Rattle.link.specs.declared.Arrived.{Arrived}
-use Rattle.link.specs.declared.Arrived.the-variants.{Request, Connect, Disconnect, Nothing}
-use Rattle.link.proofs.promises.Whose.{whose, same-partner}
+use Rattle.link.specs.{Partners.addressAt, Serving.apduOf, Net.{Net, stateOf, sourceOf, heardIn, eventsOf, Item, frame, press, timeOut, giveBack, eventsBy, netBy}}
+use Rattle.link.specs.{Whose.{Partner, Whose, partner, newcomer}, declared.Arrived.{Arrived, the-variants.{Request, Connect, Disconnect, Nothing}}}
+use Rattle.link.proofs.promises.Whose.{same-partner}
 
 -- an item is one event or none
 abbrev pub One : List Event → Type 0

@@ -1,24 +1,11 @@
 -- From what the code has where it returns to what it promises. Assumes nothing.
-use Prim.Native.Nat.{ℕ, _<_, _≤_}
-use mathlib.Core.Path.{_≡_, sym, ap, _∙_}
-use mathlib.Core.Bool.{Bool, true, false}
-use mathlib.Core.List.{List}
-use lib.ListN.{length}
-use borrow.Author.Tests.{lt-ltb, le-ltb, lt-leb, le-leb}
-use Rattle.octets.specs.Bytes.{IsNum}
-use Rattle.octets.specs.Octets.{ReadFrom}
-use Rattle.cemi.specs.Read.{readFrame}
-use Rattle.cemi.specs.Meaning.{meaningOf}
-use Rattle.cemi.specs.declared.Frame.{Frame}
-use Rattle.cemi.specs.declared.Got.{Got}
+use Rattle.octets.proofs.Kit.{ℕ, _<_, _≤_, _≡_, sym, ap, _∙_, Bool, true, false, List, length, lt-ltb, le-ltb, lt-leb, le-leb}
+use Rattle.octets.specs.{Bytes.IsNum, Octets.ReadFrom}
+use Rattle.cemi.specs.{Read.readFrame, Meaning.meaningOf, declared.{Frame.Frame, Got.Got, Meaning.Meaning}}
 use Rattle.cemi.specs.declared.Got.the-variants as got
-use Rattle.cemi.specs.declared.Meaning.{Meaning}
 use Rattle.cemi.specs.declared.Meaning.the-variants as meaning
-use Rattle.link.specs.Partners.{nobody, placeOf, freeOf, placeFor}
-use Rattle.link.specs.Hearing.{ownOf, forUs, toItself, onPlace, connects, disconnects, meant, fromOther, judged, heardOf, heardGot}
-use Rattle.link.specs.declared.Link.{Link}
-use Rattle.link.specs.declared.Arrived.{Arrived}
-use Rattle.link.specs.declared.Arrived.the-variants.{Nothing}
+use Rattle.link.specs.{Partners.{nobody, placeOf, freeOf, placeFor}, Hearing.{ownOf, forUs, toItself, onPlace, connects, disconnects, meant, fromOther, judged, heardOf, heardGot}}
+use Rattle.link.specs.declared.{Link.Link, Arrived.{Arrived, the-variants.Nothing}}
 
 module _ (s : List ℕ) where
   pub own-short : length s < 18 → 0 ≡ ownOf s

@@ -1,36 +1,14 @@
 -- Laws behind serving. Assumes nothing.
-use Prim.Native.Nat.{ℕ, _+_, _≤_, _<_}
-use mathlib.Core.Path.{_≡_, refl, sym, ap, ap₂, subst, _∙_}
-use mathlib.Core.Bool.{cond}
-use mathlib.Core.List.{List, []}
-use lib.ListN.{length, take, replicate}
-use lib.Dec.{eqb}
-use lib.Seq.{length-take-le}
-use borrow.Author.Tests.{lt-ltb, le-ltb}
-use native.Mathlib.Omega.{arith}
-use Rattle.octets.specs.Octets.{ReadFrom}
-use Rattle.octets.proofs.Splices.{splice-none, splice-read}
-use Rattle.device.specs.Events.{Effect, named, connectOf, disconnectOf, requestOf}
-use Rattle.device.specs.Changed.{Requested, changedOf, none}
-use Rattle.device.specs.declared.Done.{Done}
-use Rattle.device.specs.declared.Made.{Made}
-use Rattle.device.specs.declared.Changed.{Changed}
-use Rattle.device.proofs.promises.Called.{call-leaves}
-use Rattle.cemi.specs.Read.{fieldsIn, frameIn, readFrame}
-use Rattle.cemi.specs.Parts.{tpduOf}
-use Rattle.cemi.specs.Answering.{answering}
-use Rattle.cemi.specs.declared.Fields.{Fields}
-use Rattle.cemi.specs.declared.Frame.{Frame}
-use Rattle.cemi.specs.declared.Got.{Got}
+use Rattle.octets.proofs.Kit.{ℕ, _+_, _≤_, _<_, _≡_, refl, sym, ap, ap₂, subst, _∙_, cond, List, [], length, take, replicate, eqb, length-take-le, lt-ltb, le-ltb, arith}
+use Rattle.octets.{specs.Octets.ReadFrom, proofs.Splices.{splice-none, splice-read}}
+use Rattle.cemi.{specs.{Read.{fieldsIn, frameIn, readFrame}, Parts.tpduOf, Answering.answering, declared.{Fields.Fields, Frame.Frame, Got.Got}}, proofs.promises.Standards.reads-standard}
 use Rattle.cemi.specs.declared.Got.the-variants as got
-use Rattle.cemi.proofs.promises.Standards.{reads-standard}
-use Rattle.link.specs.Partners.{nobody}
-use Rattle.link.specs.Hearing.{ownOf, judged, heardGot, heardOf}
-use Rattle.link.specs.Serving.{most, longest, apduOf, withSessions, leaving, joining, parting, deedOf, serveOf, resultOf, DidServe, Sent}
-use Rattle.link.specs.declared.Arrived.{Arrived}
-use Rattle.link.specs.declared.Arrived.the-variants as arrived
-use Rattle.link.specs.declared.Link.{Link}
+use Rattle.device.specs.{Events.{Effect, named, connectOf, disconnectOf, requestOf}, Changed.{Requested, changedOf, none}, declared.{Done.Done, Made.Made, Changed.Changed}}
+use Rattle.device.proofs.promises.Called.{call-leaves}
+use Rattle.link.specs.{Partners.nobody, Hearing.{ownOf, judged, heardGot, heardOf}}
+use Rattle.link.specs.{Serving.{most, longest, apduOf, withSessions, leaving, joining, parting, deedOf, serveOf, resultOf, DidServe, Sent}, declared.{Arrived.Arrived, Link.Link}}
 use Rattle.link.specs.declared.Served.{Served}
+use Rattle.link.specs.declared.Arrived.the-variants as arrived
 
 module _ (k : Link) (c : ℕ) where
   pub is-silent : (n : ℕ) (x : Changed) → x ≡ none → _≡_ {A = Served} (record { number = n; outcome = 0; connection = c; count = 0; changed = x; link = k }) (resultOf (leaving k [] n c))

@@ -1,30 +1,11 @@
 -- What one event leaves of the session of a connection. Assumes nothing.
-use Prim.Native.Nat.{ℕ, _<_}
-use mathlib.Core.Path.{_≡_, refl, sym, ap, subst, _∙_}
-use mathlib.Core.Bool.{Bool, true, false}
-use mathlib.Core.List.{List}
-use lib.ListN.{length}
-use native.Mathlib.Decide.{ℕ-discrete, decLt}
-use native.Mathlib.Omega.{arith}
-use borrow.Author.Tests.{eq-eqb, ne-eqb}
-use Rattle.octets.proofs.Truths.{never}
-use Rattle.octets.proofs.Tests.{both}
-use Rattle.judge.specs.Session.{connected}
-use Rattle.judge.specs.Judge.{judgeOf}
-use Rattle.judge.specs.declared.Session.{Session}
-use Rattle.judge.specs.declared.Turn.{Turn}
-use Rattle.judge.specs.declared.Turn.the-variants.{Stays, Level, Closes}
-use Rattle.device.specs.Carry.{turnOf}
-use Rattle.device.specs.Step.{Step, stepBy, stepOf}
-use Rattle.device.specs.Sessions.{newlyOpen, closed, sessionOf, sessionFor, turnedOf, withSession}
-use Rattle.device.specs.Events.{State, requestOf}
-use Rattle.device.specs.declared.Sessions.{Sessions}
-use Rattle.device.proofs.leaves.Connections.{fresh-closed, with-unknown, with-own, with-other, turned-other}
-use Rattle.device.proofs.promises.Demand1.{restart-only}
+use Rattle.octets.proofs.Kit.{ℕ, _<_, _≡_, refl, sym, ap, subst, _∙_, Bool, true, false, List, length, ℕ-discrete, decLt, arith, eq-eqb, ne-eqb}
+use Rattle.octets.proofs.{Truths.never, Tests.both}
+use Rattle.judge.specs.{Session.connected, Judge.judgeOf, declared.{Session.Session, Turn.{Turn, the-variants.{Stays, Level, Closes}}}}
+use Rattle.device.specs.{Carry.turnOf, Step.{Step, stepBy, stepOf}, Sessions.{newlyOpen, closed, sessionOf, sessionFor, turnedOf, withSession}, Events.{State, requestOf}}
+use Rattle.device.{specs.declared.Sessions.Sessions, proofs.{leaves.Connections.{fresh-closed, with-unknown, with-own, with-other, turned-other}, promises.Demand1.restart-only}}
 use Rattle.events.specs.Events.{Event, connect, disconnect, button, request, restore, eventOf, after}
-use Rattle.history.specs.Wish.{restart, wishIn, asks}
-use Rattle.history.specs.History.{wished}
-use Rattle.history.specs.Isolation.{isOf}
+use Rattle.history.specs.{Wish.{restart, wishIn, asks}, History.wished, Isolation.isOf}
 
 module _ (x : State) where
   abbrev step : (mode d g : ℕ) (a out : List ℕ) → Step

@@ -1,6 +1,5 @@
 -- WHAT A FRAME IS TO THE DEVICE, as plain propositions: a constructor a case.
 -- What a frame says of itself is cemi's: `Standard` (it reads), `Due` (why it does not), `Means` (what it means, of whatever hop count, priority, repeat bit and additional information).
--- Assumes nothing.
 use Prim.Native.Nat.{ℕ}
 use mathlib.Core.Path.{_≡_}
 use mathlib.Core.Bool.{true, false}

@@ -1,5 +1,4 @@
 -- BY WHAT RIGHT A FRAME CHANGED A BYTE: whose connection it came on, at which level, and which frame of the same sender gave that level. The newest item stands first.
--- Assumes nothing.
 use Prim.Native.Nat.{ℕ, _≤_}
 use mathlib.Core.Path.{_≡_}
 use mathlib.Core.List.{List, [], _∷_}

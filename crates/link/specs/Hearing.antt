@@ -1,5 +1,4 @@
 -- THE EVENT OF A FRAME, or the number of why there is none.
--- Assumes nothing.
 use Prim.Native.Nat.{ℕ, _+_}
 use mathlib.Core.Bool.{Bool, cond, not, _&&_, _||_}
 use mathlib.Core.List.{List}

@@ -1,5 +1,4 @@
 -- WHAT FRAMES DO TO LINK AND SHEET, one after the other, with the button, the host's time-outs and its restores between; and the events that they are.
--- Assumes nothing.
 use Prim.Native.Nat.{ℕ, _≤_}
 use mathlib.Core.Path.{_≡_}
 use mathlib.Core.Bool.{Bool, cond}

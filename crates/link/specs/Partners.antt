@@ -1,6 +1,5 @@
 -- WHO HAS WHICH CONNECTION: the partner of a connection is the individual address that connected last on it, while its session is open.
 -- So what closes the session, a disconnect, a time-out or a Restart, ends the partnership.
--- Assumes nothing.
 use Prim.Native.Nat.{ℕ}
 use mathlib.Core.Bool.{Bool, cond, _&&_}
 use lib.Dec.{eqb}

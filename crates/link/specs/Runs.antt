@@ -1,5 +1,4 @@
 -- RUNS OF CALLS over link and sheet: what a host sees call by call, by the contracts of the calls alone.
--- Assumes nothing.
 use Prim.Native.Nat.{ℕ, _≤_}
 use mathlib.Core.Bool.{Bool}
 use mathlib.Core.List.{List, [], _∷_}

@@ -1,5 +1,4 @@
 -- WHAT SERVING A FRAME GIVES: at most one frame that answers it.
--- Assumes nothing.
 use Prim.Native.Nat.{ℕ}
 use mathlib.Core.Path.{_≡_}
 use mathlib.Core.Bool.{cond}

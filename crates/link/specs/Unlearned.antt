@@ -1,5 +1,4 @@
 -- WHAT CAN BE LEARNED BY FRAMES: two devices with the same link whose sheets differ in secret bytes alone, and what the same frames bring from both.
--- Assumes nothing.
 use Prim.Native.Nat.{ℕ, _≤_}
 use mathlib.Core.Path.{_≡_}
 use mathlib.Core.Bool.{true}

@@ -1,5 +1,4 @@
 -- WHOSE AN EVENT IS, as plain propositions.
--- Assumes nothing.
 use Prim.Native.Nat.{ℕ}
 use mathlib.Core.Path.{_≡_}
 use mathlib.Core.Bool.{true, false}

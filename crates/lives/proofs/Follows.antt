@@ -1,33 +1,15 @@
 -- A LIFE WITH POWER CUTS IS THE HISTORY THAT IT IS TOLD AS: what it leaves is what that history leaves, and the medium has the sheet after as much of it as was kept. Assumes nothing.
-use Prim.Native.Nat.{ℕ, _≤_}
-use mathlib.Core.Path.{_≡_, refl, sym, ap, ap₂, subst, _∙_}
-use mathlib.Core.Bool.{Bool, true, false, cond}
-use mathlib.Core.List.{List, [], _∷_, _++_, append-assoc}
-use native.Mathlib.Omega.{arith}
-use lib.ListN.{length}
-use Rattle.sheet.specs.Rules.{Accepted}
-use Rattle.sheet.proofs.rules.Good.{good}
-use Rattle.device.specs.Sessions.{freshOf}
-use Rattle.device.specs.Events.{State}
-use Rattle.device.specs.declared.Sessions.{Sessions}
-use Rattle.events.specs.Events.{Event, eventOf, after}
-use Rattle.history.specs.History.{First}
-use Rattle.history.specs.Keeps.{stateAfter, Begins, AllOctets}
-use Rattle.history.specs.Rightful.{ours}
-use Rattle.history.specs.Calls.{Follows}
-use Rattle.history.proofs.promises.Keep.{keeps}
-use Rattle.slots.specs.Slot.{longest}
-use Rattle.slots.specs.Medium.{sheet, Medium, choice, Broken}
+use Rattle.octets.proofs.Kit.{ℕ, _≤_, _≡_, refl, sym, ap, ap₂, subst, _∙_, Bool, true, false, cond, List, _∷_, _++_, append-assoc, arith, length}
+use Rattle.sheet.{specs.Rules.Accepted, proofs.rules.Good.good}
+use Rattle.slots.{specs.{Slot.longest, Medium.{sheet, Medium, choice, Broken}, Lives.Ready}, proofs.promises.{Numbered.ready-starts, Lives.{save-ready, cut-safe}}}
 use Rattle.slots.specs.Lives as slot
-use Rattle.slots.specs.Lives.{Ready}
-use Rattle.slots.proofs.promises.Numbered.{ready-starts}
-use Rattle.slots.proofs.promises.Lives.{save-ready, cut-safe}
+use Rattle.device.specs.{Sessions.freshOf, Events.State, declared.Sessions.Sessions}
+use Rattle.events.specs.Events.{Event, eventOf}
+use Rattle.history.{specs.{History.First, Keeps.{stateAfter, Begins, AllOctets}, Rightful.ours, Calls.Follows}, proofs.promises.Keep.keeps}
 use Rattle.link.specs.Net.{Net, stateOf}
+use Rattle.host.{specs.Steps.Steps, proofs.promises.Mixed.step-follows}
 use Rattle.host.specs.Steps as calls
-use Rattle.host.specs.Steps.{Steps}
-use Rattle.host.proofs.promises.Mixed.{step-follows}
-use Rattle.lives.specs.Life.{Running, Happening, saved, late, cut, Stored, there, stored, Starts, starts, Goes, saves, waits, loses, Ran, begin, next}
-use Rattle.lives.specs.Life.{apart, tell, telling, told, kept, firstOf, Begun}
+use Rattle.lives.specs.Life.{Running, Happening, Stored, there, stored, Starts, starts, Goes, saves, waits, loses, Ran, begin, next, apart, tell, telling, told, kept, firstOf, Begun}
 
 -- an accepted sheet fits a slot
 accepted-short : (s : List ℕ) → Accepted s → length s ≤ longest

@@ -1,14 +1,7 @@
 -- A test that passes for all numbers below n: what it says of each, and as a loop meets it.
--- Assumes nothing.
-use Prim.Native.Nat.{ℕ, zero, suc, _+_, _*_, _≤_, _<_}
-use mathlib.Core.Path.{_≡_, refl, sym, ap, _∙_}
-use mathlib.Core.Bool.{Bool, true, false, not, _&&_}
-use native.Mathlib.Decide.{decLt}
-use native.Mathlib.Numerals.{add-one}
-use native.Mathlib.Omega.{arith}
-use borrow.Author.Tests.{not-true, not-false}
-use Rattle.octets.proofs.Truths.{never, and-is, must-fail}
+use Rattle.octets.proofs.Kit.{ℕ, zero, suc, _+_, _≤_, _<_, _≡_, refl, sym, ap, _∙_, Bool, true, false, not, decLt, add-one, arith, not-true, not-false}
 use Rattle.octets.specs.Every.{every}
+use Rattle.octets.proofs.Truths.{never, and-is, must-fail}
 
 module _ (f : ℕ → Bool) where
   pub every-at : (n : ℕ) → every n f ≡ true → (i : ℕ) → i < n → f i ≡ true

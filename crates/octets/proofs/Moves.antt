@@ -1,16 +1,8 @@
 -- Laws of a run of bytes moved: one byte more of it, from the first on and from the last on.
--- Assumes nothing.
-use Prim.Native.Nat.{ℕ, suc, _+_, _-_, _≤_, _<_}
-use mathlib.Core.Path.{_≡_, refl, sym, ap, _∙_}
-use mathlib.Core.List.{List, [], _∷_, _++_, append-assoc}
-use native.Mathlib.Nat.{add-zero, add-assoc}
-use native.Mathlib.Numerals.{add-one}
-use native.Mathlib.Omega.{arith}
-use lib.ListN.{length, take, drop, getD, set, length-append, length-take, length-drop}
-use lib.Seq.{take-suc, drop-cons, getD-drop, length-take-le, take-at, drop-at, take-append-le, take-take, drop-drop}
-use Rattle.octets.specs.Splice.{splice}
+use Rattle.octets.proofs.Kit.{ℕ, suc, _+_, _-_, _≤_, _<_, _≡_, sym, ap, _∙_, List, [], _∷_, _++_, append-assoc, add-zero, add-assoc, add-one, arith, length, take, drop, getD, set}
+use Rattle.octets.proofs.Kit.{length-append, length-drop, take-suc, drop-cons, getD-drop, length-take-le, drop-at, take-append-le, take-take}
+use Rattle.octets.specs.{Splice.splice, Moved.moved}
 use Rattle.octets.proofs.Splices.{splice-none, splice-one, splice-more, splice-above, splice-below, length-splice}
-use Rattle.octets.specs.Moved.{moved}
 
 -- a second run right before the first is one longer run
 pub splice-before :

@@ -1,15 +1,7 @@
 -- Laws of numbers in bytes, over the width.
--- Assumes nothing.
-use Prim.Native.Nat.{ℕ, zero, suc, _+_, _*_, _/_, _%_, _^_, _<_}
-use mathlib.Core.Path.{_≡_, refl, ap, ap₂, sym, _∙_}
-use mathlib.Core.List.{List, [], _∷_, _++_, append-assoc}
-use native.Mathlib.Nat.{add-zero, pow-suc, pow-le-pow-right, div-add-mod'}
-use native.Mathlib.Numerals.{add-one}
-use native.Mathlib.Omega.{arith}
-use lib.ListN.{getD, length, length-append, List·getD-append, replicate, replicate-append-replicate}
-use lib.Seq.{getD-append-add}
-use Rattle.octets.specs.Bytes.{numAt, bytesOf, IsNum}
-use Rattle.octets.specs.Octets.{Octets}
+use Rattle.octets.proofs.Kit.{ℕ, zero, suc, _+_, _*_, _/_, _%_, _^_, _<_, _≡_, refl, ap, ap₂, sym, _∙_, List, [], _∷_, _++_, append-assoc, add-zero, pow-suc, pow-le-pow-right}
+use Rattle.octets.proofs.Kit.{div-add-mod', add-one, arith, getD, length, length-append, List·getD-append, replicate, replicate-append-replicate, getD-append-add}
+use Rattle.octets.specs.{Bytes.{numAt, bytesOf, IsNum}, Octets.Octets}
 
 -- a number of one byte is that byte, one of two is what the pair says
 pub num-one : (s : List ℕ) (at : ℕ) → numAt s at 1 ≡ getD s at 0

@@ -1,21 +1,8 @@
 -- Bytes stay below 256: of parts, of lists put together, of numbers, and of a run replaced.
--- Assumes nothing.
-use Prim.Native.Nat.{ℕ, zero, suc, _+_, _-_, _/_, _%_, _<_, _≤_}
-use mathlib.Core.Path.{_≡_, ap, _∙_}
-use mathlib.Core.Logic.{inl, inr}
-use mathlib.Core.Bool.{Bool, true, _&&_}
-use mathlib.Core.List.{List, [], _∷_, _++_}
-use lib.ListN.{length, take, drop, getD}
-use lib.Dec.{ltb}
-use lib.Seq.{getD-drop}
-use native.Mathlib.Decide.{decLt}
-use native.Mathlib.Omega.{arith}
-use borrow.Author.Tests.{ltb-true}
-use Rattle.octets.specs.Bytes.{bytesOf}
-use Rattle.octets.specs.Octets.{Octets}
-use Rattle.octets.specs.Splice.{splice}
-use Rattle.octets.proofs.Splices.{splice-in, splice-outside}
-use Rattle.octets.proofs.Truths.{and-is}
+use Rattle.octets.proofs.Kit.{ℕ, zero, suc, _+_, _-_, _/_, _%_, _<_, _≤_, _≡_, ap, _∙_, inl, inr, Bool, true, _&&_, List, [], _∷_, _++_, length, take, drop, getD, ltb, getD-drop}
+use Rattle.octets.proofs.Kit.{decLt, arith, ltb-true}
+use Rattle.octets.specs.{Bytes.bytesOf, Octets.Octets, Splice.splice}
+use Rattle.octets.proofs.{Splices.{splice-in, splice-outside}, Truths.and-is}
 
 -- bytes, by one test
 abbrev pub isBytes : List ℕ → Bool

@@ -1,17 +1,8 @@
 -- Laws of a run of bytes replaced.
--- Assumes nothing.
-use mathlib.Core.Path.{_≡_, refl, sym, ap, _∙_}
-use mathlib.Core.List.{List, [], _∷_, _++_, append-assoc, append-nil}
-use mathlib.Core.Logic.{_⊎_, inl, inr}
-use mathlib.Core.Bool.{Bool, true, false, cond}
-use Prim.Native.Nat.{ℕ, suc, _+_, _-_, _^_, _≤_, _<_}
-use native.Mathlib.Omega.{arith}
-use native.Mathlib.Nat.{add-zero, add-assoc}
-use native.Mathlib.Numerals.{add-one}
-use lib.ListN.{length, take, drop, getD, set, length-append, length-take, length-drop, take-append-drop, List·getD-append}
-use lib.Seq.{set-split, append-snoc, getD-take, getD-drop, getD-append-add, length-take-le, take-at, drop-append-add, drop-drop, ext-getD}
-use Rattle.octets.specs.Bytes.{numAt, bytesOf}
-use Rattle.octets.specs.Splice.{splice}
+use Rattle.octets.proofs.Kit.{_≡_, refl, sym, ap, _∙_, List, [], _∷_, _++_, append-assoc, append-nil, _⊎_, inl, inr, Bool, true, false, cond, ℕ, suc, _+_, _-_, _^_, _≤_, _<_, arith}
+use Rattle.octets.proofs.Kit.{add-zero, add-assoc, add-one, length, take, drop, getD, set, length-append, length-take, length-drop, take-append-drop, List·getD-append, set-split}
+use Rattle.octets.proofs.Kit.{append-snoc, getD-take, getD-drop, getD-append-add, length-take-le, take-at, drop-append-add, drop-drop, ext-getD}
+use Rattle.octets.specs.{Bytes.{numAt, bytesOf}, Splice.splice}
 use Rattle.octets.proofs.Numbers.{num-same, num-back}
 
 -- nothing replaced

@@ -1,15 +1,7 @@
 -- Loops that store a run, as their needs ask.
--- Assumes nothing.
-use Prim.Native.Nat.{ℕ, suc, _+_, _-_, _/_, _%_, _≤_, _<_}
-use mathlib.Core.Path.{_≡_, refl, ap, sym, _∙_}
-use mathlib.Core.List.{List, [], _∷_, _++_}
-use native.Mathlib.Nat.{add-zero}
-use native.Mathlib.Omega.{arith}
-use native.Mathlib.Numerals.{add-one}
-use lib.ListN.{length, set, getD}
-use lib.Seq.{sets, sets-eq, set-comm, paste, paste-suc, take-length}
-use Rattle.octets.specs.Bytes.{bytesOf}
-use Rattle.octets.specs.Splice.{splice}
+use Rattle.octets.proofs.Kit.{ℕ, suc, _+_, _-_, _/_, _%_, _≤_, _<_, _≡_, refl, ap, sym, _∙_, List, [], _∷_, _++_, add-zero, arith, add-one, length, set, getD, sets, sets-eq, set-comm}
+use Rattle.octets.proofs.Kit.{paste, paste-suc, take-length}
+use Rattle.octets.specs.{Bytes.bytesOf, Splice.splice}
 use Rattle.octets.proofs.Numbers.{length-bytes}
 
 sets-append : (o : List ℕ) (at : ℕ) (a b : List ℕ) → sets o at (a ++ b) ≡ sets (sets o at a) (at + length a) b

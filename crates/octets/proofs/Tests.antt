@@ -1,10 +1,5 @@
 -- From the facts that code has where it returns to definitions that go by tests.
--- Assumes nothing.
-use Prim.Native.Nat.{ℕ}
-use mathlib.Core.Path.{_≡_, refl, sym, _∙_}
-use mathlib.Core.Bool.{Bool, true, false, cond, _&&_}
-use lib.Dec.{leb, eqb}
-use borrow.Author.Tests.{lt-ltb, le-ltb, le-leb, lt-leb, eq-eqb, ne-eqb}
+use Rattle.octets.proofs.Kit.{ℕ, _≡_, refl, sym, _∙_, Bool, true, false, cond, _&&_, leb, eqb, lt-ltb, le-ltb, le-leb, lt-leb, eq-eqb, ne-eqb}
 
 pub yes : {A : Type 0} (t : Bool) (x y r : A) → t ≡ true → r ≡ x → r ≡ cond t x y
 yes t x y r e h = simp e h

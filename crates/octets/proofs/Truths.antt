@@ -1,11 +1,5 @@
 -- What each test says, and what tests put together say.
--- Assumes nothing.
-use Prim.Native.Nat.{ℕ, _≤_, _<_}
-use mathlib.Core.Path.{_≡_, refl, sym}
-use mathlib.Core.Logic.{_↔_, _⊎_, inl, inr}
-use mathlib.Core.Bool.{Bool, true, false, _&&_, _||_}
-use lib.Dec.{ltb, leb, eqb}
-use borrow.Author.Tests.{ltb-true, leb-true, eqb-true, lt-ltb, le-leb, eq-eqb}
+use Rattle.octets.proofs.Kit.{ℕ, _≤_, _<_, _≡_, refl, sym, _↔_, _⊎_, inl, inr, Bool, true, false, _&&_, _||_, ltb, leb, eqb, ltb-true, leb-true, eqb-true, lt-ltb, le-leb, eq-eqb}
 
 -- false is not true
 pub never {ℓ} : {A : Type ℓ} → false ≡ true → A

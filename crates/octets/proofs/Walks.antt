@@ -1,10 +1,5 @@
 -- A choice by a test, case by case.
--- Assumes nothing.
-use Prim.Native.Nat.{ℕ, _<_, _≤_}
-use mathlib.Core.Path.{_≡_, refl}
-use mathlib.Core.Bool.{Bool, true, false, cond, not, _&&_}
-use lib.Dec.{ltb, leb, eqb}
-use borrow.Author.Tests.{ltb-true, ltb-false, leb-true, leb-false, eqb-true, eqb-false}
+use Rattle.octets.proofs.Kit.{ℕ, _<_, _≤_, _≡_, refl, Bool, true, false, cond, not, _&&_, ltb, leb, eqb, ltb-true, ltb-false, leb-true, leb-false, eqb-true, eqb-false}
 use Rattle.octets.proofs.Truths.{and-is}
 
 module _ {D : Type 0} (P : D → Type 0) where

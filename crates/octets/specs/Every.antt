@@ -1,5 +1,4 @@
 -- A test that passes for all numbers below n.
--- Assumes nothing.
 use Prim.Native.Nat.{ℕ, zero, suc}
 use mathlib.Core.Bool.{Bool, true, _&&_}
 

@@ -1,5 +1,4 @@
 -- A run of bytes moved.
--- Assumes nothing.
 use Prim.Native.Nat.{ℕ}
 use mathlib.Core.List.{List}
 use lib.ListN.{take, drop}

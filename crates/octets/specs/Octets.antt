@@ -1,5 +1,4 @@
 -- A list of bytes, which every lent slice is.
--- Assumes nothing.
 use Prim.Native.Nat.{ℕ, _<_}
 use mathlib.Core.Path.{_≡_}
 use mathlib.Core.List.{List}

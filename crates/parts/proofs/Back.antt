@@ -1,30 +1,14 @@
 -- WRITTEN AGAIN FROM ITS PARTS, an accepted sheet has the same bytes.
--- Assumes nothing.
-use Prim.Native.Nat.{ℕ, _+_, _<_}
-use mathlib.Core.Path.{_≡_, sym, subst, _∙_}
-use mathlib.Core.List.{List}
-use native.Mathlib.Omega.{arith}
-use lib.Dec.{lit<}
-use borrow.Author.Tests.{eq-eqb}
-use lib.ListN.{length, getD}
-use Rattle.octets.specs.Bytes.{numAt}
-use Rattle.octets.specs.Octets.{Octets}
-use Rattle.sheet.specs.Kind.{regions, properties, groups, users}
-use Rattle.sheet.specs.Layout.{_of_}
+use Rattle.octets.proofs.Kit.{ℕ, _+_, _<_, _≡_, sym, subst, _∙_, List, arith, lit<, eq-eqb, length, getD}
+use Rattle.octets.specs.{Bytes.numAt, Octets.Octets}
+use Rattle.sheet.{specs.{Kind.{regions, properties, groups, users}, Layout._of_, Entries.{count, place}, Rules.{Accepted, entryDemands}}, proofs.{rules.Good.good, places.Standing.field-at}}
 use Rattle.sheet.specs.Head as head
 use Rattle.sheet.specs.Region as region
 use Rattle.sheet.specs.Property as property
 use Rattle.sheet.specs.Group as group
-use Rattle.sheet.specs.Entries.{count, place}
-use Rattle.sheet.specs.Rules.{Accepted, entryDemands}
-use Rattle.sheet.proofs.rules.Good.{good}
-use Rattle.sheet.proofs.places.Standing.{field-at}
-use Rattle.parts.specs.declared.Group.{Group}
-use Rattle.parts.specs.declared.Parts.{Parts}
-use Rattle.parts.proofs.Bits.{two-bits, three-bits}
-use Rattle.parts.specs.Records.{IsGroup, Taken, noRegion, noProperty, noGroup}
+use Rattle.parts.specs.{declared.{Group.Group, Parts.Parts}, Records.{IsGroup, Taken, noRegion, noProperty, noGroup}}
 use Rattle.parts.specs.Again.{groupFlags, WholeRegion, WholeProperty, WholeGroup, WholeHead, WholeEntries, Whole, Restores, Roomy}
-use Rattle.parts.proofs.Runs.{restored-all}
+use Rattle.parts.proofs.{Bits.{two-bits, three-bits}, Runs.restored-all}
 
 module _ (s : List ℕ) (ok : Accepted s) where
   -- the zero bytes of the entries

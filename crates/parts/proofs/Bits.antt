@@ -1,10 +1,5 @@
 -- Bits of a byte, by name.
--- Assumes nothing.
-use Prim.Native.Nat.{ℕ, _+_, _*_, _/_, _%_, _≤_, _<_}
-use mathlib.Core.Path.{_≡_}
-use mathlib.Core.Bool.{Bool}
-use lib.Dec.{eqb}
-use native.Mathlib.Omega.{arith}
+use Rattle.octets.proofs.Kit.{ℕ, _+_, _*_, _/_, _%_, _≤_, _<_, _≡_, Bool, eqb, arith}
 use Rattle.octets.proofs.Walks.{by-eq}
 use Rattle.parts.specs.Again.{bitOf}
 

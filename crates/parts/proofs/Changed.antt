@@ -1,29 +1,11 @@
 -- A sheet whose entries or bodies have changed, and its head not.
--- Assumes nothing.
-use Prim.Native.Nat.{ℕ, _+_, _*_, _-_, _/_, _%_, _≤_, _<_}
-use mathlib.Core.Path.{_≡_, sym, ap, ap₂, subst, _∙_}
-use mathlib.Core.List.{List}
-use mathlib.Core.Bool.{cond}
-use mathlib.Core.Logic.{_⊎_, inl, inr}
-use native.Mathlib.Omega.{arith}
-use native.Mathlib.Decide.{decLt}
-use lib.Dec.{eqb}
-use lib.ListN.{length, getD, set, length-set}
-use lib.Seq.{getD-set-same, getD-set-other}
-use Rattle.octets.specs.Bytes.{numAt, bytesOf}
-use Rattle.octets.specs.Splice.{splice}
-use Rattle.octets.proofs.Numbers.{num-same, length-bytes}
-use Rattle.octets.proofs.Splices.{length-splice, splice-in, splice-below, splice-above, splice-num}
-use Rattle.sheet.specs.Kind.{regions, properties, groups, users}
+use Rattle.octets.proofs.Kit.{ℕ, _+_, _*_, _-_, _/_, _%_, _≤_, _<_, _≡_, sym, ap, ap₂, subst, _∙_, List, cond, _⊎_, inl, inr, arith, decLt, eqb, length, getD, set, length-set, getD-set-same}
+use Rattle.octets.proofs.Kit.{getD-set-other}
+use Rattle.octets.{specs.{Bytes.{numAt, bytesOf}, Splice.splice}, proofs.{Numbers.{num-same, length-bytes}, Splices.{length-splice, splice-in, splice-below, splice-above, splice-num}}}
+use Rattle.sheet.specs.{Kind.{regions, properties, groups, users}, Entries.{count, base, contents}}
 use Rattle.sheet.specs.Head as head
-use Rattle.sheet.specs.Entries.{count, base, contents}
-use Rattle.parts.specs.declared.Region.{Region}
-use Rattle.parts.specs.declared.Property.{Property}
-use Rattle.parts.specs.declared.Group.{Group}
-use Rattle.parts.specs.declared.Head.{Head}
-use Rattle.parts.specs.declared.Parts.{Parts}
-use Rattle.parts.specs.Records.{IsRegion, IsProperty, IsGroup, IsHead, Taken, noRegion, noProperty, noGroup}
-use Rattle.parts.specs.With.{withBodies, withProperties, withCount, counting}
+use Rattle.parts.specs.declared.{Region.Region, Property.Property, Group.Group, Head.Head, Parts.Parts}
+use Rattle.parts.specs.{Records.{IsRegion, IsProperty, IsGroup, IsHead, Taken, noRegion, noProperty, noGroup}, With.{withBodies, withProperties, withCount, counting}}
 
 -- entries of which no byte has changed
 module _ (s s′ : List ℕ) (at : ℕ) where

@@ -1,14 +1,7 @@
 -- An array that a loop fills, entry by entry; and one that has the bytes of a list from a place on.
--- Assumes nothing.
-use Prim.Native.Nat.{ℕ, _+_, _-_, _≤_, _<_}
-use mathlib.Core.Path.{_≡_, sym, ap, subst, _∙_}
-use mathlib.Core.List.{List}
-use native.Mathlib.Omega.{arith}
-use native.Mathlib.Decide.{decLt}
-use lib.ListN.{length, getD, set, take, drop, length-set, length-take, length-drop}
-use lib.Seq.{getD-set-same, getD-set-other, getD-take, getD-drop}
-use Rattle.octets.specs.Splice.{splice}
-use Rattle.octets.proofs.Splices.{length-splice, splice-in}
+use Rattle.octets.proofs.Kit.{ℕ, _+_, _-_, _≤_, _<_, _≡_, sym, ap, subst, _∙_, List, arith, decLt, length, getD, set, take, drop, length-set, length-take, length-drop, getD-set-same}
+use Rattle.octets.proofs.Kit.{getD-set-other, getD-take, getD-drop}
+use Rattle.octets.{specs.Splice.splice, proofs.Splices.{length-splice, splice-in}}
 
 -- THE WALK THAT READS n ENTRIES, of any kind, into an array of k: P holds of the first i
 pub record Filling {A : Type 0} (d : A) (P : A → ℕ → Type 0) (k n : ℕ) (r : List A) (i : ℕ) : Type 0 where

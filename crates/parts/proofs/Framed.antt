@@ -1,27 +1,11 @@
 -- A sheet whose head alone has changed.
--- Assumes nothing.
-use Prim.Native.Nat.{ℕ, _+_, _*_, _-_, _/_, _%_, _^_, _≤_, _<_}
-use mathlib.Core.Path.{_≡_, sym, ap, ap₂, subst, _∙_}
-use mathlib.Core.List.{List}
-use mathlib.Core.Bool.{cond}
-use mathlib.Core.Logic.{_⊎_, inl, inr}
-use native.Mathlib.Omega.{arith}
-use native.Mathlib.Decide.{decLt}
-use lib.Dec.{eqb}
-use lib.ListN.{length, getD, set, length-set}
-use lib.Seq.{getD-set-same, getD-set-other}
-use Rattle.octets.specs.Bytes.{numAt, bytesOf}
-use Rattle.octets.specs.Splice.{splice}
-use Rattle.octets.specs.Octets.{Octets}
-use Rattle.octets.proofs.Numbers.{num-one, length-bytes}
+use Rattle.octets.proofs.Kit.{ℕ, _+_, _*_, _-_, _/_, _%_, _^_, _≤_, _<_, _≡_, sym, ap, ap₂, subst, _∙_, List, cond, _⊎_, inl, inr, arith, decLt, eqb, length, getD, set, length-set}
+use Rattle.octets.proofs.Kit.{getD-set-same, getD-set-other}
+use Rattle.octets.{specs.{Bytes.{numAt, bytesOf}, Splice.splice, Octets.Octets}, proofs.Numbers.{num-one, length-bytes}}
 use Rattle.octets.proofs.Splices.{length-splice, splice-below, splice-above, splice-num, splice-num-outside}
-use Rattle.sheet.specs.Kind.{regions, properties, groups, users}
-use Rattle.sheet.specs.Layout.{_of_}
+use Rattle.sheet.specs.{Kind.{regions, properties, groups, users}, Layout._of_, Entries.base}
 use Rattle.sheet.specs.Head as head
-use Rattle.sheet.specs.Entries.{count, base}
-use Rattle.parts.specs.declared.Head.{Head}
-use Rattle.parts.specs.declared.Parts.{Parts}
-use Rattle.parts.specs.Records.{IsRegion, IsProperty, IsGroup, IsHead, Taken, noRegion, noProperty, noGroup}
+use Rattle.parts.specs.{declared.{Head.Head, Parts.Parts}, Records.{IsRegion, IsProperty, IsGroup, IsHead, Taken, noRegion, noProperty, noGroup}}
 use Rattle.parts.specs.With.{withHead, withKey, withAddress, cleared}
 use Rattle.parts.proofs.Changed.{region-same, group-same, property-kept}
 

@@ -1,19 +1,8 @@
 -- The numbers of entries of an accepted sheet.
--- Assumes nothing.
-use Prim.Native.Nat.{ℕ, _+_, _*_, _≤_, _<_}
-use mathlib.Core.Path.{_≡_, sym, _∙_}
-use borrow.Author.Tests.{eq-eqb}
-use lib.ListN.{length, getD}
-use mathlib.Core.List.{List}
-use native.Mathlib.Omega.{arith}
+use Rattle.octets.proofs.Kit.{ℕ, _+_, _*_, _≤_, _<_, _≡_, sym, _∙_, eq-eqb, length, getD, List, arith}
 use Rattle.octets.specs.Bytes.{numAt, IsNum}
-use Rattle.sheet.specs.Rules.{Accepted}
-use Rattle.sheet.specs.Head.{users}
-use Rattle.sheet.proofs.rules.Good.{good}
-use Rattle.parts.specs.declared.Counts.{Counts}
-use Rattle.parts.specs.declared.Parts.{Parts}
-use Rattle.parts.specs.declared.Starts.{Starts}
-use Rattle.parts.specs.Again.{second, third, fourth, end}
+use Rattle.sheet.{specs.{Rules.Accepted, Head.users}, proofs.rules.Good.good}
+use Rattle.parts.specs.{declared.{Counts.Counts, Parts.Parts, Starts.Starts}, Again.{second, third, fourth, end}}
 use Rattle.parts.specs.Records.{IsHead, IsCounts, IsRegion, IsProperty, IsGroup, Taken, noRegion, noProperty, noGroup}
 
 pub counts-are : (s : List ℕ) (z : Counts) → Accepted s → IsNum s 1 1 256 (z .regions) → IsNum s 2 1 256 (z .properties) → IsNum s 3 1 256 (z .groups) → IsNum s 15 1 256 (z .users) → IsCounts z s

@@ -1,14 +1,7 @@
 -- Bytes of the bodies are bytes of the sheet.
--- Assumes nothing.
-use Prim.Native.Nat.{ℕ, _+_, _≤_, _<_}
-use mathlib.Core.Path.{_≡_, sym, _∙_}
-use mathlib.Core.List.{List}
-use native.Mathlib.Omega.{arith}
-use lib.ListN.{length, take, drop, length-take, length-drop}
-use lib.Seq.{ext-getD, getD-take, getD-drop}
+use Rattle.octets.proofs.Kit.{ℕ, _+_, _≤_, _<_, _≡_, sym, _∙_, List, arith, length, take, drop, length-take, length-drop, ext-getD, getD-take, getD-drop}
 use Rattle.sheet.specs.Entries.{contents}
-use Rattle.parts.specs.declared.Parts.{Parts}
-use Rattle.parts.specs.Records.{Taken}
+use Rattle.parts.specs.{declared.Parts.Parts, Records.Taken}
 
 pub same-part :
     (s : List ℕ) (u : Parts) → Taken s u → (o n : ℕ) → contents s ≤ o → o + n ≤ length s → take n (drop o (u .bodies)) ≡ take n (drop o s)

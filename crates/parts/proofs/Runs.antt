@@ -1,25 +1,10 @@
 -- Bytes written one run after the other, from the first.
--- Assumes nothing.
-use Prim.Native.Nat.{ℕ, zero, suc, _+_, _*_, _-_, _/_, _%_, _≤_, _<_}
-use mathlib.Core.Path.{_≡_, refl, sym, ap, subst, _∙_}
-use mathlib.Core.List.{List, [], _∷_}
-use native.Mathlib.Omega.{arith}
-use lib.Dec.{eqb}
-use native.Mathlib.Decide.{decLt}
-use lib.ListN.{length, getD, take, drop, length-take, length-drop}
-use lib.Seq.{ext-getD, getD-take, getD-drop}
-use Rattle.octets.specs.Bytes.{numAt, bytesOf}
-use Rattle.octets.specs.Splice.{splice}
-use Rattle.octets.proofs.Numbers.{num-one, bytes-back, length-bytes}
-use Rattle.octets.proofs.Splices.{length-splice, splice-in, splice-below}
-use Rattle.octets.specs.Octets.{Octets}
-use Rattle.parts.specs.declared.Property.{Property}
-use Rattle.parts.specs.declared.Counts.{Counts}
-use Rattle.parts.specs.declared.Parts.{Parts}
-use Rattle.parts.specs.declared.Starts.{Starts}
-use Rattle.parts.specs.Records.{noRegion, noProperty, noGroup}
+use Rattle.octets.proofs.Kit.{ℕ, zero, suc, _+_, _*_, _-_, _/_, _%_, _≤_, _<_, _≡_, refl, sym, ap, subst, _∙_, List, [], _∷_, arith, eqb, decLt, length, getD, take, drop, length-take}
+use Rattle.octets.proofs.Kit.{length-drop, ext-getD, getD-take, getD-drop}
+use Rattle.octets.{specs.{Bytes.{numAt, bytesOf}, Splice.splice, Octets.Octets}, proofs.{Numbers.{num-one, bytes-back, length-bytes}, Splices.{length-splice, splice-in, splice-below}}}
+use Rattle.parts.specs.{declared.{Property.Property, Parts.Parts, Starts.Starts}, Records.{noRegion, noProperty, noGroup}, Again.{typeOf, levelsOf, WholeRegion, WholeProperty}}
+use Rattle.parts.specs.Again.{WholeGroup, SameFront, Restores, Each, IsAt, WholeBodies, WholeHead, WholeEntries, Whole, second, third, fourth, end}
 use Rattle.parts.proofs.Bits.{top-bit}
-use Rattle.parts.specs.Again.{typeOf, levelsOf, WholeRegion, WholeProperty, WholeGroup, SameFront, Restores, Each, IsAt, WholeBodies, WholeHead, WholeEntries, Whole, second, third, fourth, end}
 
 -- the bytes ds stand in s from at + k on
 abbrev pub Runs : List ℕ → List ℕ → ℕ → ℕ → Type 0

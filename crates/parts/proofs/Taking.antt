@@ -1,9 +1,5 @@
 -- The records of entries and of the head are made of the numbers read.
--- Assumes nothing.
-use Prim.Native.Nat.{ℕ, _+_, _/_, _%_, _^_}
-use mathlib.Core.Path.{refl, ap}
-use mathlib.Core.List.{List, [], _∷_}
-use lib.Dec.{eqb}
+use Rattle.octets.proofs.Kit.{ℕ, _+_, _/_, _%_, _^_, refl, ap, List, [], _∷_, eqb}
 use Rattle.octets.specs.Bytes.{IsNum}
 use Rattle.parts.specs.Records.{IsProperty, IsGroup, IsHead}
 

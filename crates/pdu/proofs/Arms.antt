@@ -1,16 +1,7 @@
 -- What the arms of a match on a PDU or a service ask.
--- Assumes nothing.
-use Prim.Native.Nat.{ℕ}
-use mathlib.Core.Path.{_≡_, sym, subst}
-use mathlib.Core.Bool.{Bool}
-use mathlib.Core.List.{List}
+use Rattle.octets.proofs.Kit.{ℕ, _≡_, sym, subst, Bool, List}
 use Rattle.octets.specs.Splice.{splice}
-use Rattle.pdu.specs.Table.{rowOf}
-use Rattle.pdu.specs.Pdus.{serviceOf, valuesOf}
-use Rattle.pdu.specs.Rules.{headBytes}
-use Rattle.pdu.specs.Read.{dataAt}
-use Rattle.pdu.specs.Write.{fitsIn}
-use Rattle.pdu.specs.declared.Pdu.{Pdu}
+use Rattle.pdu.specs.{Table.rowOf, Pdus.{serviceOf, valuesOf}, Rules.headBytes, Read.dataAt, Write.fitsIn, declared.Pdu.Pdu}
 
 -- in an arm the enum is known: what holds of its constructor holds of it
 pub via-fits : (p q : Pdu) (n : ℕ) (r : Bool) → p ≡ q → r ≡ fitsIn q n → r ≡ fitsIn p n

@@ -1,20 +1,7 @@
 -- Which service a code names: where the rows before it lie apart from a row, that row is found by its codes, and a code in no row is unknown.
--- Assumes nothing.
-use Prim.Native.Nat.{ℕ, zero, suc, _+_, _/_, _%_, _≤_, _<_}
-use mathlib.Core.Path.{_≡_, refl, sym, _∙_, subst}
-use mathlib.Core.Logic.{_⊎_, inl, inr, ⊎-elim}
-use mathlib.Core.Bool.{Bool, true, false, _&&_, _||_}
-use mathlib.Core.List.{List, [], _∷_}
-use native.Mathlib.Omega.{arith}
-use lib.Dec.{T, leb, ltb, eqb, eqb→eq}
-use lib.ListN.{getD}
-use borrow.Author.Tests.{lt-ltb, le-leb, leb-true, ltb-true}
-use Rattle.pdu.specs.Item.{Row}
-use Rattle.pdu.specs.Table.{rowOf, has, find, serviceAt}
-use Rattle.pdu.specs.declared.Service.{Service}
-use Rattle.pdu.specs.declared.Service.the-variants.{GroupValueRead}
-use Rattle.pdu.specs.declared.Found.{Found}
-use Rattle.pdu.specs.declared.Found.the-variants.{Listed, Unknown}
+use Rattle.octets.proofs.Kit.{ℕ, zero, suc, _+_, _/_, _%_, _≤_, _<_, _≡_, refl, sym, _∙_, subst, _⊎_, inl, inr, ⊎-elim, Bool, true, false, _&&_, _||_, List, [], _∷_, arith, T, leb, ltb, eqb}
+use Rattle.octets.proofs.Kit.{eqb→eq, getD, lt-ltb, le-leb, leb-true, ltb-true}
+use Rattle.pdu.specs.{Item.Row, Table.{rowOf, has, find, serviceAt}, declared.{Service.{Service, the-variants.GroupValueRead}, Found.{Found, the-variants.{Listed, Unknown}}}}
 
 abbrev pub In : Row → ℕ → Type 0
 In r c = (r .base ≤ c) × (c < r .base + r .span)

@@ -1,17 +1,8 @@
 -- The form of a row, as one computed test: its codes are below 1,024; a field in the low bits of the code stands first and counts the codes; a bounded field fits its bytes.
--- Assumes nothing.
-use Prim.Native.Nat.{ℕ, _+_, _-_, _%_, _^_, _≤_, _<_}
-use mathlib.Core.Path.{_≡_, refl, sym, ap, _∙_}
-use mathlib.Core.Bool.{Bool, true, false, _&&_}
-use mathlib.Core.List.{List, [], _∷_}
-use native.Mathlib.Nat.{zero-add, mod-eq-of-lt, mod-add-mod, mod-mod-of-dvd, dvd-of-mod-eq-zero}
-use native.Mathlib.Omega.{arith}
-use lib.Dec.{leb, eqb}
-use borrow.Author.Tests.{leb-true, eqb-true}
-use Rattle.pdu.specs.Item.{Item, low, num, cap, duo, skip, Tail, none, by, twice, between, group, Row, Value, the}
-use Rattle.pdu.specs.Rules.{headOf, codeBy}
-use Rattle.pdu.specs.Allows.{AllWithin, Length}
+use Rattle.octets.proofs.Kit.{ℕ, _+_, _-_, _%_, _^_, _≤_, _<_, _≡_, refl, sym, ap, _∙_, Bool, true, false, _&&_, List, [], _∷_, zero-add, mod-eq-of-lt, mod-add-mod, mod-mod-of-dvd}
+use Rattle.octets.proofs.Kit.{dvd-of-mod-eq-zero, arith, leb, eqb, leb-true, eqb-true}
 use Rattle.octets.proofs.Truths.{never, and-is}
+use Rattle.pdu.specs.{Item.{Item, low, num, cap, duo, skip, Tail, none, by, twice, between, group, Row, Value, the}, Rules.{headOf, codeBy}, Allows.{AllWithin, Length}}
 
 -- items none of which stands in the code
 abbrev pub laterFormed : List Item → Bool

@@ -1,21 +1,9 @@
 -- The bytes of a row's items: how many they are, and that the fields are read back from them.
--- Assumes nothing.
-use Prim.Native.Nat.{ℕ, _+_, _%_, _^_, _≤_, _<_}
-use mathlib.Core.Path.{_≡_, refl, sym, ap, ap₂, _∙_}
-use mathlib.Core.Bool.{true}
-use mathlib.Core.List.{List, [], _∷_, _++_, append-assoc}
-use native.Mathlib.Nat.{add-zero}
-use native.Mathlib.Omega.{arith}
-use lib.ListN.{length, length-append}
-use Rattle.octets.specs.Bytes.{numAt, bytesOf}
-use Rattle.octets.proofs.Numbers.{num-back, length-bytes}
-use Rattle.pdu.specs.Item.{Name, Item, low, num, cap, duo, skip, Row, Value, _≔_, the}
-use Rattle.pdu.specs.Table.{has}
-use Rattle.pdu.specs.Rules.{codeOf, lowAt, fourAt, twelveAt, valuesAt, endOf, headOf, codeFor, pairOf, ignored, itemBytes, headBytes}
-use Rattle.pdu.specs.Allows.{AllWithin}
-use Rattle.pdu.proofs.Formed.{Formed, Held, Coded, coded}
-use Rattle.pdu.proofs.Sound.{chosen}
-use Rattle.pdu.proofs.promises.Codes.{has-is}
+use Rattle.octets.proofs.Kit.{ℕ, _+_, _%_, _^_, _≤_, _<_, _≡_, refl, sym, ap, ap₂, _∙_, true, List, [], _∷_, _++_, append-assoc, add-zero, arith, length, length-append}
+use Rattle.octets.{specs.Bytes.{numAt, bytesOf}, proofs.Numbers.{num-back, length-bytes}}
+use Rattle.pdu.specs.{Item.{Name, Item, low, num, cap, duo, skip, Row, Value, _≔_, the}, Table.has}
+use Rattle.pdu.specs.{Rules.{codeOf, lowAt, fourAt, twelveAt, valuesAt, endOf, headOf, codeFor, pairOf, ignored, itemBytes, headBytes}, Allows.AllWithin}
+use Rattle.pdu.proofs.{Formed.{Formed, Held, Coded, coded}, Sound.chosen, promises.Codes.has-is}
 
 -- the items end where their bytes do
 end-more : (w v : ℕ) (l : List ℕ) (at e : ℕ) → e ≡ at + w + length l → e ≡ at + length (bytesOf w v ++ l)

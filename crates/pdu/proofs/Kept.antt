@@ -1,21 +1,10 @@
 -- The bytes of fields that stand in an APDU are the APDU's own, but for those of no meaning, which are 0.
--- Assumes nothing.
-use Prim.Native.Nat.{ℕ, _+_, _-_, _/_, _%_, _≤_, _<_}
-use mathlib.Core.Path.{_≡_, ap, ap₂, _∙_}
-use mathlib.Core.Logic.{_⊎_, inl, inr, ⊎-elim}
-use mathlib.Core.List.{List, [], _∷_, _++_, append-assoc}
-use native.Mathlib.Omega.{arith}
-use native.Mathlib.Decide.{decLt}
-use lib.ListN.{length, getD, drop, length-append, length-drop, List·getD-append, getD-replicate}
-use lib.Seq.{getD-drop, getD-append-add}
-use Rattle.octets.specs.Bytes.{numAt, bytesOf}
-use Rattle.octets.specs.Octets.{Octets}
-use Rattle.octets.proofs.Numbers.{length-bytes, bytes-back, bytes-zero, bytes-two, num-two}
-use Rattle.pdu.specs.Item.{Item, low, num, cap, duo, skip, Row, Value, the}
-use Rattle.pdu.specs.Rules.{codeOf, endOf, headOf, codeFor, fourAt, twelveAt, pairOf, ignored, itemBytes, headBytes}
+use Rattle.octets.proofs.Kit.{ℕ, _+_, _-_, _/_, _%_, _≤_, _<_, _≡_, ap, ap₂, _∙_, _⊎_, inl, inr, ⊎-elim, List, [], _∷_, _++_, append-assoc, arith, decLt, length, getD, drop, length-append}
+use Rattle.octets.proofs.Kit.{length-drop, List·getD-append, getD-replicate, getD-drop, getD-append-add}
+use Rattle.octets.{specs.{Bytes.{numAt, bytesOf}, Octets.Octets}, proofs.Numbers.{length-bytes, bytes-back, bytes-zero, bytes-two, num-two}}
+use Rattle.pdu.specs.{Item.{Item, low, num, cap, duo, skip, Row, Value, the}, Rules.{codeOf, endOf, headOf, codeFor, fourAt, twelveAt, pairOf, ignored, itemBytes, headBytes}}
 use Rattle.pdu.specs.Cleared.{Skipped, Cleared}
-use Rattle.pdu.proofs.Stands.{Stands}
-use Rattle.pdu.proofs.Items.{length-head}
+use Rattle.pdu.proofs.{Stands.Stands, Items.length-head}
 
 -- bytes of no meaning stand from the items' place on
 skipped-after : (is : List Item) (at j : ℕ) → Skipped is at j → at ≤ j

@@ -1,22 +1,8 @@
 -- From what the parts of a read ensure to what reading gives.
--- Assumes nothing.
-use Prim.Native.Nat.{ℕ, _≤_, _<_}
-use mathlib.Core.Path.{_≡_, refl, sym, subst, _∙_}
-use mathlib.Core.Bool.{Bool, true, false}
-use mathlib.Core.List.{List}
-use lib.ListN.{length}
-use borrow.Author.Tests.{lt-ltb, le-ltb}
-use Rattle.pdu.specs.Table.{rowOf, serviceAt}
-use Rattle.pdu.specs.Rules.{codeOf, valuesAt, fits}
-use Rattle.pdu.specs.Read.{builtOf, readAs, readPdu}
-use Rattle.pdu.specs.Write.{fitsIn}
-use Rattle.pdu.specs.declared.Service.{Service}
+use Rattle.octets.proofs.Kit.{ℕ, _≤_, _<_, _≡_, refl, sym, subst, _∙_, Bool, true, false, List, length, lt-ltb, le-ltb}
+use Rattle.pdu.specs.{Table.{rowOf, serviceAt}, Rules.{codeOf, valuesAt, fits}, Read.{builtOf, readAs, readPdu}, Write.fitsIn, declared.{Service.Service, Found.Found}}
+use Rattle.pdu.specs.declared.{Found.the-variants.{Listed, Unknown}, Pdu.Pdu, Parsed.{Parsed, the-variants.{Is, Refused}}}
 use Rattle.pdu.specs.declared.Service.the-variants as svc
-use Rattle.pdu.specs.declared.Found.{Found}
-use Rattle.pdu.specs.declared.Found.the-variants.{Listed, Unknown}
-use Rattle.pdu.specs.declared.Pdu.{Pdu}
-use Rattle.pdu.specs.declared.Parsed.{Parsed}
-use Rattle.pdu.specs.declared.Parsed.the-variants.{Is, Refused}
 
 -- in an arm the service is known: what holds of it there holds
 pub via-built : (k j : Service) (s : List ℕ) (p : Pdu) → k ≡ j → p ≡ builtOf j s → p ≡ builtOf k s

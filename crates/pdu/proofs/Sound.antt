@@ -1,21 +1,12 @@
 -- The enum and the table say the same: of each service, one line.
--- Assumes nothing.
-use Prim.Native.Nat.{ℕ}
-use mathlib.Core.Path.{_≡_, refl, sym, ap, _∙_}
-use mathlib.Core.Bool.{true}
-use mathlib.Core.List.{List, [], _∷_}
-use Rattle.pdu.specs.Item.{Item, low, num, cap, duo, skip, Value, _≔_, the}
-use Rattle.pdu.specs.Table.{rowOf}
-use Rattle.pdu.specs.Pdus.{serviceOf, valuesOf, pduOf}
-use Rattle.pdu.specs.Rules.{valuesAt}
-use Rattle.pdu.proofs.Formed.{formed}
-use Rattle.pdu.specs.declared.Service.{Service}
-use Rattle.pdu.specs.declared.Service.the-variants as svc
-use Rattle.pdu.specs.declared.Pdu.{Pdu}
+use Rattle.octets.proofs.Kit.{ℕ, _≡_, refl, sym, ap, _∙_, true, List, [], _∷_}
+use Rattle.pdu.specs.{Item.{Item, low, num, cap, duo, skip, Value, _≔_, the}, Table.rowOf, Pdus.{serviceOf, valuesOf, pduOf}, Rules.valuesAt, declared.{Service.Service, Pdu.Pdu}}
 use Rattle.pdu.specs.declared.Pdu.the-variants.{GroupValueRead, GroupValueResponse, GroupValueWrite, IndividualAddressWrite, IndividualAddressRead, SerialNumberRead, SerialNumberWrite}
 use Rattle.pdu.specs.declared.Pdu.the-variants.{DeviceDescriptorRead, PropertyValueRead, PropertyValueWrite, PropertyDescriptionRead, MemoryRead, MemoryWrite, MemoryBitWrite}
 use Rattle.pdu.specs.declared.Pdu.the-variants.{AuthorizeRequest, KeyWrite, Restart, IndividualAddressResponse, SerialNumberResponse, DeviceDescriptorResponse, PropertyValueResponse}
 use Rattle.pdu.specs.declared.Pdu.the-variants.{PropertyDescriptionResponse, MemoryResponse, AuthorizeResponse, KeyResponse, UserMemoryRead, UserMemoryResponse, UserMemoryWrite}
+use Rattle.pdu.specs.declared.Service.the-variants as svc
+use Rattle.pdu.proofs.Formed.{formed}
 
 -- the fields of the items, out of these
 abbrev pub chosen : List Item → List Value → List Value

@@ -1,17 +1,8 @@
 -- Fields that stand in bytes, item by item.
--- Assumes nothing.
-use Prim.Native.Nat.{ℕ, _+_, _%_, _<_}
-use mathlib.Core.Path.{_≡_, ap}
-use mathlib.Core.List.{List, [], _∷_}
-use native.Mathlib.Omega.{arith}
-use Rattle.octets.specs.Bytes.{numAt}
-use Rattle.octets.specs.Octets.{Octets}
-use Rattle.octets.proofs.Numbers.{num-below}
-use Rattle.pdu.specs.Item.{Name, Item, low, num, cap, duo, skip, Value, _≔_, the}
-use Rattle.pdu.specs.Rules.{lowAt, fourAt, twelveAt, valuesAt}
-use Rattle.pdu.specs.Allows.{AllWide}
-use Rattle.pdu.proofs.Formed.{LowOf}
-use Rattle.pdu.proofs.Sound.{chosen}
+use Rattle.octets.proofs.Kit.{ℕ, _+_, _%_, _≡_, ap, List, [], _∷_, arith}
+use Rattle.octets.{specs.{Bytes.numAt, Octets.Octets}, proofs.Numbers.num-below}
+use Rattle.pdu.specs.{Item.{Name, Item, low, num, cap, duo, skip, Value, _≔_, the}, Rules.{lowAt, fourAt, twelveAt, valuesAt}, Allows.AllWide}
+use Rattle.pdu.proofs.{Formed.LowOf, Sound.chosen}
 
 abbrev pub Stands : List Item → List Value → ℕ → List ℕ → Type 0
 Stands [] x at b = Unit {0}

@@ -1,14 +1,6 @@
 -- Numbers stored one after the other make one run of bytes.
--- Assumes nothing.
-use Prim.Native.Nat.{ℕ, _+_}
-use mathlib.Core.Path.{_≡_, ap, _∙_}
-use mathlib.Core.List.{List, [], _++_, append-assoc, append-nil}
-use native.Mathlib.Omega.{arith}
-use lib.ListN.{length, length-append}
-use Rattle.octets.specs.Bytes.{bytesOf}
-use Rattle.octets.specs.Splice.{splice}
-use Rattle.octets.proofs.Numbers.{length-bytes}
-use Rattle.octets.proofs.Splices.{splice-more}
+use Rattle.octets.proofs.Kit.{ℕ, _+_, _≡_, ap, _∙_, List, [], _++_, append-assoc, append-nil, arith, length, length-append}
+use Rattle.octets.{specs.{Bytes.bytesOf, Splice.splice}, proofs.{Numbers.length-bytes, Splices.splice-more}}
 
 -- a second run right after one that starts at the first byte
 pub longer : (o o₁ o₂ a b : List ℕ) (n : ℕ) → length a ≡ n → o₁ ≡ splice o 0 a → o₂ ≡ splice o₁ n b → o₂ ≡ splice o 0 (a ++ b)

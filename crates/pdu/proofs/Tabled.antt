@@ -1,24 +1,9 @@
 -- READING AND THE NAMES OF FIELDS AS PROPOSITIONS, for a reader who trusts no tests.
--- Assumes nothing.
-use Prim.Native.Nat.{ℕ, _≤_}
-use mathlib.Core.Path.{_≡_, refl, sym, ap, _∙_}
-use mathlib.Core.Logic.{_↔_}
-use mathlib.Core.Bool.{true}
-use mathlib.Core.List.{List, [], _∷_}
-use native.Mathlib.Omega.{arith}
-use lib.ListN.{length, getD}
-use Rattle.pdu.specs.Item.{Name, V6, Address, Serial, Domain, T, Object, Id, N, S, Index, Typ, Maximum, Access, Level, Key, nameNumber, same}
-use Rattle.pdu.specs.Table.{rowOf, has}
-use Rattle.pdu.specs.Rules.{codeOf, valuesAt}
-use Rattle.pdu.specs.Read.{readPdu}
-use Rattle.pdu.specs.Allows.{Allows, Carries}
-use Rattle.octets.specs.Octets.{Octets}
-use Rattle.octets.proofs.Truths.{equal-is}
-use Rattle.pdu.proofs.promises.Outcomes.{carried, read-carries, told-10}
-use Rattle.pdu.proofs.promises.Refusals.{unread-is}
-use Rattle.pdu.specs.declared.Service.{Service}
-use Rattle.pdu.specs.declared.Pdu.{Pdu}
-use Rattle.pdu.specs.declared.Parsed.the-variants.{Is, Refused}
+use Rattle.octets.proofs.Kit.{ℕ, _≤_, _≡_, refl, sym, ap, _∙_, _↔_, true, List, [], _∷_, arith, length, getD}
+use Rattle.octets.{specs.Octets.Octets, proofs.Truths.equal-is}
+use Rattle.pdu.specs.{Item.{Name, V6, Address, Serial, Domain, T, Object, Id, N, S, Index, Typ, Maximum, Access, Level, Key, nameNumber, same}, Table.{rowOf, has}}
+use Rattle.pdu.specs.{Rules.{codeOf, valuesAt}, Read.readPdu, Allows.{Allows, Carries}, declared.{Service.Service, Pdu.Pdu, Parsed.the-variants.{Is, Refused}}}
+use Rattle.pdu.proofs.promises.{Outcomes.{carried, read-carries, told-10}, Refusals.unread-is}
 
 -- BYTES READ AS THE PDU THAT THEY CARRY, and as no other
 pub reads-is : (b : List ℕ) (p : Pdu) → Octets b → (readPdu b ≡ Is p) ↔ Carries b p

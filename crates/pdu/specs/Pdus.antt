@@ -1,5 +1,4 @@
 -- The PDUs: the service and the named fields of each.
--- Assumes nothing.
 use mathlib.Core.List.{List, [], _∷_}
 use Rattle.pdu.specs.Item.{Value, _≔_, the, V6, Address, Serial, Domain, T, Object, Id, N, S, Index, Typ, Maximum, Access, Level, Key}
 use Rattle.pdu.specs.declared.Service.{Service}

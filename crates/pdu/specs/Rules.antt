@@ -1,5 +1,4 @@
 -- What a row says of the bytes of a PDU: the fields in them, whether these and the length suit the row, and the bytes of given fields.
--- Assumes nothing.
 use Prim.Native.Nat.{ℕ, _+_, _*_, _/_, _%_}
 use mathlib.Core.List.{List, [], _∷_, _++_}
 use mathlib.Core.Bool.{Bool, _&&_, _||_}

@@ -1,5 +1,4 @@
 -- THE SERVICE TABLE, and the list of the answers that a tool reads.
--- Assumes nothing.
 use Prim.Native.Nat.{ℕ, _+_}
 use mathlib.Core.List.{List, [], _∷_}
 use mathlib.Core.Bool.{Bool, cond, _&&_}

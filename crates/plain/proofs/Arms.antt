@@ -1,36 +1,14 @@
 -- In an arm of a match the PDU, the service or the turn is known, and with it the data of the request.
--- Assumes nothing.
-use Prim.Native.Nat.{ℕ, _+_, _≤_}
-use mathlib.Core.Path.{_≡_, refl, sym, ap, subst, _∙_}
-use mathlib.Core.Bool.{Bool, true, false, cond, _&&_}
-use lib.Dec.{ltb, eqb}
-use borrow.Author.Tests.{eq-eqb, ne-eqb}
-use Rattle.pdu.specs.declared.Service.the-variants.{Restart}
-use Rattle.judge.specs.declared.Reach.the-variants.{PointToPoint, Connected}
-use mathlib.Core.List.{List, [], _∷_}
-use native.Mathlib.Omega.{arith}
-use lib.ListN.{length, drop, length-drop}
+use Rattle.octets.proofs.Kit.{ℕ, _+_, _≤_, _≡_, refl, sym, ap, subst, _∙_, Bool, true, false, cond, _&&_, ltb, eqb, eq-eqb, ne-eqb, List, [], _∷_, arith, length, drop, length-drop}
 use Rattle.octets.proofs.Truths.{and-is, equal-is}
-use Rattle.pdu.specs.Item.{Item, low, num, cap, duo, skip, Tail, none, Value, the}
-use Rattle.pdu.specs.Table.{rowOf}
-use Rattle.pdu.specs.Pdus.{serviceOf, valuesOf}
-use Rattle.pdu.specs.Rules.{under, suits, headOf}
-use Rattle.pdu.specs.Read.{dataAt, dataOf}
-use Rattle.pdu.proofs.promises.Readings.{Reading, reading}
-use Rattle.pdu.specs.declared.Service.{Service}
-use Rattle.pdu.specs.declared.Pdu.{Pdu}
-use Rattle.pdu.specs.declared.Pdu.the-variants.{PropertyValueWrite, MemoryWrite, MemoryBitWrite, UserMemoryWrite}
-use Rattle.judge.specs.Modes.{reachOf, reaches, takes}
-use Rattle.judge.specs.Decisions.{refused}
-use Rattle.judge.specs.Judge.{decideOf}
-use Rattle.judge.specs.declared.Turn.the-variants.{Stays}
-use Rattle.device.proofs.due.Given.{write-data, memory-data, user-data, bits-data}
+use Rattle.pdu.specs.{declared.Service.the-variants.Restart, Item.{Item, low, num, cap, duo, skip, Tail, none, Value, the}, Table.rowOf, Pdus.{serviceOf, valuesOf}}
+use Rattle.pdu.specs.{Rules.{under, suits, headOf}, Read.{dataAt, dataOf}, declared.{Service.Service, Pdu.Pdu}}
+use Rattle.pdu.{specs.declared.Pdu.the-variants.{PropertyValueWrite, MemoryWrite, MemoryBitWrite, UserMemoryWrite}, proofs.promises.Readings.{Reading, reading}}
+use Rattle.judge.specs.{declared.Reach.the-variants.{PointToPoint, Connected}, Modes.{reachOf, takes}, Decisions.refused, Judge.decideOf, declared.Turn.the-variants.Stays}
 use Rattle.parts.specs.declared.Parts.{Parts}
-use Rattle.plain_services.specs.declared.Sent.the-variants.{Nothing}
-use Rattle.plain_services.specs.declared.Reply.{Reply}
-use Rattle.plain_services.specs.Steps.{Gives, Agrees, Serves}
+use Rattle.device.proofs.due.Given.{write-data, memory-data, user-data, bits-data}
+use Rattle.plain_services.{specs.{declared.{Sent.the-variants.Nothing, Reply.Reply}, Steps.{Gives, Agrees, Serves}}, proofs.Agreed.agreed}
 use Rattle.plain.specs.Carrying.{ReadAs}
-use Rattle.plain_services.proofs.Agreed.{agreed}
 
 -- where the row of a service has no data, a request has none
 last-test : (is : List Item) (x : List Value) (t : Bool) → under is x t ≡ true → t ≡ true

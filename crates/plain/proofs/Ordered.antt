@@ -1,34 +1,11 @@
 -- The outcomes before a service, in their order, are those of the first engine.
--- Assumes nothing.
-use Prim.Native.Nat.{ℕ, _≤_, _<_}
-use mathlib.Core.Path.{_≡_, refl, sym, ap, subst, _∙_}
-use mathlib.Core.Bool.{Bool, true, false, cond, not}
-use mathlib.Core.List.{List}
-use native.Mathlib.Omega.{arith}
-use lib.Dec.{ltb, eqb}
-use lib.ListN.{length}
-use borrow.Author.Tests.{lt-ltb, le-ltb, ltb-false, eq-eqb, ne-eqb, eqb-true}
-use Rattle.pdu.specs.declared.Service.{Service}
-use Rattle.sheet.specs.Head.{rulesOf}
-use Rattle.sheet.specs.Rules.{Accepted, refusalOf}
-use Rattle.sheet.proofs.promises.Verdicts.{not-refused}
-use Rattle.pdu.specs.Rules.{codeOf}
-use Rattle.pdu.specs.Table.{serviceAt}
-use Rattle.pdu.specs.Read.{readPdu}
-use Rattle.pdu.specs.declared.Found.{Found}
-use Rattle.pdu.specs.declared.Found.the-variants.{Listed, Unknown}
-use Rattle.judge.specs.declared.Session.{Session}
-use Rattle.judge.specs.declared.Decision.{Decision}
-use Rattle.judge.specs.Decisions.{refused}
-use Rattle.judge.specs.Session.{levelIn}
-use Rattle.judge.specs.Modes.{reachOf, reaches, takes}
-use Rattle.judge.specs.declared.Reach.{Reach}
-use Rattle.judge.specs.declared.Reach.the-variants.{Multicast, Broadcast, PointToPoint, Connected, Never}
-use Rattle.octets.proofs.Truths.{never}
-use Rattle.octets.proofs.Tests.{both, not-first, not-second}
-use Rattle.judge.specs.Judge.{isShut, readOf, reachedOf, foundOf, judgeOf}
-use Rattle.parts.specs.declared.Parts.{Parts}
-use Rattle.parts.specs.Records.{Taken}
+use Rattle.octets.proofs.Kit.{ℕ, _≤_, _<_, _≡_, refl, sym, ap, subst, _∙_, Bool, true, false, cond, not, List, arith, ltb, eqb, length, lt-ltb, le-ltb, ltb-false, eq-eqb, ne-eqb, eqb-true}
+use Rattle.octets.proofs.{Truths.never, Tests.{both, not-first, not-second}}
+use Rattle.sheet.{specs.{Head.rulesOf, Rules.{Accepted, refusalOf}}, proofs.promises.Verdicts.not-refused}
+use Rattle.pdu.specs.{declared.Service.Service, Rules.codeOf, Table.serviceAt, Read.readPdu, declared.Found.{Found, the-variants.{Listed, Unknown}}}
+use Rattle.judge.specs.{declared.{Session.Session, Decision.Decision}, Decisions.refused, Session.levelIn, Modes.{reachOf, reaches, takes}, declared.Reach.Reach}
+use Rattle.judge.specs.{declared.Reach.the-variants.{Multicast, Broadcast, PointToPoint, Connected, Never}, Judge.{isShut, readOf, reachedOf, foundOf, judgeOf}}
+use Rattle.parts.specs.{declared.Parts.Parts, Records.Taken}
 use Rattle.plain.specs.Order.{firstOf, nextOf}
 
 -- e decides: refused by it, and where it is 0 decided by k

@@ -1,44 +1,14 @@
 -- From what the parts of a request ensure to what it did.
--- Assumes nothing.
-use Prim.Native.Nat.{ℕ, _≤_, _<_}
-use mathlib.Core.Path.{_≡_, refl, sym, ap, ap₂, subst, _∙_}
-use mathlib.Core.List.{List}
-use native.Mathlib.Omega.{arith}
-use lib.ListN.{length, take}
-use Rattle.octets.specs.Octets.{Octets}
-use Rattle.octets.specs.Splice.{splice}
-use Rattle.octets.proofs.Splices.{splice-none}
+use Rattle.octets.proofs.Kit.{ℕ, _≤_, _<_, _≡_, refl, sym, ap, ap₂, subst, _∙_, List, arith, length, take}
+use Rattle.octets.{specs.{Octets.Octets, Splice.splice}, proofs.Splices.splice-none}
 use Rattle.sheet.specs.Rules.{Accepted}
-use Rattle.pdu.specs.Read.{readPdu, readOutcome, dataOf}
-use Rattle.pdu.proofs.promises.Readings.{Reading, reading}
-use Rattle.pdu.proofs.promises.Writing.{has-room}
-use Rattle.pdu.specs.declared.Pdu.{Pdu}
-use Rattle.pdu.specs.declared.Parsed.{Parsed}
-use Rattle.pdu.specs.declared.Parsed.the-variants.{Is, Refused}
-use Rattle.judge.specs.declared.Session.{Session}
-use Rattle.judge.specs.declared.Decision.{Decision}
-use Rattle.judge.specs.declared.Turn.{Turn}
-use Rattle.judge.specs.declared.Answer.{Answer}
+use Rattle.pdu.{specs.{Read.{readPdu, readOutcome, dataOf}, declared.{Pdu.Pdu, Parsed.{Parsed, the-variants.{Is, Refused}}}}, proofs.promises.{Readings.{Reading, reading}, Writing.has-room}}
+use Rattle.judge.specs.{declared.{Session.Session, Decision.Decision, Turn.Turn, Answer.Answer}, Decisions.refused, Session.levelIn, Judge.{dataIn, decideOf, readOf, judgeOf}}
 use Rattle.judge.specs.declared.Answer.the-variants as answer
-use Rattle.judge.specs.Decisions.{refused}
-use Rattle.judge.specs.Session.{levelIn}
-use Rattle.judge.specs.Judge.{dataIn, decideOf, readOf, judgeOf}
-use Rattle.device.specs.Carry.{turnOf, closes, answerOf}
-use Rattle.device.specs.Safe.{AnswerSafe}
-use Rattle.device.specs.Step.{stepBy, stepOf}
-use Rattle.device.specs.Sessions.{sessionFor, turnedOf}
-use Rattle.device.specs.Events.{Effect, requestOf, Did, Called}
-use Rattle.device.specs.declared.Sessions.{Sessions}
-use Rattle.device.specs.declared.Done.{Done}
-use Rattle.device.proofs.leaves.Connections.{own-stays}
-use Rattle.device.proofs.promises.Demand1.{untouched}
-use Rattle.parts.specs.declared.Parts.{Parts}
-use Rattle.parts.specs.Records.{Taken}
-use Rattle.parts.specs.Again.{Roomy}
-use Rattle.parts.proofs.Back.{roomy, written-again}
-use Rattle.plain_services.specs.declared.Sent.{Sent}
-use Rattle.plain_services.specs.declared.Reply.{Reply}
-use Rattle.plain_services.specs.Steps.{Held, Agrees, Serves, sentOf, dataFor, left}
+use Rattle.parts.{specs.{declared.Parts.Parts, Records.Taken, Again.Roomy}, proofs.Back.{roomy, written-again}}
+use Rattle.device.specs.{Carry.{turnOf, closes, answerOf}, Safe.AnswerSafe, Step.{stepBy, stepOf}, Sessions.{sessionFor, turnedOf}, Events.{Effect, requestOf, Did, Called}}
+use Rattle.device.{specs.declared.{Sessions.Sessions, Done.Done}, proofs.{leaves.Connections.own-stays, promises.Demand1.untouched}}
+use Rattle.plain_services.specs.{declared.{Sent.Sent, Reply.Reply}, Steps.{Held, Agrees, Serves, sentOf, dataFor, left}}
 use Rattle.plain.specs.Carrying.{ReadAs, sentBytes, Sendable, Ready, Carried}
 use Rattle.plain.proofs.Stored.{safe, left-bytes, left-accepted, left-long}
 

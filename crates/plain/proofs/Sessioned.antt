@@ -1,26 +1,10 @@
 -- The sessions after a request, as the code's returns ask; and what is sent.
--- Assumes nothing.
-use Prim.Native.Nat.{ℕ, _+_, _≤_}
-use mathlib.Core.Path.{_≡_, refl, sym, subst, _∙_}
-use mathlib.Core.Bool.{Bool, true, false}
-use mathlib.Core.Logic.{_⊎_, inl, inr}
-use lib.Dec.{eqb}
-use mathlib.Core.List.{List}
-use lib.ListN.{length, take, length-take}
-use native.Mathlib.Omega.{arith}
-use borrow.Author.Tests.{eq-eqb, ne-eqb, eqb-true, eqb-false}
-use Rattle.octets.specs.Splice.{splice}
-use Rattle.octets.proofs.Splices.{splice-none}
-use Rattle.pdu.specs.Read.{dataAt}
-use Rattle.pdu.specs.Write.{encoded}
-use Rattle.pdu.proofs.promises.Writing.{length-encoded}
-use Rattle.pdu.specs.declared.Pdu.{Pdu}
+use Rattle.octets.proofs.Kit.{ℕ, _+_, _≤_, _≡_, refl, sym, subst, _∙_, Bool, true, false, _⊎_, inl, inr, eqb, List, length, take, length-take, arith, eq-eqb, ne-eqb, eqb-true, eqb-false}
+use Rattle.octets.{specs.Splice.splice, proofs.Splices.splice-none}
+use Rattle.pdu.{specs.{Read.dataAt, Write.encoded, declared.Pdu.Pdu}, proofs.promises.Writing.length-encoded}
 use Rattle.judge.specs.declared.Turn.the-variants.{Level}
-use Rattle.device.specs.Carry.{turnOf, Filled}
-use Rattle.device.specs.Sessions.{closed, sessionFor, turnedOf}
-use Rattle.device.specs.declared.Sessions.{Sessions}
-use Rattle.plain_services.specs.declared.Sent.{Sent}
-use Rattle.plain_services.specs.declared.Sent.the-variants.{Nothing, This}
+use Rattle.device.specs.{Carry.{turnOf, Filled}, Sessions.{closed, sessionFor, turnedOf}, declared.Sessions.Sessions}
+use Rattle.plain_services.specs.declared.Sent.{Sent, the-variants.{Nothing, This}}
 use Rattle.plain.specs.Carrying.{sentBytes, Sendable}
 
 module _ (q : Sessions) (mode c l : ℕ) where

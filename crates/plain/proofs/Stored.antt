@@ -1,47 +1,20 @@
 -- What a request stores is bytes, and leaves an accepted sheet of the same length.
--- Assumes nothing.
-use Prim.Native.Nat.{ℕ, zero, suc, _<_}
-use mathlib.Core.Path.{_≡_, refl, ap, _∙_}
-use mathlib.Core.List.{List}
-use native.Mathlib.Omega.{arith}
-use lib.ListN.{length, replicate}
-use Rattle.octets.specs.Bytes.{bytesOf}
-use Rattle.octets.specs.Octets.{Octets}
-use Rattle.octets.proofs.Numbers.{length-bytes}
-use Rattle.octets.proofs.Octet.{octets-append, octets-bytes, octets-splice}
-use Rattle.octets.proofs.Walks.{by-eq}
+use Rattle.octets.proofs.Kit.{ℕ, zero, suc, _<_, _≡_, refl, ap, _∙_, List, arith, length, replicate}
+use Rattle.octets.{specs.{Bytes.bytesOf, Octets.Octets}, proofs.{Numbers.length-bytes, Octet.{octets-append, octets-bytes, octets-splice}, Walks.by-eq}}
+use Rattle.sheet.{specs.{Layout._of_, Rules.Accepted, declared.Memory.{Memory, the-variants.{Device, User}}}, proofs.{rules.Good.good, promises.Agrees.both-or-neither}}
 use Rattle.sheet.specs.Head as head
-use Rattle.sheet.specs.Layout.{_of_}
-use Rattle.sheet.specs.Rules.{Accepted}
-use Rattle.sheet.proofs.rules.Good.{good}
-use Rattle.sheet.proofs.promises.Agrees.{both-or-neither}
-use Rattle.sheet.specs.declared.Memory.{Memory}
-use Rattle.sheet.specs.declared.Memory.the-variants.{Device, User}
-use Rattle.pdu.specs.Read.{dataOf}
-use Rattle.pdu.proofs.promises.Readings.{Reading}
-use Rattle.pdu.specs.declared.Pdu.{Pdu}
-use Rattle.pdu.specs.declared.Pdu.the-variants.{GroupValueRead, GroupValueResponse, GroupValueWrite, IndividualAddressWrite, IndividualAddressRead, SerialNumberRead, SerialNumberWrite, DeviceDescriptorRead, PropertyValueRead, PropertyValueWrite, PropertyDescriptionRead, MemoryRead, MemoryWrite, MemoryBitWrite, AuthorizeRequest, KeyWrite, Restart, IndividualAddressResponse, SerialNumberResponse, DeviceDescriptorResponse, PropertyValueResponse, PropertyDescriptionResponse, MemoryResponse, AuthorizeResponse, KeyResponse, UserMemoryRead, UserMemoryResponse, UserMemoryWrite}
-use Rattle.judge.specs.declared.Access.{Access}
-use Rattle.judge.specs.declared.Access.the-variants.{Write, Change}
-use Rattle.judge.specs.declared.Store.{Store}
+use Rattle.pdu.specs.{Read.dataOf, declared.Pdu.{Pdu, the-variants.{GroupValueRead, GroupValueResponse, GroupValueWrite, IndividualAddressWrite, IndividualAddressRead, SerialNumberRead}}}
+use Rattle.pdu.specs.declared.Pdu.the-variants.{SerialNumberWrite, DeviceDescriptorRead, PropertyValueRead, PropertyValueWrite, PropertyDescriptionRead, MemoryRead, MemoryWrite}
+use Rattle.pdu.specs.declared.Pdu.the-variants.{MemoryBitWrite, AuthorizeRequest, KeyWrite, Restart, IndividualAddressResponse, SerialNumberResponse, DeviceDescriptorResponse}
+use Rattle.pdu.specs.declared.Pdu.the-variants.{PropertyValueResponse, PropertyDescriptionResponse, MemoryResponse, AuthorizeResponse, KeyResponse, UserMemoryRead, UserMemoryResponse}
+use Rattle.pdu.{specs.declared.Pdu.the-variants.UserMemoryWrite, proofs.promises.Readings.Reading}
+use Rattle.judge.specs.{declared.{Access.{Access, the-variants.{Write, Change}}, Store.Store, Decision.Decision}, Addresses.{addressWriteOf, addressReadOf, serialReadOf, serialWriteOf}}
+use Rattle.judge.{specs.{Memory.{memoryWriteOf, bitWriteOf}, Keys.{authorizeOf, restartOf}, Judge.decideOf}, proofs.GroupCases.{group-read-cases, group-put-cases}}
+use Rattle.judge.proofs.{DescriptorCases.descriptor-cases, PropertyCases.{property-read-cases, property-write-cases, description-cases}}
+use Rattle.judge.proofs.{MemoryCases.{memory-read-cases, changed, change-cases}, KeyCases.key-write-cases}
 use Rattle.judge.specs.declared.Store.the-variants as store
-use Rattle.judge.specs.declared.Decision.{Decision}
-use Rattle.judge.specs.Addresses.{addressWriteOf, addressReadOf, serialReadOf, serialWriteOf}
-use Rattle.judge.specs.Memory.{memoryWriteOf, bitWriteOf}
-use Rattle.judge.specs.Keys.{authorizeOf, restartOf}
-use Rattle.judge.specs.Judge.{decideOf}
-use Rattle.judge.proofs.GroupCases.{group-read-cases, group-put-cases}
-use Rattle.judge.proofs.DescriptorCases.{descriptor-cases}
-use Rattle.judge.proofs.PropertyCases.{property-read-cases, property-write-cases, description-cases}
-use Rattle.judge.proofs.MemoryCases.{memory-read-cases, changed, change-cases}
-use Rattle.judge.proofs.KeyCases.{key-write-cases}
-use Rattle.device.specs.Carry.{bitAt, storeOf}
-use Rattle.device.specs.Safe.{StoreSafe, Safe}
-use Rattle.device.proofs.leaves.Bits.{combined, length-build}
-use Rattle.device.proofs.leaves.Octet.{octets-data, octets-bits}
-use Rattle.device.proofs.leaves.Stores.{length-store}
-use Rattle.device.proofs.leaves.Keeping.{keeps-decided}
-use Rattle.device.proofs.calls.SafeEach.{safe-decided}
+use Rattle.device.{specs.{Carry.{bitAt, storeOf}, Safe.{StoreSafe, Safe}}, proofs.leaves.{Bits.{combined, length-build}, Octet.{octets-data, octets-bits}, Stores.length-store}}
+use Rattle.device.proofs.{leaves.Keeping.keeps-decided, calls.SafeEach.safe-decided}
 use Rattle.plain_services.specs.Steps.{left}
 
 -- a byte that is filled in is one

@@ -1,5 +1,4 @@
 -- The outcomes that come before a service, by their numbers; 0 where none is due.
--- Assumes nothing.
 use Prim.Native.Nat.{ℕ}
 use mathlib.Core.Bool.{Bool, cond, not}
 use lib.Dec.{ltb, eqb}

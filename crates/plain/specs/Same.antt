@@ -1,5 +1,4 @@
 -- What it is that two calls give the same.
--- Assumes nothing.
 use Prim.Native.Nat.{ℕ}
 use mathlib.Core.Path.{_≡_}
 use mathlib.Core.List.{List}

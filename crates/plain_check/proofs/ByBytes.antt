@@ -1,26 +1,13 @@
 -- The tests over the bytes of an entry say what its rows say, S6 to S8, and what those of its body say, S9.
--- Assumes nothing.
-use Prim.Native.Nat.{ℕ, zero, suc, _+_, _-_, _≤_, _<_}
-use mathlib.Core.Path.{_≡_, refl, ap, _∙_, subst⁻¹}
-use mathlib.Core.Bool.{Bool}
-use mathlib.Core.List.{List}
-use mathlib.Core.Logic.{_⊎_, inl, inr}
-use native.Mathlib.Decide.{decLt}
-use native.Mathlib.Omega.{arith}
-use borrow.Author.Tests.{le-leb, lt-leb}
+use Rattle.octets.proofs.Kit.{ℕ, zero, suc, _+_, _-_, _≤_, _<_, _≡_, refl, ap, _∙_, subst⁻¹, Bool, List, _⊎_, inl, inr, decLt, arith, le-leb, lt-leb}
 use Rattle.octets.specs.Bytes.{numAt}
-use Rattle.sheet.specs.Demand.{Met}
-use Rattle.sheet.specs.Layout.{Field, field, _of_}
+use Rattle.sheet.specs.{Demand.Met, Layout.{Field, field, _of_}, Entries.{size, place, entry, floor, offsetOf, reached, sixBits}}
+use Rattle.sheet.{specs.Rules.{regionDemands, propertyDemands, groupDemands, entryDemands, bodyDemands}, proofs.places.Standing.field-at}
 use Rattle.sheet.specs.Region as region
 use Rattle.sheet.specs.Property as property
 use Rattle.sheet.specs.Group as group
-use Rattle.sheet.specs.Entries.{size, place, entry, floor, offsetOf, reached, sixBits}
-use Rattle.sheet.specs.Rules.{regionDemands, propertyDemands, groupDemands, entryDemands, bodyDemands}
-use Rattle.sheet.proofs.places.Standing.{field-at}
-use Rattle.plain_check.specs.Says.{Says}
-use Rattle.plain_check.specs.Tests.{Placed, RegionAt, PropertyAt, GroupAt, BodyAt, entryAt}
-use Rattle.plain_check.proofs.Saying.{says-map}
-use Rattle.plain_check.proofs.Placing.{number-in}
+use Rattle.plain_check.specs.{Says.Says, Tests.{Placed, RegionAt, PropertyAt, GroupAt, BodyAt, entryAt}}
+use Rattle.plain_check.proofs.{Saying.says-map, Placing.number-in}
 
 module _ (s : List ℕ) where
   none-before : (k : ℕ) → floor s k 0 ≡ 0

@@ -1,17 +1,8 @@
 -- How many entries there are, where they stand, and where their bodies do.
--- Assumes nothing.
-use Prim.Native.Nat.{ℕ, zero, suc, _+_, _*_, _≤_, _<_, max}
-use mathlib.Core.Path.{_≡_, refl, sym, ap, ap₂, _∙_, subst, subst⁻¹}
-use mathlib.Core.List.{List}
-use mathlib.Core.Logic.{_⊎_, inl, inr}
-use lib.ListN.{getD}
-use lib.Seq.{getD-take, getD-drop}
-use native.Mathlib.Nat.{mul-le-mul}
-use native.Mathlib.Omega.{arith}
-use borrow.Author.Tests.{eq-eqb, ne-eqb}
-use Rattle.octets.specs.Bytes.{numAt, IsNum}
-use Rattle.octets.proofs.Numbers.{num-same}
-use Rattle.sheet.specs.Entries.{size, place, offsetOf, lengthOf}
+use Rattle.octets.proofs.Kit.{ℕ, zero, suc, _+_, _*_, _≤_, _<_, max, _≡_, refl, sym, ap, ap₂, _∙_, subst⁻¹, List, _⊎_, inl, inr, getD, getD-take, getD-drop, mul-le-mul, arith, eq-eqb}
+use Rattle.octets.proofs.Kit.{ne-eqb}
+use Rattle.octets.{specs.Bytes.{numAt, IsNum}, proofs.Numbers.num-same}
+use Rattle.sheet.specs.Entries.{size, offsetOf, lengthOf}
 use Rattle.plain_check.specs.Tests.{Counted, Placed, entryAt, Starts, Long}
 
 -- a byte times a word

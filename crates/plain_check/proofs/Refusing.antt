@@ -1,16 +1,8 @@
 -- What refuses a sheet that keeps all rules, and one that breaks any.
--- Assumes nothing.
-use Prim.Native.Nat.{ℕ}
-use mathlib.Core.Path.{_≡_, refl, sym}
-use mathlib.Core.Bool.{Bool, true, false, not, _&&_}
-use mathlib.Core.List.{List}
-use native.Mathlib.Omega.{arith}
-use borrow.Author.Tests.{not-true, not-false}
+use Rattle.octets.proofs.Kit.{ℕ, _≡_, refl, sym, Bool, true, false, not, _&&_, List, arith, not-true, not-false}
 use Rattle.octets.specs.Bytes.{numAt}
-use Rattle.sheet.specs.Rules.{ruleOf, refusalOf}
-use Rattle.sheet.specs.Plain.{S1, S2, S3, S4, S5, S6, S7, S8, S9, Judged, breaks1, breaks2, breaks3, breaks4, breaks5, breaks6, breaks7, breaks8, breaks9, none}
-use Rattle.sheet.proofs.promises.Plains.{judged, judged-only}
-use Rattle.sheet.proofs.promises.Verdicts.{says-old, says-accepted, refused-bad, refused-old, refused-none}
+use Rattle.sheet.specs.{Rules.{ruleOf, refusalOf}, Plain.{S1, S2, S3, S4, S5, S6, S7, S8, S9, Judged, breaks1, breaks2, breaks3, breaks4, breaks5, breaks6, breaks7, breaks8, breaks9, none}}
+use Rattle.sheet.proofs.promises.{Plains.{judged, judged-only}, Verdicts.{says-old, says-accepted, refused-bad, refused-old, refused-none}}
 use Rattle.plain_check.specs.Says.{Says}
 use Rattle.plain_check.proofs.Saying.{both}
 

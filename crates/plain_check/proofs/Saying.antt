@@ -1,12 +1,6 @@
 -- What tests put together say.
--- Assumes nothing.
-use Prim.Native.Nat.{ℕ, _≤_, _<_}
-use mathlib.Core.Path.{_≡_, refl, sym}
-use mathlib.Core.Bool.{Bool, true, false, not, _&&_, _||_}
-use mathlib.Core.Logic.{_⊎_, inl, inr, ⊎-elim}
-use lib.Dec.{leb, ltb, eqb}
-use native.Mathlib.Omega.{arith}
-use borrow.Author.Tests.{leb-true, leb-false, ltb-true, ltb-false, eqb-true, eqb-false}
+use Rattle.octets.proofs.Kit.{ℕ, _≤_, _<_, _≡_, refl, sym, Bool, true, false, not, _&&_, _||_, _⊎_, inl, inr, ⊎-elim, leb, ltb, eqb, arith, leb-true, leb-false, ltb-true, ltb-false}
+use Rattle.octets.proofs.Kit.{eqb-true, eqb-false}
 use Rattle.octets.proofs.Truths.{never}
 use Rattle.plain_check.specs.Says.{Says}
 

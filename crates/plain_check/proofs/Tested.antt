@@ -1,19 +1,9 @@
 -- The tests of each function, by what calls have given, say what it ensures.
--- Assumes nothing.
-use Prim.Native.Nat.{ℕ, zero, suc, _+_, _-_, _/_, _%_, _≤_}
-use mathlib.Core.Path.{_≡_, refl, ap, ap₂, _∙_, subst}
-use mathlib.Core.Bool.{Bool, true, false, not, cond, _&&_, _||_}
-use mathlib.Core.List.{List}
-use mathlib.Core.Logic.{_⊎_, inl, inr}
-use lib.Dec.{leb, ltb, eqb}
-use lib.ListN.{length}
-use native.Mathlib.Omega.{arith}
-use borrow.Author.Tests.{eqb-true, eq-eqb}
+use Rattle.octets.proofs.Kit.{ℕ, zero, suc, _+_, _-_, _/_, _%_, _≤_, _≡_, refl, ap, ap₂, _∙_, subst, Bool, true, false, not, cond, _&&_, _||_, List, _⊎_, inl, inr, leb, ltb, eqb, length}
+use Rattle.octets.proofs.Kit.{arith, eqb-true, eq-eqb}
 use Rattle.octets.specs.Bytes.{numAt, IsNum}
-use Rattle.sheet.specs.Entries.{place}
-use Rattle.sheet.specs.Plain.{Levels, S2, S3, S4, S5}
-use Rattle.plain_check.specs.Says.{Says}
-use Rattle.plain_check.specs.Tests.{Counted, Placed, Starts, RegionAt, PropertyAt, GroupAt, BodyAt}
+use Rattle.sheet.specs.{Entries.place, Plain.{Levels, S2, S3, S4, S5}}
+use Rattle.plain_check.specs.{Says.Says, Tests.{Counted, Placed, Starts, RegionAt, PropertyAt, GroupAt, BodyAt}}
 use Rattle.plain_check.proofs.Saying.{says-map, both, either, negated, at-most, is-below, equal}
 
 module _ (s : List ℕ) where

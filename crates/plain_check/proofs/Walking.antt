@@ -1,25 +1,10 @@
 -- The walk over the entries and their bodies: what was found of those passed, and where the last body ended.
--- Assumes nothing.
-use Prim.Native.Nat.{ℕ, _+_, _≤_, _<_}
-use mathlib.Core.Path.{_≡_, refl, sym, ap, ap₂, _∙_, subst⁻¹}
-use mathlib.Core.Bool.{Bool, true, _&&_}
-use mathlib.Core.List.{List}
-use lib.Dec.{eqb}
-use lib.ListN.{length}
-use native.Mathlib.Decide.{decLt}
-use native.Mathlib.Numerals.{add-one}
-use native.Mathlib.Omega.{arith}
+use Rattle.octets.proofs.Kit.{ℕ, _+_, _≤_, _<_, _≡_, refl, sym, ap, ap₂, _∙_, subst⁻¹, Bool, true, _&&_, List, eqb, length, decLt, add-one, arith}
 use Rattle.octets.proofs.Truths.{never}
-use Rattle.sheet.specs.Demand.{Met}
-use Rattle.sheet.specs.Entries.{count, place, entry, bodyEnd, startOf, reached}
-use Rattle.sheet.specs.Rules.{entryDemands, bodyDemands}
-use Rattle.sheet.specs.Plain.{S6, S7, S8, S9}
-use Rattle.sheet.proofs.rules.PlainRows.{to6, from6, to7, from7, to8, from8, to9, from9}
-use Rattle.sheet.proofs.rules.ByKind.{eachKind}
-use Rattle.plain_check.specs.Says.{Says}
-use Rattle.plain_check.specs.Tests.{Counted, Placed, Starts, Long, BodyAt}
-use Rattle.plain_check.proofs.Saying.{says-map, both, equal}
-use Rattle.plain_check.proofs.ByBytes.{body-kept}
+use Rattle.sheet.specs.{Demand.Met, Entries.{count, place, entry, bodyEnd, startOf, reached}, Rules.{entryDemands, bodyDemands}, Plain.{S6, S7, S8, S9}}
+use Rattle.sheet.proofs.rules.{PlainRows.{to6, from6, to7, from7, to8, from8, to9, from9}, ByKind.eachKind}
+use Rattle.plain_check.specs.{Says.Says, Tests.{Counted, Placed, Starts, Long, BodyAt}}
+use Rattle.plain_check.proofs.{Saying.{says-map, both, equal}, ByBytes.body-kept}
 
 -- entry i of kind k and its body; those of the kinds before k; and those of kind k before i
 abbrev pub Here : List ℕ → ℕ → ℕ → Type 0

@@ -1,5 +1,4 @@
 -- A test and what it says.
--- Assumes nothing.
 use mathlib.Core.Path.{_≡_}
 use mathlib.Core.Bool.{Bool, true, false}
 

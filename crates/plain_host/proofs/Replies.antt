@@ -1,11 +1,6 @@
 -- The count of a reply fits a byte, and what a request did is what its reply says.
--- Assumes nothing.
-use Prim.Native.Nat.{ℕ, _≤_}
-use mathlib.Core.List.{List}
-use Rattle.device.specs.Events.{Called}
-use Rattle.device.specs.declared.Sessions.{Sessions}
-use Rattle.device.specs.declared.Done.{Done}
-use Rattle.device.proofs.promises.Called.{call-leaves}
+use Rattle.octets.proofs.Kit.{ℕ, _≤_, List}
+use Rattle.device.{specs.{Events.Called, declared.{Sessions.Sessions, Done.Done}}, proofs.promises.Called.call-leaves}
 
 module _ (q : Sessions) (mode n group : ℕ) (a s o : List ℕ) (d : Done) (s′ o′ : List ℕ) (c : Called q mode n group a s o d s′ o′) where
   pub few : d .count ≤ 16

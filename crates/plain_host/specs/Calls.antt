@@ -1,5 +1,4 @@
 -- What a request in C gives is what a request gives.
--- Assumes nothing.
 use Rattle.device.specs.declared.Done.{Done}
 use Rattle.plain_host.specs.declared.Reply.{Reply}
 

@@ -1,27 +1,14 @@
 -- Addresses, serial numbers and the descriptor on parts are those of the first engine.
--- Assumes nothing.
-use Prim.Native.Nat.{ℕ, _<_, _^_}
-use mathlib.Core.Path.{_≡_, refl, sym, subst, _∙_}
-use mathlib.Core.Bool.{true, false}
-use mathlib.Core.List.{List, []}
-use borrow.Author.Tests.{eq-eqb, ne-eqb}
-use Rattle.octets.specs.Bytes.{bytesOf}
-use Rattle.octets.specs.Splice.{splice}
-use Rattle.sheet.specs.Layout.{_of_}
+use Rattle.octets.proofs.Kit.{ℕ, _<_, _^_, _≡_, refl, sym, subst, _∙_, true, false, List, [], eq-eqb, ne-eqb}
+use Rattle.octets.specs.{Bytes.bytesOf, Splice.splice}
+use Rattle.sheet.specs.{Layout._of_, Head.rulesOf}
 use Rattle.sheet.specs.Head as head
-use Rattle.sheet.specs.Head.{rulesOf}
 use Rattle.pdu.specs.declared.Pdu.the-variants.{IndividualAddressResponse, SerialNumberResponse, DeviceDescriptorResponse}
-use Rattle.judge.specs.declared.Turn.the-variants.{Stays}
-use Rattle.judge.specs.declared.Answer.the-variants as answer
-use Rattle.judge.specs.Decisions.{refused, denied, answered, stored}
+use Rattle.judge.specs.{declared.Turn.the-variants.Stays, Decisions.{refused, denied, answered, stored}}
 use Rattle.judge.specs.Addresses.{newAddress, addressWriteOf, addressReadOf, serialReadOf, serialWriteOf, descriptorOf}
-use Rattle.parts.specs.declared.Parts.{Parts}
-use Rattle.parts.specs.Records.{Taken}
-use Rattle.parts.specs.With.{withAddress}
-use Rattle.parts.proofs.Framed.{address-stored}
-use Rattle.plain_services.specs.declared.Sent.the-variants.{Nothing, This}
-use Rattle.plain_services.specs.declared.Reply.{Reply}
-use Rattle.plain_services.specs.Steps.{Gives, Agrees, Serves}
+use Rattle.judge.specs.declared.Answer.the-variants as answer
+use Rattle.parts.{specs.{declared.Parts.Parts, Records.Taken, With.withAddress}, proofs.Framed.address-stored}
+use Rattle.plain_services.specs.{declared.{Sent.the-variants.{Nothing, This}, Reply.Reply}, Steps.{Gives, Agrees, Serves}}
 use Rattle.plain_services.proofs.Agreed.{agreed, by-decision}
 
 module _ (u : Parts) (r : Reply) where

@@ -1,17 +1,9 @@
 -- Replies that agree with decisions.
--- Assumes nothing.
-use Prim.Native.Nat.{ℕ, _+_, _-_, _≤_}
-use native.Mathlib.Omega.{arith}
-use mathlib.Core.Path.{_≡_, refl, sym, ap, subst, _∙_}
-use lib.ListN.{length, take, drop, length-take}
-use Rattle.octets.specs.Splice.{splice}
-use Rattle.octets.proofs.Splices.{splice-read}
-use mathlib.Core.List.{List}
+use Rattle.octets.proofs.Kit.{ℕ, _+_, _-_, _≤_, arith, _≡_, refl, sym, ap, subst, _∙_, length, take, drop, length-take, List}
+use Rattle.octets.{specs.Splice.splice, proofs.Splices.splice-read}
 use Rattle.judge.specs.declared.Decision.{Decision}
-use Rattle.parts.specs.declared.Parts.{Parts}
-use Rattle.parts.specs.Records.{Taken}
-use Rattle.plain_services.specs.declared.Reply.{Reply}
-use Rattle.plain_services.specs.Steps.{Gives, Agrees, sentOf, dataFor, left}
+use Rattle.parts.specs.{declared.Parts.Parts, Records.Taken}
+use Rattle.plain_services.specs.{declared.Reply.Reply, Steps.{Gives, Agrees, sentOf, dataFor, left}}
 
 -- the reply has the decision's outcome, turn, PDU and data, and the parts are those of the sheet that it leaves
 pub agreed :

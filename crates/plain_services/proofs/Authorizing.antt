@@ -1,31 +1,14 @@
 -- Authorize and restart on parts are those of the first engine.
--- Assumes nothing.
-use Prim.Native.Nat.{ℕ, zero, suc, _-_, _<_}
-use mathlib.Core.Path.{_≡_, refl, sym, ap, subst, _∙_}
-use mathlib.Core.Bool.{false}
-use mathlib.Core.List.{List, []}
-use native.Mathlib.Omega.{arith}
-use lib.Dec.{eqb}
-use lib.ListN.{getD}
-use borrow.Author.Tests.{eq-eqb, ne-eqb}
-use Rattle.octets.specs.Bytes.{bytesOf}
-use Rattle.octets.specs.Splice.{splice}
+use Rattle.octets.proofs.Kit.{ℕ, zero, suc, _-_, _<_, _≡_, refl, sym, ap, subst, _∙_, false, List, [], arith, eqb, getD, eq-eqb, ne-eqb}
+use Rattle.octets.specs.{Bytes.bytesOf, Splice.splice}
 use Rattle.sheet.specs.Layout.{_of_}
 use Rattle.sheet.specs.Head as head
 use Rattle.pdu.specs.declared.Pdu.the-variants.{AuthorizeResponse}
-use Rattle.judge.specs.declared.Turn.the-variants.{Level, Closes}
+use Rattle.judge.specs.{declared.Turn.the-variants.{Level, Closes}, Decisions.decision, Keys.{grantOf, authorizeOf, restartOf}}
 use Rattle.judge.specs.declared.Store.the-variants as store
 use Rattle.judge.specs.declared.Answer.the-variants as answer
-use Rattle.judge.specs.Decisions.{decision}
-use Rattle.judge.specs.Keys.{grantOf, authorizeOf, restartOf}
-use Rattle.parts.specs.declared.Head.{Head}
-use Rattle.parts.specs.declared.Parts.{Parts}
-use Rattle.parts.specs.Records.{IsHead, Taken}
-use Rattle.parts.specs.With.{cleared}
-use Rattle.parts.proofs.Framed.{programming-cleared}
-use Rattle.plain_services.specs.declared.Sent.the-variants.{Nothing, This}
-use Rattle.plain_services.specs.declared.Reply.{Reply}
-use Rattle.plain_services.specs.Steps.{Gives, Serves}
+use Rattle.parts.{specs.{declared.{Head.Head, Parts.Parts}, Records.{IsHead, Taken}, With.cleared}, proofs.Framed.programming-cleared}
+use Rattle.plain_services.specs.{declared.{Sent.the-variants.{Nothing, This}, Reply.Reply}, Steps.{Gives, Serves}}
 use Rattle.plain_services.proofs.Agreed.{agreed, by-decision}
 
 -- the smallest level with a key

@@ -1,42 +1,16 @@
 -- Descriptions on parts are those of the first engine.
--- Assumes nothing.
-use Prim.Native.Nat.{ℕ, zero, suc, _+_, _≤_, _<_}
-use mathlib.Core.Path.{_≡_, refl, sym, ap, ap₂, subst, _∙_}
-use mathlib.Core.Bool.{true, false, cond, _&&_}
-use mathlib.Core.List.{List, []}
-use native.Mathlib.Omega.{arith}
-use lib.Dec.{lit<, eqb}
-use lib.ListN.{getD}
-use borrow.Author.Tests.{lt-ltb, le-ltb, eq-eqb, ne-eqb, eqb-true}
-use Rattle.octets.specs.Octets.{Octets}
-use Rattle.octets.proofs.Numbers.{num-one}
-use Rattle.octets.proofs.Tests.{both}
-use Rattle.octets.proofs.Truths.{first-true, second-true, never}
-use Rattle.sheet.specs.Kind.{properties}
-use Rattle.sheet.specs.Layout.{_of_}
-use Rattle.sheet.specs.Property as property
-use Rattle.sheet.specs.Entries.{count, place, entry}
-use Rattle.sheet.specs.Lookup.{objectAt, rank, nthOf}
-use Rattle.sheet.specs.Rules.{Accepted}
-use Rattle.sheet.proofs.places.Standing.{field-at}
+use Rattle.octets.proofs.Kit.{ℕ, zero, suc, _+_, _≤_, _<_, _≡_, refl, sym, ap, ap₂, subst, _∙_, true, false, cond, _&&_, List, [], arith, lit<, eqb, getD, lt-ltb, le-ltb, eq-eqb, ne-eqb}
+use Rattle.octets.proofs.Kit.{eqb-true}
+use Rattle.octets.{specs.Octets.Octets, proofs.{Numbers.num-one, Tests.both, Truths.{first-true, second-true, never}}}
+use Rattle.sheet.{specs.{Kind.properties, Layout._of_, Entries.{count, place, entry}, Lookup.{objectAt, rank, nthOf}, Rules.Accepted}, proofs.places.Standing.field-at}
 use Rattle.sheet.proofs.promises.Ranks.{nth-hit, nth-none}
-use Rattle.pdu.specs.declared.Pdu.{Pdu}
-use Rattle.pdu.specs.declared.Pdu.the-variants.{PropertyDescriptionResponse}
-use Rattle.judge.specs.declared.Turn.the-variants.{Stays}
+use Rattle.sheet.specs.Property as property
+use Rattle.pdu.specs.declared.Pdu.{Pdu, the-variants.PropertyDescriptionResponse}
+use Rattle.judge.specs.{declared.Turn.the-variants.Stays, Decisions.{denied, answered}, Properties.{propertyAt, describedAt, descriptionOf}}
 use Rattle.judge.specs.declared.Answer.the-variants as answer
-use Rattle.judge.specs.Decisions.{denied, answered}
-use Rattle.judge.specs.Properties.{propertyAt, describedAt, descriptionOf}
-use Rattle.parts.specs.declared.Property.{Property}
-use Rattle.parts.specs.declared.Parts.{Parts}
-use Rattle.parts.specs.Records.{Taken, noProperty}
-use Rattle.parts.specs.Again.{typeOf, levelsOf}
-use Rattle.parts.proofs.Bits.{top-bit}
-use Rattle.plain_services.specs.Described.{rankIn, isNth}
-use Rattle.plain_services.specs.declared.Sent.the-variants.{This}
-use Rattle.plain_services.specs.declared.Reply.{Reply}
-use Rattle.plain_services.specs.Steps.{Gives, Serves}
-use Rattle.plain_services.proofs.Entry.{fields}
-use Rattle.plain_services.proofs.Agreed.{agreed, by-decision}
+use Rattle.parts.{specs.{declared.{Property.Property, Parts.Parts}, Records.{Taken, noProperty}, Again.{typeOf, levelsOf}}, proofs.Bits.top-bit}
+use Rattle.plain_services.specs.{Described.{rankIn, isNth}, declared.{Sent.the-variants.This, Reply.Reply}, Steps.{Gives, Serves}}
+use Rattle.plain_services.proofs.{Entry.fields, Agreed.{agreed, by-decision}}
 
 -- one property more
 pub rank-next :

@@ -1,19 +1,9 @@
 -- Elements of a property: counts and places.
--- Assumes nothing.
-use Prim.Native.Nat.{ℕ, _+_, _*_, _-_, _≤_}
-use mathlib.Core.Path.{_≡_, ap, ap₂, _∙_}
-use mathlib.Core.List.{List}
-use lib.ListN.{length}
-use lib.Dec.{eqb}
-use native.Mathlib.Nat.{mul-le-mul}
-use native.Mathlib.Omega.{arith}
+use Rattle.octets.proofs.Kit.{ℕ, _+_, _*_, _-_, _≤_, _≡_, ap, ap₂, _∙_, List, length, eqb, mul-le-mul, arith, replicate}
 use Rattle.octets.specs.Splice.{splice}
 use Rattle.judge.specs.Properties.{elementAt, jumped}
-use Rattle.device.specs.Carry.{padded}
-use Rattle.device.proofs.leaves.Stores.{zeros-first}
-use lib.ListN.{replicate}
-use Rattle.parts.specs.declared.Parts.{Parts}
-use Rattle.parts.specs.With.{withBodies}
+use Rattle.parts.specs.{declared.Parts.Parts, With.withBodies}
+use Rattle.device.{specs.Carry.padded, proofs.leaves.Stores.zeros-first}
 
 pub small : (a b : ℕ) → a ≤ 65535 → b ≤ 255 → a * b ≤ 16711425
 small a b h k = mul-le-mul h k

@@ -1,20 +1,9 @@
 -- The entry of a property has the fields of its record.
--- Assumes nothing.
-use Prim.Native.Nat.{ℕ, _/_, _%_, _<_}
-use mathlib.Core.Path.{_≡_, sym, ap, _∙_}
-use mathlib.Core.List.{List}
-use native.Mathlib.Nat.{add-zero}
-use lib.Dec.{lit<, eqb}
-use lib.ListN.{getD}
+use Rattle.octets.proofs.Kit.{ℕ, _/_, _%_, _<_, _≡_, sym, ap, _∙_, List, add-zero, lit<, eqb, getD}
 use Rattle.octets.specs.Bytes.{numAt}
-use Rattle.sheet.specs.Kind.{properties}
-use Rattle.sheet.specs.Layout.{_of_}
+use Rattle.sheet.{specs.{Kind.properties, Layout._of_, Entries.{count, place, entry}}, proofs.places.Standing.field-at}
 use Rattle.sheet.specs.Property as property
-use Rattle.sheet.specs.Entries.{count, place, entry}
-use Rattle.sheet.proofs.places.Standing.{field-at}
-use Rattle.parts.specs.declared.Property.{Property}
-use Rattle.parts.specs.declared.Parts.{Parts}
-use Rattle.parts.specs.Records.{Taken, noProperty}
+use Rattle.parts.specs.{declared.{Property.Property, Parts.Parts}, Records.{Taken, noProperty}}
 
 -- the entry e has the fields of p
 pub record Fields (p : Property) (e : List ℕ) : Type 0 where

@@ -1,29 +1,10 @@
 -- A straight search of the properties finds the one that the first engine finds.
--- Assumes nothing.
-use Prim.Native.Nat.{ℕ, _+_, _*_, _<_}
-use mathlib.Core.Path.{_≡_, sym, ap, subst, _∙_}
-use mathlib.Core.List.{List}
-use native.Mathlib.Omega.{arith}
-use mathlib.Core.Bool.{Bool, true, false, _&&_}
-use lib.Dec.{lit<, eqb}
-use borrow.Author.Tests.{eqb-true, eq-eqb}
-use native.Mathlib.Nat.{add-zero}
-use Rattle.octets.proofs.Truths.{never, first-true, second-true}
-use Rattle.octets.proofs.Tests.{both}
-use Rattle.octets.specs.Octets.{Octets}
-use lib.ListN.{getD}
-use Rattle.octets.specs.Bytes.{numAt}
-use Rattle.octets.proofs.Numbers.{num-one}
-use Rattle.sheet.specs.Kind.{properties}
-use Rattle.sheet.specs.Layout.{_of_}
+use Rattle.octets.proofs.Kit.{ℕ, _+_, _*_, _<_, _≡_, sym, ap, subst, _∙_, List, arith, Bool, true, false, _&&_, lit<, eqb, eqb-true, eq-eqb, add-zero, getD}
+use Rattle.octets.{specs.{Octets.Octets, Bytes.numAt}, proofs.{Truths.{never, first-true, second-true}, Tests.both, Numbers.num-one}}
+use Rattle.sheet.{specs.{Kind.properties, Entries.{count, place, entry, keyOf}, Rules.Accepted}, proofs.{places.Standing.field-at, promises.Keys.{index-hit, index-none, key-is}}}
 use Rattle.sheet.specs.Property as property
-use Rattle.sheet.specs.Entries.{count, place, entry, keyOf}
-use Rattle.sheet.specs.Rules.{Accepted}
-use Rattle.sheet.proofs.places.Standing.{field-at}
-use Rattle.sheet.proofs.promises.Keys.{index-hit, index-none, key-is}
 use Rattle.judge.specs.Properties.{propertyAt}
-use Rattle.parts.specs.declared.Parts.{Parts}
-use Rattle.parts.specs.Records.{Taken, noProperty}
+use Rattle.parts.specs.{declared.Parts.Parts, Records.{Taken, noProperty}}
 
 -- A STRAIGHT SEARCH: what holds of all so far holds of one more
 pub one-more : (P : ℕ → Type 0) (i : ℕ) → ((j : ℕ) → j < i → P j) → P i → (j : ℕ) → j < i + 1 → P j

@@ -1,48 +1,18 @@
 -- Group values on parts are those of the first engine.
--- Assumes nothing.
-use Prim.Native.Nat.{ℕ, _+_, _/_, _%_, _≤_, _<_, _-_}
-use mathlib.Core.Path.{_≡_, refl, sym, ap, subst, _∙_}
-use mathlib.Core.Bool.{Bool, true, false, cond, not}
-use mathlib.Core.Logic.{_⊎_, inl, inr}
-use mathlib.Core.List.{List, [], _∷_}
-use native.Mathlib.Omega.{arith}
-use native.Mathlib.Nat.{add-zero}
-use lib.Dec.{lit<, ltb, eqb}
-use lib.ListN.{length, getD, take, drop}
-use borrow.Author.Tests.{lt-ltb, le-ltb, eq-eqb, ne-eqb}
-use Rattle.octets.specs.Bytes.{numAt, bytesOf}
-use Rattle.octets.specs.Splice.{splice}
-use Rattle.octets.proofs.Numbers.{num-one}
-use Rattle.octets.proofs.Truths.{never}
-use Rattle.sheet.specs.Kind.{groups}
-use Rattle.sheet.specs.Layout.{_of_}
+use Rattle.octets.proofs.Kit.{ℕ, _+_, _/_, _%_, _≤_, _<_, _-_, _≡_, refl, sym, ap, subst, _∙_, Bool, true, false, cond, not, _⊎_, inl, inr, List, [], _∷_, arith, add-zero, lit<, ltb, eqb}
+use Rattle.octets.proofs.Kit.{length, getD, take, drop, lt-ltb, le-ltb, eq-eqb, ne-eqb}
+use Rattle.octets.{specs.{Bytes.{numAt, bytesOf}, Splice.splice}, proofs.{Numbers.num-one, Truths.never}}
+use Rattle.sheet.{specs.{Kind.groups, Layout._of_, Entries.{count, place, entry, keyOf, contents, bodyAt}, Lookup.indexOf, Rules.Accepted}, proofs.rules.Good.good}
+use Rattle.sheet.proofs.{places.{Standing.field-at, BodyPlaces.after-contents}, promises.Keys.{index-hit, index-none}}
 use Rattle.sheet.specs.Group as group
-use Rattle.sheet.specs.Entries.{count, place, entry, keyOf, contents, bodyAt}
-use Rattle.sheet.specs.Lookup.{indexOf}
-use Rattle.sheet.specs.Rules.{Accepted}
-use Rattle.sheet.proofs.rules.Good.{good}
-use Rattle.sheet.proofs.places.Standing.{field-at}
-use Rattle.sheet.proofs.places.BodyPlaces.{after-contents}
-use Rattle.sheet.proofs.promises.Keys.{index-hit, index-none}
 use Rattle.pdu.specs.declared.Pdu.the-variants.{GroupValueResponse}
-use Rattle.judge.specs.declared.Decision.{Decision}
+use Rattle.judge.specs.{declared.{Decision.Decision, Turn.the-variants.Stays}, Decisions.{refused, answered, stored}, Groups.{hasFlag, flagsAt, valueOf, putValue, groupReadOf, groupPutOf}}
 use Rattle.judge.specs.declared.Store.the-variants as store
-use Rattle.judge.specs.declared.Turn.the-variants.{Stays}
 use Rattle.judge.specs.declared.Answer.the-variants as answer
-use Rattle.judge.specs.Decisions.{refused, answered, stored}
-use Rattle.judge.specs.Groups.{hasFlag, flagsAt, valueOf, putValue, groupReadOf, groupPutOf}
+use Rattle.parts.{specs.{declared.{Group.Group, Parts.Parts}, Records.{Taken, noGroup}, With.withBodies}, proofs.{Changed.bodies-changed, Quoted.same-part}}
 use Rattle.device.proofs.leaves.Accepted.{group-within, six-within, group-short}
-use Rattle.parts.specs.declared.Group.{Group}
-use Rattle.parts.specs.declared.Parts.{Parts}
-use Rattle.parts.specs.Records.{Taken, noGroup}
-use Rattle.parts.specs.With.{withBodies}
-use Rattle.parts.proofs.Changed.{bodies-changed}
-use Rattle.parts.proofs.Quoted.{same-part}
-use Rattle.plain_services.specs.declared.Sent.the-variants.{Nothing, This}
-use Rattle.plain_services.specs.declared.Reply.{Reply}
-use Rattle.plain_services.specs.Steps.{Held, Gives, Serves}
-use Rattle.plain_services.proofs.Joined.{was-no, was-yes}
-use Rattle.plain_services.proofs.Agreed.{agreed, by-decision, quoted}
+use Rattle.plain_services.specs.{declared.{Sent.the-variants.{Nothing, This}, Reply.Reply}, Steps.{Held, Gives, Serves}}
+use Rattle.plain_services.proofs.{Joined.{was-no, was-yes}, Agreed.{agreed, by-decision, quoted}}
 
 -- the entry e has the fields of p
 pub record Fields (p : Group) (s : List ℕ) (i : ℕ) : Type 0 where

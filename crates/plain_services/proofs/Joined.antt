@@ -1,13 +1,6 @@
 -- What is known where tests joined by `&&` and `||` meet.
--- Assumes nothing.
-use Prim.Native.Nat.{ℕ}
-use mathlib.Core.Path.{_≡_, refl, sym, ap, _∙_}
-use lib.Dec.{eqb}
-use borrow.Author.Tests.{eq-eqb, ne-eqb}
-use mathlib.Core.Bool.{Bool, true, false, not, _&&_}
-use mathlib.Core.Logic.{_⊎_, inl, inr}
-use Rattle.octets.proofs.Truths.{never}
-use Rattle.octets.proofs.Tests.{branches}
+use Rattle.octets.proofs.Kit.{ℕ, _≡_, refl, sym, ap, _∙_, eqb, eq-eqb, ne-eqb, Bool, true, false, not, _&&_, _⊎_, inl, inr}
+use Rattle.octets.proofs.{Truths.never, Tests.branches}
 
 pub was-no : (b : Bool) → not b ≡ true → b ≡ false
 was-no true e = never e

@@ -1,27 +1,12 @@
 -- A key write on parts is that of the first engine.
--- Assumes nothing.
-use Prim.Native.Nat.{ℕ, _+_, _*_, _^_, _≤_, _<_}
-use mathlib.Core.Path.{_≡_, sym, subst}
-use mathlib.Core.List.{[]}
-use native.Mathlib.Omega.{arith}
-use lib.Dec.{ltb, leb}
-use borrow.Author.Tests.{lt-ltb, le-ltb, le-leb, lt-leb}
-use Rattle.octets.specs.Bytes.{bytesOf}
-use Rattle.octets.specs.Splice.{splice}
-use Rattle.octets.proofs.Tests.{not-first, not-second, both}
+use Rattle.octets.proofs.Kit.{ℕ, _+_, _*_, _^_, _≤_, _<_, _≡_, sym, subst, [], arith, ltb, leb, lt-ltb, le-ltb, le-leb, lt-leb}
+use Rattle.octets.{specs.{Bytes.bytesOf, Splice.splice}, proofs.Tests.{not-first, not-second, both}}
 use Rattle.pdu.specs.declared.Pdu.the-variants.{KeyResponse}
-use Rattle.judge.specs.declared.Turn.the-variants.{Stays}
+use Rattle.judge.specs.{declared.Turn.the-variants.Stays, Decisions.{denied, written}, Keys.keyWriteOf}
 use Rattle.judge.specs.declared.Store.the-variants as store
 use Rattle.judge.specs.declared.Answer.the-variants as answer
-use Rattle.judge.specs.Decisions.{denied, written}
-use Rattle.judge.specs.Keys.{keyWriteOf}
-use Rattle.parts.specs.declared.Parts.{Parts}
-use Rattle.parts.specs.Records.{Taken}
-use Rattle.plain_services.specs.declared.Sent.the-variants.{This}
-use Rattle.plain_services.specs.declared.Reply.{Reply}
-use Rattle.plain_services.specs.Steps.{Gives, Serves}
-use Rattle.parts.specs.With.{withKey}
-use Rattle.parts.proofs.Framed.{key-stored}
+use Rattle.parts.{specs.{declared.Parts.Parts, Records.Taken, With.withKey}, proofs.Framed.key-stored}
+use Rattle.plain_services.specs.{declared.{Sent.the-variants.This, Reply.Reply}, Steps.{Gives, Serves}}
 use Rattle.plain_services.proofs.Agreed.{agreed, by-decision}
 
 module _ (u : Parts) (level named key : ℕ) (r : Reply) where

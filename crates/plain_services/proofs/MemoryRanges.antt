@@ -1,32 +1,10 @@
 -- A range that is allowed stands among the bodies where the sheet has it.
--- Assumes nothing.
-use Prim.Native.Nat.{ℕ, _+_, _≤_}
-use mathlib.Core.Path.{_≡_, sym, ap, _∙_}
-use mathlib.Core.Bool.{true, false}
-use mathlib.Core.List.{List}
-use native.Mathlib.Omega.{arith}
-use lib.ListN.{length}
-use native.Mathlib.Nat.{add-zero}
-use Rattle.sheet.specs.Entries.{contents}
-use Rattle.sheet.specs.Kind.{kindOf}
-use Rattle.sheet.specs.Lookup.{rangeOf}
-use Rattle.sheet.specs.Rules.{Accepted}
-use Rattle.sheet.specs.declared.Memory.{Memory}
-use Rattle.sheet.proofs.rules.Good.{good}
-use Rattle.sheet.proofs.searches.Regions.{place-hit}
-use Rattle.sheet.proofs.promises.Runs.{range-within}
-use Rattle.sheet.proofs.places.RegionBodies.{stands-in}
-use Rattle.sheet.proofs.places.BodyPlaces.{after-contents}
-use Rattle.judge.specs.declared.Access.{Access}
-use Rattle.judge.specs.Memory.{runAllowed}
-use Rattle.judge.proofs.MemoryCases.{Permits, allowed-in, range-in}
-use Rattle.parts.specs.declared.Parts.{Parts}
-use Rattle.parts.specs.Records.{Taken}
-use Rattle.plain_services.specs.declared.Area.{Area}
-use Rattle.plain_services.specs.declared.Place.{Place}
-use Rattle.plain_services.specs.declared.Place.the-variants.{At, Denied}
-use Rattle.plain_services.specs.Memory.{IsArea, placeIn, rangeAllowed, rangeFor}
-use Rattle.plain_services.specs.Steps.{Held}
+use Rattle.octets.proofs.Kit.{ℕ, _+_, _≤_, _≡_, sym, ap, _∙_, true, false, List, arith, length, add-zero}
+use Rattle.sheet.{specs.{Entries.contents, Kind.kindOf, Lookup.rangeOf, Rules.Accepted, declared.Memory.Memory}, proofs.{rules.Good.good, searches.Regions.place-hit}}
+use Rattle.sheet.proofs.{promises.Runs.range-within, places.{RegionBodies.stands-in, BodyPlaces.after-contents}}
+use Rattle.judge.{specs.{declared.Access.Access, Memory.runAllowed}, proofs.MemoryCases.{Permits, allowed-in, range-in}}
+use Rattle.parts.specs.{declared.Parts.Parts, Records.Taken}
+use Rattle.plain_services.specs.{declared.{Area.Area, Place.{Place, the-variants.{At, Denied}}}, Memory.{IsArea, placeIn, rangeAllowed, rangeFor}, Steps.Held}
 use Rattle.plain_services.proofs.Regions.{place-at, if-denied, if-placed, range-is}
 
 -- the n addresses of a sheet stand from `at` on, and an access to them is permitted

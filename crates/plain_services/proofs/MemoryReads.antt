@@ -1,29 +1,14 @@
 -- A memory read on parts is that of the first engine.
--- Assumes nothing.
-use Prim.Native.Nat.{ℕ, _+_, _-_, _≤_}
-use mathlib.Core.Path.{_≡_, refl, _∙_}
-use mathlib.Core.List.{List, []}
-use lib.ListN.{take, drop}
+use Rattle.octets.proofs.Kit.{ℕ, _+_, _-_, _≤_, _≡_, refl, _∙_, List, [], take, drop}
 use Rattle.sheet.specs.declared.Memory.{Memory}
 use Rattle.pdu.specs.declared.Pdu.{Pdu}
-use Rattle.judge.specs.declared.Access.the-variants.{Read}
-use Rattle.judge.specs.declared.Turn.the-variants.{Stays}
-use Rattle.judge.specs.declared.Answer.the-variants as answer
-use Rattle.judge.specs.Decisions.{denied, answered}
-use Rattle.judge.specs.Memory.{mostBytes, responseOf, memoryReadOf}
+use Rattle.judge.specs.{declared.{Access.the-variants.Read, Turn.the-variants.Stays}, Decisions.{denied, answered}, Memory.{mostBytes, responseOf, memoryReadOf}}
 use Rattle.judge.proofs.MemoryCases.{memory-reads}
-use Rattle.parts.specs.declared.Parts.{Parts}
-use Rattle.parts.specs.Records.{Taken}
-use Rattle.parts.proofs.Quoted.{same-part}
-use Rattle.plain_services.specs.declared.Area.{Area}
-use Rattle.plain_services.specs.declared.Place.{Place}
-use Rattle.plain_services.specs.declared.Place.the-variants.{At, Denied}
-use Rattle.plain_services.specs.declared.Sent.the-variants.{This}
-use Rattle.plain_services.specs.declared.Reply.{Reply}
-use Rattle.plain_services.specs.Memory.{IsArea, rangeFor}
+use Rattle.judge.specs.declared.Answer.the-variants as answer
+use Rattle.parts.{specs.{declared.Parts.Parts, Records.Taken}, proofs.Quoted.same-part}
+use Rattle.plain_services.specs.{declared.{Area.Area, Place.{Place, the-variants.{At, Denied}}, Sent.the-variants.This, Reply.Reply}, Memory.{IsArea, rangeFor}}
 use Rattle.plain_services.specs.Steps.{Held, Gives, Serves}
-use Rattle.plain_services.proofs.Agreed.{agreed, by-decision, quoted}
-use Rattle.plain_services.proofs.MemoryRanges.{not-allowed, standing}
+use Rattle.plain_services.proofs.{Agreed.{agreed, by-decision, quoted}, MemoryRanges.{not-allowed, standing}}
 
 module _ (u : Parts) (m : Memory) (level n address : ℕ) (a : Area) (most : ℕ) (p : Place)
     (areas : ((s : List ℕ) → Taken s u → IsArea s m (a .regions) (a .count)) × (Held u → a .count ≤ 16)) (em : (most ≡ mostBytes m) × (most ≤ 12))

@@ -1,17 +1,9 @@
 -- Bits of the bodies.
--- Assumes nothing.
-use Prim.Native.Nat.{ℕ, zero, suc, _+_, _≤_, _<_}
-use mathlib.Core.Path.{_≡_, refl, sym, ap, ap₂, _∙_}
-use mathlib.Core.List.{List, [], _∷_, _++_}
-use native.Mathlib.Omega.{arith}
-use lib.Bits.{bitAnd, bitXor}
-use lib.ListN.{length, getD}
-use Rattle.octets.specs.Splice.{splice}
-use Rattle.octets.proofs.Splices.{splice-none}
+use Rattle.octets.proofs.Kit.{ℕ, zero, suc, _+_, _≤_, _<_, _≡_, refl, sym, ap, ap₂, _∙_, List, [], _∷_, _++_, arith, bitAnd, bitXor, length, getD}
+use Rattle.octets.{specs.Splice.splice, proofs.Splices.splice-none}
 use Rattle.sheet.specs.Entries.{contents}
+use Rattle.parts.specs.{declared.Parts.Parts, Records.Taken}
 use Rattle.device.specs.Carry.{build, bitAt}
-use Rattle.parts.specs.declared.Parts.{Parts}
-use Rattle.parts.specs.Records.{Taken}
 
 -- before the first turn, and after the last
 pub bits-first : (b₀ : List ℕ) (f : ℕ → ℕ) (o : ℕ) → b₀ ≡ splice b₀ o (build 0 f)

@@ -1,44 +1,18 @@
 -- A memory write and a bit write on parts are the first engine's.
--- Assumes nothing.
-use Prim.Native.Nat.{ℕ, _+_, _-_, _≤_}
-use mathlib.Core.Path.{_≡_, refl, sym, ap, subst, _∙_}
-use mathlib.Core.Bool.{Bool, true, false, cond, not}
-use mathlib.Core.List.{List, []}
-use native.Mathlib.Omega.{arith}
-use lib.ListN.{length, take, drop}
-use Rattle.octets.specs.Splice.{splice}
-use Rattle.octets.proofs.Splices.{length-splice, splice-below}
-use Rattle.sheet.specs.Entries.{contents}
-use Rattle.sheet.specs.declared.Memory.{Memory}
-use Rattle.sheet.specs.declared.Memory.the-variants.{Device}
+use Rattle.octets.proofs.Kit.{ℕ, _+_, _-_, _≤_, _≡_, refl, sym, ap, subst, _∙_, Bool, true, false, cond, not, List, [], arith, length, take, drop}
+use Rattle.octets.{specs.Splice.splice, proofs.Splices.{length-splice, splice-below}}
+use Rattle.sheet.specs.{Entries.contents, declared.Memory.{Memory, the-variants.Device}}
 use Rattle.pdu.specs.declared.Pdu.{Pdu}
-use Rattle.judge.specs.declared.Access.{Access}
-use Rattle.judge.specs.declared.Access.the-variants.{Write, Change}
-use Rattle.judge.specs.declared.Store.{Store}
-use Rattle.judge.specs.declared.Store.the-variants as store
-use Rattle.judge.specs.declared.Turn.the-variants.{Stays}
-use Rattle.judge.specs.declared.Answer.the-variants as answer
-use Rattle.judge.specs.Decisions.{denied, refused, answered, written, stored}
+use Rattle.judge.specs.{declared.{Access.{Access, the-variants.{Write, Change}}, Store.Store, Turn.the-variants.Stays}, Decisions.{denied, refused, answered, written, stored}}
 use Rattle.judge.specs.Memory.{mostBytes, mostBits, responseOf, verifies, changeOf, memoryWriteOf, bitWriteOf}
 use Rattle.judge.proofs.MemoryCases.{changed, allowed-is, run-is, memory-write-is, bit-write-is}
-use Rattle.device.specs.Carry.{build, bitAt, storeOf}
-use Rattle.device.proofs.leaves.Bits.{length-build}
-use Rattle.parts.specs.declared.Parts.{Parts}
-use Rattle.parts.specs.Records.{Taken}
-use Rattle.parts.specs.With.{withBodies}
-use Rattle.parts.proofs.Changed.{bodies-changed, same-contents}
-use Rattle.plain_services.specs.declared.Area.{Area}
-use Rattle.plain_services.specs.declared.Sent.the-variants.{Nothing, This}
-use Rattle.plain_services.specs.declared.Reply.{Reply}
-use Rattle.plain_services.specs.declared.Place.{Place}
-use Rattle.plain_services.specs.declared.Place.the-variants.{At, Denied}
-use Rattle.plain_services.specs.Memory.{IsArea, rangeFor, NotWritten, Written}
-use Rattle.plain_services.specs.Steps.{Held, Gives, Agrees, Serves}
-use Rattle.parts.proofs.Quoted.{same-part}
-use Rattle.plain_services.proofs.Joined.{was-no, was-yes}
-use Rattle.plain_services.proofs.Agreed.{agreed, by-decision, quoted}
-use Rattle.plain_services.proofs.MemoryRanges.{not-allowed, standing, reachable}
-use Rattle.plain_services.proofs.MemoryRuns.{bits-same}
+use Rattle.judge.specs.declared.Store.the-variants as store
+use Rattle.judge.specs.declared.Answer.the-variants as answer
+use Rattle.parts.{specs.{declared.Parts.Parts, Records.Taken, With.withBodies}, proofs.{Changed.{bodies-changed, same-contents}, Quoted.same-part}}
+use Rattle.device.{specs.Carry.{build, bitAt, storeOf}, proofs.leaves.Bits.length-build}
+use Rattle.plain_services.specs.declared.{Area.Area, Sent.the-variants.{Nothing, This}, Reply.Reply, Place.{Place, the-variants.{At, Denied}}}
+use Rattle.plain_services.specs.{Memory.{IsArea, rangeFor, NotWritten, Written}, Steps.{Held, Gives, Agrees, Serves}}
+use Rattle.plain_services.proofs.{Joined.{was-no, was-yes}, Agreed.{agreed, by-decision, quoted}, MemoryRanges.{not-allowed, standing, reachable}, MemoryRuns.bits-same}
 
 -- THE REPLIES
 module _ {u : Parts} {m : Memory} {address : ℕ} {r : Reply} where

@@ -1,44 +1,16 @@
 -- A property read on parts is that of the first engine.
--- Assumes nothing.
-use Prim.Native.Nat.{ℕ, _+_, _*_, _-_, _≤_, _<_}
-use mathlib.Core.Path.{_≡_, refl, sym, ap₂, _∙_}
-use mathlib.Core.Bool.{Bool, true, false, cond, not, _&&_}
-use mathlib.Core.List.{List, []}
-use native.Mathlib.Omega.{arith}
-use lib.Dec.{lit<, ltb, leb}
-use lib.ListN.{length, getD, take, drop}
-use borrow.Author.Tests.{lt-ltb, le-ltb, le-leb, lt-leb, leb-true, ltb-true, ltb-false}
-use Rattle.octets.specs.Bytes.{bytesOf}
-use Rattle.octets.proofs.Truths.{and-is}
-use Rattle.sheet.specs.Kind.{properties}
-use Rattle.sheet.specs.Layout.{_of_}
+use Rattle.octets.proofs.Kit.{ℕ, _+_, _*_, _-_, _≤_, _<_, _≡_, refl, sym, ap₂, _∙_, Bool, true, false, cond, not, _&&_, List, [], arith, lit<, ltb, leb, length, getD, take, drop, lt-ltb}
+use Rattle.octets.proofs.Kit.{le-ltb, le-leb, lt-leb, leb-true, ltb-true, ltb-false, _⊎_, inl, inr}
+use Rattle.octets.{specs.{Bytes.bytesOf, Octets.Octets}, proofs.{Truths.and-is, Numbers.num-one, Tests.{both, not-first, not-second}}}
+use Rattle.sheet.{specs.{Kind.properties, Entries.{count, base, entry, contents, bodyAt}, Rules.Accepted}, proofs.{rules.Good.good, places.BodyPlaces.after-contents}}
 use Rattle.sheet.specs.Property as property
-use Rattle.sheet.specs.Entries.{count, base, entry, contents, bodyAt}
-use Rattle.octets.proofs.Numbers.{num-one}
-use Rattle.sheet.specs.Rules.{Accepted}
-use Rattle.sheet.proofs.rules.Good.{good}
-use Rattle.sheet.proofs.places.BodyPlaces.{after-contents}
-use Rattle.pdu.specs.declared.Pdu.{Pdu}
-use Rattle.pdu.specs.declared.Pdu.the-variants.{PropertyValueResponse}
-use Rattle.judge.specs.declared.Decision.{Decision}
-use Rattle.judge.specs.declared.Turn.the-variants.{Stays}
+use Rattle.pdu.specs.declared.Pdu.{Pdu, the-variants.PropertyValueResponse}
+use Rattle.judge.specs.{declared.{Decision.Decision, Turn.the-variants.Stays}, Decisions.answered, Properties.{counted, elements, elementAt, noValue, propertyAt, readIn, propertyReadOf}}
 use Rattle.judge.specs.declared.Answer.the-variants as answer
-use Rattle.judge.specs.Decisions.{answered}
-use Rattle.judge.specs.Properties.{counted, elements, elementAt, noValue, propertyAt, readIn, propertyReadOf}
-use Rattle.octets.specs.Octets.{Octets}
+use Rattle.parts.{specs.{declared.{Property.Property, Parts.Parts}, Records.{Taken, noProperty}}, proofs.Quoted.same-part}
 use Rattle.device.proofs.leaves.Accepted.{elements-within, count-below}
-use Rattle.parts.specs.declared.Property.{Property}
-use Rattle.parts.specs.declared.Parts.{Parts}
-use Rattle.parts.specs.Records.{Taken, noProperty}
-use Rattle.parts.proofs.Quoted.{same-part}
-use Rattle.plain_services.specs.declared.Sent.the-variants.{This}
-use Rattle.plain_services.specs.declared.Reply.{Reply}
-use Rattle.plain_services.specs.Steps.{Held, Gives, Serves}
-use Rattle.plain_services.proofs.Entry.{Fields, fields}
-use mathlib.Core.Logic.{_⊎_, inl, inr}
-use Rattle.octets.proofs.Tests.{both, not-first, not-second}
-use Rattle.plain_services.proofs.Joined.{was-no, was-yes}
-use Rattle.plain_services.proofs.Agreed.{agreed, by-decision, quoted}
+use Rattle.plain_services.specs.{declared.{Sent.the-variants.This, Reply.Reply}, Steps.{Held, Gives, Serves}}
+use Rattle.plain_services.proofs.{Entry.{Fields, fields}, Joined.{was-no, was-yes}, Agreed.{agreed, by-decision, quoted}}
 
 -- the decision in terms of the record
 module _ (p : Property) (level object id n t : ℕ) where

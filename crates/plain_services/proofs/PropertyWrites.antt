@@ -1,49 +1,21 @@
 -- A property write on parts is that of the first engine.
--- Assumes nothing.
-use Prim.Native.Nat.{ℕ, _+_, _*_, _-_, _≤_, _<_, max}
-use mathlib.Core.Path.{_≡_, refl, sym, subst, ap, ap₂, _∙_}
-use mathlib.Core.Bool.{Bool, true, false, cond, not, _&&_}
-use mathlib.Core.List.{List, []}
-use native.Mathlib.Omega.{arith}
-use native.Mathlib.Nat.{mul-le-mul-right}
-use lib.Dec.{lit<, ltb, leb, eqb}
-use lib.ListN.{length, getD}
-use borrow.Author.Tests.{lt-ltb, le-ltb, le-leb, lt-leb, leb-true, eq-eqb, ne-eqb, eqb-true, ltb-true, ltb-false}
-use Rattle.octets.specs.Bytes.{numAt, bytesOf}
-use Rattle.octets.specs.Splice.{splice}
-use Rattle.octets.proofs.Numbers.{bytes-zero}
-use Rattle.octets.proofs.Splices.{length-splice, splice-below}
-use Rattle.octets.proofs.Truths.{and-is}
-use Rattle.sheet.specs.Kind.{properties}
-use Rattle.sheet.specs.Layout.{_of_}
-use Rattle.sheet.specs.Property as property
-use Rattle.sheet.specs.Entries.{count, place, base, entry, contents, bodyAt, bodyEnd}
-use Rattle.sheet.specs.Rules.{Accepted, entryDemands}
-use Rattle.sheet.proofs.rules.Good.{good}
-use Rattle.sheet.proofs.places.BodyPlaces.{within, after-contents}
-use Rattle.pdu.specs.declared.Pdu.the-variants.{PropertyValueResponse}
-use Rattle.judge.specs.declared.Decision.{Decision}
-use Rattle.judge.specs.declared.Store.the-variants as store
-use Rattle.judge.specs.declared.Turn.the-variants.{Stays}
-use Rattle.judge.specs.declared.Answer.the-variants as answer
-use Rattle.judge.specs.Decisions.{written}
-use Rattle.judge.specs.Properties.{counted, elements, elementAt, jumped, noValue, propertyAt, writeIn, propertyWriteOf}
-use Rattle.octets.specs.Octets.{Octets}
-use Rattle.device.specs.Carry.{padded}
-use Rattle.device.proofs.leaves.Stores.{length-padded}
-use Rattle.parts.specs.declared.Property.{Property}
-use Rattle.parts.specs.declared.Parts.{Parts}
-use Rattle.parts.specs.Records.{Taken, noProperty}
-use Rattle.plain_services.specs.declared.Sent.the-variants.{This}
-use Rattle.plain_services.specs.declared.Reply.{Reply}
-use Rattle.plain_services.specs.Steps.{Held, Gives, Serves}
-use Rattle.parts.specs.With.{withCount, withBodies}
-use Rattle.parts.proofs.Changed.{bodies-changed, count-changed, property-base, property-count}
-use Rattle.plain_services.proofs.Entry.{Fields, fields}
-use mathlib.Core.Logic.{_⊎_, inl, inr}
+use Rattle.octets.proofs.Kit.{ℕ, _+_, _*_, _-_, _≤_, _<_, max, _≡_, refl, sym, subst, ap, ap₂, _∙_, Bool, true, false, cond, not, _&&_, List, [], arith, mul-le-mul-right, lit<, ltb, leb}
+use Rattle.octets.proofs.Kit.{eqb, length, getD, lt-ltb, le-ltb, le-leb, lt-leb, leb-true, eq-eqb, ne-eqb, eqb-true, ltb-true, ltb-false, _⊎_, inl, inr}
+use Rattle.octets.{specs.{Bytes.{numAt, bytesOf}, Splice.splice, Octets.Octets}, proofs.{Numbers.bytes-zero, Splices.{length-splice, splice-below}, Truths.and-is}}
 use Rattle.octets.proofs.Tests.{both, not-first, not-second}
-use Rattle.plain_services.proofs.Joined.{and-assoc, was-no, was-yes}
-use Rattle.plain_services.proofs.Agreed.{agreed, by-decision}
+use Rattle.sheet.{specs.{Kind.properties, Layout._of_, Entries.{count, place, base, entry, contents, bodyAt, bodyEnd}, Rules.{Accepted, entryDemands}}, proofs.rules.Good.good}
+use Rattle.sheet.proofs.places.BodyPlaces.{within, after-contents}
+use Rattle.sheet.specs.Property as property
+use Rattle.pdu.specs.declared.Pdu.the-variants.{PropertyValueResponse}
+use Rattle.judge.specs.{declared.{Decision.Decision, Turn.the-variants.Stays}, Decisions.written}
+use Rattle.judge.specs.Properties.{counted, elements, elementAt, jumped, noValue, propertyAt, writeIn, propertyWriteOf}
+use Rattle.judge.specs.declared.Store.the-variants as store
+use Rattle.judge.specs.declared.Answer.the-variants as answer
+use Rattle.parts.specs.{declared.{Property.Property, Parts.Parts}, Records.{Taken, noProperty}, With.{withCount, withBodies}}
+use Rattle.parts.proofs.Changed.{bodies-changed, count-changed, property-base, property-count}
+use Rattle.device.{specs.Carry.padded, proofs.leaves.Stores.length-padded}
+use Rattle.plain_services.specs.{declared.{Sent.the-variants.This, Reply.Reply}, Steps.{Held, Gives, Serves}}
+use Rattle.plain_services.proofs.{Entry.{Fields, fields}, Joined.{and-assoc, was-no, was-yes}, Agreed.{agreed, by-decision}}
 
 -- the decision in terms of the record
 module _ (p : Property) (at level object id n t : ℕ) (d : List ℕ) where

@@ -1,44 +1,17 @@
 -- Regions as records are the regions of the sheet.
--- Assumes nothing.
-use Prim.Native.Nat.{ℕ, zero, suc, _+_, _-_, _/_, _%_, _≤_, _<_}
-use mathlib.Core.Path.{_≡_, refl, sym, ap, ap₂, subst, _∙_}
-use mathlib.Core.Bool.{Bool, true, false, cond, not, _&&_}
-use mathlib.Core.List.{List}
-use native.Mathlib.Omega.{arith}
-use native.Mathlib.Decide.{decLt}
-use native.Mathlib.Nat.{add-zero}
-use lib.Dec.{lit≤, ltb, leb}
-use lib.ListN.{length, getD}
-use borrow.Author.Tests.{lt-ltb, le-ltb, le-leb, lt-leb, leb-true}
-use Rattle.octets.proofs.Tests.{both}
-use Rattle.plain_services.proofs.Joined.{was-no, was-yes}
-use Rattle.sheet.proofs.places.Levels.{common-reading, common-writing}
-use Rattle.octets.specs.Bytes.{numAt}
-use Rattle.octets.proofs.Truths.{never, and-is, first-true}
-use Rattle.sheet.specs.Kind.{regions, users, kindOf}
-use Rattle.sheet.specs.Layout.{Field, _of_}
+use Rattle.octets.proofs.Kit.{ℕ, zero, suc, _+_, _-_, _/_, _%_, _≤_, _<_, _≡_, refl, sym, ap, ap₂, subst, _∙_, Bool, true, false, cond, not, _&&_, List, arith, decLt, add-zero, lit≤, ltb}
+use Rattle.octets.proofs.Kit.{leb, length, getD, lt-ltb, le-ltb, le-leb, lt-leb, leb-true}
+use Rattle.octets.{specs.Bytes.numAt, proofs.{Tests.both, Truths.{never, and-is, first-true}}}
+use Rattle.sheet.specs.{Kind.{regions, users, kindOf}, Layout.{Field, _of_}, Entries.{count, place, entry}, Lookup.{seek, covers, placeOf, common, joined, rangeOf, runIn}}
+use Rattle.sheet.{specs.declared.{Memory.{Memory, the-variants.{Device, User}}, Run.{Run, the-variants.{At, Nowhere}}}, proofs.places.Levels.{common-reading, common-writing}}
+use Rattle.sheet.proofs.{searches.FrontSearch.{seek-first, seek-none, seek-same}, places.{Standing.field-at, Longer.range-suc}, searches.Regions.not-both}
 use Rattle.sheet.specs.Region as region
-use Rattle.sheet.specs.Entries.{count, place, entry}
-use Rattle.sheet.specs.Lookup.{seek, covers, placeOf, common, joined, rangeOf, runIn}
-use Rattle.sheet.specs.declared.Memory.{Memory}
-use Rattle.sheet.specs.declared.Memory.the-variants.{Device, User}
-use Rattle.sheet.specs.declared.Run.{Run}
-use Rattle.sheet.specs.declared.Run.the-variants.{At, Nowhere}
-use Rattle.sheet.proofs.searches.FrontSearch.{seek-first, seek-none, seek-same}
-use Rattle.sheet.proofs.places.Standing.{field-at}
-use Rattle.sheet.proofs.places.Longer.{range-suc}
-use Rattle.sheet.proofs.searches.Regions.{not-both}
-use Rattle.judge.specs.declared.Access.{Access}
-use Rattle.judge.specs.declared.Access.the-variants.{Read, Write, Change}
-use Rattle.judge.specs.Memory.{may, runAllowed, runAt, responseOf}
 use Rattle.pdu.specs.declared.Pdu.{Pdu}
-use Rattle.plain_services.specs.Steps.{Held}
-use Rattle.parts.specs.declared.Region.{Region}
-use Rattle.parts.specs.declared.Parts.{Parts}
-use Rattle.parts.specs.Records.{IsRegion, Taken, noRegion}
-use Rattle.plain_services.specs.declared.Place.{Place}
+use Rattle.judge.specs.{declared.Access.{Access, the-variants.{Read, Write, Change}}, Memory.{may, runAllowed, runAt, responseOf}}
+use Rattle.parts.specs.{declared.{Region.Region, Parts.Parts}, Records.{IsRegion, Taken, noRegion}}
+use Rattle.plain_services.specs.{Steps.Held, declared.Place.Place, Memory.{has, mayIn, regionWith, placeIn, allowedAt, allAllowed, standsFor, rangeAllowed, rangeFor, IsArea}}
 use Rattle.plain_services.specs.declared.Place.the-variants as stand
-use Rattle.plain_services.specs.Memory.{has, mayIn, regionWith, placeIn, allowedAt, allAllowed, standsFor, rangeAllowed, rangeFor, IsArea}
+use Rattle.plain_services.proofs.Joined.{was-no, was-yes}
 
 pub via-may : (w w′ : Access) (level : ℕ) (e : Region) (r : Bool) → w ≡ w′ → r ≡ mayIn w′ level e → r ≡ mayIn w level e
 via-may w w′ level e r q h = rw q h

@@ -1,5 +1,4 @@
 -- What a service of the plain engine gives, and that it is what the first engine decides, carried out.
--- Assumes nothing.
 use Prim.Native.Nat.{ℕ, _≤_}
 use mathlib.Core.Path.{_≡_}
 use mathlib.Core.List.{List, []}

@@ -1,34 +1,15 @@
 -- One event, by its kind, as the trace says it. Assumes nothing.
-use Prim.Native.Nat.{ℕ, _+_, _-_, _*_, _/_, _%_, _≤_, _<_}
-use mathlib.Core.Path.{_≡_, refl, sym, _∙_, ap, subst}
-use mathlib.Core.Bool.{Bool, true, false, cond}
-use mathlib.Core.List.{List, [], _∷_, _++_}
-use mathlib.Core.Logic.{_⊎_, inl, inr}
-use lib.ListN.{length, getD, take, drop}
-use native.Mathlib.Nat.{add-sub-cancel-left}
-use native.Mathlib.Omega.{arith}
-use borrow.Author.Tests.{ne-eqb}
-use Rattle.octets.specs.Splice.{splice}
-use Rattle.octets.proofs.Splices.{splice-none}
-use Rattle.sheet.specs.Layout.{_of_}
+use Rattle.octets.proofs.Kit.{ℕ, _+_, _-_, _*_, _/_, _%_, _≤_, _<_, _≡_, refl, sym, _∙_, ap, subst, Bool, true, false, cond, List, [], _∷_, _++_, _⊎_, inl, inr, length, getD, take, drop}
+use Rattle.octets.proofs.Kit.{add-sub-cancel-left, arith, ne-eqb}
+use Rattle.octets.{specs.Splice.splice, proofs.Splices.splice-none}
+use Rattle.sheet.{specs.{Layout._of_, Rules.{Accepted, Old, Bad}}, proofs.promises.Verdicts.{one-of-three, refused-none}}
 use Rattle.sheet.specs.Head as head
-use Rattle.sheet.specs.Rules.{Accepted, Old, Bad}
-use Rattle.sheet.proofs.promises.Verdicts.{one-of-three, refused-none}
-use Rattle.device.specs.Events.{Effect, State, Did, named, connectOf, disconnectOf, requestOf, buttonOutcome, buttonSheet}
-use Rattle.device.specs.Changed.{part, none, Requested, Outside}
+use Rattle.device.specs.{Events.{Effect, State, Did, named, connectOf, disconnectOf, requestOf, buttonOutcome, buttonSheet}, Changed.{part, none, Requested, Outside}}
+use Rattle.device.{specs.declared.{Sessions.Sessions, Done.Done, Changed.Changed, Made.Made}, proofs.promises.{Called.call-leaves, Parts.{kept-outside, first-within, second-within}}}
+use Rattle.device.proofs.{promises.Dues.button-due, calls.Pressing.head-room}
 use Rattle.events.specs.Events.{Event, connect, disconnect, button, request, eventOf}
-use Rattle.device.specs.declared.Sessions.{Sessions}
-use Rattle.device.specs.declared.Done.{Done}
-use Rattle.device.specs.declared.Changed.{Changed}
-use Rattle.device.specs.declared.Made.{Made}
-use Rattle.device.proofs.promises.Called.{call-leaves}
-use Rattle.device.proofs.promises.Parts.{kept-outside, first-within, second-within}
-use Rattle.device.proofs.promises.Dues.{button-due}
-use Rattle.device.proofs.calls.Pressing.{head-room}
+use Rattle.playback.specs.{Trace.{room, blank, eventBy, eventIn}, Playing.at, Event.{flagOf, Presses, Names, Happens}}
 use Rattle.playback.specs.Entry as entry
-use Rattle.playback.specs.Trace.{room, blank, eventBy, eventIn}
-use Rattle.playback.specs.Playing.{at}
-use Rattle.playback.specs.Event.{flagOf, Presses, Names, Happens}
 
 -- the parts that the button names
 pub flag-none : (o : ℕ) → (o ≡ 1 → ⊥) → none ≡ flagOf o

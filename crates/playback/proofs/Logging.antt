@@ -1,28 +1,13 @@
 -- A line of the log, and the log of events one after the other. Assumes nothing.
-use Prim.Native.Nat.{ℕ, zero, suc, _+_, _-_, _*_, _≤_, _<_}
-use mathlib.Core.Path.{_≡_, refl, sym, _∙_, ap, ap₂, subst}
-use mathlib.Core.List.{List, [], _∷_, _++_, append-assoc, append-nil}
-use lib.ListN.{length, take, drop, replicate, length-append, length-take, length-drop, length-replicate, replicate-append-replicate}
-use lib.Seq.{length-take-le, take-all, take-at, drop-at, drop-length, drop-drop}
-use native.Mathlib.Nat.{add-zero, add-assoc, mul-suc}
-use native.Mathlib.Numerals.{add-one}
-use native.Mathlib.Omega.{arith}
-use Rattle.octets.specs.Splice.{splice}
-use Rattle.octets.proofs.Splices.{splice-front, splice-more, splice-none, length-splice}
+use Rattle.octets.proofs.Kit.{ℕ, zero, suc, _+_, _-_, _*_, _≤_, _<_, _≡_, refl, sym, _∙_, ap, ap₂, subst, List, [], _∷_, _++_, append-assoc, append-nil, length, take, drop, replicate}
+use Rattle.octets.proofs.Kit.{length-append, length-take, length-drop, length-replicate, replicate-append-replicate, length-take-le, take-all, take-at, drop-at, drop-length, drop-drop}
+use Rattle.octets.proofs.Kit.{add-zero, add-assoc, mul-suc, add-one, arith}
+use Rattle.octets.{specs.Splice.splice, proofs.Splices.{splice-front, splice-more, splice-none, length-splice}}
 use Rattle.sheet.specs.Layout.{_of_}
-use Rattle.device.specs.Events.{Effect, State, requestOf}
-use Rattle.events.specs.Events.{Event, connect, disconnect, button, request, restore, eventOf, after, run}
-use Rattle.device.specs.Sessions.{sessionFor}
-use Rattle.device.specs.declared.Sessions.{Sessions}
-use Rattle.device.specs.declared.Made.{Made}
-use Rattle.device.proofs.promises.Demand1.{at-most-16}
-use Rattle.events.proofs.promises.Append.{run-append}
+use Rattle.device.{specs.{Events.{Effect, State, requestOf}, Sessions.sessionFor, declared.{Sessions.Sessions, Made.Made}}, proofs.promises.Demand1.at-most-16}
+use Rattle.events.{specs.Events.{Event, connect, disconnect, button, request, restore, eventOf, after, run}, proofs.promises.Append.run-append}
+use Rattle.playback.specs.{Trace.{count, room, blank, eventIn, eventAt}, Rules.Playable, Walk.Shown, Playing.{at, line, lineOf, logOf}, Event.{Happens, Readable, Logged}}
 use Rattle.playback.specs.Entry as entry
-use Rattle.playback.specs.Trace.{count, room, blank, eventIn, eventAt}
-use Rattle.playback.specs.Rules.{Playable}
-use Rattle.playback.specs.Walk.{Shown}
-use Rattle.playback.specs.Playing.{at, line, lineOf, logOf}
-use Rattle.playback.specs.Event.{Happens, Readable, Logged}
 use Rattle.playback.proofs.Walking.{good-event}
 
 -- an event of an accepted trace can be read

@@ -1,32 +1,14 @@
 -- The events of a trace one after the other, and their marks; which refusal is due. Assumes nothing.
-use Prim.Native.Nat.{ℕ, _+_, _-_, _*_, _^_, _≤_, _<_}
-use mathlib.Core.Path.{_≡_, refl, sym, _∙_, ap, ap₂, subst}
-use mathlib.Core.Bool.{Bool, cond}
-use mathlib.Core.List.{List, [], _∷_, _++_, append-nil}
-use lib.ListN.{length, getD, take, drop, drop-of-length-le}
-use lib.Dec.{eqb}
-use native.Mathlib.Omega.{arith}
-use borrow.Author.Tests.{eq-eqb, ne-eqb}
-use Rattle.octets.specs.Splice.{splice}
-use Rattle.octets.proofs.Splices.{splice-front, splice-none}
-use Rattle.sheet.specs.Demand.{Tells, breach}
-use Rattle.sheet.specs.First.{orElse}
-use Rattle.sheet.proofs.rules.Demands.{told, met}
-use Rattle.sheet.proofs.rules.First.{orElse-some}
-use Rattle.device.specs.Events.{State}
-use Rattle.events.specs.Events.{Event, eventOf, after, runBy, run}
-use Rattle.device.specs.declared.Sessions.{Sessions}
-use Rattle.device.specs.declared.Made.{Made}
-use Rattle.account.specs.Marks.{both, MarkedRun, Markable, Marked}
-use Rattle.account.proofs.Marking.{marked-none, marked-append, marked-one}
-use Rattle.playback.specs.Trace.{head, count, eventAt, eventsFrom, traceOf}
-use Rattle.playback.specs.Rules.{refusalOf}
-use Rattle.playback.specs.Playing.{at, line, lineOf, logOf, dueOf, refusalIn}
-use Rattle.playback.specs.Marking.{markDemands, markRefusal, markHandled, markPlayed, Marking}
-use Rattle.playback.specs.Event.{Logged, Ready, Ran, Roomy, MarkedEvent, RanMarked}
-use Rattle.playback.specs.declared.Played.{Played}
-use Rattle.playback.proofs.Walking.{good-rows}
-use Rattle.playback.proofs.Running.{Going, goes-begin, goes-on, goes-end, events-append, events-one, length-events}
+use Rattle.octets.proofs.Kit.{ℕ, _+_, _-_, _*_, _≤_, _<_, _≡_, refl, sym, _∙_, ap, subst, Bool, cond, List, [], _∷_, _++_, append-nil, length, getD, take, drop, drop-of-length-le, arith}
+use Rattle.octets.proofs.Kit.{eq-eqb, ne-eqb}
+use Rattle.octets.{specs.Splice.splice, proofs.Splices.{splice-front, splice-none}}
+use Rattle.sheet.{specs.Demand.Tells, proofs.rules.{Demands.{told, met}, First.orElse-some}}
+use Rattle.device.specs.{Events.State, declared.{Sessions.Sessions, Made.Made}}
+use Rattle.events.specs.Events.{Event, runBy, run}
+use Rattle.account.{specs.Marks.{both, MarkedRun, Markable, Marked}, proofs.Marking.{marked-none, marked-append, marked-one}}
+use Rattle.playback.specs.{Trace.{eventAt, eventsFrom, traceOf}, Rules.refusalOf, Playing.{at, line, logOf, dueOf, refusalIn}}
+use Rattle.playback.specs.{Marking.{markDemands, markRefusal, markHandled, markPlayed, Marking}, Event.{Logged, Ready, Roomy, MarkedEvent, RanMarked}, declared.Played.Played}
+use Rattle.playback.proofs.{Walking.good-rows, Running.{Going, goes-begin, goes-on, goes-end, events-append, events-one, length-events}}
 use Rattle.playback.proofs.PlayedBack.{not-yet, refused-trace, refused-room, not-refused}
 
 -- ONE EVENT

@@ -1,31 +1,12 @@
 -- Which events are played, and what playing leaves. Assumes nothing.
-use Prim.Native.Nat.{ℕ, zero, suc, _+_, _-_, _*_, _^_, _≤_, _<_, min}
-use mathlib.Core.Path.{_≡_, refl, sym, _∙_, ap, ap₂, subst}
-use mathlib.Core.Bool.{cond}
-use mathlib.Core.List.{List, [], _∷_, _++_}
-use lib.ListN.{length, take, drop}
-use lib.Seq.{take-at, drop-at}
-use lib.Dec.{eqb}
-use native.Mathlib.Decide.{decLt}
-use native.Mathlib.Nat.{zero-add}
-use native.Mathlib.Omega.{arith}
-use borrow.Author.Tests.{eq-eqb, ne-eqb}
-use Rattle.octets.specs.Splice.{splice}
-use Rattle.octets.proofs.Splices.{splice-none}
-use Rattle.sheet.specs.Demand.{Tells, breach}
-use Rattle.sheet.specs.First.{orElse}
-use Rattle.sheet.proofs.rules.Demands.{told, unbroken}
-use Rattle.sheet.proofs.rules.First.{orElse-some}
-use Rattle.device.specs.Events.{State}
-use Rattle.events.specs.Events.{Event, runBy, run}
+use Rattle.octets.proofs.Kit.{ℕ, _+_, _-_, _*_, _^_, _≤_, _<_, _≡_, refl, sym, _∙_, ap, cond, List, [], _++_, length, take, drop, take-at, drop-at, decLt, zero-add, arith, eq-eqb, ne-eqb}
+use Rattle.octets.{specs.Splice.splice, proofs.Splices.splice-none}
+use Rattle.sheet.{specs.Demand.breach, proofs.rules.{Demands.{told, unbroken}, First.orElse-some}}
 use Rattle.device.specs.declared.Sessions.{Sessions}
-use Rattle.playback.specs.Trace.{head, count, eventsFrom, traceOf}
-use Rattle.playback.specs.Rules.{refusalOf, Playable}
-use Rattle.playback.specs.Playing.{at, line, logOf, dueOf, roomDemands, refusalIn, handledOf, playedOf, Playing}
-use Rattle.playback.specs.Event.{Ready, Ran}
-use Rattle.playback.specs.declared.Played.{Played}
-use Rattle.playback.proofs.Walking.{good-rows}
-use Rattle.playback.proofs.Running.{events-append, length-events}
+use Rattle.events.specs.Events.{Event, runBy, run}
+use Rattle.playback.specs.{Trace.{head, count, eventsFrom, traceOf}, Rules.refusalOf, Playing.{at, line, logOf, dueOf, roomDemands, refusalIn, handledOf, playedOf, Playing}}
+use Rattle.playback.specs.{Event.{Ready, Ran}, declared.Played.Played}
+use Rattle.playback.proofs.{Walking.good-rows, Running.{events-append, length-events}}
 
 none-left : (t : List ℕ) (from n : ℕ) → n ≡ 0 → take n (drop from (traceOf t)) ≡ eventsFrom t from n
 unfolding eventsFrom

@@ -1,27 +1,12 @@
 -- The events of a trace one after the other: what they leave, and their log. Assumes nothing.
-use Prim.Native.Nat.{ℕ, zero, suc, _+_, _-_, _*_, _≤_, _<_, min}
-use mathlib.Core.Path.{_≡_, refl, sym, _∙_, ap, ap₂, subst}
-use mathlib.Core.Bool.{Bool, true}
-use mathlib.Core.List.{List, [], _∷_, _++_, append-assoc, append-nil}
-use lib.ListN.{length, take, drop, length-append, length-take, length-drop}
-use lib.Seq.{take-at, drop-at, drop-drop, length-take-le, take-all}
-use native.Mathlib.Nat.{add-zero, zero-add, add-assoc}
-use native.Mathlib.Numerals.{add-one}
-use native.Mathlib.Omega.{arith}
-use Rattle.octets.specs.Splice.{splice}
-use Rattle.octets.proofs.Splices.{splice-front, splice-more, splice-none, length-splice}
+use Rattle.octets.proofs.Kit.{ℕ, zero, suc, _+_, _-_, _*_, _≤_, _<_, _≡_, refl, sym, _∙_, ap, ap₂, subst, Bool, true, List, [], _∷_, _++_, append-assoc, append-nil, length, take, drop}
+use Rattle.octets.proofs.Kit.{length-append, length-take, length-drop, drop-drop, add-zero, zero-add, arith}
+use Rattle.octets.{specs.Splice.splice, proofs.Splices.{splice-more, splice-none, length-splice}}
 use Rattle.sheet.specs.Rules.{Accepted}
-use Rattle.device.specs.Events.{State}
-use Rattle.events.specs.Events.{Event, eventOf, after, runBy, run}
-use Rattle.device.specs.declared.Sessions.{Sessions}
-use Rattle.events.proofs.promises.Append.{run-append}
-use Rattle.events.proofs.promises.Stays.{stays}
-use Rattle.playback.specs.Trace.{count, eventAt, eventsFrom, traceOf}
-use Rattle.playback.specs.Rules.{Playable}
-use Rattle.playback.specs.Playing.{at, line, lineOf, logOf}
-use Rattle.playback.specs.Event.{Ready, Ran}
-use Rattle.playback.proofs.Walking.{good-rows}
-use Rattle.playback.proofs.Logging.{length-line}
+use Rattle.device.specs.{Events.State, declared.Sessions.Sessions}
+use Rattle.events.{specs.Events.{Event, eventOf, after, runBy, run}, proofs.promises.{Append.run-append, Stays.stays}}
+use Rattle.playback.specs.{Trace.{count, eventAt, eventsFrom}, Rules.Playable, Playing.{at, line, lineOf, logOf}, Event.{Ready, Ran}}
+use Rattle.playback.proofs.{Walking.good-rows, Logging.length-line}
 
 -- events one after the other
 pub events-append : (t : List ℕ) (i m n : ℕ) → eventsFrom t i (m + n) ≡ eventsFrom t i m ++ eventsFrom t (i + m) n

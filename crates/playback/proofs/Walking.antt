@@ -1,22 +1,10 @@
 -- The walk over a trace's table, and what an accepted trace has. Assumes nothing.
-use Prim.Native.Nat.{ℕ, _+_, _-_, _≤_, _<_}
-use mathlib.Core.Path.{_≡_, refl, sym, _∙_, ap, subst}
-use mathlib.Core.List.{List}
-use lib.ListN.{length, take, drop, length-take, length-drop}
-use native.Mathlib.Nat.{add-sub-cancel-left}
-use native.Mathlib.Numerals.{add-one}
-use native.Mathlib.Omega.{arith}
-use borrow.Author.Tests.{eq-eqb, ne-eqb}
-use Rattle.sheet.specs.Demand.{Tells, Met, breach}
-use Rattle.sheet.specs.First.{first, orElse}
-use Rattle.sheet.specs.Layout.{_of_}
-use Rattle.sheet.proofs.rules.Demands.{told, met}
+use Rattle.octets.proofs.Kit.{ℕ, _+_, _-_, _≤_, _<_, _≡_, refl, sym, _∙_, ap, subst, List, length, take, drop, length-take, length-drop, add-sub-cancel-left, add-one, arith, eq-eqb, ne-eqb}
+use Rattle.sheet.{specs.{Demand.{Tells, Met, breach}, First.first, Layout._of_}, proofs.rules.Demands.{told, met}}
 use Rattle.sheet.proofs.rules.First.{orElse-some, orElse-left, orElse-right, first-none, first-more, first-stop, first-each}
+use Rattle.playback.specs.{Trace.{head, count, place, entryOf}, Rules.{reached, headDemands, stray, eventDemands, endDemands, headRule, eventRule, walkRule, refusalOf, Playable}}
+use Rattle.playback.specs.{Walk.{Inside, Shown, Judges}, declared.rules.Verdict.Verdict}
 use Rattle.playback.specs.Entry as entry
-use Rattle.playback.specs.Trace.{head, count, place, entryOf}
-use Rattle.playback.specs.Rules.{reached, headDemands, stray, eventDemands, endDemands, headRule, eventRule, walkRule, refusalOf, Playable}
-use Rattle.playback.specs.Walk.{Inside, Shown, Judges}
-use Rattle.playback.specs.declared.rules.Verdict.{Verdict}
 
 pub length-entry : {t : List ℕ} {i : ℕ} → Inside t i → length (entryOf t i) ≡ entry.size
 unfolding entryOf

@@ -1,5 +1,4 @@
 -- An event of a trace, as an entry of its table.
--- Assumes nothing.
 use Prim.Native.Nat.{ℕ}
 use mathlib.Core.List.{List, [], _∷_}
 use Rattle.sheet.specs.Layout.{Field, field}

@@ -1,5 +1,4 @@
 -- PLAYING WITH MARKS: who changed each byte of the sheet, and who gave each connection its level.
--- Assumes nothing.
 use Prim.Native.Nat.{ℕ, _+_, _<_}
 use mathlib.Core.Path.{_≡_}
 use mathlib.Core.Bool.{cond}

@@ -1,5 +1,4 @@
 -- 50 to 58 as nine propositions about a trace, for a reader who trusts no rows.
--- Assumes nothing.
 use Prim.Native.Nat.{ℕ, zero, suc, _+_, _*_, _≤_, _<_}
 use mathlib.Core.Path.{_≡_}
 use mathlib.Core.List.{List}

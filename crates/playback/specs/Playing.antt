@@ -1,5 +1,4 @@
 -- PLAYING BACK: which events are played, what they leave, and what is logged.
--- Assumes nothing.
 use Prim.Native.Nat.{ℕ, _-_, _*_, min}
 use mathlib.Core.Path.{_≡_}
 use mathlib.Core.Bool.{cond}

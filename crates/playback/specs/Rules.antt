@@ -1,5 +1,4 @@
 -- THE RULES OF A TRACE, 50 to 58, as rows, and the first rule broken.
--- Assumes nothing.
 use Prim.Native.Nat.{ℕ, zero, suc, _+_}
 use mathlib.Core.Path.{_≡_}
 use mathlib.Core.Bool.{cond}

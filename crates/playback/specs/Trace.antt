@@ -1,5 +1,4 @@
 -- A TRACE: the number of events, a table with an entry for each, then the APDUs end to end.
--- Assumes nothing.
 use Prim.Native.Nat.{ℕ, zero, suc, _+_, _*_, _/_, _%_}
 use mathlib.Core.Bool.{cond}
 use mathlib.Core.List.{List, [], _∷_}

@@ -1,5 +1,4 @@
 -- A TRACE WRITTEN FROM EVENTS, and the events that a trace can hold.
--- Assumes nothing.
 use Prim.Native.Nat.{ℕ, _+_, _*_, _≤_, _<_}
 use mathlib.Core.Path.{_≡_}
 use mathlib.Core.Bool.{true, false}

@@ -1,17 +1,8 @@
 -- The first exponent at which a magnitude m rounds to a mantissa of at most `most` gives a result no further from m than any other,
 -- of two equally near ones the smaller, and but for one case the least exponent. One argument over exponent and mantissa, for both signs.
--- Assumes nothing.
-use mathlib.Core.Path.{_≡_, refl, sym, ap, _∙_, subst}
-use mathlib.Core.Logic.{_⊎_, inl, inr}
-use Prim.Native.Nat.{ℕ, zero, suc, _+_, _*_, _-_, _<_, _≤_, _^_, zero-le}
-use native.Mathlib.Omega.{arith}
-use native.Mathlib.Numerals.{add-one}
-use native.Mathlib.Nat.{mul-comm, pow-suc, le-of-suc-le-suc, le-antisymm, mul-left-comm, div-mul-le-self, lt-div-mul-add}
-use native.Mathlib.Nat.{mul-le-mul, mul-le-mul-right, suc-mul, mul-assoc, pow-le-pow-right, eq-or-lt-of-le}
-use mathlib.Core.Bool.{Bool, true, false, cond}
-use lib.Dec.{leb}
-use lib.Pow.{pow-add, pow-pos}
-use borrow.Author.Tests.{leb-true, leb-false}
+use Rattle.octets.proofs.Kit.{_≡_, refl, sym, ap, _∙_, subst, _⊎_, inl, inr, ℕ, zero, suc, _+_, _*_, _-_, _<_, _≤_, _^_, zero-le, arith, add-one, mul-comm, pow-suc, le-of-suc-le-suc}
+use Rattle.octets.proofs.Kit.{le-antisymm, mul-left-comm, div-mul-le-self, lt-div-mul-add, mul-le-mul, mul-le-mul-right, suc-mul, mul-assoc, pow-le-pow-right, eq-or-lt-of-le, Bool, true}
+use Rattle.octets.proofs.Kit.{false, cond, leb, pow-add, pow-pos, leb-true, leb-false}
 use Rattle.points.specs.Code.{rounded, exponentFrom}
 
 abbrev pub dist : ℕ → ℕ → ℕ

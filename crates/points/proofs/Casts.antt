@@ -1,17 +1,7 @@
 -- What a signed number's cast, negation and magnitude ask, once for every function: `toZ w (ofZ w z)` is z where z fits.
--- Assumes nothing.
-use mathlib.Core.Path.{_≡_, refl, sym, ap, ap₂, _∙_, subst}
-use Prim.Native.Nat.{ℕ, zero, suc, _+_, _*_, _-_, _/_, _<_, _≤_, _^_}
-use native.Mathlib.Omega.{arith}
-use native.Mathlib.Nat.{div-le-self}
-use mathlib.Core.Bool.{Bool, true, false}
-use lib.Dec.{T, ltb→lt}
-use lib.IntN.{ℤ, pos, negsuc, natAbs, negℤ, _-ℤ_, +ℤ-idl}
-use lib.Signed.{mag, ltZ, nonNeg, quotZ}
-use mir.Syntax.{w32, w64}
-use mir.Val.{SFits, toZ, ofZ}
-use mir.Facts.{toZ-ofZ}
-use borrow.Author.Tests.{eq-eqb, ne-eqb}
+use Rattle.octets.proofs.Kit.{_≡_, refl, sym, ap, ap₂, _∙_, subst, ℕ, zero, suc, _+_, _*_, _-_, _/_, _<_, _≤_, _^_, arith, div-le-self, Bool, true, false, T, ltb→lt, ℤ, pos, negsuc, natAbs}
+use Rattle.octets.proofs.Kit.{negℤ, _-ℤ_, +ℤ-idl, mag, ltZ, nonNeg, quotZ, eq-eqb, ne-eqb}
+use mir.{Syntax.{w32, w64}, Val.{SFits, toZ, ofZ}, Facts.toZ-ofZ}
 use Rattle.points.specs.Code.{rounded, quotient, limit, exponentFrom, exponentOf, packed, stepped, isHalf, codeOf}
 
 pub widens : {z : ℤ} → SFits w32 z → SFits w64 z

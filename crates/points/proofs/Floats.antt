@@ -1,14 +1,6 @@
 -- Which bits are those of finite floats.
--- Assumes nothing.
-use mathlib.Core.Path.{_≡_, refl, sym, ap, _∙_, subst}
-use Prim.Native.Nat.{ℕ, _<_, _≤_, _%_, _/_, _*_}
-use native.Mathlib.Omega.{arith}
-use native.Mathlib.Nat.{le-of-lt}
-use mathlib.Core.Bool.{Bool, true, false, not, cond, _&&_, _||_, Bool·beq}
-use lib.Dec.{T, eqb, eqb-refl}
-use lib.Ieee.{up, down, Float, nan, inf, fin, binary32, isNan, nanBits, eq, toBits, ofBits, ofFields, fits}
-use lib.Ieee.Bits.{nanBits-above, ofBits-toBits}
-use borrow.Author.Tests.{le-ltb}
+use Rattle.octets.proofs.Kit.{_≡_, refl, sym, ap, _∙_, subst, ℕ, _<_, _≤_, _%_, _/_, _*_, arith, le-of-lt, Bool, true, false, not, cond, _&&_, _||_, Bool·beq, T, eqb, eqb-refl, up, down}
+use Rattle.octets.proofs.Kit.{Float, nan, inf, fin, binary32, isNan, nanBits, eq, toBits, ofBits, ofFields, fits, nanBits-above, ofBits-toBits, le-ltb}
 use Rattle.points.specs.Point.{finite}
 
 no-nan-low : (n : ℕ) → n % 2147483648 < 2139095040 → T (not (nanBits binary32 n))

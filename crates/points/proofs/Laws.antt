@@ -1,23 +1,9 @@
 -- What the branches of reading and writing ask.
--- Assumes nothing.
-use Prim.Native.Nat.{ℕ, zero, suc, _*_, _-_, _/_, _%_, _^_, _≤_, _<_}
-use mathlib.Core.Path.{_≡_, refl, sym, ap, _∙_, subst}
-use mathlib.Core.Bool.{Bool, true, false, cond}
-use native.Mathlib.Omega.{arith}
-use native.Mathlib.Nat.{pow-le-pow-right, mul-le-mul}
-use lib.Dec.{eqb}
-use lib.Pow.{pow-pos}
-use lib.IntN.{ℤ, pos, negℤ, _*ℤ_}
-use mathlib.Core.List.{List}
-use lib.ListN.{length}
-use mir.Syntax.{w8, w32}
-use mir.Val.{Fits}
-use borrow.Author.Tests.{lt-ltb, le-ltb, eq-eqb, ne-eqb}
-use Rattle.points.specs.Nine.{res, exponentAt}
+use Rattle.octets.proofs.Kit.{ℕ, zero, suc, _*_, _-_, _/_, _%_, _^_, _≤_, _<_, _≡_, refl, sym, ap, _∙_, subst, Bool, true, false, cond, arith, pow-le-pow-right, mul-le-mul, eqb, pow-pos, ℤ}
+use Rattle.octets.proofs.Kit.{pos, negℤ, _*ℤ_, List, length, lt-ltb, le-ltb, eq-eqb, ne-eqb}
+use mir.{Syntax.{w8, w32}, Val.Fits}
 use Rattle.octets.specs.Bytes.{numAt, IsNum}
-use Rattle.points.specs.Point.{widthAt, pointAt, Narrow, readPoint}
-use Rattle.points.specs.declared.Datapoint.the-variants.{Hundredths}
-use Rattle.points.specs.declared.Reading.{Reading}
+use Rattle.points.specs.{Nine.{res, exponentAt}, Point.{widthAt, pointAt, Narrow, readPoint}, declared.{Datapoint.the-variants.Hundredths, Reading.Reading}}
 use Rattle.points.specs.declared.Reading.the-variants.{Is, Refused}
 
 -- a power of two with an exponent up to 15

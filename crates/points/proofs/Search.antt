@@ -1,12 +1,5 @@
 -- The search for the exponent, turn by turn.
--- Assumes nothing.
-use Prim.Native.Nat.{ℕ, suc, _+_, _*_, _-_, _^_, _≤_, _<_}
-use mathlib.Core.Path.{_≡_, sym, ap, _∙_}
-use mathlib.Core.Bool.{Bool, cond}
-use native.Mathlib.Omega.{arith}
-use native.Mathlib.Nat.{pow-suc, mul-assoc, mul-le-mul}
-use native.Mathlib.Numerals.{add-one}
-use borrow.Author.Tests.{le-leb, lt-leb}
+use Rattle.octets.proofs.Kit.{ℕ, suc, _+_, _*_, _-_, _^_, _≤_, _<_, _≡_, sym, ap, _∙_, Bool, cond, arith, pow-suc, mul-assoc, mul-le-mul, add-one, le-leb, lt-leb}
 use Rattle.points.specs.Code.{exponentFrom}
 use Rattle.points.proofs.Laws.{small}
 

@@ -1,12 +1,6 @@
 -- Numbers by sign and magnitude, and how far two of them are apart.
--- Assumes nothing.
-use mathlib.Core.Path.{_≡_, refl, sym, ap, _∙_}
-use Prim.Native.Nat.{ℕ, zero, suc, _+_, _-_, _≤_, _<_}
-use mathlib.Core.Bool.{Bool, true, false, cond}
-use native.Mathlib.Omega.{arith}
-use lib.Dec.{ltb, leb}
-use lib.IntN.{ℤ, pos, negsuc, negℤ, natAbs, subℕ, _-ℤ_, pos-ne-negsuc}
-use borrow.Author.Tests.{ltb-true, ltb-false, leb-true}
+use Rattle.octets.proofs.Kit.{_≡_, refl, sym, ap, _∙_, ℕ, zero, suc, _+_, _-_, _≤_, _<_, Bool, true, false, cond, arith, ltb, leb, ℤ, pos, negsuc, negℤ, natAbs, subℕ, _-ℤ_, pos-ne-negsuc}
+use Rattle.octets.proofs.Kit.{ltb-true, ltb-false, leb-true}
 use Rattle.octets.proofs.Truths.{first-true}
 use Rattle.points.specs.Nine.{inRange}
 use Rattle.points.proofs.Best.{dist, Nearer}

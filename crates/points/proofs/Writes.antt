@@ -1,27 +1,9 @@
 -- What the branches of writing ask.
--- Assumes nothing.
-use Prim.Native.Nat.{ℕ, _+_, _≤_}
-use mathlib.Core.Path.{_≡_, refl, sym, ap, ap₂, _∙_, subst}
-use mathlib.Core.Bool.{Bool, true, false, cond, _&&_}
-use mathlib.Core.List.{List, _++_, append-nil}
-use native.Mathlib.Omega.{arith}
-use lib.ListN.{length, drop}
-use lib.Seq.{drop-length}
-use lib.IntN.{ℤ, pos, negsuc}
-use lib.Signed.{leZ}
-use mir.Syntax.{w32}
-use mir.Val.{SFits, toZ, ofZ, boolByte}
-use mir.Facts.{toZ-ofZ}
-use borrow.Author.Tests.{eq-eqb, ne-eqb}
-use Rattle.octets.specs.Bytes.{bytesOf}
-use Rattle.octets.specs.Splice.{splice}
-use Rattle.octets.proofs.Numbers.{length-bytes}
-use Rattle.octets.proofs.Splices.{splice-front}
-use Rattle.octets.proofs.Tests.{not-second}
-use Rattle.points.specs.Nine.{inRange}
-use Rattle.points.specs.Code.{codeOf}
-use Rattle.points.specs.Point.{typeOf, widthAt, refusalOf, pointBytes, writeOutcome, Put, Numbered}
-use Rattle.points.specs.declared.Datapoint.{Datapoint}
+use Rattle.octets.proofs.Kit.{ℕ, _+_, _≤_, _≡_, refl, sym, ap, ap₂, _∙_, subst, Bool, true, false, cond, _&&_, List, _++_, append-nil, arith, length, drop, drop-length, ℤ, pos, negsuc, leZ}
+use Rattle.octets.proofs.Kit.{eq-eqb, ne-eqb}
+use mir.{Syntax.w32, Val.{SFits, toZ, ofZ, boolByte}, Facts.toZ-ofZ}
+use Rattle.octets.{specs.{Bytes.bytesOf, Splice.splice}, proofs.{Numbers.length-bytes, Splices.splice-front, Tests.not-second}}
+use Rattle.points.specs.{Nine.inRange, Code.codeOf, Point.{typeOf, widthAt, refusalOf, pointBytes, writeOutcome, Put, Numbered}, declared.Datapoint.Datapoint}
 use Rattle.points.specs.declared.Datapoint.the-variants.{Switch, Byte, Hundredths}
 use Rattle.points.proofs.Laws.{width-small}
 

@@ -1,5 +1,4 @@
 -- How the code of type 9 is found: the first exponent at which the number, divided and rounded, is a mantissa. That it is the code promised is the theorem `chosen`.
--- Assumes nothing.
 use Prim.Native.Nat.{ℕ, zero, suc, _+_, _*_, _-_, _/_, _^_}
 use mathlib.Core.Bool.{Bool, false, cond}
 use lib.Dec.{leb, eqb}

@@ -1,5 +1,4 @@
 -- WHICH NUMBER IS DUE, as plain propositions: of a reading, and of a writing.
--- Assumes nothing.
 use Prim.Native.Nat.{ℕ, suc, _%_, _≤_, _<_}
 use mathlib.Core.Path.{_≡_}
 use mathlib.Core.Logic.{_⊎_}

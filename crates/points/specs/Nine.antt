@@ -1,5 +1,4 @@
 -- Type 9: what a code of two bytes says, and what is promised of the code that is written for a number of hundredths.
--- Assumes nothing.
 use Prim.Native.Nat.{ℕ, _-_, _/_, _%_, _^_, _≤_, _<_}
 use mathlib.Core.Path.{_≡_}
 use mathlib.Core.Bool.{Bool, cond, _&&_}

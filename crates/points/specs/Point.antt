@@ -1,5 +1,4 @@
 -- The datapoint types: their numbers and widths, what reading gives and what writing leaves.
--- Assumes nothing.
 use Prim.Native.Nat.{ℕ, _/_, _%_, _<_}
 use mathlib.Core.Path.{_≡_}
 use mathlib.Core.Bool.{Bool, true, false, cond}

@@ -1,5 +1,4 @@
 -- WHAT THE RULES READ: two sheets that agree on it are both accepted or both not.
--- Assumes nothing.
 use Prim.Native.Nat.{ℕ, _+_, _≤_, _<_}
 use mathlib.Core.Path.{_≡_}
 use mathlib.Core.List.{List}

@@ -1,5 +1,4 @@
 -- Two sheets that are the same but at some positions.
--- Assumes nothing.
 use Prim.Native.Nat.{ℕ}
 use mathlib.Core.Path.{_≡_}
 use mathlib.Core.List.{List}

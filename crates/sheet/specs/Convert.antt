@@ -1,5 +1,4 @@
 -- THE CONVERSION of an old sheet: byte 0 becomes 2, and no other byte changes.
--- Assumes nothing.
 use Prim.Native.Nat.{ℕ, _+_, _*_}
 use mathlib.Core.Path.{_≡_}
 use mathlib.Core.Bool.{cond}

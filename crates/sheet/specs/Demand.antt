@@ -1,5 +1,4 @@
 -- A rule as rows of a table: each row says of two numbers how they stand to each other, and which rule is broken if they don't.
--- Assumes nothing.
 use Prim.Native.Nat.{ℕ, _≤_, _<_}
 use mathlib.Core.List.{List, [], _∷_}
 use mathlib.Core.Bool.{Bool, cond}

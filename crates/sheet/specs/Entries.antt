@@ -1,5 +1,4 @@
 -- The entries of a sheet by kind and number, and their bodies.
--- Assumes nothing.
 use Prim.Native.Nat.{ℕ, zero, suc, _+_, _*_, _<_, _≤_, max}
 use mathlib.Core.Bool.{cond}
 use mathlib.Core.List.{List}

@@ -1,5 +1,4 @@
 -- The head of a sheet.
--- Assumes nothing.
 use Prim.Native.Nat.{ℕ, _+_, _*_, _/_, _%_}
 use mathlib.Core.Bool.{cond}
 use lib.Dec.{eqb}

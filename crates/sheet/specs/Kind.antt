@@ -1,5 +1,4 @@
 -- The kinds of entries, and what goes by them.
--- Assumes nothing.
 use Prim.Native.Nat.{ℕ, zero, suc, _<_}
 use mathlib.Core.Path.{_≡_}
 use Rattle.sheet.specs.declared.Memory.{Memory}

@@ -1,5 +1,4 @@
 -- Named fields: where a number stands in the head or in an entry, and in how many bytes.
--- Assumes nothing.
 use Prim.Native.Nat.{ℕ}
 use mathlib.Core.List.{List}
 use Rattle.octets.specs.Bytes.{numAt}

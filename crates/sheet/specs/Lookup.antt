@@ -1,5 +1,4 @@
 -- Finding entries, and the part of a sheet that a value lookup hands back.
--- Assumes nothing.
 use Prim.Native.Nat.{ℕ, zero, suc, _+_, _*_, _-_, _/_, _%_, min}
 use mathlib.Core.Path.{_≡_}
 use mathlib.Core.List.{List, []}

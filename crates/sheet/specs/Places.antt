@@ -1,5 +1,4 @@
 -- What a position of an accepted sheet is, where an address of a memory stands, which property has an object and id, and what calls of this crate promise of entries.
--- Assumes nothing.
 use Prim.Native.Nat.{ℕ, _+_, _*_, _-_, _/_, _%_, _≤_, _<_, max}
 use mathlib.Core.Path.{_≡_}
 use mathlib.Core.Logic.{_↔_}

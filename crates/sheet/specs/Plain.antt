@@ -1,5 +1,4 @@
 -- S1 to S9 as nine propositions about a sheet, for a reader who trusts no rows.
--- Assumes nothing.
 use Prim.Native.Nat.{ℕ, suc, _+_, _/_, _%_, _≤_, _<_}
 use mathlib.Core.Path.{_≡_}
 use mathlib.Core.List.{List}

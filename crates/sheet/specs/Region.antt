@@ -1,5 +1,4 @@
 -- The entry of a region of memory.
--- Assumes nothing.
 use Prim.Native.Nat.{ℕ}
 use Rattle.sheet.specs.Layout.{Field, field}
 

@@ -1,5 +1,4 @@
 -- THE RULES S1 to S9 as rows, and the first rule broken.
--- Assumes nothing.
 use Prim.Native.Nat.{ℕ, _+_, _/_, _%_}
 use mathlib.Core.Path.{_≡_}
 use mathlib.Core.Bool.{Bool, cond}

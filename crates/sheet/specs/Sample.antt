@@ -1,5 +1,4 @@
 -- The sample sheet, and the one of edition 1 that it is the conversion of.
--- Assumes nothing.
 use Prim.Native.Nat.{ℕ}
 use mathlib.Core.List.{List, [], _∷_}
 

@@ -1,5 +1,4 @@
 -- What the theorems about stores say of a store: where its bytes stand, and which bytes they may be.
--- Assumes nothing.
 use Prim.Native.Nat.{ℕ, _+_, _<_, _≤_}
 use mathlib.Core.Path.{_≡_}
 use mathlib.Core.List.{List}

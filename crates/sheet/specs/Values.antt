@@ -1,5 +1,4 @@
 -- What a value lookup is to hand back, as plain propositions.
--- Assumes nothing.
 use Prim.Native.Nat.{ℕ, _+_, _<_}
 use mathlib.Core.Path.{_≡_}
 use mathlib.Core.List.{List, []}

@@ -1,5 +1,4 @@
 -- What calls of this crate promise one another on the walk over a sheet.
--- Assumes nothing.
 use Prim.Native.Nat.{ℕ, _+_, _-_, _≤_, _<_}
 use mathlib.Core.Path.{_≡_}
 use mathlib.Core.List.{List}

@@ -1,15 +1,8 @@
 -- Worked lines: of the sample sheet, of its edition 1, of no bytes, and of the sample with a body that begins a byte late.
--- Assumes nothing.
-use Prim.Native.Nat.{ℕ}
-use mathlib.Core.Path.{_≡_, refl}
-use mathlib.Core.List.{List, [], _∷_}
-use Rattle.octets.specs.Bytes.{numAt}
-use Rattle.octets.specs.Splice.{splice}
-use Rattle.sheet.specs.Demand.{breach}
-use Rattle.sheet.specs.First.{first}
-use Rattle.sheet.specs.Entries.{entry, keyOf, floor, bodyAt, bodyEnd, startOf, reached, sixBits}
-use Rattle.sheet.specs.Rules.{entryDemands, bodyDemands, entryRule, bodyRule, entriesRule, bodiesRule, walkRule, restRule, ruleIn, verdictOf}
-use Rattle.sheet.specs.Sample.{sample, oldSample}
+use Rattle.octets.proofs.Kit.{_≡_, refl, [], _∷_}
+use Rattle.octets.specs.{Bytes.numAt, Splice.splice}
+use Rattle.sheet.specs.{Demand.breach, First.first, Entries.{entry, keyOf, floor, bodyAt, bodyEnd, startOf, reached, sixBits}}
+use Rattle.sheet.specs.{Rules.{entryDemands, bodyDemands, entryRule, bodyRule, entriesRule, bodiesRule, walkRule, restRule, ruleIn, verdictOf}, Sample.{sample, oldSample}}
 use Rattle.sheet_check.specs.Line.{saidOf}
 
 -- OK, OLD, S1, S9, each with a newline

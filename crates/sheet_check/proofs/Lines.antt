@@ -1,17 +1,7 @@
 -- The lines that the program says, and that a verdict is at most 14.
--- Assumes nothing.
-use Prim.Native.Nat.{ℕ, _+_, _≤_}
-use mathlib.Core.Path.{_≡_, refl, sym, subst, _∙_}
-use mathlib.Core.Logic.{_⊎_, inl, inr}
-use mathlib.Core.List.{List, [], _∷_}
-use lib.ListN.{length, take}
-use native.Mathlib.Omega.{arith}
-use borrow.Author.Tests.{ne-eqb}
-use Rattle.octets.specs.Splice.{splice}
-use Rattle.octets.proofs.Splices.{length-splice, splice-read}
-use Rattle.sheet.specs.Rules.{ruleOf, verdictOf, Accepted, Old, Bad, edition}
-use Rattle.sheet.proofs.promises.Nine.{at-most-nine}
-use Rattle.sheet.proofs.promises.Verdicts.{one-of-three, says-rule}
+use Rattle.octets.proofs.Kit.{ℕ, _+_, _≤_, _≡_, refl, sym, subst, _∙_, _⊎_, inl, inr, List, [], _∷_, length, take, arith, ne-eqb}
+use Rattle.octets.{specs.Splice.splice, proofs.Splices.{length-splice, splice-read}}
+use Rattle.sheet.{specs.Rules.{ruleOf, verdictOf, Accepted, Old, Bad, edition}, proofs.promises.{Nine.at-most-nine, Verdicts.{one-of-three, says-rule}}}
 use Rattle.sheet_check.specs.Line.{lineOf, saidOf, Fronts}
 
 -- what was put in front stands there

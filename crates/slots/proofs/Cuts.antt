@@ -1,19 +1,8 @@
 -- A SAVE OF ONE SLOT, done or cut. Assumes nothing.
-use Prim.Native.Nat.{ℕ, _+_, _-_, _≤_, _<_, _^_}
-use mathlib.Core.Path.{_≡_, refl, sym, ap, _∙_, subst}
-use mathlib.Core.List.{List, [], _∷_, _++_}
-use mathlib.Core.Bool.{Bool, true, false, cond}
-use mathlib.Core.Logic.{_⊎_, inl, inr}
-use native.Mathlib.Omega.{arith}
-use lib.Dec.{eqb}
-use lib.ListN.{length, getD, replicate}
-use Rattle.octets.specs.Bytes.{numAt, bytesOf}
-use Rattle.octets.specs.Splice.{splice}
-use Rattle.octets.proofs.Numbers.{num-same}
-use Rattle.octets.proofs.Splices.{length-splice, splice-in, splice-outside, splice-front}
-use Rattle.octets.proofs.Truths.{decided}
+use Rattle.octets.proofs.Kit.{ℕ, _+_, _≤_, _<_, _≡_, refl, sym, ap, _∙_, subst, List, [], _∷_, Bool, true, false, cond, _⊎_, inl, inr, arith, eqb, length, getD}
+use Rattle.octets.{specs.{Bytes.{numAt, bytesOf}, Splice.splice}, proofs.{Numbers.num-same, Splices.{length-splice, splice-in, splice-outside, splice-front}, Truths.decided}}
 use Rattle.slots.specs.Slot.{longest, mark, marked, markUnit, tailOf, headOf}
-use Rattle.slots.specs.Medium.{Held, nothing, sheet, held, Piece, clear, put, pieces, Done, cleared, written, Torn, clearing, writing, Did, end, next, Cut, before, within, last, over, later}
+use Rattle.slots.specs.Medium.{nothing, sheet, held, clear, put, pieces, cleared, written, clearing, writing, Did, end, next, Cut, before, within, last, over, later}
 use Rattle.slots.proofs.promises.Backs.{Whole, slot-back, bare}
 
 -- the mark is the first six bytes

@@ -1,19 +1,7 @@
 -- What `begin`, `more`, `end` and `judge` return, case by case. Assumes nothing.
-use Prim.Native.Nat.{ℕ, _+_, _-_, _^_, _≤_, _<_}
-use mathlib.Core.Path.{_≡_, refl, sym, ap, ap₂, _∙_}
-use mathlib.Core.List.{List}
-use mathlib.Core.Bool.{true, false}
-use native.Mathlib.Omega.{arith}
-use lib.Dec.{ltb, eqb}
-use lib.ListN.{length, take, drop}
-use lib.Seq.{take-all}
-use borrow.Author.Tests.{lt-ltb, le-ltb, eq-eqb, ne-eqb}
+use Rattle.octets.proofs.Kit.{ℕ, _+_, _-_, _^_, _≤_, _<_, _≡_, sym, ap, ap₂, _∙_, List, true, false, arith, ltb, length, take, drop, take-all, lt-ltb, le-ltb, eq-eqb, ne-eqb}
 use Rattle.octets.specs.Bytes.{numAt, IsNum}
-use Rattle.slots.specs.Crc.{ones, crcFrom}
-use Rattle.slots.specs.Slot.{mark, marked, longest, sheetAt, bad}
-use Rattle.slots.specs.Parts.{barred, headed, goneOn, beginOf, moreOf, endOf}
-use Rattle.slots.specs.declared.Slot.{Slot}
-use Rattle.slots.specs.declared.Judging.{Judging}
+use Rattle.slots.specs.{Crc.{ones, crcFrom}, Slot.{mark, marked, longest, bad}, Parts.{barred, goneOn, beginOf, moreOf, endOf}, declared.{Slot.Slot, Judging.Judging}}
 
 module _ (f : List ℕ) (room : ℕ) (r : Judging) where
   pub small-slot : room < 64 → r ≡ barred 80 → r ≡ beginOf f room

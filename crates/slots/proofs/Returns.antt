@@ -1,17 +1,7 @@
 -- Where the functions return: what their tests and callees have given is what the definitions say. Assumes nothing.
-use Prim.Native.Nat.{ℕ, _+_, _≤_, _<_}
-use mathlib.Core.Path.{_≡_, refl, sym, ap, _∙_}
-use mathlib.Core.List.{List}
-use mathlib.Core.Bool.{Bool, true, false, cond}
-use lib.Dec.{ltb, eqb}
-use lib.ListN.{length}
-use borrow.Author.Tests.{lt-ltb, le-ltb, eq-eqb, ne-eqb}
+use Rattle.octets.proofs.Kit.{ℕ, _+_, _≤_, _<_, _≡_, sym, ap, _∙_, List, length, lt-ltb, le-ltb, eq-eqb, ne-eqb}
 use Rattle.octets.specs.Splice.{splice}
-use Rattle.slots.specs.Slot.{longest, nextOf, newerOf, targetOf}
-use Rattle.slots.specs.Saving.{refused, workOf, unitOf, WorksAs}
-use Rattle.slots.specs.declared.Slot.{Slot}
-use Rattle.slots.specs.declared.Target.{Target}
-use Rattle.slots.specs.declared.Work.{Work}
+use Rattle.slots.specs.{Slot.{longest, nextOf, newerOf, targetOf}, Saving.{refused, workOf, unitOf, WorksAs}, declared.{Slot.Slot, Work.Work}}
 
 module _ (a b : Slot) where
   pub neither : (a .refusal ≡ 0 → ⊥) → (b .refusal ≡ 0 → ⊥) → 2 ≡ newerOf a b

@@ -1,20 +1,7 @@
 -- What `head`, `unit` and `next_work` return. Assumes nothing.
-use Prim.Native.Nat.{ℕ, _+_, _-_, _≤_, _<_}
-use mathlib.Core.Path.{_≡_, refl, sym, ap, _∙_}
-use mathlib.Core.List.{List, [], _∷_, _++_}
-use mathlib.Core.Bool.{true, false, cond}
-use native.Mathlib.Omega.{arith}
-use lib.Dec.{ltb, eqb}
-use lib.ListN.{length, take, drop, replicate}
-use borrow.Author.Tests.{eq-eqb, ne-eqb}
-use Rattle.octets.specs.Bytes.{bytesOf}
-use Rattle.octets.specs.Splice.{splice}
-use Rattle.octets.proofs.Splices.{splice-front}
-use Rattle.octets.proofs.Walks.{by-lt}
-use Rattle.slots.specs.Crc.{ones, crcFrom, crcOf}
-use Rattle.slots.specs.Slot.{longest, tailOf, headOf}
-use Rattle.slots.specs.Saving.{pieceOf, workOf, unitOf}
-use Rattle.slots.specs.declared.Work.{Work}
+use Rattle.octets.proofs.Kit.{ℕ, _-_, _≤_, _≡_, refl, sym, ap, _∙_, List, [], _∷_, _++_, arith, length, take, drop, replicate, eq-eqb, ne-eqb}
+use Rattle.octets.{specs.{Bytes.bytesOf, Splice.splice}, proofs.{Splices.splice-front, Walks.by-lt}}
+use Rattle.slots.specs.{Crc.{ones, crcFrom, crcOf}, Slot.{longest, tailOf, headOf}, Saving.{workOf, unitOf}, declared.Work.Work}
 use Rattle.slots.proofs.promises.Crcs.{crc-append}
 
 -- THE HEAD, field by field

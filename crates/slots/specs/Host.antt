@@ -1,5 +1,4 @@
 -- WHAT A HOST DOES: the loop over the pieces of a save; and a medium whose bytes are old or new after a cut.
--- Assumes nothing.
 use Prim.Native.Nat.{ℕ, suc}
 use mathlib.Core.Path.{_≡_}
 use mathlib.Core.Bool.{Bool}

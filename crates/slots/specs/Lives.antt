@@ -1,5 +1,4 @@
 -- A LIFE OF A MEDIUM: saves, and saves that were cut.
--- Assumes nothing.
 use Prim.Native.Nat.{ℕ, _≤_, _<_}
 use mathlib.Core.Path.{_≡_}
 use mathlib.Core.List.{List, [], _∷_}

@@ -1,5 +1,4 @@
 -- A SLOT JUDGED IN PARTS: its first 64 bytes, then the bytes behind them in runs of any length.
--- Assumes nothing.
 use Prim.Native.Nat.{ℕ, _+_, _-_}
 use mathlib.Core.List.{List, [], _∷_, _++_}
 use mathlib.Core.Bool.{Bool, cond, not}

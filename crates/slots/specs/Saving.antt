@@ -1,5 +1,4 @@
 -- A SAVE AS PIECES OF WORK, by their number.
--- Assumes nothing.
 use Prim.Native.Nat.{ℕ, _+_}
 use mathlib.Core.Path.{_≡_}
 use mathlib.Core.List.{List, [], _∷_}

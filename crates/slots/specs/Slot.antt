@@ -1,5 +1,4 @@
 -- A SLOT: a mark of six bytes in a unit of its own, a head, a sheet; what it holds; which of two is the newer.
--- Assumes nothing.
 use Prim.Native.Nat.{ℕ, _+_, _%_}
 use mathlib.Core.List.{List, [], _∷_, _++_}
 use mathlib.Core.Bool.{Bool, cond, not}

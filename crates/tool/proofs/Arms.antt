@@ -1,35 +1,11 @@
 -- What the arms of the two matches ask. Assumes nothing.
-use Prim.Native.Nat.{ℕ, zero, suc, _+_, _-_, _≤_, _<_}
-use mathlib.Core.Path.{_≡_, refl, sym, subst, ap, _∙_}
-use mathlib.Core.List.{List, [], _∷_}
-use mathlib.Core.Bool.{Bool, true, false, cond, _&&_}
-use mathlib.Core.Option.{none}
-use lib.Dec.{leb, ltb}
-use native.Mathlib.Omega.{arith}
-use lib.ListN.{length, getElem?, length-drop}
-use Rattle.octets.specs.Octets.{Octets, ReadFrom}
-use Rattle.pdu.specs.Item.{Value}
-use Rattle.pdu.specs.Table.{rowOf, services}
-use Rattle.pdu.specs.Read.{readPdu, dataAt, dataOf}
-use Rattle.pdu.specs.Write.{writeOf, writeCount, bufferOf, fitsIn, writable, Wrote}
-use Rattle.pdu.specs.Rules.{headOf}
-use Rattle.pdu.specs.declared.Parsed.{Parsed}
-use Rattle.pdu.specs.declared.Parsed.the-variants.{Is}
-use Rattle.pdu.specs.declared.Service.{Service}
-use Rattle.pdu.specs.declared.Written.{Written}
-use Rattle.pdu.specs.declared.Written.the-variants.{Bytes, Refused as Refuses}
-use borrow.Author.Tests.{lt-ltb, le-ltb}
-use Rattle.pdu.proofs.Find.{NoneOf}
-use Rattle.pdu.proofs.Formed.{formed-says, long-enough}
-use Rattle.pdu.proofs.Sound.{sound}
-use Rattle.pdu.proofs.promises.Outcomes.{read-carries}
-use Rattle.octets.proofs.Truths.{and-is, at-most-is}
-use Rattle.pdu.specs.Pdus.{serviceOf, valuesOf}
-use Rattle.pdu.specs.declared.Pdu.{Pdu}
-use Rattle.tool.specs.Flat.{laid, kindOf, flatBy, flatRead, meantAs, meantBy, unknownKind, flatWritten, FlatWrote}
-use Rattle.tool.specs.declared.FlatPdu.{FlatPdu}
-use Rattle.tool.specs.declared.FlatWritten.{FlatWritten}
-use Rattle.tool.specs.declared.Meant.{Meant}
+use Rattle.octets.proofs.Kit.{ℕ, zero, suc, _+_, _-_, _≤_, _<_, _≡_, refl, sym, subst, ap, _∙_, List, [], _∷_, Bool, true, false, cond, _&&_, none, leb, ltb, arith, length, getElem?}
+use Rattle.octets.proofs.Kit.{length-drop, lt-ltb, le-ltb}
+use Rattle.octets.{specs.Octets.{Octets, ReadFrom}, proofs.Truths.{and-is, at-most-is}}
+use Rattle.pdu.specs.{Item.Value, Table.{rowOf, services}, Read.{readPdu, dataAt, dataOf}, Write.{writeOf, writeCount, bufferOf, fitsIn, writable, Wrote}, Rules.headOf}
+use Rattle.pdu.specs.{declared.{Parsed.{Parsed, the-variants.Is}, Service.Service, Written.{Written, the-variants.{Bytes, Refused as Refuses}}}, Pdus.{serviceOf, valuesOf}, declared.Pdu.Pdu}
+use Rattle.pdu.proofs.{Find.NoneOf, Formed.{formed-says, long-enough}, Sound.sound, promises.Outcomes.read-carries}
+use Rattle.tool.specs.{Flat.{laid, kindOf, flatBy, flatRead, meantAs, meantBy, unknownKind, flatWritten, FlatWrote}, declared.{FlatPdu.FlatPdu, FlatWritten.FlatWritten, Meant.Meant}}
 use Rattle.tool.specs.declared.Meant.the-variants.{Known, Nothing}
 
 -- in an arm the PDU is known: what is laid flat of it there is laid flat of it

@@ -1,22 +1,9 @@
 -- What the calls on frames ask. Assumes nothing.
-use Prim.Native.Nat.{ℕ, _+_, _≤_}
-use mathlib.Core.Path.{_≡_, sym, ap, _∙_}
-use mathlib.Core.List.{List}
-use lib.ListN.{length}
+use Rattle.octets.proofs.Kit.{ℕ, _+_, _≤_, _≡_, sym, ap, _∙_, List, length}
 use Rattle.octets.specs.Octets.{ReadFrom}
-use Rattle.cemi.specs.Read.{readFrame}
-use Rattle.cemi.specs.Meaning.{meaningOf, meaningNumber}
-use Rattle.cemi.specs.Write.{writeOf, writeCount, bufferOf, Wrote}
-use Rattle.cemi.proofs.promises.Filled.{count-few}
-use Rattle.cemi.specs.declared.Fields.{Fields}
-use Rattle.cemi.specs.declared.Frame.{Frame}
-use Rattle.cemi.specs.declared.Got.{Got}
-use Rattle.cemi.specs.declared.Meaning.{Meaning}
-use Rattle.cemi.specs.declared.Written.{Written}
-use Rattle.cemi.specs.declared.Written.the-variants.{Bytes}
-use Rattle.tool.specs.FlatFrame.{laidFrame, flatGot, flatFrame, fieldsOf, framed, FrameWrote}
-use Rattle.tool.specs.declared.FlatFrame.{FlatFrame}
-use Rattle.tool.specs.declared.Framed.{Framed}
+use Rattle.cemi.specs.{Read.readFrame, Meaning.{meaningOf, meaningNumber}, Write.{writeOf, writeCount, bufferOf, Wrote}, declared.{Fields.Fields, Frame.Frame, Got.Got, Meaning.Meaning}}
+use Rattle.cemi.{specs.declared.Written.{Written, the-variants.Bytes}, proofs.promises.Filled.count-few}
+use Rattle.tool.specs.{FlatFrame.{laidFrame, flatGot, flatFrame, fieldsOf, framed, FrameWrote}, declared.{FlatFrame.FlatFrame, Framed.Framed}}
 
 -- in an arm the meaning, the reading or the writing is known
 pub via-event : (m n : Meaning) (r : ℕ) → m ≡ n → r ≡ meaningNumber n → r ≡ meaningNumber m

@@ -1,22 +1,9 @@
 -- What the branches of reading and writing a flat datapoint ask. Assumes nothing.
-use Prim.Native.Nat.{ℕ}
-use mathlib.Core.Path.{_≡_, refl, sym, ap, _∙_}
-use mathlib.Core.Bool.{Bool, true, false, cond}
-use mathlib.Core.List.{List}
-use lib.ListN.{length}
-use lib.Dec.{eqb}
-use lib.IntN.{ℤ, pos}
+use Rattle.octets.proofs.Kit.{ℕ, _≡_, refl, sym, ap, _∙_, Bool, true, false, cond, List, length, eqb, ℤ, pos, eq-eqb, ne-eqb}
 use mir.Val.{boolByte}
-use borrow.Author.Tests.{eq-eqb, ne-eqb}
-use Rattle.octets.specs.Bytes.{numAt, IsNum}
-use Rattle.octets.specs.Octets.{ReadFrom}
-use Rattle.points.specs.Point.{widthAt, pointAt, readPoint, Put}
-use Rattle.points.specs.declared.Datapoint.{Datapoint}
-use Rattle.points.specs.declared.Datapoint.the-variants.{Switch, Hundredths}
-use Rattle.points.specs.declared.Reading.{Reading}
-use Rattle.points.specs.declared.Reading.the-variants.{Is, Refused}
-use Rattle.tool.specs.Points.{flatPoint, pointLaid, flatPointRead, pointMeant, meantOutcome, meantPart, flatPointOutcome, FlatPut}
-use Rattle.tool.specs.declared.FlatPoint.{FlatPoint}
+use Rattle.octets.specs.{Bytes.{numAt, IsNum}, Octets.ReadFrom}
+use Rattle.points.specs.{Point.{widthAt, pointAt, readPoint, Put}, declared.{Datapoint.{Datapoint, the-variants.{Switch, Hundredths}}, Reading.{Reading, the-variants.{Is, Refused}}}}
+use Rattle.tool.specs.{Points.{flatPoint, pointLaid, flatPointRead, pointMeant, meantOutcome, meantPart, flatPointOutcome, FlatPut}, declared.FlatPoint.FlatPoint}
 
 pub float-is : (n b : ℕ) (s : List ℕ) → IsNum s 0 4 b n → flatPoint 14 0 (pos 0) n 0 ≡ flatPoint 14 0 (pos 0) (numAt s 0 4) 0
 float-is n b s i = ap (λ (x : ℕ). flatPoint 14 0 (pos 0) x 0) (i .value)

@@ -1,5 +1,4 @@
 -- A PDU laid flat for C, and what reading and writing are in that form.
--- Assumes nothing.
 use Prim.Native.Nat.{ℕ, suc, _-_}
 use mathlib.Core.Path.{_≡_}
 use mathlib.Core.Bool.{cond}

@@ -1,5 +1,4 @@
 -- A frame laid flat for C, and what reading and writing are in that form.
--- Assumes nothing.
 use Prim.Native.Nat.{ℕ, _+_}
 use mathlib.Core.Path.{_≡_}
 use mathlib.Core.List.{List}

@@ -1,5 +1,4 @@
 -- What reading gives back of a flat frame that was written, and when a flat frame is one of C's.
--- Assumes nothing.
 use Prim.Native.Nat.{ℕ, _<_}
 use mathlib.Core.Path.{_≡_}
 use mathlib.Core.List.{List}

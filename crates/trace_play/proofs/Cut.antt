@@ -1,11 +1,5 @@
 -- Where the sheet ends, as the code finds it.
--- Assumes nothing.
-use Prim.Native.Nat.{ℕ, min, _≤_, _<_}
-use mathlib.Core.Path.{_≡_}
-use mathlib.Core.List.{List}
-use lib.ListN.{length}
-use native.Mathlib.Omega.{arith}
-use borrow.Author.Tests.{lt-ltb, le-ltb}
+use Rattle.octets.proofs.Kit.{ℕ, min, _≤_, _<_, _≡_, List, length, arith, lt-ltb, le-ltb}
 use Rattle.sheet.specs.Layout.{_of_}
 use Rattle.sheet.specs.Head as head
 use Rattle.trace_play.specs.Input.{sheetLength}

@@ -1,5 +1,4 @@
 -- The input: a sheet, then a trace.
--- Assumes nothing.
 use Prim.Native.Nat.{ℕ, min}
 use mathlib.Core.Bool.{cond}
 use mathlib.Core.List.{List}

@@ -1,22 +1,9 @@
 -- What the branches of reading a group value ask.
--- Assumes nothing.
-use Prim.Native.Nat.{ℕ}
-use mathlib.Core.Path.{_≡_, sym, ap, _∙_}
-use mathlib.Core.Bool.{Bool, true, false, cond}
-use mathlib.Core.List.{List}
-use lib.ListN.{length}
-use lib.Dec.{eqb}
-use lib.IntN.{ℤ}
-use lib.Ieee.{Float}
+use Rattle.octets.proofs.Kit.{ℕ, _≡_, sym, ap, _∙_, Bool, true, false, cond, List, length, eqb, ℤ, Float, eq-eqb, ne-eqb}
 use mir.Val.{boolByte}
-use borrow.Author.Tests.{eq-eqb, ne-eqb}
 use Rattle.octets.specs.Octets.{ReadFrom}
-use Rattle.points.specs.Point.{pointAt, readPoint}
 use Rattle.pdu.specs.declared.Pdu.the-variants.{GroupValueWrite}
-use Rattle.points.specs.declared.Datapoint.{Datapoint}
-use Rattle.points.specs.declared.Datapoint.the-variants.{Switch, Byte, Hundredths, Float as Single}
-use Rattle.points.specs.declared.Reading.{Reading}
-use Rattle.points.specs.declared.Reading.the-variants.{Refused}
+use Rattle.points.specs.{Point.{pointAt, readPoint}, declared.{Datapoint.{Datapoint, the-variants.{Switch, Byte, Hundredths, Float as Single}}, Reading.{Reading, the-variants.Refused}}}
 use Rattle.values.specs.Value.{readValue, sixBits, valuePdu}
 
 pub by-data : (t v : ℕ) (s : List ℕ) (r : Reading) → (t ≡ 1 → ⊥) → ReadFrom s r (readPoint t s) → r ≡ readValue t v s

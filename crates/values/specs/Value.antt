@@ -1,5 +1,4 @@
 -- A datapoint in a GroupValue_Write: which form each type takes, and what such a PDU says.
--- Assumes nothing.
 use Prim.Native.Nat.{ℕ}
 use mathlib.Core.Bool.{Bool, cond}
 use mathlib.Core.List.{List, []}

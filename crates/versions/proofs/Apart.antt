@@ -1,18 +1,8 @@
 -- A store taken apart at one of its versions: what stands in its row, and what is left when row and body are cut out.
--- Assumes nothing.
-use Prim.Native.Nat.{ℕ, suc, _+_, _-_, _*_, _<_}
-use mathlib.Core.Path.{_≡_, refl, sym, ap, _∙_}
-use mathlib.Core.List.{List, [], _∷_, _++_, append-assoc}
-use native.Mathlib.Omega.{arith}
-use lib.ListN.{length, drop, replicate, length-append, length-replicate}
-use Rattle.octets.specs.Bytes.{bytesOf}
-use Rattle.octets.specs.Moved.{moved}
-use Rattle.octets.specs.Splice.{splice}
-use Rattle.octets.proofs.Numbers.{length-bytes}
+use Rattle.octets.proofs.Kit.{ℕ, suc, _+_, _-_, _*_, _<_, _≡_, refl, sym, ap, _∙_, List, [], _∷_, _++_, append-assoc, arith, length, drop, replicate, length-append, length-replicate}
+use Rattle.octets.{specs.{Bytes.bytesOf, Moved.moved, Splice.splice}, proofs.Numbers.length-bytes}
+use Rattle.versions.specs.{Store.{Version, tableEnd, inRow, headOf, rowOf, tableOf, bodiesOf, laid}, Linked.linked, Steps.cutOut}
 use Rattle.versions.specs.Row as row
-use Rattle.versions.specs.Store.{Version, tableEnd, inRow, headOf, rowOf, tableOf, bodiesOf, laid}
-use Rattle.versions.specs.Linked.{linked}
-use Rattle.versions.specs.Steps.{cutOut}
 use Rattle.versions.proofs.Gaps.{splice-mid, close-gap, left-over}
 use Rattle.versions.proofs.Laid.{offset-back, long-back, length-row, length-head, length-table, bodies-join, table-join, Rows, table-rows, rows-join, link-rows}
 

@@ -1,20 +1,9 @@
 -- A version appended to a store: room made for its row, row and body written, head and offsets written anew.
--- Assumes nothing.
-use Prim.Native.Nat.{ℕ, _+_, _-_, _≤_, _<_}
-use mathlib.Core.Path.{_≡_, refl, sym, ap, _∙_}
-use mathlib.Core.List.{List, [], _∷_, _++_, append-assoc, append-nil}
-use native.Mathlib.Omega.{arith}
-use lib.ListN.{length, take, drop, replicate, length-append, length-drop, take-append-drop}
-use lib.Seq.{length-take-le, drop-drop}
-use Rattle.octets.specs.Bytes.{bytesOf}
-use Rattle.octets.specs.Splice.{splice}
-use Rattle.octets.proofs.Numbers.{length-bytes}
-use Rattle.octets.specs.Moved.{moved}
-use Rattle.versions.specs.Store.{Version, tableEnd, headOf, rowOf, tableOf, bodiesOf, laid}
-use Rattle.versions.specs.Linked.{linked}
-use Rattle.versions.specs.Steps.{appended}
-use Rattle.versions.proofs.Gaps.{splice-mid, open-gap}
-use Rattle.versions.proofs.Laid.{length-row, length-head, length-table, bodies-join, Rows, none, next, table-rows, rows-join, link-rows}
+use Rattle.octets.proofs.Kit.{ℕ, _+_, _-_, _≤_, _<_, _≡_, refl, sym, ap, _∙_, List, [], _∷_, _++_, append-assoc, append-nil, arith, length, take, drop, replicate, length-append, length-drop}
+use Rattle.octets.proofs.Kit.{take-append-drop, length-take-le, drop-drop}
+use Rattle.octets.{specs.{Bytes.bytesOf, Splice.splice, Moved.moved}, proofs.Numbers.length-bytes}
+use Rattle.versions.specs.{Store.{Version, tableEnd, headOf, rowOf, tableOf, bodiesOf, laid}, Linked.linked, Steps.appended}
+use Rattle.versions.proofs.{Gaps.{splice-mid, open-gap}, Laid.{length-row, length-head, length-table, bodies-join, Rows, none, next, table-rows, rows-join, link-rows}}
 
 module _ (last : ℕ) (vs : List Version) (free : List ℕ) (x : ℕ) (d : List ℕ) (fits : 8 + length d ≤ length free) where
   abbrev n : ℕ

@@ -1,23 +1,12 @@
 -- A store that passes is the bytes of the versions that it keeps, and then what is free.
--- Assumes nothing.
-use Prim.Native.Nat.{ℕ, zero, suc, _+_, _-_, _*_, _≤_, _<_}
-use mathlib.Core.Path.{_≡_, refl, sym, ap, ap₂, _∙_}
-use mathlib.Core.List.{List, _++_, append-assoc}
-use native.Mathlib.Omega.{arith}
-use lib.ListN.{length, take, drop, replicate, length-drop, take-append-drop}
-use lib.Seq.{take-add, drop-drop, getD-take, getD-drop, length-take-le, ext-getD}
-use Rattle.octets.specs.Bytes.{numAt, bytesOf}
-use Rattle.octets.proofs.Numbers.{length-bytes, bytes-back, bytes-zero, num-below}
-use Rattle.octets.specs.Octets.{Octets}
-use Rattle.sheet.specs.Demand.{breach, Met}
-use Rattle.sheet.specs.Layout.{_of_}
-use Rattle.sheet.proofs.rules.Demands.{met}
-use Rattle.sheet.proofs.rules.First.{orElse-left, orElse-right}
+use Rattle.octets.proofs.Kit.{ℕ, zero, suc, _+_, _*_, _≤_, _<_, _≡_, refl, sym, ap, ap₂, _∙_, List, _++_, append-assoc, arith, length, take, drop, replicate, length-drop, take-append-drop}
+use Rattle.octets.proofs.Kit.{take-add, drop-drop, getD-take, getD-drop, length-take-le, ext-getD}
+use Rattle.octets.{specs.{Bytes.{numAt, bytesOf}, Octets.Octets}, proofs.Numbers.{length-bytes, bytes-back, bytes-zero, num-below}}
+use Rattle.sheet.{specs.{Demand.{breach, Met}, Layout._of_}, proofs.rules.{Demands.met, First.{orElse-left, orElse-right}}}
+use Rattle.versions.specs.Store.{Rising, none, next, GoodStore, settings, lowest, tableEnd, headOf, rowOf, tableOf, bodiesOf, laid, inRow, versionAt, versionsFrom, kept}
+use Rattle.versions.specs.{Rules.{headDemands, rowDemands, endDemands, rowsRule, allRows, storeRule}, Ends.{endFrom, endOf}}
 use Rattle.versions.specs.Head as head
 use Rattle.versions.specs.Row as row
-use Rattle.versions.specs.Store.{Rising, none, next, GoodStore, settings, lowest, tableEnd, headOf, rowOf, tableOf, bodiesOf, laid, inRow, versionAt, versionsFrom, kept}
-use Rattle.versions.specs.Rules.{headDemands, rowDemands, endDemands, rowsRule, allRows, storeRule}
-use Rattle.versions.specs.Ends.{endFrom, endOf}
 
 -- the head of a store that passes
 pub heads : (s : List ℕ) → storeRule s ≡ 0 → Met (headDemands s)

@@ -1,24 +1,12 @@
 -- Version i of a good store: those before it, its own, those after it, where row and body stand, and the store without it.
--- Assumes nothing.
-use Prim.Native.Nat.{ℕ, suc, _+_, _-_, _*_, _≤_}
-use mathlib.Core.Path.{_≡_, sym, ap, ap₂, subst, _∙_}
-use mathlib.Core.Bool.{true}
-use mathlib.Core.List.{List, _∷_, _++_}
-use native.Mathlib.Omega.{arith}
-use lib.ListN.{length, drop, replicate, length-append}
+use Rattle.octets.proofs.Kit.{ℕ, suc, _+_, _-_, _*_, _≤_, _≡_, sym, ap, ap₂, subst, _∙_, true, List, _∷_, _++_, arith, length, drop, replicate, length-append}
 use Rattle.octets.specs.Octets.{Octets}
 use Rattle.sheet.specs.Layout.{_of_}
+use Rattle.versions.specs.{Store.{Version, GoodStore, longest, tableEnd, inRow, bodiesOf, laid, versionAt, versionsFrom, kept, has, isKept}, Removing.{without, removed}}
+use Rattle.versions.specs.{Steps.{closed, takenOut}, Ends.{endFrom, endOf}, Walk.{Chosen, Found, Stands}}
 use Rattle.versions.specs.Head as head
 use Rattle.versions.specs.Row as row
-use Rattle.versions.specs.Store.{Version, GoodStore, longest, tableEnd, inRow, bodiesOf, laid, versionAt, versionsFrom, kept, has, isKept}
-use Rattle.versions.specs.Removing.{without, removed}
-use Rattle.versions.specs.Steps.{closed, takenOut}
-use Rattle.versions.specs.Ends.{endFrom, endOf}
-use Rattle.versions.specs.Walk.{Chosen, Found, Stands}
-use Rattle.versions.proofs.Laid.{laid-long, bodies-join}
-use Rattle.versions.proofs.Backs.{good-store, length-versions}
-use Rattle.versions.proofs.promises.Keeping.{end-long}
-use Rattle.versions.proofs.Finds.{split, found, left-found}
+use Rattle.versions.proofs.{Laid.{laid-long, bodies-join}, Backs.{good-store, length-versions}, promises.Keeping.end-long, Finds.{split, found, left-found}}
 use Rattle.versions.proofs.Apart.{offset-is, long-is, taken-out}
 
 closed-same :

@@ -1,15 +1,7 @@
 -- The version with a number, found by its row.
--- Assumes nothing.
-use Prim.Native.Nat.{ℕ, zero, suc, _+_, _-_, _*_, _<_}
-use mathlib.Core.Path.{_≡_, refl, sym, ap, _∙_}
-use mathlib.Core.Bool.{true, false}
-use mathlib.Core.List.{List, _∷_, _++_}
-use native.Mathlib.Omega.{arith}
-use lib.Dec.{eqb}
-use borrow.Author.Tests.{eq-eqb, ne-eqb}
+use Rattle.octets.proofs.Kit.{ℕ, zero, suc, _+_, _*_, _<_, _≡_, refl, sym, ap, _∙_, true, false, List, _∷_, _++_, arith, eqb, eq-eqb, ne-eqb}
+use Rattle.versions.specs.{Store.{Version, inRow, versionAt, versionsFrom, has, bodyOf}, Removing.without}
 use Rattle.versions.specs.Row as row
-use Rattle.versions.specs.Store.{Version, inRow, versionAt, versionsFrom, has, bodyOf}
-use Rattle.versions.specs.Removing.{without}
 
 module _ (s : List ℕ) where
   -- THE VERSIONS BEFORE ROW i, ITS OWN, AND THOSE AFTER

@@ -1,20 +1,12 @@
 -- THE BYTES OF VERSIONS WHOSE NUMBERS RISE, AND THEN ANYTHING, ARE A STORE THAT PASSES AND KEEPS THEM.
--- Assumes nothing.
-use Prim.Native.Nat.{ℕ, _+_, _-_, _≤_, _<_}
-use mathlib.Core.Path.{_≡_, refl, sym, ap, ap₂, subst, _∙_}
-use mathlib.Core.List.{List, [], _∷_, _++_, append-assoc}
-use native.Mathlib.Omega.{arith}
-use lib.ListN.{length, take, drop, replicate, length-append}
-use lib.Seq.{take-append-seam, drop-append-seam, drop-at, drop-drop}
-use Rattle.octets.specs.Bytes.{numAt, bytesOf}
-use Rattle.octets.proofs.Numbers.{length-bytes, num-back, bytes-zero}
-use Rattle.sheet.specs.Layout.{_of_}
-use Rattle.sheet.specs.Demand.{breach}
-use Rattle.sheet.proofs.rules.Demands.{unbroken}
+use Rattle.octets.proofs.Kit.{ℕ, _+_, _≤_, _<_, _≡_, refl, sym, ap, ap₂, subst, _∙_, List, [], _∷_, _++_, append-assoc, arith, length, take, drop, replicate, length-append, take-append-seam}
+use Rattle.octets.proofs.Kit.{drop-append-seam, drop-at, drop-drop}
+use Rattle.octets.{specs.Bytes.{numAt, bytesOf}, proofs.Numbers.{length-bytes, num-back, bytes-zero}}
+use Rattle.sheet.{specs.{Layout._of_, Demand.breach}, proofs.rules.Demands.unbroken}
+use Rattle.versions.specs.Store.{Version, Rising, none, next, GoodStore, settings, longest, lowest, tableEnd, headOf, rowOf, tableOf, bodiesOf, laid, inRow, versionAt, versionsFrom}
+use Rattle.versions.specs.{Store.kept, Rules.{Passes, headDemands, rowDemands, endDemands, rowsRule, allRows, storeRule}}
 use Rattle.versions.specs.Head as head
 use Rattle.versions.specs.Row as row
-use Rattle.versions.specs.Store.{Version, Rising, none, next, GoodStore, settings, longest, lowest, tableEnd, headOf, rowOf, tableOf, bodiesOf, laid, inRow, versionAt, versionsFrom, kept}
-use Rattle.versions.specs.Rules.{Passes, headDemands, rowDemands, endDemands, rowsRule, allRows, storeRule}
 use Rattle.versions.proofs.Laid.{length-row, length-head, length-table, laid-long, number-back, kind-back, offset-back, long-back}
 
 -- every number is at most the last one

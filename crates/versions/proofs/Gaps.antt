@@ -1,13 +1,7 @@
 -- Runs replaced, and gaps opened and closed, in a buffer that is taken apart: p, what is replaced, and what follows.
--- Assumes nothing.
-use Prim.Native.Nat.{ℕ, _+_, _-_, _≤_}
-use mathlib.Core.Path.{_≡_, refl, sym, ap, _∙_}
-use mathlib.Core.List.{List, _++_, append-assoc}
-use native.Mathlib.Omega.{arith}
-use lib.ListN.{length, take, drop, length-append, length-drop}
-use lib.Seq.{take-append-seam, drop-append-seam, take-append-add, drop-append-add, drop-at, drop-append-le}
-use Rattle.octets.specs.Splice.{splice}
-use Rattle.octets.specs.Moved.{moved}
+use Rattle.octets.proofs.Kit.{ℕ, _+_, _≤_, _≡_, refl, sym, ap, _∙_, List, _++_, append-assoc, arith, length, take, drop, length-append, length-drop, take-append-seam, drop-append-seam}
+use Rattle.octets.proofs.Kit.{take-append-add, drop-append-add, drop-at, drop-append-le}
+use Rattle.octets.specs.{Splice.splice, Moved.moved}
 
 -- a run that stands behind p replaced by one as long
 pub splice-mid : (p b d q : List ℕ) (o : ℕ) → o ≡ length p → length d ≡ length b → splice (p ++ (b ++ q)) o d ≡ p ++ (d ++ q)

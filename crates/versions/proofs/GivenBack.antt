@@ -1,19 +1,8 @@
 -- A sheet that was given a version's entries and bodies would be saved as that version.
--- Assumes nothing.
-use Prim.Native.Nat.{ℕ, _+_, _-_, _<_}
-use mathlib.Core.Path.{_≡_, sym, ap, ap₂, _∙_}
-use mathlib.Core.List.{List, _++_}
-use native.Mathlib.Omega.{arith}
-use lib.ListN.{length, take, drop, take-append-drop, length-drop}
-use lib.Seq.{length-take-le, getD-take, getD-drop, ext-getD, drop-drop}
-use Rattle.octets.specs.Bytes.{bytesOf}
-use Rattle.octets.proofs.Splices.{splice-read, length-splice}
-use Rattle.octets.specs.Octets.{Octets}
-use Rattle.sheet.specs.Kind.{properties, groups}
-use Rattle.sheet.specs.Entries.{base, startOf}
-use Rattle.sheet.specs.Rules.{Accepted}
-use Rattle.sheet.specs.Agree.{Agree}
-use Rattle.sheet.proofs.alike.Sames.{count-same, start-same}
+use Rattle.octets.proofs.Kit.{ℕ, _+_, _-_, _<_, _≡_, sym, ap, ap₂, _∙_, List, _++_, arith, length, take, drop, take-append-drop, length-drop, length-take-le, getD-take, getD-drop, ext-getD}
+use Rattle.octets.proofs.Kit.{drop-drop}
+use Rattle.octets.{specs.{Bytes.bytesOf, Octets.Octets}, proofs.Splices.{splice-read, length-splice}}
+use Rattle.sheet.{specs.{Kind.{properties, groups}, Entries.{base, startOf}, Rules.Accepted, Agree.Agree}, proofs.alike.Sames.{count-same, start-same}}
 use Rattle.versions.specs.Settings.{front, many, entriesLong, bodiesLong, settingsOf, restored, SameEntries, LowCounts}
 use Rattle.versions.proofs.Backs.{num-bytes}
 use Rattle.versions.proofs.promises.Restores as re

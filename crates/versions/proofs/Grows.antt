@@ -1,17 +1,7 @@
 -- ONE VERSION MORE: what the steps of a save leave is the store with it, and that store is good.
--- Assumes nothing.
-use Prim.Native.Nat.{ℕ, _+_, _≤_, _<_}
-use mathlib.Core.Path.{_≡_, refl, sym, ap, _∙_}
-use mathlib.Core.List.{List, [], _∷_, _++_, append-nil}
-use native.Mathlib.Omega.{arith}
-use lib.ListN.{length, drop, length-append, length-drop}
-use lib.Seq.{drop-drop, drop-append-seam}
-use Rattle.versions.specs.Store.{Version, Rising, none, next, Keeps, places, lowest, tableEnd, bodiesOf, laid}
-use Rattle.versions.specs.Saving.{needed, saved}
-use Rattle.versions.specs.Steps.{appended}
-use Rattle.versions.proofs.Laid.{laid-long, bodies-join}
-use Rattle.versions.proofs.Appends.{appended-is}
-use Rattle.versions.proofs.promises.Keeping.{keeps-these, keeps-last, whole}
+use Rattle.octets.proofs.Kit.{ℕ, _+_, _≤_, _<_, _≡_, refl, sym, ap, _∙_, List, [], _∷_, _++_, append-nil, arith, length, drop, length-append, length-drop, drop-drop, drop-append-seam}
+use Rattle.versions.specs.{Store.{Version, Rising, none, next, Keeps, places, lowest, tableEnd, bodiesOf, laid}, Saving.{needed, saved}, Steps.appended}
+use Rattle.versions.proofs.{Laid.{laid-long, bodies-join}, Appends.appended-is, promises.Keeping.{keeps-these, keeps-last, whole}}
 
 -- one more number above all that were given
 pub rising-more : {last : ℕ} (x floor : ℕ) (vs : List Version) (d : List ℕ) → last < x → Rising last floor vs → Rising x floor (vs ++ (record { number = x; body = d } ∷ []))

@@ -1,16 +1,8 @@
 -- The bytes of a table and of bodies: how many, joined, and read back.
--- Assumes nothing.
-use Prim.Native.Nat.{ℕ, suc, _+_, _-_, _*_, _<_}
-use mathlib.Core.Path.{_≡_, refl, sym, ap, ap₂, _∙_}
-use mathlib.Core.List.{List, [], _∷_, _++_, append-assoc}
-use native.Mathlib.Omega.{arith}
-use lib.ListN.{length, length-append, length-replicate}
-use Rattle.octets.specs.Bytes.{numAt, bytesOf}
-use Rattle.octets.specs.Splice.{splice}
-use Rattle.octets.proofs.Numbers.{length-bytes, num-back}
+use Rattle.octets.proofs.Kit.{ℕ, suc, _+_, _*_, _<_, _≡_, refl, sym, ap, ap₂, _∙_, List, [], _∷_, _++_, append-assoc, arith, length, length-append, length-replicate}
+use Rattle.octets.{specs.{Bytes.{numAt, bytesOf}, Splice.splice}, proofs.Numbers.{length-bytes, num-back}}
+use Rattle.versions.specs.{Store.{Version, settings, tableEnd, headOf, rowOf, tableOf, bodiesOf, laid, inRow}, Linked.linkFrom}
 use Rattle.versions.specs.Row as row
-use Rattle.versions.specs.Store.{Version, settings, tableEnd, headOf, rowOf, tableOf, bodiesOf, laid, inRow}
-use Rattle.versions.specs.Linked.{linkFrom}
 use Rattle.versions.proofs.Gaps.{splice-mid}
 
 pub length-row : (x at n : ℕ) → length (rowOf x at n) ≡ 8

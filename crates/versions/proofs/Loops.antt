@@ -1,17 +1,9 @@
 -- The loops that look for a number and for the bodies' end, as their needs ask.
--- Assumes nothing.
-use Prim.Native.Nat.{ℕ, suc, _+_, _-_, _*_, _≤_, _<_}
-use mathlib.Core.Path.{_≡_, sym, ap, _∙_}
-use mathlib.Core.List.{List}
-use native.Mathlib.Decide.{decLt}
-use native.Mathlib.Omega.{arith}
-use lib.ListN.{length}
+use Rattle.octets.proofs.Kit.{ℕ, suc, _+_, _-_, _*_, _≤_, _<_, _≡_, sym, ap, _∙_, List, decLt, arith, length}
 use Rattle.octets.specs.Bytes.{IsNum}
+use Rattle.versions.specs.{Store.tableEnd, Ends.endFrom, Walk.{Tabled, Found, Ended, numberIn}}
 use Rattle.versions.specs.Head as head
 use Rattle.versions.specs.Row as row
-use Rattle.versions.specs.Store.{tableEnd}
-use Rattle.versions.specs.Ends.{endFrom}
-use Rattle.versions.specs.Walk.{Tabled, Found, Ended, numberIn}
 
 pub record Sought (s : List ℕ) (n x i : ℕ) : Type 0 where
   pub few : n ≤ 8

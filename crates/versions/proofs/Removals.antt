@@ -1,29 +1,12 @@
 -- What the calls of `remove` leave and return, case by case.
--- Assumes nothing.
-use Prim.Native.Nat.{ℕ, _+_, _-_, _≤_, _<_}
-use mathlib.Core.Path.{_≡_, sym, _∙_}
-use mathlib.Core.Bool.{true, false}
-use mathlib.Core.List.{List}
-use native.Mathlib.Omega.{arith}
-use lib.Dec.{eqb}
-use lib.ListN.{length, replicate}
-use borrow.Author.Tests.{eq-eqb, ne-eqb}
-use Rattle.octets.specs.Bytes.{bytesOf, IsNum}
-use Rattle.octets.specs.Moved.{moved}
-use Rattle.octets.specs.Octets.{Octets}
-use Rattle.octets.specs.Splice.{splice}
+use Rattle.octets.proofs.Kit.{ℕ, _+_, _-_, _≤_, _<_, _≡_, sym, _∙_, true, false, List, arith, eqb, length, replicate, eq-eqb, ne-eqb}
+use Rattle.octets.specs.{Bytes.{bytesOf, IsNum}, Moved.moved, Octets.Octets, Splice.splice}
 use Rattle.sheet.specs.Layout.{_of_}
+use Rattle.versions.specs.{Store.{tableEnd, kept, has, isKept}, Rules.{storeRule, Passes, isStore, badStore, notKept}, Linked.linked, Removing.{removeOutcome, removeStore, Removed}}
+use Rattle.versions.specs.{Steps.{cutOut, closed, takenOut}, Walk.{Tabled, Found, Ended, Chosen, Stands}}
 use Rattle.versions.specs.Head as head
 use Rattle.versions.specs.Row as row
-use Rattle.versions.specs.Store.{tableEnd, kept, has, isKept}
-use Rattle.versions.specs.Rules.{storeRule, Passes, isStore, badStore, notKept}
-use Rattle.versions.specs.Linked.{linked}
-use Rattle.versions.specs.Removing.{removeOutcome, removeStore, Removed}
-use Rattle.versions.specs.Steps.{cutOut, closed, takenOut}
-use Rattle.versions.specs.Walk.{Tabled, Found, Ended, Chosen, Stands}
-use Rattle.versions.proofs.Backs.{heads}
-use Rattle.versions.proofs.Finds.{missed}
-use Rattle.versions.proofs.Chosen.{body-stands, was-kept, taken-is}
+use Rattle.versions.proofs.{Backs.heads, Finds.missed, Chosen.{body-stands, was-kept, taken-is}}
 
 -- the steps of the calls: two runs moved down and zeros after them; the count and the offsets
 pub cut-steps :

@@ -1,41 +1,16 @@
 -- What the calls of `restore` return, case by case.
--- Assumes nothing.
-use Prim.Native.Nat.{ℕ, zero, suc, _+_, _-_, _*_, _≤_, _<_}
-use mathlib.Core.Path.{_≡_, refl, sym, ap, ap₂, _∙_}
-use mathlib.Core.Logic.{_⊎_, inl, inr}
-use mathlib.Core.Bool.{Bool, true, false, cond, not}
-use mathlib.Core.List.{List, [], _∷_}
-use native.Mathlib.Omega.{arith}
-use lib.Dec.{eqb, leb, ltb}
-use lib.ListN.{length, take, drop, getD, length-drop}
-use lib.Seq.{take-all}
-use borrow.Author.Tests.{eq-eqb, ne-eqb, le-leb, lt-leb, lt-ltb, le-ltb, not-true, not-false, eqb-true}
-use Rattle.octets.specs.Bytes.{numAt, IsNum}
-use Rattle.octets.specs.Splice.{splice}
-use Rattle.octets.proofs.Splices.{splice-none}
-use Rattle.octets.proofs.Tests.{both, not-first, not-second}
-use Rattle.octets.proofs.Truths.{never, and-is}
-use Rattle.octets.specs.Every.{every}
-use Rattle.octets.specs.Octets.{Octets}
+use Rattle.octets.proofs.Kit.{ℕ, zero, suc, _+_, _-_, _*_, _≤_, _<_, _≡_, refl, sym, ap, ap₂, _∙_, _⊎_, inl, inr, Bool, true, false, cond, not, List, [], _∷_, arith, eqb, leb, ltb, length}
+use Rattle.octets.proofs.Kit.{take, drop, getD, length-drop, take-all, eq-eqb, ne-eqb, le-leb, lt-leb, lt-ltb, le-ltb, not-true, not-false, eqb-true}
+use Rattle.octets.{specs.{Bytes.{numAt, IsNum}, Splice.splice, Every.every, Octets.Octets}, proofs.{Splices.splice-none, Tests.{both, not-first, not-second}, Truths.{never, and-is}}}
+use Rattle.sheet.{specs.{Kind.properties, Layout._of_, Entries.{base, place, startOf, endFrom}, Rules.refusalOf}, proofs.promises.Verdicts.refusals}
 use Rattle.judge.specs.declared.Session.{Session}
-use Rattle.sheet.specs.Kind.{properties}
-use Rattle.sheet.specs.Layout.{_of_}
-use Rattle.sheet.specs.Entries.{base, place, startOf, endFrom}
-use Rattle.sheet.specs.Rules.{refusalOf}
-use Rattle.sheet.proofs.promises.Verdicts.{refusals}
+use Rattle.versions.specs.{Store.{tableEnd, versionAt, versionsFrom, kept, has, bodyOf, isKept, versionIn}, Rules.{storeRule, isStore, badStore, notKept}}
+use Rattle.versions.specs.{Walk.{Tabled, Found, Chosen, Extents, Placed}, Settings.{front, many, entriesLong, bodiesLong, restored}, Restoring.{isCount, sameByte, sameEntry, lowCount}}
+use Rattle.versions.specs.Restoring.{entryIn, sameEntries, lowCounts, givesBack, atZero, notAtZero, otherEntries, highCount, restoreBy, restoreOutcome, restoreSheet, RestoredAs}
+use Rattle.versions.specs.declared.{settings.Extent.Extent, table.Place.Place}
 use Rattle.versions.specs.Head as head
 use Rattle.versions.specs.Row as row
-use Rattle.versions.specs.Store.{tableEnd, versionAt, versionsFrom, kept, has, bodyOf, isKept, versionIn}
-use Rattle.versions.specs.Rules.{storeRule, isStore, badStore, notKept}
-use Rattle.versions.specs.Walk.{Tabled, Found, Chosen, Extents, Placed}
-use Rattle.versions.specs.Settings.{front, many, entriesLong, bodiesLong, restored}
-use Rattle.versions.specs.Restoring.{isCount, sameByte, sameEntry, lowCount, entryIn, sameEntries, lowCounts, givesBack, atZero}
-use Rattle.versions.specs.Restoring.{notAtZero, otherEntries, highCount, restoreBy, restoreOutcome, restoreSheet, RestoredAs}
-use Rattle.versions.specs.declared.settings.Extent.{Extent}
-use Rattle.versions.specs.declared.table.Place.{Place}
-use Rattle.versions.proofs.Backs.{heads}
-use Rattle.versions.proofs.Finds.{found, missed, body-found}
-use Rattle.versions.proofs.Chosen.{body-stands}
+use Rattle.versions.proofs.{Backs.heads, Finds.{found, missed, body-found}, Chosen.body-stands}
 
 -- a session
 pub zero-no : (q : Session) → not (q .opened) ≡ true → false ≡ atZero q

@@ -1,32 +1,12 @@
 -- What `save` returns, case by case.
--- Assumes nothing.
-use Prim.Native.Nat.{ℕ, _+_, _-_, _*_, _≤_, _<_}
-use mathlib.Core.Path.{_≡_, sym, ap, _∙_}
-use mathlib.Core.Bool.{true, false}
-use mathlib.Core.List.{List}
-use native.Mathlib.Omega.{arith}
-use lib.Dec.{eqb, ltb}
-use lib.ListN.{length}
-use borrow.Author.Tests.{eq-eqb, ne-eqb, lt-ltb, le-ltb}
-use Rattle.octets.specs.Bytes.{IsNum}
-use Rattle.octets.specs.Octets.{Octets}
-use Rattle.sheet.specs.Layout.{_of_}
-use Rattle.sheet.specs.Rules.{refusalOf}
+use Rattle.octets.proofs.Kit.{ℕ, _+_, _-_, _*_, _≤_, _<_, _≡_, sym, ap, _∙_, true, false, List, arith, eqb, ltb, length, eq-eqb, ne-eqb, lt-ltb, le-ltb}
+use Rattle.octets.specs.{Bytes.IsNum, Octets.Octets}
+use Rattle.sheet.specs.{Layout._of_, Rules.refusalOf}
+use Rattle.versions.specs.{Store.{places, tableEnd, bodiesOf, kept}, Rules.{storeRule, isStore, badStore}, Ends.{endOf, endFrom}, Walk.{Tabled, Ended, Extents, Appendable}}
+use Rattle.versions.specs.{Settings.settingsOf, Saving.{noNumber, noPlace, noRoom, lastNumber, nextNumber, needed, saveBy, saveOutcome, saveNumber, saveStore, SavedAs}, Steps.appended}
+use Rattle.versions.specs.declared.{saving.Saved.Saved, settings.Extent.Extent}
 use Rattle.versions.specs.Head as head
-use Rattle.versions.specs.Store.{places, tableEnd, bodiesOf, kept}
-use Rattle.versions.specs.Rules.{storeRule, isStore, badStore}
-use Rattle.versions.specs.Ends.{endOf, endFrom}
-use Rattle.versions.specs.Walk.{Tabled, Ended, Extents, Appendable}
-use Rattle.versions.specs.Settings.{settingsOf}
-use Rattle.versions.specs.Saving.{noNumber, noPlace, noRoom, lastNumber, nextNumber, needed, saveBy, saveOutcome, saveNumber, saveStore, SavedAs}
-use Rattle.versions.specs.Steps.{appended}
-use Rattle.versions.specs.declared.saving.Saved.{Saved}
-use Rattle.versions.specs.declared.settings.Extent.{Extent}
-use Rattle.versions.proofs.Laid.{laid-long}
-use Rattle.versions.proofs.Backs.{heads}
-use Rattle.versions.proofs.promises.Keeping.{it-keeps, kept-count, end-long}
-use Rattle.versions.proofs.Saves.{settings-long}
-use Rattle.versions.proofs.Grows.{saved-is}
+use Rattle.versions.proofs.{Laid.laid-long, Backs.heads, promises.Keeping.{it-keeps, kept-count, end-long}, Saves.settings-long, Grows.saved-is}
 
 -- the head and the table of a store that passes
 module _ (s : List ℕ) (q : ℕ) (k : q ≡ storeRule s) (q0 : q ≡ 0) where

@@ -1,31 +1,10 @@
 -- The steps of saving, as their needs ask.
--- Assumes nothing.
-use Prim.Native.Nat.{ℕ, _+_, _-_, _*_, _/_, _%_, _≤_}
-use mathlib.Core.Path.{_≡_, refl, sym, ap, ap₂, _∙_}
-use mathlib.Core.List.{List, [], _∷_, _++_, append-assoc}
-use native.Mathlib.Omega.{arith}
-use lib.ListN.{length, take, drop, length-append, length-drop}
-use lib.Seq.{length-take-le}
-use Rattle.octets.specs.Bytes.{bytesOf}
-use Rattle.octets.specs.Splice.{splice}
-use Rattle.octets.proofs.Numbers.{length-bytes}
-use Rattle.octets.proofs.Splices.{splice-more}
-use Rattle.octets.specs.Moved.{moved}
-use Rattle.versions.specs.Store.{tableEnd, rowOf}
-use Rattle.versions.specs.Settings.{entriesLong, bodiesLong, settingsOf}
-use Rattle.versions.specs.Linked.{linked}
-use Rattle.versions.specs.Steps.{appended}
-use Rattle.versions.specs.Walk.{Extents}
-use Rattle.sheet.specs.Kind.{properties, groups}
-use Rattle.sheet.specs.Layout.{_of_}
-use Rattle.sheet.specs.Entries.{count, base, startOf, reached, bodyAt, bodyEnd, endFrom}
-use Rattle.sheet.specs.Rules.{Accepted}
-use Rattle.sheet.specs.Walk.{Counted}
-use Rattle.sheet.specs.Places.{PropertyIn}
-use Rattle.sheet.specs.declared.PropertyEntry.{PropertyEntry}
-use Rattle.sheet.proofs.rules.Good.{Good, good}
-use Rattle.sheet.proofs.places.BodyPlaces.{starts, reached-first, reached-next, reached-last, start-up, start-first}
-use Rattle.versions.specs.declared.settings.Extent.{Extent}
+use Rattle.octets.proofs.Kit.{ℕ, _+_, _-_, _*_, _/_, _%_, _≤_, _≡_, refl, sym, ap, ap₂, _∙_, List, [], _∷_, _++_, append-assoc, arith, length, take, drop, length-append, length-drop}
+use Rattle.octets.proofs.Kit.{length-take-le}
+use Rattle.octets.{specs.{Bytes.bytesOf, Splice.splice, Moved.moved}, proofs.{Numbers.length-bytes, Splices.splice-more}}
+use Rattle.sheet.specs.{Kind.{properties, groups}, Entries.{count, base, startOf, reached, bodyAt, bodyEnd, endFrom}, Rules.Accepted, Walk.Counted, Places.PropertyIn}
+use Rattle.sheet.{specs.declared.PropertyEntry.PropertyEntry, proofs.{rules.Good.{Good, good}, places.BodyPlaces.{starts, reached-first, reached-next, reached-last, start-up, start-first}}}
+use Rattle.versions.specs.{Store.{tableEnd, rowOf}, Settings.{entriesLong, bodiesLong, settingsOf}, Linked.linked, Steps.appended, Walk.Extents, declared.settings.Extent.Extent}
 
 -- a row whose offset is not set yet
 pub row-made :

@@ -1,16 +1,8 @@
 -- ONE VERSION LESS: the numbers still rise, it takes less, and that store is good.
--- Assumes nothing.
-use Prim.Native.Nat.{ℕ, suc, _+_, _-_, _≤_}
-use mathlib.Core.Path.{_≡_, refl, _∙_}
-use mathlib.Core.List.{List, [], _∷_, _++_}
-use native.Mathlib.Omega.{arith}
-use lib.Dec.{eqb}
-use lib.ListN.{length, drop, replicate, length-append, length-drop, length-replicate}
+use Rattle.octets.proofs.Kit.{ℕ, suc, _+_, _-_, _≤_, _≡_, refl, _∙_, List, [], _∷_, _++_, arith, eqb, length, drop, replicate, length-append, length-drop, length-replicate}
 use Rattle.octets.proofs.Walks.{by-test}
-use Rattle.versions.specs.Store.{Version, Rising, none, next, Keeps, longest, lowest, bodiesOf, laid}
-use Rattle.versions.specs.Removing.{without, removed}
-use Rattle.versions.proofs.Laid.{laid-long}
-use Rattle.versions.proofs.promises.Keeping.{keeps-these, keeps-last, whole}
+use Rattle.versions.specs.{Store.{Version, Rising, none, next, Keeps, longest, lowest, bodiesOf, laid}, Removing.{without, removed}}
+use Rattle.versions.proofs.{Laid.laid-long, promises.Keeping.{keeps-these, keeps-last, whole}}
 
 -- numbers still rise without one of them
 rising-weaker : {last : ℕ} (floor to : ℕ) (vs : List Version) → floor ≤ to → Rising last to vs → Rising last floor vs

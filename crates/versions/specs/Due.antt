@@ -1,5 +1,4 @@
 -- WHAT IS DUE, as plain propositions: a constructor for each outcome, with what is given and left.
--- Assumes nothing.
 use Prim.Native.Nat.{ℕ, _≤_, _<_}
 use mathlib.Core.Path.{_≡_}
 use mathlib.Core.Bool.{true, false}

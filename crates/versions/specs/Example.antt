@@ -1,5 +1,4 @@
 -- A FULL EXAMPLE: the sample sheet saved, changed and saved again, saved once more without room, the first restored, then removed.
--- Assumes nothing.
 use Prim.Native.Nat.{ℕ}
 use mathlib.Core.List.{List, [], _∷_}
 use mathlib.Core.Bool.{true}

@@ -1,5 +1,4 @@
 -- THE K-TH VERSION THAT A STORE KEEPS, the first being 0: its number, and how long what was saved is.
--- Assumes nothing.
 use Prim.Native.Nat.{ℕ, zero, suc}
 use mathlib.Core.Bool.{cond}
 use mathlib.Core.List.{List, [], _∷_}

@@ -1,5 +1,4 @@
 -- WHETHER A STORE IS GOOD, as rows of a table: any row that does not hold gives the one number.
--- Assumes nothing.
 use Prim.Native.Nat.{ℕ, zero, suc, _+_}
 use mathlib.Core.Path.{_≡_}
 use mathlib.Core.Bool.{Bool}

@@ -1,5 +1,4 @@
 -- A STORE OVER TIME: any calls that may change it, one after the other.
--- Assumes nothing.
 use Prim.Native.Nat.{ℕ}
 use mathlib.Core.Path.{_≡_}
 use mathlib.Core.List.{List, [], _∷_}

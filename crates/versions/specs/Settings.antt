@@ -1,5 +1,4 @@
 -- WHAT A VERSION HOLDS of a sheet, and the sheet that it gives back.
--- Assumes nothing.
 use Prim.Native.Nat.{ℕ, _+_, _-_, _*_, _≤_, _<_}
 use mathlib.Core.Path.{_≡_}
 use mathlib.Core.List.{List, _++_}

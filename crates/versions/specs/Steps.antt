@@ -1,5 +1,4 @@
 -- What the steps of a call leave; proofs/ has that they give what the call is to give.
--- Assumes nothing.
 use Prim.Native.Nat.{ℕ, _+_, _-_}
 use mathlib.Core.List.{List, _++_}
 use lib.ListN.{length, replicate}

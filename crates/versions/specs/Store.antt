@@ -1,5 +1,4 @@
 -- A STORE: a head, a row for each kept version, then the bodies end to end. Bytes after the last body are free.
--- Assumes nothing.
 use Prim.Native.Nat.{ℕ, zero, suc, _+_, _*_, _≤_, _<_}
 use mathlib.Core.Path.{_≡_}
 use mathlib.Core.Bool.{Bool, true, false, cond}

@@ -1,10 +1,6 @@
 -- `account::catch_up` meets its contract: the bytes of the part before place i are seen and marked, and the others as they were. Assumes nothing.
-use Prim.Native.Nat.{_+_, _-_}
-use mathlib.Core.Path.{refl}
-use native.Mathlib.Omega.{arith}
-use borrow.Author.Needs.{needs}
-use Rattle.account.proofs.Marking.{Passed, pass-none, pass-more, pass-all}
-use Rattle.account.proofs.catch_up.Statement.{statement}
+use Rattle.octets.proofs.Kit.{_-_, refl, arith, needs}
+use Rattle.account.proofs.{Marking.{Passed, pass-none, pass-more, pass-all}, catch_up.Statement.statement}
 use Rattle.account.proofs.catch_up.Tie as tie
 
 abbrev Inv-loop : tie.InvT-loop

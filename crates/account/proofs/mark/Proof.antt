@@ -1,8 +1,6 @@
 -- `account::mark` meets its contract. Assumes nothing.
-use native.Mathlib.Omega.{arith}
-use borrow.Author.Needs.{needs}
-use Rattle.account.proofs.Marking.{first-needs, second-needs, level-needs, marked-all}
-use Rattle.account.proofs.mark.Statement.{statement}
+use Rattle.octets.proofs.Kit.{needs}
+use Rattle.account.proofs.{Marking.{first-needs, second-needs, level-needs, marked-all}, mark.Statement.statement}
 use Rattle.account.proofs.mark.Tie as tie
 
 pub mark-spec : {M : Type 1} → statement M

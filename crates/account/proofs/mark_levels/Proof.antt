@@ -1,9 +1,6 @@
 -- `account::mark_levels` meets its contract. Assumes nothing.
-use native.Mathlib.Omega.{arith}
-use borrow.Author.Needs.{needs}
-use lib.ListN.{length-set}
-use Rattle.account.proofs.Marking.{levelled}
-use Rattle.account.proofs.mark_levels.Statement.{statement}
+use Rattle.octets.proofs.Kit.{arith, needs, length-set}
+use Rattle.account.proofs.{Marking.levelled, mark_levels.Statement.statement}
 use Rattle.account.proofs.mark_levels.Tie as tie
 
 pub mark-levels-spec : {M : Type 1} → statement M

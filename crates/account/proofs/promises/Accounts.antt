@@ -1,32 +1,15 @@
 -- WHO CHANGED A BYTE, AND BY WHAT RIGHT; who gave a connection its level. Assumes nothing.
-use Prim.Native.Nat.{ℕ, _<_, _≤_}
-use mathlib.Core.Path.{_≡_, refl, sym, ap, subst, _∙_}
-use mathlib.Core.Logic.{_⊎_, inl, inr}
-use mathlib.Core.Bool.{Bool, true, false, cond, _&&_}
-use mathlib.Core.List.{List, [], _∷_}
-use lib.ListN.{getD, drop}
-use native.Mathlib.Omega.{arith}
+use Rattle.octets.proofs.Kit.{ℕ, _<_, _≤_, _≡_, refl, sym, ap, subst, _∙_, _⊎_, inl, inr, Bool, true, false, cond, _&&_, List, [], _∷_, arith}
 use Rattle.octets.proofs.Truths.{never, decided, and-is}
 use Rattle.sheet.specs.Head.{rulesOf}
 use Rattle.device.specs.Events.{State}
+use Rattle.versions.specs.{Rules.isStore, Store.{isKept, versionIn}}
 use Rattle.events.specs.Events.{Event, connect, disconnect, button, request, restore}
-use Rattle.versions.specs.Rules.{isStore}
-use Rattle.versions.specs.Store.{isKept, versionIn}
-use Rattle.history.specs.Location.{Location, Place}
-use Rattle.history.specs.Span.{names, gives}
-use Rattle.history.specs.Wish.{change, restoreAll, asks, brings}
-use Rattle.history.specs.Permit.{heard, levelFor, allowed, spans}
-use Rattle.history.specs.History.{First, wished, supplied, opened, level, content, permitted}
-use Rattle.history.specs.Keeps.{Device, stateAfter, Begins, AllOctets, Keeps}
-use Rattle.history.specs.Keyless.{writeLevel}
-use Rattle.history.specs.Rightful.{ours}
-use Rattle.history.specs.Calls.{Follows}
-use Rattle.history.proofs.spans.Bools.{all-at}
-use Rattle.history.proofs.promises.Suffices.{suffices}
-use Rattle.history.proofs.promises.Keep.{keeps}
-use Rattle.account.specs.Account.{at, byteAt, levelOn, lastOther, lastWrite, gave, actsAt, Last, Right, AccountsFor, LevelsAccounted, Traced}
-use Rattle.account.proofs.Lasts.{is-last, as-at-first, none-such, all-dropped}
-use Rattle.account.proofs.Levels.{levels-any}
+use Rattle.history.specs.{Location.{Location, Place}, Span.{names, gives}, Wish.{change, restoreAll, asks, brings}, Permit.{heard, levelFor, allowed, spans}}
+use Rattle.history.specs.{History.{First, wished, supplied, opened, level, content, permitted}, Keeps.{Device, stateAfter, Begins, AllOctets, Keeps}, Keyless.writeLevel, Rightful.ours}
+use Rattle.history.{specs.Calls.Follows, proofs.{spans.Bools.all-at, promises.{Suffices.suffices, Keep.keeps}}}
+use Rattle.account.specs.Account.{at, byteAt, levelOn, lastWrite, gave, actsAt, Last, Right, AccountsFor, LevelsAccounted, Traced}
+use Rattle.account.proofs.{Lasts.{is-last, as-at-first, none-such, all-dropped}, Levels.levels-any}
 
 -- what is so of both of two is so of the one that is chosen
 chosen : {A B : Type 0} (g : A → B) (t : Bool) (u v : A) → cond t (g u) (g v) ≡ g (cond t u v)

@@ -1,20 +1,11 @@
 -- WHAT MARKS SAY: they are those of the history of the events that were played. Assumes nothing.
-use Prim.Native.Nat.{ℕ, zero, suc, _+_, _<_}
-use mathlib.Core.Path.{_≡_, refl, sym, ap, ap₂, _∙_}
-use mathlib.Core.Logic.{_⊎_, inl, inr}
-use mathlib.Core.Bool.{Bool, true, false, cond}
-use mathlib.Core.List.{List, [], _∷_, _++_, reverse, reverse-cons, append-assoc}
-use lib.ListN.{length, getD, replicate, length-replicate}
-use lib.Dec.{eqb}
-use native.Mathlib.Omega.{arith}
+use Rattle.octets.proofs.Kit.{ℕ, zero, suc, _+_, _≡_, refl, sym, ap, ap₂, _∙_, _⊎_, inl, inr, Bool, true, false, cond, List, [], _∷_, _++_, reverse, reverse-cons, append-assoc, length, getD}
+use Rattle.octets.proofs.Kit.{replicate, length-replicate, eqb, arith}
 use Rattle.octets.proofs.Truths.{decided}
 use Rattle.device.specs.Events.{State}
 use Rattle.events.specs.Events.{Event, after}
-use Rattle.history.specs.History.{First}
-use Rattle.history.specs.Keeps.{stateAfter}
-use Rattle.history.specs.Rightful.{ours}
-use Rattle.account.specs.Account.{Origin, never, at, byteAt, levelOn, lastOther}
-use Rattle.account.specs.Marks.{markOf, markAfter, numberOf, MarkedRun, Tell}
+use Rattle.history.specs.{History.First, Keeps.stateAfter, Rightful.ours}
+use Rattle.account.specs.{Account.{Origin, never, at, byteAt, levelOn, lastOther}, Marks.{markOf, markAfter, numberOf, MarkedRun, Tell}}
 
 module _ (f : First) (look : State → ℕ) where
   Number : List Event → ℕ

@@ -1,32 +1,14 @@
 -- Worked: a morning on the sample sheet, and the marks that it leaves. Numbers that begin elsewhere, in code and definitions at once, would be seen here alone. Assumes nothing.
-use Prim.Native.Nat.{ℕ}
-use mathlib.Core.Path.{_≡_, refl}
-use mathlib.Core.Bool.{true, false}
-use mathlib.Core.List.{List, [], _∷_, map}
-use lib.ListN.{replicate}
-use Rattle.octets.specs.Bytes.{numAt, bytesOf}
-use Rattle.octets.specs.Splice.{splice}
-use Rattle.sheet.specs.Demand.{breach}
-use Rattle.sheet.specs.First.{first}
-use Rattle.sheet.specs.Head.{rulesOf}
-use Rattle.sheet.specs.Entries.{entry, keyOf, floor, bodyEnd, startOf, reached, sixBits}
-use Rattle.sheet.specs.Rules.{entryDemands, bodyDemands, entryRule, bodyRule, entriesRule, bodiesRule, walkRule, restRule, ruleIn, verdictOf}
-use Rattle.sheet.specs.Lookup.{seek, indexOf}
-use Rattle.pdu.specs.Table.{find}
-use Rattle.pdu.specs.Rules.{lowAt, fourAt, twelveAt, headBytes}
-use Rattle.pdu.specs.Read.{readPdu, dataOf}
-use Rattle.pdu.specs.Write.{encoded}
-use Rattle.judge.specs.Session.{levelOf, levelIn}
-use Rattle.judge.specs.declared.Session.{Session}
-use Rattle.judge.specs.Properties.{readIn, propertyReadOf, writeIn, propertyWriteOf}
-use Rattle.judge.specs.Keys.{grantOf, authorizeOf}
+use Rattle.octets.proofs.Kit.{ℕ, _≡_, refl, true, false, List, [], _∷_, map, replicate}
+use Rattle.octets.specs.{Bytes.{numAt, bytesOf}, Splice.splice}
+use Rattle.sheet.specs.{Demand.breach, First.first, Head.rulesOf, Entries.{entry, keyOf, floor, bodyEnd, startOf, reached, sixBits}}
+use Rattle.sheet.specs.{Rules.{entryDemands, bodyDemands, entryRule, bodyRule, entriesRule, bodiesRule, walkRule, restRule, ruleIn, verdictOf}, Lookup.{seek, indexOf}}
+use Rattle.pdu.specs.{Table.find, Rules.{lowAt, fourAt, twelveAt, headBytes}, Read.{readPdu, dataOf}, Write.encoded}
+use Rattle.judge.specs.{Session.{levelOf, levelIn}, declared.Session.Session, Properties.{readIn, propertyReadOf, writeIn, propertyWriteOf}, Keys.{grantOf, authorizeOf}}
 use Rattle.judge.specs.Judge.{reachedOf, isShut, judgeOf}
-use Rattle.device.specs.Step.{stepBy, stepOf}
-use Rattle.device.specs.Marked.{sample}
-use Rattle.device.specs.Events.{State, pressed, buttonOutcome, buttonSheet, requestOf}
+use Rattle.device.specs.{Step.{stepBy, stepOf}, Marked.sample, Events.{State, pressed, buttonOutcome, buttonSheet, requestOf}}
 use Rattle.events.specs.Events.{Event, connect, button, request, eventOf, after}
-use Rattle.account.specs.Account.{byteAt, levelOn}
-use Rattle.account.specs.Marks.{markAfter}
+use Rattle.account.specs.{Account.{byteAt, levelOn}, Marks.markAfter}
 
 abbrev shut : Session
 shut = record { opened = false; level = 3 }

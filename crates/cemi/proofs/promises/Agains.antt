@@ -1,24 +1,10 @@
 -- WRITTEN AGAIN FROM WHAT WAS READ, A FRAME HAS THE SAME BYTES. Assumes nothing.
-use Prim.Native.Nat.{ℕ, _+_, _-_, _/_, _≤_, _<_}
-use mathlib.Core.Path.{_≡_, refl, sym, ap, ap₂, subst, _∙_}
-use mathlib.Core.Bool.{true}
-use mathlib.Core.List.{List, [], _∷_, _++_}
-use native.Mathlib.Nat.{add-zero}
-use native.Mathlib.Omega.{arith}
-use lib.ListN.{length, getD, take, drop, length-take, length-drop, take-append-drop}
-use lib.Seq.{drop-drop, getD-drop, take-all}
-use borrow.Author.Tests.{le-leb}
-use Rattle.octets.specs.Bytes.{numAt}
-use Rattle.octets.specs.Octets.{Octets, ReadFrom}
-use Rattle.octets.proofs.Numbers.{num-one}
-use Rattle.cemi.specs.Layout.{table, infoLength, octet6, stated, _of_, bytesIn}
-use Rattle.cemi.specs.Read.{fieldsIn, frameIn, readFrame}
-use Rattle.cemi.specs.Parts.{infoOf, tpduOf}
-use Rattle.cemi.specs.Write.{numbersOf, under, frontBytes, encoded, writable}
-use Rattle.cemi.proofs.promises.Tables.{numbersAt, bytes-there}
-use Rattle.cemi.proofs.promises.Standards.{IsStandard, reads-standard, accepts}
-use Rattle.cemi.specs.declared.Frame.{Frame}
-use Rattle.cemi.specs.declared.Got.the-variants.{Is}
+use Rattle.octets.proofs.Kit.{ℕ, _+_, _-_, _/_, _≤_, _<_, _≡_, refl, sym, ap, ap₂, subst, _∙_, true, List, [], _∷_, _++_, add-zero, arith, length, getD, take, drop, length-take, length-drop}
+use Rattle.octets.proofs.Kit.{take-append-drop, drop-drop, getD-drop, take-all, le-leb}
+use Rattle.octets.{specs.{Bytes.numAt, Octets.{Octets, ReadFrom}}, proofs.Numbers.num-one}
+use Rattle.cemi.specs.{Layout.{table, infoLength, octet6, stated, _of_, bytesIn}, Read.{fieldsIn, frameIn, readFrame}, Parts.{infoOf, tpduOf}}
+use Rattle.cemi.specs.{Write.{numbersOf, under, frontBytes, encoded, writable}, declared.{Frame.Frame, Got.the-variants.Is}}
+use Rattle.cemi.proofs.promises.{Tables.{numbersAt, bytes-there}, Standards.{IsStandard, reads-standard, accepts}}
 
 -- code and additional information, and what follows them
 front-there : (b : List ℕ) → 2 + infoLength b ≤ length b → frontBytes (numAt b 0 1) (take (infoLength b) (drop 2 b)) ++ drop (2 + infoLength b) b ≡ b

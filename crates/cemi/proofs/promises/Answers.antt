@@ -1,22 +1,8 @@
 -- A FRAME THAT ANSWERS ANOTHER CAN ALWAYS BE WRITTEN, and means data in the mode of the request. Assumes nothing.
-use Prim.Native.Nat.{ℕ, _+_, _-_, _*_, _/_, _%_, _≤_, _<_}
-use mathlib.Core.Path.{_≡_, refl, sym, _∙_}
-use mathlib.Core.Bool.{Bool, true, false, cond}
-use mathlib.Core.Logic.{inl}
-use native.Mathlib.Omega.{arith}
-use lib.Dec.{leb, eqb}
-use borrow.Author.Tests.{le-leb, lt-leb, eq-eqb, ne-eqb}
-use Rattle.cemi.specs.Layout.{table, Fit}
-use Rattle.cemi.specs.Meaning.{multicast, broadcast, connectionless, connected}
-use Rattle.cemi.specs.Means.{Means, toAll, toSome, plain, numbered, Group, Individual}
-use Rattle.cemi.specs.Read.{refusalOf}
-use Rattle.cemi.specs.Standard.{Standard}
-use Rattle.cemi.specs.Write.{numbersOf, countOf, writable}
-use Rattle.cemi.specs.Answering.{answering}
+use Rattle.octets.proofs.Kit.{ℕ, _+_, _-_, _%_, _≤_, _<_, _≡_, refl, sym, _∙_, Bool, true, false, cond, inl, arith, leb, eqb, le-leb, lt-leb, eq-eqb, ne-eqb}
+use Rattle.cemi.specs.{Layout.{table, Fit}, Meaning.{multicast, broadcast, connectionless, connected}, Means.{Means, toAll, toSome, plain, numbered, Group, Individual}, Read.refusalOf}
+use Rattle.cemi.specs.{Standard.Standard, Write.{numbersOf, countOf, writable}, Answering.answering, declared.{Fields.Fields, Frame.Frame, Meaning.the-variants.Data}}
 use Rattle.cemi.proofs.promises.Standards.{accepts}
-use Rattle.cemi.specs.declared.Fields.{Fields}
-use Rattle.cemi.specs.declared.Frame.{Frame}
-use Rattle.cemi.specs.declared.Meaning.the-variants.{Data}
 
 -- one of two numbers is below what both are below
 below : (t : Bool) (x y n : ℕ) → x < n → y < n → cond t x y < n

@@ -1,26 +1,10 @@
 -- WHAT WAS WRITTEN READS AS THESE FIELDS, with its additional information and its APDU. Assumes nothing.
-use Prim.Native.Nat.{ℕ, _+_, _-_, _*_, _/_, _%_, _≤_}
-use mathlib.Core.Path.{_≡_, refl, sym, ap, ap₂, subst, _∙_}
-use mathlib.Core.Bool.{true}
-use mathlib.Core.List.{List, [], _∷_, _++_, append-assoc}
-use native.Mathlib.Nat.{add-zero}
-use native.Mathlib.Omega.{arith}
-use lib.ListN.{length, getD, take, drop, length-append}
-use lib.Seq.{getD-append-add, drop-at, take-append-seam, take-all}
-use borrow.Author.Tests.{le-leb, eqb-true}
-use Rattle.octets.specs.Bytes.{numAt}
-use Rattle.octets.proofs.Numbers.{num-one}
-use Rattle.cemi.specs.Layout.{table, infoLength, octet6, stated, _of_, bytesIn, Fit}
-use Rattle.cemi.specs.Read.{fieldsIn, frameIn, readFrame, refusalOf}
-use Rattle.cemi.specs.Parts.{infoOf, tpduOf}
-use Rattle.cemi.specs.Write.{numbersOf, under, frontBytes, encoded, frameOf, countOf, writable}
-use Rattle.cemi.proofs.Stores.{length-table}
-use Rattle.cemi.proofs.promises.Tables.{numbersAt, numbers-back}
-use Rattle.cemi.proofs.promises.Standards.{IsStandard, accepted, standard-reads}
-use Rattle.cemi.proofs.Wrote.{bounds}
-use Rattle.cemi.specs.declared.Fields.{Fields}
-use Rattle.cemi.specs.declared.Frame.{Frame}
-use Rattle.cemi.specs.declared.Got.the-variants.{Is}
+use Rattle.octets.proofs.Kit.{ℕ, _+_, _-_, _*_, _/_, _%_, _≤_, _≡_, refl, sym, ap, ap₂, subst, _∙_, true, List, [], _∷_, _++_, append-assoc, add-zero, arith, length, getD, take, drop}
+use Rattle.octets.proofs.Kit.{length-append, getD-append-add, drop-at, take-append-seam, take-all, le-leb, eqb-true}
+use Rattle.octets.{specs.Bytes.numAt, proofs.Numbers.num-one}
+use Rattle.cemi.specs.{Layout.{table, infoLength, octet6, stated, _of_, bytesIn, Fit}, Read.{fieldsIn, frameIn, readFrame, refusalOf}, Parts.{infoOf, tpduOf}}
+use Rattle.cemi.specs.{Write.{numbersOf, under, frontBytes, encoded, frameOf, countOf, writable}, declared.{Fields.Fields, Frame.Frame, Got.the-variants.Is}}
+use Rattle.cemi.proofs.{Stores.length-table, promises.{Tables.{numbersAt, numbers-back}, Standards.{IsStandard, accepted, standard-reads}}, Wrote.bounds}
 
 pub length-under : (t : ℕ) (a : List ℕ) → length (under t a) ≡ length a
 unfolding under

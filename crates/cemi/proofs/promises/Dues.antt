@@ -1,20 +1,10 @@
 -- EACH NUMBER OF A READING EXACTLY WHEN IT IS DUE. Assumes nothing.
-use Prim.Native.Nat.{ℕ, _+_, _%_, _≤_, _<_}
-use mathlib.Core.Path.{_≡_, refl, sym}
-use mathlib.Core.Bool.{Bool, true, false, cond, _||_}
-use mathlib.Core.Logic.{_⊎_, inl, inr, ⊎-elim}
-use native.Mathlib.Decide.{decLt}
-use native.Mathlib.Omega.{arith}
-use lib.Dec.{ltb, eqb}
-use borrow.Author.Tests.{lt-ltb, le-ltb, eq-eqb, ne-eqb, ltb-true, ltb-false, eqb-true, eqb-false}
-use Rattle.octets.proofs.Truths.{or-is}
-use Rattle.octets.proofs.Walks.{by-test}
-use Rattle.cemi.specs.Layout.{request, indication, octet6}
-use Rattle.cemi.specs.Read.{standardOf, refusalOf}
-use Rattle.cemi.specs.Standard.{Due, tooShort, otherCode, notStandard, wrongLength, nothing}
-use Rattle.cemi.proofs.Judging.{no-code-room, too-short, of-request, of-indication, of-another}
-use Rattle.cemi.proofs.promises.Standards.{accepts}
+use Rattle.octets.proofs.Kit.{ℕ, _+_, _%_, _≤_, _<_, _≡_, refl, sym, Bool, true, false, cond, _||_, _⊎_, inl, inr, ⊎-elim, decLt, arith, ltb, eqb, lt-ltb, le-ltb, eq-eqb, ne-eqb, ltb-true}
+use Rattle.octets.proofs.Kit.{ltb-false, eqb-true, eqb-false}
+use Rattle.octets.proofs.{Truths.or-is, Walks.by-test}
+use Rattle.cemi.specs.{Layout.{request, indication, octet6}, Read.{standardOf, refusalOf}, Standard.{Due, tooShort, otherCode, notStandard, wrongLength, nothing}}
 use Rattle.cemi.specs.declared.Fields.{Fields}
+use Rattle.cemi.proofs.{Judging.{no-code-room, too-short, of-request, of-indication, of-another}, promises.Standards.accepts}
 
 neither : (a b : Bool) → (a || b) ≡ false → (a ≡ false) × (b ≡ false)
 neither true b e = (e, absurd (let z : _≡_ {A = ℕ} 0 1 = cc in omega arith))

@@ -1,18 +1,9 @@
 -- Worked examples: what frames read as and mean, and the bytes of one, by computation. Fields exchanged in table, reader and writer at once would show here. Assumes nothing.
-use mathlib.Core.Path.{_≡_, refl}
-use mathlib.Core.List.{List, [], _∷_, map}
-use Prim.Native.Nat.{ℕ}
+use Rattle.octets.proofs.Kit.{_≡_, refl, List, [], _∷_, map, ℕ}
 use Rattle.octets.specs.Bytes.{numAt, bytesOf}
-use Rattle.cemi.specs.Layout.{bytesIn}
-use Rattle.cemi.specs.Read.{frameIn, standardOf, refusalOf, readFrame, readOutcome}
-use Rattle.cemi.specs.Meaning.{toGroup, numbered, toOne, control, meaningOf, meaningNumber, multicast, broadcast, connectionless, connected}
-use Rattle.cemi.specs.Write.{under, encoded}
-use Rattle.cemi.specs.Answering.{answering}
-use Rattle.cemi.specs.declared.Fields.{Fields}
-use Rattle.cemi.specs.declared.Frame.{Frame}
-use Rattle.cemi.specs.declared.Got.{Got}
-use Rattle.cemi.specs.declared.Got.the-variants.{Is, Refused}
-use Rattle.cemi.specs.declared.Meaning.the-variants.{Data, Connect, Disconnect}
+use Rattle.cemi.specs.{Layout.bytesIn, Read.{frameIn, standardOf, refusalOf, readFrame, readOutcome}}
+use Rattle.cemi.specs.{Meaning.{toGroup, numbered, toOne, control, meaningOf, meaningNumber, multicast, broadcast, connectionless, connected}, Write.{under, encoded}}
+use Rattle.cemi.specs.{Answering.answering, declared.{Fields.Fields, Frame.Frame, Got.{Got, the-variants.{Is, Refused}}, Meaning.the-variants.{Data, Connect, Disconnect}}}
 use Rattle.cemi.specs.declared.Meaning.the-variants as meaning
 
 -- L_Data.ind from 1105h to group 0801h: a group value write

@@ -1,24 +1,9 @@
 -- What a call of `cemi::write` leaves in the buffer. Assumes nothing.
-use Prim.Native.Nat.{ℕ, _+_, _-_, _≤_}
-use mathlib.Core.Path.{_≡_, refl, sym, ap, _∙_}
-use mathlib.Core.Bool.{Bool, true, false, cond}
-use mathlib.Core.Logic.{_⊎_, inl, inr}
-use mathlib.Core.List.{List, _++_}
-use native.Mathlib.Omega.{arith}
-use lib.ListN.{length, take, drop}
-use lib.Seq.{take-at}
-use lib.Dec.{ltb}
-use borrow.Author.Tests.{le-ltb}
+use Rattle.octets.proofs.Kit.{ℕ, _-_, _≤_, _≡_, refl, sym, ap, _∙_, Bool, true, false, cond, _⊎_, inl, inr, List, _++_, arith, length, take, drop, take-at, ltb, le-ltb}
 use Rattle.octets.proofs.Splices.{splice-front}
-use Rattle.cemi.specs.Layout.{table, Fit}
-use Rattle.cemi.specs.Read.{readFrame}
-use Rattle.cemi.specs.Write.{numbersOf, encoded, frameOf, countOf, writable, writeOf, writeOutcome, writeCount, bufferOf, Wrote}
-use Rattle.cemi.proofs.Wrote.{bounds}
-use Rattle.cemi.proofs.promises.Backs.{length-encoded, read-back}
-use Rattle.cemi.specs.declared.Fields.{Fields}
-use Rattle.cemi.specs.declared.Got.the-variants.{Is}
-use Rattle.cemi.specs.declared.Written.{Written}
-use Rattle.cemi.specs.declared.Written.the-variants.{Bytes, Refused}
+use Rattle.cemi.specs.{Layout.{table, Fit}, Read.readFrame, Write.{numbersOf, encoded, frameOf, countOf, writable, writeOf, writeOutcome, writeCount, bufferOf, Wrote}}
+use Rattle.cemi.specs.declared.{Fields.Fields, Got.the-variants.Is, Written.{Written, the-variants.{Bytes, Refused}}}
+use Rattle.cemi.proofs.{Wrote.bounds, promises.Backs.{length-encoded, read-back}}
 
 -- the ways that a writing can go
 pub data Went (f : Fields) (l k room : ℕ) : Written → Type 0 where

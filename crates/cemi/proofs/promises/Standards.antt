@@ -1,23 +1,10 @@
 -- The number of the refusal is 0 exactly of a standard frame; what that says of its length. Assumes nothing.
-use Prim.Native.Nat.{ℕ, _+_, _%_, _≤_, _<_}
-use mathlib.Core.Path.{_≡_, refl, sym, _∙_}
-use mathlib.Core.Bool.{Bool, true, false, cond, _||_}
-use mathlib.Core.Logic.{inl, inr, ⊎-elim}
-use mathlib.Core.List.{List}
-use native.Mathlib.Omega.{arith}
-use lib.ListN.{length}
-use lib.Dec.{ltb, eqb}
-use borrow.Author.Tests.{le-ltb, eq-eqb, ltb-false, eqb-true, eqb-false}
-use Rattle.octets.specs.Octets.{ReadFrom}
-use Rattle.octets.proofs.Truths.{or-is}
-use Rattle.octets.proofs.Numbers.{num-one}
-use Rattle.cemi.specs.Layout.{request, indication, octet6, infoLength, stated, _of_}
-use Rattle.cemi.specs.Read.{standardOf, refusalOf, gotBy, fieldsIn, frameIn, readFrame}
-use Rattle.cemi.specs.Standard.{Standard}
+use Rattle.octets.proofs.Kit.{ℕ, _+_, _%_, _≤_, _<_, _≡_, refl, sym, _∙_, Bool, true, false, cond, _||_, inl, inr, ⊎-elim, List, arith, length, ltb, eqb, le-ltb, eq-eqb, ltb-false, eqb-true}
+use Rattle.octets.proofs.Kit.{eqb-false}
+use Rattle.octets.{specs.Octets.ReadFrom, proofs.{Truths.or-is, Numbers.num-one}}
+use Rattle.cemi.specs.{Layout.{request, indication, octet6, infoLength, stated, _of_}, Read.{standardOf, refusalOf, gotBy, fieldsIn, frameIn, readFrame}, Standard.Standard}
+use Rattle.cemi.specs.declared.{Fields.Fields, Frame.Frame, Got.the-variants.{Is, Refused}}
 use Rattle.cemi.proofs.Judging.{of-request, of-indication}
-use Rattle.cemi.specs.declared.Fields.{Fields}
-use Rattle.cemi.specs.declared.Frame.{Frame}
-use Rattle.cemi.specs.declared.Got.the-variants.{Is, Refused}
 
 -- a choice that is 0 went the other way than to a number that is not
 passed : (t : Bool) (k r : ℕ) → 0 < k → cond t k r ≡ 0 → (t ≡ false) × (r ≡ 0)

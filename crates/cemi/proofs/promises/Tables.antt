@@ -1,13 +1,7 @@
 -- Laws of a table of fields, whatever its fields: numbers read back from their bytes, and bytes written again from their numbers. Assumes nothing.
-use Prim.Native.Nat.{ℕ, _+_, _≤_, _<_}
-use mathlib.Core.Path.{_≡_, refl, ap, ap₂, sym, _∙_}
-use mathlib.Core.List.{List, [], _∷_, _++_, append-assoc}
-use native.Mathlib.Omega.{arith}
-use lib.ListN.{length, take, drop, length-append, length-take, length-drop, take-append-drop}
-use lib.Seq.{ext-getD, getD-take, getD-drop, drop-drop}
-use Rattle.octets.specs.Bytes.{numAt, bytesOf}
-use Rattle.octets.specs.Octets.{Octets}
-use Rattle.octets.proofs.Numbers.{num-back, bytes-back, length-bytes}
+use Rattle.octets.proofs.Kit.{ℕ, _+_, _≤_, _<_, _≡_, refl, ap, ap₂, sym, _∙_, List, [], _∷_, _++_, append-assoc, arith, length, take, drop, length-append, length-take, length-drop}
+use Rattle.octets.proofs.Kit.{take-append-drop, ext-getD, getD-take, getD-drop, drop-drop}
+use Rattle.octets.{specs.{Bytes.{numAt, bytesOf}, Octets.Octets}, proofs.Numbers.{num-back, bytes-back, length-bytes}}
 use Rattle.cemi.specs.Layout.{Field, bytesIn, Fit}
 
 -- each field starts where the one before ends, the first at a place

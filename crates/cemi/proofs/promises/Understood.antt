@@ -1,19 +1,10 @@
 -- WHAT A FRAME MEANS IS ONE THING, AND ALWAYS SOMETHING. Assumes nothing.
-use Prim.Native.Nat.{ℕ, _≤_, _<_}
-use mathlib.Core.Path.{_≡_, refl}
-use mathlib.Core.Bool.{Bool, true, false, cond, _&&_}
-use mathlib.Core.Logic.{inl, inr, ⊎-elim}
-use native.Mathlib.Omega.{arith}
-use lib.Dec.{leb, eqb}
-use borrow.Author.Tests.{le-leb, lt-leb, eq-eqb, ne-eqb, leb-true, leb-false, eqb-true, eqb-false}
-use Rattle.octets.proofs.Truths.{first-true, second-true}
-use Rattle.octets.proofs.Walks.{by-test}
-use Rattle.octets.proofs.Tests.{both, not-second}
+use Rattle.octets.proofs.Kit.{ℕ, _≤_, _<_, _≡_, refl, Bool, true, false, cond, _&&_, inl, inr, ⊎-elim, arith, leb, eqb, le-leb, lt-leb, eq-eqb, ne-eqb, leb-true, leb-false, eqb-true}
+use Rattle.octets.proofs.Kit.{eqb-false}
+use Rattle.octets.proofs.{Truths.{first-true, second-true}, Walks.by-test, Tests.{both, not-second}}
 use Rattle.cemi.specs.Meaning.{toGroup, control, numbered, toOne, meaningOf}
-use Rattle.cemi.specs.Means.{Means, toAll, toSome, toNone, plain, numbered as isNumbered, connects, disconnects, acknowledges, other, Group, Individual, octet}
-use Rattle.cemi.specs.declared.Frame.{Frame}
-use Rattle.cemi.specs.declared.Meaning.{Meaning}
-use Rattle.cemi.specs.declared.Meaning.the-variants.{Refused}
+use Rattle.cemi.specs.{Means.{Means, toAll, toSome, toNone, plain, numbered as isNumbered, connects, disconnects, acknowledges, other, Group, Individual, octet}, declared.Frame.Frame}
+use Rattle.cemi.specs.declared.Meaning.{Meaning, the-variants.Refused}
 
 not-both : (a b : Bool) → (a && b) ≡ false → (a ≡ true) × (b ≡ true) → ⊥
 not-both a b e h = let z : true ≡ false = cc (both a b (h .0) (h .1)) in true-false z

@@ -1,40 +1,15 @@
 -- A DATAPOINT SENT TO A GROUP OBJECT IS STORED THERE, AND A READ IS TOLD IT: of every step that is due, and so of ours.
--- Assumes nothing.
-use Prim.Native.Nat.{ℕ, _+_, _≤_, _<_, max}
-use mathlib.Core.Path.{_≡_, refl, sym, ap, ap₂, subst, _∙_}
-use mathlib.Core.List.{List}
-use lib.ListN.{length}
-use native.Mathlib.Omega.{arith}
-use Rattle.octets.specs.Bytes.{numAt}
-use Rattle.octets.specs.Splice.{splice}
-use Rattle.octets.proofs.Splices.{splice-read, splice-num}
-use Rattle.sheet.specs.Kind.{groups}
-use Rattle.sheet.specs.Layout.{Field, _of_}
+use Rattle.octets.proofs.Kit.{ℕ, _+_, _≤_, _<_, max, _≡_, refl, sym, ap, ap₂, subst, _∙_, List, length, arith}
+use Rattle.octets.{specs.{Bytes.numAt, Splice.splice}, proofs.Splices.{splice-read, splice-num}}
+use Rattle.sheet.{specs.{Kind.groups, Layout.{Field, _of_}, Entries.{count, entry}, Agree.Agree}, proofs.alike.Sames.{count-same, group-same}}
 use Rattle.sheet.specs.Group as group
-use Rattle.sheet.specs.Entries.{count, entry}
-use Rattle.sheet.specs.Agree.{Agree}
-use Rattle.sheet.proofs.alike.Sames.{count-same, group-same}
-use Rattle.pdu.specs.declared.Pdu.{Pdu}
-use Rattle.pdu.specs.declared.Pdu.the-variants.{GroupValueRead, GroupValueResponse}
-use Rattle.points.specs.Point.{typeOf, widthAt, readPoint, numberOf, pointBytes}
-use Rattle.points.proofs.promises.Back.{number-small, written-back}
-use Rattle.points.specs.declared.Datapoint.{Datapoint}
-use Rattle.values.specs.Value.{sixBits, valueData}
-use Rattle.values.proofs.promises.Back.{allowed, said}
-use Rattle.device.specs.Octets.{Octets}
-use Rattle.device.specs.Step.{Step}
-use Rattle.device.specs.Asked.{Asked, toGroup, quiet, says, stores, Reads, part}
-use Rattle.device.specs.GroupsDue.{Group, Brings, Flag, groupEntry}
-use Rattle.device.specs.Right.{Right}
-use Rattle.device.specs.Demand2.{done}
-use Rattle.device.proofs.leaves.Octet.{octets-splice}
-use Rattle.device.proofs.due.RightGroups.{only-group-length}
-use Rattle.device.proofs.promises.Rightly.{right, right-only}
-use Rattle.device.proofs.leaves.Stays.{request-agrees}
+use Rattle.pdu.specs.declared.Pdu.{Pdu, the-variants.{GroupValueRead, GroupValueResponse}}
+use Rattle.points.{specs.{Point.{typeOf, widthAt, readPoint, numberOf, pointBytes}, declared.Datapoint.Datapoint}, proofs.promises.Back.{number-small, written-back}}
+use Rattle.values.{specs.Value.{sixBits, valueData}, proofs.promises.Back.{allowed, said}}
+use Rattle.device.specs.{Octets.Octets, Step.Step, Asked.{Asked, toGroup, quiet, says, stores, Reads, part}, GroupsDue.{Group, Brings, Flag, groupEntry}, Right.Right, Demand2.done}
+use Rattle.device.proofs.{leaves.Octet.octets-splice, due.RightGroups.only-group-length, promises.Rightly.{right, right-only}, leaves.Stays.request-agrees, due.Taking.among-at}
 use Rattle.delivery.specs.Delivery.{lengthCode, Sends, Flagged, Suits, Delivered, Asks, Told}
-use Rattle.device.proofs.due.Taking.{among-at}
-use Rattle.delivery.proofs.Received.{group-back, octets-point, length-point, length-data, length-body, received, sent-reads, sent-data, sent-octets}
-use Rattle.delivery.proofs.Stored.{room, still, handed}
+use Rattle.delivery.proofs.{Received.{group-back, octets-point, length-point, length-data, length-body, received, sent-reads, sent-data, sent-octets}, Stored.{room, still, handed}}
 use Rattle.delivery.proofs.Carried.{put, tell}
 
 module _ {x : Asked} {d : Datapoint} {p : Pdu} {flag i : ℕ} (s : Sends x d p flag) (o : Flagged x i flag) where

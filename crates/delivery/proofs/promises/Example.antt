@@ -1,33 +1,14 @@
 -- On the sample sheet, whose one group object 0801h has one byte: the byte 21 is stored and told, a switch is refused.
--- Assumes nothing.
-use Prim.Native.Nat.{ℕ}
-use mathlib.Core.Path.{_≡_, refl}
-use mathlib.Core.Bool.{true}
-use mathlib.Core.List.{List, [], _∷_}
-use native.Mathlib.Omega.{arith}
+use Rattle.octets.proofs.Kit.{ℕ, _≡_, refl, true, List, [], _∷_, arith}
 use Rattle.octets.specs.Bytes.{numAt, bytesOf}
-use Rattle.sheet.specs.Demand.{breach}
-use Rattle.sheet.specs.First.{first}
-use Rattle.sheet.specs.Entries.{entry, keyOf, floor, bodyEnd, startOf, reached}
-use Rattle.sheet.specs.Entries as entries
+use Rattle.sheet.specs.{Demand.breach, First.first, Entries.{entry, keyOf, floor, bodyEnd, startOf, reached}}
 use Rattle.sheet.specs.Rules.{entryDemands, bodyDemands, entryRule, bodyRule, entriesRule, bodiesRule, walkRule, restRule, ruleIn, verdictOf, Accepted}
-use Rattle.pdu.specs.Table.{find}
-use Rattle.pdu.specs.Rules.{lowAt, headBytes}
-use Rattle.pdu.specs.Read.{readPdu}
-use Rattle.pdu.specs.Write.{encoded}
-use Rattle.pdu.specs.declared.Pdu.the-variants.{GroupValueWrite}
-use Rattle.points.specs.Point.{pointBytes}
-use Rattle.points.specs.declared.Datapoint.the-variants.{Switch, Byte}
-use Rattle.values.specs.Value.{sixBits, valueData}
+use Rattle.sheet.specs.Entries as entries
+use Rattle.pdu.specs.{Table.find, Rules.{lowAt, headBytes}, Read.readPdu, Write.encoded, declared.Pdu.the-variants.GroupValueWrite}
+use Rattle.points.specs.{Point.pointBytes, declared.Datapoint.the-variants.{Switch, Byte}}
 use Rattle.judge.specs.Session.{multicast}
-use Rattle.device.specs.Octets.{Octets}
-use Rattle.device.specs.Asked.{Asked, quiet}
-use Rattle.device.specs.Sessions.{closed}
-use Rattle.device.specs.GroupsDue.{Brings}
-use Rattle.device.specs.Demand2.{done}
-use Rattle.device.specs.Marked.{sample}
-use Rattle.device.proofs.leaves.Octet.{octets-by}
-use Rattle.device.proofs.promises.Rightly.{right}
+use Rattle.values.specs.Value.{sixBits, valueData}
+use Rattle.device.{specs.{Octets.Octets, Asked.{Asked, quiet}, Sessions.closed, GroupsDue.Brings, Demand2.done, Marked.sample}, proofs.{leaves.Octet.octets-by, promises.Rightly.right}}
 use Rattle.delivery.specs.Delivery.{Sends, Flagged, Suits, Delivered, Asks, Told}
 use Rattle.delivery.proofs.promises.Deliveries.{unsuited, delivered-ours, told-ours}
 

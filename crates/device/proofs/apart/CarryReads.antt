@@ -1,52 +1,24 @@
 -- What carrying a decision out reads of the sheet: bytes of group objects, and those of elements and memory that the level of the request may read.
--- Assumes nothing.
-use Prim.Native.Nat.{ℕ, _+_, _*_, _-_, _/_, _<_, _≤_}
-use mathlib.Core.Path.{_≡_, refl, sym, ap, subst}
-use mathlib.Core.Logic.{_⊎_, inl, inr}
-use mathlib.Core.List.{List}
-use native.Mathlib.Nat.{mul-le-mul-right}
-use native.Mathlib.Omega.{arith}
+use Rattle.octets.proofs.Kit.{ℕ, _+_, _*_, _-_, _/_, _<_, _≤_, _≡_, refl, sym, ap, subst, _⊎_, inl, inr, List, mul-le-mul-right, arith}
 use Rattle.octets.proofs.Walks.{by-eq}
-use Rattle.sheet.specs.Kind.{properties, groups, kindOf, byKind}
-use Rattle.sheet.specs.Layout.{_of_}
+use Rattle.sheet.specs.{Kind.{properties, groups, kindOf, byKind}, Layout._of_, Entries.{count, entry, bodyAt, bodyEnd, InBody}, Places.{Ranged, regionAt}, declared.Memory.Memory}
+use Rattle.sheet.{specs.declared.Memory.the-variants.{Device, User}, proofs.{rules.Good.{Good, good}, alike.Buts.Misses, places.RegionBodies.stands-in}}
 use Rattle.sheet.specs.Head as head
 use Rattle.sheet.specs.Region as region
 use Rattle.sheet.specs.Property as property
 use Rattle.sheet.specs.Group as group
-use Rattle.sheet.specs.Entries.{count, entry, bodyAt, bodyEnd, InBody}
-use Rattle.sheet.specs.Places.{Ranged, regionAt}
-use Rattle.sheet.specs.declared.Memory.{Memory}
-use Rattle.sheet.specs.declared.Memory.the-variants.{Device, User}
-use Rattle.sheet.proofs.rules.Good.{Good, good}
-use Rattle.sheet.proofs.alike.Buts.{Misses}
-use Rattle.sheet.proofs.places.RegionBodies.{stands-in}
-use Rattle.pdu.specs.Read.{readPdu, dataOf}
-use Rattle.pdu.proofs.promises.Readings.{Reading, reading}
-use Rattle.pdu.specs.declared.Parsed.{Parsed}
-use Rattle.pdu.specs.declared.Pdu.{Pdu}
-use Rattle.pdu.specs.declared.Pdu.the-variants.{GroupValueRead, GroupValueResponse, GroupValueWrite, IndividualAddressWrite, IndividualAddressRead, SerialNumberRead, SerialNumberWrite}
-use Rattle.pdu.specs.declared.Pdu.the-variants.{DeviceDescriptorRead, PropertyValueRead, PropertyValueWrite, PropertyDescriptionRead, MemoryRead, MemoryWrite, MemoryBitWrite}
-use Rattle.pdu.specs.declared.Pdu.the-variants.{AuthorizeRequest, KeyWrite, Restart, IndividualAddressResponse, SerialNumberResponse, DeviceDescriptorResponse, PropertyValueResponse}
-use Rattle.pdu.specs.declared.Pdu.the-variants.{PropertyDescriptionResponse, MemoryResponse, AuthorizeResponse, KeyResponse, UserMemoryRead, UserMemoryResponse, UserMemoryWrite}
-use Rattle.judge.specs.declared.Access.the-variants.{Write, Change}
-use Rattle.judge.specs.declared.Session.{Session}
+use Rattle.pdu.specs.{Read.{readPdu, dataOf}, declared.{Parsed.Parsed, Pdu.{Pdu, the-variants.{GroupValueRead, GroupValueResponse, GroupValueWrite, IndividualAddressWrite}}}}
+use Rattle.pdu.specs.declared.Pdu.the-variants.{IndividualAddressRead, SerialNumberRead, SerialNumberWrite, DeviceDescriptorRead, PropertyValueRead, PropertyValueWrite}
+use Rattle.pdu.specs.declared.Pdu.the-variants.{PropertyDescriptionRead, MemoryRead, MemoryWrite, MemoryBitWrite, AuthorizeRequest, KeyWrite, Restart, IndividualAddressResponse}
+use Rattle.pdu.specs.declared.Pdu.the-variants.{SerialNumberResponse, DeviceDescriptorResponse, PropertyValueResponse, PropertyDescriptionResponse, MemoryResponse, AuthorizeResponse}
+use Rattle.pdu.{specs.declared.Pdu.the-variants.{KeyResponse, UserMemoryRead, UserMemoryResponse, UserMemoryWrite}, proofs.promises.Readings.{Reading, reading}}
+use Rattle.judge.specs.{declared.{Access.the-variants.{Write, Change}, Decision.Decision}, Addresses.{addressWriteOf, addressReadOf, serialReadOf, serialWriteOf}}
+use Rattle.judge.specs.{Memory.{memoryWriteOf, bitWriteOf}, Keys.{authorizeOf, restartOf}, Session.levelIn, Judge.{decideOf, judgeOf, dataIn}}
+use Rattle.judge.proofs.{GroupCases.{group-read-cases, group-put-cases}, DescriptorCases.descriptor-cases, PropertyCases.{property-read-cases, property-write-cases, description-cases}}
+use Rattle.judge.proofs.{MemoryCases.{range-in, memory-read-cases, change-cases}, KeyCases.key-write-cases}
 use Rattle.judge.specs.declared.Store.the-variants as store
-use Rattle.judge.specs.declared.Decision.{Decision}
-use Rattle.judge.specs.Addresses.{addressWriteOf, addressReadOf, serialReadOf, serialWriteOf}
-use Rattle.judge.specs.Memory.{memoryWriteOf, bitWriteOf}
-use Rattle.judge.specs.Keys.{authorizeOf, restartOf}
-use Rattle.judge.specs.Session.{levelIn}
-use Rattle.judge.specs.Judge.{decideOf, judgeOf, dataIn}
-use Rattle.judge.proofs.GroupCases.{group-read-cases, group-put-cases}
-use Rattle.judge.proofs.DescriptorCases.{descriptor-cases}
-use Rattle.judge.proofs.PropertyCases.{property-read-cases, property-write-cases, description-cases}
-use Rattle.judge.proofs.MemoryCases.{range-in, memory-read-cases, change-cases}
-use Rattle.judge.proofs.KeyCases.{key-write-cases}
 use Rattle.device.specs.Asked.{Asked, Reads, given}
-use Rattle.device.proofs.leaves.Accepted.{count-below}
-use Rattle.device.proofs.due.Given.{memory-data, user-data}
-use Rattle.device.proofs.due.RequestCases.{request-cases}
-use Rattle.device.proofs.apart.StepBut.{Spares}
+use Rattle.device.proofs.{leaves.Accepted.count-below, due.{Given.{memory-data, user-data}, RequestCases.request-cases}, apart.StepBut.Spares}
 
 -- the read level of entry i of a kind; a group object has none
 abbrev pub readLevel : List ℕ → ℕ → ℕ → ℕ

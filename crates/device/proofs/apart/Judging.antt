@@ -1,55 +1,22 @@
 -- Judging rests on what it reads: the same there, and the same rules or an undisputed request, give the same judgement.
--- Assumes nothing.
-use Prim.Native.Nat.{ℕ, _+_, _*_, _<_, _≤_}
-use mathlib.Core.Path.{_≡_, refl, ap, _∙_}
-use mathlib.Core.Logic.{_⊎_, inl, inr}
-use mathlib.Core.Bool.{Bool, true, false, cond}
-use mathlib.Core.List.{List}
-use lib.Dec.{ltb, eqb}
-use lib.ListN.{length}
-use native.Mathlib.Omega.{arith}
-use borrow.Author.Tests.{ltb-true, eqb-false, ne-eqb}
-use Rattle.sheet.specs.Kind.{properties, groups}
-use Rattle.sheet.specs.Layout.{_of_}
+use Rattle.octets.proofs.Kit.{ℕ, _+_, _*_, _<_, _≤_, _≡_, refl, ap, _∙_, _⊎_, inl, inr, Bool, true, false, cond, List, ltb, eqb, length, arith, ltb-true, eqb-false, ne-eqb}
+use Rattle.sheet.specs.{Kind.{properties, groups}, Layout._of_, Head.rulesOf, Entries.entry, Lookup.indexOf, Rules.refusalOf, Agree.AgreeInside, declared.Memory.the-variants.{Device, User}}
+use Rattle.sheet.proofs.alike.{Sames.{count-same, place-same}, SameLookups.{index-same, rank-same, nth-same, range-same}}
 use Rattle.sheet.specs.Head as head
-use Rattle.sheet.specs.Head.{rulesOf}
 use Rattle.sheet.specs.Property as property
-use Rattle.sheet.specs.Entries.{entry}
-use Rattle.sheet.specs.Lookup.{indexOf}
-use Rattle.sheet.specs.Rules.{refusalOf}
-use Rattle.sheet.specs.Agree.{AgreeInside}
-use Rattle.sheet.proofs.alike.Sames.{count-same, place-same}
-use Rattle.sheet.proofs.alike.SameLookups.{index-same, rank-same, nth-same, range-same}
-use Rattle.sheet.specs.declared.Memory.the-variants.{Device, User}
-use Rattle.pdu.specs.Read.{readPdu, dataOf}
-use Rattle.pdu.specs.Rules.{codeOf}
-use Rattle.pdu.specs.Table.{serviceAt}
-use Rattle.pdu.specs.declared.Service.{Service}
+use Rattle.pdu.specs.{Read.{readPdu, dataOf}, Rules.codeOf, Table.serviceAt, declared.{Service.Service, Found.{Found, the-variants.{Listed, Unknown}}, Parsed.Parsed}}
+use Rattle.pdu.specs.declared.{Parsed.the-variants.{Is, Refused}, Pdu.{Pdu, the-variants.{GroupValueRead, GroupValueResponse, GroupValueWrite, IndividualAddressWrite}}}
+use Rattle.pdu.specs.declared.Pdu.the-variants.{IndividualAddressRead, SerialNumberRead, SerialNumberWrite, DeviceDescriptorRead, PropertyValueRead, PropertyValueWrite}
+use Rattle.pdu.specs.declared.Pdu.the-variants.{PropertyDescriptionRead, MemoryRead, MemoryWrite, MemoryBitWrite, AuthorizeRequest, KeyWrite, Restart, IndividualAddressResponse}
+use Rattle.pdu.specs.declared.Pdu.the-variants.{SerialNumberResponse, DeviceDescriptorResponse, PropertyValueResponse, PropertyDescriptionResponse, MemoryResponse, AuthorizeResponse}
+use Rattle.pdu.specs.declared.Pdu.the-variants.{KeyResponse, UserMemoryRead, UserMemoryResponse, UserMemoryWrite}
 use Rattle.pdu.specs.declared.Service.the-variants as service
-use Rattle.pdu.specs.declared.Found.{Found}
-use Rattle.pdu.specs.declared.Found.the-variants.{Listed, Unknown}
-use Rattle.pdu.specs.declared.Parsed.{Parsed}
-use Rattle.pdu.specs.declared.Parsed.the-variants.{Is, Refused}
-use Rattle.pdu.specs.declared.Pdu.{Pdu}
-use Rattle.pdu.specs.declared.Pdu.the-variants.{GroupValueRead, GroupValueResponse, GroupValueWrite, IndividualAddressWrite, IndividualAddressRead, SerialNumberRead, SerialNumberWrite}
-use Rattle.pdu.specs.declared.Pdu.the-variants.{DeviceDescriptorRead, PropertyValueRead, PropertyValueWrite, PropertyDescriptionRead, MemoryRead, MemoryWrite, MemoryBitWrite}
-use Rattle.pdu.specs.declared.Pdu.the-variants.{AuthorizeRequest, KeyWrite, Restart, IndividualAddressResponse, SerialNumberResponse, DeviceDescriptorResponse, PropertyValueResponse}
-use Rattle.pdu.specs.declared.Pdu.the-variants.{PropertyDescriptionResponse, MemoryResponse, AuthorizeResponse, KeyResponse, UserMemoryRead, UserMemoryResponse, UserMemoryWrite}
-use Rattle.judge.specs.declared.Session.{Session}
-use Rattle.judge.specs.declared.Decision.{Decision}
-use Rattle.judge.specs.Session.{levelIn, connectionless}
-use Rattle.judge.specs.Modes.{reachOf}
-use Rattle.judge.specs.declared.Reach.{Reach}
-use Rattle.judge.specs.declared.Reach.the-variants.{PointToPoint, Connected}
-use Rattle.judge.specs.Groups.{valueOf, flagsAt, groupReadOf, groupPutOf}
-use Rattle.judge.specs.Addresses.{addressWriteOf, addressReadOf, serialReadOf, serialWriteOf, descriptorOf}
-use Rattle.judge.specs.Properties.{propertyAt, propertyReadOf, propertyWriteOf, describedAt, descriptionOf}
-use Rattle.judge.specs.Memory.{memoryReadOf, memoryWriteOf, bitWriteOf}
-use Rattle.judge.specs.Keys.{grantOf, authorizeOf, restartOf}
-use Rattle.judge.specs.Judge.{decideOf, readOf, reachedOf, foundOf, judgeBy, judgeOf}
+use Rattle.judge.specs.{declared.{Session.Session, Decision.Decision}, Session.{levelIn, connectionless}, Modes.reachOf, declared.Reach.{Reach, the-variants.{PointToPoint, Connected}}}
+use Rattle.judge.specs.{Groups.{valueOf, flagsAt, groupReadOf, groupPutOf}, Addresses.{addressWriteOf, addressReadOf, serialReadOf, serialWriteOf, descriptorOf}}
+use Rattle.judge.specs.{Properties.{propertyAt, propertyReadOf, propertyWriteOf, describedAt, descriptionOf}, Memory.{memoryReadOf, memoryWriteOf, bitWriteOf}}
+use Rattle.judge.specs.{Keys.{grantOf, authorizeOf, restartOf}, Judge.{decideOf, readOf, reachedOf, foundOf, judgeBy, judgeOf}}
 use Rattle.device.specs.Apart.{Undisputed, restarts, describes}
-use Rattle.device.proofs.due.Taking.{same-reach}
-use Rattle.device.proofs.apart.Unseen.{SameThere, head-same, entry-same, value-same, unseen}
+use Rattle.device.proofs.{due.Taking.same-reach, apart.Unseen.{SameThere, head-same, entry-same, value-same, unseen}}
 
 -- what is decided about entry i is the same if it is where there is such an entry
 if-below : (i n : ℕ) (x y z : Decision) → (i < n → x ≡ y) → cond (ltb i n) x z ≡ cond (ltb i n) y z

@@ -1,15 +1,10 @@
 -- What carrying a decision out reads of the sheet stands after the head.
--- Assumes nothing.
-use Prim.Native.Nat.{ℕ, _<_}
-use mathlib.Core.List.{List}
-use native.Mathlib.Omega.{arith}
-use Rattle.sheet.specs.Head as head
+use Rattle.octets.proofs.Kit.{ℕ, _<_, List, arith}
 use Rattle.sheet.proofs.places.BodyPlaces.{after-contents}
+use Rattle.sheet.specs.Head as head
 use Rattle.pdu.specs.Read.{readPdu}
-use Rattle.judge.specs.declared.Session.{Session}
-use Rattle.judge.specs.Judge.{judgeOf, dataIn}
-use Rattle.device.proofs.apart.StepBut.{Spares}
-use Rattle.device.proofs.apart.CarryReads.{spares}
+use Rattle.judge.specs.{declared.Session.Session, Judge.{judgeOf, dataIn}}
+use Rattle.device.proofs.apart.{StepBut.Spares, CarryReads.spares}
 
 abbrev pub InHead : ℕ → Type 0
 InHead p = p < head.size

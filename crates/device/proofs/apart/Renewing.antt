@@ -1,49 +1,17 @@
 -- A sheet in the release before, and the accepted one that is it with 2 in byte 0: judging, a request and the button do the same on both.
--- Assumes nothing.
-use Prim.Native.Nat.{ℕ, _+_, _-_, _≤_, _<_}
-use mathlib.Core.Path.{_≡_, refl, sym, ap, subst, _∙_}
-use mathlib.Core.Logic.{_⊎_, inl, inr}
-use mathlib.Core.Bool.{Bool}
-use mathlib.Core.List.{List}
-use lib.ListN.{length, getD, replicate, length-replicate}
-use lib.Seq.{ext-getD}
-use native.Mathlib.Decide.{decLt, ℕ-discrete}
-use native.Mathlib.Omega.{arith}
-use Rattle.octets.specs.Bytes.{bytesOf}
-use Rattle.octets.specs.Splice.{splice}
-use Rattle.octets.proofs.Numbers.{num-one, length-bytes}
-use Rattle.octets.proofs.Splices.{splice-outside}
-use Rattle.sheet.specs.Layout.{_of_}
-use Rattle.sheet.specs.Head as head
-use Rattle.sheet.specs.Head.{rulesOf}
-use Rattle.sheet.specs.Rules.{Accepted, Old, ruleOf, refusalOf, refusalBefore, edition}
-use Rattle.sheet.specs.Agree.{Agree, AgreeInside}
-use Rattle.sheet.specs.But.{But}
-use Rattle.sheet.specs.Convert.{conversionOf, EditionByte}
-use Rattle.sheet.proofs.rules.Good.{GoodIn, Good, good, passes}
-use Rattle.sheet.proofs.places.BodyPlaces.{after-contents}
-use Rattle.sheet.proofs.alike.Buts.{but-sym, run-byte, field-but, splice-but}
-use Rattle.sheet.proofs.alike.EditionApart.{field-behind, inside, other-good}
-use Rattle.sheet.proofs.promises.Agrees.{both-or-neither}
-use Rattle.sheet.proofs.promises.Verdicts.{old-good, refused-none}
+use Rattle.octets.proofs.Kit.{ℕ, _+_, _-_, _≤_, _<_, _≡_, refl, sym, ap, subst, _∙_, _⊎_, inl, inr, Bool, List, length, getD, replicate, length-replicate, ext-getD, decLt, ℕ-discrete, arith}
+use Rattle.octets.{specs.{Bytes.bytesOf, Splice.splice}, proofs.{Numbers.{num-one, length-bytes}, Splices.splice-outside}}
+use Rattle.sheet.specs.{Layout._of_, Head.rulesOf, Rules.{Accepted, Old, refusalOf, refusalBefore, edition}, Agree.{Agree, AgreeInside}, But.But, Convert.{conversionOf, EditionByte}}
+use Rattle.sheet.proofs.{rules.Good.{GoodIn, Good, good, passes}, places.BodyPlaces.after-contents, alike.Buts.{but-sym, run-byte, field-but, splice-but}}
+use Rattle.sheet.proofs.{alike.EditionApart.{field-behind, inside, other-good}, promises.{Agrees.both-or-neither, Verdicts.{old-good, refused-none}}}
 use Rattle.sheet.proofs.promises.Converting.{edition-apart, now-second, old-byte15, old-rules, converted}
+use Rattle.sheet.specs.Head as head
 use Rattle.pdu.specs.Read.{readPdu}
-use Rattle.judge.specs.declared.Session.{Session}
-use Rattle.judge.specs.declared.Store.{Store}
+use Rattle.judge.specs.{declared.{Session.Session, Store.Store, Decision.Decision}, Judge.{judgeBy, judgeOf, dataIn}}
 use Rattle.judge.specs.declared.Store.the-variants as store
-use Rattle.judge.specs.declared.Decision.{Decision}
-use Rattle.judge.specs.Judge.{judgeBy, judgeOf, dataIn}
-use Rattle.device.specs.Carry.{padded, build, bitAt, storeOf}
-use Rattle.device.specs.Safe.{StoreSafe}
-use Rattle.device.specs.Step.{Step, stepBy, stepWith, stepOf}
-use Rattle.device.specs.Events.{bit, pressed, buttonSheet}
-use Rattle.device.proofs.leaves.Bits.{length-build}
-use Rattle.device.proofs.leaves.Stays.{request-agrees, button-agrees}
-use Rattle.device.proofs.calls.Safe.{safe}
-use Rattle.device.proofs.apart.StepBut.{StoreSpares, Spares, AlikeBut, bits-same, spares-fewer, store-but, step-but}
-use Rattle.device.proofs.apart.PastHead.{past-head}
-use Rattle.device.proofs.apart.Unseen.{SameThere}
-use Rattle.device.proofs.apart.Judging.{judge-by}
+use Rattle.device.specs.{Carry.{padded, build, bitAt, storeOf}, Safe.StoreSafe, Step.{stepBy, stepWith, stepOf}, Events.{bit, pressed, buttonSheet}}
+use Rattle.device.proofs.{leaves.{Bits.length-build, Stays.{request-agrees, button-agrees}}, calls.Safe.safe}
+use Rattle.device.proofs.apart.{StepBut.{StoreSpares, Spares, AlikeBut, bits-same, spares-fewer, step-but}, PastHead.past-head, Unseen.SameThere, Judging.judge-by}
 
 -- u and v are the same but for byte 0, which is b in v, or as in u
 pub record Fronted (b : ℕ) (u v : List ℕ) : Type 0 where

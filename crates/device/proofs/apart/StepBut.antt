@@ -1,32 +1,14 @@
 -- A step on two sheets that are the same but at some positions, none of which it reads.
--- Assumes nothing.
-use Prim.Native.Nat.{ℕ, zero, suc, _+_, _-_, _<_, _≤_}
-use mathlib.Core.Path.{_≡_, refl, sym, ap, ap₂, subst, _∙_}
-use mathlib.Core.Logic.{_⊎_, inl, inr}
-use mathlib.Core.Bool.{Bool}
-use mathlib.Core.List.{List, [], _∷_, _++_}
-use lib.ListN.{length, getD, replicate, length-replicate}
-use native.Mathlib.Omega.{arith}
-use Rattle.octets.specs.Bytes.{bytesOf}
-use Rattle.octets.specs.Splice.{splice}
-use Rattle.octets.proofs.Numbers.{length-bytes}
-use Rattle.sheet.specs.Layout.{_of_}
+use Rattle.octets.proofs.Kit.{ℕ, zero, suc, _+_, _-_, _<_, _≤_, _≡_, refl, sym, ap, ap₂, subst, _∙_, _⊎_, inl, inr, Bool, List, [], _∷_, _++_, length, getD, replicate, length-replicate}
+use Rattle.octets.proofs.Kit.{arith}
+use Rattle.octets.{specs.{Bytes.bytesOf, Splice.splice}, proofs.Numbers.length-bytes}
+use Rattle.sheet.{specs.{Layout._of_, Rules.Accepted, But.But}, proofs.{rules.Good.good, alike.Buts.{Misses, part-same, run-byte, part-but, field-but, splice-but}}}
 use Rattle.sheet.specs.Head as head
-use Rattle.sheet.specs.Rules.{Accepted}
-use Rattle.sheet.specs.But.{But}
-use Rattle.sheet.proofs.rules.Good.{good}
-use Rattle.sheet.proofs.alike.Buts.{Misses, part-same, run-byte, part-but, field-but, splice-but}
 use Rattle.pdu.specs.Write.{encoded}
-use Rattle.judge.specs.declared.Session.{Session}
-use Rattle.judge.specs.declared.Store.{Store}
+use Rattle.judge.specs.declared.{Session.Session, Store.Store, Answer.Answer, Decision.Decision}
 use Rattle.judge.specs.declared.Store.the-variants as store
-use Rattle.judge.specs.declared.Answer.{Answer}
 use Rattle.judge.specs.declared.Answer.the-variants as answer
-use Rattle.judge.specs.declared.Decision.{Decision}
-use Rattle.device.specs.Carry.{padded, build, bitAt, storeOf, answerOf}
-use Rattle.device.specs.Safe.{StoreSafe, Safe}
-use Rattle.device.specs.Step.{Step, stepBy}
-use Rattle.device.specs.Events.{bit, pressed, buttonOutcome, buttonSheet}
+use Rattle.device.specs.{Carry.{padded, build, bitAt, storeOf, answerOf}, Safe.{StoreSafe, Safe}, Step.{Step, stepBy}, Events.{bit, pressed, buttonOutcome, buttonSheet}}
 use Rattle.device.proofs.leaves.Bits.{length-build}
 
 -- a store reads none of H: only a bit write reads where it stores

@@ -1,21 +1,10 @@
 -- What judging reads of a sheet, apart from edition and number of the rules: head and entries, and the bodies of group objects. The rules of the sheet read no more.
--- Assumes nothing.
-use Prim.Native.Nat.{ℕ, _+_, _<_, _≤_}
-use mathlib.Core.Path.{_≡_, ap}
-use mathlib.Core.List.{List}
-use lib.ListN.{length, getD}
-use native.Mathlib.Omega.{arith}
-use Rattle.octets.specs.Bytes.{numAt}
-use Rattle.octets.proofs.Numbers.{num-same}
-use Rattle.sheet.specs.Kind.{kinds, groups, properties}
-use Rattle.sheet.specs.Layout.{Field, _of_}
+use Rattle.octets.proofs.Kit.{ℕ, _+_, _<_, _≤_, _≡_, ap, List, length, getD, arith}
+use Rattle.octets.{specs.Bytes.numAt, proofs.Numbers.num-same}
+use Rattle.sheet.specs.{Kind.{kinds, groups, properties}, Layout.{Field, _of_}, Entries.{count, size, place, contents, entry, bodyAt, bodyEnd, InBody}, Agree.AgreeBy}
+use Rattle.sheet.proofs.{alike.Sames.place-front, places.Standing.{after-head, place-in}, alike.Buts.part-same}
 use Rattle.sheet.specs.Head as head
 use Rattle.sheet.specs.Group as group
-use Rattle.sheet.specs.Entries.{count, size, place, contents, entry, bodyAt, bodyEnd, InBody}
-use Rattle.sheet.specs.Agree.{AgreeBy}
-use Rattle.sheet.proofs.alike.Sames.{place-front}
-use Rattle.sheet.proofs.places.Standing.{after-head, place-in}
-use Rattle.sheet.proofs.alike.Buts.{part-same}
 
 -- two sheets that are the same there
 pub record SameThere (s s′ : List ℕ) : Type 0 where

@@ -1,19 +1,8 @@
 -- The button, as the code's returns ask.
--- Assumes nothing.
-use Prim.Native.Nat.{ℕ, _+_, _-_, _≤_}
-use mathlib.Core.Path.{_≡_, ap₂, sym, subst, _∙_}
-use mathlib.Core.Bool.{Bool}
-use mathlib.Core.List.{List}
-use native.Mathlib.Omega.{arith}
-use lib.ListN.{length}
-use borrow.Author.Tests.{ne-eqb}
-use Rattle.octets.specs.Bytes.{bytesOf}
-use Rattle.octets.specs.Splice.{splice}
-use Rattle.sheet.specs.Layout.{_of_}
+use Rattle.octets.proofs.Kit.{ℕ, _+_, _-_, _≤_, _≡_, ap₂, sym, subst, _∙_, Bool, List, arith, length, ne-eqb}
+use Rattle.octets.specs.{Bytes.bytesOf, Splice.splice}
+use Rattle.sheet.{specs.{Layout._of_, Rules.refusalOf}, proofs.{promises.Verdicts.not-refused, rules.Good.good}}
 use Rattle.sheet.specs.Head as head
-use Rattle.sheet.specs.Rules.{refusalOf}
-use Rattle.sheet.proofs.promises.Verdicts.{not-refused}
-use Rattle.sheet.proofs.rules.Good.{good}
 use Rattle.device.specs.Events.{bit, pressed, pressOutcome, pressSheet, buttonOutcome, buttonSheet, Pressed}
 
 -- an accepted sheet has room for its head

@@ -1,34 +1,13 @@
 -- From what the parts of a request ensure to what it does.
--- Assumes nothing.
-use Prim.Native.Nat.{ℕ}
-use mathlib.Core.Path.{_≡_, refl, ap, sym, subst, _∙_}
-use mathlib.Core.List.{List}
-use lib.ListN.{length}
+use Rattle.octets.proofs.Kit.{ℕ, _≡_, refl, ap, sym, subst, _∙_, List, length}
 use Rattle.octets.proofs.Splices.{splice-none}
 use Rattle.sheet.specs.Rules.{Accepted}
-use Rattle.pdu.specs.Rules.{codeOf}
-use Rattle.pdu.specs.Table.{serviceAt}
-use Rattle.pdu.specs.Read.{readPdu}
-use Rattle.pdu.specs.declared.Found.{Found}
-use Rattle.pdu.specs.declared.Parsed.{Parsed}
-use Rattle.judge.specs.Decisions.{refused}
-use Rattle.judge.specs.Judge.{dataIn, foundOf, judgeOf}
-use Rattle.judge.specs.Unread.{Unread}
-use Rattle.judge.specs.declared.Session.{Session}
-use Rattle.judge.specs.declared.Decision.{Decision}
-use Rattle.device.specs.Carry.{storeOf, turnOf, closes, answerOf, Filled}
-use Rattle.device.specs.Safe.{StoreSafe, Narrow, AnswerSafe, Roomy, Safe}
-use Rattle.device.specs.Step.{Step, stepBy, stepOf}
-use Rattle.device.specs.Sessions.{sessionFor, turnedOf, sessionsAfter}
-use Rattle.device.specs.Events.{Effect, requestOf, Did}
-use Rattle.device.specs.Changed.{changesOf, changedOf, none}
-use Rattle.device.specs.declared.Sessions.{Sessions}
-use Rattle.device.specs.declared.Done.{Done}
+use Rattle.pdu.specs.{Rules.codeOf, Table.serviceAt, Read.readPdu, declared.{Found.Found, Parsed.Parsed}}
+use Rattle.judge.specs.{Decisions.refused, Judge.{dataIn, foundOf, judgeOf}, Unread.Unread, declared.{Session.Session, Decision.Decision}}
+use Rattle.device.specs.{Carry.{storeOf, turnOf, closes, answerOf, Filled}, Safe.{StoreSafe, Narrow, AnswerSafe, Roomy, Safe}, Step.{Step, stepBy, stepOf}}
+use Rattle.device.specs.{Sessions.{sessionFor, turnedOf, sessionsAfter}, Events.{requestOf, Did}, Changed.{changesOf, changedOf, none}, declared.{Sessions.Sessions, Done.Done}}
 use Rattle.device.specs.declared.Changed.{Changed}
-use Rattle.device.proofs.calls.Turns.{all-stay}
-use Rattle.device.proofs.calls.Sixteen.{narrow}
-use Rattle.device.proofs.calls.Safe.{safe}
-use Rattle.device.proofs.calls.Room.{roomy}
+use Rattle.device.proofs.calls.{Turns.all-stay, Sixteen.narrow, Safe.safe, Room.roomy}
 
 module _ (room : ℕ) (s : List ℕ) (q : Session) (mode group : ℕ) (a d : List ℕ) (got : Parsed) (k : Decision) (read : got ≡ readPdu a)
     (given : d ≡ dataIn got a) (judged : k ≡ judgeOf room s q mode group a) where

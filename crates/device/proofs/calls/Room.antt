@@ -1,16 +1,6 @@
 -- Something is answered only where the buffer has room.
--- Assumes nothing.
-use Prim.Native.Nat.{ℕ, _≤_}
-use mathlib.Core.Path.{_≡_, refl}
-use mathlib.Core.Bool.{Bool, true, false, cond}
-use mathlib.Core.List.{List}
-use lib.Dec.{ltb}
-use borrow.Author.Tests.{ltb-false}
-use Rattle.judge.specs.Decisions.{refused}
-use Rattle.judge.specs.Judge.{judgeOf}
-use Rattle.judge.specs.declared.Session.{Session}
-use Rattle.judge.specs.declared.Decision.{Decision}
-use Rattle.judge.specs.declared.Answer.{Answer}
+use Rattle.octets.proofs.Kit.{ℕ, _≤_, _≡_, refl, Bool, true, false, cond, List, ltb, ltb-false}
+use Rattle.judge.specs.{Decisions.refused, Judge.judgeOf, declared.{Session.Session, Decision.Decision, Answer.Answer}}
 use Rattle.judge.specs.declared.Answer.the-variants as answer
 use Rattle.device.specs.Safe.{Roomy}
 

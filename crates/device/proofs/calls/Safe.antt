@@ -1,20 +1,10 @@
 -- Every decision can be carried out.
--- Assumes nothing.
-use Prim.Native.Nat.{ℕ}
-use mathlib.Core.Path.{sym, subst}
-use mathlib.Core.List.{List}
+use Rattle.octets.proofs.Kit.{ℕ, sym, subst, List}
 use Rattle.sheet.proofs.rules.Good.{good}
-use Rattle.pdu.specs.Read.{readPdu}
-use Rattle.pdu.proofs.promises.Readings.{reading}
-use Rattle.pdu.specs.declared.Parsed.{Parsed}
-use Rattle.judge.specs.declared.Session.{Session}
-use Rattle.judge.specs.declared.Decision.{Decision}
-use Rattle.judge.specs.Session.{levelIn}
-use Rattle.judge.specs.Judge.{judgeOf, decideOf, dataIn}
-use Rattle.device.specs.Asked.{Asked, given}
-use Rattle.device.specs.Safe.{Safe}
-use Rattle.device.proofs.due.RequestCases.{request-cases}
-use Rattle.device.proofs.calls.SafeEach.{safe-refused, safe-decided}
+use Rattle.pdu.{specs.{Read.readPdu, declared.Parsed.Parsed}, proofs.promises.Readings.reading}
+use Rattle.judge.specs.{declared.{Session.Session, Decision.Decision}, Session.levelIn, Judge.{judgeOf, decideOf, dataIn}}
+use Rattle.device.specs.{Asked.{Asked, given}, Safe.Safe}
+use Rattle.device.proofs.{due.RequestCases.request-cases, calls.SafeEach.{safe-refused, safe-decided}}
 
 -- WHATEVER IS DECIDED CAN BE CARRIED OUT
 pub safe :

@@ -1,57 +1,27 @@
 -- What each service decides can be carried out.
--- Assumes nothing.
-use Prim.Native.Nat.{ℕ, _+_, _*_, _-_, _≤_, _<_}
-use mathlib.Core.Path.{_≡_, refl}
-use mathlib.Core.Bool.{true}
-use mathlib.Core.List.{List, []}
-use lib.ListN.{length, take, drop, length-take, length-drop}
-use native.Mathlib.Omega.{arith}
-use Rattle.octets.specs.Bytes.{bytesOf}
-use Rattle.octets.proofs.Numbers.{length-bytes}
-use Rattle.sheet.specs.Kind.{properties}
-use Rattle.sheet.specs.Layout.{_of_}
+use Rattle.octets.proofs.Kit.{ℕ, _+_, _-_, _≤_, _<_, _≡_, refl, true, List, [], length, take, drop, length-take, length-drop, arith}
+use Rattle.octets.{specs.Bytes.bytesOf, proofs.{Numbers.length-bytes, Walks.by-eq}}
+use Rattle.sheet.{specs.{Kind.properties, Layout._of_, Entries.entry, declared.Memory.{Memory, the-variants.{Device, User}}}, proofs.{rules.Good.Good, promises.Runs.range-within}}
 use Rattle.sheet.specs.Property as property
 use Rattle.sheet.specs.Head as head
-use Rattle.sheet.specs.Entries.{entry}
-use Rattle.sheet.proofs.rules.Good.{Good}
-use Rattle.pdu.specs.Read.{dataOf}
-use Rattle.pdu.specs.Write.{writable}
-use Rattle.pdu.proofs.promises.Readings.{Reading}
-use Rattle.pdu.specs.declared.Pdu.{Pdu}
-use Rattle.pdu.specs.declared.Pdu.the-variants.{GroupValueRead, GroupValueResponse, GroupValueWrite, IndividualAddressWrite, IndividualAddressRead, SerialNumberRead, SerialNumberWrite}
-use Rattle.pdu.specs.declared.Pdu.the-variants.{DeviceDescriptorRead, PropertyValueRead, PropertyValueWrite, PropertyDescriptionRead, MemoryRead, MemoryWrite, MemoryBitWrite}
-use Rattle.pdu.specs.declared.Pdu.the-variants.{AuthorizeRequest, KeyWrite, Restart, IndividualAddressResponse, SerialNumberResponse, DeviceDescriptorResponse, PropertyValueResponse}
-use Rattle.pdu.specs.declared.Pdu.the-variants.{PropertyDescriptionResponse, MemoryResponse, AuthorizeResponse, KeyResponse, UserMemoryRead, UserMemoryResponse, UserMemoryWrite}
-use Rattle.sheet.specs.declared.Memory.{Memory}
-use Rattle.sheet.specs.declared.Memory.the-variants.{Device, User}
-use Rattle.sheet.proofs.promises.Runs.{range-within}
-use Rattle.judge.specs.declared.Access.{Access}
-use Rattle.judge.specs.declared.Access.the-variants.{Write, Change}
-use Rattle.judge.specs.declared.Store.{Store}
-use Rattle.judge.specs.declared.Store.the-variants as store
-use Rattle.judge.specs.declared.Answer.{Answer}
-use Rattle.judge.specs.declared.Answer.the-variants as answer
-use Rattle.judge.specs.Decisions.{refused, denied, answered, written, stored}
-use Rattle.judge.specs.Groups.{groupReadOf, groupPutOf}
-use Rattle.judge.specs.Addresses.{addressWriteOf, addressReadOf, serialReadOf, serialWriteOf, descriptorOf}
-use Rattle.judge.specs.Properties.{jumped, propertyReadOf, propertyWriteOf, descriptionOf}
-use Rattle.judge.specs.Memory.{mostBytes, responseOf, memoryReadOf, memoryWriteOf, bitWriteOf}
-use Rattle.judge.specs.Keys.{authorizeOf, keyWriteOf, restartOf}
-use Rattle.judge.specs.Judge.{decideOf}
-use Rattle.octets.proofs.Walks.{by-eq}
-use Rattle.judge.proofs.GroupCases.{group-read-cases, group-put-cases}
-use Rattle.judge.proofs.DescriptorCases.{descriptor-cases}
-use Rattle.judge.proofs.PropertyCases.{runIn, property-read-cases, property-write-cases, description-cases}
-use Rattle.judge.proofs.MemoryCases.{range-in, memory-read-cases, changed, change-cases}
+use Rattle.pdu.specs.{Read.dataOf, Write.writable, declared.Pdu.{Pdu, the-variants.{GroupValueRead, GroupValueResponse, GroupValueWrite, IndividualAddressWrite, IndividualAddressRead}}}
+use Rattle.pdu.specs.declared.Pdu.the-variants.{SerialNumberRead, SerialNumberWrite, DeviceDescriptorRead, PropertyValueRead, PropertyValueWrite, PropertyDescriptionRead, MemoryRead}
+use Rattle.pdu.specs.declared.Pdu.the-variants.{MemoryWrite, MemoryBitWrite, AuthorizeRequest, KeyWrite, Restart, IndividualAddressResponse, SerialNumberResponse, DeviceDescriptorResponse}
+use Rattle.pdu.specs.declared.Pdu.the-variants.{PropertyValueResponse, PropertyDescriptionResponse, MemoryResponse, AuthorizeResponse, KeyResponse, UserMemoryRead, UserMemoryResponse}
+use Rattle.pdu.{specs.declared.Pdu.the-variants.UserMemoryWrite, proofs.promises.Readings.Reading}
+use Rattle.judge.specs.{declared.{Access.{Access, the-variants.{Write, Change}}, Store.Store, Answer.Answer}, Decisions.{refused, denied, answered, written, stored}}
+use Rattle.judge.specs.{Groups.{groupReadOf, groupPutOf}, Addresses.{addressWriteOf, addressReadOf, serialReadOf, serialWriteOf, descriptorOf}}
+use Rattle.judge.specs.{Properties.{jumped, propertyReadOf, propertyWriteOf, descriptionOf}, Memory.{mostBytes, responseOf, memoryReadOf, memoryWriteOf, bitWriteOf}}
+use Rattle.judge.{specs.{Keys.{authorizeOf, keyWriteOf, restartOf}, Judge.decideOf}, proofs.{GroupCases.{group-read-cases, group-put-cases}, DescriptorCases.descriptor-cases}}
+use Rattle.judge.proofs.{PropertyCases.{runIn, property-read-cases, property-write-cases, description-cases}, MemoryCases.{range-in, memory-read-cases, changed, change-cases}}
 use Rattle.judge.proofs.KeyCases.{key-write-cases}
-use Rattle.device.specs.Carry.{storeOf}
-use Rattle.device.specs.Safe.{StoreSafe, AnswerSafe, Safe}
+use Rattle.judge.specs.declared.Store.the-variants as store
+use Rattle.judge.specs.declared.Answer.the-variants as answer
+use Rattle.device.specs.{Carry.storeOf, Safe.{StoreSafe, AnswerSafe, Safe}}
 use Rattle.device.proofs.leaves.Accepted.{long, group-within, six-within, group-short, six-below, maximum-below, count-below, elements-within, count-within}
-use Rattle.device.proofs.due.Given.{serial-small, read-fields, write-fields, write-data, memory-data, user-data, bits-data}
-use Rattle.device.proofs.leaves.Jumps.{whole, length-run}
-use Rattle.device.proofs.leaves.Stores.{length-store}
-use Rattle.device.proofs.calls.Writing.{writes-six, writes-value, writes-descriptor, writes-property, writes-memory, writes-user}
-use Rattle.device.proofs.calls.Writing.{writes-address, writes-serial, writes-description, writes-level, writes-key}
+use Rattle.device.proofs.{due.Given.{serial-small, read-fields, write-fields, write-data, memory-data, user-data, bits-data}, leaves.{Jumps.{whole, length-run}, Stores.length-store}}
+use Rattle.device.proofs.calls.Writing.{writes-six, writes-value, writes-descriptor, writes-property, writes-memory, writes-user, writes-address, writes-serial, writes-description}
+use Rattle.device.proofs.calls.Writing.{writes-level, writes-key}
 
 -- n bytes of a list that has them
 part-length : (s : List ℕ) (o n : ℕ) → o + n ≤ length s → length (take n (drop o s)) ≡ n

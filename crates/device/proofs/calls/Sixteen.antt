@@ -1,18 +1,9 @@
 -- Where anything is stored the sheet is accepted, and so has at most 16,384 bytes: the numbers of a run have 16 bits.
--- Assumes nothing.
-use Prim.Native.Nat.{ℕ, _≤_}
-use mathlib.Core.List.{List}
-use lib.ListN.{length}
-use native.Mathlib.Omega.{arith}
+use Rattle.octets.proofs.Kit.{ℕ, _≤_, List, length, arith}
 use Rattle.sheet.proofs.rules.Good.{good}
-use Rattle.judge.specs.declared.Session.{Session}
-use Rattle.judge.specs.declared.Store.{Store}
+use Rattle.judge.specs.{declared.{Session.Session, Store.Store, Decision.Decision}, Session.levelIn, Judge.{judgeOf, decideOf}}
 use Rattle.judge.specs.declared.Store.the-variants as store
-use Rattle.judge.specs.declared.Decision.{Decision}
-use Rattle.judge.specs.Session.{levelIn}
-use Rattle.judge.specs.Judge.{judgeOf, decideOf}
-use Rattle.device.specs.Asked.{Asked, given}
-use Rattle.device.specs.Safe.{Narrow}
+use Rattle.device.specs.{Asked.{Asked, given}, Safe.Narrow}
 use Rattle.device.proofs.due.RequestCases.{request-cases}
 
 any-narrow : (n : ℕ) (k : Store) → n ≤ 16384 → Narrow n k

@@ -1,18 +1,7 @@
 -- What becomes of the sessions, as the code's returns ask.
--- Assumes nothing.
-use Prim.Native.Nat.{ℕ}
-use mathlib.Core.Path.{_≡_, ap, ap₂, sym, subst, _∙_}
-use mathlib.Core.Bool.{false}
-use borrow.Author.Tests.{eq-eqb}
-use Rattle.judge.specs.Session.{connected}
-use Rattle.judge.specs.declared.Session.{Session}
-use Rattle.judge.specs.declared.Turn.{Turn}
-use Rattle.judge.specs.declared.Turn.the-variants.{Level}
-use Rattle.device.specs.Carry.{turnOf, closes}
-use Rattle.device.specs.Sessions.{withSession, sessionFor, turnedOf}
-use Rattle.device.specs.Events.{namedOutcome, named}
-use Rattle.device.specs.declared.Sessions.{Sessions}
-use Rattle.device.specs.declared.Done.{Done}
+use Rattle.octets.proofs.Kit.{ℕ, _≡_, ap, ap₂, sym, subst, _∙_, false, eq-eqb}
+use Rattle.judge.specs.{Session.connected, declared.{Session.Session, Turn.{Turn, the-variants.Level}}}
+use Rattle.device.specs.{Carry.{turnOf, closes}, Sessions.{withSession, sessionFor, turnedOf}, Events.{namedOutcome, named}, declared.{Sessions.Sessions, Done.Done}}
 use Rattle.device.proofs.leaves.Connections.{own-stays}
 
 -- outcome and sessions together

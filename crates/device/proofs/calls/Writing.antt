@@ -1,18 +1,7 @@
 -- The answers of the device can be written.
--- Assumes nothing.
-use Prim.Native.Nat.{ℕ, _+_, _≤_, _<_}
-use mathlib.Core.Path.{_≡_, refl}
-use mathlib.Core.Logic.{inr}
-use mathlib.Core.Bool.{true}
-use mathlib.Core.List.{List, []}
-use native.Mathlib.Omega.{arith}
-use lib.Dec.{eqb}
-use lib.ListN.{length}
-use Rattle.pdu.specs.Read.{dataAt}
-use Rattle.pdu.specs.Write.{writable, fitsIn}
+use Rattle.octets.proofs.Kit.{ℕ, _+_, _≤_, _<_, _≡_, refl, inr, true, List, [], arith, eqb, length}
 use Rattle.octets.proofs.Truths.{and-is, or-is, below-is, at-most-is, equal-is}
-use Rattle.pdu.specs.declared.Pdu.{Pdu}
-use Rattle.pdu.specs.declared.Pdu.the-variants.{GroupValueResponse, IndividualAddressResponse, SerialNumberResponse, DeviceDescriptorResponse}
+use Rattle.pdu.specs.{Read.dataAt, Write.{writable, fitsIn}, declared.Pdu.{Pdu, the-variants.{GroupValueResponse, IndividualAddressResponse, SerialNumberResponse, DeviceDescriptorResponse}}}
 use Rattle.pdu.specs.declared.Pdu.the-variants.{PropertyValueResponse, PropertyDescriptionResponse, MemoryResponse, AuthorizeResponse, KeyResponse, UserMemoryResponse}
 
 -- a PDU whose row lets it stand with data that leave room for it

@@ -1,10 +1,7 @@
 -- The level that a request acts at.
--- Assumes nothing.
-use Prim.Native.Nat.{ℕ, _≤_}
-use mathlib.Core.Path.{_≡_}
-use borrow.Author.Tests.{eq-eqb, ne-eqb, lt-ltb, le-ltb}
-use Rattle.judge.specs.Session.{levelOf, levelIn}
+use Rattle.octets.proofs.Kit.{ℕ, _≤_, _≡_, eq-eqb, ne-eqb, lt-ltb, le-ltb}
 use Rattle.octets.proofs.Walks.{by-eq, by-lt}
+use Rattle.judge.specs.Session.{levelOf, levelIn}
 use Rattle.device.specs.Asked.{Asked, Acts, bySession, byLimit, unconnected}
 
 -- it acts at a level

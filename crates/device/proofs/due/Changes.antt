@@ -1,39 +1,17 @@
 -- A write to memory, of bytes or of bits: what is due is what is done.
--- Assumes nothing.
-use Prim.Native.Nat.{ℕ}
-use mathlib.Core.Path.{_≡_, refl, sym, ap, subst, _∙_}
-use mathlib.Core.Logic.{_↔_}
-use mathlib.Core.List.{List, []}
-use lib.ListN.{length, take, drop}
-use native.Mathlib.Omega.{arith}
+use Rattle.octets.proofs.Kit.{ℕ, _≡_, refl, sym, ap, subst, _∙_, _↔_, List, [], length, take, drop, arith}
 use Rattle.octets.specs.Splice.{splice}
-use Rattle.sheet.specs.declared.Memory.{Memory}
-use Rattle.sheet.specs.declared.Memory.the-variants.{Device, User}
-use Rattle.sheet.proofs.rules.Good.{Good, good}
-use Rattle.sheet.proofs.promises.Runs.{range-hit, range-within}
-use Rattle.pdu.specs.declared.Pdu.{Pdu}
-use Rattle.pdu.proofs.promises.Readings.{reading}
-use Rattle.judge.specs.declared.Access.{Access}
-use Rattle.judge.specs.declared.Access.the-variants as access
-use Rattle.judge.specs.declared.Store.{Store}
-use Rattle.judge.specs.declared.Store.the-variants as store
-use Rattle.judge.specs.declared.Decision.{Decision}
-use Rattle.judge.specs.Decisions as decisions
-use Rattle.judge.specs.Session.{levelIn}
-use Rattle.judge.specs.Judge.{decideOf}
-use Rattle.judge.specs.Memory.{mostBytes, responseOf, memoryWriteOf}
+use Rattle.sheet.{specs.declared.Memory.{Memory, the-variants.{Device, User}}, proofs.{rules.Good.{Good, good}, promises.Runs.{range-hit, range-within}}}
+use Rattle.pdu.{specs.declared.Pdu.Pdu, proofs.promises.Readings.reading}
+use Rattle.judge.specs.{declared.{Access.Access, Store.Store, Decision.Decision}, Session.levelIn, Judge.decideOf, Memory.{mostBytes, responseOf, memoryWriteOf}}
 use Rattle.judge.proofs.MemoryCases.{Suffices, Permits, range-in, changed, verified, change-cases, change-writes, change-stores, memory-write-is, bit-write-is}
-use Rattle.device.specs.Carry.{storeOf, build, bitAt}
-use Rattle.device.specs.Step.{stepBy}
-use Rattle.device.specs.Asked.{Asked, quiet, says, saysAfter, stores, Reads, given}
-use Rattle.device.specs.MemoryDue.{Write, bytes, bits, into, writing, mostOf, mostIn, response, ToWrite, MemoryWritable, Leaves}
-use Rattle.device.specs.MemoryDue.{Verify, MemoryDue, memoryWriteVerified, memoryWrite, noMemoryWriteVerified, noMemoryWrite}
-use Rattle.device.proofs.leaves.Bits.{length-build, combined, combined-is}
-use Rattle.device.proofs.due.Given.{memory-data, user-data}
-use Rattle.device.proofs.due.Acts.{acts, acts-is}
-use Rattle.device.proofs.leaves.Stores.{stored-back}
-use Rattle.device.proofs.due.OpenRanges.{over-write, opens, opened}
-use Rattle.device.proofs.due.Stepped.{step, step-read}
+use Rattle.judge.specs.declared.Access.the-variants as access
+use Rattle.judge.specs.declared.Store.the-variants as store
+use Rattle.judge.specs.Decisions as decisions
+use Rattle.device.specs.{Carry.{storeOf, build, bitAt}, Step.stepBy, Asked.{Asked, quiet, says, saysAfter, stores, Reads, given}, MemoryDue.{Write, bytes, bits, into, writing, mostOf}}
+use Rattle.device.specs.MemoryDue.{mostIn, response, ToWrite, MemoryWritable, Leaves, Verify, MemoryDue, memoryWriteVerified, memoryWrite, noMemoryWriteVerified, noMemoryWrite}
+use Rattle.device.proofs.{leaves.Bits.{length-build, combined, combined-is}, due.{Given.{memory-data, user-data}, Acts.{acts, acts-is}}, leaves.Stores.stored-back}
+use Rattle.device.proofs.due.{OpenRanges.{over-write, opens, opened}, Stepped.{step, step-read}}
 
 -- how judging goes about a write, and that it means the same
 pub record Change (x : Asked) (w : Write) (n address : ℕ) : Type 0 where

@@ -1,15 +1,8 @@
 -- What the row of a request that reads says of its fields and its data.
--- Assumes nothing.
-use Prim.Native.Nat.{ℕ, _+_, _*_, _≤_, _<_}
-use mathlib.Core.Path.{_≡_}
-use mathlib.Core.List.{List}
-use native.Mathlib.Omega.{arith}
-use lib.Dec.{ltb}
-use lib.ListN.{length, length-drop}
-use Rattle.pdu.specs.Read.{dataOf}
+use Rattle.octets.proofs.Kit.{ℕ, _+_, _*_, _≤_, _<_, _≡_, List, arith, ltb, length, length-drop}
 use Rattle.octets.proofs.Truths.{and-is, below-is, equal-is}
+use Rattle.pdu.specs.{Read.dataOf, declared.Pdu.the-variants.{SerialNumberRead, PropertyValueRead, PropertyValueWrite, MemoryWrite, MemoryBitWrite, UserMemoryWrite}}
 use Rattle.pdu.proofs.promises.Readings.{Reading}
-use Rattle.pdu.specs.declared.Pdu.the-variants.{SerialNumberRead, PropertyValueRead, PropertyValueWrite, MemoryWrite, MemoryBitWrite, UserMemoryWrite}
 
 module _ (a : List ℕ) where
   pub serial-small : (serial : ℕ) → Reading a (SerialNumberRead serial) → serial < 281474976710656

@@ -1,17 +1,7 @@
 -- Addresses that stand side by side, each under levels that suffice, are a range whose levels do.
--- Assumes nothing.
-use Prim.Native.Nat.{ℕ, _+_, _<_, _≤_}
-use mathlib.Core.Path.{_≡_, sym, subst}
-use mathlib.Core.List.{List}
-use mathlib.Core.Logic.{_↔_}
-use native.Mathlib.Omega.{arith}
-use Rattle.sheet.specs.Places.{Stands, Ranged}
-use Rattle.sheet.specs.declared.Memory.{Memory}
-use Rattle.sheet.proofs.rules.Good.{Good, accepted}
-use Rattle.sheet.proofs.searches.Regions.{covers-stands}
-use Rattle.sheet.proofs.promises.Runs.{stands-once, range-there}
-use Rattle.device.specs.Asked.{Asked, Acts}
-use Rattle.device.specs.MemoryDue.{Write, bytes, bits, ToRead, ToWrite, Open}
+use Rattle.octets.proofs.Kit.{ℕ, _+_, _<_, _≤_, _≡_, sym, subst, List, _↔_, arith}
+use Rattle.sheet.{specs.{Places.Ranged, declared.Memory.Memory}, proofs.{rules.Good.{Good, accepted}, searches.Regions.covers-stands, promises.Runs.{stands-once, range-there}}}
+use Rattle.device.specs.{Asked.{Asked, Acts}, MemoryDue.{Write, bytes, bits, ToRead, ToWrite, Open}}
 
 -- a level suffices for a range exactly if it does for each of its bytes
 abbrev pub Over : (ℕ → ℕ → Type 0) → Type 0

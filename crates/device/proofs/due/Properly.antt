@@ -1,24 +1,11 @@
 -- A property by its object and id, and by its first word.
--- Assumes nothing.
-use Prim.Native.Nat.{ℕ, _+_, _*_, _<_}
-use mathlib.Core.Path.{_≡_, ap}
-use mathlib.Core.List.{List, [], _∷_}
-use native.Mathlib.Omega.{arith}
-use lib.ListN.{length}
-use Rattle.octets.specs.Bytes.{numAt}
-use Rattle.octets.proofs.Numbers.{num-one, num-two, num-below}
-use Rattle.sheet.specs.Kind.{properties}
+use Rattle.octets.proofs.Kit.{ℕ, _+_, _*_, _<_, _≡_, ap, List, [], _∷_, arith, length}
+use Rattle.octets.{specs.Bytes.numAt, proofs.Numbers.{num-one, num-two, num-below}}
+use Rattle.sheet.{specs.{Kind.properties, Entries.{place, entry}, Places.PropertyWith}, proofs.{promises.Keys.{key-is, key-parts}, places.Standing.entry-at}}
 use Rattle.sheet.specs.Property as property
-use Rattle.sheet.specs.Entries.{place, entry}
-use Rattle.sheet.specs.Places.{PropertyWith}
-use Rattle.sheet.proofs.promises.Keys.{key-is, key-parts}
-use Rattle.sheet.proofs.places.Standing.{entry-at}
-use Rattle.pdu.specs.Item.{Value, the, Id}
-use Rattle.pdu.proofs.promises.Readings.{Reading}
-use Rattle.pdu.specs.declared.Pdu.the-variants.{PropertyValueRead, PropertyValueWrite, PropertyDescriptionRead}
+use Rattle.pdu.{specs.{Item.{Value, the, Id}, declared.Pdu.the-variants.{PropertyValueRead, PropertyValueWrite, PropertyDescriptionRead}}, proofs.promises.Readings.Reading}
 use Rattle.judge.proofs.PropertyCases.{Keyed}
-use Rattle.device.specs.Octets.{Octets}
-use Rattle.device.specs.Asked.{Asked}
+use Rattle.device.specs.{Octets.Octets, Asked.Asked}
 
 pub keyed : (x : Asked) (object id i : ℕ) → PropertyWith (x .sheet) object id i → Keyed (x .sheet) object id i
 keyed x object id i p =

@@ -1,34 +1,10 @@
 -- What is decided about a request, case by case: refused before its service, or as its service decides.
--- Assumes nothing.
-use Prim.Native.Nat.{ℕ, _≤_}
-use mathlib.Core.Path.{_≡_, refl, sym, subst, subst⁻¹, _∙_}
-use mathlib.Core.Logic.{_⊎_, inl, inr}
-use mathlib.Core.Bool.{Bool, true, false, not, _&&_}
-use lib.ListN.{length}
-use lib.Dec.{eqb}
-use borrow.Author.Tests.{eq-eqb, eqb-true, eqb-false, not-true, not-false}
-use Rattle.sheet.specs.Head.{rulesOf}
-use Rattle.sheet.specs.Rules.{Accepted, Old, Bad, refusalOf}
-use Rattle.sheet.proofs.promises.Verdicts.{one-of-three, refused-old, refused-bad, refused-none, unrefused}
-use Rattle.pdu.specs.Table.{rowOf, serviceAt}
-use Rattle.pdu.specs.Pdus.{serviceOf}
-use Rattle.pdu.specs.Rules.{codeOf}
-use Rattle.pdu.specs.Read.{readPdu}
-use Rattle.octets.proofs.Truths.{never, and-is}
-use Rattle.pdu.proofs.promises.Codes.{has-is, found, named, unknown}
-use Rattle.pdu.proofs.promises.Readings.{reading, refused-row}
-use Rattle.pdu.specs.declared.Service.{Service}
-use Rattle.pdu.specs.declared.Found.{Found}
-use Rattle.pdu.specs.declared.Found.the-variants.{Listed, Unknown}
-use Rattle.pdu.specs.declared.Pdu.{Pdu}
-use Rattle.pdu.specs.declared.Parsed.{Parsed}
-use Rattle.pdu.specs.declared.Parsed.the-variants.{Is, Refused}
-use Rattle.judge.specs.declared.Decision.{Decision}
-use Rattle.judge.specs.Decisions.{refused}
-use Rattle.judge.specs.Session.{levelIn}
-use Rattle.judge.specs.Modes.{reachOf, reaches, takes}
-use Rattle.judge.specs.Judge.{decideOf, readOf, reachedOf, foundOf, isShut, judgeOf}
-use Rattle.octets.proofs.Walks.{by-test, by-not, by-lt}
+use Rattle.octets.proofs.Kit.{ℕ, _≤_, _≡_, refl, sym, subst, subst⁻¹, _∙_, _⊎_, inl, inr, Bool, true, false, not, _&&_, length, eqb, eq-eqb, eqb-true, eqb-false, not-true, not-false}
+use Rattle.octets.proofs.{Truths.{never, and-is}, Walks.{by-test, by-not, by-lt}}
+use Rattle.sheet.{specs.{Head.rulesOf, Rules.{Accepted, Old, Bad, refusalOf}}, proofs.promises.Verdicts.{one-of-three, refused-old, refused-bad, refused-none, unrefused}}
+use Rattle.pdu.specs.{Table.{rowOf, serviceAt}, Pdus.serviceOf, Rules.codeOf, Read.readPdu, declared.{Service.Service, Found.{Found, the-variants.{Listed, Unknown}}, Pdu.Pdu, Parsed.Parsed}}
+use Rattle.pdu.{specs.declared.Parsed.the-variants.{Is, Refused}, proofs.promises.{Codes.{has-is, found, named, unknown}, Readings.{reading, refused-row}}}
+use Rattle.judge.specs.{declared.Decision.Decision, Decisions.refused, Session.levelIn, Modes.{reachOf, reaches, takes}, Judge.{decideOf, readOf, reachedOf, foundOf, isShut, judgeOf}}
 use Rattle.device.specs.Asked.{Asked, Takes, Names, Served, Refusal, noRoom, badSheet, oldSheet, badLength, badMode, noSession, Ready, Reads, given}
 use Rattle.device.proofs.due.Taking.{takes-is, served-is}
 

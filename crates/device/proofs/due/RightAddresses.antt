@@ -1,27 +1,16 @@
 -- The individual address, the serial number and the descriptor: what is due is what is done.
--- Assumes nothing.
-use Prim.Native.Nat.{ℕ, _≤_}
-use mathlib.Core.Path.{_≡_, refl}
-use mathlib.Core.List.{[]}
-use native.Mathlib.Omega.{arith}
-use borrow.Author.Tests.{eq-eqb, ne-eqb}
-use Rattle.octets.specs.Bytes.{bytesOf}
-use Rattle.octets.specs.Splice.{splice}
-use Rattle.sheet.specs.Layout.{_of_}
+use Rattle.octets.proofs.Kit.{ℕ, _≤_, _≡_, refl, [], arith, eq-eqb, ne-eqb}
+use Rattle.octets.{specs.{Bytes.bytesOf, Splice.splice}, proofs.Walks.by-eq}
+use Rattle.sheet.specs.{Layout._of_, Head.{rulesOf, later}}
 use Rattle.sheet.specs.Head as head
-use Rattle.sheet.specs.Head.{rulesOf, later}
-use Rattle.pdu.specs.declared.Pdu.the-variants.{IndividualAddressWrite, IndividualAddressRead, SerialNumberRead, SerialNumberWrite}
-use Rattle.pdu.specs.declared.Pdu.the-variants.{DeviceDescriptorRead, IndividualAddressResponse, SerialNumberResponse, DeviceDescriptorResponse}
-use Rattle.judge.specs.declared.Decision.{Decision}
+use Rattle.pdu.specs.declared.Pdu.the-variants.{IndividualAddressWrite, IndividualAddressRead, SerialNumberRead, SerialNumberWrite, DeviceDescriptorRead, IndividualAddressResponse}
+use Rattle.pdu.specs.declared.Pdu.the-variants.{SerialNumberResponse, DeviceDescriptorResponse}
+use Rattle.judge.specs.{declared.Decision.Decision, Addresses.{newAddress, addressWriteOf, addressReadOf, serialReadOf, serialWriteOf, descriptorOf}}
+use Rattle.judge.proofs.DescriptorCases.{descriptor-cases}
 use Rattle.judge.specs.declared.Answer.the-variants as answer
 use Rattle.judge.specs.Decisions as decisions
-use Rattle.judge.specs.Addresses.{newAddress, addressWriteOf, addressReadOf, serialReadOf, serialWriteOf, descriptorOf}
-use Rattle.octets.proofs.Walks.{by-eq}
-use Rattle.judge.proofs.DescriptorCases.{descriptor-cases}
-use Rattle.device.specs.Step.{stepBy}
-use Rattle.device.specs.Asked.{Asked, quiet, says, stores, Reads, given}
-use Rattle.device.specs.AddressesDue.{AddressesDue, Programming, addressWrite, noAddressWrite, addressRead, noAddressRead, serialRead}
-use Rattle.device.specs.AddressesDue.{noSerialRead, serialWrite, noSerialWrite, descriptor, noDescriptor, descriptorDenied}
+use Rattle.device.specs.{Step.stepBy, Asked.{Asked, quiet, says, stores, Reads, given}, AddressesDue.{AddressesDue, Programming, addressWrite, noAddressWrite, addressRead}}
+use Rattle.device.specs.AddressesDue.{noAddressRead, serialRead, noSerialRead, serialWrite, noSerialWrite, descriptor, noDescriptor, descriptorDenied}
 use Rattle.device.proofs.due.Stepped.{step, step-read}
 
 module _ (x : Asked) where

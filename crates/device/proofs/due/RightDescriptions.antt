@@ -1,27 +1,12 @@
 -- Property descriptions: what is due is what is done.
--- Assumes nothing.
-use Prim.Native.Nat.{ℕ, _<_}
-use mathlib.Core.Path.{_≡_, refl, sym, ap, _∙_}
-use mathlib.Core.List.{[]}
-use native.Mathlib.Omega.{arith}
-use Rattle.sheet.specs.Kind.{properties}
-use Rattle.sheet.specs.Layout.{_of_}
+use Rattle.octets.proofs.Kit.{ℕ, _<_, _≡_, refl, sym, ap, _∙_, [], arith}
+use Rattle.sheet.{specs.{Kind.properties, Layout._of_, Entries.{count, entry}, Lookup.rank}, proofs.rules.Good.{Good, good}}
 use Rattle.sheet.specs.Property as property
-use Rattle.sheet.specs.Entries.{count, entry}
-use Rattle.sheet.specs.Lookup.{rank}
-use Rattle.sheet.proofs.rules.Good.{Good, good}
-use Rattle.pdu.proofs.promises.Readings.{reading}
-use Rattle.pdu.specs.declared.Pdu.the-variants.{PropertyDescriptionRead, PropertyDescriptionResponse}
-use Rattle.judge.specs.declared.Decision.{Decision}
+use Rattle.pdu.{specs.declared.Pdu.the-variants.{PropertyDescriptionRead, PropertyDescriptionResponse}, proofs.promises.Readings.reading}
+use Rattle.judge.{specs.{declared.Decision.Decision, Properties.descriptionOf}, proofs.PropertyCases.{Keyed, Ranked, describes, description-cases, description-by-id, description-by-index}}
 use Rattle.judge.specs.Decisions as decisions
-use Rattle.judge.specs.Properties.{descriptionOf}
-use Rattle.judge.proofs.PropertyCases.{Keyed, Ranked, describes, description-cases, description-by-id, description-by-index}
-use Rattle.device.specs.Octets.{Octets}
-use Rattle.device.specs.Step.{Step, stepBy}
-use Rattle.device.specs.Asked.{Asked, says, Reads, given}
-use Rattle.device.specs.PropertiesDue.{PropertiesDue, Described, description, noDescription}
-use Rattle.device.proofs.due.Properly.{keyed, unkeyed, describe-id}
-use Rattle.device.proofs.due.Stepped.{step, step-read}
+use Rattle.device.specs.{Octets.Octets, Step.{Step, stepBy}, Asked.{Asked, says, Reads, given}, PropertiesDue.{PropertiesDue, Described, description, noDescription}}
+use Rattle.device.proofs.due.{Properly.{keyed, unkeyed, describe-id}, Stepped.{step, step-read}}
 
 module _ (x : Asked) (object id index : ℕ) (r : Reads x (PropertyDescriptionRead object id index)) where
   ok : Good (x .sheet)

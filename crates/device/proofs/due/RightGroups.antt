@@ -1,28 +1,13 @@
 -- Group values: what is due is what is done.
--- Assumes nothing.
-use Prim.Native.Nat.{ℕ, _≤_}
-use mathlib.Core.Path.{_≡_, refl, ap, _∙_}
-use mathlib.Core.List.{List, [], _∷_}
-use lib.ListN.{length}
-use native.Mathlib.Omega.{arith}
-use Rattle.octets.specs.Bytes.{numAt, bytesOf}
-use Rattle.octets.specs.Splice.{splice}
-use Rattle.sheet.specs.Kind.{groups}
-use Rattle.sheet.specs.Layout.{_of_}
+use Rattle.octets.proofs.Kit.{ℕ, _≤_, _≡_, refl, ap, _∙_, List, [], _∷_, length, arith}
+use Rattle.octets.specs.{Bytes.{numAt, bytesOf}, Splice.splice}
+use Rattle.sheet.{specs.{Kind.groups, Layout._of_, Entries.entry}, proofs.rules.Good.{Good, good}}
 use Rattle.sheet.specs.Group as group
-use Rattle.sheet.specs.Entries.{entry}
-use Rattle.sheet.proofs.rules.Good.{Good, good}
-use Rattle.pdu.specs.declared.Pdu.{Pdu}
-use Rattle.pdu.specs.declared.Pdu.the-variants.{GroupValueRead, GroupValueResponse}
-use Rattle.judge.specs.declared.Decision.{Decision}
+use Rattle.pdu.specs.declared.Pdu.{Pdu, the-variants.{GroupValueRead, GroupValueResponse}}
+use Rattle.judge.{specs.{declared.Decision.Decision, Session.levelIn, Groups.{groupReadOf, groupPutOf}, Judge.decideOf}, proofs.GroupCases.{Lets, group-read-cases, group-put-cases}}
+use Rattle.judge.proofs.GroupCases.{group-read-six, group-read-bytes, group-put-six, group-put-bytes, group-put-unfit, group-read-for-us, group-put-for-us}
 use Rattle.judge.specs.Decisions as decisions
-use Rattle.judge.specs.Session.{levelIn}
-use Rattle.judge.specs.Groups.{groupReadOf, groupPutOf}
-use Rattle.judge.specs.Judge.{decideOf}
-use Rattle.judge.proofs.GroupCases.{Lets, group-read-cases, group-put-cases, group-read-six, group-read-bytes, group-put-six, group-put-bytes, group-put-unfit, group-read-for-us, group-put-for-us}
-use Rattle.device.specs.Step.{stepBy}
-use Rattle.device.specs.Asked.{Asked, quiet, says, stores, Reads, given}
-use Rattle.device.specs.Asked.{part}
+use Rattle.device.specs.{Step.stepBy, Asked.{Asked, quiet, says, stores, Reads, given, part}}
 use Rattle.device.specs.GroupsDue.{GroupsDue, Group, Brings, Flag, groupRead0, groupRead, noGroupRead, groupPut0, groupPut, groupLength, noGroupPut}
 use Rattle.device.proofs.due.Stepped.{step, step-read}
 

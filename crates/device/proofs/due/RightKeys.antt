@@ -1,28 +1,14 @@
 -- Keys and restart: what is due is what is done.
--- Assumes nothing.
-use Prim.Native.Nat.{ℕ, _*_, _-_}
-use mathlib.Core.Path.{_≡_, refl, sym, ap, subst, _∙_}
-use mathlib.Core.Bool.{true, false}
-use mathlib.Core.List.{List, []}
-use native.Mathlib.Omega.{arith}
-use borrow.Author.Tests.{eq-eqb, ne-eqb}
-use Rattle.octets.specs.Bytes.{bytesOf}
-use Rattle.octets.specs.Splice.{splice}
+use Rattle.octets.proofs.Kit.{ℕ, _*_, _-_, _≡_, refl, sym, ap, subst, _∙_, true, false, List, [], arith, eq-eqb, ne-eqb}
+use Rattle.octets.specs.{Bytes.bytesOf, Splice.splice}
 use Rattle.sheet.specs.Layout.{_of_}
 use Rattle.sheet.specs.Head as head
-use Rattle.pdu.specs.Write.{encoded}
-use Rattle.pdu.specs.declared.Pdu.the-variants.{AuthorizeRequest, KeyWrite, Restart, AuthorizeResponse, KeyResponse}
-use Rattle.judge.specs.declared.Decision.{Decision}
+use Rattle.pdu.specs.{Write.encoded, declared.Pdu.the-variants.{AuthorizeRequest, KeyWrite, Restart, AuthorizeResponse, KeyResponse}}
+use Rattle.judge.{specs.{declared.Decision.Decision, Session.levelIn, Keys.{grantOf, authorizeOf, keyWriteOf, restartOf}}, proofs.KeyCases.{keyed, grant-cases, key-write-cases, key-writes}}
 use Rattle.judge.specs.Decisions as decisions
-use Rattle.judge.specs.Session.{levelIn}
-use Rattle.judge.specs.Keys.{grantOf, authorizeOf, keyWriteOf, restartOf}
-use Rattle.judge.proofs.KeyCases.{keyed, grant-cases, key-write-cases, key-writes}
-use Rattle.device.specs.Step.{Step, stepBy}
-use Rattle.device.specs.Asked.{Asked, says, saysAfter, Reads, given}
+use Rattle.device.specs.{Step.{Step, stepBy}, Asked.{Asked, says, saysAfter, Reads, given}}
 use Rattle.device.specs.KeysDue.{KeysDue, Grants, key0, key1, key2, other, KeyWritable, authorize, keyWrite, noKeyWrite, restart}
-use Rattle.device.proofs.due.Acts.{acts, acts-at}
-use Rattle.device.proofs.leaves.Flags.{verify-left}
-use Rattle.device.proofs.due.Stepped.{step, step-read}
+use Rattle.device.proofs.{due.Acts.{acts, acts-at}, leaves.Flags.verify-left, due.Stepped.{step, step-read}}
 
 -- the level that a key grants
 pub grants : (s : List ℕ) (key : ℕ) → Grants s key (grantOf s key)

@@ -1,28 +1,14 @@
 -- A read of memory: what is due is what is done.
--- Assumes nothing.
-use Prim.Native.Nat.{ℕ}
-use mathlib.Core.Path.{_≡_, refl, sym, ap, subst, _∙_}
-use mathlib.Core.List.{List, []}
-use native.Mathlib.Omega.{arith}
-use Rattle.sheet.specs.declared.Memory.{Memory}
-use Rattle.sheet.specs.declared.Memory.the-variants.{Device, User}
-use Rattle.sheet.proofs.rules.Good.{Good, good}
-use Rattle.sheet.proofs.promises.Runs.{range-hit}
+use Rattle.octets.proofs.Kit.{ℕ, _≡_, refl, sym, ap, subst, _∙_, List, [], arith}
+use Rattle.sheet.{specs.declared.Memory.{Memory, the-variants.{Device, User}}, proofs.{rules.Good.{Good, good}, promises.Runs.range-hit}}
 use Rattle.pdu.specs.declared.Pdu.{Pdu}
+use Rattle.judge.specs.{declared.Decision.Decision, Session.levelIn, Judge.decideOf, Memory.{mostBytes, responseOf, memoryReadOf}}
+use Rattle.judge.proofs.MemoryCases.{Permits, range-in, memory-read-cases, memory-reads}
 use Rattle.judge.specs.declared.Access.the-variants as access
-use Rattle.judge.specs.declared.Decision.{Decision}
 use Rattle.judge.specs.declared.Answer.the-variants as answer
 use Rattle.judge.specs.Decisions as decisions
-use Rattle.judge.specs.Session.{levelIn}
-use Rattle.judge.specs.Judge.{decideOf}
-use Rattle.judge.specs.Memory.{mostBytes, responseOf, memoryReadOf}
-use Rattle.judge.proofs.MemoryCases.{Permits, range-in, memory-read-cases, memory-reads}
-use Rattle.device.specs.Step.{stepBy}
-use Rattle.device.specs.Asked.{Asked, says, Reads, given, part}
-use Rattle.device.specs.MemoryDue.{MemoryDue, reading, response, mostOf, MemoryReadable, memoryRead, noMemoryRead}
-use Rattle.device.proofs.due.Acts.{acts, acts-at}
-use Rattle.device.proofs.due.OpenRanges.{over-read, opens, opened}
-use Rattle.device.proofs.due.Stepped.{step, step-read}
+use Rattle.device.specs.{Step.stepBy, Asked.{Asked, says, Reads, given, part}, MemoryDue.{MemoryDue, reading, response, mostOf, MemoryReadable, memoryRead, noMemoryRead}}
+use Rattle.device.proofs.due.{Acts.{acts, acts-at}, OpenRanges.{over-read, opens, opened}, Stepped.{step, step-read}}
 
 -- how judging goes about a read, and that it means the same
 pub record Look (m : Memory) : Type 0 where

@@ -1,34 +1,15 @@
 -- Property values: what is due is what is done.
--- Assumes nothing.
-use Prim.Native.Nat.{ℕ, _+_, _*_, _-_, _/_, _≤_, _<_, max}
-use mathlib.Core.Path.{_≡_, refl, sym, ap, subst, _∙_}
-use mathlib.Core.List.{List, [], _∷_}
-use lib.ListN.{length}
-use native.Mathlib.Omega.{arith}
-use Rattle.octets.specs.Bytes.{numAt, bytesOf}
-use Rattle.octets.specs.Splice.{splice}
-use Rattle.sheet.specs.Kind.{properties}
-use Rattle.sheet.specs.Layout.{_of_}
+use Rattle.octets.proofs.Kit.{ℕ, _+_, _*_, _-_, _/_, _≤_, _<_, max, _≡_, refl, sym, ap, subst, _∙_, List, [], _∷_, length, arith}
+use Rattle.octets.specs.{Bytes.{numAt, bytesOf}, Splice.splice}
+use Rattle.sheet.{specs.{Kind.properties, Layout._of_, Entries.{count, place, entry}}, proofs.rules.Good.{Good, good}}
 use Rattle.sheet.specs.Property as property
-use Rattle.sheet.specs.Entries.{count, place, entry}
-use Rattle.sheet.proofs.rules.Good.{Good, good}
-use Rattle.pdu.proofs.promises.Readings.{reading}
-use Rattle.pdu.specs.declared.Pdu.the-variants.{PropertyValueRead, PropertyValueWrite, PropertyValueResponse}
-use Rattle.judge.specs.declared.Decision.{Decision}
-use Rattle.judge.specs.Session.{levelIn}
-use Rattle.judge.specs.Properties.{noValue, propertyReadOf, propertyWriteOf}
-use Rattle.judge.proofs.PropertyCases.{Keyed, Among, Free, runIn, property-read-cases, property-write-cases, property-read-count, property-read-elements, property-write-clear, property-write-elements}
-use Rattle.device.specs.Octets.{Octets}
-use Rattle.device.specs.Carry.{storeOf}
-use Rattle.device.specs.Step.{Step, stepBy}
-use Rattle.device.specs.Asked.{Asked, says, saysAfter, Reads, given}
-use Rattle.device.specs.Asked.{part}
-use Rattle.device.specs.PropertiesDue.{PropertiesDue, Elements, elementAt, zeroed, Readable, ReadAllowed, Writable, WriteAllowed}
-use Rattle.device.specs.PropertiesDue.{propertyCount, propertyRead, noPropertyRead, propertyClear, propertyWrite, noPropertyWrite}
-use Rattle.device.proofs.leaves.Accepted.{counted-within}
-use Rattle.device.proofs.due.Acts.{acts, acts-at}
-use Rattle.device.proofs.leaves.Jumps.{zeros-and-data}
-use Rattle.device.proofs.due.Properly.{keyed, unkeyed, read-id, write-id, two-zeros}
+use Rattle.pdu.{specs.declared.Pdu.the-variants.{PropertyValueRead, PropertyValueWrite, PropertyValueResponse}, proofs.promises.Readings.reading}
+use Rattle.judge.{specs.{declared.Decision.Decision, Session.levelIn, Properties.{noValue, propertyReadOf, propertyWriteOf}}, proofs.PropertyCases.{Keyed, Among, Free, runIn}}
+use Rattle.judge.proofs.PropertyCases.{property-read-cases, property-write-cases, property-read-count, property-read-elements, property-write-clear, property-write-elements}
+use Rattle.device.specs.{Octets.Octets, Carry.storeOf, Step.{Step, stepBy}, Asked.{Asked, says, saysAfter, Reads, given, part}, PropertiesDue.{PropertiesDue, Elements, elementAt}}
+use Rattle.device.specs.PropertiesDue.{zeroed, Readable, ReadAllowed, Writable, WriteAllowed, propertyCount, propertyRead, noPropertyRead, propertyClear, propertyWrite}
+use Rattle.device.specs.PropertiesDue.{noPropertyWrite}
+use Rattle.device.proofs.{leaves.Accepted.counted-within, due.Acts.{acts, acts-at}, leaves.Jumps.zeros-and-data, due.Properly.{keyed, unkeyed, read-id, write-id, two-zeros}}
 use Rattle.device.proofs.due.Stepped.{step, step-read}
 
 among : {m n s : ℕ} → Elements m n s → Among n s m

@@ -1,17 +1,8 @@
 -- In an arm of a match the run is known: what holds of its constructor holds of it.
--- Assumes nothing.
-use mathlib.Core.Path.{_≡_, subst, sym, ap, _∙_}
-use mathlib.Core.List.{List}
-use lib.ListN.{length}
-use native.Mathlib.Omega.{arith}
-use Prim.Native.Nat.{ℕ, _+_, _≤_, _<_}
+use Rattle.octets.proofs.Kit.{_≡_, subst, sym, ap, _∙_, List, length, arith, ℕ, _+_, _≤_, _<_}
 use Rattle.judge.specs.declared.Store.{Store}
 use Rattle.judge.specs.declared.Store.the-variants as store
-use Rattle.device.specs.Carry.{storeOf}
-use Rattle.device.specs.Safe.{StoreSafe, Narrow}
-use Rattle.device.specs.Changed.{partOf}
-use Rattle.device.specs.declared.Changed.{Changed}
-use Rattle.device.specs.declared.Run.{Run}
+use Rattle.device.specs.{Carry.storeOf, Safe.{StoreSafe, Narrow}, Changed.partOf, declared.{Changed.Changed, Run.Run}}
 use Rattle.device.proofs.leaves.Stores.{length-padded, length-store}
 
 pub via-safe : (s d : List ℕ) (r q : Store) → StoreSafe s d r → r ≡ q → StoreSafe s d q

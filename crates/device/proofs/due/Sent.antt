@@ -1,26 +1,10 @@
 -- What writing an answer gives, where its row allows it: its PDU first, and its data behind it.
--- Assumes nothing.
-use Prim.Native.Nat.{ℕ, _+_, _-_, _≤_}
-use mathlib.Core.Path.{_≡_, refl, ap, sym, subst, _∙_}
-use mathlib.Core.Bool.{Bool, true, false}
-use mathlib.Core.List.{List, [], _++_, append-nil}
-use native.Mathlib.Omega.{arith}
-use native.Mathlib.Nat.{add-sub-cancel-left}
-use lib.ListN.{length, take, drop}
-use Rattle.octets.specs.Bytes.{bytesOf}
-use Rattle.octets.specs.Splice.{splice}
-use Rattle.octets.proofs.Numbers.{length-bytes}
-use Rattle.octets.proofs.Splices.{splice-none}
-use Rattle.octets.proofs.Truths.{never}
-use Rattle.pdu.specs.Read.{dataAt}
-use Rattle.pdu.specs.Write.{encoded}
-use Rattle.pdu.proofs.Stores.{longer}
-use Rattle.pdu.proofs.promises.Writing.{length-encoded, has-room, same-room}
-use Rattle.pdu.specs.declared.Pdu.{Pdu}
+use Rattle.octets.proofs.Kit.{ℕ, _+_, _-_, _≤_, _≡_, refl, ap, sym, subst, _∙_, Bool, true, false, List, [], _++_, append-nil, arith, add-sub-cancel-left, length, take, drop}
+use Rattle.octets.{specs.{Bytes.bytesOf, Splice.splice}, proofs.{Numbers.length-bytes, Splices.splice-none, Truths.never}}
+use Rattle.pdu.{specs.{Read.dataAt, Write.encoded, declared.Pdu.Pdu}, proofs.{Stores.longer, promises.Writing.{length-encoded, has-room, same-room}}}
 use Rattle.judge.specs.declared.Answer.{Answer}
 use Rattle.judge.specs.declared.Answer.the-variants as answer
-use Rattle.device.specs.Carry.{Filled, answerOf}
-use Rattle.device.specs.Safe.{AnswerSafe, Roomy, isSilent, pduIn, dataBehind, Behind}
+use Rattle.device.specs.{Carry.{Filled, answerOf}, Safe.{AnswerSafe, Roomy, isSilent, pduIn, dataBehind, Behind}}
 
 -- in an arm the answer is known
 pub via-pdu : (a q : Answer) (p : Pdu) → a ≡ q → p ≡ pduIn q → p ≡ pduIn a

@@ -1,44 +1,20 @@
 -- The shapes of a decision: refused, denied, answered, done, a restart.
--- Assumes nothing.
-use Prim.Native.Nat.{ℕ, _≤_}
-use mathlib.Core.Path.{_≡_, refl}
-use mathlib.Core.Logic.{inl, inr}
-use mathlib.Core.Bool.{false}
-use mathlib.Core.List.{List}
-use lib.ListN.{length}
-use native.Mathlib.Omega.{arith}
-use Rattle.sheet.specs.Layout.{_of_}
-use Rattle.sheet.specs.Head as head
-use Rattle.pdu.specs.Read.{readPdu}
-use Rattle.pdu.specs.declared.Pdu.{Pdu}
-use Rattle.pdu.specs.declared.Pdu.the-variants.{GroupValueRead, GroupValueResponse, GroupValueWrite, IndividualAddressWrite, IndividualAddressRead, SerialNumberRead, SerialNumberWrite}
-use Rattle.pdu.specs.declared.Pdu.the-variants.{DeviceDescriptorRead, PropertyValueRead, PropertyValueWrite, PropertyDescriptionRead, MemoryRead, MemoryWrite, MemoryBitWrite}
-use Rattle.pdu.specs.declared.Pdu.the-variants.{AuthorizeRequest, KeyWrite, Restart, IndividualAddressResponse, SerialNumberResponse, DeviceDescriptorResponse, PropertyValueResponse}
-use Rattle.pdu.specs.declared.Pdu.the-variants.{PropertyDescriptionResponse, MemoryResponse, AuthorizeResponse, KeyResponse, UserMemoryRead, UserMemoryResponse, UserMemoryWrite}
-use Rattle.pdu.specs.declared.Parsed.the-variants.{Is}
-use Rattle.judge.specs.declared.Store.{Store}
-use Rattle.sheet.specs.declared.Memory.the-variants.{Device, User}
-use Rattle.judge.specs.declared.Access.the-variants.{Write, Change}
-use Rattle.judge.specs.declared.Store.the-variants as store
-use Rattle.judge.specs.declared.Turn.{Turn}
-use Rattle.judge.specs.declared.Turn.the-variants.{Stays, Closes}
-use Rattle.judge.specs.declared.Answer.{Answer}
-use Rattle.judge.specs.declared.Answer.the-variants as answer
-use Rattle.judge.specs.declared.Decision.{Decision}
-use Rattle.judge.specs.Decisions.{decision, refused, denied}
-use Rattle.judge.specs.Addresses.{addressWriteOf, addressReadOf, serialReadOf, serialWriteOf, descriptorOf}
-use Rattle.judge.specs.Memory.{memoryWriteOf, bitWriteOf}
-use Rattle.judge.specs.Keys.{authorizeOf, restartOf}
-use Rattle.judge.specs.Judge.{decideOf, judgeOf}
+use Rattle.octets.proofs.Kit.{ℕ, _≤_, _≡_, refl, inl, inr, false, List, length, arith}
 use Rattle.octets.proofs.Walks.{by-eq}
-use Rattle.judge.proofs.GroupCases.{group-read-cases, group-put-cases}
-use Rattle.judge.proofs.DescriptorCases.{descriptor-cases}
-use Rattle.judge.proofs.PropertyCases.{property-read-cases, property-write-cases, description-cases}
-use Rattle.judge.proofs.MemoryCases.{memory-read-cases, change-cases}
-use Rattle.judge.proofs.KeyCases.{key-write-cases}
-use Rattle.device.specs.Carry.{closes}
-use Rattle.device.specs.Asked.{Asked, Refusal, noRoom, badSheet, oldSheet, badLength, badMode, noSession}
-use Rattle.device.specs.Demand1.{OneOf}
+use Rattle.sheet.specs.{Layout._of_, declared.Memory.the-variants.{Device, User}}
+use Rattle.sheet.specs.Head as head
+use Rattle.pdu.specs.{Read.readPdu, declared.Pdu.{Pdu, the-variants.{GroupValueRead, GroupValueResponse, GroupValueWrite, IndividualAddressWrite, IndividualAddressRead, SerialNumberRead}}}
+use Rattle.pdu.specs.declared.Pdu.the-variants.{SerialNumberWrite, DeviceDescriptorRead, PropertyValueRead, PropertyValueWrite, PropertyDescriptionRead, MemoryRead, MemoryWrite}
+use Rattle.pdu.specs.declared.Pdu.the-variants.{MemoryBitWrite, AuthorizeRequest, KeyWrite, Restart, IndividualAddressResponse, SerialNumberResponse, DeviceDescriptorResponse}
+use Rattle.pdu.specs.declared.Pdu.the-variants.{PropertyValueResponse, PropertyDescriptionResponse, MemoryResponse, AuthorizeResponse, KeyResponse, UserMemoryRead, UserMemoryResponse}
+use Rattle.pdu.specs.declared.{Pdu.the-variants.UserMemoryWrite, Parsed.the-variants.Is}
+use Rattle.judge.specs.declared.{Store.Store, Access.the-variants.{Write, Change}, Turn.{Turn, the-variants.{Stays, Closes}}, Answer.Answer, Decision.Decision}
+use Rattle.judge.specs.{Decisions.{decision, refused, denied}, Addresses.{addressWriteOf, addressReadOf, serialReadOf, serialWriteOf, descriptorOf}, Memory.{memoryWriteOf, bitWriteOf}}
+use Rattle.judge.{specs.{Keys.{authorizeOf, restartOf}, Judge.{decideOf, judgeOf}}, proofs.{GroupCases.{group-read-cases, group-put-cases}, DescriptorCases.descriptor-cases}}
+use Rattle.judge.proofs.{PropertyCases.{property-read-cases, property-write-cases, description-cases}, MemoryCases.{memory-read-cases, change-cases}, KeyCases.key-write-cases}
+use Rattle.judge.specs.declared.Store.the-variants as store
+use Rattle.judge.specs.declared.Answer.the-variants as answer
+use Rattle.device.specs.{Carry.closes, Asked.{Asked, Refusal, noRoom, badSheet, oldSheet, badLength, badMode, noSession}, Demand1.OneOf}
 use Rattle.device.specs.Replies.{Negative, ofRead, ofWrite, ofDescription, ofMemoryRead, ofMemoryWrite, ofUserRead, ofUserWrite, ofBitWrite, ofDescriptor, ofKeyWrite}
 use Rattle.device.proofs.due.RequestCases.{request-cases}
 

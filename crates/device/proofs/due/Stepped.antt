@@ -1,38 +1,15 @@
 -- The step of a request, from what is known before its service decides.
--- Assumes nothing.
-use Prim.Native.Nat.{ℕ}
-use mathlib.Core.Path.{_≡_, refl, sym, ap, ap₂, _∙_}
-use mathlib.Core.Logic.{inl, inr}
-use mathlib.Core.Bool.{Bool, true, false, not, _&&_}
-use mathlib.Core.List.{List}
-use lib.ListN.{length}
-use lib.Dec.{eqb}
-use native.Mathlib.Omega.{arith}
-use borrow.Author.Tests.{lt-ltb, le-ltb, eq-eqb, ne-eqb, eqb-true}
+use Rattle.octets.proofs.Kit.{ℕ, _≡_, refl, sym, ap, ap₂, _∙_, inl, inr, Bool, true, false, not, _&&_, List, length, eqb, arith, lt-ltb, le-ltb, eq-eqb, eqb-true}
 use Rattle.octets.proofs.Truths.{must-fail}
-use Rattle.sheet.specs.Head.{rulesOf}
-use Rattle.sheet.specs.Rules.{verdictOf}
-use Rattle.pdu.specs.Table.{serviceAt}
-use Rattle.pdu.specs.Pdus.{serviceOf}
-use Rattle.pdu.specs.Rules.{codeOf}
-use Rattle.pdu.specs.Read.{readPdu}
-use Rattle.pdu.proofs.promises.Readings.{reading}
-use Rattle.pdu.specs.declared.Service.{Service}
-use Rattle.pdu.specs.declared.Found.{Found}
-use Rattle.pdu.specs.declared.Found.the-variants.{Listed, Unknown}
-use Rattle.pdu.specs.declared.Pdu.{Pdu}
-use Rattle.pdu.specs.declared.Parsed.{Parsed}
-use Rattle.pdu.specs.declared.Parsed.the-variants.{Refused}
-use Rattle.judge.specs.declared.Decision.{Decision}
-use Rattle.judge.specs.Decisions as decisions
-use Rattle.judge.specs.Session.{levelIn}
-use Rattle.judge.specs.Modes.{reachOf, reaches, takes}
-use Rattle.judge.specs.Judge.{decideOf, readOf, reachedOf, foundOf, isShut, judgeOf, dataIn}
+use Rattle.sheet.specs.{Head.rulesOf, Rules.verdictOf}
+use Rattle.pdu.specs.{Table.serviceAt, Pdus.serviceOf, Rules.codeOf, Read.readPdu, declared.{Service.Service, Found.{Found, the-variants.{Listed, Unknown}}, Pdu.Pdu, Parsed.Parsed}}
+use Rattle.pdu.{specs.declared.Parsed.the-variants.Refused, proofs.promises.Readings.reading}
+use Rattle.judge.specs.{declared.Decision.Decision, Session.levelIn, Modes.{reachOf, reaches, takes}, Judge.{decideOf, readOf, reachedOf, foundOf, isShut, judgeOf, dataIn}}
 use Rattle.judge.proofs.SheetCases.{old-refused, bad-refused}
+use Rattle.judge.specs.Decisions as decisions
 use Rattle.device.specs.Step.{Step, stepBy, stepOf}
 use Rattle.device.specs.Asked.{Asked, quiet, Takes, Names, Served, Refusal, noRoom, badSheet, oldSheet, badLength, badMode, noSession, Ready, Reads, given}
-use Rattle.device.proofs.due.Taking.{takes-is, served-is}
-use Rattle.device.proofs.due.RequestCases.{names-found, found-names}
+use Rattle.device.proofs.due.{Taking.{takes-is, served-is}, RequestCases.{names-found, found-names}}
 
 module _ (x : Asked) where
   abbrev rules : ℕ

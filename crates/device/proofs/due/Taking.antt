@@ -1,25 +1,14 @@
 -- Which mode takes which service: the test and the proposition.
--- Assumes nothing.
-use Prim.Native.Nat.{ℕ, zero, suc, _≤_}
-use mathlib.Core.Path.{_≡_, refl, sym, subst}
-use mathlib.Core.Logic.{_↔_, _⊎_, inl, inr, ⊎-elim}
-use mathlib.Core.Bool.{Bool, true, false, cond, _||_}
-use mathlib.Core.List.{List, [], _∷_}
-use mathlib.Core.Option.{some}
-use native.Mathlib.Omega.{arith}
-use lib.Dec.{eqb}
-use lib.ListN.{getElem?}
-use borrow.Author.Tests.{eq-eqb, eqb-true}
+use Rattle.octets.proofs.Kit.{ℕ, zero, suc, _≤_, _≡_, refl, sym, subst, _↔_, _⊎_, inl, inr, ⊎-elim, Bool, true, false, cond, _||_, List, [], _∷_, some, arith, eqb, getElem?, eq-eqb}
+use Rattle.octets.proofs.Kit.{eqb-true}
 use Rattle.octets.proofs.Truths.{never, or-is, equal-is}
 use Rattle.sheet.specs.Head.{later}
-use Rattle.pdu.specs.declared.Service.{Service}
-use Rattle.pdu.specs.declared.Service.the-variants.{GroupValueRead, GroupValueResponse, GroupValueWrite, IndividualAddressWrite, IndividualAddressRead, SerialNumberRead, SerialNumberWrite}
-use Rattle.pdu.specs.declared.Service.the-variants.{DeviceDescriptorRead, PropertyValueRead, PropertyValueWrite, PropertyDescriptionRead, MemoryRead, MemoryWrite, MemoryBitWrite}
-use Rattle.pdu.specs.declared.Service.the-variants.{AuthorizeRequest, KeyWrite, Restart, IndividualAddressResponse, SerialNumberResponse, DeviceDescriptorResponse, PropertyValueResponse}
-use Rattle.pdu.specs.declared.Service.the-variants.{PropertyDescriptionResponse, MemoryResponse, AuthorizeResponse, KeyResponse, UserMemoryRead, UserMemoryResponse, UserMemoryWrite}
-use Rattle.judge.specs.Modes.{reachOf, reaches, takes}
-use Rattle.judge.specs.declared.Reach.{Reach}
-use Rattle.judge.specs.declared.Reach.the-variants.{Multicast, Broadcast, PointToPoint, Connected, Never}
+use Rattle.pdu.specs.declared.Service.{Service, the-variants.{GroupValueRead, GroupValueResponse, GroupValueWrite, IndividualAddressWrite, IndividualAddressRead, SerialNumberRead}}
+use Rattle.pdu.specs.declared.Service.the-variants.{SerialNumberWrite, DeviceDescriptorRead, PropertyValueRead, PropertyValueWrite, PropertyDescriptionRead, MemoryRead, MemoryWrite}
+use Rattle.pdu.specs.declared.Service.the-variants.{MemoryBitWrite, AuthorizeRequest, KeyWrite, Restart, IndividualAddressResponse, SerialNumberResponse, DeviceDescriptorResponse}
+use Rattle.pdu.specs.declared.Service.the-variants.{PropertyValueResponse, PropertyDescriptionResponse, MemoryResponse, AuthorizeResponse, KeyResponse, UserMemoryRead, UserMemoryResponse}
+use Rattle.pdu.specs.declared.Service.the-variants.{UserMemoryWrite}
+use Rattle.judge.specs.{Modes.{reachOf, reaches, takes}, declared.Reach.{Reach, the-variants.{Multicast, Broadcast, PointToPoint, Connected, Never}}}
 use Rattle.device.specs.Asked.{Among, Takes, toGroup, toAll, toOne, onConnection, restarting, Served}
 
 -- two modes

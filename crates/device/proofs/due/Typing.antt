@@ -1,49 +1,24 @@
 -- The fields of the device's answers fit their places.
--- Assumes nothing.
-use Prim.Native.Nat.{ℕ, _≤_, _<_}
-use mathlib.Core.Path.{_≡_}
-use mathlib.Core.List.{List}
-use lib.ListN.{length}
-use native.Mathlib.Omega.{arith}
-use Rattle.sheet.specs.Kind.{properties}
-use Rattle.sheet.specs.Layout.{_of_}
+use Rattle.octets.proofs.Kit.{ℕ, _≤_, _<_, _≡_, List, length, arith}
+use Rattle.octets.proofs.Walks.{by-eq}
+use Rattle.sheet.{specs.{Kind.properties, Layout._of_, Entries.{count, entry}, declared.Memory.the-variants.{Device, User}}, proofs.{rules.Good.{Good, good}, searches.RankBound.rank-bound}}
 use Rattle.sheet.specs.Property as property
 use Rattle.sheet.specs.Head as head
-use Rattle.sheet.specs.Entries.{count, entry}
-use Rattle.sheet.proofs.rules.Good.{Good, good}
-use Rattle.sheet.proofs.searches.RankBound.{rank-bound}
-use Rattle.pdu.specs.Table.{rowOf}
-use Rattle.pdu.specs.Pdus.{serviceOf, valuesOf}
-use Rattle.pdu.specs.Read.{readPdu}
-use Rattle.pdu.specs.Allows.{Typed}
-use Rattle.pdu.proofs.promises.Allowed.{wide}
+use Rattle.pdu.specs.{Table.rowOf, Pdus.{serviceOf, valuesOf}, Read.readPdu, Allows.Typed, declared.Pdu.{Pdu, the-variants.{GroupValueRead, GroupValueResponse, GroupValueWrite}}}
+use Rattle.pdu.specs.declared.Pdu.the-variants.{IndividualAddressWrite, IndividualAddressRead, SerialNumberRead, SerialNumberWrite, DeviceDescriptorRead, PropertyValueRead}
+use Rattle.pdu.specs.declared.Pdu.the-variants.{PropertyValueWrite, PropertyDescriptionRead, MemoryRead, MemoryWrite, MemoryBitWrite, AuthorizeRequest, KeyWrite, Restart}
+use Rattle.pdu.specs.declared.Pdu.the-variants.{IndividualAddressResponse, SerialNumberResponse, DeviceDescriptorResponse, PropertyValueResponse, PropertyDescriptionResponse, MemoryResponse}
+use Rattle.pdu.{specs.declared.{Pdu.the-variants.{AuthorizeResponse, KeyResponse, UserMemoryRead, UserMemoryResponse, UserMemoryWrite}, Parsed.the-variants.Is}, proofs.promises.Allowed.wide}
 use Rattle.pdu.proofs.promises.Outcomes.{read-carries}
-use Rattle.pdu.specs.declared.Pdu.{Pdu}
-use Rattle.pdu.specs.declared.Pdu.the-variants.{GroupValueRead, GroupValueResponse, GroupValueWrite, IndividualAddressWrite, IndividualAddressRead, SerialNumberRead, SerialNumberWrite}
-use Rattle.pdu.specs.declared.Pdu.the-variants.{DeviceDescriptorRead, PropertyValueRead, PropertyValueWrite, PropertyDescriptionRead, MemoryRead, MemoryWrite, MemoryBitWrite}
-use Rattle.pdu.specs.declared.Pdu.the-variants.{AuthorizeRequest, KeyWrite, Restart, IndividualAddressResponse, SerialNumberResponse, DeviceDescriptorResponse, PropertyValueResponse}
-use Rattle.pdu.specs.declared.Pdu.the-variants.{PropertyDescriptionResponse, MemoryResponse, AuthorizeResponse, KeyResponse, UserMemoryRead, UserMemoryResponse, UserMemoryWrite}
-use Rattle.pdu.specs.declared.Parsed.the-variants.{Is}
-use Rattle.judge.specs.declared.Answer.{Answer}
-use Rattle.judge.specs.declared.Answer.the-variants as answer
-use Rattle.judge.specs.declared.Decision.{Decision}
-use Rattle.judge.specs.Addresses.{addressWriteOf, addressReadOf, serialReadOf, serialWriteOf, descriptorOf}
-use Rattle.sheet.specs.declared.Memory.the-variants.{Device, User}
-use Rattle.judge.specs.declared.Access.the-variants.{Write, Change}
-use Rattle.judge.specs.declared.Store.the-variants as store
-use Rattle.judge.specs.Memory.{memoryWriteOf, bitWriteOf}
-use Rattle.judge.specs.Keys.{grantOf, authorizeOf, restartOf}
-use Rattle.judge.specs.Judge.{decideOf, judgeOf}
-use Rattle.octets.proofs.Walks.{by-eq}
-use Rattle.judge.proofs.GroupCases.{group-read-cases, group-put-cases}
-use Rattle.judge.proofs.DescriptorCases.{descriptor-cases}
-use Rattle.judge.proofs.PropertyCases.{describes, property-read-cases, property-write-cases, description-cases}
-use Rattle.judge.proofs.MemoryCases.{memory-read-cases, change-cases}
+use Rattle.judge.specs.{declared.{Answer.Answer, Decision.Decision}, Addresses.{addressWriteOf, addressReadOf, serialReadOf, serialWriteOf, descriptorOf}}
+use Rattle.judge.specs.{declared.Access.the-variants.{Write, Change}, Memory.{memoryWriteOf, bitWriteOf}, Keys.{grantOf, authorizeOf, restartOf}, Judge.{decideOf, judgeOf}}
+use Rattle.judge.proofs.{GroupCases.{group-read-cases, group-put-cases}, DescriptorCases.descriptor-cases}
+use Rattle.judge.proofs.{PropertyCases.{describes, property-read-cases, property-write-cases, description-cases}, MemoryCases.{memory-read-cases, change-cases}}
 use Rattle.judge.proofs.KeyCases.{grant-cases, key-write-cases}
-use Rattle.device.specs.Octets.{Octets}
-use Rattle.device.specs.Asked.{Asked}
-use Rattle.device.proofs.due.RequestCases.{request-cases}
-use Rattle.device.proofs.due.Properly.{entry-byte}
+use Rattle.judge.specs.declared.Answer.the-variants as answer
+use Rattle.judge.specs.declared.Store.the-variants as store
+use Rattle.device.specs.{Octets.Octets, Asked.Asked}
+use Rattle.device.proofs.due.{RequestCases.request-cases, Properly.entry-byte}
 
 abbrev pub AnswerTyped : Answer → Type 0
 AnswerTyped answer.Silence = Unit {0}

@@ -1,21 +1,10 @@
 -- A request that is carried out, and one that comes after it, were ready and read.
--- Assumes nothing.
-use Prim.Native.Nat.{ℕ, _≤_}
-use mathlib.Core.Path.{_≡_, subst}
-use native.Mathlib.Omega.{arith}
-use Rattle.sheet.specs.Rules.{Accepted}
-use Rattle.sheet.proofs.promises.Agrees.{both-or-neither}
-use Rattle.pdu.specs.Read.{readPdu}
-use Rattle.pdu.proofs.promises.Readings.{reading}
-use Rattle.pdu.specs.declared.Pdu.{Pdu}
-use Rattle.pdu.specs.declared.Parsed.the-variants.{Is}
+use Rattle.octets.proofs.Kit.{ℕ, _≤_, _≡_, subst, arith}
+use Rattle.sheet.{specs.Rules.Accepted, proofs.promises.Agrees.both-or-neither}
+use Rattle.pdu.{specs.{Read.readPdu, declared.{Pdu.Pdu, Parsed.the-variants.Is}}, proofs.promises.Readings.reading}
 use Rattle.judge.specs.declared.Decision.{Decision}
-use Rattle.device.specs.Step.{stepBy, stepOf}
-use Rattle.device.specs.Asked.{Asked, Refusal, noRoom, badSheet, oldSheet, badLength, badMode, noSession, Reads}
-use Rattle.device.specs.Demand2.{done}
-use Rattle.device.specs.Next.{Next}
-use Rattle.device.proofs.due.RequestCases.{request-cases}
-use Rattle.device.proofs.leaves.Stays.{request-agrees}
+use Rattle.device.specs.{Step.{stepBy, stepOf}, Asked.{Asked, Refusal, noRoom, badSheet, oldSheet, badLength, badMode, noSession, Reads}, Demand2.done, Next.Next}
+use Rattle.device.proofs.{due.RequestCases.request-cases, leaves.Stays.request-agrees}
 
 -- a refusal before the service gives 3 or more
 pub late : {x : Asked} {n : ℕ} → Refusal x n → 3 ≤ n

@@ -1,24 +1,12 @@
 -- What the device relies on in an accepted sheet: where bodies and entries end, and the numbers that an answer shows.
--- Assumes nothing.
-use Prim.Native.Nat.{ℕ, _+_, _*_, _-_, _≤_, _<_}
-use mathlib.Core.Path.{_≡_}
-use mathlib.Core.List.{List}
-use lib.ListN.{length}
-use native.Mathlib.Nat.{mul-le-mul-right}
-use native.Mathlib.Omega.{arith}
+use Rattle.octets.proofs.Kit.{ℕ, _+_, _*_, _-_, _≤_, _<_, _≡_, List, length, mul-le-mul-right, arith}
 use Rattle.octets.specs.Bytes.{numAt}
+use Rattle.sheet.{specs.{Kind.{properties, groups}, Layout._of_, Entries.{count, place, entry, bodyAt, bodyEnd}, Rules.{entryDemands, bodyDemands}}, proofs.rules.Good.Good}
+use Rattle.sheet.proofs.{places.{BodyPlaces.within, Standing.place-in}, rules.PlainRows.six-to}
 use Rattle.sheet.specs.Head as head
-use Rattle.sheet.specs.Kind.{properties, groups}
-use Rattle.sheet.specs.Layout.{_of_}
 use Rattle.sheet.specs.Region as region
 use Rattle.sheet.specs.Property as property
 use Rattle.sheet.specs.Group as group
-use Rattle.sheet.specs.Entries.{count, place, entry, bodyAt, bodyEnd}
-use Rattle.sheet.specs.Rules.{entryDemands, bodyDemands}
-use Rattle.sheet.proofs.rules.Good.{Good}
-use Rattle.sheet.proofs.places.BodyPlaces.{within}
-use Rattle.sheet.proofs.places.Standing.{place-in}
-use Rattle.sheet.proofs.rules.PlainRows.{six-to}
 
 module _ {s : List ℕ} (ok : Good s) where
   pub long : head.size ≤ length s

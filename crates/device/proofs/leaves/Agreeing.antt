@@ -1,24 +1,10 @@
 -- The stores of the device agree with an accepted sheet on what the rules read.
--- Assumes nothing.
-use Prim.Native.Nat.{ℕ, _+_, _*_, _-_, _≤_, _<_, max}
-use mathlib.Core.Path.{_≡_, refl, subst}
-use mathlib.Core.List.{List}
-use lib.ListN.{length, getD}
-use native.Mathlib.Nat.{mul-le-mul-right}
-use native.Mathlib.Omega.{arith}
-use Rattle.octets.specs.Bytes.{bytesOf}
-use Rattle.octets.specs.Splice.{splice}
-use Rattle.sheet.specs.Kind.{properties, groups}
-use Rattle.sheet.specs.Layout.{_of_}
+use Rattle.octets.proofs.Kit.{ℕ, _+_, _*_, _-_, _≤_, _<_, max, _≡_, refl, subst, List, length, getD, mul-le-mul-right, arith}
+use Rattle.octets.specs.{Bytes.bytesOf, Splice.splice}
+use Rattle.sheet.{specs.{Kind.{properties, groups}, Layout._of_, Entries.{count, place, entry, bodyAt, bodyEnd}, Agree.Agree}, proofs.rules.Good.{Good, accepted}}
+use Rattle.sheet.proofs.{alike.Sames.{count-same, place-same, property-same}, promises.{Agrees.{agree-trans, kept}, Stores.body-store, Counts.count-store}}
 use Rattle.sheet.specs.Property as property
 use Rattle.sheet.specs.Group as group
-use Rattle.sheet.specs.Entries.{count, place, entry, bodyAt, bodyEnd}
-use Rattle.sheet.specs.Agree.{Agree}
-use Rattle.sheet.proofs.rules.Good.{Good, accepted}
-use Rattle.sheet.proofs.alike.Sames.{count-same, place-same, property-same}
-use Rattle.sheet.proofs.promises.Agrees.{agree-trans, kept}
-use Rattle.sheet.proofs.promises.Stores.{body-store}
-use Rattle.sheet.proofs.promises.Counts.{count-store}
 use Rattle.judge.proofs.PropertyCases.{Among}
 
 -- a sheet agrees with itself

@@ -1,35 +1,13 @@
 -- What was stored is read back where it was stored: elements and count of a property, and memory.
--- Assumes nothing.
-use Prim.Native.Nat.{ℕ, _+_, _*_, _-_, _≤_, _<_}
-use mathlib.Core.Path.{_≡_, refl, sym, ap, _∙_}
-use mathlib.Core.List.{List}
-use lib.ListN.{length, getD, take, drop, replicate, length-take, length-drop, length-replicate}
-use lib.Seq.{getD-take, getD-drop, ext-getD}
-use native.Mathlib.Omega.{arith}
-use Rattle.octets.specs.Bytes.{bytesOf}
-use Rattle.octets.specs.Splice.{splice}
-use Rattle.octets.proofs.Numbers.{length-bytes, bytes-zero}
-use Rattle.octets.proofs.Splices.{length-splice, splice-above}
-use Rattle.sheet.specs.Kind.{properties}
-use Rattle.sheet.specs.Layout.{_of_}
-use Rattle.sheet.specs.Property as property
-use Rattle.sheet.specs.Entries.{count, place, entry, keyOf, bodyAt}
-use Rattle.sheet.specs.Agree.{Agree}
-use Rattle.sheet.proofs.rules.Good.{Good, accepted}
-use Rattle.sheet.proofs.promises.Keys.{key-once}
-use Rattle.sheet.proofs.places.BodyPlaces.{after-contents}
-use Rattle.sheet.proofs.places.Standing.{place-in}
-use Rattle.sheet.proofs.promises.Agrees.{kept}
-use Rattle.sheet.proofs.alike.Sames.{count-same, place-same, property-same}
-use Rattle.sheet.proofs.promises.Counts.{count-now}
+use Rattle.octets.proofs.Kit.{ℕ, _+_, _*_, _-_, _≤_, _<_, _≡_, refl, sym, ap, _∙_, List, length, take, drop, replicate, length-replicate, arith}
+use Rattle.octets.{specs.{Bytes.bytesOf, Splice.splice}, proofs.{Numbers.{length-bytes, bytes-zero}, Splices.{length-splice, splice-above}}}
+use Rattle.sheet.{specs.{Kind.properties, Layout._of_, Entries.{count, place, entry, keyOf, bodyAt}, Agree.Agree}, proofs.{rules.Good.{Good, accepted}, promises.Keys.key-once}}
+use Rattle.sheet.proofs.{places.{BodyPlaces.after-contents, Standing.place-in}, promises.Agrees.kept, alike.Sames.{count-same, place-same, property-same}, promises.Counts.count-now}
 use Rattle.sheet.proofs.alike.Buts.{part-same}
-use Rattle.judge.specs.Properties.{jumped}
-use Rattle.judge.proofs.PropertyCases.{Keyed, Among, runIn}
+use Rattle.sheet.specs.Property as property
+use Rattle.judge.{specs.Properties.jumped, proofs.PropertyCases.{Keyed, Among, runIn}}
 use Rattle.device.specs.Carry.{storeOf}
-use Rattle.device.proofs.leaves.Accepted.{count-below, elements-within, counted-within}
-use Rattle.device.proofs.leaves.Jumps.{whole, length-run, zeros-and-data}
-use Rattle.device.proofs.leaves.Stores.{stored-back}
-use Rattle.device.proofs.leaves.Agreeing.{elements-keep}
+use Rattle.device.proofs.leaves.{Accepted.{count-below, elements-within, counted-within}, Jumps.{whole, length-run, zeros-and-data}, Stores.stored-back, Agreeing.elements-keep}
 
 -- a store before a part leaves it
 part-after : (s ds : List ℕ) (p o n : ℕ) → p + length ds ≤ length s → p + length ds ≤ o → take n (drop o (splice s p ds)) ≡ take n (drop o s)

@@ -1,18 +1,8 @@
 -- A bit write byte by byte.
--- Assumes nothing.
-use Prim.Native.Nat.{ℕ, zero, suc, _+_, _≤_, _<_}
-use mathlib.Core.Path.{_≡_, refl, ap, ap₂, sym, _∙_}
-use mathlib.Core.List.{List, [], _∷_, _++_}
-use native.Mathlib.Numerals.{add-one}
-use native.Mathlib.Decide.{decLt}
-use native.Mathlib.Omega.{arith}
-use lib.Bits.{bitAnd, bitXor}
-use lib.ListN.{length, getD, set, length-append, List·getD-append}
-use lib.Seq.{getD-append-add, ext-getD}
-use Rattle.octets.specs.Splice.{splice}
-use Rattle.octets.proofs.Splices.{length-splice, splice-none, splice-above, splice-more, splice-one}
-use Rattle.device.specs.Carry.{build, bitAt}
-use Rattle.device.specs.MemoryDue.{Combined}
+use Rattle.octets.proofs.Kit.{ℕ, zero, suc, _+_, _≤_, _<_, _≡_, refl, ap, ap₂, sym, _∙_, List, [], _∷_, _++_, add-one, decLt, arith, bitAnd, bitXor, length, getD, set, length-append}
+use Rattle.octets.proofs.Kit.{List·getD-append, getD-append-add, ext-getD}
+use Rattle.octets.{specs.Splice.splice, proofs.Splices.{length-splice, splice-none, splice-above, splice-more, splice-one}}
+use Rattle.device.specs.{Carry.{build, bitAt}, MemoryDue.Combined}
 
 -- its length, and its bytes
 pub length-build : (n : ℕ) (f : ℕ → ℕ) → length (build n f) ≡ n

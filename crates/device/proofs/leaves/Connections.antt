@@ -1,16 +1,8 @@
 -- Laws of the two sessions: what is put in their place, and when they are the same.
--- Assumes nothing.
-use Prim.Native.Nat.{ℕ, zero, suc, _≤_, _<_}
-use mathlib.Core.Path.{_≡_, refl, ap, ap₂}
-use mathlib.Core.Bool.{false}
-use native.Mathlib.Decide.{ℕ-discrete}
-use native.Mathlib.Omega.{arith}
-use borrow.Author.Tests.{eq-eqb, ne-eqb}
+use Rattle.octets.proofs.Kit.{ℕ, zero, suc, _≤_, _<_, _≡_, refl, ap, ap₂, false, ℕ-discrete, arith, eq-eqb, ne-eqb}
 use Rattle.octets.proofs.Walks.{by-eq}
-use Rattle.judge.specs.Session.{connected}
-use Rattle.judge.specs.declared.Session.{Session}
-use Rattle.device.specs.Sessions.{closed, freshOf, sessionOf, withSession, sessionFor, turnedOf}
-use Rattle.device.specs.declared.Sessions.{Sessions}
+use Rattle.judge.specs.{Session.connected, declared.Session.Session}
+use Rattle.device.specs.{Sessions.{closed, freshOf, sessionOf, withSession, sessionFor, turnedOf}, declared.Sessions.Sessions}
 
 -- a connection that there is, and any other number
 pub unknown-closed : (q : Sessions) (c : ℕ) → 2 ≤ c → sessionOf q c ≡ closed

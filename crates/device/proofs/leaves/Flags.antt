@@ -1,14 +1,7 @@
 -- The flags: what is left without programming mode, and what the button sets.
--- Assumes nothing.
-use Prim.Native.Nat.{ℕ, _*_, _-_, _≤_}
-use mathlib.Core.Path.{_≡_}
-use mathlib.Core.Bool.{Bool, true, false}
-use mathlib.Core.List.{List}
-use native.Mathlib.Omega.{arith}
-use Rattle.sheet.specs.Layout.{_of_}
+use Rattle.octets.proofs.Kit.{ℕ, _*_, _-_, _≤_, _≡_, Bool, true, false, List, arith}
+use Rattle.sheet.{specs.{Layout._of_, Rules.Accepted}, proofs.rules.Good.good}
 use Rattle.sheet.specs.Head as head
-use Rattle.sheet.specs.Rules.{Accepted}
-use Rattle.sheet.proofs.rules.Good.{good}
 use Rattle.device.specs.Events.{bit}
 
 -- only verify is left

@@ -1,15 +1,7 @@
 -- A write that jumps elements: one run, from the first that is not counted on. It is zeros, and then the data.
--- Assumes nothing.
-use Prim.Native.Nat.{ℕ, _+_, _*_, _-_, _≤_, _<_}
-use mathlib.Core.Path.{_≡_, sym, ap, subst, _∙_}
-use mathlib.Core.List.{List}
-use lib.ListN.{length, replicate, length-replicate}
-use native.Mathlib.Decide.{decLt}
-use native.Mathlib.Omega.{arith}
-use Rattle.octets.specs.Splice.{splice}
-use Rattle.octets.proofs.Splices.{splice-none, splice-more}
-use Rattle.judge.specs.Properties.{elementAt, jumped}
-use Rattle.judge.proofs.PropertyCases.{Among}
+use Rattle.octets.proofs.Kit.{ℕ, _+_, _*_, _-_, _≤_, _<_, _≡_, sym, ap, subst, _∙_, List, length, replicate, length-replicate, decLt, arith}
+use Rattle.octets.{specs.Splice.splice, proofs.Splices.{splice-none, splice-more}}
+use Rattle.judge.{specs.Properties.{elementAt, jumped}, proofs.PropertyCases.Among}
 use Rattle.device.specs.Carry.{padded}
 use Rattle.device.proofs.leaves.Stores.{length-padded}
 

@@ -1,55 +1,23 @@
 -- What each service stores agrees with the sheet on what the rules read.
--- Assumes nothing.
-use Prim.Native.Nat.{ℕ, _≤_, _<_}
-use mathlib.Core.Path.{_≡_, refl}
-use mathlib.Core.List.{List, []}
-use lib.ListN.{length, getD}
-use native.Mathlib.Omega.{arith}
-use Rattle.octets.specs.Bytes.{bytesOf}
-use Rattle.octets.specs.Splice.{splice}
-use Rattle.octets.proofs.Numbers.{length-bytes, bytes-zero}
-use Rattle.sheet.specs.Kind.{properties}
-use Rattle.sheet.specs.Layout.{_of_}
+use Rattle.octets.proofs.Kit.{ℕ, _≤_, _<_, _≡_, refl, List, [], length, getD, arith}
+use Rattle.octets.{specs.{Bytes.bytesOf, Splice.splice}, proofs.{Numbers.{length-bytes, bytes-zero}, Truths.{and-is, below-is}, Walks.by-eq}}
+use Rattle.sheet.specs.{Kind.properties, Layout._of_, Entries.entry, Agree.Agree, Rules.entryDemands, declared.Memory.{Memory, the-variants.{Device, User}}}
+use Rattle.sheet.proofs.{rules.Good.{Good, accepted}, promises.{Stores.{key-store, address-store, flags-store}, Runs.range-store}}
 use Rattle.sheet.specs.Head as head
 use Rattle.sheet.specs.Property as property
-use Rattle.sheet.specs.Entries.{entry}
-use Rattle.sheet.specs.Agree.{Agree}
-use Rattle.sheet.specs.Rules.{entryDemands}
-use Rattle.sheet.proofs.rules.Good.{Good, accepted}
-use Rattle.sheet.proofs.promises.Stores.{key-store, address-store, flags-store}
-use Rattle.pdu.specs.Read.{dataOf}
-use Rattle.octets.proofs.Truths.{and-is, below-is}
-use Rattle.pdu.proofs.promises.Readings.{Reading}
-use Rattle.pdu.specs.declared.Pdu.{Pdu}
-use Rattle.pdu.specs.declared.Pdu.the-variants.{GroupValueRead, GroupValueResponse, GroupValueWrite, IndividualAddressWrite, IndividualAddressRead, SerialNumberRead, SerialNumberWrite}
-use Rattle.pdu.specs.declared.Pdu.the-variants.{DeviceDescriptorRead, PropertyValueRead, PropertyValueWrite, PropertyDescriptionRead, MemoryRead, MemoryWrite, MemoryBitWrite}
-use Rattle.pdu.specs.declared.Pdu.the-variants.{AuthorizeRequest, KeyWrite, Restart, IndividualAddressResponse, SerialNumberResponse, DeviceDescriptorResponse, PropertyValueResponse}
-use Rattle.pdu.specs.declared.Pdu.the-variants.{PropertyDescriptionResponse, MemoryResponse, AuthorizeResponse, KeyResponse, UserMemoryRead, UserMemoryResponse, UserMemoryWrite}
-use Rattle.sheet.specs.declared.Memory.{Memory}
-use Rattle.sheet.specs.declared.Memory.the-variants.{Device, User}
-use Rattle.sheet.proofs.promises.Runs.{range-store}
-use Rattle.judge.specs.declared.Access.{Access}
-use Rattle.judge.specs.declared.Access.the-variants.{Write, Change}
-use Rattle.judge.specs.declared.Store.{Store}
+use Rattle.pdu.specs.{Read.dataOf, declared.Pdu.{Pdu, the-variants.{GroupValueRead, GroupValueResponse, GroupValueWrite, IndividualAddressWrite, IndividualAddressRead, SerialNumberRead}}}
+use Rattle.pdu.specs.declared.Pdu.the-variants.{SerialNumberWrite, DeviceDescriptorRead, PropertyValueRead, PropertyValueWrite, PropertyDescriptionRead, MemoryRead, MemoryWrite}
+use Rattle.pdu.specs.declared.Pdu.the-variants.{MemoryBitWrite, AuthorizeRequest, KeyWrite, Restart, IndividualAddressResponse, SerialNumberResponse, DeviceDescriptorResponse}
+use Rattle.pdu.specs.declared.Pdu.the-variants.{PropertyValueResponse, PropertyDescriptionResponse, MemoryResponse, AuthorizeResponse, KeyResponse, UserMemoryRead, UserMemoryResponse}
+use Rattle.pdu.{specs.declared.Pdu.the-variants.UserMemoryWrite, proofs.promises.Readings.Reading}
+use Rattle.judge.specs.declared.{Access.{Access, the-variants.{Write, Change}}, Store.Store, Decision.Decision}
+use Rattle.judge.specs.{Addresses.{addressWriteOf, addressReadOf, serialReadOf, serialWriteOf, descriptorOf}, Memory.{memoryWriteOf, bitWriteOf}, Groups.groupPutOf}
+use Rattle.judge.{specs.{Properties.{jumped, propertyWriteOf}, Keys.{authorizeOf, restartOf}, Judge.decideOf}, proofs.GroupCases.{group-read-cases, group-put-cases}}
+use Rattle.judge.proofs.{DescriptorCases.descriptor-cases, PropertyCases.{property-read-cases, property-write-cases, description-cases}}
+use Rattle.judge.proofs.{MemoryCases.{range-in, memory-read-cases, changed, change-cases}, KeyCases.key-write-cases}
 use Rattle.judge.specs.declared.Store.the-variants as store
-use Rattle.judge.specs.declared.Decision.{Decision}
-use Rattle.judge.specs.Addresses.{addressWriteOf, addressReadOf, serialReadOf, serialWriteOf, descriptorOf}
-use Rattle.judge.specs.Memory.{memoryWriteOf, bitWriteOf}
-use Rattle.judge.specs.Groups.{groupPutOf}
-use Rattle.judge.specs.Properties.{jumped, propertyWriteOf}
-use Rattle.judge.specs.Keys.{authorizeOf, restartOf}
-use Rattle.judge.specs.Judge.{decideOf}
-use Rattle.octets.proofs.Walks.{by-eq}
-use Rattle.judge.proofs.GroupCases.{group-read-cases, group-put-cases}
-use Rattle.judge.proofs.DescriptorCases.{descriptor-cases}
-use Rattle.judge.proofs.PropertyCases.{property-read-cases, property-write-cases, description-cases}
-use Rattle.judge.proofs.MemoryCases.{range-in, memory-read-cases, changed, change-cases}
-use Rattle.judge.proofs.KeyCases.{key-write-cases}
 use Rattle.device.specs.Carry.{build, bitAt, storeOf}
-use Rattle.device.proofs.due.Given.{memory-data, user-data}
-use Rattle.device.proofs.leaves.Bits.{length-build}
-use Rattle.device.proofs.leaves.Jumps.{whole, length-run}
-use Rattle.device.proofs.leaves.Agreeing.{agree-refl, group-keeps, elements-keep, count-keeps}
+use Rattle.device.proofs.{due.Given.{memory-data, user-data}, leaves.{Bits.length-build, Jumps.{whole, length-run}, Agreeing.{agree-refl, group-keeps, elements-keep, count-keeps}}}
 
 -- the sheet s afterwards, and that it agrees with s
 abbrev pub left : List ℕ → List ℕ → Decision → List ℕ

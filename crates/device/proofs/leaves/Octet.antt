@@ -1,16 +1,7 @@
 -- Bytes stay below 256: in data and in what bit writes give; the laws for any list of bytes are passed on.
--- Assumes nothing.
-use Prim.Native.Nat.{ℕ, _+_, _<_}
-use mathlib.Core.List.{List}
-use lib.ListN.{getD, List·getD-eq-default}
-use lib.Seq.{getD-drop}
-use lib.Bits.{and-lt, xor-lt}
-use native.Mathlib.Decide.{decLt}
-use native.Mathlib.Omega.{arith}
-use Rattle.pdu.specs.Read.{dataAt, dataOf}
-use Rattle.pdu.specs.declared.Pdu.{Pdu}
-use Rattle.device.specs.Octets.{Octets}
-use Rattle.device.specs.MemoryDue.{Combined}
+use Rattle.octets.proofs.Kit.{ℕ, _+_, _<_, List, getD, List·getD-eq-default, getD-drop, and-lt, xor-lt, decLt, arith}
+use Rattle.pdu.specs.{Read.{dataAt, dataOf}, declared.Pdu.Pdu}
+use Rattle.device.specs.{Octets.Octets, MemoryDue.Combined}
 pub use Rattle.octets.proofs.Octet.{isBytes, octets-by, octets-none, octets-one, octets-append, octets-bytes, octets-splice}
 
 pub octets-data : (p : Pdu) (a : List ℕ) → Octets a → Octets (dataOf p a)

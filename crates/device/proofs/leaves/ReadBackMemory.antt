@@ -1,30 +1,14 @@
 -- What a write to memory answers is what a read then answers.
--- Assumes nothing.
-use Prim.Native.Nat.{ℕ}
-use mathlib.Core.Path.{_≡_, sym, ap, _∙_}
-use native.Mathlib.Omega.{arith}
+use Rattle.octets.proofs.Kit.{ℕ, _≡_, sym, ap, _∙_, arith}
 use Rattle.octets.specs.Splice.{splice}
+use Rattle.sheet.{specs.Agree.Agree, proofs.{rules.Good.{Good, good}, alike.SameLookups.ranged-same, promises.{Agrees.agree-sym, Runs.{range-once, range-within}}}}
 use Rattle.sheet.specs.Head as head
-use Rattle.sheet.specs.Agree.{Agree}
-use Rattle.sheet.proofs.rules.Good.{Good, good}
-use Rattle.sheet.proofs.alike.SameLookups.{ranged-same}
-use Rattle.sheet.proofs.promises.Agrees.{agree-sym}
-use Rattle.sheet.proofs.promises.Runs.{range-once, range-within}
 use Rattle.pdu.specs.Write.{encoded}
-use Rattle.judge.specs.declared.Decision.{Decision}
-use Rattle.judge.specs.Session.{levelIn}
-use Rattle.judge.proofs.MemoryCases.{Permits, range-in, change-cases}
-use Rattle.device.specs.Step.{Step, stepBy}
-use Rattle.device.specs.Asked.{Asked, Reads, given, part}
-use Rattle.device.specs.MemoryDue.{Write, into, writing, reading, response, mostIn, MemoryReadable}
-use Rattle.device.specs.Demand2.{done}
+use Rattle.judge.{specs.{declared.Decision.Decision, Session.levelIn}, proofs.MemoryCases.{Permits, range-in, change-cases}}
+use Rattle.device.specs.{Step.{Step, stepBy}, Asked.{Asked, Reads, given, part}, MemoryDue.{Write, into, writing, reading, response, mostIn, MemoryReadable}, Demand2.done}
 use Rattle.device.specs.Next.{SameAnswer}
-use Rattle.device.proofs.leaves.Stores.{stored-back}
-use Rattle.device.proofs.due.OpenRanges.{over-read, opened}
-use Rattle.device.proofs.due.Stepped.{step-read}
-use Rattle.device.proofs.due.Changes.{Change, change-of, from, only-verified}
-use Rattle.device.proofs.due.RightMemory.{only-memory-read}
-use Rattle.device.proofs.leaves.Stays.{request-agrees}
+use Rattle.device.proofs.{leaves.Stores.stored-back, due.{OpenRanges.{over-read, opened}, Stepped.step-read, Changes.{Change, change-of, from, only-verified}}}
+use Rattle.device.proofs.{due.RightMemory.only-memory-read, leaves.Stays.request-agrees}
 
 module _ (x y : Asked) (w : Write) (n address : ℕ) (r : Reads x (writing w n address)) (u : Reads y (reading (into w) n address))
     (new : y .sheet ≡ done x .sheet) (z : ℕ) (may : MemoryReadable y (into w) n address z) where

@@ -1,39 +1,14 @@
 -- What a property write answers is what a read then answers.
--- Assumes nothing.
-use Prim.Native.Nat.{ℕ, _+_, _*_, _-_, _≤_, _<_, max}
-use mathlib.Core.Path.{_≡_, refl, sym, ap, _∙_}
-use mathlib.Core.List.{List, [], _∷_}
-use lib.ListN.{length, replicate}
-use native.Mathlib.Omega.{arith}
-use Rattle.octets.specs.Bytes.{bytesOf}
-use Rattle.octets.specs.Splice.{splice}
-use Rattle.octets.proofs.Numbers.{bytes-zero}
-use Rattle.sheet.specs.Kind.{properties}
-use Rattle.sheet.specs.Layout.{Field, _of_}
-use Rattle.sheet.specs.Property as property
-use Rattle.sheet.specs.Entries.{count, place, entry}
-use Rattle.sheet.specs.Agree.{Agree, Fixed}
-use Rattle.sheet.specs.Rules.{entryDemands}
-use Rattle.sheet.proofs.rules.Good.{Good, good}
+use Rattle.octets.proofs.Kit.{ℕ, _+_, _*_, _-_, _≤_, _<_, max, _≡_, refl, sym, ap, _∙_, List, [], _∷_, length, replicate, arith}
+use Rattle.octets.{specs.{Bytes.bytesOf, Splice.splice}, proofs.Numbers.bytes-zero}
+use Rattle.sheet.{specs.{Kind.properties, Layout.{Field, _of_}, Entries.{count, place, entry}, Agree.{Agree, Fixed}, Rules.entryDemands}, proofs.rules.Good.{Good, good}}
 use Rattle.sheet.proofs.alike.Sames.{property-same}
-use Rattle.pdu.specs.Write.{encoded}
-use Rattle.pdu.proofs.promises.Readings.{reading}
-use Rattle.pdu.specs.declared.Pdu.the-variants.{PropertyValueRead, PropertyValueWrite, PropertyValueResponse}
-use Rattle.judge.specs.declared.Decision.{Decision}
-use Rattle.judge.specs.Session.{levelIn}
-use Rattle.judge.proofs.PropertyCases.{Keyed, Among, property-write-cases}
-use Rattle.device.specs.Step.{Step, stepBy}
-use Rattle.device.specs.Asked.{Asked, Reads, given}
-use Rattle.device.specs.Asked.{part}
-use Rattle.device.specs.PropertiesDue.{elementAt, Readable}
-use Rattle.device.specs.Demand2.{done}
-use Rattle.device.specs.Next.{SameAnswer}
-use Rattle.device.proofs.due.Given.{write-data}
-use Rattle.device.proofs.due.Stepped.{step-read}
-use Rattle.device.proofs.due.Properly.{keyed, two-zeros}
-use Rattle.device.proofs.due.RightProperties.{only-property-count, only-property-read}
-use Rattle.device.proofs.leaves.Stays.{request-agrees}
-use Rattle.device.proofs.leaves.Backs.{same-property, count-back, wrote, counted-back, elements-back}
+use Rattle.sheet.specs.Property as property
+use Rattle.pdu.{specs.{Write.encoded, declared.Pdu.the-variants.{PropertyValueRead, PropertyValueWrite, PropertyValueResponse}}, proofs.promises.Readings.reading}
+use Rattle.judge.{specs.{declared.Decision.Decision, Session.levelIn}, proofs.PropertyCases.{Keyed, Among, property-write-cases}}
+use Rattle.device.specs.{Step.{Step, stepBy}, Asked.{Asked, Reads, given, part}, PropertiesDue.{elementAt, Readable}, Demand2.done, Next.SameAnswer}
+use Rattle.device.proofs.due.{Given.write-data, Stepped.step-read, Properly.{keyed, two-zeros}, RightProperties.{only-property-count, only-property-read}}
+use Rattle.device.proofs.leaves.{Stays.request-agrees, Backs.{same-property, count-back, wrote, counted-back, elements-back}}
 
 module _ (x y : Asked) (object id n s : ℕ) (r : Reads x (PropertyValueWrite object id n s)) (u : Reads y (PropertyValueRead object id n s))
     (new : y .sheet ≡ done x .sheet) (j : ℕ) (may : Readable y object id j) where

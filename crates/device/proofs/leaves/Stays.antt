@@ -1,27 +1,11 @@
 -- A request and the button leave all that the rules read.
--- Assumes nothing.
-use Prim.Native.Nat.{ℕ}
-use mathlib.Core.Path.{sym, subst}
-use mathlib.Core.Bool.{Bool}
-use mathlib.Core.List.{List}
-use lib.Dec.{eqb}
-use native.Mathlib.Omega.{arith}
-use Rattle.sheet.specs.Rules.{Accepted, refusalOf}
-use Rattle.sheet.specs.Agree.{Agree}
-use Rattle.sheet.proofs.rules.Good.{Good, good}
-use Rattle.pdu.specs.Read.{readPdu}
-use Rattle.pdu.proofs.promises.Readings.{reading}
-use Rattle.pdu.specs.declared.Parsed.{Parsed}
-use Rattle.judge.specs.Session.{levelIn}
-use Rattle.judge.specs.Judge.{decideOf, dataIn}
+use Rattle.octets.proofs.Kit.{ℕ, sym, subst, Bool, List, eqb, arith}
 use Rattle.octets.proofs.Walks.{by-test}
-use Rattle.device.specs.Step.{stepBy, stepOf}
-use Rattle.device.specs.Asked.{Asked, given}
-use Rattle.device.specs.Events.{pressed, buttonSheet}
-use Rattle.device.proofs.due.RequestCases.{request-cases}
-use Rattle.device.proofs.leaves.Flags.{bit-small}
-use Rattle.device.proofs.leaves.Agreeing.{agree-refl}
-use Rattle.device.proofs.leaves.Keeping.{Keeps, flags-new, keeps-decided}
+use Rattle.sheet.{specs.{Rules.{Accepted, refusalOf}, Agree.Agree}, proofs.rules.Good.{Good, good}}
+use Rattle.pdu.{specs.{Read.readPdu, declared.Parsed.Parsed}, proofs.promises.Readings.reading}
+use Rattle.judge.specs.{Session.levelIn, Judge.{decideOf, dataIn}}
+use Rattle.device.specs.{Step.{stepBy, stepOf}, Asked.{Asked, given}, Events.{pressed, buttonSheet}}
+use Rattle.device.proofs.{due.RequestCases.request-cases, leaves.{Flags.bit-small, Agreeing.agree-refl, Keeping.{Keeps, flags-new, keeps-decided}}}
 
 -- a request
 pub request-agrees :

@@ -1,18 +1,9 @@
 -- What a store leaves: the length, and the run that was stored.
--- Assumes nothing.
-use Prim.Native.Nat.{ℕ, _+_, _≤_}
-use mathlib.Core.Path.{_≡_, refl, sym, ap, _∙_}
-use mathlib.Core.List.{List}
-use native.Mathlib.Omega.{arith}
-use lib.ListN.{length, take, drop, replicate, length-append, length-replicate}
-use Rattle.octets.specs.Bytes.{bytesOf}
-use Rattle.octets.specs.Splice.{splice}
-use Rattle.octets.proofs.Numbers.{length-bytes}
-use Rattle.octets.proofs.Splices.{length-splice, splice-read, splice-more}
+use Rattle.octets.proofs.Kit.{ℕ, _+_, _≤_, _≡_, refl, sym, ap, _∙_, List, arith, length, take, drop, replicate, length-append, length-replicate}
+use Rattle.octets.{specs.{Bytes.bytesOf, Splice.splice}, proofs.{Numbers.length-bytes, Splices.{length-splice, splice-read, splice-more}}}
 use Rattle.judge.specs.declared.Store.{Store}
 use Rattle.judge.specs.declared.Store.the-variants as store
-use Rattle.device.specs.Carry.{padded, build, bitAt, storeOf}
-use Rattle.device.specs.Safe.{StoreSafe}
+use Rattle.device.specs.{Carry.{padded, build, bitAt, storeOf}, Safe.StoreSafe}
 use Rattle.device.proofs.leaves.Bits.{length-build}
 
 length-fill : (s : List ℕ) (at n b : ℕ) → at + n ≤ length s → length (splice s at (replicate n b)) ≡ length s

@@ -1,39 +1,12 @@
 -- Every answer is a PDU, and reads as one; its top six bits are zero.
--- Assumes nothing.
-use Prim.Native.Nat.{ℕ, _<_}
-use mathlib.Core.Path.{_≡_, refl, sym, subst}
-use mathlib.Core.Logic.{_⊎_, inl, inr}
-use mathlib.Core.Bool.{true}
-use mathlib.Core.List.{List, [], _++_}
-use lib.ListN.{getD, take, drop}
-use native.Mathlib.Omega.{arith}
-use Rattle.octets.specs.Bytes.{bytesOf}
-use Rattle.octets.proofs.Numbers.{bytes-two}
-use Rattle.pdu.specs.Item.{Row, Value}
-use Rattle.pdu.specs.Table.{rowOf}
-use Rattle.pdu.specs.Pdus.{serviceOf, valuesOf}
-use Rattle.pdu.specs.Rules.{codeFor, itemBytes, headBytes}
-use Rattle.pdu.specs.Read.{readPdu}
-use Rattle.pdu.specs.Write.{encoded, writable}
-use Rattle.pdu.specs.Allows.{Typed}
-use Rattle.pdu.proofs.Formed.{Formed, formed-says, coded}
-use Rattle.pdu.proofs.Sound.{sound}
-use Rattle.pdu.proofs.promises.Only.{writable-is}
-use Rattle.pdu.proofs.promises.Back.{read-back}
-use Rattle.pdu.specs.declared.Pdu.{Pdu}
-use Rattle.judge.specs.declared.Answer.{Answer}
+use Rattle.octets.proofs.Kit.{ℕ, _<_, _≡_, refl, sym, subst, _⊎_, inl, inr, true, List, [], _++_, getD, take, drop, arith}
+use Rattle.octets.{specs.Bytes.bytesOf, proofs.Numbers.bytes-two}
+use Rattle.pdu.specs.{Item.{Row, Value}, Table.rowOf, Pdus.{serviceOf, valuesOf}, Rules.{codeFor, itemBytes, headBytes}, Read.readPdu, Write.{encoded, writable}, Allows.Typed}
+use Rattle.pdu.{specs.declared.Pdu.Pdu, proofs.{Formed.{Formed, formed-says, coded}, Sound.sound, promises.{Only.writable-is, Back.read-back}}}
+use Rattle.judge.specs.{declared.{Answer.Answer, Decision.Decision}, Judge.{judgeOf, dataIn}}
 use Rattle.judge.specs.declared.Answer.the-variants as answer
-use Rattle.judge.specs.declared.Decision.{Decision}
-use Rattle.judge.specs.Judge.{judgeOf, dataIn}
-use Rattle.device.specs.Carry.{storeOf, answerOf}
-use Rattle.device.specs.Octets.{Octets}
-use Rattle.device.specs.Replies.{IsPdu}
-use Rattle.device.specs.Safe.{AnswerSafe}
-use Rattle.device.specs.Step.{stepBy, stepOf}
-use Rattle.device.specs.Asked.{Asked}
-use Rattle.device.specs.Demand2.{done}
-use Rattle.device.proofs.calls.Safe.{safe}
-use Rattle.device.proofs.due.Typing.{AnswerTyped, typed}
+use Rattle.device.specs.{Carry.{storeOf, answerOf}, Octets.Octets, Replies.IsPdu, Safe.AnswerSafe, Step.{stepBy, stepOf}, Asked.Asked, Demand2.done}
+use Rattle.device.proofs.{calls.Safe.safe, due.Typing.{AnswerTyped, typed}}
 
 is-pdu : (p : Pdu) (d : List ℕ) → Typed p → writable p d ≡ true → IsPdu (encoded p d)
 is-pdu p d t w =

@@ -1,27 +1,10 @@
 -- DEMANDS 1 AND 2 of a call: of what `device::request` gives back and leaves in the slices lent to it.
--- Assumes nothing.
-use Prim.Native.Nat.{ℕ, _+_, _≤_, _<_}
-use mathlib.Core.Path.{_≡_, sym, ap, subst, _∙_}
-use mathlib.Core.List.{List, []}
-use lib.ListN.{length, getD, take}
-use native.Mathlib.Decide.{decLt}
-use native.Mathlib.Omega.{arith}
-use Rattle.octets.specs.Splice.{splice}
-use Rattle.octets.proofs.Splices.{splice-none, splice-above, length-splice, splice-read}
+use Rattle.octets.proofs.Kit.{ℕ, _+_, _≤_, _<_, _≡_, sym, ap, subst, _∙_, List, [], length, getD, take, decLt, arith}
+use Rattle.octets.{specs.Splice.splice, proofs.Splices.{splice-none, splice-above, length-splice, splice-read}}
 use Rattle.judge.specs.declared.Session.{Session}
-use Rattle.device.specs.Step.{Step, stepOf}
-use Rattle.device.specs.Asked.{noRoom}
-use Rattle.device.specs.Sessions.{sessionFor, turnedOf}
-use Rattle.device.specs.Events.{State, Effect, requesting, requestOf, Did, Called}
-use Rattle.device.specs.Due.{asked, RequestDue}
-use Rattle.device.specs.Replies.{Denial}
-use Rattle.device.specs.Demand1.{OneOf, Leaves}
-use Rattle.device.specs.Demand2.{effectSeen}
-use Rattle.device.specs.declared.Sessions.{Sessions}
-use Rattle.device.specs.declared.Done.{Done}
-use Rattle.device.proofs.due.Stepped.{step-refused}
-use Rattle.device.proofs.promises.Demand1.{one-of, untouched, runs-on, silent, denial, at-most-16}
-use Rattle.device.proofs.leaves.Connections.{own-stays}
+use Rattle.device.specs.{Step.{Step, stepOf}, Asked.noRoom, Sessions.sessionFor, Events.{State, Effect, requesting, requestOf, Did, Called}, Due.{asked, RequestDue}, Replies.Denial}
+use Rattle.device.specs.{Demand1.{OneOf, Leaves}, Demand2.effectSeen, declared.{Sessions.Sessions, Done.Done}}
+use Rattle.device.proofs.{due.Stepped.step-refused, promises.Demand1.{one-of, untouched, runs-on, silent, denial, at-most-16}, leaves.Connections.own-stays}
 use Rattle.device.proofs.promises.Dues.{request-due, request-only}
 
 module _ (sessions : Sessions) (mode c group : ℕ) (apdu sheet answer : List ℕ) where

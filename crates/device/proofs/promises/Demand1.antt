@@ -1,33 +1,11 @@
 -- DEMAND 1: the outcomes, and what each of them leaves as it was.
--- Assumes nothing.
-use Prim.Native.Nat.{ℕ, _+_, _≤_}
-use mathlib.Core.Path.{_≡_, refl, sym, _∙_}
-use mathlib.Core.Bool.{Bool, true, false}
-use mathlib.Core.Logic.{inl}
-use mathlib.Core.List.{List, []}
-use lib.Dec.{leb}
-use lib.ListN.{length}
-use native.Mathlib.Omega.{arith}
-use Rattle.octets.specs.Bytes.{bytesOf}
-use Rattle.pdu.specs.Read.{readPdu, dataAt}
-use Rattle.pdu.specs.Write.{encoded, writable}
-use Rattle.octets.proofs.Truths.{never, and-is, at-most-is}
-use Rattle.pdu.proofs.promises.Writing.{length-encoded}
-use Rattle.pdu.specs.declared.Pdu.{Pdu}
-use Rattle.pdu.specs.declared.Pdu.the-variants.{Restart}
-use Rattle.pdu.specs.declared.Parsed.the-variants.{Is}
-use Rattle.judge.specs.declared.Session.{Session}
-use Rattle.judge.specs.declared.Decision.{Decision}
-use Rattle.judge.specs.declared.Answer.{Answer}
+use Rattle.octets.proofs.Kit.{ℕ, _+_, _≤_, _≡_, refl, sym, _∙_, Bool, true, false, inl, List, [], leb, length, arith}
+use Rattle.octets.{specs.Bytes.bytesOf, proofs.Truths.{never, and-is, at-most-is}}
+use Rattle.pdu.{specs.{Read.{readPdu, dataAt}, Write.{encoded, writable}, declared.{Pdu.{Pdu, the-variants.Restart}, Parsed.the-variants.Is}}, proofs.promises.Writing.length-encoded}
+use Rattle.judge.specs.{declared.{Session.Session, Decision.Decision, Answer.Answer}, Judge.{judgeOf, dataIn}}
 use Rattle.judge.specs.declared.Answer.the-variants as answer
-use Rattle.judge.specs.Judge.{judgeOf, dataIn}
-use Rattle.device.specs.Carry.{storeOf, answerOf}
-use Rattle.device.specs.Step.{Step, stepBy, stepOf}
-use Rattle.device.specs.Safe.{AnswerSafe}
-use Rattle.device.specs.Demand1.{OneOf}
-use Rattle.device.specs.Replies.{Denial}
-use Rattle.device.proofs.calls.Safe.{safe}
-use Rattle.device.proofs.due.Shapes.{Shape, refuse, deny, reply, done, restart, shape}
+use Rattle.device.specs.{Carry.{storeOf, answerOf}, Step.{Step, stepBy, stepOf}, Safe.AnswerSafe, Demand1.OneOf, Replies.Denial}
+use Rattle.device.proofs.{calls.Safe.safe, due.Shapes.{Shape, refuse, deny, reply, done, restart, shape}}
 
 -- how a step ends
 record Ends (s : List ℕ) (q : Session) (a : List ℕ) (r : Step) : Type 0 where

@@ -1,28 +1,10 @@
 -- How a host sees a restart: a session that was open before a request and is closed after it was closed by one, on whichever connection that came.
--- Assumes nothing.
-use Prim.Native.Nat.{ℕ, _≤_, _<_}
-use mathlib.Core.Path.{_≡_, refl, sym, ap, _∙_}
-use mathlib.Core.Bool.{Bool, true, false}
-use mathlib.Core.List.{List}
-use native.Mathlib.Decide.{decLt, ℕ-discrete}
-use native.Mathlib.Omega.{arith}
-use borrow.Author.Tests.{eq-eqb}
+use Rattle.octets.proofs.Kit.{ℕ, _≤_, _<_, _≡_, refl, sym, ap, _∙_, Bool, true, false, List, decLt, ℕ-discrete, arith, eq-eqb}
 use Rattle.octets.proofs.Truths.{never}
-use Rattle.pdu.specs.Read.{readPdu}
-use Rattle.pdu.specs.declared.Parsed.the-variants.{Is}
-use Rattle.pdu.specs.declared.Pdu.the-variants.{Restart}
-use Rattle.judge.specs.Session.{connected}
-use Rattle.judge.specs.declared.Session.{Session}
-use Rattle.judge.specs.declared.Turn.{Turn}
-use Rattle.judge.specs.declared.Turn.the-variants.{Stays, Level, Closes}
-use Rattle.judge.specs.Judge.{judgeOf}
-use Rattle.device.specs.Carry.{turnOf, closes}
-use Rattle.device.specs.Step.{Step, stepBy, stepOf}
-use Rattle.device.specs.Sessions.{sessionOf, sessionFor, turnedOf}
-use Rattle.device.specs.Events.{requestOf}
-use Rattle.device.specs.declared.Sessions.{Sessions}
-use Rattle.device.proofs.leaves.Connections.{unknown-closed, turned-own, turned-other}
-use Rattle.device.proofs.promises.Demand1.{restart-only}
+use Rattle.pdu.specs.{Read.readPdu, declared.{Parsed.the-variants.Is, Pdu.the-variants.Restart}}
+use Rattle.judge.specs.{Session.connected, declared.{Session.Session, Turn.{Turn, the-variants.{Stays, Level, Closes}}}, Judge.judgeOf}
+use Rattle.device.specs.{Carry.{turnOf, closes}, Step.{Step, stepBy, stepOf}, Sessions.{sessionOf, sessionFor, turnedOf}, Events.requestOf, declared.Sessions.Sessions}
+use Rattle.device.proofs.{leaves.Connections.{unknown-closed, turned-own, turned-other}, promises.Demand1.restart-only}
 
 -- a turn that doesn't close leaves a session open
 left-open : (q : Session) (t : Turn) → closes t ≡ false → turnOf q t .opened ≡ q .opened

@@ -1,34 +1,15 @@
 -- DEMAND 2 of every event: what is done is what is due, and nothing else is due.
--- Assumes nothing.
-use Prim.Native.Nat.{ℕ, _+_, _*_, _≤_, _<_}
-use mathlib.Core.Path.{_≡_, refl, sym, ap, ap₂, _∙_}
-use mathlib.Core.Logic.{_⊎_, inl, inr}
-use mathlib.Core.Bool.{Bool, true, false}
-use mathlib.Core.List.{List, []}
-use lib.ListN.{length, getD}
-use lib.Seq.{ext-getD}
-use native.Mathlib.Decide.{decLt, ℕ-discrete}
-use native.Mathlib.Omega.{arith}
-use borrow.Author.Tests.{lt-ltb, le-ltb, eq-eqb, ne-eqb}
-use Rattle.octets.specs.Bytes.{numAt, bytesOf}
-use Rattle.octets.specs.Splice.{splice}
-use Rattle.octets.proofs.Numbers.{length-bytes}
-use Rattle.octets.proofs.Splices.{length-splice, splice-outside, splice-num}
+use Rattle.octets.proofs.Kit.{ℕ, _+_, _*_, _≤_, _<_, _≡_, refl, sym, ap, ap₂, _∙_, _⊎_, inl, inr, Bool, true, false, List, [], length, getD, ext-getD, decLt, ℕ-discrete, arith, lt-ltb}
+use Rattle.octets.proofs.Kit.{le-ltb}
+use Rattle.octets.{specs.{Bytes.{numAt, bytesOf}, Splice.splice}, proofs.{Numbers.length-bytes, Splices.{length-splice, splice-outside, splice-num}}}
+use Rattle.sheet.{specs.Rules.{Accepted, Old, Bad}, proofs.promises.Verdicts.{one-of-three, refused-none, refused-bad}}
 use Rattle.sheet.specs.Head as head
-use Rattle.sheet.specs.Rules.{Accepted, Old, Bad}
-use Rattle.sheet.proofs.promises.Verdicts.{one-of-three, refused-none, refused-old, refused-bad}
-use Rattle.judge.specs.Session.{connected}
-use Rattle.judge.specs.declared.Session.{Session}
-use Rattle.device.specs.Octets.{Octets}
-use Rattle.device.specs.Step.{Step, stepOf}
-use Rattle.device.specs.Sessions.{sessionOf, withSession}
+use Rattle.judge.specs.{Session.connected, declared.Session.Session}
+use Rattle.device.specs.{Octets.Octets, Step.{Step, stepOf}, Sessions.{sessionOf, withSession}}
 use Rattle.device.specs.Events.{State, Effect, connecting, disconnecting, pressing, requesting, namedOutcome, requestOf, bit, pressed, buttonOutcome, buttonSheet}
-use Rattle.device.specs.Due.{SessionDue, ConnectDue, DisconnectDue, Switched, ButtonDue, asked, RequestDue}
-use Rattle.device.specs.declared.Sessions.{Sessions}
-use Rattle.device.proofs.leaves.Connections.{same-sessions, fresh-closed, with-own, with-other, turned-own, turned-other}
-use Rattle.device.proofs.promises.Rightly.{right, right-only}
-use Rattle.device.proofs.leaves.Flags.{verify-left, bit-small}
-use Rattle.device.proofs.calls.Pressing.{head-room}
+use Rattle.device.specs.{Due.{SessionDue, ConnectDue, DisconnectDue, Switched, ButtonDue, asked, RequestDue}, declared.Sessions.Sessions}
+use Rattle.device.proofs.{leaves.Connections.{same-sessions, fresh-closed, with-own, with-other, turned-own, turned-other}, promises.Rightly.{right, right-only}}
+use Rattle.device.proofs.{leaves.Flags.{verify-left, bit-small}, calls.Pressing.head-room}
 
 -- effects with the same parts are the same
 pub same-effect :

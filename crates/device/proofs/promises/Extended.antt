@@ -1,18 +1,9 @@
 -- A request of the later standard, whose number has an address extension in its high four bits, reads and changes no byte.
--- Assumes nothing.
-use Prim.Native.Nat.{ℕ, _+_, _*_, _≤_}
-use mathlib.Core.Path.{_≡_, sym}
-use mathlib.Core.List.{[]}
-use lib.ListN.{length-drop}
-use native.Mathlib.Omega.{arith}
+use Rattle.octets.proofs.Kit.{ℕ, _+_, _*_, _≤_, _≡_, sym, [], length-drop, arith}
 use Rattle.sheet.specs.declared.Memory.the-variants.{User}
-use Rattle.pdu.specs.Read.{dataOf}
-use Rattle.pdu.specs.declared.Pdu.the-variants.{UserMemoryRead, UserMemoryWrite, UserMemoryResponse}
-use Rattle.pdu.proofs.promises.Readings.{reading}
-use Rattle.device.specs.Asked.{Asked, says, Reads}
-use Rattle.device.specs.Demand2.{done}
-use Rattle.device.proofs.due.Given.{user-data}
-use Rattle.device.proofs.due.RightMemory.{only-no-memory-read}
+use Rattle.pdu.{specs.{Read.dataOf, declared.Pdu.the-variants.{UserMemoryRead, UserMemoryWrite, UserMemoryResponse}}, proofs.promises.Readings.reading}
+use Rattle.device.specs.{Asked.{Asked, says, Reads}, Demand2.done}
+use Rattle.device.proofs.due.{Given.user-data, RightMemory.only-no-memory-read}
 
 module _ (x : Asked) (e n address : ℕ) (some : 1 ≤ e) where
   -- A READ IS DENIED

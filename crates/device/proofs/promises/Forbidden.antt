@@ -1,15 +1,8 @@
 -- A range of memory with one byte that may not be read, or not be written, is denied whole: nothing is shown, and the sheet stays.
--- Assumes nothing.
-use Prim.Native.Nat.{ℕ, _+_, _<_}
-use mathlib.Core.Path.{_≡_, sym}
-use mathlib.Core.List.{[]}
-use Rattle.sheet.specs.Places.{Stands}
-use Rattle.sheet.specs.declared.Memory.{Memory}
-use Rattle.device.specs.Asked.{Asked, quiet, says, Reads, Acts}
-use Rattle.device.specs.MemoryDue.{Write, into, reading, response, writing, ToRead, ToWrite, MemoryWritable, Verify}
-use Rattle.device.specs.Demand2.{done}
-use Rattle.device.proofs.due.RightMemory.{only-no-memory-read}
-use Rattle.device.proofs.due.Changes.{only-denied, only-refused}
+use Rattle.octets.proofs.Kit.{ℕ, _+_, _<_, _≡_, sym, []}
+use Rattle.sheet.specs.{Places.Stands, declared.Memory.Memory}
+use Rattle.device.specs.{Asked.{Asked, quiet, says, Reads, Acts}, MemoryDue.{Write, into, reading, response, writing, ToRead, ToWrite, MemoryWritable, Verify}, Demand2.done}
+use Rattle.device.proofs.due.{RightMemory.only-no-memory-read, Changes.{only-denied, only-refused}}
 
 -- one of the n addresses stands nowhere, or under levels for which the level of the request does not suffice
 abbrev pub Forbidden : Asked → Memory → (ℕ → ℕ → Type 0) → ℕ → ℕ → Type 0

@@ -1,21 +1,11 @@
 -- Judging reads no body of memory or of a property.
--- Assumes nothing.
-use Prim.Native.Nat.{ℕ, _+_, _≤_}
-use mathlib.Core.Path.{_≡_, sym}
-use mathlib.Core.Logic.{inl}
-use mathlib.Core.List.{List}
-use native.Mathlib.Omega.{arith}
+use Rattle.octets.proofs.Kit.{ℕ, _+_, _≤_, _≡_, sym, inl, List, arith}
 use Rattle.octets.proofs.Numbers.{num-same}
-use Rattle.sheet.specs.Layout.{Field, _of_}
+use Rattle.sheet.{specs.{Layout.{Field, _of_}, Agree.Agree}, proofs.{alike.Sames.{users-alike, rules-same}, promises.Verdicts.refused-alike}}
 use Rattle.sheet.specs.Head as head
-use Rattle.sheet.specs.Agree.{Agree}
-use Rattle.sheet.proofs.alike.Sames.{users-alike, rules-same}
-use Rattle.sheet.proofs.promises.Verdicts.{refused-alike}
-use Rattle.judge.specs.declared.Session.{Session}
-use Rattle.judge.specs.Judge.{judgeOf}
+use Rattle.judge.specs.{declared.Session.Session, Judge.judgeOf}
 use Rattle.device.specs.Bodies.{SameButBodies}
-use Rattle.device.proofs.apart.Unseen.{SameThere, unseen}
-use Rattle.device.proofs.apart.Judging.{judge-same}
+use Rattle.device.proofs.apart.{Unseen.{SameThere, unseen}, Judging.judge-same}
 
 module _ {s s′ : List ℕ} (b : SameButBodies s s′) where
   field : (f : Field) → f .at + f .width ≤ head.size → f of s′ ≡ f of s

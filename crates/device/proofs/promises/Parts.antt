@@ -1,34 +1,12 @@
 -- WHAT A REQUEST SAYS THAT IT STORED: every byte outside is as found, and a refused request has stored nothing.
--- Assumes nothing.
-use Prim.Native.Nat.{ℕ, _+_, _≤_, _<_}
-use mathlib.Core.Path.{_≡_, refl, sym, ap, subst, _∙_}
-use mathlib.Core.List.{List}
-use mathlib.Core.Logic.{_⊎_}
-use lib.ListN.{length, getD, replicate, length-replicate}
-use native.Mathlib.Omega.{arith}
-use Rattle.octets.specs.Bytes.{bytesOf}
-use Rattle.octets.specs.Splice.{splice}
-use Rattle.octets.proofs.Numbers.{length-bytes}
-use Rattle.octets.proofs.Splices.{splice-outside}
+use Rattle.octets.proofs.Kit.{ℕ, _+_, _≤_, _<_, _≡_, refl, sym, ap, subst, _∙_, List, _⊎_, length, getD, replicate, length-replicate, arith}
+use Rattle.octets.{specs.{Bytes.bytesOf, Splice.splice}, proofs.{Numbers.length-bytes, Splices.splice-outside}}
 use Rattle.pdu.specs.Read.{readPdu}
-use Rattle.judge.specs.Judge.{dataIn, judgeOf}
-use Rattle.judge.specs.declared.Store.{Store}
+use Rattle.judge.specs.{Judge.{dataIn, judgeOf}, declared.{Store.Store, Decision.Decision}}
 use Rattle.judge.specs.declared.Store.the-variants as store
-use Rattle.judge.specs.declared.Decision.{Decision}
-use Rattle.device.specs.Carry.{padded, build, bitAt, storeOf}
-use Rattle.device.specs.Safe.{StoreSafe, Safe}
-use Rattle.device.specs.Step.{stepBy, stepOf}
-use Rattle.device.specs.Sessions.{sessionFor}
-use Rattle.device.specs.Events.{requestOf}
-use Rattle.device.specs.Changed.{partOf, changesOf, changedOf, Requested, Outside, none}
-use Rattle.device.specs.declared.Sessions.{Sessions}
-use Rattle.device.specs.declared.Changed.{Changed}
-use Rattle.device.specs.declared.Run.{Run}
-use Rattle.device.specs.declared.Made.{Made}
-use Rattle.device.proofs.leaves.Bits.{length-build}
-use Rattle.device.proofs.leaves.Stores.{length-padded, length-store}
-use Rattle.device.proofs.calls.Safe.{safe}
-use Rattle.device.proofs.due.Shapes.{Shape, refuse, deny, reply, done, restart, shape}
+use Rattle.device.specs.{Carry.{padded, build, bitAt, storeOf}, Safe.{StoreSafe, Safe}, Step.{stepBy, stepOf}, Sessions.sessionFor, Events.requestOf}
+use Rattle.device.specs.{Changed.{partOf, changesOf, changedOf, Requested, Outside, none}, declared.{Sessions.Sessions, Changed.Changed, Run.Run, Made.Made}}
+use Rattle.device.proofs.{leaves.{Bits.length-build, Stores.{length-padded, length-store}}, calls.Safe.safe, due.Shapes.{Shape, refuse, deny, reply, done, restart, shape}}
 
 -- a byte outside one run
 abbrev Apart : Run → ℕ → Type 0

@@ -1,17 +1,8 @@
 -- What is answered is what is there: after a write that was answered, a read of the same is answered alike.
--- Assumes nothing.
-use Prim.Native.Nat.{ℕ, _≤_}
-use mathlib.Core.Path.{_≡_}
-use native.Mathlib.Omega.{arith}
+use Rattle.octets.proofs.Kit.{ℕ, arith}
 use Rattle.pdu.specs.declared.Pdu.the-variants.{PropertyValueRead, PropertyValueWrite}
-use Rattle.device.specs.Asked.{Asked, Reads}
-use Rattle.device.specs.PropertiesDue.{Readable}
-use Rattle.device.specs.MemoryDue.{Write, into, writing, reading, MemoryReadable}
-use Rattle.device.specs.Next.{Confirmed, Next, SameAnswer}
-use Rattle.device.proofs.due.Taking.{low-mode}
-use Rattle.device.proofs.due.WasReady.{carried, ready-next}
-use Rattle.device.proofs.leaves.ReadBackProperties.{property-same-answer}
-use Rattle.device.proofs.leaves.ReadBackMemory.{memory-same-answer}
+use Rattle.device.specs.{Asked.{Asked, Reads}, PropertiesDue.Readable, MemoryDue.{Write, into, writing, reading, MemoryReadable}, Next.{Confirmed, Next, SameAnswer}}
+use Rattle.device.proofs.{due.{Taking.low-mode, WasReady.{carried, ready-next}}, leaves.{ReadBackProperties.property-same-answer, ReadBackMemory.memory-same-answer}}
 
 module _ (x y : Asked) where
   -- ELEMENTS OF A PROPERTY, OR ITS COUNT

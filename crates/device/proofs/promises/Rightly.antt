@@ -1,41 +1,27 @@
 -- DEMAND 2: the step that is done is the step that is due, and no other is due.
--- Assumes nothing.
-use mathlib.Core.Path.{_≡_, refl, sym, subst}
+use Rattle.octets.proofs.Kit.{_≡_, refl, sym, subst}
 use Rattle.octets.proofs.Truths.{never}
 use Rattle.sheet.specs.declared.Memory.the-variants.{Device, User}
-use Rattle.pdu.specs.Read.{readPdu}
-use Rattle.pdu.specs.declared.Pdu.{Pdu}
-use Rattle.pdu.specs.declared.Pdu.the-variants.{GroupValueRead, GroupValueResponse, GroupValueWrite, IndividualAddressWrite, IndividualAddressRead, SerialNumberRead, SerialNumberWrite}
-use Rattle.pdu.specs.declared.Pdu.the-variants.{DeviceDescriptorRead, PropertyValueRead, PropertyValueWrite, PropertyDescriptionRead, MemoryRead, MemoryWrite, MemoryBitWrite}
-use Rattle.pdu.specs.declared.Pdu.the-variants.{AuthorizeRequest, KeyWrite, Restart, IndividualAddressResponse, SerialNumberResponse, DeviceDescriptorResponse, PropertyValueResponse}
-use Rattle.pdu.specs.declared.Pdu.the-variants.{PropertyDescriptionResponse, MemoryResponse, AuthorizeResponse, KeyResponse, UserMemoryRead, UserMemoryResponse, UserMemoryWrite}
-use Rattle.pdu.specs.declared.Parsed.{Parsed}
-use Rattle.judge.specs.declared.Decision.{Decision}
-use Rattle.judge.specs.Session.{levelIn}
-use Rattle.judge.specs.Judge.{decideOf, dataIn}
-use Rattle.device.specs.Octets.{Octets}
-use Rattle.device.specs.Demand2.{Serves, done}
-use Rattle.device.specs.Step.{Step, stepBy, stepOf}
-use Rattle.device.specs.Asked.{Asked, Reads, given}
+use Rattle.pdu.specs.{Read.readPdu, declared.Pdu.{Pdu, the-variants.{GroupValueRead, GroupValueResponse, GroupValueWrite, IndividualAddressWrite, IndividualAddressRead, SerialNumberRead}}}
+use Rattle.pdu.specs.declared.Pdu.the-variants.{SerialNumberWrite, DeviceDescriptorRead, PropertyValueRead, PropertyValueWrite, PropertyDescriptionRead, MemoryRead, MemoryWrite}
+use Rattle.pdu.specs.declared.Pdu.the-variants.{MemoryBitWrite, AuthorizeRequest, KeyWrite, Restart, IndividualAddressResponse, SerialNumberResponse, DeviceDescriptorResponse}
+use Rattle.pdu.specs.declared.Pdu.the-variants.{PropertyValueResponse, PropertyDescriptionResponse, MemoryResponse, AuthorizeResponse, KeyResponse, UserMemoryRead, UserMemoryResponse}
+use Rattle.pdu.specs.declared.{Pdu.the-variants.UserMemoryWrite, Parsed.Parsed}
+use Rattle.judge.specs.{declared.Decision.Decision, Session.levelIn, Judge.{decideOf, dataIn}}
+use Rattle.device.specs.{Octets.Octets, Demand2.{Serves, done}, Step.{Step, stepBy, stepOf}, Asked.{Asked, Reads, given}, GroupsDue.Brings, Right.Right}
 use Rattle.device.specs.Right as due
 use Rattle.device.specs.GroupsDue as groups
 use Rattle.device.specs.AddressesDue as addresses
 use Rattle.device.specs.PropertiesDue as properties
 use Rattle.device.specs.MemoryDue as memory
 use Rattle.device.specs.KeysDue as keys
-use Rattle.device.specs.GroupsDue.{Brings}
-use Rattle.device.specs.Right.{Right}
-use Rattle.device.proofs.due.Taking.{taken}
-use Rattle.device.proofs.due.RequestCases.{request-cases}
-use Rattle.device.proofs.due.Stepped.{step-refused, step-unknown, step-other, step-unfit}
-use Rattle.device.proofs.due.RightGroups.{right-group-read, right-group-put, only-group-read0, only-group-read}
-use Rattle.device.proofs.due.RightGroups.{only-no-group-read, only-group-put0, only-group-put, only-group-length, only-no-group-put}
-use Rattle.device.proofs.due.RightAddresses.{right-address-write, right-address-read, right-serial-read, right-serial-write, right-descriptor}
-use Rattle.device.proofs.due.RightAddresses.{only-address-write, only-no-address-write, only-address-read, only-no-address-read, only-serial-read}
-use Rattle.device.proofs.due.RightAddresses.{only-no-serial-read, only-serial-write, only-no-serial-write, only-descriptor, only-no-descriptor, only-descriptor-denied}
-use Rattle.device.proofs.due.RightProperties.{right-property-read, right-property-write, only-property-count, only-property-read}
-use Rattle.device.proofs.due.RightProperties.{only-no-property-read, only-property-clear, only-property-write, only-no-property-write}
-use Rattle.device.proofs.due.RightDescriptions.{right-description, only-description, only-no-description}
+use Rattle.device.proofs.due.{Taking.taken, RequestCases.request-cases, Stepped.{step-refused, step-unknown, step-other, step-unfit}, RightGroups.{right-group-read, right-group-put}}
+use Rattle.device.proofs.due.RightGroups.{only-group-read0, only-group-read, only-no-group-read, only-group-put0, only-group-put, only-group-length, only-no-group-put}
+use Rattle.device.proofs.due.RightAddresses.{right-address-write, right-address-read, right-serial-read, right-serial-write, right-descriptor, only-address-write}
+use Rattle.device.proofs.due.RightAddresses.{only-no-address-write, only-address-read, only-no-address-read, only-serial-read, only-no-serial-read, only-serial-write}
+use Rattle.device.proofs.due.{RightAddresses.{only-no-serial-write, only-descriptor, only-no-descriptor, only-descriptor-denied}, RightProperties.right-property-read}
+use Rattle.device.proofs.due.RightProperties.{right-property-write, only-property-count, only-property-read, only-no-property-read, only-property-clear, only-property-write}
+use Rattle.device.proofs.due.{RightProperties.only-no-property-write, RightDescriptions.{right-description, only-description, only-no-description}}
 use Rattle.device.proofs.due.Changes.{change-of, right-memory-write, only-verified, only-stored, only-denied, only-refused}
 use Rattle.device.proofs.due.RightMemory.{right-memory-read, only-memory-read, only-no-memory-read}
 use Rattle.device.proofs.due.RightKeys.{right-authorize, right-key-write, right-restart, only-authorize, only-key-write, only-no-key-write, only-restart}

@@ -1,31 +1,12 @@
 -- The rules are at odds about two services alone: any other request does the same under both.
--- Assumes nothing.
-use Prim.Native.Nat.{ℕ, _+_}
-use mathlib.Core.Path.{_≡_, sym, ap, subst, _∙_}
-use mathlib.Core.Logic.{inr}
-use mathlib.Core.List.{List}
-use native.Mathlib.Omega.{arith}
-use Rattle.sheet.specs.Head as head
-use Rattle.sheet.specs.Rules.{Accepted}
-use Rattle.sheet.proofs.rules.Good.{good}
-use Rattle.sheet.proofs.places.BodyPlaces.{after-contents}
-use Rattle.sheet.proofs.alike.Sames.{users-alike}
-use Rattle.sheet.proofs.alike.Buts.{field-but}
-use Rattle.sheet.proofs.promises.Agrees.{both-or-neither}
+use Rattle.octets.proofs.Kit.{ℕ, _≡_, sym, subst, _∙_, inr, List, arith}
+use Rattle.sheet.{specs.Rules.Accepted, proofs.{rules.Good.good, places.BodyPlaces.after-contents, alike.{Sames.users-alike, Buts.field-but}, promises.Agrees.both-or-neither}}
 use Rattle.sheet.proofs.promises.Verdicts.{refused-none}
+use Rattle.sheet.specs.Head as head
 use Rattle.pdu.specs.Read.{readPdu}
-use Rattle.judge.specs.declared.Session.{Session}
-use Rattle.judge.specs.declared.Decision.{Decision}
-use Rattle.judge.specs.Judge.{judgeOf, dataIn}
-use Rattle.device.specs.Asked.{Asked}
-use Rattle.device.specs.Step.{Step, stepBy, stepOf}
-use Rattle.device.specs.Apart.{RulesByte, SameButRules, Undisputed, SameStep}
-use Rattle.device.proofs.calls.Safe.{safe}
-use Rattle.device.proofs.leaves.Stays.{request-agrees}
-use Rattle.device.proofs.apart.StepBut.{AlikeBut, spares-fewer, step-but}
-use Rattle.device.proofs.apart.PastHead.{past-head}
-use Rattle.device.proofs.apart.Unseen.{SameThere}
-use Rattle.device.proofs.apart.Judging.{judge-same}
+use Rattle.judge.specs.{declared.{Session.Session, Decision.Decision}, Judge.{judgeOf, dataIn}}
+use Rattle.device.specs.{Asked.Asked, Step.{stepBy, stepOf}, Apart.{RulesByte, SameButRules, Undisputed, SameStep}}
+use Rattle.device.proofs.{calls.Safe.safe, leaves.Stays.request-agrees, apart.{StepBut.{AlikeBut, spares-fewer, step-but}, PastHead.past-head, Unseen.SameThere, Judging.judge-same}}
 
 -- what judging reads but for the number of the rules is the same
 pub seen : {s s′ : List ℕ} → SameButRules s s′ → SameThere s s′

@@ -1,28 +1,12 @@
 -- The two services that the rules are at odds about, worked: on the sample sheet as one of edition 2, in programming mode.
--- Assumes nothing.
-use Prim.Native.Nat.{ℕ}
-use mathlib.Core.Path.{_≡_, refl}
-use mathlib.Core.Bool.{true, false}
-use mathlib.Core.List.{List, [], _∷_, map}
-use Rattle.octets.specs.Bytes.{numAt, bytesOf}
-use Rattle.octets.specs.Splice.{splice}
-use Rattle.sheet.specs.Demand.{breach}
-use Rattle.sheet.specs.First.{first}
-use Rattle.sheet.specs.Head as head
-use Rattle.sheet.specs.Head.{rulesOf}
-use Rattle.sheet.specs.Entries.{entry, keyOf, floor, bodyEnd, startOf, reached, sixBits}
+use Rattle.octets.proofs.Kit.{ℕ, _≡_, refl, true, false, List, [], _∷_, map}
+use Rattle.octets.specs.{Bytes.{numAt, bytesOf}, Splice.splice}
+use Rattle.sheet.specs.{Demand.breach, First.first, Head.rulesOf, Entries.{entry, keyOf, floor, bodyEnd, startOf, reached, sixBits}}
 use Rattle.sheet.specs.Rules.{entryDemands, bodyDemands, entryRule, bodyRule, entriesRule, bodiesRule, walkRule, restRule, ruleIn, verdictOf}
-use Rattle.pdu.specs.Table.{find}
-use Rattle.pdu.specs.Rules.{lowAt, headBytes}
-use Rattle.pdu.specs.Read.{readPdu, dataOf}
-use Rattle.pdu.specs.Write.{encoded}
-use Rattle.judge.specs.Session.{levelOf, levelIn}
-use Rattle.judge.specs.declared.Session.{Session}
-use Rattle.judge.specs.Addresses.{descriptorOf}
-use Rattle.judge.specs.Keys.{restartOf}
-use Rattle.judge.specs.Judge.{reachedOf, isShut, judgeOf}
-use Rattle.device.specs.Step.{Step, stepBy, stepOf}
-use Rattle.device.specs.Marked.{sample, seen}
+use Rattle.sheet.specs.Head as head
+use Rattle.pdu.specs.{Table.find, Rules.{lowAt, headBytes}, Read.{readPdu, dataOf}, Write.encoded}
+use Rattle.judge.specs.{Session.{levelOf, levelIn}, declared.Session.Session, Addresses.descriptorOf, Keys.restartOf, Judge.{reachedOf, isShut, judgeOf}}
+use Rattle.device.specs.{Step.{Step, stepBy, stepOf}, Marked.{sample, seen}}
 
 -- the sheet under rules n, with those flags
 unfoldable pub ruled : ℕ → ℕ → List ℕ

@@ -1,16 +1,9 @@
 -- What of a request is not read: outside multicast the group address, and always the top six bits of the first byte.
--- Assumes nothing.
-use Prim.Native.Nat.{ℕ, _%_}
-use mathlib.Core.Path.{_≡_, ap, ap₂, _∙_}
-use mathlib.Core.List.{List, _∷_}
-use Rattle.pdu.specs.Read.{readPdu}
-use Rattle.pdu.specs.declared.Parsed.{Parsed}
-use Rattle.judge.specs.declared.Session.{Session}
-use Rattle.judge.specs.Session.{multicast}
-use Rattle.judge.specs.Judge.{dataIn}
+use Rattle.octets.proofs.Kit.{ℕ, _%_, _≡_, ap, ap₂, _∙_, List, _∷_}
+use Rattle.pdu.specs.{Read.readPdu, declared.Parsed.Parsed}
+use Rattle.judge.specs.{declared.Session.Session, Session.multicast, Judge.dataIn}
 use Rattle.device.specs.Step.{stepBy, stepOf}
-use Rattle.device.proofs.unread.Group.{judge-other}
-use Rattle.device.proofs.unread.TopBits.{read-same, data-in-same, judge-same}
+use Rattle.device.proofs.unread.{Group.judge-other, TopBits.{read-same, data-in-same, judge-same}}
 
 module _ (room : ℕ) (s : List ℕ) (q : Session) (mode : ℕ) (a : List ℕ) (g g′ : ℕ) (other : mode ≡ multicast → ⊥) where
   -- OUTSIDE MULTICAST THE GROUP ADDRESS IS NOT READ

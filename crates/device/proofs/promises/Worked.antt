@@ -1,31 +1,13 @@
 -- Worked: the flags of a group object one by one, requests with two faults, a bit write of two bytes, a key of two levels, on the sample sheet.
--- Assumes nothing.
-use Prim.Native.Nat.{ℕ}
-use mathlib.Core.Path.{_≡_, refl}
-use mathlib.Core.Bool.{true, false}
-use mathlib.Core.List.{List, [], _∷_, map}
-use lib.ListN.{replicate}
-use Rattle.octets.specs.Bytes.{numAt, bytesOf}
-use Rattle.octets.specs.Splice.{splice}
-use Rattle.sheet.specs.Demand.{breach}
-use Rattle.sheet.specs.First.{first}
-use Rattle.sheet.specs.Head.{rulesOf}
-use Rattle.sheet.specs.Entries.{entry, keyOf, floor, bodyEnd, startOf, reached, sixBits}
+use Rattle.octets.proofs.Kit.{ℕ, _≡_, refl, true, false, List, [], _∷_, map, replicate}
+use Rattle.octets.specs.{Bytes.{numAt, bytesOf}, Splice.splice}
+use Rattle.sheet.specs.{Demand.breach, First.first, Head.rulesOf, Entries.{entry, keyOf, floor, bodyEnd, startOf, reached, sixBits}}
 use Rattle.sheet.specs.Rules.{entryDemands, bodyDemands, entryRule, bodyRule, entriesRule, bodiesRule, walkRule, restRule, ruleIn, verdictOf}
 use Rattle.sheet.specs.Lookup.{seek, indexOf, covers, placeOf, common, rangeOf}
-use Rattle.pdu.specs.Table.{find}
-use Rattle.pdu.specs.Rules.{lowAt, headBytes}
-use Rattle.pdu.specs.Read.{readPdu, dataOf}
-use Rattle.pdu.specs.Write.{encoded}
-use Rattle.judge.specs.Session.{levelOf, levelIn}
-use Rattle.judge.specs.declared.Session.{Session}
-use Rattle.judge.specs.Groups.{valueOf, putValue, flagsAt, groupReadOf, groupPutOf}
-use Rattle.judge.specs.Memory.{changeOf, bitWriteOf}
-use Rattle.judge.specs.Keys.{grantOf, authorizeOf}
-use Rattle.judge.specs.Judge.{reachedOf, isShut, judgeOf}
-use Rattle.device.specs.Carry.{build, bitAt}
-use Rattle.device.specs.Step.{Step, stepBy, stepOf}
-use Rattle.device.specs.Marked.{sample, seen}
+use Rattle.pdu.specs.{Table.find, Rules.{lowAt, headBytes}, Read.{readPdu, dataOf}, Write.encoded}
+use Rattle.judge.specs.{Session.{levelOf, levelIn}, declared.Session.Session, Groups.{valueOf, putValue, flagsAt, groupReadOf, groupPutOf}, Memory.{changeOf, bitWriteOf}}
+use Rattle.judge.specs.{Keys.{grantOf, authorizeOf}, Judge.{reachedOf, isShut, judgeOf}}
+use Rattle.device.specs.{Carry.{build, bitAt}, Step.{stepBy, stepOf}, Marked.{sample, seen}}
 
 abbrev nobody : Session
 nobody = record { opened = false; level = 3 }

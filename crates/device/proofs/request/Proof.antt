@@ -1,6 +1,5 @@
 -- `device::request` meets its contract: of the sheet nothing is known.
--- Assumes nothing.
-use borrow.Author.Needs.{needs}
+use Rattle.octets.proofs.Kit.{needs}
 use Rattle.octets.proofs.Truths.{never}
 use Rattle.device.proofs.request.Statement.{statement}
 use Rattle.device.proofs.request.Tie as tie

@@ -1,6 +1,5 @@
 -- `device::request_known` meets its contract: what nothing refuses unread is read and judged on the session that it meets, what was judged is carried out, what was carried out is answered.
--- Assumes nothing.
-use borrow.Author.Needs.{needs}
+use Rattle.octets.proofs.Kit.{needs}
 use Rattle.pdu.proofs.Reading.{named}
 use Rattle.device.proofs.calls.Requests.{changes-need, carry-needs, answer-needs, did, changes, refused-did, refused-changes, still-accepted, goes-on}
 use Rattle.device.proofs.request_known.Statement.{statement}

@@ -1,20 +1,9 @@
 -- WHAT DEMAND 2 RULES OUT: a device that refuses everything, sends one answer, invents the count, stores what it refuses, has the levels turned, or lets level 1 set key 0.
--- Assumes nothing.
-use Prim.Native.Nat.{ℕ}
-use mathlib.Core.Path.{_≡_, refl, ap, _∙_}
-use mathlib.Core.List.{List}
-use mathlib.Core.Bool.{true}
-use lib.ListN.{getD}
-use native.Mathlib.Omega.{arith}
+use Rattle.octets.proofs.Kit.{ℕ, _≡_, refl, ap, _∙_, List, true, getD, arith}
 use Rattle.sheet.specs.Head as head
-use Rattle.device.specs.Step.{Step}
-use Rattle.device.specs.Asked.{Asked}
-use Rattle.device.specs.Demand2.{Serves, done}
-use Rattle.device.specs.Marked.{sample, Case, Result, readElement, readCount, writeElement, cases, asked, found, wanted}
+use Rattle.device.specs.{Step.Step, Asked.Asked, Demand2.{Serves, done}, Marked.{sample, Case, Result, readElement, readCount, writeElement, cases, asked, found, wanted}}
 use Rattle.device.proofs.trials.Wrong.{refusesAll, fixedAnswer, inventsCount, inventsStored, storesDenied, levelsTurned, keyOfAnother, keylessWrite, writeKey0}
-use Rattle.device.proofs.leaves.Octet.{isBytes, octets-by}
-use Rattle.device.proofs.promises.Rightly.{right-only}
-use Rattle.device.proofs.promises.Cases.{marked}
+use Rattle.device.proofs.{leaves.Octet.{isBytes, octets-by}, promises.{Rightly.right-only, Cases.marked}}
 use Rattle.device.proofs.trials.WrongSteps.{invented, invented-stored, stored, denied-stored, turned-stored, element-kept, key-stored, key-kept}
 
 -- what is due for a read of the element, and of the count

@@ -1,26 +1,12 @@
 -- WRONG DEVICES: trials, to hold against demand 2.
--- Assumes nothing.
-use Prim.Native.Nat.{ℕ, _+_, _-_}
-use mathlib.Core.List.{List, [], _∷_}
-use mathlib.Core.Bool.{false, cond}
-use lib.Dec.{ltb, leb}
-use Rattle.sheet.specs.Kind.{properties}
-use Rattle.sheet.specs.Layout.{_of_}
+use Rattle.octets.proofs.Kit.{ℕ, _+_, _-_, List, [], _∷_, false, cond, ltb, leb}
+use Rattle.sheet.specs.{Kind.properties, Layout._of_, Entries.{count, entry}}
 use Rattle.sheet.specs.Property as property
-use Rattle.sheet.specs.Entries.{count, entry}
-use Rattle.pdu.specs.Item.{the, Object, Id}
-use Rattle.pdu.specs.Pdus.{valuesOf}
-use Rattle.pdu.specs.Read.{readPdu}
-use Rattle.judge.specs.declared.Store.{Store}
+use Rattle.pdu.specs.{Item.{the, Object, Id}, Pdus.valuesOf, Read.readPdu}
+use Rattle.judge.specs.{declared.{Store.Store, Answer.Answer}, Properties.propertyAt, Judge.{judgeOf, dataIn}}
 use Rattle.judge.specs.declared.Store.the-variants as store
-use Rattle.judge.specs.declared.Answer.{Answer}
 use Rattle.judge.specs.declared.Answer.the-variants as answer
-use Rattle.judge.specs.Properties.{propertyAt}
-use Rattle.judge.specs.Judge.{judgeOf, dataIn}
-use Rattle.device.specs.Step.{Step, stepBy}
-use Rattle.device.specs.Asked.{Asked, quiet}
-use Rattle.device.specs.Demand2.{done}
-use Rattle.device.specs.Marked.{Case, at}
+use Rattle.device.specs.{Step.{Step, stepBy}, Asked.{Asked, quiet}, Demand2.done, Marked.{Case, at}}
 
 -- it refuses everything, by one number
 unfoldable pub refusesAll : ℕ → Asked → Step

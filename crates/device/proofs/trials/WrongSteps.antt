@@ -1,26 +1,11 @@
 -- What wrong devices answer and store, and what ours does in their place, by computation.
--- Assumes nothing.
-use mathlib.Core.Path.{_≡_, refl}
-use lib.ListN.{getD}
-use Rattle.octets.specs.Bytes.{numAt, bytesOf}
-use Rattle.octets.specs.Splice.{splice}
-use Rattle.sheet.specs.Demand.{breach}
-use Rattle.sheet.specs.First.{first}
-use Rattle.sheet.specs.Entries.{entry, keyOf, floor, bodyEnd, startOf, reached, sixBits}
-use Rattle.sheet.specs.Rules.{entryDemands, bodyDemands, entryRule, bodyRule, entriesRule, bodiesRule, walkRule, restRule, ruleIn, verdictOf}
-use Rattle.sheet.specs.Lookup.{seek, indexOf}
-use Rattle.pdu.specs.Table.{find}
-use Rattle.pdu.specs.Rules.{fourAt, twelveAt, headBytes}
-use Rattle.pdu.specs.Read.{readPdu, dataOf}
-use Rattle.pdu.specs.Write.{encoded}
-use Rattle.judge.specs.Session.{levelOf, levelIn}
-use Rattle.sheet.specs.Head.{rulesOf}
-use Rattle.judge.specs.Keys.{keyWriteOf}
-use Rattle.judge.specs.Properties.{readIn, propertyReadOf, writeIn, propertyWriteOf}
-use Rattle.judge.specs.Judge.{reachedOf, isShut, judgeOf}
-use Rattle.device.specs.Step.{stepBy, stepOf}
-use Rattle.device.specs.Demand2.{done}
-use Rattle.device.specs.Marked.{sample, readCount, writeElement, asked}
+use Rattle.octets.proofs.Kit.{_≡_, refl, getD}
+use Rattle.octets.specs.{Bytes.{numAt, bytesOf}, Splice.splice}
+use Rattle.sheet.specs.{Demand.breach, First.first, Entries.{entry, keyOf, floor, bodyEnd, startOf, reached, sixBits}}
+use Rattle.sheet.specs.{Rules.{entryDemands, bodyDemands, entryRule, bodyRule, entriesRule, bodiesRule, walkRule, restRule, ruleIn, verdictOf}, Lookup.{seek, indexOf}, Head.rulesOf}
+use Rattle.pdu.specs.{Table.find, Rules.{fourAt, twelveAt, headBytes}, Read.{readPdu, dataOf}, Write.encoded}
+use Rattle.judge.specs.{Session.{levelOf, levelIn}, Keys.keyWriteOf, Properties.{readIn, propertyReadOf, writeIn, propertyWriteOf}, Judge.{reachedOf, isShut, judgeOf}}
+use Rattle.device.specs.{Step.{stepBy, stepOf}, Demand2.done, Marked.{sample, readCount, writeElement, asked}}
 use Rattle.device.proofs.trials.Wrong.{inflated, inventsCount, raised, inventsStored, storesDenied, actsAt, levelsTurned, keyOfAnother, keylessWrite, writeKey0}
 
 -- THE LAST BYTE IS 2, the maximum, where the count is 1

@@ -1,31 +1,14 @@
 -- No service that another mode than multicast takes asks for the group address.
--- Assumes nothing.
-use Prim.Native.Nat.{ℕ}
-use mathlib.Core.Path.{_≡_, refl, subst}
-use mathlib.Core.Bool.{Bool, true, false, cond, not}
-use mathlib.Core.List.{List}
+use Rattle.octets.proofs.Kit.{ℕ, _≡_, refl, subst, Bool, true, false, cond, not, List}
 use Rattle.octets.proofs.Truths.{equal-is}
 use Rattle.sheet.specs.Head.{rulesOf}
-use Rattle.pdu.specs.Table.{serviceAt}
-use Rattle.pdu.specs.Rules.{codeOf}
-use Rattle.pdu.specs.Pdus.{serviceOf}
-use Rattle.pdu.specs.Read.{readPdu, dataOf}
-use Rattle.pdu.proofs.promises.Readings.{reading}
-use Rattle.pdu.specs.declared.Service.{Service}
-use Rattle.pdu.specs.declared.Found.{Found}
-use Rattle.pdu.specs.declared.Found.the-variants.{Listed, Unknown}
-use Rattle.pdu.specs.declared.Parsed.{Parsed}
-use Rattle.pdu.specs.declared.Parsed.the-variants.{Is, Refused}
-use Rattle.pdu.specs.declared.Pdu.{Pdu}
-use Rattle.pdu.specs.declared.Pdu.the-variants.{GroupValueRead, GroupValueResponse, GroupValueWrite, IndividualAddressWrite, IndividualAddressRead, SerialNumberRead, SerialNumberWrite}
-use Rattle.pdu.specs.declared.Pdu.the-variants.{DeviceDescriptorRead, PropertyValueRead, PropertyValueWrite, PropertyDescriptionRead, MemoryRead, MemoryWrite, MemoryBitWrite}
-use Rattle.pdu.specs.declared.Pdu.the-variants.{AuthorizeRequest, KeyWrite, Restart, IndividualAddressResponse, SerialNumberResponse, DeviceDescriptorResponse, PropertyValueResponse}
-use Rattle.pdu.specs.declared.Pdu.the-variants.{PropertyDescriptionResponse, MemoryResponse, AuthorizeResponse, KeyResponse, UserMemoryRead, UserMemoryResponse, UserMemoryWrite}
-use Rattle.judge.specs.declared.Session.{Session}
-use Rattle.judge.specs.declared.Decision.{Decision}
-use Rattle.judge.specs.Session.{multicast, levelIn}
-use Rattle.judge.specs.Modes.{reachOf, reaches, takes}
-use Rattle.judge.specs.Judge.{decideOf, readOf, reachedOf, foundOf, judgeOf}
+use Rattle.pdu.specs.{Table.serviceAt, Rules.codeOf, Pdus.serviceOf, Read.{readPdu, dataOf}, declared.{Service.Service, Found.{Found, the-variants.{Listed, Unknown}}, Parsed.Parsed}}
+use Rattle.pdu.specs.declared.{Parsed.the-variants.{Is, Refused}, Pdu.{Pdu, the-variants.{GroupValueRead, GroupValueResponse, GroupValueWrite, IndividualAddressWrite}}}
+use Rattle.pdu.specs.declared.Pdu.the-variants.{IndividualAddressRead, SerialNumberRead, SerialNumberWrite, DeviceDescriptorRead, PropertyValueRead, PropertyValueWrite}
+use Rattle.pdu.specs.declared.Pdu.the-variants.{PropertyDescriptionRead, MemoryRead, MemoryWrite, MemoryBitWrite, AuthorizeRequest, KeyWrite, Restart, IndividualAddressResponse}
+use Rattle.pdu.specs.declared.Pdu.the-variants.{SerialNumberResponse, DeviceDescriptorResponse, PropertyValueResponse, PropertyDescriptionResponse, MemoryResponse, AuthorizeResponse}
+use Rattle.pdu.{specs.declared.Pdu.the-variants.{KeyResponse, UserMemoryRead, UserMemoryResponse, UserMemoryWrite}, proofs.promises.Readings.reading}
+use Rattle.judge.specs.{declared.{Session.Session, Decision.Decision}, Session.{multicast, levelIn}, Modes.{reachOf, reaches, takes}, Judge.{decideOf, readOf, reachedOf, foundOf, judgeOf}}
 use Rattle.device.specs.Asked.{Takes}
 use Rattle.device.proofs.due.Taking.{takes-is, taken}
 

@@ -1,36 +1,12 @@
 -- Two requests that differ in the top six bits of the first byte read and are judged alike.
--- Assumes nothing.
-use Prim.Native.Nat.{ℕ, zero, suc, _+_, _*_, _%_, _^_, _≤_}
-use mathlib.Core.Path.{_≡_, refl, sym, ap, ap₂, _∙_}
-use mathlib.Core.Bool.{true, cond, not, _&&_}
-use mathlib.Core.List.{List, [], _∷_}
-use native.Mathlib.Nat.{mod-mod-of-dvd, dvd-of-mod-eq-zero}
-use native.Mathlib.Omega.{arith}
-use lib.Dec.{ltb, leb, eqb}
-use lib.ListN.{length, getD, drop}
-use borrow.Author.Tests.{eqb-true}
-use Rattle.octets.specs.Bytes.{numAt}
-use Rattle.octets.proofs.Numbers.{num-two, num-same}
+use Rattle.octets.proofs.Kit.{ℕ, zero, suc, _+_, _*_, _%_, _^_, _≤_, _≡_, refl, sym, ap, ap₂, _∙_, true, cond, not, _&&_, List, [], _∷_, mod-mod-of-dvd, dvd-of-mod-eq-zero, arith, ltb, leb}
+use Rattle.octets.proofs.Kit.{eqb, length, getD, drop, eqb-true}
+use Rattle.octets.{specs.Bytes.numAt, proofs.{Numbers.{num-two, num-same}, Truths.{and-is, never}}}
 use Rattle.sheet.specs.Head.{rulesOf}
-use Rattle.pdu.specs.Item.{Name, Item, Value, low, num, cap, duo, skip, _≔_}
-use Rattle.pdu.specs.Table.{rowOf, serviceAt}
-use Rattle.pdu.specs.Rules.{codeOf, lowAt, fourAt, twelveAt, valuesAt, fits}
-use Rattle.pdu.specs.Pdus.{serviceOf, valuesOf, pduOf}
-use Rattle.pdu.specs.Read.{readPdu, readFound, dataOf, dataAt}
-use Rattle.octets.proofs.Truths.{and-is, never}
-use Rattle.pdu.proofs.Formed.{laterFormed, itemsFormed, formed-says}
-use Rattle.pdu.proofs.Sound.{sound}
-use Rattle.pdu.proofs.Items.{two-or-more}
-use Rattle.pdu.specs.declared.Found.{Found}
-use Rattle.pdu.specs.declared.Found.the-variants.{Listed, Unknown}
-use Rattle.pdu.specs.declared.Parsed.{Parsed}
-use Rattle.pdu.specs.declared.Parsed.the-variants.{Is, Refused}
-use Rattle.pdu.specs.declared.Pdu.{Pdu}
-use Rattle.judge.specs.declared.Session.{Session}
-use Rattle.judge.specs.declared.Decision.{Decision}
-use Rattle.judge.specs.Session.{levelIn}
-use Rattle.judge.specs.Modes.{reachOf, reaches, takes}
-use Rattle.judge.specs.Decisions.{refused}
+use Rattle.pdu.specs.{Item.{Name, Item, Value, low, num, cap, duo, skip, _≔_}, Table.{rowOf, serviceAt}, Rules.{codeOf, lowAt, fourAt, twelveAt, valuesAt, fits}}
+use Rattle.pdu.specs.{Pdus.{serviceOf, valuesOf, pduOf}, Read.{readPdu, readFound, dataOf, dataAt}, declared.{Found.{Found, the-variants.{Listed, Unknown}}, Parsed.Parsed}}
+use Rattle.pdu.{specs.declared.{Parsed.the-variants.{Is, Refused}, Pdu.Pdu}, proofs.{Formed.{laterFormed, itemsFormed, formed-says}, Sound.sound, Items.two-or-more}}
+use Rattle.judge.specs.{declared.{Session.Session, Decision.Decision}, Session.levelIn, Modes.{reachOf, reaches, takes}, Decisions.refused}
 use Rattle.judge.specs.Judge.{decideOf, readOf, reachedOf, foundOf, judgeOf, dataIn}
 
 -- two requests that differ in the top six bits of the first byte

@@ -1,6 +1,5 @@
 -- A run over two lists of events is one run after the other. Assumes nothing.
-use mathlib.Core.Path.{_≡_, refl}
-use mathlib.Core.List.{List, [], _∷_, _++_}
+use Rattle.octets.proofs.Kit.{_≡_, refl, List, [], _∷_, _++_}
 use Rattle.device.specs.Events.{State}
 use Rattle.events.specs.Events.{Event, after, runBy, run}
 

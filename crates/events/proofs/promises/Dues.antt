@@ -1,13 +1,8 @@
 -- DEMAND 2 of a restore: what is done is what is due, and nothing else is due. Assumes nothing.
-use Prim.Native.Nat.{ℕ}
-use mathlib.Core.Path.{_≡_, refl}
-use mathlib.Core.List.{List}
-use Rattle.device.specs.Sessions.{sessionOf}
-use Rattle.device.specs.Events.{State, Effect}
-use Rattle.device.proofs.promises.Dues.{same-effect}
+use Rattle.octets.proofs.Kit.{ℕ, _≡_, refl, List}
+use Rattle.device.{specs.{Sessions.sessionOf, Events.{State, Effect}}, proofs.promises.Dues.same-effect}
 use Rattle.versions.proofs.promises.Dues as versions
-use Rattle.events.specs.Events.{restoring}
-use Rattle.events.specs.Due.{RestoreDue}
+use Rattle.events.specs.{Events.restoring, Due.RestoreDue}
 
 module _ (x : State) (c n : ℕ) (st : List ℕ) where
   pub restore-due : RestoreDue c n st x (restoring x c n st)

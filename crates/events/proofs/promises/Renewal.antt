@@ -1,23 +1,10 @@
 -- THE CONVERSION OF AN OLD SHEET ANSWERS EVERY EVENT AS THE OLD SHEET DID in the release before, as `Before` models it, along every run; and what was saved from it is given back. Assumes nothing.
-use Prim.Native.Nat.{ℕ}
-use mathlib.Core.Path.{_≡_, refl, sym, ap, ap₂}
-use mathlib.Core.Bool.{cond}
-use mathlib.Core.List.{List}
-use lib.Dec.{eqb}
-use Rattle.sheet.specs.Rules.{Old, refusalOf, refusalBefore}
-use Rattle.sheet.specs.Convert.{conversionOf}
-use Rattle.sheet.proofs.promises.Verdicts.{refused-none}
-use Rattle.judge.specs.Judge.{judgeOf}
-use Rattle.judge.specs.declared.Session.{Session}
-use Rattle.device.specs.declared.Sessions.{Sessions}
-use Rattle.device.specs.Step.{stepOf}
-use Rattle.device.specs.Events.{State, buttonOutcome, buttonSheet, requestOf}
-use Rattle.device.proofs.apart.Renewing.{renews, let-be, is-conversion}
-use Rattle.versions.specs.Settings.{settingsOf}
-use Rattle.versions.specs.Saving.{saved, saveBy, numberBy, storeBy, saveOutcome, saveNumber, saveStore}
-use Rattle.versions.specs.Restoring.{restoreBy, leftBy, restoreOutcome, restoreSheet}
-use Rattle.events.specs.Events.{Event, connect, disconnect, button, request, restore, eventWith, eventOf, run}
-use Rattle.events.specs.Before.{refusing, eventBefore, runBefore, AsBefore}
+use Rattle.octets.proofs.Kit.{ℕ, _≡_, refl, sym, ap, ap₂, cond, List, eqb}
+use Rattle.sheet.{specs.{Rules.{Old, refusalOf, refusalBefore}, Convert.conversionOf}, proofs.promises.Verdicts.refused-none}
+use Rattle.judge.specs.{Judge.judgeOf, declared.Session.Session}
+use Rattle.device.{specs.{declared.Sessions.Sessions, Step.stepOf, Events.{State, buttonOutcome, buttonSheet, requestOf}}, proofs.apart.Renewing.{renews, let-be, is-conversion}}
+use Rattle.versions.specs.{Settings.settingsOf, Saving.{saved, saveBy, numberBy, storeBy, saveOutcome, saveNumber, saveStore}, Restoring.{restoreBy, leftBy, restoreOutcome, restoreSheet}}
+use Rattle.events.specs.{Events.{Event, connect, disconnect, button, request, restore, eventWith, eventOf, run}, Before.{refusing, eventBefore, runBefore, AsBefore}}
 use Rattle.events.proofs.Renewing.{Succeeds, event-alike, run-alike, restore-same, restore-renews, settings-same}
 
 -- THIS RELEASE is the one that refuses a sheet by `refusalOf`. The model of the release before is made in the same way from `refusalBefore`

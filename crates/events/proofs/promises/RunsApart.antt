@@ -1,26 +1,12 @@
 -- Runs of events without a disputed request are the same under both rules. Assumes nothing.
-use Prim.Native.Nat.{ℕ}
-use mathlib.Core.Path.{_≡_, refl, ap, ap₂}
-use mathlib.Core.Bool.{Bool, cond}
-use mathlib.Core.List.{List, [], _∷_}
-use lib.Dec.{eqb}
-use lib.ListN.{length}
-use native.Mathlib.Omega.{arith}
+use Rattle.octets.proofs.Kit.{ℕ, refl, ap, ap₂, Bool, cond, List, [], _∷_, eqb, length, arith}
 use Rattle.sheet.specs.Agree.{AgreeInside}
-use Rattle.judge.specs.Session.{connected}
-use Rattle.judge.specs.declared.Session.{Session}
-use Rattle.device.specs.declared.Sessions.{Sessions}
-use Rattle.device.specs.Sessions.{freshOf, withSession, sessionOf, sessionFor}
-use Rattle.device.specs.Events.{State, connectOf, disconnectOf, requestOf}
-use Rattle.device.specs.Apart.{RulesByte, SameButRules, SameEffect, Together}
+use Rattle.judge.specs.{Session.connected, declared.Session.Session}
+use Rattle.device.specs.{declared.Sessions.Sessions, Sessions.{freshOf, withSession, sessionOf, sessionFor}, Events.{State, connectOf, disconnectOf, requestOf}}
+use Rattle.device.{specs.Apart.{RulesByte, SameButRules, SameEffect, Together}, proofs.{apart.{StepBut.{press-outcome, press-but}, Unseen.unseen}, promises.RulesApart.{seen, rules-apart}}}
 use Rattle.versions.specs.Restoring.{restoreSheet}
-use Rattle.events.specs.Events.{Event, connect, disconnect, button, request, restore, eventOf, after, runBy, run}
-use Rattle.events.specs.Apart.{Settled, AllSettled}
-use Rattle.events.proofs.promises.Stays.{stays}
-use Rattle.events.proofs.RestoreBut.{BothBut, restore-outcome, restore-but}
-use Rattle.device.proofs.apart.StepBut.{press-outcome, press-but}
-use Rattle.device.proofs.apart.Unseen.{unseen}
-use Rattle.device.proofs.promises.RulesApart.{seen, rules-apart}
+use Rattle.events.specs.{Events.{Event, connect, disconnect, button, request, restore, eventOf, after, runBy, run}, Apart.{Settled, AllSettled}}
+use Rattle.events.proofs.{promises.Stays.stays, RestoreBut.{BothBut, restore-outcome, restore-but}}
 
 -- they agree on what the rules read, the number of the rules apart
 agree : {s s′ : List ℕ} → SameButRules s s′ → AgreeInside s s′

@@ -1,17 +1,9 @@
 -- Accepted stays accepted: no event takes a sheet out of the rules. Assumes nothing.
-use Prim.Native.Nat.{ℕ}
-use mathlib.Core.List.{List}
-use Rattle.sheet.specs.Rules.{Accepted}
-use Rattle.sheet.specs.Agree.{Agree}
-use Rattle.sheet.proofs.promises.Agrees.{both-or-neither}
-use Rattle.device.proofs.leaves.Agreeing.{agree-refl}
-use Rattle.device.specs.Events.{State, requestOf}
-use Rattle.device.specs.Due.{asked}
-use Rattle.device.proofs.leaves.Stays.{request-agrees, button-agrees}
+use Rattle.octets.proofs.Kit.{ℕ, List}
+use Rattle.sheet.{specs.{Rules.Accepted, Agree.Agree}, proofs.promises.Agrees.both-or-neither}
 use Rattle.judge.specs.declared.Session.{Session}
-use Rattle.device.specs.Sessions.{sessionOf}
-use Rattle.versions.specs.Due.{RestoreDue, sheetRefused, sheetOld, storeRefused, unknownNumber, notOpen, differs, tooHigh, isRestored}
-use Rattle.versions.proofs.promises.Dues.{restore-due}
+use Rattle.device.{specs.{Events.{State, requestOf}, Due.asked, Sessions.sessionOf}, proofs.leaves.{Agreeing.agree-refl, Stays.{request-agrees, button-agrees}}}
+use Rattle.versions.{specs.Due.{RestoreDue, sheetRefused, sheetOld, storeRefused, unknownNumber, notOpen, differs, tooHigh, isRestored}, proofs.promises.Dues.restore-due}
 use Rattle.versions.proofs.promises.Restores.{restored-agrees}
 use Rattle.events.specs.Events.{Event, connect, disconnect, button, request, restore, eventOf, after}
 

@@ -1,35 +1,13 @@
 -- Worked examples: a frame that comes, and the frame that answers it, byte by byte, on the sample sheet.
--- Assumes nothing.
-use Prim.Native.Nat.{ℕ}
-use mathlib.Core.Path.{_≡_, refl}
-use mathlib.Core.Bool.{true, false}
-use mathlib.Core.List.{List, [], _∷_}
-use Rattle.octets.specs.Bytes.{numAt, bytesOf}
-use Rattle.octets.specs.Splice.{splice}
-use Rattle.sheet.specs.Demand.{breach}
-use Rattle.sheet.specs.First.{first}
-use Rattle.sheet.specs.Head.{rulesOf}
-use Rattle.sheet.specs.Entries.{entry, keyOf, floor, bodyEnd, startOf, reached, sixBits}
+use Rattle.octets.proofs.Kit.{ℕ, _≡_, refl, true, false, List, [], _∷_}
+use Rattle.octets.specs.{Bytes.{numAt, bytesOf}, Splice.splice}
+use Rattle.sheet.specs.{Demand.breach, First.first, Head.rulesOf, Entries.{entry, keyOf, floor, bodyEnd, startOf, reached, sixBits}}
 use Rattle.sheet.specs.Rules.{entryDemands, bodyDemands, entryRule, bodyRule, entriesRule, bodiesRule, walkRule, restRule, ruleIn, verdictOf}
 use Rattle.sheet.specs.Lookup.{seek, indexOf, covers, placeOf, common, rangeOf}
-use Rattle.pdu.specs.Table.{find}
-use Rattle.pdu.specs.Rules.{lowAt, headBytes}
-use Rattle.pdu.specs.Read.{readPdu, dataOf}
-use Rattle.pdu.specs.Write.{encoded as pduBytes}
-use Rattle.judge.specs.Session.{levelOf, levelIn}
-use Rattle.judge.specs.declared.Session.{Session}
-use Rattle.judge.specs.Groups.{valueOf, flagsAt, groupReadOf}
-use Rattle.judge.specs.Memory.{memoryReadOf}
-use Rattle.judge.specs.Judge.{reachedOf, isShut, judgeOf}
-use Rattle.device.specs.Asked.{Asked}
-use Rattle.device.specs.Step.{stepBy, stepOf}
-use Rattle.device.specs.Marked.{sample}
-use Rattle.cemi.specs.Layout.{bytesIn}
-use Rattle.cemi.specs.Read.{frameIn}
-use Rattle.cemi.specs.Parts.{tpduOf}
-use Rattle.cemi.specs.Meaning.{toGroup, toOne, numbered, meaningOf, meaningNumber}
-use Rattle.cemi.specs.Write.{under, encoded}
-use Rattle.cemi.specs.Answering.{answering}
+use Rattle.pdu.specs.{Table.find, Rules.{lowAt, headBytes}, Read.{readPdu, dataOf}, Write.encoded as pduBytes}
+use Rattle.cemi.specs.{Layout.bytesIn, Read.frameIn, Parts.tpduOf, Meaning.{toGroup, toOne, numbered, meaningOf, meaningNumber}, Write.{under, encoded}, Answering.answering}
+use Rattle.judge.specs.{Session.{levelOf, levelIn}, declared.Session.Session, Groups.{valueOf, flagsAt, groupReadOf}, Memory.memoryReadOf, Judge.{reachedOf, isShut, judgeOf}}
+use Rattle.device.specs.{Asked.Asked, Step.{stepBy, stepOf}, Marked.sample}
 use Rattle.frames.specs.Answering.{answerTo}
 
 -- the sample sheet with 15h for the value of the group object

@@ -1,29 +1,11 @@
 -- THE DEVICE DOES WITH THE BYTES FROM OCTET 6 ON WHAT IT DOES WITH THE APDU, whatever transport's bits are.
--- Assumes nothing.
-use Rattle.sheet.specs.Rules.{refusalOf}
-use Prim.Native.Nat.{ℕ}
-use mathlib.Core.Path.{_≡_, refl, ap, ap₂, _∙_}
-use mathlib.Core.Bool.{cond, not}
-use mathlib.Core.List.{List, [], _∷_}
-use native.Mathlib.Omega.{arith}
-use lib.Dec.{ltb, eqb}
-use Rattle.sheet.specs.Head.{rulesOf}
-use Rattle.pdu.specs.Table.{serviceAt}
-use Rattle.pdu.specs.Rules.{codeOf}
-use Rattle.pdu.specs.Read.{readPdu}
-use Rattle.pdu.specs.declared.Found.{Found}
-use Rattle.pdu.specs.declared.Found.the-variants.{Listed, Unknown}
-use Rattle.pdu.specs.declared.Parsed.{Parsed}
-use Rattle.pdu.specs.declared.Parsed.the-variants.{Is, Refused}
-use Rattle.judge.specs.Decisions.{refused}
-use Rattle.judge.specs.Session.{levelIn}
-use Rattle.judge.specs.Modes.{reachOf, reaches, takes}
-use Rattle.judge.specs.Judge.{dataIn, isShut, decideOf, readOf, reachedOf, foundOf, judgeOf}
-use Rattle.judge.specs.declared.Session.{Session}
-use Rattle.judge.specs.declared.Reach.{Reach}
-use Rattle.judge.specs.declared.Decision.{Decision}
-use Rattle.device.specs.Step.{stepBy, stepOf}
+use Rattle.octets.proofs.Kit.{ℕ, _≡_, refl, ap, ap₂, _∙_, cond, not, List, [], _∷_, arith, ltb, eqb}
+use Rattle.sheet.specs.{Rules.refusalOf, Head.rulesOf}
+use Rattle.pdu.specs.{Table.serviceAt, Rules.codeOf, Read.readPdu, declared.{Found.{Found, the-variants.{Listed, Unknown}}, Parsed.{Parsed, the-variants.{Is, Refused}}}}
 use Rattle.cemi.specs.Write.{under}
+use Rattle.judge.specs.{Decisions.refused, Session.levelIn, Modes.{reachOf, reaches, takes}, Judge.{dataIn, isShut, decideOf, readOf, reachedOf, foundOf, judgeOf}, declared.Session.Session}
+use Rattle.judge.specs.declared.{Reach.Reach, Decision.Decision}
+use Rattle.device.specs.Step.{stepBy, stepOf}
 use Rattle.frames.proofs.promises.SameApdu.{SameApdu, code-alike, read-alike, data-alike}
 
 -- an APDU, and the same with other bits of transport

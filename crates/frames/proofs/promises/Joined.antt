@@ -1,40 +1,18 @@
 -- THE DEVICE'S ANSWER, WRITTEN INTO AN ANSWERING FRAME, READS BACK AS THAT PDU, and as data in the mode of the request.
--- Assumes nothing.
-use Prim.Native.Nat.{ℕ, _-_, _≤_, _<_}
-use mathlib.Core.Path.{_≡_, refl, sym, ap, subst, _∙_}
-use mathlib.Core.Bool.{true}
-use mathlib.Core.Logic.{_⊎_, inl, inr, ⊎-elim}
-use mathlib.Core.List.{List, []}
-use lib.ListN.{length}
-use native.Mathlib.Omega.{arith}
-use Rattle.octets.specs.Octets.{Octets, ReadFrom}
-use Rattle.octets.proofs.Numbers.{num-below}
+use Rattle.octets.proofs.Kit.{ℕ, _-_, _≤_, _<_, _≡_, refl, sym, ap, subst, _∙_, true, _⊎_, inl, inr, ⊎-elim, List, [], length, arith}
+use Rattle.octets.{specs.Octets.{Octets, ReadFrom}, proofs.Numbers.num-below}
 use Rattle.sheet.specs.Layout.{_of_}
 use Rattle.sheet.specs.Head as head
-use Rattle.pdu.specs.Read.{readPdu, dataOf}
-use Rattle.pdu.specs.declared.Pdu.{Pdu}
+use Rattle.pdu.{specs.{Read.{readPdu, dataOf}, declared.Pdu.Pdu}, proofs.promises.Readings.reading}
 use Rattle.pdu.specs.declared.Parsed.the-variants as parsed
-use Rattle.judge.specs.declared.Session.{Session}
-use Rattle.pdu.proofs.promises.Readings.{reading}
-use Rattle.device.specs.Asked.{Asked}
-use Rattle.device.specs.Step.{stepOf}
-use Rattle.device.proofs.promises.AnswerReads.{answer-reads}
-use Rattle.cemi.specs.Layout.{table, Fit}
-use Rattle.cemi.specs.Parts.{tpduOf}
-use Rattle.cemi.specs.Means.{Means}
-use Rattle.cemi.specs.Write.{numbersOf, under, encoded, frameOf, writable}
-use Rattle.cemi.proofs.promises.Backs.{read-back, info-part, tpdu-part}
-use Rattle.cemi.specs.Read.{readFrame}
-use Rattle.cemi.proofs.Wrote.{bounds}
-use Rattle.cemi.proofs.promises.Standards.{reads-standard}
+use Rattle.cemi.specs.{Layout.{table, Fit}, Parts.tpduOf, Means.Means, Write.{numbersOf, under, encoded, frameOf, writable}, Read.readFrame, declared.{Fields.Fields, Frame.Frame}}
+use Rattle.cemi.{specs.declared.Meaning.the-variants.Data, proofs.{promises.Backs.{read-back, info-part, tpdu-part}, Wrote.bounds, promises.Standards.reads-standard}}
 use Rattle.cemi.proofs.promises.Answers.{answer-writable, answer-fits, answer-means}
-use Rattle.cemi.specs.declared.Fields.{Fields}
-use Rattle.cemi.specs.declared.Frame.{Frame}
 use Rattle.cemi.specs.declared.Got.the-variants as got
-use Rattle.cemi.specs.declared.Meaning.the-variants.{Data}
+use Rattle.judge.specs.declared.Session.{Session}
+use Rattle.device.{specs.{Asked.Asked, Step.stepOf}, proofs.promises.AnswerReads.answer-reads}
 use Rattle.frames.specs.Answering.{answerTo, Brings}
-use Rattle.frames.proofs.promises.SameApdu.{read-alike, data-alike}
-use Rattle.frames.proofs.promises.Heard.{under-alike, as-it-is}
+use Rattle.frames.proofs.promises.{SameApdu.{read-alike, data-alike}, Heard.{under-alike, as-it-is}}
 
 -- any PDU in any frame that can be written
 pub brought :

@@ -1,32 +1,11 @@
 -- TO THE READER OF PDUS, two APDUs that differ at most in the top six bits of the first byte are one.
--- Assumes nothing.
-use Prim.Native.Nat.{ℕ, zero, suc, _+_, _-_, _/_, _%_, _^_, _≤_}
-use mathlib.Core.Path.{_≡_, refl, sym, ap, ap₂, _∙_}
-use mathlib.Core.Bool.{true, cond, _&&_}
-use mathlib.Core.List.{List, [], _∷_}
-use native.Mathlib.Nat.{mod-mod-of-dvd, dvd-of-mod-eq-zero}
-use native.Mathlib.Omega.{arith}
-use lib.ListN.{length, getD, drop, length-drop}
-use lib.Dec.{leb, ltb, eqb}
-use lib.Seq.{ext-getD, getD-drop}
-use borrow.Author.Tests.{eqb-true}
-use Rattle.octets.specs.Bytes.{numAt}
-use Rattle.octets.proofs.Numbers.{num-same, num-two}
-use Rattle.pdu.specs.Item.{Item, low, num, cap, duo, skip, Row, Value, _≔_}
-use Rattle.pdu.specs.Table.{rowOf, serviceAt}
-use Rattle.pdu.specs.Pdus.{serviceOf, valuesOf, pduOf}
-use Rattle.pdu.specs.Rules.{codeOf, lowAt, fourAt, twelveAt, valuesAt, fits}
-use Rattle.pdu.specs.Read.{readFound, readPdu, dataAt, dataOf}
-use Rattle.pdu.proofs.Formed.{laterFormed, itemsFormed, formed-says}
-use Rattle.pdu.proofs.Items.{two-or-more}
-use Rattle.pdu.proofs.Sound.{sound}
-use Rattle.octets.proofs.Truths.{and-is, never}
-use Rattle.pdu.specs.declared.Service.{Service}
-use Rattle.pdu.specs.declared.Found.{Found}
-use Rattle.pdu.specs.declared.Found.the-variants.{Listed, Unknown}
-use Rattle.pdu.specs.declared.Pdu.{Pdu}
-use Rattle.pdu.specs.declared.Parsed.{Parsed}
-use Rattle.pdu.specs.declared.Parsed.the-variants.{Is, Refused}
+use Rattle.octets.proofs.Kit.{ℕ, zero, suc, _+_, _-_, _/_, _%_, _^_, _≤_, _≡_, refl, sym, ap, ap₂, _∙_, true, cond, _&&_, List, [], _∷_, mod-mod-of-dvd, dvd-of-mod-eq-zero, arith, length}
+use Rattle.octets.proofs.Kit.{getD, drop, length-drop, leb, ltb, eqb, ext-getD, getD-drop, eqb-true}
+use Rattle.octets.{specs.Bytes.numAt, proofs.{Numbers.{num-same, num-two}, Truths.{and-is, never}}}
+use Rattle.pdu.specs.{Item.{Item, low, num, cap, duo, skip, Row, Value, _≔_}, Table.{rowOf, serviceAt}, Pdus.{serviceOf, valuesOf, pduOf}}
+use Rattle.pdu.specs.{Rules.{codeOf, lowAt, fourAt, twelveAt, valuesAt, fits}, Read.{readFound, readPdu, dataAt, dataOf}, declared.{Service.Service, Found.Found}}
+use Rattle.pdu.{specs.declared.{Found.the-variants.{Listed, Unknown}, Pdu.Pdu, Parsed.{Parsed, the-variants.{Is, Refused}}}, proofs.Formed.{laterFormed, itemsFormed, formed-says}}
+use Rattle.pdu.proofs.{Items.two-or-more, Sound.sound}
 
 pub record SameApdu (a b : List ℕ) : Type 0 where
   pub long : length a ≡ length b

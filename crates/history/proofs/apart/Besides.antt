@@ -1,15 +1,8 @@
 -- Runs side by side: of any device that does what is due as of ours, and a run beside itself without what one tool sends.
--- Assumes nothing.
-use Prim.Native.Nat.{ℕ}
-use mathlib.Core.Path.{_≡_, refl}
-use mathlib.Core.Bool.{Bool, true, false, cond}
-use mathlib.Core.List.{List, [], _∷_}
-use lib.Dec.{eqb}
+use Rattle.octets.proofs.Kit.{ℕ, _≡_, refl, Bool, true, false, cond, List, [], _∷_, eqb}
 use Rattle.octets.proofs.Truths.{never, and-is}
 use Rattle.events.specs.Events.{Event, connect, disconnect, button, request, restore}
-use Rattle.history.specs.History.{First}
-use Rattle.history.specs.Keeps.{Device, Begins, BringsOctets, AllOctets}
-use Rattle.history.specs.Rightful.{Rightful, ours}
+use Rattle.history.specs.{History.First, Keeps.{Device, Begins, BringsOctets, AllOctets}, Rightful.{Rightful, ours}}
 use Rattle.history.specs.Isolation.{isOf, mayBeOf, same, Harmless, Beside, begin, shared, oneMore, otherMore, AllHarmless, without}
 use Rattle.history.proofs.promises.OneDevice.{one-state, one-device}
 

@@ -1,32 +1,14 @@
 -- Two states that only the session of one connection tells apart stay so, whatever comes: behind isolation.
--- Assumes nothing.
-use Prim.Native.Nat.{ℕ, _<_}
-use mathlib.Core.Path.{_≡_, refl, sym, ap, _∙_, ap₂}
-use mathlib.Core.Bool.{Bool, true, false, cond, _&&_, _||_, not}
-use mathlib.Core.List.{List, [], _∷_}
-use lib.Dec.{eqb}
-use lib.ListN.{length}
-use native.Mathlib.Decide.{decLt, ℕ-discrete}
-use native.Mathlib.Omega.{arith}
-use borrow.Author.Tests.{eqb-true, eq-eqb, ne-eqb}
+use Rattle.octets.proofs.Kit.{ℕ, _<_, _≡_, refl, sym, ap, _∙_, ap₂, Bool, true, false, cond, _&&_, _||_, not, List, [], _∷_, eqb, length, decLt, ℕ-discrete, arith, eqb-true, eq-eqb, ne-eqb}
 use Rattle.octets.proofs.Truths.{never}
 use Rattle.pdu.specs.declared.Pdu.the-variants.{Restart}
-use Rattle.judge.specs.Session.{connected}
-use Rattle.judge.specs.declared.Session.{Session}
-use Rattle.device.specs.Step.{Step, stepOf}
-use Rattle.device.specs.Sessions.{sessionOf, withSession, sessionFor, turnedOf}
-use Rattle.device.specs.Events.{Effect, State, requestOf, buttonOutcome, buttonSheet}
-use Rattle.events.specs.Events.{Event, connect, disconnect, button, request, eventOf, restore}
-use Rattle.device.specs.declared.Sessions.{Sessions}
-use Rattle.device.proofs.leaves.Connections.{unknown-closed, with-own, with-other, turned-other}
-use Rattle.device.proofs.promises.Demand1.{restart-only}
+use Rattle.judge.specs.{Session.connected, declared.Session.Session}
+use Rattle.device.specs.{Step.{Step, stepOf}, Sessions.{sessionOf, withSession, sessionFor, turnedOf}, Events.{Effect, State, requestOf, buttonOutcome, buttonSheet}}
+use Rattle.device.{specs.declared.Sessions.Sessions, proofs.{leaves.Connections.{unknown-closed, with-own, with-other, turned-other}, promises.Demand1.restart-only}}
 use Rattle.versions.specs.Restoring.{restoreOutcome, restoreSheet}
-use Rattle.history.specs.History.{First}
-use Rattle.history.specs.Keeps.{stateAfter}
-use Rattle.history.specs.Rightful.{ours}
-use Rattle.history.specs.Isolation.{isOf, mayBeOf, Alike, same, asLong, Harmless, Beside, begin, shared, oneMore, otherMore}
-use Rattle.history.proofs.heard.Hearing.{asks-is}
-use Rattle.history.proofs.heard.Meets.{meets}
+use Rattle.events.specs.Events.{Event, connect, disconnect, button, request, eventOf, restore}
+use Rattle.history.specs.{History.First, Keeps.stateAfter, Rightful.ours, Isolation.{isOf, mayBeOf, Alike, same, asLong, Harmless, Beside, begin, shared, oneMore, otherMore}}
+use Rattle.history.proofs.heard.{Hearing.asks-is, Meets.meets}
 
 -- one session of each, put in the same place
 with-alike :

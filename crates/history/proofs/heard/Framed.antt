@@ -1,30 +1,13 @@
 -- What stays the same while the sheet changes: entries, their places, and so what is found and what is allowed.
--- Assumes nothing.
-use Prim.Native.Nat.{ℕ, _+_, _*_, _/_, _%_, _<_}
-use mathlib.Core.Path.{_≡_, refl, sym, ap, _∙_}
-use mathlib.Core.Bool.{Bool, true, _&&_, _||_}
-use mathlib.Core.List.{List}
-use lib.Dec.{ltb, leb, eqb}
-use native.Mathlib.Decide.{decLt}
-use native.Mathlib.Omega.{arith}
-use borrow.Author.Tests.{le-ltb}
-use Rattle.sheet.specs.Kind.{properties, kindOf}
-use Rattle.sheet.specs.declared.Memory.{Memory}
-use Rattle.sheet.specs.declared.Memory.the-variants.{Device}
-use Rattle.sheet.specs.Layout.{_of_}
+use Rattle.octets.proofs.Kit.{ℕ, _+_, _*_, _/_, _%_, _<_, _≡_, refl, sym, ap, _∙_, Bool, true, _&&_, _||_, List, ltb, leb, eqb, decLt, arith, le-ltb}
+use Rattle.octets.proofs.Everys.{every-same}
+use Rattle.sheet.specs.{Kind.{properties, kindOf}, declared.Memory.{Memory, the-variants.Device}, Layout._of_, Entries.{count, entry}, Lookup.{seek, covers}, Agree.Agree}
+use Rattle.sheet.{specs.Places.{regionAt, PropertyWith}, proofs.{alike.Sames.{count-same, region-same, property-same}, searches.FrontSearch.seek-same, alike.SameLookups.index-same}}
 use Rattle.sheet.specs.Region as region
 use Rattle.sheet.specs.Property as property
-use Rattle.sheet.specs.Entries.{count, entry}
-use Rattle.sheet.specs.Lookup.{seek, covers}
-use Rattle.sheet.specs.Agree.{Agree}
-use Rattle.sheet.specs.Places.{regionAt, PropertyWith}
-use Rattle.sheet.proofs.alike.Sames.{count-same, region-same, property-same}
-use Rattle.sheet.proofs.searches.FrontSearch.{seek-same}
-use Rattle.sheet.proofs.alike.SameLookups.{index-same}
 use Rattle.versions.proofs.promises.Agreeing.{same-entries-same, low-counts-same}
 use Rattle.history.specs.Wish.{Wish, change, writeMemory, writeBits, writeProperty, writeKey, restoreAll, offerKey, restart, other, nothing}
 use Rattle.history.specs.Permit.{regionFor, mayRead, mayWrite, mostBytes, inRange, indexFor, entryFor, clears, fills, allowed}
-use Rattle.octets.proofs.Everys.{every-same}
 
 module _ {f s : List ℕ} (a : Agree f s) where
   -- an entry of the one is an entry of the other

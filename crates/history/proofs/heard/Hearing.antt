@@ -1,31 +1,15 @@
 -- A request is heard exactly if it is ready, reads, and its mode takes it.
--- Assumes nothing.
-use Prim.Native.Nat.{ℕ}
-use mathlib.Core.Path.{_≡_, refl, _∙_}
-use mathlib.Core.Logic.{_⊎_, inl, inr, ⊎-elim, _↔_}
-use mathlib.Core.Bool.{Bool, true, false, _||_, _&&_, not}
-use mathlib.Core.List.{List}
-use lib.Dec.{eqb}
-use borrow.Author.Tests.{leb-true, le-leb, eqb-true, eq-eqb}
-use Rattle.sheet.specs.Head.{rulesOf, later}
-use Rattle.sheet.specs.Rules.{Accepted}
-use Rattle.pdu.specs.Read.{readPdu, dataOf}
-use Rattle.pdu.specs.Pdus.{serviceOf}
-use Rattle.pdu.specs.declared.Parsed.{Parsed}
-use Rattle.pdu.specs.declared.Parsed.the-variants.{Is, Refused}
-use Rattle.pdu.specs.declared.Pdu.{Pdu}
-use Rattle.pdu.specs.declared.Pdu.the-variants.{GroupValueRead, GroupValueResponse, GroupValueWrite, IndividualAddressWrite, IndividualAddressRead, SerialNumberRead, SerialNumberWrite}
-use Rattle.pdu.specs.declared.Pdu.the-variants.{DeviceDescriptorRead, PropertyValueRead, PropertyValueWrite, PropertyDescriptionRead, MemoryRead, MemoryWrite, MemoryBitWrite}
-use Rattle.pdu.specs.declared.Pdu.the-variants.{AuthorizeRequest, KeyWrite, Restart, IndividualAddressResponse, SerialNumberResponse, DeviceDescriptorResponse, PropertyValueResponse}
-use Rattle.pdu.specs.declared.Pdu.the-variants.{PropertyDescriptionResponse, MemoryResponse, AuthorizeResponse, KeyResponse, UserMemoryRead, UserMemoryResponse, UserMemoryWrite}
+use Rattle.octets.proofs.Kit.{ℕ, _≡_, refl, _∙_, _⊎_, inl, inr, ⊎-elim, _↔_, Bool, true, false, _||_, _&&_, not, List, eqb, leb-true, le-leb, eqb-true, eq-eqb}
 use Rattle.octets.proofs.Truths.{never, decided, and-is, or-is}
+use Rattle.sheet.specs.{Head.{rulesOf, later}, Rules.Accepted}
+use Rattle.pdu.specs.{Read.{readPdu, dataOf}, Pdus.serviceOf, declared.{Parsed.{Parsed, the-variants.{Is, Refused}}, Pdu.{Pdu, the-variants.{GroupValueRead, GroupValueResponse}}}}
+use Rattle.pdu.specs.declared.Pdu.the-variants.{GroupValueWrite, IndividualAddressWrite, IndividualAddressRead, SerialNumberRead, SerialNumberWrite, DeviceDescriptorRead, PropertyValueRead}
+use Rattle.pdu.specs.declared.Pdu.the-variants.{PropertyValueWrite, PropertyDescriptionRead, MemoryRead, MemoryWrite, MemoryBitWrite, AuthorizeRequest, KeyWrite, Restart}
+use Rattle.pdu.specs.declared.Pdu.the-variants.{IndividualAddressResponse, SerialNumberResponse, DeviceDescriptorResponse, PropertyValueResponse, PropertyDescriptionResponse, MemoryResponse}
+use Rattle.pdu.specs.declared.Pdu.the-variants.{AuthorizeResponse, KeyResponse, UserMemoryRead, UserMemoryResponse, UserMemoryWrite}
 use Rattle.judge.specs.Session.{connected}
-use Rattle.device.specs.Events.{State}
-use Rattle.device.specs.Asked.{Asked, Takes, Ready, Reads}
-use Rattle.device.specs.Due.{asked}
-use Rattle.device.proofs.due.Taking.{takes-is, restart-is}
-use Rattle.history.specs.Wish.{Wish, wishOf, restart, nothing, asks, brings, taken}
-use Rattle.history.specs.Permit.{checks, heard}
+use Rattle.device.{specs.{Events.State, Asked.{Asked, Takes, Ready, Reads}, Due.asked}, proofs.due.Taking.{takes-is, restart-is}}
+use Rattle.history.specs.{Wish.{Wish, wishOf, restart, nothing, asks, brings, taken}, Permit.{checks, heard}}
 use Rattle.history.proofs.spans.Bools.{all-at}
 
 -- what reads as p asks what p asks

@@ -1,10 +1,7 @@
 -- The level that a request acts at is the one that the history gives it.
--- Assumes nothing.
-use Prim.Native.Nat.{ℕ}
-use mathlib.Core.Path.{_≡_, refl, sym, subst, _∙_}
+use Rattle.octets.proofs.Kit.{ℕ, _≡_, refl, sym, subst, _∙_}
 use Rattle.judge.specs.Session.{levelOf, levelIn}
-use Rattle.device.specs.Asked.{Asked, Acts}
-use Rattle.device.proofs.due.Acts.{acts, acts-is}
+use Rattle.device.{specs.Asked.{Asked, Acts}, proofs.due.Acts.{acts, acts-is}}
 use Rattle.history.specs.Permit.{levelFor}
 
 module _ (x : Asked) where

@@ -1,19 +1,9 @@
 -- What a request meets: connected, the session of its connection; in any other mode none is looked at.
--- Assumes nothing.
-use Prim.Native.Nat.{ℕ}
-use mathlib.Core.Path.{_≡_}
-use mathlib.Core.Logic.{_⊎_, inl, inr}
-use mathlib.Core.Bool.{true, false}
-use mathlib.Core.List.{List}
-use lib.Dec.{eqb}
-use borrow.Author.Tests.{eqb-true, eq-eqb}
+use Rattle.octets.proofs.Kit.{ℕ, _≡_, _⊎_, inl, inr, true, false, List, eqb, eqb-true, eq-eqb}
 use Rattle.octets.proofs.Truths.{decided}
-use Rattle.judge.specs.Session.{connected}
-use Rattle.judge.specs.declared.Session.{Session}
-use Rattle.device.specs.Sessions.{sessionOf, sessionFor}
-use Rattle.device.specs.declared.Sessions.{Sessions}
-use Rattle.history.specs.Wish.{Wish}
-use Rattle.history.specs.Permit.{heard, levelFor}
+use Rattle.judge.specs.{Session.connected, declared.Session.Session}
+use Rattle.device.specs.{Sessions.{sessionOf, sessionFor}, declared.Sessions.Sessions}
+use Rattle.history.specs.{Wish.Wish, Permit.{heard, levelFor}}
 
 -- connected, the session of its connection
 pub meets : (q : Sessions) (mode c : ℕ) → mode ≡ connected → sessionFor q mode c ≡ sessionOf q c

@@ -1,27 +1,12 @@
 -- WITHOUT THE KEY, ONE EVENT MORE: the level is above l or as it was, and what a connection whose level is above l may write.
--- Assumes nothing.
-use Prim.Native.Nat.{ℕ, _<_, _≤_}
-use mathlib.Core.Path.{_≡_, refl, sym, ap, subst, _∙_}
-use mathlib.Core.Logic.{_⊎_, inl, inr}
-use mathlib.Core.Bool.{Bool, true, false, cond, _&&_, _||_, not}
-use mathlib.Core.List.{List, _∷_}
-use lib.Dec.{ltb, eqb}
-use native.Mathlib.Decide.{decLt}
-use native.Mathlib.Omega.{arith}
-use borrow.Author.Tests.{eqb-true, lt-ltb, le-ltb}
-use Rattle.sheet.specs.Layout.{_of_}
-use Rattle.sheet.specs.Head.{rulesOf}
+use Rattle.octets.proofs.Kit.{ℕ, _<_, _≤_, _≡_, refl, sym, ap, subst, _∙_, _⊎_, inl, inr, Bool, true, false, cond, _&&_, _||_, not, List, _∷_, ltb, eqb, decLt, arith, eqb-true, lt-ltb}
+use Rattle.octets.proofs.Kit.{le-ltb}
 use Rattle.octets.proofs.Truths.{decided, and-is}
+use Rattle.sheet.specs.Head.{rulesOf}
 use Rattle.events.specs.Events.{Event, connect, disconnect, button, request, restore}
-use Rattle.history.specs.Location.{Location, key}
-use Rattle.history.specs.Span.{names}
-use Rattle.history.specs.Wish.{Wish, change, offerKey, restart, other, nothing, asks, brings}
-use Rattle.history.specs.Permit.{checks, heard, levelFor, spans}
-use Rattle.history.specs.History.{First, isRestart, offered, opened, level, keys, content, permitted}
-use Rattle.history.specs.Keyless.{writeLevel, Unlocks, offers}
-use Rattle.history.proofs.spans.Bools.{all-at}
-use Rattle.history.proofs.steps.Restores.{restore-needs}
-use Rattle.history.proofs.promises.Suffices.{suffices}
+use Rattle.history.specs.{Location.Location, Span.names, Wish.{Wish, change, offerKey, restart, other, nothing, asks, brings}, Permit.{checks, heard, levelFor, spans}}
+use Rattle.history.specs.{History.{First, isRestart, offered, opened, level, keys, content, permitted}, Keyless.{writeLevel, Unlocks, offers}}
+use Rattle.history.proofs.{spans.Bools.all-at, steps.Restores.restore-needs, promises.Suffices.suffices}
 
 module _ (l : ℕ) (low : l < 3) where
   -- an offer that is no key of a level up to l leaves a level above l

@@ -1,43 +1,17 @@
 -- A write is permitted exactly if the plain propositions of its service hold.
--- Assumes nothing.
-use Prim.Native.Nat.{ℕ, _+_, _*_, _-_, _/_, _%_, _<_, _≤_}
-use mathlib.Core.Path.{_≡_, sym, subst, _∙_}
-use mathlib.Core.Logic.{_↔_, _⊎_, inl, inr}
-use mathlib.Core.Bool.{Bool, true, _&&_, _||_}
-use mathlib.Core.List.{List, [], _∷_}
-use lib.Dec.{ltb, leb, eqb}
-use lib.ListN.{length}
-use native.Mathlib.Omega.{arith}
-use borrow.Author.Tests.{ltb-true, lt-ltb, leb-true, le-leb, eqb-true, eq-eqb}
-use Rattle.octets.specs.Bytes.{numAt}
-use Rattle.octets.proofs.Numbers.{num-two}
-use Rattle.sheet.specs.Kind.{properties, kindOf}
-use Rattle.sheet.specs.Layout.{_of_}
+use Rattle.octets.proofs.Kit.{ℕ, _+_, _*_, _-_, _/_, _%_, _<_, _≤_, _≡_, sym, subst, _∙_, _↔_, _⊎_, inl, inr, Bool, true, _&&_, _||_, List, [], _∷_, ltb, leb, eqb, length, arith, ltb-true}
+use Rattle.octets.proofs.Kit.{lt-ltb, leb-true, le-leb, eqb-true, eq-eqb}
+use Rattle.octets.{specs.{Bytes.numAt, Every.every}, proofs.{Numbers.num-two, Truths.{and-is, or-is}, Everys.{every-at, every-all}}}
+use Rattle.sheet.specs.{Kind.{properties, kindOf}, Layout._of_, Entries.{count, entry}, Places.{regionAt, Ranged, PropertyWith}, declared.Memory.{Memory, the-variants.{Device, User}}}
+use Rattle.sheet.proofs.{rules.Good.Good, searches.Regions.{Covered, covers-stands}, promises.Runs.range-there}
 use Rattle.sheet.specs.Region as region
 use Rattle.sheet.specs.Property as property
-use Rattle.sheet.specs.Entries.{count, entry}
-use Rattle.sheet.specs.Places.{regionAt, Ranged, PropertyWith}
-use Rattle.sheet.specs.declared.Memory.{Memory}
-use Rattle.sheet.specs.declared.Memory.the-variants.{Device, User}
-use Rattle.sheet.proofs.rules.Good.{Good}
-use Rattle.sheet.proofs.searches.Regions.{Covered, covers-stands}
-use Rattle.sheet.proofs.promises.Runs.{range-there}
-use Rattle.octets.proofs.Truths.{and-is, or-is}
-use Rattle.octets.specs.Every.{every}
-use Rattle.octets.proofs.Everys.{every-at, every-all}
-use Rattle.device.specs.Octets.{Octets}
-use Rattle.device.specs.Asked.{Asked}
-use Rattle.device.specs.PropertiesDue as properties-due
-use Rattle.device.specs.MemoryDue.{Write, bytes, bits, ToWrite, Open, MemoryWritable}
-use Rattle.device.specs.PropertiesDue.{Writable, Elements, WriteAllowed}
-use Rattle.device.specs.KeysDue.{KeyWritable}
+use Rattle.device.specs.{Octets.Octets, Asked.Asked, MemoryDue.{Write, bytes, bits, ToWrite, Open, MemoryWritable}, PropertiesDue.{Writable, Elements, WriteAllowed}, KeysDue.KeyWritable}
 use Rattle.device.proofs.due.Properly.{two-zeros}
-use Rattle.history.specs.Wish.{Change, change, writeMemory, writeBits, writeProperty, writeKey}
-use Rattle.history.specs.Span.{all}
+use Rattle.device.specs.PropertiesDue as properties-due
+use Rattle.history.specs.{Wish.{Change, change, writeMemory, writeBits, writeProperty, writeKey}, Span.all}
 use Rattle.history.specs.Permit.{levelFor, regionFor, mayRead, mayWrite, inRange, indexFor, entryFor, clears, fills, allowed}
-use Rattle.history.proofs.spans.Bools.{all-at}
-use Rattle.history.proofs.heard.Searches.{region-covers, may-read, may-write, property-hit, property-found}
-use Rattle.history.proofs.heard.LevelFor.{acts-once, acts-so}
+use Rattle.history.proofs.{spans.Bools.all-at, heard.{Searches.{region-covers, may-read, may-write, property-hit, property-found}, LevelFor.{acts-once, acts-so}}}
 
 -- the two ways to write a property
 clears-is : (n s : ℕ) (d : List ℕ) → (clears n s d ≡ true) ↔ ((s ≡ 0) × (n ≡ 1) × (d ≡ 0 ∷ 0 ∷ []))

@@ -1,27 +1,13 @@
 -- The region of an address, and the property of an object and id: the searches find the one that there is.
--- Assumes nothing.
-use Prim.Native.Nat.{ℕ, _+_, _*_, _/_, _%_, _<_}
-use mathlib.Core.Path.{_≡_}
-use mathlib.Core.List.{List}
-use lib.Dec.{leb}
-use native.Mathlib.Omega.{arith}
-use borrow.Author.Tests.{lt-ltb}
+use Rattle.octets.proofs.Kit.{ℕ, _+_, _*_, _/_, _%_, _<_, _≡_, List, leb, arith, lt-ltb}
 use Rattle.octets.proofs.Numbers.{num-one}
-use Rattle.sheet.specs.Kind.{properties, kindOf}
-use Rattle.sheet.specs.Layout.{_of_}
+use Rattle.sheet.specs.{Kind.{properties, kindOf}, Layout._of_, Entries.{count, place, entry, keyOf}, Lookup.covers, Places.{regionAt, PropertyWith}, declared.Memory.Memory}
+use Rattle.sheet.proofs.{rules.Good.{Good, accepted}, places.Standing.entry-at, searches.FrontSearch.{seek-hit, seek-passes}, promises.Keys.{index-hit, index-key, key-is, key-parts}}
+use Rattle.sheet.proofs.searches.Regions.{Covered, covering, covered, region-once}
 use Rattle.sheet.specs.Region as region
 use Rattle.sheet.specs.Property as property
-use Rattle.sheet.specs.Entries.{count, place, entry, keyOf}
-use Rattle.sheet.specs.Lookup.{covers}
-use Rattle.sheet.specs.Places.{regionAt, PropertyWith}
-use Rattle.sheet.specs.declared.Memory.{Memory}
-use Rattle.sheet.proofs.rules.Good.{Good, accepted}
-use Rattle.sheet.proofs.places.Standing.{entry-at}
-use Rattle.sheet.proofs.searches.FrontSearch.{seek-hit, seek-passes}
-use Rattle.sheet.proofs.promises.Keys.{index-hit, index-key, key-is, key-parts}
-use Rattle.sheet.proofs.searches.Regions.{Covered, covering, covered, region-once}
-use Rattle.history.specs.Permit.{regionFor, mayRead, mayWrite, indexFor}
 use Rattle.device.specs.Octets.{Octets}
+use Rattle.history.specs.Permit.{regionFor, mayRead, mayWrite, indexFor}
 
 -- the region that the search gives has the address
 pub region-covers : (s : List ℕ) (m : Memory) (y : ℕ) → regionFor s m y < count s (kindOf m) → Covered s m (regionFor s m y) y

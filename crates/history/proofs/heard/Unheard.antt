@@ -1,29 +1,12 @@
 -- What is refused before its service, and what a history is not concerned with, is not heard.
--- Assumes nothing.
-use Prim.Native.Nat.{ℕ}
-use mathlib.Core.Path.{_≡_, sym, subst, _∙_}
-use mathlib.Core.Logic.{inl, inr}
-use mathlib.Core.Bool.{Bool, false}
-use mathlib.Core.List.{List}
-use native.Mathlib.Omega.{arith}
-use Rattle.sheet.specs.Head.{rulesOf}
-use Rattle.sheet.specs.Rules.{Accepted}
-use Rattle.sheet.proofs.rules.Good.{no-rule}
-use Rattle.pdu.specs.Pdus.{serviceOf}
-use Rattle.pdu.specs.Read.{readPdu}
-use Rattle.pdu.proofs.promises.Readings.{reading}
-use Rattle.pdu.specs.declared.Service.{Service}
-use Rattle.pdu.specs.declared.Pdu.{Pdu}
-use Rattle.pdu.specs.declared.Parsed.the-variants.{Refused}
+use Rattle.octets.proofs.Kit.{ℕ, _≡_, sym, subst, _∙_, inl, inr, Bool, false, List, arith}
 use Rattle.octets.proofs.Truths.{never}
-use Rattle.device.specs.Events.{State}
-use Rattle.device.specs.Asked.{Asked, Takes, Names, Served, Refusal, noRoom, badSheet, oldSheet, badLength, badMode, noSession, Ready, Reads}
-use Rattle.device.specs.Due.{asked}
+use Rattle.sheet.{specs.{Head.rulesOf, Rules.Accepted}, proofs.rules.Good.no-rule}
+use Rattle.pdu.{specs.{Pdus.serviceOf, Read.readPdu, declared.{Service.Service, Pdu.Pdu, Parsed.the-variants.Refused}}, proofs.promises.Readings.reading}
+use Rattle.device.specs.{Events.State, Asked.{Asked, Takes, Names, Served, Refusal, noRoom, badSheet, oldSheet, badLength, badMode, noSession, Ready, Reads}, Due.asked}
 use Rattle.device.proofs.due.RequestCases.{found-names, names-once}
-use Rattle.history.specs.Wish.{nothing, asks}
-use Rattle.history.specs.Permit.{heard}
-use Rattle.history.proofs.spans.Bools.{must-fail}
-use Rattle.history.proofs.heard.Hearing.{ready-is, heard-reads, refused-asks}
+use Rattle.history.specs.{Wish.{nothing, asks}, Permit.heard}
+use Rattle.history.proofs.{spans.Bools.must-fail, heard.Hearing.{ready-is, heard-reads, refused-asks}}
 
 -- a refusal is not due where the request is ready
 refusal-ready : {x : Asked} {n : ℕ} → Refusal x n → Ready x → ⊥

@@ -1,31 +1,14 @@
 -- LAWS of where locations stand: each at one position, no two at the same, and every position a location's, a group object's or a field's.
--- Assumes nothing.
-use Prim.Native.Nat.{ℕ, zero, suc, _+_, _*_, _-_, _/_, _%_, _<_, _≤_}
-use mathlib.Core.Path.{_≡_, refl, sym, _∙_, ap, ap₂, subst, subst⁻¹}
-use mathlib.Core.Logic.{_⊎_, inl, inr}
-use mathlib.Core.List.{List}
-use lib.ListN.{length}
-use native.Mathlib.Decide.{decLt, decLe}
-use native.Mathlib.Omega.{arith}
+use Rattle.octets.proofs.Kit.{ℕ, zero, suc, _+_, _*_, _-_, _/_, _%_, _<_, _≤_, _≡_, refl, sym, _∙_, ap, ap₂, subst, subst⁻¹, _⊎_, inl, inr, List, length, decLt, decLe, arith}
+use Rattle.sheet.specs.{Kind.{properties, groups, kindOf}, Layout._of_, Entries.{count, place, contents, entry, keyOf, bodyAt, bodyEnd, InBody}}
+use Rattle.sheet.specs.{Places.{Position, inHead, inEntry, inBody, regionAt, Stands, PropertyWith}, Agree.Fixed, declared.Memory.{Memory, the-variants.{Device, User}}}
+use Rattle.sheet.proofs.{rules.Good.{Good, accepted}, places.{BodyPlaces.{within, after-contents, disjoint}, Standing.{InEntry, after-head, place-in, one-entry}}}
+use Rattle.sheet.proofs.{promises.{Positions.position, Keys.{key-once, key-is}}, places.RegionBodies.{kind-once, no-property, no-group as no-group-region, stands-in, stands-back}}
+use Rattle.sheet.proofs.promises.Runs.{stands-once}
 use Rattle.sheet.specs.Head as head
-use Rattle.sheet.specs.Kind.{properties, groups, kindOf}
-use Rattle.sheet.specs.Layout.{_of_}
 use Rattle.sheet.specs.Region as region
 use Rattle.sheet.specs.Property as property
-use Rattle.sheet.specs.Entries.{count, place, contents, entry, keyOf, bodyAt, bodyEnd, InBody}
-use Rattle.sheet.specs.Places.{Position, inHead, inEntry, inBody, regionAt, Stands, PropertyWith}
-use Rattle.sheet.specs.Agree.{Fixed}
-use Rattle.sheet.proofs.rules.Good.{Good, accepted}
-use Rattle.sheet.proofs.places.BodyPlaces.{within, after-contents, disjoint}
-use Rattle.sheet.specs.declared.Memory.{Memory}
-use Rattle.sheet.specs.declared.Memory.the-variants.{Device, User}
-use Rattle.sheet.proofs.places.Standing.{InEntry, after-head, place-in, one-entry}
-use Rattle.sheet.proofs.promises.Positions.{position}
-use Rattle.sheet.proofs.promises.Keys.{key-once, key-is}
-use Rattle.sheet.proofs.places.RegionBodies.{kind-once, no-property, no-group as no-group-region, stands-in, stands-back}
-use Rattle.sheet.proofs.promises.Runs.{stands-once}
-use Rattle.history.specs.Location.{Location, memory, key, Place, ofMemory, ofBody, ofCounter, ofKey}
-use Rattle.history.specs.Sort.{Sort, isLocation, isGroup, isField, location, groupBody, beingOf}
+use Rattle.history.specs.{Location.{Location, memory, key, Place, ofMemory, ofBody, ofCounter, ofKey}, Sort.{Sort, isLocation, isGroup, isField, location, groupBody, beingOf}}
 
 -- byte j of a property's body lies in it, and byte j of its count in its entry
 pub body-in :

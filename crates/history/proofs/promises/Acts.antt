@@ -1,20 +1,10 @@
 -- TWO TOOLS AND A STORE: from the same store, whatever changes it being the same in both runs, one tool sees the same whatever the other sends that changes nothing.
--- Assumes nothing.
-use Prim.Native.Nat.{ℕ}
-use mathlib.Core.Path.{_≡_, refl, sym, ap, ap₂, subst}
-use mathlib.Core.List.{List, _∷_}
-use lib.Dec.{eqb}
-use borrow.Author.Tests.{eq-eqb}
+use Rattle.octets.proofs.Kit.{ℕ, _≡_, refl, sym, ap, ap₂, subst, List, _∷_, eqb, eq-eqb}
+use Rattle.versions.specs.{Saving.SavedAs, Removing.Removed, declared.saving.Saved.Saved}
 use Rattle.events.specs.Events.{Event, restore}
-use Rattle.versions.specs.Saving.{SavedAs}
-use Rattle.versions.specs.Removing.{Removed}
-use Rattle.versions.specs.declared.saving.Saved.{Saved}
-use Rattle.history.specs.History.{First}
-use Rattle.history.specs.Keeps.{Device, stateAfter}
-use Rattle.history.specs.Isolation.{Alike, same, Beside, Seen, Isolated}
+use Rattle.history.specs.{History.First, Keeps.{Device, stateAfter}, Isolation.{Alike, same, Beside, Seen, Isolated}, Rightful.ours, Acts.{Act, saves, removes, eventsOf, storeAfter}}
+use Rattle.history.specs.Acts.{BesideActs, begin, storesBoth, shared, sharedRestore, oneMore, otherMore, oneRestore, otherRestore, ActsIsolated}
 use Rattle.history.specs.Isolation as runs
-use Rattle.history.specs.Rightful.{ours}
-use Rattle.history.specs.Acts.{Act, saves, removes, eventsOf, storeAfter, BesideActs, begin, storesBoth, shared, sharedRestore, oneMore, otherMore, oneRestore, otherRestore, ActsIsolated}
 use Rattle.history.proofs.promises.Isolated.{isolated}
 
 module _ (step : Device) (apart : Isolated step) (f : First) (st : List ℕ) (t o : ℕ) (two : t ≡ o → ⊥) where

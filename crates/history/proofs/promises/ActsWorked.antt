@@ -1,41 +1,17 @@
 -- A RUN OF ACTS, by computation: the example of docs/STORE.md with the device beside the store. Connected at level 0: saved, BEEFh written to element 2, saved again, version 1 restored, then removed.
--- Assumes nothing.
-use Prim.Native.Nat.{ℕ}
-use mathlib.Core.Path.{_≡_, refl}
-use mathlib.Core.List.{List, [], _∷_, map}
-use lib.ListN.{replicate}
-use Rattle.octets.specs.Bytes.{numAt, bytesOf}
-use Rattle.octets.specs.Every.{every}
-use Rattle.octets.specs.Splice.{splice}
-use Rattle.sheet.specs.Demand.{breach}
-use Rattle.sheet.specs.First.{first}
-use Rattle.sheet.specs.Head.{rulesOf}
-use Rattle.sheet.specs.Entries.{entry, keyOf, floor, bodyAt, bodyEnd, startOf, reached, sixBits}
-use Rattle.sheet.specs.Rules.{entryDemands, bodyDemands, entryRule, bodyRule, entriesRule, bodiesRule, walkRule, restRule, ruleIn, verdictOf}
-use Rattle.sheet.specs.Lookup.{seek, indexOf}
-use Rattle.pdu.specs.Table.{find}
-use Rattle.pdu.specs.Rules.{lowAt, fourAt, twelveAt, headBytes}
-use Rattle.pdu.specs.Read.{readPdu, dataOf}
-use Rattle.pdu.specs.Write.{encoded}
-use Rattle.judge.specs.Session.{levelOf, levelIn}
-use Rattle.judge.specs.Properties.{writeIn, propertyWriteOf}
-use Rattle.judge.specs.Keys.{grantOf, authorizeOf}
-use Rattle.judge.specs.Judge.{reachedOf, isShut, judgeOf}
-use Rattle.device.specs.Step.{stepBy, stepOf}
-use Rattle.device.specs.Events.{requestOf}
-use Rattle.device.specs.Marked.{sample}
-use Rattle.events.specs.Events.{Event, connect, request, restore, eventOf}
-use Rattle.versions.specs.Store.{headOf, rowOf, tableOf, bodiesOf, laid, versionAt, versionsFrom, kept, has, bodyOf, isKept, versionIn}
-use Rattle.versions.specs.Rules.{rowsRule, allRows, storeRule, isStore}
-use Rattle.versions.specs.Settings.{settingsOf, restored}
-use Rattle.versions.specs.Saving.{saved, saveOutcome, saveStore}
-use Rattle.versions.specs.Restoring.{sameEntry, lowCount, sameEntries, lowCounts, givesBack, atZero, restoreOutcome, restoreSheet}
-use Rattle.versions.specs.Removing.{without, removed, removeOutcome, removeStore}
+use Rattle.octets.proofs.Kit.{ℕ, _≡_, refl, List, [], _∷_, map, replicate}
+use Rattle.octets.specs.{Bytes.{numAt, bytesOf}, Every.every, Splice.splice}
+use Rattle.sheet.specs.{Demand.breach, First.first, Head.rulesOf, Entries.{entry, keyOf, floor, bodyAt, bodyEnd, startOf, reached, sixBits}}
+use Rattle.sheet.specs.{Rules.{entryDemands, bodyDemands, entryRule, bodyRule, entriesRule, bodiesRule, walkRule, restRule, ruleIn, verdictOf}, Lookup.{seek, indexOf}}
+use Rattle.pdu.specs.{Table.find, Rules.{lowAt, fourAt, twelveAt, headBytes}, Read.{readPdu, dataOf}, Write.encoded}
+use Rattle.judge.specs.{Session.{levelOf, levelIn}, Properties.{writeIn, propertyWriteOf}, Keys.{grantOf, authorizeOf}, Judge.{reachedOf, isShut, judgeOf}}
+use Rattle.device.specs.{Step.{stepBy, stepOf}, Events.requestOf, Marked.sample}
+use Rattle.versions.specs.{Store.{headOf, rowOf, tableOf, bodiesOf, laid, versionAt, versionsFrom, kept, has, bodyOf, isKept, versionIn}, Rules.{rowsRule, allRows, storeRule, isStore}}
+use Rattle.versions.specs.{Settings.{settingsOf, restored}, Saving.{saved, saveOutcome, saveStore}}
+use Rattle.versions.specs.{Restoring.{sameEntry, lowCount, sameEntries, lowCounts, givesBack, atZero, restoreOutcome, restoreSheet}, Removing.{without, removed, removeOutcome, removeStore}}
 use Rattle.versions.specs.Example.{empty, once, later, twice, left}
-use Rattle.history.specs.Keeps.{stateAfter}
-use Rattle.history.specs.Rightful.{ours}
-use Rattle.history.specs.Acts.{Act, does, restores, saves, removes, eventsOf, storeAfter}
-use Rattle.history.specs.Samples.{fresh}
+use Rattle.events.specs.Events.{Event, connect, request, restore, eventOf}
+use Rattle.history.specs.{Keeps.stateAfter, Rightful.ours, Acts.{Act, does, restores, saves, removes, eventsOf, storeAfter}, Samples.fresh}
 
 -- the key of level 0 offered; BEEF to element 2 of property 51 of object 1
 abbrev asked : List ℕ → Event

@@ -1,15 +1,7 @@
 -- A permitted write takes effect at once: it follows from what every location holds one event later.
--- Assumes nothing.
-use Prim.Native.Nat.{ℕ}
-use mathlib.Core.Path.{_≡_, ap, _∙_}
-use mathlib.Core.Bool.{Bool, true, cond}
-use mathlib.Core.List.{List, _∷_}
-use lib.ListN.{getD}
+use Rattle.octets.proofs.Kit.{ℕ, _≡_, ap, _∙_, Bool, true, cond, List, _∷_, getD}
 use Rattle.events.specs.Events.{Event}
-use Rattle.history.specs.Location.{Location, Place}
-use Rattle.history.specs.Span.{names, gives}
-use Rattle.history.specs.History.{First, content, permitted}
-use Rattle.history.specs.Keeps.{Device, stateAfter}
+use Rattle.history.specs.{Location.{Location, Place}, Span.{names, gives}, History.{First, content, permitted}, Keeps.{Device, stateAfter}}
 use Rattle.history.proofs.steps.Requests.{Spans, contents-new}
 
 module _ (step : Device) (f : First) (h : List Event) (e : Event) where

@@ -1,41 +1,17 @@
 -- THE CALLS: whatever calls a host makes, demand 3 and what goes with it hold of what the last one left, and of what the next one gives. All that is asked of them is that
 -- they follow a history; `calls-after` says it of runs of `Call`, host's `mixed-follows` of any mixture.
--- Assumes nothing.
-use Prim.Native.Nat.{ℕ, _<_, _≤_}
-use mathlib.Core.Path.{_≡_, refl, sym, ap, ap₂, subst, _∙_}
-use mathlib.Core.Bool.{true, false}
-use mathlib.Core.List.{List, [], _∷_, _++_, reverse}
-use Rattle.sheet.specs.Head.{rulesOf}
-use Rattle.sheet.specs.declared.Memory.{Memory}
-use Rattle.pdu.specs.Read.{readPdu}
-use Rattle.pdu.specs.declared.Parsed.the-variants.{Is}
-use Rattle.pdu.specs.declared.Pdu.the-variants.{PropertyValueRead}
-use Rattle.device.specs.Sessions.{sessionOf}
-use Rattle.device.specs.Events.{Effect, State}
-use Rattle.events.specs.Events.{Event, button, request, restore, eventOf, run}
-use Rattle.device.specs.MemoryDue.{reading}
-use Rattle.device.specs.Due.{ButtonDue}
-use Rattle.events.specs.Due.{RestoreDue}
-use Rattle.device.specs.Apart.{SameEffect, Together}
-use Rattle.events.specs.Apart.{Settled, AllSettled}
-use Rattle.device.proofs.promises.Called.{call-due, call-only}
+use Rattle.octets.proofs.Kit.{ℕ, _<_, _≤_, _≡_, refl, sym, ap, ap₂, subst, _∙_, true, false, List, [], _∷_, _++_, reverse}
+use Rattle.sheet.specs.{Head.rulesOf, declared.Memory.Memory}
+use Rattle.pdu.specs.{Read.readPdu, declared.{Parsed.the-variants.Is, Pdu.the-variants.PropertyValueRead}}
+use Rattle.device.{specs.{Sessions.sessionOf, Events.{Effect, State}, MemoryDue.reading, Due.ButtonDue, Apart.{SameEffect, Together}}, proofs.promises.Called.{call-due, call-only}}
 use Rattle.device.proofs.promises.Dues.{connect-due, connect-only, disconnect-due, disconnect-only, button-due, button-only, request-due}
-use Rattle.events.proofs.promises.Dues.{restore-due, restore-only}
+use Rattle.events.{specs.{Events.{Event, button, request, restore, eventOf, run}, Due.RestoreDue, Apart.{Settled, AllSettled}}, proofs.promises.Dues.{restore-due, restore-only}}
 use Rattle.events.proofs.promises.RunsApart.{event-apart}
-use Rattle.history.specs.History.{First, permitted}
-use Rattle.history.specs.Keeps.{stateAfter, CarriedOut, BringsOctets, AllOctets, Begins, Kept}
-use Rattle.history.specs.Keyless.{Locked, Closed, Protected}
-use Rattle.history.specs.Shown.{Shows, MemoryShows}
-use Rattle.history.specs.Isolation.{isOf, Alike, Beside}
-use Rattle.history.specs.Rightful.{ours}
+use Rattle.history.specs.{History.{First, permitted}, Keeps.{stateAfter, CarriedOut, BringsOctets, AllOctets, Begins, Kept}, Keyless.{Locked, Closed, Protected}}
+use Rattle.history.specs.{Shown.{Shows, MemoryShows}, Isolation.{isOf, Alike, Beside}, Rightful.ours}
 use Rattle.history.specs.Calls.{Call, connects, disconnects, presses, requests, Calls, begin, next, restores, Follows, EventDue}
-use Rattle.history.proofs.promises.InOrder.{firstState, run-on}
-use Rattle.history.proofs.promises.Isolated.{isolated}
-use Rattle.history.proofs.promises.Keep.{keeps}
-use Rattle.history.proofs.promises.Keyless.{shut-device, keyless-device}
-use Rattle.history.proofs.promises.MemoryShown.{ours-memory-shown}
-use Rattle.history.proofs.promises.RulesStay.{rules-stay}
-use Rattle.history.proofs.promises.Shown.{ours-shown}
+use Rattle.history.proofs.promises.{InOrder.{firstState, run-on}, Isolated.isolated, Keep.keeps, Keyless.{shut-device, keyless-device}, MemoryShown.ours-memory-shown}
+use Rattle.history.proofs.promises.{RulesStay.rules-stay, Shown.ours-shown}
 
 -- A CALL GIVES WHAT ITS EVENT GIVES, and it brought bytes
 pub call-is : {x : State} {e : Event} {r : Effect} → Call x e r → (r ≡ eventOf x e) × BringsOctets e

@@ -1,24 +1,10 @@
 -- EVERY BYTE THAT IS COUNTED IS GIVEN, by the history alone.
--- Assumes nothing.
-use Prim.Native.Nat.{ℕ, _*_, _<_}
-use mathlib.Core.Path.{_≡_, refl, sym, subst, _∙_}
-use mathlib.Core.Logic.{_⊎_, inl, inr}
-use mathlib.Core.Bool.{Bool, true, false, cond, _&&_, _||_}
-use mathlib.Core.List.{List, [], _∷_}
-use lib.Dec.{ltb}
-use native.Mathlib.Nat.{mul-le-mul-right}
-use native.Mathlib.Omega.{arith}
-use borrow.Author.Tests.{lt-ltb}
+use Rattle.octets.proofs.Kit.{ℕ, _*_, _<_, _≡_, refl, sym, subst, _∙_, _⊎_, inl, inr, Bool, true, false, cond, _&&_, _||_, List, [], _∷_, ltb, mul-le-mul-right, arith, lt-ltb}
 use Rattle.octets.proofs.Truths.{or-is}
 use Rattle.events.specs.Events.{Event}
-use Rattle.history.specs.Location.{Location, body, counter}
-use Rattle.history.specs.Span.{names}
-use Rattle.history.specs.Permit.{countIn}
-use Rattle.history.specs.History.{First, wished, supplied, content, permitted}
+use Rattle.history.specs.{Location.{Location, body, counter}, Span.names, Permit.countIn, History.{First, wished, supplied, content, permitted}}
 use Rattle.history.specs.Shown.{elementOf, clearing, restoring, given}
-use Rattle.history.proofs.steps.Requests.{Spans, contents-new, contents-same}
-use Rattle.history.proofs.spans.Spans.{laid, laid-is}
-use Rattle.history.proofs.spans.Counts.{cleared, counts}
+use Rattle.history.proofs.{steps.Requests.{Spans, contents-new, contents-same}, spans.{Spans.{laid, laid-is}, Counts.{cleared, counts}}}
 
 module _ (f : First) (object id j : ℕ) where
   pub counted-given :

@@ -1,28 +1,14 @@
 -- `keyless` on the sample sheet: the height, property 51 of object 1, and the keys that protect it.
--- Assumes nothing.
-use Prim.Native.Nat.{ℕ, _+_, _*_, _<_, _≤_}
-use mathlib.Core.Path.{_≡_, refl}
-use mathlib.Core.List.{List, reverse}
-use lib.ListN.{getD}
-use native.Mathlib.Omega.{arith}
+use Rattle.octets.proofs.Kit.{ℕ, _+_, _<_, _≤_, _≡_, refl, List, reverse, getD, arith}
 use Rattle.octets.specs.Bytes.{numAt}
+use Rattle.sheet.specs.{Demand.breach, First.first, Entries.{entry, keyOf, floor, bodyAt, bodyEnd, startOf, reached, sixBits}}
+use Rattle.sheet.specs.{Rules.{entryDemands, bodyDemands, entryRule, bodyRule, entriesRule, bodiesRule, walkRule, restRule, ruleIn, verdictOf}, Lookup.{seek, indexOf}}
 use Rattle.sheet.specs.Head as head
-use Rattle.sheet.specs.Demand.{breach}
-use Rattle.sheet.specs.First.{first}
-use Rattle.sheet.specs.Entries.{entry, keyOf, floor, bodyAt, bodyEnd, startOf, reached, sixBits}
-use Rattle.sheet.specs.Rules.{entryDemands, bodyDemands, entryRule, bodyRule, entriesRule, bodiesRule, walkRule, restRule, ruleIn, verdictOf}
-use Rattle.sheet.specs.Lookup.{seek, indexOf}
-use Rattle.device.specs.Events.{State}
+use Rattle.device.{specs.{Events.State, Marked.sample}, proofs.leaves.Octet.octets-by}
 use Rattle.events.specs.Events.{Event, run}
-use Rattle.device.specs.Marked.{sample}
-use Rattle.device.proofs.leaves.Octet.{octets-by}
-use Rattle.history.specs.Location.{body, counter, key, Place, ofBody, ofCounter, ofKey}
-use Rattle.history.specs.Permit.{indexFor, entryFor}
-use Rattle.history.specs.Keeps.{Begins, AllOctets}
-use Rattle.history.specs.Keyless.{writeLevel, NotOffered, Protected}
-use Rattle.history.specs.Samples.{fresh}
-use Rattle.history.proofs.promises.InOrder.{firstState}
-use Rattle.history.proofs.promises.Keyless.{locked, keyless-run}
+use Rattle.history.specs.{Location.{body, counter, key, Place, ofBody, ofCounter, ofKey}, Permit.{indexFor, entryFor}, Keeps.{Begins, AllOctets}}
+use Rattle.history.specs.{Keyless.{writeLevel, NotOffered, Protected}, Samples.fresh}
+use Rattle.history.proofs.promises.{InOrder.firstState, Keyless.{locked, keyless-run}}
 
 -- the sample is accepted
 pub begins : Begins fresh

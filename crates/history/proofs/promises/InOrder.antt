@@ -1,13 +1,8 @@
 -- A history has the newest event first and a run the oldest: the state after the one is that after the other, reversed.
--- Assumes nothing.
-use mathlib.Core.Path.{_≡_, refl, sym, ap, _∙_}
-use mathlib.Core.List.{List, [], _∷_, _++_, reverse, reverse-cons, reverse-reverse, append-assoc}
+use Rattle.octets.proofs.Kit.{_≡_, refl, sym, ap, _∙_, List, [], _∷_, _++_, reverse, reverse-cons, reverse-reverse, append-assoc}
 use Rattle.device.specs.Events.{State}
-use Rattle.events.specs.Events.{Event, after, runBy, run}
-use Rattle.events.proofs.promises.Append.{run-append}
-use Rattle.history.specs.History.{First}
-use Rattle.history.specs.Keeps.{stateAfter}
-use Rattle.history.specs.Rightful.{ours}
+use Rattle.events.{specs.Events.{Event, after, runBy, run}, proofs.promises.Append.run-append}
+use Rattle.history.specs.{History.First, Keeps.stateAfter, Rightful.ours}
 
 module _ (f : First) where
   abbrev pub firstState : State

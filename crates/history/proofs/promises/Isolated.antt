@@ -1,16 +1,9 @@
 -- ISOLATION: what one tool sees of our device does not depend on what the other sends, as long as that changes nothing. From any sheet and any sessions.
--- Assumes nothing.
-use Prim.Native.Nat.{ℕ}
-use mathlib.Core.Path.{_≡_}
-use mathlib.Core.List.{List}
+use Rattle.octets.proofs.Kit.{ℕ, _≡_, List}
 use Rattle.events.specs.Events.{Event}
-use Rattle.history.specs.History.{First}
-use Rattle.history.specs.Keeps.{Device, Begins, AllOctets}
-use Rattle.history.specs.Rightful.{Rightful, ours}
+use Rattle.history.specs.{History.First, Keeps.{Device, Begins, AllOctets}, Rightful.{Rightful, ours}}
 use Rattle.history.specs.Isolation.{Beside, begin, shared, oneMore, otherMore, Seen, Isolated, SameFor, Along, AllHarmless, without}
-use Rattle.history.proofs.promises.OneDevice.{one-state, one-device}
-use Rattle.history.proofs.apart.Near.{near, equal}
-use Rattle.history.proofs.apart.Besides.{beside-ours, beside-without}
+use Rattle.history.proofs.{promises.OneDevice.{one-state, one-device}, apart.{Near.{near, equal}, Besides.{beside-ours, beside-without}}}
 
 -- ISOLATION
 pub isolated : Isolated ours

@@ -1,31 +1,14 @@
 -- DEMAND 3, for any device whose requests are answered as they are due.
--- Assumes nothing.
-use Prim.Native.Nat.{ℕ, _<_}
-use mathlib.Core.Path.{_≡_, refl, sym, ap, subst, _∙_}
-use mathlib.Core.Bool.{Bool, true, false}
-use mathlib.Core.List.{List, [], _∷_}
-use native.Mathlib.Decide.{decLt, ℕ-discrete}
-use native.Mathlib.Omega.{arith}
+use Rattle.octets.proofs.Kit.{ℕ, _<_, _≡_, refl, sym, ap, subst, _∙_, Bool, true, false, List, [], _∷_, decLt, ℕ-discrete, arith}
 use Rattle.octets.proofs.Truths.{never}
-use Rattle.judge.specs.Session as judge
 use Rattle.judge.specs.declared.Session.{Session}
-use Rattle.device.specs.Octets.{Octets}
-use Rattle.device.specs.Sessions.{sessionOf}
-use Rattle.device.specs.Events.{Effect, State}
-use Rattle.events.specs.Events.{Event, connect, disconnect, button, request, eventOf, restore}
-use Rattle.device.specs.Due.{RequestDue}
-use Rattle.device.proofs.leaves.Connections.{unknown-closed}
+use Rattle.judge.specs.Session as judge
+use Rattle.device.{specs.{Octets.Octets, Sessions.sessionOf, Events.{Effect, State}, Due.RequestDue}, proofs.leaves.Connections.unknown-closed}
 use Rattle.device.proofs.promises.Dues.{connect-due, disconnect-due, button-due, button-only, request-due}
-use Rattle.events.proofs.promises.Dues.{restore-due}
-use Rattle.history.specs.History.{First, permitted}
-use Rattle.history.specs.Keeps.{Device, stateAfter, CarriedOut, Kept, Begins, BringsOctets, AllOctets, Keeps}
-use Rattle.history.specs.Rightful.{Rightful, ours}
-use Rattle.history.proofs.promises.Said.{said, no-connection}
-use Rattle.history.proofs.steps.Invariant.{Inv, begin, connected, disconnected, button-pressed, now, now-accepted}
-use Rattle.history.proofs.steps.Requests.{Done}
-use Rattle.history.proofs.steps.Steps.{due}
-use Rattle.history.proofs.steps.RestoreSteps.{restore-inv, restore-only, restore-all}
-use Rattle.history.proofs.promises.AtOnce.{at-once}
+use Rattle.events.{specs.Events.{Event, connect, disconnect, button, request, eventOf, restore}, proofs.promises.Dues.restore-due}
+use Rattle.history.specs.{History.{First, permitted}, Keeps.{Device, stateAfter, CarriedOut, Kept, Begins, BringsOctets, AllOctets, Keeps}, Rightful.{Rightful, ours}}
+use Rattle.history.proofs.{promises.Said.{said, no-connection}, steps.{Invariant.{Inv, begin, connected, disconnected, button-pressed, now, now-accepted}, Requests.Done, Steps.due}}
+use Rattle.history.proofs.{steps.RestoreSteps.{restore-inv, restore-only, restore-all}, promises.AtOnce.at-once}
 
 module _ (step : Device) (rightful : (f : First) (h : List Event) → Rightful (step f h)) (f : First) (b : Begins f) where
   -- one event more

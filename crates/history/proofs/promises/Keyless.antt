@@ -1,42 +1,18 @@
 -- NOBODY WITHOUT THE KEY CHANGES A PROTECTED BYTE: over the history alone, then of any device that keeps demand 3, then of ours.
--- Assumes nothing.
-use Prim.Native.Nat.{ℕ, _%_, _<_, _≤_}
-use mathlib.Core.Path.{_≡_, refl, sym, ap, subst, _∙_}
-use mathlib.Core.Logic.{inl, inr}
-use mathlib.Core.Bool.{Bool, true, false, cond, _&&_}
-use mathlib.Core.List.{List, [], _∷_, reverse}
-use native.Mathlib.Decide.{ℕ-discrete}
-use native.Mathlib.Omega.{arith}
-use Rattle.octets.specs.Bytes.{numAt}
-use Rattle.sheet.specs.Kind.{properties}
-use Rattle.sheet.specs.Layout.{_of_}
+use Rattle.octets.proofs.Kit.{ℕ, _%_, _<_, _≤_, _≡_, refl, sym, ap, subst, _∙_, inl, inr, Bool, true, false, cond, _&&_, List, [], _∷_, reverse, ℕ-discrete, arith}
+use Rattle.octets.{specs.Bytes.numAt, proofs.Truths.{never, and-is}}
+use Rattle.sheet.{specs.{Kind.properties, Layout._of_, Entries.entry, Places.{Stands, PropertyWith}, declared.Memory.Memory}, proofs.rules.Good.{Good, good}}
+use Rattle.sheet.proofs.searches.Regions.{covers-stands}
 use Rattle.sheet.specs.Head as head
 use Rattle.sheet.specs.Property as property
-use Rattle.sheet.specs.Entries.{entry}
-use Rattle.sheet.specs.Places.{Stands, PropertyWith}
-use Rattle.sheet.specs.declared.Memory.{Memory}
-use Rattle.sheet.proofs.rules.Good.{Good, good}
-use Rattle.sheet.proofs.searches.Regions.{covers-stands}
-use Rattle.octets.proofs.Truths.{never, and-is}
 use Rattle.judge.specs.declared.Session.{Session}
 use Rattle.device.specs.Sessions.{sessionOf}
 use Rattle.events.specs.Events.{Event, connect, disconnect, button, request, run, restore}
-use Rattle.history.specs.Location.{Location, memory, body, counter, key}
-use Rattle.history.specs.Span.{names, gives}
-use Rattle.history.specs.Wish.{offerKey}
-use Rattle.history.specs.Permit.{entryFor}
-use Rattle.history.specs.History.{First, firstOf, wished, keyIn, offered, opened, level, keys, content, permitted}
-use Rattle.history.specs.Keeps.{Device, stateAfter, Begins, AllOctets, Keeps}
-use Rattle.history.specs.Keyless.{writeLevel, Unlocks, offers, Locked, NotOffered, Closed, Shut, Untouched, Protected}
-use Rattle.history.specs.Rightful.{ours}
-use Rattle.history.proofs.spans.Bools.{must-fail}
-use Rattle.history.proofs.promises.Said.{no-connection}
-use Rattle.history.proofs.heard.Searches.{region-hit, property-hit}
-use Rattle.history.proofs.promises.InOrder.{firstState, after-is-run}
-use Rattle.history.proofs.steps.Invariant.{first-holds}
-use Rattle.history.proofs.promises.Keep.{keeps}
-use Rattle.history.proofs.steps.Requests.{Spans}
-use Rattle.history.proofs.heard.Moves.{Moved, moved, unnamed, unrestored}
+use Rattle.history.specs.{Location.{Location, memory, body, counter, key}, Span.{names, gives}, Wish.offerKey, Permit.entryFor}
+use Rattle.history.specs.{History.{First, firstOf, wished, keyIn, opened, level, keys, content, permitted}, Keeps.{Device, stateAfter, Begins, AllOctets, Keeps}}
+use Rattle.history.specs.{Keyless.{writeLevel, Unlocks, offers, Locked, NotOffered, Closed, Shut, Untouched, Protected}, Rightful.ours}
+use Rattle.history.proofs.{spans.Bools.must-fail, promises.Said.no-connection, heard.Searches.{region-hit, property-hit}, promises.InOrder.{firstState, after-is-run}}
+use Rattle.history.proofs.{steps.Invariant.first-holds, promises.Keep.keeps, steps.Requests.Spans, heard.Moves.{Moved, moved, unnamed, unrestored}}
 
 -- the write level is the one that the entry says: of the region where an address stands, of the property with an object and id
 module _ {s : List ℕ} (g : Good s) where

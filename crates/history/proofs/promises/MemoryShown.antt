@@ -1,52 +1,16 @@
 -- WHAT A READ SHOWS OF MEMORY IS WHAT THE HISTORY SAYS, over one region or several: of ours, and so of any device that does what is due.
--- Assumes nothing.
-use Prim.Native.Nat.{ℕ, _+_, _/_, _<_, _≤_}
-use mathlib.Core.Path.{_≡_, sym, ap, subst, _∙_}
-use mathlib.Core.Bool.{true}
-use mathlib.Core.List.{List}
-use lib.ListN.{length, drop, length-take, length-drop}
-use lib.Seq.{getD-take, getD-drop}
-use native.Mathlib.Omega.{arith}
-use borrow.Author.Tests.{le-leb}
-use Rattle.sheet.specs.Places.{Ranged}
-use Rattle.sheet.specs.declared.Memory.{Memory}
-use Rattle.sheet.proofs.searches.Regions.{covers-stands}
-use Rattle.sheet.proofs.promises.Runs.{range-within}
-use Rattle.sheet.proofs.alike.SameLookups.{ranged-same}
+use Rattle.octets.proofs.Kit.{ℕ, _+_, _/_, _<_, _≤_, _≡_, sym, ap, subst, _∙_, true, List, length, drop, length-take, length-drop, getD-take, getD-drop, arith, le-leb}
+use Rattle.sheet.{specs.{Places.Ranged, declared.Memory.Memory}, proofs.{searches.Regions.covers-stands, promises.Runs.range-within, alike.SameLookups.ranged-same}}
 use Rattle.sheet.proofs.promises.Agrees.{agree-sym}
-use Rattle.pdu.specs.Read.{readPdu}
-use Rattle.pdu.specs.Write.{encoded}
-use Rattle.pdu.specs.declared.Pdu.{Pdu}
-use Rattle.pdu.specs.declared.Parsed.the-variants.{Is}
-use Rattle.judge.specs.Session.{levelIn}
-use Rattle.judge.specs.Memory.{mostBytes}
-use Rattle.judge.specs.declared.Access.the-variants.{Read}
-use Rattle.judge.specs.declared.Decision.{Decision}
-use Rattle.judge.proofs.MemoryCases.{Permits, range-in, memory-read-cases}
-use Rattle.device.specs.Step.{Step, stepBy}
-use Rattle.device.specs.Events.{State, requestOf}
+use Rattle.pdu.specs.{Read.readPdu, Write.encoded, declared.{Pdu.Pdu, Parsed.the-variants.Is}}
+use Rattle.judge.{specs.{Session.levelIn, Memory.mostBytes, declared.{Access.the-variants.Read, Decision.Decision}}, proofs.MemoryCases.{Permits, range-in, memory-read-cases}}
+use Rattle.device.specs.{Step.{Step, stepBy}, Events.{State, requestOf}, Asked.{Asked, Reads, given, part}, MemoryDue.{reading, response}, Demand2.done, Due.asked}
+use Rattle.device.proofs.due.{RightMemory.look-at, Stepped.step-read, WasReady.carried}
 use Rattle.events.specs.Events.{Event, request, eventOf}
-use Rattle.device.specs.Asked.{Asked, Reads, given, part}
-use Rattle.device.specs.MemoryDue.{reading, response}
-use Rattle.device.specs.Demand2.{done}
-use Rattle.device.specs.Due.{asked}
-use Rattle.device.proofs.due.RightMemory.{look-at}
-use Rattle.device.proofs.due.Stepped.{step-read}
-use Rattle.device.proofs.due.WasReady.{carried}
-use Rattle.history.specs.Permit.{levelFor, mayRead}
-use Rattle.history.specs.History.{First, level}
-use Rattle.history.specs.Keeps.{Device, stateAfter, Begins, AllOctets}
-use Rattle.history.specs.Rightful.{Rightful, ours}
+use Rattle.history.specs.{Permit.{levelFor, mayRead}, History.{First, level}, Keeps.{Device, stateAfter, Begins, AllOctets}, Rightful.{Rightful, ours}}
 use Rattle.history.specs.Shown.{MemoryShows, MemoryShown}
-use Rattle.history.proofs.promises.Said.{said}
-use Rattle.history.proofs.steps.Invariant.{Inv, fine, now}
-use Rattle.history.proofs.promises.Keep.{ours-after}
-use Rattle.history.proofs.heard.LevelFor.{level-is}
-use Rattle.history.proofs.heard.Meets.{level-met}
-use Rattle.history.proofs.stored.MemoryRun.{memory-place}
-use Rattle.history.proofs.promises.OneDevice.{one-device}
-use Rattle.history.proofs.steps.Requests.{met-so}
-use Rattle.history.proofs.heard.Searches.{may-read}
+use Rattle.history.proofs.{promises.Said.said, steps.Invariant.{Inv, fine, now}, promises.Keep.ours-after, heard.{LevelFor.level-is, Meets.level-met}, stored.MemoryRun.memory-place}
+use Rattle.history.proofs.{promises.OneDevice.one-device, steps.Requests.met-so, heard.Searches.may-read}
 
 module _ (f : First) (h : List Event) (b : Begins f) (all : AllOctets h) (mode c g : ℕ) (a out : List ℕ) (m : Memory) (n y : ℕ)
     (reads : readPdu a ≡ Is (reading m n y)) (ok : eventOf (stateAfter ours f h) (request mode c g a out) .outcome ≡ 0) where

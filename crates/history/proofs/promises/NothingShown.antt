@@ -1,37 +1,13 @@
 -- ONE REQUEST SHOWS NO SECRET BYTE to a tool whose level is q or above.
--- Assumes nothing.
-use Prim.Native.Nat.{ℕ, _<_, _≤_}
-use mathlib.Core.Path.{_≡_, refl, subst}
-use mathlib.Core.Logic.{_↔_, inl, inr}
-use mathlib.Core.Bool.{true}
-use mathlib.Core.List.{List}
-use native.Mathlib.Decide.{decLt, ℕ-discrete}
-use native.Mathlib.Omega.{arith}
-use borrow.Author.Tests.{eq-eqb, ne-eqb, lt-ltb, le-ltb}
-use Rattle.sheet.specs.Kind.{properties, groups, kindOf}
-use Rattle.sheet.specs.Layout.{_of_}
+use Rattle.octets.proofs.Kit.{ℕ, _<_, _≤_, _≡_, refl, subst, _↔_, inl, inr, true, List, decLt, ℕ-discrete, arith, eq-eqb, ne-eqb, lt-ltb, le-ltb}
+use Rattle.sheet.{specs.{Kind.{properties, groups, kindOf}, Entries.{contents, InBody}, Agree.Agree, declared.Memory.{Memory, the-variants.{Device, User}}}, proofs.rules.Good.{Good, good}}
+use Rattle.sheet.proofs.{places.BodyPlaces.{after-contents, disjoint}, promises.Agrees.agree-sym, alike.Sames.{count-same, at-same, end-same, region-same, property-same}}
 use Rattle.sheet.specs.Region as region
 use Rattle.sheet.specs.Property as property
-use Rattle.sheet.specs.Entries.{entry, contents, InBody}
-use Rattle.sheet.specs.Agree.{Agree}
-use Rattle.sheet.specs.declared.Memory.{Memory}
-use Rattle.sheet.specs.declared.Memory.the-variants.{Device, User}
-use Rattle.sheet.proofs.rules.Good.{Good, good}
-use Rattle.sheet.proofs.places.BodyPlaces.{after-contents, disjoint}
-use Rattle.sheet.proofs.promises.Agrees.{agree-sym}
-use Rattle.sheet.proofs.alike.Sames.{count-same, at-same, end-same, region-same, property-same}
 use Rattle.pdu.specs.Read.{readPdu}
-use Rattle.judge.specs.Session.{levelOf, levelIn, connected}
-use Rattle.judge.specs.Judge.{judgeOf, dataIn}
-use Rattle.judge.specs.declared.Session.{Session}
-use Rattle.judge.specs.declared.Decision.{Decision}
-use Rattle.device.specs.Asked.{Asked}
-use Rattle.device.specs.Bodies.{SameButBodies}
-use Rattle.device.specs.Step.{stepBy, stepOf}
-use Rattle.device.proofs.apart.CarryReads.{readLevel, Unread, spares}
-use Rattle.device.proofs.promises.NoBody.{agrees, no-body}
-use Rattle.device.proofs.calls.Safe.{safe}
-use Rattle.device.proofs.apart.StepBut.{AlikeBut, step-but}
+use Rattle.judge.specs.{Session.{levelOf, levelIn, connected}, Judge.{judgeOf, dataIn}, declared.{Session.Session, Decision.Decision}}
+use Rattle.device.{specs.{Asked.Asked, Bodies.SameButBodies, Step.{stepBy, stepOf}}, proofs.{apart.CarryReads.{readLevel, Unread, spares}, promises.NoBody.{agrees, no-body}}}
+use Rattle.device.proofs.{calls.Safe.safe, apart.StepBut.{AlikeBut, step-but}}
 use Rattle.history.specs.Secret.{regionReadLevel, propertyReadLevel, Secret, ofMemory, ofProperty, Hide}
 
 -- a secret byte lies in a body

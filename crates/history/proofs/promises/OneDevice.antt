@@ -1,17 +1,9 @@
 -- ONE DEVICE: from an accepted sheet any device that does what is due gives what ours gives, event by event.
--- Assumes nothing.
-use mathlib.Core.Path.{_≡_, ap, _∙_}
-use mathlib.Core.List.{List}
-use Rattle.device.specs.Octets.{Octets}
-use Rattle.device.specs.Events.{State}
-use Rattle.events.specs.Events.{Event, connect, disconnect, button, request, eventOf, restore}
-use Rattle.device.proofs.promises.Dues.{connect-only, disconnect-only, button-only, request-only}
-use Rattle.events.proofs.promises.Dues.{restore-only}
-use Rattle.history.specs.History.{First}
-use Rattle.history.specs.Keeps.{Device, stateAfter, BringsOctets, AllOctets, Begins}
-use Rattle.history.specs.Rightful.{Rightful, ours}
-use Rattle.history.proofs.promises.Keep.{keeps, keeps-any}
-use Rattle.history.proofs.promises.Pinned.{pinned}
+use Rattle.octets.proofs.Kit.{_≡_, ap, _∙_, List}
+use Rattle.device.{specs.{Octets.Octets, Events.State}, proofs.promises.Dues.{connect-only, disconnect-only, button-only, request-only}}
+use Rattle.events.{specs.Events.{Event, connect, disconnect, button, request, eventOf, restore}, proofs.promises.Dues.restore-only}
+use Rattle.history.specs.{History.First, Keeps.{Device, stateAfter, BringsOctets, AllOctets, Begins}, Rightful.{Rightful, ours}}
+use Rattle.history.proofs.promises.{Keep.{keeps, keeps-any}, Pinned.pinned}
 
 module _ (step : Device) (rightful : (f : First) (h : List Event) → Rightful (step f h)) (f : First) (b : Begins f) (h : List Event) (o : AllOctets h) where
   abbrev X : State

@@ -1,38 +1,18 @@
 -- PERMITTED, of a state: as the test that a history makes, and as the propositions of the services.
--- Assumes nothing.
-use Prim.Native.Nat.{ℕ}
-use mathlib.Core.Path.{_≡_, sym}
-use mathlib.Core.Logic.{_↔_}
-use mathlib.Core.Bool.{Bool, true, _&&_}
-use mathlib.Core.List.{List}
-use native.Mathlib.Omega.{arith}
-use Rattle.sheet.specs.Head.{rulesOf}
-use Rattle.sheet.specs.Rules.{Accepted}
-use Rattle.sheet.specs.declared.Memory.the-variants.{Device, User}
-use Rattle.sheet.proofs.rules.Good.{Good, good}
-use Rattle.pdu.specs.declared.Pdu.{Pdu}
-use Rattle.pdu.specs.declared.Pdu.the-variants.{GroupValueRead, GroupValueResponse, GroupValueWrite, IndividualAddressWrite, IndividualAddressRead, SerialNumberRead, SerialNumberWrite}
-use Rattle.pdu.specs.declared.Pdu.the-variants.{DeviceDescriptorRead, PropertyValueRead, PropertyValueWrite, PropertyDescriptionRead, MemoryRead, MemoryWrite, MemoryBitWrite}
-use Rattle.pdu.specs.declared.Pdu.the-variants.{AuthorizeRequest, KeyWrite, Restart, IndividualAddressResponse, SerialNumberResponse, DeviceDescriptorResponse, PropertyValueResponse}
-use Rattle.pdu.specs.declared.Pdu.the-variants.{PropertyDescriptionResponse, MemoryResponse, AuthorizeResponse, KeyResponse, UserMemoryRead, UserMemoryResponse, UserMemoryWrite}
+use Rattle.octets.proofs.Kit.{ℕ, _≡_, sym, _↔_, Bool, true, _&&_, List, arith}
 use Rattle.octets.proofs.Truths.{never, and-is}
-use Rattle.judge.specs.Session.{connected}
-use Rattle.judge.specs.declared.Session.{Session}
-use Rattle.device.specs.Octets.{Octets}
-use Rattle.device.specs.Sessions.{sessionOf}
-use Rattle.device.specs.Events.{State}
+use Rattle.sheet.{specs.{Head.rulesOf, Rules.Accepted, declared.Memory.the-variants.{Device, User}}, proofs.rules.Good.{Good, good}}
+use Rattle.pdu.specs.declared.Pdu.{Pdu, the-variants.{GroupValueRead, GroupValueResponse, GroupValueWrite, IndividualAddressWrite, IndividualAddressRead, SerialNumberRead}}
+use Rattle.pdu.specs.declared.Pdu.the-variants.{SerialNumberWrite, DeviceDescriptorRead, PropertyValueRead, PropertyValueWrite, PropertyDescriptionRead, MemoryRead, MemoryWrite}
+use Rattle.pdu.specs.declared.Pdu.the-variants.{MemoryBitWrite, AuthorizeRequest, KeyWrite, Restart, IndividualAddressResponse, SerialNumberResponse, DeviceDescriptorResponse}
+use Rattle.pdu.specs.declared.Pdu.the-variants.{PropertyValueResponse, PropertyDescriptionResponse, MemoryResponse, AuthorizeResponse, KeyResponse, UserMemoryRead, UserMemoryResponse}
+use Rattle.pdu.specs.declared.Pdu.the-variants.{UserMemoryWrite}
+use Rattle.judge.specs.{Session.connected, declared.Session.Session}
+use Rattle.device.specs.{Octets.Octets, Sessions.sessionOf, Events.State, Asked.{Asked, Reads, given}, Due.asked, MemoryDue.{Write, bytes, bits, writing, MemoryWritable}}
+use Rattle.device.specs.{PropertiesDue.WriteAllowed, KeysDue.KeyWritable}
 use Rattle.events.specs.Events.{request}
-use Rattle.device.specs.Asked.{Asked, Reads, given}
-use Rattle.device.specs.Due.{asked}
-use Rattle.device.specs.MemoryDue.{Write, bytes, bits, writing, MemoryWritable}
-use Rattle.device.specs.PropertiesDue.{WriteAllowed}
-use Rattle.device.specs.KeysDue.{KeyWritable}
-use Rattle.history.specs.Wish.{nothing, wishOf, asks, brings}
-use Rattle.history.specs.Permit.{levelFor, heard, allowed}
-use Rattle.history.specs.History.{permits}
-use Rattle.history.proofs.spans.RequestFields.{property-id}
-use Rattle.history.proofs.heard.Hearing.{asks-is, brings-is, heard-reads, reads-heard}
-use Rattle.history.proofs.heard.Meets.{meets, heard-met, level-met}
+use Rattle.history.specs.{Wish.{nothing, wishOf, asks, brings}, Permit.{levelFor, heard, allowed}, History.permits}
+use Rattle.history.proofs.{spans.RequestFields.property-id, heard.{Hearing.{asks-is, brings-is, heard-reads, reads-heard}, Meets.{meets, heard-met, level-met}}}
 use Rattle.history.proofs.heard.Permits.{memory-is, property-is, key-is}
 
 pub data Permitted (x : Asked) : Type 0 where

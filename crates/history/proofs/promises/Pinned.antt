@@ -1,27 +1,12 @@
 -- Demand 3 leaves one state: two devices that keep it have the same after every history.
--- Assumes nothing.
-use Prim.Native.Nat.{ℕ, _+_, _*_, _-_, _<_}
-use mathlib.Core.Path.{_≡_, sym, ap, ap₂, subst, _∙_}
-use mathlib.Core.Logic.{inl, inr}
-use mathlib.Core.Bool.{Bool}
-use mathlib.Core.List.{List}
-use lib.ListN.{length, getD}
-use lib.Seq.{ext-getD}
-use native.Mathlib.Decide.{decLt, ℕ-discrete}
-use native.Mathlib.Omega.{arith}
+use Rattle.octets.proofs.Kit.{ℕ, _+_, _*_, _-_, _<_, _≡_, sym, ap, ap₂, subst, _∙_, inl, inr, Bool, List, length, getD, ext-getD, decLt, ℕ-discrete, arith}
 use Rattle.octets.proofs.Numbers.{num-one, num-two}
-use Rattle.sheet.specs.Kind.{groups}
+use Rattle.sheet.{specs.{Kind.groups, Entries.{bodyAt, InBody}}, proofs.rules.Good.{Good, good}}
 use Rattle.sheet.specs.Head as head
-use Rattle.sheet.specs.Entries.{bodyAt, InBody}
-use Rattle.sheet.proofs.rules.Good.{Good, good}
 use Rattle.judge.specs.declared.Session.{Session}
-use Rattle.device.specs.Sessions.{sessionOf}
+use Rattle.device.specs.{Sessions.sessionOf, declared.Sessions.Sessions}
 use Rattle.events.specs.Events.{Event}
-use Rattle.device.specs.declared.Sessions.{Sessions}
-use Rattle.history.specs.Location.{Location, Place}
-use Rattle.history.specs.Sort.{Sort, isLocation, isGroup, isField}
-use Rattle.history.specs.History.{First}
-use Rattle.history.specs.Keeps.{Device, stateAfter, Still, Kept, Begins, AllOctets, Keeps}
+use Rattle.history.specs.{Location.{Location, Place}, Sort.{Sort, isLocation, isGroup, isField}, History.First, Keeps.{Device, stateAfter, Still, Kept, Begins, AllOctets, Keeps}}
 use Rattle.history.proofs.places.Standing.{sort, past-contents}
 
 module _ (f : First) (b : Begins f) (h : List Event) (step step′ : Device) (k : Kept step f h) (k′ : Kept step′ f h) where

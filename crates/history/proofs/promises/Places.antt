@@ -1,13 +1,7 @@
 -- Every location stands at one position, and no two at the same.
--- Assumes nothing.
-use Prim.Native.Nat.{ℕ, _<_}
-use mathlib.Core.Path.{_≡_}
-use mathlib.Core.List.{List}
-use lib.ListN.{length}
-use Rattle.sheet.specs.Rules.{Accepted}
-use Rattle.sheet.proofs.rules.Good.{good, accepted}
-use Rattle.history.specs.Location.{Location, Place}
-use Rattle.history.specs.Sort.{Sort, beingOf}
+use Rattle.octets.proofs.Kit.{ℕ, _<_, _≡_, List, length}
+use Rattle.sheet.{specs.Rules.Accepted, proofs.rules.Good.{good, accepted}}
+use Rattle.history.specs.{Location.{Location, Place}, Sort.{Sort, beingOf}}
 use Rattle.history.proofs.places.Standing.{location-once, place-once, sort, sort-once}
 
 module _ (s : List ℕ) (accepted : Accepted s) where

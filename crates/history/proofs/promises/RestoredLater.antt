@@ -1,45 +1,16 @@
 -- RESTORED OVER A HISTORY: a sheet saved after one history, whatever happens after it to the device and to the store, and restored for a connection that then is open at level 0.
--- Assumes nothing.
-use Prim.Native.Nat.{ℕ, _+_, _*_, _-_, _≤_, _<_}
-use mathlib.Core.Path.{_≡_, refl, sym, ap, subst, _∙_}
-use mathlib.Core.Bool.{Bool, true, false, cond, _&&_}
-use mathlib.Core.List.{List, _∷_, _++_}
-use lib.ListN.{getD}
-use native.Mathlib.Omega.{arith}
-use Rattle.sheet.specs.Kind.{properties, groups}
+use Rattle.octets.proofs.Kit.{ℕ, _+_, _*_, _-_, _≤_, _<_, _≡_, refl, sym, ap, subst, _∙_, Bool, true, false, cond, _&&_, List, _∷_, _++_, getD, arith}
+use Rattle.sheet.{specs.{Kind.{properties, groups}, Entries.{count, base, startOf}, Agree.Agree}, proofs.{rules.Good.{Good, good}, promises.Agrees.{agree-sym, agree-trans}}}
+use Rattle.sheet.proofs.{alike.Sames.{count-same, start-same}, places.BodyPlaces.{end-is, from-start, to-next}}
 use Rattle.sheet.specs.Property as property
-use Rattle.sheet.specs.Entries.{count, base, startOf}
-use Rattle.sheet.specs.Agree.{Agree}
-use Rattle.sheet.proofs.rules.Good.{Good, good}
-use Rattle.sheet.proofs.promises.Agrees.{agree-sym, agree-trans}
-use Rattle.sheet.proofs.alike.Sames.{count-same, start-same}
-use Rattle.sheet.proofs.places.BodyPlaces.{end-is, from-start, to-next}
 use Rattle.judge.specs.declared.Session.{Session}
-use Rattle.device.specs.Octets.{Octets}
-use Rattle.device.specs.Sessions.{sessionOf}
-use Rattle.device.specs.Events.{State}
-use Rattle.versions.specs.Store.{versionIn}
-use Rattle.versions.specs.Settings.{SameProperties}
-use Rattle.versions.specs.Saving.{saveOutcome, saveNumber, saveStore}
-use Rattle.versions.specs.Restoring.{restoreOutcome, RestoredAs}
-use Rattle.versions.specs.Sequence.{Change, changedAll, AllSpare}
-use Rattle.versions.specs.Due.{AtZero}
-use Rattle.versions.proofs.promises.OwnVersion.{settings-same}
-use Rattle.versions.proofs.promises.RestoredIsSaved.{restored-is-saved, restore-carried}
+use Rattle.device.specs.{Octets.Octets, Sessions.sessionOf, Events.State}
+use Rattle.versions.specs.{Store.versionIn, Settings.SameProperties, Saving.{saveOutcome, saveNumber, saveStore}, Restoring.{restoreOutcome, RestoredAs}}
+use Rattle.versions.{specs.{Sequence.{Change, changedAll, AllSpare}, Due.AtZero}, proofs.promises.{OwnVersion.settings-same, RestoredIsSaved.{restored-is-saved, restore-carried}}}
 use Rattle.events.specs.Events.{Event, restore}
-use Rattle.history.specs.Location.{Location, memory, body, counter, key, Place, ofBody, ofCounter}
-use Rattle.history.specs.Span.{Span, names, gives}
-use Rattle.history.specs.Wish.{change, restoreAll}
-use Rattle.history.specs.Permit.{spans}
-use Rattle.history.specs.History.{First, opened, level, content, permitted}
-use Rattle.history.specs.Keeps.{Begins}
-use Rattle.history.specs.Calls.{restores, Follows}
-use Rattle.history.specs.Restored.{OfProperty, BroughtBack}
-use Rattle.history.proofs.spans.Spans.{laid, laid-is}
-use Rattle.history.proofs.stored.RestoreRun.{memory-laid, key-laid}
-use Rattle.history.proofs.steps.Invariant.{Inv, now-accepted}
-use Rattle.history.proofs.promises.Keep.{ours-after}
-use Rattle.history.proofs.promises.Calls.{call-follows}
+use Rattle.history.specs.{Location.{Location, memory, body, counter, key, Place, ofBody, ofCounter}, Span.{Span, names, gives}, Wish.{change, restoreAll}, Permit.spans}
+use Rattle.history.specs.{History.{First, opened, level, content, permitted}, Keeps.Begins, Calls.{restores, Follows}, Restored.{OfProperty, BroughtBack}}
+use Rattle.history.proofs.{spans.Spans.{laid, laid-is}, stored.RestoreRun.{memory-laid, key-laid}, steps.Invariant.{Inv, now-accepted}, promises.{Keep.ours-after, Calls.call-follows}}
 
 -- a byte of a property stands in the same place, with the same content, in two sheets that have the same properties
 module _ (f s t : List ℕ) (g : Good f) (a : Agree f s) (same : SameProperties s t) where

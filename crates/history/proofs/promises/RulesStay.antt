@@ -1,18 +1,10 @@
 -- The number of the rules never changes.
--- Assumes nothing.
-use Prim.Native.Nat.{ℕ, _+_}
-use mathlib.Core.Path.{_≡_}
-use mathlib.Core.Logic.{inr}
-use mathlib.Core.List.{List}
-use native.Mathlib.Omega.{arith}
+use Rattle.octets.proofs.Kit.{ℕ, _+_, _≡_, inr, List, arith}
 use Rattle.octets.proofs.Numbers.{num-same}
+use Rattle.sheet.{specs.{Head.rulesOf, Rules.Accepted}, proofs.rules.Good.good}
 use Rattle.sheet.specs.Head as head
-use Rattle.sheet.specs.Head.{rulesOf}
-use Rattle.sheet.specs.Rules.{Accepted}
-use Rattle.sheet.proofs.rules.Good.{good}
 use Rattle.events.specs.Events.{Event}
-use Rattle.history.specs.History.{First}
-use Rattle.history.specs.Keeps.{Device, stateAfter, Still, Kept, Begins, AllOctets, Keeps}
+use Rattle.history.specs.{History.First, Keeps.{Device, stateAfter, Still, Kept, Begins, AllOctets, Keeps}}
 use Rattle.history.proofs.places.Standing.{no-head, past-contents}
 
 -- its byte is no location, and none of the others that events change

@@ -1,20 +1,11 @@
 -- WHAT A HISTORY SAYS OF ONE CONNECTION: what is not its own and no restart leaves it as it was, and a number above 1 has none.
--- Assumes nothing.
-use Prim.Native.Nat.{ℕ, _≤_}
-use mathlib.Core.Path.{_≡_, refl, sym, ap, _∙_}
-use mathlib.Core.Bool.{Bool, true, false, cond, _&&_}
-use mathlib.Core.List.{List, [], _∷_}
-use lib.Dec.{eqb}
-use borrow.Author.Tests.{eq-eqb, ne-eqb, le-ltb}
+use Rattle.octets.proofs.Kit.{ℕ, _≤_, _≡_, refl, sym, ap, _∙_, Bool, true, false, cond, _&&_, List, [], _∷_, eqb, eq-eqb, ne-eqb, le-ltb}
 use Rattle.octets.proofs.Truths.{never}
 use Rattle.sheet.specs.Head.{rulesOf}
 use Rattle.judge.specs.declared.Session.{Session}
-use Rattle.device.specs.Sessions.{closed}
+use Rattle.device.{specs.Sessions.closed, proofs.leaves.Connections.unknown-closed}
 use Rattle.events.specs.Events.{Event, connect, disconnect, button, request, restore}
-use Rattle.device.proofs.leaves.Connections.{unknown-closed}
-use Rattle.history.specs.Wish.{Wish, change, offerKey, restart, other, nothing, asks}
-use Rattle.history.specs.Permit.{checks, heard}
-use Rattle.history.specs.History.{First, wished, isRestart, offered, opened, level, keys}
+use Rattle.history.specs.{Wish.{Wish, change, offerKey, restart, other, nothing, asks}, Permit.{checks, heard}, History.{First, wished, isRestart, offered, opened, level, keys}}
 use Rattle.history.specs.Isolation.{isOf}
 use Rattle.history.proofs.spans.Bools.{all-at, and-false, cond-same}
 

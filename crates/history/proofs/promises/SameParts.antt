@@ -1,28 +1,11 @@
 -- THE PARTS OF THE SHEET THAT A REQUEST NAMES tell a host neither what the other tool sent nor a byte that may not be read: judging names them, and it reads no body and no session but the one met.
--- Assumes nothing.
-use Prim.Native.Nat.{ℕ, _≤_}
-use mathlib.Core.Path.{_≡_, refl, sym, ap, _∙_}
-use mathlib.Core.Bool.{false}
-use mathlib.Core.List.{List}
-use lib.ListN.{length}
+use Rattle.octets.proofs.Kit.{ℕ, _≤_, _≡_, refl, sym, ap, _∙_, false, List, length}
 use Rattle.pdu.specs.Read.{readPdu}
 use Rattle.judge.specs.Judge.{dataIn}
-use Rattle.device.specs.Events.{State}
-use Rattle.device.specs.Sessions.{sessionFor}
-use Rattle.device.specs.Changed.{changesOf, changedOf, Requested}
-use Rattle.device.specs.declared.Sessions.{Sessions}
-use Rattle.device.specs.declared.Made.{Made}
-use Rattle.device.proofs.promises.NoBody.{no-body}
+use Rattle.device.{specs.{Events.State, Sessions.sessionFor, Changed.{changesOf, changedOf, Requested}, declared.{Sessions.Sessions, Made.Made}}, proofs.promises.NoBody.no-body}
 use Rattle.events.specs.Events.{Event, request}
-use Rattle.history.specs.History.{First}
-use Rattle.history.specs.Keeps.{stateAfter, Begins}
-use Rattle.history.specs.Isolation.{isOf, Beside}
-use Rattle.history.specs.Rightful.{ours}
-use Rattle.history.specs.Secret.{Hide, NoneBelow, AllAlike}
-use Rattle.history.specs.Calls.{Follows}
-use Rattle.history.proofs.apart.Near.{Near, near, met-alike}
-use Rattle.history.proofs.promises.NothingShown.{hidden-bodies}
-use Rattle.history.proofs.promises.Unlearned.{unlearned-calls}
+use Rattle.history.specs.{History.First, Keeps.{stateAfter, Begins}, Isolation.{isOf, Beside}, Rightful.ours, Secret.{Hide, NoneBelow, AllAlike}, Calls.Follows}
+use Rattle.history.proofs.{apart.Near.{Near, near, met-alike}, promises.{NothingShown.hidden-bodies, Unlearned.unlearned-calls}}
 
 -- on sheets that hide q
 pub hidden-parts :

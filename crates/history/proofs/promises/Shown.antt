@@ -1,51 +1,18 @@
 -- WHAT A READ SHOWS OF A PROPERTY WAS WRITTEN: of ours, and so of any device that does what is due.
--- Assumes nothing.
-use Prim.Native.Nat.{ℕ, _+_, _*_, _-_, _<_, _≤_}
-use mathlib.Core.Path.{_≡_, refl, sym, ap, subst, _∙_}
-use mathlib.Core.Bool.{true}
-use mathlib.Core.List.{List}
-use lib.ListN.{length, getD, take, drop, length-take, length-drop}
-use lib.Seq.{getD-take, getD-drop}
-use native.Mathlib.Nat.{mul-le-mul-right}
-use native.Mathlib.Omega.{arith}
-use Rattle.sheet.specs.Kind.{properties}
-use Rattle.sheet.specs.Layout.{_of_}
+use Rattle.octets.proofs.Kit.{ℕ, _+_, _*_, _-_, _<_, _≤_, _≡_, refl, sym, ap, subst, _∙_, true, List, length, getD, take, drop, length-take, length-drop, getD-take, getD-drop}
+use Rattle.octets.proofs.Kit.{mul-le-mul-right, arith}
+use Rattle.sheet.{specs.{Kind.properties, Layout._of_, Entries.{entry, bodyAt}, Places.PropertyWith}, proofs.alike.Sames.property-same}
 use Rattle.sheet.specs.Property as property
-use Rattle.sheet.specs.Entries.{entry, bodyAt}
-use Rattle.sheet.specs.Places.{PropertyWith}
-use Rattle.sheet.proofs.alike.Sames.{property-same}
-use Rattle.pdu.specs.Read.{readPdu}
-use Rattle.pdu.specs.Write.{encoded}
-use Rattle.pdu.specs.declared.Parsed.the-variants.{Is}
-use Rattle.pdu.specs.declared.Pdu.the-variants.{PropertyValueRead, PropertyValueResponse}
-use Rattle.pdu.proofs.promises.Readings.{reading}
-use Rattle.judge.specs.Session.{levelIn}
-use Rattle.judge.specs.declared.Decision.{Decision}
-use Rattle.judge.proofs.PropertyCases.{Among, property-read-cases}
-use Rattle.device.specs.Octets.{Octets}
-use Rattle.device.specs.Step.{Step, stepBy}
-use Rattle.device.specs.Events.{Effect, State, requestOf}
-use Rattle.events.specs.Events.{Event, request, eventOf}
+use Rattle.pdu.{specs.{Read.readPdu, Write.encoded, declared.{Parsed.the-variants.Is, Pdu.the-variants.{PropertyValueRead, PropertyValueResponse}}}, proofs.promises.Readings.reading}
+use Rattle.judge.{specs.{Session.levelIn, declared.Decision.Decision}, proofs.PropertyCases.{Among, property-read-cases}}
+use Rattle.device.specs.{Octets.Octets, Step.{Step, stepBy}, Events.{Effect, State, requestOf}, Asked.{Asked, Reads}, Demand2.done, Due.asked}
+use Rattle.device.proofs.{leaves.Accepted.{count-below, elements-within}, due.{Properly.{unkeyed, read-id}, Stepped.step-read, WasReady.carried}}
 use Rattle.device.specs.Asked as ask
-use Rattle.device.specs.Asked.{Asked, Reads}
-use Rattle.device.specs.Demand2.{done}
-use Rattle.device.specs.Due.{asked}
-use Rattle.device.proofs.leaves.Accepted.{count-below, elements-within}
-use Rattle.device.proofs.due.Properly.{unkeyed, read-id}
-use Rattle.device.proofs.due.Stepped.{step-read}
-use Rattle.device.proofs.due.WasReady.{carried}
-use Rattle.history.specs.Location.{body, Place, ofBody}
-use Rattle.history.specs.History.{First, content}
-use Rattle.history.specs.Keeps.{Device, stateAfter, Begins, AllOctets}
-use Rattle.history.specs.Rightful.{Rightful, ours}
+use Rattle.events.specs.Events.{Event, request, eventOf}
+use Rattle.history.specs.{Location.{body, Place, ofBody}, History.{First, content}, Keeps.{Device, stateAfter, Begins, AllOctets}, Rightful.{Rightful, ours}}
 use Rattle.history.specs.Shown.{elementOf, given, Shows, ShownWasWritten}
-use Rattle.history.proofs.steps.CountNow.{count-now}
-use Rattle.history.proofs.promises.Counted.{counted-given}
-use Rattle.history.proofs.heard.Framed.{is-same}
-use Rattle.history.proofs.steps.Invariant.{Inv, fine, now}
-use Rattle.history.proofs.promises.Keep.{ours-after}
-use Rattle.history.proofs.promises.OneDevice.{one-device}
-use Rattle.history.proofs.stored.PropertyRun.{elements-fit, entry-for}
+use Rattle.history.proofs.{steps.CountNow.count-now, promises.Counted.counted-given, heard.Framed.is-same, steps.Invariant.{Inv, fine, now}, promises.Keep.ours-after}
+use Rattle.history.proofs.{promises.OneDevice.one-device, stored.PropertyRun.{elements-fit, entry-for}}
 
 module _ (f : First) (b : Begins f) (h : List Event) (x : State) (inv : Inv f h x) (object id n s i : ℕ) (low : 1 ≤ s)
     (is : PropertyWith (f .sheet) object id i) (there : PropertyWith (x .sheet) object id i)

@@ -1,29 +1,12 @@
 -- The level of an allowed write suffices for every byte that it names.
--- Assumes nothing.
-use Prim.Native.Nat.{ℕ, _+_, _/_, _%_, _≤_, _<_}
-use mathlib.Core.Path.{_≡_, sym, subst}
-use mathlib.Core.Logic.{_⊎_, inl, inr}
-use mathlib.Core.Bool.{Bool, true, false, cond, _&&_, _||_}
-use mathlib.Core.List.{List, [], _∷_}
-use lib.Dec.{ltb, leb, eqb}
-use native.Mathlib.Omega.{arith}
-use borrow.Author.Tests.{leb-true, eqb-true}
-use Rattle.sheet.specs.Kind.{properties, kindOf}
-use Rattle.sheet.specs.declared.Memory.{Memory}
-use Rattle.sheet.specs.declared.Memory.the-variants.{Device}
-use Rattle.sheet.specs.Layout.{_of_}
+use Rattle.octets.proofs.Kit.{ℕ, _+_, _/_, _%_, _≤_, _<_, _≡_, sym, subst, _⊎_, inl, inr, Bool, true, false, cond, _&&_, _||_, List, [], _∷_, ltb, leb, eqb, arith, leb-true, eqb-true}
+use Rattle.octets.{specs.Every.every, proofs.{Truths.{never, and-is, or-is}, Everys.every-at}}
+use Rattle.sheet.specs.{Kind.{properties, kindOf}, declared.Memory.{Memory, the-variants.Device}, Layout._of_, Entries.count}
 use Rattle.sheet.specs.Property as property
-use Rattle.sheet.specs.Entries.{count}
-use Rattle.octets.proofs.Truths.{never, and-is, or-is}
-use Rattle.octets.specs.Every.{every}
-use Rattle.octets.proofs.Everys.{every-at}
-use Rattle.history.specs.Location.{Location, memory}
-use Rattle.history.specs.Span.{Span, has, names}
+use Rattle.history.specs.{Location.{Location, memory}, Span.{Span, has, names}}
 use Rattle.history.specs.Wish.{Wish, change, writeMemory, writeBits, writeProperty, writeKey, offerKey, restart, other, nothing, restoreAll}
-use Rattle.history.specs.Permit.{regionFor, mayRead, mayWrite, mostBytes, inRange, indexFor, entryFor, clears, fills, allowed, spans}
-use Rattle.history.specs.Keyless.{writeLevel}
-use Rattle.history.proofs.spans.Bools.{all-at}
-use Rattle.history.proofs.spans.Spans.{on, has-only}
+use Rattle.history.specs.{Permit.{regionFor, mayRead, mayWrite, mostBytes, inRange, indexFor, entryFor, clears, fills, allowed, spans}, Keyless.writeLevel}
+use Rattle.history.proofs.spans.{Bools.all-at, Spans.{on, has-only}}
 
 -- what holds of each byte of each span holds of what they name
 abbrev Each : (Location → Type 0) → List Span → Type 0

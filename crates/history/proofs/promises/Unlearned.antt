@@ -1,37 +1,16 @@
 -- NOTHING IS LEARNED of a byte whose read level is below q, while no level is: over runs, of ours, of any device that does what is due, of the calls; and by a laptop without a key.
--- Assumes nothing.
-use Prim.Native.Nat.{ℕ, _+_, _<_, _≤_}
-use mathlib.Core.Path.{_≡_, refl, sym, ap, ap₂, subst, _∙_}
-use mathlib.Core.Bool.{Bool, true}
-use mathlib.Core.List.{List, [], _∷_}
-use lib.ListN.{length}
-use native.Mathlib.Omega.{arith}
+use Rattle.octets.proofs.Kit.{ℕ, _+_, _<_, _≤_, _≡_, refl, sym, ap, ap₂, subst, _∙_, Bool, true, List, [], _∷_, length, arith}
+use Rattle.sheet.{specs.{Agree.Agree, But.But}, proofs.{rules.Good.good, promises.Agrees.both-or-neither}}
 use Rattle.sheet.specs.Head as head
-use Rattle.sheet.specs.Agree.{Agree}
-use Rattle.sheet.specs.But.{But}
-use Rattle.sheet.proofs.rules.Good.{good}
-use Rattle.sheet.proofs.promises.Agrees.{both-or-neither}
 use Rattle.judge.specs.declared.Session.{Session}
-use Rattle.device.specs.declared.Sessions.{Sessions}
-use Rattle.device.specs.Sessions.{sessionOf, sessionFor, turnedOf}
-use Rattle.device.specs.Events.{State, Effect, connectOf, disconnectOf, requestOf}
+use Rattle.device.specs.{declared.Sessions.Sessions, Sessions.{sessionOf, sessionFor, turnedOf}, Events.{State, Effect, connectOf, disconnectOf, requestOf}}
 use Rattle.device.proofs.apart.StepBut.{press-outcome, press-but}
-use Rattle.events.specs.Events.{Event, connect, disconnect, button, request, restore, eventOf, after}
-use Rattle.events.proofs.promises.Stays.{agrees}
-use Rattle.events.proofs.RestoreBut.{BothBut, restore-outcome, restore-but}
-use Rattle.history.specs.History.{First, opened, level}
-use Rattle.history.specs.Keeps.{Device, stateAfter, Begins, BringsOctets, AllOctets}
-use Rattle.history.specs.Keyless.{Locked, NotOffered, Closed}
-use Rattle.history.specs.Isolation.{Alike, same, asLong}
-use Rattle.history.specs.Rightful.{Rightful, ours}
-use Rattle.history.specs.Calls.{Call, Follows}
+use Rattle.events.{specs.Events.{Event, connect, disconnect, button, request, restore, eventOf, after}, proofs.{promises.Stays.agrees, RestoreBut.{BothBut, restore-outcome, restore-but}}}
+use Rattle.history.specs.{History.{First, opened, level}, Keeps.{Device, stateAfter, Begins, BringsOctets, AllOctets}, Keyless.{Locked, NotOffered, Closed}}
+use Rattle.history.specs.{Isolation.{Alike, same, asLong}, Rightful.{Rightful, ours}, Calls.{Call, Follows}}
 use Rattle.history.specs.Secret.{Secret, Hide, NoneBelow, AllAlike, none, more, NothingTold, NothingToldAlong, Unlearned}
-use Rattle.history.proofs.promises.Calls.{call-is}
-use Rattle.history.proofs.promises.Keep.{keeps}
-use Rattle.history.proofs.promises.Keyless.{all-shut, locked}
-use Rattle.history.proofs.heard.Meets.{meets}
-use Rattle.history.proofs.promises.NothingShown.{secret-after, secret-same, hidden-agree, nothing-shown}
-use Rattle.history.proofs.promises.OneDevice.{one-device}
+use Rattle.history.proofs.{promises.{Calls.call-is, Keep.keeps, Keyless.{all-shut, locked}}, heard.Meets.meets}
+use Rattle.history.proofs.promises.{NothingShown.{secret-after, secret-same, hidden-agree, nothing-shown}, OneDevice.one-device}
 
 -- the sheets after an event still hide q
 still-hidden :

@@ -1,13 +1,8 @@
 -- Tests put together, and what each of them says; two laws of tests are passed on.
--- Assumes nothing.
-use Prim.Native.Nat.{ℕ, zero, suc}
-use mathlib.Core.Path.{_≡_, refl, sym}
-use mathlib.Core.Bool.{Bool, true, false, _&&_, cond}
-use mathlib.Core.List.{List, [], _∷_}
-use lib.ListN.{getD}
+use Rattle.octets.proofs.Kit.{ℕ, zero, suc, _≡_, refl, sym, Bool, true, false, _&&_, cond, List, [], _∷_, getD}
 use Rattle.octets.proofs.Truths.{never, and-is}
-pub use Rattle.octets.proofs.Truths.{bool-same, must-fail}
 use Rattle.history.specs.Span.{all}
+pub use Rattle.octets.proofs.Truths.{bool-same, must-fail}
 
 pub and-fails : (a b : Bool) → a ≡ false → (a && b) ≡ false
 and-fails true b e = never (sym e)

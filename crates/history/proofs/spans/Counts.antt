@@ -1,27 +1,13 @@
 -- What one write leaves as the count of a property: a byte that is counted then was counted before, or the write names it.
--- Assumes nothing.
-use Prim.Native.Nat.{ℕ, _+_, _*_, _-_, _<_, _≤_, max}
-use mathlib.Core.Path.{_≡_, refl, sym, subst, _∙_}
-use mathlib.Core.Logic.{_⊎_, inl, inr}
-use mathlib.Core.Bool.{Bool, true, false, _&&_}
-use mathlib.Core.List.{List, [], _∷_}
-use lib.Dec.{ltb, leb, eqb}
-use lib.ListN.{getD}
-use native.Mathlib.Decide.{decLt}
-use native.Mathlib.Nat.{mul-le-mul-right}
-use native.Mathlib.Omega.{arith}
-use borrow.Author.Tests.{lt-ltb, le-leb, eq-eqb, ne-eqb, eqb-true}
-use Rattle.octets.specs.Bytes.{bytesOf}
-use Rattle.octets.proofs.Truths.{never, or-is}
+use Rattle.octets.proofs.Kit.{ℕ, _+_, _*_, _-_, _<_, _≤_, max, _≡_, refl, sym, subst, _∙_, _⊎_, inl, inr, Bool, true, false, _&&_, List, [], _∷_, ltb, leb, eqb, getD, decLt}
+use Rattle.octets.proofs.Kit.{mul-le-mul-right, arith, lt-ltb, le-leb, eq-eqb, ne-eqb, eqb-true}
+use Rattle.octets.{specs.Bytes.bytesOf, proofs.Truths.{never, or-is}}
 use Rattle.sheet.specs.Layout.{_of_}
 use Rattle.sheet.specs.Property as property
-use Rattle.history.specs.Location.{Location, body, counter}
-use Rattle.history.specs.Span.{Span, has, put, names}
+use Rattle.history.specs.{Location.{Location, body, counter}, Span.{Span, has, put, names}}
 use Rattle.history.specs.Wish.{Wish, change, writeMemory, writeBits, writeProperty, writeKey, restoreAll, offerKey, restart, other, nothing}
-use Rattle.history.specs.Permit.{entryFor, countIn, countTo, spans}
-use Rattle.history.specs.Shown.{clearing, restoring}
-use Rattle.history.proofs.spans.Bools.{all-at}
-use Rattle.history.proofs.spans.Spans.{has-on, laid}
+use Rattle.history.specs.{Permit.{entryFor, countIn, countTo, spans}, Shown.{clearing, restoring}}
+use Rattle.history.proofs.spans.{Bools.all-at, Spans.{has-on, laid}}
 
 -- a new count of a property is the count of this one, or not
 module _ (o i object id c : ℕ) where

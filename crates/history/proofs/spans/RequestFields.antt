@@ -1,14 +1,7 @@
 -- What is known of the fields and the data of a request that reads, its bytes being below 256.
--- Assumes nothing.
-use Prim.Native.Nat.{ℕ, _<_}
-use mathlib.Core.Path.{_≡_}
-use mathlib.Core.List.{List}
-use Rattle.pdu.specs.Read.{readPdu}
-use Rattle.pdu.specs.Allows.{Carries}
-use Rattle.pdu.proofs.promises.Outcomes.{read-carries}
-use Rattle.pdu.specs.declared.Parsed.the-variants.{Is}
-use Rattle.pdu.specs.declared.Pdu.{Pdu}
-use Rattle.pdu.specs.declared.Pdu.the-variants.{GroupValueResponse, GroupValueWrite, IndividualAddressWrite, SerialNumberWrite, PropertyValueWrite}
+use Rattle.octets.proofs.Kit.{ℕ, _<_, _≡_, List}
+use Rattle.pdu.specs.{Read.readPdu, Allows.Carries, declared.{Parsed.the-variants.Is, Pdu.Pdu}}
+use Rattle.pdu.{specs.declared.Pdu.the-variants.{GroupValueResponse, GroupValueWrite, IndividualAddressWrite, SerialNumberWrite, PropertyValueWrite}, proofs.promises.Outcomes.read-carries}
 use Rattle.device.specs.Octets.{Octets}
 
 module _ (a : List ℕ) (small : Octets a) where

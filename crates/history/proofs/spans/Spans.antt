@@ -1,18 +1,9 @@
 -- What a span has is what stands j bytes on from its first byte.
--- Assumes nothing.
-use Prim.Native.Nat.{ℕ, zero, suc, _+_, _-_, _<_, _≤_}
-use mathlib.Core.Path.{_≡_, refl, sym, ap₂, _∙_}
-use mathlib.Core.Bool.{Bool, true, false, cond, _||_}
-use mathlib.Core.List.{List, [], _∷_}
-use lib.Dec.{ltb, leb, eqb}
-use lib.ListN.{getD}
-use native.Mathlib.Omega.{arith}
-use borrow.Author.Tests.{ltb-true, lt-ltb, leb-true, le-leb, eqb-true, eq-eqb}
+use Rattle.octets.proofs.Kit.{ℕ, zero, suc, _+_, _-_, _<_, _≤_, _≡_, refl, sym, ap₂, _∙_, Bool, true, false, cond, _||_, List, [], _∷_, ltb, leb, eqb, getD, arith, ltb-true, lt-ltb}
+use Rattle.octets.proofs.Kit.{leb-true, le-leb, eqb-true, eq-eqb}
 use Rattle.octets.proofs.Truths.{never, and-is}
-use Rattle.sheet.specs.declared.Memory.{Memory}
-use Rattle.sheet.specs.declared.Memory.the-variants.{Device, User}
-use Rattle.history.specs.Location.{Location, memory, body, counter, key}
-use Rattle.history.specs.Span.{owner, same, byte, Span, has, put, names, gives}
+use Rattle.sheet.specs.declared.Memory.{Memory, the-variants.{Device, User}}
+use Rattle.history.specs.{Location.{Location, memory, body, counter, key}, Span.{owner, same, byte, Span, has, put, names, gives}}
 use Rattle.history.proofs.spans.Bools.{all-at}
 
 same-is : (s t : List ℕ) → same s t ≡ true → s ≡ t

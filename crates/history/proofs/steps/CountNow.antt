@@ -1,26 +1,12 @@
 -- The count of a property by the history is the count of the sheet.
--- Assumes nothing.
-use Prim.Native.Nat.{ℕ, _+_, _<_}
-use mathlib.Core.Path.{_≡_, ap, _∙_}
-use mathlib.Core.List.{List}
-use lib.ListN.{getD}
-use native.Mathlib.Omega.{arith}
+use Rattle.octets.proofs.Kit.{ℕ, _+_, _<_, _≡_, ap, _∙_, List, getD, arith}
 use Rattle.octets.proofs.Numbers.{num-two}
-use Rattle.sheet.specs.Kind.{properties}
-use Rattle.sheet.specs.Layout.{_of_}
+use Rattle.sheet.{specs.{Kind.properties, Layout._of_, Entries.{place, entry}, Places.PropertyWith}, proofs.{alike.Sames.place-same, places.Standing.field-at}}
 use Rattle.sheet.specs.Property as property
-use Rattle.sheet.specs.Entries.{place, entry}
-use Rattle.sheet.specs.Places.{PropertyWith}
-use Rattle.sheet.proofs.alike.Sames.{place-same}
-use Rattle.sheet.proofs.places.Standing.{field-at}
 use Rattle.device.specs.Events.{State}
 use Rattle.events.specs.Events.{Event}
-use Rattle.history.specs.Location.{counter}
-use Rattle.history.specs.Permit.{countIn}
-use Rattle.history.specs.History.{First, content}
-use Rattle.history.specs.Keeps.{Begins}
-use Rattle.history.proofs.steps.Invariant.{Inv, fine}
-use Rattle.history.proofs.stored.PropertyRun.{counter-place}
+use Rattle.history.specs.{Location.counter, Permit.countIn, History.{First, content}, Keeps.Begins}
+use Rattle.history.proofs.{steps.Invariant.{Inv, fine}, stored.PropertyRun.counter-place}
 
 module _ (f : First) (b : Begins f) (h : List Event) (x : State) (inv : Inv f h x) {object id i : ℕ} (is : PropertyWith (f .sheet) object id i) where
   pub count-now : countIn (content f h) object id ≡ property.count of entry (x .sheet) properties i

@@ -1,47 +1,19 @@
 -- Group values that arrive: stored, or not.
--- Assumes nothing.
-use Prim.Native.Nat.{ℕ, zero, suc, _+_, _/_, _%_, _<_, _≤_, max}
-use mathlib.Core.Path.{_≡_, refl, sym, ap, subst, _∙_}
-use mathlib.Core.Logic.{_↔_}
-use mathlib.Core.Bool.{Bool, true, false, cond}
-use mathlib.Core.List.{List, [], _∷_}
-use lib.Dec.{eqb}
-use lib.ListN.{length, getD}
-use native.Mathlib.Omega.{arith}
-use borrow.Author.Tests.{eqb-true, eq-eqb, ne-eqb}
-use Rattle.octets.specs.Bytes.{bytesOf}
-use Rattle.octets.specs.Splice.{splice}
-use Rattle.octets.proofs.Numbers.{length-bytes}
-use Rattle.sheet.specs.Kind.{groups}
-use Rattle.sheet.specs.Layout.{Field, _of_}
-use Rattle.sheet.specs.Group as group
-use Rattle.sheet.specs.Entries.{count, entry, keyOf, bodyAt, bodyEnd}
-use Rattle.sheet.specs.Stores.{Fit}
-use Rattle.sheet.proofs.rules.Good.{accepted}
-use Rattle.sheet.proofs.promises.Keys.{key-once}
+use Rattle.octets.proofs.Kit.{ℕ, zero, suc, _+_, _/_, _%_, _<_, _≤_, max, _≡_, refl, sym, ap, subst, _∙_, _↔_, Bool, true, false, cond, List, [], _∷_, eqb, length, getD, arith, eqb-true}
+use Rattle.octets.proofs.Kit.{eq-eqb, ne-eqb}
+use Rattle.octets.{specs.{Bytes.bytesOf, Splice.splice}, proofs.Numbers.length-bytes}
+use Rattle.sheet.{specs.{Kind.groups, Layout.{Field, _of_}, Entries.{count, entry, keyOf, bodyAt, bodyEnd}, Stores.Fit}, proofs.{rules.Good.accepted, promises.Keys.key-once}}
 use Rattle.sheet.proofs.alike.Sames.{count-same, group-same}
+use Rattle.sheet.specs.Group as group
 use Rattle.pdu.specs.declared.Pdu.{Pdu}
-use Rattle.device.specs.Octets.{Octets}
-use Rattle.device.specs.Events.{State}
-use Rattle.events.specs.Events.{Event}
-use Rattle.device.specs.Asked.{Asked, Reads, given}
-use Rattle.device.specs.Due.{asked}
-use Rattle.device.specs.GroupsDue.{Group, Brings, write, response, Flag}
-use Rattle.history.specs.Wish.{Wish, wishOf, asks}
-use Rattle.history.specs.Wish as wish
-use Rattle.history.specs.Span.{all}
-use Rattle.history.specs.History.{First, permitted}
-use Rattle.history.specs.Others.{groupByte, newValue}
-use Rattle.history.specs.Keeps.{Begins, Writing}
-use Rattle.history.proofs.spans.Bools.{all-at, must-fail}
-use Rattle.history.proofs.spans.RequestFields.{write-value, response-value}
-use Rattle.history.proofs.heard.Framed.{below-same}
-use Rattle.history.proofs.heard.Hearing.{asks-is, brings-is}
-use Rattle.history.proofs.steps.Invariant.{Inv, fine, now}
-use Rattle.history.proofs.stored.Means.{store-group}
+use Rattle.device.specs.{Octets.Octets, Events.State, Asked.{Asked, Reads, given}, Due.asked, GroupsDue.{Group, Brings, write, response, Flag}}
 use Rattle.device.proofs.leaves.Octet.{octets-bytes, octets-data}
-use Rattle.history.proofs.steps.Requests.{ends, E, Ok, Done, sessions-same, programs-same, addresses-same, values-new, unwritten, stayed, left, aside}
-use Rattle.history.proofs.steps.Writes.{heard-now}
+use Rattle.events.specs.Events.{Event}
+use Rattle.history.specs.{Wish.{Wish, wishOf, asks}, Span.all, History.{First, permitted}, Others.{groupByte, newValue}, Keeps.{Begins, Writing}}
+use Rattle.history.specs.Wish as wish
+use Rattle.history.proofs.{spans.{Bools.{all-at, must-fail}, RequestFields.{write-value, response-value}}, heard.{Framed.below-same, Hearing.{asks-is, brings-is}}}
+use Rattle.history.proofs.{steps.Invariant.{Inv, fine, now}, stored.Means.store-group}
+use Rattle.history.proofs.steps.{Requests.{ends, E, Ok, Done, sessions-same, programs-same, addresses-same, values-new, unwritten, stayed, left, aside}, Writes.heard-now}
 
 -- what a PDU brings is what it asks for
 brings-wish : {p : Pdu} {v k : ℕ} → Brings p v k → wishOf p ≡ wish.other (wish.group k v)

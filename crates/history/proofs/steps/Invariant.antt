@@ -1,35 +1,12 @@
 -- What holds of the device after every history, at the beginning and over the events that are no requests.
--- Assumes nothing.
-use Prim.Native.Nat.{ℕ, _+_, _-_, _/_, _%_, _<_, _≤_}
-use mathlib.Core.Path.{_≡_, refl, sym, _∙_}
-use mathlib.Core.Bool.{Bool, true, false}
-use mathlib.Core.List.{List, [], _∷_}
-use lib.ListN.{getD}
-use native.Mathlib.Decide.{decLt, ℕ-discrete}
-use native.Mathlib.Omega.{arith}
-use borrow.Author.Tests.{eq-eqb, ne-eqb, lt-ltb}
-use Rattle.sheet.specs.Kind.{groups}
-use Rattle.sheet.specs.Layout.{_of_}
+use Rattle.octets.proofs.Kit.{ℕ, _+_, _-_, _/_, _%_, _<_, _≤_, _≡_, refl, sym, _∙_, Bool, true, false, List, [], _∷_, getD, decLt, ℕ-discrete, arith, eq-eqb, ne-eqb, lt-ltb}
+use Rattle.sheet.{specs.{Kind.groups, Layout._of_, Entries.{count, bodyAt}, Rules.Accepted}, proofs.{rules.Good.{Good, good, accepted}, promises.Agrees.kept, searches.Regions.covers-stands}}
 use Rattle.sheet.specs.Head as head
-use Rattle.sheet.specs.Entries.{count, bodyAt}
-use Rattle.sheet.specs.Rules.{Accepted}
-use Rattle.sheet.proofs.rules.Good.{Good, good, accepted}
-use Rattle.sheet.proofs.promises.Agrees.{kept}
-use Rattle.sheet.proofs.searches.Regions.{covers-stands}
-use Rattle.device.specs.Sessions.{sessionOf}
-use Rattle.device.specs.Events.{Effect, State, bit, pressed, buttonSheet}
+use Rattle.device.{specs.{Sessions.sessionOf, Events.{Effect, State, bit, pressed, buttonSheet}, Due.SessionDue}, proofs.leaves.{Connections.unknown-closed, Agreeing.agree-refl}}
 use Rattle.events.specs.Events.{Event, connect, disconnect, button}
-use Rattle.device.specs.Due.{SessionDue}
-use Rattle.device.proofs.leaves.Connections.{unknown-closed}
-use Rattle.history.specs.Location.{Location, memory, body, counter, key, Place, ofMemory, ofBody, ofCounter, ofKey}
-use Rattle.history.specs.Permit.{entryFor}
-use Rattle.history.specs.History.{First, firstOf, opened, level, content}
-use Rattle.history.specs.Others.{programming, individual, groupByte}
-use Rattle.history.specs.Keeps.{Begins}
-use Rattle.history.proofs.promises.Said.{said, no-connection}
-use Rattle.history.proofs.heard.Searches.{region-hit, property-hit}
-use Rattle.device.proofs.leaves.Agreeing.{agree-refl}
-use Rattle.history.proofs.stored.Means.{Means, store-flags}
+use Rattle.history.specs.{Location.{Location, memory, body, counter, key, Place, ofMemory, ofBody, ofCounter, ofKey}, Permit.entryFor, History.{First, firstOf, opened, level, content}}
+use Rattle.history.specs.{Others.{programming, individual, groupByte}, Keeps.Begins}
+use Rattle.history.proofs.{promises.Said.{said, no-connection}, heard.Searches.{region-hit, property-hit}, stored.Means.{Means, store-flags}}
 
 pub record Inv (f : First) (h : List Event) (x : State) : Type 0 where
   pub session : (c : ℕ) → sessionOf (x .sessions) c ≡ said f h c

@@ -1,43 +1,15 @@
 -- Key writes, carried out and denied; a key offered.
--- Assumes nothing.
-use Prim.Native.Nat.{ℕ, _+_, _*_, _<_}
-use mathlib.Core.Path.{_≡_, refl, sym, ap, ap₂, _∙_}
-use mathlib.Core.Bool.{Bool, true, false}
-use mathlib.Core.List.{List, _∷_}
-use lib.Dec.{eqb}
-use lib.ListN.{length, getD}
-use native.Mathlib.Omega.{arith}
-use borrow.Author.Tests.{eq-eqb, ne-eqb}
-use Rattle.octets.specs.Bytes.{numAt, bytesOf}
-use Rattle.octets.specs.Splice.{splice}
-use Rattle.octets.proofs.Numbers.{length-bytes}
-use Rattle.sheet.specs.Layout.{_of_}
+use Rattle.octets.proofs.Kit.{ℕ, _+_, _<_, _≡_, refl, sym, ap, ap₂, _∙_, Bool, true, false, List, _∷_, eqb, length, getD, arith, eq-eqb, ne-eqb}
+use Rattle.octets.{specs.{Bytes.{numAt, bytesOf}, Splice.splice}, proofs.{Numbers.length-bytes, Truths.{never, equal-is}}}
+use Rattle.sheet.{specs.Layout._of_, proofs.{rules.Good.accepted, promises.Stores.key-store}}
 use Rattle.sheet.specs.Head as head
-use Rattle.sheet.proofs.rules.Good.{accepted}
-use Rattle.sheet.proofs.promises.Stores.{key-store}
 use Rattle.pdu.specs.declared.Pdu.the-variants.{AuthorizeRequest, KeyWrite}
-use Rattle.octets.proofs.Truths.{never, equal-is}
-use Rattle.judge.specs.Session.{connected}
-use Rattle.judge.specs.declared.Session.{Session}
-use Rattle.device.specs.Events.{State}
+use Rattle.judge.specs.{Session.connected, declared.Session.Session}
+use Rattle.device.{specs.{Events.State, Asked.{Asked, Reads, given}, Due.asked, KeysDue.{KeyWritable, Grants, key0, key1, key2, other}}, proofs.{due.Taking.taken, leaves.Octet.octets-bytes}}
 use Rattle.events.specs.Events.{Event}
-use Rattle.device.specs.Asked.{Asked, Reads, given}
-use Rattle.device.proofs.due.Taking.{taken}
-use Rattle.device.specs.Due.{asked}
-use Rattle.device.specs.KeysDue.{KeyWritable, Grants, key0, key1, key2, other}
-use Rattle.history.specs.Location.{key}
-use Rattle.history.specs.Wish.{Wish, writeKey, offerKey, asks}
-use Rattle.history.specs.Permit.{spans}
-use Rattle.history.specs.History.{First, keyIn, offered, opened, level, keys, content}
-use Rattle.history.specs.Keeps.{Begins, Succeeds}
-use Rattle.history.proofs.heard.Hearing.{asks-is}
-use Rattle.history.proofs.promises.Said.{said}
-use Rattle.history.proofs.steps.Invariant.{Inv, fine, now}
-use Rattle.history.proofs.stored.KeyRun.{key-place, key-run}
-use Rattle.history.proofs.stored.Means.{long, store-span}
-use Rattle.device.proofs.leaves.Octet.{octets-bytes}
-use Rattle.history.proofs.heard.Permits.{key-is}
-use Rattle.history.proofs.steps.Requests.{ends, E, Done, opens-same, levels-new, programs-same, addresses-same, values-same, met-so, aside}
+use Rattle.history.specs.{Location.key, Wish.{Wish, writeKey, offerKey, asks}, Permit.spans, History.{First, keyIn, offered, opened, level, keys, content}, Keeps.{Begins, Succeeds}}
+use Rattle.history.proofs.{heard.Hearing.asks-is, promises.Said.said, steps.Invariant.{Inv, fine, now}, stored.{KeyRun.{key-place, key-run}, Means.{long, store-span}}}
+use Rattle.history.proofs.{heard.Permits.key-is, steps.Requests.{ends, E, Done, opens-same, levels-new, programs-same, addresses-same, values-same, met-so, aside}}
 use Rattle.history.proofs.steps.Writes.{heard-now, carried-out, denied}
 
 -- the level that a number gets is the one that the keys grant

@@ -1,41 +1,15 @@
 -- Writes to memory, of bytes and of bits, carried out and denied.
--- Assumes nothing.
-use Prim.Native.Nat.{ℕ, _+_, _<_}
-use mathlib.Core.Path.{_≡_, refl, sym, ap, _∙_}
-use mathlib.Core.List.{List, [], _∷_}
-use lib.ListN.{length, getD}
-use lib.Bits.{bitAnd, bitXor}
+use Rattle.octets.proofs.Kit.{ℕ, _+_, _<_, _≡_, refl, sym, ap, _∙_, List, [], _∷_, length, getD, bitAnd, bitXor}
 use Rattle.octets.specs.Splice.{splice}
-use Rattle.sheet.specs.Places.{Ranged}
-use Rattle.sheet.specs.declared.Memory.{Memory}
-use Rattle.sheet.specs.declared.Memory.the-variants.{Device, User}
-use Rattle.sheet.proofs.alike.SameLookups.{ranged-same}
-use Rattle.sheet.proofs.promises.Agrees.{agree-sym}
+use Rattle.sheet.{specs.{Places.Ranged, declared.Memory.{Memory, the-variants.{Device, User}}}, proofs.{alike.SameLookups.ranged-same, promises.Agrees.agree-sym}}
 use Rattle.sheet.proofs.promises.Runs.{range-within, range-store}
-use Rattle.pdu.specs.declared.Pdu.the-variants.{MemoryWrite, MemoryBitWrite, UserMemoryWrite}
-use Rattle.device.specs.Octets.{Octets}
-use Rattle.device.specs.Events.{State}
+use Rattle.pdu.{specs.declared.Pdu.the-variants.{MemoryWrite, MemoryBitWrite, UserMemoryWrite}, proofs.promises.Readings.reading}
+use Rattle.device.specs.{Octets.Octets, Events.State, Asked.{Asked, Reads, given}, Due.asked, MemoryDue.{Write, bytes, bits, into, writing, MemoryWritable, Leaves}}
+use Rattle.device.proofs.{leaves.Octet.{octets-data, octets-bits}, due.{OpenRanges.{over-write, opened}, Given.{memory-data, user-data}}}
 use Rattle.events.specs.Events.{Event}
-use Rattle.device.specs.Asked.{Asked, Reads, given}
-use Rattle.device.specs.Due.{asked}
-use Rattle.device.specs.MemoryDue.{Write, bytes, bits, into, writing, MemoryWritable, Leaves}
-use Rattle.history.specs.Location.{memory}
-use Rattle.history.specs.Wish.{change, wishOf}
-use Rattle.history.specs.Permit.{spans}
-use Rattle.history.specs.History.{First, content}
-use Rattle.history.specs.Others.{programming, individual, groupByte}
-use Rattle.history.specs.Keeps.{Begins, Succeeds}
-use Rattle.history.proofs.steps.Invariant.{Inv, fine, now}
-use Rattle.history.proofs.stored.Means.{Means, store-span}
-use Rattle.history.proofs.stored.MemoryRun.{memory-place, memory-run}
-use Rattle.device.proofs.leaves.Octet.{octets-data, octets-bits}
-use Rattle.pdu.proofs.promises.Readings.{reading}
-use Rattle.device.proofs.due.OpenRanges.{over-write, opened}
-use Rattle.device.proofs.due.Given.{memory-data, user-data}
-use Rattle.history.proofs.heard.Permits.{wish, memory-is}
-use Rattle.history.proofs.steps.Requests.{ends, Done}
-use Rattle.history.proofs.spans.Spans.{laid}
-use Rattle.history.proofs.steps.Writes.{carried-out, denied}
+use Rattle.history.specs.{Location.memory, Wish.{change, wishOf}, Permit.spans, History.{First, content}, Others.{programming, individual, groupByte}, Keeps.{Begins, Succeeds}}
+use Rattle.history.proofs.{steps.Invariant.{Inv, fine, now}, stored.{Means.{Means, store-span}, MemoryRun.{memory-place, memory-run}}, heard.Permits.{wish, memory-is}}
+use Rattle.history.proofs.{steps.Requests.{ends, Done}, spans.Spans.laid, steps.Writes.{carried-out, denied}}
 
 -- what a write to memory asks for
 pub wish-is : (w : Write) (n y : ℕ) → wishOf (writing w n y) ≡ change (wish w n y)

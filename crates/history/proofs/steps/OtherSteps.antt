@@ -1,40 +1,16 @@
 -- The individual address, and a restart.
--- Assumes nothing.
-use Prim.Native.Nat.{ℕ, _+_, _*_, _/_, _%_, _<_}
-use mathlib.Core.Path.{_≡_, refl, sym, ap₂, _∙_}
-use mathlib.Core.Logic.{inl}
-use mathlib.Core.Bool.{Bool, true, false}
-use mathlib.Core.List.{List, _∷_}
-use native.Mathlib.Omega.{arith}
-use borrow.Author.Tests.{eq-eqb, ne-eqb}
-use Rattle.octets.specs.Bytes.{bytesOf}
-use Rattle.octets.specs.Splice.{splice}
-use Rattle.octets.proofs.Numbers.{num-same}
+use Rattle.octets.proofs.Kit.{ℕ, _+_, _*_, _/_, _%_, _<_, _≡_, refl, sym, ap₂, _∙_, inl, Bool, true, false, List, _∷_, arith, eq-eqb, ne-eqb}
+use Rattle.octets.{specs.{Bytes.bytesOf, Splice.splice}, proofs.{Numbers.num-same, Truths.never}}
 use Rattle.sheet.specs.Layout.{_of_}
 use Rattle.sheet.specs.Head as head
-use Rattle.pdu.specs.declared.Pdu.{Pdu}
-use Rattle.pdu.specs.declared.Pdu.the-variants.{IndividualAddressWrite, SerialNumberWrite, Restart}
-use Rattle.octets.proofs.Truths.{never}
-use Rattle.device.specs.Octets.{Octets}
-use Rattle.device.specs.Sessions.{closed}
-use Rattle.device.specs.Events.{State}
+use Rattle.pdu.specs.declared.Pdu.{Pdu, the-variants.{IndividualAddressWrite, SerialNumberWrite, Restart}}
+use Rattle.device.specs.{Octets.Octets, Sessions.closed, Events.State, Asked.{Asked, Reads}, Due.asked, AddressesDue.Programming}
 use Rattle.events.specs.Events.{Event}
-use Rattle.device.specs.Asked.{Asked, Reads}
-use Rattle.device.specs.Due.{asked}
-use Rattle.device.specs.AddressesDue.{Programming}
-use Rattle.history.specs.Wish.{Wish, Other, other, address, addressFor, restart, wishOf, asks}
-use Rattle.history.specs.History.{First, permitted}
-use Rattle.history.specs.Others.{programming, individual, newAddress, newValue}
+use Rattle.history.specs.{Wish.{Wish, Other, other, address, addressFor, restart, wishOf, asks}, History.{First, permitted}, Others.{programming, individual, newAddress, newValue}}
 use Rattle.history.specs.Keeps.{Begins, Still}
-use Rattle.history.proofs.spans.RequestFields.{address-field, serial-address}
-use Rattle.history.proofs.heard.Hearing.{asks-is}
-use Rattle.history.proofs.promises.Said.{said}
-use Rattle.history.proofs.steps.Invariant.{Inv, fine}
-use Rattle.history.proofs.stored.Means.{store-flags, store-address}
-use Rattle.history.proofs.places.Standing.{no-head, past-contents}
-use Rattle.history.proofs.steps.Requests.{ends, E, Ok, Done, opens-new, levels-new, sessions-same, programs-same, programs-new}
-use Rattle.history.proofs.steps.Requests.{addresses-same, addresses-new, values-same, unwritten, stayed, left, aside}
-use Rattle.history.proofs.steps.Writes.{heard-now}
+use Rattle.history.proofs.{spans.RequestFields.{address-field, serial-address}, heard.Hearing.asks-is, promises.Said.said, steps.Invariant.{Inv, fine}}
+use Rattle.history.proofs.{stored.Means.{store-flags, store-address}, places.Standing.{no-head, past-contents}, steps.Requests.{ends, E, Ok, Done, opens-new, levels-new}}
+use Rattle.history.proofs.steps.{Requests.{sessions-same, programs-same, programs-new, addresses-same, addresses-new, values-same, unwritten, stayed, left, aside}, Writes.heard-now}
 
 module _ (f : First) (b : Begins f) (h : List Event) (x : State) (inv : Inv f h x) (mode c g : ℕ) (a out : List ℕ) where
   abbrev R : Asked

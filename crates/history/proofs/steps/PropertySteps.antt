@@ -1,55 +1,19 @@
 -- Property writes, carried out and denied.
--- Assumes nothing.
-use Prim.Native.Nat.{ℕ, _+_, _*_, _-_, _<_, _≤_, max}
-use mathlib.Core.Path.{_≡_, refl, sym, ap, subst, _∙_}
-use mathlib.Core.List.{List, [], _∷_}
-use lib.ListN.{length, getD, replicate, length-replicate, getD-replicate}
-use native.Mathlib.Omega.{arith}
-use borrow.Author.Tests.{ne-eqb}
-use Rattle.octets.specs.Bytes.{bytesOf}
-use Rattle.octets.specs.Splice.{splice}
-use Rattle.octets.proofs.Numbers.{length-bytes, bytes-zero}
-use Rattle.sheet.specs.Kind.{properties}
-use Rattle.sheet.specs.Layout.{_of_}
+use Rattle.octets.proofs.Kit.{ℕ, _+_, _*_, _-_, _<_, _≤_, max, _≡_, refl, sym, ap, subst, _∙_, List, [], _∷_, length, getD, replicate, length-replicate, getD-replicate, arith, ne-eqb}
+use Rattle.octets.{specs.{Bytes.bytesOf, Splice.splice}, proofs.Numbers.{length-bytes, bytes-zero}}
+use Rattle.sheet.specs.{Kind.properties, Layout._of_, Entries.{count, place, entry, bodyAt, bodyEnd}, Agree.Agree, Rules.entryDemands, Places.PropertyWith, Stores.Inside}
+use Rattle.sheet.proofs.{rules.Good.accepted, promises.Agrees.kept, places.BodyPlaces.inside-within, alike.Sames.{count-same, place-same, property-same, at-same, end-same}}
+use Rattle.sheet.proofs.{places.Standing.place-in, promises.{Counts.count-store, Stores.body-store}}
 use Rattle.sheet.specs.Property as property
-use Rattle.sheet.specs.Entries.{count, place, entry, bodyAt, bodyEnd}
-use Rattle.sheet.specs.Agree.{Agree}
-use Rattle.sheet.specs.Rules.{entryDemands}
-use Rattle.sheet.specs.Places.{PropertyWith}
-use Rattle.sheet.specs.Stores.{Inside}
-use Rattle.sheet.proofs.rules.Good.{accepted}
-use Rattle.sheet.proofs.promises.Agrees.{kept}
-use Rattle.sheet.proofs.places.BodyPlaces.{inside-within}
-use Rattle.sheet.proofs.alike.Sames.{count-same, place-same, property-same, at-same, end-same}
-use Rattle.sheet.proofs.places.Standing.{place-in}
-use Rattle.sheet.proofs.promises.Counts.{count-store}
-use Rattle.sheet.proofs.promises.Stores.{body-store}
-use Rattle.pdu.specs.declared.Pdu.{Pdu}
-use Rattle.pdu.specs.declared.Pdu.the-variants.{PropertyValueWrite}
-use Rattle.device.specs.Octets.{Octets}
-use Rattle.device.specs.Events.{State}
-use Rattle.events.specs.Events.{Event}
-use Rattle.device.specs.Asked.{Asked, Reads, given}
-use Rattle.device.specs.Due.{asked}
-use Rattle.device.specs.PropertiesDue as properties-due
-use Rattle.device.specs.PropertiesDue.{Elements, elementAt, zeroed, Writable, WriteAllowed}
-use Rattle.history.specs.Location.{Location, body}
-use Rattle.history.specs.Span.{Span}
-use Rattle.history.specs.Wish.{change, writeProperty}
-use Rattle.history.specs.Permit.{countTo, spans}
-use Rattle.history.specs.History.{First, content}
-use Rattle.history.specs.Others.{programming, individual, groupByte}
-use Rattle.history.specs.Keeps.{Begins, Succeeds}
-use Rattle.history.proofs.spans.RequestFields.{property-id}
-use Rattle.history.proofs.heard.Framed.{is-same}
-use Rattle.history.proofs.steps.Invariant.{Inv, fine, now}
-use Rattle.history.proofs.stored.Means.{Means, store-span}
+use Rattle.pdu.specs.declared.Pdu.{Pdu, the-variants.PropertyValueWrite}
+use Rattle.device.specs.{Octets.Octets, Events.State, Asked.{Asked, Reads, given}, Due.asked, PropertiesDue.{Elements, elementAt, zeroed, Writable, WriteAllowed}}
 use Rattle.device.proofs.leaves.Octet.{octets-bytes, octets-data}
-use Rattle.history.proofs.heard.Permits.{property-is}
-use Rattle.history.proofs.stored.PropertyRun.{counter-run, body-run, elements-fit, entry-for}
-use Rattle.history.proofs.steps.CountNow.{count-now}
-use Rattle.history.proofs.steps.Requests.{ends, Done}
-use Rattle.history.proofs.spans.Spans.{laid}
+use Rattle.device.specs.PropertiesDue as properties-due
+use Rattle.events.specs.Events.{Event}
+use Rattle.history.specs.{Location.{Location, body}, Span.Span, Wish.{change, writeProperty}, Permit.{countTo, spans}, History.{First, content}}
+use Rattle.history.specs.{Others.{programming, individual, groupByte}, Keeps.{Begins, Succeeds}}
+use Rattle.history.proofs.{spans.RequestFields.property-id, heard.Framed.is-same, steps.Invariant.{Inv, fine, now}, stored.Means.{Means, store-span}, heard.Permits.property-is}
+use Rattle.history.proofs.{stored.PropertyRun.{counter-run, body-run, elements-fit, entry-for}, steps.{CountNow.count-now, Requests.{ends, Done}}, spans.Spans.laid}
 use Rattle.history.proofs.steps.Writes.{carried-out, denied}
 
 module _ (f : First) (b : Begins f) (h : List Event) (x : State) (inv : Inv f h x) (mode c g : ℕ) (a out : List ℕ) (octets : Octets a) where

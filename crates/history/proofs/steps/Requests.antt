@@ -1,36 +1,15 @@
 -- What the history says of one more request, by what it asks.
--- Assumes nothing.
-use Prim.Native.Nat.{ℕ, _<_}
-use mathlib.Core.Path.{_≡_, refl, sym, ap, ap₂, subst, _∙_}
-use mathlib.Core.Bool.{Bool, true, false, cond}
-use mathlib.Core.List.{List, _∷_}
-use lib.Dec.{eqb}
-use Rattle.sheet.specs.Kind.{groups}
-use Rattle.sheet.specs.Layout.{_of_}
-use Rattle.sheet.specs.Head as head
-use Rattle.sheet.specs.Head.{rulesOf}
-use Rattle.sheet.specs.Entries.{count, entry}
-use Rattle.sheet.proofs.alike.Sames.{rules-same}
+use Rattle.octets.proofs.Kit.{ℕ, _<_, _≡_, refl, sym, ap, ap₂, subst, _∙_, Bool, true, false, cond, List, _∷_, eqb}
 use Rattle.octets.proofs.Truths.{never}
+use Rattle.sheet.{specs.{Kind.groups, Layout._of_, Head.rulesOf, Entries.{count, entry}}, proofs.alike.Sames.rules-same}
+use Rattle.sheet.specs.Head as head
 use Rattle.judge.specs.Session.{connected}
-use Rattle.device.specs.Step.{Step}
-use Rattle.device.specs.Sessions.{closed}
-use Rattle.device.specs.Events.{State}
+use Rattle.device.specs.{Step.Step, Sessions.closed, Events.State, Asked.Asked, Due.asked}
 use Rattle.events.specs.Events.{Event, request}
-use Rattle.device.specs.Asked.{Asked}
-use Rattle.device.specs.Due.{asked}
-use Rattle.history.specs.Location.{Location}
-use Rattle.history.specs.Span.{Span, names, gives}
-use Rattle.history.specs.Wish.{Wish, Change, change, offerKey, restart, other, nothing, asks, brings}
-use Rattle.history.specs.Permit.{heard, levelFor, allowed, spans}
-use Rattle.history.specs.History.{First, wished, supplied, isRestart, offered, opened, level, keys, content, permitted}
-use Rattle.history.specs.Others.{programming, individual, groupByte, newAddress, newValue}
-use Rattle.history.specs.Keeps.{Writing, CarriedOut}
-use Rattle.history.proofs.spans.Bools.{and-false, cond-same}
-use Rattle.history.proofs.promises.Said.{said}
-use Rattle.history.proofs.steps.Invariant.{Inv, means-as}
-use Rattle.history.proofs.stored.Means.{Means}
-use Rattle.history.proofs.heard.Meets.{meets, heard-met}
+use Rattle.history.specs.{Location.Location, Span.{Span, names, gives}, Wish.{Wish, Change, change, offerKey, restart, other, nothing, asks, brings}}
+use Rattle.history.specs.{Permit.{heard, levelFor, allowed, spans}, History.{First, wished, supplied, isRestart, offered, opened, level, keys, content, permitted}}
+use Rattle.history.specs.{Others.{programming, individual, groupByte, newAddress, newValue}, Keeps.{Writing, CarriedOut}}
+use Rattle.history.proofs.{spans.Bools.{and-false, cond-same}, promises.Said.said, steps.Invariant.{Inv, means-as}, stored.Means.Means, heard.Meets.{meets, heard-met}}
 use Rattle.history.proofs.spans.Spans.{laid, laid-is}
 
 -- no level allows what is no write

@@ -1,56 +1,24 @@
 -- A restore: what it leaves, and that it is carried out exactly if it is permitted.
--- Assumes nothing.
-use Prim.Native.Nat.{ℕ, zero, suc, _+_, _*_, _-_, _/_, _%_, _<_, _≤_}
-use mathlib.Core.Path.{_≡_, refl, sym, ap, subst, _∙_}
-use mathlib.Core.Bool.{true, false}
-use mathlib.Core.List.{List, _∷_}
-use lib.ListN.{length, getD}
-use native.Mathlib.Decide.{decLt, decLe}
-use native.Mathlib.Omega.{arith}
-use Rattle.octets.specs.Bytes.{numAt}
-use Rattle.octets.proofs.Numbers.{num-same}
-use Rattle.sheet.specs.Kind.{kinds, regions, properties, groups, users}
-use Rattle.sheet.specs.Layout.{_of_}
+use Rattle.octets.proofs.Kit.{ℕ, zero, suc, _+_, _*_, _-_, _/_, _%_, _<_, _≤_, _≡_, refl, sym, ap, subst, _∙_, true, List, _∷_, length, getD, arith, eq-eqb, eqb-true}
+use Rattle.octets.{specs.Bytes.numAt, proofs.{Numbers.num-same, Truths.never}}
+use Rattle.sheet.specs.{Kind.{kinds, regions, properties, groups, users}, Entries.{count, size, base, place, contents, startOf, bodyAt, InBody}, Agree.{Agree, Fixed}}
+use Rattle.sheet.{specs.{Places.{Position, inHead, inEntry, inBody}, Rules.Accepted}, proofs.{rules.Good.{Good, no-rule}, promises.{Agrees.agree-trans, Positions.position}}}
+use Rattle.sheet.proofs.{alike.Sames.{count-same, place-same, contents-same, start-same}, places.BodyPlaces.{end-is, start-up, from-start, to-next}}
 use Rattle.sheet.specs.Head as head
 use Rattle.sheet.specs.Property as property
-use Rattle.sheet.specs.Entries.{count, size, base, place, contents, entry, startOf, bodyAt, InBody}
-use Rattle.sheet.specs.Agree.{Agree, Fixed}
-use Rattle.sheet.specs.Places.{Position, inHead, inEntry, inBody, PropertyWith}
-use Rattle.sheet.specs.Rules.{Accepted}
-use Rattle.sheet.proofs.rules.Good.{Good, no-rule}
-use Rattle.sheet.proofs.promises.Agrees.{agree-trans}
-use Rattle.sheet.proofs.promises.Positions.{position}
-use Rattle.sheet.proofs.alike.Sames.{count-same, place-same, contents-same, start-same}
-use Rattle.sheet.proofs.places.BodyPlaces.{end-is, start-up, from-start, to-next}
 use Rattle.judge.specs.declared.Session.{Session}
-use Rattle.device.specs.Octets.{Octets}
-use Rattle.device.specs.Sessions.{sessionOf}
-use Rattle.device.specs.Events.{State}
-use Rattle.versions.specs.Settings.{front, many, entriesLong, bodiesLong, inVersion, restored, SameEntries, LowCounts}
-use Rattle.versions.specs.Store.{versionIn}
-use Rattle.versions.specs.Settings.{bodyInVersion}
-use Rattle.versions.proofs.promises.Restores as re
+use Rattle.device.specs.{Octets.Octets, Sessions.sessionOf, Events.State}
+use Rattle.versions.specs.{Settings.{front, entriesLong, inVersion, restored, SameEntries, LowCounts, bodyInVersion}, Store.versionIn}
+use Rattle.versions.specs.{Due.{Known, AtZero, RestoreDue, sheetRefused, sheetOld, storeRefused, unknownNumber, notOpen, differs, tooHigh, isRestored}, Rules.{isStore, storeRule}}
 use Rattle.versions.proofs.promises.Agreeing.{entries-to, entries-from, low-to, low-from, version-octets, restored-octets}
+use Rattle.versions.proofs.promises.Restores as re
 use Rattle.events.specs.Events.{Event, restore}
-use Rattle.versions.specs.Due.{Known, AtZero, RestoreDue, sheetRefused, sheetOld, storeRefused, unknownNumber, notOpen, differs, tooHigh, isRestored}
-use Rattle.versions.specs.Rules.{isStore, storeRule}
-use borrow.Author.Tests.{eq-eqb, eqb-true}
-use Rattle.octets.proofs.Truths.{never}
-use Rattle.history.specs.Location.{Location, memory, body, counter, key, Place, ofMemory, ofBody, ofCounter, ofKey}
-use Rattle.history.specs.Span.{owner}
-use Rattle.history.specs.Wish.{change, restoreAll}
-use Rattle.history.specs.Permit.{spans}
-use Rattle.history.specs.History.{First, opened, level, content, permitted}
-use Rattle.history.specs.Others.{programming, individual, groupByte}
-use Rattle.history.specs.Keeps.{Begins, CarriedOut}
-use Rattle.history.proofs.spans.Bools.{must-fail}
-use Rattle.history.proofs.steps.Invariant.{Inv, fine, now-accepted, means-as}
-use Rattle.history.proofs.stored.Means.{Means}
-use Rattle.history.proofs.places.Standing.{body-in, location-once, place-within, past-contents, no-group}
+use Rattle.history.specs.{Location.{Location, memory, body, counter, key, Place, ofMemory, ofBody, ofCounter, ofKey}, Span.owner, Wish.{change, restoreAll}, Permit.spans}
+use Rattle.history.specs.{History.{First, opened, level, content, permitted}, Others.{programming, individual, groupByte}, Keeps.{Begins, CarriedOut}}
+use Rattle.history.proofs.{spans.Bools.must-fail, steps.Invariant.{Inv, fine, now-accepted, means-as}, stored.Means.Means}
+use Rattle.history.proofs.{places.Standing.{body-in, location-once, place-within, past-contents}, stored.RestoreRun.{counter-laid, body-laid, memory-laid, key-laid}}
+use Rattle.history.proofs.{steps.Restores.{restore-needs, needs-restore}, spans.Spans.{laid, laid-is}}
 use Rattle.history.proofs.steps.Requests as request
-use Rattle.history.proofs.stored.RestoreRun.{counter-laid, body-laid, memory-laid, key-laid}
-use Rattle.history.proofs.steps.Restores.{Needs, restore-needs, needs-restore}
-use Rattle.history.proofs.spans.Spans.{laid, laid-is}
 
 -- locations of two sorts are not the same
 apart : {x y : Location} → (getD (owner x) 0 0 ≡ getD (owner y) 0 0 → ⊥) → x ≡ y → ⊥

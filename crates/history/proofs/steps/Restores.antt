@@ -1,23 +1,10 @@
 -- What a permitted restore needs, by the history.
--- Assumes nothing.
-use Prim.Native.Nat.{ℕ, _<_}
-use mathlib.Core.Path.{_≡_}
-use mathlib.Core.Bool.{Bool, true}
-use mathlib.Core.List.{List, [], _∷_}
-use lib.Dec.{eqb}
-use native.Mathlib.Decide.{decLt}
-use native.Mathlib.Omega.{arith}
-use borrow.Author.Tests.{eqb-true, lt-ltb, le-ltb}
+use Rattle.octets.proofs.Kit.{ℕ, _<_, _≡_, Bool, true, List, [], _∷_, eqb, decLt, arith, eqb-true, lt-ltb, le-ltb}
 use Rattle.octets.proofs.Truths.{and-is}
-use Rattle.events.specs.Events.{Event, restore}
-use Rattle.versions.specs.Store.{isKept, versionIn}
-use Rattle.versions.specs.Rules.{isStore}
-use Rattle.versions.specs.Settings.{SameEntries, LowCounts}
-use Rattle.versions.specs.Restoring.{sameEntries, lowCounts}
+use Rattle.versions.specs.{Store.{isKept, versionIn}, Rules.isStore, Settings.{SameEntries, LowCounts}, Restoring.{sameEntries, lowCounts}}
 use Rattle.versions.proofs.promises.Agreeing.{same-entries, entries-same, low-counts, counts-low}
-use Rattle.history.specs.Wish.{change, restoreAll}
-use Rattle.history.specs.Permit.{levelFor, allowed}
-use Rattle.history.specs.History.{First, opened, level, permitted}
+use Rattle.events.specs.Events.{Event, restore}
+use Rattle.history.specs.{Wish.{change, restoreAll}, Permit.{levelFor, allowed}, History.{First, opened, level, permitted}}
 use Rattle.history.proofs.spans.Bools.{all-at}
 
 -- level 0, and no other, is 0 as a request has it

@@ -1,41 +1,20 @@
 -- Every step that is due does what the history says.
--- Assumes nothing.
-use Prim.Native.Nat.{ℕ}
-use mathlib.Core.Path.{_≡_, refl, sym, ap, subst, _∙_}
-use mathlib.Core.Bool.{false}
-use mathlib.Core.List.{List, []}
-use lib.ListN.{length}
-use native.Mathlib.Omega.{arith}
-use Rattle.sheet.specs.Head.{rulesOf}
-use Rattle.sheet.specs.Rules.{Accepted}
-use Rattle.sheet.specs.declared.Memory.the-variants.{Device, User}
-use Rattle.pdu.specs.declared.Pdu.{Pdu}
-use Rattle.pdu.specs.declared.Pdu.the-variants.{GroupValueRead, IndividualAddressRead, SerialNumberRead, DeviceDescriptorRead, PropertyValueRead, PropertyDescriptionRead, MemoryRead, UserMemoryRead}
-use Rattle.device.specs.Octets.{Octets}
-use Rattle.device.specs.Step.{Step}
-use Rattle.device.specs.Events.{State}
-use Rattle.events.specs.Events.{Event, request}
-use Rattle.device.specs.Asked.{Asked, Reads}
-use Rattle.device.specs.Due.{asked}
+use Rattle.octets.proofs.Kit.{ℕ, _≡_, refl, sym, ap, subst, _∙_, false, List, [], length, arith}
+use Rattle.sheet.specs.{Head.rulesOf, Rules.Accepted, declared.Memory.the-variants.{Device, User}}
+use Rattle.pdu.specs.declared.Pdu.{Pdu, the-variants.{GroupValueRead, IndividualAddressRead, SerialNumberRead, DeviceDescriptorRead, PropertyValueRead, PropertyDescriptionRead, MemoryRead}}
+use Rattle.pdu.specs.declared.Pdu.the-variants.{UserMemoryRead}
+use Rattle.device.{specs.{Octets.Octets, Step.Step, Events.State, Asked.{Asked, Reads}, Due.asked, Right.Right}, proofs.due.WasReady.late}
 use Rattle.device.specs.Right as right
 use Rattle.device.specs.GroupsDue as groups
 use Rattle.device.specs.AddressesDue as addresses
 use Rattle.device.specs.PropertiesDue as properties
 use Rattle.device.specs.MemoryDue as memory
 use Rattle.device.specs.KeysDue as keys
-use Rattle.device.specs.Right.{Right}
-use Rattle.device.proofs.due.WasReady.{late}
-use Rattle.history.specs.Wish.{asks}
-use Rattle.history.specs.Permit.{heard}
-use Rattle.history.specs.History.{First}
-use Rattle.history.specs.Keeps.{Begins, Writing, CarriedOut}
-use Rattle.history.proofs.heard.Hearing.{Idle, asks-is}
-use Rattle.history.proofs.steps.Invariant.{Inv, now-accepted}
-use Rattle.history.proofs.steps.Requests.{ends, Ok, heard-so, Done, unheard-same, unheard-forbidden, left}
-use Rattle.history.proofs.heard.Unheard.{refusal-unheard, nothing-unheard, unread-unheard, unknown-unheard, mode-unheard}
-use Rattle.history.proofs.steps.MemorySteps.{memory-written, memory-denied}
-use Rattle.history.proofs.steps.KeySteps.{key-written, key-denied, authorized}
-use Rattle.history.proofs.steps.PropertySteps.{property-denied, property-cleared, property-written}
+use Rattle.events.specs.Events.{Event, request}
+use Rattle.history.specs.{Wish.asks, Permit.heard, History.First, Keeps.{Begins, Writing, CarriedOut}}
+use Rattle.history.proofs.{heard.Hearing.{Idle, asks-is}, steps.{Invariant.{Inv, now-accepted}, Requests.{ends, Ok, heard-so, Done, unheard-same, unheard-forbidden, left}}}
+use Rattle.history.proofs.{heard.Unheard.{refusal-unheard, nothing-unheard, unread-unheard, unknown-unheard, mode-unheard}, steps.MemorySteps.{memory-written, memory-denied}}
+use Rattle.history.proofs.steps.{KeySteps.{key-written, key-denied, authorized}, PropertySteps.{property-denied, property-cleared, property-written}}
 use Rattle.history.proofs.steps.OtherSteps.{address-written, address-unwritten, serial-written, serial-unwritten, restarted}
 use Rattle.history.proofs.steps.GroupSteps.{value-left, unfit, bits-stored, bytes-stored}
 

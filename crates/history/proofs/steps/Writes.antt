@@ -1,28 +1,12 @@
 -- A write that is heard, carried out or denied.
--- Assumes nothing.
-use Prim.Native.Nat.{ℕ}
-use mathlib.Core.Path.{_≡_, sym, ap, _∙_}
-use mathlib.Core.Bool.{true}
-use mathlib.Core.List.{List}
-use native.Mathlib.Omega.{arith}
+use Rattle.octets.proofs.Kit.{ℕ, _≡_, sym, ap, _∙_, true, List, arith}
 use Rattle.pdu.specs.declared.Pdu.{Pdu}
-use Rattle.device.specs.Events.{State}
+use Rattle.device.specs.{Events.State, Asked.{Asked, Reads, given}, Due.asked}
 use Rattle.events.specs.Events.{Event}
-use Rattle.device.specs.Asked.{Asked, Reads, given}
-use Rattle.device.specs.Due.{asked}
-use Rattle.history.specs.Wish.{Wish, Change, change, nothing, wishOf, asks, brings}
-use Rattle.history.specs.Permit.{levelFor, allowed, spans}
-use Rattle.history.specs.History.{First, level, content}
-use Rattle.history.specs.Others.{programming, individual, groupByte}
-use Rattle.history.specs.Keeps.{Begins, Succeeds}
-use Rattle.history.proofs.spans.Bools.{must-fail}
-use Rattle.history.proofs.promises.Said.{said}
-use Rattle.history.proofs.heard.Framed.{allowed-same}
-use Rattle.history.proofs.heard.Hearing.{asks-is, brings-is, reads-heard}
-use Rattle.history.proofs.steps.Invariant.{Inv, now-accepted}
-use Rattle.history.proofs.stored.Means.{Means}
-use Rattle.history.proofs.heard.Meets.{level-met}
-use Rattle.history.proofs.spans.Spans.{laid}
+use Rattle.history.specs.{Wish.{Wish, Change, change, nothing, wishOf, asks, brings}, Permit.{levelFor, allowed, spans}, History.{First, level, content}}
+use Rattle.history.specs.{Others.{programming, individual, groupByte}, Keeps.{Begins, Succeeds}}
+use Rattle.history.proofs.{spans.Bools.must-fail, promises.Said.said, heard.{Framed.allowed-same, Hearing.{asks-is, brings-is, reads-heard}}, steps.Invariant.{Inv, now-accepted}}
+use Rattle.history.proofs.{stored.Means.Means, heard.Meets.level-met, spans.Spans.laid}
 use Rattle.history.proofs.steps.Requests.{ends, Ok, Done, met-so, heard-so, left, wrote, writing-same, forbidden, permitted-so}
 
 module _ (f : First) (b : Begins f) (h : List Event) (x : State) (inv : Inv f h x) (mode c g : ℕ) (a out : List ℕ) where

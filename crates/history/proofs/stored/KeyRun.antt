@@ -1,12 +1,6 @@
 -- A key is a run of locations.
--- Assumes nothing.
-use Prim.Native.Nat.{ℕ, _+_, _<_}
-use mathlib.Core.Path.{refl}
-use mathlib.Core.List.{List}
-use lib.ListN.{getD}
-use native.Mathlib.Omega.{arith}
-use Rattle.octets.specs.Bytes.{bytesOf}
-use Rattle.octets.proofs.Numbers.{length-bytes}
+use Rattle.octets.proofs.Kit.{ℕ, _+_, _<_, refl, List, getD, arith}
+use Rattle.octets.{specs.Bytes.bytesOf, proofs.Numbers.length-bytes}
 use Rattle.sheet.specs.Head as head
 use Rattle.history.specs.Location.{key, Place, ofKey}
 use Rattle.history.proofs.stored.Stored.{Run}

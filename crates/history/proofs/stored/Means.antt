@@ -1,36 +1,13 @@
 -- What a sheet means, its places being those of the first sheet f: what the locations, the address, the flags and the group objects hold. And what each kind of store makes of it.
--- Assumes nothing.
-use Prim.Native.Nat.{ℕ, _+_, _/_, _%_, _^_, _<_, _≤_}
-use mathlib.Core.Path.{_≡_, sym, ap, subst, _∙_}
-use mathlib.Core.Logic.{_⊎_, inl, inr}
-use mathlib.Core.Bool.{cond}
-use mathlib.Core.List.{List, [], _∷_}
-use lib.ListN.{length, getD}
-use native.Mathlib.Decide.{ℕ-discrete}
-use native.Mathlib.Omega.{arith}
-use Rattle.octets.specs.Bytes.{numAt, bytesOf}
-use Rattle.octets.specs.Splice.{splice}
-use Rattle.octets.proofs.Numbers.{num-same, length-bytes}
-use Rattle.octets.proofs.Splices.{splice-in, splice-outside, splice-num, splice-num-outside}
-use Rattle.sheet.specs.Kind.{groups}
-use Rattle.sheet.specs.Layout.{Field, _of_}
-use Rattle.sheet.specs.Head as head
-use Rattle.sheet.specs.Entries.{count, bodyAt, bodyEnd, InBody}
-use Rattle.sheet.specs.Agree.{Agree}
-use Rattle.sheet.specs.Stores.{Inside, Fit}
-use Rattle.sheet.proofs.rules.Good.{Good, accepted}
-use Rattle.sheet.proofs.promises.Agrees.{agree-trans, kept}
-use Rattle.sheet.proofs.promises.Stores.{body-store, address-store, flags-store}
-use Rattle.sheet.proofs.places.BodyPlaces.{within, disjoint}
+use Rattle.octets.proofs.Kit.{ℕ, _+_, _/_, _%_, _^_, _<_, _≤_, _≡_, sym, ap, subst, _∙_, _⊎_, inl, inr, cond, List, [], _∷_, length, getD, ℕ-discrete, arith}
+use Rattle.octets.{specs.{Bytes.{numAt, bytesOf}, Splice.splice}, proofs.{Numbers.{num-same, length-bytes}, Splices.{splice-in, splice-outside, splice-num, splice-num-outside}}}
+use Rattle.sheet.{specs.{Kind.groups, Layout.{Field, _of_}, Entries.{count, bodyAt, bodyEnd, InBody}, Agree.Agree, Stores.{Inside, Fit}}, proofs.rules.Good.{Good, accepted}}
+use Rattle.sheet.proofs.{promises.{Agrees.{agree-trans, kept}, Stores.{body-store, address-store, flags-store}}, places.BodyPlaces.{within, disjoint}}
 use Rattle.sheet.proofs.alike.Sames.{count-same, at-same, end-same}
-use Rattle.history.specs.Location.{Location, Place}
-use Rattle.history.specs.Span.{Span, has, put}
-use Rattle.device.specs.Octets.{Octets}
-use Rattle.history.specs.Keeps.{Still}
-use Rattle.history.proofs.places.Standing.{no-group, place-after, past-contents}
-use Rattle.device.proofs.leaves.Octet.{octets-bytes, octets-splice}
-use Rattle.history.proofs.spans.Spans.{laid}
-use Rattle.history.proofs.stored.Stored.{Run, away, stored, spared}
+use Rattle.sheet.specs.Head as head
+use Rattle.device.{specs.Octets.Octets, proofs.leaves.Octet.{octets-bytes, octets-splice}}
+use Rattle.history.specs.{Location.{Location, Place}, Span.{Span, has, put}, Keeps.Still}
+use Rattle.history.proofs.{places.Standing.{no-group, place-after, past-contents}, spans.Spans.laid, stored.Stored.{Run, away, stored, spared}}
 
 -- the locations hold c, the address is adr, programming mode is prog, byte j of group object i is grp i j, and all else is as at first
 pub record Means (f : List ℕ) (c : Location → ℕ) (adr prog : ℕ) (grp : ℕ → ℕ → ℕ) (s : List ℕ) : Type 0 where

@@ -1,11 +1,6 @@
 -- A range of memory is a run of locations.
--- Assumes nothing.
-use Prim.Native.Nat.{ℕ, _+_, _<_}
-use mathlib.Core.Path.{_≡_}
-use mathlib.Core.List.{List}
-use lib.ListN.{length, getD}
-use Rattle.sheet.specs.Places.{Ranged}
-use Rattle.sheet.specs.declared.Memory.{Memory}
+use Rattle.octets.proofs.Kit.{ℕ, _+_, _<_, _≡_, List, length, getD}
+use Rattle.sheet.specs.{Places.Ranged, declared.Memory.Memory}
 use Rattle.history.specs.Location.{memory, Place, ofMemory}
 use Rattle.history.proofs.stored.Stored.{Run}
 

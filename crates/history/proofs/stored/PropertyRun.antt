@@ -1,23 +1,10 @@
 -- The elements of a property, and its count, are runs of locations.
--- Assumes nothing.
-use Prim.Native.Nat.{ℕ, _+_, _*_, _-_, _<_, _≤_}
-use mathlib.Core.Path.{_≡_, refl, ap}
-use mathlib.Core.List.{List}
-use lib.ListN.{length, getD}
-use native.Mathlib.Nat.{mul-le-mul-right}
-use native.Mathlib.Omega.{arith}
-use Rattle.octets.specs.Bytes.{bytesOf}
-use Rattle.octets.proofs.Numbers.{length-bytes}
-use Rattle.sheet.specs.Kind.{properties}
-use Rattle.sheet.specs.Layout.{_of_}
+use Rattle.octets.proofs.Kit.{ℕ, _+_, _*_, _<_, _≤_, _≡_, refl, ap, List, length, getD, mul-le-mul-right, arith}
+use Rattle.octets.{specs.Bytes.bytesOf, proofs.Numbers.length-bytes}
+use Rattle.sheet.{specs.{Kind.properties, Layout._of_, Entries.{place, entry, bodyAt}, Places.PropertyWith}, proofs.rules.Good.Good}
 use Rattle.sheet.specs.Property as property
-use Rattle.sheet.specs.Entries.{place, entry, bodyAt}
-use Rattle.sheet.specs.Places.{PropertyWith}
-use Rattle.sheet.proofs.rules.Good.{Good}
-use Rattle.history.specs.Location.{body, counter, Place, ofBody, ofCounter}
-use Rattle.history.specs.Permit.{entryFor, countTo}
-use Rattle.history.proofs.heard.Searches.{property-hit}
-use Rattle.history.proofs.stored.Stored.{Run}
+use Rattle.history.specs.{Location.{body, counter, Place, ofBody, ofCounter}, Permit.{entryFor, countTo}}
+use Rattle.history.proofs.{heard.Searches.property-hit, stored.Stored.Run}
 
 -- t elements before, n elements, of z bytes each, at most m in all
 pub elements-fit : (t n z m : ℕ) → t + n ≤ m → t * z + n * z ≤ z * m

@@ -1,31 +1,12 @@
 -- The spans of a restore name every byte of every property and no other, each once.
--- Assumes nothing.
-use Prim.Native.Nat.{ℕ, zero, suc, _+_, _*_, _-_, _<_, _≤_}
-use mathlib.Core.Path.{_≡_, refl, sym, ap, subst, _∙_}
-use mathlib.Core.Bool.{Bool, true, false, cond, _&&_}
-use mathlib.Core.List.{List, [], _∷_, _++_}
-use lib.Dec.{ltb, leb, eqb}
-use lib.ListN.{getD}
-use native.Mathlib.Decide.{decLt, ℕ-discrete}
-use native.Mathlib.Omega.{arith}
-use borrow.Author.Tests.{eqb-true, eq-eqb, lt-ltb, le-leb}
-use Rattle.octets.proofs.Truths.{never, and-is}
-use Rattle.sheet.specs.Kind.{properties}
-use Rattle.sheet.specs.Layout.{_of_}
+use Rattle.octets.proofs.Kit.{ℕ, zero, suc, _+_, _*_, _-_, _<_, _≡_, refl, ap, subst, _∙_, true, false, cond, _&&_, List, [], _∷_, _++_, eqb, getD, ℕ-discrete, arith, eqb-true, eq-eqb}
+use Rattle.octets.proofs.Kit.{lt-ltb, le-leb}
+use Rattle.octets.proofs.Truths.{and-is}
+use Rattle.sheet.{specs.{Kind.properties, Layout._of_, Entries.{count, entry}, Places.PropertyWith, declared.Memory.Memory}, proofs.rules.Good.Good}
 use Rattle.sheet.specs.Property as property
-use Rattle.sheet.specs.Entries.{count, entry}
-use Rattle.sheet.specs.Places.{PropertyWith}
-use Rattle.sheet.specs.declared.Memory.{Memory}
-use Rattle.sheet.proofs.rules.Good.{Good}
-use Rattle.versions.specs.Settings.{inVersion}
-use Rattle.versions.specs.Settings.{bodyInVersion}
-use Rattle.history.specs.Location.{Location, memory, body, counter, key}
-use Rattle.history.specs.Span.{Span, has, put}
-use Rattle.history.specs.Wish.{change, restoreAll}
-use Rattle.history.specs.Permit.{over, countFrom, bodyFrom, spans}
-use Rattle.history.proofs.spans.Bools.{must-fail}
-use Rattle.history.proofs.places.Standing.{property-once}
-use Rattle.history.proofs.spans.Spans.{has-on, laid}
+use Rattle.versions.specs.Settings.{inVersion, bodyInVersion}
+use Rattle.history.specs.{Location.{Location, memory, body, counter, key}, Span.{Span, has, put}, Wish.{change, restoreAll}, Permit.{over, countFrom, bodyFrom, spans}}
+use Rattle.history.proofs.{spans.Bools.must-fail, places.Standing.property-once, spans.Spans.{has-on, laid}}
 
 -- spans one after the other
 laid-append : (ps qs : List Span) (c : Location → ℕ) (x : Location) → laid (ps ++ qs) c x ≡ laid ps (laid qs c) x

@@ -1,21 +1,9 @@
 -- A STORE TO LOCATIONS: a run of bytes, each of them the place of a location that a span has.
--- Assumes nothing.
-use Prim.Native.Nat.{ℕ, _+_, _-_, _<_, _≤_}
-use mathlib.Core.Path.{_≡_, refl, sym, ap, subst, _∙_}
-use mathlib.Core.Logic.{_⊎_, inl, inr}
-use mathlib.Core.Bool.{Bool, true, false, cond}
-use mathlib.Core.List.{List}
-use lib.ListN.{length, getD}
-use native.Mathlib.Decide.{decLt}
-use native.Mathlib.Omega.{arith}
-use Rattle.octets.specs.Splice.{splice}
-use Rattle.octets.proofs.Splices.{splice-in, splice-outside}
+use Rattle.octets.proofs.Kit.{ℕ, _+_, _-_, _<_, _≤_, _≡_, refl, sym, ap, subst, _∙_, _⊎_, inl, inr, Bool, true, false, cond, List, length, getD, decLt, arith}
+use Rattle.octets.{specs.Splice.splice, proofs.{Splices.{splice-in, splice-outside}, Truths.never}}
 use Rattle.sheet.proofs.rules.Good.{Good}
-use Rattle.history.specs.Location.{Location, Place}
-use Rattle.octets.proofs.Truths.{never}
-use Rattle.history.specs.Span.{byte, Span, has, put}
-use Rattle.history.proofs.places.Standing.{location-once, place-once}
-use Rattle.history.proofs.spans.Spans.{on, has-only, has-on}
+use Rattle.history.specs.{Location.{Location, Place}, Span.{byte, Span, has, put}}
+use Rattle.history.proofs.{places.Standing.{location-once, place-once}, spans.Spans.{on, has-only, has-on}}
 
 -- the bytes ds from o on are those of a span, in a sheet with the places of s
 pub record Run (s : List ℕ) (p : Span) (o : ℕ) (ds : List ℕ) : Type 0 where

@@ -1,30 +1,15 @@
 -- WHAT ISOLATION WITH A STORE RULES OUT: devices in which one tool can tell, by a save or around a restore, what the other did.
--- Assumes nothing.
-use Prim.Native.Nat.{ℕ}
-use mathlib.Core.Path.{_≡_, refl, ap}
-use mathlib.Core.Bool.{Bool}
-use mathlib.Core.List.{List, [], _∷_}
-use lib.ListN.{getD}
-use native.Mathlib.Omega.{arith}
-use Rattle.octets.specs.Bytes.{numAt, bytesOf}
-use Rattle.octets.specs.Every.{every}
-use Rattle.octets.specs.Splice.{splice}
-use Rattle.sheet.specs.Demand.{breach}
-use Rattle.sheet.specs.First.{first}
-use Rattle.sheet.specs.Entries.{entry, keyOf, floor, bodyAt, bodyEnd, startOf, reached, sixBits}
+use Rattle.octets.proofs.Kit.{ℕ, _≡_, refl, ap, Bool, List, [], _∷_, getD, arith}
+use Rattle.octets.specs.{Bytes.{numAt, bytesOf}, Every.every, Splice.splice}
+use Rattle.sheet.specs.{Demand.breach, First.first, Entries.{entry, keyOf, floor, bodyAt, bodyEnd, startOf, reached, sixBits}}
 use Rattle.sheet.specs.Rules.{entryDemands, bodyDemands, entryRule, bodyRule, entriesRule, bodiesRule, walkRule, restRule, ruleIn, verdictOf}
 use Rattle.device.specs.Marked.{sample}
+use Rattle.versions.specs.{Store.{headOf, rowOf, tableOf, bodiesOf, laid, versionAt, versionsFrom, kept, has, bodyOf, isKept, versionIn}, Rules.{rowsRule, allRows, storeRule, isStore}}
+use Rattle.versions.specs.{Settings.{settingsOf, restored}, Saving.{saved, saveOutcome, saveStore}}
+use Rattle.versions.specs.{Restoring.{sameEntry, lowCount, sameEntries, lowCounts, givesBack, atZero, restoreOutcome, restoreSheet}, Example.empty}
 use Rattle.events.specs.Events.{Event, connect, disconnect, eventOf}
-use Rattle.versions.specs.Store.{headOf, rowOf, tableOf, bodiesOf, laid, versionAt, versionsFrom, kept, has, bodyOf, isKept, versionIn}
-use Rattle.versions.specs.Rules.{rowsRule, allRows, storeRule, isStore}
-use Rattle.versions.specs.Settings.{settingsOf, restored}
-use Rattle.versions.specs.Saving.{saved, saveOutcome, saveStore}
-use Rattle.versions.specs.Restoring.{sameEntry, lowCount, sameEntries, lowCounts, givesBack, atZero, restoreOutcome, restoreSheet}
-use Rattle.versions.specs.Example.{empty}
-use Rattle.history.specs.Keeps.{stateAfter}
-use Rattle.history.specs.Isolation.{same}
-use Rattle.history.specs.Acts.{Act, does, stores, restores, saves, removes, eventsOf, storeAfter, BesideActs, begin, storesBoth, sharedRestore, oneMore, oneRestore, otherRestore, ActsIsolated}
-use Rattle.history.specs.Samples.{fresh}
+use Rattle.history.specs.{Keeps.stateAfter, Isolation.same, Acts.{Act, does, stores, restores, saves, removes, eventsOf, storeAfter, BesideActs, begin, storesBoth, sharedRestore}}
+use Rattle.history.specs.{Acts.{oneMore, oneRestore, otherRestore, ActsIsolated}, Samples.fresh}
 use Rattle.history.proofs.trials.Leaks.{howMany, isDisconnect, isRestore, showing, storesOnClose}
 
 -- A SAVE AFTER THE OTHER TOOL'S DISCONNECT, by a device that stores when a connection is closed: version 1 has another height

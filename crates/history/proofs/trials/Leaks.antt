@@ -1,19 +1,11 @@
 -- WRONG DEVICES in which one tool can tell what the other does: trials, to hold against isolation (`LeaksRefuted`).
--- Assumes nothing.
-use Prim.Native.Nat.{ℕ, _+_, _-_}
-use mathlib.Core.List.{List, [], _∷_, _++_}
-use mathlib.Core.Bool.{Bool, true, false, cond, _&&_}
-use lib.ListN.{take}
-use lib.Dec.{eqb}
+use Rattle.octets.proofs.Kit.{ℕ, _+_, _-_, List, [], _∷_, _++_, Bool, true, false, cond, _&&_, take, eqb}
 use Rattle.octets.specs.Splice.{splice}
-use Rattle.device.specs.Sessions.{sessionOf}
-use Rattle.device.specs.Events.{requesting}
-use Rattle.events.specs.Events.{Event, connect, disconnect, button, request, restore, eventOf}
+use Rattle.device.specs.{Sessions.sessionOf, Events.requesting}
 use Rattle.versions.specs.Example.{once}
-use Rattle.history.specs.Wish.{Wish, change, offerKey, restart, other, nothing, asks}
-use Rattle.history.specs.Keeps.{Device}
-use Rattle.history.proofs.trials.Runs.{buffer, offeringOn}
-use Rattle.history.proofs.trials.Wrong.{withSheet, withSessions, levelled, onRequests}
+use Rattle.events.specs.Events.{Event, connect, disconnect, button, request, restore, eventOf}
+use Rattle.history.specs.{Wish.{Wish, change, offerKey, restart, other, nothing, asks}, Keeps.Device}
+use Rattle.history.proofs.trials.{Runs.{buffer, offeringOn}, Wrong.{withSheet, withSessions, levelled, onRequests}}
 
 -- ONE WHOSE ANSWERS SHOW THE LEVEL OF THE OTHER CONNECTION, in one more byte
 abbrev pub showsLevel : Device

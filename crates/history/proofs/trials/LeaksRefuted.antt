@@ -1,49 +1,19 @@
 -- WHAT ISOLATION RULES OUT: each of the devices in which one tool can tell what the other does.
--- Assumes nothing.
-use Prim.Native.Nat.{ℕ}
-use mathlib.Core.Path.{_≡_, refl, sym, ap, _∙_}
-use mathlib.Core.Bool.{Bool, false}
-use mathlib.Core.List.{List, [], _∷_}
-use lib.ListN.{getD}
-use native.Mathlib.Omega.{arith}
-use Rattle.octets.specs.Bytes.{numAt, bytesOf}
-use Rattle.octets.specs.Every.{every}
-use Rattle.octets.specs.Splice.{splice}
-use Rattle.octets.proofs.Truths.{never}
-use Rattle.sheet.specs.Demand.{breach}
-use Rattle.sheet.specs.First.{first}
-use Rattle.sheet.specs.Head.{rulesOf}
-use Rattle.sheet.specs.Entries.{entry, keyOf, floor, bodyAt, bodyEnd, startOf, reached, sixBits}
-use Rattle.sheet.specs.Rules.{entryDemands, bodyDemands, entryRule, bodyRule, entriesRule, bodiesRule, walkRule, restRule, ruleIn, verdictOf}
-use Rattle.sheet.specs.Lookup.{seek, indexOf}
-use Rattle.pdu.specs.Table.{find}
-use Rattle.pdu.specs.Rules.{lowAt, fourAt, twelveAt, headBytes}
-use Rattle.pdu.specs.Read.{readPdu, dataOf}
-use Rattle.pdu.specs.Write.{encoded}
-use Rattle.judge.specs.Session.{levelOf, levelIn}
-use Rattle.judge.specs.declared.Session.{Session}
-use Rattle.judge.specs.Groups.{valueOf, flagsAt, groupReadOf}
-use Rattle.judge.specs.Addresses.{addressReadOf}
-use Rattle.judge.specs.Properties.{readIn, propertyReadOf}
-use Rattle.judge.specs.Keys.{grantOf, authorizeOf}
-use Rattle.judge.specs.Judge.{reachedOf, isShut, judgeOf}
-use Rattle.device.specs.Step.{stepBy, stepOf}
-use Rattle.device.specs.Events.{requestOf}
+use Rattle.octets.proofs.Kit.{ℕ, _≡_, refl, sym, ap, _∙_, Bool, false, List, [], _∷_, getD, arith}
+use Rattle.octets.{specs.{Bytes.{numAt, bytesOf}, Every.every, Splice.splice}, proofs.Truths.never}
+use Rattle.sheet.specs.{Demand.breach, First.first, Head.rulesOf, Entries.{entry, keyOf, floor, bodyAt, bodyEnd, startOf, reached, sixBits}}
+use Rattle.sheet.specs.{Rules.{entryDemands, bodyDemands, entryRule, bodyRule, entriesRule, bodiesRule, walkRule, restRule, ruleIn, verdictOf}, Lookup.{seek, indexOf}}
+use Rattle.pdu.specs.{Table.find, Rules.{lowAt, fourAt, twelveAt, headBytes}, Read.{readPdu, dataOf}, Write.encoded}
+use Rattle.judge.specs.{Session.{levelOf, levelIn}, declared.Session.Session, Groups.{valueOf, flagsAt, groupReadOf}, Addresses.addressReadOf, Properties.{readIn, propertyReadOf}}
+use Rattle.judge.specs.{Keys.{grantOf, authorizeOf}, Judge.{reachedOf, isShut, judgeOf}}
+use Rattle.device.specs.{Step.{stepBy, stepOf}, Events.requestOf, Marked.sample}
+use Rattle.versions.specs.{Store.{versionAt, versionsFrom, kept, has, bodyOf, isKept, versionIn}, Rules.{rowsRule, allRows, storeRule, isStore}, Settings.restored}
+use Rattle.versions.specs.{Restoring.{sameEntry, lowCount, sameEntries, lowCounts, givesBack, atZero, restoreOutcome, restoreSheet}, Example.once}
 use Rattle.events.specs.Events.{Event, connect, disconnect, request, eventOf}
-use Rattle.device.specs.Marked.{sample}
-use Rattle.versions.specs.Store.{versionAt, versionsFrom, kept, has, bodyOf, isKept, versionIn}
-use Rattle.versions.specs.Rules.{rowsRule, allRows, storeRule, isStore}
-use Rattle.versions.specs.Settings.{restored}
-use Rattle.versions.specs.Restoring.{sameEntry, lowCount, sameEntries, lowCounts, givesBack, atZero, restoreOutcome, restoreSheet}
-use Rattle.versions.specs.Example.{once}
-use Rattle.history.specs.Wish.{restart, asks}
-use Rattle.history.specs.History.{wished, isRestart}
-use Rattle.history.specs.Keeps.{Device, stateAfter}
-use Rattle.history.specs.Isolation.{Beside, begin, shared, oneMore, otherMore, same, asLong, Isolated}
+use Rattle.history.specs.{Wish.{restart, asks}, History.{wished, isRestart}, Keeps.{Device, stateAfter}, Isolation.{Beside, begin, shared, oneMore, otherMore, same, asLong, Isolated}}
 use Rattle.history.specs.Samples.{fresh}
-use Rattle.history.proofs.trials.Runs.{offering, offeringOn, authorized}
-use Rattle.history.proofs.trials.Leaks.{showsLevel, lowersBoth, offeredOn1, howMany, inMode, isDisconnect, isRestore, showing}
-use Rattle.history.proofs.trials.Leaks.{showsBuffer, readUnconnected, readGroup, readAddresses, restoreClosed}
+use Rattle.history.proofs.trials.{Runs.{offering, offeringOn, authorized}, Leaks.{showsLevel, lowersBoth, offeredOn1, howMany, inMode, isDisconnect, isRestore, showing, showsBuffer}}
+use Rattle.history.proofs.trials.Leaks.{readUnconnected, readGroup, readAddresses, restoreClosed}
 
 -- what the tool on connection 1 offers is no restart
 offers-only : (b : ℕ) → wished (offeringOn 1 b) ≡ restart → ⊥

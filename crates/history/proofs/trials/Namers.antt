@@ -1,36 +1,14 @@
 -- A WRONG WAY TO NAME PARTS, which tells what may not be read, and that `hidden-parts` rules it out: one that names only what became another.
--- Assumes nothing.
-use Prim.Native.Nat.{ℕ}
-use mathlib.Core.Path.{_≡_, refl, sym, ap, _∙_}
-use mathlib.Core.Bool.{cond}
-use mathlib.Core.List.{List, [], _∷_}
-use native.Mathlib.Omega.{arith}
-use Rattle.octets.specs.Bytes.{numAt, bytesOf}
-use Rattle.octets.specs.Splice.{splice}
-use Rattle.sheet.specs.Demand.{breach}
-use Rattle.sheet.specs.First.{first}
-use Rattle.sheet.specs.Head.{rulesOf}
-use Rattle.sheet.specs.Entries.{entry, keyOf, floor, bodyAt, bodyEnd, startOf, reached, sixBits}
+use Rattle.octets.proofs.Kit.{ℕ, _≡_, refl, sym, ap, _∙_, cond, List, [], _∷_, arith}
+use Rattle.octets.specs.{Bytes.{numAt, bytesOf}, Splice.splice}
+use Rattle.sheet.specs.{Demand.breach, First.first, Head.rulesOf, Entries.{entry, keyOf, floor, bodyAt, bodyEnd, startOf, reached, sixBits}}
 use Rattle.sheet.specs.Rules.{entryDemands, bodyDemands, entryRule, bodyRule, entriesRule, bodiesRule, walkRule, restRule, ruleIn, verdictOf}
 use Rattle.sheet.specs.Lookup.{seek, covers, placeOf, common, rangeOf}
-use Rattle.pdu.specs.Table.{find}
-use Rattle.pdu.specs.Rules.{lowAt, headBytes}
-use Rattle.pdu.specs.Read.{readPdu, dataOf}
-use Rattle.pdu.specs.Write.{encoded}
-use Rattle.judge.specs.Session.{levelOf, levelIn}
-use Rattle.judge.specs.Memory.{changeOf, memoryWriteOf}
-use Rattle.judge.specs.Judge.{reachedOf, isShut, judgeOf}
-use Rattle.device.specs.Step.{stepBy, stepOf}
-use Rattle.device.specs.Sessions.{freshOf}
-use Rattle.device.specs.Events.{connectOf, requestOf}
-use Rattle.device.specs.Changed.{changedOf, none}
-use Rattle.device.specs.declared.Sessions.{Sessions}
-use Rattle.device.specs.declared.Changed.{Changed}
-use Rattle.history.specs.Span.{same}
-use Rattle.history.specs.Secret.{Hide}
-use Rattle.history.proofs.promises.SameParts.{hidden-parts}
-use Rattle.history.proofs.trials.Tellers.{guarded, otherSecrets}
-use Rattle.history.proofs.trials.TellersRefuted.{hidden}
+use Rattle.pdu.specs.{Table.find, Rules.{lowAt, headBytes}, Read.{readPdu, dataOf}, Write.encoded}
+use Rattle.judge.specs.{Session.{levelOf, levelIn}, Memory.{changeOf, memoryWriteOf}, Judge.{reachedOf, isShut, judgeOf}}
+use Rattle.device.specs.{Step.{stepBy, stepOf}, Sessions.freshOf, Events.{connectOf, requestOf}, Changed.{changedOf, none}, declared.{Sessions.Sessions, Changed.Changed}}
+use Rattle.history.specs.{Span.same, Secret.Hide}
+use Rattle.history.proofs.{promises.SameParts.hidden-parts, trials.{Tellers.{guarded, otherSecrets}, TellersRefuted.hidden}}
 
 -- a way to name the parts of a request, and that it hides what may not be read
 abbrev pub Naming : Type 0

@@ -1,51 +1,19 @@
 -- WHAT DEMAND 3 RULES OUT: each of the wrong devices, since after its run its state is not ours.
--- Assumes nothing.
-use mathlib.Core.Path.{_≡_, refl, sym, ap, _∙_}
-use mathlib.Core.Bool.{Bool, true, _&&_, not}
-use mathlib.Core.List.{List, [], _∷_}
-use lib.Dec.{eqb}
-use borrow.Author.Tests.{eq-eqb, eqb-true}
-use Rattle.octets.specs.Bytes.{numAt, bytesOf}
-use Rattle.octets.specs.Every.{every}
-use Rattle.octets.specs.Splice.{splice}
-use Rattle.sheet.specs.Demand.{breach}
-use Rattle.sheet.specs.First.{first}
-use Rattle.sheet.specs.Entries.{entry, keyOf, floor, bodyAt, bodyEnd, startOf, reached, sixBits}
+use Rattle.octets.proofs.Kit.{_≡_, refl, sym, ap, _∙_, Bool, true, _&&_, not, List, [], _∷_, eqb, eq-eqb, eqb-true}
+use Rattle.octets.{specs.{Bytes.{numAt, bytesOf}, Every.every, Splice.splice}, proofs.Truths.{never, and-is}}
+use Rattle.sheet.specs.{Demand.breach, First.first, Entries.{entry, keyOf, floor, bodyAt, bodyEnd, startOf, reached, sixBits}}
 use Rattle.sheet.specs.Rules.{entryDemands, bodyDemands, entryRule, bodyRule, entriesRule, bodiesRule, walkRule, restRule, ruleIn, verdictOf, isAccepted}
-use Rattle.sheet.specs.Lookup.{seek, indexOf, covers, placeOf, common, rangeOf}
-use Rattle.pdu.specs.Table.{find}
-use Rattle.pdu.specs.Rules.{lowAt, fourAt, twelveAt, headBytes}
-use Rattle.pdu.specs.Read.{readPdu, dataOf}
-use Rattle.pdu.specs.Write.{encoded}
-use Rattle.octets.proofs.Truths.{never, and-is}
-use Rattle.judge.specs.Session.{levelOf, levelIn}
-use Rattle.judge.specs.declared.Session.{Session}
-use Rattle.sheet.specs.Head.{rulesOf}
-use Rattle.judge.specs.Properties.{writeIn, propertyWriteOf}
-use Rattle.judge.specs.Memory.{changeOf, memoryWriteOf}
-use Rattle.judge.specs.Keys.{grantOf, authorizeOf, keyWriteOf, restartOf}
-use Rattle.judge.specs.Judge.{reachedOf, isShut, judgeOf}
-use Rattle.device.specs.Step.{stepBy, stepOf}
-use Rattle.device.specs.Events.{State, requestOf, bit}
+use Rattle.sheet.specs.{Lookup.{seek, indexOf, covers, placeOf, common, rangeOf}, Head.rulesOf}
+use Rattle.pdu.specs.{Table.find, Rules.{lowAt, fourAt, twelveAt, headBytes}, Read.{readPdu, dataOf}, Write.encoded}
+use Rattle.judge.specs.{Session.{levelOf, levelIn}, declared.Session.Session, Properties.{writeIn, propertyWriteOf}, Memory.{changeOf, memoryWriteOf}}
+use Rattle.judge.specs.{Keys.{grantOf, authorizeOf, keyWriteOf, restartOf}, Judge.{reachedOf, isShut, judgeOf}}
+use Rattle.device.{specs.{Step.{stepBy, stepOf}, Events.{State, requestOf, bit}, Marked.sample, Pump.pump}, proofs.leaves.Octet.{isBytes, octets-by}}
+use Rattle.versions.specs.{Store.{versionAt, versionsFrom, kept, has, bodyOf, isKept, versionIn}, Rules.{rowsRule, allRows, storeRule, isStore}, Settings.restored}
+use Rattle.versions.specs.{Restoring.{sameEntry, lowCount, sameEntries, lowCounts, givesBack, atZero, restoreOutcome, restoreSheet}, Example.once}
 use Rattle.events.specs.Events.{Event, connect, disconnect, button, request, restore, eventOf}
-use Rattle.device.specs.Marked.{sample}
-use Rattle.device.specs.Pump.{pump}
-use Rattle.versions.specs.Store.{versionAt, versionsFrom, kept, has, bodyOf, isKept, versionIn}
-use Rattle.versions.specs.Rules.{rowsRule, allRows, storeRule, isStore}
-use Rattle.versions.specs.Settings.{restored}
-use Rattle.versions.specs.Restoring.{sameEntry, lowCount, sameEntries, lowCounts, givesBack, atZero, restoreOutcome, restoreSheet}
-use Rattle.versions.specs.Example.{once}
-use Rattle.device.proofs.leaves.Octet.{isBytes, octets-by}
-use Rattle.history.specs.Span.{same}
-use Rattle.history.specs.Wish.{asks, brings}
-use Rattle.history.specs.Permit.{heard, levelFor, regionFor, mayWrite, inRange, indexFor, entryFor, allowed}
-use Rattle.history.specs.History.{First, firstOf, keyIn, opened, level, content, permitted}
-use Rattle.history.specs.Keeps.{Begins, AllOctets, Keeps, stateAfter}
-use Rattle.history.specs.Rightful.{ours}
-use Rattle.history.proofs.promises.Keep.{keeps}
-use Rattle.history.proofs.promises.Pinned.{pinned}
-use Rattle.history.proofs.spans.Spans.{same-so}
-use Rattle.history.proofs.trials.Wrong.{Witness, wrongs}
+use Rattle.history.specs.{Span.same, Wish.{asks, brings}, Permit.{heard, levelFor, regionFor, mayWrite, inRange, indexFor, entryFor, allowed}}
+use Rattle.history.specs.{History.{First, firstOf, keyIn, opened, level, content, permitted}, Keeps.{Begins, AllOctets, Keeps, stateAfter}, Rightful.ours}
+use Rattle.history.proofs.{promises.{Keep.keeps, Pinned.pinned}, spans.Spans.same-so, trials.Wrong.{Witness, wrongs}}
 
 -- bytes, by one test
 abbrev bringsBytes : Event → Bool

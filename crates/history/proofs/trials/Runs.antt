@@ -1,14 +1,9 @@
 -- WHAT THE RUNS OF THE TRIALS ARE MADE OF: events, stores and first states by a name.
--- Assumes nothing.
-use Prim.Native.Nat.{ℕ}
-use mathlib.Core.List.{List, [], _∷_}
-use mathlib.Core.Bool.{false}
-use lib.ListN.{replicate}
+use Rattle.octets.proofs.Kit.{ℕ, List, [], _∷_, false, replicate}
 use Rattle.octets.specs.Splice.{splice}
-use Rattle.device.specs.Sessions.{closed, freshOf}
-use Rattle.device.specs.Marked.{sample}
-use Rattle.events.specs.Events.{Event, connect, request, restore}
+use Rattle.device.specs.{Sessions.{closed, freshOf}, Marked.sample}
 use Rattle.versions.specs.Example.{once}
+use Rattle.events.specs.Events.{Event, connect, request, restore}
 use Rattle.history.specs.History.{First}
 
 abbrev pub buffer : List ℕ

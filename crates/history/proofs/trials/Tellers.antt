@@ -1,21 +1,10 @@
 -- WRONG DEVICES that tell a tool without the key what it may not read: trials, to hold against `Unlearned` (`TellersRefuted`).
--- Assumes nothing.
-use Prim.Native.Nat.{ℕ, _+_}
-use mathlib.Core.List.{List, [], _∷_, _++_}
-use mathlib.Core.Bool.{cond, _&&_}
-use lib.ListN.{getD, take, drop}
-use lib.Dec.{leb, eqb}
-use Rattle.octets.specs.Bytes.{numAt, bytesOf}
-use Rattle.octets.specs.Splice.{splice}
-use Rattle.sheet.specs.Kind.{properties}
-use Rattle.sheet.specs.Layout.{_of_}
+use Rattle.octets.proofs.Kit.{ℕ, _+_, List, [], _∷_, _++_, cond, _&&_, getD, take, drop, leb, eqb}
+use Rattle.octets.specs.{Bytes.{numAt, bytesOf}, Splice.splice}
+use Rattle.sheet.specs.{Kind.properties, Layout._of_, Entries.place}
 use Rattle.sheet.specs.Property as property
-use Rattle.sheet.specs.Entries.{place}
-use Rattle.device.specs.Sessions.{freshOf}
-use Rattle.device.specs.Events.{Effect, requesting}
-use Rattle.history.specs.Permit.{indexFor, entryFor}
-use Rattle.history.specs.History.{First}
-use Rattle.history.specs.Keeps.{Device}
+use Rattle.device.specs.{Sessions.freshOf, Events.{Effect, requesting}}
+use Rattle.history.specs.{Permit.{indexFor, entryFor}, History.First, Keeps.Device}
 use Rattle.history.proofs.trials.Wrong.{at, onRequests, onElements}
 
 -- A SHEET WITH THREE SECRETS, 55 bytes, verify on: the byte of address 0100, and the two elements of property 51 of object 1. Everybody may write them, and level 0 alone may read them

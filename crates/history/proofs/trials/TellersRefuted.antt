@@ -1,53 +1,18 @@
 -- WHAT `Unlearned` RULES OUT: each of the tellers, by one request of a tool that has just connected, on two sheets that differ in what level 0 alone may read.
--- Assumes nothing.
-use Prim.Native.Nat.{ℕ, _+_, _<_, _≤_}
-use mathlib.Core.Path.{_≡_, refl, sym, ap, _∙_}
-use mathlib.Core.Bool.{Bool, true, _&&_, not}
-use mathlib.Core.List.{List, [], _∷_}
-use lib.Dec.{leb, eqb}
-use lib.ListN.{length, getD, take}
-use native.Mathlib.Decide.{decLt}
-use native.Mathlib.Omega.{arith}
-use borrow.Author.Tests.{eq-eqb, leb-true}
-use Rattle.octets.specs.Bytes.{numAt, bytesOf}
-use Rattle.octets.specs.Splice.{splice}
-use Rattle.octets.proofs.Splices.{length-splice, splice-below, splice-above}
-use Rattle.octets.proofs.Truths.{never, and-is}
-use Rattle.sheet.specs.Demand.{breach}
-use Rattle.sheet.specs.First.{first}
-use Rattle.sheet.specs.Head.{rulesOf}
-use Rattle.sheet.specs.Entries.{entry, contents, keyOf, floor, bodyAt, bodyEnd, startOf, reached, sixBits}
+use Rattle.octets.proofs.Kit.{ℕ, _+_, _<_, _≤_, _≡_, refl, sym, ap, _∙_, Bool, true, _&&_, not, List, [], _∷_, leb, eqb, length, getD, take, decLt, arith, eq-eqb, leb-true}
+use Rattle.octets.{specs.{Bytes.{numAt, bytesOf}, Splice.splice}, proofs.{Splices.{length-splice, splice-below, splice-above}, Truths.{never, and-is}}}
+use Rattle.sheet.specs.{Demand.breach, First.first, Head.rulesOf, Entries.{entry, contents, keyOf, floor, bodyAt, bodyEnd, startOf, reached, sixBits}}
 use Rattle.sheet.specs.Rules.{entryDemands, bodyDemands, entryRule, bodyRule, entriesRule, bodiesRule, walkRule, restRule, ruleIn, verdictOf}
-use Rattle.sheet.specs.Lookup.{seek, indexOf, covers, placeOf, common, rangeOf, objectAt, rank, nthOf}
-use Rattle.sheet.specs.declared.Memory.the-variants.{Device}
-use Rattle.sheet.proofs.rules.Good.{good}
-use Rattle.sheet.proofs.alike.Buts.{part-but}
-use Rattle.pdu.specs.Table.{find}
-use Rattle.pdu.specs.Rules.{lowAt, fourAt, twelveAt, headBytes}
-use Rattle.pdu.specs.Read.{readPdu, dataOf}
-use Rattle.pdu.specs.Write.{encoded}
-use Rattle.judge.specs.Session.{levelOf, levelIn}
-use Rattle.judge.specs.Properties.{readIn, propertyReadOf, writeIn, propertyWriteOf, describedAt, descriptionOf}
-use Rattle.judge.specs.Memory.{memoryReadOf, changeOf, memoryWriteOf, bitWriteOf}
-use Rattle.judge.specs.Judge.{reachedOf, isShut, judgeOf}
-use Rattle.device.specs.Carry.{build, bitAt}
-use Rattle.device.specs.Step.{stepBy, stepOf}
-use Rattle.device.specs.Events.{Effect, requestOf}
-use Rattle.device.proofs.leaves.Octet.{isBytes, octets-by}
-use Rattle.events.specs.Events.{Event, connect, request, eventOf}
-use Rattle.history.specs.Span.{same}
-use Rattle.history.specs.Wish.{asks}
-use Rattle.history.specs.Permit.{indexFor, entryFor}
-use Rattle.history.specs.History.{First}
-use Rattle.history.specs.Keeps.{stateAfter, Begins}
-use Rattle.history.specs.Keyless.{Unlocks, offers, Locked}
-use Rattle.history.specs.Isolation as isolation
+use Rattle.sheet.{specs.{Lookup.{seek, indexOf, covers, placeOf, common, rangeOf, objectAt, rank, nthOf}, declared.Memory.the-variants.Device}, proofs.{rules.Good.good, alike.Buts.part-but}}
+use Rattle.pdu.specs.{Table.find, Rules.{lowAt, fourAt, twelveAt, headBytes}, Read.{readPdu, dataOf}, Write.encoded}
+use Rattle.judge.specs.{Session.{levelOf, levelIn}, Properties.{readIn, propertyReadOf, writeIn, propertyWriteOf, describedAt, descriptionOf}}
+use Rattle.judge.specs.{Memory.{memoryReadOf, changeOf, memoryWriteOf, bitWriteOf}, Judge.{reachedOf, isShut, judgeOf}}
+use Rattle.device.{specs.{Carry.{build, bitAt}, Step.{stepBy, stepOf}, Events.{Effect, requestOf}}, proofs.leaves.Octet.{isBytes, octets-by}}
+use Rattle.events.specs.Events.{Event, connect, eventOf}
+use Rattle.history.specs.{Span.same, Wish.asks, Permit.{indexFor, entryFor}, History.First, Keeps.{stateAfter, Begins}, Keyless.{Unlocks, offers, Locked}}
 use Rattle.history.specs.Secret.{Secret, ofMemory, ofProperty, Hide, NoneBelow, none, more, NothingTold, Unlearned}
-use Rattle.history.proofs.promises.Keyless.{all-shut}
-use Rattle.history.proofs.promises.NothingShown.{secret-after}
-use Rattle.history.proofs.spans.Spans.{same-so}
-use Rattle.history.proofs.trials.Runs.{sent}
-use Rattle.history.proofs.trials.Tellers.{guarded, otherSecrets, Teller, tellers, one, two}
+use Rattle.history.specs.Isolation as isolation
+use Rattle.history.proofs.{promises.{Keyless.all-shut, NothingShown.secret-after}, spans.Spans.same-so, trials.{Runs.sent, Tellers.{guarded, otherSecrets, Teller, tellers, one, two}}}
 
 -- both are accepted
 begins-one : Begins one

@@ -1,35 +1,17 @@
 -- WRONG DEVICES, each with a short run (`Runs`) on which it shows: trials, to hold against demand 3 (`wrongs-refuted`).
--- Assumes nothing.
-use Prim.Native.Nat.{ℕ, _+_, _*_, _-_, _/_}
-use mathlib.Core.List.{List, [], _∷_}
-use mathlib.Core.Bool.{Bool, true, false, cond, _&&_, _||_}
-use lib.ListN.{getD, take, drop}
-use lib.Dec.{leb, eqb}
-use Rattle.octets.specs.Bytes.{numAt, bytesOf}
-use Rattle.octets.specs.Splice.{splice}
-use Rattle.sheet.specs.Kind.{properties}
-use Rattle.sheet.specs.Layout.{_of_}
+use Rattle.octets.proofs.Kit.{ℕ, _+_, _*_, _-_, _/_, List, [], _∷_, Bool, true, false, cond, _&&_, _||_, getD, take, drop, leb, eqb}
+use Rattle.octets.specs.{Bytes.{numAt, bytesOf}, Splice.splice}
+use Rattle.sheet.specs.{Kind.properties, Layout._of_, Entries.{place, entry}}
 use Rattle.sheet.specs.Head as head
 use Rattle.sheet.specs.Property as property
-use Rattle.sheet.specs.Entries.{place, entry}
 use Rattle.judge.specs.declared.Session.{Session}
-use Rattle.device.specs.Sessions.{closed, freshOf, withSession, sessionOf}
-use Rattle.device.specs.declared.Sessions.{Sessions}
-use Rattle.device.specs.Events.{Effect, State, connecting, requesting}
+use Rattle.device.specs.{Sessions.{closed, freshOf, withSession, sessionOf}, declared.Sessions.Sessions, Events.{Effect, State, connecting, requesting}}
+use Rattle.versions.specs.{Store.{isKept, versionIn}, Rules.isStore, Settings.restored, Restoring.atZero, Example.once}
 use Rattle.events.specs.Events.{Event, connect, disconnect, button, request, restore, restoring, eventOf}
-use Rattle.versions.specs.Store.{isKept, versionIn}
-use Rattle.versions.specs.Rules.{isStore}
-use Rattle.versions.specs.Settings.{restored}
-use Rattle.versions.specs.Restoring.{atZero}
-use Rattle.versions.specs.Example.{once}
-use Rattle.history.specs.Wish.{Wish, change, writeMemory, writeBits, writeProperty, writeKey, restoreAll, offerKey, restart, other, nothing, asks}
-use Rattle.history.specs.Permit.{indexFor, entryFor}
-use Rattle.history.specs.History.{First, wished, isRestart, permitted}
-use Rattle.history.specs.Keeps.{Device, stateAfter}
-use Rattle.history.specs.Rightful.{ours}
-use Rattle.history.specs.Samples.{fresh, freshPump}
-use Rattle.history.proofs.trials.Runs.{offering, offeringOn, firstWrite, againWrite, secondWrite, bothBytes, newKey0, userWrite, acrossWrite, elementWrite, clear}
-use Rattle.history.proofs.trials.Runs.{jump, restarting, given, otherLevels, otherHeight, readOnly, freshReadOnly, closedAtZero, authorized, bothOn}
+use Rattle.history.specs.{Wish.{Wish, change, writeMemory, writeBits, writeProperty, writeKey, restoreAll, offerKey, restart, other, nothing, asks}, Permit.{indexFor, entryFor}}
+use Rattle.history.specs.{History.{First, wished, isRestart, permitted}, Keeps.{Device, stateAfter}, Rightful.ours, Samples.{fresh, freshPump}}
+use Rattle.history.proofs.trials.Runs.{offering, offeringOn, firstWrite, againWrite, secondWrite, bothBytes, newKey0, userWrite, acrossWrite, elementWrite, clear, jump, restarting}
+use Rattle.history.proofs.trials.Runs.{given, otherLevels, otherHeight, readOnly, freshReadOnly, closedAtZero, authorized, bothOn}
 
 -- an effect with another sheet, and with other sessions
 abbrev pub withSheet : Effect → List ℕ → Effect

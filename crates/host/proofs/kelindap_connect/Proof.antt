@@ -1,13 +1,10 @@
 -- `host::kelindap_connect` meets its contract: the walk is `Replaced.antt`'s, at `connect` and what that gives. Assumes nothing.
-use Rattle.device.specs.Events.{connectOf}
 use contract.Running.{givenOf}
 use denote.Triple.Table.{cited}
-use Rattle.device.proofs.calls.InPlace.{finish}
-use Rattle.host.proofs.Replaced.{Callee, f-clauses, stayed, all-go, walks}
+use Rattle.device.{specs.Events.connectOf, proofs.{calls.InPlace.finish, connect.Symbol.name as #device·connect}}
 use Rattle.device.proofs.connect.Symbol as g-def
-use Rattle.device.proofs.connect.Symbol.{name as #device·connect}
 use Rattle.device.proofs.connect.Met as g-thm
-use Rattle.host.proofs.kelindap_connect.Key.{name as #host·kelindap-connect}
+use Rattle.host.proofs.{Replaced.{Callee, f-clauses, stayed, all-go, walks}, kelindap_connect.Key.name as #host·kelindap-connect}
 use Rattle.host.proofs.kelindap_connect as f
 use Rattle.host.proofs.kelindap_connect.Statement as stated
 use Rattle.host.proofs.kelindap_connect.Code as code

@@ -1,13 +1,10 @@
 -- `host::kelindap_disconnect` meets its contract: the walk is `Replaced.antt`'s, at `disconnect` and what that gives. Assumes nothing.
-use Rattle.device.specs.Events.{disconnectOf}
 use contract.Running.{givenOf}
 use denote.Triple.Table.{cited}
-use Rattle.device.proofs.calls.InPlace.{finish}
-use Rattle.host.proofs.Replaced.{Callee, f-clauses, stayed, all-go, walks}
+use Rattle.device.{specs.Events.disconnectOf, proofs.{calls.InPlace.finish, disconnect.Symbol.name as #device·disconnect}}
 use Rattle.device.proofs.disconnect.Symbol as g-def
-use Rattle.device.proofs.disconnect.Symbol.{name as #device·disconnect}
 use Rattle.device.proofs.disconnect.Met as g-thm
-use Rattle.host.proofs.kelindap_disconnect.Key.{name as #host·kelindap-disconnect}
+use Rattle.host.proofs.{Replaced.{Callee, f-clauses, stayed, all-go, walks}, kelindap_disconnect.Key.name as #host·kelindap-disconnect}
 use Rattle.host.proofs.kelindap_disconnect as f
 use Rattle.host.proofs.kelindap_disconnect.Statement as stated
 use Rattle.host.proofs.kelindap_disconnect.Code as code

@@ -1,18 +1,8 @@
 -- DEMANDS 1 AND 2 of `kelindap_request`: of what it gives back and leaves in sessions, sheet and answer buffer. `Requested` is its contract. Assumes nothing.
-use Prim.Native.Nat.{ℕ, _+_, _≤_}
-use mathlib.Core.Path.{_≡_}
-use mathlib.Core.List.{List}
-use lib.ListN.{length, getD}
-use Rattle.device.specs.Events.{State, Effect}
-use Rattle.device.specs.Changed.{Requested, Outside, none}
-use Rattle.device.specs.Due.{RequestDue}
-use Rattle.device.specs.Demand1.{Leaves}
-use Rattle.device.specs.Demand2.{effectSeen}
-use Rattle.device.specs.declared.Sessions.{Sessions}
-use Rattle.device.proofs.promises.Called.{call-leaves, call-due, call-only}
-use Rattle.device.proofs.promises.Parts.{kept-outside, none-refused, first-within, second-within}
-use Rattle.host.specs.Calls.{runsOf, gave}
-use Rattle.host.specs.declared.Reply.{Reply}
+use Rattle.octets.proofs.Kit.{ℕ, _+_, _≤_, _≡_, List, length, getD}
+use Rattle.device.specs.{Events.{State, Effect}, Changed.{Requested, Outside, none}, Due.RequestDue, Demand1.Leaves, Demand2.effectSeen, declared.Sessions.Sessions}
+use Rattle.device.proofs.promises.{Called.{call-leaves, call-due, call-only}, Parts.{kept-outside, none-refused, first-within, second-within}}
+use Rattle.host.specs.{Calls.{runsOf, gave}, declared.Reply.Reply}
 
 -- sessions q, sheet s and buffer o were lent with a request a on connection c; r came back, and q′, s′ and o′ are what they then hold
 module _ (q : Sessions) (mode c group : ℕ) (a s o : List ℕ) (r : Reply) (q′ : Sessions) (s′ o′ : List ℕ)

@@ -1,50 +1,19 @@
 -- WHATEVER CALLS A HOST MIXES, what they leave is what their history says: so demand 3, and what goes with it, holds of any of them in any order. Assumes nothing.
-use Prim.Native.Nat.{ℕ, _≤_, _<_}
-use mathlib.Core.Path.{_≡_, refl, sym, ap, ap₂, subst, _∙_}
-use mathlib.Core.Bool.{Bool, true, false, cond}
-use mathlib.Core.List.{List, [], _∷_, _++_, reverse, append-assoc}
-use lib.ListN.{length, drop}
-use lib.Dec.{ltb}
-use native.Mathlib.Omega.{arith}
-use borrow.Author.Tests.{ltb-false}
+use Rattle.octets.proofs.Kit.{ℕ, _≤_, _<_, _≡_, refl, sym, ap, ap₂, subst, _∙_, Bool, true, false, cond, List, [], _∷_, _++_, reverse, append-assoc, length, drop, ltb, arith, ltb-false}
 use Rattle.octets.specs.Octets.{Octets}
-use Rattle.sheet.specs.Rules.{Accepted}
-use Rattle.sheet.proofs.promises.Converting.{convert-other}
-use Rattle.device.specs.Events.{State}
-use Rattle.device.specs.Sessions.{sessionOf}
+use Rattle.sheet.{specs.Rules.Accepted, proofs.promises.Converting.convert-other}
+use Rattle.device.specs.{Events.State, Sessions.sessionOf}
+use Rattle.versions.specs.{Saving.SavedAs, Sequence.{Change, changed, changedAll, AllSpare}, declared.saving.Saved.Saved}
 use Rattle.events.specs.Events.{Event, run}
-use Rattle.history.specs.History.{First, opened, level}
-use Rattle.history.specs.Keeps.{stateAfter, Begins, AllOctets, Kept}
-use Rattle.history.specs.Keyless.{NotOffered, Closed, Protected}
-use Rattle.history.specs.Isolation.{Beside}
-use Rattle.history.specs.Rightful.{ours}
-use Rattle.history.specs.Secret.{Hide, NoneBelow, AllAlike}
-use Rattle.history.specs.Calls.{Follows}
-use Rattle.history.specs.Restored.{BroughtBack}
-use Rattle.history.proofs.promises.Keep.{keeps}
-use Rattle.history.proofs.promises.Keyless.{locked}
-use Rattle.history.proofs.promises.Calls.{call-follows, run-follows, calls-keep, keyless-calls, isolated-calls}
-use Rattle.history.proofs.promises.Unlearned.{unlearned-calls}
-use Rattle.history.proofs.promises.RestoredLater.{restored-over-history}
-use Rattle.account.specs.Account.{Traced}
-use Rattle.account.proofs.promises.Accounts.{accounts-calls}
-use Rattle.versions.specs.Saving.{SavedAs}
-use Rattle.versions.specs.Sequence.{Change, changed, changedAll, AllSpare}
-use Rattle.versions.specs.declared.saving.Saved.{Saved}
-use Rattle.playback.specs.Trace.{count, eventsFrom, traceOf}
-use Rattle.playback.specs.Playing.{playedOf}
-use Rattle.playback.specs.Marking.{markHandled, markPlayed}
+use Rattle.history.specs.{History.{First, opened, level}, Keeps.{stateAfter, Begins, AllOctets, Kept}, Keyless.{NotOffered, Closed, Protected}, Isolation.Beside, Rightful.ours}
+use Rattle.history.{specs.{Secret.{Hide, NoneBelow, AllAlike}, Calls.Follows, Restored.BroughtBack}, proofs.promises.{Keep.keeps, Keyless.locked}}
+use Rattle.history.proofs.promises.{Calls.{call-follows, run-follows, calls-keep, keyless-calls, isolated-calls}, Unlearned.unlearned-calls, RestoredLater.restored-over-history}
+use Rattle.account.{specs.Account.Traced, proofs.promises.Accounts.accounts-calls}
+use Rattle.link.specs.{Serving.{longest, apduOf, serveOf, ServedFrame}, Net.{Net, netOf, stateOf, firstNet, heardIn, eventsOf, frame, netBy}, declared.{Link.Link, Served.Served}}
+use Rattle.link.{specs.declared.Arrived.{Arrived, the-variants.{Request, Connect, Disconnect, Nothing}}, proofs.promises.{Kept.octets-apdu, Tied.served-is}}
+use Rattle.playback.specs.{Trace.{count, eventsFrom, traceOf}, Playing.playedOf, Marking.{markHandled, markPlayed}}
 use Rattle.playback.proofs.promises.PlayKeeps.{all-take, all-drop, all-reverse, all-from, all-history}
-use Rattle.link.specs.Serving.{longest, apduOf, serveOf, ServedFrame}
-use Rattle.link.specs.Net.{Net, netOf, stateOf, firstNet, heardIn, eventsOf, frame, netBy}
-use Rattle.link.specs.declared.Link.{Link}
-use Rattle.link.specs.declared.Served.{Served}
-use Rattle.link.specs.declared.Arrived.{Arrived}
-use Rattle.link.specs.declared.Arrived.the-variants.{Request, Connect, Disconnect, Nothing}
-use Rattle.link.proofs.promises.Kept.{octets-apdu}
-use Rattle.link.proofs.promises.Tied.{served-is}
-use Rattle.host.specs.Bus.{gaveServed}
-use Rattle.host.specs.Calls.{Restores}
+use Rattle.host.specs.{Bus.gaveServed, Calls.Restores}
 use Rattle.host.specs.Steps.{servedEvents, Step, calls, converts, plays, marks, serves, Steps, begin, next, House, Turn, steps, saving, removing, Turns, start, goOn}
 use Rattle.host.specs.declared.Answered.{Answered}
 

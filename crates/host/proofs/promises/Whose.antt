@@ -1,9 +1,6 @@
 -- Whose session is whose, at the C boundary: connection 0 has the first of the two in memory, connection 1 the second. Assumes nothing.
-use mathlib.Core.Path.{_≡_, refl}
-use mathlib.Core.Bool.{true, false}
-use Rattle.device.specs.declared.Sessions.{Sessions}
-use Rattle.device.specs.Sessions.{sessionOf}
-use Rattle.device.specs.Events.{connectOf, disconnectOf}
+use Rattle.octets.proofs.Kit.{_≡_, refl, true, false}
+use Rattle.device.specs.{declared.Sessions.Sessions, Sessions.sessionOf, Events.{connectOf, disconnectOf}}
 
 module _ (q : Sessions) where
   -- THE SESSION OF EACH CONNECTION

@@ -1,8 +1,6 @@
 -- `host::request` meets its contract. Assumes nothing.
-use borrow.Author.Needs.{needs}
-use native.Mathlib.Omega.{arith}
-use Rattle.host.proofs.Replies.{few, as-given}
-use Rattle.host.proofs.request.Statement.{statement}
+use Rattle.octets.proofs.Kit.{needs, arith}
+use Rattle.host.proofs.{Replies.{few, as-given}, request.Statement.statement}
 use Rattle.host.proofs.request.Tie as tie
 
 pub request-spec : {M : Type 1} → statement M

@@ -1,8 +1,6 @@
 -- `judge::data_in` meets its contract.
--- Assumes nothing.
-use borrow.Author.Needs.{needs}
-use Rattle.judge.proofs.Judgement.{via-data}
-use Rattle.judge.proofs.data_in.Statement.{statement}
+use Rattle.octets.proofs.Kit.{needs}
+use Rattle.judge.proofs.{Judgement.via-data, data_in.Statement.statement}
 use Rattle.judge.proofs.data_in.Tie as tie
 
 pub data-in-spec : {M : Type 1} → statement M

@@ -1,8 +1,6 @@
 -- `judge::found` meets its contract.
--- Assumes nothing.
-use borrow.Author.Needs.{needs}
-use Rattle.judge.proofs.Judgement.{unknown, listed}
-use Rattle.judge.proofs.found.Statement.{statement}
+use Rattle.octets.proofs.Kit.{needs}
+use Rattle.judge.proofs.{Judgement.{unknown, listed}, found.Statement.statement}
 use Rattle.judge.proofs.found.Tie as tie
 
 pub found-spec : {M : Type 1} → statement M

@@ -1,8 +1,7 @@
 -- `judge::is_shut` meets its contract.
--- Assumes nothing.
-use native.Mathlib.Omega.{arith}
-use Rattle.judge.specs.Judge.{isShut}
+use Rattle.octets.proofs.Kit.{arith}
 use Rattle.octets.proofs.Tests.{tests}
+use Rattle.judge.specs.Judge.{isShut}
 use Rattle.judge.proofs.is_shut.Statement.{statement}
 use Rattle.judge.proofs.is_shut.Tie as tie
 

@@ -1,8 +1,6 @@
 -- `judge::reached` meets its contract.
--- Assumes nothing.
-use borrow.Author.Needs.{needs}
-use Rattle.judge.proofs.Judgement.{unreached, untaken, unread, decided}
-use Rattle.judge.proofs.reached.Statement.{statement}
+use Rattle.octets.proofs.Kit.{needs}
+use Rattle.judge.proofs.{Judgement.{unreached, untaken, unread, decided}, reached.Statement.statement}
 use Rattle.judge.proofs.reached.Tie as tie
 
 pub reached-spec : {M : Type 1} → statement M

@@ -1,8 +1,6 @@
 -- `judge::refused_unread` meets its contract.
--- Assumes nothing.
-use borrow.Author.Needs.{needs}
-use Rattle.judge.proofs.Judgement.{unread-room, unread-sheet, unread-short, unread-long, unread-mode, unread-shut, unread-none}
-use Rattle.judge.proofs.refused_unread.Statement.{statement}
+use Rattle.octets.proofs.Kit.{needs}
+use Rattle.judge.proofs.{Judgement.{unread-room, unread-sheet, unread-short, unread-long, unread-mode, unread-shut, unread-none}, refused_unread.Statement.statement}
 use Rattle.judge.proofs.refused_unread.Tie as tie
 
 pub refused-unread-spec : {M : Type 1} → statement M

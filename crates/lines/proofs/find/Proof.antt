@@ -1,5 +1,4 @@
 -- `lines::find` meets its contract. The invariant: the place reached is not before the first.
--- Assumes nothing.
 use Prim.Native.Nat.{_≤_, _-_}
 use borrow.Author.Needs.{needs}
 use lib.ListN.{length}

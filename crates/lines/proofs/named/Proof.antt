@@ -1,5 +1,4 @@
 -- `lines::named` is safe and ends: no piece is counted that does not take a byte.
--- Assumes nothing.
 use Prim.Native.Nat.{_≤_, _-_}
 use borrow.Author.Needs.{needs}
 use lib.ListN.{length}

@@ -1,5 +1,4 @@
 -- `lines::start` is safe and ends.
--- Assumes nothing.
 use Prim.Native.Nat.{_≤_, _-_}
 use borrow.Author.Needs.{needs}
 use Rattle.lines.proofs.start.Statement.{statement}

@@ -1,35 +1,17 @@
 -- TWO OPEN PLACES HAVE TWO ADDRESSES, over any history of frames, if it was so at first; and who is turned away: exactly a third. Assumes nothing.
-use Prim.Native.Nat.{ℕ, zero, suc}
-use mathlib.Core.Path.{_≡_, refl, sym, ap, _∙_}
-use mathlib.Core.Logic.{_↔_, inl, inr, ⊎-elim}
-use mathlib.Core.Bool.{Bool, true, false, cond}
-use mathlib.Core.List.{List, [], _∷_}
-use lib.ListN.{replicate}
-use lib.Dec.{leb, eqb}
-use native.Mathlib.Omega.{arith}
-use borrow.Author.Tests.{ltb-true, eqb-true, eq-eqb, ne-eqb}
-use Rattle.octets.proofs.Truths.{never, first-true, second-true, decided}
-use Rattle.octets.proofs.Tests.{both}
-use Rattle.octets.proofs.Walks.{by-test}
+use Rattle.octets.proofs.Kit.{ℕ, zero, suc, _≡_, refl, sym, ap, _∙_, _↔_, inl, inr, ⊎-elim, Bool, true, false, cond, List, [], _∷_, replicate, leb, eqb, arith, ltb-true, eqb-true, eq-eqb}
+use Rattle.octets.proofs.Kit.{ne-eqb}
+use Rattle.octets.proofs.{Truths.{never, first-true, second-true, decided}, Tests.both, Walks.by-test}
+use Rattle.cemi.specs.{Read.{frameIn, readFrame}, Meaning.meaningOf, declared.{Frame.Frame, Meaning.Meaning}}
+use Rattle.cemi.specs.declared.Got.the-variants as got
+use Rattle.cemi.specs.declared.Meaning.the-variants as meaning
 use Rattle.device.specs.Sessions.{known}
 use Rattle.events.specs.Events.{Event, connect, disconnect, button, request, restore, eventOf, after, runBy, run}
-use Rattle.cemi.specs.Read.{frameIn, readFrame}
-use Rattle.cemi.specs.Meaning.{meaningOf}
-use Rattle.cemi.specs.declared.Frame.{Frame}
-use Rattle.cemi.specs.declared.Got.the-variants as got
-use Rattle.cemi.specs.declared.Meaning.{Meaning}
-use Rattle.cemi.specs.declared.Meaning.the-variants as meaning
 use Rattle.link.specs.Partners.{nobody, sits, placeOf, freeOf, placeFor}
-use Rattle.link.specs.Hearing.{ownOf, forUs, toItself, onPlace, connects, disconnects, meant, fromOther, judged, heardGot, heardOf}
-use Rattle.link.specs.Serving.{most, apduOf}
-use Rattle.link.specs.Net.{Net, sourceOf, stateOf, heardIn, eventsOf, addressBy, Item, frame, press, timeOut, giveBack, netBy, netAfter}
-use Rattle.link.specs.Whose.{NoPlace, Apart}
-use Rattle.link.specs.declared.Link.{Link}
-use Rattle.link.specs.declared.Arrived.{Arrived}
-use Rattle.link.specs.declared.Arrived.the-variants.{Request, Connect, Disconnect, Nothing}
-use Rattle.link.proofs.promises.Demand1.{Zero, refusal-framed, Means, means}
-use Rattle.link.proofs.Sessions.{opened-before}
-use Rattle.link.proofs.promises.Whose.{heard-by}
+use Rattle.link.specs.{Hearing.{ownOf, forUs, toItself, onPlace, connects, disconnects, meant, fromOther, judged, heardGot, heardOf}, Serving.{most, apduOf}}
+use Rattle.link.specs.{Net.{Net, sourceOf, stateOf, heardIn, eventsOf, addressBy, Item, frame, press, timeOut, giveBack, netBy, netAfter}, Whose.{NoPlace, Apart}, declared.Link.Link}
+use Rattle.link.specs.declared.Arrived.{Arrived, the-variants.{Request, Connect, Disconnect, Nothing}}
+use Rattle.link.proofs.{promises.Demand1.{Zero, refusal-framed, Means, means}, Sessions.opened-before, promises.Whose.heard-by}
 
 module _ (k : Link) (a : ℕ) where
   abbrev F : Bool

@@ -1,36 +1,14 @@
 -- WHAT IS DUE TAKES EFFECT AT ONCE, by frames: a permitted write that is due as a request is stored; a connect that is due has its sender for partner, at level 3; a disconnect that is due closes.
--- Assumes nothing.
-use Prim.Native.Nat.{ℕ, _<_}
-use mathlib.Core.Path.{_≡_, sym, ap, _∙_}
-use mathlib.Core.Bool.{true, false}
-use mathlib.Core.List.{List, [], _∷_}
-use lib.ListN.{getD, replicate}
-use native.Mathlib.Omega.{arith}
-use Rattle.device.specs.Sessions.{newlyOpen, closed, sessionOf}
-use Rattle.device.specs.Events.{State}
-use Rattle.device.proofs.leaves.Connections.{with-own}
+use Rattle.octets.proofs.Kit.{ℕ, _<_, _≡_, sym, ap, _∙_, true, false, List, [], _∷_, getD, replicate, arith}
 use Rattle.judge.specs.declared.Session.{Session}
+use Rattle.device.{specs.{Sessions.{newlyOpen, closed, sessionOf}, Events.State}, proofs.leaves.Connections.with-own}
 use Rattle.events.specs.Events.{Event, connect, disconnect, request, eventOf, after}
-use Rattle.history.specs.Location.{Location, Place}
-use Rattle.history.specs.Span.{names, gives}
-use Rattle.history.specs.Wish.{asks, brings}
-use Rattle.history.specs.Permit.{spans}
-use Rattle.history.specs.History.{First, content, permitted}
-use Rattle.history.specs.Keeps.{stateAfter, Begins}
-use Rattle.history.specs.Rightful.{ours}
+use Rattle.history.specs.{Location.{Location, Place}, Span.{names, gives}, Wish.{asks, brings}, Permit.spans, History.{First, content, permitted}, Keeps.{stateAfter, Begins}, Rightful.ours}
 use Rattle.history.proofs.promises.Keep.{keeps}
-use Rattle.link.specs.Hearing.{ownOf}
-use Rattle.link.specs.Serving.{most, apduOf}
-use Rattle.link.specs.Net.{Net, stateOf, firstNet, sourceOf, heardIn, eventsOf, frame, Item, eventsBy, netBy, netAfter, eventsAfter, AllBytes}
-use Rattle.link.specs.Whose.{Partner}
-use Rattle.link.specs.Due.{Has, first, second, HeardDue, again, firstFree, secondFree, parts}
-use Rattle.link.specs.Granted.{levelAt}
-use Rattle.link.specs.declared.Arrived.{Arrived}
-use Rattle.link.specs.declared.Arrived.the-variants.{Request, Connect, Disconnect}
-use Rattle.link.specs.declared.Link.{Link}
-use Rattle.link.proofs.promises.Kept.{as-events, all-octets, octets-apdu}
-use Rattle.link.proofs.promises.Dues.{heard-only}
-use Rattle.link.proofs.Items.{left-one, joined-address}
+use Rattle.link.specs.{Hearing.ownOf, Serving.{most, apduOf}, Net.{Net, stateOf, firstNet, sourceOf, heardIn, eventsOf, frame, Item, eventsBy, netBy, netAfter, eventsAfter, AllBytes}}
+use Rattle.link.specs.{Whose.Partner, Due.{Has, first, second, HeardDue, again, firstFree, secondFree, parts}, Granted.levelAt, declared.Arrived.Arrived}
+use Rattle.link.specs.declared.{Arrived.the-variants.{Request, Connect, Disconnect}, Link.Link}
+use Rattle.link.proofs.{promises.{Kept.{as-events, all-octets, octets-apdu}, Dues.heard-only}, Items.{left-one, joined-address}}
 
 -- a frame b is due to y as r
 abbrev pub DueTo : Net → List ℕ → Arrived → Type 0

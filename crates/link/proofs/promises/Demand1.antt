@@ -1,42 +1,15 @@
 -- DEMAND 1 OF A FRAME: a number of the list, and what each leaves as found. Assumes nothing.
-use Prim.Native.Nat.{ℕ, _+_, _*_, _%_, _≤_}
-use mathlib.Core.Path.{_≡_, refl, sym, ap, subst, _∙_}
-use mathlib.Core.Logic.{_⊎_, inl, inr}
-use mathlib.Core.Bool.{true, _&&_, _||_}
-use mathlib.Core.List.{List, [], _∷_}
-use lib.ListN.{length, getD, replicate}
-use lib.Dec.{ltb, leb, eqb}
-use native.Mathlib.Omega.{arith}
-use borrow.Author.Tests.{ltb-false, eqb-false}
-use Rattle.octets.specs.Octets.{Octets}
-use Rattle.octets.specs.Splice.{splice}
-use Rattle.octets.proofs.Splices.{splice-none, splice-above, length-splice}
-use Rattle.octets.proofs.Walks.{by-test}
-use Rattle.device.specs.Sessions.{known}
-use Rattle.device.specs.Events.{Effect, namedOutcome, requestOf, Called}
-use Rattle.device.specs.Demand1.{OneOf, Leaves}
-use Rattle.device.specs.declared.Done.{Done}
-use Rattle.device.proofs.promises.Called.{call-leaves}
-use Rattle.cemi.specs.Layout.{request, indication, octet6}
-use Rattle.cemi.specs.Meaning.{toGroup, control, numbered, toOne, meaningOf}
-use Rattle.cemi.specs.Read.{fieldsIn, frameIn, standardOf, refusalOf}
-use Rattle.cemi.specs.Answering.{answering}
-use Rattle.cemi.specs.declared.Fields.{Fields}
-use Rattle.cemi.specs.declared.Frame.{Frame}
-use Rattle.cemi.specs.declared.Meaning.{Meaning}
+use Rattle.octets.proofs.Kit.{ℕ, _+_, _*_, _%_, _≤_, _≡_, refl, sym, ap, subst, _∙_, _⊎_, inl, inr, true, _&&_, _||_, List, [], _∷_, length, getD, replicate, ltb, leb, eqb, arith, ltb-false}
+use Rattle.octets.proofs.Kit.{eqb-false}
+use Rattle.octets.{specs.{Octets.Octets, Splice.splice}, proofs.{Splices.{splice-none, splice-above, length-splice}, Walks.by-test}}
+use Rattle.cemi.specs.{Layout.{request, indication, octet6}, Meaning.{toGroup, control, numbered, toOne, meaningOf}, Read.{fieldsIn, frameIn, standardOf, refusalOf}, Answering.answering}
+use Rattle.cemi.specs.declared.{Fields.Fields, Frame.Frame, Meaning.Meaning}
 use Rattle.cemi.specs.declared.Meaning.the-variants as meaning
-use Rattle.link.specs.Partners.{placeOf, placeFor}
-use Rattle.link.specs.Hearing.{ownOf, onPlace, connects, disconnects, meant, heardOf}
-use Rattle.link.specs.Serving.{most, longest, apduOf, answerFrame, withSessions, Deed, deedOf, serveOf, ServedFrame}
-use Rattle.link.specs.Net.{sourceOf}
-use Rattle.link.specs.Demand1.{Why, ServeLeaves}
-use Rattle.link.specs.declared.Link.{Link}
-use Rattle.link.specs.declared.Served.{Served}
-use Rattle.link.specs.declared.Arrived.{Arrived}
-use Rattle.link.specs.declared.Arrived.the-variants.{Request, Connect, Disconnect, Nothing}
-use Rattle.link.proofs.promises.Kept.{octets-apdu}
-use Rattle.link.proofs.Answered.{frame-few}
-use Rattle.link.proofs.promises.Whose.{refusal, heard-by}
+use Rattle.device.{specs.{Sessions.known, Events.{Effect, namedOutcome, requestOf, Called}, Demand1.{OneOf, Leaves}, declared.Done.Done}, proofs.promises.Called.call-leaves}
+use Rattle.link.specs.{Partners.{placeOf, placeFor}, Hearing.{ownOf, onPlace, connects, disconnects, meant, heardOf}}
+use Rattle.link.specs.{Serving.{most, longest, apduOf, answerFrame, withSessions, Deed, deedOf, serveOf, ServedFrame}, Net.sourceOf, Demand1.{Why, ServeLeaves}, declared.Link.Link}
+use Rattle.link.specs.declared.{Served.Served, Arrived.{Arrived, the-variants.{Request, Connect, Disconnect, Nothing}}}
+use Rattle.link.proofs.{promises.Kept.octets-apdu, Answered.frame-few, promises.Whose.{refusal, heard-by}}
 
 -- the numbers of frames
 abbrev pub Framed : ℕ → Type 0

@@ -1,37 +1,17 @@
 -- WHAT IS HEARD IS WHAT IS DUE, AND NOTHING ELSE IS DUE: of any link, own address and bytes. Assumes nothing.
-use Prim.Native.Nat.{ℕ}
-use mathlib.Core.Path.{_≡_, refl, sym, ap, subst, _∙_}
-use mathlib.Core.Logic.{_⊎_, inl, inr}
-use mathlib.Core.Bool.{Bool, true, false, cond, not, _&&_, _||_}
-use mathlib.Core.List.{List}
-use lib.ListN.{length}
-use lib.Dec.{leb, eqb}
-use native.Mathlib.Omega.{arith}
-use borrow.Author.Tests.{le-leb, lt-leb, eq-eqb, ne-eqb, leb-true, leb-false, eqb-true, eqb-false}
-use Rattle.octets.proofs.Truths.{never, first-true, second-true, decided}
-use Rattle.octets.proofs.Tests.{both}
-use Rattle.octets.proofs.Walks.{by-test}
-use Rattle.device.specs.Sessions.{known}
-use Rattle.cemi.specs.Layout.{infoLength, stated, _of_}
-use Rattle.cemi.specs.Read.{fieldsIn, frameIn, refusalOf, readFrame}
-use Rattle.cemi.specs.Meaning.{meaningOf}
-use Rattle.cemi.specs.Means.{Means, toAll as meansAll, toSome as meansSome, toNone, plain as meansPlain, numbered}
-use Rattle.cemi.specs.Means.{connects as meansConnect, disconnects as meansDisconnect, acknowledges, other, Group, Individual}
-use Rattle.cemi.specs.declared.Frame.{Frame}
-use Rattle.cemi.specs.declared.Got.{Got}
+use Rattle.octets.proofs.Kit.{ℕ, _≡_, refl, sym, ap, subst, _∙_, _⊎_, inl, inr, Bool, true, false, cond, not, _&&_, _||_, List, length, leb, eqb, arith, le-leb, lt-leb, eq-eqb, ne-eqb}
+use Rattle.octets.proofs.Kit.{leb-true, leb-false, eqb-true, eqb-false}
+use Rattle.octets.proofs.{Truths.{never, first-true, second-true, decided}, Tests.both, Walks.by-test}
+use Rattle.cemi.specs.{Layout.{infoLength, stated, _of_}, Read.{fieldsIn, frameIn, refusalOf, readFrame}, Meaning.meaningOf, Means.{Means, toAll as meansAll, toSome as meansSome, toNone}}
+use Rattle.cemi.specs.{Means.{plain as meansPlain, numbered, connects as meansConnect, disconnects as meansDisconnect, acknowledges, other, Individual}, declared.{Frame.Frame, Got.Got}}
+use Rattle.cemi.{specs.declared.Meaning.Meaning, proofs.promises.{Standards.{accepted, standard-reads}, Understood.{means, means-one}}}
 use Rattle.cemi.specs.declared.Got.the-variants as got
-use Rattle.cemi.specs.declared.Meaning.{Meaning}
 use Rattle.cemi.specs.declared.Meaning.the-variants as meaning
-use Rattle.cemi.proofs.promises.Standards.{accepted, standard-reads}
 use Rattle.cemi.proofs.promises.Dues as cemi
-use Rattle.cemi.proofs.promises.Understood.{means, means-one}
-use Rattle.link.specs.Partners.{nobody, sits, placeOf, freeOf, placeFor}
-use Rattle.link.specs.Hearing.{forUs, toItself, onPlace, connects, disconnects, meant, fromOther, judged, heardGot, heardOf}
-use Rattle.link.specs.Whose.{Partner, NoPlace}
-use Rattle.link.specs.Due.{Has, first, second, Stranger, from, to, Reads, Ours, shared, alone, HeardDue, unread, elsewhere, itself}
-use Rattle.link.specs.Due.{toGroup, toAll, plain, partners, strangers, again, firstFree, secondFree, third, parts, strangerParts, control, strangerControl}
-use Rattle.link.specs.declared.Link.{Link}
-use Rattle.link.specs.declared.Arrived.{Arrived}
+use Rattle.device.specs.Sessions.{known}
+use Rattle.link.specs.{Partners.{nobody, sits, placeOf, freeOf, placeFor}, Hearing.{forUs, toItself, onPlace, connects, disconnects, meant, fromOther, judged, heardGot, heardOf}}
+use Rattle.link.specs.{Whose.{Partner, NoPlace}, Due.{Has, first, second, Stranger, from, to, Reads, Ours, shared, alone, HeardDue, unread, elsewhere, itself, toGroup, toAll, plain}}
+use Rattle.link.specs.{Due.{partners, strangers, again, firstFree, secondFree, third, parts, strangerParts, control, strangerControl}, declared.{Link.Link, Arrived.Arrived}}
 use Rattle.link.specs.declared.Arrived.the-variants.{Connect, Disconnect, Nothing}
 use Rattle.link.proofs.promises.Apart.{third as no-place}
 

@@ -1,17 +1,10 @@
 -- Worked examples: frames to the device 1105h whose connection 0 is open to 11FFh and whose connection 1 was 1203h's, or is, or both are closed; and what they are to it. Assumes nothing.
-use Prim.Native.Nat.{ℕ}
-use mathlib.Core.Path.{_≡_, refl}
-use mathlib.Core.Bool.{true, false}
-use mathlib.Core.List.{List, [], _∷_}
+use Rattle.octets.proofs.Kit.{ℕ, _≡_, refl, true, false, List, [], _∷_}
 use Rattle.octets.specs.Bytes.{numAt}
+use Rattle.cemi.specs.{Read.{standardOf, refusalOf, readFrame}, Meaning.{toGroup, control, numbered, toOne, meaningOf}}
 use Rattle.judge.specs.declared.Session.{Session}
-use Rattle.cemi.specs.Read.{standardOf, refusalOf, readFrame}
-use Rattle.cemi.specs.Meaning.{toGroup, control, numbered, toOne, meaningOf}
-use Rattle.link.specs.Partners.{placeOf, freeOf, placeFor}
-use Rattle.link.specs.Hearing.{forUs, toItself, onPlace, connects, disconnects, meant, fromOther, judged, heardGot, heardOf}
-use Rattle.link.specs.declared.Link.{Link}
-use Rattle.link.specs.declared.Arrived.{Arrived}
-use Rattle.link.specs.declared.Arrived.the-variants.{Request, Connect, Disconnect, Nothing}
+use Rattle.link.specs.{Partners.{placeOf, freeOf, placeFor}, Hearing.{forUs, toItself, onPlace, connects, disconnects, meant, fromOther, judged, heardGot, heardOf}, declared.Link.Link}
+use Rattle.link.specs.declared.Arrived.{Arrived, the-variants.{Request, Connect, Disconnect, Nothing}}
 
 abbrev at : Session
 at = record { opened = true; level = 2 }

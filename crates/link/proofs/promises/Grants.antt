@@ -1,42 +1,16 @@
 -- EVERY LEVEL WAS GIVEN: from closed sessions on, whoever has a connection has connected on it, and every level below 3 was given by a frame of its own. Assumes nothing.
-use Prim.Native.Nat.{ℕ, zero, suc, _+_, _<_, _≤_}
-use mathlib.Core.Path.{_≡_, refl, sym, ap, subst, _∙_}
-use mathlib.Core.Logic.{_⊎_, inl, inr}
-use mathlib.Core.Bool.{true, false}
-use mathlib.Core.List.{List, [], _∷_}
-use lib.ListN.{drop, getD}
-use native.Mathlib.Decide.{ℕ-discrete}
-use native.Mathlib.Omega.{arith}
-use borrow.Author.Tests.{eq-eqb, ne-eqb}
-use Rattle.octets.specs.Bytes.{numAt}
-use Rattle.octets.proofs.Truths.{never}
-use Rattle.octets.proofs.Tests.{both}
-use Rattle.sheet.specs.Layout.{_of_}
+use Rattle.octets.proofs.Kit.{ℕ, zero, suc, _+_, _<_, _≤_, _≡_, refl, sym, ap, subst, _∙_, _⊎_, inl, inr, true, false, List, [], _∷_, drop, getD, ℕ-discrete, arith, eq-eqb, ne-eqb}
+use Rattle.octets.{specs.Bytes.numAt, proofs.{Truths.never, Tests.both}}
+use Rattle.sheet.specs.{Layout._of_, Head.rulesOf}
 use Rattle.sheet.specs.Head as head
-use Rattle.sheet.specs.Head.{rulesOf}
-use Rattle.device.specs.Sessions.{sessionOf}
-use Rattle.device.specs.Events.{State}
+use Rattle.device.specs.{Sessions.sessionOf, Events.State}
 use Rattle.events.specs.Events.{Event, connect, disconnect, button, restore, after}
-use Rattle.history.specs.Location.{Location, key, Place, ofKey}
-use Rattle.history.specs.Wish.{offerKey, asks}
-use Rattle.history.specs.Permit.{checks, heard}
-use Rattle.history.specs.History.{First, wished, opened, level, keys, keyIn, content}
-use Rattle.history.specs.Keeps.{stateAfter, Begins, AllOctets}
-use Rattle.history.specs.Keyless.{Closed}
-use Rattle.history.specs.Isolation.{isOf}
-use Rattle.history.specs.Rightful.{ours}
-use Rattle.history.proofs.spans.Bools.{all-at}
-use Rattle.history.proofs.promises.Keep.{keeps}
-use Rattle.account.specs.Account.{at, byteAt, levelOn, lastOther, Right, Offers, offers, Entitled, byKey}
-use Rattle.account.proofs.promises.Accounts.{accounts, entitled}
-use Rattle.link.specs.Partners.{addressAt}
-use Rattle.link.specs.Net.{Net, stateOf, firstNet, sourceOf, heardIn, Item, frame, press, timeOut, giveBack, eventsBy, netBy, netAfter, eventsAfter, AllBytes}
-use Rattle.link.specs.Whose.{Partner, partner}
-use Rattle.link.specs.Granted.{levelAt, Joined, Granted}
-use Rattle.link.specs.declared.Arrived.the-variants.{Connect}
-use Rattle.link.proofs.promises.Kept.{as-events, all-octets}
-use Rattle.link.proofs.Sessions.{opened-before}
-use Rattle.link.proofs.promises.Whose.{whose}
+use Rattle.history.specs.{Location.{Location, key, Place, ofKey}, Wish.{offerKey, asks}, Permit.{checks, heard}, History.{First, wished, opened, level, keys, keyIn, content}}
+use Rattle.history.{specs.{Keeps.{stateAfter, Begins, AllOctets}, Keyless.Closed, Isolation.isOf, Rightful.ours}, proofs.{spans.Bools.all-at, promises.Keep.keeps}}
+use Rattle.account.{specs.Account.{at, byteAt, levelOn, lastOther, Right, Offers, offers, Entitled, byKey}, proofs.promises.Accounts.{accounts, entitled}}
+use Rattle.link.specs.{Partners.addressAt, Net.{Net, stateOf, firstNet, sourceOf, heardIn, Item, frame, press, timeOut, giveBack, eventsBy, netAfter, eventsAfter, AllBytes}}
+use Rattle.link.specs.{Whose.{Partner, partner}, Granted.{levelAt, Joined, Granted}, declared.Arrived.the-variants.Connect}
+use Rattle.link.proofs.{promises.Kept.{as-events, all-octets}, Sessions.opened-before, promises.Whose.whose}
 use Rattle.link.proofs.Items.{One, one-item, left-none, left-one, same-address, connect-three, no-other, joined-address, isRequest, whose-request, first, came, Connects, connects-it}
 
 -- what an offer is

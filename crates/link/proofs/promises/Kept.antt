@@ -1,30 +1,13 @@
 -- WHAT FRAMES LEAVE IS WHAT THE EVENTS LEAVE THAT THEY ARE: so demand 3 holds of frames, and nobody without the key changes a protected byte by frames. Assumes nothing.
-use Prim.Native.Nat.{ℕ, zero, suc, _+_, _<_}
-use mathlib.Core.Path.{_≡_, refl, sym, ap, subst, _∙_}
-use mathlib.Core.Bool.{Bool, true, false, cond}
-use mathlib.Core.List.{List, [], _∷_, _++_}
-use lib.ListN.{length, take, drop}
-use lib.Dec.{leb}
-use lib.Seq.{getD-drop}
-use native.Mathlib.Omega.{arith}
-use Rattle.octets.specs.Octets.{Octets}
-use Rattle.octets.proofs.Truths.{never}
+use Rattle.octets.proofs.Kit.{ℕ, zero, suc, _+_, _<_, _≡_, refl, sym, ap, subst, _∙_, Bool, true, false, cond, List, [], _∷_, _++_, length, take, drop, leb, getD-drop, arith}
+use Rattle.octets.{specs.Octets.Octets, proofs.Truths.never}
+use Rattle.cemi.specs.{Layout.octet6, Read.frameIn}
 use Rattle.device.specs.Events.{State}
 use Rattle.events.specs.Events.{Event, after, runBy, run}
-use Rattle.cemi.specs.Layout.{octet6}
-use Rattle.cemi.specs.Read.{frameIn}
-use Rattle.history.specs.Wish.{Wish, change, offerKey, restart, other, nothing}
-use Rattle.history.specs.History.{First}
-use Rattle.history.specs.Keeps.{stateAfter, Begins, AllOctets, Kept}
-use Rattle.history.specs.Keyless.{NotOffered, Closed, Protected}
-use Rattle.history.specs.Rightful.{ours}
-use Rattle.history.proofs.promises.Keep.{keeps}
-use Rattle.history.proofs.promises.Keyless.{locked, keyless-device}
-use Rattle.link.specs.Serving.{apduOf}
-use Rattle.link.specs.Net.{Net, stateOf, firstNet, heardIn, eventsOf, Item, frame, press, timeOut, giveBack, eventsBy, netBy, netAfter, eventsAfter}
-use Rattle.link.specs.Net.{BytesIn, AllBytes, NoKeyIn, NoKey, NoKeyHeardIn, NoKeyHeard}
-use Rattle.link.specs.declared.Arrived.{Arrived}
-use Rattle.link.specs.declared.Arrived.the-variants.{Request, Connect, Disconnect, Nothing}
+use Rattle.history.specs.{Wish.{Wish, change, offerKey, restart, other, nothing}, History.First, Keeps.{stateAfter, Begins, AllOctets, Kept}, Keyless.{NotOffered, Closed, Protected}}
+use Rattle.history.{specs.Rightful.ours, proofs.promises.{Keep.keeps, Keyless.{locked, keyless-device}}}
+use Rattle.link.specs.{Serving.apduOf, Net.{Net, stateOf, firstNet, heardIn, eventsOf, Item, frame, press, timeOut, giveBack, eventsBy, netBy, netAfter, eventsAfter, BytesIn}}
+use Rattle.link.specs.{Net.{AllBytes, NoKeyIn, NoKey, NoKeyHeardIn, NoKeyHeard}, declared.Arrived.{Arrived, the-variants.{Request, Connect, Disconnect, Nothing}}}
 
 -- what asks for nothing, and a restore, offers no key
 isOffer : Wish → Bool

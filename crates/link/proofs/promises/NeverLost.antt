@@ -1,36 +1,14 @@
 -- AN ANSWER IS NEVER LOST to 46 or 47: whatever a request answers is sent, whole, in a frame that reads, and that means data in the mode of the request. Assumes nothing.
-use Prim.Native.Nat.{ℕ, _+_, _-_, _≤_, _<_}
-use mathlib.Core.Path.{_≡_, refl, ap, subst, _∙_}
-use mathlib.Core.List.{List, [], _∷_}
-use mathlib.Core.Bool.{Bool, true, false, cond}
-use lib.ListN.{length, take}
-use lib.Dec.{leb}
-use native.Mathlib.Omega.{arith}
-use borrow.Author.Tests.{le-ltb}
-use Rattle.octets.specs.Octets.{Octets}
-use Rattle.octets.specs.Splice.{splice}
-use Rattle.octets.proofs.Numbers.{num-below}
-use Rattle.octets.proofs.Splices.{splice-none, splice-read}
+use Rattle.octets.proofs.Kit.{ℕ, _+_, _≤_, _<_, _≡_, refl, ap, subst, _∙_, List, [], _∷_, Bool, true, false, cond, length, take, leb, arith, le-ltb}
+use Rattle.octets.{specs.{Octets.Octets, Splice.splice}, proofs.{Numbers.num-below, Splices.{splice-none, splice-read}}}
 use Rattle.sheet.specs.Layout.{_of_}
 use Rattle.sheet.specs.Head as head
-use Rattle.device.specs.Sessions.{sessionFor}
-use Rattle.device.specs.Events.{requestOf}
-use Rattle.device.proofs.promises.Demand1.{at-most-16}
-use Rattle.cemi.specs.Read.{fieldsIn, frameIn, readFrame}
-use Rattle.cemi.specs.Means.{Means}
-use Rattle.cemi.specs.Write.{encoded, frameOf}
-use Rattle.cemi.specs.Answering.{answering}
-use Rattle.cemi.specs.declared.Fields.{Fields}
+use Rattle.cemi.specs.{Read.{fieldsIn, frameIn, readFrame}, Means.Means, Write.{encoded, frameOf}, Answering.answering, declared.{Fields.Fields, Meaning.the-variants.Data}}
+use Rattle.cemi.proofs.promises.{Answers.{answer-writable, answer-fits, answer-means}, Backs.{length-encoded, read-back}}
 use Rattle.cemi.specs.declared.Got.the-variants as got
-use Rattle.cemi.specs.declared.Meaning.the-variants.{Data}
-use Rattle.cemi.proofs.promises.Answers.{answer-writable, answer-fits, answer-means}
-use Rattle.cemi.proofs.promises.Backs.{length-encoded, read-back}
-use Rattle.link.specs.Hearing.{ownOf, heardOf}
-use Rattle.link.specs.Serving.{most, longest, apduOf, answerFrame, Deed, deedOf, serveOf, ServedFrame}
-use Rattle.link.specs.Due.{HeardDue, toGroup, toAll, plain, partners}
-use Rattle.link.specs.declared.Link.{Link}
-use Rattle.link.specs.declared.Served.{Served}
-use Rattle.link.specs.declared.Arrived.the-variants.{Request}
+use Rattle.device.{specs.{Sessions.sessionFor, Events.requestOf}, proofs.promises.Demand1.at-most-16}
+use Rattle.link.specs.{Hearing.{ownOf, heardOf}, Serving.{most, longest, apduOf, answerFrame, Deed, deedOf, serveOf, ServedFrame}, Due.{HeardDue, toGroup, toAll, plain, partners}}
+use Rattle.link.specs.declared.{Link.Link, Served.Served, Arrived.the-variants.Request}
 use Rattle.link.proofs.promises.Dues.{heard-due}
 
 -- the own address fits its field

@@ -1,28 +1,12 @@
 -- WHAT A SERVED FRAME SAYS THAT IT STORED: every byte outside is as found, and what is no request or was refused has stored nothing. Assumes nothing.
-use Prim.Native.Nat.{ℕ, _+_, _≤_}
-use mathlib.Core.Path.{_≡_, refl, sym, ap, subst, _∙_}
-use mathlib.Core.Logic.{_⊎_, inl, inr}
-use mathlib.Core.List.{List}
-use lib.ListN.{length, getD, replicate}
-use lib.Dec.{ltb}
-use native.Mathlib.Omega.{arith}
-use Rattle.octets.specs.Octets.{Octets}
-use Rattle.octets.specs.Splice.{splice}
-use Rattle.octets.proofs.Walks.{by-test}
-use Rattle.device.specs.Changed.{Requested, Outside, changedOf, none}
-use Rattle.device.specs.declared.Made.{Made}
-use Rattle.device.specs.declared.Changed.{Changed}
+use Rattle.octets.proofs.Kit.{ℕ, _+_, _≤_, _≡_, refl, sym, ap, subst, _∙_, _⊎_, inl, inr, List, length, getD, replicate, ltb, arith}
+use Rattle.octets.{specs.{Octets.Octets, Splice.splice}, proofs.Walks.by-test}
+use Rattle.cemi.specs.{Read.fieldsIn, declared.Fields.Fields}
+use Rattle.device.specs.{Changed.{Requested, Outside, changedOf, none}, declared.{Made.Made, Changed.Changed}}
 use Rattle.device.proofs.promises.Parts.{kept-outside, none-refused, first-within, second-within}
-use Rattle.cemi.specs.Read.{fieldsIn}
-use Rattle.cemi.specs.declared.Fields.{Fields}
-use Rattle.link.specs.Hearing.{ownOf, heardOf}
-use Rattle.link.specs.Serving.{most, longest, apduOf, Deed, deedOf, NoRequest, serveOf, ServedFrame}
-use Rattle.link.specs.declared.Link.{Link}
-use Rattle.link.specs.declared.Served.{Served}
-use Rattle.link.specs.declared.Arrived.{Arrived}
+use Rattle.link.specs.{Hearing.{ownOf, heardOf}, Serving.{most, longest, apduOf, Deed, deedOf, NoRequest, serveOf, ServedFrame}, declared.{Link.Link, Served.Served, Arrived.Arrived}}
 use Rattle.link.specs.declared.Arrived.the-variants.{Request, Connect, Disconnect, Nothing}
-use Rattle.link.proofs.promises.Kept.{octets-apdu}
-use Rattle.link.proofs.promises.Demand1.{effect, done, called}
+use Rattle.link.proofs.promises.{Kept.octets-apdu, Demand1.{effect, done, called}}
 
 -- both parts of a deed in the sheet s, every byte of which outside them is as found
 record Told (s : List ℕ) (x : Deed) : Type 0 where

@@ -1,21 +1,10 @@
 -- WHAT CALLS LEAVE IS WHAT THEIR HISTORY SAYS, by their contracts alone: so a host has demand 3, and `keyless`, of the calls that it makes. Assumes nothing.
-use Prim.Native.Nat.{ℕ, _<_, _≤_}
-use mathlib.Core.Path.{_≡_, refl, sym, ap, subst, _∙_}
-use mathlib.Core.List.{List, _∷_}
-use lib.ListN.{getD}
+use Rattle.octets.proofs.Kit.{ℕ, _<_, _≤_, _≡_, refl, sym, ap, subst, _∙_, List, _∷_, getD}
 use Rattle.events.specs.Events.{eventOf, after, runBy}
-use Rattle.history.specs.Keeps.{stateAfter, Begins, Kept}
-use Rattle.history.specs.Location.{Location, Place}
-use Rattle.history.specs.Keyless.{Closed, Protected, writeLevel}
-use Rattle.history.specs.Rightful.{ours}
-use Rattle.link.specs.Net.{Net, stateOf, firstNet, sourceOf, Item, frame, netBy, netAfter, eventsAfter, BytesIn, AllBytes, NoKey, NoKeyHeard}
-use Rattle.link.specs.Whose.{Apart}
-use Rattle.link.specs.Granted.{ByRight, NoKeyFrom}
-use Rattle.link.specs.Runs.{Goes, serves, presses, timesOut, givesBack, Ran, begin, next}
-use Rattle.link.proofs.promises.Kept.{frames-keep, all-heard, keyless-heard}
-use Rattle.link.proofs.promises.Apart.{apart}
-use Rattle.link.proofs.promises.Rights.{by-right, without-key}
-use Rattle.link.proofs.promises.Tied.{served-is}
+use Rattle.history.specs.{Keeps.{stateAfter, Begins, Kept}, Location.{Location, Place}, Keyless.{Closed, Protected, writeLevel}, Rightful.ours}
+use Rattle.link.specs.{Net.{Net, stateOf, firstNet, sourceOf, Item, frame, netBy, netAfter, eventsAfter, BytesIn, AllBytes, NoKey, NoKeyHeard}, Whose.Apart}
+use Rattle.link.specs.{Granted.{ByRight, NoKeyFrom}, Runs.{Goes, serves, presses, timesOut, givesBack, Ran, begin, next}}
+use Rattle.link.proofs.promises.{Kept.{frames-keep, all-heard, keyless-heard}, Apart.apart, Rights.{by-right, without-key}, Tied.served-is}
 
 -- ONE CALL
 goes-is : {x y : Net} {i : Item} → Goes x i y → (y ≡ netBy x i) × BytesIn i

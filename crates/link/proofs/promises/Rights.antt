@@ -1,36 +1,15 @@
 -- BY WHAT RIGHT A FRAME CHANGED A BYTE: whoever's frame changes a protected one has a level that suffices, and was given it; so who has offered no key changes none. Assumes nothing.
-use Prim.Native.Nat.{ℕ, zero, suc, _<_, _≤_}
-use mathlib.Core.Path.{_≡_, refl, sym, ap, subst, _∙_}
-use mathlib.Core.Logic.{inl, inr}
-use mathlib.Core.Bool.{Bool, true, false, cond}
-use mathlib.Core.List.{List, [], _∷_}
-use lib.ListN.{drop, getD}
-use lib.Dec.{ltb, eqb}
-use native.Mathlib.Decide.{ℕ-discrete}
-use native.Mathlib.Omega.{arith}
-use borrow.Author.Tests.{eqb-true, eq-eqb}
-use Rattle.octets.proofs.Truths.{never}
-use Rattle.octets.proofs.Tests.{both}
-use Rattle.sheet.specs.Layout.{_of_}
-use Rattle.events.specs.Events.{Event, connect, disconnect, button, request, restore, after}
-use Rattle.history.specs.Location.{Location, key, Place}
-use Rattle.versions.specs.Rules.{isStore}
-use Rattle.versions.specs.Store.{isKept, versionIn}
-use Rattle.history.specs.Wish.{change, restoreAll, asks}
-use Rattle.history.specs.Permit.{allowed, levelFor}
-use Rattle.history.specs.History.{First, opened, level, permitted}
-use Rattle.history.specs.Keeps.{Begins}
-use Rattle.history.specs.Keyless.{Closed, writeLevel}
-use Rattle.history.specs.Isolation.{isOf}
-use Rattle.history.proofs.spans.Bools.{all-at}
-use Rattle.account.specs.Account.{at, byteAt, actsAt}
-use Rattle.link.specs.Partners.{addressAt}
-use Rattle.link.specs.Net.{Net, firstNet, sourceOf, Item, frame, press, timeOut, giveBack, eventsBy, netAfter, eventsAfter, AllBytes}
-use Rattle.link.specs.Whose.{Partner, partner}
+use Rattle.octets.proofs.Kit.{ℕ, zero, suc, _<_, _≤_, _≡_, refl, sym, ap, subst, _∙_, inl, inr, Bool, true, false, cond, List, [], _∷_, drop, getD, ltb, eqb, ℕ-discrete, arith, eqb-true}
+use Rattle.octets.proofs.Kit.{eq-eqb}
+use Rattle.octets.proofs.{Truths.never, Tests.both}
+use Rattle.versions.specs.{Rules.isStore, Store.{isKept, versionIn}}
+use Rattle.events.specs.Events.{Event, connect, disconnect, button, request, restore}
+use Rattle.history.specs.{Location.{Location, key, Place}, Wish.{change, restoreAll}, Permit.{allowed, levelFor}, History.{First, opened, level, permitted}, Keeps.Begins}
+use Rattle.history.{specs.{Keyless.{Closed, writeLevel}, Isolation.isOf}, proofs.spans.Bools.all-at}
+use Rattle.account.specs.Account.{byteAt, actsAt}
+use Rattle.link.specs.{Partners.addressAt, Net.{Net, firstNet, sourceOf, Item, frame, press, timeOut, giveBack, eventsBy, netAfter, eventsAfter, AllBytes}, Whose.{Partner, partner}}
 use Rattle.link.specs.Granted.{levelAt, ByRight, NoKeyFrom}
-use Rattle.link.proofs.promises.Kept.{as-events}
-use Rattle.link.proofs.promises.Whose.{whose}
-use Rattle.link.proofs.Items.{One, one-item, isConnect, whose-other, first}
+use Rattle.link.proofs.{promises.{Kept.as-events, Whose.whose}, Items.{One, one-item, isConnect, whose-other, first}}
 use Rattle.link.proofs.promises.Grants.{level-is, opened-is, rightly, state-one, octets-one, none-left, granted}
 
 -- a permitted write that acts at a level below 3 is on a connection that has that level

@@ -1,17 +1,9 @@
 -- THE CODE DOES WHAT THE HISTORIES OF FRAMES SAY: what `serve` leaves of link and sheet is `netBy`. Assumes nothing.
-use Prim.Native.Nat.{ℕ, _≤_}
-use mathlib.Core.Path.{_≡_, refl, ap, _∙_}
-use mathlib.Core.List.{List}
-use lib.ListN.{length}
-use borrow.Author.Tests.{le-ltb}
-use Rattle.events.specs.Events.{eventOf, after, runBy, run}
+use Rattle.octets.proofs.Kit.{ℕ, _≤_, _≡_, refl, ap, _∙_, List, length, le-ltb}
 use Rattle.cemi.specs.Read.{fieldsIn}
-use Rattle.link.specs.Hearing.{ownOf, heardOf}
-use Rattle.link.specs.Serving.{longest, apduOf, Deed, deedOf, serveOf, ServedFrame}
-use Rattle.link.specs.Net.{Net, netOf, frame, heardIn, netBy, sourceOf, stateOf, eventsOf, addressBy}
-use Rattle.link.specs.declared.Link.{Link}
-use Rattle.link.specs.declared.Served.{Served}
-use Rattle.link.specs.declared.Arrived.{Arrived}
+use Rattle.events.specs.Events.{eventOf, after, runBy, run}
+use Rattle.link.specs.{Hearing.{ownOf, heardOf}, Serving.{longest, apduOf, Deed, deedOf, serveOf, ServedFrame}}
+use Rattle.link.specs.{Net.{Net, netOf, frame, heardIn, netBy, sourceOf, stateOf, eventsOf, addressBy}, declared.{Link.Link, Served.Served, Arrived.Arrived}}
 use Rattle.link.specs.declared.Arrived.the-variants.{Request, Connect, Disconnect, Nothing}
 
 module _ (k : Link) (sequence : ℕ) (b s : List ℕ) where

@@ -1,36 +1,15 @@
 -- NOTHING IS LEARNED BY FRAMES of a byte whose read level is below q, while no open connection has a level below q: of what is sent, of who is turned away, of the link. Assumes nothing.
-use Prim.Native.Nat.{ℕ, _+_, _<_, _≤_}
-use mathlib.Core.Path.{_≡_, refl, sym, ap, ap₂, subst, _∙_}
-use mathlib.Core.Logic.{inl, inr}
-use mathlib.Core.Bool.{Bool, true, false, cond}
-use mathlib.Core.List.{List, [], _∷_}
-use lib.ListN.{replicate}
-use lib.Dec.{ltb, leb}
-use native.Mathlib.Omega.{arith}
+use Rattle.octets.proofs.Kit.{ℕ, _+_, _<_, _≤_, _≡_, refl, sym, ap, ap₂, subst, _∙_, inl, inr, Bool, true, false, cond, List, [], _∷_, replicate, ltb, leb, arith}
 use Rattle.octets.specs.Bytes.{numAt}
 use Rattle.sheet.proofs.rules.Good.{good}
-use Rattle.device.specs.Sessions.{sessionOf}
-use Rattle.device.specs.declared.Sessions.{Sessions}
+use Rattle.cemi.specs.{Read.fieldsIn, Answering.answering, declared.Fields.Fields}
+use Rattle.device.specs.{Sessions.sessionOf, declared.Sessions.Sessions}
 use Rattle.events.specs.Events.{Event, request, eventOf, after, runBy, run}
-use Rattle.history.specs.Isolation.{same}
-use Rattle.history.specs.Secret.{Hide, NothingTold}
-use Rattle.history.specs.Keeps.{Begins}
-use Rattle.history.specs.Keyless.{Closed}
-use Rattle.history.proofs.promises.NothingShown.{secret-after}
-use Rattle.history.proofs.promises.Unlearned.{told}
-use Rattle.history.proofs.promises.SameParts.{hidden-parts}
-use Rattle.cemi.specs.Read.{fieldsIn}
-use Rattle.cemi.specs.Answering.{answering}
-use Rattle.cemi.specs.declared.Fields.{Fields}
-use Rattle.link.specs.Hearing.{ownOf, heardOf}
-use Rattle.link.specs.Serving.{most, longest, apduOf, answerFrame, withSessions, leaving, deedOf, serveOf}
-use Rattle.link.specs.Net.{Net, stateOf, firstNet, sourceOf, heardIn, eventsOf, addressBy, Item, frame, press, timeOut, giveBack, eventsBy, addressAfter, netBy, netAfter, AllBytes, NoKeyHeard}
-use Rattle.link.specs.Unlearned.{Hides, Weak, NoneBelow, NothingServed}
-use Rattle.link.specs.declared.Link.{Link}
-use Rattle.link.specs.declared.Arrived.{Arrived}
-use Rattle.link.specs.declared.Arrived.the-variants.{Request, Connect, Disconnect, Nothing}
-use Rattle.link.proofs.promises.Kept.{keyless-heard}
-use Rattle.link.proofs.Items.{One, one-item}
+use Rattle.history.{specs.{Isolation.same, Secret.{Hide, NothingTold}, Keeps.Begins, Keyless.Closed}, proofs.promises.{NothingShown.secret-after, Unlearned.told, SameParts.hidden-parts}}
+use Rattle.link.specs.{Hearing.{ownOf, heardOf}, Serving.{most, longest, apduOf, answerFrame, withSessions, leaving, deedOf, serveOf}, Net.{Net, stateOf, firstNet, sourceOf, heardIn}}
+use Rattle.link.specs.Net.{eventsOf, addressBy, Item, frame, press, timeOut, giveBack, eventsBy, addressAfter, netBy, netAfter, AllBytes, NoKeyHeard}
+use Rattle.link.specs.{Unlearned.{Hides, Weak, NoneBelow, NothingServed}, declared.{Link.Link, Arrived.{Arrived, the-variants.{Request, Connect, Disconnect, Nothing}}}}
+use Rattle.link.proofs.{promises.Kept.keyless-heard, Items.{One, one-item}}
 
 -- the own address is no secret
 own-same : {q : ℕ} {s s′ : List ℕ} → Hide q s s′ → ownOf s′ ≡ ownOf s

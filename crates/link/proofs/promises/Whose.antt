@@ -1,36 +1,18 @@
 -- WHOSE CONNECTION IS WHOSE: only frames from the partner of a connection act on it; a frame for another device does nothing. Assumes nothing.
-use Prim.Native.Nat.{ℕ, _<_}
-use mathlib.Core.Path.{_≡_, refl, sym, ap, subst, _∙_}
-use mathlib.Core.Logic.{_⊎_, inl, inr, ⊎-elim}
-use mathlib.Core.Bool.{Bool, true, false, cond}
-use mathlib.Core.List.{List, [], _∷_}
-use lib.ListN.{length}
-use lib.Dec.{ltb, eqb}
-use native.Mathlib.Omega.{arith}
-use borrow.Author.Tests.{eqb-true, eq-eqb, ne-eqb, lt-leb}
-use Rattle.octets.proofs.Truths.{never, first-true, second-true, must-fail}
-use Rattle.octets.proofs.Walks.{by-test}
+use Rattle.octets.proofs.Kit.{ℕ, _<_, _≡_, refl, sym, ap, subst, _∙_, _⊎_, inl, inr, ⊎-elim, Bool, true, false, cond, List, [], _∷_, length, ltb, eqb, arith, eqb-true, eq-eqb, ne-eqb}
+use Rattle.octets.proofs.Kit.{lt-leb}
+use Rattle.octets.proofs.{Truths.{never, first-true, second-true, must-fail}, Walks.by-test}
+use Rattle.cemi.specs.{Layout.{infoLength, stated, _of_}, Read.{fieldsIn, frameIn, refusalOf, readFrame}, Meaning.meaningOf, declared.{Got.Got, Meaning.Meaning}}
+use Rattle.cemi.specs.declared.Got.the-variants as got
+use Rattle.cemi.specs.declared.Meaning.the-variants as meaning
 use Rattle.device.specs.Sessions.{closed, sessionOf, known}
 use Rattle.events.specs.Events.{Event, connect, button, runBy, run}
-use Rattle.history.specs.Wish.{Wish, change, offerKey, restart, other, nothing, asks}
-use Rattle.history.specs.History.{wished}
-use Rattle.history.specs.Isolation.{isOf}
-use Rattle.cemi.specs.Layout.{infoLength, stated, _of_}
-use Rattle.cemi.specs.Read.{fieldsIn, frameIn, refusalOf, readFrame}
-use Rattle.cemi.specs.Meaning.{meaningOf}
-use Rattle.cemi.specs.declared.Got.{Got}
-use Rattle.cemi.specs.declared.Got.the-variants as got
-use Rattle.cemi.specs.declared.Meaning.{Meaning}
-use Rattle.cemi.specs.declared.Meaning.the-variants as meaning
+use Rattle.history.specs.{Wish.{Wish, change, offerKey, restart, other, nothing, asks}, History.wished, Isolation.isOf}
 use Rattle.link.specs.Partners.{nobody, sits, addressAt, placeOf, freeOf, placeFor}
 use Rattle.link.specs.Hearing.{ownOf, forUs, toItself, onPlace, connects, disconnects, meant, fromOther, judged, heardGot, heardOf}
-use Rattle.link.specs.Serving.{longest, apduOf, Deed, leaving, deedOf, serveOf}
-use Rattle.link.specs.Net.{Net, sourceOf, stateOf, heardIn, eventsOf, addressBy, frame, eventsBy, netBy}
-use Rattle.link.specs.Whose.{Partner, Whose, partner, newcomer}
-use Rattle.link.specs.declared.Link.{Link}
-use Rattle.link.specs.declared.Arrived.{Arrived}
+use Rattle.link.specs.{Serving.{longest, apduOf, Deed, leaving, deedOf, serveOf}, Net.{Net, sourceOf, stateOf, heardIn, eventsOf, addressBy, frame, eventsBy, netBy}}
+use Rattle.link.specs.{Whose.{Partner, Whose, partner, newcomer}, declared.{Link.Link, Arrived.{Arrived, the-variants.{Request, Connect, Disconnect, Nothing}}}}
 use Rattle.link.proofs.Sessions.{other-session}
-use Rattle.link.specs.declared.Arrived.the-variants.{Request, Connect, Disconnect, Nothing}
 
 module _ (k : Link) (a : ℕ) where
   -- WHOEVER HAS A PLACE IS THE PARTNER THERE

@@ -1,21 +1,10 @@
 -- WRONG LINKS, each refuted: of what it hears something is not due. Assumes nothing.
-use Prim.Native.Nat.{ℕ, _+_, _*_}
-use mathlib.Core.Path.{_≡_, ap}
-use mathlib.Core.Bool.{true, false, cond, _&&_, not}
-use mathlib.Core.List.{List, [], _∷_}
-use lib.Dec.{leb, eqb}
-use native.Mathlib.Omega.{arith}
+use Rattle.octets.proofs.Kit.{ℕ, _+_, _*_, _≡_, ap, true, false, cond, _&&_, not, List, [], _∷_, leb, eqb, arith}
 use Rattle.octets.specs.Bytes.{numAt}
+use Rattle.cemi.specs.{Read.{fieldsIn, frameIn, standardOf, refusalOf, readFrame}, Meaning.{toGroup, control, numbered, toOne, meaningOf}}
 use Rattle.judge.specs.declared.Session.{Session}
-use Rattle.cemi.specs.Read.{fieldsIn, frameIn, standardOf, refusalOf, readFrame}
-use Rattle.cemi.specs.Meaning.{toGroup, control, numbered, toOne, meaningOf}
-use Rattle.link.specs.Partners.{nobody, placeOf, freeOf, placeFor}
-use Rattle.link.specs.Hearing.{forUs, toItself, onPlace, connects, disconnects, meant, fromOther, judged, heardGot, heardOf}
-use Rattle.link.specs.Net.{sourceOf}
-use Rattle.link.specs.Due.{HeardDue}
-use Rattle.link.specs.declared.Link.{Link}
-use Rattle.link.specs.declared.Arrived.{Arrived}
-use Rattle.link.specs.declared.Arrived.the-variants.{Request, Connect, Disconnect, Nothing}
+use Rattle.link.specs.{Partners.{nobody, placeOf, freeOf, placeFor}, Hearing.{forUs, toItself, onPlace, connects, disconnects, meant, fromOther, judged, heardGot, heardOf}}
+use Rattle.link.specs.{Net.sourceOf, Due.HeardDue, declared.{Link.Link, Arrived.{Arrived, the-variants.{Request, Connect, Disconnect, Nothing}}}}
 use Rattle.link.proofs.promises.Dues.{heard-only}
 
 -- any way to hear, and one that hears what is due

@@ -1,26 +1,12 @@
 -- AFTER A CUT: who got an answer finds the sheet as it was answered; the next write is there wholly or not at all; nobody is connected. Assumes nothing.
-use Prim.Native.Nat.{ℕ}
-use mathlib.Core.Path.{_≡_, refl, sym, ap, subst, _∙_}
-use mathlib.Core.Bool.{Bool, true, false, cond}
-use mathlib.Core.List.{List, [], _∷_, _++_}
-use lib.ListN.{getD}
+use Rattle.octets.proofs.Kit.{ℕ, _≡_, refl, sym, ap, _∙_, Bool, true, false, cond, List, [], _∷_, _++_, getD}
 use Rattle.octets.proofs.Truths.{never}
-use Rattle.device.specs.Events.{State}
-use Rattle.device.specs.Sessions.{freshOf, sessionOf}
+use Rattle.slots.{specs.Medium.{Medium, Broken}, proofs.promises.Lives.rest-cut}
 use Rattle.judge.specs.declared.Session.{Session}
-use Rattle.device.specs.declared.Sessions.{Sessions}
-use Rattle.device.proofs.leaves.Connections.{fresh-closed}
+use Rattle.device.{specs.{Events.State, Sessions.{freshOf, sessionOf}, declared.Sessions.Sessions}, proofs.leaves.Connections.fresh-closed}
 use Rattle.events.specs.Events.{Event}
-use Rattle.history.specs.Location.{Location, Place}
-use Rattle.history.specs.Span.{names, gives}
-use Rattle.history.specs.Permit.{spans}
-use Rattle.history.specs.History.{wished, supplied, content, permitted}
-use Rattle.history.specs.Keeps.{stateAfter}
-use Rattle.history.proofs.promises.Keep.{keeps}
-use Rattle.slots.specs.Medium.{Medium, Broken}
-use Rattle.slots.proofs.promises.Lives.{rest-cut}
-use Rattle.link.specs.Net.{Net, stateOf}
-use Rattle.link.specs.Whose.{Partner}
+use Rattle.history.{specs.{Location.{Location, Place}, Span.{names, gives}, Permit.spans, History.{wished, supplied, content, permitted}, Keeps.stateAfter}, proofs.promises.Keep.keeps}
+use Rattle.link.specs.{Net.{Net, stateOf}, Whose.Partner}
 use Rattle.host.specs.Steps.{Steps}
 use Rattle.lives.specs.Life.{Running, Happening, saved, cut, Starts, starts, Goes, loses, Ran, next, apart, tell, telling, told, kept, firstOf, Begun}
 use Rattle.lives.proofs.Follows.{At, same-sheet, steps-follow, lived}

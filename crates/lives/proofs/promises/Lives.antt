@@ -1,27 +1,13 @@
 -- DEMAND 3, AND WHAT GOES WITH IT, THROUGH ANY NUMBER OF POWER CUTS, whatever calls a host mixes: each is the promise of histories, said of the history that a life is told as. Assumes nothing.
-use Prim.Native.Nat.{ℕ, _<_, _≤_}
-use mathlib.Core.Path.{_≡_, refl, sym, subst}
-use mathlib.Core.Bool.{Bool, true, false, cond}
-use mathlib.Core.List.{List, [], _∷_, _++_}
-use native.Mathlib.Omega.{arith}
+use Rattle.octets.proofs.Kit.{ℕ, _<_, _≤_, _≡_, true, false, List, [], _∷_, _++_, arith}
 use Rattle.device.specs.Sessions.{sessionOf}
 use Rattle.events.specs.Events.{Event}
+use Rattle.history.specs.{Wish.offerKey, History.First, Keeps.{stateAfter, Kept}, Keyless.{NotOffered, Closed, Protected}, Isolation.Beside, Rightful.ours}
+use Rattle.history.{specs.{Secret.{Hide, NoneBelow, AllAlike}, Calls.Follows}, proofs.promises.{Keyless.locked, Calls.{calls-keep, keyless-calls, isolated-calls}, Unlearned.unlearned-calls}}
 use Rattle.history.specs.Wish as wish
-use Rattle.history.specs.Wish.{offerKey}
-use Rattle.history.specs.History.{First}
-use Rattle.history.specs.Keeps.{stateAfter, Kept}
-use Rattle.history.specs.Keyless.{NotOffered, Closed, Protected}
-use Rattle.history.specs.Isolation.{Beside}
-use Rattle.history.specs.Rightful.{ours}
-use Rattle.history.specs.Secret.{Hide, NoneBelow, AllAlike}
-use Rattle.history.specs.Calls.{Follows}
-use Rattle.history.proofs.promises.Keyless.{locked}
-use Rattle.history.proofs.promises.Calls.{calls-keep, keyless-calls, isolated-calls}
-use Rattle.history.proofs.promises.Unlearned.{unlearned-calls}
-use Rattle.account.specs.Account.{Traced}
-use Rattle.account.proofs.promises.Accounts.{accounts-calls}
+use Rattle.account.{specs.Account.Traced, proofs.promises.Accounts.accounts-calls}
 use Rattle.link.specs.Net.{stateOf}
-use Rattle.lives.specs.Life.{Running, Happening, saved, late, cut, Ran, apart, tell, telling, told, kept, firstOf, Begun, eventsIn, NeverOffered}
+use Rattle.lives.specs.Life.{Running, Happening, saved, late, cut, Ran, apart, tell, telling, told, kept, firstOf, Begun, NeverOffered}
 use Rattle.lives.proofs.Follows.{lived}
 
 -- a disconnect offers no key

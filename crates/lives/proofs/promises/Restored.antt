@@ -1,22 +1,13 @@
 -- A VERSION OF THE SETTINGS THROUGH POWER CUTS: the store is kept in two slots of its own, so that after a cut it is a store that was kept; what was saved is then restored. Assumes nothing.
-use Prim.Native.Nat.{ℕ}
-use mathlib.Core.Path.{_≡_, sym, ap, subst, _∙_}
-use mathlib.Core.Bool.{true}
-use mathlib.Core.List.{List, [], _∷_, _++_}
+use Rattle.octets.proofs.Kit.{ℕ, _≡_, sym, ap, subst, _∙_, true, List, _∷_, _++_}
 use Rattle.octets.specs.Octets.{Octets}
+use Rattle.versions.specs.{Saving.SavedAs, Sequence.{Change, changedAll, AllSpare}, declared.saving.Saved.Saved}
 use Rattle.events.specs.Events.{Event}
-use Rattle.history.specs.History.{opened, level}
-use Rattle.history.specs.Calls.{Follows}
-use Rattle.history.specs.Restored.{BroughtBack}
-use Rattle.history.proofs.promises.RestoredLater.{restored-over-history}
-use Rattle.versions.specs.Saving.{SavedAs}
-use Rattle.versions.specs.Sequence.{Change, changedAll, AllSpare}
-use Rattle.versions.specs.declared.saving.Saved.{Saved}
+use Rattle.history.{specs.{History.{opened, level}, Calls.Follows, Restored.BroughtBack}, proofs.promises.RestoredLater.restored-over-history}
 use Rattle.link.specs.Net.{stateOf}
 use Rattle.host.specs.Calls.{Restores}
 use Rattle.lives.specs.Life.{Running, Happening, saved, Ran, begin, next, tell, telling, told, firstOf, Begun, EndsIn, goneOn}
-use Rattle.lives.proofs.promises.Lives.{lives-follow}
-use Rattle.lives.proofs.promises.Tells.{answered-stays}
+use Rattle.lives.proofs.promises.{Lives.lives-follow, Tells.answered-stays}
 
 -- lives one after the other
 ran-on : {x y z : Running} {h g : List Happening} → Ran x h y → Ran y g z → Ran x (g ++ h) z

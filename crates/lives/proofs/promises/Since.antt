@@ -1,23 +1,13 @@
 -- SINCE THE LAST START, by frames: the laptop beside the technician, through any number of cuts. After a start nobody has a level below 3, so what a frame may change is decided by what its sender has
 -- offered since.
--- Assumes nothing.
-use Prim.Native.Nat.{ℕ, _<_, _≤_}
-use mathlib.Core.Path.{_≡_, sym, ap, subst}
-use mathlib.Core.Bool.{Bool, false}
-use mathlib.Core.List.{List, _∷_}
-use lib.ListN.{getD}
+use Rattle.octets.proofs.Kit.{ℕ, _<_, _≤_, _≡_, sym, ap, subst, Bool, List, _∷_, getD}
 use Rattle.octets.specs.Octets.{Octets}
 use Rattle.sheet.specs.Rules.{Accepted}
-use Rattle.device.specs.Events.{State}
-use Rattle.device.specs.declared.Sessions.{Sessions}
-use Rattle.history.specs.Location.{Location, Place}
-use Rattle.history.specs.Keeps.{Begins}
-use Rattle.history.specs.Keyless.{Closed, writeLevel}
+use Rattle.device.specs.{Events.State, declared.Sessions.Sessions}
 use Rattle.events.specs.Events.{Event}
-use Rattle.link.specs.Net.{Net, firstNet, sourceOf, Item, frame}
-use Rattle.link.specs.Granted.{ByRight, NoKeyFrom}
+use Rattle.history.specs.{Location.{Location, Place}, Keeps.Begins, Keyless.{Closed, writeLevel}}
+use Rattle.link.{specs.{Net.{Net, sourceOf, Item, frame}, Granted.{ByRight, NoKeyFrom}}, proofs.promises.Ran.{ran-by-right, ran-without-key}}
 use Rattle.link.specs.Runs as frames
-use Rattle.link.proofs.promises.Ran.{ran-by-right, ran-without-key}
 use Rattle.lives.specs.Life.{Running, Happening, cut, Starts, starts, Goes, loses, Ran, next, firstOf, Begun}
 use Rattle.lives.proofs.promises.Lives.{lives-keep}
 

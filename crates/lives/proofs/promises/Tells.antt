@@ -1,16 +1,9 @@
 -- WHAT IS IN THE HISTORY: all that was answered after its save, for good; and what a cut takes is the newest, together. Assumes nothing.
-use Prim.Native.Nat.{ℕ, _≤_}
-use mathlib.Core.Path.{_≡_, refl, sym, ap, subst, _∙_}
-use mathlib.Core.Bool.{Bool, true, false, cond}
-use mathlib.Core.List.{List, [], _∷_, _++_, append-assoc}
-use lib.ListN.{replicate}
-use borrow.Author.Tests.{le-ltb}
+use Rattle.octets.proofs.Kit.{ℕ, _≤_, _≡_, refl, sym, ap, subst, _∙_, true, false, List, [], _∷_, _++_, append-assoc, replicate, le-ltb}
 use Rattle.events.specs.Events.{Event, disconnect, request}
-use Rattle.link.specs.Serving.{longest, most, apduOf}
-use Rattle.link.specs.Net.{Net, heardIn}
-use Rattle.link.specs.declared.Arrived.the-variants.{Request}
+use Rattle.link.specs.{Serving.{longest, most, apduOf}, Net.{Net, heardIn}, declared.Arrived.the-variants.Request}
 use Rattle.host.specs.Steps.{servedEvents}
-use Rattle.lives.specs.Life.{Happening, saved, late, cut, apart, tell, telling, told, kept, EndsIn, goneOn}
+use Rattle.lives.specs.Life.{Happening, saved, late, cut, tell, telling, told, kept, EndsIn, goneOn}
 
 on : {es gs : List Event} (new : List Event) → EndsIn es gs → EndsIn es (new ++ gs)
 on {es} new (goneOn more e) = goneOn (new ++ more) (ap (λ (l : List Event). new ++ l) e ∙ sym (append-assoc new more es))

@@ -1,13 +1,6 @@
 -- `octets::fill` meets its contract. The invariant: dst is what it was with j bytes of the run pasted in from `at`.
--- Assumes nothing.
-use mathlib.Core.Path.{_≡_, refl}
-use Prim.Native.Nat.{_≤_, _-_}
-use native.Mathlib.Omega.{arith}
-use borrow.Author.Needs.{needs}
-use lib.ListN.{length, length-set, replicate, length-replicate, getD-replicate}
-use lib.Seq.{paste, paste-zero}
-use Rattle.octets.proofs.Stores.{paste-more, paste-all}
-use Rattle.octets.proofs.fill.Statement.{statement}
+use Rattle.octets.proofs.Kit.{_≡_, refl, _≤_, _-_, arith, needs, length, length-set, replicate, length-replicate, getD-replicate, paste, paste-zero}
+use Rattle.octets.proofs.{Stores.{paste-more, paste-all}, fill.Statement.statement}
 use Rattle.octets.proofs.fill.Tie as tie
 
 abbrev Inv-loop : tie.InvT-loop

@@ -1,14 +1,7 @@
 -- `octets::move_down` meets its contract. The invariant: the first j bytes have been moved.
--- Assumes nothing.
-use Prim.Native.Nat.{ℕ, _+_, _≤_, _-_}
-use mathlib.Core.Path.{_≡_, ap, _∙_, refl}
-use mathlib.Core.List.{List}
-use native.Mathlib.Omega.{arith}
-use borrow.Author.Needs.{needs}
-use lib.ListN.{length, length-set, set, getD}
+use Rattle.octets.proofs.Kit.{ℕ, _+_, _≤_, _-_, _≡_, ap, _∙_, refl, List, arith, needs, length, length-set, set, getD}
 use Rattle.octets.specs.Moved.{moved}
-use Rattle.octets.proofs.Moves.{moved-none, move-first}
-use Rattle.octets.proofs.move_down.Statement.{statement}
+use Rattle.octets.proofs.{Moves.{moved-none, move-first}, move_down.Statement.statement}
 use Rattle.octets.proofs.move_down.Tie as tie
 
 abbrev Inv-loop : tie.InvT-loop

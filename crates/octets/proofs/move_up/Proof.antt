@@ -1,14 +1,7 @@
 -- `octets::move_up` meets its contract. The invariant: the bytes from j on have been moved.
--- Assumes nothing.
-use Prim.Native.Nat.{ℕ, suc, _+_, _≤_, _-_}
-use mathlib.Core.Path.{_≡_, ap, _∙_, refl, sym}
-use mathlib.Core.List.{List}
-use native.Mathlib.Omega.{arith}
-use borrow.Author.Needs.{needs}
-use lib.ListN.{length, length-set, set, getD}
+use Rattle.octets.proofs.Kit.{ℕ, _+_, _≤_, _-_, _≡_, ap, _∙_, refl, List, arith, needs, length, length-set, set, getD}
 use Rattle.octets.specs.Moved.{moved}
-use Rattle.octets.proofs.Moves.{up-none, up-more, up-all}
-use Rattle.octets.proofs.move_up.Statement.{statement}
+use Rattle.octets.proofs.{Moves.{up-none, up-more, up-all}, move_up.Statement.statement}
 use Rattle.octets.proofs.move_up.Tie as tie
 
 abbrev Inv-loop : tie.InvT-loop

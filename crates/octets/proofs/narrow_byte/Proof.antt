@@ -1,11 +1,6 @@
 -- `octets::narrow_byte` meets its contract: within the slice the byte, past its end 0.
--- Assumes nothing.
-use borrow.Author.Needs.{needs}
-use mathlib.Core.Path.{sym, _∙_}
-use native.Mathlib.Omega.{arith}
-use lib.ListN.{List·getD-eq-default}
-use Rattle.octets.proofs.Numbers.{num-one}
-use Rattle.octets.proofs.narrow_byte.Statement.{statement}
+use Rattle.octets.proofs.Kit.{needs, sym, _∙_, arith, List·getD-eq-default}
+use Rattle.octets.proofs.{Numbers.num-one, narrow_byte.Statement.statement}
 use Rattle.octets.proofs.narrow_byte.Tie as tie
 
 pub narrow-byte-spec : {M : Type 1} → statement M

@@ -1,10 +1,6 @@
 -- `octets::narrow_word` meets its contract.
--- Assumes nothing.
-use Prim.Native.Nat.{_+_}
-use borrow.Author.Needs.{needs}
-use native.Mathlib.Omega.{arith}
-use Rattle.octets.proofs.Numbers.{num-pair}
-use Rattle.octets.proofs.narrow_word.Statement.{statement}
+use Rattle.octets.proofs.Kit.{_+_, needs, arith}
+use Rattle.octets.proofs.{Numbers.num-pair, narrow_word.Statement.statement}
 use Rattle.octets.proofs.narrow_word.Tie as tie
 
 pub narrow-word-spec : {M : Type 1} → statement M

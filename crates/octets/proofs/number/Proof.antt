@@ -1,12 +1,7 @@
 -- `octets::number` meets its contract: after i turns x is the number in the first i bytes.
--- Assumes nothing.
-use Prim.Native.Nat.{_≤_, _-_, _^_}
-use mathlib.Core.Path.{_≡_}
-use borrow.Author.Needs.{needs}
-use native.Mathlib.Omega.{arith}
+use Rattle.octets.proofs.Kit.{_≤_, _-_, _^_, _≡_, needs, arith}
 use Rattle.octets.specs.Bytes.{IsNum}
-use Rattle.octets.proofs.Numbers.{num-none, num-more, num-small}
-use Rattle.octets.proofs.number.Statement.{statement}
+use Rattle.octets.proofs.{Numbers.{num-none, num-more, num-small}, number.Statement.statement}
 use Rattle.octets.proofs.number.Tie as tie
 
 abbrev Inv-loop : tie.InvT-loop

@@ -1,14 +1,7 @@
 -- `octets::put` meets its contract: storing what is left of the number is what storing all of it was.
--- Assumes nothing.
-use Prim.Native.Nat.{_≤_}
-use mathlib.Core.Path.{_≡_, refl}
-use borrow.Author.Needs.{needs}
-use native.Mathlib.Omega.{arith}
-use lib.ListN.{length, length-set}
-use lib.Seq.{sets}
+use Rattle.octets.proofs.Kit.{_≤_, _≡_, refl, needs, arith, length, length-set, sets}
 use Rattle.octets.specs.Bytes.{bytesOf}
-use Rattle.octets.proofs.Stores.{put-again, put-end}
-use Rattle.octets.proofs.put.Statement.{statement}
+use Rattle.octets.proofs.{Stores.{put-again, put-end}, put.Statement.statement}
 use Rattle.octets.proofs.put.Tie as tie
 
 abbrev Inv-loop : tie.InvT-loop

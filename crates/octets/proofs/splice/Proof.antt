@@ -1,13 +1,6 @@
 -- `octets::splice` meets its contract. The invariant: dst is what it was with src's first j bytes pasted in from `at`.
--- Assumes nothing.
-use mathlib.Core.Path.{_≡_, refl}
-use Prim.Native.Nat.{_≤_, _-_}
-use native.Mathlib.Omega.{arith}
-use borrow.Author.Needs.{needs}
-use lib.ListN.{length, length-set}
-use lib.Seq.{paste, paste-zero}
-use Rattle.octets.proofs.Stores.{paste-more, paste-all}
-use Rattle.octets.proofs.splice.Statement.{statement}
+use Rattle.octets.proofs.Kit.{_≡_, refl, _≤_, _-_, arith, needs, length, length-set, paste, paste-zero}
+use Rattle.octets.proofs.{Stores.{paste-more, paste-all}, splice.Statement.statement}
 use Rattle.octets.proofs.splice.Tie as tie
 
 abbrev Inv-loop : tie.InvT-loop

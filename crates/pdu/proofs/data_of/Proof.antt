@@ -1,8 +1,6 @@
 -- `pdu::data_of` meets its contract.
--- Assumes nothing.
-use borrow.Author.Needs.{needs}
-use Rattle.pdu.proofs.promises.Writing.{rest-from, rest-past}
-use Rattle.pdu.proofs.data_of.Statement.{statement}
+use Rattle.octets.proofs.Kit.{needs}
+use Rattle.pdu.proofs.{promises.Writing.{rest-from, rest-past}, data_of.Statement.statement}
 use Rattle.pdu.proofs.data_of.Tie as tie
 
 pub data-of-spec : {M : Type 1} → statement M

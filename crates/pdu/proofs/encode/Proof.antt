@@ -1,8 +1,6 @@
 -- `pdu::encode` meets its contract.
--- Assumes nothing.
-use borrow.Author.Needs.{needs}
-use Rattle.pdu.proofs.promises.Writing.{put-all}
-use Rattle.pdu.proofs.encode.Statement.{statement}
+use Rattle.octets.proofs.Kit.{needs}
+use Rattle.pdu.proofs.{promises.Writing.put-all, encode.Statement.statement}
 use Rattle.pdu.proofs.encode.Tie as tie
 
 pub encode-spec : {M : Type 1} → statement M

@@ -1,30 +1,10 @@
 -- An APDU that reads, written again from its fields and its data, is the same but for what the table ignores.
--- Assumes nothing.
-use Prim.Native.Nat.{ℕ, _+_, _≤_, _<_}
-use mathlib.Core.Path.{_≡_, refl, _∙_}
-use mathlib.Core.Bool.{true}
-use mathlib.Core.List.{List}
-use native.Mathlib.Omega.{arith}
-use lib.ListN.{length, drop, length-drop}
-use Rattle.octets.specs.Bytes.{numAt}
-use Rattle.octets.specs.Octets.{Octets, ReadFrom}
-use Rattle.pdu.specs.Item.{Row, Value}
-use Rattle.pdu.specs.Table.{rowOf}
-use Rattle.pdu.specs.Pdus.{serviceOf, valuesOf}
-use Rattle.pdu.specs.Rules.{codeOf, headOf, codeFor}
-use Rattle.pdu.specs.Read.{readPdu, dataAt, dataOf}
-use Rattle.pdu.specs.Write.{encoded, writable}
-use Rattle.pdu.specs.Allows.{Typed, Carries}
-use Rattle.pdu.specs.Cleared.{Cleared}
-use Rattle.pdu.proofs.Formed.{Formed, formed-says, decoded, long-enough}
-use Rattle.pdu.proofs.Sound.{sound, shown}
-use Rattle.pdu.proofs.Stands.{Stands, stands, stands-wide, stands-low}
-use Rattle.pdu.proofs.promises.Codes.{has-is}
-use Rattle.pdu.proofs.promises.Outcomes.{reads-pdu}
-use Rattle.pdu.proofs.promises.Only.{writable-is}
-use Rattle.pdu.proofs.Kept.{cleared}
-use Rattle.pdu.specs.declared.Pdu.{Pdu}
-use Rattle.pdu.specs.declared.Parsed.the-variants.{Is}
+use Rattle.octets.proofs.Kit.{ℕ, _+_, _≤_, _≡_, refl, _∙_, true, List, arith, length, drop, length-drop}
+use Rattle.octets.specs.{Bytes.numAt, Octets.{Octets, ReadFrom}}
+use Rattle.pdu.specs.{Item.{Row, Value}, Table.rowOf, Pdus.{serviceOf, valuesOf}, Rules.{codeOf, headOf, codeFor}, Read.{readPdu, dataAt, dataOf}, Write.{encoded, writable}}
+use Rattle.pdu.specs.{Allows.{Typed, Carries}, Cleared.Cleared, declared.{Pdu.Pdu, Parsed.the-variants.Is}}
+use Rattle.pdu.proofs.{Formed.{Formed, formed-says, decoded, long-enough}, Sound.{sound, shown}, Stands.{Stands, stands, stands-wide, stands-low}, promises.Codes.has-is}
+use Rattle.pdu.proofs.{promises.{Outcomes.reads-pdu, Only.writable-is}, Kept.cleared}
 
 -- WRITE-BACK: what a call read may be written again, and is then the same but for what the table ignores
 pub write-back :

@@ -1,15 +1,8 @@
 -- The test of a row says what the row allows.
--- Assumes nothing.
-use Prim.Native.Nat.{ℕ, _+_, _*_, _≤_, _<_}
-use mathlib.Core.Path.{_≡_}
-use mathlib.Core.Logic.{_↔_, inl, inr, ⊎-elim}
-use mathlib.Core.Bool.{Bool, true, _&&_}
-use mathlib.Core.List.{List, [], _∷_}
-use lib.Dec.{leb, ltb, eqb}
-use Rattle.pdu.specs.Item.{Item, low, num, cap, duo, skip, Tail, none, by, twice, between, group, Row, Value, the}
-use Rattle.pdu.specs.Rules.{under, suits, fits, headOf}
-use Rattle.pdu.specs.Allows.{AllWithin, Length, Allows, AllWide}
+use Rattle.octets.proofs.Kit.{ℕ, _+_, _*_, _≤_, _<_, _≡_, _↔_, inl, inr, ⊎-elim, Bool, true, _&&_, List, [], _∷_, leb, ltb, eqb}
 use Rattle.octets.proofs.Truths.{and-is, or-is, below-is, at-most-is, equal-is}
+use Rattle.pdu.specs.{Item.{Item, low, num, cap, duo, skip, Tail, none, by, twice, between, group, Row, Value, the}, Rules.{under, suits, fits, headOf}}
+use Rattle.pdu.specs.Allows.{AllWithin, Length, Allows, AllWide}
 
 below-and : (y m : ℕ) (t : Bool) (A B : Type 0) → (t ≡ true) ↔ (A × B) → ((ltb y m && t) ≡ true) ↔ (((y < m) × A) × B)
 below-and y m t A B i = (

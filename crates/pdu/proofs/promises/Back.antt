@@ -1,28 +1,9 @@
 -- Reading back what was written gives the same PDU and the same data: over the table, for any row.
--- Assumes nothing.
-use Prim.Native.Nat.{ℕ, _+_}
-use mathlib.Core.Path.{_≡_, sym, ap, _∙_}
-use mathlib.Core.List.{List, _++_}
-use native.Mathlib.Omega.{arith}
-use lib.ListN.{length, take, drop}
-use lib.Seq.{take-at, drop-at}
-use Rattle.pdu.specs.Item.{Row, Value}
-use Rattle.pdu.specs.Table.{rowOf}
-use Rattle.pdu.specs.Pdus.{serviceOf, valuesOf}
-use Rattle.pdu.specs.Rules.{headBytes}
-use Rattle.pdu.specs.Read.{readPdu, dataAt, dataOf}
-use Rattle.pdu.specs.Write.{encoded, writeOutcome, writeCount, Wrote}
-use Rattle.pdu.specs.Allows.{Allows, Typed, Carries}
-use Rattle.pdu.proofs.Formed.{formed-says}
-use Rattle.pdu.proofs.Sound.{sound, shown}
-use Rattle.pdu.proofs.Items.{length-head, two-or-more, RowBack, row-back}
-use Rattle.pdu.proofs.promises.Outcomes.{carried}
-use Rattle.pdu.proofs.promises.Writing.{length-encoded}
-use Rattle.pdu.proofs.promises.Only.{writes-0}
-use Rattle.pdu.proofs.promises.Filled.{buffer-filled}
-use Rattle.pdu.specs.declared.Pdu.{Pdu}
-use Rattle.pdu.specs.declared.Parsed.the-variants.{Is}
-use Rattle.pdu.specs.declared.Written.{Written}
+use Rattle.octets.proofs.Kit.{ℕ, _+_, _≡_, sym, ap, _∙_, List, _++_, arith, length, take, drop, take-at, drop-at}
+use Rattle.pdu.specs.{Item.{Row, Value}, Table.rowOf, Pdus.{serviceOf, valuesOf}, Rules.headBytes, Read.{readPdu, dataAt, dataOf}, Write.{encoded, writeOutcome, writeCount, Wrote}}
+use Rattle.pdu.specs.{Allows.{Allows, Typed, Carries}, declared.{Pdu.Pdu, Parsed.the-variants.Is, Written.Written}}
+use Rattle.pdu.proofs.{Formed.formed-says, Sound.{sound, shown}, Items.{length-head, two-or-more, RowBack, row-back}, promises.{Outcomes.carried, Writing.length-encoded}}
+use Rattle.pdu.proofs.promises.{Only.writes-0, Filled.buffer-filled}
 
 -- the bytes of a PDU carry it
 encoded-carries : (p : Pdu) (d : List ℕ) → Allows (rowOf (serviceOf p)) (valuesOf p) (dataAt p + length d) → Carries (encoded p d) p

@@ -1,23 +1,12 @@
 -- No code lies in two rows, and the list of the services is complete.
--- Assumes nothing.
-use Prim.Native.Nat.{ℕ, zero, suc, _+_, _≤_, _<_}
-use mathlib.Core.Path.{_≡_, refl, ap, subst, _∙_}
-use mathlib.Core.Logic.{_↔_, ⊎-elim}
-use mathlib.Core.Bool.{Bool, true, false, cond, _&&_, _||_}
-use mathlib.Core.List.{List, [], _∷_}
-use mathlib.Core.Option.{some}
-use native.Mathlib.Omega.{arith}
-use lib.Dec.{leb, ltb}
-use lib.ListN.{getElem?}
-use borrow.Author.Tests.{leb-true, ltb-true, le-leb, lt-ltb}
-use Rattle.pdu.specs.Item.{Row}
-use Rattle.pdu.specs.Table.{rowOf, services, has, find, serviceAt}
+use Rattle.octets.proofs.Kit.{ℕ, zero, suc, _+_, _≤_, _<_, _≡_, refl, ap, subst, _∙_, _↔_, ⊎-elim, Bool, true, false, cond, _&&_, _||_, List, [], _∷_, some, arith, leb, ltb, getElem?}
+use Rattle.octets.proofs.Kit.{leb-true, ltb-true, le-leb, lt-ltb}
 use Rattle.octets.proofs.Truths.{and-is, or-is, decided}
-use Rattle.pdu.specs.declared.Service.{Service}
-use Rattle.pdu.specs.declared.Service.the-variants.{GroupValueRead, GroupValueResponse, GroupValueWrite, IndividualAddressWrite, IndividualAddressRead, SerialNumberRead, SerialNumberWrite}
-use Rattle.pdu.specs.declared.Service.the-variants.{DeviceDescriptorRead, PropertyValueRead, PropertyValueWrite, PropertyDescriptionRead, MemoryRead, MemoryWrite, MemoryBitWrite}
-use Rattle.pdu.specs.declared.Service.the-variants.{AuthorizeRequest, KeyWrite, Restart, IndividualAddressResponse, SerialNumberResponse, DeviceDescriptorResponse, PropertyValueResponse}
-use Rattle.pdu.specs.declared.Service.the-variants.{PropertyDescriptionResponse, MemoryResponse, AuthorizeResponse, KeyResponse, UserMemoryRead, UserMemoryResponse, UserMemoryWrite}
+use Rattle.pdu.specs.{Item.Row, Table.{rowOf, services, has, find, serviceAt}, declared.Service.{Service, the-variants.{GroupValueRead, GroupValueResponse, GroupValueWrite}}}
+use Rattle.pdu.specs.declared.Service.the-variants.{IndividualAddressWrite, IndividualAddressRead, SerialNumberRead, SerialNumberWrite, DeviceDescriptorRead, PropertyValueRead}
+use Rattle.pdu.specs.declared.Service.the-variants.{PropertyValueWrite, PropertyDescriptionRead, MemoryRead, MemoryWrite, MemoryBitWrite, AuthorizeRequest, KeyWrite, Restart}
+use Rattle.pdu.specs.declared.Service.the-variants.{IndividualAddressResponse, SerialNumberResponse, DeviceDescriptorResponse, PropertyValueResponse, PropertyDescriptionResponse}
+use Rattle.pdu.specs.declared.Service.the-variants.{MemoryResponse, AuthorizeResponse, KeyResponse, UserMemoryRead, UserMemoryResponse, UserMemoryWrite}
 use Rattle.pdu.specs.declared.Found.the-variants.{Listed, Unknown}
 
 -- EVERY SERVICE IS IN THE LIST, at this place

@@ -1,19 +1,8 @@
 -- The count of a writing and what it leaves in the buffer, by its number.
--- Assumes nothing.
-use Prim.Native.Nat.{ℕ, _+_, _<_}
-use mathlib.Core.Path.{_≡_, refl, sym, ap, _∙_}
-use mathlib.Core.List.{List, _++_}
-use native.Mathlib.Omega.{arith}
-use lib.ListN.{length, drop}
+use Rattle.octets.proofs.Kit.{ℕ, _+_, _<_, _≡_, refl, sym, ap, _∙_, List, _++_, arith, length, drop}
 use Rattle.octets.proofs.Splices.{splice-front}
-use Rattle.pdu.specs.Read.{dataAt}
-use Rattle.pdu.specs.Write.{encoded, writeOf, writeOutcome, writeCount, bufferOf, Wrote}
-use Rattle.pdu.proofs.promises.Refusals.{unwritten-is}
-use Rattle.pdu.proofs.promises.Only.{written}
-use Rattle.pdu.proofs.promises.Writing.{length-encoded}
-use Rattle.pdu.specs.declared.Pdu.{Pdu}
-use Rattle.pdu.specs.declared.Written.{Written}
-use Rattle.pdu.specs.declared.Written.the-variants.{Bytes, Refused}
+use Rattle.pdu.specs.{Read.dataAt, Write.{encoded, writeOf, writeOutcome, writeCount, bufferOf, Wrote}, declared.{Pdu.Pdu, Written.{Written, the-variants.{Bytes, Refused}}}}
+use Rattle.pdu.proofs.promises.{Refusals.unwritten-is, Only.written, Writing.length-encoded}
 
 -- what is not 0 is a refusal
 refusal : (r : Written) → (writeOutcome r ≡ 0 → ⊥) → r ≡ Refused (writeOutcome r)

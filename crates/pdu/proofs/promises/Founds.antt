@@ -1,20 +1,7 @@
 -- What a code names, by its number; a reading has 8 by it.
--- Assumes nothing.
-use Prim.Native.Nat.{ℕ, _≤_}
-use mathlib.Core.Path.{_≡_, refl, ap}
-use mathlib.Core.Logic.{_↔_, _⊎_, inl, inr}
-use mathlib.Core.Bool.{true, false}
-use mathlib.Core.List.{List}
-use native.Mathlib.Omega.{arith}
-use lib.ListN.{length}
-use Rattle.pdu.specs.Table.{rowOf, has, serviceAt, foundOutcome}
-use Rattle.pdu.specs.Rules.{codeOf}
-use Rattle.pdu.specs.Read.{readPdu, readOutcome}
-use Rattle.pdu.proofs.promises.Codes.{found, named, unknown}
-use Rattle.pdu.proofs.promises.Outcomes.{reads-8}
-use Rattle.pdu.specs.declared.Service.{Service}
-use Rattle.pdu.specs.declared.Found.{Found}
-use Rattle.pdu.specs.declared.Found.the-variants.{Listed, Unknown}
+use Rattle.octets.proofs.Kit.{ℕ, _≤_, _≡_, refl, ap, _↔_, _⊎_, inl, inr, true, false, List, arith, length}
+use Rattle.pdu.specs.{Table.{rowOf, has, serviceAt, foundOutcome}, Rules.codeOf, Read.{readPdu, readOutcome}, declared.{Service.Service, Found.{Found, the-variants.{Listed, Unknown}}}}
+use Rattle.pdu.proofs.promises.{Codes.{found, named, unknown}, Outcomes.reads-8}
 
 -- NO OTHER NUMBER IS GIVEN
 pub found-one : (c : ℕ) → (foundOutcome (serviceAt c) ≡ 0) ⊎ (foundOutcome (serviceAt c) ≡ 8)

@@ -1,24 +1,10 @@
 -- When writing gives each of its numbers: only what the row allows is written, and all of it.
--- Assumes nothing.
-use Prim.Native.Nat.{ℕ, _+_, _≤_, _<_}
-use mathlib.Core.Path.{_≡_, refl, sym, ap, _∙_}
-use mathlib.Core.Logic.{_↔_, _⊎_, inl, inr, ⊎-elim}
-use mathlib.Core.Bool.{Bool, true, false, cond}
-use mathlib.Core.List.{List}
-use native.Mathlib.Omega.{arith}
-use lib.Dec.{leb, ltb}
-use lib.ListN.{length}
-use borrow.Author.Tests.{ltb-true, ltb-false, lt-ltb, le-ltb}
-use Rattle.pdu.specs.Table.{rowOf}
-use Rattle.pdu.specs.Pdus.{serviceOf, valuesOf}
-use Rattle.pdu.specs.Read.{dataAt}
-use Rattle.pdu.specs.Write.{fitsIn, writable, writeOf, writeOutcome}
-use Rattle.pdu.specs.Allows.{Allows, Typed}
+use Rattle.octets.proofs.Kit.{ℕ, _+_, _≤_, _<_, _≡_, refl, sym, ap, _∙_, _↔_, _⊎_, inl, inr, ⊎-elim, Bool, true, false, cond, List, arith, leb, ltb, length, ltb-true, ltb-false, lt-ltb}
+use Rattle.octets.proofs.Kit.{le-ltb}
 use Rattle.octets.proofs.Truths.{never, decided, and-is, at-most-is}
+use Rattle.pdu.specs.{Table.rowOf, Pdus.{serviceOf, valuesOf}, Read.dataAt, Write.{fitsIn, writable, writeOf, writeOutcome}, Allows.{Allows, Typed}, declared.Pdu.Pdu}
+use Rattle.pdu.specs.declared.Written.{Written, the-variants.{Bytes, Refused}}
 use Rattle.pdu.proofs.promises.Allowed.{fits-is}
-use Rattle.pdu.specs.declared.Pdu.{Pdu}
-use Rattle.pdu.specs.declared.Written.{Written}
-use Rattle.pdu.specs.declared.Written.the-variants.{Bytes, Refused}
 
 -- THE TEST BEFORE WRITING SAYS WHAT THE ROW ALLOWS
 pub writable-is : (p : Pdu) (d : List ℕ) → Typed p → (writable p d ≡ true) ↔ Allows (rowOf (serviceOf p)) (valuesOf p) (dataAt p + length d)

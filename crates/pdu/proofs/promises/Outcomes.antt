@@ -1,32 +1,9 @@
 -- When reading gives each of its numbers, and which PDU with 0.
--- Assumes nothing.
-use Prim.Native.Nat.{ℕ, _≤_, _<_}
-use mathlib.Core.Path.{_≡_, refl, sym, ap, _∙_}
-use mathlib.Core.Logic.{_↔_, _⊎_, inl, inr, ⊎-elim}
-use mathlib.Core.Bool.{Bool, true, false, cond}
-use mathlib.Core.List.{List}
-use native.Mathlib.Omega.{arith}
-use lib.Dec.{ltb}
-use lib.ListN.{length}
-use borrow.Author.Tests.{ltb-true, ltb-false, lt-ltb, le-ltb}
-use Rattle.pdu.specs.Table.{rowOf, has, serviceAt}
-use Rattle.pdu.specs.Pdus.{serviceOf, valuesOf, pduOf}
-use Rattle.pdu.specs.Rules.{codeOf, valuesAt, fits}
-use Rattle.pdu.specs.Read.{builtOf, readFound, readPdu, readOutcome}
-use Rattle.pdu.specs.Allows.{Allows, Carries}
-use Rattle.octets.specs.Octets.{Octets, ReadFrom}
-use Rattle.octets.proofs.Truths.{never, decided, must-fail}
-use Rattle.pdu.proofs.promises.Allowed.{fits-is, wide}
-use Rattle.pdu.proofs.Sound.{sound, again}
-use Rattle.pdu.proofs.Stands.{stands, stands-wide}
-use Rattle.pdu.proofs.promises.Codes.{found, named, unknown}
-use Rattle.pdu.proofs.promises.Readings.{reading}
-use Rattle.pdu.specs.declared.Service.{Service}
-use Rattle.pdu.specs.declared.Found.{Found}
-use Rattle.pdu.specs.declared.Found.the-variants.{Listed, Unknown}
-use Rattle.pdu.specs.declared.Pdu.{Pdu}
-use Rattle.pdu.specs.declared.Parsed.{Parsed}
-use Rattle.pdu.specs.declared.Parsed.the-variants.{Is, Refused}
+use Rattle.octets.proofs.Kit.{ℕ, _≤_, _<_, _≡_, refl, sym, ap, _∙_, _↔_, _⊎_, inl, inr, ⊎-elim, Bool, true, false, cond, List, arith, ltb, length, ltb-true, ltb-false, lt-ltb, le-ltb}
+use Rattle.octets.{specs.Octets.{Octets, ReadFrom}, proofs.Truths.{never, decided, must-fail}}
+use Rattle.pdu.specs.{Table.{rowOf, has, serviceAt}, Pdus.{serviceOf, pduOf}, Rules.{codeOf, valuesAt, fits}, Read.{builtOf, readFound, readPdu, readOutcome}, Allows.{Allows, Carries}}
+use Rattle.pdu.specs.declared.{Service.Service, Found.{Found, the-variants.{Listed, Unknown}}, Pdu.Pdu, Parsed.{Parsed, the-variants.{Is, Refused}}}
+use Rattle.pdu.proofs.{promises.Allowed.{fits-is, wide}, Sound.{sound, again}, Stands.{stands, stands-wide}, promises.{Codes.{found, named, unknown}, Readings.reading}}
 
 -- an APDU is 2 to 16 bytes long
 record Sized (b : List ℕ) : Type 0 where

@@ -1,25 +1,8 @@
 -- What is known of an APDU that reads, whatever its bytes: its service, its fields, and that its row lets them stand.
--- Assumes nothing.
-use Prim.Native.Nat.{ℕ, _≤_}
-use mathlib.Core.Path.{_≡_, refl, sym, ap, subst, _∙_}
-use mathlib.Core.Bool.{Bool, true, false, cond}
-use mathlib.Core.List.{List}
-use native.Mathlib.Omega.{arith}
-use lib.Dec.{ltb}
-use lib.ListN.{length}
-use borrow.Author.Tests.{ltb-false, le-ltb}
-use Rattle.pdu.specs.Item.{Value}
-use Rattle.pdu.specs.Table.{rowOf, serviceAt}
-use Rattle.pdu.specs.Pdus.{serviceOf, valuesOf}
-use Rattle.pdu.specs.Rules.{codeOf, valuesAt, fits}
-use Rattle.pdu.specs.Read.{builtOf, readFound, readPdu}
-use Rattle.pdu.specs.Write.{fitsIn}
+use Rattle.octets.proofs.Kit.{ℕ, _≤_, _≡_, refl, sym, ap, subst, _∙_, Bool, true, false, cond, List, arith, ltb, length, ltb-false, le-ltb}
+use Rattle.pdu.specs.{Item.Value, Table.{rowOf, serviceAt}, Pdus.{serviceOf, valuesOf}, Rules.{codeOf, valuesAt, fits}, Read.{builtOf, readFound, readPdu}, Write.fitsIn}
+use Rattle.pdu.specs.declared.{Service.Service, Found.{Found, the-variants.{Listed, Unknown}}, Pdu.Pdu, Parsed.the-variants.{Is, Refused}}
 use Rattle.pdu.proofs.Sound.{sound}
-use Rattle.pdu.specs.declared.Service.{Service}
-use Rattle.pdu.specs.declared.Found.{Found}
-use Rattle.pdu.specs.declared.Found.the-variants.{Listed, Unknown}
-use Rattle.pdu.specs.declared.Pdu.{Pdu}
-use Rattle.pdu.specs.declared.Parsed.the-variants.{Is, Refused}
 
 pub record Reading (b : List ℕ) (p : Pdu) : Type 0 where
   pub least : 2 ≤ length b

@@ -1,14 +1,7 @@
 -- A number that is not 0 is a refusal by it.
--- Assumes nothing.
-use Prim.Native.Nat.{ℕ, _<_}
-use mathlib.Core.Path.{_≡_, ap}
-use mathlib.Core.Logic.{_↔_}
-use native.Mathlib.Omega.{arith}
-use Rattle.pdu.specs.Read.{readOutcome}
-use Rattle.pdu.specs.Write.{writeOutcome}
-use Rattle.pdu.specs.declared.Parsed.{Parsed}
+use Rattle.octets.proofs.Kit.{ℕ, _<_, _≡_, ap, _↔_, arith}
+use Rattle.pdu.specs.{Read.readOutcome, Write.writeOutcome, declared.{Parsed.Parsed, Written.Written}}
 use Rattle.pdu.specs.declared.Parsed.the-variants as parsed
-use Rattle.pdu.specs.declared.Written.{Written}
 use Rattle.pdu.specs.declared.Written.the-variants as written
 
 -- OF A READING

@@ -1,22 +1,12 @@
 -- Worked examples: the figures of the standards (004: 8 to 46; 003: 6, 12, 13, 35, 36, 41, 57 to 59, 64 to 68), filled with the values of the sample sheet.
--- Assumes nothing.
-use Prim.Native.Nat.{ℕ}
-use mathlib.Core.Path.{_≡_, refl}
-use mathlib.Core.List.{List, [], _∷_, map}
-use lib.ListN.{replicate}
+use Rattle.octets.proofs.Kit.{ℕ, _≡_, refl, List, [], _∷_, map, replicate}
 use Rattle.octets.specs.Bytes.{numAt, bytesOf}
-use Rattle.pdu.specs.Table.{rowOf, services, find}
-use Rattle.pdu.specs.Rules.{lowAt, fourAt, twelveAt, headBytes}
-use Rattle.pdu.specs.Read.{readPdu, readOutcome, dataOf}
-use Rattle.pdu.specs.Write.{encoded}
-use Rattle.pdu.specs.declared.Service.{Service}
-use Rattle.pdu.specs.declared.Pdu.{Pdu}
-use Rattle.pdu.specs.declared.Pdu.the-variants.{GroupValueRead, GroupValueResponse, GroupValueWrite, IndividualAddressWrite, IndividualAddressRead, SerialNumberRead, SerialNumberWrite}
-use Rattle.pdu.specs.declared.Pdu.the-variants.{DeviceDescriptorRead, PropertyValueRead, PropertyValueWrite, PropertyDescriptionRead, MemoryRead, MemoryWrite, MemoryBitWrite}
-use Rattle.pdu.specs.declared.Pdu.the-variants.{AuthorizeRequest, KeyWrite, Restart, IndividualAddressResponse, SerialNumberResponse, DeviceDescriptorResponse, PropertyValueResponse}
-use Rattle.pdu.specs.declared.Pdu.the-variants.{PropertyDescriptionResponse, MemoryResponse, AuthorizeResponse, KeyResponse, UserMemoryRead, UserMemoryResponse, UserMemoryWrite}
-use Rattle.pdu.specs.declared.Parsed.{Parsed}
-use Rattle.pdu.specs.declared.Parsed.the-variants.{Is}
+use Rattle.pdu.specs.{Table.{rowOf, services, find}, Rules.{lowAt, fourAt, twelveAt, headBytes}, Read.{readPdu, readOutcome, dataOf}, Write.encoded, declared.Service.Service}
+use Rattle.pdu.specs.declared.Pdu.{Pdu, the-variants.{GroupValueRead, GroupValueResponse, GroupValueWrite, IndividualAddressWrite, IndividualAddressRead, SerialNumberRead}}
+use Rattle.pdu.specs.declared.Pdu.the-variants.{SerialNumberWrite, DeviceDescriptorRead, PropertyValueRead, PropertyValueWrite, PropertyDescriptionRead, MemoryRead, MemoryWrite}
+use Rattle.pdu.specs.declared.Pdu.the-variants.{MemoryBitWrite, AuthorizeRequest, KeyWrite, Restart, IndividualAddressResponse, SerialNumberResponse, DeviceDescriptorResponse}
+use Rattle.pdu.specs.declared.Pdu.the-variants.{PropertyValueResponse, PropertyDescriptionResponse, MemoryResponse, AuthorizeResponse, KeyResponse, UserMemoryRead, UserMemoryResponse}
+use Rattle.pdu.specs.declared.{Pdu.the-variants.UserMemoryWrite, Parsed.{Parsed, the-variants.Is}}
 
 -- an APDU, the PDU that it is, its data, and the APDU that writing these gives
 pub record Example : Type 0 where

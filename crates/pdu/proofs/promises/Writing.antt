@@ -1,28 +1,10 @@
 -- From what the parts of a write ensure to what writing gives, and where the data stands.
--- Assumes nothing.
-use Prim.Native.Nat.{ℕ, _+_, _-_, _≤_, _<_}
-use mathlib.Core.Path.{_≡_, refl, sym, ap, _∙_}
-use mathlib.Core.Bool.{Bool, true, false}
-use mathlib.Core.List.{List}
-use native.Mathlib.Omega.{arith}
-use lib.Dec.{leb}
-use lib.ListN.{length, take, drop, length-append, length-drop, drop-of-length-le}
-use lib.Seq.{take-all, drop-length}
-use borrow.Author.Tests.{lt-ltb, le-ltb, le-leb, lt-leb}
-use Rattle.octets.specs.Splice.{splice}
-use Rattle.octets.proofs.Splices.{length-splice}
-use Rattle.octets.proofs.Tests.{not-second}
-use Rattle.pdu.specs.Item.{Row}
-use Rattle.pdu.specs.Table.{rowOf}
-use Rattle.pdu.specs.Pdus.{serviceOf, valuesOf}
-use Rattle.pdu.specs.Rules.{headBytes}
-use Rattle.pdu.specs.Read.{dataAt, dataOf}
-use Rattle.pdu.specs.Write.{encoded, fitsIn, writable, writeOf, Wrote}
-use Rattle.pdu.proofs.Items.{length-head}
-use Rattle.pdu.proofs.Stores.{longer}
-use Rattle.octets.proofs.Truths.{and-is, at-most-is}
-use Rattle.pdu.specs.declared.Pdu.{Pdu}
+use Rattle.octets.proofs.Kit.{ℕ, _+_, _-_, _≤_, _<_, _≡_, refl, sym, ap, _∙_, Bool, true, false, List, arith, leb, length, take, drop, length-append, length-drop, drop-of-length-le}
+use Rattle.octets.proofs.Kit.{take-all, drop-length, lt-ltb, le-ltb, le-leb, lt-leb}
+use Rattle.octets.{specs.Splice.splice, proofs.{Splices.length-splice, Tests.not-second, Truths.{and-is, at-most-is}}}
+use Rattle.pdu.specs.{Item.Row, Table.rowOf, Pdus.{serviceOf, valuesOf}, Rules.headBytes, Read.{dataAt, dataOf}, Write.{encoded, fitsIn, writable, writeOf, Wrote}, declared.Pdu.Pdu}
 use Rattle.pdu.specs.declared.Written.the-variants.{Bytes, Refused}
+use Rattle.pdu.proofs.{Items.length-head, Stores.longer}
 
 -- the bytes of a PDU are as many as its place of data and its data say
 pub length-encoded : (p : Pdu) (d : List ℕ) → length (encoded p d) ≡ dataAt p + length d

@@ -1,8 +1,6 @@
 -- `pdu::read` meets its contract.
--- Assumes nothing.
-use borrow.Author.Needs.{needs}
-use Rattle.pdu.proofs.Reading.{named}
-use Rattle.pdu.proofs.read.Statement.{statement}
+use Rattle.octets.proofs.Kit.{needs}
+use Rattle.pdu.proofs.{Reading.named, read.Statement.statement}
 use Rattle.pdu.proofs.read.Tie as tie
 
 pub read-spec : {M : Type 1} → statement M

@@ -1,8 +1,6 @@
 -- `pdu::read_found` meets its contract.
--- Assumes nothing.
-use borrow.Author.Needs.{needs}
-use Rattle.pdu.proofs.Reading.{too-short, too-long, by-code, no-code}
-use Rattle.pdu.proofs.read_found.Statement.{statement}
+use Rattle.octets.proofs.Kit.{needs}
+use Rattle.pdu.proofs.{Reading.{too-short, too-long, by-code, no-code}, read_found.Statement.statement}
 use Rattle.pdu.proofs.read_found.Tie as tie
 
 pub read-found-spec : {M : Type 1} → statement M

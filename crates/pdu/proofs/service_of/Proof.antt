@@ -1,10 +1,7 @@
 -- `pdu::service_of` meets its contract: a code by itself is looked up by computation, a range by the law of its row, and the rest is none of the keys.
--- Assumes nothing.
-use native.Mathlib.Omega.{arith}
-use mathlib.Core.List.{[], _∷_}
+use Rattle.octets.proofs.Kit.{arith, [], _∷_}
 use Rattle.pdu.specs.Table.{services, find}
-use Rattle.pdu.proofs.Find.{found, lost, outside, via-code}
-use Rattle.pdu.proofs.service_of.Statement.{statement}
+use Rattle.pdu.proofs.{Find.{found, lost, outside, via-code}, service_of.Statement.statement}
 use Rattle.pdu.proofs.service_of.Tie as tie
 
 pub service-of-spec : {M : Type 1} → statement M

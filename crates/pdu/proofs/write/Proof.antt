@@ -1,8 +1,6 @@
 -- `pdu::write` meets its contract: each return by its law.
--- Assumes nothing.
-use borrow.Author.Needs.{needs}
-use Rattle.pdu.proofs.promises.Writing.{wrote-3, wrote-long, wrote-13, wrote-all, same-room}
-use Rattle.pdu.proofs.write.Statement.{statement}
+use Rattle.octets.proofs.Kit.{needs}
+use Rattle.pdu.proofs.{promises.Writing.{wrote-3, wrote-long, wrote-13, wrote-all, same-room}, write.Statement.statement}
 use Rattle.pdu.proofs.write.Tie as tie
 
 pub write-spec : {M : Type 1} → statement M

@@ -1,8 +1,5 @@
 -- `pdu_cases::with_all` is safe and ends: the place rises to the end.
--- Assumes nothing.
-use Prim.Native.Nat.{_≤_, _-_}
-use borrow.Author.Needs.{needs}
-use lib.ListN.{length}
+use Rattle.octets.proofs.Kit.{_≤_, _-_, needs, length}
 use Rattle.pdu_cases.proofs.with_all.Statement.{statement}
 use Rattle.pdu_cases.proofs.with_all.Tie as tie
 

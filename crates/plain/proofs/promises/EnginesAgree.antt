@@ -1,14 +1,6 @@
 -- BOTH ENGINES GIVE THE SAME: `device::request` and `plain::request` have one contract, and it leaves no result open.
--- Assumes nothing.
-use Prim.Native.Nat.{ℕ}
-use mathlib.Core.Path.{_≡_, sym, ap₂, subst, _∙_}
-use mathlib.Core.List.{List}
-use lib.ListN.{take}
-use Rattle.device.specs.Events.{Called}
-use Rattle.device.specs.Changed.{Requested}
-use Rattle.device.specs.declared.Made.{Made}
-use Rattle.device.specs.declared.Sessions.{Sessions}
-use Rattle.device.specs.declared.Done.{Done}
+use Rattle.octets.proofs.Kit.{ℕ, _≡_, sym, ap₂, subst, _∙_, List, take}
+use Rattle.device.specs.{Events.Called, Changed.Requested, declared.{Made.Made, Sessions.Sessions, Done.Done}}
 use Rattle.plain.specs.Same.{Same}
 
 -- for every sheet, accepted or not and under whichever rules, sessions, mode, connection, group address, APDU and buffer

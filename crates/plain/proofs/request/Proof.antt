@@ -1,17 +1,11 @@
 -- `plain::request` meets its contract.
--- Assumes nothing.
-use mathlib.Core.Path.{_≡_}
-use Prim.Native.Nat.{_≤_}
-use borrow.Author.Needs.{needs}
-use lib.ListN.{length}
+use Rattle.octets.proofs.Kit.{_≡_, _≤_, needs, length}
 use Rattle.octets.specs.Octets.{Octets}
 use Rattle.sheet.specs.Rules.{Accepted}
 use Rattle.pdu.specs.Read.{readPdu}
-use Rattle.judge.specs.Session.{levelIn}
-use Rattle.judge.specs.Judge.{readOf, judgeOf}
+use Rattle.judge.specs.{Session.levelIn, Judge.{readOf, judgeOf}}
 use Rattle.plain.proofs.Ordered.{first-due, roomy, accepted, next-due, reads-next, found-as, rules-as}
-use Rattle.plain.proofs.Requesting.{held, requested, refused-called, unread-called, carry-needs, served-called}
-use Rattle.plain.proofs.request.Statement.{statement}
+use Rattle.plain.proofs.{Requesting.{held, requested, refused-called, unread-called, carry-needs, served-called}, request.Statement.statement}
 use Rattle.plain.proofs.request.Tie as tie
 
 -- what is known behind the first tests: the session that is met, the arguments, that sheet and APDU are bytes

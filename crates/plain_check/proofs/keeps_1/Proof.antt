@@ -1,7 +1,5 @@
 -- `plain_check::keeps_1` meets its contract.
--- Assumes nothing.
-use Rattle.plain_check.proofs.Saying.{saying}
-use Rattle.plain_check.proofs.keeps_1.Statement.{statement}
+use Rattle.plain_check.proofs.{Saying.saying, keeps_1.Statement.statement}
 use Rattle.plain_check.proofs.keeps_1.Tie as tie
 
 pub keeps-1-spec : {M : Type 1} → statement M

@@ -1,8 +1,6 @@
 -- `plain_check::keeps_2` meets its contract.
--- Assumes nothing.
-use borrow.Author.Needs.{needs}
-use Rattle.plain_check.proofs.Tested.{second}
-use Rattle.plain_check.proofs.keeps_2.Statement.{statement}
+use Rattle.octets.proofs.Kit.{needs}
+use Rattle.plain_check.proofs.{Tested.second, keeps_2.Statement.statement}
 use Rattle.plain_check.proofs.keeps_2.Tie as tie
 
 pub keeps-2-spec : {M : Type 1} → statement M

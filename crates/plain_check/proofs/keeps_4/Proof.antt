@@ -1,8 +1,6 @@
 -- `plain_check::keeps_4` meets its contract.
--- Assumes nothing.
-use borrow.Author.Needs.{needs}
-use Rattle.plain_check.proofs.Tested.{fourth}
-use Rattle.plain_check.proofs.keeps_4.Statement.{statement}
+use Rattle.octets.proofs.Kit.{needs}
+use Rattle.plain_check.proofs.{Tested.fourth, keeps_4.Statement.statement}
 use Rattle.plain_check.proofs.keeps_4.Tie as tie
 
 pub keeps-4-spec : {M : Type 1} → statement M

@@ -1,8 +1,6 @@
 -- `plain_check::refusal` meets its contract.
--- Assumes nothing.
-use borrow.Author.Needs.{needs}
-use Rattle.plain_check.proofs.Refusing.{says-bad, says-retired, says-none}
-use Rattle.plain_check.proofs.refusal.Statement.{statement}
+use Rattle.octets.proofs.Kit.{needs}
+use Rattle.plain_check.proofs.{Refusing.{says-bad, says-retired, says-none}, refusal.Statement.statement}
 use Rattle.plain_check.proofs.refusal.Tie as tie
 
 pub refusal-spec : {M : Type 1} → statement M

@@ -1,9 +1,6 @@
 -- `plain_host::kelindap_plain_request` meets its contract.
--- Assumes nothing.
-use borrow.Author.Needs.{needs}
-use native.Mathlib.Omega.{arith}
-use Rattle.plain_host.proofs.Replies.{few, as-given}
-use Rattle.plain_host.proofs.kelindap_plain_request.Statement.{statement}
+use Rattle.octets.proofs.Kit.{needs, arith}
+use Rattle.plain_host.proofs.{Replies.{few, as-given}, kelindap_plain_request.Statement.statement}
 use Rattle.plain_host.proofs.kelindap_plain_request.Tie as tie
 
 pub kelindap-plain-request-spec : {M : Type 1} → statement M

@@ -1,17 +1,9 @@
 -- A TRACE PLAYS ON THE CONVERSION OF AN OLD SHEET AS IT DID ON THE OLD SHEET in the release before: as many events, the same log, the same sessions, and the sheet with 2 in byte 0. Assumes nothing.
-use Prim.Native.Nat.{ℕ, _+_, _-_, _*_, _<_, min}
-use mathlib.Core.Path.{_≡_, _∙_, ap₂}
-use mathlib.Core.List.{List, _∷_, _++_}
-use lib.ListN.{length, take, drop, replicate}
-use Rattle.sheet.specs.Rules.{Old}
-use Rattle.sheet.specs.Convert.{conversionOf}
-use Rattle.device.specs.Events.{Effect}
-use Rattle.device.specs.declared.Sessions.{Sessions}
-use Rattle.events.specs.Before.{eventBefore, runBefore, AsBefore}
-use Rattle.events.proofs.promises.Renewal.{answers-as-before, runs-as-before}
-use Rattle.playback.specs.Trace.{room, eventAt, eventsFrom}
-use Rattle.playback.specs.Playing.{at, line, lineOf, dueOf, Playing}
-use Rattle.playback.specs.declared.Played.{Played}
+use Rattle.octets.proofs.Kit.{ℕ, _+_, _-_, _*_, _<_, min, _≡_, _∙_, ap₂, List, _∷_, _++_, length, take, drop, replicate}
+use Rattle.sheet.specs.{Rules.Old, Convert.conversionOf}
+use Rattle.device.specs.{Events.Effect, declared.Sessions.Sessions}
+use Rattle.events.{specs.Before.{eventBefore, runBefore, AsBefore}, proofs.promises.Renewal.{answers-as-before, runs-as-before}}
+use Rattle.playback.specs.{Trace.{room, eventAt, eventsFrom}, Playing.{at, line, lineOf, dueOf, Playing}, declared.Played.Played}
 use Rattle.playback.proofs.promises.PlayRuns.{handles, played-is-run}
 
 -- the same line of the log

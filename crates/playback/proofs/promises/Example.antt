@@ -1,32 +1,13 @@
 -- A TRACE BYTE BY BYTE: connect on connection 1, a request on it, the button on and off, a disconnect on connection 0. Assumes nothing.
-use Prim.Native.Nat.{ℕ}
-use mathlib.Core.Path.{_≡_, refl}
-use mathlib.Core.Bool.{true, false}
-use mathlib.Core.List.{List, [], _∷_}
-use Rattle.octets.specs.Bytes.{numAt}
-use Rattle.sheet.specs.Demand.{breach}
-use Rattle.sheet.specs.First.{first}
-use Rattle.events.specs.Events.{Event, connect, disconnect, button, request}
-use Rattle.playback.specs.Trace.{blank, entryOf, eventIn, eventsFrom, traceOf}
-use Rattle.octets.specs.Bytes.{bytesOf}
-use Rattle.octets.specs.Splice.{splice}
-use Rattle.sheet.specs.Head.{rulesOf}
-use Rattle.sheet.specs.Entries.{entry, keyOf, floor, bodyEnd, startOf, reached as reachedIn, sixBits}
+use Rattle.octets.proofs.Kit.{ℕ, _≡_, refl, true, false, List, [], _∷_}
+use Rattle.octets.specs.{Bytes.{numAt, bytesOf}, Splice.splice}
+use Rattle.sheet.specs.{Demand.breach, First.first, Head.rulesOf, Entries.{entry, keyOf, floor, bodyEnd, startOf, reached as reachedIn, sixBits}}
 use Rattle.sheet.specs.Rules.{entryDemands, bodyDemands, entryRule, bodyRule, entriesRule, bodiesRule, walkRule as sheetWalk, restRule, ruleIn, verdictOf}
-use Rattle.pdu.specs.Table.{find}
-use Rattle.pdu.specs.Rules.{lowAt, headBytes}
-use Rattle.pdu.specs.Read.{readPdu, dataOf}
-use Rattle.pdu.specs.Write.{encoded}
-use Rattle.judge.specs.Session.{levelOf, levelIn}
-use Rattle.judge.specs.Addresses.{descriptorOf}
-use Rattle.judge.specs.Judge.{reachedOf, isShut, judgeOf}
-use Rattle.device.specs.Step.{stepBy, stepOf}
-use Rattle.device.specs.Marked.{sample}
-use Rattle.device.specs.Sessions.{freshOf}
-use Rattle.device.specs.Events.{pressed, buttonOutcome, buttonSheet, requestOf}
-use Rattle.events.specs.Events.{eventOf, after}
-use Rattle.playback.specs.Playing.{at, lineOf, logOf}
-use Rattle.playback.specs.Rules.{reached, headRule, eventRule, walkRule, refusalOf, Playable}
+use Rattle.pdu.specs.{Table.find, Rules.{lowAt, headBytes}, Read.{readPdu, dataOf}, Write.encoded}
+use Rattle.judge.specs.{Session.{levelOf, levelIn}, Addresses.descriptorOf, Judge.{reachedOf, isShut, judgeOf}}
+use Rattle.device.specs.{Step.{stepBy, stepOf}, Marked.sample, Sessions.freshOf, Events.{pressed, buttonOutcome, buttonSheet, requestOf}}
+use Rattle.events.specs.Events.{connect, disconnect, button, request, eventOf, after}
+use Rattle.playback.specs.{Trace.{blank, entryOf, eventIn, eventsFrom, traceOf}, Playing.{at, lineOf, logOf}, Rules.{reached, headRule, eventRule, walkRule, refusalOf, Playable}}
 
 pub trace : List ℕ
 trace =

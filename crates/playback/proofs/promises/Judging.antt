@@ -1,21 +1,10 @@
 -- The rows judge a trace as the nine propositions do. Assumes nothing.
-use Prim.Native.Nat.{ℕ, zero, suc, _+_, _*_, _≤_, _<_}
-use mathlib.Core.Path.{_≡_, refl, sym, _∙_, ap, subst}
-use mathlib.Core.Bool.{Bool, true, false, cond}
-use mathlib.Core.List.{List, [], _∷_}
-use lib.ListN.{length}
-use native.Mathlib.Decide.{decLt, ℕ-discrete}
-use native.Mathlib.Omega.{arith}
-use borrow.Author.Tests.{eq-eqb, ne-eqb}
-use Rattle.sheet.specs.Demand.{Demand, test, Holds, Fails, breach, Met, Tells}
-use Rattle.sheet.specs.First.{first, orElse}
-use Rattle.sheet.specs.Layout.{_of_}
-use Rattle.sheet.proofs.rules.Demands.{passed, failed, told, met, unbroken}
+use Rattle.octets.proofs.Kit.{ℕ, zero, suc, _+_, _<_, _≡_, refl, sym, _∙_, ap, subst, Bool, true, false, cond, List, [], _∷_, length, decLt, ℕ-discrete, arith, eq-eqb, ne-eqb}
+use Rattle.sheet.{specs.{Demand.{Demand, test, Holds, Fails, breach, Met, Tells}, First.{first, orElse}, Layout._of_}, proofs.rules.Demands.{passed, failed, told, met, unbroken}}
 use Rattle.sheet.proofs.rules.First.{orElse-some, first-each, first-all, first-stop}
-use Rattle.playback.specs.Entry as entry
-use Rattle.playback.specs.Trace.{count, entryOf}
-use Rattle.playback.specs.Rules.{reached, headDemands, stray, eventDemands, endDemands, headRule, eventRule, walkRule, refusalOf}
+use Rattle.playback.specs.{Trace.{count, entryOf}, Rules.{reached, headDemands, stray, eventDemands, endDemands, headRule, eventRule, walkRule, refusalOf}}
 use Rattle.playback.specs.Plain.{beginning, Tabled, Sound, AllSound, Judged, breaks50, breaks51, breaks52, breaks53, breaks54, breaks55, breaks56, breaks57, breaks58, none}
+use Rattle.playback.specs.Entry as entry
 use Rattle.playback.proofs.Walking.{head-broken, walk-told}
 
 -- what is to be shown of each row: of its rule where it fails, and of the rows below where it holds

@@ -1,23 +1,10 @@
 -- WHO CHANGED EACH BYTE, AFTER ANY PLAYBACK WITH MARKS that goes on from a history: the marks say which event of it changed a byte last, which gave a level last; and by what right. Assumes nothing.
-use Prim.Native.Nat.{ℕ}
-use mathlib.Core.Path.{_≡_, _∙_, ap, subst}
-use mathlib.Core.List.{List, _++_, reverse}
-use lib.ListN.{length}
-use Rattle.device.specs.Events.{State}
+use Rattle.octets.proofs.Kit.{ℕ, _≡_, _∙_, ap, subst, List, _++_, reverse, length}
+use Rattle.device.specs.{Events.State, declared.Sessions.Sessions}
 use Rattle.events.specs.Events.{Event, run}
-use Rattle.device.specs.declared.Sessions.{Sessions}
-use Rattle.history.specs.History.{First}
-use Rattle.history.specs.Keeps.{stateAfter, Begins, AllOctets}
-use Rattle.history.specs.Rightful.{ours}
-use Rattle.history.proofs.promises.InOrder.{run-on}
-use Rattle.history.proofs.promises.Keep.{keeps}
-use Rattle.account.specs.Marks.{MarkedRun, Tell}
-use Rattle.account.proofs.promises.Accounts.{accounts, entitled}
-use Rattle.account.proofs.promises.Telling.{tells-on}
-use Rattle.playback.specs.Trace.{count, traceOf}
-use Rattle.playback.specs.Playing.{at}
-use Rattle.playback.specs.Marking.{markHandled, markPlayed, Marks, Explained}
-use Rattle.playback.specs.declared.Played.{Played}
+use Rattle.history.{specs.{History.First, Keeps.{stateAfter, Begins, AllOctets}, Rightful.ours}, proofs.promises.{InOrder.run-on, Keep.keeps}}
+use Rattle.account.{specs.Marks.{MarkedRun, Tell}, proofs.promises.{Accounts.{accounts, entitled}, Telling.tells-on}}
+use Rattle.playback.specs.{Trace.{count, traceOf}, Playing.at, Marking.{markHandled, markPlayed, Marks, Explained}, declared.Played.Played}
 use Rattle.playback.proofs.promises.PlayKeeps.{all-take, all-drop, all-append, all-reverse, all-from}
 
 -- AFTER A CALL on what a history h left, with marks that tell it, and `played` as long as it is

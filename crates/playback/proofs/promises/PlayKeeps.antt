@@ -1,22 +1,12 @@
 -- DEMAND 3 AFTER ANY PLAYBACK on an accepted sheet: the events that were played are a history, and what it says holds. Assumes nothing.
-use Prim.Native.Nat.{ℕ, zero, suc, _+_}
-use mathlib.Core.Path.{_≡_, refl, sym, _∙_, ap, subst}
-use mathlib.Core.List.{List, [], _∷_, _++_, reverse, reverse-cons}
-use lib.ListN.{take, drop}
-use Rattle.sheet.specs.Layout.{_of_}
-use Rattle.sheet.specs.Rules.{Accepted}
-use Rattle.device.specs.Octets.{Octets}
-use Rattle.events.specs.Events.{Event, connect, disconnect, button, request}
-use Rattle.device.specs.declared.Sessions.{Sessions}
-use Rattle.history.specs.History.{First}
-use Rattle.history.specs.Keeps.{stateAfter, BringsOctets, AllOctets, Kept}
-use Rattle.history.specs.Rightful.{ours}
+use Rattle.octets.proofs.Kit.{ℕ, zero, suc, _+_, _≡_, sym, _∙_, subst, List, [], _∷_, _++_, reverse, reverse-cons, take, drop}
+use Rattle.sheet.specs.{Layout._of_, Rules.Accepted}
+use Rattle.device.specs.{Octets.Octets, declared.Sessions.Sessions}
+use Rattle.events.specs.Events.{Event}
+use Rattle.history.{specs.{History.First, Keeps.{stateAfter, BringsOctets, AllOctets, Kept}, Rightful.ours}, proofs.promises.InOrder.run-is-after}
 use Rattle.history.proofs.promises.Keep as keep
-use Rattle.history.proofs.promises.InOrder.{run-is-after}
+use Rattle.playback.specs.{Trace.{count, entryOf, eventIn, eventsFrom, traceOf}, Playing.{at, handledOf, playedOf, Plays}, declared.Played.Played}
 use Rattle.playback.specs.Entry as entry
-use Rattle.playback.specs.Trace.{count, entryOf, eventIn, eventAt, eventsFrom, traceOf}
-use Rattle.playback.specs.Playing.{at, handledOf, playedOf, Plays}
-use Rattle.playback.specs.declared.Played.{Played}
 use Rattle.playback.proofs.promises.WrittenBack.{by-kind, octets-part}
 
 -- bytes in front, behind, and in order

@@ -1,28 +1,13 @@
 -- PROMISES of playing back. Each is of a call of `play`, of what it gives and leaves: `Playing`. Assumes nothing.
-use Prim.Native.Nat.{ℕ, suc, _+_, _-_, _*_, _≤_, _<_, min}
-use mathlib.Core.Path.{_≡_, refl, sym, _∙_, ap, ap₂, subst}
-use mathlib.Core.List.{List, [], _∷_, _++_, append-assoc}
-use lib.ListN.{length, take, drop, length-append, length-drop}
-use lib.Seq.{take-at, drop-at, drop-drop}
-use native.Mathlib.Nat.{zero-add}
-use native.Mathlib.Omega.{arith}
-use Rattle.octets.specs.Splice.{splice}
-use Rattle.octets.proofs.Splices.{splice-front, splice-none, length-splice}
-use Rattle.sheet.specs.Demand.{breach}
-use Rattle.sheet.specs.First.{orElse}
-use Rattle.sheet.proofs.rules.Demands.{met, unbroken}
-use Rattle.sheet.proofs.rules.First.{orElse-left, orElse-right}
-use Rattle.device.specs.Events.{State}
-use Rattle.events.specs.Events.{Event, eventOf, after, runBy, run}
-use Rattle.device.specs.declared.Sessions.{Sessions}
-use Rattle.events.proofs.promises.Append.{run-append}
-use Rattle.playback.specs.Trace.{count, eventAt, eventsFrom}
-use Rattle.playback.specs.Rules.{refusalOf, Playable}
-use Rattle.playback.specs.Playing.{at, line, lineOf, logOf, dueOf, roomDemands, refusalIn, handledOf, playedOf, Playing}
+use Rattle.octets.proofs.Kit.{ℕ, suc, _+_, _-_, _*_, _≤_, _<_, _≡_, sym, _∙_, ap, ap₂, List, _++_, append-assoc, length, take, drop, length-append, length-drop, take-at, drop-at, drop-drop}
+use Rattle.octets.proofs.Kit.{arith}
+use Rattle.octets.{specs.Splice.splice, proofs.Splices.{splice-front, splice-none}}
+use Rattle.sheet.{specs.Demand.breach, proofs.rules.{Demands.{met, unbroken}, First.{orElse-left, orElse-right}}}
+use Rattle.device.specs.{Events.State, declared.Sessions.Sessions}
+use Rattle.events.{specs.Events.{Event, eventOf, after, runBy, run}, proofs.promises.Append.run-append}
+use Rattle.playback.specs.{Trace.{eventAt, eventsFrom}, Rules.{refusalOf, Playable}, Playing.{at, line, lineOf, logOf, dueOf, roomDemands, refusalIn, playedOf, Playing}}
 use Rattle.playback.specs.declared.Played.{Played}
-use Rattle.playback.proofs.Logging.{length-line}
-use Rattle.playback.proofs.Running.{events-append, events-one, length-events, log-append, length-log}
-use Rattle.playback.proofs.PlayedBack.{none-played, all-handled, all-played}
+use Rattle.playback.proofs.{Logging.length-line, Running.{events-append, length-events, log-append, length-log}, PlayedBack.{none-played, all-handled, all-played}}
 
 log-cons : (t : List ℕ) (y : State) (i k : ℕ) → logOf y (eventsFrom t i (1 + k)) ≡ lineOf (eventOf y (eventAt t i)) ++ logOf (after y (eventAt t i)) (eventsFrom t (i + 1) k)
 unfolding logOf eventsFrom

@@ -1,32 +1,15 @@
 -- NOTHING IS LEARNED BY PLAYING A TRACE of a byte whose read level is below q, while no level is: on two sheets that hide q it gives the same result and the same lines of the log. Assumes nothing.
-use Prim.Native.Nat.{ℕ, _-_, _*_, _≤_, min}
-use mathlib.Core.Path.{_≡_, refl, sym, _∙_, ap, ap₂, subst}
-use mathlib.Core.Bool.{Bool, true, false, cond}
-use mathlib.Core.List.{List, [], _∷_, _++_, reverse, reverse-cons, reverse-reverse}
-use lib.Dec.{eqb}
-use lib.ListN.{length, take, drop, replicate, length-take, length-drop}
-use lib.Seq.{take-at}
-use native.Mathlib.Omega.{arith}
-use Rattle.octets.specs.Splice.{splice}
-use Rattle.octets.proofs.Splices.{splice-front}
-use Rattle.sheet.specs.Demand.{_≼_, _⦂_, breach}
-use Rattle.sheet.specs.First.{orElse}
-use Rattle.device.specs.Events.{Effect, State}
-use Rattle.device.specs.declared.Sessions.{Sessions}
+use Rattle.octets.proofs.Kit.{ℕ, _-_, _*_, _≤_, min, _≡_, refl, sym, _∙_, ap, ap₂, subst, Bool, true, false, cond, List, [], _∷_, _++_, reverse, reverse-cons, reverse-reverse, eqb, length}
+use Rattle.octets.proofs.Kit.{take, drop, replicate, length-take, length-drop, take-at, arith}
+use Rattle.octets.{specs.Splice.splice, proofs.Splices.splice-front}
+use Rattle.sheet.specs.{Demand.{_≼_, _⦂_, breach}, First.orElse}
+use Rattle.device.specs.{Events.{Effect, State}, declared.Sessions.Sessions}
 use Rattle.events.specs.Events.{Event, eventOf}
-use Rattle.history.specs.History.{First}
-use Rattle.history.specs.Keeps.{stateAfter}
-use Rattle.history.specs.Isolation.{same}
-use Rattle.history.specs.Rightful.{ours}
-use Rattle.history.specs.Secret.{Hide, NoneBelow, AllAlike, none, more, NothingToldAlong}
-use Rattle.history.proofs.promises.InOrder.{firstState, after-is-run}
-use Rattle.history.proofs.promises.Unlearned.{unlearned}
-use Rattle.playback.specs.Trace.{count, room, eventsFrom, traceOf}
-use Rattle.playback.specs.Rules.{refusalOf}
-use Rattle.playback.specs.Playing.{at, line, lineOf, logOf, dueOf, refusalIn, handledOf, playedOf, Plays}
+use Rattle.history.specs.{History.First, Keeps.stateAfter, Isolation.same, Rightful.ours, Secret.{Hide, NoneBelow, AllAlike, none, more, NothingToldAlong}}
+use Rattle.history.proofs.promises.{InOrder.{firstState, after-is-run}, Unlearned.unlearned}
+use Rattle.playback.specs.{Trace.{count, room, eventsFrom, traceOf}, Rules.refusalOf, Playing.{at, line, lineOf, logOf, dueOf, refusalIn, handledOf, playedOf, Plays}}
 use Rattle.playback.specs.declared.Played.{Played}
-use Rattle.playback.proofs.Running.{length-events, log-append, length-log}
-use Rattle.playback.proofs.promises.PlayKeeps.{all-history, play-keeps}
+use Rattle.playback.proofs.{Running.{length-events, log-append, length-log}, promises.PlayKeeps.{all-history, play-keeps}}
 
 -- the same events in both
 abbrev all-same : (h : List Event) → AllAlike h h

@@ -1,31 +1,15 @@
 -- A TRACE WRITTEN FROM EVENTS AND READ BACK SAYS THE SAME EVENTS, for the events that a trace can hold; and every trace that can be played says such events. Assumes nothing.
-use Prim.Native.Nat.{ℕ, zero, suc, _+_, _*_, _^_, _/_, _%_, _≤_, _<_}
-use mathlib.Core.Path.{_≡_, refl, sym, _∙_, ap, ap₂, subst}
-use mathlib.Core.Bool.{Bool, true, false, cond}
-use mathlib.Core.List.{List, [], _∷_, _++_, append-assoc}
-use lib.Dec.{eqb}
-use lib.ListN.{length, take, drop, getD, length-append, length-take, length-drop}
-use lib.Seq.{take-at, drop-at, drop-drop, getD-drop}
-use native.Mathlib.Decide.{ℕ-discrete}
-use native.Mathlib.Nat.{add-zero}
-use native.Mathlib.Numerals.{add-one}
-use native.Mathlib.Omega.{arith}
-use borrow.Author.Tests.{eq-eqb, ne-eqb}
-use Rattle.octets.specs.Bytes.{numAt, bytesOf}
-use Rattle.octets.proofs.Numbers.{num-back, num-below, length-bytes}
-use Rattle.sheet.specs.Demand.{breach, Met}
-use Rattle.sheet.specs.First.{first, orElse}
-use Rattle.sheet.specs.Layout.{_of_}
-use Rattle.sheet.proofs.rules.Demands.{unbroken}
-use Rattle.sheet.proofs.rules.First.{first-none, first-more}
+use Rattle.octets.proofs.Kit.{ℕ, zero, suc, _+_, _*_, _^_, _/_, _%_, _≤_, _<_, _≡_, refl, sym, _∙_, ap, ap₂, subst, Bool, true, false, List, [], _∷_, _++_, append-assoc, eqb, length, take}
+use Rattle.octets.proofs.Kit.{drop, length-append, length-take, length-drop, take-at, drop-at, drop-drop, getD-drop, ℕ-discrete, add-zero, add-one, arith, eq-eqb, ne-eqb}
+use Rattle.octets.{specs.Bytes.{numAt, bytesOf}, proofs.Numbers.{num-back, num-below, length-bytes}}
+use Rattle.sheet.{specs.{Demand.{breach, Met}, First.first, Layout._of_}, proofs.rules.{Demands.unbroken, First.{first-none, first-more}}}
 use Rattle.device.specs.Octets.{Octets}
 use Rattle.events.specs.Events.{Event, connect, disconnect, button, request, restore}
-use Rattle.playback.specs.Entry as entry
-use Rattle.playback.specs.Trace.{head, events, count, place, blank, entryOf, eventBy, eventIn, eventAt, eventsFrom, traceOf}
-use Rattle.playback.specs.Rules.{reached, headDemands, stray, eventDemands, endDemands, headRule, eventRule, walkRule, refusalOf, Playable}
+use Rattle.playback.specs.Trace.{count, place, blank, entryOf, eventBy, eventIn, eventAt, eventsFrom, traceOf}
+use Rattle.playback.specs.Rules.{reached, headDemands, eventDemands, endDemands, headRule, eventRule, walkRule, refusalOf, Playable}
 use Rattle.playback.specs.Written.{bytesIn, apdu, numbersOf, entriesFor, apdusOf, written, CanSay, CanSayAll, CanHold}
-use Rattle.playback.proofs.Walking.{good-rows, good-event}
-use Rattle.playback.proofs.Running.{length-events}
+use Rattle.playback.specs.Entry as entry
+use Rattle.playback.proofs.{Walking.{good-rows, good-event}, Running.length-events}
 
 -- an entry's numbers
 record Fields (x : List ℕ) (k b g z l : ℕ) : Type 0 where

@@ -1,8 +1,6 @@
 -- `points::point` meets its contract.
--- Assumes nothing.
-use Rattle.points.proofs.Laws.{point-by, point-else, byte-below, word-below}
-use borrow.Author.Needs.{needs}
-use Rattle.points.proofs.point.Statement.{statement}
+use Rattle.octets.proofs.Kit.{needs}
+use Rattle.points.proofs.{Laws.{point-by, point-else, byte-below, word-below}, point.Statement.statement}
 use Rattle.points.proofs.point.Tie as tie
 
 pub point-spec : {M : Type 1} → statement M

@@ -1,33 +1,12 @@
 -- Every valid code's result is in the range that is written; read-back of whole datapoints.
--- Assumes nothing.
-use mathlib.Core.Path.{_≡_, refl, sym, ap, ap₂, _∙_, subst}
-use Prim.Native.Nat.{ℕ, zero, suc, _*_, _/_, _%_, _^_, _≤_, _<_}
-use mathlib.Core.Bool.{Bool, true, false, cond, not, _&&_}
-use mathlib.Core.List.{List, [], append-nil}
-use native.Mathlib.Omega.{arith}
-use native.Mathlib.Nat.{mul-le-mul}
-use lib.ListN.{length, getD}
-use lib.Seq.{ext-getD}
-use lib.Dec.{T, eqb}
-use lib.IntN.{ℤ, pos}
-use lib.Ieee.{Float, binary32, toBits, ofBits, isNan, fits}
-use lib.Ieee.Bits.{ofBits-toBits, toBits-ofBits, toBits-lt, nanBits-is}
-use borrow.Author.Tests.{le-leb, ne-eqb, ltb-true, ltb-false, eqb-true, eqb-false}
-use Rattle.octets.specs.Bytes.{numAt, bytesOf}
-use Rattle.octets.specs.Octets.{Octets, ReadFrom}
-use Rattle.octets.proofs.Numbers.{num-back, length-bytes, bytes-back, num-below}
-use Rattle.points.specs.Nine.{exponentAt, res, Valid, inRange}
-use Rattle.points.specs.Code.{codeOf}
+use Rattle.octets.proofs.Kit.{_≡_, refl, sym, ap, ap₂, _∙_, subst, ℕ, zero, suc, _*_, _/_, _%_, _^_, _≤_, _<_, Bool, true, false, cond, not, _&&_, List, [], append-nil, arith, mul-le-mul}
+use Rattle.octets.proofs.Kit.{length, getD, ext-getD, T, eqb, ℤ, pos, Float, binary32, toBits, ofBits, isNan, fits, ofBits-toBits, toBits-ofBits, toBits-lt, nanBits-is, le-leb, ne-eqb}
+use Rattle.octets.proofs.Kit.{ltb-true, ltb-false, eqb-true, eqb-false}
+use Rattle.octets.{specs.{Bytes.{numAt, bytesOf}, Octets.{Octets, ReadFrom}}, proofs.Numbers.{num-back, length-bytes, bytes-back, num-below}}
+use Rattle.points.specs.{Nine.{exponentAt, res, Valid, inRange}, Code.codeOf}
 use Rattle.points.specs.Point.{typeOf, widthAt, finite, finiteBits, pointAt, readPoint, refusalOf, numberOf, pointBytes, readOutcome, Typed, Exact, asWritten}
-use Rattle.points.specs.declared.Datapoint.{Datapoint}
-use Rattle.points.specs.declared.Datapoint.the-variants.{Switch, Byte, Hundredths, Float as Single}
-use Rattle.points.specs.declared.Reading.{Reading}
-use Rattle.points.specs.declared.Reading.the-variants.{Is, Refused}
-use Rattle.points.proofs.Laws.{small, read-is}
-use Rattle.points.proofs.Floats.{no-nan, above-infinite}
-use Rattle.points.proofs.promises.Choice.{view, code, most, chosen}
-use Rattle.points.proofs.Signed.{sgn}
-use Rattle.points.proofs.promises.Unique.{back}
+use Rattle.points.specs.declared.{Datapoint.{Datapoint, the-variants.{Switch, Byte, Hundredths, Float as Single}}, Reading.{Reading, the-variants.{Is, Refused}}}
+use Rattle.points.proofs.{Laws.{small, read-is}, Floats.{no-nan, above-infinite}, promises.Choice.{view, code, most, chosen}, Signed.sgn, promises.Unique.back}
 
 -- the results by their bounds
 plus-in : (a : ℕ) → a ≤ 67043328 → inRange (sgn false a) ≡ true

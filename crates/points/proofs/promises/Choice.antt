@@ -1,19 +1,9 @@
 -- The code that is written is the one promised.
--- Assumes nothing.
-use mathlib.Core.Path.{_≡_, refl, sym, ap, ap₂, _∙_, subst}
-use mathlib.Core.Logic.{_⊎_, inl, inr}
-use Prim.Native.Nat.{ℕ, zero, suc, _+_, _*_, _-_, _%_, _^_, _≤_, _<_, zero-le}
-use mathlib.Core.Bool.{Bool, true, false, cond, not}
-use native.Mathlib.Omega.{arith}
-use native.Mathlib.Nat.{mul-le-mul-right, pow-suc, pow-le-pow-right}
-use lib.Pow.{pow-pos}
-use lib.Dec.{T, ltb, leb, eqb}
-use lib.IntN.{ℤ, pos, negsuc, negℤ, natAbs, _-ℤ_}
-use borrow.Author.Tests.{ltb-true, ltb-false, leb-true, leb-false, eqb-true, eqb-false, ne-eqb}
-use Rattle.points.specs.Nine.{exponentAt, res, Valid, inRange, off, Chosen}
-use Rattle.points.specs.Code.{rounded, quotient, exponentFrom, exponentOf, packed, stepped, codeOf}
-use Rattle.points.proofs.Best.{Nearer, Before, nearest, low, least, before, reach, within, up-to, twice-of}
-use Rattle.points.proofs.Laws.{res-plus, res-minus}
+use Rattle.octets.proofs.Kit.{_≡_, refl, sym, ap, ap₂, _∙_, subst, _⊎_, inl, inr, ℕ, zero, suc, _+_, _*_, _-_, _%_, _^_, _≤_, _<_, zero-le, Bool, true, false, cond, not, arith}
+use Rattle.octets.proofs.Kit.{mul-le-mul-right, pow-suc, pow-le-pow-right, pow-pos, T, ltb, leb, eqb, ℤ, pos, negsuc, negℤ, natAbs, _-ℤ_, ltb-true, ltb-false, leb-true, leb-false, eqb-true}
+use Rattle.octets.proofs.Kit.{eqb-false, ne-eqb}
+use Rattle.points.specs.{Nine.{exponentAt, res, Valid, inRange, off, Chosen}, Code.{rounded, quotient, exponentFrom, exponentOf, packed, stepped, codeOf}}
+use Rattle.points.proofs.{Best.{Nearer, Before, nearest, low, least, before, reach, within, up-to, twice-of}, Laws.{res-plus, res-minus}}
 use Rattle.points.proofs.Signed.{sgn, abs-sgn, zero-sgn, far, far-is, compare, range-plus, range-minus}
 
 -- the largest mantissa of a sign

@@ -1,28 +1,10 @@
 -- EACH NUMBER OF A READING AND OF A WRITING EXACTLY WHEN IT IS DUE.
--- Assumes nothing.
-use Prim.Native.Nat.{ℕ, suc, _+_, _*_, _/_, _%_, _≤_, _<_}
-use mathlib.Core.Path.{_≡_, refl, sym, ap, subst, _∙_}
-use mathlib.Core.Bool.{Bool, true, false, cond, _&&_}
-use mathlib.Core.Logic.{inl, inr}
-use mathlib.Core.List.{List}
-use native.Mathlib.Omega.{arith}
-use lib.ListN.{length, getD}
-use lib.Dec.{ltb, leb, eqb}
-use lib.IntN.{ℤ, pos, negsuc}
-use lib.Ieee.{Float, nan, inf, fin, binary32, ofBits}
-use borrow.Author.Tests.{lt-ltb, le-ltb, le-leb, lt-leb, eq-eqb, ne-eqb, eqb-true, eqb-false, leb-true, leb-false}
-use Rattle.octets.specs.Bytes.{numAt}
-use Rattle.octets.specs.Octets.{Octets, ReadFrom}
-use Rattle.octets.proofs.Numbers.{num-one, num-two, num-below}
-use Rattle.octets.proofs.Walks.{by-lt, by-eq}
-use Rattle.octets.proofs.Truths.{first-true}
-use Rattle.points.specs.Nine.{res, inRange}
-use Rattle.points.specs.Point.{typeOf, widthAt, finite, finiteBits, pointAt, readPoint, readOutcome, refusalOf, writeOutcome, Put}
-use Rattle.points.specs.Due.{Wide, Invalid, Unbounded, ReadDue, noType, wrongLength, bitsAbove, invalid, unbounded, switch, byte, hundredths}
-use Rattle.points.specs.Due.{float, OutOfRange, NotFinite, Sized, Writable, WriteDue, otherLength, outOfRange, notFinite, written}
-use Rattle.points.specs.declared.Datapoint.{Datapoint}
-use Rattle.points.specs.declared.Datapoint.the-variants.{Switch, Byte, Hundredths, Float as Single}
-use Rattle.points.specs.declared.Reading.{Reading}
+use Rattle.octets.proofs.Kit.{ℕ, _+_, _*_, _/_, _%_, _≤_, _<_, _≡_, refl, sym, ap, subst, _∙_, Bool, true, false, cond, _&&_, inl, inr, List, arith, length, getD, ltb, leb, eqb, ℤ, pos}
+use Rattle.octets.proofs.Kit.{negsuc, Float, nan, inf, fin, binary32, ofBits, lt-ltb, le-ltb, lt-leb, eq-eqb, ne-eqb, eqb-true, eqb-false, leb-false}
+use Rattle.octets.{specs.{Bytes.numAt, Octets.{Octets, ReadFrom}}, proofs.{Numbers.{num-one, num-two, num-below}, Walks.{by-lt, by-eq}}}
+use Rattle.points.specs.{Nine.{res, inRange}, Point.{typeOf, widthAt, finite, pointAt, readPoint, readOutcome, refusalOf, writeOutcome, Put}, Due.{Wide, Invalid, Unbounded, ReadDue}}
+use Rattle.points.specs.Due.{noType, wrongLength, bitsAbove, invalid, unbounded, switch, byte, hundredths, float, OutOfRange, NotFinite, Sized, Writable, WriteDue, otherLength}
+use Rattle.points.specs.{Due.{outOfRange, notFinite, written}, declared.{Datapoint.{Datapoint, the-variants.{Switch, Byte, Hundredths, Float as Single}}, Reading.Reading}}
 use Rattle.points.specs.declared.Reading.the-variants.{Is, Refused}
 use Rattle.points.proofs.Laws.{read-25, read-20, read-is}
 

@@ -1,15 +1,7 @@
 -- Worked examples: numbers of hundredths and their codes, codes and what they say, and each refusal by its number, by computation.
--- Assumes nothing.
-use Prim.Native.Nat.{ℕ}
-use mathlib.Core.Path.{_≡_, refl}
-use mathlib.Core.Bool.{true, false}
-use mathlib.Core.List.{List, [], _∷_, map}
-use lib.IntN.{ℤ, pos, negsuc}
-use lib.Ieee.{nan, inf, fin}
+use Rattle.octets.proofs.Kit.{ℕ, _≡_, refl, true, false, List, [], _∷_, map, pos, negsuc, nan, inf, fin}
 use Rattle.octets.specs.Bytes.{numAt}
-use Rattle.points.specs.Nine.{res}
-use Rattle.points.specs.Code.{exponentFrom, codeOf}
-use Rattle.points.specs.Point.{readPoint, readOutcome, writeOutcome}
+use Rattle.points.specs.{Nine.res, Code.{exponentFrom, codeOf}, Point.{readPoint, readOutcome, writeOutcome}}
 use Rattle.points.specs.declared.Datapoint.the-variants.{Switch, Byte, Hundredths, Float as Single}
 
 -- WRITTEN: small numbers, ties toward zero, the smaller exponent of two, both ends of the range

@@ -1,17 +1,8 @@
 -- What is promised of the code determines it; and a number that a code has is read back.
--- Assumes nothing.
-use mathlib.Core.Path.{_≡_, refl, sym, ap, _∙_, subst}
-use mathlib.Core.Logic.{_⊎_, inl, inr}
-use Prim.Native.Nat.{ℕ, zero, suc, _*_, _^_, _≤_, _<_}
-use mathlib.Core.Bool.{Bool, true, false, not}
-use native.Mathlib.Omega.{arith}
-use native.Mathlib.Nat.{le-antisymm, eq-of-mul-eq-mul-right}
-use lib.Pow.{pow-pos}
-use lib.IntN.{ℤ, pos, negsuc, natAbs, _-ℤ_}
-use Rattle.points.specs.Nine.{exponentAt, res, Valid, inRange, off, Chosen}
-use Rattle.points.specs.Code.{codeOf}
-use Rattle.points.proofs.Signed.{sgn, zero-sgn, far, far-is, far-none}
-use Rattle.points.proofs.promises.Choice.{view, code, off-is, size-is, chosen}
+use Rattle.octets.proofs.Kit.{_≡_, refl, sym, ap, _∙_, subst, _⊎_, inl, inr, ℕ, zero, suc, _*_, _^_, _≤_, _<_, Bool, true, false, not, arith, le-antisymm, eq-of-mul-eq-mul-right, pow-pos, ℤ}
+use Rattle.octets.proofs.Kit.{pos, negsuc, natAbs, _-ℤ_}
+use Rattle.points.specs.{Nine.{exponentAt, res, Valid, inRange, off, Chosen}, Code.codeOf}
+use Rattle.points.proofs.{Signed.{sgn, zero-sgn, far, far-is, far-none}, promises.Choice.{view, code, off-is, size-is, chosen}}
 
 -- x by its sign
 abbrev isMinus : ℤ → Bool

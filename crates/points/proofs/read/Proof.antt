@@ -1,9 +1,6 @@
 -- `points::read` meets its contract.
--- Assumes nothing.
-use native.Mathlib.Omega.{arith}
-use Rattle.points.proofs.Laws.{width-small, num-fits, num-by, read-25, read-20, read-is}
-use borrow.Author.Needs.{needs}
-use Rattle.points.proofs.read.Statement.{statement}
+use Rattle.octets.proofs.Kit.{arith, needs}
+use Rattle.points.proofs.{Laws.{width-small, num-fits, num-by, read-25, read-20, read-is}, read.Statement.statement}
 use Rattle.points.proofs.read.Tie as tie
 
 pub read-spec : {M : Type 1} → statement M

@@ -1,9 +1,7 @@
 -- `points::width` meets its contract.
--- Assumes nothing.
-use Rattle.points.proofs.Laws.{width-by}
-use native.Mathlib.Omega.{arith}
+use Rattle.octets.proofs.Kit.{arith}
 use Rattle.octets.proofs.Tests.{tests}
-use Rattle.points.proofs.width.Statement.{statement}
+use Rattle.points.proofs.{Laws.width-by, width.Statement.statement}
 use Rattle.points.proofs.width.Tie as tie
 
 pub width-spec : {M : Type 1} → statement M

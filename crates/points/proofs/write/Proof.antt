@@ -1,8 +1,6 @@
 -- `points::write` meets its contract.
--- Assumes nothing.
-use Rattle.points.proofs.Writes.{write-20, write-no, write-yes, write-room}
-use borrow.Author.Needs.{needs}
-use Rattle.points.proofs.write.Statement.{statement}
+use Rattle.octets.proofs.Kit.{needs}
+use Rattle.points.proofs.{Writes.{write-20, write-no, write-yes, write-room}, write.Statement.statement}
 use Rattle.points.proofs.write.Tie as tie
 
 pub write-spec : {M : Type 1} → statement M

@@ -1,17 +1,7 @@
 -- What two sheets that are the same but at some positions have in common: numbers and parts that miss these, and the same run stored in both.
--- Assumes nothing.
-use Prim.Native.Nat.{ℕ, _+_, _-_, _<_, _≤_}
-use mathlib.Core.Path.{_≡_, sym, ap, _∙_}
-use mathlib.Core.List.{List}
-use lib.ListN.{length, getD, take, drop, length-take, length-drop}
-use lib.Seq.{getD-take, getD-drop, ext-getD}
-use native.Mathlib.Decide.{decLt}
-use native.Mathlib.Omega.{arith}
-use Rattle.octets.specs.Splice.{splice}
-use Rattle.octets.proofs.Numbers.{num-same}
-use Rattle.octets.proofs.Splices.{length-splice, splice-in, splice-below, splice-above}
-use Rattle.sheet.specs.Layout.{Field, _of_}
-use Rattle.sheet.specs.But.{But}
+use Rattle.octets.proofs.Kit.{ℕ, _+_, _-_, _<_, _≤_, _≡_, sym, ap, _∙_, List, length, getD, take, drop, length-take, length-drop, getD-take, getD-drop, ext-getD, decLt, arith}
+use Rattle.octets.{specs.Splice.splice, proofs.{Numbers.num-same, Splices.{length-splice, splice-in, splice-below, splice-above}}}
+use Rattle.sheet.specs.{Layout.{Field, _of_}, But.But}
 
 -- a part of two lists that have the same bytes there
 pub part-same :

@@ -1,28 +1,10 @@
 -- Two sheets that are the same but for the edition, bytes 15 and 30 being 0: they agree inside, and one breaks no rule if the other does not.
--- Assumes nothing.
-use Prim.Native.Nat.{ℕ, _+_, _≤_, _<_}
-use mathlib.Core.Path.{_≡_, refl, sym, ap, _∙_}
-use mathlib.Core.Bool.{Bool, true, false, cond}
-use mathlib.Core.List.{List}
-use lib.Dec.{eqb}
-use lib.ListN.{getD}
-use native.Mathlib.Omega.{arith}
-use Rattle.octets.specs.Bytes.{numAt}
-use Rattle.octets.proofs.Numbers.{num-same}
-use Rattle.sheet.specs.Kind.{kinds, properties, groups}
-use Rattle.sheet.specs.Layout.{Field, _of_}
+use Rattle.octets.proofs.Kit.{ℕ, _+_, _≤_, _<_, _≡_, refl, sym, ap, _∙_, Bool, true, false, cond, List, eqb, getD, arith}
+use Rattle.octets.{specs.Bytes.numAt, proofs.Numbers.num-same}
+use Rattle.sheet.specs.{Kind.{kinds, properties, groups}, Layout.{Field, _of_}, Entries.{count, size, place, entry, bodyAt}, Agree.AgreeInside, But.But, Convert.EditionByte}
 use Rattle.sheet.specs.Head as head
 use Rattle.sheet.specs.Property as property
-use Rattle.sheet.specs.Entries.{count, size, place, entry, bodyAt}
-use Rattle.sheet.specs.Agree.{AgreeInside}
-use Rattle.sheet.specs.But.{But}
-use Rattle.sheet.specs.Convert.{EditionByte}
-use Rattle.sheet.proofs.rules.Good.{GoodIn}
-use Rattle.sheet.proofs.places.BodyPlaces.{after-contents}
-use Rattle.sheet.proofs.places.Standing.{entry-at, after-head}
-use Rattle.sheet.proofs.alike.Sames.{place-front}
-use Rattle.sheet.proofs.alike.Buts.{field-but}
-use Rattle.sheet.proofs.promises.Agrees.{kept-in}
+use Rattle.sheet.proofs.{rules.Good.GoodIn, places.{BodyPlaces.after-contents, Standing.{entry-at, after-head}}, alike.{Sames.place-front, Buts.field-but}, promises.Agrees.kept-in}
 
 -- no user region and no spare bit, of whatever edition
 nothing : (t : Bool) → _≡_ {A = ℕ} (cond t 0 0) 0

@@ -1,25 +1,10 @@
 -- In two sheets that agree on what the rules read, lookups find the same.
--- Assumes nothing.
-use Prim.Native.Nat.{ℕ, zero, suc, _+_, _<_, _≤_}
-use mathlib.Core.Path.{_≡_, refl, sym, _∙_, ap}
-use mathlib.Core.List.{List}
-use mathlib.Core.Bool.{cond, _&&_}
-use lib.Dec.{eqb, ltb}
-use native.Mathlib.Decide.{decLt}
-use native.Mathlib.Omega.{arith}
-use borrow.Author.Tests.{le-ltb}
-use Rattle.sheet.specs.Kind.{kinds, properties, kindOf}
+use Rattle.octets.proofs.Kit.{ℕ, zero, suc, _+_, _<_, _≤_, _≡_, refl, sym, _∙_, ap, List, cond, _&&_, eqb, ltb, decLt, arith, le-ltb}
+use Rattle.sheet.specs.{Kind.{kinds, properties, kindOf}, Entries.{count, keyOf}, Lookup.{seek, indexOf, objectAt, rank, nthOf, covers, runIn, placeOf, rangeOf}, Agree.AgreeBy}
+use Rattle.sheet.specs.{Places.{regionAt, Stands, Ranged}, declared.{Memory.Memory, Run.the-variants.Nowhere}}
 use Rattle.sheet.specs.Region as region
 use Rattle.sheet.specs.Property as property
-use Rattle.sheet.specs.Entries.{count, keyOf}
-use Rattle.sheet.specs.Lookup.{seek, indexOf, objectAt, rank, nthOf, covers, runIn, placeOf, rangeOf}
-use Rattle.sheet.specs.Agree.{AgreeBy}
-use Rattle.sheet.specs.Places.{regionAt, Stands, Ranged}
-use Rattle.sheet.specs.declared.Memory.{Memory}
-use Rattle.sheet.specs.declared.Run.the-variants.{Nowhere}
-use Rattle.sheet.proofs.alike.Sames.{count-same, key-same, region-same, property-same}
-use Rattle.sheet.proofs.searches.FrontSearch.{seek-same}
-use Rattle.sheet.proofs.places.Longer.{range-suc}
+use Rattle.sheet.proofs.{alike.Sames.{count-same, key-same, region-same, property-same}, searches.FrontSearch.seek-same, places.Longer.range-suc}
 
 module _ {R : List ℕ → List ℕ → Type 0} {s s′ : List ℕ} (a : AgreeBy R s s′) where
   -- the same entry by its first word

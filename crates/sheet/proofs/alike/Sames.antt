@@ -1,23 +1,13 @@
 -- Two sheets that agree on what the rules read have the same entries at the same places, but for the counts.
--- Assumes nothing.
-use Prim.Native.Nat.{ℕ, zero, suc, _+_, _<_, _≤_}
-use mathlib.Core.Path.{_≡_, refl, ap₂}
-use mathlib.Core.List.{List}
-use lib.ListN.{getD}
-use native.Mathlib.Omega.{arith}
+use Rattle.octets.proofs.Kit.{ℕ, zero, suc, _+_, _<_, _≤_, _≡_, refl, ap₂, List, getD, arith}
 use Rattle.octets.proofs.Numbers.{num-same}
-use Rattle.sheet.specs.Kind.{kinds, regions, properties, groups, users, kindOf}
-use Rattle.sheet.specs.Layout.{Field, _of_}
+use Rattle.sheet.specs.{Kind.{kinds, regions, properties, groups, users, kindOf}, Layout.{Field, _of_}, Head.rulesOf}
+use Rattle.sheet.specs.Entries.{count, size, base, place, contents, entry, keyOf, floorAfter, floor, offsetOf, lengthOf, bodyAt, bodyEnd, endFrom, startOf, reached}
+use Rattle.sheet.specs.{Agree.{Agree, AgreeBy, Fixed}, Places.regionAt, declared.Memory.{Memory, the-variants.{Device, User}}}
 use Rattle.sheet.specs.Head as head
-use Rattle.sheet.specs.Head.{rulesOf}
 use Rattle.sheet.specs.Region as region
 use Rattle.sheet.specs.Property as property
 use Rattle.sheet.specs.Group as group
-use Rattle.sheet.specs.Entries.{count, size, base, place, contents, entry, keyOf, floorAfter, floor, offsetOf, lengthOf, bodyAt, bodyEnd, endFrom, startOf, reached}
-use Rattle.sheet.specs.Agree.{Agree, AgreeBy, Fixed}
-use Rattle.sheet.specs.Places.{regionAt}
-use Rattle.sheet.specs.declared.Memory.{Memory}
-use Rattle.sheet.specs.declared.Memory.the-variants.{Device, User}
 use Rattle.sheet.proofs.rules.ByKind.{eachKind}
 
 -- by the numbers of entries alone

@@ -1,25 +1,12 @@
 -- A change of an accepted sheet that spares what the rules read.
--- Assumes nothing.
-use Prim.Native.Nat.{ℕ, _+_, _<_, _≤_}
-use mathlib.Core.Path.{_≡_, sym, _∙_, ap}
-use mathlib.Core.List.{List}
-use lib.ListN.{length, getD}
-use native.Mathlib.Omega.{arith}
-use Rattle.octets.specs.Bytes.{numAt}
-use Rattle.octets.proofs.Numbers.{num-same}
-use Rattle.sheet.specs.Kind.{kinds, properties, groups}
-use Rattle.sheet.specs.Layout.{_of_}
+use Rattle.octets.proofs.Kit.{ℕ, _+_, _<_, _≤_, _≡_, sym, _∙_, ap, List, length, getD, arith}
+use Rattle.octets.{specs.Bytes.numAt, proofs.Numbers.num-same}
+use Rattle.sheet.specs.{Kind.{kinds, properties, groups}, Layout._of_, Entries.{count, size, place, entry, bodyAt}, Rules.{entryDemands, bodyDemands}, Agree.{Agree, Fixed}}
+use Rattle.sheet.specs.Stores.{countAt}
 use Rattle.sheet.specs.Head as head
 use Rattle.sheet.specs.Property as property
 use Rattle.sheet.specs.Group as group
-use Rattle.sheet.specs.Entries.{count, size, place, entry, bodyAt}
-use Rattle.sheet.specs.Rules.{entryDemands, bodyDemands}
-use Rattle.sheet.specs.Agree.{Agree, Fixed}
-use Rattle.sheet.specs.Stores.{countAt}
-use Rattle.sheet.proofs.rules.Good.{Good}
-use Rattle.sheet.proofs.alike.Sames.{users-alike, place-front}
-use Rattle.sheet.proofs.places.Standing.{entry-at, field-at}
-use Rattle.sheet.proofs.rules.PlainRows.{six-to}
+use Rattle.sheet.proofs.{rules.Good.Good, alike.Sames.{users-alike, place-front}, places.Standing.{entry-at, field-at}, rules.PlainRows.six-to}
 
 -- what such a change leaves as it is, and what it may change within bounds
 pub record Mild (s s′ : List ℕ) : Type 0 where

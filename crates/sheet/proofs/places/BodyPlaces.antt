@@ -1,16 +1,7 @@
 -- Where the bodies of a sheet that breaks no rule lie: one after the other, from the contents to the end.
--- Assumes nothing.
-use Prim.Native.Nat.{ℕ, suc, _+_, _<_, _≤_}
-use mathlib.Core.Path.{_≡_, refl, subst⁻¹}
-use mathlib.Core.List.{List}
-use lib.ListN.{length}
-use native.Mathlib.Omega.{arith}
-use Rattle.sheet.specs.Kind.{kinds}
-use Rattle.sheet.specs.Entries.{count, contents, entry, lengthOf, bodyAt, bodyEnd, startOf, reached, InBody}
-use Rattle.sheet.specs.Rules.{bodyDemands}
-use Rattle.sheet.specs.Stores.{Inside}
-use Rattle.sheet.proofs.rules.Good.{GoodIn}
-use Rattle.sheet.proofs.places.Rising.{Step, between, rising, once}
+use Rattle.octets.proofs.Kit.{ℕ, suc, _+_, _<_, _≤_, _≡_, refl, subst⁻¹, List, length, arith}
+use Rattle.sheet.specs.{Kind.kinds, Entries.{count, contents, entry, lengthOf, bodyAt, bodyEnd, startOf, reached, InBody}, Rules.bodyDemands, Stores.Inside}
+use Rattle.sheet.proofs.{rules.Good.GoodIn, places.Rising.{Step, between, rising, once}}
 
 -- each position of a run inside a body lies in that body
 pub inside-at : {s : List ℕ} {k i o n : ℕ} → Inside s k i o n → (p : ℕ) → o ≤ p → p < o + n → InBody s k i p

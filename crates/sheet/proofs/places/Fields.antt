@@ -1,24 +1,11 @@
 -- The fields of the entries of an accepted sheet, and their limits.
--- Assumes nothing.
-use Prim.Native.Nat.{ℕ, _*_, _≤_, _<_}
-use mathlib.Core.Path.{_≡_, refl, ap₂}
-use mathlib.Core.List.{List}
-use lib.Dec.{lit<}
-use native.Mathlib.Omega.{arith}
-use Rattle.sheet.specs.Kind.{properties, groups, OfKind}
-use Rattle.sheet.specs.Layout.{_of_}
+use Rattle.octets.proofs.Kit.{ℕ, _*_, _≤_, _<_, _≡_, refl, ap₂, List, lit<, arith}
+use Rattle.sheet.specs.{Kind.{properties, groups, OfKind}, Layout._of_, Entries.{count, place, entry, bodyEnd}, Rules.{entryDemands, Accepted}, Places.{PropertyIn, GroupIn}}
+use Rattle.sheet.specs.{Walk.Entry, declared.{PropertyEntry.PropertyEntry, GroupEntry.GroupEntry}}
 use Rattle.sheet.specs.Head as head
 use Rattle.sheet.specs.Property as property
 use Rattle.sheet.specs.Group as group
-use Rattle.sheet.specs.Entries.{count, place, entry, bodyEnd}
-use Rattle.sheet.specs.Rules.{entryDemands, Accepted}
-use Rattle.sheet.specs.Places.{PropertyIn, GroupIn}
-use Rattle.sheet.specs.Walk.{Entry}
-use Rattle.sheet.specs.declared.PropertyEntry.{PropertyEntry}
-use Rattle.sheet.specs.declared.GroupEntry.{GroupEntry}
-use Rattle.sheet.proofs.rules.Entries.{few, place-in}
-use Rattle.sheet.proofs.rules.Good.{good}
-use Rattle.sheet.proofs.places.BodyPlaces.{within}
+use Rattle.sheet.proofs.{rules.{Entries.{few, place-in}, Good.good}, places.BodyPlaces.within}
 
 module _ (s : List ℕ) (ok : Accepted s) where
   pub flags-low : (r : ℕ) → r ≡ head.flags of s → r ≤ 3

@@ -1,11 +1,5 @@
 -- The rights that levels have in common.
--- Assumes nothing.
-use Prim.Native.Nat.{ℕ, suc, _/_, _%_, _≤_, _<_}
-use mathlib.Core.Path.{_≡_, subst}
-use mathlib.Core.Logic.{_↔_}
-use native.Mathlib.Decide.{decLt}
-use native.Mathlib.Nat.{le-refl}
-use native.Mathlib.Omega.{arith}
+use Rattle.octets.proofs.Kit.{ℕ, suc, _/_, _%_, _≤_, _<_, _≡_, subst, _↔_, decLt, le-refl, arith}
 use Rattle.sheet.specs.Lookup.{common}
 
 module _ (l k : ℕ) where

@@ -1,21 +1,7 @@
 -- LAWS of ranges by one address more: what is found, and what they have in common.
--- Assumes nothing.
-use Prim.Native.Nat.{ℕ, suc, _+_, _-_, _/_, _%_, _<_, _≤_}
-use mathlib.Core.Path.{_≡_, ap}
-use mathlib.Core.List.{List}
-use mathlib.Core.Logic.{_↔_}
-use mathlib.Core.Bool.{cond}
-use lib.Dec.{ltb}
-use native.Mathlib.Omega.{arith}
-use borrow.Author.Tests.{lt-ltb, le-ltb}
-use Rattle.sheet.specs.Layout.{_of_}
-use Rattle.sheet.specs.Lookup.{common, placeOf, joined, rangeOf}
-use Rattle.sheet.specs.Places.{Stands, Ranged}
-use Rattle.sheet.specs.declared.Memory.{Memory}
-use Rattle.sheet.specs.declared.Run.the-variants.{Nowhere}
-use Rattle.sheet.proofs.rules.Good.{Good}
-use Rattle.sheet.proofs.places.Levels.{common-reading, common-writing, below-suc}
-use Rattle.sheet.proofs.searches.Regions.{Covered, in-region, place-none, stands-next}
+use Rattle.octets.proofs.Kit.{ℕ, suc, _+_, _-_, _/_, _%_, _<_, _≤_, _≡_, ap, List, _↔_, cond, ltb, arith, lt-ltb, le-ltb}
+use Rattle.sheet.specs.{Lookup.{common, placeOf, joined, rangeOf}, Places.{Stands, Ranged}, declared.{Memory.Memory, Run.the-variants.Nowhere}}
+use Rattle.sheet.proofs.{rules.Good.Good, places.Levels.{common-reading, common-writing, below-suc}, searches.Regions.{Covered, in-region, place-none, stands-next}}
 
 pub none-at : (s : List ℕ) (m : Memory) (y z : ℕ) → y ≡ z → ((p l : ℕ) → Stands s m y p l → ⊥) → placeOf s m z ≡ Nowhere
 none-at s m y z e f = place-none s m z (λ j c. let b : Covered s m j y = rw e c in f _ _ (in-region b))

@@ -1,25 +1,10 @@
 -- Where a lookup's part stands, in numbers, and the part that these cut out of the sheet.
--- Assumes nothing.
-use Prim.Native.Nat.{ℕ, _+_, _-_, _<_, _≤_}
-use mathlib.Core.Path.{_≡_, refl, sym, ap, _∙_}
-use mathlib.Core.List.{List, []}
-use mathlib.Core.Bool.{Bool, true, false, cond}
-use lib.Dec.{eqb, ltb}
-use lib.ListN.{length, take, drop, length-take, length-drop}
-use borrow.Author.Tests.{eq-eqb, ne-eqb, eqb-true, lt-ltb, le-ltb, ltb-true}
+use Rattle.octets.proofs.Kit.{ℕ, _+_, _-_, _<_, _≤_, _≡_, refl, sym, ap, _∙_, List, [], Bool, true, false, cond, eqb, ltb, length, take, drop, length-take, length-drop, eq-eqb, ne-eqb}
+use Rattle.octets.proofs.Kit.{eqb-true, lt-ltb, le-ltb, ltb-true, add-sub-cancel-left, arith}
 use denote.Ref.{RefT}
-use native.Mathlib.Nat.{add-sub-cancel-left}
-use native.Mathlib.Omega.{arith}
-use Rattle.sheet.specs.Kind.{kinds, OfKind}
-use Rattle.sheet.specs.Entries.{count, entry, offsetOf, lengthOf, bodyEnd}
-use Rattle.sheet.specs.Rules.{verdictOf, Accepted, isAccepted}
-use Rattle.sheet.specs.Lookup.{PartOf, StandsIn, bodyOf, bodyFrom, lookup, lookupFrom}
-use Rattle.sheet.specs.Walk.{Counted}
-use Rattle.sheet.proofs.rules.ByKind.{kinded}
-use Rattle.sheet.proofs.rules.Good.{good}
-use Rattle.sheet.proofs.places.BodyPlaces.{within}
-use Rattle.sheet.proofs.searches.SearchLoops.{body-end}
-use Rattle.sheet.specs.declared.Part.{Part}
+use Rattle.sheet.specs.{Kind.{kinds, OfKind}, Entries.{count, entry, offsetOf, lengthOf, bodyEnd}, Rules.{verdictOf, Accepted, isAccepted}}
+use Rattle.sheet.specs.{Lookup.{PartOf, StandsIn, bodyOf, bodyFrom, lookup, lookupFrom}, Walk.Counted, declared.Part.Part}
+use Rattle.sheet.proofs.{rules.{ByKind.kinded, Good.good}, places.BodyPlaces.within, searches.SearchLoops.body-end}
 
 module _ (s : List ℕ) where
   cut : (a z : ℕ) (x : List ℕ) (f : ℕ) → a + z ≤ length s → take z (drop a s) ≡ x → a ≡ f → StandsIn s (record { offset = a; length = z }) x f

@@ -1,19 +1,9 @@
 -- LAWS of the bodies of regions: a memory has a kind of its own, an address that stands somewhere stands in a body, and no two at one place.
--- Assumes nothing.
-use Prim.Native.Nat.{ℕ, _+_, _<_, _≤_}
-use mathlib.Core.Path.{_≡_, refl, ap}
-use mathlib.Core.List.{List}
-use lib.ListN.{length}
-use native.Mathlib.Omega.{arith}
-use Rattle.sheet.specs.Kind.{properties, groups, kindOf}
-use Rattle.sheet.specs.Layout.{_of_}
-use Rattle.sheet.specs.Region as region
-use Rattle.sheet.specs.Entries.{count, bodyAt, bodyEnd, InBody}
-use Rattle.sheet.specs.Places.{regionAt, Stands}
-use Rattle.sheet.specs.declared.Memory.{Memory}
+use Rattle.octets.proofs.Kit.{ℕ, _+_, _<_, _≤_, _≡_, refl, ap, List, length, arith}
+use Rattle.sheet.specs.{Kind.{properties, groups, kindOf}, Layout._of_, Entries.{count, bodyAt, bodyEnd, InBody}, Places.{regionAt, Stands}, declared.Memory.Memory}
 use Rattle.sheet.specs.declared.Memory.the-variants.{Device, User}
-use Rattle.sheet.proofs.rules.Good.{Good}
-use Rattle.sheet.proofs.places.BodyPlaces.{disjoint}
+use Rattle.sheet.specs.Region as region
+use Rattle.sheet.proofs.{rules.Good.Good, places.BodyPlaces.disjoint}
 
 -- memories have kinds of their own, and a region is no property and no group object
 pub kind-once : (m m′ : Memory) → kindOf m ≡ kindOf m′ → m ≡ m′

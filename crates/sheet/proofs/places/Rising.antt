@@ -1,10 +1,5 @@
 -- Numbers that rise: what lies between the first and the last lies in one step, and in one alone.
--- Assumes nothing.
-use Prim.Native.Nat.{ℕ, zero, suc, _<_, _≤_}
-use mathlib.Core.Path.{_≡_}
-use native.Mathlib.Decide.{decLt}
-use native.Mathlib.Nat.{le-refl, le-trans}
-use native.Mathlib.Omega.{arith}
+use Rattle.octets.proofs.Kit.{ℕ, zero, suc, _<_, _≤_, _≡_, decLt, le-refl, le-trans, arith}
 
 -- p lies in a step of f, below n
 pub record Step (f : ℕ → ℕ) (n p : ℕ) : Type 0 where

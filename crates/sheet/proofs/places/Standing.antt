@@ -1,17 +1,8 @@
 -- Where the entries of a sheet stand: one after the other, from the head to the end of the contents.
--- Assumes nothing.
-use Prim.Native.Nat.{ℕ, suc, _+_, _-_, _<_, _≤_}
-use mathlib.Core.Path.{_≡_, _∙_, ap, subst⁻¹}
-use mathlib.Core.List.{List}
-use lib.ListN.{getD}
-use lib.Seq.{getD-take, getD-drop}
-use native.Mathlib.Omega.{arith}
-use Rattle.octets.specs.Bytes.{numAt}
-use Rattle.octets.proofs.Numbers.{num-same}
-use Rattle.sheet.specs.Kind.{kinds}
-use Rattle.sheet.specs.Layout.{Field, _of_}
+use Rattle.octets.proofs.Kit.{ℕ, suc, _+_, _-_, _<_, _≤_, _≡_, _∙_, ap, subst⁻¹, List, getD, getD-take, getD-drop, arith}
+use Rattle.octets.{specs.Bytes.numAt, proofs.Numbers.num-same}
+use Rattle.sheet.specs.{Kind.kinds, Layout.{Field, _of_}, Entries.{count, size, base, place, contents, entry}}
 use Rattle.sheet.specs.Head as head
-use Rattle.sheet.specs.Entries.{count, size, base, place, contents, entry}
 use Rattle.sheet.proofs.places.Rising.{Step, between, rising, once}
 
 -- byte j of an entry

@@ -1,24 +1,12 @@
 -- Two sheets that agree on what the rules read are both accepted or both not.
--- Assumes nothing.
-use Prim.Native.Nat.{ℕ, _+_, _<_, _≤_}
-use mathlib.Core.Path.{_≡_, sym, _∙_}
-use mathlib.Core.List.{List}
-use native.Mathlib.Omega.{arith}
-use Rattle.sheet.specs.Demand.{Met}
-use Rattle.sheet.specs.Kind.{kinds, regions, properties, groups, users, kindOf}
-use Rattle.sheet.specs.Layout.{Field, _of_}
+use Rattle.octets.proofs.Kit.{ℕ, _+_, _<_, _≤_, _≡_, sym, _∙_, List, arith}
+use Rattle.sheet.specs.{Demand.Met, Kind.{kinds, regions, properties, groups, users, kindOf}, Layout.{Field, _of_}, Entries.{count, entry, floor, sixBits}, Places.regionAt}
+use Rattle.sheet.specs.{Rules.{regionDemands, entryDemands, bodyDemands, Accepted}, declared.Memory.{Memory, the-variants.{Device, User}}, Agree.{Fixed, Agree, AgreeBy}}
 use Rattle.sheet.specs.Head as head
 use Rattle.sheet.specs.Region as region
 use Rattle.sheet.specs.Property as property
 use Rattle.sheet.specs.Group as group
-use Rattle.sheet.specs.Entries.{count, entry, floor, sixBits}
-use Rattle.sheet.specs.Places.{regionAt}
-use Rattle.sheet.specs.Rules.{regionDemands, entryDemands, bodyDemands, Accepted}
-use Rattle.sheet.specs.declared.Memory.{Memory}
-use Rattle.sheet.specs.declared.Memory.the-variants.{Device, User}
-use Rattle.sheet.specs.Agree.{Fixed, Agree, AgreeBy}
-use Rattle.sheet.proofs.rules.ByKind.{eachKind}
-use Rattle.sheet.proofs.rules.Good.{GoodIn, good, accepted}
+use Rattle.sheet.proofs.rules.{ByKind.eachKind, Good.{GoodIn, good, accepted}}
 use Rattle.sheet.proofs.alike.Sames.{front-same, count-same, region-same, property-same, group-same, floor-same, offset-same, at-same, start-same, reached-same}
 use Rattle.sheet.proofs.rules.PlainRows.{six-to, six-from}
 

@@ -1,35 +1,12 @@
 -- The conversion of an old sheet is accepted, and has every byte the same but byte 0; its lookups hand back what the old one has there. A call converts an old sheet and no other.
--- Assumes nothing.
-use Prim.Native.Nat.{ℕ, _+_, _*_, _≤_, _<_}
-use mathlib.Core.Path.{_≡_, refl, sym, subst⁻¹, _∙_}
-use mathlib.Core.Bool.{cond}
-use mathlib.Core.List.{List}
-use lib.Dec.{ltb}
-use lib.ListN.{length, take, drop}
-use native.Mathlib.Decide.{decLt}
-use native.Mathlib.Omega.{arith}
-use borrow.Author.Tests.{eq-eqb, ne-eqb, lt-ltb, le-ltb}
-use Rattle.octets.specs.Bytes.{bytesOf}
-use Rattle.octets.specs.Splice.{splice}
-use Rattle.octets.proofs.Numbers.{length-bytes}
-use Rattle.octets.proofs.Splices.{length-splice, splice-above, splice-num}
-use Rattle.sheet.specs.Kind.{kinds, regions, properties, groups, users}
-use Rattle.sheet.specs.Layout.{_of_}
-use Rattle.sheet.specs.Head as head
-use Rattle.sheet.specs.Head.{rulesOf}
-use Rattle.sheet.specs.Entries.{count, entry, offsetOf, lengthOf, bodyAt}
-use Rattle.sheet.specs.Rules.{verdictOf, isAccepted, Old, edition, retired}
-use Rattle.sheet.specs.Lookup.{when, indexOf, bodyOf, bodyFrom, lookup, lookupFrom}
-use Rattle.sheet.specs.Agree.{AgreeInside}
-use Rattle.sheet.specs.But.{But}
+use Rattle.octets.proofs.Kit.{ℕ, _+_, _*_, _≤_, _<_, _≡_, refl, sym, subst⁻¹, _∙_, cond, List, ltb, length, take, drop, decLt, arith, eq-eqb, ne-eqb, lt-ltb, le-ltb}
+use Rattle.octets.{specs.{Bytes.bytesOf, Splice.splice}, proofs.{Numbers.length-bytes, Splices.{length-splice, splice-above, splice-num}}}
+use Rattle.sheet.specs.{Kind.{kinds, regions, properties, groups, users}, Layout._of_, Head.rulesOf, Entries.{count, entry, offsetOf, lengthOf, bodyAt}}
+use Rattle.sheet.specs.{Rules.{verdictOf, isAccepted, Old, edition, retired}, Lookup.{when, indexOf, bodyOf, bodyFrom, lookup, lookupFrom}, Agree.AgreeInside, But.But}
 use Rattle.sheet.specs.Convert.{conversionOf, convertOutcome, convertSheet, Converts, EditionByte, Converted}
-use Rattle.sheet.proofs.rules.Good.{GoodIn, Good, accepted}
-use Rattle.sheet.proofs.rules.Editions.{spare-first, latest-first}
-use Rattle.sheet.proofs.places.BodyPlaces.{after-contents}
-use Rattle.sheet.proofs.alike.Buts.{part-but}
-use Rattle.sheet.proofs.alike.Sames.{count-same, offset-same, length-same}
-use Rattle.sheet.proofs.alike.SameLookups.{index-same}
-use Rattle.sheet.proofs.alike.EditionApart.{no-users, field-behind, inside, other-good}
+use Rattle.sheet.specs.Head as head
+use Rattle.sheet.proofs.{rules.{Good.{GoodIn, Good, accepted}, Editions.{spare-first, latest-first}}, places.BodyPlaces.after-contents, alike.Buts.part-but}
+use Rattle.sheet.proofs.alike.{Sames.{count-same, offset-same, length-same}, SameLookups.index-same, EditionApart.{no-users, field-behind, inside, other-good}}
 use Rattle.sheet.proofs.promises.Verdicts.{old-good}
 
 -- as the code's returns ask

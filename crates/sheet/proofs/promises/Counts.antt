@@ -1,28 +1,12 @@
 -- New counts of properties, none above its maximum, keep a sheet accepted.
--- Assumes nothing.
-use Prim.Native.Nat.{ℕ, _+_, _-_, _<_, _≤_}
-use mathlib.Core.Path.{_≡_, refl, sym, _∙_, ap}
-use mathlib.Core.List.{List}
-use mathlib.Core.Logic.{_⊎_, inl, inr}
-use lib.ListN.{length, getD}
-use native.Mathlib.Decide.{decLt, ℕ-discrete}
-use native.Mathlib.Omega.{arith}
-use Rattle.octets.specs.Bytes.{numAt, bytesOf}
-use Rattle.octets.specs.Splice.{splice}
-use Rattle.octets.proofs.Numbers.{num-same, length-bytes}
+use Rattle.octets.proofs.Kit.{ℕ, _+_, _-_, _<_, _≤_, _≡_, refl, sym, _∙_, ap, List, _⊎_, inl, inr, length, getD, decLt, ℕ-discrete, arith}
+use Rattle.octets.{specs.{Bytes.{numAt, bytesOf}, Splice.splice}, proofs.Numbers.{num-same, length-bytes}}
 use Rattle.octets.proofs.Splices.{length-splice, splice-below, splice-above, splice-num, splice-num-outside}
-use Rattle.sheet.specs.Kind.{kinds, properties, groups}
-use Rattle.sheet.specs.Layout.{Field, _of_}
+use Rattle.sheet.specs.{Kind.{kinds, properties, groups}, Layout.{Field, _of_}, Entries.{count, size, place, contents, entry, bodyAt}, Rules.{entryDemands, Accepted}}
+use Rattle.sheet.specs.{Agree.{Agree, Fixed}, Stores.{countAt, NoCount}}
 use Rattle.sheet.specs.Head as head
 use Rattle.sheet.specs.Property as property
-use Rattle.sheet.specs.Entries.{count, size, place, contents, entry, bodyAt}
-use Rattle.sheet.specs.Rules.{entryDemands, Accepted}
-use Rattle.sheet.specs.Agree.{Agree, Fixed}
-use Rattle.sheet.specs.Stores.{countAt, NoCount}
-use Rattle.sheet.proofs.rules.Good.{Good, good, accepted}
-use Rattle.sheet.proofs.places.BodyPlaces.{after-contents}
-use Rattle.sheet.proofs.alike.Sparing.{mild, count-stood, six-stood}
-use Rattle.sheet.proofs.alike.Sames.{place-same}
+use Rattle.sheet.proofs.{rules.Good.{Good, good, accepted}, places.BodyPlaces.after-contents, alike.{Sparing.{mild, count-stood, six-stood}, Sames.place-same}}
 use Rattle.sheet.proofs.places.Standing.{field-at, after-head, place-in, one-entry}
 
 -- ANY NUMBER OF NEW COUNTS, none above its maximum

@@ -1,24 +1,15 @@
 -- Worked examples: a sheet with two regions, three properties and one group object, field by field and lookup by lookup.
--- Assumes nothing.
-use Prim.Native.Nat.{ℕ}
-use mathlib.Core.Path.{_≡_, refl}
-use mathlib.Core.List.{List, [], _∷_, map}
-use Rattle.octets.specs.Bytes.{numAt, bytesOf}
-use Rattle.octets.specs.Splice.{splice}
-use Rattle.sheet.specs.Demand.{breach}
-use Rattle.sheet.specs.First.{first}
-use Rattle.sheet.specs.Kind.{regions, properties, groups, users}
-use Rattle.sheet.specs.Layout.{Field, _of_}
+use Rattle.octets.proofs.Kit.{ℕ, _≡_, refl, List, [], _∷_, map}
+use Rattle.octets.specs.{Bytes.{numAt, bytesOf}, Splice.splice}
+use Rattle.sheet.specs.{Demand.breach, First.first, Kind.{regions, properties, groups, users}, Layout.{Field, _of_}, Head.rulesOf}
+use Rattle.sheet.specs.Entries.{count, contents, entry, keyOf, floor, bodyEnd, startOf, reached, sixBits}
+use Rattle.sheet.specs.Rules.{entryDemands, bodyDemands, entryRule, bodyRule, entriesRule, bodiesRule, restRule, walkRule, ruleIn, verdictOf, Accepted, edition, isAccepted}
+use Rattle.sheet.specs.{Convert.{conversionOf, convertOutcome, convertSheet}, Sample.{sample, oldSample}}
+use Rattle.sheet.specs.Lookup.{seek, indexOf, bodyOf, lookup, regionOf, propertyOf, groupOf, objectAt, rank, nthOf}
 use Rattle.sheet.specs.Head as head
-use Rattle.sheet.specs.Head.{rulesOf}
 use Rattle.sheet.specs.Region as region
 use Rattle.sheet.specs.Property as property
 use Rattle.sheet.specs.Group as group
-use Rattle.sheet.specs.Entries.{count, contents, entry, keyOf, floor, bodyEnd, startOf, reached, sixBits}
-use Rattle.sheet.specs.Rules.{entryDemands, bodyDemands, entryRule, bodyRule, entriesRule, bodiesRule, restRule, walkRule, ruleIn, verdictOf, ruleOf, Accepted, edition, isAccepted}
-use Rattle.sheet.specs.Convert.{conversionOf, convertOutcome, convertSheet}
-use Rattle.sheet.specs.Sample.{sample, oldSample}
-use Rattle.sheet.specs.Lookup.{seek, indexOf, bodyOf, lookup, regionOf, propertyOf, groupOf, objectAt, rank, nthOf}
 
 -- THE SHEET, 109 bytes: no two of its numbers that could be taken for one another are the same
 unfoldable pub example : List ℕ

@@ -1,23 +1,9 @@
 -- Entries by their first word: it rises strictly, so a lookup finds the one entry that has it.
--- Assumes nothing.
-use Prim.Native.Nat.{ℕ, suc, _+_, _*_, _<_, _≤_}
-use mathlib.Core.Path.{_≡_, sym, _∙_}
-use mathlib.Core.List.{List}
-use native.Mathlib.Decide.{decLt}
-use native.Mathlib.Nat.{le-trans}
-use native.Mathlib.Omega.{arith}
-use borrow.Author.Tests.{eq-eqb, eqb-true}
+use Rattle.octets.proofs.Kit.{ℕ, suc, _+_, _*_, _<_, _≤_, _≡_, sym, _∙_, List, decLt, le-trans, arith, eq-eqb, eqb-true}
 use Rattle.octets.proofs.Numbers.{num-one, num-two}
-use Rattle.sheet.specs.Kind.{kinds}
-use Rattle.sheet.specs.Layout.{_of_}
+use Rattle.sheet.specs.{Kind.kinds, Layout._of_, Entries.{count, keyOf, floor}, Rules.{entryDemands, Accepted}, Lookup.indexOf}
 use Rattle.sheet.specs.Property as property
-use Rattle.sheet.specs.Entries.{count, keyOf, floor}
-use Rattle.sheet.specs.Rules.{entryDemands, Accepted}
-use Rattle.sheet.specs.Lookup.{indexOf}
-use Rattle.sheet.proofs.rules.ByKind.{eachKind}
-use Rattle.sheet.proofs.rules.Good.{Good, good}
-use Rattle.sheet.proofs.places.Rising.{rising}
-use Rattle.sheet.proofs.searches.FrontSearch.{seek-bound, seek-passes, seek-hit, seek-none}
+use Rattle.sheet.proofs.{rules.{ByKind.eachKind, Good.{Good, good}}, places.Rising.rising, searches.FrontSearch.{seek-bound, seek-passes, seek-hit, seek-none}}
 
 module _ {s : List ℕ} (g : Good s) where
   -- an entry's first word is not below the floor, and below that of the next

@@ -1,10 +1,6 @@
 -- The first rule broken has one of the numbers 1 to 9, and 0 says that none is.
--- Assumes nothing.
-use Prim.Native.Nat.{ℕ, _≤_}
-use mathlib.Core.List.{List}
-use native.Mathlib.Omega.{arith}
-use Rattle.sheet.specs.Rules.{ruleIn}
-use Rattle.sheet.specs.Plain.{Judged, breaks1, breaks2, breaks3, breaks4, breaks5, breaks6, breaks7, breaks8, breaks9, none}
+use Rattle.octets.proofs.Kit.{ℕ, _≤_, List, arith}
+use Rattle.sheet.specs.{Rules.ruleIn, Plain.{Judged, breaks1, breaks2, breaks3, breaks4, breaks5, breaks6, breaks7, breaks8, breaks9, none}}
 use Rattle.sheet.proofs.promises.Plains.{judged}
 
 few : {ed : ℕ} {s : List ℕ} {n : ℕ} → Judged ed s n → n ≤ 9

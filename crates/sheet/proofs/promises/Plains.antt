@@ -1,14 +1,6 @@
 -- The rows judge a sheet as the nine propositions do.
--- Assumes nothing.
-use Prim.Native.Nat.{ℕ, _<_}
-use mathlib.Core.Path.{_≡_}
-use mathlib.Core.List.{List, [], _∷_}
-use lib.Dec.{T}
-use lib.ListN.{take, drop}
-use native.Mathlib.Omega.{arith}
-use Rattle.sheet.specs.Demand.{Demand, breach, Met}
-use Rattle.sheet.specs.First.{first, orElse}
-use Rattle.sheet.specs.Entries.{count}
+use Rattle.octets.proofs.Kit.{ℕ, _<_, _≡_, List, [], _∷_, T, take, drop, arith}
+use Rattle.sheet.specs.{Demand.{Demand, breach, Met}, First.{first, orElse}, Entries.count}
 use Rattle.sheet.specs.Rules.{restRule, frameDemands, zeroDemands, entryDemands, bodyDemands, endDemands, entryRule, bodyRule, entriesRule, bodiesRule, walkRule, ruleIn}
 use Rattle.sheet.specs.Plain.{S1, S2, S3, S4, S5, S6, S7, S8, S9, Judged, breaks1, breaks2, breaks3, breaks4, breaks5, breaks6, breaks7, breaks8, breaks9, none}
 use Rattle.sheet.proofs.rules.First.{orElse-some, orElse-assoc, orElse-zero}

@@ -1,18 +1,8 @@
 -- Every position of an accepted sheet is a byte of the head, of one entry or of one body.
--- Assumes nothing.
-use Prim.Native.Nat.{ℕ, _<_}
-use mathlib.Core.Path.{_≡_, refl}
-use mathlib.Core.List.{List}
-use lib.ListN.{length}
-use native.Mathlib.Decide.{decLt}
-use native.Mathlib.Omega.{arith}
+use Rattle.octets.proofs.Kit.{ℕ, _<_, _≡_, refl, List, length, decLt, arith}
+use Rattle.sheet.specs.{Entries.contents, Rules.Accepted, Places.{Position, inHead, inEntry, inBody, whichOf}}
 use Rattle.sheet.specs.Head as head
-use Rattle.sheet.specs.Entries.{contents}
-use Rattle.sheet.specs.Rules.{Accepted}
-use Rattle.sheet.specs.Places.{Position, inHead, inEntry, inBody, whichOf}
-use Rattle.sheet.proofs.rules.Good.{Good, good}
-use Rattle.sheet.proofs.places.BodyPlaces.{after-contents, disjoint, some-body}
-use Rattle.sheet.proofs.places.Standing.{after-head, place-in, one-entry, some-entry}
+use Rattle.sheet.proofs.{rules.Good.{Good, good}, places.{BodyPlaces.{after-contents, disjoint, some-body}, Standing.{after-head, place-in, one-entry, some-entry}}}
 
 module _ {s : List ℕ} (ok : Accepted s) (p : ℕ) where
   g : Good s

@@ -1,25 +1,10 @@
 -- Properties by their index within an object: a lookup finds the one property that has it.
--- Assumes nothing.
-use Prim.Native.Nat.{ℕ, zero, suc, _+_, _-_, _<_, _≤_}
-use mathlib.Core.Path.{_≡_, refl, sym, _∙_, ap}
-use mathlib.Core.List.{List}
-use mathlib.Core.Bool.{Bool, true, _&&_, and-eq-true-iff}
-use lib.Dec.{eqb}
-use lib.ListN.{getD}
-use native.Mathlib.Decide.{decLt}
-use native.Mathlib.Nat.{le-refl, add-zero, add-suc}
-use native.Mathlib.Omega.{arith}
-use borrow.Author.Tests.{eq-eqb, ne-eqb, eqb-true}
+use Rattle.octets.proofs.Kit.{ℕ, zero, suc, _+_, _-_, _<_, _≤_, _≡_, refl, sym, _∙_, ap, List, Bool, true, _&&_, and-eq-true-iff, eqb, getD, decLt, le-refl, add-zero, add-suc, arith, eq-eqb}
+use Rattle.octets.proofs.Kit.{ne-eqb, eqb-true}
 use Rattle.octets.proofs.Numbers.{num-below}
-use Rattle.sheet.specs.Kind.{properties}
-use Rattle.sheet.specs.Layout.{_of_}
+use Rattle.sheet.specs.{Kind.properties, Layout._of_, Entries.{count, place, entry, keyOf}, Lookup.{objectAt, rank, nthOf}}
 use Rattle.sheet.specs.Property as property
-use Rattle.sheet.specs.Entries.{count, place, entry, keyOf}
-use Rattle.sheet.specs.Lookup.{objectAt, rank, nthOf}
-use Rattle.sheet.proofs.rules.Good.{Good}
-use Rattle.sheet.proofs.promises.Keys.{key-is, key-rising}
-use Rattle.sheet.proofs.places.Rising.{rising}
-use Rattle.sheet.proofs.places.Standing.{field-at}
+use Rattle.sheet.proofs.{rules.Good.Good, promises.Keys.{key-is, key-rising}, places.{Rising.rising, Standing.field-at}}
 use Rattle.sheet.proofs.searches.FrontSearch.{seek-bound, seek-passes, seek-hit, seek-none}
 
 module _ (s : List ℕ) (object : ℕ) where

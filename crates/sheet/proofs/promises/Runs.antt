@@ -1,30 +1,11 @@
 -- The run of bytes that an address range is: it may go over several regions, which follow each other without a gap.
--- Assumes nothing.
-use Prim.Native.Nat.{ℕ, zero, suc, _+_, _-_, _/_, _%_, _<_, _≤_}
-use mathlib.Core.Path.{_≡_, refl, sym, _∙_, ap, subst}
-use mathlib.Core.List.{List}
-use mathlib.Core.Logic.{_⊎_, _↔_}
-use lib.ListN.{length}
-use native.Mathlib.Decide.{decLt}
-use native.Mathlib.Omega.{arith}
+use Rattle.octets.proofs.Kit.{ℕ, zero, suc, _+_, _-_, _/_, _%_, _<_, _≤_, _≡_, refl, sym, _∙_, ap, subst, List, _⊎_, _↔_, length, decLt, arith}
 use Rattle.octets.specs.Splice.{splice}
-use Rattle.sheet.specs.Kind.{groups, kindOf}
-use Rattle.sheet.specs.Layout.{_of_}
-use Rattle.sheet.specs.Entries.{contents, InBody}
-use Rattle.sheet.specs.Lookup.{common, placeOf, joined, rangeOf}
-use Rattle.sheet.specs.Places.{Stands, Ranged}
-use Rattle.sheet.specs.Agree.{Agree}
-use Rattle.sheet.specs.Rules.{Accepted}
-use Rattle.sheet.specs.declared.Memory.{Memory}
-use Rattle.sheet.specs.declared.Run.{Run}
-use Rattle.sheet.specs.declared.Run.the-variants.{At, Nowhere}
-use Rattle.sheet.proofs.rules.Good.{Good, good, accepted}
-use Rattle.sheet.proofs.places.BodyPlaces.{within, after-contents, disjoint}
-use Rattle.sheet.proofs.places.Levels.{levels-once}
-use Rattle.sheet.proofs.searches.Regions.{Covered, covers-stands, in-region, not-both, place-stands, place-hit, below-top, Follows, neighbours}
-use Rattle.sheet.proofs.promises.Stores.{bodies-store}
-use Rattle.sheet.proofs.places.RegionBodies.{no-group, stands-in}
-use Rattle.sheet.proofs.places.Longer.{none-at, range-suc, one, longer}
+use Rattle.sheet.specs.{Kind.{groups, kindOf}, Entries.{contents, InBody}, Lookup.{common, placeOf, joined, rangeOf}, Places.{Stands, Ranged}, Agree.Agree, Rules.Accepted}
+use Rattle.sheet.specs.declared.{Memory.Memory, Run.{Run, the-variants.{At, Nowhere}}}
+use Rattle.sheet.proofs.{rules.Good.{Good, good, accepted}, places.{BodyPlaces.{within, after-contents, disjoint}, Levels.levels-once}}
+use Rattle.sheet.proofs.{searches.Regions.{Covered, covers-stands, in-region, not-both, place-stands, place-hit, below-top, Follows, neighbours}, promises.Stores.bodies-store}
+use Rattle.sheet.proofs.places.{RegionBodies.{no-group, stands-in}, Longer.{none-at, range-suc, one, longer}}
 
 -- AN ADDRESS OF A MEMORY STANDS AT ONE PLACE AT MOST
 pub stands-once :

@@ -1,28 +1,12 @@
 -- Stores inside a body, of a key, of the individual address and of the flags keep a sheet accepted.
--- Assumes nothing.
-use Prim.Native.Nat.{ℕ, _+_, _-_, _<_, _≤_}
-use mathlib.Core.Path.{_≡_, _∙_, ap, ap₂}
-use mathlib.Core.List.{List, [], _∷_}
-use mathlib.Core.Logic.{_⊎_, inl, inr}
-use lib.ListN.{length, getD}
-use native.Mathlib.Decide.{decLt}
-use native.Mathlib.Omega.{arith}
-use Rattle.octets.specs.Bytes.{numAt}
-use Rattle.octets.specs.Splice.{splice}
-use Rattle.octets.proofs.Numbers.{num-same, num-one}
-use Rattle.octets.proofs.Splices.{length-splice, splice-in, splice-below, splice-above, splice-num-outside}
-use Rattle.sheet.specs.Kind.{properties, groups}
-use Rattle.sheet.specs.Layout.{Field, _of_}
+use Rattle.octets.proofs.Kit.{ℕ, _+_, _-_, _<_, _≤_, _≡_, _∙_, ap, ap₂, List, [], _∷_, _⊎_, inl, inr, length, getD, decLt, arith}
+use Rattle.octets.{specs.{Bytes.numAt, Splice.splice}, proofs.{Numbers.{num-same, num-one}, Splices.{length-splice, splice-in, splice-below, splice-above, splice-num-outside}}}
+use Rattle.sheet.specs.{Kind.{properties, groups}, Layout.{Field, _of_}, Entries.{count, place, contents, entry, bodyAt, InBody}, Agree.Agree, Rules.Accepted}
+use Rattle.sheet.specs.Stores.{Inside, Fit, countAt}
 use Rattle.sheet.specs.Head as head
 use Rattle.sheet.specs.Property as property
 use Rattle.sheet.specs.Group as group
-use Rattle.sheet.specs.Entries.{count, place, contents, entry, bodyAt, InBody}
-use Rattle.sheet.specs.Agree.{Agree}
-use Rattle.sheet.specs.Rules.{Accepted}
-use Rattle.sheet.specs.Stores.{Inside, Fit, countAt}
-use Rattle.sheet.proofs.rules.Good.{Good, good}
-use Rattle.sheet.proofs.places.BodyPlaces.{inside-at, inside-within, after-contents, disjoint, end-is}
-use Rattle.sheet.proofs.alike.Sparing.{mild, count-stood, six-stood}
+use Rattle.sheet.proofs.{rules.Good.{Good, good}, places.BodyPlaces.{inside-at, inside-within, after-contents, disjoint, end-is}, alike.Sparing.{mild, count-stood, six-stood}}
 use Rattle.sheet.proofs.places.Standing.{after-head, place-in}
 
 -- A STORE AFTER THE CONTENTS, over one body or several: a code-0 byte is below 64

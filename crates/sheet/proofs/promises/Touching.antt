@@ -1,16 +1,9 @@
 -- A worked example of ranges: regions that touch, a gap, the end of one memory where the other begins, and the top of the addresses.
--- Assumes nothing.
-use Prim.Native.Nat.{ℕ}
-use mathlib.Core.Path.{_≡_, refl}
-use mathlib.Core.List.{List, [], _∷_}
+use Rattle.octets.proofs.Kit.{ℕ, _≡_, refl, List, [], _∷_}
 use Rattle.octets.specs.Bytes.{numAt}
-use Rattle.sheet.specs.Demand.{breach}
-use Rattle.sheet.specs.First.{first}
-use Rattle.sheet.specs.Entries.{entry, floor, bodyEnd, startOf, reached, sixBits}
+use Rattle.sheet.specs.{Demand.breach, First.first, Entries.{entry, floor, bodyEnd, startOf, reached, sixBits}}
 use Rattle.sheet.specs.Rules.{entryDemands, bodyDemands, entryRule, bodyRule, entriesRule, bodiesRule, restRule, walkRule, ruleIn, verdictOf, Accepted}
-use Rattle.sheet.specs.Lookup.{seek, covers, placeOf, common, rangeOf}
-use Rattle.sheet.specs.declared.Memory.the-variants.{Device, User}
-use Rattle.sheet.specs.declared.Run.the-variants.{At, Nowhere}
+use Rattle.sheet.specs.{Lookup.{seek, covers, placeOf, common, rangeOf}, declared.{Memory.the-variants.{Device, User}, Run.the-variants.{At, Nowhere}}}
 
 -- THE SHEET, 90 bytes
 unfoldable pub touching : List ℕ

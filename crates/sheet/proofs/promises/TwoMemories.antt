@@ -1,19 +1,12 @@
 -- A worked example of edition 2: a sheet with both memories, which share addresses.
--- Assumes nothing.
-use Prim.Native.Nat.{ℕ}
-use mathlib.Core.Path.{_≡_, refl}
-use mathlib.Core.List.{List, [], _∷_, map}
+use Rattle.octets.proofs.Kit.{ℕ, _≡_, refl, List, [], _∷_, map}
 use Rattle.octets.specs.Bytes.{numAt}
-use Rattle.sheet.specs.Demand.{breach}
-use Rattle.sheet.specs.First.{first}
-use Rattle.sheet.specs.Kind.{regions, properties, groups, users}
-use Rattle.sheet.specs.Layout.{Field, _of_}
-use Rattle.sheet.specs.Region as region
+use Rattle.sheet.specs.{Demand.breach, First.first, Kind.{regions, properties, groups, users}, Layout.{Field, _of_}}
 use Rattle.sheet.specs.Entries.{count, contents, entry, floor, bodyEnd, startOf, reached, sixBits}
 use Rattle.sheet.specs.Rules.{entryDemands, bodyDemands, entryRule, bodyRule, entriesRule, bodiesRule, restRule, walkRule, ruleIn, verdictOf, ruleOf, Accepted, isAccepted}
-use Rattle.sheet.specs.Lookup.{seek, covers, bodyOf, lookup, regionOf, userRegionOf, placeOf, common, rangeOf}
-use Rattle.sheet.specs.declared.Memory.the-variants.{Device, User}
+use Rattle.sheet.specs.{Lookup.{seek, covers, bodyOf, lookup, regionOf, userRegionOf, placeOf, common, rangeOf}, declared.Memory.the-variants.{Device, User}}
 use Rattle.sheet.specs.declared.Run.the-variants.{At, Nowhere}
+use Rattle.sheet.specs.Region as region
 
 -- all but byte 0
 unfoldable pub after : List ℕ

@@ -1,27 +1,13 @@
 -- A value lookup hands back the whole body of the entry that is asked for, and else nothing.
--- Assumes nothing.
-use Prim.Native.Nat.{ℕ, _+_, _*_, _<_, _≤_}
-use mathlib.Core.Path.{_≡_, refl, sym, _∙_}
-use mathlib.Core.List.{List, []}
-use lib.ListN.{length, getD, take, drop, length-take, length-drop}
-use lib.Seq.{getD-take, getD-drop}
-use native.Mathlib.Decide.{decLt}
-use native.Mathlib.Omega.{arith}
-use borrow.Author.Tests.{eq-eqb, ne-eqb, lt-ltb, le-ltb}
+use Rattle.octets.proofs.Kit.{ℕ, _+_, _*_, _<_, _≤_, _≡_, refl, sym, _∙_, List, [], length, getD, take, drop, length-take, length-drop, getD-take, getD-drop, decLt, arith, eq-eqb, ne-eqb}
+use Rattle.octets.proofs.Kit.{lt-ltb, le-ltb}
 use Rattle.octets.proofs.Numbers.{num-below}
-use Rattle.sheet.specs.Kind.{kinds, regions, properties, groups, users, kindOf}
-use Rattle.sheet.specs.Property as property
-use Rattle.sheet.specs.Entries.{count, place, entry, keyOf, offsetOf, lengthOf, bodyAt, bodyEnd}
+use Rattle.sheet.specs.{Kind.{kinds, regions, properties, groups, users, kindOf}, Entries.{count, place, entry, keyOf, offsetOf, lengthOf, bodyAt, bodyEnd}}
 use Rattle.sheet.specs.Rules.{verdictOf, Accepted, isAccepted}
 use Rattle.sheet.specs.Lookup.{indexOf, bodyOf, bodyFrom, lookup, lookupFrom, regionOf, regionFrom, userRegionOf, userRegionFrom, propertyOf, propertyFrom, groupOf, groupFrom}
-use Rattle.sheet.specs.Places.{PropertyWith}
-use Rattle.sheet.specs.declared.Memory.{Memory}
-use Rattle.sheet.specs.declared.Memory.the-variants.{Device, User}
-use Rattle.sheet.specs.Values.{IsBody, RegionWith, GroupWith, Handed, body, nothing, unaccepted}
-use Rattle.sheet.proofs.rules.Good.{good}
-use Rattle.sheet.proofs.promises.Keys.{index-hit, index-key, key-is, key-parts}
-use Rattle.sheet.proofs.places.BodyPlaces.{within}
-use Rattle.sheet.proofs.places.Standing.{field-at}
+use Rattle.sheet.specs.{Places.PropertyWith, declared.Memory.{Memory, the-variants.{Device, User}}, Values.{IsBody, RegionWith, GroupWith, Handed, body, nothing, unaccepted}}
+use Rattle.sheet.specs.Property as property
+use Rattle.sheet.proofs.{rules.Good.good, promises.Keys.{index-hit, index-key, key-is, key-parts}, places.{BodyPlaces.within, Standing.field-at}}
 
 module _ (s : List ℕ) (k i : ℕ) where
   cut : List ℕ

@@ -1,22 +1,8 @@
 -- What is said of a sheet: every sheet is accepted, old or bad, and one of these alone.
--- Assumes nothing.
-use Prim.Native.Nat.{ℕ}
-use mathlib.Core.Path.{_≡_, refl, sym, _∙_}
-use mathlib.Core.Logic.{_↔_, _⊎_, inl, inr}
-use mathlib.Core.Bool.{Bool, true, cond}
-use mathlib.Core.List.{List}
-use lib.Dec.{eqb}
-use native.Mathlib.Decide.{ℕ-discrete}
-use native.Mathlib.Omega.{arith}
-use borrow.Author.Tests.{eq-eqb, ne-eqb}
-use Rattle.sheet.specs.Layout.{_of_}
+use Rattle.octets.proofs.Kit.{ℕ, _≡_, refl, sym, _∙_, _↔_, _⊎_, inl, inr, Bool, true, cond, List, eqb, ℕ-discrete, arith, eq-eqb, ne-eqb}
+use Rattle.sheet.specs.{Layout._of_, Rules.{ruleIn, ruleOf, verdictOf, refusalOf, refusalBefore, Accepted, Old, Bad, old, edition, retired}, Agree.Agree}
 use Rattle.sheet.specs.Head as head
-use Rattle.sheet.specs.Rules.{ruleIn, ruleOf, verdictOf, refusalOf, refusalBefore, Accepted, Old, Bad, old, edition, retired}
-use Rattle.sheet.specs.Agree.{Agree}
-use Rattle.sheet.proofs.rules.First.{orElse-some}
-use Rattle.sheet.proofs.rules.Good.{GoodIn, passing, passes, frame-met, no-rule}
-use Rattle.sheet.proofs.promises.Nine.{at-most-nine}
-use Rattle.sheet.proofs.promises.Agrees.{kept, agree-sym, both-or-neither}
+use Rattle.sheet.proofs.{rules.{First.orElse-some, Good.{GoodIn, passing, passes, frame-met, no-rule}}, promises.{Nine.at-most-nine, Agrees.{kept, agree-sym, both-or-neither}}}
 
 -- as the code's returns ask
 module _ (s : List ℕ) (r : ℕ) (r-is : r ≡ ruleOf s) where

@@ -1,22 +1,10 @@
 -- What is judged of a body.
--- Assumes nothing.
-use Prim.Native.Nat.{ℕ, _+_, _*_, _≤_, _<_}
-use mathlib.Core.Path.{_≡_, ap, sym, _∙_, subst}
-use mathlib.Core.List.{List}
-use lib.Bits.{bitOr, bitXor, or-add-and, xor-add-and, and-le-l, and-le-r, or-zero-l, xor-self}
-use borrow.Author.Tests.{le-leb, lt-leb}
-use native.Mathlib.Nat.{mul-le-mul}
-use native.Mathlib.Omega.{arith}
+use Rattle.octets.proofs.Kit.{ℕ, _+_, _*_, _≤_, _<_, _≡_, ap, sym, _∙_, subst, List, bitOr, bitXor, or-add-and, xor-add-and, and-le-l, and-le-r, or-zero-l, xor-self, le-leb, lt-leb}
+use Rattle.octets.proofs.Kit.{mul-le-mul, arith}
 use Rattle.octets.specs.Bytes.{numAt}
-use Rattle.sheet.specs.Demand.{Demand, Tells}
-use Rattle.sheet.specs.Kind.{groups}
-use Rattle.sheet.specs.Layout.{_of_}
+use Rattle.sheet.specs.{Demand.{Demand, Tells}, Kind.groups, Layout._of_, Entries.sixBits, Rules.propertyDemands, Walk.{long, Late, VerdictOf}, declared.entry_rules.Verdict.Verdict}
 use Rattle.sheet.specs.Group as group
 use Rattle.sheet.specs.Property as property
-use Rattle.sheet.specs.Entries.{sixBits}
-use Rattle.sheet.specs.Rules.{propertyDemands}
-use Rattle.sheet.specs.Walk.{long, Late, VerdictOf}
-use Rattle.sheet.specs.declared.entry_rules.Verdict.{Verdict}
 use Rattle.sheet.proofs.rules.Demands.{told, met}
 
 -- two numbers together are 0 if both are; what differs between two is 0 if they are one

@@ -1,12 +1,5 @@
 -- A table of demands, its first broken row, and that all rows hold.
--- Assumes nothing.
-use Prim.Native.Nat.{ℕ, _≤_}
-use mathlib.Core.List.{List, [], _∷_}
-use mathlib.Core.Bool.{Bool, true, false, cond}
-use mathlib.Core.Path.{_≡_, refl}
-use lib.Dec.{leb, T}
-use native.Mathlib.Omega.{arith}
-use borrow.Author.Tests.{le-leb, leb-true, leb-false, eq-eqb, eqb-true, eqb-false}
+use Rattle.octets.proofs.Kit.{ℕ, _≤_, List, [], _∷_, Bool, true, false, cond, _≡_, refl, leb, T, arith, le-leb, leb-true, leb-false, eq-eqb, eqb-true, eqb-false}
 use Rattle.sheet.specs.Demand.{Demand, Order, _≼_, _≐_, test, Holds, Fails, breach, Met, Tells}
 
 -- a test tells whether the order holds

@@ -1,11 +1,6 @@
 -- Byte 15 and the last number of rules, by the edition.
--- Assumes nothing.
-use Prim.Native.Nat.{ℕ}
-use mathlib.Core.Path.{_≡_, sym, _∙_}
-use mathlib.Core.List.{List}
-use borrow.Author.Tests.{eq-eqb, ne-eqb}
-use Rattle.sheet.specs.Rules.{edition}
-use Rattle.sheet.specs.Layout.{_of_}
+use Rattle.octets.proofs.Kit.{ℕ, _≡_, sym, _∙_, List, eq-eqb, ne-eqb}
+use Rattle.sheet.specs.{Rules.edition, Layout._of_}
 use Rattle.sheet.specs.Head as head
 
 module _ (s : List ℕ) (r : ℕ) (e : r ≡ head.edition of s) where

@@ -1,18 +1,9 @@
 -- Where entries stand.
--- Assumes nothing.
-use Prim.Native.Nat.{ℕ, _+_, _-_, _≤_, _<_}
-use mathlib.Core.Path.{_≡_, refl, subst⁻¹}
-use mathlib.Core.List.{List}
-use lib.ListN.{length, take, drop, length-take, length-drop}
-use native.Mathlib.Nat.{add-sub-cancel-left}
-use native.Mathlib.Omega.{arith}
+use Rattle.octets.proofs.Kit.{ℕ, _+_, _-_, _≤_, _<_, _≡_, refl, subst⁻¹, List, length, take, drop, length-take, length-drop, add-sub-cancel-left, arith}
 use Rattle.octets.specs.Bytes.{numAt}
-use Rattle.sheet.specs.Rules.{edition}
-use Rattle.sheet.specs.Kind.{users, kinds, OfKind}
+use Rattle.sheet.specs.{Rules.edition, Kind.{users, kinds, OfKind}, Entries.{count, size, place, contents, entry, offsetOf}, Walk.{Framed, Entry, Counted, Starts, Shown, far}}
 use Rattle.sheet.specs.Region as region
 use Rattle.sheet.specs.Head as head
-use Rattle.sheet.specs.Entries.{count, size, place, contents, entry, offsetOf}
-use Rattle.sheet.specs.Walk.{Framed, Entry, Counted, Starts, Shown, far}
 use Rattle.sheet.proofs.rules.ByKind.{eachKind, kinded, at-kind}
 
 -- the numbers of entries stand one after the other, that of regions first, but for that of the user regions

@@ -1,24 +1,9 @@
 -- A sheet breaks no rule exactly if all its demands are met; it is accepted if it is of edition 2 then.
--- Assumes nothing.
-use Prim.Native.Nat.{ℕ, _<_, _≤_}
-use mathlib.Core.Path.{_≡_, sym, _∙_}
-use mathlib.Core.List.{List}
-use lib.Dec.{T, eqb}
-use mathlib.Core.Bool.{cond}
-use native.Mathlib.Decide.{ℕ-discrete}
-use native.Mathlib.Omega.{arith}
-use borrow.Author.Tests.{ne-eqb}
-use Rattle.sheet.specs.Demand.{breach, Met}
-use Rattle.sheet.specs.First.{first}
-use Rattle.sheet.specs.Kind.{kinds, users}
-use Rattle.sheet.specs.Layout.{_of_}
+use Rattle.octets.proofs.Kit.{ℕ, _<_, _≤_, _≡_, sym, _∙_, List, T, eqb, cond, ℕ-discrete, arith, ne-eqb}
+use Rattle.sheet.specs.{Demand.{breach, Met}, First.first, Kind.{kinds, users}, Layout._of_, Entries.count, Rules.{frameDemands, zeroDemands, entryDemands, bodyDemands, endDemands}}
+use Rattle.sheet.specs.Rules.{entryRule, bodyRule, entriesRule, bodiesRule, restRule, walkRule, ruleIn, ruleOf, verdictOf, edition, retired, old, Accepted}
 use Rattle.sheet.specs.Head as head
-use Rattle.sheet.specs.Entries.{count}
-use Rattle.sheet.specs.Rules.{frameDemands, zeroDemands, entryDemands, bodyDemands, endDemands, entryRule, bodyRule, entriesRule}
-use Rattle.sheet.specs.Rules.{bodiesRule, restRule, walkRule, ruleIn, ruleOf, verdictOf, edition, retired, old, Accepted}
-use Rattle.sheet.proofs.rules.ByKind.{eachKind}
-use Rattle.sheet.proofs.rules.Demands.{met, unbroken, named}
-use Rattle.sheet.proofs.rules.First.{orElse-left, orElse-right, first-each, first-all, first-more, first-suc}
+use Rattle.sheet.proofs.rules.{ByKind.eachKind, Demands.{met, unbroken, named}, First.{orElse-left, orElse-right, first-each, first-all, first-more, first-suc}}
 
 -- a sheet of an edition whose demands are all met, part by part
 pub record GoodIn (ed : ℕ) (s : List ℕ) : Type 0 where

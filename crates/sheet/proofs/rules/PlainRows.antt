@@ -1,19 +1,9 @@
 -- S6 to S9 say what the rows of the entries and of the bodies say.
--- Assumes nothing.
-use Prim.Native.Nat.{ℕ, zero, suc, _<_, _≤_}
-use mathlib.Core.Path.{_≡_}
-use mathlib.Core.List.{List}
-use native.Mathlib.Decide.{decLt}
-use native.Mathlib.Omega.{arith}
-use borrow.Author.Tests.{le-leb, lt-leb}
+use Rattle.octets.proofs.Kit.{ℕ, zero, suc, _<_, _≤_, _≡_, List, decLt, arith, le-leb, lt-leb}
 use Rattle.octets.specs.Bytes.{numAt}
-use Rattle.sheet.specs.Demand.{Met}
-use Rattle.sheet.specs.Kind.{kinds, regions, properties, groups, users}
-use Rattle.sheet.specs.Layout.{_of_}
+use Rattle.sheet.specs.{Demand.Met, Kind.{kinds, regions, properties, groups, users}, Layout._of_, Entries.{count, entry, floor, bodyAt, reached, sixBits}}
+use Rattle.sheet.specs.{Rules.{entryDemands, bodyDemands, endDemands}, Plain.{Ordered, S6, S7, S8, S9}}
 use Rattle.sheet.specs.Group as group
-use Rattle.sheet.specs.Entries.{count, entry, floor, bodyAt, reached, sixBits}
-use Rattle.sheet.specs.Rules.{entryDemands, bodyDemands, endDemands}
-use Rattle.sheet.specs.Plain.{Ordered, S6, S7, S8, S9}
 use Rattle.sheet.proofs.rules.ByKind.{eachKind}
 
 -- the demands of all entries of a kind, and of all their bodies

@@ -1,27 +1,13 @@
 -- The walk: what its steps leave, and where it leaves, with which rule.
--- Assumes nothing.
-use Prim.Native.Nat.{ℕ, zero, suc, _+_, _*_, _%_, _≤_, _<_}
-use mathlib.Core.Path.{_≡_, refl, sym, _∙_, ap, subst, subst⁻¹}
-use mathlib.Core.List.{List}
-use mathlib.Core.Bool.{Bool, true, false, cond}
-use lib.Dec.{eqb, leb}
-use native.Mathlib.Decide.{decLt}
-use native.Mathlib.Numerals.{add-one}
-use native.Mathlib.Omega.{arith}
+use Rattle.octets.proofs.Kit.{ℕ, zero, suc, _+_, _*_, _%_, _≤_, _<_, _≡_, refl, sym, _∙_, ap, subst, subst⁻¹, List, Bool, true, false, cond, eqb, leb, decLt, add-one, arith}
 use Rattle.octets.specs.Bytes.{numAt}
-use Rattle.sheet.specs.Demand.{Tells, breach}
-use Rattle.sheet.specs.First.{first, orElse}
-use Rattle.sheet.specs.Kind.{regions, properties, groups, users, byKind, kinds, OfKind}
-use Rattle.sheet.specs.Layout.{_of_}
+use Rattle.sheet.specs.{Demand.{Tells, breach}, First.{first, orElse}, Kind.{regions, properties, groups, users, byKind, kinds, OfKind}, Layout._of_}
+use Rattle.sheet.specs.{Entries.{count, size, base, place, contents, entry, floor, floorAfter, offsetOf, lengthOf, sixBits, bodyEnd, startOf, reached}, Rules.regionDemands}
+use Rattle.sheet.specs.Rules.{propertyDemands, groupDemands, entryDemands, bodyDemands, endDemands, frameDemands, zeroDemands, entryRule, bodyRule, entriesRule, bodiesRule, restRule}
+use Rattle.sheet.specs.{Rules.{walkRule, ruleIn, ruleOf, edition}, Walk.{Framed, Entry, Counted, lastOf, long, far, Late, Next, VerdictOf, Steps}, declared.entry_rules.Verdict.Verdict}
 use Rattle.sheet.specs.Head as head
 use Rattle.sheet.specs.Property as property
-use Rattle.sheet.specs.Entries.{count, size, base, place, contents, entry, floor, floorAfter, offsetOf, lengthOf, sixBits, bodyEnd, startOf, reached}
-use Rattle.sheet.specs.Rules.{regionDemands, propertyDemands, groupDemands, entryDemands, bodyDemands, endDemands, frameDemands}
-use Rattle.sheet.specs.Rules.{zeroDemands, entryRule, bodyRule, entriesRule, bodiesRule, restRule, walkRule, ruleIn, ruleOf, edition}
-use Rattle.sheet.specs.Walk.{Framed, Entry, Counted, lastOf, long, far, Late, Next, VerdictOf, Steps}
-use Rattle.sheet.specs.declared.entry_rules.Verdict.{Verdict}
-use Rattle.sheet.proofs.rules.ByKind.{eachKind}
-use Rattle.sheet.proofs.rules.Demands.{told, met, one-rule, unbroken as all-unbroken}
+use Rattle.sheet.proofs.rules.{ByKind.eachKind, Demands.{told, met, one-rule, unbroken as all-unbroken}}
 use Rattle.sheet.proofs.rules.First.{orElse-some, orElse-left, orElse-right, orElse-zero, orElse-assoc, first-none, first-suc, first-more, first-stop}
 
 pub framed : (ed : ℕ) (s : List ℕ) (r : ℕ) → Tells r (frameDemands ed s) → r ≡ 0 → Framed ed s

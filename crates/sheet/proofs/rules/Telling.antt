@@ -1,17 +1,7 @@
 -- A number that says whether a proposition holds: 0 if it does, the rule's if not.
--- Assumes nothing.
-use Prim.Native.Nat.{ℕ, zero, suc, _<_, _≤_}
-use mathlib.Core.List.{List, [], _∷_, _++_}
-use mathlib.Core.Bool.{Bool, true, false, cond}
-use mathlib.Core.Path.{_≡_, refl, sym, _∙_}
-use lib.Dec.{T, eqb, leb}
-use native.Mathlib.Decide.{decLt}
-use native.Mathlib.Omega.{arith}
-use borrow.Author.Tests.{eqb-true, leb-true}
-use Rattle.sheet.specs.Demand.{Demand, test, Holds, breach, Met}
-use Rattle.sheet.specs.First.{first, orElse}
-use Rattle.sheet.proofs.rules.Demands.{passed, failed, contrary, both, named}
-use Rattle.sheet.proofs.rules.First.{orElse-some}
+use Rattle.octets.proofs.Kit.{ℕ, zero, suc, _<_, _≤_, List, [], _∷_, _++_, Bool, true, false, cond, _≡_, refl, sym, _∙_, T, eqb, leb, decLt, arith, eqb-true, leb-true}
+use Rattle.sheet.specs.{Demand.{Demand, test, Holds, breach, Met}, First.{first, orElse}}
+use Rattle.sheet.proofs.rules.{Demands.{passed, failed, contrary, both, named}, First.orElse-some}
 
 -- r is 0 and P holds, or r is n and P does not
 pub data Says (n : ℕ) (P : Type 0) (r : ℕ) : Type 0 where

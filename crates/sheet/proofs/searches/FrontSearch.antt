@@ -1,10 +1,5 @@
 -- A search from the front: what it finds, and when.
--- Assumes nothing.
-use Prim.Native.Nat.{ℕ, zero, suc, _+_, _<_, _≤_}
-use mathlib.Core.Path.{_≡_, refl, sym, _∙_}
-use mathlib.Core.Bool.{Bool, true, false, cond, true≢false}
-use native.Mathlib.Decide.{decLt}
-use native.Mathlib.Omega.{arith}
+use Rattle.octets.proofs.Kit.{ℕ, zero, suc, _+_, _<_, _≤_, _≡_, refl, sym, _∙_, Bool, true, false, cond, true≢false, decLt, arith}
 use Rattle.sheet.specs.Lookup.{seek}
 
 -- r is the first of i, .., i + d - 1 that passes, and i + d where none does

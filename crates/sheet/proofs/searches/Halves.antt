@@ -1,18 +1,7 @@
 -- A search by halves, as a loop makes it: the first words rise. It finds what a search from the front finds.
--- Assumes nothing.
-use Prim.Native.Nat.{ℕ, _+_, _-_, _/_, _<_, _≤_}
-use mathlib.Core.Path.{_≡_, sym, _∙_}
-use mathlib.Core.List.{List}
-use native.Mathlib.Decide.{decLt}
-use native.Mathlib.Omega.{arith}
-use Rattle.sheet.specs.Kind.{kinds}
-use Rattle.sheet.specs.Entries.{count, keyOf}
-use Rattle.sheet.specs.Rules.{Accepted}
-use Rattle.sheet.specs.Lookup.{indexOf}
-use Rattle.sheet.specs.Walk.{Entry, Counted, Lower}
-use Rattle.sheet.proofs.rules.Good.{good}
-use Rattle.sheet.proofs.promises.Keys.{key-rising, index-hit, index-none}
-use Rattle.sheet.proofs.searches.SearchLoops.{ok-framed}
+use Rattle.octets.proofs.Kit.{ℕ, _+_, _-_, _/_, _<_, _≤_, _≡_, sym, _∙_, List, decLt, arith}
+use Rattle.sheet.specs.{Kind.kinds, Entries.{count, keyOf}, Rules.Accepted, Lookup.indexOf, Walk.{Entry, Counted, Lower}}
+use Rattle.sheet.proofs.{rules.Good.good, promises.Keys.{key-rising, index-hit, index-none}, searches.SearchLoops.ok-framed}
 
 -- THE INVARIANT: before lo the first words are below x, from hi on they are not
 pub record Halved (s : List ℕ) (k x lo hi : ℕ) : Type 0 where

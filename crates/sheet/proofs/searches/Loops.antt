@@ -1,29 +1,12 @@
 -- Address ranges found as the code does it: by halves to the first region, then on from region to region.
--- Assumes nothing.
-use Prim.Native.Nat.{ℕ, zero, suc, _+_, _-_, _≤_, _<_}
-use mathlib.Core.Path.{_≡_, refl, sym, _∙_, ap, subst}
-use mathlib.Core.List.{List}
-use native.Mathlib.Decide.{decLt}
-use native.Mathlib.Omega.{arith}
-use Rattle.sheet.specs.Kind.{kinds, properties, kindOf}
-use Rattle.sheet.specs.Layout.{_of_}
+use Rattle.octets.proofs.Kit.{ℕ, zero, suc, _+_, _-_, _≤_, _<_, _≡_, refl, sym, _∙_, ap, subst, List, decLt, arith}
+use Rattle.sheet.specs.{Kind.{kinds, properties, kindOf}, Layout._of_, Entries.{count, entry}, Lookup.{objectAt, common, rangeOf}, Places.regionAt, Rules.Accepted}
+use Rattle.sheet.specs.{Walk.{Holds, Entry, Counted, Lower, Goes, Onward}, declared.{Memory.Memory, ranges.Reach.Reach, Run.the-variants.{At, Nowhere}}}
 use Rattle.sheet.specs.Region as region
 use Rattle.sheet.specs.Property as property
-use Rattle.sheet.specs.Entries.{count, entry}
-use Rattle.sheet.specs.Lookup.{objectAt, common, rangeOf}
-use Rattle.sheet.specs.Places.{regionAt}
-use Rattle.sheet.specs.Rules.{Accepted}
-use Rattle.sheet.specs.Walk.{Holds, Entry, Counted, Lower, Goes, Onward}
-use Rattle.sheet.specs.declared.Memory.{Memory}
-use Rattle.sheet.specs.declared.ranges.Reach.{Reach}
-use Rattle.sheet.specs.declared.Run.the-variants.{At, Nowhere}
-use Rattle.sheet.proofs.rules.Good.{Good, good}
-use Rattle.sheet.proofs.rules.Entries.{few as few-entries}
-use Rattle.sheet.proofs.places.Levels.{common-self, common-again}
-use Rattle.sheet.proofs.searches.Regions.{startsAt, endsAt, Covered, covers-stands, in-region, regions-apart, region-rows, place-hit}
-use Rattle.sheet.proofs.places.Longer.{range-suc}
-use Rattle.sheet.proofs.promises.Runs.{range-none}
-use Rattle.sheet.proofs.searches.SearchLoops.{ok-framed, key-word}
+use Rattle.sheet.proofs.{rules.{Good.{Good, good}, Entries.few as few-entries}, places.Levels.{common-self, common-again}}
+use Rattle.sheet.proofs.{searches.Regions.{startsAt, endsAt, Covered, covers-stands, in-region, regions-apart, region-rows, place-hit}, places.Longer.range-suc}
+use Rattle.sheet.proofs.{promises.Runs.range-none, searches.SearchLoops.{ok-framed, key-word}}
 
 -- the object of a property
 pub object-of : (s : List ℕ) (i : ℕ) (e : List ℕ) (r : ℕ) → e ≡ entry s properties i → r ≡ property.object of e → r ≡ objectAt s i

@@ -1,19 +1,7 @@
 -- An object's properties stand side by side: by halves one finds the first, and counts on from it.
--- Assumes nothing.
-use Prim.Native.Nat.{ℕ, _+_, _*_, _-_, _≤_, _<_}
-use mathlib.Core.Path.{_≡_, sym, _∙_, ap}
-use mathlib.Core.List.{List}
-use lib.ListN.{getD}
-use native.Mathlib.Decide.{decLe}
-use native.Mathlib.Omega.{arith}
-use Rattle.sheet.specs.Kind.{properties}
-use Rattle.sheet.specs.Entries.{count, entry, keyOf}
-use Rattle.sheet.specs.Rules.{Accepted}
-use Rattle.sheet.specs.Lookup.{objectAt, rank, nthOf}
-use Rattle.sheet.specs.Walk.{Counted, Lower}
-use Rattle.sheet.proofs.rules.Good.{Good, good}
-use Rattle.sheet.proofs.promises.Keys.{key-is}
-use Rattle.sheet.proofs.promises.Ranks.{id-below, object-rising, rank-is, rank-none, rank-along, rank-flat, nth-hit, nth-none}
+use Rattle.octets.proofs.Kit.{ℕ, _+_, _*_, _-_, _≤_, _<_, _≡_, sym, _∙_, ap, List, getD, decLe, arith}
+use Rattle.sheet.specs.{Kind.properties, Entries.{count, entry, keyOf}, Rules.Accepted, Lookup.{objectAt, rank, nthOf}, Walk.{Counted, Lower}}
+use Rattle.sheet.proofs.{rules.Good.{Good, good}, promises.{Keys.key-is, Ranks.{id-below, object-rising, rank-is, rank-none, rank-along, rank-flat, nth-hit, nth-none}}}
 
 module _ (s : List ℕ) (ok : Accepted s) (bytes : (i : ℕ) → getD s i 0 < 256) (object a : ℕ) (low : Lower s properties (object * 256) a) where
   g : Good s

@@ -1,10 +1,5 @@
 -- A property's index within its object is at most its number.
--- Assumes nothing.
-use Prim.Native.Nat.{ℕ, zero, suc, _+_, _≤_}
-use mathlib.Core.Bool.{Bool, true, false, cond}
-use mathlib.Core.List.{List}
-use lib.Dec.{eqb}
-use native.Mathlib.Omega.{arith}
+use Rattle.octets.proofs.Kit.{ℕ, zero, suc, _+_, _≤_, Bool, true, false, cond, List, eqb, arith}
 use Rattle.sheet.specs.Lookup.{objectAt, rank}
 
 pub rank-bound : (s : List ℕ) (object i : ℕ) → rank s object i ≤ i

@@ -1,28 +1,10 @@
 -- The regions of a memory by address: at most one has it, and neighbours touch.
--- Assumes nothing.
-use Prim.Native.Nat.{ℕ, suc, _+_, _-_, _<_, _≤_}
-use mathlib.Core.Path.{_≡_, refl, _∙_, ap}
-use mathlib.Core.List.{List}
-use mathlib.Core.Logic.{_⊎_, inl, inr}
-use mathlib.Core.Bool.{Bool, true, false, cond, and-eq-true-iff}
-use lib.Dec.{leb, ltb}
-use native.Mathlib.Decide.{decLt}
-use native.Mathlib.Omega.{arith}
-use borrow.Author.Tests.{le-leb, leb-true, lt-ltb, le-ltb, ltb-true}
-use Rattle.sheet.specs.Kind.{regions, users, kindOf}
-use Rattle.sheet.specs.Layout.{_of_}
+use Rattle.octets.proofs.Kit.{ℕ, suc, _+_, _-_, _<_, _≤_, _≡_, refl, _∙_, ap, List, _⊎_, inl, inr, Bool, true, false, cond, and-eq-true-iff, leb, ltb, decLt, arith, le-leb, leb-true, lt-ltb}
+use Rattle.octets.proofs.Kit.{le-ltb, ltb-true}
+use Rattle.sheet.specs.{Kind.{regions, users, kindOf}, Layout._of_, Entries.{count, keyOf, floor, bodyAt, bodyEnd}, Lookup.{seek, covers, runIn, placeOf}, Places.{regionAt, Stands}}
+use Rattle.sheet.specs.{Rules.entryDemands, declared.{Memory.{Memory, the-variants.{Device, User}}, Run.the-variants.{At, Nowhere}}}
 use Rattle.sheet.specs.Region as region
-use Rattle.sheet.specs.Entries.{count, keyOf, floor, bodyAt, bodyEnd}
-use Rattle.sheet.specs.Lookup.{seek, covers, runIn, placeOf}
-use Rattle.sheet.specs.Places.{regionAt, Stands}
-use Rattle.sheet.specs.Rules.{entryDemands}
-use Rattle.sheet.specs.declared.Memory.{Memory}
-use Rattle.sheet.specs.declared.Memory.the-variants.{Device, User}
-use Rattle.sheet.specs.declared.Run.the-variants.{At, Nowhere}
-use Rattle.sheet.proofs.rules.Good.{Good}
-use Rattle.sheet.proofs.promises.Keys.{past-floor}
-use Rattle.sheet.proofs.places.BodyPlaces.{starts, reached-next}
-use Rattle.sheet.proofs.searches.FrontSearch.{seek-passes, seek-hit, seek-none}
+use Rattle.sheet.proofs.{rules.Good.Good, promises.Keys.past-floor, places.BodyPlaces.{starts, reached-next}, searches.FrontSearch.{seek-passes, seek-hit, seek-none}}
 
 -- where region i of a memory begins, and where it ends
 abbrev pub startsAt : List ℕ → Memory → ℕ → ℕ

@@ -1,21 +1,8 @@
 -- A search from the front as a loop makes it, the first word of an entry, and where the body of one ends.
--- Assumes nothing.
-use Prim.Native.Nat.{ℕ, zero, suc, _+_, _<_, _≤_}
-use mathlib.Core.Path.{_≡_, refl, _∙_, ap}
-use mathlib.Core.List.{List}
-use mathlib.Core.Bool.{Bool, false}
-use lib.ListN.{length}
-use native.Mathlib.Decide.{decLt}
-use native.Mathlib.Omega.{arith}
-use Rattle.sheet.specs.Kind.{kinds, OfKind}
-use Rattle.sheet.specs.Layout.{_of_}
+use Rattle.octets.proofs.Kit.{ℕ, zero, suc, _+_, _<_, _≤_, _≡_, refl, _∙_, ap, List, Bool, false, length, decLt, arith}
+use Rattle.sheet.specs.{Kind.{kinds, OfKind}, Layout._of_, Entries.{entry, keyOf, offsetOf, lengthOf, bodyEnd}, Rules.{Accepted, edition}, Walk.{Framed, Entry, Counted}}
 use Rattle.sheet.specs.Region as region
-use Rattle.sheet.specs.Entries.{entry, keyOf, offsetOf, lengthOf, bodyEnd}
-use Rattle.sheet.specs.Rules.{Accepted, edition}
-use Rattle.sheet.specs.Walk.{Framed, Entry, Counted}
-use Rattle.sheet.proofs.rules.ByKind.{kinded}
-use Rattle.sheet.proofs.rules.Good.{good}
-use Rattle.sheet.proofs.places.BodyPlaces.{within}
+use Rattle.sheet.proofs.{rules.{ByKind.kinded, Good.good}, places.BodyPlaces.within}
 
 pub ok-framed : (s : List ℕ) → Accepted s → Framed edition s
 ok-framed s e = record { rows = good s e .framed }

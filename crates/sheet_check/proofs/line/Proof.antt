@@ -1,8 +1,6 @@
 -- `sheet_check::line` meets its contract.
--- Assumes nothing.
-use borrow.Author.Needs.{needs}
-use Rattle.sheet_check.proofs.Lines.{fine, outdated, broken}
-use Rattle.sheet_check.proofs.line.Statement.{statement}
+use Rattle.octets.proofs.Kit.{needs}
+use Rattle.sheet_check.proofs.{Lines.{fine, outdated, broken}, line.Statement.statement}
 use Rattle.sheet_check.proofs.line.Tie as tie
 
 pub line-spec : {M : Type 1} → statement M

@@ -1,9 +1,5 @@
 -- `sheet_check::main` is safe: the bytes that came are part of the buffer.
--- Assumes nothing.
-use mathlib.Core.Path.{sym}
-use lib.Seq.{length-take-le}
-use native.Mathlib.Omega.{arith}
-use borrow.Author.Needs.{needs}
+use Rattle.octets.proofs.Kit.{sym, length-take-le, arith, needs}
 use Rattle.sheet_check.proofs.main.Statement.{statement}
 use Rattle.sheet_check.proofs.main.Tie as tie
 

@@ -1,9 +1,5 @@
 -- `sheet_check::read_all` meets its contract. The invariant: what came fits the buffer, which is as long as it was.
--- Assumes nothing.
-use Prim.Native.Nat.{_≤_, _-_}
-use mathlib.Core.Path.{_≡_}
-use borrow.Author.Needs.{needs}
-use lib.ListN.{length}
+use Rattle.octets.proofs.Kit.{_≤_, _-_, _≡_, needs, length}
 use Rattle.sheet_check.proofs.read_all.Statement.{statement}
 use Rattle.sheet_check.proofs.read_all.Tie as tie
 

@@ -1,8 +1,6 @@
 -- `sheet_check::said` meets its contract.
--- Assumes nothing.
-use borrow.Author.Needs.{needs}
-use Rattle.sheet_check.proofs.Lines.{at-most-14, via-said}
-use Rattle.sheet_check.proofs.said.Statement.{statement}
+use Rattle.octets.proofs.Kit.{needs}
+use Rattle.sheet_check.proofs.{Lines.{at-most-14, via-said}, said.Statement.statement}
 use Rattle.sheet_check.proofs.said.Tie as tie
 
 pub said-spec : {M : Type 1} → statement M

@@ -1,18 +1,8 @@
 -- A SLOT WORKED BY HAND: the sheet 1, 2, 3 under number 7, its check sum by another program (zlib); what each wrong byte gives. Assumes nothing.
-use Prim.Native.Nat.{ℕ, _<_}
-use mathlib.Core.Path.{_≡_, refl}
-use mathlib.Core.List.{List, [], _∷_, _++_}
-use native.Mathlib.Omega.{arith}
-use lib.ListN.{length, take, drop, getD, set, replicate}
-use Rattle.octets.specs.Bytes.{numAt, bytesOf}
-use Rattle.octets.specs.Splice.{splice}
-use Rattle.slots.specs.Crc.{crcOf, crcFrom, byteStep, bits, bitStep}
-use Rattle.slots.specs.Slot.{marked, markUnit, blankUnit, tailOf, headOf, bad, slotOf, nextOf, newerOf, targetOf}
-use Rattle.slots.specs.declared.Slot.{Slot}
-use Rattle.slots.specs.Medium.{held, nothing, sheet, Medium, choice}
-use Rattle.slots.specs.Parts.{beginOf, moreOf, endOf}
-use Rattle.slots.specs.Saving.{workOf, pieceOf}
-use Rattle.slots.specs.Lives.{Ready, one, none}
+use Rattle.octets.proofs.Kit.{ℕ, _≡_, refl, List, [], _∷_, _++_, arith, length, take, set, replicate}
+use Rattle.octets.specs.{Bytes.{numAt, bytesOf}, Splice.splice}
+use Rattle.slots.specs.{Crc.{crcOf, crcFrom, byteStep, bits, bitStep}, Slot.{marked, markUnit, blankUnit, tailOf, headOf, bad, slotOf, nextOf, newerOf, targetOf}, declared.Slot.Slot}
+use Rattle.slots.specs.{Medium.{held, sheet, choice}, Parts.{beginOf, moreOf, endOf}, Saving.{workOf, pieceOf}, Lives.{Ready, one, none}}
 
 abbrev example : List ℕ
 example =

@@ -1,18 +1,9 @@
 -- A NEW UNIT, whose slots hold nothing; and where the save after a save goes. Assumes nothing.
-use Prim.Native.Nat.{ℕ, _-_, _≤_, _<_}
-use mathlib.Core.Path.{_≡_, refl, sym, ap, _∙_, subst}
-use mathlib.Core.List.{List}
-use mathlib.Core.Bool.{Bool, true, false}
-use native.Mathlib.Omega.{arith}
-use lib.ListN.{length}
-use Rattle.slots.specs.Slot.{longest, nextOf, newerOf, slotOf}
-use Rattle.slots.specs.Medium as medium
-use Rattle.slots.specs.Medium.{nothing, sheet, held, pieces, Did, Cut, Medium, goal, Saved, Broken}
-use Rattle.slots.specs.Lives.{Older, none, last, Ready, one, two, Blank, FirstCut}
+use Rattle.octets.proofs.Kit.{ℕ, _-_, _≤_, _≡_, refl, sym, ap, _∙_, subst, List, Bool, true, false, arith, length}
+use Rattle.slots.specs.{Slot.{longest, nextOf, slotOf}, Medium.{pieces, Did, Cut, Medium, goal, Saved, Broken}, Lives.{Older, none, last, Ready, one, two, Blank, FirstCut}}
 use Rattle.slots.specs.declared.Target.{Target}
-use Rattle.slots.proofs.Returns.{neither, to-none}
-use Rattle.slots.proofs.Cuts.{Holds, kept, made, cut-slot, saved-slot}
-use Rattle.slots.proofs.promises.Numbered.{next-below, is-bad, one-goal, two-goal}
+use Rattle.slots.specs.Medium as medium
+use Rattle.slots.proofs.{Returns.{neither, to-none}, Cuts.{Holds, kept, made, cut-slot, saved-slot}, promises.Numbered.{next-below, is-bad, one-goal, two-goal}}
 
 module _ (t : List ℕ) (m : Medium) (short : length t ≤ longest) (b : Blank m) where
   blank-goal : record { slot = 0; number = 0 } ≡ goal m

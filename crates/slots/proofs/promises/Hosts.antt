@@ -1,25 +1,11 @@
 -- THE LOOP OF A HOST IS A SAVE, and on a medium of bytes a loop that was cut is a save that was cut; and a save can be made, and cut. Assumes nothing.
-use Prim.Native.Nat.{ℕ, suc, _+_, _-_, _≤_, _<_}
-use mathlib.Core.Path.{_≡_, refl, sym, ap, _∙_, subst}
-use mathlib.Core.List.{List, [], _∷_, _++_}
-use mathlib.Core.Bool.{Bool, true, false, cond}
-use mathlib.Core.Logic.{_⊎_, inl, inr}
-use native.Mathlib.Omega.{arith}
-use lib.Dec.{ltb, eqb}
-use lib.ListN.{length, take, drop, getD, replicate, length-replicate}
-use lib.Seq.{take-at}
-use borrow.Author.Tests.{eq-eqb}
-use Rattle.octets.specs.Bytes.{numAt}
-use Rattle.octets.specs.Splice.{splice}
-use Rattle.octets.proofs.Splices.{splice-front, length-splice}
-use Rattle.octets.proofs.Walks.{by-lt}
-use Rattle.slots.specs.Slot.{longest, mark, marked, headAt, sheetAt, markUnit, blankUnit, headOf}
-use Rattle.slots.specs.Saving.{writes, erases, copies, pieceOf, workOf, unitOf, WorksAs}
+use Rattle.octets.proofs.Kit.{ℕ, _+_, _≤_, _<_, _≡_, refl, sym, ap, _∙_, subst, List, [], _∷_, true, false, _⊎_, inl, inr, arith, eqb, length, take, drop, replicate, length-replicate}
+use Rattle.octets.proofs.Kit.{take-at, eq-eqb}
+use Rattle.octets.{specs.{Bytes.numAt, Splice.splice}, proofs.{Splices.{splice-front, length-splice}, Walks.by-lt}}
+use Rattle.slots.specs.{Slot.{longest, mark, marked, headAt, sheetAt, markUnit, blankUnit, headOf}, Saving.{writes, pieceOf, workOf, unitOf, WorksAs}}
 use Rattle.slots.specs.Medium.{held, Piece, clear, put, pieces, Done, cleared, written, Torn, clearing, Did, end, next, Cut, before, within, last, over as finished, later}
-use Rattle.slots.specs.Host.{Carried, wrote, erased, spared, copied, Loops, over, turn, wiped, Partly, Halts, between, inside, after, Cuts, cuts}
-use Rattle.slots.specs.declared.Work.{Work}
-use Rattle.slots.proofs.Cuts.{head-length}
-use Rattle.slots.proofs.Bytewise.{partly-put, partly-unmark, partly-erase, partly-same, fill-bare}
+use Rattle.slots.specs.{Host.{Carried, wrote, erased, spared, copied, Loops, over, turn, wiped, Partly, Halts, between, inside, after, Cuts, cuts}, declared.Work.Work}
+use Rattle.slots.proofs.{Cuts.head-length, Bytewise.{partly-put, partly-unmark, partly-erase, partly-same, fill-bare}}
 
 -- a piece of work is refused, or there is room for it and it is the piece
 record Due (k buffer room long : ℕ) (w : Work) : Type 0 where

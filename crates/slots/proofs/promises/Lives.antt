@@ -1,16 +1,9 @@
 -- CUT-SAFE, AND ANY SEQUENCE OF SAVES AND CUTS. Assumes nothing.
-use Prim.Native.Nat.{ℕ, _≤_, _<_}
-use mathlib.Core.Path.{_≡_, refl, sym, ap, _∙_, subst}
-use mathlib.Core.List.{List, [], _∷_}
-use mathlib.Core.Bool.{Bool, true, false, cond}
-use native.Mathlib.Omega.{arith}
-use lib.ListN.{length}
-use Rattle.slots.specs.Slot.{longest, nextOf}
+use Rattle.octets.proofs.Kit.{ℕ, _≤_, refl, sym, subst, List, Bool, true, false, cond, arith, length}
+use Rattle.slots.specs.{Slot.{longest, nextOf}, Medium.{pieces, Did, Cut, Medium, Saved, Broken}}
+use Rattle.slots.specs.Lives.{Older, none, last, Ready, one, two, Act, AllFit, Lives, begin, saves, cuts, lastOf}
 use Rattle.slots.specs.Medium as medium
-use Rattle.slots.specs.Medium.{Held, nothing, sheet, held, Piece, pieces, Did, Cut, Medium, goal, Saved, Broken}
-use Rattle.slots.specs.Lives.{numbers, Older, none, last, Ready, one, two, Act, save, cut, Fits, AllFit, Lives, begin, saves, cuts, lastOf}
-use Rattle.slots.proofs.Cuts.{Holds, kept, made, cut-slot, saved-slot}
-use Rattle.slots.proofs.promises.Numbered.{next-below, one-goal, two-goal}
+use Rattle.slots.proofs.{Cuts.{Holds, kept, made, cut-slot, saved-slot}, promises.Numbered.{next-below, one-goal, two-goal}}
 
 module _ (s t : List ℕ) (m : Medium) (short : length t ≤ longest) where
   -- A SAVE THAT WAS FINISHED

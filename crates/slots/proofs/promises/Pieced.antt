@@ -1,24 +1,10 @@
 -- A SLOT IN PARTS, of whatever sizes, is judged as the whole. Assumes nothing.
-use Prim.Native.Nat.{ℕ, zero, suc, _+_, _-_, _≤_, _<_}
-use mathlib.Core.Path.{_≡_, refl, sym, ap, ap₂, _∙_, subst}
-use mathlib.Core.List.{List, [], _∷_, _++_}
-use mathlib.Core.Bool.{Bool, true, false, cond}
-use mathlib.Core.Logic.{_⊎_, inl, inr}
-use native.Mathlib.Decide.{decLt}
-use native.Mathlib.Omega.{arith}
-use lib.Dec.{ltb, eqb}
-use lib.ListN.{length, take, drop, getD, length-append, length-take, length-drop, List·getD-append}
-use lib.Seq.{take-all, take-nil, take-append-le, take-append-add, drop-append-seam, length-take-le, getD-take, getD-drop, getD-append-add, ext-getD}
-use borrow.Author.Tests.{lt-ltb, le-ltb, ne-eqb}
-use Rattle.octets.specs.Bytes.{numAt}
-use Rattle.octets.proofs.Numbers.{num-same}
-use Rattle.octets.proofs.Truths.{decided}
-use Rattle.octets.proofs.Walks.{by-lt, by-not}
-use Rattle.slots.specs.Crc.{ones, crcFrom, crcOf}
-use Rattle.slots.specs.Slot.{longest, mark, marked, sheetAt, bad, covered, numbered, slotOf}
-use Rattle.slots.specs.Parts.{barred, headed, goneOn, beginOf, moreOf, endOf, handed, joined}
-use Rattle.slots.specs.declared.Slot.{Slot}
-use Rattle.slots.specs.declared.Judging.{Judging}
+use Rattle.octets.proofs.Kit.{ℕ, _+_, _-_, _≤_, _<_, _≡_, refl, sym, ap, ap₂, _∙_, List, [], _∷_, _++_, true, false, cond, _⊎_, inl, inr, decLt, arith, ltb, eqb, length, take, drop, getD}
+use Rattle.octets.proofs.Kit.{length-append, length-drop, List·getD-append, take-all, take-nil, take-append-le, take-append-add, length-take-le, getD-take, getD-drop, getD-append-add}
+use Rattle.octets.proofs.Kit.{ext-getD, lt-ltb, le-ltb, ne-eqb}
+use Rattle.octets.{specs.Bytes.numAt, proofs.{Numbers.num-same, Truths.decided, Walks.{by-lt, by-not}}}
+use Rattle.slots.specs.{Crc.{ones, crcFrom, crcOf}, Slot.{longest, mark, marked, bad, covered, numbered, slotOf}, Parts.{barred, goneOn, beginOf, moreOf, endOf, handed, joined}}
+use Rattle.slots.specs.declared.{Slot.Slot, Judging.Judging}
 use Rattle.slots.proofs.promises.Crcs.{crc-append}
 
 append-none : (l : List ℕ) → l ++ [] ≡ l

@@ -1,8 +1,6 @@
 -- `tool::flat_written` meets its contract. Assumes nothing.
-use borrow.Author.Needs.{needs}
-use native.Mathlib.Omega.{arith}
-use Rattle.tool.proofs.Arms.{count-few, via-written}
-use Rattle.tool.proofs.flat_written.Statement.{statement}
+use Rattle.octets.proofs.Kit.{needs, arith}
+use Rattle.tool.proofs.{Arms.{count-few, via-written}, flat_written.Statement.statement}
 use Rattle.tool.proofs.flat_written.Tie as tie
 
 pub flat-written-spec : {M : Type 1} → statement M

@@ -1,7 +1,6 @@
 -- `tool::kelindap_read` meets its contract. Assumes nothing.
-use borrow.Author.Needs.{needs}
-use Rattle.tool.proofs.Arms.{reads-as, via-read}
-use Rattle.tool.proofs.kelindap_read.Statement.{statement}
+use Rattle.octets.proofs.Kit.{needs}
+use Rattle.tool.proofs.{Arms.{reads-as, via-read}, kelindap_read.Statement.statement}
 use Rattle.tool.proofs.kelindap_read.Tie as tie
 
 pub kelindap-read-spec : {M : Type 1} → statement M

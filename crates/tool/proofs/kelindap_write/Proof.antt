@@ -1,7 +1,6 @@
 -- `tool::kelindap_write` meets its contract. Assumes nothing.
-use borrow.Author.Needs.{needs}
-use Rattle.tool.proofs.Arms.{via-known, via-nothing}
-use Rattle.tool.proofs.kelindap_write.Statement.{statement}
+use Rattle.octets.proofs.Kit.{needs}
+use Rattle.tool.proofs.{Arms.{via-known, via-nothing}, kelindap_write.Statement.statement}
 use Rattle.tool.proofs.kelindap_write.Tie as tie
 
 pub kelindap-write-spec : {M : Type 1} → statement M

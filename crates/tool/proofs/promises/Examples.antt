@@ -1,17 +1,8 @@
 -- Worked examples: a flat PDU of each of the 28 kinds, with every field different, what they are written as, and that these bytes read to them. Assumes nothing.
-use Prim.Native.Nat.{ℕ, _-_}
-use mathlib.Core.Path.{_≡_, refl}
-use mathlib.Core.List.{List, [], _∷_, _++_, map}
-use lib.ListN.{length, replicate}
-use Rattle.octets.specs.Bytes.{numAt, bytesOf}
-use Rattle.octets.specs.Splice.{splice}
-use Rattle.pdu.specs.Table.{find}
-use Rattle.pdu.specs.Rules.{lowAt, fourAt, twelveAt, headBytes}
-use Rattle.pdu.specs.Read.{readPdu}
-use Rattle.pdu.specs.Write.{encoded, writable, writeOf}
-use Rattle.tool.specs.Flat.{placeIn, kindOf, flatRead, meantBy, meantWrite, meantBuffer, flatWritten}
-use Rattle.tool.specs.declared.FlatPdu.{FlatPdu}
-use Rattle.tool.specs.declared.FlatWritten.{FlatWritten}
+use Rattle.octets.proofs.Kit.{ℕ, _-_, _≡_, refl, List, [], _∷_, _++_, map, length, replicate}
+use Rattle.octets.specs.{Bytes.{numAt, bytesOf}, Splice.splice}
+use Rattle.pdu.specs.{Table.find, Rules.{lowAt, fourAt, twelveAt, headBytes}, Read.readPdu, Write.{encoded, writable, writeOf}}
+use Rattle.tool.specs.{Flat.{placeIn, kindOf, flatRead, meantBy, meantWrite, meantBuffer, flatWritten}, declared.{FlatPdu.FlatPdu, FlatWritten.FlatWritten}}
 
 -- a flat PDU, its data, and the APDU that it is
 pub record Example : Type 0 where

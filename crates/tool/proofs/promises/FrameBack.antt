@@ -1,30 +1,12 @@
 -- A FRAME THAT kelindap_frame_read READ, WRITTEN AGAIN BY kelindap_frame_write, HAS THE SAME BYTES; AND WHAT WAS WRITTEN IS READ BACK. Assumes nothing.
-use Prim.Native.Nat.{ℕ, _+_, _-_, _≤_}
-use mathlib.Core.Path.{_≡_, refl, sym, ap, ap₂, subst, _∙_}
-use mathlib.Core.List.{List, _++_}
-use native.Mathlib.Omega.{arith}
-use lib.ListN.{length, take, drop}
-use lib.Seq.{take-at}
-use borrow.Author.Tests.{le-leb}
+use Rattle.octets.proofs.Kit.{ℕ, _+_, _-_, _≤_, _≡_, refl, sym, ap, ap₂, subst, _∙_, List, _++_, arith, length, take, drop, take-at, le-leb}
 use Rattle.octets.specs.Octets.{ReadFrom}
-use Rattle.cemi.specs.Layout.{table, infoLength, octet6, stated, _of_, Fit}
-use Rattle.cemi.specs.Read.{frameIn, readFrame}
-use Rattle.cemi.specs.Parts.{partOf, infoOf, tpduOf}
-use Rattle.cemi.specs.Write.{numbersOf, under, encoded, frameOf, countOf, writeOf, writeOutcome, writeCount, Wrote}
-use Rattle.cemi.proofs.promises.Standards.{IsStandard, reads-standard, refused-some}
-use Rattle.cemi.proofs.promises.Agains.{write-back, writes-again}
-use Rattle.cemi.proofs.promises.Backs.{length-encoded, info-part, tpdu-part}
-use Rattle.cemi.proofs.promises.Filled.{writes-0, buffer-filled, buffer-back, went-well}
-use Rattle.cemi.proofs.Wrote.{bounds}
-use Rattle.cemi.specs.declared.Fields.{Fields}
-use Rattle.cemi.specs.declared.Frame.{Frame}
-use Rattle.cemi.specs.declared.Got.{Got}
-use Rattle.cemi.specs.declared.Got.the-variants.{Is, Refused}
-use Rattle.cemi.specs.declared.Written.{Written}
-use Rattle.tool.specs.FlatFrame.{laidFrame, flatGot, flatFrame, fieldsOf, frameWritten, FrameWrote}
-use Rattle.tool.specs.FrameBack.{infoIn, tpduIn, FrameInC, FrameGivenBack}
-use Rattle.tool.specs.declared.FlatFrame.{FlatFrame}
-use Rattle.tool.specs.declared.Framed.{Framed}
+use Rattle.cemi.specs.{Layout.{table, infoLength, octet6, stated, _of_, Fit}, Read.{frameIn, readFrame}, Parts.{partOf, infoOf, tpduOf}}
+use Rattle.cemi.specs.{Write.{numbersOf, under, encoded, frameOf, countOf, writeOf, writeOutcome, writeCount, Wrote}, declared.{Fields.Fields, Frame.Frame, Got.Got}}
+use Rattle.cemi.{specs.declared.{Got.the-variants.{Is, Refused}, Written.Written}, proofs.promises.{Standards.{IsStandard, reads-standard, refused-some}, Agains.{write-back, writes-again}}}
+use Rattle.cemi.proofs.{promises.{Backs.{length-encoded, info-part, tpdu-part}, Filled.{writes-0, buffer-filled, buffer-back, went-well}}, Wrote.bounds}
+use Rattle.tool.specs.{FlatFrame.{laidFrame, flatGot, flatFrame, fieldsOf, frameWritten, FrameWrote}, FrameBack.{infoIn, tpduIn, FrameInC, FrameGivenBack}}
+use Rattle.tool.specs.declared.{FlatFrame.FlatFrame, Framed.Framed}
 
 -- a part that lies in the frame
 part-is : (b : List ℕ) (at n : ℕ) → at + n ≤ length b → take n (drop at b) ≡ partOf b at n

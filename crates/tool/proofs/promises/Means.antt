@@ -1,19 +1,12 @@
 -- A PDU laid flat means that PDU, and its kind is its place in the table. Assumes nothing.
-use mathlib.Core.Path.{_≡_, refl}
-use mathlib.Core.List.{List}
-use mathlib.Core.Option.{some}
-use Prim.Native.Nat.{ℕ}
-use lib.ListN.{getElem?}
-use Rattle.pdu.specs.Table.{services}
-use Rattle.pdu.specs.declared.Service.{Service}
+use Rattle.octets.proofs.Kit.{_≡_, refl, List, some, ℕ, getElem?}
+use Rattle.pdu.specs.{Table.services, declared.{Service.Service, Pdu.{Pdu, the-variants.{GroupValueRead, GroupValueResponse, GroupValueWrite, IndividualAddressWrite}}}}
+use Rattle.pdu.specs.declared.Pdu.the-variants.{IndividualAddressRead, SerialNumberRead, SerialNumberWrite, DeviceDescriptorRead, PropertyValueRead, PropertyValueWrite}
+use Rattle.pdu.specs.declared.Pdu.the-variants.{PropertyDescriptionRead, MemoryRead, MemoryWrite, MemoryBitWrite, AuthorizeRequest, KeyWrite, Restart, IndividualAddressResponse}
+use Rattle.pdu.specs.declared.Pdu.the-variants.{SerialNumberResponse, DeviceDescriptorResponse, PropertyValueResponse, PropertyDescriptionResponse, MemoryResponse, AuthorizeResponse}
+use Rattle.pdu.specs.declared.Pdu.the-variants.{KeyResponse, UserMemoryRead, UserMemoryResponse, UserMemoryWrite}
 use Rattle.pdu.specs.declared.Service.the-variants as svc
-use Rattle.pdu.specs.declared.Pdu.{Pdu}
-use Rattle.pdu.specs.declared.Pdu.the-variants.{GroupValueRead, GroupValueResponse, GroupValueWrite, IndividualAddressWrite, IndividualAddressRead, SerialNumberRead, SerialNumberWrite}
-use Rattle.pdu.specs.declared.Pdu.the-variants.{DeviceDescriptorRead, PropertyValueRead, PropertyValueWrite, PropertyDescriptionRead, MemoryRead, MemoryWrite, MemoryBitWrite, AuthorizeRequest}
-use Rattle.pdu.specs.declared.Pdu.the-variants.{KeyWrite, Restart, IndividualAddressResponse, SerialNumberResponse, DeviceDescriptorResponse, PropertyValueResponse, PropertyDescriptionResponse}
-use Rattle.pdu.specs.declared.Pdu.the-variants.{MemoryResponse, AuthorizeResponse, KeyResponse, UserMemoryRead, UserMemoryResponse, UserMemoryWrite}
-use Rattle.tool.specs.Flat.{placeIn, kindOf, flatOf, refusal, meantBy}
-use Rattle.tool.specs.declared.Meant.the-variants.{Known, Nothing}
+use Rattle.tool.specs.{Flat.{placeIn, kindOf, flatOf, refusal, meantBy}, declared.Meant.the-variants.{Known, Nothing}}
 
 -- THE SERVICE AT THE PLACE OF ITS KIND
 pub kind-is : (k : Service) → getElem? services (kindOf k) ≡ some k

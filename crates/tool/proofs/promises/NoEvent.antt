@@ -1,15 +1,7 @@
 -- A FRAME THAT IS REFUSED IS NO EVENT: its number is above that of every frame that reads. Assumes nothing.
-use Prim.Native.Nat.{ℕ, _<_}
-use mathlib.Core.Path.{_≡_}
-use mathlib.Core.List.{List}
-use native.Mathlib.Omega.{arith}
-use Rattle.cemi.specs.Read.{readFrame}
-use Rattle.cemi.specs.Meaning.{meaningOf, meaningNumber}
-use Rattle.cemi.specs.Means.{Means, toAll, toSome, toNone, plain, numbered, connects, disconnects, acknowledges, other}
-use Rattle.cemi.proofs.promises.Understood.{means}
-use Rattle.cemi.specs.declared.Frame.{Frame}
-use Rattle.cemi.specs.declared.Got.the-variants.{Refused}
-use Rattle.cemi.specs.declared.Meaning.{Meaning}
+use Rattle.octets.proofs.Kit.{ℕ, _<_, _≡_, List, arith}
+use Rattle.cemi.specs.{Read.readFrame, Meaning.{meaningOf, meaningNumber}, Means.{Means, toAll, toSome, toNone, plain, numbered, connects, disconnects, acknowledges, other}}
+use Rattle.cemi.{specs.declared.{Frame.Frame, Got.the-variants.Refused, Meaning.Meaning}, proofs.promises.Understood.means}
 use Rattle.tool.specs.FlatFrame.{flatFrame, noEvent}
 
 below : (f : Frame) (m : Meaning) → Means f m → meaningNumber m < noEvent

@@ -1,32 +1,11 @@
 -- What kelindap_write writes with outcome 0, kelindap_read gives back. Assumes nothing.
-use Prim.Native.Nat.{ℕ, zero, suc, _+_, _-_}
-use mathlib.Core.Path.{_≡_, refl, sym, ap, _∙_}
-use mathlib.Core.Logic.{_⊎_, inl, inr, ⊎-elim}
-use mathlib.Core.Bool.{Bool, true, false, cond, _&&_, and-eq-true-iff, true≢false}
-use mathlib.Core.List.{List, [], _∷_}
-use mathlib.Core.Option.{Option, none, some, Option·none-ne-some}
-use native.Mathlib.Omega.{arith}
-use native.Mathlib.Nat.{add-zero}
-use borrow.Author.Tests.{eq-eqb, eqb-true}
-use lib.Dec.{eqb, ltb}
-use lib.ListN.{length, take, drop, getElem?, length-drop}
-use lib.Seq.{take-all}
+use Rattle.octets.proofs.Kit.{ℕ, zero, suc, _+_, _-_, _≡_, refl, sym, ap, _∙_, _⊎_, inl, inr, ⊎-elim, Bool, true, false, cond, _&&_, and-eq-true-iff, true≢false, List, [], _∷_, Option, none}
+use Rattle.octets.proofs.Kit.{some, Option·none-ne-some, arith, add-zero, eq-eqb, eqb-true, eqb, ltb, length, take, drop, getElem?, length-drop, take-all}
 use Rattle.pdu.specs.Item.{Name, Item, low, num, cap, duo, skip, Value, _≔_, the, nameNumber, same, V6, Address, Serial, Domain, T, Object, Id, N, S, Index, Typ, Maximum, Access, Level, Key}
-use Rattle.pdu.specs.Table.{rowOf, services}
-use Rattle.pdu.specs.Pdus.{serviceOf, valuesOf, pduOf}
-use Rattle.pdu.specs.Read.{readPdu, dataAt, dataOf}
-use Rattle.pdu.specs.Write.{writeOf, writeOutcome, writeCount}
-use Rattle.pdu.specs.Allows.{Typed}
-use Rattle.pdu.specs.declared.Service.{Service}
+use Rattle.pdu.specs.{Table.{rowOf, services}, Pdus.{serviceOf, valuesOf, pduOf}, Read.{readPdu, dataAt, dataOf}, Write.{writeOf, writeOutcome, writeCount}, Allows.Typed}
+use Rattle.pdu.{specs.declared.{Service.Service, Pdu.Pdu, Parsed.the-variants.Is, Written.the-variants.Refused as Refuses}, proofs.{Sound.{chosen, sound}, promises.Back.buffer-back}}
 use Rattle.pdu.specs.declared.Service.the-variants as svc
-use Rattle.pdu.specs.declared.Pdu.{Pdu}
-use Rattle.pdu.specs.declared.Parsed.the-variants.{Is}
-use Rattle.pdu.specs.declared.Written.the-variants.{Refused as Refuses}
-use Rattle.pdu.proofs.Sound.{chosen, sound}
-use Rattle.pdu.proofs.promises.Back.{buffer-back}
-use Rattle.tool.specs.Flat.{placeIn, kindOf, laid, flatOf, flatRead, fieldsIn, meantAs, meantBy, FlatWrote}
-use Rattle.tool.specs.Back.{InC, Has, GivenBack}
-use Rattle.tool.specs.declared.FlatPdu.{FlatPdu}
+use Rattle.tool.specs.{Flat.{placeIn, kindOf, laid, flatOf, flatRead, fieldsIn, meantAs, meantBy, FlatWrote}, Back.{InC, Has, GivenBack}, declared.FlatPdu.FlatPdu}
 use Rattle.tool.specs.declared.FlatWritten.{FlatWritten}
 
 -- the services stand in the order of their kinds

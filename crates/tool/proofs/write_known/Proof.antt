@@ -1,7 +1,6 @@
 -- `tool::write_known` meets its contract. Assumes nothing.
-use borrow.Author.Needs.{needs}
-use Rattle.tool.proofs.Arms.{few, wrote-known}
-use Rattle.tool.proofs.write_known.Statement.{statement}
+use Rattle.octets.proofs.Kit.{needs}
+use Rattle.tool.proofs.{Arms.{few, wrote-known}, write_known.Statement.statement}
 use Rattle.tool.proofs.write_known.Tie as tie
 
 pub write-known-spec : {M : Type 1} → statement M

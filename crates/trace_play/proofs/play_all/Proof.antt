@@ -1,9 +1,5 @@
 -- `trace_play::play_all` is safe and ends.
--- Assumes nothing.
-use Prim.Native.Nat.{_≤_, _-_}
-use mathlib.Core.Path.{_≡_}
-use borrow.Author.Needs.{needs}
-use lib.ListN.{length}
+use Rattle.octets.proofs.Kit.{_≤_, _-_, _≡_, needs, length}
 use Rattle.trace_play.proofs.play_all.Statement.{statement}
 use Rattle.trace_play.proofs.play_all.Tie as tie
 

@@ -1,9 +1,6 @@
 -- `trace_play::sheet_length` meets its contract.
--- Assumes nothing.
-use native.Mathlib.Omega.{arith}
-use borrow.Author.Needs.{needs}
-use Rattle.trace_play.proofs.Cut.{all-sheet, as-stated}
-use Rattle.trace_play.proofs.sheet_length.Statement.{statement}
+use Rattle.octets.proofs.Kit.{arith, needs}
+use Rattle.trace_play.proofs.{Cut.{all-sheet, as-stated}, sheet_length.Statement.statement}
 use Rattle.trace_play.proofs.sheet_length.Tie as tie
 
 pub sheet-length-spec : {M : Type 1} → statement M

@@ -1,8 +1,6 @@
 -- `values::pdu` meets its contract.
--- Assumes nothing.
-use Rattle.values.proofs.Laws.{pdu-switch, pdu-byte, pdu-hundredths, pdu-float}
-use borrow.Author.Needs.{needs}
-use Rattle.values.proofs.pdu.Statement.{statement}
+use Rattle.octets.proofs.Kit.{needs}
+use Rattle.values.proofs.{Laws.{pdu-switch, pdu-byte, pdu-hundredths, pdu-float}, pdu.Statement.statement}
 use Rattle.values.proofs.pdu.Tie as tie
 
 pub pdu-spec : {M : Type 1} → statement M

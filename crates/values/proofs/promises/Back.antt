@@ -1,23 +1,10 @@
 -- A datapoint is read back from its GroupValue_Write.
--- Assumes nothing.
-use Prim.Native.Nat.{_+_, _<_}
-use mathlib.Core.Path.{_≡_, refl, ap, _∙_}
-use mathlib.Core.Logic.{inl, inr}
-use mathlib.Core.Bool.{Bool, true, false, cond}
-use native.Mathlib.Omega.{arith}
-use lib.ListN.{length}
+use Rattle.octets.proofs.Kit.{_+_, _<_, _≡_, refl, ap, _∙_, inl, inr, Bool, true, false, cond, arith, length}
 use Rattle.octets.proofs.Numbers.{length-bytes}
-use Rattle.pdu.specs.Table.{rowOf}
-use Rattle.pdu.specs.Pdus.{serviceOf, valuesOf}
-use Rattle.pdu.specs.Read.{readPdu, dataAt, dataOf}
-use Rattle.pdu.specs.Write.{encoded}
-use Rattle.pdu.specs.Allows.{Allows}
-use Rattle.pdu.specs.declared.Parsed.the-variants.{Is as IsPdu}
+use Rattle.pdu.specs.{Table.rowOf, Pdus.{serviceOf, valuesOf}, Read.{readPdu, dataAt, dataOf}, Write.encoded, Allows.Allows, declared.Parsed.the-variants.Is as IsPdu}
 use Rattle.pdu.proofs.promises.Back.{read-back as pdu-back}
-use Rattle.points.specs.Point.{typeOf, widthAt, refusalOf, numberOf, pointBytes, Typed, Exact, asWritten}
-use Rattle.points.specs.declared.Datapoint.{Datapoint}
-use Rattle.points.specs.declared.Datapoint.the-variants.{Switch, Byte, Hundredths, Float as Single}
-use Rattle.points.specs.declared.Reading.the-variants.{Is}
+use Rattle.points.specs.{Point.{typeOf, widthAt, refusalOf, numberOf, pointBytes, Typed, Exact, asWritten}, declared.Datapoint.Datapoint}
+use Rattle.points.specs.declared.{Datapoint.the-variants.{Switch, Byte, Hundredths, Float as Single}, Reading.the-variants.Is}
 use Rattle.points.proofs.promises.Back.{point-written, written-back, exact-written}
 use Rattle.values.specs.Value.{sixBits, valueData, valuePdu, readValue}
 

@@ -1,13 +1,8 @@
 -- Worked examples: a switch stands in the six bits and has no data, a byte stands in its data. Forms exchanged in code and definitions at once would show here.
--- Assumes nothing.
-use mathlib.Core.Path.{_≡_, refl}
-use mathlib.Core.Bool.{true}
-use mathlib.Core.List.{[], _∷_}
+use Rattle.octets.proofs.Kit.{_≡_, refl, true, [], _∷_}
 use Rattle.octets.specs.Bytes.{bytesOf}
 use Rattle.pdu.specs.declared.Pdu.the-variants.{GroupValueWrite}
-use Rattle.points.specs.Point.{pointBytes}
-use Rattle.points.specs.declared.Datapoint.the-variants.{Switch, Byte}
-use Rattle.points.specs.declared.Reading.the-variants.{Is, Refused}
+use Rattle.points.specs.{Point.pointBytes, declared.{Datapoint.the-variants.{Switch, Byte}, Reading.the-variants.{Is, Refused}}}
 use Rattle.values.specs.Value.{sixBits, valueData, valuePdu, readValue}
 
 switch-sent : valuePdu (Switch true) ≡ GroupValueWrite 1

@@ -1,8 +1,6 @@
 -- `values::read` meets its contract.
--- Assumes nothing.
-use Rattle.values.proofs.Laws.{by-data, with-data, by-bits}
-use borrow.Author.Needs.{needs}
-use Rattle.values.proofs.read.Statement.{statement}
+use Rattle.octets.proofs.Kit.{needs}
+use Rattle.values.proofs.{Laws.{by-data, with-data, by-bits}, read.Statement.statement}
 use Rattle.values.proofs.read.Tie as tie
 
 pub read-spec : {M : Type 1} → statement M

@@ -1,32 +1,15 @@
 -- The tests of restoring are the propositions, stay the same while a sheet changes within the rules, and bytes stay bytes.
--- Assumes nothing.
-use Prim.Native.Nat.{ℕ, zero, suc, _+_, _-_, _<_}
-use mathlib.Core.Path.{_≡_, refl, sym, ap₂, _∙_}
-use mathlib.Core.List.{List}
-use mathlib.Core.Logic.{_⊎_, inl, inr}
-use mathlib.Core.Bool.{Bool, true, false, cond, _&&_}
-use native.Mathlib.Omega.{arith}
-use lib.Dec.{eqb, ltb, leb}
-use lib.ListN.{length, drop, getD}
-use borrow.Author.Tests.{ltb-true, lt-ltb, leb-true, le-leb, eqb-true, eq-eqb}
-use Rattle.octets.specs.Bytes.{numAt}
-use Rattle.octets.specs.Every.{every}
-use Rattle.octets.proofs.Truths.{never, and-is, or-is, decided, bool-same}
-use Rattle.octets.proofs.Everys.{every-at, every-all}
-use Rattle.sheet.specs.Kind.{properties, groups}
-use Rattle.sheet.specs.Layout.{_of_}
-use Rattle.sheet.specs.Property as property
-use Rattle.sheet.specs.Entries.{count, place, entry, startOf}
-use Rattle.sheet.specs.Agree.{AgreeBy, Fixed}
-use Rattle.sheet.specs.Rules.{Accepted}
-use Rattle.sheet.proofs.alike.Sames.{count-same, property-same, start-same}
-use Rattle.sheet.proofs.places.Standing.{entry-at, field-at}
-use Rattle.octets.specs.Octets.{Octets}
+use Rattle.octets.proofs.Kit.{ℕ, zero, suc, _+_, _-_, _<_, _≡_, refl, sym, ap₂, _∙_, List, _⊎_, inl, inr, Bool, true, false, cond, _&&_, arith, eqb, ltb, leb, length, drop, getD, ltb-true}
+use Rattle.octets.proofs.Kit.{lt-ltb, leb-true, le-leb, eqb-true, eq-eqb}
+use Rattle.octets.{specs.{Bytes.numAt, Every.every, Octets.Octets}, proofs.{Truths.{never, and-is, or-is, decided, bool-same}, Everys.{every-at, every-all}}}
 use Rattle.octets.proofs.Octet.{octets-none, octets-take, octets-drop, octets-splice}
-use Rattle.versions.specs.Row as row
+use Rattle.sheet.specs.{Kind.{properties, groups}, Layout._of_, Entries.{count, place, entry, startOf}, Agree.{AgreeBy, Fixed}, Rules.Accepted}
+use Rattle.sheet.proofs.{alike.Sames.{count-same, property-same, start-same}, places.Standing.{entry-at, field-at}}
+use Rattle.sheet.specs.Property as property
 use Rattle.versions.specs.Store.{bodyOf, versionIn, kept, versionsFrom, versionAt, inRow}
 use Rattle.versions.specs.Settings.{front, many, entriesLong, bodiesLong, inVersion, restored, SameEntries, LowCounts}
 use Rattle.versions.specs.Restoring.{isCount, sameByte, sameEntry, lowCount, entryIn, sameEntries, lowCounts}
+use Rattle.versions.specs.Row as row
 use Rattle.versions.proofs.promises.Restores as re
 
 -- a byte that is no part of a count, and one that is

@@ -1,29 +1,14 @@
 -- WHAT IS DONE IS WHAT IS DUE, and nothing else is due.
--- Assumes nothing.
-use Prim.Native.Nat.{ℕ, _≤_, _<_}
-use mathlib.Core.Path.{_≡_, refl, sym, subst⁻¹, _∙_}
-use mathlib.Core.Bool.{true, cond}
-use mathlib.Core.List.{List}
-use mathlib.Core.Logic.{_↔_, _⊎_, inl, inr}
-use native.Mathlib.Omega.{arith}
-use lib.Dec.{eqb, ltb}
-use lib.ListN.{length}
-use borrow.Author.Tests.{eq-eqb, ne-eqb, lt-ltb, le-ltb, eqb-true}
-use Rattle.octets.proofs.Truths.{never, and-is, must-fail}
-use Rattle.octets.proofs.Walks.{by-test, by-eq, by-lt}
-use Rattle.sheet.specs.Layout.{_of_}
-use Rattle.sheet.specs.Rules.{refusalOf, Accepted, Old, Bad}
-use Rattle.sheet.proofs.promises.Verdicts.{one-of-three, refused-none, refused-old, refused-bad, unrefused}
+use Rattle.octets.proofs.Kit.{ℕ, _≤_, _<_, _≡_, refl, sym, subst⁻¹, _∙_, true, cond, List, _↔_, _⊎_, inl, inr, arith, eqb, ltb, length, eq-eqb, ne-eqb, lt-ltb, le-ltb, eqb-true}
+use Rattle.octets.proofs.{Truths.{never, and-is, must-fail}, Walks.{by-test, by-eq, by-lt}}
+use Rattle.sheet.{specs.{Layout._of_, Rules.{refusalOf, Accepted, Old, Bad}}, proofs.promises.Verdicts.{one-of-three, refused-none, refused-old, refused-bad, unrefused}}
 use Rattle.judge.specs.declared.Session.{Session}
-use Rattle.versions.specs.Head as head
-use Rattle.versions.specs.Store.{kept, places, isKept, versionIn}
-use Rattle.versions.specs.Rules.{storeRule, Passes, isStore}
+use Rattle.versions.specs.{Store.{kept, places, isKept, versionIn}, Rules.{storeRule, Passes, isStore}}
 use Rattle.versions.specs.Saving.{needed, lastNumber, nextNumber, saved, saveOutcome, saveNumber, saveStore, noRoom, noPlace, noNumber}
-use Rattle.versions.specs.Settings.{settingsOf, restored, SameEntries, LowCounts}
-use Rattle.versions.specs.Restoring.{sameEntries, lowCounts, givesBack, atZero, restoreOutcome, restoreSheet}
-use Rattle.versions.specs.Removing.{removed, removeOutcome, removeStore}
-use Rattle.versions.specs.Due.{Ready, SaveDue, noSheet, oldSheet, noStore, lastGiven, allTaken, tooLong, isSaved, AtZero, Known, RestoreDue, sheetRefused}
-use Rattle.versions.specs.Due.{sheetOld, storeRefused, unknownNumber, notOpen, differs, tooHigh, isRestored, RemoveDue, badOne, unknown, isRemoved}
+use Rattle.versions.specs.{Settings.{settingsOf, restored, SameEntries, LowCounts}, Restoring.{sameEntries, lowCounts, givesBack, atZero, restoreOutcome, restoreSheet}}
+use Rattle.versions.specs.{Removing.{removed, removeOutcome, removeStore}, Due.{Ready, SaveDue, noSheet, oldSheet, noStore, lastGiven, allTaken, tooLong, isSaved, AtZero, Known}}
+use Rattle.versions.specs.Due.{RestoreDue, sheetRefused, sheetOld, storeRefused, unknownNumber, notOpen, differs, tooHigh, isRestored, RemoveDue, badOne, unknown, isRemoved}
+use Rattle.versions.specs.Head as head
 use Rattle.versions.proofs.promises.Agreeing.{same-entries, entries-same, low-counts, counts-low}
 
 -- what holds of 14 on an old sheet and of 4 on a bad one holds of what refuses it

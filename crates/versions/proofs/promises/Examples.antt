@@ -1,22 +1,10 @@
 -- The full example, by computation; and each refusal, alone and before those behind it.
--- Assumes nothing.
-use Prim.Native.Nat.{ℕ}
-use mathlib.Core.Path.{_≡_, refl}
-use mathlib.Core.List.{List, [], _∷_}
-use lib.ListN.{replicate}
-use Rattle.octets.specs.Bytes.{numAt, bytesOf}
-use Rattle.octets.specs.Every.{every}
-use Rattle.octets.specs.Splice.{splice}
-use Rattle.sheet.specs.Demand.{breach}
-use Rattle.sheet.specs.First.{first}
-use Rattle.sheet.specs.Entries.{entry, keyOf, floor, bodyAt, bodyEnd, startOf, reached, sixBits}
-use Rattle.sheet.specs.Rules.{entryDemands, bodyDemands, entryRule, bodyRule, entriesRule, bodiesRule, walkRule, restRule, ruleIn, verdictOf}
-use Rattle.sheet.specs.Sample.{sample}
-use Rattle.versions.specs.Store.{headOf, rowOf, tableOf, bodiesOf, laid, versionAt, versionsFrom, kept, has, bodyOf, isKept, versionIn}
-use Rattle.versions.specs.Rules.{rowsRule, allRows, storeRule, isStore}
-use Rattle.versions.specs.Settings.{settingsOf, restored}
-use Rattle.versions.specs.Saving.{needed, saved, saveOutcome, saveNumber, saveStore}
-use Rattle.versions.specs.Removing.{without, removed, removeOutcome, removeStore}
+use Rattle.octets.proofs.Kit.{ℕ, _≡_, refl, List, [], _∷_, replicate}
+use Rattle.octets.specs.{Bytes.{numAt, bytesOf}, Every.every, Splice.splice}
+use Rattle.sheet.specs.{Demand.breach, First.first, Entries.{entry, keyOf, floor, bodyAt, bodyEnd, startOf, reached, sixBits}}
+use Rattle.sheet.specs.{Rules.{entryDemands, bodyDemands, entryRule, bodyRule, entriesRule, bodiesRule, walkRule, restRule, ruleIn, verdictOf}, Sample.sample}
+use Rattle.versions.specs.{Store.{headOf, rowOf, tableOf, bodiesOf, laid, versionAt, versionsFrom, kept, has, bodyOf, isKept, versionIn}, Rules.{rowsRule, allRows, storeRule, isStore}}
+use Rattle.versions.specs.{Settings.{settingsOf, restored}, Saving.{needed, saved, saveOutcome, saveNumber, saveStore}, Removing.{without, removed, removeOutcome, removeStore}}
 use Rattle.versions.specs.Restoring.{sameEntry, lowCount, sameEntries, lowCounts, givesBack, atZero, restoreOutcome, restoreSheet}
 use Rattle.versions.specs.Example.{empty, once, later, twice, left, tool, other}
 

@@ -1,19 +1,10 @@
 -- A GOOD STORE IS THE BYTES OF THE VERSIONS THAT IT KEEPS, both ways.
--- Assumes nothing.
-use Prim.Native.Nat.{ℕ, _+_, _-_}
-use mathlib.Core.Path.{_≡_, sym, ap, _∙_}
-use mathlib.Core.List.{List}
-use native.Mathlib.Omega.{arith}
-use lib.ListN.{length, drop, length-append, length-drop}
+use Rattle.octets.proofs.Kit.{ℕ, _+_, _-_, _≡_, sym, ap, _∙_, List, arith, length, drop, length-append, length-drop}
 use Rattle.octets.specs.Octets.{Octets}
 use Rattle.sheet.specs.Layout.{_of_}
+use Rattle.versions.specs.{Store.{Version, Keeps, tableEnd, bodiesOf, laid, versionsFrom, kept}, Rules.Passes, Ends.endOf}
 use Rattle.versions.specs.Head as head
-use Rattle.versions.specs.Store.{Version, Keeps, tableEnd, bodiesOf, laid, versionsFrom, kept}
-use Rattle.versions.specs.Rules.{Passes}
-use Rattle.versions.specs.Ends.{endOf}
-use Rattle.versions.proofs.Laid.{laid-long}
-use Rattle.versions.proofs.Backs.{good-store, all-back, length-versions}
-use Rattle.versions.proofs.Forths.{good-passes, good-kept, last-is, count-is}
+use Rattle.versions.proofs.{Laid.laid-long, Backs.{good-store, all-back, length-versions}, Forths.{good-passes, good-kept, last-is, count-is}}
 
 -- WHAT PASSES KEEPS WHAT IT SAYS
 module _ (s : List ℕ) where

@@ -1,25 +1,12 @@
 -- What `kept` returns: the number and the length in row k are those of the k-th version.
--- Assumes nothing.
-use Prim.Native.Nat.{ℕ, zero, suc, _+_, _-_, _*_, _≤_, _<_}
-use mathlib.Core.Path.{_≡_, refl, sym, ap, ap₂, _∙_}
-use mathlib.Core.List.{List, [], _∷_, _++_}
-use native.Mathlib.Omega.{arith}
-use lib.ListN.{length}
-use borrow.Author.Tests.{eq-eqb, ne-eqb}
-use Rattle.octets.specs.Bytes.{numAt, IsNum}
-use Rattle.octets.specs.Octets.{Octets}
-use Rattle.sheet.specs.Demand.{breach}
-use Rattle.sheet.specs.Layout.{_of_}
+use Rattle.octets.proofs.Kit.{ℕ, zero, suc, _+_, _-_, _*_, _≤_, _<_, _≡_, refl, sym, ap₂, _∙_, List, [], _∷_, _++_, arith, length, eq-eqb, ne-eqb}
+use Rattle.octets.specs.{Bytes.{numAt, IsNum}, Octets.Octets}
+use Rattle.sheet.specs.{Demand.breach, Layout._of_}
+use Rattle.versions.specs.{Store.{Version, tableEnd, versionAt, versionsFrom, kept}, Rules.{rowsRule, allRows, storeRule, isStore}, Walk.Chosen, Kept.{none, told, keptOf}}
+use Rattle.versions.specs.{Example.{twice, left}, declared.listing.Listed.Listed}
 use Rattle.versions.specs.Head as head
 use Rattle.versions.specs.Row as row
-use Rattle.versions.specs.Store.{Version, tableEnd, versionAt, versionsFrom, kept}
-use Rattle.versions.specs.Rules.{rowsRule, allRows, storeRule, isStore}
-use Rattle.versions.specs.Walk.{Chosen}
-use Rattle.versions.specs.Kept.{none, told, keptOf}
-use Rattle.versions.specs.Example.{twice, left}
-use Rattle.versions.specs.declared.listing.Listed.{Listed}
-use Rattle.versions.proofs.Backs.{heads, length-versions}
-use Rattle.versions.proofs.Chosen.{which, lb, same-l}
+use Rattle.versions.proofs.{Backs.{heads, length-versions}, Chosen.{which, lb, same-l}}
 
 abbrev listed : ℕ → ℕ → Listed
 listed i j = record { number = i; long = j }

@@ -1,25 +1,10 @@
 -- WHAT A VERSION HOLDS OF A SHEET: it can be given back to that sheet, and nothing else of the sheet is in it.
--- Assumes nothing.
-use Prim.Native.Nat.{ℕ, _+_, _-_, _*_, _≤_, _<_}
-use mathlib.Core.Path.{_≡_, sym, ap, ap₂, _∙_}
-use mathlib.Core.List.{List, [], _++_}
-use native.Mathlib.Omega.{arith}
-use lib.ListN.{length, getD, take, drop, length-append, length-drop, List·getD-append}
-use lib.Seq.{getD-take, getD-drop, length-take-le, getD-append-add, ext-getD}
-use Rattle.octets.specs.Bytes.{numAt, bytesOf}
-use Rattle.octets.proofs.Numbers.{length-bytes, num-back, num-same}
-use Rattle.sheet.specs.Kind.{regions, properties, groups, users}
-use Rattle.sheet.specs.Layout.{_of_}
+use Rattle.octets.proofs.Kit.{ℕ, _+_, _-_, _*_, _≤_, _<_, _≡_, sym, ap, ap₂, _∙_, List, [], _++_, arith, length, getD, take, drop, length-append, length-drop, List·getD-append, getD-take}
+use Rattle.octets.proofs.Kit.{getD-drop, length-take-le, getD-append-add, ext-getD}
+use Rattle.octets.{specs.Bytes.{numAt, bytesOf}, proofs.Numbers.{length-bytes, num-back, num-same}}
+use Rattle.sheet.{specs.{Kind.{regions, properties, groups, users}, Agree.Agree, Entries.{base, place, startOf}, Rules.Accepted, Stores.countAt}, proofs.rules.Good.{Good, good}}
+use Rattle.sheet.proofs.{places.BodyPlaces.{start-first, start-up}, alike.{Sames.{count-same, start-same}, Sparing.count-stood}, promises.Agrees.both-or-neither}
 use Rattle.sheet.specs.Property as property
-use Rattle.sheet.specs.Agree.{Agree}
-use Rattle.sheet.specs.Entries.{base, place, startOf}
-use Rattle.sheet.specs.Rules.{Accepted}
-use Rattle.sheet.specs.Stores.{countAt}
-use Rattle.sheet.proofs.rules.Good.{Good, good}
-use Rattle.sheet.proofs.places.BodyPlaces.{start-first, start-up}
-use Rattle.sheet.proofs.alike.Sames.{count-same, start-same}
-use Rattle.sheet.proofs.alike.Sparing.{count-stood}
-use Rattle.sheet.proofs.promises.Agrees.{both-or-neither}
 use Rattle.versions.specs.Settings.{front, many, entriesLong, bodiesLong, settingsOf, inVersion, SameEntries, LowCounts, SameProperties}
 
 module _ (s : List ℕ) (ok : Accepted s) where

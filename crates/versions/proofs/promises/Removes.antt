@@ -1,31 +1,13 @@
 -- A VERSION REMOVED: it is gone for good, the others stay, and its room comes back.
--- Assumes nothing.
-use Prim.Native.Nat.{ℕ, suc, _+_, _-_, _≤_, _<_}
-use mathlib.Core.Path.{_≡_, refl, sym, ap, subst, _∙_}
-use mathlib.Core.Bool.{Bool, true, false, cond}
-use mathlib.Core.List.{List, [], _∷_, _++_}
-use native.Mathlib.Decide.{ℕ-discrete, decLt}
-use native.Mathlib.Omega.{arith}
-use lib.Dec.{eqb}
-use lib.ListN.{length, length-append}
-use borrow.Author.Tests.{eq-eqb, ne-eqb, eqb-true}
-use Rattle.octets.specs.Octets.{Octets}
-use Rattle.octets.proofs.Truths.{never}
-use Rattle.octets.proofs.Walks.{by-test}
+use Rattle.octets.proofs.Kit.{ℕ, suc, _+_, _≤_, _<_, _≡_, refl, sym, ap, subst, _∙_, Bool, true, false, cond, List, [], _∷_, _++_, ℕ-discrete, decLt, arith, eqb, length, length-append}
+use Rattle.octets.proofs.Kit.{eq-eqb, ne-eqb, eqb-true}
+use Rattle.octets.{specs.Octets.Octets, proofs.{Truths.never, Walks.by-test}}
 use Rattle.sheet.specs.Layout.{_of_}
+use Rattle.versions.specs.{Store.{Version, Rising, next, Keeps, bodiesOf, kept, has, bodyOf, isKept, versionIn}, Saving.{needed, noRoom, saveOutcome, saveNumber, saveStore}}
+use Rattle.versions.specs.{Settings.settingsOf, Removing.{without, removeOutcome, removeStore}, Sequence.{Change, saves, removes, changed, changedAll}}
 use Rattle.versions.specs.Head as head
-use Rattle.versions.specs.Store.{Version, Rising, next, Keeps, bodiesOf, kept, has, bodyOf, isKept, versionIn}
-use Rattle.versions.specs.Saving.{needed, noRoom, saveOutcome, saveNumber, saveStore}
-use Rattle.versions.specs.Settings.{settingsOf}
-use Rattle.versions.specs.Removing.{without, removeOutcome, removeStore}
-use Rattle.versions.specs.Sequence.{Change, saves, removes, changed, changedAll}
-use Rattle.versions.proofs.Laid.{laid-long}
-use Rattle.versions.proofs.promises.Keeping.{it-keeps, keeps-these, keeps-last, whole}
-use Rattle.versions.proofs.Grows.{and}
-use Rattle.versions.proofs.Shrinks.{removed-long}
-use Rattle.versions.proofs.promises.Dues.{save-free, save-tight, remove-told}
-use Rattle.versions.proofs.promises.Untouched.{refused-untouched}
-use Rattle.versions.proofs.promises.Sequences.{carried, taken, can-take, has-none, has-new}
+use Rattle.versions.proofs.{Laid.laid-long, promises.Keeping.{it-keeps, keeps-these, keeps-last, whole}, Grows.and, Shrinks.removed-long}
+use Rattle.versions.proofs.promises.{Dues.{save-free, save-tight, remove-told}, Untouched.refused-untouched, Sequences.{carried, taken, can-take, has-none, has-new}}
 
 -- a list without a number
 module _ (x : ℕ) where

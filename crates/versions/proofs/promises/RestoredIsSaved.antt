@@ -1,39 +1,14 @@
 -- RESTORED IS SAVED, end to end.
--- Assumes nothing.
-use Prim.Native.Nat.{ℕ, _+_, _<_}
-use mathlib.Core.Path.{_≡_, sym, ap, subst, _∙_}
-use mathlib.Core.Bool.{true}
-use mathlib.Core.List.{List}
-use native.Mathlib.Decide.{decLt}
-use native.Mathlib.Omega.{arith}
-use lib.Dec.{eqb}
-use lib.ListN.{getD, take, drop}
-use borrow.Author.Tests.{eq-eqb}
-use Rattle.octets.specs.Bytes.{bytesOf}
-use Rattle.octets.specs.Octets.{Octets}
-use Rattle.octets.proofs.Octet.{octets-append, octets-bytes, octets-take, octets-drop}
-use Rattle.sheet.specs.Kind.{properties, groups}
-use Rattle.sheet.specs.Layout.{_of_}
-use Rattle.sheet.specs.Rules.{Accepted}
-use Rattle.sheet.specs.Entries.{base, startOf}
-use Rattle.sheet.specs.Agree.{Agree}
-use Rattle.sheet.proofs.promises.Agrees.{both-or-neither}
+use Rattle.octets.proofs.Kit.{ℕ, _+_, _<_, _≡_, sym, ap, subst, _∙_, true, List, decLt, arith, eqb, getD, take, drop, eq-eqb}
+use Rattle.octets.{specs.{Bytes.bytesOf, Octets.Octets}, proofs.Octet.{octets-append, octets-bytes, octets-take, octets-drop}}
+use Rattle.sheet.{specs.{Kind.{properties, groups}, Layout._of_, Rules.Accepted, Entries.{base, startOf}, Agree.Agree}, proofs.promises.Agrees.both-or-neither}
 use Rattle.judge.specs.declared.Session.{Session}
+use Rattle.versions.specs.{Store.{kept, isKept, versionIn, has, bodyOf}, Settings.{front, many, entriesLong, bodiesLong, settingsOf, restored, SameEntries, LowCounts, Elsewhere}}
+use Rattle.versions.specs.{Saving.{saveOutcome, saveNumber, saveStore}, Restoring.{restoreOutcome, restoreSheet}, Due.{AtZero, isRestored}, Sequence.{Change, changedAll, AllSpare}}
 use Rattle.versions.specs.Head as head
-use Rattle.versions.specs.Store.{kept, isKept, versionIn, has, bodyOf}
-use Rattle.versions.specs.Settings.{front, many, entriesLong, bodiesLong, settingsOf, restored, SameEntries, LowCounts, Elsewhere}
-use Rattle.versions.specs.Saving.{saveOutcome, saveNumber, saveStore}
-use Rattle.versions.specs.Restoring.{restoreOutcome, restoreSheet}
-use Rattle.versions.specs.Due.{AtZero, isRestored}
-use Rattle.versions.specs.Sequence.{Change, changedAll, AllSpare}
-use Rattle.versions.proofs.promises.Agreeing.{entries-to, low-to}
-use Rattle.versions.proofs.promises.OwnVersion.{own-entries, own-counts}
+use Rattle.versions.proofs.{promises.{Agreeing.{entries-to, low-to}, OwnVersion.{own-entries, own-counts}}, GivenBack.given-back, promises.Keeping.{it-keeps, passes, keeps-these}}
+use Rattle.versions.proofs.{Grows.and, promises.{Dues.{save-free, allowed, restore-only}, Sequences.{carried, Stays, has-new, has-none, kept-stays}}}
 use Rattle.versions.proofs.promises.Restores as re
-use Rattle.versions.proofs.GivenBack.{given-back}
-use Rattle.versions.proofs.promises.Keeping.{it-keeps, passes, keeps-these}
-use Rattle.versions.proofs.Grows.{and}
-use Rattle.versions.proofs.promises.Dues.{save-free, allowed, restore-only}
-use Rattle.versions.proofs.promises.Sequences.{carried, Stays, has-new, has-none, kept-stays}
 
 pub octets-settings : (s : List ℕ) → Octets s → Octets (settingsOf s)
 unfolding settingsOf

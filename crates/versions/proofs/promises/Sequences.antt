@@ -1,33 +1,12 @@
 -- A STORE OVER TIME: it stays good, what is kept stays, and no number is given twice.
--- Assumes nothing.
-use Prim.Native.Nat.{ℕ, _+_, _≤_, _<_}
-use mathlib.Core.Path.{_≡_, refl, sym, ap, subst, _∙_}
-use mathlib.Core.Bool.{Bool, true, false, cond}
-use mathlib.Core.List.{List, [], _∷_}
-use native.Mathlib.Decide.{ℕ-discrete}
-use native.Mathlib.Omega.{arith}
-use lib.Dec.{eqb}
-use lib.ListN.{length}
-use borrow.Author.Tests.{eq-eqb, ne-eqb, eqb-true}
-use Rattle.octets.specs.Octets.{Octets}
-use Rattle.octets.proofs.Truths.{never}
-use Rattle.octets.proofs.Walks.{by-test}
-use Rattle.sheet.specs.Layout.{_of_}
-use Rattle.sheet.specs.Rules.{Accepted}
+use Rattle.octets.proofs.Kit.{ℕ, _+_, _≤_, _<_, _≡_, refl, sym, ap, subst, _∙_, Bool, true, false, cond, List, [], _∷_, ℕ-discrete, arith, eqb, length, eq-eqb, ne-eqb, eqb-true}
+use Rattle.octets.{specs.Octets.Octets, proofs.{Truths.never, Walks.by-test}}
+use Rattle.sheet.specs.{Layout._of_, Rules.Accepted}
+use Rattle.versions.specs.{Store.{Version, Rising, next, Keeps, places, kept, has, bodyOf, isKept}, Rules.Passes, Saving.{saveOutcome, saveNumber, saveStore}, Settings.settingsOf}
+use Rattle.versions.specs.{Removing.{without, removeOutcome, removeStore}, Due.isRemoved, Sequence.{Change, saves, removes, changed, changedAll, Spares, AllSpare}}
 use Rattle.versions.specs.Head as head
-use Rattle.versions.specs.Store.{Version, Rising, next, Keeps, places, kept, has, bodyOf, isKept}
-use Rattle.versions.specs.Rules.{Passes}
-use Rattle.versions.specs.Saving.{saveOutcome, saveNumber, saveStore}
-use Rattle.versions.specs.Settings.{settingsOf}
-use Rattle.versions.specs.Removing.{without, removeOutcome, removeStore}
-use Rattle.versions.specs.Due.{isRemoved}
-use Rattle.versions.specs.Sequence.{Change, saves, removes, changed, changedAll, Spares, AllSpare}
-use Rattle.versions.proofs.Forths.{rising-low}
-use Rattle.versions.proofs.promises.Keeping.{it-keeps, passes, keeps-these, keeps-last}
-use Rattle.versions.proofs.Grows.{and, grown}
-use Rattle.versions.proofs.Shrinks.{shrunk}
-use Rattle.versions.proofs.promises.Dues.{save-free, remove-only, remove-told}
-use Rattle.versions.proofs.promises.Untouched.{refused-untouched}
+use Rattle.versions.proofs.{Forths.rising-low, promises.Keeping.{it-keeps, passes, keeps-these, keeps-last}, Grows.{and, grown}, Shrinks.shrunk}
+use Rattle.versions.proofs.promises.{Dues.{save-free, remove-only, remove-told}, Untouched.refused-untouched}
 
 -- a save that is carried out
 pub record Carried (sheet s : List ℕ) (last : ℕ) (vs : List Version) : Type 0 where

@@ -1,15 +1,7 @@
 -- REFUSED, UNTOUCHED: what is refused leaves every byte, and gives no number.
--- Assumes nothing.
-use Prim.Native.Nat.{ℕ}
-use mathlib.Core.Path.{_≡_}
-use mathlib.Core.Bool.{false}
-use mathlib.Core.List.{List}
-use lib.Dec.{eqb}
-use borrow.Author.Tests.{ne-eqb}
+use Rattle.octets.proofs.Kit.{ℕ, _≡_, false, List, eqb, ne-eqb}
 use Rattle.judge.specs.declared.Session.{Session}
-use Rattle.versions.specs.Saving.{saveOutcome, saveNumber, saveStore}
-use Rattle.versions.specs.Restoring.{restoreOutcome, restoreSheet}
-use Rattle.versions.specs.Removing.{removeOutcome, removeStore}
+use Rattle.versions.specs.{Saving.{saveOutcome, saveNumber, saveStore}, Restoring.{restoreOutcome, restoreSheet}, Removing.{removeOutcome, removeStore}}
 
 pub record Untouched (sheet s : List ℕ) : Type 0 where
   pub store : (saveOutcome sheet s ≡ 0 → ⊥) → saveStore sheet s ≡ s

@@ -1,13 +1,7 @@
 -- A ZEROED BUFFER WITH ROOM FOR THE EMPTY TABLE IS A GOOD STORE THAT KEEPS NOTHING.
--- Assumes nothing.
-use Prim.Native.Nat.{ℕ, _+_, _-_, _≤_}
-use mathlib.Core.Path.{_≡_, sym, ap, _∙_}
-use mathlib.Core.List.{List, []}
-use native.Mathlib.Omega.{arith}
-use lib.ListN.{length, replicate, replicate-append-replicate, length-replicate}
+use Rattle.octets.proofs.Kit.{ℕ, _+_, _-_, _≤_, _≡_, sym, ap, _∙_, List, [], arith, length, replicate, replicate-append-replicate, length-replicate}
 use Rattle.octets.specs.Bytes.{bytesOf}
-use Rattle.versions.specs.Store.{none, GoodStore, lowest, headOf, tableOf, bodiesOf, laid, kept}
-use Rattle.versions.specs.Rules.{Passes}
+use Rattle.versions.specs.{Store.{none, GoodStore, lowest, headOf, tableOf, bodiesOf, laid, kept}, Rules.Passes}
 use Rattle.versions.proofs.Forths.{good-passes, good-kept}
 
 zeroed : (n : ℕ) → 8 ≤ n → n ≤ 32768 → GoodStore (replicate n 0) 0 [] (replicate (n - 8) 0)

@@ -1,7 +1,6 @@
 -- `cemi::parts::part` meets its contract. Assumes nothing.
-use borrow.Author.Needs.{needs}
-use Rattle.cemi.proofs.Cut.{cut-out, cut-nothing}
-use Rattle.cemi.proofs.parts.part.Statement.{statement}
+use Rattle.octets.proofs.Kit.{needs}
+use Rattle.cemi.proofs.{Cut.{cut-out, cut-nothing}, parts.part.Statement.statement}
 use Rattle.cemi.proofs.parts.part.Tie as tie
 
 pub part-spec : {M : Type 1} → statement M

@@ -1,7 +1,6 @@
 -- `cemi::reading::fields_in` meets its contract. Assumes nothing.
-use borrow.Author.Needs.{needs}
-use Rattle.cemi.proofs.Taken.{fields-are}
-use Rattle.cemi.proofs.reading.fields_in.Statement.{statement}
+use Rattle.octets.proofs.Kit.{needs}
+use Rattle.cemi.proofs.{Taken.fields-are, reading.fields_in.Statement.statement}
 use Rattle.cemi.proofs.reading.fields_in.Tie as tie
 
 pub fields-in-spec : {M : Type 1} → statement M

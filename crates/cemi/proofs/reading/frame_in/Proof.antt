@@ -1,7 +1,6 @@
 -- `cemi::reading::frame_in` meets its contract. Assumes nothing.
-use borrow.Author.Needs.{needs}
-use Rattle.cemi.proofs.Taken.{frame-is}
-use Rattle.cemi.proofs.reading.frame_in.Statement.{statement}
+use Rattle.octets.proofs.Kit.{needs}
+use Rattle.cemi.proofs.{Taken.frame-is, reading.frame_in.Statement.statement}
 use Rattle.cemi.proofs.reading.frame_in.Tie as tie
 
 pub frame-in-spec : {M : Type 1} → statement M

@@ -1,7 +1,6 @@
 -- `cemi::reading::read` meets its contract. Assumes nothing.
-use borrow.Author.Needs.{needs}
-use Rattle.cemi.proofs.Taken.{gives, refuses}
-use Rattle.cemi.proofs.reading.read.Statement.{statement}
+use Rattle.octets.proofs.Kit.{needs}
+use Rattle.cemi.proofs.{Taken.{gives, refuses}, reading.read.Statement.statement}
 use Rattle.cemi.proofs.reading.read.Tie as tie
 
 returns : tie.Need-returns

@@ -1,7 +1,6 @@
 -- `cemi::reading::refusal` meets its contract. Assumes nothing.
-use borrow.Author.Needs.{needs}
-use Rattle.cemi.proofs.Judging.{no-code-room, too-short, of-request, of-indication, of-another}
-use Rattle.cemi.proofs.reading.refusal.Statement.{statement}
+use Rattle.octets.proofs.Kit.{needs}
+use Rattle.cemi.proofs.{Judging.{no-code-room, too-short, of-request, of-indication, of-another}, reading.refusal.Statement.statement}
 use Rattle.cemi.proofs.reading.refusal.Tie as tie
 
 pub refusal-spec : {M : Type 1} → statement M

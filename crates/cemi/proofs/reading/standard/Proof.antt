@@ -1,12 +1,7 @@
 -- `cemi::reading::standard` meets its contract. Assumes nothing.
-use Prim.Native.Nat.{ℕ, _+_, _%_, _≤_}
-use mathlib.Core.Path.{_≡_}
-use borrow.Author.Needs.{needs}
-use native.Mathlib.Omega.{arith}
+use Rattle.octets.proofs.Kit.{ℕ, _+_, _%_, _≤_, _≡_, needs, arith}
 use Rattle.octets.proofs.Tests.{tests}
-use Rattle.cemi.specs.Layout.{octet6}
-use Rattle.cemi.specs.Read.{standardOf}
-use Rattle.cemi.specs.declared.Fields.{Fields}
+use Rattle.cemi.specs.{Layout.octet6, Read.standardOf, declared.Fields.Fields}
 use Rattle.cemi.proofs.reading.standard.Statement.{statement}
 use Rattle.cemi.proofs.reading.standard.Tie as tie
 

@@ -1,6 +1,5 @@
 -- `cemi::transport::controlled` meets its contract. Assumes nothing.
-use borrow.Author.Needs.{needs}
-use native.Mathlib.Omega.{arith}
+use Rattle.octets.proofs.Kit.{needs, arith}
 use Rattle.octets.proofs.Tests.{tests}
 use Rattle.cemi.specs.Meaning.{control}
 use Rattle.cemi.proofs.transport.controlled.Statement.{statement}

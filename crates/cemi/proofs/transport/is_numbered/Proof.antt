@@ -1,5 +1,5 @@
 -- `cemi::transport::is_numbered` meets its contract. Assumes nothing.
-use native.Mathlib.Omega.{arith}
+use Rattle.octets.proofs.Kit.{arith}
 use Rattle.octets.proofs.Tests.{tests}
 use Rattle.cemi.specs.Meaning.{numbered}
 use Rattle.cemi.proofs.transport.is_numbered.Statement.{statement}

@@ -1,6 +1,5 @@
 -- `cemi::transport::meant` meets its contract. Assumes nothing.
-use borrow.Author.Needs.{needs}
-use native.Mathlib.Omega.{arith}
+use Rattle.octets.proofs.Kit.{needs, arith}
 use Rattle.octets.proofs.Tests.{branches}
 use Rattle.cemi.specs.Meaning.{meaningOf}
 use Rattle.cemi.proofs.transport.meant.Statement.{statement}

@@ -1,5 +1,5 @@
 -- `cemi::transport::to_group` meets its contract. Assumes nothing.
-use native.Mathlib.Omega.{arith}
+use Rattle.octets.proofs.Kit.{arith}
 use Rattle.octets.proofs.Tests.{tests}
 use Rattle.cemi.specs.Meaning.{toGroup}
 use Rattle.cemi.proofs.transport.to_group.Statement.{statement}

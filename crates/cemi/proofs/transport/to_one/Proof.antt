@@ -1,6 +1,5 @@
 -- `cemi::transport::to_one` meets its contract. Assumes nothing.
-use borrow.Author.Needs.{needs}
-use native.Mathlib.Omega.{arith}
+use Rattle.octets.proofs.Kit.{needs, arith}
 use Rattle.octets.proofs.Tests.{branches}
 use Rattle.cemi.specs.Meaning.{toOne}
 use Rattle.cemi.proofs.transport.to_one.Statement.{statement}

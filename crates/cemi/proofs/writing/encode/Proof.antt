@@ -1,7 +1,6 @@
 -- `cemi::writing::encode` meets its contract. Assumes nothing.
-use borrow.Author.Needs.{needs}
-use Rattle.cemi.proofs.Stores.{all-put}
-use Rattle.cemi.proofs.writing.encode.Statement.{statement}
+use Rattle.octets.proofs.Kit.{needs}
+use Rattle.cemi.proofs.{Stores.all-put, writing.encode.Statement.statement}
 use Rattle.cemi.proofs.writing.encode.Tie as tie
 
 pub encode-spec : {M : Type 1} → statement M

@@ -1,7 +1,6 @@
 -- `cemi::writing::is_writable` meets its contract. Assumes nothing.
-use borrow.Author.Needs.{needs}
-use Rattle.cemi.proofs.Judging.{long-info, wide-transport, no-apdu, long-apdu, judged-alike}
-use Rattle.cemi.proofs.writing.is_writable.Statement.{statement}
+use Rattle.octets.proofs.Kit.{needs}
+use Rattle.cemi.proofs.{Judging.{long-info, wide-transport, no-apdu, long-apdu, judged-alike}, writing.is_writable.Statement.statement}
 use Rattle.cemi.proofs.writing.is_writable.Tie as tie
 
 pub is-writable-spec : {M : Type 1} → statement M

@@ -1,7 +1,6 @@
 -- `cemi::writing::put_front` meets its contract. Assumes nothing.
-use borrow.Author.Needs.{needs}
-use Rattle.cemi.proofs.Stores.{front-put}
-use Rattle.cemi.proofs.writing.put_front.Statement.{statement}
+use Rattle.octets.proofs.Kit.{needs}
+use Rattle.cemi.proofs.{Stores.front-put, writing.put_front.Statement.statement}
 use Rattle.cemi.proofs.writing.put_front.Tie as tie
 
 pub put-front-spec : {M : Type 1} → statement M

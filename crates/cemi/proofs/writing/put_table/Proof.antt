@@ -1,7 +1,6 @@
 -- `cemi::writing::put_table` meets its contract. Assumes nothing.
-use borrow.Author.Needs.{needs}
-use Rattle.cemi.proofs.Stores.{table-put}
-use Rattle.cemi.proofs.writing.put_table.Statement.{statement}
+use Rattle.octets.proofs.Kit.{needs}
+use Rattle.cemi.proofs.{Stores.table-put, writing.put_table.Statement.statement}
 use Rattle.cemi.proofs.writing.put_table.Tie as tie
 
 pub put-table-spec : {M : Type 1} → statement M

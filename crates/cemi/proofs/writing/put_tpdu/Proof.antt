@@ -1,7 +1,6 @@
 -- `cemi::writing::put_tpdu` meets its contract. Assumes nothing.
-use borrow.Author.Needs.{needs}
-use Rattle.cemi.proofs.Stores.{tpdu-put}
-use Rattle.cemi.proofs.writing.put_tpdu.Statement.{statement}
+use Rattle.octets.proofs.Kit.{needs}
+use Rattle.cemi.proofs.{Stores.tpdu-put, writing.put_tpdu.Statement.statement}
 use Rattle.cemi.proofs.writing.put_tpdu.Tie as tie
 
 pub put-tpdu-spec : {M : Type 1} → statement M

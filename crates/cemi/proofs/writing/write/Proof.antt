@@ -1,8 +1,6 @@
 -- `cemi::writing::write` meets its contract. Assumes nothing.
-use borrow.Author.Needs.{needs}
-use native.Mathlib.Omega.{arith}
-use Rattle.cemi.proofs.Wrote.{may-write, wrote-47, wrote-46, wrote-all}
-use Rattle.cemi.proofs.writing.write.Statement.{statement}
+use Rattle.octets.proofs.Kit.{needs, arith}
+use Rattle.cemi.proofs.{Wrote.{may-write, wrote-47, wrote-46, wrote-all}, writing.write.Statement.statement}
 use Rattle.cemi.proofs.writing.write.Tie as tie
 
 pub write-spec : {M : Type 1} → statement M

@@ -1,8 +1,6 @@
 -- `device::answer::answer` meets its contract: the PDU, and the data behind it.
--- Assumes nothing.
-use borrow.Author.Needs.{needs}
-use Rattle.device.proofs.due.Sent.{silence, pdu-needs, data-needs, all-sent}
-use Rattle.device.proofs.answer.answer.Statement.{statement}
+use Rattle.octets.proofs.Kit.{needs}
+use Rattle.device.proofs.{due.Sent.{silence, pdu-needs, data-needs, all-sent}, answer.answer.Statement.statement}
 use Rattle.device.proofs.answer.answer.Tie as tie
 
 encode-requires : tie.Need-encode-requires

@@ -1,7 +1,5 @@
 -- `device::answer::data_behind` meets its contract: each arm knows the answer, and what the function that it calls writes.
--- Assumes nothing.
-use borrow.Author.Needs.{needs}
-use native.Mathlib.Omega.{arith}
+use Rattle.octets.proofs.Kit.{needs, arith}
 use Rattle.device.proofs.due.Sent.{silence-behind, plain-behind, number-is, sheet-is, echo-is, number-needs, sheet-lies, sheet-needs, echo-needs}
 use Rattle.device.proofs.answer.data_behind.Statement.{statement}
 use Rattle.device.proofs.answer.data_behind.Tie as tie

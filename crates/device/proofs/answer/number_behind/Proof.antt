@@ -1,8 +1,6 @@
 -- `device::answer::number_behind` meets its contract.
--- Assumes nothing.
-use borrow.Author.Needs.{needs}
-use Rattle.device.proofs.due.Sent.{number-behind}
-use Rattle.device.proofs.answer.number_behind.Statement.{statement}
+use Rattle.octets.proofs.Kit.{needs}
+use Rattle.device.proofs.{due.Sent.number-behind, answer.number_behind.Statement.statement}
 use Rattle.device.proofs.answer.number_behind.Tie as tie
 
 pub number-behind-spec : {M : Type 1} → statement M

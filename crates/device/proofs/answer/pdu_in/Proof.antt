@@ -1,8 +1,6 @@
 -- `device::answer::pdu_in` meets its contract: each arm knows the answer.
--- Assumes nothing.
-use borrow.Author.Needs.{needs}
-use Rattle.device.proofs.due.Sent.{via-pdu}
-use Rattle.device.proofs.answer.pdu_in.Statement.{statement}
+use Rattle.octets.proofs.Kit.{needs}
+use Rattle.device.proofs.{due.Sent.via-pdu, answer.pdu_in.Statement.statement}
 use Rattle.device.proofs.answer.pdu_in.Tie as tie
 
 pub pdu-in-spec : {M : Type 1} → statement M

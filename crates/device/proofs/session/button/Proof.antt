@@ -1,6 +1,5 @@
 -- `device::session::button` meets its contract: of the sheet nothing is known.
--- Assumes nothing.
-use borrow.Author.Needs.{needs}
+use Rattle.octets.proofs.Kit.{needs}
 use Rattle.octets.proofs.Truths.{never}
 use Rattle.device.proofs.session.button.Statement.{statement}
 use Rattle.device.proofs.session.button.Tie as tie

@@ -1,10 +1,7 @@
 -- `device::session::button_known` meets its contract.
--- Assumes nothing.
-use borrow.Author.Needs.{needs}
-use native.Mathlib.Omega.{arith}
+use Rattle.octets.proofs.Kit.{needs, arith}
 use Rattle.sheet.proofs.promises.Verdicts.{not-refused}
-use Rattle.device.proofs.calls.Pressing.{put-room, not-pressed, was-pressed}
-use Rattle.device.proofs.session.button_known.Statement.{statement}
+use Rattle.device.proofs.{calls.Pressing.{put-room, not-pressed, was-pressed}, session.button_known.Statement.statement}
 use Rattle.device.proofs.session.button_known.Tie as tie
 
 pub button-known-spec : {M : Type 1} → statement M

@@ -1,8 +1,6 @@
 -- `device::session::connect` meets its contract.
--- Assumes nothing.
-use borrow.Author.Needs.{needs}
-use Rattle.device.proofs.calls.Turns.{named-both}
-use Rattle.device.proofs.session.connect.Statement.{statement}
+use Rattle.octets.proofs.Kit.{needs}
+use Rattle.device.proofs.{calls.Turns.named-both, session.connect.Statement.statement}
 use Rattle.device.proofs.session.connect.Tie as tie
 
 pub connect-spec : {M : Type 1} → statement M

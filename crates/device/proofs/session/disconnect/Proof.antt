@@ -1,8 +1,6 @@
 -- `device::session::disconnect` meets its contract.
--- Assumes nothing.
-use borrow.Author.Needs.{needs}
-use Rattle.device.proofs.calls.Turns.{named-both}
-use Rattle.device.proofs.session.disconnect.Statement.{statement}
+use Rattle.octets.proofs.Kit.{needs}
+use Rattle.device.proofs.{calls.Turns.named-both, session.disconnect.Statement.statement}
 use Rattle.device.proofs.session.disconnect.Tie as tie
 
 pub disconnect-spec : {M : Type 1} → statement M

@@ -1,6 +1,5 @@
 -- `device::session::outcome_for` meets its contract.
--- Assumes nothing.
-use native.Mathlib.Omega.{arith}
+use Rattle.octets.proofs.Kit.{arith}
 use Rattle.octets.proofs.Tests.{tests}
 use Rattle.device.proofs.session.outcome_for.Statement.{statement}
 use Rattle.device.proofs.session.outcome_for.Tie as tie

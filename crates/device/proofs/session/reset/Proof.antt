@@ -1,6 +1,5 @@
 -- `device::session::reset` meets its contract.
--- Assumes nothing.
-use borrow.Author.Needs.{needs}
+use Rattle.octets.proofs.Kit.{needs}
 use Rattle.device.proofs.session.reset.Statement.{statement}
 use Rattle.device.proofs.session.reset.Tie as tie
 

@@ -1,7 +1,5 @@
 -- `device::session::session_for` meets its contract.
--- Assumes nothing.
-use borrow.Author.Needs.{needs}
-use native.Mathlib.Omega.{arith}
+use Rattle.octets.proofs.Kit.{needs, arith}
 use Rattle.octets.proofs.Tests.{tests}
 use Rattle.device.proofs.session.session_for.Statement.{statement}
 use Rattle.device.proofs.session.session_for.Tie as tie

@@ -1,6 +1,5 @@
 -- `device::session::session_of` meets its contract.
--- Assumes nothing.
-use native.Mathlib.Omega.{arith}
+use Rattle.octets.proofs.Kit.{arith}
 use Rattle.octets.proofs.Tests.{tests}
 use Rattle.device.proofs.session.session_of.Statement.{statement}
 use Rattle.device.proofs.session.session_of.Tie as tie

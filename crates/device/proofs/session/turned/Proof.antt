@@ -1,8 +1,6 @@
 -- `device::session::turned` meets its contract: each arm knows the turn.
--- Assumes nothing.
-use borrow.Author.Needs.{needs}
-use Rattle.device.proofs.calls.Turns.{via-turn, all-stay}
-use Rattle.device.proofs.session.turned.Statement.{statement}
+use Rattle.octets.proofs.Kit.{needs}
+use Rattle.device.proofs.{calls.Turns.{via-turn, all-stay}, session.turned.Statement.statement}
 use Rattle.device.proofs.session.turned.Tie as tie
 
 pub turned-spec : {M : Type 1} → statement M

@@ -1,10 +1,7 @@
 -- `device::session::with_level` meets its contract.
--- Assumes nothing.
-use borrow.Author.Needs.{needs}
-use native.Mathlib.Omega.{arith}
+use Rattle.octets.proofs.Kit.{needs, arith}
 use Rattle.octets.proofs.Tests.{tests}
-use Rattle.device.proofs.calls.Turns.{levelled}
-use Rattle.device.proofs.session.with_level.Statement.{statement}
+use Rattle.device.proofs.{calls.Turns.levelled, session.with_level.Statement.statement}
 use Rattle.device.proofs.session.with_level.Tie as tie
 
 pub with-level-spec : {M : Type 1} → statement M

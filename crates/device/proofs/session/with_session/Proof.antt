@@ -1,6 +1,5 @@
 -- `device::session::with_session` meets its contract.
--- Assumes nothing.
-use native.Mathlib.Omega.{arith}
+use Rattle.octets.proofs.Kit.{arith}
 use Rattle.octets.proofs.Tests.{tests}
 use Rattle.device.proofs.session.with_session.Statement.{statement}
 use Rattle.device.proofs.session.with_session.Tie as tie

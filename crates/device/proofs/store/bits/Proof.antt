@@ -1,14 +1,8 @@
 -- `device::store::bits` meets its contract: after i turns the first i bytes are changed.
--- Assumes nothing.
-use Prim.Native.Nat.{_≤_, _-_}
-use mathlib.Core.Path.{_≡_, refl}
-use borrow.Author.Needs.{needs}
-use native.Mathlib.Omega.{arith}
-use lib.ListN.{length, length-set}
+use Rattle.octets.proofs.Kit.{_≤_, _-_, _≡_, refl, needs, arith, length, length-set}
 use Rattle.octets.specs.Splice.{splice}
 use Rattle.device.specs.Carry.{build, bitAt}
-use Rattle.device.proofs.leaves.Bits.{bits-none, bits-more}
-use Rattle.device.proofs.store.bits.Statement.{statement}
+use Rattle.device.proofs.{leaves.Bits.{bits-none, bits-more}, store.bits.Statement.statement}
 use Rattle.device.proofs.store.bits.Tie as tie
 
 abbrev Inv-loop : tie.InvT-loop

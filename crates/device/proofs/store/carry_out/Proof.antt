@@ -1,8 +1,6 @@
 -- `device::store::carry_out` meets its contract.
--- Assumes nothing.
-use borrow.Author.Needs.{needs}
-use Rattle.device.proofs.due.Runs.{second-safe, both-stored}
-use Rattle.device.proofs.store.carry_out.Statement.{statement}
+use Rattle.octets.proofs.Kit.{needs}
+use Rattle.device.proofs.{due.Runs.{second-safe, both-stored}, store.carry_out.Statement.statement}
 use Rattle.device.proofs.store.carry_out.Tie as tie
 
 pub carry-out-spec : {M : Type 1} → statement M

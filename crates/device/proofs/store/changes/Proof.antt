@@ -1,8 +1,6 @@
 -- `device::store::changes` meets its contract.
--- Assumes nothing.
-use borrow.Author.Needs.{needs}
-use Rattle.device.proofs.due.Runs.{second-part, both-parts}
-use Rattle.device.proofs.store.changes.Statement.{statement}
+use Rattle.octets.proofs.Kit.{needs}
+use Rattle.device.proofs.{due.Runs.{second-part, both-parts}, store.changes.Statement.statement}
 use Rattle.device.proofs.store.changes.Tie as tie
 
 pub changes-spec : {M : Type 1} → statement M

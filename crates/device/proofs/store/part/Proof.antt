@@ -1,9 +1,6 @@
 -- `device::store::part` meets its contract: each arm knows the run.
--- Assumes nothing.
-use borrow.Author.Needs.{needs}
-use native.Mathlib.Omega.{arith}
-use Rattle.device.proofs.due.Runs.{via-padded, via-part, number-at, number-long, data-at, data-long, bits-at, bits-long, fill-at, fill-long}
-use Rattle.device.proofs.store.part.Statement.{statement}
+use Rattle.octets.proofs.Kit.{needs, arith}
+use Rattle.device.proofs.{due.Runs.{via-padded, via-part, number-at, number-long, data-at, data-long, bits-at, bits-long, fill-at, fill-long}, store.part.Statement.statement}
 use Rattle.device.proofs.store.part.Tie as tie
 
 pub part-spec : {M : Type 1} → statement M

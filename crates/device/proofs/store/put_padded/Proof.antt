@@ -1,8 +1,6 @@
 -- `device::store::put_padded` meets its contract.
--- Assumes nothing.
-use borrow.Author.Needs.{needs}
-use Rattle.device.proofs.leaves.Stores.{zeros-first}
-use Rattle.device.proofs.store.put_padded.Statement.{statement}
+use Rattle.octets.proofs.Kit.{needs}
+use Rattle.device.proofs.{leaves.Stores.zeros-first, store.put_padded.Statement.statement}
 use Rattle.device.proofs.store.put_padded.Tie as tie
 
 pub put-padded-spec : {M : Type 1} → statement M

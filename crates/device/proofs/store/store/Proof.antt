@@ -1,8 +1,6 @@
 -- `device::store::store` meets its contract: each arm knows the run, and what the function that it calls stores.
--- Assumes nothing.
-use borrow.Author.Needs.{needs}
-use Rattle.device.proofs.due.Runs.{via-safe, via-padded, via-store}
-use Rattle.device.proofs.store.store.Statement.{statement}
+use Rattle.octets.proofs.Kit.{needs}
+use Rattle.device.proofs.{due.Runs.{via-safe, via-padded, via-store}, store.store.Statement.statement}
 use Rattle.device.proofs.store.store.Tie as tie
 
 pub store-spec : {M : Type 1} → statement M

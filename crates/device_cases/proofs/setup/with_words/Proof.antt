@@ -1,9 +1,5 @@
 -- `device_cases::setup::with_words` is safe and ends.
--- Assumes nothing.
-use Prim.Native.Nat.{_≤_, _-_}
-use mathlib.Core.Path.{_≡_}
-use borrow.Author.Needs.{needs}
-use lib.ListN.{length}
+use Rattle.octets.proofs.Kit.{_≤_, _-_, _≡_, needs, length}
 use Rattle.device_cases.proofs.setup.with_words.Statement.{statement}
 use Rattle.device_cases.proofs.setup.with_words.Tie as tie
 

@@ -1,7 +1,6 @@
 -- `host::bus::kelindap_heard` meets its contract. Assumes nothing.
-use borrow.Author.Needs.{needs}
-use Rattle.host.proofs.Buses.{laid-heard}
-use Rattle.host.proofs.bus.kelindap_heard.Statement.{statement}
+use Rattle.octets.proofs.Kit.{needs}
+use Rattle.host.proofs.{Buses.laid-heard, bus.kelindap_heard.Statement.statement}
 use Rattle.host.proofs.bus.kelindap_heard.Tie as tie
 
 pub kelindap-heard-spec : {M : Type 1} → statement M

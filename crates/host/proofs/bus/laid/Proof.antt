@@ -1,7 +1,6 @@
 -- `host::bus::laid` meets its contract. Assumes nothing.
-use borrow.Author.Needs.{needs}
-use Rattle.host.proofs.Buses.{laid-request, laid-connect, laid-disconnect, laid-nothing}
-use Rattle.host.proofs.bus.laid.Statement.{statement}
+use Rattle.octets.proofs.Kit.{needs}
+use Rattle.host.proofs.{Buses.{laid-request, laid-connect, laid-disconnect, laid-nothing}, bus.laid.Statement.statement}
 use Rattle.host.proofs.bus.laid.Tie as tie
 
 pub laid-spec : {M : Type 1} → statement M

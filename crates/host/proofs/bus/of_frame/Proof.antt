@@ -1,7 +1,6 @@
 -- `host::bus::of_frame` meets its contract. Assumes nothing.
-use borrow.Author.Needs.{needs}
-use Rattle.host.proofs.Buses.{of-fields}
-use Rattle.host.proofs.bus.of_frame.Statement.{statement}
+use Rattle.octets.proofs.Kit.{needs}
+use Rattle.host.proofs.{Buses.of-fields, bus.of_frame.Statement.statement}
 use Rattle.host.proofs.bus.of_frame.Tie as tie
 
 pub of-frame-spec : {M : Type 1} → statement M

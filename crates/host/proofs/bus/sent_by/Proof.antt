@@ -1,7 +1,6 @@
 -- `host::bus::sent_by` meets its contract. Assumes nothing.
-use borrow.Author.Needs.{needs}
-use Rattle.host.proofs.Buses.{of-read, of-unread}
-use Rattle.host.proofs.bus.sent_by.Statement.{statement}
+use Rattle.octets.proofs.Kit.{needs}
+use Rattle.host.proofs.{Buses.{of-read, of-unread}, bus.sent_by.Statement.statement}
 use Rattle.host.proofs.bus.sent_by.Tie as tie
 
 pub sent-by-spec : {M : Type 1} → statement M

@@ -1,7 +1,6 @@
 -- `host::bus::served` meets its contract. Assumes nothing.
-use borrow.Author.Needs.{needs}
-use Rattle.host.proofs.Replies.{as-served}
-use Rattle.host.proofs.bus.served.Statement.{statement}
+use Rattle.octets.proofs.Kit.{needs}
+use Rattle.host.proofs.{Replies.as-served, bus.served.Statement.statement}
 use Rattle.host.proofs.bus.served.Tie as tie
 
 pub served-spec : {M : Type 1} → statement M

@@ -1,7 +1,6 @@
 -- `host::store::kelindap_restore` meets its contract. Assumes nothing.
-use borrow.Author.Needs.{needs}
-use Rattle.host.proofs.Restored.{restored-for}
-use Rattle.host.proofs.store.kelindap_restore.Statement.{statement}
+use Rattle.octets.proofs.Kit.{needs}
+use Rattle.host.proofs.{Restored.restored-for, store.kelindap_restore.Statement.statement}
 use Rattle.host.proofs.store.kelindap_restore.Tie as tie
 
 returns : tie.Need-returns

@@ -1,7 +1,5 @@
 -- `judge::addresses::address_write` meets its contract.
--- Assumes nothing.
-use borrow.Author.Needs.{needs}
-use native.Mathlib.Omega.{arith}
+use Rattle.octets.proofs.Kit.{needs, arith}
 use Rattle.octets.proofs.Tests.{branches}
 use Rattle.judge.specs.Addresses.{addressWriteOf}
 use Rattle.judge.proofs.addresses.address_write.Statement.{statement}

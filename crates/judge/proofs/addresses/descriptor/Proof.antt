@@ -1,9 +1,7 @@
 -- `judge::addresses::descriptor` meets its contract.
--- Assumes nothing.
-use borrow.Author.Needs.{needs}
-use Rattle.judge.proofs.Heads.{mask-answered, no-type, not-for-us}
+use Rattle.octets.proofs.Kit.{needs}
 use Rattle.judge.specs.Addresses.{descriptorOf}
-use Rattle.judge.proofs.addresses.descriptor.Statement.{statement}
+use Rattle.judge.proofs.{Heads.{mask-answered, no-type, not-for-us}, addresses.descriptor.Statement.statement}
 use Rattle.judge.proofs.addresses.descriptor.Tie as tie
 
 pub descriptor-spec : {M : Type 1} → statement M

@@ -1,6 +1,5 @@
 -- `judge::addresses::in_programming` meets its contract.
--- Assumes nothing.
-use borrow.Author.Needs.{needs}
+use Rattle.octets.proofs.Kit.{needs}
 use Rattle.judge.proofs.addresses.in_programming.Statement.{statement}
 use Rattle.judge.proofs.addresses.in_programming.Tie as tie
 

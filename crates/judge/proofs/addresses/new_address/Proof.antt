@@ -1,6 +1,5 @@
 -- `judge::addresses::new_address` meets its contract.
--- Assumes nothing.
-use borrow.Author.Needs.{needs}
+use Rattle.octets.proofs.Kit.{needs}
 use Rattle.judge.proofs.addresses.new_address.Statement.{statement}
 use Rattle.judge.proofs.addresses.new_address.Tie as tie
 

@@ -1,6 +1,5 @@
 -- `judge::addresses::serial_write` meets its contract.
--- Assumes nothing.
-use borrow.Author.Needs.{needs}
+use Rattle.octets.proofs.Kit.{needs}
 use Rattle.octets.proofs.Tests.{given}
 use Rattle.judge.specs.Addresses.{serialWriteOf}
 use Rattle.judge.proofs.addresses.serial_write.Statement.{statement}

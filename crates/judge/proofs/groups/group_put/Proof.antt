@@ -1,8 +1,6 @@
 -- `judge::groups::group_put` meets its contract.
--- Assumes nothing.
-use borrow.Author.Needs.{needs}
-use Rattle.judge.proofs.Grouped.{put-missing, put-shut, put-open}
-use Rattle.judge.proofs.groups.group_put.Statement.{statement}
+use Rattle.octets.proofs.Kit.{needs}
+use Rattle.judge.proofs.{Grouped.{put-missing, put-shut, put-open}, groups.group_put.Statement.statement}
 use Rattle.judge.proofs.groups.group_put.Tie as tie
 
 pub group-put-spec : {M : Type 1} → statement M

@@ -1,8 +1,6 @@
 -- `judge::groups::group_read` meets its contract.
--- Assumes nothing.
-use borrow.Author.Needs.{needs}
-use Rattle.judge.proofs.Grouped.{read-missing, read-shut, read-open}
-use Rattle.judge.proofs.groups.group_read.Statement.{statement}
+use Rattle.octets.proofs.Kit.{needs}
+use Rattle.judge.proofs.{Grouped.{read-missing, read-shut, read-open}, groups.group_read.Statement.statement}
 use Rattle.judge.proofs.groups.group_read.Tie as tie
 
 pub group-read-spec : {M : Type 1} → statement M

@@ -1,9 +1,7 @@
 -- `judge::groups::put_value` meets its contract.
--- Assumes nothing.
-use borrow.Author.Needs.{needs}
-use native.Mathlib.Omega.{arith}
-use Rattle.judge.specs.Groups.{putValue}
+use Rattle.octets.proofs.Kit.{needs, arith}
 use Rattle.octets.proofs.Tests.{tests}
+use Rattle.judge.specs.Groups.{putValue}
 use Rattle.judge.proofs.groups.put_value.Statement.{statement}
 use Rattle.judge.proofs.groups.put_value.Tie as tie
 

@@ -1,11 +1,8 @@
 -- `judge::groups::value` meets its contract.
--- Assumes nothing.
-use borrow.Author.Needs.{needs}
-use native.Mathlib.Omega.{arith}
-use Rattle.judge.specs.Groups.{valueOf}
+use Rattle.octets.proofs.Kit.{needs, arith}
 use Rattle.octets.proofs.Tests.{branches}
-use Rattle.judge.proofs.Grouped.{six-bits}
-use Rattle.judge.proofs.groups.value.Statement.{statement}
+use Rattle.judge.specs.Groups.{valueOf}
+use Rattle.judge.proofs.{Grouped.six-bits, groups.value.Statement.statement}
 use Rattle.judge.proofs.groups.value.Tie as tie
 
 pub value-spec : {M : Type 1} → statement M

@@ -1,6 +1,5 @@
 -- `judge::keys::authorize` meets its contract.
--- Assumes nothing.
-use borrow.Author.Needs.{needs}
+use Rattle.octets.proofs.Kit.{needs}
 use Rattle.judge.specs.Keys.{authorizeOf}
 use Rattle.judge.proofs.keys.authorize.Statement.{statement}
 use Rattle.judge.proofs.keys.authorize.Tie as tie

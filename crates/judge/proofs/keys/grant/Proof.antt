@@ -1,6 +1,5 @@
 -- `judge::keys::grant` meets its contract.
--- Assumes nothing.
-use borrow.Author.Needs.{needs}
+use Rattle.octets.proofs.Kit.{needs}
 use Rattle.octets.proofs.Tests.{given}
 use Rattle.judge.specs.Keys.{grantOf}
 use Rattle.judge.proofs.keys.grant.Statement.{statement}

@@ -1,11 +1,8 @@
 -- `judge::keys::key_write` meets its contract.
--- Assumes nothing.
-use borrow.Author.Needs.{needs}
-use native.Mathlib.Omega.{arith}
-use Rattle.judge.proofs.Heads.{key-set}
+use Rattle.octets.proofs.Kit.{needs, arith}
 use Rattle.octets.proofs.Tests.{branches}
 use Rattle.judge.specs.Keys.{keyWriteOf}
-use Rattle.judge.proofs.keys.key_write.Statement.{statement}
+use Rattle.judge.proofs.{Heads.key-set, keys.key_write.Statement.statement}
 use Rattle.judge.proofs.keys.key_write.Tie as tie
 
 pub key-write-spec : {M : Type 1} → statement M

@@ -1,6 +1,5 @@
 -- `judge::keys::restart` meets its contract.
--- Assumes nothing.
-use borrow.Author.Needs.{needs}
+use Rattle.octets.proofs.Kit.{needs}
 use Rattle.judge.specs.Keys.{restartOf}
 use Rattle.judge.proofs.keys.restart.Statement.{statement}
 use Rattle.judge.proofs.keys.restart.Tie as tie

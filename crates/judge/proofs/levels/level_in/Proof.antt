@@ -1,9 +1,7 @@
 -- `judge::levels::level_in` meets its contract.
--- Assumes nothing.
-use borrow.Author.Needs.{needs}
-use native.Mathlib.Omega.{arith}
-use Rattle.judge.specs.Session.{levelIn}
+use Rattle.octets.proofs.Kit.{needs, arith}
 use Rattle.octets.proofs.Tests.{tests}
+use Rattle.judge.specs.Session.{levelIn}
 use Rattle.judge.proofs.levels.level_in.Statement.{statement}
 use Rattle.judge.proofs.levels.level_in.Tie as tie
 

@@ -1,8 +1,7 @@
 -- `judge::levels::level_of` meets its contract.
--- Assumes nothing.
-use native.Mathlib.Omega.{arith}
-use Rattle.judge.specs.Session.{levelOf}
+use Rattle.octets.proofs.Kit.{arith}
 use Rattle.octets.proofs.Tests.{tests}
+use Rattle.judge.specs.Session.{levelOf}
 use Rattle.judge.proofs.levels.level_of.Statement.{statement}
 use Rattle.judge.proofs.levels.level_of.Tie as tie
 

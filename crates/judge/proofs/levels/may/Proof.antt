@@ -1,8 +1,6 @@
 -- `judge::levels::may` meets its contract.
--- Assumes nothing.
-use borrow.Author.Needs.{needs}
-use Rattle.judge.proofs.Arms.{via-may}
-use Rattle.judge.proofs.levels.may.Statement.{statement}
+use Rattle.octets.proofs.Kit.{needs}
+use Rattle.judge.proofs.{Arms.via-may, levels.may.Statement.statement}
 use Rattle.judge.proofs.levels.may.Tie as tie
 
 pub may-spec : {M : Type 1} → statement M

@@ -1,7 +1,5 @@
 -- `judge::levels::may_change` meets its contract.
--- Assumes nothing.
-use borrow.Author.Needs.{needs}
-use native.Mathlib.Omega.{arith}
+use Rattle.octets.proofs.Kit.{needs, arith}
 use Rattle.octets.proofs.Tests.{branches}
 use Rattle.judge.proofs.levels.may_change.Statement.{statement}
 use Rattle.judge.proofs.levels.may_change.Tie as tie

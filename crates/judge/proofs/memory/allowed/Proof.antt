@@ -1,8 +1,6 @@
 -- `judge::memory::allowed` meets its contract.
--- Assumes nothing.
-use borrow.Author.Needs.{needs}
-use Rattle.judge.proofs.Arms.{allowed-at, via-allowed}
-use Rattle.judge.proofs.memory.allowed.Statement.{statement}
+use Rattle.octets.proofs.Kit.{needs}
+use Rattle.judge.proofs.{Arms.{allowed-at, via-allowed}, memory.allowed.Statement.statement}
 use Rattle.judge.proofs.memory.allowed.Tie as tie
 
 pub allowed-spec : {M : Type 1} → statement M

@@ -1,8 +1,6 @@
 -- `judge::memory::bit_write` meets its contract.
--- Assumes nothing.
-use borrow.Author.Needs.{needs}
-use Rattle.judge.proofs.Memories.{changed-at}
-use Rattle.judge.proofs.memory.bit_write.Statement.{statement}
+use Rattle.octets.proofs.Kit.{needs}
+use Rattle.judge.proofs.{Memories.changed-at, memory.bit_write.Statement.statement}
 use Rattle.judge.proofs.memory.bit_write.Tie as tie
 
 pub bit-write-spec : {M : Type 1} → statement M

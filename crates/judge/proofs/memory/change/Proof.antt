@@ -1,8 +1,6 @@
 -- `judge::memory::change` meets its contract.
--- Assumes nothing.
-use borrow.Author.Needs.{needs}
-use Rattle.judge.proofs.Memories.{change-answered, change-stored, change-denied, change-refused}
-use Rattle.judge.proofs.memory.change.Statement.{statement}
+use Rattle.octets.proofs.Kit.{needs}
+use Rattle.judge.proofs.{Memories.{change-answered, change-stored, change-denied, change-refused}, memory.change.Statement.statement}
 use Rattle.judge.proofs.memory.change.Tie as tie
 
 pub change-spec : {M : Type 1} → statement M

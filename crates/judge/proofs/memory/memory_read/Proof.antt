@@ -1,8 +1,6 @@
 -- `judge::memory::memory_read` meets its contract.
--- Assumes nothing.
-use borrow.Author.Needs.{needs}
-use Rattle.judge.proofs.Memories.{read-run, read-denied}
-use Rattle.judge.proofs.memory.memory_read.Statement.{statement}
+use Rattle.octets.proofs.Kit.{needs}
+use Rattle.judge.proofs.{Memories.{read-run, read-denied}, memory.memory_read.Statement.statement}
 use Rattle.judge.proofs.memory.memory_read.Tie as tie
 
 pub memory-read-spec : {M : Type 1} → statement M

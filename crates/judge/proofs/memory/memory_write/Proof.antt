@@ -1,8 +1,6 @@
 -- `judge::memory::memory_write` meets its contract.
--- Assumes nothing.
-use borrow.Author.Needs.{needs}
-use Rattle.judge.proofs.Memories.{written-at}
-use Rattle.judge.proofs.memory.memory_write.Statement.{statement}
+use Rattle.octets.proofs.Kit.{needs}
+use Rattle.judge.proofs.{Memories.written-at, memory.memory_write.Statement.statement}
 use Rattle.judge.proofs.memory.memory_write.Tie as tie
 
 pub memory-write-spec : {M : Type 1} → statement M

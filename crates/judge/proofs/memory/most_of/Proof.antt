@@ -1,8 +1,6 @@
 -- `judge::memory::most_of` meets its contract.
--- Assumes nothing.
-use borrow.Author.Needs.{needs}
-use Rattle.judge.proofs.Arms.{via-most}
-use Rattle.judge.proofs.memory.most_of.Statement.{statement}
+use Rattle.octets.proofs.Kit.{needs}
+use Rattle.judge.proofs.{Arms.via-most, memory.most_of.Statement.statement}
 use Rattle.judge.proofs.memory.most_of.Tie as tie
 
 pub most-of-spec : {M : Type 1} → statement M

@@ -1,6 +1,5 @@
 -- `judge::memory::permits` meets its contract.
--- Assumes nothing.
-use native.Mathlib.Omega.{arith}
+use Rattle.octets.proofs.Kit.{arith}
 use Rattle.octets.proofs.Tests.{tests}
 use Rattle.judge.proofs.memory.permits.Statement.{statement}
 use Rattle.judge.proofs.memory.permits.Tie as tie

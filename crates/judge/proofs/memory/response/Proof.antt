@@ -1,8 +1,6 @@
 -- `judge::memory::response` meets its contract.
--- Assumes nothing.
-use borrow.Author.Needs.{needs}
-use Rattle.judge.proofs.Arms.{via-response}
-use Rattle.judge.proofs.memory.response.Statement.{statement}
+use Rattle.octets.proofs.Kit.{needs}
+use Rattle.judge.proofs.{Arms.via-response, memory.response.Statement.statement}
 use Rattle.judge.proofs.memory.response.Tie as tie
 
 pub response-spec : {M : Type 1} → statement M

@@ -1,6 +1,5 @@
 -- `judge::memory::verifies` meets its contract.
--- Assumes nothing.
-use borrow.Author.Needs.{needs}
+use Rattle.octets.proofs.Kit.{needs}
 use Rattle.judge.proofs.memory.verifies.Statement.{statement}
 use Rattle.judge.proofs.memory.verifies.Tie as tie
 

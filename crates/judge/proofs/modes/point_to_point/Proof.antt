@@ -1,6 +1,5 @@
 -- `judge::modes::point_to_point` meets its contract.
--- Assumes nothing.
-use native.Mathlib.Omega.{arith}
+use Rattle.octets.proofs.Kit.{arith}
 use Rattle.octets.proofs.Tests.{tests}
 use Rattle.judge.proofs.modes.point_to_point.Statement.{statement}
 use Rattle.judge.proofs.modes.point_to_point.Tie as tie

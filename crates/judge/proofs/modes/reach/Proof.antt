@@ -1,8 +1,6 @@
 -- `judge::modes::reach` meets its contract.
--- Assumes nothing.
-use borrow.Author.Needs.{needs}
-use Rattle.judge.proofs.Arms.{via-reach}
-use Rattle.judge.proofs.modes.reach.Statement.{statement}
+use Rattle.octets.proofs.Kit.{needs}
+use Rattle.judge.proofs.{Arms.via-reach, modes.reach.Statement.statement}
 use Rattle.judge.proofs.modes.reach.Tie as tie
 
 pub reach-spec : {M : Type 1} → statement M

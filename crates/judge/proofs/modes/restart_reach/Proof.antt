@@ -1,6 +1,5 @@
 -- `judge::modes::restart_reach` meets its contract.
--- Assumes nothing.
-use native.Mathlib.Omega.{arith}
+use Rattle.octets.proofs.Kit.{arith}
 use Rattle.octets.proofs.Tests.{tests}
 use Rattle.judge.proofs.modes.restart_reach.Statement.{statement}
 use Rattle.judge.proofs.modes.restart_reach.Tie as tie

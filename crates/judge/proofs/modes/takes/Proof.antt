@@ -1,8 +1,6 @@
 -- `judge::modes::takes` meets its contract.
--- Assumes nothing.
-use borrow.Author.Needs.{needs}
-use Rattle.judge.proofs.Arms.{via-takes}
-use Rattle.judge.proofs.modes.takes.Statement.{statement}
+use Rattle.octets.proofs.Kit.{needs}
+use Rattle.judge.proofs.{Arms.via-takes, modes.takes.Statement.statement}
 use Rattle.judge.proofs.modes.takes.Tie as tie
 
 pub takes-spec : {M : Type 1} → statement M

@@ -1,6 +1,5 @@
 -- `judge::properties::counted` meets its contract.
--- Assumes nothing.
-use native.Mathlib.Omega.{arith}
+use Rattle.octets.proofs.Kit.{arith}
 use Rattle.octets.proofs.Tests.{tests}
 use Rattle.judge.proofs.properties.counted.Statement.{statement}
 use Rattle.judge.proofs.properties.counted.Tie as tie

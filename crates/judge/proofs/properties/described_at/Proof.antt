@@ -1,7 +1,5 @@
 -- `judge::properties::described_at` meets its contract.
--- Assumes nothing.
-use borrow.Author.Needs.{needs}
-use native.Mathlib.Omega.{arith}
+use Rattle.octets.proofs.Kit.{needs, arith}
 use Rattle.octets.proofs.Tests.{branches}
 use Rattle.judge.specs.Properties.{describedAt}
 use Rattle.judge.proofs.properties.described_at.Statement.{statement}

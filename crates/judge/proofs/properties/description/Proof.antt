@@ -1,9 +1,6 @@
 -- `judge::properties::description` meets its contract.
--- Assumes nothing.
-use borrow.Author.Needs.{needs}
-use Rattle.judge.proofs.Values.{describe-missing, describe-there}
-use Rattle.judge.proofs.Fields.{small-rank}
-use Rattle.judge.proofs.properties.description.Statement.{statement}
+use Rattle.octets.proofs.Kit.{needs}
+use Rattle.judge.proofs.{Values.{describe-missing, describe-there}, Fields.small-rank, properties.description.Statement.statement}
 use Rattle.judge.proofs.properties.description.Tie as tie
 
 pub description-spec : {M : Type 1} → statement M

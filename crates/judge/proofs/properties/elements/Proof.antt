@@ -1,7 +1,5 @@
 -- `judge::properties::elements` meets its contract.
--- Assumes nothing.
-use borrow.Author.Needs.{needs}
-use native.Mathlib.Omega.{arith}
+use Rattle.octets.proofs.Kit.{needs, arith}
 use Rattle.octets.proofs.Tests.{branches}
 use Rattle.judge.proofs.properties.elements.Statement.{statement}
 use Rattle.judge.proofs.properties.elements.Tie as tie

@@ -1,7 +1,5 @@
 -- `judge::properties::is_readable` meets its contract.
--- Assumes nothing.
-use borrow.Author.Needs.{needs}
-use native.Mathlib.Omega.{arith}
+use Rattle.octets.proofs.Kit.{needs, arith}
 use Rattle.octets.proofs.Tests.{branches}
 use Rattle.judge.proofs.properties.is_readable.Statement.{statement}
 use Rattle.judge.proofs.properties.is_readable.Tie as tie

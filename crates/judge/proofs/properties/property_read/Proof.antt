@@ -1,9 +1,6 @@
 -- `judge::properties::property_read` meets its contract.
--- Assumes nothing.
-use borrow.Author.Needs.{needs}
-use Rattle.judge.proofs.Values.{read-missing, read-there}
-use Rattle.judge.proofs.Fields.{small-offset}
-use Rattle.judge.proofs.properties.property_read.Statement.{statement}
+use Rattle.octets.proofs.Kit.{needs}
+use Rattle.judge.proofs.{Values.{read-missing, read-there}, Fields.small-offset, properties.property_read.Statement.statement}
 use Rattle.judge.proofs.properties.property_read.Tie as tie
 
 pub property-read-spec : {M : Type 1} → statement M

@@ -1,9 +1,6 @@
 -- `judge::properties::property_write` meets its contract.
--- Assumes nothing.
-use borrow.Author.Needs.{needs}
-use Rattle.judge.proofs.Values.{write-missing, write-there}
-use Rattle.judge.proofs.Fields.{small-offset, small-place}
-use Rattle.judge.proofs.properties.property_write.Statement.{statement}
+use Rattle.octets.proofs.Kit.{needs}
+use Rattle.judge.proofs.{Values.{write-missing, write-there}, Fields.{small-offset, small-place}, properties.property_write.Statement.statement}
 use Rattle.judge.proofs.properties.property_write.Tie as tie
 
 pub property-write-spec : {M : Type 1} → statement M

@@ -1,8 +1,6 @@
 -- `judge::properties::read_in` meets its contract.
--- Assumes nothing.
-use borrow.Author.Needs.{needs}
-use Rattle.judge.proofs.Values.{start-one, read-low, read-count, read-elements, read-none}
-use Rattle.judge.proofs.properties.read_in.Statement.{statement}
+use Rattle.octets.proofs.Kit.{needs}
+use Rattle.judge.proofs.{Values.{start-one, read-low, read-count, read-elements, read-none}, properties.read_in.Statement.statement}
 use Rattle.judge.proofs.properties.read_in.Tie as tie
 
 pub read-in-spec : {M : Type 1} → statement M

@@ -1,8 +1,6 @@
 -- `judge::properties::run` meets its contract.
--- Assumes nothing.
-use borrow.Author.Needs.{needs}
-use Rattle.judge.proofs.Values.{run-is}
-use Rattle.judge.proofs.properties.run.Statement.{statement}
+use Rattle.octets.proofs.Kit.{needs}
+use Rattle.judge.proofs.{Values.run-is, properties.run.Statement.statement}
 use Rattle.judge.proofs.properties.run.Tie as tie
 
 pub run-spec : {M : Type 1} → statement M

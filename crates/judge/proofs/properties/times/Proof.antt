@@ -1,9 +1,5 @@
 -- `judge::properties::times` meets its contract.
--- Assumes nothing.
-use Prim.Native.Nat.{ℕ, _*_, _≤_}
-use mathlib.Core.Path.{refl}
-use native.Mathlib.Nat.{mul-le-mul}
-use native.Mathlib.Omega.{arith}
+use Rattle.octets.proofs.Kit.{ℕ, _*_, _≤_, refl, mul-le-mul, arith}
 use Rattle.judge.proofs.properties.times.Statement.{statement}
 use Rattle.judge.proofs.properties.times.Tie as tie
 

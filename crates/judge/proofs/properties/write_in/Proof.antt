@@ -1,8 +1,6 @@
 -- `judge::properties::write_in` meets its contract.
--- Assumes nothing.
-use borrow.Author.Needs.{needs}
-use Rattle.judge.proofs.Values.{start-one, many-one, write-low, write-count, write-elements, write-none}
-use Rattle.judge.proofs.properties.write_in.Statement.{statement}
+use Rattle.octets.proofs.Kit.{needs}
+use Rattle.judge.proofs.{Values.{start-one, many-one, write-low, write-count, write-elements, write-none}, properties.write_in.Statement.statement}
 use Rattle.judge.proofs.properties.write_in.Tie as tie
 
 pub write-in-spec : {M : Type 1} → statement M

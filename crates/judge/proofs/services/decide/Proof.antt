@@ -1,8 +1,6 @@
 -- `judge::services::decide` meets its contract.
--- Assumes nothing.
-use borrow.Author.Needs.{needs}
-use Rattle.judge.proofs.Judgement.{via-decide}
-use Rattle.judge.proofs.services.decide.Statement.{statement}
+use Rattle.octets.proofs.Kit.{needs}
+use Rattle.judge.proofs.{Judgement.via-decide, services.decide.Statement.statement}
 use Rattle.judge.proofs.services.decide.Tie as tie
 
 pub decide-spec : {M : Type 1} → statement M

@@ -1,5 +1,4 @@
 -- `lines::hex::put_unhex` is safe and ends.
--- Assumes nothing.
 use Prim.Native.Nat.{_≤_, _-_}
 use mathlib.Core.Path.{_≡_}
 use borrow.Author.Needs.{needs}

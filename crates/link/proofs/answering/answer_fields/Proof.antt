@@ -1,8 +1,6 @@
 -- `link::answering::answer_fields` meets its contract. Assumes nothing.
-use borrow.Author.Needs.{needs}
-use native.Mathlib.Omega.{arith}
-use Rattle.link.proofs.Answered.{to-asker, to-group}
-use Rattle.link.proofs.answering.answer_fields.Statement.{statement}
+use Rattle.octets.proofs.Kit.{needs, arith}
+use Rattle.link.proofs.{Answered.{to-asker, to-group}, answering.answer_fields.Statement.statement}
 use Rattle.link.proofs.answering.answer_fields.Tie as tie
 
 pub answer-fields-spec : {M : Type 1} → statement M

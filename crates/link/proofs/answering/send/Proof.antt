@@ -1,7 +1,6 @@
 -- `link::answering::send` meets its contract. Assumes nothing.
-use borrow.Author.Needs.{needs}
-use Rattle.link.proofs.Answered.{sent-bytes, sent-none, sent-few}
-use Rattle.link.proofs.answering.send.Statement.{statement}
+use Rattle.octets.proofs.Kit.{needs}
+use Rattle.link.proofs.{Answered.{sent-bytes, sent-none, sent-few}, answering.send.Statement.statement}
 use Rattle.link.proofs.answering.send.Tie as tie
 
 pub send-spec : {M : Type 1} → statement M

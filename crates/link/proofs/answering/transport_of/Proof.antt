@@ -1,6 +1,5 @@
 -- `link::answering::transport_of` meets its contract. Assumes nothing.
-use borrow.Author.Needs.{needs}
-use native.Mathlib.Omega.{arith}
+use Rattle.octets.proofs.Kit.{needs, arith}
 use Rattle.octets.proofs.Tests.{tests}
 use Rattle.link.proofs.answering.transport_of.Statement.{statement}
 use Rattle.link.proofs.answering.transport_of.Tie as tie

@@ -1,7 +1,6 @@
 -- `link::hearing::from_other` meets its contract. Assumes nothing.
-use borrow.Author.Needs.{needs}
-use Rattle.link.proofs.Returns.{of-own, of-other}
-use Rattle.link.proofs.hearing.from_other.Statement.{statement}
+use Rattle.octets.proofs.Kit.{needs}
+use Rattle.link.proofs.{Returns.{of-own, of-other}, hearing.from_other.Statement.statement}
 use Rattle.link.proofs.hearing.from_other.Tie as tie
 
 pub from-other-spec : {M : Type 1} → statement M

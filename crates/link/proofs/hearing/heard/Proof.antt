@@ -1,7 +1,6 @@
 -- `link::hearing::heard` meets its contract. Assumes nothing.
-use borrow.Author.Needs.{needs}
-use Rattle.link.proofs.Returns.{of-read, of-unread}
-use Rattle.link.proofs.hearing.heard.Statement.{statement}
+use Rattle.octets.proofs.Kit.{needs}
+use Rattle.link.proofs.{Returns.{of-read, of-unread}, hearing.heard.Statement.statement}
 use Rattle.link.proofs.hearing.heard.Tie as tie
 
 pub heard-spec : {M : Type 1} → statement M

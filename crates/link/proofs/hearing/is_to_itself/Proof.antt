@@ -1,5 +1,5 @@
 -- `link::hearing::is_to_itself` meets its contract. Assumes nothing.
-use native.Mathlib.Omega.{arith}
+use Rattle.octets.proofs.Kit.{arith}
 use Rattle.octets.proofs.Tests.{tests}
 use Rattle.link.specs.Hearing.{toItself}
 use Rattle.link.proofs.hearing.is_to_itself.Statement.{statement}

@@ -1,7 +1,6 @@
 -- `link::hearing::judge` meets its contract. Assumes nothing.
-use borrow.Author.Needs.{needs}
-use Rattle.link.proofs.Returns.{of-ours, of-others}
-use Rattle.link.proofs.hearing.judge.Statement.{statement}
+use Rattle.octets.proofs.Kit.{needs}
+use Rattle.link.proofs.{Returns.{of-ours, of-others}, hearing.judge.Statement.statement}
 use Rattle.link.proofs.hearing.judge.Tie as tie
 
 pub judge-spec : {M : Type 1} → statement M

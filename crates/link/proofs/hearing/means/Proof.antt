@@ -1,7 +1,6 @@
 -- `link::hearing::means` meets its contract. Assumes nothing.
-use borrow.Author.Needs.{needs}
-use Rattle.link.proofs.Returns.{of-data, of-connect, of-disconnect, of-refused}
-use Rattle.link.proofs.hearing.means.Statement.{statement}
+use Rattle.octets.proofs.Kit.{needs}
+use Rattle.link.proofs.{Returns.{of-data, of-connect, of-disconnect, of-refused}, hearing.means.Statement.statement}
 use Rattle.link.proofs.hearing.means.Tie as tie
 
 pub means-spec : {M : Type 1} → statement M

@@ -1,8 +1,6 @@
 -- `link::hearing::own_of` meets its contract. Assumes nothing.
-use borrow.Author.Needs.{needs}
-use native.Mathlib.Omega.{arith}
-use Rattle.link.proofs.Returns.{own-short, own-there}
-use Rattle.link.proofs.hearing.own_of.Statement.{statement}
+use Rattle.octets.proofs.Kit.{needs, arith}
+use Rattle.link.proofs.{Returns.{own-short, own-there}, hearing.own_of.Statement.statement}
 use Rattle.link.proofs.hearing.own_of.Tie as tie
 
 pub own-of-spec : {M : Type 1} → statement M

@@ -1,7 +1,6 @@
 -- `link::serving::connected` meets its contract. Assumes nothing.
-use borrow.Author.Needs.{needs}
-use Rattle.link.proofs.Serves.{is-connected}
-use Rattle.link.proofs.serving.connected.Statement.{statement}
+use Rattle.octets.proofs.Kit.{needs}
+use Rattle.link.proofs.{Serves.is-connected, serving.connected.Statement.statement}
 use Rattle.link.proofs.serving.connected.Tie as tie
 
 pub connected-spec : {M : Type 1} → statement M

@@ -1,7 +1,6 @@
 -- `link::serving::disconnected` meets its contract. Assumes nothing.
-use borrow.Author.Needs.{needs}
-use Rattle.link.proofs.Serves.{is-disconnected}
-use Rattle.link.proofs.serving.disconnected.Statement.{statement}
+use Rattle.octets.proofs.Kit.{needs}
+use Rattle.link.proofs.{Serves.is-disconnected, serving.disconnected.Statement.statement}
 use Rattle.link.proofs.serving.disconnected.Tie as tie
 
 pub disconnected-spec : {M : Type 1} → statement M

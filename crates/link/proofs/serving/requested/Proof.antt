@@ -1,7 +1,6 @@
 -- `link::serving::requested` meets its contract. Assumes nothing.
-use borrow.Author.Needs.{needs}
-use Rattle.link.proofs.Serves.{counted, enough, few-taken, was-requested}
-use Rattle.link.proofs.serving.requested.Statement.{statement}
+use Rattle.octets.proofs.Kit.{needs}
+use Rattle.link.proofs.{Serves.{counted, enough, few-taken, was-requested}, serving.requested.Statement.statement}
 use Rattle.link.proofs.serving.requested.Tie as tie
 
 pub requested-spec : {M : Type 1} → statement M

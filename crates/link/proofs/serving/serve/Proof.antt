@@ -1,8 +1,6 @@
 -- `link::serving::serve` meets its contract. Assumes nothing.
-use borrow.Author.Needs.{needs}
-use native.Mathlib.Omega.{arith}
-use Rattle.link.proofs.Serves.{no-room, was-read, not-read}
-use Rattle.link.proofs.serving.serve.Statement.{statement}
+use Rattle.octets.proofs.Kit.{needs, arith}
+use Rattle.link.proofs.{Serves.{no-room, was-read, not-read}, serving.serve.Statement.statement}
 use Rattle.link.proofs.serving.serve.Tie as tie
 
 pub serve-spec : {M : Type 1} → statement M

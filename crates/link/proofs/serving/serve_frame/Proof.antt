@@ -1,7 +1,6 @@
 -- `link::serving::serve_frame` meets its contract. Assumes nothing.
-use borrow.Author.Needs.{needs}
-use Rattle.link.proofs.Serves.{act-request, act-connect, act-disconnect, act-nothing}
-use Rattle.link.proofs.serving.serve_frame.Statement.{statement}
+use Rattle.octets.proofs.Kit.{needs}
+use Rattle.link.proofs.{Serves.{act-request, act-connect, act-disconnect, act-nothing}, serving.serve_frame.Statement.statement}
 use Rattle.link.proofs.serving.serve_frame.Tie as tie
 
 pub serve-frame-spec : {M : Type 1} → statement M

@@ -1,7 +1,6 @@
 -- `link::serving::silent` meets its contract. Assumes nothing.
-use borrow.Author.Needs.{needs}
-use Rattle.link.proofs.Serves.{is-silent}
-use Rattle.link.proofs.serving.silent.Statement.{statement}
+use Rattle.octets.proofs.Kit.{needs}
+use Rattle.link.proofs.{Serves.is-silent, serving.silent.Statement.statement}
 use Rattle.link.proofs.serving.silent.Tie as tie
 
 pub silent-spec : {M : Type 1} → statement M

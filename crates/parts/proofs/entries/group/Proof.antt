@@ -1,8 +1,6 @@
 -- `parts::entries::group` meets its contract.
--- Assumes nothing.
-use borrow.Author.Needs.{needs}
-use Rattle.parts.proofs.Taking.{group-taken}
-use Rattle.parts.proofs.entries.group.Statement.{statement}
+use Rattle.octets.proofs.Kit.{needs}
+use Rattle.parts.proofs.{Taking.group-taken, entries.group.Statement.statement}
 use Rattle.parts.proofs.entries.group.Tie as tie
 
 pub group-spec : {M : Type 1} → statement M

@@ -1,8 +1,6 @@
 -- `parts::entries::property` meets its contract.
--- Assumes nothing.
-use borrow.Author.Needs.{needs}
-use Rattle.parts.proofs.Taking.{property-taken}
-use Rattle.parts.proofs.entries.property.Statement.{statement}
+use Rattle.octets.proofs.Kit.{needs}
+use Rattle.parts.proofs.{Taking.property-taken, entries.property.Statement.statement}
 use Rattle.parts.proofs.entries.property.Tie as tie
 
 pub property-spec : {M : Type 1} → statement M

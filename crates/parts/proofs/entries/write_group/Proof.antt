@@ -1,13 +1,7 @@
 -- `parts::entries::write_group` meets its contract.
--- Assumes nothing.
-use Prim.Native.Nat.{_+_, _≤_}
-use borrow.Author.Needs.{needs}
-use native.Mathlib.Omega.{arith}
-use mathlib.Core.Path.{refl, sym}
-use lib.ListN.{length}
+use Rattle.octets.proofs.Kit.{_+_, _≤_, needs, arith, refl, sym, length}
 use Rattle.parts.specs.Again.{WholeGroup}
-use Rattle.parts.proofs.Runs.{begun, on, restores-to}
-use Rattle.parts.proofs.entries.write_group.Statement.{statement}
+use Rattle.parts.proofs.{Runs.{begun, on, restores-to}, entries.write_group.Statement.statement}
 use Rattle.parts.proofs.entries.write_group.Tie as tie
 
 abbrev bits2 : tie.After-write-number2 → tie.After-bit3

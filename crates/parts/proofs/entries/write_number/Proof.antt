@@ -1,8 +1,6 @@
 -- `parts::entries::write_number` meets its contract.
--- Assumes nothing.
-use borrow.Author.Needs.{needs}
-use Rattle.parts.proofs.Runs.{number-written}
-use Rattle.parts.proofs.entries.write_number.Statement.{statement}
+use Rattle.octets.proofs.Kit.{needs}
+use Rattle.parts.proofs.{Runs.number-written, entries.write_number.Statement.statement}
 use Rattle.parts.proofs.entries.write_number.Tie as tie
 
 pub write-number-spec : {M : Type 1} → statement M

@@ -1,14 +1,7 @@
 -- `parts::entries::write_property` meets its contract: four writes, and five more.
--- Assumes nothing.
-use Prim.Native.Nat.{ℕ, _+_, _≤_, _<_}
-use borrow.Author.Needs.{needs}
-use native.Mathlib.Omega.{arith}
-use mathlib.Core.Path.{refl, sym}
-use mathlib.Core.List.{List}
-use lib.ListN.{length}
+use Rattle.octets.proofs.Kit.{_+_, _≤_, _<_, needs, arith, refl, sym, length}
 use Rattle.parts.specs.Again.{WholeProperty}
-use Rattle.parts.proofs.Runs.{Along, begun, on, restores-to, levels-at, type-at}
-use Rattle.parts.proofs.entries.write_property.Statement.{statement}
+use Rattle.parts.proofs.{Runs.{Along, begun, on, restores-to, levels-at, type-at}, entries.write_property.Statement.statement}
 use Rattle.parts.proofs.entries.write_property.Tie as tie
 
 abbrev start2 : tie.After-write-number2 → tie.Start

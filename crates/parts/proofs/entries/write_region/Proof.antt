@@ -1,11 +1,7 @@
 -- `parts::entries::write_region` meets its contract.
--- Assumes nothing.
-use borrow.Author.Needs.{needs}
-use native.Mathlib.Omega.{arith}
-use mathlib.Core.Path.{refl, sym}
+use Rattle.octets.proofs.Kit.{needs, arith, refl, sym}
 use Rattle.parts.specs.Again.{WholeRegion}
-use Rattle.parts.proofs.Runs.{begun, on, restores-to, levels-at}
-use Rattle.parts.proofs.entries.write_region.Statement.{statement}
+use Rattle.parts.proofs.{Runs.{begun, on, restores-to, levels-at}, entries.write_region.Statement.statement}
 use Rattle.parts.proofs.entries.write_region.Tie as tie
 
 returns : tie.Need-returns

@@ -1,8 +1,6 @@
 -- `parts::front::counts` meets its contract.
--- Assumes nothing.
-use borrow.Author.Needs.{needs}
-use Rattle.parts.proofs.Numbering.{counts-are}
-use Rattle.parts.proofs.front.counts.Statement.{statement}
+use Rattle.octets.proofs.Kit.{needs}
+use Rattle.parts.proofs.{Numbering.counts-are, front.counts.Statement.statement}
 use Rattle.parts.proofs.front.counts.Tie as tie
 
 pub counts-spec : {M : Type 1} → statement M

@@ -1,8 +1,6 @@
 -- `parts::front::head` meets its contract.
--- Assumes nothing.
-use borrow.Author.Needs.{needs}
-use Rattle.parts.proofs.Taking.{head-taken}
-use Rattle.parts.proofs.front.head.Statement.{statement}
+use Rattle.octets.proofs.Kit.{needs}
+use Rattle.parts.proofs.{Taking.head-taken, front.head.Statement.statement}
 use Rattle.parts.proofs.front.head.Tie as tie
 
 pub head-spec : {M : Type 1} → statement M

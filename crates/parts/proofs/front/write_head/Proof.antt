@@ -1,14 +1,7 @@
 -- `parts::front::write_head` meets its contract: five writes, five more, and three.
--- Assumes nothing.
-use Prim.Native.Nat.{ℕ, _≤_}
-use borrow.Author.Needs.{needs}
-use native.Mathlib.Omega.{arith}
-use mathlib.Core.Path.{refl}
-use mathlib.Core.List.{List}
-use lib.ListN.{length}
+use Rattle.octets.proofs.Kit.{ℕ, _≤_, needs, arith, refl, List, length}
 use Rattle.parts.specs.Again.{WholeHead}
-use Rattle.parts.proofs.Runs.{Along, begun, on, on-by}
-use Rattle.parts.proofs.front.write_head.Statement.{statement}
+use Rattle.parts.proofs.{Runs.{Along, begun, on, on-by}, front.write_head.Statement.statement}
 use Rattle.parts.proofs.front.write_head.Tie as tie
 
 abbrev Head : tie.Start → List ℕ → Type 0

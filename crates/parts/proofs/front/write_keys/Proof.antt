@@ -1,11 +1,7 @@
 -- `parts::front::write_keys` meets its contract.
--- Assumes nothing.
-use borrow.Author.Needs.{needs}
-use native.Mathlib.Omega.{arith}
-use mathlib.Core.Path.{refl}
+use Rattle.octets.proofs.Kit.{needs, arith, refl}
 use Rattle.parts.specs.Again.{WholeKeys}
-use Rattle.parts.proofs.Runs.{begun, on}
-use Rattle.parts.proofs.front.write_keys.Statement.{statement}
+use Rattle.parts.proofs.{Runs.{begun, on}, front.write_keys.Statement.statement}
 use Rattle.parts.proofs.front.write_keys.Tie as tie
 
 returns : tie.Need-returns

@@ -1,12 +1,7 @@
 -- `parts::lists::properties_from` meets its contract.
--- Assumes nothing.
-use Prim.Native.Nat.{_+_, _*_, _-_}
-use mathlib.Core.Path.{refl}
-use borrow.Author.Needs.{needs}
-use native.Mathlib.Omega.{arith}
+use Rattle.octets.proofs.Kit.{_+_, _*_, _-_, refl, needs, arith}
 use Rattle.parts.specs.Records.{IsProperty, noProperty}
-use Rattle.parts.proofs.Filled.{Filling, none-filled, one-filled, all-filled}
-use Rattle.parts.proofs.lists.properties_from.Statement.{statement}
+use Rattle.parts.proofs.{Filled.{Filling, none-filled, one-filled, all-filled}, lists.properties_from.Statement.statement}
 use Rattle.parts.proofs.lists.properties_from.Tie as tie
 
 abbrev Inv-loop : tie.InvT-loop

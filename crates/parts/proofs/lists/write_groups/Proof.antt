@@ -1,13 +1,7 @@
 -- `parts::lists::write_groups` meets its contract.
--- Assumes nothing.
-use Prim.Native.Nat.{_+_, _*_, _-_}
-use borrow.Author.Needs.{needs}
-use native.Mathlib.Omega.{arith}
-use lib.ListN.{getD}
-use Rattle.parts.specs.Records.{noGroup}
-use Rattle.parts.specs.Again.{WholeGroup}
-use Rattle.parts.proofs.Runs.{Writing, none-written, one-written, all-written}
-use Rattle.parts.proofs.lists.write_groups.Statement.{statement}
+use Rattle.octets.proofs.Kit.{_+_, _*_, _-_, needs, arith, getD}
+use Rattle.parts.specs.{Records.noGroup, Again.WholeGroup}
+use Rattle.parts.proofs.{Runs.{Writing, none-written, one-written, all-written}, lists.write_groups.Statement.statement}
 use Rattle.parts.proofs.lists.write_groups.Tie as tie
 
 abbrev Inv-loop : tie.InvT-loop

@@ -1,9 +1,6 @@
 -- `parts::whole::bodies` meets its contract.
--- Assumes nothing.
-use borrow.Author.Needs.{needs}
-use mathlib.Core.Path.{refl}
-use Rattle.parts.proofs.Filled.{from-on}
-use Rattle.parts.proofs.whole.bodies.Statement.{statement}
+use Rattle.octets.proofs.Kit.{needs, refl}
+use Rattle.parts.proofs.{Filled.from-on, whole.bodies.Statement.statement}
 use Rattle.parts.proofs.whole.bodies.Tie as tie
 
 returns : tie.Need-returns

@@ -1,9 +1,6 @@
 -- `parts::whole::same` meets its contract.
--- Assumes nothing.
-use borrow.Author.Needs.{needs}
-use mathlib.Core.Path.{refl}
-use Rattle.parts.proofs.Back.{written-again}
-use Rattle.parts.proofs.whole.same.Statement.{statement}
+use Rattle.octets.proofs.Kit.{needs, refl}
+use Rattle.parts.proofs.{Back.written-again, whole.same.Statement.statement}
 use Rattle.parts.proofs.whole.same.Tie as tie
 
 pub same-spec : {M : Type 1} → statement M

@@ -1,9 +1,6 @@
 -- `parts::whole::take_apart` meets its contract.
--- Assumes nothing.
-use borrow.Author.Needs.{needs}
-use mathlib.Core.Path.{refl}
-use Rattle.parts.proofs.Numbering.{taken}
-use Rattle.parts.proofs.whole.take_apart.Statement.{statement}
+use Rattle.octets.proofs.Kit.{needs, refl}
+use Rattle.parts.proofs.{Numbering.taken, whole.take_apart.Statement.statement}
 use Rattle.parts.proofs.whole.take_apart.Tie as tie
 
 pub take-apart-spec : {M : Type 1} → statement M

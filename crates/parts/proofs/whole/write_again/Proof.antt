@@ -1,9 +1,6 @@
 -- `parts::whole::write_again` meets its contract.
--- Assumes nothing.
-use borrow.Author.Needs.{needs}
-use mathlib.Core.Path.{refl}
-use Rattle.parts.proofs.Runs.{bodies-written, entries-written, whole-written}
-use Rattle.parts.proofs.whole.write_again.Statement.{statement}
+use Rattle.octets.proofs.Kit.{needs, refl}
+use Rattle.parts.proofs.{Runs.{bodies-written, entries-written, whole-written}, whole.write_again.Statement.statement}
 use Rattle.parts.proofs.whole.write_again.Tie as tie
 
 returns : tie.Need-returns

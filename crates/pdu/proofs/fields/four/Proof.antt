@@ -1,6 +1,5 @@
 -- `pdu::fields::four` meets its contract.
--- Assumes nothing.
-use borrow.Author.Needs.{needs}
+use Rattle.octets.proofs.Kit.{needs}
 use Rattle.pdu.specs.Rules.{fourAt}
 use Rattle.pdu.proofs.fields.four.Statement.{statement}
 use Rattle.pdu.proofs.fields.four.Tie as tie

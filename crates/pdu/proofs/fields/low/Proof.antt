@@ -1,10 +1,5 @@
 -- `pdu::fields::low` meets its contract.
--- Assumes nothing.
-use Prim.Native.Nat.{ℕ, _%_}
-use mathlib.Core.Path.{ap}
-use native.Mathlib.Nat.{mod-lt}
-use native.Mathlib.Omega.{arith}
-use borrow.Author.Needs.{needs}
+use Rattle.octets.proofs.Kit.{ℕ, _%_, ap, mod-lt, arith, needs}
 use Rattle.pdu.specs.Rules.{lowAt}
 use Rattle.pdu.proofs.fields.low.Statement.{statement}
 use Rattle.pdu.proofs.fields.low.Tie as tie

@@ -1,6 +1,5 @@
 -- `pdu::fields::twelve` meets its contract.
--- Assumes nothing.
-use borrow.Author.Needs.{needs}
+use Rattle.octets.proofs.Kit.{needs}
 use Rattle.pdu.specs.Rules.{twelveAt}
 use Rattle.pdu.proofs.fields.twelve.Statement.{statement}
 use Rattle.pdu.proofs.fields.twelve.Tie as tie

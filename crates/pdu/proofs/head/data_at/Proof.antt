@@ -1,9 +1,6 @@
 -- `pdu::head::data_at` meets its contract: an arm knows the PDU.
--- Assumes nothing.
-use borrow.Author.Needs.{needs}
-use native.Mathlib.Omega.{arith}
-use Rattle.pdu.proofs.Arms.{via-place}
-use Rattle.pdu.proofs.head.data_at.Statement.{statement}
+use Rattle.octets.proofs.Kit.{needs, arith}
+use Rattle.pdu.proofs.{Arms.via-place, head.data_at.Statement.statement}
 use Rattle.pdu.proofs.head.data_at.Tie as tie
 
 pub data-at-spec : {M : Type 1} → statement M

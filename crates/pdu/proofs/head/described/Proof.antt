@@ -1,8 +1,6 @@
 -- `pdu::head::described` meets its contract: each run makes the first longer.
--- Assumes nothing.
-use borrow.Author.Needs.{needs}
-use Rattle.pdu.proofs.Stores.{after-asked}
-use Rattle.pdu.proofs.head.described.Statement.{statement}
+use Rattle.octets.proofs.Kit.{needs}
+use Rattle.pdu.proofs.{Stores.after-asked, head.described.Statement.statement}
 use Rattle.pdu.proofs.head.described.Tie as tie
 
 pub described-spec : {M : Type 1} → statement M

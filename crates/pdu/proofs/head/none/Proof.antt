@@ -1,7 +1,5 @@
 -- `pdu::head::none` meets its contract.
--- Assumes nothing.
-use borrow.Author.Needs.{needs}
-use mathlib.Core.List.{append-nil}
+use Rattle.octets.proofs.Kit.{needs, append-nil}
 use Rattle.pdu.proofs.head.none.Statement.{statement}
 use Rattle.pdu.proofs.head.none.Tie as tie
 

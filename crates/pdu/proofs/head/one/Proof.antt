@@ -1,8 +1,6 @@
 -- `pdu::head::one` meets its contract: the second run makes the first longer.
--- Assumes nothing.
-use borrow.Author.Needs.{needs}
-use Rattle.pdu.proofs.Stores.{after-none}
-use Rattle.pdu.proofs.head.one.Statement.{statement}
+use Rattle.octets.proofs.Kit.{needs}
+use Rattle.pdu.proofs.{Stores.after-none, head.one.Statement.statement}
 use Rattle.pdu.proofs.head.one.Tie as tie
 
 pub one-spec : {M : Type 1} → statement M

@@ -1,9 +1,7 @@
 -- `pdu::head::put_head` meets its contract: an arm knows the PDU, and what the function that it calls stores.
--- Assumes nothing.
-use borrow.Author.Needs.{needs}
+use Rattle.octets.proofs.Kit.{needs}
 use Rattle.pdu.specs.Rules.{headBytes}
-use Rattle.pdu.proofs.Arms.{via-head}
-use Rattle.pdu.proofs.head.put_head.Statement.{statement}
+use Rattle.pdu.proofs.{Arms.via-head, head.put_head.Statement.statement}
 use Rattle.pdu.proofs.head.put_head.Tie as tie
 
 pub put-head-spec : {M : Type 1} → statement M

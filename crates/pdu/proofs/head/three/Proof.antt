@@ -1,8 +1,6 @@
 -- `pdu::head::three` meets its contract: the second run makes the first longer.
--- Assumes nothing.
-use borrow.Author.Needs.{needs}
-use Rattle.pdu.proofs.Stores.{after-two}
-use Rattle.pdu.proofs.head.three.Statement.{statement}
+use Rattle.octets.proofs.Kit.{needs}
+use Rattle.pdu.proofs.{Stores.after-two, head.three.Statement.statement}
 use Rattle.pdu.proofs.head.three.Tie as tie
 
 pub three-spec : {M : Type 1} → statement M

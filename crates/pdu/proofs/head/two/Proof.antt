@@ -1,8 +1,6 @@
 -- `pdu::head::two` meets its contract: the second run makes the first longer.
--- Assumes nothing.
-use borrow.Author.Needs.{needs}
-use Rattle.pdu.proofs.Stores.{after-one}
-use Rattle.pdu.proofs.head.two.Statement.{statement}
+use Rattle.octets.proofs.Kit.{needs}
+use Rattle.pdu.proofs.{Stores.after-one, head.two.Statement.statement}
 use Rattle.pdu.proofs.head.two.Tie as tie
 
 pub two-spec : {M : Type 1} → statement M

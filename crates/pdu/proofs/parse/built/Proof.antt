@@ -1,8 +1,6 @@
 -- `pdu::parse::built` meets its contract: an arm knows the service, and what the function that it calls takes from the bytes.
--- Assumes nothing.
-use borrow.Author.Needs.{needs}
-use Rattle.pdu.proofs.Reading.{via-built}
-use Rattle.pdu.proofs.parse.built.Statement.{statement}
+use Rattle.octets.proofs.Kit.{needs}
+use Rattle.pdu.proofs.{Reading.via-built, parse.built.Statement.statement}
 use Rattle.pdu.proofs.parse.built.Tie as tie
 
 pub built-spec : {M : Type 1} → statement M

@@ -1,8 +1,6 @@
 -- `pdu::parse::judged` meets its contract.
--- Assumes nothing.
-use borrow.Author.Needs.{needs}
-use Rattle.pdu.proofs.Reading.{parsed, unfit}
-use Rattle.pdu.proofs.parse.judged.Statement.{statement}
+use Rattle.octets.proofs.Kit.{needs}
+use Rattle.pdu.proofs.{Reading.{parsed, unfit}, parse.judged.Statement.statement}
 use Rattle.pdu.proofs.parse.judged.Tie as tie
 
 pub judged-spec : {M : Type 1} → statement M

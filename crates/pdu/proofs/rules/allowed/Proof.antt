@@ -1,8 +1,6 @@
 -- `pdu::rules::allowed` meets its contract: an arm knows the PDU, and what the function that it calls says.
--- Assumes nothing.
-use borrow.Author.Needs.{needs}
-use Rattle.pdu.proofs.Arms.{via-fits}
-use Rattle.pdu.proofs.rules.allowed.Statement.{statement}
+use Rattle.octets.proofs.Kit.{needs}
+use Rattle.pdu.proofs.{Arms.via-fits, rules.allowed.Statement.statement}
 use Rattle.pdu.proofs.rules.allowed.Tie as tie
 
 pub allowed-spec : {M : Type 1} → statement M

@@ -1,6 +1,5 @@
 -- `pdu::rules::paired` meets its contract.
--- Assumes nothing.
-use native.Mathlib.Omega.{arith}
+use Rattle.octets.proofs.Kit.{arith}
 use Rattle.octets.proofs.Tests.{tests}
 use Rattle.pdu.proofs.rules.paired.Statement.{statement}
 use Rattle.pdu.proofs.rules.paired.Tie as tie

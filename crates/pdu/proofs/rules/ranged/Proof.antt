@@ -1,6 +1,5 @@
 -- `pdu::rules::ranged` meets its contract.
--- Assumes nothing.
-use native.Mathlib.Omega.{arith}
+use Rattle.octets.proofs.Kit.{arith}
 use Rattle.octets.proofs.Tests.{tests}
 use Rattle.pdu.proofs.rules.ranged.Statement.{statement}
 use Rattle.pdu.proofs.rules.ranged.Tie as tie

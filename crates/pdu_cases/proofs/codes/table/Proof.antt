@@ -1,7 +1,5 @@
 -- `pdu_cases::codes::table` is safe and ends: the code rises to 1024.
--- Assumes nothing.
-use Prim.Native.Nat.{_≤_, _-_}
-use borrow.Author.Needs.{needs}
+use Rattle.octets.proofs.Kit.{_≤_, _-_, needs}
 use Rattle.pdu_cases.proofs.codes.table.Statement.{statement}
 use Rattle.pdu_cases.proofs.codes.table.Tie as tie
 

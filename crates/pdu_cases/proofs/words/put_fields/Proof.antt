@@ -1,9 +1,5 @@
 -- `pdu_cases::words::put_fields` is safe and ends: the count of fields rises to 6.
--- Assumes nothing.
-use Prim.Native.Nat.{_≤_, _-_}
-use mathlib.Core.Path.{_≡_}
-use borrow.Author.Needs.{needs}
-use lib.ListN.{length}
+use Rattle.octets.proofs.Kit.{_≤_, _-_, _≡_, needs, length}
 use Rattle.pdu_cases.proofs.words.put_fields.Statement.{statement}
 use Rattle.pdu_cases.proofs.words.put_fields.Tie as tie
 

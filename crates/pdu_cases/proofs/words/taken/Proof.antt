@@ -1,7 +1,5 @@
 -- `pdu_cases::words::taken` is safe and ends: the count of words rises to 7.
--- Assumes nothing.
-use Prim.Native.Nat.{_≤_, _-_}
-use borrow.Author.Needs.{needs}
+use Rattle.octets.proofs.Kit.{_≤_, _-_, needs}
 use Rattle.pdu_cases.proofs.words.taken.Statement.{statement}
 use Rattle.pdu_cases.proofs.words.taken.Tie as tie
 

@@ -1,8 +1,6 @@
 -- `plain::both::both` meets its contract.
--- Assumes nothing.
-use borrow.Author.Needs.{needs}
-use Rattle.plain.proofs.promises.EnginesAgree.{first-and-plain}
-use Rattle.plain.proofs.both.both.Statement.{statement}
+use Rattle.octets.proofs.Kit.{needs}
+use Rattle.plain.proofs.{promises.EnginesAgree.first-and-plain, both.both.Statement.statement}
 use Rattle.plain.proofs.both.both.Tie as tie
 
 returns : tie.Need-returns

@@ -1,12 +1,5 @@
 -- `plain::carry::carry_out` meets its contract.
--- Assumes nothing.
-use Prim.Native.Nat.{ℕ}
-use mathlib.Core.Path.{sym, ap, subst, _∙_}
-use mathlib.Core.Logic.{⊎-elim}
-use mathlib.Core.List.{List}
-use borrow.Author.Needs.{needs}
-use native.Mathlib.Omega.{arith}
-use lib.ListN.{length}
+use Rattle.octets.proofs.Kit.{ℕ, sym, ap, subst, _∙_, ⊎-elim, List, needs, arith, length}
 use Rattle.parts.specs.Again.{Restores, Whole}
 use Rattle.plain.proofs.carry.carry_out.Statement.{statement}
 use Rattle.plain.proofs.carry.carry_out.Tie as tie

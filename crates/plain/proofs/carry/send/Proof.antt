@@ -1,8 +1,6 @@
 -- `plain::carry::send` meets its contract.
--- Assumes nothing.
-use borrow.Author.Needs.{needs}
-use Rattle.plain.proofs.Sessioned.{nothing-sent, sendable, this-sent, share-room}
-use Rattle.plain.proofs.carry.send.Statement.{statement}
+use Rattle.octets.proofs.Kit.{needs}
+use Rattle.plain.proofs.{Sessioned.{nothing-sent, sendable, this-sent, share-room}, carry.send.Statement.statement}
 use Rattle.plain.proofs.carry.send.Tie as tie
 
 pub send-spec : {M : Type 1} → statement M

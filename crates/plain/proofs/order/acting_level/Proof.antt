@@ -1,7 +1,5 @@
 -- `plain::order::acting_level` meets its contract.
--- Assumes nothing.
-use native.Mathlib.Omega.{arith}
-use mathlib.Core.Logic.{⊎-elim, inl, inr}
+use Rattle.octets.proofs.Kit.{arith, ⊎-elim}
 use Rattle.octets.proofs.Tests.{branches}
 use Rattle.judge.specs.Session.{levelIn, levelOf}
 use Rattle.plain.proofs.order.acting_level.Statement.{statement}

@@ -1,11 +1,8 @@
 -- `plain::order::is_taken` meets its contract.
--- Assumes nothing.
-use borrow.Author.Needs.{needs}
-use native.Mathlib.Omega.{arith}
+use Rattle.octets.proofs.Kit.{needs, arith}
 use Rattle.octets.proofs.Tests.{tests}
 use Rattle.pdu.specs.declared.Service.the-variants.{Restart}
-use Rattle.plain.proofs.Arms.{via-taken, restart-connected, restart-without, restart-never}
-use Rattle.plain.proofs.order.is_taken.Statement.{statement}
+use Rattle.plain.proofs.{Arms.{via-taken, restart-connected, restart-without, restart-never}, order.is_taken.Statement.statement}
 use Rattle.plain.proofs.order.is_taken.Tie as tie
 
 pub is-taken-spec : {M : Type 1} → statement M

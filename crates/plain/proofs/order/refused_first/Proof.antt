@@ -1,9 +1,6 @@
 -- `plain::order::refused_first` meets its contract.
--- Assumes nothing.
-use borrow.Author.Needs.{needs}
-use mathlib.Core.Logic.{⊎-elim, inl, inr}
-use Rattle.plain.proofs.Ordered.{due-3, due-4, due-5, due-5-long, due-6, due-7, due-none, is-shut, is-open, no-session}
-use Rattle.plain.proofs.order.refused_first.Statement.{statement}
+use Rattle.octets.proofs.Kit.{needs, ⊎-elim}
+use Rattle.plain.proofs.{Ordered.{due-3, due-4, due-5, due-5-long, due-6, due-7, due-none, is-shut, is-open, no-session}, order.refused_first.Statement.statement}
 use Rattle.plain.proofs.order.refused_first.Tie as tie
 
 pub refused-first-spec : {M : Type 1} → statement M

@@ -1,9 +1,6 @@
 -- `plain::order::refused_next` meets its contract.
--- Assumes nothing.
-use borrow.Author.Needs.{needs}
-use mathlib.Core.Logic.{⊎-elim, inl, inr}
-use Rattle.plain.proofs.Ordered.{next-unknown, next-none, next-mode, next-answer}
-use Rattle.plain.proofs.order.refused_next.Statement.{statement}
+use Rattle.octets.proofs.Kit.{needs, ⊎-elim}
+use Rattle.plain.proofs.{Ordered.{next-unknown, next-none, next-mode, next-answer}, order.refused_next.Statement.statement}
 use Rattle.plain.proofs.order.refused_next.Tie as tie
 
 returns-2 : tie.Need-returns-2

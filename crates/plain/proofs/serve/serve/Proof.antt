@@ -1,9 +1,6 @@
 -- `plain::serve::serve` meets its contract.
--- Assumes nothing.
-use borrow.Author.Needs.{needs}
-use mathlib.Core.Path.{refl}
-use Rattle.plain.proofs.Arms.{with-data, without-data, is-answer, short-data, memory-long, user-long, bits-long}
-use Rattle.plain.proofs.serve.serve.Statement.{statement}
+use Rattle.octets.proofs.Kit.{needs, refl}
+use Rattle.plain.proofs.{Arms.{with-data, without-data, is-answer, short-data, memory-long, user-long, bits-long}, serve.serve.Statement.statement}
 use Rattle.plain.proofs.serve.serve.Tie as tie
 
 pub serve-spec : {M : Type 1} → statement M

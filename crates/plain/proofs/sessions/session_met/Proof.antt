@@ -1,10 +1,6 @@
 -- `plain::sessions::session_met` meets its contract.
--- Assumes nothing.
-use borrow.Author.Needs.{needs}
-use mathlib.Core.Logic.{⊎-elim, inl, inr}
-use mathlib.Core.Path.{_∙_}
-use Rattle.plain.proofs.Sessioned.{met-first, met-second, met-none}
-use Rattle.plain.proofs.sessions.session_met.Statement.{statement}
+use Rattle.octets.proofs.Kit.{needs, ⊎-elim, inl, inr, _∙_}
+use Rattle.plain.proofs.{Sessioned.{met-first, met-second, met-none}, sessions.session_met.Statement.statement}
 use Rattle.plain.proofs.sessions.session_met.Tie as tie
 
 returns : tie.Need-returns

@@ -1,10 +1,7 @@
 -- `plain::sessions::sessions_after` meets its contract.
--- Assumes nothing.
-use mathlib.Core.Path.{ap₂}
-use borrow.Author.Needs.{needs}
+use Rattle.octets.proofs.Kit.{ap₂, needs}
 use Rattle.judge.specs.declared.Session.{Session}
-use Rattle.device.specs.declared.Sessions.{Sessions}
-use Rattle.device.proofs.calls.Turns.{via-turn, all-stay}
+use Rattle.device.{specs.declared.Sessions.Sessions, proofs.calls.Turns.{via-turn, all-stay}}
 use Rattle.plain.proofs.sessions.sessions_after.Statement.{statement}
 use Rattle.plain.proofs.sessions.sessions_after.Tie as tie
 

@@ -1,9 +1,6 @@
 -- `plain::sessions::with_level` meets its contract.
--- Assumes nothing.
-use borrow.Author.Needs.{needs}
-use mathlib.Core.Logic.{⊎-elim, inl, inr}
-use Rattle.plain.proofs.Sessioned.{level-first, level-second, level-rest}
-use Rattle.plain.proofs.sessions.with_level.Statement.{statement}
+use Rattle.octets.proofs.Kit.{⊎-elim, inl, inr}
+use Rattle.plain.proofs.{Sessioned.{level-first, level-second, level-rest}, sessions.with_level.Statement.statement}
 use Rattle.plain.proofs.sessions.with_level.Tie as tie
 
 returns : tie.Need-returns

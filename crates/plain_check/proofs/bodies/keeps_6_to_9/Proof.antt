@@ -1,9 +1,7 @@
 -- `plain_check::bodies::keeps_6_to_9` meets its contract. The invariants: `kept` says whether every entry passed, and its body, is good, and `end` is
 -- where the last of these bodies ends. Assumes nothing.
-use Prim.Native.Nat.{_-_}
-use borrow.Author.Needs.{needs}
-use Rattle.plain_check.proofs.Walking.{Walked, Passed, walk-begins, pass-begins, pass-goes, walk-goes, walk-ends}
-use Rattle.plain_check.proofs.bodies.keeps_6_to_9.Statement.{statement}
+use Rattle.octets.proofs.Kit.{_-_, needs}
+use Rattle.plain_check.proofs.{Walking.{Walked, Passed, walk-begins, pass-begins, pass-goes, walk-goes, walk-ends}, bodies.keeps_6_to_9.Statement.statement}
 use Rattle.plain_check.proofs.bodies.keeps_6_to_9.Tie as tie
 
 abbrev Inv-loop2 : tie.InvT-loop2

@@ -1,8 +1,6 @@
 -- `plain_check::bodies::keeps_9` meets its contract.
--- Assumes nothing.
-use borrow.Author.Needs.{needs}
-use Rattle.plain_check.proofs.Tested.{body-tested}
-use Rattle.plain_check.proofs.bodies.keeps_9.Statement.{statement}
+use Rattle.octets.proofs.Kit.{needs}
+use Rattle.plain_check.proofs.{Tested.body-tested, bodies.keeps_9.Statement.statement}
 use Rattle.plain_check.proofs.bodies.keeps_9.Tie as tie
 
 pub keeps-9-spec : {M : Type 1} → statement M

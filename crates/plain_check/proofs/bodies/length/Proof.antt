@@ -1,9 +1,6 @@
 -- `plain_check::bodies::length` meets its contract.
--- Assumes nothing.
-use borrow.Author.Needs.{needs}
-use native.Mathlib.Omega.{arith}
-use Rattle.plain_check.proofs.Placing.{product-near, long-region, long-property, long-group}
-use Rattle.plain_check.proofs.bodies.length.Statement.{statement}
+use Rattle.octets.proofs.Kit.{needs, arith}
+use Rattle.plain_check.proofs.{Placing.{product-near, long-region, long-property, long-group}, bodies.length.Statement.statement}
 use Rattle.plain_check.proofs.bodies.length.Tie as tie
 
 pub length-spec : {M : Type 1} → statement M

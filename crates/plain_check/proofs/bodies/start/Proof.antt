@@ -1,9 +1,6 @@
 -- `plain_check::bodies::start` meets its contract.
--- Assumes nothing.
-use native.Mathlib.Omega.{arith}
-use mathlib.Core.Logic.{inl, inr, ⊎-elim}
-use Rattle.plain_check.proofs.Placing.{start-is}
-use Rattle.plain_check.proofs.bodies.start.Statement.{statement}
+use Rattle.octets.proofs.Kit.{arith, inl, inr, ⊎-elim}
+use Rattle.plain_check.proofs.{Placing.start-is, bodies.start.Statement.statement}
 use Rattle.plain_check.proofs.bodies.start.Tie as tie
 
 pub start-spec : {M : Type 1} → statement M

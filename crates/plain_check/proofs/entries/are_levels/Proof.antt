@@ -1,7 +1,5 @@
 -- `plain_check::entries::are_levels` meets its contract.
--- Assumes nothing.
-use Rattle.plain_check.proofs.Saying.{saying}
-use Rattle.plain_check.proofs.entries.are_levels.Statement.{statement}
+use Rattle.plain_check.proofs.{Saying.saying, entries.are_levels.Statement.statement}
 use Rattle.plain_check.proofs.entries.are_levels.Tie as tie
 
 pub are-levels-spec : {M : Type 1} → statement M

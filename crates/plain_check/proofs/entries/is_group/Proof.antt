@@ -1,8 +1,6 @@
 -- `plain_check::entries::is_group` meets its contract.
--- Assumes nothing.
-use borrow.Author.Needs.{needs}
-use Rattle.plain_check.proofs.Tested.{group-tested}
-use Rattle.plain_check.proofs.entries.is_group.Statement.{statement}
+use Rattle.octets.proofs.Kit.{needs}
+use Rattle.plain_check.proofs.{Tested.group-tested, entries.is_group.Statement.statement}
 use Rattle.plain_check.proofs.entries.is_group.Tie as tie
 
 pub is-group-spec : {M : Type 1} → statement M

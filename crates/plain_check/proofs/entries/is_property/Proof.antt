@@ -1,8 +1,6 @@
 -- `plain_check::entries::is_property` meets its contract.
--- Assumes nothing.
-use borrow.Author.Needs.{needs}
-use Rattle.plain_check.proofs.Tested.{property-tested}
-use Rattle.plain_check.proofs.entries.is_property.Statement.{statement}
+use Rattle.octets.proofs.Kit.{needs}
+use Rattle.plain_check.proofs.{Tested.property-tested, entries.is_property.Statement.statement}
 use Rattle.plain_check.proofs.entries.is_property.Tie as tie
 
 pub is-property-spec : {M : Type 1} → statement M

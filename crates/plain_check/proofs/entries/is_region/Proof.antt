@@ -1,8 +1,6 @@
 -- `plain_check::entries::is_region` meets its contract.
--- Assumes nothing.
-use borrow.Author.Needs.{needs}
-use Rattle.plain_check.proofs.Tested.{region-tested}
-use Rattle.plain_check.proofs.entries.is_region.Statement.{statement}
+use Rattle.octets.proofs.Kit.{needs}
+use Rattle.plain_check.proofs.{Tested.region-tested, entries.is_region.Statement.statement}
 use Rattle.plain_check.proofs.entries.is_region.Tie as tie
 
 pub is-region-spec : {M : Type 1} → statement M

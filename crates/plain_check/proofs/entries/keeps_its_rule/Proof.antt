@@ -1,9 +1,6 @@
 -- `plain_check::entries::keeps_its_rule` meets its contract.
--- Assumes nothing.
-use borrow.Author.Needs.{needs}
-use native.Mathlib.Omega.{arith}
-use Rattle.plain_check.proofs.ByBytes.{property-kept, group-kept, region-kept}
-use Rattle.plain_check.proofs.entries.keeps_its_rule.Statement.{statement}
+use Rattle.octets.proofs.Kit.{needs, arith}
+use Rattle.plain_check.proofs.{ByBytes.{property-kept, group-kept, region-kept}, entries.keeps_its_rule.Statement.statement}
 use Rattle.plain_check.proofs.entries.keeps_its_rule.Tie as tie
 
 pub keeps-its-rule-spec : {M : Type 1} → statement M

@@ -1,8 +1,6 @@
 -- `plain_check::places::count` meets its contract.
--- Assumes nothing.
-use borrow.Author.Needs.{needs}
-use Rattle.plain_check.proofs.Placing.{count-low, count-users, count-none}
-use Rattle.plain_check.proofs.places.count.Statement.{statement}
+use Rattle.octets.proofs.Kit.{needs}
+use Rattle.plain_check.proofs.{Placing.{count-low, count-users, count-none}, places.count.Statement.statement}
 use Rattle.plain_check.proofs.places.count.Tie as tie
 
 pub count-spec : {M : Type 1} → statement M

@@ -1,10 +1,6 @@
 -- `plain_check::places::place` meets its contract.
--- Assumes nothing.
-use mathlib.Core.Path.{_≡_}
-use borrow.Author.Needs.{needs}
-use native.Mathlib.Omega.{arith}
-use Rattle.plain_check.proofs.Placing.{place-first, place-second, place-third, place-fourth}
-use Rattle.plain_check.proofs.places.place.Statement.{statement}
+use Rattle.octets.proofs.Kit.{_≡_, needs, arith}
+use Rattle.plain_check.proofs.{Placing.{place-first, place-second, place-third, place-fourth}, places.place.Statement.statement}
 use Rattle.plain_check.proofs.places.place.Tie as tie
 
 pub place-spec : {M : Type 1} → statement M

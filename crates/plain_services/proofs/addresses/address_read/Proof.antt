@@ -1,9 +1,6 @@
 -- `plain_services::addresses::address_read` meets its contract.
--- Assumes nothing.
-use borrow.Author.Needs.{needs}
-use Rattle.plain_services.proofs.Addressing.{address-shown, address-hidden}
-use Rattle.plain_services.proofs.Joined.{was-no, was-yes}
-use Rattle.plain_services.proofs.addresses.address_read.Statement.{statement}
+use Rattle.octets.proofs.Kit.{needs}
+use Rattle.plain_services.proofs.{Addressing.{address-shown, address-hidden}, Joined.{was-no, was-yes}, addresses.address_read.Statement.statement}
 use Rattle.plain_services.proofs.addresses.address_read.Tie as tie
 
 pub address-read-spec : {M : Type 1} → statement M

@@ -1,11 +1,6 @@
 -- `plain_services::addresses::address_write` meets its contract.
--- Assumes nothing.
-use borrow.Author.Needs.{needs}
-use native.Mathlib.Omega.{arith}
-use mathlib.Core.Path.{refl}
-use Rattle.plain_services.proofs.Addressing.{address-set, address-kept}
-use Rattle.plain_services.proofs.Joined.{was-no, was-yes}
-use Rattle.plain_services.proofs.addresses.address_write.Statement.{statement}
+use Rattle.octets.proofs.Kit.{needs, arith, refl}
+use Rattle.plain_services.proofs.{Addressing.{address-set, address-kept}, Joined.{was-no, was-yes}, addresses.address_write.Statement.statement}
 use Rattle.plain_services.proofs.addresses.address_write.Tie as tie
 
 pub address-write-spec : {M : Type 1} → statement M

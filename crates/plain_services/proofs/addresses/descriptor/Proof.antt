@@ -1,9 +1,6 @@
 -- `plain_services::addresses::descriptor` meets its contract.
--- Assumes nothing.
-use borrow.Author.Needs.{needs}
-use native.Mathlib.Omega.{arith}
-use Rattle.plain_services.proofs.Addressing.{mask-told, no-type, type-passed}
-use Rattle.plain_services.proofs.addresses.descriptor.Statement.{statement}
+use Rattle.octets.proofs.Kit.{needs, arith}
+use Rattle.plain_services.proofs.{Addressing.{mask-told, no-type, type-passed}, addresses.descriptor.Statement.statement}
 use Rattle.plain_services.proofs.addresses.descriptor.Tie as tie
 
 pub descriptor-spec : {M : Type 1} → statement M

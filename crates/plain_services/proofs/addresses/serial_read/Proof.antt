@@ -1,8 +1,6 @@
 -- `plain_services::addresses::serial_read` meets its contract.
--- Assumes nothing.
-use borrow.Author.Needs.{needs}
-use Rattle.plain_services.proofs.Addressing.{serial-shown, serial-other}
-use Rattle.plain_services.proofs.addresses.serial_read.Statement.{statement}
+use Rattle.octets.proofs.Kit.{needs}
+use Rattle.plain_services.proofs.{Addressing.{serial-shown, serial-other}, addresses.serial_read.Statement.statement}
 use Rattle.plain_services.proofs.addresses.serial_read.Tie as tie
 
 pub serial-read-spec : {M : Type 1} → statement M

@@ -1,10 +1,6 @@
 -- `plain_services::addresses::serial_write` meets its contract.
--- Assumes nothing.
-use borrow.Author.Needs.{needs}
-use native.Mathlib.Omega.{arith}
-use mathlib.Core.Path.{refl}
-use Rattle.plain_services.proofs.Addressing.{serial-set, serial-kept}
-use Rattle.plain_services.proofs.addresses.serial_write.Statement.{statement}
+use Rattle.octets.proofs.Kit.{needs, arith, refl}
+use Rattle.plain_services.proofs.{Addressing.{serial-set, serial-kept}, addresses.serial_write.Statement.statement}
 use Rattle.plain_services.proofs.addresses.serial_write.Tie as tie
 
 pub serial-write-spec : {M : Type 1} → statement M

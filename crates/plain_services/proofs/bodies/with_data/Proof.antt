@@ -1,10 +1,5 @@
 -- `plain_services::bodies::with_data` meets its contract.
--- Assumes nothing.
-use borrow.Author.Needs.{needs}
-use native.Mathlib.Omega.{arith}
-use mathlib.Core.Path.{ap, _∙_}
-use mathlib.Core.List.{List}
-use Prim.Native.Nat.{ℕ}
+use Rattle.octets.proofs.Kit.{needs, arith, ap, _∙_, List, ℕ}
 use Rattle.parts.specs.With.{withBodies}
 use Rattle.plain_services.proofs.bodies.with_data.Statement.{statement}
 use Rattle.plain_services.proofs.bodies.with_data.Tie as tie

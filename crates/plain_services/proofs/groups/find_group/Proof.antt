@@ -1,14 +1,7 @@
 -- `plain_services::groups::find_group` meets its contract. The invariant: none so far has that address.
--- Assumes nothing.
-use borrow.Author.Needs.{needs}
-use Prim.Native.Nat.{ℕ, _-_, _≤_, _<_}
-use mathlib.Core.Path.{_≡_}
-use mathlib.Core.Bool.{false}
-use native.Mathlib.Omega.{arith}
+use Rattle.octets.proofs.Kit.{needs, ℕ, _-_, _≤_, _<_, _≡_, false, arith}
 use Rattle.octets.proofs.Tests.{tests}
-use Rattle.plain_services.proofs.GroupValues.{addressed, group-hit, group-miss}
-use Rattle.plain_services.proofs.Finding.{one-more}
-use Rattle.plain_services.proofs.groups.find_group.Statement.{statement}
+use Rattle.plain_services.proofs.{GroupValues.{addressed, group-hit, group-miss}, Finding.one-more, groups.find_group.Statement.statement}
 use Rattle.plain_services.proofs.groups.find_group.Tie as tie
 
 abbrev Inv-loop : tie.InvT-loop

@@ -1,11 +1,6 @@
 -- `plain_services::groups::group_put` meets its contract.
--- Assumes nothing.
-use borrow.Author.Needs.{needs}
-use native.Mathlib.Omega.{arith}
-use mathlib.Core.Path.{refl}
-use mathlib.Core.Logic.{⊎-elim, inl, inr}
-use Rattle.plain_services.proofs.GroupValues.{room, six-room, unfit, six-put, bytes-put, none-put, put-taken, put-refused}
-use Rattle.plain_services.proofs.groups.group_put.Statement.{statement}
+use Rattle.octets.proofs.Kit.{needs, arith, refl, ⊎-elim, inl, inr}
+use Rattle.plain_services.proofs.{GroupValues.{room, six-room, unfit, six-put, bytes-put, none-put, put-taken, put-refused}, groups.group_put.Statement.statement}
 use Rattle.plain_services.proofs.groups.group_put.Tie as tie
 
 returns : tie.Need-returns

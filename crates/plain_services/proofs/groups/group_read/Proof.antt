@@ -1,12 +1,6 @@
 -- `plain_services::groups::group_read` meets its contract.
--- Assumes nothing.
-use borrow.Author.Needs.{needs}
-use native.Mathlib.Omega.{arith}
-use mathlib.Core.Path.{refl}
-use mathlib.Core.Logic.{⊎-elim}
-use Rattle.plain_services.proofs.Joined.{was-no, was-yes}
-use Rattle.plain_services.proofs.GroupValues.{room, six-room, six-sent, bytes-sent, none-read, is-read, not-read}
-use Rattle.plain_services.proofs.groups.group_read.Statement.{statement}
+use Rattle.octets.proofs.Kit.{needs, arith, refl, ⊎-elim}
+use Rattle.plain_services.proofs.{Joined.{was-no, was-yes}, GroupValues.{room, six-room, six-sent, bytes-sent, none-read, is-read, not-read}, groups.group_read.Statement.statement}
 use Rattle.plain_services.proofs.groups.group_read.Tie as tie
 
 returns : tie.Need-returns

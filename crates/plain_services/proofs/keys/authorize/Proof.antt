@@ -1,8 +1,6 @@
 -- `plain_services::keys::authorize` meets its contract.
--- Assumes nothing.
-use borrow.Author.Needs.{needs}
-use Rattle.plain_services.proofs.Authorizing.{authorized}
-use Rattle.plain_services.proofs.keys.authorize.Statement.{statement}
+use Rattle.octets.proofs.Kit.{needs}
+use Rattle.plain_services.proofs.{Authorizing.authorized, keys.authorize.Statement.statement}
 use Rattle.plain_services.proofs.keys.authorize.Tie as tie
 
 returns : tie.Need-returns

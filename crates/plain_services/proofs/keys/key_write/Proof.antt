@@ -1,12 +1,6 @@
 -- `plain_services::keys::key_write` meets its contract.
--- Assumes nothing.
-use borrow.Author.Needs.{needs}
-use native.Mathlib.Omega.{arith}
-use mathlib.Core.Path.{refl}
-use mathlib.Core.Logic.{⊎-elim}
-use borrow.Author.Tests.{ltb-true, ltb-false}
-use Rattle.plain_services.proofs.KeyWrites.{no-such-level, no-right, new-key}
-use Rattle.plain_services.proofs.keys.key_write.Statement.{statement}
+use Rattle.octets.proofs.Kit.{needs, arith, refl, ⊎-elim, ltb-true, ltb-false}
+use Rattle.plain_services.proofs.{KeyWrites.{no-such-level, no-right, new-key}, keys.key_write.Statement.statement}
 use Rattle.plain_services.proofs.keys.key_write.Tie as tie
 
 returns : tie.Need-returns

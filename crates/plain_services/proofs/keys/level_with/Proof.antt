@@ -1,13 +1,6 @@
 -- `plain_services::keys::level_with` meets its contract. The invariant: no level so far has the key.
--- Assumes nothing.
-use borrow.Author.Needs.{needs}
-use Prim.Native.Nat.{ℕ, _-_, _≤_, _<_}
-use mathlib.Core.Path.{_≡_}
-use lib.ListN.{length, getD}
-use native.Mathlib.Omega.{arith}
-use Rattle.plain_services.proofs.Authorizing.{level-found, level-none}
-use Rattle.plain_services.proofs.Finding.{one-more}
-use Rattle.plain_services.proofs.keys.level_with.Statement.{statement}
+use Rattle.octets.proofs.Kit.{needs, ℕ, _-_, _≤_, _<_, _≡_, length, getD, arith}
+use Rattle.plain_services.proofs.{Authorizing.{level-found, level-none}, Finding.one-more, keys.level_with.Statement.statement}
 use Rattle.plain_services.proofs.keys.level_with.Tie as tie
 
 abbrev Inv-loop : tie.InvT-loop

@@ -1,9 +1,6 @@
 -- `plain_services::keys::restart` meets its contract.
--- Assumes nothing.
-use borrow.Author.Needs.{needs}
-use mathlib.Core.Path.{refl}
-use Rattle.plain_services.proofs.Authorizing.{restarted}
-use Rattle.plain_services.proofs.keys.restart.Statement.{statement}
+use Rattle.octets.proofs.Kit.{needs, refl}
+use Rattle.plain_services.proofs.{Authorizing.restarted, keys.restart.Statement.statement}
 use Rattle.plain_services.proofs.keys.restart.Tie as tie
 
 pub restart-spec : {M : Type 1} → statement M

@@ -1,9 +1,7 @@
 -- `plain_services::memory::bit_write` meets its contract.
--- Assumes nothing.
-use borrow.Author.Needs.{needs}
+use Rattle.octets.proofs.Kit.{needs}
 use Rattle.device.proofs.leaves.Bits.{length-build}
-use Rattle.plain_services.proofs.MemoryWrites.{bits-denied, bits-reach, bits-made, still-roomy}
-use Rattle.plain_services.proofs.memory.bit_write.Statement.{statement}
+use Rattle.plain_services.proofs.{MemoryWrites.{bits-denied, bits-reach, bits-made, still-roomy}, memory.bit_write.Statement.statement}
 use Rattle.plain_services.proofs.memory.bit_write.Tie as tie
 
 returns : tie.Need-returns

@@ -1,10 +1,6 @@
 -- `plain_services::memory::memory_read` meets its contract.
--- Assumes nothing.
-use borrow.Author.Needs.{needs}
-use native.Mathlib.Omega.{arith}
-use Rattle.plain_services.proofs.MemoryRanges.{reachable}
-use Rattle.plain_services.proofs.MemoryReads.{not-read, read}
-use Rattle.plain_services.proofs.memory.memory_read.Statement.{statement}
+use Rattle.octets.proofs.Kit.{needs, arith}
+use Rattle.plain_services.proofs.{MemoryRanges.reachable, MemoryReads.{not-read, read}, memory.memory_read.Statement.statement}
 use Rattle.plain_services.proofs.memory.memory_read.Tie as tie
 
 returns : tie.Need-returns

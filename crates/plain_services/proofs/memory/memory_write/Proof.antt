@@ -1,11 +1,6 @@
 -- `plain_services::memory::memory_write` meets its contract.
--- Assumes nothing.
-use borrow.Author.Needs.{needs}
-use native.Mathlib.Omega.{arith}
-use mathlib.Core.Path.{refl}
-use Rattle.plain_services.proofs.MemoryRanges.{reachable}
-use Rattle.plain_services.proofs.MemoryWrites.{write-denied, write-made, still-roomy}
-use Rattle.plain_services.proofs.memory.memory_write.Statement.{statement}
+use Rattle.octets.proofs.Kit.{needs, arith, refl}
+use Rattle.plain_services.proofs.{MemoryRanges.reachable, MemoryWrites.{write-denied, write-made, still-roomy}, memory.memory_write.Statement.statement}
 use Rattle.plain_services.proofs.memory.memory_write.Tie as tie
 
 returns : tie.Need-returns

@@ -1,8 +1,6 @@
 -- `plain_services::memory::not_written` meets its contract.
--- Assumes nothing.
-use borrow.Author.Needs.{needs}
-use Rattle.plain_services.proofs.MemoryWrites.{denied-told, denied-quiet}
-use Rattle.plain_services.proofs.memory.not_written.Statement.{statement}
+use Rattle.octets.proofs.Kit.{needs}
+use Rattle.plain_services.proofs.{MemoryWrites.{denied-told, denied-quiet}, memory.not_written.Statement.statement}
 use Rattle.plain_services.proofs.memory.not_written.Tie as tie
 
 pub not-written-spec : {M : Type 1} → statement M

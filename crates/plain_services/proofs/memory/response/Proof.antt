@@ -1,8 +1,6 @@
 -- `plain_services::memory::response` meets its contract.
--- Assumes nothing.
-use borrow.Author.Needs.{needs}
-use Rattle.plain_services.proofs.Regions.{via-response}
-use Rattle.plain_services.proofs.memory.response.Statement.{statement}
+use Rattle.octets.proofs.Kit.{needs}
+use Rattle.plain_services.proofs.{Regions.via-response, memory.response.Statement.statement}
 use Rattle.plain_services.proofs.memory.response.Tie as tie
 
 pub response-spec : {M : Type 1} → statement M

@@ -1,15 +1,8 @@
 -- `plain_services::memory::with_bits` meets its contract. The invariant: the bits of the first i bytes are changed.
--- Assumes nothing.
-use borrow.Author.Needs.{needs}
-use Prim.Native.Nat.{_-_, _≤_}
-use mathlib.Core.Path.{_≡_, _∙_}
-use lib.ListN.{length, length-set}
-use native.Mathlib.Omega.{arith}
+use Rattle.octets.proofs.Kit.{_-_, _≤_, _≡_, _∙_, length, length-set, arith}
 use Rattle.octets.specs.Splice.{splice}
-use Rattle.device.specs.Carry.{build, bitAt}
-use Rattle.device.proofs.leaves.Bits.{bits-more}
-use Rattle.plain_services.proofs.MemoryRuns.{bits-first, all-bits}
-use Rattle.plain_services.proofs.memory.with_bits.Statement.{statement}
+use Rattle.device.{specs.Carry.{build, bitAt}, proofs.leaves.Bits.bits-more}
+use Rattle.plain_services.proofs.{MemoryRuns.{bits-first, all-bits}, memory.with_bits.Statement.statement}
 use Rattle.plain_services.proofs.memory.with_bits.Tie as tie
 
 abbrev Inv-loop : tie.InvT-loop

@@ -1,9 +1,6 @@
 -- `plain_services::memory::written` meets its contract.
--- Assumes nothing.
-use borrow.Author.Needs.{needs}
-use native.Mathlib.Omega.{arith}
-use Rattle.plain_services.proofs.MemoryWrites.{written-told, written-quiet}
-use Rattle.plain_services.proofs.memory.written.Statement.{statement}
+use Rattle.octets.proofs.Kit.{needs, arith}
+use Rattle.plain_services.proofs.{MemoryWrites.{written-told, written-quiet}, memory.written.Statement.statement}
 use Rattle.plain_services.proofs.memory.written.Tie as tie
 
 pub written-spec : {M : Type 1} → statement M

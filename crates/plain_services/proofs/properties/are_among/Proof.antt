@@ -1,11 +1,7 @@
 -- `plain_services::properties::are_among` meets its contract.
--- Assumes nothing.
-use borrow.Author.Needs.{needs}
-use native.Mathlib.Omega.{arith}
-use mathlib.Core.Logic.{⊎-elim}
+use Rattle.octets.proofs.Kit.{needs, arith, ⊎-elim}
 use Rattle.octets.proofs.Tests.{branches}
-use Rattle.plain_services.proofs.Joined.{both-held}
-use Rattle.plain_services.proofs.properties.are_among.Statement.{statement}
+use Rattle.plain_services.proofs.{Joined.both-held, properties.are_among.Statement.statement}
 use Rattle.plain_services.proofs.properties.are_among.Tie as tie
 
 pub are-among-spec : {M : Type 1} → statement M

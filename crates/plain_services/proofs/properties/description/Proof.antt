@@ -1,10 +1,6 @@
 -- `plain_services::properties::description` meets its contract.
--- Assumes nothing.
-use borrow.Author.Needs.{needs}
-use native.Mathlib.Omega.{arith}
-use mathlib.Core.Logic.{⊎-elim, inl, inr}
-use Rattle.plain_services.proofs.Descriptions.{by-index, by-id, none-described, one-described}
-use Rattle.plain_services.proofs.properties.description.Statement.{statement}
+use Rattle.octets.proofs.Kit.{needs, arith, ⊎-elim}
+use Rattle.plain_services.proofs.{Descriptions.{by-index, by-id, none-described, one-described}, properties.description.Statement.statement}
 use Rattle.plain_services.proofs.properties.description.Tie as tie
 
 returns : tie.Need-returns

@@ -1,14 +1,7 @@
 -- `plain_services::properties::find` meets its contract. The invariant: none so far has that object and id.
--- Assumes nothing.
-use borrow.Author.Needs.{needs}
-use Prim.Native.Nat.{ℕ, _-_, _≤_, _<_}
-use mathlib.Core.Path.{_≡_}
-use mathlib.Core.Bool.{false}
-use mathlib.Core.Logic.{⊎-elim}
-use native.Mathlib.Omega.{arith}
+use Rattle.octets.proofs.Kit.{needs, ℕ, _-_, _≤_, _<_, _≡_, false, ⊎-elim, arith}
 use Rattle.octets.proofs.Tests.{branches}
-use Rattle.plain_services.proofs.Finding.{named, hit, miss, one-more}
-use Rattle.plain_services.proofs.properties.find.Statement.{statement}
+use Rattle.plain_services.proofs.{Finding.{named, hit, miss, one-more}, properties.find.Statement.statement}
 use Rattle.plain_services.proofs.properties.find.Tie as tie
 
 abbrev Inv-loop : tie.InvT-loop

@@ -1,13 +1,7 @@
 -- `plain_services::properties::index_within` meets its contract. The invariant: so many of the first j were seen.
--- Assumes nothing.
-use borrow.Author.Needs.{needs}
-use Prim.Native.Nat.{_-_, _≤_}
-use mathlib.Core.Path.{_≡_}
-use mathlib.Core.Logic.{⊎-elim}
-use native.Mathlib.Omega.{arith}
+use Rattle.octets.proofs.Kit.{_-_, _≤_, _≡_, ⊎-elim, arith}
 use Rattle.plain_services.specs.Described.{rankIn}
-use Rattle.plain_services.proofs.Descriptions.{rank-start, one-counted, one-passed, rank-end}
-use Rattle.plain_services.proofs.properties.index_within.Statement.{statement}
+use Rattle.plain_services.proofs.{Descriptions.{rank-start, one-counted, one-passed, rank-end}, properties.index_within.Statement.statement}
 use Rattle.plain_services.proofs.properties.index_within.Tie as tie
 
 abbrev Inv-loop : tie.InvT-loop

@@ -1,16 +1,7 @@
 -- `plain_services::properties::nth` meets its contract. The invariant: none so far is the one.
--- Assumes nothing.
-use borrow.Author.Needs.{needs}
-use Prim.Native.Nat.{ℕ, _-_, _≤_, _<_}
-use mathlib.Core.Path.{_≡_}
-use mathlib.Core.Bool.{false}
-use mathlib.Core.Logic.{⊎-elim}
-use native.Mathlib.Omega.{arith}
+use Rattle.octets.proofs.Kit.{needs, ℕ, _-_, _≤_, _<_, _≡_, false, ⊎-elim, arith}
 use Rattle.plain_services.specs.Described.{isNth}
-use Rattle.plain_services.proofs.Finding.{one-more}
-use Rattle.plain_services.proofs.Descriptions.{nth-found, nth-missing}
-use Rattle.plain_services.proofs.Joined.{joined, moved-yes, moved-no}
-use Rattle.plain_services.proofs.properties.nth.Statement.{statement}
+use Rattle.plain_services.proofs.{Finding.one-more, Descriptions.{nth-found, nth-missing}, Joined.{joined, moved-yes, moved-no}, properties.nth.Statement.statement}
 use Rattle.plain_services.proofs.properties.nth.Tie as tie
 
 abbrev Inv-loop : tie.InvT-loop

@@ -1,13 +1,7 @@
 -- `plain_services::properties::property_read` meets its contract.
--- Assumes nothing.
-use borrow.Author.Needs.{needs}
-use native.Mathlib.Omega.{arith}
-use mathlib.Core.Logic.{⊎-elim, inl, inr}
-use borrow.Author.Tests.{ltb-true, ltb-false}
-use Rattle.plain_services.proofs.PropertyReads.{no-such, that-one, not-readable, count-told, not-shown, is-shown, first-element, room-shown, byte-size}
-use Rattle.plain_services.proofs.Elements.{element-from}
-use Rattle.plain_services.proofs.Joined.{joined, was-yes}
-use Rattle.plain_services.proofs.properties.property_read.Statement.{statement}
+use Rattle.octets.proofs.Kit.{needs, arith, ⊎-elim, inl, inr, ltb-true, ltb-false}
+use Rattle.plain_services.proofs.{PropertyReads.{no-such, that-one, not-readable, count-told, not-shown, is-shown, first-element, room-shown, byte-size}, Elements.element-from}
+use Rattle.plain_services.proofs.{Joined.{joined, was-yes}, properties.property_read.Statement.statement}
 use Rattle.plain_services.proofs.properties.property_read.Tie as tie
 
 returns : tie.Need-returns

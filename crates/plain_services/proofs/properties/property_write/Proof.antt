@@ -1,16 +1,7 @@
 -- `plain_services::properties::property_write` meets its contract.
--- Assumes nothing.
-use borrow.Author.Needs.{needs}
-use native.Mathlib.Omega.{arith}
-use mathlib.Core.Logic.{⊎-elim, inl, inr}
-use mathlib.Core.Path.{refl}
-use lib.Dec.{eqb}
-use lib.ListN.{length}
-use borrow.Author.Tests.{eqb-true}
-use Rattle.octets.specs.Bytes.{numAt}
-use Rattle.octets.proofs.Tests.{both, not-first, not-second}
-use Rattle.plain_services.proofs.PropertyWrites.{none-named, one-named, not-writable, is-clear, not-there, is-filled, room-for, last-fits, few}
-use Rattle.plain_services.proofs.Joined.{moved}
+use Rattle.octets.proofs.Kit.{needs, arith, ⊎-elim, inl, inr, refl, eqb, length, eqb-true}
+use Rattle.octets.{specs.Bytes.numAt, proofs.Tests.{both, not-first, not-second}}
+use Rattle.plain_services.proofs.{PropertyWrites.{none-named, one-named, not-writable, is-clear, not-there, is-filled, room-for, last-fits, few}, Joined.moved}
 use Rattle.plain_services.proofs.properties.property_write.Statement.{statement}
 use Rattle.plain_services.proofs.properties.property_write.Tie as tie
 

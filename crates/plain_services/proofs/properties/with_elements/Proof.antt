@@ -1,10 +1,6 @@
 -- `plain_services::properties::with_elements` meets its contract.
--- Assumes nothing.
-use borrow.Author.Needs.{needs}
-use native.Mathlib.Omega.{arith}
-use mathlib.Core.Path.{refl, _∙_}
-use Rattle.plain_services.proofs.Elements.{jumped-from, run-fits, run-written}
-use Rattle.plain_services.proofs.properties.with_elements.Statement.{statement}
+use Rattle.octets.proofs.Kit.{needs, arith, refl, _∙_}
+use Rattle.plain_services.proofs.{Elements.{jumped-from, run-fits, run-written}, properties.with_elements.Statement.statement}
 use Rattle.plain_services.proofs.properties.with_elements.Tie as tie
 
 size-of-requires : tie.Need-size-of-requires

@@ -1,8 +1,6 @@
 -- `plain_services::ranges::area` meets its contract.
--- Assumes nothing.
-use borrow.Author.Needs.{needs}
-use Rattle.plain_services.proofs.Regions.{device-here, user-here}
-use Rattle.plain_services.proofs.ranges.area.Statement.{statement}
+use Rattle.octets.proofs.Kit.{needs}
+use Rattle.plain_services.proofs.{Regions.{device-here, user-here}, ranges.area.Statement.statement}
 use Rattle.plain_services.proofs.ranges.area.Tie as tie
 
 pub area-spec : {M : Type 1} → statement M

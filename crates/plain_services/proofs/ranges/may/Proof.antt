@@ -1,10 +1,7 @@
 -- `plain_services::ranges::may` meets its contract.
--- Assumes nothing.
-use borrow.Author.Needs.{needs}
-use native.Mathlib.Omega.{arith}
+use Rattle.octets.proofs.Kit.{needs, arith}
 use Rattle.octets.proofs.Tests.{branches}
-use Rattle.plain_services.proofs.Regions.{via-may}
-use Rattle.plain_services.proofs.ranges.may.Statement.{statement}
+use Rattle.plain_services.proofs.{Regions.via-may, ranges.may.Statement.statement}
 use Rattle.plain_services.proofs.ranges.may.Tie as tie
 
 pub may-spec : {M : Type 1} → statement M

@@ -1,15 +1,7 @@
 -- `plain_services::ranges::range` meets its contract. The invariant: the addresses so far may be used.
--- Assumes nothing.
-use borrow.Author.Needs.{needs}
-use Prim.Native.Nat.{_-_, _≤_}
-use mathlib.Core.Path.{_≡_}
-use mathlib.Core.Bool.{true}
-use mathlib.Core.Logic.{⊎-elim}
-use borrow.Author.Tests.{ltb-true, ltb-false}
-use native.Mathlib.Omega.{arith}
+use Rattle.octets.proofs.Kit.{needs, _-_, _≤_, _≡_, true, ⊎-elim, ltb-true, ltb-false, arith}
 use Rattle.plain_services.specs.Memory.{allAllowed}
-use Rattle.plain_services.proofs.Regions.{none-yet, too-few, too-many, one-refused, one-stands, all-stand}
-use Rattle.plain_services.proofs.ranges.range.Statement.{statement}
+use Rattle.plain_services.proofs.{Regions.{none-yet, too-few, too-many, one-refused, one-stands, all-stand}, ranges.range.Statement.statement}
 use Rattle.plain_services.proofs.ranges.range.Tie as tie
 
 abbrev Inv-loop : tie.InvT-loop

@@ -1,18 +1,9 @@
 -- `plain_services::ranges::stands` meets its contract. The invariant: none so far has the address.
--- Assumes nothing.
-use borrow.Author.Needs.{needs}
-use Prim.Native.Nat.{ℕ, _-_, _≤_, _<_}
-use mathlib.Core.Path.{_≡_}
-use mathlib.Core.Bool.{true, false}
-use mathlib.Core.Logic.{⊎-elim}
-use lib.ListN.{getD}
-use native.Mathlib.Omega.{arith}
+use Rattle.octets.proofs.Kit.{needs, ℕ, _-_, _≤_, _<_, _≡_, false, ⊎-elim, getD, arith}
 use Rattle.octets.proofs.Tests.{branches}
 use Rattle.parts.specs.Records.{noRegion}
-use Rattle.plain_services.specs.Memory.{has, regionWith}
-use Rattle.plain_services.proofs.Finding.{one-more}
-use Rattle.plain_services.proofs.Regions.{found-first, found-none, stands-nowhere, stands-denied, stands-there}
-use Rattle.plain_services.proofs.ranges.stands.Statement.{statement}
+use Rattle.plain_services.specs.Memory.{has}
+use Rattle.plain_services.proofs.{Finding.one-more, Regions.{found-first, found-none, stands-nowhere, stands-denied, stands-there}, ranges.stands.Statement.statement}
 use Rattle.plain_services.proofs.ranges.stands.Tie as tie
 
 abbrev Inv-loop : tie.InvT-loop

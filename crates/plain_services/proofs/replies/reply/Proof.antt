@@ -1,10 +1,6 @@
 -- `plain_services::replies::reply` meets its contract.
--- Assumes nothing.
-use borrow.Author.Needs.{needs}
-use native.Mathlib.Omega.{arith}
-use mathlib.Core.Path.{refl}
-use Rattle.plain_services.proofs.Agreed.{echoed}
-use Rattle.plain_services.proofs.replies.reply.Statement.{statement}
+use Rattle.octets.proofs.Kit.{needs, arith, refl}
+use Rattle.plain_services.proofs.{Agreed.echoed, replies.reply.Statement.statement}
 use Rattle.plain_services.proofs.replies.reply.Tie as tie
 
 returns : tie.Need-returns

@@ -1,6 +1,5 @@
 -- `plain_services::replies::sending` meets its contract.
--- Assumes nothing.
-use borrow.Author.Needs.{needs}
+use Rattle.octets.proofs.Kit.{needs}
 use Rattle.plain_services.proofs.replies.sending.Statement.{statement}
 use Rattle.plain_services.proofs.replies.sending.Tie as tie
 

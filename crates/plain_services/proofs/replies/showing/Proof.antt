@@ -1,6 +1,5 @@
 -- `plain_services::replies::showing` meets its contract.
--- Assumes nothing.
-use borrow.Author.Needs.{needs}
+use Rattle.octets.proofs.Kit.{needs}
 use Rattle.plain_services.proofs.replies.showing.Statement.{statement}
 use Rattle.plain_services.proofs.replies.showing.Tie as tie
 

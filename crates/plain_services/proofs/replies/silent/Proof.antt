@@ -1,6 +1,5 @@
 -- `plain_services::replies::silent` meets its contract.
--- Assumes nothing.
-use borrow.Author.Needs.{needs}
+use Rattle.octets.proofs.Kit.{needs}
 use Rattle.plain_services.proofs.replies.silent.Statement.{statement}
 use Rattle.plain_services.proofs.replies.silent.Tie as tie
 

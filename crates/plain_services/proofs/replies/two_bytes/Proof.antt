@@ -1,10 +1,5 @@
 -- `plain_services::replies::two_bytes` meets its contract.
--- Assumes nothing.
-use borrow.Author.Needs.{needs}
-use native.Mathlib.Omega.{arith}
-use mathlib.Core.Path.{_≡_, sym, ap, _∙_}
-use Prim.Native.Nat.{ℕ, _/_, _%_}
-use mathlib.Core.List.{[], _∷_}
+use Rattle.octets.proofs.Kit.{needs, arith, _≡_, sym, ap, _∙_, ℕ, _/_, _%_, [], _∷_}
 use Rattle.octets.proofs.Numbers.{bytes-two}
 use Rattle.plain_services.proofs.replies.two_bytes.Statement.{statement}
 use Rattle.plain_services.proofs.replies.two_bytes.Tie as tie

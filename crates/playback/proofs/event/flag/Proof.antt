@@ -1,7 +1,6 @@
 -- `playback::event::flag` meets its contract. Assumes nothing.
-use borrow.Author.Needs.{needs}
-use Rattle.playback.proofs.Happening.{flag-none, flag-narrow, flag-set}
-use Rattle.playback.proofs.event.flag.Statement.{statement}
+use Rattle.octets.proofs.Kit.{needs}
+use Rattle.playback.proofs.{Happening.{flag-none, flag-narrow, flag-set}, event.flag.Statement.statement}
 use Rattle.playback.proofs.event.flag.Tie as tie
 
 pub flag-spec : {M : Type 1} → statement M

@@ -1,5 +1,5 @@
 -- `playback::event::is_accepted` meets its contract. Assumes nothing.
-use borrow.Author.Needs.{needs}
+use Rattle.octets.proofs.Kit.{needs}
 use Rattle.octets.proofs.Truths.{never}
 use Rattle.sheet.proofs.promises.Verdicts.{not-refused}
 use Rattle.playback.proofs.event.is_accepted.Statement.{statement}

@@ -1,8 +1,6 @@
 -- `playback::marking::mark_event` meets its contract. Assumes nothing.
-use borrow.Author.Needs.{needs}
-use native.Mathlib.Omega.{arith}
-use Rattle.playback.proofs.Marked.{markable, event-marked}
-use Rattle.playback.proofs.marking.mark_event.Statement.{statement}
+use Rattle.octets.proofs.Kit.{needs, arith}
+use Rattle.playback.proofs.{Marked.{markable, event-marked}, marking.mark_event.Statement.statement}
 use Rattle.playback.proofs.marking.mark_event.Tie as tie
 
 pub mark-event-spec : {M : Type 1} → statement M

@@ -1,5 +1,5 @@
 -- `playback::marking::mark_events` meets its contract. Assumes nothing.
-use borrow.Author.Needs.{needs}
+use Rattle.octets.proofs.Kit.{needs}
 use Rattle.playback.proofs.marking.mark_events.Statement.{statement}
 use Rattle.playback.proofs.marking.mark_events.Tie as tie
 

@@ -1,10 +1,7 @@
 -- `playback::marking::mark_known` meets its contract. The invariant: state, log and marks are those of the first j events. Assumes nothing.
-use Prim.Native.Nat.{_-_}
-use borrow.Author.Needs.{needs}
-use native.Mathlib.Omega.{arith}
+use Rattle.octets.proofs.Kit.{_-_, needs, arith}
 use Rattle.playback.proofs.Running.{few-events, small-place, event-there, line-there, line-long, known-goes}
-use Rattle.playback.proofs.Marked.{Marched, march-begin, march-on, march-end, roomy-next, seen-same}
-use Rattle.playback.proofs.marking.mark_known.Statement.{statement}
+use Rattle.playback.proofs.{Marked.{Marched, march-begin, march-on, march-end, roomy-next, seen-same}, marking.mark_known.Statement.statement}
 use Rattle.playback.proofs.marking.mark_known.Tie as tie
 
 abbrev Inv-loop : tie.InvT-loop

@@ -1,10 +1,6 @@
 -- `playback::marking::play_marked` meets its contract. Assumes nothing.
-use mathlib.Core.Path.{refl}
-use mathlib.Core.List.{[]}
-use borrow.Author.Needs.{needs}
-use native.Mathlib.Omega.{arith}
-use Rattle.playback.proofs.PlayedBack.{accepted, due-fits, due-small, ready}
-use Rattle.playback.proofs.Marked.{marking-refused, marking-no-room, marking-no-marks, marking-all, roomy, seen-fits, due-few}
+use Rattle.octets.proofs.Kit.{refl, [], needs, arith}
+use Rattle.playback.proofs.{PlayedBack.{accepted, due-fits, due-small, ready}, Marked.{marking-refused, marking-no-room, marking-no-marks, marking-all, roomy, seen-fits, due-few}}
 use Rattle.playback.proofs.marking.play_marked.Statement.{statement}
 use Rattle.playback.proofs.marking.play_marked.Tie as tie
 

@@ -1,7 +1,6 @@
 -- `playback::playing::play` meets its contract. Assumes nothing.
-use borrow.Author.Needs.{needs}
-use Rattle.playback.proofs.PlayedBack.{accepted, due-fits, due-small, ready, plays-refused, plays-no-room, plays-all}
-use Rattle.playback.proofs.playing.play.Statement.{statement}
+use Rattle.octets.proofs.Kit.{needs}
+use Rattle.playback.proofs.{PlayedBack.{accepted, due-fits, due-small, ready, plays-refused, plays-no-room, plays-all}, playing.play.Statement.statement}
 use Rattle.playback.proofs.playing.play.Tie as tie
 
 returns-refused : tie.Need-returns

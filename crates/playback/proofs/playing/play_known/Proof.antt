@@ -1,7 +1,5 @@
 -- `playback::playing::play_known` meets its contract. The invariant: state and log are those of the first j events. Assumes nothing.
-use Prim.Native.Nat.{_-_}
-use borrow.Author.Needs.{needs}
-use native.Mathlib.Omega.{arith}
+use Rattle.octets.proofs.Kit.{_-_, needs, arith}
 use Rattle.playback.proofs.Running.{Going, goes-begin, goes-on, goes-end, few-events, small-place, event-there, line-there, line-long, known-goes}
 use Rattle.playback.proofs.playing.play_known.Statement.{statement}
 use Rattle.playback.proofs.playing.play_known.Tie as tie

@@ -1,7 +1,6 @@
 -- `playback::rules::stray` meets its contract. Assumes nothing.
-use borrow.Author.Needs.{needs}
-use Rattle.playback.proofs.Walking.{stray-request, stray-other}
-use Rattle.playback.proofs.rules.stray.Statement.{statement}
+use Rattle.octets.proofs.Kit.{needs}
+use Rattle.playback.proofs.{Walking.{stray-request, stray-other}, rules.stray.Statement.statement}
 use Rattle.playback.proofs.rules.stray.Tie as tie
 
 pub stray-spec : {M : Type 1} → statement M

@@ -1,11 +1,6 @@
 -- `points::float::coded` meets its contract.
--- Assumes nothing.
-use mathlib.Core.Path.{refl, sym, ap, subst}
-use mathlib.Core.Bool.{Bool, cond}
-use native.Mathlib.Omega.{arith}
-use lib.Dec.{T}
-use Rattle.points.proofs.Floats.{equal-no-nan, below-finite, above-infinite, unequal-nan}
-use Rattle.points.proofs.float.coded.Statement.{statement}
+use Rattle.octets.proofs.Kit.{refl, sym, ap, subst, Bool, cond, arith, T}
+use Rattle.points.proofs.{Floats.{equal-no-nan, below-finite, above-infinite, unequal-nan}, float.coded.Statement.statement}
 use Rattle.points.proofs.float.coded.Tie as tie
 
 pub coded-spec : {M : Type 1} → statement M

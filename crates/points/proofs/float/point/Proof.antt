@@ -1,9 +1,7 @@
 -- `points::float::point` meets its contract.
--- Assumes nothing.
-use native.Mathlib.Omega.{arith}
+use Rattle.octets.proofs.Kit.{arith}
 use Rattle.octets.proofs.Tests.{tests}
-use Rattle.points.proofs.Floats.{no-nan}
-use Rattle.points.proofs.float.point.Statement.{statement}
+use Rattle.points.proofs.{Floats.no-nan, float.point.Statement.statement}
 use Rattle.points.proofs.float.point.Tie as tie
 
 pub point-spec : {M : Type 1} → statement M

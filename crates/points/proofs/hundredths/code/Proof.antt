@@ -1,18 +1,7 @@
 -- `points::hundredths::code` meets its contract.
--- Assumes nothing.
-use mathlib.Core.Path.{sym, _∙_, subst}
-use Prim.Native.Nat.{_≤_}
-use native.Mathlib.Omega.{arith}
-use lib.IntN.{ℤ, natAbs}
-use mir.Syntax.{w32}
-use mir.Val.{toZ, ofZ}
-use mir.Facts.{toZ-ofZ}
-use Rattle.points.proofs.Best.{up-to}
-use Rattle.points.proofs.Casts.{abs-is, exponent-is, mantissa-is, code-is, limit-top}
-use Rattle.points.proofs.promises.Choice.{mantissa-fits}
-use Rattle.points.proofs.Laws.{small}
-use Rattle.points.proofs.Signed.{range-abs}
-use borrow.Author.Needs.{needs}
+use Rattle.octets.proofs.Kit.{sym, _∙_, subst, _≤_, arith, ℤ, natAbs, needs}
+use mir.{Syntax.w32, Val.{toZ, ofZ}, Facts.toZ-ofZ}
+use Rattle.points.proofs.{Best.up-to, Casts.{abs-is, exponent-is, mantissa-is, code-is, limit-top}, promises.Choice.mantissa-fits, Laws.small, Signed.range-abs}
 use Rattle.points.proofs.hundredths.code.Statement.{statement}
 use Rattle.points.proofs.hundredths.code.Tie as tie
 

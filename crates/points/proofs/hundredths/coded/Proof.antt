@@ -1,9 +1,6 @@
 -- `points::hundredths::coded` meets its contract.
--- Assumes nothing.
-use mir.Syntax.{w32}
-use mir.Val.{toZ, ofZ}
-use Rattle.points.proofs.Writes.{in-range, numbered-in, numbered-high, numbered-low}
-use Rattle.points.proofs.hundredths.coded.Statement.{statement}
+use mir.{Syntax.w32, Val.{toZ, ofZ}}
+use Rattle.points.proofs.{Writes.{in-range, numbered-in, numbered-high, numbered-low}, hundredths.coded.Statement.statement}
 use Rattle.points.proofs.hundredths.coded.Tie as tie
 
 pub coded-spec : {M : Type 1} → statement M

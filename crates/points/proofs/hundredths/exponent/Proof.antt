@@ -1,11 +1,7 @@
 -- `points::hundredths::exponent` meets its contract.
--- Assumes nothing.
-use Prim.Native.Nat.{ℕ, _≤_, _<_, _-_, _*_, _^_}
-use mathlib.Core.Path.{_≡_, refl, sym, ap, _∙_, subst}
-use native.Mathlib.Omega.{arith}
+use Rattle.octets.proofs.Kit.{ℕ, _≤_, _<_, _-_, _*_, _^_, _≡_, refl, sym, ap, _∙_, subst, arith}
 use Rattle.points.specs.Code.{exponentFrom}
-use Rattle.points.proofs.Search.{top-next, top-small, goes-on, stops, ends}
-use Rattle.points.proofs.hundredths.exponent.Statement.{statement}
+use Rattle.points.proofs.{Search.{top-next, top-small, goes-on, stops, ends}, hundredths.exponent.Statement.statement}
 use Rattle.points.proofs.hundredths.exponent.Tie as tie
 
 abbrev Inv-loop : tie.InvT-loop

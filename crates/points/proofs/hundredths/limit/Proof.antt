@@ -1,7 +1,5 @@
 -- `points::hundredths::limit` meets its contract.
--- Assumes nothing.
-use Rattle.points.proofs.Casts.{limit-minus, limit-plus}
-use Rattle.points.proofs.hundredths.limit.Statement.{statement}
+use Rattle.points.proofs.{Casts.{limit-minus, limit-plus}, hundredths.limit.Statement.statement}
 use Rattle.points.proofs.hundredths.limit.Tie as tie
 
 pub limit-spec : {M : Type 1} → statement M

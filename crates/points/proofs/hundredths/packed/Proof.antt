@@ -1,9 +1,6 @@
 -- `points::hundredths::packed` meets its contract.
--- Assumes nothing.
-use native.Mathlib.Omega.{arith}
-use Rattle.points.proofs.Casts.{abs-is, packed-minus, packed-plus}
-use borrow.Author.Needs.{needs}
-use Rattle.points.proofs.hundredths.packed.Statement.{statement}
+use Rattle.octets.proofs.Kit.{arith, needs}
+use Rattle.points.proofs.{Casts.{abs-is, packed-minus, packed-plus}, hundredths.packed.Statement.statement}
 use Rattle.points.proofs.hundredths.packed.Tie as tie
 
 pub packed-spec : {M : Type 1} → statement M

@@ -1,11 +1,8 @@
 -- `points::hundredths::point` meets its contract.
--- Assumes nothing.
-use native.Mathlib.Omega.{arith}
+use Rattle.octets.proofs.Kit.{arith, needs}
 use mir.Facts.{toZ-ofZ}
 use Rattle.octets.proofs.Tests.{tests}
-use Rattle.points.proofs.Laws.{point-nine}
-use borrow.Author.Needs.{needs}
-use Rattle.points.proofs.hundredths.point.Statement.{statement}
+use Rattle.points.proofs.{Laws.point-nine, hundredths.point.Statement.statement}
 use Rattle.points.proofs.hundredths.point.Tie as tie
 
 pub point-spec : {M : Type 1} → statement M

@@ -1,8 +1,6 @@
 -- `points::hundredths::power` meets its contract.
--- Assumes nothing.
-use Rattle.points.proofs.Laws.{shifted}
-use borrow.Author.Needs.{needs}
-use Rattle.points.proofs.hundredths.power.Statement.{statement}
+use Rattle.octets.proofs.Kit.{needs}
+use Rattle.points.proofs.{Laws.shifted, hundredths.power.Statement.statement}
 use Rattle.points.proofs.hundredths.power.Tie as tie
 
 pub power-spec : {M : Type 1} → statement M

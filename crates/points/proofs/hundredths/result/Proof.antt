@@ -1,13 +1,6 @@
 -- `points::hundredths::result` meets its contract.
--- Assumes nothing.
-use mathlib.Core.Path.{ap, _∙_}
-use Prim.Native.Nat.{ℕ, _*_, _-_, _%_, _/_}
-use native.Mathlib.Omega.{arith}
-use lib.IntN.{pos, negℤ}
-use Rattle.points.proofs.Casts.{as-signed, small-minus}
-use Rattle.points.proofs.Laws.{product-by, res-plus, res-minus}
-use borrow.Author.Needs.{needs}
-use Rattle.points.proofs.hundredths.result.Statement.{statement}
+use Rattle.octets.proofs.Kit.{ap, _∙_, ℕ, _*_, _-_, _%_, _/_, arith, pos, negℤ, needs}
+use Rattle.points.proofs.{Casts.{as-signed, small-minus}, Laws.{product-by, res-plus, res-minus}, hundredths.result.Statement.statement}
 use Rattle.points.proofs.hundredths.result.Tie as tie
 
 pub result-spec : {M : Type 1} → statement M

@@ -1,11 +1,8 @@
 -- `points::hundredths::stepped` meets its contract.
--- Assumes nothing.
-use mathlib.Core.Path.{sym, ap, _∙_}
+use Rattle.octets.proofs.Kit.{sym, ap, _∙_, needs}
 use mir.Facts.{toZ-ofZ}
 use Rattle.points.specs.Code.{packed}
-use Rattle.points.proofs.Casts.{step-zero, step-yes, step-no}
-use borrow.Author.Needs.{needs}
-use Rattle.points.proofs.hundredths.stepped.Statement.{statement}
+use Rattle.points.proofs.{Casts.{step-zero, step-yes, step-no}, hundredths.stepped.Statement.statement}
 use Rattle.points.proofs.hundredths.stepped.Tie as tie
 
 pub stepped-spec : {M : Type 1} → statement M

@@ -1,14 +1,8 @@
 -- `points::number::coded` meets its contract.
--- Assumes nothing.
-use mathlib.Core.Path.{_≡_, subst}
-use lib.IntN.{ℤ}
-use mir.Syntax.{w32}
-use mir.Val.{toZ, ofZ}
-use Rattle.points.specs.Point.{Numbered}
-use Rattle.points.specs.declared.Datapoint.the-variants.{Hundredths}
-use Rattle.points.proofs.Writes.{numbered-by, numbered-switch, numbered-byte}
-use borrow.Author.Needs.{needs}
-use Rattle.points.proofs.number.coded.Statement.{statement}
+use Rattle.octets.proofs.Kit.{_≡_, subst, ℤ, needs}
+use mir.{Syntax.w32, Val.{toZ, ofZ}}
+use Rattle.points.specs.{Point.Numbered, declared.Datapoint.the-variants.Hundredths}
+use Rattle.points.proofs.{Writes.{numbered-by, numbered-switch, numbered-byte}, number.coded.Statement.statement}
 use Rattle.points.proofs.number.coded.Tie as tie
 
 pub coded-spec : {M : Type 1} → statement M

@@ -1,6 +1,5 @@
 -- `points::number::switch` meets its contract.
--- Assumes nothing.
-use native.Mathlib.Omega.{arith}
+use Rattle.octets.proofs.Kit.{arith}
 use Rattle.octets.proofs.Tests.{tests}
 use Rattle.points.proofs.number.switch.Statement.{statement}
 use Rattle.points.proofs.number.switch.Tie as tie

@@ -1,15 +1,7 @@
 -- `points::signs::magnitude` meets its contract.
--- Assumes nothing.
-use mathlib.Core.Path.{sym, ap, _∙_, subst}
-use lib.Dec.{T}
-use lib.IntN.{ℤ, natAbs, pos, _-ℤ_}
-use Prim.Native.Nat.{ℕ, _<_, _^_}
-use lib.Signed.{nonNeg, ltZ}
-use mir.Syntax.{w64}
-use mir.Val.{SFits}
-use mir.Facts.{toZ-ofZ}
-use Rattle.points.proofs.Casts.{widens, as-64, negates, negated, abs-neg, turned, kept, abs-in}
-use Rattle.points.proofs.signs.magnitude.Statement.{statement}
+use Rattle.octets.proofs.Kit.{sym, ap, _∙_, subst, T, ℤ, natAbs, pos, _-ℤ_, ℕ, _<_, _^_, nonNeg, ltZ}
+use mir.{Syntax.w64, Val.SFits, Facts.toZ-ofZ}
+use Rattle.points.proofs.{Casts.{widens, as-64, negates, negated, abs-neg, turned, kept, abs-in}, signs.magnitude.Statement.statement}
 use Rattle.points.proofs.signs.magnitude.Tie as tie
 
 pub magnitude-spec : {M : Type 1} → statement M

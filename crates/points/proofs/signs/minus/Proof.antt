@@ -1,8 +1,6 @@
 -- `points::signs::minus` meets its contract.
--- Assumes nothing.
-use Rattle.points.proofs.Casts.{minus-fits, minus-is}
-use borrow.Author.Needs.{needs}
-use Rattle.points.proofs.signs.minus.Statement.{statement}
+use Rattle.octets.proofs.Kit.{needs}
+use Rattle.points.proofs.{Casts.{minus-fits, minus-is}, signs.minus.Statement.statement}
 use Rattle.points.proofs.signs.minus.Tie as tie
 
 pub minus-spec : {M : Type 1} → statement M

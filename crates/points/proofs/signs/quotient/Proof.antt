@@ -1,9 +1,6 @@
 -- `points::signs::quotient` meets its contract.
--- Assumes nothing.
-use native.Mathlib.Omega.{arith}
-use borrow.Author.Needs.{needs}
-use Rattle.points.proofs.Casts.{abs-is, divided-minus, divided-plus}
-use Rattle.points.proofs.signs.quotient.Statement.{statement}
+use Rattle.octets.proofs.Kit.{arith, needs}
+use Rattle.points.proofs.{Casts.{abs-is, divided-minus, divided-plus}, signs.quotient.Statement.statement}
 use Rattle.points.proofs.signs.quotient.Tie as tie
 
 pub quotient-spec : {M : Type 1} → statement M

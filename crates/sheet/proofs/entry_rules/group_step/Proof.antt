@@ -1,8 +1,6 @@
 -- `sheet::entry_rules::group_step` meets its contract.
--- Assumes nothing.
-use borrow.Author.Needs.{needs}
-use Rattle.sheet.proofs.rules.Bodies.{behind, six-long, six-short}
-use Rattle.sheet.proofs.entry_rules.group_step.Statement.{statement}
+use Rattle.octets.proofs.Kit.{needs}
+use Rattle.sheet.proofs.{rules.Bodies.{behind, six-long, six-short}, entry_rules.group_step.Statement.statement}
 use Rattle.sheet.proofs.entry_rules.group_step.Tie as tie
 
 pub group-step-spec : {M : Type 1} → statement M

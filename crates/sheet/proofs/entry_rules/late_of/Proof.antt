@@ -1,8 +1,6 @@
 -- `sheet::entry_rules::late_of` meets its contract.
--- Assumes nothing.
-use native.Mathlib.Omega.{arith}
-use Rattle.sheet.proofs.rules.Bodies.{none-late, not-late}
-use Rattle.sheet.proofs.entry_rules.late_of.Statement.{statement}
+use Rattle.octets.proofs.Kit.{arith}
+use Rattle.sheet.proofs.{rules.Bodies.{none-late, not-late}, entry_rules.late_of.Statement.statement}
 use Rattle.sheet.proofs.entry_rules.late_of.Tie as tie
 
 pub late-of-spec : {M : Type 1} → statement M

@@ -1,8 +1,6 @@
 -- `sheet::entry_rules::property_step` meets its contract.
--- Assumes nothing.
-use borrow.Author.Needs.{needs}
-use Rattle.sheet.proofs.rules.Bodies.{behind, elements-short}
-use Rattle.sheet.proofs.entry_rules.property_step.Statement.{statement}
+use Rattle.octets.proofs.Kit.{needs}
+use Rattle.sheet.proofs.{rules.Bodies.{behind, elements-short}, entry_rules.property_step.Statement.statement}
 use Rattle.sheet.proofs.entry_rules.property_step.Tie as tie
 
 pub property-step-spec : {M : Type 1} → statement M

@@ -1,8 +1,6 @@
 -- `sheet::entry_rules::region_step` meets its contract.
--- Assumes nothing.
-use borrow.Author.Needs.{needs}
-use Rattle.sheet.proofs.rules.Bodies.{behind}
-use Rattle.sheet.proofs.entry_rules.region_step.Statement.{statement}
+use Rattle.octets.proofs.Kit.{needs}
+use Rattle.sheet.proofs.{rules.Bodies.behind, entry_rules.region_step.Statement.statement}
 use Rattle.sheet.proofs.entry_rules.region_step.Tie as tie
 
 pub region-step-spec : {M : Type 1} → statement M

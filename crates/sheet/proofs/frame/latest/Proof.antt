@@ -1,8 +1,6 @@
 -- `sheet::frame::latest` meets its contract.
--- Assumes nothing.
-use borrow.Author.Needs.{needs}
-use Rattle.sheet.proofs.rules.Editions.{latest-second, latest-first}
-use Rattle.sheet.proofs.frame.latest.Statement.{statement}
+use Rattle.octets.proofs.Kit.{needs}
+use Rattle.sheet.proofs.{rules.Editions.{latest-second, latest-first}, frame.latest.Statement.statement}
 use Rattle.sheet.proofs.frame.latest.Tie as tie
 
 pub latest-spec : {M : Type 1} → statement M

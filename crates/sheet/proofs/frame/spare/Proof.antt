@@ -1,8 +1,6 @@
 -- `sheet::frame::spare` meets its contract.
--- Assumes nothing.
-use borrow.Author.Needs.{needs}
-use Rattle.sheet.proofs.rules.Editions.{spare-second, spare-first}
-use Rattle.sheet.proofs.frame.spare.Statement.{statement}
+use Rattle.octets.proofs.Kit.{needs}
+use Rattle.sheet.proofs.{rules.Editions.{spare-second, spare-first}, frame.spare.Statement.statement}
 use Rattle.sheet.proofs.frame.spare.Tie as tie
 
 pub spare-spec : {M : Type 1} → statement M

@@ -1,8 +1,6 @@
 -- `sheet::head::flags` meets its contract.
--- Assumes nothing.
-use borrow.Author.Needs.{needs}
-use Rattle.sheet.proofs.places.Fields.{flags-low}
-use Rattle.sheet.proofs.head.flags.Statement.{statement}
+use Rattle.octets.proofs.Kit.{needs}
+use Rattle.sheet.proofs.{places.Fields.flags-low, head.flags.Statement.statement}
 use Rattle.sheet.proofs.head.flags.Tie as tie
 
 pub flags-spec : {M : Type 1} → statement M

@@ -1,6 +1,5 @@
 -- `sheet::head::rules_of` meets its contract.
--- Assumes nothing.
-use borrow.Author.Needs.{needs}
+use Rattle.octets.proofs.Kit.{needs}
 use Rattle.sheet.specs.Head.{rulesOf}
 use Rattle.sheet.proofs.head.rules_of.Statement.{statement}
 use Rattle.sheet.proofs.head.rules_of.Tie as tie

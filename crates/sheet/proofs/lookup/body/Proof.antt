@@ -1,9 +1,6 @@
 -- `sheet::lookup::body` meets its contract.
--- Assumes nothing.
-use borrow.Author.Needs.{needs}
-use Rattle.sheet.proofs.searches.SearchLoops.{ok-framed, ok-entry}
-use Rattle.sheet.proofs.places.Parts.{no-part, the-part}
-use Rattle.sheet.proofs.lookup.body.Statement.{statement}
+use Rattle.octets.proofs.Kit.{needs}
+use Rattle.sheet.proofs.{searches.SearchLoops.{ok-framed, ok-entry}, places.Parts.{no-part, the-part}, lookup.body.Statement.statement}
 use Rattle.sheet.proofs.lookup.body.Tie as tie
 
 pub body-spec : {M : Type 1} → statement M

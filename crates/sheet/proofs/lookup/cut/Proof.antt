@@ -1,8 +1,6 @@
 -- `sheet::lookup::cut` meets its contract.
--- Assumes nothing.
-use borrow.Author.Needs.{needs}
-use Rattle.sheet.proofs.places.Parts.{cut-out}
-use Rattle.sheet.proofs.lookup.cut.Statement.{statement}
+use Rattle.octets.proofs.Kit.{needs}
+use Rattle.sheet.proofs.{places.Parts.cut-out, lookup.cut.Statement.statement}
 use Rattle.sheet.proofs.lookup.cut.Tie as tie
 
 pub cut-spec : {M : Type 1} → statement M

@@ -1,10 +1,6 @@
 -- `sheet::lookup::find` meets its contract.
--- Assumes nothing.
-use borrow.Author.Needs.{needs}
-use native.Mathlib.Omega.{arith}
-use Rattle.sheet.proofs.searches.SearchLoops.{ok-framed, ok-entry}
-use Rattle.sheet.proofs.searches.Halves.{half-past, half-missed, half-found}
-use Rattle.sheet.proofs.lookup.find.Statement.{statement}
+use Rattle.octets.proofs.Kit.{needs, arith}
+use Rattle.sheet.proofs.{searches.{SearchLoops.{ok-framed, ok-entry}, Halves.{half-past, half-missed, half-found}}, lookup.find.Statement.statement}
 use Rattle.sheet.proofs.lookup.find.Tie as tie
 
 pub find-spec : {M : Type 1} → statement M

@@ -1,8 +1,6 @@
 -- `sheet::lookup::first_word` meets its contract.
--- Assumes nothing.
-use borrow.Author.Needs.{needs}
-use Rattle.sheet.proofs.searches.SearchLoops.{key-of}
-use Rattle.sheet.proofs.lookup.first_word.Statement.{statement}
+use Rattle.octets.proofs.Kit.{needs}
+use Rattle.sheet.proofs.{searches.SearchLoops.key-of, lookup.first_word.Statement.statement}
 use Rattle.sheet.proofs.lookup.first_word.Tie as tie
 
 pub first-word-spec : {M : Type 1} → statement M

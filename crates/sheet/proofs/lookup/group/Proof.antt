@@ -1,8 +1,6 @@
 -- `sheet::lookup::group` meets its contract.
--- Assumes nothing.
-use borrow.Author.Needs.{needs}
-use Rattle.sheet.proofs.places.Parts.{part-in, part-of}
-use Rattle.sheet.proofs.lookup.group.Statement.{statement}
+use Rattle.octets.proofs.Kit.{needs}
+use Rattle.sheet.proofs.{places.Parts.{part-in, part-of}, lookup.group.Statement.statement}
 use Rattle.sheet.proofs.lookup.group.Tie as tie
 
 pub group-spec : {M : Type 1} → statement M

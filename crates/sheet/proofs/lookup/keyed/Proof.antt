@@ -1,8 +1,6 @@
 -- `sheet::lookup::keyed` meets its contract.
--- Assumes nothing.
-use borrow.Author.Needs.{needs}
-use Rattle.sheet.proofs.places.Parts.{no-sheet, in-sheet}
-use Rattle.sheet.proofs.lookup.keyed.Statement.{statement}
+use Rattle.octets.proofs.Kit.{needs}
+use Rattle.sheet.proofs.{places.Parts.{no-sheet, in-sheet}, lookup.keyed.Statement.statement}
 use Rattle.sheet.proofs.lookup.keyed.Tie as tie
 
 pub keyed-spec : {M : Type 1} → statement M

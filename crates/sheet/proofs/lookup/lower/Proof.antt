@@ -1,11 +1,6 @@
 -- `sheet::lookup::lower` meets its contract. The invariant: before lo the first words are below the key, from hi on they are not.
--- Assumes nothing.
-use Prim.Native.Nat.{_-_}
-use borrow.Author.Needs.{needs}
-use native.Mathlib.Omega.{arith}
-use Rattle.sheet.proofs.searches.SearchLoops.{ok-framed}
-use Rattle.sheet.proofs.searches.Halves.{Halved, halves-begin, half-there, upper-half, lower-half, halves-end}
-use Rattle.sheet.proofs.lookup.lower.Statement.{statement}
+use Rattle.octets.proofs.Kit.{_-_, needs, arith}
+use Rattle.sheet.proofs.{searches.{SearchLoops.ok-framed, Halves.{Halved, halves-begin, half-there, upper-half, lower-half, halves-end}}, lookup.lower.Statement.statement}
 use Rattle.sheet.proofs.lookup.lower.Tie as tie
 
 abbrev Inv-loop : tie.InvT-loop

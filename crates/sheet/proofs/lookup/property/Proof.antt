@@ -1,8 +1,6 @@
 -- `sheet::lookup::property` meets its contract.
--- Assumes nothing.
-use borrow.Author.Needs.{needs}
-use Rattle.sheet.proofs.places.Parts.{part-in, part-of}
-use Rattle.sheet.proofs.lookup.property.Statement.{statement}
+use Rattle.octets.proofs.Kit.{needs}
+use Rattle.sheet.proofs.{places.Parts.{part-in, part-of}, lookup.property.Statement.statement}
 use Rattle.sheet.proofs.lookup.property.Tie as tie
 
 pub property-spec : {M : Type 1} → statement M

@@ -1,8 +1,6 @@
 -- `sheet::lookup::region` meets its contract.
--- Assumes nothing.
-use borrow.Author.Needs.{needs}
-use Rattle.sheet.proofs.places.Parts.{part-in, part-of}
-use Rattle.sheet.proofs.lookup.region.Statement.{statement}
+use Rattle.octets.proofs.Kit.{needs}
+use Rattle.sheet.proofs.{places.Parts.{part-in, part-of}, lookup.region.Statement.statement}
 use Rattle.sheet.proofs.lookup.region.Tie as tie
 
 pub region-spec : {M : Type 1} → statement M

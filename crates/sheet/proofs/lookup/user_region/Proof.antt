@@ -1,8 +1,6 @@
 -- `sheet::lookup::user_region` meets its contract.
--- Assumes nothing.
-use borrow.Author.Needs.{needs}
-use Rattle.sheet.proofs.places.Parts.{part-in, part-of}
-use Rattle.sheet.proofs.lookup.user_region.Statement.{statement}
+use Rattle.octets.proofs.Kit.{needs}
+use Rattle.sheet.proofs.{places.Parts.{part-in, part-of}, lookup.user_region.Statement.statement}
 use Rattle.sheet.proofs.lookup.user_region.Tie as tie
 
 pub user-region-spec : {M : Type 1} → statement M

@@ -1,8 +1,6 @@
 -- `sheet::lookup::value` meets its contract.
--- Assumes nothing.
-use borrow.Author.Needs.{needs}
-use Rattle.sheet.proofs.places.Parts.{no-sheet, in-sheet}
-use Rattle.sheet.proofs.lookup.value.Statement.{statement}
+use Rattle.octets.proofs.Kit.{needs}
+use Rattle.sheet.proofs.{places.Parts.{no-sheet, in-sheet}, lookup.value.Statement.statement}
 use Rattle.sheet.proofs.lookup.value.Tie as tie
 
 pub value-spec : {M : Type 1} → statement M

@@ -1,9 +1,6 @@
 -- `sheet::old::convert` meets its contract.
--- Assumes nothing.
-use borrow.Author.Needs.{needs}
-use native.Mathlib.Omega.{arith}
-use Rattle.sheet.proofs.promises.Converting.{not-converted, was-converted, convert-room}
-use Rattle.sheet.proofs.old.convert.Statement.{statement}
+use Rattle.octets.proofs.Kit.{needs, arith}
+use Rattle.sheet.proofs.{promises.Converting.{not-converted, was-converted, convert-room}, old.convert.Statement.statement}
 use Rattle.sheet.proofs.old.convert.Tie as tie
 
 pub convert-spec : {M : Type 1} → statement M

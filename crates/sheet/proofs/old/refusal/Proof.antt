@@ -1,8 +1,6 @@
 -- `sheet::old::refusal` meets its contract.
--- Assumes nothing.
-use borrow.Author.Needs.{needs}
-use Rattle.sheet.proofs.promises.Verdicts.{lets-be, tells-old, tells-bad}
-use Rattle.sheet.proofs.old.refusal.Statement.{statement}
+use Rattle.octets.proofs.Kit.{needs}
+use Rattle.sheet.proofs.{promises.Verdicts.{lets-be, tells-old, tells-bad}, old.refusal.Statement.statement}
 use Rattle.sheet.proofs.old.refusal.Tie as tie
 
 pub refusal-spec : {M : Type 1} → statement M

@@ -1,8 +1,6 @@
 -- `sheet::old::refusal_unless` meets its contract.
--- Assumes nothing.
-use borrow.Author.Needs.{needs}
-use Rattle.sheet.proofs.promises.Verdicts.{known-unrefused}
-use Rattle.sheet.proofs.old.refusal_unless.Statement.{statement}
+use Rattle.octets.proofs.Kit.{needs}
+use Rattle.sheet.proofs.{promises.Verdicts.known-unrefused, old.refusal_unless.Statement.statement}
 use Rattle.sheet.proofs.old.refusal_unless.Tie as tie
 
 pub refusal-unless-spec : {M : Type 1} → statement M

@@ -1,6 +1,5 @@
 -- `sheet::ranges::common` meets its contract.
--- Assumes nothing.
-use borrow.Author.Needs.{needs}
+use Rattle.octets.proofs.Kit.{needs}
 use Rattle.sheet.specs.Lookup.{common}
 use Rattle.sheet.proofs.ranges.common.Statement.{statement}
 use Rattle.sheet.proofs.ranges.common.Tie as tie

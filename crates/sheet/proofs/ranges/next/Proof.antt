@@ -1,10 +1,6 @@
 -- `sheet::ranges::next` meets its contract.
--- Assumes nothing.
-use mathlib.Core.Path.{sym}
-use borrow.Author.Needs.{needs}
-use Rattle.sheet.proofs.searches.SearchLoops.{ok-framed, ok-entry}
-use Rattle.sheet.proofs.searches.Loops.{none-left, flip, gap, touching}
-use Rattle.sheet.proofs.ranges.next.Statement.{statement}
+use Rattle.octets.proofs.Kit.{sym, needs}
+use Rattle.sheet.proofs.{searches.{SearchLoops.{ok-framed, ok-entry}, Loops.{none-left, flip, gap, touching}}, ranges.next.Statement.statement}
 use Rattle.sheet.proofs.ranges.next.Tie as tie
 
 pub next-spec : {M : Type 1} → statement M

@@ -1,7 +1,5 @@
 -- `sheet::ranges::range` meets its contract. The invariant: what has been reached is a run.
--- Assumes nothing.
-use Prim.Native.Nat.{_-_}
-use borrow.Author.Needs.{needs}
+use Rattle.octets.proofs.Kit.{_-_, needs}
 use Rattle.sheet.specs.Entries.{count}
 use Rattle.sheet.proofs.searches.Loops.{Going, range-empty, none-begins, none-reaches, first-there, first-from, range-begins, no-next, less-left, goes-on, all-found}
 use Rattle.sheet.proofs.ranges.range.Statement.{statement}

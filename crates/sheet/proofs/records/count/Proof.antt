@@ -1,8 +1,6 @@
 -- `sheet::records::count` meets its contract.
--- Assumes nothing.
-use borrow.Author.Needs.{needs}
-use Rattle.sheet.proofs.searches.SearchLoops.{ok-framed}
-use Rattle.sheet.proofs.records.count.Statement.{statement}
+use Rattle.octets.proofs.Kit.{needs}
+use Rattle.sheet.proofs.{searches.SearchLoops.ok-framed, records.count.Statement.statement}
 use Rattle.sheet.proofs.records.count.Tie as tie
 
 pub count-spec : {M : Type 1} → statement M

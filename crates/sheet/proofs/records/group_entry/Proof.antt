@@ -1,8 +1,6 @@
 -- `sheet::records::group_entry` meets its contract.
--- Assumes nothing.
-use borrow.Author.Needs.{needs}
-use Rattle.sheet.proofs.places.Fields.{group-there, group-in}
-use Rattle.sheet.proofs.records.group_entry.Statement.{statement}
+use Rattle.octets.proofs.Kit.{needs}
+use Rattle.sheet.proofs.{places.Fields.{group-there, group-in}, records.group_entry.Statement.statement}
 use Rattle.sheet.proofs.records.group_entry.Tie as tie
 
 pub group-entry-spec : {M : Type 1} → statement M

@@ -1,11 +1,6 @@
 -- `sheet::records::nth` meets its contract.
--- Assumes nothing.
-use mathlib.Core.Path.{refl}
-use borrow.Author.Needs.{needs}
-use native.Mathlib.Omega.{arith}
-use Rattle.sheet.proofs.searches.SearchLoops.{ok-framed, ok-entry}
-use Rattle.sheet.proofs.searches.Objects.{nth-there, nth-short, nth-other}
-use Rattle.sheet.proofs.records.nth.Statement.{statement}
+use Rattle.octets.proofs.Kit.{refl, needs, arith}
+use Rattle.sheet.proofs.{searches.{SearchLoops.{ok-framed, ok-entry}, Objects.{nth-there, nth-short, nth-other}}, records.nth.Statement.statement}
 use Rattle.sheet.proofs.records.nth.Tie as tie
 
 pub nth-spec : {M : Type 1} → statement M

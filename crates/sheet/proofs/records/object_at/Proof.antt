@@ -1,8 +1,6 @@
 -- `sheet::records::object_at` meets its contract.
--- Assumes nothing.
-use borrow.Author.Needs.{needs}
-use Rattle.sheet.proofs.searches.Loops.{object-of}
-use Rattle.sheet.proofs.records.object_at.Statement.{statement}
+use Rattle.octets.proofs.Kit.{needs}
+use Rattle.sheet.proofs.{searches.Loops.object-of, records.object_at.Statement.statement}
 use Rattle.sheet.proofs.records.object_at.Tie as tie
 
 pub object-at-spec : {M : Type 1} → statement M

@@ -1,9 +1,6 @@
 -- `sheet::records::property_entry` meets its contract.
--- Assumes nothing.
-use borrow.Author.Needs.{needs}
-use Rattle.sheet.proofs.searches.SearchLoops.{ok-framed}
-use Rattle.sheet.proofs.places.Fields.{property-there, property-few, property-in}
-use Rattle.sheet.proofs.records.property_entry.Statement.{statement}
+use Rattle.octets.proofs.Kit.{needs}
+use Rattle.sheet.proofs.{searches.SearchLoops.ok-framed, places.Fields.{property-there, property-few, property-in}, records.property_entry.Statement.statement}
 use Rattle.sheet.proofs.records.property_entry.Tie as tie
 
 pub property-entry-spec : {M : Type 1} → statement M

@@ -1,10 +1,6 @@
 -- `sheet::records::rank` meets its contract.
--- Assumes nothing.
-use borrow.Author.Needs.{needs}
-use native.Mathlib.Omega.{arith}
-use Rattle.sheet.proofs.places.Fields.{property-there}
-use Rattle.sheet.proofs.searches.Objects.{index-none, index-within, first-last, index-past}
-use Rattle.sheet.proofs.records.rank.Statement.{statement}
+use Rattle.octets.proofs.Kit.{needs, arith}
+use Rattle.sheet.proofs.{places.Fields.property-there, searches.Objects.{index-none, index-within, first-last, index-past}, records.rank.Statement.statement}
 use Rattle.sheet.proofs.records.rank.Tie as tie
 
 pub rank-spec : {M : Type 1} → statement M

@@ -1,9 +1,6 @@
 -- `sheet::table::entry` meets its contract.
--- Assumes nothing.
-use borrow.Author.Needs.{needs}
-use native.Mathlib.Omega.{arith}
-use Rattle.sheet.proofs.rules.Entries.{few, at-place}
-use Rattle.sheet.proofs.table.entry.Statement.{statement}
+use Rattle.octets.proofs.Kit.{needs, arith}
+use Rattle.sheet.proofs.{rules.Entries.{few, at-place}, table.entry.Statement.statement}
 use Rattle.sheet.proofs.table.entry.Tie as tie
 
 pub entry-spec : {M : Type 1} → statement M

@@ -1,8 +1,6 @@
 -- `sheet::table::many` meets its contract.
--- Assumes nothing.
-use borrow.Author.Needs.{needs}
-use Rattle.sheet.proofs.rules.Entries.{counted, users-counted}
-use Rattle.sheet.proofs.table.many.Statement.{statement}
+use Rattle.octets.proofs.Kit.{needs}
+use Rattle.sheet.proofs.{rules.Entries.{counted, users-counted}, table.many.Statement.statement}
 use Rattle.sheet.proofs.table.many.Tie as tie
 
 pub many-spec : {M : Type 1} → statement M

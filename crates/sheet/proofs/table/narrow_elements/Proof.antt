@@ -1,10 +1,5 @@
 -- `sheet::table::narrow_elements` meets its contract: a byte times a word.
--- Assumes nothing.
-use Prim.Native.Nat.{ℕ, _*_, _≤_}
-use mathlib.Core.Path.{ap₂}
-use borrow.Author.Needs.{needs}
-use native.Mathlib.Nat.{mul-le-mul}
-use native.Mathlib.Omega.{arith}
+use Rattle.octets.proofs.Kit.{ℕ, _*_, _≤_, ap₂, needs, mul-le-mul, arith}
 use Rattle.sheet.proofs.table.narrow_elements.Statement.{statement}
 use Rattle.sheet.proofs.table.narrow_elements.Tie as tie
 

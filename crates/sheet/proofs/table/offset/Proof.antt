@@ -1,11 +1,7 @@
 -- `sheet::table::offset` meets its contract.
--- Assumes nothing.
-use mathlib.Core.Path.{_∙_, ap}
-use borrow.Author.Needs.{needs}
-use native.Mathlib.Omega.{arith}
+use Rattle.octets.proofs.Kit.{_∙_, ap, needs, arith}
 use Rattle.sheet.specs.Entries.{size}
-use Rattle.sheet.proofs.rules.Entries.{starts}
-use Rattle.sheet.proofs.table.offset.Statement.{statement}
+use Rattle.sheet.proofs.{rules.Entries.starts, table.offset.Statement.statement}
 use Rattle.sheet.proofs.table.offset.Tie as tie
 
 pub offset-spec : {M : Type 1} → statement M

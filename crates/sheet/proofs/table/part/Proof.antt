@@ -1,9 +1,6 @@
 -- `sheet::table::part` meets its contract: the part starts where the entry stands, and is as long as an entry of its kind.
--- Assumes nothing.
-use borrow.Author.Needs.{needs}
-use native.Mathlib.Omega.{arith}
-use Rattle.sheet.proofs.rules.Entries.{part-end, part}
-use Rattle.sheet.proofs.table.part.Statement.{statement}
+use Rattle.octets.proofs.Kit.{needs, arith}
+use Rattle.sheet.proofs.{rules.Entries.{part-end, part}, table.part.Statement.statement}
 use Rattle.sheet.proofs.table.part.Tie as tie
 
 pub part-spec : {M : Type 1} → statement M

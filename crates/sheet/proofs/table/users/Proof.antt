@@ -1,8 +1,6 @@
 -- `sheet::table::users` meets its contract.
--- Assumes nothing.
-use borrow.Author.Needs.{needs}
-use Rattle.sheet.proofs.rules.Editions.{users-second, users-first}
-use Rattle.sheet.proofs.table.users.Statement.{statement}
+use Rattle.octets.proofs.Kit.{needs}
+use Rattle.sheet.proofs.{rules.Editions.{users-second, users-first}, table.users.Statement.statement}
 use Rattle.sheet.proofs.table.users.Tie as tie
 
 pub users-spec : {M : Type 1} → statement M

@@ -1,8 +1,6 @@
 -- `sheet::walk::check` meets its contract.
--- Assumes nothing.
-use borrow.Author.Needs.{needs}
-use Rattle.sheet.proofs.promises.Verdicts.{says-rule, says-old, says-accepted}
-use Rattle.sheet.proofs.walk.check.Statement.{statement}
+use Rattle.octets.proofs.Kit.{needs}
+use Rattle.sheet.proofs.{promises.Verdicts.{says-rule, says-old, says-accepted}, walk.check.Statement.statement}
 use Rattle.sheet.proofs.walk.check.Tie as tie
 
 pub check-spec : {M : Type 1} → statement M

@@ -1,8 +1,6 @@
 -- `sheet::walk::first_broken` meets its contract.
--- Assumes nothing.
-use borrow.Author.Needs.{needs}
-use Rattle.sheet.proofs.rules.Rules.{framed, in-frame, in-zeros, in-walk}
-use Rattle.sheet.proofs.walk.first_broken.Statement.{statement}
+use Rattle.octets.proofs.Kit.{needs}
+use Rattle.sheet.proofs.{rules.Rules.{framed, in-frame, in-zeros, in-walk}, walk.first_broken.Statement.statement}
 use Rattle.sheet.proofs.walk.first_broken.Tie as tie
 
 pub first-broken-spec : {M : Type 1} → statement M

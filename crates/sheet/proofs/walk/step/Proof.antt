@@ -1,11 +1,6 @@
 -- `sheet::walk::step` meets its contract.
--- Assumes nothing.
-use mathlib.Core.Path.{_≡_}
-use borrow.Author.Needs.{needs}
-use native.Mathlib.Omega.{arith}
-use Rattle.sheet.proofs.rules.Entries.{place-near}
-use Rattle.sheet.proofs.rules.Rules.{entry-there, place-there, says-region, says-property, says-group, says-user}
-use Rattle.sheet.proofs.walk.step.Statement.{statement}
+use Rattle.octets.proofs.Kit.{_≡_, needs, arith}
+use Rattle.sheet.proofs.{rules.{Entries.place-near, Rules.{entry-there, place-there, says-region, says-property, says-group, says-user}}, walk.step.Statement.statement}
 use Rattle.sheet.proofs.walk.step.Tie as tie
 
 pub step-spec : {M : Type 1} → statement M

@@ -1,8 +1,6 @@
 -- `sheet::walk::users_first` meets its contract.
--- Assumes nothing.
-use borrow.Author.Needs.{needs}
-use Rattle.sheet.proofs.rules.Rules.{users-first, users-passed}
-use Rattle.sheet.proofs.walk.users_first.Statement.{statement}
+use Rattle.octets.proofs.Kit.{needs}
+use Rattle.sheet.proofs.{rules.Rules.{users-first, users-passed}, walk.users_first.Statement.statement}
 use Rattle.sheet.proofs.walk.users_first.Tie as tie
 
 pub users-first-spec : {M : Type 1} → statement M

@@ -1,9 +1,6 @@
 -- `sheet::walk::users_rule` meets its contract. The invariant: no user region passed has broken S6.
--- Assumes nothing.
-use Prim.Native.Nat.{_-_}
-use borrow.Author.Needs.{needs}
-use Rattle.sheet.proofs.rules.Rules.{Ordered, counted-narrow, users-begin, users-entry, users-go, users-left, users-end}
-use Rattle.sheet.proofs.walk.users_rule.Statement.{statement}
+use Rattle.octets.proofs.Kit.{_-_, needs}
+use Rattle.sheet.proofs.{rules.Rules.{Ordered, counted-narrow, users-begin, users-entry, users-go, users-left, users-end}, walk.users_rule.Statement.statement}
 use Rattle.sheet.proofs.walk.users_rule.Tie as tie
 
 abbrev Inv-loop : tie.InvT-loop

@@ -1,8 +1,6 @@
 -- `sheet::walk::walk` meets its contract. The invariants: no entry before this one has broken a rule, and `late` is 0 exactly if
 -- none of their bodies has. Assumes nothing.
-use Prim.Native.Nat.{_-_}
-use mathlib.Core.Path.{refl}
-use borrow.Author.Needs.{needs}
+use Rattle.octets.proofs.Kit.{_-_, refl, needs}
 use Rattle.sheet.specs.Kind.{kinds}
 use Rattle.sheet.proofs.rules.Rules.{Walked, Passed, contents-narrow, counted-narrow, walk-begins, pass-begins, pass-entry, pass-near, pass-goes, walk-goes, left-at, at-end}
 use Rattle.sheet.proofs.walk.walk.Statement.{statement}

@@ -1,9 +1,5 @@
 -- `sheet_cases::lay::mark` is safe and ends.
--- Assumes nothing.
-use Prim.Native.Nat.{_-_}
-use mathlib.Core.Path.{_≡_}
-use borrow.Author.Needs.{needs}
-use lib.ListN.{length}
+use Rattle.octets.proofs.Kit.{_-_, _≡_, needs, length}
 use Rattle.sheet_cases.proofs.lay.mark.Statement.{statement}
 use Rattle.sheet_cases.proofs.lay.mark.Tie as tie
 

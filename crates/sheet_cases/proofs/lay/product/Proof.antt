@@ -1,9 +1,5 @@
 -- `sheet_cases::lay::product` is safe: a byte times a word fits.
--- Assumes nothing.
-use Prim.Native.Nat.{ℕ, _*_, _%_, _≤_}
-use borrow.Author.Needs.{needs}
-use native.Mathlib.Nat.{mul-le-mul}
-use native.Mathlib.Omega.{arith}
+use Rattle.octets.proofs.Kit.{ℕ, _*_, _%_, _≤_, needs, mul-le-mul, arith}
 use Rattle.sheet_cases.proofs.lay.product.Statement.{statement}
 use Rattle.sheet_cases.proofs.lay.product.Tie as tie
 

@@ -1,7 +1,6 @@
 -- `slots::choosing::aim` meets its contract. Assumes nothing.
-use borrow.Author.Needs.{needs}
-use Rattle.slots.proofs.Returns.{to-second, to-first, to-none}
-use Rattle.slots.proofs.choosing.aim.Statement.{statement}
+use Rattle.octets.proofs.Kit.{needs}
+use Rattle.slots.proofs.{Returns.{to-second, to-first, to-none}, choosing.aim.Statement.statement}
 use Rattle.slots.proofs.choosing.aim.Tie as tie
 
 pub aim-spec : {M : Type 1} → statement M

@@ -1,7 +1,6 @@
 -- `slots::choosing::newer` meets its contract. Assumes nothing.
-use borrow.Author.Needs.{needs}
-use Rattle.slots.proofs.Returns.{neither, second-alone, first-alone, second-newer, first-newer}
-use Rattle.slots.proofs.choosing.newer.Statement.{statement}
+use Rattle.octets.proofs.Kit.{needs}
+use Rattle.slots.proofs.{Returns.{neither, second-alone, first-alone, second-newer, first-newer}, choosing.newer.Statement.statement}
 use Rattle.slots.proofs.choosing.newer.Tie as tie
 
 pub newer-spec : {M : Type 1} → statement M

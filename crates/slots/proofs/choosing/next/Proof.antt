@@ -1,6 +1,5 @@
 -- `slots::choosing::next` meets its contract. Assumes nothing.
-use native.Mathlib.Omega.{arith}
-use borrow.Author.Needs.{needs}
+use Rattle.octets.proofs.Kit.{arith, needs}
 use Rattle.octets.proofs.Tests.{tests}
 use Rattle.slots.specs.Slot.{nextOf}
 use Rattle.slots.proofs.choosing.next.Statement.{statement}

@@ -1,7 +1,6 @@
 -- `slots::parts::begin` meets its contract. Assumes nothing.
-use borrow.Author.Needs.{needs}
-use Rattle.slots.proofs.Fronts.{small-slot, too-short, no-mark, too-long, no-room, to-come}
-use Rattle.slots.proofs.parts.begin.Statement.{statement}
+use Rattle.octets.proofs.Kit.{needs}
+use Rattle.slots.proofs.{Fronts.{small-slot, too-short, no-mark, too-long, no-room, to-come}, parts.begin.Statement.statement}
 use Rattle.slots.proofs.parts.begin.Tie as tie
 
 pub begin-spec : {M : Type 1} → statement M

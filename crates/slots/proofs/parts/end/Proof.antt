@@ -1,7 +1,6 @@
 -- `slots::parts::end` meets its contract. Assumes nothing.
-use borrow.Author.Needs.{needs}
-use Rattle.slots.proofs.Fronts.{was-barred, unread, other-sum, is-whole}
-use Rattle.slots.proofs.parts.end.Statement.{statement}
+use Rattle.octets.proofs.Kit.{needs}
+use Rattle.slots.proofs.{Fronts.{was-barred, unread, other-sum, is-whole}, parts.end.Statement.statement}
 use Rattle.slots.proofs.parts.end.Tie as tie
 
 pub end-spec : {M : Type 1} → statement M

@@ -1,7 +1,6 @@
 -- `slots::parts::more` meets its contract. Assumes nothing.
-use borrow.Author.Needs.{needs}
-use Rattle.slots.proofs.Fronts.{some-left, none-left}
-use Rattle.slots.proofs.parts.more.Statement.{statement}
+use Rattle.octets.proofs.Kit.{needs}
+use Rattle.slots.proofs.{Fronts.{some-left, none-left}, parts.more.Statement.statement}
 use Rattle.slots.proofs.parts.more.Tie as tie
 
 pub more-spec : {M : Type 1} → statement M

@@ -1,10 +1,8 @@
 -- `slots::saving::piece` meets its contract. Assumes nothing.
-use native.Mathlib.Omega.{arith}
-use borrow.Author.Needs.{needs}
+use Rattle.octets.proofs.Kit.{arith, needs}
 use Rattle.octets.proofs.Tests.{tests}
 use Rattle.slots.specs.Saving.{workOf, pieceOf}
-use Rattle.slots.proofs.Returns.{no-buffer, too-much, too-small}
-use Rattle.slots.proofs.saving.piece.Statement.{statement}
+use Rattle.slots.proofs.{Returns.{no-buffer, too-much, too-small}, saving.piece.Statement.statement}
 use Rattle.slots.proofs.saving.piece.Tie as tie
 
 pub piece-spec : {M : Type 1} → statement M

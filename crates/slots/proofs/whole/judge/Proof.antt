@@ -1,7 +1,6 @@
 -- `slots::whole::judge` meets its contract. Assumes nothing.
-use borrow.Author.Needs.{needs}
-use Rattle.slots.proofs.promises.Pieced.{judged-short, judged-whole}
-use Rattle.slots.proofs.whole.judge.Statement.{statement}
+use Rattle.octets.proofs.Kit.{needs}
+use Rattle.slots.proofs.{promises.Pieced.{judged-short, judged-whole}, whole.judge.Statement.statement}
 use Rattle.slots.proofs.whole.judge.Tie as tie
 
 pub judge-spec : {M : Type 1} → statement M

@@ -1,7 +1,6 @@
 -- `tool::datapoints::float` meets its contract. Assumes nothing.
-use Rattle.tool.proofs.PointLaws.{float-is}
-use borrow.Author.Needs.{needs}
-use Rattle.tool.proofs.datapoints.float.Statement.{statement}
+use Rattle.octets.proofs.Kit.{needs}
+use Rattle.tool.proofs.{PointLaws.float-is, datapoints.float.Statement.statement}
 use Rattle.tool.proofs.datapoints.float.Tie as tie
 
 pub float-spec : {M : Type 1} → statement M

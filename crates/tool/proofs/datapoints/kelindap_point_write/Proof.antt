@@ -1,7 +1,6 @@
 -- `tool::datapoints::kelindap_point_write` meets its contract. Assumes nothing.
-use Rattle.tool.proofs.PointLaws.{write-25, write-20, write-is, write-no}
-use borrow.Author.Needs.{needs}
-use Rattle.tool.proofs.datapoints.kelindap_point_write.Statement.{statement}
+use Rattle.octets.proofs.Kit.{needs}
+use Rattle.tool.proofs.{PointLaws.{write-25, write-20, write-is, write-no}, datapoints.kelindap_point_write.Statement.statement}
 use Rattle.tool.proofs.datapoints.kelindap_point_write.Tie as tie
 
 pub kelindap-point-write-spec : {M : Type 1} → statement M

@@ -1,12 +1,8 @@
 -- `tool::datapoints::laid` meets its contract. Assumes nothing.
-use mathlib.Core.Path.{_≡_, ap, _∙_}
-use lib.IntN.{ℤ}
-use mir.Syntax.{w32}
-use mir.Val.{toZ, ofZ}
+use Rattle.octets.proofs.Kit.{_≡_, ap, _∙_, ℤ, needs}
+use mir.{Syntax.w32, Val.{toZ, ofZ}}
 use Rattle.tool.specs.Points.{flatPoint}
-use Rattle.tool.proofs.PointLaws.{laid-by, laid-switch}
-use borrow.Author.Needs.{needs}
-use Rattle.tool.proofs.datapoints.laid.Statement.{statement}
+use Rattle.tool.proofs.{PointLaws.{laid-by, laid-switch}, datapoints.laid.Statement.statement}
 use Rattle.tool.proofs.datapoints.laid.Tie as tie
 
 returns-3 : tie.Need-returns-3

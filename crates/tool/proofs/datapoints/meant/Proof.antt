@@ -1,7 +1,6 @@
 -- `tool::datapoints::meant` meets its contract. Assumes nothing.
-use Rattle.tool.proofs.PointLaws.{meant-9, meant-14, meant-else}
-use borrow.Author.Needs.{needs}
-use Rattle.tool.proofs.datapoints.meant.Statement.{statement}
+use Rattle.octets.proofs.Kit.{needs}
+use Rattle.tool.proofs.{PointLaws.{meant-9, meant-14, meant-else}, datapoints.meant.Statement.statement}
 use Rattle.tool.proofs.datapoints.meant.Tie as tie
 
 pub meant-spec : {M : Type 1} → statement M

@@ -1,8 +1,6 @@
 -- `tool::frames::count` meets its contract. Assumes nothing.
-use borrow.Author.Needs.{needs}
-use native.Mathlib.Omega.{arith}
-use Rattle.tool.proofs.Framing.{bytes-few, via-framed}
-use Rattle.tool.proofs.frames.count.Statement.{statement}
+use Rattle.octets.proofs.Kit.{needs, arith}
+use Rattle.tool.proofs.{Framing.{bytes-few, via-framed}, frames.count.Statement.statement}
 use Rattle.tool.proofs.frames.count.Tie as tie
 
 pub count-spec : {M : Type 1} → statement M

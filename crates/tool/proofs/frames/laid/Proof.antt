@@ -1,7 +1,6 @@
 -- `tool::frames::laid` meets its contract. Assumes nothing.
-use borrow.Author.Needs.{needs}
-use Rattle.tool.proofs.Framing.{event-laid}
-use Rattle.tool.proofs.frames.laid.Statement.{statement}
+use Rattle.octets.proofs.Kit.{needs}
+use Rattle.tool.proofs.{Framing.event-laid, frames.laid.Statement.statement}
 use Rattle.tool.proofs.frames.laid.Tie as tie
 
 pub laid-spec : {M : Type 1} → statement M

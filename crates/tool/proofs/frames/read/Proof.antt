@@ -1,7 +1,6 @@
 -- `tool::frames::read` meets its contract. Assumes nothing.
-use borrow.Author.Needs.{needs}
-use Rattle.tool.proofs.Framing.{via-got}
-use Rattle.tool.proofs.frames.read.Statement.{statement}
+use Rattle.octets.proofs.Kit.{needs}
+use Rattle.tool.proofs.{Framing.via-got, frames.read.Statement.statement}
 use Rattle.tool.proofs.frames.read.Tie as tie
 
 pub read-spec : {M : Type 1} → statement M

@@ -1,7 +1,6 @@
 -- `tool::frames::write` meets its contract. Assumes nothing.
-use borrow.Author.Needs.{needs}
-use Rattle.tool.proofs.Framing.{few-framed, wrote-framed}
-use Rattle.tool.proofs.frames.write.Statement.{statement}
+use Rattle.octets.proofs.Kit.{needs}
+use Rattle.tool.proofs.{Framing.{few-framed, wrote-framed}, frames.write.Statement.statement}
 use Rattle.tool.proofs.frames.write.Tie as tie
 
 pub write-spec : {M : Type 1} → statement M

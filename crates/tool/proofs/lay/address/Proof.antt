@@ -1,5 +1,5 @@
 -- `tool::lay::address` meets its contract. Assumes nothing.
-use borrow.Author.Needs.{needs}
+use Rattle.octets.proofs.Kit.{needs}
 use Rattle.tool.proofs.lay.address.Statement.{statement}
 use Rattle.tool.proofs.lay.address.Tie as tie
 

@@ -1,5 +1,5 @@
 -- `tool::lay::description` meets its contract. Assumes nothing.
-use borrow.Author.Needs.{needs}
+use Rattle.octets.proofs.Kit.{needs}
 use Rattle.tool.proofs.lay.description.Statement.{statement}
 use Rattle.tool.proofs.lay.description.Tie as tie
 

@@ -1,5 +1,5 @@
 -- `tool::lay::descriptor` meets its contract. Assumes nothing.
-use borrow.Author.Needs.{needs}
+use Rattle.octets.proofs.Kit.{needs}
 use Rattle.tool.proofs.lay.descriptor.Statement.{statement}
 use Rattle.tool.proofs.lay.descriptor.Tie as tie
 

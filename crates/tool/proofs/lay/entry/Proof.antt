@@ -1,5 +1,5 @@
 -- `tool::lay::entry` meets its contract. Assumes nothing.
-use borrow.Author.Needs.{needs}
+use Rattle.octets.proofs.Kit.{needs}
 use Rattle.tool.proofs.lay.entry.Statement.{statement}
 use Rattle.tool.proofs.lay.entry.Tie as tie
 

@@ -1,8 +1,7 @@
 -- `tool::lay::flat` meets its contract: an arm knows the PDU. Assumes nothing.
-use borrow.Author.Needs.{needs}
+use Rattle.octets.proofs.Kit.{needs}
 use Rattle.tool.specs.Flat.{kindOf, placeIn}
-use Rattle.tool.proofs.Arms.{via-laid}
-use Rattle.tool.proofs.lay.flat.Statement.{statement}
+use Rattle.tool.proofs.{Arms.via-laid, lay.flat.Statement.statement}
 use Rattle.tool.proofs.lay.flat.Tie as tie
 
 pub flat-spec : {M : Type 1} → statement M

@@ -1,5 +1,5 @@
 -- `tool::lay::key` meets its contract. Assumes nothing.
-use borrow.Author.Needs.{needs}
+use Rattle.octets.proofs.Kit.{needs}
 use Rattle.tool.proofs.lay.key.Statement.{statement}
 use Rattle.tool.proofs.lay.key.Tie as tie
 

@@ -1,5 +1,5 @@
 -- `tool::lay::memory` meets its contract. Assumes nothing.
-use borrow.Author.Needs.{needs}
+use Rattle.octets.proofs.Kit.{needs}
 use Rattle.tool.proofs.lay.memory.Statement.{statement}
 use Rattle.tool.proofs.lay.memory.Tie as tie
 

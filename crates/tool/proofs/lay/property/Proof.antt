@@ -1,5 +1,5 @@
 -- `tool::lay::property` meets its contract. Assumes nothing.
-use borrow.Author.Needs.{needs}
+use Rattle.octets.proofs.Kit.{needs}
 use Rattle.tool.proofs.lay.property.Statement.{statement}
 use Rattle.tool.proofs.lay.property.Tie as tie
 

@@ -1,10 +1,8 @@
 -- `tool::lay::read_as` meets its contract. Assumes nothing.
-use borrow.Author.Needs.{needs}
-use native.Mathlib.Omega.{arith}
+use Rattle.octets.proofs.Kit.{needs, arith}
 use Rattle.pdu.specs.Pdus.{serviceOf, valuesOf}
 use Rattle.tool.specs.Flat.{kindOf}
-use Rattle.tool.proofs.Arms.{shorter, spans, laid-at}
-use Rattle.tool.proofs.lay.read_as.Statement.{statement}
+use Rattle.tool.proofs.{Arms.{shorter, spans, laid-at}, lay.read_as.Statement.statement}
 use Rattle.tool.proofs.lay.read_as.Tie as tie
 
 pub read-as-spec : {M : Type 1} → statement M

@@ -1,5 +1,5 @@
 -- `tool::lay::refuse` meets its contract. Assumes nothing.
-use borrow.Author.Needs.{needs}
+use Rattle.octets.proofs.Kit.{needs}
 use Rattle.tool.proofs.lay.refuse.Statement.{statement}
 use Rattle.tool.proofs.lay.refuse.Tie as tie
 

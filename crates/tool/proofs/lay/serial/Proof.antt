@@ -1,5 +1,5 @@
 -- `tool::lay::serial` meets its contract. Assumes nothing.
-use borrow.Author.Needs.{needs}
+use Rattle.octets.proofs.Kit.{needs}
 use Rattle.tool.proofs.lay.serial.Statement.{statement}
 use Rattle.tool.proofs.lay.serial.Tie as tie
 

@@ -1,7 +1,6 @@
 -- `tool::mean::meant` meets its contract. Assumes nothing.
-use borrow.Author.Needs.{needs}
-use Rattle.tool.proofs.Arms.{via-meant, no-kind}
-use Rattle.tool.proofs.mean.meant.Statement.{statement}
+use Rattle.octets.proofs.Kit.{needs}
+use Rattle.tool.proofs.{Arms.{via-meant, no-kind}, mean.meant.Statement.statement}
 use Rattle.tool.proofs.mean.meant.Tie as tie
 
 pub meant-spec : {M : Type 1} → statement M

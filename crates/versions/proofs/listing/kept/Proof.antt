@@ -1,9 +1,7 @@
 -- `versions::listing::kept` meets its contract.
--- Assumes nothing.
-use borrow.Author.Needs.{needs}
+use Rattle.octets.proofs.Kit.{needs}
 use Rattle.octets.specs.Octets.{Octets}
-use Rattle.versions.proofs.promises.Lists.{bad-listed, listed-head, past-listed, number-room, long-room, some-listed}
-use Rattle.versions.proofs.listing.kept.Statement.{statement}
+use Rattle.versions.proofs.{promises.Lists.{bad-listed, listed-head, past-listed, number-room, long-room, some-listed}, listing.kept.Statement.statement}
 use Rattle.versions.proofs.listing.kept.Tie as tie
 
 pub kept-spec : {M : Type 1} → statement M

@@ -1,8 +1,6 @@
 -- `versions::removing::cut` meets its contract.
--- Assumes nothing.
-use borrow.Author.Needs.{needs}
-use Rattle.versions.proofs.Removals.{cut-steps}
-use Rattle.versions.proofs.removing.cut.Statement.{statement}
+use Rattle.octets.proofs.Kit.{needs}
+use Rattle.versions.proofs.{Removals.cut-steps, removing.cut.Statement.statement}
 use Rattle.versions.proofs.removing.cut.Tie as tie
 
 pub cut-spec : {M : Type 1} → statement M

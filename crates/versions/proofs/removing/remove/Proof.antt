@@ -1,9 +1,7 @@
 -- `versions::removing::remove` meets its contract.
--- Assumes nothing.
-use borrow.Author.Needs.{needs}
+use Rattle.octets.proofs.Kit.{needs}
 use Rattle.octets.specs.Octets.{Octets}
-use Rattle.versions.proofs.Removals.{bad, is-headed, is-tabled, not-there, is-chosen, gone}
-use Rattle.versions.proofs.removing.remove.Statement.{statement}
+use Rattle.versions.proofs.{Removals.{bad, is-headed, is-tabled, not-there, is-chosen, gone}, removing.remove.Statement.statement}
 use Rattle.versions.proofs.removing.remove.Tie as tie
 
 pub remove-spec : {M : Type 1} → statement M

@@ -1,9 +1,7 @@
 -- `versions::removing::take_out` meets its contract.
--- Assumes nothing.
-use borrow.Author.Needs.{needs}
+use Rattle.octets.proofs.Kit.{needs}
 use Rattle.octets.specs.Octets.{Octets}
-use Rattle.versions.proofs.Removals.{take-needs, take-steps}
-use Rattle.versions.proofs.removing.take_out.Statement.{statement}
+use Rattle.versions.proofs.{Removals.{take-needs, take-steps}, removing.take_out.Statement.statement}
 use Rattle.versions.proofs.removing.take_out.Tie as tie
 
 pub take-out-spec : {M : Type 1} → statement M

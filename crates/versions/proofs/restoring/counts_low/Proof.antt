@@ -1,7 +1,5 @@
 -- `versions::restoring::counts_low` meets its contract. The invariant: no count passed is above its maximum.
--- Assumes nothing.
-use Prim.Native.Nat.{_+_, _*_, _-_}
-use native.Mathlib.Omega.{arith}
+use Rattle.octets.proofs.Kit.{_+_, _*_, _-_, arith}
 use Rattle.octets.proofs.Everys.{Checked, check-begin, check-stop, check-go, check-end}
 use Rattle.versions.specs.Restoring.{lowCount}
 use Rattle.versions.proofs.restoring.counts_low.Statement.{statement}

@@ -1,7 +1,5 @@
 -- `versions::restoring::entries_same` meets its contract. The invariant: the entries passed are the same.
--- Assumes nothing.
-use Prim.Native.Nat.{_+_, _*_, _-_}
-use native.Mathlib.Omega.{arith}
+use Rattle.octets.proofs.Kit.{_+_, _*_, _-_, arith}
 use Rattle.octets.proofs.Everys.{Checked, check-begin, check-stop, check-go, check-end}
 use Rattle.versions.specs.Restoring.{sameEntry}
 use Rattle.versions.proofs.restoring.entries_same.Statement.{statement}

@@ -1,8 +1,6 @@
 -- `versions::restoring::low_count` meets its contract.
--- Assumes nothing.
-use borrow.Author.Needs.{needs}
-use Rattle.versions.proofs.Restorer.{count-compared}
-use Rattle.versions.proofs.restoring.low_count.Statement.{statement}
+use Rattle.octets.proofs.Kit.{needs}
+use Rattle.versions.proofs.{Restorer.count-compared, restoring.low_count.Statement.statement}
 use Rattle.versions.proofs.restoring.low_count.Tie as tie
 
 pub low-count-spec : {M : Type 1} → statement M

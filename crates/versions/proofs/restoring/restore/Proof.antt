@@ -1,10 +1,7 @@
 -- `versions::restoring::restore` meets its contract.
--- Assumes nothing.
-use mathlib.Core.Path.{sym, _∙_}
-use borrow.Author.Needs.{needs}
+use Rattle.octets.proofs.Kit.{sym, _∙_, needs}
 use Rattle.sheet.proofs.promises.Verdicts.{not-refused}
-use Rattle.versions.proofs.Restorer.{bad-sheet, bad-store, not-kept, not-zero, not-given, gives-long, was-restored}
-use Rattle.versions.proofs.restoring.restore.Statement.{statement}
+use Rattle.versions.proofs.{Restorer.{bad-sheet, bad-store, not-kept, not-zero, not-given, gives-long, was-restored}, restoring.restore.Statement.statement}
 use Rattle.versions.proofs.restoring.restore.Tie as tie
 
 pub restore-spec : {M : Type 1} → statement M

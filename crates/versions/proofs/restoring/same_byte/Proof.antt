@@ -1,8 +1,6 @@
 -- `versions::restoring::same_byte` meets its contract.
--- Assumes nothing.
-use borrow.Author.Needs.{needs}
-use Rattle.versions.proofs.Restorer.{byte-before, byte-of-count, byte-behind}
-use Rattle.versions.proofs.restoring.same_byte.Statement.{statement}
+use Rattle.octets.proofs.Kit.{needs}
+use Rattle.versions.proofs.{Restorer.{byte-before, byte-of-count, byte-behind}, restoring.same_byte.Statement.statement}
 use Rattle.versions.proofs.restoring.same_byte.Tie as tie
 
 pub same-byte-spec : {M : Type 1} → statement M

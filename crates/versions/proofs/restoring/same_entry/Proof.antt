@@ -1,11 +1,8 @@
 -- `versions::restoring::same_entry` meets its contract. The invariant: the bytes passed are the same.
--- Assumes nothing.
-use Prim.Native.Nat.{_-_}
-use native.Mathlib.Omega.{arith}
+use Rattle.octets.proofs.Kit.{_-_, arith}
 use Rattle.octets.proofs.Everys.{Checked, check-begin, check-stop, check-go, check-end}
 use Rattle.versions.specs.Restoring.{sameByte}
-use Rattle.versions.proofs.Restorer.{all-bytes}
-use Rattle.versions.proofs.restoring.same_entry.Statement.{statement}
+use Rattle.versions.proofs.{Restorer.all-bytes, restoring.same_entry.Statement.statement}
 use Rattle.versions.proofs.restoring.same_entry.Tie as tie
 
 abbrev Inv-loop : tie.InvT-loop

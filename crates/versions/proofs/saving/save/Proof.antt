@@ -1,10 +1,8 @@
 -- `versions::saving::save` meets its contract.
--- Assumes nothing.
-use borrow.Author.Needs.{needs}
-use Rattle.sheet.proofs.promises.Verdicts.{not-refused}
+use Rattle.octets.proofs.Kit.{needs}
 use Rattle.octets.specs.Octets.{Octets}
-use Rattle.versions.proofs.Saver.{bad-sheet, bad-store, room-count, room-last, no-number, no-place, is-tabled, no-room, can-append, was-saved}
-use Rattle.versions.proofs.saving.save.Statement.{statement}
+use Rattle.sheet.proofs.promises.Verdicts.{not-refused}
+use Rattle.versions.proofs.{Saver.{bad-sheet, bad-store, room-count, room-last, no-number, no-place, is-tabled, no-room, can-append, was-saved}, saving.save.Statement.statement}
 use Rattle.versions.proofs.saving.save.Tie as tie
 
 pub save-spec : {M : Type 1} → statement M

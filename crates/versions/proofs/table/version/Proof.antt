@@ -1,9 +1,7 @@
 -- `versions::table::version` meets its contract.
--- Assumes nothing.
-use borrow.Author.Needs.{needs}
+use Rattle.octets.proofs.Kit.{needs}
 use Rattle.octets.specs.Octets.{Octets}
-use Rattle.versions.proofs.Restorer.{table-there, count-there, no-version, offset-there, long-there, some-version}
-use Rattle.versions.proofs.table.version.Statement.{statement}
+use Rattle.versions.proofs.{Restorer.{table-there, count-there, no-version, offset-there, long-there, some-version}, table.version.Statement.statement}
 use Rattle.versions.proofs.table.version.Tie as tie
 
 pub version-spec : {M : Type 1} → statement M
