@@ -105,6 +105,12 @@ sed -n 's/^\([a-z_]*\): */\1 /p' crates.txt | awk -v order="$(tr '\n' ' ' <<< "$
     { for (i = 2; i <= NF; i++) if ($i in at && at[$i] > at[$1]) { print "same: docs/CHANGING.md has " $1 " before " $i; bad = 1 } }
     END { exit bad }' || bad=1
 
+# no line of a definition, of code or of a proof has more than 200 characters
+if LC_ALL=C.UTF-8 grep -rnE --include='*.antt' --include='*.rt' '^.{201,}' crates | cut -c 1-120; then
+    echo "same: lines above 200 characters"
+    bad=1
+fi
+
 # every outcome that a header has by name has words in kelindap_names.h
 for name in $(awk '/^enum kelindap_[a-z_]*(outcome|refusal)/ { on = 1; next } /^}/ { on = 0 } on && /^ *KELINDAP_/ { print $1 }' include/*.h |
     grep -vx KELINDAP_OK); do
