@@ -9,4 +9,3 @@ pub mod Sound
 pub mod Stands
 pub mod Items
 pub mod Kept
-pub mod Tabled

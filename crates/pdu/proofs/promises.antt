@@ -11,3 +11,4 @@ pub mod Vectors
 pub mod Readings
 pub mod Writing
 pub mod Allowed
+pub mod Tabled

@@ -37,9 +37,6 @@ first-holds g (body o d j) p (ofBody i q h e) = rw (property-hit g q, e)
 first-holds g (counter o d j) p (ofCounter i q h e) = rw (property-hit g q, e)
 first-holds g (key l j) p (ofKey h k e) = rw e
 
-pub first-content : {s : List ℕ} → Accepted s → {x : Location} {p : ℕ} → Place s x p → getD s p 0 ≡ firstOf s x
-first-content {s} ok {x} {p} h = first-holds (good s ok) x p h
-
 -- AT THE BEGINNING
 pub begin : (f : First) → Begins f → Inv f [] (record { sessions = f .sessions; sheet = f .sheet })
 unfolding opened level content individual programming groupByte
