@@ -340,6 +340,7 @@ enum Meaning {
 #[derive(Default)]
 struct Tree {
     modules: BTreeMap<PathBuf, Rc<Module>>,
+    sources: BTreeMap<PathBuf, Rc<Vec<(PathBuf, String)>>>,
     library: BTreeMap<String, BTreeSet<String>>,
     unknown: BTreeSet<(PathBuf, String)>,
     table: Vec<String>,
@@ -624,6 +625,12 @@ impl Tree {
         self.modules[path].clone()
     }
 
+    /// The files below a folder, each read once.
+    fn sources(&mut self, folder: &Path) -> Rc<Vec<(PathBuf, String)>> {
+        let read = || files(folder).into_iter().map(|p| (p.clone(), fs::read_to_string(p).unwrap_or_default())).collect();
+        self.sources.entry(folder.to_path_buf()).or_insert_with(|| Rc::new(read())).clone()
+    }
+
     /// A theorem's statement with what its modules assume, or a call's contract.
     fn statement(&mut self, name: &str) -> Item {
         let (call, name) = name.strip_prefix("fn ").map_or((false, name), |n| (true, n));
@@ -631,10 +638,12 @@ impl Tree {
         let (folder, start) = if call { ("src", format!("fn {name}(")) } else { ("proofs", format!("pub {name} :")) };
         let mut found = Vec::new();
         for c in folders("crates").iter().filter(|c| crate_.is_none_or(|n| n == *c)) {
-            for path in files(&Path::new("crates").join(c).join(folder)) {
-                let lines = lines_of(&path);
-                let at = |l: &String| if call { l.contains(&start) } else { l.trim_start().starts_with(&start) };
-                found.extend(lines.iter().position(at).map(|k| (path, lines, k)));
+            for (path, text) in self.sources(&Path::new("crates").join(c).join(folder)).iter() {
+                if text.contains(&start) {
+                    let lines = lines_of(path);
+                    let at = |l: &String| if call { l.contains(&start) } else { l.trim_start().starts_with(&start) };
+                    found.extend(lines.iter().position(at).map(|k| (path.clone(), lines, k)));
+                }
             }
         }
         let [(path, lines, at)] = &found[..] else { stop(&format!("{} statements have the name {name}", found.len())) };
