@@ -231,7 +231,7 @@ const STOPS: &[(&str, &str, &[&str])] = &[
     ("stepWith", "what a request does, the refusal of its sheet being given: `by-refusal` ties it to `stepOf`", &[]),
     ("restoreBy", "what a restore does, the refusal of its sheet being given: `by-refusal` ties it to `restoreOutcome`", &[]),
     ("heardOf", "what a frame is to the device; read as propositions", &["link/heard-due", "link/heard-only"]),
-    ("eventOf", "what an event gives: a call that is the event gives it", &["history/call-gives"]),
+    ("eventOf", "what an event gives: a call that is the event gives it", &["history/call-is"]),
     ("sameEntries", "whether a version has a sheet's entries, as a test", &["versions/same-entries", "versions/entries-same"]),
     ("lowCounts", "whether a version's counts are low enough, as a test", &["versions/low-counts", "versions/counts-low"]),
     ("history/firstOf", "the first content of a location: the byte at its place in the first sheet", &["history/first-content"]),

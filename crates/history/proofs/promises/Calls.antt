@@ -29,9 +29,6 @@ call-is {x} (requests mode c g a out r s′ o′ k) = (
 call-is {x} (restores c n st r s′ small p) =
     (ap₂ (λ (n : ℕ) (s : List ℕ). record { outcome = n; answer = []; sessions = x .sessions; sheet = s }) (p .outcome) (p .after), small)
 
-pub call-gives : {x : State} {e : Event} {r : Effect} → Call x e r → r ≡ eventOf x e
-call-gives c = call-is c .0
-
 -- DEMAND 2: WHAT A CALL DOES IS WHAT IS DUE for its event
 pub calls-due : {x : State} {e : Event} {r : Effect} → Call x e r → EventDue e x r
 unfolding eventOf
