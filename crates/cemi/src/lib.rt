@@ -1,5 +1,6 @@
 // cEMI frames, L_Data.req and L_Data.ind, standard frames only: read, understood, written.
 // The definitions stand in specs/: Layout (the table of fields), Read, Meaning, Write.
+#![tactic(auto)]
 mod layout;
 mod parts;
 mod reading;
@@ -12,7 +13,7 @@ pub use transport::meant;
 pub use writing::write;
 
 // The fields of a frame that its writer chooses.
-#[derive(Drop)]
+#[derive(Clone, Copy)]
 pub struct Fields {
     pub code: u8,
     pub control1: u8,
@@ -23,7 +24,7 @@ pub struct Fields {
 }
 
 // A frame that reads: its fields, the two low bits of octet 6, the length of the additional information, the length byte.
-#[derive(Drop)]
+#[derive(Clone, Copy)]
 pub struct Frame {
     pub fields: Fields,
     pub low: u8,
@@ -32,14 +33,14 @@ pub struct Frame {
 }
 
 // What reading gives: the frame, or the number of the refusal.
-#[derive(Drop)]
+#[derive(Clone, Copy)]
 pub enum Got {
     Is(Frame),
     Refused(u8),
 }
 
 // What a frame means: data in a mode, a connect, a disconnect, or the number of the refusal.
-#[derive(Drop)]
+#[derive(Clone, Copy)]
 pub enum Meaning {
     Data(u8),
     Connect,
@@ -48,7 +49,7 @@ pub enum Meaning {
 }
 
 // What writing gives: the count of bytes, or the number of the refusal.
-#[derive(Drop)]
+#[derive(Clone, Copy)]
 pub enum Written {
     Bytes(usize),
     Refused(u8),

@@ -1,4 +1,5 @@
 // The device: a request on one of two connections judged, carried out and answered.
+#![tactic(auto)]
 mod answer;
 mod session;
 mod store;
@@ -12,14 +13,14 @@ pub use session::{button, button_known, connect, disconnect, fresh, session_of};
 
 // The sessions of connections 0 and 1.
 #[repr(C)]
-#[derive(Drop)]
+#[derive(Clone, Copy)]
 pub struct Sessions {
     pub first: Session,
     pub second: Session,
 }
 
 // What a call gave: the outcome, the count of bytes answered, the sessions afterwards.
-#[derive(Drop)]
+#[derive(Clone, Copy)]
 pub struct Done {
     pub outcome: u8,
     pub count: usize,
@@ -28,7 +29,7 @@ pub struct Done {
 
 // A run of sheet bytes: where it begins, and how many it has. A sheet has at most 16,384, so both fit in 16 bits.
 #[repr(C)]
-#[derive(Drop)]
+#[derive(Clone, Copy)]
 pub struct Run {
     pub offset: u16,
     pub length: u16,
@@ -36,14 +37,14 @@ pub struct Run {
 
 // The runs of sheet bytes that a request stored, at most two; 0 and 0 for one that there is not.
 #[repr(C)]
-#[derive(Drop)]
+#[derive(Clone, Copy)]
 pub struct Changed {
     pub first: Run,
     pub second: Run,
 }
 
 // What a request gave, and what it stored.
-#[derive(Drop)]
+#[derive(Clone, Copy)]
 pub struct Made {
     pub done: Done,
     pub changed: Changed,

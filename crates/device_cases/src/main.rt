@@ -6,6 +6,7 @@
 //                       sheet and of the answer buffer
 //   then WORDS : ..     the same on the sheet and in the sessions that the case before left
 // Each case is written after `ok`, or after DIFFERENT with what it gave and what was wanted, and in the end how many there were.
+#![tactic(auto)]
 ghost use Rattle.std.specs.Prelude.{◌≡◌, length};
 
 use check::same;
@@ -24,7 +25,7 @@ mod show;
 mod want;
 
 // How long the sheet is, the sessions that the last case left, and the cases so far.
-#[derive(Drop)]
+#[derive(Clone, Copy)]
 struct State {
     len: usize,
     sessions: Sessions,

@@ -17,7 +17,7 @@ use lines::{after, before, beyond, find, number, part, put, which};
 use octets::byte;
 
 // What a request comes with; whether it follows on a case before it, and whether every word was understood.
-#[derive(Drop)]
+#[derive(Clone, Copy)]
 pub struct Setup {
     pub sessions: Sessions,
     pub mode: u8,

@@ -9,7 +9,7 @@ use judge::Session;
 use lines::{after, find, is_hex, number, put_unhex, rest, word};
 
 // The outcome, how many bytes the answer has, the sessions afterwards, and whether every word was understood.
-#[derive(Drop)]
+#[derive(Clone, Copy)]
 pub struct Want {
     pub outcome: u8,
     pub count: usize,

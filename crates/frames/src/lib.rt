@@ -1,1 +1,2 @@
 // What joins frames and device stands in specs/ and proofs/: this crate has no code.
+#![tactic(auto)]

@@ -11,7 +11,7 @@ use cemi::{Frame, Got};
 use link::{Arrived, Link};
 
 // Who sent a frame, its sequence number, and whether it is a negative acknowledgement.
-#[derive(Drop)]
+#[derive(Clone, Copy)]
 pub struct Sender {
     pub source: u16,
     pub sequence: u8,

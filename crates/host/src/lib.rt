@@ -1,6 +1,7 @@
 // The C interface of the device: the calls of include/kelindap.h and include/kelindap_trace.h, those on the sessions in place;
 // those of include/kelindap_store.h stand in `store`, those of include/kelindap_link.h in `bus`, those of include/kelindap_slots.h in
 // `places`.
+#![tactic(auto)]
 mod bus;
 mod places;
 mod store;
@@ -23,7 +24,7 @@ use sheet::Part;
 
 // The runs that were stored as C has them, in numbers of its own width.
 #[repr(C)]
-#[derive(Drop)]
+#[derive(Clone, Copy)]
 pub struct Wide {
     pub first: Part,
     pub second: Part,
@@ -31,7 +32,7 @@ pub struct Wide {
 
 // What a request gave: its outcome, how many bytes of the answer buffer were filled, and which parts of the sheet were stored.
 #[repr(C)]
-#[derive(Drop)]
+#[derive(Clone, Copy)]
 pub struct Reply {
     pub outcome: u8,
     pub count: u8,
@@ -39,7 +40,7 @@ pub struct Reply {
 }
 
 // The same with the sessions afterwards.
-#[derive(Drop)]
+#[derive(Clone, Copy)]
 pub struct Replied {
     pub outcome: u8,
     pub count: u8,
@@ -49,7 +50,7 @@ pub struct Replied {
 
 // What playing gave: its refusal or 0, and how many events were handled.
 #[repr(C)]
-#[derive(Drop)]
+#[derive(Clone, Copy)]
 pub struct Handled {
     pub refusal: u8,
     pub handled: u16,
@@ -58,7 +59,7 @@ pub struct Handled {
 // What a frame is to the device: its event, by its number, or why there is none; its connection, or 255; its destination; who sent
 // it, its sequence number, and whether it is a negative acknowledgement.
 #[repr(C)]
-#[derive(Drop)]
+#[derive(Clone, Copy)]
 pub struct Arrival {
     pub event: u8,
     pub connection: u8,
@@ -71,7 +72,7 @@ pub struct Arrival {
 // What serving a frame gave: 0 and the event's outcome, or why there is none; its connection, or 255; the count of bytes of the
 // frame that answers; and which parts of the sheet were stored.
 #[repr(C)]
-#[derive(Drop)]
+#[derive(Clone, Copy)]
 pub struct Answered {
     pub number: u8,
     pub outcome: u8,
@@ -81,7 +82,7 @@ pub struct Answered {
 }
 
 // The same with the link afterwards.
-#[derive(Drop)]
+#[derive(Clone, Copy)]
 pub struct Handed {
     pub number: u8,
     pub outcome: u8,

@@ -1,4 +1,5 @@
 // Judging a request: what is decided about it, as a value made of numbers. Nothing is stored here.
+#![tactic(auto)]
 mod addresses;
 mod decisions;
 mod groups;
@@ -24,7 +25,7 @@ use services::decide;
 
 // A connection: open or closed, and the level as found.
 #[repr(C)]
-#[derive(Drop)]
+#[derive(Clone, Copy)]
 pub struct Session {
     pub opened: bool,
     pub level: u8,
@@ -32,7 +33,7 @@ pub struct Session {
 
 // A request as it came and was read: the session that it meets, its mode and group address; what its code names, and what
 // it reads as.
-#[derive(Drop)]
+#[derive(Clone, Copy)]
 pub struct Request {
     pub session: Session,
     pub mode: u8,
@@ -42,7 +43,7 @@ pub struct Request {
 }
 
 // Who can reach a service.
-#[derive(Drop)]
+#[derive(Clone, Copy)]
 pub enum Reach {
     Multicast,
     Broadcast,
@@ -52,7 +53,7 @@ pub enum Reach {
 }
 
 // What is done with a range of memory: read, written, or changed by bits, whose answer shows old ones.
-#[derive(Drop)]
+#[derive(Clone, Copy)]
 pub enum Access {
     Read,
     Write,
@@ -60,7 +61,7 @@ pub enum Access {
 }
 
 // One run of bytes to be stored in the sheet.
-#[derive(Drop)]
+#[derive(Clone, Copy)]
 pub enum Store {
     Nothing,
     // the width low bytes of x
@@ -74,7 +75,7 @@ pub enum Store {
 }
 
 // What becomes of the session.
-#[derive(Drop)]
+#[derive(Clone, Copy)]
 pub enum Turn {
     Stays,
     Level(u8),
@@ -82,7 +83,7 @@ pub enum Turn {
 }
 
 // The answer: a PDU and where its data comes from.
-#[derive(Drop)]
+#[derive(Clone, Copy)]
 pub enum Answer {
     Silence,
     // no data
@@ -96,7 +97,7 @@ pub enum Answer {
 }
 
 // What is decided about a request.
-#[derive(Drop)]
+#[derive(Clone, Copy)]
 pub struct Decision {
     pub outcome: u8,
     pub first: Store,

@@ -1,5 +1,6 @@
 // Lines of text in lent slices, for programs of cases. Each function takes any place: a part that is not there is empty, and
 // what does not fit is left out.
+#![tactic(auto)]
 mod hex;
 mod out;
 mod tally;

@@ -1,4 +1,5 @@
 // Bytes, big-endian numbers, and runs of bytes replaced and moved in a lent slice.
+#![tactic(auto)]
 
 ghost use Rattle.std.specs.Prelude.{◌≡◌, ◌+◌, ◌≤◌, ◌<◌, ◌^◌, length, replicate};
 ghost use Rattle.octets.specs.Bytes.{IsNum, bytes_of};

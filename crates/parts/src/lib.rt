@@ -1,4 +1,5 @@
 // A sheet as plain records: taken apart, and written again.
+#![tactic(auto)]
 mod entries;
 mod front;
 mod lists;
@@ -9,7 +10,7 @@ pub use whole::{same, take_apart, write_again};
 
 // A region of memory or of user memory. Here and in a property, `read` and `write` are levels: those up to which it may be read and
 // written.
-#[derive(Drop)]
+#[derive(Clone, Copy)]
 pub struct Region {
     pub address: u16,
     pub length: u16,
@@ -19,7 +20,7 @@ pub struct Region {
 }
 
 // A property: whether it can be written, its type, the bytes of an element, how many elements there can be and how many are counted.
-#[derive(Drop)]
+#[derive(Clone, Copy)]
 pub struct Property {
     pub object: u8,
     pub id: u8,
@@ -34,7 +35,7 @@ pub struct Property {
 }
 
 // A group object: the length code, and whether it may be read, written, and changed by a Response.
-#[derive(Drop)]
+#[derive(Clone, Copy)]
 pub struct Group {
     pub address: u16,
     pub code: u8,
@@ -45,7 +46,7 @@ pub struct Group {
 }
 
 // How many entries of each kind there are.
-#[derive(Drop)]
+#[derive(Clone, Copy)]
 pub struct Counts {
     pub regions: usize,
     pub properties: usize,
@@ -54,7 +55,7 @@ pub struct Counts {
 }
 
 // Where the properties begin, the group objects, the regions of user memory, and the bodies. The regions of memory begin at 32.
-#[derive(Drop)]
+#[derive(Clone, Copy)]
 pub struct Starts {
     pub properties: usize,
     pub groups: usize,
@@ -64,7 +65,7 @@ pub struct Starts {
 
 // The serial number, the mask version, whether programming mode and verify are on, the individual address, the keys of levels 0,
 // 1 and 2, and the number of the rules.
-#[derive(Drop)]
+#[derive(Clone, Copy)]
 pub struct Head {
     pub serial: u64,
     pub mask: u16,
@@ -76,7 +77,7 @@ pub struct Head {
 }
 
 // A whole sheet and its length. The bodies stand at the places that the entries' offsets name, which are those of the sheet.
-#[derive(Drop)]
+#[derive(Clone, Copy)]
 pub struct Parts {
     pub head: Head,
     pub counts: Counts,

@@ -1,4 +1,5 @@
 // The PDU layer: reads and writes the PDUs of the service table.
+#![tactic(auto)]
 ghost use Rattle.std.specs.Prelude.{◌≡◌, ◌+◌, ◌≤◌, length};
 ghost use Rattle.octets.specs.Octets.{ReadFrom};
 ghost use Rattle.octets.specs.Splice.{splice};
@@ -14,7 +15,7 @@ mod rules;
 mod take;
 
 // The services, then the answers, then those of user memory, in the table's order.
-#[derive(Drop)]
+#[derive(Clone, Copy)]
 pub enum Service {
     GroupValueRead,
     GroupValueResponse,
@@ -47,14 +48,14 @@ pub enum Service {
 }
 
 // What a code names.
-#[derive(Drop)]
+#[derive(Clone, Copy)]
 pub enum Found {
     Listed(Service),
     Unknown,
 }
 
 // A PDU with its fields; its data stays in the APDU.
-#[derive(Drop)]
+#[derive(Clone, Copy)]
 pub enum Pdu {
     GroupValueRead,
     GroupValueResponse {
@@ -161,14 +162,14 @@ pub enum Pdu {
 }
 
 // What reading gives: the PDU, or the number of the refusal.
-#[derive(Drop)]
+#[derive(Clone, Copy)]
 pub enum Parsed {
     Is(Pdu),
     Refused(u8),
 }
 
 // What writing gives: the count of bytes, or the number of the refusal.
-#[derive(Drop)]
+#[derive(Clone, Copy)]
 pub enum Written {
     Bytes(usize),
     Refused(u8),

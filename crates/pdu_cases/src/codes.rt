@@ -6,7 +6,7 @@ use lines::{part, say};
 use std::num::{wrapping_add_u64, wrapping_sub_u16};
 
 // A run of codes from the first on, the outcome and the kind of each, and how many codes were wrong so far.
-#[derive(Drop)]
+#[derive(Clone, Copy)]
 pub(crate) struct Run {
     pub(crate) first: u16,
     pub(crate) outcome: u64,

@@ -3,6 +3,7 @@
 //   write PDU -> ANSWER | SOURCE           into 20 bytes; the answer is 0 and the bytes, or a number
 //   into ROOM PDU -> ANSWER | SOURCE       the same into fewer bytes
 // It copies each case after `ok`, or after `DIFFERENT` with what it got, and says how many there were.
+#![tactic(auto)]
 use check::same;
 use libc::{STDIN_FILENO, STDOUT_FILENO};
 use lines::{Tally, after, begin, counted, find, is_remark, part, say};

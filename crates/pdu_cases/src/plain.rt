@@ -3,7 +3,7 @@ use lines::{first, part, put_all};
 use pdu::{Found, Parsed, Pdu, Service, Written};
 
 // The kinds and the order of their fields are those of `words`. An outcome other than 0 is a refusal, and the rest means nothing.
-#[derive(Drop)]
+#[derive(Clone, Copy)]
 pub(crate) struct Plain {
     pub(crate) outcome: u64,
     pub(crate) kind: usize,
@@ -13,14 +13,14 @@ pub(crate) struct Plain {
 }
 
 // What writing into a part of 20 bytes gave, and the 20 bytes.
-#[derive(Drop)]
+#[derive(Clone, Copy)]
 pub(crate) struct Output {
     pub(crate) outcome: u64,
     pub(crate) count: usize,
     pub(crate) bytes: [u8; 20],
 }
 
-#[derive(Drop)]
+#[derive(Clone, Copy)]
 pub(crate) struct Fields {
     pub(crate) kind: usize,
     pub(crate) x: [u64; 6],

@@ -1,4 +1,5 @@
 // The plain engine: a sheet is taken apart into records, the rules are applied to the records, and the sheet is written again.
+#![tactic(auto)]
 mod both;
 mod carry;
 mod order;
@@ -12,7 +13,7 @@ use device::{Done, Sessions};
 use pdu::Parsed;
 
 // What both engines gave.
-#[derive(Drop)]
+#[derive(Clone, Copy)]
 pub struct Twice {
     pub first: Done,
     pub plain: Done,

@@ -1,4 +1,5 @@
 // The C interface of the plain engine: the call of include/kelindap_plain.h.
+#![tactic(auto)]
 ghost use Rattle.device.specs.Events.{Called};
 ghost use Rattle.plain_host.specs.Calls.{gave};
 
@@ -6,7 +7,7 @@ use device::Sessions;
 
 // What a request gave: its outcome, how many bytes of the answer buffer were filled, and the sessions afterwards.
 #[repr(C)]
-#[derive(Drop)]
+#[derive(Clone, Copy)]
 pub struct Reply {
     pub outcome: u8,
     pub count: u8,

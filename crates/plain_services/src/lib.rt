@@ -1,4 +1,5 @@
 // The services of the plain engine: what each gives and leaves, on the parts of a sheet.
+#![tactic(auto)]
 mod addresses;
 mod bodies;
 mod groups;
@@ -19,14 +20,14 @@ pub use properties::{description, property_read, property_write};
 pub use replies::silent;
 
 // What is sent: nothing, or this PDU.
-#[derive(Drop)]
+#[derive(Clone, Copy)]
 pub enum Sent {
     Nothing,
     This(Pdu),
 }
 
 // What a service gives: the outcome, the parts afterwards, what becomes of the session, the PDU that is sent, and its data.
-#[derive(Drop)]
+#[derive(Clone, Copy)]
 pub struct Reply {
     pub outcome: u8,
     pub parts: Parts,
@@ -37,14 +38,14 @@ pub struct Reply {
 }
 
 // Where addresses stand among the bodies, if they may be used.
-#[derive(Drop)]
+#[derive(Clone, Copy)]
 pub enum Place {
     Denied,
     At(usize),
 }
 
 // The regions of one memory.
-#[derive(Drop)]
+#[derive(Clone, Copy)]
 pub struct Area {
     pub regions: [Region; 16],
     pub count: usize,

@@ -1,4 +1,5 @@
 // A recorded trace of events: judged, and played back on a device.
+#![tactic(auto)]
 mod event;
 mod layout;
 mod marking;
@@ -12,7 +13,7 @@ pub use playing::play;
 pub use rules::check;
 
 // What playing gave: the refusal or 0, how many events were handled, the sessions afterwards.
-#[derive(Drop)]
+#[derive(Clone, Copy)]
 pub struct Played {
     pub refusal: u8,
     pub handled: u16,

@@ -10,7 +10,7 @@ use crate::table::{count, part};
 use octets::{byte, word};
 
 // The rule that an event breaks, or 0, and then where its APDU ends.
-#[derive(Drop)]
+#[derive(Clone, Copy)]
 pub struct Verdict {
     pub rule: u8,
     pub end: usize,

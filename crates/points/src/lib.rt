@@ -1,4 +1,5 @@
 // Readable group values: datapoint types 1, 5, 9 and 14, read from their bytes and written to them.
+#![tactic(auto)]
 ghost use Rattle.std.specs.Prelude.{◌≡◌};
 ghost use Rattle.octets.specs.Octets.{ReadFrom};
 ghost use Rattle.points.specs.Point.{type_of, width_at, point_at, Narrow, read_point, Put};
@@ -9,7 +10,7 @@ mod number;
 mod signs;
 
 // A value: a switch (type 1), a byte (5), a signed count of hundredths (9), a float (14).
-#[derive(Drop)]
+#[derive(Clone, Copy)]
 pub enum Datapoint {
     Switch(bool),
     Byte(u8),
@@ -18,7 +19,7 @@ pub enum Datapoint {
 }
 
 // What reading gave.
-#[derive(Drop)]
+#[derive(Clone, Copy)]
 pub enum Reading {
     Is(Datapoint),
     Refused(u8),

@@ -7,7 +7,7 @@ ghost use Rattle.points.specs.declared.Reading.TheVariants.{Is, Refused};
 use crate::{Datapoint, Reading, float, hundredths};
 
 // A number, or why there is none.
-#[derive(Drop)]
+#[derive(Clone, Copy)]
 pub struct Coding {
     pub refusal: u8,
     pub number: u32,

@@ -16,7 +16,7 @@ use std::num::wrapping_sub_u32;
 
 // The rule that an entry breaks, or 0. If 0: where the next entry stands, what it is judged against, what is late, and where the
 // body is to end.
-#[derive(Drop)]
+#[derive(Clone, Copy)]
 pub struct Verdict {
     pub rule: u8,
     pub at: usize,

@@ -1,4 +1,5 @@
 // The device sheet: its rules, its entries and their bodies.
+#![tactic(auto)]
 mod entry_rules;
 mod frame;
 mod head;
@@ -22,28 +23,28 @@ pub use walk::{OLD, check};
 
 // Where a value stands in the sheet, in numbers: 0 and 0 if there is none.
 #[repr(C)]
-#[derive(Drop)]
+#[derive(Clone, Copy)]
 pub struct Part {
     pub offset: usize,
     pub length: usize,
 }
 
 // A memory of the sheet: its regions are the entries of a kind.
-#[derive(Drop)]
+#[derive(Clone, Copy)]
 pub enum Memory {
     Device,
     User,
 }
 
 // A run of sheet bytes that an address range is, with the levels that it stands under.
-#[derive(Drop)]
+#[derive(Clone, Copy)]
 pub enum Run {
     At { offset: usize, levels: u8 },
     Nowhere,
 }
 
 // The fields of a property's entry, and where the entry stands.
-#[derive(Drop)]
+#[derive(Clone, Copy)]
 pub struct PropertyEntry {
     pub object: u8,
     pub id: u8,
@@ -57,7 +58,7 @@ pub struct PropertyEntry {
 }
 
 // The fields of a group object's entry.
-#[derive(Drop)]
+#[derive(Clone, Copy)]
 pub struct GroupEntry {
     pub code: usize,
     pub flags: u8,

@@ -54,7 +54,7 @@ fn kind_of(m: Memory) -> usize
 }
 
 // How far a run has come, and the rights that hold of all of it; an end of 0 if it comes no further.
-#[derive(Drop)]
+#[derive(Clone, Copy)]
 struct Reach {
     end: usize,
     levels: usize,

@@ -2,7 +2,7 @@
 ghost use Rattle.std.specs.Prelude.{◌<◌};
 
 // How long the sheet is, how many entries of each kind it was drawn up with, and whether every word about it was understood.
-#[derive(Drop)]
+#[derive(Clone, Copy)]
 pub struct Draft {
     pub len: usize,
     pub regions: usize,

@@ -3,6 +3,7 @@
 //   WORDS -> ANSWER | WHAT          a case: the words change a copy of the base, and the answer is its rule
 //   WORDS ? QUESTION -> ANSWER ..   the same, and the answer is that of a lookup (ask.rt)
 // Each case is written after `ok`, or after DIFFERENT with what it gave, and in the end how many there were.
+#![tactic(auto)]
 use ask::ask;
 use check::same;
 use draft::{Draft, empty};
@@ -21,7 +22,7 @@ mod names;
 mod words;
 
 // The base, and the cases so far.
-#[derive(Drop)]
+#[derive(Clone, Copy)]
 struct State {
     base: Draft,
     tally: Tally,

@@ -3,7 +3,7 @@ use crate::draft::{Draft, GROUPS, PROPERTIES, REGIONS, place};
 use lines::{before, beyond, number, piece, rest, starts};
 
 // So many bytes from a place on; no bytes are no field.
-#[derive(Drop)]
+#[derive(Clone, Copy)]
 pub struct Field {
     pub at: usize,
     pub width: usize,

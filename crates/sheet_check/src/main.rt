@@ -1,4 +1,5 @@
 // Reads a sheet from standard input, and writes OK, OLD or the rule that it breaks.
+#![tactic(auto)]
 ghost use Rattle.std.specs.Prelude.{◌≡◌, ◌≤◌, length};
 ghost use Rattle.sheet_check.specs.Input.{Within};
 ghost use Rattle.sheet_check.specs.Line.{line_of, said_of, Fronts};
@@ -7,7 +8,7 @@ use libc::{STDIN_FILENO, STDOUT_FILENO};
 use octets::splice;
 
 // How many bytes came before the input ended or the buffer was full, or that a read failed.
-#[derive(Drop)]
+#[derive(Clone, Copy)]
 pub enum Input {
     Bytes(usize),
     Failed,

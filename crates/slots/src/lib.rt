@@ -1,5 +1,6 @@
 // The sheet kept through power cuts: two slots in a medium that keeps its bytes, what stands in each, and a save as pieces of work.
 // Its C interface stands in `host`.
+#![tactic(auto)]
 mod choosing;
 mod crc;
 mod head;
@@ -14,7 +15,7 @@ pub use whole::judge;
 
 // Why a slot holds no sheet, or 0; and of a sheet its number, its place in the slot and its length.
 #[repr(C)]
-#[derive(Drop)]
+#[derive(Clone, Copy)]
 pub struct Slot {
     pub refusal: u8,
     pub number: u32,
@@ -25,7 +26,7 @@ pub struct Slot {
 // A slot that is handed over in parts: why it is refused already, or 0; number, length and check sum as its head states them, how
 // many bytes of the sheet are still to come, and the check sum of those that came.
 #[repr(C)]
-#[derive(Drop)]
+#[derive(Clone, Copy)]
 pub struct Judging {
     pub refusal: u8,
     pub number: u32,
@@ -37,7 +38,7 @@ pub struct Judging {
 
 // The slot that a save writes, 0 or 1, and the number that it gives.
 #[repr(C)]
-#[derive(Drop)]
+#[derive(Clone, Copy)]
 pub struct Target {
     pub slot: u8,
     pub number: u32,
@@ -46,7 +47,7 @@ pub struct Target {
 // A piece of work: why there is none, or 0; 0 none is left, 1 write the bytes of the buffer, 2 erase, 3 write the sheet; from which
 // byte of the slot on, and how many.
 #[repr(C)]
-#[derive(Drop)]
+#[derive(Clone, Copy)]
 pub struct Work {
     pub refusal: u8,
     pub work: u8,

@@ -1,4 +1,5 @@
 // The PDU layer for C: a PDU laid flat, read from bytes and written to bytes.
+#![tactic(auto)]
 ghost use Rattle.std.specs.Prelude.{◌≡◌, ◌≤◌};
 ghost use Rattle.octets.specs.Octets.{ReadFrom};
 ghost use Rattle.pdu.specs.Write.{write_count};
@@ -15,7 +16,7 @@ mod mean;
 
 // A PDU laid flat, in the order of include/kelindap_pdu.h, whose `type` is `typ` here.
 #[repr(C)]
-#[derive(Drop)]
+#[derive(Clone, Copy)]
 pub struct FlatPdu {
     pub serial: u64,
     pub key: u32,
@@ -40,7 +41,7 @@ pub struct FlatPdu {
 
 // What writing gave: the outcome, and the count of bytes filled.
 #[repr(C)]
-#[derive(Drop)]
+#[derive(Clone, Copy)]
 pub struct FlatWritten {
     pub outcome: u8,
     pub count: u8,
@@ -48,7 +49,7 @@ pub struct FlatWritten {
 
 // A frame laid flat, in the order of include/kelindap_frame.h.
 #[repr(C)]
-#[derive(Drop)]
+#[derive(Clone, Copy)]
 pub struct FlatFrame {
     pub source: u16,
     pub destination: u16,
@@ -66,7 +67,7 @@ pub struct FlatFrame {
 
 // What writing a frame gave: the count of bytes filled, and the outcome.
 #[repr(C)]
-#[derive(Drop)]
+#[derive(Clone, Copy)]
 pub struct Framed {
     pub count: u16,
     pub outcome: u8,
@@ -74,7 +75,7 @@ pub struct Framed {
 
 // A datapoint laid flat, in the order of include/kelindap_pdu.h, whose `type` is `kind` here.
 #[repr(C)]
-#[derive(Drop)]
+#[derive(Clone, Copy)]
 pub struct FlatPoint {
     pub hundredths: i32,
     pub bits: u32,
@@ -84,7 +85,7 @@ pub struct FlatPoint {
 }
 
 // The PDU that a flat one means, if its kind is known.
-#[derive(Drop)]
+#[derive(Clone, Copy)]
 pub enum Meant {
     Known(Pdu),
     Nothing,

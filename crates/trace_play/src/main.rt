@@ -1,5 +1,6 @@
 // Plays a recorded trace: standard input has a sheet, then the trace. Says each event, its outcome and answer, then the sessions
 // and whether the sheet changed; or by which rule the sheet, or by which number the trace, is refused.
+#![tactic(auto)]
 ghost use Rattle.std.specs.Prelude.{◌≡◌, ◌≤◌, length};
 ghost use Rattle.trace_play.specs.Input.{sheet_length};
 

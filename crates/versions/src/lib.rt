@@ -1,4 +1,5 @@
 // Versions of the settings, kept in a lent buffer.
+#![tactic(auto)]
 mod layout;
 mod linking;
 mod listing;

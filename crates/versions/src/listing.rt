@@ -8,7 +8,7 @@ use octets::word;
 
 // A version's number, and the length of its body; 0 and 0 if there is none.
 #[repr(C)]
-#[derive(Drop)]
+#[derive(Clone, Copy)]
 pub struct Listed {
     pub number: u16,
     pub long: u16,

@@ -68,7 +68,7 @@ fn append(s: &mut [u8], n: usize, end: usize, number: u16, long: u16, sheet: &[u
 
 // The outcome, and the number given, 0 on a refusal.
 #[repr(C)]
-#[derive(Drop)]
+#[derive(Clone, Copy)]
 pub struct Saved {
     pub outcome: u8,
     pub number: u16,

@@ -8,7 +8,7 @@ ghost use Rattle.versions.specs.Walk.{Extents};
 use octets::{put, splice};
 
 // Where the entries of the properties stand in a sheet, and their bodies.
-#[derive(Drop)]
+#[derive(Clone, Copy)]
 pub struct Extent {
     pub count: usize,
     pub entries: usize,

@@ -38,7 +38,7 @@ pub fn bodies_end(s: &[u8], n: usize) -> usize
 }
 
 // A version in a store: whether it is kept, where its body stands and how long it is.
-#[derive(Drop)]
+#[derive(Clone, Copy)]
 pub struct Place {
     pub kept: bool,
     pub at: usize,

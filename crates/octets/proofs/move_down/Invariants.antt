@@ -1,0 +1,11 @@
+-- `octets::move_down` meets its contract. The invariant: the first j bytes have been moved.
+use Rattle.octets.proofs.Kit.{ℕ, ◌+◌, ◌≤◌, ◌-◌, ◌≡◌, ap, ◌∙◌, refl, List, arith, rules, length, length-set, set, get_or}
+use Rattle.octets.specs.Moved.{moved}
+use Rattle.octets.proofs.{Moves.{moved_none, move_first}}
+use Rattle.octets.proofs.move_down.Given as goal
+
+abbrev pub invariant-loop-j : goal.invariant-loop-j
+invariant-loop-j l = (l.j ≤ l.n) × (l.s ≡ moved l.initial.s l.from l.to l.j) × (length l.s ≡ length l.initial.s)
+
+abbrev pub decreases-loop-j : goal.decreases-loop-j
+decreases-loop-j l = l.n - l.j
