@@ -159,7 +159,7 @@ fn bit_of(on: bool) -> u8
 // The flags with programming mode set or cleared, verify as it was.
 fn flags_with(s: &[u8], on: bool) -> u8
     requires { Accepted s.now }
-    ensures { result ≡ head.flags of (λ x. x.now) s.entry - head.programming s.now + bit on }
+    ensures { result ≡ head.flags of s.now - head.programming s.now + bit on }
 {
     let f = sheet::flags(s);
     f - f % 2 + bit_of(on)

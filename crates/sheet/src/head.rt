@@ -10,14 +10,14 @@ use octets::{byte, number};
 
 // The serial number.
 pub fn serial(s: &[u8]) -> u64
-    ensures { result ≡ head.serial of (λ x. x.now) s.entry }
+    ensures { result ≡ head.serial of s.now }
 {
     number(s, head::SERIAL, 6)
 }
 
 // The mask version.
 pub fn mask(s: &[u8]) -> u16
-    ensures { result ≡ head.mask of (λ x. x.now) s.entry }
+    ensures { result ≡ head.mask of s.now }
 {
     number(s, head::MASK, 2) as u16
 }
@@ -35,7 +35,7 @@ pub fn rules_of(s: &[u8]) -> u8
 // Programming mode in bit 0, verify in bit 1.
 pub fn flags(s: &[u8]) -> u8
     requires { Accepted s.now }
-    ensures { (result ≡ head.flags of (λ x. x.now) s.entry) × (result ≤ 3) }
+    ensures { (result ≡ head.flags of s.now) × (result ≤ 3) }
 {
     byte(s, head::FLAGS) as u8
 }
@@ -43,7 +43,7 @@ pub fn flags(s: &[u8]) -> u8
 // The key of a level.
 pub fn key(s: &[u8], l: usize) -> u32
     requires { l < 3 }
-    ensures { result ≡ head.key l of (λ x. x.now) s.entry }
+    ensures { result ≡ head.key l of s.now }
 {
     number(s, head::KEYS + 4 * l, 4) as u32
 }

@@ -16,15 +16,15 @@ use octets::{byte, word};
 // Where the region of entry e ends.
 fn end_of(e: &[u8]) -> usize
     requires { region.size ≤ length e.now }
-    ensures { (result ≡ region.address of (λ x. x.now) e.entry + region.length of (λ x. x.now) e.entry) × (result < 131072) }
+    ensures { (result ≡ region.address of e.now + region.length of e.now) × (result < 131072) }
 {
     word(e, region::ADDRESS) + word(e, region::LENGTH)
 }
 
 // Where address a of that region stands.
 fn place_in(e: &[u8], a: usize) -> usize
-    requires { (region.size ≤ length e.now) × (region.address of (λ x. x.now) e ≤ a) × (a < 65536) }
-    ensures { result ≡ region.offset of (λ x. x.now) e.entry + (a - region.address of (λ x. x.now) e.entry) }
+    requires { (region.size ≤ length e.now) × (region.address of e.now ≤ a) × (a < 65536) }
+    ensures { result ≡ region.offset of e.now + (a - region.address of e.now) }
 {
     word(e, region::OFFSET) + (a - word(e, region::ADDRESS))
 }

@@ -117,7 +117,7 @@ pub fn length(k: usize, e: &[u8]) -> usize
 // The elements of a property, in 32 bits.
 pub fn narrow_elements(e: &[u8]) -> u32
     requires { (property.maximum).at + 1 < length e.now }
-    ensures { (result ≡ property.element of (λ x. x.now) e.entry * property.maximum of (λ x. x.now) e.entry) × (result < 16777216) }
+    ensures { (result ≡ property.element of e.now * property.maximum of e.now) × (result < 16777216) }
 {
     narrow_byte(e, property::ELEMENT) * narrow_word(e, property::MAXIMUM)
 }
@@ -125,7 +125,7 @@ pub fn narrow_elements(e: &[u8]) -> u32
 // The same as a length.
 pub fn elements(e: &[u8]) -> usize
     requires { (property.maximum).at + 1 < length e.now }
-    ensures { (result ≡ property.element of (λ x. x.now) e.entry * property.maximum of (λ x. x.now) e.entry) × (result < 16777216) }
+    ensures { (result ≡ property.element of e.now * property.maximum of e.now) × (result < 16777216) }
 {
     narrow_elements(e) as usize
 }

@@ -1,0 +1,7 @@
+-- `cemi::writing::encode` meets its contract. Assumes nothing.
+use Rattle.octets.proofs.Kit.{rules}
+use Rattle.cemi.proofs.{Stores.all_put}
+use Rattle.cemi.proofs.writing.encode.Goals as goal
+
+pub returns : goal.returns
+returns c = search all_put

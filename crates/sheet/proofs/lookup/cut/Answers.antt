@@ -1,0 +1,7 @@
+-- `sheet::lookup::cut` meets its contract.
+use Rattle.octets.proofs.Kit.{rules}
+use Rattle.sheet.proofs.{places.Parts.cut_out_lem}
+use Rattle.sheet.proofs.lookup.cut.Goals as goal
+
+pub returns : goal.returns
+returns c = search cut_out_lem

@@ -1,0 +1,10 @@
+-- `sheet::lookup::lower` meets its contract. The invariant: before lo the first words are below the key, from hi on they are not.
+use Rattle.octets.proofs.Kit.{◌-◌, rules, arith}
+use Rattle.sheet.proofs.{searches.{SearchLoops.ok_framed, Halves.{Halved, halves_begin, half_there, upper_half, lower_half, halves_end}}}
+use Rattle.sheet.proofs.lookup.lower.Given as goal
+
+abbrev pub invariant-loop-lo : goal.invariant-loop-lo
+invariant-loop-lo l = Halved l.s l.k l.key l.lo l.hi
+
+abbrev pub decreases-loop-lo : goal.decreases-loop-lo
+decreases-loop-lo l = l.hi - l.lo

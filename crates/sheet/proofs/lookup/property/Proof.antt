@@ -1,7 +1,0 @@
--- `sheet::lookup::property` meets its contract.
-use Rattle.octets.proofs.Kit.{needs}
-use Rattle.sheet.proofs.{places.Parts.{part_in, part_of}, lookup.property.Statement.statement}
-use Rattle.sheet.proofs.lookup.property.Tie as tie
-
-pub property_spec : {M : Type 1} → statement M
-property_spec = tie.close (tie.spec (λ c κs. search needs) (λ c κs. search (part_in, needs)) (λ c. search part_of))
