@@ -123,4 +123,4 @@ returns-in_default-3 c =
     lost services x
     (outside services
     (0x2C2 ∷ 0x2C1 ∷ 0x2C0 ∷ 0x3D4 ∷ 0x3D2 ∷ 0x3D9 ∷ 0x3D6 ∷ 0x3DD ∷ 0x140 ∷ 0x380 ∷ 0x3D3 ∷ 0x3D1 ∷ 0x3D0 ∷ 0x3D8 ∷ 0x3D7 ∷ 0x3D5 ∷ 0x3DE ∷ 0x3DC ∷ 0x100 ∷ 0x0C0 ∷ 0x000 ∷ [])
-    (13 ∷ 12 ∷ 2 ∷ 1 ∷ []) (40 ∷ 36 ∷ 32 ∷ []) x tt c.in_default.rest c.in_default-2.rest c.in_default-3.rest)
+    (13 ∷ 12 ∷ 2 ∷ 1 ∷ []) (40 ∷ 36 ∷ 32 ∷ []) x tt c.in_default.in_default-own.rest c.in_default-2.in_default-2-own.rest c.in_default-3.in_default-3-own.rest)

@@ -5,7 +5,7 @@ use Rattle.sheet.proofs.{rules.Entries.starts}
 use Rattle.sheet.proofs.table.offset.Goals as goal
 
 pub word-requires-in-1 : goal.word-requires-in-1
-word-requires-in-1 c = omega (arith, c.requires.long ∙ ap size c.in-1.keys2)
+word-requires-in-1 c = omega (arith, c.requires.long ∙ ap size c.in-1.is)
 
 pub returns-in-0 : goal.returns-in-0
 returns-in-0 c = starts (search rules) (search rules)

@@ -23,7 +23,7 @@ group_step-requires c = search (place_near, rules)
 
 pub part-requires-in_default : goal.part-requires-in_default
 part-requires-in_default c =
-    let e : c.args.k ≡ 3 = omega (arith, c.in_default.rest, c.requires.0.kind) in
+    let e : c.args.k ≡ 3 = omega (arith, c.in_default.in_default-own.rest, c.requires.0.kind) in
     search (entry_there, place_there)
 
 pub region_step-requires-in_default : goal.region_step-requires-in_default
@@ -40,5 +40,5 @@ returns-in-2 c = search says_group
 
 pub returns-in_default : goal.returns-in_default
 returns-in_default c =
-    let e : c.args.k ≡ 3 = omega (arith, c.in_default.rest, c.requires.0.kind) in
+    let e : c.args.k ≡ 3 = omega (arith, c.in_default.in_default-own.rest, c.requires.0.kind) in
     search says_user
