@@ -1,0 +1,6 @@
+-- `judge::addresses::in_programming` meets its contract.
+use Rattle.octets.proofs.Kit.{rules}
+use Rattle.judge.proofs.addresses.in_programming.Goals as goal
+
+pub returns : goal.returns
+returns c = simp c.flags.ensures.0

@@ -1,0 +1,7 @@
+-- `judge::memory::bit_write` meets its contract.
+use Rattle.octets.proofs.Kit.{rules}
+use Rattle.judge.proofs.{Memories.changed_at}
+use Rattle.judge.proofs.memory.bit_write.Goals as goal
+
+pub returns : goal.returns
+returns c = search changed_at

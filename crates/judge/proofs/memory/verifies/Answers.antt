@@ -1,0 +1,6 @@
+-- `judge::memory::verifies` meets its contract.
+use Rattle.octets.proofs.Kit.{rules}
+use Rattle.judge.proofs.memory.verifies.Goals as goal
+
+pub returns : goal.returns
+returns c = simp c.flags.ensures.0

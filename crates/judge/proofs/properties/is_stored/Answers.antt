@@ -1,0 +1,10 @@
+-- `judge::properties::is_stored` meets its contract.
+use Rattle.octets.proofs.Kit.{rules, arith}
+use Rattle.octets.proofs.Tests.{branches}
+use Rattle.judge.proofs.properties.is_stored.Goals as goal
+
+pub returns-then-elements : goal.returns-then-elements
+returns-then-elements c = search (branches, arith)
+
+pub returns : goal.returns
+returns c = search (branches, arith)

@@ -1,0 +1,7 @@
+-- `judge::properties::run` meets its contract.
+use Rattle.octets.proofs.Kit.{rules}
+use Rattle.judge.proofs.{Values.run_is}
+use Rattle.judge.proofs.properties.run.Goals as goal
+
+pub returns : goal.returns
+returns c = search run_is
