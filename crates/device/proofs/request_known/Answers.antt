@@ -1,0 +1,73 @@
+-- `device::request_known` meets its contract: what nothing refuses unread is read and judged on the session that it meets, what was judged is carried out, what was carried out is answered.
+-- refused before it was read
+use Rattle.octets.proofs.Kit.{rules}
+use Rattle.pdu.proofs.Reading.{named}
+use Rattle.device.proofs.calls.Requests.{changes_need, carry_needs, answer_needs, did, changes, refused_did, refused_changes, still_accepted, goes_on}
+use Rattle.device.proofs.request_known.Goals as goal
+
+pub returns-then-n-ne0 : goal.returns-then-n-ne0
+returns-then-n-ne0 c =
+    let a = c.before.args in
+    record {
+      call =
+          record {
+            did =
+                refused_did a.sessions a.mode a.connection a.group a.apdu.now a.sheet.now a.answer.now _ _ c.session_for.ensures c.refused_unread-n.ensures
+                c.if-n-ne0.true;
+            sheet_bytes = λ i. (c.slice-known.given i).fits;
+            apdu_bytes = λ i. (c.shared-slice-known.given i).fits;
+          };
+      changed =
+          refused_changes a.sessions a.mode a.connection a.group a.apdu.now a.sheet.now a.answer.now _ _ c.session_for.ensures c.refused_unread-n.ensures
+          c.if-n-ne0.true;
+    }
+
+pub read_found-parsed-requires : goal.read_found-parsed-requires
+read_found-parsed-requires c = search named
+
+pub found-k-requires : goal.found-k-requires
+found-k-requires c = search still_accepted
+
+pub changes-changed-requires : goal.changes-changed-requires
+changes-changed-requires c =
+    let judged =
+    goes_on _ _ _ _ _ _ _ _ _ _ _ c.refused_unread.ensures c.if1.false (named _ _ _ c.code.ensures c.service_of.ensures)
+    c.read_found.ensures c.data_in.ensures c.found.ensures
+    in
+    changes_need _ _ _ _ _ _ _ _ _ c.read_found.ensures c.data_in.ensures judged
+
+pub carry_out-requires : goal.carry_out-requires
+carry_out-requires c =
+    let judged =
+    goes_on _ _ _ _ _ _ _ _ _ _ _ c.refused_unread.ensures c.if1.false (named _ _ _ c.code.ensures c.service_of.ensures)
+    c.read_found.ensures c.data_in.ensures c.found.ensures
+    in
+    carry_needs _ _ _ _ _ _ _ _ _ c.read_found.ensures c.data_in.ensures judged
+
+pub answer-count-requires : goal.answer-count-requires
+answer-count-requires c =
+    let judged =
+    goes_on _ _ _ _ _ _ _ _ _ _ _ c.refused_unread.ensures c.if1.false (named _ _ _ c.code.ensures c.service_of.ensures)
+    c.read_found.ensures c.data_in.ensures c.found.ensures
+    in
+    answer_needs _ _ _ _ _ _ _ _ _ c.read_found.ensures c.data_in.ensures judged _ c.carry_out.ensures
+
+pub returns : goal.returns
+returns c =
+    let judged =
+    goes_on _ _ _ _ _ _ _ _ _ _ _ c.refused_unread.ensures c.if1.false (named _ _ _ c.code.ensures c.service_of.ensures)
+    c.read_found.ensures c.data_in.ensures c.found.ensures
+    in
+    
+    
+    record {
+      call =
+          record {
+            did =
+                did _ _ _ _ _ _ _ _ _ c.read_found.ensures c.data_in.ensures judged _ c.carry_out.ensures _ _ _ _ _ _ c.answer-count.ensures
+                c.session_for.ensures c.turned.ensures;
+            sheet_bytes = λ i. (c.slice-known.given i).fits;
+            apdu_bytes = λ i. (c.before.shared-slice-known.given i).fits;
+          };
+      changed = changes _ _ _ _ _ _ _ _ _ c.read_found.ensures c.data_in.ensures judged _ _ _ c.changes.ensures c.session_for.ensures;
+    }

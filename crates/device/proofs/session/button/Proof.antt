@@ -1,8 +1,0 @@
--- `device::session::button` meets its contract: of the sheet nothing is known.
-use Rattle.octets.proofs.Kit.{needs}
-use Rattle.octets.proofs.Truths.{never}
-use Rattle.device.proofs.session.button.Statement.{statement}
-use Rattle.device.proofs.session.button.Tie as tie
-
-pub button_spec : {M : Type 1} → statement M
-button_spec = tie.close (tie.spec (λ c κs. λ e. never e) (λ c. search needs) (λ c. search needs))

@@ -1,0 +1,7 @@
+-- `device::session::connect` meets its contract.
+use Rattle.octets.proofs.Kit.{rules}
+use Rattle.device.proofs.{calls.Turns.named_both}
+use Rattle.device.proofs.session.connect.Goals as goal
+
+pub returns : goal.returns
+returns c = search named_both

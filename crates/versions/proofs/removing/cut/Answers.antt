@@ -1,0 +1,7 @@
+-- `versions::removing::cut` meets its contract.
+use Rattle.octets.proofs.Kit.{rules}
+use Rattle.versions.proofs.{Removals.cut_steps}
+use Rattle.versions.proofs.removing.cut.Goals as goal
+
+pub returns : goal.returns
+returns c = search cut_steps

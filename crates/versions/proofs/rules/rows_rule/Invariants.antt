@@ -1,0 +1,10 @@
+-- `versions::rules::rows_rule` meets its contract: what is left to judge gives what all rows give.
+use Rattle.octets.proofs.Kit.{◌-◌, rules, arith}
+use Rattle.versions.proofs.{Rows.{Walked, walk_begin, walk_row, walk_stop, walk_go, walk_end}}
+use Rattle.versions.proofs.rules.rows_rule.Given as goal
+
+abbrev pub invariant-loop-i : goal.invariant-loop-i
+invariant-loop-i l = Walked l.s l.n l.i l.p l.floor l.at
+
+abbrev pub decreases-loop-i : goal.decreases-loop-i
+decreases-loop-i l = l.n - l.i

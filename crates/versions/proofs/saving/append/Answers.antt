@@ -1,0 +1,7 @@
+-- `versions::saving::append` meets its contract.
+use Rattle.octets.proofs.Kit.{rules}
+use Rattle.versions.proofs.{Saves.append_steps}
+use Rattle.versions.proofs.saving.append.Goals as goal
+
+pub returns : goal.returns
+returns c = search append_steps

@@ -1,0 +1,7 @@
+-- `versions::settings::give_back` meets its contract.
+use Rattle.octets.proofs.Kit.{rules}
+use Rattle.versions.proofs.{Restorer.given_steps}
+use Rattle.versions.proofs.settings.give_back.Goals as goal
+
+pub returns : goal.returns
+returns c = search given_steps

@@ -1,0 +1,10 @@
+-- `versions::table::bodies_end` meets its contract: what is left to add gives what all of it gives.
+use Rattle.octets.proofs.Kit.{◌-◌, arith}
+use Rattle.versions.proofs.{Loops.{Ending, end_begin, end_go, end_end}}
+use Rattle.versions.proofs.table.bodies_end.Given as goal
+
+abbrev pub invariant-loop-i : goal.invariant-loop-i
+invariant-loop-i l = Ending l.s l.n l.i l.p l.at
+
+abbrev pub decreases-loop-i : goal.decreases-loop-i
+decreases-loop-i l = l.n - l.i

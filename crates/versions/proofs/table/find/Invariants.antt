@@ -1,0 +1,10 @@
+-- `versions::table::find` meets its contract. The invariant: no row passed has the number.
+use Rattle.octets.proofs.Kit.{◌-◌, arith}
+use Rattle.versions.proofs.{Loops.{Sought, seek_begin, seek_found, seek_go, seek_end}}
+use Rattle.versions.proofs.table.find.Given as goal
+
+abbrev pub invariant-loop-i : goal.invariant-loop-i
+invariant-loop-i l = Sought l.s l.n l.number l.i
+
+abbrev pub decreases-loop-i : goal.decreases-loop-i
+decreases-loop-i l = l.n - l.i
