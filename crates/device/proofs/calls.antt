@@ -7,4 +7,3 @@ pub mod Turns
 pub mod Pressing
 pub mod Room
 pub mod Requests
-pub mod InPlace

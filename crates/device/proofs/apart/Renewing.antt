@@ -11,7 +11,7 @@ use Rattle.judge.specs.{declared.{Session.Session, Store.Store, Decision.Decisio
 use Rattle.judge.specs.declared.Store.TheVariants as store
 use Rattle.device.specs.{Carry.{padded, build, bit_at, store_of}, Safe.StoreSafe, Step.{step_by, step_with, step_of}, Events.{bit, pressed, button_sheet}}
 use Rattle.device.proofs.{leaves.{Bits.length_build, Stays.{request_agrees, button_agrees}}, calls.Safe.safe}
-use Rattle.device.proofs.apart.{StepBut.{StoreSpares, Spares, AlikeBut, bits_same, spares_fewer, step_but}, PastHead.past_head, Unseen.SameThere, Judging.judge_by_lem}
+use Rattle.device.proofs.apart.{StepBut.{StoreSpares, Spares, AlikeBut, bits_same, spares_fewer, step_but}, PastHead.{InHead, past_head}, Unseen.SameThere, Judging.judge_by_lem}
 
 -- u and v are the same but for byte 0, which is b in v, or as in u
 pub record Fronted (b : ℕ) (u v : List ℕ) : Type 0 where
@@ -150,7 +150,7 @@ module _ {s s' : List ℕ} (r : Renews s s') where
         ∙ judge_by_lem seen q mode group a (inl same_rules) (refusal_of s') room
 
     past : Spares EditionByte d k
-    past = spares_fewer (λ p e. omega arith) d k (past_head room s' q mode group a)
+    past = spares_fewer {H = InHead} {H' = EditionByte} (λ p e. omega arith) d k (past_head room s' q mode group a)
 
     -- the same outcome, answer and session
     pub request_same : AlikeBut EditionByte (step_of room s' q mode group a) (step_with (refusal_before s) room s q mode group a)

@@ -6,7 +6,7 @@ use Rattle.sheet.specs.Head as head
 use Rattle.pdu.specs.Read.{read_pdu}
 use Rattle.judge.specs.{declared.{Session.Session, Decision.Decision}, Judge.{judge_of, data_in}}
 use Rattle.device.specs.{Asked.Asked, Step.{step_by, step_of}, Apart.{RulesByte, SameButRules, Undisputed, SameStep}}
-use Rattle.device.proofs.{calls.Safe.safe, leaves.Stays.request_agrees, apart.{StepBut.{AlikeBut, spares_fewer, step_but}, PastHead.past_head, Unseen.SameThere, Judging.judge_same}}
+use Rattle.device.proofs.{calls.Safe.safe, leaves.Stays.request_agrees, apart.{StepBut.{AlikeBut, spares_fewer, step_but}, PastHead.{InHead, past_head}, Unseen.SameThere, Judging.judge_same}}
 
 -- what judging reads but for the number of the rules is the same
 pub seen : {s s' : List ℕ} → SameButRules s s' → SameThere s s'
@@ -38,7 +38,7 @@ module _ (room : ℕ) {s s' : List ℕ} (q : Session) (mode group : ℕ) (a : Li
       let d : List ℕ = data_in (read_pdu a) a in
       let k : Decision = judge_of room s q mode group a in
       subst (λ (z : Decision). AlikeBut RulesByte (step_by s q d k) (step_by s' q d z)) (sym judged)
-      (step_but b.others q d k (safe room s q mode group a) (spares_fewer (λ p e. omega arith) d k (past_head room s q mode group a)))
+      (step_but b.others q d k (safe room s q mode group a) (spares_fewer {H = InHead} {H' = RulesByte} (λ p e. omega arith) d k (past_head room s q mode group a)))
 
   -- THE RULES ARE AT ODDS ABOUT NO OTHER REQUEST
   pub rules_apart : SameStep (step_of room s q mode group a) (step_of room s' q mode group a)

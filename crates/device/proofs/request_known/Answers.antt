@@ -1,5 +1,4 @@
 -- `device::request_known` meets its contract: what nothing refuses unread is read and judged on the session that it meets, what was judged is carried out, what was carried out is answered.
--- refused before it was read
 use Rattle.octets.proofs.Kit.{rules}
 use Rattle.pdu.proofs.Reading.{named}
 use Rattle.device.proofs.calls.Requests.{changes_need, carry_needs, answer_needs, did, changes, refused_did, refused_changes, still_accepted, goes_on}
@@ -7,18 +6,18 @@ use Rattle.device.proofs.request_known.Goals as goal
 
 pub returns-then-n-ne0 : goal.returns-then-n-ne0
 returns-then-n-ne0 c =
-    let a = c.before.args in
+    let a = c.args in
     record {
       call =
           record {
             did =
-                refused_did a.sessions a.mode a.connection a.group a.apdu.now a.sheet.now a.answer.now _ _ c.session_for.ensures c.refused_unread-n.ensures
+                refused_did a.sessions a.mode a.connection a.group a.apdu.now a.sheet.now a.answer.now _ _ c.session_for-session.ensures c.refused_unread-n.ensures
                 c.if-n-ne0.true;
-            sheet_bytes = λ i. (c.slice-known.given i).fits;
-            apdu_bytes = λ i. (c.shared-slice-known.given i).fits;
+            sheet_bytes = λ i. (c.slice_known-1.given i).fits;
+            apdu_bytes = λ i. (c.type_inv.apdu i).fits;
           };
       changed =
-          refused_changes a.sessions a.mode a.connection a.group a.apdu.now a.sheet.now a.answer.now _ _ c.session_for.ensures c.refused_unread-n.ensures
+          refused_changes a.sessions a.mode a.connection a.group a.apdu.now a.sheet.now a.answer.now _ _ c.session_for-session.ensures c.refused_unread-n.ensures
           c.if-n-ne0.true;
     }
 
@@ -31,43 +30,41 @@ found-k-requires c = search still_accepted
 pub changes-changed-requires : goal.changes-changed-requires
 changes-changed-requires c =
     let judged =
-    goes_on _ _ _ _ _ _ _ _ _ _ _ c.refused_unread.ensures c.if1.false (named _ _ _ c.code.ensures c.service_of.ensures)
-    c.read_found.ensures c.data_in.ensures c.found.ensures
+    goes_on _ _ _ _ _ _ _ _ _ _ _ c.refused_unread-n.ensures c.if-n-ne0.false (named _ _ _ c.code.ensures c.service_of-found.ensures)
+    c.read_found-parsed.ensures c.data_in-d.ensures c.found-k.ensures
     in
-    changes_need _ _ _ _ _ _ _ _ _ c.read_found.ensures c.data_in.ensures judged
+    changes_need _ _ _ _ _ _ _ _ _ c.read_found-parsed.ensures c.data_in-d.ensures judged
 
 pub carry_out-requires : goal.carry_out-requires
 carry_out-requires c =
     let judged =
-    goes_on _ _ _ _ _ _ _ _ _ _ _ c.refused_unread.ensures c.if1.false (named _ _ _ c.code.ensures c.service_of.ensures)
-    c.read_found.ensures c.data_in.ensures c.found.ensures
+    goes_on _ _ _ _ _ _ _ _ _ _ _ c.refused_unread-n.ensures c.if-n-ne0.false (named _ _ _ c.code.ensures c.service_of-found.ensures)
+    c.read_found-parsed.ensures c.data_in-d.ensures c.found-k.ensures
     in
-    carry_needs _ _ _ _ _ _ _ _ _ c.read_found.ensures c.data_in.ensures judged
+    carry_needs _ _ _ _ _ _ _ _ _ c.read_found-parsed.ensures c.data_in-d.ensures judged
 
 pub answer-count-requires : goal.answer-count-requires
 answer-count-requires c =
     let judged =
-    goes_on _ _ _ _ _ _ _ _ _ _ _ c.refused_unread.ensures c.if1.false (named _ _ _ c.code.ensures c.service_of.ensures)
-    c.read_found.ensures c.data_in.ensures c.found.ensures
+    goes_on _ _ _ _ _ _ _ _ _ _ _ c.refused_unread-n.ensures c.if-n-ne0.false (named _ _ _ c.code.ensures c.service_of-found.ensures)
+    c.read_found-parsed.ensures c.data_in-d.ensures c.found-k.ensures
     in
-    answer_needs _ _ _ _ _ _ _ _ _ c.read_found.ensures c.data_in.ensures judged _ c.carry_out.ensures
+    answer_needs _ _ _ _ _ _ _ _ _ c.read_found-parsed.ensures c.data_in-d.ensures judged _ c.carry_out.ensures
 
 pub returns : goal.returns
 returns c =
     let judged =
-    goes_on _ _ _ _ _ _ _ _ _ _ _ c.refused_unread.ensures c.if1.false (named _ _ _ c.code.ensures c.service_of.ensures)
-    c.read_found.ensures c.data_in.ensures c.found.ensures
+    goes_on _ _ _ _ _ _ _ _ _ _ _ c.refused_unread-n.ensures c.if-n-ne0.false (named _ _ _ c.code.ensures c.service_of-found.ensures)
+    c.read_found-parsed.ensures c.data_in-d.ensures c.found-k.ensures
     in
-    
-    
     record {
       call =
           record {
             did =
-                did _ _ _ _ _ _ _ _ _ c.read_found.ensures c.data_in.ensures judged _ c.carry_out.ensures _ _ _ _ _ _ c.answer-count.ensures
-                c.session_for.ensures c.turned.ensures;
-            sheet_bytes = λ i. (c.slice-known.given i).fits;
-            apdu_bytes = λ i. (c.before.shared-slice-known.given i).fits;
+                did _ _ _ _ _ _ _ _ _ c.read_found-parsed.ensures c.data_in-d.ensures judged _ c.carry_out.ensures _ _ _ _ _ _ c.answer-count.ensures
+                c.session_for-session.ensures c.turned.ensures;
+            sheet_bytes = λ i. (c.slice_known-1.given i).fits;
+            apdu_bytes = λ i. (c.type_inv.apdu i).fits;
           };
-      changed = changes _ _ _ _ _ _ _ _ _ c.read_found.ensures c.data_in.ensures judged _ _ _ c.changes.ensures c.session_for.ensures;
+      changed = changes _ _ _ _ _ _ _ _ _ c.read_found-parsed.ensures c.data_in-d.ensures judged _ _ _ c.changes-changed.ensures c.session_for-session.ensures;
     }

@@ -7,14 +7,14 @@ pub returns-then-is_silent : goal.returns-then-is_silent
 returns-then-is_silent c = search silence
 
 pub encode-i-requires : goal.encode-i-requires
-encode-i-requires c = pdu_needs c.args.s.now c.args.d.now c.args.a _ _ c.args.out.now c.requires c.is_silent.ensures c.if1.false c.pdu_in.ensures
+encode-i-requires c = pdu_needs c.args.s.now c.args.d.now c.args.a _ _ c.args.out.now c.requires c.is_silent.ensures c.if-is_silent.false c.pdu_in-p.ensures
 
 pub data_behind-requires : goal.data_behind-requires
 data_behind-requires c =
-    data_needs c.args.s.now c.args.d.now c.args.a _ _ c.args.out.now c.requires c.is_silent.ensures c.if1.false c.pdu_in.ensures
+    data_needs c.args.s.now c.args.d.now c.args.a _ _ c.args.out.now c.requires c.is_silent.ensures c.if-is_silent.false c.pdu_in-p.ensures
     _ _ c.encode-i.ensures.0 c.encode-i.ensures.1
 
 pub returns : goal.returns
 returns c =
-    all_sent c.args.s.now c.args.d.now c.args.a _ _ c.args.out.now c.requires c.is_silent.ensures c.if1.false c.pdu_in.ensures
+    all_sent c.args.s.now c.args.d.now c.args.a _ _ c.args.out.now c.requires c.is_silent.ensures c.if-is_silent.false c.pdu_in-p.ensures
     _ _ c.encode-i.ensures.0 c.encode-i.ensures.1 _ _ c.data_behind.ensures

@@ -4,31 +4,31 @@ use Rattle.device.proofs.{due.Runs.{via_padded, via_part, number_at, number_long
 use Rattle.device.proofs.store.part.Goals as goal
 
 pub overflow_cast-result : goal.overflow_cast-result
-overflow_cast-result c = omega (arith, number_at _ _ _ c.requires _ _ _ c.run-1.is)
+overflow_cast-result c = omega (arith, number_at _ _ _ c.requires _ _ _ c.in-Number.is)
 
 pub overflow_cast-result-in-Number : goal.overflow_cast-result-in-Number
-overflow_cast-result-in-Number c = omega (arith, number_long _ _ _ c.requires _ _ _ c.run-1.is)
+overflow_cast-result-in-Number c = omega (arith, number_long _ _ _ c.requires _ _ _ c.in-Number.is)
 
 pub overflow_cast-result-in-Data : goal.overflow_cast-result-in-Data
-overflow_cast-result-in-Data c = omega (arith, data_at_lem _ _ _ c.requires _ _ c.run-in-Data-1.is)
+overflow_cast-result-in-Data c = omega (arith, data_at_lem _ _ _ c.requires _ _ c.in-Data.is)
 
 pub overflow_add-result : goal.overflow_add-result
-overflow_add-result c = let h = via_padded _ _ _ _ _ c.requires.0 c.run-in-Data-1.is in omega (arith, h)
+overflow_add-result c = let h = via_padded _ _ _ _ _ c.requires.0 c.in-Data.is in omega (arith, h)
 
 pub overflow_cast-result-in-Data-2 : goal.overflow_cast-result-in-Data-2
-overflow_cast-result-in-Data-2 c = omega (arith, data_long _ _ _ c.requires _ _ c.run-in-Data-1.is)
+overflow_cast-result-in-Data-2 c = omega (arith, data_long _ _ _ c.requires _ _ c.in-Data.is)
 
 pub overflow_cast-result-in-Bits : goal.overflow_cast-result-in-Bits
-overflow_cast-result-in-Bits c = omega (arith, bits_at _ _ _ c.requires _ _ c.run-in-Bits-1.is)
+overflow_cast-result-in-Bits c = omega (arith, bits_at _ _ _ c.requires _ _ c.in-Bits.is)
 
 pub overflow_cast-result-in-Bits-2 : goal.overflow_cast-result-in-Bits-2
-overflow_cast-result-in-Bits-2 c = omega (arith, bits_long _ _ _ c.requires _ _ c.run-in-Bits-1.is)
+overflow_cast-result-in-Bits-2 c = omega (arith, bits_long _ _ _ c.requires _ _ c.in-Bits.is)
 
 pub overflow_cast-result-in-Fill : goal.overflow_cast-result-in-Fill
-overflow_cast-result-in-Fill c = omega (arith, fill_at _ _ _ c.requires _ _ _ c.run-in-Fill-1.is)
+overflow_cast-result-in-Fill c = omega (arith, fill_at _ _ _ c.requires _ _ _ c.in-Fill.is)
 
 pub overflow_cast-result-in-Fill-2 : goal.overflow_cast-result-in-Fill-2
-overflow_cast-result-in-Fill-2 c = omega (arith, fill_long _ _ _ c.requires _ _ _ c.run-in-Fill-1.is)
+overflow_cast-result-in-Fill-2 c = omega (arith, fill_long _ _ _ c.requires _ _ _ c.in-Fill.is)
 
 pub returns-in-Nothing : goal.returns-in-Nothing
 returns-in-Nothing c = search via_part

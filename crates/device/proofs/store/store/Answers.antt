@@ -4,16 +4,16 @@ use Rattle.device.proofs.{due.Runs.{via_safe, via_padded, via_store}}
 use Rattle.device.proofs.store.store.Goals as goal
 
 pub put-requires : goal.put-requires
-put-requires c = via_safe _ _ _ _ c.requires c.run-1.is
+put-requires c = via_safe _ _ _ _ c.requires c.in-Number.is
 
 pub put_padded-requires : goal.put_padded-requires
-put_padded-requires c = via_padded _ _ _ _ _ c.requires c.run-in-Data-1.is
+put_padded-requires c = via_padded _ _ _ _ _ c.requires c.in-Data.is
 
 pub bits-requires : goal.bits-requires
-bits-requires c = via_safe _ _ _ _ c.requires c.run-in-Bits-1.is
+bits-requires c = via_safe _ _ _ _ c.requires c.in-Bits.is
 
 pub fill-requires : goal.fill-requires
-fill-requires c = via_safe _ _ _ _ c.requires c.run-in-Fill-1.is
+fill-requires c = via_safe _ _ _ _ c.requires c.in-Fill.is
 
 pub returns-in-Number : goal.returns-in-Number
 returns-in-Number c = search via_store
