@@ -1,5 +1,6 @@
 // Versions of the settings, kept in a lent buffer.
 #![tactic(auto)]
+
 mod layout;
 mod linking;
 mod listing;

@@ -3,7 +3,7 @@ use Rattle.octets.proofs.Kit.{ℕ, zero, suc, ◌+◌, ◌-◌, ◌<◌, ◌≡�
 use Rattle.octets.proofs.Kit.{lt-ltb, leb-true, le-leb, eqb-true, eq-eqb}
 use Rattle.octets.{specs.{Bytes.num_at, Every.every, Octets.Octets}, proofs.{Truths.{never, and_is, or_is, decided, bool_same}, Everys.{every_at, every_all}}}
 use Rattle.octets.proofs.Octet.{octets_none, octets_take, octets_drop, octets_splice}
-use Rattle.sheet.specs.{Kind.{properties, groups}, Layout.◌of◌, Entries.{count, place, entry, start_of}, Agree.{AgreeBy, Fixed}, Rules.Accepted}
+use Rattle.sheet.specs.{Kind.{properties, groups}, Layout.◌of◌, Entries.{place, entry, start_of}, Agree.{AgreeBy, Fixed}, Rules.Accepted}
 use Rattle.sheet.proofs.{alike.Sames.{count_same, property_same, start_same}, places.Standing.{entry_at, field_at}}
 use Rattle.sheet.specs.Property as property
 use Rattle.versions.specs.Store.{body_of, version_in, kept, versions_from, version_at, in_row}

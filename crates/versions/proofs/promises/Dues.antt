@@ -1,5 +1,5 @@
 -- WHAT IS DONE IS WHAT IS DUE, and nothing else is due.
-use Rattle.octets.proofs.Kit.{ℕ, ◌≤◌, ◌<◌, ◌≡◌, refl, sym, subst⁻¹, ◌∙◌, true, cond, List, ◌↔◌, ◌⊎◌, inl, inr, arith, eqb, ltb, length, eq-eqb, ne_eqb, lt-ltb, le-ltb, eqb-true}
+use Rattle.octets.proofs.Kit.{ℕ, ◌≤◌, ◌<◌, ◌≡◌, refl, sym, subst⁻¹, ◌∙◌, true, cond, List, ◌↔◌, ◌⊎◌, inl, inr, arith, eqb, length, eq-eqb, ne_eqb, lt-ltb, le-ltb, eqb-true}
 use Rattle.octets.proofs.{Truths.{never, and_is, must_fail}, Walks.{by_test, by_eq, by_lt}}
 use Rattle.sheet.{specs.{Layout.◌of◌, Rules.{refusal_of, Accepted, Old, Bad}}, proofs.promises.Verdicts.{one_of_three, refused_none, refused_old, refused_bad, unrefused}}
 use Rattle.judge.specs.declared.Session.{Session}

@@ -15,17 +15,17 @@ module _ (x : ℕ) where
   has_below : {last floor : ℕ} (vs : List Version) → x < floor → Rising last floor vs → has x vs ≡ false
   unfolding has
   has_below [] h r = refl
-  has_below (v ∷ vs) h (next f r) =
+  has_below {last = last} {floor = floor} (v ∷ vs) h (next f r) =
       let t : eqb v.number x ≡ false = ne_eqb v.number x (λ e. omega arith) in
-      rw t (has_below vs (omega arith) r)
+      rw t (has_below {last = last} {floor = v.number + 1} vs (omega arith) r)
 
   has_gone : {last floor : ℕ} (vs : List Version) → Rising last floor vs → has x (without x vs) ≡ false
   unfolding has without
   has_gone [] r = refl
-  has_gone (v ∷ vs) (next f r) =
+  has_gone {last = last} {floor = floor} (v ∷ vs) (next f r) =
       by_test (λ (ws : List Version). has x ws ≡ false) (eqb v.number x) vs (v ∷ without x vs)
       (λ e. has_below vs (omega (arith, eqb-true v.number x e)) r)
-      (λ e. rw e (has_gone vs r))
+      (λ e. rw e (has_gone {last = last} {floor = v.number + 1} vs r))
 
   without_new : (vs : List Version) (d : List ℕ) → has x vs ≡ false → without x (and vs x d) ≡ vs
   unfolding has without

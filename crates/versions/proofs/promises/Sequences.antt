@@ -124,10 +124,10 @@ module _ (x : ℕ) where
   pub has_none : {last floor : ℕ} (vs : List Version) → last < x → Rising last floor vs → has x vs ≡ false
   unfolding has
   has_none [] h r = refl
-  has_none (v ∷ vs) h (next f r) =
+  has_none {last = last} {floor = floor} (v ∷ vs) h (next f r) =
       let l = rising_low r in
       let t : eqb v.number x ≡ false = ne_eqb v.number x (λ e. omega arith) in
-      rw t (has_none vs h r)
+      rw t (has_none {last = last} {floor = v.number + 1} vs h r)
 
   pub has_less : (vs : List Version) (y : ℕ) → (y ≡ x → ⊥) → (has x (without y vs) ≡ has x vs) × (body_of x (without y vs) ≡ body_of x vs)
   unfolding has body_of without

@@ -1,6 +1,6 @@
 -- `versions::linking::link` meets its contract: what is left to write gives what all of it gives.
-use Rattle.octets.proofs.Kit.{◌-◌, rules, arith}
-use Rattle.versions.proofs.{Links.{Linking, link_begin, link_go, link_end}}
+use Rattle.octets.proofs.Kit.{arith}
+use Rattle.versions.proofs.{Links.{link_begin, link_go, link_end}}
 use Rattle.versions.proofs.linking.link.Goals as goal
 
 pub loop-i-init : goal.loop-i-init

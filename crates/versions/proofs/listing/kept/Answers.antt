@@ -1,5 +1,4 @@
 -- `versions::listing::kept` meets its contract.
-use Rattle.octets.proofs.Kit.{rules}
 use Rattle.octets.specs.Octets.{Octets}
 use Rattle.versions.proofs.{promises.Lists.{bad_listed, listed_head, past_listed, number_room, long_room, some_listed}}
 use Rattle.versions.proofs.listing.kept.Goals as goal

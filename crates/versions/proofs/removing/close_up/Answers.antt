@@ -1,5 +1,4 @@
 -- `versions::removing::close_up` meets its contract.
-use Rattle.octets.proofs.Kit.{rules}
 use Rattle.versions.proofs.{Removals.close_steps}
 use Rattle.versions.proofs.removing.close_up.Goals as goal
 

@@ -1,5 +1,4 @@
 -- `versions::removing::cut` meets its contract.
-use Rattle.octets.proofs.Kit.{rules}
 use Rattle.versions.proofs.{Removals.cut_steps}
 use Rattle.versions.proofs.removing.cut.Goals as goal
 

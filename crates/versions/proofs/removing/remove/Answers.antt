@@ -21,5 +21,5 @@ take_out-requires c = search is_chosen
 
 pub returns : goal.returns
 returns c =
-    let b : Octets c.before.args.store.now = λ i. (c.slice-known.given i).fits in
+    let b : Octets c.args.store.now = λ i. search rules in
     search gone

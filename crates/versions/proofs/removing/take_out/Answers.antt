@@ -6,8 +6,8 @@ use Rattle.versions.proofs.removing.take_out.Goals as goal
 
 pub close_up-requires : goal.close_up-requires
 close_up-requires c =
-    let b : Octets c.before.args.s.now = λ i. (c.slice-known.given i).fits in
-    take_needs _ _ _ _ _ _ c.before.requires c.word.ensures c.word2.ensures c.bodies_end-end.ensures b
+    let b : Octets c.args.s.now = λ i. search rules in
+    take_needs _ _ _ _ _ _ c.requires c.word-a.ensures c.word-l.ensures c.bodies_end-end.ensures b
 
 pub returns : goal.returns
 returns c = search take_steps

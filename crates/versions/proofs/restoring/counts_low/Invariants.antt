@@ -1,6 +1,6 @@
 -- `versions::restoring::counts_low` meets its contract. The invariant: no count passed is above its maximum.
-use Rattle.octets.proofs.Kit.{◌+◌, ◌*◌, ◌-◌, arith}
-use Rattle.octets.proofs.Everys.{Checked, check_begin, check_stop, check_go, check_end}
+use Rattle.octets.proofs.Kit.{◌+◌, ◌*◌, ◌-◌}
+use Rattle.octets.proofs.Everys.{Checked}
 use Rattle.versions.specs.Restoring.{low_count}
 use Rattle.versions.proofs.restoring.counts_low.Given as goal
 

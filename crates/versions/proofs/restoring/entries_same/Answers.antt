@@ -1,7 +1,6 @@
 -- `versions::restoring::entries_same` meets its contract. The invariant: the entries passed are the same.
-use Rattle.octets.proofs.Kit.{◌+◌, ◌*◌, ◌-◌, arith}
-use Rattle.octets.proofs.Everys.{Checked, check_begin, check_stop, check_go, check_end}
-use Rattle.versions.specs.Restoring.{same_entry}
+use Rattle.octets.proofs.Kit.{ap, not, arith}
+use Rattle.octets.proofs.Everys.{check_begin, check_stop, check_go, check_end}
 use Rattle.versions.proofs.restoring.entries_same.Goals as goal
 
 pub loop-i-init : goal.loop-i-init
@@ -11,10 +10,10 @@ pub same_entry-requires : goal.same_entry-requires
 same_entry-requires c = (omega arith, omega arith, omega arith, omega arith)
 
 pub returns-then-not-same_entry : goal.returns-then-not-same_entry
-returns-then-not-same_entry c = check_stop _ _ _ c.loop-i.invariant _ (omega arith) c.same_entry.ensures c.if-not-same_entry.true
+returns-then-not-same_entry c = check_stop _ _ _ c.loop-i.invariant _ (omega arith) c.same_entry.ensures (ap not c.if-not-same_entry.true)
 
 pub loop-i-preserved : goal.loop-i-preserved
-loop-i-preserved c = check_go _ _ _ c.loop-i.invariant _ (omega arith) c.same_entry.ensures c.if-not-same_entry.false
+loop-i-preserved c = check_go _ _ _ c.loop-i.invariant _ (omega arith) c.same_entry.ensures (ap not c.if-not-same_entry.false)
 
 pub returns : goal.returns
 returns c = check_end _ _ _ c.loop-i.invariant (omega arith)

@@ -1,6 +1,6 @@
 -- `versions::restoring::entries_same` meets its contract. The invariant: the entries passed are the same.
-use Rattle.octets.proofs.Kit.{◌+◌, ◌*◌, ◌-◌, arith}
-use Rattle.octets.proofs.Everys.{Checked, check_begin, check_stop, check_go, check_end}
+use Rattle.octets.proofs.Kit.{◌+◌, ◌*◌, ◌-◌}
+use Rattle.octets.proofs.Everys.{Checked}
 use Rattle.versions.specs.Restoring.{same_entry}
 use Rattle.versions.proofs.restoring.entries_same.Given as goal
 

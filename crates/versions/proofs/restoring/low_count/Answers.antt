@@ -1,5 +1,4 @@
 -- `versions::restoring::low_count` meets its contract.
-use Rattle.octets.proofs.Kit.{rules}
 use Rattle.versions.proofs.{Restorer.count_compared}
 use Rattle.versions.proofs.restoring.low_count.Goals as goal
 

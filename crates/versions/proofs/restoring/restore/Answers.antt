@@ -23,7 +23,7 @@ pub returns-then-outcome-ne1 : goal.returns-then-outcome-ne1
 returns-then-outcome-ne1 c = search not_given
 
 pub give_back-requires : goal.give_back-requires
-give_back-requires c = (c.extent_of.ensures, gives_long _ _ (sym c.judge_version-outcome.ensures ∙ c.if-outcome-ne1.false))
+give_back-requires c = (c.extent_of-x.ensures, gives_long _ _ (sym c.judge_version-outcome.ensures ∙ c.if-outcome-ne1.false))
 
 pub returns : goal.returns
 returns c = search was_restored

@@ -1,5 +1,4 @@
 -- `versions::restoring::same_byte` meets its contract.
-use Rattle.octets.proofs.Kit.{rules}
 use Rattle.versions.proofs.{Restorer.{byte_before, byte_of_count, byte_behind}}
 use Rattle.versions.proofs.restoring.same_byte.Goals as goal
 

@@ -1,8 +1,7 @@
 -- `versions::restoring::same_entry` meets its contract. The invariant: the bytes passed are the same.
-use Rattle.octets.proofs.Kit.{◌-◌, arith}
-use Rattle.octets.proofs.Everys.{Checked, check_begin, check_stop, check_go, check_end}
+use Rattle.octets.proofs.Kit.{◌-◌}
+use Rattle.octets.proofs.Everys.{Checked}
 use Rattle.versions.specs.Restoring.{same_byte}
-use Rattle.versions.proofs.{Restorer.all_bytes_lem}
 use Rattle.versions.proofs.restoring.same_entry.Given as goal
 
 abbrev pub invariant-loop-j : goal.invariant-loop-j

@@ -1,5 +1,4 @@
 -- `versions::rules::check` meets its contract.
-use Rattle.octets.proofs.Kit.{rules}
 use Rattle.versions.proofs.{Rows.{headed, in_head_lem, in_rows}}
 use Rattle.versions.proofs.rules.check.Goals as goal
 

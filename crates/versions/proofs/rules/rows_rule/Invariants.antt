@@ -1,6 +1,6 @@
 -- `versions::rules::rows_rule` meets its contract: what is left to judge gives what all rows give.
-use Rattle.octets.proofs.Kit.{◌-◌, rules, arith}
-use Rattle.versions.proofs.{Rows.{Walked, walk_begin, walk_row, walk_stop, walk_go, walk_end}}
+use Rattle.octets.proofs.Kit.{◌-◌}
+use Rattle.versions.proofs.{Rows.{Walked}}
 use Rattle.versions.proofs.rules.rows_rule.Given as goal
 
 abbrev pub invariant-loop-i : goal.invariant-loop-i

@@ -1,5 +1,4 @@
 -- `versions::saving::append` meets its contract.
-use Rattle.octets.proofs.Kit.{rules}
 use Rattle.versions.proofs.{Saves.append_steps}
 use Rattle.versions.proofs.saving.append.Goals as goal
 

@@ -1,5 +1,4 @@
 -- `versions::saving::make_row` meets its contract.
-use Rattle.octets.proofs.Kit.{rules}
 use Rattle.versions.proofs.{Saves.row_made}
 use Rattle.versions.proofs.saving.make_row.Goals as goal
 

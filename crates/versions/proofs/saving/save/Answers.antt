@@ -31,18 +31,18 @@ extent_of-x-requires c = search (not_refused, rules)
 
 pub returns-then-store-end : goal.returns-then-store-end
 returns-then-store-end c =
-    let a = c.before.before.args in
-    let b : Octets a.store.now = λ i. (c.slice-known.given i).fits in
+    let a = c.args in
+    let b : Octets a.store.now = λ i. search rules in
     search (no_room_lem a.sheet.now a.store.now)
 
 pub append-requires : goal.append-requires
 append-requires c =
-    let a = c.before.before.args in
-    let b : Octets a.store.now = λ i. (c.slice-known.given i).fits in
+    let a = c.args in
+    let b : Octets a.store.now = λ i. search rules in
     search (can_append a.sheet.now a.store.now)
 
 pub returns : goal.returns
 returns c =
-    let a = c.before.before.args in
-    let b : Octets a.store.now = λ i. (c.slice-known.given i).fits in
+    let a = c.args in
+    let b : Octets a.store.now = λ i. search rules in
     search (was_saved a.sheet.now a.store.now)

@@ -1,5 +1,4 @@
 -- `versions::settings::extent_of` meets its contract.
-use Rattle.octets.proofs.Kit.{rules}
 use Rattle.versions.proofs.{Saves.{no_extent, some_extent}}
 use Rattle.versions.proofs.settings.extent_of.Goals as goal
 

@@ -1,5 +1,4 @@
 -- `versions::settings::give_back` meets its contract.
-use Rattle.octets.proofs.Kit.{rules}
 use Rattle.versions.proofs.{Restorer.given_steps}
 use Rattle.versions.proofs.settings.give_back.Goals as goal
 

@@ -1,5 +1,5 @@
 -- `versions::settings::put_settings` meets its contract.
-use Rattle.octets.proofs.Kit.{rules, arith}
+use Rattle.octets.proofs.Kit.{arith}
 use Rattle.versions.proofs.{Saves.{room_number, room_entries, room_bodies, settings_put}}
 use Rattle.versions.proofs.settings.put_settings.Goals as goal
 

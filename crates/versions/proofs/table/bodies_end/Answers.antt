@@ -1,6 +1,5 @@
 -- `versions::table::bodies_end` meets its contract: what is left to add gives what all of it gives.
-use Rattle.octets.proofs.Kit.{◌-◌, arith}
-use Rattle.versions.proofs.{Loops.{Ending, end_begin, end_go, end_end}}
+use Rattle.versions.proofs.{Loops.{end_begin, end_go, end_end}}
 use Rattle.versions.proofs.table.bodies_end.Goals as goal
 
 pub loop-i-init : goal.loop-i-init

@@ -1,6 +1,6 @@
 -- `versions::table::bodies_end` meets its contract: what is left to add gives what all of it gives.
-use Rattle.octets.proofs.Kit.{◌-◌, arith}
-use Rattle.versions.proofs.{Loops.{Ending, end_begin, end_go, end_end}}
+use Rattle.octets.proofs.Kit.{◌-◌}
+use Rattle.versions.proofs.{Loops.{Ending}}
 use Rattle.versions.proofs.table.bodies_end.Given as goal
 
 abbrev pub invariant-loop-i : goal.invariant-loop-i

@@ -1,6 +1,5 @@
 -- `versions::table::find` meets its contract. The invariant: no row passed has the number.
-use Rattle.octets.proofs.Kit.{◌-◌, arith}
-use Rattle.versions.proofs.{Loops.{Sought, seek_begin, seek_found, seek_go, seek_end}}
+use Rattle.versions.proofs.{Loops.{seek_begin, seek_found, seek_go, seek_end}}
 use Rattle.versions.proofs.table.find.Goals as goal
 
 pub loop-i-init : goal.loop-i-init

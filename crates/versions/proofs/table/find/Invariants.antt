@@ -1,6 +1,6 @@
 -- `versions::table::find` meets its contract. The invariant: no row passed has the number.
-use Rattle.octets.proofs.Kit.{◌-◌, arith}
-use Rattle.versions.proofs.{Loops.{Sought, seek_begin, seek_found, seek_go, seek_end}}
+use Rattle.octets.proofs.Kit.{◌-◌}
+use Rattle.versions.proofs.{Loops.{Sought}}
 use Rattle.versions.proofs.table.find.Given as goal
 
 abbrev pub invariant-loop-i : goal.invariant-loop-i

@@ -1,5 +1,4 @@
 -- `versions::table::version` meets its contract.
-use Rattle.octets.proofs.Kit.{rules}
 use Rattle.octets.specs.Octets.{Octets}
 use Rattle.versions.proofs.{Restorer.{table_there, count_there, no_version, offset_there, long_there, some_version}}
 use Rattle.versions.proofs.table.version.Goals as goal
