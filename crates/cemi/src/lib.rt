@@ -1,6 +1,7 @@
 // cEMI frames, L_Data.req and L_Data.ind, standard frames only: read, understood, written.
 // The definitions stand in specs/: Layout (the table of fields), Read, Meaning, Write.
 #![tactic(auto)]
+
 mod layout;
 mod parts;
 mod reading;

@@ -1,6 +1,7 @@
 // The plain engine's own check of a sheet, S1 to S9 over the bytes. No test rests on one made before: `&` and `|` make both of theirs, and
 // past the end of a sheet every byte is read as 0.
 #![tactic(auto)]
+
 mod bodies;
 mod entries;
 mod places;

@@ -1,5 +1,6 @@
 // Readable group values: datapoint types 1, 5, 9 and 14, read from their bytes and written to them.
 #![tactic(auto)]
+
 ghost use Rattle.std.specs.Prelude.{◌≡◌};
 ghost use Rattle.octets.specs.Octets.{ReadFrom};
 ghost use Rattle.points.specs.Point.{type_of, width_at, point_at, Narrow, read_point, Put};

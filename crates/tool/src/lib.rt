@@ -1,5 +1,6 @@
 // The PDU layer for C: a PDU laid flat, read from bytes and written to bytes.
 #![tactic(auto)]
+
 ghost use Rattle.std.specs.Prelude.{◌≡◌, ◌≤◌};
 ghost use Rattle.octets.specs.Octets.{ReadFrom};
 ghost use Rattle.pdu.specs.Write.{write_count};

@@ -1,5 +1,6 @@
 // Datapoints in group PDUs: the GroupValue_Write of a datapoint, and the datapoint in a group value's six bits or data.
 #![tactic(auto)]
+
 ghost use Rattle.std.specs.Prelude.{◌≡◌};
 ghost use Rattle.values.specs.Value.{read_value, value_pdu};
 

@@ -1,5 +1,4 @@
 -- `points::point` meets its contract.
-use Rattle.octets.proofs.Kit.{rules}
 use Rattle.points.proofs.{Laws.{point_by, point_else, byte_below, word_below}}
 use Rattle.points.proofs.point.Goals as goal
 

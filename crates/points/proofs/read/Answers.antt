@@ -1,5 +1,5 @@
 -- `points::read` meets its contract.
-use Rattle.octets.proofs.Kit.{arith, rules}
+use Rattle.octets.proofs.Kit.{arith}
 use Rattle.points.proofs.{Laws.{width_small, num_fits, num_by, read_25, read_20, read_is}}
 use Rattle.points.proofs.read.Goals as goal
 

@@ -1,5 +1,4 @@
 -- `points::write` meets its contract.
-use Rattle.octets.proofs.Kit.{rules}
 use Rattle.points.proofs.{Writes.{write_20, write_no, write_yes, write_room}}
 use Rattle.points.proofs.write.Goals as goal
 

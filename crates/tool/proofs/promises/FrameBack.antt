@@ -1,9 +1,9 @@
 -- A FRAME THAT kelindap_frame_read READ, WRITTEN AGAIN BY kelindap_frame_write, HAS THE SAME BYTES; AND WHAT WAS WRITTEN IS READ BACK. Assumes nothing.
-use Rattle.octets.proofs.Kit.{ℕ, ◌+◌, ◌-◌, ◌≤◌, ◌≡◌, refl, sym, ap, ap₂, subst, ◌∙◌, List, ◌++◌, arith, length, take, drop, take_at, le-leb}
+use Rattle.octets.proofs.Kit.{ℕ, ◌+◌, ◌-◌, ◌≤◌, ◌≡◌, refl, sym, ap, ap₂, subst, ◌∙◌, List, arith, length, take, drop, take_at, le-leb}
 use Rattle.octets.specs.Octets.{ReadFrom}
-use Rattle.cemi.specs.{Layout.{table, info_length, octet6, stated, ◌of◌, Fit}, Read.{frame_in, read_frame}, Parts.{part_of, info_of, tpdu_of}}
-use Rattle.cemi.specs.{Write.{numbers_of, under, encoded, frame_of, count_of, write_of, write_outcome, write_count, Wrote}, declared.{Fields.Fields, Frame.Frame, Got.Got}}
-use Rattle.cemi.{specs.declared.{Got.TheVariants.{Is, Refused}, Written.Written}, proofs.promises.{Standards.{IsStandard, reads_standard, refused_some}, Agains.{write_back, writes_again}}}
+use Rattle.cemi.specs.{Layout.{table, octet6, Fit}, Read.{read_frame}, Parts.{part_of, info_of, tpdu_of}}
+use Rattle.cemi.specs.{Write.{numbers_of, under, encoded, frame_of, count_of, write_outcome, write_count, Wrote}, declared.{Frame.Frame, Got.Got}}
+use Rattle.cemi.{specs.declared.{Got.TheVariants.{Is, Refused}, Written.Written}, proofs.promises.{Standards.{reads_standard, refused_some}, Agains.{write_back, writes_again}}}
 use Rattle.cemi.proofs.{promises.{Backs.{length_encoded, info_part, tpdu_part}, Filled.{writes_0, buffer_filled, buffer_back, went_well}}, Wrote.bounds}
 use Rattle.tool.specs.{FlatFrame.{laid_frame, flat_got, flat_frame, fields_of, frame_written, FrameWrote}, FrameBack.{info_in, tpdu_in, FrameInC, FrameGivenBack}}
 use Rattle.tool.specs.declared.{FlatFrame.FlatFrame, Framed.Framed}

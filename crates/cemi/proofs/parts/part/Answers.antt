@@ -1,5 +1,4 @@
 -- `cemi::parts::part` meets its contract. Assumes nothing.
-use Rattle.octets.proofs.Kit.{rules}
 use Rattle.cemi.proofs.{Cut.{cut_out_lem, cut_nothing}}
 use Rattle.cemi.proofs.parts.part.Goals as goal
 

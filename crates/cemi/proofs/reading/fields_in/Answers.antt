@@ -1,5 +1,4 @@
 -- `cemi::reading::fields_in` meets its contract. Assumes nothing.
-use Rattle.octets.proofs.Kit.{rules}
 use Rattle.cemi.proofs.{Taken.fields_are}
 use Rattle.cemi.proofs.reading.fields_in.Goals as goal
 

@@ -1,5 +1,4 @@
 -- `cemi::reading::frame_in` meets its contract. Assumes nothing.
-use Rattle.octets.proofs.Kit.{rules}
 use Rattle.cemi.proofs.{Taken.frame_is}
 use Rattle.cemi.proofs.reading.frame_in.Goals as goal
 

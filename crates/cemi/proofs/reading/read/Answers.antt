@@ -1,5 +1,4 @@
 -- `cemi::reading::read` meets its contract. Assumes nothing.
-use Rattle.octets.proofs.Kit.{rules}
 use Rattle.cemi.proofs.{Taken.{gives, refuses}}
 use Rattle.cemi.proofs.reading.read.Goals as goal
 

@@ -1,5 +1,4 @@
 -- `cemi::reading::refusal` meets its contract. Assumes nothing.
-use Rattle.octets.proofs.Kit.{rules}
 use Rattle.cemi.proofs.{Judging.{no_code_room, too_short_lem, of_request, of_indication, of_another}}
 use Rattle.cemi.proofs.reading.refusal.Goals as goal
 

@@ -1,6 +1,6 @@
 -- `cemi::reading::standard` meets its contract. Assumes nothing.
 -- the length byte against the bytes from octet 6 on, in whatever order they are counted
-use Rattle.octets.proofs.Kit.{ℕ, ◌+◌, ◌%◌, ◌≤◌, ◌≡◌, rules, arith}
+use Rattle.octets.proofs.Kit.{ℕ, ◌+◌, ◌%◌, ◌≤◌, ◌≡◌, arith}
 use Rattle.octets.proofs.Tests.{tests}
 use Rattle.cemi.specs.{Layout.octet6, Read.standard_of, declared.Fields.Fields}
 use Rattle.cemi.proofs.reading.standard.Goals as goal
@@ -28,8 +28,8 @@ returns-then-stated-gt15 c = search (tests, arith)
 
 pub returns-then-info-stated : goal.returns-then-info-stated
 unfolding standard_of
-returns-then-info-stated c = other_length_lem _ _ _ _ (omega arith) (omega arith) (omega arith) (λ e. c.if-info-stated.true (omega (arith, e)))
+returns-then-info-stated c = other_length_lem c.args.n c.args.info c.args.stated c.args.f (omega arith) (omega arith) (omega arith) (λ e. c.if-info-stated.true (omega (arith, e)))
 
 pub returns : goal.returns
 unfolding standard_of
-returns c = same_length _ _ _ _ (omega arith) (omega arith) (omega arith) (omega (arith, c.if-info-stated.false))
+returns c = same_length c.args.n c.args.info c.args.stated c.args.f (omega arith) (omega arith) (omega arith) (omega (arith, c.if-info-stated.false))

@@ -1,5 +1,5 @@
 -- `cemi::transport::controlled` meets its contract. Assumes nothing.
-use Rattle.octets.proofs.Kit.{rules, arith}
+use Rattle.octets.proofs.Kit.{arith}
 use Rattle.octets.proofs.Tests.{tests}
 use Rattle.cemi.specs.Meaning.{control}
 use Rattle.cemi.proofs.transport.controlled.Goals as goal

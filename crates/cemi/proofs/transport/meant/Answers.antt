@@ -1,5 +1,5 @@
 -- `cemi::transport::meant` meets its contract. Assumes nothing.
-use Rattle.octets.proofs.Kit.{rules, arith}
+use Rattle.octets.proofs.Kit.{arith}
 use Rattle.octets.proofs.Tests.{branches}
 use Rattle.cemi.specs.Meaning.{meaning_of}
 use Rattle.cemi.proofs.transport.meant.Goals as goal

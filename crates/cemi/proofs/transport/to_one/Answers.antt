@@ -1,5 +1,5 @@
 -- `cemi::transport::to_one` meets its contract. Assumes nothing.
-use Rattle.octets.proofs.Kit.{rules, arith}
+use Rattle.octets.proofs.Kit.{arith}
 use Rattle.octets.proofs.Tests.{branches}
 use Rattle.cemi.specs.Meaning.{to_one}
 use Rattle.cemi.proofs.transport.to_one.Goals as goal

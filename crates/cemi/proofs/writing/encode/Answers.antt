@@ -1,5 +1,4 @@
 -- `cemi::writing::encode` meets its contract. Assumes nothing.
-use Rattle.octets.proofs.Kit.{rules}
 use Rattle.cemi.proofs.{Stores.all_put}
 use Rattle.cemi.proofs.writing.encode.Goals as goal
 

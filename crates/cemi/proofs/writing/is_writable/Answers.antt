@@ -1,5 +1,4 @@
 -- `cemi::writing::is_writable` meets its contract. Assumes nothing.
-use Rattle.octets.proofs.Kit.{rules}
 use Rattle.cemi.proofs.{Judging.{long_info, wide_transport, no_apdu, long_apdu, judged_alike}}
 use Rattle.cemi.proofs.writing.is_writable.Goals as goal
 

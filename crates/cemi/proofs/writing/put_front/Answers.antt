@@ -1,5 +1,4 @@
 -- `cemi::writing::put_front` meets its contract. Assumes nothing.
-use Rattle.octets.proofs.Kit.{rules}
 use Rattle.cemi.proofs.{Stores.front_put}
 use Rattle.cemi.proofs.writing.put_front.Goals as goal
 

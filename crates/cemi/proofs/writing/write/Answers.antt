@@ -1,5 +1,5 @@
 -- `cemi::writing::write` meets its contract. Assumes nothing.
-use Rattle.octets.proofs.Kit.{rules, arith}
+use Rattle.octets.proofs.Kit.{arith}
 use Rattle.cemi.proofs.{Wrote.{may_write_lem, wrote_47, wrote_46, wrote_all}}
 use Rattle.cemi.proofs.writing.write.Goals as goal
 

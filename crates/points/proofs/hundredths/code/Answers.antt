@@ -1,5 +1,5 @@
 -- `points::hundredths::code` meets its contract.
-use Rattle.octets.proofs.Kit.{sym, ◌∙◌, subst, ◌≤◌, arith, ℤ, nat_abs, rules}
+use Rattle.octets.proofs.Kit.{sym, ◌∙◌, subst, ◌≤◌, arith, ℤ, nat_abs}
 use mir.{Syntax.w32, Val.{to_z, of_z}, Facts.to_z-of_z}
 use Rattle.points.proofs.{Best.up_to, Casts.{abs_is, exponent_is, mantissa_is, code_is, limit_top}, promises.Choice.mantissa_fits, Laws.small, Signed.range_abs}
 use Rattle.points.proofs.hundredths.code.Goals as goal
@@ -21,7 +21,7 @@ stepped-requires c =
     let e = exponent_is c.args.x _ _ _ c.ranges.x c.magnitude.ensures c.limit.ensures c.exponent-e.ensures in
     let m = mantissa_is c.args.x _ _ _ c.ranges.x e c.power.ensures c.quotient-m.ensures in (
       omega (arith, c.exponent-e.ensures, up_to c.magnitude.result c.limit.result 15 0),
-      subst (λ (y : ℤ). nat_abs y ≤ 2048) (sym (to_z-of_z (record { sfits = c.quotient-m.type_inv }) ∙ m)) (mantissa_fits c.args.x c.requires),
+      subst (λ (y : ℤ). nat_abs y ≤ 2048) (sym (to_z-of_z {w = w32} (record { sfits = c.quotient-m.type_inv }) ∙ m)) (mantissa_fits c.args.x c.requires),
     )
 
 pub returns : goal.returns

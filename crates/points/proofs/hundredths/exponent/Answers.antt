@@ -1,6 +1,5 @@
 -- `points::hundredths::exponent` meets its contract.
-use Rattle.octets.proofs.Kit.{ℕ, ◌≤◌, ◌<◌, ◌-◌, ◌*◌, ◌^◌, ◌≡◌, refl, sym, ap, ◌∙◌, subst, arith}
-use Rattle.points.specs.Code.{exponent_from}
+use Rattle.octets.proofs.Kit.{ℕ, ◌≤◌, ◌<◌, ◌*◌, refl, sym, ap, ◌∙◌, subst, arith}
 use Rattle.points.proofs.{Search.{top_next, top_small, goes_on, stops, ends}}
 use Rattle.points.proofs.hundredths.exponent.Goals as goal
 

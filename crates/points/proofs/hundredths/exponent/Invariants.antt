@@ -1,7 +1,6 @@
 -- `points::hundredths::exponent` meets its contract.
-use Rattle.octets.proofs.Kit.{ℕ, ◌≤◌, ◌<◌, ◌-◌, ◌*◌, ◌^◌, ◌≡◌, refl, sym, ap, ◌∙◌, subst, arith}
+use Rattle.octets.proofs.Kit.{◌≤◌, ◌-◌, ◌*◌, ◌^◌, ◌≡◌}
 use Rattle.points.specs.Code.{exponent_from}
-use Rattle.points.proofs.{Search.{top_next, top_small, goes_on, stops, ends}}
 use Rattle.points.proofs.hundredths.exponent.Given as goal
 
 abbrev pub invariant-loop-e : goal.invariant-loop-e

@@ -1,5 +1,5 @@
 -- `points::hundredths::packed` meets its contract.
-use Rattle.octets.proofs.Kit.{arith, rules}
+use Rattle.octets.proofs.Kit.{arith}
 use Rattle.points.proofs.{Casts.{abs_is, packed_minus, packed_plus}}
 use Rattle.points.proofs.hundredths.packed.Goals as goal
 

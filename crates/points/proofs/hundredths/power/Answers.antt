@@ -1,5 +1,4 @@
 -- `points::hundredths::power` meets its contract.
-use Rattle.octets.proofs.Kit.{rules}
 use Rattle.points.proofs.{Laws.shifted}
 use Rattle.points.proofs.hundredths.power.Goals as goal
 

@@ -1,5 +1,5 @@
 -- `points::hundredths::result` meets its contract.
-use Rattle.octets.proofs.Kit.{ap, ◌∙◌, ℕ, ◌*◌, ◌-◌, ◌%◌, ◌/◌, arith, pos, neg_ℤ, rules}
+use Rattle.octets.proofs.Kit.{ap, ◌∙◌, ℕ, ◌*◌, ◌-◌, ◌%◌, ◌/◌, arith, pos, neg_ℤ}
 use Rattle.points.proofs.{Casts.{as_signed, small_minus}, Laws.{product_by, res_plus, res_minus}}
 use Rattle.points.proofs.hundredths.result.Goals as goal
 

@@ -1,5 +1,5 @@
 -- `points::hundredths::stepped` meets its contract.
-use Rattle.octets.proofs.Kit.{sym, ap, ◌∙◌, rules}
+use Rattle.octets.proofs.Kit.{sym, ap, ◌∙◌}
 use mir.Facts.{to_z-of_z}
 use Rattle.points.specs.Code.{packed}
 use Rattle.points.proofs.{Casts.{step_zero, step_yes, step_no}}

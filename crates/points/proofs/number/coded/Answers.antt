@@ -13,9 +13,9 @@ returns-in-Byte c = search (numbered_by, numbered_byte)
 
 pub returns-in-Hundredths : goal.returns-in-Hundredths
 returns-in-Hundredths c =
-    let z = c.d-in-Hundredths-1.given.0.0 in
+    let z = c.in-Hundredths.z in
     let e : to_z w32 (of_z w32 z) ≡ z = search rules in
-    numbered_by _ _ _ _ c.d-in-Hundredths-1.given.1 (subst (λ (y : ℤ). Numbered (Hundredths y) c.coded.result.refusal c.coded.result.number) e c.coded.ensures)
+    numbered_by _ _ _ _ c.in-Hundredths.is (subst (λ (y : ℤ). Numbered (Hundredths y) c.coded.result.refusal c.coded.result.number) e c.coded.ensures)
 
 pub returns-in-Float : goal.returns-in-Float
 returns-in-Float c = search numbered_by

@@ -1,5 +1,4 @@
 -- `points::signs::minus` meets its contract.
-use Rattle.octets.proofs.Kit.{rules}
 use Rattle.points.proofs.{Casts.{minus_fits, minus_is}}
 use Rattle.points.proofs.signs.minus.Goals as goal
 

@@ -1,5 +1,5 @@
 -- `points::signs::quotient` meets its contract.
-use Rattle.octets.proofs.Kit.{arith, rules}
+use Rattle.octets.proofs.Kit.{arith}
 use Rattle.points.proofs.{Casts.{abs_is, divided_minus, divided_plus}}
 use Rattle.points.proofs.signs.quotient.Goals as goal
 
