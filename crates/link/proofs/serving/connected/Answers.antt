@@ -1,0 +1,7 @@
+-- `link::serving::connected` meets its contract. Assumes nothing.
+use Rattle.octets.proofs.Kit.{rules}
+use Rattle.link.proofs.{Serves.is_connected}
+use Rattle.link.proofs.serving.connected.Goals as goal
+
+pub returns : goal.returns
+returns c = search is_connected

@@ -1,0 +1,7 @@
+-- `link::serving::disconnected` meets its contract. Assumes nothing.
+use Rattle.octets.proofs.Kit.{rules}
+use Rattle.link.proofs.{Serves.is_disconnected}
+use Rattle.link.proofs.serving.disconnected.Goals as goal
+
+pub returns : goal.returns
+returns c = search is_disconnected

@@ -1,0 +1,28 @@
+-- `link::serving::serve` meets its contract. Assumes nothing.
+use Rattle.octets.proofs.Kit.{rules, arith}
+use Rattle.link.proofs.{Serves.{no_room_lem, was_read, not_read}}
+use Rattle.link.proofs.serving.serve.Goals as goal
+
+pub returns-then-out-lt25 : goal.returns-then-out-lt25
+returns-then-out-lt25 c =
+    record {
+      did = search (no_room_lem, arith);
+      frame_bytes = λ i. (c.type_inv.frame i).fits;
+      sheet_bytes = λ i. (c.type_inv.sheet i).fits;
+    }
+
+pub returns-in-Is : goal.returns-in-Is
+returns-in-Is c =
+    record {
+      did = search (was_read, arith);
+      frame_bytes = λ i. (c.type_inv.frame i).fits;
+      sheet_bytes = λ i. (c.slice_known-1.given i).fits;
+    }
+
+pub returns-in-Refused : goal.returns-in-Refused
+returns-in-Refused c =
+    record {
+      did = search (not_read, arith);
+      frame_bytes = λ i. (c.type_inv.frame i).fits;
+      sheet_bytes = λ i. (c.type_inv.sheet i).fits;
+    }

@@ -1,0 +1,7 @@
+-- `link::serving::silent` meets its contract. Assumes nothing.
+use Rattle.octets.proofs.Kit.{rules}
+use Rattle.link.proofs.{Serves.is_silent_lem}
+use Rattle.link.proofs.serving.silent.Goals as goal
+
+pub returns : goal.returns
+returns c = search is_silent_lem
