@@ -21,7 +21,7 @@ own_fits s o = go (leb 18 (length s))
     go false = omega arith
 
 -- a frame that is due as a request means data in its mode
-request_means : {k : Link} {own mode c group : ℕ} {b : List ℕ} → HeardDue k own b (Request mode c group) → Means (frame_in b) (Data mode)
+request_means : {k : Link} {own : ℕ} {b : List ℕ} {mode c group : ℕ} → HeardDue k own b (Request mode c group) → Means (frame_in b) (Data mode)
 request_means (to_group o m) = m
 request_means (to_all o m) = m
 request_means (plain o m) = m
