@@ -85,8 +85,7 @@ fn flat(event: u8, connection: u8, group: u16, s: Sender) -> Arrival
 }
 
 // The event of a frame for the device with this sheet, or the number of why there is none; and who sent it.
-#[unsafe(no_mangle)]
-pub extern "C" fn kelindap_heard(link: Link, sheet: &[u8], frame: &[u8]) -> Arrival
+pub fn kelindap_heard(link: Link, sheet: &[u8], frame: &[u8]) -> Arrival
     ensures { result ≡ arrival_of (heard_of link (own_of sheet.now) frame.now) (sender_of (read_frame frame.now)) }
 {
     let own = link::own_of(sheet);
@@ -114,8 +113,7 @@ fn served(link: Link, sheet: &mut [u8], frame: &[u8], out: &mut [u8], sequence: 
 }
 
 // A frame in, at most one frame out, in place: the link becomes what the frame makes of it.
-#[unsafe(no_mangle)]
-pub extern "C" fn kelindap_serve(
+pub fn kelindap_serve(
     link: &mut Link,
     sheet: &mut [u8],
     frame: &[u8],

@@ -2,9 +2,9 @@
 // those of include/kelindap_store.h stand in `store`, those of include/kelindap_link.h in `bus`, those of include/kelindap_slots.h in
 // `places`.
 #![tactic(auto)]
-mod bus;
-mod places;
-mod store;
+pub mod bus;
+pub mod places;
+pub mod store;
 
 ghost use Rattle.std.specs.Prelude.{◌≡◌};
 ghost use Rattle.sheet.specs.Rules.{verdict_of};
@@ -111,16 +111,14 @@ pub fn widened(c: Changed) -> Wide
 }
 
 // Sessions that nobody has connected to.
-#[unsafe(no_mangle)]
-pub extern "C" fn kelindap_fresh() -> Sessions
+pub fn kelindap_fresh() -> Sessions
     ensures { result ≡ fresh_of }
 {
     device::fresh()
 }
 
 // The session of the connection is open at level 3, whatever it was.
-#[unsafe(no_mangle)]
-pub extern "C" fn kelindap_connect(sessions: &mut Sessions, connection: u8) -> u8
+pub fn kelindap_connect(sessions: &mut Sessions, connection: u8) -> u8
     ensures { Connects sessions.old connection result sessions.new }
 {
     let d = device::connect(*sessions, connection);
@@ -129,8 +127,7 @@ pub extern "C" fn kelindap_connect(sessions: &mut Sessions, connection: u8) -> u
 }
 
 // The session of the connection is closed at level 3, whatever it was.
-#[unsafe(no_mangle)]
-pub extern "C" fn kelindap_disconnect(sessions: &mut Sessions, connection: u8) -> u8
+pub fn kelindap_disconnect(sessions: &mut Sessions, connection: u8) -> u8
     ensures { Disconnects sessions.old connection result sessions.new }
 {
     let d = device::disconnect(*sessions, connection);
@@ -139,8 +136,7 @@ pub extern "C" fn kelindap_disconnect(sessions: &mut Sessions, connection: u8) -
 }
 
 // The programming button.
-#[unsafe(no_mangle)]
-pub extern "C" fn kelindap_button(sheet: &mut [u8], on: bool) -> u8
+pub fn kelindap_button(sheet: &mut [u8], on: bool) -> u8
     ensures { Pressed sheet.old on result sheet.new }
 {
     device::button(sheet, on)
@@ -172,8 +168,7 @@ fn request(
 }
 
 // A request in place: the sessions become what the request makes of them.
-#[unsafe(no_mangle)]
-pub extern "C" fn kelindap_request(
+pub fn kelindap_request(
     sessions: &mut Sessions,
     sheet: &mut [u8],
     mode: u8,
@@ -195,64 +190,56 @@ pub extern "C" fn kelindap_request(
 }
 
 // What is said of a sheet: the first rule that it breaks, 14 if it is old, or 0.
-#[unsafe(no_mangle)]
-pub extern "C" fn kelindap_check(sheet: &[u8]) -> u8
+pub fn kelindap_check(sheet: &[u8]) -> u8
     ensures { result ≡ verdict_of sheet.now }
 {
     sheet::check(sheet)
 }
 
 // An old sheet becomes one of edition 2: 1. Any other stays as found: 4.
-#[unsafe(no_mangle)]
-pub extern "C" fn kelindap_convert(sheet: &mut [u8]) -> u8
+pub fn kelindap_convert(sheet: &mut [u8]) -> u8
     ensures { Converts sheet.old result sheet.new }
 {
     sheet::convert(sheet)
 }
 
 // Where the body of a property stands.
-#[unsafe(no_mangle)]
-pub extern "C" fn kelindap_property(sheet: &[u8], object: u8, id: u8) -> Part
+pub fn kelindap_property(sheet: &[u8], object: u8, id: u8) -> Part
     ensures { StandsIn sheet.now result (property_of sheet.now object id) (property_from sheet.now object id) }
 {
     sheet::property_part(sheet, object, id)
 }
 
 // Where the body of region k stands, counted from 0.
-#[unsafe(no_mangle)]
-pub extern "C" fn kelindap_region(sheet: &[u8], k: usize) -> Part
+pub fn kelindap_region(sheet: &[u8], k: usize) -> Part
     ensures { StandsIn sheet.now result (region_of sheet.now k) (region_from sheet.now k) }
 {
     sheet::region_part(sheet, k)
 }
 
 // Where the body of user region k stands, counted from 0.
-#[unsafe(no_mangle)]
-pub extern "C" fn kelindap_user_region(sheet: &[u8], k: usize) -> Part
+pub fn kelindap_user_region(sheet: &[u8], k: usize) -> Part
     ensures { StandsIn sheet.now result (user_region_of sheet.now k) (user_region_from sheet.now k) }
 {
     sheet::user_region_part(sheet, k)
 }
 
 // Where the body of a group object stands.
-#[unsafe(no_mangle)]
-pub extern "C" fn kelindap_group(sheet: &[u8], address: u16) -> Part
+pub fn kelindap_group(sheet: &[u8], address: u16) -> Part
     ensures { StandsIn sheet.now result (group_of sheet.now address) (group_from sheet.now address) }
 {
     sheet::group_part(sheet, address)
 }
 
 // The first rule that the trace breaks, 50 to 58, or 0.
-#[unsafe(no_mangle)]
-pub extern "C" fn kelindap_trace_check(trace: &[u8]) -> u8
+pub fn kelindap_trace_check(trace: &[u8]) -> u8
     ensures { result ≡ refusal_of trace.now }
 {
     playback::check(trace)
 }
 
 // At most `limit` events of the trace, `from` having been played, in place: the sessions become what these make of them.
-#[unsafe(no_mangle)]
-pub extern "C" fn kelindap_play(
+pub fn kelindap_play(
     sessions: &mut Sessions,
     sheet: &mut [u8],
     trace: &[u8],
@@ -272,8 +259,7 @@ pub extern "C" fn kelindap_play(
 }
 
 // The same with marks, `played` events having been marked before.
-#[unsafe(no_mangle)]
-pub extern "C" fn kelindap_play_marked(
+pub fn kelindap_play_marked(
     sessions: &mut Sessions,
     sheet: &mut [u8],
     trace: &[u8],
@@ -299,8 +285,7 @@ pub extern "C" fn kelindap_play_marked(
 }
 
 // The version of this library.
-#[unsafe(no_mangle)]
-pub extern "C" fn kelindap_version() -> u32
+pub fn kelindap_version() -> u32
     ensures { result ≡ version_of }
 {
     65536

@@ -7,56 +7,49 @@ ghost use Rattle.slots.specs.Saving.{WorksAs};
 use slots::{Judging, Slot, Target, Work};
 
 // What a slot holds.
-#[unsafe(no_mangle)]
-pub extern "C" fn kelindap_slot(slot: &[u8]) -> Slot
+pub fn kelindap_slot(slot: &[u8]) -> Slot
     ensures { result ≡ slot_of slot.now }
 {
     slots::judge(slot)
 }
 
 // The front of a slot that has this room.
-#[unsafe(no_mangle)]
-pub extern "C" fn kelindap_slot_begin(front: &[u8], room: usize) -> Judging
+pub fn kelindap_slot_begin(front: &[u8], room: usize) -> Judging
     ensures { result ≡ begin_of front.now room }
 {
     slots::begin(front, room)
 }
 
 // The bytes behind it, in parts of any length.
-#[unsafe(no_mangle)]
-pub extern "C" fn kelindap_slot_more(judging: Judging, bytes: &[u8]) -> Judging
+pub fn kelindap_slot_more(judging: Judging, bytes: &[u8]) -> Judging
     ensures { result ≡ more_of judging bytes.now }
 {
     slots::more(judging, bytes)
 }
 
 // What the slot holds that was handed over.
-#[unsafe(no_mangle)]
-pub extern "C" fn kelindap_slot_end(judging: Judging) -> Slot
+pub fn kelindap_slot_end(judging: Judging) -> Slot
     ensures { result ≡ end_of judging }
 {
     slots::end(judging)
 }
 
 // Which of two slots a unit starts with.
-#[unsafe(no_mangle)]
-pub extern "C" fn kelindap_slot_newer(first: Slot, second: Slot) -> u8
+pub fn kelindap_slot_newer(first: Slot, second: Slot) -> u8
     ensures { result ≡ newer_of first second }
 {
     slots::newer(first, second)
 }
 
 // Where the next save goes.
-#[unsafe(no_mangle)]
-pub extern "C" fn kelindap_slot_target(first: Slot, second: Slot) -> Target
+pub fn kelindap_slot_target(first: Slot, second: Slot) -> Target
     ensures { result ≡ target_of first second }
 {
     slots::aim(first, second)
 }
 
 // A piece of a save.
-#[unsafe(no_mangle)]
-pub extern "C" fn kelindap_slot_work(
+pub fn kelindap_slot_work(
     sheet: &[u8],
     number: u32,
     room: usize,

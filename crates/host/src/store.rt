@@ -10,24 +10,21 @@ use device::Sessions;
 use versions::{Listed, Saved};
 
 // 0 for a good store, else 30.
-#[unsafe(no_mangle)]
-pub extern "C" fn kelindap_store_check(store: &[u8]) -> u8
+pub fn kelindap_store_check(store: &[u8]) -> u8
     ensures { result ≡ store_rule store.now }
 {
     versions::check(store)
 }
 
 // The sheet's properties saved under the next number.
-#[unsafe(no_mangle)]
-pub extern "C" fn kelindap_save(sheet: &[u8], store: &mut [u8]) -> Saved
+pub fn kelindap_save(sheet: &[u8], store: &mut [u8]) -> Saved
     ensures { SavedAs sheet.now store.old result store.new }
 {
     versions::save(sheet, store)
 }
 
 // The version with a number restored, on behalf of a connection.
-#[unsafe(no_mangle)]
-pub extern "C" fn kelindap_restore(
+pub fn kelindap_restore(
     sessions: Sessions,
     connection: u8,
     sheet: &mut [u8],
@@ -41,16 +38,14 @@ pub extern "C" fn kelindap_restore(
 }
 
 // The version with a number removed.
-#[unsafe(no_mangle)]
-pub extern "C" fn kelindap_remove(store: &mut [u8], number: usize) -> u8
+pub fn kelindap_remove(store: &mut [u8], number: usize) -> u8
     ensures { Removed store.old number result store.new }
 {
     versions::remove(store, number)
 }
 
 // The k-th version that a store keeps, counted from 0.
-#[unsafe(no_mangle)]
-pub extern "C" fn kelindap_kept(store: &[u8], k: usize) -> Listed
+pub fn kelindap_kept(store: &[u8], k: usize) -> Listed
     ensures { result ≡ kept_of store.now k }
 {
     versions::kept(store, k)

@@ -14,8 +14,7 @@ pub struct Reply {
     pub sessions: Sessions,
 }
 
-#[unsafe(no_mangle)]
-pub extern "C" fn kelindap_plain_request(
+pub fn kelindap_plain_request(
     sessions: Sessions,
     sheet: &mut [u8],
     mode: u8,

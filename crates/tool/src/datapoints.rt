@@ -60,8 +60,7 @@ fn laid(d: Datapoint, s: &[u8]) -> FlatPoint
 }
 
 // The value of a type in the bytes, laid flat; or the outcome alone.
-#[unsafe(no_mangle)]
-pub extern "C" fn kelindap_point_read(kind: u8, bytes: &[u8]) -> FlatPoint
+pub fn kelindap_point_read(kind: u8, bytes: &[u8]) -> FlatPoint
     ensures { ReadFrom bytes.now result (flat_point_read kind bytes.now) }
 {
     let got = points::read(kind, bytes);
@@ -84,8 +83,7 @@ fn meant(f: FlatPoint) -> Reading
 }
 
 // The bytes of a flat datapoint into a part exactly as long; on a refusal the part is as it was.
-#[unsafe(no_mangle)]
-pub extern "C" fn kelindap_point_write(point: FlatPoint, out: &mut [u8]) -> u8
+pub fn kelindap_point_write(point: FlatPoint, out: &mut [u8]) -> u8
     ensures { FlatPut point out.old result out.new }
 {
     let w = points::width(point.kind);

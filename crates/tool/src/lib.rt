@@ -10,7 +10,7 @@ ghost use Rattle.tool.specs.declared.Meant.TheVariants.{Known};
 
 use pdu::{Parsed, Pdu, Written};
 
-mod datapoints;
+pub mod datapoints;
 mod frames;
 mod lay;
 mod mean;
@@ -93,8 +93,7 @@ pub enum Meant {
 }
 
 // The PDU in the bytes, laid flat, with where its data stands; or the outcome alone.
-#[unsafe(no_mangle)]
-pub extern "C" fn kelindap_read(apdu: &[u8]) -> FlatPdu
+pub fn kelindap_read(apdu: &[u8]) -> FlatPdu
     ensures { ReadFrom apdu.now result (flat_read apdu.now) }
 {
     let got = pdu::read(apdu);
@@ -146,8 +145,7 @@ fn write_unknown(room: usize) -> FlatWritten
 }
 
 // The bytes of a flat PDU with its data at the front of out, and their count; on a refusal out is as it was.
-#[unsafe(no_mangle)]
-pub extern "C" fn kelindap_write(flat: FlatPdu, data: &[u8], out: &mut [u8]) -> FlatWritten
+pub fn kelindap_write(flat: FlatPdu, data: &[u8], out: &mut [u8]) -> FlatWritten
     ensures { FlatWrote (meant_by flat) «data».now out.old result out.new }
 {
     let meant = mean::meant(flat);
@@ -158,24 +156,21 @@ pub extern "C" fn kelindap_write(flat: FlatPdu, data: &[u8], out: &mut [u8]) -> 
 }
 
 // The version of this library.
-#[unsafe(no_mangle)]
-pub extern "C" fn kelindap_pdu_version() -> u32
+pub fn kelindap_pdu_version() -> u32
     ensures { result ≡ version_of }
 {
     65536
 }
 
 // The frame in the bytes, laid flat, with where its parts stand; or the outcome alone.
-#[unsafe(no_mangle)]
-pub extern "C" fn kelindap_frame_read(frame: &[u8]) -> FlatFrame
+pub fn kelindap_frame_read(frame: &[u8]) -> FlatFrame
     ensures { ReadFrom frame.now result (flat_frame frame.now) }
 {
     frames::read(frame)
 }
 
 // The bytes of a frame with its parts at the front of out, and their count; on a refusal out is as it was.
-#[unsafe(no_mangle)]
-pub extern "C" fn kelindap_frame_write(
+pub fn kelindap_frame_write(
     f: FlatFrame,
     info: &[u8],
     apdu: &[u8],
