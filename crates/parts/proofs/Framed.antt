@@ -3,7 +3,7 @@ use Rattle.octets.proofs.Kit.{ℕ, ◌+◌, ◌*◌, ◌-◌, ◌/◌, ◌%◌, 
 use Rattle.octets.proofs.Kit.{get_or-set_same, get_or-set_other}
 use Rattle.octets.{specs.{Bytes.{num_at, bytes_of}, Splice.splice, Octets.Octets}, proofs.Numbers.{num_one, length_bytes}}
 use Rattle.octets.proofs.Splices.{length_splice, splice_below, splice_above, splice_num, splice_num_outside}
-use Rattle.sheet.specs.{Kind.{regions, properties, groups, users}, Layout.◌of◌, Entries.base}
+use Rattle.sheet.specs.{Kind.{properties, groups, users}, Layout.◌of◌, Entries.base}
 use Rattle.sheet.specs.Head as head
 use Rattle.parts.specs.{declared.{Head.Head, Parts.Parts}, Records.{IsRegion, IsProperty, IsGroup, IsHead, Taken, no_region, no_property, no_group}}
 use Rattle.parts.specs.With.{with_head, with_key, with_address, cleared}

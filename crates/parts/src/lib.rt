@@ -1,5 +1,6 @@
 // A sheet as plain records: taken apart, and written again.
 #![tactic(auto)]
+
 mod entries;
 mod front;
 mod lists;

@@ -87,4 +87,4 @@ pub returns-in-27 : goal.returns-in-27
 returns-in-27 c = search via_meant
 
 pub returns-in_default : goal.returns-in_default
-returns-in_default c = no_kind_lem _ c.in_default.in_default-own.rest
+returns-in_default c = search no_kind_lem
