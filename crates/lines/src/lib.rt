@@ -1,7 +1,9 @@
 // Lines of text in lent slices, for programs of cases. Each function takes any place: a part that is not there is empty, and
 // what does not fit is left out.
 #![tactic(auto)]
+
 mod hex;
+mod input;
 mod out;
 mod tally;
 mod value;
@@ -9,7 +11,10 @@ mod value;
 ghost use Rattle.std.specs.Prelude.{◌≡◌, ◌+◌, ◌≤◌, min, length};
 
 pub use hex::{is_hex, put_hex, put_unhex};
-pub use out::{put, put_all, put_decimal, put_digits, put_unclear, say};
+pub use input::read_full;
+pub use out::{
+    put, put_all, put_decimal, put_digits, put_unclear, say, write, write_decimal, write_hex,
+};
 pub use tally::{Tally, begin, counted, end, is_remark, told, unclear};
 pub use value::{digits, number};
 

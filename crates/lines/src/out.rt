@@ -1,5 +1,4 @@
-// Text put into a lent slice, and lines written.
-use libc::STDOUT_FILENO;
+// Text put into a lent slice, and text written to standard output. A write that fails is passed over: nothing is said of it.
 
 // The byte stored at a place, and the place after it.
 pub fn put(out: &mut [u8], at: usize, b: u8) -> usize {
@@ -39,8 +38,25 @@ pub fn put_unclear(out: &mut [u8]) -> usize {
     put_all(out, 0, b"line not understood")
 }
 
-pub fn say(before: &[u8], line: &[u8]) {
-    io::write_all(STDOUT_FILENO, before);
-    io::write_all(STDOUT_FILENO, line);
-    io::write_all(STDOUT_FILENO, b"\n");
+pub fn write(rt: &impl Print, bytes: &[u8]) {
+    let _ = rt.write_all(bytes);
+}
+
+pub fn write_decimal(rt: &impl Print, n: u64) {
+    let mut text = [0u8; 20];
+    let k = io::decimal(n, &mut text);
+    write(rt, &text[..k]);
+}
+
+// A number in hex digits, at least so many.
+pub fn write_hex(rt: &impl Print, n: u64, width: usize) {
+    let mut text = [0u8; 16];
+    let k = io::hex(n, width, &mut text);
+    write(rt, &text[..k]);
+}
+
+pub fn say(rt: &impl Print, before: &[u8], line: &[u8]) {
+    write(rt, before);
+    write(rt, line);
+    write(rt, b"\n");
 }

@@ -1,6 +1,5 @@
 // How many cases there were, and how many were different.
-use crate::out::say;
-use libc::STDOUT_FILENO;
+use crate::out::{say, write, write_decimal};
 use std::num::wrapping_add_u64;
 
 #[derive(Clone, Copy)]
@@ -33,28 +32,28 @@ pub fn counted(t: Tally, different: bool) -> Tally {
 }
 
 // One case more: its line, which says what it should give, and what it gave where that is something else.
-pub fn told(t: Tally, line: &[u8], want: &[u8], got: &[u8]) -> Tally {
+pub fn told(rt: &impl Print, t: Tally, line: &[u8], want: &[u8], got: &[u8]) -> Tally {
     if check::same(want, got) {
-        say(b"ok         ", line);
+        say(rt, b"ok         ", line);
         return counted(t, false);
     }
-    say(b"DIFFERENT  ", line);
-    say(b"   but got ", got);
+    say(rt, b"DIFFERENT  ", line);
+    say(rt, b"   but got ", got);
     counted(t, true)
 }
 
 // One case more, of a line that does not say what to do.
-pub fn unclear(t: Tally, line: &[u8]) -> Tally {
-    told(t, line, b"", b"line not understood")
+pub fn unclear(rt: &impl Print, t: Tally, line: &[u8]) -> Tally {
+    told(rt, t, line, b"", b"line not understood")
 }
 
 // The counts, after an input that filled the buffer or did not.
-pub fn end(t: Tally, full: bool) {
-    io::print_decimal(STDOUT_FILENO, t.cases);
-    io::write_all(STDOUT_FILENO, b" cases, ");
-    io::print_decimal(STDOUT_FILENO, t.different);
-    io::write_all(STDOUT_FILENO, b" different\n");
+pub fn end(rt: &impl Print, t: Tally, full: bool) {
+    write_decimal(rt, t.cases);
+    write(rt, b" cases, ");
+    write_decimal(rt, t.different);
+    write(rt, b" different\n");
     if full {
-        say(b"", b"there may be more cases than that");
+        say(rt, b"", b"there may be more cases than that");
     }
 }

@@ -1,8 +1,7 @@
 // The whole code table: what the two bytes of each code read as, in runs of codes that read alike.
 use crate::cases::reads_and_writes;
 use crate::{plain, words};
-use libc::STDOUT_FILENO;
-use lines::{part, say};
+use lines::{part, say, write, write_decimal, write_hex};
 use std::num::{wrapping_add_u64, wrapping_sub_u16};
 
 // A run of codes from the first on, the outcome and the kind of each, and how many codes were wrong so far.
@@ -56,28 +55,28 @@ fn run_at(code: u16, wrong: u64) -> Run {
     }
 }
 
-fn say_last(first: u16, last: u16) {
+fn say_last(rt: &impl Print, first: u16, last: u16) {
     if first != last {
-        io::write_all(STDOUT_FILENO, b"..");
-        io::print_hex(STDOUT_FILENO, last as u64, 3);
+        write(rt, b"..");
+        write_hex(rt, last as u64, 3);
     }
 }
 
 // `FIRST..LAST: OUTCOME KIND`
-fn say_run(r: Run, last: u16) {
-    io::print_hex(STDOUT_FILENO, r.first as u64, 3);
-    say_last(r.first, last);
-    io::write_all(STDOUT_FILENO, b": ");
-    io::print_decimal(STDOUT_FILENO, r.outcome);
+fn say_run(rt: &impl Print, r: Run, last: u16) {
+    write_hex(rt, r.first as u64, 3);
+    say_last(rt, r.first, last);
+    write(rt, b": ");
+    write_decimal(rt, r.outcome);
     if r.kind < 28 {
-        words::say_kind(r.kind);
+        words::say_kind(rt, r.kind);
     } else {
-        say(b"", b"");
+        say(rt, b"", b"");
     }
 }
 
 // The run with the code, or the run that starts there.
-fn step(r: Run, code: u16) -> Run {
+fn step(rt: &impl Print, r: Run, code: u16) -> Run {
     let next = run_at(code, r.wrong);
     if next.kind == r.kind {
         if next.outcome == r.outcome {
@@ -89,18 +88,18 @@ fn step(r: Run, code: u16) -> Run {
             };
         }
     }
-    say_run(r, wrapping_sub_u16(code, 1));
+    say_run(rt, r, wrapping_sub_u16(code, 1));
     next
 }
 
 // Says the runs, and how many codes are wrong.
-pub(crate) fn table() -> u64 {
+pub(crate) fn table(rt: &impl Print) -> u64 {
     let mut r = run_at(0, 0);
     let mut code = 1;
     while code < 1024 {
-        r = step(r, code);
+        r = step(rt, r, code);
         code += 1;
     }
-    say_run(r, 1023);
+    say_run(rt, r, 1023);
     r.wrong
 }

@@ -38,9 +38,9 @@ user_memory_write n address data"
 }
 
 // The name of a kind, written.
-pub(crate) fn say_kind(kind: usize) {
+pub(crate) fn say_kind(rt: &impl Print, kind: usize) {
     let all = rows();
-    say(b" ", word(piece(&all, kind, b'\n'), 0));
+    say(rt, b" ", word(piece(&all, kind, b'\n'), 0));
 }
 
 // The number of the kind of that name, or 28.

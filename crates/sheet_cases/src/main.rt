@@ -4,13 +4,13 @@
 //   WORDS ? QUESTION -> ANSWER ..   the same, and the answer is that of a lookup (ask.rt)
 // Each case is written after `ok`, or after DIFFERENT with what it gave, and in the end how many there were.
 #![tactic(auto)]
+
 use ask::ask;
 use check::same;
 use draft::{Draft, empty};
-use libc::STDIN_FILENO;
 use lines::{
-    Tally, after, before, begin, beyond, find, is_remark, part, put_all, put_unclear, rest, say,
-    told, unclear, word,
+    Tally, after, before, begin, beyond, find, is_remark, part, put_all, put_unclear, read_full,
+    rest, say, told, unclear, word,
 };
 use words::with_words;
 
@@ -38,50 +38,50 @@ fn answered(line: &[u8], s: &mut [u8], base: Draft, got: &mut [u8]) -> usize {
 }
 
 // s has room for a copy of the base.
-fn with_case(line: &[u8], base: &[u8], s: &mut [u8], t: State) -> State {
+fn with_case(rt: &impl Print, line: &[u8], base: &[u8], s: &mut [u8], t: State) -> State {
     let d = t.base;
     let tally = t.tally;
     put_all(s, 0, part(base, 0, d.len));
     let mut got = [0u8; 256];
     let n = answered(before(line, b'-'), s, d, &mut got);
     let want = word(beyond(line, b'-'), 1);
-    let next = told(tally, line, want, part(&got, 0, n));
+    let next = told(rt, tally, line, want, part(&got, 0, n));
     State {
         base: d,
         tally: next,
     }
 }
 
-fn with_base(line: &[u8], base: &mut [u8], t: State) -> State {
+fn with_base(rt: &impl Print, line: &[u8], base: &mut [u8], t: State) -> State {
     let old = t.base;
     let tally = t.tally;
     let d = with_words(base, old, rest(line, 5));
     if d.fine {
-        say(b"", line);
+        say(rt, b"", line);
         return State {
             base: d,
             tally: tally,
         };
     }
-    let next = unclear(tally, line);
+    let next = unclear(rt, tally, line);
     State {
         base: empty(),
         tally: next,
     }
 }
 
-fn with_line(line: &[u8], base: &mut [u8], s: &mut [u8], t: State) -> State {
+fn with_line(rt: &impl Print, line: &[u8], base: &mut [u8], s: &mut [u8], t: State) -> State {
     if is_remark(line) {
-        say(b"", line);
+        say(rt, b"", line);
         return t;
     }
     if same(word(line, 0), b"base") {
-        return with_base(line, base, t);
+        return with_base(rt, line, base, t);
     }
-    with_case(line, base, s, t)
+    with_case(rt, line, base, s, t)
 }
 
-fn with_all(text: &[u8], base: &mut [u8], s: &mut [u8]) -> Tally {
+fn with_all(rt: &impl Print, text: &[u8], base: &mut [u8], s: &mut [u8]) -> Tally {
     let mut t = State {
         base: empty(),
         tally: begin(),
@@ -89,18 +89,18 @@ fn with_all(text: &[u8], base: &mut [u8], s: &mut [u8]) -> Tally {
     let mut at = 0;
     while at < text.len() {
         let end = find(text, at, b'\n');
-        t = with_line(part(text, at, end), base, s, t);
+        t = with_line(rt, part(text, at, end), base, s, t);
         at = after(text, end);
     }
     t.tally
 }
 
 // There is room for sheets that are a little too long.
-fn main() {
-    let mut text = io::large_buffer();
-    let n = io::read_full(STDIN_FILENO, &mut text);
+fn main(rt: HostRuntime) {
+    let mut text = [0u8; 65536];
+    let n = read_full(&mut rt.stdin(), &mut text);
     let mut base = [0u8; 16400];
     let mut s = [0u8; 16400];
-    let tally = with_all(&text[..n], &mut base, &mut s);
-    lines::end(tally, n == text.len());
+    let tally = with_all(&rt, &text[..n], &mut base, &mut s);
+    lines::end(&rt, tally, n == text.len());
 }

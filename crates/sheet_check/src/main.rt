@@ -1,11 +1,12 @@
 // Reads a sheet from standard input, and writes OK, OLD or the rule that it breaks.
 #![tactic(auto)]
+
 ghost use Rattle.std.specs.Prelude.{◌≡◌, ◌≤◌, length};
 ghost use Rattle.sheet_check.specs.Input.{Within};
 ghost use Rattle.sheet_check.specs.Line.{line_of, said_of, Fronts};
 
-use libc::{STDIN_FILENO, STDOUT_FILENO};
 use octets::splice;
+use std::io::{Error, Read};
 
 // How many bytes came before the input ended or the buffer was full, or that a read failed.
 #[derive(Clone, Copy)]
@@ -14,20 +15,26 @@ pub enum Input {
     Failed,
 }
 
-fn read_all(buf: &mut [u8]) -> Input
+// What failed, and why, as a line of standard error.
+fn fail(rt: &impl Eprint, what: &str, why: Error) {
+    let _ = eprintln!(rt; "sheet_check: {what}: {why}");
+}
+
+// A read that fails is told on standard error.
+fn read_all(rt: &impl Eprint, from: &mut impl Read, buf: &mut [u8]) -> Input
     ensures { Within result (length buf.new) }
 {
     let mut n = 0;
     while n < buf.len() {
-        let got = libc::read(STDIN_FILENO, &mut buf[n..]);
-        if got < 0 {
-            return Input::Failed;
+        let got = from.read(&mut buf[n..]);
+        match got {
+            Ok(0) => return Input::Bytes(n),
+            Ok(more) => n += more,
+            Err(why) => {
+                fail(rt, "standard input", why);
+                return Input::Failed;
+            }
         }
-        let more = io::count(got, &buf[n..]);
-        if more == 0 {
-            return Input::Bytes(n);
-        }
-        n += more;
     }
     Input::Bytes(n)
 }
@@ -57,22 +64,22 @@ fn said(sheet: &[u8], out: &mut [u8]) -> usize
     line(sheet::check(sheet), out)
 }
 
-fn say(line: &[u8]) {
-    if !io::write_all(STDOUT_FILENO, line) {
-        os::fail(b"sheet_check: standard output");
+fn say(rt: &(impl Print + Eprint), line: &[u8]) {
+    if let Err(why) = rt.write_all(line) {
+        fail(rt, "standard output", why);
     }
 }
 
 // There is room for one byte more than the longest sheet has, so that one that is too long shows.
-fn main() {
+fn main(rt: HostRuntime) {
     let mut buf = [0u8; 16385];
     let mut out = [0u8; 4];
-    let input = read_all(&mut buf);
+    let input = read_all(&rt, &mut rt.stdin(), &mut buf);
     match input {
         Input::Bytes(n) => {
             let many = said(&buf[..n], &mut out);
-            say(&out[..many]);
+            say(&rt, &out[..many]);
         }
-        Input::Failed => os::fail(b"sheet_check: standard input"),
+        Input::Failed => {}
     }
 }

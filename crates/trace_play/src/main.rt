@@ -1,13 +1,13 @@
 // Plays a recorded trace: standard input has a sheet, then the trace. Says each event, its outcome and answer, then the sessions
 // and whether the sheet changed; or by which rule the sheet, or by which number the trace, is refused.
 #![tactic(auto)]
+
 ghost use Rattle.std.specs.Prelude.{◌≡◌, ◌≤◌, length};
 ghost use Rattle.trace_play.specs.Input.{sheet_length};
 
 use check::same;
 use device::Sessions;
-use libc::STDIN_FILENO;
-use lines::{first, part, put_all, rest, say};
+use lines::{first, part, put_all, read_full, rest, say};
 use octets::{number, word};
 use show::{say_end, say_event, say_number};
 
@@ -29,19 +29,19 @@ fn sheet_length(input: &[u8]) -> usize
 }
 
 // Event i, counted from 0, played and said.
-fn play_one(q: Sessions, sheet: &mut [u8], trace: &[u8], i: u16) -> Sessions {
+fn play_one(rt: &impl Print, q: Sessions, sheet: &mut [u8], trace: &[u8], i: u16) -> Sessions {
     let mut log = [0u8; 18];
     let played = playback::play(q, sheet, trace, i as usize, 1, &mut log);
-    say_event(trace, i, &log);
+    say_event(rt, trace, i, &log);
     played.sessions
 }
 
 // The first n events.
-fn play_all(sheet: &mut [u8], trace: &[u8], n: u16) -> Sessions {
+fn play_all(rt: &impl Print, sheet: &mut [u8], trace: &[u8], n: u16) -> Sessions {
     let mut sessions = device::fresh();
     let mut i: u16 = 0;
     while i < n {
-        sessions = play_one(sessions, sheet, trace, i);
+        sessions = play_one(rt, sessions, sheet, trace, i);
         i += 1;
     }
     sessions
@@ -55,36 +55,36 @@ fn room() -> [u8; 16384]
 }
 
 // The trace, which can be played, on a copy of the sheet.
-fn play(sheet: &[u8], trace: &[u8]) {
+fn play(rt: &impl Print, sheet: &[u8], trace: &[u8]) {
     let mut copy = room();
     put_all(&mut copy, 0, sheet);
     let events = (number(trace, 0, 2) % 65536) as u16;
-    let sessions = play_all(first(&mut copy, sheet.len()), trace, events);
-    say_end(sessions, same(part(&copy, 0, sheet.len()), sheet));
+    let sessions = play_all(rt, first(&mut copy, sheet.len()), trace, events);
+    say_end(rt, sessions, same(part(&copy, 0, sheet.len()), sheet));
 }
 
 // The trace played, if neither is refused.
-fn judged(sheet: &[u8], trace: &[u8]) {
+fn judged(rt: &impl Print, sheet: &[u8], trace: &[u8]) {
     let verdict = sheet::check(sheet);
     if verdict == sheet::OLD {
-        say(b"sheet refused: ", b"OLD");
+        say(rt, b"sheet refused: ", b"OLD");
         return;
     }
     if verdict != 0 {
-        say_number(b"sheet refused: S", verdict);
+        say_number(rt, b"sheet refused: S", verdict);
         return;
     }
     let refusal = playback::check(trace);
     if refusal != 0 {
-        say_number(b"trace refused: ", refusal);
+        say_number(rt, b"trace refused: ", refusal);
         return;
     }
-    play(sheet, trace);
+    play(rt, sheet, trace);
 }
 
-fn told(input: &[u8]) {
+fn told(rt: &impl Print, input: &[u8]) {
     let at = sheet_length(input);
-    judged(part(input, 0, at), rest(input, at));
+    judged(rt, part(input, 0, at), rest(input, at));
 }
 
 // More than the longest sheet that bytes 4 and 5 can state and the longest trace that can be played have together: what is
@@ -95,8 +95,8 @@ fn buffer() -> [u8; 262144]
     [0; 262144]
 }
 
-fn main() {
+fn main(rt: HostRuntime) {
     let mut input = buffer();
-    let n = io::read_full(STDIN_FILENO, &mut input);
-    told(&input[..n]);
+    let n = read_full(&mut rt.stdin(), &mut input);
+    told(&rt, &input[..n]);
 }

@@ -55,32 +55,32 @@ fn put_line(out: &mut [u8], trace: &[u8], i: u16, e: &[u8], log: &[u8]) -> usize
 }
 
 // Event i of the trace, counted from 0.
-pub(crate) fn say_event(trace: &[u8], i: u16, log: &[u8]) {
+pub(crate) fn say_event(rt: &impl Print, trace: &[u8], i: u16, log: &[u8]) {
     let mut text = [0u8; 1024];
     let at = 2 + 8 * i as usize;
     let n = put_line(&mut text, trace, i, part(trace, at, at + 8), log);
-    say(b"", part(&text, 0, n));
+    say(rt, b"", part(&text, 0, n));
 }
 
-pub(crate) fn say_number(before: &[u8], n: u8) {
+pub(crate) fn say_number(rt: &impl Print, before: &[u8], n: u8) {
     let mut text = [0u8; 20];
     let k = put_decimal(&mut text, 0, n as u64);
-    say(before, part(&text, 0, k));
+    say(rt, before, part(&text, 0, k));
 }
 
-fn say_session(before: &[u8], q: Session) {
+fn say_session(rt: &impl Print, before: &[u8], q: Session) {
     let mut text = [0u8; 64];
     let a = put_field(&mut text, 0, b"open=", q.opened as usize);
     let b = put_field(&mut text, a, b" level=", q.level as usize);
-    say(before, part(&text, 0, b));
+    say(rt, before, part(&text, 0, b));
 }
 
-pub(crate) fn say_end(q: Sessions, same: bool) {
-    say_session(b"session 0 ", q.first);
-    say_session(b"session 1 ", q.second);
+pub(crate) fn say_end(rt: &impl Print, q: Sessions, same: bool) {
+    say_session(rt, b"session 0 ", q.first);
+    say_session(rt, b"session 1 ", q.second);
     if same {
-        say(b"", b"sheet unchanged");
+        say(rt, b"", b"sheet unchanged");
     } else {
-        say(b"", b"sheet changed");
+        say(rt, b"", b"sheet changed");
     }
 }
