@@ -1,7 +1,5 @@
 -- promises has what docs/PROMISES.md names; all else are laws behind them and behind the contracts.
 pub mod promises
-pub mod Walking
-pub mod Replaced
 pub mod Replies
 pub mod Restored
 pub mod Buses

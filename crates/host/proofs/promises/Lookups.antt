@@ -3,7 +3,7 @@
 use Rattle.octets.proofs.Kit.{◌≡◌}
 use base.Logic.{SProp, ent, id⊢}
 use contract.{Lifetimes.Lfts, Monad.{Fun, fact}}
-use denote.{Ref.now, Triple.{Entry.{Args, Res}, Clauses.AtExit}}
+use denote.{Triple.{Entry.{Args, Res}, Clauses.AtExit}}
 use types.Logic.{Logic}
 use seplogic.Ra.Ura.{Ura}
 use prog.{Memory.Memory, Routine.Routine, Wp.Heap}
@@ -31,55 +31,55 @@ module _ {M : Type 1} {𝓤 : Ura M} (𝓛 : Logic 𝓤) (mem : Memory → SProp
 
   -- kelindap_check(sheet)
   module _ (κs : Lfts 1) (a : Args check-fn.signature κs) (r : Res check-fn.signature κs) (e : AtExit check-fn.ended κs) where
-    pub check_says : Entails ((check-fn.clauses 𝓛 mem run κs a).ensures tt r e) (r ≡ verdict_of (now a.0))
+    pub check_says : Entails ((check-fn.clauses 𝓛 mem run κs a).ensures tt r e) (r ≡ verdict_of a.0.now)
     check_says = id⊢ 𝓤 _
 
   -- kelindap_property(sheet, object, id)
   module _ (κs : Lfts 1) (a : Args property-fn.signature κs) (r : Res property-fn.signature κs) (e : AtExit property-fn.ended κs) where
     pub property_says :
         Entails ((property-fn.clauses 𝓛 mem run κs a).ensures tt r e)
-        (StandsIn (now a.0) r (property_of (now a.0) a.1.0 a.1.1.0) (property_from (now a.0) a.1.0 a.1.1.0))
+        (StandsIn a.0.now r (property_of a.0.now a.1.0 a.1.1.0) (property_from a.0.now a.1.0 a.1.1.0))
     property_says = id⊢ 𝓤 _
 
   -- kelindap_region(sheet, k)
   module _ (κs : Lfts 1) (a : Args region-fn.signature κs) (r : Res region-fn.signature κs) (e : AtExit region-fn.ended κs) where
     pub region_says :
-        Entails ((region-fn.clauses 𝓛 mem run κs a).ensures tt r e) (StandsIn (now a.0) r (region_of (now a.0) a.1.0) (region_from (now a.0) a.1.0))
+        Entails ((region-fn.clauses 𝓛 mem run κs a).ensures tt r e) (StandsIn a.0.now r (region_of a.0.now a.1.0) (region_from a.0.now a.1.0))
     region_says = id⊢ 𝓤 _
 
   -- kelindap_user_region(sheet, k)
   module _ (κs : Lfts 1) (a : Args user-region-fn.signature κs) (r : Res user-region-fn.signature κs) (e : AtExit user-region-fn.ended κs) where
     pub user_region_says :
         Entails ((user-region-fn.clauses 𝓛 mem run κs a).ensures tt r e)
-        (StandsIn (now a.0) r (user_region_of (now a.0) a.1.0) (user_region_from (now a.0) a.1.0))
+        (StandsIn a.0.now r (user_region_of a.0.now a.1.0) (user_region_from a.0.now a.1.0))
     user_region_says = id⊢ 𝓤 _
 
   -- kelindap_group(sheet, address)
   module _ (κs : Lfts 1) (a : Args group-fn.signature κs) (r : Res group-fn.signature κs) (e : AtExit group-fn.ended κs) where
     pub group_says :
-        Entails ((group-fn.clauses 𝓛 mem run κs a).ensures tt r e) (StandsIn (now a.0) r (group_of (now a.0) a.1.0) (group_from (now a.0) a.1.0))
+        Entails ((group-fn.clauses 𝓛 mem run κs a).ensures tt r e) (StandsIn a.0.now r (group_of a.0.now a.1.0) (group_from a.0.now a.1.0))
     group_says = id⊢ 𝓤 _
 
   -- kelindap_trace_check(trace)
   module _ (κs : Lfts 1) (a : Args trace-check-fn.signature κs) (r : Res trace-check-fn.signature κs) (e : AtExit trace-check-fn.ended κs) where
-    pub trace_check_says : Entails ((trace-check-fn.clauses 𝓛 mem run κs a).ensures tt r e) (r ≡ refusal_of (now a.0))
+    pub trace_check_says : Entails ((trace-check-fn.clauses 𝓛 mem run κs a).ensures tt r e) (r ≡ refusal_of a.0.now)
     trace_check_says = id⊢ 𝓤 _
 
   -- kelindap_store_check(store)
   module _ (κs : Lfts 1) (a : Args store-check-fn.signature κs) (r : Res store-check-fn.signature κs) (e : AtExit store-check-fn.ended κs) where
-    pub store_check_says : Entails ((store-check-fn.clauses 𝓛 mem run κs a).ensures tt r e) (r ≡ store_rule (now a.0))
+    pub store_check_says : Entails ((store-check-fn.clauses 𝓛 mem run κs a).ensures tt r e) (r ≡ store_rule a.0.now)
     store_check_says = id⊢ 𝓤 _
 
   -- kelindap_kept(store, k)
   module _ (κs : Lfts 1) (a : Args kept-fn.signature κs) (r : Res kept-fn.signature κs) (e : AtExit kept-fn.ended κs) where
-    pub kept_says : Entails ((kept-fn.clauses 𝓛 mem run κs a).ensures tt r e) (r ≡ kept_of (now a.0) a.1.0)
+    pub kept_says : Entails ((kept-fn.clauses 𝓛 mem run κs a).ensures tt r e) (r ≡ kept_of a.0.now a.1.0)
     kept_says = id⊢ 𝓤 _
 
   -- kelindap_heard(link, sheet, frame)
   module _ (κs : Lfts 2) (a : Args heard-fn.signature κs) (r : Res heard-fn.signature κs) (e : AtExit heard-fn.ended κs) where
     pub heard_says :
         Entails ((heard-fn.clauses 𝓛 mem run κs a).ensures tt r e)
-        (r ≡ arrival_of (heard_of a.0 (own_of (now a.1.0)) (now a.1.1.0)) (sender_of (read_frame (now a.1.1.0))))
+        (r ≡ arrival_of (heard_of a.0 (own_of a.1.0.now) a.1.1.0.now) (sender_of (read_frame a.1.1.0.now)))
     heard_says = id⊢ 𝓤 _
 
   -- kelindap_version()

@@ -66,7 +66,7 @@ marked_octets s t from limit log played v m o =
     (all_take (mark_handled s t from limit log played v m) (drop from (events_from t 0 (count t))) (all_drop from (events_from t 0 (count t)) (all_from t o (count t) 0)))
 
 -- ONE CALL MORE
-pub step_follows : {f : First} {h es : List Event} {x y : Net} → Begins f → Follows f h (state_of x) → Step x es y → Follows f (es ++ h) (state_of y)
+pub step_follows : {f : First} {h : List Event} {x : Net} {es : List Event} {y : Net} → Begins f → Follows f h (state_of x) → Step x es y → Follows f (es ++ h) (state_of y)
 step_follows b k (calls c) = call_follows k c
 step_follows {f} {h} {x = x} b k (converts r s' c) =
     let ok : Accepted x.sheet = subst (λ (z : State). Accepted z.sheet) (sym k.state) (keeps f h b k.octets).accepted in
