@@ -1,13 +1,15 @@
 #!/usr/bin/env bash
 # tests/edits/try.sh LOGS [CRATE..]: leaves in LOGS/crate/edit.log all that the prover says of the crate with that edit, of which rt ci
 # prints the first line alone; of every crate, or of these. Each is checked over what a check of the crate as it stands proved, and what
-# was said of the same files, by their sums, is kept from run to run in KEPT, by itself a folder among the user's caches.
+# was said of the same files, by their sums, is kept from run to run in KEPT, by itself a folder among the user's caches. As many are
+# checked side by side as JOBS says, or as there are processors.
 set -euo pipefail
 logs=$1
 shift
 kept=${KEPT:-${XDG_CACHE_HOME:-$HOME/.cache}/kelindap}/edits
 kit=$(readlink -f "$(command -v rt)")
 rattle=${kit%/bin/rt}/bin/rattle
+side=${JOBS:-$(nproc)}
 work=$(mktemp -d)
 trap 'rm -rf "$work"' EXIT
 mkdir -p "$logs" "$kept"
@@ -71,10 +73,10 @@ for crate in "${crates[@]}"; do
             mk/bin/words "$crate" > "$work/$crate.words"
             mapfile -t words < "$work/$crate.words"
             mkdir -p "crates/$crate/out"
-            (cd "crates/$crate" && "$rattle" check "${words[@]}" --jobs "$(nproc)" --incremental out/incremental) > "$work/seed.log" 2>&1 < /dev/null ||
+            (cd "crates/$crate" && "$rattle" check "${words[@]}" --jobs "$side" --incremental out/incremental) > "$work/seed.log" 2>&1 < /dev/null ||
                 { cat "$work/seed.log" >&2; exit 1; }
         fi
-        while [ "$(jobs -rp | wc -l)" -ge "$(nproc)" ]; do wait -n || true; done
+        while [ "$(jobs -rp | wc -l)" -ge "$side" ]; do wait -n || true; done
         one "$crate" "$name" "$key" &
     done
 done
