@@ -16,7 +16,6 @@ help:
 # what mk/bin/beside runs side by side builds in folders of its own, and what both need is there before; where one make has all of
 # it, it goes by what needs what, two at a time
 test: need-tools
-	rt fmt --check
 	$(MAKE) --no-print-directory -s lint
 	$(MAKE) --no-print-directory -s documents
 	$(MAKE) --no-print-directory -s model
@@ -30,13 +29,18 @@ test: need-tools
 	mk/bin/beside $(MAKE) --no-print-directory -s test-page test-shims -- $(MAKE) --no-print-directory -s test-others
 	tail -n 1 build/ci.log
 
-# every proof from nothing, every edit, every program, once: what the tests after it link and run is what was proved here. The
-# last line of rt ci is the last of all, so it is held back where there is something after it
+# layout, every proof, every edit, every program, once: what the tests after it link and run is what was proved here. An edit that says
+# nothing, which rt ci passes as bad, fails here. The last line of rt ci is the last of all, so it is held back where there is
+# something after it
 prove: need-tools
 	tests/edits/list.sh tests/edits/refused.tsv
 	mkdir -p build
 	rt ci 2>&1 | tee build/ci.log | sed -u '$$d' || { tail -n 1 build/ci.log; exit 1; }
-	tests/edits/gate.sh tests/edits/refused.tsv build/ci.log target/must-fail
+	! grep '^rt: ok.*, [0-9]* bad' build/ci.log || { echo "an edit is bad, and says nothing of a contract"; exit 1; }
+	grep -q '^rt: ok' build/ci.log
+	mk/bin/proved --ci
+	tests/edits/try.sh build/edits
+	tests/edits/gate.sh tests/edits/refused.tsv build/ci.log build/edits
 
 # every name that a document quotes stands where the document says; what is to be read is complete, and as long as READING says; what
 # CHANGING names and quotes is in the source
@@ -70,9 +74,9 @@ model: need-tools
 
 # the checking and the playing program on files and pipes
 sheet-check: need-tools
-	rt check sheet_check trace_play
-	tests/sheet_check.sh target/bin/sheet_check
-	tests/trace_play.sh target/bin/trace_play
+	mk/bin/program sheet_check trace_play
+	tests/sheet_check.sh build/bin/sheet_check
+	tests/trace_play.sh build/bin/trace_play
 
 include mk/native.mk
 include mk/hosts.mk

@@ -21,10 +21,10 @@ native: $(LIBRARIES)
 	@echo "native: for $(PROCESSOR): $^"
 
 ifeq ($(PROCESSOR),x86_64)
-# rt's own archives, under names that no other project has
-$(HOST_A): target/staticlib/libhost.a
-$(TOOL_A): target/staticlib/libtool.a
-$(PLAIN_A): target/staticlib/libplain_host.a
+# those of the crates that export to C, under names that no other project has
+$(HOST_A): build/module/host.a
+$(TOOL_A): build/module/tool.a
+$(PLAIN_A): build/module/plain_host.a
 $(LIBRARIES):
 	@mkdir -p $(@D)
 	@cp $< $@
@@ -45,10 +45,11 @@ no-libraries:
 	@exit 1
 
 # the archives are made anew when a source or a proof has changed, and with them the modules for other processors
-target/staticlib/lib%.a build/module/%.bc: mk/bin/module crates.txt $(shell find crates -name '*.rt' -o -name '*.antt')
-	@echo "lib$*.a is proved and built, which takes some minutes at first"
+build/module/%.a build/module/%.bc: mk/bin/module mk/bin/twin crates.txt \
+    $(shell find crates -name out -prune -o \( -name '*.rt' -o -name '*.antt' \) -print)
+	@echo "$*_c is proved and its archive built, which takes some minutes at first"
 	@mk/bin/module $*
-.PRECIOUS: target/staticlib/lib%.a build/module/%.bc
+.PRECIOUS: build/module/%.a build/module/%.bc
 
 # faults planted in the shims, on the first processor that has them and whose programs can be made and run here
 SHIMMED := $(filter-out x86_64,$(HERE) $(OTHERS))

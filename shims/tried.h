@@ -1,30 +1,25 @@
 /*
  * How a module that rt try compiled, and nothing proved, passes values (mk/bin/look, which puts the headers of device.c and
- * pdu.c above this and their lines below): a structure by its address, a run by the address of its address and length; a
- * result that is a structure is filled at an address that comes first, and of one that is a number the lowest bits count. For
- * processors of 64 bits, where the headers' structures are the module's.
+ * pdu.c above this and their lines below, and has every structure passed by its address): a run by its address and its length;
+ * a result that is a structure is filled at an address that comes first. For processors of 64 bits, where the headers' structures
+ * are the module's.
  */
 _Static_assert(sizeof(size_t) == 8, "a processor of 64 bits");
-
-typedef struct lent {
-    const void *from;
-    size_t length;
-} lent;
 
 #define MODULE_NONE void
 #define GIVEN_NONE
 #define MODULE_AT(type, name) type *
 #define GIVEN_AT(type, name) name
-#define MODULE_NUMBER(type, name) size_t
+#define MODULE_NUMBER(type, name) type
 #define GIVEN_NUMBER(type, name) name
 #define MODULE_SIZE(name) size_t
 #define GIVEN_SIZE(name) name
-#define MODULE_READ(name) const lent *
-#define GIVEN_READ(name) (lent[]){ { name, name##_length } }
-#define MODULE_WRITE(name) const lent *
-#define GIVEN_WRITE(name) GIVEN_READ(name)
-#define MODULE_NUMBERS(name) const lent *
-#define GIVEN_NUMBERS(name) GIVEN_READ(name)
+#define MODULE_READ(name) const uint8_t *, size_t
+#define GIVEN_READ(name) name, name##_length
+#define MODULE_WRITE(name) uint8_t *, size_t
+#define GIVEN_WRITE(name) name, name##_length
+#define MODULE_NUMBERS(name) uint32_t *, size_t
+#define GIVEN_NUMBERS(name) name, name##_length
 #define MODULE_LONG(type, name) const type *
 #define GIVEN_LONG(type, name) &name
 #define MODULE_SESSIONS(name) const kelindap_sessions *
@@ -46,10 +41,10 @@ typedef uint32_t number;
 #define SECOND(a, b, ...) b
 
 #define CALL_SHORT(type, name, ...) \
-    size_t kelindap_module_##name(EACH(MODULE, __VA_ARGS__)); \
+    type kelindap_module_##name(EACH(MODULE, __VA_ARGS__)); \
     type kelindap_##name(EACH(HEADER, __VA_ARGS__)) \
     { \
-        return (type)kelindap_module_##name(EACH(GIVEN, __VA_ARGS__)); \
+        return kelindap_module_##name(EACH(GIVEN, __VA_ARGS__)); \
     }
 #define CALL_LONG(type, name, ...) \
     void kelindap_module_##name(type *, EACH(MODULE, __VA_ARGS__)); \

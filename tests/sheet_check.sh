@@ -9,16 +9,7 @@ trap 'rm -rf "$room"' EXIT
 right=0
 wrong=0
 
-# Programs are for x86-64; on another processor the toolchain's emulator runs them.
-run() {
-    local tools
-    if [ "$(uname -m)" = x86_64 ]; then
-        "$program"
-    else
-        tools=$(dirname "$(rt doc)")/../on/$(uname -m)/toolchain
-        "$tools/bin/qemu-x86_64" "$tools/lib/ld-linux-x86-64.so.2" --library-path "$tools/lib" "$program"
-    fi
-}
+run() { "$program"; }
 
 # told WHAT STATUS OUT ERR: standard output has OUT and nothing else; standard error has ERR in its one line, or nothing.
 told() {

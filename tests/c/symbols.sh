@@ -30,5 +30,4 @@ complain "defines what ${headers[*]} does not declare" < <(comm -13 "$work/decla
 complain "needs from outside" < <(comm -23 "$work/wanted" "$work/allowed")
 [ -s "$work/declared" ] || { echo "symbols: ${headers[*]} declares nothing"; bad=1; }
 [ "$bad" = 0 ]
-name=${archive##*staticlib/}
-echo "symbols: ${name#build/} defines the $(wc -l < "$work/declared") functions of ${headers[*]##*/}, needs: $(paste -sd ' ' "$work/wanted")"
+echo "symbols: ${archive#build/} defines the $(wc -l < "$work/declared") functions of ${headers[*]##*/}, needs: $(paste -sd ' ' "$work/wanted")"

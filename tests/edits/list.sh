@@ -1,6 +1,6 @@
 #!/usr/bin/env bash
 # tests/edits/list.sh LIST: before anything is proved, that the edits can be tried and that LIST is of them: each text that an edit
-# takes out stands in its file, once; the changes of the edits are those of the list; no place serves two changes.
+# takes out stands in its file, once; the changes of the edits are those of the list; no place serves two changes; each place stands.
 set -uo pipefail
 list=$1
 bad=0
@@ -32,6 +32,14 @@ changes() {
 }
 while IFS= read -r line; do complain "$line"; done < <(diff <(rows | cut -f 1,2 | sort -u) <(changes) |
     sed -n 's/^</listed, and in no edit:/p; s/^>/in an edit, and not listed, or twice:/p')
+
+while IFS=$'\t' read -r edit change place fact; do
+    at=crates/${edit%%/*}
+    case $place in
+    'fn '*) grep -rqE "\bfn ${place##*::}\b" "$at/src" ;;
+    *) grep -qsE "^ *([a-z]+ )*${place#* }( |$)" "$at/${place% *}" ;;
+    esac || complain "$edit, $change: there is no $place in $at ($fact)"
+done < <(rows)
 
 [ "$bad" -eq 0 ] || exit 1
 echo "edits: $(changes | wc -l) changes, $texts texts that they take out"
