@@ -1,5 +1,5 @@
 -- The lines that the program says, and that a verdict is at most 14.
-use Rattle.octets.proofs.Kit.{ℕ, ◌+◌, ◌≤◌, ◌≡◌, refl, sym, subst, ◌∙◌, ◌⊎◌, inl, inr, List, [], ◌∷◌, length, take, arith, ne_eqb}
+use Rattle.octets.proofs.Kit.{ℕ, ◌+◌, ◌≤◌, ◌≡◌, refl, sym, subst, ◌∙◌, ◌⊎◌, inl, inr, List, [], ◌∷◌, length, arith, ne_eqb}
 use Rattle.octets.{specs.Splice.splice, proofs.Splices.{length_splice, splice_read}}
 use Rattle.sheet.{specs.Rules.{rule_of, verdict_of, Accepted, Old, Bad, edition}, proofs.promises.{Nine.at_most_nine, Verdicts.{one_of_three, says_rule}}}
 use Rattle.sheet_check.specs.Line.{line_of, said_of, Fronts}

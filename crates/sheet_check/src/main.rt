@@ -40,6 +40,7 @@ fn read_all(rt: &impl Eprint, from: &mut impl Read, buf: &mut [u8]) -> Input
 }
 
 // The line of a verdict, in front of a buffer: how many bytes it has.
+#[tactic(auto, using(crate::proofs::Lines::fine, crate::proofs::Lines::outdated, crate::proofs::Lines::broken))]
 fn line(verdict: u8, out: &mut [u8]) -> usize
     requires { (verdict ≤ 14) × (length out.old ≡ 4) }
     ensures { Fronts (line_of verdict) result out.new }
