@@ -3,7 +3,6 @@ use Rattle.octets.proofs.Kit.{ℕ, ◌+◌, ◌*◌, ◌-◌, ◌≤◌, ◌<◌
 use Rattle.octets.proofs.Kit.{le-ltb, le-leb, lt-leb, leb-true, ltb-true, ltb-false, ◌⊎◌, inl, inr}
 use Rattle.octets.{specs.{Bytes.bytes_of, Octets.Octets}, proofs.{Truths.and_is, Numbers.num_one, Tests.{both, not_first_lem, not_second_lem}}}
 use Rattle.sheet.{specs.{Kind.properties, Entries.{count, base, entry, contents, body_at}, Rules.Accepted}, proofs.{rules.Good.good, places.BodyPlaces.after_contents}}
-use Rattle.sheet.specs.Property as property
 use Rattle.pdu.specs.declared.Pdu.{Pdu, TheVariants.PropertyValueResponse}
 use Rattle.judge.specs.{declared.{Decision.Decision, Turn.TheVariants.Stays}, Decisions.answered, Properties.{counted, elements, element_at, no_value, property_at, read_in, property_read_of}}
 use Rattle.judge.specs.declared.Answer.TheVariants as answer

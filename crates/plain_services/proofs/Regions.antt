@@ -1,6 +1,6 @@
 -- Regions as records are the regions of the sheet.
 use Rattle.octets.proofs.Kit.{ℕ, zero, suc, ◌+◌, ◌-◌, ◌/◌, ◌%◌, ◌≤◌, ◌<◌, ◌≡◌, refl, sym, ap, ap₂, subst, ◌∙◌, Bool, true, false, cond, not, ◌&&◌, List, arith, dec_lt, add-zero, lit≤, ltb}
-use Rattle.octets.proofs.Kit.{leb, length, get_or, lt-ltb, le-ltb, le-leb, lt-leb, leb-true}
+use Rattle.octets.proofs.Kit.{leb, get_or, lt-ltb, le-ltb, le-leb, lt-leb, leb-true}
 use Rattle.octets.{specs.Bytes.num_at, proofs.{Tests.both, Truths.{never, and_is, first_true}}}
 use Rattle.sheet.specs.{Kind.{regions, users, kind_of}, Layout.{Field, ◌of◌}, Entries.{count, place, entry}, Lookup.{seek, covers, place_of, common, joined, range_of, run_in}}
 use Rattle.sheet.{specs.declared.{Memory.{Memory, TheVariants.{Device, User}}, Run.{Run, TheVariants.{At, Nowhere}}}, proofs.places.Levels.{common_reading, common_writing}}

@@ -1,5 +1,6 @@
 // The services of the plain engine: what each gives and leaves, on the parts of a sheet.
 #![tactic(auto)]
+
 mod addresses;
 mod bodies;
 mod groups;
