@@ -23,7 +23,7 @@ started_with s m r n u e = go (ready_starts s m r)
     go (slot.starts k f) = cc
 
 -- calls after a history
-pub steps_follow : {f : First} {h es : List Event} {x y : Net} → Begins f → Follows f h (state_of x) → Steps x es y → Follows f (es ++ h) (state_of y)
+pub steps_follow : {f : First} {h : List Event} {x : Net} {es : List Event} {y : Net} → Begins f → Follows f h (state_of x) → Steps x es y → Follows f (es ++ h) (state_of y)
 steps_follow b k calls.begin = k
 steps_follow {f} {h} {y = y} b k (calls.next {h = g} {es = es} l c) =
     subst (λ (t : List Event). Follows f t (state_of y)) (sym (append_assoc es g h)) (step_follows b (steps_follow b k l) c)
