@@ -1,5 +1,5 @@
 -- What connects, disconnects, the button and requests give.
-use Rattle.std.specs.Prelude.{ℕ, ◌+◌, ◌-◌, ◌≡◌, List, [], ◌∷◌, Bool, true, false, cond, eqb, length}
+use Rattle.std.specs.Prelude.{ℕ, ◌+◌, ◌-◌, ◌≡◌, List, [], Bool, true, false, cond, eqb, length}
 use Rattle.octets.specs.Bytes.{bytes_of}
 use Rattle.octets.specs.Splice.{splice}
 use Rattle.sheet.specs.Rules.{refusal_of}

@@ -1,5 +1,6 @@
 // The device: a request on one of two connections judged, carried out and answered.
 #![tactic(auto)]
+
 mod answer;
 mod session;
 mod store;

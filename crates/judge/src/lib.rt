@@ -1,5 +1,6 @@
 // Judging a request: what is decided about it, as a value made of numbers. Nothing is stored here.
 #![tactic(auto)]
+
 mod addresses;
 mod decisions;
 mod groups;

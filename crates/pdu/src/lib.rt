@@ -1,5 +1,6 @@
 // The PDU layer: reads and writes the PDUs of the service table.
 #![tactic(auto)]
+
 ghost use Rattle.std.specs.Prelude.{◌≡◌, ◌+◌, ◌≤◌, length};
 ghost use Rattle.octets.specs.Octets.{ReadFrom};
 ghost use Rattle.octets.specs.Splice.{splice};

@@ -1,5 +1,6 @@
 // The device sheet: its rules, its entries and their bodies.
 #![tactic(auto)]
+
 mod entry_rules;
 mod frame;
 mod head;

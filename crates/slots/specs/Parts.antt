@@ -1,5 +1,5 @@
 -- A SLOT JUDGED IN PARTS: its first 64 bytes, then the bytes behind them in runs of any length.
-use Rattle.std.specs.Prelude.{ℕ, ◌+◌, ◌-◌, List, [], ◌∷◌, ◌++◌, Bool, cond, not, ltb, eqb, length, take, drop}
+use Rattle.std.specs.Prelude.{ℕ, ◌+◌, ◌-◌, List, [], ◌∷◌, ◌++◌, cond, not, ltb, eqb, length, take, drop}
 use Rattle.octets.specs.Bytes.{num_at}
 use Rattle.slots.specs.Crc.{ones, crc_from}
 use Rattle.slots.specs.Slot.{longest, sheet_at, marked, bad}

@@ -1,5 +1,5 @@
 -- A SAVE AS PIECES OF WORK, by their number.
-use Rattle.std.specs.Prelude.{ℕ, ◌+◌, ◌≡◌, List, [], ◌∷◌, cond, ltb, eqb, length}
+use Rattle.std.specs.Prelude.{ℕ, ◌+◌, ◌≡◌, List, cond, ltb, eqb, length}
 use Rattle.octets.specs.Splice.{splice}
 use Rattle.slots.specs.Slot.{longest, head_at, sheet_at, mark_unit, blank_unit, head_of}
 use Rattle.slots.specs.declared.Work.{Work}

@@ -1,5 +1,5 @@
 -- A SLOT: a mark of six bytes in a unit of its own, a head, a sheet; what it holds; which of two is the newer.
-use Rattle.std.specs.Prelude.{ℕ, ◌+◌, ◌%◌, List, [], ◌∷◌, ◌++◌, Bool, cond, not, ltb, eqb, length, take, drop, replicate}
+use Rattle.std.specs.Prelude.{ℕ, ◌+◌, List, ◌∷◌, ◌++◌, Bool, cond, not, ltb, eqb, length, take, drop, replicate}
 use Rattle.octets.specs.Bytes.{num_at, bytes_of}
 use Rattle.slots.specs.Crc.{crc_of, ones}
 use Rattle.slots.specs.declared.Slot.{Slot}

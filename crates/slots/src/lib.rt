@@ -1,6 +1,7 @@
 // The sheet kept through power cuts: two slots in a medium that keeps its bytes, what stands in each, and a save as pieces of work.
 // Its C interface stands in `host`.
 #![tactic(auto)]
+
 mod choosing;
 mod crc;
 mod head;

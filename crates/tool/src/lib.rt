@@ -170,12 +170,7 @@ pub fn kelindap_frame_read(frame: &[u8]) -> FlatFrame
 }
 
 // The bytes of a frame with its parts at the front of out, and their count; on a refusal out is as it was.
-pub fn kelindap_frame_write(
-    f: FlatFrame,
-    info: &[u8],
-    apdu: &[u8],
-    out: &mut [u8],
-) -> Framed
+pub fn kelindap_frame_write(f: FlatFrame, info: &[u8], apdu: &[u8], out: &mut [u8]) -> Framed
     ensures { FrameWrote f info.now apdu.now out.old result out.new }
 {
     frames::write(f, info, apdu, out)

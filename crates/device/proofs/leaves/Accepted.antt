@@ -4,7 +4,6 @@ use Rattle.octets.specs.Bytes.{num_at}
 use Rattle.sheet.{specs.{Kind.{properties, groups}, Layout.◌of◌, Entries.{count, place, entry, body_at, body_end}, Rules.{entry_demands, body_demands}}, proofs.rules.Good.Good}
 use Rattle.sheet.proofs.{places.{BodyPlaces.within, Standing.place_in}, rules.PlainRows.six_to}
 use Rattle.sheet.specs.Head as head
-use Rattle.sheet.specs.Region as region
 use Rattle.sheet.specs.Property as property
 use Rattle.sheet.specs.Group as group
 

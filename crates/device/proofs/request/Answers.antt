@@ -1,5 +1,4 @@
 -- `device::request` meets its contract: of the sheet nothing is known.
-use Rattle.octets.proofs.Kit.{rules}
 use Rattle.octets.proofs.Truths.{never}
 use Rattle.device.proofs.request.Goals as goal
 

@@ -1,5 +1,4 @@
 -- `device::request_known` meets its contract: what nothing refuses unread is read and judged on the session that it meets, what was judged is carried out, what was carried out is answered.
-use Rattle.octets.proofs.Kit.{rules}
 use Rattle.pdu.proofs.Reading.{named}
 use Rattle.device.proofs.calls.Requests.{changes_need, carry_needs, answer_needs, did, changes, refused_did, refused_changes, still_accepted, goes_on}
 use Rattle.device.proofs.request_known.Goals as goal

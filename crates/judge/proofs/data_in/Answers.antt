@@ -1,5 +1,4 @@
 -- `judge::data_in` meets its contract.
-use Rattle.octets.proofs.Kit.{rules}
 use Rattle.judge.proofs.{Judgement.via_data}
 use Rattle.judge.proofs.data_in.Goals as goal
 

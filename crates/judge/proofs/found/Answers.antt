@@ -1,5 +1,4 @@
 -- `judge::found` meets its contract.
-use Rattle.octets.proofs.Kit.{rules}
 use Rattle.judge.proofs.{Judgement.{unknown, listed}}
 use Rattle.judge.proofs.found.Goals as goal
 

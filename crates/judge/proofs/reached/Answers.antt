@@ -1,5 +1,4 @@
 -- `judge::reached` meets its contract.
-use Rattle.octets.proofs.Kit.{rules}
 use Rattle.judge.proofs.{Judgement.{unreached, untaken, unread, decided}}
 use Rattle.judge.proofs.reached.Goals as goal
 

@@ -1,5 +1,4 @@
 -- `judge::refused_unread` meets its contract.
-use Rattle.octets.proofs.Kit.{rules}
 use Rattle.judge.proofs.{Judgement.{unread_room, unread_sheet, unread_short, unread_long, unread_mode, unread_shut, unread_none}}
 use Rattle.judge.proofs.refused_unread.Goals as goal
 

@@ -1,6 +1,5 @@
 -- `octets::fill` meets its contract. The invariant: dst is what it was with j bytes of the run pasted in from `at`.
-use Rattle.octets.proofs.Kit.{◌≡◌, refl, ◌≤◌, ◌-◌, arith, rules, length, length-set, replicate, length-replicate, get_or-replicate, paste, paste-zero}
-use Rattle.octets.proofs.{Stores.{paste_more, paste_all}}
+use Rattle.octets.proofs.Kit.{◌≡◌, ◌≤◌, ◌-◌, length, replicate, paste}
 use Rattle.octets.proofs.fill.Given as goal
 
 abbrev pub invariant-loop-j : goal.invariant-loop-j

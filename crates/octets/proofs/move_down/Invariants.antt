@@ -1,7 +1,6 @@
 -- `octets::move_down` meets its contract. The invariant: the first j bytes have been moved.
-use Rattle.octets.proofs.Kit.{ℕ, ◌+◌, ◌≤◌, ◌-◌, ◌≡◌, ap, ◌∙◌, refl, List, arith, rules, length, length-set, set, get_or}
+use Rattle.octets.proofs.Kit.{◌≤◌, ◌-◌, ◌≡◌, length}
 use Rattle.octets.specs.Moved.{moved}
-use Rattle.octets.proofs.{Moves.{moved_none, move_first}}
 use Rattle.octets.proofs.move_down.Given as goal
 
 abbrev pub invariant-loop-j : goal.invariant-loop-j

@@ -1,6 +1,5 @@
 -- `octets::move_up` meets its contract. The invariant: the bytes from j on have been moved.
-use Rattle.octets.proofs.Kit.{ℕ, ◌+◌, ◌≤◌, ◌-◌, ◌≡◌, ap, ◌∙◌, refl, List, arith, rules, length, length-set, set, get_or}
-use Rattle.octets.specs.Moved.{moved}
+use Rattle.octets.proofs.Kit.{ℕ, ◌+◌, ◌-◌, ap, ◌∙◌, refl, List, arith, length-set, set, get_or}
 use Rattle.octets.proofs.{Moves.{up_none, up_more, up_all}}
 use Rattle.octets.proofs.move_up.Goals as goal
 

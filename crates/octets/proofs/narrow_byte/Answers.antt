@@ -1,5 +1,5 @@
 -- `octets::narrow_byte` meets its contract: within the slice the byte, past its end 0.
-use Rattle.octets.proofs.Kit.{rules, sym, ◌∙◌, arith, List·getD-eq-default}
+use Rattle.octets.proofs.Kit.{sym, ◌∙◌, arith, List·getD-eq-default}
 use Rattle.octets.proofs.{Numbers.num_one}
 use Rattle.octets.proofs.narrow_byte.Goals as goal
 

@@ -1,5 +1,5 @@
 -- `octets::narrow_word` meets its contract.
-use Rattle.octets.proofs.Kit.{◌+◌, rules, arith}
+use Rattle.octets.proofs.Kit.{◌+◌, arith}
 use Rattle.octets.proofs.{Numbers.num_pair}
 use Rattle.octets.proofs.narrow_word.Goals as goal
 

@@ -1,6 +1,5 @@
 -- `octets::number` meets its contract: after i turns x is the number in the first i bytes.
-use Rattle.octets.proofs.Kit.{◌≤◌, ◌-◌, ◌^◌, ◌≡◌, rules, arith}
-use Rattle.octets.specs.Bytes.{IsNum}
+use Rattle.octets.proofs.Kit.{◌≡◌, arith}
 use Rattle.octets.proofs.{Numbers.{num_none, num_more, num_small}}
 use Rattle.octets.proofs.number.Goals as goal
 

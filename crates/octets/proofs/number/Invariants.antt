@@ -1,7 +1,6 @@
 -- `octets::number` meets its contract: after i turns x is the number in the first i bytes.
-use Rattle.octets.proofs.Kit.{◌≤◌, ◌-◌, ◌^◌, ◌≡◌, rules, arith}
+use Rattle.octets.proofs.Kit.{◌≤◌, ◌-◌, ◌^◌}
 use Rattle.octets.specs.Bytes.{IsNum}
-use Rattle.octets.proofs.{Numbers.{num_none, num_more, num_small}}
 use Rattle.octets.proofs.number.Given as goal
 
 abbrev pub invariant-loop-i : goal.invariant-loop-i

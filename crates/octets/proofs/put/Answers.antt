@@ -1,6 +1,5 @@
 -- `octets::put` meets its contract: storing what is left of the number is what storing all of it was.
-use Rattle.octets.proofs.Kit.{◌≤◌, ◌≡◌, refl, rules, arith, length, length-set, sets}
-use Rattle.octets.specs.Bytes.{bytes_of}
+use Rattle.octets.proofs.Kit.{refl, arith, length-set}
 use Rattle.octets.proofs.{Stores.{put_again, put_end}}
 use Rattle.octets.proofs.put.Goals as goal
 

@@ -1,7 +1,6 @@
 -- `octets::put` meets its contract: storing what is left of the number is what storing all of it was.
-use Rattle.octets.proofs.Kit.{◌≤◌, ◌≡◌, refl, rules, arith, length, length-set, sets}
+use Rattle.octets.proofs.Kit.{◌≤◌, ◌≡◌, length, sets}
 use Rattle.octets.specs.Bytes.{bytes_of}
-use Rattle.octets.proofs.{Stores.{put_again, put_end}}
 use Rattle.octets.proofs.put.Given as goal
 
 abbrev pub invariant-loop-i : goal.invariant-loop-i

@@ -1,6 +1,5 @@
 -- `octets::splice` meets its contract. The invariant: dst is what it was with src's first j bytes pasted in from `at`.
-use Rattle.octets.proofs.Kit.{◌≡◌, refl, ◌≤◌, ◌-◌, arith, rules, length, length-set, paste, paste-zero}
-use Rattle.octets.proofs.{Stores.{paste_more, paste_all}}
+use Rattle.octets.proofs.Kit.{◌≡◌, ◌≤◌, ◌-◌, length, paste}
 use Rattle.octets.proofs.splice.Given as goal
 
 abbrev pub invariant-loop-j : goal.invariant-loop-j

@@ -1,5 +1,4 @@
 -- `pdu::data_of` meets its contract.
-use Rattle.octets.proofs.Kit.{rules}
 use Rattle.pdu.proofs.{promises.Writing.{rest_from, rest_past}}
 use Rattle.pdu.proofs.data_of.Goals as goal
 

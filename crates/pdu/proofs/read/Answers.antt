@@ -1,5 +1,4 @@
 -- `pdu::read` meets its contract.
-use Rattle.octets.proofs.Kit.{rules}
 use Rattle.pdu.proofs.{Reading.named}
 use Rattle.pdu.proofs.read.Goals as goal
 

@@ -1,5 +1,4 @@
 -- `pdu::read_found` meets its contract.
-use Rattle.octets.proofs.Kit.{rules}
 use Rattle.pdu.proofs.{Reading.{too_short_lem, too_long_lem, by_code, no_code}}
 use Rattle.pdu.proofs.read_found.Goals as goal
 

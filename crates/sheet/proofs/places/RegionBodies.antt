@@ -1,5 +1,5 @@
 -- LAWS of the bodies of regions: a memory has a kind of its own, an address that stands somewhere stands in a body, and no two at one place.
-use Rattle.octets.proofs.Kit.{ℕ, ◌+◌, ◌<◌, ◌≤◌, ◌≡◌, refl, ap, List, length, arith}
+use Rattle.octets.proofs.Kit.{ℕ, ◌+◌, ◌<◌, ◌≤◌, ◌≡◌, refl, ap, List, arith}
 use Rattle.sheet.specs.{Kind.{properties, groups, kind_of}, Layout.◌of◌, Entries.{count, body_at, body_end, InBody}, Places.{region_at, Stands}, declared.Memory.Memory}
 use Rattle.sheet.specs.declared.Memory.TheVariants.{Device, User}
 use Rattle.sheet.specs.Region as region

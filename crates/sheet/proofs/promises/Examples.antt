@@ -3,7 +3,7 @@ use Rattle.octets.proofs.Kit.{ℕ, ◌≡◌, refl, List, [], ◌∷◌, map}
 use Rattle.octets.specs.{Bytes.{num_at, bytes_of}, Splice.splice}
 use Rattle.sheet.specs.{Demand.breach, First.first, Kind.{regions, properties, groups, users}, Layout.{Field, ◌of◌}, Head.rules_of}
 use Rattle.sheet.specs.Entries.{count, contents, entry, key_of, floor, body_end, start_of, reached, six_bits}
-use Rattle.sheet.specs.Rules.{entry_demands, body_demands, entry_rule, body_rule, entries_rule, bodies_rule, rest_rule, walk_rule, rule_in, verdict_of, Accepted, edition, is_accepted}
+use Rattle.sheet.specs.Rules.{entry_demands, body_demands, entry_rule, body_rule, entries_rule, bodies_rule, rest_rule, walk_rule, rule_in, verdict_of, Accepted, is_accepted}
 use Rattle.sheet.specs.{Convert.{conversion_of, convert_outcome, convert_sheet}, Sample.{sample, old_sample}}
 use Rattle.sheet.specs.Lookup.{seek, index_of, body_of, lookup, region_of, property_of, group_of, object_at, rank, nth_of}
 use Rattle.sheet.specs.Head as head

@@ -1,6 +1,6 @@
 -- Byte 15 and the last number of rules, by the edition.
 use Rattle.octets.proofs.Kit.{ℕ, ◌≡◌, sym, ◌∙◌, List, eq-eqb, ne_eqb}
-use Rattle.sheet.specs.{Rules.edition, Layout.◌of◌}
+use Rattle.sheet.specs.{Layout.◌of◌}
 use Rattle.sheet.specs.Head as head
 
 module _ (s : List ℕ) (r : ℕ) (e : r ≡ head.edition of s) where

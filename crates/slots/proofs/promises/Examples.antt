@@ -1,5 +1,5 @@
 -- A SLOT WORKED BY HAND: the sheet 1, 2, 3 under number 7, its check sum by another program (zlib); what each wrong byte gives. Assumes nothing.
-use Rattle.octets.proofs.Kit.{ℕ, ◌≡◌, refl, List, [], ◌∷◌, ◌++◌, arith, length, take, set, replicate}
+use Rattle.octets.proofs.Kit.{ℕ, ◌≡◌, refl, List, [], ◌∷◌, ◌++◌, arith, take, set, replicate}
 use Rattle.octets.specs.{Bytes.{num_at, bytes_of}, Splice.splice}
 use Rattle.slots.specs.{Crc.{crc_of, crc_from, byte_step, bits, bit_step}, Slot.{marked, mark_unit, blank_unit, tail_of, head_of, bad, slot_of, next_of, newer_of, target_of}, declared.Slot.Slot}
 use Rattle.slots.specs.{Medium.{held, sheet, choice}, Parts.{begin_of, more_of, end_of}, Saving.{work_of, piece_of}, Lives.{Ready, one, none}}

@@ -1,5 +1,4 @@
 -- `device::answer::answer` meets its contract: the PDU, and the data behind it.
-use Rattle.octets.proofs.Kit.{rules}
 use Rattle.device.proofs.{due.Sent.{silence, pdu_needs, data_needs, all_sent}}
 use Rattle.device.proofs.answer.answer.Goals as goal
 

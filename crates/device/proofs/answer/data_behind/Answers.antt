@@ -1,5 +1,5 @@
 -- `device::answer::data_behind` meets its contract: each arm knows the answer, and what the function that it calls writes.
-use Rattle.octets.proofs.Kit.{rules, arith}
+use Rattle.octets.proofs.Kit.{arith}
 use Rattle.device.proofs.due.Sent.{silence_behind, plain_behind, number_is, sheet_is, echo_is, number_needs, sheet_lies, sheet_needs, echo_needs}
 use Rattle.device.proofs.answer.data_behind.Goals as goal
 

@@ -1,5 +1,4 @@
 -- `device::answer::pdu_in` meets its contract: each arm knows the answer.
-use Rattle.octets.proofs.Kit.{rules}
 use Rattle.device.proofs.{due.Sent.via_pdu}
 use Rattle.device.proofs.answer.pdu_in.Goals as goal
 

@@ -1,5 +1,4 @@
 -- `device::session::connect` meets its contract.
-use Rattle.octets.proofs.Kit.{rules}
 use Rattle.device.proofs.{calls.Turns.named_both}
 use Rattle.device.proofs.session.connect.Goals as goal
 

@@ -1,5 +1,5 @@
 -- `device::session::session_for` meets its contract.
-use Rattle.octets.proofs.Kit.{rules, arith}
+use Rattle.octets.proofs.Kit.{arith}
 use Rattle.octets.proofs.Tests.{tests}
 use Rattle.device.proofs.session.session_for.Goals as goal
 

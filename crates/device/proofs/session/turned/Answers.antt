@@ -1,5 +1,4 @@
 -- `device::session::turned` meets its contract: each arm knows the turn.
-use Rattle.octets.proofs.Kit.{rules}
 use Rattle.device.proofs.{calls.Turns.{via_turn, all_stay}}
 use Rattle.device.proofs.session.turned.Goals as goal
 

@@ -1,5 +1,5 @@
 -- `device::session::with_level` meets its contract.
-use Rattle.octets.proofs.Kit.{rules, arith}
+use Rattle.octets.proofs.Kit.{arith}
 use Rattle.octets.proofs.Tests.{tests}
 use Rattle.device.proofs.{calls.Turns.levelled}
 use Rattle.device.proofs.session.with_level.Goals as goal

@@ -1,7 +1,5 @@
 -- `device::store::bits` meets its contract: after i turns the first i bytes are changed.
-use Rattle.octets.proofs.Kit.{◌≤◌, ◌-◌, ◌≡◌, refl, rules, arith, length, length-set}
-use Rattle.octets.specs.Splice.{splice}
-use Rattle.device.specs.Carry.{build, bit_at}
+use Rattle.octets.proofs.Kit.{◌≡◌, refl, arith, length-set}
 use Rattle.device.proofs.{leaves.Bits.{bits_none, bits_more}}
 use Rattle.device.proofs.store.bits.Goals as goal
 

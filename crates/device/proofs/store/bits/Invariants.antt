@@ -1,8 +1,7 @@
 -- `device::store::bits` meets its contract: after i turns the first i bytes are changed.
-use Rattle.octets.proofs.Kit.{◌≤◌, ◌-◌, ◌≡◌, refl, rules, arith, length, length-set}
+use Rattle.octets.proofs.Kit.{◌≤◌, ◌-◌, ◌≡◌, length}
 use Rattle.octets.specs.Splice.{splice}
 use Rattle.device.specs.Carry.{build, bit_at}
-use Rattle.device.proofs.{leaves.Bits.{bits_none, bits_more}}
 use Rattle.device.proofs.store.bits.Given as goal
 
 abbrev pub invariant-loop-i : goal.invariant-loop-i

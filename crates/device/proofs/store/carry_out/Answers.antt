@@ -1,5 +1,4 @@
 -- `device::store::carry_out` meets its contract.
-use Rattle.octets.proofs.Kit.{rules}
 use Rattle.device.proofs.{due.Runs.{second_safe, both_stored}}
 use Rattle.device.proofs.store.carry_out.Goals as goal
 

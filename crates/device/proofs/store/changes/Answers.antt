@@ -1,5 +1,4 @@
 -- `device::store::changes` meets its contract.
-use Rattle.octets.proofs.Kit.{rules}
 use Rattle.device.proofs.{due.Runs.{second_part, both_parts}}
 use Rattle.device.proofs.store.changes.Goals as goal
 

@@ -1,5 +1,5 @@
 -- `device::store::part` meets its contract: each arm knows the run.
-use Rattle.octets.proofs.Kit.{rules, arith}
+use Rattle.octets.proofs.Kit.{arith}
 use Rattle.device.proofs.{due.Runs.{via_padded, via_part, number_at, number_long, data_at_lem, data_long, bits_at, bits_long, fill_at, fill_long}}
 use Rattle.device.proofs.store.part.Goals as goal
 

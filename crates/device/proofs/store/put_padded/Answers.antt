@@ -1,5 +1,4 @@
 -- `device::store::put_padded` meets its contract.
-use Rattle.octets.proofs.Kit.{rules}
 use Rattle.device.proofs.{leaves.Stores.zeros_first}
 use Rattle.device.proofs.store.put_padded.Goals as goal
 

@@ -1,5 +1,4 @@
 -- `device::store::store` meets its contract: each arm knows the run, and what the function that it calls stores.
-use Rattle.octets.proofs.Kit.{rules}
 use Rattle.device.proofs.{due.Runs.{via_safe, via_padded, via_store}}
 use Rattle.device.proofs.store.store.Goals as goal
 

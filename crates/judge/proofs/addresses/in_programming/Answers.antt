@@ -1,5 +1,4 @@
 -- `judge::addresses::in_programming` meets its contract.
-use Rattle.octets.proofs.Kit.{rules}
 use Rattle.judge.proofs.addresses.in_programming.Goals as goal
 
 pub returns : goal.returns

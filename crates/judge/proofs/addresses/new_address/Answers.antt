@@ -1,5 +1,4 @@
 -- `judge::addresses::new_address` meets its contract.
-use Rattle.octets.proofs.Kit.{rules}
 use Rattle.judge.proofs.addresses.new_address.Goals as goal
 
 pub returns : goal.returns

@@ -1,5 +1,4 @@
 -- `judge::groups::group_put` meets its contract.
-use Rattle.octets.proofs.Kit.{rules}
 use Rattle.judge.proofs.{Grouped.{put_missing, put_shut, put_open}}
 use Rattle.judge.proofs.groups.group_put.Goals as goal
 

@@ -1,5 +1,4 @@
 -- `judge::groups::group_read` meets its contract.
-use Rattle.octets.proofs.Kit.{rules}
 use Rattle.judge.proofs.{Grouped.{read_missing, read_shut, read_open}}
 use Rattle.judge.proofs.groups.group_read.Goals as goal
 

@@ -1,5 +1,4 @@
 -- `judge::levels::may` meets its contract.
-use Rattle.octets.proofs.Kit.{rules}
 use Rattle.judge.proofs.{Arms.via_may}
 use Rattle.judge.proofs.levels.may.Goals as goal
 

@@ -1,5 +1,5 @@
 -- `judge::levels::may_change` meets its contract.
-use Rattle.octets.proofs.Kit.{rules, arith}
+use Rattle.octets.proofs.Kit.{arith}
 use Rattle.octets.proofs.Tests.{branches}
 use Rattle.judge.proofs.levels.may_change.Goals as goal
 

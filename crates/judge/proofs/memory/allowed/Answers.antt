@@ -1,5 +1,4 @@
 -- `judge::memory::allowed` meets its contract.
-use Rattle.octets.proofs.Kit.{rules}
 use Rattle.judge.proofs.{Arms.{allowed_at_lem, via_allowed}}
 use Rattle.judge.proofs.memory.allowed.Goals as goal
 

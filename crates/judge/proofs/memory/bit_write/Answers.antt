@@ -1,5 +1,4 @@
 -- `judge::memory::bit_write` meets its contract.
-use Rattle.octets.proofs.Kit.{rules}
 use Rattle.judge.proofs.{Memories.changed_at}
 use Rattle.judge.proofs.memory.bit_write.Goals as goal
 

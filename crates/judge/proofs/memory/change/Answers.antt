@@ -1,5 +1,4 @@
 -- `judge::memory::change` meets its contract.
-use Rattle.octets.proofs.Kit.{rules}
 use Rattle.judge.proofs.{Memories.{change_answered, change_stored, change_denied, change_refused}}
 use Rattle.judge.proofs.memory.change.Goals as goal
 

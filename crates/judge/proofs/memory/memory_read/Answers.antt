@@ -1,5 +1,4 @@
 -- `judge::memory::memory_read` meets its contract.
-use Rattle.octets.proofs.Kit.{rules}
 use Rattle.judge.proofs.{Memories.{read_run, read_denied}}
 use Rattle.judge.proofs.memory.memory_read.Goals as goal
 

@@ -1,5 +1,4 @@
 -- `judge::memory::memory_write` meets its contract.
-use Rattle.octets.proofs.Kit.{rules}
 use Rattle.judge.proofs.{Memories.written_at}
 use Rattle.judge.proofs.memory.memory_write.Goals as goal
 

@@ -1,5 +1,4 @@
 -- `judge::memory::most_of` meets its contract.
-use Rattle.octets.proofs.Kit.{rules}
 use Rattle.judge.proofs.{Arms.via_most}
 use Rattle.judge.proofs.memory.most_of.Goals as goal
 

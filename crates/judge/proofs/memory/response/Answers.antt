@@ -1,5 +1,4 @@
 -- `judge::memory::response` meets its contract.
-use Rattle.octets.proofs.Kit.{rules}
 use Rattle.judge.proofs.{Arms.via_response}
 use Rattle.judge.proofs.memory.response.Goals as goal
 

@@ -1,5 +1,4 @@
 -- `judge::memory::verifies` meets its contract.
-use Rattle.octets.proofs.Kit.{rules}
 use Rattle.judge.proofs.memory.verifies.Goals as goal
 
 pub returns : goal.returns

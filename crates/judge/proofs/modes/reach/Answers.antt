@@ -1,5 +1,4 @@
 -- `judge::modes::reach` meets its contract.
-use Rattle.octets.proofs.Kit.{rules}
 use Rattle.judge.proofs.{Arms.via_reach}
 use Rattle.judge.proofs.modes.reach.Goals as goal
 

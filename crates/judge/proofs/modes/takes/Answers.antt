@@ -1,5 +1,4 @@
 -- `judge::modes::takes` meets its contract.
-use Rattle.octets.proofs.Kit.{rules}
 use Rattle.judge.proofs.{Arms.via_takes}
 use Rattle.judge.proofs.modes.takes.Goals as goal
 

@@ -1,5 +1,4 @@
 -- `judge::properties::description` meets its contract.
-use Rattle.octets.proofs.Kit.{rules}
 use Rattle.judge.proofs.{Values.{describe_missing, describe_there}, Fields.small_rank}
 use Rattle.judge.proofs.properties.description.Goals as goal
 

@@ -1,5 +1,5 @@
 -- `judge::properties::elements` meets its contract.
-use Rattle.octets.proofs.Kit.{rules, arith}
+use Rattle.octets.proofs.Kit.{arith}
 use Rattle.octets.proofs.Tests.{branches}
 use Rattle.judge.proofs.properties.elements.Goals as goal
 

@@ -1,5 +1,5 @@
 -- `judge::properties::is_stored` meets its contract.
-use Rattle.octets.proofs.Kit.{rules, arith}
+use Rattle.octets.proofs.Kit.{arith}
 use Rattle.octets.proofs.Tests.{branches}
 use Rattle.judge.proofs.properties.is_stored.Goals as goal
 

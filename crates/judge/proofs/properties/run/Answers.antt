@@ -1,5 +1,4 @@
 -- `judge::properties::run` meets its contract.
-use Rattle.octets.proofs.Kit.{rules}
 use Rattle.judge.proofs.{Values.run_is}
 use Rattle.judge.proofs.properties.run.Goals as goal
 

@@ -1,5 +1,4 @@
 -- `judge::services::decide` meets its contract.
-use Rattle.octets.proofs.Kit.{rules}
 use Rattle.judge.proofs.{Judgement.via_decide}
 use Rattle.judge.proofs.services.decide.Goals as goal
 

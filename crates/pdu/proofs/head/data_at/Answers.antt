@@ -1,5 +1,5 @@
 -- `pdu::head::data_at` meets its contract: an arm knows the PDU.
-use Rattle.octets.proofs.Kit.{rules, arith}
+use Rattle.octets.proofs.Kit.{arith}
 use Rattle.pdu.proofs.{Arms.via_place}
 use Rattle.pdu.proofs.head.data_at.Goals as goal
 

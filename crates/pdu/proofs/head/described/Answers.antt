@@ -1,5 +1,4 @@
 -- `pdu::head::described` meets its contract: each run makes the first longer.
-use Rattle.octets.proofs.Kit.{rules}
 use Rattle.pdu.proofs.{Stores.after_asked}
 use Rattle.pdu.proofs.head.described.Goals as goal
 

@@ -1,5 +1,4 @@
 -- `pdu::head::one` meets its contract: the second run makes the first longer.
-use Rattle.octets.proofs.Kit.{rules}
 use Rattle.pdu.proofs.{Stores.after_none}
 use Rattle.pdu.proofs.head.one.Goals as goal
 

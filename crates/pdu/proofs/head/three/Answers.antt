@@ -1,5 +1,4 @@
 -- `pdu::head::three` meets its contract: the second run makes the first longer.
-use Rattle.octets.proofs.Kit.{rules}
 use Rattle.pdu.proofs.{Stores.after_two}
 use Rattle.pdu.proofs.head.three.Goals as goal
 

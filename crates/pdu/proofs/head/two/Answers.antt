@@ -1,5 +1,4 @@
 -- `pdu::head::two` meets its contract: the second run makes the first longer.
-use Rattle.octets.proofs.Kit.{rules}
 use Rattle.pdu.proofs.{Stores.after_one}
 use Rattle.pdu.proofs.head.two.Goals as goal
 

@@ -1,5 +1,4 @@
 -- `pdu::parse::built` meets its contract: an arm knows the service, and what the function that it calls takes from the bytes.
-use Rattle.octets.proofs.Kit.{rules}
 use Rattle.pdu.proofs.{Reading.via_built}
 use Rattle.pdu.proofs.parse.built.Goals as goal
 

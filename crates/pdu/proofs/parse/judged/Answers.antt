@@ -1,5 +1,4 @@
 -- `pdu::parse::judged` meets its contract.
-use Rattle.octets.proofs.Kit.{rules}
 use Rattle.pdu.proofs.{Reading.{parsed, unfit}}
 use Rattle.pdu.proofs.parse.judged.Goals as goal
 

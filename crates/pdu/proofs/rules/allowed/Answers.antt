@@ -1,5 +1,4 @@
 -- `pdu::rules::allowed` meets its contract: an arm knows the PDU, and what the function that it calls says.
-use Rattle.octets.proofs.Kit.{rules}
 use Rattle.pdu.proofs.{Arms.via_fits}
 use Rattle.pdu.proofs.rules.allowed.Goals as goal
 

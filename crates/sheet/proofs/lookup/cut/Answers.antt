@@ -1,5 +1,4 @@
 -- `sheet::lookup::cut` meets its contract.
-use Rattle.octets.proofs.Kit.{rules}
 use Rattle.sheet.proofs.{places.Parts.cut_out_lem}
 use Rattle.sheet.proofs.lookup.cut.Goals as goal
 

@@ -1,5 +1,4 @@
 -- `sheet::lookup::first_word` meets its contract.
-use Rattle.octets.proofs.Kit.{rules}
 use Rattle.sheet.proofs.{searches.SearchLoops.key_of_lem}
 use Rattle.sheet.proofs.lookup.first_word.Goals as goal
 

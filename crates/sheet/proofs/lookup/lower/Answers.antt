@@ -1,6 +1,6 @@
 -- `sheet::lookup::lower` meets its contract. The invariant: before lo the first words are below the key, from hi on they are not.
-use Rattle.octets.proofs.Kit.{◌-◌, rules, arith}
-use Rattle.sheet.proofs.{searches.{SearchLoops.ok_framed, Halves.{Halved, halves_begin, half_there, upper_half, lower_half, halves_end}}}
+use Rattle.octets.proofs.Kit.{rules}
+use Rattle.sheet.proofs.{searches.{SearchLoops.ok_framed, Halves.{halves_begin, half_there, upper_half, lower_half, halves_end}}}
 use Rattle.sheet.proofs.lookup.lower.Goals as goal
 
 pub many-hi-requires : goal.many-hi-requires

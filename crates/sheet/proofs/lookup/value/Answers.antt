@@ -1,5 +1,4 @@
 -- `sheet::lookup::value` meets its contract.
-use Rattle.octets.proofs.Kit.{rules}
 use Rattle.sheet.proofs.{places.Parts.{no_sheet_lem, in_sheet}}
 use Rattle.sheet.proofs.lookup.value.Goals as goal
 

@@ -1,5 +1,5 @@
 -- `sheet::old::convert` meets its contract.
-use Rattle.octets.proofs.Kit.{rules, arith}
+use Rattle.octets.proofs.Kit.{arith}
 use Rattle.sheet.proofs.{promises.Converting.{not_converted, was_converted, convert_room}}
 use Rattle.sheet.proofs.old.convert.Goals as goal
 

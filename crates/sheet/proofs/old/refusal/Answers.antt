@@ -1,5 +1,4 @@
 -- `sheet::old::refusal` meets its contract.
-use Rattle.octets.proofs.Kit.{rules}
 use Rattle.sheet.proofs.{promises.Verdicts.{lets_be, tells_old, tells_bad}}
 use Rattle.sheet.proofs.old.refusal.Goals as goal
 

@@ -1,5 +1,4 @@
 -- `sheet::old::refusal_unless` meets its contract.
-use Rattle.octets.proofs.Kit.{rules}
 use Rattle.sheet.proofs.{promises.Verdicts.known_unrefused}
 use Rattle.sheet.proofs.old.refusal_unless.Goals as goal
 

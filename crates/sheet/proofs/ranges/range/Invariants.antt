@@ -1,7 +1,7 @@
 -- `sheet::ranges::range` meets its contract. The invariant: what has been reached is a run.
-use Rattle.octets.proofs.Kit.{◌-◌, rules}
+use Rattle.octets.proofs.Kit.{◌-◌}
 use Rattle.sheet.specs.Entries.{count}
-use Rattle.sheet.proofs.searches.Loops.{Going, range_empty, none_begins, none_reaches, first_there, first_from, range_begins, no_next, less_left, goes_on, all_found}
+use Rattle.sheet.proofs.searches.Loops.{Going}
 use Rattle.sheet.proofs.ranges.range.Given as goal
 
 abbrev pub invariant-loop-end : goal.invariant-loop-end

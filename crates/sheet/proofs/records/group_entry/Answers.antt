@@ -1,5 +1,4 @@
 -- `sheet::records::group_entry` meets its contract.
-use Rattle.octets.proofs.Kit.{rules}
 use Rattle.sheet.proofs.{places.Fields.{group_there, group_in}}
 use Rattle.sheet.proofs.records.group_entry.Goals as goal
 

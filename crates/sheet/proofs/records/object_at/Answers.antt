@@ -1,5 +1,4 @@
 -- `sheet::records::object_at` meets its contract.
-use Rattle.octets.proofs.Kit.{rules}
 use Rattle.sheet.proofs.{searches.Loops.object_of}
 use Rattle.sheet.proofs.records.object_at.Goals as goal
 

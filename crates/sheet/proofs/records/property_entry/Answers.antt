@@ -1,5 +1,4 @@
 -- `sheet::records::property_entry` meets its contract.
-use Rattle.octets.proofs.Kit.{rules}
 use Rattle.sheet.proofs.{searches.SearchLoops.ok_framed, places.Fields.{property_there, property_few, property_in}}
 use Rattle.sheet.proofs.records.property_entry.Goals as goal
 

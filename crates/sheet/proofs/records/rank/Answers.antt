@@ -1,5 +1,5 @@
 -- `sheet::records::rank` meets its contract.
-use Rattle.octets.proofs.Kit.{rules, arith}
+use Rattle.octets.proofs.Kit.{arith}
 use Rattle.sheet.proofs.{places.Fields.property_there, searches.Objects.{index_none, index_within, first_last, index_past}}
 use Rattle.sheet.proofs.records.rank.Goals as goal
 

@@ -1,5 +1,4 @@
 -- `sheet::table::many` meets its contract.
-use Rattle.octets.proofs.Kit.{rules}
 use Rattle.sheet.proofs.{rules.Entries.{counted, users_counted}}
 use Rattle.sheet.proofs.table.many.Goals as goal
 

@@ -1,5 +1,5 @@
 -- `sheet::table::part` meets its contract: the part starts where the entry stands, and is as long as an entry of its kind.
-use Rattle.octets.proofs.Kit.{rules, arith}
+use Rattle.octets.proofs.Kit.{arith}
 use Rattle.sheet.proofs.{rules.Entries.{part_end, part}}
 use Rattle.sheet.proofs.table.part.Goals as goal
 

@@ -1,5 +1,4 @@
 -- `sheet::walk::first_broken` meets its contract.
-use Rattle.octets.proofs.Kit.{rules}
 use Rattle.sheet.proofs.{rules.Rules.{framed, in_frame, in_zeros, in_walk}}
 use Rattle.sheet.proofs.walk.first_broken.Goals as goal
 

@@ -1,5 +1,4 @@
 -- `sheet::walk::users_first` meets its contract.
-use Rattle.octets.proofs.Kit.{rules}
 use Rattle.sheet.proofs.{rules.Rules.{users_first, users_passed}}
 use Rattle.sheet.proofs.walk.users_first.Goals as goal
 

@@ -1,6 +1,6 @@
 -- `sheet::walk::users_rule` meets its contract. The invariant: no user region passed has broken S6.
-use Rattle.octets.proofs.Kit.{◌-◌, rules}
-use Rattle.sheet.proofs.{rules.Rules.{Ordered, counted_narrow, users_begin, users_entry, users_go, users_left, users_end}}
+use Rattle.octets.proofs.Kit.{◌-◌}
+use Rattle.sheet.proofs.{rules.Rules.{Ordered}}
 use Rattle.sheet.proofs.walk.users_rule.Given as goal
 
 abbrev pub invariant-loop-i : goal.invariant-loop-i

@@ -1,8 +1,7 @@
 -- `sheet::walk::walk` meets its contract. The invariants: no entry before this one has broken a rule, and `late` is 0 exactly if
 -- none of their bodies has. Assumes nothing.
-use Rattle.octets.proofs.Kit.{◌-◌, refl, rules}
-use Rattle.sheet.specs.Kind.{kinds}
-use Rattle.sheet.proofs.rules.Rules.{Walked, Passed, contents_narrow, counted_narrow, walk_begins, pass_begins, pass_entry, pass_near, pass_goes, walk_goes, left_at, at_end}
+use Rattle.octets.proofs.Kit.{refl, rules}
+use Rattle.sheet.proofs.rules.Rules.{contents_narrow, counted_narrow, walk_begins, pass_begins, pass_entry, pass_near, pass_goes, walk_goes, left_at, at_end}
 use Rattle.sheet.proofs.walk.walk.Goals as goal
 
 pub overflow_cast-z : goal.overflow_cast-z

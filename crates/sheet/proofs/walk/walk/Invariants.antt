@@ -1,8 +1,8 @@
 -- `sheet::walk::walk` meets its contract. The invariants: no entry before this one has broken a rule, and `late` is 0 exactly if
 -- none of their bodies has. Assumes nothing.
-use Rattle.octets.proofs.Kit.{◌-◌, refl, rules}
+use Rattle.octets.proofs.Kit.{◌-◌}
 use Rattle.sheet.specs.Kind.{kinds}
-use Rattle.sheet.proofs.rules.Rules.{Walked, Passed, contents_narrow, counted_narrow, walk_begins, pass_begins, pass_entry, pass_near, pass_goes, walk_goes, left_at, at_end}
+use Rattle.sheet.proofs.rules.Rules.{Walked, Passed}
 use Rattle.sheet.proofs.walk.walk.Given as goal
 
 abbrev pub invariant-loop-i : goal.invariant-loop-i

@@ -1,5 +1,4 @@
 -- `slots::choosing::aim` meets its contract. Assumes nothing.
-use Rattle.octets.proofs.Kit.{rules}
 use Rattle.slots.proofs.{Returns.{to_second, to_first, to_none_lem}}
 use Rattle.slots.proofs.choosing.aim.Goals as goal
 

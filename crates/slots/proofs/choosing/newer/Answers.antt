@@ -1,5 +1,4 @@
 -- `slots::choosing::newer` meets its contract. Assumes nothing.
-use Rattle.octets.proofs.Kit.{rules}
 use Rattle.slots.proofs.{Returns.{neither, second_alone, first_alone, second_newer, first_newer}}
 use Rattle.slots.proofs.choosing.newer.Goals as goal
 

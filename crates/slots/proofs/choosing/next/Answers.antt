@@ -1,5 +1,5 @@
 -- `slots::choosing::next` meets its contract. Assumes nothing.
-use Rattle.octets.proofs.Kit.{arith, rules}
+use Rattle.octets.proofs.Kit.{arith}
 use Rattle.octets.proofs.Tests.{tests}
 use Rattle.slots.specs.Slot.{next_of}
 use Rattle.slots.proofs.choosing.next.Goals as goal

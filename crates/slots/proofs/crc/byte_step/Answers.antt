@@ -1,6 +1,5 @@
 -- `slots::crc::byte_step` meets its contract. Assumes nothing.
-use Rattle.octets.proofs.Kit.{◌≤◌, ◌-◌, ◌≡◌, rules, arith, bit_xor}
-use Rattle.slots.specs.Crc.{bits}
+use Rattle.octets.proofs.Kit.{◌≡◌, arith}
 use Rattle.slots.proofs.{promises.Crcs.{bits_none, bits_more, bits_all}}
 use Rattle.slots.proofs.crc.byte_step.Goals as goal
 

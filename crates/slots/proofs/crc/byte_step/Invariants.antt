@@ -1,7 +1,6 @@
 -- `slots::crc::byte_step` meets its contract. Assumes nothing.
-use Rattle.octets.proofs.Kit.{◌≤◌, ◌-◌, ◌≡◌, rules, arith, bit_xor}
+use Rattle.octets.proofs.Kit.{◌≤◌, ◌-◌, ◌≡◌, bit_xor}
 use Rattle.slots.specs.Crc.{bits}
-use Rattle.slots.proofs.{promises.Crcs.{bits_none, bits_more, bits_all}}
 use Rattle.slots.proofs.crc.byte_step.Given as goal
 
 abbrev pub invariant-loop-i : goal.invariant-loop-i

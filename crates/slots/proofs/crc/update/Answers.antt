@@ -1,7 +1,6 @@
 -- `slots::crc::update` meets its contract. Assumes nothing.
 -- what is left gives what all gives
-use Rattle.octets.proofs.Kit.{◌≤◌, ◌<◌, ◌-◌, ◌≡◌, refl, rules, arith, length, drop}
-use Rattle.slots.specs.Crc.{crc_from}
+use Rattle.octets.proofs.Kit.{◌<◌, ◌≡◌, refl, arith, length}
 use Rattle.slots.proofs.{promises.Crcs.{crc_more, crc_all}}
 use Rattle.slots.proofs.crc.update.Goals as goal
 

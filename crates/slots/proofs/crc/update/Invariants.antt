@@ -1,8 +1,7 @@
 -- `slots::crc::update` meets its contract. Assumes nothing.
 -- what is left gives what all gives
-use Rattle.octets.proofs.Kit.{◌≤◌, ◌<◌, ◌-◌, ◌≡◌, refl, rules, arith, length, drop}
+use Rattle.octets.proofs.Kit.{◌≤◌, ◌-◌, ◌≡◌, length, drop}
 use Rattle.slots.specs.Crc.{crc_from}
-use Rattle.slots.proofs.{promises.Crcs.{crc_more, crc_all}}
 use Rattle.slots.proofs.crc.update.Given as goal
 
 abbrev pub invariant-loop-i : goal.invariant-loop-i

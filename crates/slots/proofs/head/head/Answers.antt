@@ -1,5 +1,4 @@
 -- `slots::head::head` meets its contract. Assumes nothing.
-use Rattle.octets.proofs.Kit.{rules}
 use Rattle.slots.proofs.{Units.head_made}
 use Rattle.slots.proofs.head.head.Goals as goal
 

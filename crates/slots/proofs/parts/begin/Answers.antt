@@ -1,5 +1,4 @@
 -- `slots::parts::begin` meets its contract. Assumes nothing.
-use Rattle.octets.proofs.Kit.{rules}
 use Rattle.slots.proofs.{Fronts.{small_slot, too_short_lem, no_mark, too_long_lem, no_room_lem, to_come}}
 use Rattle.slots.proofs.parts.begin.Goals as goal
 

@@ -1,5 +1,4 @@
 -- `slots::parts::end` meets its contract. Assumes nothing.
-use Rattle.octets.proofs.Kit.{rules}
 use Rattle.slots.proofs.{Fronts.{was_barred, unread, other_sum, is_whole}}
 use Rattle.slots.proofs.parts.end.Goals as goal
 

@@ -1,5 +1,4 @@
 -- `slots::parts::more` meets its contract. Assumes nothing.
-use Rattle.octets.proofs.Kit.{rules}
 use Rattle.slots.proofs.{Fronts.{some_left, none_left}}
 use Rattle.slots.proofs.parts.more.Goals as goal
 

@@ -1,5 +1,4 @@
 -- `slots::saving::next_work` meets its contract. Assumes nothing.
-use Rattle.octets.proofs.Kit.{rules}
 use Rattle.slots.proofs.{Returns.{works_writing, works_other}, Units.work_fits}
 use Rattle.slots.proofs.saving.next_work.Goals as goal
 

@@ -1,5 +1,5 @@
 -- `slots::saving::piece` meets its contract. Assumes nothing.
-use Rattle.octets.proofs.Kit.{arith, rules}
+use Rattle.octets.proofs.Kit.{arith}
 use Rattle.octets.proofs.Tests.{tests}
 use Rattle.slots.specs.Saving.{work_of, piece_of}
 use Rattle.slots.proofs.{Returns.{no_buffer, too_much, too_small}}

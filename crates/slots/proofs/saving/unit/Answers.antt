@@ -1,5 +1,4 @@
 -- `slots::saving::unit` meets its contract. Assumes nothing.
-use Rattle.octets.proofs.Kit.{rules}
 use Rattle.slots.proofs.{Units.{unit_blank, unit_head, unit_mark}}
 use Rattle.slots.proofs.saving.unit.Goals as goal
 

@@ -1,5 +1,4 @@
 -- `slots::whole::judge` meets its contract. Assumes nothing.
-use Rattle.octets.proofs.Kit.{rules}
 use Rattle.slots.proofs.{promises.Pieced.{judged_short, judged_whole}}
 use Rattle.slots.proofs.whole.judge.Goals as goal
 
