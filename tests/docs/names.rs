@@ -10,13 +10,18 @@ use std::{env, fs, process};
 
 /// The words of the language, of its library and of a verdict that the documents explain or use.
 const LIBRARY: &[&str] = &[
-    "getD",
+    "get_or",
+    "slice_index",
     "cond",
+    "result",
+    "nat_lt",
+    "nat_le",
+    "nat_eq",
     "ltb",
     "leb",
     "eqb",
-    "bitAnd",
-    "bitXor",
+    "bit_and",
+    "bit_xor",
     "requires",
     "ensures",
     "record",
@@ -175,14 +180,16 @@ fn is_file(word: &str) -> bool {
     ENDINGS.iter().any(|e| word.len() > e.len() && word.ends_with(e))
 }
 
-/// Whether a quoted text is a name: letters, digits and the signs that names have, with dots and double colons between.
+/// Whether a quoted text is a name: letters, digits and the signs that names have, with dots and double colons between. What is
+/// taken of something of one letter, as `s.now`, is a term.
 fn is_name(word: &str) -> bool {
     let starts = word.chars().next().is_some_and(|c| c.is_alphabetic());
-    starts && !is_file(word) && word.chars().all(|c| c != '′' && in_word(c) || c == '.' || c == ':')
+    let term = word.split_once('.').is_some_and(|(of, _)| of.chars().count() == 1);
+    starts && !term && !is_file(word) && word.chars().all(|c| c != '\'' && in_word(c) || c == '.' || c == ':')
 }
 
 fn in_word(c: char) -> bool {
-    c.is_alphanumeric() || "_-'′".contains(c)
+    c.is_alphanumeric() || "_-'".contains(c)
 }
 
 /// The names of the folders in a folder.

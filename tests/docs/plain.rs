@@ -42,7 +42,7 @@ const PARTS: &[Part] = &[
         decides: false,
         files: &["plain_check/lib", "plain_check/places", "plain_check/entries", "plain_check/bodies"],
     },
-    Part { name: "The call in C", decides: false, files: &["plain_host/lib"] },
+    Part { name: "The call in C", decides: false, files: &["plain_host/lib", "plain_host_c/lib"] },
 ];
 
 const PARTS_FILES: &[&str] = &["parts/entries", "parts/front", "parts/lists", "parts/whole"];
@@ -50,7 +50,7 @@ const PARTS_FILES: &[&str] = &["parts/entries", "parts/front", "parts/lists", "p
 /// What is no part of the engine: both engines asked the same.
 const BESIDE: &[&str] = &["plain/both"];
 
-const CRATES: &[&str] = &["plain_check", "parts", "plain_services", "plain", "plain_host"];
+const CRATES: &[&str] = &["plain_check", "parts", "plain_services", "plain", "plain_host", "plain_host_c"];
 const HEADING: &str = "| Of the plain engine | Lines | Hours |";
 /// How many lines are read in an hour, with care.
 const AN_HOUR: f64 = 150.0;
@@ -117,10 +117,17 @@ fn read(file: &str, good: &mut bool) -> Vec<String> {
     let source = fs::read_to_string(&path).unwrap_or_else(|e| stop(&format!("{path}: {e}")));
     let mut kept: Vec<String> = Vec::new();
     let (mut name, mut from) = (String::new(), 0);
+    // how many braces of a clause are open
+    let mut deep = 0;
     for line in source.lines() {
         let word = line.trim_start();
-        let imports = ["use ", "pub use ", "mod ", "ghost use "].iter().any(|w| line.starts_with(w));
-        if imports || word.starts_with("requires {") || word.starts_with("ensures {") {
+        let imports = ["use ", "pub use ", "mod ", "pub mod ", "ghost use "].iter().any(|w| line.starts_with(w));
+        let tactics = ["#![tactic(", "#[tactic("].iter().any(|w| word.starts_with(w));
+        if deep > 0 || word.starts_with("requires ") || word.starts_with("ensures ") {
+            deep += line.matches('{').count() as i32 - line.matches('}').count() as i32;
+            continue;
+        }
+        if imports || tactics {
             continue;
         }
         if line.is_empty() && kept.last().is_none_or(String::is_empty) {
