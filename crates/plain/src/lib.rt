@@ -1,5 +1,6 @@
 // The plain engine: a sheet is taken apart into records, the rules are applied to the records, and the sheet is written again.
 #![tactic(auto)]
+
 mod both;
 mod carry;
 mod order;

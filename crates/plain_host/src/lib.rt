@@ -1,5 +1,6 @@
 // The C interface of the plain engine: the call of include/kelindap_plain.h.
 #![tactic(auto)]
+
 ghost use Rattle.device.specs.Events.{Called};
 ghost use Rattle.plain_host.specs.Calls.{gave};
 

@@ -4,10 +4,10 @@
 -- `a` are its arguments in their order, r what came back, e what the arguments are then.
 use base.Logic.{SProp, ent, id⊢}
 use contract.{Lifetimes.Lfts, Monad.{Fun, fact, fact_mono}}
-use denote.{Ref.now, Triple.{Entry.{Args, Res}, Clauses.AtExit}}
+use denote.{Triple.{Entry.{Args, Res}, Clauses.AtExit}}
 use types.Logic.{Logic}
 use seplogic.Ra.Ura.{Ura}
-use prog.{Memory.Memory, Routine.Routine, Wp.Heap}
+use prog.{Memory.Memory, Routine.Routine}
 use Rattle.device.specs.{Events.Called, Demand2.effect_seen}
 use Rattle.events.specs.Events.{request}
 use Rattle.history.specs.Calls.{Call, requests}
@@ -23,13 +23,13 @@ module _ {M : Type 1} {𝓤 : Ura M} (𝓛 : Logic 𝓤) (mem : Memory → SProp
 
   pub plain_says :
       Entails ((plain_Fn.clauses 𝓛 mem run κs a).ensures tt r e)
-      (Called a.0 a.1.1.0 a.1.1.1.0 a.1.1.1.1.0 (now a.1.1.1.1.1.0) (now a.1.0) (now a.1.1.1.1.1.1.0) (gave r)
-      (now e.1.0) (now e.1.1.1.1.1.1.0))
+      (Called a.0 a.1.1.0 a.1.1.1.0 a.1.1.1.1.0 a.1.1.1.1.1.0.now a.1.0.now a.1.1.1.1.1.1.0.now (gave r)
+      e.1.0.now e.1.1.1.1.1.1.0.now)
   plain_says = id⊢ 𝓤 _
 
   pub plain_is :
       Entails ((plain_Fn.clauses 𝓛 mem run κs a).ensures tt r e)
-      (Call record { sessions = a.0; sheet = now a.1.0 }
-      (request a.1.1.0 a.1.1.1.0 a.1.1.1.1.0 (now a.1.1.1.1.1.0) (now a.1.1.1.1.1.1.0))
-      (effect_seen (gave r) (now e.1.0) (now e.1.1.1.1.1.1.0)))
+      (Call record { sessions = a.0; sheet = a.1.0.now }
+      (request a.1.1.0 a.1.1.1.0 a.1.1.1.1.0 a.1.1.1.1.1.0.now a.1.1.1.1.1.1.0.now)
+      (effect_seen (gave r) e.1.0.now e.1.1.1.1.1.1.0.now))
   plain_is = fact_mono 𝓤 _ _ (requests _ _ _ _ _ _ _ _)
