@@ -1,5 +1,6 @@
 // Marks: of each byte of a sheet, and of each level, the number of the event after which it was another last.
 #![tactic(auto)]
+
 ghost use Rattle.std.specs.Prelude.{◌+◌, ◌≤◌, ◌≡◌, length};
 ghost use Rattle.account.specs.Marks.{mark_of, Caught, Levelled, Markable, Marked};
 

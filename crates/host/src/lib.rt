@@ -2,6 +2,7 @@
 // those of include/kelindap_store.h stand in `store`, those of include/kelindap_link.h in `bus`, those of include/kelindap_slots.h in
 // `places`.
 #![tactic(auto)]
+
 pub mod bus;
 pub mod places;
 pub mod store;

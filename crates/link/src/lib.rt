@@ -3,6 +3,7 @@
 // link, sheet and buffer), Net (histories of frames); Due (what a frame must be heard as, in plain words); Whose, Granted (by what
 // right a frame changed a byte), Unlearned, Runs and Demand1 (what the theorems say of them).
 #![tactic(auto)]
+
 mod answering;
 mod hearing;
 mod places;

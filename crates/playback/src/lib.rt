@@ -1,5 +1,6 @@
 // A recorded trace of events: judged, and played back on a device.
 #![tactic(auto)]
+
 mod event;
 mod layout;
 mod marking;
