@@ -35,7 +35,7 @@ for sheet in "$sample" "$pump"; do
     done
 done
 # its edition 1, which sheet_check's stored run calls OLD
-same "$defined, the old one" "01${sample:2}" "$(sed -n '/^oldSample =/,/\[\]$/p' $defined | grep -o '0x..' | sed 's/0x//' | digits)"
+same "$defined, the old one" "01${sample:2}" "$(sed -n '/^old_sample =/,/\[\]$/p' $defined | grep -o '0x..' | sed 's/0x//' | digits)"
 same crates/sheet_check/stdin "01${sample:2}" "$(od -An -v -tx1 crates/sheet_check/stdin | digits)"
 same docs/SHEET.md "$sample" "$(shown_below 'The sample sheet')"
 same docs/SHEET.md "$pump" "$(shown_below 'A sheet with user memory')"
@@ -47,7 +47,7 @@ awk -F '\t' '/^01 marked case/ {
     level = $2; sub(/.*level=/, "", level); sub(/ .*/, "", level)
     print ($2 ~ /mode=3/ ? "at " level : "loose"), $3, $4, $5
 }' tests/vectors/device.tsv | lower > "$work/cases"
-sed -n '/^abbrev pub readElement/,/^-- a case.s request/p' $marked | tr -d '\n' | sed 's/∷ *\[\]//g; s/ ∷ 0x/0x/g' |
+sed -n '/^abbrev pub read_element/,/^-- a case.s request/p' $marked | tr -d '\n' | sed 's/∷ *\[\]//g; s/ ∷ 0x/0x/g' |
     grep -oE '(at [0-9]|loose) +\(?[^)]*\)? +(\([^)]*\)|\[\]) +[0-9]+' | sed 's/0x//g; s/\[\]/-/; s/[()]//g; s/  */ /g' | lower > "$work/antt"
 awk '/^at .*marked case/ {
     split($0, parts, " : "); split(parts[2], words, " ")
@@ -93,23 +93,37 @@ same docs/UNIT.md "$(names KINDS)" "$(sed -n '/^## Kinds/,$p' docs/UNIT.md | awk
 folders() { for folder in .c*/ */; do echo "${folder%/}"; done | grep -vxE 'build|target' | sort; }
 named() { grep -oE '`[a-z_.]+`' | tr -d '`' | sort -u; }
 same "docs/SOURCE.md, the folders" "$(folders)" "$(sed -n '/^## The folders/,/^## /p' docs/SOURCE.md | awk -F '|' '/^. `/ { print $2 }' | named)"
-crates=$(sed -n 's/^\([a-z_]*\):.*/\1/p' crates.txt | sort)
+crates=$(sed -n 's/^\([a-z_]*\)\( staticlib\)*:.*/\1/p' crates.txt | sort)
 layers=$(sed -n '/^## The layers/,/^## /p' docs/SOURCE.md)
 for crate in $crates; do
     grep -qw "$crate" <<< "$layers" || { echo "same: SOURCE.md's layers lack $crate"; bad=1; }
 done
 ordered=$(grep -F 'lowest crate first:' docs/CHANGING.md | sed 's/.*lowest crate first://; s/A crate above.*//' | grep -oE '`[a-z_]+`' | tr -d '`')
 same "docs/CHANGING.md, the order of crates" "$crates" "$(sort <<< "$ordered")"
-sed -n 's/^\([a-z_]*\): */\1 /p' crates.txt | awk -v order="$(tr '\n' ' ' <<< "$ordered")" '
+sed -n 's/^\([a-z_]*\)\( staticlib\)*: */\1 /p' crates.txt | awk -v order="$(tr '\n' ' ' <<< "$ordered")" '
     BEGIN { n = split(order, list, " "); for (i = 1; i <= n; i++) at[list[i]] = i }
     { for (i = 2; i <= NF; i++) if ($i in at && at[$i] > at[$1]) { print "same: docs/CHANGING.md has " $1 " before " $i; bad = 1 } }
     END { exit bad }' || bad=1
 
-# no line of a definition, of code or of a proof has more than 200 characters
-if LC_ALL=C.UTF-8 grep -rnE --include='*.antt' --include='*.rt' '^.{201,}' crates | cut -c 1-120; then
-    echo "same: lines above 200 characters"
+# no line of a definition, of code or of a proof has more than 250 characters
+if LC_ALL=C.UTF-8 grep -rnE --exclude-dir=out --include='*.antt' --include='*.rt' '^.{251,}' crates | cut -c 1-120; then
+    echo "same: lines above 250 characters"
     bad=1
 fi
+
+# an export to C has the comment, the signature and the contract of the function that it calls, word for word
+calls() { # FILE..
+    awk '
+        /^\/\/ / { above = above " " $0; next }
+        /^pub (extern "C" )?fn kelindap_/ { sub(/extern "C" /, ""); on = 1; text = above }
+        on && /^\{$/ { gsub(/ +/, " ", text); print text; on = 0 }
+        on { text = text " " $0 }
+        !/^#\[/ { above = "" }' "$@" | sort
+}
+for crate in host tool plain_host; do
+    same "crates/${crate}_c/src/lib.rt" "$(calls crates/$crate/src/*.rt)" "$(calls "crates/${crate}_c/src/lib.rt")"
+    [ -n "$(calls crates/$crate/src/*.rt)" ] || { echo "same: crates/$crate has no call of C"; bad=1; }
+done
 
 # every outcome that a header has by name has words in kelindap_names.h
 for name in $(awk '/^enum kelindap_[a-z_]*(outcome|refusal)/ { on = 1; next } /^}/ { on = 0 } on && /^ *KELINDAP_/ { print $1 }' include/*.h |
@@ -124,7 +138,7 @@ done
 
 # a name that was once two things in two crates is one thing in one
 for name in Alike Seen Connections; do
-    having=$({ find crates -name "$name.antt"; grep -rlE "(record|data) $name( |\$)" crates --include='*.antt' || true; } | cut -d / -f 2 | sort -u | wc -l)
+    having=$({ find crates -name out -prune -o -name "$name.antt" -print; grep -rlE --exclude-dir=out "(record|data) $name( |\$)" crates --include='*.antt' || true; } | cut -d / -f 2 | sort -u | wc -l)
     [ "$having" -le 1 ] || { echo "same: $name is a name in $having crates"; bad=1; }
 done
 

@@ -36,115 +36,115 @@ const PARTS: &[Part] = &[
     Part {
         title: "Demand 1",
         says: "every request gets an outcome, and a refusal changes nothing",
-        statements: &["host/request-leaves"],
+        statements: &["host/request_leaves"],
     },
     Part {
         title: "Demand 2",
         says: "read, judged, carried out and answered as the rules say, and nothing else; so of each call, a restore too",
-        statements: &["calls-due", "calls-only"],
+        statements: &["calls_due", "calls_only"],
     },
     Part {
         title: "What a request changed",
         says: "every byte outside the parts that a request names is as found, and a refusal names none",
-        statements: &["request-outside", "request-none", "request-first", "request-second"],
+        statements: &["request_outside", "request_none", "request_first", "request_second"],
     },
     Part {
         title: "Demand 3",
         says: "what any calls leave",
-        statements: &["calls-after", "calls-keep", "calls-permit"],
+        statements: &["calls_after", "calls_keep", "calls_permit"],
     },
     Part {
         title: "`keyless`",
         says: "while nobody offers the key, from closed sessions, no protected byte changes",
-        statements: &["history/shut", "keyless", "keyless-calls", "locked"],
+        statements: &["history/shut", "keyless", "keyless_calls", "locked"],
     },
     Part {
         title: "`accounts`",
         says: "which event changed each byte, and by what right; which gave each level",
-        statements: &["accounts-calls", "play-accounts"],
+        statements: &["accounts_calls", "play_accounts"],
     },
     Part {
         title: "`isolated`",
         says: "what one tool sees does not depend on the other",
-        statements: &["isolated-calls", "isolated-next", "isolated-parts"],
+        statements: &["isolated_calls", "isolated_next", "isolated_parts"],
     },
     Part {
         title: "Frames",
         says: "what each is to the device, and what is done with it",
-        statements: &["fn host/kelindap_heard", "fn host/kelindap_serve", "link/heard-due", "link/heard-only", "link/served-is"],
+        statements: &["fn host/kelindap_heard", "fn host/kelindap_serve", "link/heard_due", "link/heard_only", "link/served_is"],
     },
     Part {
         title: "Frames of any senders",
         says: "whose connection is whose, and what they leave",
         statements: &[
-            "link/frames-keep",
-            "link/frames-at-once",
-            "link/keyless-frames",
+            "link/frames_keep",
+            "link/frames_at_once",
+            "link/keyless_frames",
             "link/whose",
             "link/stranger",
-            "link/same-partner",
+            "link/same_partner",
             "link/elsewhere",
             "link/itself",
             "link/apart",
-            "link/turned-away",
-            "link/only-third",
-            "link/never-lost",
-            "link/answer-mode",
+            "link/turned_away",
+            "link/only_third",
+            "link/never_lost",
+            "link/answer_mode",
         ],
     },
     Part {
-        title: "`without-key`",
+        title: "`without_key`",
         says: "who changes a byte by a frame was given the right to it by a key of its own, whatever others have offered",
-        statements: &["link/keyless-heard", "link/joined", "link/granted", "link/by-right", "link/without-key", "link/ran-by-right", "link/ran-without-key"],
+        statements: &["link/keyless_heard", "link/joined", "link/granted", "link/by_right", "link/without_key", "link/ran_by_right", "link/ran_without_key"],
     },
     Part {
         title: "What a frame changed",
         says: "every byte outside the parts that a served frame names is as found, and what is no request or was refused names none",
-        statements: &["link/served-outside", "link/served-none", "link/served-within"],
+        statements: &["link/served_outside", "link/served_none", "link/served_within"],
     },
     Part {
         title: "`unlearned`",
         says: "nobody learns a body byte that no open connection may read",
-        statements: &["unlearned-calls", "unlearned-next", "unlearned-parts", "keyless-blind"],
+        statements: &["unlearned_calls", "unlearned_next", "unlearned_parts", "keyless_blind"],
     },
     Part {
         title: "Both engines",
         says: "the plain engine gives what the first gives",
-        statements: &["fn plain/both", "engines-agree", "fn plain_host/kelindap_plain_request"],
+        statements: &["fn plain/both", "engines_agree", "fn plain_host/kelindap_plain_request"],
     },
     Part {
-        title: "`unlearned-frames`",
+        title: "`unlearned_frames`",
         says: "nobody learns a body byte that no open connection may read by frames, of whatever is sent or told",
-        statements: &["link/unlearned-frames", "link/unlearned-served", "link/unheard-blind"],
+        statements: &["link/unlearned_frames", "link/unlearned_served", "link/unheard_blind"],
     },
     Part {
         title: "`converted`",
         says: "the conversion of an old sheet, and that it answers as the old sheet did",
-        statements: &["sheet/converted", "by-refusal", "answers-as-before"],
+        statements: &["sheet/converted", "by_refusal", "answers_as_before"],
     },
     Part {
         title: "Any mixture of calls",
         says: "the contracts of all calls that reach sheet, sessions, link or store, tied to the steps of a run; and the same promises over any run of them",
         statements: &[
-            "connect-is",
-            "disconnect-is",
-            "button-is",
-            "request-is",
-            "plain-is",
-            "restore-is",
-            "convert-is",
-            "play-is",
-            "marked-is",
-            "serve-is",
-            "save-is",
-            "remove-is",
-            "mixed-keep",
-            "mixed-keyless",
-            "mixed-accounts",
-            "mixed-isolated",
-            "mixed-unlearned",
-            "turns-are",
-            "turns-restored",
+            "connect_is",
+            "disconnect_is",
+            "button_is",
+            "request_is",
+            "plain_is",
+            "restore_is",
+            "convert_is",
+            "play_is",
+            "marked_is",
+            "serve_is",
+            "save_is",
+            "remove_is",
+            "mixed_keep",
+            "mixed_keyless",
+            "mixed_accounts",
+            "mixed_isolated",
+            "mixed_unlearned",
+            "turns_are",
+            "turns_restored",
         ],
     },
     Part {
@@ -158,61 +158,61 @@ const PARTS: &[Part] = &[
             "fn host/kelindap_slot_newer",
             "fn host/kelindap_slot_target",
             "fn host/kelindap_slot_work",
-            "slots/parts-judge",
-            "slots/whole-judge",
+            "slots/parts_judge",
+            "slots/whole_judge",
         ],
     },
     Part {
         title: "The medium and a cut",
         says: "a unit starts with the new sheet exactly if the mark was set; and the host's loop is such a save",
         statements: &[
-            "slots/save-ready",
-            "slots/cut-safe",
+            "slots/save_ready",
+            "slots/cut_safe",
             "slots/lives",
-            "slots/ready-starts",
-            "slots/first-save",
-            "slots/first-cut",
-            "slots/next-goal",
+            "slots/ready_starts",
+            "slots/first_save",
+            "slots/first_cut",
+            "slots/next_goal",
             "slots/loop-saves",
-            "slots/halt-cuts",
+            "slots/halt_cuts",
         ],
     },
     Part {
         title: "A life with power cuts",
         says: "it is a history: what was answered after its save is in it, what a cut takes is the newest, together; what is found after a cut",
         statements: &[
-            "lives-follow",
-            "answered-stays",
-            "acknowledged-stays",
-            "lost-together",
-            "written-found",
-            "found-again",
-            "whole-or-not",
+            "lives_follow",
+            "answered_stays",
+            "acknowledged_stays",
+            "lost_together",
+            "written_found",
+            "found_again",
+            "whole_or_not",
             "rests",
-            "starts-fresh",
-            "lives-restored",
+            "starts_fresh",
+            "lives_restored",
         ],
     },
-    Part { title: "Demand 3 through power cuts", says: "what any life leaves", statements: &["lives-keep"] },
+    Part { title: "Demand 3 through power cuts", says: "what any life leaves", statements: &["lives_keep"] },
     Part {
         title: "Without the key, through power cuts",
         says: "while nobody offers the key no protected byte changes in any life; by frames, by whoever has offered none since the last start",
-        statements: &["lives-keyless", "lives-by-right", "lives-without-key"],
+        statements: &["lives_keyless", "lives_by_right", "lives_without_key"],
     },
     Part {
         title: "The accounts through power cuts",
         says: "which event changed each byte in any life, and by what right",
-        statements: &["lives-accounts"],
+        statements: &["lives_accounts"],
     },
     Part {
         title: "Nothing learned, through power cuts",
         says: "nobody learns a body byte that no open connection may read in any life",
-        statements: &["lives-unlearned"],
+        statements: &["lives_unlearned"],
     },
     Part {
         title: "Two tools through power cuts",
         says: "what one tool sees in any life does not depend on the other",
-        statements: &["lives-isolated"],
+        statements: &["lives_isolated"],
     },
 ];
 
@@ -221,36 +221,39 @@ const DEMANDS: &[&str] = &["The calls", "Demand 1", "Demand 2", "Demand 3", "`ke
 
 /// Where reading stops: a definition, why it need not be read, and the theorems that are read in its place.
 const STOPS: &[(&str, &str, &[&str])] = &[
-    ("requestOf", "what a request does: contract and theorems meet there", &[]),
-    ("stepOf", "what a request does on its session: contract and theorems meet there", &[]),
-    ("changedOf", "which parts a request names: contract and theorems meet there", &[]),
-    ("buttonOutcome", "what the button does: contract and theorems meet there", &[]),
-    ("buttonSheet", "what the button does: contract and theorems meet there", &[]),
-    ("restoreOutcome", "what a restore does: contract and theorems meet there", &[]),
-    ("restoreSheet", "what a restore does: contract and theorems meet there", &[]),
-    ("stepWith", "what a request does, the refusal of its sheet being given: `by-refusal` ties it to `stepOf`", &[]),
-    ("restoreBy", "what a restore does, the refusal of its sheet being given: `by-refusal` ties it to `restoreOutcome`", &[]),
-    ("heardOf", "what a frame is to the device; read as propositions", &["link/heard-due", "link/heard-only"]),
-    ("eventOf", "what an event gives: a call that is the event gives it", &["history/call-is"]),
-    ("sameEntries", "whether a version has a sheet's entries, as a test", &["versions/same-entries", "versions/entries-same"]),
-    ("lowCounts", "whether a version's counts are low enough, as a test", &["versions/low-counts", "versions/counts-low"]),
-    ("history/firstOf", "the first content of a location: the byte at its place in the first sheet", &["history/first-content"]),
-    ("storeRule", "whether a store is good, as rows of a table; read as the bytes that a good store is", KEEPING),
+    ("request_of", "what a request does: contract and theorems meet there", &[]),
+    ("step_of", "what a request does on its session: contract and theorems meet there", &[]),
+    ("changed_of", "which parts a request names: contract and theorems meet there", &[]),
+    ("button_outcome", "what the button does: contract and theorems meet there", &[]),
+    ("button_sheet", "what the button does: contract and theorems meet there", &[]),
+    ("restore_outcome", "what a restore does: contract and theorems meet there", &[]),
+    ("restore_sheet", "what a restore does: contract and theorems meet there", &[]),
+    ("step_with", "what a request does, the refusal of its sheet being given: `by_refusal` ties it to `step_of`", &[]),
+    ("restore_by", "what a restore does, the refusal of its sheet being given: `by_refusal` ties it to `restore_outcome`", &[]),
+    ("heard_of", "what a frame is to the device; read as propositions", &["link/heard_due", "link/heard_only"]),
+    ("event_of", "what an event gives: a call that is the event gives it", &["history/call_is"]),
+    ("same_entries", "whether a version has a sheet's entries, as a test", &["versions/same_entries_lem", "versions/entries_same"]),
+    ("low_counts", "whether a version's counts are low enough, as a test", &["versions/low_counts_lem", "versions/counts_low"]),
+    ("history/first_of", "the first content of a location: the byte at its place in the first sheet", &["history/first_content"]),
+    ("store_rule", "whether a store is good, as rows of a table; read as the bytes that a good store is", KEEPING),
     ("versions/kept", "the versions that a store keeps, as they are found in its table; read as those whose bytes it is", KEEPING),
-    ("ruleIn", "the rules as rows of a table; read as nine propositions", &["sheet/judged", "sheet/judged-only"]),
-    ("readPdu", "what bytes read as; read as what bytes carry", &["pdu/reads-is", "pdu/reads-unfit"]),
-    ("nameNumber", "the names of fields, each by a number of its own", &["pdu/same-name"]),
-    ("Pdu", "the PDUs as the code declares them: `contentOf` has a clause for each, with all its fields", &[]),
-    ("Service", "the services as the code declares them: `rowOf` has a row for each", &[]),
+    ("rule_in", "the rules as rows of a table; read as nine propositions", &["sheet/judged", "sheet/judged_only"]),
+    ("read_pdu", "what bytes read as; read as what bytes carry", &["pdu/reads_is", "pdu/reads_unfit"]),
+    ("name_number", "the names of fields, each by a number of its own", &["pdu/same_name"]),
+    ("Pdu", "the PDUs as the code declares them: `content_of` has a clause for each, with all its fields", &[]),
+    ("Service", "the services as the code declares them: `row_of` has a row for each", &[]),
 ];
 
 /// A good store is the bytes of its versions, both ways.
-const KEEPING: &[&str] = &["versions/it-keeps", "versions/passes", "versions/keeps-these"];
+const KEEPING: &[&str] = &["versions/it_keeps", "versions/passes", "versions/keeps_these"];
 
 /// What the language has without a `use` line, in definitions, in statements and in contracts.
 const LANGUAGE: &str =
     "Type Unit ⊥ × → = : λ λ. let in record data where pub abbrev unfoldable mutual module infix _ | Dec \
-    ⌜ ⌝ tt now requires ensures fn extern \"C\" -> & &mut mut u8 u16 u32 u64 usize bool [u8] &[u8]";
+    tt result requires ensures fn extern \"C\" -> & &mut mut u8 u16 u32 u64 usize bool [u8] &[u8] [u32]";
+
+/// What a contract takes of what is lent: as it is, before the call, after it. And what a theorem takes of a contract.
+const TAKEN: &[&str] = &["now", "old", "new", "ensures"];
 
 /// The words that begin a definition.
 const KEYWORDS: &[&str] = &["pub ", "abbrev ", "unfoldable ", "data ", "record "];
@@ -316,6 +319,8 @@ struct Item {
     /// The words of a signature, of a clause, of a field; and what is bound in all of them.
     scopes: Vec<Vec<String>>,
     bound: BTreeSet<String>,
+    /// Modules that the file has under a name: behind one a dot takes no field.
+    aliases: BTreeSet<String>,
 }
 
 /// What a file uses, by name and by alias, and the items that it has.
@@ -493,9 +498,13 @@ impl Tree {
         let all: Vec<Item> = items.iter().map(|at| self.item(at).clone()).chain(statements.iter().cloned()).collect();
         let fields: BTreeSet<String> = all.iter().flat_map(|i| i.fields.iter().cloned()).collect();
         for item in &all {
-            for word in item.scopes.iter().flatten().filter_map(|w| w.strip_prefix('.')) {
+            let words: Vec<&String> = item.scopes.iter().flatten().collect();
+            for (k, word) in words.iter().enumerate().filter_map(|(k, w)| Some((k, w.strip_prefix('.')?))) {
+                if k > 0 && item.aliases.contains(words[k - 1]) {
+                    continue;
+                }
                 let number = word.starts_with(|c: char| c.is_ascii_digit());
-                if !number && !word.is_empty() && !fields.contains(word) && !["entry", "exit", "ensures"].contains(&word) {
+                if !number && !word.is_empty() && !fields.contains(word) && !TAKEN.contains(&word) {
                     self.unknown.insert((item.file.clone(), format!(".{word}")));
                 }
             }
@@ -544,7 +553,9 @@ impl Tree {
         let mut needs = BTreeSet::new();
         for scope in &item.scopes {
             let bound = binders(scope);
-            for word in scope.iter().filter(|w| is_name(w)) {
+            for (k, word) in scope.iter().enumerate().filter(|(_, w)| is_name(w)) {
+                let inner = scope.get(k + 1).filter(|w| item.aliases.contains(word) && w.starts_with('.'));
+                let word = &[word.as_str(), inner.map_or("", String::as_str)].concat();
                 match self.meaning(path, item, &bound, word) {
                     Meaning::Item(at) => drop(needs.insert(at)),
                     Meaning::Library(module) => drop(self.library.entry(module).or_default().insert(word.clone())),
@@ -561,7 +572,7 @@ impl Tree {
             return Meaning::Local;
         }
         let module = self.module(path);
-        let operator = format!("_{word}_");
+        let operator = format!("◌{word}◌");
         for name in [word, &operator] {
             let found = match name.split_once('.') {
                 Some((alias, inner)) => module.aliases.get(alias).map(|m| (m.clone(), inner.to_string())),
@@ -669,11 +680,10 @@ enum Home {
     Declared(PathBuf, String),
 }
 
-/// The home that a path of modules names, none if it is the library's: `Rattle·CRATE.specs.A`, of the crate itself
-/// `Rattle·CRATE·specs.specs.A`.
+/// The home that a path of modules names, `Rattle.CRATE.specs.A`; none if it is the library's.
 fn home(from: &str) -> Option<Home> {
-    let (name, rest) = from.strip_prefix("Rattle·")?.split_once('.')?;
-    let folder = Path::new("crates").join(name.split('·').next()?);
+    let (name, rest) = from.strip_prefix("Rattle.")?.split_once('.')?;
+    let folder = Some(Path::new("crates").join(name)).filter(|f| f.is_dir())?;
     let parts: Vec<&str> = rest.split('.').collect();
     if let ["specs", "declared", inner @ ..] = &parts[..] {
         // a type, behind the modules of the code in which it stands
@@ -682,14 +692,14 @@ fn home(from: &str) -> Option<Home> {
     }
     let file = parts.iter().fold(folder, |p, part| p.join(part));
     // what the kit makes of a function, its contract among it, stands in no file
-    let made = parts[0] == "proofs" && parts[parts.len() - 1].starts_with("kelindap_");
+    let made = parts.get(1) == Some(&"contracts");
     (!made).then(|| Home::Module(file.with_extension("antt")))
 }
 
 /// The uses of a file's lines: by name, and by alias.
 fn uses(lines: &[String]) -> Module {
     let mut module = Module::default();
-    for line in lines {
+    for line in &whole(lines) {
         let line = line.trim_start_matches("unfoldable ").trim_start_matches("pub ").trim_start_matches("ghost ");
         let Some(line) = line.trim_end_matches(';').strip_prefix("use ") else { continue };
         if let Some((from, alias)) = line.split_once(" as ").filter(|_| !line.contains('{')) {
@@ -699,12 +709,27 @@ fn uses(lines: &[String]) -> Module {
                 let (inner, name) = name.split_once(" as ").unwrap_or((&name, &name));
                 module.uses.insert(name.to_string(), (from, inner.to_string()));
             }
-        } else if let Some((from, name)) = line.rsplit_once("::") {
-            let from = format!("Rattle·{from}.specs.declared.{name}");
-            module.uses.insert(name.to_string(), (from, name.to_string()));
+        } else if let Some((from, names)) = line.rsplit_once("::") {
+            for name in names.trim_matches(['{', '}']).split(',').map(str::trim).filter(|n| !n.is_empty()) {
+                let from = format!("Rattle.{from}.specs.declared.{name}");
+                module.uses.insert(name.to_string(), (from, name.to_string()));
+            }
         }
     }
     module
+}
+
+/// Lines of which each use is whole in one.
+fn whole(lines: &[String]) -> Vec<String> {
+    let mut out: Vec<String> = Vec::new();
+    for line in lines {
+        let open = |l: &String| l.trim_start_matches("pub ").starts_with("use ") && l.matches('{').count() > l.matches('}').count();
+        match out.last_mut().filter(|l| open(l)) {
+            Some(last) => *last = format!("{last}{}{}", if line.trim() == "};" { "" } else { " " }, line.trim()),
+            None => out.push(line.clone()),
+        }
+    }
+    out
 }
 
 /// The module in front of a brace, and what stands in it.
@@ -758,8 +783,13 @@ fn definitions(path: &Path) -> Module {
         }
     }
     items.push(item);
-    module.items = items.into_iter().map(|text| parsed(path, text)).collect();
+    module.items = items.into_iter().map(|text| Item { aliases: names_of(&module), ..parsed(path, text) }).collect();
     module
+}
+
+/// The names under which a file has other modules.
+fn names_of(module: &Module) -> BTreeSet<String> {
+    module.aliases.keys().cloned().collect()
 }
 
 /// An item from its text.
@@ -910,7 +940,9 @@ fn types(folder: &Path) -> Module {
     let mut module = Module::default();
     for path in files(folder) {
         let lines = lines_of(&path);
-        module.uses.extend(uses(&lines).uses);
+        let used = uses(&lines);
+        module.uses.extend(used.uses);
+        module.aliases.extend(used.aliases);
         for (k, line) in lines.iter().enumerate() {
             let Some(kind) = ["pub struct ", "pub enum "].iter().find_map(|w| line.strip_prefix(w)) else { continue };
             let above = lines[..k].iter().rev().take_while(|l| l.starts_with("//") || l.starts_with("#[")).count();
@@ -972,7 +1004,7 @@ fn stated(path: &Path, lines: &[String], at: usize, whole: bool) -> Item {
         let within = |l: &&String| !l.is_empty() && (whole || indent(l) > indent(&lines[k]));
         std::iter::once(&lines[k]).chain(lines[k + 1..].iter().take_while(within)).cloned().collect()
     };
-    let mut item = Item { file: path.to_path_buf(), ..Item::default() };
+    let mut item = Item { file: path.to_path_buf(), aliases: names_of(&uses(lines)), ..Item::default() };
     // by the line at which each stands, so that all of it comes in the order of its file
     let mut pieces: BTreeMap<usize, Vec<String>> = BTreeMap::new();
     let comments = |k: usize| lines[..k].iter().rev().take_while(|l| l.trim_start().starts_with("--")).count();
@@ -1042,7 +1074,13 @@ fn scopes(lines: &[String]) -> Vec<Vec<String>> {
 fn contract(path: &Path, lines: &[String], at: usize) -> Item {
     let above = lines[..at].iter().rev().take_while(|l| l.starts_with("//") || l.starts_with("#[")).count();
     let long = lines[at..].iter().take_while(|l| *l != "{").count();
-    let words = scope(lines[at..at + long].iter().map(String::as_str));
+    let mut words = scope(lines[at..at + long].iter().map(String::as_str));
+    // a clause may have a name
+    for k in (2..words.len()).rev() {
+        if words[k] == "{" && ["requires", "ensures"].contains(&words[k - 2].as_str()) {
+            words.remove(k - 1);
+        }
+    }
     let bound = words.windows(2).filter(|w| w[1] == ":").map(|w| w[0].clone()).collect();
     let name = words.iter().skip_while(|w| *w != "fn").nth(1).cloned().unwrap_or_default();
     Item {
@@ -1051,6 +1089,7 @@ fn contract(path: &Path, lines: &[String], at: usize) -> Item {
         names: [name].into(),
         bound,
         scopes: vec![words],
+        aliases: names_of(&uses(lines)),
         ..Item::default()
     }
 }
@@ -1108,7 +1147,11 @@ fn tokens(line: &str) -> Vec<String> {
             Some(inner) => (inner, ":"),
             None => (word, ""),
         };
-        words.extend([inner, last].iter().filter(|w| !w.is_empty()).map(|w| w.to_string()));
+        // what is taken of something, tight behind it
+        for (k, part) in inner.split('.').enumerate().filter(|(_, p)| !p.is_empty()) {
+            words.push(format!("{}{part}", if k > 0 { "." } else { "" }).replace(['«', '»'], ""));
+        }
+        words.extend(Some(last.to_string()).filter(|w| !w.is_empty()));
     }
     words
 }
