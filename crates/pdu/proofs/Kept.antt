@@ -96,7 +96,7 @@ pub cleared :
 unfolding head_bytes
 cleared r x b small s e h =
     rw (append_assoc (bytes_of 2 (code_for r x)) (item_bytes r.items x) (drop (head_of r) b), e)
-    record { as_long_lem = as_long_lem; first = first; skipped = skipped; kept = kept }
+    record { as_long = as_long; first = first; skipped = skipped; kept = kept }
   where
     c : ℕ
     c = code_of b
@@ -104,8 +104,8 @@ cleared r x b small s e h =
     l : List ℕ
     l = item_bytes r.items x ++ drop (head_of r) b
 
-    as_long_lem : length (bytes_of 2 c ++ l) ≡ length b
-    as_long_lem = simp (length-append, length_bytes, length-drop) (omega (arith, simp (length-append, length_bytes) at (length_head r x)))
+    as_long : length (bytes_of 2 c ++ l) ≡ length b
+    as_long = simp (length-append, length_bytes, length-drop) (omega (arith, simp (length-append, length_bytes) at (length_head r x)))
 
     first : get_or (bytes_of 2 c ++ l) 0 0 ≡ get_or b 0 0 % 4
     first = ap (λ (z : List ℕ). get_or (z ++ l) 0 0) (bytes_two c) ∙ (code_bytes b small).0

@@ -13,7 +13,7 @@ Skipped (skip w ∷ is) at j = ((at ≤ j) × (j < at + w)) ⊎ Skipped is (at +
 
 -- c IS b WITHOUT THE TOP SIX BITS OF THE FIRST BYTE AND WITHOUT THE BYTES OF NO MEANING
 pub record Cleared (r : Row) (b c : List ℕ) : Type 0 where
-  pub as_long_lem : length c ≡ length b
+  pub as_long : length c ≡ length b
   pub first : get_or c 0 0 ≡ get_or b 0 0 % 4
   pub skipped : (j : ℕ) → Skipped r.items 2 j → get_or c j 0 ≡ 0
   pub kept : (j : ℕ) → 0 < j → (Skipped r.items 2 j → ⊥) → get_or c j 0 ≡ get_or b j 0

@@ -7,7 +7,7 @@ use Rattle.device.specs.{Events.{Effect, State}, declared.Sessions.Sessions}
 use Rattle.events.specs.Events.{Event, event_of}
 use Rattle.history.specs.{History.First, Keeps.state_after, Isolation.same, Rightful.ours, Secret.{Hide, NoneBelow, AllAlike, none, more, NothingToldAlong}}
 use Rattle.history.proofs.promises.{InOrder.{first_state, after_is_run}, Unlearned.unlearned}
-use Rattle.playback.specs.{Trace.{count, room, events_from, trace_of}, Rules.refusal_of, Playing.{at, line, line_of, log_of, due_of, refusal_in, handled_of, played_of, Plays}}
+use Rattle.playback.specs.{Trace.{count, room, trace_of}, Rules.refusal_of, Playing.{at, line, line_of, log_of, due_of, refusal_in, handled_of, played_of, Plays}}
 use Rattle.playback.specs.declared.Played.{Played}
 use Rattle.playback.proofs.{Running.{length_events, log_append, length_log}, promises.PlayKeeps.{all_history, play_keeps}}
 
@@ -126,14 +126,14 @@ module _ (q : ℕ) (few : q ≤ 3) (u : Sessions) (s s' : List ℕ) (hide : Hide
       ∙ ap (λ (l : List Event). splice log' 0 (log_of (at u s') l)) (played_by_length t from limit log log' long)
       ∙ ap (λ (l : List ℕ). splice log' 0 l) same_lines
 
-  as_long_lem : length lines ≡ line * r.handled
-  as_long_lem =
+  as_long : length lines ≡ line * r.handled
+  as_long =
       length_log (at u s) es ∙ ap (λ (n : ℕ). line * n) (many_played t from limit log ∙ sym p.did.handled)
 
   front : take (line * r.handled) log₁ ≡ lines
   front =
       ap (λ (l : List ℕ). take (line * r.handled) l) (p.did.logged ∙ splice_front log lines)
-      ∙ take_at lines (drop (length lines) log) (line * r.handled) as_long_lem
+      ∙ take_at lines (drop (length lines) log) (line * r.handled) as_long
 
   -- NOTHING IS LEARNED: the same refusal, as many events handled, the same sessions, sheets that still hide q, and in the second log the lines of the first, with all behind them as it was
   pub play_unlearned :
@@ -144,7 +144,7 @@ module _ (q : ℕ) (few : q ≤ 3) (u : Sessions) (s s' : List ℕ) (hide : Hide
     p'.did.handled ∙ handled_by_length t from limit log log' long ∙ sym p.did.handled,
     stays.0,
     stays.1,
-    logged' ∙ splice_front log' lines ∙ ap₂ (λ (l : List ℕ) (n : ℕ). l ++ drop n log') (sym front) as_long_lem,
+    logged' ∙ splice_front log' lines ∙ ap₂ (λ (l : List ℕ) (n : ℕ). l ++ drop n log') (sym front) as_long,
   )
 
   -- so logs that were the same are the same after it
