@@ -116,7 +116,7 @@ calls() { # FILE..
     awk '
         /^\/\/ / { above = above " " $0; next }
         /^pub (extern "C" )?fn kelindap_/ { sub(/extern "C" /, ""); on = 1; text = above }
-        on && /^\{$/ { gsub(/ +/, " ", text); print text; on = 0 }
+        on && /^\{$/ { gsub(/ +/, " ", text); sub(/\( /, "(", text); sub(/, \)/, ")", text); print text; on = 0 }
         on { text = text " " $0 }
         !/^#\[/ { above = "" }' "$@" | sort
 }

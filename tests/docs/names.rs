@@ -41,6 +41,7 @@ const LIBRARY: &[&str] = &[
     "native",
     "logic-built",
     "libraries-built",
+    "statements",
 ];
 
 /// The endings by which a word is a file.
