@@ -1,5 +1,5 @@
 -- Which requests are heard, which writes are allowed, which bytes they name, and what they give to each.
-use Rattle.std.specs.Prelude.{ℕ, zero, suc, ◌+◌, ◌*◌, ◌-◌, ◌/◌, ◌%◌, max, List, [], ◌∷◌, ◌++◌, Bool, true, false, cond, ◌&&◌, ◌||◌, not, length, get_or, ltb, leb, eqb}
+use Rattle.std.specs.Prelude.{ℕ, zero, suc, ◌+◌, ◌*◌, ◌-◌, ◌/◌, ◌%◌, max, List, [], ◌∷◌, ◌++◌, Bool, false, cond, ◌&&◌, ◌||◌, not, length, get_or, ltb, leb, eqb}
 use Rattle.std.specs.Int.Bits.{bit_and, bit_xor}
 use Rattle.octets.specs.Bytes.{num_at, bytes_of}
 use Rattle.octets.specs.Every.{every}

@@ -3,8 +3,7 @@ use Rattle.octets.proofs.Kit.{ℕ, zero, suc, ◌≡◌, refl, sym, ap, subst, �
 use Rattle.octets.proofs.Truths.{never, first_true, second_true}
 use Rattle.device.specs.{Sessions.session_of, Events.State, declared.Sessions.Sessions}
 use Rattle.events.specs.Events.{Event, connect, disconnect, button, request, restore, event_of, after, run_by}
-use Rattle.history.specs.{Wish.asks, Permit.heard, History.{wished, opened, level}, Isolation.is_of}
-use Rattle.account.specs.Account.{at}
+use Rattle.history.specs.{Wish.asks, History.{wished}, Isolation.is_of}
 use Rattle.link.specs.{Partners.address_at, Serving.apdu_of, Net.{Net, state_of, source_of, heard_in, events_of, Item, frame, press, time_out, give_back, events_by, net_by}}
 use Rattle.link.specs.{Whose.{Partner, Whose, partner, newcomer}, declared.Arrived.{Arrived, TheVariants.{Request, Connect, Disconnect, Nothing}}}
 use Rattle.link.proofs.promises.Whose.{same_partner}

@@ -1,5 +1,5 @@
 -- One event, by its kind, as the trace says it. Assumes nothing.
-use Rattle.octets.proofs.Kit.{ℕ, ◌+◌, ◌-◌, ◌*◌, ◌/◌, ◌%◌, ◌≤◌, ◌<◌, ◌≡◌, refl, sym, ◌∙◌, ap, subst, Bool, true, false, cond, List, [], ◌∷◌, ◌++◌, ◌⊎◌, inl, inr, length, get_or, take, drop}
+use Rattle.octets.proofs.Kit.{ℕ, ◌+◌, ◌-◌, ◌/◌, ◌%◌, ◌≤◌, ◌<◌, ◌≡◌, refl, sym, ◌∙◌, ap, subst, Bool, true, false, cond, List, [], ◌⊎◌, inl, inr, length, get_or, take, drop}
 use Rattle.octets.proofs.Kit.{add-sub_cancel_left, arith, ne_eqb}
 use Rattle.octets.{specs.Splice.splice, proofs.Splices.splice_none}
 use Rattle.sheet.{specs.{Layout.◌of◌, Rules.{Accepted, Old, Bad}}, proofs.promises.Verdicts.{one_of_three, refused_none}}
@@ -7,8 +7,8 @@ use Rattle.sheet.specs.Head as head
 use Rattle.device.specs.{Events.{Effect, State, Did, named, connect_of, disconnect_of, request_of, button_outcome, button_sheet}, Changed.{part, none, Requested, Outside}}
 use Rattle.device.{specs.declared.{Sessions.Sessions, Done.Done, Changed.Changed, Made.Made}, proofs.promises.{Called.call_leaves, Parts.{kept_outside, first_within, second_within}}}
 use Rattle.device.proofs.{promises.Dues.button_due, calls.Pressing.head_room}
-use Rattle.events.specs.Events.{Event, connect, disconnect, button, request, event_of}
-use Rattle.playback.specs.{Trace.{room, blank, event_by, event_in}, Playing.at, Event.{flag_of, Presses, Names, Happens}}
+use Rattle.events.specs.Events.{Event, connect, disconnect, button, event_of}
+use Rattle.playback.specs.{Trace.{room, event_by, event_in}, Playing.at, Event.{flag_of, Presses, Names, Happens}}
 use Rattle.playback.specs.Entry as entry
 
 -- the parts that the button names

@@ -1,13 +1,11 @@
 -- A line of the log, and the log of events one after the other. Assumes nothing.
-use Rattle.octets.proofs.Kit.{ℕ, zero, suc, ◌+◌, ◌-◌, ◌*◌, ◌≤◌, ◌<◌, ◌≡◌, refl, sym, ◌∙◌, ap, ap₂, subst, List, [], ◌∷◌, ◌++◌, append_assoc, append-nil, length, take, drop, replicate}
-use Rattle.octets.proofs.Kit.{length-append, length-take, length-drop, length-replicate, replicate-append-replicate, length-take-le, take_all, take_at, drop_at, drop-length, drop-drop}
-use Rattle.octets.proofs.Kit.{add-zero, add_assoc, mul-suc, add-one, arith}
-use Rattle.octets.{specs.Splice.splice, proofs.Splices.{splice_front, splice_more, splice_none, length_splice}}
-use Rattle.sheet.specs.Layout.{◌of◌}
+use Rattle.octets.proofs.Kit.{ℕ, ◌+◌, ◌-◌, ◌≤◌, ◌<◌, ◌≡◌, sym, ◌∙◌, ap, ap₂, subst, List, [], ◌∷◌, ◌++◌, append-nil, length, take, drop, replicate}
+use Rattle.octets.proofs.Kit.{length-append, length-replicate, replicate-append-replicate, length-take-le, take_all, drop_at, drop-length, drop-drop}
+use Rattle.octets.proofs.Kit.{arith}
+use Rattle.octets.{specs.Splice.splice, proofs.Splices.{splice_front}}
 use Rattle.device.{specs.{Events.{Effect, State, request_of}, Sessions.session_for, declared.{Sessions.Sessions, Made.Made}}, proofs.promises.Demand1.at_most_16}
-use Rattle.events.{specs.Events.{Event, connect, disconnect, button, request, restore, event_of, after, run}, proofs.promises.Append.run_append}
-use Rattle.playback.specs.{Trace.{count, room, blank, event_in, event_at}, Rules.Playable, Walk.Shown, Playing.{at, line, line_of, log_of}, Event.{Happens, Readable, Logged}}
-use Rattle.playback.specs.Entry as entry
+use Rattle.events.{specs.Events.{Event, connect, disconnect, button, request, restore, event_of, after}}
+use Rattle.playback.specs.{Trace.{count, room, blank, event_in, event_at}, Rules.Playable, Walk.Shown, Playing.{at, line, line_of}, Event.{Happens, Readable, Logged}}
 use Rattle.playback.proofs.Walking.{good_event}
 
 -- an event of an accepted trace can be read

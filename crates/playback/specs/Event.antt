@@ -1,5 +1,5 @@
 -- What the calls for one event are told and tell.
-use Rattle.std.specs.Prelude.{ℕ, ◌+◌, ◌-◌, ◌*◌, ◌≤◌, ◌<◌, ◌≡◌, Bool, cond, List, [], ◌∷◌, eqb, length, get_or}
+use Rattle.std.specs.Prelude.{ℕ, ◌+◌, ◌-◌, ◌*◌, ◌≤◌, ◌≡◌, Bool, cond, List, [], ◌∷◌, eqb, length, get_or}
 use Rattle.octets.specs.Splice.{splice}
 use Rattle.sheet.specs.Layout.{◌of◌}
 use Rattle.sheet.specs.Head as head

@@ -1,6 +1,6 @@
 -- `account::catch_up` meets its contract: the bytes of the part before place i are seen and marked, and the others as they were. Assumes nothing.
-use Rattle.octets.proofs.Kit.{◌-◌, refl, arith, rules}
-use Rattle.account.proofs.{Marking.{Passed, pass_none, pass_more, pass_all}}
+use Rattle.octets.proofs.Kit.{◌-◌}
+use Rattle.account.proofs.{Marking.{Passed}}
 use Rattle.account.proofs.catch_up.Given as goal
 
 abbrev pub invariant-loop-i : goal.invariant-loop-i

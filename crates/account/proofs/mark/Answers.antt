@@ -1,5 +1,4 @@
 -- `account::mark` meets its contract. Assumes nothing.
-use Rattle.octets.proofs.Kit.{rules}
 use Rattle.account.proofs.{Marking.{first_needs, second_needs, level_needs, marked_all}}
 use Rattle.account.proofs.mark.Goals as goal
 

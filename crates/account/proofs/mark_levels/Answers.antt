@@ -1,5 +1,5 @@
 -- `account::mark_levels` meets its contract. Assumes nothing.
-use Rattle.octets.proofs.Kit.{arith, rules, length-set}
+use Rattle.octets.proofs.Kit.{arith, length-set}
 use Rattle.account.proofs.{Marking.levelled}
 use Rattle.account.proofs.mark_levels.Goals as goal
 

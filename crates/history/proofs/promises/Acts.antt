@@ -1,5 +1,5 @@
 -- TWO TOOLS AND A STORE: from the same store, whatever changes it being the same in both runs, one tool sees the same whatever the other sends that changes nothing.
-use Rattle.octets.proofs.Kit.{ℕ, ◌≡◌, refl, sym, ap, ap₂, subst, List, ◌∷◌, eqb, eq-eqb}
+use Rattle.octets.proofs.Kit.{ℕ, ◌≡◌, refl, sym, ap₂, subst, List, ◌∷◌, eq-eqb}
 use Rattle.versions.specs.{Saving.SavedAs, Removing.Removed, declared.saving.Saved.Saved}
 use Rattle.events.specs.Events.{Event, restore}
 use Rattle.history.specs.{History.First, Keeps.{Device, state_after}, Isolation.{Alike, same, Beside, Seen, Isolated}, Rightful.ours, Acts.{Act, saves, removes, events_of, store_after}}

@@ -1,6 +1,6 @@
 -- Every location stands at one position, and no two at the same; its first content is what stands there.
 use Rattle.octets.proofs.Kit.{ℕ, ◌<◌, ◌≡◌, List, length, get_or}
-use Rattle.sheet.{specs.Rules.Accepted, proofs.rules.Good.{good, accepted}}
+use Rattle.sheet.{specs.Rules.Accepted, proofs.rules.Good.{good}}
 use Rattle.history.specs.{Location.{Location, Place}, History.first_of, Sort.{Sort, being_of}}
 use Rattle.history.proofs.{places.Standing.{location_once, place_once, sort, sort_once}, steps.Invariant.first_holds}
 

@@ -8,7 +8,7 @@ use contract.{Lifetimes.Lfts, Monad.{Fun, fact, fact_mono}}
 use denote.{Triple.{Entry.{Args, Res}, Clauses.AtExit}}
 use types.Logic.{Logic}
 use seplogic.Ra.Ura.{Ura}
-use prog.{Memory.Memory, Routine.Routine, Wp.Heap}
+use prog.{Memory.Memory, Routine.Routine}
 use Rattle.sheet.specs.Convert.{Converts}
 use Rattle.slots.specs.{Slot.{slot_of, newer_of, target_of}, Parts.{begin_of, more_of, end_of}, Saving.WorksAs}
 use Rattle.device.specs.{Sessions.fresh_of, Events.{Effect, Pressed}, Changed.Requested, Demand2.effect_seen, declared.Sessions.Sessions}

@@ -6,7 +6,7 @@ use contract.{Lifetimes.Lfts, Monad.{Fun, fact}}
 use denote.{Triple.{Entry.{Args, Res}, Clauses.AtExit}}
 use types.Logic.{Logic}
 use seplogic.Ra.Ura.{Ura}
-use prog.{Memory.Memory, Routine.Routine, Wp.Heap}
+use prog.{Memory.Memory, Routine.Routine}
 use Rattle.sheet.specs.{Rules.verdict_of, Lookup.{StandsIn, region_of, region_from, user_region_of, user_region_from, property_of, property_from, group_of, group_from}}
 use Rattle.cemi.specs.Read.{read_frame}
 use Rattle.versions.specs.{Rules.store_rule, Kept.kept_of}

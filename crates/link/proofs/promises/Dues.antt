@@ -12,7 +12,7 @@ use Rattle.device.specs.Sessions.{known}
 use Rattle.link.specs.{Partners.{nobody, sits, place_of, free_of, place_for}, Hearing.{for_us, to_itself, on_place, connects, disconnects, meant, from_other, judged, heard_got, heard_of}}
 use Rattle.link.specs.{Whose.{Partner, NoPlace}, Due.{Has, first, second, Stranger, from, to, Reads, Ours, shared, alone, HeardDue, unread, elsewhere, itself, to_group, to_all, plain}}
 use Rattle.link.specs.{Due.{partners, strangers, again, first_free, second_free, third, parts, stranger_parts, control, stranger_control}, declared.{Link.Link, Arrived.Arrived}}
-use Rattle.link.specs.declared.Arrived.TheVariants.{Connect, Disconnect, Nothing}
+use Rattle.link.specs.declared.Arrived.TheVariants.{Nothing}
 use Rattle.link.proofs.promises.Apart.{third as no_place_lem}
 
 -- WHO HAS WHICH CONNECTION, and that there is one answer

@@ -9,7 +9,7 @@ use Rattle.history.specs.{Location.{Location, key, Place, of_key}, Wish.{offer_k
 use Rattle.history.{specs.{Keeps.{state_after, Begins, AllOctets}, Keyless.Closed, Isolation.is_of, Rightful.ours}, proofs.{spans.Bools.all_at, promises.Keep.keeps}}
 use Rattle.account.{specs.Account.{at, byte_at, level_on, last_other, Right, Offers, offers, Entitled, by_key}, proofs.promises.Accounts.{accounts, entitled}}
 use Rattle.link.specs.{Partners.address_at, Net.{Net, state_of, first_net, source_of, heard_in, Item, frame, press, time_out, give_back, events_by, net_after, events_after, AllBytes}}
-use Rattle.link.specs.{Whose.{Partner, partner}, Granted.{level_at, Joined, Granted}, declared.Arrived.TheVariants.Connect}
+use Rattle.link.specs.{Whose.{Partner}, Granted.{level_at, Joined, Granted}, declared.Arrived.TheVariants.Connect}
 use Rattle.link.proofs.{promises.Kept.{as_events, all_octets}, Sessions.opened_before, promises.Whose.whose}
 use Rattle.link.proofs.Items.{One, one_item, left_none, left_one, same_address_lem, connect_three, no_other, joined_address, is_request, whose_request, first, came, Connects, connects_it}
 

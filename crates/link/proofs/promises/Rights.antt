@@ -4,10 +4,10 @@ use Rattle.octets.proofs.Kit.{eq-eqb}
 use Rattle.octets.proofs.{Truths.never, Tests.both}
 use Rattle.versions.specs.{Rules.is_store, Store.{is_kept, version_in}}
 use Rattle.events.specs.Events.{Event, connect, disconnect, button, request, restore}
-use Rattle.history.specs.{Location.{Location, key, Place}, Wish.{change, restore_all}, Permit.{allowed, level_for}, History.{First, opened, level, permitted}, Keeps.Begins}
+use Rattle.history.specs.{Location.{Location, Place}, Wish.{change, restore_all}, Permit.{allowed, level_for}, History.{First, opened, level, permitted}, Keeps.Begins}
 use Rattle.history.{specs.{Keyless.{Closed, write_level}, Isolation.is_of}, proofs.spans.Bools.all_at}
 use Rattle.account.specs.Account.{byte_at, acts_at}
-use Rattle.link.specs.{Partners.address_at, Net.{Net, first_net, source_of, Item, frame, press, time_out, give_back, events_by, net_after, events_after, AllBytes}, Whose.{Partner, partner}}
+use Rattle.link.specs.{Partners.address_at, Net.{Net, first_net, source_of, Item, frame, press, time_out, give_back, events_by, net_after, events_after, AllBytes}, Whose.{Partner}}
 use Rattle.link.specs.Granted.{level_at, ByRight, NoKeyFrom}
 use Rattle.link.proofs.{promises.{Kept.as_events, Whose.whose}, Items.{One, one_item, is_connect, whose_other, first}}
 use Rattle.link.proofs.promises.Grants.{level_is, opened_is, rightly, state_one, octets_one, none_left, granted}

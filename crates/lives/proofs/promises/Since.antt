@@ -8,7 +8,7 @@ use Rattle.events.specs.Events.{Event}
 use Rattle.history.specs.{Location.{Location, Place}, Keeps.Begins, Keyless.{Closed, write_level}}
 use Rattle.link.{specs.{Net.{Net, source_of, Item, frame}, Granted.{ByRight, NoKeyFrom}}, proofs.promises.Ran.{ran_by_right, ran_without_key}}
 use Rattle.link.specs.Runs as frames
-use Rattle.lives.specs.Life.{Running, Happening, cut, Starts, starts, Goes, loses, Ran, next, first_of, Begun}
+use Rattle.lives.specs.Life.{Running, Happening, cut, Starts, starts, loses, Ran, next, first_of, Begun}
 use Rattle.lives.proofs.promises.Lives.{lives_keep}
 
 -- z is what a life left that was cut at last, y what frames since have left, w what one more has

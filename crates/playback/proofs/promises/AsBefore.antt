@@ -1,5 +1,5 @@
 -- A TRACE PLAYS ON THE CONVERSION OF AN OLD SHEET AS IT DID ON THE OLD SHEET in the release before: as many events, the same log, the same sessions, and the sheet with 2 in byte 0. Assumes nothing.
-use Rattle.octets.proofs.Kit.{ℕ, ◌+◌, ◌-◌, ◌*◌, ◌<◌, min, ◌≡◌, ◌∙◌, ap₂, List, ◌∷◌, ◌++◌, length, take, drop, replicate}
+use Rattle.octets.proofs.Kit.{ℕ, ◌+◌, ◌-◌, ◌*◌, ◌<◌, ◌≡◌, ◌∙◌, ap₂, List, ◌∷◌, ◌++◌, length, take, drop, replicate}
 use Rattle.sheet.specs.{Rules.Old, Convert.conversion_of}
 use Rattle.device.specs.{Events.Effect, declared.Sessions.Sessions}
 use Rattle.events.{specs.Before.{event_before, run_before, AsBefore}, proofs.promises.Renewal.{answers_as_before, runs_as_before}}

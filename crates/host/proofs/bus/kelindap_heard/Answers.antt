@@ -1,5 +1,4 @@
 -- `host::bus::kelindap_heard` meets its contract. Assumes nothing.
-use Rattle.octets.proofs.Kit.{rules}
 use Rattle.host.proofs.{Buses.laid_heard}
 use Rattle.host.proofs.bus.kelindap_heard.Goals as goal
 

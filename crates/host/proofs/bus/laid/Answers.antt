@@ -1,5 +1,4 @@
 -- `host::bus::laid` meets its contract. Assumes nothing.
-use Rattle.octets.proofs.Kit.{rules}
 use Rattle.host.proofs.{Buses.{laid_request, laid_connect, laid_disconnect, laid_nothing}}
 use Rattle.host.proofs.bus.laid.Goals as goal
 

@@ -1,5 +1,4 @@
 -- `host::bus::of_frame` meets its contract. Assumes nothing.
-use Rattle.octets.proofs.Kit.{rules}
 use Rattle.host.proofs.{Buses.of_fields}
 use Rattle.host.proofs.bus.of_frame.Goals as goal
 

@@ -1,5 +1,4 @@
 -- `host::bus::sent_by` meets its contract. Assumes nothing.
-use Rattle.octets.proofs.Kit.{rules}
 use Rattle.host.proofs.{Buses.{of_read_lem, of_unread}}
 use Rattle.host.proofs.bus.sent_by.Goals as goal
 

@@ -1,5 +1,4 @@
 -- `host::bus::served` meets its contract. Assumes nothing.
-use Rattle.octets.proofs.Kit.{rules}
 use Rattle.host.proofs.{Replies.as_served}
 use Rattle.host.proofs.bus.served.Goals as goal
 

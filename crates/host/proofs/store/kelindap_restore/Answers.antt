@@ -1,5 +1,4 @@
 -- `host::store::kelindap_restore` meets its contract. Assumes nothing.
-use Rattle.octets.proofs.Kit.{rules}
 use Rattle.host.proofs.{Restored.restored_for}
 use Rattle.host.proofs.store.kelindap_restore.Goals as goal
 

@@ -1,5 +1,5 @@
 -- `link::answering::answer_fields` meets its contract. Assumes nothing.
-use Rattle.octets.proofs.Kit.{rules, arith}
+use Rattle.octets.proofs.Kit.{arith}
 use Rattle.link.proofs.{Answered.{to_asker, to_group_lem}}
 use Rattle.link.proofs.answering.answer_fields.Goals as goal
 

@@ -1,5 +1,5 @@
 -- `link::answering::transport_of` meets its contract. Assumes nothing.
-use Rattle.octets.proofs.Kit.{rules, arith}
+use Rattle.octets.proofs.Kit.{arith}
 use Rattle.octets.proofs.Tests.{tests}
 use Rattle.link.proofs.answering.transport_of.Goals as goal
 

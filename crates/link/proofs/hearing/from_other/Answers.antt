@@ -1,5 +1,4 @@
 -- `link::hearing::from_other` meets its contract. Assumes nothing.
-use Rattle.octets.proofs.Kit.{rules}
 use Rattle.link.proofs.{Returns.{of_own, of_other}}
 use Rattle.link.proofs.hearing.from_other.Goals as goal
 

@@ -1,5 +1,4 @@
 -- `link::hearing::heard` meets its contract. Assumes nothing.
-use Rattle.octets.proofs.Kit.{rules}
 use Rattle.link.proofs.{Returns.{of_read_lem, of_unread}}
 use Rattle.link.proofs.hearing.heard.Goals as goal
 

@@ -1,5 +1,4 @@
 -- `link::hearing::judge` meets its contract. Assumes nothing.
-use Rattle.octets.proofs.Kit.{rules}
 use Rattle.link.proofs.{Returns.{of_ours, of_others}}
 use Rattle.link.proofs.hearing.judge.Goals as goal
 

@@ -1,5 +1,4 @@
 -- `link::hearing::means` meets its contract. Assumes nothing.
-use Rattle.octets.proofs.Kit.{rules}
 use Rattle.link.proofs.{Returns.{of_data, of_connect, of_disconnect, of_refused}}
 use Rattle.link.proofs.hearing.means.Goals as goal
 

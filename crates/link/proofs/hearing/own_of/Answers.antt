@@ -1,5 +1,5 @@
 -- `link::hearing::own_of` meets its contract. Assumes nothing.
-use Rattle.octets.proofs.Kit.{rules, arith}
+use Rattle.octets.proofs.Kit.{arith}
 use Rattle.link.proofs.{Returns.{own_short, own_there}}
 use Rattle.link.proofs.hearing.own_of.Goals as goal
 

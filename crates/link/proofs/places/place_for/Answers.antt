@@ -1,5 +1,5 @@
 -- `link::places::place_for` meets its contract. Assumes nothing.
-use Rattle.octets.proofs.Kit.{rules, arith}
+use Rattle.octets.proofs.Kit.{arith}
 use Rattle.link.proofs.{Returns.{stays, gets}}
 use Rattle.link.proofs.places.place_for.Goals as goal
 

@@ -1,5 +1,4 @@
 -- `link::serving::connected` meets its contract. Assumes nothing.
-use Rattle.octets.proofs.Kit.{rules}
 use Rattle.link.proofs.{Serves.is_connected}
 use Rattle.link.proofs.serving.connected.Goals as goal
 

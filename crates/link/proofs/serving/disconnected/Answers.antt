@@ -1,5 +1,4 @@
 -- `link::serving::disconnected` meets its contract. Assumes nothing.
-use Rattle.octets.proofs.Kit.{rules}
 use Rattle.link.proofs.{Serves.is_disconnected}
 use Rattle.link.proofs.serving.disconnected.Goals as goal
 

@@ -1,5 +1,5 @@
 -- `link::serving::serve` meets its contract. Assumes nothing.
-use Rattle.octets.proofs.Kit.{rules, arith}
+use Rattle.octets.proofs.Kit.{arith}
 use Rattle.link.proofs.{Serves.{no_room_lem, was_read, not_read}}
 use Rattle.link.proofs.serving.serve.Goals as goal
 

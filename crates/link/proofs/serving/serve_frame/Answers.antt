@@ -1,5 +1,4 @@
 -- `link::serving::serve_frame` meets its contract. Assumes nothing.
-use Rattle.octets.proofs.Kit.{rules}
 use Rattle.link.proofs.{Serves.{act_request, act_connect, act_disconnect, act_nothing}}
 use Rattle.link.proofs.serving.serve_frame.Goals as goal
 

@@ -1,5 +1,4 @@
 -- `link::serving::silent` meets its contract. Assumes nothing.
-use Rattle.octets.proofs.Kit.{rules}
 use Rattle.link.proofs.{Serves.is_silent_lem}
 use Rattle.link.proofs.serving.silent.Goals as goal
 

@@ -1,5 +1,4 @@
 -- `playback::event::flag` meets its contract. Assumes nothing.
-use Rattle.octets.proofs.Kit.{rules}
 use Rattle.playback.proofs.{Happening.{flag_none, flag_narrow, flag_set}}
 use Rattle.playback.proofs.event.flag.Goals as goal
 

@@ -1,5 +1,5 @@
 -- `playback::event::happen` meets its contract. Assumes nothing.
-use Rattle.octets.proofs.Kit.{◌≡◌, rules, arith}
+use Rattle.octets.proofs.Kit.{◌≡◌, arith}
 use Rattle.playback.proofs.{Happening.{happens_request, happens_connect, happens_disconnect, happens_on, happens_off}}
 use Rattle.playback.proofs.event.happen.Goals as goal
 

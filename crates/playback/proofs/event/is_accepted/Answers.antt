@@ -1,5 +1,4 @@
 -- `playback::event::is_accepted` meets its contract. Assumes nothing.
-use Rattle.octets.proofs.Kit.{rules}
 use Rattle.octets.proofs.Truths.{never}
 use Rattle.sheet.proofs.promises.Verdicts.{not_refused}
 use Rattle.playback.proofs.event.is_accepted.Goals as goal

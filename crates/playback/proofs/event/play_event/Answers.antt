@@ -1,5 +1,4 @@
 -- `playback::event::play_event` meets its contract. Assumes nothing.
-use Rattle.octets.proofs.Kit.{rules}
 use Rattle.playback.proofs.{Walking.good_inside, Logging.{readable, buffer_long, front_fits, logged}}
 use Rattle.playback.proofs.event.play_event.Goals as goal
 

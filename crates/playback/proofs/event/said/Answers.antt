@@ -1,5 +1,4 @@
 -- `playback::event::said` meets its contract. Assumes nothing.
-use Rattle.octets.proofs.Kit.{rules}
 use Rattle.playback.proofs.{Happening.happens_said}
 use Rattle.playback.proofs.event.said.Goals as goal
 

@@ -1,5 +1,4 @@
 -- `playback::playing::play` meets its contract. Assumes nothing.
-use Rattle.octets.proofs.Kit.{rules}
 use Rattle.playback.proofs.{PlayedBack.{accepted, due_fits, due_small, ready, plays_refused, plays_no_room, plays_all}}
 use Rattle.playback.proofs.playing.play.Goals as goal
 

@@ -1,6 +1,6 @@
 -- `playback::playing::play_known` meets its contract. The invariant: state and log are those of the first j events. Assumes nothing.
-use Rattle.octets.proofs.Kit.{◌-◌, rules, arith}
-use Rattle.playback.proofs.Running.{Going, goes_begin, goes_on, goes_end, few_events, small_place, event_there, line_there, line_long, known_goes}
+use Rattle.octets.proofs.Kit.{rules, arith}
+use Rattle.playback.proofs.Running.{goes_begin, goes_on, goes_end, few_events, small_place, event_there, line_there, line_long, known_goes}
 use Rattle.playback.proofs.playing.play_known.Goals as goal
 
 pub loop-j-init : goal.loop-j-init

@@ -1,5 +1,4 @@
 -- `playback::rules::check` meets its contract. Assumes nothing.
-use Rattle.octets.proofs.Kit.{rules}
 use Rattle.playback.proofs.{Walking.{head_broken, head_kept, walk_told}}
 use Rattle.playback.proofs.rules.check.Goals as goal
 

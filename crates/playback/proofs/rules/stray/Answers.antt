@@ -1,5 +1,4 @@
 -- `playback::rules::stray` meets its contract. Assumes nothing.
-use Rattle.octets.proofs.Kit.{rules}
 use Rattle.playback.proofs.{Walking.{stray_request, stray_other}}
 use Rattle.playback.proofs.rules.stray.Goals as goal
 

@@ -1,6 +1,6 @@
 -- `playback::rules::walk` meets its contract. Assumes nothing.
-use Rattle.octets.proofs.Kit.{◌-◌, rules}
-use Rattle.playback.proofs.{Walking.{Walked, head_long, walk_begins, walk_inside, walk_goes, walk_left, walk_yes, walk_no}}
+use Rattle.octets.proofs.Kit.{rules}
+use Rattle.playback.proofs.{Walking.{head_long, walk_begins, walk_inside, walk_goes, walk_left, walk_yes, walk_no}}
 use Rattle.playback.proofs.rules.walk.Goals as goal
 
 pub count-n-requires : goal.count-n-requires
