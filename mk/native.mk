@@ -46,7 +46,7 @@ no-libraries:
 
 # the archives are made anew when a source or a proof has changed, and with them the modules for other processors
 build/module/%.a build/module/%.bc: mk/bin/module mk/bin/twin crates.txt \
-    $(shell find crates -name out -prune -o \( -name '*.rt' -o -name '*.antt' \) -print)
+    $(shell find crates -regex 'crates/[^/]*/out' -prune -o \( -name '*.rt' -o -name '*.antt' \) -print)
 	@echo "$*_c is proved and its archive built, which takes some minutes at first"
 	@mk/bin/module $*
 .PRECIOUS: build/module/%.a build/module/%.bc

@@ -105,9 +105,13 @@ sed -n 's/^\([a-z_]*\)\( staticlib\)*: */\1 /p' crates.txt | awk -v order="$(tr 
     { for (i = 2; i <= NF; i++) if ($i in at && at[$i] > at[$1]) { print "same: docs/CHANGING.md has " $1 " before " $i; bad = 1 } }
     END { exit bad }' || bad=1
 
-# no line of a definition, of code or of a proof has more than 250 characters
-if LC_ALL=C.UTF-8 grep -rnE --exclude-dir=out --include='*.antt' --include='*.rt' '^.{251,}' crates | cut -c 1-120; then
-    echo "same: lines above 250 characters"
+# what stands in a crate, but for what rt made there
+sources() { find crates -regex 'crates/[^/]*/out' -prune -o -type f "$@" -print0; }
+
+# no line of a definition or of code has more than 200 characters, and none of a proof more than 250
+long() { LC_ALL=C.UTF-8 xargs -0 grep -nE "^.{$1,}" | cut -c 1-120; }
+if { sources \( -name '*.rt' -o -path '*/specs/*.antt' \) | long 201; sources -path '*/proofs/*.antt' | long 251; } | grep .; then
+    echo "same: lines too long"
     bad=1
 fi
 
@@ -138,7 +142,7 @@ done
 
 # a name that was once two things in two crates is one thing in one
 for name in Alike Seen Connections; do
-    having=$({ find crates -name out -prune -o -name "$name.antt" -print; grep -rlE --exclude-dir=out "(record|data) $name( |\$)" crates --include='*.antt' || true; } | cut -d / -f 2 | sort -u | wc -l)
+    having=$({ sources -name "$name.antt" | tr '\0' '\n'; sources -name '*.antt' | xargs -0 grep -lE "(record|data) $name( |\$)" || true; } | cut -d / -f 2 | sort -u | wc -l)
     [ "$having" -le 1 ] || { echo "same: $name is a name in $having crates"; bad=1; }
 done
 

@@ -173,7 +173,7 @@ const PARTS: &[Part] = &[
             "slots/first_save",
             "slots/first_cut",
             "slots/next_goal",
-            "slots/loop-saves",
+            "slots/loop_saves",
             "slots/halt_cuts",
         ],
     },

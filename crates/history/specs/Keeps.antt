@@ -79,7 +79,7 @@ pub record Kept (step : Device) (f : First) (h : List Event) : Type 0 where
       (e : Event) → BringsOctets e → CarriedOut e (step f h (state_after step f h) e).outcome → permitted f h e ≡ true
   pub all_permitted :
       (e : Event) → BringsOctets e → permitted f h e ≡ true → CarriedOut e (step f h (state_after step f h) e).outcome
-  -- and takes effect at once. This follows from `holds` one event later (`at_once` in proofs/AtOnce.antt); it is a sentence of the user's, so it stands here
+  -- and takes effect at once. This follows from `holds` one event later (`at_once_lem` in proofs/promises/AtOnce.antt); it is a sentence of the user's, so it stands here
   pub at_once :
       (e : Event) → BringsOctets e → permitted f h e ≡ true → (x : Location) (p : ℕ) → Place f.sheet x p →
       names (spans f.sheet (content f h) (supplied e) (wished e)) x ≡ true →

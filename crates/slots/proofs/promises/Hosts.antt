@@ -164,12 +164,12 @@ module _ (n : ℕ) (t : List ℕ) where
   at_erase b b' m (turn {x = x} {o = o} {o' = o'} {w = w} c k l) = next (clears b x o o' w m c k) (at_head x b' l)
 
   -- THE LOOP OF A HOST IS A SAVE
-  pub loop-saves : (b b' : List ℕ) → Loops n t 0 b b' → Did (pieces n t) b b'
+  pub loop_saves : (b b' : List ℕ) → Loops n t 0 b b' → Did (pieces n t) b b'
   unfolding piece_of
-  loop-saves b b' (over {o = o} {o' = o'} {w = w} c h e) = absurd (early 0 b o o' w c h e (λ z. omega arith))
-  loop-saves b b' (turn {x = x} {o = o} {o' = o'} {w = w} c k l) =
+  loop_saves b b' (over {o = o} {o' = o'} {w = w} c h e) = absurd (early 0 b o o' w c h e (λ z. omega arith))
+  loop_saves b b' (turn {x = x} {o = o} {o' = o'} {w = w} c k l) =
       next (unmarks b x o o' w c k) (at_erase x b' (unmarked b x o o' w c k) l)
-  loop-saves b b' (wiped {o = o} {o' = o'} {w = w} v c e is l) =
+  loop_saves b b' (wiped {o = o} {o' = o'} {w = w} v c e is l) =
       let d = due 0 b o o' w c (λ z. omega arith) in
       let r : 6 ≤ length b = let q = d.fit in omega arith in
       let m = fill_bare (length b) v r is in
