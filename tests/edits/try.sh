@@ -6,13 +6,16 @@
 set -euo pipefail
 logs=$1
 shift
-kept=${KEPT:-${XDG_CACHE_HOME:-$HOME/.cache}/kelindap}/edits
+kept=${KEPT:-${XDG_CACHE_HOME:-${HOME:-}/.cache}/kelindap}/edits
 kit=$(readlink -f "$(command -v rt)")
 rattle=${kit%/bin/rt}/bin/rattle
 side=${JOBS:-$(nproc)}
 work=$(mktemp -d)
 trap 'rm -rf "$work"' EXIT
-mkdir -p "$logs" "$kept"
+mkdir -p "$logs"
+# where nothing can be kept, each is tried
+mkdir -p "$kept" 2> /dev/null || kept=$work/edits
+mkdir -p "$kept"
 
 # the edit applied to the copy of its crate in a folder, as rt does it: each text is put in place of another, which stands in its file once
 apply() { # EDIT FOLDER
