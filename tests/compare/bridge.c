@@ -430,10 +430,12 @@ static void save(void)
     give_hash_of(store);
 }
 
+/* what a call is given is read before it: on a board its stack is measured around the call and its arguments */
 static void restore(void)
 {
     uint8_t connection = byte();
-    give_outcome(kelindap_restore(sessions, connection, given(sheet), sheet.length, given(store), store.length, whole()));
+    size_t version = whole();
+    give_outcome(kelindap_restore(sessions, connection, given(sheet), sheet.length, given(store), store.length, version));
     give_hash_of(store);
 }
 
@@ -449,7 +451,8 @@ static void list_versions(void)
 
 static void take_out(void)
 {
-    give_number(kelindap_remove(given(store), store.length, whole()), 1);
+    size_t version = whole();
+    give_number(kelindap_remove(given(store), store.length, version), 1);
     give_hash_of(store);
 }
 
@@ -655,14 +658,16 @@ static void play(uint8_t command)
         give_outcome(kelindap_disconnect(&sessions, named));
         break;
     case 'b':
-        give_outcome(kelindap_button(given(sheet), sheet.length, byte() != 0));
+        named = byte();
+        give_outcome(kelindap_button(given(sheet), sheet.length, named != 0));
         break;
     case 'q':
         request();
         break;
     case 'p':
         named = byte();
-        give_part(kelindap_property(given(sheet), sheet.length, named, byte()));
+        k = byte();
+        give_part(kelindap_property(given(sheet), sheet.length, named, (uint8_t)k));
         break;
     case 'r':
         k = number(8);
