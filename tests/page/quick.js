@@ -15,8 +15,8 @@ async function quick(b) {
     await b.run(`window.big = { full: ${bytesOf(full)}, other: ${bytesOf(other)}, trace: traceOf(${given(events)}.map(([kind, mode, connection, apdu]) => ({ kind, mode, connection, group: 0, apdu: Uint8Array.from(apdu) }))) }`);
     expect("the full sheet is accepted", await b.run("app.proved.check(big.full)"), 0);
     expect("the trace can be played", await b.run("app.proved.traceCheck(big.trace)"), 0);
-    // processor time of the page's thread from the action to the picture, script, layout and paint, so that other work beside it
-    // does not count; the middle one of five
+    // processor time of the page's thread from the action to the picture, script, layout and paint; the least of five, since other
+    // work on the machine makes it longer and never shorter
     await b.send("Performance.enable", { timeDomain: "threadTicks" });
     const spent = async () => (await b.send("Performance.getMetrics")).metrics.find(metric => metric.name === "TaskDuration").value;
     const timed = async (part, action) => {
@@ -27,9 +27,9 @@ async function quick(b) {
             await b.run(`new Promise(done => requestAnimationFrame(() => { ${action}; requestAnimationFrame(() => requestAnimationFrame(() => setTimeout(done, 0))); }))`);
             all.push(1000 * ((await spent()) - before));
         }
-        return all.sort((x, y) => x - y)[2];
+        return Math.min(...all);
     };
-    // 5,000 plain elements, for how quick this machine is just now: on a slow one an action may take as long
+    // 5,000 plain elements, for how quick this machine is just now: on a slow one an action may take in proportion
     const plain = await timed("sheet", "const box = el('div', {}, ...places(0, 5000).map(i => el('span', {}, i + ' '))); document.body.append(box); requestAnimationFrame(() => setTimeout(() => box.remove(), 0))");
     const times = {
         "a sheet of 16,384 bytes shown": await timed("sheet", "app.setSheet(big.full, 'full')"),
@@ -39,7 +39,7 @@ async function quick(b) {
         "a trace of 512 events on it, played and listed": await timed("trace", "app.tracePart.set(big.full, 'full', big.trace, 'trace')"),
         "a step of it": await timed("trace", "app.tracePart.go(app.tracePart.at === 300 ? 301 : 300)"),
     };
-    const most = Math.max(300, plain);
+    const most = Math.max(300, 1.75 * plain);
     for (const [what, ms] of Object.entries(times)) holds(`${what}: ${ms.toFixed(0)} ms, more than ${most.toFixed(0)}`, ms <= most);
     for (const part of PARTS) {
         await b.run(`app.open("${part}")`);
