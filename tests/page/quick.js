@@ -39,7 +39,7 @@ async function quick(b) {
         "a trace of 512 events on it, played and listed": await timed("trace", "app.tracePart.set(big.full, 'full', big.trace, 'trace')"),
         "a step of it": await timed("trace", "app.tracePart.go(app.tracePart.at === 300 ? 301 : 300)"),
     };
-    const most = Math.max(300, 1.75 * plain);
+    const most = Math.max(300, 3 * plain);
     for (const [what, ms] of Object.entries(times)) holds(`${what}: ${ms.toFixed(0)} ms, more than ${most.toFixed(0)}`, ms <= most);
     for (const part of PARTS) {
         await b.run(`app.open("${part}")`);
