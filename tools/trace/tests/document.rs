@@ -5,7 +5,6 @@
 mod room;
 
 use std::fs;
-use std::os::unix::fs::symlink;
 use std::path::{Path, PathBuf};
 use std::process::{Command, Output};
 
@@ -41,10 +40,23 @@ fn bench(name: &str) -> Option<PathBuf> {
     }
     let room = room::room(name);
     fs::create_dir(room.join("build")).unwrap();
-    symlink(trace, room.join("build/trace")).unwrap();
-    symlink(&sheet, room.join("build/sheet")).unwrap();
-    symlink(concat!(env!("CARGO_MANIFEST_DIR"), "/../../examples"), room.join("examples")).unwrap();
+    fs::copy(trace, room.join("build/trace")).unwrap();
+    fs::copy(&sheet, room.join("build/sheet")).unwrap();
+    copy(Path::new(concat!(env!("CARGO_MANIFEST_DIR"), "/../../examples")), &room.join("examples"));
     Some(room)
+}
+
+/// A folder with all that is in another. No link: `rt ci` refuses one anywhere below the checkout.
+fn copy(from: &Path, to: &Path) {
+    fs::create_dir(to).unwrap();
+    for entry in fs::read_dir(from).unwrap().map(Result::unwrap) {
+        let at = to.join(entry.file_name());
+        if entry.path().is_dir() {
+            copy(&entry.path(), &at);
+        } else {
+            fs::copy(entry.path(), at).unwrap();
+        }
+    }
 }
 
 /// What a shell does with a line in a folder.
