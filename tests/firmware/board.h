@@ -60,7 +60,7 @@ enum call {
     CALLS
 };
 
-enum { PAINTED = 320 };             /* words below the stack pointer, more than any call takes */
+enum { PAINTED = 400 };             /* words below the stack pointer, more than any call takes */
 extern uint32_t deepest[CALLS];     /* in bytes */
 _Noreturn void too_deep(void);      /* a call went through all that was painted */
 void tell_deepest(void);            /* on standard error */

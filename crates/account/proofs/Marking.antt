@@ -78,20 +78,6 @@ module _ (look : State → ℕ) where
       mark_append (n + 1) (after x e) es fs (mark_of (look x) (look (after x e)) m (n + 1))
       ∙ ap (λ (j : ℕ). mark_after look j (run (after x e) es) fs (mark_after look (n + 1) (after x e) es (mark_of (look x) (look (after x e)) m (n + 1)))) k
 
--- BOTH LEVELS, one after the other
-pub levelled :
-    (q r : Sessions) (n k : ℕ) (m : List ℕ) → k + 2 ≤ length m → (u v : ℕ) → u ≡ mark_of q.first.level r.first.level (get_or m k 0) n →
-    v ≡ mark_of q.second.level r.second.level (get_or (set m k u) (k + 1) 0) n → Levelled q r n k m (set (set m k u) (k + 1) v)
-levelled q r n k m h u v e d =
-    record {
-      same = length-set (set m k u) (k + 1) v ∙ length-set m k u;
-      first = get_or-set_other (set m k u) (k + 1) k v 0 (λ z. omega (arith, z)) ∙ get_or-set_same m k u 0 (omega arith) ∙ e;
-      second =
-          get_or-set_same (set m k u) (k + 1) v 0 (omega (arith, length-set m k u)) ∙ d
-          ∙ ap (λ (x : ℕ). mark_of q.second.level r.second.level x n) (get_or-set_other m k (k + 1) u 0 (λ z. omega (arith, z)));
-      others = λ p l. get_or-set_other (set m k u) (k + 1) p v 0 (λ z. omega (arith, z, l)) ∙ get_or-set_other m k p u 0 (λ z. omega (arith, z, l));
-    }
-
 module _ (x : State) (n k : ℕ) (m : List ℕ) where
   pub marked_none : MarkedRun x [] n k m m
   unfolding mark_after
@@ -109,13 +95,13 @@ module _ (x : State) (n k : ℕ) (m : List ℕ) where
 -- TWO PASSES OVER THE PARTS THAT AN EVENT NAMES, AND BOTH LEVELS
 module _ (b a : List ℕ) (c : Changed) (m : List ℕ) (can : Markable b a c m) where
   pub first_needs :
-      (length b ≡ length a) × (length a ≤ length m) × (c.first.offset ≤ c.first.offset + c.first.length) × (c.first.offset + c.first.length ≤ length a)
-  first_needs = (can.long, omega (arith, can.marks), omega arith, can.first)
+      (length b ≡ length a) × (length a ≤ length m) × (c.first.offset + c.first.length ≤ length a)
+  first_needs = (can.long, omega (arith, can.marks), can.first)
 
   module _ (n : ℕ) (b₁ m₁ : List ℕ) (f : Caught a n c.first.offset (c.first.offset + c.first.length) b m b₁ m₁) where
     pub second_needs :
-        (length b₁ ≡ length a) × (length a ≤ length m₁) × (c.second.offset ≤ c.second.offset + c.second.length) × (c.second.offset + c.second.length ≤ length a)
-    second_needs = (f.same_bytes ∙ can.long, omega (arith, can.marks, f.same_marks), omega arith, can.second)
+        (length b₁ ≡ length a) × (length a ≤ length m₁) × (c.second.offset + c.second.length ≤ length a)
+    second_needs = (f.same_bytes ∙ can.long, omega (arith, can.marks, f.same_marks), can.second)
 
     module _ (b₂ m₂ : List ℕ) (g : Caught a n c.second.offset (c.second.offset + c.second.length) b₁ m₁ b₂ m₂) where
       pub level_needs : length a + 2 ≤ length m₂

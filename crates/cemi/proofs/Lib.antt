@@ -1,7 +1,5 @@
 -- promises has what docs/PROMISES.md names; all else are laws behind them and behind the contracts.
 pub mod promises
 pub mod Judging
-pub mod Taken
-pub mod Cut
 pub mod Stores
 pub mod Wrote

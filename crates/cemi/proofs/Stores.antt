@@ -1,6 +1,6 @@
 -- Runs stored one after the other make the bytes of a frame. Assumes nothing.
 use Rattle.octets.proofs.Kit.{ℕ, ◌+◌, ◌-◌, ◌*◌, ◌/◌, ◌%◌, ◌≤◌, ◌<◌, ◌≡◌, refl, ap, ◌∙◌, List, [], ◌∷◌, ◌++◌, append_assoc, arith, length, take, drop, get_or, length-append, take_all}
-use Rattle.octets.{specs.{Bytes.bytes_of, Splice.splice}, proofs.Splices.{splice_more, length_splice}}
+use Rattle.octets.{specs.{Bytes.bytes_of, Splice.splice}, proofs.Splices.{splice_more}}
 use Rattle.cemi.specs.{Layout.{table, bytes_in, size}, Write.{numbers_of, under, front_bytes, encoded}, declared.Fields.Fields}
 
 -- a second run right after the first
@@ -60,7 +60,3 @@ all_put o o₁ o₂ o₃ i a f d e g =
     longer o o₂ o₃ (front_bytes f.code i ++ t) (under f.transport a) 0 (2 + length i + 7) (omega arith) n
     (longer o o₁ o₂ (front_bytes f.code i) t 0 (2 + length i) (omega arith) m d e) g
     ∙ ap (splice o 0) (append_assoc (front_bytes f.code i) t (under f.transport a))
-
--- the buffer keeps its length
-pub same_room : (o e r : List ℕ) (at : ℕ) → at + length r ≤ length o → e ≡ splice o at r → length e ≡ length o
-same_room o e r at h q = ap length q ∙ length_splice o at r h

@@ -1,4 +1,5 @@
 pub mod Layout
+pub mod Refusal
 pub mod Read
 pub mod Parts
 pub mod Meaning

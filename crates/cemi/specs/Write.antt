@@ -1,12 +1,13 @@
 -- What writing a frame gives.
-use Rattle.std.specs.Prelude.{ℕ, ◌+◌, ◌-◌, ◌*◌, ◌%◌, ◌≡◌, Bool, cond, ◌&&◌, List, [], ◌∷◌, ◌++◌, length, get_or, leb, ltb, eqb}
+use Rattle.std.specs.Prelude.{ℕ, ◌+◌, ◌-◌, ◌*◌, ◌%◌, ◌≡◌, Bool, cond, ◌&&◌, List, [], ◌∷◌, ◌++◌, length, get_or, leb, ltb, Result, Ok, Err, is_ok}
 use Rattle.octets.specs.Splice.{splice}
 use Rattle.cemi.specs.Layout.{table, octet6, bytes_in}
 use Rattle.cemi.specs.Read.{refusal_of}
 use Rattle.cemi.specs.declared.Fields.{Fields}
 use Rattle.cemi.specs.declared.Frame.{Frame}
-use Rattle.cemi.specs.declared.Written.{Written}
-use Rattle.cemi.specs.declared.Written.TheVariants.{Bytes, Refused}
+use Rattle.cemi.specs.declared.WriteRefusal.{WriteRefusal}
+use Rattle.cemi.specs.declared.WriteRefusal.TheVariants as why
+use Rattle.cemi.specs.Refusal.{write_number}
 
 -- the numbers of the table, x being the length byte
 abbrev pub numbers_of : Fields → ℕ → List ℕ
@@ -36,27 +37,27 @@ count_of l k = octet6 l + k
 -- a frame that reads can have these fields, l bytes of additional information and k from octet 6 on
 unfoldable pub writable : Fields → ℕ → ℕ → Bool
 writable f l k =
-    leb l 255 && (leb f.transport 63 && (leb 1 k && (leb k 16 && eqb (refusal_of (count_of l k) l f (k - 1)) 0)))
+    leb l 255 && (leb f.transport 63 && (leb 1 k && (leb k 16 && is_ok (refusal_of (count_of l k) l f (k - 1)))))
 
 -- WHAT WRITING GIVES: 47, then 46, or the count of bytes
-unfoldable pub write_of : Fields → ℕ → ℕ → ℕ → Written
+unfoldable pub write_of : Fields → ℕ → ℕ → ℕ → Result ℕ WriteRefusal
 write_of f l k room =
-    cond (writable f l k) (cond (ltb room (count_of l k)) (Refused 46) (Bytes (count_of l k))) (Refused 47)
+    cond (writable f l k) (cond (ltb room (count_of l k)) (Err why.Room) (Ok (count_of l k))) (Err why.Fields)
 
 -- the outcome of a writing by its number, and its count
-abbrev pub write_outcome : Written → ℕ
-write_outcome (Bytes n) = 0
-write_outcome (Refused n) = n
+abbrev pub write_outcome : Result ℕ WriteRefusal → ℕ
+write_outcome (Ok n) = 0
+write_outcome (Err e) = write_number e
 
-abbrev pub write_count : Written → ℕ
-write_count (Bytes n) = n
-write_count (Refused n) = 0
+abbrev pub write_count : Result ℕ WriteRefusal → ℕ
+write_count (Ok n) = n
+write_count (Err e) = 0
 
 -- what the buffer o then holds: the bytes in front, and the rest as found; on a refusal, all as found
-abbrev pub buffer_of : Fields → List ℕ → List ℕ → List ℕ → Written → List ℕ
-buffer_of f i a o (Bytes n) = splice o 0 (encoded f i a)
-buffer_of f i a o (Refused n) = o
+abbrev pub buffer_of : Fields → List ℕ → List ℕ → List ℕ → Result ℕ WriteRefusal → List ℕ
+buffer_of f i a o (Ok n) = splice o 0 (encoded f i a)
+buffer_of f i a o (Err r) = o
 
-pub record Wrote (f : Fields) (i a o : List ℕ) (r : Written) (e : List ℕ) : Type 0 where
+pub record Wrote (f : Fields) (i a o : List ℕ) (r : Result ℕ WriteRefusal) (e : List ℕ) : Type 0 where
   pub result : r ≡ write_of f (length i) (length a) (length o)
   pub buffer : e ≡ buffer_of f i a o r

@@ -4,17 +4,13 @@ ghost use Rattle.cemi.specs.Parts.{PartOf, part_of, part_from, info_of, info_fro
 
 use crate::{Frame, layout};
 
-// The n bytes from a place on, and nothing where there are not so many.
+// The n bytes from a place on, and nothing where there are not so many: not `get`, since `PartOf` says that nothing, too, lies in s.
 fn part(s: &[u8], at: usize, n: usize) -> &[u8]
     requires { (at ≤ 264) × (n ≤ 256) }
     ensures { PartOf s.entry result (part_of s.now at n) (part_from s.now at n) }
 {
     let end = at + n;
-    if end <= s.len() {
-        &s[at..end]
-    } else {
-        &s[0..0]
-    }
+    if end <= s.len() { &s[at..end] } else { &s[..0] }
 }
 
 // The additional information of a frame.

@@ -1,10 +1,10 @@
 // What a frame means.
 ghost use Rattle.std.specs.Prelude.{◌≡◌};
-ghost use Rattle.cemi.specs.Meaning.{to_group, control, numbered, to_one, meaning_of};
+ghost use Rattle.cemi.specs.Meaning.{to_group, control, to_one, meaning_of};
 
-use crate::{Frame, Meaning};
+use crate::{Frame, Meaning, NoMeaning};
 
-// The modes, as the device numbers them.
+// The modes, as the device numbers them: its calls take any byte as a mode, so no enum.
 const MULTICAST: u8 = 0;
 
 const BROADCAST: u8 = 1;
@@ -14,69 +14,46 @@ const CONNECTIONLESS: u8 = 2;
 const CONNECTED: u8 = 3;
 
 // To a group.
-fn to_group(transport: u8, destination: u16) -> Meaning
+#[tactic(auto, unfolding(crate::specs::Meaning::to_group))]
+fn to_group(transport: u8, destination: u16) -> Result<Meaning, NoMeaning>
     ensures { result ≡ to_group transport destination }
 {
-    if transport != 0 {
-        return Meaning::Refused(44);
-    }
-    if destination == 0 {
-        Meaning::Data(BROADCAST)
-    } else {
-        Meaning::Data(MULTICAST)
+    match (transport, destination) {
+        (0, 0) => Ok(Meaning::Data(BROADCAST)),
+        (0, _) => Ok(Meaning::Data(MULTICAST)),
+        _ => Err(NoMeaning::Transport),
     }
 }
 
 // A control: a single octet.
-fn controlled(transport: u8, low: u8) -> Meaning
+#[tactic(auto, unfolding(crate::specs::Meaning::control))]
+fn controlled(transport: u8, low: u8) -> Result<Meaning, NoMeaning>
     ensures { result ≡ control transport low }
 {
-    let octet = transport as usize * 4 + low as usize;
-    if octet == 0x80 {
-        return Meaning::Connect;
-    }
-    if octet == 0x81 {
-        return Meaning::Disconnect;
-    }
-    if transport < 48 {
-        return Meaning::Refused(44);
-    }
-    if low < 2 {
-        Meaning::Refused(44)
-    } else {
-        Meaning::Refused(45)
+    match transport as u16 * 4 + low as u16 {
+        0x80 => Ok(Meaning::Connect),
+        0x81 => Ok(Meaning::Disconnect),
+        _ if 48 <= transport && 2 <= low => Err(NoMeaning::Acknowledgement),
+        _ => Err(NoMeaning::Transport),
     }
 }
 
-// Whether transport's bits are those of connected data, with a sequence number.
-fn is_numbered(transport: u8) -> bool
-    ensures { result ≡ numbered transport }
-{
-    if transport < 16 {
-        return false;
-    }
-    transport <= 31
-}
-
-// To an individual address.
-fn to_one(transport: u8, low: u8, stated: u8) -> Meaning
+// To an individual address: 16 to 31 is connected data, with its sequence number.
+#[tactic(auto, unfolding(crate::specs::Meaning::to_one, crate::specs::Meaning::numbered))]
+fn to_one(transport: u8, low: u8, stated: u8) -> Result<Meaning, NoMeaning>
     ensures { result ≡ to_one transport low stated }
 {
-    if transport == 0 {
-        return Meaning::Data(CONNECTIONLESS);
-    }
-    if is_numbered(transport) {
-        return Meaning::Data(CONNECTED);
-    }
-    if stated == 0 {
-        controlled(transport, low)
-    } else {
-        Meaning::Refused(44)
+    match transport {
+        0 => Ok(Meaning::Data(CONNECTIONLESS)),
+        16..=31 => Ok(Meaning::Data(CONNECTED)),
+        _ if stated == 0 => controlled(transport, low),
+        _ => Err(NoMeaning::Transport),
     }
 }
 
 // By the address type, bit 7 of control 2.
-pub fn meant(f: Frame) -> Meaning
+#[tactic(auto, unfolding(crate::specs::Meaning::meaning_of))]
+pub fn meant(f: Frame) -> Result<Meaning, NoMeaning>
     ensures { result ≡ meaning_of f }
 {
     let fields = f.fields;

@@ -5,30 +5,27 @@ ghost use Rattle.cemi.specs.Layout.{table, size, bytes_in};
 ghost use Rattle.cemi.specs.Write.{numbers_of, under, front_bytes, encoded, count_of, writable, Wrote};
 
 use crate::reading::refusal;
-use crate::{Fields, Written, layout};
+use crate::{Fields, Frame, WriteRefusal, layout};
 
 // Whether a frame that reads can have these fields and so many bytes of additional information and from octet 6 on.
+#[tactic(auto, unfolding(crate::specs::Write::writable))]
 fn is_writable(f: Fields, info: usize, apdu: usize) -> bool
     ensures { result ≡ writable f info apdu }
 {
-    if 255 < info {
-        return false;
-    }
-    if 63 < f.transport {
-        return false;
-    }
-    if apdu < 1 {
-        return false;
-    }
-    if 16 < apdu {
-        return false;
-    }
-    refusal(
-        layout::INFO + info + layout::SIZE + apdu,
-        info as u8,
-        f,
-        (apdu - 1) as u8,
-    ) == 0
+    info <= 255
+        && f.transport <= 63
+        && 1 <= apdu
+        && apdu <= 16
+        && refusal(
+            layout::INFO + info + layout::SIZE + apdu,
+            Frame {
+                fields: f,
+                low: 0,
+                info: info as u8,
+                stated: (apdu - 1) as u8,
+            },
+        )
+        .is_ok()
 }
 
 // Message code and additional information, at the front.
@@ -45,18 +42,18 @@ fn put_table(f: Fields, stated: u8, at: usize, out: &mut [u8])
     requires { at + size ≤ length out.old }
     ensures { out.new ≡ splice out.old at (bytes_in table (numbers_of f stated)) }
 {
-    let source = f.source;
-    let destination = f.destination;
+    let [source_high, source_low] = f.source.to_be_bytes();
+    let [destination_high, destination_low] = f.destination.to_be_bytes();
     octets::splice(
         out,
         at,
         &[
             f.control1,
             f.control2,
-            (source / 256) as u8,
-            (source % 256) as u8,
-            (destination / 256) as u8,
-            (destination % 256) as u8,
+            source_high,
+            source_low,
+            destination_high,
+            destination_low,
             stated,
         ],
     );
@@ -82,18 +79,17 @@ fn encode(f: Fields, info: &[u8], apdu: &[u8], out: &mut [u8])
     put_tpdu(f.transport, apdu, at + layout::SIZE, out);
 }
 
-// The frame's bytes at the front of out: their count, or the number of the refusal, and then out is as it was.
-pub fn write(f: Fields, info: &[u8], apdu: &[u8], out: &mut [u8]) -> Written
+// The frame's bytes at the front of out, and their count; on a refusal out is as it was.
+pub fn write(f: Fields, info: &[u8], apdu: &[u8], out: &mut [u8]) -> Result<usize, WriteRefusal>
     ensures { Wrote f info.now apdu.now out.old result out.new }
 {
-    if is_writable(f, info.len(), apdu.len()) {
-        let n = layout::INFO + info.len() + layout::SIZE + apdu.len();
-        if out.len() < n {
-            return Written::Refused(46);
-        }
-        encode(f, info, apdu, out);
-        Written::Bytes(n)
-    } else {
-        Written::Refused(47)
+    if !is_writable(f, info.len(), apdu.len()) {
+        return Err(WriteRefusal::Fields);
     }
+    let n = layout::INFO + info.len() + layout::SIZE + apdu.len();
+    if out.len() < n {
+        return Err(WriteRefusal::Room);
+    }
+    encode(f, info, apdu, out);
+    Ok(n)
 }

@@ -1,9 +1,10 @@
 -- What is sent is received: the bytes that the tool writes read as the PDU with the data of the datapoint.
 use Rattle.octets.proofs.Kit.{ℕ, ◌+◌, ◌≤◌, max, ◌≡◌, refl, ap, ◌∙◌, List, [], ◌++◌, length, arith}
+use Rattle.std.proofs.Common.{Ok}
 use Rattle.octets.{specs.Bytes.bytes_of, proofs.Numbers.length_bytes}
 use Rattle.sheet.specs.{Head.rules_of, Rules.Accepted}
 use Rattle.pdu.specs.{Table.row_of, Pdus.{service_of, values_of}, Rules.head_bytes, Read.{read_pdu, data_of}, Write.encoded, Allows.Allows, declared.Pdu.Pdu}
-use Rattle.pdu.{specs.declared.{Pdu.TheVariants.{GroupValueResponse, GroupValueWrite}, Parsed.TheVariants.Is}, proofs.promises.{Back.read_back, Readings.reading}}
+use Rattle.pdu.{specs.declared.Pdu.TheVariants.{GroupValueResponse, GroupValueWrite}, proofs.promises.{Back.read_back, Readings.reading}}
 use Rattle.points.specs.{Point.{type_of, width_at, number_of, point_bytes}, declared.Datapoint.{Datapoint, TheVariants.{Switch, Byte, Hundredths, Float as Single}}}
 use Rattle.judge.specs.Session.{multicast}
 use Rattle.values.{specs.Value.value_data, proofs.promises.Back.allowed}
@@ -14,7 +15,7 @@ use Rattle.delivery.specs.Delivery.{length_code, Sends}
 -- a group value is read back from its bytes, be it a Write or a Response
 pub group_back :
     {p : Pdu} {v flag : ℕ} (ds : List ℕ) → Brings p v flag → Allows (row_of (service_of (GroupValueWrite v))) (values_of (GroupValueWrite v)) (2 + length ds) →
-    (read_pdu (encoded p ds) ≡ Is p) × (data_of p (encoded p ds) ≡ ds)
+    (read_pdu (encoded p ds) ≡ Ok p) × (data_of p (encoded p ds) ≡ ds)
 group_back ds (Brings.write v) a = read_back (GroupValueWrite v) ds a
 group_back ds (Brings.response v) a =
     read_back (GroupValueResponse v) ds (record { fields = a.fields; suited = a.suited; most = a.most })
@@ -61,7 +62,7 @@ length_body (Hundredths z) = length_point (Hundredths z)
 length_body (Single x) = length_point (Single x)
 
 -- a request that reads, in multicast on an accepted sheet, is one that its service decides
-pub received : (x : Asked) (p : Pdu) → Takes (rules_of x.sheet) (service_of p) x.mode → x.mode ≡ multicast → read_pdu x.apdu ≡ Is p →
+pub received : (x : Asked) (p : Pdu) → Takes (rules_of x.sheet) (service_of p) x.mode → x.mode ≡ multicast → read_pdu x.apdu ≡ Ok p →
     Accepted x.sheet → 16 ≤ x.room → Reads x p
 received x p t m e ok b =
     let r = reading x.apdu p e in
@@ -72,7 +73,7 @@ received x p t m e ok b =
     }
 
 module _ {x : Asked} {d : Datapoint} {p : Pdu} {flag : ℕ} (s : Sends x d p flag) where
-  read : (read_pdu (encoded p (value_data d)) ≡ Is p) × (data_of p (encoded p (value_data d)) ≡ value_data d)
+  read : (read_pdu (encoded p (value_data d)) ≡ Ok p) × (data_of p (encoded p (value_data d)) ≡ value_data d)
   read = group_back (value_data d) s.brings (allowed d)
 
   pub sent_reads : Reads x p

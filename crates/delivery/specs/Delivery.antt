@@ -1,5 +1,6 @@
 -- A DATAPOINT DELIVERED: how it is sent to a group object, what is then so, and what a read of the object is told.
 use Rattle.std.specs.Prelude.{ℕ, ◌≤◌, ◌≡◌, cond, []}
+use Rattle.std.specs.Prelude.{Ok}
 use Rattle.sheet.specs.Layout.{◌of◌}
 use Rattle.sheet.specs.Group as group
 use Rattle.sheet.specs.Rules.{Accepted}
@@ -8,10 +9,8 @@ use Rattle.pdu.specs.Read.{read_pdu, data_of}
 use Rattle.pdu.specs.Write.{encoded}
 use Rattle.pdu.specs.declared.Pdu.{Pdu}
 use Rattle.pdu.specs.declared.Pdu.TheVariants.{GroupValueRead, GroupValueResponse}
-use Rattle.pdu.specs.declared.Parsed.TheVariants as parsed
 use Rattle.points.specs.Point.{type_of, width_at, read_point, refusal_of, point_bytes, Typed, as_written}
 use Rattle.points.specs.declared.Datapoint.{Datapoint}
-use Rattle.points.specs.declared.Reading.TheVariants as reading
 use Rattle.values.specs.Value.{short, six_bits, value_data, read_value}
 use Rattle.judge.specs.Session.{multicast}
 use Rattle.device.specs.Octets.{Octets}
@@ -50,11 +49,11 @@ pub record Delivered (x : Asked) (d : Datapoint) (r : Step) : Type 0 where
   pub session : r.session ≡ x.session
   pub accepted : Accepted r.sheet
   pub body : group_of r.sheet x.group ≡ point_bytes d
-  pub says : read_point (type_of d) (group_of r.sheet x.group) ≡ reading.Is (as_written d)
+  pub says : read_point (type_of d) (group_of r.sheet x.group) ≡ Ok (as_written d)
 
 -- y then reads the object: a GroupValue_Read of the same address, on the sheet that r left
 pub record Asks (x y : Asked) (r : Step) : Type 0 where
-  pub reads : read_pdu y.apdu ≡ parsed.Is GroupValueRead
+  pub reads : read_pdu y.apdu ≡ Ok GroupValueRead
   pub octets : Octets y.apdu
   pub mode : y.mode ≡ multicast
   pub address : y.group ≡ x.group
@@ -64,8 +63,8 @@ pub record Asks (x y : Asked) (r : Step) : Type 0 where
 -- WHAT y IS TOLD BY THE STEP r: a GroupValue_Response whose six bits and data say d; session and sheet as found
 pub record Told (y : Asked) (d : Datapoint) (r : Step) : Type 0 where
   pub outcome : r.outcome ≡ 0
-  pub reads : read_pdu r.answer ≡ parsed.Is (GroupValueResponse (six_bits d))
+  pub reads : read_pdu r.answer ≡ Ok (GroupValueResponse (six_bits d))
   pub bytes : data_of (GroupValueResponse (six_bits d)) r.answer ≡ value_data d
-  pub says : read_value (type_of d) (six_bits d) (value_data d) ≡ reading.Is (as_written d)
+  pub says : read_value (type_of d) (six_bits d) (value_data d) ≡ Ok (as_written d)
   pub session : r.session ≡ y.session
   pub sheet : r.sheet ≡ y.sheet

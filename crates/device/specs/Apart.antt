@@ -1,13 +1,12 @@
 -- Two devices whose sheets differ in the number of the rules alone, and the requests that the rules are at odds about.
 use Rattle.std.specs.Prelude.{ℕ, ◌≤◌, ◌≡◌, List}
+use Rattle.std.specs.Prelude.{Some, Ok}
 use Rattle.sheet.specs.Head as head
 use Rattle.sheet.specs.Rules.{Accepted}
 use Rattle.sheet.specs.But.{But}
 use Rattle.pdu.specs.Rules.{code_of}
 use Rattle.pdu.specs.Table.{service_at}
 use Rattle.pdu.specs.Read.{read_pdu}
-use Rattle.pdu.specs.declared.Found.TheVariants.{Listed}
-use Rattle.pdu.specs.declared.Parsed.TheVariants.{Is}
 use Rattle.pdu.specs.declared.Pdu.TheVariants.{DeviceDescriptorRead}
 use Rattle.pdu.specs.declared.Service.TheVariants.{Restart}
 use Rattle.judge.specs.Session.{connectionless}
@@ -25,8 +24,8 @@ pub record SameButRules (s s' : List ℕ) : Type 0 where
 
 -- the code of a restart, connectionless; a descriptor type other than 0
 pub data Disputed (mode : ℕ) (a : List ℕ) : Type 0 where
-  restarts : mode ≡ connectionless → service_at (code_of a) ≡ Listed Restart → Disputed mode a
-  describes : (t : ℕ) → 1 ≤ t → read_pdu a ≡ Is (DeviceDescriptorRead t) → Disputed mode a
+  restarts : mode ≡ connectionless → service_at (code_of a) ≡ Some Restart → Disputed mode a
+  describes : (t : ℕ) → 1 ≤ t → read_pdu a ≡ Ok (DeviceDescriptorRead t) → Disputed mode a
 
 abbrev pub Undisputed : ℕ → List ℕ → Type 0
 Undisputed mode a = Disputed mode a → ⊥

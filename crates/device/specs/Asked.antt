@@ -1,5 +1,6 @@
 -- A request as it arrives and what it meets, and what is known of it before its service decides: plain propositions, in the order of the outcomes.
 use Rattle.std.specs.Prelude.{ℕ, ◌+◌, ◌≤◌, ◌<◌, ◌≡◌, true, false, ◌⊎◌, List, [], ◌∷◌, length, take, drop}
+use Rattle.std.specs.Prelude.{Ok}
 use Rattle.sheet.specs.Head.{rules_of, later}
 use Rattle.sheet.specs.Rules.{Accepted, Old, Bad}
 use Rattle.pdu.specs.Table.{row_of}
@@ -12,7 +13,6 @@ use Rattle.pdu.specs.declared.Service.TheVariants.{GroupValueRead, GroupValueRes
 use Rattle.pdu.specs.declared.Service.TheVariants.{DeviceDescriptorRead, PropertyValueRead, PropertyValueWrite, PropertyDescriptionRead, MemoryRead, MemoryWrite, MemoryBitWrite}
 use Rattle.pdu.specs.declared.Service.TheVariants.{AuthorizeRequest, KeyWrite, Restart, UserMemoryRead, UserMemoryWrite}
 use Rattle.pdu.specs.declared.Pdu.{Pdu}
-use Rattle.pdu.specs.declared.Parsed.TheVariants.{Is}
 use Rattle.judge.specs.Session.{multicast, broadcast, connectionless, connected}
 use Rattle.judge.specs.declared.Session.{Session}
 use Rattle.device.specs.Step.{Step}
@@ -88,7 +88,7 @@ pub record Ready (x : Asked) : Type 0 where
 pub record Reads (x : Asked) (p : Pdu) : Type 0 where
   pub ready : Ready x
   pub takes : Takes (rules_of x.sheet) (service_of p) x.mode
-  pub reads : read_pdu x.apdu ≡ Is p
+  pub reads : read_pdu x.apdu ≡ Ok p
 
 -- its data
 abbrev pub given : Asked → Pdu → List ℕ

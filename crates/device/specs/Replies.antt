@@ -1,8 +1,8 @@
 -- What the bytes of an answer are: a PDU, and where a request is denied the negative answer of its service.
 use Rattle.std.specs.Prelude.{ℕ, ◌≤◌, ◌≡◌, List, []}
+use Rattle.std.specs.Prelude.{Ok}
 use Rattle.pdu.specs.Read.{read_pdu, data_of}
 use Rattle.pdu.specs.Write.{encoded}
-use Rattle.pdu.specs.declared.Parsed.TheVariants.{Is}
 use Rattle.pdu.specs.declared.Pdu.{Pdu}
 use Rattle.pdu.specs.declared.Pdu.TheVariants.{PropertyValueRead, PropertyValueWrite, PropertyDescriptionRead, MemoryRead, MemoryWrite, MemoryBitWrite}
 use Rattle.pdu.specs.declared.Pdu.TheVariants.{KeyWrite, DeviceDescriptorRead, DeviceDescriptorResponse, PropertyValueResponse}
@@ -13,7 +13,7 @@ pub record IsPdu (b : List ℕ) : Type 0 where
   pub pdu : Pdu
   pub bytes : List ℕ
   pub written : b ≡ encoded pdu bytes
-  pub reads : read_pdu b ≡ Is pdu
+  pub reads : read_pdu b ≡ Ok pdu
   pub gives : data_of pdu b ≡ bytes
 
 -- the negative answer of a service, if it has one
@@ -33,6 +33,6 @@ pub data Negative : Pdu → Pdu → Type 0 where
 pub record Denial (a b : List ℕ) : Type 0 where
   pub request : Pdu
   pub reply : Pdu
-  pub reads : read_pdu a ≡ Is request
+  pub reads : read_pdu a ≡ Ok request
   pub negative : Negative request reply
   pub bytes : b ≡ encoded reply []

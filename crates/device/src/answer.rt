@@ -11,25 +11,19 @@ use pdu::Pdu;
 fn is_silent(a: Answer) -> bool
     ensures { result ≡ is_silent a }
 {
-    match a {
-        Answer::Silence => true,
-        Answer::Plain(_) => false,
-        Answer::Number { .. } => false,
-        Answer::Sheet { .. } => false,
-        Answer::Echo(_) => false,
-    }
+    matches!(a, Answer::Silence)
 }
 
-// The PDU of an answer; of silence, which has none, any.
+// The PDU of an answer; of silence, which has none, any: an Option of it would be a copy, and the caller has asked already.
 fn pdu_in(a: Answer) -> Pdu
     ensures { result ≡ pdu_in a }
 {
     match a {
         Answer::Silence => Pdu::GroupValueRead,
-        Answer::Plain(p) => p,
-        Answer::Number { pdu, .. } => pdu,
-        Answer::Sheet { pdu, .. } => pdu,
-        Answer::Echo(p) => p,
+        Answer::Plain(pdu)
+        | Answer::Number { pdu, .. }
+        | Answer::Sheet { pdu, .. }
+        | Answer::Echo(pdu) => pdu,
     }
 }
 
@@ -57,10 +51,9 @@ fn data_behind(out: &mut [u8], i: usize, a: Answer, s: &[u8], d: &[u8]) -> usize
     ensures { Behind i (data_behind s.now d.now a) result out.old out.new }
 {
     match a {
-        Answer::Silence => i,
-        Answer::Plain(_) => i,
-        Answer::Number { pdu: _, width, x } => number_behind(out, i, width, x),
-        Answer::Sheet { pdu: _, at, n } => run_behind(out, i, &s[at..at + n]),
+        Answer::Silence | Answer::Plain(_) => i,
+        Answer::Number { width, x, .. } => number_behind(out, i, width, x),
+        Answer::Sheet { at, n, .. } => run_behind(out, i, &s[at..at + n]),
         Answer::Echo(_) => run_behind(out, i, d),
     }
 }

@@ -11,6 +11,7 @@ ghost use Rattle.device.specs.Changed.{Requested};
 
 use judge::{Request, Session};
 pub use session::{button, button_known, connect, disconnect, fresh, session_of};
+use sheet::Sheet;
 
 // The sessions of connections 0 and 1.
 #[repr(C)]
@@ -20,7 +21,8 @@ pub struct Sessions {
     pub second: Session,
 }
 
-// What a call gave: the outcome, the count of bytes answered, the sessions afterwards.
+// What a call gave: the outcome, the count of bytes answered, the sessions afterwards. The outcome is a number: C has it, and the
+// theorems over histories speak of it.
 #[derive(Clone, Copy)]
 pub struct Done {
     pub outcome: u8,
@@ -36,12 +38,26 @@ pub struct Run {
     pub length: u16,
 }
 
-// The runs of sheet bytes that a request stored, at most two; 0 and 0 for one that there is not.
+// The runs of sheet bytes that a request stored, at most two; 0 and 0, and no Option, for one that there is not: C's layout.
 #[repr(C)]
 #[derive(Clone, Copy)]
 pub struct Changed {
     pub first: Run,
     pub second: Run,
+}
+
+impl Run {
+    pub const NOTHING: Run = Run {
+        offset: 0,
+        length: 0,
+    };
+}
+
+impl Changed {
+    pub const NOTHING: Changed = Changed {
+        first: Run::NOTHING,
+        second: Run::NOTHING,
+    };
 }
 
 // What a request gave, and what it stored.
@@ -69,7 +85,7 @@ pub fn request(
     )
 }
 
-// The same; a sheet that is known to be accepted is not judged again.
+// The same; a sheet that is known to be accepted is not judged again. A flag, and no type: a trace's player learns it as it runs.
 pub fn request_known(
     known: bool,
     sessions: Sessions,
@@ -84,23 +100,15 @@ pub fn request_known(
     ensures { Requested sessions mode connection group apdu.now sheet.old answer.old result sheet.new answer.new }
 {
     let session = session::session_for(sessions, mode, connection);
-    let n = judge::refused_unread(answer.len(), known, &sheet[..], session, mode, apdu);
-    if n != 0 {
-        let none = Run {
-            offset: 0,
-            length: 0,
-        };
-        let done = Done {
-            outcome: n,
-            count: 0,
-            sessions,
-        };
+    let unread = judge::refused_unread(answer.len(), known, &sheet[..], session, mode, apdu);
+    if let Err(refusal) = unread {
         return Made {
-            done,
-            changed: Changed {
-                first: none,
-                second: none,
+            done: Done {
+                outcome: refusal.number(),
+                count: 0,
+                sessions,
             },
+            changed: Changed::NOTHING,
         };
     }
     let found = pdu::service_of(pdu::code(apdu));
@@ -113,16 +121,16 @@ pub fn request_known(
         found,
         parsed,
     };
-    let k = judge::found(&sheet[..], x, d);
+    let k = judge::found(Sheet::known(&sheet[..]), x, d);
     let changed = store::changes(&sheet[..], k, d);
     store::carry_out(sheet, k, d);
-    let reply = k.answer;
-    let count = answer::answer(answer, reply, &sheet[..], d);
-    let turn = k.turn;
-    let done = Done {
-        outcome: k.outcome,
-        count,
-        sessions: session::turned(sessions, mode, connection, turn),
-    };
-    Made { done, changed }
+    let count = answer::answer(answer, k.answer, &sheet[..], d);
+    Made {
+        done: Done {
+            outcome: k.outcome,
+            count,
+            sessions: session::turned(sessions, mode, connection, k.turn),
+        },
+        changed,
+    }
 }

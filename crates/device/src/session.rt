@@ -1,6 +1,7 @@
 // The sessions of the two connections: what connects, disconnects and decisions make of them; and the programming button.
 ghost use Rattle.std.specs.Prelude.{◌≡◌, true, false, ◌+◌, ◌-◌, ◌≤◌};
 ghost use Rattle.sheet.specs.Rules.{Accepted};
+ghost use Rattle.sheet.specs.Refused.{told_converted};
 ghost use Rattle.sheet.specs.Layout.{◌of◌};
 ghost use Rattle.sheet.specs.Head as head;
 ghost use Rattle.judge.specs.Session.{weakest};
@@ -10,22 +11,14 @@ ghost use Rattle.device.specs.Sessions.{fresh_of, session_of, with_session, sess
 ghost use Rattle.device.specs.Events.{named_outcome, connect_of, disconnect_of, named, bit, Pressed};
 
 use crate::{Done, Sessions};
-use judge::{Session, Turn};
-
-// The level with the fewest rights.
-const WEAKEST: u8 = 3;
-
-// The mode whose requests name a connection.
-const CONNECTED: u8 = 3;
+use judge::{DONE, Mode, Refusal, Session, Turn};
+use sheet::{Refused, Sheet};
 
 // Sessions that nobody has connected to.
 pub fn fresh() -> Sessions
     ensures { result ≡ fresh_of }
 {
-    let closed = Session {
-        opened: false,
-        level: WEAKEST,
-    };
+    let closed = Session::anew(false);
     Sessions {
         first: closed,
         second: closed,
@@ -36,28 +29,21 @@ pub fn fresh() -> Sessions
 pub fn session_of(q: Sessions, connection: u8) -> Session
     ensures { result ≡ session_of q connection }
 {
-    if connection == 0 {
-        return q.first;
-    }
-    if connection == 1 {
-        return q.second;
-    }
-    Session {
-        opened: false,
-        level: WEAKEST,
+    match connection {
+        0 => q.first,
+        1 => q.second,
+        _ => Session::anew(false),
     }
 }
 
-// The session that a request meets.
+// The session that a request meets. Sessions, mode and connection stay three parameters, here and below, as C hands them in.
 pub fn session_for(q: Sessions, mode: u8, connection: u8) -> Session
     ensures { result ≡ session_for q mode connection }
 {
-    if mode == CONNECTED {
-        return session_of(q, connection);
-    }
-    Session {
-        opened: false,
-        level: WEAKEST,
+    if mode == Mode::Connected as u8 {
+        session_of(q, connection)
+    } else {
+        Session::anew(false)
     }
 }
 
@@ -65,78 +51,57 @@ pub fn session_for(q: Sessions, mode: u8, connection: u8) -> Session
 fn with_session(q: Sessions, connection: u8, session: Session) -> Sessions
     ensures { result ≡ with_session q connection session }
 {
-    let first = q.first;
-    let second = q.second;
-    if connection == 0 {
-        return Sessions {
+    match connection {
+        0 => Sessions {
             first: session,
-            second,
-        };
-    }
-    if connection == 1 {
-        return Sessions {
-            first,
+            ..q
+        },
+        1 => Sessions {
             second: session,
-        };
+            ..q
+        },
+        _ => q,
     }
-    q
 }
 
-// The sessions with that of a connection opened or closed anew.
-fn reset(q: Sessions, connection: u8, opened: bool) -> Sessions
-    ensures { result ≡ with_session q connection record { opened = opened; level = weakest } }
+// A connection opened or closed anew; 7 where there is no such.
+fn reset(q: Sessions, connection: u8, opened: bool) -> Done
+    ensures { result ≡ named connection (with_session q connection record { opened = opened; level = weakest }) }
 {
-    let level = WEAKEST;
-    let session = Session { opened, level };
-    with_session(q, connection, session)
-}
-
-// 7 where there is no such connection.
-fn outcome_for(connection: u8) -> u8
-    ensures { result ≡ named_outcome connection }
-{
-    if connection < 2 { 1 } else { 7 }
+    Done {
+        outcome: if connection < 2 {
+            DONE
+        } else {
+            Refusal::Unconnected.number()
+        },
+        count: 0,
+        sessions: with_session(q, connection, Session::anew(opened)),
+    }
 }
 
 // A connect: that connection's session is open at level 3, whatever it was.
 pub fn connect(q: Sessions, connection: u8) -> Done
     ensures { result ≡ named connection (connect_of q connection) }
 {
-    let outcome = outcome_for(connection);
-    let sessions = reset(q, connection, true);
-    Done {
-        outcome,
-        count: 0,
-        sessions,
-    }
+    reset(q, connection, true)
 }
 
 // A disconnect: that connection's session is closed at level 3, whatever it was.
 pub fn disconnect(q: Sessions, connection: u8) -> Done
     ensures { result ≡ named connection (disconnect_of q connection) }
 {
-    let outcome = outcome_for(connection);
-    let sessions = reset(q, connection, false);
-    Done {
-        outcome,
-        count: 0,
-        sessions,
-    }
+    reset(q, connection, false)
 }
 
 // The sessions with another level for the connection of a request, if it names one.
 fn with_level(q: Sessions, mode: u8, connection: u8, level: u8) -> Sessions
     ensures { result ≡ turned_of q mode connection false (turn_of (session_for q mode connection) (Level level)) }
 {
-    if mode != CONNECTED {
+    if mode != Mode::Connected as u8 {
         return q;
     }
-    let session = session_for(q, mode, connection);
-    let new = Session {
-        opened: session.opened,
-        level,
-    };
-    with_session(q, connection, new)
+    let session = session_of(q, connection);
+    with_session(q, connection, Session { level, ..session })
 }
 
 // The sessions after a decision: a restart closes both.
@@ -150,38 +115,28 @@ pub fn turned(q: Sessions, mode: u8, connection: u8, turn: Turn) -> Sessions
     }
 }
 
-fn bit_of(on: bool) -> u8
-    ensures { (result ≡ bit on) × (result ≤ 1) }
-{
-    if on { 1 } else { 0 }
-}
-
 // The flags with programming mode set or cleared, verify as it was.
-fn flags_with(s: &[u8], on: bool) -> u8
-    requires { Accepted s.now }
-    ensures { result ≡ head.flags of s.now - head.programming s.now + bit on }
+fn flags_with(s: Sheet<'_>, on: bool) -> u8
+    ensures { result ≡ head.flags of s.entry.bytes.now - head.programming s.entry.bytes.now + bit on }
 {
-    let f = sheet::flags(s);
-    f - f % 2 + bit_of(on)
+    let f = s.flags();
+    f - f % 2 + u8::from(on)
 }
 
-// The programming button: 14 on an old sheet, 4 on a bad one, else 1.
-pub fn button(sheet: &mut [u8], on: bool) -> u8
-    ensures { Pressed sheet.old on result sheet.new }
+// The programming button: an old sheet, or a bad one, is left as found.
+pub fn button(sheet: &mut [u8], on: bool) -> Result<(), Refused>
+    ensures { Pressed sheet.old on (told_converted result) sheet.new }
 {
     button_known(false, sheet, on)
 }
 
 // The same; a sheet that is known to be accepted is not judged again.
-pub fn button_known(known: bool, sheet: &mut [u8], on: bool) -> u8
+pub fn button_known(known: bool, sheet: &mut [u8], on: bool) -> Result<(), Refused>
     requires { known ≡ true → Accepted sheet.old }
-    ensures { Pressed sheet.old on result sheet.new }
+    ensures { Pressed sheet.old on (told_converted result) sheet.new }
 {
-    let n = sheet::refusal_unless(known, &sheet[..]);
-    if n != 0 {
-        return n;
-    }
-    let new = flags_with(&sheet[..], on);
+    sheet::refusal_unless(known, &sheet[..])?;
+    let new = flags_with(Sheet::known(&sheet[..]), on);
     octets::put(sheet, sheet::flags_at(), 1, new as u64);
-    1
+    Ok(())
 }

@@ -3,20 +3,19 @@ ghost use Rattle.std.specs.Prelude.{◌≡◌, ◌+◌, ◌≤◌, length};
 ghost use Rattle.octets.specs.Splice.{splice};
 ghost use Rattle.device.specs.Carry.{padded, build, bit_at, store_of};
 ghost use Rattle.device.specs.Safe.{StoreSafe, Narrow};
-ghost use Rattle.device.specs.Changed.{part_of, changes_of};
+ghost use Rattle.device.specs.Changed.{part as partOf, part_of, changes_of};
 
 use crate::{Changed, Run};
 use judge::{Decision, Store};
 
+// That a run lies within the sheet stays a clause: of judge's decisions it is a theorem over the sheet that is stored to (`StoreSafe`).
 // n bytes from a place on changed by n AND bytes and then n XOR bytes.
 pub fn bits(s: &mut [u8], at: usize, n: usize, d: &[u8])
     requires { (at + n ≤ length s.old) × (length d.now ≡ n + n) }
     ensures { s.new ≡ splice s.old at (build n (bit_at s.old at n d.now)) }
 {
-    let mut i = 0;
-    while i < n {
+    for i in 0..n {
         s[at + i] = (s[at + i] & d[i]) ^ d[n + i];
-        i += 1;
     }
 }
 
@@ -51,32 +50,27 @@ pub fn store(s: &mut [u8], run: Store, d: &[u8])
     }
 }
 
+// So many bytes from a place on.
+fn run_of(at: usize, n: usize) -> Run
+    requires { at + n ≤ 16384 }
+    ensures { result ≡ partOf at n }
+{
+    Run {
+        offset: at as u16,
+        length: n as u16,
+    }
+}
+
 // Where a run stands in the sheet, and how many bytes it has: 0 and 0 if nothing is stored.
 fn part(s: &[u8], run: Store, d: &[u8]) -> Run
     requires { (StoreSafe s.now d.now run) × (Narrow (length s.now) run) }
     ensures { result ≡ part_of d.now run }
 {
     match run {
-        Store::Nothing => Run {
-            offset: 0,
-            length: 0,
-        },
-        Store::Number { at, width, .. } => Run {
-            offset: at as u16,
-            length: width as u16,
-        },
-        Store::Data { zeros, at } => Run {
-            offset: at as u16,
-            length: (zeros + d.len()) as u16,
-        },
-        Store::Bits { at, n } => Run {
-            offset: at as u16,
-            length: n as u16,
-        },
-        Store::Fill { at, n, .. } => Run {
-            offset: at as u16,
-            length: n as u16,
-        },
+        Store::Nothing => Run::NOTHING,
+        Store::Number { at, width, .. } => run_of(at, width),
+        Store::Data { zeros, at } => run_of(at, zeros + d.len()),
+        Store::Bits { at, n } | Store::Fill { at, n, .. } => run_of(at, n),
     }
 }
 
@@ -86,11 +80,10 @@ pub fn changes(s: &[u8], k: Decision, d: &[u8]) -> Changed
         × (Narrow (length s.now) k.first) × (Narrow (length s.now) k.second) }
     ensures { result ≡ changes_of d.now k }
 {
-    let one = k.first;
-    let two = k.second;
-    let first = part(s, one, d);
-    let second = part(s, two, d);
-    Changed { first, second }
+    Changed {
+        first: part(s, k.first, d),
+        second: part(s, k.second, d),
+    }
 }
 
 // At most two runs.
@@ -98,8 +91,6 @@ pub fn carry_out(s: &mut [u8], k: Decision, d: &[u8])
     requires { (StoreSafe s.old d.now k.first) × (StoreSafe (store_of s.old d.now k.first) d.now k.second) }
     ensures { s.new ≡ store_of (store_of s.old d.now k.first) d.now k.second }
 {
-    let one = k.first;
-    let two = k.second;
-    store(s, one, d);
-    store(s, two, d);
+    store(s, k.first, d);
+    store(s, k.second, d);
 }

@@ -3,59 +3,71 @@
 //   fresh                    new sessions
 //   connect, disconnect      of the connection said
 //   press, release           the programming button on, off
+use crate::image::Image;
 use crate::setup::Setup;
+use arrayvec::ArrayVec;
 use device::{Done, Sessions};
-use lines::{first, is_hex, part, put_unhex, which};
+use lines::{first, unhex};
 
-// Which of the named events it is; 5 for none.
-fn event_named(event: &[u8]) -> usize {
-    which(b"fresh connect disconnect press release", event)
+#[derive(Drop)]
+pub(crate) enum Event {
+    Fresh,
+    Connect,
+    Disconnect,
+    Button(bool),
+    Request(ArrayVec<u8, 64>),
 }
 
-pub(crate) fn is_event(event: &[u8]) -> bool {
-    if event_named(event) < 5 {
-        return true;
+impl Event {
+    pub(crate) fn parse(text: &[u8]) -> Option<Event> {
+        match text {
+            b"fresh" => Some(Event::Fresh),
+            b"connect" => Some(Event::Connect),
+            b"disconnect" => Some(Event::Disconnect),
+            b"press" => Some(Event::Button(true)),
+            b"release" => Some(Event::Button(false)),
+            _ => unhex(text).map(Event::Request),
+        }
     }
-    is_hex(event)
 }
 
 fn silent(outcome: u8, sessions: Sessions) -> Done {
     Done {
-        outcome: outcome,
+        outcome,
         count: 0,
-        sessions: sessions,
+        sessions,
     }
 }
 
-// The request, with an answer buffer of the length said.
-fn request(q: Setup, hex: &[u8], sheet: &mut [u8], out: &mut [u8]) -> Done {
-    let mut apdu = [0u8; 64];
-    let n = put_unhex(&mut apdu, 0, hex);
-    let made = device::request(
-        q.sessions,
-        q.mode,
-        q.connection,
-        q.group,
-        part(&apdu, 0, n),
-        sheet,
-        first(out, q.room),
-    );
-    made.done
-}
-
-fn event(q: Setup, event: &[u8], sheet: &mut [u8], out: &mut [u8]) -> Done {
-    let name = event_named(event);
-    match name {
-        0 => silent(1, device::fresh()),
-        1 => device::connect(q.sessions, q.connection),
-        2 => device::disconnect(q.sessions, q.connection),
-        3 => silent(device::button(sheet, true), q.sessions),
-        4 => silent(device::button(sheet, false), q.sessions),
-        _ => request(q, event, sheet, out),
+// An event on a sheet. The answer buffer is as long as the setup says.
+pub(crate) fn play(event: Event, setup: Setup, image: &mut Image, out: &mut [u8]) -> Done {
+    let Setup {
+        sessions,
+        mode,
+        connection,
+        group,
+        room,
+        ..
+    } = setup;
+    match event {
+        Event::Fresh => silent(1, device::fresh()),
+        Event::Connect => device::connect(sessions, connection),
+        Event::Disconnect => device::disconnect(sessions, connection),
+        Event::Button(on) => match device::button(image.sheet(), on) {
+            Ok(()) => silent(1, sessions),
+            Err(refused) => silent(refused.number(), sessions),
+        },
+        Event::Request(apdu) => {
+            device::request(
+                sessions,
+                mode,
+                connection,
+                group,
+                apdu.as_slice(),
+                image.sheet(),
+                first(out, room),
+            )
+            .done
+        }
     }
-}
-
-// An event on the first len bytes, which are the sheet.
-pub(crate) fn play(q: Setup, text: &[u8], s: &mut [u8], len: usize, out: &mut [u8]) -> Done {
-    event(q, text, first(s, len), out)
 }

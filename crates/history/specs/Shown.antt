@@ -1,11 +1,11 @@
 -- WHAT A READ MAY SHOW, of a property and of memory: by the first sheet, the first sessions and the events alone.
 use Rattle.std.specs.Prelude.{ℕ, ◌+◌, ◌*◌, ◌-◌, ◌<◌, ◌≤◌, ◌≡◌, List, [], ◌∷◌, Bool, true, false, cond, ◌&&◌, ◌||◌, length, get_or, ltb, eqb}
+use Rattle.std.specs.Prelude.{Ok}
 use Rattle.sheet.specs.Layout.{◌of◌}
 use Rattle.sheet.specs.Property as property
 use Rattle.sheet.specs.declared.Memory.{Memory}
 use Rattle.pdu.specs.Read.{read_pdu}
 use Rattle.pdu.specs.Write.{encoded}
-use Rattle.pdu.specs.declared.Parsed.TheVariants.{Is}
 use Rattle.pdu.specs.declared.Pdu.TheVariants.{PropertyValueRead, PropertyValueResponse}
 use Rattle.device.specs.Octets.{Octets}
 use Rattle.device.specs.Events.{Effect}
@@ -69,7 +69,7 @@ pub record Shows (f : First) (h : List Event) (object id n s : ℕ) (r : Effect)
 abbrev pub ShownWasWritten : Device → Type 0
 ShownWasWritten step =
     (f : First) (h : List Event) → Begins f → AllOctets h → (mode c g : ℕ) (a out : List ℕ) → Octets a →
-    (object id n s : ℕ) → read_pdu a ≡ Is (PropertyValueRead object id n s) → 1 ≤ s →
+    (object id n s : ℕ) → read_pdu a ≡ Ok (PropertyValueRead object id n s) → 1 ≤ s →
     (step f h (state_after step f h) (request mode c g a out)).outcome ≡ 0 →
     Shows f h object id n s (step f h (state_after step f h) (request mode c g a out))
 
@@ -85,6 +85,6 @@ pub record MemoryShows (f : First) (h : List Event) (mode c : ℕ) (m : Memory) 
 abbrev pub MemoryShown : Device → Type 0
 MemoryShown step =
     (f : First) (h : List Event) → Begins f → AllOctets h → (mode c g : ℕ) (a out : List ℕ) → Octets a →
-    (m : Memory) (n y : ℕ) → read_pdu a ≡ Is (reading m n y) →
+    (m : Memory) (n y : ℕ) → read_pdu a ≡ Ok (reading m n y) →
     (step f h (state_after step f h) (request mode c g a out)).outcome ≡ 0 →
     MemoryShows f h mode c m n y (step f h (state_after step f h) (request mode c g a out))

@@ -1,11 +1,11 @@
 -- What a request asks for, as far as a history is concerned with it, and which modes take it.
 use Rattle.std.specs.Prelude.{ℕ, List, [], Bool, false, ◌||◌, ◌&&◌, eqb}
+use Rattle.std.specs.Prelude.{Result, Ok, Err}
+use Rattle.pdu.specs.declared.ReadRefusal.{ReadRefusal}
 use Rattle.sheet.specs.Head.{later}
 use Rattle.sheet.specs.declared.Memory.{Memory}
 use Rattle.sheet.specs.declared.Memory.TheVariants.{Device, User}
 use Rattle.pdu.specs.Read.{read_pdu, data_of}
-use Rattle.pdu.specs.declared.Parsed.{Parsed}
-use Rattle.pdu.specs.declared.Parsed.TheVariants.{Is, Refused}
 use Rattle.pdu.specs.declared.Pdu.{Pdu}
 use Rattle.pdu.specs.declared.Pdu.TheVariants.{GroupValueRead, GroupValueResponse, GroupValueWrite, IndividualAddressWrite, IndividualAddressRead, SerialNumberRead, SerialNumberWrite}
 use Rattle.pdu.specs.declared.Pdu.TheVariants.{DeviceDescriptorRead, PropertyValueRead, PropertyValueWrite, PropertyDescriptionRead, MemoryRead, MemoryWrite, MemoryBitWrite}
@@ -65,14 +65,14 @@ wish_of (UserMemoryRead n a) = nothing
 wish_of (UserMemoryResponse n a) = nothing
 
 -- what an APDU asks for, and its data: what doesn't read asks for nothing
-abbrev pub wish_in : Parsed → Wish
-wish_in (Is p) = wish_of p
-wish_in (Refused n) = nothing
+abbrev pub wish_in : Result Pdu ReadRefusal → Wish
+wish_in (Ok p) = wish_of p
+wish_in (Err e) = nothing
 
 -- judge's `data_in` says the same: a history is read without any word of judging, so it stands here again
-abbrev pub data_from : Parsed → List ℕ → List ℕ
-data_from (Is p) a = data_of p a
-data_from (Refused n) a = []
+abbrev pub data_from : Result Pdu ReadRefusal → List ℕ → List ℕ
+data_from (Ok p) a = data_of p a
+data_from (Err e) a = []
 
 unfoldable pub asks : List ℕ → Wish
 asks a = wish_in (read_pdu a)

@@ -1,5 +1,3 @@
 -- promises has what docs/PROMISES.md names; all else are laws behind them and behind the contracts.
 pub mod promises
-pub mod Replies
-pub mod Restored
 pub mod Buses

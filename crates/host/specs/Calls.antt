@@ -8,10 +8,9 @@ use Rattle.device.specs.declared.Sessions.{Sessions}
 use Rattle.device.specs.declared.Changed.{Changed}
 use Rattle.device.specs.declared.Made.{Made}
 use Rattle.versions.specs.Restoring.{RestoredAs}
-use Rattle.playback.specs.declared.Played.{Played}
+use Rattle.playback.specs.Outcome.{Outcome}
 use Rattle.host.specs.declared.Wide.{Wide}
 use Rattle.host.specs.declared.Reply.{Reply}
-use Rattle.host.specs.declared.Replied.{Replied}
 use Rattle.host.specs.declared.Handled.{Handled}
 
 -- WHAT A CONNECT AND A DISCONNECT DID: sessions q were found, r came back, q' is what they then are
@@ -37,10 +36,7 @@ runs_of w =
 abbrev pub gave : Reply → Sessions → Made
 gave r q = record { done = record { outcome = r.outcome; count = r.count; sessions = q }; changed = runs_of r.changed }
 
-abbrev pub gave_back : Replied → Made
-gave_back r = record { done = record { outcome = r.outcome; count = r.count; sessions = r.sessions }; changed = runs_of r.changed }
-
-abbrev pub gave_played : Handled → Sessions → Played
+abbrev pub gave_played : Handled → Sessions → Outcome
 gave_played r q = record { refusal = r.refusal; handled = r.handled; sessions = q }
 
 -- the version: 65536 times its first number, 256 times its second, its third; so this is 1.0.0

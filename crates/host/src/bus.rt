@@ -1,17 +1,16 @@
 // The C interface of the link: the calls of include/kelindap_link.h.
 ghost use Rattle.std.specs.Prelude.{◌≡◌};
 ghost use Rattle.cemi.specs.Read.{read_frame};
-ghost use Rattle.cemi.specs.declared.Got.TheVariants as got;
 ghost use Rattle.link.specs.Hearing.{own_of, heard_of};
 ghost use Rattle.link.specs.Serving.{ServedFrame};
-ghost use Rattle.host.specs.Bus.{refuses, sender_of, arrival_by, arrival_of, gave_served, handed_on};
+ghost use Rattle.host.specs.Bus.{refuses, sender_of, arrival_by, arrival_of, gave_served};
 
-use crate::{Answered, Arrival, Handed, widened};
-use cemi::{Frame, Got};
+use crate::{Answered, Arrival, widened};
+use cemi::Frame;
 use link::{Arrived, Link};
 
 // Who sent a frame, its sequence number, and whether it is a negative acknowledgement.
-#[derive(Clone, Copy)]
+#[derive(Clone, Copy, Default)]
 pub struct Sender {
     pub source: u16,
     pub sequence: u8,
@@ -19,43 +18,38 @@ pub struct Sender {
 }
 
 // Whether a control of this transport, with these low bits, is a negative acknowledgement.
+#[tactic(auto, unfolding(crate::specs::Bus::refuses))]
 fn is_negative(transport: u8, low: u8) -> bool
     ensures { result ≡ refuses transport low }
 {
-    if transport < 48 {
-        return false;
-    }
-    low == 3
+    48 <= transport && low == 3
 }
 
 // The sender of a frame that reads.
+#[tactic(auto, unfolding(crate::specs::Bus::sender_of))]
 fn of_frame(f: Frame) -> Sender
-    ensures { result ≡ sender_of (got.Is f) }
+    ensures { result ≡ sender_of (Ok f) }
 {
-    let fields = f.fields;
     Sender {
-        source: fields.source,
-        sequence: fields.transport % 16,
-        negative: is_negative(fields.transport, f.low),
+        source: f.fields.source,
+        sequence: f.fields.transport % 16,
+        negative: is_negative(f.fields.transport, f.low),
     }
 }
 
 // The sender of a frame; nobody's if it does not read.
+#[tactic(auto, unfolding(crate::specs::Bus::sender_of))]
 fn sent_by(frame: &[u8]) -> Sender
     ensures { result ≡ sender_of (read_frame frame.now) }
 {
-    let got = cemi::read(frame);
-    match got {
-        Got::Is(f) => of_frame(f),
-        Got::Refused(_n) => Sender {
-            source: 0,
-            sequence: 0,
-            negative: false,
-        },
+    match cemi::read(frame) {
+        Ok(f) => of_frame(f),
+        Err(_) => Sender::default(),
     }
 }
 
 // What arrived and who sent it, laid flat.
+#[tactic(auto, unfolding(crate::specs::Bus::arrival_of))]
 fn laid(a: Arrived, s: Sender) -> Arrival
     ensures { result ≡ arrival_of a s }
 {
@@ -89,27 +83,7 @@ pub fn kelindap_heard(link: Link, sheet: &[u8], frame: &[u8]) -> Arrival
     ensures { result ≡ arrival_of (heard_of link (own_of sheet.now) frame.now) (sender_of (read_frame frame.now)) }
 {
     let own = link::own_of(sheet);
-    let a = link::heard(link, own, frame);
-    let s = sent_by(frame);
-    laid(a, s)
-}
-
-// A frame served with the link by value.
-fn served(link: Link, sheet: &mut [u8], frame: &[u8], out: &mut [u8], sequence: u8) -> Handed
-    ensures { ServedFrame link sequence frame.now sheet.old out.old (handed_on result) sheet.new out.new }
-{
-    let d = link::serve(link, sequence, frame, sheet, out);
-    let next = d.link;
-    let runs = d.changed;
-    let changed = widened(runs);
-    Handed {
-        number: d.number,
-        outcome: d.outcome,
-        connection: d.connection,
-        count: d.count,
-        changed,
-        link: next,
-    }
+    laid(link::heard(link, own, frame), sent_by(frame))
 }
 
 // A frame in, at most one frame out, in place: the link becomes what the frame makes of it.
@@ -122,13 +96,13 @@ pub fn kelindap_serve(
 ) -> Answered
     ensures { ServedFrame link.old sequence frame.now sheet.old out.old (gave_served result link.new) sheet.new out.new }
 {
-    let d = served(*link, sheet, frame, out, sequence);
-    *link = d.link;
+    let served = link::serve(*link, sequence, frame, sheet, out);
+    *link = served.link;
     Answered {
-        number: d.number,
-        outcome: d.outcome,
-        connection: d.connection,
-        count: d.count,
-        changed: d.changed,
+        number: served.number,
+        outcome: served.outcome,
+        connection: served.connection,
+        count: served.count,
+        changed: widened(served.changed),
     }
 }

@@ -9,19 +9,21 @@ pub mod store;
 
 ghost use Rattle.std.specs.Prelude.{◌≡◌};
 ghost use Rattle.sheet.specs.Rules.{verdict_of};
+ghost use Rattle.sheet.specs.Refused.{told_converted};
 ghost use Rattle.sheet.specs.Convert.{Converts};
 ghost use Rattle.sheet.specs.Lookup.{StandsIn, region_of, region_from, user_region_of, user_region_from, property_of, property_from, group_of, group_from};
 ghost use Rattle.device.specs.Sessions.{fresh_of};
 ghost use Rattle.device.specs.Events.{Pressed};
 ghost use Rattle.device.specs.Changed.{Requested};
+ghost use Rattle.playback.specs.Refusal.{number_of};
 ghost use Rattle.playback.specs.Rules.{refusal_of};
 ghost use Rattle.playback.specs.Playing.{Plays};
 ghost use Rattle.playback.specs.Marking.{Marks};
-ghost use Rattle.host.specs.Calls.{Connects, Disconnects, runs_of, gave, gave_back, gave_played, version_of};
+ghost use Rattle.host.specs.Calls.{Connects, Disconnects, runs_of, gave, gave_played, version_of};
 
 use device::{Changed, Sessions};
-use link::Link;
-use sheet::Part;
+use playback::Played;
+use sheet::{Part, Refused};
 
 // The runs that were stored as C has them, in numbers of its own width.
 #[repr(C)]
@@ -30,6 +32,8 @@ pub struct Wide {
     pub first: Part,
     pub second: Part,
 }
+
+// The structs below are C's, by the headers: outcomes and refusals are numbers in them, beside their values.
 
 // What a request gave: its outcome, how many bytes of the answer buffer were filled, and which parts of the sheet were stored.
 #[repr(C)]
@@ -40,21 +44,34 @@ pub struct Reply {
     pub changed: Wide,
 }
 
-// The same with the sessions afterwards.
-#[derive(Clone, Copy)]
-pub struct Replied {
-    pub outcome: u8,
-    pub count: u8,
-    pub sessions: Sessions,
-    pub changed: Wide,
-}
-
 // What playing gave: its refusal or 0, and how many events were handled.
 #[repr(C)]
 #[derive(Clone, Copy)]
 pub struct Handled {
     pub refusal: u8,
     pub handled: u16,
+}
+
+impl From<Played> for Handled {
+    ghost from_gives = { λ p h. h ≡ record { refusal = 0; handled = p.handled } };
+
+    fn from(played: Played) -> Handled {
+        Handled {
+            refusal: 0,
+            handled: played.handled,
+        }
+    }
+}
+
+impl From<playback::Refusal> for Handled {
+    ghost from_gives = { λ r h. h ≡ record { refusal = number_of r; handled = 0 } };
+
+    fn from(refusal: playback::Refusal) -> Handled {
+        Handled {
+            refusal: refusal.number(),
+            handled: 0,
+        }
+    }
 }
 
 // What a frame is to the device: its event, by its number, or why there is none; its connection, or 255; its destination; who sent
@@ -82,17 +99,6 @@ pub struct Answered {
     pub changed: Wide,
 }
 
-// The same with the link afterwards.
-#[derive(Clone, Copy)]
-pub struct Handed {
-    pub number: u8,
-    pub outcome: u8,
-    pub connection: u8,
-    pub count: u8,
-    pub changed: Wide,
-    pub link: Link,
-}
-
 // Runs in numbers of C's own width.
 pub fn widened(c: Changed) -> Wide
     ensures { c ≡ runs_of result }
@@ -108,6 +114,17 @@ pub fn widened(c: Changed) -> Wide
             offset: two.offset as usize,
             length: two.length as usize,
         },
+    }
+}
+
+// What C gets of a Result stands at each call: the refusals are of several crates, and a trait over them for a match of two lines is no plainer.
+// The outcome of a call on a sheet that is done or refused, by its number.
+fn done(outcome: Result<(), Refused>) -> u8
+    ensures { result ≡ told_converted outcome }
+{
+    match outcome {
+        Ok(()) => 1,
+        Err(refused) => refused.number(),
     }
 }
 
@@ -140,32 +157,7 @@ pub fn kelindap_disconnect(sessions: &mut Sessions, connection: u8) -> u8
 pub fn kelindap_button(sheet: &mut [u8], on: bool) -> u8
     ensures { Pressed sheet.old on result sheet.new }
 {
-    device::button(sheet, on)
-}
-
-// A request with the sessions by value.
-fn request(
-    sessions: Sessions,
-    sheet: &mut [u8],
-    mode: u8,
-    connection: u8,
-    group: u16,
-    apdu: &[u8],
-    answer: &mut [u8],
-) -> Replied
-    ensures { Requested sessions mode connection group apdu.now sheet.old answer.old (gave_back result) sheet.new answer.new }
-{
-    let made = device::request(sessions, mode, connection, group, apdu, sheet, answer);
-    let d = made.done;
-    let next = d.sessions;
-    let runs = made.changed;
-    let changed = widened(runs);
-    Replied {
-        outcome: d.outcome,
-        count: d.count as u8,
-        sessions: next,
-        changed,
-    }
+    done(device::button(sheet, on))
 }
 
 // A request in place: the sessions become what the request makes of them.
@@ -181,12 +173,12 @@ pub fn kelindap_request(
     ensures { Requested sessions.old mode connection group apdu.now sheet.old answer.old
         (gave result sessions.new) sheet.new answer.new }
 {
-    let d = request(*sessions, sheet, mode, connection, group, apdu, answer);
-    *sessions = d.sessions;
+    let made = device::request(*sessions, mode, connection, group, apdu, sheet, answer);
+    *sessions = made.done.sessions;
     Reply {
-        outcome: d.outcome,
-        count: d.count,
-        changed: d.changed,
+        outcome: made.done.outcome,
+        count: made.done.count as u8,
+        changed: widened(made.changed),
     }
 }
 
@@ -194,14 +186,17 @@ pub fn kelindap_request(
 pub fn kelindap_check(sheet: &[u8]) -> u8
     ensures { result ≡ verdict_of sheet.now }
 {
-    sheet::check(sheet)
+    match sheet::check(sheet) {
+        Ok(()) => 0,
+        Err(fault) => fault.number(),
+    }
 }
 
 // An old sheet becomes one of edition 2: 1. Any other stays as found: 4.
 pub fn kelindap_convert(sheet: &mut [u8]) -> u8
     ensures { Converts sheet.old result sheet.new }
 {
-    sheet::convert(sheet)
+    done(sheet::convert(sheet))
 }
 
 // Where the body of a property stands.
@@ -236,7 +231,10 @@ pub fn kelindap_group(sheet: &[u8], address: u16) -> Part
 pub fn kelindap_trace_check(trace: &[u8]) -> u8
     ensures { result ≡ refusal_of trace.now }
 {
-    playback::check(trace)
+    match playback::check(trace) {
+        Ok(()) => 0,
+        Err(refusal) => refusal.number(),
+    }
 }
 
 // At most `limit` events of the trace, `from` having been played, in place: the sessions become what these make of them.
@@ -251,11 +249,12 @@ pub fn kelindap_play(
     ensures { Plays sessions.old sheet.old trace.now from limit log.old
         (gave_played result sessions.new) sheet.new log.new }
 {
-    let d = playback::play(*sessions, sheet, trace, from, limit, log);
-    *sessions = d.sessions;
-    Handled {
-        refusal: d.refusal,
-        handled: d.handled,
+    match playback::play(*sessions, sheet, trace, from, limit, log) {
+        Ok(played) => {
+            *sessions = played.sessions;
+            played.into()
+        }
+        Err(refusal) => refusal.into(),
     }
 }
 
@@ -275,13 +274,14 @@ pub fn kelindap_play_marked(
         before.old marks.old (gave_played result sessions.new) sheet.new log.new
         before.new marks.new }
 {
-    let d = playback::play_marked(
+    match playback::play_marked(
         *sessions, sheet, trace, from, limit, log, before, marks, played,
-    );
-    *sessions = d.sessions;
-    Handled {
-        refusal: d.refusal,
-        handled: d.handled,
+    ) {
+        Ok(played) => {
+            *sessions = played.sessions;
+            played.into()
+        }
+        Err(refusal) => refusal.into(),
     }
 }
 

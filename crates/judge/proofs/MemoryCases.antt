@@ -1,7 +1,8 @@
 -- What is decided about memory, case by case.
 use Rattle.octets.proofs.Kit.{ℕ, ◌/◌, ◌%◌, ◌≤◌, ◌≡◌, refl, ap, ◌↔◌, true, ◌&&◌, List, leb, le-leb, leb-true, eq-eqb, ne_eqb}
 use Rattle.octets.proofs.{Truths.{and_is, never}, Walks.{by_test, by_eq}}
-use Rattle.sheet.{specs.{Places.Ranged, Lookup.range_of, declared.{Memory.{Memory, TheVariants.Device}, Run.{Run, TheVariants.{At, Nowhere}}}}, proofs.rules.Good.Good}
+use Rattle.std.proofs.Common.{Option, Some, None}
+use Rattle.sheet.{specs.{Places.Ranged, Lookup.{At, range_of}, declared.{Memory.{Memory, TheVariants.Device}, Run.Run}}, proofs.rules.Good.Good}
 use Rattle.sheet.proofs.promises.Runs.{ranged}
 use Rattle.sheet.specs.Head as head
 use Rattle.judge.specs.{declared.{Access.{Access, TheVariants.{Read, Write, Change}}, Store.Store, Decision.Decision}, Decisions.{refused, denied, answered, written, stored}}
@@ -45,20 +46,20 @@ module _ (w : Access) (most : ℕ) (s : List ℕ) (m : Memory) (level n a : ℕ)
   pub allowed_in : run_allowed w most level n (range_of s m a n) ≡ true → Found
   allowed_in e = go (range_of s m a n) refl e
     where
-      go : (r : Run) → range_of s m a n ≡ r → run_allowed w most level n r ≡ true → Found
-      go Nowhere q e = never e
-      go (At o l) q e =
-          let h = (and_is (leb 1 n && leb n most) (may w level l)).0 e in
+      go : (r : Option Run) → range_of s m a n ≡ r → run_allowed w most level n r ≡ true → Found
+      go None q e = never e
+      go (Some r) q e =
+          let h = (and_is (leb 1 n && leb n most) (may w level r.levels)).0 e in
           let b = (and_is (leb 1 n) (leb n most)).0 h.0 in
           record {
-            at = o;
+            at = r.offset;
             permits =
                 record {
                   some = leb-true 1 n b.0;
                   few = leb-true n most b.1;
-                  levels = l;
+                  levels = r.levels;
                   run = q;
-                  suffices = (may_is w level l).0 h.1;
+                  suffices = (may_is w level r.levels).0 h.1;
                 };
             here = ap run_at q;
           }

@@ -1,12 +1,16 @@
 -- Group values.
-use Rattle.std.specs.Prelude.{ℕ, ◌/◌, ◌%◌, List, Bool, cond, ltb, eqb}
+use Rattle.std.specs.Prelude.{ℕ, ◌≡◌, ◌/◌, ◌%◌, ◌<◌, List, Bool, true, false, cond, ◌&&◌, ltb, eqb, Option, IfNone, IfSome}
 use Rattle.octets.specs.Bytes.{num_at}
 use Rattle.sheet.specs.Kind.{groups}
 use Rattle.sheet.specs.Layout.{◌of◌}
 use Rattle.sheet.specs.Group as group
 use Rattle.sheet.specs.Entries.{count, entry}
 use Rattle.sheet.specs.Lookup.{index_of}
+use Rattle.sheet.specs.Places.{IsGroup}
+use Rattle.sheet.specs.declared.GroupEntry.{GroupEntry}
 use Rattle.pdu.specs.declared.Pdu.TheVariants.{GroupValueResponse}
+use Rattle.judge.specs.declared.groups.Flag.{Flag}
+use Rattle.judge.specs.declared.groups.Flag.TheVariants as flag
 use Rattle.judge.specs.declared.Store.TheVariants as store
 use Rattle.judge.specs.declared.Answer.TheVariants as answer
 use Rattle.judge.specs.declared.Decision.{Decision}
@@ -21,6 +25,11 @@ write = 2
 
 abbrev pub response : ℕ
 response = 4
+
+abbrev pub flag_of : Flag → ℕ
+flag_of flag.Read = read
+flag_of flag.Write = write
+flag_of flag.Response = response
 
 -- flag w is among f
 abbrev pub has_flag : ℕ → ℕ → Bool
@@ -40,6 +49,17 @@ put_value c o v d =
 -- the flags of group object i
 unfoldable pub flags_at : List ℕ → ℕ → ℕ
 flags_at s i = group.flags of entry s groups i
+
+-- the group object with an address, its entry found, has flag w
+pub record FlaggedAt (w : ℕ) (s : List ℕ) (address : ℕ) (e : GroupEntry) : Type 0 where
+  pub there : index_of s groups address < count s groups
+  pub is : IsGroup s (index_of s groups address) e
+  pub has : has_flag w e.flags ≡ true
+
+-- r is that entry, or there is none with the address, or none that has the flag
+pub record Flagged (w : ℕ) (s : List ℕ) (address : ℕ) (r : Option GroupEntry) : Type 0 where
+  pub none : IfNone r ((ltb (index_of s groups address) (count s groups) && has_flag w (flags_at s (index_of s groups address))) ≡ false)
+  pub some : IfSome r (FlaggedAt w s address)
 
 unfoldable pub group_read_of : List ℕ → ℕ → Decision
 group_read_of s address =

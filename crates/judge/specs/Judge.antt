@@ -1,15 +1,14 @@
 -- WHAT IS DECIDED ABOUT A REQUEST, in the order of the outcomes.
 use Rattle.std.specs.Prelude.{ℕ, List, [], Bool, cond, ◌&&◌, not, length, ltb, eqb}
+use Rattle.std.specs.Prelude.{Option, Some, None, Result, Ok, Err}
+use Rattle.pdu.specs.declared.Service.{Service}
+use Rattle.pdu.specs.declared.ReadRefusal.{ReadRefusal}
 use Rattle.sheet.specs.Head.{rules_of}
 use Rattle.sheet.specs.declared.Memory.TheVariants.{Device, User}
 use Rattle.sheet.specs.Rules.{refusal_of}
 use Rattle.pdu.specs.Rules.{code_of}
 use Rattle.pdu.specs.Table.{service_at}
-use Rattle.pdu.specs.Read.{read_pdu, data_of}
-use Rattle.pdu.specs.declared.Found.{Found}
-use Rattle.pdu.specs.declared.Found.TheVariants.{Listed, Unknown}
-use Rattle.pdu.specs.declared.Parsed.{Parsed}
-use Rattle.pdu.specs.declared.Parsed.TheVariants as parsed
+use Rattle.pdu.specs.Read.{read_number, read_pdu, data_of}
 use Rattle.pdu.specs.declared.Pdu.{Pdu}
 use Rattle.pdu.specs.declared.Pdu.TheVariants.{GroupValueRead, GroupValueResponse, GroupValueWrite, IndividualAddressWrite, IndividualAddressRead, SerialNumberRead, SerialNumberWrite}
 use Rattle.pdu.specs.declared.Pdu.TheVariants.{DeviceDescriptorRead, PropertyValueRead, PropertyValueWrite, PropertyDescriptionRead, MemoryRead, MemoryWrite, MemoryBitWrite}
@@ -28,9 +27,9 @@ use Rattle.judge.specs.Memory.{memory_read_of, memory_write_of, bit_write_of}
 use Rattle.judge.specs.Keys.{authorize_of, key_write_of, restart_of}
 
 -- the data of a request that reads, and none of any other
-abbrev pub data_in : Parsed → List ℕ → List ℕ
-data_in (parsed.Is p) a = data_of p a
-data_in (parsed.Refused n) a = []
+abbrev pub data_in : Result Pdu ReadRefusal → List ℕ → List ℕ
+data_in (Ok p) a = data_of p a
+data_in (Err e) a = []
 
 -- a request of its service, with data d, at a level
 abbrev pub decide_of : List ℕ → ℕ → ℕ → List ℕ → Pdu → Decision
@@ -64,9 +63,9 @@ decide_of s level group d (UserMemoryResponse n address) = refused 8
 decide_of s level group d (UserMemoryWrite n address) = memory_write_of s User level n address
 
 -- what reads is decided; what doesn't is refused by the reader's number
-abbrev pub read_of : List ℕ → ℕ → ℕ → List ℕ → Parsed → Decision
-read_of s level group a (parsed.Is p) = decide_of s level group (data_of p a) p
-read_of s level group a (parsed.Refused n) = refused n
+abbrev pub read_of : List ℕ → ℕ → ℕ → List ℕ → Result Pdu ReadRefusal → Decision
+read_of s level group a (Ok p) = decide_of s level group (data_of p a) p
+read_of s level group a (Err e) = refused (read_number e)
 
 -- 8, then 9, then the reading
 unfoldable pub reached_of : List ℕ → Session → ℕ → ℕ → List ℕ → Reach → Decision
@@ -74,9 +73,9 @@ reached_of s q mode group a r =
     cond (not (reaches r)) (refused 8)
     (cond (not (takes r mode)) (refused 9) (read_of s (level_in q mode) group a (read_pdu a)))
 
-abbrev pub found_of : List ℕ → Session → ℕ → ℕ → List ℕ → Found → Decision
-found_of s q mode group a Unknown = refused 8
-found_of s q mode group a (Listed k) = reached_of s q mode group a (reach_of (rules_of s) k)
+abbrev pub found_of : List ℕ → Session → ℕ → ℕ → List ℕ → Option Service → Decision
+found_of s q mode group a None = refused 8
+found_of s q mode group a (Some k) = reached_of s q mode group a (reach_of (rules_of s) k)
 
 -- connected mode with no connection
 unfoldable pub is_shut : Session → ℕ → Bool

@@ -1,4 +1,5 @@
 pub mod Session
+pub mod Refusal
 pub mod Modes
 pub mod Decisions
 pub mod Groups

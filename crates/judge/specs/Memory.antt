@@ -1,11 +1,10 @@
 -- Memory: read, write and bit write.
-use Rattle.std.specs.Prelude.{ℕ, ◌/◌, ◌%◌, List, Bool, false, cond, ◌&&◌, leb, eqb}
+use Rattle.std.specs.Prelude.{ℕ, ◌≡◌, ◌/◌, ◌%◌, List, Bool, true, false, cond, ◌&&◌, leb, eqb, Option, Some, None, IfNone, IfSome}
 use Rattle.sheet.specs.Head as head
 use Rattle.sheet.specs.Lookup.{range_of}
 use Rattle.sheet.specs.declared.Memory.{Memory}
 use Rattle.sheet.specs.declared.Memory.TheVariants.{Device, User}
 use Rattle.sheet.specs.declared.Run.{Run}
-use Rattle.sheet.specs.declared.Run.TheVariants.{At, Nowhere}
 use Rattle.pdu.specs.declared.Pdu.{Pdu}
 use Rattle.pdu.specs.declared.Pdu.TheVariants.{MemoryResponse, UserMemoryResponse}
 use Rattle.judge.specs.declared.Access.{Access}
@@ -46,14 +45,19 @@ abbrev pub verifies : List ℕ → Bool
 verifies s = eqb (head.verify s) 1
 
 -- n is 1 to m, the range is a run, and the level suffices for it
-abbrev pub run_allowed : Access → ℕ → ℕ → ℕ → Run → Bool
-run_allowed w m level n Nowhere = false
-run_allowed w m level n (At offset levels) = leb 1 n && leb n m && may w level levels
+abbrev pub run_allowed : Access → ℕ → ℕ → ℕ → Option Run → Bool
+run_allowed w m level n None = false
+run_allowed w m level n (Some r) = leb 1 n && leb n m && may w level r.levels
 
 -- where a run starts
-abbrev pub run_at : Run → ℕ
-run_at Nowhere = 0
-run_at (At offset levels) = offset
+abbrev pub run_at : Option Run → ℕ
+run_at None = 0
+run_at (Some r) = r.offset
+
+-- where it starts, if the access is allowed, and nothing if it isn't
+pub record Placed (w : Access) (m level n : ℕ) (run : Option Run) (r : Option ℕ) : Type 0 where
+  pub none : IfNone r (run_allowed w m level n run ≡ false)
+  pub some : IfSome r (λ at. (run_allowed w m level n run ≡ true) × (at ≡ run_at run))
 
 unfoldable pub memory_read_of : List ℕ → Memory → ℕ → ℕ → ℕ → Decision
 memory_read_of s m level n a =

@@ -1,93 +1,100 @@
 // The individual address, by programming mode and by serial number, and the descriptor.
-ghost use Rattle.std.specs.Prelude.{◌≡◌};
-ghost use Rattle.sheet.specs.Rules.{Accepted};
+ghost use Rattle.std.specs.Prelude.{◌≡◌, cond};
+ghost use Rattle.judge.specs.declared.Answer.TheVariants as answer;
 ghost use Rattle.judge.specs.Decisions as made;
 ghost use Rattle.judge.specs.Addresses.{in_programming, new_address, address_write_of, address_read_of, serial_read_of, serial_write_of, descriptor_of};
 
 use crate::decisions::{answered, denied, refused, stored};
-use crate::{Answer, Decision, Store};
+use crate::{Answer, Decision, Refusal, Store};
 use pdu::Pdu;
-use sheet::LATER;
+use sheet::{LATER, Sheet};
 
 // Programming mode is on.
-fn in_programming(s: &[u8]) -> bool
-    requires { Accepted s.now }
-    ensures { result ≡ in_programming s.now }
+fn in_programming(s: Sheet<'_>) -> bool
+    ensures { result ≡ in_programming s.entry.bytes.now }
 {
-    sheet::flags(s) % 2 == 1
+    s.flags() % 2 == 1
 }
 
-// A store of the individual address.
-fn new_address(address: u16) -> Decision
-    ensures { result ≡ made.stored (new_address address) }
+// The address set, where it is this device that is meant.
+fn address_set(meant: bool, address: u16) -> Decision
+    ensures { result ≡ cond meant (made.stored (new_address address)) (made.refused 2) }
 {
-    stored(Store::Number {
-        at: sheet::address_at(),
-        width: 2,
-        x: address as u64,
-    })
-}
-
-// The address set, and the device answering, in programming mode only.
-pub fn address_write(s: &[u8], address: u16) -> Decision
-    requires { Accepted s.now }
-    ensures { result ≡ address_write_of s.now address }
-{
-    if in_programming(s) {
-        return new_address(address);
+    if meant {
+        stored(Store::Number {
+            at: sheet::address_at(),
+            width: 2,
+            x: address as u64,
+        })
+    } else {
+        refused(Refusal::NotForUs)
     }
-    refused(2)
 }
 
-pub fn address_read(s: &[u8]) -> Decision
-    requires { Accepted s.now }
-    ensures { result ≡ address_read_of s.now }
+// The device answering, where it is this one that is meant.
+fn device_told(meant: bool, p: Pdu) -> Decision
+    ensures { result ≡ cond meant (made.answered (answer.Plain p)) (made.refused 2) }
 {
-    if in_programming(s) {
-        return answered(Answer::Plain(Pdu::IndividualAddressResponse));
+    if meant {
+        answered(Answer::Plain(p))
+    } else {
+        refused(Refusal::NotForUs)
     }
-    refused(2)
 }
 
-// The device answering by serial number: the domain address that we send is 0.
+// By programming mode.
+#[tactic(auto, unfolding(crate::specs::Addresses::address_write_of))]
+pub fn address_write(s: Sheet<'_>, address: u16) -> Decision
+    ensures { result ≡ address_write_of s.entry.bytes.now address }
+{
+    address_set(in_programming(s), address)
+}
+
+#[tactic(auto, unfolding(crate::specs::Addresses::address_read_of))]
+pub fn address_read(s: Sheet<'_>) -> Decision
+    ensures { result ≡ address_read_of s.entry.bytes.now }
+{
+    device_told(in_programming(s), Pdu::IndividualAddressResponse)
+}
+
+// By serial number: the domain address that we send is 0.
+#[tactic(auto, unfolding(crate::specs::Addresses::serial_read_of))]
 pub fn serial_read(s: &[u8], asked: u64) -> Decision
     ensures { result ≡ serial_read_of s.now asked }
 {
-    if asked == sheet::serial(s) {
-        return answered(Answer::Plain(Pdu::SerialNumberResponse {
+    device_told(
+        asked == sheet::serial(s),
+        Pdu::SerialNumberResponse {
             serial: asked,
             domain: 0,
-        }));
-    }
-    refused(2)
+        },
+    )
 }
 
-// The address set by serial number.
+#[tactic(auto, unfolding(crate::specs::Addresses::serial_write_of))]
 pub fn serial_write(s: &[u8], asked: u64, address: u16) -> Decision
     ensures { result ≡ serial_write_of s.now asked address }
 {
-    if asked == sheet::serial(s) {
-        return new_address(address);
-    }
-    refused(2)
+    address_set(asked == sheet::serial(s), address)
 }
 
 // What is answered for a type that the device has not.
 const NO_TYPE: u8 = 63;
 
 // The mask version is type 0; any other is denied under the later rules, and not for us under those before.
+#[tactic(auto, unfolding(crate::specs::Addresses::descriptor_of))]
 pub fn descriptor(s: &[u8], t: u8) -> Decision
     ensures { result ≡ descriptor_of s.now t }
 {
     if t == 0 {
-        return answered(Answer::Number {
+        answered(Answer::Number {
             pdu: Pdu::DeviceDescriptorResponse { t: 0 },
             width: 2,
             x: sheet::mask(s) as u64,
-        });
+        })
+    } else if sheet::rules_of(s) == LATER {
+        denied(Pdu::DeviceDescriptorResponse { t: NO_TYPE })
+    } else {
+        refused(Refusal::NotForUs)
     }
-    if sheet::rules_of(s) == LATER {
-        return denied(Pdu::DeviceDescriptorResponse { t: NO_TYPE });
-    }
-    refused(2)
 }

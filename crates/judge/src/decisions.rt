@@ -1,21 +1,39 @@
 // The kinds of decision.
 ghost use Rattle.std.specs.Prelude.{◌≡◌};
+ghost use Rattle.judge.specs.Refusal.{number_of};
 ghost use Rattle.judge.specs.Decisions as made;
 
-use crate::{Answer, Decision, Store, Turn};
+use crate::{Answer, Decision, Refusal, Store, Turn};
 use pdu::Pdu;
 
+// The outcomes of what is carried out: an answer is due, or none is.
+const ANSWERED: u8 = 0;
+
+pub const DONE: u8 = 1;
+
+// Nothing happens.
+const NOTHING: Decision = Decision {
+    outcome: ANSWERED,
+    first: Store::Nothing,
+    second: Store::Nothing,
+    turn: Turn::Stays,
+    answer: Answer::Silence,
+};
+
 // 2 to 10, and 12: nothing happens.
-pub fn refused(n: u8) -> Decision
+pub fn refused_by(n: u8) -> Decision
     ensures { result ≡ made.refused n }
 {
     Decision {
         outcome: n,
-        first: Store::Nothing,
-        second: Store::Nothing,
-        turn: Turn::Stays,
-        answer: Answer::Silence,
+        ..NOTHING
     }
+}
+
+pub fn refused(r: Refusal) -> Decision
+    ensures { result ≡ made.refused (number_of r) }
+{
+    refused_by(r.number())
 }
 
 // 11: nothing happens but the negative answer.
@@ -23,11 +41,9 @@ pub fn denied(p: Pdu) -> Decision
     ensures { result ≡ made.denied p }
 {
     Decision {
-        outcome: 11,
-        first: Store::Nothing,
-        second: Store::Nothing,
-        turn: Turn::Stays,
+        outcome: Refusal::Denied.number(),
         answer: Answer::Plain(p),
+        ..NOTHING
     }
 }
 
@@ -36,11 +52,8 @@ pub fn answered(a: Answer) -> Decision
     ensures { result ≡ made.answered a }
 {
     Decision {
-        outcome: 0,
-        first: Store::Nothing,
-        second: Store::Nothing,
-        turn: Turn::Stays,
         answer: a,
+        ..NOTHING
     }
 }
 
@@ -49,11 +62,21 @@ pub fn written(first: Store, second: Store, a: Answer) -> Decision
     ensures { result ≡ made.written first second a }
 {
     Decision {
-        outcome: 0,
         first,
         second,
-        turn: Turn::Stays,
         answer: a,
+        ..NOTHING
+    }
+}
+
+// 0: the session's level turns to another, and something is answered.
+pub fn levelled(level: u8, a: Answer) -> Decision
+    ensures { result ≡ made.decision 0 Store.Nothing Store.Nothing (Turn.Level level) a }
+{
+    Decision {
+        turn: Turn::Level(level),
+        answer: a,
+        ..NOTHING
     }
 }
 
@@ -62,10 +85,8 @@ pub fn stored(run: Store) -> Decision
     ensures { result ≡ made.stored run }
 {
     Decision {
-        outcome: 1,
+        outcome: DONE,
         first: run,
-        second: Store::Nothing,
-        turn: Turn::Stays,
-        answer: Answer::Silence,
+        ..NOTHING
     }
 }

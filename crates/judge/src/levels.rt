@@ -5,32 +5,32 @@ ghost use Rattle.judge.specs.Memory.{may_read, may_write, may as mayOf};
 
 use crate::{Access, Session};
 
-pub const MULTICAST: u8 = 0;
-
-pub const BROADCAST: u8 = 1;
-
-pub const CONNECTIONLESS: u8 = 2;
-
-pub const CONNECTED: u8 = 3;
+// The modes by their numbers. What a request is given as its mode is any byte: C hands it in, and one above 3 is refused by 6.
+#[derive(Clone, Copy)]
+pub enum Mode {
+    Multicast = 0,
+    Broadcast = 1,
+    Connectionless = 2,
+    Connected = 3,
+}
 
 // The level with the fewest rights.
 pub const WEAKEST: u8 = 3;
 
 // A level above 3 is read as 3.
+#[tactic(auto, unfolding(crate::specs::Session::level_of))]
 pub fn level_of(q: Session) -> u8
     ensures { result ≡ level_of q }
 {
-    if WEAKEST < q.level {
-        return WEAKEST;
-    }
-    q.level
+    q.level.min(WEAKEST)
 }
 
 // A connected request acts at the session's level, any other at 3.
+#[tactic(auto, unfolding(crate::specs::Session::level_in))]
 pub fn level_in(q: Session, mode: u8) -> u8
     ensures { result ≡ level_in q mode }
 {
-    if mode != CONNECTED {
+    if mode != Mode::Connected as u8 {
         return WEAKEST;
     }
     level_of(q)
@@ -49,23 +49,13 @@ pub fn may_write(level: u8, levels: u8) -> bool
     level <= levels % 16
 }
 
-// A bit write needs both.
-fn may_change(level: u8, levels: u8) -> bool
-    ensures { result ≡ mayOf Access.Change level levels }
-{
-    if may_read(level, levels) {
-        return may_write(level, levels);
-    }
-    false
-}
-
-// An access is within the rights.
+// An access is within the rights: a bit write needs both.
 pub fn may(w: Access, level: u8, levels: u8) -> bool
     ensures { result ≡ mayOf w level levels }
 {
     match w {
         Access::Read => may_read(level, levels),
         Access::Write => may_write(level, levels),
-        Access::Change => may_change(level, levels),
+        Access::Change => may_read(level, levels) && may_write(level, levels),
     }
 }

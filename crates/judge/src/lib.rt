@@ -5,7 +5,6 @@ mod addresses;
 mod decisions;
 mod groups;
 mod keys;
-mod kinds;
 mod levels;
 mod memory;
 mod modes;
@@ -16,13 +15,17 @@ ghost use Rattle.std.specs.Prelude.{◌≡◌, ℕ, true, List};
 ghost use Rattle.sheet.specs.Rules.{Accepted};
 ghost use Rattle.pdu.specs.Read.{read_pdu};
 ghost use Rattle.judge.specs.Judge.{data_in, is_shut, reached_of, found_of};
+ghost use Rattle.judge.specs.Refusal.{told};
 ghost use Rattle.judge.specs.Unread.{Unread};
 
-use decisions::refused;
-use levels::{CONNECTED, level_in};
+pub use decisions::DONE;
+use decisions::{refused, refused_by};
+pub use levels::Mode;
+use levels::{WEAKEST, level_in};
 use modes::{reach, reaches, takes};
-use pdu::{Found, Parsed, Pdu};
+use pdu::{Pdu, ReadRefusal, Service};
 use services::decide;
+use sheet::Sheet;
 
 // A connection: open or closed, and the level as found.
 #[repr(C)]
@@ -32,6 +35,20 @@ pub struct Session {
     pub level: u8,
 }
 
+impl Session {
+    ghost use Rattle.judge.specs.Session.{weakest};
+
+    // One that was opened or closed anew, at the level with the fewest rights.
+    pub fn anew(opened: bool) -> Self
+        ensures { result ≡ record { opened = opened; level = weakest } }
+    {
+        Session {
+            opened,
+            level: WEAKEST,
+        }
+    }
+}
+
 // A request as it came and was read: the session that it meets, its mode and group address; what its code names, and what
 // it reads as.
 #[derive(Clone, Copy)]
@@ -39,8 +56,8 @@ pub struct Request {
     pub session: Session,
     pub mode: u8,
     pub group: u16,
-    pub found: Found,
-    pub parsed: Parsed,
+    pub found: Option<Service>,
+    pub parsed: Result<Pdu, ReadRefusal>,
 }
 
 // Who can reach a service.
@@ -97,7 +114,53 @@ pub enum Answer {
     Echo(Pdu),
 }
 
-// What is decided about a request.
+// What a request is refused by.
+#[derive(Clone, Copy, PartialEq, Eq)]
+pub enum Refusal {
+    NotForUs = 2,
+    // the answer buffer has fewer than 16 bytes
+    Room = 3,
+    // the sheet breaks a rule
+    Bad = 4,
+    Length = 5,
+    Mode = 6,
+    Unconnected = 7,
+    Service = 8,
+    OtherMode = 9,
+    Fields = 10,
+    // the negative answer is due
+    Denied = 11,
+    // none is due
+    Silent = 12,
+    Old = 14,
+}
+
+impl Refusal {
+    ghost use Rattle.judge.specs.Refusal.{number_of};
+
+    pub fn number(self) -> u8
+        ensures { result ≡ number_of self }
+    {
+        self as u8
+    }
+}
+
+impl From<sheet::Refused> for Refusal {
+    ghost use Rattle.judge.specs.Refusal.{number_of};
+    ghost use Rattle.sheet.specs.Refused.{number_of as sheet_number};
+
+    ghost from_gives = { λ e r. number_of r ≡ sheet_number e };
+
+    fn from(e: sheet::Refused) -> Refusal {
+        match e {
+            sheet::Refused::Bad => Refusal::Bad,
+            sheet::Refused::Old => Refusal::Old,
+        }
+    }
+}
+
+// What is decided about a request. Its outcome stays a number, 0 and 1 beside those of the refusals: the definition `judge_by` and the
+// theorems over histories go by it, and the reader's comes as one.
 #[derive(Clone, Copy)]
 pub struct Decision {
     pub outcome: u8,
@@ -108,58 +171,55 @@ pub struct Decision {
 }
 
 // The data of a request that reads, and none of any other.
-pub fn data_in(got: Parsed, apdu: &[u8]) -> &[u8]
+pub fn data_in(got: Result<Pdu, ReadRefusal>, apdu: &[u8]) -> &[u8]
     ensures { result.now ≡ data_in got apdu.now }
 {
-    let Parsed::Is(p) = got else {
+    let Ok(p) = got else {
         return &apdu[0..0];
     };
     pdu::data_of(p, apdu)
 }
 
 // Connected mode with no connection.
+#[tactic(auto, unfolding(crate::specs::Judge::is_shut))]
 fn is_shut(q: Session, mode: u8) -> bool
     ensures { result ≡ is_shut q mode }
 {
-    if mode != CONNECTED {
-        return false;
-    }
-    !q.opened
+    mode == Mode::Connected as u8 && !q.opened
 }
 
 // 8, then 9, then the reading: what a request of a service with that reach and with data d gets.
-fn reached(s: &[u8], x: Request, d: &[u8], r: Reach) -> Decision
-    requires { Accepted s.now }
-    ensures { (a : List ℕ) → x.parsed ≡ read_pdu a → d.now ≡ data_in x.parsed a → result ≡ reached_of s.now x.session x.mode x.group a r }
+fn reached(s: Sheet<'_>, x: Request, d: &[u8], r: Reach) -> Decision
+    ensures { (a : List ℕ) → x.parsed ≡ read_pdu a → d.now ≡ data_in x.parsed a → result ≡ reached_of s.entry.bytes.now x.session x.mode x.group a r }
 {
     if !reaches(r) {
-        return refused(8);
+        return refused(Refusal::Service);
     }
     if !takes(r, x.mode) {
-        return refused(9);
+        return refused(Refusal::OtherMode);
     }
     let parsed = x.parsed;
-    let Parsed::Is(p) = parsed else {
-        return refused(pdu::outcome(parsed));
+    let Ok(p) = parsed else {
+        return refused_by(pdu::outcome(parsed));
     };
     let session = x.session;
     decide(s, level_in(session, x.mode), x.group, d, p)
 }
 
 // What is decided about a request that nothing refused unread, with data d, by what its code names.
-pub fn found(s: &[u8], x: Request, d: &[u8]) -> Decision
-    requires { Accepted s.now }
-    ensures { (a : List ℕ) → x.parsed ≡ read_pdu a → d.now ≡ data_in x.parsed a → result ≡ found_of s.now x.session x.mode x.group a x.found }
+pub fn found(s: Sheet<'_>, x: Request, d: &[u8]) -> Decision
+    ensures { (a : List ℕ) → x.parsed ≡ read_pdu a → d.now ≡ data_in x.parsed a → result ≡ found_of s.entry.bytes.now x.session x.mode x.group a x.found }
 {
     let f = x.found;
     match f {
-        Found::Listed(k) => reached(s, x, d, reach(sheet::rules_of(s), k)),
-        Found::Unknown => refused(8),
+        Some(k) => reached(s, x, d, reach(sheet::rules_of(s.bytes), k)),
+        None => refused(Refusal::Service),
     }
 }
 
-// What refuses a request before it is read, or 0: 3 for an answer buffer that is too short, then what the sheet is refused by, then
-// 5, 6 and 7; room is the length of the buffer. A sheet that is known to be accepted is not judged again.
+// What refuses a request before it is read: 3 for an answer buffer that is too short, then what the sheet is refused by, then
+// 5, 6 and 7; room is the length of the buffer. A sheet that is known to be accepted is not judged again: `known` is a flag, since
+// device::request_known has it as one, and a trace's player learns it as it runs.
 pub fn refused_unread(
     room: usize,
     known: bool,
@@ -167,28 +227,22 @@ pub fn refused_unread(
     session: Session,
     mode: u8,
     apdu: &[u8],
-) -> u8
+) -> Result<(), Refusal>
     requires { known ≡ true → Accepted s.now }
-    ensures { Unread room s.now session mode apdu.now result }
+    ensures { Unread room s.now session mode apdu.now (told result) }
 {
     if room < 16 {
-        return 3;
+        return Err(Refusal::Room);
     }
-    let n = sheet::refusal_unless(known, s);
-    if n != 0 {
-        return n;
+    sheet::refusal_unless(known, s)?;
+    if apdu.len() < 2 || 16 < apdu.len() {
+        return Err(Refusal::Length);
     }
-    if apdu.len() < 2 {
-        return 5;
-    }
-    if 16 < apdu.len() {
-        return 5;
-    }
-    if CONNECTED < mode {
-        return 6;
+    if mode > Mode::Connected as u8 {
+        return Err(Refusal::Mode);
     }
     if is_shut(session, mode) {
-        return 7;
+        return Err(Refusal::Unconnected);
     }
-    0
+    Ok(())
 }

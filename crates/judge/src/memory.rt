@@ -1,13 +1,12 @@
 // Memory: read, write and bit write.
-ghost use Rattle.std.specs.Prelude.{◌≡◌, ◌&&◌, leb};
-ghost use Rattle.sheet.specs.Rules.{Accepted};
-ghost use Rattle.judge.specs.Memory.{most_bytes, response_of, run_allowed, run_at, change_of, verifies as verifiesOf, memory_read_of, memory_write_of, bit_write_of};
+ghost use Rattle.std.specs.Prelude.{◌≡◌};
+ghost use Rattle.judge.specs.Memory.{verifies as verifiesOf, memory_read_of, memory_write_of, bit_write_of};
 
 use crate::decisions::{answered, denied, refused, stored, written};
 use crate::levels::may;
-use crate::{Access, Answer, Decision, Store};
+use crate::{Access, Answer, Decision, Refusal, Store};
 use pdu::Pdu;
-use sheet::{Memory, Run};
+use sheet::{Memory, Sheet};
 
 // How many bytes a read or write of the device's memory and of the user memory, and a bit write, may name.
 const MOST_BYTES: u8 = 12;
@@ -16,147 +15,132 @@ const MOST_USER_BYTES: u8 = 11;
 
 const MOST_BITS: u8 = 5;
 
-// How many a read or write of a memory may name.
-fn most_of(m: Memory) -> u8
-    ensures { result ≡ most_bytes m }
-{
-    match m {
-        Memory::Device => MOST_BYTES,
-        Memory::User => MOST_USER_BYTES,
-    }
+// A request for n bytes of a memory from an address on, at a level.
+#[derive(Clone, Copy)]
+pub struct MemoryRequest {
+    pub memory: Memory,
+    pub level: u8,
+    pub n: u8,
+    pub address: u16,
 }
 
-// What a memory answers with.
-fn response(m: Memory, n: u8, address: u16) -> Pdu
-    ensures { result ≡ response_of m n address }
-{
-    match m {
-        Memory::Device => Pdu::MemoryResponse { n, address },
-        Memory::User => Pdu::UserMemoryResponse { n, address },
-    }
-}
+impl MemoryRequest {
+    ghost use Rattle.std.specs.Prelude.{ℕ, true, false};
+    ghost use Rattle.sheet.specs.Lookup.{range_of};
+    ghost use Rattle.judge.specs.declared.Store.{Store};
+    ghost use Rattle.judge.specs.Memory.{most_bytes, response_of, Placed, change_of};
 
-// n is 1 to m, and the right is there.
-fn permits(n: u8, m: u8, right: bool) -> bool
-    ensures { result ≡ (leb 1 n && leb n m && right) }
-{
-    if n < 1 {
-        return false;
-    }
-    if m < n {
-        return false;
-    }
-    right
-}
-
-// An access to n bytes, at most m, is permitted.
-fn allowed(w: Access, m: u8, level: u8, n: u8, run: Run) -> bool
-    ensures { result ≡ run_allowed w m level n run }
-{
-    match run {
-        Run::At { offset: _, levels } => permits(n, m, may(w, level, levels)),
-        Run::Nowhere => false,
-    }
-}
-
-// Where a run starts.
-fn run_at(run: Run) -> usize
-    ensures { result ≡ run_at run }
-{
-    match run {
-        Run::At { offset, levels: _ } => offset,
-        Run::Nowhere => 0,
-    }
-}
-
-// A store of n bytes: answered with the new bytes if verify is on.
-fn change(
-    m: Memory,
-    allowed: bool,
-    verify: bool,
-    new: Store,
-    at: usize,
-    n: u8,
-    address: u16,
-) -> Decision
-    ensures { result ≡ change_of m allowed verify new at n address }
-{
-    if allowed {
-        if verify {
-            return written(
-                new,
-                Store::Nothing,
-                Answer::Sheet {
-                    pdu: response(m, n, address),
-                    at,
-                    n: n as usize,
-                },
-            );
+    // How many bytes a read or write may name.
+    fn most(self) -> u8
+        ensures { result ≡ most_bytes self.memory }
+    {
+        match self.memory {
+            Memory::Device => MOST_BYTES,
+            Memory::User => MOST_USER_BYTES,
         }
-        return stored(new);
     }
-    if verify {
-        return denied(response(m, 0, address));
+
+    // What the memory answers with, of so many bytes.
+    fn response(self, n: u8) -> Pdu
+        ensures { result ≡ response_of self.memory n self.address }
+    {
+        let address = self.address;
+        match self.memory {
+            Memory::Device => Pdu::MemoryResponse { n, address },
+            Memory::User => Pdu::UserMemoryResponse { n, address },
+        }
     }
-    refused(12)
+
+    // The bytes at a place of the sheet as the answer.
+    fn shown(self, at: usize) -> Answer
+        ensures { result ≡ Answer.Sheet (response_of self.memory self.n self.address) at self.n }
+    {
+        Answer::Sheet {
+            pdu: self.response(self.n),
+            at,
+            n: self.n as usize,
+        }
+    }
+
+    // Where the bytes start in the sheet, if it has them all, they are no more than `most`, and the level suffices for the access.
+    fn place(self, s: Sheet<'_>, w: Access, most: u8) -> Option<usize>
+        ensures { Placed w most self.level self.n (range_of s.entry.bytes.now self.memory self.address self.n) result }
+    {
+        let run = s.range(self.memory, self.address as usize, self.n as usize)?;
+        if (1..=most).contains(&self.n) && may(w, self.level, run.levels) {
+            Some(run.offset)
+        } else {
+            None
+        }
+    }
+
+    // What a write does that is not permitted: it is denied, with an answer if verify is on.
+    #[tactic(auto, unfolding(crate::specs::Memory::change_of))]
+    fn unwritten(self, verify: bool) -> Decision
+        ensures { (new : Store) (o : ℕ) → result ≡ change_of self.memory false verify new o self.n self.address }
+    {
+        if verify {
+            denied(self.response(0))
+        } else {
+            refused(Refusal::Silent)
+        }
+    }
+
+    // What one does that is: it stores, and the new bytes are answered if verify is on.
+    #[tactic(auto, unfolding(crate::specs::Memory::change_of))]
+    fn changed(self, verify: bool, new: Store, at: usize) -> Decision
+        ensures { result ≡ change_of self.memory true verify new at self.n self.address }
+    {
+        if verify {
+            written(new, Store::Nothing, self.shown(at))
+        } else {
+            stored(new)
+        }
+    }
 }
 
 // Memory writes are answered.
-fn verifies(s: &[u8]) -> bool
-    requires { Accepted s.now }
-    ensures { result ≡ verifiesOf s.now }
+fn verifies(s: Sheet<'_>) -> bool
+    ensures { result ≡ verifiesOf s.entry.bytes.now }
 {
-    sheet::flags(s) / 2 % 2 == 1
+    s.flags() / 2 % 2 == 1
 }
 
-// A read of n bytes from an address on.
-pub fn memory_read(s: &[u8], m: Memory, level: u8, n: u8, address: u16) -> Decision
-    requires { Accepted s.now }
-    ensures { result ≡ memory_read_of s.now m level n address }
+// A read.
+pub fn memory_read(s: Sheet<'_>, q: MemoryRequest) -> Decision
+    ensures { result ≡ memory_read_of s.entry.bytes.now q.memory q.level q.n q.address }
 {
-    let run = sheet::range(s, m, address as usize, n as usize);
-    if allowed(Access::Read, most_of(m), level, n, run) {
-        return answered(Answer::Sheet {
-            pdu: response(m, n, address),
-            at: run_at(run),
-            n: n as usize,
-        });
-    }
-    denied(response(m, 0, address))
+    let Some(at) = q.place(s, Access::Read, q.most()) else {
+        return denied(q.response(0));
+    };
+    answered(q.shown(at))
 }
 
-// A write of the request's n bytes from an address on.
-pub fn memory_write(s: &[u8], m: Memory, level: u8, n: u8, address: u16) -> Decision
-    requires { Accepted s.now }
-    ensures { result ≡ memory_write_of s.now m level n address }
+// A write of the request's bytes.
+pub fn memory_write(s: Sheet<'_>, q: MemoryRequest) -> Decision
+    ensures { result ≡ memory_write_of s.entry.bytes.now q.memory q.level q.n q.address }
 {
-    let run = sheet::range(s, m, address as usize, n as usize);
-    let at = run_at(run);
-    change(
-        m,
-        allowed(Access::Write, most_of(m), level, n, run),
-        verifies(s),
-        Store::Data { zeros: 0, at },
-        at,
+    let verify = verifies(s);
+    let Some(at) = q.place(s, Access::Write, q.most()) else {
+        return q.unwritten(verify);
+    };
+    q.changed(verify, Store::Data { zeros: 0, at }, at)
+}
+
+// A bit write: of the device's memory alone. Access, limit and store differ from a write's, so one function of both would be handed
+// all three, and is no plainer.
+pub fn bit_write(s: Sheet<'_>, level: u8, n: u8, address: u16) -> Decision
+    ensures { result ≡ bit_write_of s.entry.bytes.now level n address }
+{
+    let q = MemoryRequest {
+        memory: Memory::Device,
+        level,
         n,
         address,
-    )
-}
-
-// A bit write of n bytes of the device's memory from an address on.
-pub fn bit_write(s: &[u8], level: u8, n: u8, address: u16) -> Decision
-    requires { Accepted s.now }
-    ensures { result ≡ bit_write_of s.now level n address }
-{
-    let run = sheet::range(s, Memory::Device, address as usize, n as usize);
-    let at = run_at(run);
-    change(
-        Memory::Device,
-        allowed(Access::Change, MOST_BITS, level, n, run),
-        verifies(s),
-        Store::Bits { at, n: n as usize },
-        at,
-        n,
-        address,
-    )
+    };
+    let verify = verifies(s);
+    let Some(at) = q.place(s, Access::Change, MOST_BITS) else {
+        return q.unwritten(verify);
+    };
+    q.changed(verify, Store::Bits { at, n: n as usize }, at)
 }

@@ -3,7 +3,7 @@ ghost use Rattle.std.specs.Prelude.{◌≡◌};
 ghost use Rattle.judge.specs.Modes.{reach_of, takes as takesOf, reaches as reachesOf};
 
 use crate::Reach;
-use crate::levels::{BROADCAST, CONNECTED, CONNECTIONLESS, MULTICAST};
+use crate::levels::Mode;
 use pdu::Service;
 use sheet::LATER;
 
@@ -12,9 +12,10 @@ fn restart_reach(rules: u8) -> Reach
     ensures { result ≡ reach_of rules Service.Restart }
 {
     if rules == LATER {
-        return Reach::PointToPoint;
+        Reach::PointToPoint
+    } else {
+        Reach::Connected
     }
-    Reach::Connected
 }
 
 // Who can reach a service. An answer to a tool never reaches the device.
@@ -22,45 +23,35 @@ pub fn reach(rules: u8, k: Service) -> Reach
     ensures { result ≡ reach_of rules k }
 {
     match k {
-        Service::GroupValueRead => Reach::Multicast,
-        Service::GroupValueResponse => Reach::Multicast,
-        Service::GroupValueWrite => Reach::Multicast,
-        Service::IndividualAddressWrite => Reach::Broadcast,
-        Service::IndividualAddressRead => Reach::Broadcast,
-        Service::SerialNumberRead => Reach::Broadcast,
-        Service::SerialNumberWrite => Reach::Broadcast,
-        Service::DeviceDescriptorRead => Reach::PointToPoint,
-        Service::PropertyValueRead => Reach::PointToPoint,
-        Service::PropertyValueWrite => Reach::PointToPoint,
-        Service::PropertyDescriptionRead => Reach::PointToPoint,
-        Service::MemoryRead => Reach::Connected,
-        Service::MemoryWrite => Reach::Connected,
-        Service::MemoryBitWrite => Reach::Connected,
-        Service::AuthorizeRequest => Reach::Connected,
-        Service::KeyWrite => Reach::Connected,
+        Service::GroupValueRead | Service::GroupValueResponse | Service::GroupValueWrite => {
+            Reach::Multicast
+        }
+        Service::IndividualAddressWrite
+        | Service::IndividualAddressRead
+        | Service::SerialNumberRead
+        | Service::SerialNumberWrite => Reach::Broadcast,
+        Service::DeviceDescriptorRead
+        | Service::PropertyValueRead
+        | Service::PropertyValueWrite
+        | Service::PropertyDescriptionRead => Reach::PointToPoint,
+        Service::MemoryRead
+        | Service::MemoryWrite
+        | Service::MemoryBitWrite
+        | Service::AuthorizeRequest
+        | Service::KeyWrite
+        | Service::UserMemoryRead
+        | Service::UserMemoryWrite => Reach::Connected,
         Service::Restart => restart_reach(rules),
-        Service::IndividualAddressResponse => Reach::Never,
-        Service::SerialNumberResponse => Reach::Never,
-        Service::DeviceDescriptorResponse => Reach::Never,
-        Service::PropertyValueResponse => Reach::Never,
-        Service::PropertyDescriptionResponse => Reach::Never,
-        Service::MemoryResponse => Reach::Never,
-        Service::AuthorizeResponse => Reach::Never,
-        Service::KeyResponse => Reach::Never,
-        Service::UserMemoryRead => Reach::Connected,
-        Service::UserMemoryResponse => Reach::Never,
-        Service::UserMemoryWrite => Reach::Connected,
+        Service::IndividualAddressResponse
+        | Service::SerialNumberResponse
+        | Service::DeviceDescriptorResponse
+        | Service::PropertyValueResponse
+        | Service::PropertyDescriptionResponse
+        | Service::MemoryResponse
+        | Service::AuthorizeResponse
+        | Service::KeyResponse
+        | Service::UserMemoryResponse => Reach::Never,
     }
-}
-
-// A mode between two devices.
-fn point_to_point(mode: u8) -> bool
-    ensures { result ≡ takesOf Reach.PointToPoint mode }
-{
-    if mode == CONNECTIONLESS {
-        return true;
-    }
-    mode == CONNECTED
 }
 
 // A mode is one of those that reach it.
@@ -68,10 +59,12 @@ pub fn takes(r: Reach, mode: u8) -> bool
     ensures { result ≡ takesOf r mode }
 {
     match r {
-        Reach::Multicast => mode == MULTICAST,
-        Reach::Broadcast => mode == BROADCAST,
-        Reach::PointToPoint => point_to_point(mode),
-        Reach::Connected => mode == CONNECTED,
+        Reach::Multicast => mode == Mode::Multicast as u8,
+        Reach::Broadcast => mode == Mode::Broadcast as u8,
+        Reach::PointToPoint => {
+            mode == Mode::Connectionless as u8 || mode == Mode::Connected as u8
+        }
+        Reach::Connected => mode == Mode::Connected as u8,
         Reach::Never => false,
     }
 }
@@ -80,11 +73,5 @@ pub fn takes(r: Reach, mode: u8) -> bool
 pub fn reaches(r: Reach) -> bool
     ensures { result ≡ reachesOf r }
 {
-    match r {
-        Reach::Multicast => true,
-        Reach::Broadcast => true,
-        Reach::PointToPoint => true,
-        Reach::Connected => true,
-        Reach::Never => false,
-    }
+    !matches!(r, Reach::Never)
 }

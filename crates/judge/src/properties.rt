@@ -3,21 +3,21 @@ ghost use Rattle.std.specs.Prelude.{◌≡◌, ℕ, ◌+◌, ◌-◌, ◌*◌, �
 ghost use Rattle.octets.specs.Bytes.{num_at};
 ghost use Rattle.sheet.specs.Kind.{properties};
 ghost use Rattle.sheet.specs.Property as property;
-ghost use Rattle.sheet.specs.Entries.{entry, place};
+ghost use Rattle.sheet.specs.Entries.{count as count_of, entry, place};
+ghost use Rattle.sheet.specs.Lookup.{Finds};
 ghost use Rattle.sheet.specs.Places.{IsProperty};
-ghost use Rattle.sheet.specs.Rules.{Accepted};
+ghost use Rattle.pdu.specs.declared.Pdu.TheVariants.{PropertyValueResponse};
 ghost use Rattle.judge.specs.declared.Store.TheVariants as store;
 ghost use Rattle.judge.specs.Memory.{may_write};
 ghost use Rattle.judge.specs.Properties.{elements as elementsOf, counted as countedOf, element_at, jumped as jumpedOf, no_value, most, read_in};
 ghost use Rattle.judge.specs.Properties.{write_in, property_at, property_read_of, property_write_of, described_at, description_of};
 
 use crate::decisions::{answered, denied, written};
-use crate::kinds::PROPERTIES;
 use crate::levels::{may_read, may_write};
 use crate::{Answer, Decision, Store};
 use octets::word;
 use pdu::Pdu;
-use sheet::PropertyEntry;
+use sheet::{Kind, PropertyEntry, Sheet};
 
 // How many bytes of data a PDU has at most.
 const MOST: usize = 10;
@@ -25,37 +25,8 @@ const MOST: usize = 10;
 // The bytes of a count.
 const COUNT: usize = 2;
 
-// The last of n elements from element s on, counted from 1.
-fn last(n: u8, s: u16) -> usize
-    requires { 1 ≤ n }
-    ensures { result ≡ s + n - 1 }
-{
-    s as usize + n as usize - 1
-}
-
-// n elements from element s on are among the first m.
-fn elements(n: u8, s: u16, m: usize) -> bool
-    ensures { result ≡ elementsOf n s m }
-{
-    if s < 1 {
-        return false;
-    }
-    if n < 1 {
-        return false;
-    }
-    last(n, s) <= m
-}
-
-// The count is asked for.
-fn counted(n: u8, s: u16) -> bool
-    ensures { result ≡ countedOf n s }
-{
-    if s != 0 {
-        return false;
-    }
-    n == 1
-}
-
+// The bounds of an element, a place and a count stay clauses of these functions: `PropertyEntry` is a record that definitions of sheet and judge
+// build, and a fact in it would have to be shown by each.
 // The bytes of so many elements.
 fn times(n: usize, element: usize) -> usize
     requires { (n < 65536) × (element ≤ 10) }
@@ -77,11 +48,7 @@ fn jumped(count: usize, s: u16) -> usize
     requires { 1 ≤ s }
     ensures { result ≡ jumpedOf count s }
 {
-    let before = s as usize - 1;
-    if before < count {
-        return 0;
-    }
-    before - count
+    (s as usize - 1).saturating_sub(count)
 }
 
 // The run of a write from element s on: the elements that it jumps as zeros, then the data.
@@ -96,193 +63,202 @@ fn run(e: PropertyEntry, s: u16) -> Store
     }
 }
 
-// What is answered to a denied read or write.
-fn no_value(object: u8, id: u8, s: u16) -> Decision
-    ensures { result ≡ no_value object id s }
-{
-    denied(Pdu::PropertyValueResponse {
-        object,
-        id,
-        n: 0,
-        s,
-    })
-}
-
-// The elements are counted, and their bytes fit into a PDU.
-fn is_readable(n: u8, s: u16, count: usize, size: usize) -> bool
-    ensures { result ≡ (elementsOf n s count && leb size most) }
-{
-    if elements(n, s, count) {
-        return size <= MOST;
-    }
-    false
-}
-
-// A read at this level of the property with that entry.
-fn read_in(e: PropertyEntry, level: u8, object: u8, id: u8, n: u8, s: u16) -> Decision
-    requires { (e.element ≤ 10) × (e.offset ≤ 16384) }
-    ensures { (t : List ℕ) (i : ℕ) → IsProperty t i e → result ≡ read_in (entry t properties i) level object id n s }
-{
-    let element = e.element;
-    if !may_read(level, e.levels) {
-        return no_value(object, id, s);
-    }
-    let answer = Pdu::PropertyValueResponse { object, id, n, s };
-    if counted(n, s) {
-        return answered(Answer::Number {
-            pdu: answer,
-            width: COUNT,
-            x: e.count as u64,
-        });
-    }
-    let size = times(n as usize, element);
-    if is_readable(n, s, e.count, size) {
-        return answered(Answer::Sheet {
-            pdu: answer,
-            at: element_at(e.offset, element, s as usize),
-            n: size,
-        });
-    }
-    no_value(object, id, s)
-}
-
 // The property may be written at this level.
 fn is_writable(typ: u8, levels: u8, level: u8) -> bool
     ensures { result ≡ (eqb (typ / 128) 1 && may_write level levels) }
 {
-    if typ / 128 != 1 {
-        return false;
-    }
-    may_write(level, levels)
+    typ / 128 == 1 && may_write(level, levels)
 }
 
-// The count is asked for, and the data is a count of 0.
-fn is_cleared(n: u8, s: u16, d: &[u8]) -> bool
-    ensures { result ≡ (countedOf n s && eqb (length d.now) (property.count).width && eqb (num_at d.now 0 (property.count).width) 0) }
-{
-    if d.len() != COUNT {
-        return false;
-    }
-    if counted(n, s) {
-        return word(d, 0) == 0;
-    }
-    false
+// A request for n elements of a property from element s on, counted from 1, or for their count, which is element 0; at a level.
+#[derive(Clone, Copy)]
+pub struct PropertyRequest {
+    pub level: u8,
+    pub object: u8,
+    pub id: u8,
+    pub n: u8,
+    pub s: u16,
 }
 
-// The elements are there, and the data has as many bytes as they.
-fn is_stored(n: u8, s: u16, maximum: usize, size: usize, given: usize) -> bool
-    ensures { result ≡ (elementsOf n s maximum && eqb given size) }
-{
-    if elements(n, s, maximum) {
-        return given == size;
+impl PropertyRequest {
+    // The last element.
+    fn last(self) -> usize
+        requires { 1 ≤ self.n }
+        ensures { result ≡ self.s + self.n - 1 }
+    {
+        self.s as usize + self.n as usize - 1
     }
-    false
-}
 
-// The count becomes the larger of itself and the last element written.
-fn new_count(count: usize, n: u8, s: u16) -> usize
-    requires { 1 ≤ n }
-    ensures { result ≡ max count (s + n - 1) }
-{
-    let end = last(n, s);
-    if end < count {
-        return count;
+    // The elements are among the first m.
+    fn is_within(self, m: usize) -> bool
+        ensures { result ≡ elementsOf self.n self.s m }
+    {
+        self.s >= 1 && self.n >= 1 && self.last() <= m
     }
-    end
-}
 
-// A write of data at this level to the property with that entry.
-fn write_in(e: PropertyEntry, level: u8, object: u8, id: u8, n: u8, s: u16, d: &[u8]) -> Decision
-    requires { (e.element ≤ 10) × (e.offset ≤ 16384) × (e.place ≤ 16384) }
-    ensures { (t : List ℕ) (i : ℕ) → IsProperty t i e → result ≡ write_in (entry t properties i) (place t properties i) level object id n s d.now }
-{
-    let element = e.element;
-    if !is_writable(e.typ, e.levels, level) {
-        return no_value(object, id, s);
+    // The count is asked for.
+    fn is_count(self) -> bool
+        ensures { result ≡ countedOf self.n self.s }
+    {
+        self.s == 0 && self.n == 1
     }
-    let answer = Pdu::PropertyValueResponse { object, id, n, s };
-    let at = sheet::count_at(e.place);
-    if is_cleared(n, s, d) {
-        return written(
-            Store::Fill { at, n: COUNT, b: 0 },
-            Store::Nothing,
-            Answer::Echo(answer),
-        );
+
+    // What is answered where it is denied.
+    fn no_value(self) -> Decision
+        ensures { result ≡ no_value self.object self.id self.s }
+    {
+        denied(Pdu::PropertyValueResponse {
+            object: self.object,
+            id: self.id,
+            n: 0,
+            s: self.s,
+        })
     }
-    let size = times(n as usize, element);
-    if is_stored(n, s, e.maximum, size, d.len()) {
-        let x = new_count(e.count, n, s) as u64;
-        return written(
-            run(e, s),
-            Store::Number {
-                at,
+
+    // What is answered where it is not.
+    fn response(self) -> Pdu
+        ensures { result ≡ PropertyValueResponse self.object self.id self.n self.s }
+    {
+        Pdu::PropertyValueResponse {
+            object: self.object,
+            id: self.id,
+            n: self.n,
+            s: self.s,
+        }
+    }
+
+    // The elements are counted, and their bytes fit into a PDU.
+    fn is_readable(self, count: usize, size: usize) -> bool
+        ensures { result ≡ (elementsOf self.n self.s count && leb size most) }
+    {
+        self.is_within(count) && size <= MOST
+    }
+
+    // The count is asked for, and the data is a count of 0.
+    fn is_cleared(self, d: &[u8]) -> bool
+        ensures { result ≡ (countedOf self.n self.s && eqb (length d.now) (property.count).width && eqb (num_at d.now 0 (property.count).width) 0) }
+    {
+        d.len() == COUNT && self.is_count() && word(d, 0) == 0
+    }
+
+    // The elements are there, and the data has as many bytes as they.
+    fn is_stored(self, maximum: usize, size: usize, given: usize) -> bool
+        ensures { result ≡ (elementsOf self.n self.s maximum && eqb given size) }
+    {
+        self.is_within(maximum) && given == size
+    }
+
+    // The count becomes the larger of itself and the last element written.
+    fn new_count(self, count: usize) -> usize
+        requires { 1 ≤ self.n }
+        ensures { result ≡ max count (self.s + self.n - 1) }
+    {
+        count.max(self.last())
+    }
+
+    // A read of the property with that entry.
+    fn read_in(self, e: PropertyEntry) -> Decision
+        requires { (e.element ≤ 10) × (e.offset ≤ 16384) }
+        ensures { (t : List ℕ) (i : ℕ) → IsProperty t i e → result ≡ read_in (entry t properties i) self.level self.object self.id self.n self.s }
+    {
+        if !may_read(self.level, e.levels) {
+            return self.no_value();
+        }
+        if self.is_count() {
+            return answered(Answer::Number {
+                pdu: self.response(),
                 width: COUNT,
-                x,
-            },
-            Answer::Echo(answer),
-        );
+                x: e.count as u64,
+            });
+        }
+        let size = times(self.n as usize, e.element);
+        if self.is_readable(e.count, size) {
+            return answered(Answer::Sheet {
+                pdu: self.response(),
+                at: element_at(e.offset, e.element, self.s as usize),
+                n: size,
+            });
+        }
+        self.no_value()
     }
-    no_value(object, id, s)
+
+    // A write of data to the property with that entry.
+    fn write_in(self, e: PropertyEntry, d: &[u8]) -> Decision
+        requires { (e.element ≤ 10) × (e.offset ≤ 16384) × (e.place ≤ 16384) }
+        ensures { (t : List ℕ) (i : ℕ) → IsProperty t i e → result ≡ write_in (entry t properties i) (place t properties i) self.level self.object self.id self.n self.s d.now }
+    {
+        if !is_writable(e.typ, e.levels, self.level) {
+            return self.no_value();
+        }
+        let at = sheet::count_at(e.place);
+        if self.is_cleared(d) {
+            return written(
+                Store::Fill { at, n: COUNT, b: 0 },
+                Store::Nothing,
+                Answer::Echo(self.response()),
+            );
+        }
+        let size = times(self.n as usize, e.element);
+        if self.is_stored(e.maximum, size, d.len()) {
+            let x = self.new_count(e.count) as u64;
+            return written(
+                run(e, self.s),
+                Store::Number {
+                    at,
+                    width: COUNT,
+                    x,
+                },
+                Answer::Echo(self.response()),
+            );
+        }
+        self.no_value()
+    }
 }
 
-// The number of the property with that object and id, the count of properties where there is none.
-fn property_at(sheet: &[u8], object: u8, id: u8) -> usize
-    requires { Accepted sheet.now }
-    ensures { result ≡ property_at sheet.now object id }
+// The number of the property with that object and id.
+fn property_at(s: Sheet<'_>, object: u8, id: u8) -> Option<usize>
+    ensures { Finds (count_of s.entry.bytes.now properties) (property_at s.entry.bytes.now object id) result }
 {
-    sheet::find(sheet, PROPERTIES, object as usize * 256 + id as usize)
+    s.find(Kind::Properties, object as usize * 256 + id as usize)
 }
 
-// A read of n elements from element s on, or of the count.
-pub fn property_read(sheet: &[u8], level: u8, object: u8, id: u8, n: u8, s: u16) -> Decision
-    requires { Accepted sheet.now }
-    ensures { result ≡ property_read_of sheet.now level object id n s }
+// A read.
+pub fn property_read(s: Sheet<'_>, q: PropertyRequest) -> Decision
+    ensures { result ≡ property_read_of s.entry.bytes.now q.level q.object q.id q.n q.s }
 {
-    let i = property_at(sheet, object, id);
-    if sheet::count(sheet, PROPERTIES) <= i {
-        return no_value(object, id, s);
-    }
-    read_in(sheet::property_entry(sheet, i), level, object, id, n, s)
+    let Some(i) = property_at(s, q.object, q.id) else {
+        return q.no_value();
+    };
+    q.read_in(s.property(i))
 }
 
-// A write of data to n elements from element s on, or of 0 to the count.
-pub fn property_write(
-    sheet: &[u8],
-    level: u8,
-    object: u8,
-    id: u8,
-    n: u8,
-    s: u16,
-    d: &[u8],
-) -> Decision
-    requires { Accepted sheet.now }
-    ensures { result ≡ property_write_of sheet.now level object id n s d.now }
+// A write of data, or of 0 to the count.
+pub fn property_write(s: Sheet<'_>, q: PropertyRequest, d: &[u8]) -> Decision
+    ensures { result ≡ property_write_of s.entry.bytes.now q.level q.object q.id q.n q.s d.now }
 {
-    let i = property_at(sheet, object, id);
-    if sheet::count(sheet, PROPERTIES) <= i {
-        return no_value(object, id, s);
-    }
-    write_in(sheet::property_entry(sheet, i), level, object, id, n, s, d)
+    let Some(i) = property_at(s, q.object, q.id) else {
+        return q.no_value();
+    };
+    q.write_in(s.property(i), d)
 }
 
 // An id other than 0 decides; id 0 means the index within the object.
-fn described_at(sheet: &[u8], object: u8, id: u8, index: u8) -> usize
-    requires { Accepted sheet.now }
-    ensures { result ≡ described_at sheet.now object id index }
+#[tactic(auto, unfolding(crate::specs::Properties::described_at))]
+fn described_at(s: Sheet<'_>, object: u8, id: u8, index: u8) -> Option<usize>
+    ensures { Finds (count_of s.entry.bytes.now properties) (described_at s.entry.bytes.now object id index) result }
 {
     if id == 0 {
-        return sheet::nth(sheet, object, index);
+        s.nth(object, index)
+    } else {
+        property_at(s, object, id)
     }
-    property_at(sheet, object, id)
 }
 
 // The entry's own fields, or what was asked.
-pub fn description(sheet: &[u8], object: u8, id: u8, index: u8) -> Decision
-    requires { Accepted sheet.now }
-    ensures { result ≡ description_of sheet.now object id index }
+pub fn description(s: Sheet<'_>, object: u8, id: u8, index: u8) -> Decision
+    ensures { result ≡ description_of s.entry.bytes.now object id index }
 {
-    let i = described_at(sheet, object, id, index);
-    if sheet::count(sheet, PROPERTIES) <= i {
+    let Some(i) = described_at(s, object, id, index) else {
         return denied(Pdu::PropertyDescriptionResponse {
             object,
             id,
@@ -291,12 +267,12 @@ pub fn description(sheet: &[u8], object: u8, id: u8, index: u8) -> Decision
             maximum: 0,
             access: 0,
         });
-    }
-    let e = sheet::property_entry(sheet, i);
+    };
+    let e = s.property(i);
     answered(Answer::Plain(Pdu::PropertyDescriptionResponse {
         object: e.object,
         id: e.id,
-        index: sheet::rank(sheet, e.object, i) as u8,
+        index: s.rank(e.object, i) as u8,
         typ: e.typ,
         maximum: e.maximum as u16,
         access: e.levels,

@@ -1,46 +1,38 @@
 // Bytes as pairs of hex digits, `-` for none.
-use crate::out::{put, put_digits};
-use crate::value::digits;
-use crate::{after, part};
-use check::same;
+ghost use Rattle.std.specs.Prelude.{◌≡◌, [], None};
 
-fn put_byte(out: &mut [u8], at: usize, b: u8) -> usize {
-    put_digits(out, at, b as u64, 2)
+use crate::digits;
+use arrayvec::ArrayVec;
+use std::fmt;
+
+#[derive(Clone, Copy)]
+pub struct Hex<'a>(pub &'a [u8]);
+
+impl fmt::Display for Hex<'_> {
+    fn fmt<W: fmt::Write>(&self, f: &mut fmt::Formatter<W>) -> fmt::Result {
+        if self.0.is_empty() {
+            return write!(f, "-");
+        }
+        for b in self.0 {
+            write!(f, "{b:02x}")?;
+        }
+        Ok(())
+    }
 }
 
-pub fn put_hex(out: &mut [u8], at: usize, src: &[u8]) -> usize {
-    if src.len() == 0 {
-        return put(out, at, b'-');
+// The bytes so written, in small letters.
+pub fn unhex(s: &[u8]) -> Option<ArrayVec<u8, 64>>
+    ensures { s.now ≡ [] → result ≡ None }
+{
+    let mut bytes = ArrayVec::new();
+    if matches!(s, b"-") {
+        return Some(bytes);
     }
-    let mut to = at;
-    let mut i = 0;
-    while i < src.len() {
-        to = put_byte(out, to, src[i]);
-        i += 1;
+    if s.is_empty() || s.len() % 2 != 0 || s.iter().any(|c| c.is_ascii_uppercase()) {
+        return None;
     }
-    to
-}
-
-// The bytes that the digits are, stored from a place on, and the place after them. What is no digit gives FFh.
-pub fn put_unhex(out: &mut [u8], at: usize, s: &[u8]) -> usize {
-    if same(s, b"-") {
-        return at;
+    for pair in s.chunks(2) {
+        bytes.try_push(digits(pair, 16)?).ok()?;
     }
-    let mut to = at;
-    let mut i = 0;
-    while i < s.len() {
-        let next = after(s, after(s, i));
-        to = put(out, to, (digits(part(s, i, next), 16) % 256) as u8);
-        i = next;
-    }
-    to
-}
-
-// At most 64 bytes so written, in small letters.
-pub fn is_hex(s: &[u8]) -> bool {
-    let mut bytes = [0u8; 64];
-    let n = put_unhex(&mut bytes, 0, s);
-    let mut text = [0u8; 128];
-    let k = put_hex(&mut text, 0, part(&bytes, 0, n));
-    same(part(&text, 0, k), s)
+    Some(bytes)
 }

@@ -9,12 +9,11 @@ pub fn read_full(from: &mut impl Read, buf: &mut [u8]) -> usize
     ensures { IsPrefixLen result buf.new }
 {
     let mut done = 0;
+    // no count: it goes on by what each read gave
     while done < buf.len() {
-        let got = from.read(&mut buf[done..]);
-        match got {
-            Ok(0) => return done,
+        match from.read(&mut buf[done..]) {
+            Ok(0) | Err(_) => return done,
             Ok(n) => done += n,
-            Err(_) => return done,
         }
     }
     done

@@ -1,5 +1,4 @@
-// Lines of text in lent slices, for programs of cases. Each function takes any place: a part that is not there is empty, and
-// what does not fit is left out.
+// Lines of text, for programs of cases. Each function takes any place: a part that is not there is empty.
 #![tactic(auto)]
 
 mod hex;
@@ -8,87 +7,58 @@ mod out;
 mod tally;
 mod value;
 
-ghost use Rattle.std.specs.Prelude.{◌≡◌, ◌+◌, ◌≤◌, min, length};
+ghost use Rattle.std.specs.Prelude.{◌≡◌, ◌+◌, ◌-◌, ◌<◌, ◌≤◌, ◌∷◌, ◌++◌, length, slice_index_or, IfSome};
 
-pub use hex::{is_hex, put_hex, put_unhex};
+pub use hex::{Hex, unhex};
 pub use input::read_full;
-pub use out::{
-    put, put_all, put_decimal, put_digits, put_unclear, say, write, write_decimal, write_hex,
-};
-pub use tally::{Tally, begin, counted, end, is_remark, told, unclear};
+pub use out::{Text, copy, say, text, write};
+pub use tally::{Tally, is_remark};
 pub use value::{digits, number};
 
 // The part from a place up to another.
 pub fn part(s: &[u8], from: usize, to: usize) -> &[u8] {
-    if s.len() < to {
-        return &s[0..0];
-    }
-    if to < from {
-        return &s[0..0];
-    }
-    &s[from..to]
+    s.get(from..to).unwrap_or(&[])
 }
 
 // The part from a place on.
 pub fn rest(s: &[u8], from: usize) -> &[u8] {
-    part(s, from, s.len())
+    s.get(from..).unwrap_or(&[])
 }
 
 // The first so many bytes, or all where there are fewer.
 pub fn first(s: &mut [u8], n: usize) -> &mut [u8] {
-    if n < s.len() { &mut s[0..n] } else { s }
+    let n = n.min(s.len());
+    &mut s[..n]
 }
 
-// The place of the first such byte from a place on, or the end.
-pub fn find(s: &[u8], from: usize, b: u8) -> usize
-    ensures { (result ≤ length s.now) × (min from (length s.now) ≤ result) }
+// The place of the first such byte from a place on.
+fn position(s: &[u8], from: usize, b: u8) -> Option<usize>
+    ensures place { IfSome result (λ i. (from ≤ i) × (i < length s.now)) }
+    ensures byte { IfSome result (λ i. slice_index_or s.now i b ≡ b) }
 {
-    let mut i = from;
-    while i < s.len() {
-        if s[i] == b {
-            return i;
-        }
-        i += 1;
-    }
-    s.len()
+    let i = s.get(from..)?.iter().position(|&c| c == b)?;
+    Some(from + i)
 }
 
-// The place after a place, or the end.
-pub fn after(s: &[u8], at: usize) -> usize
-    ensures { result ≡ min (at + 1) (length s.now) }
+// The part before the first such byte and the part behind it.
+pub fn split_once(s: &[u8], b: u8) -> Option<(&[u8], &[u8])>
+    ensures parts { IfSome result (λ p. s.now ≡ p.0.now ++ b ∷ p.1.now) }
+    ensures lengths { IfSome result (λ p. length p.0.now + 1 + length p.1.now ≡ length s.now) }
 {
-    if at < s.len() { at + 1 } else { s.len() }
+    let at = position(s, 0, b)?;
+    Some((&s[..at], &s[at + 1..]))
 }
 
-pub fn starts(s: &[u8], with: &[u8]) -> bool {
-    check::same(part(s, 0, with.len()), with)
-}
-
-// The part before the first such byte, or all.
-pub fn before(s: &[u8], b: u8) -> &[u8] {
-    part(s, 0, find(s, 0, b))
-}
-
-// The part after the first such byte.
-pub fn beyond(s: &[u8], b: u8) -> &[u8] {
-    rest(s, after(s, find(s, 0, b)))
-}
-
-// Where the k-th piece starts.
-fn start(s: &[u8], k: usize, sep: u8) -> usize {
-    let mut at = 0;
-    let mut i = 0;
-    while i < k {
-        at = after(s, find(s, at, sep));
-        i += 1;
-    }
-    at
+// The same; all and nothing where there is no such byte.
+pub fn parted(s: &[u8], b: u8) -> (&[u8], &[u8])
+    ensures { length result.1.now ≤ length s.now - 1 }
+{
+    split_once(s, b).unwrap_or((s, &[]))
 }
 
 // The k-th of the pieces that a byte parts, counted from 0.
 pub fn piece(s: &[u8], k: usize, sep: u8) -> &[u8] {
-    let at = start(s, k, sep);
-    part(s, at, find(s, at, sep))
+    s.split(|&c| c == sep).nth(k).unwrap_or(&[])
 }
 
 // The k-th word: the words are parted by single spaces.
@@ -96,22 +66,40 @@ pub fn word(s: &[u8], k: usize) -> &[u8] {
     piece(s, k, b' ')
 }
 
-// Which piece has a name before the byte that ends names, or how many pieces there are.
-pub fn named(s: &[u8], sep: u8, stop: u8, name: &[u8]) -> usize {
-    let mut at = 0;
-    let mut k = 0;
-    while at < s.len() {
-        let end = find(s, at, sep);
-        if check::same(before(part(s, at, end), stop), name) {
-            return k;
-        }
-        at = after(s, end);
-        k += 1;
-    }
-    k
+// The pieces of a text, each up to the byte that ends it, or to the text's end.
+#[derive(Drop)]
+pub struct Pieces<'a> {
+    pub text: &'a [u8],
+    pub end: u8,
 }
 
-// Which of some words it is, or how many they are.
-pub fn which(words: &[u8], s: &[u8]) -> usize {
-    named(words, b' ', b' ', s)
+impl<'a> Pieces<'a> {
+    pub fn lines(text: &'a [u8]) -> Pieces<'a>
+        ensures { (result.text.now ≡ text.now) × (result.end ≡ 10) }
+    {
+        Pieces { text, end: b'\n' }
+    }
+
+    pub fn words(text: &'a [u8]) -> Pieces<'a>
+        ensures { (result.text.now ≡ text.now) × (result.end ≡ 32) }
+    {
+        Pieces { text, end: b' ' }
+    }
+}
+
+impl<'a> Iterator for Pieces<'a> {
+    ghost use Rattle.std.specs.Iterator.{at_most};
+
+    type Item = &'a [u8];
+
+    ghost remaining = { λ s. at_most (length s.text.now) };
+
+    fn next(&mut self) -> Option<&'a [u8]> {
+        if self.text.is_empty() {
+            return None;
+        }
+        let (piece, text) = parted(self.text, self.end);
+        self.text = text;
+        Some(piece)
+    }
 }

@@ -1,35 +1,24 @@
--- THE FRAME THAT BRINGS AN ANSWER: its fields, and that every answer is written, whole. Assumes nothing.
-use Rattle.octets.proofs.Kit.{ℕ, ◌+◌, ◌*◌, ◌/◌, ◌%◌, ◌≤◌, ◌<◌, ◌≡◌, sym, ap, subst, ◌∙◌, false, cond, List, [], ◌∷◌, length, eqb, lt-leb, le-leb, le-ltb, arith}
+-- THE FRAME THAT BRINGS AN ANSWER: that every answer is written, whole. Assumes nothing.
+use Rattle.octets.proofs.Kit.{ℕ, ◌+◌, ◌≤◌, ◌<◌, ◌≡◌, sym, ap, subst, ◌∙◌, false, List, [], ◌∷◌, length, le-ltb, arith}
 use Rattle.octets.proofs.{Splices.splice_none, Truths.must_fail}
-use Rattle.cemi.specs.{Meaning.connected, Write.{writable, count_of, write_of, write_count, buffer_of, Wrote}, Answering.answering, declared.{Fields.Fields, Written.Written}}
-use Rattle.cemi.{specs.declared.Written.TheVariants.{Bytes, Refused}, proofs.{promises.Answers.answer_writable, Wrote.bounds, promises.Backs.length_encoded}}
+use Rattle.cemi.specs.{Write.{writable, count_of, write_of, write_count, buffer_of, Wrote}, Answering.answering, declared.{Fields.Fields, WriteRefusal.WriteRefusal}}
+use Rattle.cemi.specs.declared.WriteRefusal.TheVariants as why
+use Rattle.std.specs.Prelude.{Result, Ok, Err}
+use Rattle.cemi.proofs.{promises.Answers.answer_writable, Wrote.bounds, promises.Backs.length_encoded}
 use Rattle.link.specs.Serving.{most, longest, answer_frame, Sent}
-
-module _ (f : Fields) (own mode sequence control1 transport : ℕ) (e : control1 ≡ 0xB0 + f.control1 / 4 % 4 * 4) (h : transport ≡ cond (eqb mode connected) (16 + sequence % 16) 0) where
-  pub to_asker :
-      f.control2 < 128 →
-      ◌≡◌ {A = Fields} (record { code = 0x11; control1 = control1; control2 = 0x60; source = own; destination = f.source; transport = transport }) (answering f own mode sequence)
-  unfolding answering
-  to_asker l = rw (e, h, lt-leb 128 f.control2 l)
-
-  pub to_group_lem :
-      128 ≤ f.control2 →
-      ◌≡◌ {A = Fields} (record { code = 0x11; control1 = control1; control2 = 0xE0; source = own; destination = f.destination; transport = transport }) (answering f own mode sequence)
-  unfolding answering
-  to_group_lem l = rw (e, h, le-leb 128 f.control2 l)
 
 -- WHAT WRITING AN ANSWER GIVES where the longest has room: never 46, and 47 of no bytes alone
 module _ (f : Fields) (own mode sequence : ℕ) where
   abbrev fields : Fields
   fields = answering f own mode sequence
 
-  gives : (k room : ℕ) → 1 ≤ k → k ≤ most → longest ≤ room → write_of fields 0 k room ≡ Bytes (9 + k)
+  gives : (k room : ℕ) → 1 ≤ k → k ≤ most → longest ≤ room → write_of fields 0 k room ≡ Ok (9 + k)
   unfolding write_of
   gives k room some few l =
       let m : count_of 0 k ≤ room = omega arith in
       simp (answer_writable f own mode sequence k some few, le-ltb room (count_of 0 k) m)
 
-  none : (room : ℕ) → write_of fields 0 0 room ≡ Refused 47
+  none : (room : ℕ) → write_of fields 0 0 room ≡ Err why.Fields
   unfolding write_of
   none room = simp not_writable
     where
@@ -37,13 +26,13 @@ module _ (f : Fields) (own mode sequence : ℕ) where
       not_writable = must_fail (writable fields 0 0) (λ e. omega (arith, (bounds fields 0 0 e).some))
 
   sent :
-      (a o o' : List ℕ) (w : Written) → length a ≤ most → longest ≤ length o → Wrote fields [] a o w o' →
+      (a o o' : List ℕ) (w : Result ℕ WriteRefusal) → length a ≤ most → longest ≤ length o → Wrote fields [] a o w o' →
       Sent fields a o (write_count w) o'
   sent [] o o' w few room h =
-      let r : w ≡ Refused 47 = h.result ∙ none (length o) in
+      let r : w ≡ Err why.Fields = h.result ∙ none (length o) in
       record { count = ap write_count r; buffer = h.buffer ∙ ap (buffer_of fields [] [] o) r ∙ sym (splice_none o 0) }
   sent (x ∷ a) o o' w few room h =
-      let r : w ≡ Bytes (9 + length (x ∷ a)) = h.result ∙ gives (length (x ∷ a)) (length o) (omega arith) few room in
+      let r : w ≡ Ok (9 + length (x ∷ a)) = h.result ∙ gives (length (x ∷ a)) (length o) (omega arith) few room in
       record {
         count = ap write_count r ∙ sym (length_encoded fields [] (x ∷ a));
         buffer = h.buffer ∙ ap (buffer_of fields [] (x ∷ a) o) r;
@@ -53,16 +42,16 @@ module _ (f : Fields) (own mode sequence : ℕ) where
   frame_few [] few = omega arith
   frame_few (x ∷ a) few = omega (arith, length_encoded fields [] (x ∷ a))
 
-  module _ (g : Fields) (z : g ≡ answering f own mode sequence) (a o o' : List ℕ) (w : Written) (few : length a ≤ most) (room : longest ≤ length o)
+  module _ (g : Fields) (z : g ≡ answering f own mode sequence) (a o o' : List ℕ) (w : Result ℕ WriteRefusal) (few : length a ≤ most) (room : longest ≤ length o)
       (h : Wrote g [] a o w o') where
     was_sent : Sent fields a o (write_count w) o'
     was_sent = sent a o o' w few room (subst (λ (g : Fields). Wrote g [] a o w o') z h)
 
-    pub sent_bytes_lem : (n : ℕ) → w ≡ Bytes n → Sent (answering f own mode sequence) a o n o'
+    pub sent_bytes_lem : (n : ℕ) → w ≡ Ok n → Sent (answering f own mode sequence) a o n o'
     sent_bytes_lem n e = subst (λ (m : ℕ). Sent fields a o m o') (ap write_count e) was_sent
 
-    pub sent_none : (n : ℕ) → w ≡ Refused n → Sent (answering f own mode sequence) a o 0 o'
+    pub sent_none : (n : WriteRefusal) → w ≡ Err n → Sent (answering f own mode sequence) a o 0 o'
     sent_none n e = subst (λ (m : ℕ). Sent fields a o m o') (ap write_count e) was_sent
 
-    pub sent_few : (n : ℕ) → w ≡ Bytes n → n < 256
+    pub sent_few : (n : ℕ) → w ≡ Ok n → n < 256
     sent_few n e = omega (arith, (sent_bytes_lem n e).count, frame_few a few)

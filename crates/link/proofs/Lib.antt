@@ -2,6 +2,5 @@
 pub mod promises
 pub mod Sessions
 pub mod Items
-pub mod Returns
 pub mod Answered
 pub mod Serves

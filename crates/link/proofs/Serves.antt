@@ -1,29 +1,15 @@
 -- Laws behind serving. Assumes nothing.
-use Rattle.octets.proofs.Kit.{ℕ, ◌+◌, ◌≤◌, ◌<◌, ◌≡◌, refl, sym, ap, ap₂, subst, ◌∙◌, cond, List, [], length, take, replicate, eqb, length-take-le, lt-ltb, le-ltb, arith}
+use Rattle.octets.proofs.Kit.{ℕ, ◌+◌, ◌≤◌, ◌<◌, ◌≡◌, refl, sym, ap, ap₂, subst, ◌∙◌, List, [], length, take, replicate, length-take-le, lt-ltb, le-ltb, arith}
 use Rattle.octets.{specs.Octets.ReadFrom, proofs.Splices.{splice_none, splice_read}}
-use Rattle.cemi.{specs.{Read.{fields_in, frame_in, read_frame}, Parts.tpdu_of, Answering.answering, declared.{Fields.Fields, Frame.Frame, Got.Got}}, proofs.promises.Standards.reads_standard}
-use Rattle.cemi.specs.declared.Got.TheVariants as got
-use Rattle.device.specs.{Events.{Effect, named, connect_of, disconnect_of, request_of}, Changed.{Requested, changed_of, none}, declared.{Done.Done, Made.Made, Changed.Changed}}
+use Rattle.cemi.{specs.{Read.{fields_in, frame_in, read_frame}, Parts.tpdu_of, Answering.answering, declared.{Fields.Fields, Frame.Frame, ReadRefusal.ReadRefusal}}, proofs.promises.Standards.reads_standard}
+use Rattle.cemi.specs.Refusal.{read_number}
+use Rattle.std.specs.Prelude.{Result, Ok, Err}
+use Rattle.device.specs.{Events.{Effect, request_of}, Changed.{Requested, changed_of}, declared.{Done.Done, Made.Made}}
 use Rattle.device.proofs.promises.Called.{call_leaves}
 use Rattle.link.specs.{Partners.nobody, Hearing.{own_of, judged, heard_got, heard_of}}
-use Rattle.link.specs.{Serving.{most, longest, apdu_of, with_sessions, leaving, joining, parting, deed_of, serve_of, result_of, DidServe, Sent}, declared.{Arrived.Arrived, Link.Link}}
+use Rattle.link.specs.{Serving.{most, longest, apdu_of, with_sessions, leaving, deed_of, serve_of, result_of, DidServe, Sent}, declared.{Link.Link}}
 use Rattle.link.specs.declared.Served.{Served}
 use Rattle.link.specs.declared.Arrived.TheVariants as arrived
-
-module _ (k : Link) (c : ℕ) where
-  pub is_silent_lem : (n : ℕ) (x : Changed) → x ≡ none → ◌≡◌ {A = Served} (record { number = n; outcome = 0; connection = c; count = 0; changed = x; link = k }) (result_of (leaving k [] n c))
-  is_silent_lem n x e = rw e
-
-  pub is_connected :
-      (d : Done) (a first second : ℕ) (x : Changed) → x ≡ none → d ≡ named c (connect_of k.sessions c) → first ≡ cond (eqb c 0) a k.first → second ≡ cond (eqb c 1) a k.second →
-      ◌≡◌ {A = Served} (record { number = 0; outcome = d.outcome; connection = c; count = 0; changed = x; link = record { sessions = d.sessions; first = first; second = second } })
-      (result_of (joining k [] c a))
-  is_connected d a first second x n e f h = rw (n, e, f, h)
-
-  pub is_disconnected :
-      (d : Done) (x : Changed) → x ≡ none → d ≡ named c (disconnect_of k.sessions c) →
-      ◌≡◌ {A = Served} (record { number = 0; outcome = d.outcome; connection = c; count = 0; changed = x; link = with_sessions k d.sessions }) (result_of (parting k [] c))
-  is_disconnected d x n e = rw (n, e)
 
 pub counted : (n : ℕ) (m : List ℕ) → n ≤ length m → n ≡ length (take n m)
 counted n m h = sym (length-take-le n m h)
@@ -64,29 +50,6 @@ module _ (k : Link) (f : Fields) (sequence mode c group : ℕ) (a s o : List ℕ
       let e₃ : made.changed ≡ changed_of most s k.sessions mode c group a = asked.changed in
       record { result = rw (e₁, e₂, e₃, sent.count); sheet = asked.call.did.sheet; buffer = sent.buffer }
 
-module _ (k : Link) (f : Frame) (sequence : ℕ) (a s o : List ℕ) (own : ℕ) (w : own ≡ own_of s) (x : Arrived) (e : x ≡ judged k own f) (r : Served) where
-  abbrev Is : Arrived → List ℕ → List ℕ → Type 0
-  Is y s' o' = DidServe (deed_of k f.fields sequence a s y) r o s' o'
-
-  is : (y : Arrived) → x ≡ y → (s' o' : List ℕ) → Is y s' o' → Is (judged k (own_of s) f) s' o'
-  is y z s' o' h = subst (λ (q : Arrived). Is q s' o') (sym z ∙ e ∙ ap (λ (n : ℕ). judged k n f) w) h
-
-  pub act_request :
-      (mode c group : ℕ) (s' o' : List ℕ) → x ≡ arrived.Request mode c group → Is (arrived.Request mode c group) s' o' → Is (judged k (own_of s) f) s' o'
-  act_request mode c group s' o' z h = is (arrived.Request mode c group) z s' o' h
-
-  pub act_connect : (c : ℕ) → x ≡ arrived.Connect c → r ≡ result_of (joining k [] c f.fields.source) → Is (judged k (own_of s) f) s o
-  unfolding deed_of
-  act_connect c z h = is (arrived.Connect c) z s o record { result = h; sheet = refl; buffer = sym (splice_none o 0) }
-
-  pub act_disconnect : (c : ℕ) → x ≡ arrived.Disconnect c → r ≡ result_of (parting k [] c) → Is (judged k (own_of s) f) s o
-  unfolding deed_of
-  act_disconnect c z h = is (arrived.Disconnect c) z s o record { result = h; sheet = refl; buffer = sym (splice_none o 0) }
-
-  pub act_nothing : (n c : ℕ) → x ≡ arrived.Nothing n c → r ≡ result_of (leaving k [] n c) → Is (judged k (own_of s) f) s o
-  unfolding deed_of
-  act_nothing n c z h = is (arrived.Nothing n c) z s o record { result = h; sheet = refl; buffer = sym (splice_none o 0) }
-
 module _ (k : Link) (sequence : ℕ) (b s o : List ℕ) (r : Served) where
   abbrev Did : List ℕ → List ℕ → Type 0
   Did s' o' = DidServe (serve_of k sequence b s (length o)) r o s' o'
@@ -95,23 +58,23 @@ module _ (k : Link) (sequence : ℕ) (b s o : List ℕ) (r : Served) where
   unfolding serve_of
   no_room_lem l h = let t = lt-ltb (length o) longest l in rw t record { result = h; sheet = refl; buffer = sym (splice_none o 0) }
 
-  module _ (l : 25 ≤ length o) (g : Got) (e : ReadFrom b g (read_frame b)) where
+  module _ (l : 25 ≤ length o) (g : Result Frame ReadRefusal) (e : ReadFrom b g (read_frame b)) where
     pub was_read :
-        (f : Frame) (a s' o' : List ℕ) → g ≡ got.Is f → a ≡ tpdu_of f b →
+        (f : Frame) (a s' o' : List ℕ) → g ≡ Ok f → a ≡ tpdu_of f b →
         DidServe (deed_of k f.fields sequence a s (judged k (own_of s) f)) r o s' o' → Did s' o'
     unfolding serve_of heard_of heard_got
     was_read f a s' o' z u h =
-        let q : read_frame b ≡ got.Is f = sym e.is ∙ z in
+        let q : read_frame b ≡ Ok f = sym e.is ∙ z in
         let i : frame_in b ≡ f = (reads_standard b f q).1 in
         let t = le-ltb (length o) longest l in
         rw t
-        (subst (λ (y : Got). DidServe (deed_of k (fields_in b) sequence (apdu_of b) s (heard_got k (own_of s) y)) r o s' o') (sym (q ∙ ap got.Is (sym i)))
+        (subst (λ (y : Result Frame ReadRefusal). DidServe (deed_of k (fields_in b) sequence (apdu_of b) s (heard_got k (own_of s) y)) r o s' o') (sym (q ∙ ap Ok (sym i)))
         (subst (λ (f : Frame). DidServe (deed_of k f.fields sequence (tpdu_of f b) s (judged k (own_of s) f)) r o s' o') (sym i)
         (subst (λ (a : List ℕ). DidServe (deed_of k f.fields sequence a s (judged k (own_of s) f)) r o s' o') u h)))
 
-    pub not_read : (n : ℕ) → g ≡ got.Refused n → r ≡ result_of (leaving k [] n nobody) → Did s o
+    pub not_read : (y : ReadRefusal) (n : ℕ) → g ≡ Err y → n ≡ read_number y → r ≡ result_of (leaving k [] n nobody) → Did s o
     unfolding serve_of heard_of heard_got deed_of
-    not_read n z h =
-        let q : read_frame b ≡ got.Refused n = sym e.is ∙ z in
+    not_read y n z i h =
+        let q : read_frame b ≡ Err y = sym e.is ∙ z in
         let t = le-ltb (length o) longest l in
-        rw (t, q) record { result = h; sheet = refl; buffer = sym (splice_none o 0) }
+        rw (t, q, sym i) record { result = h; sheet = refl; buffer = sym (splice_none o 0) }

@@ -1,15 +1,16 @@
 -- THE EVENT OF A FRAME, or the number of why there is none.
-use Rattle.std.specs.Prelude.{ℕ, ◌+◌, Bool, cond, not, ◌&&◌, ◌||◌, List, length, leb, eqb}
+use Rattle.std.specs.Prelude.{ℕ, ◌+◌, Bool, cond, not, ◌&&◌, ◌||◌, List, length, leb, eqb, Result, Ok, Err}
 use Rattle.sheet.specs.Layout.{◌of◌}
 use Rattle.sheet.specs.Head as head
 use Rattle.device.specs.Sessions.{known}
 use Rattle.cemi.specs.Read.{read_frame}
 use Rattle.cemi.specs.Meaning.{connected, meaning_of}
 use Rattle.cemi.specs.declared.Frame.{Frame}
-use Rattle.cemi.specs.declared.Got.{Got}
-use Rattle.cemi.specs.declared.Got.TheVariants as got
+use Rattle.cemi.specs.declared.ReadRefusal.{ReadRefusal}
+use Rattle.cemi.specs.Refusal.{read_number, none_number}
 use Rattle.cemi.specs.declared.Meaning.{Meaning}
 use Rattle.cemi.specs.declared.Meaning.TheVariants as meaning
+use Rattle.cemi.specs.declared.NoMeaning.{NoMeaning}
 use Rattle.link.specs.Partners.{nobody, place_of, place_for}
 use Rattle.link.specs.declared.Link.{Link}
 use Rattle.link.specs.declared.Arrived.{Arrived}
@@ -41,11 +42,11 @@ unfoldable pub disconnects : ℕ → Arrived
 disconnects c = cond (known c) (Disconnect c) (Nothing 63 nobody)
 
 -- what a frame for this device means to it, by source and destination; of what transport alone deals with, 44 and 45, the sender's connection is told
-unfoldable pub meant : Link → ℕ → ℕ → Meaning → Arrived
-meant k source group (meaning.Data mode) = on_place mode (place_of k source) group
-meant k source group meaning.Connect = connects (place_for k source)
-meant k source group meaning.Disconnect = disconnects (place_of k source)
-meant k source group (meaning.Refused n) = Nothing n (place_of k source)
+unfoldable pub meant : Link → ℕ → ℕ → Result Meaning NoMeaning → Arrived
+meant k source group (Ok (meaning.Data mode)) = on_place mode (place_of k source) group
+meant k source group (Ok meaning.Connect) = connects (place_for k source)
+meant k source group (Ok meaning.Disconnect) = disconnects (place_of k source)
+meant k source group (Err e) = Nothing (none_number e) (place_of k source)
 
 -- a frame that reads and is for this device: 65 from itself to itself alone
 unfoldable pub from_other : Link → ℕ → Frame → Arrived
@@ -58,9 +59,9 @@ unfoldable pub judged : Link → ℕ → Frame → Arrived
 judged k own f =
     cond (for_us f.fields.control2 f.fields.destination own) (from_other k own f) (Nothing 60 nobody)
 
-unfoldable pub heard_got : Link → ℕ → Got → Arrived
-heard_got k own (got.Is f) = judged k own f
-heard_got k own (got.Refused n) = Nothing n nobody
+unfoldable pub heard_got : Link → ℕ → Result Frame ReadRefusal → Arrived
+heard_got k own (Ok f) = judged k own f
+heard_got k own (Err e) = Nothing (read_number e) nobody
 
 -- THE EVENT OF A FRAME b for the device with the address `own`
 unfoldable pub heard_of : Link → ℕ → List ℕ → Arrived

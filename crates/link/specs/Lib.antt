@@ -1,3 +1,4 @@
+pub mod Refusal
 pub mod Partners
 pub mod Hearing
 pub mod Serving

@@ -1,6 +1,6 @@
 -- WHO HAS WHICH CONNECTION: the partner of a connection is the individual address that connected last on it, while its session is open.
 -- So what closes the session, a disconnect, a time-out or a Restart, ends the partnership.
-use Rattle.std.specs.Prelude.{ℕ, Bool, cond, ◌&&◌, eqb}
+use Rattle.std.specs.Prelude.{ℕ, Bool, cond, ◌&&◌, eqb, Option, Some, None}
 use Rattle.judge.specs.declared.Session.{Session}
 use Rattle.device.specs.Sessions.{known}
 use Rattle.device.specs.declared.Sessions.{Sessions}
@@ -9,6 +9,11 @@ use Rattle.link.specs.declared.Link.{Link}
 -- the number of no connection
 abbrev pub nobody : ℕ
 nobody = 255
+
+-- a connection by its number, `nobody` if there is none
+abbrev pub number_at : Option ℕ → ℕ
+number_at (Some c) = c
+number_at None = nobody
 
 -- an open session whose partner's address this is
 abbrev pub sits : Session → ℕ → ℕ → Bool

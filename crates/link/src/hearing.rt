@@ -1,144 +1,109 @@
 // The event of a frame, or the number of why there is none.
 ghost use Rattle.std.specs.Prelude.{◌≡◌};
-ghost use Rattle.link.specs.Hearing.{own_of, for_us, to_itself, on_place, connects, disconnects, meant, from_other, judged, heard_of};
+ghost use Rattle.link.specs.Partners.{nobody};
+ghost use Rattle.link.specs.Refusal.{number_of};
+ghost use Rattle.link.specs.Hearing.{own_of, for_us, to_itself, meant, from_other, judged, heard_of};
+ghost use Rattle.link.specs.declared.Arrived.TheVariants.{Nothing};
 
-use crate::{Arrived, Link, places};
-use cemi::{Fields, Frame, Got, Meaning};
+use crate::{Arrived, Link, Refusal, places};
+use cemi::{Fields, Frame, Meaning, NoMeaning};
 
-// The address of this device, as the sheet has it; 0 where the sheet ends before it.
+// Connected data's mode, as cemi and the device number it.
+const CONNECTED: u8 = 3;
+
+// The address of this device, as the sheet has it; 0 where the sheet ends before it, which `own_of` of specs/ gives to all theorems.
+#[tactic(auto, unfolding(crate::specs::Hearing::own_of))]
 pub fn own_of(sheet: &[u8]) -> u16
     ensures { result ≡ own_of sheet.now }
 {
     if sheet.len() < 18 {
-        return 0;
+        0
+    } else {
+        octets::word(sheet, 16)
     }
-    octets::number(sheet, 16, 2) as u16
 }
 
 // Whether a frame to this destination, a group's or an individual address, is for the device with this address.
+#[tactic(auto, unfolding(crate::specs::Hearing::for_us))]
 fn is_for_us(control2: u8, destination: u16, own: u16) -> bool
     ensures { result ≡ for_us control2 destination own }
 {
-    if 128 <= control2 {
-        return true;
-    }
-    destination == own
+    128 <= control2 || destination == own
 }
 
 // Whether a frame for the device with this address, from this source, is from itself to itself alone.
+#[tactic(auto, unfolding(crate::specs::Hearing::to_itself))]
 fn is_to_itself(control2: u8, source: u16, own: u16) -> bool
     ensures { result ≡ to_itself control2 source own }
 {
-    if 128 <= control2 {
-        return false;
-    }
-    source == own
+    control2 < 128 && source == own
 }
 
-// Data: connected data is its partner's alone.
-fn data(mode: u8, place: u8, group: u16) -> Arrived
-    ensures { result ≡ on_place mode place group }
+// No event, and nobody's.
+fn nothing(why: Refusal) -> Arrived
+    ensures { result ≡ Nothing (number_of why) nobody }
 {
-    if mode != 3 {
-        return Arrived::Request {
-            mode,
-            connection: places::NOBODY,
-            group,
-        };
-    }
-    if place < places::KNOWN {
-        return Arrived::Request {
-            mode,
-            connection: place,
-            group,
-        };
-    }
     Arrived::Nothing {
-        number: 61,
+        number: why.number(),
         connection: places::NOBODY,
     }
 }
 
-// A connect, for the place that it is given.
-fn connect(given: u8) -> Arrived
-    ensures { result ≡ connects given }
-{
-    if given < places::KNOWN {
-        return Arrived::Connect(given);
-    }
-    Arrived::Nothing {
-        number: 62,
-        connection: places::NOBODY,
-    }
-}
-
-// A disconnect, by whoever holds a place.
-fn disconnect(held: u8) -> Arrived
-    ensures { result ≡ disconnects held }
-{
-    if held < places::KNOWN {
-        return Arrived::Disconnect(held);
-    }
-    Arrived::Nothing {
-        number: 63,
-        connection: places::NOBODY,
-    }
-}
-
-// What a frame for this device means to it.
-fn means(link: Link, f: Fields, m: Meaning) -> Arrived
+// What a frame for this device means to it. Connected data is its partner's alone; data without a connection is nobody's.
+#[tactic(auto, unfolding(crate::specs::Hearing::meant, crate::specs::Hearing::on_place, crate::specs::Hearing::connects, crate::specs::Hearing::disconnects))]
+fn means(link: Link, f: Fields, m: Result<Meaning, NoMeaning>) -> Arrived
     ensures { result ≡ meant link f.source f.destination m }
 {
     let place = places::place_of(link, f.source);
-    match m {
-        Meaning::Data(mode) => data(mode, place, f.destination),
-        Meaning::Connect => connect(places::place_for(link, f.source)),
-        Meaning::Disconnect => disconnect(place),
-        Meaning::Refused(n) => Arrived::Nothing {
-            number: n,
-            connection: place,
+    match (m, place) {
+        (Ok(Meaning::Data(CONNECTED)), Some(c)) => Arrived::Request {
+            mode: CONNECTED,
+            connection: c,
+            group: f.destination,
+        },
+        (Ok(Meaning::Data(CONNECTED)), None) => nothing(Refusal::Stranger),
+        (Ok(Meaning::Data(mode)), _) => Arrived::Request {
+            mode,
+            connection: places::NOBODY,
+            group: f.destination,
+        },
+        (Ok(Meaning::Connect), _) => match places::place_for(link, f.source) {
+            Some(c) => Arrived::Connect(c),
+            None => nothing(Refusal::Taken),
+        },
+        (Ok(Meaning::Disconnect), Some(c)) => Arrived::Disconnect(c),
+        (Ok(Meaning::Disconnect), None) => nothing(Refusal::NotConnected),
+        (Err(e), _) => Arrived::Nothing {
+            number: e.number(),
+            connection: place.unwrap_or(places::NOBODY),
         },
     }
 }
 
-// A frame for this device: what is to it alone under its own address is no event.
-fn from_other(link: Link, own: u16, f: Frame) -> Arrived
-    ensures { result ≡ from_other link own f }
-{
-    let fields = f.fields;
-    if is_to_itself(fields.control2, fields.source, own) {
-        return Arrived::Nothing {
-            number: 65,
-            connection: places::NOBODY,
-        };
-    }
-    let m = cemi::meant(f);
-    means(link, fields, m)
-}
-
-// A frame that reads.
+// A frame that reads: one for another device is no event, nor is one from this device to itself alone.
+#[tactic(auto, unfolding(crate::specs::Hearing::judged, crate::specs::Hearing::from_other))]
 pub fn judge(link: Link, own: u16, f: Frame) -> Arrived
     ensures { result ≡ judged link own f }
 {
     let fields = f.fields;
-    if is_for_us(fields.control2, fields.destination, own) {
-        return from_other(link, own, f);
-    }
-    Arrived::Nothing {
-        number: 60,
-        connection: places::NOBODY,
+    if !is_for_us(fields.control2, fields.destination, own) {
+        nothing(Refusal::Elsewhere)
+    } else if is_to_itself(fields.control2, fields.source, own) {
+        nothing(Refusal::Itself)
+    } else {
+        means(link, fields, cemi::meant(f))
     }
 }
 
 // THE EVENT OF A FRAME for the device with this address, or the number of why there is none.
+#[tactic(auto, unfolding(crate::specs::Hearing::heard_of, crate::specs::Hearing::heard_got))]
 pub fn heard(link: Link, own: u16, frame: &[u8]) -> Arrived
     ensures { result ≡ heard_of link own frame.now }
 {
-    let got = cemi::read(frame);
-    match got {
-        Got::Is(f) => judge(link, own, f),
-        Got::Refused(n) => Arrived::Nothing {
-            number: n,
+    match cemi::read(frame) {
+        Ok(f) => judge(link, own, f),
+        Err(e) => Arrived::Nothing {
+            number: e.number(),
             connection: places::NOBODY,
         },
     }

@@ -9,6 +9,8 @@ mod hearing;
 mod places;
 mod serving;
 
+ghost use Rattle.std.specs.Prelude.{◌≡◌};
+
 use device::{Changed, Sessions};
 pub use hearing::{heard, own_of};
 pub use serving::serve;
@@ -22,8 +24,37 @@ pub struct Link {
     pub second: u16,
 }
 
+// Why a frame that reads, or a buffer, is no event.
+#[derive(Clone, Copy, PartialEq, Eq)]
+pub enum Refusal {
+    // for another device
+    Elsewhere = 60,
+    // connected data of a stranger
+    Stranger = 61,
+    // a connect, with both connections taken
+    Taken = 62,
+    // a disconnect by a stranger
+    NotConnected = 63,
+    // a buffer without room for the longest answer
+    Room = 64,
+    // from this device to itself alone
+    Itself = 65,
+}
+
+impl Refusal {
+    ghost use Rattle.link.specs.Refusal.{number_of};
+
+    // The number by which C and the documents know it.
+    pub fn number(self) -> u8
+        ensures { result ≡ number_of self }
+    {
+        self as u8
+    }
+}
+
 // What a frame is to this device: a request in a mode, on a connection if connected, to a destination; a connect or disconnect
 // of a connection; or nothing, with the number of why, and the connection of the partner whose frame transport alone deals with.
+// Connections and numbers are as C and the theorems have them: 255 is no connection, and a number is one of cemi's refusals or of `Refusal`.
 #[derive(Clone, Copy)]
 pub enum Arrived {
     Request {
@@ -40,7 +71,7 @@ pub enum Arrived {
 }
 
 // What serving a frame gave: 0 and the event's outcome, or the number of why there is none; its connection; the count of bytes of
-// the answering frame; which parts of the sheet were stored; the link afterwards.
+// the answering frame; which parts of the sheet were stored; the link afterwards. Connection and numbers are as C has them.
 #[derive(Clone, Copy)]
 pub struct Served {
     pub number: u8,

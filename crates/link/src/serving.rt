@@ -1,45 +1,28 @@
 // A frame in, at most one frame out.
 ghost use Rattle.std.specs.Prelude.{◌≡◌, cond, [], ◌≤◌, eqb, length};
-ghost use Rattle.device.specs.Changed.{none};
 ghost use Rattle.link.specs.Hearing.{own_of, judged};
 ghost use Rattle.link.specs.Serving.{longest, leaving, joining, parting, deed_of, result_of, DidServe, ServedFrame};
 ghost use Rattle.link.specs.declared.Arrived.TheVariants.{Request};
 
-use crate::{Arrived, Link, Served, answering, hearing, places};
-use cemi::{Fields, Frame, Got};
-use device::{Changed, Run};
-
-// Nothing was stored.
-fn unchanged() -> Changed
-    ensures { result ≡ none }
-{
-    Changed {
-        first: Run {
-            offset: 0,
-            length: 0,
-        },
-        second: Run {
-            offset: 0,
-            length: 0,
-        },
-    }
-}
+use crate::{Arrived, Link, Refusal, Served, answering, hearing, places};
+use cemi::{Fields, Frame};
+use device::Changed;
 
 // Nothing but the number of why, and whose frame it was.
 fn silent(link: Link, number: u8, connection: u8) -> Served
     ensures { result ≡ result_of (leaving link [] number connection) }
 {
-    let changed = unchanged();
     Served {
         number,
         outcome: 0,
         connection,
         count: 0,
-        changed,
+        changed: Changed::NOTHING,
         link,
     }
 }
 
+// The address of a place after a connect of connection c.
 fn chosen(c: u8, place: u8, new: u16, old: u16) -> u16
     ensures { result ≡ cond (eqb c place) new old }
 {
@@ -51,20 +34,16 @@ fn connected(link: Link, c: u8, source: u16) -> Served
     ensures { result ≡ result_of (joining link [] c source) }
 {
     let d = device::connect(link.sessions, c);
-    let sessions = d.sessions;
-    let first = chosen(c, 0, source, link.first);
-    let second = chosen(c, 1, source, link.second);
-    let changed = unchanged();
     Served {
         number: 0,
         outcome: d.outcome,
         connection: c,
         count: 0,
-        changed,
+        changed: Changed::NOTHING,
         link: Link {
-            sessions,
-            first,
-            second,
+            sessions: d.sessions,
+            first: chosen(c, 0, source, link.first),
+            second: chosen(c, 1, source, link.second),
         },
     }
 }
@@ -73,23 +52,21 @@ fn disconnected(link: Link, c: u8) -> Served
     ensures { result ≡ result_of (parting link [] c) }
 {
     let d = device::disconnect(link.sessions, c);
-    let sessions = d.sessions;
-    let changed = unchanged();
     Served {
         number: 0,
         outcome: d.outcome,
         connection: c,
         count: 0,
-        changed,
+        changed: Changed::NOTHING,
         link: Link {
-            sessions,
-            first: link.first,
-            second: link.second,
+            sessions: d.sessions,
+            ..link
         },
     }
 }
 
-// A request that came with the fields f, carried out and answered.
+// A request that came with the fields f, carried out and answered. Mode, connection and group stand side by side, as in `Request`, which
+// the theorems apply to three numbers.
 fn requested(
     link: Link,
     f: Fields,
@@ -108,25 +85,22 @@ fn requested(
     let mut answer = [0u8; 16];
     let made = device::request(link.sessions, mode, c, group, apdu, sheet, &mut answer);
     let d = made.done;
-    let n = d.count;
-    let count = answering::send(f, own, mode, sequence, &answer[..n], out);
-    let sessions = d.sessions;
-    let changed = made.changed;
+    let count = answering::send(f, own, mode, sequence, &answer[..d.count], out);
     Served {
         number: 0,
         outcome: d.outcome,
         connection: c,
         count,
-        changed,
+        changed: made.changed,
         link: Link {
-            sessions,
-            first: link.first,
-            second: link.second,
+            sessions: d.sessions,
+            ..link
         },
     }
 }
 
 // A frame that reads, its bytes from octet 6 on being apdu.
+#[tactic(auto, using(octets::proofs::Splices::splice_none), unfolding(crate::specs::Serving::deed_of))]
 fn serve_frame(
     link: Link,
     f: Frame,
@@ -140,9 +114,8 @@ fn serve_frame(
         result out.old sheet.new out.new }
 {
     let own = hearing::own_of(&sheet[..]);
-    let arrived = hearing::judge(link, own, f);
     let fields = f.fields;
-    match arrived {
+    match hearing::judge(link, own, f) {
         Arrived::Request {
             mode,
             connection,
@@ -161,11 +134,10 @@ pub fn serve(link: Link, sequence: u8, frame: &[u8], sheet: &mut [u8], out: &mut
     ensures { ServedFrame link sequence frame.now sheet.old out.old result sheet.new out.new }
 {
     if out.len() < 25 {
-        return silent(link, 64, places::NOBODY);
+        return silent(link, Refusal::Room.number(), places::NOBODY);
     }
-    let got = cemi::read(frame);
-    match got {
-        Got::Is(f) => serve_frame(link, f, sequence, cemi::tpdu(f, frame), sheet, out),
-        Got::Refused(n) => silent(link, n, places::NOBODY),
+    match cemi::read(frame) {
+        Ok(f) => serve_frame(link, f, sequence, cemi::tpdu(f, frame), sheet, out),
+        Err(e) => silent(link, e.number(), places::NOBODY),
     }
 }

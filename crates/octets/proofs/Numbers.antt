@@ -12,9 +12,6 @@ pub num_two : (s : List ℕ) (at : ℕ) → num_at s at 2 ≡ get_or s at 0 * 25
 unfolding num_at
 num_two s at = omega (arith, ap (λ (k : ℕ). get_or s k 0) (add-zero at))
 
-pub num_pair : (s : List ℕ) (at : ℕ) → get_or s at 0 < 256 → get_or s (at + 1) 0 < 256 → IsNum s at 2 65536 (get_or s at 0 * 256 + get_or s (at + 1) 0)
-num_pair s at h k = record { value = sym (num_two s at); below = omega arith }
-
 -- building a number byte by byte
 pub num_none : (s : List ℕ) (at : ℕ) → IsNum s at 0 (256 ^ 0) 0
 unfolding num_at

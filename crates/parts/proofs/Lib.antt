@@ -1,6 +1,5 @@
 pub mod Filled
 pub mod Bits
-pub mod Taking
 pub mod Numbering
 pub mod Runs
 pub mod Back

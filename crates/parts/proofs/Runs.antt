@@ -92,6 +92,29 @@ module _ {P : ℕ → List ℕ → Type 0} {n w at : ℕ} {t₀ : List ℕ} wher
         let e : i ≡ n = omega (arith, r.most) in
         subst (λ (m : ℕ). Restores (Each n P) t₀ t at (at + w * m)) e r.along.done
 
+-- the place behind entry i of w bytes
+pub next_place : (at w i : ℕ) → at + w * i + w ≡ at + w * (i + 1)
+next_place at w i = grind arith
+
+-- the first n entries of an array, written as a list of their own
+pub front_written : {A : Type 0} (d : A) (W : A → ℕ → List ℕ → Type 0) (rs : List A) (n at w : ℕ) (t t' : List ℕ) → n ≤ length rs
+    → Restores (Each (length (take n rs)) (λ i s. W (get_or (take n rs) i d) (at + w * i) s)) t t' at (at + w * length (take n rs))
+    → Restores (Each n (λ i s. W (get_or rs i d) (at + w * i) s)) t t' at (at + w * n)
+front_written d W rs n at w t t' l r =
+    let e : length (take n rs) ≡ n = simp length-take (omega arith) in
+    record {
+      restored =
+          λ s o p h.
+          subst (λ (m : ℕ). SameFront t' s (at + w * m)) e
+          (r.restored s o
+          record {
+            each =
+                λ i k.
+                let m : i < n = omega (arith, e) in
+                subst (λ x. W x (at + w * i) s) (sym (get_or-take n rs i d m)) (p.each i m);
+          } h);
+    }
+
 -- a number of some bytes
 pub runs_from : (ds s : List ℕ) (at k : ℕ) → ((j : ℕ) → j < length ds → get_or ds j 0 ≡ get_or s (at + (k + j)) 0) → Runs ds s at k
 runs_from [] s at k f = tt

@@ -24,22 +24,24 @@ pub fn head(sheet: &[u8]) -> Head
         verify: flags / 2 % 2 == 1,
         address: number(sheet, 16, 2) as u16,
         keys,
-        rules: byte(sheet, 30) as u8,
+        rules: byte(sheet, 30),
     }
 }
 
+// That the sheet is accepted stays a clause: the plain engine has a check of its own and shares no code with `sheet`, whose type says it.
 pub fn counts(sheet: &[u8]) -> Counts
     requires { Accepted sheet.now }
     ensures { IsCounts result sheet.now }
 {
     Counts {
-        regions: byte(sheet, 1),
-        properties: byte(sheet, 2),
-        groups: byte(sheet, 3),
-        users: byte(sheet, 15),
+        regions: byte(sheet, 1) as usize,
+        properties: byte(sheet, 2) as usize,
+        groups: byte(sheet, 3) as usize,
+        users: byte(sheet, 15) as usize,
     }
 }
 
+// Three keys at three places, line by line: a loop would need the places again as an invariant, and is no plainer.
 fn write_keys(sheet: &mut [u8], keys: [u32; 3])
     requires { 32 ≤ length sheet.old }
     ensures { Restores (WholeKeys keys) sheet.old sheet.new 18 30 }

@@ -77,7 +77,7 @@ pub struct Head {
     pub rules: u8,
 }
 
-// A whole sheet and its length. The bodies stand at the places that the entries' offsets name, which are those of the sheet.
+// A whole sheet and its length, in arrays of fixed length with counts beside them: there is no heap. The bodies stand at the places that the entries' offsets name, which are those of the sheet.
 #[derive(Clone, Copy)]
 pub struct Parts {
     pub head: Head,

@@ -5,23 +5,15 @@ ghost use Rattle.parts.specs.Records.{Taken};
 ghost use Rattle.parts.specs.Again.{Restores, Whole, Roomy, second, third, fourth, end};
 
 use crate::front::{counts, head, write_head};
-use crate::lists::{
-    groups_from, properties_from, regions_from, write_groups, write_properties, write_regions,
-};
+use crate::lists::{entries_from, write_entries};
 use crate::{Counts, Parts, Starts};
-
-fn blank() -> [u8; 16384]
-    ensures { length result ≡ 16384 }
-{
-    [0u8; 16384]
-}
 
 // The bytes from a place on, each at its own place.
 fn bodies(sheet: &[u8], from: usize) -> [u8; 16384]
     requires { (from ≤ length sheet.now) × (length sheet.now ≤ 16384) }
     ensures { (length result ≡ 16384) × ((p : ℕ) → from ≤ p → p < length sheet.now → get_or result p 0 ≡ get_or sheet.now p 0) }
 {
-    let mut bodies = blank();
+    let mut bodies = [0u8; 16384];
     octets::splice(&mut bodies, from, &sheet[from..]);
     bodies
 }
@@ -46,13 +38,13 @@ pub fn take_apart(sheet: &[u8]) -> Parts
     requires { Accepted sheet.now }
     ensures { Taken sheet.now result }
 {
-    let head = head(sheet);
     let counts = counts(sheet);
+    let head = head(sheet);
     let starts = starts_of(counts);
-    let regions = regions_from(sheet, 32, counts.regions);
-    let properties = properties_from(sheet, starts.properties, counts.properties);
-    let groups = groups_from(sheet, starts.groups, counts.groups);
-    let users = regions_from(sheet, starts.users, counts.users);
+    let regions = entries_from(sheet, 32, counts.regions);
+    let properties = entries_from(sheet, starts.properties, counts.properties);
+    let groups = entries_from(sheet, starts.groups, counts.groups);
+    let users = entries_from(sheet, starts.users, counts.users);
     let bodies = bodies(sheet, starts.bodies);
     Parts {
         head,
@@ -72,19 +64,20 @@ pub fn write_again(parts: Parts, sheet: &mut [u8])
 {
     let counts = parts.counts;
     let starts = starts_of(counts);
-    let regions = parts.regions;
-    let properties = parts.properties;
-    let groups = parts.groups;
-    let users = parts.users;
-    let bodies = parts.bodies;
-    let end = starts.bodies;
-    let length = parts.length;
-    write_head(sheet, parts.head, counts, length);
-    write_regions(sheet, 32, regions, counts.regions);
-    write_properties(sheet, starts.properties, properties, counts.properties);
-    write_groups(sheet, starts.groups, groups, counts.groups);
-    write_regions(sheet, starts.users, users, counts.users);
-    octets::splice(sheet, end, &bodies[end..length]);
+    write_head(sheet, parts.head, counts, parts.length);
+    write_entries(sheet, 32, &parts.regions[..counts.regions]);
+    write_entries(
+        sheet,
+        starts.properties,
+        &parts.properties[..counts.properties],
+    );
+    write_entries(sheet, starts.groups, &parts.groups[..counts.groups]);
+    write_entries(sheet, starts.users, &parts.users[..counts.users]);
+    octets::splice(
+        sheet,
+        starts.bodies,
+        &parts.bodies[starts.bodies..parts.length],
+    );
 }
 
 // Taken apart and written again, an accepted sheet has the same bytes.

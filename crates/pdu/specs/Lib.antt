@@ -6,3 +6,4 @@ pub mod Read
 pub mod Write
 pub mod Allows
 pub mod Cleared
+pub mod Parts

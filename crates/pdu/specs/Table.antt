@@ -1,13 +1,11 @@
 -- THE SERVICE TABLE, and the list of the answers that a tool reads.
-use Rattle.std.specs.Prelude.{ℕ, ◌+◌, List, [], ◌∷◌, Bool, cond, ◌&&◌, leb, ltb}
+use Rattle.std.specs.Prelude.{ℕ, ◌+◌, List, [], ◌∷◌, Bool, cond, ◌&&◌, leb, ltb, Option, Some, None}
 use Rattle.pdu.specs.Item.{low, num, cap, duo, skip, none, by, twice, between, group, Row, row, V6, Address, Serial, Domain, T, Object, Id, N, S, Index, Typ, Maximum, Access, Level, Key}
 use Rattle.pdu.specs.declared.Service.{Service}
 use Rattle.pdu.specs.declared.Service.TheVariants.{GroupValueRead, GroupValueResponse, GroupValueWrite, IndividualAddressWrite, IndividualAddressRead, SerialNumberRead, SerialNumberWrite}
 use Rattle.pdu.specs.declared.Service.TheVariants.{DeviceDescriptorRead, PropertyValueRead, PropertyValueWrite, PropertyDescriptionRead, MemoryRead, MemoryWrite, MemoryBitWrite}
 use Rattle.pdu.specs.declared.Service.TheVariants.{AuthorizeRequest, KeyWrite, Restart, IndividualAddressResponse, SerialNumberResponse, DeviceDescriptorResponse, PropertyValueResponse}
 use Rattle.pdu.specs.declared.Service.TheVariants.{PropertyDescriptionResponse, MemoryResponse, AuthorizeResponse, KeyResponse, UserMemoryRead, UserMemoryResponse, UserMemoryWrite}
-use Rattle.pdu.specs.declared.Found.{Found}
-use Rattle.pdu.specs.declared.Found.TheVariants.{Listed, Unknown}
 
 abbrev pub row_of : Service → Row
 -- the services
@@ -56,15 +54,15 @@ abbrev pub has : Row → ℕ → Bool
 has r c = leb r.base c && ltb c (r.base + r.span)
 
 -- the service among these whose row has the code
-unfoldable pub find : List Service → ℕ → Found
-find [] c = Unknown
-find (k ∷ ks) c = cond (has (row_of k) c) (Listed k) (find ks c)
+unfoldable pub find : List Service → ℕ → Option Service
+find [] c = None
+find (k ∷ ks) c = cond (has (row_of k) c) (Some k) (find ks c)
 
 -- WHICH SERVICE A CODE NAMES
-abbrev pub service_at : ℕ → Found
+abbrev pub service_at : ℕ → Option Service
 service_at c = find services c
 
 -- the outcome of that by its number: 0 for a service, 8 for unknown
-abbrev pub found_outcome : Found → ℕ
-found_outcome (Listed k) = 0
-found_outcome Unknown = 8
+abbrev pub found_outcome : Option Service → ℕ
+found_outcome (Some k) = 0
+found_outcome None = 8

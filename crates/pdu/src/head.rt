@@ -6,6 +6,7 @@ ghost use Rattle.pdu.specs.Table.{row_of};
 ghost use Rattle.pdu.specs.Pdus.{service_of, values_of};
 ghost use Rattle.pdu.specs.Rules.{pair_of, ignored, head_bytes};
 ghost use Rattle.pdu.specs.Read.{data_at};
+ghost use Rattle.pdu.specs.Parts.{run_of, width_of, Narrow};
 
 use crate::Pdu;
 use octets::put;
@@ -13,44 +14,22 @@ use octets::put;
 // What ignored bytes are written as.
 const IGNORED: u64 = 0;
 
-// The code, and then so many numbers, each of so many bytes.
-fn none(out: &mut [u8], code: u64)
-    requires { 16 ≤ length out.old }
-    ensures { out.new ≡ splice out.old 0 (bytes_of 2 code ++ []) }
+// The bytes that a number takes, and the number.
+#[derive(Clone, Copy)]
+struct Part(usize, u64);
+
+// That a buffer has 16 bytes stays a clause here: the public `encode` asks for it of a slice, and a type round it would be taken apart at each put.
+// The code, and then the numbers, one after the other.
+fn numbers<const N: usize>(out: &mut [u8], code: u64, parts: [Part; N])
+    requires { (16 ≤ length out.old) × (Narrow parts) × (width_of parts ≤ 12) }
+    ensures { out.new ≡ splice out.old 0 (bytes_of 2 code ++ run_of parts.entry) }
 {
     put(out, 0, 2, code);
-}
-
-fn one(out: &mut [u8], code: u64, w: usize, x: u64)
-    requires { (16 ≤ length out.old) × (w ≤ 6) }
-    ensures { out.new ≡ splice out.old 0 (bytes_of 2 code ++ (bytes_of w x ++ [])) }
-{
-    none(out, code);
-    put(out, 2, w, x);
-}
-
-fn two(out: &mut [u8], code: u64, w: usize, x: u64, v: usize, y: u64)
-    requires { (16 ≤ length out.old) × (w ≤ 6) × (v ≤ 4) }
-    ensures { out.new ≡ splice out.old 0 (bytes_of 2 code ++ (bytes_of w x ++ (bytes_of v y ++ []))) }
-{
-    one(out, code, w, x);
-    put(out, 2 + w, v, y);
-}
-
-fn three(out: &mut [u8], code: u64, w: usize, x: u64, v: usize, y: u64, u: usize, z: u64)
-    requires { (16 ≤ length out.old) × (w ≤ 6) × (v ≤ 4) × (u ≤ 4) }
-    ensures { out.new ≡ splice out.old 0 (bytes_of 2 code ++ (bytes_of w x ++ (bytes_of v y ++ (bytes_of u z ++ [])))) }
-{
-    two(out, code, w, x, v, y);
-    put(out, 2 + w + v, u, z);
-}
-
-// A serial number, a number of two bytes, and u ignored bytes.
-fn serial(out: &mut [u8], code: u64, serial: u64, x: u16, u: usize)
-    requires { (16 ≤ length out.old) × (u ≤ 4) }
-    ensures { out.new ≡ splice out.old 0 (bytes_of 2 code ++ (bytes_of 6 serial ++ (bytes_of 2 x ++ (bytes_of u ignored ++ [])))) }
-{
-    three(out, code, 6, serial, 2, x as u64, u, IGNORED);
+    let mut at = 2;
+    for part in parts {
+        put(out, at, part.0, part.1);
+        at += part.0;
+    }
 }
 
 // A property's value: the fields n and s share two bytes.
@@ -58,8 +37,9 @@ fn property(out: &mut [u8], code: u64, object: u8, id: u8, n: u8, s: u16)
     requires { 16 ≤ length out.old }
     ensures { out.new ≡ splice out.old 0 (bytes_of 2 code ++ (bytes_of 1 object ++ (bytes_of 1 id ++ (bytes_of 2 (pair_of n s) ++ [])))) }
 {
-    let x = (n as u64) * 4096 + (s as u64);
-    three(out, code, 1, object as u64, 1, id as u64, 2, x);
+    let pair = u64::from(n) * 4096 + u64::from(s);
+    let parts = [Part(1, object.into()), Part(1, id.into()), Part(2, pair)];
+    numbers(out, code, parts);
 }
 
 // A property's description, asked for.
@@ -67,8 +47,12 @@ fn asked(out: &mut [u8], code: u64, object: u8, id: u8, index: u8)
     requires { 16 ≤ length out.old }
     ensures { out.new ≡ splice out.old 0 (bytes_of 2 code ++ (bytes_of 1 object ++ (bytes_of 1 id ++ (bytes_of 1 index ++ [])))) }
 {
-    let x = index as u64;
-    three(out, code, 1, object as u64, 1, id as u64, 1, x);
+    let parts = [
+        Part(1, object.into()),
+        Part(1, id.into()),
+        Part(1, index.into()),
+    ];
+    numbers(out, code, parts);
 }
 
 // A property's description, given.
@@ -86,38 +70,72 @@ fn described(
     ensures { out.new ≡ splice out.old 0
         (bytes_of 2 code ++ (bytes_of 1 object ++ (bytes_of 1 id ++ (bytes_of 1 index ++ (bytes_of 1 typ ++ (bytes_of 2 maximum ++ (bytes_of 1 access ++ []))))))) }
 {
-    asked(out, code, object, id, index);
-    put(out, 5, 1, typ as u64);
-    put(out, 6, 2, maximum as u64);
-    put(out, 8, 1, access as u64);
+    let parts = [
+        Part(1, object.into()),
+        Part(1, id.into()),
+        Part(1, index.into()),
+        Part(1, typ.into()),
+        Part(2, maximum.into()),
+        Part(1, access.into()),
+    ];
+    numbers(out, code, parts);
 }
 
 // The code and the fields of the PDU, stored from the first byte on.
+#[tactic(auto, unfolding(crate::specs::Rules::head_bytes))]
 pub(crate) fn put_head(pdu: Pdu, out: &mut [u8])
     requires { 16 ≤ length out.old }
     ensures { out.new ≡ splice out.old 0 (head_bytes (row_of (service_of pdu)) (values_of pdu)) }
 {
     match pdu {
-        Pdu::GroupValueRead => none(out, 0x000),
-        Pdu::GroupValueResponse { v } => none(out, 0x040 + (v as u64)),
-        Pdu::GroupValueWrite { v } => none(out, 0x080 + (v as u64)),
-        Pdu::IndividualAddressWrite { address } => one(out, 0x0C0, 2, address as u64),
-        Pdu::IndividualAddressRead => none(out, 0x100),
-        Pdu::SerialNumberRead { serial: x } => one(out, 0x3DC, 6, x),
-        Pdu::SerialNumberWrite { serial: x, address } => serial(out, 0x3DE, x, address, 4),
-        Pdu::DeviceDescriptorRead { t } => none(out, 0x300 + (t as u64)),
+        Pdu::GroupValueRead => numbers(out, 0x000, []),
+        Pdu::GroupValueResponse { v } => numbers(out, 0x040 + u64::from(v), []),
+        Pdu::GroupValueWrite { v } => numbers(out, 0x080 + u64::from(v), []),
+        Pdu::IndividualAddressWrite { address } => numbers(out, 0x0C0, [Part(2, address.into())]),
+        Pdu::IndividualAddressRead => numbers(out, 0x100, []),
+        Pdu::SerialNumberRead { serial } => numbers(out, 0x3DC, [Part(6, serial)]),
+        Pdu::SerialNumberWrite { serial, address } => numbers(
+            out,
+            0x3DE,
+            [Part(6, serial), Part(2, address.into()), Part(4, IGNORED)],
+        ),
+        Pdu::DeviceDescriptorRead { t } => numbers(out, 0x300 + u64::from(t), []),
         Pdu::PropertyValueRead { object, id, n, s } => property(out, 0x3D5, object, id, n, s),
         Pdu::PropertyValueWrite { object, id, n, s } => property(out, 0x3D7, object, id, n, s),
         Pdu::PropertyDescriptionRead { object, id, index } => asked(out, 0x3D8, object, id, index),
-        Pdu::MemoryRead { n, address } => one(out, 0x200 + (n as u64), 2, address as u64),
-        Pdu::MemoryWrite { n, address } => one(out, 0x280 + (n as u64), 2, address as u64),
-        Pdu::MemoryBitWrite { n, address } => two(out, 0x3D0, 1, n as u64, 2, address as u64),
-        Pdu::AuthorizeRequest { key } => two(out, 0x3D1, 1, IGNORED, 4, key as u64),
-        Pdu::KeyWrite { level, key } => two(out, 0x3D3, 1, level as u64, 4, key as u64),
-        Pdu::Restart => none(out, 0x380),
-        Pdu::IndividualAddressResponse => none(out, 0x140),
-        Pdu::SerialNumberResponse { serial: x, domain } => serial(out, 0x3DD, x, domain, 2),
-        Pdu::DeviceDescriptorResponse { t } => none(out, 0x340 + (t as u64)),
+        Pdu::MemoryRead { n, address } => numbers(
+            out,
+            0x200 + u64::from(n),
+            [Part(2, address.into())],
+        ),
+        Pdu::MemoryWrite { n, address } => numbers(
+            out,
+            0x280 + u64::from(n),
+            [Part(2, address.into())],
+        ),
+        Pdu::MemoryBitWrite { n, address } => numbers(
+            out,
+            0x3D0,
+            [Part(1, n.into()), Part(2, address.into())],
+        ),
+        Pdu::AuthorizeRequest { key } => numbers(
+            out,
+            0x3D1,
+            [Part(1, IGNORED), Part(4, key.into())],
+        ),
+        Pdu::KeyWrite { level, key } => numbers(
+            out,
+            0x3D3,
+            [Part(1, level.into()), Part(4, key.into())],
+        ),
+        Pdu::Restart => numbers(out, 0x380, []),
+        Pdu::IndividualAddressResponse => numbers(out, 0x140, []),
+        Pdu::SerialNumberResponse { serial, domain } => numbers(
+            out,
+            0x3DD,
+            [Part(6, serial), Part(2, domain.into()), Part(2, IGNORED)],
+        ),
+        Pdu::DeviceDescriptorResponse { t } => numbers(out, 0x340 + u64::from(t), []),
         Pdu::PropertyValueResponse { object, id, n, s } => property(out, 0x3D6, object, id, n, s),
         Pdu::PropertyDescriptionResponse {
             object,
@@ -127,12 +145,28 @@ pub(crate) fn put_head(pdu: Pdu, out: &mut [u8])
             maximum,
             access,
         } => described(out, 0x3D9, object, id, index, typ, maximum, access),
-        Pdu::MemoryResponse { n, address } => one(out, 0x240 + (n as u64), 2, address as u64),
-        Pdu::AuthorizeResponse { level } => one(out, 0x3D2, 1, level as u64),
-        Pdu::KeyResponse { level } => one(out, 0x3D4, 1, level as u64),
-        Pdu::UserMemoryRead { n, address } => two(out, 0x2C0, 1, n as u64, 2, address as u64),
-        Pdu::UserMemoryResponse { n, address } => two(out, 0x2C1, 1, n as u64, 2, address as u64),
-        Pdu::UserMemoryWrite { n, address } => two(out, 0x2C2, 1, n as u64, 2, address as u64),
+        Pdu::MemoryResponse { n, address } => numbers(
+            out,
+            0x240 + u64::from(n),
+            [Part(2, address.into())],
+        ),
+        Pdu::AuthorizeResponse { level } => numbers(out, 0x3D2, [Part(1, level.into())]),
+        Pdu::KeyResponse { level } => numbers(out, 0x3D4, [Part(1, level.into())]),
+        Pdu::UserMemoryRead { n, address } => numbers(
+            out,
+            0x2C0,
+            [Part(1, n.into()), Part(2, address.into())],
+        ),
+        Pdu::UserMemoryResponse { n, address } => numbers(
+            out,
+            0x2C1,
+            [Part(1, n.into()), Part(2, address.into())],
+        ),
+        Pdu::UserMemoryWrite { n, address } => numbers(
+            out,
+            0x2C2,
+            [Part(1, n.into()), Part(2, address.into())],
+        ),
     }
 }
 
@@ -141,33 +175,31 @@ pub(crate) fn data_at(pdu: Pdu) -> usize
     ensures { (result ≡ data_at pdu) × (result ≤ 14) }
 {
     match pdu {
-        Pdu::GroupValueRead => 2,
-        Pdu::GroupValueResponse { .. } => 2,
-        Pdu::GroupValueWrite { .. } => 2,
-        Pdu::IndividualAddressWrite { .. } => 4,
-        Pdu::IndividualAddressRead => 2,
+        Pdu::GroupValueRead
+        | Pdu::GroupValueResponse { .. }
+        | Pdu::GroupValueWrite { .. }
+        | Pdu::IndividualAddressRead
+        | Pdu::IndividualAddressResponse
+        | Pdu::DeviceDescriptorRead { .. }
+        | Pdu::DeviceDescriptorResponse { .. }
+        | Pdu::Restart => 2,
+        Pdu::AuthorizeResponse { .. } | Pdu::KeyResponse { .. } => 3,
+        Pdu::IndividualAddressWrite { .. }
+        | Pdu::MemoryRead { .. }
+        | Pdu::MemoryWrite { .. }
+        | Pdu::MemoryResponse { .. } => 4,
+        Pdu::PropertyDescriptionRead { .. }
+        | Pdu::MemoryBitWrite { .. }
+        | Pdu::UserMemoryRead { .. }
+        | Pdu::UserMemoryResponse { .. }
+        | Pdu::UserMemoryWrite { .. } => 5,
+        Pdu::PropertyValueRead { .. }
+        | Pdu::PropertyValueWrite { .. }
+        | Pdu::PropertyValueResponse { .. } => 6,
+        Pdu::AuthorizeRequest { .. } | Pdu::KeyWrite { .. } => 7,
         Pdu::SerialNumberRead { .. } => 8,
-        Pdu::SerialNumberWrite { .. } => 14,
-        Pdu::DeviceDescriptorRead { .. } => 2,
-        Pdu::PropertyValueRead { .. } => 6,
-        Pdu::PropertyValueWrite { .. } => 6,
-        Pdu::PropertyDescriptionRead { .. } => 5,
-        Pdu::MemoryRead { .. } => 4,
-        Pdu::MemoryWrite { .. } => 4,
-        Pdu::MemoryBitWrite { .. } => 5,
-        Pdu::AuthorizeRequest { .. } => 7,
-        Pdu::KeyWrite { .. } => 7,
-        Pdu::Restart => 2,
-        Pdu::IndividualAddressResponse => 2,
-        Pdu::SerialNumberResponse { .. } => 12,
-        Pdu::DeviceDescriptorResponse { .. } => 2,
-        Pdu::PropertyValueResponse { .. } => 6,
         Pdu::PropertyDescriptionResponse { .. } => 9,
-        Pdu::MemoryResponse { .. } => 4,
-        Pdu::AuthorizeResponse { .. } => 3,
-        Pdu::KeyResponse { .. } => 3,
-        Pdu::UserMemoryRead { .. } => 5,
-        Pdu::UserMemoryResponse { .. } => 5,
-        Pdu::UserMemoryWrite { .. } => 5,
+        Pdu::SerialNumberResponse { .. } => 12,
+        Pdu::SerialNumberWrite { .. } => 14,
     }
 }

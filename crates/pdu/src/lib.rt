@@ -6,14 +6,13 @@ ghost use Rattle.octets.specs.Octets.{ReadFrom};
 ghost use Rattle.octets.specs.Splice.{splice};
 ghost use Rattle.pdu.specs.Table.{service_at};
 ghost use Rattle.pdu.specs.Rules.{code_of};
-ghost use Rattle.pdu.specs.Read.{read_pdu, read_outcome, data_at, data_of};
-ghost use Rattle.pdu.specs.Write.{encoded, Wrote};
+ghost use Rattle.pdu.specs.Read.{read_number, read_pdu, read_outcome, data_at, data_of};
+ghost use Rattle.pdu.specs.Write.{write_number, encoded, Wrote};
 
 mod fields;
 mod head;
 mod parse;
 mod rules;
-mod take;
 
 // The services, then the answers, then those of user memory, in the table's order.
 #[derive(Clone, Copy)]
@@ -46,13 +45,6 @@ pub enum Service {
     UserMemoryRead,
     UserMemoryResponse,
     UserMemoryWrite,
-}
-
-// What a code names.
-#[derive(Clone, Copy)]
-pub enum Found {
-    Listed(Service),
-    Unknown,
 }
 
 // A PDU with its fields; its data stays in the APDU.
@@ -162,18 +154,35 @@ pub enum Pdu {
     },
 }
 
-// What reading gives: the PDU, or the number of the refusal.
-#[derive(Clone, Copy)]
-pub enum Parsed {
-    Is(Pdu),
-    Refused(u8),
+// Why an APDU is not read, by the number of the refusal.
+#[derive(Clone, Copy, PartialEq, Eq)]
+pub enum ReadRefusal {
+    Length = 5,
+    Service = 8,
+    Fields = 10,
 }
 
-// What writing gives: the count of bytes, or the number of the refusal.
-#[derive(Clone, Copy)]
-pub enum Written {
-    Bytes(usize),
-    Refused(u8),
+impl ReadRefusal {
+    pub fn number(self) -> u8
+        ensures { result ≡ read_number self }
+    {
+        self as u8
+    }
+}
+
+// Why a PDU is not written, by the number of the refusal.
+#[derive(Clone, Copy, PartialEq, Eq)]
+pub enum WriteRefusal {
+    Room = 3,
+    Fields = 13,
+}
+
+impl WriteRefusal {
+    pub fn number(self) -> u8
+        ensures { result ≡ write_number self }
+    {
+        self as u8
+    }
 }
 
 // The service code of an APDU; missing bytes count as 0.
@@ -184,93 +193,84 @@ pub fn code(apdu: &[u8]) -> u16
 }
 
 // What a code names, whatever the APDU's length.
-pub fn service_of(code: u16) -> Found
+#[tactic(auto, using(crate::proofs::Find::named_by, crate::proofs::Find::unnamed))]
+pub fn service_of(code: u16) -> Option<Service>
     ensures { result ≡ service_at code }
 {
     match code {
-        0x000 => Found::Listed(Service::GroupValueRead),
-        0x0C0 => Found::Listed(Service::IndividualAddressWrite),
-        0x100 => Found::Listed(Service::IndividualAddressRead),
-        0x3DC => Found::Listed(Service::SerialNumberRead),
-        0x3DE => Found::Listed(Service::SerialNumberWrite),
-        0x3D5 => Found::Listed(Service::PropertyValueRead),
-        0x3D7 => Found::Listed(Service::PropertyValueWrite),
-        0x3D8 => Found::Listed(Service::PropertyDescriptionRead),
-        0x3D0 => Found::Listed(Service::MemoryBitWrite),
-        0x3D1 => Found::Listed(Service::AuthorizeRequest),
-        0x3D3 => Found::Listed(Service::KeyWrite),
-        0x380 => Found::Listed(Service::Restart),
-        0x140 => Found::Listed(Service::IndividualAddressResponse),
-        0x3DD => Found::Listed(Service::SerialNumberResponse),
-        0x3D6 => Found::Listed(Service::PropertyValueResponse),
-        0x3D9 => Found::Listed(Service::PropertyDescriptionResponse),
-        0x3D2 => Found::Listed(Service::AuthorizeResponse),
-        0x3D4 => Found::Listed(Service::KeyResponse),
-        0x2C0 => Found::Listed(Service::UserMemoryRead),
-        0x2C1 => Found::Listed(Service::UserMemoryResponse),
-        0x2C2 => Found::Listed(Service::UserMemoryWrite),
-        _ => match code / 64 {
-            1 => Found::Listed(Service::GroupValueResponse),
-            2 => Found::Listed(Service::GroupValueWrite),
-            12 => Found::Listed(Service::DeviceDescriptorRead),
-            13 => Found::Listed(Service::DeviceDescriptorResponse),
-            _ => match code / 16 {
-                32 => Found::Listed(Service::MemoryRead),
-                36 => Found::Listed(Service::MemoryResponse),
-                40 => Found::Listed(Service::MemoryWrite),
-                _ => Found::Unknown,
-            },
-        },
+        0x000 => Some(Service::GroupValueRead),
+        0x040..=0x07F => Some(Service::GroupValueResponse),
+        0x080..=0x0BF => Some(Service::GroupValueWrite),
+        0x0C0 => Some(Service::IndividualAddressWrite),
+        0x100 => Some(Service::IndividualAddressRead),
+        0x140 => Some(Service::IndividualAddressResponse),
+        0x200..=0x20F => Some(Service::MemoryRead),
+        0x240..=0x24F => Some(Service::MemoryResponse),
+        0x280..=0x28F => Some(Service::MemoryWrite),
+        0x2C0 => Some(Service::UserMemoryRead),
+        0x2C1 => Some(Service::UserMemoryResponse),
+        0x2C2 => Some(Service::UserMemoryWrite),
+        0x300..=0x33F => Some(Service::DeviceDescriptorRead),
+        0x340..=0x37F => Some(Service::DeviceDescriptorResponse),
+        0x380 => Some(Service::Restart),
+        0x3D0 => Some(Service::MemoryBitWrite),
+        0x3D1 => Some(Service::AuthorizeRequest),
+        0x3D2 => Some(Service::AuthorizeResponse),
+        0x3D3 => Some(Service::KeyWrite),
+        0x3D4 => Some(Service::KeyResponse),
+        0x3D5 => Some(Service::PropertyValueRead),
+        0x3D6 => Some(Service::PropertyValueResponse),
+        0x3D7 => Some(Service::PropertyValueWrite),
+        0x3D8 => Some(Service::PropertyDescriptionRead),
+        0x3D9 => Some(Service::PropertyDescriptionResponse),
+        0x3DC => Some(Service::SerialNumberRead),
+        0x3DD => Some(Service::SerialNumberResponse),
+        0x3DE => Some(Service::SerialNumberWrite),
+        _ => None,
     }
 }
 
-// The PDU in bytes whose code names what is found, or the number of the refusal.
-pub fn read_found(found: Found, apdu: &[u8]) -> Parsed
+// The PDU in bytes whose code names what is found.
+pub fn read_found(found: Option<Service>, apdu: &[u8]) -> Result<Pdu, ReadRefusal>
     requires { found ≡ service_at (code_of apdu.now) }
     ensures { result ≡ read_pdu apdu.now }
 {
-    if apdu.len() < 2 {
-        return Parsed::Refused(5);
-    }
-    if 16 < apdu.len() {
-        return Parsed::Refused(5);
+    if apdu.len() < 2 || 16 < apdu.len() {
+        return Err(ReadRefusal::Length);
     }
     match found {
-        Found::Listed(k) => parse::judged(k, apdu),
-        Found::Unknown => Parsed::Refused(8),
+        Some(k) => parse::judged(k, apdu),
+        None => Err(ReadRefusal::Service),
     }
 }
 
-// The PDU in the bytes, or the number of the refusal.
-pub fn read(apdu: &[u8]) -> Parsed
+// The PDU in the bytes.
+pub fn read(apdu: &[u8]) -> Result<Pdu, ReadRefusal>
     ensures { ReadFrom apdu.now result (read_pdu apdu.now) }
 {
     read_found(service_of(code(apdu)), apdu)
 }
 
 // The outcome of a reading by its number.
-pub fn outcome(parsed: Parsed) -> u8
+pub fn outcome(parsed: Result<Pdu, ReadRefusal>) -> u8
     ensures { result ≡ read_outcome parsed }
 {
     match parsed {
-        Parsed::Is(_) => 0,
-        Parsed::Refused(n) => n,
+        Ok(_) => 0,
+        Err(e) => e.number(),
     }
 }
 
 // The data of a PDU that was read from the bytes.
+#[tactic(auto, unfolding(crate::specs::Read::data_of))]
 pub fn data_of(pdu: Pdu, apdu: &[u8]) -> &[u8]
     ensures { result.now ≡ data_of pdu apdu.now }
 {
-    let at = head::data_at(pdu);
-    if at <= apdu.len() {
-        &apdu[at..]
-    } else {
-        &apdu[apdu.len()..]
-    }
+    &apdu[head::data_at(pdu).min(apdu.len())..]
 }
 
 // The bytes of a PDU that has room, at the front of out: their count.
+#[tactic(auto, using(crate::proofs::promises::Writing::put_all))]
 pub fn encode(pdu: Pdu, data: &[u8], out: &mut [u8]) -> usize
     requires { (16 ≤ length out.old) × (data_at pdu + length «data».now ≤ 16) }
     ensures { (result ≡ data_at pdu + length «data».now) × (out.new ≡ splice out.old 0 (encoded pdu «data».now)) }
@@ -281,21 +281,17 @@ pub fn encode(pdu: Pdu, data: &[u8], out: &mut [u8]) -> usize
     at + data.len()
 }
 
-// The PDU's bytes at the front of out: their count, or the number of the refusal, and then out is as it was.
-pub fn write(pdu: Pdu, data: &[u8], out: &mut [u8]) -> Written
+// The PDU's bytes at the front of out: their count. On a refusal out is as it was.
+pub fn write(pdu: Pdu, data: &[u8], out: &mut [u8]) -> Result<usize, WriteRefusal>
     ensures { Wrote pdu «data».now out.old result out.new }
 {
     let at = head::data_at(pdu);
     let n = at + data.len();
     if out.len() < 16 {
-        return Written::Refused(3);
+        return Err(WriteRefusal::Room);
     }
-    if 16 < n {
-        return Written::Refused(13);
+    if 16 < n || !rules::allowed(pdu, n) {
+        return Err(WriteRefusal::Fields);
     }
-    if rules::allowed(pdu, n) {
-        Written::Bytes(encode(pdu, data, out))
-    } else {
-        Written::Refused(13)
-    }
+    Ok(encode(pdu, data, out))
 }

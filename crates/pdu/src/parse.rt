@@ -2,10 +2,10 @@
 ghost use Rattle.std.specs.Prelude.{◌≡◌};
 ghost use Rattle.pdu.specs.Read.{built_of, read_as};
 
-use crate::fields::{byte, low, word};
+use crate::fields::{ID, OBJECT, low, property_value, word};
 use crate::rules::allowed;
-use crate::{Parsed, Pdu, Service, take};
-use octets::number;
+use crate::{Pdu, ReadRefusal, Service};
+use octets::{byte, number};
 
 // The PDU of the service with the fields in the bytes.
 fn built(k: Service, s: &[u8]) -> Pdu
@@ -27,9 +27,23 @@ fn built(k: Service, s: &[u8]) -> Pdu
             address: word(s, 8),
         },
         Service::DeviceDescriptorRead => Pdu::DeviceDescriptorRead { t: low(s, 64) },
-        Service::PropertyValueRead => take::property_value_read(s),
-        Service::PropertyValueWrite => take::property_value_write(s),
-        Service::PropertyDescriptionRead => take::property_description_read(s),
+        Service::PropertyValueRead => {
+            property_value(
+                s,
+                |object, id, n, s| Pdu::PropertyValueRead { object, id, n, s },
+            )
+        },
+        Service::PropertyValueWrite => {
+            property_value(
+                s,
+                |object, id, n, s| Pdu::PropertyValueWrite { object, id, n, s },
+            )
+        },
+        Service::PropertyDescriptionRead => Pdu::PropertyDescriptionRead {
+            object: byte(s, OBJECT),
+            id: byte(s, ID),
+            index: byte(s, 4),
+        },
         Service::MemoryRead => Pdu::MemoryRead {
             n: low(s, 16),
             address: word(s, 2),
@@ -56,8 +70,20 @@ fn built(k: Service, s: &[u8]) -> Pdu
             domain: word(s, 8),
         },
         Service::DeviceDescriptorResponse => Pdu::DeviceDescriptorResponse { t: low(s, 64) },
-        Service::PropertyValueResponse => take::property_value_response(s),
-        Service::PropertyDescriptionResponse => take::property_description_response(s),
+        Service::PropertyValueResponse => {
+            property_value(
+                s,
+                |object, id, n, s| Pdu::PropertyValueResponse { object, id, n, s },
+            )
+        },
+        Service::PropertyDescriptionResponse => Pdu::PropertyDescriptionResponse {
+            object: byte(s, OBJECT),
+            id: byte(s, ID),
+            index: byte(s, 4),
+            typ: byte(s, 5),
+            maximum: word(s, 6),
+            access: byte(s, 8),
+        },
         Service::MemoryResponse => Pdu::MemoryResponse {
             n: low(s, 16),
             address: word(s, 2),
@@ -79,14 +105,14 @@ fn built(k: Service, s: &[u8]) -> Pdu
     }
 }
 
-// That PDU, or 10 where the table does not let it stand in the bytes.
-pub(crate) fn judged(k: Service, s: &[u8]) -> Parsed
+// That PDU, if the table lets it stand in the bytes.
+pub(crate) fn judged(k: Service, s: &[u8]) -> Result<Pdu, ReadRefusal>
     ensures { result ≡ read_as k s.now }
 {
     let pdu = built(k, s);
     if allowed(pdu, s.len()) {
-        Parsed::Is(pdu)
+        Ok(pdu)
     } else {
-        Parsed::Refused(10)
+        Err(ReadRefusal::Fields)
     }
 }

@@ -1,105 +1,75 @@
 // The whole code table: what the two bytes of each code read as, in runs of codes that read alike.
 use crate::cases::reads_and_writes;
-use crate::{plain, words};
-use lines::{part, say, write, write_decimal, write_hex};
-use std::num::{wrapping_add_u64, wrapping_sub_u16};
+use crate::words::{answer, name};
+use lines::{text, word, write};
+use pdu::Service;
 
-// A run of codes from the first on, the outcome and the kind of each, and how many codes were wrong so far.
+// What a code names, and the outcome of reading its two bytes; none where it is wrong.
 #[derive(Clone, Copy)]
-pub(crate) struct Run {
-    pub(crate) first: u16,
-    pub(crate) outcome: u64,
-    pub(crate) kind: usize,
-    pub(crate) wrong: u64,
+struct Reading {
+    service: Option<Service>,
+    outcome: Option<u8>,
 }
 
-// The second bytes read as the first ones do, and are written again.
-fn reads_alike(bytes: &[u8], top: &[u8]) -> bool {
-    let mut text = [0u8; 256];
-    let n = words::put_answer(&mut text, 0, plain::read(bytes));
-    let mut got = [0u8; 256];
-    reads_and_writes(top, part(&text, 0, n), &mut got) == 0
+impl Reading {
+    fn is_like(self, other: Reading) -> bool {
+        self.outcome == other.outcome && self.service.map(name) == other.service.map(name)
+    }
 }
 
-// The outcome of reading the two bytes of a code. It is 99 where the PDU is not of the kind that the code names, and where
+// The outcome of reading the two bytes of a code. There is none where the PDU is not of the kind that the code names, and where
 // with the top six bits set the code is another, or they read otherwise, or are not written without these bits.
-fn outcome_at(code: u16, kind: usize) -> u64 {
-    let low = (code % 256) as u8;
-    let bytes = [(code / 256 % 4) as u8, low];
-    let top = [(252 + code / 256 % 4) as u8, low];
-    if !reads_alike(&bytes, &top) {
-        return 99;
+fn outcome_at(code: u16, service: Option<Service>) -> Option<u8> {
+    let [high, low] = code.to_be_bytes();
+    let bytes = [high % 4, low];
+    let top = [252 + high % 4, low];
+    let answer = answer(&bytes);
+    if reads_and_writes(&top, answer.as_slice()).is_err() || pdu::code(&top) != code {
+        return None;
     }
-    if pdu::code(&top) != code {
-        return 99;
+    let outcome = pdu::outcome(pdu::read(&bytes));
+    if outcome == 0 && word(answer.as_slice(), 1) != service.map_or("", name).as_bytes() {
+        return None;
     }
-    let p = plain::read(&bytes);
-    if p.outcome != 0 {
-        return p.outcome;
-    }
-    if p.kind != kind {
-        return 99;
-    }
-    0
+    Some(outcome)
 }
 
-fn run_at(code: u16, wrong: u64) -> Run {
-    let kind = plain::kind_at(code);
-    let outcome = outcome_at(code, kind);
-    let more = if outcome == 99 { 1 } else { 0 };
-    Run {
-        first: code,
-        outcome,
-        kind,
-        wrong: wrapping_add_u64(wrong, more),
+fn reading_at(code: u16) -> Reading {
+    let service = pdu::service_of(code);
+    Reading {
+        service,
+        outcome: outcome_at(code, service),
     }
 }
 
-fn say_last(rt: &impl Print, first: u16, last: u16) {
+// `FIRST..LAST: OUTCOME KIND`; the outcome 99 says that it is wrong.
+fn say_run(rt: &impl Print, first: u16, last: u16, reading: Reading) {
+    let _ = print!(rt; "{first:03x}");
     if first != last {
-        write(rt, b"..");
-        write_hex(rt, last as u64, 3);
+        let _ = print!(rt; "..{last:03x}");
     }
-}
-
-// `FIRST..LAST: OUTCOME KIND`
-fn say_run(rt: &impl Print, r: Run, last: u16) {
-    write_hex(rt, r.first as u64, 3);
-    say_last(rt, r.first, last);
-    write(rt, b": ");
-    write_decimal(rt, r.outcome);
-    if r.kind < 28 {
-        words::say_kind(rt, r.kind);
-    } else {
-        say(rt, b"", b"");
+    let outcome = reading.outcome.unwrap_or(99);
+    let _ = print!(rt; ": {outcome}");
+    if let Some(service) = reading.service {
+        let _ = print!(rt; " {}", name(service));
     }
-}
-
-// The run with the code, or the run that starts there.
-fn step(rt: &impl Print, r: Run, code: u16) -> Run {
-    let next = run_at(code, r.wrong);
-    if next.kind == r.kind {
-        if next.outcome == r.outcome {
-            return Run {
-                first: r.first,
-                outcome: r.outcome,
-                kind: r.kind,
-                wrong: next.wrong,
-            };
-        }
-    }
-    say_run(rt, r, wrapping_sub_u16(code, 1));
-    next
+    write(rt, b"\n");
 }
 
 // Says the runs, and how many codes are wrong.
 pub(crate) fn table(rt: &impl Print) -> u64 {
-    let mut r = run_at(0, 0);
-    let mut code = 1;
-    while code < 1024 {
-        r = step(rt, r, code);
-        code += 1;
+    let mut first = 0;
+    let mut reading = reading_at(0);
+    let mut wrong = u64::from(reading.outcome.is_none());
+    for last in 0..1023 {
+        let next = reading_at(last + 1);
+        wrong = wrong.wrapping_add(u64::from(next.outcome.is_none()));
+        if !next.is_like(reading) {
+            say_run(rt, first, last, reading);
+            first = last + 1;
+            reading = next;
+        }
     }
-    say_run(rt, r, 1023);
-    r.wrong
+    say_run(rt, first, 1023, reading);
+    wrong
 }

@@ -1,185 +1,382 @@
 // PDUs in words, `kind field=value ..`: shown, and taken from the words.
-use crate::plain::Plain;
-use lines::{
-    before, beyond, digits, named, part, piece, put, put_all, put_decimal, put_digits, put_hex,
-    put_unhex, say, which, word,
-};
+use arrayvec::ArrayVec;
+use lines::{Hex, Text, digits, split_once, text, unhex, word};
+use pdu::{Pdu, Service};
+use std::fmt;
 
-// The kinds by number, each with its fields in order.
-fn rows() -> [u8; 720] {
-    *b"group_read
-group_response v data
-group_write v data
-address_write address
-address_read
-serial_read serial
-serial_write serial address
-descriptor_read t
-property_read object id n s
-property_write object id n s data
-description_read object id index
-memory_read n address
-memory_write n address data
-memory_bit_write n address and xor
-authorize_request key
-key_write level key
-restart
-address_response
-serial_response serial domain
-descriptor_response t data
-property_response object id n s data
-description_response object id index type maximum access
-memory_response n address data
-authorize_response level
-key_response level
-user_memory_read n address
-user_memory_response n address data
-user_memory_write n address data"
-}
-
-// The name of a kind, written.
-pub(crate) fn say_kind(rt: &impl Print, kind: usize) {
-    let all = rows();
-    say(rt, b" ", word(piece(&all, kind, b'\n'), 0));
-}
-
-// The number of the kind of that name, or 28.
-fn kind_named(name: &[u8]) -> usize {
-    let all = rows();
-    named(&all, b'\n', b' ', name)
-}
-
-// How a field is written: 0 and 1 in hex digits, 2 all the data, 3 its AND bytes, 4 its XOR bytes, 5 decimal.
-fn style(name: &[u8]) -> usize {
-    which(b"serial key data and xor", name)
-}
-
-fn value(p: Plain, i: usize) -> u64 {
-    let x = p.x;
-    if i < 6 { x[i] } else { 0 }
-}
-
-// How many bytes of the data are AND bytes: n, or all where there are fewer.
-fn ands(p: Plain) -> usize {
-    let n = value(p, 0);
-    if n < 32 { n as usize } else { p.len }
-}
-
-// The data from a place up to another.
-fn put_data(out: &mut [u8], at: usize, p: Plain, from: usize, to: usize) -> usize {
-    let data = p.data;
-    put_hex(out, at, part(part(&data, 0, p.len), from, to))
-}
-
-fn put_value(out: &mut [u8], at: usize, how: usize, i: usize, p: Plain) -> usize {
-    match how {
-        0 => put_digits(out, at, value(p, i), 12),
-        1 => put_digits(out, at, value(p, i), 8),
-        2 => put_data(out, at, p, 0, p.len),
-        3 => put_data(out, at, p, 0, ands(p)),
-        4 => put_data(out, at, p, ands(p), p.len),
-        _ => put_decimal(out, at, value(p, i)),
+// The name of a service's PDU.
+pub(crate) fn name(service: Service) -> &'static str {
+    match service {
+        Service::GroupValueRead => "group_read",
+        Service::GroupValueResponse => "group_response",
+        Service::GroupValueWrite => "group_write",
+        Service::IndividualAddressWrite => "address_write",
+        Service::IndividualAddressRead => "address_read",
+        Service::SerialNumberRead => "serial_read",
+        Service::SerialNumberWrite => "serial_write",
+        Service::DeviceDescriptorRead => "descriptor_read",
+        Service::PropertyValueRead => "property_read",
+        Service::PropertyValueWrite => "property_write",
+        Service::PropertyDescriptionRead => "description_read",
+        Service::MemoryRead => "memory_read",
+        Service::MemoryWrite => "memory_write",
+        Service::MemoryBitWrite => "memory_bit_write",
+        Service::AuthorizeRequest => "authorize_request",
+        Service::KeyWrite => "key_write",
+        Service::Restart => "restart",
+        Service::IndividualAddressResponse => "address_response",
+        Service::SerialNumberResponse => "serial_response",
+        Service::DeviceDescriptorResponse => "descriptor_response",
+        Service::PropertyValueResponse => "property_response",
+        Service::PropertyDescriptionResponse => "description_response",
+        Service::MemoryResponse => "memory_response",
+        Service::AuthorizeResponse => "authorize_response",
+        Service::KeyResponse => "key_response",
+        Service::UserMemoryRead => "user_memory_read",
+        Service::UserMemoryResponse => "user_memory_response",
+        Service::UserMemoryWrite => "user_memory_write",
     }
 }
 
-// ` name=value`; nothing where there is no name.
-fn put_field(out: &mut [u8], at: usize, name: &[u8], i: usize, p: Plain) -> usize {
-    if name.len() == 0 {
-        return at;
-    }
-    let a = put(out, at, b' ');
-    let b = put_all(out, a, name);
-    let c = put(out, b, b'=');
-    put_value(out, c, style(name), i, p)
+static SERVICES: [Service; 28] = [
+    Service::GroupValueRead,
+    Service::GroupValueResponse,
+    Service::GroupValueWrite,
+    Service::IndividualAddressWrite,
+    Service::IndividualAddressRead,
+    Service::SerialNumberRead,
+    Service::SerialNumberWrite,
+    Service::DeviceDescriptorRead,
+    Service::PropertyValueRead,
+    Service::PropertyValueWrite,
+    Service::PropertyDescriptionRead,
+    Service::MemoryRead,
+    Service::MemoryWrite,
+    Service::MemoryBitWrite,
+    Service::AuthorizeRequest,
+    Service::KeyWrite,
+    Service::Restart,
+    Service::IndividualAddressResponse,
+    Service::SerialNumberResponse,
+    Service::DeviceDescriptorResponse,
+    Service::PropertyValueResponse,
+    Service::PropertyDescriptionResponse,
+    Service::MemoryResponse,
+    Service::AuthorizeResponse,
+    Service::KeyResponse,
+    Service::UserMemoryRead,
+    Service::UserMemoryResponse,
+    Service::UserMemoryWrite,
+];
+
+fn named(word: &[u8]) -> Option<Service> {
+    SERVICES
+        .iter()
+        .copied()
+        .find(|&service| name(service).as_bytes() == word)
 }
 
-fn put_fields(out: &mut [u8], at: usize, row: &[u8], p: Plain) -> usize {
-    let mut to = at;
-    let mut i = 0;
-    while i < 6 {
-        to = put_field(out, to, word(row, i + 1), i, p);
-        i += 1;
+// A PDU's name and its fields.
+#[derive(Clone, Copy)]
+struct Fields(Pdu);
+
+impl fmt::Display for Fields {
+    fn fmt<W: fmt::Write>(&self, f: &mut fmt::Formatter<W>) -> fmt::Result {
+        match self.0 {
+            Pdu::GroupValueRead => write!(f, "group_read"),
+            Pdu::GroupValueResponse { v } => write!(f, "group_response v={v}"),
+            Pdu::GroupValueWrite { v } => write!(f, "group_write v={v}"),
+            Pdu::IndividualAddressWrite { address } => {
+                write!(f, "address_write address={address}")
+            }
+            Pdu::IndividualAddressRead => write!(f, "address_read"),
+            Pdu::SerialNumberRead { serial } => write!(f, "serial_read serial={serial:012x}"),
+            Pdu::SerialNumberWrite { serial, address } => {
+                write!(f, "serial_write serial={serial:012x} address={address}")
+            }
+            Pdu::DeviceDescriptorRead { t } => write!(f, "descriptor_read t={t}"),
+            Pdu::PropertyValueRead { object, id, n, s } => {
+                write!(f, "property_read object={object} id={id} n={n} s={s}")
+            }
+            Pdu::PropertyValueWrite { object, id, n, s } => {
+                write!(f, "property_write object={object} id={id} n={n} s={s}")
+            }
+            Pdu::PropertyDescriptionRead { object, id, index } => {
+                write!(f, "description_read object={object} id={id} index={index}")
+            }
+            Pdu::MemoryRead { n, address } => write!(f, "memory_read n={n} address={address}"),
+            Pdu::MemoryWrite { n, address } => write!(f, "memory_write n={n} address={address}"),
+            Pdu::MemoryBitWrite { n, address } => {
+                write!(f, "memory_bit_write n={n} address={address}")
+            }
+            Pdu::AuthorizeRequest { key } => write!(f, "authorize_request key={key:08x}"),
+            Pdu::KeyWrite { level, key } => write!(f, "key_write level={level} key={key:08x}"),
+            Pdu::Restart => write!(f, "restart"),
+            Pdu::IndividualAddressResponse => write!(f, "address_response"),
+            Pdu::SerialNumberResponse { serial, domain } => {
+                write!(f, "serial_response serial={serial:012x} domain={domain}")
+            }
+            Pdu::DeviceDescriptorResponse { t } => write!(f, "descriptor_response t={t}"),
+            Pdu::PropertyValueResponse { object, id, n, s } => {
+                write!(f, "property_response object={object} id={id} n={n} s={s}")
+            }
+            Pdu::PropertyDescriptionResponse {
+                object,
+                id,
+                index,
+                typ,
+                maximum,
+                access,
+            } => {
+                write!(
+                    f,
+                    "description_response object={object} id={id} index={index}"
+                )?;
+                write!(f, " type={typ} maximum={maximum} access={access}")
+            }
+            Pdu::MemoryResponse { n, address } => {
+                write!(f, "memory_response n={n} address={address}")
+            }
+            Pdu::AuthorizeResponse { level } => write!(f, "authorize_response level={level}"),
+            Pdu::KeyResponse { level } => write!(f, "key_response level={level}"),
+            Pdu::UserMemoryRead { n, address } => {
+                write!(f, "user_memory_read n={n} address={address}")
+            }
+            Pdu::UserMemoryResponse { n, address } => {
+                write!(f, "user_memory_response n={n} address={address}")
+            }
+            Pdu::UserMemoryWrite { n, address } => {
+                write!(f, "user_memory_write n={n} address={address}")
+            }
+        }
     }
-    to
 }
 
-// The kind's row has data.
-fn has_data(kind: usize) -> bool {
-    match kind {
-        1 | 2 | 9 | 12 | 13 | 19 | 20 | 22 | 26 | 27 => true,
-        _ => false,
-    }
+// A PDU and its data, shown in words. Data that its kind does not have is shown too.
+#[derive(Clone, Copy)]
+pub(crate) struct Words<'a> {
+    pub(crate) pdu: Pdu,
+    pub(crate) data: &'a [u8],
 }
 
-// The PDU in words; data that its kind does not have is shown too.
-pub(crate) fn put_pdu(out: &mut [u8], at: usize, p: Plain) -> usize {
-    let kind = p.kind;
-    let all = rows();
-    let row = piece(&all, kind, b'\n');
-    let a = put_all(out, at, word(row, 0));
-    let b = put_fields(out, a, row, p);
-    if has_data(kind) {
-        return b;
+// The AND bytes and the XOR bytes of n bits' data: n of the first, or all from 32 on.
+fn halves(n: u8, data: &[u8]) -> (&[u8], &[u8]) {
+    if 32 <= n {
+        return (data, &[]);
     }
-    if p.len == 0 {
-        return b;
+    let n = usize::from(n);
+    (data.get(..n).unwrap_or(&[]), data.get(n..).unwrap_or(&[]))
+}
+
+impl fmt::Display for Words<'_> {
+    fn fmt<W: fmt::Write>(&self, f: &mut fmt::Formatter<W>) -> fmt::Result {
+        let fields = Fields(self.pdu);
+        let data = Hex(self.data);
+        match self.pdu {
+            Pdu::MemoryBitWrite { n, .. } => {
+                let (and, xor) = halves(n, self.data);
+                let (and, xor) = (Hex(and), Hex(xor));
+                write!(f, "{fields} and={and} xor={xor}")
+            }
+            Pdu::GroupValueResponse { .. }
+            | Pdu::GroupValueWrite { .. }
+            | Pdu::PropertyValueWrite { .. }
+            | Pdu::MemoryWrite { .. }
+            | Pdu::DeviceDescriptorResponse { .. }
+            | Pdu::PropertyValueResponse { .. }
+            | Pdu::MemoryResponse { .. }
+            | Pdu::UserMemoryResponse { .. }
+            | Pdu::UserMemoryWrite { .. } => write!(f, "{fields} data={data}"),
+            _ if self.data.is_empty() => write!(f, "{fields}"),
+            _ => write!(f, "{fields} data={data}"),
+        }
     }
-    put_field(out, b, b"data", 6, p)
 }
 
 // `0` and the PDU in words, or the number of the refusal.
-pub(crate) fn put_answer(out: &mut [u8], at: usize, p: Plain) -> usize {
-    if p.outcome != 0 {
-        return put_decimal(out, at, p.outcome);
-    }
-    let a = put_all(out, at, b"0 ");
-    put_pdu(out, a, p)
-}
-
-// With these bytes at the end of the data.
-fn with_data(p: Plain, hex: &[u8]) -> Plain {
-    let mut data = p.data;
-    let mut r = p;
-    r.len = put_unhex(&mut data, p.len, hex);
-    r.data = data;
-    r
-}
-
-fn with_number(p: Plain, i: usize, n: u64) -> Plain {
-    let mut r = p;
-    if i < 6 {
-        r.x[i] = n;
-    }
-    r
-}
-
-// With the i-th field as a word `name=value` has it.
-fn with_word(p: Plain, i: usize, word: &[u8]) -> Plain {
-    if word.len() == 0 {
-        return p;
-    }
-    let how = style(before(word, b'='));
-    let text = beyond(word, b'=');
-    match how {
-        0 | 1 => with_number(p, i, digits(text, 16)),
-        2 | 3 | 4 => with_data(p, text),
-        _ => with_number(p, i, digits(text, 10)),
+pub(crate) fn answer(apdu: &[u8]) -> Text {
+    match pdu::read(apdu) {
+        Ok(pdu) => accepted(Words {
+            pdu,
+            data: pdu::data_of(pdu, apdu),
+        }),
+        Err(refusal) => text(refusal.number()),
     }
 }
 
-// What the words say, as far as they say anything.
-pub(crate) fn taken(words: &[u8]) -> Plain {
-    let mut p = Plain {
-        outcome: 0,
-        kind: kind_named(word(words, 0)),
-        x: [0; 6],
-        len: 0,
-        data: [0; 64],
-    };
-    let mut i = 0;
-    while i < 7 {
-        p = with_word(p, i, word(words, i + 1));
-        i += 1;
+pub(crate) fn accepted(words: Words) -> Text {
+    text(format_args!("0 {words}"))
+}
+
+// The number in the k-th word.
+fn field<T: TryFrom<u64>>(words: &[u8], k: usize, base: u64) -> Option<T>
+where
+    T::Error: Drop,
+{
+    let (_, value) = split_once(word(words, k), b'=')?;
+    digits(value, base)
+}
+
+fn decimal<T: TryFrom<u64>>(words: &[u8], k: usize) -> Option<T>
+where
+    T::Error: Drop,
+{
+    field(words, k, 10)
+}
+
+// A PDU of one number in a byte.
+fn octet<F: Fn(u8) -> Pdu>(words: &[u8], pdu: F) -> Option<Pdu>
+    requires { F.IsAlwaysCallable pdu }
+{
+    Some(pdu(decimal(words, 1)?))
+}
+
+// A PDU on n bytes of memory.
+fn memory<F: Fn(u8, u16) -> Pdu>(words: &[u8], pdu: F) -> Option<Pdu>
+    requires { F.IsAlwaysCallable pdu }
+{
+    Some(pdu(decimal(words, 1)?, decimal(words, 2)?))
+}
+
+// A PDU on n elements of a property.
+fn property<F: Fn(u8, u8, u8, u16) -> Pdu>(words: &[u8], pdu: F) -> Option<Pdu>
+    requires { F.IsAlwaysCallable pdu }
+{
+    Some(pdu(
+        decimal(words, 1)?,
+        decimal(words, 2)?,
+        decimal(words, 3)?,
+        decimal(words, 4)?,
+    ))
+}
+
+fn address_write(words: &[u8]) -> Option<Pdu> {
+    Some(Pdu::IndividualAddressWrite {
+        address: decimal(words, 1)?,
+    })
+}
+
+fn serial_read(words: &[u8]) -> Option<Pdu> {
+    Some(Pdu::SerialNumberRead {
+        serial: field(words, 1, 16)?,
+    })
+}
+
+fn serial_write(words: &[u8]) -> Option<Pdu> {
+    Some(Pdu::SerialNumberWrite {
+        serial: field(words, 1, 16)?,
+        address: decimal(words, 2)?,
+    })
+}
+
+fn serial_response(words: &[u8]) -> Option<Pdu> {
+    Some(Pdu::SerialNumberResponse {
+        serial: field(words, 1, 16)?,
+        domain: decimal(words, 2)?,
+    })
+}
+
+fn description_read(words: &[u8]) -> Option<Pdu> {
+    Some(Pdu::PropertyDescriptionRead {
+        object: decimal(words, 1)?,
+        id: decimal(words, 2)?,
+        index: decimal(words, 3)?,
+    })
+}
+
+fn description_response(words: &[u8]) -> Option<Pdu> {
+    Some(Pdu::PropertyDescriptionResponse {
+        object: decimal(words, 1)?,
+        id: decimal(words, 2)?,
+        index: decimal(words, 3)?,
+        typ: decimal(words, 4)?,
+        maximum: decimal(words, 5)?,
+        access: decimal(words, 6)?,
+    })
+}
+
+fn authorize_request(words: &[u8]) -> Option<Pdu> {
+    Some(Pdu::AuthorizeRequest {
+        key: field(words, 1, 16)?,
+    })
+}
+
+fn key_write(words: &[u8]) -> Option<Pdu> {
+    Some(Pdu::KeyWrite {
+        level: decimal(words, 1)?,
+        key: field(words, 2, 16)?,
+    })
+}
+
+// The PDU of the kind that the first word names, with the numbers of the words after it.
+fn fields_in(words: &[u8]) -> Option<Pdu> {
+    match named(word(words, 0))? {
+        Service::GroupValueRead => Some(Pdu::GroupValueRead),
+        Service::GroupValueResponse => octet(words, |v| Pdu::GroupValueResponse { v }),
+        Service::GroupValueWrite => octet(words, |v| Pdu::GroupValueWrite { v }),
+        Service::IndividualAddressWrite => address_write(words),
+        Service::IndividualAddressRead => Some(Pdu::IndividualAddressRead),
+        Service::SerialNumberRead => serial_read(words),
+        Service::SerialNumberWrite => serial_write(words),
+        Service::DeviceDescriptorRead => octet(words, |t| Pdu::DeviceDescriptorRead { t }),
+        Service::PropertyValueRead => property(
+            words,
+            |object, id, n, s| Pdu::PropertyValueRead { object, id, n, s },
+        ),
+        Service::PropertyValueWrite => property(
+            words,
+            |object, id, n, s| Pdu::PropertyValueWrite { object, id, n, s },
+        ),
+        Service::PropertyDescriptionRead => description_read(words),
+        Service::MemoryRead => memory(words, |n, address| Pdu::MemoryRead { n, address }),
+        Service::MemoryWrite => memory(words, |n, address| Pdu::MemoryWrite { n, address }),
+        Service::MemoryBitWrite => memory(words, |n, address| Pdu::MemoryBitWrite { n, address }),
+        Service::AuthorizeRequest => authorize_request(words),
+        Service::KeyWrite => key_write(words),
+        Service::Restart => Some(Pdu::Restart),
+        Service::IndividualAddressResponse => Some(Pdu::IndividualAddressResponse),
+        Service::SerialNumberResponse => serial_response(words),
+        Service::DeviceDescriptorResponse => octet(words, |t| Pdu::DeviceDescriptorResponse { t }),
+        Service::PropertyValueResponse => property(
+            words,
+            |object, id, n, s| Pdu::PropertyValueResponse { object, id, n, s },
+        ),
+        Service::PropertyDescriptionResponse => description_response(words),
+        Service::MemoryResponse => memory(words, |n, address| Pdu::MemoryResponse { n, address }),
+        Service::AuthorizeResponse => octet(words, |level| Pdu::AuthorizeResponse { level }),
+        Service::KeyResponse => octet(words, |level| Pdu::KeyResponse { level }),
+        Service::UserMemoryRead => memory(words, |n, address| Pdu::UserMemoryRead { n, address }),
+        Service::UserMemoryResponse => memory(
+            words,
+            |n, address| Pdu::UserMemoryResponse { n, address },
+        ),
+        Service::UserMemoryWrite => memory(words, |n, address| Pdu::UserMemoryWrite { n, address }),
     }
-    p
+}
+
+// All the data in the words, one after the other.
+fn data_in(words: &[u8]) -> Option<ArrayVec<u8, 64>> {
+    let mut data = ArrayVec::new();
+    for word in words.split(|&c| c == b' ') {
+        if let Some((b"data" | b"and" | b"xor", hex)) = split_once(word, b'=') {
+            let more = unhex(hex)?;
+            data.try_extend_from_slice(more.as_slice()).ok()?;
+        }
+    }
+    Some(data)
+}
+
+// The PDU and the data that words show, if they are just what is shown of these.
+pub(crate) fn taken(words: &[u8]) -> Option<(Pdu, ArrayVec<u8, 64>)> {
+    let pdu = fields_in(words)?;
+    let data = data_in(words)?;
+    let shown = text(Words {
+        pdu,
+        data: data.as_slice(),
+    });
+    if shown.as_slice() == words {
+        Some((pdu, data))
+    } else {
+        None
+    }
 }

@@ -1,5 +1,6 @@
 -- In an arm of a match the PDU, the service or the turn is known, and with it the data of the request.
 use Rattle.octets.proofs.Kit.{ℕ, ◌+◌, ◌≤◌, ◌≡◌, refl, sym, ap, subst, ◌∙◌, Bool, true, false, cond, ◌&&◌, ltb, eqb, eq-eqb, ne_eqb, List, [], ◌∷◌, arith, length, drop, length-drop}
+use Rattle.std.proofs.Common.{None}
 use Rattle.octets.proofs.Truths.{and_is, equal_is}
 use Rattle.pdu.specs.{declared.Service.TheVariants.Restart, Item.{Item, low, num, cap, duo, skip, Tail, none, Value, the}, Table.row_of, Pdus.{service_of, values_of}}
 use Rattle.pdu.specs.{Rules.{under, suits, head_of}, Read.{data_at, data_of}, declared.{Service.Service, Pdu.Pdu}}
@@ -7,7 +8,7 @@ use Rattle.pdu.{specs.declared.Pdu.TheVariants.{PropertyValueWrite, MemoryWrite,
 use Rattle.judge.specs.{declared.Reach.TheVariants.{PointToPoint, Connected}, Modes.{reach_of, takes}, Decisions.refused, Judge.decide_of, declared.Turn.TheVariants.Stays}
 use Rattle.parts.specs.declared.Parts.{Parts}
 use Rattle.device.proofs.due.Given.{write_data, memory_data, user_data, bits_data}
-use Rattle.plain_services.{specs.{declared.{Sent.TheVariants.Nothing, Reply.Reply}, Steps.{Gives, Agrees, Serves}}, proofs.Agreed.agreed}
+use Rattle.plain_services.{specs.{declared.Reply.Reply, Steps.{Gives, Agrees, Serves}}, proofs.Agreed.agreed}
 use Rattle.plain.specs.Carrying.{ReadAs}
 
 -- where the row of a service has no data, a request has none
@@ -49,7 +50,7 @@ module _ (u : Parts) (level group : ℕ) (d : List ℕ) (r : Reply) (p q : Pdu) 
         let z : d ≡ [] = own.given ∙ no_data q own.apdu t (read_as q d own) in
         with_data (subst (λ (y : List ℕ). Serves u y (λ s. decide_of s level group y q) r) (sym z) g)
 
-  pub is_answer : ((s : List ℕ) → decide_of s level group d q ≡ refused 8) → Gives r 8 u Stays Nothing [] → Serves u d (λ s. decide_of s level group d p) r
+  pub is_answer : ((s : List ℕ) → decide_of s level group d q ≡ refused 8) → Gives r 8 u Stays None [] → Serves u d (λ s. decide_of s level group d p) r
   is_answer f g = with_data record { agrees = λ s ok o t. subst (λ k. Agrees s d k r) (sym (f s)) (agreed (refused 8) g t) }
 
 module _ {p : Pdu} {d : List ℕ} (x : ReadAs p d) where

@@ -1,9 +1,17 @@
 -- The outcomes before a service, in their order, are those of the first engine.
+use Rattle.octets.proofs.Kit.{min, dec_lt}
 use Rattle.octets.proofs.Kit.{ℕ, ◌≤◌, ◌<◌, ◌≡◌, refl, sym, ap, subst, ◌∙◌, Bool, true, false, cond, not, List, arith, ltb, eqb, length, lt-ltb, le-ltb, ltb-false, eq-eqb, ne_eqb, eqb-true}
+use Rattle.std.proofs.Common.{Option, Some, None, Result, Ok, Err}
+use Rattle.std.specs.Prelude.{IsErrAnd}
+use Rattle.sheet.specs.{declared.Refused.Refused, Refused.{number_of as sheet_number}}
+use Rattle.sheet.specs.declared.Refused.TheVariants as sheet
+use Rattle.judge.specs.{declared.Refusal.Refusal, Refusal.{number_of, told}}
+use Rattle.judge.specs.declared.Refusal.TheVariants.{NotForUs, Room, Bad, Length, Mode, Unconnected, Service, OtherMode, Fields, Denied, Silent, Old}
 use Rattle.octets.proofs.{Truths.never, Tests.{both, not_first_lem, not_second_lem}}
 use Rattle.sheet.{specs.{Head.rules_of, Rules.{Accepted, refusal_of}}, proofs.promises.Verdicts.not_refused}
-use Rattle.pdu.specs.{declared.Service.Service, Rules.code_of, Table.service_at, Read.read_pdu, declared.Found.{Found, TheVariants.{Listed, Unknown}}}
-use Rattle.judge.specs.{declared.{Session.Session, Decision.Decision}, Decisions.refused, Session.level_in, Modes.{reach_of, reaches, takes}, declared.Reach.Reach}
+use Rattle.pdu.specs.declared.Service as pdu
+use Rattle.pdu.specs.{Rules.code_of, Table.service_at, Read.read_pdu}
+use Rattle.judge.specs.{declared.{Session.Session, Decision.Decision}, Decisions.refused, Session.{level_in, level_of}, Modes.{reach_of, reaches, takes}, declared.Reach.Reach}
 use Rattle.judge.specs.{declared.Reach.TheVariants.{Multicast, Broadcast, PointToPoint, Connected, Never}, Judge.{is_shut, read_of, reached_of, found_of, judge_of}}
 use Rattle.parts.specs.{declared.Parts.Parts, Records.Taken}
 use Rattle.plain.specs.Order.{first_of, next_of}
@@ -51,11 +59,11 @@ module _ (room : ℕ) (s : List ℕ) (q : Session) (mode : ℕ) (a : List ℕ) (
     pub accepted : Accepted s
     accepted = not_refused s (refusal_of s) refl none.1
 
-    module _ (group : ℕ) (found : Found) (g : found ≡ service_at (code_of a)) (rules : ℕ) (rs : rules ≡ rules_of s) (m : ℕ) (h : m ≡ next_of found rules mode) where
-      by_next : (x : Found) → m ≡ next_of x (rules_of s) mode → found_of s q mode group a x ≡ By m (read_of s (level_in q mode) group a (read_pdu a))
+    module _ (group : ℕ) (found : Option pdu.Service) (g : found ≡ service_at (code_of a)) (rules : ℕ) (rs : rules ≡ rules_of s) (m : ℕ) (h : m ≡ next_of found rules mode) where
+      by_next : (x : Option pdu.Service) → m ≡ next_of x (rules_of s) mode → found_of s q mode group a x ≡ By m (read_of s (level_in q mode) group a (read_pdu a))
       unfolding reached_of
-      by_next Unknown i = subst (λ (y : ℕ). refused 8 ≡ By y (read_of s (level_in q mode) group a (read_pdu a))) (sym i) refl
-      by_next (Listed k) i = go (reaches (reach_of (rules_of s) k)) (takes (reach_of (rules_of s) k) mode) i
+      by_next None i = subst (λ (y : ℕ). refused 8 ≡ By y (read_of s (level_in q mode) group a (read_pdu a))) (sym i) refl
+      by_next (Some k) i = go (reaches (reach_of (rules_of s) k)) (takes (reach_of (rules_of s) k) mode) i
         where
           go :
               (b c : Bool) → m ≡ cond (not b) 8 (cond (not c) 9 0) →
@@ -69,7 +77,7 @@ module _ (room : ℕ) (s : List ℕ) (q : Session) (mode : ℕ) (a : List ℕ) (
       all =
           let found-by : judge_of room s q mode group a ≡ found_of s q mode group a (service_at (code_of a)) = by_first group ∙ simp (eq-eqb e 0 z) in
           found-by
-          ∙ by_next (service_at (code_of a)) (h ∙ ap (λ (y : Found). next_of y rules mode) g ∙ ap (λ (y : ℕ). next_of (service_at (code_of a)) y mode) rs)
+          ∙ by_next (service_at (code_of a)) (h ∙ ap (λ (y : Option pdu.Service). next_of y rules mode) g ∙ ap (λ (y : ℕ). next_of (service_at (code_of a)) y mode) rs)
 
       pub next_due : (m ≡ 0 → ⊥) → judge_of room s q mode group a ≡ refused m
       next_due n = all ∙ simp (ne_eqb m 0 n)
@@ -77,7 +85,7 @@ module _ (room : ℕ) (s : List ℕ) (q : Session) (mode : ℕ) (a : List ℕ) (
       pub reads_next : m ≡ 0 → judge_of room s q mode group a ≡ read_of s (level_in q mode) group a (read_pdu a)
       reads_next y = all ∙ simp (eq-eqb m 0 y)
 
-pub found_as : (f : Found) (n : ℕ) (a : List ℕ) → f ≡ service_at n → n ≡ code_of a → f ≡ service_at (code_of a)
+pub found_as : (f : Option pdu.Service) (n : ℕ) (a : List ℕ) → f ≡ service_at n → n ≡ code_of a → f ≡ service_at (code_of a)
 found_as f n a e h = e ∙ ap service_at h
 
 pub rules_as : (s : List ℕ) (u : Parts) → Taken s u → u.head.rules ≡ rules_of s
@@ -151,11 +159,11 @@ module _ (q : Session) (mode : ℕ) where
   unfolding is_shut
   no_session_lem e = not_first_lem _ _ (ne_eqb mode 3 e)
 
-module _ (f : Found) (rules mode : ℕ) where
-  pub next_unknown : f ≡ Unknown → 8 ≡ next_of f rules mode
+module _ (f : Option pdu.Service) (rules mode : ℕ) where
+  pub next_unknown : f ≡ None → 8 ≡ next_of f rules mode
   next_unknown e = simp e
 
-  module _ (k : Service) (e : f ≡ Listed k) (t : Bool) (et : t ≡ takes (reach_of rules k) mode) where
+  module _ (k : pdu.Service) (e : f ≡ Some k) (t : Bool) (et : t ≡ takes (reach_of rules k) mode) where
     pub next_none : t ≡ true → 0 ≡ next_of f rules mode
     next_none y = simp (e, some_mode (reach_of rules k) mode (sym et ∙ y), sym et ∙ y)
 
@@ -168,3 +176,33 @@ module _ (f : Found) (rules mode : ℕ) where
           (a b c : Bool) → a ≡ takes (reach_of rules k) 0 → a ≡ false → b ≡ takes (reach_of rules k) 1 → b ≡ false → c ≡ takes (reach_of rules k) 3 → c ≡ false →
           8 ≡ next_of f rules mode
       next_answer a b c ea na eb nb ec nc = simp (e, no_mode (reach_of rules k) (sym ea ∙ na) (sym eb ∙ nb) (sym ec ∙ nc))
+
+-- no refusal has number 0
+pub never_0 : (n : Refusal) → number_of n ≡ 0 → ⊥
+never_0 NotForUs q = absurd (omega arith)
+never_0 Room q = absurd (omega arith)
+never_0 Bad q = absurd (omega arith)
+never_0 Length q = absurd (omega arith)
+never_0 Mode q = absurd (omega arith)
+never_0 Unconnected q = absurd (omega arith)
+never_0 Service q = absurd (omega arith)
+never_0 OtherMode q = absurd (omega arith)
+never_0 Fields q = absurd (omega arith)
+never_0 Denied q = absurd (omega arith)
+never_0 Silent q = absurd (omega arith)
+never_0 Old q = absurd (omega arith)
+
+-- the refusal of a sheet, by the name that a request has for it
+pub told_as : (y : Result (Unit {0}) Refusal) (e : Refused) → IsErrAnd y (λ r. number_of r ≡ sheet_number e) → (told y ≡ sheet_number e) × (told y ≡ 0 → ⊥)
+told_as (Ok u) e h = absurd h
+told_as (Err r) sheet.Bad h = (h, λ q. absurd (omega arith))
+told_as (Err r) sheet.Old h = (h, λ q. absurd (omega arith))
+
+-- the smaller of a level and 3
+pub least_level : (q : Session) (mode : ℕ) → mode ≡ 3 → min q.level 3 ≡ level_in q mode
+unfolding level_in level_of
+least_level q mode e = go (dec_lt 3 q.level)
+  where
+    go : Dec (3 < q.level) → min q.level 3 ≡ cond (eqb mode 3) (cond (ltb 3 q.level) 3 q.level) 3
+    go (yes h) = rw (eq-eqb mode 3 e, lt-ltb 3 q.level h) (omega arith)
+    go (no h) = rw (eq-eqb mode 3 e, le-ltb 3 q.level (omega arith)) (omega arith)

@@ -1,14 +1,17 @@
 -- From what the parts of a request ensure to what it did.
 use Rattle.octets.proofs.Kit.{ℕ, ◌≤◌, ◌<◌, ◌≡◌, refl, sym, ap, ap₂, subst, ◌∙◌, List, arith, length, take}
+use Rattle.std.proofs.Common.{Option, Result, Ok, Err}
+use Rattle.plain_services.specs.Outcome.{number_of}
+use Rattle.pdu.specs.declared.ReadRefusal.{ReadRefusal}
 use Rattle.octets.{specs.{Octets.Octets, Splice.splice}, proofs.Splices.splice_none}
 use Rattle.sheet.specs.Rules.{Accepted}
-use Rattle.pdu.{specs.{Read.{read_pdu, read_outcome, data_of}, declared.{Pdu.Pdu, Parsed.{Parsed, TheVariants.{Is, Refused}}}}, proofs.promises.{Readings.{Reading, reading}, Writing.has_room}}
+use Rattle.pdu.{specs.{Read.{read_number, read_pdu, read_outcome, data_of}, declared.Pdu.Pdu}, proofs.promises.{Readings.{Reading, reading}, Writing.has_room}}
 use Rattle.judge.specs.{declared.{Session.Session, Decision.Decision, Turn.Turn, Answer.Answer}, Decisions.refused, Session.level_in, Judge.{data_in, decide_of, read_of, judge_of}}
 use Rattle.judge.specs.declared.Answer.TheVariants as answer
 use Rattle.parts.{specs.{declared.Parts.Parts, Records.Taken, Again.Roomy}, proofs.Back.{roomy, written_again}}
 use Rattle.device.specs.{Carry.{turn_of, closes, answer_of}, Safe.AnswerSafe, Step.{step_by, step_of}, Sessions.{session_for, turned_of}, Events.{Effect, request_of, Did, Called}}
 use Rattle.device.{specs.declared.{Sessions.Sessions, Done.Done}, proofs.{leaves.Connections.own_stays, promises.Demand1.untouched}}
-use Rattle.plain_services.specs.{declared.{Sent.Sent, Reply.Reply}, Steps.{Held, Agrees, Serves, sent_of, data_for, left}}
+use Rattle.plain_services.specs.{declared.Reply.Reply, Steps.{Held, Agrees, Serves, sent_of, data_for, left}}
 use Rattle.plain.specs.Carrying.{ReadAs, sent_bytes, Sendable, Ready, Carried}
 use Rattle.plain.proofs.Stored.{safe, left_bytes, left_accepted, left_long}
 
@@ -30,7 +33,7 @@ sends n s d (answer.Echo p) h f = (h, has_room p _ f)
 pub held : (s : List ℕ) (u : Parts) → Accepted s → Octets s → Taken s u → Held u
 held s u ok o t = record { sheet = s; ok = ok; bytes = o; taken = t }
 
-pub requested : (a : List ℕ) (z : Parsed) (p : Pdu) (d : List ℕ) → z ≡ read_pdu a → z ≡ Is p → d ≡ data_of p a → ReadAs p d
+pub requested : (a : List ℕ) (z : Result Pdu ReadRefusal) (p : Pdu) (d : List ℕ) → z ≡ read_pdu a → z ≡ Ok p → d ≡ data_of p a → ReadAs p d
 requested a z p d ez e ed = record { apdu = a; reads = sym ez ∙ e; given = ed }
 
 module _ (q : Sessions) (mode c group : ℕ) (a s o : List ℕ) (session : Session) (em : session ≡ session_for q mode c) where
@@ -73,18 +76,18 @@ module _ (q : Sessions) (mode c group : ℕ) (a s o : List ℕ) (session : Sessi
 
     -- one that does not read
     pub unread_called :
-        (z : Parsed) (n m : ℕ) (x : Done) → z ≡ read_pdu a → z ≡ Refused n → m ≡ read_outcome z →
+        (z : Result Pdu ReadRefusal) (n : ReadRefusal) (m : ℕ) (x : Done) → z ≡ read_pdu a → z ≡ Err n → m ≡ read_outcome z →
         judge_of (length o) s session mode group a ≡ read_of s (level_in session mode) group a (read_pdu a) → x ≡ record { outcome = m; count = 0; sessions = q } →
         Called q mode c group a s o x s o
     unread_called z n m x ez e em j ex =
-        refused_called n x (j ∙ ap (read_of s (level_in session mode) group a) (sym ez ∙ e))
+        refused_called (read_number n) x (j ∙ ap (read_of s (level_in session mode) group a) (sym ez ∙ e))
         (ex ∙ ap (λ (y : ℕ). record { outcome = y; count = 0; sessions = q }) (em ∙ ap read_outcome e))
 
     -- A REQUEST THAT READS as p, with data d, at a level
-    module _ (ok : Accepted s) (wide : 16 ≤ length o) (z : Parsed) (ez : z ≡ read_pdu a) (p : Pdu) (e : z ≡ Is p) (d : List ℕ) (ed : d ≡ data_of p a)
+    module _ (ok : Accepted s) (wide : 16 ≤ length o) (z : Result Pdu ReadRefusal) (ez : z ≡ read_pdu a) (p : Pdu) (e : z ≡ Ok p) (d : List ℕ) (ed : d ≡ data_of p a)
         (level : ℕ) (el : level ≡ level_in session mode) (j : judge_of (length o) s session mode group a ≡ read_of s (level_in session mode) group a (read_pdu a))
         (u : Parts) (t : Taken s u) where
-      reads : read_pdu a ≡ Is p
+      reads : read_pdu a ≡ Ok p
       reads = sym ez ∙ e
 
       module _ (r : Reply) (g : Serves u d (λ s. decide_of s level group d p) r) where
@@ -104,7 +107,7 @@ module _ (q : Sessions) (mode c group : ℕ) (a s o : List ℕ) (session : Sessi
         carry_needs = (
           subst (λ (n : ℕ). Roomy r.parts n) (left_long s ok level group a p is)
               (roomy after (left_accepted s ok level group a p is) r.parts agrees.sheet),
-          subst (λ (y : Sent). Sendable (length o) y (take r.length r.bytes)) (sym agrees.gives.sent)
+          subst (λ (y : Option Pdu). Sendable (length o) y (take r.length r.bytes)) (sym agrees.gives.sent)
               (subst (λ (y : List ℕ). Sendable (length o) (sent_of k.answer) y) (sym agrees.gives.bytes)
               (sends (length o) after (data_of p a) k.answer wide (safe s ok level group a p is).answer)),
           agrees.gives.short,
@@ -118,12 +121,12 @@ module _ (q : Sessions) (mode c group : ℕ) (a s o : List ℕ) (session : Sessi
         still : 2 ≤ k.outcome → after ≡ s
         unfolding step_of step_by
         still =
-            let data_is : data_in (read_pdu a) a ≡ data_of p a = ap (λ (y : Parsed). data_in y a) reads in
+            let data_is : data_in (read_pdu a) a ≡ data_of p a = ap (λ (y : Result Pdu ReadRefusal). data_in y a) reads in
             subst (λ (y : Decision). 2 ≤ y.outcome → left s (data_of p a) y ≡ s) whole
             (subst (λ (y : List ℕ). 2 ≤ (judge_of (length o) s session mode group a).outcome → left s y (judge_of (length o) s session mode group a) ≡ s) data_is
             (λ h. (untouched (length o) s session mode group a h).0))
 
-        stored : (n : ℕ) (s' o' : List ℕ) → Carried r s o n s' o' → Dec (1 < r.outcome) → s' ≡ after
+        stored : (n : ℕ) (s' o' : List ℕ) → Carried r s o n s' o' → Dec (1 < number_of r.outcome) → s' ≡ after
         stored n s' o' w (yes h) = w.kept h ∙ sym (still (omega (arith, agrees.gives.outcome)))
         stored n s' o' w (no h) =
             written_again after (left_accepted s ok level group a p is) r.parts agrees.sheet (left_bytes s ok level group a p is so ao) s s'
@@ -131,20 +134,20 @@ module _ (q : Sessions) (mode c group : ℕ) (a s o : List ℕ) (session : Sessi
 
         pub served_called :
             (n : ℕ) (q' : Sessions) (s' o' : List ℕ) → Carried r s o n s' o' → q' ≡ turned_of q mode c (closes r.turn) (turn_of met r.turn) →
-            Called q mode c group a s o (record { outcome = r.outcome; count = n; sessions = q' }) s' o'
+            Called q mode c group a s o (record { outcome = number_of r.outcome; count = n; sessions = q' }) s' o'
         served_called n q' s' o' w e =
-            let data_is : data_in (read_pdu a) a ≡ data_of p a = ap (λ (y : Parsed). data_in y a) reads in
+            let data_is : data_in (read_pdu a) a ≡ data_of p a = ap (λ (y : Result Pdu ReadRefusal). data_in y a) reads in
             let gi = agrees.gives in
             let bytes : sent_bytes r.sent (take r.length r.bytes) ≡ answer_of after (data_of p a) k.answer =
             ap₂ sent_bytes gi.sent gi.bytes ∙ sent_as after (data_of p a) k.answer in
             record {
               did =
-                  subst (λ (y : Effect). Did y (record { outcome = r.outcome; count = n; sessions = q' }) o s' o') (ap (λ (y : List ℕ). effect_by y k) (sym data_is) ∙ judged k whole)
+                  subst (λ (y : Effect). Did y (record { outcome = number_of r.outcome; count = n; sessions = q' }) o s' o') (ap (λ (y : List ℕ). effect_by y k) (sym data_is) ∙ judged k whole)
                   (record {
                     outcome = gi.outcome;
                     count = w.answer.count ∙ ap length bytes;
                     sessions = e ∙ ap (λ (y : Turn). turned_of q mode c (closes y) (turn_of met y)) gi.turn;
-                    sheet = stored n s' o' w (native.Mathlib.Decide.dec_lt 1 r.outcome);
+                    sheet = stored n s' o' w (native.Mathlib.Decide.dec_lt 1 (number_of r.outcome));
                     answer = w.answer.holds ∙ ap (splice o 0) bytes;
                   });
               sheet_bytes = so;

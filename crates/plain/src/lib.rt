@@ -11,7 +11,6 @@ ghost use Rattle.std.specs.Prelude.{◌≡◌};
 ghost use Rattle.device.specs.Events.{Called};
 
 use device::{Done, Sessions};
-use pdu::Parsed;
 
 // What both engines gave.
 #[derive(Clone, Copy)]
@@ -44,18 +43,16 @@ pub fn request(
     ensures { Called sessions mode connection group apdu.now sheet.old answer.old result sheet.new answer.new }
 {
     let session = sessions::session_met(sessions, mode, connection);
-    let first = order::refused_first(answer.len(), &sheet[..], apdu, mode, session);
-    if first != 0 {
-        return refused(sessions, first);
+    if let Err(refusal) = order::refused_first(answer.len(), &sheet[..], apdu, mode, session) {
+        return refused(sessions, refusal.number());
     }
     let u = parts::take_apart(&sheet[..]);
     let found = pdu::service_of(pdu::code(apdu));
-    let next = order::refused_next(found, u.head.rules, mode);
-    if next != 0 {
-        return refused(sessions, next);
+    if let Err(refusal) = order::refused_next(found, u.head.rules, mode) {
+        return refused(sessions, refusal.number());
     }
     let parsed = pdu::read_found(found, apdu);
-    let Parsed::Is(p) = parsed else {
+    let Ok(p) = parsed else {
         return refused(sessions, pdu::outcome(parsed));
     };
     let d = pdu::data_of(p, apdu);
@@ -64,7 +61,7 @@ pub fn request(
     let turn = reply.turn;
     let count = carry::carry_out(reply, sheet, answer);
     Done {
-        outcome: reply.outcome,
+        outcome: reply.outcome.number(),
         count,
         sessions: sessions::sessions_after(sessions, mode, connection, turn),
     }

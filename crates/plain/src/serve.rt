@@ -4,12 +4,13 @@ ghost use Rattle.judge.specs.Judge.{decide_of};
 ghost use Rattle.plain_services.specs.Steps.{Held, Serves};
 ghost use Rattle.plain.specs.Carrying.{ReadAs};
 
+use judge::Refusal;
 use parts::Parts;
 use pdu::Pdu;
 use plain_services::{
     Reply, address_read, address_write, authorize, bit_write, description, descriptor, group_put,
-    group_read, key_write, memory_read, memory_write, property_read, property_write, restart,
-    serial_read, serial_write, silent,
+    group_read, key_write, memory_read, memory_write, property_read, property_write, refused,
+    restart, serial_read, serial_write,
 };
 use sheet::Memory;
 
@@ -39,16 +40,16 @@ pub fn serve(u: Parts, level: u8, group: u16, d: &[u8], p: Pdu) -> Reply
         Pdu::AuthorizeRequest { key } => authorize(u, key),
         Pdu::KeyWrite { level: named, key } => key_write(u, level, named, key),
         Pdu::Restart => restart(u),
-        Pdu::IndividualAddressResponse => silent(u, 8),
-        Pdu::SerialNumberResponse { .. } => silent(u, 8),
-        Pdu::DeviceDescriptorResponse { .. } => silent(u, 8),
-        Pdu::PropertyValueResponse { .. } => silent(u, 8),
-        Pdu::PropertyDescriptionResponse { .. } => silent(u, 8),
-        Pdu::MemoryResponse { .. } => silent(u, 8),
-        Pdu::AuthorizeResponse { .. } => silent(u, 8),
-        Pdu::KeyResponse { .. } => silent(u, 8),
         Pdu::UserMemoryRead { n, address } => memory_read(u, Memory::User, level, n, address),
-        Pdu::UserMemoryResponse { .. } => silent(u, 8),
         Pdu::UserMemoryWrite { n, address } => memory_write(u, Memory::User, level, n, address, d),
+        Pdu::IndividualAddressResponse
+        | Pdu::SerialNumberResponse { .. }
+        | Pdu::DeviceDescriptorResponse { .. }
+        | Pdu::PropertyValueResponse { .. }
+        | Pdu::PropertyDescriptionResponse { .. }
+        | Pdu::MemoryResponse { .. }
+        | Pdu::AuthorizeResponse { .. }
+        | Pdu::KeyResponse { .. }
+        | Pdu::UserMemoryResponse { .. } => refused(u, Refusal::Service),
     }
 }

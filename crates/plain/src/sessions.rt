@@ -20,26 +20,21 @@ fn closed() -> Session
 pub fn session_met(sessions: Sessions, mode: u8, connection: u8) -> Session
     ensures { result ≡ session_for sessions mode connection }
 {
-    if mode == 3 && connection == 0 {
-        return sessions.first;
+    match (mode, connection) {
+        (3, 0) => sessions.first,
+        (3, 1) => sessions.second,
+        _ => closed(),
     }
-    if mode == 3 && connection == 1 {
-        return sessions.second;
-    }
-    closed()
 }
 
 // Another level for the connection of a request, if it has one.
 fn with_level(mut sessions: Sessions, mode: u8, connection: u8, level: u8) -> Sessions
     ensures { result ≡ turned_of sessions mode connection false (turn_of (session_for sessions mode connection) (Level level)) }
 {
-    if mode == 3 && connection == 0 {
-        sessions.first.level = level;
-        return sessions;
-    }
-    if mode == 3 && connection == 1 {
-        sessions.second.level = level;
-        return sessions;
+    match (mode, connection) {
+        (3, 0) => sessions.first.level = level,
+        (3, 1) => sessions.second.level = level,
+        _ => {}
     }
     sessions
 }

@@ -1,8 +1,9 @@
 -- The tests over the bytes of an entry say what its rows say, S6 to S8, and what those of its body say, S9.
-use Rattle.octets.proofs.Kit.{ℕ, zero, suc, ◌+◌, ◌-◌, ◌≤◌, ◌<◌, ◌≡◌, refl, ap, ◌∙◌, subst⁻¹, Bool, List, ◌⊎◌, inl, inr, dec_lt, arith, le-leb, lt-leb}
+use Rattle.octets.proofs.Kit.{ℕ, zero, suc, ◌+◌, ◌-◌, ◌≤◌, ◌<◌, ◌≡◌, refl, ap, ◌∙◌, Bool, List, ◌⊎◌, inl, inr, dec_lt, arith, le-leb, lt-leb}
 use Rattle.octets.specs.Bytes.{num_at}
 use Rattle.sheet.specs.{Demand.Met, Layout.{Field, field, ◌of◌}, Entries.{size, place, entry, floor, offset_of, reached, six_bits}}
 use Rattle.sheet.{specs.Rules.{region_demands, property_demands, group_demands, entry_demands, body_demands}, proofs.places.Standing.field_at}
+use Rattle.sheet.specs.{declared.Kind.{Kind, TheVariants.{Regions, Properties, Groups, Users}}, Kind.number_of}
 use Rattle.sheet.specs.Region as region
 use Rattle.sheet.specs.Property as property
 use Rattle.sheet.specs.Group as group
@@ -147,26 +148,27 @@ module _ (s : List ℕ) where
         ((((omega arith, f), omega arith), omega arith), omega arith)
 
   -- AN ENTRY, by the test of its kind
-  module _ (k i at : ℕ) (r : Bool) (p : Placed s k i at) where
-    pub property_kept : k ≡ 1 → Says (PropertyAt s at i) r → Says (Met (entry_demands s k i)) r
+  module _ (k : Kind) (i at : ℕ) (r : Bool) (p : Placed s (number_of k) i at) where
+    pub property_kept : k ≡ Properties → Says (PropertyAt s at i) r → Says (Met (entry_demands s (number_of k) i)) r
     unfolding entry_demands
     property_kept q h =
         let e : at ≡ place s 1 i = rw q at p.is in
-        subst⁻¹ (λ (j : ℕ). Says (Met (entry_demands s j i)) r) q (says_map (property_to i at e) (property_from_lem i at e) h)
+        rw q (says_map (property_to i at e) (property_from_lem i at e) h)
 
-    pub group_kept : k ≡ 2 → Says (GroupAt s at i) r → Says (Met (entry_demands s k i)) r
+    pub group_kept : k ≡ Groups → Says (GroupAt s at i) r → Says (Met (entry_demands s (number_of k) i)) r
     unfolding entry_demands
     group_kept q h =
         let e : at ≡ place s 2 i = rw q at p.is in
-        subst⁻¹ (λ (j : ℕ). Says (Met (entry_demands s j i)) r) q (says_map (group_to i at e) (group_from_lem i at e) h)
+        rw q (says_map (group_to i at e) (group_from_lem i at e) h)
 
-  pub region_kept : (k i at : ℕ) (r : Bool) → Placed s k i at → k < 4 → (k ≡ 1 → ⊥) → (k ≡ 2 → ⊥) → Says (RegionAt s at i) r → Says (Met (entry_demands s k i)) r
+  pub region_kept : (k : Kind) (i at : ℕ) (r : Bool) → Placed s (number_of k) i at → (k ≡ Regions) ⊎ (k ≡ Users) → Says (RegionAt s at i) r → Says (Met (entry_demands s (number_of k) i)) r
   unfolding entry_demands floor
-  region_kept zero i at r p l a b h = region_says 0 (omega arith) (λ j. omega arith) (λ j. refl) i at r p.is h
-  region_kept (suc zero) i at r p l a b h = absurd (a refl)
-  region_kept (suc (suc zero)) i at r p l a b h = absurd (b refl)
-  region_kept (suc (suc (suc zero))) i at r p l a b h = region_says 3 (omega arith) (λ j. omega arith) (λ j. refl) i at r p.is h
-  region_kept (suc (suc (suc (suc k)))) i at r p l a b h = absurd (omega arith)
+  region_kept Regions i at r p e h = region_says 0 (omega arith) (λ j. omega arith) (λ j. refl) i at r p.is h
+  region_kept Properties i at r p (inl q) h = absurd (cc)
+  region_kept Properties i at r p (inr q) h = absurd (cc)
+  region_kept Groups i at r p (inl q) h = absurd (cc)
+  region_kept Groups i at r p (inr q) h = absurd (cc)
+  region_kept Users i at r p e h = region_says 3 (omega arith) (λ j. omega arith) (λ j. refl) i at r p.is h
 
   -- the byte of a group object of code 0
   abbrev Six : ℕ → ℕ → ℕ → Type 0

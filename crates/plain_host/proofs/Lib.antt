@@ -1,3 +1,2 @@
--- promises has what docs/PROMISES.md names; all else are laws behind them and behind the contracts.
+-- promises has what docs/PROMISES.md names.
 pub mod promises
-pub mod Replies

@@ -6,7 +6,8 @@ ghost use Rattle.plain_host.specs.Calls.{gave};
 
 use device::Sessions;
 
-// What a request gave: its outcome, how many bytes of the answer buffer were filled, and the sessions afterwards.
+// What a request gave: its outcome, how many bytes of the answer buffer were filled, and the sessions afterwards, as C has
+// them.
 #[repr(C)]
 #[derive(Clone, Copy)]
 pub struct Reply {
@@ -27,10 +28,9 @@ pub fn kelindap_plain_request(
     ensures { Called sessions mode connection group apdu.now sheet.old answer.old (gave result) sheet.new answer.new }
 {
     let done = plain::request(sessions, mode, connection, group, apdu, sheet, answer);
-    let after = done.sessions;
     Reply {
         outcome: done.outcome,
         count: done.count as u8,
-        sessions: after,
+        sessions: done.sessions,
     }
 }

@@ -1,4 +1,6 @@
 -- Replies that agree with decisions.
+use Rattle.std.specs.Int.{w16, to_be_bytes}
+use Rattle.octets.{specs.Bytes.bytes_of, proofs.Numbers.bytes_two}
 use Rattle.octets.proofs.Kit.{ℕ, ◌+◌, ◌-◌, ◌≤◌, arith, ◌≡◌, refl, sym, ap, subst, ◌∙◌, length, take, drop, length-take, List}
 use Rattle.octets.{specs.Splice.splice, proofs.Splices.splice_read}
 use Rattle.judge.specs.declared.Decision.{Decision}
@@ -39,3 +41,7 @@ quoted at size b = let q : at + size - at ≡ size = omega arith in ap (λ (m : 
 -- the first n bytes of an array of 14
 pub share_room : (n : ℕ) (b : List ℕ) → n ≤ 14 → length b ≡ 14 → n ≡ length (take n b)
 share_room n b h l = sym (simp length-take (omega (arith, l)))
+
+-- the two bytes of a number
+pub word_bytes : (x : ℕ) (b : List ℕ) → b ≡ to_be_bytes w16 x → b ≡ bytes_of 2 x
+word_bytes x b e = e ∙ sym (bytes_two x)

@@ -1,4 +1,5 @@
 -- Authorize and restart on parts are those of the first engine.
+use Rattle.std.proofs.Common.{Some, None}
 use Rattle.octets.proofs.Kit.{ℕ, zero, suc, ◌-◌, ◌<◌, ◌≡◌, refl, sym, ap, subst, ◌∙◌, false, List, [], arith, eqb, get_or, eq-eqb, ne_eqb}
 use Rattle.octets.specs.{Bytes.bytes_of, Splice.splice}
 use Rattle.sheet.specs.Layout.{◌of◌}
@@ -8,7 +9,7 @@ use Rattle.judge.specs.{declared.Turn.TheVariants.{Level, Closes}, Decisions.dec
 use Rattle.judge.specs.declared.Store.TheVariants as store
 use Rattle.judge.specs.declared.Answer.TheVariants as answer
 use Rattle.parts.{specs.{declared.{Head.Head, Parts.Parts}, Records.{IsHead, Taken}, With.cleared}, proofs.Framed.programming_cleared}
-use Rattle.plain_services.specs.{declared.{Sent.TheVariants.{Nothing, This}, Reply.Reply}, Steps.{Gives, Serves}}
+use Rattle.plain_services.specs.{declared.{Reply.Reply}, Steps.{Gives, Serves}}
 use Rattle.plain_services.proofs.Agreed.{agreed, by_decision}
 
 -- the smallest level with a key
@@ -38,7 +39,7 @@ module _ (h : Head) (key : ℕ) where
 
 module _ (u : Parts) (r : Reply) where
   pub authorized :
-      (key l : ℕ) → ((s : List ℕ) → IsHead u.head s → l ≡ grant_of s key) → Gives r 0 u (Level l) (This (AuthorizeResponse l)) [] →
+      (key l : ℕ) → ((s : List ℕ) → IsHead u.head s → l ≡ grant_of s key) → Gives r 0 u (Level l) (Some (AuthorizeResponse l)) [] →
       Serves u [] (λ s. authorize_of s key) r
   unfolding authorize_of
   authorized key l f g =
@@ -49,7 +50,7 @@ module _ (u : Parts) (r : Reply) where
             (agreed (decision 0 store.Nothing store.Nothing (Level l) (answer.Plain (AuthorizeResponse l))) g t);
       }
 
-  pub restarted : (v : Parts) → v ≡ cleared u → Gives r 1 v Closes Nothing [] → Serves u [] (λ s. restart_of s) r
+  pub restarted : (v : Parts) → v ≡ cleared u → Gives r 1 v Closes None [] → Serves u [] (λ s. restart_of s) r
   unfolding restart_of
   restarted v e g =
       record {

@@ -1,6 +1,9 @@
 -- Descriptions on parts are those of the first engine.
-use Rattle.octets.proofs.Kit.{ℕ, zero, suc, ◌+◌, ◌≤◌, ◌<◌, ◌≡◌, refl, sym, ap, ap₂, subst, ◌∙◌, true, false, cond, ◌&&◌, List, [], arith, lit<, eqb, get_or, lt-ltb, le-ltb, eq-eqb, ne_eqb}
-use Rattle.octets.proofs.Kit.{eqb-true}
+use Rattle.std.proofs.Common.{Option, Some}
+use Rattle.std.specs.Prelude.{count_by}
+use Rattle.std.proofs.lemmas.List.Sums.{count_by_more_yes, count_by_more_no}
+use Rattle.octets.proofs.Kit.{ℕ, zero, suc, ◌+◌, ◌≤◌, ◌<◌, ◌≡◌, refl, sym, ap, ap₂, ◌∙◌, true, false, cond, ◌&&◌, List, [], arith, lit<, eqb, get_or, lt-ltb, le-ltb, eq-eqb, ne_eqb}
+use Rattle.octets.proofs.Kit.{Bool, length, take, add-zero, ◌⊎◌, inl, inr, eqb-true}
 use Rattle.octets.{specs.Octets.Octets, proofs.{Numbers.num_one, Tests.both, Truths.{first_true, second_true, never}}}
 use Rattle.sheet.{specs.{Kind.properties, Layout.◌of◌, Entries.{count, place, entry}, Lookup.{object_at, rank, nth_of}, Rules.Accepted}, proofs.places.Standing.field_at}
 use Rattle.sheet.proofs.promises.Ranks.{nth_hit, nth_none}
@@ -9,32 +12,37 @@ use Rattle.pdu.specs.declared.Pdu.{Pdu, TheVariants.PropertyDescriptionResponse}
 use Rattle.judge.specs.{declared.Turn.TheVariants.Stays, Decisions.{denied, answered}, Properties.{property_at, described_at, description_of}}
 use Rattle.judge.specs.declared.Answer.TheVariants as answer
 use Rattle.parts.{specs.{declared.{Property.Property, Parts.Parts}, Records.{Taken, no_property}, Again.{type_of, levels_of}}, proofs.Bits.top_bit}
-use Rattle.plain_services.specs.{Described.{rank_in, is_nth}, declared.{Sent.TheVariants.This, Reply.Reply}, Steps.{Gives, Serves}}
+use Rattle.plain_services.specs.{Described.{rank_in, is_nth}, declared.{Reply.Reply}, Steps.{Gives, Serves}}
+use Rattle.plain_services.specs.Found.{Finds}
 use Rattle.plain_services.proofs.{Entry.fields, Agreed.{agreed, by_decision}}
 
--- one property more
-pub rank_next :
-    (ps : List Property) (object j seen x : ℕ) → seen ≡ rank_in ps object j → x ≡ cond (eqb (get_or ps j no_property).object object) 1 0 →
-    seen + x ≡ rank_in ps object (j + 1)
+-- the rank by counting
+pub rank_count : (ps : List Property) (object i : ℕ) → i ≤ length ps → rank_in ps object i ≡ count_by (λ p. eqb p.object object) (take i ps)
 unfolding rank_in
-rank_next ps object j seen x e f =
-    let q : suc j ≡ j + 1 = omega arith in
-    subst (λ (n : ℕ). seen + x ≡ rank_in ps object n) q (ap₂ (λ (a b : ℕ). a + b) e f)
+rank_count ps object zero h = refl
+rank_count ps object (suc i) h =
+    let next : i + 1 ≡ suc i = omega arith in
+    go (eqb (get_or ps i no_property).object object) refl (rank_count ps object i (omega arith))
+    ∙ ap (λ (n : ℕ). count_by (λ p. eqb p.object object) (take n ps)) next
+  where
+    go : (b : Bool) → eqb (get_or ps i no_property).object object ≡ b → rank_in ps object i ≡ count_by (λ p. eqb p.object object) (take i ps)
+        → rank_in ps object i + cond (eqb (get_or ps i no_property).object object) 1 0 ≡ count_by (λ p. eqb p.object object) (take (i + 1) ps)
+    go true e q = rw (e, q) (sym (count_by_more_yes (λ p. eqb p.object object) ps i no_property (omega arith) e))
+    go false e q = rw (e, q) (add-zero _ ∙ sym (count_by_more_no (λ p. eqb p.object object) ps i no_property (omega arith) e))
 
-pub one_counted : (ps : List Property) (object j seen x : ℕ) → seen ≡ rank_in ps object j → (get_or ps j no_property).object ≡ object → x ≡ seen + 1 → x ≡ rank_in ps object (j + 1)
-one_counted ps object j seen x e h q = q ∙ rank_next ps object j seen 1 e (simp (eq-eqb (get_or ps j no_property).object object h))
-
-pub one_passed : (ps : List Property) (object j seen x : ℕ) → seen ≡ rank_in ps object j → ((get_or ps j no_property).object ≡ object → ⊥) → x ≡ seen → x ≡ rank_in ps object (j + 1)
-one_passed ps object j seen x e h q =
-    let z : x ≡ seen + 0 = omega (arith, q) in z ∙ rank_next ps object j seen 0 e (simp (ne_eqb (get_or ps j no_property).object object h))
-
--- none of none, and as many as there are
-pub rank_start : (ps : List Property) (object : ℕ) → 0 ≡ rank_in ps object 0
+rank_short : (ps : List Property) (object i : ℕ) → rank_in ps object i ≤ i
 unfolding rank_in
-rank_start ps object = refl
+rank_short ps object zero = omega arith
+rank_short ps object (suc i) = go (eqb (get_or ps i no_property).object object) (rank_short ps object i)
+  where
+    go : (b : Bool) → rank_in ps object i ≤ i → rank_in ps object i + cond b 1 0 ≤ suc i
+    go true h = omega arith
+    go false h = omega arith
 
-pub rank_end : (ps : List Property) (object seen j i : ℕ) → seen ≡ rank_in ps object j → j ≡ i → seen ≡ rank_in ps object i
-rank_end ps object seen j i e q = e ∙ ap (rank_in ps object) q
+pub rank_counted : (ps : List Property) (i object x : ℕ) → i ≤ length ps → x ≡ count_by (λ p. eqb p.object object) (take i ps) → (x ≤ i) × (x ≡ rank_in ps object i)
+rank_counted ps i object x h e =
+    let is : x ≡ rank_in ps object i = e ∙ sym (rank_count ps object i h) in
+    (rw is (rank_short ps object i), is)
 
 module _ (s : List ℕ) (u : Parts) (t : Taken s u) where
   object_is : (i : ℕ) → i < count s properties → (get_or u.properties i no_property).object ≡ object_at s i
@@ -67,22 +75,18 @@ module _ (s : List ℕ) (u : Parts) (t : Taken s u) where
         (λ i k a b.
         never (sym (f i (omega (arith, t.counts.properties))) ∙ nth_as i k ∙ both _ _ (eq-eqb (object_at s i) object a) (eq-eqb (rank s object i) index b))))
 
+-- the search by index or by id
+pub described : (u : Parts) (object id index : ℕ) (r x : Option ℕ) → r ≡ x
+    → ((id ≡ 0) × Finds u u.counts.properties (λ s. nth_of s object index) x) ⊎ ((id ≡ 0 → ⊥) × Finds u u.counts.properties (λ s. property_at s object id) x)
+    → Finds u u.counts.properties (λ s. described_at s object id index) r
+unfolding described_at
+described u object id index r x q (inl (e, f)) = rw q record { below = f.below; is = λ s ok o t. f.is s ok o t ∙ simp (eq-eqb id 0 e) }
+described u object id index r x q (inr (e, f)) = rw q record { below = f.below; is = λ s ok o t. f.is s ok o t ∙ simp (ne_eqb id 0 e) }
+
 module _ (u : Parts) (object id index i : ℕ) where
-  abbrev Found : (List ℕ → ℕ) → Type 0
-  Found f = (i ≤ u.counts.properties) × ((s : List ℕ) → Accepted s → Octets s → Taken s u → i ≡ f s)
-
-  pub by_index_lem : (x : ℕ) → i ≡ x → id ≡ 0 → (x ≤ u.counts.properties) × ((s : List ℕ) → Accepted s → Octets s → Taken s u → x ≡ nth_of s object index) → Found (λ s. described_at s object id index)
-  unfolding described_at
-  by_index_lem x q e f = (omega (arith, q, f.0), λ s ok o t. q ∙ f.1 s ok o t ∙ simp (eq-eqb id 0 e))
-
-  pub by_id_lem : (x : ℕ) → i ≡ x → (id ≡ 0 → ⊥) → (x ≤ u.counts.properties) × ((s : List ℕ) → Accepted s → Octets s → Taken s u → x ≡ property_at s object id) →
-      Found (λ s. described_at s object id index)
-  unfolding described_at
-  by_id_lem x q e f = (omega (arith, q, f.0), λ s ok o t. q ∙ f.1 s ok o t ∙ simp (ne_eqb id 0 e))
-
   module _ (r : Reply) (f : (i ≤ u.counts.properties) × ((s : List ℕ) → Accepted s → Octets s → Taken s u → i ≡ described_at s object id index)) where
     pub none_described :
-        u.counts.properties ≤ i → Gives r 11 u Stays (This (PropertyDescriptionResponse object id index 0 0 0)) [] →
+        u.counts.properties ≤ i → Gives r 11 u Stays (Some (PropertyDescriptionResponse object id index 0 0 0)) [] →
         Serves u [] (λ s. description_of s object id index) r
     unfolding description_of
     none_described h g =
@@ -99,7 +103,7 @@ module _ (u : Parts) (object id index i : ℕ) where
 
     pub one_described :
         i < u.counts.properties → (x ty ac : ℕ) → x ≡ rank_in u.properties p.object i → ty ≡ type_of p → ac ≡ levels_of p.read p.write →
-        Gives r 0 u Stays (This (PropertyDescriptionResponse p.object p.id x ty p.maximum ac)) [] →
+        Gives r 0 u Stays (Some (PropertyDescriptionResponse p.object p.id x ty p.maximum ac)) [] →
         Serves u [] (λ s. description_of s object id index) r
     unfolding description_of
     one_described h x ty ac ex et ea g =

@@ -1,10 +1,23 @@
 -- A straight search of the properties finds the one that the first engine finds.
-use Rattle.octets.proofs.Kit.{ℕ, ◌+◌, ◌*◌, ◌<◌, ◌≡◌, sym, ap, subst, ◌∙◌, List, arith, Bool, true, false, ◌&&◌, lit<, eqb, eqb-true, eq-eqb, add-zero, get_or}
+use Rattle.std.proofs.Common.{Option, Some, None}
+use Rattle.octets.proofs.Kit.{ℕ, ◌+◌, ◌*◌, ◌≤◌, ◌<◌, ◌≡◌, sym, ap, subst, ◌∙◌, List, arith, Bool, true, false, ◌&&◌, lit<, eqb, eqb-true, eq-eqb, add-zero, get_or}
 use Rattle.octets.{specs.{Octets.Octets, Bytes.num_at}, proofs.{Truths.{never, first_true, second_true}, Tests.both, Numbers.num_one}}
 use Rattle.sheet.{specs.{Kind.properties, Entries.{count, place, entry, key_of}, Rules.Accepted}, proofs.{places.Standing.field_at, promises.Keys.{index_hit, index_none, key_is}}}
 use Rattle.sheet.specs.Property as property
 use Rattle.judge.specs.Properties.{property_at}
 use Rattle.parts.specs.{declared.Parts.Parts, Records.{Taken, no_property}}
+use Rattle.plain_services.specs.Found.{Finds}
+
+-- what is known of a number found, and where none is
+module _ (u : Parts) (n : ℕ) (f : List ℕ → ℕ) (r : Option ℕ) (found : Finds u n f r) where
+  pub found_below : (i : ℕ) → r ≡ Some i → i < n
+  found_below i e = (rw e at found).below
+
+  pub found_one : (i : ℕ) → r ≡ Some i → (i ≤ n) × ((s : List ℕ) → Accepted s → Octets s → Taken s u → i ≡ f s)
+  found_one i e = let v = rw e at found in (omega (arith, v.below), v.is)
+
+  pub found_none : r ≡ None → (n ≤ n) × ((s : List ℕ) → Accepted s → Octets s → Taken s u → n ≡ f s)
+  found_none e = let v = rw e at found in (omega arith, v.is)
 
 -- A STRAIGHT SEARCH: what holds of all so far holds of one more
 pub one_more_lem : (P : ℕ → Type 0) (i : ℕ) → ((j : ℕ) → j < i → P j) → P i → (j : ℕ) → j < i + 1 → P j

@@ -1,7 +1,8 @@
 -- Group values on parts are those of the first engine.
+use Rattle.std.proofs.Common.{Some, None}
 use Rattle.octets.proofs.Kit.{ℕ, ◌+◌, ◌/◌, ◌%◌, ◌≤◌, ◌<◌, ◌-◌, ◌≡◌, refl, sym, ap, subst, ◌∙◌, Bool, true, false, cond, not, ◌⊎◌, inl, inr, List, [], ◌∷◌, arith, add-zero, lit<, ltb, eqb}
 use Rattle.octets.proofs.Kit.{length, get_or, take, drop, lt-ltb, le-ltb, eq-eqb, ne_eqb}
-use Rattle.octets.{specs.{Bytes.{num_at, bytes_of}, Splice.splice}, proofs.{Numbers.num_one, Truths.never}}
+use Rattle.octets.{specs.{Octets.Octets, Bytes.{num_at, bytes_of}, Splice.splice}, proofs.{Numbers.num_one, Truths.never}}
 use Rattle.sheet.{specs.{Kind.groups, Layout.◌of◌, Entries.{count, place, entry, key_of, contents, body_at}, Lookup.index_of, Rules.Accepted}, proofs.rules.Good.good}
 use Rattle.sheet.proofs.{places.{Standing.field_at, BodyPlaces.after_contents}, promises.Keys.{index_hit, index_none}}
 use Rattle.sheet.specs.Group as group
@@ -11,7 +12,7 @@ use Rattle.judge.specs.declared.Store.TheVariants as store
 use Rattle.judge.specs.declared.Answer.TheVariants as answer
 use Rattle.parts.{specs.{declared.{Group.Group, Parts.Parts}, Records.{Taken, no_group}, With.with_bodies}, proofs.{Changed.bodies_changed, Quoted.same_part}}
 use Rattle.device.proofs.leaves.Accepted.{group_within, six_within, group_short}
-use Rattle.plain_services.specs.{declared.{Sent.TheVariants.{Nothing, This}, Reply.Reply}, Steps.{Held, Gives, Serves}}
+use Rattle.plain_services.specs.{declared.{Reply.Reply}, Steps.{Held, Gives, Serves}}
 use Rattle.plain_services.proofs.{Joined.{was_no, was_yes}, Agreed.{agreed, by_decision, quoted}}
 
 -- the entry e has the fields of p
@@ -83,7 +84,7 @@ module _ (u : Parts) (i : ℕ) (h : i < u.counts.groups) where
 
   module _ (r : Reply) where
     -- the value
-    pub six_sent : (v : ℕ) → v ≡ get_or u.bodies p.offset 0 → p.code ≡ 0 → Gives r 0 u Stays (This (GroupValueResponse v)) [] → Serves u [] (λ s. value_of s p.code p.offset) r
+    pub six_sent : (v : ℕ) → v ≡ get_or u.bodies p.offset 0 → p.code ≡ 0 → Gives r 0 u Stays (Some (GroupValueResponse v)) [] → Serves u [] (λ s. value_of s p.code p.offset) r
     unfolding value_of
     six_sent v ev e g =
         record {
@@ -95,7 +96,7 @@ module _ (u : Parts) (i : ℕ) (h : i < u.counts.groups) where
         }
 
     pub bytes_sent :
-        (p.code ≡ 0 → ⊥) → Gives r 0 u Stays (This (GroupValueResponse 0)) (take (p.offset + p.code - p.offset) (drop p.offset u.bodies)) →
+        (p.code ≡ 0 → ⊥) → Gives r 0 u Stays (Some (GroupValueResponse 0)) (take (p.offset + p.code - p.offset) (drop p.offset u.bodies)) →
         Serves u [] (λ s. value_of s p.code p.offset) r
     unfolding value_of
     bytes_sent e g =
@@ -109,12 +110,12 @@ module _ (u : Parts) (i : ℕ) (h : i < u.counts.groups) where
 
     -- a new value v, or d
     module _ (v : ℕ) (d : List ℕ) where
-      pub unfit : (length d ≡ p.code → ⊥) → Gives r 10 u Stays Nothing [] → Serves u d (λ s. put_value p.code p.offset v (length d)) r
+      pub unfit : (length d ≡ p.code → ⊥) → Gives r 10 u Stays None [] → Serves u d (λ s. put_value p.code p.offset v (length d)) r
       unfolding put_value
       unfit e g = record { agrees = λ s ok o t. by_decision _ (refused 10) (rw (ne_eqb (length d) p.code e) refl) (agreed (refused 10) g t) }
 
       pub six_put :
-          v < 256 → length d ≡ p.code → p.code ≡ 0 → (b : List ℕ) (w : Parts) → b ≡ splice u.bodies p.offset (v ∷ []) → w ≡ with_bodies u b → Gives r 1 w Stays Nothing [] →
+          v < 256 → length d ≡ p.code → p.code ≡ 0 → (b : List ℕ) (w : Parts) → b ≡ splice u.bodies p.offset (v ∷ []) → w ≡ with_bodies u b → Gives r 1 w Stays None [] →
           Serves u d (λ s. put_value p.code p.offset v (length d)) r
       unfolding put_value bytes_of
       six_put l e z c w ec ew g =
@@ -129,7 +130,7 @@ module _ (u : Parts) (i : ℕ) (h : i < u.counts.groups) where
           }
 
       pub bytes_put :
-          length d ≡ p.code → (p.code ≡ 0 → ⊥) → (b : List ℕ) (w : Parts) → b ≡ splice u.bodies p.offset d → w ≡ with_bodies u b → Gives r 1 w Stays Nothing [] →
+          length d ≡ p.code → (p.code ≡ 0 → ⊥) → (b : List ℕ) (w : Parts) → b ≡ splice u.bodies p.offset d → w ≡ with_bodies u b → Gives r 1 w Stays None [] →
           Serves u d (λ s. put_value p.code p.offset v (length d)) r
       unfolding put_value
       bytes_put e z c w ec ew g =
@@ -142,17 +143,17 @@ module _ (u : Parts) (i : ℕ) (h : i < u.counts.groups) where
           }
 
 -- by group address: i is what the search gives
-module _ (u : Parts) (address i : ℕ) (r : Reply) (f : (i ≤ u.counts.groups) × ((s : List ℕ) → Accepted s → Taken s u → i ≡ index_of s groups address)) where
+module _ (u : Parts) (address i : ℕ) (r : Reply) (f : (i ≤ u.counts.groups) × ((s : List ℕ) → Accepted s → Octets s → Taken s u → i ≡ index_of s groups address)) where
   abbrev e : Group
   e = get_or u.groups i no_group
 
   -- whatever is asked of it
-  none : (d : List ℕ) (k : List ℕ → ℕ → Decision) → u.counts.groups ≤ i → Gives r 2 u Stays Nothing [] →
+  none : (d : List ℕ) (k : List ℕ → ℕ → Decision) → u.counts.groups ≤ i → Gives r 2 u Stays None [] →
       Serves u d (λ s. cond (ltb (index_of s groups address) (count s groups)) (k s (index_of s groups address)) (refused 2)) r
   none d k h g =
       record {
         agrees = λ s ok o t.
-            let l : count s groups ≤ index_of s groups address = omega (arith, f.1 s ok t, t.counts.groups) in
+            let l : count s groups ≤ index_of s groups address = omega (arith, f.1 s ok o t, t.counts.groups) in
             by_decision _ (refused 2) (rw (le-ltb (index_of s groups address) (count s groups) l) refl) (agreed (refused 2) g t);
       }
 
@@ -161,7 +162,7 @@ module _ (u : Parts) (address i : ℕ) (r : Reply) (f : (i ≤ u.counts.groups) 
   one d k x h z g =
       record {
         agrees = λ s ok o t.
-            let q = f.1 s ok t in
+            let q = f.1 s ok o t in
             let l : index_of s groups address < count s groups = omega (arith, q, t.counts.groups) in
             by_decision _ (x s) (rw (lt-ltb (index_of s groups address) (count s groups) l) (ap (k s) (sym q) ∙ z s t)) (g.agrees s ok o t);
       }
@@ -169,10 +170,10 @@ module _ (u : Parts) (address i : ℕ) (r : Reply) (f : (i ≤ u.counts.groups) 
   there : (s : List ℕ) → Taken s u → i < u.counts.groups → Fields e s i
   there s t h = fields s u i t (omega (arith, t.counts.groups))
 
-  passed : (d : List ℕ) → Gives r 2 u Stays Nothing [] → Serves u d (λ s. refused 2) r
+  passed : (d : List ℕ) → Gives r 2 u Stays None [] → Serves u d (λ s. refused 2) r
   passed d g = record { agrees = λ s ok o t. agreed (refused 2) g t }
 
-  pub none_read : u.counts.groups ≤ i → Gives r 2 u Stays Nothing [] → Serves u [] (λ s. group_read_of s address) r
+  pub none_read : u.counts.groups ≤ i → Gives r 2 u Stays None [] → Serves u [] (λ s. group_read_of s address) r
   unfolding group_read_of
   none_read h g = none [] (λ s j. cond (has_flag 1 (flags_at s j)) (value_of s (group.code of entry s groups j) (group.offset of entry s groups j)) (refused 2)) h g
 
@@ -182,14 +183,14 @@ module _ (u : Parts) (address i : ℕ) (r : Reply) (f : (i ≤ u.counts.groups) 
       one [] (λ s j. cond (has_flag 1 (flags_at s j)) (value_of s (group.code of entry s groups j) (group.offset of entry s groups j)) (refused 2))
       (λ s. value_of s e.code e.offset) h (λ s t. rw ((there s t h).read ∙ z, (there s t h).code, (there s t h).offset) refl) g
 
-  pub not_read : i < u.counts.groups → e.read ≡ false → Gives r 2 u Stays Nothing [] → Serves u [] (λ s. group_read_of s address) r
+  pub not_read : i < u.counts.groups → e.read ≡ false → Gives r 2 u Stays None [] → Serves u [] (λ s. group_read_of s address) r
   unfolding group_read_of
   not_read h z g =
       one [] (λ s j. cond (has_flag 1 (flags_at s j)) (value_of s (group.code of entry s groups j) (group.offset of entry s groups j)) (refused 2))
       (λ s. refused 2) h (λ s t. rw ((there s t h).read ∙ z) refl) (passed [] g)
 
   module _ (v : ℕ) (d : List ℕ) where
-    pub none_put : (w : ℕ) → u.counts.groups ≤ i → Gives r 2 u Stays Nothing [] → Serves u d (λ s. group_put_of w s address v (length d)) r
+    pub none_put : (w : ℕ) → u.counts.groups ≤ i → Gives r 2 u Stays None [] → Serves u d (λ s. group_put_of w s address v (length d)) r
     unfolding group_put_of
     none_put w h g = none d (λ s j. cond (has_flag w (flags_at s j)) (put_value (group.code of entry s groups j) (group.offset of entry s groups j) v (length d)) (refused 2)) h g
 
@@ -201,7 +202,7 @@ module _ (u : Parts) (address i : ℕ) (r : Reply) (f : (i ≤ u.counts.groups) 
           one d (λ s j. cond (has_flag w (flags_at s j)) (put_value (group.code of entry s groups j) (group.offset of entry s groups j) v (length d)) (refused 2))
           (λ s. put_value e.code e.offset v (length d)) h (λ s t. rw (name s t ∙ z, (there s t h).code, (there s t h).offset) refl) g
 
-      pub not_by : b ≡ false → Gives r 2 u Stays Nothing [] → Serves u d (λ s. group_put_of w s address v (length d)) r
+      pub not_by : b ≡ false → Gives r 2 u Stays None [] → Serves u d (λ s. group_put_of w s address v (length d)) r
       unfolding group_put_of
       not_by z g =
           one d (λ s j. cond (has_flag w (flags_at s j)) (put_value (group.code of entry s groups j) (group.offset of entry s groups j) v (length d)) (refused 2))
@@ -219,5 +220,5 @@ module _ (u : Parts) (address i : ℕ) (r : Reply) (f : (i ≤ u.counts.groups) 
           not takes ≡ false → Serves u d (λ s. put_value e.code e.offset v (length d)) r → Serves u d (λ s. group_put_of (cond answered 4 2) s address v (length d)) r
       put_taken q g = put_by (cond answered 4 2) takes (chosen answered takes c h) h (was_yes takes q) g
 
-      pub put_refused : not takes ≡ true → Gives r 2 u Stays Nothing [] → Serves u d (λ s. group_put_of (cond answered 4 2) s address v (length d)) r
+      pub put_refused : not takes ≡ true → Gives r 2 u Stays None [] → Serves u d (λ s. group_put_of (cond answered 4 2) s address v (length d)) r
       put_refused q g = not_by (cond answered 4 2) takes (chosen answered takes c h) h (was_no takes q) g

@@ -1,10 +1,11 @@
 -- A range that is allowed stands among the bodies where the sheet has it.
+use Rattle.std.proofs.Common.{Option, Some, None}
 use Rattle.octets.proofs.Kit.{ℕ, ◌+◌, ◌≤◌, ◌≡◌, sym, ap, ◌∙◌, true, false, List, arith, length, add-zero}
 use Rattle.sheet.{specs.{Entries.contents, Kind.kind_of, Lookup.range_of, Rules.Accepted, declared.Memory.Memory}, proofs.{rules.Good.good, searches.Regions.place_hit}}
 use Rattle.sheet.proofs.{promises.Runs.range_within, places.{RegionBodies.stands_in, BodyPlaces.after_contents}}
 use Rattle.judge.{specs.{declared.Access.Access, Memory.run_allowed}, proofs.MemoryCases.{Permits, allowed_in, range_in}}
 use Rattle.parts.specs.{declared.Parts.Parts, Records.Taken}
-use Rattle.plain_services.specs.{declared.{Area.Area, Place.{Place, TheVariants.{At, Denied}}}, Memory.{IsArea, place_in, range_allowed, range_for}, Steps.Held}
+use Rattle.plain_services.specs.{declared.{Area.Area}, Memory.{IsArea, place_in, range_allowed, range_for}, Steps.Held}
 use Rattle.plain_services.proofs.Regions.{place_at_lem, if_denied, if_placed, range_is}
 
 -- the n addresses of a sheet stand from `at` on, and an access to them is permitted
@@ -14,7 +15,7 @@ pub record Standing (w : Access) (limit : ℕ) (s : List ℕ) (m : Memory) (leve
   pub fits : at + n ≤ length s
 
 -- p is what the walk over the range gives
-module _ (u : Parts) (w : Access) (m : Memory) (level n address : ℕ) (a : Area) (most limit : ℕ) (p : Place)
+module _ (u : Parts) (w : Access) (m : Memory) (level n address : ℕ) (a : Area) (most limit : ℕ) (p : Option ℕ)
     (areas : ((s : List ℕ) → Taken s u → IsArea s m a.regions a.count) × (Held u → a.count ≤ 16)) (em : (most ≡ limit) × (most ≤ 12))
     (found : p ≡ range_for a.regions a.count w level most n address) where
   as_allowed : (s : List ℕ) → Taken s u → range_allowed a.regions a.count w level most n address ≡ run_allowed w limit level n (range_of s m address n)
@@ -22,11 +23,11 @@ module _ (u : Parts) (w : Access) (m : Memory) (level n address : ℕ) (a : Area
       range_is s m a.regions a.count (areas.0 s t) w level address most n
       ∙ ap (λ (k : ℕ). run_allowed w k level n (range_of s m address n)) em.0
 
-  pub not_allowed : p ≡ Denied → (s : List ℕ) → Taken s u → run_allowed w limit level n (range_of s m address n) ≡ false
+  pub not_allowed : p ≡ None → (s : List ℕ) → Taken s u → run_allowed w limit level n (range_of s m address n) ≡ false
   unfolding range_for
   not_allowed d s t = sym (as_allowed s t) ∙ if_denied (range_allowed a.regions a.count w level most n address) _ p found d
 
-  module _ (at : ℕ) (there : p ≡ At at) where
+  module _ (at : ℕ) (there : p ≡ Some at) where
     chosen : (range_allowed a.regions a.count w level most n address ≡ true) × (at ≡ place_in a.regions a.count address)
     unfolding range_for
     chosen = if_placed (range_allowed a.regions a.count w level most n address) _ p at found there

@@ -1,4 +1,5 @@
 -- A memory read on parts is that of the first engine.
+use Rattle.std.proofs.Common.{Option, Some, None}
 use Rattle.octets.proofs.Kit.{ℕ, ◌+◌, ◌-◌, ◌≤◌, ◌≡◌, refl, ◌∙◌, List, [], take, drop}
 use Rattle.sheet.specs.declared.Memory.{Memory}
 use Rattle.pdu.specs.declared.Pdu.{Pdu}
@@ -6,14 +7,14 @@ use Rattle.judge.specs.{declared.{Access.TheVariants.Read, Turn.TheVariants.Stay
 use Rattle.judge.proofs.MemoryCases.{memory_reads}
 use Rattle.judge.specs.declared.Answer.TheVariants as answer
 use Rattle.parts.{specs.{declared.Parts.Parts, Records.Taken}, proofs.Quoted.same_part}
-use Rattle.plain_services.specs.{declared.{Area.Area, Place.{Place, TheVariants.{At, Denied}}, Sent.TheVariants.This, Reply.Reply}, Memory.{IsArea, range_for}}
+use Rattle.plain_services.specs.{declared.{Area.Area, Reply.Reply}, Memory.{IsArea, range_for}}
 use Rattle.plain_services.specs.Steps.{Held, Gives, Serves}
 use Rattle.plain_services.proofs.{Agreed.{agreed, by_decision, quoted}, MemoryRanges.{not_allowed, standing}}
 
-module _ (u : Parts) (m : Memory) (level n address : ℕ) (a : Area) (most : ℕ) (p : Place)
+module _ (u : Parts) (m : Memory) (level n address : ℕ) (a : Area) (most : ℕ) (p : Option ℕ)
     (areas : ((s : List ℕ) → Taken s u → IsArea s m a.regions a.count) × (Held u → a.count ≤ 16)) (em : (most ≡ most_bytes m) × (most ≤ 12))
     (found : p ≡ range_for a.regions a.count Read level most n address) where
-  pub not_read : {r : Reply} → p ≡ Denied → (q : Pdu) → q ≡ response_of m 0 address → Gives r 11 u Stays (This q) [] → Serves u [] (λ s. memory_read_of s m level n address) r
+  pub not_read : {r : Reply} → p ≡ None → (q : Pdu) → q ≡ response_of m 0 address → Gives r 11 u Stays (Some q) [] → Serves u [] (λ s. memory_read_of s m level n address) r
   not_read d q e g =
       record {
         agrees = λ s ok o t.
@@ -22,7 +23,7 @@ module _ (u : Parts) (m : Memory) (level n address : ℕ) (a : Area) (most : ℕ
       }
 
   pub read :
-      {r : Reply} (at : ℕ) → p ≡ At at → (q : Pdu) → q ≡ response_of m n address → Gives r 0 u Stays (This q) (take (at + n - at) (drop at u.bodies)) →
+      {r : Reply} (at : ℕ) → p ≡ Some at → (q : Pdu) → q ≡ response_of m n address → Gives r 0 u Stays (Some q) (take (at + n - at) (drop at u.bodies)) →
       Serves u [] (λ s. memory_read_of s m level n address) r
   read at there q e g =
       record {

@@ -1,4 +1,5 @@
 -- A memory write and a bit write on parts are the first engine's.
+use Rattle.std.proofs.Common.{Option, Some, None}
 use Rattle.octets.proofs.Kit.{ℕ, ◌+◌, ◌-◌, ◌≤◌, ◌≡◌, refl, sym, ap, subst, ◌∙◌, Bool, true, false, cond, not, List, [], arith, length, take, drop}
 use Rattle.octets.{specs.Splice.splice, proofs.Splices.{length_splice, splice_below}}
 use Rattle.sheet.specs.{Entries.contents, declared.Memory.{Memory, TheVariants.Device}}
@@ -10,21 +11,21 @@ use Rattle.judge.specs.declared.Store.TheVariants as store
 use Rattle.judge.specs.declared.Answer.TheVariants as answer
 use Rattle.parts.{specs.{declared.Parts.Parts, Records.Taken, With.with_bodies}, proofs.{Changed.{bodies_changed, same_contents}, Quoted.same_part}}
 use Rattle.device.{specs.Carry.{build, bit_at, store_of}, proofs.leaves.Bits.length_build}
-use Rattle.plain_services.specs.declared.{Area.Area, Sent.TheVariants.{Nothing, This}, Reply.Reply, Place.{Place, TheVariants.{At, Denied}}}
+use Rattle.plain_services.specs.declared.{Area.Area, Reply.Reply}
 use Rattle.plain_services.specs.{Memory.{IsArea, range_for, NotWritten, Written}, Steps.{Held, Gives, Agrees, Serves}}
 use Rattle.plain_services.proofs.{Joined.{was_no, was_yes}, Agreed.{agreed, by_decision, quoted}, MemoryRanges.{not_allowed, standing, reachable}, MemoryRuns.bits_same}
 
 -- THE REPLIES
 module _ {u : Parts} {m : Memory} {address : ℕ} {r : Reply} where
-  pub denied_told : u.head.verify ≡ true → (p : Pdu) → p ≡ response_of m 0 address → Gives r 11 u Stays (This p) [] → NotWritten u m address r
+  pub denied_told : u.head.verify ≡ true → (p : Pdu) → p ≡ response_of m 0 address → Gives r 11 u Stays (Some p) [] → NotWritten u m address r
   denied_told v p e g = record { agrees = λ s d t. rw v (agreed (denied (response_of m 0 address)) (rw e at g) t) }
 
-  pub denied_quiet : u.head.verify ≡ false → Gives r 12 u Stays Nothing [] → NotWritten u m address r
+  pub denied_quiet : u.head.verify ≡ false → Gives r 12 u Stays None [] → NotWritten u m address r
   denied_quiet v g = record { agrees = λ s d t. rw v (agreed (refused 12) g t) }
 
   module _ {n at : ℕ} where
     pub written_told :
-        not u.head.verify ≡ false → (p : Pdu) → p ≡ response_of m n address → Gives r 0 u Stays (This p) (take (at + n - at) (drop at u.bodies)) →
+        not u.head.verify ≡ false → (p : Pdu) → p ≡ response_of m n address → Gives r 0 u Stays (Some p) (take (at + n - at) (drop at u.bodies)) →
         Written u m n address at r
     written_told v p e g =
         record {
@@ -33,7 +34,7 @@ module _ {u : Parts} {m : Memory} {address : ℕ} {r : Reply} where
               rw (was_yes u.head.verify v) (agreed (answered (answer.Sheet (response_of m n address) at n)) (rw (e, same) at g) t);
         }
 
-    pub written_quiet : not u.head.verify ≡ true → Gives r 1 u Stays Nothing [] → Written u m n address at r
+    pub written_quiet : not u.head.verify ≡ true → Gives r 1 u Stays None [] → Written u m n address at r
     written_quiet v g = record { agrees = λ s t low fit. rw (was_no u.head.verify v) (agreed (refused 1) g t) }
 
 -- after a write of n bytes there is as much room as before
@@ -55,10 +56,10 @@ after_store s d x p o n r true g = agreed (written x store.Nothing (answer.Sheet
 after_store s d x p o n r false g = agreed (stored x) g.gives g.sheet
 
 -- A WRITE, of bytes or of bits: what it stores in sheet s are the n bytes ds s
-module _ (u : Parts) (w : Access) (m : Memory) (level n address : ℕ) (a : Area) (most limit : ℕ) (p : Place)
+module _ (u : Parts) (w : Access) (m : Memory) (level n address : ℕ) (a : Area) (most limit : ℕ) (p : Option ℕ)
     (areas : ((s : List ℕ) → Taken s u → IsArea s m a.regions a.count) × (Held u → a.count ≤ 16)) (em : (most ≡ limit) × (most ≤ 12))
     (found : p ≡ range_for a.regions a.count w level most n address) (d : List ℕ) (new : ℕ → Store) (r : Reply) where
-  change_denied : p ≡ Denied → NotWritten u m address r → Serves u d (λ s. changed w limit new s m level n address) r
+  change_denied : p ≡ None → NotWritten u m address r → Serves u d (λ s. changed w limit new s m level n address) r
   unfolding change_of
   change_denied q g =
       record {
@@ -67,7 +68,7 @@ module _ (u : Parts) (w : Access) (m : Memory) (level n address : ℕ) (a : Area
       }
 
   change_made :
-      (at : ℕ) → p ≡ At at → (v : Parts) (ds : List ℕ → List ℕ) → ((s : List ℕ) → length (ds s) ≡ n) → ((s : List ℕ) → store_of s d (new at) ≡ splice s at (ds s)) →
+      (at : ℕ) → p ≡ Some at → (v : Parts) (ds : List ℕ → List ℕ) → ((s : List ℕ) → length (ds s) ≡ n) → ((s : List ℕ) → store_of s d (new at) ≡ splice s at (ds s)) →
       ((s : List ℕ) → Taken s u → contents s ≤ at → at + n ≤ length s → v ≡ with_bodies u (splice u.bodies at (ds s))) →
       Written v m n address at r → Serves u d (λ s. changed w limit new s m level n address) r
   unfolding change_of
@@ -91,38 +92,38 @@ module _ (u : Parts) (w : Access) (m : Memory) (level n address : ℕ) (a : Area
       }
 
 -- A MEMORY WRITE
-module _ (u : Parts) (m : Memory) (level n address : ℕ) (a : Area) (most : ℕ) (p : Place)
+module _ (u : Parts) (m : Memory) (level n address : ℕ) (a : Area) (most : ℕ) (p : Option ℕ)
     (areas : ((s : List ℕ) → Taken s u → IsArea s m a.regions a.count) × (Held u → a.count ≤ 16)) (em : (most ≡ most_bytes m) × (most ≤ 12))
     (found : p ≡ range_for a.regions a.count Write level most n address) (d : List ℕ) (r : Reply) where
   by_write : Serves u d (λ s. changed Write (most_bytes m) (store.Data 0) s m level n address) r → Serves u d (λ s. memory_write_of s m level n address) r
   by_write g = record { agrees = λ s ok o t. by_decision _ _ (memory_write_is s m level n address) (g.agrees s ok o t) }
 
-  pub write_denied : p ≡ Denied → NotWritten u m address r → Serves u d (λ s. memory_write_of s m level n address) r
+  pub write_denied : p ≡ None → NotWritten u m address r → Serves u d (λ s. memory_write_of s m level n address) r
   write_denied q g = by_write (change_denied u Write m level n address a most (most_bytes m) p areas em found d (store.Data 0) r q g)
 
   pub write_made :
-      (at : ℕ) → p ≡ At at → length d ≡ n → (v : Parts) → v ≡ with_bodies u (splice u.bodies at d) → Written v m n address at r →
+      (at : ℕ) → p ≡ Some at → length d ≡ n → (v : Parts) → v ≡ with_bodies u (splice u.bodies at d) → Written v m n address at r →
       Serves u d (λ s. memory_write_of s m level n address) r
   write_made at q long v e g =
       by_write
       (change_made u Write m level n address a most (most_bytes m) p areas em found d (store.Data 0) r at q v (λ s. d) (λ s. long) (λ s. refl) (λ s t low fit. e) g)
 
 -- A BIT WRITE
-module _ (u : Parts) (level n address : ℕ) (a : Area) (p : Place)
+module _ (u : Parts) (level n address : ℕ) (a : Area) (p : Option ℕ)
     (areas : ((s : List ℕ) → Taken s u → IsArea s Device a.regions a.count) × (Held u → a.count ≤ 16))
     (found : p ≡ range_for a.regions a.count Change level 5 n address) where
-  pub bits_reach : (at : ℕ) → p ≡ At at → Held u → (length u.bodies ≡ 16384) × (n ≤ 14) × (at + n ≤ 16384)
+  pub bits_reach : (at : ℕ) → p ≡ Some at → Held u → (length u.bodies ≡ 16384) × (n ≤ 14) × (at + n ≤ 16384)
   bits_reach at q k = reachable u Change Device level n address a 5 most_bits p areas (refl, omega arith) found at q k
 
   module _ (d : List ℕ) (r : Reply) where
     by_bits : Serves u d (λ s. changed Change most_bits (λ o. store.Bits o n) s Device level n address) r → Serves u d (λ s. bit_write_of s level n address) r
     by_bits g = record { agrees = λ s ok o t. by_decision _ _ (bit_write_is s level n address) (g.agrees s ok o t) }
 
-    pub bits_denied : p ≡ Denied → NotWritten u Device address r → Serves u d (λ s. bit_write_of s level n address) r
+    pub bits_denied : p ≡ None → NotWritten u Device address r → Serves u d (λ s. bit_write_of s level n address) r
     bits_denied q g = by_bits (change_denied u Change Device level n address a 5 most_bits p areas (refl, omega arith) found d (λ o. store.Bits o n) r q g)
 
     pub bits_made :
-        (at : ℕ) → p ≡ At at → (b : List ℕ) → b ≡ splice u.bodies at (build n (bit_at u.bodies at n d)) →
+        (at : ℕ) → p ≡ Some at → (b : List ℕ) → b ≡ splice u.bodies at (build n (bit_at u.bodies at n d)) →
         (v : Parts) → v ≡ with_bodies u b → Written v Device n address at r → Serves u d (λ s. bit_write_of s level n address) r
     bits_made at q b fills v e g =
         by_bits

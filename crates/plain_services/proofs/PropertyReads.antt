@@ -1,4 +1,5 @@
 -- A property read on parts is that of the first engine.
+use Rattle.std.proofs.Common.{Some}
 use Rattle.octets.proofs.Kit.{ℕ, ◌+◌, ◌*◌, ◌-◌, ◌≤◌, ◌<◌, ◌≡◌, refl, sym, ap₂, ◌∙◌, Bool, true, false, cond, not, ◌&&◌, List, [], arith, lit<, ltb, leb, length, get_or, take, drop, lt-ltb}
 use Rattle.octets.proofs.Kit.{le-ltb, le-leb, lt-leb, leb-true, ltb-true, ltb-false, ◌⊎◌, inl, inr}
 use Rattle.octets.{specs.{Bytes.bytes_of, Octets.Octets}, proofs.{Truths.and_is, Numbers.num_one, Tests.{both, not_first_lem, not_second_lem}}}
@@ -8,7 +9,7 @@ use Rattle.judge.specs.{declared.{Decision.Decision, Turn.TheVariants.Stays}, De
 use Rattle.judge.specs.declared.Answer.TheVariants as answer
 use Rattle.parts.{specs.{declared.{Property.Property, Parts.Parts}, Records.{Taken, no_property}}, proofs.Quoted.same_part}
 use Rattle.device.proofs.leaves.Accepted.{elements_within, count_below}
-use Rattle.plain_services.specs.{declared.{Sent.TheVariants.This, Reply.Reply}, Steps.{Held, Gives, Serves}}
+use Rattle.plain_services.specs.{declared.{Reply.Reply}, Steps.{Held, Gives, Serves}}
 use Rattle.plain_services.proofs.{Entry.{Fields, fields}, Joined.{was_no, was_yes}, Agreed.{agreed, by_decision, quoted}}
 
 -- the decision in terms of the record
@@ -86,13 +87,13 @@ module _ (u : Parts) (i level object id n t : ℕ) (r : Reply) where
   terms s k h = in_terms p level object id n t (entry s properties i) (fields s u i k (omega (arith, k.counts.properties)))
 
   pub not_readable :
-      i < u.counts.properties → p.read < level → Gives r 11 u Stays (This (PropertyValueResponse object id 0 t)) [] → Serves u [] decides r
+      i < u.counts.properties → p.read < level → Gives r 11 u Stays (Some (PropertyValueResponse object id 0 t)) [] → Serves u [] decides r
   not_readable h l g =
       record { agrees = λ s ok o k. by_decision _ (no_value object id t) (terms s k h ∙ rw (lt-leb level p.read l) refl) (agreed (no_value object id t) g k) }
 
   pub count_told :
       i < u.counts.properties → level ≤ p.read → counted n t ≡ true → (b : List ℕ) → b ≡ bytes_of 2 p.count →
-      Gives r 0 u Stays (This (PropertyValueResponse object id n t)) b → Serves u [] decides r
+      Gives r 0 u Stays (Some (PropertyValueResponse object id n t)) b → Serves u [] decides r
   count_told h l e b eb g =
       record {
         agrees = λ s ok o k.
@@ -111,7 +112,7 @@ module _ (u : Parts) (i level object id n t : ℕ) (r : Reply) where
 
     pub not_shown :
         i < u.counts.properties → level ≤ p.read → counted n t ≡ false → (not f ≡ true) ⊎ (ltb 10 z ≡ true) →
-        Gives r 11 u Stays (This (PropertyValueResponse object id 0 t)) [] → Serves u [] decides r
+        Gives r 11 u Stays (Some (PropertyValueResponse object id 0 t)) [] → Serves u [] decides r
     not_shown h l e y g =
         record {
           agrees = λ s ok o k.
@@ -121,7 +122,7 @@ module _ (u : Parts) (i level object id n t : ℕ) (r : Reply) where
     pub is_shown :
         i < u.counts.properties → level ≤ p.read → counted n t ≡ false → not f ≡ false → ltb 10 z ≡ false →
         (a : ℕ) → a ≡ element_at p.offset p.size t →
-        Gives r 0 u Stays (This (PropertyValueResponse object id n t)) (take (a + z - a) (drop a u.bodies)) → Serves u [] decides r
+        Gives r 0 u Stays (Some (PropertyValueResponse object id n t)) (take (a + z - a) (drop a u.bodies)) → Serves u [] decides r
     is_shown h l e y y' a ea g =
         record {
           agrees = λ s ok o k.
@@ -136,7 +137,7 @@ module _ (u : Parts) (i level object id n t : ℕ) (r : Reply) where
 module _ (u : Parts) (level object id n t : ℕ) (r : Reply) where
   pub no_such :
       (i : ℕ) → (i ≤ u.counts.properties) × ((s : List ℕ) → Accepted s → Octets s → Taken s u → i ≡ property_at s object id) → u.counts.properties ≤ i →
-      Gives r 11 u Stays (This (PropertyValueResponse object id 0 t)) [] → Serves u [] (λ s. property_read_of s level object id n t) r
+      Gives r 11 u Stays (Some (PropertyValueResponse object id 0 t)) [] → Serves u [] (λ s. property_read_of s level object id n t) r
   unfolding property_read_of
   no_such i f h g =
       record {

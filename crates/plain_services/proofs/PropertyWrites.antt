@@ -1,4 +1,5 @@
 -- A property write on parts is that of the first engine.
+use Rattle.std.proofs.Common.{Some}
 use Rattle.octets.proofs.Kit.{ℕ, ◌+◌, ◌*◌, ◌-◌, ◌≤◌, ◌<◌, max, ◌≡◌, refl, sym, subst, ap, ap₂, ◌∙◌, Bool, true, false, cond, not, ◌&&◌, List, [], arith, mul-le-mul_right, lit<, ltb, leb}
 use Rattle.octets.proofs.Kit.{eqb, length, get_or, lt-ltb, le-ltb, le-leb, lt-leb, leb-true, eq-eqb, ne_eqb, eqb-true, ltb-true, ltb-false, ◌⊎◌, inl, inr}
 use Rattle.octets.{specs.{Bytes.{num_at, bytes_of}, Splice.splice, Octets.Octets}, proofs.{Numbers.bytes_zero, Splices.{length_splice, splice_below}, Truths.and_is}}
@@ -14,7 +15,7 @@ use Rattle.judge.specs.declared.Answer.TheVariants as answer
 use Rattle.parts.specs.{declared.{Property.Property, Parts.Parts}, Records.{Taken, no_property}, With.{with_count, with_bodies}}
 use Rattle.parts.proofs.Changed.{bodies_changed, count_changed, property_base, property_count_lem}
 use Rattle.device.{specs.Carry.padded, proofs.leaves.Stores.length_padded}
-use Rattle.plain_services.specs.{declared.{Sent.TheVariants.This, Reply.Reply}, Steps.{Held, Gives, Serves}}
+use Rattle.plain_services.specs.{declared.{Reply.Reply}, Steps.{Held, Gives, Serves}}
 use Rattle.plain_services.proofs.{Entry.{Fields, fields}, Joined.{and_assoc, was_no, was_yes}, Agreed.{agreed, by_decision}}
 
 -- the decision in terms of the record
@@ -136,7 +137,7 @@ module _ (u : Parts) (i level object id n t : ℕ) (d : List ℕ) (r : Reply) wh
 
   pub not_writable :
       i < u.counts.properties → (not p.writable ≡ true) ⊎ (ltb p.write level ≡ true) →
-      Gives r 11 u Stays (This (PropertyValueResponse object id 0 t)) [] → Serves u d decides r
+      Gives r 11 u Stays (Some (PropertyValueResponse object id 0 t)) [] → Serves u d decides r
   not_writable h e g =
       record { agrees = λ s ok o k. by_decision _ (no_value object id t) (terms s k h ∙ rw (shut e) refl) (agreed (no_value object id t) g k) }
     where
@@ -154,7 +155,7 @@ module _ (u : Parts) (i level object id n t : ℕ) (d : List ℕ) (r : Reply) wh
 
     pub is_clear :
         t ≡ 0 → eqb n 1 ≡ true → c ≡ true → (v : Parts) → v ≡ with_count u i 0 →
-        Gives r 0 v Stays (This (PropertyValueResponse object id n t)) d → Serves u d decides r
+        Gives r 0 v Stays (Some (PropertyValueResponse object id n t)) d → Serves u d decides r
     is_clear q₁ q₂ q₃ v ev g =
         record {
           agrees = λ s ok o k.
@@ -179,7 +180,7 @@ module _ (u : Parts) (i level object id n t : ℕ) (d : List ℕ) (r : Reply) wh
 
       pub not_there :
           (not f ≡ true) ⊎ (not (eqb (length d) z) ≡ true) →
-          Gives r 11 u Stays (This (PropertyValueResponse object id 0 t)) [] → Serves u d decides r
+          Gives r 11 u Stays (Some (PropertyValueResponse object id 0 t)) [] → Serves u d decides r
       not_there y g =
           record { agrees = λ s ok o k. by_decision _ (no_value object id t) (terms s k h ∙ rw (e, as_clear false unclear, as_fills false (other y)) refl) (agreed (no_value object id t) g k) }
         where
@@ -192,7 +193,7 @@ module _ (u : Parts) (i level object id n t : ℕ) (d : List ℕ) (r : Reply) wh
           not f ≡ false → not (eqb (length d) z) ≡ false → (v v' : Parts) (x : ℕ) →
           v ≡ with_bodies u (splice u.bodies (element_at p.offset p.size (t - jumped p.count t)) (padded (jumped p.count t * p.size) d)) →
           x ≡ max p.count (t + n - 1) → v' ≡ with_count v i x →
-          Gives r 0 v' Stays (This (PropertyValueResponse object id n t)) d → Serves u d decides r
+          Gives r 0 v' Stays (Some (PropertyValueResponse object id n t)) d → Serves u d decides r
       is_filled y' yl' v v' x ev ex ev' g =
           let y = was_yes f y' in
           let yl = eqb-true (length d) z (was_yes (eqb (length d) z) yl') in
@@ -210,7 +211,7 @@ few u i k h = omega (arith, k.taken.counts.few_properties)
 module _ (u : Parts) (level object id n t : ℕ) (d : List ℕ) (r : Reply) where
   pub none_named :
       (i : ℕ) → (i ≤ u.counts.properties) × ((s : List ℕ) → Accepted s → Octets s → Taken s u → i ≡ property_at s object id) → u.counts.properties ≤ i →
-      Gives r 11 u Stays (This (PropertyValueResponse object id 0 t)) [] → Serves u d (λ s. property_write_of s level object id n t d) r
+      Gives r 11 u Stays (Some (PropertyValueResponse object id 0 t)) [] → Serves u d (λ s. property_write_of s level object id n t d) r
   unfolding property_write_of
   none_named i f h g =
       record {

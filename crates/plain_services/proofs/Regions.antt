@@ -1,16 +1,16 @@
 -- Regions as records are the regions of the sheet.
+use Rattle.std.proofs.Common.{Option, Some, None}
 use Rattle.octets.proofs.Kit.{ℕ, zero, suc, ◌+◌, ◌-◌, ◌/◌, ◌%◌, ◌≤◌, ◌<◌, ◌≡◌, refl, sym, ap, ap₂, subst, ◌∙◌, Bool, true, false, cond, not, ◌&&◌, List, arith, dec_lt, add-zero, lit≤, ltb}
 use Rattle.octets.proofs.Kit.{leb, get_or, lt-ltb, le-ltb, le-leb, lt-leb, leb-true}
 use Rattle.octets.{specs.Bytes.num_at, proofs.{Tests.both, Truths.{never, and_is, first_true}}}
-use Rattle.sheet.specs.{Kind.{regions, users, kind_of}, Layout.{Field, ◌of◌}, Entries.{count, place, entry}, Lookup.{seek, covers, place_of, common, joined, range_of, run_in}}
-use Rattle.sheet.{specs.declared.{Memory.{Memory, TheVariants.{Device, User}}, Run.{Run, TheVariants.{At, Nowhere}}}, proofs.places.Levels.{common_reading, common_writing}}
+use Rattle.sheet.specs.{Kind.{regions, users, kind_of}, Layout.{Field, ◌of◌}, Entries.{count, place, entry}, Lookup.{At, seek, covers, place_of, common, joined, range_of, run_in}}
+use Rattle.sheet.{specs.declared.{Memory.{Memory, TheVariants.{Device, User}}, Run.Run}, proofs.places.Levels.{common_reading, common_writing}}
 use Rattle.sheet.proofs.{searches.FrontSearch.{seek_first, seek_none, seek_same}, places.{Standing.field_at, Longer.range_suc}, searches.Regions.not_both}
 use Rattle.sheet.specs.Region as region
 use Rattle.pdu.specs.declared.Pdu.{Pdu}
 use Rattle.judge.specs.{declared.Access.{Access, TheVariants.{Read, Write, Change}}, Memory.{may, run_allowed, run_at, response_of}}
 use Rattle.parts.specs.{declared.{Region.Region, Parts.Parts}, Records.{IsRegion, Taken, no_region}}
-use Rattle.plain_services.specs.{Steps.Held, declared.Place.Place, Memory.{has, may_in, region_with, place_in, allowed_at, all_allowed, stands_for, range_allowed, range_for, IsArea}}
-use Rattle.plain_services.specs.declared.Place.TheVariants as stand
+use Rattle.plain_services.specs.{Steps.Held, Memory.{has, may_in, region_with, place_in, allowed_at, all_allowed, stands_for, range_allowed, range_for, IsArea}}
 use Rattle.plain_services.proofs.Joined.{was_no, was_yes}
 
 pub via_may : (w w' : Access) (level : ℕ) (e : Region) (r : Bool) → w ≡ w' → r ≡ may_in w' level e → r ≡ may_in w level e
@@ -27,44 +27,44 @@ found_none rs n y f = sym (seek_none (λ j. has (get_or rs j no_region) y) n (λ
 
 -- what the search of one address gives, i being the first region that has it
 module _ (rs : List Region) (n : ℕ) (w : Access) (level y i : ℕ) (e : i ≡ region_with rs n y) where
-  pub stands_nowhere : n ≤ i → stand.Denied ≡ stands_for rs n w level y
+  pub stands_nowhere : n ≤ i → None ≡ stands_for rs n w level y
   unfolding stands_for allowed_at
   stands_nowhere h = rw (← e, le-ltb i n h) refl
 
-  pub stands_denied : i < n → (b : Bool) → b ≡ may_in w level (get_or rs i no_region) → not b ≡ true → stand.Denied ≡ stands_for rs n w level y
+  pub stands_denied : i < n → (b : Bool) → b ≡ may_in w level (get_or rs i no_region) → not b ≡ true → None ≡ stands_for rs n w level y
   unfolding stands_for allowed_at
   stands_denied h b f q = rw (← e, lt-ltb i n h, sym f ∙ was_no b q) refl
 
   pub stands_there :
       i < n → (b : Bool) → b ≡ may_in w level (get_or rs i no_region) → not b ≡ false →
-      stand.At ((get_or rs i no_region).offset + (y - (get_or rs i no_region).address)) ≡ stands_for rs n w level y
+      Some ((get_or rs i no_region).offset + (y - (get_or rs i no_region).address)) ≡ stands_for rs n w level y
   unfolding stands_for allowed_at place_in
   stands_there h b f q = rw (← e, lt-ltb i n h, sym f ∙ was_yes b q) refl
 
 -- a place, and whether there is one
-abbrev pub placed : Place → Bool
-placed stand.Denied = false
-placed (stand.At x) = true
+abbrev pub placed : Option ℕ → Bool
+placed None = false
+placed (Some x) = true
 
-abbrev pub place_at : Place → ℕ
-place_at stand.Denied = 0
-place_at (stand.At x) = x
+abbrev pub place_at : Option ℕ → ℕ
+place_at None = 0
+place_at (Some x) = x
 
 module _ (b : Bool) (x : ℕ) where
-  placed_if : placed (cond b (stand.At x) stand.Denied) ≡ b
+  placed_if : placed (cond b (Some x) None) ≡ b
   placed_if = go b
     where
-      go : (b : Bool) → placed (cond b (stand.At x) stand.Denied) ≡ b
+      go : (b : Bool) → placed (cond b (Some x) None) ≡ b
       go true = refl
       go false = refl
 
-  pub if_denied : (p : Place) → p ≡ cond b (stand.At x) stand.Denied → p ≡ stand.Denied → b ≡ false
+  pub if_denied : (p : Option ℕ) → p ≡ cond b (Some x) None → p ≡ None → b ≡ false
   if_denied p e d = sym placed_if ∙ ap placed (sym e ∙ d)
 
-  pub if_placed : (p : Place) (at : ℕ) → p ≡ cond b (stand.At x) stand.Denied → p ≡ stand.At at → (b ≡ true) × (at ≡ x)
+  pub if_placed : (p : Option ℕ) (at : ℕ) → p ≡ cond b (Some x) None → p ≡ Some at → (b ≡ true) × (at ≡ x)
   if_placed p at e d =
       let h : b ≡ true = sym placed_if ∙ ap placed (sym e ∙ d) in
-      (h, ap place_at (sym d ∙ e ∙ ap (λ (c : Bool). cond c (stand.At x) stand.Denied) h))
+      (h, ap place_at (sym d ∙ e ∙ ap (λ (c : Bool). cond c (Some x) None) h))
 
 -- all addresses so far
 module _ (rs : List Region) (n : ℕ) (w : Access) (level a : ℕ) where
@@ -117,9 +117,9 @@ fields_by s k i r f p =
     }
 
 -- a run permits an access
-abbrev pub permitted : Access → ℕ → Run → Bool
-permitted w level Nowhere = false
-permitted w level (At o l) = may w level l
+abbrev pub permitted : Access → ℕ → Option Run → Bool
+permitted w level None = false
+permitted w level (Some r) = may w level r.levels
 
 module _ (s : List ℕ) (m : Memory) (rs : List Region) (n : ℕ) (r : IsArea s m rs n) where
   fields : (i : ℕ) → i < n → Fields (get_or rs i no_region) (entry s (kind_of m) i)
@@ -151,7 +151,7 @@ module _ (s : List ℕ) (m : Memory) (rs : List Region) (n : ℕ) (r : IsArea s 
           (ltb i n && may_in w level (get_or rs i no_region))
           ≡ permitted w level
           (cond (ltb (seek (λ j. covers (entry s (kind_of m) j) y) 0 (count s (kind_of m))) (count s (kind_of m)))
-          (run_in (entry s (kind_of m) (seek (λ j. covers (entry s (kind_of m) j) y) 0 (count s (kind_of m)))) y) Nowhere)
+          (run_in (entry s (kind_of m) (seek (λ j. covers (entry s (kind_of m) j) y) 0 (count s (kind_of m)))) y) None)
       go i e (yes h) = rw (← (seek_is y), e, ← r.many, lt-ltb i n h) (may_is w level i h)
       go i e (no h) = rw (← (seek_is y), e, ← r.many, le-ltb i n (omega arith)) refl
 
@@ -190,14 +190,14 @@ and_false : (a : Bool) → (a && false) ≡ false
 and_false true = refl
 and_false false = refl
 
-permitted_joined : (w : Access) (level : ℕ) (r q : Run) → permitted w level (joined r q) ≡ (permitted w level r && permitted w level q)
-permitted_joined w level (At o l) (At p k) = may_common w level l k
-permitted_joined w level (At o l) Nowhere = sym (and_false (may w level l))
-permitted_joined w level Nowhere q = refl
+permitted_joined : (w : Access) (level : ℕ) (r q : Option Run) → permitted w level (joined r q) ≡ (permitted w level r && permitted w level q)
+permitted_joined w level (Some r) (Some q) = may_common w level r.levels q.levels
+permitted_joined w level (Some r) None = sym (and_false (may w level r.levels))
+permitted_joined w level None q = refl
 
-pub allowed_is : (w : Access) (most level n : ℕ) (r : Run) → run_allowed w most level n r ≡ (leb 1 n && leb n most && permitted w level r)
-allowed_is w most level n Nowhere = sym (and_false (leb 1 n && leb n most))
-allowed_is w most level n (At o l) = refl
+pub allowed_is : (w : Access) (most level n : ℕ) (r : Option Run) → run_allowed w most level n r ≡ (leb 1 n && leb n most && permitted w level r)
+allowed_is w most level n None = sym (and_false (leb 1 n && leb n most))
+allowed_is w most level n (Some r) = refl
 
 module _ (s : List ℕ) (m : Memory) (rs : List Region) (n : ℕ) (r : IsArea s m rs n) (w : Access) (level a : ℕ) where
   all_are : (i : ℕ) → all_allowed rs n w level a (suc i) ≡ permitted w level (range_of s m a (suc i))
@@ -221,23 +221,23 @@ module _ (s : List ℕ) (m : Memory) (rs : List Region) (n : ℕ) (r : IsArea s 
 
 -- what the walk over a range gives
 module _ (rs : List Region) (n : ℕ) (w : Access) (level most i a : ℕ) where
-  pub too_few : i < 1 → stand.Denied ≡ range_for rs n w level most i a
+  pub too_few : i < 1 → None ≡ range_for rs n w level most i a
   unfolding range_for range_allowed
   too_few h = rw (lt-leb 1 i h) refl
 
-  pub too_many : most < i → stand.Denied ≡ range_for rs n w level most i a
+  pub too_many : most < i → None ≡ range_for rs n w level most i a
   unfolding range_for range_allowed
   too_many h = rw (lt-leb i most h, and_false (leb 1 i)) refl
 
   pub one_refused :
-      (j : ℕ) → j < i → all_allowed rs n w level a j ≡ true → (p : Place) → p ≡ stands_for rs n w level (a + j) → p ≡ stand.Denied → stand.Denied ≡ range_for rs n w level most i a
+      (j : ℕ) → j < i → all_allowed rs n w level a j ≡ true → (p : Option ℕ) → p ≡ stands_for rs n w level (a + j) → p ≡ None → None ≡ range_for rs n w level most i a
   unfolding range_for range_allowed stands_for
   one_refused j h e p f d =
       let x = sym (one_denied rs n w level a j i h e (if_denied (allowed_at rs n w level (a + j)) _ p f d)) in
       rw (x, and_false (leb 1 i && leb i most)) refl
 
   pub one_stands :
-      (j : ℕ) → all_allowed rs n w level a j ≡ true → (p : Place) (at : ℕ) → p ≡ stands_for rs n w level (a + j) → p ≡ stand.At at → all_allowed rs n w level a (j + 1) ≡ true
+      (j : ℕ) → all_allowed rs n w level a j ≡ true → (p : Option ℕ) (at : ℕ) → p ≡ stands_for rs n w level (a + j) → p ≡ Some at → all_allowed rs n w level a (j + 1) ≡ true
   unfolding stands_for
   one_stands j e p at f d = one_more_allowed rs n w level a j e (if_placed (allowed_at rs n w level (a + j)) _ p at f d).0
 
@@ -248,7 +248,7 @@ module _ (rs : List Region) (n : ℕ) (w : Access) (level most i a : ℕ) where
       first_allowed (suc j) (omega arith) (first_true (all_allowed rs n w level a (suc j)) (allowed_at rs n w level (a + suc j)) (unfold all_allowed in e))
 
   pub all_stand :
-      1 ≤ i → i ≤ most → (j : ℕ) → j ≡ i → all_allowed rs n w level a j ≡ true → (p : Place) → p ≡ stands_for rs n w level a → p ≡ range_for rs n w level most i a
+      1 ≤ i → i ≤ most → (j : ℕ) → j ≡ i → all_allowed rs n w level a j ≡ true → (p : Option ℕ) → p ≡ stands_for rs n w level a → p ≡ range_for rs n w level most i a
   unfolding range_for range_allowed stands_for
   all_stand h l j q e p f =
       f ∙ rw (first_allowed j (omega arith) e, le-leb 1 i h, le-leb i most l, ap (all_allowed rs n w level a) (sym q) ∙ e) refl
@@ -271,7 +271,7 @@ module _ (s : List ℕ) (m : Memory) (rs : List Region) (n : ℕ) (r : IsArea s 
     where
       go : (i : ℕ) → region_with rs n y ≡ i → Dec (i < n) →
           cond (ltb (seek (λ j. covers (entry s (kind_of m) j) y) 0 (count s (kind_of m))) (count s (kind_of m)))
-          (run_in (entry s (kind_of m) (seek (λ j. covers (entry s (kind_of m) j) y) 0 (count s (kind_of m)))) y) Nowhere
+          (run_in (entry s (kind_of m) (seek (λ j. covers (entry s (kind_of m) j) y) 0 (count s (kind_of m)))) y) None
           ≡ At p l →
           cond (ltb i n) ((get_or rs i no_region).offset + (y - (get_or rs i no_region).address)) 0 ≡ p
       go i e (yes h) =

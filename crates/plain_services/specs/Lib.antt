@@ -1,3 +1,5 @@
+pub mod Outcome
+pub mod Found
 pub mod Steps
 pub mod Memory
 pub mod Described

@@ -1,5 +1,5 @@
 -- Regions as records: which has an address, and whether the levels of all suffice.
-use Rattle.std.specs.Prelude.{ℕ, zero, suc, ◌+◌, ◌-◌, ◌<◌, ◌≤◌, ◌≡◌, Bool, true, cond, ◌&&◌, List, [], ltb, leb, length, get_or}
+use Rattle.std.specs.Prelude.{ℕ, zero, suc, ◌+◌, ◌-◌, ◌<◌, ◌≤◌, ◌≡◌, Bool, true, cond, ◌&&◌, List, [], ltb, leb, length, get_or, Option, Some, None}
 use Rattle.sheet.specs.Lookup.{seek}
 use Rattle.judge.specs.Decisions.{denied, refused, answered}
 use Rattle.judge.specs.Memory.{response_of}
@@ -13,8 +13,6 @@ use Rattle.sheet.specs.Kind.{kind_of}
 use Rattle.sheet.specs.Entries.{count, place, contents}
 use Rattle.sheet.specs.declared.Memory.{Memory}
 use Rattle.plain_services.specs.declared.Reply.{Reply}
-use Rattle.plain_services.specs.declared.Place.{Place}
-use Rattle.plain_services.specs.declared.Place.TheVariants.{At, Denied}
 use Rattle.plain_services.specs.Steps.{Agrees}
 
 -- a region has address y
@@ -48,16 +46,16 @@ place_in rs n y =
     cond (ltb i n) (e.offset + (y - e.address)) 0
 
 -- where address y stands, if the level suffices for it
-unfoldable pub stands_for : List Region → ℕ → Access → ℕ → ℕ → Place
-stands_for rs n w level y = cond (allowed_at rs n w level y) (At (place_in rs n y)) Denied
+unfoldable pub stands_for : List Region → ℕ → Access → ℕ → ℕ → Option ℕ
+stands_for rs n w level y = cond (allowed_at rs n w level y) (Some (place_in rs n y)) None
 
 -- 1 to `most` addresses from a on, i of them, may be used
 unfoldable pub range_allowed : List Region → ℕ → Access → ℕ → ℕ → ℕ → ℕ → Bool
 range_allowed rs n w level most i a = leb 1 i && leb i most && all_allowed rs n w level a i
 
 -- where they stand
-unfoldable pub range_for : List Region → ℕ → Access → ℕ → ℕ → ℕ → ℕ → Place
-range_for rs n w level most i a = cond (range_allowed rs n w level most i a) (At (place_in rs n a)) Denied
+unfoldable pub range_for : List Region → ℕ → Access → ℕ → ℕ → ℕ → ℕ → Option ℕ
+range_for rs n w level most i a = cond (range_allowed rs n w level most i a) (Some (place_in rs n a)) None
 
 -- THE REGIONS OF A MEMORY of sheet s are these n records
 pub record IsArea (s : List ℕ) (m : Memory) (rs : List Region) (n : ℕ) : Type 0 where

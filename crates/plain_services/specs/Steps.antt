@@ -1,5 +1,5 @@
 -- What a service of the plain engine gives, and that it is what the first engine decides, carried out.
-use Rattle.std.specs.Prelude.{ℕ, ◌≤◌, ◌≡◌, List, [], length, take, drop}
+use Rattle.std.specs.Prelude.{ℕ, ◌≤◌, ◌≡◌, List, [], length, take, drop, Option, Some, None}
 use Rattle.octets.specs.Bytes.{bytes_of}
 use Rattle.sheet.specs.Rules.{Accepted}
 use Rattle.judge.specs.declared.Decision.{Decision}
@@ -10,9 +10,9 @@ use Rattle.octets.specs.Octets.{Octets}
 use Rattle.device.specs.Carry.{store_of}
 use Rattle.parts.specs.declared.Parts.{Parts}
 use Rattle.parts.specs.Records.{Taken}
-use Rattle.plain_services.specs.declared.Sent.{Sent}
-use Rattle.plain_services.specs.declared.Sent.TheVariants.{Nothing, This}
+use Rattle.pdu.specs.declared.Pdu.{Pdu}
 use Rattle.plain_services.specs.declared.Reply.{Reply}
+use Rattle.plain_services.specs.Outcome.{number_of}
 
 -- u are the parts of some accepted sheet
 pub record Held (u : Parts) : Type 0 where
@@ -22,8 +22,8 @@ pub record Held (u : Parts) : Type 0 where
   pub taken : Taken sheet u
 
 -- a reply: outcome, parts, what becomes of the session, what is sent and with which data
-pub record Gives (r : Reply) (n : ℕ) (u : Parts) (t : Turn) (x : Sent) (b : List ℕ) : Type 0 where
-  pub outcome : r.outcome ≡ n
+pub record Gives (r : Reply) (n : ℕ) (u : Parts) (t : Turn) (x : Option Pdu) (b : List ℕ) : Type 0 where
+  pub outcome : number_of r.outcome ≡ n
   pub parts : r.parts ≡ u
   pub turn : r.turn ≡ t
   pub sent : r.sent ≡ x
@@ -32,12 +32,12 @@ pub record Gives (r : Reply) (n : ℕ) (u : Parts) (t : Turn) (x : Sent) (b : Li
   pub full : length r.bytes ≡ 14
 
 -- what an answer sends, and its data, s being the sheet after the stores and d the data of the request
-abbrev pub sent_of : Answer → Sent
-sent_of answer.Silence = Nothing
-sent_of (answer.Plain p) = This p
-sent_of (answer.Number p w x) = This p
-sent_of (answer.Sheet p at n) = This p
-sent_of (answer.Echo p) = This p
+abbrev pub sent_of : Answer → Option Pdu
+sent_of answer.Silence = None
+sent_of (answer.Plain p) = Some p
+sent_of (answer.Number p w x) = Some p
+sent_of (answer.Sheet p at n) = Some p
+sent_of (answer.Echo p) = Some p
 
 abbrev pub data_for : List ℕ → List ℕ → Answer → List ℕ
 data_for s d answer.Silence = []

@@ -4,7 +4,8 @@ ghost use Rattle.judge.specs.Addresses.{address_write_of, address_read_of, seria
 ghost use Rattle.plain_services.specs.Steps.{Serves};
 
 use crate::Reply;
-use crate::replies::{sending, showing, silent, two_bytes};
+use crate::replies::{answered, denied, done, refused};
+use judge::Refusal;
 use parts::Parts;
 use pdu::Pdu;
 
@@ -13,10 +14,10 @@ pub fn address_write(mut parts: Parts, address: u16) -> Reply
     ensures { Serves parts [] (λ s. address_write_of s address) result }
 {
     if !parts.head.programming {
-        return silent(parts, 2);
+        return refused(parts, Refusal::NotForUs);
     }
     parts.head.address = address;
-    silent(parts, 1)
+    done(parts)
 }
 
 // The device shows itself, in programming mode only.
@@ -24,9 +25,9 @@ pub fn address_read(parts: Parts) -> Reply
     ensures { Serves parts [] (λ s. address_read_of s) result }
 {
     if !parts.head.programming {
-        return silent(parts, 2);
+        return refused(parts, Refusal::NotForUs);
     }
-    sending(parts, 0, Pdu::IndividualAddressResponse)
+    answered(parts, Pdu::IndividualAddressResponse, &[])
 }
 
 // The device of that serial number shows itself. Our domain address is 0.
@@ -34,9 +35,9 @@ pub fn serial_read(parts: Parts, serial: u64) -> Reply
     ensures { Serves parts [] (λ s. serial_read_of s serial) result }
 {
     if serial != parts.head.serial {
-        return silent(parts, 2);
+        return refused(parts, Refusal::NotForUs);
     }
-    sending(parts, 0, Pdu::SerialNumberResponse { serial, domain: 0 })
+    answered(parts, Pdu::SerialNumberResponse { serial, domain: 0 }, &[])
 }
 
 // A new address for the device of that serial number.
@@ -44,10 +45,10 @@ pub fn serial_write(mut parts: Parts, serial: u64, address: u16) -> Reply
     ensures { Serves parts [] (λ s. serial_write_of s serial address) result }
 {
     if serial != parts.head.serial {
-        return silent(parts, 2);
+        return refused(parts, Refusal::NotForUs);
     }
     parts.head.address = address;
-    silent(parts, 1)
+    done(parts)
 }
 
 // Type 0 is the mask version. Another is denied under rules 1, and not for us under rules 0.
@@ -55,11 +56,11 @@ pub fn descriptor(parts: Parts, t: u8) -> Reply
     ensures { Serves parts [] (λ s. descriptor_of s t) result }
 {
     if t == 0 {
-        let mask = two_bytes(parts.head.mask);
-        return showing(parts, Pdu::DeviceDescriptorResponse { t: 0 }, &mask);
+        let mask = parts.head.mask.to_be_bytes();
+        return answered(parts, Pdu::DeviceDescriptorResponse { t: 0 }, &mask);
     }
     if parts.head.rules == 1 {
-        return sending(parts, 11, Pdu::DeviceDescriptorResponse { t: 63 });
+        return denied(parts, Pdu::DeviceDescriptorResponse { t: 63 });
     }
-    silent(parts, 2)
+    refused(parts, Refusal::NotForUs)
 }

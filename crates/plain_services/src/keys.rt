@@ -4,8 +4,8 @@ ghost use Rattle.judge.specs.Keys.{grant_of, authorize_of, key_write_of, restart
 ghost use Rattle.parts.specs.Records.{IsHead};
 ghost use Rattle.plain_services.specs.Steps.{Serves};
 
-use crate::replies::{reply, sending};
-use crate::{Reply, Sent};
+use crate::replies::{answered, denied, reply};
+use crate::{Outcome, Reply};
 use judge::Turn;
 use parts::{Head, Parts};
 use pdu::Pdu;
@@ -29,7 +29,13 @@ pub fn authorize(parts: Parts, key: u32) -> Reply
 {
     let level = level_with(parts.head, key);
     let response = Pdu::AuthorizeResponse { level };
-    reply(parts, 0, Turn::Level(level), Sent::This(response), &[])
+    reply(
+        parts,
+        Outcome::Answered,
+        Turn::Level(level),
+        Some(response),
+        &[],
+    )
 }
 
 // A new key for the level named: 0 to 2, and not above the rights of the one who asks.
@@ -37,12 +43,12 @@ pub fn key_write(mut parts: Parts, level: u8, named: u8, key: u32) -> Reply
     ensures { Serves parts [] (λ s. key_write_of level named key) result }
 {
     if 2 < named || named < level {
-        return sending(parts, 11, Pdu::KeyResponse { level: 255 });
+        return denied(parts, Pdu::KeyResponse { level: 255 });
     }
     let mut head = parts.head;
     head.keys[named as usize] = key;
     parts.head = head;
-    sending(parts, 0, Pdu::KeyResponse { level: named })
+    answered(parts, Pdu::KeyResponse { level: named }, &[])
 }
 
 // Restart: programming mode is cleared, and both sessions are closed.
@@ -50,5 +56,5 @@ pub fn restart(mut parts: Parts) -> Reply
     ensures { Serves parts [] (λ s. restart_of s) result }
 {
     parts.head.programming = false;
-    reply(parts, 1, Turn::Closes, Sent::Nothing, &[])
+    reply(parts, Outcome::Done, Turn::Closes, None, &[])
 }

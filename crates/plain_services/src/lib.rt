@@ -1,6 +1,8 @@
 // The services of the plain engine: what each gives and leaves, on the parts of a sheet.
 #![tactic(auto)]
 
+ghost use Rattle.std.specs.Prelude.{◌≡◌};
+
 mod addresses;
 mod bodies;
 mod groups;
@@ -12,40 +14,50 @@ mod replies;
 
 pub use addresses::{address_read, address_write, descriptor, serial_read, serial_write};
 pub use groups::{group_put, group_read};
-use judge::Turn;
+use judge::{Refusal, Turn};
 pub use keys::{authorize, key_write, restart};
 pub use memory::{bit_write, memory_read, memory_write};
 use parts::{Parts, Region};
 use pdu::Pdu;
 pub use properties::{description, property_read, property_write};
-pub use replies::silent;
+pub use replies::refused;
 
-// What is sent: nothing, or this PDU.
+// What came of a request: it is answered, it is done without an answer, or it is refused or ignored.
 #[derive(Clone, Copy)]
-pub enum Sent {
-    Nothing,
-    This(Pdu),
+pub enum Outcome {
+    Answered,
+    Done,
+    Refused(Refusal),
 }
 
-// What a service gives: the outcome, the parts afterwards, what becomes of the session, the PDU that is sent, and its data.
+impl Outcome {
+    ghost use Rattle.plain_services.specs.Outcome.{number_of};
+
+    pub fn number(self) -> u8
+        ensures { result ≡ number_of self }
+    {
+        match self {
+            Outcome::Answered => 0,
+            Outcome::Done => 1,
+            Outcome::Refused(refusal) => refusal.number(),
+        }
+    }
+}
+
+// What a service gives: the outcome, the parts afterwards, what becomes of the session, the PDU that is sent, and its data: 14 bytes and how
+// many of them count, since there is no heap.
 #[derive(Clone, Copy)]
 pub struct Reply {
-    pub outcome: u8,
+    pub outcome: Outcome,
     pub parts: Parts,
     pub turn: Turn,
-    pub sent: Sent,
+    pub sent: Option<Pdu>,
     pub bytes: [u8; 14],
     pub length: usize,
 }
 
-// Where addresses stand among the bodies, if they may be used.
-#[derive(Clone, Copy)]
-pub enum Place {
-    Denied,
-    At(usize),
-}
-
-// The regions of one memory.
+// The regions of one memory: the array and how many of its places count, as in Parts. A slice of an array behind a reference was tried: the
+// length of the array is not known to the proof there.
 #[derive(Clone, Copy)]
 pub struct Area {
     pub regions: [Region; 16],

@@ -6,11 +6,11 @@ ghost use Rattle.device.specs.Carry.{build, bit_at};
 ghost use Rattle.plain_services.specs.Steps.{Held, Serves};
 ghost use Rattle.plain_services.specs.Memory.{NotWritten, Written};
 
+use crate::Reply;
 use crate::bodies::{with_bodies, with_data};
 use crate::ranges::{area, range};
-use crate::replies::{sending, showing, silent};
-use crate::{Place, Reply};
-use judge::Access;
+use crate::replies::{answered, denied, done, refused};
+use judge::{Access, Refusal};
 use parts::Parts;
 use pdu::Pdu;
 use sheet::Memory;
@@ -41,12 +41,12 @@ pub fn memory_read(parts: Parts, memory: Memory, level: u8, n: u8, address: u16)
     ensures { Serves parts [] (λ s. memory_read_of s memory level n address) result }
 {
     let area = area(parts, memory);
-    let Place::At(at) = range(area, Access::Read, level, most(memory), n, address) else {
-        return sending(parts, 11, response(memory, 0, address));
+    let Some(at) = range(area, Access::Read, level, most(memory), n, address) else {
+        return denied(parts, response(memory, 0, address));
     };
     let bodies = parts.bodies;
     let answer = response(memory, n, address);
-    showing(parts, answer, &bodies[at..at + n as usize])
+    answered(parts, answer, &bodies[at..at + n as usize])
 }
 
 // A write is denied: 11 with the negative answer if verify is on, else 12.
@@ -54,9 +54,9 @@ fn not_written(parts: Parts, memory: Memory, address: u16) -> Reply
     ensures { NotWritten parts memory address result }
 {
     if parts.head.verify {
-        return sending(parts, 11, response(memory, 0, address));
+        return denied(parts, response(memory, 0, address));
     }
-    silent(parts, 12)
+    refused(parts, Refusal::Silent)
 }
 
 // A write is done: 0 with the n bytes that then stand there if verify is on, else 1.
@@ -65,11 +65,11 @@ fn written(parts: Parts, memory: Memory, n: u8, address: u16, at: usize) -> Repl
     ensures { Written parts memory n address at result }
 {
     if !parts.head.verify {
-        return silent(parts, 1);
+        return done(parts);
     }
     let bodies = parts.bodies;
     let answer = response(memory, n, address);
-    showing(parts, answer, &bodies[at..at + n as usize])
+    answered(parts, answer, &bodies[at..at + n as usize])
 }
 
 // A write of n bytes from an address on.
@@ -78,7 +78,7 @@ pub fn memory_write(parts: Parts, memory: Memory, level: u8, n: u8, address: u16
     ensures { Serves parts d.now (λ s. memory_write_of s memory level n address) result }
 {
     let area = area(parts, memory);
-    let Place::At(at) = range(area, Access::Write, level, most(memory), n, address) else {
+    let Some(at) = range(area, Access::Write, level, most(memory), n, address) else {
         return not_written(parts, memory, address);
     };
     written(with_data(parts, at, d), memory, n, address, at)
@@ -102,7 +102,7 @@ pub fn bit_write(parts: Parts, level: u8, n: u8, address: u16, d: &[u8]) -> Repl
     ensures { Serves parts d.now (λ s. bit_write_of s level n address) result }
 {
     let area = area(parts, Memory::Device);
-    let Place::At(at) = range(area, Access::Change, level, 5, n, address) else {
+    let Some(at) = range(area, Access::Change, level, 5, n, address) else {
         return not_written(parts, Memory::Device, address);
     };
     let old = parts.bodies;

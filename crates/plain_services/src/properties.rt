@@ -1,37 +1,33 @@
 // Properties: read, write and description.
-ghost use Rattle.std.specs.Prelude.{◌≡◌, List, [], length, ℕ, ◌+◌, ◌-◌, ◌*◌, ◌≤◌, ◌<◌, max};
+ghost use Rattle.std.specs.Prelude.{◌≡◌, [], length, ◌+◌, ◌-◌, ◌*◌, ◌≤◌, ◌<◌, max};
 ghost use Rattle.octets.specs.Splice.{splice};
-ghost use Rattle.sheet.specs.Rules.{Accepted};
-ghost use Rattle.octets.specs.Octets.{Octets};
 ghost use Rattle.device.specs.Carry.{padded};
 ghost use Rattle.judge.specs.declared.Turn.TheVariants.{Stays};
 ghost use Rattle.pdu.specs.declared.Pdu.TheVariants.{PropertyValueResponse};
 ghost use Rattle.judge.specs.Properties.{property_at, elements as elementsOf, jumped as jumpedOf, element_at, property_read_of, property_write_of, description_of};
 ghost use Rattle.sheet.specs.Lookup.{nth_of};
 ghost use Rattle.plain_services.specs.Described.{rank_in};
-ghost use Rattle.parts.specs.Records.{Taken};
-ghost use Rattle.plain_services.specs.declared.Sent.TheVariants as sent;
+ghost use Rattle.plain_services.specs.Found.{Finds};
 ghost use Rattle.plain_services.specs.Steps.{Held, Gives, Serves};
 ghost use Rattle.parts.specs.With.{with_count, with_bodies};
 
 use crate::Reply;
 use crate::bodies::with_bodies;
-use crate::replies::{sending, showing, two_bytes};
+use crate::replies::{answered, denied};
 use parts::{Parts, Property};
 use pdu::Pdu;
 
-// The number of the property with that object and id, the count of properties where there is none.
-fn find(parts: Parts, object: u8, id: u8) -> usize
-    requires { Held parts }
-    ensures { (result ≤ parts.counts.properties) × ((s : List ℕ) → Accepted s → Octets s → Taken s parts → result ≡ property_at s object id) }
+// The number of the property with that object and id. By `position` it was tried: what the search then says of the parts did not close.
+fn find(parts: &Parts, object: u8, id: u8) -> Option<usize>
+    requires { Held parts.now }
+    ensures { Finds parts.now parts.now.counts.properties (λ s. property_at s object id) result }
 {
-    let n = parts.counts.properties;
-    for i in 0..n {
+    for i in 0..parts.counts.properties {
         if parts.properties[i].object == object && parts.properties[i].id == id {
-            return i;
+            return Some(i);
         }
     }
-    n
+    None
 }
 
 // n elements from element s on, counted from 1, are among the first m.
@@ -50,11 +46,11 @@ fn size_of(p: Property, n: usize) -> usize
 }
 
 // Not allowed: the answer has no element.
-fn denied(parts: Parts, object: u8, id: u8, s: u16) -> Reply
-    ensures { Gives result 11 parts Stays (sent.This (PropertyValueResponse object id 0 s)) [] }
+fn no_element(parts: Parts, object: u8, id: u8, s: u16) -> Reply
+    ensures { Gives result 11 parts Stays (Some (PropertyValueResponse object id 0 s)) [] }
 {
     let n = 0;
-    sending(parts, 11, Pdu::PropertyValueResponse { object, id, n, s })
+    denied(parts, Pdu::PropertyValueResponse { object, id, n, s })
 }
 
 // A read of a property.
@@ -63,24 +59,26 @@ pub fn property_read(parts: Parts, level: u8, object: u8, id: u8, n: u8, s: u16)
     ensures { Serves parts [] (λ t. property_read_of t level object id n s) result }
 {
     // Allowed if the entry exists, level <= its read level,
-    let i = find(parts, object, id);
-    if parts.counts.properties <= i || parts.properties[i].read < level {
-        return denied(parts, object, id, s);
-    }
+    let Some(i) = find(&parts, object, id) else {
+        return no_element(parts, object, id, s);
+    };
     let p = parts.properties[i];
+    if p.read < level {
+        return no_element(parts, object, id, s);
+    }
     let answer = Pdu::PropertyValueResponse { object, id, n, s };
     // and either s = 0 and n = 1 (answer: current count, two bytes),
     if s == 0 && n == 1 {
-        return showing(parts, answer, &two_bytes(p.count));
+        return answered(parts, answer, &p.count.to_be_bytes());
     }
     // or s >= 1, n >= 1, s+n-1 <= current count and n·size <= 10.
     let size = size_of(p, n as usize);
     if !are_among(n, s, p.count) || 10 < size {
-        return denied(parts, object, id, s);
+        return no_element(parts, object, id, s);
     }
     let at = p.offset as usize + size_of(p, s as usize - 1);
     let bodies = parts.bodies;
-    showing(parts, answer, &bodies[at..at + size])
+    answered(parts, answer, &bodies[at..at + size])
 }
 
 // How many elements a write from element s on jumps.
@@ -88,10 +86,7 @@ fn jumped(p: Property, s: u16) -> usize
     requires { 1 ≤ s }
     ensures { result ≡ jumpedOf p.count s }
 {
-    if s <= p.count {
-        return 0;
-    }
-    (s - 1 - p.count) as usize
+    (s - 1).saturating_sub(p.count) as usize
 }
 
 // The elements that are jumped as zeros, then the data from element s on.
@@ -122,67 +117,61 @@ fn new_count(p: Property, n: u8, s: u16) -> u16
     requires { (1 ≤ n) × (1 ≤ s) × (s + n - 1 ≤ p.maximum) }
     ensures { result ≡ max p.count (s + n - 1) }
 {
-    let end = s - 1 + n as u16;
-    if end < p.count { p.count } else { end }
+    p.count.max(s - 1 + n as u16)
 }
 
-// A write of data to a property.
+// A write of data to a property. It begins as a read does; each is one paragraph of the rules, and both are read against it.
 pub fn property_write(parts: Parts, level: u8, object: u8, id: u8, n: u8, s: u16, d: &[u8]) -> Reply
     requires { Held parts × (length d.now ≤ 14) }
     ensures { Serves parts d.now (λ t. property_write_of t level object id n s d.now) result }
 {
     // Allowed if the entry exists, is writable, level <= its write level,
-    let i = find(parts, object, id);
-    if parts.counts.properties <= i {
-        return denied(parts, object, id, s);
-    }
+    let Some(i) = find(&parts, object, id) else {
+        return no_element(parts, object, id, s);
+    };
     let p = parts.properties[i];
     if !p.writable || p.write < level {
-        return denied(parts, object, id, s);
+        return no_element(parts, object, id, s);
     }
     let answer = Pdu::PropertyValueResponse { object, id, n, s };
     // and either s = 0, n = 1 and the data is 00 00 (count becomes 0, elements keep their bytes),
     if s == 0 && n == 1 && d.len() == 2 && octets::word(d, 0) == 0 {
-        return showing(with_count(parts, i, 0), answer, d);
+        return answered(with_count(parts, i, 0), answer, d);
     }
     // or s >= 1, n >= 1, s+n-1 <= maximum and the data is n·size bytes.
     let size = size_of(p, n as usize);
     if !are_among(n, s, p.maximum) || d.len() != size {
-        return denied(parts, object, id, s);
+        return no_element(parts, object, id, s);
     }
     // Elements jumped become zero bytes. The count becomes the larger of itself and s+n-1. The answer repeats the data.
     let filled = with_elements(parts, p, s, d);
     let after = with_count(filled, i, new_count(p, n, s));
-    showing(after, answer, d)
+    answered(after, answer, d)
 }
 
 // How many of the first i properties have that object: the index of property i within it.
-fn index_within(properties: [Property; 64], i: usize, object: u8) -> usize
-    requires { i ≤ 64 }
-    ensures { (result ≤ i) × (result ≡ rank_in properties object i) }
+fn index_within(properties: &[Property], i: usize, object: u8) -> usize
+    requires { i ≤ length properties.now }
+    ensures { (result ≤ i) × (result ≡ rank_in properties.now object i) }
 {
-    let mut seen = 0;
-    for j in 0..i {
-        if properties[j].object == object {
-            seen += 1;
-        }
-    }
-    seen
+    properties[..i]
+        .iter()
+        .filter(|property| property.object == object)
+        .count()
 }
 
-// The number of the property of that object with that index, the count of properties where there is none.
-fn nth(parts: Parts, object: u8, index: u8) -> usize
-    requires { Held parts }
-    ensures { (result ≤ parts.counts.properties) × ((s : List ℕ) → Accepted s → Octets s → Taken s parts → result ≡ nth_of s object index) }
+// The number of the property of that object with that index.
+fn nth(parts: &Parts, object: u8, index: u8) -> Option<usize>
+    requires { Held parts.now }
+    ensures { Finds parts.now parts.now.counts.properties (λ s. nth_of s object index) result }
 {
-    let n = parts.counts.properties;
-    let properties = parts.properties;
-    for i in 0..n {
+    for i in 0..parts.counts.properties {
+        let properties = &parts.properties;
         if properties[i].object == object && index_within(properties, i, object) == index as usize {
-            return i;
+            return Some(i);
         }
     }
-    n
+    None
 }
 
 // The description of a property.
@@ -191,13 +180,13 @@ pub fn description(parts: Parts, object: u8, id: u8, index: u8) -> Reply
     ensures { Serves parts [] (λ s. description_of s object id index) result }
 {
     // An id other than 0 decides; id 0 means the index within the object.
-    let i = if id == 0 {
-        nth(parts, object, index)
+    let found = if id == 0 {
+        nth(&parts, object, index)
     } else {
-        find(parts, object, id)
+        find(&parts, object, id)
     };
     // Not found: what was asked for, and zeros.
-    if parts.counts.properties <= i {
+    let Some(i) = found else {
         let none = Pdu::PropertyDescriptionResponse {
             object,
             id,
@@ -206,18 +195,17 @@ pub fn description(parts: Parts, object: u8, id: u8, index: u8) -> Reply
             maximum: 0,
             access: 0,
         };
-        return sending(parts, 11, none);
-    }
+        return denied(parts, none);
+    };
     // Found: the property's own object, id and index.
-    let properties = parts.properties;
-    let p = properties[i];
+    let p = parts.properties[i];
     let own = Pdu::PropertyDescriptionResponse {
         object: p.object,
         id: p.id,
-        index: index_within(properties, i, p.object) as u8,
+        index: index_within(&parts.properties, i, p.object) as u8,
         typ: parts::type_byte(p),
         maximum: p.maximum,
         access: parts::levels_byte(p.read, p.write),
     };
-    sending(parts, 0, own)
+    answered(parts, own, &[])
 }

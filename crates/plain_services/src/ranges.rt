@@ -4,7 +4,7 @@ ghost use Rattle.parts.specs.Records.{Taken};
 ghost use Rattle.plain_services.specs.Steps.{Held};
 ghost use Rattle.plain_services.specs.Memory.{may_in, stands_for, range_for, IsArea};
 
-use crate::{Area, Place};
+use crate::Area;
 use judge::Access;
 use parts::{Parts, Region};
 use sheet::Memory;
@@ -21,7 +21,7 @@ fn may(access: Access, level: u8, region: Region) -> bool
 }
 
 // Where an address stands among the bodies, if a region has it for which the level suffices.
-fn stands(area: Area, access: Access, level: u8, address: usize) -> Place
+fn stands(area: Area, access: Access, level: u8, address: usize) -> Option<usize>
     requires { (area.count ≤ 16) × (address ≤ 65790) }
     ensures { result ≡ stands_for area.regions area.count access level address }
 {
@@ -30,25 +30,25 @@ fn stands(area: Area, access: Access, level: u8, address: usize) -> Place
         let first = region.address as usize;
         if first <= address && address < first + region.length as usize {
             if !may(access, level, region) {
-                return Place::Denied;
+                return None;
             }
-            return Place::At(region.offset as usize + (address - first));
+            return Some(region.offset as usize + (address - first));
         }
     }
-    Place::Denied
+    None
 }
 
 // Where n addresses stand: 1 to the most that may be named, and each may be used. By S6 and S9 they stand one after the other.
-pub fn range(area: Area, access: Access, level: u8, most: u8, n: u8, address: u16) -> Place
+pub fn range(area: Area, access: Access, level: u8, most: u8, n: u8, address: u16) -> Option<usize>
     requires { area.count ≤ 16 }
     ensures { result ≡ range_for area.regions area.count access level most n address }
 {
     if n < 1 || most < n {
-        return Place::Denied;
+        return None;
     }
     for i in 0..n as usize {
-        let Place::At(_) = stands(area, access, level, address as usize + i) else {
-            return Place::Denied;
+        let Some(_) = stands(area, access, level, address as usize + i) else {
+            return None;
         };
     }
     stands(area, access, level, address as usize)

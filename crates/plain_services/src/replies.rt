@@ -1,19 +1,20 @@
 // The replies of the services.
 ghost use Rattle.std.specs.Prelude.{◌≡◌, [], ◌≤◌, length};
 ghost use Rattle.octets.specs.Bytes.{bytes_of};
+ghost use Rattle.judge.specs.Refusal.{number_of as refusal_number};
 ghost use Rattle.judge.specs.declared.Turn.TheVariants.{Stays};
-ghost use Rattle.plain_services.specs.declared.Sent.TheVariants as sent;
+ghost use Rattle.plain_services.specs.Outcome.{number_of};
 ghost use Rattle.plain_services.specs.Steps.{Gives};
 
-use crate::{Reply, Sent};
-use judge::Turn;
+use crate::{Outcome, Reply};
+use judge::{Refusal, Turn};
 use parts::Parts;
 use pdu::Pdu;
 
 // A reply with its data. Every reply is made here.
-pub fn reply(parts: Parts, outcome: u8, turn: Turn, sent: Sent, d: &[u8]) -> Reply
+pub fn reply(parts: Parts, outcome: Outcome, turn: Turn, sent: Option<Pdu>, d: &[u8]) -> Reply
     requires { length d.now ≤ 14 }
-    ensures { Gives result outcome parts turn sent d.now }
+    ensures { Gives result (number_of outcome) parts turn sent d.now }
 {
     let mut bytes = [0u8; 14];
     octets::splice(&mut bytes, 0, d);
@@ -27,31 +28,37 @@ pub fn reply(parts: Parts, outcome: u8, turn: Turn, sent: Sent, d: &[u8]) -> Rep
     }
 }
 
-// 1, 2, 8, 10 and 12: nothing is sent.
-pub fn silent(parts: Parts, outcome: u8) -> Reply
-    ensures { Gives result outcome parts Stays sent.Nothing [] }
+// Refused or ignored, and nothing is sent.
+pub fn refused(parts: Parts, refusal: Refusal) -> Reply
+    ensures { Gives result (refusal_number refusal) parts Stays None [] }
 {
-    reply(parts, outcome, Turn::Stays, Sent::Nothing, &[])
+    reply(parts, Outcome::Refused(refusal), Turn::Stays, None, &[])
 }
 
-// 0 and 11: a PDU is sent, with no data.
-pub fn sending(parts: Parts, outcome: u8, pdu: Pdu) -> Reply
-    ensures { Gives result outcome parts Stays (sent.This pdu) [] }
+// Refused, and the negative answer is sent.
+pub fn denied(parts: Parts, pdu: Pdu) -> Reply
+    ensures { Gives result 11 parts Stays (Some pdu) [] }
 {
-    reply(parts, outcome, Turn::Stays, Sent::This(pdu), &[])
+    reply(
+        parts,
+        Outcome::Refused(Refusal::Denied),
+        Turn::Stays,
+        Some(pdu),
+        &[],
+    )
 }
 
-// 0: a PDU is sent, with data.
-pub fn showing(parts: Parts, pdu: Pdu, d: &[u8]) -> Reply
+// Done, and nothing is sent.
+pub fn done(parts: Parts) -> Reply
+    ensures { Gives result 1 parts Stays None [] }
+{
+    reply(parts, Outcome::Done, Turn::Stays, None, &[])
+}
+
+// Answered, with data.
+pub fn answered(parts: Parts, pdu: Pdu, d: &[u8]) -> Reply
     requires { length d.now ≤ 14 }
-    ensures { Gives result 0 parts Stays (sent.This pdu) d.now }
+    ensures { Gives result 0 parts Stays (Some pdu) d.now }
 {
-    reply(parts, 0, Turn::Stays, Sent::This(pdu), d)
-}
-
-// A number of two bytes.
-pub fn two_bytes(x: u16) -> [u8; 2]
-    ensures { result ≡ bytes_of 2 x }
-{
-    [(x / 256) as u8, (x % 256) as u8]
+    reply(parts, Outcome::Answered, Turn::Stays, Some(pdu), d)
 }

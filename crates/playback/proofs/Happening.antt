@@ -1,25 +1,15 @@
 -- One event, by its kind, as the trace says it. Assumes nothing.
-use Rattle.octets.proofs.Kit.{ℕ, ◌+◌, ◌-◌, ◌/◌, ◌%◌, ◌≤◌, ◌<◌, ◌≡◌, refl, sym, ◌∙◌, ap, subst, Bool, true, false, cond, List, [], ◌⊎◌, inl, inr, length, get_or, take, drop}
-use Rattle.octets.proofs.Kit.{add-sub_cancel_left, arith, ne_eqb}
+use Rattle.octets.proofs.Kit.{ℕ, ◌+◌, ◌-◌, ◌/◌, ◌%◌, ◌≤◌, ◌<◌, ◌≡◌, refl, sym, ◌∙◌, ap, subst, Bool, true, false, List, [], ◌⊎◌, inl, inr, length, get_or, take, drop}
+use Rattle.octets.proofs.Kit.{add-sub_cancel_left, arith}
 use Rattle.octets.{specs.Splice.splice, proofs.Splices.splice_none}
 use Rattle.sheet.{specs.{Layout.◌of◌, Rules.{Accepted, Old, Bad}}, proofs.promises.Verdicts.{one_of_three, refused_none}}
 use Rattle.sheet.specs.Head as head
-use Rattle.device.specs.{Events.{Effect, State, Did, named, connect_of, disconnect_of, request_of, button_outcome, button_sheet}, Changed.{part, none, Requested, Outside}}
+use Rattle.device.specs.{Events.{Effect, State, Did, named, connect_of, disconnect_of, request_of, button_outcome, button_sheet}, Changed.{none, Requested, Outside}}
 use Rattle.device.{specs.declared.{Sessions.Sessions, Done.Done, Changed.Changed, Made.Made}, proofs.promises.{Called.call_leaves, Parts.{kept_outside, first_within, second_within}}}
 use Rattle.device.proofs.{promises.Dues.button_due, calls.Pressing.head_room}
 use Rattle.events.specs.Events.{Event, connect, disconnect, button, event_of}
 use Rattle.playback.specs.{Trace.{room, event_by, event_in}, Playing.at, Event.{flag_of, Presses, Names, Happens}}
 use Rattle.playback.specs.Entry as entry
-
--- the parts that the button names
-pub flag_none : (o : ℕ) → (o ≡ 1 → ⊥) → none ≡ flag_of o
-flag_none o n = sym (ap (λ (t : Bool). cond t (record { first = part (head.flags).at 1; second = part 0 0 }) none) (ne_eqb o 1 n))
-
-pub flag_narrow : (k : ℕ) → k ≡ (head.flags).at → k < 65536
-flag_narrow k e = omega arith
-
-pub flag_set : (o k : ℕ) → o ≡ 1 → k ≡ (head.flags).at → ◌≡◌ {A = Changed} (record { first = part k 1; second = part 0 0 }) (flag_of o)
-flag_set o k e h = rw e (ap (λ (i : ℕ). record { first = part i 1; second = part 0 0 }) h)
 
 -- nothing is stored
 names_none : (s : List ℕ) → Names s none s

@@ -1,4 +1,5 @@
 -- The events of a trace one after the other, and their marks; which refusal is due. Assumes nothing.
+use Rattle.std.specs.Prelude.{Err}
 use Rattle.octets.proofs.Kit.{ℕ, ◌+◌, ◌-◌, ◌*◌, ◌≤◌, ◌<◌, ◌≡◌, refl, sym, ◌∙◌, ap, subst, Bool, cond, List, [], ◌∷◌, ◌++◌, append-nil, length, get_or, take, drop, drop_of_length-le, arith}
 use Rattle.octets.proofs.Kit.{eq-eqb, ne_eqb}
 use Rattle.octets.{specs.Splice.splice, proofs.Splices.{splice_front, splice_none}}
@@ -6,10 +7,11 @@ use Rattle.sheet.{specs.Demand.Tells, proofs.rules.{Demands.{told, met}, First.o
 use Rattle.device.specs.{Events.State, declared.{Sessions.Sessions, Made.Made}}
 use Rattle.events.specs.Events.{Event, run_by, run}
 use Rattle.account.{specs.Marks.{both, MarkedRun, Markable, Marked}, proofs.Marking.{marked_none, marked_append, marked_one}}
-use Rattle.playback.specs.{Trace.{event_at, events_from, trace_of}, Rules.refusal_of, Playing.{at, line, log_of, due_of, refusal_in}}
-use Rattle.playback.specs.{Marking.{mark_demands, mark_refusal, mark_handled, mark_played, Marking}, Event.{Logged, Ready, Roomy, MarkedEvent, RanMarked}, declared.Played.Played}
-use Rattle.playback.proofs.{Walking.good_rows, Running.{Going, goes_begin, goes_on, goes_end, events_append, events_one, length_events}}
-use Rattle.playback.proofs.PlayedBack.{not_yet, refused_trace, refused_room, not_refused}
+use Rattle.playback.specs.{Trace.{event_at, events_from, trace_of}, Playing.{at, line, log_of, due_of, refusal_in}}
+use Rattle.playback.specs.{Marking.{mark_demands, mark_refusal, mark_handled, mark_played, Marking}, Event.{Logged, Ready, Roomy, MarkedEvent, RanMarked, Due}, Refusal.number_of, Outcome.outcome_of, declared.refusal.Refusal.Refusal}
+use Rattle.playback.proofs.{Running.{Going, goes_begin, goes_on, goes_end, events_append, events_one, length_events}}
+use Rattle.playback.proofs.PlayedBack.{not_yet}
+use Rattle.playback.proofs.Refused.{never_none}
 
 -- ONE EVENT
 module _ (q : Sessions) (s t : List ℕ) (i played : ℕ) (b m : List ℕ) (room : Roomy s 1 played b m) (r : Made) (s₁ l : List ℕ) (h : Logged q s t i r s₁ l) (same : length s₁ ≡ length s) where
@@ -116,72 +118,57 @@ module _ (s t : List ℕ) (from limit : ℕ) (log : List ℕ) (played : ℕ) (b 
 
   module _ (q : Sessions) where
     -- WHATEVER IS REFUSED LEAVES ALL AS IT WAS
-    unmarked : (r : Played) → r.refusal ≡ refusal → (r.refusal ≡ 0 → ⊥) → r.handled ≡ 0 → r.sessions ≡ q → Marking q s t from limit log played b m r s log b m
+    unmarked : (r : Refusal) → number_of r ≡ refusal → Marking q s t from limit log played b m (outcome_of q (Err r)) s log b m
     unfolding run_by log_of
-    unmarked r e n h k =
-        let no = none_marked (λ z. n (e ∙ z)) in
+    unmarked r e =
+        let no = none_marked (λ z. never_none r (e ∙ z)) in
         record {
           refusal = e;
-          handled = h ∙ sym no.0;
-          state = ap (λ (x : Sessions). at x s) k ∙ sym (ap (run (at q s)) no.1);
+          handled = sym no.0;
+          state = sym (ap (run (at q s)) no.1);
           logged = sym (ap (λ (es : List Event). splice log 0 (log_of (at q s) es)) no.1 ∙ splice_none log 0);
           marks = subst (λ (es : List Event). MarkedRun (at q s) es played (length s) m m) (sym no.1) (marked_none (at q s) played (length s) m);
-          seen = λ z. absurd (n z);
+          seen = λ z. absurd (never_none r z);
           unseen = λ z. refl;
           untouched = λ z. refl;
         }
 
-    pub marking_refused : (r : Played) (f : ℕ) → f ≡ refusal_of t → (f ≡ 0 → ⊥) → r.refusal ≡ f → r.handled ≡ 0 → r.sessions ≡ q → Marking q s t from limit log played b m r s log b m
-    marking_refused r f e n p h k =
-        let i = refused_trace t from limit log f e n in
-        unmarked r (p ∙ i ∙ sym (behind (λ z. n (i ∙ z)))) (λ z. n (sym p ∙ z)) h k
+    pub marking_refused : (r : Refusal) → number_of r ≡ refusal_in t from limit log → Marking q s t from limit log played b m (outcome_of q (Err r)) s log b m
+    marking_refused r e = unmarked r (e ∙ sym (behind (λ z. never_none r (e ∙ z))))
 
-    pub marking_no_room :
-        (r : Played) (f n : ℕ) → f ≡ refusal_of t → f ≡ 0 → n ≡ due_of t from limit → length log < line * n → r.refusal ≡ 59 → r.handled ≡ 0 → r.sessions ≡ q →
-        Marking q s t from limit log played b m r s log b m
-    marking_no_room r f n e z d l p h k =
-        let i = refused_room t from limit log f n e z d l in
-        unmarked r (p ∙ i ∙ sym (behind (λ y. absurd (omega (arith, i, y))))) (λ y. absurd (omega (arith, p, y))) h k
+    module _ (n : ℕ) (free : 0 ≡ refusal_in t from limit log) (d : Due t from limit log n) where
+      pub marking_no_marks :
+          (r : Refusal) → Tells (number_of r) (mark_demands (length s) n played (length b) (length m)) → Marking q s t from limit log played b m (outcome_of q (Err r)) s log b m
+      marking_no_marks r w = unmarked r (marks_refused n (number_of r) (sym free) d.is w)
 
-    pub marking_no_marks :
-        (r : Played) (f n rule : ℕ) → f ≡ refusal_of t → f ≡ 0 → n ≡ due_of t from limit → line * n ≤ length log → Tells rule (mark_demands (length s) n played (length b) (length m)) →
-        (rule ≡ 0 → ⊥) → r.refusal ≡ rule → r.handled ≡ 0 → r.sessions ≡ q → Marking q s t from limit log played b m r s log b m
-    marking_no_marks r f n rule e z d l w x p h k =
-        unmarked r (p ∙ marks_refused n rule (not_refused t from limit log f n e z d l) d w) (λ y. x (sym p ∙ y)) h k
-
-    pub marking_all :
-        (r : Played) (f n rule : ℕ) (q' : Sessions) (s' log' b' m' : List ℕ) → f ≡ refusal_of t → f ≡ 0 → n ≡ due_of t from limit → line * n ≤ length log →
-        Tells rule (mark_demands (length s) n played (length b) (length m)) → rule ≡ 0 → RanMarked q s t from n log played m q' s' log' b' m' →
-        r.refusal ≡ 0 → r.handled ≡ n → r.sessions ≡ q' → Marking q s t from limit log played b m r s' log' b' m'
-    marking_all r f n rule q' s' log' b' m' e z d l w x ran p h k =
-        let no : refusal ≡ 0 = sym (marks_refused n rule (not_refused t from limit log f n e z d l) d w) ∙ x in
-        let all = all_marked no in
-        let es : events_from t from n ≡ mark_played s t from limit log played b m = ap (events_from t from) d ∙ sym all.1 in
-        record {
-          refusal = p ∙ sym no;
-          handled = h ∙ d ∙ sym all.0;
-          state = ap (λ (y : Sessions). at y s') k ∙ ran.ran.state ∙ ap (run (at q s)) es;
-          logged = ran.ran.logged ∙ ap (λ (l : List Event). splice log 0 (log_of (at q s) l)) es;
-          marks = subst (λ (l : List Event). MarkedRun (at q s) l played (length s) m m') es ran.marks;
-          seen = λ y. ran.seen;
-          unseen = λ y. absurd (y p);
-          untouched = λ y. absurd (y p);
-        }
+      pub marking_all :
+          (q' : Sessions) (s' log' b' m' : List ℕ) → Tells 0 (mark_demands (length s) n played (length b) (length m)) → RanMarked q s t from n log played m q' s' log' b' m' →
+          Marking q s t from limit log played b m record { refusal = 0; handled = n; sessions = q' } s' log' b' m'
+      marking_all q' s' log' b' m' w ran =
+          let none : refusal ≡ 0 = sym (marks_refused n 0 (sym free) d.is w) in
+          let all = all_marked none in
+          let es : events_from t from n ≡ mark_played s t from limit log played b m = ap (events_from t from) d.is ∙ sym all.1 in
+          record {
+            refusal = sym none;
+            handled = d.is ∙ sym all.0;
+            state = ran.ran.state ∙ ap (run (at q s)) es;
+            logged = ran.ran.logged ∙ ap (λ (l : List Event). splice log 0 (log_of (at q s) l)) es;
+            marks = subst (λ (l : List Event). MarkedRun (at q s) l played (length s) m m') es ran.marks;
+            seen = λ y. ran.seen;
+            unseen = λ y. absurd (y refl);
+            untouched = λ y. absurd (y refl);
+          }
 
 -- where nothing is refused there is room
-pub seen_fits : (k n played b m rule : ℕ) → Tells rule (mark_demands k n played b m) → rule ≡ 0 → 0 + k ≤ b
-seen_fits k n played b m rule w x = omega (arith, (met (mark_demands k n played b m) tt (sym (told rule (mark_demands k n played b m) w) ∙ x)).0)
+pub seen_fits : (k n played b m : ℕ) → Tells 0 (mark_demands k n played b m) → 0 + k ≤ b
+seen_fits k n played b m w = omega (arith, (met (mark_demands k n played b m) tt (sym (told 0 (mark_demands k n played b m) w))).0)
 
 pub roomy :
-    (s : List ℕ) (n played : ℕ) (b m : List ℕ) (rule : ℕ) (b₁ : List ℕ) → Tells rule (mark_demands (length s) n played (length b) (length m)) → rule ≡ 0 → b₁ ≡ splice b 0 s →
-    Roomy s n played b₁ m
-roomy s n played b m rule b₁ w x e =
-    let k = met (mark_demands (length s) n played (length b) (length m)) tt (sym (told rule (mark_demands (length s) n played (length b) (length m)) w) ∙ x) in
+    (s : List ℕ) (n played : ℕ) (b m : List ℕ) (b₁ : List ℕ) → Tells 0 (mark_demands (length s) n played (length b) (length m)) → b₁ ≡ splice b 0 s → Roomy s n played b₁ m
+roomy s n played b m b₁ w e =
+    let k = met (mark_demands (length s) n played (length b) (length m)) tt (sym (told 0 (mark_demands (length s) n played (length b) (length m)) w)) in
     record {
       seen = e ∙ splice_front b s ∙ ap (λ (l : List ℕ). s ++ l) (drop_of_length-le b {i = length s} (omega (arith, k.0))) ∙ append-nil s;
       marks = k.1.0;
       numbers = k.1.1.0;
     }
-
-pub due_few : (t : List ℕ) (from limit f n : ℕ) → f ≡ refusal_of t → f ≡ 0 → n ≡ due_of t from limit → n ≤ 512
-due_few t from limit f n e z d = omega (arith, (good_rows t (sym e ∙ z)).1.0)

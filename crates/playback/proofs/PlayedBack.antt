@@ -1,12 +1,13 @@
 -- Which events are played, and what playing leaves. Assumes nothing.
+use Rattle.std.specs.Prelude.{Err}
 use Rattle.octets.proofs.Kit.{ℕ, ◌+◌, ◌-◌, ◌*◌, ◌^◌, ◌≤◌, ◌<◌, ◌≡◌, refl, sym, ◌∙◌, ap, cond, List, [], ◌++◌, length, take, drop, take_at, drop_at, dec_lt, zero-add, arith, eq-eqb, ne_eqb}
 use Rattle.octets.{specs.Splice.splice, proofs.Splices.splice_none}
 use Rattle.sheet.{specs.Demand.breach, proofs.rules.{Demands.{told, unbroken}, First.or_else_some}}
 use Rattle.device.specs.declared.Sessions.{Sessions}
 use Rattle.events.specs.Events.{Event, run_by, run}
 use Rattle.playback.specs.{Trace.{head, count, events_from, trace_of}, Rules.refusal_of, Playing.{at, line, log_of, due_of, room_demands, refusal_in, handled_of, played_of, Playing}}
-use Rattle.playback.specs.{Event.{Ready, Ran}, declared.Played.Played}
-use Rattle.playback.proofs.{Walking.good_rows, Running.{events_append, length_events}}
+use Rattle.playback.specs.{Refusal.number_of, Outcome.outcome_of, Event.{Due, Ran}, declared.refusal.Refusal.Refusal}
+use Rattle.playback.proofs.{Walking.good_rows, Running.{events_append, length_events}, Refused.never_none}
 
 none_left : (t : List ℕ) (from n : ℕ) → n ≡ 0 → take n (drop from (trace_of t)) ≡ events_from t from n
 unfolding events_from
@@ -53,62 +54,52 @@ module _ (t : List ℕ) (from limit : ℕ) (log : List ℕ) where
       ap (λ (k : ℕ). take k (drop from (trace_of t))) (all_handled e) ∙ not_yet t from (due_of t from limit) (omega arith)
 
   -- which refusal it is
-  pub refused_trace : (f : ℕ) → f ≡ refusal_of t → (f ≡ 0 → ⊥) → f ≡ refusal_in t from limit log
+  pub refused_trace : (r : Refusal) → number_of r ≡ refusal_of t → number_of r ≡ refusal_in t from limit log
   unfolding refusal_in
-  refused_trace f e n = rw (← e) (sym (or_else_some f (breach (room_demands t from limit log)) n))
+  refused_trace r e = rw (← e) (sym (or_else_some (number_of r) (breach (room_demands t from limit log)) (never_none r)))
 
-  pub refused_room : (f n : ℕ) → f ≡ refusal_of t → f ≡ 0 → n ≡ due_of t from limit → length log < line * n → 59 ≡ refusal_in t from limit log
-  unfolding refusal_in
-  refused_room f n e z d b =
-      rw (← e, z) (told 59 (room_demands t from limit log) ((λ _. refl), λ h. absurd (omega arith)))
+  module _ (n : ℕ) (e : 0 ≡ refusal_of t) (d : n ≡ due_of t from limit) where
+    pub refused_room : length log < line * n → 59 ≡ refusal_in t from limit log
+    unfolding refusal_in
+    refused_room b = rw (← e) (told 59 (room_demands t from limit log) ((λ _. refl), λ h. absurd (omega arith)))
 
-  pub not_refused : (f n : ℕ) → f ≡ refusal_of t → f ≡ 0 → n ≡ due_of t from limit → line * n ≤ length log → refusal_in t from limit log ≡ 0
-  unfolding refusal_in
-  not_refused f n e z d b =
-      rw (← e, z) (unbroken (room_demands t from limit log) (omega arith, tt))
+    pub not_refused : line * n ≤ length log → 0 ≡ refusal_in t from limit log
+    unfolding refusal_in
+    not_refused b = rw (← e) (sym (unbroken (room_demands t from limit log) (omega arith, tt)))
+
+    pub are_due : line * n ≤ length log → Due t from limit log n
+    are_due b = record { ready = record { good = sym e; there = omega arith; room = b }; is = d }
+
+    pub due_small : line * n < 2 ^ 64
+    due_small = omega (arith, (good_rows t (sym e)).1.0)
+
+  pub accepted : 0 ≡ refusal_of t → head ≤ length t
+  accepted e = (good_rows t (sym e)).0
 
   module _ (q : Sessions) (s : List ℕ) where
     -- WHATEVER IS REFUSED LEAVES ALL AS IT WAS
-    untouched : (r : Played) → r.refusal ≡ refusal_in t from limit log → (r.refusal ≡ 0 → ⊥) → r.handled ≡ 0 → r.sessions ≡ q →
-        Playing q s t from limit log r s log
+    pub plays_refused : (r : Refusal) → number_of r ≡ refusal_in t from limit log → Playing q s t from limit log (outcome_of q (Err r)) s log
     unfolding run_by log_of
-    untouched r e n h k =
-        let no = none_played (λ z. n (e ∙ z)) in
+    plays_refused r e =
+        let n : refusal_in t from limit log ≡ 0 → ⊥ = λ z. never_none r (e ∙ z) in
+        let no = none_played n in
         record {
           refusal = e;
-          handled = h ∙ sym (none_handled (λ z. n (e ∙ z)));
-          state = ap (λ (x : Sessions). at x s) k ∙ sym (ap (run (at q s)) no);
+          handled = sym (none_handled n);
+          state = sym (ap (run (at q s)) no);
           logged = sym (ap (λ (es : List Event). splice log 0 (log_of (at q s) es)) no ∙ splice_none log 0);
         }
 
-    pub plays_refused : (r : Played) (f : ℕ) → f ≡ refusal_of t → (f ≡ 0 → ⊥) → r.refusal ≡ f → r.handled ≡ 0 → r.sessions ≡ q → Playing q s t from limit log r s log
-    plays_refused r f e n p h k = untouched r (p ∙ refused_trace f e n) (λ z. n (sym p ∙ z)) h k
-
-    pub plays_no_room : (r : Played) (f n : ℕ) → f ≡ refusal_of t → f ≡ 0 → n ≡ due_of t from limit → length log < line * n →
-        r.refusal ≡ 59 → r.handled ≡ 0 → r.sessions ≡ q → Playing q s t from limit log r s log
-    plays_no_room r f n e z d b p h k = untouched r (p ∙ refused_room f n e z d b) (λ y. absurd (omega (arith, p, y))) h k
-
-    pub plays_all : (r : Played) (f n : ℕ) (q' : Sessions) (s' log' : List ℕ) → f ≡ refusal_of t → f ≡ 0 → n ≡ due_of t from limit → line * n ≤ length log →
-        Ran q s t from n log q' s' log' → r.refusal ≡ 0 → r.handled ≡ n → r.sessions ≡ q' → Playing q s t from limit log r s' log'
-    plays_all r f n q' s' log' e z d b ran p h k =
-        let no = not_refused f n e z d b in
-        let es : events_from t from n ≡ played_of t from limit log = ap (events_from t from) d ∙ sym (all_played no) in
+    pub plays_all : (n : ℕ) (q' : Sessions) (s' log' : List ℕ) → 0 ≡ refusal_in t from limit log → Due t from limit log n → Ran q s t from n log q' s' log' →
+        Playing q s t from limit log record { refusal = 0; handled = n; sessions = q' } s' log'
+    plays_all n q' s' log' free d ran =
+        let es : events_from t from n ≡ played_of t from limit log = ap (events_from t from) d.is ∙ sym (all_played (sym free)) in
         record {
-          refusal = p ∙ sym no;
-          handled = h ∙ d ∙ sym (all_handled no);
-          state = ap (λ (x : Sessions). at x s') k ∙ ran.state ∙ ap (run (at q s)) es;
+          refusal = free;
+          handled = d.is ∙ sym (all_handled (sym free));
+          state = ran.state ∙ ap (run (at q s)) es;
           logged = ran.logged ∙ ap (λ (l : List Event). splice log 0 (log_of (at q s) l)) es;
         }
 
-  -- what the calls within need
-  pub accepted : (f : ℕ) → f ≡ refusal_of t → f ≡ 0 → head ≤ length t
-  accepted f e z = (good_rows t (sym e ∙ z)).0
-
-  pub due_fits : (f n : ℕ) → f ≡ refusal_of t → f ≡ 0 → n ≡ due_of t from limit → n < 2 ^ 16
-  due_fits f n e z d = omega (arith, (good_rows t (sym e ∙ z)).1.0)
-
-  pub due_small : (f n : ℕ) → f ≡ refusal_of t → f ≡ 0 → n ≡ due_of t from limit → line * n < 2 ^ 64
-  due_small f n e z d = omega (arith, (good_rows t (sym e ∙ z)).1.0)
-
-  pub ready : (f n : ℕ) → f ≡ refusal_of t → f ≡ 0 → n ≡ due_of t from limit → line * n ≤ length log → Ready t from n log
-  ready f n e z d b = record { good = sym e ∙ z; there = omega arith; room = b }
+  pub due_few : (n : ℕ) → Due t from limit log n → n ≤ 512
+  due_few n d = omega (arith, d.is, (good_rows t d.ready.good).1.0)

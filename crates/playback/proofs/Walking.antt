@@ -1,10 +1,12 @@
 -- The walk over a trace's table, and what an accepted trace has. Assumes nothing.
-use Rattle.octets.proofs.Kit.{ℕ, ◌+◌, ◌-◌, ◌≤◌, ◌<◌, ◌≡◌, refl, sym, ◌∙◌, ap, subst, List, length, take, drop, length-take, length-drop, add-sub_cancel_left, add-one, arith, eq-eqb, ne_eqb}
+use Rattle.std.specs.Prelude.{Ok, Err}
+use Rattle.octets.proofs.Kit.{ℕ, ◌+◌, ◌-◌, ◌≤◌, ◌<◌, ◌≡◌, refl, sym, ◌∙◌, ap, subst, List, length, take, drop, length-take, length-drop, add-sub_cancel_left, add-one, arith}
 use Rattle.sheet.{specs.{Demand.{Tells, Met, breach}, First.first, Layout.◌of◌}, proofs.rules.Demands.{told, met}}
 use Rattle.sheet.proofs.rules.First.{or_else_some, or_else_left, or_else_right, first_none, first_more, first_stop, first_each}
-use Rattle.playback.specs.{Trace.{head, count, place, entry_of}, Rules.{reached, head_demands, stray, event_demands, end_demands, head_rule, event_rule, walk_rule, refusal_of, Playable}}
-use Rattle.playback.specs.{Walk.{Inside, Shown, Judges}, declared.rules.Verdict.Verdict}
+use Rattle.playback.specs.{Trace.{head, count, place, entry_of}, Rules.{reached, head_demands, event_demands, end_demands, head_rule, event_rule, walk_rule, refusal_of, Playable}}
+use Rattle.playback.specs.{Refusal.number_of, Walk.{Inside, Shown, Judges}, declared.refusal.Refusal.Refusal}
 use Rattle.playback.specs.Entry as entry
+use Rattle.playback.proofs.Refused.{never_none}
 
 pub length_entry : {t : List ℕ} {i : ℕ} → Inside t i → length (entry_of t i) ≡ entry.size
 unfolding entry_of
@@ -24,31 +26,18 @@ headed t e = met (head_demands t) tt e
 pub head_long : (t : List ℕ) → head_rule t ≡ 0 → head ≤ length t
 head_long t e = (headed t e).0
 
--- the length of an event that is no request, as code finds it
-pub stray_request : (e : List ℕ) (b : ℕ) → b ≡ entry.kind of e → b ≡ 0 → 0 ≡ stray e
-stray_request e b q z = sym (simp (eq-eqb (entry.kind of e) 0 (sym q ∙ z)))
-
-pub stray_other : (e : List ℕ) (b l : ℕ) → b ≡ entry.kind of e → (b ≡ 0 → ⊥) → l ≡ entry.length of e → l ≡ stray e
-stray_other e b l q z h = h ∙ sym (simp (ne_eqb (entry.kind of e) 0 (λ x. z (q ∙ x))))
-
 -- an event judged
 module _ (t : List ℕ) (i z : ℕ) (e : List ℕ) (is : Shown t i e) where
-  pub judged_out : (k : ℕ) → z ≤ length t → Tells k (event_demands z (length t) e) → (k ≡ 0 → ⊥) → Judges t i z record { rule = k; end = z }
-  judged_out k w h n =
-      record {
-        rule = told _ _ h ∙ ap (λ (x : List ℕ). breach (event_demands z (length t) x)) is.is;
-        end = λ q. absurd (n q);
-        within = w;
-      }
+  pub judged_out : (r : Refusal) → Tells (number_of r) (event_demands z (length t) e) → Judges t i z (Err r)
+  judged_out r h = told _ _ h ∙ ap (λ (x : List ℕ). breach (event_demands z (length t) x)) is.is
 
-  pub judged_in : (k l : ℕ) → Tells k (event_demands z (length t) e) → k ≡ 0 → l ≡ entry.length of e → Judges t i z record { rule = k; end = z + l }
-  judged_in k l h n q =
-      let m = met (event_demands z (length t) e) tt (sym (told _ _ h) ∙ n) in
-      record {
-        rule = told _ _ h ∙ ap (λ (x : List ℕ). breach (event_demands z (length t) x)) is.is;
-        end = λ _. ap (λ (x : ℕ). z + x) (q ∙ ap (λ (x : List ℕ). entry.length of x) is.is);
-        within = omega (arith, m.1.1.1.1.0, q);
-      }
+  pub judged_in : (l : ℕ) → Tells 0 (event_demands z (length t) e) → l ≡ entry.length of e → Judges t i z (Ok (z + l))
+  judged_in l h q =
+      let m = met (event_demands z (length t) e) tt (sym (told _ _ h)) in (
+        sym (told _ _ h ∙ ap (λ (x : List ℕ). breach (event_demands z (length t) x)) is.is),
+        ap (λ (x : ℕ). z + x) (q ∙ ap (λ (x : List ℕ). entry.length of x) is.is),
+        omega (arith, m.1.1.1.1.0, q),
+      )
 
 -- THE INVARIANT: no event before event i has broken a rule, and its APDU is to begin at z
 pub record Walked (t : List ℕ) (n i z : ℕ) : Type 0 where
@@ -68,28 +57,29 @@ module _ (t : List ℕ) (h : head_rule t ≡ 0) where
     pub walk_inside : i < n → Inside t i
     walk_inside b = record { few = omega (arith, w.whole, (headed t h).1.0); fits = omega (arith, w.whole, (headed t h).1.1.0) }
 
-    module _ (k : Verdict) (b : i < n) (u : Judges t i z k) where
-      here : k.rule ≡ event_rule t i
+    module _ (b : i < n) where
+      here : breach (event_demands z (length t) (entry_of t i)) ≡ event_rule t i
       unfolding event_rule
-      here = u.rule ∙ ap (λ (x : ℕ). breach (event_demands x (length t) (entry_of t i))) w.at
+      here = ap (λ (x : ℕ). breach (event_demands x (length t) (entry_of t i))) w.at
 
-      pub walk_goes : k.rule ≡ 0 → Walked t n (i + 1) k.end
+      pub walk_goes : (k : ℕ) → Judges t i z (Ok k) → Walked t n (i + 1) k
       unfolding reached
-      walk_goes q =
+      walk_goes k u =
           record {
             within = omega arith;
             whole = w.whole;
-            at = rw (add-one i) (u.end q ∙ ap (λ (x : ℕ). x + entry.length of entry_of t i) w.at);
-            inside = u.within;
-            clean = first_more _ _ w.clean (sym here ∙ q);
+            at = rw (add-one i) (u.1 ∙ ap (λ (x : ℕ). x + entry.length of entry_of t i) w.at);
+            inside = u.2;
+            clean = first_more _ _ w.clean (sym here ∙ u.0);
           }
 
-      pub walk_left : (r : ℕ) → r ≡ k.rule → (r ≡ 0 → ⊥) → r ≡ walk_rule t
+      pub walk_left : (r : Refusal) → Judges t i z (Err r) → number_of r ≡ walk_rule t
       unfolding walk_rule
-      walk_left r q z =
-          let e : r ≡ first (event_rule t) (count t) =
-          rw (← w.whole) (q ∙ here ∙ first_stop (event_rule t) n i b w.clean (λ x. z (q ∙ here ∙ x))) in
-          rw (← e) (sym (or_else_some r (breach (end_demands t)) z))
+      walk_left r u =
+          let x : number_of r ≡ event_rule t i = u ∙ here in
+          let e : number_of r ≡ first (event_rule t) (count t) =
+          rw (← w.whole) (x ∙ first_stop (event_rule t) n i b w.clean (λ y. never_none r (x ∙ y))) in
+          rw (← e) (sym (or_else_some (number_of r) (breach (end_demands t)) (never_none r)))
 
     pub walk_ends : (r : ℕ) → n ≤ i → Tells r (end_demands t) → r ≡ walk_rule t
     unfolding walk_rule

@@ -12,7 +12,7 @@ use Rattle.device.specs.declared.Made.{Made}
 use Rattle.playback.specs.Entry as entry
 use Rattle.playback.specs.Trace.{count, room, event_at, events_from}
 use Rattle.playback.specs.Rules.{Playable}
-use Rattle.playback.specs.Playing.{at, line, line_of, log_of}
+use Rattle.playback.specs.Playing.{at, line, line_of, log_of, due_of}
 use Rattle.account.specs.Marks.{both, MarkedRun}
 
 -- the parts that the button names, by its outcome
@@ -56,6 +56,11 @@ pub record Ready (t : List ℕ) (from n : ℕ) (log : List ℕ) : Type 0 where
   pub good : Playable t
   pub there : n ≤ count t - from
   pub room : line * n ≤ length log
+
+-- n events are due, and can be
+pub record Due (t : List ℕ) (from limit : ℕ) (log : List ℕ) (n : ℕ) : Type 0 where
+  pub ready : Ready t from n log
+  pub is : n ≡ due_of t from limit
 
 -- they were
 pub record Ran (q : Sessions) (s t : List ℕ) (from n : ℕ) (log : List ℕ) (r : Sessions) (s' log' : List ℕ) : Type 0 where

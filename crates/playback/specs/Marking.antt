@@ -14,7 +14,7 @@ use Rattle.account.specs.Account.{level_on, last_other, Accounted, Entitled}
 use Rattle.account.specs.Marks.{both, MarkedRun, Tell}
 use Rattle.playback.specs.Trace.{trace_of}
 use Rattle.playback.specs.Playing.{at, log_of, due_of, refusal_in}
-use Rattle.playback.specs.declared.Played.{Played}
+use Rattle.playback.specs.Outcome.{Outcome}
 
 -- of a sheet of k bytes, n events being due and so many having been played: room for the sheet as it was seen last, of b bytes; m marks; and the last number
 abbrev pub mark_demands : ℕ → ℕ → ℕ → ℕ → ℕ → List Demand
@@ -37,7 +37,7 @@ unfoldable pub mark_played : List ℕ → List ℕ → ℕ → ℕ → List ℕ 
 mark_played s t from limit log played b m = take (mark_handled s t from limit log played b m) (drop from (trace_of t))
 
 -- WHAT PLAYING WITH MARKS GIVES AND LEAVES: sessions, sheet and log as playing does, and the marks of the run
-pub record Marking (q : Sessions) (s t : List ℕ) (from limit : ℕ) (log : List ℕ) (played : ℕ) (b m : List ℕ) (r : Played) (s' log' b' m' : List ℕ) : Type 0 where
+pub record Marking (q : Sessions) (s t : List ℕ) (from limit : ℕ) (log : List ℕ) (played : ℕ) (b m : List ℕ) (r : Outcome) (s' log' b' m' : List ℕ) : Type 0 where
   pub refusal : r.refusal ≡ mark_refusal s t from limit log played b m
   pub handled : r.handled ≡ mark_handled s t from limit log played b m
   pub state : at r.sessions s' ≡ run (at q s) (mark_played s t from limit log played b m)
@@ -49,7 +49,7 @@ pub record Marking (q : Sessions) (s t : List ℕ) (from limit : ℕ) (log : Lis
   pub untouched : (r.refusal ≡ 0 → ⊥) → m' ≡ m
 
 -- WHAT A CALL DID; sheet and trace being bytes
-pub record Marks (q : Sessions) (s t : List ℕ) (from limit : ℕ) (log : List ℕ) (played : ℕ) (b m : List ℕ) (r : Played) (s' log' b' m' : List ℕ) : Type 0 where
+pub record Marks (q : Sessions) (s t : List ℕ) (from limit : ℕ) (log : List ℕ) (played : ℕ) (b m : List ℕ) (r : Outcome) (s' log' b' m' : List ℕ) : Type 0 where
   pub did : Marking q s t from limit log played b m r s' log' b' m'
   pub sheet_bytes : Octets s
   pub trace_bytes : Octets t

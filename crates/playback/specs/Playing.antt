@@ -9,7 +9,7 @@ use Rattle.events.specs.Events.{Event, event_of, after, run}
 use Rattle.device.specs.declared.Sessions.{Sessions}
 use Rattle.playback.specs.Trace.{count, room, trace_of}
 use Rattle.playback.specs.Rules.{refusal_of}
-use Rattle.playback.specs.declared.Played.{Played}
+use Rattle.playback.specs.Outcome.{Outcome}
 
 -- a line of the log: the outcome, how many bytes were answered, and these, with zeros behind them
 abbrev pub line : ℕ
@@ -45,14 +45,14 @@ abbrev pub at : Sessions → List ℕ → State
 at q s = record { sessions = q; sheet = s }
 
 -- WHAT PLAYING GIVES AND LEAVES
-pub record Playing (q : Sessions) (s t : List ℕ) (from limit : ℕ) (log : List ℕ) (r : Played) (s' log' : List ℕ) : Type 0 where
+pub record Playing (q : Sessions) (s t : List ℕ) (from limit : ℕ) (log : List ℕ) (r : Outcome) (s' log' : List ℕ) : Type 0 where
   pub refusal : r.refusal ≡ refusal_in t from limit log
   pub handled : r.handled ≡ handled_of t from limit log
   pub state : at r.sessions s' ≡ run (at q s) (played_of t from limit log)
   pub logged : log' ≡ splice log 0 (log_of (at q s) (played_of t from limit log))
 
 -- WHAT A CALL DID; sheet and trace being bytes
-pub record Plays (q : Sessions) (s t : List ℕ) (from limit : ℕ) (log : List ℕ) (r : Played) (s' log' : List ℕ) : Type 0 where
+pub record Plays (q : Sessions) (s t : List ℕ) (from limit : ℕ) (log : List ℕ) (r : Outcome) (s' log' : List ℕ) : Type 0 where
   pub did : Playing q s t from limit log r s' log'
   pub sheet_bytes : Octets s
   pub trace_bytes : Octets t

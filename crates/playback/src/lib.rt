@@ -5,18 +5,20 @@ mod event;
 mod layout;
 mod marking;
 mod playing;
+mod refusal;
 mod rules;
 mod table;
 
 use device::Sessions;
+pub use event::EventKind;
 pub use marking::play_marked;
 pub use playing::play;
+pub use refusal::Refusal;
 pub use rules::check;
 
-// What playing gave: the refusal or 0, how many events were handled, the sessions afterwards.
+// What playing gave: how many events were handled, and the sessions afterwards.
 #[derive(Clone, Copy)]
 pub struct Played {
-    pub refusal: u8,
     pub handled: u16,
     pub sessions: Sessions,
 }

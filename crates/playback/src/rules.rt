@@ -1,36 +1,31 @@
-// The rules of a trace, 50 to 58: the first that is broken.
+// The rules of a trace: the first that is broken.
 ghost use Rattle.std.specs.Prelude.{◌≡◌, ◌≤◌, length};
 ghost use Rattle.sheet.specs.Demand.{Tells};
 ghost use Rattle.playback.specs.Entry as entry;
+ghost use Rattle.playback.specs.Refusal.{told};
 ghost use Rattle.playback.specs.Rules.{head_demands, stray as strayOf, event_demands, head_rule, walk_rule, refusal_of};
 ghost use Rattle.playback.specs.Walk.{Inside, Judges};
 
-use crate::layout::{HEAD, entry};
+use crate::Refusal;
+use crate::event::EventKind;
+use crate::layout::{EVENTS_MOST, HEAD, entry};
 use crate::table::{count, part};
 use octets::{byte, word};
 
-// The rule that an event breaks, or 0, and then where its APDU ends.
-#[derive(Clone, Copy)]
-pub struct Verdict {
-    pub rule: u8,
-    pub end: usize,
-}
-
-// 50 to 52.
-fn head_rule(t: &[u8]) -> u8
-    ensures { Tells result (head_demands t.now) }
+fn head_rule(t: &[u8]) -> Result<(), Refusal>
+    ensures { Tells (told result) (head_demands t.now) }
 {
     if t.len() < HEAD {
-        return 50;
+        return Err(Refusal::Short);
     }
     let n = count(t);
-    if 512 < n {
-        return 51;
+    if EVENTS_MOST < n {
+        return Err(Refusal::Many);
     }
     if t.len() < HEAD + entry::SIZE * n {
-        return 52;
+        return Err(Refusal::Table);
     }
-    0
+    Ok(())
 }
 
 // The length of an event that is no request.
@@ -40,77 +35,64 @@ fn stray(e: &[u8]) -> usize
     if byte(e, entry::KIND) == 0 {
         0
     } else {
-        byte(e, entry::LENGTH)
+        byte(e, entry::LENGTH) as usize
     }
 }
 
-// 53 to 57, of an event whose APDU is to begin at z, in a trace of n bytes.
-fn event_rule(e: &[u8], z: usize, n: usize) -> u8
+// Of an event whose APDU is to begin at z, in a trace of n bytes.
+fn event_rule(e: &[u8], z: usize, n: usize) -> Result<(), Refusal>
     requires { (length e.now ≡ entry.size) × (z ≤ n) }
-    ensures { Tells result (event_demands z n e.now) }
+    ensures { Tells (told result) (event_demands z n e.now) }
 {
-    if 4 < byte(e, entry::KIND) {
-        return 53;
+    if EventKind::of(byte(e, entry::KIND)).is_none() {
+        return Err(Refusal::Kind);
     }
     if stray(e) != 0 {
-        return 54;
+        return Err(Refusal::Stray);
     }
     if byte(e, entry::ZERO) != 0 {
-        return 55;
+        return Err(Refusal::Zero);
     }
-    if word(e, entry::OFFSET) != z {
-        return 56;
+    if word(e, entry::OFFSET) as usize != z {
+        return Err(Refusal::Offset);
     }
-    if n - z < byte(e, entry::LENGTH) {
-        return 57;
+    if n - z < byte(e, entry::LENGTH) as usize {
+        return Err(Refusal::PastEnd);
     }
-    0
+    Ok(())
 }
 
-// The same of event i.
-fn step(t: &[u8], i: usize, z: usize) -> Verdict
+// The same of event i: where its APDU ends.
+fn step(t: &[u8], i: usize, z: usize) -> Result<usize, Refusal>
     requires { Inside t.now i × (z ≤ length t.now) }
     ensures { Judges t.now i z result }
 {
     let e = part(t, i);
-    let rule = event_rule(e, z, t.len());
-    if rule != 0 {
-        return Verdict { rule, end: z };
-    }
-    let long = byte(e, entry::LENGTH);
-    Verdict {
-        rule,
-        end: z + long,
-    }
+    event_rule(e, z, t.len())?;
+    Ok(z + byte(e, entry::LENGTH) as usize)
 }
 
-// 53 to 58.
-fn walk(t: &[u8]) -> u8
+// Event by event, and then the end.
+fn walk(t: &[u8]) -> Result<(), Refusal>
     requires { head_rule t.now ≡ 0 }
-    ensures { result ≡ walk_rule t.now }
+    ensures { told result ≡ walk_rule t.now }
 {
     let n = count(t);
-    let mut i = 0;
     let mut z = HEAD + entry::SIZE * n;
-    while i < n {
-        let judged = step(t, i, z);
-        let rule = judged.rule;
-        if rule != 0 {
-            return rule;
-        }
-        z = judged.end;
-        i += 1;
+    for i in 0..n {
+        z = step(t, i, z)?;
     }
-    if z == t.len() { 0 } else { 58 }
+    if z == t.len() {
+        Ok(())
+    } else {
+        Err(Refusal::LeftOver)
+    }
 }
 
-// The number of the first rule that the trace breaks, 50 to 58, and 0 if it breaks none.
-pub fn check(trace: &[u8]) -> u8
-    ensures { result ≡ refusal_of trace.now }
+// Refused by the first rule that the trace breaks.
+pub fn check(trace: &[u8]) -> Result<(), Refusal>
+    ensures { told result ≡ refusal_of trace.now }
 {
-    let head = head_rule(trace);
-    if head != 0 {
-        return head;
-    }
+    head_rule(trace)?;
     walk(trace)
 }

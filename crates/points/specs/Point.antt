@@ -1,5 +1,5 @@
 -- The datapoint types: their numbers and widths, what reading gives and what writing leaves.
-use Rattle.std.specs.Prelude.{ℕ, ◌/◌, ◌%◌, ◌<◌, ◌≡◌, Bool, true, false, cond, List, length, T, eqb, ltb, Float}
+use Rattle.std.specs.Prelude.{ℕ, ◌/◌, ◌%◌, ◌<◌, ◌≡◌, Bool, true, false, cond, List, length, T, eqb, ltb, Float, Option, Some, None, Result, Ok, Err, IfOk}
 use Rattle.std.specs.Float.{nan, inf, fin, binary32}
 use Rattle.std.specs.Float.Ieee.{to_bits, of_bits, fits}
 use Rattle.octets.specs.Bytes.{num_at, bytes_of}
@@ -7,8 +7,9 @@ use Rattle.points.specs.Nine.{res, in_range, Valid}
 use Rattle.points.specs.Code.{code_of}
 use Rattle.points.specs.declared.Datapoint.{Datapoint}
 use Rattle.points.specs.declared.Datapoint.TheVariants.{Switch, Byte, Hundredths, Float as Single}
-use Rattle.points.specs.declared.Reading.{Reading}
-use Rattle.points.specs.declared.Reading.TheVariants.{Is, Refused}
+use Rattle.points.specs.declared.Refusal.{Refusal}
+use Rattle.points.specs.declared.Refusal.TheVariants as why
+use Rattle.points.specs.Refusal.{told}
 
 -- THE TYPES: 1 a switch, 5 a byte, 9 hundredths, 14 a float
 abbrev pub type_of : Datapoint → ℕ
@@ -21,6 +22,10 @@ type_of (Single x) = 14
 abbrev pub width_at : ℕ → ℕ
 width_at t = cond (eqb t 1) 1 (cond (eqb t 5) 1 (cond (eqb t 9) 2 (cond (eqb t 14) 4 0)))
 
+-- the same with no number where there is no such type
+abbrev pub width_given : ℕ → Option ℕ
+width_given t = cond (eqb (width_at t) 0) None (Some (width_at t))
+
 -- no infinity and no NaN: of a float, and of its bits, where the eight of the exponent are not all set
 abbrev pub finite : Float → Bool
 finite nan = false
@@ -31,26 +36,25 @@ abbrev pub finite_bits : ℕ → Bool
 finite_bits n = ltb (n / 8388608 % 256) 255
 
 -- WHAT THE NUMBER n IN THE BYTES MEANS
-abbrev pub point_at : ℕ → ℕ → Reading
+abbrev pub point_at : ℕ → ℕ → Result Datapoint Refusal
 point_at t n =
-    cond (eqb t 1) (cond (ltb n 2) (Is (Switch (eqb n 1))) (Refused 21))
-    (cond (eqb t 5) (Is (Byte n))
-    (cond (eqb t 9) (cond (eqb n 32767) (Refused 22) (Is (Hundredths (res n))))
-    (cond (finite_bits n) (Is (Single (of_bits binary32 n))) (Refused 24))))
+    cond (eqb t 1) (cond (ltb n 2) (Ok (Switch (eqb n 1))) (Err why.Bits))
+    (cond (eqb t 5) (Ok (Byte n))
+    (cond (eqb t 9) (cond (eqb n 32767) (Err why.Invalid) (Ok (Hundredths (res n))))
+    (cond (finite_bits n) (Ok (Single (of_bits binary32 n))) (Err why.Infinite))))
 
 -- a number that stands in so many bytes as the type has
 pub record Narrow (t n : ℕ) : Type 0 where
   pub byte : t ≡ 5 → n < 256
   pub word : t ≡ 9 → n < 65536
 
--- WHAT READING GIVES: 25, then 20, then by the type
-unfoldable pub read_point : ℕ → List ℕ → Reading
-read_point t b = cond (eqb (width_at t) 0) (Refused 25) (cond (eqb (length b) (width_at t)) (point_at t (num_at b 0 (width_at t))) (Refused 20))
+-- WHAT READING GIVES: no such type, then another length, then by the type
+unfoldable pub read_point : ℕ → List ℕ → Result Datapoint Refusal
+read_point t b = cond (eqb (width_at t) 0) (Err why.Kind) (cond (eqb (length b) (width_at t)) (point_at t (num_at b 0 (width_at t))) (Err why.Length))
 
 -- a reading by its number
-abbrev pub read_outcome : Reading → ℕ
-read_outcome (Is d) = 0
-read_outcome (Refused n) = n
+abbrev pub read_outcome : Result Datapoint Refusal → ℕ
+read_outcome r = told r
 
 -- why a datapoint can't be written; 0 where it can
 abbrev pub refusal_of : Datapoint → ℕ
@@ -80,9 +84,9 @@ pub record Put (d : Datapoint) (o : List ℕ) (r : ℕ) (e : List ℕ) : Type 0 
   pub part : e ≡ cond (eqb r 0) (point_bytes d) o
 
 -- a number of a datapoint, or why there is none
-pub record Numbered (d : Datapoint) (refusal number : ℕ) : Type 0 where
-  pub why : refusal ≡ refusal_of d
-  pub is : refusal ≡ 0 → number ≡ number_of d
+pub record Numbered (d : Datapoint) (r : Result ℕ Refusal) : Type 0 where
+  pub refused : told r ≡ refusal_of d
+  pub is : IfOk r (λ n. n ≡ number_of d)
 
 -- for the theorems: each number fits its type, as every value of the code does
 abbrev pub Typed : Datapoint → Type 0

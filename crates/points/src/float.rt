@@ -4,36 +4,29 @@ ghost use Rattle.std.specs.Float.{binary32};
 ghost use Rattle.std.specs.Float.Ieee.{of_bits};
 ghost use Rattle.points.specs.Point.{finite_bits, Numbered};
 ghost use Rattle.points.specs.declared.Datapoint.TheVariants.{Float as Single};
-ghost use Rattle.points.specs.declared.Reading.TheVariants.{Is, Refused};
 
-use crate::number::Coding;
-use crate::{Datapoint, Reading};
+use crate::{Datapoint, Refusal};
 
 // The float that has these bits, unless it is an infinity or NaN.
-pub fn point(n: u32) -> Reading
-    ensures { result ≡ cond (finite_bits n) (Is (Single (of_bits binary32 n))) (Refused 24) }
+pub fn point(n: u32) -> Result<Datapoint, Refusal>
+    ensures { result ≡ cond (finite_bits n) (Ok (Single (of_bits binary32 n))) (Err Refusal.Infinite) }
 {
+    // `from_bits` asks that there is no NaN, so the exponent's eight bits are tested first.
     if n / 8388608 % 256 < 255 {
-        return Reading::Is(Datapoint::Float(f32::from_bits(n)));
+        Ok(Datapoint::Float(f32::from_bits(n)))
+    } else {
+        Err(Refusal::Infinite)
     }
-    Reading::Refused(24)
 }
 
-// The bits of a float; an infinity or NaN is refused. Only a NaN differs from itself.
-pub fn coded(x: f32) -> Coding
-    ensures { Numbered (Single x) result.refusal result.number }
+// The bits of a float that is no infinity and no NaN.
+#[tactic(auto, using(crate::proofs::Floats::finite_is))]
+pub fn coded(x: f32) -> Result<u32, Refusal>
+    ensures { Numbered (Single x) result }
 {
-    if x == x {
-        let n = f32::to_bits(x);
-        if n / 8388608 % 256 < 255 {
-            return Coding {
-                refusal: 0,
-                number: n,
-            };
-        }
-    }
-    Coding {
-        refusal: 24,
-        number: 0,
+    if x.is_finite() {
+        Ok(x.to_bits())
+    } else {
+        Err(Refusal::Infinite)
     }
 }

@@ -4,11 +4,10 @@ ghost use Rattle.points.specs.Nine.{res, in_range};
 ghost use Rattle.points.specs.Code.{exponent_from, limit as limitOf, packed as packedOf, stepped as steppedOf, code_of};
 ghost use Rattle.points.specs.Point.{Numbered};
 ghost use Rattle.points.specs.declared.Datapoint.TheVariants.{Hundredths};
-ghost use Rattle.points.specs.declared.Reading.TheVariants.{Is, Refused};
 
-use crate::number::Coding;
-use crate::{Datapoint, Reading, signs};
+use crate::{Datapoint, Refusal, signs};
 
+// An exponent of at most 15 stays a clause of three private functions: a type of exponents would be made at each call.
 // 2 to the e.
 fn power(e: u32) -> u32
     requires { e ≤ 15 }
@@ -24,20 +23,22 @@ fn result(c: u32) -> i32
 {
     let p = power(c / 2048 % 16);
     if c < 32768 {
-        return (c % 2048 * p) as i32;
+        (c % 2048 * p) as i32
+    } else {
+        -(((2048 - c % 2048) * p) as i32)
     }
-    signs::minus((2048 - c % 2048) * p)
 }
 
 // What a code means.
-pub fn point(c: u32) -> Reading
+pub fn point(c: u32) -> Result<Datapoint, Refusal>
     requires { c < 65536 }
-    ensures { result ≡ cond (eqb c 32767) (Refused 22) (Is (Hundredths (res c))) }
+    ensures { result ≡ cond (eqb c 32767) (Err Refusal.Invalid) (Ok (Hundredths (res c))) }
 {
     if c == 32767 {
-        return Reading::Refused(22);
+        Err(Refusal::Invalid)
+    } else {
+        Ok(Datapoint::Hundredths(result(c)))
     }
-    Reading::Is(Datapoint::Hundredths(result(c)))
 }
 
 // Twice the magnitude that rounds to a mantissa.
@@ -50,19 +51,15 @@ fn limit(x: i32) -> u32
 // The first exponent at which a magnitude rounds to a mantissa, l being the limit.
 fn exponent(m: u32, l: u32) -> u32
     requires { (m ≤ 67108864) × (l ≤ 4097) }
-    ensures { result ≡ exponent_from 15 m l 0 }
+    ensures first { result ≡ exponent_from 15 m l 0 }
+    ensures four_bits { result ≤ 15 }
 {
-    let twice = 2 * m;
-    let mut top = l;
-    let mut e = 0;
-    while e < 15 {
-        if twice <= top {
+    for e in 0..15 {
+        if 2 * m <= l << e {
             return e;
         }
-        top = top * 2;
-        e += 1;
     }
-    e
+    15
 }
 
 // E and M in a code, M in two's complement.
@@ -70,11 +67,12 @@ fn packed(e: u32, m: i32) -> u32
     requires { (e ≤ 15) × (nat_abs m ≤ 2048) }
     ensures { result ≡ packedOf e m }
 {
-    let q = signs::magnitude(m);
+    let q = m.unsigned_abs();
     if m < 0 {
-        return 32768 + e * 2048 + (2048 - q);
+        32768 + e * 2048 + (2048 - q)
+    } else {
+        e * 2048 + q
     }
-    e * 2048 + q
 }
 
 // A mantissa of -1,024 is -2,048 at the exponent below.
@@ -82,13 +80,11 @@ fn stepped(e: u32, m: i32) -> u32
     requires { (e ≤ 15) × (nat_abs m ≤ 2048) }
     ensures { result ≡ steppedOf e m }
 {
-    if e == 0 {
-        return packed(0, m);
+    if e != 0 && m == -1024 {
+        packed(e - 1, -2048)
+    } else {
+        packed(e, m)
     }
-    if m == -1024 {
-        return packed(e - 1, -2048);
-    }
-    packed(e, m)
 }
 
 // The code for a number in range.
@@ -96,25 +92,22 @@ fn code(x: i32) -> u32
     requires { in_range x ≡ true }
     ensures { result ≡ code_of x }
 {
-    let e = exponent(signs::magnitude(x), limit(x));
+    let e = exponent(x.unsigned_abs(), limit(x));
     let m = signs::quotient(x, power(e));
     stepped(e, m)
 }
 
-// The code of a number, or 23 where it is out of range.
-pub fn coded(x: i32) -> Coding
-    ensures { Numbered (Hundredths x) result.refusal result.number }
+// The least and the greatest result of a code.
+const LEAST: i32 = -67108864;
+
+const GREATEST: i32 = 67043328;
+
+// The code of a number in range.
+pub fn coded(x: i32) -> Result<u32, Refusal>
+    ensures { Numbered (Hundredths x) result }
 {
-    if -67108864 <= x {
-        if x <= 67043328 {
-            return Coding {
-                refusal: 0,
-                number: code(x),
-            };
-        }
-    }
-    Coding {
-        refusal: 23,
-        number: 0,
+    match x {
+        LEAST..=GREATEST => Ok(code(x)),
+        _ => Err(Refusal::Range),
     }
 }

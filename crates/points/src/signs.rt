@@ -1,28 +1,6 @@
-// Signed numbers at the edges: a magnitude, a sign, a division toward zero.
+// Division of signed numbers to the nearest, a half toward zero.
 ghost use Rattle.std.specs.Prelude.{◌≡◌, ◌+◌, ◌*◌, ◌-◌, ◌≤◌, ◌<◌, nat_abs, neg_ℤ, pos};
 ghost use Rattle.points.specs.Code.{quotient as quotient_of};
-
-// The magnitude of a number.
-pub fn magnitude(x: i32) -> u32
-    ensures { result ≡ nat_abs x }
-{
-    if x < 0 {
-        let w = x as i64;
-        let m = -w;
-        m as u32
-    } else {
-        x as u32
-    }
-}
-
-// Minus m.
-pub fn minus(m: u32) -> i32
-    requires { m < 2147483648 }
-    ensures { result ≡ neg_ℤ (pos m) }
-{
-    let v = m as i32;
-    -v
-}
 
 // What is divided by twice p for m / p to the nearest, so that a half goes toward zero.
 fn dividend(m: u32, p: u32) -> u32
@@ -37,7 +15,7 @@ pub fn quotient(x: i32, p: u32) -> i32
     requires { (nat_abs x ≤ 67108864) × (0 < p) × (p ≤ 32768) }
     ensures { result ≡ quotient_of x p }
 {
-    let t = dividend(magnitude(x), p);
+    let t = dividend(x.unsigned_abs(), p);
     let d = (2 * p) as i32;
-    if x < 0 { minus(t) / d } else { (t as i32) / d }
+    if x < 0 { -(t as i32) / d } else { t as i32 / d }
 }

@@ -1,5 +1,6 @@
 -- LAWS of the rules S1 to S9: rows, propositions, editions, the walk.
 pub mod First
+pub mod Faults
 pub mod ByKind
 pub mod Editions
 pub mod Demands

@@ -1,5 +1,7 @@
 -- The kinds of entries, and what goes by them.
 use Rattle.std.specs.Prelude.{◌≡◌, ℕ, zero, suc, ◌<◌}
+use Rattle.sheet.specs.declared.Kind.{Kind}
+use Rattle.sheet.specs.declared.Kind.TheVariants.{Regions, Properties, Groups, Users}
 use Rattle.sheet.specs.declared.Memory.{Memory}
 use Rattle.sheet.specs.declared.Memory.TheVariants.{Device, User}
 
@@ -19,6 +21,13 @@ users = 3
 -- how many kinds there are
 abbrev pub kinds : ℕ
 kinds = 4
+
+-- the number of a kind
+abbrev pub number_of : Kind → ℕ
+number_of Regions = regions
+number_of Properties = properties
+number_of Groups = groups
+number_of Users = users
 
 -- a user region has the entry and the body of a region
 abbrev pub by_kind {ℓ} : {A : Type ℓ} → ℕ → A → A → A → A

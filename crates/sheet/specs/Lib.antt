@@ -1,6 +1,8 @@
 pub mod Demand
 pub mod First
 pub mod Kind
+pub mod Fault
+pub mod Refused
 pub mod Layout
 pub mod Head
 pub mod Region

@@ -1,5 +1,5 @@
 -- Finding entries, and the part of a sheet that a value lookup hands back.
-use Rattle.std.specs.Prelude.{◌≡◌, ℕ, zero, suc, ◌+◌, ◌-◌, ◌*◌, ◌/◌, ◌%◌, min, Bool, true, false, cond, ◌&&◌, List, [], length, take, drop, ◌==◌, nat_eq, nat_le, nat_lt}
+use Rattle.std.specs.Prelude.{◌≡◌, ℕ, zero, suc, ◌+◌, ◌-◌, ◌*◌, ◌/◌, ◌%◌, ◌<◌, min, Bool, true, false, cond, ◌&&◌, Option, Some, None, List, [], length, take, drop, ◌==◌, nat_eq, nat_le, nat_lt}
 use Rattle.std.specs.Borrow.{Bor}
 use Rattle.sheet.specs.Kind.{regions, properties, groups, users, kind_of}
 use Rattle.sheet.specs.Layout.{◌of◌}
@@ -10,7 +10,6 @@ use Rattle.sheet.specs.Entries.{count, entry, key_of, offset_of, length_of}
 use Rattle.sheet.specs.declared.Part.{Part}
 use Rattle.sheet.specs.declared.Memory.{Memory}
 use Rattle.sheet.specs.declared.Run.{Run}
-use Rattle.sheet.specs.declared.Run.TheVariants.{At, Nowhere}
 
 -- the first of i, i + 1, .., i + d - 1 that passes a test, and i + d where none does
 unfoldable pub seek : (ℕ → Bool) → ℕ → ℕ → ℕ
@@ -20,6 +19,11 @@ seek t i (suc d) = cond (t i) i (seek t (suc i) d)
 -- the entry of kind k whose first word is x, and the count where there is none
 unfoldable pub index_of : List ℕ → ℕ → ℕ → ℕ
 index_of s k x = seek (λ i. nat_eq (key_of s k i) x) 0 (count s k)
+
+-- r is entry i of n, and None where i is the n that says that there is none
+abbrev pub Finds : ℕ → ℕ → Option ℕ → Type 0
+Finds n i (Some r) = (r ≡ i) × (i < n)
+Finds n i None = i ≡ n
 
 abbrev pub when : Bool → List ℕ → List ℕ
 when true l = l
@@ -93,28 +97,32 @@ nth_of s object index = seek (λ i. (object_at s i == object) && rank s object i
 unfoldable pub covers : List ℕ → ℕ → Bool
 covers e y = nat_le (region.address of e) y && nat_lt y (region.address of e + region.length of e)
 
+-- the run from a place on, under these levels
+abbrev pub At : ℕ → ℕ → Option Run
+At o l = Some (record { offset = o; levels = l })
+
 -- the sheet byte that this address is, with the region's levels
-abbrev pub run_in : List ℕ → ℕ → Run
+abbrev pub run_in : List ℕ → ℕ → Option Run
 run_in e y = At (region.offset of e + (y - region.address of e)) (region.levels of e)
 
 -- where one address of a memory stands, and under which levels
-unfoldable pub place_of : List ℕ → Memory → ℕ → Run
+unfoldable pub place_of : List ℕ → Memory → ℕ → Option Run
 place_of s m y =
     let k = kind_of m in
-    let i = seek (λ j. covers (entry s k j) y) 0 (count s k) in cond (nat_lt i (count s k)) (run_in (entry s k i) y) Nowhere
+    let i = seek (λ j. covers (entry s k j) y) 0 (count s k) in cond (nat_lt i (count s k)) (run_in (entry s k i) y) None
 
 -- the rights that two bytes of levels have in common: of each half the smaller
 unfoldable pub common : ℕ → ℕ → ℕ
 common l k = min (l / 16) (k / 16) * 16 + min (l % 16) (k % 16)
 
 -- a run, and one address more
-abbrev pub joined : Run → Run → Run
-joined (At o l) (At p k) = At o (common l k)
-joined (At o l) Nowhere = Nowhere
-joined Nowhere r = Nowhere
+abbrev pub joined : Option Run → Option Run → Option Run
+joined (Some r) (Some q) = At r.offset (common r.levels q.levels)
+joined (Some r) None = None
+joined None r = None
 
 -- the run of sheet bytes that the n addresses from a on are: from where the first stands, with the rights that all have in common
-unfoldable pub range_of : List ℕ → Memory → ℕ → ℕ → Run
-range_of s m a zero = Nowhere
+unfoldable pub range_of : List ℕ → Memory → ℕ → ℕ → Option Run
+range_of s m a zero = None
 range_of s m a (suc zero) = place_of s m a
 range_of s m a (suc (suc n)) = joined (range_of s m a (suc n)) (place_of s m (a + suc n))

@@ -1,14 +1,15 @@
 -- What calls of this crate promise one another on the walk over a sheet.
-use Rattle.std.specs.Prelude.{◌≡◌, ℕ, ◌+◌, ◌-◌, ◌<◌, ◌≤◌, List, length, ◌≢◌}
+use Rattle.std.specs.Prelude.{◌≡◌, ℕ, ◌+◌, ◌-◌, ◌<◌, ◌≤◌, Option, Some, None, Result, IfOk, List, length}
 use Rattle.sheet.specs.Demand.{Demand, Met, Tells}
-use Rattle.sheet.specs.Kind.{kinds, kind_of, by_kind, OfKind}
+use Rattle.sheet.specs.Kind.{kinds, by_kind, OfKind}
 use Rattle.sheet.specs.Entries.{count, size, place, entry, key_of, floor, offset_of, length_of, six_bits}
 use Rattle.sheet.specs.Rules.{frame_demands, entry_demands, body_rows, edition}
 use Rattle.sheet.specs.Layout.{◌of◌}
 use Rattle.sheet.specs.Lookup.{common}
-use Rattle.sheet.specs.declared.Memory.{Memory}
 use Rattle.sheet.specs.declared.ranges.Reach.{Reach}
-use Rattle.sheet.specs.declared.entry_rules.Verdict.{Verdict}
+use Rattle.sheet.specs.declared.entry_rules.Step.{Step}
+use Rattle.sheet.specs.declared.Fault.{Fault}
+use Rattle.sheet.specs.Fault.{told}
 use Rattle.sheet.specs.Region as region
 
 -- S1 to S4 of an edition hold
@@ -20,11 +21,6 @@ pub record Entry (s : List ℕ) (k i : ℕ) : Type 0 where
   pub framed : Framed edition s
   pub kind : k < kinds
   pub below : i < count s k
-
--- k is the kind of entry that the regions of a memory are
-pub record Holds (m : Memory) (k : ℕ) : Type 0 where
-  pub is : k ≡ kind_of m
-  pub known : k < kinds
 
 -- r is the number of entries of kind k
 pub record Counted (s : List ℕ) (k r : ℕ) : Type 0 where
@@ -43,12 +39,11 @@ pub record Goes (s : List ℕ) (k i z l : ℕ) (r : Reach) : Type 0 where
   pub begins : region.address of entry s k i ≡ z
   pub ends : r.end ≡ region.address of entry s k i + region.length of entry s k i
   pub rights : r.levels ≡ common l (region.levels of entry s k i)
-  pub byte : r.levels < 256
 
--- r is that, or 0 if there is no such region
-pub record Onward (s : List ℕ) (k i z l : ℕ) (r : Reach) : Type 0 where
-  pub stops : r.end ≡ 0 → i < count s k → region.address of entry s k i ≡ z → ⊥
-  pub goes : (r.end ≢ 0) → Goes s k i z l r
+-- r is that, or None if there is no such region
+abbrev pub Onward : List ℕ → ℕ → ℕ → ℕ → ℕ → Option Reach → Type 0
+Onward s k i z l (Some r) = Goes s k i z l r
+Onward s k i z l None = i < count s k → region.address of entry s k i ≡ z → ⊥
 
 -- e is as long as an entry of kind k; none is shorter than a region's
 pub record Sized (k : ℕ) (e : List ℕ) : Type 0 where
@@ -87,7 +82,7 @@ pub record Late (late from z six r : ℕ) : Type 0 where
   pub met : late ≡ 0 → Met (body_rows from z six) → r ≡ 0
 
 -- what a step leaves behind an entry with a body of n bytes: p, l, what is late, and where the body is to end
-pub record Next (l late from z six n p : ℕ) (r : Verdict) : Type 0 where
+pub record Next (l late from z six n p : ℕ) (r : Step) : Type 0 where
   pub at : r.at ≡ p
   pub last : r.last ≡ l
   pub kept : Late late from z six r.late
@@ -95,10 +90,10 @@ pub record Next (l late from z six n p : ℕ) (r : Verdict) : Type 0 where
   pub short : n < long
 
 -- the first rule that some rows break, and if they break none, what is left
-pub record VerdictOf (ds : List Demand) (l late from z six n p : ℕ) (r : Verdict) : Type 0 where
-  pub rule : Tells r.rule ds
-  pub next : r.rule ≡ 0 → Next l late from z six n p r
+pub record StepOver (ds : List Demand) (l late from z six n p : ℕ) (r : Result Step Fault) : Type 0 where
+  pub rule : Tells (told r) ds
+  pub next : IfOk r (Next l late from z six n p)
 
 -- the same of entry i of kind k
-pub record Steps (s : List ℕ) (k i z late : ℕ) (r : Verdict) : Type 0 where
-  pub is : VerdictOf (entry_demands s k i) (last_of k (floor s k (i + 1))) late (offset_of k (entry s k i)) z (six_bits s k (entry s k i)) (length_of k (entry s k i)) (place s k (i + 1)) r
+pub record Steps (s : List ℕ) (k i z late : ℕ) (r : Result Step Fault) : Type 0 where
+  pub is : StepOver (entry_demands s k i) (last_of k (floor s k (i + 1))) late (offset_of k (entry s k i)) z (six_bits s k (entry s k i)) (length_of k (entry s k i)) (place s k (i + 1)) r

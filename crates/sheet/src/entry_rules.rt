@@ -1,24 +1,24 @@
 // S6 to S8 of one entry, and S9 of its body.
 ghost use Rattle.std.specs.Prelude.{◌≡◌, ◌+◌, ◌<◌, ◌≤◌, length};
 ghost use Rattle.sheet.specs.Demand.{Tells};
+ghost use Rattle.sheet.specs.Fault.{told};
 ghost use Rattle.sheet.specs.Kind.{regions, properties, groups};
 ghost use Rattle.sheet.specs.Entries.{floor_after, offset_of, length_of, six_bits};
 ghost use Rattle.sheet.specs.Rules.{region_demands, property_demands, group_demands};
-ghost use Rattle.sheet.specs.Walk.{Late, VerdictOf, last_of, far};
+ghost use Rattle.sheet.specs.Walk.{Late, StepOver, last_of, far};
 ghost use Rattle.sheet.specs.Region as region;
 ghost use Rattle.sheet.specs.Property as property;
 ghost use Rattle.sheet.specs.Group as group;
 
+use crate::Fault;
 use crate::layout::{group, property, region};
-use crate::table::narrow_elements;
-use octets::{narrow_byte as byte, narrow_word as word};
-use std::num::wrapping_sub_u32;
+use crate::table::elements;
+use octets::{byte, word};
 
-// The rule that an entry breaks, or 0. If 0: where the next entry stands, what it is judged against, what is late, and where the
-// body is to end.
+// How far the walk has come, and what an entry that breaks no rule leaves behind: where the next entry stands, what it is judged
+// against, what is late, and where the body is to end. What is late stays a number, or-ed over the entries: so no step has a branch for it.
 #[derive(Clone, Copy)]
-pub struct Verdict {
-    pub rule: u8,
+pub struct Step {
     pub at: usize,
     pub last: u32,
     pub late: u32,
@@ -34,178 +34,111 @@ fn late_of(late: u32, from: u32, z: u32, six: u32) -> u32
 }
 
 // S6, of a region whose address is to be at least `floor`.
-fn region_rule(floor: u32, e: &[u8]) -> u8
+fn region_rule(floor: u32, e: &[u8]) -> Result<(), Fault>
     requires { region.size ≤ length e.now }
-    ensures { Tells result (region_demands floor e.now) }
+    ensures { Tells (told result) (region_demands floor e.now) }
 {
-    let address = word(e, region::ADDRESS);
-    let long = word(e, region::LENGTH);
-    if long < 1 {
-        return 6;
-    }
-    if 65536 < address + long {
-        return 6;
-    }
-    if address < floor {
-        return 6;
-    }
+    let address = word(e, region::ADDRESS) as u32;
+    let long = word(e, region::LENGTH) as u32;
     let levels = byte(e, region::LEVELS);
-    if 3 < levels / 16 {
-        return 6;
+    if long < 1
+        || 65536 < address + long
+        || address < floor
+        || 3 < levels / 16
+        || 3 < levels % 16
+        || byte(e, region::ZERO) != 0
+    {
+        return Err(Fault::S6);
     }
-    if 3 < levels % 16 {
-        return 6;
-    }
-    if byte(e, region::ZERO) != 0 {
-        return 6;
-    }
-    0
+    Ok(())
 }
 
+// That the walk has not come far, and an entry is as long as its kind, stay clauses: numbers of one walk, in 32 bits for speed.
 // The same, and if it breaks nothing, S9 of its body.
-pub fn region_step(at: usize, floor: u32, z: u32, late: u32, e: &[u8]) -> Verdict
-    requires { (region.size ≤ length e.now) × (at < far) × (z < far) }
-    ensures { VerdictOf (region_demands floor e.now) (floor_after regions e.now) late (offset_of regions e.now) z 0
-        (length_of regions e.now) (at + region.size) result }
+pub fn region_step(now: Step, e: &[u8]) -> Result<Step, Fault>
+    requires { (region.size ≤ length e.now) × (now.at < far) × (now.end < far) }
+    ensures { StepOver (region_demands now.last e.now) (floor_after regions e.now) now.late (offset_of regions e.now) now.end 0
+        (length_of regions e.now) (now.at + region.size) result }
 {
-    let rule = region_rule(floor, e);
-    if rule != 0 {
-        return Verdict {
-            rule,
-            at,
-            last: floor,
-            late,
-            end: z,
-        };
-    }
-    let address = word(e, region::ADDRESS);
-    let long = word(e, region::LENGTH);
-    Verdict {
-        rule,
-        at: at + region::SIZE,
-        last: address + long,
-        late: late_of(late, word(e, region::OFFSET), z, 0),
-        end: z + long,
-    }
+    region_rule(now.last, e)?;
+    let long = word(e, region::LENGTH) as u32;
+    Ok(Step {
+        at: now.at + region::SIZE,
+        last: word(e, region::ADDRESS) as u32 + long,
+        late: late_of(now.late, word(e, region::OFFSET) as u32, now.end, 0),
+        end: now.end + long,
+    })
 }
 
-// S7, of a property whose object and id, as one number, are to be above `last`. One less wraps at 0, so that one test has both
-// limits of a number.
-fn property_rule(last: u32, e: &[u8]) -> u8
+// S7, of a property whose object and id, as one number, are to be above `last`.
+fn property_rule(last: u32, e: &[u8]) -> Result<(), Fault>
     requires { property.size ≤ length e.now }
-    ensures { Tells result (property_demands (last + 1) e.now) }
+    ensures { Tells (told result) (property_demands (last + 1) e.now) }
 {
     let maximum = word(e, property::MAXIMUM);
-    if byte(e, property::ID) < 1 {
-        return 7;
+    if byte(e, property::ID) < 1
+        || word(e, property::OBJECT_ID) as u32 <= last
+        || byte(e, property::TYPE) / 64 % 2 != 0
+        || !(1..=10).contains(&byte(e, property::ELEMENT))
+        || !(1..=4095).contains(&maximum)
+        || maximum < word(e, property::COUNT)
+        || 3 < byte(e, property::LEVELS) / 16
+        || 3 < byte(e, property::LEVELS) % 16
+        || byte(e, property::ZERO) != 0
+    {
+        return Err(Fault::S7);
     }
-    if word(e, property::OBJECT_ID) <= last {
-        return 7;
-    }
-    if byte(e, property::TYPE) / 64 % 2 != 0 {
-        return 7;
-    }
-    if 10 <= wrapping_sub_u32(byte(e, property::ELEMENT), 1) {
-        return 7;
-    }
-    if 4095 <= wrapping_sub_u32(maximum, 1) {
-        return 7;
-    }
-    if maximum < word(e, property::COUNT) {
-        return 7;
-    }
-    if 3 < byte(e, property::LEVELS) / 16 {
-        return 7;
-    }
-    if 3 < byte(e, property::LEVELS) % 16 {
-        return 7;
-    }
-    if byte(e, property::ZERO) != 0 {
-        return 7;
-    }
-    0
+    Ok(())
 }
 
 // The same, and if it breaks nothing, S9 of its body.
-pub fn property_step(at: usize, last: u32, z: u32, late: u32, e: &[u8]) -> Verdict
-    requires { (property.size ≤ length e.now) × (at < far) × (z < far) }
-    ensures { VerdictOf (property_demands (last + 1) e.now) (last_of properties (floor_after properties e.now)) late
-        (offset_of properties e.now) z 0 (length_of properties e.now) (at + property.size) result }
+pub fn property_step(now: Step, e: &[u8]) -> Result<Step, Fault>
+    requires { (property.size ≤ length e.now) × (now.at < far) × (now.end < far) }
+    ensures { StepOver (property_demands (now.last + 1) e.now) (last_of properties (floor_after properties e.now)) now.late
+        (offset_of properties e.now) now.end 0 (length_of properties e.now) (now.at + property.size) result }
 {
-    let rule = property_rule(last, e);
-    if rule != 0 {
-        return Verdict {
-            rule,
-            at,
-            last,
-            late,
-            end: z,
-        };
-    }
-    let long = narrow_elements(e);
-    Verdict {
-        rule,
-        at: at + property::SIZE,
-        last: word(e, property::OBJECT_ID),
-        late: late_of(late, word(e, property::OFFSET), z, 0),
-        end: z + long,
-    }
+    property_rule(now.last, e)?;
+    Ok(Step {
+        at: now.at + property::SIZE,
+        last: word(e, property::OBJECT_ID) as u32,
+        late: late_of(now.late, word(e, property::OFFSET) as u32, now.end, 0),
+        end: now.end + elements(e),
+    })
 }
 
 // S8, of a group object whose address is to be above `last`, and so not 0.
-fn group_rule(last: u32, e: &[u8]) -> u8
+fn group_rule(last: u32, e: &[u8]) -> Result<(), Fault>
     requires { group.size ≤ length e.now }
-    ensures { Tells result (group_demands (last + 1) e.now) }
+    ensures { Tells (told result) (group_demands (last + 1) e.now) }
 {
-    let address = word(e, group::ADDRESS);
-    if address <= last {
-        return 8;
+    if word(e, group::ADDRESS) as u32 <= last
+        || 14 < byte(e, group::CODE)
+        || 7 < byte(e, group::FLAGS)
+        || word(e, group::ZEROS) != 0
+    {
+        return Err(Fault::S8);
     }
-    if 14 < byte(e, group::CODE) {
-        return 8;
-    }
-    if 7 < byte(e, group::FLAGS) {
-        return 8;
-    }
-    if word(e, group::ZEROS) != 0 {
-        return 8;
-    }
-    0
+    Ok(())
 }
 
 // The same, and if it breaks nothing, S9 of its body.
-pub fn group_step(s: &[u8], at: usize, last: u32, z: u32, late: u32, e: &[u8]) -> Verdict
-    requires { (group.size ≤ length e.now) × (at < far) × (z < far) }
-    ensures { VerdictOf (group_demands (last + 1) e.now) (last_of groups (floor_after groups e.now)) late
-        (offset_of groups e.now) z (six_bits s.now groups e.now) (length_of groups e.now) (at + group.size) result }
+pub fn group_step(s: &[u8], now: Step, e: &[u8]) -> Result<Step, Fault>
+    requires { (group.size ≤ length e.now) × (now.at < far) × (now.end < far) }
+    ensures { StepOver (group_demands (now.last + 1) e.now) (last_of groups (floor_after groups e.now)) now.late
+        (offset_of groups e.now) now.end (six_bits s.now groups e.now) (length_of groups e.now) (now.at + group.size) result }
 {
-    let rule = group_rule(last, e);
-    if rule != 0 {
-        return Verdict {
-            rule,
-            at,
-            last,
-            late,
-            end: z,
-        };
-    }
-    let address = word(e, group::ADDRESS);
-    let code = byte(e, group::CODE);
+    group_rule(now.last, e)?;
     let from = word(e, group::OFFSET);
-    if 1 <= code {
-        return Verdict {
-            rule,
-            at: at + group::SIZE,
-            last: address,
-            late: late_of(late, from, z, 0),
-            end: z + code,
-        };
-    }
-    Verdict {
-        rule,
-        at: at + group::SIZE,
-        last: address,
-        late: late_of(late, from, z, byte(s, from as usize)),
-        end: z + 1,
-    }
+    let code = byte(e, group::CODE);
+    let (long, six) = if code == 0 {
+        (1, byte(s, from as usize))
+    } else {
+        (code, 0)
+    };
+    Ok(Step {
+        at: now.at + group::SIZE,
+        last: word(e, group::ADDRESS) as u32,
+        late: late_of(now.late, from as u32, now.end, six as u32),
+        end: now.end + long as u32,
+    })
 }

@@ -3,8 +3,8 @@ ghost use Rattle.std.specs.Prelude.{◌≡◌, ◌<◌, ◌≤◌};
 ghost use Rattle.sheet.specs.Layout.{◌of◌};
 ghost use Rattle.sheet.specs.Head as head;
 ghost use Rattle.sheet.specs.Head.{rules_of};
-ghost use Rattle.sheet.specs.Rules.{Accepted};
 
+use crate::Sheet;
 use crate::layout::head;
 use octets::{byte, number};
 
@@ -26,18 +26,11 @@ pub fn mask(s: &[u8]) -> u16
 pub const LATER: u8 = 1;
 
 // The number of the rules that the sheet asks for.
+#[tactic(auto, unfolding(crate::specs::Head::rules_of))]
 pub fn rules_of(s: &[u8]) -> u8
     ensures { result ≡ rules_of s.now }
 {
-    byte(s, head::RULES) as u8
-}
-
-// Programming mode in bit 0, verify in bit 1.
-pub fn flags(s: &[u8]) -> u8
-    requires { Accepted s.now }
-    ensures { (result ≡ head.flags of s.now) × (result ≤ 3) }
-{
-    byte(s, head::FLAGS) as u8
+    byte(s, head::RULES)
 }
 
 // The key of a level.
@@ -66,4 +59,13 @@ pub fn key_at(l: usize) -> usize
     ensures { result ≡ (head.key l).at }
 {
     head::KEYS + 4 * l
+}
+
+impl Sheet<'_> {
+    // Programming mode in bit 0, verify in bit 1.
+    pub fn flags(self) -> u8
+        ensures { (result ≡ head.flags of self.entry.bytes.now) × (result ≤ 3) }
+    {
+        byte(self.bytes, head::FLAGS)
+    }
 }

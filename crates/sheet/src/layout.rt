@@ -1,13 +1,11 @@
-// Where the numbers of a sheet stand, by the names of specs/: the head, the three kinds of entries, and the kinds.
+// Where the numbers of a sheet stand, by the names of specs/: the head, and the three kinds of entries.
 
 pub mod head {
     pub const SIZE: usize = 32;
 
     pub const EDITION: usize = 0;
 
-    // the numbers of entries, kind by kind
-    pub const COUNTS: usize = 1;
-
+    // the numbers of entries
     pub const REGIONS: usize = 1;
 
     pub const PROPERTIES: usize = 2;
@@ -86,16 +84,4 @@ pub mod group {
     pub const OFFSET: usize = 4;
 
     pub const ZEROS: usize = 6;
-}
-
-pub mod kind {
-    pub const REGIONS: usize = 0;
-
-    pub const PROPERTIES: usize = 1;
-
-    pub const GROUPS: usize = 2;
-
-    pub const USERS: usize = 3;
-
-    pub const ALL: usize = 4;
 }

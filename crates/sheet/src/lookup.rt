@@ -1,133 +1,120 @@
 // Finding entries by their first word, and the part of the sheet that a value lookup hands back: in numbers, and as it stands there.
 ghost use Rattle.std.specs.Prelude.{◌≡◌, ◌+◌, ◌*◌, ◌<◌, ◌≤◌, length, take, drop};
-ghost use Rattle.sheet.specs.Kind.{kinds};
-ghost use Rattle.sheet.specs.Entries.{key_of};
-ghost use Rattle.sheet.specs.Rules.{Accepted};
-ghost use Rattle.sheet.specs.Lookup.{PartOf, StandsIn, index_of, body_of, body_from, lookup, lookup_from, region_of, region_from};
+ghost use Rattle.sheet.specs.Kind.{number_of};
+ghost use Rattle.sheet.specs.Entries.{count as count_of, key_of};
+ghost use Rattle.sheet.specs.Lookup.{PartOf, StandsIn, Finds, index_of, body_of, body_from, lookup, lookup_from, region_of, region_from};
 ghost use Rattle.sheet.specs.Lookup.{user_region_of, user_region_from, property_of, property_from, group_of, group_from};
 ghost use Rattle.sheet.specs.Walk.{Entry, Lower};
 
-use crate::layout::kind;
 use crate::table::{entry, length, many, offset};
-use crate::walk::check;
-use crate::{Part, layout};
+use crate::{Kind, Part, Sheet, layout};
 use octets::word;
 
+// That entry i is there (`Entry`) stays a clause of what reads one: a type of places would be made for each step of a search.
 // The first word of an entry.
-fn first_word(s: &[u8], k: usize, i: usize) -> usize
-    requires { Entry s.now k i }
-    ensures { result ≡ key_of s.now k i }
+fn first_word(s: &[u8], kind: Kind, i: usize) -> usize
+    requires { Entry s.now (number_of kind) i }
+    ensures { result ≡ key_of s.now (number_of kind) i }
 {
-    word(entry(s, k, i), layout::KEY)
+    word(entry(s, kind, i), layout::KEY) as usize
 }
 
-// THE SEARCH BY HALVES: the first entry of a kind whose first word is not below `key`, and the count where there is none.
-// Each step leaves half of what is left, or less: of 64 entries 32, 16, 8, 4, 2, 1 and none, so there are seven at most.
-pub fn lower(s: &[u8], k: usize, key: usize) -> usize
-    requires { Accepted s.now × (k < kinds) }
-    ensures { Lower s.now k key result }
-{
-    let mut lo = 0;
-    let mut hi = many(s, k);
-    while lo < hi {
-        let mid = lo + (hi - lo) / 2;
-        if first_word(s, k, mid) < key {
-            lo = mid + 1;
+impl Sheet<'_> {
+    // THE SEARCH BY HALVES: the first entry of a kind whose first word is not below `key`, and the count where there is none.
+    // Each step leaves half of what is left, or less: of 64 entries 32, 16, 8, 4, 2, 1 and none, so there are seven at most.
+    pub(crate) fn lower(self, kind: Kind, key: usize) -> usize
+        ensures { Lower self.entry.bytes.now (number_of kind) key result }
+    {
+        let mut lo = 0;
+        let mut hi = many(self.bytes, kind);
+        // No count: the search halves what is left.
+        while lo < hi {
+            let mid = lo + (hi - lo) / 2;
+            if first_word(self.bytes, kind, mid) < key {
+                lo = mid + 1;
+            } else {
+                hi = mid;
+            }
+        }
+        lo
+    }
+
+    // The number of the entry of a kind whose first word is `key`.
+    pub fn find(self, kind: Kind, key: usize) -> Option<usize>
+        ensures { Finds (count_of self.entry.bytes.now (number_of kind)) (index_of self.entry.bytes.now (number_of kind) key) result }
+    {
+        let i = self.lower(kind, key);
+        if i < many(self.bytes, kind) && first_word(self.bytes, kind, i) == key {
+            Some(i)
         } else {
-            hi = mid;
+            None
         }
     }
-    lo
-}
 
-// The number of the entry of a kind whose first word is `key`, and the count where there is none.
-pub fn find(s: &[u8], k: usize, key: usize) -> usize
-    requires { Accepted s.now × (k < kinds) }
-    ensures { result ≡ index_of s.now k key }
-{
-    let n = many(s, k);
-    let i = lower(s, k, key);
-    if n <= i {
-        return n;
-    }
-    if first_word(s, k, i) == key {
-        return i;
-    }
-    n
-}
-
-// The body of entry i of a kind, and nothing where that is no entry.
-fn body(s: &[u8], k: usize, i: usize) -> Part
-    requires { Accepted s.now × (k < kinds) }
-    ensures { StandsIn s.now result (body_of s.now k i) (body_from s.now k i) }
-{
-    if many(s, k) <= i {
-        return Part {
-            offset: 0,
-            length: 0,
-        };
-    }
-    let e = entry(s, k, i);
-    Part {
-        offset: offset(k, e),
-        length: length(k, e),
+    // The body of entry i of a kind, and nothing where that is no entry.
+    fn body(self, kind: Kind, i: usize) -> Part
+        ensures { StandsIn self.entry.bytes.now result (body_of self.entry.bytes.now (number_of kind) i) (body_from self.entry.bytes.now (number_of kind) i) }
+    {
+        if many(self.bytes, kind) <= i {
+            return Part::NOTHING;
+        }
+        let e = entry(self.bytes, kind, i);
+        Part {
+            offset: offset(kind, e),
+            length: length(kind, e),
+        }
     }
 }
 
 // The same of an accepted sheet, and nothing of any other: by number, and by the first word.
-fn value(s: &[u8], k: usize, i: usize) -> Part
-    requires { k < kinds }
-    ensures { StandsIn s.now result (lookup s.now k i) (lookup_from s.now k i) }
+fn value(s: &[u8], kind: Kind, i: usize) -> Part
+    ensures { StandsIn s.now result (lookup s.now (number_of kind) i) (lookup_from s.now (number_of kind) i) }
 {
-    if check(s) != 0 {
-        return Part {
-            offset: 0,
-            length: 0,
-        };
+    match Sheet::new(s) {
+        Ok(sheet) => sheet.body(kind, i),
+        Err(_) => Part::NOTHING,
     }
-    body(s, k, i)
 }
 
-fn keyed(s: &[u8], k: usize, key: usize) -> Part
-    requires { k < kinds }
-    ensures { StandsIn s.now result (lookup s.now k (index_of s.now k key)) (lookup_from s.now k (index_of s.now k key)) }
+fn keyed(s: &[u8], kind: Kind, key: usize) -> Part
+    ensures { StandsIn s.now result (lookup s.now (number_of kind) (index_of s.now (number_of kind) key)) (lookup_from s.now (number_of kind) (index_of s.now (number_of kind) key)) }
 {
-    let rule = check(s);
-    if rule != 0 {
-        return Part {
-            offset: 0,
-            length: 0,
-        };
+    let Ok(sheet) = Sheet::new(s) else {
+        return Part::NOTHING;
+    };
+    match sheet.find(kind, key) {
+        Some(i) => sheet.body(kind, i),
+        None => Part::NOTHING,
     }
-    body(s, k, find(s, k, key))
 }
 
+// A function for each kind of value, as documents and C name them: each is one line over `value`, `keyed` and `cut`.
 // Where the body of region k stands, counted from 0.
 pub fn region_part(sheet: &[u8], k: usize) -> Part
     ensures { StandsIn sheet.now result (region_of sheet.now k) (region_from sheet.now k) }
 {
-    value(sheet, kind::REGIONS, k)
+    value(sheet, Kind::Regions, k)
 }
 
 // Where the body of user region k stands, counted from 0.
 pub fn user_region_part(sheet: &[u8], k: usize) -> Part
     ensures { StandsIn sheet.now result (user_region_of sheet.now k) (user_region_from sheet.now k) }
 {
-    value(sheet, kind::USERS, k)
+    value(sheet, Kind::Users, k)
 }
 
 // Where the body of a property stands.
 pub fn property_part(sheet: &[u8], object: u8, id: u8) -> Part
     ensures { StandsIn sheet.now result (property_of sheet.now object id) (property_from sheet.now object id) }
 {
-    keyed(sheet, kind::PROPERTIES, object as usize * 256 + id as usize)
+    keyed(sheet, Kind::Properties, object as usize * 256 + id as usize)
 }
 
 // Where the body of a group object stands.
 pub fn group_part(sheet: &[u8], address: u16) -> Part
     ensures { StandsIn sheet.now result (group_of sheet.now address) (group_from sheet.now address) }
 {
-    keyed(sheet, kind::GROUPS, address as usize)
+    keyed(sheet, Kind::Groups, address as usize)
 }
 
 // The part of a sheet that numbers say.
@@ -135,9 +122,7 @@ fn cut(s: &[u8], p: Part) -> &[u8]
     requires { p.offset + p.length ≤ length s.now }
     ensures { PartOf s.entry result (take p.length (drop p.offset s.now)) p.offset }
 {
-    let a = p.offset;
-    let z = a + p.length;
-    &s[a..z]
+    &s[p.offset..p.offset + p.length]
 }
 
 // The body of region k, counted from 0.

@@ -1,16 +1,14 @@
 // An address range of a memory, as a run of sheet bytes.
-ghost use Rattle.std.specs.Prelude.{◌≡◌, ◌+◌, ◌-◌, ◌<◌, ◌≤◌, min, length};
+ghost use Rattle.std.specs.Prelude.{◌≡◌, ◌+◌, ◌-◌, ◌<◌, ◌≤◌, length};
 ghost use Rattle.sheet.specs.Layout.{◌of◌};
 ghost use Rattle.sheet.specs.Region as region;
-ghost use Rattle.sheet.specs.Rules.{Accepted};
 ghost use Rattle.sheet.specs.Lookup.{common as commonOf, range_of};
-ghost use Rattle.sheet.specs.Kind.{kinds};
-ghost use Rattle.sheet.specs.Walk.{Holds, Onward};
+ghost use Rattle.sheet.specs.Kind.{number_of, kind_of};
+ghost use Rattle.sheet.specs.Walk.{Onward};
 
-use crate::layout::{kind, region};
-use crate::lookup::lower;
+use crate::layout::region;
 use crate::table::{entry, many};
-use crate::{Memory, Run};
+use crate::{Kind, Memory, Run, Sheet};
 use octets::{byte, word};
 
 // Where the region of entry e ends.
@@ -18,7 +16,7 @@ fn end_of(e: &[u8]) -> usize
     requires { region.size ≤ length e.now }
     ensures { (result ≡ region.address of e.now + region.length of e.now) × (result < 131072) }
 {
-    word(e, region::ADDRESS) + word(e, region::LENGTH)
+    word(e, region::ADDRESS) as usize + word(e, region::LENGTH) as usize
 }
 
 // Where address a of that region stands.
@@ -26,90 +24,83 @@ fn place_in(e: &[u8], a: usize) -> usize
     requires { (region.size ≤ length e.now) × (region.address of e.now ≤ a) × (a < 65536) }
     ensures { result ≡ region.offset of e.now + (a - region.address of e.now) }
 {
-    word(e, region::OFFSET) + (a - word(e, region::ADDRESS))
+    word(e, region::OFFSET) as usize + (a - word(e, region::ADDRESS) as usize)
 }
 
-fn smaller(a: usize, b: usize) -> usize
-    ensures { result ≡ min a b }
+// The rights that two bytes of levels have in common: of each half the smaller.
+#[tactic(auto, unfolding(crate::specs::Lookup::common))]
+fn common(l: u8, k: u8) -> u8
+    ensures { result ≡ commonOf l k }
 {
-    if a < b { a } else { b }
+    (l / 16).min(k / 16) * 16 + (l % 16).min(k % 16)
 }
 
-// The rights that two bytes of levels have in common.
-fn common(l: usize, k: usize) -> usize
-    requires { (l < 256) × (k < 256) }
-    ensures { (result ≡ commonOf l k) × (result < 256) }
-{
-    smaller(l / 16, k / 16) * 16 + smaller(l % 16, k % 16)
-}
-
-// The kind of entry that a memory's regions are.
-fn kind_of(m: Memory) -> usize
-    ensures { Holds m result }
-{
-    match m {
-        Memory::Device => kind::REGIONS,
-        Memory::User => kind::USERS,
+impl Memory {
+    // The kind of entry that its regions are.
+    fn kind(self) -> Kind
+        ensures { number_of result ≡ kind_of self }
+    {
+        match self {
+            Memory::Device => Kind::Regions,
+            Memory::User => Kind::Users,
+        }
     }
 }
 
-// How far a run has come, and the rights that hold of all of it; an end of 0 if it comes no further.
+// How far a run has come, and the rights that hold of all of it.
 #[derive(Clone, Copy)]
 struct Reach {
     end: usize,
-    levels: usize,
+    levels: u8,
 }
 
-// A run that has come to `end` under `levels`, and on through region i: that one must begin there.
-fn next(s: &[u8], k: usize, i: usize, end: usize, levels: usize) -> Reach
-    requires { Accepted s.now × (k < kinds) × (0 < end) × (levels < 256) }
-    ensures { Onward s.now k i end levels result }
-{
-    if many(s, k) <= i {
-        return Reach { end: 0, levels: 0 };
-    }
-    let e = entry(s, k, i);
-    if word(e, region::ADDRESS) != end {
-        return Reach { end: 0, levels: 0 };
-    }
-    Reach {
-        end: end_of(e),
-        levels: common(levels, byte(e, region::LEVELS)),
-    }
-}
-
-// The run of sheet bytes that the n addresses from a on of a memory are: the search by halves gives the first region, and as long
-// as the range goes on, the next one must begin where the last one ends.
-pub fn range(s: &[u8], m: Memory, address: usize, n: usize) -> Run
-    requires { Accepted s.now × (address < 65536) × (n < 256) }
-    ensures { result ≡ range_of s.now m address n }
-{
-    if n == 0 {
-        return Run::Nowhere;
-    }
-    let k = kind_of(m);
-    let mut i = lower(s, k, address + 1);
-    if i == 0 {
-        return Run::Nowhere;
-    }
-    let e = entry(s, k, i - 1);
-    let mut end = end_of(e);
-    if end <= address {
-        return Run::Nowhere;
-    }
-    let offset = place_in(e, address);
-    let mut levels = byte(e, region::LEVELS);
-    while end < address + n {
-        let reach = next(s, k, i, end, levels);
-        if reach.end == 0 {
-            return Run::Nowhere;
+impl Sheet<'_> {
+    // A run that has come to `end` under `levels`, and on through region i: that one must begin there.
+    fn next(self, kind: Kind, i: usize, end: usize, levels: u8) -> Option<Reach>
+        requires { 0 < end }
+        ensures { Onward self.entry.bytes.now (number_of kind) i end levels result }
+    {
+        if many(self.bytes, kind) <= i {
+            return None;
         }
-        end = reach.end;
-        levels = reach.levels;
-        i += 1;
+        let e = entry(self.bytes, kind, i);
+        if word(e, region::ADDRESS) as usize != end {
+            return None;
+        }
+        Some(Reach {
+            end: end_of(e),
+            levels: common(levels, byte(e, region::LEVELS)),
+        })
     }
-    Run::At {
-        offset: offset,
-        levels: levels as u8,
+
+    // The run of sheet bytes that the n addresses from a on of a memory are: the search by halves gives the first region, and as long
+    // as the range goes on, the next one must begin where the last one ends.
+    pub fn range(self, memory: Memory, address: usize, n: usize) -> Option<Run>
+        requires { (address < 65536) × (n < 256) }
+        ensures { result ≡ range_of self.entry.bytes.now memory address n }
+    {
+        if n == 0 {
+            return None;
+        }
+        let kind = memory.kind();
+        let mut i = self.lower(kind, address + 1);
+        if i == 0 {
+            return None;
+        }
+        let e = entry(self.bytes, kind, i - 1);
+        let mut end = end_of(e);
+        if end <= address {
+            return None;
+        }
+        let offset = place_in(e, address);
+        let mut levels = byte(e, region::LEVELS);
+        // No count: it goes on until the range's end is reached.
+        while end < address + n {
+            let reach = self.next(kind, i, end, levels)?;
+            end = reach.end;
+            levels = reach.levels;
+            i += 1;
+        }
+        Some(Run { offset, levels })
     }
 }

@@ -1,58 +1,16 @@
 // The entries of an accepted sheet as records, and properties by their index within an object.
 ghost use Rattle.std.specs.Prelude.{◌≡◌, ◌+◌, ◌<◌, ◌≤◌};
-ghost use Rattle.sheet.specs.Kind.{kinds, properties, groups};
+ghost use Rattle.sheet.specs.Kind.{number_of, properties, groups};
 ghost use Rattle.sheet.specs.Property as property;
 ghost use Rattle.sheet.specs.Entries.{count as count_of};
-ghost use Rattle.sheet.specs.Rules.{Accepted};
-ghost use Rattle.sheet.specs.Lookup.{object_at, rank as rank_of, nth_of};
+ghost use Rattle.sheet.specs.Lookup.{Finds, object_at, rank as rank_of, nth_of};
 ghost use Rattle.sheet.specs.Places.{PropertyIn, GroupIn};
 ghost use Rattle.sheet.specs.Walk.{Entry, Counted};
 
-use crate::layout::{group, kind, property};
-use crate::lookup::lower;
+use crate::layout::{group, property};
 use crate::table::{entry, many, place};
-use crate::{GroupEntry, PropertyEntry};
+use crate::{GroupEntry, Kind, PropertyEntry, Sheet};
 use octets::{byte, word};
-
-// How many entries of a kind there are.
-pub fn count(s: &[u8], k: usize) -> usize
-    requires { Accepted s.now × (k < kinds) }
-    ensures { Counted s.now k result }
-{
-    many(s, k)
-}
-
-// Property i.
-pub fn property_entry(s: &[u8], i: usize) -> PropertyEntry
-    requires { Accepted s.now × (i < count_of s.now properties) }
-    ensures { PropertyIn s.now i result }
-{
-    let e = entry(s, kind::PROPERTIES, i);
-    PropertyEntry {
-        object: byte(e, property::OBJECT) as u8,
-        id: byte(e, property::ID) as u8,
-        typ: byte(e, property::TYPE) as u8,
-        element: byte(e, property::ELEMENT),
-        maximum: word(e, property::MAXIMUM),
-        count: word(e, property::COUNT),
-        offset: word(e, property::OFFSET),
-        levels: byte(e, property::LEVELS) as u8,
-        place: place(s, kind::PROPERTIES, i),
-    }
-}
-
-// Group object i.
-pub fn group_entry(s: &[u8], i: usize) -> GroupEntry
-    requires { Accepted s.now × (i < count_of s.now groups) }
-    ensures { GroupIn s.now i result }
-{
-    let e = entry(s, kind::GROUPS, i);
-    GroupEntry {
-        code: byte(e, group::CODE),
-        flags: byte(e, group::FLAGS) as u8,
-        offset: word(e, group::OFFSET),
-    }
-}
 
 // Where the count of a property stands whose entry stands at a place.
 pub fn count_at(place: usize) -> usize
@@ -63,40 +21,79 @@ pub fn count_at(place: usize) -> usize
 }
 
 // The object of property i.
-fn object_at(s: &[u8], i: usize) -> usize
+fn object_at(s: &[u8], i: usize) -> u8
     requires { Entry s.now properties i }
     ensures { result ≡ object_at s.now i }
 {
-    byte(entry(s, kind::PROPERTIES, i), property::OBJECT)
+    byte(entry(s, Kind::Properties, i), property::OBJECT)
 }
 
-// How many of the first i properties have an object: its properties stand side by side.
-pub fn rank(s: &[u8], object: u8, i: usize) -> usize
-    requires { Accepted s.now × (i ≤ count_of s.now properties) }
-    ensures { result ≡ rank_of s.now object i }
-{
-    let first = lower(s, kind::PROPERTIES, object as usize * 256);
-    if i <= first {
-        return 0;
+impl Sheet<'_> {
+    // How many entries of a kind there are.
+    #[tactic(auto, using(crate::proofs::searches::SearchLoops::ok_framed))]
+    pub fn count(self, kind: Kind) -> usize
+        ensures { Counted self.entry.bytes.now (number_of kind) result }
+    {
+        many(self.bytes, kind)
     }
-    if object_at(s, i - 1) == object as usize {
-        return i - first;
-    }
-    lower(s, kind::PROPERTIES, object as usize * 256 + 256) - first
-}
 
-// The property of an object by its index, counted from 0 within the object, and the count where there is none.
-pub fn nth(s: &[u8], object: u8, index: u8) -> usize
-    requires { Accepted s.now }
-    ensures { result ≡ nth_of s.now object index }
-{
-    let n = many(s, kind::PROPERTIES);
-    let i = lower(s, kind::PROPERTIES, object as usize * 256) + index as usize;
-    if n <= i {
-        return n;
+    // Property i.
+    pub fn property(self, i: usize) -> PropertyEntry
+        requires { i < count_of self.bytes.now properties }
+        ensures { PropertyIn self.entry.bytes.now i result }
+    {
+        let e = entry(self.bytes, Kind::Properties, i);
+        PropertyEntry {
+            object: byte(e, property::OBJECT),
+            id: byte(e, property::ID),
+            typ: byte(e, property::TYPE),
+            element: byte(e, property::ELEMENT) as usize,
+            maximum: word(e, property::MAXIMUM) as usize,
+            count: word(e, property::COUNT) as usize,
+            offset: word(e, property::OFFSET) as usize,
+            levels: byte(e, property::LEVELS),
+            place: place(self.bytes, Kind::Properties, i),
+        }
     }
-    if object_at(s, i) == object as usize {
-        return i;
+
+    // Group object i.
+    pub fn group(self, i: usize) -> GroupEntry
+        requires { i < count_of self.bytes.now groups }
+        ensures { GroupIn self.entry.bytes.now i result }
+    {
+        let e = entry(self.bytes, Kind::Groups, i);
+        GroupEntry {
+            code: byte(e, group::CODE) as usize,
+            flags: byte(e, group::FLAGS),
+            offset: word(e, group::OFFSET) as usize,
+        }
     }
-    n
+
+    // How many of the first i properties have an object: its properties stand side by side.
+    pub fn rank(self, object: u8, i: usize) -> usize
+        requires { i ≤ count_of self.bytes.now properties }
+        ensures { result ≡ rank_of self.entry.bytes.now object i }
+    {
+        let first = self.lower(Kind::Properties, object as usize * 256);
+        if i <= first {
+            return 0;
+        }
+        if object_at(self.bytes, i - 1) == object {
+            return i - first;
+        }
+        self.lower(Kind::Properties, object as usize * 256 + 256) - first
+    }
+
+    // The property of an object by its index, counted from 0 within the object.
+    pub fn nth(self, object: u8, index: u8) -> Option<usize>
+        ensures { Finds (count_of self.entry.bytes.now properties) (nth_of self.entry.bytes.now object index) result }
+    {
+        let n = self.count(Kind::Properties);
+        let i = self.lower(Kind::Properties, object as usize * 256) + index as usize;
+        if i < n && object_at(self.bytes, i) == object {
+            Some(i)
+        } else {
+            None
+        }
+    }
 }

@@ -1,117 +1,109 @@
 // The names of a sheet's fields: where each stands, by 01's layout.
-use crate::draft::{Draft, GROUPS, PROPERTIES, REGIONS, place};
-use lines::{before, beyond, number, piece, rest, starts};
+use crate::draft::{Draft, Kind};
+use lines::{number, parted};
 
-// So many bytes from a place on; no bytes are no field.
+// A field of one byte or of two.
 #[derive(Clone, Copy)]
-pub struct Field {
-    pub at: usize,
-    pub width: usize,
+pub(crate) enum Field {
+    Byte(usize),
+    Word(usize),
 }
 
-fn none() -> Field {
-    Field { at: 0, width: 0 }
-}
+use Field::{Byte, Word};
 
-// A field of a row, `NAME,PLACE,WIDTH`.
-fn read_field(text: &[u8]) -> Field {
-    if text.len() == 0 {
-        return none();
-    }
-    Field {
-        at: (number(piece(text, 1, b',')) % 64) as usize,
-        width: (number(piece(text, 2, b',')) % 4) as usize,
+impl Field {
+    // The field as it stands so much further on.
+    fn behind(self, from: usize) -> Option<Field> {
+        match self {
+            Byte(at) => from.checked_add(at).map(Byte),
+            Word(at) => from.checked_add(at).map(Word),
+        }
     }
 }
 
-// The field of a name in a row.
-fn in_row(row: &[u8], name: &[u8]) -> Field {
-    read_field(piece(row, lines::named(row, b' ', b',', name), b' '))
-}
-
-fn head(name: &[u8]) -> Field {
-    in_row(
-        b"edition,0,1 regions,1,1 properties,2,1 groups,3,1 stated,4,2 flags,14,1 zero15,15,1 rules,30,1 zero31,31,1",
-        name,
-    )
-}
-
-fn of_region(name: &[u8]) -> Field {
-    in_row(
-        b"address,0,2 length,2,2 offset,4,2 levels,6,1 zero7,7,1",
-        name,
-    )
-}
-
-fn of_property(name: &[u8]) -> Field {
-    in_row(
-        b"object,0,1 id,1,1 type,2,1 size,3,1 maximum,4,2 count,6,2 offset,8,2 levels,10,1 zero11,11,1",
-        name,
-    )
-}
-
-fn of_group(name: &[u8]) -> Field {
-    in_row(
-        b"address,0,2 code,2,1 flags,3,1 offset,4,2 zero6,6,1 zero7,7,1",
-        name,
-    )
-}
-
-// A field of entry i of a kind that has n entries.
-fn of_entry(d: Draft, kind: usize, n: usize, i: u64, f: Field) -> Field {
-    if n as u64 <= i {
-        return none();
-    }
-    Field {
-        at: place(d, kind, i as usize) + f.at % 16,
-        width: f.width,
+fn head(name: &[u8]) -> Option<Field> {
+    match name {
+        b"edition" => Some(Byte(0)),
+        b"regions" => Some(Byte(1)),
+        b"properties" => Some(Byte(2)),
+        b"groups" => Some(Byte(3)),
+        b"stated" => Some(Word(4)),
+        b"flags" => Some(Byte(14)),
+        b"zero15" => Some(Byte(15)),
+        b"rules" => Some(Byte(30)),
+        b"zero31" => Some(Byte(31)),
+        _ => None,
     }
 }
 
-// `region0.length` and the like.
-fn entry(d: Draft, owner: &[u8], name: &[u8]) -> Field {
-    if starts(owner, b"region") {
-        return of_entry(
-            d,
-            REGIONS,
-            d.regions,
-            number(rest(owner, 6)),
-            of_region(name),
-        );
-    }
-    if starts(owner, b"property") {
-        return of_entry(
-            d,
-            PROPERTIES,
-            d.properties,
-            number(rest(owner, 8)),
-            of_property(name),
-        );
-    }
-    if starts(owner, b"group") {
-        return of_entry(d, GROUPS, d.groups, number(rest(owner, 5)), of_group(name));
-    }
-    none()
-}
-
-// `@40`, a byte by its place.
-fn byte_at(i: u64) -> Field {
-    if 65535 < i {
-        return none();
-    }
-    Field {
-        at: i as usize,
-        width: 1,
+fn of_region(name: &[u8]) -> Option<Field> {
+    match name {
+        b"address" => Some(Word(0)),
+        b"length" => Some(Word(2)),
+        b"offset" => Some(Word(4)),
+        b"levels" => Some(Byte(6)),
+        b"zero7" => Some(Byte(7)),
+        _ => None,
     }
 }
 
-pub(crate) fn named(d: Draft, name: &[u8]) -> Field {
-    if starts(name, b"@") {
-        return byte_at(number(rest(name, 1)));
+fn of_property(name: &[u8]) -> Option<Field> {
+    match name {
+        b"object" => Some(Byte(0)),
+        b"id" => Some(Byte(1)),
+        b"type" => Some(Byte(2)),
+        b"size" => Some(Byte(3)),
+        b"maximum" => Some(Word(4)),
+        b"count" => Some(Word(6)),
+        b"offset" => Some(Word(8)),
+        b"levels" => Some(Byte(10)),
+        b"zero11" => Some(Byte(11)),
+        _ => None,
     }
-    let field = beyond(name, b'.');
-    if field.len() == 0 {
-        return head(name);
+}
+
+fn of_group(name: &[u8]) -> Option<Field> {
+    match name {
+        b"address" => Some(Word(0)),
+        b"code" => Some(Byte(2)),
+        b"flags" => Some(Byte(3)),
+        b"offset" => Some(Word(4)),
+        b"zero6" => Some(Byte(6)),
+        b"zero7" => Some(Byte(7)),
+        _ => None,
     }
-    entry(d, before(name, b'.'), field)
+}
+
+impl Draft {
+    // A field of the entry of a kind that has that number, of n entries.
+    fn of_entry(&self, kind: Kind, n: u8, i: &[u8], field: Field) -> Option<Field> {
+        let i = number(i)?;
+        if n <= i {
+            return None;
+        }
+        field.behind(self.place(kind, i))
+    }
+
+    // `region0.length` and the like.
+    fn entry(&self, owner: &[u8], name: &[u8]) -> Option<Field> {
+        if let Some(i) = owner.strip_prefix(b"region") {
+            return self.of_entry(Kind::Regions, self.regions, i, of_region(name)?);
+        }
+        if let Some(i) = owner.strip_prefix(b"property") {
+            return self.of_entry(Kind::Properties, self.properties, i, of_property(name)?);
+        }
+        let i = owner.strip_prefix(b"group")?;
+        self.of_entry(Kind::Groups, self.groups, i, of_group(name)?)
+    }
+
+    // The field of a name; `@40` is a byte by its place.
+    pub(crate) fn field(&self, name: &[u8]) -> Option<Field> {
+        if let Some(place) = name.strip_prefix(b"@") {
+            return number(place).map(Byte);
+        }
+        match parted(name, b'.') {
+            (_, b"") => head(name),
+            (owner, field) => self.entry(owner, field),
+        }
+    }
 }

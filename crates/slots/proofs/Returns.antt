@@ -1,7 +1,6 @@
--- Where the functions return: what their tests and callees have given is what the definitions say. Assumes nothing.
-use Rattle.octets.proofs.Kit.{ℕ, ◌+◌, ◌≤◌, ◌<◌, ◌≡◌, sym, ap, ◌∙◌, List, length, lt-ltb, le-ltb, eq-eqb, ne_eqb}
-use Rattle.octets.specs.Splice.{splice}
-use Rattle.slots.specs.{Slot.{longest, next_of, newer_of, target_of}, Saving.{refused, work_of, unit_of, WorksAs}, declared.{Slot.Slot, Work.Work}}
+-- Which of two slots is the newer, and where a save goes, case by case. Assumes nothing.
+use Rattle.octets.proofs.Kit.{ℕ, ◌≡◌, sym, ◌∙◌, eq-eqb, ne_eqb}
+use Rattle.slots.specs.{Slot.{next_of, newer_of, target_of}, declared.Slot.Slot}
 
 module _ (a b : Slot) where
   pub neither : (a.refusal ≡ 0 → ⊥) → (b.refusal ≡ 0 → ⊥) → 2 ≡ newer_of a b
@@ -37,30 +36,3 @@ module _ (a b : Slot) where
     pub to_none_lem : (at ≡ 0 → ⊥) → (at ≡ 1 → ⊥) → record { slot = 0; number = 0 } ≡ target_of a b
     unfolding target_of
     to_none_lem g h = simp (ne_eqb (newer_of a b) 0 (λ z. g (is ∙ z)), ne_eqb (newer_of a b) 1 (λ z. h (is ∙ z)))
-
--- a piece of work is refused
-module _ (k buffer room long : ℕ) (r : Work) where
-  pub no_buffer : buffer < 32 → r ≡ refused 85 → r ≡ work_of k buffer room long
-  unfolding work_of
-  no_buffer h e = rw (lt-ltb buffer 32 h) e
-
-  module _ (h : 32 ≤ buffer) where
-    pub too_much : longest < long → r ≡ refused 86 → r ≡ work_of k buffer room long
-    unfolding work_of
-    too_much l e = rw (le-ltb buffer 32 h, lt-ltb longest long l) e
-
-    pub too_small : long ≤ longest → room < 64 + long → r ≡ refused 86 → r ≡ work_of k buffer room long
-    unfolding work_of
-    too_small l m e = rw (le-ltb buffer 32 h, le-ltb longest long l, lt-ltb room (64 + long) m) e
-
-pub works_writing :
-    (k n : ℕ) (t : List ℕ) (room : ℕ) (o o' : List ℕ) (w : Work) → w ≡ work_of k (length o) room (length t) → w.work ≡ 1 →
-    o' ≡ splice o 0 (unit_of k n t) → WorksAs k n t room o w o'
-works_writing k n t room o o' w e h f =
-    record { work = e; bytes = f ∙ sym (simp (eq-eqb (work_of k (length o) room (length t)).work 1 (ap (λ (x : Work). x.work) (sym e) ∙ h))) }
-
-pub works_other :
-    (k n : ℕ) (t : List ℕ) (room : ℕ) (o o' : List ℕ) (w : Work) → w ≡ work_of k (length o) room (length t) → (w.work ≡ 1 → ⊥) →
-    o' ≡ o → WorksAs k n t room o w o'
-works_other k n t room o o' w e h f =
-    record { work = e; bytes = f ∙ sym (simp (ne_eqb (work_of k (length o) room (length t)).work 1 (λ z. h (ap (λ (x : Work). x.work) e ∙ z)))) }

@@ -1,7 +1,7 @@
--- What `head`, `unit` and `next_work` return. Assumes nothing.
-use Rattle.octets.proofs.Kit.{ℕ, ◌-◌, ◌≤◌, ◌≡◌, refl, sym, ap, ◌∙◌, List, [], ◌∷◌, ◌++◌, arith, length, take, drop, replicate, eq-eqb, ne_eqb}
-use Rattle.octets.{specs.{Bytes.bytes_of, Splice.splice}, proofs.{Splices.splice_front, Walks.by_lt}}
-use Rattle.slots.specs.{Crc.{ones, crc_from, crc_of}, Slot.{longest, tail_of, head_of}, Saving.{work_of, unit_of}, declared.Work.Work}
+-- The head, and the unit that marks a slot, field by field. Assumes nothing.
+use Rattle.octets.proofs.Kit.{ℕ, ◌-◌, ◌≡◌, refl, sym, ap, ◌∙◌, List, [], ◌∷◌, ◌++◌, length, take, drop, replicate, ne_eqb}
+use Rattle.octets.{specs.{Bytes.bytes_of, Splice.splice}, proofs.{Splices.splice_front}}
+use Rattle.slots.specs.{Crc.{ones, crc_from, crc_of}, Slot.{tail_of, head_of}, Saving.{unit_of}}
 use Rattle.slots.proofs.promises.Crcs.{crc_append}
 
 -- THE HEAD, field by field
@@ -30,16 +30,8 @@ head_made n t h₀ h₁ h₂ h₃ c d e₀ e₁ e₂ f g e₃ =
     ∙ sum_made n (length t) (ones - d)
     ∙ ap (λ (k : ℕ). bytes_of 4 (ones - k) ++ tail_of n (length t)) p
 
--- THE UNITS
+-- THE MARK'S UNIT
 module _ (k n : ℕ) (t o o' : List ℕ) where
-  pub unit_blank : k ≡ 0 → o' ≡ splice o 0 (replicate 32 0) → o' ≡ splice o 0 (unit_of k n t)
-  unfolding unit_of
-  unit_blank h e = rw (eq-eqb k 0 h) e
-
-  pub unit_head : (h : List ℕ) → (k ≡ 0 → ⊥) → k ≡ 2 → h ≡ head_of n t → o' ≡ splice o 0 h → o' ≡ splice o 0 (unit_of k n t)
-  unfolding unit_of
-  unit_head h g e f d = rw (ne_eqb k 0 g, eq-eqb k 2 e) (d ∙ ap (splice o 0) f)
-
   pub unit_mark :
       (x : List ℕ) → (k ≡ 0 → ⊥) → (k ≡ 2 → ⊥) → x ≡ splice o 0 (replicate 32 255) → o' ≡ splice x 0 (75 ∷ 69 ∷ 76 ∷ 73 ∷ 78 ∷ 68 ∷ []) →
       o' ≡ splice o 0 (unit_of k n t)
@@ -50,12 +42,3 @@ module _ (k n : ℕ) (t o o' : List ℕ) where
       ∙ ap (λ (l : List ℕ). splice l 0 (75 ∷ 69 ∷ 76 ∷ 73 ∷ 78 ∷ 68 ∷ [])) (e ∙ splice_front o (replicate 32 255))
       ∙ splice_front (replicate 32 255 ++ drop 32 o) (75 ∷ 69 ∷ 76 ∷ 73 ∷ 78 ∷ 68 ∷ [])
       ∙ sym (splice_front o (75 ∷ 69 ∷ 76 ∷ 73 ∷ 78 ∷ 68 ∷ replicate 26 255)))
-
--- a piece that is not refused
-pub work_fits : (k buffer room long : ℕ) (w : Work) → w ≡ work_of k buffer room long → w.work ≡ 1 → (long ≤ longest) × (32 ≤ buffer)
-unfolding work_of
-work_fits k buffer room long w e h =
-    by_lt (λ (z : Work). z.work ≡ 1 → (long ≤ longest) × (32 ≤ buffer)) buffer 32 _ _
-    (λ a z. absurd (omega arith))
-    (λ a. by_lt (λ (z : Work). z.work ≡ 1 → (long ≤ longest) × (32 ≤ buffer)) longest long _ _ (λ b z. absurd (omega arith)) (λ b z. (b, a)))
-    (ap (λ (z : Work). z.work) (sym e) ∙ h)

@@ -2,6 +2,8 @@ pub mod Crc
 pub mod Slot
 pub mod Parts
 pub mod Saving
+pub mod Refusal
+pub mod Choosing
 pub mod Medium
 pub mod Lives
 pub mod Host

@@ -3,6 +3,14 @@ use Rattle.std.specs.Prelude.{ℕ, ◌+◌, ◌≡◌, List, cond, ltb, eqb, len
 use Rattle.octets.specs.Splice.{splice}
 use Rattle.slots.specs.Slot.{longest, head_at, sheet_at, mark_unit, blank_unit, head_of}
 use Rattle.slots.specs.declared.Work.{Work}
+use Rattle.slots.specs.declared.saving.Kind.{Kind}
+use Rattle.slots.specs.declared.saving.Kind.TheVariants.{Write, Erase, Sheet}
+
+-- a kind of work by number
+abbrev pub kind_number : Kind → ℕ
+kind_number Write = 1
+kind_number Erase = 2
+kind_number Sheet = 3
 
 -- no work left; the bytes of the buffer; an erase; the sheet; refused
 abbrev pub done : Work

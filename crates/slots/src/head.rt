@@ -2,11 +2,8 @@
 ghost use Rattle.std.specs.Prelude.{◌≡◌, ◌≤◌, length};
 ghost use Rattle.slots.specs.Slot.{head_of, longest};
 
-use crate::crc::update;
+use crate::crc::{ONES, update};
 use octets::put;
-
-// The check sum before the first byte; all bits of it are turned at the end.
-const ONES: u32 = 4294967295;
 
 // The head of a slot that holds the sheet under a number.
 pub fn head(number: u32, sheet: &[u8]) -> [u8; 32]

@@ -6,17 +6,26 @@ mod choosing;
 mod crc;
 mod head;
 mod parts;
+mod refusal;
 mod saving;
 mod whole;
 
 pub use choosing::{aim, newer};
 pub use parts::{begin, end, more};
+pub use refusal::Refusal;
 pub use saving::next_work;
 pub use whole::judge;
 
+// The longest sheet, and where it stands in a slot.
+const LONGEST: usize = 32768;
+
+const SHEET_AT: usize = 64;
+
+// The four structs have C's layout (include/kelindap_slots.h), in which a refusal is a number beside the values and 0 says none.
+
 // Why a slot holds no sheet, or 0; and of a sheet its number, its place in the slot and its length.
 #[repr(C)]
-#[derive(Clone, Copy)]
+#[derive(Clone, Copy, Default)]
 pub struct Slot {
     pub refusal: u8,
     pub number: u32,
@@ -27,7 +36,7 @@ pub struct Slot {
 // A slot that is handed over in parts: why it is refused already, or 0; number, length and check sum as its head states them, how
 // many bytes of the sheet are still to come, and the check sum of those that came.
 #[repr(C)]
-#[derive(Clone, Copy)]
+#[derive(Clone, Copy, Default)]
 pub struct Judging {
     pub refusal: u8,
     pub number: u32,
@@ -48,7 +57,7 @@ pub struct Target {
 // A piece of work: why there is none, or 0; 0 none is left, 1 write the bytes of the buffer, 2 erase, 3 write the sheet; from which
 // byte of the slot on, and how many.
 #[repr(C)]
-#[derive(Clone, Copy)]
+#[derive(Clone, Copy, Default)]
 pub struct Work {
     pub refusal: u8,
     pub work: u8,

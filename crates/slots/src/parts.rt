@@ -1,115 +1,90 @@
 // A slot judged in parts: its first 64 bytes, then the sheet in runs of any length.
-ghost use Rattle.std.specs.Prelude.{◌≡◌, ◌+◌, ◌≤◌, ◌<◌, length};
-ghost use Rattle.slots.specs.Slot.{bad};
-ghost use Rattle.slots.specs.Parts.{barred, gone_on, begin_of, more_of, end_of};
+ghost use Rattle.std.specs.Prelude.{◌≡◌, ◌+◌, ◌≤◌, ◌<◌, ◌≢◌, length};
+ghost use Rattle.slots.specs.Parts.{begin_of, more_of, end_of};
+ghost use Rattle.slots.specs.Refusal.{front_flat, slot_flat};
 
-use crate::crc::update;
-use crate::{Judging, Slot};
+use crate::crc::{ONES, update};
+use crate::{Judging, LONGEST, Refusal, SHEET_AT, Slot};
 use octets::number;
 
 // KELIND in ASCII.
 const MARK: u64 = 82761004699204;
 
-// The check sum before the first byte; all bits of it are turned at the end.
-const ONES: u32 = 4294967295;
-
-fn barred_by(refusal: u8) -> Judging
-    ensures { result ≡ barred refusal }
+// What a slot's front says of its sheet.
+#[tactic(auto, unfolding(crate::specs::Parts::begin_of, crate::specs::Slot::marked))]
+fn front_of(front: &[u8], room: usize) -> Result<Judging, Refusal>
+    ensures { front_flat result ≡ begin_of front.now room }
 {
-    Judging {
-        refusal,
-        number: 0,
-        length: 0,
-        left: 0,
-        stated: 0,
-        sum: 0,
-    }
-}
-
-// The front of a slot with this room: 80 too short, 81 no mark, 82 a length that does not fit, 0 a sheet is to come.
-pub fn begin(front: &[u8], room: usize) -> Judging
-    ensures { result ≡ begin_of front.now room }
-{
-    if room < 64 {
-        return barred_by(80);
-    }
-    if front.len() < 64 {
-        return barred_by(80);
+    if room < SHEET_AT || front.len() < SHEET_AT {
+        return Err(Refusal::Short);
     }
     if number(front, 0, 6) != MARK {
-        return barred_by(81);
+        return Err(Refusal::Unmarked);
     }
     let long = number(front, 40, 4) as u32;
-    if 32768 < long {
-        return barred_by(82);
+    if LONGEST < long as usize || room < SHEET_AT + long as usize {
+        return Err(Refusal::Length);
     }
-    if room < 64 + (long as usize) {
-        return barred_by(82);
-    }
-    Judging {
+    Ok(Judging {
         refusal: 0,
         number: number(front, 36, 4) as u32,
         length: long,
         left: long,
         stated: number(front, 32, 4) as u32,
         sum: update(ONES, &front[36..64]),
-    }
+    })
 }
 
-fn gone_on(j: Judging, left: u32, sum: u32) -> Judging
-    ensures { result ≡ gone_on j left sum }
+// The front of a slot with this room: refused, or a sheet is to come.
+pub fn begin(front: &[u8], room: usize) -> Judging
+    ensures { result ≡ begin_of front.now room }
 {
-    Judging {
-        refusal: j.refusal,
-        number: j.number,
-        length: j.length,
-        left,
-        stated: j.stated,
-        sum,
-    }
+    front_of(front, room).unwrap_or_else(Judging::from)
 }
 
 // The next bytes of the slot, of which those behind the sheet are passed over.
+#[tactic(auto, unfolding(crate::specs::Parts::more_of))]
 pub fn more(j: Judging, s: &[u8]) -> Judging
     ensures { result ≡ more_of j s.now }
 {
-    let left = j.left as usize;
-    if s.len() < left {
-        let c = update(j.sum, s);
-        return gone_on(j, j.left - (s.len() as u32), c);
+    let n = s.len().min(j.left as usize);
+    Judging {
+        left: j.left - n as u32,
+        sum: update(j.sum, &s[..n]),
+        ..j
     }
-    let c = update(j.sum, &s[0..left]);
-    gone_on(j, 0, c)
 }
 
-fn bad_by(refusal: u8) -> Slot
-    ensures { result ≡ bad refusal }
+// The sheet that a slot holds, of which no part was refused.
+#[tactic(auto, unfolding(crate::specs::Parts::end_of))]
+fn sheet_of(j: Judging) -> Result<Slot, Refusal>
+    requires { j.refusal ≡ 0 }
+    ensures { slot_flat result ≡ end_of j }
 {
-    Slot {
-        refusal,
-        number: 0,
-        offset: 0,
-        length: 0,
+    if j.left != 0 {
+        return Err(Refusal::Unread);
     }
+    if j.stated != ONES - j.sum {
+        return Err(Refusal::Sum);
+    }
+    Ok(Slot {
+        refusal: 0,
+        number: j.number,
+        offset: SHEET_AT,
+        length: j.length as usize,
+    })
 }
 
-// What the slot holds: its refusal, 83 bytes of the sheet are still to come, 84 another check sum, 0 a sheet.
+// What the slot holds. C may hand over a refusal of any number, so it stays one.
+#[tactic(auto, unfolding(crate::specs::Parts::end_of))]
 pub fn end(j: Judging) -> Slot
     ensures { result ≡ end_of j }
 {
     if j.refusal != 0 {
-        return bad_by(j.refusal);
+        return Slot {
+            refusal: j.refusal,
+            ..Slot::default()
+        };
     }
-    if j.left != 0 {
-        return bad_by(83);
-    }
-    if j.stated != ONES - j.sum {
-        return bad_by(84);
-    }
-    Slot {
-        refusal: 0,
-        number: j.number,
-        offset: 64,
-        length: j.length as usize,
-    }
+    sheet_of(j).unwrap_or_else(Slot::from)
 }

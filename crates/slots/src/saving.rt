@@ -2,109 +2,62 @@
 ghost use Rattle.std.specs.Prelude.{◌≡◌, ◌+◌, ◌≤◌, ◌<◌, length};
 ghost use Rattle.octets.specs.Splice.{splice as spliced};
 ghost use Rattle.slots.specs.Slot.{longest};
-ghost use Rattle.slots.specs.Saving.{refused, work_of, unit_of, WorksAs};
+ghost use Rattle.slots.specs.Saving.{kind_number, work_of, unit_of, WorksAs};
 
-use crate::Work;
 use crate::head::head;
+use crate::{LONGEST, Refusal, SHEET_AT, Work};
 use octets::{fill, splice};
 
-fn refused_by(refusal: u8) -> Work
-    ensures { result ≡ refused refusal }
-{
-    Work {
-        refusal,
-        work: 0,
-        at: 0,
-        count: 0,
-    }
+// The mark's unit and the head's.
+const UNIT: usize = 32;
+
+// The kinds of work, as C numbers them.
+#[derive(Clone, Copy)]
+enum Kind {
+    Write = 1,
+    Erase = 2,
+    Sheet = 3,
 }
 
-// By the number of the piece, the room of the buffer, the room of the slot and the length of the sheet.
-fn piece(k: u8, buffer: usize, room: usize, long: usize) -> Work
-    ensures { result ≡ work_of k buffer room long }
+// Work that is not refused.
+fn work(kind: Kind, at: usize, count: usize) -> Work
+    ensures { result ≡ record { refusal = 0; work = kind_number kind; at = at; count = count } }
 {
-    if buffer < 32 {
-        return refused_by(85);
-    }
-    if 32768 < long {
-        return refused_by(86);
-    }
-    if room < 64 + long {
-        return refused_by(86);
-    }
-    if k == 0 {
-        return Work {
-            refusal: 0,
-            work: 1,
-            at: 0,
-            count: 32,
-        };
-    }
-    if k == 1 {
-        return Work {
-            refusal: 0,
-            work: 2,
-            at: 0,
-            count: room,
-        };
-    }
-    if k == 2 {
-        return Work {
-            refusal: 0,
-            work: 1,
-            at: 32,
-            count: 32,
-        };
-    }
-    if k == 3 {
-        return Work {
-            refusal: 0,
-            work: 3,
-            at: 64,
-            count: long,
-        };
-    }
-    if k == 4 {
-        return Work {
-            refusal: 0,
-            work: 1,
-            at: 0,
-            count: 32,
-        };
-    }
     Work {
         refusal: 0,
-        work: 0,
-        at: 0,
-        count: 0,
+        work: kind as u8,
+        at,
+        count,
     }
 }
 
-// The bytes that a piece writes from the buffer.
-fn unit(k: u8, number: u32, sheet: &[u8], out: &mut [u8])
-    requires { (length sheet.now ≤ longest) × (32 ≤ length out.old) }
-    ensures { out.new ≡ spliced out.old 0 (unit_of k number sheet.now) }
-{
-    if k == 0 {
-        fill(out, 0, 32, 0);
-        return;
-    }
-    if k == 2 {
-        let h = head(number, sheet);
-        splice(out, 0, &h);
-        return;
-    }
-    fill(out, 0, 32, 255);
-    splice(out, 0, &[75, 69, 76, 73, 78, 68]);
-}
-
-// Piece k of saving the sheet under a number into a slot with this room.
+// Piece k of saving the sheet under a number into a slot with this room. C counts the pieces, so k is a number.
+#[tactic(auto, using(crate::proofs::Units::unit_mark), unfolding(crate::specs::Saving::work_of, crate::specs::Saving::piece_of, crate::specs::Saving::unit_of))]
 pub fn next_work(sheet: &[u8], number: u32, room: usize, k: u8, out: &mut [u8]) -> Work
     ensures { WorksAs k number sheet.now room out.old result out.new }
 {
-    let w = piece(k, out.len(), room, sheet.len());
-    if w.work == 1 {
-        unit(k, number, sheet, out);
+    if out.len() < UNIT {
+        return Refusal::Buffer.into();
     }
-    w
+    if LONGEST < sheet.len() || room < SHEET_AT + sheet.len() {
+        return Refusal::NoRoom.into();
+    }
+    match k {
+        0 => {
+            fill(out, 0, UNIT, 0);
+            work(Kind::Write, 0, UNIT)
+        }
+        1 => work(Kind::Erase, 0, room),
+        2 => {
+            splice(out, 0, &head(number, sheet));
+            work(Kind::Write, UNIT, UNIT)
+        }
+        3 => work(Kind::Sheet, SHEET_AT, sheet.len()),
+        4 => {
+            fill(out, 0, UNIT, 255);
+            splice(out, 0, b"KELIND");
+            work(Kind::Write, 0, UNIT)
+        }
+        _ => Work::default(),
+    }
 }

@@ -2,18 +2,17 @@
 ghost use Rattle.std.specs.Prelude.{◌≡◌, ◌+◌, ◌≤◌, ◌<◌, length};
 ghost use Rattle.slots.specs.Slot.{slot_of};
 
-use crate::Slot;
 use crate::parts::{begin, end, more};
+use crate::{SHEET_AT, Slot};
 
-// What a slot holds: 80 too short, 81 no mark, 82 a length that does not fit, 84 another check sum, 0 a sheet.
+// What a slot holds: refused, or a sheet.
+#[tactic(auto, using(crate::proofs::promises::Pieced::judged_short, crate::proofs::promises::Pieced::judged_whole))]
 pub fn judge(s: &[u8]) -> Slot
     ensures { result ≡ slot_of s.now }
 {
-    let n = s.len();
-    let j = begin(s, n);
-    if n < 64 {
-        return end(j);
+    let front = begin(s, s.len());
+    if s.len() < SHEET_AT {
+        return end(front);
     }
-    let k = more(j, &s[64..n]);
-    end(k)
+    end(more(front, &s[SHEET_AT..]))
 }

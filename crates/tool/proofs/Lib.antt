@@ -2,4 +2,3 @@
 pub mod promises
 pub mod Arms
 pub mod Framing
-pub mod PointLaws

@@ -1,22 +1,20 @@
 -- A PDU laid flat for C, and what reading and writing are in that form.
 use Rattle.std.specs.Prelude.{ℕ, suc, ◌-◌, ◌≡◌, cond, List, [], ◌∷◌, length, eqb, ltb}
-use Rattle.std.proofs.Math.Option.{Option, none, some}
+use Rattle.std.specs.Prelude.{Option, Some, None, Result, Ok, Err}
+use Rattle.pdu.specs.declared.ReadRefusal.{ReadRefusal}
+use Rattle.pdu.specs.declared.WriteRefusal.{WriteRefusal}
+use Rattle.pdu.specs.declared.WriteRefusal.TheVariants as unwritten
+use Rattle.std.proofs.Math.Option.{Option as Maybe, none, some}
 use Rattle.std.proofs.Math.ListN.{get_elem?}
 use Rattle.pdu.specs.Item.{Value, ◌≔◌, the, V6, Address, Serial, Domain, T, Object, Id, N, S, Index, Typ, Maximum, Access, Level, Key}
 use Rattle.pdu.specs.Table.{row_of, services}
 use Rattle.pdu.specs.Pdus.{service_of, values_of, pdu_of}
-use Rattle.pdu.specs.Read.{read_pdu, data_at}
+use Rattle.pdu.specs.Read.{read_number, read_pdu, data_at}
 use Rattle.pdu.specs.Write.{write_of, write_outcome, write_count, buffer_of}
 use Rattle.pdu.specs.declared.Service.{Service}
 use Rattle.pdu.specs.declared.Pdu.{Pdu}
-use Rattle.pdu.specs.declared.Parsed.{Parsed}
-use Rattle.pdu.specs.declared.Parsed.TheVariants.{Is, Refused}
-use Rattle.pdu.specs.declared.Written.{Written}
-use Rattle.pdu.specs.declared.Written.TheVariants.{Refused as Refuses}
 use Rattle.tool.specs.declared.FlatPdu.{FlatPdu}
 use Rattle.tool.specs.declared.FlatWritten.{FlatWritten}
-use Rattle.tool.specs.declared.Meant.{Meant}
-use Rattle.tool.specs.declared.Meant.TheVariants.{Known, Nothing}
 
 -- THE KIND OF A SERVICE: its place in the table, where its first code tells it from the others
 unfoldable pub place_in : List Service → Service → ℕ
@@ -85,9 +83,9 @@ refusal n =
     }
 
 -- WHAT READING GIVES
-abbrev pub flat_by : List ℕ → Parsed → FlatPdu
-flat_by b (Is p) = flat_of p b
-flat_by b (Refused n) = refusal n
+abbrev pub flat_by : List ℕ → Result Pdu ReadRefusal → FlatPdu
+flat_by b (Ok p) = flat_of p b
+flat_by b (Err e) = refusal (read_number e)
 
 unfoldable pub flat_read : List ℕ → FlatPdu
 flat_read b = flat_by b (read_pdu b)
@@ -113,29 +111,29 @@ fields_in f =
     []
 
 -- THE PDU THAT A FLAT ONE MEANS: of the service at the place of its kind, with its fields
-abbrev pub meant_as : Option Service → FlatPdu → Meant
-meant_as none f = Nothing
-meant_as (some k) f = Known (pdu_of k (fields_in f))
+abbrev pub meant_as : Maybe Service → FlatPdu → Option Pdu
+meant_as none f = None
+meant_as (some k) f = Some (pdu_of k (fields_in f))
 
-unfoldable pub meant_by : FlatPdu → Meant
+unfoldable pub meant_by : FlatPdu → Option Pdu
 meant_by f = meant_as (get_elem? services f.kind) f
 
--- WHAT WRITING GIVES: of an unknown kind 3, then 13
-abbrev pub unknown_kind : ℕ → Written
-unknown_kind room = cond (ltb room 16) (Refuses 3) (Refuses 13)
+-- WHAT WRITING GIVES: of an unknown kind the refusal of the room, then of the fields
+abbrev pub unknown_kind : ℕ → Result ℕ WriteRefusal
+unknown_kind room = cond (ltb room 16) (Err unwritten.Room) (Err unwritten.Fields)
 
-abbrev pub meant_write : Meant → List ℕ → List ℕ → Written
-meant_write (Known p) d o = write_of p d o
-meant_write Nothing d o = unknown_kind (length o)
+abbrev pub meant_write : Option Pdu → List ℕ → List ℕ → Result ℕ WriteRefusal
+meant_write (Some p) d o = write_of p d o
+meant_write None d o = unknown_kind (length o)
 
-abbrev pub meant_buffer : Meant → List ℕ → List ℕ → List ℕ
-meant_buffer (Known p) d o = buffer_of p d o (write_of p d o)
-meant_buffer Nothing d o = o
+abbrev pub meant_buffer : Option Pdu → List ℕ → List ℕ → List ℕ
+meant_buffer (Some p) d o = buffer_of p d o (write_of p d o)
+meant_buffer None d o = o
 
-abbrev pub flat_written : Written → FlatWritten
+abbrev pub flat_written : Result ℕ WriteRefusal → FlatWritten
 flat_written w = record { outcome = write_outcome w; count = write_count w }
 
-pub record FlatWrote (m : Meant) (d o : List ℕ) (r : FlatWritten) (e : List ℕ) : Type 0 where
+pub record FlatWrote (m : Option Pdu) (d o : List ℕ) (r : FlatWritten) (e : List ℕ) : Type 0 where
   pub result : r ≡ flat_written (meant_write m d o)
   pub buffer : e ≡ meant_buffer m d o
 

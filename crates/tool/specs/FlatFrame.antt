@@ -1,14 +1,14 @@
 -- A frame laid flat for C, and what reading and writing are in that form.
-use Rattle.std.specs.Prelude.{ℕ, ◌+◌, ◌≡◌, List, length}
+use Rattle.std.specs.Prelude.{ℕ, ◌+◌, ◌≡◌, List, length, Result, Ok, Err}
 use Rattle.cemi.specs.Layout.{octet6}
 use Rattle.cemi.specs.Read.{read_frame}
 use Rattle.cemi.specs.Meaning.{meaning_of, meaning_number}
 use Rattle.cemi.specs.Write.{write_of, write_outcome, write_count, buffer_of}
 use Rattle.cemi.specs.declared.Fields.{Fields}
 use Rattle.cemi.specs.declared.Frame.{Frame}
-use Rattle.cemi.specs.declared.Got.{Got}
-use Rattle.cemi.specs.declared.Got.TheVariants.{Is, Refused}
-use Rattle.cemi.specs.declared.Written.{Written}
+use Rattle.cemi.specs.Refusal.{read_number}
+use Rattle.cemi.specs.declared.ReadRefusal.{ReadRefusal}
+use Rattle.cemi.specs.declared.WriteRefusal.{WriteRefusal}
 use Rattle.tool.specs.declared.FlatFrame.{FlatFrame}
 use Rattle.tool.specs.declared.Framed.{Framed}
 
@@ -53,9 +53,9 @@ refused_frame n =
     }
 
 -- WHAT READING GIVES
-abbrev pub flat_got : Got → FlatFrame
-flat_got (Is f) = laid_frame f
-flat_got (Refused n) = refused_frame n
+abbrev pub flat_got : Result Frame ReadRefusal → FlatFrame
+flat_got (Ok f) = laid_frame f
+flat_got (Err e) = refused_frame (read_number e)
 
 unfoldable pub flat_frame : List ℕ → FlatFrame
 flat_frame b = flat_got (read_frame b)
@@ -73,10 +73,10 @@ fields_of f =
     }
 
 -- WHAT WRITING GIVES
-abbrev pub framed : Written → Framed
+abbrev pub framed : Result ℕ WriteRefusal → Framed
 framed w = record { count = write_count w; outcome = write_outcome w }
 
-abbrev pub frame_written : FlatFrame → List ℕ → List ℕ → List ℕ → Written
+abbrev pub frame_written : FlatFrame → List ℕ → List ℕ → List ℕ → Result ℕ WriteRefusal
 frame_written f i a o = write_of (fields_of f) (length i) (length a) (length o)
 
 pub record FrameWrote (f : FlatFrame) (i a o : List ℕ) (r : Framed) (e : List ℕ) : Type 0 where

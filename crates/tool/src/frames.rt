@@ -6,17 +6,17 @@ ghost use Rattle.cemi.specs.Write.{write_count};
 ghost use Rattle.tool.specs.FlatFrame.{laid_frame, refused_frame, flat_frame, fields_of, framed, FrameWrote};
 
 use crate::{FlatFrame, Framed};
-use cemi::{Fields, Frame, Got, Meaning, Written};
+use cemi::{Fields, Frame, Meaning, NoMeaning, WriteRefusal};
 
 // A meaning by its number.
-fn event_of(m: Meaning) -> u8
+fn event_of(m: Result<Meaning, NoMeaning>) -> u8
     ensures { result ≡ meaning_number m }
 {
     match m {
-        Meaning::Data(mode) => mode,
-        Meaning::Connect => 4,
-        Meaning::Disconnect => 5,
-        Meaning::Refused(n) => n,
+        Ok(Meaning::Data(mode)) => mode,
+        Ok(Meaning::Connect) => 4,
+        Ok(Meaning::Disconnect) => 5,
+        Err(e) => e.number(),
     }
 }
 
@@ -42,50 +42,41 @@ fn laid(f: Frame) -> FlatFrame
     }
 }
 
-// A refusal.
+// A refusal, which is no event.
 fn refused(n: u8) -> FlatFrame
     ensures { result ≡ refused_frame n }
 {
     FlatFrame {
-        source: 0,
-        destination: 0,
         outcome: n,
         event: 255,
-        code: 0,
-        control1: 0,
-        control2: 0,
-        transport: 0,
-        info_offset: 0,
-        info_length: 0,
-        tpdu_offset: 0,
-        tpdu_length: 0,
+        ..FlatFrame::default()
     }
 }
 
 // The frame in the bytes, laid flat; or the outcome alone.
+#[tactic(auto, unfolding(crate::specs::FlatFrame::flat_frame))]
 pub fn read(frame: &[u8]) -> FlatFrame
     ensures { ReadFrom frame.now result (flat_frame frame.now) }
 {
-    let got = cemi::read(frame);
-    match got {
-        Got::Is(f) => laid(f),
-        Got::Refused(n) => refused(n),
+    match cemi::read(frame) {
+        Ok(f) => laid(f),
+        Err(e) => refused(e.number()),
     }
 }
 
 // Outcome and count of a writing.
-fn count(w: Written) -> Framed
+fn count(w: Result<usize, WriteRefusal>) -> Framed
     requires { write_count w ≤ 280 }
     ensures { result ≡ framed w }
 {
     match w {
-        Written::Bytes(n) => Framed {
+        Ok(n) => Framed {
             count: n as u16,
             outcome: 0,
         },
-        Written::Refused(n) => Framed {
+        Err(e) => Framed {
             count: 0,
-            outcome: n,
+            outcome: e.number(),
         },
     }
 }
@@ -108,6 +99,5 @@ fn fields_of(f: FlatFrame) -> Fields
 pub fn write(f: FlatFrame, info: &[u8], apdu: &[u8], out: &mut [u8]) -> Framed
     ensures { FrameWrote f info.now apdu.now out.old result out.new }
 {
-    let w = cemi::write(fields_of(f), info, apdu, out);
-    count(w)
+    count(cemi::write(fields_of(f), info, apdu, out))
 }

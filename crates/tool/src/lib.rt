@@ -5,19 +5,20 @@ ghost use Rattle.std.specs.Prelude.{◌≡◌, ◌≤◌};
 ghost use Rattle.octets.specs.Octets.{ReadFrom};
 ghost use Rattle.pdu.specs.Write.{write_count};
 ghost use Rattle.tool.specs.FlatFrame.{flat_frame, FrameWrote};
-ghost use Rattle.tool.specs.Flat.{flat_read, meant_by, unknown_kind, flat_written, FlatWrote, version_of};
-ghost use Rattle.tool.specs.declared.Meant.TheVariants.{Known};
+ghost use Rattle.tool.specs.Flat.{flat_read, meant_by, meant_write, meant_buffer, flat_written, FlatWrote, version_of};
 
-use pdu::{Parsed, Pdu, Written};
+use pdu::WriteRefusal;
 
 pub mod datapoints;
 mod frames;
 mod lay;
 mod mean;
 
+// The structs below are C's, by the headers: kinds and outcomes are numbers in them, beside their values.
+
 // A PDU laid flat, in the order of include/kelindap_pdu.h, whose `type` is `typ` here.
 #[repr(C)]
-#[derive(Clone, Copy)]
+#[derive(Clone, Copy, Default)]
 pub struct FlatPdu {
     pub serial: u64,
     pub key: u32,
@@ -50,7 +51,7 @@ pub struct FlatWritten {
 
 // A frame laid flat, in the order of include/kelindap_frame.h.
 #[repr(C)]
-#[derive(Clone, Copy)]
+#[derive(Clone, Copy, Default)]
 pub struct FlatFrame {
     pub source: u16,
     pub destination: u16,
@@ -76,7 +77,7 @@ pub struct Framed {
 
 // A datapoint laid flat, in the order of include/kelindap_pdu.h, whose `type` is `kind` here.
 #[repr(C)]
-#[derive(Clone, Copy)]
+#[derive(Clone, Copy, Default)]
 pub struct FlatPoint {
     pub hundredths: i32,
     pub bits: u32,
@@ -85,62 +86,43 @@ pub struct FlatPoint {
     pub outcome: u8,
 }
 
-// The PDU that a flat one means, if its kind is known.
-#[derive(Clone, Copy)]
-pub enum Meant {
-    Known(Pdu),
-    Nothing,
-}
-
 // The PDU in the bytes, laid flat, with where its data stands; or the outcome alone.
+#[tactic(auto, unfolding(crate::specs::Flat::flat_read))]
 pub fn kelindap_read(apdu: &[u8]) -> FlatPdu
     ensures { ReadFrom apdu.now result (flat_read apdu.now) }
 {
-    let got = pdu::read(apdu);
-    match got {
-        Parsed::Is(p) => lay::read_as(p, apdu),
-        Parsed::Refused(n) => lay::refuse(n),
+    match pdu::read(apdu) {
+        Ok(p) => lay::read_as(p, apdu),
+        Err(e) => lay::refuse(e.number()),
     }
 }
 
 // Outcome and count of a writing.
-fn flat_written(w: Written) -> FlatWritten
+fn flat_written(w: Result<usize, WriteRefusal>) -> FlatWritten
     requires { write_count w ≤ 16 }
     ensures { result ≡ flat_written w }
 {
     match w {
-        Written::Bytes(n) => FlatWritten {
+        Ok(n) => FlatWritten {
             outcome: 0,
             count: n as u8,
         },
-        Written::Refused(n) => FlatWritten {
-            outcome: n,
+        Err(e) => FlatWritten {
+            outcome: e.number(),
             count: 0,
         },
     }
 }
 
-// A PDU with its data.
-fn write_known(p: Pdu, data: &[u8], out: &mut [u8]) -> FlatWritten
-    ensures { FlatWrote (Known p) «data».now out.old result out.new }
+// What writing a flat PDU gives. No PDU is of an unknown kind.
+fn written(flat: FlatPdu, data: &[u8], out: &mut [u8]) -> Result<usize, WriteRefusal>
+    ensures gives { result ≡ meant_write (meant_by flat) «data».now out.old }
+    ensures leaves { out.new ≡ meant_buffer (meant_by flat) «data».now out.old }
 {
-    let w = pdu::write(p, data, out);
-    flat_written(w)
-}
-
-// An unknown kind.
-fn write_unknown(room: usize) -> FlatWritten
-    ensures { result ≡ flat_written (unknown_kind room) }
-{
-    if room < 16 {
-        return FlatWritten {
-            outcome: 3,
-            count: 0,
-        };
-    }
-    FlatWritten {
-        outcome: 13,
-        count: 0,
+    match mean::meant(flat) {
+        Some(p) => pdu::write(p, data, out),
+        None if out.len() < 16 => Err(WriteRefusal::Room),
+        None => Err(WriteRefusal::Fields),
     }
 }
 
@@ -148,11 +130,7 @@ fn write_unknown(room: usize) -> FlatWritten
 pub fn kelindap_write(flat: FlatPdu, data: &[u8], out: &mut [u8]) -> FlatWritten
     ensures { FlatWrote (meant_by flat) «data».now out.old result out.new }
 {
-    let meant = mean::meant(flat);
-    match meant {
-        Meant::Known(p) => write_known(p, data, out),
-        Meant::Nothing => write_unknown(out.len()),
-    }
+    flat_written(written(flat, data, out))
 }
 
 // The version of this library.

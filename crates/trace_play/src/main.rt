@@ -5,11 +5,11 @@
 ghost use Rattle.std.specs.Prelude.{◌≡◌, ◌≤◌, length};
 ghost use Rattle.trace_play.specs.Input.{sheet_length};
 
-use check::same;
 use device::Sessions;
-use lines::{first, part, put_all, read_full, rest, say};
+use lines::{copy, first, part, read_full, rest};
 use octets::{number, word};
-use show::{say_end, say_event, say_number};
+use sheet::Fault;
+use show::{say_end, say_event};
 
 mod show;
 
@@ -20,12 +20,7 @@ fn sheet_length(input: &[u8]) -> usize
     if input.len() < 6 {
         return input.len();
     }
-    let stated = word(input, 4);
-    if stated < input.len() {
-        stated
-    } else {
-        input.len()
-    }
+    input.len().min(word(input, 4) as usize)
 }
 
 // Event i, counted from 0, played and said.
@@ -33,53 +28,54 @@ fn play_one(rt: &impl Print, q: Sessions, sheet: &mut [u8], trace: &[u8], i: u16
     let mut log = [0u8; 18];
     let played = playback::play(q, sheet, trace, i as usize, 1, &mut log);
     say_event(rt, trace, i, &log);
-    played.sessions
+    match played {
+        Ok(played) => played.sessions,
+        Err(_) => q,
+    }
 }
 
 // The first n events.
 fn play_all(rt: &impl Print, sheet: &mut [u8], trace: &[u8], n: u16) -> Sessions {
     let mut sessions = device::fresh();
-    let mut i: u16 = 0;
-    while i < n {
+    for i in 0..n {
         sessions = play_one(rt, sessions, sheet, trace, i);
-        i += 1;
     }
     sessions
 }
 
 // The longest sheet that is accepted.
-fn room() -> [u8; 16384]
-    ensures { 16384 ≡ length result }
-{
-    [0; 16384]
-}
+const ROOM: usize = 16384;
 
 // The trace, which can be played, on a copy of the sheet.
 fn play(rt: &impl Print, sheet: &[u8], trace: &[u8]) {
-    let mut copy = room();
-    put_all(&mut copy, 0, sheet);
+    let mut played = [0; ROOM];
+    copy(&mut played, sheet);
     let events = (number(trace, 0, 2) % 65536) as u16;
-    let sessions = play_all(rt, first(&mut copy, sheet.len()), trace, events);
-    say_end(rt, sessions, same(part(&copy, 0, sheet.len()), sheet));
+    let sessions = play_all(rt, first(&mut played, sheet.len()), trace, events);
+    say_end(rt, sessions, part(&played, 0, sheet.len()) == sheet);
 }
 
 // The trace played, if neither is refused.
 fn judged(rt: &impl Print, sheet: &[u8], trace: &[u8]) {
-    let verdict = sheet::check(sheet);
-    if verdict == sheet::OLD {
-        say(rt, b"sheet refused: ", b"OLD");
-        return;
+    match sheet::check(sheet) {
+        Ok(()) => {}
+        Err(Fault::Old) => {
+            let _ = println!(rt; "sheet refused: OLD");
+            return;
+        }
+        Err(fault) => {
+            let rule = fault.number();
+            let _ = println!(rt; "sheet refused: S{rule}");
+            return;
+        }
     }
-    if verdict != 0 {
-        say_number(rt, b"sheet refused: S", verdict);
-        return;
+    match playback::check(trace) {
+        Ok(()) => play(rt, sheet, trace),
+        Err(refusal) => {
+            let rule = refusal.number();
+            let _ = println!(rt; "trace refused: {rule}");
+        }
     }
-    let refusal = playback::check(trace);
-    if refusal != 0 {
-        say_number(rt, b"trace refused: ", refusal);
-        return;
-    }
-    play(rt, sheet, trace);
 }
 
 fn told(rt: &impl Print, input: &[u8]) {
@@ -89,14 +85,10 @@ fn told(rt: &impl Print, input: &[u8]) {
 
 // More than the longest sheet that bytes 4 and 5 can state and the longest trace that can be played have together: what is
 // longer is refused as its beginning is, and so is one whose read fails on the way.
-fn buffer() -> [u8; 262144]
-    ensures { 262144 ≡ length result }
-{
-    [0; 262144]
-}
+const BUFFER: usize = 262144;
 
 fn main(rt: HostRuntime) {
-    let mut input = buffer();
+    let mut input = [0; BUFFER];
     let n = read_full(&mut rt.stdin(), &mut input);
     told(&rt, &input[..n]);
 }

@@ -1,11 +1,11 @@
 -- A datapoint in a GroupValue_Write: which form each type takes, and what such a PDU says.
-use Rattle.std.specs.Prelude.{ℕ, Bool, cond, List, [], length, eqb}
+use Rattle.std.specs.Prelude.{ℕ, Bool, cond, List, [], length, eqb, Result, Err}
 use Rattle.pdu.specs.declared.Pdu.{Pdu}
 use Rattle.pdu.specs.declared.Pdu.TheVariants.{GroupValueWrite}
 use Rattle.points.specs.Point.{type_of, point_at, read_point, number_of, point_bytes}
 use Rattle.points.specs.declared.Datapoint.{Datapoint}
-use Rattle.points.specs.declared.Reading.{Reading}
-use Rattle.points.specs.declared.Reading.TheVariants.{Refused}
+use Rattle.points.specs.declared.Refusal.{Refusal}
+use Rattle.points.specs.declared.Refusal.TheVariants.{Length}
 
 -- WHICH FORM A TYPE TAKES: type 1 stands in the six bits of the code, the others in data bytes
 abbrev pub short : ℕ → Bool
@@ -22,6 +22,6 @@ value_data d = cond (short (type_of d)) [] (point_bytes d)
 abbrev pub value_pdu : Datapoint → Pdu
 value_pdu d = GroupValueWrite (six_bits d)
 
--- WHAT SIX BITS v AND DATA s SAY in a type: 20 where the form is not the type's
-unfoldable pub read_value : ℕ → ℕ → List ℕ → Reading
-read_value t v s = cond (short t) (cond (eqb (length s) 0) (point_at 1 v) (Refused 20)) (read_point t s)
+-- WHAT SIX BITS v AND DATA s SAY in a type: refused for the length where the form is not the type's
+unfoldable pub read_value : ℕ → ℕ → List ℕ → Result Datapoint Refusal
+read_value t v s = cond (short t) (cond (eqb (length s) 0) (point_at 1 v) (Err Length)) (read_point t s)

@@ -1,5 +1,7 @@
 -- promises has what docs/PROMISES.md names; all else are laws behind them and behind the contracts.
 pub mod promises
+pub mod Refused
+pub mod Every
 pub mod Gaps
 pub mod Laid
 pub mod Rows

@@ -1,50 +1,18 @@
 -- What the calls of `restore` return, case by case.
-use Rattle.octets.proofs.Kit.{ℕ, zero, suc, ◌+◌, ◌-◌, ◌*◌, ◌≤◌, ◌<◌, ◌≡◌, refl, sym, ap, ap₂, ◌∙◌, ◌⊎◌, inl, inr, Bool, true, false, cond, not, List, [], ◌∷◌, arith, eqb, leb, ltb, length}
-use Rattle.octets.proofs.Kit.{take, drop, get_or, length-drop, take_all, eq-eqb, ne_eqb, le-leb, lt-leb, lt-ltb, le-ltb, not-true, not-false, eqb-true}
-use Rattle.octets.{specs.{Bytes.{num_at, IsNum}, Splice.splice, Every.every, Octets.Octets}, proofs.{Splices.splice_none, Tests.{both, not_first_lem, not_second_lem}, Truths.{never, and_is}}}
-use Rattle.sheet.{specs.{Kind.properties, Layout.◌of◌, Entries.{base, place, start_of, end_from}, Rules.refusal_of}, proofs.promises.Verdicts.refusals}
+use Rattle.std.specs.Prelude.{None, Some}
+use Rattle.octets.proofs.Kit.{ℕ, zero, suc, ◌+◌, ◌-◌, ◌*◌, ◌≤◌, ◌<◌, ◌≡◌, refl, sym, ap, ap₂, subst, ◌∙◌, Bool, true, false, cond, not, List, [], ◌∷◌, arith, eqb, length}
+use Rattle.octets.proofs.Kit.{take, drop, length-drop, take_all, eq-eqb, ne_eqb, not-true, not-false, eqb-true}
+use Rattle.octets.{specs.{Bytes.{num_at, IsNum}, Splice.splice, Every.every, Octets.Octets}, proofs.{Splices.splice_none, Truths.{and_is}}}
+use Rattle.sheet.{specs.{Kind.properties, Layout.◌of◌, Entries.{base, place, start_of, end_from}, Rules.refusal_of, Refused.number_of as sheet_number, declared.Refused.Refused}}
 use Rattle.judge.specs.declared.Session.{Session}
-use Rattle.versions.specs.{Store.{table_end, version_at, versions_from, kept, has, body_of, is_kept, version_in}, Rules.{store_rule, is_store, bad_store, not_kept}}
-use Rattle.versions.specs.{Walk.{Tabled, Found, Chosen, Extents, Placed}, Settings.{front, many, entries_long, bodies_long, restored}, Restoring.{is_count, same_byte, same_entry, low_count}}
-use Rattle.versions.specs.Restoring.{entry_in, same_entries, low_counts, gives_back, at_zero, not_at_zero, other_entries, high_count, restore_by, restore_outcome, restore_sheet, RestoredAs}
-use Rattle.versions.specs.declared.{settings.Extent.Extent, table.Place.Place}
+use Rattle.versions.specs.{Store.{table_end, version_at, versions_from, kept, has, body_of, is_kept, version_in}, Rules.{store_rule, is_store, not_kept}}
+use Rattle.versions.specs.{Walk.{Tabled, Found, Chosen, Extents, Placed}, Settings.{front, many, entries_long, bodies_long, restored}, Restoring.{same_entry, low_count}}
+use Rattle.versions.specs.Restoring.{entry_in, same_entries, low_counts, gives_back, at_zero, not_at_zero, other_entries, high_count, restore_outcome, restore_sheet, RestoredAs}
+use Rattle.versions.specs.Refusal.{number_of}
+use Rattle.versions.specs.declared.{settings.Extent.Extent, table.Place.Place, refusal.Refusal.Refusal}
 use Rattle.versions.specs.Head as head
 use Rattle.versions.specs.Row as row
-use Rattle.versions.proofs.{Backs.heads, Finds.{found, missed, body_found}, Chosen.body_stands}
-
--- a session
-pub zero_no : (q : Session) → not q.opened ≡ true → false ≡ at_zero q
-unfolding at_zero
-zero_no q h = sym (not_first_lem q.opened (eqb q.level 0) (not-true q.opened h))
-
-pub zero_level : (q : Session) (r : Bool) → not q.opened ≡ false → r ≡ eqb q.level 0 → r ≡ at_zero q
-unfolding at_zero
-zero_level q r h e = rw (not-false q.opened h) e
-
--- a byte of an entry
-module _ (s d : List ℕ) (p q j : ℕ) where
-  byte_compared : (r : Bool) → is_count j ≡ false → r ≡ eqb (get_or d (q + j) 0) (get_or s (p + j) 0) → r ≡ same_byte s p d q j
-  byte_compared r n e = rw n e
-
-  pub byte_before : (r : Bool) → j < 6 → r ≡ eqb (get_or d (q + j) 0) (get_or s (p + j) 0) → r ≡ same_byte s p d q j
-  byte_before r h = byte_compared r (not_first_lem (leb 6 j) (ltb j 8) (lt-leb 6 j h))
-
-  pub byte_of_count : 6 ≤ j → j < 8 → true ≡ same_byte s p d q j
-  byte_of_count h k = let t : is_count j ≡ true = both (leb 6 j) (ltb j 8) (le-leb 6 j h) (lt-ltb j 8 k) in rw t
-
-  pub byte_behind : (r : Bool) → 8 ≤ j → r ≡ eqb (get_or d (q + j) 0) (get_or s (p + j) 0) → r ≡ same_byte s p d q j
-  byte_behind r h = byte_compared r (not_second_lem (leb 6 j) (ltb j 8) (le-ltb j 8 h))
-
--- all of its bytes
-pub all_bytes_lem : (s d : List ℕ) (p q : ℕ) (r : Bool) → r ≡ every 12 (λ j. same_byte s p d q j) → r ≡ same_entry s p d q
-unfolding same_entry
-all_bytes_lem s d p q r e = e
-
--- a count
-pub count_compared :
-    (s d : List ℕ) (p q x y : ℕ) (r : Bool) → IsNum d (q + 6) 2 65536 x → IsNum s (p + 4) 2 65536 y → r ≡ leb x y → r ≡ low_count s p d q
-unfolding low_count
-count_compared s d p q x y r hx hy e = e ∙ ap₂ leb hx.value hy.value
+use Rattle.versions.proofs.{Backs.heads, Finds.{found, missed, body_found}, Chosen.body_stands, Rows.store_refused, Refused.{never_none, never_done}}
 
 -- over the same places, or none
 every_placed :
@@ -71,9 +39,6 @@ module _ (s d : List ℕ) (x : Extent) (hx : Extents s x) (l : ℕ) (hl : (l ≡
     j₁ : eqb (length d) (front + entries_long s + bodies_long s) ≡ true
     j₁ = eq-eqb (length d) (front + entries_long s + bodies_long s) (same ∙ whole)
 
-    pub word_room : 1 < length d
-    word_room = omega (arith, hl.0)
-
     module _ (n : ℕ) (hn : IsNum d 0 2 65536 n) where
       pub other_many : (n ≡ x.count → ⊥) → other_entries ≡ gives_back s d
       unfolding gives_back same_entries
@@ -84,9 +49,6 @@ module _ (s d : List ℕ) (x : Extent) (hx : Extents s x) (l : ℕ) (hl : (l ≡
       module _ (eq : n ≡ x.count) where
         j₂ : eqb (num_at d 0 front) (many s) ≡ true
         j₂ = eq-eqb (num_at d 0 front) (many s) (sym hn.value ∙ eq ∙ hx.count)
-
-        pub low_room : (x.count ≤ 64) × (x.entries + 12 * x.count ≤ length s) × (2 + 12 * x.count ≤ length d) × (length s ≤ 16384)
-        low_room = (hx.few, hx.within, omega (arith, hl.0), hx.short)
 
         module _ (r : Bool) (e : r ≡ every x.count (λ j. same_entry s (x.entries + 12 * j) d (2 + 12 * j))) where
           e₃ : r ≡ every (many s) (λ i. same_entry s (place s properties i) d (entry_in i))
@@ -149,9 +111,11 @@ module _ (s d : List ℕ) (x : Extent) (hx : Extents s x) (hd : length d ≡ fro
   no_bodies z = ap (λ (i : ℕ). end_from s properties (start_of s properties) i - start_of s properties) (sym hx.count ∙ z) ∙ omega arith
 
   pub given_steps :
-      (t u : List ℕ) → t ≡ splice s x.entries (take (k - 2) (drop 2 d)) → u ≡ splice t x.from (take (length d - k) (drop k d)) → u ≡ restored s d
+      (e₀ : ℕ) (t u : List ℕ) → e₀ ≡ k → t ≡ splice s x.entries (take (e₀ - 2) (drop 2 d)) → u ≡ splice t x.from (take (length d - e₀) (drop e₀ d)) → u ≡ restored s d
   unfolding restored
-  given_steps t u e f =
+  given_steps e₀ t u o p q =
+      let e : t ≡ splice s x.entries (take (k - 2) (drop 2 d)) = p ∙ ap (λ (i : ℕ). splice s x.entries (take (i - 2) (drop 2 d))) o in
+      let f : u ≡ splice t x.from (take (length d - k) (drop k d)) = q ∙ ap (λ (i : ℕ). splice t x.from (take (length d - i) (drop i d))) o in
       let a : List ℕ = take (entries_long s) (drop front d) in
       let b : List ℕ = drop (front + entries_long s) d in
       let t-is : t ≡ splice s (base s properties) a =
@@ -171,46 +135,37 @@ count_there s ok = omega (arith, heads s ok)
 
 -- the version with a number
 module _ (s : List ℕ) (x n i : ℕ) (ok : store_rule s ≡ 0) (hn : IsNum s 0 2 65536 n) (f : Found s n x i) where
-  pub no_version : n ≤ i → Placed s x record { kept = false; at = 0; long = 0 }
+  pub no_version : n ≤ i → Placed s x None
   unfolding kept is_kept
-  no_version l =
-      record {
-        known = sym (missed s x (head.count of s) 8 (λ j o e. f.before j (omega (arith, hn.value)) e));
-        within = omega arith;
-        body = λ e. never e;
-      }
+  no_version l = missed s x (head.count of s) 8 (λ j o e. f.before j (omega (arith, hn.value)) e)
 
-  pub offset_there : i < n → table_end i + (row.offset).at + 1 < length s
-  offset_there h = omega (arith, heads s ok, hn.value)
+  module _ (p : ℕ) (o : p ≡ table_end i) (h : i < n) where
+    pub row_there : i ≤ 8
+    row_there = omega (arith, heads s ok, hn.value)
 
-  pub long_there : i < n → table_end i + (row.long).at + 1 < length s
-  long_there h = omega (arith, heads s ok, hn.value)
+    pub offset_there : p + (row.offset).at + 1 < length s
+    offset_there = omega (arith, heads s ok, hn.value)
 
-  pub some_version :
-      (a l : ℕ) → Octets s → i < n → IsNum s (table_end i + (row.offset).at) 2 65536 a → IsNum s (table_end i + (row.long).at) 2 65536 l →
-      Placed s x record { kept = true; at = a; long = l }
-  unfolding kept version_at is_kept version_in
-  some_version a l b h ha hl =
-      let m = heads s ok in
-      let c : Chosen s n i = record { good = ok; all = hn.value; below = h; tabled = record { few = omega (arith, m, hn.value); room = omega (arith, m, hn.value) } } in
-      let stood = body_stands b c in
-      let e : i + suc (n - (i + 1)) ≡ head.count of s = omega (arith, hn.value) in
-      let g = found s x i (n - (i + 1)) 8 (λ j o q. f.before j o q) (f.here h) in
-      let k = body_found s x i (n - (i + 1)) 8 (λ j o q. f.before j o q) (f.here h) in
-      record {
-        known = sym (ap (λ (j : ℕ). has x (versions_from s 8 j)) (sym e) ∙ g);
-        within = omega (arith, stood.within, stood.room, ha.value, hl.value);
-        body = λ t. ap₂ (λ (j o : ℕ). take j (drop o s)) hl.value ha.value ∙ sym (ap (λ (j : ℕ). body_of x (versions_from s 8 j)) (sym e) ∙ k);
-      }
+    pub long_there : p + (row.long).at + 1 < length s
+    long_there = omega (arith, heads s ok, hn.value)
 
--- no refusal of a sheet is 1
-never_one : (s : List ℕ) → refusal_of s ≡ 1 → ⊥
-never_one s e = go (refusals s)
-  where
-    go : (refusal_of s ≡ 0) ⊎ ((refusal_of s ≡ 14) ⊎ (refusal_of s ≡ 4)) → ⊥
-    go (inl z) = omega (arith, e, z)
-    go (inr (inl o)) = omega (arith, e, o)
-    go (inr (inr b)) = omega (arith, e, b)
+    pub some_version :
+        (a l : ℕ) → Octets s → IsNum s (p + (row.offset).at) 2 65536 a → IsNum s (p + (row.long).at) 2 65536 l →
+        Placed s x (Some record { at = a; long = l })
+    unfolding kept version_at is_kept version_in
+    some_version a l b ga gl =
+        let ha : IsNum s (table_end i + (row.offset).at) 2 65536 a = subst (λ (q : ℕ). IsNum s (q + (row.offset).at) 2 65536 a) o ga in
+        let hl : IsNum s (table_end i + (row.long).at) 2 65536 l = subst (λ (q : ℕ). IsNum s (q + (row.long).at) 2 65536 l) o gl in
+        let m = heads s ok in
+        let c : Chosen s n i = record { good = ok; all = hn.value; below = h; tabled = record { few = omega (arith, m, hn.value); room = omega (arith, m, hn.value) } } in
+        let stood = body_stands b c in
+        let e : i + suc (n - (i + 1)) ≡ head.count of s = omega (arith, hn.value) in
+        let g = found s x i (n - (i + 1)) 8 (λ j o q. f.before j o q) (f.here h) in
+        let k = body_found s x i (n - (i + 1)) 8 (λ j o q. f.before j o q) (f.here h) in (
+          ap (λ (j : ℕ). has x (versions_from s 8 j)) (sym e) ∙ g,
+          omega (arith, stood.within, stood.room, ha.value, hl.value),
+          ap₂ (λ (j o : ℕ). take j (drop o s)) hl.value ha.value ∙ sym (ap (λ (j : ℕ). body_of x (versions_from s 8 j)) (sym e) ∙ k),
+        )
 
 -- the whole call
 module _ (q : Session) (sheet s : List ℕ) (x : ℕ) where
@@ -220,55 +175,50 @@ module _ (q : Session) (sheet s : List ℕ) (x : ℕ) where
       let t : eqb (restore_outcome q sheet s x) 1 ≡ false = ne_eqb (restore_outcome q sheet s x) 1 (λ k. n (e ∙ k)) in
       record { outcome = e; after = rw t }
 
-  module _ (r : ℕ) (h : r ≡ refusal_of sheet) where
-    pub bad_sheet_lem : (r ≡ 0 → ⊥) → RestoredAs q sheet s x r sheet
+  pub bad_sheet_lem : (e : Refusal) (r : Refused) → number_of e ≡ sheet_number r → sheet_number r ≡ refusal_of sheet → RestoredAs q sheet s x (number_of e) sheet
+  unfolding restore_outcome is_store
+  bad_sheet_lem e r a h =
+      let n : refusal_of sheet ≡ 0 → ⊥ = λ z. never_none e (a ∙ h ∙ z) in
+      no (number_of e) (sym (rw (ne_eqb (refusal_of sheet) 0 n) (sym (a ∙ h)))) (never_done e)
+
+  module _ (h : 0 ≡ refusal_of sheet) where
+    t₁ : eqb (refusal_of sheet) 0 ≡ true
+    t₁ = eq-eqb (refusal_of sheet) 0 (sym h)
+
+    pub bad_store_lem : (e : Refusal) → number_of e ≡ store_rule s → RestoredAs q sheet s x (number_of e) sheet
     unfolding restore_outcome is_store
-    bad_sheet_lem n =
-        no r (sym (ap (λ (i : ℕ). restore_by i q sheet s x) (sym h) ∙ rw (ne_eqb r 0 n)))
-        (λ e. never_one sheet (sym h ∙ e))
+    bad_store_lem e k =
+        let f = store_refused s e k in
+        no (number_of e) (rw (t₁, ne_eqb (store_rule s) 0 f.1) f.0) (never_done e)
 
-    module _ (r0 : r ≡ 0) (k : ℕ) (hk : k ≡ store_rule s) where
-      t₁ : eqb (refusal_of sheet) 0 ≡ true
-      t₁ = eq-eqb (refusal_of sheet) 0 (sym h ∙ r0)
+    module _ (k0 : 0 ≡ store_rule s) where
+      t₂ : eqb (store_rule s) 0 ≡ true
+      t₂ = eq-eqb (store_rule s) 0 (sym k0)
 
-      pub bad_store_lem : (k ≡ 0 → ⊥) → RestoredAs q sheet s x bad_store sheet
+      pub not_kept_lem : Placed s x None → RestoredAs q sheet s x not_kept sheet
       unfolding restore_outcome is_store
-      bad_store_lem n = no bad_store (rw (t₁, ne_eqb (store_rule s) 0 (λ e. n (hk ∙ e)))) (λ e. omega arith)
+      not_kept_lem n = no not_kept (rw (t₁, t₂, n)) (λ e. omega arith)
 
-      module _ (k0 : k ≡ 0) (v : Place) (hv : Placed s x v) where
-        t₂ : eqb (store_rule s) 0 ≡ true
-        t₂ = eq-eqb (store_rule s) 0 (sym hk ∙ k0)
-
-        pub not_kept_lem : not v.kept ≡ true → RestoredAs q sheet s x not_kept sheet
+      module _ (v : Place) (hv : Placed s x (Some v)) where
+        pub not_zero : false ≡ at_zero q → RestoredAs q sheet s x not_at_zero sheet
         unfolding restore_outcome is_store
-        not_kept_lem n = no not_kept (rw (t₁, t₂, ← hv.known, not-true v.kept n)) (λ e. omega arith)
+        not_zero n = no not_at_zero (rw (t₁, t₂, hv.0, ← n)) (λ e. omega arith)
 
-        module _ (v0 : not v.kept ≡ false) (z : Bool) (hz : z ≡ at_zero q) where
-          kept_is : v.kept ≡ true
-          kept_is = not-false v.kept v0
+        module _ (z : true ≡ at_zero q) (o : ℕ) (ho : o ≡ gives_back sheet (take (v.at + v.long - v.at) (drop v.at s))) where
+          same_d : take (v.at + v.long - v.at) (drop v.at s) ≡ version_in s x
+          same_d =
+              let e : v.at + v.long - v.at ≡ v.long = omega arith in
+              ap (λ (i : ℕ). take i (drop v.at s)) e ∙ hv.2
 
-          t₃ : is_kept s x ≡ true
-          t₃ = sym hv.known ∙ kept_is
-
-          pub not_zero : not z ≡ true → RestoredAs q sheet s x not_at_zero sheet
+          outcome_is : o ≡ restore_outcome q sheet s x
           unfolding restore_outcome is_store
-          not_zero n = no not_at_zero (rw (t₁, t₂, t₃, ← hz, not-true z n)) (λ e. omega arith)
+          outcome_is = rw (t₁, t₂, hv.0, ← z) (ho ∙ ap (gives_back sheet) same_d)
 
-          module _ (z0 : not z ≡ false) (o : ℕ) (ho : o ≡ gives_back sheet (take (v.at + v.long - v.at) (drop v.at s))) where
-            same_d : take (v.at + v.long - v.at) (drop v.at s) ≡ version_in s x
-            same_d =
-                let e : v.at + v.long - v.at ≡ v.long = omega arith in
-                ap (λ (i : ℕ). take i (drop v.at s)) e ∙ hv.body kept_is
+          pub not_given : (e : Refusal) → o ≡ number_of e → RestoredAs q sheet s x (number_of e) sheet
+          not_given e n = no (number_of e) (sym n ∙ outcome_is) (never_done e)
 
-            outcome_is : o ≡ restore_outcome q sheet s x
-            unfolding restore_outcome is_store
-            outcome_is = rw (t₁, t₂, t₃, ← hz, not-false z z0) (ho ∙ ap (gives_back sheet) same_d)
-
-            pub not_given : (o ≡ 1 → ⊥) → RestoredAs q sheet s x o sheet
-            not_given n = no o outcome_is n
-
-            pub was_restored : (t : List ℕ) → o ≡ 1 → t ≡ restored sheet (take (v.at + v.long - v.at) (drop v.at s)) → RestoredAs q sheet s x 1 t
-            unfolding restore_sheet
-            was_restored t o1 e =
-                let u : eqb (restore_outcome q sheet s x) 1 ≡ true = eq-eqb (restore_outcome q sheet s x) 1 (sym outcome_is ∙ o1) in
-                record { outcome = sym o1 ∙ outcome_is; after = rw u (e ∙ ap (restored sheet) same_d) }
+          pub was_restored : (t : List ℕ) → o ≡ 1 → t ≡ restored sheet (take (v.at + v.long - v.at) (drop v.at s)) → RestoredAs q sheet s x 1 t
+          unfolding restore_sheet
+          was_restored t o1 e =
+              let u : eqb (restore_outcome q sheet s x) 1 ≡ true = eq-eqb (restore_outcome q sheet s x) 1 (sym outcome_is ∙ o1) in
+              record { outcome = sym o1 ∙ outcome_is; after = rw u (e ∙ ap (restored sheet) same_d) }

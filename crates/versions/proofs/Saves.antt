@@ -1,5 +1,5 @@
 -- The steps of saving, as their needs ask.
-use Rattle.octets.proofs.Kit.{ℕ, ◌+◌, ◌-◌, ◌*◌, ◌/◌, ◌%◌, ◌≤◌, ◌≡◌, refl, sym, ap, ap₂, ◌∙◌, List, [], ◌∷◌, ◌++◌, append_assoc, arith, length, take, drop, length-append, length-drop}
+use Rattle.octets.proofs.Kit.{ℕ, ◌+◌, ◌-◌, ◌*◌, ◌≤◌, ◌≡◌, refl, sym, ap, ap₂, ◌∙◌, List, ◌++◌, append_assoc, arith, length, take, drop, replicate, length-append, length-drop}
 use Rattle.octets.proofs.Kit.{length-take-le}
 use Rattle.octets.{specs.{Bytes.bytes_of, Splice.splice, Moved.moved}, proofs.{Numbers.length_bytes, Splices.splice_more}}
 use Rattle.sheet.specs.{Kind.{properties, groups}, Entries.{count, base, start_of, reached, body_at, body_end, end_from}, Rules.Accepted, Walk.Counted, Places.PropertyIn}
@@ -7,11 +7,15 @@ use Rattle.sheet.{specs.declared.PropertyEntry.PropertyEntry, proofs.{rules.Good
 use Rattle.versions.specs.{Store.{table_end, row_of}, Settings.{entries_long, bodies_long, settings_of}, Linked.linked, Steps.appended, Walk.Extents, declared.settings.Extent.Extent}
 
 -- a row whose offset is not set yet
+row_is : (x y : ℕ) → splice (splice (splice (replicate 8 0) 0 (bytes_of 2 x)) 2 (bytes_of 2 1)) 6 (bytes_of 2 y) ≡ row_of x 0 y
+unfolding splice bytes_of row_of
+row_is x y = refl
+
 pub row_made :
-    (s t u : List ℕ) (p n x y : ℕ) → t ≡ moved s p (p + 8) n → u ≡ splice t p (x / 256 % 256 ∷ x % 256 ∷ 0 ∷ 1 ∷ 0 ∷ 0 ∷ y / 256 % 256 ∷ y % 256 ∷ []) →
-    u ≡ splice (moved s p (p + 8) n) p (row_of x 0 y)
-unfolding row_of bytes_of
-row_made s t u p n x y e f = f ∙ ap (λ (l : List ℕ). splice l p (x / 256 % 256 ∷ x % 256 ∷ 0 ∷ 1 ∷ 0 ∷ 0 ∷ y / 256 % 256 ∷ y % 256 ∷ [])) e
+    (s u v r₁ r₂ r₃ : List ℕ) (n t e x y : ℕ) → t ≡ table_end n → u ≡ moved s t (t + 8) (e - t) → r₁ ≡ splice (replicate 8 0) 0 (bytes_of 2 x) →
+    r₂ ≡ splice r₁ 2 (bytes_of 2 1) → r₃ ≡ splice r₂ 6 (bytes_of 2 y) → v ≡ splice u t r₃ →
+    v ≡ splice (moved s (table_end n) (table_end n + 8) (e - table_end n)) (table_end n) (row_of x 0 y)
+row_made s u v r₁ r₂ r₃ n t e x y o f a b c g = g ∙ rw (c, b, a, row_is x y, f, o)
 
 module _ (sh : List ℕ) (x : Extent) (h : Extents sh x) where
   abbrev n : ℕ
@@ -52,14 +56,15 @@ module _ (sh : List ℕ) (x : Extent) (h : Extents sh x) where
     pub room_entries : at + 2 + length one ≤ length s
     room_entries = omega (arith, settings_long, one_long)
 
-    pub room_bodies : at + 2 + 12 * n + length two ≤ length s
+    pub room_bodies : at + (2 + 12 * n) + length two ≤ length s
     room_bodies = omega (arith, settings_long, two_long)
 
     pub settings_put :
-        (t u v : List ℕ) → t ≡ splice s at (bytes_of 2 n) → u ≡ splice t (at + 2) one → v ≡ splice u (at + 2 + 12 * n) two → v ≡ splice s at (settings_of sh)
-    settings_put t u v e f g =
+        (t u v : List ℕ) (k : ℕ) → t ≡ splice s at (bytes_of 2 n) → u ≡ splice t (at + 2) one → k ≡ 2 + 12 * n → v ≡ splice u (at + k) two → v ≡ splice s at (settings_of sh)
+    settings_put t u v k e f o g₀ =
+        let g : v ≡ splice u (at + (2 + 12 * n)) two = g₀ ∙ ap (λ (i : ℕ). splice u (at + i) two) o in
         let l₁ : at + 2 ≡ at + length (bytes_of 2 n) = omega (arith, length_bytes 2 n) in
-        let l₂ : at + 2 + 12 * n ≡ at + length (bytes_of 2 n ++ one) = omega (arith, length-append (bytes_of 2 n) one, length_bytes 2 n, one_long) in
+        let l₂ : at + (2 + 12 * n) ≡ at + length (bytes_of 2 n ++ one) = omega (arith, length-append (bytes_of 2 n) one, length_bytes 2 n, one_long) in
         let u-is : u ≡ splice s at (bytes_of 2 n ++ one) =
         f ∙ ap₂ (λ (r : List ℕ) (k : ℕ). splice r k one) e l₁ ∙ splice_more s at (bytes_of 2 n) one (omega arith)
         in
@@ -68,13 +73,15 @@ module _ (sh : List ℕ) (x : Extent) (h : Extents sh x) where
         ∙ splice_more s at (bytes_of 2 n ++ one) two (omega arith)
         ∙ ap (splice s at) (append_assoc (bytes_of 2 n) one two ∙ sym parts)
 
--- the four steps of an append
+-- the five steps of an append
 pub append_steps :
-    (s t u v w d : List ℕ) (n end x long m : ℕ) → long ≡ length d → t ≡ splice (moved s (table_end n) (table_end n + 8) (end - table_end n)) (table_end n) (row_of x 0 long) →
-    u ≡ splice t (end + 8) d → m ≡ n + 1 → v ≡ splice u 0 (m / 256 % 256 ∷ m % 256 ∷ x / 256 % 256 ∷ x % 256 ∷ []) → w ≡ linked v m →
+    (s t u v₁ v₂ w d : List ℕ) (n end x long : ℕ) → long ≡ length d → t ≡ splice (moved s (table_end n) (table_end n + 8) (end - table_end n)) (table_end n) (row_of x 0 long) →
+    u ≡ splice t (end + 8) d → v₁ ≡ splice u 0 (bytes_of 2 (n + 1)) → v₂ ≡ splice v₁ 2 (bytes_of 2 x) → w ≡ linked v₂ (n + 1) →
     w ≡ appended s n end x d
 unfolding appended bytes_of
-append_steps s t u v w d n end x long m l e f q g k = k ∙ rw (g, f, e, l, q)
+append_steps s t u v₁ v₂ w d n end x long l e f g₁ g₂ k =
+    let g : v₂ ≡ splice u 0 (bytes_of 2 (n + 1) ++ bytes_of 2 x) = g₂ ∙ ap (λ (i : List ℕ). splice i 2 (bytes_of 2 x)) g₁ ∙ splice_more u 0 (bytes_of 2 (n + 1)) (bytes_of 2 x) (omega arith) in
+    k ∙ rw (g, f, e, l)
 
 -- where the properties stand
 module _ {s : List ℕ} (ok : Accepted s) where

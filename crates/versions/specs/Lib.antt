@@ -9,6 +9,7 @@ pub mod Settings
 pub mod Saving
 pub mod Restoring
 pub mod Removing
+pub mod Refusal
 pub mod Steps
 pub mod Walk
 pub mod Due

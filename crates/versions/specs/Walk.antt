@@ -1,5 +1,5 @@
 -- What calls of this crate promise one another.
-use Rattle.std.specs.Prelude.{ℕ, ◌+◌, ◌-◌, ◌*◌, ◌≤◌, ◌<◌, ◌≡◌, true, List, length, take, drop}
+use Rattle.std.specs.Prelude.{ℕ, ◌+◌, ◌-◌, ◌*◌, ◌≤◌, ◌<◌, ◌≡◌, true, false, Option, None, Some, List, length, take, drop}
 use Rattle.sheet.specs.Demand.{Met}
 use Rattle.sheet.specs.Kind.{properties}
 use Rattle.sheet.specs.Layout.{◌of◌}
@@ -32,6 +32,11 @@ pub record Found (s : List ℕ) (n x r : ℕ) : Type 0 where
   pub within : r ≤ n
   pub before : (j : ℕ) → j < r → number_in s j ≡ x → ⊥
   pub here : r < n → number_in s r ≡ x
+
+-- that row, or None where no row has it
+abbrev pub FoundIn : List ℕ → ℕ → ℕ → Option ℕ → Type 0
+FoundIn s n x (Some i) = Found s n x i × (i < n)
+FoundIn s n x None = Found s n x n
 
 -- the bodies of n versions end at r
 pub record Ended (s : List ℕ) (n r : ℕ) : Type 0 where
@@ -73,8 +78,7 @@ pub record Appendable (s sh : List ℕ) (n end long : ℕ) (x : Extent) : Type 0
   pub size : long ≡ length (settings_of sh)
   pub room : end + 8 + length (settings_of sh) ≤ length s
 
--- r says whether a number is kept, and where the version's body then stands
-pub record Placed (s : List ℕ) (x : ℕ) (r : Place) : Type 0 where
-  pub known : r.kept ≡ is_kept s x
-  pub within : r.at + r.long ≤ length s
-  pub body : r.kept ≡ true → take r.long (drop r.at s) ≡ version_in s x
+-- a number is kept, and where the version's body then stands
+abbrev pub Placed : List ℕ → ℕ → Option Place → Type 0
+Placed s x (Some v) = (is_kept s x ≡ true) × (v.at + v.long ≤ length s) × (take v.long (drop v.at s) ≡ version_in s x)
+Placed s x None = is_kept s x ≡ false

@@ -4,6 +4,7 @@
 mod layout;
 mod linking;
 mod listing;
+mod refusal;
 mod removing;
 mod restoring;
 mod rules;
@@ -12,6 +13,7 @@ mod settings;
 mod table;
 
 pub use listing::{Listed, kept};
+pub use refusal::Refusal;
 pub use removing::remove;
 pub use restoring::restore;
 pub use rules::check;

@@ -1,12 +1,12 @@
 // The versions that a store keeps, one by one.
 ghost use Rattle.std.specs.Prelude.{◌≡◌};
-ghost use Rattle.versions.specs.Kept.{none as noVersion, kept_of};
+ghost use Rattle.versions.specs.Kept.{kept_of, listed_flat};
 
-use crate::layout::{head, row};
+use crate::layout::{head, row, table_end};
 use crate::rules::check;
 use octets::word;
 
-// A version's number, and the length of its body; 0 and 0 if there is none.
+// A version's number, and the length of its body, with C's layout.
 #[repr(C)]
 #[derive(Clone, Copy)]
 pub struct Listed {
@@ -14,26 +14,19 @@ pub struct Listed {
     pub long: u16,
 }
 
-fn none() -> Listed
-    ensures { result ≡ noVersion }
-{
-    Listed { number: 0, long: 0 }
-}
-
 // The k-th version that a store keeps, the first being 0.
-pub fn kept(store: &[u8], k: usize) -> Listed
-    ensures { result ≡ kept_of store.now k }
+pub fn kept(store: &[u8], k: usize) -> Option<Listed>
+    ensures { listed_flat result ≡ kept_of store.now k }
 {
-    if check(store) != 0 {
-        return none();
+    let Ok(()) = check(store) else {
+        return None;
+    };
+    if word(store, head::COUNT) as usize <= k {
+        return None;
     }
-    let n = word(store, head::COUNT);
-    if n <= k {
-        return none();
-    }
-    let p = head::SIZE + row::SIZE * k;
-    Listed {
-        number: word(store, p + row::NUMBER) as u16,
-        long: word(store, p + row::LONG) as u16,
-    }
+    let p = table_end(k);
+    Some(Listed {
+        number: word(store, p + row::NUMBER),
+        long: word(store, p + row::LONG),
+    })
 }

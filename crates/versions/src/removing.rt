@@ -3,14 +3,18 @@ ghost use Rattle.std.specs.Prelude.{◌≡◌, ◌+◌, ◌≤◌, ◌<◌, leng
 ghost use Rattle.versions.specs.Removing.{Removed};
 ghost use Rattle.versions.specs.Steps.{cut_out, closed, taken_out};
 ghost use Rattle.versions.specs.Walk.{Tabled, Chosen, Stands};
+ghost use Rattle.versions.specs.Refusal.{told_done};
 
-use crate::layout::{head, row};
+use crate::Refusal;
+use crate::layout::{head, row, table_end};
 use crate::linking::link;
-use crate::rules::{BAD_STORE, NOT_KEPT, check};
+use crate::rules::check;
 use crate::table::{bodies_end, find};
 use octets::{fill, put, shift, word};
 
+// What stands where (`Tabled`, `Stands`) stays a clause: it speaks of the lent store, which each step changes.
 // The row at p and the body of l bytes at a, the bodies ending at `end`.
+#[tactic(auto, unfolding(crate::specs::Steps::cut_out))]
 fn cut(s: &mut [u8], p: usize, a: usize, l: usize, end: usize)
     requires { Stands s.old p a l end }
     ensures { s.new ≡ cut_out s.old p a l end }
@@ -21,6 +25,7 @@ fn cut(s: &mut [u8], p: usize, a: usize, l: usize, end: usize)
 }
 
 // The same, with the count of the n - 1 that are left and their offsets.
+#[tactic(auto, unfolding(crate::specs::Steps::closed))]
 fn close_up(s: &mut [u8], n: usize, p: usize, a: usize, l: usize, end: usize)
     requires { Tabled s.old n × (1 ≤ n) × Stands s.old p a l end }
     ensures { s.new ≡ closed s.old n p a l end }
@@ -35,25 +40,22 @@ fn take_out(s: &mut [u8], n: usize, i: usize)
     requires { Chosen s.old n i }
     ensures { s.new ≡ taken_out s.old n i }
 {
-    let p = head::SIZE + row::SIZE * i;
-    let a = word(&s[..], p + row::OFFSET);
-    let l = word(&s[..], p + row::LONG);
+    let p = table_end(i);
+    let a = word(&s[..], p + row::OFFSET) as usize;
+    let l = word(&s[..], p + row::LONG) as usize;
     let end = bodies_end(&s[..], n);
     close_up(s, n, p, a, l, end);
 }
 
-// Removes the version with a number: 30 for a bad store, 34 for a number that is not kept, else 1.
-pub fn remove(store: &mut [u8], number: usize) -> u8
-    ensures { Removed store.old number result store.new }
+// Removes the version with a number: refused for a bad store, or a number that is not kept. A refusal changes nothing.
+pub fn remove(store: &mut [u8], number: usize) -> Result<(), Refusal>
+    ensures { Removed store.old number (told_done result) store.new }
 {
-    if check(&store[..]) != 0 {
-        return BAD_STORE;
-    }
-    let n = word(&store[..], head::COUNT);
-    let i = find(&store[..], n, number);
-    if n <= i {
-        return NOT_KEPT;
-    }
+    check(&store[..])?;
+    let n = word(&store[..], head::COUNT) as usize;
+    let Some(i) = find(&store[..], n, number) else {
+        return Err(Refusal::NotKept);
+    };
     take_out(store, n, i);
-    1
+    Ok(())
 }

@@ -1,9 +1,10 @@
 -- WRITTEN AGAIN FROM WHAT WAS READ, A FRAME HAS THE SAME BYTES. Assumes nothing.
 use Rattle.octets.proofs.Kit.{ℕ, ◌+◌, ◌-◌, ◌/◌, ◌≤◌, ◌<◌, ◌≡◌, refl, sym, ap, ap₂, subst, ◌∙◌, true, List, [], ◌∷◌, ◌++◌, add-zero, arith, length, get_or, take, drop, length-take, length-drop}
 use Rattle.octets.proofs.Kit.{take-append-drop, drop-drop, get_or-drop, take_all, le-leb}
+use Rattle.std.specs.Prelude.{Ok}
 use Rattle.octets.{specs.{Bytes.num_at, Octets.{Octets, ReadFrom}}, proofs.Numbers.num_one}
 use Rattle.cemi.specs.{Layout.{table, info_length, octet6, stated, ◌of◌, bytes_in}, Read.{fields_in, frame_in, read_frame}, Parts.{info_of, tpdu_of}}
-use Rattle.cemi.specs.{Write.{numbers_of, under, front_bytes, encoded, writable}, declared.{Frame.Frame, Got.TheVariants.Is}}
+use Rattle.cemi.specs.{Write.{numbers_of, under, front_bytes, encoded, writable}, declared.Frame.Frame}
 use Rattle.cemi.proofs.promises.{Tables.{numbers_at, bytes_there}, Standards.{IsStandard, reads_standard, accepts}}
 
 -- code and additional information, and what follows them
@@ -72,7 +73,7 @@ module _ (b : List ℕ) (small : Octets b) (s : IsStandard b) where
       rw (length_info, length_tpdu, y, le-leb l 255 (omega arith), le-leb (fields_in b).transport 63 (omega arith), le-leb 1 (x + 1) (omega arith))
       (rw (le-leb (x + 1) 16 (omega (arith, s.short)), s.stated, accepts (length b) l (fields_in b) x s))
 
-module _ (b : List ℕ) (f : Frame) (call : ReadFrom b (Is f) (read_frame b)) where
+module _ (b : List ℕ) (f : Frame) (call : ReadFrom b (Ok f) (read_frame b)) where
   pub write_back : encoded f.fields (info_of f b) (tpdu_of f b) ≡ b
   write_back =
       let r = reads_standard b f (sym call.is) in

@@ -1,6 +1,7 @@
 -- A FRAME THAT ANSWERS ANOTHER CAN ALWAYS BE WRITTEN, and means data in the mode of the request. Assumes nothing.
-use Rattle.octets.proofs.Kit.{ℕ, ◌+◌, ◌-◌, ◌%◌, ◌≤◌, ◌<◌, ◌≡◌, refl, sym, ◌∙◌, Bool, true, false, cond, inl, arith, leb, eqb, le-leb, lt-leb, eq-eqb, ne_eqb}
-use Rattle.cemi.specs.{Layout.{table, Fit}, Meaning.{multicast, broadcast, connectionless, connected}, Means.{Means, to_all, to_some, plain, numbered, Group, Individual}, Read.refusal_of}
+use Rattle.octets.proofs.Kit.{ℕ, ◌+◌, ◌-◌, ◌%◌, ◌≤◌, ◌<◌, ◌≡◌, refl, sym, ap, ◌∙◌, Bool, true, false, cond, inl, arith, leb, eqb, le-leb, lt-leb, ne_eqb}
+use Rattle.std.specs.Prelude.{Ok, is_ok}
+use Rattle.cemi.specs.{Layout.{table, Fit}, Meaning.{multicast, broadcast, connectionless, connected}, Means.{Means, to_all, to_some, plain, numbered, Group, Individual}}
 use Rattle.cemi.specs.{Standard.Standard, Write.{numbers_of, count_of, writable}, Answering.answering, declared.{Fields.Fields, Frame.Frame, Meaning.TheVariants.Data}}
 use Rattle.cemi.proofs.promises.Standards.{accepts}
 
@@ -32,7 +33,7 @@ module _ (f : Fields) (own mode sequence k : ℕ) (some : 1 ≤ k) (few : k ≤ 
   answer_writable =
       let t : cond (eqb mode connected) (16 + sequence % 16) 0 < 64 = below (eqb mode connected) (16 + sequence % 16) 0 64 (omega arith) (omega arith) in
       simp (le-leb (cond (eqb mode connected) (16 + sequence % 16) 0) 63 (omega (arith, t)), le-leb 1 k some, le-leb k 16 few)
-      (eq-eqb (refusal_of (count_of 0 k) 0 (answering f own mode sequence) (k - 1)) 0 (accepts (count_of 0 k) 0 (answering f own mode sequence) (k - 1) is_standard))
+      (ap is_ok (accepts (count_of 0 k) 0 (answering f own mode sequence) (k - 1) is_standard))
 
   pub answer_fits : own < 65536 → f.source < 65536 → f.destination < 65536 → Fit table (numbers_of (answering f own mode sequence) (k - 1))
   unfolding answering
@@ -63,7 +64,7 @@ module _ (f : Frame) (own sequence : ℕ) (g : Frame) where
   unfolding answering
   numbered_answer e = rw e (omega arith, omega arith)
 
-  pub answer_means : (mode : ℕ) → Answers mode → Means f (Data mode) → Means g (Data mode)
+  pub answer_means : (mode : ℕ) → Answers mode → Means f (Ok (Data mode)) → Means g (Ok (Data mode))
   answer_means _ e (to_all h t d) = let s = stays_group broadcast e h in to_all s.0 (unnumbered broadcast e (omega arith)) (s.1 ∙ d)
   answer_means _ e (to_some h t d) = let s = stays_group multicast e h in to_some s.0 (unnumbered multicast e (omega arith)) (λ z. d (sym s.1 ∙ z))
   answer_means _ e (plain h t) = plain (stays_one connectionless e h) (unnumbered connectionless e (omega arith))

@@ -1,10 +1,11 @@
 -- WHAT WAS WRITTEN READS AS THESE FIELDS, with its additional information and its APDU. Assumes nothing.
 use Rattle.octets.proofs.Kit.{ℕ, ◌+◌, ◌-◌, ◌*◌, ◌/◌, ◌%◌, ◌≤◌, ◌≡◌, refl, sym, ap, ap₂, subst, ◌∙◌, true, List, [], ◌∷◌, ◌++◌, append_assoc, add-zero, arith, length, get_or, take, drop}
-use Rattle.octets.proofs.Kit.{length-append, get_or-append-add, drop_at, take-append_seam, take_all, le-leb, eqb-true}
+use Rattle.octets.proofs.Kit.{length-append, get_or-append-add, drop_at, take-append_seam, take_all, le-leb}
+use Rattle.std.specs.Prelude.{Ok}
 use Rattle.octets.{specs.Bytes.num_at, proofs.Numbers.num_one}
 use Rattle.cemi.specs.{Layout.{table, info_length, octet6, stated, ◌of◌, bytes_in, Fit}, Read.{fields_in, frame_in, read_frame, refusal_of}, Parts.{info_of, tpdu_of}}
-use Rattle.cemi.specs.{Write.{numbers_of, under, front_bytes, encoded, frame_of, count_of, writable}, declared.{Fields.Fields, Frame.Frame, Got.TheVariants.Is}}
-use Rattle.cemi.proofs.{Stores.length_table, promises.{Tables.{numbers_at, numbers_back}, Standards.{IsStandard, accepted, standard_reads}}, Wrote.bounds}
+use Rattle.cemi.specs.{Write.{numbers_of, under, front_bytes, encoded, frame_of, count_of, writable}, declared.{Fields.Fields, Frame.Frame}}
+use Rattle.cemi.proofs.{Stores.length_table, promises.{Tables.{numbers_at, numbers_back}, Standards.{IsStandard, is_judged, accepted, standard_reads}}, Wrote.bounds}
 
 pub length_under : (t : ℕ) (a : List ℕ) → length (under t a) ≡ length a
 unfolding under
@@ -84,14 +85,14 @@ module _ (f : Fields) (i a : List ℕ) where
             rw (e₀, e₁, e₂, e₃, e₄, p, q, r, u)
 
     -- READ BACK
-    pub read_back : writable f (length i) (length a) ≡ true → read_frame b ≡ Is (frame_of f i a)
+    pub read_back : writable f (length i) (length a) ≡ true → read_frame b ≡ Ok (frame_of f i a)
     read_back w =
         let k = bounds f (length i) (length a) w in
         let e : frame_in b ≡ frame_of f i a = frame_back k.some in
-        let z : refusal_of (length b) (length i) f (length a - 1) ≡ 0 =
-        ap (λ (n : ℕ). refusal_of n (length i) f (length a - 1)) length_encoded ∙ eqb-true (refusal_of (count_of (length i) (length a)) (length i) f (length a - 1)) 0 k.judged in
-        let s : IsStandard b = accepted (length b) (info_length b) (fields_in b) (stated of b) (subst (λ (g : Frame). refusal_of (length b) g.info g.fields g.stated ≡ 0) (sym e) z) in
-        standard_reads b s ∙ ap Is e
+        let z : refusal_of (length b) (length i) f (length a - 1) ≡ Ok tt =
+        ap (λ (n : ℕ). refusal_of n (length i) f (length a - 1)) length_encoded ∙ is_judged (refusal_of (count_of (length i) (length a)) (length i) f (length a - 1)) k.judged in
+        let s : IsStandard b = accepted (length b) (info_length b) (fields_in b) (stated of b) (subst (λ (g : Frame). refusal_of (length b) g.info g.fields g.stated ≡ Ok tt) (sym e) z) in
+        standard_reads b s ∙ ap Ok e
 
   -- AND THE PARTS
   pub info_part : info_of (frame_of f i a) b ≡ i

@@ -1,10 +1,11 @@
 -- Worked examples: what frames read as and mean, and the bytes of one, by computation. Fields exchanged in table, reader and writer at once would show here. Assumes nothing.
 use Rattle.octets.proofs.Kit.{◌≡◌, refl, List, [], ◌∷◌, map, ℕ}
+use Rattle.std.specs.Prelude.{Result, Ok, Err}
 use Rattle.octets.specs.Bytes.{num_at, bytes_of}
 use Rattle.cemi.specs.{Layout.bytes_in, Read.{frame_in, standard_of, refusal_of, read_frame, read_outcome}}
 use Rattle.cemi.specs.{Meaning.{to_group, numbered, to_one, control, meaning_of, meaning_number, multicast, broadcast, connectionless, connected}, Write.{under, encoded}}
-use Rattle.cemi.specs.{Answering.answering, declared.{Fields.Fields, Frame.Frame, Got.{Got, TheVariants.{Is, Refused}}, Meaning.TheVariants.{Data, Connect, Disconnect}}}
-use Rattle.cemi.specs.declared.Meaning.TheVariants as meaning
+use Rattle.cemi.specs.{Answering.answering, declared.{Fields.Fields, Frame.Frame, ReadRefusal.ReadRefusal, NoMeaning.TheVariants.Transport, Meaning.TheVariants.{Data, Connect, Disconnect}}}
+use Rattle.cemi.specs.Refusal.{read_number}
 
 -- L_Data.ind from 1105h to group 0801h: a group value write
 group : Frame
@@ -16,11 +17,11 @@ group =
       stated = 1;
     }
 
-group_reads : read_frame (0x29 ∷ 0 ∷ 0xBC ∷ 0xE0 ∷ 0x11 ∷ 0x05 ∷ 0x08 ∷ 0x01 ∷ 1 ∷ 0x00 ∷ 0x81 ∷ []) ≡ Is group
+group_reads : read_frame (0x29 ∷ 0 ∷ 0xBC ∷ 0xE0 ∷ 0x11 ∷ 0x05 ∷ 0x08 ∷ 0x01 ∷ 1 ∷ 0x00 ∷ 0x81 ∷ []) ≡ Ok group
 unfolding group read_frame refusal_of standard_of num_at
 group_reads = refl
 
-group_means : meaning_of group ≡ Data multicast
+group_means : meaning_of group ≡ Ok (Data multicast)
 unfolding group meaning_of to_group
 group_means = refl
 
@@ -37,11 +38,11 @@ numbered_one =
 numbered_bytes : List ℕ
 numbered_bytes = 0x11 ∷ 2 ∷ 0xAA ∷ 0xBB ∷ 0xB0 ∷ 0x60 ∷ 0x11 ∷ 0xFF ∷ 0x11 ∷ 0x05 ∷ 3 ∷ 0x46 ∷ 0x04 ∷ 0x01 ∷ 0x00 ∷ []
 
-numbered_reads : read_frame numbered_bytes ≡ Is numbered_one
+numbered_reads : read_frame numbered_bytes ≡ Ok numbered_one
 unfolding numbered_one numbered_bytes read_frame refusal_of standard_of num_at
 numbered_reads = refl
 
-numbered_means : meaning_of numbered_one ≡ Data connected
+numbered_means : meaning_of numbered_one ≡ Ok (Data connected)
 unfolding numbered_one meaning_of to_one numbered
 numbered_means = refl
 
@@ -50,9 +51,9 @@ unfolding numbered_one numbered_bytes encoded bytes_in bytes_of under
 numbered_written = refl
 
 -- BY NUMBER, as the device numbers its modes: multicast, broadcast, connectionless, connected, connect, disconnect, acknowledged twice, all else; and each refusal of reading
-abbrev event : Got → ℕ
-event (Is f) = meaning_number (meaning_of f)
-event (Refused n) = n
+abbrev event : Result Frame ReadRefusal → ℕ
+event (Ok f) = meaning_number (meaning_of f)
+event (Err e) = read_number e
 
 pub events :
     map (λ (b : List ℕ). event (read_frame b))
@@ -77,7 +78,7 @@ events = refl
 -- connect and disconnect by their names
 pub controls :
     meaning_of (frame_in (0x29 ∷ 0 ∷ 0xB0 ∷ 0x60 ∷ 0x11 ∷ 0xFF ∷ 0x11 ∷ 0x05 ∷ 0 ∷ 0x80 ∷ [])) ∷ meaning_of (frame_in (0x29 ∷ 0 ∷ 0xB0 ∷ 0x60 ∷ 0x11 ∷ 0xFF ∷ 0x11 ∷ 0x05 ∷ 0 ∷ 0x81 ∷ [])) ∷ []
-    ≡ Connect ∷ Disconnect ∷ []
+    ≡ Ok Connect ∷ Ok Disconnect ∷ []
 unfolding num_at meaning_of to_one numbered control
 controls = refl
 
@@ -88,7 +89,7 @@ between c octet = 0x29 ∷ 0 ∷ 0xB0 ∷ c ∷ 0x11 ∷ 0xFF ∷ 0x11 ∷ 0x05 
 -- CONNECTED DATA AT ITS EDGES: sequence numbers 0 and 15, and the transport controls on both sides
 pub numbered_edges :
     map (λ (octet : ℕ). meaning_of (frame_in (between 0x60 octet))) (0x3F ∷ 0x40 ∷ 0x43 ∷ 0x7C ∷ 0x7F ∷ 0x80 ∷ [])
-    ≡ meaning.Refused 44 ∷ Data connected ∷ Data connected ∷ Data connected ∷ Data connected ∷ meaning.Refused 44 ∷ []
+    ≡ Err Transport ∷ Ok (Data connected) ∷ Ok (Data connected) ∷ Ok (Data connected) ∷ Ok (Data connected) ∷ Err Transport ∷ []
 unfolding num_at meaning_of to_one numbered control
 numbered_edges = refl
 

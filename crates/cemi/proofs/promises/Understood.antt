@@ -1,10 +1,11 @@
 -- WHAT A FRAME MEANS IS ONE THING, AND ALWAYS SOMETHING. Assumes nothing.
 use Rattle.octets.proofs.Kit.{ℕ, ◌≤◌, ◌<◌, ◌≡◌, refl, Bool, true, false, cond, ◌&&◌, inl, inr, ⊎_elim, arith, leb, eqb, le-leb, lt-leb, eq-eqb, ne_eqb, leb-true, leb-false, eqb-true}
 use Rattle.octets.proofs.Kit.{eqb-false}
+use Rattle.std.specs.Prelude.{Result, Err}
 use Rattle.octets.proofs.{Truths.{first_true, second_true}, Walks.by_test, Tests.{both, not_second_lem}}
 use Rattle.cemi.specs.Meaning.{to_group, control, numbered, to_one, meaning_of}
 use Rattle.cemi.specs.{Means.{Means, to_all, to_some, to_none, plain, numbered as isNumbered, connects, disconnects, acknowledges, other, Group, Individual, octet}, declared.Frame.Frame}
-use Rattle.cemi.specs.declared.Meaning.{Meaning, TheVariants.Refused}
+use Rattle.cemi.specs.declared.{Meaning.Meaning, NoMeaning.{NoMeaning, TheVariants.Transport}}
 
 not_both : (a b : Bool) → (a && b) ≡ false → (a ≡ true) × (b ≡ true) → ⊥
 not_both a b e h = let z : true ≡ false = cc (both a b h.0 h.1) in true_false z
@@ -54,7 +55,7 @@ module _ (f : Frame) where
       (λ e. single (leb-false 128 f.fields.control2 e))
 
   -- AND ONE THING: the low bits of a frame are two
-  pub means_one : (m : Meaning) → f.low < 4 → Means f m → m ≡ meaning_of f
+  pub means_one : (m : Result Meaning NoMeaning) → f.low < 4 → Means f m → m ≡ meaning_of f
   unfolding meaning_of to_group to_one numbered control
   means_one m w (to_all g a b) = simp (le-leb 128 _ g, eq-eqb _ _ a, eq-eqb _ _ b)
   means_one m w (to_some g a b) = simp (le-leb 128 _ g, eq-eqb _ _ a, ne_eqb _ _ b)
@@ -86,11 +87,11 @@ module _ (f : Frame) where
       not_in true false e = refl
       not_in false b e = refl
 
-      alone : f.stated ≡ 0 → Refused 44 ≡ control t f.low
+      alone : f.stated ≡ 0 → Err Transport ≡ control t f.low
       alone z =
           let d : (leb 48 t && leb 2 f.low) ≡ false = not_in (leb 48 t) (leb 2 f.low) (λ p. h z (inr (inr (leb-true 48 t p.0, leb-true 2 f.low p.1)))) in
           simp (ne_eqb (octet f) 128 (λ e. h z (inl e)), ne_eqb (octet f) 129 (λ e. h z (inr (inl e))), d)
 
-      rest : (b : Bool) → (b ≡ true → f.stated ≡ 0) → Refused 44 ≡ cond b (control t f.low) (Refused 44)
+      rest : (b : Bool) → (b ≡ true → f.stated ≡ 0) → Err Transport ≡ cond b (control t f.low) (Err Transport)
       rest true e = alone (e refl)
       rest false e = refl

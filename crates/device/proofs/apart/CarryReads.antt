@@ -1,5 +1,7 @@
 -- What carrying a decision out reads of the sheet: bytes of group objects, and those of elements and memory that the level of the request may read.
 use Rattle.octets.proofs.Kit.{ℕ, ◌+◌, ◌*◌, ◌-◌, ◌/◌, ◌<◌, ◌≤◌, ◌≡◌, refl, sym, ap, subst, ◌⊎◌, inl, inr, List, mul-le-mul_right, arith}
+use Rattle.std.proofs.Common.{Result}
+use Rattle.pdu.specs.declared.ReadRefusal.{ReadRefusal}
 use Rattle.octets.proofs.Walks.{by_eq}
 use Rattle.sheet.specs.{Kind.{properties, groups, kind_of, by_kind}, Layout.◌of◌, Entries.{count, entry, body_at, body_end, InBody}, Places.{Ranged, region_at}, declared.Memory.Memory}
 use Rattle.sheet.{specs.declared.Memory.TheVariants.{Device, User}, proofs.{rules.Good.{Good, good}, alike.Buts.Misses, places.RegionBodies.stands_in}}
@@ -7,7 +9,7 @@ use Rattle.sheet.specs.Head as head
 use Rattle.sheet.specs.Region as region
 use Rattle.sheet.specs.Property as property
 use Rattle.sheet.specs.Group as group
-use Rattle.pdu.specs.{Read.{read_pdu, data_of}, declared.{Parsed.Parsed, Pdu.{Pdu, TheVariants.{GroupValueRead, GroupValueResponse, GroupValueWrite, IndividualAddressWrite}}}}
+use Rattle.pdu.specs.{Read.{read_pdu, data_of}, declared.Pdu.{Pdu, TheVariants.{GroupValueRead, GroupValueResponse, GroupValueWrite, IndividualAddressWrite}}}
 use Rattle.pdu.specs.declared.Pdu.TheVariants.{IndividualAddressRead, SerialNumberRead, SerialNumberWrite, DeviceDescriptorRead, PropertyValueRead, PropertyValueWrite}
 use Rattle.pdu.specs.declared.Pdu.TheVariants.{PropertyDescriptionRead, MemoryRead, MemoryWrite, MemoryBitWrite, AuthorizeRequest, KeyWrite, Restart, IndividualAddressResponse}
 use Rattle.pdu.specs.declared.Pdu.TheVariants.{SerialNumberResponse, DeviceDescriptorResponse, PropertyValueResponse, PropertyDescriptionResponse, MemoryResponse, AuthorizeResponse}
@@ -123,6 +125,6 @@ spares x H none =
     request_cases x (Spares H (data_in (read_pdu x.apdu) x.apdu)) (λ k r n v t. (tt, tt, tt)) (λ r f. (tt, tt, tt)) (λ k r n t e. (tt, tt, tt))
     (λ p r.
     let ok : Good x.sheet = good x.sheet r.ready.sheet in
-    subst (λ (z : Parsed). Spares H (data_in z x.apdu) (decide_of x.sheet (level_in x.session x.mode) x.group (given x p) p)) (sym r.reads)
+    subst (λ (z : Result Pdu ReadRefusal). Spares H (data_in z x.apdu) (decide_of x.sheet (level_in x.session x.mode) x.group (given x p) p)) (sym r.reads)
     (spares_decided ok H (level_in x.session x.mode) (none p r ok) x.group x.apdu p (reading x.apdu p r.reads)))
     (λ n r. (tt, tt, tt))

@@ -1,11 +1,13 @@
 -- Judging rests on what it reads: the same there, and the same rules or an undisputed request, give the same judgement.
 use Rattle.octets.proofs.Kit.{ℕ, ◌+◌, ◌*◌, ◌<◌, ◌≤◌, ◌≡◌, refl, ap, ◌∙◌, ◌⊎◌, inl, inr, Bool, true, false, cond, List, ltb, eqb, length, arith, ltb-true, eqb-false, ne_eqb}
+use Rattle.std.proofs.Common.{Option, Some, None, Result, Ok, Err}
+use Rattle.pdu.specs.declared.ReadRefusal.{ReadRefusal}
 use Rattle.sheet.specs.{Kind.{properties, groups}, Layout.◌of◌, Head.rules_of, Entries.entry, Lookup.index_of, Rules.refusal_of, Agree.AgreeInside, declared.Memory.TheVariants.{Device, User}}
 use Rattle.sheet.proofs.alike.{Sames.{count_same, place_same}, SameLookups.{index_same, rank_same, nth_same, range_same}}
 use Rattle.sheet.specs.Head as head
 use Rattle.sheet.specs.Property as property
-use Rattle.pdu.specs.{Read.{read_pdu, data_of}, Rules.code_of, Table.service_at, declared.{Service.Service, Found.{Found, TheVariants.{Listed, Unknown}}, Parsed.Parsed}}
-use Rattle.pdu.specs.declared.{Parsed.TheVariants.{Is, Refused}, Pdu.{Pdu, TheVariants.{GroupValueRead, GroupValueResponse, GroupValueWrite, IndividualAddressWrite}}}
+use Rattle.pdu.specs.{Read.{read_pdu, data_of}, Rules.code_of, Table.service_at, declared.Service.Service}
+use Rattle.pdu.specs.declared.Pdu.{Pdu, TheVariants.{GroupValueRead, GroupValueResponse, GroupValueWrite, IndividualAddressWrite}}
 use Rattle.pdu.specs.declared.Pdu.TheVariants.{IndividualAddressRead, SerialNumberRead, SerialNumberWrite, DeviceDescriptorRead, PropertyValueRead, PropertyValueWrite}
 use Rattle.pdu.specs.declared.Pdu.TheVariants.{PropertyDescriptionRead, MemoryRead, MemoryWrite, MemoryBitWrite, AuthorizeRequest, KeyWrite, Restart, IndividualAddressResponse}
 use Rattle.pdu.specs.declared.Pdu.TheVariants.{SerialNumberResponse, DeviceDescriptorResponse, PropertyValueResponse, PropertyDescriptionResponse, MemoryResponse, AuthorizeResponse}
@@ -130,19 +132,19 @@ module _ {s s' : List ℕ} (b : SameThere s s') where
     decide_same (UserMemoryWrite n address) r = rw (range_same a User address n, head_same b head.flags (omega arith))
 
   module _ (q : Session) (mode group : ℕ) (c : List ℕ) (fair : (rules_of s' ≡ rules_of s) ⊎ Undisputed mode c) where
-    same_for : (t : ℕ) → read_pdu c ≡ Is (DeviceDescriptorRead t) → 1 ≤ t → rules_of s' ≡ rules_of s
+    same_for : (t : ℕ) → read_pdu c ≡ Ok (DeviceDescriptorRead t) → 1 ≤ t → rules_of s' ≡ rules_of s
     same_for t e h = go fair
       where
         go : (rules_of s' ≡ rules_of s) ⊎ Undisputed mode c → rules_of s' ≡ rules_of s
         go (inl r) = r
         go (inr u) = absurd (u (describes t h e))
 
-    read_same : (level : ℕ) (z : Parsed) → read_pdu c ≡ z → read_of s' level group c z ≡ read_of s level group c z
-    read_same level (Is p) e = decide_same level group (data_of p c) p (λ t r. same_for t (e ∙ ap Is r))
-    read_same level (Refused n) e = refl
+    read_same : (level : ℕ) (z : Result Pdu ReadRefusal) → read_pdu c ≡ z → read_of s' level group c z ≡ read_of s level group c z
+    read_same level (Ok p) e = decide_same level group (data_of p c) p (λ t r. same_for t (e ∙ ap Ok r))
+    read_same level (Err n) e = refl
 
     reach_same :
-        (k : Service) → service_at (code_of c) ≡ Listed k →
+        (k : Service) → service_at (code_of c) ≡ Some k →
         reached_of s q mode group c (reach_of (rules_of s') k) ≡ reached_of s q mode group c (reach_of (rules_of s) k)
     reach_same k e = go fair (same_reach (rules_of s') (rules_of s) k)
       where
@@ -152,15 +154,15 @@ module _ {s s' : List ℕ} (b : SameThere s s') where
         go (inr u) (inl r) = rw r
         go (inr u) (inr r) =
             rw r
-            (restart_alike s q mode group c (λ m. u (restarts m (e ∙ ap Listed r))) (eqb (rules_of s') 1) (eqb (rules_of s) 1))
+            (restart_alike s q mode group c (λ m. u (restarts m (e ∙ ap Some r))) (eqb (rules_of s') 1) (eqb (rules_of s) 1))
 
     reached_same : (r : Reach) → reached_of s' q mode group c r ≡ reached_of s q mode group c r
     unfolding reached_of
     reached_same r = rw (read_same (level_in q mode) (read_pdu c) refl)
 
-    found_same : (f : Found) → service_at (code_of c) ≡ f → found_of s' q mode group c f ≡ found_of s q mode group c f
-    found_same Unknown e = refl
-    found_same (Listed k) e = reached_same (reach_of (rules_of s') k) ∙ reach_same k e
+    found_same : (f : Option Service) → service_at (code_of c) ≡ f → found_of s' q mode group c f ≡ found_of s q mode group c f
+    found_same None e = refl
+    found_same (Some k) e = reached_same (reach_of (rules_of s') k) ∙ reach_same k e
 
     -- THE SAME JUDGEMENT, of two sheets that are refused by the same number, or by none
     pub judge_by_lem : (n room : ℕ) → judge_by n room s' q mode group c ≡ judge_by n room s q mode group c

@@ -1,18 +1,24 @@
 -- From what the parts of a request ensure to what it does.
-use Rattle.octets.proofs.Kit.{ℕ, ◌≡◌, refl, ap, sym, subst, ◌∙◌, List, length}
+use Rattle.octets.proofs.Kit.{arith, ℕ, ◌≡◌, refl, ap, sym, subst, ◌∙◌, List, length}
+use Rattle.std.proofs.Common.{Option, Result}
+use Rattle.pdu.specs.declared.Service.{Service}
+use Rattle.pdu.specs.declared.Pdu.{Pdu}
+use Rattle.pdu.specs.declared.ReadRefusal.{ReadRefusal}
 use Rattle.octets.proofs.Splices.{splice_none}
-use Rattle.sheet.specs.Rules.{Accepted}
-use Rattle.pdu.specs.{Rules.code_of, Table.service_at, Read.read_pdu, declared.{Found.Found, Parsed.Parsed}}
+use Rattle.judge.specs.declared.Refusal.{Refusal}
+use Rattle.judge.specs.declared.Refusal.TheVariants as refusal
+use Rattle.judge.specs.Refusal.{number_of}
+use Rattle.pdu.specs.{Rules.code_of, Table.service_at, Read.read_pdu}
 use Rattle.judge.specs.{Decisions.refused, Judge.{data_in, found_of, judge_of}, Unread.Unread, declared.{Session.Session, Decision.Decision}}
 use Rattle.device.specs.{Carry.{store_of, turn_of, closes, answer_of, Filled}, Safe.{StoreSafe, Narrow, AnswerSafe, Roomy, Safe}, Step.{Step, step_by, step_of}}
 use Rattle.device.specs.{Sessions.{session_for, turned_of, sessions_after}, Events.{request_of, Did}, Changed.{changes_of, changed_of, none}, declared.{Sessions.Sessions, Done.Done}}
 use Rattle.device.specs.declared.Changed.{Changed}
 use Rattle.device.proofs.calls.{Turns.all_stay, Sixteen.narrow, Safe.safe, Room.roomy}
 
-module _ (room : ℕ) (s : List ℕ) (q : Session) (mode group : ℕ) (a d : List ℕ) (got : Parsed) (k : Decision) (read : got ≡ read_pdu a)
+module _ (room : ℕ) (s : List ℕ) (q : Session) (mode group : ℕ) (a d : List ℕ) (got : Result Pdu ReadRefusal) (k : Decision) (read : got ≡ read_pdu a)
     (given : d ≡ data_in got a) (judged : k ≡ judge_of room s q mode group a) where
   whose : d ≡ data_in (read_pdu a) a
-  whose = given ∙ ap (λ (x : Parsed). data_in x a) read
+  whose = given ∙ ap (λ (x : Result Pdu ReadRefusal). data_in x a) read
 
   is_safe : Safe s d k
   is_safe =
@@ -80,11 +86,29 @@ module _ (room : ℕ) (s : List ℕ) (q : Session) (mode group : ℕ) (a d : Lis
             answer = sent.holds;
           })
 
+-- no refusal has the number 0
+some : (r : Refusal) → number_of r ≡ 0 → ⊥
+some refusal.NotForUs h = omega arith
+some refusal.Room h = omega arith
+some refusal.Bad h = omega arith
+some refusal.Length h = omega arith
+some refusal.Mode h = omega arith
+some refusal.Unconnected h = omega arith
+some refusal.Service h = omega arith
+some refusal.OtherMode h = omega arith
+some refusal.Fields h = omega arith
+some refusal.Denied h = omega arith
+some refusal.Silent h = omega arith
+some refusal.Old h = omega arith
+
 -- a request that was refused before it was read
-module _ (qs : Sessions) (mode c group : ℕ) (a s out : List ℕ) (q : Session) (n : ℕ) (met : q ≡ session_for qs mode c)
-    (told : Unread (length out) s q mode a n) (some : n ≡ 0 → ⊥) where
+module _ (qs : Sessions) (mode c group : ℕ) (a s out : List ℕ) (q : Session) (r : Refusal) (n : ℕ) (n-is : n ≡ number_of r) (met : q ≡ session_for qs mode c)
+    (unread : Unread (length out) s q mode a (number_of r)) where
   unmade : judge_of (length out) s (session_for qs mode c) mode group a ≡ refused n
-  unmade = ap (λ (x : Session). judge_of (length out) s x mode group a) (sym met) ∙ told.refuses some group
+  unmade =
+      ap (λ (x : Session). judge_of (length out) s x mode group a) (sym met)
+      ∙ unread.refuses (some r) group
+      ∙ ap refused (sym n-is)
 
   pub refused_did : Did (request_of (length out) s qs mode c group a) (record { outcome = n; count = 0; sessions = qs }) out s out
   unfolding request_of step_of step_by
@@ -98,11 +122,11 @@ module _ (qs : Sessions) (mode c group : ℕ) (a s out : List ℕ) (q : Session)
 
 -- and one that goes on is decided by what its code names
 pub goes_on :
-    (room : ℕ) (s : List ℕ) (q : Session) (mode group : ℕ) (a d : List ℕ) (n : ℕ) (f : Found) (got : Parsed) (k : Decision) →
-    Unread room s q mode a n → n ≡ 0 → f ≡ service_at (code_of a) → got ≡ read_pdu a → d ≡ data_in got a →
-    ((a : List ℕ) → got ≡ read_pdu a → d ≡ data_in got a → k ≡ found_of s q mode group a f) → k ≡ judge_of room s q mode group a
-goes_on room s q mode group a d n f got k told z f-is read given g =
-    g a read given ∙ ap (found_of s q mode group a) f-is ∙ sym (told.goes z group)
-
-pub still_accepted : (room : ℕ) (s : List ℕ) (q : Session) (mode : ℕ) (a : List ℕ) (n : ℕ) → Unread room s q mode a n → n ≡ 0 → Accepted s
-still_accepted room s q mode a n told z = told.accepted z
+    (room : ℕ) (s t : List ℕ) (q : Session) (mode group : ℕ) (a d : List ℕ) (f : Option Service) (got : Result Pdu ReadRefusal) (k : Decision) →
+    Unread room s q mode a 0 → t ≡ s → f ≡ service_at (code_of a) → got ≡ read_pdu a → d ≡ data_in got a →
+    ((a : List ℕ) → got ≡ read_pdu a → d ≡ data_in got a → k ≡ found_of t q mode group a f) → k ≡ judge_of room s q mode group a
+goes_on room s t q mode group a d f got k unread t-is f-is read given g =
+    g a read given
+    ∙ ap (λ (x : List ℕ). found_of x q mode group a f) t-is
+    ∙ ap (found_of s q mode group a) f-is
+    ∙ sym (unread.goes refl group)

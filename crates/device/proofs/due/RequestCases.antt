@@ -1,9 +1,12 @@
 -- What is decided about a request, case by case: refused before its service, or as its service decides.
 use Rattle.octets.proofs.Kit.{ℕ, ◌≤◌, ◌≡◌, refl, sym, subst, subst⁻¹, ◌∙◌, ◌⊎◌, inl, inr, Bool, true, false, not, ◌&&◌, length, eqb, eq-eqb, eqb-true, eqb-false, not-true, not-false}
+use Rattle.std.proofs.Common.{Option, Some, None, Result, Ok, Err}
+use Rattle.pdu.specs.declared.ReadRefusal.{ReadRefusal}
+use Rattle.pdu.specs.declared.ReadRefusal.TheVariants as unread
 use Rattle.octets.proofs.{Truths.{never, and_is}, Walks.{by_test, by_not, by_lt}}
 use Rattle.sheet.{specs.{Head.rules_of, Rules.{Accepted, Old, Bad, refusal_of}}, proofs.promises.Verdicts.{one_of_three, refused_old, refused_bad, refused_none, unrefused}}
-use Rattle.pdu.specs.{Table.{row_of, service_at}, Pdus.service_of, Rules.code_of, Read.read_pdu, declared.{Service.Service, Found.{Found, TheVariants.{Listed, Unknown}}, Pdu.Pdu, Parsed.Parsed}}
-use Rattle.pdu.{specs.declared.Parsed.TheVariants.{Is, Refused}, proofs.promises.{Codes.{has_is, found, named, unknown}, Readings.{reading, refused_row}}}
+use Rattle.pdu.specs.{Table.{row_of, service_at}, Pdus.service_of, Rules.code_of, Read.read_pdu, declared.{Service.Service, Pdu.Pdu}}
+use Rattle.pdu.proofs.promises.{Codes.{has_is, found, named, unknown}, Readings.{reading, refused_row}}
 use Rattle.judge.specs.{declared.Decision.Decision, Decisions.refused, Session.level_in, Modes.{reach_of, reaches, takes}, Judge.{decide_of, read_of, reached_of, found_of, is_shut, judge_of}}
 use Rattle.device.specs.Asked.{Asked, Takes, Names, Served, Refusal, no_room, bad_sheet, old_sheet, bad_length, bad_mode, no_session, Ready, Reads, given}
 use Rattle.device.proofs.due.Taking.{takes_is, served_is}
@@ -18,10 +21,10 @@ module _ (x : Asked) where
   rules = rules_of x.sheet
 
   -- the code names a service exactly if it is one of the service's
-  pub names_found : (k : Service) → Names x k → service_at (code_of x.apdu) ≡ Listed k
+  pub names_found : (k : Service) → Names x k → service_at (code_of x.apdu) ≡ Some k
   names_found k n = found k (code_of x.apdu) ((has_is (row_of k) _).1 (n.from, n.to))
 
-  pub found_names : (k : Service) → service_at (code_of x.apdu) ≡ Listed k → Names x k
+  pub found_names : (k : Service) → service_at (code_of x.apdu) ≡ Some k → Names x k
   found_names k e = let h = (has_is (row_of k) _).0 (named k _ e) in record { from = h.0; to = h.1 }
 
   pub names_once : (j k : Service) → Names x j → Names x k → j ≡ k
@@ -30,27 +33,27 @@ module _ (x : Asked) where
   module _ (P : Decision → Type 0)
       (other : (k : Service) → Ready x → Names x k → Served rules k → (Takes rules k x.mode → ⊥) → P (refused 9))
       (none : Ready x → ((k : Service) → Names x k → Served rules k → ⊥) → P (refused 8))
-      (unfit : (k : Service) → Ready x → Names x k → Takes rules k x.mode → read_pdu x.apdu ≡ Refused 10 → P (refused 10))
+      (unfit : (k : Service) → Ready x → Names x k → Takes rules k x.mode → read_pdu x.apdu ≡ Err unread.Fields → P (refused 10))
       (reads : (p : Pdu) → Reads x p → P (decide_of x.sheet (level_in x.session x.mode) x.group (given x p) p)) where
     by_reading :
-        (k : Service) → Ready x → Names x k → Takes rules k x.mode → (z : Parsed) → read_pdu x.apdu ≡ z →
+        (k : Service) → Ready x → Names x k → Takes rules k x.mode → (z : Result Pdu ReadRefusal) → read_pdu x.apdu ≡ z →
         P (read_of x.sheet (level_in x.session x.mode) x.group x.apdu z)
-    by_reading k r n t (Is p) e =
+    by_reading k r n t (Ok p) e =
         let f = names_found k n in
         let g = (reading x.apdu p e).names in
         let q : k ≡ service_of p = cc in
         reads p (record { ready = r; takes = subst (λ (j : Service). Takes rules j x.mode) q t; reads = e })
-    by_reading k r n t (Refused m) e =
-        let q : m ≡ 10 = refused_row x.apdu k m r.least r.most (names_found k n) e in
+    by_reading k r n t (Err m) e =
+        let q : m ≡ unread.Fields = refused_row x.apdu k m r.least r.most (names_found k n) e in
         rw q (unfit k r n t (rw q at e))
 
     by_code :
-        Ready x → (f : Found) → service_at (code_of x.apdu) ≡ f →
+        Ready x → (f : Option Service) → service_at (code_of x.apdu) ≡ f →
         P (found_of x.sheet x.session x.mode x.group x.apdu f)
     unfolding reached_of
-    by_code r Unknown e =
+    by_code r None e =
         none r (λ k n s. let h = (unknown (code_of x.apdu)).0 e k in never (sym h ∙ (has_is (row_of k) _).1 (n.from, n.to)))
-    by_code r (Listed k) e =
+    by_code r (Some k) e =
         let n = found_names k e in
         by_not P (reaches (reach_of rules k)) _ _
         (λ h. none r (λ j m s. never (sym h ∙ (served_is rules k).1 (subst (Served rules) (names_once j k m n) s))))

@@ -1,61 +1,26 @@
 -- What writing an answer gives, where its row allows it: its PDU first, and its data behind it.
-use Rattle.octets.proofs.Kit.{ℕ, ◌+◌, ◌-◌, ◌≤◌, ◌≡◌, refl, ap, sym, subst, ◌∙◌, Bool, true, false, List, [], ◌++◌, append-nil, arith, add-sub_cancel_left, length, take, drop}
+use Rattle.octets.proofs.Kit.{ℕ, ◌+◌, ◌≤◌, ◌≡◌, refl, ap, sym, subst, subst⁻¹, ◌⊎◌, ⊎_elim, ◌∙◌, Bool, true, false, List, [], ◌++◌, append-nil, arith, length, take, drop}
 use Rattle.octets.{specs.{Bytes.bytes_of, Splice.splice}, proofs.{Numbers.length_bytes, Splices.splice_none, Truths.never}}
 use Rattle.pdu.{specs.{Read.data_at, Write.encoded, declared.Pdu.Pdu}, proofs.{Stores.longer, promises.Writing.{length_encoded, has_room, same_room}}}
 use Rattle.judge.specs.declared.Answer.{Answer}
 use Rattle.judge.specs.declared.Answer.TheVariants as answer
 use Rattle.device.specs.{Carry.{Filled, answer_of}, Safe.{AnswerSafe, Roomy, is_silent, pdu_in, data_behind, Behind}}
 
--- in an arm the answer is known
-pub via_pdu : (a q : Answer) (p : Pdu) → a ≡ q → p ≡ pdu_in q → p ≡ pdu_in a
-via_pdu a q p e h = subst (λ (x : Answer). p ≡ pdu_in x) (sym e) h
-
 module _ (s d : List ℕ) (i : ℕ) (a : Answer) where
-  via : (q : Answer) (r : ℕ) (o e : List ℕ) → a ≡ q → Behind i (data_behind s d q) r o e → Behind i (data_behind s d a) r o e
-  via q r o e f h = subst (λ (x : Answer). Behind i (data_behind s d x) r o e) (sym f) h
-
-  none_behind : (o : List ℕ) → Behind i [] i o o
-  none_behind o = record { count = omega arith; holds = sym (splice_none o i) }
-
-  pub silence_behind : (o : List ℕ) → a ≡ answer.Silence → Behind i (data_behind s d a) i o o
-  silence_behind o f = via answer.Silence i o o f (none_behind o)
-
-  pub plain_behind : (p : Pdu) (o : List ℕ) → a ≡ answer.Plain p → Behind i (data_behind s d a) i o o
-  plain_behind p o f = via (answer.Plain p) i o o f (none_behind o)
-
-  pub number_is : (p : Pdu) (w x r : ℕ) (o e : List ℕ) → a ≡ answer.Number p w x → Behind i (bytes_of w x) r o e → Behind i (data_behind s d a) r o e
-  number_is p w x r o e f h = via (answer.Number p w x) r o e f h
-
-  -- bytes of the sheet, as a part from `at` to `at + n` has them
-  pub sheet_is : (p : Pdu) (at n r : ℕ) (o e : List ℕ) → a ≡ answer.Sheet p at n → Behind i (take (at + n - at) (drop at s)) r o e
-      → Behind i (data_behind s d a) r o e
-  sheet_is p at n r o e f h =
-      via (answer.Sheet p at n) r o e f (subst (λ (k : ℕ). Behind i (take k (drop at s)) r o e) (add-sub_cancel_left at n) h)
-
-  pub echo_is : (p : Pdu) (r : ℕ) (o e : List ℕ) → a ≡ answer.Echo p → Behind i d r o e → Behind i (data_behind s d a) r o e
-  echo_is p r o e f h = via (answer.Echo p) r o e f h
+  pub none_behind : (o : List ℕ) → (a ≡ answer.Silence) ⊎ ((p : Pdu) × (a ≡ answer.Plain p)) → Behind i (data_behind s d a) i o o
+  none_behind o e =
+      let g : Behind i [] i o o = record { count = omega arith; holds = sym (splice_none o i) } in
+      let P : Answer → Type 0 = λ x. Behind i (data_behind s d x) i o o in
+      ⊎_elim (λ (f : a ≡ answer.Silence). subst⁻¹ P f g) (λ (f : (p : Pdu) × (a ≡ answer.Plain p)). subst⁻¹ P f.1 g) e
 
   -- and what it needs
   module _ (m : ℕ) (h : (16 ≤ m) × AnswerSafe s d a × (i + length (data_behind s d a) ≤ 16)) where
-    at_answer : (q : Answer) → a ≡ q → (16 ≤ m) × AnswerSafe s d q × (i + length (data_behind s d q) ≤ 16)
-    at_answer q e = subst (λ (x : Answer). (16 ≤ m) × AnswerSafe s d x × (i + length (data_behind s d x) ≤ 16)) e h
-
     pub number_needs : (p : Pdu) (w x : ℕ) → a ≡ answer.Number p w x → (16 ≤ m) × (i + w ≤ 16) × (w ≤ 6)
     number_needs p w x e =
-        let g = at_answer (answer.Number p w x) e in
+        let P : Answer → Type 0 = λ x. (16 ≤ m) × AnswerSafe s d x × (i + length (data_behind s d x) ≤ 16) in
+        let g = subst P e h in
         let l = length_bytes w x in
         (g.0, omega (arith, g.2, l), g.1.0)
-
-    pub sheet_lies : (p : Pdu) (at n : ℕ) → a ≡ answer.Sheet p at n → at + n ≤ length s
-    sheet_lies p at n e = (at_answer (answer.Sheet p at n) e).1.0
-
-    pub sheet_needs : (p : Pdu) (at n : ℕ) → a ≡ answer.Sheet p at n → (16 ≤ m) × (i + length (take (at + n - at) (drop at s)) ≤ 16)
-    sheet_needs p at n e =
-        let g = at_answer (answer.Sheet p at n) e in
-        (g.0, subst (λ (k : ℕ). i + length (take k (drop at s)) ≤ 16) (sym (add-sub_cancel_left at n)) g.2)
-
-    pub echo_needs : (p : Pdu) → a ≡ answer.Echo p → (16 ≤ m) × (i + length d ≤ 16)
-    echo_needs p e = let g = at_answer (answer.Echo p) e in (g.0, g.2)
 
 -- a number's bytes have its width
 pub number_behind : (i w x r : ℕ) (o e : List ℕ) → r ≡ i + w → e ≡ splice o i (bytes_of w x) → Behind i (bytes_of w x) r o e

@@ -1,5 +1,6 @@
 -- The shapes of a decision: refused, denied, answered, done, a restart.
 use Rattle.octets.proofs.Kit.{ℕ, ◌≤◌, ◌≡◌, refl, inl, inr, false, List, length, arith}
+use Rattle.std.proofs.Common.{Ok}
 use Rattle.octets.proofs.Walks.{by_eq}
 use Rattle.sheet.specs.{Layout.◌of◌, declared.Memory.TheVariants.{Device, User}}
 use Rattle.sheet.specs.Head as head
@@ -7,7 +8,7 @@ use Rattle.pdu.specs.{Read.read_pdu, declared.Pdu.{Pdu, TheVariants.{GroupValueR
 use Rattle.pdu.specs.declared.Pdu.TheVariants.{SerialNumberWrite, DeviceDescriptorRead, PropertyValueRead, PropertyValueWrite, PropertyDescriptionRead, MemoryRead, MemoryWrite}
 use Rattle.pdu.specs.declared.Pdu.TheVariants.{MemoryBitWrite, AuthorizeRequest, KeyWrite, Restart, IndividualAddressResponse, SerialNumberResponse, DeviceDescriptorResponse}
 use Rattle.pdu.specs.declared.Pdu.TheVariants.{PropertyValueResponse, PropertyDescriptionResponse, MemoryResponse, AuthorizeResponse, KeyResponse, UserMemoryRead, UserMemoryResponse}
-use Rattle.pdu.specs.declared.{Pdu.TheVariants.UserMemoryWrite, Parsed.TheVariants.Is}
+use Rattle.pdu.specs.declared.Pdu.TheVariants.{UserMemoryWrite}
 use Rattle.judge.specs.declared.{Store.Store, Access.TheVariants.{Write, Change}, Turn.{Turn, TheVariants.{Stays, Closes}}, Answer.Answer, Decision.Decision}
 use Rattle.judge.specs.{Decisions.{decision, refused, denied}, Addresses.{address_write_of, address_read_of, serial_read_of, serial_write_of, descriptor_of}, Memory.{memory_write_of, bit_write_of}}
 use Rattle.judge.{specs.{Keys.{authorize_of, restart_of}, Judge.{decide_of, judge_of}}, proofs.{GroupCases.{group_read_cases, group_put_cases}, DescriptorCases.descriptor_cases}}
@@ -21,10 +22,10 @@ use Rattle.device.proofs.due.RequestCases.{request_cases}
 -- about a request a
 pub data Shape (a : List ℕ) : Decision → Type 0 where
   refuse : (n : ℕ) → 2 ≤ n → OneOf n → (n ≡ 11 → ⊥) → Shape a (refused n)
-  deny : (p m : Pdu) → read_pdu a ≡ Is p → Negative p m → Shape a (denied m)
+  deny : (p m : Pdu) → read_pdu a ≡ Ok p → Negative p m → Shape a (denied m)
   reply : (f g : Store) (t : Turn) (r : Answer) → closes t ≡ false → Shape a (decision 0 f g t r)
   done : (f : Store) → Shape a (decision 1 f store.Nothing Stays answer.Silence)
-  restart : (f : Store) → read_pdu a ≡ Is Restart → Shape a (decision 1 f store.Nothing Closes answer.Silence)
+  restart : (f : Store) → read_pdu a ≡ Ok Restart → Shape a (decision 1 f store.Nothing Closes answer.Silence)
 
 not_ours : (a : List ℕ) → Shape a (refused 2)
 not_ours a = refuse 2 (omega arith) (inl (omega arith)) (λ e. omega arith)
@@ -39,7 +40,7 @@ unanswered : (a : List ℕ) → Shape a (refused 12)
 unanswered a = refuse 12 (omega arith) (inl (omega arith)) (λ e. omega arith)
 
 module _ (a s : List ℕ) (level group : ℕ) (d : List ℕ) where
-  shaped : (p : Pdu) → read_pdu a ≡ Is p → Shape a (decide_of s level group d p)
+  shaped : (p : Pdu) → read_pdu a ≡ Ok p → Shape a (decide_of s level group d p)
   unfolding address_write_of address_read_of serial_read_of serial_write_of descriptor_of memory_write_of bit_write_of authorize_of restart_of
   shaped GroupValueRead e =
       group_read_cases s group (Shape a) (λ i t z. reply _ _ _ _ refl) (λ i t z. reply _ _ _ _ refl) (not_ours a)

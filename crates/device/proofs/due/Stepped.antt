@@ -1,9 +1,12 @@
 -- The step of a request, from what is known before its service decides.
 use Rattle.octets.proofs.Kit.{ℕ, ◌≡◌, refl, sym, ap, ap₂, ◌∙◌, inl, inr, Bool, true, false, not, ◌&&◌, List, length, eqb, arith, lt-ltb, le-ltb, eq-eqb, eqb-true}
+use Rattle.std.proofs.Common.{Option, Some, None, Result, Err}
+use Rattle.pdu.specs.declared.ReadRefusal.{ReadRefusal}
+use Rattle.pdu.specs.declared.ReadRefusal.TheVariants as unread
 use Rattle.octets.proofs.Truths.{must_fail}
 use Rattle.sheet.specs.{Head.rules_of, Rules.verdict_of}
-use Rattle.pdu.specs.{Table.service_at, Pdus.service_of, Rules.code_of, Read.read_pdu, declared.{Service.Service, Found.{Found, TheVariants.{Listed, Unknown}}, Pdu.Pdu, Parsed.Parsed}}
-use Rattle.pdu.{specs.declared.Parsed.TheVariants.Refused, proofs.promises.Readings.reading}
+use Rattle.pdu.specs.{Table.service_at, Pdus.service_of, Rules.code_of, Read.read_pdu, declared.{Service.Service, Pdu.Pdu}}
+use Rattle.pdu.proofs.promises.Readings.{reading}
 use Rattle.judge.specs.{declared.Decision.Decision, Session.level_in, Modes.{reach_of, reaches, takes}, Judge.{decide_of, read_of, reached_of, found_of, is_shut, judge_of, data_in}}
 use Rattle.judge.proofs.SheetCases.{old_refused, bad_refused}
 use Rattle.judge.specs.Decisions as decisions
@@ -61,10 +64,10 @@ module _ (x : Asked) where
   unfolding reached_of
   step_unknown r f = quietly 8 (ready_judged r ∙ go (service_at (code_of x.apdu)) refl)
     where
-      go : (z : Found) → service_at (code_of x.apdu) ≡ z →
+      go : (z : Option Service) → service_at (code_of x.apdu) ≡ z →
           found_of x.sheet x.session x.mode x.group x.apdu z ≡ decisions.refused 8
-      go Unknown e = refl
-      go (Listed k) e =
+      go None e = refl
+      go (Some k) e =
           simp (must_fail (reaches (reach_of rules k)) (λ h. f k (found_names x k e) ((served_is rules k).0 h)))
 
   module _ (k : Service) (r : Ready x) (n : Names x k) where
@@ -87,7 +90,7 @@ module _ (x : Asked) where
         ∙ simp ((served_is rules k).1 (record { mode = x.mode; takes = t }), (takes_is rules x.mode k).1 t)
 
     -- 10
-    pub step_unfit : Takes rules k x.mode → read_pdu x.apdu ≡ Refused 10 → quiet x 10 ≡ step
+    pub step_unfit : Takes rules k x.mode → read_pdu x.apdu ≡ Err unread.Fields → quiet x 10 ≡ step
     step_unfit t e =
         quietly 10
         (taken_judged t ∙ ap (read_of x.sheet (level_in x.session x.mode) x.group x.apdu) e)
@@ -105,4 +108,4 @@ module _ (x : Asked) where
     unfolding step_of
     step_read k e =
         sym
-        (ap₂ (λ (d : List ℕ) (j : Decision). step_by x.sheet x.session d j) (ap (λ (z : Parsed). data_in z x.apdu) r.reads) (reads_judged ∙ e))
+        (ap₂ (λ (d : List ℕ) (j : Decision). step_by x.sheet x.session d j) (ap (λ (z : Result Pdu ReadRefusal). data_in z x.apdu) r.reads) (reads_judged ∙ e))

@@ -1,5 +1,6 @@
 -- The fields of the device's answers fit their places.
 use Rattle.octets.proofs.Kit.{ℕ, ◌≤◌, ◌<◌, ◌≡◌, List, length, arith}
+use Rattle.std.proofs.Common.{Ok}
 use Rattle.octets.proofs.Walks.{by_eq}
 use Rattle.sheet.{specs.{Kind.properties, Layout.◌of◌, Entries.{count, entry}, declared.Memory.TheVariants.{Device, User}}, proofs.{rules.Good.{Good, good}, searches.RankBound.rank_bound}}
 use Rattle.sheet.specs.Property as property
@@ -8,7 +9,7 @@ use Rattle.pdu.specs.{Table.row_of, Pdus.{service_of, values_of}, Read.read_pdu,
 use Rattle.pdu.specs.declared.Pdu.TheVariants.{IndividualAddressWrite, IndividualAddressRead, SerialNumberRead, SerialNumberWrite, DeviceDescriptorRead, PropertyValueRead}
 use Rattle.pdu.specs.declared.Pdu.TheVariants.{PropertyValueWrite, PropertyDescriptionRead, MemoryRead, MemoryWrite, MemoryBitWrite, AuthorizeRequest, KeyWrite, Restart}
 use Rattle.pdu.specs.declared.Pdu.TheVariants.{IndividualAddressResponse, SerialNumberResponse, DeviceDescriptorResponse, PropertyValueResponse, PropertyDescriptionResponse, MemoryResponse}
-use Rattle.pdu.{specs.declared.{Pdu.TheVariants.{AuthorizeResponse, KeyResponse, UserMemoryRead, UserMemoryResponse, UserMemoryWrite}, Parsed.TheVariants.Is}, proofs.promises.Allowed.wide}
+use Rattle.pdu.{specs.declared.Pdu.TheVariants.{AuthorizeResponse, KeyResponse, UserMemoryRead, UserMemoryResponse, UserMemoryWrite}, proofs.promises.Allowed.wide}
 use Rattle.pdu.proofs.promises.Outcomes.{read_carries}
 use Rattle.judge.specs.{declared.{Answer.Answer, Decision.Decision}, Addresses.{address_write_of, address_read_of, serial_read_of, serial_write_of, descriptor_of}}
 use Rattle.judge.specs.{declared.Access.TheVariants.{Write, Change}, Memory.{memory_write_of, bit_write_of}, Keys.{grant_of, authorize_of, restart_of}, Judge.{decide_of, judge_of}}
@@ -31,7 +32,7 @@ abbrev Fits : Decision → Type 0
 Fits k = AnswerTyped k.answer
 
 -- the fields of a request that reads fit theirs
-request_typed : (a : List ℕ) (p : Pdu) → Octets a → read_pdu a ≡ Is p → Typed p
+request_typed : (a : List ℕ) (p : Pdu) → Octets a → read_pdu a ≡ Ok p → Typed p
 request_typed a p h e = wide (row_of (service_of p)).items (values_of p) (read_carries a p h e).allowed.fields
 
 -- a level that is granted is 0 to 3

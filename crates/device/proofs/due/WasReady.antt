@@ -1,7 +1,8 @@
 -- A request that is carried out, and one that comes after it, were ready and read.
 use Rattle.octets.proofs.Kit.{ℕ, ◌≤◌, ◌≡◌, subst, arith}
+use Rattle.std.proofs.Common.{Ok}
 use Rattle.sheet.{specs.Rules.Accepted, proofs.promises.Agrees.both_or_neither}
-use Rattle.pdu.{specs.{Read.read_pdu, declared.{Pdu.Pdu, Parsed.TheVariants.Is}}, proofs.promises.Readings.reading}
+use Rattle.pdu.{specs.{Read.read_pdu, declared.Pdu.Pdu}, proofs.promises.Readings.reading}
 use Rattle.judge.specs.declared.Decision.{Decision}
 use Rattle.device.specs.{Step.{step_by, step_of}, Asked.{Asked, Refusal, no_room, bad_sheet, old_sheet, bad_length, bad_mode, no_session, Reads}, Demand2.done, Next.Next}
 use Rattle.device.proofs.{due.RequestCases.request_cases, leaves.Stays.request_agrees}
@@ -15,7 +16,7 @@ late (bad_length b s l) = omega arith
 late (bad_mode b s l m h) = omega arith
 late (no_session b s l m c o) = omega arith
 
-module _ (x : Asked) (p : Pdu) (e : read_pdu x.apdu ≡ Is p) where
+module _ (x : Asked) (p : Pdu) (e : read_pdu x.apdu ≡ Ok p) where
   -- WHAT IS CARRIED OUT WAS READY, in a mode that takes it
   pub carried : (done x).outcome ≤ 1 → Reads x p
   unfolding step_of step_by

@@ -1,7 +1,8 @@
 -- DEMAND 1: the outcomes, and what each of them leaves as it was.
 use Rattle.octets.proofs.Kit.{ℕ, ◌+◌, ◌≤◌, ◌≡◌, refl, sym, ◌∙◌, Bool, true, false, inl, List, [], leb, length, arith}
+use Rattle.std.proofs.Common.{Ok}
 use Rattle.octets.{specs.Bytes.bytes_of, proofs.Truths.{never, and_is, at_most_is}}
-use Rattle.pdu.{specs.{Read.{read_pdu, data_at}, Write.{encoded, writable}, declared.{Pdu.{Pdu, TheVariants.Restart}, Parsed.TheVariants.Is}}, proofs.promises.Writing.length_encoded}
+use Rattle.pdu.{specs.{Read.{read_pdu, data_at}, Write.{encoded, writable}, declared.Pdu.{Pdu, TheVariants.Restart}}, proofs.promises.Writing.length_encoded}
 use Rattle.judge.specs.{declared.{Session.Session, Decision.Decision, Answer.Answer}, Judge.{judge_of, data_in}}
 use Rattle.judge.specs.declared.Answer.TheVariants as answer
 use Rattle.device.specs.{Carry.{store_of, answer_of}, Step.{Step, step_by, step_of}, Safe.AnswerSafe, Demand1.OneOf, Replies.Denial}
@@ -11,7 +12,7 @@ use Rattle.device.proofs.{calls.Safe.safe, due.Shapes.{Shape, refuse, deny, repl
 record Ends (s : List ℕ) (q : Session) (a : List ℕ) (r : Step) : Type 0 where
   most : OneOf r.outcome
   kept : 2 ≤ r.outcome → (r.sheet ≡ s) × (r.session ≡ q)
-  restarts : r.restarts ≡ true → (r.outcome ≤ 1) × (read_pdu a ≡ Is Restart)
+  restarts : r.restarts ≡ true → (r.outcome ≤ 1) × (read_pdu a ≡ Ok Restart)
   silent : 1 ≤ r.outcome → (r.outcome ≡ 11 → ⊥) → r.answer ≡ []
   denial : r.outcome ≡ 11 → Denial a r.answer
 
@@ -84,7 +85,7 @@ module _ (room : ℕ) (s : List ℕ) (q : Session) (mode group : ℕ) (a : List 
   untouched = ended.kept
 
   -- WHAT RESTARTS IS A RESTART, carried out
-  pub restart_only : (step_of room s q mode group a).restarts ≡ true → ((step_of room s q mode group a).outcome ≤ 1) × (read_pdu a ≡ Is Restart)
+  pub restart_only : (step_of room s q mode group a).restarts ≡ true → ((step_of room s q mode group a).outcome ≤ 1) × (read_pdu a ≡ Ok Restart)
   restart_only = ended.restarts
 
   -- SO 2 TO 12 AND 14 ARE NONE

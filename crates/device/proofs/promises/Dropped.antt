@@ -1,7 +1,8 @@
 -- How a host sees a restart: a session that was open before a request and is closed after it was closed by one, on whichever connection that came.
 use Rattle.octets.proofs.Kit.{ℕ, ◌≤◌, ◌<◌, ◌≡◌, refl, sym, ap, ◌∙◌, Bool, true, false, List, dec_lt, ℕ_discrete, arith, eq-eqb}
+use Rattle.std.proofs.Common.{Ok}
 use Rattle.octets.proofs.Truths.{never}
-use Rattle.pdu.specs.{Read.read_pdu, declared.{Parsed.TheVariants.Is, Pdu.TheVariants.Restart}}
+use Rattle.pdu.specs.{Read.read_pdu, declared.Pdu.TheVariants.Restart}
 use Rattle.judge.specs.{Session.connected, declared.{Session.Session, Turn.{Turn, TheVariants.{Stays, Level, Closes}}}, Judge.judge_of}
 use Rattle.device.specs.{Carry.{turn_of, closes}, Step.{Step, step_by, step_of}, Sessions.{session_of, session_for, turned_of}, Events.request_of, declared.Sessions.Sessions}
 use Rattle.device.proofs.{leaves.Connections.{unknown_closed, turned_own, turned_other}, promises.Demand1.restart_only}
@@ -40,17 +41,17 @@ module _ (room : ℕ) (s : List ℕ) (q : Sessions) (mode c group : ℕ) (a : Li
   -- A SESSION THAT WAS OPEN AND IS CLOSED WAS CLOSED BY A RESTART, CARRIED OUT
   pub dropped :
       (d : ℕ) → (session_of q d).opened ≡ true → (session_of (request_of room s q mode c group a).sessions d).opened ≡ false →
-      ((request_of room s q mode c group a).outcome ≤ 1) × (read_pdu a ≡ Is Restart)
+      ((request_of room s q mode c group a).outcome ≤ 1) × (read_pdu a ≡ Ok Restart)
   unfolding request_of
   dropped d was is = go step.restarts refl is
     where
-      go : (b : Bool) → step.restarts ≡ b → (session_of (turned_of q mode c b step.session) d).opened ≡ false → (step.outcome ≤ 1) × (read_pdu a ≡ Is Restart)
+      go : (b : Bool) → step.restarts ≡ b → (session_of (turned_of q mode c b step.session) d).opened ≡ false → (step.outcome ≤ 1) × (read_pdu a ≡ Ok Restart)
       go true e i = restart_only room s met mode group a e
       go false e i = never (sym i ∙ kept_open e d ∙ was)
 
   -- AND EVERY OTHER REQUEST LEAVES BOTH AS THEY WERE, open or closed
   pub not_dropped :
-      (d : ℕ) → (read_pdu a ≡ Is Restart → ⊥) → (session_of (request_of room s q mode c group a).sessions d).opened ≡ (session_of q d).opened
+      (d : ℕ) → (read_pdu a ≡ Ok Restart → ⊥) → (session_of (request_of room s q mode c group a).sessions d).opened ≡ (session_of q d).opened
   unfolding request_of
   not_dropped d other = go step.restarts refl
     where

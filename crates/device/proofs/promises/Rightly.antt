@@ -1,12 +1,14 @@
 -- DEMAND 2: the step that is done is the step that is due, and no other is due.
 use Rattle.octets.proofs.Kit.{◌≡◌, refl, sym, subst}
+use Rattle.std.proofs.Common.{Result}
+use Rattle.pdu.specs.declared.ReadRefusal.{ReadRefusal}
 use Rattle.octets.proofs.Truths.{never}
 use Rattle.sheet.specs.declared.Memory.TheVariants.{Device, User}
 use Rattle.pdu.specs.{Read.read_pdu, declared.Pdu.{Pdu, TheVariants.{GroupValueRead, GroupValueResponse, GroupValueWrite, IndividualAddressWrite, IndividualAddressRead, SerialNumberRead}}}
 use Rattle.pdu.specs.declared.Pdu.TheVariants.{SerialNumberWrite, DeviceDescriptorRead, PropertyValueRead, PropertyValueWrite, PropertyDescriptionRead, MemoryRead, MemoryWrite}
 use Rattle.pdu.specs.declared.Pdu.TheVariants.{MemoryBitWrite, AuthorizeRequest, KeyWrite, Restart, IndividualAddressResponse, SerialNumberResponse, DeviceDescriptorResponse}
 use Rattle.pdu.specs.declared.Pdu.TheVariants.{PropertyValueResponse, PropertyDescriptionResponse, MemoryResponse, AuthorizeResponse, KeyResponse, UserMemoryRead, UserMemoryResponse}
-use Rattle.pdu.specs.declared.{Pdu.TheVariants.UserMemoryWrite, Parsed.Parsed}
+use Rattle.pdu.specs.declared.Pdu.TheVariants.{UserMemoryWrite}
 use Rattle.judge.specs.{declared.Decision.Decision, Session.level_in, Judge.{decide_of, data_in}}
 use Rattle.device.specs.{Octets.Octets, Demand2.{Serves, done}, Step.{Step, step_by, step_of}, Asked.{Asked, Reads, given}, GroupsDue.Brings, Right.Right}
 use Rattle.device.specs.Right as due
@@ -68,7 +70,7 @@ module _ (x : Asked) (hs : Octets x.sheet) (ha : Octets x.apdu) where
       (λ k r n v t. due.other_mode k r n v t) (λ r f. due.unknown r f) (λ k r n t e. due.unfit k r n t e)
       (λ p r.
       subst
-      (λ (z : Parsed). Right x (step_by x.sheet x.session (data_in z x.apdu) (decide_of x.sheet (level_in x.session x.mode) x.group (given x p) p)))
+      (λ (z : Result Pdu ReadRefusal). Right x (step_by x.sheet x.session (data_in z x.apdu) (decide_of x.sheet (level_in x.session x.mode) x.group (given x p) p)))
       (sym r.reads) (right_read p r))
       (λ n r. due.before_service r)
 

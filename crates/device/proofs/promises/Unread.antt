@@ -1,6 +1,9 @@
 -- What of a request is not read: outside multicast the group address, and always the top six bits of the first byte.
 use Rattle.octets.proofs.Kit.{ℕ, ◌%◌, ◌≡◌, ap, ap₂, ◌∙◌, List, ◌∷◌}
-use Rattle.pdu.specs.{Read.read_pdu, declared.Parsed.Parsed}
+use Rattle.std.proofs.Common.{Result}
+use Rattle.pdu.specs.declared.Pdu.{Pdu}
+use Rattle.pdu.specs.declared.ReadRefusal.{ReadRefusal}
+use Rattle.pdu.specs.Read.{read_pdu}
 use Rattle.judge.specs.{declared.Session.Session, Session.multicast, Judge.data_in}
 use Rattle.device.specs.Step.{step_by, step_of}
 use Rattle.device.proofs.unread.{Group.judge_other, TopBits.{read_same, data_in_same, judge_same}}
@@ -17,4 +20,4 @@ module _ (b b' : ℕ) (l : List ℕ) (h : b % 4 ≡ b' % 4) (room : ℕ) (s : Li
   pub top_unread : step_of room s q mode g (b ∷ l) ≡ step_of room s q mode g (b' ∷ l)
   unfolding step_of
   top_unread =
-      ap₂ (step_by s q) (ap (λ (z : Parsed). data_in z (b ∷ l)) (read_same b b' l h) ∙ data_in_same b b' l h (read_pdu (b' ∷ l))) (judge_same b b' l h room s q mode g)
+      ap₂ (step_by s q) (ap (λ (z : Result Pdu ReadRefusal). data_in z (b ∷ l)) (read_same b b' l h) ∙ data_in_same b b' l h (read_pdu (b' ∷ l))) (judge_same b b' l h room s q mode g)

@@ -1,9 +1,11 @@
 -- No service that another mode than multicast takes asks for the group address.
 use Rattle.octets.proofs.Kit.{ℕ, ◌≡◌, refl, subst, Bool, true, false, cond, not, List}
+use Rattle.std.proofs.Common.{Option, Some, None, Result, Ok, Err}
+use Rattle.pdu.specs.declared.ReadRefusal.{ReadRefusal}
 use Rattle.octets.proofs.Truths.{equal_is}
 use Rattle.sheet.specs.Head.{rules_of}
-use Rattle.pdu.specs.{Table.service_at, Rules.code_of, Pdus.service_of, Read.{read_pdu, data_of}, declared.{Service.Service, Found.{Found, TheVariants.{Listed, Unknown}}, Parsed.Parsed}}
-use Rattle.pdu.specs.declared.{Parsed.TheVariants.{Is, Refused}, Pdu.{Pdu, TheVariants.{GroupValueRead, GroupValueResponse, GroupValueWrite, IndividualAddressWrite}}}
+use Rattle.pdu.specs.{Table.service_at, Rules.code_of, Pdus.service_of, Read.{read_pdu, data_of}, declared.Service.Service}
+use Rattle.pdu.specs.declared.Pdu.{Pdu, TheVariants.{GroupValueRead, GroupValueResponse, GroupValueWrite, IndividualAddressWrite}}
 use Rattle.pdu.specs.declared.Pdu.TheVariants.{IndividualAddressRead, SerialNumberRead, SerialNumberWrite, DeviceDescriptorRead, PropertyValueRead, PropertyValueWrite}
 use Rattle.pdu.specs.declared.Pdu.TheVariants.{PropertyDescriptionRead, MemoryRead, MemoryWrite, MemoryBitWrite, AuthorizeRequest, KeyWrite, Restart, IndividualAddressResponse}
 use Rattle.pdu.specs.declared.Pdu.TheVariants.{SerialNumberResponse, DeviceDescriptorResponse, PropertyValueResponse, PropertyDescriptionResponse, MemoryResponse, AuthorizeResponse}
@@ -50,18 +52,18 @@ module _ (room : ℕ) (s : List ℕ) (q : Session) (mode : ℕ) (a : List ℕ) (
   decide_other l d (UserMemoryWrite n address) t = refl
 
   read_other :
-      (l : ℕ) (k : Service) → service_at (code_of a) ≡ Listed k → Takes (rules_of s) k mode → (z : Parsed) → read_pdu a ≡ z →
+      (l : ℕ) (k : Service) → service_at (code_of a) ≡ Some k → Takes (rules_of s) k mode → (z : Result Pdu ReadRefusal) → read_pdu a ≡ z →
       read_of s l g a z ≡ read_of s l g' a z
-  read_other l k e t (Is p) r =
+  read_other l k e t (Ok p) r =
       let n = (reading a p r).names in
       let i : k ≡ service_of p = cc in
       decide_other l (data_of p a) p (subst (λ (j : Service). Takes (rules_of s) j mode) i t)
-  read_other l k e t (Refused n) r = refl
+  read_other l k e t (Err n) r = refl
 
-  found_other : (f : Found) → service_at (code_of a) ≡ f → found_of s q mode g a f ≡ found_of s q mode g' a f
+  found_other : (f : Option Service) → service_at (code_of a) ≡ f → found_of s q mode g a f ≡ found_of s q mode g' a f
   unfolding reached_of
-  found_other Unknown e = refl
-  found_other (Listed k) e =
+  found_other None e = refl
+  found_other (Some k) e =
       let rules = rules_of s in
       if_holds (reaches (reach_of rules k)) _ _ _
       (λ h.

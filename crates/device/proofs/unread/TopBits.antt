@@ -1,11 +1,15 @@
 -- Two requests that differ in the top six bits of the first byte read and are judged alike.
 use Rattle.octets.proofs.Kit.{ℕ, zero, suc, ◌+◌, ◌*◌, ◌%◌, ◌^◌, ◌≤◌, ◌≡◌, refl, sym, ap, ap₂, ◌∙◌, true, cond, not, ◌&&◌, List, [], ◌∷◌, mod-mod_of_dvd, dvd_of_mod-eq-zero, arith, ltb, leb}
 use Rattle.octets.proofs.Kit.{eqb, length, get_or, drop, eqb-true}
+use Rattle.std.proofs.Common.{Option, Some, None, Result, Ok, Err}
+use Rattle.pdu.specs.declared.Service.{Service}
+use Rattle.pdu.specs.declared.ReadRefusal.{ReadRefusal}
+use Rattle.pdu.specs.declared.ReadRefusal.TheVariants as unread
 use Rattle.octets.{specs.Bytes.num_at, proofs.{Numbers.{num_two, num_same}, Truths.{and_is, never}}}
 use Rattle.sheet.specs.Head.{rules_of}
 use Rattle.pdu.specs.{Item.{Name, Item, Value, low, num, cap, duo, skip, ◌≔◌}, Table.{row_of, service_at}, Rules.{code_of, low_at, four_at, twelve_at, values_at, fits}}
-use Rattle.pdu.specs.{Pdus.{service_of, values_of, pdu_of}, Read.{read_pdu, read_found, data_of, data_at}, declared.{Found.{Found, TheVariants.{Listed, Unknown}}, Parsed.Parsed}}
-use Rattle.pdu.{specs.declared.{Parsed.TheVariants.{Is, Refused}, Pdu.Pdu}, proofs.{Formed.{later_formed, items_formed, formed_says}, Sound.sound, Items.two_or_more}}
+use Rattle.pdu.specs.{Pdus.{service_of, values_of, pdu_of}, Read.{read_pdu, read_found, data_of, data_at}}
+use Rattle.pdu.{specs.declared.Pdu.Pdu, proofs.{Formed.{later_formed, items_formed, formed_says}, Sound.sound, Items.two_or_more}}
 use Rattle.judge.specs.{declared.{Session.Session, Decision.Decision}, Session.level_in, Modes.{reach_of, reaches, takes}, Decisions.refused}
 use Rattle.judge.specs.Judge.{decide_of, read_of, reached_of, found_of, judge_of, data_in}
 
@@ -68,35 +72,35 @@ module _ (b b' : ℕ) (l : List ℕ) (h : b % 4 ≡ b' % 4) where
   items_same a n (duo f g ∷ is) e = later_same (duo f g ∷ is) 2 (omega arith) ((and_is (eqb n 1) _).0 e).1
   items_same a n (skip w ∷ is) e = later_same (skip w ∷ is) 2 (omega arith) ((and_is (eqb n 1) _).0 e).1
 
-  read_found_same : (f : Found) → read_found f (b ∷ l) ≡ read_found f (b' ∷ l)
-  read_found_same Unknown = refl
-  read_found_same (Listed k) =
-      ap (λ (x : List Value). cond (fits (row_of k) x (length (b ∷ l))) (Is (pdu_of k x)) (Refused 10))
+  read_found_same : (f : Option Service) → read_found f (b ∷ l) ≡ read_found f (b' ∷ l)
+  read_found_same None = refl
+  read_found_same (Some k) =
+      ap (λ (x : List Value). cond (fits (row_of k) x (length (b ∷ l))) (Ok (pdu_of k x)) (Err unread.Fields))
       (items_same (row_of k).base (row_of k).span (row_of k).items (formed_says (row_of k) (sound k).form).items_ok)
 
   pub read_same : read_pdu (b ∷ l) ≡ read_pdu (b' ∷ l)
   unfolding read_pdu
   read_same =
-      ap (λ (z : Parsed). cond (ltb (length (b ∷ l)) 2) (Refused 5) (cond (ltb 16 (length (b ∷ l))) (Refused 5) z))
+      ap (λ (z : Result Pdu ReadRefusal). cond (ltb (length (b ∷ l)) 2) (Err unread.Length) (cond (ltb 16 (length (b ∷ l))) (Err unread.Length) z))
       (ap (λ (c : ℕ). read_found (service_at c) (b ∷ l)) code_same ∙ read_found_same (service_at (code_of (b' ∷ l))))
 
   data_same : (p : Pdu) → data_of p (b ∷ l) ≡ data_of p (b' ∷ l)
   unfolding data_of
   data_same p = drop_same (data_at p) (omega (arith, two_or_more (row_of (service_of p)) (values_of p)))
 
-  pub data_in_same : (z : Parsed) → data_in z (b ∷ l) ≡ data_in z (b' ∷ l)
-  data_in_same (Is p) = data_same p
-  data_in_same (Refused n) = refl
+  pub data_in_same : (z : Result Pdu ReadRefusal) → data_in z (b ∷ l) ≡ data_in z (b' ∷ l)
+  data_in_same (Ok p) = data_same p
+  data_in_same (Err n) = refl
 
   module _ (room : ℕ) (s : List ℕ) (q : Session) (mode g : ℕ) where
-    read_of_same : (level : ℕ) (z : Parsed) → read_of s level g (b ∷ l) z ≡ read_of s level g (b' ∷ l) z
-    read_of_same level (Is p) = ap (λ (d : List ℕ). decide_of s level g d p) (data_same p)
-    read_of_same level (Refused n) = refl
+    read_of_same : (level : ℕ) (z : Result Pdu ReadRefusal) → read_of s level g (b ∷ l) z ≡ read_of s level g (b' ∷ l) z
+    read_of_same level (Ok p) = ap (λ (d : List ℕ). decide_of s level g d p) (data_same p)
+    read_of_same level (Err n) = refl
 
-    found_of_same : (f : Found) → found_of s q mode g (b ∷ l) f ≡ found_of s q mode g (b' ∷ l) f
+    found_of_same : (f : Option Service) → found_of s q mode g (b ∷ l) f ≡ found_of s q mode g (b' ∷ l) f
     unfolding reached_of
-    found_of_same Unknown = refl
-    found_of_same (Listed k) =
+    found_of_same None = refl
+    found_of_same (Some k) =
         ap (λ (d : Decision). cond (not (reaches (reach_of (rules_of s) k))) (refused 8) (cond (not (takes (reach_of (rules_of s) k) mode)) (refused 9) d))
         (ap (read_of s (level_in q mode) g (b ∷ l)) read_same ∙ read_of_same (level_in q mode) (read_pdu (b' ∷ l)))
 

@@ -1,14 +1,13 @@
 -- THE DEVICE'S ANSWER, WRITTEN INTO AN ANSWERING FRAME, READS BACK AS THAT PDU, and as data in the mode of the request.
 use Rattle.octets.proofs.Kit.{ℕ, ◌-◌, ◌≤◌, ◌<◌, ◌≡◌, refl, sym, ap, subst, ◌∙◌, true, ◌⊎◌, inl, inr, ⊎_elim, List, [], length, arith}
+use Rattle.std.proofs.Common.{Ok}
 use Rattle.octets.{specs.Octets.{Octets, ReadFrom}, proofs.Numbers.num_below}
 use Rattle.sheet.specs.Layout.{◌of◌}
 use Rattle.sheet.specs.Head as head
 use Rattle.pdu.{specs.{Read.{read_pdu, data_of}, declared.Pdu.Pdu}, proofs.promises.Readings.reading}
-use Rattle.pdu.specs.declared.Parsed.TheVariants as parsed
 use Rattle.cemi.specs.{Layout.{table, Fit}, Parts.tpdu_of, Means.Means, Write.{numbers_of, under, encoded, frame_of, writable}, Read.read_frame, declared.{Fields.Fields, Frame.Frame}}
 use Rattle.cemi.{specs.declared.Meaning.TheVariants.Data, proofs.{promises.Backs.{read_back, info_part, tpdu_part}, Wrote.bounds, promises.Standards.reads_standard}}
 use Rattle.cemi.proofs.promises.Answers.{answer_writable, answer_fits, answer_means}
-use Rattle.cemi.specs.declared.Got.TheVariants as got
 use Rattle.judge.specs.declared.Session.{Session}
 use Rattle.device.{specs.{Asked.Asked, Step.step_of}, proofs.promises.AnswerReads.answer_reads}
 use Rattle.frames.specs.Answering.{answer_to, Brings}
@@ -17,7 +16,7 @@ use Rattle.frames.proofs.promises.{SameApdu.{read_alike, data_alike}, Heard.{und
 -- any PDU in any frame that can be written
 pub brought :
     (g : Fields) (i a : List ℕ) (p : Pdu) (d : List ℕ) →
-    Fit table (numbers_of g (length a - 1)) → writable g (length i) (length a) ≡ true → read_pdu a ≡ parsed.Is p → data_of p a ≡ d →
+    Fit table (numbers_of g (length a - 1)) → writable g (length i) (length a) ≡ true → read_pdu a ≡ Ok p → data_of p a ≡ d →
     Brings (encoded g i a) g i a p d
 brought g i a p d fit w e f =
     let t : tpdu_of (frame_of g i a) (encoded g i a) ≡ under g.transport a = tpdu_part g i a (bounds g (length i) (length a) w).some in
@@ -30,7 +29,7 @@ brought g i a p d fit w e f =
     }
 
 -- the addresses of a frame that reads, and the device's own
-module _ (b : List ℕ) (f : Frame) (call : ReadFrom b (got.Is f) (read_frame b)) where
+module _ (b : List ℕ) (f : Frame) (call : ReadFrom b (Ok f) (read_frame b)) where
   addresses : (f.fields.source < 65536) × (f.fields.destination < 65536)
   addresses =
       subst (λ (g : Frame). (g.fields.source < 65536) × (g.fields.destination < 65536)) (reads_standard b f (sym call.is)).1
@@ -59,7 +58,7 @@ module _ (b : List ℕ) (f : Frame) (call : ReadFrom b (got.Is f) (read_frame b)
 
 -- AND IT IS DATA IN THE MODE OF THE REQUEST, as the frame was in which that came
 pub answered_mode :
-    (f : Frame) (x : Asked) (sequence : ℕ) (a : List ℕ) → Means f (Data x.mode) → Means (frame_of (answer_to f x sequence) [] a) (Data x.mode)
+    (f : Frame) (x : Asked) (sequence : ℕ) (a : List ℕ) → Means f (Ok (Data x.mode)) → Means (frame_of (answer_to f x sequence) [] a) (Ok (Data x.mode))
 answered_mode f x sequence a m = answer_means f (head.address of x.sheet) sequence (frame_of (answer_to f x sequence) [] a) x.mode refl m
 
 -- A REQUEST THAT CAME IN A FRAME is dealt with as the APDU that was written into it

@@ -1,10 +1,13 @@
 -- TO THE READER OF PDUS, two APDUs that differ at most in the top six bits of the first byte are one.
 use Rattle.octets.proofs.Kit.{ℕ, zero, suc, ◌+◌, ◌-◌, ◌/◌, ◌%◌, ◌^◌, ◌≤◌, ◌≡◌, refl, sym, ap, ap₂, ◌∙◌, true, cond, ◌&&◌, List, [], ◌∷◌, mod-mod_of_dvd, dvd_of_mod-eq-zero, arith, length}
 use Rattle.octets.proofs.Kit.{get_or, drop, length-drop, leb, ltb, eqb, ext_get_or, get_or-drop, eqb-true}
+use Rattle.std.proofs.Common.{Option, Some, None, Result, Ok, Err}
+use Rattle.pdu.specs.declared.ReadRefusal.{ReadRefusal}
+use Rattle.pdu.specs.declared.ReadRefusal.TheVariants as unread
 use Rattle.octets.{specs.Bytes.num_at, proofs.{Numbers.{num_same, num_two}, Truths.{and_is, never}}}
 use Rattle.pdu.specs.{Item.{Item, low, num, cap, duo, skip, Row, Value, ◌≔◌}, Table.{row_of, service_at}, Pdus.{service_of, values_of, pdu_of}}
-use Rattle.pdu.specs.{Rules.{code_of, low_at, four_at, twelve_at, values_at, fits}, Read.{read_found, read_pdu, data_at, data_of}, declared.{Service.Service, Found.Found}}
-use Rattle.pdu.{specs.declared.{Found.TheVariants.{Listed, Unknown}, Pdu.Pdu, Parsed.{Parsed, TheVariants.{Is, Refused}}}, proofs.Formed.{later_formed, items_formed, formed_says}}
+use Rattle.pdu.specs.{Rules.{code_of, low_at, four_at, twelve_at, values_at, fits}, Read.{read_found, read_pdu, data_at, data_of}, declared.Service.Service}
+use Rattle.pdu.{specs.declared.Pdu.Pdu, proofs.Formed.{later_formed, items_formed, formed_says}}
 use Rattle.pdu.proofs.{Items.two_or_more, Sound.sound}
 
 pub record SameApdu (a b : List ℕ) : Type 0 where
@@ -58,16 +61,16 @@ module _ (a b : List ℕ) (h : SameApdu a b) where
   values_alike k =
       let r : Row = row_of k in items_alike r.base r.span r.items (formed_says r (sound k).form).items_ok
 
-  found_alike : (f : Found) → read_found f a ≡ read_found f b
-  found_alike Unknown = refl
-  found_alike (Listed k) =
-      ap₂ (λ (x : List Value) (n : ℕ). cond (fits (row_of k) x n) (Is (pdu_of k x)) (Refused 10)) (values_alike k) h.long
+  found_alike : (f : Option Service) → read_found f a ≡ read_found f b
+  found_alike None = refl
+  found_alike (Some k) =
+      ap₂ (λ (x : List Value) (n : ℕ). cond (fits (row_of k) x n) (Ok (pdu_of k x)) (Err unread.Fields)) (values_alike k) h.long
 
   -- THEY READ AS ONE
   pub read_alike : read_pdu a ≡ read_pdu b
   unfolding read_pdu
   read_alike =
-      ap₂ (λ (n : ℕ) (z : Parsed). cond (ltb n 2) (Refused 5) (cond (ltb 16 n) (Refused 5) z)) h.long
+      ap₂ (λ (n : ℕ) (z : Result Pdu ReadRefusal). cond (ltb n 2) (Err unread.Length) (cond (ltb 16 n) (Err unread.Length) z)) h.long
       (ap (λ (c : ℕ). read_found (service_at c) a) code_alike ∙ found_alike (service_at (code_of b)))
 
   rest_alike : (n : ℕ) → 1 ≤ n → drop n a ≡ drop n b

@@ -1,8 +1,10 @@
 -- A request is heard exactly if it is ready, reads, and its mode takes it.
 use Rattle.octets.proofs.Kit.{ℕ, ◌≡◌, refl, ◌∙◌, ◌⊎◌, inl, inr, ⊎_elim, ◌↔◌, Bool, true, false, ◌||◌, ◌&&◌, not, List, eqb, leb-true, le-leb, eqb-true, eq-eqb}
+use Rattle.std.proofs.Common.{Result, Ok, Err}
+use Rattle.pdu.specs.declared.ReadRefusal.{ReadRefusal}
 use Rattle.octets.proofs.Truths.{never, decided, and_is, or_is}
 use Rattle.sheet.specs.{Head.{rules_of, later}, Rules.Accepted}
-use Rattle.pdu.specs.{Read.{read_pdu, data_of}, Pdus.service_of, declared.{Parsed.{Parsed, TheVariants.{Is, Refused}}, Pdu.{Pdu, TheVariants.{GroupValueRead, GroupValueResponse}}}}
+use Rattle.pdu.specs.{Read.{read_pdu, data_of}, Pdus.service_of, declared.Pdu.{Pdu, TheVariants.{GroupValueRead, GroupValueResponse}}}
 use Rattle.pdu.specs.declared.Pdu.TheVariants.{GroupValueWrite, IndividualAddressWrite, IndividualAddressRead, SerialNumberRead, SerialNumberWrite, DeviceDescriptorRead, PropertyValueRead}
 use Rattle.pdu.specs.declared.Pdu.TheVariants.{PropertyValueWrite, PropertyDescriptionRead, MemoryRead, MemoryWrite, MemoryBitWrite, AuthorizeRequest, KeyWrite, Restart}
 use Rattle.pdu.specs.declared.Pdu.TheVariants.{IndividualAddressResponse, SerialNumberResponse, DeviceDescriptorResponse, PropertyValueResponse, PropertyDescriptionResponse, MemoryResponse}
@@ -13,7 +15,7 @@ use Rattle.history.specs.{Wish.{Wish, wish_of, restart, nothing, asks, brings, t
 use Rattle.history.proofs.spans.Bools.{all_at}
 
 -- what reads as p asks what p asks
-module _ (a : List ℕ) (p : Pdu) (e : read_pdu a ≡ Is p) where
+module _ (a : List ℕ) (p : Pdu) (e : read_pdu a ≡ Ok p) where
   pub asks_is : asks a ≡ wish_of p
   unfolding asks
   asks_is = rw e
@@ -22,7 +24,7 @@ module _ (a : List ℕ) (p : Pdu) (e : read_pdu a ≡ Is p) where
   unfolding brings
   brings_is = rw e
 
-pub refused_asks : (a : List ℕ) (n : ℕ) → read_pdu a ≡ Refused n → asks a ≡ nothing
+pub refused_asks : (a : List ℕ) (n : ReadRefusal) → read_pdu a ≡ Err n → asks a ≡ nothing
 unfolding asks
 refused_asks a n e = rw e
 
@@ -114,7 +116,7 @@ module _ (x : State) (mode c g : ℕ) (a out : List ℕ) (accepted : Accepted x.
 
   -- A REQUEST THAT READS IS HEARD EXACTLY IF IT IS READY AND ITS MODE TAKES IT
   pub heard_is :
-      (p : Pdu) → read_pdu a ≡ Is p → (Idle p → ⊥) →
+      (p : Pdu) → read_pdu a ≡ Ok p → (Idle p → ⊥) →
       (heard rules R.session.opened mode a out (asks a) ≡ true) ↔ (Ready R × Takes rules (service_of p) mode)
   heard_is p e concerned = go (taken_is rules p mode)
     where
@@ -132,11 +134,11 @@ module _ (x : State) (mode c g : ℕ) (a out : List ℕ) (accepted : Accepted x.
       of_none : asks a ≡ nothing → ⊥
       of_none e = never (rw e at ((ready_is (asks a)).0 h).1)
 
-      go : (q : Parsed) → read_pdu a ≡ q → (p : Pdu) × Reads R p
-      go (Is p) e =
+      go : (q : Result Pdu ReadRefusal) → read_pdu a ≡ q → (p : Pdu) × Reads R p
+      go (Ok p) e =
           let r = (heard_is p e (λ i. of_none (asks_is a p e ∙ i))).0 h in
           (p, record { ready = r.0; takes = r.1; reads = e })
-      go (Refused n) e = absurd (of_none (refused_asks a n e))
+      go (Err n) e = absurd (of_none (refused_asks a n e))
 
   pub reads_heard : (p : Pdu) → Reads R p → (Idle p → ⊥) → heard rules R.session.opened mode a out (asks a) ≡ true
   reads_heard p r n = (heard_is p r.reads n).1 (r.ready, r.takes)

@@ -1,8 +1,9 @@
 -- What is refused before its service, and what a history is not concerned with, is not heard.
 use Rattle.octets.proofs.Kit.{ℕ, ◌≡◌, sym, subst, ◌∙◌, inl, inr, Bool, false, List, arith}
+use Rattle.std.proofs.Common.{Err}
 use Rattle.octets.proofs.Truths.{never}
 use Rattle.sheet.{specs.{Head.rules_of, Rules.Accepted}, proofs.rules.Good.no_rule}
-use Rattle.pdu.{specs.{Pdus.service_of, Read.read_pdu, declared.{Service.Service, Pdu.Pdu, Parsed.TheVariants.Refused}}, proofs.promises.Readings.reading}
+use Rattle.pdu.{specs.{Pdus.service_of, Read.read_pdu, declared.{Service.Service, Pdu.Pdu, ReadRefusal.ReadRefusal}}, proofs.promises.Readings.reading}
 use Rattle.device.specs.{Events.State, Asked.{Asked, Takes, Names, Served, Refusal, no_room, bad_sheet, old_sheet, bad_length, bad_mode, no_session, Ready, Reads}, Due.asked}
 use Rattle.device.proofs.due.RequestCases.{found_names, names_once}
 use Rattle.history.specs.{Wish.{nothing, asks}, Permit.heard}
@@ -32,7 +33,7 @@ module _ (x : State) (mode c g : ℕ) (a out : List ℕ) (accepted : Accepted x.
   nothing_unheard q =
       must_fail Ok (λ e. never (rw q at ((ready_is x mode c g a out accepted (asks a)).0 e).1))
 
-  pub unread_unheard : (n : ℕ) → read_pdu a ≡ Refused n → Ok ≡ false
+  pub unread_unheard : (n : ReadRefusal) → read_pdu a ≡ Err n → Ok ≡ false
   unread_unheard n e = nothing_unheard (refused_asks a n e)
 
   -- what is heard has the code of a service that is served

@@ -1,8 +1,9 @@
 -- THE CALLS: whatever calls a host makes, demand 3 and what goes with it hold of what the last one left, and of what the next one gives. All that is asked of them is that
 -- they follow a history; `calls_after` says it of runs of `Call`, host's `mixed_follows` of any mixture.
 use Rattle.octets.proofs.Kit.{ℕ, ◌<◌, ◌≤◌, ◌≡◌, refl, sym, ap, ap₂, subst, ◌∙◌, true, false, List, [], ◌∷◌, ◌++◌, reverse}
+use Rattle.std.proofs.Common.{Ok}
 use Rattle.sheet.specs.{Head.rules_of, declared.Memory.Memory}
-use Rattle.pdu.specs.{Read.read_pdu, declared.{Parsed.TheVariants.Is, Pdu.TheVariants.PropertyValueRead}}
+use Rattle.pdu.specs.{Read.read_pdu, declared.Pdu.TheVariants.PropertyValueRead}
 use Rattle.device.{specs.{Sessions.session_of, Events.{Effect, State}, MemoryDue.reading, Due.ButtonDue, Apart.{SameEffect, Together}}, proofs.promises.Called.{call_due, call_only}}
 use Rattle.device.proofs.promises.Dues.{connect_due, connect_only, disconnect_due, disconnect_only, button_due, button_only, request_due}
 use Rattle.events.{specs.{Events.{Event, button, request, restore, event_of, run}, Due.RestoreDue, Apart.{Settled, AllSettled}}, proofs.promises.Dues.{restore_due, restore_only}}
@@ -109,11 +110,11 @@ module _ {f : First} (b : Begins f) {h : List Event} {x : State} (k : Follows f 
 
   module _ {mode c g : ℕ} {a out : List ℕ} {r : Effect} (d : Call x (request mode c g a out) r) (ok : r.outcome ≡ 0) where
     -- WHAT A READ SHOWS
-    pub shown_calls : (object id n s : ℕ) → read_pdu a ≡ Is (PropertyValueRead object id n s) → 1 ≤ s → Shows f h object id n s r
+    pub shown_calls : (object id n s : ℕ) → read_pdu a ≡ Ok (PropertyValueRead object id n s) → 1 ≤ s → Shows f h object id n s r
     shown_calls object id n s reads low =
         rw (gives d) (ours_shown f h b k.octets mode c g a out (call_is d).1 object id n s reads low (rw (gives d) at ok))
 
-    pub memory_calls : (m : Memory) (n y : ℕ) → read_pdu a ≡ Is (reading m n y) → MemoryShows f h mode c m n y r
+    pub memory_calls : (m : Memory) (n y : ℕ) → read_pdu a ≡ Ok (reading m n y) → MemoryShows f h mode c m n y r
     memory_calls m n y reads =
         rw (gives d) (ours_memory_shown f h b k.octets mode c g a out (call_is d).1 m n y reads (rw (gives d) at ok))
 

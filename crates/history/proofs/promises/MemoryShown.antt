@@ -1,8 +1,9 @@
 -- WHAT A READ SHOWS OF MEMORY IS WHAT THE HISTORY SAYS, over one region or several: of ours, and so of any device that does what is due.
 use Rattle.octets.proofs.Kit.{ℕ, ◌+◌, ◌/◌, ◌<◌, ◌≤◌, ◌≡◌, sym, ap, subst, ◌∙◌, true, List, length, drop, length-take, length-drop, get_or-take, get_or-drop, arith, le-leb}
+use Rattle.std.proofs.Common.{Ok}
 use Rattle.sheet.{specs.{Places.Ranged, declared.Memory.Memory}, proofs.{searches.Regions.covers_stands, promises.Runs.range_within, alike.SameLookups.ranged_same}}
 use Rattle.sheet.proofs.promises.Agrees.{agree_sym}
-use Rattle.pdu.specs.{Read.read_pdu, Write.encoded, declared.{Pdu.Pdu, Parsed.TheVariants.Is}}
+use Rattle.pdu.specs.{Read.read_pdu, Write.encoded, declared.Pdu.Pdu}
 use Rattle.judge.{specs.{Session.level_in, Memory.most_bytes, declared.{Access.TheVariants.Read, Decision.Decision}}, proofs.MemoryCases.{Permits, range_in, memory_read_cases}}
 use Rattle.device.specs.{Step.{Step, step_by}, Events.{State, request_of}, Asked.{Asked, Reads, given, part}, MemoryDue.{reading, response}, Demand2.done, Due.asked}
 use Rattle.device.proofs.due.{RightMemory.look_at, Stepped.step_read, WasReady.carried}
@@ -13,7 +14,7 @@ use Rattle.history.proofs.{promises.Said.said, steps.Invariant.{Inv, fine, now},
 use Rattle.history.proofs.{promises.OneDevice.one_device, steps.Requests.met_so, heard.Searches.may_read_lem}
 
 module _ (f : First) (h : List Event) (b : Begins f) (all : AllOctets h) (mode c g : ℕ) (a out : List ℕ) (m : Memory) (n y : ℕ)
-    (reads : read_pdu a ≡ Is (reading m n y)) (ok : (event_of (state_after ours f h) (request mode c g a out)).outcome ≡ 0) where
+    (reads : read_pdu a ≡ Ok (reading m n y)) (ok : (event_of (state_after ours f h) (request mode c g a out)).outcome ≡ 0) where
   abbrev X : State
   X = state_after ours f h
 

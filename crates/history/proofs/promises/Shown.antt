@@ -1,9 +1,10 @@
 -- WHAT A READ SHOWS OF A PROPERTY WAS WRITTEN: of ours, and so of any device that does what is due.
 use Rattle.octets.proofs.Kit.{ℕ, ◌+◌, ◌*◌, ◌-◌, ◌<◌, ◌≤◌, ◌≡◌, refl, sym, ap, subst, ◌∙◌, true, List, length, get_or, take, drop, length-take, length-drop, get_or-take, get_or-drop}
 use Rattle.octets.proofs.Kit.{mul-le-mul_right, arith}
+use Rattle.std.proofs.Common.{Ok}
 use Rattle.sheet.{specs.{Kind.properties, Layout.◌of◌, Entries.{entry, body_at}, Places.PropertyWith}, proofs.alike.Sames.property_same}
 use Rattle.sheet.specs.Property as property
-use Rattle.pdu.{specs.{Read.read_pdu, Write.encoded, declared.{Parsed.TheVariants.Is, Pdu.TheVariants.{PropertyValueRead, PropertyValueResponse}}}, proofs.promises.Readings.reading}
+use Rattle.pdu.{specs.{Read.read_pdu, Write.encoded, declared.Pdu.TheVariants.{PropertyValueRead, PropertyValueResponse}}, proofs.promises.Readings.reading}
 use Rattle.judge.{specs.{Session.level_in, declared.Decision.Decision}, proofs.PropertyCases.{Among, property_read_cases}}
 use Rattle.device.specs.{Octets.Octets, Step.{Step, step_by}, Events.{Effect, State, request_of}, Asked.{Asked, Reads}, Demand2.done, Due.asked}
 use Rattle.device.proofs.{leaves.Accepted.{count_below, elements_within}, due.{Properly.{unkeyed, read_id}, Stepped.step_read, WasReady.carried}}
@@ -74,7 +75,7 @@ module _ (f : First) (b : Begins f) (h : List Event) (x : State) (inv : Inv f h 
       }
 
 module _ (f : First) (h : List Event) (b : Begins f) (all : AllOctets h) (mode c g : ℕ) (a out : List ℕ) (octets : Octets a)
-    (object id n s : ℕ) (reads : read_pdu a ≡ Is (PropertyValueRead object id n s)) (low : 1 ≤ s)
+    (object id n s : ℕ) (reads : read_pdu a ≡ Ok (PropertyValueRead object id n s)) (low : 1 ≤ s)
     (ok : (event_of (state_after ours f h) (request mode c g a out)).outcome ≡ 0) where
   abbrev X : State
   X = state_after ours f h

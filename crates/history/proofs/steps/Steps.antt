@@ -4,6 +4,7 @@ use Rattle.sheet.specs.{Head.rules_of, Rules.Accepted, declared.Memory.TheVarian
 use Rattle.pdu.specs.declared.Pdu.{Pdu, TheVariants.{GroupValueRead, IndividualAddressRead, SerialNumberRead, DeviceDescriptorRead, PropertyValueRead, PropertyDescriptionRead, MemoryRead}}
 use Rattle.pdu.specs.declared.Pdu.TheVariants.{UserMemoryRead}
 use Rattle.device.{specs.{Octets.Octets, Step.Step, Events.State, Asked.{Asked, Reads}, Due.asked, Right.Right}, proofs.due.WasReady.late}
+use Rattle.pdu.specs.declared.ReadRefusal.TheVariants as unread
 use Rattle.device.specs.Right as right
 use Rattle.device.specs.GroupsDue as groups
 use Rattle.device.specs.AddressesDue as addresses
@@ -44,7 +45,7 @@ module _ (f : First) (b : Begins f) (h : List Event) (x : State) (inv : Inv f h 
       unheard (refusal_unheard x mode c g a out accepted q) n [] (λ z. omega (arith, z.outcome, late q))
   due (right.unknown r q) = unheard (unknown_unheard x mode c g a out accepted q) 8 [] (λ z. omega (arith, z.outcome))
   due (right.other_mode k r n s q) = unheard (mode_unheard x mode c g a out accepted k n q) 9 [] (λ z. omega (arith, z.outcome))
-  due (right.unfit k r n t q) = unheard (unread_unheard x mode c g a out accepted 10 q) 10 [] (λ z. omega (arith, z.outcome))
+  due (right.unfit k r n t q) = unheard (unread_unheard x mode c g a out accepted unread.Fields q) 10 [] (λ z. omega (arith, z.outcome))
   due (right.groups (groups.group_read0 i r m n o)) = idle GroupValueRead refl r 0 _
   due (right.groups (groups.group_read i r m n o)) = idle GroupValueRead refl r 0 _
   due (right.groups (groups.no_group_read r q)) = idle GroupValueRead refl r 2 []

@@ -1,9 +1,9 @@
 -- TWO OPEN PLACES HAVE TWO ADDRESSES, over any history of frames, if it was so at first; and who is turned away: exactly a third. Assumes nothing.
-use Rattle.octets.proofs.Kit.{ℕ, zero, suc, ◌≡◌, refl, sym, ap, ◌∙◌, ◌↔◌, inl, inr, ⊎_elim, Bool, true, false, cond, List, [], ◌∷◌, replicate, leb, eqb, arith, ltb-true, eqb-true, eq-eqb}
+use Rattle.octets.proofs.Kit.{ℕ, zero, suc, ◌≡◌, refl, sym, ap, ◌∙◌, ◌↔◌, ⊎_elim, Bool, true, false, cond, List, [], ◌∷◌, replicate, leb, eqb, arith, ltb-true, eqb-true, eq-eqb}
 use Rattle.octets.proofs.Kit.{ne_eqb}
 use Rattle.octets.proofs.{Truths.{never, first_true, second_true, decided}, Tests.both, Walks.by_test}
-use Rattle.cemi.specs.{Read.{frame_in, read_frame}, Meaning.meaning_of, declared.{Frame.Frame, Meaning.Meaning}}
-use Rattle.cemi.specs.declared.Got.TheVariants as got
+use Rattle.cemi.specs.{Read.{frame_in, read_frame}, Meaning.meaning_of, declared.{Frame.Frame, Meaning.Meaning, NoMeaning.NoMeaning}}
+use Rattle.std.specs.Prelude.{Result, Ok, Err}
 use Rattle.cemi.specs.declared.Meaning.TheVariants as meaning
 use Rattle.device.specs.Sessions.{known}
 use Rattle.events.specs.Events.{Event, connect, disconnect, button, request, restore, event_of, after, run_by, run}
@@ -11,7 +11,7 @@ use Rattle.link.specs.Partners.{nobody, sits, place_of, free_of, place_for}
 use Rattle.link.specs.{Hearing.{own_of, for_us, to_itself, on_place, connects, disconnects, meant, from_other, judged, heard_got, heard_of}, Serving.{most, apdu_of}}
 use Rattle.link.specs.{Net.{Net, source_of, state_of, heard_in, events_of, address_by, Item, frame, press, time_out, give_back, net_by, net_after}, Whose.{NoPlace, Apart}, declared.Link.Link}
 use Rattle.link.specs.declared.Arrived.{Arrived, TheVariants.{Request, Connect, Disconnect, Nothing}}
-use Rattle.link.proofs.{promises.Demand1.{Zero, refusal_framed, Means, means}, Sessions.opened_before, promises.Whose.heard_by}
+use Rattle.link.proofs.{promises.Demand1.{unread_framed, unmeant_framed}, Sessions.opened_before, promises.Whose.heard_by}
 
 module _ (k : Link) (a : ℕ) where
   abbrev F : Bool
@@ -83,8 +83,8 @@ from_other_lem control2 source own n =
 -- 62 EXACTLY THEN: of a frame that reads, is for this device, from another and a connect
 pub turned_away :
     (k : Link) (own : ℕ) (b : List ℕ) (f : Frame) →
-    read_frame b ≡ got.Is f → for_us f.fields.control2 f.fields.destination own ≡ true → (f.fields.source ≡ own → ⊥) →
-    meaning_of f ≡ meaning.Connect →
+    read_frame b ≡ Ok f → for_us f.fields.control2 f.fields.destination own ≡ true → (f.fields.source ≡ own → ⊥) →
+    meaning_of f ≡ Ok meaning.Connect →
     (heard_of k own b ≡ Nothing 62 nobody) ↔ NoPlace k f.fields.source
 unfolding heard_of heard_got judged from_other meant connects number_of
 turned_away k own b f reads us other m = rw (reads, us, from_other_lem f.fields.control2 f.fields.source own other, m) (there, back)
@@ -102,29 +102,25 @@ turned_away k own b f reads us other m = rw (reads, us, from_other_lem f.fields.
 -- AND OF NOTHING ELSE: a frame that gets 62 is a connect, and both places are taken by others than its source
 module _ (k : Link) (own : ℕ) (b : List ℕ) where
   abbrev OnlyThird : Arrived → Type 0
-  OnlyThird r = number_of r ≡ 62 → (meaning_of (frame_in b) ≡ meaning.Connect) × NoPlace k (source_of b)
+  OnlyThird r = number_of r ≡ 62 → (meaning_of (frame_in b) ≡ Ok meaning.Connect) × NoPlace k (source_of b)
 
-  meant_third : (group : ℕ) (m : Meaning) → Means m → meaning_of (frame_in b) ≡ m → OnlyThird (meant k (source_of b) group m)
+  meant_third : (group : ℕ) (m : Result Meaning NoMeaning) → meaning_of (frame_in b) ≡ m → OnlyThird (meant k (source_of b) group m)
   unfolding meant on_place connects disconnects number_of
-  meant_third group (meaning.Data mode) h q =
+  meant_third group (Ok (meaning.Data mode)) q =
       by_test OnlyThird (eqb mode 3) _ _ (λ t. by_test OnlyThird (known (place_of k (source_of b))) _ _ (λ u e. absurd (omega arith)) (λ u e. absurd (omega arith))) (λ t e. absurd (omega arith))
-  meant_third group meaning.Connect h q =
+  meant_third group (Ok meaning.Connect) q =
       by_test OnlyThird (known (place_for k (source_of b))) _ _ (λ u e. absurd (omega arith)) (λ u e. (q, (third k (source_of b)).0 u))
-  meant_third group meaning.Disconnect h q =
+  meant_third group (Ok meaning.Disconnect) q =
       by_test OnlyThird (known (place_of k (source_of b))) _ _ (λ u e. absurd (omega arith)) (λ u e. absurd (omega arith))
-  meant_third group (meaning.Refused n) h q = λ e. absurd (omega (arith, h.1))
+  meant_third group (Err y) q = λ e. absurd (omega (arith, unmeant_framed y))
 
   heard_third : OnlyThird (heard_of k own b)
   unfolding number_of
   heard_third =
-      heard_by k own b OnlyThird (λ t e. absurd (low _ (refusal_framed _ _ _ _) e)) (λ e. absurd (omega arith)) (λ e. absurd (omega arith))
-      (λ group. meant_third group (meaning_of (frame_in b)) (means (frame_in b)) refl)
-    where
-      low : (n : ℕ) → Zero n → n ≡ 62 → ⊥
-      low n (inl z) e = omega arith
-      low n (inr z) e = omega (arith, z.1)
+      heard_by k own b OnlyThird (λ y e. absurd (omega (arith, unread_framed y))) (λ e. absurd (omega arith)) (λ e. absurd (omega arith))
+      (λ group. meant_third group (meaning_of (frame_in b)) refl)
 
-  pub only_third : (c : ℕ) → heard_of k own b ≡ Nothing 62 c → (meaning_of (frame_in b) ≡ meaning.Connect) × NoPlace k (source_of b)
+  pub only_third : (c : ℕ) → heard_of k own b ≡ Nothing 62 c → (meaning_of (frame_in b) ≡ Ok meaning.Connect) × NoPlace k (source_of b)
   unfolding number_of
   only_third c e = heard_third (ap number_of e)
 
@@ -136,12 +132,12 @@ module _ (k : Link) (a : ℕ) where
   Joins (Disconnect c) = Unit {0}
   Joins (Nothing n c) = Unit {0}
 
-  joins : (group : ℕ) (m : Meaning) → Joins (meant k a group m)
+  joins : (group : ℕ) (m : Result Meaning NoMeaning) → Joins (meant k a group m)
   unfolding meant on_place connects disconnects
-  joins group (meaning.Data mode) = by_test Joins (eqb mode 3) _ _ (λ t. by_test Joins (known (place_of k a)) _ _ (λ u. tt) (λ u. tt)) (λ t. tt)
-  joins group meaning.Connect = by_test Joins (known (place_for k a)) _ _ (λ u. (refl, u)) (λ u. tt)
-  joins group meaning.Disconnect = by_test Joins (known (place_of k a)) _ _ (λ u. tt) (λ u. tt)
-  joins group (meaning.Refused n) = tt
+  joins group (Ok (meaning.Data mode)) = by_test Joins (eqb mode 3) _ _ (λ t. by_test Joins (known (place_of k a)) _ _ (λ u. tt) (λ u. tt)) (λ t. tt)
+  joins group (Ok meaning.Connect) = by_test Joins (known (place_for k a)) _ _ (λ u. (refl, u)) (λ u. tt)
+  joins group (Ok meaning.Disconnect) = by_test Joins (known (place_of k a)) _ _ (λ u. tt) (λ u. tt)
+  joins group (Err e) = tt
 
 is_connect : Event → Bool
 is_connect (connect c) = true

@@ -1,58 +1,30 @@
 -- DEMAND 1 OF A FRAME: a number of the list, and what each leaves as found. Assumes nothing.
-use Rattle.octets.proofs.Kit.{ℕ, ◌+◌, ◌*◌, ◌%◌, ◌≤◌, ◌≡◌, refl, sym, ap, subst, ◌∙◌, ◌⊎◌, inl, inr, true, ◌&&◌, ◌||◌, List, [], ◌∷◌, length, get_or, replicate, ltb, leb, eqb, arith, ltb-false}
-use Rattle.octets.proofs.Kit.{eqb-false}
+use Rattle.octets.proofs.Kit.{ℕ, ◌+◌, ◌≤◌, ◌≡◌, refl, sym, ap, subst, ◌∙◌, ◌⊎◌, inl, inr, true, List, [], ◌∷◌, length, get_or, replicate, ltb, eqb, arith, ltb-false}
 use Rattle.octets.{specs.{Octets.Octets, Splice.splice}, proofs.{Splices.{splice_none, splice_above, length_splice}, Walks.by_test}}
-use Rattle.cemi.specs.{Layout.{request, indication, octet6}, Meaning.{to_group, control, numbered, to_one, meaning_of}, Read.{fields_in, frame_in, standard_of, refusal_of}, Answering.answering}
-use Rattle.cemi.specs.declared.{Fields.Fields, Frame.Frame, Meaning.Meaning}
+use Rattle.cemi.specs.{Meaning.{meaning_of}, Read.{fields_in, frame_in}, Answering.answering}
+use Rattle.cemi.specs.declared.{Fields.Fields, Meaning.Meaning, ReadRefusal.{ReadRefusal, TheVariants.{Short, Code, Extended, Length}}, NoMeaning.{NoMeaning, TheVariants.{Transport, Acknowledgement}}}
+use Rattle.cemi.specs.Refusal.{read_number, none_number}
+use Rattle.std.specs.Prelude.{Result, Ok, Err}
 use Rattle.cemi.specs.declared.Meaning.TheVariants as meaning
 use Rattle.device.{specs.{Sessions.known, Events.{Effect, named_outcome, request_of, Called}, Demand1.{OneOf, Leaves}, declared.Done.Done}, proofs.promises.Called.call_leaves}
 use Rattle.link.specs.{Partners.{place_of, place_for}, Hearing.{own_of, on_place, connects, disconnects, meant, heard_of}}
 use Rattle.link.specs.{Serving.{most, longest, apdu_of, answer_frame, with_sessions, Deed, deed_of, serve_of, ServedFrame}, Net.source_of, Demand1.{Why, ServeLeaves}, declared.Link.Link}
 use Rattle.link.specs.declared.{Served.Served, Arrived.{Arrived, TheVariants.{Request, Connect, Disconnect, Nothing}}}
-use Rattle.link.proofs.{promises.Kept.octets_apdu, Answered.frame_few, promises.Whose.{refusal, heard_by}}
+use Rattle.link.proofs.{promises.Kept.octets_apdu, Answered.frame_few, promises.Whose.{heard_by}}
 
 -- the numbers of frames
 abbrev pub Framed : ℕ → Type 0
 Framed n = (40 ≤ n) × (n ≤ 45)
 
-abbrev pub Zero : ℕ → Type 0
-Zero n = (n ≡ 0) ⊎ Framed n
+pub unread_framed : (e : ReadRefusal) → Framed (read_number e)
+unread_framed Short = (omega arith, omega arith)
+unread_framed Code = (omega arith, omega arith)
+unread_framed Extended = (omega arith, omega arith)
+unread_framed Length = (omega arith, omega arith)
 
-low : (n : ℕ) → 40 ≤ n → n ≤ 45 → Zero n
-low n h k = inr (h, k)
-
-pub refusal_framed : (n l : ℕ) (f : Fields) (x : ℕ) → Zero (refusal_of n l f x)
-unfolding refusal_of standard_of
-refusal_framed n l f x =
-    by_test Zero (ltb n 2) _ _ (λ t. low 40 (omega arith) (omega arith))
-    (λ t. by_test Zero (ltb n (10 + l)) _ _ (λ t. low 40 (omega arith) (omega arith))
-    (λ t. by_test Zero (eqb f.code request || eqb f.code indication) _ _
-    (λ t. by_test Zero (ltb f.control1 128) _ _ (λ t. low 42 (omega arith) (omega arith))
-    (λ t. by_test Zero (eqb (f.control2 % 16) 0) _ _
-    (λ t. by_test Zero (ltb 15 x) _ _ (λ t. low 43 (omega arith) (omega arith))
-    (λ t. by_test Zero (eqb (octet6 l + (x + 1)) n) _ _ (λ t. inl refl) (λ t. low 43 (omega arith) (omega arith))))
-    (λ t. low 42 (omega arith) (omega arith))))
-    (λ t. low 41 (omega arith) (omega arith))))
-
--- of a meaning
-abbrev pub Means : Meaning → Type 0
-Means (meaning.Data mode) = Unit {0}
-Means meaning.Connect = Unit {0}
-Means meaning.Disconnect = Unit {0}
-Means (meaning.Refused n) = Framed n
-
-pub means : (f : Frame) → Means (meaning_of f)
-unfolding meaning_of to_group to_one control
-means f =
-    by_test Means (leb 128 f.fields.control2) _ _
-    (λ t. by_test Means (eqb f.fields.transport 0) _ _ (λ t. by_test Means (eqb f.fields.destination 0) _ _ (λ t. tt) (λ t. tt)) (λ t. (omega arith, omega arith)))
-    (λ t. by_test Means (eqb f.fields.transport 0) _ _ (λ t. tt)
-    (λ t. by_test Means (numbered f.fields.transport) _ _ (λ t. tt)
-    (λ t. by_test Means (eqb f.stated 0) _ _
-    (λ t. by_test Means (eqb (f.fields.transport * 4 + f.low) 128) _ _ (λ t. tt)
-    (λ t. by_test Means (eqb (f.fields.transport * 4 + f.low) 129) _ _ (λ t. tt)
-    (λ t. by_test Means (leb 48 f.fields.transport && leb 2 f.low) _ _ (λ t. (omega arith, omega arith)) (λ t. (omega arith, omega arith)))))
-    (λ t. (omega arith, omega arith)))))
+pub unmeant_framed : (e : NoMeaning) → Framed (none_number e)
+unmeant_framed Transport = (omega arith, omega arith)
+unmeant_framed Acknowledgement = (omega arith, omega arith)
 
 -- of what arrived: connections that there are, and the numbers of the list
 abbrev Told : Arrived → Type 0
@@ -62,22 +34,18 @@ Told (Disconnect c) = known c ≡ true
 Told (Nothing n c) = Why n
 
 module _ (k : Link) (own : ℕ) (b : List ℕ) where
-  meant_told : (a group : ℕ) (m : Meaning) → Means m → Told (meant k a group m)
+  meant_told : (a group : ℕ) (m : Result Meaning NoMeaning) → Told (meant k a group m)
   unfolding meant on_place connects disconnects
-  meant_told a group (meaning.Data mode) h =
+  meant_told a group (Ok (meaning.Data mode)) =
       by_test Told (eqb mode 3) _ _ (λ t. by_test Told (known (place_of k a)) _ _ (λ u. tt) (λ u. inr (omega arith, omega arith))) (λ t. tt)
-  meant_told a group meaning.Connect h = by_test Told (known (place_for k a)) _ _ (λ u. u) (λ u. inr (omega arith, omega arith))
-  meant_told a group meaning.Disconnect h = by_test Told (known (place_of k a)) _ _ (λ u. u) (λ u. inr (omega arith, omega arith))
-  meant_told a group (meaning.Refused n) h = inl h
+  meant_told a group (Ok meaning.Connect) = by_test Told (known (place_for k a)) _ _ (λ u. u) (λ u. inr (omega arith, omega arith))
+  meant_told a group (Ok meaning.Disconnect) = by_test Told (known (place_of k a)) _ _ (λ u. u) (λ u. inr (omega arith, omega arith))
+  meant_told a group (Err e) = inl (unmeant_framed e)
 
   told : Told (heard_of k own b)
   told =
-      heard_by k own b Told (λ t. why (refusal k own b) (refusal_framed _ _ _ _) (eqb-false (refusal k own b) 0 t)) (inr (omega arith, omega arith)) (inr (omega arith, omega arith))
-      (λ group. meant_told (source_of b) group (meaning_of (frame_in b)) (means (frame_in b)))
-    where
-      why : (n : ℕ) → Zero n → (n ≡ 0 → ⊥) → Why n
-      why n (inl z) h = absurd (h z)
-      why n (inr z) h = inl z
+      heard_by k own b Told (λ e. inl (unread_framed e)) (inr (omega arith, omega arith)) (inr (omega arith, omega arith))
+      (λ group. meant_told (source_of b) group (meaning_of (frame_in b)))
 
 -- what a deed leaves
 record Sound (k : Link) (s : List ℕ) (room : ℕ) (x : Deed) : Type 0 where

@@ -5,7 +5,7 @@ use Rattle.sheet.specs.Layout.{◌of◌}
 use Rattle.sheet.specs.Head as head
 use Rattle.cemi.specs.{Read.{fields_in, frame_in, read_frame}, Means.Means, Write.{encoded, frame_of}, Answering.answering, declared.{Fields.Fields, Meaning.TheVariants.Data}}
 use Rattle.cemi.proofs.promises.{Answers.{answer_writable, answer_fits, answer_means}, Backs.{length_encoded, read_back}}
-use Rattle.cemi.specs.declared.Got.TheVariants as got
+use Rattle.std.specs.Prelude.{Ok}
 use Rattle.device.{specs.{Sessions.session_for, Events.request_of}, proofs.promises.Demand1.at_most_16}
 use Rattle.link.specs.{Hearing.{own_of, heard_of}, Serving.{most, longest, apdu_of, answer_frame, Deed, deed_of, serve_of, ServedFrame}, Due.{HeardDue, to_group, to_all, plain, partners}}
 use Rattle.link.specs.declared.{Link.Link, Served.Served, Arrived.TheVariants.Request}
@@ -21,7 +21,7 @@ own_fits s o = go (leb 18 (length s))
     go false = omega arith
 
 -- a frame that is due as a request means data in its mode
-request_means : {k : Link} {own : ℕ} {b : List ℕ} {mode c group : ℕ} → HeardDue k own b (Request mode c group) → Means (frame_in b) (Data mode)
+request_means : {k : Link} {own : ℕ} {b : List ℕ} {mode c group : ℕ} → HeardDue k own b (Request mode c group) → Means (frame_in b) (Ok (Data mode))
 request_means (to_group o m) = m
 request_means (to_all o m) = m
 request_means (plain o m) = m
@@ -61,7 +61,7 @@ module _ (k : Link) (sequence : ℕ) (b s o : List ℕ) (r : Served) (s' o' : Li
       1 ≤ length answer →
       (r.count ≡ 9 + length answer)
       × (take r.count o' ≡ encoded fields [] answer)
-      × (read_frame (take r.count o') ≡ got.Is (frame_of fields [] answer))
+      × (read_frame (take r.count o') ≡ Ok (frame_of fields [] answer))
   never_lost some =
       let e : answer_frame fields answer ≡ encoded fields [] answer = frames answer some few in
       let n : r.count ≡ 9 + length answer = sent.0 ∙ ap length e ∙ length_encoded fields [] answer in
@@ -79,7 +79,7 @@ module _ (k : Link) (sequence : ℕ) (b s o : List ℕ) (r : Served) (s' o' : Li
       )
 
   -- AND THEY MEAN DATA IN THE MODE OF THE REQUEST
-  pub answer_mode : Means (frame_of fields [] answer) (Data mode)
+  pub answer_mode : Means (frame_of fields [] answer) (Ok (Data mode))
   answer_mode =
       answer_means (frame_in b) (own_of s) sequence (frame_of fields [] answer) mode refl
       (request_means (subst (HeardDue k (own_of s) b) heard (heard_due k (own_of s) b)))

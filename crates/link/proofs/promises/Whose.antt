@@ -2,8 +2,8 @@
 use Rattle.octets.proofs.Kit.{ℕ, ◌<◌, ◌≡◌, refl, sym, ap, subst, ◌∙◌, ◌⊎◌, inl, inr, ⊎_elim, Bool, true, false, cond, List, [], ◌∷◌, length, ltb, eqb, arith, eqb-true, eq-eqb, ne_eqb}
 use Rattle.octets.proofs.Kit.{lt-leb}
 use Rattle.octets.proofs.{Truths.{never, first_true, second_true, must_fail}, Walks.by_test}
-use Rattle.cemi.specs.{Layout.{info_length, stated, ◌of◌}, Read.{fields_in, frame_in, refusal_of, read_frame}, Meaning.meaning_of, declared.{Got.Got, Meaning.Meaning}}
-use Rattle.cemi.specs.declared.Got.TheVariants as got
+use Rattle.cemi.specs.{Layout.{info_length, stated, ◌of◌}, Read.{fields_in, frame_in, refusal_of, got_by, read_frame}, Refusal.read_number, Meaning.meaning_of, declared.{ReadRefusal.ReadRefusal, Meaning.Meaning, NoMeaning.NoMeaning}}
+use Rattle.std.specs.Prelude.{Result, Ok, Err}
 use Rattle.cemi.specs.declared.Meaning.TheVariants as meaning
 use Rattle.device.specs.Sessions.{closed, session_of, known}
 use Rattle.events.specs.Events.{Event, connect, button, run_by, run}
@@ -44,26 +44,26 @@ module _ (k : Link) (a : ℕ) where
   Of (Disconnect c) = Partner k c a
   Of (Nothing n c) = Unit {0}
 
-  meant_of : (group : ℕ) (m : Meaning) → Of (meant k a group m)
+  meant_of : (group : ℕ) (m : Result Meaning NoMeaning) → Of (meant k a group m)
   unfolding meant on_place connects disconnects
-  meant_of group (meaning.Data mode) =
+  meant_of group (Ok (meaning.Data mode)) =
       by_test Of (eqb mode 3) _ _
       (λ t. by_test Of (known (place_of k a)) _ _ (λ u e. place_partner u) (λ u. tt))
       (λ t e. never (sym t ∙ e))
-  meant_of group meaning.Connect = by_test Of (known (place_for k a)) _ _ (λ u. place_opens u) (λ u. tt)
-  meant_of group meaning.Disconnect = by_test Of (known (place_of k a)) _ _ (λ u. place_partner u) (λ u. tt)
-  meant_of group (meaning.Refused n) = tt
+  meant_of group (Ok meaning.Connect) = by_test Of (known (place_for k a)) _ _ (λ u. place_opens u) (λ u. tt)
+  meant_of group (Ok meaning.Disconnect) = by_test Of (known (place_of k a)) _ _ (λ u. place_partner u) (λ u. tt)
+  meant_of group (Err e) = tt
 
 module _ (k : Link) (own : ℕ) (b : List ℕ) where
   abbrev bits : Bool
   bits = for_us (fields_in b).control2 (fields_in b).destination own
 
-  -- the number of the refusal of a frame's bytes
-  abbrev pub refusal : ℕ
+  -- the refusal of a frame's bytes, if there is one
+  abbrev pub refusal : Result (Unit {0}) ReadRefusal
   refusal = refusal_of (length b) (info_length b) (fields_in b) (stated of b)
 
   -- whatever holds of what doesn't read, of 60, of 65, and of all that a frame for this device can mean holds of what is heard
-  module _ (P : Arrived → Type 0) (unread : eqb refusal 0 ≡ false → P (Nothing refusal nobody)) (foreign : P (Nothing 60 nobody)) (mine : P (Nothing 65 nobody))
+  module _ (P : Arrived → Type 0) (unread : (e : ReadRefusal) → P (Nothing (read_number e) nobody)) (foreign : P (Nothing 60 nobody)) (mine : P (Nothing 65 nobody))
       (some : (group : ℕ) → P (meant k (source_of b) group (meaning_of (frame_in b)))) where
     judged_by : P (judged k own (frame_in b))
     unfolding judged from_other
@@ -71,20 +71,24 @@ module _ (k : Link) (own : ℕ) (b : List ℕ) where
 
     pub heard_by : P (heard_of k own b)
     unfolding heard_of heard_got read_frame
-    heard_by = by_test (λ (g : Got). P (heard_got k own g)) (eqb refusal 0) (got.Is (frame_in b)) (got.Refused refusal) (λ t. judged_by) unread
+    heard_by = go refusal
+      where
+        go : (r : Result (Unit {0}) ReadRefusal) → P (heard_got k own (got_by r (frame_in b)))
+        go (Ok u) = judged_by
+        go (Err e) = unread e
 
   owned : Of k (source_of b) (heard_of k own b)
-  owned = heard_by (Of k (source_of b)) (λ t. tt) tt tt (λ group. meant_of k (source_of b) group (meaning_of (frame_in b)))
+  owned = heard_by (Of k (source_of b)) (λ e. tt) tt tt (λ group. meant_of k (source_of b) group (meaning_of (frame_in b)))
 
   -- for another device
   other_device :
       (fields_in b).control2 < 128 → ((fields_in b).destination ≡ own → ⊥) → (n : ℕ) × (heard_of k own b ≡ Nothing n nobody)
   unfolding heard_of heard_got read_frame judged for_us
-  other_device i n = go (eqb refusal 0)
+  other_device i n = go refusal
     where
-      go : (t : Bool) → (n : ℕ) × (heard_got k own (cond t (got.Is (frame_in b)) (got.Refused refusal)) ≡ Nothing n nobody)
-      go true = (60, simp (lt-leb 128 (fields_in b).control2 i, ne_eqb (fields_in b).destination own n))
-      go false = (refusal, refl)
+      go : (r : Result (Unit {0}) ReadRefusal) → (n : ℕ) × (heard_got k own (got_by r (frame_in b)) ≡ Nothing n nobody)
+      go (Ok u) = (60, simp (lt-leb 128 (fields_in b).control2 i, ne_eqb (fields_in b).destination own n))
+      go (Err e) = (read_number e, refl)
 
   -- from this device to one alone
   abbrev Silent : Arrived → Type 0
@@ -103,8 +107,11 @@ module _ (k : Link) (own : ℕ) (b : List ℕ) where
 
   own_device : (fields_in b).control2 < 128 → source_of b ≡ own → Silent (heard_of k own b)
   unfolding heard_of heard_got read_frame
-  own_device i e =
-      by_test (λ (g : Got). Silent (heard_got k own g)) (eqb refusal 0) (got.Is (frame_in b)) (got.Refused refusal) (λ t. own_judged i e) (λ t. (refusal, refl))
+  own_device i e = go refusal
+    where
+      go : (r : Result (Unit {0}) ReadRefusal) → Silent (heard_got k own (got_by r (frame_in b)))
+      go (Ok u) = own_judged i e
+      go (Err y) = (read_number y, refl)
 
 -- what asks for nothing asks for no restart
 is_restarting : Wish → Bool

@@ -1,9 +1,10 @@
 -- When writing gives each of its numbers: only what the row allows is written, and all of it.
 use Rattle.octets.proofs.Kit.{ℕ, ◌+◌, ◌≤◌, ◌<◌, ◌≡◌, refl, sym, ap, ◌∙◌, ◌↔◌, ◌⊎◌, inl, inr, ⊎_elim, Bool, true, false, cond, List, arith, leb, ltb, length, ltb-true, ltb-false, lt-ltb}
 use Rattle.octets.proofs.Kit.{le-ltb}
+use Rattle.std.proofs.Common.{Result, Ok, Err}
 use Rattle.octets.proofs.Truths.{never, decided, and_is, at_most_is}
 use Rattle.pdu.specs.{Table.row_of, Pdus.{service_of, values_of}, Read.data_at, Write.{fits_in, writable, write_of, write_outcome}, Allows.{Allows, Typed}, declared.Pdu.Pdu}
-use Rattle.pdu.specs.declared.Written.{Written, TheVariants.{Bytes, Refused}}
+use Rattle.pdu.specs.declared.WriteRefusal.{WriteRefusal, TheVariants.{Room, Fields}}
 use Rattle.pdu.proofs.promises.Allowed.{fits_is}
 
 -- THE TEST BEFORE WRITING SAYS WHAT THE ROW ALLOWS
@@ -21,9 +22,9 @@ data Due (p : Pdu) (d o : List ℕ) : Type 0 where
   short : length o < 16 → Due p d o
   long : 16 ≤ length o → (t : Bool) → writable p d ≡ t → Due p d o
 
-abbrev given : {p : Pdu} {d o : List ℕ} → Due p d o → Written
-given (short h) = Refused 3
-given {p} {d} (long h t e) = cond t (Bytes (data_at p + length d)) (Refused 13)
+abbrev given : {p : Pdu} {d o : List ℕ} → Due p d o → Result ℕ WriteRefusal
+given (short h) = Err Room
+given {p} {d} (long h t e) = cond t (Ok (data_at p + length d)) (Err Fields)
 
 due : (p : Pdu) (d o : List ℕ) → Due p d o
 due p d o = ⊎_elim (λ h. short (ltb-true (length o) 16 h)) (λ h. long (ltb-false (length o) 16 h) (writable p d) refl) (decided (ltb (length o) 16))
@@ -31,7 +32,7 @@ due p d o = ⊎_elim (λ h. short (ltb-true (length o) 16 h)) (λ h. long (ltb-f
 gives : (p : Pdu) (d o : List ℕ) (c : Due p d o) → write_of p d o ≡ given c
 unfolding write_of
 gives p d o (short h) = simp (lt-ltb (length o) 16 h)
-gives p d o (long h t e) = simp (le-ltb (length o) 16 h) (ap (λ (u : Bool). cond u (Bytes (data_at p + length d)) (Refused 13)) e)
+gives p d o (long h t e) = simp (le-ltb (length o) 16 h) (ap (λ (u : Bool). cond u (Ok (data_at p + length d)) (Err Fields)) e)
 
 -- the number of a writing is that of its case
 told : (p : Pdu) (d o : List ℕ) → write_outcome (write_of p d o) ≡ write_outcome (given (due p d o))
@@ -85,10 +86,10 @@ writes_0 p d o w = (
     from (long h false f) n = absurd (omega arith)
 
 -- and then it is the count
-pub written : (p : Pdu) (d o : List ℕ) → write_outcome (write_of p d o) ≡ 0 → write_of p d o ≡ Bytes (data_at p + length d)
+pub written : (p : Pdu) (d o : List ℕ) → write_outcome (write_of p d o) ≡ 0 → write_of p d o ≡ Ok (data_at p + length d)
 written p d o e = from (due p d o) (gives p d o (due p d o)) (sym (told p d o) ∙ e)
   where
-    from : (c : Due p d o) → write_of p d o ≡ given c → write_outcome (given c) ≡ 0 → write_of p d o ≡ Bytes (data_at p + length d)
+    from : (c : Due p d o) → write_of p d o ≡ given c → write_outcome (given c) ≡ 0 → write_of p d o ≡ Ok (data_at p + length d)
     from (short h) g n = absurd (omega arith)
     from (long h true f) g n = g
     from (long h false f) g n = absurd (omega arith)

@@ -1,8 +1,10 @@
 -- When reading gives each of its numbers, and which PDU with 0.
 use Rattle.octets.proofs.Kit.{ℕ, ◌≤◌, ◌<◌, ◌≡◌, refl, sym, ap, ◌∙◌, ◌↔◌, ◌⊎◌, inl, inr, ⊎_elim, Bool, true, false, cond, List, arith, ltb, length, ltb-true, ltb-false, lt-ltb, le-ltb}
+use Rattle.std.proofs.Common.{Option, Some, None, Result, Ok, Err}
 use Rattle.octets.{specs.Octets.{Octets, ReadFrom}, proofs.Truths.{never, decided, must_fail}}
 use Rattle.pdu.specs.{Table.{row_of, has, service_at}, Pdus.{service_of, pdu_of}, Rules.{code_of, values_at, fits}, Read.{built_of, read_found, read_pdu, read_outcome}, Allows.{Allows, Carries}}
-use Rattle.pdu.specs.declared.{Service.Service, Found.{Found, TheVariants.{Listed, Unknown}}, Pdu.Pdu, Parsed.{Parsed, TheVariants.{Is, Refused}}}
+use Rattle.pdu.specs.declared.{Service.Service, Pdu.Pdu, ReadRefusal.ReadRefusal}
+use Rattle.pdu.specs.declared.ReadRefusal.TheVariants as unread
 use Rattle.pdu.proofs.{promises.Allowed.{fits_is, wide}, Sound.{sound, again}, Stands.{stands, stands_wide}, promises.{Codes.{found, named, unknown}, Readings.reading}}
 
 -- an APDU is 2 to 16 bytes long
@@ -35,25 +37,25 @@ due b =
     (decided (ltb 16 (length b))))
     (decided (ltb (length b) 2))
   where
-    by_code : Sized b → (f : Found) → service_at (code_of b) ≡ f → Due b
-    by_code s Unknown e = none s ((unknown (code_of b)).0 e)
-    by_code s (Listed k) e = one s k (fits_at k b) (named k (code_of b) e) refl
+    by_code : Sized b → (f : Option Service) → service_at (code_of b) ≡ f → Due b
+    by_code s None e = none s ((unknown (code_of b)).0 e)
+    by_code s (Some k) e = one s k (fits_at k b) (named k (code_of b) e) refl
 
-abbrev given : {b : List ℕ} → Due b → Parsed
-given (size h) = Refused 5
-given (none s h) = Refused 8
-given {b} (one s k t h f) = cond t (Is (built_of k b)) (Refused 10)
+abbrev given : {b : List ℕ} → Due b → Result Pdu ReadRefusal
+given (size h) = Err unread.Length
+given (none s h) = Err unread.Service
+given {b} (one s k t h f) = cond t (Ok (built_of k b)) (Err unread.Fields)
 
-sized : (b : List ℕ) (f : Found) → Sized b → service_at (code_of b) ≡ f → read_pdu b ≡ read_found f b
+sized : (b : List ℕ) (f : Option Service) → Sized b → service_at (code_of b) ≡ f → read_pdu b ≡ read_found f b
 unfolding read_pdu
-sized b f s e = simp (le-ltb (length b) 2 s.least, le-ltb 16 (length b) s.most) (ap (λ (g : Found). read_found g b) e)
+sized b f s e = simp (le-ltb (length b) 2 s.least, le-ltb 16 (length b) s.most) (ap (λ (g : Option Service). read_found g b) e)
 
 gives : (b : List ℕ) (d : Due b) → read_pdu b ≡ given d
 unfolding read_pdu
 gives b (size (inl h)) = simp (lt-ltb (length b) 2 h)
 gives b (size (inr h)) = simp (le-ltb (length b) 2 (omega arith), lt-ltb 16 (length b) h)
-gives b (none s h) = sized b Unknown s ((unknown (code_of b)).1 h)
-gives b (one s k t h f) = sized b (Listed k) s (found k (code_of b) h) ∙ ap (λ (u : Bool). cond u (Is (built_of k b)) (Refused 10)) f
+gives b (none s h) = sized b None s ((unknown (code_of b)).1 h)
+gives b (one s k t h f) = sized b (Some k) s (found k (code_of b) h) ∙ ap (λ (u : Bool). cond u (Ok (built_of k b)) (Err unread.Fields)) f
 
 -- the number of a reading is that of its case
 told : (b : List ℕ) → read_outcome (read_pdu b) ≡ read_outcome (given (due b))
@@ -110,17 +112,17 @@ told_10 b small = (
     from (one s k false h f) e = (s.least, s.most, (k, h, λ a. never (sym f ∙ (fits_at_is b k small s.most).1 a)))
 
 -- the bytes of a PDU read as it
-pub carried : (b : List ℕ) (p : Pdu) → Carries b p → read_pdu b ≡ Is p
+pub carried : (b : List ℕ) (p : Pdu) → Carries b p → read_pdu b ≡ Ok p
 carried b p c =
     let k : Service = service_of p in
     let a : Allows (row_of k) (values_at (row_of k).items 2 b) (length b) = rw c.fields at c.allowed in
     let f : fits_at k b ≡ true = (fits_is (row_of k) (values_at (row_of k).items 2 b) (length b) (wide (row_of k).items (values_at (row_of k).items 2 b) a.fields) a.most).1 a in
-    let e : read_pdu b ≡ Is (built_of k b) = gives b (one (record { least = c.least; most = a.most }) k true c.code f) in
+    let e : read_pdu b ≡ Ok (built_of k b) = gives b (one (record { least = c.least; most = a.most }) k true c.code f) in
     let g : built_of k b ≡ p = ap (pdu_of k) (sym c.fields) ∙ again p in
-    e ∙ ap Is g
+    e ∙ ap Ok g
 
 -- and what reads as a PDU is its bytes
-pub read_carries : (b : List ℕ) (p : Pdu) → Octets b → read_pdu b ≡ Is p → Carries b p
+pub read_carries : (b : List ℕ) (p : Pdu) → Octets b → read_pdu b ≡ Ok p → Carries b p
 read_carries b p small e =
     let k : Service = service_of p in
     let r = reading b p e in
@@ -141,14 +143,14 @@ told_0 b small = (λ e. from (due b) (sym (told b) ∙ e), λ h. ap read_outcome
     from (one s k false h f) e = absurd (omega arith)
 
 -- OF A CALL, which gave r for the bytes b
-module _ (b : List ℕ) (r : Parsed) (call : ReadFrom b r (read_pdu b)) where
+module _ (b : List ℕ) (r : Result Pdu ReadRefusal) (call : ReadFrom b r (read_pdu b)) where
   -- 10: EXACTLY IF A ROW HAS THE CODE OF 2 TO 16 BYTES, AND THAT ROW DOES NOT ALLOW THE FIELDS IN SO MANY
   pub reads_10 :
       (read_outcome r ≡ 10) ↔ ((2 ≤ length b) × (length b ≤ 16) × ((k : Service) × (has (row_of k) (code_of b) ≡ true) × (Allows (row_of k) (values_at (row_of k).items 2 b) (length b) → ⊥)))
   reads_10 = rw call.is (told_10 b call.bytes)
 
   -- WHICH PDU: THE ONE THAT THE BYTES CARRY
-  pub reads_pdu : (p : Pdu) → (r ≡ Is p) ↔ Carries b p
+  pub reads_pdu : (p : Pdu) → (r ≡ Ok p) ↔ Carries b p
   reads_pdu p = (λ e. read_carries b p call.bytes (sym call.is ∙ e), λ c. call.is ∙ carried b p c)
 
   -- 0: EXACTLY IF THE BYTES CARRY A PDU

@@ -1,20 +1,21 @@
 -- READING AND THE NAMES OF FIELDS AS PROPOSITIONS, for a reader who trusts no tests.
-use Rattle.octets.proofs.Kit.{ℕ, ◌≤◌, ◌≡◌, refl, sym, ap, ◌∙◌, ◌↔◌, true, List, [], ◌∷◌, arith, length, get_or}
+use Rattle.octets.proofs.Kit.{ℕ, ◌≤◌, ◌≡◌, refl, sym, ap, ◌∙◌, ◌↔◌, true, List, [], ◌∷◌, length, get_or}
+use Rattle.std.proofs.Common.{Ok, Err}
 use Rattle.octets.{specs.Octets.Octets, proofs.Truths.equal_is}
 use Rattle.pdu.specs.{Item.{Name, V6, Address, Serial, Domain, T, Object, Id, N, S, Index, Typ, Maximum, Access, Level, Key, name_number, same}, Table.{row_of, has}}
-use Rattle.pdu.specs.{Rules.{code_of, values_at}, Read.read_pdu, Allows.{Allows, Carries}, declared.{Service.Service, Pdu.Pdu, Parsed.TheVariants.{Is, Refused}}}
+use Rattle.pdu.specs.{Rules.{code_of, values_at}, Read.read_pdu, Allows.{Allows, Carries}, declared.{Service.Service, Pdu.Pdu, ReadRefusal.TheVariants.Fields}}
 use Rattle.pdu.proofs.promises.{Outcomes.{carried, read_carries, told_10}, Refusals.unread_is}
 
 -- BYTES READ AS THE PDU THAT THEY CARRY, and as no other
-pub reads_is : (b : List ℕ) (p : Pdu) → Octets b → (read_pdu b ≡ Is p) ↔ Carries b p
+pub reads_is : (b : List ℕ) (p : Pdu) → Octets b → (read_pdu b ≡ Ok p) ↔ Carries b p
 reads_is b p small = (read_carries b p small, carried b p)
 
 -- AND ARE UNFIT if they have the code of a row that does not allow the fields in them in so many bytes
 pub reads_unfit :
     (b : List ℕ) → Octets b →
-    (read_pdu b ≡ Refused 10) ↔ ((2 ≤ length b) × (length b ≤ 16) × ((k : Service) × (has (row_of k) (code_of b) ≡ true) × (Allows (row_of k) (values_at (row_of k).items 2 b) (length b) → ⊥)))
+    (read_pdu b ≡ Err Fields) ↔ ((2 ≤ length b) × (length b ≤ 16) × ((k : Service) × (has (row_of k) (code_of b) ≡ true) × (Allows (row_of k) (values_at (row_of k).items 2 b) (length b) → ⊥)))
 reads_unfit b small =
-    let n = unread_is (read_pdu b) 10 (omega arith) in
+    let n = unread_is (read_pdu b) Fields in
     let t = told_10 b small in
     (λ e. t.0 (n.1 e), λ h. n.0 (t.1 h))
 

@@ -1,12 +1,13 @@
 -- Worked examples: the figures of the standards (004: 8 to 46; 003: 6, 12, 13, 35, 36, 41, 57 to 59, 64 to 68), filled with the values of the sample sheet.
 use Rattle.octets.proofs.Kit.{ℕ, ◌≡◌, refl, List, [], ◌∷◌, map, replicate}
+use Rattle.std.proofs.Common.{Result, Ok}
 use Rattle.octets.specs.Bytes.{num_at, bytes_of}
 use Rattle.pdu.specs.{Table.{row_of, services, find}, Rules.{low_at, four_at, twelve_at, head_bytes}, Read.{read_pdu, read_outcome, data_of}, Write.encoded, declared.Service.Service}
 use Rattle.pdu.specs.declared.Pdu.{Pdu, TheVariants.{GroupValueRead, GroupValueResponse, GroupValueWrite, IndividualAddressWrite, IndividualAddressRead, SerialNumberRead}}
 use Rattle.pdu.specs.declared.Pdu.TheVariants.{SerialNumberWrite, DeviceDescriptorRead, PropertyValueRead, PropertyValueWrite, PropertyDescriptionRead, MemoryRead, MemoryWrite}
 use Rattle.pdu.specs.declared.Pdu.TheVariants.{MemoryBitWrite, AuthorizeRequest, KeyWrite, Restart, IndividualAddressResponse, SerialNumberResponse, DeviceDescriptorResponse}
 use Rattle.pdu.specs.declared.Pdu.TheVariants.{PropertyValueResponse, PropertyDescriptionResponse, MemoryResponse, AuthorizeResponse, KeyResponse, UserMemoryRead, UserMemoryResponse}
-use Rattle.pdu.specs.declared.{Pdu.TheVariants.UserMemoryWrite, Parsed.{Parsed, TheVariants.Is}}
+use Rattle.pdu.specs.declared.{Pdu.TheVariants.UserMemoryWrite, ReadRefusal.ReadRefusal}
 
 -- an APDU, the PDU that it is, its data, and the APDU that writing these gives
 pub record Example : Type 0 where
@@ -68,16 +69,16 @@ examples =
     []
 
 -- what reading, the data and writing give of it, and what they should
-pub record Result : Type 0 where
-  pub read : Parsed
+pub record Worked : Type 0 where
+  pub read : Result Pdu ReadRefusal
   pub data_read : List ℕ
   pub bytes : List ℕ
 
-abbrev pub found : Example → Result
+abbrev pub found : Example → Worked
 found x = record { read = read_pdu x.apdu; data_read = data_of x.pdu x.apdu; bytes = encoded x.pdu x.rest }
 
-abbrev pub wanted : Example → Result
-wanted x = record { read = Is x.pdu; data_read = x.rest; bytes = x.written }
+abbrev pub wanted : Example → Worked
+wanted x = record { read = Ok x.pdu; data_read = x.rest; bytes = x.written }
 
 -- ALL EXAMPLES ARE READ AND WRITTEN AS THE FIGURES HAVE THEM
 pub vectors : map found examples ≡ map wanted examples

@@ -1,9 +1,10 @@
 -- From what the parts of a write ensure to what writing gives, and where the data stands.
-use Rattle.octets.proofs.Kit.{ℕ, ◌+◌, ◌-◌, ◌≤◌, ◌<◌, ◌≡◌, refl, sym, ap, ◌∙◌, Bool, true, false, List, arith, leb, length, take, drop, length-append, length-drop, drop_of_length-le}
-use Rattle.octets.proofs.Kit.{take_all, drop-length, lt-ltb, le-ltb, le-leb, lt-leb}
+use Rattle.octets.proofs.Kit.{ℕ, ◌+◌, ◌≤◌, ◌<◌, ◌≡◌, refl, sym, ap, ◌∙◌, Bool, true, false, List, arith, leb, length, length-append}
+use Rattle.octets.proofs.Kit.{lt-ltb, le-ltb, le-leb, lt-leb}
+use Rattle.std.proofs.Common.{Ok, Err}
 use Rattle.octets.{specs.Splice.splice, proofs.{Splices.length_splice, Tests.not_second_lem, Truths.{and_is, at_most_is}}}
-use Rattle.pdu.specs.{Item.Row, Table.row_of, Pdus.{service_of, values_of}, Rules.head_bytes, Read.{data_at, data_of}, Write.{encoded, fits_in, writable, write_of, Wrote}, declared.Pdu.Pdu}
-use Rattle.pdu.specs.declared.Written.TheVariants.{Bytes, Refused}
+use Rattle.pdu.specs.{Item.Row, Table.row_of, Pdus.{service_of, values_of}, Rules.head_bytes, Read.{data_at}, Write.{encoded, fits_in, writable, write_of, Wrote}, declared.Pdu.Pdu}
+use Rattle.pdu.specs.declared.WriteRefusal.TheVariants.{Room, Fields}
 use Rattle.pdu.proofs.{Items.length_head, Stores.longer}
 
 -- the bytes of a PDU are as many as its place of data and its data say
@@ -13,20 +14,20 @@ length_encoded p d =
     let r : Row = row_of (service_of p) in
     length-append (head_bytes r (values_of p)) d ∙ ap (λ (n : ℕ). n + length d) (length_head r (values_of p))
 
-pub wrote_3 : (p : Pdu) (d o : List ℕ) → length o < 16 → Wrote p d o (Refused 3) o
+pub wrote_3 : (p : Pdu) (d o : List ℕ) → length o < 16 → Wrote p d o (Err Room) o
 unfolding write_of
 wrote_3 p d o h = record { result = simp (lt-ltb _ _ h); buffer = refl }
 
-wrote_refused : (p : Pdu) (d o : List ℕ) → 16 ≤ length o → writable p d ≡ false → Wrote p d o (Refused 13) o
+wrote_refused : (p : Pdu) (d o : List ℕ) → 16 ≤ length o → writable p d ≡ false → Wrote p d o (Err Fields) o
 unfolding write_of
 wrote_refused p d o h e = record { result = simp (le-ltb _ _ h, e); buffer = refl }
 
 module _ (p : Pdu) (d o : List ℕ) (a : ℕ) (h : 16 ≤ length o) (e : a ≡ data_at p) where
-  pub wrote_long : 16 < a + length d → Wrote p d o (Refused 13) o
+  pub wrote_long : 16 < a + length d → Wrote p d o (Err Fields) o
   unfolding writable
   wrote_long l = wrote_refused p d o h (let k : 16 < data_at p + length d = rw e at l in simp (lt-leb _ _ k))
 
-  pub wrote_13 : (b : Bool) → b ≡ fits_in p (a + length d) → b ≡ false → Wrote p d o (Refused 13) o
+  pub wrote_13 : (b : Bool) → b ≡ fits_in p (a + length d) → b ≡ false → Wrote p d o (Err Fields) o
   unfolding writable
   wrote_13 b f t =
       let g : fits_in p (data_at p + length d) ≡ false = sym (rw e at f) ∙ t in
@@ -39,12 +40,12 @@ module _ (p : Pdu) (d o : List ℕ) (a : ℕ) (h : 16 ≤ length o) (e : a ≡ d
       b ≡ true →
       n ≡ data_at p + length d →
       o₂ ≡ splice o 0 (encoded p d) →
-      Wrote p d o (Bytes n) o₂
+      Wrote p d o (Ok n) o₂
   unfolding write_of writable
   wrote_all o₂ b n l f t g k =
       let l' : data_at p + length d ≤ 16 = rw e at l in
       let f' : fits_in p (data_at p + length d) ≡ true = sym (rw e at f) ∙ t in
-      record { result = simp (le-ltb _ _ h, le-leb _ _ l', f') (ap Bytes g); buffer = k }
+      record { result = simp (le-ltb _ _ h, le-leb _ _ l', f') (ap Ok g); buffer = k }
 
   -- head and data stored are the PDU's bytes
   pub put_all : (o₁ o₂ : List ℕ) → o₁ ≡ splice o 0 (head_bytes (row_of (service_of p)) (values_of p)) → o₂ ≡ splice o₁ a d
@@ -62,16 +63,3 @@ same_room p d o e h l q = ap length q ∙ length_splice o 0 (encoded p d) (omega
 pub has_room : (p : Pdu) (d : List ℕ) → writable p d ≡ true → data_at p + length d ≤ 16
 unfolding writable
 has_room p d w = let n : ℕ = data_at p + length d in (at_most_is n 16).0 ((and_is (leb n 16) (fits_in p n)).0 w).0
-
--- the part of a slice from the data's place on
-module _ (p : Pdu) (s : List ℕ) (a : ℕ) (e : a ≡ data_at p) where
-  pub rest_from : take (length s - a) (drop a s) ≡ data_of p s
-  unfolding data_of
-  rest_from = rw (← e) (take_all (length s - a) (drop a s) (omega (arith, length-drop a s)))
-
-  pub rest_past : length s < a → take (length s - length s) (drop (length s) s) ≡ data_of p s
-  unfolding data_of
-  rest_past l =
-      take_all (length s - length s) (drop (length s) s) (omega (arith, length-drop (length s) s))
-      ∙ drop-length s
-      ∙ sym (rw (← e) (drop_of_length-le s {i = a} (omega arith)))

@@ -1,15 +1,12 @@
 -- `pdu::read_found` meets its contract.
-use Rattle.pdu.proofs.{Reading.{too_short_lem, too_long_lem, by_code, no_code}}
+use Rattle.pdu.proofs.{Reading.{wrong_length, by_code, no_code}}
 use Rattle.pdu.proofs.read_found.Goals as goal
 
 pub returns-then-apdu-lt2 : goal.returns-then-apdu-lt2
-returns-then-apdu-lt2 c = search too_short_lem
+returns-then-apdu-lt2 c = wrong_length _ c.then-apdu-lt2.either
 
-pub returns-then-apdu-gt16 : goal.returns-then-apdu-gt16
-returns-then-apdu-gt16 c = search too_long_lem
+pub returns-in-Some : goal.returns-in-Some
+returns-in-Some c = search by_code
 
-pub returns-in-Listed : goal.returns-in-Listed
-returns-in-Listed c = search by_code
-
-pub returns-in-Unknown : goal.returns-in-Unknown
-returns-in-Unknown c = search no_code
+pub returns-in-None : goal.returns-in-None
+returns-in-None c = search no_code

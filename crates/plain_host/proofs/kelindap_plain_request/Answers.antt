@@ -1,7 +1,7 @@
--- `plain_host::kelindap_plain_request` meets its contract.
+-- `plain_host::kelindap_plain_request` meets its contract: the count of an answer fits a byte.
 use Rattle.octets.proofs.Kit.{arith}
-use Rattle.plain_host.proofs.{Replies.few}
+use Rattle.device.proofs.promises.Called.{call_leaves}
 use Rattle.plain_host.proofs.kelindap_plain_request.Goals as goal
 
 pub overflow_cast-result : goal.overflow_cast-result
-overflow_cast-result c = omega (arith, few _ _ _ _ _ _ _ _ _ _ c.request-done.ensures)
+overflow_cast-result c = omega (arith, (call_leaves _ _ _ _ _ _ _ _ _ _ c.request-done.ensures).most)

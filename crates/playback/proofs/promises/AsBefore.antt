@@ -3,7 +3,7 @@ use Rattle.octets.proofs.Kit.{ℕ, ◌+◌, ◌-◌, ◌*◌, ◌<◌, ◌≡◌
 use Rattle.sheet.specs.{Rules.Old, Convert.conversion_of}
 use Rattle.device.specs.{Events.Effect, declared.Sessions.Sessions}
 use Rattle.events.{specs.Before.{event_before, run_before, AsBefore}, proofs.promises.Renewal.{answers_as_before, runs_as_before}}
-use Rattle.playback.specs.{Trace.{room, event_at, events_from}, Playing.{at, line, line_of, due_of, Playing}, declared.Played.Played}
+use Rattle.playback.specs.{Trace.{room, event_at, events_from}, Playing.{at, line, line_of, due_of, Playing}, Outcome.Outcome}
 use Rattle.playback.proofs.promises.PlayRuns.{handles, played_is_run}
 
 -- the same line of the log
@@ -14,7 +14,7 @@ line_same r r' k =
 
 -- A CALL ON THE CONVERSION of an old sheet s, n events being due
 pub plays_as_before :
-    (q : Sessions) (s t : List ℕ) (from limit : ℕ) (log : List ℕ) (r : Played) (s' log' : List ℕ) → Old s →
+    (q : Sessions) (s t : List ℕ) (from limit : ℕ) (log : List ℕ) (r : Outcome) (s' log' : List ℕ) → Old s →
     Playing q (conversion_of s) t from limit log r s' log' → r.refusal ≡ 0 →
     (let n = due_of t from limit in
     let x = run_before (at q s) (events_from t from n) in

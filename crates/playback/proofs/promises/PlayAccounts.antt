@@ -4,12 +4,12 @@ use Rattle.device.specs.{Events.State, declared.Sessions.Sessions}
 use Rattle.events.specs.Events.{Event, run}
 use Rattle.history.{specs.{History.First, Keeps.{state_after, Begins, AllOctets}, Rightful.ours}, proofs.promises.{InOrder.run_on, Keep.keeps}}
 use Rattle.account.{specs.Marks.{MarkedRun, Tell}, proofs.promises.{Accounts.{accounts, entitled}, Telling.tells_on}}
-use Rattle.playback.specs.{Trace.{count, trace_of}, Playing.at, Marking.{mark_handled, mark_played, Marks, Explained}, declared.Played.Played}
+use Rattle.playback.specs.{Trace.{count, trace_of}, Playing.at, Marking.{mark_handled, mark_played, Marks, Explained}, Outcome.Outcome}
 use Rattle.playback.proofs.promises.PlayKeeps.{all_take, all_drop, all_append, all_reverse, all_from}
 
 -- AFTER A CALL on what a history h left, with marks that tell it, and `played` as long as it is
 module _ (f : First) (h : List Event) (begins : Begins f) (octets : AllOctets h) (q : Sessions) (s t : List ℕ) (from limit : ℕ) (log : List ℕ) (b m : List ℕ)
-    (r : Played) (s' log' b' m' : List ℕ) (found : at q s ≡ state_after ours f h) (tell : Tell f h m) (call : Marks q s t from limit log (length h) b m r s' log' b' m') where
+    (r : Outcome) (s' log' b' m' : List ℕ) (found : at q s ≡ state_after ours f h) (tell : Tell f h m) (call : Marks q s t from limit log (length h) b m r s' log' b' m') where
   abbrev es : List Event
   es = mark_played s t from limit log (length h) b m
 

@@ -5,7 +5,7 @@ use Rattle.device.specs.{Octets.Octets, declared.Sessions.Sessions}
 use Rattle.events.specs.Events.{Event}
 use Rattle.history.{specs.{History.First, Keeps.{state_after, BringsOctets, AllOctets, Kept}, Rightful.ours}, proofs.promises.InOrder.run_is_after}
 use Rattle.history.proofs.promises.Keep as keep
-use Rattle.playback.specs.{Trace.{count, entry_of, event_in, events_from, trace_of}, Playing.{at, handled_of, played_of, Plays}, declared.Played.Played}
+use Rattle.playback.specs.{Trace.{count, entry_of, event_in, events_from, trace_of}, Playing.{at, handled_of, played_of, Plays}, Outcome.Outcome}
 use Rattle.playback.specs.Entry as entry
 use Rattle.playback.proofs.promises.WrittenBack.{by_kind_lem, octets_part}
 
@@ -63,7 +63,7 @@ module _ (q : Sessions) (s t : List ℕ) (from limit : ℕ) (log : List ℕ) whe
 
   -- DEMAND 3: STATE IS WHAT THE HISTORY OF THE PLAYED EVENTS LEAVES, AND OF THAT ALL IS KEPT
   pub play_keeps :
-      (r : Played) (s' log' : List ℕ) → Plays q s t from limit log r s' log' → Accepted s →
+      (r : Outcome) (s' log' : List ℕ) → Plays q s t from limit log r s' log' → Accepted s →
       (at r.sessions s' ≡ state_after ours first history) × Kept ours first history
   play_keeps r s' log' p a = (
     p.did.state ∙ run_is_after first (played_of t from limit log),

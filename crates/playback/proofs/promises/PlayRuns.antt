@@ -6,7 +6,7 @@ use Rattle.sheet.{specs.Demand.breach, proofs.rules.{Demands.{met, unbroken}, Fi
 use Rattle.device.specs.{Events.State, declared.Sessions.Sessions}
 use Rattle.events.{specs.Events.{Event, event_of, after, run_by, run}, proofs.promises.Append.run_append}
 use Rattle.playback.specs.{Trace.{event_at, events_from}, Rules.{refusal_of, Playable}, Playing.{at, line, line_of, log_of, due_of, room_demands, refusal_in, played_of, Playing}}
-use Rattle.playback.specs.declared.Played.{Played}
+use Rattle.playback.specs.Outcome.{Outcome}
 use Rattle.playback.proofs.{Logging.length_line, Running.{events_append, length_events, log_append, length_log}, PlayedBack.{none_played, all_handled, all_played}}
 
 log_cons : (t : List ℕ) (y : State) (i k : ℕ) → log_of y (events_from t i (1 + k)) ≡ line_of (event_of y (event_at t i)) ++ log_of (after y (event_at t i)) (events_from t (i + 1) k)
@@ -17,7 +17,7 @@ log_cons t y i k =
 
 -- WHATEVER IS REFUSED LEAVES SESSIONS, SHEET AND LOG AS THEY WERE
 pub refused_untouched :
-    (q : Sessions) (s t : List ℕ) (from limit : ℕ) (log : List ℕ) (r : Played) (s' log' : List ℕ) →
+    (q : Sessions) (s t : List ℕ) (from limit : ℕ) (log : List ℕ) (r : Outcome) (s' log' : List ℕ) →
     Playing q s t from limit log r s' log' → (r.refusal ≡ 0 → ⊥) → (at r.sessions s' ≡ at q s) × (log' ≡ log)
 unfolding run_by log_of
 refused_untouched q s t from limit log r s' log' p n =
@@ -40,7 +40,7 @@ pub no_refusal : (t : List ℕ) (from limit : ℕ) (log : List ℕ) → Playable
 unfolding refusal_in
 no_refusal t from limit log g h = rw g (unbroken (room_demands t from limit log) (h, tt))
 
-module _ (q : Sessions) (s t : List ℕ) (from limit : ℕ) (log : List ℕ) (r : Played) (s' log' : List ℕ) (p : Playing q s t from limit log r s' log') (ok : r.refusal ≡ 0) where
+module _ (q : Sessions) (s t : List ℕ) (from limit : ℕ) (log : List ℕ) (r : Outcome) (s' log' : List ℕ) (p : Playing q s t from limit log r s' log') (ok : r.refusal ≡ 0) where
   abbrev x : State
   x = at q s
 
@@ -124,7 +124,7 @@ module _ (x y z : State) (t : List ℕ) (from a b : ℕ) (log log₁ log₂ : Li
         ∙ sym (splice_front log (log_of x both))
 
 -- PLAYING m EVENTS AND THEN n IS PLAYING m + n, whatever the pieces: for the state, the count and the log, whose second piece is what the first left free
-module _ (q : Sessions) (s t : List ℕ) (from m n : ℕ) (log : List ℕ) (r₁ r₂ : Played) (s₁ log₁ s₂ log₂ : List ℕ) where
+module _ (q : Sessions) (s t : List ℕ) (from m n : ℕ) (log : List ℕ) (r₁ r₂ : Outcome) (s₁ log₁ s₂ log₂ : List ℕ) where
   abbrev a : ℕ
   a = r₁.handled
 
@@ -189,7 +189,7 @@ module _ (q : Sessions) (s t : List ℕ) (from m n : ℕ) (log : List ℕ) (ok :
       (omega (arith, has_room t from (m + n) log ok, length-drop (line * a) l))
 
   pub pieces_go :
-      (r₁ : Played) (s₁ log₁ : List ℕ) → Playing q s t from m log r₁ s₁ log₁ → (r₂ : Played) (s₂ log₂ : List ℕ) →
+      (r₁ : Outcome) (s₁ log₁ : List ℕ) → Playing q s t from m log r₁ s₁ log₁ → (r₂ : Outcome) (s₂ log₂ : List ℕ) →
       Playing r₁.sessions s₁ t (from + r₁.handled) n (drop (line * r₁.handled) log₁) r₂ s₂ log₂ →
       (r₁.refusal ≡ 0) × (r₂.refusal ≡ 0)
   pieces_go r₁ s₁ log₁ p₁ r₂ s₂ log₂ p₂ =

@@ -8,7 +8,7 @@ use Rattle.events.specs.Events.{Event, event_of}
 use Rattle.history.specs.{History.First, Keeps.state_after, Isolation.same, Rightful.ours, Secret.{Hide, NoneBelow, AllAlike, none, more, NothingToldAlong}}
 use Rattle.history.proofs.promises.{InOrder.{first_state, after_is_run}, Unlearned.unlearned}
 use Rattle.playback.specs.{Trace.{count, room, trace_of}, Rules.refusal_of, Playing.{at, line, line_of, log_of, due_of, refusal_in, handled_of, played_of, Plays}}
-use Rattle.playback.specs.declared.Played.{Played}
+use Rattle.playback.specs.Outcome.{Outcome}
 use Rattle.playback.proofs.{Running.{length_events, log_append, length_log}, promises.PlayKeeps.{all_history, play_keeps}}
 
 -- the same events in both
@@ -81,7 +81,7 @@ module _ (t : List ℕ) (from limit : ℕ) (log log' : List ℕ) (long : length 
 -- THE SAME TRACE, PLACE AND LIMIT, from the same sessions, into logs of one length, on two sheets that hide q; by the history no open connection has a level below q before any event that is played
 module _ (q : ℕ) (few : q ≤ 3) (u : Sessions) (s s' : List ℕ) (hide : Hide q s s') (t : List ℕ) (from limit : ℕ) (log log' : List ℕ) (long : length log' ≡ length log)
     (blind : NoneBelow q record { sheet = s; sessions = u } (reverse (played_of t from limit log)))
-    (r r' : Played) (s₁ s₁' log₁ log₁' : List ℕ) (p : Plays u s t from limit log r s₁ log₁) (p' : Plays u s' t from limit log' r' s₁' log₁') where
+    (r r' : Outcome) (s₁ s₁' log₁ log₁' : List ℕ) (p : Plays u s t from limit log r s₁ log₁) (p' : Plays u s' t from limit log' r' s₁' log₁') where
   abbrev f : First
   f = record { sheet = s; sessions = u }
 

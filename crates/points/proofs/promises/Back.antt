@@ -4,8 +4,10 @@ use Rattle.octets.proofs.Kit.{length, get_or, ext_get_or, T, eqb, ℤ, pos, Floa
 use Rattle.octets.proofs.Kit.{ltb-true, ltb-false, eqb-true, eqb-false}
 use Rattle.octets.{specs.{Bytes.{num_at, bytes_of}, Octets.{Octets, ReadFrom}}, proofs.Numbers.{num_back, length_bytes, bytes_back, num_below}}
 use Rattle.points.specs.{Nine.{exponent_at, res, Valid, in_range}, Code.code_of}
-use Rattle.points.specs.Point.{type_of, width_at, finite, finite_bits, point_at, read_point, refusal_of, number_of, point_bytes, read_outcome, Typed, Exact, as_written}
-use Rattle.points.specs.declared.{Datapoint.{Datapoint, TheVariants.{Switch, Byte, Hundredths, Float as Single}}, Reading.{Reading, TheVariants.{Is, Refused}}}
+use Rattle.points.specs.Point.{type_of, width_at, finite, finite_bits, point_at, read_point, refusal_of, number_of, point_bytes, Typed, Exact, as_written}
+use Rattle.std.specs.Prelude.{Result, Ok, Err}
+use Rattle.points.specs.declared.{Datapoint.{Datapoint, TheVariants.{Switch, Byte, Hundredths, Float as Single}}, Refusal.Refusal}
+use Rattle.points.specs.declared.Refusal.TheVariants as why
 use Rattle.points.proofs.{Laws.{small, read_is}, Floats.{no_nan, above_infinite}, promises.Choice.{view, code, most, chosen}, Signed.sgn, promises.Unique.back}
 
 -- the results by their bounds
@@ -98,18 +100,18 @@ finite_bits_lem x t f = go (finite_bits (to_bits binary32 x)) refl
     go false e = absurd (subst T (sym (sym (above_infinite x t (ltb-false (to_bits binary32 x / 8388608 % 256) 255 e)) ∙ f)) tt)
 
 -- the number of a datapoint that is written says it, hundredths as they are written
-pub point_written : (d : Datapoint) → Typed d → refusal_of d ≡ 0 → point_at (type_of d) (number_of d) ≡ Is (as_written d)
+pub point_written : (d : Datapoint) → Typed d → refusal_of d ≡ 0 → point_at (type_of d) (number_of d) ≡ Ok (as_written d)
 point_written (Switch true) t r = refl
 point_written (Switch false) t r = refl
 point_written (Byte n) t r = refl
 point_written (Hundredths z) t r =
-    ap (λ (b : Bool). cond b (Refused 22) (Is (Hundredths (res (code_of z))))) (ne_eqb (code_of z) 32767 (chosen z (written_in z r)).valid.other)
+    ap (λ (b : Bool). cond b (Err why.Invalid) (Ok (Hundredths (res (code_of z))))) (ne_eqb (code_of z) 32767 (chosen z (written_in z r)).valid.other)
 point_written (Single x) t r =
-    ap (λ (b : Bool). cond b (Is (Single (of_bits binary32 (to_bits binary32 x)))) (Refused 24)) (finite_bits_lem x t (written_finite x r))
-    ∙ ap (λ (y : Float). Is (Single y)) (of_bits-to_bits binary32 x t)
+    ap (λ (b : Bool). cond b (Ok (Single (of_bits binary32 (to_bits binary32 x)))) (Err why.Infinite)) (finite_bits_lem x t (written_finite x r))
+    ∙ ap (λ (y : Float). Ok (Single y)) (of_bits-to_bits binary32 x t)
 
 -- A DATAPOINT THAT IS WRITTEN IS READ BACK FROM ITS BYTES, hundredths as they are written
-pub written_back : (d : Datapoint) → Typed d → refusal_of d ≡ 0 → read_point (type_of d) (point_bytes d) ≡ Is (as_written d)
+pub written_back : (d : Datapoint) → Typed d → refusal_of d ≡ 0 → read_point (type_of d) (point_bytes d) ≡ Ok (as_written d)
 written_back d t r = sym (read_number d t r) ∙ point_written d t r
 
 -- WHICH IS AS THEY WERE where a valid code has them
@@ -120,16 +122,16 @@ exact_written (Hundredths z) e =
     ap Hundredths (ap (λ (y : ℤ). res (code_of y)) (sym e.1.1) ∙ result_back e.0 e.1.0 ∙ e.1.1)
 exact_written (Single x) e = refl
 
-pub read_back : (d : Datapoint) → Typed d → refusal_of d ≡ 0 → Exact d → read_point (type_of d) (point_bytes d) ≡ Is d
-read_back d t r e = written_back d t r ∙ ap Is (exact_written d e)
+pub read_back : (d : Datapoint) → Typed d → refusal_of d ≡ 0 → Exact d → read_point (type_of d) (point_bytes d) ≡ Ok d
+read_back d t r e = written_back d t r ∙ ap Ok (exact_written d e)
 
-refused : (n : ℕ) (d : Datapoint) → (n ≡ 0 → ⊥) → Refused n ≡ Is d → ⊥
-refused n d h e = h (ap read_outcome e)
+refused : (r : Refusal) (d : Datapoint) → ◌≡◌ {A = Result Datapoint Refusal} (Err r) (Ok d) → ⊥
+refused r d e = cc
 
 -- THE BITS OF A FLOAT THAT READS ARE WRITTEN AS THEY WERE
-abbrev value_of : Reading → Datapoint
-value_of (Is d) = d
-value_of (Refused n) = Switch false
+abbrev value_of : Result Datapoint Refusal → Datapoint
+value_of (Ok d) = d
+value_of (Err r) = Switch false
 
 no_nan_is : (n : ℕ) → finite_bits n ≡ true → T (not (is_nan (of_bits binary32 n)))
 no_nan_is n f = subst (λ (b : Bool). T (not b)) (nan_bits_is binary32 n) (no_nan n (ltb-true (n / 8388608 % 256) 255 f))
@@ -139,20 +141,20 @@ same_bytes_lem b l h =
     ext_get_or 0 (bytes_of 4 (num_at b 0 4)) b (length_bytes 4 (num_at b 0 4) ∙ sym l)
     (λ i k. bytes_back b 0 4 h i (omega (arith, k, length_bytes 4 (num_at b 0 4))) ∙ ap (λ (j : ℕ). get_or b j 0) (omega arith))
 
-pub bits_kept : (b : List ℕ) (d : Datapoint) → ReadFrom b (Is d) (read_point 14 b) → point_bytes d ≡ b
+pub bits_kept : (b : List ℕ) (d : Datapoint) → ReadFrom b (Ok d) (read_point 14 b) → point_bytes d ≡ b
 unfolding read_point point_bytes
 bits_kept b d call = long (eqb (length b) 4) refl (sym call.is)
   where
     h : Octets b
     h = call.bytes
 
-    bits : (t : Bool) → finite_bits (num_at b 0 4) ≡ t → length b ≡ 4 → cond t (Is (Single (of_bits binary32 (num_at b 0 4)))) (Refused 24) ≡ Is d → point_bytes d ≡ b
+    bits : (t : Bool) → finite_bits (num_at b 0 4) ≡ t → length b ≡ 4 → cond t (Ok (Single (of_bits binary32 (num_at b 0 4)))) (Err why.Infinite) ≡ Ok d → point_bytes d ≡ b
     bits true f l g =
         ap point_bytes (sym (ap value_of g))
         ∙ ap (bytes_of 4) (to_bits-of_bits binary32 (num_at b 0 4) (num_below b 0 4 h) (no_nan_is (num_at b 0 4) f))
         ∙ same_bytes_lem b l h
-    bits false f l g = absurd (refused 24 d (λ x. omega (arith, x)) g)
+    bits false f l g = absurd (refused why.Infinite d g)
 
-    long : (t : Bool) → eqb (length b) 4 ≡ t → cond t (point_at 14 (num_at b 0 4)) (Refused 20) ≡ Is d → point_bytes d ≡ b
+    long : (t : Bool) → eqb (length b) 4 ≡ t → cond t (point_at 14 (num_at b 0 4)) (Err why.Length) ≡ Ok d → point_bytes d ≡ b
     long true f g = bits (finite_bits (num_at b 0 4)) refl (eqb-true (length b) 4 f) g
-    long false f g = absurd (refused 20 d (λ x. omega (arith, x)) g)
+    long false f g = absurd (refused why.Length d g)

@@ -4,8 +4,9 @@ use Rattle.octets.proofs.Kit.{negsuc, Float, nan, inf, fin, binary32, of_bits, l
 use Rattle.octets.{specs.{Bytes.num_at, Octets.{Octets, ReadFrom}}, proofs.{Numbers.{num_one, num_two, num_below}, Walks.{by_lt, by_eq}}}
 use Rattle.points.specs.{Nine.{res, in_range}, Point.{type_of, width_at, finite, point_at, read_point, read_outcome, refusal_of, write_outcome, Put}, Due.{Wide, Invalid, Unbounded, ReadDue}}
 use Rattle.points.specs.Due.{no_type, wrong_length, bits_above, invalid, unbounded, switch, byte, hundredths, float, OutOfRange, NotFinite, Sized, Writable, WriteDue, other_length}
-use Rattle.points.specs.{Due.{out_of_range, not_finite, written}, declared.{Datapoint.{Datapoint, TheVariants.{Switch, Byte, Hundredths, Float as Single}}, Reading.Reading}}
-use Rattle.points.specs.declared.Reading.TheVariants.{Is, Refused}
+use Rattle.points.specs.{Due.{out_of_range, not_finite, written}, declared.{Datapoint.{Datapoint, TheVariants.{Switch, Byte, Hundredths, Float as Single}}, Refusal.Refusal}}
+use Rattle.std.specs.Prelude.{Result, Ok, Err}
+use Rattle.points.specs.declared.Refusal.TheVariants as why
 use Rattle.points.proofs.Laws.{read_25, read_20, read_is}
 
 num_four : (b : List ℕ) → num_at b 0 4 ≡ ((get_or b 0 0 * 256 + get_or b 1 0) * 256 + get_or b 2 0) * 256 + get_or b 3 0
@@ -37,7 +38,7 @@ no_width : (t : ℕ) → (t ≡ 1 → ⊥) → (t ≡ 5 → ⊥) → (t ≡ 9 �
 no_width t a b c d = simp (ne_eqb t 1 a, ne_eqb t 5 b, ne_eqb t 9 c, ne_eqb t 14 d)
 
 module _ (t : ℕ) (b : List ℕ) (small : Octets b) where
-  abbrev Is-due : Reading → Type 0
+  abbrev Is-due : Result Datapoint Refusal → Type 0
   Is-due r = ReadDue t b (read_outcome r)
 
   -- in a type with w bytes
@@ -57,7 +58,7 @@ module _ (t : ℕ) (b : List ℕ) (small : Octets b) where
             let l = eqb-false (length b) w h in
             subst Is-due (read_20 t w b (wide_is t w x).0 (wide_is t w x).1 l) (wrong_length w x l)
 
-    one_in : (r : Reading) → length b ≡ w → r ≡ point_at k (num_at b 0 w) → read_outcome r ≡ read_outcome (read_point t b)
+    one_in : (r : Result Datapoint Refusal) → length b ≡ w → r ≡ point_at k (num_at b 0 w) → read_outcome r ≡ read_outcome (read_point t b)
     one_in r l h = ap read_outcome (h ∙ here l)
 
   due_read : Is-due (read_point t b)
@@ -88,28 +89,28 @@ module _ (t : ℕ) (b : List ℕ) (small : Octets b) where
   one_read n (no_type a₁ a₂ a₃ a₄) = ap read_outcome (read_25 t 0 b (no_width t a₁ a₂ a₃ a₄) refl)
   one_read n (wrong_length w x l) = ap read_outcome (read_20 t w b (wide_is t w x).0 (wide_is t w x).1 l)
   one_read n (bits_above e l h) =
-      one_in 1 1 e (inl (e, refl)) (Refused 21) l (let m : 2 ≤ num_at b 0 1 = omega (arith, num_one b 0, h) in simp (le-ltb (num_at b 0 1) 2 m))
+      one_in 1 1 e (inl (e, refl)) (Err why.Bits) l (let m : 2 ≤ num_at b 0 1 = omega (arith, num_one b 0, h) in simp (le-ltb (num_at b 0 1) 2 m))
   one_read n (switch e l h) =
-      one_in 1 1 e (inl (e, refl)) (Is (Switch (eqb (num_at b 0 1) 1))) l (let m : num_at b 0 1 < 2 = omega (arith, num_one b 0, h) in simp (lt-ltb (num_at b 0 1) 2 m))
-  one_read n (byte e l) = one_in 5 1 e (inr (inl (e, refl))) (Is (Byte (num_at b 0 1))) l refl
-  one_read n (invalid e l u) = one_in 9 2 e (inr (inr (inl (e, refl)))) (Refused 22) l (simp (eq-eqb (num_at b 0 2) 32767 (set_word b small u)))
+      one_in 1 1 e (inl (e, refl)) (Ok (Switch (eqb (num_at b 0 1) 1))) l (let m : num_at b 0 1 < 2 = omega (arith, num_one b 0, h) in simp (lt-ltb (num_at b 0 1) 2 m))
+  one_read n (byte e l) = one_in 5 1 e (inr (inl (e, refl))) (Ok (Byte (num_at b 0 1))) l refl
+  one_read n (invalid e l u) = one_in 9 2 e (inr (inr (inl (e, refl)))) (Err why.Invalid) l (simp (eq-eqb (num_at b 0 2) 32767 (set_word b small u)))
   one_read n (hundredths e l u) =
-      one_in 9 2 e (inr (inr (inl (e, refl)))) (Is (Hundredths (res (num_at b 0 2)))) l (simp (ne_eqb (num_at b 0 2) 32767 (λ m. u (clear_word b small m))))
+      one_in 9 2 e (inr (inr (inl (e, refl)))) (Ok (Hundredths (res (num_at b 0 2)))) l (simp (ne_eqb (num_at b 0 2) 32767 (λ m. u (clear_word b small m))))
   one_read n (unbounded e l u) =
-      one_in 14 4 e (inr (inr (inr (e, refl)))) (Refused 24) l (simp (le-ltb (num_at b 0 4 / 8388608 % 256) 255 (set_bits b small u)))
+      one_in 14 4 e (inr (inr (inr (e, refl)))) (Err why.Infinite) l (simp (le-ltb (num_at b 0 4 / 8388608 % 256) 255 (set_bits b small u)))
   one_read n (float e l u) =
       let m : ℕ = num_at b 0 4 / 8388608 % 256 in
       let h = must_hold (ltb m 255) (λ h. u (clear_bits b small (borrow.Author.Tests.ltb-false m 255 h))) in
-      one_in 14 4 e (inr (inr (inr (e, refl)))) (Is (Single (of_bits binary32 (num_at b 0 4)))) l (simp h)
+      one_in 14 4 e (inr (inr (inr (e, refl)))) (Ok (Single (of_bits binary32 (num_at b 0 4)))) l (simp h)
     where
       must_hold : (q : Bool) → (q ≡ false → ⊥) → q ≡ true
       must_hold true f = refl
       must_hold false f = absurd (f refl)
 
 -- OF A CALL OF READING: its number is due, and no other is
-module _ (t : ℕ) (b : List ℕ) (r : Reading) (call : ReadFrom b r (read_point t b)) where
+module _ (t : ℕ) (b : List ℕ) (r : Result Datapoint Refusal) (call : ReadFrom b r (read_point t b)) where
   pub read_due : ReadDue t b (read_outcome r)
-  read_due = subst (λ (x : Reading). ReadDue t b (read_outcome x)) (sym call.is) (due_read t b call.bytes)
+  read_due = subst (λ (x : Result Datapoint Refusal). ReadDue t b (read_outcome x)) (sym call.is) (due_read t b call.bytes)
 
   pub read_one : (n : ℕ) → ReadDue t b n → n ≡ read_outcome r
   read_one n h = one_read t b call.bytes n h ∙ ap read_outcome (sym call.is)

@@ -1,7 +1,8 @@
 -- In two sheets that agree on what the rules read, lookups find the same.
 use Rattle.octets.proofs.Kit.{ℕ, zero, suc, ◌+◌, ◌<◌, ◌≤◌, ◌≡◌, refl, sym, ◌∙◌, ap, List, cond, ◌&&◌, eqb, ltb, dec_lt, arith, le-ltb}
+use Rattle.std.specs.Prelude.{None}
 use Rattle.sheet.specs.{Kind.{kinds, properties, kind_of}, Entries.{count, key_of}, Lookup.{seek, index_of, object_at, rank, nth_of, covers, run_in, place_of, range_of}, Agree.AgreeBy}
-use Rattle.sheet.specs.{Places.{region_at, Stands, Ranged}, declared.{Memory.Memory, Run.TheVariants.Nowhere}}
+use Rattle.sheet.specs.{Places.{region_at, Stands, Ranged}, declared.Memory.Memory}
 use Rattle.sheet.specs.Region as region
 use Rattle.sheet.specs.Property as property
 use Rattle.sheet.proofs.{alike.Sames.{count_same, key_same, region_same, property_same}, searches.FrontSearch.seek_same, places.Longer.range_suc}
@@ -57,7 +58,7 @@ module _ {R : List ℕ → List ℕ → Type 0} {s s' : List ℕ} (a : AgreeBy R
     unfolding place_of found
     placed_same = rw (found_same, count_same a (kind_of m)) (go (found s) (dec_lt (found s) (count s (kind_of m))))
       where
-        go : (i : ℕ) → Dec (i < count s (kind_of m)) → cond (ltb i (count s (kind_of m))) (run_in (region_at s' m i) y) Nowhere ≡ cond (ltb i (count s (kind_of m))) (run_in (region_at s m i) y) Nowhere
+        go : (i : ℕ) → Dec (i < count s (kind_of m)) → cond (ltb i (count s (kind_of m))) (run_in (region_at s' m i) y) None ≡ cond (ltb i (count s (kind_of m))) (run_in (region_at s m i) y) None
         go i (yes h) = rw (run_same i h)
         go i (no h) = rw (le-ltb i (count s (kind_of m)) (omega arith))
 

@@ -17,11 +17,6 @@ module _ (l k : ℕ) where
   unfolding common
   common_again = omega arith
 
-  -- of bytes it is a byte
-  pub common_byte : l < 256 → k < 256 → common l k < 256
-  unfolding common
-  common_byte h g = omega arith
-
 -- what has itself in common with itself is the same
 pub common_self : (l : ℕ) → common l l ≡ l
 unfolding common

@@ -1,9 +1,10 @@
 -- LAWS of ranges by one address more: what is found, and what they have in common.
 use Rattle.octets.proofs.Kit.{ℕ, suc, ◌+◌, ◌-◌, ◌/◌, ◌%◌, ◌<◌, ◌≤◌, ◌≡◌, ap, List, ◌↔◌, cond, ltb, arith, lt-ltb, le-ltb}
-use Rattle.sheet.specs.{Lookup.{common, place_of, joined, range_of}, Places.{Stands, Ranged}, declared.{Memory.Memory, Run.TheVariants.Nowhere}}
+use Rattle.std.specs.Prelude.{None}
+use Rattle.sheet.specs.{Lookup.{common, place_of, joined, range_of}, Places.{Stands, Ranged}, declared.Memory.Memory}
 use Rattle.sheet.proofs.{rules.Good.Good, places.Levels.{common_reading, common_writing, below_suc}, searches.Regions.{Covered, in_region, place_none, stands_next}}
 
-pub none_at : (s : List ℕ) (m : Memory) (y z : ℕ) → y ≡ z → ((p l : ℕ) → Stands s m y p l → ⊥) → place_of s m z ≡ Nowhere
+pub none_at : (s : List ℕ) (m : Memory) (y z : ℕ) → y ≡ z → ((p l : ℕ) → Stands s m y p l → ⊥) → place_of s m z ≡ None
 none_at s m y z e f = place_none s m z (λ j c. let b : Covered s m j y = rw e c in f _ _ (in_region b))
 
 -- a range is the one before, and one address more

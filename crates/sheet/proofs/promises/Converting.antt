@@ -1,5 +1,5 @@
 -- The conversion of an old sheet is accepted, and has every byte the same but byte 0; its lookups hand back what the old one has there. A call converts an old sheet and no other.
-use Rattle.octets.proofs.Kit.{ℕ, ◌+◌, ◌*◌, ◌≤◌, ◌<◌, ◌≡◌, refl, sym, subst⁻¹, ◌∙◌, cond, List, ltb, length, take, drop, dec_lt, arith, eq-eqb, ne_eqb, lt-ltb, le-ltb}
+use Rattle.octets.proofs.Kit.{ℕ, ◌+◌, ◌*◌, ◌≤◌, ◌<◌, ◌≡◌, refl, subst⁻¹, ◌∙◌, cond, List, ltb, length, take, drop, dec_lt, arith, eq-eqb, ne_eqb, lt-ltb, le-ltb}
 use Rattle.octets.{specs.{Bytes.bytes_of, Splice.splice}, proofs.{Numbers.length_bytes, Splices.{length_splice, splice_above, splice_num}}}
 use Rattle.sheet.specs.{Kind.{kinds, regions, properties, groups, users}, Layout.◌of◌, Head.rules_of, Entries.{count, entry, offset_of, length_of, body_at}}
 use Rattle.sheet.specs.{Rules.{verdict_of, is_accepted, Old, edition, retired}, Lookup.{when, index_of, body_of, body_from, lookup, lookup_from}, Agree.AgreeInside, But.But}
@@ -10,16 +10,16 @@ use Rattle.sheet.proofs.alike.{Sames.{count_same, offset_same, length_same}, Sam
 use Rattle.sheet.proofs.promises.Verdicts.{old_good}
 
 -- as the code's returns ask
-pub not_converted : (s : List ℕ) (v : ℕ) → v ≡ verdict_of s → (v ≡ 14 → ⊥) → Converts s 4 s
+pub not_converted : (s : List ℕ) → (Old s → ⊥) → Converts s 4 s
 unfolding convert_outcome convert_sheet
-not_converted s v e h = let t = ne_eqb (verdict_of s) 14 (λ z. h (e ∙ z)) in record { outcome = rw t; sheet = rw t }
+not_converted s h = let t = ne_eqb (verdict_of s) 14 h in record { outcome = rw t; sheet = rw t }
 
-pub was_converted : (s s' : List ℕ) (v : ℕ) → v ≡ verdict_of s → v ≡ 14 → s' ≡ splice s 0 (bytes_of 1 2) → Converts s 1 s'
+pub was_converted : (s s' : List ℕ) → Old s → s' ≡ splice s 0 (bytes_of 1 2) → Converts s 1 s'
 unfolding convert_outcome convert_sheet conversion_of
-was_converted s s' v e h q = let t = eq-eqb (verdict_of s) 14 (sym e ∙ h) in record { outcome = rw t; sheet = rw t q }
+was_converted s s' o q = let t = eq-eqb (verdict_of s) 14 o in record { outcome = rw t; sheet = rw t q }
 
-pub convert_room : (s : List ℕ) (v : ℕ) → v ≡ verdict_of s → v ≡ 14 → 0 + 1 ≤ length s
-convert_room s v e h = let g = old_good s (sym e ∙ h) in omega (arith, g.framed)
+pub convert_room : (s : List ℕ) → Old s → 0 + 1 ≤ length s
+convert_room s o = let g = old_good s o in omega (arith, g.framed)
 
 -- a sheet of two bytes or more with 2 in byte 0
 module _ (s : List ℕ) (long : head.size ≤ length s) where

@@ -1,34 +1,35 @@
 -- The run of bytes that an address range is: it may go over several regions, which follow each other without a gap.
 use Rattle.octets.proofs.Kit.{ℕ, zero, suc, ◌+◌, ◌-◌, ◌/◌, ◌%◌, ◌<◌, ◌≤◌, ◌≡◌, refl, sym, ◌∙◌, ap, subst, List, ◌⊎◌, ◌↔◌, length, dec_lt, arith}
+use Rattle.std.specs.Prelude.{Option, Some, None}
 use Rattle.octets.specs.Splice.{splice}
-use Rattle.sheet.specs.{Kind.{groups, kind_of}, Entries.{contents, InBody}, Lookup.{common, place_of, joined, range_of}, Places.{Stands, Ranged}, Agree.Agree, Rules.Accepted}
-use Rattle.sheet.specs.declared.{Memory.Memory, Run.{Run, TheVariants.{At, Nowhere}}}
+use Rattle.sheet.specs.{Kind.{groups, kind_of}, Entries.{contents, InBody}, Lookup.{At, place_of, joined, range_of}, Places.{Stands, Ranged}, Agree.Agree, Rules.Accepted}
+use Rattle.sheet.specs.declared.{Memory.Memory, Run.Run}
 use Rattle.sheet.proofs.{rules.Good.{Good, good, accepted}, places.{BodyPlaces.{within, after_contents, disjoint}, Levels.levels_once}}
-use Rattle.sheet.proofs.{searches.Regions.{Covered, covers_stands, in_region, not_both, place_stands, place_hit, below_top, Follows, neighbours}, promises.Stores.bodies_store}
+use Rattle.sheet.proofs.{searches.Regions.{Covered, covers_stands, in_region, at_once, not_both, place_stands, place_hit, below_top, Follows, neighbours}, promises.Stores.bodies_store}
 use Rattle.sheet.proofs.places.{RegionBodies.{no_group_lem, stands_in}, Longer.{none_at, range_suc, one, longer}}
 
 -- AN ADDRESS OF A MEMORY STANDS AT ONE PLACE AT MOST
 pub stands_once :
     {s : List ℕ} → Accepted s → {m : Memory} {y p p' l l' : ℕ} → Stands s m y p l → Stands s m y p' l' → (p ≡ p') × (l ≡ l')
 stands_once {s} ok {m} {y} {p} {p'} {l} {l'} a b =
-    let e : At p l ≡ At p' l' = sym (place_hit (good s ok) a) ∙ place_hit (good s ok) b in (cc, cc)
+    at_once (sym (place_hit (good s ok) a) ∙ place_hit (good s ok) b)
 
 -- one of the n addresses from a on stands nowhere
 abbrev pub Missing : List ℕ → Memory → ℕ → ℕ → Type 0
 Missing s m a n = (i : ℕ) × (i < n) × ((p l : ℕ) → Stands s m (a + i) p l → ⊥)
 
 -- A RANGE WITH AN ADDRESS THAT STANDS NOWHERE IS NOWHERE
-pub range_none : (s : List ℕ) (m : Memory) (a n : ℕ) → Missing s m a n → range_of s m a n ≡ Nowhere
+pub range_none : (s : List ℕ) (m : Memory) (a n : ℕ) → Missing s m a n → range_of s m a n ≡ None
 unfolding range_of
 range_none s m a zero w = refl
 range_none s m a (suc zero) w = none_at s m (a + w.0) a (omega (arith, w.1)) w.2
 range_none s m a (suc (suc n)) w = range_suc s m a n ∙ go (dec_lt w.0 (suc n)) (λ l. range_none s m a (suc n) (w.0, l, w.2))
   where
-    join_nowhere : (r : Run) → joined r Nowhere ≡ Nowhere
-    join_nowhere (At o l) = refl
-    join_nowhere Nowhere = refl
+    join_nowhere : (r : Option Run) → joined r None ≡ None
+    join_nowhere (Some q) = refl
+    join_nowhere None = refl
 
-    go : Dec (w.0 < suc n) → (w.0 < suc n → range_of s m a (suc n) ≡ Nowhere) → joined (range_of s m a (suc n)) (place_of s m (a + suc n)) ≡ Nowhere
+    go : Dec (w.0 < suc n) → (w.0 < suc n → range_of s m a (suc n) ≡ None) → joined (range_of s m a (suc n)) (place_of s m (a + suc n)) ≡ None
     go (yes l) ih = rw (ih l)
     go (no l) ih =
         rw (none_at s m (a + w.0) (a + suc n) (omega (arith, w.1)) w.2) (join_nowhere (range_of s m a (suc n)))
@@ -41,17 +42,16 @@ module _ {s : List ℕ} (g : Good s) (m : Memory) (a : ℕ) where
   ranged (suc zero) e = one (place_stands s m a e)
   ranged (suc (suc n)) {o} {l} e = go (range_of s m a (suc n)) (place_of s m (a + suc n)) refl refl (sym (range_suc s m a n) ∙ e) (λ p k q. ranged (suc n) q)
     where
-      go : (r q : Run) → range_of s m a (suc n) ≡ r → place_of s m (a + suc n) ≡ q → joined r q ≡ At o l →
+      go : (r q : Option Run) → range_of s m a (suc n) ≡ r → place_of s m (a + suc n) ≡ q → joined r q ≡ At o l →
           ((p k : ℕ) → range_of s m a (suc n) ≡ At p k → Ranged s m a (suc n) p k) → Ranged s m a (suc (suc n)) o l
-      go (At p k) (At q j) er eq e ih =
-          let eo : p ≡ o = cc in
-          let el : common k j ≡ l = cc in
-          rw (← eo, ← el) (longer g (ih p k er) (place_stands s m (a + suc n) eq))
-      go (At p k) Nowhere er eq e ih = absurd (not_both e)
-      go Nowhere q er eq e ih = absurd (not_both e)
+      go (Some r) (Some q) er eq e ih =
+          let x = at_once e in
+          rw (← x.0, ← x.1) (longer g (ih r.offset r.levels er) (place_stands s m (a + suc n) eq))
+      go (Some r) None er eq e ih = absurd (not_both e)
+      go None q er eq e ih = absurd (not_both e)
 
   -- AND BACK: a range that is nowhere has such an address
-  pub range_missing : (n : ℕ) → 1 ≤ n → range_of s m a n ≡ Nowhere → Missing s m a n
+  pub range_missing : (n : ℕ) → 1 ≤ n → range_of s m a n ≡ None → Missing s m a n
   unfolding range_of
   range_missing zero h e = absurd (omega arith)
   range_missing (suc zero) h e =
@@ -59,11 +59,11 @@ module _ {s : List ℕ} (g : Good s) (m : Memory) (a : ℕ) where
       (0, omega arith, λ p l b. not_both (sym e ∙ ap (place_of s m) (sym q) ∙ place_hit g b))
   range_missing (suc (suc n)) h e = go (range_of s m a (suc n)) (place_of s m (a + suc n)) refl refl (sym (range_suc s m a n) ∙ e) (range_missing (suc n) (omega arith))
     where
-      go : (r q : Run) → range_of s m a (suc n) ≡ r → place_of s m (a + suc n) ≡ q → joined r q ≡ Nowhere →
-          (range_of s m a (suc n) ≡ Nowhere → Missing s m a (suc n)) → Missing s m a (suc (suc n))
-      go (At p k) (At q j) er eq e ih = absurd (not_both (sym e))
-      go (At p k) Nowhere er eq e ih = (suc n, omega arith, λ p l b. not_both (sym eq ∙ place_hit g b))
-      go Nowhere q er eq e ih = let b = ih er in (b.0, omega (arith, b.1), b.2)
+      go : (r q : Option Run) → range_of s m a (suc n) ≡ r → place_of s m (a + suc n) ≡ q → joined r q ≡ None →
+          (range_of s m a (suc n) ≡ None → Missing s m a (suc n)) → Missing s m a (suc (suc n))
+      go (Some r) (Some q) er eq e ih = absurd (not_both (sym e))
+      go (Some r) None er eq e ih = (suc n, omega arith, λ p l b. not_both (sym eq ∙ place_hit g b))
+      go None q er eq e ih = let b = ih er in (b.0, omega (arith, b.1), b.2)
 
 module _ {s : List ℕ} (g : Good s) {m : Memory} {a : ℕ} where
   -- THERE IS ONE RANGE AT MOST: its place and its levels
@@ -92,9 +92,9 @@ module _ {s : List ℕ} (g : Good s) {m : Memory} {a : ℕ} where
     pub range_hit : range_of s m a n ≡ At o l
     range_hit = go (range_of s m a n) refl
       where
-        go : (q : Run) → range_of s m a n ≡ q → q ≡ At o l
-        go (At o' l') e = let b = range_once (ranged g m a n e) r in rw (b.0, b.1) refl
-        go Nowhere e = let b = range_missing g m a n r.some e in absurd (b.2 _ _ (r.each b.0 b.1))
+        go : (q : Option Run) → range_of s m a n ≡ q → q ≡ At o l
+        go (Some q) e = let b = range_once (ranged g m a n e) r in rw (b.0, b.1) refl
+        go None e = let b = range_missing g m a n r.some e in absurd (b.2 _ _ (r.each b.0 b.1))
 
     -- THE REGIONS THAT IT TOUCHES FOLLOW EACH OTHER WITHOUT A GAP
     pub no_gap : (i : ℕ) (h : i < n) (k : suc i < n) → ((r.each i h).index ≡ (r.each (suc i) k).index) ⊎ Follows s m (r.each i h).index (r.each (suc i) k).index
@@ -125,11 +125,11 @@ pub range_there :
     {s : List ℕ} → Good s → (m : Memory) (a n : ℕ) → 1 ≤ n → ((i : ℕ) → i < n → (j : ℕ) × Covered s m j (a + i)) → (o : ℕ) × (l : ℕ) × Ranged s m a n o l
 range_there {s} g m a n h f = go (range_of s m a n) refl
   where
-    go : (q : Run) → range_of s m a n ≡ q → (o : ℕ) × (l : ℕ) × Ranged s m a n o l
-    go (At o l) e = (o, l, ranged g m a n e)
-    go Nowhere e = let b = range_missing g m a n h e in absurd (b.2 _ _ (in_region (f b.0 b.1).1))
+    go : (q : Option Run) → range_of s m a n ≡ q → (o : ℕ) × (l : ℕ) × Ranged s m a n o l
+    go (Some q) e = (q.offset, q.levels, ranged g m a n e)
+    go None e = let b = range_missing g m a n h e in absurd (b.2 _ _ (in_region (f b.0 b.1).1))
 
 -- NO RANGE GOES PAST THE TOP OF THE ADDRESSES
-pub range_top : {s : List ℕ} → Good s → (m : Memory) (a n : ℕ) → 65536 < a + n → range_of s m a n ≡ Nowhere
+pub range_top : {s : List ℕ} → Good s → (m : Memory) (a n : ℕ) → 65536 < a + n → range_of s m a n ≡ None
 range_top {s} g m a zero h = unfold range_of in refl
 range_top {s} g m a (suc n) h = range_none s m a (suc n) (n, omega arith, λ p l b. omega (arith, below_top g (covers_stands b)))

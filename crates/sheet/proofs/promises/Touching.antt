@@ -1,9 +1,10 @@
 -- A worked example of ranges: regions that touch, a gap, the end of one memory where the other begins, and the top of the addresses.
 use Rattle.octets.proofs.Kit.{ℕ, ◌≡◌, refl, List, [], ◌∷◌}
+use Rattle.std.specs.Prelude.{None}
 use Rattle.octets.specs.Bytes.{num_at}
 use Rattle.sheet.specs.{Demand.breach, First.first, Entries.{entry, floor, body_end, start_of, reached, six_bits}}
 use Rattle.sheet.specs.Rules.{entry_demands, body_demands, entry_rule, body_rule, entries_rule, bodies_rule, rest_rule, walk_rule, rule_in, verdict_of, Accepted}
-use Rattle.sheet.specs.{Lookup.{seek, covers, place_of, common, range_of}, declared.{Memory.TheVariants.{Device, User}, Run.TheVariants.{At, Nowhere}}}
+use Rattle.sheet.specs.{Lookup.{At, seek, covers, place_of, common, range_of}, declared.{Memory.TheVariants.{Device, User}}}
 
 -- THE SHEET, 90 bytes
 unfoldable pub touching : List ℕ
@@ -34,18 +35,18 @@ touching_accepted = refl
 -- OVER TWO REGIONS AND OVER THREE, with the rights of all; past the gap, whether or not it goes on behind it
 pub touching_ranges :
     (range_of touching Device 0x0100 3 ≡ At 80 0x32) × (range_of touching Device 0x0101 3 ≡ At 81 0x21) × (range_of touching Device 0x0100 5 ≡ At 80 0x21)
-    × (range_of touching Device 0x0104 2 ≡ Nowhere) × (range_of touching Device 0x0104 3 ≡ Nowhere) × (range_of touching Device 0x0106 1 ≡ At 85 0x33)
+    × (range_of touching Device 0x0104 2 ≡ None) × (range_of touching Device 0x0104 3 ≡ None) × (range_of touching Device 0x0106 1 ≡ At 85 0x33)
 unfolding touching range_of place_of common seek covers entry num_at
 touching_ranges = (refl, refl, refl, refl, refl, refl)
 
 -- THE TWO MEMORIES NEVER JOIN, though one begins where the other ends
 pub touching_memories :
-    (range_of touching Device 0x0106 2 ≡ Nowhere) × (range_of touching User 0x0106 2 ≡ Nowhere) × (range_of touching User 0x0107 2 ≡ At 88 0x33)
+    (range_of touching Device 0x0106 2 ≡ None) × (range_of touching User 0x0106 2 ≡ None) × (range_of touching User 0x0107 2 ≡ At 88 0x33)
 unfolding touching range_of place_of seek covers common entry num_at
 touching_memories = (refl, refl, refl)
 
 -- THE TOP OF THE ADDRESSES, and no address at all
 pub touching_ends :
-    (range_of touching Device 0xFFFE 2 ≡ At 86 0x33) × (range_of touching Device 0xFFFF 2 ≡ Nowhere) × (range_of touching Device 0x0100 0 ≡ Nowhere)
+    (range_of touching Device 0xFFFE 2 ≡ At 86 0x33) × (range_of touching Device 0xFFFF 2 ≡ None) × (range_of touching Device 0x0100 0 ≡ None)
 unfolding touching range_of place_of seek covers common entry num_at
 touching_ends = (refl, refl, refl)

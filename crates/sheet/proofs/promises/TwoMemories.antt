@@ -4,8 +4,8 @@ use Rattle.octets.specs.Bytes.{num_at}
 use Rattle.sheet.specs.{Demand.breach, First.first, Kind.{regions, properties, groups, users}, Layout.{Field, ◌of◌}}
 use Rattle.sheet.specs.Entries.{count, contents, entry, floor, body_end, start_of, reached, six_bits}
 use Rattle.sheet.specs.Rules.{entry_demands, body_demands, entry_rule, body_rule, entries_rule, bodies_rule, rest_rule, walk_rule, rule_in, verdict_of, rule_of, Accepted, is_accepted}
-use Rattle.sheet.specs.{Lookup.{seek, covers, body_of, lookup, region_of, user_region_of, place_of, common, range_of}, declared.Memory.TheVariants.{Device, User}}
-use Rattle.sheet.specs.declared.Run.TheVariants.{At, Nowhere}
+use Rattle.sheet.specs.{Lookup.{At, seek, covers, body_of, lookup, region_of, user_region_of, place_of, common, range_of}, declared.Memory.TheVariants.{Device, User}}
+use Rattle.std.specs.Prelude.{None}
 use Rattle.sheet.specs.Region as region
 
 -- all but byte 0
@@ -63,6 +63,6 @@ second_regions = rw second_accepted (refl, refl)
 -- ONE ADDRESS IN EITHER MEMORY, and one that user memory alone has
 pub second_ranges :
     (range_of second Device 0x0100 2 ≡ At 64 0x32) × (range_of second User 0x0100 2 ≡ At 67 0x31)
-    × (range_of second Device 0x0200 1 ≡ Nowhere) × (range_of second User 0x0200 1 ≡ At 70 0x33)
+    × (range_of second Device 0x0200 1 ≡ None) × (range_of second User 0x0200 1 ≡ At 70 0x33)
 unfolding second after range_of place_of common seek covers entry num_at
 second_ranges = (refl, refl, refl, refl)

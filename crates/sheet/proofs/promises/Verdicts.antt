@@ -1,5 +1,5 @@
 -- What is said of a sheet: every sheet is accepted, old or bad, and one of these alone.
-use Rattle.octets.proofs.Kit.{ℕ, ◌≡◌, refl, sym, ◌∙◌, ◌↔◌, ◌⊎◌, inl, inr, Bool, true, cond, List, eqb, ℕ_discrete, arith, eq-eqb, ne_eqb}
+use Rattle.octets.proofs.Kit.{ℕ, ◌≡◌, refl, sym, ◌∙◌, ◌↔◌, ◌⊎◌, inl, inr, cond, List, eqb, ℕ_discrete, arith, eq-eqb, ne_eqb}
 use Rattle.sheet.specs.{Layout.◌of◌, Rules.{rule_in, rule_of, verdict_of, refusal_of, refusal_before, Accepted, Old, Bad, old, edition, retired}, Agree.Agree}
 use Rattle.sheet.specs.Head as head
 use Rattle.sheet.proofs.{rules.{First.or_else_some, Good.{GoodIn, passing, passes, frame_met, no_rule}}, promises.{Nine.at_most_nine, Agrees.{kept, agree_sym, both_or_neither}}}
@@ -18,17 +18,6 @@ module _ (s : List ℕ) (r : ℕ) (r-is : r ≡ rule_of s) where
     pub says_accepted : (e ≡ 1 → ⊥) → 0 ≡ verdict_of s
     unfolding verdict_of
     says_accepted h = rw (← r-is, z, ne_eqb (head.edition of s) 1 (λ q. h (e-is ∙ q)))
-
-module _ (s : List ℕ) (v : ℕ) (v_is : v ≡ verdict_of s) where
-  pub lets_be : v ≡ 0 → 0 ≡ refusal_of s
-  lets_be h = rw (← v_is, h)
-
-  module _ (n : v ≡ 0 → ⊥) where
-    pub tells_old : v ≡ 14 → 14 ≡ refusal_of s
-    tells_old h = rw (← v_is, h)
-
-    pub tells_bad : (v ≡ 14 → ⊥) → 4 ≡ refusal_of s
-    tells_bad h = rw (← v_is, ne_eqb v 0 n, ne_eqb v 14 h)
 
 module _ (s : List ℕ) where
   -- by the first rule broken, and by the edition where none is
@@ -112,10 +101,6 @@ module _ (s : List ℕ) where
       go (inl a) = inl (refused_none a)
       go (inr (inl o)) = inr (inl (refused_old o))
       go (inr (inr b)) = inr (inr (refused_bad b))
-
-  -- as the callers' calls ask
-  pub known_unrefused : (k : Bool) → (k ≡ true → Accepted s) → k ≡ true → 0 ≡ refusal_of s
-  known_unrefused k h t = sym (refused_none (h t))
 
   pub not_refused : (n : ℕ) → n ≡ refusal_of s → n ≡ 0 → Accepted s
   not_refused n e z = unrefused (sym e ∙ z)

@@ -1,8 +1,9 @@
 -- What is judged of a body.
 use Rattle.octets.proofs.Kit.{ℕ, ◌+◌, ◌*◌, ◌≤◌, ◌<◌, ◌≡◌, ap, sym, ◌∙◌, subst, List, bit_or, bit_xor, or_add_and, xor_add_and, and_le_l, and_le_r, or_zero_l, xor_self, le-leb, lt-leb}
 use Rattle.octets.proofs.Kit.{mul-le-mul, arith}
+use Rattle.std.specs.Prelude.{Result, Ok, Err, IsErr, IsErrAnd}
 use Rattle.octets.specs.Bytes.{num_at}
-use Rattle.sheet.specs.{Demand.{Demand, Tells}, Kind.groups, Layout.◌of◌, Entries.six_bits, Rules.property_demands, Walk.{long, Late, VerdictOf}, declared.entry_rules.Verdict.Verdict}
+use Rattle.sheet.specs.{Demand.{Demand, Tells}, Kind.groups, Layout.◌of◌, Entries.six_bits, Rules.property_demands, Walk.{long, Late, StepOver}, Fault.number_of, declared.{Fault.Fault, entry_rules.Step.Step}}
 use Rattle.sheet.specs.Group as group
 use Rattle.sheet.specs.Property as property
 use Rattle.sheet.proofs.rules.Demands.{told, met}
@@ -28,13 +29,19 @@ module _ (l a b c : ℕ) where
       rw (e, x, h, or_zero_l 0) (or_zero_l 0)
 
 -- what a step leaves behind an entry that breaks nothing
-pub behind : (ds : List Demand) (l late from z six n p a x : ℕ) (r : Verdict) → Tells r.rule ds → r.at ≡ p → r.last ≡ l → Late late a z x r.late
-    → a ≡ from → x ≡ six → r.end ≡ z + n → n < long → VerdictOf ds l late from z six n p r
+pub behind : (ds : List Demand) (l late from z six n p a x : ℕ) (r : Step) → Tells 0 ds → r.at ≡ p → r.last ≡ l → Late late a z x r.late
+    → a ≡ from → x ≡ six → r.end ≡ z + n → n < long → StepOver ds l late from z six n p (Ok r)
 behind ds l late from z six n p a x r t ep el k ea ex ez h =
     record {
       rule = t;
-      next = λ e. record { at = ep; last = el; kept = subst (λ (y : ℕ). Late late y z six r.late) ea (subst (λ (y : ℕ). Late late a z y r.late) ex k); end = ez; short = h };
+      next = record { at = ep; last = el; kept = subst (λ (y : ℕ). Late late y z six r.late) ea (subst (λ (y : ℕ). Late late a z y r.late) ex k); end = ez; short = h };
     }
+
+-- and that one that breaks a rule leaves nothing
+pub no_step : (ds : List Demand) (l late from z six n p : ℕ) (r : Result Step Fault) (fault : Fault) → IsErr r × IsErrAnd r (λ e. e ≡ fault) → Tells (number_of fault) ds →
+    StepOver ds l late from z six n p r
+no_step ds l late from z six n p (Ok q) fault h t = absurd h.1
+no_step ds l late from z six n p (Err e) fault h t = record { rule = subst (λ (f : Fault). Tells (number_of f) ds) (sym h.1) t; next = tt }
 
 -- the elements of a property that breaks nothing
 pub elements_short : (f r n : ℕ) (e : List ℕ) → Tells r (property_demands f e) → r ≡ 0 → n ≡ property.element of e * property.maximum of e → n < long

@@ -4,14 +4,8 @@ use Rattle.sheet.specs.{Layout.◌of◌}
 use Rattle.sheet.specs.Head as head
 
 module _ (s : List ℕ) (r : ℕ) (e : r ≡ head.edition of s) where
-  pub users_second : (b : ℕ) → r ≡ 2 → b ≡ head.byte15 of s → b ≡ head.users s
-  users_second b q f = rw (eq-eqb (head.edition of s) 2 (sym e ∙ q)) f
-
   pub users_first : (r ≡ 2 → ⊥) → 0 ≡ head.users s
   users_first q = rw (ne_eqb (head.edition of s) 2 (λ z. q (e ∙ z)))
-
-  pub spare_second : r ≡ 2 → 0 ≡ head.spare s
-  spare_second q = rw (eq-eqb (head.edition of s) 2 (sym e ∙ q))
 
   pub latest_second : r ≡ 2 → head.later ≡ head.latest s
   latest_second q = rw (eq-eqb (head.edition of s) 2 (sym e ∙ q))

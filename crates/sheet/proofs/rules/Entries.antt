@@ -1,26 +1,8 @@
 -- Where entries stand.
-use Rattle.octets.proofs.Kit.{ℕ, ◌+◌, ◌-◌, ◌≤◌, ◌<◌, ◌≡◌, refl, subst⁻¹, List, length, take, drop, length-take, length-drop, add-sub_cancel_left, arith}
-use Rattle.octets.specs.Bytes.{num_at}
-use Rattle.sheet.specs.{Rules.edition, Kind.{users, kinds, OfKind}, Entries.{count, size, place, contents, entry, offset_of}, Walk.{Framed, Entry, Counted, Starts, Shown, far}}
+use Rattle.octets.proofs.Kit.{ℕ, ◌+◌, ◌-◌, ◌≤◌, ◌<◌, ◌≡◌, refl, List, length, take, drop, length-take, length-drop, add-sub_cancel_left, arith}
+use Rattle.sheet.specs.{Kind.{OfKind}, Entries.{count, size, place, contents, entry, offset_of}, Walk.{Entry, Starts, Shown}}
 use Rattle.sheet.specs.Region as region
-use Rattle.sheet.specs.Head as head
-use Rattle.sheet.proofs.rules.ByKind.{each_kind, kinded, at_kind}
-
--- the numbers of entries stand one after the other, that of regions first, but for that of the user regions
-pub counted : (s : List ℕ) (k r : ℕ) → Framed edition s → k < kinds → (k ≡ users → ⊥) → r ≡ num_at s ((head.regions).at + k) 1 → Counted s k r
-counted s k r f h n e =
-    each_kind (λ (j : ℕ). (j ≡ users → ⊥) → r ≡ num_at s ((head.regions).at + j) 1 → Counted s j r)
-    (λ m q. record { is = q; few = omega (arith, f.rows) })
-    (λ m q. record { is = q; few = omega (arith, f.rows) })
-    (λ m q. record { is = q; few = omega (arith, f.rows) })
-    (λ m q. absurd (m refl))
-    k
-    h
-    n
-    e
-
-pub users_counted : (s : List ℕ) (k r : ℕ) → Framed edition s → k ≡ users → r ≡ head.users s → Counted s k r
-users_counted s k r f q e = subst⁻¹ (λ (j : ℕ). Counted s j r) q (record { is = e; few = omega (arith, f.rows) })
+use Rattle.sheet.proofs.rules.ByKind.{each_kind, kinded}
 
 pub starts : {k r : ℕ} {e : List ℕ} → OfKind r k (offset_of 0 e) (offset_of 1 e) (offset_of 2 e) (offset_of 3 e) → r < 65536 → Starts k e r
 starts o h = record { is = kinded o; below = h }
@@ -45,13 +27,6 @@ module _ {s : List ℕ} {k i : ℕ} (h : Entry s k i) where
 
   pub shown : Shown s k i (entry s k i)
   shown = record { is = refl; sized = record { least = omega (arith, least, length_entry); long = length_entry } }
-
-  -- where it stands, as code finds it
-  pub at_place : {a : ℕ} → OfKind a k (place s 0 i) (place s 1 i) (place s 2 i) (place s 3 i) → a ≡ place s k i
-  at_place ea = at_kind (λ j. place s j i) h.kind ea
-
-  pub place_near : {a : ℕ} → a ≡ place s k i → a < far
-  place_near e = omega (arith, place_in, h.framed.rows)
 
   -- the part that code cuts out
   module _ {a z : ℕ} (ea : a ≡ place s k i) (ez : OfKind z k (size 0) (size 1) (size 2) (size 3)) where

@@ -1,13 +1,15 @@
 -- The walk: what its steps leave, and where it leaves, with which rule.
-use Rattle.octets.proofs.Kit.{ℕ, zero, suc, ◌+◌, ◌*◌, ◌%◌, ◌≤◌, ◌<◌, ◌≡◌, refl, sym, ◌∙◌, ap, subst, subst⁻¹, List, Bool, true, false, cond, eqb, leb, dec_lt, add-one, arith}
+use Rattle.octets.proofs.Kit.{ℕ, zero, suc, ◌+◌, ◌*◌, ◌≤◌, ◌<◌, ◌≡◌, refl, sym, ◌∙◌, ap, subst, subst⁻¹, List, Bool, true, false, cond, eqb, leb, dec_lt, add-one, arith}
+use Rattle.std.specs.Prelude.{Result, Ok, Err, IfOk}
 use Rattle.octets.specs.Bytes.{num_at}
 use Rattle.sheet.specs.{Demand.{Tells, breach}, First.{first, or_else}, Kind.{regions, properties, groups, users, by_kind, kinds, OfKind}, Layout.◌of◌}
 use Rattle.sheet.specs.{Entries.{count, size, base, place, contents, entry, floor, floor_after, offset_of, length_of, six_bits, body_end, start_of, reached}, Rules.region_demands}
 use Rattle.sheet.specs.Rules.{property_demands, group_demands, entry_demands, body_demands, end_demands, frame_demands, zero_demands, entry_rule, body_rule, entries_rule, bodies_rule, rest_rule}
-use Rattle.sheet.specs.{Rules.{walk_rule, rule_in, rule_of, edition}, Walk.{Framed, Entry, Counted, last_of, long, far, Late, Next, VerdictOf, Steps}, declared.entry_rules.Verdict.Verdict}
+use Rattle.sheet.specs.{Rules.{walk_rule, rule_in, rule_of, edition}, Walk.{Framed, Entry, Counted, last_of, long, Late, Next, StepOver, Steps}, declared.{Fault.Fault, entry_rules.Step.Step}}
+use Rattle.sheet.specs.Fault as fault
 use Rattle.sheet.specs.Head as head
 use Rattle.sheet.specs.Property as property
-use Rattle.sheet.proofs.rules.{ByKind.each_kind, Demands.{told, met, one_rule, unbroken as all-unbroken}}
+use Rattle.sheet.proofs.rules.{Demands.{told, met, unbroken as all-unbroken}, Faults.some_fault}
 use Rattle.sheet.proofs.rules.First.{or_else_some, or_else_left, or_else_right, or_else_zero, or_else_assoc, first_none, first_suc, first_more, first_stop}
 
 pub framed : (ed : ℕ) (s : List ℕ) (r : ℕ) → Tells r (frame_demands ed s) → r ≡ 0 → Framed ed s
@@ -26,24 +28,26 @@ above (suc zero) l f r e q t =
 above (suc (suc (suc j))) l f r e q t = rw (← q) t
 above (suc (suc zero)) l f r e q t = (t.0, λ h. (λ b. (t.1 h).0 (omega arith), λ b. (t.1 h).1 (omega arith)))
 
+-- what follows from what holds of a step holds of it
+ok_map : {P Q : Step → Type 0} (r : Result Step Fault) → ((q : Step) → P q → Q q) → IfOk r P → IfOk r Q
+ok_map (Ok q) f h = f q h
+ok_map (Err e) f h = tt
+
 -- an entry of a kind, where the kind is known
 module _ (s : List ℕ) (k i j : ℕ) (q : k ≡ j) where
-  pub entry_there : Entry s k i → Entry s j i
-  entry_there h = rw q at h
-
   pub place_there : (a : ℕ) → a ≡ place s k i → a ≡ place s j i
   place_there a e = rw q at e
 
-  says : (e : List ℕ) (a l z late : ℕ) (r : Verdict) → e ≡ entry s j i → a ≡ place s k i → l ≡ last_of k (floor s k i)
-      → VerdictOf (by_kind j (region_demands l e) (property_demands (l + 1) e) (group_demands (l + 1) e)) (last_of j (floor_after j e)) late (offset_of j e) z (six_bits s j e) (length_of j e) (a + size j) r
+  says : (e : List ℕ) (a l z late : ℕ) (r : Result Step Fault) → e ≡ entry s j i → a ≡ place s k i → l ≡ last_of k (floor s k i)
+      → StepOver (by_kind j (region_demands l e) (property_demands (l + 1) e) (group_demands (l + 1) e)) (last_of j (floor_after j e)) late (offset_of j e) z (six_bits s j e) (length_of j e) (a + size j) r
       → Steps s k i z late r
   says e a l z late r ee ea el v = subst⁻¹ (λ (x : ℕ). Steps s x i z late r) q (record { is = record { rule = rule; next = next } })
     where
       last : l ≡ last_of j (floor s j i)
       last = rw q at el
 
-      rule : Tells r.rule (entry_demands s j i)
-      rule = unfold entry_demands in rw (← ee) (above j l (floor s j i) r.rule e last v.rule)
+      rule : Tells (fault.told r) (entry_demands s j i)
+      rule = unfold entry_demands in rw (← ee) (above j l (floor s j i) (fault.told r) e last v.rule)
 
       after : floor_after j e ≡ floor s j (i + 1)
       after = unfold floor in rw (add-one i, ee)
@@ -51,33 +55,35 @@ module _ (s : List ℕ) (k i j : ℕ) (q : k ≡ j) where
       up : a + size j ≡ place s j (i + 1)
       up = omega (arith, place_there a ea)
 
-      kept : Late late (offset_of j e) z (six_bits s j e) r.late → Late late (offset_of j (entry s j i)) z (six_bits s j (entry s j i)) r.late
-      kept h = subst (λ (y : List ℕ). Late late (offset_of j y) z (six_bits s j y) r.late) ee h
+      kept : (q : Step) → Late late (offset_of j e) z (six_bits s j e) q.late → Late late (offset_of j (entry s j i)) z (six_bits s j (entry s j i)) q.late
+      kept q h = subst (λ (y : List ℕ). Late late (offset_of j y) z (six_bits s j y) q.late) ee h
 
-      next : r.rule ≡ 0 → Next (last_of j (floor s j (i + 1))) late (offset_of j (entry s j i)) z (six_bits s j (entry s j i)) (length_of j (entry s j i)) (place s j (i + 1)) r
-      next h =
-          let x = v.next h in
-          record { at = x.at ∙ up; last = x.last ∙ ap (last_of j) after; kept = kept x.kept; end = rw (← ee) x.end; short = rw (← ee) x.short }
+      next_of : (q : Step) → Next (last_of j (floor_after j e)) late (offset_of j e) z (six_bits s j e) (length_of j e) (a + size j) q
+          → Next (last_of j (floor s j (i + 1))) late (offset_of j (entry s j i)) z (six_bits s j (entry s j i)) (length_of j (entry s j i)) (place s j (i + 1)) q
+      next_of q x = record { at = x.at ∙ up; last = x.last ∙ ap (last_of j) after; kept = kept q x.kept; end = rw (← ee) x.end; short = rw (← ee) x.short }
+
+      next : IfOk r (Next (last_of j (floor s j (i + 1))) late (offset_of j (entry s j i)) z (six_bits s j (entry s j i)) (length_of j (entry s j i)) (place s j (i + 1)))
+      next = ok_map r next_of v.next
 
 -- the same for each kind
-module _ (s : List ℕ) (k i : ℕ) (e : List ℕ) (a l z late : ℕ) (r : Verdict) (ea : a ≡ place s k i) (el : l ≡ last_of k (floor s k i)) where
+module _ (s : List ℕ) (k i : ℕ) (e : List ℕ) (a l z late : ℕ) (r : Result Step Fault) (ea : a ≡ place s k i) (el : l ≡ last_of k (floor s k i)) where
   pub says_region : k ≡ regions → e ≡ entry s regions i
-      → VerdictOf (region_demands l e) (floor_after regions e) late (offset_of regions e) z 0 (length_of regions e) (a + size regions) r → Steps s k i z late r
+      → StepOver (region_demands l e) (floor_after regions e) late (offset_of regions e) z 0 (length_of regions e) (a + size regions) r → Steps s k i z late r
   unfolding six_bits
   says_region q ee v = says s k i regions q e a l z late r ee ea el v
 
   pub says_user : k ≡ users → e ≡ entry s users i
-      → VerdictOf (region_demands l e) (floor_after regions e) late (offset_of regions e) z 0 (length_of regions e) (a + size regions) r → Steps s k i z late r
+      → StepOver (region_demands l e) (floor_after regions e) late (offset_of regions e) z 0 (length_of regions e) (a + size regions) r → Steps s k i z late r
   unfolding six_bits
   says_user q ee v = says s k i users q e a l z late r ee ea el v
 
   pub says_property : k ≡ properties → e ≡ entry s properties i
-      → VerdictOf (property_demands (l + 1) e) (last_of properties (floor_after properties e)) late (offset_of properties e) z 0 (length_of properties e) (a + size properties) r → Steps s k i z late r
+      → StepOver (property_demands (l + 1) e) (last_of properties (floor_after properties e)) late (offset_of properties e) z 0 (length_of properties e) (a + size properties) r → Steps s k i z late r
   unfolding six_bits
   says_property q ee v = says s k i properties q e a l z late r ee ea el v
 
   pub says_group : k ≡ groups → e ≡ entry s groups i
-      → VerdictOf (group_demands (l + 1) e) (last_of groups (floor_after groups e)) late (offset_of groups e) z (six_bits s groups e) (length_of groups e) (a + size groups) r → Steps s k i z late r
+      → StepOver (group_demands (l + 1) e) (last_of groups (floor_after groups e)) late (offset_of groups e) z (six_bits s groups e) (length_of groups e) (a + size groups) r → Steps s k i z late r
   says_group q ee v = says s k i groups q e a l z late r ee ea el v
 
 -- a body breaks S9 or nothing, and so do bodies one after the other
@@ -139,12 +145,6 @@ pub record Passed (s : List ℕ) (k n a l z late i : ℕ) : Type 0 where
 
 -- what is counted fits in 32 bits
 module _ (s : List ℕ) where
-  pub counted_narrow : (k n : ℕ) → Counted s k n → n < 4294967296
-  counted_narrow k n m = omega (arith, m.few)
-
-  pub contents_narrow : (z : ℕ) → Framed edition s → z ≡ contents s → z < 4294967296
-  contents_narrow z f e = omega (arith, f.rows)
-
   pub walk_begins : (z : ℕ) → Framed edition s → z ≡ contents s → Walked s 0 head.size z 0
   unfolding start_of
   walk_begins z f e =
@@ -183,15 +183,9 @@ module _ (s : List ℕ) where
         }
 
     module _ (l i : ℕ) (h : Passed s k n a l z late i) where
-      pub pass_entry : Framed edition s → k < kinds → i < n → Entry s k i
-      pass_entry fr hk hi = record { framed = fr; kind = hk; below = omega (arith, h.whole) }
-
-      pub pass_near : k < kinds → i < n → z < far
-      pass_near hk hi = omega (arith, h.near, h.few)
-
-      module _ (e : Verdict) (u : Steps s k i z late e) (q : e.rule ≡ 0) where
+      module _ (e : Step) (u : Steps s k i z late (Ok e)) where
         after : Next (last_of k (floor s k (i + 1))) late (offset_of k (entry s k i)) z (six_bits s k (entry s k i)) (length_of k (entry s k i)) (place s k (i + 1)) e
-        after = u.is.next q
+        after = u.is.next
 
         -- the body is judged against where the one before ended, as long as nothing is late
         now_late : ZeroTogether e.late (or_else (or_else (first (bodies_rule s) k) (first (body_rule s k) i)) (body_rule s k i))
@@ -223,7 +217,7 @@ module _ (s : List ℕ) where
               whole = h.whole;
               few = h.few;
               at = after.at;
-              clean = first_more _ _ h.clean (sym (told _ _ u.is.rule) ∙ q);
+              clean = first_more _ _ h.clean (sym (told _ _ u.is.rule));
               broken = rw (first_suc (body_rule s k) i, ← or_else_assoc (first (bodies_rule s) k) (first (body_rule s k) i) (body_rule s k i)) now_late;
               last = after.last;
               ends = now_ends;
@@ -248,29 +242,21 @@ module _ (s : List ℕ) where
 all_kinds : (s : List ℕ) → first (entries_rule s) kinds ≡ or_else (first (entries_rule s) users) (entries_rule s users)
 all_kinds s = first_suc (entries_rule s) users
 
--- an entry breaks the rule of its kind or none
-kind_rule : (s : List ℕ) (i k : ℕ) → k < kinds → (entry_rule s k i ≡ 0 → ⊥) → entry_rule s k i ≡ 6 + k % 3
-unfolding entry_rule entry_demands
-kind_rule s i =
-    each_kind (λ (k : ℕ). (entry_rule s k i ≡ 0 → ⊥) → entry_rule s k i ≡ 6 + k % 3)
-    (one_rule 6 (region_demands (floor s regions i) (entry s regions i)) (refl, (refl, (refl, (refl, (refl, (refl, tt)))))))
-    (one_rule 7 (property_demands (floor s properties i) (entry s properties i)) (refl, (refl, (refl, (refl, (refl, (refl, (refl, (refl, (refl, (refl, (refl, tt))))))))))))
-    (one_rule 8 (group_demands (floor s groups i) (entry s groups i)) (refl, (refl, (refl, (refl, (refl, tt))))))
-    (one_rule 6 (region_demands (floor s users i) (entry s users i)) (refl, (refl, (refl, (refl, (refl, (refl, tt)))))))
-
 -- where the walk leaves
 module _ (s : List ℕ) (r : ℕ) where
-  pub left_at : (k n a l z late i a₀ z₀ late₀ x y : ℕ) (e : Verdict) → r ≡ or_else (entries_rule s users) y → y ≡ 6 + k % 3 → Steps s k i z late e
-      → x ≡ e.rule → Passed s k n a l z late i → Walked s k a₀ z₀ late₀ → k < kinds → i < n → (x ≡ 0 → ⊥) → r ≡ walk_rule s
+  pub left_at : (k n a l z late i a₀ z₀ late₀ : ℕ) (f : Fault) → r ≡ or_else (entries_rule s users) (fault.number_of f) → Steps s k i z late (Err f)
+      → Passed s k n a l z late i → Walked s k a₀ z₀ late₀ → k < kinds → i < n → r ≡ walk_rule s
   unfolding walk_rule rest_rule
-  left_at k n a l z late i a₀ z₀ late₀ x y e t f u q v w hk hi h =
-      t ∙ ap (or_else (entries_rule s users)) (f ∙ sym by_kind_lem) ∙ go (first (entries_rule s) users) refl
+  left_at k n a l z late i a₀ z₀ late₀ f t u v w hk hi = t ∙ go (first (entries_rule s) users) refl
     where
-      here : x ≡ entry_rule s k i
-      here = unfold entry_rule in q ∙ told _ _ u.is.rule
+      x : ℕ
+      x = fault.number_of f
 
-      by_kind_lem : x ≡ 6 + k % 3
-      by_kind_lem = here ∙ kind_rule s i k hk (λ o. h (here ∙ o))
+      h : x ≡ 0 → ⊥
+      h = some_fault f
+
+      here : x ≡ entry_rule s k i
+      here = unfold entry_rule in told _ _ u.is.rule
 
       kind : x ≡ entries_rule s k
       kind = unfold entries_rule in rw (← v.whole) (here ∙ first_stop (entry_rule s k) n i hi v.clean (λ y. h (here ∙ y)))
@@ -331,9 +317,6 @@ pub record Ordered (s : List ℕ) (n a l i : ℕ) : Type 0 where
 pub users_first : (s : List ℕ) (f x r : ℕ) → f ≡ entries_rule s users → (f ≡ 0 → ⊥) → r ≡ f → r ≡ or_else (entries_rule s users) x
 users_first s f x r e h q = q ∙ rw (← e) (sym (or_else_some f x h))
 
-pub users_passed : (s : List ℕ) (f x : ℕ) → f ≡ entries_rule s users → f ≡ 0 → x ≡ or_else (entries_rule s users) x
-users_passed s f x e h = rw (← e, h)
-
 module _ (s : List ℕ) (n : ℕ) where
   pub users_begin : (a : ℕ) → Counted s users n → OfKind a users (place s 0 0) (place s 1 0) (place s 2 0) (place s 3 0) → Ordered s n a 0 0
   unfolding floor
@@ -343,18 +326,17 @@ module _ (s : List ℕ) (n : ℕ) where
     pub users_entry : Framed edition s → i < n → Entry s users i
     users_entry fr hi = record { framed = fr; kind = omega arith; below = omega (arith, h.whole) }
 
-    module _ (e : Verdict) (hi : i < n) (u : Steps s users i 0 0 e) where
-      pub users_go : e.rule ≡ 0 → Ordered s n e.at e.last (i + 1)
-      unfolding entry_rule
-      users_go q =
-          let x = u.is.next q in
-          record { within = omega arith; whole = h.whole; at = x.at; clean = first_more _ _ h.clean (sym (told _ _ u.is.rule) ∙ q); last = x.last }
+    pub users_go : (e : Step) → i < n → Steps s users i 0 0 (Ok e) → Ordered s n e.at e.last (i + 1)
+    unfolding entry_rule
+    users_go e hi u =
+        let x = u.is.next in
+        record { within = omega arith; whole = h.whole; at = x.at; clean = first_more _ _ h.clean (sym (told _ _ u.is.rule)); last = x.last }
 
-      pub users_left : (r : ℕ) → r ≡ e.rule → (r ≡ 0 → ⊥) → r ≡ entries_rule s users
-      users_left r q z = unfold entries_rule in rw (← h.whole) (here ∙ first_stop (entry_rule s users) n i hi h.clean (λ x. z (here ∙ x)))
-        where
-          here : r ≡ entry_rule s users i
-          here = unfold entry_rule in q ∙ told _ _ u.is.rule
+    pub users_left : (f : Fault) → i < n → Steps s users i 0 0 (Err f) → fault.number_of f ≡ entries_rule s users
+    users_left f hi u = unfold entries_rule in rw (← h.whole) (here ∙ first_stop (entry_rule s users) n i hi h.clean (λ x. some_fault f (here ∙ x)))
+      where
+        here : fault.number_of f ≡ entry_rule s users i
+        here = unfold entry_rule in told _ _ u.is.rule
 
     pub users_end : n ≤ i → 0 ≡ entries_rule s users
     unfolding entries_rule

@@ -1,7 +1,8 @@
 -- Address ranges found as the code does it: by halves to the first region, then on from region to region.
 use Rattle.octets.proofs.Kit.{ℕ, zero, suc, ◌+◌, ◌-◌, ◌≤◌, ◌<◌, ◌≡◌, refl, sym, ◌∙◌, ap, subst, List, dec_lt, arith}
-use Rattle.sheet.specs.{Kind.{kinds, properties, kind_of}, Layout.◌of◌, Entries.{count, entry}, Lookup.{object_at, common, range_of}, Places.region_at, Rules.Accepted}
-use Rattle.sheet.specs.{Walk.{Holds, Entry, Counted, Lower, Goes, Onward}, declared.{Memory.Memory, ranges.Reach.Reach, Run.TheVariants.{At, Nowhere}}}
+use Rattle.std.specs.Prelude.{None}
+use Rattle.sheet.specs.{Kind.{kinds, properties, kind_of}, Layout.◌of◌, Entries.{count, entry}, Lookup.{At, object_at, common, range_of}, Places.region_at, Rules.Accepted}
+use Rattle.sheet.specs.{Walk.{Entry, Lower, Goes}, declared.{Memory.Memory, ranges.Reach.Reach}}
 use Rattle.sheet.specs.Region as region
 use Rattle.sheet.specs.Property as property
 use Rattle.sheet.proofs.{rules.{Good.{Good, good}, Entries.few as few-entries}, places.Levels.{common_self, common_again}}
@@ -28,8 +29,7 @@ pub record Along (s : List ℕ) (m : Memory) (a n o i reached l : ℕ) : Type 0 
 pub record Going (s : List ℕ) (k a n o i reached l : ℕ) : Type 0 where
   pub few : i ≤ 64
   pub past : a < reached
-  pub byte : l < 256
-  pub along : (m : Memory) → Holds m k → Along s m a n o i reached l
+  pub along : (m : Memory) → k ≡ kind_of m → Along s m a n o i reached l
 
 module _ {s : List ℕ} (g : Good s) (m : Memory) (a : ℕ) where
   -- a run with one address more
@@ -67,7 +67,7 @@ module _ {s : List ℕ} (g : Good s) (m : Memory) (a : ℕ) where
             one_more_lem i j o l b (omega (arith, e)) t (u.so j (omega (arith, u.ends, region_rows g m u.last u.below)) (omega arith))
 
     -- the regions end before the range does, and none goes on where the last one ends
-    stops : reached < a + n → ((j : ℕ) → i ≤ j → j < count s (kind_of m) → reached < starts_at s m j) → Nowhere ≡ range_of s m a n
+    stops : reached < a + n → ((j : ℕ) → i ≤ j → j < count s (kind_of m) → reached < starts_at s m j) → None ≡ range_of s m a n
     stops h f =
         sym (range_none s m a n (reached - a, omega (arith, u.past), λ p l b. go b.index (covers_stands b) (dec_lt b.index i) (dec_lt b.index u.last)))
       where
@@ -80,9 +80,9 @@ module _ {s : List ℕ} (g : Good s) (m : Memory) (a : ℕ) where
             omega (arith, t, u.past, u.ends)
 
 -- k is the kind of a memory
-module _ (s : List ℕ) (ok : Accepted s) (m : Memory) (k : ℕ) (kind : Holds m k) (a n : ℕ) where
+module _ (s : List ℕ) (ok : Accepted s) (m : Memory) (k : ℕ) (kind : k ≡ kind_of m) (a n : ℕ) where
   at_kind : (e : List ℕ) (i : ℕ) → e ≡ entry s k i → e ≡ region_at s m i
-  at_kind e i q = q ∙ ap (λ (x : ℕ). entry s x i) kind.is
+  at_kind e i q = q ∙ ap (λ (x : ℕ). entry s x i) kind
 
   address_is : (e : List ℕ) (i : ℕ) → e ≡ entry s k i → region.address of e ≡ starts_at s m i
   address_is e i q = ap (λ (x : List ℕ). region.address of x) (at_kind e i q)
@@ -93,13 +93,13 @@ module _ (s : List ℕ) (ok : Accepted s) (m : Memory) (k : ℕ) (kind : Holds m
   -- the regions before i begin at the address or below, those from i on past it
   module _ (i : ℕ) (low : Lower s k (a + 1) i) where
     few : i ≤ count s (kind_of m)
-    few = rw kind.is at low.within
+    few = rw kind at low.within
 
     before : (j : ℕ) → j < i → starts_at s m j ≤ a
     before j h = omega (arith, low.before j h, key_word s k j, address_is (entry s k j) j refl)
 
     from : (j : ℕ) → i ≤ j → j < count s (kind_of m) → a < starts_at s m j
-    from j h b = omega (arith, low.from j h (rw kind.is b), key_word s k j, address_is (entry s k j) j refl)
+    from j h b = omega (arith, low.from j h (rw kind b), key_word s k j, address_is (entry s k j) j refl)
 
     -- so the last before i alone can have it
     alone : (j : ℕ) → Covered s m j a → suc j ≡ i
@@ -110,16 +110,16 @@ module _ (s : List ℕ) (ok : Accepted s) (m : Memory) (k : ℕ) (kind : Holds m
         go (yes h) (yes l) = absurd (omega (arith, c.to, before (suc j) l, regions_apart (good s ok) m j (suc j) (omega arith) (omega (arith, few))))
         go (yes h) (no l) = omega arith
 
-    nowhere : 0 < n → ((j : ℕ) → suc j ≡ i → Covered s m j a → ⊥) → Nowhere ≡ range_of s m a n
+    nowhere : 0 < n → ((j : ℕ) → suc j ≡ i → Covered s m j a → ⊥) → None ≡ range_of s m a n
     nowhere h f =
         let e : a + 0 ≡ a = omega arith in
         sym (range_none s m a n (0, h, λ p l b. let d : Covered s m b.index a = subst (Covered s m b.index) e (covers_stands b) in f b.index (alone b.index d) d))
 
-    pub none_begins : (n ≡ 0 → ⊥) → i ≡ 0 → Nowhere ≡ range_of s m a n
+    pub none_begins : (n ≡ 0 → ⊥) → i ≡ 0 → None ≡ range_of s m a n
     none_begins h z = nowhere (omega arith) (λ j e c. omega arith)
 
     pub none_reaches :
-        (e : List ℕ) → e ≡ entry s k (i - 1) → (z : ℕ) → z ≡ region.address of e + region.length of e → (n ≡ 0 → ⊥) → z ≤ a → Nowhere ≡ range_of s m a n
+        (e : List ℕ) → e ≡ entry s k (i - 1) → (z : ℕ) → z ≡ region.address of e + region.length of e → (n ≡ 0 → ⊥) → z ≤ a → None ≡ range_of s m a n
     none_reaches e ee z ez h l =
         nowhere (omega arith) (λ j q c.
         let b : j ≡ i - 1 = omega arith in
@@ -145,14 +145,14 @@ module _ (s : List ℕ) (ok : Accepted s) (m : Memory) (k : ℕ) (kind : Holds m
 
   -- from region to region
   module _ (o i reached l : ℕ) (u : Along s m a n o i reached l) (short : reached < a + n) where
-    none_there : (i < count s k → region.address of entry s k i ≡ reached → ⊥) → Nowhere ≡ range_of s m a n
+    none_there : (i < count s k → region.address of entry s k i ≡ reached → ⊥) → None ≡ range_of s m a n
     none_there f =
         stops (good s ok) m a u short (λ j h c. go j h c (dec_lt i j))
       where
         past : i < count s (kind_of m) → reached < starts_at s m i
         past b =
             let apart = regions_apart (good s ok) m u.last i (omega (arith, u.next)) b in
-            let d : (starts_at s m i ≡ reached → ⊥) = λ q. f (rw kind.is b) (address_is (entry s k i) i refl ∙ q) in
+            let d : (starts_at s m i ≡ reached → ⊥) = λ q. f (rw kind b) (address_is (entry s k i) i refl ∙ q) in
             omega (arith, u.ends, apart)
 
         go : (j : ℕ) → i ≤ j → j < count s (kind_of m) → Dec (i < j) → reached < starts_at s m j
@@ -161,7 +161,7 @@ module _ (s : List ℕ) (ok : Accepted s) (m : Memory) (k : ℕ) (kind : Holds m
 
     along_on : (r : Reach) → Goes s k i reached l r → Along s m a n o (i + 1) r.end r.levels
     along_on r w =
-        let there : i < count s (kind_of m) = rw kind.is at w.there in
+        let there : i < count s (kind_of m) = rw kind at w.there in
         let b : starts_at s m i ≡ reached = sym (address_is (entry s k i) i refl) ∙ w.begins in
         let t = end_is (entry s k i) i r.end refl w.ends in
         record {
@@ -182,7 +182,7 @@ module _ (s : List ℕ) (ok : Accepted s) (m : Memory) (k : ℕ) (kind : Holds m
       rw e at (sym (u.so (n - 1) (omega (arith, u.begins)) (omega arith)))
 
 -- no address is no range
-pub range_empty : (s : List ℕ) (m : Memory) (a n : ℕ) → n ≡ 0 → Nowhere ≡ range_of s m a n
+pub range_empty : (s : List ℕ) (m : Memory) (a n : ℕ) → n ≡ 0 → None ≡ range_of s m a n
 range_empty s m a n h = rw h (unfold range_of in refl)
 
 -- the first region: the last that begins at the address or below
@@ -196,51 +196,23 @@ module _ (s : List ℕ) (ok : Accepted s) (k : ℕ) (known : k < kinds) (a i : �
 
     pub range_begins :
         (z : ℕ) → z ≡ region.address of e + region.length of e → (n : ℕ) → (n ≡ 0 → ⊥) → a < z → (o l : ℕ) →
-        o ≡ region.offset of e + (a - region.address of e) → l ≡ region.levels of e → l < 256 → Going s k a n o i z l
-    range_begins z ez n h t o l eo el b =
-        record { few = omega (arith, few-entries first_there); past = t; byte = b; along = λ m kind. along_begins s ok m k kind a n i low pos e ee z ez h t o l eo el }
+        o ≡ region.offset of e + (a - region.address of e) → l ≡ region.levels of e → Going s k a n o i z l
+    range_begins z ez n h t o l eo el =
+        record { few = omega (arith, few-entries first_there); past = t; along = λ m kind. along_begins s ok m k kind a n i low pos e ee z ez h t o l eo el }
 
 -- the next ones
 module _ (s : List ℕ) (ok : Accepted s) (k : ℕ) (known : k < kinds) (a n o i z l : ℕ) (u : Going s k a n o i z l) where
-  module _ (m : Memory) (kind : Holds m k) where
-    pub no_next : (r : Reach) → z < a + n → Onward s k i z l r → r.end ≡ 0 → Nowhere ≡ range_of s m a n
-    no_next r short w q = none_there s ok m k kind a n o i z l (u.along m kind) short (w.stops q)
+  module _ (m : Memory) (kind : k ≡ kind_of m) where
+    pub no_next : z < a + n → (i < count s k → region.address of entry s k i ≡ z → ⊥) → None ≡ range_of s m a n
+    no_next short f = none_there s ok m k kind a n o i z l (u.along m kind) short f
 
     pub all_found : (n ≡ 0 → ⊥) → a + n ≤ z → At o l ≡ range_of s m a n
     all_found h b = all_along s ok m k kind a n o i z l (u.along m kind) h b
 
-  pub goes_on : (r : Reach) → z < a + n → Onward s k i z l r → (r.end ≡ 0 → ⊥) → Going s k a n o (i + 1) r.end r.levels
-  goes_on r short w q =
-      let g = w.goes q in
+  pub goes_on : (r : Reach) → z < a + n → Goes s k i z l r → Going s k a n o (i + 1) r.end r.levels
+  goes_on r short g =
       record {
         few = omega (arith, few-entries (record { framed = ok_framed s ok; kind = known; below = g.there }));
         past = omega (arith, u.past, g.begins, g.ends);
-        byte = g.byte;
         along = λ m kind. along_on s ok m k kind a n o i z l (u.along m kind) short r g;
       }
-
--- fewer regions are left after each
-pub less_left : (s : List ℕ) (k i z l : ℕ) (r : Reach) → Onward s k i z l r → (r.end ≡ 0 → ⊥) → count s k - (i + 1) < count s k - i
-less_left s k i z l r w q = omega (arith, (w.goes q).there)
-
--- neither is the one the other, told the other way round
-pub flip : (f z : ℕ) → (z ≡ f → ⊥) → f ≡ z → ⊥
-flip f z h e = h (sym e)
-
--- one of them
-module _ (s : List ℕ) (k i z l : ℕ) where
-  pub none_left : (c : ℕ) (r : Reach) → Counted s k c → c ≤ i → r.end ≡ 0 → Onward s k i z l r
-  none_left c r q h e = record { stops = λ d t b. omega (arith, q.is); goes = λ d. absurd (d e) }
-
-  module _ (e : List ℕ) (ee : e ≡ entry s k i) (f : ℕ) (ef : f ≡ region.address of e) where
-    pub gap : (r : Reach) → (f ≡ z → ⊥) → r.end ≡ 0 → Onward s k i z l r
-    gap r d t = record { stops = λ q h b. d (ef ∙ ap (λ (x : List ℕ). region.address of x) ee ∙ b); goes = λ q. absurd (q t) }
-
-    pub touching :
-        (c x : ℕ) (r : Reach) → Counted s k c → i < c → f ≡ z → x ≡ region.levels of e → r.levels ≡ common l x → r.levels < 256 →
-        r.end ≡ region.address of e + region.length of e → 0 < z → Onward s k i z l r
-    touching c x r q h b ex el t ez p =
-        record {
-          stops = λ d. absurd (omega (arith, ez, ef, b));
-          goes = λ d. record { there = omega (arith, q.is); begins = rw (← ee, ← ef) b; ends = rw (← ee) ez; rights = rw (← ee, ← ex) el; byte = t };
-        }

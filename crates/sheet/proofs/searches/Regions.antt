@@ -1,8 +1,9 @@
 -- The regions of a memory by address: at most one has it, and neighbours touch.
-use Rattle.octets.proofs.Kit.{ℕ, suc, ◌+◌, ◌-◌, ◌<◌, ◌≤◌, ◌≡◌, refl, ◌∙◌, ap, List, ◌⊎◌, inl, inr, Bool, true, false, cond, and-eq-true_iff, leb, ltb, dec_lt, arith, le-leb, leb-true, lt-ltb}
+use Rattle.octets.proofs.Kit.{ℕ, suc, ◌+◌, ◌-◌, ◌<◌, ◌≤◌, ◌≡◌, refl, sym, ◌∙◌, ap, List, ◌⊎◌, inl, inr, Bool, true, false, cond, and-eq-true_iff, leb, ltb, dec_lt, arith, le-leb, leb-true, lt-ltb}
 use Rattle.octets.proofs.Kit.{le-ltb, ltb-true}
-use Rattle.sheet.specs.{Kind.{regions, users, kind_of}, Layout.◌of◌, Entries.{count, key_of, floor, body_at, body_end}, Lookup.{seek, covers, run_in, place_of}, Places.{region_at, Stands}}
-use Rattle.sheet.specs.{Rules.entry_demands, declared.{Memory.{Memory, TheVariants.{Device, User}}, Run.TheVariants.{At, Nowhere}}}
+use Rattle.std.specs.Prelude.{Option, Some, None}
+use Rattle.sheet.specs.{Kind.{regions, users, kind_of}, Layout.◌of◌, Entries.{count, key_of, floor, body_at, body_end}, Lookup.{At, seek, covers, run_in, place_of}, Places.{region_at, Stands}}
+use Rattle.sheet.specs.{Rules.entry_demands, declared.{Run.Run, Memory.{Memory, TheVariants.{Device, User}}}}
 use Rattle.sheet.specs.Region as region
 use Rattle.sheet.proofs.{rules.Good.Good, promises.Keys.past_floor, places.BodyPlaces.{starts, reached_next}, searches.FrontSearch.{seek_passes, seek_hit, seek_none}}
 
@@ -41,8 +42,20 @@ pub in_region :
     Stands s m y (region.offset of region_at s m i + (y - starts_at s m i)) (region.levels of region_at s m i)
 in_region {s} {m} {i} c = record { index = i; below = c.below; from = c.from; to = c.to; here = refl; under = refl }
 
+abbrev offset_of_run : Option Run → ℕ
+offset_of_run (Some r) = r.offset
+offset_of_run None = 0
+
+abbrev levels_of_run : Option Run → ℕ
+levels_of_run (Some r) = r.levels
+levels_of_run None = 0
+
+-- one run has one place and one byte of levels
+pub at_once : {o o' l l' : ℕ} → At o l ≡ At o' l' → (o ≡ o') × (l ≡ l')
+at_once q = (ap offset_of_run q, ap levels_of_run q)
+
 -- a run is nowhere or somewhere, and not both
-pub not_both : {o l : ℕ} → Nowhere ≡ At o l → ⊥
+pub not_both : {o l : ℕ} → None ≡ At o l → ⊥
 not_both q = let z : ◌≡◌ {A = ℕ} 0 1 = cc in omega arith
 
 module _ (s : List ℕ) (m : Memory) (y : ℕ) where
@@ -54,15 +67,16 @@ module _ (s : List ℕ) (m : Memory) (y : ℕ) where
   unfolding place_of sought
   place_stands {p} {l} e = go (ltb sought (count s (kind_of m))) refl e
     where
-      go : (b : Bool) → ltb sought (count s (kind_of m)) ≡ b → cond b (run_in (region_at s m sought) y) Nowhere ≡ At p l → Stands s m y p l
+      go : (b : Bool) → ltb sought (count s (kind_of m)) ≡ b → cond b (run_in (region_at s m sought) y) None ≡ At p l → Stands s m y p l
       go true h q =
           let b : sought < count s (kind_of m) = ltb-true _ _ h in
           let c = covering (region_at s m sought) y (seek_passes (λ j. covers (region_at s m j) y) (count s (kind_of m)) b) in
-          record { index = sought; below = b; from = c.0; to = c.1; here = cc; under = cc }
+          let e = at_once q in
+          record { index = sought; below = b; from = c.0; to = c.1; here = sym e.0; under = sym e.1 }
       go false h q = absurd (not_both q)
 
   -- what no region has is nowhere
-  pub place_none : ((i : ℕ) → Covered s m i y → ⊥) → place_of s m y ≡ Nowhere
+  pub place_none : ((i : ℕ) → Covered s m i y → ⊥) → place_of s m y ≡ None
   unfolding place_of
   place_none f =
       let e = seek_none (λ j. covers (region_at s m j) y) (count s (kind_of m))

@@ -1,6 +1,7 @@
 -- A search from the front as a loop makes it, the first word of an entry, and where the body of one ends.
-use Rattle.octets.proofs.Kit.{ℕ, zero, suc, ◌+◌, ◌<◌, ◌≤◌, ◌≡◌, refl, ◌∙◌, ap, List, Bool, false, length, dec_lt, arith}
-use Rattle.sheet.specs.{Kind.{kinds, OfKind}, Layout.◌of◌, Entries.{entry, key_of, offset_of, length_of, body_end}, Rules.{Accepted, edition}, Walk.{Framed, Entry, Counted}}
+use Rattle.octets.proofs.Kit.{ℕ, zero, suc, ◌+◌, ◌<◌, ◌≤◌, ◌≡◌, refl, ◌∙◌, ap, List, [], ◌∷◌, Bool, false, length, get_or, dec_lt, lit<, arith}
+use Rattle.sheet.specs.{Kind.{kinds, number_of, OfKind}, Layout.◌of◌, Entries.{entry, key_of, offset_of, length_of, body_end}, Rules.{Accepted, edition}, Walk.{Framed, Entry, Counted}}
+use Rattle.sheet.specs.declared.Kind.{Kind, TheVariants.{Regions, Properties, Groups, Users}}
 use Rattle.sheet.specs.Region as region
 use Rattle.sheet.proofs.{rules.{ByKind.kinded, Good.good}, places.BodyPlaces.within}
 
@@ -9,6 +10,24 @@ ok_framed s e = record { rows = (good s e).framed }
 
 pub ok_entry : (s : List ℕ) (k i n : ℕ) → Accepted s → k < kinds → Counted s k n → i < n → Entry s k i
 ok_entry s k i n e hk c h = record { framed = ok_framed s e; kind = hk; below = omega (arith, c.is) }
+
+-- each kind is one of the four
+pub kind_known : (kind : Kind) → number_of kind < kinds
+kind_known Regions = lit< tt
+kind_known Properties = lit< tt
+kind_known Groups = lit< tt
+kind_known Users = lit< tt
+
+-- and stands in the list of them at its number
+pub kind_at : (i : ℕ) → i < kinds → number_of (get_or (Regions ∷ Properties ∷ Groups ∷ Users ∷ []) i Regions) ≡ i
+kind_at zero h = refl
+kind_at (suc zero) h = refl
+kind_at (suc (suc zero)) h = refl
+kind_at (suc (suc (suc zero))) h = refl
+kind_at (suc (suc (suc (suc i)))) h = absurd (omega arith)
+
+pub entry_in : (s : List ℕ) (kind : Kind) (i n : ℕ) → Accepted s → Counted s (number_of kind) n → i < n → Entry s (number_of kind) i
+entry_in s kind i n e c h = ok_entry s (number_of kind) i n e (kind_known kind) c h
 
 -- THE INVARIANT of a search: none of the first i of n has passed the test
 pub record Missed (t : ℕ → Bool) (n i : ℕ) : Type 0 where

@@ -1,9 +1,7 @@
 -- `tool::kelindap_write` meets its contract. Assumes nothing.
-use Rattle.tool.proofs.{Arms.{via_known, via_nothing}}
+use Rattle.tool.specs.Flat.{meant_by}
+use Rattle.tool.proofs.{Arms.few_meant}
 use Rattle.tool.proofs.kelindap_write.Goals as goal
 
-pub returns-in-Known : goal.returns-in-Known
-returns-in-Known c = search via_known
-
-pub returns-in-Nothing : goal.returns-in-Nothing
-returns-in-Nothing c = search via_nothing
+pub flat_written-requires : goal.flat_written-requires
+flat_written-requires c = few_meant (meant_by c.args.flat) c.args.data.now c.args.out.now _ c.written.ensures.gives

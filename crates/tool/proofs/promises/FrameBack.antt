@@ -2,9 +2,12 @@
 use Rattle.octets.proofs.Kit.{ℕ, ◌+◌, ◌-◌, ◌≤◌, ◌≡◌, refl, sym, ap, ap₂, subst, ◌∙◌, List, arith, length, take, drop, take_at, le-leb}
 use Rattle.octets.specs.Octets.{ReadFrom}
 use Rattle.cemi.specs.{Layout.{table, octet6, Fit}, Read.{read_frame}, Parts.{part_of, info_of, tpdu_of}}
-use Rattle.cemi.specs.{Write.{numbers_of, under, encoded, frame_of, count_of, write_outcome, write_count, Wrote}, declared.{Frame.Frame, Got.Got}}
-use Rattle.cemi.{specs.declared.{Got.TheVariants.{Is, Refused}, Written.Written}, proofs.promises.{Standards.{reads_standard, refused_some}, Agains.{write_back, writes_again}}}
+use Rattle.cemi.specs.{Write.{numbers_of, under, encoded, frame_of, count_of, write_outcome, write_count, Wrote}, declared.{Frame.Frame, ReadRefusal.ReadRefusal, WriteRefusal.WriteRefusal}}
+use Rattle.std.specs.Prelude.{Result, Ok, Err}
+use Rattle.cemi.proofs.promises.{Standards.reads_standard, Agains.{write_back, writes_again}}
 use Rattle.cemi.proofs.{promises.{Backs.{length_encoded, info_part, tpdu_part}, Filled.{writes_0, buffer_filled, buffer_back, went_well}}, Wrote.bounds}
+use Rattle.cemi.specs.Refusal.{read_number}
+use Rattle.cemi.specs.declared.ReadRefusal.TheVariants.{Short, Code, Extended, Length}
 use Rattle.tool.specs.{FlatFrame.{laid_frame, flat_got, flat_frame, fields_of, frame_written, FrameWrote}, FrameBack.{info_in, tpdu_in, FrameInC, FrameGivenBack}}
 use Rattle.tool.specs.declared.{FlatFrame.FlatFrame, Framed.Framed}
 
@@ -33,7 +36,7 @@ module _ (f : FlatFrame) (i a o e : List ℕ) (w : Framed) (call : FrameWrote f 
 
 module _ (b : List ℕ) where
   -- a frame that reads, its parts where it says that they stand
-  module _ (f : Frame) (e : read_frame b ≡ Is f) where
+  module _ (f : Frame) (e : read_frame b ≡ Ok f) where
     within : (2 + f.info ≤ length b) × (octet6 f.info + (f.stated + 1) ≤ length b)
     within =
         let s = reads_standard b f e in
@@ -46,7 +49,7 @@ module _ (b : List ℕ) where
     tpdu_is = part_is b (octet6 f.info) (f.stated + 1) within.1
 
   again :
-      (f : Frame) → ReadFrom b (Is f) (read_frame b) → (o e : List ℕ) (w : Framed) →
+      (f : Frame) → ReadFrom b (Ok f) (read_frame b) → (o e : List ℕ) (w : Framed) →
       FrameWrote (laid_frame f) (info_in (laid_frame f) b) (tpdu_in (laid_frame f) b) o w e → length b ≤ length o →
       (w.outcome ≡ 0) × (take w.count e ≡ b)
   again f call o e w wrote room =
@@ -59,11 +62,17 @@ module _ (b : List ℕ) where
       (z, front (laid_frame f) _ _ o e w wrote z ∙ same)
 
   by_got :
-      (g : Got) → ReadFrom b g (read_frame b) → (flat_got g).outcome ≡ 0 → (o e : List ℕ) (w : Framed) →
+      (g : Result Frame ReadRefusal) → ReadFrom b g (read_frame b) → (flat_got g).outcome ≡ 0 → (o e : List ℕ) (w : Framed) →
       FrameWrote (flat_got g) (info_in (flat_got g) b) (tpdu_in (flat_got g) b) o w e → length b ≤ length o →
       (w.outcome ≡ 0) × (take w.count e ≡ b)
-  by_got (Is f) call z = again f call
-  by_got (Refused n) call z = absurd (refused_some b n (sym call.is) z)
+  by_got (Ok f) call z = again f call
+  by_got (Err n) call z = absurd (some n z)
+    where
+      some : (e : ReadRefusal) → read_number e ≡ 0 → ⊥
+      some Short h = omega (arith, h)
+      some Code h = omega (arith, h)
+      some Extended h = omega (arith, h)
+      some Length h = omega (arith, h)
 
 -- FRAME-BACK: written again with its fields and its parts, as they were handed up, a frame has the same bytes
 pub frame_back :
@@ -83,12 +92,12 @@ pub frame_given_back :
     FrameGivenBack f i a (take w.count e) (flat_frame (take w.count e))
 unfolding flat_frame
 frame_given_back f i a o e w c call z =
-    let r : Written = frame_written f i a o in
+    let r : Result ℕ WriteRefusal = frame_written f i a o in
     let x = inside f i a o e w call in
     let y : write_outcome r ≡ 0 = sym (outcome_is f i a o e w call) ∙ z in
     let k = bounds (fields_of f) (length i) (length a) (went_well (fields_of f) i a o e r x y) in
     let fit : Fit table (numbers_of (fields_of f) (length a - 1)) = (c.control1, (c.control2, (c.source, (c.destination, (omega (arith, k.few), tt))))) in
-    let reads : read_frame (take w.count e) ≡ Is (frame_of (fields_of f) i a) = ap (λ (n : ℕ). read_frame (take n e)) (count_is f i a o e w call) ∙ buffer_back (fields_of f) i a o e r x fit y in
+    let reads : read_frame (take w.count e) ≡ Ok (frame_of (fields_of f) i a) = ap (λ (n : ℕ). read_frame (take n e)) (count_is f i a o e w call) ∙ buffer_back (fields_of f) i a o e r x fit y in
     let b = front f i a o e w call z in
     let l = length_encoded (fields_of f) i a in
     let info : take (length i) (drop 2 (take w.count e)) ≡ i =

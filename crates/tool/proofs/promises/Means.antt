@@ -6,7 +6,8 @@ use Rattle.pdu.specs.declared.Pdu.TheVariants.{PropertyDescriptionRead, MemoryRe
 use Rattle.pdu.specs.declared.Pdu.TheVariants.{SerialNumberResponse, DeviceDescriptorResponse, PropertyValueResponse, PropertyDescriptionResponse, MemoryResponse, AuthorizeResponse}
 use Rattle.pdu.specs.declared.Pdu.TheVariants.{KeyResponse, UserMemoryRead, UserMemoryResponse, UserMemoryWrite}
 use Rattle.pdu.specs.declared.Service.TheVariants as svc
-use Rattle.tool.specs.{Flat.{place_in, kind_of, flat_of, refusal, meant_by}, declared.Meant.TheVariants.{Known, Nothing}}
+use Rattle.std.proofs.Common.{Some, None}
+use Rattle.tool.specs.Flat.{place_in, kind_of, flat_of, refusal, meant_by}
 
 -- THE SERVICE AT THE PLACE OF ITS KIND
 pub kind_is : (k : Service) → get_elem? services (kind_of k) ≡ some k
@@ -41,7 +42,7 @@ kind_is svc.UserMemoryResponse = refl
 kind_is svc.UserMemoryWrite = refl
 
 -- THERE AND BACK
-pub means : (p : Pdu) (l : List ℕ) → meant_by (flat_of p l) ≡ Known p
+pub means : (p : Pdu) (l : List ℕ) → meant_by (flat_of p l) ≡ Some p
 unfolding meant_by kind_of place_in
 means GroupValueRead l = refl
 means (GroupValueResponse a) l = refl
@@ -73,6 +74,6 @@ means (UserMemoryResponse a b) l = refl
 means (UserMemoryWrite a b) l = refl
 
 -- WHAT WAS REFUSED MEANS NO PDU: written, it gives 3 or 13
-pub refused_means_nothing : (n : ℕ) → meant_by (refusal n) ≡ Nothing
+pub refused_means_nothing : (n : ℕ) → meant_by (refusal n) ≡ None
 unfolding meant_by
 refused_means_nothing n = refl

@@ -1,9 +1,11 @@
 -- What kelindap_write writes with outcome 0, kelindap_read gives back. Assumes nothing.
 use Rattle.octets.proofs.Kit.{ℕ, zero, suc, ◌+◌, ◌-◌, ◌≡◌, refl, sym, ap, ◌∙◌, ◌⊎◌, inl, inr, ⊎_elim, Bool, true, false, cond, ◌&&◌, and-eq-true_iff, true≢false, List, [], ◌∷◌, Option, none}
 use Rattle.octets.proofs.Kit.{some, Option·none-ne-some, arith, add-zero, eq-eqb, eqb-true, eqb, ltb, length, take, drop, get_elem?, length-drop, take_all}
+use Rattle.std.proofs.Common.{Ok, Err}
+use Rattle.pdu.specs.declared.WriteRefusal.TheVariants as unwritten
 use Rattle.pdu.specs.Item.{Name, Item, low, num, cap, duo, skip, Value, ◌≔◌, the, name_number, same, V6, Address, Serial, Domain, T, Object, Id, N, S, Index, Typ, Maximum, Access, Level, Key}
 use Rattle.pdu.specs.{Table.{row_of, services}, Pdus.{service_of, values_of, pdu_of}, Read.{read_pdu, data_at, data_of}, Write.{write_of, write_outcome, write_count}, Allows.Typed}
-use Rattle.pdu.{specs.declared.{Service.Service, Pdu.Pdu, Parsed.TheVariants.Is, Written.TheVariants.Refused as Refuses}, proofs.{Sound.{chosen, sound}, promises.Back.buffer_back}}
+use Rattle.pdu.{specs.declared.{Service.Service, Pdu.Pdu}, proofs.{Sound.{chosen, sound}, promises.Back.buffer_back}}
 use Rattle.pdu.specs.declared.Service.TheVariants as svc
 use Rattle.tool.specs.{Flat.{place_in, kind_of, laid, flat_of, flat_read, fields_in, meant_as, meant_by, FlatWrote}, Back.{InC, Has, GivenBack}, declared.FlatPdu.FlatPdu}
 use Rattle.tool.specs.declared.FlatWritten.{FlatWritten}
@@ -109,7 +111,7 @@ typed svc.UserMemoryResponse f c = (c.n, (c.address, tt))
 typed svc.UserMemoryWrite f c = (c.n, (c.address, tt))
 
 -- a flat PDU of an unknown kind is refused
-unknown_refused : (room : ℕ) (t : Bool) → write_outcome (cond t (Refuses 3) (Refuses 13)) ≡ 0 → ⊥
+unknown_refused : (room : ℕ) (t : Bool) → write_outcome (cond t (Err unwritten.Room) (Err unwritten.Fields)) ≡ 0 → ⊥
 unknown_refused room true e = omega arith
 unknown_refused room false e = omega arith
 
@@ -140,7 +142,7 @@ module _ (f : FlatPdu) (d b : List ℕ) (k : Service) (e : get_elem? services f.
           ∙ ap (λ (x : List Value). the x name) ((sound k).values (fields_in f))
           ∙ chosen_has (row_of k).items (fields_in f) name (rw s h)
 
-  read_as : read_pdu b ≡ Is (meant k f) → data_of (meant k f) b ≡ d → GivenBack f d b (flat_read b)
+  read_as : read_pdu b ≡ Ok (meant k f) → data_of (meant k f) b ≡ d → GivenBack f d b (flat_read b)
   unfolding flat_read
   read_as r h = rw r (laid_back h)
 

@@ -2,7 +2,8 @@
 use Rattle.octets.proofs.Kit.{◌≡◌, refl, true, [], ◌∷◌}
 use Rattle.octets.specs.Bytes.{bytes_of}
 use Rattle.pdu.specs.declared.Pdu.TheVariants.{GroupValueWrite}
-use Rattle.points.specs.{Point.point_bytes, declared.{Datapoint.TheVariants.{Switch, Byte}, Reading.TheVariants.{Is, Refused}}}
+use Rattle.points.specs.{Point.point_bytes, declared.{Datapoint.TheVariants.{Switch, Byte}, Refusal.TheVariants.Length}}
+use Rattle.std.proofs.Common.{Ok, Err}
 use Rattle.values.specs.Value.{six_bits, value_data, value_pdu, read_value}
 
 switch_sent : value_pdu (Switch true) ≡ GroupValueWrite 1
@@ -13,7 +14,7 @@ switch_alone : value_data (Switch true) ≡ []
 unfolding value_data
 switch_alone = refl
 
-switch_said : read_value 1 1 [] ≡ Is (Switch true)
+switch_said : read_value 1 1 [] ≡ Ok (Switch true)
 unfolding read_value
 switch_said = refl
 
@@ -25,6 +26,6 @@ byte_after : value_data (Byte 7) ≡ 7 ∷ []
 unfolding value_data point_bytes bytes_of
 byte_after = refl
 
-switch_with_data : read_value 1 1 (1 ∷ []) ≡ Refused 20
+switch_with_data : read_value 1 1 (1 ∷ []) ≡ Err Length
 unfolding read_value
 switch_with_data = refl

@@ -1,12 +1,12 @@
 -- What `kept` returns: the number and the length in row k are those of the k-th version.
-use Rattle.octets.proofs.Kit.{ℕ, zero, suc, ◌+◌, ◌-◌, ◌*◌, ◌≤◌, ◌<◌, ◌≡◌, refl, sym, ap₂, ◌∙◌, List, [], ◌∷◌, ◌++◌, arith, length, eq-eqb, ne_eqb}
+use Rattle.octets.proofs.Kit.{ℕ, zero, suc, ◌+◌, ◌-◌, ◌*◌, ◌≤◌, ◌<◌, ◌≡◌, refl, sym, ap₂, subst, ◌∙◌, List, [], ◌∷◌, ◌++◌, arith, length, eq-eqb, ne_eqb}
 use Rattle.octets.specs.{Bytes.{num_at, IsNum}, Octets.Octets}
 use Rattle.sheet.specs.{Demand.breach, Layout.◌of◌}
-use Rattle.versions.specs.{Store.{Version, table_end, version_at, versions_from, kept}, Rules.{rows_rule, all_rows, store_rule, is_store}, Walk.Chosen, Kept.{none, told, kept_of}}
+use Rattle.versions.specs.{Store.{Version, table_end, version_at, versions_from, kept}, Rules.{rows_rule, all_rows, store_rule, is_store}, Walk.Chosen, Kept.{none, told, kept_of}, Refusal.number_of, declared.refusal.Refusal.Refusal}
 use Rattle.versions.specs.{Example.{twice, left}, declared.listing.Listed.Listed}
 use Rattle.versions.specs.Head as head
 use Rattle.versions.specs.Row as row
-use Rattle.versions.proofs.{Backs.{heads, length_versions}, Chosen.{which, lb, same_l}}
+use Rattle.versions.proofs.{Backs.{heads, length_versions}, Chosen.{which, lb, same_l}, Rows.store_refused}
 
 abbrev listed : ℕ → ℕ → Listed
 listed i j = record { number = i; long = j }
@@ -23,41 +23,47 @@ told_none [] k h = refl
 told_none (v ∷ vs) zero h = absurd (omega arith)
 told_none (v ∷ vs) (suc k) h = told_none vs k (omega arith)
 
-module _ (s : List ℕ) (k x : ℕ) (h : x ≡ store_rule s) where
-  pub bad_listed : (r : Listed) → r ≡ none → (x ≡ 0 → ⊥) → r ≡ kept_of s k
+module _ (s : List ℕ) (k : ℕ) where
+  pub bad_listed : (e : Refusal) → number_of e ≡ store_rule s → none ≡ kept_of s k
   unfolding kept_of is_store
-  bad_listed r e n = rw (ne_eqb (store_rule s) 0 (λ z. n (h ∙ z))) e
+  bad_listed e h = rw (ne_eqb (store_rule s) 0 (store_refused s e h).1)
 
-  module _ (z : x ≡ 0) where
+  module _ (h : 0 ≡ store_rule s) where
     ok : store_rule s ≡ 0
-    ok = sym h ∙ z
+    ok = sym h
 
     pub listed_head : 1 < length s
     listed_head = omega (arith, heads s ok)
 
     module _ (n : ℕ) (hn : IsNum s 0 2 65536 n) where
-      pub past_listed : (r : Listed) → r ≡ none → n ≤ k → r ≡ kept_of s k
+      pub past_listed : n ≤ k → none ≡ kept_of s k
       unfolding kept_of is_store kept
-      past_listed r e l =
+      past_listed l =
           rw (eq-eqb (store_rule s) 0 ok)
-          (e ∙ sym (told_none (versions_from s 8 (head.count of s)) k (omega (arith, length_versions s 8 (head.count of s), hn.value))))
+          (sym (told_none (versions_from s 8 (head.count of s)) k (omega (arith, length_versions s 8 (head.count of s), hn.value))))
 
-      pub number_room : k < n → table_end k + (row.number).at + 1 < length s
-      number_room l = omega (arith, heads s ok, hn.value)
+      pub row_room : k < n → k ≤ 8
+      row_room l = omega (arith, heads s ok, hn.value)
 
-      pub long_room : k < n → table_end k + (row.long).at + 1 < length s
-      long_room l = omega (arith, heads s ok, hn.value)
+      module _ (p : ℕ) (o : p ≡ table_end k) where
+        pub number_room : k < n → p + (row.number).at + 1 < length s
+        number_room l = omega (arith, heads s ok, hn.value)
 
-      pub some_listed :
-          (i j : ℕ) → Octets s → k < n → IsNum s (table_end k + (row.number).at) 2 65536 i → IsNum s (table_end k + (row.long).at) 2 65536 j →
-          ◌≡◌ {A = Listed} record { number = i; long = j } (kept_of s k)
-      unfolding kept_of is_store version_at
-      some_listed i j b l hi hj =
-          let m = heads s ok in
-          let c : Chosen s n k = record { good = ok; all = hn.value; below = l; tabled = record { few = omega (arith, m, hn.value); room = omega (arith, m, hn.value) } } in
-          let is = told_behind (versions_from s 8 k) (versions_from s (8 + 8 * suc k) (n - (k + 1))) (version_at s (8 + 8 * k)) in
-          let here = ap₂ told (which b c) (sym (lb b c)) ∙ is in
-          rw (eq-eqb (store_rule s) 0 ok) (ap₂ listed hi.value (hj.value ∙ same_l b c) ∙ sym here)
+        pub long_room : k < n → p + (row.long).at + 1 < length s
+        long_room l = omega (arith, heads s ok, hn.value)
+
+        pub some_listed :
+            (i j : ℕ) → Octets s → k < n → IsNum s (p + (row.number).at) 2 65536 i → IsNum s (p + (row.long).at) 2 65536 j →
+            ◌≡◌ {A = Listed} record { number = i; long = j } (kept_of s k)
+        unfolding kept_of is_store version_at
+        some_listed i j b l gi gj =
+            let m = heads s ok in
+            let hi : IsNum s (table_end k + (row.number).at) 2 65536 i = subst (λ (q : ℕ). IsNum s (q + (row.number).at) 2 65536 i) o gi in
+            let hj : IsNum s (table_end k + (row.long).at) 2 65536 j = subst (λ (q : ℕ). IsNum s (q + (row.long).at) 2 65536 j) o gj in
+            let c : Chosen s n k = record { good = ok; all = hn.value; below = l; tabled = record { few = omega (arith, m, hn.value); room = omega (arith, m, hn.value) } } in
+            let is = told_behind (versions_from s 8 k) (versions_from s (8 + 8 * suc k) (n - (k + 1))) (version_at s (8 + 8 * k)) in
+            let here = ap₂ told (which b c) (sym (lb b c)) ∙ is in
+            rw (eq-eqb (store_rule s) 0 ok) (ap₂ listed hi.value (hj.value ∙ same_l b c) ∙ sym here)
 
 -- WORKED: both versions and none behind them; what is left after a remove; a store that is none
 pub listed_worked :

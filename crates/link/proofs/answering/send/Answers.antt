@@ -6,8 +6,8 @@ use Rattle.link.proofs.answering.send.Goals as goal
 pub overflow_cast-result : goal.overflow_cast-result
 overflow_cast-result c = search (sent_few, rules)
 
-pub returns-in-Bytes : goal.returns-in-Bytes
-returns-in-Bytes c = search sent_bytes_lem
+pub returns-in-Ok : goal.returns-in-Ok
+returns-in-Ok c = search sent_bytes_lem
 
-pub returns-in-Refused : goal.returns-in-Refused
-returns-in-Refused c = search sent_none
+pub returns-in-Err : goal.returns-in-Err
+returns-in-Err c = search sent_none

@@ -11,16 +11,16 @@ returns-then-out-lt25 c =
       sheet_bytes = λ i. (c.type_inv.sheet i).fits;
     }
 
-pub returns-in-Is : goal.returns-in-Is
-returns-in-Is c =
+pub returns-in-Ok : goal.returns-in-Ok
+returns-in-Ok c =
     record {
       did = search (was_read, arith);
       frame_bytes = λ i. (c.type_inv.frame i).fits;
       sheet_bytes = λ i. (c.slice_known-1.given i).fits;
     }
 
-pub returns-in-Refused : goal.returns-in-Refused
-returns-in-Refused c =
+pub returns-in-Err : goal.returns-in-Err
+returns-in-Err c =
     record {
       did = search (not_read, arith);
       frame_bytes = λ i. (c.type_inv.frame i).fits;

@@ -4,4 +4,4 @@ use Rattle.parts.proofs.{Filled.from_on}
 use Rattle.parts.proofs.whole.bodies.Goals as goal
 
 pub returns : goal.returns
-returns c = from_on c.args.sheet.now _ _ _ _ c.blank-bodies.ensures refl c.splice.ensures c.requires
+returns c = from_on c.args.sheet.now _ _ _ _ refl refl c.splice.ensures c.requires

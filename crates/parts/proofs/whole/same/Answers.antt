@@ -5,5 +5,5 @@ use Rattle.parts.proofs.whole.same.Goals as goal
 
 pub returns : goal.returns
 returns c =
-    written_again _ (search rules) _ c.take_apart-parts.ensures (λ i. (c.slice_known-1.given i).fits) _ _
+    written_again _ (search rules) _ c.take_apart-parts.ensures (search rules) _ _
     refl c.write_again.ensures

@@ -1,18 +1,13 @@
 -- `plain::order::acting_level` meets its contract.
-use Rattle.octets.proofs.Kit.{arith}
+use Rattle.octets.proofs.Kit.{arith, ◌∙◌}
 use Rattle.octets.proofs.Tests.{branches}
 use Rattle.judge.specs.Session.{level_in, level_of}
+use Rattle.plain.proofs.{Ordered.least_level}
 use Rattle.plain.proofs.order.acting_level.Goals as goal
-use Rattle.plain.proofs.order.acting_level.Goals.{then-mode-ne3-via-then-mode-ne3, then-mode-ne3-via-else-mode-ne3+then-session-gt3}
 
-pub returns-then-mode-ne3 : goal.returns-then-mode-ne3
-unfolding level_in level_of
-returns-then-mode-ne3 c =
-    elim c.then-mode-ne3.branch [
-      | then-mode-ne3-via-then-mode-ne3 w ↦ search (branches, arith)
-      | then-mode-ne3-via-else-mode-ne3+then-session-gt3 w ↦ search (branches, arith)
-    ]
+pub returns-then-mode-eq3 : goal.returns-then-mode-eq3
+returns-then-mode-eq3 c = c.min.ensures ∙ least_level _ _ c.if-mode-eq3.true
 
-pub returns : goal.returns
+pub returns-else-mode-eq3 : goal.returns-else-mode-eq3
 unfolding level_in level_of
-returns c = search (branches, arith)
+returns-else-mode-eq3 c = search (branches, arith)

@@ -4,7 +4,7 @@ use Rattle.plain_services.proofs.{Addressing.{address_set, address_kept}, Joined
 use Rattle.plain_services.proofs.addresses.address_write.Goals as goal
 
 pub returns-then-not-parts : goal.returns-then-not-parts
-returns-then-not-parts c = address_kept _ _ _ (was_no _ (simp c.if-not-parts.true)) c.silent.ensures
+returns-then-not-parts c = address_kept _ _ _ (was_no _ (simp c.if-not-parts.true)) c.refused.ensures
 
 pub returns : goal.returns
-returns c = address_set _ _ _ _ (was_yes _ (simp c.if-not-parts.false)) (omega arith) refl c.silent-2.ensures
+returns c = address_set _ _ _ _ (was_yes _ (simp c.if-not-parts.false)) (omega arith) refl c.done.ensures

@@ -4,7 +4,7 @@ use Rattle.plain_services.proofs.{Addressing.{serial_set, serial_kept}}
 use Rattle.plain_services.proofs.addresses.serial_write.Goals as goal
 
 pub returns-then-serial-parts : goal.returns-then-serial-parts
-returns-then-serial-parts c = serial_kept _ _ _ _ c.if-serial-parts.true c.silent.ensures
+returns-then-serial-parts c = serial_kept _ _ _ _ c.if-serial-parts.true c.refused.ensures
 
 pub returns : goal.returns
-returns c = serial_set _ _ _ _ _ c.if-serial-parts.false (omega arith) refl c.silent-2.ensures
+returns c = serial_set _ _ _ _ _ c.if-serial-parts.false (omega arith) refl c.done.ensures

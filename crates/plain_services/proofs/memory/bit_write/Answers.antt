@@ -10,14 +10,14 @@ pub returns-in_default : goal.returns-in_default
 returns-in_default c = bits_denied _ _ _ _ _ _ c.area-area.ensures c.range.ensures _ _ c.in_default.is c.not_written.ensures
 
 pub with_bits-requires : goal.with_bits-requires
-with_bits-requires c = let x = bits_reach _ _ _ _ _ _ c.area-area.ensures c.range.ensures _ c.in-At.is c.requires.0 in (x.0, x.2, c.requires.1)
+with_bits-requires c = let x = bits_reach _ _ _ _ _ _ c.area-area.ensures c.range.ensures _ c.in-Some.is c.requires.0 in (x.0, x.2, c.requires.1)
 
 pub written-requires : goal.written-requires
 written-requires c =
     still_roomy _ _ _ _ _ _ c.with_bodies-after.ensures c.with_bits.ensures (length_build _ _)
-    (bits_reach _ _ _ _ _ _ c.area-area.ensures c.range.ensures _ c.in-At.is c.requires.0)
+    (bits_reach _ _ _ _ _ _ c.area-area.ensures c.range.ensures _ c.in-Some.is c.requires.0)
 
 pub returns : goal.returns
 returns c =
-    bits_made _ _ _ _ _ _ c.area-area.ensures c.range.ensures _ _ _ c.in-At.is _ c.with_bits.ensures
+    bits_made _ _ _ _ _ _ c.area-area.ensures c.range.ensures _ _ _ c.in-Some.is _ c.with_bits.ensures
     _ c.with_bodies-after.ensures c.written.ensures

@@ -11,15 +11,15 @@ returns-in_default c = write_denied _ _ _ _ _ _ _ _ c.area-area.ensures c.most.e
 
 pub with_data-requires : goal.with_data-requires
 with_data-requires c =
-    let x = reachable _ _ _ _ _ _ _ _ _ _ c.area-area.ensures c.most.ensures c.range.ensures _ c.in-At.is c.requires.0 in
+    let x = reachable _ _ _ _ _ _ _ _ _ _ c.area-area.ensures c.most.ensures c.range.ensures _ c.in-Some.is c.requires.0 in
     (x.0, omega (arith, x.2, c.requires.1))
 
 pub written-requires : goal.written-requires
 written-requires c =
     still_roomy _ _ _ _ _ _ c.with_data.ensures refl c.requires.1
-    (reachable _ _ _ _ _ _ _ _ _ _ c.area-area.ensures c.most.ensures c.range.ensures _ c.in-At.is c.requires.0)
+    (reachable _ _ _ _ _ _ _ _ _ _ c.area-area.ensures c.most.ensures c.range.ensures _ c.in-Some.is c.requires.0)
 
 pub returns : goal.returns
 returns c =
-    write_made _ _ _ _ _ _ _ _ c.area-area.ensures c.most.ensures c.range.ensures _ _ _ c.in-At.is c.requires.1
+    write_made _ _ _ _ _ _ _ _ c.area-area.ensures c.most.ensures c.range.ensures _ _ _ c.in-Some.is c.requires.1
     _ c.with_data.ensures c.written.ensures

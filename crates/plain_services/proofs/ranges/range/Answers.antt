@@ -18,7 +18,7 @@ pub returns-in_default : goal.returns-in_default
 returns-in_default c = one_refused _ _ _ _ _ _ _ c.loop-i.i (omega arith) c.loop-i.invariant.1 _ c.stands.ensures c.in_default.is
 
 pub loop-i-preserved : goal.loop-i-preserved
-loop-i-preserved c = (omega arith, one_stands _ _ _ _ c.args.most c.args.n _ _ c.loop-i.invariant.1 _ _ c.stands.ensures c.in-At.is)
+loop-i-preserved c = (omega arith, one_stands _ _ _ _ c.args.most c.args.n _ _ c.loop-i.invariant.1 _ _ c.stands.ensures c.in-Some.is)
 
 pub returns : goal.returns
 returns c = all_stand _ _ _ _ _ _ _ (omega arith) c.if-most-n.false c.loop-i.i (omega (arith, c.loop-i.invariant.0)) c.loop-i.invariant.1 _ c.stands-2.ensures

@@ -2,8 +2,8 @@
 use Rattle.playback.proofs.{Walking.good_inside, Logging.{readable, buffer_long, front_fits, logged}}
 use Rattle.playback.proofs.event.play_event.Goals as goal
 
-pub part-requires : goal.part-requires
-part-requires c = search good_inside
+pub part-e-requires : goal.part-e-requires
+part-e-requires c = search good_inside
 
 pub said-made-requires : goal.said-made-requires
 said-made-requires c = search (readable, buffer_long)
@@ -14,4 +14,4 @@ splice-requires c = front_fits _ _ c.requires.2 c.fill.ensures _
 pub returns : goal.returns
 returns c =
     logged _ _ c.requires.2 c.fill.ensures _ _ _ _ _ _ _ _
-    c.part.ensures c.said-made.ensures _ c.splice.ensures
+    c.part-e.ensures c.said-made.ensures _ c.splice.ensures

@@ -1,24 +1,25 @@
 -- `playback::playing::play` meets its contract. Assumes nothing.
-use Rattle.playback.proofs.{PlayedBack.{accepted, due_fits, due_small, ready, plays_refused, plays_no_room, plays_all}}
+use Rattle.std.proofs.lemmas.Result.{err_from_is_err_and}
+use Rattle.octets.proofs.Kit.{arith}
+use Rattle.playback.proofs.{PlayedBack.{due_few, plays_refused, plays_all}}
 use Rattle.playback.proofs.playing.play.Goals as goal
 
-pub returns-then-refusal-ne0 : goal.returns-then-refusal-ne0
-returns-then-refusal-ne0 c = record { did = search plays_refused; sheet_bytes = λ i. (c.type_inv.sheet i).fits; trace_bytes = λ i. (c.type_inv.trace i).fits }
-
-pub due-n-requires : goal.due-n-requires
-due-n-requires c = search accepted
-
-pub overflow_mul-n : goal.overflow_mul-n
-overflow_mul-n c = search due_small
-
-pub returns-then-log-n : goal.returns-then-log-n
-returns-then-log-n c = record { did = search plays_no_room; sheet_bytes = λ i. (c.type_inv.sheet i).fits; trace_bytes = λ i. (c.type_inv.trace i).fits }
+pub returns-in_err-n : goal.returns-in_err-n
+returns-in_err-n c =
+    let p = err_from_is_err_and c.from_residual.result c.from_residual.ensures.1 in
+    rw (p.1, p.2)
+    record { did = plays_refused _ _ _ _ _ _ _ c.in_err-n.ensures.refused; sheet_bytes = λ i. (c.type_inv.sheet i).fits; trace_bytes = λ i. (c.type_inv.trace i).fits }
 
 pub play_events-after-requires : goal.play_events-after-requires
-play_events-after-requires c = search ready
+play_events-after-requires c = c.in_ok-n.ensures.due.ready
 
 pub overflow_cast-result : goal.overflow_cast-result
-overflow_cast-result c = search due_fits
+overflow_cast-result c = record { fits = omega (arith, due_few _ _ _ _ _ c.in_ok-n.ensures.due) }
 
 pub returns : goal.returns
-returns c = record { did = search plays_all; sheet_bytes = λ i. (c.slice_known-1.given i).fits; trace_bytes = λ i. (c.type_inv.trace i).fits }
+returns c =
+    record {
+      did = plays_all _ _ _ _ _ _ _ _ _ _ c.in_ok-n.ensures.refused c.in_ok-n.ensures.due c.play_events-after.ensures;
+      sheet_bytes = λ i. (c.slice_known-1.given i).fits;
+      trace_bytes = λ i. (c.type_inv.trace i).fits;
+    }

@@ -1,10 +1,6 @@
 -- `playback::rules::walk` meets its contract. Assumes nothing.
-use Rattle.octets.proofs.Kit.{◌-◌}
 use Rattle.playback.proofs.{Walking.{Walked}}
 use Rattle.playback.proofs.rules.walk.Given as goal
 
 abbrev pub invariant-loop-i : goal.invariant-loop-i
 invariant-loop-i l = Walked l.t l.n l.i l.z
-
-abbrev pub decreases-loop-i : goal.decreases-loop-i
-decreases-loop-i l = l.n - l.i

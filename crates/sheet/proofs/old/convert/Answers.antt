@@ -1,13 +1,13 @@
 -- `sheet::old::convert` meets its contract.
-use Rattle.octets.proofs.Kit.{arith}
-use Rattle.sheet.proofs.{promises.Converting.{not_converted, was_converted, convert_room}}
+use Rattle.octets.proofs.Kit.{refl, lit≤}
+use Rattle.sheet.proofs.promises.Converting.{not_converted, was_converted, convert_room}
 use Rattle.sheet.proofs.old.convert.Goals as goal
 
-pub returns-then-check-ne-OLD : goal.returns-then-check-ne-OLD
-returns-then-check-ne-OLD c = search not_converted
+pub returns-then-not-is_old : goal.returns-then-not-is_old
+returns-then-not-is_old c = not_converted _ (λ o. let no = c.if-not-is_old.ensures.1 o in cc)
 
 pub put-requires : goal.put-requires
-put-requires c = search (convert_room, arith)
+put-requires c = (convert_room _ (c.if-not-is_old.ensures.0 refl), lit≤ tt)
 
 pub returns : goal.returns
-returns c = search was_converted
+returns c = was_converted _ _ (c.if-not-is_old.ensures.0 refl) c.put.ensures

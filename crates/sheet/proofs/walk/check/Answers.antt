@@ -1,13 +1,13 @@
 -- `sheet::walk::check` meets its contract.
-use Rattle.octets.proofs.Kit.{rules}
-use Rattle.sheet.proofs.{promises.Verdicts.{says_rule, says_old, says_accepted}}
+use Rattle.octets.proofs.Kit.{refl, ◌∙◌}
+use Rattle.sheet.proofs.{rules.Faults.{err_told, some_fault}, promises.Verdicts.{says_rule, says_old, says_accepted}}
 use Rattle.sheet.proofs.walk.check.Goals as goal
 
-pub returns-then-rule-ne0 : goal.returns-then-rule-ne0
-returns-then-rule-ne0 c = search says_rule
+pub returns-in_err-first_broken : goal.returns-in_err-first_broken
+returns-in_err-first_broken c = err_told _ _ c.from_residual.ensures ∙ says_rule _ _ c.in_err-first_broken.ensures (some_fault _)
 
 pub returns-then-byte-eq1 : goal.returns-then-byte-eq1
-returns-then-byte-eq1 c = search (says_old, rules)
+returns-then-byte-eq1 c = says_old _ _ c.in_ok-first_broken.ensures refl _ c.byte.ensures.value c.if-byte-eq1.true
 
 pub returns : goal.returns
-returns c = search (says_accepted, rules)
+returns c = says_accepted _ _ c.in_ok-first_broken.ensures refl _ c.byte.ensures.value c.if-byte-eq1.false

@@ -1,18 +1,14 @@
 -- `sheet::walk::first_broken` meets its contract.
-use Rattle.sheet.proofs.{rules.Rules.{framed, in_frame, in_zeros, in_walk}}
+use Rattle.octets.proofs.Kit.{refl, ◌∙◌}
+use Rattle.sheet.proofs.rules.{Faults.{err_told, some_fault}, Rules.{in_frame, in_zeros, in_walk}}
 use Rattle.sheet.proofs.walk.first_broken.Goals as goal
 
-pub returns-then-frame-ne0 : goal.returns-then-frame-ne0
-returns-then-frame-ne0 c = search in_frame
+pub returns-in_err-frame_rule : goal.returns-in_err-frame_rule
+returns-in_err-frame_rule c = err_told _ _ c.from_residual.ensures ∙ in_frame _ _ c.in_err-frame_rule.ensures (some_fault _)
 
-pub zero_rule-zeros-requires : goal.zero_rule-zeros-requires
-zero_rule-zeros-requires c = search framed
-
-pub returns-then-zeros-ne0 : goal.returns-then-zeros-ne0
-returns-then-zeros-ne0 c = search in_zeros
-
-pub walk-requires : goal.walk-requires
-walk-requires c = search framed
+pub returns-in_err-zero_rule : goal.returns-in_err-zero_rule
+returns-in_err-zero_rule c =
+    err_told _ _ c.from_residual-in_err-zero_rule.ensures ∙ in_zeros _ _ _ c.in_ok-frame_rule.ensures refl c.in_err-zero_rule.ensures (some_fault _)
 
 pub returns : goal.returns
-returns c = search in_walk
+returns c = in_walk _ _ _ _ c.in_ok-frame_rule.ensures refl c.in_ok-zero_rule.ensures refl c.walk.ensures

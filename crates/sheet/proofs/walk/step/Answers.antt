@@ -1,44 +1,21 @@
 -- `sheet::walk::step` meets its contract.
-use Rattle.octets.proofs.Kit.{◌≡◌, rules, arith}
-use Rattle.sheet.proofs.{rules.{Entries.place_near, Rules.{entry_there, place_there, says_region, says_property, says_group, says_user}}}
+use Rattle.octets.proofs.Kit.{ap}
+use Rattle.sheet.specs.Kind.{number_of}
+use Rattle.sheet.proofs.rules.Rules.{says_region, says_property, says_group, says_user}
 use Rattle.sheet.proofs.walk.step.Goals as goal
 
-pub part-requires : goal.part-requires
-part-requires c = search (entry_there, place_there)
+pub returns-in-Regions : goal.returns-in-Regions
+returns-in-Regions c =
+    says_region _ (number_of c.args.kind) _ _ _ _ _ _ _ c.requires.1 c.requires.2 (ap number_of c.in-Regions.is) c.part.ensures.is c.region_step.ensures
 
-pub region_step-requires : goal.region_step-requires
-region_step-requires c = search (place_near, rules)
+pub returns-in-Properties : goal.returns-in-Properties
+returns-in-Properties c =
+    says_property _ (number_of c.args.kind) _ _ _ _ _ _ _ c.requires.1 c.requires.2 (ap number_of c.in-Properties.is) c.part-in-Properties.ensures.is c.property_step.ensures
 
-pub part-requires-in-1 : goal.part-requires-in-1
-part-requires-in-1 c = search (entry_there, place_there)
+pub returns-in-Groups : goal.returns-in-Groups
+returns-in-Groups c =
+    says_group _ (number_of c.args.kind) _ _ _ _ _ _ _ c.requires.1 c.requires.2 (ap number_of c.in-Groups.is) c.part-in-Groups.ensures.is c.group_step.ensures
 
-pub property_step-requires : goal.property_step-requires
-property_step-requires c = search (place_near, rules)
-
-pub part-requires-in-2 : goal.part-requires-in-2
-part-requires-in-2 c = search (entry_there, place_there)
-
-pub group_step-requires : goal.group_step-requires
-group_step-requires c = search (place_near, rules)
-
-pub part-requires-in_default : goal.part-requires-in_default
-part-requires-in_default c =
-    let e : c.args.k ≡ 3 = omega (arith, c.in_default.in_default-own.rest, c.requires.0.kind) in
-    search (entry_there, place_there)
-
-pub region_step-requires-in_default : goal.region_step-requires-in_default
-region_step-requires-in_default c = search (place_near, rules)
-
-pub returns-in-0 : goal.returns-in-0
-returns-in-0 c = search says_region
-
-pub returns-in-1 : goal.returns-in-1
-returns-in-1 c = search says_property
-
-pub returns-in-2 : goal.returns-in-2
-returns-in-2 c = search says_group
-
-pub returns-in_default : goal.returns-in_default
-returns-in_default c =
-    let e : c.args.k ≡ 3 = omega (arith, c.in_default.in_default-own.rest, c.requires.0.kind) in
-    search says_user
+pub returns-in-Users : goal.returns-in-Users
+returns-in-Users c =
+    says_user _ (number_of c.args.kind) _ _ _ _ _ _ _ c.requires.1 c.requires.2 (ap number_of c.in-Users.is) c.part-in-Users.ensures.is c.region_step-in-Users.ensures

@@ -1,9 +1,6 @@
 -- `tool::frames::write` meets its contract. Assumes nothing.
-use Rattle.tool.proofs.{Framing.{few_framed, wrote_framed}}
+use Rattle.tool.proofs.{Framing.few_framed}
 use Rattle.tool.proofs.frames.write.Goals as goal
 
 pub count-requires : goal.count-requires
 count-requires c = search few_framed
-
-pub returns : goal.returns
-returns c = search wrote_framed

@@ -1,24 +1,27 @@
 -- `versions::listing::kept` meets its contract.
 use Rattle.octets.specs.Octets.{Octets}
-use Rattle.versions.proofs.{promises.Lists.{bad_listed, listed_head, past_listed, number_room, long_room, some_listed}}
+use Rattle.versions.proofs.{promises.Lists.{bad_listed, listed_head, past_listed, row_room, number_room, long_room, some_listed}}
 use Rattle.versions.proofs.listing.kept.Goals as goal
 
-pub returns-then-check-ne0 : goal.returns-then-check-ne0
-returns-then-check-ne0 c = search bad_listed
-
-pub word-n-requires : goal.word-n-requires
-word-n-requires c = search listed_head
-
-pub returns-then-n-k : goal.returns-then-n-k
-returns-then-n-k c = search past_listed
+pub returns-in_default : goal.returns-in_default
+returns-in_default c = bad_listed _ _ _ c.in_default.ensures
 
 pub word-requires : goal.word-requires
-word-requires c = search number_room
+word-requires c = listed_head _ c.args.k c.in-Ok.ensures
+
+pub returns-then-word-k : goal.returns-then-word-k
+returns-then-word-k c = past_listed _ _ c.in-Ok.ensures _ c.word.ensures c.if-word-k.true
+
+pub table_end-p-requires : goal.table_end-p-requires
+table_end-p-requires c = row_room _ _ c.in-Ok.ensures _ c.word.ensures c.if-word-k.false
 
 pub word-requires-2 : goal.word-requires-2
-word-requires-2 c = search long_room
+word-requires-2 c = number_room _ _ c.in-Ok.ensures _ c.word.ensures _ c.table_end-p.ensures c.if-word-k.false
+
+pub word-requires-3 : goal.word-requires-3
+word-requires-3 c = long_room _ _ c.in-Ok.ensures _ c.word.ensures _ c.table_end-p.ensures c.if-word-k.false
 
 pub returns : goal.returns
 returns c =
     let b : Octets c.args.store.now = λ i. (c.type_inv.store i).fits in
-    search some_listed
+    some_listed _ _ c.in-Ok.ensures _ c.word.ensures _ c.table_end-p.ensures _ _ b c.if-word-k.false c.word-2.ensures c.word-3.ensures

@@ -7,7 +7,7 @@ use Rattle.versions.proofs.removing.take_out.Goals as goal
 pub close_up-requires : goal.close_up-requires
 close_up-requires c =
     let b : Octets c.args.s.now = λ i. search rules in
-    take_needs _ _ _ _ _ _ c.requires c.word-a.ensures c.word-l.ensures c.bodies_end-end.ensures b
+    take_needs _ _ _ _ _ _ c.requires _ c.table_end-p.ensures c.word-a.ensures c.word-l.ensures c.bodies_end-end.ensures b
 
 pub returns : goal.returns
 returns c = search take_steps

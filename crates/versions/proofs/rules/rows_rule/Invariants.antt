@@ -1,10 +1,6 @@
 -- `versions::rules::rows_rule` meets its contract: what is left to judge gives what all rows give.
-use Rattle.octets.proofs.Kit.{◌-◌}
 use Rattle.versions.proofs.{Rows.{Walked}}
 use Rattle.versions.proofs.rules.rows_rule.Given as goal
 
 abbrev pub invariant-loop-i : goal.invariant-loop-i
-invariant-loop-i l = Walked l.s l.n l.i l.p l.floor l.at
-
-abbrev pub decreases-loop-i : goal.decreases-loop-i
-decreases-loop-i l = l.n - l.i
+invariant-loop-i l = Walked l.s l.n l.i l.floor l.at

@@ -19,4 +19,4 @@ splice-requires-2 c =
     omega (arith, room_bodies a.sheet.now a.x c.requires.0 a.s.now a.at c.requires.1)
 
 pub returns : goal.returns
-returns c = search settings_put
+returns c = settings_put _ _ c.requires.0 _ _ c.requires.1 _ _ _ _ c.put.ensures c.splice.ensures c.entry_at.ensures c.splice-2.ensures

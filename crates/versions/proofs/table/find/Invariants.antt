@@ -1,10 +1,6 @@
 -- `versions::table::find` meets its contract. The invariant: no row passed has the number.
-use Rattle.octets.proofs.Kit.{◌-◌}
 use Rattle.versions.proofs.{Loops.{Sought}}
 use Rattle.versions.proofs.table.find.Given as goal
 
 abbrev pub invariant-loop-i : goal.invariant-loop-i
 invariant-loop-i l = Sought l.s l.n l.number l.i
-
-abbrev pub decreases-loop-i : goal.decreases-loop-i
-decreases-loop-i l = l.n - l.i

@@ -1,6 +1,0 @@
--- `device::session::disconnect` meets its contract.
-use Rattle.device.proofs.{calls.Turns.named_both}
-use Rattle.device.proofs.session.disconnect.Goals as goal
-
-pub returns : goal.returns
-returns c = search named_both

@@ -1,9 +1,0 @@
--- `host::bus::sent_by` meets its contract. Assumes nothing.
-use Rattle.host.proofs.{Buses.{of_read_lem, of_unread}}
-use Rattle.host.proofs.bus.sent_by.Goals as goal
-
-pub returns-in-Is : goal.returns-in-Is
-returns-in-Is c = search of_read_lem
-
-pub returns-in-Refused : goal.returns-in-Refused
-returns-in-Refused c = search of_unread

@@ -1,9 +1,0 @@
--- `lines::find` meets its contract. The invariant: the place reached is not before the first.
-use Rattle.std.proofs.Common.{◌-◌, ◌≤◌, length}
-use Rattle.lines.proofs.find.Given as goal
-
-abbrev pub invariant-loop-i : goal.invariant-loop-i
-invariant-loop-i l = l.from ≤ l.i
-
-abbrev pub decreases-loop-i : goal.decreases-loop-i
-decreases-loop-i l = length l.s - l.i
