@@ -71,9 +71,9 @@ while IFS= read -r line; do
     grep -qxF -- "$line" docs/TRACE.md || { echo "same: README explains what TRACE.md does not: $line"; bad=1; }
 done < "$work/explained"
 
-# README is one screen and a little more; no line of a document is a page, but for those of PORT.md and DESIGN-PASS.md, which set old beside new
+# README is one screen and a little more; no line of a document is a page, but for those of PORT.md, which set old beside new
 [ "$(wc -w < README.md)" -le 1200 ] || { echo "same: README has $(wc -w < README.md) words, above 1,200"; bad=1; }
-LC_ALL=C awk 'length > 600 && FILENAME != "docs/PORT.md" && FILENAME != "docs/DESIGN-PASS.md" { print "same: " FILENAME ":" FNR " has " length " bytes, above 600"; bad = 1 } END { exit bad }' README.md docs/*.md || bad=1
+LC_ALL=C awk 'length > 600 && FILENAME != "docs/PORT.md" { print "same: " FILENAME ":" FNR " has " length " bytes, above 600"; bad = 1 } END { exit bad }' README.md docs/*.md || bad=1
 
 # what links into the glossary finds its entry there, each entry can be linked, and whoever begins with a guide is led there
 for at in $(grep -ohE 'GLOSSARY\.md#[^)]*' README.md docs/*.md | sed 's/.*#//' | sort -u); do
