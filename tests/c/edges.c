@@ -79,12 +79,21 @@ static void zero(void)
     printf(", remove: %d\n", hear(bus, 2000));
 }
 
+/* Whether the host has taken what was sent on a line before: it answers one who asks for a version, by 11 to who may not. */
+static bool taken(int bus)
+{
+    const uint8_t removes[BUS_VERSION] = { BUS_REMOVE, 0, 0, 1 };
+    return send(bus, removes, sizeof removes, 0) == BUS_VERSION && hear(bus, 2000) == 11;
+}
+
 static void silence(void)
 {
     int two[2] = { line_to(), line_to() }, third = line_to();
     double start = now();
     for (int i = 0; i < 2; i++)
         put(two[i], (uint8_t)(0xE1 + i), opens, 1);
+    if (!taken(two[0]) || !taken(two[1])) /* of lines that wait at once the host takes the third first */
+        printf("two: not taken, ");
     put(third, 0xE3, opens, 1);
     printf("third: %02x, ", (unsigned)hear(third, 2000));
     unsigned a = (unsigned)hear(two[0], 9000), b = (unsigned)hear(two[1], 9000);

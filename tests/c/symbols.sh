@@ -1,8 +1,8 @@
 #!/usr/bin/env bash
 # tests/c/symbols.sh HEADER.. ARCHIVE: the archive defines exactly the functions that its headers declare, inline ones apart,
-# and needs from outside at most memcpy, memset, memmove and memcmp. An archive for another processor than x86-64 also has what
-# is below the shim (kelindap_module_), and for a controller Arm's names for memcpy and the like; the compiler's own library has
-# those for which an Arm may have no instruction, a product of 64 bits and quotients.
+# and needs from outside at most memcpy, memset, memmove and memcmp; on x86-64, where a header says which, those alone. An archive
+# for another processor also has what is below the shim (kelindap_module_), and for a controller Arm's names for memcpy and the
+# like; the compiler's own library has those for which an Arm may have no instruction, a product of 64 bits and quotients.
 set -euo pipefail
 export LC_ALL=C
 archive=${*: -1} headers=("${@:1:$#-1}")
@@ -16,6 +16,10 @@ awk 'NF == 3 { print $3 }' "$work/nm-defined" | sort > "$work/all"
 grep -v '^kelindap_module_\|^__aeabi_mem' "$work/all" > "$work/defined"
 awk 'NF == 2 { print $2 }' "$work/nm-wanted" | sort -u | comm -23 - "$work/all" > "$work/wanted"
 printf '%s\n' __aeabi_idiv __aeabi_lmul __aeabi_uidiv memcmp memcpy memmove memset > "$work/allowed"
+readelf -h "$archive" > "$work/heads"
+if said=$(grep -oh 'On x86-64 it needs [a-z ]* from outside' "${headers[@]}") && grep -q 'Machine:.*X86-64' "$work/heads"; then
+    { grep -o '\bmem[a-z]*' <<< "$said" || true; } | sort > "$work/allowed"
+fi
 
 bad=0
 complain() { # MESSAGE, names on standard input

@@ -23,9 +23,11 @@ impl fmt::Display for Shown<'_> {
         write!(f, " open={open} level={level}")?;
         let (open, level) = (u8::from(second.opened), second.level);
         write!(f, " open1={open} level1={level}")?;
-        for (i, (b, old)) in self.sheet.iter().zip(self.base).enumerate() {
-            if b != old {
-                write!(f, " {i}={b:02x}")?;
+        let (sheet, base) = (self.sheet, self.base);
+        for i in 0..sheet.len().min(base.len()) {
+            if sheet[i] != base[i] {
+                let byte = Hex(&sheet[i..i + 1]);
+                write!(f, " {i}={byte}")?;
             }
         }
         Ok(())

@@ -5,6 +5,11 @@ use crate::digits;
 use arrayvec::ArrayVec;
 use std::fmt;
 
+// The small digit of a number below 16. By `{b:02x}` each byte takes a hundred instructions more.
+fn digit(x: u8) -> char {
+    char::from(if x < 10 { b'0' + x } else { b'a' - 10 + x % 16 })
+}
+
 #[derive(Clone, Copy)]
 pub struct Hex<'a>(pub &'a [u8]);
 
@@ -14,7 +19,8 @@ impl fmt::Display for Hex<'_> {
             return write!(f, "-");
         }
         for b in self.0 {
-            write!(f, "{b:02x}")?;
+            f.write_char(digit(b / 16))?;
+            f.write_char(digit(b % 16))?;
         }
         Ok(())
     }

@@ -1,5 +1,6 @@
--- The loop that stores a number byte by byte, as its needs ask.
-use Rattle.octets.proofs.Kit.{ℕ, suc, ◌+◌, ◌-◌, ◌/◌, ◌%◌, ◌≤◌, ◌<◌, ◌≡◌, refl, ap, sym, ◌∙◌, List, [], ◌∷◌, ◌++◌, add-zero, arith, length, set, sets, sets-eq, set_comm}
+-- Loops that store a run, as their needs ask.
+use Rattle.octets.proofs.Kit.{ℕ, suc, ◌+◌, ◌-◌, ◌/◌, ◌%◌, ◌≤◌, ◌<◌, ◌≡◌, refl, ap, sym, ◌∙◌, List, [], ◌∷◌, ◌++◌, add-zero, arith, add-one, length, set, get_or, sets, sets-eq, set_comm}
+use Rattle.octets.proofs.Kit.{paste, paste-suc, take-length}
 use Rattle.octets.specs.{Bytes.bytes_of, Splice.splice}
 use Rattle.octets.proofs.Numbers.{length_bytes}
 
@@ -35,3 +36,13 @@ unfolding bytes_of splice
 put_end o o₀ at i y w x h fits inv =
     let e : i ≡ 0 = omega arith in
     rw e at inv ∙ sets-eq (bytes_of w x) o₀ at (omega (arith, length_bytes w x))
+
+-- A RUN PASTED IN from its first byte on: one byte more, and all of them
+module _ (s run : List ℕ) (at : ℕ) where
+  pub paste_more :
+      (d : List ℕ) (j b : ℕ) → at + length run ≤ length s → j < length run → get_or run j 0 ≡ b → d ≡ paste s at run j → set d (at + j) b ≡ paste s at run (j + 1)
+  paste_more d j b h l e inv = rw (inv, ← e, add-one j) (paste-suc s at run j 0 (omega arith) l)
+
+  pub paste_all : (d : List ℕ) (j : ℕ) → d ≡ paste s at run j → j ≡ length run → d ≡ splice s at run
+  unfolding splice
+  paste_all d j inv e = inv ∙ ap (paste s at run) e ∙ simp take-length

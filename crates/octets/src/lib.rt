@@ -36,13 +36,15 @@ pub fn number(s: &[u8], at: usize, w: usize) -> u64
     x
 }
 
-// dst with the bytes from a place on replaced by src's.
-#[tactic(auto, unfolding(crate::specs::Splice::splice))]
+// dst with the bytes from a place on replaced by src's. Copied and moved here byte by byte: the library's copies become calls of
+// memmove, which the archives for C would ask of their host.
 pub fn splice(dst: &mut [u8], at: usize, src: &[u8])
     requires { at + length src.now ≤ length dst.old }
     ensures { dst.new ≡ spliced dst.old at src.now }
 {
-    dst[at..at + src.len()].copy_from_slice(src);
+    for j in 0..src.len() {
+        dst[at + j] = src[j];
+    }
 }
 
 // dst with the n bytes from a place on replaced by b.
@@ -66,11 +68,34 @@ pub fn put(dst: &mut [u8], at: usize, w: usize, x: u64)
     }
 }
 
+// The n bytes at `from` moved down to `to`: the first byte first.
+fn move_down(s: &mut [u8], from: usize, to: usize, n: usize)
+    requires { (to ≤ from) × (from + n ≤ length s.old) }
+    ensures { s.new ≡ moved s.old from to n }
+{
+    for j in 0..n {
+        s[to + j] = s[from + j];
+    }
+}
+
+// The n bytes at `from` moved up to `to`: the last byte first.
+fn move_up(s: &mut [u8], from: usize, to: usize, n: usize)
+    requires { (from ≤ to) × (to + n ≤ length s.old) }
+    ensures { s.new ≡ moved s.old from to n }
+{
+    for j in (0..n).rev() {
+        s[to + j] = s[from + j];
+    }
+}
+
 // s with the n bytes that stand at `from` also at `to`, up or down, though old and new place may overlap.
-#[tactic(auto, unfolding(crate::specs::Splice::splice, crate::specs::Moved::moved))]
 pub fn shift(s: &mut [u8], from: usize, to: usize, n: usize)
     requires { (from + n ≤ length s.old) × (to + n ≤ length s.old) }
     ensures { s.new ≡ moved s.old from to n }
 {
-    s.copy_within(from..from + n, to);
+    if to <= from {
+        move_down(s, from, to, n);
+    } else {
+        move_up(s, from, to, n);
+    }
 }

@@ -3,10 +3,8 @@ use Rattle.octets.proofs.Kit.{min, dec_lt}
 use Rattle.octets.proofs.Kit.{ℕ, ◌≤◌, ◌<◌, ◌≡◌, refl, sym, ap, subst, ◌∙◌, Bool, true, false, cond, not, List, arith, ltb, eqb, length, lt-ltb, le-ltb, ltb-false, eq-eqb, ne_eqb, eqb-true}
 use Rattle.std.proofs.Common.{Option, Some, None, Result, Ok, Err}
 use Rattle.std.specs.Prelude.{IsErrAnd}
-use Rattle.sheet.specs.{declared.Refused.Refused, Refused.{number_of as sheet_number}}
-use Rattle.sheet.specs.declared.Refused.TheVariants as sheet
-use Rattle.judge.specs.{declared.Refusal.Refusal, Refusal.{number_of, told}}
-use Rattle.judge.specs.declared.Refusal.TheVariants.{NotForUs, Room, Bad, Length, Mode, Unconnected, Service, OtherMode, Fields, Denied, Silent, Old}
+use Rattle.plain_services.specs.{declared.Refusal.Refusal, Refusal.{number_of, told}}
+use Rattle.plain_services.specs.declared.Refusal.TheVariants.{NotForUs, Room, Bad, Length, Mode, Unconnected, Service, OtherMode, Fields, Denied, Silent, Old}
 use Rattle.octets.proofs.{Truths.never, Tests.{both, not_first_lem, not_second_lem}}
 use Rattle.sheet.{specs.{Head.rules_of, Rules.{Accepted, refusal_of}}, proofs.promises.Verdicts.not_refused}
 use Rattle.pdu.specs.declared.Service as pdu
@@ -192,11 +190,10 @@ never_0 Denied q = absurd (omega arith)
 never_0 Silent q = absurd (omega arith)
 never_0 Old q = absurd (omega arith)
 
--- the refusal of a sheet, by the name that a request has for it
-pub told_as : (y : Result (Unit {0}) Refusal) (e : Refused) → IsErrAnd y (λ r. number_of r ≡ sheet_number e) → (told y ≡ sheet_number e) × (told y ≡ 0 → ⊥)
+-- a refusal of a sheet, handed on
+pub told_as : (y : Result (Unit {0}) Refusal) (e : Refusal) → IsErrAnd y (λ r. r ≡ e) → (told y ≡ number_of e) × (told y ≡ 0 → ⊥)
 told_as (Ok u) e h = absurd h
-told_as (Err r) sheet.Bad h = (h, λ q. absurd (omega arith))
-told_as (Err r) sheet.Old h = (h, λ q. absurd (omega arith))
+told_as (Err r) e h = rw h (refl, never_0 e)
 
 -- the smaller of a level and 3
 pub least_level : (q : Session) (mode : ℕ) → mode ≡ 3 → min q.level 3 ≡ level_in q mode

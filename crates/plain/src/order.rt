@@ -1,14 +1,27 @@
 // The outcomes 3 to 9 and 14, in their order; the level that a request acts at.
 ghost use Rattle.std.specs.Prelude.{◌≡◌, length};
 ghost use Rattle.sheet.specs.Rules.{refusal_of};
-ghost use Rattle.judge.specs.Refusal.{told};
 ghost use Rattle.judge.specs.Session.{level_in};
 ghost use Rattle.judge.specs.Modes.{reach_of, takes};
 ghost use Rattle.judge.specs.Judge.{is_shut};
+ghost use Rattle.plain_services.specs.Refusal.{told};
 ghost use Rattle.plain.specs.Order.{first_of, next_of};
 
-use judge::{Refusal, Session};
+use judge::Session;
 use pdu::Service;
+use plain_check::Refused;
+use plain_services::Refusal;
+
+// 4 or 14: what refuses the sheet refuses the request.
+fn refused_sheet(sheet: &[u8]) -> Result<(), Refusal>
+    ensures { told result ≡ refusal_of sheet.now }
+{
+    match plain_check::refusal(sheet) {
+        Ok(()) => Ok(()),
+        Err(Refused::Bad) => Err(Refusal::Bad),
+        Err(Refused::Old) => Err(Refusal::Old),
+    }
+}
 
 // 3, 4 or 14, 5, 6 and 7, in this order.
 pub fn refused_first(
@@ -23,7 +36,7 @@ pub fn refused_first(
     if room < 16 {
         return Err(Refusal::Room);
     }
-    plain_check::refusal(sheet)?;
+    refused_sheet(sheet)?;
     if apdu.len() < 2 || 16 < apdu.len() {
         return Err(Refusal::Length);
     }
@@ -42,34 +55,34 @@ fn is_taken(service: Service, rules: u8, mode: u8) -> bool
     ensures { result ≡ takes (reach_of rules service) mode }
 {
     match service {
-        Service::GroupValueRead | Service::GroupValueResponse | Service::GroupValueWrite => {
-            mode == 0
-        }
-        Service::IndividualAddressWrite
-        | Service::IndividualAddressRead
-        | Service::SerialNumberRead
-        | Service::SerialNumberWrite => mode == 1,
-        Service::DeviceDescriptorRead
-        | Service::PropertyValueRead
-        | Service::PropertyValueWrite
-        | Service::PropertyDescriptionRead => mode == 2 || mode == 3,
-        Service::MemoryRead
-        | Service::MemoryWrite
-        | Service::MemoryBitWrite
-        | Service::AuthorizeRequest
-        | Service::KeyWrite
-        | Service::UserMemoryRead
-        | Service::UserMemoryWrite => mode == 3,
+        Service::GroupValueRead => mode == 0,
+        Service::GroupValueResponse => mode == 0,
+        Service::GroupValueWrite => mode == 0,
+        Service::IndividualAddressWrite => mode == 1,
+        Service::IndividualAddressRead => mode == 1,
+        Service::SerialNumberRead => mode == 1,
+        Service::SerialNumberWrite => mode == 1,
+        Service::DeviceDescriptorRead => mode == 2 || mode == 3,
+        Service::PropertyValueRead => mode == 2 || mode == 3,
+        Service::PropertyValueWrite => mode == 2 || mode == 3,
+        Service::PropertyDescriptionRead => mode == 2 || mode == 3,
+        Service::MemoryRead => mode == 3,
+        Service::MemoryWrite => mode == 3,
+        Service::MemoryBitWrite => mode == 3,
+        Service::AuthorizeRequest => mode == 3,
+        Service::KeyWrite => mode == 3,
         Service::Restart => mode == 3 || mode == 2 && rules == 1,
-        Service::IndividualAddressResponse
-        | Service::SerialNumberResponse
-        | Service::DeviceDescriptorResponse
-        | Service::PropertyValueResponse
-        | Service::PropertyDescriptionResponse
-        | Service::MemoryResponse
-        | Service::AuthorizeResponse
-        | Service::KeyResponse
-        | Service::UserMemoryResponse => false,
+        Service::IndividualAddressResponse => false,
+        Service::SerialNumberResponse => false,
+        Service::DeviceDescriptorResponse => false,
+        Service::PropertyValueResponse => false,
+        Service::PropertyDescriptionResponse => false,
+        Service::MemoryResponse => false,
+        Service::AuthorizeResponse => false,
+        Service::KeyResponse => false,
+        Service::UserMemoryRead => mode == 3,
+        Service::UserMemoryResponse => false,
+        Service::UserMemoryWrite => mode == 3,
     }
 }
 

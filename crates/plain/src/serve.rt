@@ -4,13 +4,12 @@ ghost use Rattle.judge.specs.Judge.{decide_of};
 ghost use Rattle.plain_services.specs.Steps.{Held, Serves};
 ghost use Rattle.plain.specs.Carrying.{ReadAs};
 
-use judge::Refusal;
 use parts::Parts;
 use pdu::Pdu;
 use plain_services::{
-    Reply, address_read, address_write, authorize, bit_write, description, descriptor, group_put,
-    group_read, key_write, memory_read, memory_write, property_read, property_write, refused,
-    restart, serial_read, serial_write,
+    Refusal, Reply, address_read, address_write, authorize, bit_write, description, descriptor,
+    group_put, group_read, key_write, memory_read, memory_write, property_read, property_write,
+    refused, restart, serial_read, serial_write,
 };
 use sheet::Memory;
 
@@ -40,16 +39,16 @@ pub fn serve(u: Parts, level: u8, group: u16, d: &[u8], p: Pdu) -> Reply
         Pdu::AuthorizeRequest { key } => authorize(u, key),
         Pdu::KeyWrite { level: named, key } => key_write(u, level, named, key),
         Pdu::Restart => restart(u),
+        Pdu::IndividualAddressResponse => refused(u, Refusal::Service),
+        Pdu::SerialNumberResponse { .. } => refused(u, Refusal::Service),
+        Pdu::DeviceDescriptorResponse { .. } => refused(u, Refusal::Service),
+        Pdu::PropertyValueResponse { .. } => refused(u, Refusal::Service),
+        Pdu::PropertyDescriptionResponse { .. } => refused(u, Refusal::Service),
+        Pdu::MemoryResponse { .. } => refused(u, Refusal::Service),
+        Pdu::AuthorizeResponse { .. } => refused(u, Refusal::Service),
+        Pdu::KeyResponse { .. } => refused(u, Refusal::Service),
         Pdu::UserMemoryRead { n, address } => memory_read(u, Memory::User, level, n, address),
+        Pdu::UserMemoryResponse { .. } => refused(u, Refusal::Service),
         Pdu::UserMemoryWrite { n, address } => memory_write(u, Memory::User, level, n, address, d),
-        Pdu::IndividualAddressResponse
-        | Pdu::SerialNumberResponse { .. }
-        | Pdu::DeviceDescriptorResponse { .. }
-        | Pdu::PropertyValueResponse { .. }
-        | Pdu::PropertyDescriptionResponse { .. }
-        | Pdu::MemoryResponse { .. }
-        | Pdu::AuthorizeResponse { .. }
-        | Pdu::KeyResponse { .. }
-        | Pdu::UserMemoryResponse { .. } => refused(u, Refusal::Service),
     }
 }

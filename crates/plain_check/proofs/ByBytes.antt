@@ -3,7 +3,7 @@ use Rattle.octets.proofs.Kit.{ℕ, zero, suc, ◌+◌, ◌-◌, ◌≤◌, ◌<�
 use Rattle.octets.specs.Bytes.{num_at}
 use Rattle.sheet.specs.{Demand.Met, Layout.{Field, field, ◌of◌}, Entries.{size, place, entry, floor, offset_of, reached, six_bits}}
 use Rattle.sheet.{specs.Rules.{region_demands, property_demands, group_demands, entry_demands, body_demands}, proofs.places.Standing.field_at}
-use Rattle.sheet.specs.{declared.Kind.{Kind, TheVariants.{Regions, Properties, Groups, Users}}, Kind.number_of}
+use Rattle.plain_check.specs.{declared.Kind.{Kind, TheVariants.{Regions, Properties, Groups, Users}}, Kind.number_of}
 use Rattle.sheet.specs.Region as region
 use Rattle.sheet.specs.Property as property
 use Rattle.sheet.specs.Group as group

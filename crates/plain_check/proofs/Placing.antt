@@ -2,7 +2,7 @@
 use Rattle.octets.proofs.Kit.{ℕ, ◌+◌, ◌*◌, ◌≤◌, max, ◌≡◌, sym, ap, ap₂, ◌∙◌, List, ◌⊎◌, inl, inr, get_or, get_or-take, get_or-drop, mul-le-mul, arith}
 use Rattle.octets.{specs.Bytes.{num_at, IsNum}, proofs.Numbers.num_same}
 use Rattle.sheet.specs.Entries.{size}
-use Rattle.sheet.specs.{declared.Kind.{Kind, TheVariants.{Regions, Properties, Groups, Users}}, Kind.number_of}
+use Rattle.plain_check.specs.{declared.Kind.{Kind, TheVariants.{Regions, Properties, Groups, Users}}, Kind.number_of}
 use Rattle.plain_check.specs.Tests.{entry_at, Starts, Long}
 
 -- a byte times a word

@@ -3,7 +3,7 @@ use Rattle.octets.proofs.Kit.{ℕ, zero, suc, ◌+◌, ◌≤◌, ◌<◌, ◌�
 use Rattle.octets.proofs.Truths.{never}
 use Rattle.sheet.specs.{Demand.Met, Entries.{count, place, entry, body_end, start_of, reached}, Rules.{entry_demands, body_demands}, Plain.{S6, S7, S8, S9}}
 use Rattle.sheet.proofs.rules.{PlainRows.{to6, from6, to7, from7, to8, from8, to9, from9}, ByKind.each_kind}
-use Rattle.sheet.specs.{declared.Kind.TheVariants.{Regions, Properties, Groups, Users}, Kind.number_of}
+use Rattle.plain_check.specs.{declared.Kind.TheVariants.{Regions, Properties, Groups, Users}, Kind.number_of}
 use Rattle.plain_check.specs.{Says.Says, Tests.{Counted, Placed, Starts, Long, BodyAt}}
 use Rattle.plain_check.proofs.{Saying.{says_map}, ByBytes.body_kept}
 

@@ -1,2 +1,4 @@
+pub mod Kind
+pub mod Refused
 pub mod Says
 pub mod Tests

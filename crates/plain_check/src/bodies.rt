@@ -1,14 +1,14 @@
 // S9, of the bodies; and S6 to S9 over all entries.
 ghost use Rattle.std.specs.Prelude.{◌<◌};
-ghost use Rattle.sheet.specs.Kind.{number_of};
+ghost use Rattle.plain_check.specs.Kind.{number_of};
 ghost use Rattle.sheet.specs.Plain.{S6, S7, S8, S9};
 ghost use Rattle.plain_check.specs.Says.{Says};
 ghost use Rattle.plain_check.specs.Tests.{Starts, Long, BodyAt};
 
+use crate::Kind;
 use crate::entries::keeps_its_rule;
 use crate::places::{count, place, word};
 use octets::byte;
-use sheet::Kind;
 
 // That a place is below 13,000 stays a clause, for sums that fit: it is a number on the way, and no value that is kept.
 // Where the body of the entry of a kind that stands at `at` starts.

@@ -2,15 +2,15 @@
 // it: what stands there, of the head or of another kind, is read for nothing.
 ghost use Rattle.std.specs.Prelude.{◌≤◌, ◌<◌};
 ghost use Rattle.sheet.specs.Demand.{Met};
-ghost use Rattle.sheet.specs.Kind.{number_of};
+ghost use Rattle.plain_check.specs.Kind.{number_of};
 ghost use Rattle.sheet.specs.Plain.{Levels};
 ghost use Rattle.sheet.specs.Rules.{entry_demands};
 ghost use Rattle.plain_check.specs.Says.{Says};
 ghost use Rattle.plain_check.specs.Tests.{Placed, RegionAt, PropertyAt, GroupAt};
 
+use crate::Kind;
 use crate::places::word;
 use octets::byte;
-use sheet::Kind;
 
 // The level for reading, in the high four bits, and that for writing are at most 3.
 fn are_levels(levels: u8) -> bool

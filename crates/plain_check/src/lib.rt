@@ -7,7 +7,7 @@ mod entries;
 mod places;
 
 ghost use Rattle.std.specs.Prelude.{◌≡◌};
-ghost use Rattle.sheet.specs.Refused.{told};
+ghost use Rattle.plain_check.specs.Refused.{told};
 ghost use Rattle.sheet.specs.Rules.{refusal_of};
 ghost use Rattle.sheet.specs.Plain.{S1, S2, S3, S4, S5, S6, S7, S8, S9};
 ghost use Rattle.plain_check.specs.Says.{Says};
@@ -15,7 +15,26 @@ ghost use Rattle.plain_check.specs.Says.{Says};
 use crate::bodies::keeps_6_to_9;
 use crate::places::{count, place, word};
 use octets::byte;
-use sheet::{Kind, Refused};
+
+// The kinds of entries, in the order in which they stand.
+#[derive(Clone, Copy, PartialEq, Eq)]
+pub enum Kind {
+    Regions,
+    Properties,
+    Groups,
+    Users,
+}
+
+impl Kind {
+    pub const ALL: [Kind; 4] = [Kind::Regions, Kind::Properties, Kind::Groups, Kind::Users];
+}
+
+// What a call on a sheet is refused by: it breaks a rule, or breaks none and is of edition 1.
+#[derive(Clone, Copy, PartialEq, Eq)]
+pub enum Refused {
+    Bad = 4,
+    Old = 14,
+}
 
 // S1: a sheet has 32 to 16,384 bytes.
 fn keeps_1(s: &[u8]) -> bool

@@ -1,11 +1,11 @@
 // Where the entries of a sheet stand, by kind.
 ghost use Rattle.std.specs.Prelude.{◌≤◌, ◌<◌};
 ghost use Rattle.octets.specs.Bytes.{IsNum};
-ghost use Rattle.sheet.specs.Kind.{number_of};
+ghost use Rattle.plain_check.specs.Kind.{number_of};
 ghost use Rattle.plain_check.specs.Tests.{Counted, Placed};
 
+use crate::Kind;
 use octets::{byte, number};
-use sheet::Kind;
 
 // The number in the two bytes from a place, the first byte the higher.
 pub fn word(s: &[u8], at: usize) -> usize

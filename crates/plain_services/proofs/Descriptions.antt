@@ -1,9 +1,7 @@
 -- Descriptions on parts are those of the first engine.
 use Rattle.std.proofs.Common.{Option, Some}
-use Rattle.std.specs.Prelude.{count_by}
-use Rattle.std.proofs.lemmas.List.Sums.{count_by_more_yes, count_by_more_no}
-use Rattle.octets.proofs.Kit.{ℕ, zero, suc, ◌+◌, ◌≤◌, ◌<◌, ◌≡◌, refl, sym, ap, ap₂, ◌∙◌, true, false, cond, ◌&&◌, List, [], arith, lit<, eqb, get_or, lt-ltb, le-ltb, eq-eqb, ne_eqb}
-use Rattle.octets.proofs.Kit.{Bool, length, take, add-zero, ◌⊎◌, inl, inr, eqb-true}
+use Rattle.octets.proofs.Kit.{ℕ, zero, suc, ◌+◌, ◌≤◌, ◌<◌, ◌≡◌, refl, sym, ap, ap₂, subst, ◌∙◌, true, false, cond, ◌&&◌, List, [], arith, lit<, eqb, get_or, lt-ltb, le-ltb, eq-eqb, ne_eqb}
+use Rattle.octets.proofs.Kit.{◌⊎◌, inl, inr, eqb-true}
 use Rattle.octets.{specs.Octets.Octets, proofs.{Numbers.num_one, Tests.both, Truths.{first_true, second_true, never}}}
 use Rattle.sheet.{specs.{Kind.properties, Layout.◌of◌, Entries.{count, place, entry}, Lookup.{object_at, rank, nth_of}, Rules.Accepted}, proofs.places.Standing.field_at}
 use Rattle.sheet.proofs.promises.Ranks.{nth_hit, nth_none}
@@ -16,33 +14,26 @@ use Rattle.plain_services.specs.{Described.{rank_in, is_nth}, declared.{Reply.Re
 use Rattle.plain_services.specs.Found.{Finds}
 use Rattle.plain_services.proofs.{Entry.fields, Agreed.{agreed, by_decision}}
 
--- the rank by counting
-pub rank_count : (ps : List Property) (object i : ℕ) → i ≤ length ps → rank_in ps object i ≡ count_by (λ p. eqb p.object object) (take i ps)
+-- one property more
+pub rank_next :
+    (ps : List Property) (object j seen x : ℕ) → seen ≡ rank_in ps object j → x ≡ cond (eqb (get_or ps j no_property).object object) 1 0 →
+    seen + x ≡ rank_in ps object (j + 1)
 unfolding rank_in
-rank_count ps object zero h = refl
-rank_count ps object (suc i) h =
-    let next : i + 1 ≡ suc i = omega arith in
-    go (eqb (get_or ps i no_property).object object) refl (rank_count ps object i (omega arith))
-    ∙ ap (λ (n : ℕ). count_by (λ p. eqb p.object object) (take n ps)) next
-  where
-    go : (b : Bool) → eqb (get_or ps i no_property).object object ≡ b → rank_in ps object i ≡ count_by (λ p. eqb p.object object) (take i ps)
-        → rank_in ps object i + cond (eqb (get_or ps i no_property).object object) 1 0 ≡ count_by (λ p. eqb p.object object) (take (i + 1) ps)
-    go true e q = rw (e, q) (sym (count_by_more_yes (λ p. eqb p.object object) ps i no_property (omega arith) e))
-    go false e q = rw (e, q) (add-zero _ ∙ sym (count_by_more_no (λ p. eqb p.object object) ps i no_property (omega arith) e))
+rank_next ps object j seen x e f =
+    let q : suc j ≡ j + 1 = omega arith in
+    subst (λ (n : ℕ). seen + x ≡ rank_in ps object n) q (ap₂ (λ (a b : ℕ). a + b) e f)
 
-rank_short : (ps : List Property) (object i : ℕ) → rank_in ps object i ≤ i
+pub one_counted : (ps : List Property) (object j seen x : ℕ) → seen ≡ rank_in ps object j → (get_or ps j no_property).object ≡ object → x ≡ seen + 1 → x ≡ rank_in ps object (j + 1)
+one_counted ps object j seen x e h q = q ∙ rank_next ps object j seen 1 e (simp (eq-eqb (get_or ps j no_property).object object h))
+
+pub one_passed : (ps : List Property) (object j seen x : ℕ) → seen ≡ rank_in ps object j → ((get_or ps j no_property).object ≡ object → ⊥) → x ≡ seen → x ≡ rank_in ps object (j + 1)
+one_passed ps object j seen x e h q =
+    let z : x ≡ seen + 0 = omega (arith, q) in z ∙ rank_next ps object j seen 0 e (simp (ne_eqb (get_or ps j no_property).object object h))
+
+-- none of none, and as many as there are
+pub rank_start : (ps : List Property) (object : ℕ) → 0 ≡ rank_in ps object 0
 unfolding rank_in
-rank_short ps object zero = omega arith
-rank_short ps object (suc i) = go (eqb (get_or ps i no_property).object object) (rank_short ps object i)
-  where
-    go : (b : Bool) → rank_in ps object i ≤ i → rank_in ps object i + cond b 1 0 ≤ suc i
-    go true h = omega arith
-    go false h = omega arith
-
-pub rank_counted : (ps : List Property) (i object x : ℕ) → i ≤ length ps → x ≡ count_by (λ p. eqb p.object object) (take i ps) → (x ≤ i) × (x ≡ rank_in ps object i)
-rank_counted ps i object x h e =
-    let is : x ≡ rank_in ps object i = e ∙ sym (rank_count ps object i h) in
-    (rw is (rank_short ps object i), is)
+rank_start ps object = refl
 
 module _ (s : List ℕ) (u : Parts) (t : Taken s u) where
   object_is : (i : ℕ) → i < count s properties → (get_or u.properties i no_property).object ≡ object_at s i

@@ -1,6 +1,6 @@
 -- The outcomes by their numbers.
 use Rattle.std.specs.Prelude.{ℕ}
-use Rattle.judge.specs.Refusal.{number_of as refusal_number}
+use Rattle.plain_services.specs.Refusal.{number_of as refusal_number}
 use Rattle.plain_services.specs.declared.Outcome.{Outcome}
 use Rattle.plain_services.specs.declared.Outcome.TheVariants.{Answered, Done, Refused}
 

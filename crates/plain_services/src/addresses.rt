@@ -3,9 +3,8 @@ ghost use Rattle.std.specs.Prelude.{◌≡◌, List, []};
 ghost use Rattle.judge.specs.Addresses.{address_write_of, address_read_of, serial_read_of, serial_write_of, descriptor_of};
 ghost use Rattle.plain_services.specs.Steps.{Serves};
 
-use crate::Reply;
 use crate::replies::{answered, denied, done, refused};
-use judge::Refusal;
+use crate::{Refusal, Reply};
 use parts::Parts;
 use pdu::Pdu;
 

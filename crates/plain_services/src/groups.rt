@@ -6,18 +6,17 @@ ghost use Rattle.judge.specs.Groups.{group_read_of, group_put_of};
 ghost use Rattle.plain_services.specs.Found.{Finds};
 ghost use Rattle.plain_services.specs.Steps.{Held, Serves};
 
-use crate::Reply;
 use crate::bodies::with_data;
 use crate::replies::{answered, done, refused};
-use judge::Refusal;
+use crate::{Refusal, Reply};
 use parts::Parts;
 use pdu::Pdu;
 
 // `Held` stays a clause: a service changes the parts, and what it gives holds them changed; as a fact of the type it would be shown at each field.
 // The number of the group object with that address.
-fn find_group(parts: &Parts, address: u16) -> Option<usize>
-    requires { Held parts.now }
-    ensures { Finds parts.now parts.now.counts.groups (λ s. index_of s groups address) result }
+fn find_group(parts: Parts, address: u16) -> Option<usize>
+    requires { Held parts }
+    ensures { Finds parts parts.counts.groups (λ s. index_of s groups address) result }
 {
     for i in 0..parts.counts.groups {
         if parts.groups[i].address == address {
@@ -32,7 +31,7 @@ pub fn group_read(parts: Parts, address: u16) -> Reply
     requires { Held parts }
     ensures { Serves parts [] (λ s. group_read_of s address) result }
 {
-    let Some(i) = find_group(&parts, address) else {
+    let Some(i) = find_group(parts, address) else {
         return refused(parts, Refusal::NotForUs);
     };
     let group = parts.groups[i];
@@ -54,7 +53,7 @@ pub fn group_put(parts: Parts, answer: bool, address: u16, v: u8, d: &[u8]) -> R
     requires { Held parts }
     ensures { Serves parts d.now (λ s. group_put_of (cond answer 4 2) s address v (length d.now)) result }
 {
-    let Some(i) = find_group(&parts, address) else {
+    let Some(i) = find_group(parts, address) else {
         return refused(parts, Refusal::NotForUs);
     };
     let group = parts.groups[i];

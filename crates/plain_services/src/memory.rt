@@ -6,11 +6,11 @@ ghost use Rattle.device.specs.Carry.{build, bit_at};
 ghost use Rattle.plain_services.specs.Steps.{Held, Serves};
 ghost use Rattle.plain_services.specs.Memory.{NotWritten, Written};
 
-use crate::Reply;
 use crate::bodies::{with_bodies, with_data};
 use crate::ranges::{area, range};
 use crate::replies::{answered, denied, done, refused};
-use judge::{Access, Refusal};
+use crate::{Refusal, Reply};
+use judge::Access;
 use parts::Parts;
 use pdu::Pdu;
 use sheet::Memory;

@@ -18,9 +18,9 @@ use parts::{Parts, Property};
 use pdu::Pdu;
 
 // The number of the property with that object and id. By `position` it was tried: what the search then says of the parts did not close.
-fn find(parts: &Parts, object: u8, id: u8) -> Option<usize>
-    requires { Held parts.now }
-    ensures { Finds parts.now parts.now.counts.properties (λ s. property_at s object id) result }
+fn find(parts: Parts, object: u8, id: u8) -> Option<usize>
+    requires { Held parts }
+    ensures { Finds parts parts.counts.properties (λ s. property_at s object id) result }
 {
     for i in 0..parts.counts.properties {
         if parts.properties[i].object == object && parts.properties[i].id == id {
@@ -59,7 +59,7 @@ pub fn property_read(parts: Parts, level: u8, object: u8, id: u8, n: u8, s: u16)
     ensures { Serves parts [] (λ t. property_read_of t level object id n s) result }
 {
     // Allowed if the entry exists, level <= its read level,
-    let Some(i) = find(&parts, object, id) else {
+    let Some(i) = find(parts, object, id) else {
         return no_element(parts, object, id, s);
     };
     let p = parts.properties[i];
@@ -126,7 +126,7 @@ pub fn property_write(parts: Parts, level: u8, object: u8, id: u8, n: u8, s: u16
     ensures { Serves parts d.now (λ t. property_write_of t level object id n s d.now) result }
 {
     // Allowed if the entry exists, is writable, level <= its write level,
-    let Some(i) = find(&parts, object, id) else {
+    let Some(i) = find(parts, object, id) else {
         return no_element(parts, object, id, s);
     };
     let p = parts.properties[i];
@@ -150,23 +150,26 @@ pub fn property_write(parts: Parts, level: u8, object: u8, id: u8, n: u8, s: u16
 }
 
 // How many of the first i properties have that object: the index of property i within it.
-fn index_within(properties: &[Property], i: usize, object: u8) -> usize
-    requires { i ≤ length properties.now }
-    ensures { (result ≤ i) × (result ≡ rank_in properties.now object i) }
+fn index_within(properties: [Property; 64], i: usize, object: u8) -> usize
+    requires { i ≤ 64 }
+    ensures { (result ≤ i) × (result ≡ rank_in properties object i) }
 {
-    properties[..i]
-        .iter()
-        .filter(|property| property.object == object)
-        .count()
+    let mut seen = 0;
+    for j in 0..i {
+        if properties[j].object == object {
+            seen += 1;
+        }
+    }
+    seen
 }
 
 // The number of the property of that object with that index.
-fn nth(parts: &Parts, object: u8, index: u8) -> Option<usize>
-    requires { Held parts.now }
-    ensures { Finds parts.now parts.now.counts.properties (λ s. nth_of s object index) result }
+fn nth(parts: Parts, object: u8, index: u8) -> Option<usize>
+    requires { Held parts }
+    ensures { Finds parts parts.counts.properties (λ s. nth_of s object index) result }
 {
+    let properties = parts.properties;
     for i in 0..parts.counts.properties {
-        let properties = &parts.properties;
         if properties[i].object == object && index_within(properties, i, object) == index as usize {
             return Some(i);
         }
@@ -181,9 +184,9 @@ pub fn description(parts: Parts, object: u8, id: u8, index: u8) -> Reply
 {
     // An id other than 0 decides; id 0 means the index within the object.
     let found = if id == 0 {
-        nth(&parts, object, index)
+        nth(parts, object, index)
     } else {
-        find(&parts, object, id)
+        find(parts, object, id)
     };
     // Not found: what was asked for, and zeros.
     let Some(i) = found else {
@@ -202,7 +205,7 @@ pub fn description(parts: Parts, object: u8, id: u8, index: u8) -> Reply
     let own = Pdu::PropertyDescriptionResponse {
         object: p.object,
         id: p.id,
-        index: index_within(&parts.properties, i, p.object) as u8,
+        index: index_within(parts.properties, i, p.object) as u8,
         typ: parts::type_byte(p),
         maximum: p.maximum,
         access: parts::levels_byte(p.read, p.write),

@@ -1,13 +1,13 @@
 // The replies of the services.
 ghost use Rattle.std.specs.Prelude.{◌≡◌, [], ◌≤◌, length};
 ghost use Rattle.octets.specs.Bytes.{bytes_of};
-ghost use Rattle.judge.specs.Refusal.{number_of as refusal_number};
+ghost use Rattle.plain_services.specs.Refusal.{number_of as refusal_number};
 ghost use Rattle.judge.specs.declared.Turn.TheVariants.{Stays};
 ghost use Rattle.plain_services.specs.Outcome.{number_of};
 ghost use Rattle.plain_services.specs.Steps.{Gives};
 
-use crate::{Outcome, Reply};
-use judge::{Refusal, Turn};
+use crate::{Outcome, Refusal, Reply};
+use judge::Turn;
 use parts::Parts;
 use pdu::Pdu;
 

@@ -52,8 +52,8 @@ impl Draft {
 
     // The bytes from a place up to another each show where they stand: they are the place mod 61.
     fn mark(&mut self, from: usize, to: usize) {
-        for (i, b) in self.bytes.iter_mut().enumerate().take(to).skip(from) {
-            *b = (i % 61) as u8;
+        for i in from..to.min(self.bytes.len()) {
+            self.bytes[i] = (i % 61) as u8;
         }
     }
 

@@ -1,5 +1,5 @@
 // The versions that a store keeps, one by one.
-ghost use Rattle.std.specs.Prelude.{◌≡◌};
+ghost use Rattle.std.specs.Prelude.{◌≡◌, ◌≤◌, IfSome};
 ghost use Rattle.versions.specs.Kept.{kept_of, listed_flat};
 
 use crate::layout::{head, row, table_end};
@@ -16,7 +16,8 @@ pub struct Listed {
 
 // The k-th version that a store keeps, the first being 0.
 pub fn kept(store: &[u8], k: usize) -> Option<Listed>
-    ensures { listed_flat result ≡ kept_of store.now k }
+    ensures flat { listed_flat result ≡ kept_of store.now k }
+    ensures known { IfSome result (λ v. 1 ≤ v.number) }
 {
     let Ok(()) = check(store) else {
         return None;

@@ -3,7 +3,7 @@ use Rattle.octets.proofs.Kit.{ℕ, suc, ◌+◌, ◌*◌, ◌<◌, ◌≤◌, �
 use Rattle.octets.proofs.Numbers.{num_one, num_two}
 use Rattle.sheet.specs.{Kind.kinds, Layout.◌of◌, Entries.{count, key_of, floor}, Rules.{entry_demands, Accepted}, Lookup.index_of}
 use Rattle.sheet.specs.Property as property
-use Rattle.sheet.proofs.{rules.{ByKind.each_kind, Good.{Good, good}}, places.Rising.rising, searches.FrontSearch.{seek_passes, seek_hit, seek_none}}
+use Rattle.sheet.proofs.{rules.{ByKind.each_kind, Good.{Good, good}}, places.Rising.rising, searches.FrontSearch.{seek_bound, seek_passes, seek_hit, seek_none}}
 
 module _ {s : List ℕ} (g : Good s) where
   -- an entry's first word is not below the floor, and below that of the next
@@ -60,6 +60,11 @@ module _ (s : List ℕ) (ok : Accepted s) (k : ℕ) (hk : k < kinds) where
       (λ m hm q. key_once m i hm hi (eqb-true (key_of s k m) x q ∙ sym e))
 
 module _ (s : List ℕ) (k x : ℕ) where
+  -- a lookup gives an entry or the count
+  pub index_bound : index_of s k x ≤ count s k
+  unfolding index_of
+  index_bound = seek_bound _ (count s k)
+
   -- the entry that it gives has the first word
   pub index_key : index_of s k x < count s k → key_of s k (index_of s k x) ≡ x
   unfolding index_of

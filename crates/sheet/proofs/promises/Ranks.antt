@@ -5,7 +5,7 @@ use Rattle.octets.proofs.Numbers.{num_below}
 use Rattle.sheet.specs.{Kind.properties, Layout.◌of◌, Entries.{count, place, entry, key_of}, Lookup.{object_at, rank, nth_of}}
 use Rattle.sheet.specs.Property as property
 use Rattle.sheet.proofs.{rules.Good.Good, promises.Keys.{key_is, key_rising}, places.{Rising.rising, Standing.field_at}}
-use Rattle.sheet.proofs.searches.FrontSearch.{seek_passes, seek_hit, seek_none}
+use Rattle.sheet.proofs.searches.FrontSearch.{seek_bound, seek_passes, seek_hit, seek_none}
 
 module _ (s : List ℕ) (object : ℕ) where
   -- one more property, of the object, and of another
@@ -51,6 +51,11 @@ module _ (s : List ℕ) (object : ℕ) where
     nth_hit i h a b =
         seek_hit test (count s properties) i h (rw (eq-eqb (object_at s i) object a, eq-eqb (rank s object i) index b))
         (λ m hm q. let r = right m q in rank_once m i r.0 a (r.1 ∙ sym b))
+
+    -- it gives a property or the count
+    pub nth_bound : nth_of s object index ≤ count s properties
+    unfolding nth_of
+    nth_bound = seek_bound _ (count s properties)
 
     -- the property that it gives has the index
     pub nth_is :

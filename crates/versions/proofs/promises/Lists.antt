@@ -1,12 +1,13 @@
 -- What `kept` returns: the number and the length in row k are those of the k-th version.
-use Rattle.octets.proofs.Kit.{ℕ, zero, suc, ◌+◌, ◌-◌, ◌*◌, ◌≤◌, ◌<◌, ◌≡◌, refl, sym, ap₂, subst, ◌∙◌, List, [], ◌∷◌, ◌++◌, arith, length, eq-eqb, ne_eqb}
+use Rattle.octets.proofs.Kit.{ℕ, zero, suc, ◌+◌, ◌-◌, ◌*◌, ◌≤◌, ◌<◌, ◌≡◌, refl, sym, ap, ap₂, subst, ◌∙◌, List, [], ◌∷◌, ◌++◌, arith, length, eq-eqb, ne_eqb}
 use Rattle.octets.specs.{Bytes.{num_at, IsNum}, Octets.Octets}
 use Rattle.sheet.specs.{Demand.breach, Layout.◌of◌}
-use Rattle.versions.specs.{Store.{Version, table_end, version_at, versions_from, kept}, Rules.{rows_rule, all_rows, store_rule, is_store}, Walk.Chosen, Kept.{none, told, kept_of}, Refusal.number_of, declared.refusal.Refusal.Refusal}
+use Rattle.versions.specs.{Store.{Version, Rising, next, lowest, table_end, version_at, versions_from, kept}, Rules.{rows_rule, all_rows, store_rule, is_store}}
+use Rattle.versions.specs.{Walk.Chosen, Kept.{none, told, kept_of}, Refusal.number_of, declared.refusal.Refusal.Refusal}
 use Rattle.versions.specs.{Example.{twice, left}, declared.listing.Listed.Listed}
 use Rattle.versions.specs.Head as head
 use Rattle.versions.specs.Row as row
-use Rattle.versions.proofs.{Backs.{heads, length_versions}, Chosen.{which, lb, same_l}, Rows.store_refused}
+use Rattle.versions.proofs.{Backs.{heads, good_store, length_versions}, Chosen.{which, lb, same_l}, Rows.store_refused}
 
 abbrev listed : ℕ → ℕ → Listed
 listed i j = record { number = i; long = j }
@@ -22,6 +23,13 @@ unfolding told
 told_none [] k h = refl
 told_none (v ∷ vs) zero h = absurd (omega arith)
 told_none (v ∷ vs) (suc k) h = told_none vs k (omega arith)
+
+-- no version has number 0
+told_low : {last : ℕ} (vs : List Version) (k floor : ℕ) → Rising last floor vs → k < length vs → floor ≤ (told vs k).number
+unfolding told
+told_low [] k floor r h = absurd (omega arith)
+told_low (v ∷ vs) zero floor (next f r) h = f
+told_low (v ∷ vs) (suc k) floor (next f r) h = let low = told_low vs k (v.number + 1) r (omega arith) in omega arith
 
 module _ (s : List ℕ) (k : ℕ) where
   pub bad_listed : (e : Refusal) → number_of e ≡ store_rule s → none ≡ kept_of s k
@@ -64,6 +72,15 @@ module _ (s : List ℕ) (k : ℕ) where
             let is = told_behind (versions_from s 8 k) (versions_from s (8 + 8 * suc k) (n - (k + 1))) (version_at s (8 + 8 * k)) in
             let here = ap₂ told (which b c) (sym (lb b c)) ∙ is in
             rw (eq-eqb (store_rule s) 0 ok) (ap₂ listed hi.value (hj.value ∙ same_l b c) ∙ sym here)
+
+        pub known_listed :
+            (i j : ℕ) → Octets s → k < n → IsNum s (p + (row.number).at) 2 65536 i → IsNum s (p + (row.long).at) 2 65536 j → 1 ≤ i
+        unfolding kept_of is_store kept
+        known_listed i j b l gi gj =
+            let long : k < length (kept s) = omega (arith, length_versions s 8 (head.count of s), hn.value) in
+            let low : lowest ≤ (told (kept s) k).number = told_low (kept s) k lowest (good_store s b ok).rising long in
+            let all : kept_of s k ≡ told (kept s) k = rw (eq-eqb (store_rule s) 0 ok) refl in
+            omega (arith, low, ap (λ (v : Listed). v.number) (some_listed i j b l gi gj ∙ all))
 
 -- WORKED: both versions and none behind them; what is left after a remove; a store that is none
 pub listed_worked :

@@ -1,5 +1,5 @@
 -- `plain::serve::serve` meets its contract.
-use Rattle.octets.proofs.Kit.{refl, ⊎_elim}
+use Rattle.octets.proofs.Kit.{refl}
 use Rattle.plain.proofs.{Arms.{with_data, without_data, is_answer, short_data, memory_long, user_long, bits_long}}
 use Rattle.plain.proofs.serve.serve.Goals as goal
 
@@ -87,21 +87,35 @@ returns-in-KeyWrite c = without_data _ _ _ _ _ _ _ c.in-KeyWrite.is c.requires.1
 pub returns-in-Restart : goal.returns-in-Restart
 returns-in-Restart c = without_data _ _ _ _ _ _ _ c.in-Restart.is c.requires.1 refl c.restart.ensures
 
+pub returns-in-IndividualAddressResponse : goal.returns-in-IndividualAddressResponse
+returns-in-IndividualAddressResponse c = is_answer _ _ _ _ _ _ _ c.in-IndividualAddressResponse.is (λ s. refl) c.refused.ensures
+
+pub returns-in-SerialNumberResponse : goal.returns-in-SerialNumberResponse
+returns-in-SerialNumberResponse c = is_answer _ _ _ _ _ _ _ c.in-SerialNumberResponse.is (λ s. refl) c.refused-in-SerialNumberResponse.ensures
+
+pub returns-in-DeviceDescriptorResponse : goal.returns-in-DeviceDescriptorResponse
+returns-in-DeviceDescriptorResponse c = is_answer _ _ _ _ _ _ _ c.in-DeviceDescriptorResponse.is (λ s. refl) c.refused-in-DeviceDescriptorResponse.ensures
+
+pub returns-in-PropertyValueResponse : goal.returns-in-PropertyValueResponse
+returns-in-PropertyValueResponse c = is_answer _ _ _ _ _ _ _ c.in-PropertyValueResponse.is (λ s. refl) c.refused-in-PropertyValueResponse.ensures
+
+pub returns-in-PropertyDescriptionResponse : goal.returns-in-PropertyDescriptionResponse
+returns-in-PropertyDescriptionResponse c = is_answer _ _ _ _ _ _ _ c.in-PropertyDescriptionResponse.is (λ s. refl) c.refused-in-PropertyDescriptionResponse.ensures
+
+pub returns-in-MemoryResponse : goal.returns-in-MemoryResponse
+returns-in-MemoryResponse c = is_answer _ _ _ _ _ _ _ c.in-MemoryResponse.is (λ s. refl) c.refused-in-MemoryResponse.ensures
+
+pub returns-in-AuthorizeResponse : goal.returns-in-AuthorizeResponse
+returns-in-AuthorizeResponse c = is_answer _ _ _ _ _ _ _ c.in-AuthorizeResponse.is (λ s. refl) c.refused-in-AuthorizeResponse.ensures
+
+pub returns-in-KeyResponse : goal.returns-in-KeyResponse
+returns-in-KeyResponse c = is_answer _ _ _ _ _ _ _ c.in-KeyResponse.is (λ s. refl) c.refused-in-KeyResponse.ensures
+
 pub returns-in-UserMemoryRead : goal.returns-in-UserMemoryRead
 returns-in-UserMemoryRead c = without_data _ _ _ _ _ _ _ c.in-UserMemoryRead.is c.requires.1 refl c.memory_read-in-UserMemoryRead.ensures
 
+pub returns-in-UserMemoryResponse : goal.returns-in-UserMemoryResponse
+returns-in-UserMemoryResponse c = is_answer _ _ _ _ _ _ _ c.in-UserMemoryResponse.is (λ s. refl) c.refused-in-UserMemoryResponse.ensures
+
 pub returns-in-UserMemoryWrite : goal.returns-in-UserMemoryWrite
 returns-in-UserMemoryWrite c = with_data _ _ _ _ _ _ _ c.in-UserMemoryWrite.is c.memory_write-in-UserMemoryWrite.ensures
-
-pub returns-in-IndividualAddressResponse : goal.returns-in-IndividualAddressResponse
-returns-in-IndividualAddressResponse c =
-    ⊎_elim (λ e. is_answer _ _ _ _ _ _ _ e (λ s. refl) c.refused.ensures)
-    (⊎_elim (λ z. is_answer _ _ _ _ _ _ _ z.2 (λ s. refl) c.refused.ensures)
-    (⊎_elim (λ z. is_answer _ _ _ _ _ _ _ z.1 (λ s. refl) c.refused.ensures)
-    (⊎_elim (λ z. is_answer _ _ _ _ _ _ _ z.4 (λ s. refl) c.refused.ensures)
-    (⊎_elim (λ z. is_answer _ _ _ _ _ _ _ z.6 (λ s. refl) c.refused.ensures)
-    (⊎_elim (λ z. is_answer _ _ _ _ _ _ _ z.2 (λ s. refl) c.refused.ensures)
-    (⊎_elim (λ z. is_answer _ _ _ _ _ _ _ z.1 (λ s. refl) c.refused.ensures)
-    (⊎_elim (λ z. is_answer _ _ _ _ _ _ _ z.1 (λ s. refl) c.refused.ensures)
-    ((λ z. is_answer _ _ _ _ _ _ _ z.2 (λ s. refl) c.refused.ensures)))))))))
-    c.in-IndividualAddressResponse.is

@@ -1,6 +1,6 @@
 -- `plain_check::bodies::keeps_6_to_9` meets its contract. The invariants: every entry passed, and its body, is good, and `end` is where the
 -- last of these bodies ends.
-use Rattle.sheet.specs.Kind.{number_of}
+use Rattle.plain_check.specs.Kind.{number_of}
 use Rattle.plain_check.proofs.{Walking.{Walked, Passed}}
 use Rattle.plain_check.proofs.bodies.keeps_6_to_9.Given as goal
 

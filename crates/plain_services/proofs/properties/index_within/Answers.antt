@@ -1,10 +1,18 @@
--- `plain_services::properties::index_within` meets its contract.
-use Rattle.octets.proofs.Kit.{rules, ◌≡◌, take, eqb}
-use Rattle.std.specs.Prelude.{count_by}
-use Rattle.plain_services.proofs.Descriptions.{rank_counted}
+-- `plain_services::properties::index_within` meets its contract. The invariant: so many of the first j were seen.
+use Rattle.octets.proofs.Kit.{arith}
+use Rattle.plain_services.proofs.{Descriptions.{rank_start, one_counted, one_passed}}
 use Rattle.plain_services.proofs.properties.index_within.Goals as goal
+use Rattle.plain_services.proofs.properties.index_within.Goals.{then-properties-j, else-properties-j}
 
-pub returns : goal.returns
-returns c =
-    let e : c.count.result ≡ count_by (λ p. eqb p.object c.args.object) (take c.args.i c.args.properties.now) = search rules in
-    rank_counted _ _ _ _ c.requires e
+pub loop-j-init : goal.loop-j-init
+loop-j-init c = (omega arith, omega arith, rank_start _ _)
+
+pub loop-j-preserved : goal.loop-j-preserved
+loop-j-preserved c = (
+  omega arith,
+  elim c.if-properties-j.branch [ then-properties-j w ↦ omega arith | else-properties-j w ↦ omega arith ],
+  elim c.if-properties-j.branch [
+    | then-properties-j w ↦ one_counted _ _ _ _ _ c.loop-j.invariant.2 w.if-properties-j.true w.seen-is
+    | else-properties-j w ↦ one_passed _ _ _ _ _ c.loop-j.invariant.2 w.if-properties-j.false w.seen-is
+  ],
+)
