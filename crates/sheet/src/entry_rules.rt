@@ -70,7 +70,8 @@ pub fn region_step(now: Step, e: &[u8]) -> Result<Step, Fault>
     })
 }
 
-// S7, of a property whose object and id, as one number, are to be above `last`.
+// S7, of a property whose object and id, as one number, are to be above `last`. One less wraps at 0, so that one test has both limits
+// of the maximum: by `contains` they are two.
 fn property_rule(last: u32, e: &[u8]) -> Result<(), Fault>
     requires { property.size ≤ length e.now }
     ensures { Tells (told result) (property_demands (last + 1) e.now) }
@@ -80,7 +81,7 @@ fn property_rule(last: u32, e: &[u8]) -> Result<(), Fault>
         || word(e, property::OBJECT_ID) as u32 <= last
         || byte(e, property::TYPE) / 64 % 2 != 0
         || !(1..=10).contains(&byte(e, property::ELEMENT))
-        || !(1..=4095).contains(&maximum)
+        || 4095 <= maximum.wrapping_sub(1)
         || maximum < word(e, property::COUNT)
         || 3 < byte(e, property::LEVELS) / 16
         || 3 < byte(e, property::LEVELS) % 16
@@ -121,7 +122,7 @@ fn group_rule(last: u32, e: &[u8]) -> Result<(), Fault>
     Ok(())
 }
 
-// The same, and if it breaks nothing, S9 of its body.
+// The same, and if it breaks nothing, S9 of its body. A code but 0 has an end of its own: five instructions less for each.
 pub fn group_step(s: &[u8], now: Step, e: &[u8]) -> Result<Step, Fault>
     requires { (group.size ≤ length e.now) × (now.at < far) × (now.end < far) }
     ensures { StepOver (group_demands (now.last + 1) e.now) (last_of groups (floor_after groups e.now)) now.late
@@ -130,15 +131,23 @@ pub fn group_step(s: &[u8], now: Step, e: &[u8]) -> Result<Step, Fault>
     group_rule(now.last, e)?;
     let from = word(e, group::OFFSET);
     let code = byte(e, group::CODE);
-    let (long, six) = if code == 0 {
-        (1, byte(s, from as usize))
-    } else {
-        (code, 0)
-    };
+    if code != 0 {
+        return Ok(Step {
+            at: now.at + group::SIZE,
+            last: word(e, group::ADDRESS) as u32,
+            late: late_of(now.late, from as u32, now.end, 0),
+            end: now.end + code as u32,
+        });
+    }
     Ok(Step {
         at: now.at + group::SIZE,
         last: word(e, group::ADDRESS) as u32,
-        late: late_of(now.late, from as u32, now.end, six as u32),
-        end: now.end + long as u32,
+        late: late_of(
+            now.late,
+            from as u32,
+            now.end,
+            byte(s, from as usize) as u32,
+        ),
+        end: now.end + 1,
     })
 }
